@@ -2,4 +2,8 @@
 #![tactic(auto)]
 
 pub mod block;
+pub mod cone;
+pub mod formula;
+pub mod grid;
 pub mod limits;
+pub mod name;
