@@ -1,2 +1,4 @@
 pub mod Block
 pub mod Name
+pub mod Plan
+pub mod PlanView
