@@ -1,1 +1,2 @@
+pub mod CellFacts
 pub mod Names

@@ -1,5 +1,5 @@
 -- What a plan is: its parts, and the facts that every plan keeps.
-use Rattle.std.specs.Prelude.{◌≡◌, ℕ, ◌<◌, ◌≤◌, ◌^◌, ◌+◌, ◌*◌, List, [], ◌∷◌, length, ℤ, pos, negsuc, ◌≤ℤ◌, All, ◌⊎◌}
+use Rattle.std.specs.Prelude.{◌≡◌, ℕ, ◌<◌, ◌≤◌, ◌^◌, List, [], ◌∷◌, length, ℤ, pos, negsuc, ◌≤ℤ◌, All, ◌⊎◌}
 use Rattle.pit_model.specs.declared.grid.Axis.{Axis}
 use Rattle.pit_model.specs.declared.grid.Grid.{Grid}
 use Rattle.pit_model.specs.declared.cone.Slope.{Slope}

@@ -2,6 +2,7 @@
 #![tactic(auto)]
 
 pub mod block;
+pub mod cells;
 pub mod cone;
 pub mod formula;
 pub mod grid;
