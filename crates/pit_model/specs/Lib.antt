@@ -1,2 +1,6 @@
+pub mod Block
+pub mod Name
+pub mod Plan
+pub mod PlanView
 pub mod Records
 pub mod RecordsAhead
