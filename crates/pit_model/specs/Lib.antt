@@ -3,3 +3,5 @@ pub mod Cells
 pub mod Name
 pub mod Plan
 pub mod PlanView
+pub mod Records
+pub mod RecordsAhead

@@ -10,4 +10,5 @@ pub mod limit;
 pub mod name;
 pub mod plan;
 pub mod ranges;
+pub mod records;
 pub mod resource;
