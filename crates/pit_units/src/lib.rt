@@ -3,6 +3,10 @@
 
 mod decimal;
 mod fault;
+mod reading;
+mod writing;
 
 pub use decimal::Dec;
 pub use fault::DecFault;
+pub use reading::parse_dec;
+pub use writing::put_dec;
