@@ -26,6 +26,19 @@ pub record PlanParts : Type 0 where
   pub resources : List Resource
   pub limits : List Limit
 
+-- a plan by its parts
+abbrev pub plan_of : List ℕ → Grid → List Cone → List NamedFormula → ℕ → ℤ → List Resource → List Limit → PlanParts
+plan_of name grid cones formulas periods rate resources limits = record {
+  name = name;
+  grid = grid;
+  cones = cones;
+  formulas = formulas;
+  periods = periods;
+  rate = rate;
+  resources = resources;
+  limits = limits;
+}
+
 -- an axis's origin is within 10^12 mm of zero, and its blocks are 1 to 100,000 mm long
 abbrev pub IsAxis : Axis → Type 0
 IsAxis a = ((negsuc 999999999999 ≤ℤ a.origin) × (a.origin ≤ℤ pos (10 ^ 12))) × ((1 ≤ a.size) × (a.size ≤ 10 ^ 5))

@@ -4,11 +4,17 @@
 pub mod block;
 pub mod cells;
 pub mod cone;
+mod draft;
 pub mod formula;
 pub mod grid;
 pub mod limit;
 pub mod name;
+mod numbers;
 pub mod plan;
+pub mod plan_fault;
+mod plan_reader;
 pub mod ranges;
 pub mod records;
 pub mod resource;
+
+pub use plan_reader::read_plan;

@@ -105,10 +105,7 @@ impl<R: Read> RecordReader<R> {
 
 // Takes the next record. The crate's contract leaves open whether an error is one of memory or of the reader underneath, which here is
 // bytes in memory and has none: so each is one of memory.
-fn take_record<R: Read>(
-    reader: &mut Reader<R>,
-    row: &mut ByteRecord,
-) -> Result<bool, AllocError>
+fn take_record<R: Read>(reader: &mut Reader<R>, row: &mut ByteRecord) -> Result<bool, AllocError>
     ensures { IsBetweenRecords R.remaining reader.old → IfOk result (λ found. TakesNext R.remaining reader.old reader.new found (fields_of row.new)) }
 {
     match reader.read_byte_record(row) {
