@@ -45,8 +45,8 @@ impl<R: Read> Model for RecordReader<R> {
 }
 
 impl RecordReader<Cursor<Vec<u8>>> {
-    #[tactic(auto, using(crate::proofs::RecordSteps::few_records, crate::proofs::RecordSteps::records_have_cells))]
     /// A reader of the records of `text`, which it keeps. It takes no memory and reads nothing yet.
+    #[tactic(auto, using(crate::proofs::RecordSteps::few_records, crate::proofs::RecordSteps::records_have_cells))]
     pub fn new(alloc: Global, text: Vec<u8>) -> RecordReader<Cursor<Vec<u8>>>
         ensures records { result ≡ Rows (records_of text.items) }
         ensures few { length (records_of text.items) ≤ length text.items }
@@ -60,8 +60,8 @@ impl RecordReader<Cursor<Vec<u8>>> {
 }
 
 impl<'a> RecordReader<&'a [u8]> {
-    #[tactic(auto, using(crate::proofs::RecordSteps::few_records, crate::proofs::RecordSteps::records_have_cells))]
     /// A reader of the records of `text`, which it borrows. It takes no memory and reads nothing yet.
+    #[tactic(auto, using(crate::proofs::RecordSteps::few_records, crate::proofs::RecordSteps::records_have_cells))]
     pub fn from_slice(alloc: Global, text: &'a [u8]) -> RecordReader<&'a [u8]>
         ensures records { result ≡ Rows (records_of text.now) }
         ensures few { length (records_of text.now) ≤ length text.now }
@@ -105,10 +105,7 @@ impl<R: Read> RecordReader<R> {
 
 // Takes the next record. The crate's contract leaves open whether an error is one of memory or of the reader underneath, which here is
 // bytes in memory and has none: so each is one of memory.
-fn take_record<R: Read>(
-    reader: &mut Reader<R>,
-    row: &mut ByteRecord,
-) -> Result<bool, AllocError>
+fn take_record<R: Read>(reader: &mut Reader<R>, row: &mut ByteRecord) -> Result<bool, AllocError>
     ensures { IsBetweenRecords R.remaining reader.old → IfOk result (λ found. TakesNext R.remaining reader.old reader.new found (fields_of row.new)) }
 {
     match reader.read_byte_record(row) {
