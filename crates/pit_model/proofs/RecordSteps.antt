@@ -1,8 +1,8 @@
 -- A record of a text takes a byte at least, so that reading all of them ends, and taking them one at a time gives them all.
-use Rattle.std.proofs.Common.{◌≡◌, ◌+◌, ◌<◌, ◌≤◌, Bool, true, false, ℕ, zero, suc, List, [], ◌∷◌, ◌++◌, length, Option, Some, None, IfSome, All, if◌then◌else◌, refl, sym, ap, ◌∙◌, arith, rules, inl, length-append, add-one}
+use Rattle.std.proofs.Common.{◌≡◌, ◌+◌, ◌<◌, ◌≤◌, Bool, true, false, ℕ, zero, suc, List, [], ◌∷◌, ◌++◌, length, Option, Some, None, IfSome, All, if◌then◌else◌, refl, ap, ◌∙◌, arith, rules, inl, length-append}
 use Rattle.std.proofs.lemmas.List.Elements.{All-nil, All-cons}
 use Rattle.csv.specs.Machine.{Read, step, is_end, ends_at_end, field_after, fields_after, next_record}
-use Rattle.csv.specs.Reading.{default_config, is_bom, NextIs, ReadRecord, ReadsNext, Ready, pending_of, records_from, records_next, source_of, strip_bom, took_first, is_flexible, reader_trim, reader_config, reader_state}
+use Rattle.csv.specs.Reading.{default_config, is_bom, NextIs, ReadRecord, ReadsNext, pending_of, records_from, records_next, source_of, strip_bom, took_first, is_flexible, reader_trim, reader_config, reader_state}
 use Rattle.csv.specs.declared.parser.State.{State}
 use Rattle.csv.specs.declared.parser.State.TheVariants as st
 use Rattle.csv.specs.declared.parser.Action.{Action}
@@ -10,7 +10,7 @@ use Rattle.csv.specs.declared.parser.Action.TheVariants as act
 use Rattle.csv.specs.declared.reader.Reader.{Reader}
 use Rattle.csv.specs.declared.reader.Trim.TheVariants as trim
 use Rattle.pit_model.specs.Records.{records_of}
-use Rattle.pit_model.specs.RecordsAhead.{IsBetweenRecords, TakesNext, rows_from, rows_of_source}
+use Rattle.pit_model.specs.RecordsAhead.{IsBetweenRecords, TakesNext, rows_from}
 
 -- a byte that ends a record leaves the machine where the end of the text ends none
 ends-between : (s : State) (c : ℕ) → is_end (step default_config s c).1 ≡ true → ends_at_end (step default_config s c).0 ≡ false

@@ -1,6 +1,4 @@
-use Rattle.std.proofs.Common.{rules, ◌≡◌, ◌<◌, ◌≤◌, true, IfOk, Ok, length, ℕ, Bool, false, List, [], ◌∷◌}
 use Rattle.csv.specs.Records.{fields_of}
-use Rattle.pit_model.specs.RecordsAhead.{IsBetweenRecords, TakesNext}
 use Rattle.pit_model.proofs.RecordSteps.{reader-takes}
 use Rattle.pit_model.proofs.records.take_record.Goals as goal
 use Rattle.pit_model.proofs.records.take_record.Goals.{in-Ok, in-Err}
