@@ -1,6 +1,5 @@
-use Rattle.std.proofs.Common.{◌≡◌, ◌<◌, ◌≤◌, arith, Ok, true, false, sym, ap, ◌∙◌}
+use Rattle.std.proofs.Common.{arith, sym, ap, ◌∙◌}
 use Rattle.csv.specs.Records.{fields_of}
-use Rattle.pit_model.specs.Records.{TakesRow}
 use Rattle.pit_model.specs.Planned.{planned, at_record}
 use Rattle.pit_model.proofs.PlanSteps.{ended, too_many, admitted, refused}
 use Rattle.pit_model.proofs.plan_reader.read_plan.Goals as goal
