@@ -1,5 +1,5 @@
 -- The cutting of the input of the pipe form, by lines.
-use Rattle.std.specs.Prelude.{ℕ, Bool, ◌==◌, ◌||◌, if◌then◌else◌, List, [], ◌∷◌, ◌++◌, drop, map, filter, codes}
+use Rattle.std.specs.Prelude.{ℕ, Bool, ◌≡◌, ◌-◌, ◌<◌, ◌==◌, ◌||◌, if◌then◌else◌, List, [], ◌∷◌, ◌++◌, length, drop, map, filter, slice_index, codes}
 use Rattle.std.specs.List.{concat, onto_first, slice_index_or, slice_split}
 use Rattle.std.specs.Str.{bytes_eq}
 
@@ -38,3 +38,7 @@ abbrev pub woven : List (List ℕ) → List (List ℕ) → List ℕ
 woven [] cuts = concat cuts
 woven (piece ∷ pieces) [] = piece ++ concat pieces
 woven (piece ∷ pieces) (cut ∷ cuts) = piece ++ (cut ++ woven pieces cuts)
+
+-- a text is empty, or ends in LF
+abbrev pub IsEnded : List ℕ → Type 0
+IsEnded text = 0 < length text → slice_index text (length text - 1) ≡ 10

@@ -1,6 +1,7 @@
 //! `pitc` turns the block models of an open pit mine into a MineLib instance.
 #![tactic(auto)]
 
+pub mod laws;
 pub mod piece;
 pub mod pieces;
 

@@ -105,3 +105,6 @@ fn is_cut_line(line: &[u8]) -> bool
 {
     matches!(line, b"--\n" | b"--\r\n" | b"--")
 }
+
+#[cfg(test)]
+mod tests;
