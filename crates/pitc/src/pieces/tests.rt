@@ -3,30 +3,35 @@ use std::test::Fail;
 
 #[test]
 fn cutting_table(rt: HostRuntime) -> Result<(), Fail> {
-    let table: [(&str, &str, &[&str]); 15] = [
-        ("", "", &[]),
-        ("a\n--\nb\n", "a\n", &["b\n"]),
-        ("a\n--\r\n--", "a\n", &["", ""]),
-        ("a--\n--b\n", "a--\n--b\n", &[]),
-        ("a\r\n--\r\nb\r\n--\nc", "a\r\n", &["b\r\n", "c"]),
-        ("--", "", &[""]),
-        ("--\n", "", &[""]),
-        ("--\n--\r\n--\n", "", &["", "", ""]),
-        ("a\n--\r", "a\n--\r", &[]),
-        ("a\n--\r\r\n", "a\n--\r\r\n", &[]),
-        ("---\n-\n-- \n --\n", "---\n-\n-- \n --\n", &[]),
-        ("\u{feff}--\na\n", "\u{feff}--\na\n", &[]),
-        ("a\n--\n\u{feff}b\n", "a\n", &["\u{feff}b\n"]),
-        ("\"a\n--\nb\"\n", "\"a\n", &["b\"\n"]),
-        ("a\n\n--\n\nb", "a\n\n", &["\nb"]),
+    // Each input, and its pieces with a bar between them.
+    let table = [
+        ("", ""),
+        ("a\n--\nb\n", "a\n|b\n"),
+        ("a\n--\r\n--", "a\n||"),
+        ("a--\n--b\n", "a--\n--b\n"),
+        ("a\r\n--\r\nb\r\n--\nc", "a\r\n|b\r\n|c"),
+        ("--", "|"),
+        ("--\n", "|"),
+        ("--\n--\r\n--\n", "|||"),
+        ("a\n\n--\n\nb", "a\n\n|\nb"),
+        ("a\n--\r", "a\n--\r"),
+        ("a\n--\r\r\n", "a\n--\r\r\n"),
+        ("---\n-\n-- \n --\n", "---\n-\n-- \n --\n"),
+        ("\u{feff}--\na\n", "\u{feff}--\na\n"),
+        ("a\n--\n\u{feff}b\n", "a\n|\u{feff}b\n"),
+        ("\"a\n--\nb\"\n", "\"a\n|b\"\n"),
     ];
-    for (input, plan, zones) in table {
+    for (input, wanted) in table {
         let pieces = cut(rt.alloc(), input.as_bytes())?;
-        assert!(rt; pieces.plan() == plan.as_bytes(), "plan of {input:?}");
-        assert_eq!(rt; pieces.zones().len(), zones.len(), "zones of {input:?}");
-        for (piece, zone) in pieces.zones().iter().zip(zones.iter()) {
-            assert!(rt; piece.as_slice() == zone.as_bytes(), "a zone of {input:?}");
+        let mut found = Vec::from_slice(rt.alloc(), pieces.plan())?;
+        for zone in pieces.zones() {
+            found.push(b'|')?;
+            found.extend_from_slice(zone.as_slice())?;
         }
+        assert!(rt;
+            found.as_slice() == wanted.as_bytes(),
+            "pieces of {input:?}"
+        );
     }
     Ok(())
 }
