@@ -42,6 +42,7 @@ impl Dec {
     {
         self.millionths
     }
+
     pub(crate) fn is_negative(self) -> bool
         ensures { result ≡ int_lt self (pos 0) }
     {

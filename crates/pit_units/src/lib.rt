@@ -3,6 +3,7 @@
 
 mod decimal;
 mod fault;
+pub mod laws;
 mod reading;
 mod writing;
 
