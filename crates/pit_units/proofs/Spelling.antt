@@ -1,16 +1,16 @@
 -- How a text that is spelled in parts falls into them again.
-use Rattle.std.specs.Prelude.{◌≡◌, ◌≢◌, ℕ, suc, ◌+◌, ◌<◌, ◌≤◌, Bool, true, false, not, ◌&&◌, ◌⊎◌, List, [], ◌∷◌, ◌++◌, length, get_or, take, drop, Result, Ok, Err, ◌==◌, cond, nat_lt, if◌then◌else◌, ◌^◌, ℤ}
-use Rattle.std.proofs.Common.{arith, refl, ap, sym, ◌∙◌, inl, inr, add-one, append-nil, length-append}
+use Rattle.std.specs.Prelude.{◌≡◌, ◌≢◌, ℕ, suc, ◌+◌, ◌<◌, Bool, true, false, not, ◌&&◌, ◌⊎◌, List, [], ◌∷◌, ◌++◌, length, get_or, drop, Result, Ok, Err, ◌==◌, nat_lt, if◌then◌else◌, ◌^◌, ℤ}
+use Rattle.std.proofs.Common.{arith, refl, ap, ◌∙◌, inl, inr, add-one, append-nil}
 use Rattle.std.proofs.lemmas.Bool.Decides.{nat_tests}
-use Rattle.std.proofs.lemmas.List.{take_at, drop_at, take_all, drop_all}
-use borrow.Author.Tests.{eq-eqb, ne_eqb, leb-true}
+use Rattle.std.proofs.lemmas.List.{take_at, take_all, drop_all}
+use borrow.Author.Tests.{ne_eqb}
 use Rattle.std.specs.Char.{is_ascii_digit}
 use Rattle.std.specs.Int.{IsInRange}
-use Rattle.std.specs.List.{list_all, position_or_len}
+use Rattle.std.specs.List.{position_or_len}
 use Rattle.std.specs.Str.Parse.{starts_with_minus, without_leading_sign}
-use Rattle.pit_units.specs.Decimal.{all_digits, all_zeros, whole_of, fraction_of, is_number, size_of, signed, decimal_of, IsSpelled}
+use Rattle.pit_units.specs.Decimal.{all_digits, all_zeros, whole_of, fraction_of, size_of, signed, decimal_of, IsSpelled}
 use Rattle.pit_units.specs.declared.fault.DecFault.{DecFault}
-use Rattle.pit_units.specs.declared.fault.DecFault.TheVariants.{Number, TooFine, Range}
+use Rattle.pit_units.specs.declared.fault.DecFault.TheVariants.{TooFine, Range}
 
 pub both : (a b : Bool) → (a && b) ≡ true → (a ≡ true) × (b ≡ true)
 both true b h = (refl, h)

@@ -1,18 +1,18 @@
 -- A text is read as the number that it stands for, and what is read it stands for.
-use Rattle.std.specs.Prelude.{◌≡◌, ◌≢◌, ◌↔◌, ℕ, zero, suc, ◌+◌, ◌*◌, ◌^◌, ◌<◌, ◌≤◌, Bool, true, false, not, ◌&&◌, ◌⊎◌, List, [], ◌∷◌, ◌++◌, length, get_or, take, drop, Result, Ok, Err, ℤ, pos, negsuc, neg_ℤ, unsigned_abs, nat_lt, if◌then◌else◌, ◌==◌}
-use Rattle.std.proofs.Common.{arith, refl, ap, sym, subst, ◌∙◌, inl, inr, append-nil}
+use Rattle.std.specs.Prelude.{◌≡◌, ◌≢◌, ◌↔◌, ℕ, zero, suc, ◌+◌, ◌*◌, ◌^◌, ◌<◌, ◌≤◌, Bool, true, false, not, ◌&&◌, ◌⊎◌, List, [], ◌∷◌, ◌++◌, length, take, drop, Result, Ok, Err, ℤ, unsigned_abs, nat_lt, if◌then◌else◌, ◌==◌}
+use Rattle.std.proofs.Common.{arith, refl, ap, sym, ◌∙◌, inl, inr, append-nil}
 use Rattle.std.proofs.Math.Nat.{lt_of_mul-lt-mul_right, mul-lt-mul_of_pos_right, pow-zero, pow-succ'}
 use Rattle.std.proofs.lemmas.Bool.{cases_lt}
 use Rattle.std.proofs.lemmas.Bool.Decides.{nat_tests}
 use Rattle.std.proofs.lemmas.List.{take_all, drop_all}
-use Rattle.std.proofs.lemmas.List.Sums.{passes_at_first, prefix_len-le-length, split_at_first}
-use borrow.Author.Tests.{eqb-true, ltb-true, ltb-false, le-ltb, lt-ltb, not-true}
+use Rattle.std.proofs.lemmas.List.Sums.{passes_at_first, split_at_first}
+use borrow.Author.Tests.{eqb-true, ltb-true, ltb-false, le-ltb, lt-ltb}
 use Rattle.std.specs.List.{position_or_len}
 use Rattle.std.specs.Str.Parse.{digits_value, starts_with_minus, without_leading_sign}
 use Rattle.pit_units.specs.Decimal.{all_digits, all_zeros, whole_of, fraction_of, is_number, size_of, signed, decimal_of, IsSpelled, StandsFor}
 use Rattle.pit_units.specs.declared.fault.DecFault.{DecFault}
 use Rattle.pit_units.specs.declared.fault.DecFault.TheVariants.{Number, TooFine, Range}
-use Rattle.pit_units.proofs.Spelling.{both, falls, reading, reads}
+use Rattle.pit_units.proofs.Spelling.{both, reads}
 use Rattle.pit_units.proofs.Value.{pass_drop_later, size_scaled}
 
 scale_positive : (n : ℕ) → 0 < 10 ^ n
