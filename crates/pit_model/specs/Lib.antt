@@ -1,0 +1,7 @@
+pub mod Block
+pub mod Cells
+pub mod Name
+pub mod Plan
+pub mod PlanView
+pub mod Records
+pub mod RecordsAhead

@@ -1,0 +1,90 @@
+-- Which number a decimal text states, and how a number is written. Numbers are counted in millionths.
+use Rattle.std.specs.Prelude.{◌≡◌, ℕ, suc, ◌+◌, ◌*◌, ◌/◌, ◌%◌, ◌-◌, ◌^◌, ◌<◌, ◌≤◌, Bool, not, ◌&&◌, ◌⊎◌, List, [], ◌∷◌, ◌++◌, length, map, take, drop, replicate, ℤ, pos, negsuc, neg_ℤ, unsigned_abs, IsTrue, if◌then◌else◌, nat_lt, ◌==◌, Ok, Err, Result}
+use Rattle.std.specs.Char.{is_ascii_digit}
+use Rattle.std.specs.Fmt.{decimal}
+use Rattle.std.specs.List.{list_all, before_first, after_first, suffix_len}
+use Rattle.std.specs.Str.Parse.{digits_value, starts_with_minus, without_leading_sign}
+use Rattle.pit_units.specs.declared.fault.DecFault.{DecFault}
+use Rattle.pit_units.specs.declared.fault.DecFault.TheVariants.{Number, TooFine, Range}
+
+-- decimal digits alone, or nothing
+abbrev pub all_digits : List ℕ → Bool
+all_digits bytes = list_all is_ascii_digit bytes
+
+-- the character `0` alone, or nothing
+abbrev pub all_zeros : List ℕ → Bool
+all_zeros bytes = list_all (λ c. c == 48) bytes
+
+-- what stands before the first point, past one sign
+abbrev pub whole_of : List ℕ → List ℕ
+whole_of text = before_first (λ c. c == 46) (without_leading_sign text)
+
+-- what stands after the first point
+abbrev pub fraction_of : List ℕ → List ℕ
+fraction_of text = after_first (λ c. c == 46) (without_leading_sign text)
+
+-- the text is digits but for one sign and one point, with at least one digit
+abbrev pub is_number : List ℕ → Bool
+is_number text = all_digits (whole_of text) && all_digits (fraction_of text) && not (length (whole_of text) + length (fraction_of text) == 0)
+
+-- the first six decimals, with zeros for those that are not written
+abbrev pub six_decimals : List ℕ → List ℕ
+six_decimals fraction = take 6 (fraction ++ replicate 6 48)
+
+-- how many millionths the text states, the sign apart
+abbrev pub size_of : List ℕ → ℕ
+size_of text = digits_value 10 (whole_of text) * 10 ^ 6 + digits_value 10 (six_decimals (fraction_of text))
+
+-- n below zero or above it
+abbrev pub signed : Bool → ℕ → ℤ
+signed below n = if below then neg_ℤ (pos n) else pos n
+
+-- the millionths that a text states with at most `max` decimals that are not zero, or the first fault of it
+unfoldable pub decimal_of : ℕ → List ℕ → Result ℤ DecFault
+decimal_of max text =
+    if not (is_number text) then Err Number
+    else (if not (all_zeros (drop max (fraction_of text))) then Err TooFine
+    else (if nat_lt (10 ^ 24) (size_of text) then Err Range
+    else Ok (signed (starts_with_minus text) (size_of text))))
+
+-- a text is an optional sign, digits, and optionally a point with digits after it; there is a digit
+pub record IsSpelled (text sign whole tail fraction : List ℕ) : Type 0 where
+  pub joined : text ≡ sign ++ (whole ++ tail)
+  pub signs : (sign ≡ []) ⊎ ((sign ≡ 43 ∷ []) ⊎ (sign ≡ 45 ∷ []))
+  pub point : ((tail ≡ []) × (fraction ≡ [])) ⊎ (tail ≡ 46 ∷ fraction)
+  pub whole_digits : IsTrue (all_digits whole)
+  pub fraction_digits : IsTrue (all_digits fraction)
+  pub some_digit : 0 < length whole + length fraction
+
+-- the text stands for m millionths, with `max` decimals allowed: what `decimal_of` says, as a relation
+pub record StandsFor (max : ℕ) (text : List ℕ) (m : ℤ) : Type 0 where
+  pub sign : List ℕ
+  pub whole : List ℕ
+  pub tail : List ℕ
+  pub fraction : List ℕ
+  pub spelled : IsSpelled text sign whole tail fraction
+  pub fine : IsTrue (all_zeros (drop max fraction))
+  pub value : unsigned_abs m * 10 ^ length fraction ≡ digits_value 10 (whole ++ fraction) * 10 ^ 6
+  pub side : m ≡ signed (starts_with_minus sign) (unsigned_abs m)
+  pub in_range : unsigned_abs m ≤ 10 ^ 24
+
+-- the six decimals of n millionths
+abbrev pub six_digits : ℕ → List ℕ
+six_digits n = map (λ place. 48 + n / place % 10) (100000 ∷ 10000 ∷ 1000 ∷ 100 ∷ 10 ∷ 1 ∷ [])
+
+-- the digits without the zeros at their end
+abbrev pub without_end_zeros : List ℕ → List ℕ
+without_end_zeros digits = take (length digits - suffix_len (λ c. c == 48) digits) digits
+
+-- a point and the decimals of n millionths, or nothing where they are zero
+abbrev pub fraction_text : ℕ → List ℕ
+fraction_text n = if n == 0 then [] else 46 ∷ without_end_zeros (six_digits n)
+
+-- the shortest text of n millionths
+abbrev pub size_text : ℕ → List ℕ
+size_text n = decimal (n / 10 ^ 6) ++ fraction_text (n % 10 ^ 6)
+
+-- the shortest text of so many millionths
+unfoldable pub shortest : ℤ → List ℕ
+shortest (pos n) = size_text n
+shortest (negsuc n) = 45 ∷ size_text (suc n)

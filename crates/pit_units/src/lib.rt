@@ -1,0 +1,12 @@
+//! Decimals: numbers counted in millionths, read from a text and written as the shortest text.
+#![tactic(auto)]
+
+mod decimal;
+mod fault;
+mod reading;
+mod writing;
+
+pub use decimal::Dec;
+pub use fault::DecFault;
+pub use reading::parse_dec;
+pub use writing::put_dec;
