@@ -1,4 +1,5 @@
 ghost use Rattle.std.specs.Prelude.{◌≡◌, ◌+◌, ◌-◌, ◌/◌, ◌%◌, ◌^◌, ◌<◌, ◌≤◌, ◌==◌, ◌++◌, length, take, OnOk, OnErr};
+ghost use Rattle.std.specs.Fmt.{sign_text};
 ghost use Rattle.std.specs.List.{suffix_len};
 ghost use Rattle.pit_units.specs.Decimal.{fraction_text, shortest, size_text};
 
@@ -26,11 +27,19 @@ fn append(out: &mut Vec<u8>, dec: Dec) -> Result<(), AllocError>
     ensures ok { OnOk result (out.new.items ≡ out.old.items ++ shortest dec) }
     ensures kept { take (length out.old.items) out.new.items ≡ out.old.items }
 {
-    let millionths = dec.millionths();
-    if millionths < 0 {
-        out.extend_from_slice(b"-")?;
+    append_sign(out, dec.is_negative())?;
+    append_size(out, dec.size())
+}
+
+/// Appends a minus where the number is below zero.
+fn append_sign(out: &mut Vec<u8>, below_zero: bool) -> Result<(), AllocError>
+    ensures ok { OnOk result (out.new.items ≡ out.old.items ++ sign_text below_zero) }
+    ensures err { OnErr result (out.new.items ≡ out.old.items) }
+{
+    if below_zero {
+        return out.extend_from_slice(b"-");
     }
-    append_size(out, millionths.unsigned_abs())
+    Ok(())
 }
 
 /// Appends the shortest text of so many millionths, or a part of it where memory is refused.
