@@ -1,1 +1,3 @@
+pub mod CellFacts
 pub mod Giving
+pub mod GridFacts
