@@ -1,3 +1,4 @@
+pub mod BlockFacts
 pub mod CellFacts
 pub mod Giving
 pub mod GridFacts

@@ -5,5 +5,6 @@ mod cell;
 pub mod columns;
 pub mod feed;
 pub mod mem_feed;
+mod row;
 pub mod row_fault;
 pub mod slurp;
