@@ -46,8 +46,10 @@ blocks_of grid zone text = before_fault (records_say grid zone (records_of text)
 unfoldable pub fault_of : Grid → ℕ → List ℕ → Option RowFault
 fault_of grid zone text = first_fault (records_say grid zone (records_of text))
 
--- a reader of a zone file at a time: it has blocks ahead of it, and then this fault or none; or memory was refused, which is all that it
--- answers from then on
-pub data Outlook : Type 0 where
-  Says : (blocks : List Block) (fault : Option RowFault) → Outlook
-  NoMemory : Outlook
+-- a zone file has at most a million blocks
+abbrev pub HasFewBlocks : Grid → ℕ → List ℕ → Type 0
+HasFewBlocks grid zone text = length (blocks_of grid zone text) ≤ 1000000
+
+-- its blocks are of its zone
+abbrev pub HasOwnBlocks : Grid → ℕ → List ℕ → Type 0
+HasOwnBlocks grid zone text = All (λ block. block.zone ≡ zone) (blocks_of grid zone text)

@@ -8,3 +8,5 @@ pub mod mem_feed;
 mod row;
 pub mod row_fault;
 pub mod slurp;
+pub mod zone_fault;
+pub mod zone_reader;

@@ -1,6 +1,6 @@
 //! The block that a row says.
 
-ghost use Rattle.std.specs.Prelude.{◌≡◌, ◌<◌, ◌≤◌, ◌^◌, IfOk};
+ghost use Rattle.std.specs.Prelude.{◌≡◌, ◌<◌, ◌≤◌, ◌^◌, IfOk, OnOk};
 ghost use Rattle.csv.specs.Records.{fields_of};
 ghost use Rattle.pit_model.specs.Plan.{IsAxis, IsGrid};
 ghost use Rattle.zone_csv.specs.Cell.{cell_at, value_of, index_of, kilograms_of, grade_of};
@@ -28,7 +28,8 @@ pub(crate) fn row_of(
 ) -> Result<Block, RowFault>
     requires grid { IsGrid grid }
     requires zone { zone < 64 }
-    ensures { result ≡ row_of grid zone columns number (fields_of row.now) }
+    ensures value { result ≡ row_of grid zone columns number (fields_of row.now) }
+    ensures within { OnOk result (number ≤ 1000001) }
 {
     if number > LAST_ROW {
         return Err(RowFault {
