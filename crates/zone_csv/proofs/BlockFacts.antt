@@ -24,7 +24,7 @@ at_most_is limit kept n within is =
     subst motive is (λ q i. record { value = n; in_range = le_prop within q i }) kept.in_range
 
 -- the zone of a number that a plan may have is that number
-zone_value : (n : ℕ) (there : Bool) (is : nat_lt n 64 ≡ there) → n < 64 → n ≡ (zone_if n there is).value
+pub zone_value : (n : ℕ) (there : Bool) (is : nat_lt n 64 ≡ there) → n < 64 → n ≡ (zone_if n there is).value
 zone_value n true is small = refl
 zone_value n false is small = absurd (omega (arith, ltb-false n 64 is))
 
