@@ -1,7 +1,7 @@
 //! Why a run is refused.
 
 use thiserror::Error;
-use zone_csv::{Column, RowFault};
+use zone_csv::row_fault::RowFault;
 
 /// What is wrong with the settings of a run. Of several kinds the first one here is meant.
 #[derive(Clone, Copy, Debug, Error, PartialEq, Eq)]
