@@ -1,3 +1,4 @@
+pub mod BandFacts
 pub mod CellFacts
 pub mod Names
 pub mod RecordSteps

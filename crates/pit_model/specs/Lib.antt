@@ -1,4 +1,5 @@
 pub mod Admits
+pub mod Bands
 pub mod Block
 pub mod Cells
 pub mod DraftView

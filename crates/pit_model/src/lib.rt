@@ -1,6 +1,7 @@
 //! Block models and the plan of an open pit mine: blocks, destinations' formulas, slope cones, and the reader of a plan.
 #![tactic(auto)]
 
+pub mod band;
 pub mod block;
 pub mod cells;
 pub mod cone;
