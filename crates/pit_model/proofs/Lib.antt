@@ -3,3 +3,4 @@ pub mod CellFacts
 pub mod Names
 pub mod RecordSteps
 pub mod PlanSteps
+pub mod WorthFacts

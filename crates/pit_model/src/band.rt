@@ -91,6 +91,30 @@ pub fn starts_rise(bands: &[Band]) -> bool
     bands.is_sorted_by(|band, next| band.start < next.start)
 }
 
+impl PartialEq for Bands {
+    ghost use Rattle.std.specs.Prelude.{◌≡◌, ◌↔◌, IsTrue};
+    ghost use Rattle.std.specs.Cmp.{partial_equiv_from_equiv};
+    ghost use Rattle.pit_model.specs.Bands.{bands_eq};
+    ghost use Rattle.pit_model.specs.Equality.{bands_equivalence};
+
+    ghost eq = { bands_eq };
+
+    ghost laws = { partial_equiv_from_equiv bands_equivalence };
+
+    fn eq(&self, other: &Bands) -> bool
+        ensures value { result ≡ bands_eq self.now other.now }
+        ensures equal { IsTrue result ↔ (self.now ≡ other.now) }
+    {
+        self.bands.as_slice() == other.bands.as_slice()
+    }
+}
+
+impl Eq for Bands {
+    ghost use Rattle.pit_model.specs.Equality.{bands_equivalence};
+
+    ghost laws = { bands_equivalence };
+}
+
 // How many bands begin at or below a grade: as they rise, the first ones.
 fn count_begun(bands: &[Band], grade: u64) -> usize
     requires { starts_rise bands.now ≡ true }

@@ -5,9 +5,11 @@ pub mod band;
 pub mod block;
 pub mod cells;
 pub mod cone;
+pub mod destination;
 mod draft;
 pub mod formula;
 pub mod grid;
+pub mod laws;
 pub mod limit;
 pub mod name;
 mod numbers;
@@ -17,5 +19,6 @@ mod plan_reader;
 pub mod ranges;
 pub mod records;
 pub mod resource;
+pub mod worth;
 
 pub use plan_reader::read_plan;
