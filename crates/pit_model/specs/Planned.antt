@@ -160,18 +160,18 @@ admit_zone d cells = cone_in cells >>= with_zone d
 -- one destination more, of at most 8
 abbrev pub with_formula : Draft → List ℕ → Formula → Result Draft PlanFaultKind
 with_formula d name formula =
-  if length d.formulas == 8 then Err TooMany
-  else Ok (record d { formulas = d.formulas ++ record { name = name; formula = formula } ∷ [] })
+    if length d.formulas == 8 then Err TooMany
+    else Ok (record d { formulas = d.formulas ++ record { name = name; formula = formula } ∷ [] })
 
 -- `mill, NAME, recovery, price, cost`
 abbrev pub admit_mill : Draft → List (List ℕ) → Result Draft PlanFaultKind
 admit_mill d cells =
-  if not (length cells == 5) then Err Width else do
-    name ← name_in (cell_at cells 1)
-    recovery ← whole_in 0 1000 (cell_at cells 2)
-    price ← whole_in 0 (10 ^ 8) (cell_at cells 3)
-    cost ← whole_in 0 (10 ^ 7) (cell_at cells 4)
-    if is_taken d.formulas name then Err Twice else with_formula d name (Mill recovery price cost)
+    if not (length cells == 5) then Err Width else do
+      name ← name_in (cell_at cells 1)
+      recovery ← whole_in 0 1000 (cell_at cells 2)
+      price ← whole_in 0 (10 ^ 8) (cell_at cells 3)
+      cost ← whole_in 0 (10 ^ 7) (cell_at cells 4)
+      if is_taken d.formulas name then Err Twice else with_formula d name (Mill recovery price cost)
 
 -- the band of a start in g/t with 6 decimals, and of a recovery
 abbrev pub band_in : List ℕ → List ℕ → Result Band PlanFaultKind
@@ -189,27 +189,27 @@ bands_in (start ∷ recovery ∷ more) done = band_in start recovery >>= λ band
 -- a leach of these bands, which have to rise and be at most 16
 abbrev pub with_leach : Draft → List ℕ → List Band → ℕ → ℕ → Result Draft PlanFaultKind
 with_leach d name bands price cost =
-  if not (starts_rise bands) then Err Order
-  else (if nat_lt 16 (length bands) then Err TooMany
-  else with_formula d name (Leach bands price cost))
+    if not (starts_rise bands) then Err Order
+    else (if nat_lt 16 (length bands) then Err TooMany
+    else with_formula d name (Leach bands price cost))
 
 -- `leach, NAME, price, cost`, and a start and a recovery for each band
 abbrev pub admit_leach : Draft → List (List ℕ) → Result Draft PlanFaultKind
 admit_leach d cells =
-  if nat_lt (length cells) 6 || not (length cells % 2 == 0) then Err Width else do
-    name ← name_in (cell_at cells 1)
-    price ← whole_in 0 (10 ^ 8) (cell_at cells 2)
-    cost ← whole_in 0 (10 ^ 7) (cell_at cells 3)
-    bands ← bands_in (drop 4 cells) []
-    if is_taken d.formulas name then Err Twice else with_leach d name bands price cost
+    if nat_lt (length cells) 6 || not (length cells % 2 == 0) then Err Width else do
+      name ← name_in (cell_at cells 1)
+      price ← whole_in 0 (10 ^ 8) (cell_at cells 2)
+      cost ← whole_in 0 (10 ^ 7) (cell_at cells 3)
+      bands ← bands_in (drop 4 cells) []
+      if is_taken d.formulas name then Err Twice else with_leach d name bands price cost
 
 -- `dump, NAME, cost`
 abbrev pub admit_dump : Draft → List (List ℕ) → Result Draft PlanFaultKind
 admit_dump d cells =
-  if not (length cells == 3) then Err Width else do
-    name ← name_in (cell_at cells 1)
-    cost ← whole_in 0 (10 ^ 7) (cell_at cells 2)
-    if is_taken d.formulas name then Err Twice else with_formula d name (Dump cost)
+    if not (length cells == 3) then Err Width else do
+      name ← name_in (cell_at cells 1)
+      cost ← whole_in 0 (10 ^ 7) (cell_at cells 2)
+      if is_taken d.formulas name then Err Twice else with_formula d name (Dump cost)
 
 -- the number of the destination that a cell names
 abbrev pub destination_in : List NamedFormula → List ℕ → Result ℕ PlanFaultKind
@@ -315,8 +315,8 @@ key_of cell =
     else (if is_word cell (codes "grid") then Some key.Grid
     else (if is_word cell (codes "zone") then Some key.Zone
     else (if is_word cell (codes "mill") then Some key.Mill
-  else (if is_word cell (codes "leach") then Some key.Leach
-  else (if is_word cell (codes "dump") then Some key.Dump
+    else (if is_word cell (codes "leach") then Some key.Leach
+    else (if is_word cell (codes "dump") then Some key.Dump
     else (if is_word cell (codes "periods") then Some key.Periods
     else (if is_word cell (codes "rate") then Some key.Rate
     else (if is_word cell (codes "resource") then Some key.Resource

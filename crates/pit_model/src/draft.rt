@@ -278,7 +278,13 @@ impl Draft {
         self.add_leach(name, bands, price as u64, cost as u64)
     }
 
-    fn add_leach(&mut self, name: Name, bands: Vec<Band>, price: u64, cost: u64) -> Result<(), RecordError>
+    fn add_leach(
+        &mut self,
+        name: Name,
+        bands: Vec<Band>,
+        price: u64,
+        cost: u64,
+    ) -> Result<(), RecordError>
         requires some { 1 ≤ length bands.items }
         requires in_range { All IsBand bands.items }
         requires price { price ≤ 10 ^ 8 }

@@ -1,3 +1,4 @@
+use crate::band::Band;
 use crate::cone::{Cone, Slope};
 use crate::formula::Formula;
 use crate::grid::{Axis, Grid};
@@ -11,6 +12,10 @@ use std::test::Fail;
 // The waste plan.
 const WASTE: &[u8] =
     b"name,waste\ngrid,0,0,0,10,10,10\nzone,1,1,1\ndump,dump,200\nperiods,1\nrate,0.1\n";
+
+// The mill plan.
+const MILL: &[u8] =
+    b"name,one\ngrid,0,0,0,10,10,10\nzone,1,1,1\nmill,mill,900,600,1500\nperiods,1\nrate,0.1\n";
 
 // The number and kind of the first faulty record of a plan, if it has one.
 fn refusal_of(alloc: Global, text: &[u8]) -> Result<Option<(u32, PlanFaultKind)>, Fail> {
@@ -269,5 +274,76 @@ fn marks_and_nothing(rt: HostRuntime) -> Result<(), Fail> {
         refusal_of(rt.alloc(), b"")?,
         Some((1, PlanFaultKind::Missing))
     );
+    Ok(())
+}
+
+// The plan's table on the mill plan, and what is easily missed of mills and leaches.
+#[test]
+fn mills_and_leaches(rt: HostRuntime) -> Result<(), Fail> {
+    use PlanFaultKind::*;
+    let records: [(&[u8], Option<(u32, PlanFaultKind)>); 22] = [
+        (b"leach,h,1,1,2,300,2,400", Some((7, Order))),
+        (b"leach,h,1,1,2,300,1.999999,400", Some((7, Order))),
+        (b"leach,h,1,1,2,300,2.000001,400", None),
+        (b"leach,h,1,1,2,300,2,400,x", Some((7, Width))),
+        (b"leach,h,1,1,2", Some((7, Width))),
+        (b"leach,h,1,1", Some((7, Width))),
+        (b"leach,h,1,1,1000000,1000", None),
+        (b"leach,h,1,1,1000000.000001,300", Some((7, Range))),
+        (b"leach,h,1,1,0,1001", Some((7, Range))),
+        (b"leach,h,1,1,0,0.5", Some((7, TooFine))),
+        (b"leach,h,1,1,0,x", Some((7, Number))),
+        (b"leach,mill,1,1,2,300,2,400", Some((7, Twice))),
+        (
+            b"leach,h,1,1,0,0,1,0,2,0,3,0,4,0,5,0,6,0,7,0,8,0,9,0,10,0,11,0,12,0,13,0,14,0,15,0",
+            None,
+        ),
+        (
+            b"leach,h,1,1,0,0,1,0,2,0,3,0,4,0,5,0,6,0,7,0,8,0,9,0,10,0,11,0,12,0,13,0,14,0,15,0,16,0",
+            Some((7, TooMany)),
+        ),
+        (
+            b"leach,h,1,1,0,0,1,0,2,0,3,0,4,0,5,0,6,0,7,0,8,0,9,0,10,0,11,0,12,0,13,0,14,0,15,0,15,0",
+            Some((7, Order)),
+        ),
+        (b"mill,m,1000,100000000,10000000", None),
+        (b"mill,m,1001,1,1", Some((7, Range))),
+        (b"mill,m,1,100000001,1", Some((7, Range))),
+        (b"mill,m,1,1,10000001", Some((7, Range))),
+        (b"mill,m,1,1,-1", Some((7, Range))),
+        (b"mill,m,1,1", Some((7, Width))),
+        (b"MILL,mill,1,1,1", Some((7, Twice))),
+    ];
+    for (last, answer) in records {
+        let mut text = Vec::new(rt.alloc());
+        text.extend_from_slice(MILL)?;
+        text.extend_from_slice(last)?;
+        assert_eq!(rt; refusal_of(rt.alloc(), text.as_slice())?, answer);
+    }
+    Ok(())
+}
+
+// A leach keeps its bands in their order, starts in millionths of a gram per tonne.
+#[test]
+fn bands_of_a_plan(rt: HostRuntime) -> Result<(), Fail> {
+    let text =
+        b"name,n\ngrid,0,0,0,1,1,1\nzone,1,1,1\nleach,heap,10000000,100,1,300,2.5,450\nperiods,1\nrate,0\n";
+    let plan = read_plan(rt.alloc(), text)?;
+    assert_eq!(rt; plan.formulas().len(), 1);
+    let Formula::Leach { bands, price, cost } = &plan.formulas()[0].formula else {
+        return Err("a leach")?;
+    };
+    let read = [
+        Band {
+            start: 1_000_000,
+            recovery: 300,
+        },
+        Band {
+            start: 2_500_000,
+            recovery: 450,
+        },
+    ];
+    assert_eq!(rt; bands.as_slice(), read.as_slice());
+    assert_eq!(rt; (*price, *cost), (10_000_000, 100));
     Ok(())
 }
