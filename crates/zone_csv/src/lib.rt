@@ -4,6 +4,7 @@
 mod cell;
 pub mod columns;
 pub mod feed;
+pub mod laws;
 pub mod mem_feed;
 mod row;
 pub mod row_fault;
