@@ -1,14 +1,14 @@
 -- An index stands for the coordinate of its blocks.
-use Rattle.std.proofs.Common.{◌≡◌, ℕ, ◌+◌, ◌*◌, ◌/◌, ◌%◌, ◌<◌, ◌≤◌, ◌==◌, Bool, true, false, refl, arith, sym, ◌∙◌, ap, ℤ, pos, negsuc, Ok, Err}
-use Rattle.std.specs.Prelude.{Result, nat_lt, ◌≤ℤ◌, ◌+ℤ◌, ◌-ℤ◌, ◌*ℤ◌, if◌then◌else◌}
+use Rattle.std.proofs.Common.{◌≡◌, ℕ, ◌+◌, ◌*◌, ◌/◌, ◌%◌, ◌<◌, ◌==◌, Bool, true, false, refl, arith, ◌∙◌, ap, ℤ, pos, negsuc, Ok, Err}
+use Rattle.std.specs.Prelude.{nat_lt, ◌-ℤ◌, ◌*ℤ◌, if◌then◌else◌}
 use Rattle.std.proofs.lemmas.Bool.{ltb-true, ltb-false, eqb-true}
 use Rattle.std.proofs.lemmas.Int.{ints}
-use Rattle.std.proofs.lemmas.Nat.{div-mul-add, div-add-mod'}
+use Rattle.std.proofs.lemmas.Nat.{div-add-mod'}
 use Rattle.std.proofs.Math.Nat.{mul-div_left}
 use Rattle.pit_model.specs.declared.grid.Axis.{Axis}
-use Rattle.zone_csv.specs.Cell.{Index, value_of, index_if, index_above, index_at, IsCentroid}
+use Rattle.zone_csv.specs.Cell.{value_of, index_if, index_above, index_at, IsCentroid}
 use Rattle.zone_csv.specs.declared.row_fault.RowFaultKind.{RowFaultKind}
-use Rattle.zone_csv.specs.declared.row_fault.RowFaultKind.TheVariants.{Range, OffGrid}
+use Rattle.zone_csv.specs.declared.row_fault.RowFaultKind.TheVariants.{OffGrid}
 
 by_rest : (blocks rest index : ℕ) (is : nat_lt blocks 10000 ≡ true) (none : Bool) → (rest == 0) ≡ none
     → value_of {InRange = λ n. n < 10000} {E = RowFaultKind} (if none then Ok (record { value = blocks; in_range = ltb-true blocks 10000 is }) else Err OffGrid) ≡ Ok index

@@ -1,5 +1,5 @@
 -- The fault of a zone file is that of the record behind its blocks.
-use Rattle.std.proofs.Common.{◌≡◌, ℕ, suc, ◌+◌, ◌==◌, Bool, true, false, not, List, [], ◌∷◌, length, arith, refl, sym, ◌∙◌, ap, Ok, Err, Some, None, inl, inr}
+use Rattle.std.proofs.Common.{◌≡◌, ℕ, suc, ◌+◌, ◌==◌, Bool, true, false, not, List, [], ◌∷◌, length, arith, refl, Ok, Err, Some, None, inl, inr}
 use Rattle.std.specs.Prelude.{Result, Option, nat_lt, ◌⊎◌, MatchOption, if◌then◌else◌}
 use Rattle.pit_model.specs.Records.{records_of}
 use Rattle.pit_model.specs.declared.block.Block.{Block}
