@@ -1,3 +1,5 @@
 pub mod CellFacts
 pub mod Names
 pub mod RecordSteps
+pub mod PlanSteps
+pub mod Limits

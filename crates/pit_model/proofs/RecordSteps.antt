@@ -1,8 +1,8 @@
 -- A record of a text takes a byte at least, so that reading all of them ends, and taking them one at a time gives them all.
-use Rattle.std.proofs.Common.{◌≡◌, ◌+◌, ◌<◌, ◌≤◌, Bool, true, false, ℕ, zero, suc, List, [], ◌∷◌, ◌++◌, length, Option, Some, None, IfSome, All, if◌then◌else◌, refl, sym, ap, ◌∙◌, arith, rules, inl, length-append, add-one}
+use Rattle.std.proofs.Common.{◌≡◌, ◌+◌, ◌<◌, ◌≤◌, Bool, true, false, ℕ, zero, suc, List, [], ◌∷◌, ◌++◌, length, Option, Some, None, IfSome, All, if◌then◌else◌, refl, ap, ◌∙◌, arith, rules, inl, length-append}
 use Rattle.std.proofs.lemmas.List.Elements.{All-nil, All-cons}
 use Rattle.csv.specs.Machine.{Read, step, is_end, ends_at_end, field_after, fields_after, next_record}
-use Rattle.csv.specs.Reading.{default_config, is_bom, NextIs, ReadRecord, ReadsNext, Ready, pending_of, records_from, records_next, source_of, strip_bom, took_first, is_flexible, reader_trim, reader_config, reader_state}
+use Rattle.csv.specs.Reading.{default_config, is_bom, NextIs, ReadRecord, ReadsNext, pending_of, records_from, records_next, source_of, strip_bom, took_first, is_flexible, reader_trim, reader_config, reader_state}
 use Rattle.csv.specs.declared.parser.State.{State}
 use Rattle.csv.specs.declared.parser.State.TheVariants as st
 use Rattle.csv.specs.declared.parser.Action.{Action}
@@ -10,7 +10,7 @@ use Rattle.csv.specs.declared.parser.Action.TheVariants as act
 use Rattle.csv.specs.declared.reader.Reader.{Reader}
 use Rattle.csv.specs.declared.reader.Trim.TheVariants as trim
 use Rattle.pit_model.specs.Records.{records_of}
-use Rattle.pit_model.specs.RecordsAhead.{IsBetweenRecords, TakesNext, rows_from, rows_of_source}
+use Rattle.pit_model.specs.RecordsAhead.{IsBetweenRecords, TakesNext, rows_from}
 
 -- a byte that ends a record leaves the machine where the end of the text ends none
 ends-between : (s : State) (c : ℕ) → is_end (step default_config s c).1 ≡ true → ends_at_end (step default_config s c).0 ≡ false
@@ -50,11 +50,11 @@ leaves state fields field [] = at-end (ends_at_end state)
     at-end false = tt
 leaves state fields field (c ∷ rest) =
     by (is_end (step default_config state c).1) refl
-      (leaves-more _ _ (length (c ∷ rest)) (omega arith) (leaves (step default_config state c).0 (fields_after (step default_config state c).1 fields field) (field_after (step default_config state c).1 c field) rest))
+    (leaves-more _ _ (length (c ∷ rest)) (omega arith) (leaves (step default_config state c).0 (fields_after (step default_config state c).1 fields field) (field_after (step default_config state c).1 c field) rest))
   where
     by : (b : Bool) → is_end (step default_config state c).1 ≡ b
         → IfSome (next_record default_config (step default_config state c).0 (fields_after (step default_config state c).1 fields field) (field_after (step default_config state c).1 c field) rest)
-          (λ read. Leaves read (length (c ∷ rest)))
+        (λ read. Leaves read (length (c ∷ rest)))
         → IfSome (next_record default_config state fields field (c ∷ rest)) (λ read. Leaves read (length (c ∷ rest)))
     by true h more = rw h (record { between = ends-between state c h; cells = ends-with-cell (step default_config state c).1 fields field h; bytes = omega arith })
     by false h more = rw h more
@@ -65,16 +65,18 @@ takes : (state : State) (bytes : List ℕ) → ends_at_end state ≡ false
 unfolding next_record
 takes state [] h = rw h tt
 takes state (c ∷ rest) h = by (is_end (step default_config state c).1) refl
-      (leaves (step default_config state c).0 (fields_after (step default_config state c).1 [] []) (field_after (step default_config state c).1 c []) rest)
+    (leaves (step default_config state c).0 (fields_after (step default_config state c).1 [] []) (field_after (step default_config state c).1 c []) rest)
   where
     Taken : Option Read → Type 0
     Taken found = IfSome found (λ read. (ends_at_end read.1 ≡ false) × (0 < length read.0) × (length read.2 < length (c ∷ rest)))
+
     longer : (found : Option Read) → IfSome found (λ read. Leaves read (length rest)) → Taken found
     longer None l = tt
     longer (Some read) l = (l.between, l.cells, omega (arith, l.bytes))
+
     by : (b : Bool) → is_end (step default_config state c).1 ≡ b
         → IfSome (next_record default_config (step default_config state c).0 (fields_after (step default_config state c).1 [] []) (field_after (step default_config state c).1 c []) rest)
-          (λ read. Leaves read (length rest))
+        (λ read. Leaves read (length rest))
         → Taken (next_record default_config state [] [] (c ∷ rest))
     by true h l = rw h (ends-between state c h, ends-with-cell (step default_config state c).1 [] [] h, omega arith)
     by false h l = rw h (longer _ l)
@@ -156,12 +158,12 @@ rows-next state bytes h =
 shows : (state after : State) (bytes rest : List ℕ) (found : Bool) (fields : List (List ℕ)) → ends_at_end state ≡ false
     → NextIs (next_record default_config state [] [] bytes) found fields after rest
     → (found ≡ true → (ends_at_end after ≡ false) × (rows_from state bytes ≡ fields ∷ rows_from after rest) × (0 < length fields))
-      × (found ≡ false → rows_from state bytes ≡ [])
+    × (found ≡ false → rows_from state bytes ≡ [])
 shows state after bytes rest found fields h n = by (next_record default_config state [] [] bytes) (rows-next state bytes h) (takes state bytes h) n
   where
     by : (read : Option Read) → rows_from state bytes ≡ records_next rows_from read → IfSome read (λ r. Taken bytes r) → NextIs read found fields after rest
         → (found ≡ true → (ends_at_end after ≡ false) × (rows_from state bytes ≡ fields ∷ rows_from after rest) × (0 < length fields))
-          × (found ≡ false → rows_from state bytes ≡ [])
+        × (found ≡ false → rows_from state bytes ≡ [])
     by None e t n = ((λ yes. cc (n, yes)), λ no. e)
     by (Some r) e t n = ((λ yes. rw (n.1, n.2, n.3) (t.0, e, t.1)), λ no. cc (n.0, no))
 
@@ -182,4 +184,4 @@ pub reader-takes : {R : Type 0} (known : R → Option (List ℕ)) (old new : Rea
     → TakesNext known old new found fields
 reader-takes known old new found fields set read flexible first =
     takes-by known old new found fields (pending_of (known new.rdr) new) set (rw read.1 refl) (read.2 ∙ set.config) (read.3 ∙ set.plain) (flexible ∙ set.flexible) first
-      (rw (set.source, set.config) at read.0)
+    (rw (set.source, set.config) at read.0)

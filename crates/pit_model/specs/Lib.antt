@@ -1,7 +1,10 @@
+pub mod Admits
 pub mod Block
 pub mod Cells
+pub mod DraftView
 pub mod Name
 pub mod Plan
 pub mod PlanView
+pub mod Planned
 pub mod Records
 pub mod RecordsAhead

@@ -1,7 +1,7 @@
 //! The plan of a mine.
 
 ghost use Rattle.std.specs.Prelude.{◌≡◌};
-ghost use Rattle.pit_model.specs.Plan.{IsPlan};
+ghost use Rattle.pit_model.specs.Plan.{IsPlan, plan_of};
 
 use crate::cone::Cone;
 use crate::formula::NamedFormula;
@@ -39,6 +39,32 @@ impl Model for Plan {
 }
 
 impl Plan {
+    /// A plan of these parts.
+    pub(crate) fn new(
+        name: Name,
+        grid: Grid,
+        cones: Vec<Cone>,
+        formulas: Vec<NamedFormula>,
+        periods: u8,
+        rate: Dec,
+        resources: Vec<Resource>,
+        limits: Vec<Limit>,
+    ) -> Plan
+        requires { IsPlan (plan_of name grid cones.items formulas.items periods rate resources.items limits.items) }
+        ensures { result ≡ plan_of name grid cones.items formulas.items periods rate resources.items limits.items }
+    {
+        Plan {
+            name,
+            grid,
+            cones,
+            formulas,
+            periods,
+            rate,
+            resources,
+            limits,
+        }
+    }
+
     /// The plan's own NAME.
     pub fn name(&self) -> &Name
         ensures value { result.now ≡ self.now.name }

@@ -3,6 +3,9 @@
 //! A record is what RFC 4180 says, as the crate `csv` states it: cells between commas, quoted cells between double quotes with a quote
 //! doubled inside, lines ended by LF, CR or both. Records may differ in length, no cell is trimmed, no record is a header, and blank lines
 //! are no records. One byte order mark at the front of the text is dropped.
+//!
+//! Where RFC 4180 is silent: a quote inside an unquoted cell stands for itself, bytes after a closing quote join its cell, and a quote that is
+//! not closed runs to the end of the text. A cell may hold any bytes.
 
 ghost use Rattle.std.specs.Prelude.{◌≡◌, ◌+◌, ◌<◌, ◌≤◌, true, IfOk, IfSome, Ok, length};
 ghost use Rattle.std.specs.List.{All};
@@ -26,7 +29,8 @@ enum Stage {
     Refused,
 }
 
-/// A reader of a text's records. Contracts see the records that are left, or that memory was refused.
+/// A reader of a text's records, over the bytes that it owns or borrows. Contracts see the records that are left, or that memory was refused.
+/// It holds its buffer and tables in itself, some sixteen kilobytes, and takes memory only for the record that it reads into.
 #[derive(Drop)]
 pub struct RecordReader<R: Read> {
     reader: Reader<R>,
@@ -45,8 +49,8 @@ impl<R: Read> Model for RecordReader<R> {
 }
 
 impl RecordReader<Cursor<Vec<u8>>> {
-    #[tactic(auto, using(crate::proofs::RecordSteps::few_records, crate::proofs::RecordSteps::records_have_cells))]
     /// A reader of the records of `text`, which it keeps. It takes no memory and reads nothing yet.
+    #[tactic(auto, using(crate::proofs::RecordSteps::few_records, crate::proofs::RecordSteps::records_have_cells))]
     pub fn new(alloc: Global, text: Vec<u8>) -> RecordReader<Cursor<Vec<u8>>>
         ensures records { result ≡ Rows (records_of text.items) }
         ensures few { length (records_of text.items) ≤ length text.items }
@@ -60,8 +64,8 @@ impl RecordReader<Cursor<Vec<u8>>> {
 }
 
 impl<'a> RecordReader<&'a [u8]> {
-    #[tactic(auto, using(crate::proofs::RecordSteps::few_records, crate::proofs::RecordSteps::records_have_cells))]
     /// A reader of the records of `text`, which it borrows. It takes no memory and reads nothing yet.
+    #[tactic(auto, using(crate::proofs::RecordSteps::few_records, crate::proofs::RecordSteps::records_have_cells))]
     pub fn from_slice(alloc: Global, text: &'a [u8]) -> RecordReader<&'a [u8]>
         ensures records { result ≡ Rows (records_of text.now) }
         ensures few { length (records_of text.now) ≤ length text.now }
@@ -105,10 +109,7 @@ impl<R: Read> RecordReader<R> {
 
 // Takes the next record. The crate's contract leaves open whether an error is one of memory or of the reader underneath, which here is
 // bytes in memory and has none: so each is one of memory.
-fn take_record<R: Read>(
-    reader: &mut Reader<R>,
-    row: &mut ByteRecord,
-) -> Result<bool, AllocError>
+fn take_record<R: Read>(reader: &mut Reader<R>, row: &mut ByteRecord) -> Result<bool, AllocError>
     ensures { IsBetweenRecords R.remaining reader.old → IfOk result (λ found. TakesNext R.remaining reader.old reader.new found (fields_of row.new)) }
 {
     match reader.read_byte_record(row) {

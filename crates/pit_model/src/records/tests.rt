@@ -31,24 +31,48 @@ fn gives<R: Read>(
 fn records_of_texts(rt: HostRuntime) -> Result<(), Fail> {
     let table: &[(&[u8], &[&[&[u8]]])] = &[
         (b"", &[]),
-        (b"aaa,bbb\r\nzzz,yyy\r\n", &[&[b"aaa", b"bbb"], &[b"zzz", b"yyy"]]),
-        (b"aaa,bbb\r\nzzz,yyy", &[&[b"aaa", b"bbb"], &[b"zzz", b"yyy"]]),
+        (
+            b"aaa,bbb\r\nzzz,yyy\r\n",
+            &[&[b"aaa", b"bbb"], &[b"zzz", b"yyy"]],
+        ),
+        (
+            b"aaa,bbb\r\nzzz,yyy",
+            &[&[b"aaa", b"bbb"], &[b"zzz", b"yyy"]],
+        ),
         (b"a\nb\rc\r\nd", &[&[b"a"], &[b"b"], &[b"c"], &[b"d"]]),
-        (b"\"aaa\",\"b\r\nbb\",\"ccc\"\r\nzzz", &[&[b"aaa", b"b\r\nbb", b"ccc"], &[b"zzz"]]),
-        (b"\"aaa\",\"b\"\"bb\",\"c,c\"", &[&[b"aaa", b"b\"bb", b"c,c"]]),
-        (b"a\nb,c\n\nd,e,f\ng", &[&[b"a"], &[b"b", b"c"], &[b"d", b"e", b"f"], &[b"g"]]),
+        (
+            b"\"aaa\",\"b\r\nbb\",\"ccc\"\r\nzzz",
+            &[&[b"aaa", b"b\r\nbb", b"ccc"], &[b"zzz"]],
+        ),
+        (
+            b"\"aaa\",\"b\"\"bb\",\"c,c\"",
+            &[&[b"aaa", b"b\"bb", b"c,c"]],
+        ),
+        (
+            b"a\nb,c\n\nd,e,f\ng",
+            &[&[b"a"], &[b"b", b"c"], &[b"d", b"e", b"f"], &[b"g"]],
+        ),
         (b"\r\n\n\ra\n\n\r\n\rb\n\n", &[&[b"a"], &[b"b"]]),
         (b"a\n\"\"\n\n \n", &[&[b"a"], &[b""], &[b" "]]),
-        (b",\n a , \"b\" ,\n", &[&[b"", b""], &[b" a ", b" \"b\" ", b""]]),
+        (
+            b",\n a , \"b\" ,\n",
+            &[&[b"", b""], &[b" a ", b" \"b\" ", b""]],
+        ),
         (b"a\"b\"c,d\"\n", &[&[b"a\"b\"c", b"d\""]]),
         (b"\"a\"b\"c,\"d\" ,e\n", &[&[b"ab\"c", b"d ", b"e"]]),
         (b"a,\"b\nc,d\n", &[&[b"a", b"b\nc,d\n"]]),
         (b"a\n\"", &[&[b"a"], &[b""]]),
         (b"\xEF\xBB\xBFx,y\n", &[&[b"x", b"y"]]),
         (b"\xEF\xBB\xBF\"x,y\"\n", &[&[b"x,y"]]),
-        (b"\xEF\xBB\xBF\xEF\xBB\xBFx,y\n", &[&[b"\xEF\xBB\xBFx", b"y"]]),
+        (
+            b"\xEF\xBB\xBF\xEF\xBB\xBFx,y\n",
+            &[&[b"\xEF\xBB\xBFx", b"y"]],
+        ),
         (b"\xEF\xBB\xBF", &[]),
-        (b"\xEF\xBB,\xFF\x00\n\xEF\xBB\xBF", &[&[b"\xEF\xBB", b"\xFF\x00"], &[b"\xEF\xBB\xBF"]]),
+        (
+            b"\xEF\xBB,\xFF\x00\n\xEF\xBB\xBF",
+            &[&[b"\xEF\xBB", b"\xFF\x00"], &[b"\xEF\xBB\xBF"]],
+        ),
         (b"#a\n\\\"b,\\n\n", &[&[b"#a"], &[b"\\\"b", b"\\n"]]),
     ];
     for (text, want) in table {
