@@ -2,7 +2,7 @@
 #![tactic(auto)]
 
 mod cell;
-pub mod columns;
+mod columns;
 pub mod feed;
 pub mod laws;
 pub mod mem_feed;

@@ -1,28 +1,23 @@
 use super::*;
-use pit_model::grid::Axis;
+use pit_model::read_plan;
 use std::process::Abort;
 use std::test::Fail;
 
+// Blocks are cubes of 10 m, the first of them at the origin.
+const PLAN: &str = "name,waste
+grid,0,0,0,10,10,10
+zone,1,1,1
+dump,dump,200
+periods,1
+rate,0.1
+";
+
 const HEADER: &str = "x,y,z,tonnes,grade\n";
 
-// A reader of a zone whose blocks are cubes of 10 m, the first of them at the origin.
-fn reader_of(alloc: Global, text: &[u8]) -> Result<ZoneReader, Fail> {
-    let axis = Axis {
-        origin: 0,
-        size: 10_000,
-    };
-    let grid = Grid {
-        x: axis,
-        y: axis,
-        z: axis,
-    };
-    Ok(ZoneReader {
-        records: RecordReader::new(alloc, text.to_vec(alloc)?),
-        row: ByteRecord::new(alloc),
-        grid,
-        zone: 0,
-        stage: Stage::Header,
-    })
+fn reader_of(rt: &impl Abort, alloc: Global, text: &[u8]) -> Result<ZoneReader, Fail> {
+    let plan = read_plan(alloc, PLAN.as_bytes())?;
+    assert_eq!(rt; plan.cones().len(), 1);
+    Ok(ZoneReader::new(alloc, text.to_vec(alloc)?, &plan, 0))
 }
 
 // What a text says: so many blocks, of which the last is told, and then a fault or none, as often as it is asked.
@@ -31,7 +26,7 @@ fn said(
     alloc: Global,
     text: &[u8],
 ) -> Result<(usize, Option<Block>, Option<RowFault>), Fail> {
-    let mut reader = reader_of(alloc, text)?;
+    let mut reader = reader_of(rt, alloc, text)?;
     let mut blocks = 0usize;
     let mut last = None;
     for _ in 0..2_000_000u32 {
