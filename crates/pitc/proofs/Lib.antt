@@ -3,3 +3,4 @@ mod Joined
 mod Lines
 mod Uncut
 mod Walk
+pub mod RowSteps

@@ -6,6 +6,7 @@ pub mod laws;
 pub mod piece;
 pub mod pieces;
 pub mod refusal;
+pub mod rows;
 pub mod status;
 
 use std::io;

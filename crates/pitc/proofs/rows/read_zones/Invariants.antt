@@ -1,0 +1,9 @@
+use Rattle.std.proofs.Common.{◌≡◌, ◌++◌, drop}
+use Rattle.pitc.specs.Rows.{fault_in, formulas_in, rows_in}
+use Rattle.pitc.proofs.rows.read_zones.Given as goal
+
+abbrev pub invariant-loop-zone : goal.invariant-loop-zone
+invariant-loop-zone g l =
+    (l.rows.items ++ rows_in (drop l.zone l.zones) l.plan.grid (formulas_in l.plan) l.zone
+      ≡ l.fn.rows.items ++ rows_in l.zones l.plan.grid (formulas_in l.plan) 0)
+    × (fault_in (drop l.zone l.zones) l.plan.grid l.zone ≡ fault_in l.zones l.plan.grid 0)
