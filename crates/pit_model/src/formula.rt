@@ -1,9 +1,13 @@
 //! How a destination values a block.
 
 ghost use Rattle.std.specs.Prelude.{◌≡◌, IfOk};
+ghost use Rattle.pit_model.specs.Plan.{IsRuled};
+ghost use Rattle.pit_model.specs.Worth.{worth, IsWorth};
 
 use crate::band::Bands;
+use crate::block::Block;
 use crate::name::Name;
+use crate::worth::{dump_worth, leach_worth, mill_worth};
 use std::alloc::{AllocError, Global};
 
 /// How a destination values a block. That its numbers are in range is a condition of the functions that use them; those of a
@@ -51,6 +55,25 @@ impl Formula {
             },
             Formula::Dump { cost } => Formula::Dump { cost: *cost },
         })
+    }
+}
+
+impl Formula {
+    /// What a block is worth by this formula, in cents.
+    pub fn worth(&self, block: Block) -> i128
+        requires { IsRuled self.now }
+        ensures value { result ≡ worth self.now block }
+        ensures in_range { IsWorth result }
+    {
+        match self {
+            Formula::Mill {
+                recovery,
+                price,
+                cost,
+            } => mill_worth(block, *recovery, *price, *cost),
+            Formula::Leach { bands, price, cost } => leach_worth(block, bands, *price, *cost),
+            Formula::Dump { cost } => dump_worth(block, *cost),
+        }
     }
 }
 
