@@ -1,0 +1,4 @@
+pub mod Message
+pub mod Machine
+pub mod Lawful
+pub mod Whole
