@@ -1,3 +1,4 @@
 pub mod Lists
 pub mod Messages
 pub mod Keeps
+pub mod Seats

@@ -2,3 +2,4 @@ pub mod Message
 pub mod Machine
 pub mod Lawful
 pub mod Whole
+pub mod Rule

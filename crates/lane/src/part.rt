@@ -20,6 +20,7 @@ pub enum Part {
     /// The take part of a taker: what it took.
     Take {
         taker: u8,
+        capacity: usize,
         took: LinkedList<Taken>,
     },
     /// The closer part: the lane's numbers, and how many Stops and Quits were put.
