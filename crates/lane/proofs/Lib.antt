@@ -2,3 +2,4 @@ pub mod Lists
 pub mod Messages
 pub mod Keeps
 pub mod Seats
+pub mod Steps

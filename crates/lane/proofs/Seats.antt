@@ -10,6 +10,7 @@ use Rattle.lane.specs.declared.part.Part.{Part}
 use Rattle.lane.specs.declared.part.Part.TheVariants.{Count, Put, Take, Close}
 use Rattle.lane.specs.Machine.{Size, State, opening}
 use Rattle.lane.specs.Rule.{Role, Putter, Taker, Closer, IsRole, part_of, role_of, Has, IsSeated, AreSeated, put_parts, take_parts, all_parts}
+use Rattle.lane.specs.Steps.{IsFree}
 use Rattle.lane.proofs.Lists.{all_weaker}
 
 -- a part that stands in a view has what holds of all of them
@@ -43,10 +44,6 @@ role_of_part n s Closer = refl
 -- a part is of one role
 pub one_role : (n m : Size) (s t : State) (r q : Role) → part_of n s r ≡ part_of m t q → r ≡ q
 one_role n m s t r q e = let x : Some r ≡ Some q = sym (role_of_part n s r) ∙ (ap role_of e ∙ role_of_part m t q) in cc
-
--- no part of the view is of the role
-abbrev pub IsFree : Role → List Part → Type 0
-IsFree role v = AllByRecursion (λ part. role_of part ≡ Some role → ⊥) v
 
 -- a role's part changes where it stands, and no other part does
 pub changed : (n : Size) (s t : State) (seat : Role → ℕ) (views : List (List Part)) (pass : ℕ) (role : Role) (rest : List Part)

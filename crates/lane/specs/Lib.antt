@@ -3,3 +3,5 @@ pub mod Machine
 pub mod Lawful
 pub mod Whole
 pub mod Rule
+pub mod Steps
+pub mod Laws
