@@ -3,3 +3,5 @@ pub mod Messages
 pub mod Keeps
 pub mod Seats
 pub mod Steps
+pub mod Orders
+pub mod Wholes

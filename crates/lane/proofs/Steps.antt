@@ -3,7 +3,7 @@ use Rattle.std.proofs.Common.{◌≡◌, ◌≢◌, ◌⊎◌, ⊎_elim, inl, in
 use Rattle.std.specs.List.{AllByRecursion}
 use mathlib.Core.Option.{some}
 use lib.ListN.{get_elem?}
-use Rattle.std.proofs.lemmas.Bool.{cases_Bool}
+use Rattle.std.proofs.lemmas.Bool.{cases_Bool, eq-eqb}
 use Rattle.pit_model.specs.declared.block.Block.{Block}
 use Rattle.lane.specs.declared.message.Taken.{Taken}
 use Rattle.lane.specs.declared.message.Taken.TheVariants.{Row, End, Stop, Quit}
@@ -153,3 +153,38 @@ take_event n s m items views pass w c ms h at undone =
           ((λ i. Take w (p.1 i) (p.2 i ++ m ∷ [])) ∙ ap (λ l. Take w n.capacity l) (sym (with_at_here s.took w (s.took w ++ m ∷ []))))
           (take_same n s w m items),
     )
+
+file_put : (s : State) (pre : List Taken) (f g : ℕ) (m : Taken) → is_of g m ≡ true → of f pre ++ of f s.queue ≡ s.sent f → of f (pre ++ []) ++ of f (s.queue ++ m ∷ []) ≡ with_at s.sent g (s.sent g ++ m ∷ []) f
+file_put s pre f g m is h =
+    ap (λ l. of f l ++ of f (s.queue ++ m ∷ [])) (append-nil pre)
+    ∙ with_at_all (λ j l. of j pre ++ of j s.queue ≡ s.sent j → of j pre ++ of j (s.queue ++ m ∷ []) ≡ l) s.sent g (s.sent g ++ m ∷ [])
+        (λ q. ap (λ l. of g pre ++ l) (of_yes g s.queue m is) ∙ (sym (append_assoc (of g pre) (of g s.queue) (m ∷ [])) ∙ ap (λ l. l ++ m ∷ []) q))
+        (λ j ne q. ap (λ l. of j pre ++ l) (of_no j s.queue m (of_one g j m is ne)) ∙ q)
+        f h
+
+mark_put : (s : State) (pre : List Taken) (f : ℕ) (m : Taken) → is_of f m ≡ false → of f pre ++ of f s.queue ≡ s.sent f → of f (pre ++ []) ++ of f (s.queue ++ m ∷ []) ≡ s.sent f
+mark_put s pre f m is h = ap (λ l. of f l ++ of f (s.queue ++ m ∷ [])) (append-nil pre) ∙ (ap (λ l. of f pre ++ l) (of_no f s.queue m is) ∙ h)
+
+next_taken : (s : State) (pre : List Taken) (f w : ℕ) (q : List Taken) → of f pre ++ of f q ≡ s.sent f → s.queue ≡ q → of f (pre ++ take 1 q) ++ of f (take_next w q s).queue ≡ (take_next w q s).sent f
+next_taken s pre f w [] h e = ap (λ l. of f l ++ of f s.queue) (append-nil pre) ∙ (ap (λ l. of f pre ++ of f l) e ∙ h)
+next_taken s pre f w (m ∷ rest) h e =
+    ⊎_elim
+        (λ (t : is_of f m ≡ true). ap (λ l. l ++ of f rest) (of_yes f pre m t) ∙ (append_assoc (of f pre) (m ∷ []) (of f rest) ∙ (ap (λ l. of f pre ++ l) (sym (front_yes f m rest t)) ∙ h)))
+        (λ (t : is_of f m ≡ false). ap (λ l. l ++ of f rest) (of_no f pre m t) ∙ (ap (λ l. of f pre ++ l) (sym (front_no f m rest t)) ∙ h))
+        (cases_Bool (is_of f m))
+
+event_leaves : (s : State) (e : Event) (pre : List Taken) (f : ℕ) → of f pre ++ of f s.queue ≡ s.sent f → of f (pre ++ leaves s e) ++ of f (after s e).queue ≡ (after s e).sent f
+event_leaves s (PutRow g b) pre f h = file_put s pre f g (Row g (length (s.sent g)) b) (eq-eqb g g refl) h
+event_leaves s (PutEnd g) pre f h = file_put s pre f g (End g (rows_in (s.sent g))) (eq-eqb g g refl) h
+event_leaves s PutStop pre f h = mark_put s pre f Stop refl h
+event_leaves s PutQuit pre f h = mark_put s pre f Quit refl h
+event_leaves s (TakeNext w) pre f h = next_taken s pre f w s.queue h refl
+
+run_leaves : (s : State) (es : List Event) (pre : List Taken) (f : ℕ) → of f pre ++ of f s.queue ≡ s.sent f → of f (pre ++ leaving s es) ++ of f (after_all s es).queue ≡ (after_all s es).sent f
+run_leaves s [] pre f h = ap (λ l. of f l ++ of f s.queue) (append-nil pre) ∙ h
+run_leaves s (e ∷ es) pre f h =
+    ap (λ l. of f l ++ of f (after_all (after s e) es).queue) (sym (append_assoc pre (leaves s e) (leaving (after s e) es)))
+    ∙ run_leaves (after s e) es (pre ++ leaves s e) f (event_leaves s e pre f h)
+
+pub left_is_prefix : LeftIsPrefixOfSent
+left_is_prefix n events allowed f = run_leaves opening events [] f refl
