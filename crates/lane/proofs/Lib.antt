@@ -5,3 +5,4 @@ pub mod Seats
 pub mod Steps
 pub mod Orders
 pub mod Wholes
+pub mod Rules

@@ -84,7 +84,7 @@ changed n s t seat views pass role rest h at is free same =
         (λ (in' : Has (part_of n s r) rest). inr (subst (λ p. Has p rest) (sym (same r (λ e. free_of (part_of n s r) rest in' free (role_of_part n s r ∙ ap (λ (a : Role). Some a) e)))) in'))
         q
 
-at_end : {A : Type 0} (l : List A) (a b : A) (j : ℕ) → get_elem? (l ++ a ∷ []) j ≡ some b → (get_elem? l j ≡ some b) ⊎ ((j ≡ length l) × (a ≡ b))
+pub at_end : {A : Type 0} (l : List A) (a b : A) (j : ℕ) → get_elem? (l ++ a ∷ []) j ≡ some b → (get_elem? l j ≡ some b) ⊎ ((j ≡ length l) × (a ≡ b))
 at_end [] a b zero e = inr (refl, some-injective a b e)
 at_end [] a b (suc j) e = absurd (some-ne-none b (sym e))
 at_end (x ∷ l) a b zero e = inl e
