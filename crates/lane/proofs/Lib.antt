@@ -6,3 +6,4 @@ pub mod Steps
 pub mod Orders
 pub mod Wholes
 pub mod Rules
+pub mod Ends

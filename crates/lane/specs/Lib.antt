@@ -5,3 +5,4 @@ pub mod Whole
 pub mod Rule
 pub mod Steps
 pub mod Laws
+pub mod Ends

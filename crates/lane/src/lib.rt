@@ -2,7 +2,13 @@
 //! once, the messages of a file in order, and what is gathered at the end is whole.
 #![tactic(auto)]
 
+mod channel;
 mod message;
 mod part;
+mod put_end;
+mod rule;
+mod take_end;
 
 pub use message::Taken;
+pub use put_end::{EndedPut, PutEnd};
+pub use take_end::TakeEnd;
