@@ -7,3 +7,4 @@ pub mod Orders
 pub mod Wholes
 pub mod Rules
 pub mod Ends
+pub mod Opens

@@ -7,7 +7,7 @@ use Rattle.std.proofs.lemmas.List.Folds.{list_any-append}
 use Rattle.pit_model.specs.declared.block.Block.{Block}
 use Rattle.lane.specs.declared.message.Taken.{Taken}
 use Rattle.lane.specs.declared.message.Taken.TheVariants.{Row, End, Stop, Quit}
-use Rattle.lane.specs.Message.{is_of, of, position, is_row, is_end, is_stop, is_quit, is_mark, rows_in, has_end, is_done, IsFrom, IsEndedFrom, IsRising, Rises, EndsClose, MarksLast, EndsInStop, AreStops, StopsLast}
+use Rattle.lane.specs.Message.{is_of, of, position, is_row, is_end, is_stop, is_quit, is_mark, rows_in, has_end, is_done, ends_in_mark, IsFrom, IsEndedFrom, IsRising, Rises, EndsClose, MarksLast, EndsInStop, AreStops, StopsLast}
 use Rattle.lane.specs.Lawful.{IsPlaced}
 use Rattle.lane.proofs.Lists.{all_more, count_front}
 
@@ -152,3 +152,24 @@ stops_none (x ∷ ms) m e = let c = counted_none (is_stop x) (count_by is_stop m
 pub stops_more : (ms : List Taken) → StopsLast ms → StopsLast (ms ++ Stop ∷ [])
 stops_more [] h = ((λ _. tt), tt)
 stops_more (x ∷ ms) h = ((λ t. all_more (λ m. is_stop m ≡ true) ms Stop (h.0 t) refl), stops_more ms h.1)
+
+or_nothing : (b : Bool) → (b || false) ≡ b
+or_nothing true = refl
+or_nothing false = refl
+
+-- where a mark is last, a taker is done just where its last message is one
+pub done_is_last : (ms : List Taken) → MarksLast ms → is_done ms ≡ ends_in_mark ms
+done_is_last [] h = refl
+done_is_last (m ∷ []) h = or_nothing (is_mark m)
+done_is_last (m ∷ n ∷ ms) h = ap (λ (b : Bool). b || is_done (n ∷ ms)) (unmarked_before (is_mark m) refl) ∙ done_is_last (n ∷ ms) h.1
+  where
+    unmarked_before : (b : Bool) → is_mark m ≡ b → is_mark m ≡ false
+    unmarked_before true e = absurd (let z : (n ∷ ms) ≡ [] = h.0 e in cc)
+    unmarked_before false e = e
+
+pub ended_has_end : (f k : ℕ) (ms : List Taken) → IsEndedFrom f k ms → has_end ms ≡ true
+ended_has_end f k [] h = absurd h
+ended_has_end f k (Row g p c ∷ ms) h = ended_has_end f (k + 1) ms h.2
+ended_has_end f k (End g n ∷ ms) h = refl
+ended_has_end f k (Stop ∷ ms) h = absurd h
+ended_has_end f k (Quit ∷ ms) h = absurd h

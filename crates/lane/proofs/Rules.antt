@@ -15,6 +15,7 @@ use Rattle.lane.specs.Machine.{Size, State, opening, PutRow, PutEnd, PutStop, Pu
 use Rattle.lane.specs.Whole.{IsWhole}
 use Rattle.lane.specs.Rule.{Role, Putter, Taker, Closer, part_of, role_of, Has, IsSeated, AreSeated, IsLaneAt, IsCounting, IsLane, put_parts, take_parts, all_parts}
 use Rattle.lane.specs.Steps.{more_part, with_message, IsFree, HasEnded, PutSends, CloseSends, MaySend, MayTake, IsOrdered, Takes, took_in, IsFull, full_view, sents_in, tooks_in, gathering_in}
+use Rattle.lane.specs.Ends.{IsClosers}
 use Rattle.lane.proofs.Seats.{at_part, has_left, has_right, at_within, at_end, given, joined, opened}
 use Rattle.lane.proofs.Keeps.{begins}
 use Rattle.lane.proofs.Steps.{put_is, take_is, close_is, row_is, end_is, stop_is, quit_is, take_event}
@@ -278,3 +279,10 @@ gives_put pass files takers c f m w =
 pub gives_take : (pass files takers c w m : ℕ) → Forks IsLane pass (Close files takers c 0 0 ∷ take_parts c w (replicate (suc m) [])) (Close files takers c 0 0 ∷ take_parts c (w + 1) (replicate m [])) (Take w c [] ∷ [])
 gives_take pass files takers c w m =
     gives pass (Close files takers c 0 0) (Take w c []) (take_parts c (w + 1) (replicate m [])) (Taker w) refl ((λ (e : Some Closer ≡ Some (Taker w)). cc), later_takes c (w + 1) m w (omega arith))
+
+pub joins : (pass : ℕ) (v : List Part) (other : ℕ) (u : List Part) → IsClosers v → Merges IsLane pass v other u (v ++ u) []
+joins pass [] other u h = absurd h
+joins pass (Count f w c ∷ v) other u h = absurd h
+joins pass (Put f c ms ∷ v) other u h = absurd h
+joins pass (Take w c ms ∷ v) other u h = absurd h
+joins pass (Close f w c x y ∷ v) other u h = merges pass (Close f w c x y) v other u Closer refl

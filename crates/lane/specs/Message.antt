@@ -66,6 +66,12 @@ has_end ms = list_any is_end ms
 abbrev pub is_done : List Taken → Bool
 is_done ms = list_any is_mark ms
 
+-- whether the last message is Stop or Quit
+abbrev pub ends_in_mark : List Taken → Bool
+ends_in_mark [] = false
+ends_in_mark (m ∷ []) = is_mark m
+ends_in_mark (m ∷ n ∷ ms) = ends_in_mark (n ∷ ms)
+
 -- rows of the file with places k, k + 1, .. and then at most one end mark with their count, last
 abbrev pub IsFrom : ℕ → ℕ → List Taken → Type 0
 IsFrom file k [] = Unit {0}

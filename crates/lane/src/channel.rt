@@ -3,10 +3,13 @@
 ghost use Rattle.std.specs.Prelude.{◌≡◌};
 ghost use Rattle.crossbeam_channel.specs.Claims.{view, IsSeatAt};
 ghost use Rattle.crossbeam_channel.specs.Ends.{sends_on, receives_on, ruled_capacity};
-ghost use Rattle.lane.specs.Steps.{with_message, MaySend, MayTake, IsOrdered, took_in};
+ghost use Rattle.crossbeam_channel.specs.Fifo.{Pops, Learns};
+ghost use Rattle.lane.specs.Rule.{IsLane};
+ghost use Rattle.lane.specs.Whole.{IsWhole};
+ghost use Rattle.lane.specs.Steps.{gathering_in, with_message, MaySend, MayTake, IsOrdered, took_in};
 
 use crate::message::Taken;
-use crate::rule::{Receiver, Receives, Seat, Sender, Sends};
+use crate::rule::{Looks, Receiver, Receives, Seat, Sender, Sends};
 use std::sync::Wait;
 
 /// Sends the message.
@@ -37,4 +40,17 @@ pub fn take<R: Wait>(rt: &R, receiver: &Receiver, pass: &mut Seat) -> Taken
         }
     }
     unreachable!()
+}
+
+/// Looks once at a lane that is done: nothing is left in its queue, so it is whole.
+pub fn look<R: Wait>(rt: &R, receiver: &Receiver, pass: &mut Seat)
+    requires seat { IsSeatAt (receives_on receiver.now) pass.old }
+    requires empty { Pops IsLane pass.old.id (view pass.old) (λ message view. ⊥) }
+    requires whole { Learns IsLane pass.old.id (view pass.old) (λ items. IsWhole (gathering_in (view pass.old))) }
+    ensures view { view pass.new ≡ view pass.old }
+    ensures whole { IsWhole (gathering_in (view pass.new)) }
+{
+    if receiver.try_recv_as::<Looks, R>(rt, pass).is_ok() {
+        unreachable!();
+    }
 }

@@ -3,12 +3,18 @@
 #![tactic(auto)]
 
 mod channel;
+mod closer;
+mod gathered;
 mod message;
+mod opening;
 mod part;
 mod put_end;
 mod rule;
 mod take_end;
 
+pub use closer::{Closer, Stopped};
+pub use gathered::Gathered;
 pub use message::Taken;
+pub use opening::open;
 pub use put_end::{EndedPut, PutEnd};
 pub use take_end::TakeEnd;

@@ -1,11 +1,15 @@
 //! The end of the lane that a file's reader puts its rows into.
 
-ghost use Rattle.std.specs.Prelude.{◌≡◌, ◌<◌, ◌++◌, [], ◌∷◌, length};
-ghost use Rattle.lane.specs.Message.{rows_in, IsEndedFrom};
+ghost use Rattle.std.specs.Prelude.{◌≡◌, ◌<◌, ◌≤◌, ◌++◌, true, [], ◌∷◌, length};
+ghost use Rattle.crossbeam_channel.specs.Claims.{view as known, IsSeatAt};
+ghost use Rattle.crossbeam_channel.specs.Ends.{sends_on, ruled_capacity};
+ghost use Rattle.lane.specs.Ends.{IsClosers, lane_at};
+ghost use Rattle.lane.specs.Message.{has_end, rows_in, IsEndedFrom};
 
 use crate::channel::put;
 use crate::message::Taken;
-use crate::rule::{Seat, Sender};
+use crate::part::Part;
+use crate::rule::{Joins, Seat, Sender};
 use pit_model::block::Block;
 use std::marker::Model;
 use std::sync::Wait;
@@ -34,6 +38,20 @@ impl Model for PutEnd {
 }
 
 impl PutEnd {
+    /// A put end that sent nothing yet.
+    pub(crate) fn new(sender: Sender, pass: Seat, file: u8) -> PutEnd
+        requires seat { IsSeatAt (sends_on sender) pass }
+        requires part { known pass ≡ Part.Put file (ruled_capacity (sends_on sender)) [] ∷ [] }
+        ensures value { result ≡ record { lane = lane_at (sends_on sender); file = file; sent = [] } }
+    {
+        PutEnd {
+            sender,
+            pass,
+            file,
+            rows: 0,
+        }
+    }
+
     /// Sends the block as the file's next row: its place is the number of rows sent before. At most 1,000,000 rows may be sent.
     pub fn row<R: Wait>(&mut self, rt: &R, block: Block)
         requires few { length self.old.sent < 1000000 }
@@ -81,6 +99,7 @@ pub struct EndedPut {
 }
 
 impl Model for EndedPut {
+    ghost use Rattle.std.specs.Prelude.{◌≡◌, []};
     ghost use Rattle.crossbeam_channel.specs.Claims.{view as known};
     ghost use Rattle.lane.specs.Ends.{Putting, putting_of, IsEndedPut};
 
@@ -88,5 +107,23 @@ impl Model for EndedPut {
 
     ghost view = { λ e. putting_of e.pass e.file };
 
-    ghost invariant = { λ e. IsEndedPut (known e.pass) e.file e.rows };
+    ghost invariant = { λ e. (e.pass.me.1 ≡ []) × IsEndedPut (known e.pass) e.file e.rows };
+}
+
+impl EndedPut {
+    /// Hands the end's part to the pass of the closer, and answers the number of rows.
+    pub(crate) fn join(self, sender: &Sender, pass: &mut Seat) -> u32
+        requires seat { IsSeatAt (sends_on sender.now) pass.old }
+        requires closer { IsClosers (known pass.old) }
+        requires lane { self.lane ≡ lane_at (sends_on sender.now) }
+        ensures seat { IsSeatAt (sends_on sender.now) pass.new }
+        ensures joined { known pass.new ≡ known pass.old ++ Part.Put self.file (ruled_capacity (sends_on sender.now)) self.sent ∷ [] }
+        ensures ended { has_end self.sent ≡ true }
+        ensures rows { result ≡ rows_in self.sent }
+        ensures few { result ≤ 1000000 }
+    {
+        let EndedPut { pass: theirs, rows, .. } = self;
+        sender.absorb::<Joins>(pass, theirs);
+        rows
+    }
 }

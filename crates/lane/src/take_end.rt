@@ -1,11 +1,15 @@
 //! The end of the lane that a valuer takes from.
 
 ghost use Rattle.std.specs.Prelude.{◌≡◌, false, ◌++◌, [], ◌∷◌};
-ghost use Rattle.lane.specs.Message.{is_done, Rises, EndsClose, MarksLast};
+ghost use Rattle.crossbeam_channel.specs.Claims.{view as known, IsSeatAt};
+ghost use Rattle.crossbeam_channel.specs.Ends.{sends_on, receives_on, ruled_capacity};
+ghost use Rattle.lane.specs.Ends.{IsClosers, lane_at};
+ghost use Rattle.lane.specs.Message.{is_done, ends_in_mark, Rises, EndsClose, MarksLast};
 
 use crate::channel::take;
 use crate::message::Taken;
-use crate::rule::{Receiver, Seat};
+use crate::part::Part;
+use crate::rule::{Joins, Receiver, Seat, Sender};
 use std::marker::Model;
 use std::sync::Wait;
 
@@ -34,6 +38,20 @@ impl Model for TakeEnd {
 }
 
 impl TakeEnd {
+    /// A take end that took nothing yet.
+    pub(crate) fn new(receiver: Receiver, pass: Seat, taker: u8) -> TakeEnd
+        requires seat { IsSeatAt (receives_on receiver) pass }
+        requires part { known pass ≡ Part.Take taker (ruled_capacity (receives_on receiver)) [] ∷ [] }
+        ensures value { result ≡ record { lane = lane_at (receives_on receiver); taker = taker; took = [] } }
+    {
+        TakeEnd {
+            receiver,
+            pass,
+            taker,
+            done: false,
+        }
+    }
+
     /// Takes the next message of the lane. A take end that took Stop or Quit is done, and takes no more.
     pub fn take<R: Wait>(&mut self, rt: &R) -> Taken
         requires undone { is_done self.old.took ≡ false }
@@ -47,11 +65,23 @@ impl TakeEnd {
         message
     }
 
-    /// Whether Stop or Quit was taken, which is then the last that was taken.
+    /// Whether Stop or Quit was taken. It is then the last that was taken.
     pub fn is_done(&self) -> bool
         ensures took { result ≡ is_done self.now.took }
-        ensures last { MarksLast self.now.took }
+        ensures last { result ≡ ends_in_mark self.now.took }
     {
         self.done
+    }
+
+    /// Hands the end's part to the pass of the closer.
+    pub(crate) fn join(self, sender: &Sender, pass: &mut Seat)
+        requires seat { IsSeatAt (sends_on sender.now) pass.old }
+        requires closer { IsClosers (known pass.old) }
+        requires lane { self.lane ≡ lane_at (sends_on sender.now) }
+        ensures seat { IsSeatAt (sends_on sender.now) pass.new }
+        ensures joined { known pass.new ≡ known pass.old ++ Part.Take self.taker (ruled_capacity (sends_on sender.now)) self.took ∷ [] }
+    {
+        let TakeEnd { pass: theirs, .. } = self;
+        sender.absorb::<Joins>(pass, theirs);
     }
 }
