@@ -8,3 +8,4 @@ pub mod Wholes
 pub mod Rules
 pub mod Ends
 pub mod Opens
+pub mod Joining

@@ -103,16 +103,13 @@ pub record IsCloser (v : List Part) (files takers capacity : ℕ) : Type 0 where
 
 -- all Stops were put, and the put parts of all files joined
 pub record IsStopping (v : List Part) (takers capacity : ℕ) : Type 0 where
-  pub files : ℕ
-  pub part : v ≡ Close files takers capacity takers 0 ∷ put_parts capacity 0 (sents_in v)
-  pub all_files : length (sents_in v) ≡ files
+  pub part : v ≡ Close (length (sents_in v)) takers capacity takers 0 ∷ put_parts capacity 0 (sents_in v)
   pub some_taker : 0 < takers
 
 -- all parts of the lane, with the lists of all files and of all takers, who are done
 pub record IsAllIn (v : List Part) (takers capacity : ℕ) : Type 0 where
-  pub files : ℕ
-  pub part : v ≡ full_view files takers capacity (sents_in v) (tooks_in v)
-  pub full : IsFull takers files (sents_in v) (tooks_in v)
+  pub part : v ≡ full_view (length (sents_in v)) takers capacity (sents_in v) (tooks_in v)
+  pub full : IsFull takers (length (sents_in v)) (sents_in v) (tooks_in v)
 
 pub record IsGathered (v : List Part) (count : ℕ) : Type 0 where
   pub whole : IsWhole (gathering_in v)
