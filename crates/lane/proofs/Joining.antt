@@ -142,3 +142,7 @@ look_whole pass v takers c h = subst (λ u. Learns IsLane pass u (λ items. IsWh
 -- one item less is left of a list that is used up
 pub one_less : {A : Type 0} (l r : List A) (x : A) (n m : ℕ) → n ≡ length l → l ≡ x ∷ r → n ≡ m + 1 → m ≡ length r
 one_less l r x n m a e b = let short = ap (λ (k : List _). length k) e in omega arith
+
+pub nothing_left : {A : Type 0} (l : List A) → length l ≡ 0 → l ≡ []
+nothing_left [] h = refl
+nothing_left (x ∷ xs) h = absurd (omega arith)
