@@ -9,3 +9,4 @@ pub mod Rules
 pub mod Ends
 pub mod Opens
 pub mod Joining
+pub mod Sent

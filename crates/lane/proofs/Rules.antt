@@ -76,21 +76,26 @@ counts pass f w c f' w' c' items views h at =
           (at_end vs [] u j e);
     })
 
-pub opens : (pass f w c : ℕ) → Forks IsLane pass (Count f w c ∷ []) (all_parts f w c) []
-opens pass f w c items views h at =
+pub made : (items : List Taken) (views : List (List Part)) (pass f w c : ℕ) → IsLane items views → get_elem? views pass ≡ some (Count f w c ∷ [])
+    → (items ≡ []) × IsLaneAt (record { files = f; takers = w; capacity = c }) opening [] (set views pass (all_parts f w c) ++ [] ∷ [])
+made items views pass f w c h at =
     let k = count_at items views pass f w c h at in
     let n : Size = record { files = f; takers = w; capacity = c } in
-    inr (
-      n,
-      opening,
+    (
+      k.0.nothing,
       record {
         reached = ([], tt, refl);
         lawful = begins n;
-        queue = sym k.0.nothing;
+        queue = refl;
         seat = λ r. 0;
         seated = subst (λ i. AreSeated n opening (λ r. 0) (set views i (all_parts f w c) ++ [] ∷ [])) (sym k.1) (opened n views (Count f w c ∷ []) (ap (get_elem? views) (sym k.1) ∙ at) k.0.others);
       },
     )
+
+pub opens : (pass f w c : ℕ) → Forks IsLane pass (Count f w c ∷ []) (all_parts f w c) []
+opens pass f w c items views h at =
+    let r = made items views pass f w c h at in
+    inr (record { files = f; takers = w; capacity = c }, opening, subst (λ l. IsLaneAt (record { files = f; takers = w; capacity = c }) opening l (set views pass (all_parts f w c) ++ [] ∷ [])) (sym r.0) r.1)
 
 pub gives : (pass : ℕ) (first part : Part) (rest : List Part) (role : Role) → role_of part ≡ Some role → IsFree role (first ∷ rest) → Forks IsLane pass (first ∷ part ∷ rest) (first ∷ rest) (part ∷ [])
 gives pass first part rest role named free items views h at =
@@ -169,24 +174,28 @@ has_take c k [] w l e = absurd (cc)
 has_take c k (x ∷ lists) zero l e = let q : l ≡ x = cc in inl (λ i. Take ((let z : 0 + k ≡ k = omega arith in z) i) c (q i))
 has_take c k (x ∷ lists) (suc w) l e = inr (subst (λ i. Has (Take i c l) (take_parts c (k + 1) lists)) (let z : w + (k + 1) ≡ suc w + k = omega arith in z) (has_take c (k + 1) lists w l e))
 
-looked : (pass files takers c : ℕ) (sent took : List (List Taken)) → IsFull takers files sent took → Learns IsLane pass (full_view files takers c sent took) (λ items. (items ≡ []) × IsWhole (record { sent = sent; took = took }))
-looked pass files takers c sent took full items views h at =
+pub looked_at : (n : Size) (s : State) (items : List Taken) (views : List (List Part)) (pass files takers c : ℕ) (sent took : List (List Taken))
+    → IsLaneAt n s items views → get_elem? views pass ≡ some (full_view files takers c sent took) → IsFull takers files sent took
+    → (items ≡ []) × IsWhole (record { sent = sent; took = took })
+looked_at n s items views pass files takers c sent took h at full =
     let parts : List Part = put_parts c 0 sent ++ take_parts c 0 took in
-    let o = open_at items views pass (Close files takers c takers 0) parts Closer h at refl in
-    let n : Size = o.0 in
-    let s : State = o.1 in
-    let all = o.2.seated.only pass (full_view files takers c sent took) at in
-    let p = close_is n s o.2.seat pass files takers c takers 0 all.0 in
+    let all = h.seated.only pass (full_view files takers c sent took) at in
+    let p = close_is n s h.seat pass files takers c takers 0 all.0 in
     let zero_is : (i : ℕ) → i + 0 ≡ i = λ i. omega arith in
     let sent_is : (f : ℕ) (l : List Taken) → slice_get sent f ≡ Some l → l ≡ s.sent f =
-            λ f l e. (put_is n s o.2.seat pass (f + 0) c l (at_part (IsSeated n s o.2.seat pass) (Put (f + 0) c l) parts (has_left _ (put_parts c 0 sent) (take_parts c 0 took) (has_put c 0 sent f l e)) all.1)).2 ∙ ap s.sent (zero_is f) in
+            λ f l e. (put_is n s h.seat pass (f + 0) c l (at_part (IsSeated n s h.seat pass) (Put (f + 0) c l) parts (has_left _ (put_parts c 0 sent) (take_parts c 0 took) (has_put c 0 sent f l e)) all.1)).2 ∙ ap s.sent (zero_is f) in
     let took_is : (w : ℕ) (l : List Taken) → slice_get took w ≡ Some l → l ≡ s.took w =
-            λ w l e. (take_is n s o.2.seat pass (w + 0) c l (at_part (IsSeated n s o.2.seat pass) (Take (w + 0) c l) parts (has_right _ (put_parts c 0 sent) (take_parts c 0 took) (has_take c 0 took w l e)) all.1)).2 ∙ ap s.took (zero_is w) in
+            λ w l e. (take_is n s h.seat pass (w + 0) c l (at_part (IsSeated n s h.seat pass) (Take (w + 0) c l) parts (has_right _ (put_parts c 0 sent) (take_parts c 0 took) (has_take c 0 took w l e)) all.1)).2 ∙ ap s.took (zero_is w) in
     let a : length sent ≡ n.files = full.all_files ∙ p.0 in
     let b : length took ≡ n.takers = full.all_takers ∙ p.1 in
     let d : 0 < n.takers = subst (λ k. 0 < k) p.1 full.some_taker in
     let e : s.stops ≡ n.takers = sym p.3 ∙ p.1 in
-    (sym o.2.queue ∙ queue_empty n s o.2.lawful sent took a b d sent_is took_is full.done e, whole n s o.2.lawful sent took a b d sent_is took_is full.done e)
+    (sym h.queue ∙ queue_empty n s h.lawful sent took a b d sent_is took_is full.done e, whole n s h.lawful sent took a b d sent_is took_is full.done e)
+
+looked : (pass files takers c : ℕ) (sent took : List (List Taken)) → IsFull takers files sent took → Learns IsLane pass (full_view files takers c sent took) (λ items. (items ≡ []) × IsWhole (record { sent = sent; took = took }))
+looked pass files takers c sent took full items views h at =
+    let o = open_at items views pass (Close files takers c takers 0) (put_parts c 0 sent ++ take_parts c 0 took) Closer h at refl in
+    looked_at o.0 o.1 items views pass files takers c sent took o.2 at full
 
 -- the look of a lane that is done finds nothing, and tells that it is whole
 pub finds_nothing : (pass files takers c : ℕ) (sent took : List (List Taken)) → IsFull takers files sent took → Pops IsLane pass (full_view files takers c sent took) (λ x w. ⊥)

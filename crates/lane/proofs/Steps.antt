@@ -14,7 +14,7 @@ use Rattle.lane.specs.Machine.{Size, State, opening, Event, PutRow, PutEnd, PutS
 use Rattle.lane.specs.Lawful.{IsLawful}
 use Rattle.lane.specs.Rule.{Role, Putter, Taker, Closer, IsRole, part_of, role_of, Has, IsSeated, AreSeated, IsLaneAt}
 use Rattle.lane.specs.Steps.{IsFree, HasEnded}
-use Rattle.lane.specs.Laws.{RunsStayLawful, leaves, leaving, LeftIsPrefixOfSent, IsPrefixTaken, TakenIsPrefixOfSent, RowIsAnEvent, EndIsAnEvent, StopIsAnEvent, QuitIsAnEvent, TakeIsAnEvent}
+use Rattle.lane.specs.Laws.{RunsStayLawful, leaves, leaving, LeftIsPrefixOfSent, IsPrefixTaken, TakenIsPrefixOfSent}
 use Rattle.lane.proofs.Lists.{with_at_here, with_at_else, with_at_all}
 use Rattle.lane.proofs.Messages.{of_yes, of_no, of_one, front_yes, front_no}
 use Rattle.lane.proofs.Keeps.{begins, keeps, keeps_all, reaches}
@@ -92,11 +92,27 @@ put_moves n s e items views pass f c ms m h at below cap list allowed is =
         ((λ i. Put f (cap i) (list i ++ m ∷ [])) ∙ ap (λ l. Put f n.capacity l) (sym (with_at_here s.sent f (s.sent f ++ m ∷ []))))
         (put_same n s f m)
 
+abbrev pub RowIsAnEvent : Type 0
+RowIsAnEvent =
+    (n : Size) (s : State) (items : List Taken) (views : List (List Part)) (pass file capacity : ℕ) (sent : List Taken) (block : Block)
+    → IsLaneAt n s items views → get_elem? views pass ≡ some (Put file capacity sent ∷ [])
+    → length items < capacity → has_end sent ≡ false → rows_in sent < 1000000
+    → Allowed n s (PutRow file block)
+    × IsLaneAt n (after s (PutRow file block)) (items ++ Row file (length sent) block ∷ []) (set views pass (Put file capacity (sent ++ Row file (length sent) block ∷ []) ∷ []))
+
 pub row_is : RowIsAnEvent
 row_is n s items views pass f c ms b h at room open' few =
     let p = put_is n s h.seat pass f c ms (h.seated.only pass (Put f c ms ∷ []) at).0 in
     let allowed : Allowed n s (PutRow f b) = (p.0, omega (arith, ap (λ (l : List Taken). length l) h.queue, p.1), ap has_end (sym p.2) ∙ open', subst (λ l. rows_in l < 1000000) p.2 few) in
     (allowed, put_moves n s (PutRow f b) items views pass f c ms (Row f (length ms) b) h at p.0 p.1 p.2 allowed (ap (λ (l : List Taken). put f (Row f (length l) b) s) (sym p.2)))
+
+abbrev pub EndIsAnEvent : Type 0
+EndIsAnEvent =
+    (n : Size) (s : State) (items : List Taken) (views : List (List Part)) (pass file capacity : ℕ) (sent : List Taken)
+    → IsLaneAt n s items views → get_elem? views pass ≡ some (Put file capacity sent ∷ [])
+    → length items < capacity → has_end sent ≡ false
+    → Allowed n s (PutEnd file)
+    × IsLaneAt n (after s (PutEnd file)) (items ++ End file (rows_in sent) ∷ []) (set views pass (Put file capacity (sent ++ End file (rows_in sent) ∷ []) ∷ []))
 
 pub end_is : EndIsAnEvent
 end_is n s items views pass f c ms h at room open' =
@@ -116,6 +132,13 @@ close_same n s t a b (Putter g) ne = ap (λ (k : ℕ → List Taken). Put g n.ca
 close_same n s t a b (Taker v) ne = ap (λ (k : ℕ → List Taken). Take v n.capacity (k v)) (sym b)
 close_same n s t a b Closer ne = absurd (ne refl)
 
+abbrev pub StopIsAnEvent : Type 0
+StopIsAnEvent =
+    (n : Size) (s : State) (items : List Taken) (views : List (List Part)) (pass files takers capacity stops quits : ℕ) (v : List Part)
+    → IsLaneAt n s items views → get_elem? views pass ≡ some (Close files takers capacity stops quits ∷ v) → IsFree Closer v
+    → length items < capacity → HasEnded files v → quits ≡ 0 → stops < takers
+    → Allowed n s PutStop × IsLaneAt n (after s PutStop) (items ++ Stop ∷ []) (set views pass (Close files takers capacity (stops + 1) quits ∷ v))
+
 pub stop_is : StopIsAnEvent
 stop_is n s items views pass files takers c stops quits v h at free room ended none few =
     let all = h.seated.only pass (Close files takers c stops quits ∷ v) at in
@@ -129,6 +152,13 @@ stop_is n s items views pass files takers c stops quits v h at free room ended n
           (close_same n s (after s PutStop) refl refl),
     )
 
+abbrev pub QuitIsAnEvent : Type 0
+QuitIsAnEvent =
+    (n : Size) (s : State) (items : List Taken) (views : List (List Part)) (pass files takers capacity stops quits : ℕ) (v : List Part)
+    → IsLaneAt n s items views → get_elem? views pass ≡ some (Close files takers capacity stops quits ∷ v) → IsFree Closer v
+    → length items < capacity → stops ≡ 0 → quits < takers
+    → Allowed n s PutQuit × IsLaneAt n (after s PutQuit) (items ++ Quit ∷ []) (set views pass (Close files takers capacity stops (quits + 1) ∷ v))
+
 pub quit_is : QuitIsAnEvent
 quit_is n s items views pass files takers c stops quits v h at free room none few =
     let all = h.seated.only pass (Close files takers c stops quits ∷ v) at in
@@ -141,6 +171,12 @@ quit_is n s items views pass files takers c stops quits v h at free room none fe
           (λ i. Close (p.0 i) (p.1 i) (p.2 i) (p.3 i) (p.4 i + 1))
           (close_same n s (after s PutQuit) refl refl),
     )
+
+abbrev pub TakeIsAnEvent : Type 0
+TakeIsAnEvent =
+    (n : Size) (s : State) (m : Taken) (items : List Taken) (views : List (List Part)) (pass taker capacity : ℕ) (took : List Taken)
+    → IsLaneAt n s (m ∷ items) views → get_elem? views pass ≡ some (Take taker capacity took ∷ []) → is_done took ≡ false
+    → Allowed n s (TakeNext taker) × IsLaneAt n (after s (TakeNext taker)) items (set views pass (Take taker capacity (took ++ m ∷ []) ∷ []))
 
 pub take_event : TakeIsAnEvent
 take_event n s m items views pass w c ms h at undone =

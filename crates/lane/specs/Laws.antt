@@ -1,6 +1,6 @@
 -- Laws of the lane: every run of the machine stays lawful, what leaves of a file is a prefix of what it sent, and each kind of step of
 -- the code is one event of the machine.
-use Rattle.std.specs.Prelude.{◌≡◌, ℕ, ◌+◌, ◌<◌, cond, nat_lt, true, false, List, [], ◌∷◌, ◌++◌, length, take, slice_set}
+use Rattle.std.specs.Prelude.{◌≡◌, ℕ, ◌+◌, ◌<◌, cond, nat_lt, true, false, List, [], ◌∷◌, ◌++◌, length, take, slice_set, Some}
 use Rattle.std.specs.List.{AllByRecursion, count_by}
 use mathlib.Core.Option.{some}
 use lib.ListN.{get_elem?}
@@ -8,12 +8,13 @@ use Rattle.pit_model.specs.declared.block.Block.{Block}
 use Rattle.lane.specs.declared.message.Taken.{Taken}
 use Rattle.lane.specs.declared.message.Taken.TheVariants.{Row, End, Stop, Quit}
 use Rattle.lane.specs.declared.part.Part.{Part}
-use Rattle.lane.specs.declared.part.Part.TheVariants.{Count, Put, Take, Close}
-use Rattle.lane.specs.Message.{of, is_at, has_end, is_done, rows_in}
+use Rattle.lane.specs.declared.part.Part.TheVariants.{Count}
+use Rattle.lane.specs.Message.{of, is_at}
 use Rattle.lane.specs.Machine.{Size, State, opening, Event, PutRow, PutEnd, PutStop, PutQuit, TakeNext, Allowed, after, after_all, AreAllowed}
 use Rattle.lane.specs.Lawful.{over, IsPlaced, IsLawful}
-use Rattle.lane.specs.Rule.{Closer, IsLaneAt}
-use Rattle.lane.specs.Steps.{IsFree, HasEnded}
+use Rattle.lane.specs.Whole.{IsWhole}
+use Rattle.lane.specs.Rule.{Role, role_of, IsLaneAt, IsLane, all_parts}
+use Rattle.lane.specs.Steps.{with_message, IsFree, MaySend, MayTake, taker_in, IsFull, full_view}
 
 -- from the opening state every sequence of allowed events leaves a lawful state
 abbrev pub RunsStayLawful : Type 0
@@ -46,41 +47,50 @@ pub record IsPrefixTaken (n : Size) (s : State) (file : ℕ) : Type 0 where
 abbrev pub TakenIsPrefixOfSent : Type 0
 TakenIsPrefixOfSent = (n : Size) (s : State) → IsLawful n s → (file : ℕ) → IsPrefixTaken n s file
 
--- a put end's send is Put row or Put end, wherever there is room
-abbrev pub RowIsAnEvent : Type 0
-RowIsAnEvent =
-    (n : Size) (s : State) (items : List Taken) (views : List (List Part)) (pass file capacity : ℕ) (sent : List Taken) (block : Block)
-    → IsLaneAt n s items views → get_elem? views pass ≡ some (Put file capacity sent ∷ [])
-    → length items < capacity → has_end sent ≡ false → rows_in sent < 1000000
-    → Allowed n s (PutRow file block)
-    × IsLaneAt n (after s (PutRow file block)) (items ++ Row file (length sent) block ∷ []) (slice_set views pass (Put file capacity (sent ++ Row file (length sent) block ∷ []) ∷ []))
+-- the event that a send of the message is: Put row, Put end, Put stop or Put quit
+abbrev pub send_event : Taken → Event
+send_event (Row file place block) = PutRow file block
+send_event (End file rows) = PutEnd file
+send_event Stop = PutStop
+send_event Quit = PutQuit
 
-abbrev pub EndIsAnEvent : Type 0
-EndIsAnEvent =
-    (n : Size) (s : State) (items : List Taken) (views : List (List Part)) (pass file capacity : ℕ) (sent : List Taken)
-    → IsLaneAt n s items views → get_elem? views pass ≡ some (Put file capacity sent ∷ [])
-    → length items < capacity → has_end sent ≡ false
-    → Allowed n s (PutEnd file)
-    × IsLaneAt n (after s (PutEnd file)) (items ++ End file (rows_in sent) ∷ []) (slice_set views pass (Put file capacity (sent ++ End file (rows_in sent) ∷ []) ∷ []))
+-- every send that the ends make is that event, allowed where the lane is: the message joins the queue, and the pass's own part alone changes
+abbrev pub SendIsAnEvent : Type 0
+SendIsAnEvent =
+    (n : Size) (s : State) (items : List Taken) (views : List (List Part)) (pass capacity : ℕ) (v : List Part) (m : Taken)
+    → IsLaneAt n s items views → get_elem? views pass ≡ some v → length items < capacity → MaySend capacity v m
+    → Allowed n s (send_event m) × IsLaneAt n (after s (send_event m)) (items ++ m ∷ []) (slice_set views pass (with_message v m))
 
--- the closer's send is Put stop or Put quit
-abbrev pub StopIsAnEvent : Type 0
-StopIsAnEvent =
-    (n : Size) (s : State) (items : List Taken) (views : List (List Part)) (pass files takers capacity stops quits : ℕ) (v : List Part)
-    → IsLaneAt n s items views → get_elem? views pass ≡ some (Close files takers capacity stops quits ∷ v) → IsFree Closer v
-    → length items < capacity → HasEnded files v → quits ≡ 0 → stops < takers
-    → Allowed n s PutStop × IsLaneAt n (after s PutStop) (items ++ Stop ∷ []) (slice_set views pass (Close files takers capacity (stops + 1) quits ∷ v))
+-- every receive of a take end is Take, whatever message comes: it leaves the queue's front
+abbrev pub ReceiveIsAnEvent : Type 0
+ReceiveIsAnEvent =
+    (n : Size) (s : State) (m : Taken) (items : List Taken) (views : List (List Part)) (pass : ℕ) (v : List Part)
+    → IsLaneAt n s (m ∷ items) views → get_elem? views pass ≡ some v → MayTake v
+    → Allowed n s (TakeNext (taker_in v)) × IsLaneAt n (after s (TakeNext (taker_in v))) items (slice_set views pass (with_message v m))
 
-abbrev pub QuitIsAnEvent : Type 0
-QuitIsAnEvent =
-    (n : Size) (s : State) (items : List Taken) (views : List (List Part)) (pass files takers capacity stops quits : ℕ) (v : List Part)
-    → IsLaneAt n s items views → get_elem? views pass ≡ some (Close files takers capacity stops quits ∷ v) → IsFree Closer v
-    → length items < capacity → stops ≡ 0 → quits < takers
-    → Allowed n s PutQuit × IsLaneAt n (after s PutQuit) (items ++ Quit ∷ []) (slice_set views pass (Close files takers capacity stops (quits + 1) ∷ v))
+-- the first pass gets all parts of the lane that it counted: the opening state
+abbrev pub MakeIsTheOpening : Type 0
+MakeIsTheOpening =
+    (items : List Taken) (views : List (List Part)) (pass files takers capacity : ℕ)
+    → IsLane items views → get_elem? views pass ≡ some (Count files takers capacity ∷ [])
+    → (items ≡ []) × IsLaneAt (record { files = files; takers = takers; capacity = capacity }) opening [] (slice_set views pass (all_parts files takers capacity) ++ [] ∷ [])
 
--- a take end's receive is Take, whatever message comes
-abbrev pub TakeIsAnEvent : Type 0
-TakeIsAnEvent =
-    (n : Size) (s : State) (m : Taken) (items : List Taken) (views : List (List Part)) (pass taker capacity : ℕ) (took : List Taken)
-    → IsLaneAt n s (m ∷ items) views → get_elem? views pass ≡ some (Take taker capacity took ∷ []) → is_done took ≡ false
-    → Allowed n s (TakeNext taker) × IsLaneAt n (after s (TakeNext taker)) items (slice_set views pass (Take taker capacity (took ++ m ∷ []) ∷ []))
+-- a part that moves to a new pass, and parts that join another pass, are no event: the state stays
+abbrev pub SplitIsNoEvent : Type 0
+SplitIsNoEvent =
+    (n : Size) (s : State) (items : List Taken) (views : List (List Part)) (pass : ℕ) (first part : Part) (rest : List Part) (role : Role)
+    → IsLaneAt n s items views → get_elem? views pass ≡ some (first ∷ part ∷ rest) → role_of part ≡ Some role → IsFree role (first ∷ rest)
+    → IsLaneAt n s items (slice_set views pass (first ∷ rest) ++ (part ∷ []) ∷ [])
+
+abbrev pub JoinIsNoEvent : Type 0
+JoinIsNoEvent =
+    (n : Size) (s : State) (items : List Taken) (views : List (List Part)) (pass other : ℕ) (v u : List Part)
+    → IsLaneAt n s items views → get_elem? views pass ≡ some v → (other ≡ pass → ⊥) → get_elem? views other ≡ some u
+    → IsLaneAt n s items (slice_set (slice_set views pass (v ++ u)) other [])
+
+-- a look by a pass that has all parts, all Stops put and all takers done, finds nothing, and the lane is whole
+abbrev pub LookFindsNothing : Type 0
+LookFindsNothing =
+    (n : Size) (s : State) (items : List Taken) (views : List (List Part)) (pass files takers capacity : ℕ) (sent took : List (List Taken))
+    → IsLaneAt n s items views → get_elem? views pass ≡ some (full_view files takers capacity sent took) → IsFull takers files sent took
+    → (items ≡ []) × IsWhole (record { sent = sent; took = took })

@@ -65,7 +65,7 @@ pub record IsOrdered (took : List Taken) : Type 0 where
   pub ends : EndsClose took
   pub marks : MarksLast took
 
--- the lists of the first part of a view, and the capacity that it knows
+-- what the first part of a view knows: its list, its taker, and the capacity
 abbrev pub sent_in : List Part → List Taken
 sent_in [] = []
 sent_in (Count files takers capacity ∷ v) = []
@@ -79,6 +79,13 @@ took_in (Count files takers capacity ∷ v) = []
 took_in (Put file capacity sent ∷ v) = []
 took_in (Take taker capacity took ∷ v) = took
 took_in (Close files takers capacity stops quits ∷ v) = []
+
+abbrev pub taker_in : List Part → ℕ
+taker_in [] = 0
+taker_in (Count files takers capacity ∷ v) = 0
+taker_in (Put file capacity sent ∷ v) = 0
+taker_in (Take taker capacity took ∷ v) = taker
+taker_in (Close files takers capacity stops quits ∷ v) = 0
 
 abbrev pub capacity_in : List Part → ℕ
 capacity_in [] = 0

@@ -5,6 +5,7 @@
 mod channel;
 mod closer;
 mod gathered;
+pub mod laws;
 mod message;
 mod opening;
 mod part;
