@@ -26,11 +26,11 @@ sents_alone c sent = ap sents_in (puts_alone c sent) ∙ sents_all c 0 0 sent []
 tooks_alone : (c : ℕ) (sent : List (List Taken)) → tooks_in (put_parts c 0 sent) ≡ []
 tooks_alone c sent = ap tooks_in (puts_alone c sent) ∙ tooks_all c 0 0 sent []
 
-puts_count : (lane : Lane) (files k : ℕ) (ps : List Putting) → ArePutsFrom lane files k ps → k + length ps ≡ files
+pub puts_count : (lane : Lane) (files k : ℕ) (ps : List Putting) → ArePutsFrom lane files k ps → k + length ps ≡ files
 puts_count lane files k [] h = omega arith
 puts_count lane files k (p ∷ ps) h = omega (arith, puts_count lane files (k + 1) ps h.2)
 
-takes_count : (lane : Lane) (takers k : ℕ) (ts : List Taking) → AreTakesFrom lane takers k ts → k + length ts ≡ takers
+pub takes_count : (lane : Lane) (takers k : ℕ) (ts : List Taking) → AreTakesFrom lane takers k ts → k + length ts ≡ takers
 takes_count lane takers k [] h = omega arith
 takes_count lane takers k (t ∷ ts) h = omega (arith, takes_count lane takers (k + 1) ts h.2)
 

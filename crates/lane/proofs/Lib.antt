@@ -10,3 +10,4 @@ pub mod Ends
 pub mod Opens
 pub mod Joining
 pub mod Sent
+pub mod HandedOver

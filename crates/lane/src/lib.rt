@@ -12,6 +12,8 @@ mod part;
 mod put_end;
 mod rule;
 mod take_end;
+#[cfg(test)]
+mod tests;
 
 pub use closer::{Closer, Stopped};
 pub use gathered::Gathered;
