@@ -1,14 +1,13 @@
 -- What the ends keep, as they send, join and give away their parts.
-use Rattle.std.proofs.Common.{◌≡◌, ℕ, ◌+◌, ◌<◌, ◌≤◌, Bool, true, false, cond, ◌||◌, List, [], ◌∷◌, ◌++◌, length, refl, sym, ap, ◌∙◌, subst, arith, length-append, count_by}
-use Rattle.std.specs.List.{list_any}
+use Rattle.std.proofs.Common.{◌≡◌, ℕ, ◌+◌, ◌<◌, Bool, true, false, ◌||◌, List, [], ◌∷◌, ◌++◌, length, sym, ap, ◌∙◌, subst, arith, length-append}
 use Rattle.std.proofs.lemmas.List.Folds.{list_any-append}
 use Rattle.pit_model.specs.declared.block.Block.{Block}
 use Rattle.lane.specs.declared.message.Taken.{Taken}
-use Rattle.lane.specs.declared.message.Taken.TheVariants.{Row, End, Stop, Quit}
+use Rattle.lane.specs.declared.message.Taken.TheVariants.{Row, End}
 use Rattle.lane.specs.declared.part.Part.{Part}
-use Rattle.lane.specs.declared.part.Part.TheVariants.{Put, Take, Close}
+use Rattle.lane.specs.declared.part.Part.TheVariants.{Put}
 use Rattle.lane.specs.Message.{is_row, is_end, rows_in, has_end, IsFrom, IsEndedFrom}
-use Rattle.lane.specs.Steps.{with_message, sent_in, took_in, capacity_in}
+use Rattle.lane.specs.Steps.{with_message, sent_in, capacity_in}
 use Rattle.lane.specs.Ends.{IsOpenPut, IsEndedPut}
 use Rattle.lane.proofs.Lists.{count_more}
 use Rattle.lane.proofs.Messages.{from_row, from_end, ended_from}
@@ -29,8 +28,7 @@ row_put v w f count b h e few =
     let m : Taken = Row f count b in
     let p = put_part v w f m h.part e in
     let list : IsFrom f 0 (sent_in v ++ m ∷ []) = subst (λ k. IsFrom f 0 (sent_in v ++ Row f k b ∷ [])) (let z : 0 + length (sent_in v) ≡ count = omega (arith, h.places) in z) (from_row f 0 (sent_in v) b h.list h.unended) in
-    let open' : has_end (sent_in v ++ m ∷ []) ≡ false = list_any-append is_end (sent_in v) (m ∷ []) ∙ ap (λ (x : Bool). x || false) h.unended in
-    (
+    let open' : has_end (sent_in v ++ m ∷ []) ≡ false = list_any-append is_end (sent_in v) (m ∷ []) ∙ ap (λ (x : Bool). x || false) h.unended in (
       record {
         part = p.2;
         list = subst (IsFrom f 0) (sym p.0) list;

@@ -1,6 +1,5 @@
 -- Ends that were handed to threads and came back are those of the lane, in order.
-use Rattle.std.proofs.Common.{◌≡◌, ℕ, zero, suc, ◌+◌, ◌<◌, List, [], ◌∷◌, ◌++◌, length, get_or, Option, Some, None, IfSome, option_to_list, All, refl, sym, ap, ◌∙◌, subst, arith, length-append}
-use Rattle.std.proofs.Math.Seq.{get_or-append_seam}
+use Rattle.std.proofs.Common.{◌≡◌, ℕ, suc, ◌+◌, ◌<◌, List, [], ◌∷◌, ◌++◌, length, get_or, Option, Some, None, IfSome, option_to_list, All, ◌∙◌, subst, arith, length-append}
 use Rattle.lane.specs.Ends.{Lane, Putting, Taking, ArePutsFrom, AreTakesFrom}
 use Rattle.lane.proofs.Joining.{puts_count, takes_count}
 

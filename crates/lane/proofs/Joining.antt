@@ -1,5 +1,5 @@
 -- How the parts of all ends come back to the closer.
-use Rattle.std.proofs.Common.{◌≡◌, ℕ, zero, suc, ◌+◌, ◌*◌, ◌<◌, ◌≤◌, true, List, [], ◌∷◌, ◌++◌, length, map, refl, sym, ap, ◌∙◌, subst, arith, append_assoc, append-nil, length-append, sum_by, All}
+use Rattle.std.proofs.Common.{◌≡◌, ℕ, ◌+◌, ◌*◌, ◌<◌, ◌≤◌, true, List, [], ◌∷◌, ◌++◌, length, map, refl, sym, ap, ◌∙◌, subst, arith, append_assoc, append-nil, length-append, sum_by, All}
 use Rattle.std.specs.List.{AllByRecursion}
 use Rattle.std.proofs.lemmas.List.Sums.{sum_by_push}
 use Rattle.std.proofs.lemmas.List.Elements.{recursion_from_All}
@@ -11,7 +11,7 @@ use Rattle.lane.specs.declared.part.Part.TheVariants.{Put, Take, Close}
 use Rattle.lane.specs.Message.{has_end, is_done, rows_in}
 use Rattle.lane.specs.Whole.{IsWhole}
 use Rattle.lane.specs.Rule.{IsLane, put_parts, take_parts}
-use Rattle.lane.specs.Steps.{MaySend, sents_in, tooks_in, gathering_in, full_view, IsFull}
+use Rattle.lane.specs.Steps.{MaySend, sents_in, tooks_in, gathering_in, full_view}
 use Rattle.lane.specs.Ends.{Lane, Putting, Taking, ArePutsFrom, AreTakesFrom, IsClosers, IsJoining, IsJoined, IsStopping, IsGathering, IsAllIn}
 use Rattle.lane.proofs.Lists.{all_more}
 use Rattle.lane.proofs.Rules.{put_joins, take_joins, sents_all, tooks_all, free_puts, ended_view, finds_nothing, tells}
@@ -58,7 +58,7 @@ module _ (files takers c : ℕ) (lane : Lane) (all : List Putting) where
   join_more v u p rest n k h e ended count few =
       let lists : List (List Taken) = sents_in v in
       let is : u ≡ Close files takers c 0 0 ∷ put_parts c 0 (lists ++ p.sent ∷ []) =
-              e ∙ (ap (λ (x : List Part). x ++ Put p.file c p.sent ∷ []) h.part ∙ (ap (λ i. (Close files takers c 0 0 ∷ put_parts c 0 lists) ++ Put i c p.sent ∷ []) h.puts.1 ∙ put_joins files takers c 0 0 lists p.sent)) in
+      e ∙ (ap (λ (x : List Part). x ++ Put p.file c p.sent ∷ []) h.part ∙ (ap (λ i. (Close files takers c 0 0 ∷ put_parts c 0 lists) ++ Put i c p.sent ∷ []) h.puts.1 ∙ put_joins files takers c 0 0 lists p.sent)) in
       let new : sents_in u ≡ lists ++ p.sent ∷ [] = ap sents_in is ∙ sents_alone c (lists ++ p.sent ∷ []) in
       let longer : length (sents_in u) ≡ length lists + 1 = ap (λ (l : List (List Taken)). length l) new ∙ length-append lists (p.sent ∷ []) in
       record {
@@ -110,7 +110,7 @@ module _ (takers c : ℕ) (lane : Lane) (all : List Taking) where
     gather_more v u t rest h e =
         let lists : List (List Taken) = tooks_in v in
         let is : u ≡ full_view files takers c sent (lists ++ t.took ∷ []) =
-                e ∙ (ap (λ (x : List Part). x ++ Take t.taker c t.took ∷ []) h.part ∙ (ap (λ i. full_view files takers c sent lists ++ Take i c t.took ∷ []) h.takes.1 ∙ take_joins files takers c takers 0 sent lists t.took)) in
+        e ∙ (ap (λ (x : List Part). x ++ Take t.taker c t.took ∷ []) h.part ∙ (ap (λ i. full_view files takers c sent lists ++ Take i c t.took ∷ []) h.takes.1 ∙ take_joins files takers c takers 0 sent lists t.took)) in
         let new : tooks_in u ≡ lists ++ t.took ∷ [] = ap tooks_in is ∙ tooks_all c 0 0 sent (lists ++ t.took ∷ []) in
         let longer : length (tooks_in u) ≡ length lists + 1 = ap (λ (l : List (List Taken)). length l) new ∙ length-append lists (t.took ∷ []) in
         record {

@@ -1,16 +1,16 @@
 -- Every allowed event of the machine leaves a lawful state.
-use Rattle.std.proofs.Common.{◌≡◌, ◌≢◌, ◌⊎◌, ⊎_elim, inl, inr, ℕ, zero, suc, ◌+◌, ◌<◌, ◌≤◌, Bool, true, false, cond, ◌==◌, ◌&&◌, nat_lt, List, [], ◌∷◌, ◌++◌, length, map, drop, slice_get, Option, Some, None, refl, sym, ap, ◌∙◌, subst, arith, count_by, length-append}
+use Rattle.std.proofs.Common.{◌≡◌, ⊎_elim, inl, inr, ℕ, suc, ◌+◌, ◌<◌, ◌≤◌, Bool, true, false, cond, ◌==◌, ◌&&◌, nat_lt, List, [], ◌∷◌, ◌++◌, length, map, drop, slice_get, Some, refl, sym, ap, ◌∙◌, subst, arith, count_by, length-append}
 use Rattle.std.specs.List.{AllByRecursion}
-use Rattle.std.proofs.lemmas.Bool.{cases_Bool, cases_eq, cases_lt, eqb-true, eq-eqb, le-ltb, false≢true, true≢false}
+use Rattle.std.proofs.lemmas.Bool.{cases_Bool, cases_eq, cases_lt, eq-eqb, le-ltb, true≢false}
 use Rattle.std.proofs.lemmas.Bool.Decides.{nat_tests}
 use Rattle.std.proofs.lemmas.List.{drop-append-le, map-append}
 use Rattle.lane.specs.declared.message.Taken.{Taken}
 use Rattle.lane.specs.declared.message.Taken.TheVariants.{Row, End, Stop, Quit}
-use Rattle.lane.specs.Message.{is_of, of, position, is_at, is_row, is_end, is_stop, is_quit, is_mark, rows_in, has_end, is_done, IsFrom, IsRising, Rises, MarksLast, AreStops, StopsLast}
+use Rattle.lane.specs.Message.{is_of, of, position, is_at, is_stop, is_quit, is_mark, rows_in, has_end, is_done, IsFrom, IsRising, Rises, MarksLast, AreStops, StopsLast}
 use Rattle.lane.specs.Machine.{Size, State, opening, Event, PutRow, PutEnd, PutStop, PutQuit, TakeNext, HasRoom, Allowed, with_at, put, take_front, take_next, after, after_all, AreAllowed, IsReached}
 use Rattle.lane.specs.Lawful.{over, IsPlaced, IsLawful}
-use Rattle.lane.proofs.Lists.{all_more, all_weaker, get_more, drop_front, count_more, count_front, with_at_all, with_at_here, with_at_else, over_zero, over_le, over_at}
-use Rattle.lane.proofs.Messages.{rising_more, of_yes, of_no, front_yes, front_no, of_one, mark_of_none, of_is_no_mark, unmarked, from_row, from_end, rows_all, from_place, placed_pos, placed_new, placed_later, placed_below, marks_more, stops_none, stops_more}
+use Rattle.lane.proofs.Lists.{all_more, all_weaker, get_more, drop_front, count_more, count_front, with_at_all, with_at_here, over_zero, over_le, over_at}
+use Rattle.lane.proofs.Messages.{rising_more, of_yes, of_no, front_yes, front_no, of_one, mark_of_none, of_is_no_mark, unmarked, from_row, from_end, rows_all, from_place, placed_new, placed_later, placed_below, marks_more, stops_none, stops_more}
 
 pub begins : (n : Size) → IsLawful n opening
 begins n = record {
@@ -46,8 +46,8 @@ module _ (n : Size) (s : State) (h : IsLawful n s) where
   none_taken : s.stops ≡ 0 → (w : ℕ) → count_by is_stop (s.took w) ≡ 0
   none_taken z w =
       ⊎_elim (λ (l : w < n.takers). let c = over_le n.takers (λ v. count_by is_stop (s.took v)) w l in let z' : count_by is_stop (s.took w) ≡ 0 = omega (arith, h.stops) in z')
-          (λ (l : n.takers ≤ w). ap (λ (ms : List Taken). count_by is_stop ms) (h.takers w l))
-          (cases_lt w n.takers)
+      (λ (l : n.takers ≤ w). ap (λ (ms : List Taken). count_by is_stop ms) (h.takers w l))
+      (cases_lt w n.takers)
 
   puts : (f : ℕ) (m : Taken) → HasRoom n s → f < n.files → has_end (s.sent f) ≡ false → is_of f m ≡ true → IsFrom f 0 (s.sent f ++ m ∷ []) → IsLawful n (put f m s)
   puts f m room below open' is new =
@@ -62,8 +62,8 @@ module _ (n : Size) (s : State) (h : IsLawful n s) where
         once = h.once;
         placed = λ w. all_weaker (IsPlaced s.sent h.left) (IsPlaced (put f m s).sent h.left)
             (placed_later s.sent (put f m s).sent h.left h.left
-                (λ g p x e. with_at_all (λ j l. slice_get (s.sent j) p ≡ Some x → slice_get l p ≡ Some x) s.sent f (s.sent f ++ m ∷ []) (get_more (s.sent f) (m ∷ []) p x) (λ j _ q. q) g e)
-                (λ g. omega arith))
+            (λ g p x e. with_at_all (λ j l. slice_get (s.sent j) p ≡ Some x → slice_get l p ≡ Some x) s.sent f (s.sent f ++ m ∷ []) (get_more (s.sent f) (m ∷ []) p x) (λ j _ q. q) g e)
+            (λ g. omega arith))
             (s.took w) (h.placed w);
         rises = h.rises;
         rest = with_at_all (λ j l. of j (s.queue ++ m ∷ []) ≡ drop (h.left j) l) s.sent f (s.sent f ++ m ∷ [])
@@ -152,10 +152,10 @@ module _ (n : Size) (s : State) (h : IsLawful n s) where
         let P : ℕ → List Taken → Type 0 = λ v l. 0 < count_by is_stop l → AreStops rest in
         let all_stops : (v : ℕ) → 0 < count_by is_stop (s.took v) → AreStops rest = λ v some. (subst AreStops front (h.stopped v some)).1 in
         with_at_all P s.took w (s.took w ++ m ∷ [])
-            (λ some. ⊎_elim (λ (t : is_stop m ≡ true). queued.0 t)
-                (λ (t : is_stop m ≡ false). all_stops w (let c = count_more is_stop (s.took w) m in let d = ap (λ (b : Bool). cond {A = ℕ} b 1 0) t in let l : 0 < count_by is_stop (s.took w) = omega arith in l))
-                (cases_Bool (is_stop m)))
-            (λ v _. all_stops v)
+        (λ some. ⊎_elim (λ (t : is_stop m ≡ true). queued.0 t)
+        (λ (t : is_stop m ≡ false). all_stops w (let c = count_more is_stop (s.took w) m in let d = ap (λ (b : Bool). cond {A = ℕ} b 1 0) t in let l : 0 < count_by is_stop (s.took w) = omega arith in l))
+        (cases_Bool (is_stop m)))
+        (λ v _. all_stops v)
 
     module _ (left' : ℕ → ℕ) (grows : (j : ℕ) → h.left j ≤ left' j) (within' : (j : ℕ) → left' j ≤ length (s.sent j))
         (counts : (j p : ℕ) → cond {A = ℕ} (nat_lt p (h.left j)) 1 0 + cond (is_at j p m) 1 0 ≡ cond (nat_lt p (left' j)) 1 0)
@@ -164,13 +164,13 @@ module _ (n : Size) (s : State) (h : IsLawful n s) where
       rises_then : Rises (s.took w ++ m ∷ [])
       rises_then j =
           ⊎_elim
-              (λ (t : is_of j m ≡ true).
-                  let e : map position (of j (s.took w ++ m ∷ [])) ≡ map position (of j (s.took w)) ++ position m ∷ [] = ap (map position) (of_yes j (s.took w) m t) ∙ map-append position (of j (s.took w)) (m ∷ []) in
-                  subst IsRising (sym e)
-                      (rising_more (map position (of j (s.took w))) (position m) (h.rises w j)
-                          (subst (λ k. AllByRecursion (λ p. p < k) (map position (of j (s.took w)))) (sym (next j t)) (placed_below s.sent h.left j (s.took w) (h.placed w)))))
-              (λ (t : is_of j m ≡ false). subst (λ (l : List Taken). IsRising (map position l)) (sym (of_no j (s.took w) m t)) (h.rises w j))
-              (cases_Bool (is_of j m))
+          (λ (t : is_of j m ≡ true).
+          let e : map position (of j (s.took w ++ m ∷ [])) ≡ map position (of j (s.took w)) ++ position m ∷ [] = ap (map position) (of_yes j (s.took w) m t) ∙ map-append position (of j (s.took w)) (m ∷ []) in
+          subst IsRising (sym e)
+          (rising_more (map position (of j (s.took w))) (position m) (h.rises w j)
+          (subst (λ k. AllByRecursion (λ p. p < k) (map position (of j (s.took w)))) (sym (next j t)) (placed_below s.sent h.left j (s.took w) (h.placed w)))))
+          (λ (t : is_of j m ≡ false). subst (λ (l : List Taken). IsRising (map position l)) (sym (of_no j (s.took w) m t)) (h.rises w j))
+          (cases_Bool (is_of j m))
 
       takes : IsLawful n (take_front w m rest s)
       takes = record {
@@ -205,10 +205,10 @@ module _ (n : Size) (s : State) (h : IsLawful n s) (w : ℕ) (m : Taken) (ms : L
   take_mark : is_mark m ≡ true → IsLawful n (take_front w m ms s)
   take_mark t =
       takes n s h w m ms front below undone h.left (λ j. omega arith) h.within
-          (λ j p. ap (λ (b : Bool). cond {A = ℕ} (nat_lt p (h.left j)) 1 0 + cond (b && (position m == p)) 1 0) (mark_of_none j m t) ∙ (let z : cond {A = ℕ} (nat_lt p (h.left j)) 1 0 + 0 ≡ cond (nat_lt p (h.left j)) 1 0 = omega arith in z))
-          (placed_mark m t)
-          (λ j e. absurd (true≢false (sym e ∙ mark_of_none j m t)))
-          (λ j. sym (front_no j m ms (mark_of_none j m t)) ∙ (sym (ap (of j) front) ∙ h.rest j))
+      (λ j p. ap (λ (b : Bool). cond {A = ℕ} (nat_lt p (h.left j)) 1 0 + cond (b && (position m == p)) 1 0) (mark_of_none j m t) ∙ (let z : cond {A = ℕ} (nat_lt p (h.left j)) 1 0 + 0 ≡ cond (nat_lt p (h.left j)) 1 0 = omega arith in z))
+      (placed_mark m t)
+      (λ j e. absurd (true≢false (sym e ∙ mark_of_none j m t)))
+      (λ j. sym (front_no j m ms (mark_of_none j m t)) ∙ (sym (ap (of j) front) ∙ h.rest j))
     where
       placed_mark : (x : Taken) → is_mark x ≡ true → IsPlaced s.sent h.left x
       placed_mark (Row g p b) e = absurd (cc)
@@ -223,17 +223,17 @@ module _ (n : Size) (s : State) (h : IsLawful n s) (w : ℕ) (m : Taken) (ms : L
       let d = drop_front (s.sent f) (h.left f) m (of f ms) (sym (h.rest f) ∙ (ap (of f) front ∙ front_yes f m ms is)) in
       let at' : position m ≡ h.left f = let r = (from_place f 0 (s.sent f) (h.left f) m (h.lists f) d.0).1 in omega arith in
       takes n s h w m ms front below undone left'
-          (with_at_all (λ j l. h.left j ≤ l) h.left f (h.left f + 1) (omega arith) (λ j _. omega arith))
-          (with_at_all (λ j l. l ≤ length (s.sent j)) h.left f (h.left f + 1) (omega (arith, d.2)) (λ j _. h.within j))
-          (λ j p. with_at_all (λ i l. cond {A = ℕ} (nat_lt p (h.left i)) 1 0 + cond (is_at i p m) 1 0 ≡ cond (nat_lt p l) 1 0) h.left f (h.left f + 1)
-              (ap (λ (b : Bool). cond {A = ℕ} (nat_lt p (h.left f)) 1 0 + cond (b && (position m == p)) 1 0) is ∙ (ap (λ (k : ℕ). cond {A = ℕ} (nat_lt p (h.left f)) 1 0 + cond (k == p) 1 0) at' ∙ one_more p (h.left f)))
-              (λ i ne. ap (λ (b : Bool). cond {A = ℕ} (nat_lt p (h.left i)) 1 0 + cond (b && (position m == p)) 1 0) (of_one f i m is ne) ∙ (let z : cond {A = ℕ} (nat_lt p (h.left i)) 1 0 + 0 ≡ cond (nat_lt p (h.left i)) 1 0 = omega arith in z))
-              j)
-          (placed_new s.sent left' f m is (omega (arith, at', here)) (ap (slice_get (s.sent f)) at' ∙ d.0))
-          (λ j e. ⊎_elim (λ (q : j ≡ f). at' ∙ ap h.left (sym q)) (λ (ne : j ≡ f → ⊥). absurd (true≢false (sym e ∙ of_one f j m is ne))) (cases_eq j f))
-          (with_at_all (λ j l. of j ms ≡ drop l (s.sent j)) h.left f (h.left f + 1)
-              (sym d.1 ∙ ap (λ k. drop k (s.sent f)) (let z : suc (h.left f) ≡ h.left f + 1 = omega arith in z))
-              (λ j ne. sym (front_no j m ms (of_one f j m is ne)) ∙ (sym (ap (of j) front) ∙ h.rest j)))
+      (with_at_all (λ j l. h.left j ≤ l) h.left f (h.left f + 1) (omega arith) (λ j _. omega arith))
+      (with_at_all (λ j l. l ≤ length (s.sent j)) h.left f (h.left f + 1) (omega (arith, d.2)) (λ j _. h.within j))
+      (λ j p. with_at_all (λ i l. cond {A = ℕ} (nat_lt p (h.left i)) 1 0 + cond (is_at i p m) 1 0 ≡ cond (nat_lt p l) 1 0) h.left f (h.left f + 1)
+      (ap (λ (b : Bool). cond {A = ℕ} (nat_lt p (h.left f)) 1 0 + cond (b && (position m == p)) 1 0) is ∙ (ap (λ (k : ℕ). cond {A = ℕ} (nat_lt p (h.left f)) 1 0 + cond (k == p) 1 0) at' ∙ one_more p (h.left f)))
+      (λ i ne. ap (λ (b : Bool). cond {A = ℕ} (nat_lt p (h.left i)) 1 0 + cond (b && (position m == p)) 1 0) (of_one f i m is ne) ∙ (let z : cond {A = ℕ} (nat_lt p (h.left i)) 1 0 + 0 ≡ cond (nat_lt p (h.left i)) 1 0 = omega arith in z))
+      j)
+      (placed_new s.sent left' f m is (omega (arith, at', here)) (ap (slice_get (s.sent f)) at' ∙ d.0))
+      (λ j e. ⊎_elim (λ (q : j ≡ f). at' ∙ ap h.left (sym q)) (λ (ne : j ≡ f → ⊥). absurd (true≢false (sym e ∙ of_one f j m is ne))) (cases_eq j f))
+      (with_at_all (λ j l. of j ms ≡ drop l (s.sent j)) h.left f (h.left f + 1)
+      (sym d.1 ∙ ap (λ k. drop k (s.sent f)) (let z : suc (h.left f) ≡ h.left f + 1 = omega arith in z))
+      (λ j ne. sym (front_no j m ms (of_one f j m is ne)) ∙ (sym (ap (of j) front) ∙ h.rest j)))
 
 take_any : (n : Size) (s : State) (h : IsLawful n s) (w : ℕ) (m : Taken) (ms : List Taken) → s.queue ≡ m ∷ ms → w < n.takers → is_done (s.took w) ≡ false → IsLawful n (take_front w m ms s)
 take_any n s h w (Row f p b) ms front below undone = take_of n s h w (Row f p b) ms front below undone f (eq-eqb f f refl)

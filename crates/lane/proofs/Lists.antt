@@ -1,5 +1,5 @@
 -- Lists and functions on numbers, with one more element or one other value.
-use Rattle.std.proofs.Common.{◌≡◌, ◌≢◌, ◌⊎◌, ℕ, zero, suc, ◌+◌, ◌<◌, ◌≤◌, Bool, true, false, cond, ◌==◌, List, [], ◌∷◌, ◌++◌, length, drop, slice_get, Option, Some, None, refl, sym, ap, ◌∙◌, subst, arith, count_by, sum_by}
+use Rattle.std.proofs.Common.{◌≡◌, ℕ, zero, suc, ◌+◌, ◌<◌, ◌≤◌, Bool, true, false, cond, ◌==◌, List, [], ◌∷◌, ◌++◌, length, drop, slice_get, Some, refl, sym, ap, subst, arith, count_by}
 use Rattle.std.proofs.Common.{⊎_elim}
 use Rattle.std.specs.List.{AllByRecursion}
 use Rattle.std.proofs.lemmas.Bool.{eqb-true, eqb-false, eq-eqb, ne_eqb, cases_eq}
@@ -54,8 +54,8 @@ pub over_le : (n : ℕ) (g : ℕ → ℕ) (k : ℕ) → k < n → g k ≤ over n
 over_le zero g k l = absurd (omega arith)
 over_le (suc n) g k l =
     ⊎_elim (λ (e : k ≡ n). let same : g k ≡ g n = ap g e in let goal : g k ≤ over n g + g n = omega arith in goal)
-        (λ (ne : k ≡ n → ⊥). let below : g k ≤ over n g = over_le n g k (omega arith) in let goal : g k ≤ over n g + g n = omega arith in goal)
-        (cases_eq k n)
+    (λ (ne : k ≡ n → ⊥). let below : g k ≤ over n g = over_le n g k (omega arith) in let goal : g k ≤ over n g + g n = omega arith in goal)
+    (cases_eq k n)
 
 pub with_at_here : {A : Type 0} (g : ℕ → A) (k : ℕ) (x : A) → with_at g k x k ≡ x
 with_at_here {A} g k x = ap (λ (b : Bool). cond b x (g k)) (eq-eqb k k refl)
@@ -68,15 +68,15 @@ pub over_at : {A : Type 0} (F : A → ℕ) (n : ℕ) (g : ℕ → A) (k : ℕ) (
 over_at F zero g k x l = absurd (omega arith)
 over_at {A} F (suc n) g k x l =
     ⊎_elim
-        (λ (e : k ≡ n).
-            let low : over n (λ j. F (with_at g k x j)) ≡ over n (λ j. F (g j)) = over_same n _ _ (λ j below. ap F (with_at_else g k x j (λ q. omega arith))) in
-            let last : F (with_at g k x n) ≡ F x = subst (λ i. F (with_at g k x i) ≡ F x) e (ap F (with_at_here g k x)) in
-            let old : F (g k) ≡ F (g n) = ap (λ i. F (g i)) e in
-            let goal : (over n (λ j. F (with_at g k x j)) + F (with_at g k x n)) + F (g k) ≡ (over n (λ j. F (g j)) + F (g n)) + F x = omega arith in
-            goal)
-        (λ (ne : k ≡ n → ⊥).
-            let low : over n (λ j. F (with_at g k x j)) + F (g k) ≡ over n (λ j. F (g j)) + F x = over_at F n g k x (omega arith) in
-            let last : F (with_at g k x n) ≡ F (g n) = ap F (with_at_else g k x n (λ q. ne (sym q))) in
-            let goal : (over n (λ j. F (with_at g k x j)) + F (with_at g k x n)) + F (g k) ≡ (over n (λ j. F (g j)) + F (g n)) + F x = omega arith in
-            goal)
-        (cases_eq k n)
+    (λ (e : k ≡ n).
+    let low : over n (λ j. F (with_at g k x j)) ≡ over n (λ j. F (g j)) = over_same n _ _ (λ j below. ap F (with_at_else g k x j (λ q. omega arith))) in
+    let last : F (with_at g k x n) ≡ F x = subst (λ i. F (with_at g k x i) ≡ F x) e (ap F (with_at_here g k x)) in
+    let old : F (g k) ≡ F (g n) = ap (λ i. F (g i)) e in
+    let goal : (over n (λ j. F (with_at g k x j)) + F (with_at g k x n)) + F (g k) ≡ (over n (λ j. F (g j)) + F (g n)) + F x = omega arith in
+    goal)
+    (λ (ne : k ≡ n → ⊥).
+    let low : over n (λ j. F (with_at g k x j)) + F (g k) ≡ over n (λ j. F (g j)) + F x = over_at F n g k x (omega arith) in
+    let last : F (with_at g k x n) ≡ F (g n) = ap F (with_at_else g k x n (λ q. ne (sym q))) in
+    let goal : (over n (λ j. F (with_at g k x j)) + F (with_at g k x n)) + F (g k) ≡ (over n (λ j. F (g j)) + F (g n)) + F x = omega arith in
+    goal)
+    (cases_eq k n)

@@ -1,13 +1,12 @@
 -- Lists of messages, with one more message behind.
-use Rattle.std.proofs.Common.{◌≡◌, ◌≢◌, ◌⊎◌, ⊎_elim, ℕ, zero, suc, ◌+◌, ◌<◌, ◌≤◌, Bool, true, false, cond, ◌==◌, ◌||◌, List, [], ◌∷◌, ◌++◌, length, map, drop, slice_get, Option, Some, None, refl, sym, ap, ◌∙◌, subst, arith, count_by, append-nil}
-use Rattle.std.specs.List.{AllByRecursion, filter, list_any}
-use Rattle.std.proofs.lemmas.Bool.{eqb-true, eq-eqb, ne_eqb, cases_Bool, false≢true, true≢false}
+use Rattle.std.proofs.Common.{◌≡◌, ℕ, zero, suc, ◌+◌, ◌<◌, ◌≤◌, Bool, true, false, cond, ◌||◌, List, [], ◌∷◌, ◌++◌, length, map, slice_get, Some, None, refl, sym, ap, ◌∙◌, subst, arith, count_by, append-nil}
+use Rattle.std.specs.List.{AllByRecursion}
+use Rattle.std.proofs.lemmas.Bool.{eqb-true, eq-eqb, ne_eqb, true≢false}
 use Rattle.std.proofs.lemmas.List.Elements.{filter-append}
-use Rattle.std.proofs.lemmas.List.Folds.{list_any-append}
 use Rattle.pit_model.specs.declared.block.Block.{Block}
 use Rattle.lane.specs.declared.message.Taken.{Taken}
 use Rattle.lane.specs.declared.message.Taken.TheVariants.{Row, End, Stop, Quit}
-use Rattle.lane.specs.Message.{is_of, of, position, is_row, is_end, is_stop, is_quit, is_mark, rows_in, has_end, is_done, ends_in_mark, IsFrom, IsEndedFrom, IsRising, Rises, EndsClose, MarksLast, EndsInStop, AreStops, StopsLast}
+use Rattle.lane.specs.Message.{is_of, of, position, is_row, is_stop, is_quit, is_mark, rows_in, has_end, is_done, ends_in_mark, IsFrom, IsEndedFrom, IsRising, MarksLast, StopsLast}
 use Rattle.lane.specs.Lawful.{IsPlaced}
 use Rattle.lane.proofs.Lists.{all_more, count_front}
 

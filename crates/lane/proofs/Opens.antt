@@ -1,8 +1,7 @@
 -- How the lane is counted, opened and given away, part by part.
-use Rattle.std.proofs.Common.{◌≡◌, ℕ, zero, suc, ◌+◌, ◌-◌, ◌<◌, ◌≤◌, List, [], ◌∷◌, ◌++◌, length, replicate, refl, sym, ap, ◌∙◌, subst, arith, All}
+use Rattle.std.proofs.Common.{◌≡◌, ℕ, zero, suc, ◌+◌, ◌-◌, ◌<◌, ◌≤◌, List, [], ◌∷◌, ◌++◌, replicate, refl, sym, ap, ◌∙◌, subst, arith, All}
 use Rattle.std.proofs.lemmas.List.Elements.{All-nil, All-cons}
 use Rattle.crossbeam_channel.specs.Fifo.{Forks}
-use Rattle.lane.specs.declared.message.Taken.{Taken}
 use Rattle.lane.specs.declared.part.Part.{Part}
 use Rattle.lane.specs.declared.part.Part.TheVariants.{Count, Put, Take, Close}
 use Rattle.lane.specs.Rule.{IsLane, put_parts, take_parts, all_parts}
@@ -57,13 +56,13 @@ first_puts_more : (lane : Lane) (k n : ℕ) → first_puts lane k (suc n) ≡ fi
 first_puts_more lane k zero = ap (λ (i : ℕ). record { lane = lane; file = i; sent = [] } ∷ []) (let z : k ≡ k + 0 = omega arith in z)
 first_puts_more lane k (suc n) =
     ap (λ i. record { lane = lane; file = k; sent = [] } ∷ i)
-        (first_puts_more lane (k + 1) n ∙ ap (λ (i : ℕ). first_puts lane (k + 1) n ++ record { lane = lane; file = i; sent = [] } ∷ []) (let z : (k + 1) + n ≡ k + suc n = omega arith in z))
+    (first_puts_more lane (k + 1) n ∙ ap (λ (i : ℕ). first_puts lane (k + 1) n ++ record { lane = lane; file = i; sent = [] } ∷ []) (let z : (k + 1) + n ≡ k + suc n = omega arith in z))
 
 first_takes_more : (lane : Lane) (k n : ℕ) → first_takes lane k (suc n) ≡ first_takes lane k n ++ record { lane = lane; taker = k + n; took = [] } ∷ []
 first_takes_more lane k zero = ap (λ (i : ℕ). record { lane = lane; taker = i; took = [] } ∷ []) (let z : k ≡ k + 0 = omega arith in z)
 first_takes_more lane k (suc n) =
     ap (λ i. record { lane = lane; taker = k; took = [] } ∷ i)
-        (first_takes_more lane (k + 1) n ∙ ap (λ (i : ℕ). first_takes lane (k + 1) n ++ record { lane = lane; taker = i; took = [] } ∷ []) (let z : (k + 1) + n ≡ k + suc n = omega arith in z))
+    (first_takes_more lane (k + 1) n ∙ ap (λ (i : ℕ). first_takes lane (k + 1) n ++ record { lane = lane; taker = i; took = [] } ∷ []) (let z : (k + 1) + n ≡ k + suc n = omega arith in z))
 
 pub first_puts_are : (lane : Lane) (k n f : ℕ) → k + n ≡ f → ArePutsFrom lane f k (first_puts lane k n)
 first_puts_are lane k zero f e = omega arith

@@ -1,14 +1,14 @@
 -- What one taker took is in order.
-use Rattle.std.proofs.Common.{◌≡◌, ◌≢◌, ◌⊎◌, ⊎_elim, ℕ, zero, suc, ◌+◌, ◌<◌, ◌≤◌, Bool, true, false, cond, List, [], ◌∷◌, ◌++◌, length, map, refl, sym, ap, ◌∙◌, subst, arith}
+use Rattle.std.proofs.Common.{◌≡◌, ℕ, suc, ◌+◌, ◌<◌, ◌≤◌, Bool, true, false, cond, List, [], ◌∷◌, length, map, refl, subst, arith}
 use Rattle.std.specs.List.{AllByRecursion}
-use Rattle.std.proofs.lemmas.Bool.{cases_Bool, eq-eqb}
+use Rattle.std.proofs.lemmas.Bool.{eq-eqb}
 use Rattle.lane.specs.declared.message.Taken.{Taken}
 use Rattle.lane.specs.declared.message.Taken.TheVariants.{Row, End, Stop, Quit}
 use Rattle.lane.specs.Message.{is_of, of, position, IsRising, Rises, EndsClose, IsFrom}
 use Rattle.lane.specs.Machine.{Size, State}
 use Rattle.lane.specs.Lawful.{IsPlaced, IsLawful}
 use Rattle.lane.specs.Steps.{IsOrdered}
-use Rattle.lane.proofs.Messages.{front_yes, front_no, placed_below, end_is_last}
+use Rattle.lane.proofs.Messages.{front_yes, placed_below, end_is_last}
 
 rising_tail : (m : Taken) (rest : List Taken) (b : Bool) → IsRising (map position (cond b (m ∷ rest) rest)) → IsRising (map position rest)
 rising_tail m rest true h = h.1

@@ -1,5 +1,5 @@
 -- Each move of the passes keeps the rule of the lane.
-use Rattle.std.proofs.Common.{◌≡◌, ◌≢◌, ◌⊎◌, ⊎_elim, inl, inr, ℕ, zero, suc, ◌+◌, ◌<◌, ◌≤◌, Bool, true, false, cond, List, [], ◌∷◌, ◌++◌, length, set, slice_get, Option, Some, None, refl, sym, ap, ◌∙◌, subst, arith, append_assoc, replicate}
+use Rattle.std.proofs.Common.{◌≡◌, ◌≢◌, ⊎_elim, inl, inr, ℕ, zero, suc, ◌+◌, ◌<◌, ◌≤◌, true, false, List, [], ◌∷◌, ◌++◌, length, set, slice_get, Some, None, refl, sym, ap, ◌∙◌, subst, arith, append_assoc, replicate}
 use Rattle.std.specs.List.{AllByRecursion}
 use Rattle.std.proofs.lemmas.Bool.{cases_eq}
 use mathlib.Core.Option.{some, some-injective, some-ne-none}
@@ -10,11 +10,11 @@ use Rattle.lane.specs.declared.message.Taken.{Taken}
 use Rattle.lane.specs.declared.message.Taken.TheVariants.{Row, End, Stop, Quit}
 use Rattle.lane.specs.declared.part.Part.{Part}
 use Rattle.lane.specs.declared.part.Part.TheVariants.{Count, Put, Take, Close}
-use Rattle.lane.specs.Message.{has_end, is_done, is_stop, is_quit, rows_in}
+use Rattle.lane.specs.Message.{has_end, is_done, rows_in}
 use Rattle.lane.specs.Machine.{Size, State, opening, PutRow, PutEnd, PutStop, PutQuit, TakeNext, after}
 use Rattle.lane.specs.Whole.{IsWhole}
 use Rattle.lane.specs.Rule.{Role, Putter, Taker, Closer, part_of, role_of, Has, IsSeated, AreSeated, IsLaneAt, IsCounting, IsLane, put_parts, take_parts, all_parts}
-use Rattle.lane.specs.Steps.{more_part, with_message, IsFree, HasEnded, PutSends, CloseSends, MaySend, MayTake, IsOrdered, Takes, took_in, IsFull, full_view, sents_in, tooks_in, gathering_in}
+use Rattle.lane.specs.Steps.{with_message, IsFree, HasEnded, PutSends, CloseSends, MaySend, MayTake, IsOrdered, Takes, IsFull, full_view, sents_in, tooks_in, gathering_in}
 use Rattle.lane.specs.Ends.{IsClosers}
 use Rattle.lane.proofs.Seats.{at_part, has_left, has_right, at_within, at_end, given, joined, opened}
 use Rattle.lane.proofs.Keeps.{begins}
@@ -32,10 +32,10 @@ counting_view items views pass v h at not_count not_spent =
 open_at : (items : List Taken) (views : List (List Part)) (pass : ℕ) (part : Part) (rest : List Part) (role : Role) → IsLane items views → get_elem? views pass ≡ some (part ∷ rest) → role_of part ≡ Some role → (n : Size) × (s : State) × IsLaneAt n s items views
 open_at items views pass part rest role h at named =
     ⊎_elim
-        (λ (c : IsCounting items views). absurd (counting_view items views pass (part ∷ rest) c at
-            (λ f w k _ e. let p : part ≡ Count f w k = cc in let q : None ≡ Some role = ap role_of (sym p) ∙ named in cc) (λ e. cc)))
-        (λ (o : (n : Size) × (s : State) × IsLaneAt n s items views). o)
-        h
+    (λ (c : IsCounting items views). absurd (counting_view items views pass (part ∷ rest) c at
+    (λ f w k _ e. let p : part ≡ Count f w k = cc in let q : None ≡ Some role = ap role_of (sym p) ∙ named in cc) (λ e. cc)))
+    (λ (o : (n : Size) × (s : State) × IsLaneAt n s items views). o)
+    h
 
 pub starts : IsLane [] ((Count 0 0 0 ∷ []) ∷ [])
 starts = inl (record { nothing = refl; files = 0; takers = 0; capacity = 0; first = refl; others = later })
@@ -48,9 +48,9 @@ starts = inl (record { nothing = refl; files = 0; takers = 0; capacity = 0; firs
 count_at : (items : List Taken) (views : List (List Part)) (pass f w c : ℕ) → IsLane items views → get_elem? views pass ≡ some (Count f w c ∷ []) → IsCounting items views × (pass ≡ 0)
 count_at items views pass f w c h at =
     ⊎_elim
-        (λ (k : IsCounting items views). (k, ⊎_elim (λ (e : pass ≡ 0). e) (λ (ne : pass ≡ 0 → ⊥). absurd (let z : (Count f w c ∷ []) ≡ [] = k.others pass (Count f w c ∷ []) at ne in cc)) (cases_eq pass 0)))
-        (λ (o : (n : Size) × (s : State) × IsLaneAt n s items views). absurd (not_open o.0 o.1 (o.2.seated.only pass (Count f w c ∷ []) at).0))
-        h
+    (λ (k : IsCounting items views). (k, ⊎_elim (λ (e : pass ≡ 0). e) (λ (ne : pass ≡ 0 → ⊥). absurd (let z : (Count f w c ∷ []) ≡ [] = k.others pass (Count f w c ∷ []) at ne in cc)) (cases_eq pass 0)))
+    (λ (o : (n : Size) × (s : State) × IsLaneAt n s items views). absurd (not_open o.0 o.1 (o.2.seated.only pass (Count f w c ∷ []) at).0))
+    h
   where
     not_open : (n : Size) (s : State) {seat : Role → ℕ} → IsSeated n s seat pass (Count f w c) → ⊥
     not_open n s q = by_role q.0 q.2
@@ -80,8 +80,7 @@ pub made : (items : List Taken) (views : List (List Part)) (pass f w c : ℕ) �
     → (items ≡ []) × IsLaneAt (record { files = f; takers = w; capacity = c }) opening [] (set views pass (all_parts f w c) ++ [] ∷ [])
 made items views pass f w c h at =
     let k = count_at items views pass f w c h at in
-    let n : Size = record { files = f; takers = w; capacity = c } in
-    (
+    let n : Size = record { files = f; takers = w; capacity = c } in (
       k.0.nothing,
       record {
         reached = ([], tt, refl);
@@ -100,11 +99,11 @@ opens pass f w c items views h at =
 pub gives : (pass : ℕ) (first part : Part) (rest : List Part) (role : Role) → role_of part ≡ Some role → IsFree role (first ∷ rest) → Forks IsLane pass (first ∷ part ∷ rest) (first ∷ rest) (part ∷ [])
 gives pass first part rest role named free items views h at =
     ⊎_elim
-        (λ (c : IsCounting items views). absurd (counting_view items views pass (first ∷ part ∷ rest) c at (λ f w k _ e. let z : (part ∷ rest) ≡ [] = cc in cc) (λ e. cc)))
-        (λ (o : (n : Size) × (s : State) × IsLaneAt n s items views).
-            let g = given o.0 o.1 o.2.seat views pass role first part rest o.2.seated at named free in
-            inr (o.0, o.1, record { reached = o.2.reached; lawful = o.2.lawful; queue = o.2.queue; seat = g.0; seated = g.1 }))
-        h
+    (λ (c : IsCounting items views). absurd (counting_view items views pass (first ∷ part ∷ rest) c at (λ f w k _ e. let z : (part ∷ rest) ≡ [] = cc in cc) (λ e. cc)))
+    (λ (o : (n : Size) × (s : State) × IsLaneAt n s items views).
+    let g = given o.0 o.1 o.2.seat views pass role first part rest o.2.seated at named free in
+    inr (o.0, o.1, record { reached = o.2.reached; lawful = o.2.lawful; queue = o.2.queue; seat = g.0; seated = g.1 }))
+    h
 
 pub merges : (pass : ℕ) (first : Part) (rest : List Part) (other : ℕ) (u : List Part) (role : Role) → role_of first ≡ Some role → Merges IsLane pass (first ∷ rest) other u ((first ∷ rest) ++ u) []
 merges pass first rest other u role named items views h at apart at' =
@@ -183,9 +182,9 @@ looked_at n s items views pass files takers c sent took h at full =
     let p = close_is n s h.seat pass files takers c takers 0 all.0 in
     let zero_is : (i : ℕ) → i + 0 ≡ i = λ i. omega arith in
     let sent_is : (f : ℕ) (l : List Taken) → slice_get sent f ≡ Some l → l ≡ s.sent f =
-            λ f l e. (put_is n s h.seat pass (f + 0) c l (at_part (IsSeated n s h.seat pass) (Put (f + 0) c l) parts (has_left _ (put_parts c 0 sent) (take_parts c 0 took) (has_put c 0 sent f l e)) all.1)).2 ∙ ap s.sent (zero_is f) in
+    λ f l e. (put_is n s h.seat pass (f + 0) c l (at_part (IsSeated n s h.seat pass) (Put (f + 0) c l) parts (has_left _ (put_parts c 0 sent) (take_parts c 0 took) (has_put c 0 sent f l e)) all.1)).2 ∙ ap s.sent (zero_is f) in
     let took_is : (w : ℕ) (l : List Taken) → slice_get took w ≡ Some l → l ≡ s.took w =
-            λ w l e. (take_is n s h.seat pass (w + 0) c l (at_part (IsSeated n s h.seat pass) (Take (w + 0) c l) parts (has_right _ (put_parts c 0 sent) (take_parts c 0 took) (has_take c 0 took w l e)) all.1)).2 ∙ ap s.took (zero_is w) in
+    λ w l e. (take_is n s h.seat pass (w + 0) c l (at_part (IsSeated n s h.seat pass) (Take (w + 0) c l) parts (has_right _ (put_parts c 0 sent) (take_parts c 0 took) (has_take c 0 took w l e)) all.1)).2 ∙ ap s.took (zero_is w) in
     let a : length sent ≡ n.files = full.all_files ∙ p.0 in
     let b : length took ≡ n.takers = full.all_takers ∙ p.1 in
     let d : 0 < n.takers = subst (λ k. 0 < k) p.1 full.some_taker in
@@ -244,16 +243,16 @@ pub take_joins : (files takers c stops quits : ℕ) (sent took : List (List Take
     → (Close files takers c stops quits ∷ (put_parts c 0 sent ++ take_parts c 0 took)) ++ Take (length took) c l ∷ [] ≡ Close files takers c stops quits ∷ (put_parts c 0 sent ++ take_parts c 0 (took ++ l ∷ []))
 take_joins files takers c stops quits sent took l =
     ap (λ v. Close files takers c stops quits ∷ v)
-        (append_assoc (put_parts c 0 sent) (take_parts c 0 took) (Take (length took) c l ∷ [])
-        ∙ ap (λ v. put_parts c 0 sent ++ v) (sym (take_parts_more c 0 took l ∙ ap (λ i. take_parts c 0 took ++ Take i c l ∷ []) (let z : 0 + length took ≡ length took = omega arith in z))))
+    (append_assoc (put_parts c 0 sent) (take_parts c 0 took) (Take (length took) c l ∷ [])
+    ∙ ap (λ v. put_parts c 0 sent ++ v) (sym (take_parts_more c 0 took l ∙ ap (λ i. take_parts c 0 took ++ Take i c l ∷ []) (let z : 0 + length took ≡ length took = omega arith in z))))
 
 -- the ended parts of all files
 pub all_have_ended : (c k : ℕ) (lists : List (List Taken)) → AllByRecursion (λ l. has_end l ≡ true) lists → (f : ℕ) → k ≤ f → f < k + length lists → (cap : ℕ) × (sent : List Taken) × Has (Put f cap sent) (put_parts c k lists) × (has_end sent ≡ true)
 all_have_ended c k [] h f a b = absurd (omega arith)
 all_have_ended c k (x ∷ lists) h f a b =
     ⊎_elim (λ (e : f ≡ k). (c, x, inl (ap (λ i. Put i c x) e), h.0))
-        (λ (ne : f ≡ k → ⊥). let r = all_have_ended c (k + 1) lists h.1 f (omega arith) (omega arith) in (r.0, r.1, inr r.2, r.3))
-        (cases_eq f k)
+    (λ (ne : f ≡ k → ⊥). let r = all_have_ended c (k + 1) lists h.1 f (omega arith) (omega arith) in (r.0, r.1, inr r.2, r.3))
+    (cases_eq f k)
 
 pub ended_view : (files c : ℕ) (lists : List (List Taken)) → length lists ≡ files → AllByRecursion (λ l. has_end l ≡ true) lists → HasEnded files (put_parts c 0 lists)
 ended_view files c lists len h f l = all_have_ended c 0 lists h f (omega arith) (omega arith)
@@ -283,7 +282,7 @@ pub gives_put : (pass files takers c f m w : ℕ) → Forks IsLane pass (Close f
     (Close files takers c 0 0 ∷ (put_parts c (f + 1) (replicate m []) ++ take_parts c 0 (replicate w []))) (Put f c [] ∷ [])
 gives_put pass files takers c f m w =
     gives pass (Close files takers c 0 0) (Put f c []) (put_parts c (f + 1) (replicate m []) ++ take_parts c 0 (replicate w [])) (Putter f) refl
-        ((λ (e : Some Closer ≡ Some (Putter f)). cc), free_joined (Putter f) (put_parts c (f + 1) (replicate m [])) (take_parts c 0 (replicate w [])) (later_puts c (f + 1) m f (omega arith)) (free_of_takes c 0 w f))
+    ((λ (e : Some Closer ≡ Some (Putter f)). cc), free_joined (Putter f) (put_parts c (f + 1) (replicate m [])) (take_parts c 0 (replicate w [])) (later_puts c (f + 1) m f (omega arith)) (free_of_takes c 0 w f))
 
 pub gives_take : (pass files takers c w m : ℕ) → Forks IsLane pass (Close files takers c 0 0 ∷ take_parts c w (replicate (suc m) [])) (Close files takers c 0 0 ∷ take_parts c (w + 1) (replicate m [])) (Take w c [] ∷ [])
 gives_take pass files takers c w m =

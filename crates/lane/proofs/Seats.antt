@@ -1,13 +1,12 @@
 -- Which pass has which part, as the parts change and move.
-use Rattle.std.proofs.Common.{◌≡◌, ◌≢◌, ◌⊎◌, ⊎_elim, inl, inr, ℕ, zero, suc, ◌+◌, ◌<◌, ◌≤◌, Bool, true, false, cond, ◌==◌, replicate, List, [], ◌∷◌, ◌++◌, length, set, Option, Some, None, refl, sym, ap, ◌∙◌, subst, arith}
+use Rattle.std.proofs.Common.{◌≡◌, ◌≢◌, ◌⊎◌, ⊎_elim, inl, inr, ℕ, zero, suc, ◌+◌, ◌<◌, ◌≤◌, Bool, true, false, cond, ◌==◌, replicate, List, [], ◌∷◌, ◌++◌, length, set, Some, refl, sym, ap, ◌∙◌, subst, arith}
 use Rattle.std.specs.List.{AllByRecursion}
 use Rattle.std.proofs.lemmas.Bool.{cases_eq, cases_Bool, eq-eqb, ne_eqb, eqb-true, true≢false, false≢true}
 use mathlib.Core.Option.{some, some-injective, some-ne-none}
 use lib.ListN.{get_elem?}
-use Rattle.atomic_table.proofs.Lists.{at_set, at_snoc, at_last, at_longer, set_here, set_else}
-use Rattle.lane.specs.declared.message.Taken.{Taken}
+use Rattle.atomic_table.proofs.Lists.{at_set, at_last, at_longer, set_here, set_else}
 use Rattle.lane.specs.declared.part.Part.{Part}
-use Rattle.lane.specs.declared.part.Part.TheVariants.{Count, Put, Take, Close}
+use Rattle.lane.specs.declared.part.Part.TheVariants.{Put, Take}
 use Rattle.lane.specs.Machine.{Size, State, opening}
 use Rattle.lane.specs.Rule.{Role, Putter, Taker, Closer, IsRole, part_of, role_of, Has, IsSeated, AreSeated, put_parts, take_parts, all_parts}
 use Rattle.lane.specs.Steps.{IsFree}
@@ -56,17 +55,19 @@ changed n s t seat views pass role rest h at is free same =
     record {
       only = λ j u e. ⊎_elim
           (λ (x : (j ≡ pass) × ((part_of n t role ∷ rest) ≡ u)).
-              subst (AllByRecursion (IsSeated n t seat j)) x.1 (subst (λ i. AllByRecursion (IsSeated n t seat i) (part_of n t role ∷ rest)) (sym x.0) ((role, is, refl, here), rest_seated rest free mine.1)))
+          subst (AllByRecursion (IsSeated n t seat j)) x.1 (subst (λ i. AllByRecursion (IsSeated n t seat i) (part_of n t role ∷ rest)) (sym x.0) ((role, is, refl, here), rest_seated rest free mine.1)))
           (λ (x : (j ≢ pass) × (get_elem? views j ≡ some u)).
-              all_weaker (IsSeated n s seat j) (IsSeated n t seat j) (λ part q. (q.0, q.1, q.2 ∙ sym (same q.0 (λ e'. x.0 (sym q.3 ∙ (ap seat e' ∙ here)))), q.3)) u (h.only j u x.1))
+          all_weaker (IsSeated n s seat j) (IsSeated n t seat j) (λ part q. (q.0, q.1, q.2 ∙ sym (same q.0 (λ e'. x.0 (sym q.3 ∙ (ap seat e' ∙ here)))), q.3)) u (h.only j u x.1))
           (at_set views pass j (part_of n t role ∷ rest) u e);
       stands = λ r is_r. let old = h.stands r is_r in ⊎_elim
           (λ (e : seat r ≡ pass).
-              let v_is : old.0 ≡ part_of n s role ∷ rest = some-injective _ _ (sym old.1 ∙ (ap (get_elem? views) e ∙ at)) in
-              (part_of n t role ∷ rest, ap (get_elem? (set views pass (part_of n t role ∷ rest))) e ∙ set_here views pass (part_of n t role ∷ rest) (at_within views pass _ at),
-                  stand r (subst (Has (part_of n s r)) v_is old.2)))
+          let v_is : old.0 ≡ part_of n s role ∷ rest = some-injective _ _ (sym old.1 ∙ (ap (get_elem? views) e ∙ at)) in (
+            part_of n t role ∷ rest,
+            ap (get_elem? (set views pass (part_of n t role ∷ rest))) e ∙ set_here views pass (part_of n t role ∷ rest) (at_within views pass _ at),
+            stand r (subst (Has (part_of n s r)) v_is old.2),
+          ))
           (λ (ne : seat r ≡ pass → ⊥).
-              (old.0, set_else views pass (seat r) (part_of n t role ∷ rest) ne ∙ old.1, subst (λ p. Has p old.0) (sym (same r (λ e. ne (ap seat e ∙ here)))) old.2))
+          (old.0, set_else views pass (seat r) (part_of n t role ∷ rest) ne ∙ old.1, subst (λ p. Has p old.0) (sym (same r (λ e. ne (ap seat e ∙ here)))) old.2))
           (cases_eq (seat r) pass);
     }
   where
@@ -159,29 +160,31 @@ given n s seat views pass role first part rest h at named free =
       record {
         only = λ j u e. ⊎_elim
             (λ (x : get_elem? vs j ≡ some u). ⊎_elim
-                (λ (y : (j ≡ pass) × (left ≡ u)). subst (AllByRecursion (IsSeated n s new j)) y.1 (subst (λ i. AllByRecursion (IsSeated n s new i) left) (sym y.0) left_seated))
-                (λ (y : (j ≢ pass) × (get_elem? views j ≡ some u)).
-                    all_weaker (IsSeated n s seat j) (IsSeated n s new j) (λ p q. (q.0, q.1, q.2, reseated_else seat role (length vs) q.0 (λ e'. y.0 (sym q.3 ∙ (ap seat e' ∙ here))) ∙ q.3)) u (h.only j u y.1))
-                (at_set views pass j left u x))
+            (λ (y : (j ≡ pass) × (left ≡ u)). subst (AllByRecursion (IsSeated n s new j)) y.1 (subst (λ i. AllByRecursion (IsSeated n s new i) left) (sym y.0) left_seated))
+            (λ (y : (j ≢ pass) × (get_elem? views j ≡ some u)).
+            all_weaker (IsSeated n s seat j) (IsSeated n s new j) (λ p q. (q.0, q.1, q.2, reseated_else seat role (length vs) q.0 (λ e'. y.0 (sym q.3 ∙ (ap seat e' ∙ here))) ∙ q.3)) u (h.only j u y.1))
+            (at_set views pass j left u x))
             (λ (x : (j ≡ length vs) × ((part ∷ []) ≡ u)). subst (AllByRecursion (IsSeated n s new j)) x.1 (subst (λ i. IsSeated n s new i part) (sym x.0) right_seated, tt))
             (at_end vs (part ∷ []) u j e);
         stands = λ r is_r. ⊎_elim
             (λ (e : r ≡ role).
-                let seat_is : new r ≡ length vs = ap new e ∙ reseated_here seat role (length vs) in
-                (part ∷ [], ap (get_elem? (vs ++ (part ∷ []) ∷ [])) seat_is ∙ at_last vs (part ∷ []) (length vs) refl, inl (ap (part_of n s) e ∙ sym part_is)))
+            let seat_is : new r ≡ length vs = ap new e ∙ reseated_here seat role (length vs) in
+            (part ∷ [], ap (get_elem? (vs ++ (part ∷ []) ∷ [])) seat_is ∙ at_last vs (part ∷ []) (length vs) refl, inl (ap (part_of n s) e ∙ sym part_is)))
             (λ (ne : r ≡ role → ⊥).
-                let o = h.stands r is_r in
-                let seat_is : new r ≡ seat r = reseated_else seat role (length vs) r ne in
-                ⊎_elim
-                    (λ (q : seat r ≡ pass).
-                        let v_is : o.0 ≡ first ∷ part ∷ rest = some-injective _ _ (sym o.1 ∙ (ap (get_elem? views) q ∙ at)) in
-                        (left, ap (get_elem? (vs ++ (part ∷ []) ∷ [])) (seat_is ∙ q) ∙ at_longer vs ((part ∷ []) ∷ []) pass left (set_here views pass left (at_within views pass _ at)),
-                            ⊎_elim (λ (a : part_of n s r ≡ first). inl a)
-                                (⊎_elim (λ (a : part_of n s r ≡ part). absurd (ne (one_role n n s s r role (a ∙ part_is)))) (λ (a : Has (part_of n s r) rest). inr a))
-                                (subst (Has (part_of n s r)) v_is o.2)))
-                    (λ (q : seat r ≡ pass → ⊥).
-                        (o.0, ap (get_elem? (vs ++ (part ∷ []) ∷ [])) seat_is ∙ at_longer vs ((part ∷ []) ∷ []) (seat r) o.0 (set_else views pass (seat r) left q ∙ o.1), o.2))
-                    (cases_eq (seat r) pass))
+            let o = h.stands r is_r in
+            let seat_is : new r ≡ seat r = reseated_else seat role (length vs) r ne in
+            ⊎_elim
+            (λ (q : seat r ≡ pass).
+            let v_is : o.0 ≡ first ∷ part ∷ rest = some-injective _ _ (sym o.1 ∙ (ap (get_elem? views) q ∙ at)) in (
+              left,
+              ap (get_elem? (vs ++ (part ∷ []) ∷ [])) (seat_is ∙ q) ∙ at_longer vs ((part ∷ []) ∷ []) pass left (set_here views pass left (at_within views pass _ at)),
+              ⊎_elim (λ (a : part_of n s r ≡ first). inl a)
+                  (⊎_elim (λ (a : part_of n s r ≡ part). absurd (ne (one_role n n s s r role (a ∙ part_is)))) (λ (a : Has (part_of n s r) rest). inr a))
+                  (subst (Has (part_of n s r)) v_is o.2),
+            ))
+            (λ (q : seat r ≡ pass → ⊥).
+            (o.0, ap (get_elem? (vs ++ (part ∷ []) ∷ [])) seat_is ∙ at_longer vs ((part ∷ []) ∷ []) (seat r) o.0 (set_else views pass (seat r) left q ∙ o.1), o.2))
+            (cases_eq (seat r) pass))
             (role_cases r);
       },
     )
@@ -200,31 +203,31 @@ joined n s seat views pass other v u h at apart at' =
     let moved : (r : Role) → seat r ≡ other → new r ≡ pass = λ r e. ap (λ (b : Bool). cond b pass (seat r)) (eq-eqb (seat r) other e) in
     let kept : (r : Role) → (seat r ≡ other → ⊥) → new r ≡ seat r = λ r e. ap (λ (b : Bool). cond b pass (seat r)) (ne_eqb (seat r) other e) in
     let all : AllByRecursion (IsSeated n s new pass) both =
-            all_joined (IsSeated n s new pass) v u
-                (all_weaker (IsSeated n s seat pass) (IsSeated n s new pass) (λ p q. (q.0, q.1, q.2, kept q.0 (λ e. apart (sym e ∙ q.3)) ∙ q.3)) v (h.only pass v at))
-                (all_weaker (IsSeated n s seat other) (IsSeated n s new pass) (λ p q. (q.0, q.1, q.2, moved q.0 q.3)) u (h.only other u at')) in
+    all_joined (IsSeated n s new pass) v u
+    (all_weaker (IsSeated n s seat pass) (IsSeated n s new pass) (λ p q. (q.0, q.1, q.2, kept q.0 (λ e. apart (sym e ∙ q.3)) ∙ q.3)) v (h.only pass v at))
+    (all_weaker (IsSeated n s seat other) (IsSeated n s new pass) (λ p q. (q.0, q.1, q.2, moved q.0 q.3)) u (h.only other u at')) in
     let here : get_elem? (set vs other []) pass ≡ some both = set_else vs other pass [] (λ e. apart (sym e)) ∙ set_here views pass both (at_within views pass _ at) in (
       new,
       record {
         only = λ j w e. ⊎_elim
             (λ (x : (j ≡ other) × ([] ≡ w)). subst (AllByRecursion (IsSeated n s new j)) x.1 tt)
             (λ (x : (j ≢ other) × (get_elem? vs j ≡ some w)). ⊎_elim
-                (λ (y : (j ≡ pass) × (both ≡ w)). subst (AllByRecursion (IsSeated n s new j)) y.1 (subst (λ i. AllByRecursion (IsSeated n s new i) both) (sym y.0) all))
-                (λ (y : (j ≢ pass) × (get_elem? views j ≡ some w)).
-                    all_weaker (IsSeated n s seat j) (IsSeated n s new j) (λ p q. (q.0, q.1, q.2, kept q.0 (λ e'. x.0 (sym q.3 ∙ e')) ∙ q.3)) w (h.only j w y.1))
-                (at_set views pass j both w x.1))
+            (λ (y : (j ≡ pass) × (both ≡ w)). subst (AllByRecursion (IsSeated n s new j)) y.1 (subst (λ i. AllByRecursion (IsSeated n s new i) both) (sym y.0) all))
+            (λ (y : (j ≢ pass) × (get_elem? views j ≡ some w)).
+            all_weaker (IsSeated n s seat j) (IsSeated n s new j) (λ p q. (q.0, q.1, q.2, kept q.0 (λ e'. x.0 (sym q.3 ∙ e')) ∙ q.3)) w (h.only j w y.1))
+            (at_set views pass j both w x.1))
             (at_set vs other j [] w e);
         stands = λ r is_r. let o = h.stands r is_r in ⊎_elim
             (λ (e : seat r ≡ other).
-                let v_is : o.0 ≡ u = some-injective _ _ (sym o.1 ∙ (ap (get_elem? views) e ∙ at')) in
-                (both, ap (get_elem? (set vs other [])) (moved r e) ∙ here, has_right (part_of n s r) v u (subst (Has (part_of n s r)) v_is o.2)))
+            let v_is : o.0 ≡ u = some-injective _ _ (sym o.1 ∙ (ap (get_elem? views) e ∙ at')) in
+            (both, ap (get_elem? (set vs other [])) (moved r e) ∙ here, has_right (part_of n s r) v u (subst (Has (part_of n s r)) v_is o.2)))
             (λ (ne : seat r ≡ other → ⊥). ⊎_elim
-                (λ (q : seat r ≡ pass).
-                    let v_is : o.0 ≡ v = some-injective _ _ (sym o.1 ∙ (ap (get_elem? views) q ∙ at)) in
-                    (both, ap (get_elem? (set vs other [])) (kept r ne ∙ q) ∙ here, has_left (part_of n s r) v u (subst (Has (part_of n s r)) v_is o.2)))
-                (λ (q : seat r ≡ pass → ⊥).
-                    (o.0, ap (get_elem? (set vs other [])) (kept r ne) ∙ (set_else vs other (seat r) [] ne ∙ (set_else views pass (seat r) both q ∙ o.1)), o.2))
-                (cases_eq (seat r) pass))
+            (λ (q : seat r ≡ pass).
+            let v_is : o.0 ≡ v = some-injective _ _ (sym o.1 ∙ (ap (get_elem? views) q ∙ at)) in
+            (both, ap (get_elem? (set vs other [])) (kept r ne ∙ q) ∙ here, has_left (part_of n s r) v u (subst (Has (part_of n s r)) v_is o.2)))
+            (λ (q : seat r ≡ pass → ⊥).
+            (o.0, ap (get_elem? (set vs other [])) (kept r ne) ∙ (set_else vs other (seat r) [] ne ∙ (set_else views pass (seat r) both q ∙ o.1)), o.2))
+            (cases_eq (seat r) pass))
             (cases_eq (seat r) other);
       },
     )
@@ -260,11 +263,11 @@ module _ (n : Size) where
       record {
         only = λ j u e. ⊎_elim
             (λ (x : get_elem? vs j ≡ some u). ⊎_elim
-                (λ (y : (j ≡ 0) × (parts ≡ u)). subst (AllByRecursion (IsSeated n opening (λ r. 0) j)) y.1
-                    (subst (λ i. AllByRecursion (IsSeated n opening (λ r. 0) i) parts) (sym y.0)
-                        ((Closer, tt, refl, refl), all_joined (IsSeated n opening (λ r. 0) 0) (put_parts n.capacity 0 (replicate n.files [])) (take_parts n.capacity 0 (replicate n.takers [])) (new_puts 0 n.files (omega arith)) (new_takes 0 n.takers (omega arith)))))
-                (λ (y : (j ≢ 0) × (get_elem? views j ≡ some u)). subst (AllByRecursion (IsSeated n opening (λ r. 0) j)) (sym (others j u y.1 y.0)) tt)
-                (at_set views 0 j parts u x))
+            (λ (y : (j ≡ 0) × (parts ≡ u)). subst (AllByRecursion (IsSeated n opening (λ r. 0) j)) y.1
+            (subst (λ i. AllByRecursion (IsSeated n opening (λ r. 0) i) parts) (sym y.0)
+            ((Closer, tt, refl, refl), all_joined (IsSeated n opening (λ r. 0) 0) (put_parts n.capacity 0 (replicate n.files [])) (take_parts n.capacity 0 (replicate n.takers [])) (new_puts 0 n.files (omega arith)) (new_takes 0 n.takers (omega arith)))))
+            (λ (y : (j ≢ 0) × (get_elem? views j ≡ some u)). subst (AllByRecursion (IsSeated n opening (λ r. 0) j)) (sym (others j u y.1 y.0)) tt)
+            (at_set views 0 j parts u x))
             (λ (x : (j ≡ length vs) × ([] ≡ u)). subst (AllByRecursion (IsSeated n opening (λ r. 0) j)) x.1 tt)
             (at_end vs [] u j e);
         stands = λ r is. (parts, at_longer vs ([] ∷ []) 0 parts (set_here views 0 parts (at_within views 0 v at)), has_new r is);

@@ -1,5 +1,5 @@
 -- The laws of the lane that are stated of the steps.
-use Rattle.std.proofs.Common.{◌≡◌, ℕ, ◌+◌, ◌<◌, List, [], ◌∷◌, ◌++◌, length, set, refl, sym, ap, ◌∙◌, subst, arith}
+use Rattle.std.proofs.Common.{◌≡◌, ℕ, ◌+◌, ◌<◌, List, [], ◌∷◌, ◌++◌, length, set, sym, ap, ◌∙◌, subst, arith}
 use mathlib.Core.Option.{some}
 use lib.ListN.{get_elem?}
 use Rattle.lane.specs.declared.message.Taken.{Taken}
@@ -9,7 +9,7 @@ use Rattle.lane.specs.declared.part.Part.TheVariants.{Count, Put, Take, Close}
 use Rattle.lane.specs.Machine.{Size, State, PutRow, PutEnd, PutStop, PutQuit, TakeNext, Allowed, after}
 use Rattle.lane.specs.Message.{rows_in}
 use Rattle.lane.specs.Rule.{Closer, IsLaneAt}
-use Rattle.lane.specs.Steps.{with_message, IsFree, PutSends, CloseSends, MaySend}
+use Rattle.lane.specs.Steps.{with_message, IsFree, PutSends, CloseSends}
 use Rattle.lane.specs.Laws.{send_event, SendIsAnEvent, ReceiveIsAnEvent, MakeIsTheOpening, SplitIsNoEvent, JoinIsNoEvent, LookFindsNothing}
 use Rattle.lane.proofs.Seats.{given, joined}
 use Rattle.lane.proofs.Steps.{row_is, end_is, stop_is, quit_is, take_event}
@@ -22,12 +22,12 @@ put_event n s items views pass f c ms (Row g p b) h at room q =
     let r = row_is n s items views pass f c ms b h at room q.2 q.3 in
     let same : Row f (length ms) b ≡ Row g p b = λ i. Row (sym q.0 i) (sym q.1 i) b in
     subst (λ k. Allowed n s (PutRow k b) × IsLaneAt n (after s (PutRow k b)) (items ++ Row g p b ∷ []) (set views pass (Put f c (ms ++ Row g p b ∷ []) ∷ []))) (sym q.0)
-        (r.0, subst (λ m. IsLaneAt n (after s (PutRow f b)) (items ++ m ∷ []) (set views pass (Put f c (ms ++ m ∷ []) ∷ []))) same r.1)
+    (r.0, subst (λ m. IsLaneAt n (after s (PutRow f b)) (items ++ m ∷ []) (set views pass (Put f c (ms ++ m ∷ []) ∷ []))) same r.1)
 put_event n s items views pass f c ms (End g k) h at room q =
     let r = end_is n s items views pass f c ms h at room q.2 in
     let same : End f (rows_in ms) ≡ End g k = λ i. End (sym q.0 i) (sym q.1 i) in
     subst (λ j. Allowed n s (PutEnd j) × IsLaneAt n (after s (PutEnd j)) (items ++ End g k ∷ []) (set views pass (Put f c (ms ++ End g k ∷ []) ∷ []))) (sym q.0)
-        (r.0, subst (λ m. IsLaneAt n (after s (PutEnd f)) (items ++ m ∷ []) (set views pass (Put f c (ms ++ m ∷ []) ∷ []))) same r.1)
+    (r.0, subst (λ m. IsLaneAt n (after s (PutEnd f)) (items ++ m ∷ []) (set views pass (Put f c (ms ++ m ∷ []) ∷ []))) same r.1)
 put_event n s items views pass f c ms Stop h at room q = absurd q
 put_event n s items views pass f c ms Quit h at room q = absurd q
 
@@ -49,7 +49,7 @@ send_is_an_event n s items views pass capacity (Count f w c ∷ v) m h at room q
 send_is_an_event n s items views pass capacity (Take w c ms ∷ v) m h at room q = absurd q
 send_is_an_event n s items views pass capacity (Put f c ms ∷ v) m h at room q =
     subst (λ u. Allowed n s (send_event m) × IsLaneAt n (after s (send_event m)) (items ++ m ∷ []) (set views pass (with_message (Put f c ms ∷ u) m))) (sym q.0)
-        (put_event n s items views pass f c ms m h (at ∙ ap (λ u. some (Put f c ms ∷ u)) q.0) (let cap = q.1 in omega arith) q.2)
+    (put_event n s items views pass f c ms m h (at ∙ ap (λ u. some (Put f c ms ∷ u)) q.0) (let cap = q.1 in omega arith) q.2)
 send_is_an_event n s items views pass capacity (Close f w c x y ∷ v) m h at room q = close_event n s items views pass f w c x y v m h at (let cap = q.1 in omega arith) q.0 q.2
 
 pub receive_is_an_event : ReceiveIsAnEvent

@@ -1,5 +1,5 @@
 -- Each step of the code is one event of the machine.
-use Rattle.std.proofs.Common.{◌≡◌, ◌≢◌, ◌⊎◌, ⊎_elim, inl, inr, ℕ, zero, suc, ◌+◌, ◌<◌, ◌≤◌, Bool, true, false, cond, ◌==◌, nat_lt, List, [], ◌∷◌, ◌++◌, length, map, drop, take, set, slice_get, Option, Some, None, refl, sym, ap, ◌∙◌, subst, arith, count_by, append-nil, append_assoc, take-append-drop}
+use Rattle.std.proofs.Common.{◌≡◌, ⊎_elim, ℕ, ◌+◌, ◌<◌, true, false, List, [], ◌∷◌, ◌++◌, length, take, set, refl, sym, ap, ◌∙◌, subst, arith, append-nil, append_assoc, take-append-drop}
 use Rattle.std.specs.List.{AllByRecursion}
 use mathlib.Core.Option.{some}
 use lib.ListN.{get_elem?}
@@ -8,13 +8,12 @@ use Rattle.pit_model.specs.declared.block.Block.{Block}
 use Rattle.lane.specs.declared.message.Taken.{Taken}
 use Rattle.lane.specs.declared.message.Taken.TheVariants.{Row, End, Stop, Quit}
 use Rattle.lane.specs.declared.part.Part.{Part}
-use Rattle.lane.specs.declared.part.Part.TheVariants.{Count, Put, Take, Close}
+use Rattle.lane.specs.declared.part.Part.TheVariants.{Put, Take, Close}
 use Rattle.lane.specs.Message.{is_of, of, has_end, is_done, rows_in}
-use Rattle.lane.specs.Machine.{Size, State, opening, Event, PutRow, PutEnd, PutStop, PutQuit, TakeNext, Allowed, with_at, put, take_front, take_next, after, after_all, AreAllowed}
-use Rattle.lane.specs.Lawful.{IsLawful}
-use Rattle.lane.specs.Rule.{Role, Putter, Taker, Closer, IsRole, part_of, role_of, Has, IsSeated, AreSeated, IsLaneAt}
+use Rattle.lane.specs.Machine.{Size, State, opening, Event, PutRow, PutEnd, PutStop, PutQuit, TakeNext, Allowed, with_at, put, take_front, take_next, after, after_all}
+use Rattle.lane.specs.Rule.{Role, Putter, Taker, Closer, IsRole, part_of, IsSeated, AreSeated, IsLaneAt}
 use Rattle.lane.specs.Steps.{IsFree, HasEnded}
-use Rattle.lane.specs.Laws.{RunsStayLawful, leaves, leaving, LeftIsPrefixOfSent, IsPrefixTaken, TakenIsPrefixOfSent}
+use Rattle.lane.specs.Laws.{RunsStayLawful, leaves, leaving, LeftIsPrefixOfSent, TakenIsPrefixOfSent}
 use Rattle.lane.proofs.Lists.{with_at_here, with_at_else, with_at_all}
 use Rattle.lane.proofs.Messages.{of_yes, of_no, of_one, front_yes, front_no}
 use Rattle.lane.proofs.Keeps.{begins, keeps, keeps_all, reaches}
@@ -88,9 +87,9 @@ put_moves : (n : Size) (s : State) (e : Event) (items : List Taken) (views : Lis
     → IsLaneAt n (after s e) (items ++ m ∷ []) (set views pass (Put f c (ms ++ m ∷ []) ∷ []))
 put_moves n s e items views pass f c ms m h at below cap list allowed is =
     moves n s (put f m s) e items (items ++ m ∷ []) views pass (Putter f) (Put f c ms) (Put f c (ms ++ m ∷ [])) [] h at
-        (λ i. Put f (cap i) (list i)) below tt allowed is (ap (λ l. l ++ m ∷ []) h.queue)
-        ((λ i. Put f (cap i) (list i ++ m ∷ [])) ∙ ap (λ l. Put f n.capacity l) (sym (with_at_here s.sent f (s.sent f ++ m ∷ []))))
-        (put_same n s f m)
+    (λ i. Put f (cap i) (list i)) below tt allowed is (ap (λ l. l ++ m ∷ []) h.queue)
+    ((λ i. Put f (cap i) (list i ++ m ∷ [])) ∙ ap (λ l. Put f n.capacity l) (sym (with_at_here s.sent f (s.sent f ++ m ∷ []))))
+    (put_same n s f m)
 
 abbrev pub RowIsAnEvent : Type 0
 RowIsAnEvent =
@@ -143,8 +142,7 @@ pub stop_is : StopIsAnEvent
 stop_is n s items views pass files takers c stops quits v h at free room ended none few =
     let all = h.seated.only pass (Close files takers c stops quits ∷ v) at in
     let p = close_is n s h.seat pass files takers c stops quits all.0 in
-    let allowed : Allowed n s PutStop = (omega (arith, ap (λ (l : List Taken). length l) h.queue, p.2), (λ f l. all_ended n s h.seat pass files v all.1 ended f (omega (arith, p.0))), omega (arith, p.4), omega (arith, p.1, p.3)) in
-    (
+    let allowed : Allowed n s PutStop = (omega (arith, ap (λ (l : List Taken). length l) h.queue, p.2), (λ f l. all_ended n s h.seat pass files v all.1 ended f (omega (arith, p.0))), omega (arith, p.4), omega (arith, p.1, p.3)) in (
       allowed,
       moves n s (after s PutStop) PutStop items (items ++ Stop ∷ []) views pass Closer (Close files takers c stops quits) (Close files takers c (stops + 1) quits) v h at
           (λ i. Close (p.0 i) (p.1 i) (p.2 i) (p.3 i) (p.4 i)) tt free allowed refl (ap (λ l. l ++ Stop ∷ []) h.queue)
@@ -163,8 +161,7 @@ pub quit_is : QuitIsAnEvent
 quit_is n s items views pass files takers c stops quits v h at free room none few =
     let all = h.seated.only pass (Close files takers c stops quits ∷ v) at in
     let p = close_is n s h.seat pass files takers c stops quits all.0 in
-    let allowed : Allowed n s PutQuit = (omega (arith, ap (λ (l : List Taken). length l) h.queue, p.2), omega (arith, p.3), omega (arith, p.1, p.4)) in
-    (
+    let allowed : Allowed n s PutQuit = (omega (arith, ap (λ (l : List Taken). length l) h.queue, p.2), omega (arith, p.3), omega (arith, p.1, p.4)) in (
       allowed,
       moves n s (after s PutQuit) PutQuit items (items ++ Quit ∷ []) views pass Closer (Close files takers c stops quits) (Close files takers c stops (quits + 1)) v h at
           (λ i. Close (p.0 i) (p.1 i) (p.2 i) (p.3 i) (p.4 i)) tt free allowed refl (ap (λ l. l ++ Quit ∷ []) h.queue)
@@ -181,8 +178,7 @@ TakeIsAnEvent =
 pub take_event : TakeIsAnEvent
 take_event n s m items views pass w c ms h at undone =
     let p = take_is n s h.seat pass w c ms (h.seated.only pass (Take w c ms ∷ []) at).0 in
-    let allowed : Allowed n s (TakeNext w) = (p.0, (λ (e : s.queue ≡ []). let z : (m ∷ items) ≡ [] = sym h.queue ∙ e in cc), ap is_done (sym p.2) ∙ undone) in
-    (
+    let allowed : Allowed n s (TakeNext w) = (p.0, (λ (e : s.queue ≡ []). let z : (m ∷ items) ≡ [] = sym h.queue ∙ e in cc), ap is_done (sym p.2) ∙ undone) in (
       allowed,
       moves n s (take_front w m items s) (TakeNext w) (m ∷ items) items views pass (Taker w) (Take w c ms) (Take w c (ms ++ m ∷ [])) [] h at
           (λ i. Take w (p.1 i) (p.2 i)) p.0 tt allowed (ap (λ q. take_next w q s) h.queue) refl
@@ -194,9 +190,9 @@ file_put : (s : State) (pre : List Taken) (f g : ℕ) (m : Taken) → is_of g m 
 file_put s pre f g m is h =
     ap (λ l. of f l ++ of f (s.queue ++ m ∷ [])) (append-nil pre)
     ∙ with_at_all (λ j l. of j pre ++ of j s.queue ≡ s.sent j → of j pre ++ of j (s.queue ++ m ∷ []) ≡ l) s.sent g (s.sent g ++ m ∷ [])
-        (λ q. ap (λ l. of g pre ++ l) (of_yes g s.queue m is) ∙ (sym (append_assoc (of g pre) (of g s.queue) (m ∷ [])) ∙ ap (λ l. l ++ m ∷ []) q))
-        (λ j ne q. ap (λ l. of j pre ++ l) (of_no j s.queue m (of_one g j m is ne)) ∙ q)
-        f h
+    (λ q. ap (λ l. of g pre ++ l) (of_yes g s.queue m is) ∙ (sym (append_assoc (of g pre) (of g s.queue) (m ∷ [])) ∙ ap (λ l. l ++ m ∷ []) q))
+    (λ j ne q. ap (λ l. of j pre ++ l) (of_no j s.queue m (of_one g j m is ne)) ∙ q)
+    f h
 
 mark_put : (s : State) (pre : List Taken) (f : ℕ) (m : Taken) → is_of f m ≡ false → of f pre ++ of f s.queue ≡ s.sent f → of f (pre ++ []) ++ of f (s.queue ++ m ∷ []) ≡ s.sent f
 mark_put s pre f m is h = ap (λ l. of f l ++ of f (s.queue ++ m ∷ [])) (append-nil pre) ∙ (ap (λ l. of f pre ++ l) (of_no f s.queue m is) ∙ h)
@@ -205,9 +201,9 @@ next_taken : (s : State) (pre : List Taken) (f w : ℕ) (q : List Taken) → of 
 next_taken s pre f w [] h e = ap (λ l. of f l ++ of f s.queue) (append-nil pre) ∙ (ap (λ l. of f pre ++ of f l) e ∙ h)
 next_taken s pre f w (m ∷ rest) h e =
     ⊎_elim
-        (λ (t : is_of f m ≡ true). ap (λ l. l ++ of f rest) (of_yes f pre m t) ∙ (append_assoc (of f pre) (m ∷ []) (of f rest) ∙ (ap (λ l. of f pre ++ l) (sym (front_yes f m rest t)) ∙ h)))
-        (λ (t : is_of f m ≡ false). ap (λ l. l ++ of f rest) (of_no f pre m t) ∙ (ap (λ l. of f pre ++ l) (sym (front_no f m rest t)) ∙ h))
-        (cases_Bool (is_of f m))
+    (λ (t : is_of f m ≡ true). ap (λ l. l ++ of f rest) (of_yes f pre m t) ∙ (append_assoc (of f pre) (m ∷ []) (of f rest) ∙ (ap (λ l. of f pre ++ l) (sym (front_yes f m rest t)) ∙ h)))
+    (λ (t : is_of f m ≡ false). ap (λ l. l ++ of f rest) (of_no f pre m t) ∙ (ap (λ l. of f pre ++ l) (sym (front_no f m rest t)) ∙ h))
+    (cases_Bool (is_of f m))
 
 event_leaves : (s : State) (e : Event) (pre : List Taken) (f : ℕ) → of f pre ++ of f s.queue ≡ s.sent f → of f (pre ++ leaves s e) ++ of f (after s e).queue ≡ (after s e).sent f
 event_leaves s (PutRow g b) pre f h = file_put s pre f g (Row g (length (s.sent g)) b) (eq-eqb g g refl) h

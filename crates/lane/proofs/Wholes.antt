@@ -1,17 +1,17 @@
 -- Where all Stops were put and every taker is done, what was handed over is whole.
-use Rattle.std.proofs.Common.{◌≡◌, ◌≢◌, ◌⊎◌, ⊎_elim, inl, inr, ℕ, zero, suc, ◌+◌, ◌<◌, ◌≤◌, Bool, true, false, cond, ◌||◌, nat_lt, List, [], ◌∷◌, ◌++◌, length, map, drop, slice_get, Option, Some, None, refl, sym, ap, ◌∙◌, subst, arith, count_by, sum_by, length-drop, All}
+use Rattle.std.proofs.Common.{◌≡◌, ⊎_elim, ℕ, zero, suc, ◌+◌, ◌<◌, ◌≤◌, Bool, true, false, cond, List, [], ◌∷◌, length, drop, slice_get, Some, None, refl, sym, ap, ◌∙◌, subst, arith, count_by, sum_by, length-drop, All}
 use Rattle.std.specs.List.{AllByRecursion}
-use Rattle.std.proofs.lemmas.Bool.{cases_Bool, cases_eq, cases_lt, lt-ltb, false≢true, true≢false}
+use Rattle.std.proofs.lemmas.Bool.{cases_lt, lt-ltb, false≢true, true≢false}
 use Rattle.std.proofs.lemmas.List.Elements.{All-from_recursion}
 use Rattle.std.proofs.lemmas.List.Sums.{sum_by-cons}
 use Rattle.std.proofs.lemmas.Option.{slice_get_within}
 use Rattle.lane.specs.declared.message.Taken.{Taken}
 use Rattle.lane.specs.declared.message.Taken.TheVariants.{Row, End, Stop, Quit}
-use Rattle.lane.specs.Message.{of, is_at, is_stop, is_quit, is_mark, has_end, is_done, IsEndedFrom, Rises, MarksLast, EndsInStop, AreStops}
+use Rattle.lane.specs.Message.{of, is_at, is_stop, is_quit, is_done, IsEndedFrom, Rises, MarksLast, EndsInStop, AreStops}
 use Rattle.lane.specs.Machine.{Size, State}
 use Rattle.lane.specs.Lawful.{over, IsPlaced, IsLawful}
-use Rattle.lane.specs.Whole.{Gathering, IsSent, IsWhole}
-use Rattle.lane.proofs.Lists.{count_front, over_zero, over_le, over_same}
+use Rattle.lane.specs.Whole.{IsSent, IsWhole}
+use Rattle.lane.proofs.Lists.{count_front, over_le, over_same}
 use Rattle.lane.proofs.Messages.{ended_from}
 
 over_least : (n : ℕ) (g : ℕ → ℕ) → ((k : ℕ) → k < n → 1 ≤ g k) → n ≤ over n g

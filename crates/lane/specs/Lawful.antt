@@ -1,9 +1,9 @@
 -- What holds of the lane between any two events.
-use Rattle.std.specs.Prelude.{◌≡◌, ℕ, zero, suc, ◌+◌, ◌<◌, ◌≤◌, cond, nat_lt, true, List, [], length, drop, map, slice_get, Some, ◌⊎◌}
+use Rattle.std.specs.Prelude.{◌≡◌, ℕ, zero, suc, ◌+◌, ◌<◌, ◌≤◌, cond, nat_lt, true, List, [], length, drop, slice_get, Some, ◌⊎◌}
 use Rattle.std.specs.List.{count_by, AllByRecursion}
 use Rattle.lane.specs.declared.message.Taken.{Taken}
 use Rattle.lane.specs.declared.message.Taken.TheVariants.{Row, End, Stop, Quit}
-use Rattle.lane.specs.Message.{of, position, is_at, is_stop, is_quit, has_end, IsFrom, Rises, MarksLast, AreStops, StopsLast}
+use Rattle.lane.specs.Message.{of, is_at, is_stop, is_quit, has_end, IsFrom, Rises, MarksLast, AreStops, StopsLast}
 use Rattle.lane.specs.Machine.{Size, State}
 
 -- g 0 + g 1 + .. + g (n - 1)

@@ -1,10 +1,9 @@
 -- Laws of the lane: every run of the machine stays lawful, what leaves of a file is a prefix of what it sent, and each kind of step of
 -- the code is one event of the machine.
-use Rattle.std.specs.Prelude.{◌≡◌, ℕ, ◌+◌, ◌<◌, cond, nat_lt, true, false, List, [], ◌∷◌, ◌++◌, length, take, slice_set, Some}
+use Rattle.std.specs.Prelude.{◌≡◌, ℕ, ◌<◌, cond, nat_lt, List, [], ◌∷◌, ◌++◌, length, take, slice_set, Some}
 use Rattle.std.specs.List.{AllByRecursion, count_by}
 use mathlib.Core.Option.{some}
 use lib.ListN.{get_elem?}
-use Rattle.pit_model.specs.declared.block.Block.{Block}
 use Rattle.lane.specs.declared.message.Taken.{Taken}
 use Rattle.lane.specs.declared.message.Taken.TheVariants.{Row, End, Stop, Quit}
 use Rattle.lane.specs.declared.part.Part.{Part}

@@ -108,13 +108,7 @@ impl Closer {
 }
 
 /// The parts of the ended puts join the closer's. Answers the number of their rows.
-fn join_puts(
-    sender: &Sender,
-    pass: &mut Seat,
-    files: u8,
-    takers: u8,
-    puts: Vec<EndedPut>,
-) -> u64
+fn join_puts(sender: &Sender, pass: &mut Seat, files: u8, takers: u8, puts: Vec<EndedPut>) -> u64
     requires seat { IsSeatAt (sends_on sender.now) pass.old }
     requires part { known pass.old ≡ Part.Close files takers (ruled_capacity (sends_on sender.now)) 0 0 ∷ [] }
     requires puts { ArePutsFrom (lane_at (sends_on sender.now)) files 0 puts.items }

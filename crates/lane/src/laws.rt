@@ -6,15 +6,13 @@ ghost use Rattle.lane.specs.Laws.{RunsStayLawful, LeftIsPrefixOfSent, TakenIsPre
 /// From the opening state every sequence of allowed events leaves a lawful state.
 pub fn runs_stay_lawful()
     ensures { RunsStayLawful }
-{
-}
+{}
 
 /// What left of a file is a prefix of what the file sent: along every run in the order of leaving, and in every lawful state.
 pub fn what_left_is_a_prefix()
     ensures runs { LeftIsPrefixOfSent }
     ensures states { TakenIsPrefixOfSent }
-{
-}
+{}
 
 /// Each kind of step of the code is one event of the machine, allowed where it comes, or none.
 pub fn steps_are_events()
@@ -24,5 +22,4 @@ pub fn steps_are_events()
     ensures send { SendIsAnEvent }
     ensures receive { ReceiveIsAnEvent }
     ensures look { LookFindsNothing }
-{
-}
+{}

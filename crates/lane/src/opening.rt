@@ -14,7 +14,9 @@ use crate::closer::Closer;
 use crate::message::Taken;
 use crate::part::Part;
 use crate::put_end::PutEnd;
-use crate::rule::{CountsFile, CountsPlace, CountsTaker, Gives, Opens, Parts, Receiver, Rule, Seat, Sender};
+use crate::rule::{
+    CountsFile, CountsPlace, CountsTaker, Gives, Opens, Parts, Receiver, Rule, Seat, Sender,
+};
 use crate::take_end::TakeEnd;
 use crossbeam_channel::bounded_with;
 use std::alloc::{AllocError, Global};
@@ -44,7 +46,11 @@ pub fn open(
     open_parts(&sender, &mut pass, files, valuers, capacity);
     let puts = put_ends(alloc, &sender, &mut pass, files, valuers)?;
     let takes = take_ends(alloc, &sender, &receiver, &mut pass, files, valuers)?;
-    Ok((Closer::new(sender, receiver, pass, files, valuers), puts, takes))
+    Ok((
+        Closer::new(sender, receiver, pass, files, valuers),
+        puts,
+        takes,
+    ))
 }
 
 fn count_files(sender: &Sender, pass: &mut Seat, files: u8)

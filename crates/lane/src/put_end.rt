@@ -122,7 +122,11 @@ impl EndedPut {
         ensures rows { result ≡ rows_in self.sent }
         ensures few { result ≤ 1000000 }
     {
-        let EndedPut { pass: theirs, rows, .. } = self;
+        let EndedPut {
+            pass: theirs,
+            rows,
+            ..
+        } = self;
         sender.absorb::<Joins>(pass, theirs);
         rows
     }

@@ -1,4 +1,4 @@
-use Rattle.std.proofs.Common.{List, ◌≡◌, ◌∷◌, [], subst, sym, ap, ◌∙◌, refl, length, map, rules}
+use Rattle.std.proofs.Common.{List, ◌≡◌, subst, sym, ◌∙◌, refl, length, map, rules}
 use Rattle.std.specs.Vec.Iter.{into_iter_items}
 use Rattle.crossbeam_channel.specs.Claims.{view}
 use Rattle.crossbeam_channel.specs.Ends.{sends_on, ruled_capacity}
@@ -11,8 +11,7 @@ pub loop-take-init : goal.loop-take-init
 loop-take-init c =
     let all = c.into_iter-take-iterator.ensures.into_iter_gives.0 in
     let sent = sents_in (view c.args.pass.now) in
-    let lane = lane_at (sends_on c.args.sender.now) in
-    (
+    let lane = lane_at (sends_on c.args.sender.now) in (
       c.requires.seat,
       subst (λ (l : List Taking). IsGathering (length sent) c.args.takers (ruled_capacity (sends_on c.args.sender.now)) lane sent l l (view c.args.pass.now)) (sym all) (gather_begin _ _ lane _ _ c.requires.stopped c.requires.takes c.requires.done),
       search rules,
@@ -23,8 +22,7 @@ loop-take-preserved c =
     let loop = c.loop-take in
     let steps = c.in-Some.ensures.steps in
     let sent = sents_in (view c.args.pass.now) in
-    let before = subst (λ (l : List Taking). IsGathering (length sent) c.args.takers (ruled_capacity (sends_on c.args.sender.now)) (lane_at (sends_on c.args.sender.now)) sent (into_iter_items c.into_iter-take-iterator.result) l (view loop.pass)) steps.0 loop.invariant.1 in
-    (
+    let before = subst (λ (l : List Taking). IsGathering (length sent) c.args.takers (ruled_capacity (sends_on c.args.sender.now)) (lane_at (sends_on c.args.sender.now)) sent (into_iter_items c.into_iter-take-iterator.result) l (view loop.pass)) steps.0 loop.invariant.1 in (
       c.join.ensures.seat,
       gather_more _ _ _ _ _ _ _ _ c.in-Some.take _ before c.join.ensures.joined,
       one_less _ _ c.in-Some.take _ _ loop.invariant.2 steps.0 (sym steps.1),

@@ -11,7 +11,7 @@ bounded_with-requires-clause-rule c = starts
 pub returns-clause-puts : goal.returns-clause-puts
 returns-clause-puts c =
     subst (λ lane. ArePutsFrom lane c.args.files 0 c.in_ok-puts.puts.items) (sym (ap (λ (v : Closing). v.lane) c.new.ensures.value))
-        (subst (λ l. ArePutsFrom (lane_at (sends_on c.in_ok-sender.sender)) c.args.files 0 l) (sym c.in_ok-puts.ensures.ends) (first_puts_are _ 0 c.args.files c.args.files (omega arith)))
+    (subst (λ l. ArePutsFrom (lane_at (sends_on c.in_ok-sender.sender)) c.args.files 0 l) (sym c.in_ok-puts.ensures.ends) (first_puts_are _ 0 c.args.files c.args.files (omega arith)))
 
 pub returns-clause-unsent : goal.returns-clause-unsent
 returns-clause-unsent c = subst (λ l. All (λ (p : Putting). p.sent ≡ []) l) (sym c.in_ok-puts.ensures.ends) (first_puts_unsent (lane_at (sends_on c.in_ok-sender.sender)) 0 c.args.files)
@@ -19,7 +19,7 @@ returns-clause-unsent c = subst (λ l. All (λ (p : Putting). p.sent ≡ []) l) 
 pub returns-clause-takes : goal.returns-clause-takes
 returns-clause-takes c =
     subst (λ lane. AreTakesFrom lane c.args.valuers 0 c.in_ok-takes.takes.items) (sym (ap (λ (v : Closing). v.lane) c.new.ensures.value))
-        (subst (λ l. AreTakesFrom (lane_at (sends_on c.in_ok-sender.sender)) c.args.valuers 0 l) (sym c.in_ok-takes.ensures.ends) (first_takes_are _ 0 c.args.valuers c.args.valuers (omega arith)))
+    (subst (λ l. AreTakesFrom (lane_at (sends_on c.in_ok-sender.sender)) c.args.valuers 0 l) (sym c.in_ok-takes.ensures.ends) (first_takes_are _ 0 c.args.valuers c.args.valuers (omega arith)))
 
 pub returns-clause-untaken : goal.returns-clause-untaken
 returns-clause-untaken c = subst (λ l. All (λ (t : Taking). t.took ≡ []) l) (sym c.in_ok-takes.ensures.ends) (first_takes_untaken (lane_at (sends_on c.in_ok-sender.sender)) 0 c.args.valuers)

@@ -16,12 +16,11 @@ new-requires-clause-part c =
 pub loop-file-preserved : goal.loop-file-preserved
 loop-file-preserved c =
     let given = put_given c.loop-file.pass.id _ _ _ _ _ c.loop-file.invariant.1 c.loop-file-test.true in
-    let lane = lane_at (sends_on c.args.sender.now) in
-    (
+    let lane = lane_at (sends_on c.args.sender.now) in (
       c.next_part-part.ensures.seat,
       c.next_part-part.ensures.left ∙ given.1,
       c.in_ok-push.ensures.items
-      ∙ (ap (λ l. l ++ c.new.result ∷ []) c.loop-file.invariant.2
-      ∙ (ap (λ (p : Putting). first_puts lane 0 c.loop-file.file ++ p ∷ []) (c.new.ensures.value ∙ ap (λ channel. record { lane = lane_at channel; file = c.loop-file.file; sent = [] }) c.in_ok-sender_of_file.ensures)
-      ∙ sym (first_puts_next lane c.loop-file.file))),
+          ∙ (ap (λ l. l ++ c.new.result ∷ []) c.loop-file.invariant.2
+          ∙ (ap (λ (p : Putting). first_puts lane 0 c.loop-file.file ++ p ∷ []) (c.new.ensures.value ∙ ap (λ channel. record { lane = lane_at channel; file = c.loop-file.file; sent = [] }) c.in_ok-sender_of_file.ensures)
+          ∙ sym (first_puts_next lane c.loop-file.file))),
     )

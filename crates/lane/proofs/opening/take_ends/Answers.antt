@@ -1,5 +1,5 @@
 use Rattle.std.proofs.Common.{[], ◌∷◌, ◌++◌, sym, ap, ◌∙◌}
-use Rattle.crossbeam_channel.specs.Ends.{sends_on, receives_on, ruled_capacity}
+use Rattle.crossbeam_channel.specs.Ends.{sends_on, ruled_capacity}
 use Rattle.lane.specs.declared.part.Part.TheVariants.{Take}
 use Rattle.lane.specs.Ends.{Taking, first_takes, lane_at}
 use Rattle.lane.proofs.Opens.{take_given, first_takes_next}
@@ -16,12 +16,11 @@ new-requires-clause-part c =
 pub loop-taker-preserved : goal.loop-taker-preserved
 loop-taker-preserved c =
     let given = take_given c.loop-taker.pass.id _ _ _ _ _ c.loop-taker.invariant.1 c.loop-taker-test.true in
-    let lane = lane_at (sends_on c.args.sender.now) in
-    (
+    let lane = lane_at (sends_on c.args.sender.now) in (
       c.next_part-part.ensures.seat,
       c.next_part-part.ensures.left ∙ given.1,
       c.in_ok-push.ensures.items
-      ∙ (ap (λ l. l ++ c.new.result ∷ []) c.loop-taker.invariant.2
-      ∙ (ap (λ (p : Taking). first_takes lane 0 c.loop-taker.taker ++ p ∷ []) (c.new.ensures.value ∙ ap (λ channel. record { lane = lane_at channel; taker = c.loop-taker.taker; took = [] }) (c.in_ok-receiver_of_taker.ensures ∙ c.requires.channel))
-      ∙ sym (first_takes_next lane c.loop-taker.taker))),
+          ∙ (ap (λ l. l ++ c.new.result ∷ []) c.loop-taker.invariant.2
+          ∙ (ap (λ (p : Taking). first_takes lane 0 c.loop-taker.taker ++ p ∷ []) (c.new.ensures.value ∙ ap (λ channel. record { lane = lane_at channel; taker = c.loop-taker.taker; took = [] }) (c.in_ok-receiver_of_taker.ensures ∙ c.requires.channel))
+          ∙ sym (first_takes_next lane c.loop-taker.taker))),
     )
