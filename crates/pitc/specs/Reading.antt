@@ -1,5 +1,5 @@
 -- What reading zone files does to a list of rows.
-use Rattle.std.specs.Prelude.{◌≡◌, ℕ, List, [], ◌∷◌, ◌++◌, Option, Some, None, Result, Ok, Err}
+use Rattle.std.specs.Prelude.{◌≡◌, ℕ, ◌<◌, List, [], ◌∷◌, ◌++◌, Option, Some, None, Result, Ok, Err}
 use Rattle.pit_model.specs.declared.block.Block.{Block}
 use Rattle.pit_model.specs.declared.formula.Formula.{Formula}
 use Rattle.zone_csv.specs.Outlook.{Outlook, Says, NoMemory}
@@ -8,6 +8,10 @@ use Rattle.pitc.specs.Rows.{rows_from}
 use Rattle.valuers.specs.declared.item.Valued.{Valued}
 use Rattle.pitc.specs.declared.refusal.Refusal.{Refusal}
 use Rattle.pitc.specs.declared.refusal.Refusal.TheVariants.{Settings, TooLong, Row, Same, OutOfMemory}
+
+-- the place of a row is one of its file's
+abbrev pub HasPlace : Valued → Type 0
+HasPlace row = row.place < 1000000
 
 -- these rows were added, where there is no fault; or the fault was answered, or memory was refused
 abbrev pub ReadsRows : {A : Type 0} → List Valued → Result A Refusal → List Valued → List Valued → Option Refusal → Type 0
