@@ -4,3 +4,4 @@ mod Lines
 mod Uncut
 mod Walk
 pub mod RowSteps
+pub mod SameFormulas

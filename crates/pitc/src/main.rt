@@ -7,6 +7,7 @@ pub mod piece;
 pub mod pieces;
 pub mod refusal;
 pub mod rows;
+pub mod settings;
 pub mod status;
 
 use std::io;
