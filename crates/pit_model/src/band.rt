@@ -71,7 +71,7 @@ impl Bands {
         ensures value { result.now ≡ self.now }
         ensures kept { AreBands self.now }
     {
-        self.bands.as_slice()
+        &self.bands
     }
 
     /// The same bands in memory of their own. Fails only where memory is refused.

@@ -10,8 +10,8 @@ use crate::name::Name;
 use crate::worth::{dump_worth, leach_worth, mill_worth};
 use std::alloc::{AllocError, Global};
 
-/// How a destination values a block. That its numbers are in range is a condition of the functions that use them; those of a
-/// plan are.
+/// How a destination values a block. That its numbers are in range is a condition of the functions that use them; those of a plan are. `==`
+/// tells whether two formulas are of one kind, with the same numbers.
 #[derive(Debug, Drop)]
 pub enum Formula {
     /// A mill: it recovers `recovery` per mille of the metal, 0 to 1000, which sells for `price` cents per kilogram, 0 to 10^8, and it costs
@@ -56,9 +56,7 @@ impl Formula {
             Formula::Dump { cost } => Formula::Dump { cost: *cost },
         })
     }
-}
 
-impl Formula {
     /// What a block is worth by this formula, in cents.
     pub fn worth(&self, block: Block) -> i128
         requires { IsRuled self.now }
