@@ -1,5 +1,5 @@
 -- One block of a zone file after the other.
-use Rattle.std.proofs.Common.{◌≡◌, ◌≤◌, ◌<◌, ◌+◌, ◌++◌, ℕ, List, [], ◌∷◌, Option, Some, None, Result, Ok, Err, true, false, nat_lt, refl, sym, ◌∙◌, ap, append_assoc, append-nil, arith, length, map}
+use Rattle.std.proofs.Common.{◌≡◌, ◌≤◌, ◌+◌, ◌++◌, ℕ, List, [], ◌∷◌, Option, Some, None, Ok, Err, false, nat_lt, refl, sym, ◌∙◌, ap, append_assoc, append-nil, arith, length}
 use Rattle.std.proofs.lemmas.Bool.Decides.{nat_tests}
 use Rattle.pit_model.specs.declared.block.Block.{Block}
 use Rattle.pit_model.specs.declared.formula.Formula.{Formula}
@@ -10,7 +10,7 @@ use Rattle.zone_csv.specs.Outlook.{Outlook, Says, NoMemory}
 use Rattle.zone_csv.specs.Zone.{fault_of}
 use Rattle.zone_csv.specs.declared.row_fault.RowFault.{RowFault}
 use Rattle.pitc.specs.Reading.{AnswersOf, TellsFault, LeadsTo, ReadsRows}
-use Rattle.pitc.specs.Rows.{rows_from, of_row, file_fault}
+use Rattle.pitc.specs.Rows.{of_row, file_fault}
 use Rattle.pitc.specs.declared.refusal.Refusal.{Refusal}
 use Rattle.pitc.specs.declared.refusal.Refusal.TheVariants.{Settings, TooLong, Row, Same, OutOfMemory}
 

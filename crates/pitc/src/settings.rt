@@ -31,5 +31,5 @@ fn are_same(destinations: &[Destination], formulas: &[NamedFormula]) -> bool
 fn is_same(formula: &Formula, other: &Formula) -> bool
     ensures { IsTrue result ↔ (formula.now ≡ other.now) }
 {
-    formula == other
+    *formula == *other
 }

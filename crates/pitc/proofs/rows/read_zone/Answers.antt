@@ -1,4 +1,4 @@
-use Rattle.std.proofs.Common.{◌≡◌, ◌<◌, ◌≤◌, ◌++◌, Option, Err, sym, ◌∙◌, subst, arith, length, length-append}
+use Rattle.std.proofs.Common.{◌<◌, ◌≤◌, ◌++◌, Option, Err, sym, ◌∙◌, subst, arith, length, length-append}
 use Rattle.std.proofs.lemmas.List.Elements.{All-push}
 use Rattle.std.proofs.lemmas.Result.{err_from_is_err_and}
 use Rattle.zone_csv.specs.Zone.{blocks_of, fault_of}
