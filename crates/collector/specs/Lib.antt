@@ -1,0 +1,6 @@
+pub mod CollectorView
+pub mod Fault
+pub mod Found
+pub mod History
+pub mod Held
+pub mod Lists
