@@ -1,5 +1,5 @@
 -- How the shelves of a collector keep the items that it holds.
-use Rattle.std.specs.Prelude.{◌≡◌, ℕ, ◌+◌, ◌-◌, ◌≤◌, ◌==◌, ◌||◌, cond, nat_le, nat_lt, is_some, List, [], ◌++◌, length, replicate, slice_get, slice_set, Option, Some, None}
+use Rattle.std.specs.Prelude.{◌≡◌, ℕ, ◌+◌, ◌-◌, ◌<◌, ◌≤◌, ◌==◌, ◌||◌, cond, nat_le, nat_lt, is_some, true, List, [], ◌++◌, length, replicate, slice_get, slice_set, Option, Some, None}
 use Rattle.std.specs.Option.{option_and_then, unwrap_or, option_map}
 use Rattle.valuers.specs.declared.item.Item.{Item}
 use Rattle.valuers.specs.declared.item.Item.TheVariants.{Row, End}
@@ -7,7 +7,10 @@ use Rattle.valuers.specs.declared.item.Valued.{Valued}
 use Rattle.collector.specs.declared.shelf.Shelf.{Shelf}
 use Rattle.collector.specs.declared.add_fault.AddFault.{AddFault}
 use Rattle.collector.specs.declared.add_fault.AddFault.TheVariants.{Double, Stranger, AfterEnd, SecondEnd, BadCount}
+use Rattle.collector.specs.declared.finish_fault.FinishFault.{FinishFault}
+use Rattle.collector.specs.declared.finish_fault.FinishFault.TheVariants.{Missing, OutOfMemory}
 use Rattle.collector.specs.Fault.{is_after}
+use Rattle.collector.specs.Lists.{IsOpen}
 use Rattle.collector.specs.Found.{row_at, end_at, has_past}
 
 -- the row itself, if it is of this place
@@ -81,3 +84,20 @@ pub record IsShelved (held : List Item) (file : ℕ) (rows : List Valued) (end :
 pub record IsKept (files : ℕ) (held : List Item) (rows : ℕ → List Valued) (ends : ℕ → Option ℕ) : Type 0 where
   pub outside : (file : ℕ) → files ≤ file → rows file ≡ []
   pub shelved : (file : ℕ) → IsShelved held file (rows file) (ends file)
+
+-- the end mark's count is the number of rows, and each is at its place
+abbrev pub IsFilled : List Valued → Option ℕ → Type 0
+IsFilled rows end = (end ≡ Some (length rows)) × ((place : ℕ) → place < length rows → is_some (slot rows place) ≡ true)
+
+-- the least place with no row, where there is no end mark or the end mark is past it
+abbrev pub IsLacking : List Valued → Option ℕ → ℕ → Type 0
+IsLacking rows end place =
+    (slot rows place ≡ None) × ((other : ℕ) → other < place → is_some (slot rows other) ≡ true) × IsOpen end place
+
+-- the fault names the first shelf that is not filled
+abbrev pub IsFirstLacking : List Shelf → FinishFault → Type 0
+IsFirstLacking shelves (Missing file place) =
+    (file < length shelves)
+    × ((other : ℕ) → other < file → IsFilled (rows_in shelves other) (end_in shelves other))
+    × IsLacking (rows_in shelves file) (end_in shelves file) place
+IsFirstLacking shelves OutOfMemory = ⊥

@@ -1,11 +1,14 @@
 //! What is held of all files.
 
-ghost use Rattle.std.specs.Prelude.{◌≡◌, ℕ, ◌<◌, ◌++◌, [], ◌∷◌, length, cond, ◌==◌, Some, Err, IfOk, IfErr, IfSome, IfNone, OnOk, OnErr};
-ghost use Rattle.collector.specs.CollectorView.{rows_in, end_in, with_row, fault_in, file_of, ArePut, AreSame};
+ghost use Rattle.std.specs.Prelude.{◌≡◌, ℕ, ◌<◌, ◌≤◌, ◌++◌, [], ◌∷◌, length, map, cond, ◌==◌, Some, Err, IfOk, IfErr, IfSome, IfNone, OnOk, OnErr};
+ghost use Rattle.collector.specs.CollectorView.{rows_in, end_in, with_row, fault_in, file_of, ArePut, AreSame, IsFilled, IsFirstLacking};
 ghost use Rattle.collector.specs.Fault.{fault};
+ghost use Rattle.collector.specs.Lists.{AreLists, IsFinishFault};
 
 use crate::add_fault::AddFault;
+use crate::finish_fault::FinishFault;
 use crate::history::History;
+use crate::rows::Rows;
 use crate::shelf::Shelf;
 use std::alloc::{AllocError, Global};
 use std::marker::Model;
@@ -63,6 +66,16 @@ impl Collector {
         put_item(&mut self.shelves, &item)?;
         self.history = self.history.with(&item);
         Ok(())
+    }
+
+    /// Hands over the rows of each file in order of place, or names the first row that is missing.
+    pub fn finish(self) -> Result<Vec<Rows>, FinishFault>
+        ensures lists { IfOk result (λ lists. AreLists self.files self.items lists.items) }
+        ensures missing { IfErr result (IsFinishFault self.files self.items) }
+    {
+        require_filled(&self.shelves)?;
+        let lists = rows_of(self.alloc, self.shelves)?;
+        Ok(lists)
     }
 
     /// What is wrong with an item.
@@ -125,4 +138,33 @@ fn put_end(shelves: &mut [Shelf], file: u8, count: u32)
     ensures count { length shelves.new ≡ length shelves.old }
 {
     shelves[file as usize].end = Some(count);
+}
+
+/// Refuses the first shelf that is not filled.
+fn require_filled(shelves: &[Shelf]) -> Result<(), FinishFault>
+    requires count { length shelves.now ≤ 255 }
+    requires few { (file : ℕ) → length (rows_in shelves.now file) ≤ 1000000 }
+    requires closed { (file count : ℕ) → end_in shelves.now file ≡ Some count → length (rows_in shelves.now file) ≤ count }
+    ensures filled { OnOk result ((file : ℕ) → file < length shelves.now → IsFilled (rows_in shelves.now file) (end_in shelves.now file)) }
+    ensures lacking { IfErr result (IsFirstLacking shelves.now) }
+{
+    for (file, shelf) in shelves.iter().enumerate() {
+        if let Some(place) = shelf.lacking() {
+            return Err(FinishFault::Missing {
+                file: file as u8,
+                place,
+            });
+        }
+    }
+    Ok(())
+}
+
+/// The rows of each shelf.
+fn rows_of(alloc: Global, shelves: Vec<Shelf>) -> Result<Vec<Rows>, AllocError>
+    ensures { IfOk result (λ lists. lists.items ≡ map (λ shelf. shelf.rows.items) shelves.items) }
+{
+    shelves
+        .into_iter()
+        .map(|shelf| Rows::new(shelf.rows))
+        .collect(alloc)
 }

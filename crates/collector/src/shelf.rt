@@ -1,7 +1,7 @@
 //! What is held of one file.
 
-ghost use Rattle.std.specs.Prelude.{◌≡◌, [], is_some, None, OnOk, OnErr};
-ghost use Rattle.collector.specs.CollectorView.{slot, with_row, row_fault, end_fault};
+ghost use Rattle.std.specs.Prelude.{◌≡◌, ℕ, ◌<◌, ◌≤◌, [], length, is_some, true, Some, None, MatchOption, OnOk, OnErr};
+ghost use Rattle.collector.specs.CollectorView.{slot, with_row, row_fault, end_fault, IsFilled, IsLacking};
 
 use crate::add_fault::AddFault;
 use std::alloc::{AllocError, Global};
@@ -74,6 +74,36 @@ impl Shelf {
         }
         Ok(())
     }
+
+    /// The least place with no row, or `None` where each place below the end mark's count has its row.
+    pub fn lacking(&self) -> Option<u32>
+        requires few { length self.now.rows.items ≤ 1000000 }
+        requires closed { (count : ℕ) → self.now.end ≡ Some count → length self.now.rows.items ≤ count }
+        ensures { MatchOption result (IsFilled self.now.rows.items self.now.end) (IsLacking self.now.rows.items self.now.end) }
+    {
+        let place = open_place(&self.rows);
+        if self.end == Some(place) {
+            None
+        } else {
+            Some(place)
+        }
+    }
+}
+
+/// The least place that has no row.
+fn open_place(rows: &[Valued]) -> u32
+    requires { length rows.now ≤ 1000000 }
+    ensures within { result ≤ length rows.now }
+    ensures none { slot rows.now result ≡ None }
+    ensures least { (place : ℕ) → place < result → is_some (slot rows.now place) ≡ true }
+{
+    let count = rows.len() as u32;
+    for place in 0..count {
+        if !holds(rows, place) {
+            return place;
+        }
+    }
+    count
 }
 
 /// Whether the row of this place is among these.
