@@ -1,10 +1,10 @@
 -- What the shelves hand over, or lack.
-use Rattle.std.proofs.Common.{◌≡◌, ℕ, suc, zero, ◌+◌, ◌<◌, ◌≤◌, Bool, true, false, cond, eqb, is_some, List, [], ◌∷◌, ◌++◌, length, map, Option, Some, None, refl, sym, ap, subst, ◌∙◌, ⊎_elim, arith}
+use Rattle.std.proofs.Common.{◌≡◌, ℕ, suc, zero, ◌<◌, ◌≤◌, true, eqb, is_some, List, [], ◌∷◌, length, map, Option, Some, None, sym, ap, subst, ◌∙◌, ⊎_elim, arith}
 use Rattle.std.proofs.lemmas.List.{length-map}
 use Rattle.std.specs.List.{slice_get}
-use Rattle.std.specs.Option.{option_and_then, option_map}
+use Rattle.std.specs.Option.{option_and_then}
 use Rattle.std.proofs.lemmas.Bool.{cases_lt, cases_Bool, cond-true, cond-false, false≢true}
-use Rattle.std.proofs.lemmas.Option.{slice_get_past, slice_get_within, slice_get-map, none-some, same_Some}
+use Rattle.std.proofs.lemmas.Option.{slice_get_past, none-some, same_Some}
 use Rattle.valuers.specs.declared.item.Item.{Item}
 use Rattle.valuers.specs.declared.item.Valued.{Valued}
 use Rattle.collector.specs.declared.finish_fault.FinishFault.{FinishFault}
@@ -13,7 +13,6 @@ use Rattle.collector.specs.declared.shelf.Shelf.{Shelf}
 use Rattle.collector.specs.CollectorView.{if_at, slot, rows_in, end_in, IsKept, IsShelved, IsFilled, IsFirstLacking}
 use Rattle.collector.specs.Held.{Held}
 use Rattle.collector.specs.Lists.{AreLists, IsFull, IsOpen, IsMissing, IsFinishFault}
-use Rattle.collector.specs.Found.{row_at, end_at}
 use Rattle.collector.proofs.Slots.{slot-past}
 
 -- a slot that has a row has the row at its index

@@ -1,3 +1,4 @@
+pub mod Complete
 pub mod Finished
 pub mod Kept
 pub mod Shelves

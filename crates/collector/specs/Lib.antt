@@ -1,4 +1,5 @@
 pub mod CollectorView
+pub mod Complete
 pub mod Fault
 pub mod Found
 pub mod History

@@ -168,3 +168,6 @@ fn rows_of(alloc: Global, shelves: Vec<Shelf>) -> Result<Vec<Rows>, AllocError>
         .map(|shelf| Rows::new(shelf.rows))
         .collect(alloc)
 }
+
+#[cfg(test)]
+mod tests;

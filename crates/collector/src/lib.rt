@@ -6,6 +6,7 @@ mod add_fault;
 mod collector;
 mod finish_fault;
 mod history;
+pub mod laws;
 mod rows;
 mod shelf;
 
