@@ -1,20 +1,9 @@
 -- What contracts see of the ends of a lane.
-use Rattle.std.specs.Prelude.{◌≡◌, ℕ, zero, suc, ◌+◌, ◌-◌, ◌*◌, ◌<◌, ◌≤◌, true, false, List, [], ◌∷◌, ◌++◌, length, map, replicate}
-use Rattle.std.specs.List.{AllByRecursion, sum_by}
+use Rattle.std.specs.Prelude.{◌≡◌, ℕ, ◌+◌, List, [], ◌∷◌}
 use Rattle.atomic_table.specs.declared.badge.Badge.{Badge}
 use Rattle.atomic_table.specs.Seated.{TableId}
-use Rattle.crossbeam_channel.specs.declared.flavors.array.Doing.{Doing}
 use Rattle.crossbeam_channel.specs.declared.flavors.array.Key.{Key}
-use Rattle.crossbeam_channel.specs.declared.flavors.array.Rows.{Rows}
-use Rattle.crossbeam_channel.specs.Claims.{Pass, view}
 use Rattle.lane.specs.declared.message.Taken.{Taken}
-use Rattle.lane.specs.declared.part.Part.{Part}
-use Rattle.lane.specs.declared.part.Part.TheVariants.{Count, Put, Take, Close}
-use Rattle.lane.specs.Message.{has_end, is_done, rows_in, IsFrom, IsEndedFrom}
-use Rattle.lane.specs.Whole.{Gathering, IsWhole}
-use Rattle.lane.specs.Rule.{put_parts, take_parts}
-use Rattle.lane.specs.Steps.{full_view, IsFull}
-use Rattle.lane.specs.Views.{IsOrdered, capacity_in, sent_in, took_in, sents_in, tooks_in, gathering_in}
 
 -- which lane: its channel, and the channel's capacity
 abbrev pub Lane : Type 0

@@ -5,9 +5,8 @@ use Rattle.lane.specs.declared.message.Taken.{Taken}
 use Rattle.lane.specs.declared.message.Taken.TheVariants.{Row, End, Stop, Quit}
 use Rattle.lane.specs.declared.part.Part.{Part}
 use Rattle.lane.specs.declared.part.Part.TheVariants.{Count, Put, Take, Close}
-use Rattle.lane.specs.Message.{has_end, is_done, is_stop, is_quit, rows_in, Rises, EndsClose, MarksLast}
-use Rattle.lane.specs.Rule.{Role, Closer, role_of, Has, put_parts, take_parts, all_parts}
-use Rattle.lane.specs.Whole.{Gathering}
+use Rattle.lane.specs.Message.{has_end, is_done, is_stop, is_quit, rows_in}
+use Rattle.lane.specs.Rule.{Role, Closer, role_of, Has, put_parts, take_parts}
 
 -- a part after its pass sent or took the message
 abbrev pub more_part : Part → Taken → Part
@@ -59,6 +58,7 @@ MayTake (Put file capacity sent ∷ v) = ⊥
 MayTake (Take taker capacity took ∷ v) = (v ≡ []) × (is_done took ≡ false)
 MayTake (Close files takers capacity stops quits ∷ v) = ⊥
 
+-- the taker of the first part
 abbrev pub taker_in : List Part → ℕ
 taker_in [] = 0
 taker_in (Count files takers capacity ∷ v) = 0

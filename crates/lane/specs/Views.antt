@@ -1,12 +1,10 @@
 -- What a view tells, and how views change as a lane is opened.
-use Rattle.std.specs.Prelude.{◌≡◌, ℕ, ◌+◌, ◌<◌, true, false, cond, List, [], ◌∷◌, ◌++◌, length, Some}
-use Rattle.std.specs.List.{AllByRecursion}
+use Rattle.std.specs.Prelude.{◌≡◌, ℕ, ◌+◌, List, [], ◌∷◌}
 use Rattle.lane.specs.declared.message.Taken.{Taken}
-use Rattle.lane.specs.declared.message.Taken.TheVariants.{Row, End, Stop, Quit}
 use Rattle.lane.specs.declared.part.Part.{Part}
 use Rattle.lane.specs.declared.part.Part.TheVariants.{Count, Put, Take, Close}
-use Rattle.lane.specs.Message.{has_end, is_done, is_stop, is_quit, rows_in, Rises, EndsClose, MarksLast}
-use Rattle.lane.specs.Rule.{Role, Closer, role_of, Has, put_parts, take_parts, all_parts}
+use Rattle.lane.specs.Message.{Rises, EndsClose, MarksLast}
+use Rattle.lane.specs.Rule.{all_parts}
 use Rattle.lane.specs.Whole.{Gathering}
 use Rattle.lane.specs.Steps.{with_message}
 
