@@ -7,7 +7,7 @@ use Rattle.lane.specs.declared.message.Taken.TheVariants.{Row, End, Stop, Quit}
 use Rattle.lane.specs.Message.{is_of, of, position, IsRising, Rises, EndsClose, IsFrom}
 use Rattle.lane.specs.Machine.{Size, State}
 use Rattle.lane.specs.Lawful.{IsPlaced, IsLawful}
-use Rattle.lane.specs.Steps.{IsOrdered}
+use Rattle.lane.specs.Views.{IsOrdered}
 use Rattle.lane.proofs.Messages.{front_yes, placed_below, end_is_last}
 
 rising_tail : (m : Taken) (rest : List Taken) (b : Bool) → IsRising (map position (cond b (m ∷ rest) rest)) → IsRising (map position rest)

@@ -4,5 +4,7 @@ pub mod Lawful
 pub mod Whole
 pub mod Rule
 pub mod Steps
+pub mod Views
 pub mod Laws
 pub mod Ends
+pub mod Kept

@@ -5,9 +5,8 @@ use Rattle.lane.specs.declared.message.Taken.{Taken}
 use Rattle.lane.specs.declared.message.Taken.TheVariants.{Row, End, Stop, Quit}
 use Rattle.lane.specs.declared.part.Part.{Part}
 use Rattle.lane.specs.declared.part.Part.TheVariants.{Count, Put, Take, Close}
-use Rattle.lane.specs.Message.{has_end, is_done, is_stop, is_quit, rows_in, Rises, EndsClose, MarksLast}
-use Rattle.lane.specs.Rule.{Role, Closer, role_of, Has, put_parts, take_parts, all_parts}
-use Rattle.lane.specs.Whole.{Gathering}
+use Rattle.lane.specs.Message.{has_end, is_done, is_stop, is_quit, rows_in}
+use Rattle.lane.specs.Rule.{Role, Closer, role_of, Has, put_parts, take_parts}
 
 -- a part after its pass sent or took the message
 abbrev pub more_part : Part → Taken → Part
@@ -59,62 +58,13 @@ MayTake (Put file capacity sent ∷ v) = ⊥
 MayTake (Take taker capacity took ∷ v) = (v ≡ []) × (is_done took ≡ false)
 MayTake (Close files takers capacity stops quits ∷ v) = ⊥
 
--- what holds of what one taker took: positions of one file rise, nothing of a file follows its end mark, and Stop or Quit is last
-pub record IsOrdered (took : List Taken) : Type 0 where
-  pub rises : Rises took
-  pub ends : EndsClose took
-  pub marks : MarksLast took
-
--- what the first part of a view knows: its list, its taker, and the capacity
-abbrev pub sent_in : List Part → List Taken
-sent_in [] = []
-sent_in (Count files takers capacity ∷ v) = []
-sent_in (Put file capacity sent ∷ v) = sent
-sent_in (Take taker capacity took ∷ v) = []
-sent_in (Close files takers capacity stops quits ∷ v) = []
-
-abbrev pub took_in : List Part → List Taken
-took_in [] = []
-took_in (Count files takers capacity ∷ v) = []
-took_in (Put file capacity sent ∷ v) = []
-took_in (Take taker capacity took ∷ v) = took
-took_in (Close files takers capacity stops quits ∷ v) = []
-
+-- the taker of the first part
 abbrev pub taker_in : List Part → ℕ
 taker_in [] = 0
 taker_in (Count files takers capacity ∷ v) = 0
 taker_in (Put file capacity sent ∷ v) = 0
 taker_in (Take taker capacity took ∷ v) = taker
 taker_in (Close files takers capacity stops quits ∷ v) = 0
-
-abbrev pub capacity_in : List Part → ℕ
-capacity_in [] = 0
-capacity_in (Count files takers capacity ∷ v) = capacity
-capacity_in (Put file capacity sent ∷ v) = capacity
-capacity_in (Take taker capacity took ∷ v) = capacity
-capacity_in (Close files takers capacity stops quits ∷ v) = capacity
-
--- a take tells that the message joined the taker's list, which is in order
-abbrev pub Takes : List Part → Taken → List Part → Type 0
-Takes v m w = (w ≡ with_message v m) × IsOrdered (took_in w)
-
--- the lists of all put parts, and of all take parts
-abbrev pub sents_in : List Part → List (List Taken)
-sents_in [] = []
-sents_in (Count files takers capacity ∷ v) = sents_in v
-sents_in (Put file capacity sent ∷ v) = sent ∷ sents_in v
-sents_in (Take taker capacity took ∷ v) = sents_in v
-sents_in (Close files takers capacity stops quits ∷ v) = sents_in v
-
-abbrev pub tooks_in : List Part → List (List Taken)
-tooks_in [] = []
-tooks_in (Count files takers capacity ∷ v) = tooks_in v
-tooks_in (Put file capacity sent ∷ v) = tooks_in v
-tooks_in (Take taker capacity took ∷ v) = took ∷ tooks_in v
-tooks_in (Close files takers capacity stops quits ∷ v) = tooks_in v
-
-abbrev pub gathering_in : List Part → Gathering
-gathering_in v = record { sent = sents_in v; took = tooks_in v }
 
 -- the view of a closer that has all parts, once all Stops were put
 abbrev pub full_view : ℕ → ℕ → ℕ → List (List Taken) → List (List Taken) → List Part
@@ -126,42 +76,3 @@ pub record IsFull (takers files : ℕ) (sent took : List (List Taken)) : Type 0 
   pub all_takers : length took ≡ takers
   pub some_taker : 0 < takers
   pub done : AllByRecursion (λ l. is_done l ≡ true) took
-
--- how the views change as the lane is opened: one more file, taker or place; the count becomes all parts; the second part moves to a new pass
-abbrev pub more_files : List Part → List Part
-more_files [] = []
-more_files (Count files takers capacity ∷ v) = Count (files + 1) takers capacity ∷ v
-more_files (Put file capacity sent ∷ v) = []
-more_files (Take taker capacity took ∷ v) = []
-more_files (Close files takers capacity stops quits ∷ v) = []
-
-abbrev pub more_takers : List Part → List Part
-more_takers [] = []
-more_takers (Count files takers capacity ∷ v) = Count files (takers + 1) capacity ∷ v
-more_takers (Put file capacity sent ∷ v) = []
-more_takers (Take taker capacity took ∷ v) = []
-more_takers (Close files takers capacity stops quits ∷ v) = []
-
-abbrev pub more_places : List Part → List Part
-more_places [] = []
-more_places (Count files takers capacity ∷ v) = Count files takers (capacity + 1) ∷ v
-more_places (Put file capacity sent ∷ v) = []
-more_places (Take taker capacity took ∷ v) = []
-more_places (Close files takers capacity stops quits ∷ v) = []
-
-abbrev pub opened_view : List Part → List Part
-opened_view [] = []
-opened_view (Count files takers capacity ∷ v) = all_parts files takers capacity
-opened_view (Put file capacity sent ∷ v) = []
-opened_view (Take taker capacity took ∷ v) = []
-opened_view (Close files takers capacity stops quits ∷ v) = []
-
-abbrev pub without_second : List Part → List Part
-without_second [] = []
-without_second (first ∷ []) = first ∷ []
-without_second (first ∷ second ∷ rest) = first ∷ rest
-
-abbrev pub second_alone : List Part → List Part
-second_alone [] = []
-second_alone (first ∷ []) = []
-second_alone (first ∷ second ∷ rest) = second ∷ []

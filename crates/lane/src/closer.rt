@@ -6,8 +6,9 @@ ghost use Rattle.crossbeam_channel.specs.Claims.{view as known, IsSeatAt};
 ghost use Rattle.crossbeam_channel.specs.Ends.{sends_on, receives_on, ruled_capacity};
 ghost use Rattle.lane.specs.Message.{is_done, rows_in};
 ghost use Rattle.lane.specs.Rule.{put_parts};
-ghost use Rattle.lane.specs.Steps.{sents_in, tooks_in};
-ghost use Rattle.lane.specs.Ends.{ArePutsFrom, AreTakesFrom, IsJoined, IsStopping, IsAllIn, lane_at};
+ghost use Rattle.lane.specs.Views.{sents_in, tooks_in};
+ghost use Rattle.lane.specs.Ends.{ArePutsFrom, AreTakesFrom};
+ghost use Rattle.lane.specs.Kept.{IsJoined, IsStopping, IsAllIn, lane_at};
 ghost use Rattle.lane.specs.Whole.{IsWhole};
 
 use crate::channel::{look, put};
@@ -34,7 +35,8 @@ impl Model for Closer {
     ghost use Rattle.std.specs.Prelude.{◌≡◌};
     ghost use Rattle.crossbeam_channel.specs.Claims.{view as known, IsSeatAt};
     ghost use Rattle.crossbeam_channel.specs.Ends.{sends_on, receives_on, ruled_capacity};
-    ghost use Rattle.lane.specs.Ends.{Closing, closing_of, IsCloser};
+    ghost use Rattle.lane.specs.Ends.{Closing};
+    ghost use Rattle.lane.specs.Kept.{closing_of, IsCloser};
 
     ghost Value = { Closing };
 
@@ -164,8 +166,9 @@ impl Model for Stopped {
     ghost use Rattle.crossbeam_channel.specs.Ends.{sends_on, receives_on, ruled_capacity};
     ghost use Rattle.std.specs.List.{sum_by};
     ghost use Rattle.lane.specs.Message.{rows_in};
-    ghost use Rattle.lane.specs.Steps.{sents_in};
-    ghost use Rattle.lane.specs.Ends.{Stopping, stopping_of, IsStopping};
+    ghost use Rattle.lane.specs.Views.{sents_in};
+    ghost use Rattle.lane.specs.Ends.{Stopping};
+    ghost use Rattle.lane.specs.Kept.{stopping_of, IsStopping};
 
     ghost Value = { Stopping };
 

@@ -6,9 +6,10 @@ ghost use Rattle.crossbeam_channel.specs.Claims.{view, IsSeatAt};
 ghost use Rattle.crossbeam_channel.specs.Ends.{sends_on, receives_on, ruled_capacity};
 ghost use Rattle.crossbeam_channel.specs.Fifo.{Forks};
 ghost use Rattle.lane.specs.declared.part.Part.TheVariants.{Count};
-ghost use Rattle.lane.specs.Ends.{ArePutsFrom, AreTakesFrom, first_puts, first_takes, lane_at, puts_left, takes_left};
+ghost use Rattle.lane.specs.Ends.{ArePutsFrom, AreTakesFrom};
+ghost use Rattle.lane.specs.Kept.{first_puts, first_takes, lane_at, puts_left, takes_left};
 ghost use Rattle.lane.specs.Rule.{IsLane, all_parts};
-ghost use Rattle.lane.specs.Steps.{without_second, second_alone};
+ghost use Rattle.lane.specs.Views.{without_second, second_alone};
 
 use crate::closer::Closer;
 use crate::message::Taken;

@@ -3,7 +3,7 @@
 ghost use Rattle.std.specs.Prelude.{◌≡◌, ◌<◌, ◌≤◌, ◌++◌, true, [], ◌∷◌, length};
 ghost use Rattle.crossbeam_channel.specs.Claims.{view as known, IsSeatAt};
 ghost use Rattle.crossbeam_channel.specs.Ends.{sends_on, ruled_capacity};
-ghost use Rattle.lane.specs.Ends.{IsClosers, lane_at};
+ghost use Rattle.lane.specs.Kept.{IsClosers, lane_at};
 ghost use Rattle.lane.specs.Message.{has_end, rows_in, IsEndedFrom};
 
 use crate::channel::put;
@@ -27,8 +27,9 @@ impl Model for PutEnd {
     ghost use Rattle.std.specs.Prelude.{◌≡◌};
     ghost use Rattle.crossbeam_channel.specs.Claims.{view as known, IsSeatAt};
     ghost use Rattle.crossbeam_channel.specs.Ends.{sends_on, ruled_capacity};
-    ghost use Rattle.lane.specs.Steps.{capacity_in};
-    ghost use Rattle.lane.specs.Ends.{Putting, putting_of, IsOpenPut};
+    ghost use Rattle.lane.specs.Views.{capacity_in};
+    ghost use Rattle.lane.specs.Ends.{Putting};
+    ghost use Rattle.lane.specs.Kept.{putting_of, IsOpenPut};
 
     ghost Value = { Putting };
 
@@ -101,7 +102,8 @@ pub struct EndedPut {
 impl Model for EndedPut {
     ghost use Rattle.std.specs.Prelude.{◌≡◌, []};
     ghost use Rattle.crossbeam_channel.specs.Claims.{view as known};
-    ghost use Rattle.lane.specs.Ends.{Putting, putting_of, IsEndedPut};
+    ghost use Rattle.lane.specs.Ends.{Putting};
+    ghost use Rattle.lane.specs.Kept.{putting_of, IsEndedPut};
 
     ghost Value = { Putting };
 

@@ -3,7 +3,7 @@
 ghost use Rattle.std.specs.Prelude.{◌≡◌, false, ◌++◌, [], ◌∷◌};
 ghost use Rattle.crossbeam_channel.specs.Claims.{view as known, IsSeatAt};
 ghost use Rattle.crossbeam_channel.specs.Ends.{sends_on, receives_on, ruled_capacity};
-ghost use Rattle.lane.specs.Ends.{IsClosers, lane_at};
+ghost use Rattle.lane.specs.Kept.{IsClosers, lane_at};
 ghost use Rattle.lane.specs.Message.{is_done, ends_in_mark, Rises, EndsClose, MarksLast};
 
 use crate::channel::take;
@@ -27,8 +27,9 @@ impl Model for TakeEnd {
     ghost use Rattle.crossbeam_channel.specs.Claims.{view as known, IsSeatAt};
     ghost use Rattle.crossbeam_channel.specs.Ends.{receives_on};
     ghost use Rattle.lane.specs.Message.{is_done};
-    ghost use Rattle.lane.specs.Steps.{took_in};
-    ghost use Rattle.lane.specs.Ends.{Taking, taking_of, IsTake};
+    ghost use Rattle.lane.specs.Views.{took_in};
+    ghost use Rattle.lane.specs.Ends.{Taking};
+    ghost use Rattle.lane.specs.Kept.{taking_of, IsTake};
 
     ghost Value = { Taking };
 

@@ -2,7 +2,8 @@ use Rattle.std.proofs.Common.{List, subst, sym, ◌∙◌, ◌≤◌, arith}
 use Rattle.std.specs.Vec.Iter.{into_iter_items}
 use Rattle.crossbeam_channel.specs.Claims.{view}
 use Rattle.crossbeam_channel.specs.Ends.{sends_on, ruled_capacity}
-use Rattle.lane.specs.Ends.{Putting, IsJoining, lane_at}
+use Rattle.lane.specs.Ends.{Putting}
+use Rattle.lane.specs.Kept.{IsJoining, lane_at}
 use Rattle.lane.proofs.Joining.{join_more, one_less}
 use Rattle.lane.proofs.closer.join_puts.Goals as goal
 

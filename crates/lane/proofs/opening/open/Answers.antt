@@ -1,6 +1,7 @@
 use Rattle.std.proofs.Common.{◌≡◌, [], All, sym, ap, subst, arith}
 use Rattle.crossbeam_channel.specs.Ends.{sends_on}
-use Rattle.lane.specs.Ends.{Putting, Taking, Closing, ArePutsFrom, AreTakesFrom, lane_at}
+use Rattle.lane.specs.Ends.{Putting, Taking, Closing, ArePutsFrom, AreTakesFrom}
+use Rattle.lane.specs.Kept.{lane_at}
 use Rattle.lane.proofs.Rules.{starts}
 use Rattle.lane.proofs.Opens.{first_puts_are, first_takes_are, first_puts_unsent, first_takes_untaken}
 use Rattle.lane.proofs.opening.open.Goals as goal
