@@ -1,3 +1,4 @@
 pub mod Count
 pub mod Device
+pub mod Lines
 pub mod Tray

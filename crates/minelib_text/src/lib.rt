@@ -3,4 +3,6 @@
 
 mod count;
 pub mod mem_sink;
+mod output;
 pub mod sink;
+pub mod write_fault;
