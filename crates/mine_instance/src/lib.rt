@@ -1,0 +1,8 @@
+//! The instance of a model, by its parts.
+#![tactic(auto)]
+
+pub mod blocks;
+pub mod coef;
+pub mod limits;
+pub mod rising;
+pub mod values;
