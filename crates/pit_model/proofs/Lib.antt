@@ -2,3 +2,4 @@ pub mod CellFacts
 pub mod Names
 pub mod RecordSteps
 pub mod PlanSteps
+pub mod Limits

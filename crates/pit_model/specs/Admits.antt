@@ -26,3 +26,7 @@ abbrev pub Names : Result (List ℕ) RecordError → Result (List ℕ) PlanFault
 Names (Ok name) stated = stated ≡ Ok name
 Names (Err (record_error.Fault kind)) stated = stated ≡ Err kind
 Names (Err record_error.OutOfMemory) stated = Unit {0}
+
+-- the destinations that a record covers, or its fault
+abbrev pub Covered : Result (List ℕ) RecordError → Result (List ℕ) PlanFaultKind → Type 0
+Covered = Names

@@ -1,5 +1,5 @@
 -- What a plan is: its parts, and the facts that every plan keeps.
-use Rattle.std.specs.Prelude.{◌≡◌, ℕ, ◌<◌, ◌≤◌, ◌^◌, List, [], ◌∷◌, length, ℤ, pos, negsuc, ◌≤ℤ◌, All, ◌⊎◌}
+use Rattle.std.specs.Prelude.{◌≡◌, ℕ, ◌<◌, ◌≤◌, ◌^◌, List, [], ◌∷◌, length, ℤ, pos, negsuc, ◌≤ℤ◌, All, Bool, true, ◌==◌, ◌&&◌, ◌||◌, nat_lt}
 use Rattle.pit_model.specs.declared.grid.Axis.{Axis}
 use Rattle.pit_model.specs.declared.grid.Grid.{Grid}
 use Rattle.pit_model.specs.declared.cone.Slope.{Slope}
@@ -62,15 +62,26 @@ IsRuled (Dump cost) = cost ≤ 10 ^ 7
 abbrev pub IsTonnes : ℤ → Type 0
 IsTonnes v = (pos 0 ≤ℤ v) × (v ≤ℤ pos (10 ^ 18))
 
+-- the numbers of a bound are tonnes
+abbrev pub AreTonnes : Bound → Type 0
+AreTonnes (AtMost v) = IsTonnes v
+AreTonnes (AtLeast v) = IsTonnes v
+AreTonnes (Between v w) = IsTonnes v × IsTonnes w
+
+-- and an interval's ends are the right way round
 abbrev pub IsBound : Bound → Type 0
 IsBound (AtMost v) = IsTonnes v
 IsBound (AtLeast v) = IsTonnes v
 IsBound (Between v w) = IsTonnes v × IsTonnes w × (v ≤ℤ w)
 
--- limits rise strictly by resource, then period
+-- a limit stands before another, by resource and then by period
+abbrev pub stands_before : Limit → Limit → Bool
+stands_before l m = nat_lt l.resource m.resource || ((l.resource == m.resource) && nat_lt l.period m.period)
+
+-- limits rise strictly
 abbrev pub RiseStrictly : List Limit → Type 0
 RiseStrictly [] = Unit {0}
-RiseStrictly (l ∷ ls) = All (λ m. (l.resource < m.resource) ⊎ ((l.resource ≡ m.resource) × (l.period < m.period))) ls × RiseStrictly ls
+RiseStrictly (l ∷ ls) = All (λ m. stands_before l m ≡ true) ls × RiseStrictly ls
 
 -- what every plan keeps
 pub record IsPlan (p : PlanParts) : Type 0 where

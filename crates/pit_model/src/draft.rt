@@ -1,20 +1,27 @@
 //! A plan while its records are read.
 
-ghost use Rattle.std.specs.Prelude.{◌≡◌, ◌≤ℤ◌, ◌^◌, pos, length, IfOk};
+ghost use Rattle.std.specs.Prelude.{◌≡◌, ◌≤ℤ◌, ◌^◌, ◌<◌, pos, length, unwrap_or, IfOk};
 ghost use Rattle.csv.specs.Records.{fields_of};
-ghost use Rattle.pit_model.specs.Admits.{Admits, Names};
+ghost use Rattle.pit_model.specs.Admits.{Admits};
 ghost use Rattle.pit_model.specs.Cells.{cells_of};
-ghost use Rattle.pit_model.specs.Planned.{admit, admit_name, admit_grid, admit_zone, admit_dump, admit_periods, admit_rate, blank_draft, finished, name_in, number_in, is_taken};
+ghost use Rattle.pit_model.specs.Plan.{AreTonnes};
+ghost use Rattle.pit_model.specs.Planned.{admit, admit_name, admit_grid, admit_zone, admit_dump, admit_periods, admit_rate, admit_resource, admit_limit, blank_draft, finished, number_in, with_bound};
 
-use crate::cells::{cell_at, cell_count, is_word};
-use crate::cone::{Cone, Slope};
+use crate::cells::{cell_at, cell_count};
+use crate::cone::Cone;
 use crate::formula::{Formula, NamedFormula};
 use crate::grid::{Axis, Grid};
+use crate::limit::Limit;
+use crate::limit_cells::{bound_in, insert_limit, is_limited, is_turned, limit_width, period_in};
 use crate::name::Name;
+use crate::named::{covers_in, has_repeat, is_resource, is_taken, name_in, resource_in};
 use crate::numbers::{number_in, origin_in, size_in, whole_in};
 use crate::plan::Plan;
 use crate::plan_fault::{PlanFaultKind, RecordError};
-use crate::ranges::{MAX_DESTINATIONS, MAX_ZONES};
+use crate::plan_key::{PlanKey, key_of};
+use crate::ranges::{MAX_DESTINATIONS, MAX_RESOURCES, MAX_ZONES};
+use crate::resource::Resource;
+use crate::zone_cells::cone_in;
 use csv::ByteRecord;
 use pit_units::Dec;
 use std::alloc::Global;
@@ -30,6 +37,8 @@ pub struct Draft {
     formulas: Vec<NamedFormula>,
     periods: Option<u8>,
     rate: Option<Dec>,
+    resources: Vec<Resource>,
+    limits: Vec<Limit>,
 }
 
 impl Model for Draft {
@@ -57,6 +66,8 @@ impl Draft {
             formulas: Vec::new(alloc),
             periods: None,
             rate: None,
+            resources: Vec::new(alloc),
+            limits: Vec::new(alloc),
         }
     }
 
@@ -65,23 +76,19 @@ impl Draft {
         ensures { Admits self.new result (admit self.old (cells_of (fields_of row.now))) }
     {
         let count = cell_count(row);
-        let key = cell_at(row, 0);
         if count == 0 {
-            Ok(())
-        } else if is_word(key, b"name") {
-            self.admit_name(row, count)
-        } else if is_word(key, b"grid") {
-            self.admit_grid(row, count)
-        } else if is_word(key, b"zone") {
-            self.admit_zone(row, count)
-        } else if is_word(key, b"dump") {
-            self.admit_dump(row, count)
-        } else if is_word(key, b"periods") {
-            self.admit_periods(row, count)
-        } else if is_word(key, b"rate") {
-            self.admit_rate(row, count)
-        } else {
-            Err(RecordError::Fault(PlanFaultKind::Key))
+            return Ok(());
+        }
+        match key_of(cell_at(row, 0)) {
+            None => Err(RecordError::Fault(PlanFaultKind::Key)),
+            Some(PlanKey::Name) => self.admit_name(row, count),
+            Some(PlanKey::Grid) => self.admit_grid(row, count),
+            Some(PlanKey::Zone) => self.admit_zone(row, count),
+            Some(PlanKey::Dump) => self.admit_dump(row, count),
+            Some(PlanKey::Periods) => self.admit_periods(row, count),
+            Some(PlanKey::Rate) => self.admit_rate(row, count),
+            Some(PlanKey::Resource) => self.admit_resource(row, count),
+            Some(PlanKey::Limit) => self.admit_limit(row, count),
         }
     }
 
@@ -100,7 +107,6 @@ impl Draft {
         if self.cones.is_empty() || self.formulas.is_empty() {
             return Err(PlanFaultKind::Missing);
         }
-        let alloc = self.alloc;
         Ok(Plan::new(
             name,
             grid,
@@ -108,8 +114,8 @@ impl Draft {
             self.formulas,
             periods,
             rate,
-            Vec::new(alloc),
-            Vec::new(alloc),
+            self.resources,
+            self.limits,
         ))
     }
 
@@ -165,26 +171,65 @@ impl Draft {
         requires { count ≡ length (cells_of (fields_of row.now)) }
         ensures { Admits self.new result (admit_zone self.old (cells_of (fields_of row.now))) }
     {
-        if count != 4 {
-            return Err(RecordError::Fault(PlanFaultKind::Width));
-        }
-        let p = whole_in(cell_at(row, 1), 1, 1000)?;
-        let q = whole_in(cell_at(row, 2), 1, 1000)?;
-        let k = whole_in(cell_at(row, 3), 1, 20)?;
+        let cone = cone_in(row, count)?;
         if self.cones.len() == MAX_ZONES as usize {
             return Err(RecordError::Fault(PlanFaultKind::TooMany));
         }
-        let slope = Slope {
-            p: p as u16,
-            q: q as u16,
-        };
-        self.cones.push(Cone {
-            east: slope,
-            west: slope,
-            north: slope,
-            south: slope,
-            k: k as u8,
-        })?;
+        self.cones.push(cone)?;
+        Ok(())
+    }
+
+    fn admit_resource(&mut self, row: &ByteRecord, count: usize) -> Result<(), RecordError>
+        requires { count ≡ length (cells_of (fields_of row.now)) }
+        ensures { Admits self.new result (admit_resource self.old (cells_of (fields_of row.now))) }
+    {
+        if count < 3 {
+            return Err(RecordError::Fault(PlanFaultKind::Width));
+        }
+        let name = name_in(self.alloc, cell_at(row, 1))?;
+        let covers = covers_in(self.alloc, row, count, self.formulas.as_slice())?;
+        if is_resource(self.resources.as_slice(), cell_at(row, 1))
+            || has_repeat(covers.as_slice())
+        {
+            return Err(RecordError::Fault(PlanFaultKind::Twice));
+        }
+        if self.resources.len() == MAX_RESOURCES as usize {
+            return Err(RecordError::Fault(PlanFaultKind::TooMany));
+        }
+        self.resources.push(Resource { name, covers })?;
+        Ok(())
+    }
+
+    fn admit_limit(&mut self, row: &ByteRecord, count: usize) -> Result<(), RecordError>
+        requires { count ≡ length (cells_of (fields_of row.now)) }
+        ensures { Admits self.new result (admit_limit self.old (cells_of (fields_of row.now))) }
+    {
+        if count != limit_width(row) {
+            return Err(RecordError::Fault(PlanFaultKind::Width));
+        }
+        let resource = resource_in(self.resources.as_slice(), cell_at(row, 1))?;
+        let period = period_in(self.periods, cell_at(row, 2))?;
+        let bound = bound_in(row)?;
+        self.add_limit(Limit {
+            resource,
+            period,
+            bound,
+        })
+    }
+
+    fn add_limit(&mut self, limit: Limit) -> Result<(), RecordError>
+        requires resource { limit.resource < length self.old.resources }
+        requires period { limit.period < unwrap_or self.old.periods 0 }
+        requires tonnes { AreTonnes limit.bound }
+        ensures { Admits self.new result (with_bound self.old limit) }
+    {
+        if is_limited(self.limits.as_slice(), &limit) {
+            return Err(RecordError::Fault(PlanFaultKind::Twice));
+        }
+        if is_turned(&limit.bound) {
+            return Err(RecordError::Fault(PlanFaultKind::Order));
+        }
+        insert_limit(&mut self.limits, limit)?;
         Ok(())
     }
 
@@ -239,16 +284,6 @@ impl Draft {
     }
 }
 
-/// The NAME that a cell spells.
-fn name_in(alloc: Global, cell: &[u8]) -> Result<Name, RecordError>
-    ensures { Names result (name_in cell.now) }
-{
-    match Name::read(alloc, cell)? {
-        Some(name) => Ok(name),
-        None => Err(RecordError::Fault(PlanFaultKind::Name)),
-    }
-}
-
 /// The discount rate that a cell states.
 fn rate_in(cell: &[u8]) -> Result<Dec, PlanFaultKind>
     ensures value { result ≡ number_in 6 (pos 0) (pos (10 ^ 6)) cell.now }
@@ -256,11 +291,4 @@ fn rate_in(cell: &[u8]) -> Result<Dec, PlanFaultKind>
 {
     let millionths = number_in(cell, 6, 0, 1_000_000)?;
     Ok(Dec::new(millionths).unwrap())
-}
-
-/// Whether a destination has this NAME.
-fn is_taken(formulas: &[NamedFormula], name: &[u8]) -> bool
-    ensures { result ≡ is_taken formulas.now name.now }
-{
-    formulas.iter().any(|formula| formula.name.is(name))
 }

@@ -8,13 +8,17 @@ mod draft;
 pub mod formula;
 pub mod grid;
 pub mod limit;
+mod limit_cells;
 pub mod name;
+mod named;
 mod numbers;
 pub mod plan;
 pub mod plan_fault;
+pub mod plan_key;
 mod plan_reader;
 pub mod ranges;
 pub mod records;
 pub mod resource;
+mod zone_cells;
 
 pub use plan_reader::read_plan;

@@ -15,5 +15,8 @@ pub const MAX_ZONES: u8 = 64;
 /// The greatest number of destinations of a plan.
 pub const MAX_DESTINATIONS: u8 = 8;
 
+/// The greatest number of resources of a plan.
+pub const MAX_RESOURCES: u8 = 8;
+
 /// The greatest number of records of a plan, those that are empty included.
 pub const MAX_PLAN_RECORDS: u32 = 10_000;

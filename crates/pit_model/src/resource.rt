@@ -20,6 +20,13 @@ impl Model for Covers {
 impl Covers {
     ghost use Rattle.std.specs.Prelude.{◌≡◌};
 
+    /// The destinations of these numbers.
+    pub fn new(destinations: Vec<u8>) -> Covers
+        ensures { result ≡ destinations.items }
+    {
+        Covers { destinations }
+    }
+
     /// The destinations' numbers.
     pub fn as_slice(&self) -> &[u8]
         ensures { result.now ≡ self.now }

@@ -7,7 +7,7 @@ use Rattle.std.proofs.lemmas.List.{take-append-drop}
 use Rattle.std.specs.Fmt.{sign_text}
 use Rattle.pit_units.specs.Decimal.{shortest, size_text}
 
-not_below : (n : ℕ) → int_lt (pos n) (pos 0) ≡ false
+pub not_below : (n : ℕ) → int_lt (pos n) (pos 0) ≡ false
 not_below n = grind (arith, ints)
 
 sign_and_size : (z : ℤ) → shortest z ≡ sign_text (int_lt z (pos 0)) ++ size_text (unsigned_abs z)

@@ -1,4 +1,4 @@
-ghost use Rattle.std.specs.Prelude.{◌≡◌, ◌≤◌, ◌^◌, ◌↔◌, IsSome, IfSome, int_lt, pos, unsigned_abs};
+ghost use Rattle.std.specs.Prelude.{◌≡◌, ◌≤◌, ◌^◌, ◌↔◌, IsSome, IfSome, unsigned_abs};
 
 use std::marker::Model;
 
@@ -41,18 +41,5 @@ impl Dec {
         ensures in_range { unsigned_abs result ≤ 10 ^ 24 }
     {
         self.millionths
-    }
-    pub(crate) fn is_negative(self) -> bool
-        ensures { result ≡ int_lt self (pos 0) }
-    {
-        self.millionths < 0
-    }
-
-    /// How many millionths the decimal is away from zero.
-    pub(crate) fn size(self) -> u128
-        ensures value { result ≡ unsigned_abs self }
-        ensures in_range { result ≤ 10 ^ 24 }
-    {
-        self.millionths.unsigned_abs()
     }
 }

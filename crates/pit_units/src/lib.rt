@@ -3,7 +3,10 @@
 
 mod decimal;
 mod fault;
+pub mod laws;
 mod reading;
+#[cfg(test)]
+mod tests;
 mod writing;
 
 pub use decimal::Dec;

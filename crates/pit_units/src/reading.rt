@@ -9,9 +9,10 @@ use crate::fault::DecFault;
 /// One more than the largest whole part of a decimal: where a longer count of digits stops.
 const PAST_LARGEST: u64 = 1_000_000_000_000_000_001;
 
-/// The decimal that a text states, with at most `max_decimals` decimals that are not zero.
+/// The decimal that a text states: an optional sign, digits, and optionally a point with digits after it, with a digit in all.
 ///
-/// Nothing is trimmed: a blank makes the text no number.
+/// At most `max_decimals` decimals count, and those past them have to be zeros. Nothing is trimmed: a blank makes the text no
+/// number. Of several faults the answer is the first of `Number`, `TooFine` and `Range`.
 #[tactic(auto, unfolding(crate::specs::Decimal::decimal_of))]
 pub fn parse_dec(text: &[u8], max_decimals: u8) -> Result<Dec, DecFault>
     requires { max_decimals ≤ 6 }

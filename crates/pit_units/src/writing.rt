@@ -1,4 +1,4 @@
-ghost use Rattle.std.specs.Prelude.{◌≡◌, ◌+◌, ◌-◌, ◌/◌, ◌%◌, ◌^◌, ◌<◌, ◌≤◌, ◌==◌, ◌++◌, length, take, OnOk, OnErr};
+ghost use Rattle.std.specs.Prelude.{◌≡◌, ◌+◌, ◌-◌, ◌/◌, ◌%◌, ◌^◌, ◌<◌, ◌≤◌, ◌==◌, ◌++◌, length, take, int_lt, pos, unsigned_abs, OnOk, OnErr};
 ghost use Rattle.std.specs.Fmt.{sign_text};
 ghost use Rattle.std.specs.List.{suffix_len};
 ghost use Rattle.pit_units.specs.Decimal.{fraction_text, shortest, size_text};
@@ -27,8 +27,22 @@ fn append(out: &mut Vec<u8>, dec: Dec) -> Result<(), AllocError>
     ensures ok { OnOk result (out.new.items ≡ out.old.items ++ shortest dec) }
     ensures kept { take (length out.old.items) out.new.items ≡ out.old.items }
 {
-    append_sign(out, dec.is_negative())?;
-    append_size(out, dec.size())
+    append_sign(out, is_negative(dec))?;
+    append_size(out, size(dec))
+}
+
+fn is_negative(dec: Dec) -> bool
+    ensures { result ≡ int_lt dec (pos 0) }
+{
+    dec.millionths() < 0
+}
+
+/// How many millionths the decimal is away from zero.
+fn size(dec: Dec) -> u128
+    ensures value { result ≡ unsigned_abs dec }
+    ensures in_range { result ≤ 10 ^ 24 }
+{
+    dec.millionths().unsigned_abs()
 }
 
 /// Appends a minus where the number is below zero.

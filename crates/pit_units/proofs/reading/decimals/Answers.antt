@@ -1,4 +1,3 @@
-use Rattle.std.proofs.Common.{arith, sym}
 use Rattle.pit_units.proofs.Digits.{decimals_more}
 use Rattle.pit_units.proofs.reading.decimals.Goals as goal
 

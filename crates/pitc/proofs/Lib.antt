@@ -1,0 +1,5 @@
+mod Again
+mod Joined
+mod Lines
+mod Uncut
+mod Walk
