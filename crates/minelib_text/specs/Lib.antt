@@ -2,3 +2,4 @@ pub mod Count
 pub mod Device
 pub mod Lines
 pub mod Tray
+pub mod Written

@@ -2,6 +2,9 @@
 #![tactic(auto)]
 
 mod count;
+mod fields;
+mod item_lines;
+mod lines;
 pub mod mem_sink;
 mod output;
 pub mod sink;

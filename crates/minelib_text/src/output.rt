@@ -6,7 +6,7 @@ ghost use Rattle.minelib_text.specs.Lines.{text_of};
 
 use crate::sink::{Sink, SinkFault};
 use crate::write_fault::WriteFault;
-use std::alloc::AllocError;
+use std::alloc::{AllocError, Global};
 
 /// How many bytes are collected before they are put.
 pub const LARGE: usize = 65_536;
@@ -49,14 +49,19 @@ pub trait Section {
         ensures { result ≡ length (lines self.now) };
 
     /// Appends one line with its LF. Where memory is refused a part of it may be appended.
-    fn append(&self, index: usize, out: &mut Vec<u8>) -> Result<(), AllocError>
+    fn append(&self, alloc: Global, index: usize, out: &mut Vec<u8>) -> Result<(), AllocError>
         requires { index < length (lines self.now) }
         ensures { OnOk result
             (out.new.items ≡ out.old.items ++ (slice_index_or (lines self.now) index [] ++ 10 ∷ [])) };
 }
 
 /// Writes the lines of a section behind what the buffer holds.
-pub fn write_section<S: Sink, L: Section>(sink: &mut S, buffer: &mut Vec<u8>, section: &L) -> Result<(), WriteFault>
+pub fn write_section<S: Sink, L: Section>(
+    alloc: Global,
+    sink: &mut S,
+    buffer: &mut Vec<u8>,
+    section: &L,
+) -> Result<(), WriteFault>
     ensures written { OnOk result (added buffer.new.items (S.taken sink.new)
         ≡ added (text_of (L.lines section.now)) (added buffer.old.items (S.taken sink.old))) }
     ensures front { OnErr result (IsFront (S.taken sink.new)
@@ -67,12 +72,13 @@ pub fn write_section<S: Sink, L: Section>(sink: &mut S, buffer: &mut Vec<u8>, se
     ensures begun { S.is_begun sink.new ≡ S.is_begun sink.old }
 {
     for index in 0..section.len() {
-        write_line(sink, buffer, section, index)?;
+        write_line(alloc, sink, buffer, section, index)?;
     }
     Ok(())
 }
 
 fn write_line<S: Sink, L: Section>(
+    alloc: Global,
     sink: &mut S,
     buffer: &mut Vec<u8>,
     section: &L,
@@ -88,7 +94,7 @@ fn write_line<S: Sink, L: Section>(
     ensures memory { IsErrOf result WriteFault.OutOfMemory → S.failures sink.new ≡ S.failures sink.old }
     ensures begun { S.is_begun sink.new ≡ S.is_begun sink.old }
 {
-    section.append(index, buffer)?;
+    section.append(alloc, index, buffer)?;
     if buffer.len() >= LARGE {
         flush(sink, buffer)?;
     }
