@@ -1,5 +1,5 @@
 -- The greatest of some numbers.
-use Rattle.std.specs.Prelude.{ℕ, Bool, List, ℤ, pos, int_le, find, unwrap_or}
+use Rattle.std.specs.Prelude.{ℕ, Bool, List, ℤ, pos, int_le, slice_index_or}
 use Rattle.std.specs.List.{list_all, position_or_len}
 
 -- none of the numbers is greater
@@ -12,4 +12,4 @@ first_greatest numbers = position_or_len (is_greatest numbers) numbers
 
 -- the one of them that none is greater than
 abbrev pub greatest : List ℤ → ℤ
-greatest numbers = unwrap_or (find (is_greatest numbers) numbers) (pos 0)
+greatest numbers = slice_index_or numbers (first_greatest numbers) (pos 0)

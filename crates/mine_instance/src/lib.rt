@@ -3,6 +3,7 @@
 
 pub mod blocks;
 pub mod coef;
+pub mod greatest;
 pub mod limits;
 pub mod rising;
 pub mod values;
