@@ -1,9 +1,12 @@
 //! `pitc` turns the block models of an open pit mine into a MineLib instance.
 #![tactic(auto)]
 
+pub mod fault_line;
 pub mod laws;
 pub mod piece;
 pub mod pieces;
+pub mod refusal;
+pub mod status;
 
 use std::io;
 

@@ -180,3 +180,6 @@ fn next_row(
         Err(_) => failed(ZoneFault::OutOfMemory),
     }
 }
+
+#[cfg(test)]
+mod tests;

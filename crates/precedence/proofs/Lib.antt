@@ -1,0 +1,4 @@
+pub mod Counts
+pub mod Identifiers
+pub mod Order
+pub mod Places

@@ -1,0 +1,5 @@
+pub mod Codes
+pub mod Identifier
+pub mod NumberingView
+pub mod SameBlock
+pub mod Seen

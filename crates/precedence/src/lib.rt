@@ -1,0 +1,11 @@
+//! The identifiers of a model's blocks, and the blocks that each has to wait for.
+#![tactic(auto)]
+
+mod code;
+mod first_seen;
+mod number_error;
+mod numbering;
+
+pub use first_seen::number;
+pub use number_error::NumberError;
+pub use numbering::Numbering;
