@@ -5,7 +5,9 @@ mod code;
 mod first_seen;
 mod number_error;
 mod numbering;
+mod predecessors;
 
 pub use first_seen::number;
 pub use number_error::NumberError;
 pub use numbering::Numbering;
+pub use predecessors::Preds;
