@@ -1,5 +1,6 @@
 //! What a block takes of a resource where it goes to a destination.
 
+use crate::rising::Ordered;
 use pit_units::Dec;
 use std::marker::Model;
 
@@ -46,5 +47,21 @@ impl Coefs {
         ensures { result.now ≡ self.now }
     {
         self.coefs.as_slice()
+    }
+}
+
+impl Ordered for Coef {
+    ghost use Rattle.std.specs.Prelude.{IsTrue};
+    ghost use Rattle.mine_instance.specs.Order.{comes_before};
+
+    ghost before = { λ c e. IsTrue (comes_before c e) };
+
+    ghost use Rattle.mine_instance.specs.OrderLaws.{comes_before_through};
+
+    ghost through = { comes_before_through };
+
+    fn is_before(&self, other: &Coef) -> bool {
+        self.b < other.b
+            || (self.b == other.b && (self.d < other.d || (self.d == other.d && self.r < other.r)))
     }
 }

@@ -1,5 +1,6 @@
 //! The limits of an instance.
 
+use crate::rising::Ordered;
 use pit_model::limit::Limit;
 use std::marker::Model;
 
@@ -33,5 +34,21 @@ impl Limits {
         ensures { result.now ≡ self.now }
     {
         self.limits.as_slice()
+    }
+}
+
+impl Ordered for Limit {
+    ghost use Rattle.std.specs.Prelude.{IsTrue};
+    ghost use Rattle.pit_model.specs.Plan.{stands_before};
+
+    ghost before = { λ l m. IsTrue (stands_before l m) };
+
+    ghost use Rattle.mine_instance.specs.OrderLaws.{stands_before_through};
+
+    ghost through = { stands_before_through };
+
+    fn is_before(&self, other: &Limit) -> bool {
+        self.resource < other.resource
+            || (self.resource == other.resource && self.period < other.period)
     }
 }

@@ -23,3 +23,17 @@ pub fn rises<T: Ordered>(items: &[T]) -> bool
     }
     true
 }
+
+impl Ordered for u32 {
+    ghost use Rattle.std.specs.Prelude.{◌<◌};
+
+    ghost before = { λ n m. n < m };
+
+    ghost use Rattle.std.proofs.Common.{arith};
+
+    ghost through = { λ x y z h k. Prim.omega arith };
+
+    fn is_before(&self, other: &u32) -> bool {
+        *self < *other
+    }
+}

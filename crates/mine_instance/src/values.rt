@@ -1,6 +1,6 @@
 //! The values of the blocks at the destinations.
 
-ghost use Rattle.std.specs.Prelude.{◌≡◌, ◌*◌, ◌<◌, ◌≤◌, length, vec_len, slice_index_or, []};
+ghost use Rattle.std.specs.Prelude.{◌≡◌, ◌*◌, ◌<◌, ◌≤◌, length, vec_len, slice_index_or, [], ◌↔◌, IsTrue, All};
 ghost use Rattle.mine_instance.specs.Rows.{rows_of};
 
 use pit_units::Dec;
@@ -40,6 +40,13 @@ impl Values {
         ensures { result ≡ length self.now }
     {
         self.count
+    }
+
+    /// Whether each block has so many values.
+    pub fn are_of_width(&self, width: usize) -> bool
+        ensures { IsTrue result ↔ All (λ values. length values ≡ width) self.now }
+    {
+        self.count == 0 || self.width == width
     }
 
     /// The values of a block, in the order of the destinations.
