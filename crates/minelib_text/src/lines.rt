@@ -17,6 +17,7 @@ pub trait Line {
 }
 
 /// A line for each item.
+#[derive(Drop)]
 pub struct Lines<'a, T> {
     pub items: &'a [T],
 }

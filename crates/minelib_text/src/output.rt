@@ -4,6 +4,7 @@ ghost use Rattle.std.specs.Prelude.{◌≡◌, ◌+◌, ◌<◌, ◌≤◌, ℕ,
 ghost use Rattle.minelib_text.specs.Device.{added, IsFront};
 ghost use Rattle.minelib_text.specs.Lines.{text_of};
 
+use crate::fields::put_text;
 use crate::sink::{Sink, SinkFault};
 use crate::write_fault::WriteFault;
 use std::alloc::{AllocError, Global};
@@ -99,4 +100,25 @@ fn write_line<S: Sink, L: Section>(
         flush(sink, buffer)?;
     }
     Ok(())
+}
+
+/// Writes a section line and the lines under it behind what the buffer holds.
+pub fn write_titled<S: Sink, L: Section>(
+    alloc: Global,
+    sink: &mut S,
+    buffer: &mut Vec<u8>,
+    title: &[u8],
+    section: &L,
+) -> Result<(), WriteFault>
+    ensures written { OnOk result (added buffer.new.items (S.taken sink.new)
+        ≡ added (text_of (title.now ∷ L.lines section.now)) (added buffer.old.items (S.taken sink.old))) }
+    ensures front { OnErr result (IsFront (S.taken sink.new)
+        (added (text_of (title.now ∷ L.lines section.now)) (added buffer.old.items (S.taken sink.old)))) }
+    ensures works { OnOk result (S.failures sink.new ≡ S.failures sink.old) }
+    ensures fails { IsErrOf result WriteFault.SinkFailed → S.failures sink.new ≡ S.failures sink.old + 1 }
+    ensures memory { IsErrOf result WriteFault.OutOfMemory → S.failures sink.new ≡ S.failures sink.old }
+    ensures begun { S.is_begun sink.new ≡ S.is_begun sink.old }
+{
+    put_text(buffer, title, b'\n')?;
+    write_section(alloc, sink, buffer, section)
 }
