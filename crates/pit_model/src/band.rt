@@ -71,7 +71,7 @@ impl Bands {
         ensures value { result.now ≡ self.now }
         ensures kept { AreBands self.now }
     {
-        self.bands.as_slice()
+        &self.bands
     }
 
     /// The same bands in memory of their own. Fails only where memory is refused.
@@ -129,3 +129,6 @@ fn are_in_range(bands: &[Band]) -> bool
 {
     bands.iter().all(|band| band.start <= MAX_GRADE && band.recovery <= MAX_RECOVERY)
 }
+
+#[cfg(test)]
+mod tests;

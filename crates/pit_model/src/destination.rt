@@ -61,3 +61,6 @@ fn ask(valuer: &Valuer, block: Block) -> i128
 {
     valuer(block)
 }
+
+#[cfg(test)]
+mod tests;

@@ -1,13 +1,17 @@
 //! How a destination values a block.
 
 ghost use Rattle.std.specs.Prelude.{◌≡◌, IfOk};
+ghost use Rattle.pit_model.specs.Plan.{IsRuled};
+ghost use Rattle.pit_model.specs.Worth.{worth, IsWorth};
 
 use crate::band::Bands;
+use crate::block::Block;
 use crate::name::Name;
+use crate::worth::{dump_worth, leach_worth, mill_worth};
 use std::alloc::{AllocError, Global};
 
-/// How a destination values a block. That its numbers are in range is a condition of the functions that use them; those of a
-/// plan are.
+/// How a destination values a block. That its numbers are in range is a condition of the functions that use them; those of a plan are. `==`
+/// tells whether two formulas are of one kind, with the same numbers.
 #[derive(Debug, Drop)]
 pub enum Formula {
     /// A mill: it recovers `recovery` per mille of the metal, 0 to 1000, which sells for `price` cents per kilogram, 0 to 10^8, and it costs
@@ -51,6 +55,23 @@ impl Formula {
             },
             Formula::Dump { cost } => Formula::Dump { cost: *cost },
         })
+    }
+
+    /// What a block is worth by this formula, in cents.
+    pub fn worth(&self, block: Block) -> i128
+        requires { IsRuled self.now }
+        ensures value { result ≡ worth self.now block }
+        ensures in_range { IsWorth result }
+    {
+        match self {
+            Formula::Mill {
+                recovery,
+                price,
+                cost,
+            } => mill_worth(block, *recovery, *price, *cost),
+            Formula::Leach { bands, price, cost } => leach_worth(block, bands, *price, *cost),
+            Formula::Dump { cost } => dump_worth(block, *cost),
+        }
     }
 }
 

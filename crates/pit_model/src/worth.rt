@@ -41,7 +41,7 @@ pub fn dump_worth(block: Block, cost: u64) -> i128
     (-spent).div_euclid(1000)
 }
 
-// What the metal of a block sells for, in 10^15 parts of a cent.
+// What the recovered metal of a block sells for, in parts of which 10^15 make a cent.
 #[tactic(auto, using(crate::proofs::WorthFacts::metal_bound))]
 fn metal_value(block: Block, recovery: u16, price: u64) -> u128
     requires recovery { recovery ≤ 1000 }
@@ -52,7 +52,7 @@ fn metal_value(block: Block, recovery: u16, price: u64) -> u128
     block.kg as u128 * block.grade as u128 * recovery as u128 * price as u128
 }
 
-// What it costs to process a block, in 10^15 parts of a cent.
+// What it costs to process a block, in the same parts.
 fn processing_cost(block: Block, cost: u64) -> u128
     requires { cost ≤ 10 ^ 7 }
     ensures value { result ≡ block.kg * cost * 10 ^ 12 }

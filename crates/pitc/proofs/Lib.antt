@@ -3,3 +3,5 @@ mod Joined
 mod Lines
 mod Uncut
 mod Walk
+pub mod RowSteps
+pub mod SameFormulas

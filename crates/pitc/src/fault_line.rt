@@ -67,7 +67,7 @@ fn status_of(refusal: &Refusal) -> u8
 }
 
 /// Appends a line of these words. Where memory is refused `lines` is as it was.
-fn append_line(alloc: Global, words: &str, lines: &mut Vec<u8>) -> Result<(), AllocError>
+pub fn append_line(alloc: Global, words: &str, lines: &mut Vec<u8>) -> Result<(), AllocError>
     ensures ok { OnOk result (lines.new.items ≡ lines.old.items ++ line_of words.now) }
     ensures err { OnErr result (lines.new.items ≡ lines.old.items) }
 {

@@ -1,5 +1,6 @@
 //! Why a run is refused.
 
+use std::alloc::{AllocError, AllocFailed};
 use thiserror::Error;
 use zone_csv::row_fault::RowFault;
 
@@ -42,4 +43,26 @@ pub enum Refusal {
     /// Memory was refused.
     #[error("OutOfMemory")]
     OutOfMemory,
+}
+
+impl From<AllocError> for Refusal {
+    ghost use Rattle.std.specs.Prelude.{◌≡◌};
+    ghost use Rattle.pitc.specs.declared.refusal.Refusal.TheVariants.{OutOfMemory};
+
+    ghost from_gives = { λ _ refusal. refusal ≡ OutOfMemory };
+
+    fn from(_refusal: AllocError) -> Refusal {
+        Refusal::OutOfMemory
+    }
+}
+
+impl<T: Drop> From<AllocFailed<T>> for Refusal {
+    ghost use Rattle.std.specs.Prelude.{◌≡◌};
+    ghost use Rattle.pitc.specs.declared.refusal.Refusal.TheVariants.{OutOfMemory};
+
+    ghost from_gives = { λ _ refusal. refusal ≡ OutOfMemory };
+
+    fn from(_refusal: AllocFailed<T>) -> Refusal {
+        Refusal::OutOfMemory
+    }
 }

@@ -17,5 +17,6 @@ pub fn zone_files()
 /// A coordinate has an index of the grid exactly where it is the centroid of the blocks of that index.
 pub fn coordinates()
     ensures { (axis : AnAxis) (coordinate : ℤ) (index : ℕ) → 0 < axis.size
-        → (value_of (index_at axis coordinate) ≡ Ok index) ↔ (IsCentroid axis coordinate index × (index < 10000)) }
+        → (value_of (index_at axis coordinate) ≡ Ok index)
+        ↔ (IsCentroid axis coordinate index × (index < 10000)) }
 {}

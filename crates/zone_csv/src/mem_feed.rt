@@ -1,6 +1,6 @@
 //! Bytes in memory as a feed.
 
-ghost use Rattle.std.specs.Prelude.{◌≡◌, ◌+◌, ◌≤◌, ◌↔◌, ◌∷◌, take, drop, length, Some, IsErr, IfOk, OnErr};
+ghost use Rattle.std.specs.Prelude.{◌≡◌, ◌+◌, ◌≤◌, ◌↔◌, take, drop, length, Some, IsErr, IfOk, OnErr};
 ghost use Rattle.zone_csv.specs.Supply.{Supply, fresh, pull_count, after_pull, never_fails, failures_of};
 
 use crate::feed::{Feed, FeedFault};
