@@ -2,10 +2,14 @@
 #![tactic(auto)]
 
 mod code;
+mod counting;
+mod extent;
 mod first_seen;
 mod number_error;
 mod numbering;
 mod predecessors;
+mod reach;
+mod rows;
 
 pub use first_seen::number;
 pub use number_error::NumberError;
