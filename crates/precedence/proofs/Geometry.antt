@@ -87,5 +87,5 @@ module _ (grid : Grid) (cone : Cone) (rows dz i : ℕ) (counts : Counts) (counte
     where
       by : (b : Bool) → nat_lt low.x high.x ≡ b
         → (nat_le (code low + (center rows dz i + 1 - counts.west)) (code high) && nat_lt (code high) (code low + (center rows dz i + max counts.east 1))) ≡ on_side b
-      by true e = beside_east (code low) (code high) (center rows dz i) low.x high.x counts.west counts.east apart_is (ltb-true low.x high.x e) far counts.few_west
-      by false e = beside_west (code low) (code high) (center rows dz i) low.x high.x counts.west counts.east apart_is (ltb-false low.x high.x e) far counts.few_west
+      by true e = beside_east (code low) (code high) (center rows dz i) low.x high.x counts.west counts.east apart_is (ltb-true low.x high.x e) far counted.few_west
+      by false e = beside_west (code low) (code high) (center rows dz i) low.x high.x counts.west counts.east apart_is (ltb-false low.x high.x e) far counted.few_west

@@ -5,3 +5,4 @@ pub mod Order
 pub mod Pieces
 pub mod Places
 pub mod Reaches
+pub mod Tables

@@ -25,5 +25,7 @@ abbrev pub CountsSide : Grid → Slope → Slope → ℕ → ℕ → ℕ → Typ
 CountsSide grid along across dy dz count = (d : ℕ) → d < 10000 → is_within_slopes grid along across d dy dz ≡ nat_lt d count
 
 pub record CountsRow (grid : Grid) (cone : Cone) (rows dz i : ℕ) (counts : Counts) : Type 0 where
+  pub few_west : counts.west ≤ 10000
+  pub few_east : counts.east ≤ 10000
   pub west : CountsSide grid cone.west (slope_across cone rows i) (abs_diff i rows) dz counts.west
   pub east : CountsSide grid cone.east (slope_across cone rows i) (abs_diff i rows) dz counts.east

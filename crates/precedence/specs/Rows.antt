@@ -1,5 +1,5 @@
 -- The rows of a cone: where the codes of its blocks lie, as seen from a block.
-use Rattle.std.specs.Prelude.{◌≡◌, ℕ, ◌+◌, ◌-◌, ◌*◌, ◌^◌, ◌≤◌, ◌&&◌, ◌||◌, Bool, true, false, List, [], ◌∷◌, length, count_by, nat_lt, nat_le}
+use Rattle.std.specs.Prelude.{◌≡◌, ℕ, zero, suc, ◌+◌, ◌-◌, ◌*◌, ◌^◌, ◌<◌, ◌≤◌, ◌&&◌, ◌||◌, Bool, true, false, List, [], ◌∷◌, length, map, nat_lt, nat_le, if◌then◌else◌}
 use Rattle.std.specs.Int.{abs_diff}
 use Rattle.pit_model.specs.declared.block.Block.{Block}
 use Rattle.pit_model.specs.declared.cone.Cone.{Cone}
@@ -17,10 +17,10 @@ abbrev pub is_in_rows : ℕ → List Row → ℕ → Bool
 is_in_rows from [] c = false
 is_in_rows from (row ∷ rows) c = is_in_row from row c || is_in_rows from rows c
 
--- no row begins before the one before it is past, nor before `low`, and all are past at `high`
+-- no row is without codes, none begins before the one before it is past, nor before `low`, and all are past at `high`
 abbrev pub AreApart : ℕ → List Row → ℕ → Type 0
 AreApart low [] high = low ≤ high
-AreApart low (row ∷ rows) high = (low ≤ row.first) × (row.first ≤ row.past) × AreApart row.past rows high
+AreApart low (row ∷ rows) high = (low ≤ row.first) × (row.first < row.past) × AreApart row.past rows high
 
 -- no further apart than a model's rows and benches are
 pub record IsWithin (extent : Extent) (low high : Block) : Type 0 where
@@ -46,6 +46,15 @@ center rows dz i = dz * 10 ^ 10 + i * 10 ^ 5 - rows * 10 ^ 5
 abbrev pub edge : ℕ → ℕ → ℕ → ℕ
 edge rows dz i = dz * 10 ^ 10 + i * 10 ^ 5 - (rows * 10 ^ 5 + 20000)
 
--- how many codes stand below t
+-- how many codes, from the first on, are below t
 abbrev pub start_of : ℕ → List ℕ → ℕ
-start_of t codes = count_by (λ c. nat_lt c t) codes
+start_of t [] = 0
+start_of t (c ∷ cs) = if nat_lt c t then suc (start_of t cs) else 0
+
+-- where each row is past
+abbrev pub pasts : List Row → List ℕ
+pasts rows = map (λ row. row.past) rows
+
+-- the rows lie in order
+abbrev pub AreInOrder : List Row → Type 0
+AreInOrder rows = (high : ℕ) × AreApart 0 rows high

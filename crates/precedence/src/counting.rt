@@ -41,12 +41,11 @@ fn side_count(grid: Grid, along: Slope, across: Slope, dy: u16, dz: u16, nearby:
     requires across { IsSlope across }
     requires dy { dy < 10000 }
     requires dz { dz < 10000 }
-    requires nearby { nearby ≤ 10000 }
     ensures few { result ≤ 10000 }
     ensures counts { CountsSide grid along across dy dz result }
 {
     let reach = reach_in_row(grid, along, across, dy, dz);
-    lowered(reach, raised(reach, nearby))
+    lowered(reach, raised(reach, nearby.min(GRID_CELLS)))
 }
 
 /// What the slopes leave of their reach in the row `dy` rows away on the bench `dz` above.

@@ -10,6 +10,7 @@ mod numbering;
 mod predecessors;
 mod reach;
 mod rows;
+mod table;
 
 pub use first_seen::number;
 pub use number_error::NumberError;

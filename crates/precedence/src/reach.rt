@@ -21,6 +21,4 @@ pub struct Reach {
 pub struct Counts {
     pub west: u16,
     pub east: u16,
-    pub ghost few_west: { west ≤ 10000 },
-    pub ghost few_east: { east ≤ 10000 },
 }
