@@ -5,4 +5,5 @@ pub mod Order
 pub mod Pieces
 pub mod Places
 pub mod Reaches
+pub mod Starts
 pub mod Tables

@@ -6,4 +6,5 @@ pub mod PredsView
 pub mod Reach
 pub mod Rows
 pub mod SameBlock
+pub mod Search
 pub mod Seen

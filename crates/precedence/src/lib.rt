@@ -4,6 +4,7 @@
 mod code;
 mod counting;
 mod extent;
+mod find;
 mod first_seen;
 mod number_error;
 mod numbering;
