@@ -13,6 +13,7 @@ pub mod laws;
 pub mod model;
 pub mod piece;
 pub mod pieces;
+pub mod printed;
 pub mod refusal;
 pub mod rows;
 pub mod settings;
