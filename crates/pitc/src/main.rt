@@ -11,6 +11,7 @@ pub mod fault_line;
 pub mod input;
 pub mod laws;
 pub mod model;
+pub mod numbered;
 pub mod piece;
 pub mod pieces;
 pub mod printed;
