@@ -2,7 +2,7 @@
 
 ghost use Rattle.std.specs.Prelude.{◌≡◌, ◌<◌, ◌≤◌, ◌^◌, ◌↔◌, IsSome, IfSome};
 
-use crate::limits::{GRID_CELLS, MAX_GRADE, MAX_KG, MAX_ZONES};
+use crate::ranges::{GRID_CELLS, MAX_GRADE, MAX_KG, MAX_ZONES};
 
 /// A block of the model: its place in the grid, its tonnage and grade, and the zone file that it stands in. Every value keeps
 /// the ranges of its fields.

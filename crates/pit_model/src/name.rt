@@ -2,6 +2,7 @@
 
 ghost use Rattle.std.specs.Prelude.{◌≡◌, ◌<◌, ◌≤◌, ◌==◌, ◌&&◌, length, IfOk, MatchOption, false};
 ghost use Rattle.std.specs.List.{list_all};
+ghost use Rattle.std.specs.Str.{bytes_eq};
 ghost use Rattle.pit_model.specs.Name.{is_name_byte, is_name};
 
 use std::alloc::{AllocError, Global};
@@ -39,6 +40,22 @@ impl Name {
         Ok(Some(Name {
             text: String::from_str(alloc, text)?,
         }))
+    }
+
+    /// A copy of the NAME. Fails only where memory is refused.
+    pub fn copy(&self, alloc: Global) -> Result<Name, AllocError>
+        ensures { IfOk result (λ name. name ≡ self.now) }
+    {
+        Ok(Name {
+            text: String::from_str(alloc, self.text.as_str())?,
+        })
+    }
+
+    /// Whether these bytes spell this NAME.
+    pub fn is(&self, bytes: &[u8]) -> bool
+        ensures { result ≡ bytes_eq self.now bytes.now }
+    {
+        self.text.as_bytes() == bytes
     }
 
     /// The NAME as text.

@@ -1,8 +1,8 @@
 -- Which number a decimal text states, and how a number is written. Numbers are counted in millionths.
-use Rattle.std.specs.Prelude.{◌≡◌, ℕ, suc, ◌+◌, ◌*◌, ◌/◌, ◌%◌, ◌-◌, ◌^◌, ◌<◌, ◌≤◌, Bool, not, ◌&&◌, ◌⊎◌, List, [], ◌∷◌, ◌++◌, length, map, take, drop, replicate, ℤ, pos, negsuc, neg_ℤ, unsigned_abs, IsTrue, if◌then◌else◌, nat_lt, ◌==◌, Ok, Err, Result}
+use Rattle.std.specs.Prelude.{◌≡◌, ◌≢◌, ◌↔◌, ◌<ℤ◌, slice_index, ℕ, suc, ◌+◌, ◌*◌, ◌/◌, ◌%◌, ◌-◌, ◌^◌, ◌<◌, ◌≤◌, Bool, not, ◌&&◌, ◌⊎◌, List, [], ◌∷◌, ◌++◌, length, map, take, drop, replicate, ℤ, pos, negsuc, neg_ℤ, unsigned_abs, IsTrue, if◌then◌else◌, nat_lt, ◌==◌, Ok, Err, Result}
 use Rattle.std.specs.Char.{is_ascii_digit}
 use Rattle.std.specs.Fmt.{decimal}
-use Rattle.std.specs.List.{list_all, before_first, after_first, suffix_len}
+use Rattle.std.specs.List.{All, list_all, before_first, after_first, suffix_len}
 use Rattle.std.specs.Str.Parse.{digits_value, starts_with_minus, without_leading_sign}
 use Rattle.pit_units.specs.declared.fault.DecFault.{DecFault}
 use Rattle.pit_units.specs.declared.fault.DecFault.TheVariants.{Number, TooFine, Range}
@@ -31,21 +31,22 @@ is_number text = all_digits (whole_of text) && all_digits (fraction_of text) && 
 abbrev pub six_decimals : List ℕ → List ℕ
 six_decimals fraction = take 6 (fraction ++ replicate 6 48)
 
--- how many millionths the text states, the sign apart
-abbrev pub size_of : List ℕ → ℕ
-size_of text = digits_value 10 (whole_of text) * 10 ^ 6 + digits_value 10 (six_decimals (fraction_of text))
+-- how many millionths digits before and after a point make
+abbrev pub size_of : List ℕ → List ℕ → ℕ
+size_of whole fraction = digits_value 10 whole * 10 ^ 6 + digits_value 10 (six_decimals fraction)
 
 -- n below zero or above it
 abbrev pub signed : Bool → ℕ → ℤ
 signed below n = if below then neg_ℤ (pos n) else pos n
 
--- the millionths that a text states with at most `max` decimals that are not zero, or the first fault of it
+-- the millionths that a text states with at most `max` decimals but for zeros, or the first fault of it
 unfoldable pub decimal_of : ℕ → List ℕ → Result ℤ DecFault
 decimal_of max text =
+    let size = size_of (whole_of text) (fraction_of text) in
     if not (is_number text) then Err Number
     else (if not (all_zeros (drop max (fraction_of text))) then Err TooFine
-    else (if nat_lt (10 ^ 24) (size_of text) then Err Range
-    else Ok (signed (starts_with_minus text) (size_of text))))
+    else (if nat_lt (10 ^ 24) size then Err Range
+    else Ok (signed (starts_with_minus text) size)))
 
 -- a text is an optional sign, digits, and optionally a point with digits after it; there is a digit
 pub record IsSpelled (text sign whole tail fraction : List ℕ) : Type 0 where
@@ -88,3 +89,28 @@ size_text n = decimal (n / 10 ^ 6) ++ fraction_text (n % 10 ^ 6)
 unfoldable pub shortest : ℤ → List ℕ
 shortest (pos n) = size_text n
 shortest (negsuc n) = 45 ∷ size_text (suc n)
+
+-- the shortest text of z: a minus only below zero and no plus, a digit before the point and no leading zero beside others,
+-- a fraction only where it is not zero, and no zero at its end
+pub record IsShortest (z : ℤ) (text : List ℕ) : Type 0 where
+  pub sign : List ℕ
+  pub whole : List ℕ
+  pub tail : List ℕ
+  pub fraction : List ℕ
+  pub spelled : IsSpelled text sign whole tail fraction
+  pub no_plus : sign ≢ 43 ∷ []
+  pub minus : (sign ≡ 45 ∷ []) ↔ (z <ℤ pos 0)
+  pub digit_before : 0 < length whole
+  pub no_leading_zero : slice_index whole 0 ≡ 48 → length whole ≡ 1
+  pub no_end_zero : 0 < length fraction → slice_index fraction (length fraction - 1) ≢ 48
+  pub no_bare_point : fraction ≡ [] → tail ≡ []
+
+-- a minus, a point or a digit: 47 alone of these codes is none of them
+abbrev pub IsPlainByte : ℕ → Type 0
+IsPlainByte c = (45 ≤ c) × (c ≤ 57) × (c ≢ 47)
+
+-- a text of such bytes, of one to 27
+pub record IsPlain (text : List ℕ) : Type 0 where
+  pub some : 0 < length text
+  pub short : length text ≤ 27
+  pub bytes : All IsPlainByte text

@@ -3,6 +3,13 @@
 
 mod decimal;
 mod fault;
+pub mod laws;
+mod reading;
+#[cfg(test)]
+mod tests;
+mod writing;
 
 pub use decimal::Dec;
 pub use fault::DecFault;
+pub use reading::parse_dec;
+pub use writing::put_dec;

@@ -1,0 +1,107 @@
+-- What a cell and a record lose at their ends.
+use Rattle.std.proofs.Common.{◌≡◌, ◌<◌, ◌&&◌, ◌==◌, ◌+◌, ◌-◌, ◌++◌, ℕ, zero, suc, List, [], ◌∷◌, Bool, true, false, arith, refl, sym, ◌∙◌, ap, length, length-append, get_or, map, take, cond, Some, None}
+use Rattle.std.proofs.lemmas.Bool.{eqb-true}
+use Rattle.std.proofs.lemmas.Bool.Decides.{nat_tests}
+use Rattle.std.proofs.lemmas.List.{take_more, take_all, length-map, length-take-le}
+use Rattle.std.proofs.Math.ListN.{get_or-map}
+use Rattle.csv.proofs.RecordFacts.{field-get}
+use Rattle.csv.specs.Records.{field_at}
+use Rattle.pit_model.specs.Cells.{is_blank, without_trailing_blanks, without_empty_end, trimmed, cells_of, cell_at}
+
+-- a list is what stands before its last element, and that
+pub split_last : {A : Type 0} (xs : List A) (d : A) → 0 < length xs → take (length xs - 1) xs ++ get_or xs (length xs - 1) d ∷ [] ≡ xs
+split_last xs d h =
+    let i : length xs - 1 < length xs = omega arith in
+    let e : (length xs - 1) + 1 ≡ length xs = omega arith in
+    sym (take_more xs (length xs - 1) d i) ∙ ap (λ n. take n xs) e ∙ take_all (length xs) xs (omega arith)
+
+-- a blank at the end goes
+blank_goes : (xs : List ℕ) (b : ℕ) → is_blank b ≡ true → without_trailing_blanks (xs ++ b ∷ []) ≡ without_trailing_blanks xs
+blank_goes [] b h = rw h refl
+blank_goes (x ∷ xs) b h = rw (blank_goes xs b h) refl
+
+-- another byte at the end stays, and so does all before it
+other_stays : (xs : List ℕ) (b : ℕ) → is_blank b ≡ false → without_trailing_blanks (xs ++ b ∷ []) ≡ xs ++ b ∷ []
+other_stays [] b h = rw h refl
+other_stays (x ∷ xs) b h =
+    let some : (length (xs ++ b ∷ []) == 0) ≡ false = grind (arith, nat_tests, length-append xs (b ∷ [])) in
+    rw (other_stays xs b h, some) refl
+
+pub blank_at_end : (xs : List ℕ) → 0 < length xs → is_blank (get_or xs (length xs - 1) 0) ≡ true
+    → without_trailing_blanks (take (length xs - 1) xs) ≡ without_trailing_blanks xs
+blank_at_end xs some h = sym (blank_goes (take (length xs - 1) xs) _ h) ∙ ap without_trailing_blanks (split_last xs 0 some)
+
+pub other_at_end : (xs : List ℕ) → 0 < length xs → is_blank (get_or xs (length xs - 1) 0) ≡ false → without_trailing_blanks xs ≡ xs
+other_at_end xs some h =
+    sym (ap without_trailing_blanks (split_last xs 0 some)) ∙ other_stays (take (length xs - 1) xs) _ h ∙ split_last xs 0 some
+
+-- a cell of no bytes is empty
+empty_is : (c : List ℕ) → (length c == 0) ≡ true → c ≡ []
+empty_is [] h = refl
+empty_is (b ∷ c) h = absurd (omega (arith, eqb-true (suc (length c)) 0 h))
+
+no_cells : (cells : List (List ℕ)) → (length cells == 0) ≡ true → cells ≡ []
+no_cells [] h = refl
+no_cells (c ∷ cells) h = absurd (omega (arith, eqb-true (suc (length cells)) 0 h))
+
+-- dropping the empty cells at the end changes no cell, where a cell past the end is empty
+pub cell_stays : (cells : List (List ℕ)) (i : ℕ) → get_or (without_empty_end cells) i [] ≡ get_or cells i []
+cell_stays [] i = refl
+cell_stays (c ∷ cells) i = by_tests (λ k. cell_stays cells k) (length (without_empty_end cells) == 0) (length c == 0) refl refl i
+  where
+    by_tests : ((k : ℕ) → get_or (without_empty_end cells) k [] ≡ get_or cells k []) → (a b : Bool) → (length (without_empty_end cells) == 0) ≡ a → (length c == 0) ≡ b → (i : ℕ)
+        → get_or (cond (a && b) [] (c ∷ without_empty_end cells)) i [] ≡ get_or (c ∷ cells) i []
+    by_tests more true true e f zero = sym (empty_is c f)
+    by_tests more true true e f (suc i) = let none : without_empty_end cells ≡ [] = no_cells (without_empty_end cells) e in (rw none at (more i))
+    by_tests more true false e f zero = refl
+    by_tests more true false e f (suc i) = more i
+    by_tests more false b e f zero = refl
+    by_tests more false b e f (suc i) = more i
+
+-- an empty cell at the end goes
+pub empty_goes : (cells : List (List ℕ)) (c : List ℕ) → (length c == 0) ≡ true → without_empty_end (cells ++ c ∷ []) ≡ without_empty_end cells
+empty_goes [] c h = rw h refl
+empty_goes (x ∷ cells) c h = rw (empty_goes cells c h) refl
+
+-- another cell at the end stays, and so do all before it
+pub full_stays : (cells : List (List ℕ)) (c : List ℕ) → (length c == 0) ≡ false → without_empty_end (cells ++ c ∷ []) ≡ cells ++ c ∷ []
+full_stays [] c h = rw h refl
+full_stays (x ∷ cells) c h =
+    let some : (length (cells ++ c ∷ []) == 0) ≡ false = grind (arith, nat_tests, length-append cells (c ∷ [])) in
+    rw (full_stays cells c h, some) refl
+
+-- the cell at a place is the field there, trimmed, or empty
+pub at_cell : (fields : List (List ℕ)) (i : ℕ) → cell_at (cells_of fields) i ≡ trimmed (get_or fields i [])
+at_cell fields i = cell_stays (map trimmed fields) i ∙ get_or-map trimmed fields i []
+
+pub field_is : (fields : List (List ℕ)) (i : ℕ) (field : List ℕ) → field_at fields i ≡ Some field → trimmed field ≡ cell_at (cells_of fields) i
+field_is fields i field h = sym (at_cell fields i ∙ ap trimmed (field-get fields i field h))
+
+none_there : (fields : List (List ℕ)) (i : ℕ) → field_at fields i ≡ None → get_or fields i [] ≡ []
+unfolding field_at
+none_there [] i h = refl
+none_there (f ∷ fields) zero h = absurd (cc)
+none_there (f ∷ fields) (suc i) h = none_there fields i h
+
+pub no_field_is : (fields : List (List ℕ)) (i : ℕ) → field_at fields i ≡ None → [] ≡ cell_at (cells_of fields) i
+no_field_is fields i h = sym (at_cell fields i ∙ ap trimmed (none_there fields i h))
+
+-- counting cells in turn: after one more, the count is the place past it where it is not empty
+pub one_empty : (fields : List (List ℕ)) (i n : ℕ) → i < length fields → (length (cell_at (cells_of fields) i) == 0) ≡ true
+    → n ≡ length (without_empty_end (take i (map trimmed fields))) → n ≡ length (without_empty_end (take (i + 1) (map trimmed fields)))
+one_empty fields i n h e counted =
+    let there : i < length (map trimmed fields) = simp length-map h in
+    let same : get_or (map trimmed fields) i [] ≡ cell_at (cells_of fields) i = sym (cell_stays (map trimmed fields) i) in
+    let none : (length (get_or (map trimmed fields) i []) == 0) ≡ true = ap (λ c. length c == 0) same ∙ e in
+    counted ∙ sym (ap length (ap without_empty_end (take_more (map trimmed fields) i [] there) ∙ empty_goes (take i (map trimmed fields)) _ none))
+
+pub one_full : (fields : List (List ℕ)) (i : ℕ) → i < length fields → (length (cell_at (cells_of fields) i) == 0) ≡ false
+    → i + 1 ≡ length (without_empty_end (take (i + 1) (map trimmed fields)))
+one_full fields i h e =
+    let there : i < length (map trimmed fields) = simp length-map h in
+    let same : get_or (map trimmed fields) i [] ≡ cell_at (cells_of fields) i = sym (cell_stays (map trimmed fields) i) in
+    let some : (length (get_or (map trimmed fields) i []) == 0) ≡ false = ap (λ c. length c == 0) same ∙ e in
+    let whole : without_empty_end (take (i + 1) (map trimmed fields)) ≡ take (i + 1) (map trimmed fields) =
+    ap without_empty_end (take_more (map trimmed fields) i [] there) ∙ full_stays (take i (map trimmed fields)) _ some
+    ∙ sym (take_more (map trimmed fields) i [] there) in
+    sym (ap length whole ∙ length-take-le (i + 1) (map trimmed fields) (omega arith))

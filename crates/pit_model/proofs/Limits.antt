@@ -1,0 +1,75 @@
+-- One limit more, in its place, keeps what a list of limits keeps.
+use Rattle.std.proofs.Common.{◌≡◌, ◌<◌, ◌≤◌, ◌+◌, ◌&&◌, ◌||◌, ◌==◌, ◌++◌, ℕ, suc, List, [], ◌∷◌, Bool, true, false, not, cond, arith, refl, sym, ◌∙◌, ap, length, nat_lt, take, drop, All, rules, Option, unwrap_or}
+use Rattle.std.specs.List.{list_any, insert, position, position_or_len}
+use Rattle.std.proofs.lemmas.Bool.Decides.{nat_tests}
+use Rattle.std.proofs.Math.Numerals.{one-add}
+use Rattle.std.proofs.lemmas.List.Elements.{All-nil, All-cons, All-head, All-tail, All-weaker}
+use Rattle.std.proofs.lemmas.List.Sums.{prefix_len-le-length}
+use Rattle.pit_model.specs.Plan.{stands_before, RiseStrictly, AreTonnes, IsBound}
+use Rattle.pit_model.specs.Planned.{with_limit, is_same_place, is_turned}
+use Rattle.pit_model.specs.declared.limit.Bound.{Bound}
+use Rattle.pit_model.specs.declared.limit.Bound.TheVariants.{AtMost, AtLeast, Between}
+use Rattle.pit_model.specs.declared.limit.Limit.{Limit}
+
+pub placed : {X : Type 0} (p : X → Bool) (xs : List X) → unwrap_or (position p xs) (length xs) ≡ position_or_len p xs
+placed p xs = by_test (nat_lt (position_or_len p xs) (length xs)) refl
+  where
+    by_test : (b : Bool) → nat_lt (position_or_len p xs) (length xs) ≡ b → unwrap_or (position p xs) (length xs) ≡ position_or_len p xs
+    by_test true e = rw e refl
+    by_test false e =
+        let least : length xs ≤ position_or_len p xs = grind (arith, nat_tests) in
+        let same : length xs ≡ position_or_len p xs = omega (arith, prefix_len-le-length (λ x. not (p x)) xs) in
+        rw e same
+
+-- inserting before the first that it stands before is putting it in order
+pub inserted : (l : Limit) (ms : List Limit) → insert ms (position_or_len (λ m. stands_before l m) ms) l ≡ with_limit l ms
+inserted l [] = refl
+inserted l (m ∷ ms) = by_test (inserted l ms) (stands_before l m) refl
+  where
+    by_test : insert ms (position_or_len (λ k. stands_before l k) ms) l ≡ with_limit l ms → (b : Bool) → stands_before l m ≡ b
+        → insert (m ∷ ms) (position_or_len (λ k. stands_before l k) (m ∷ ms)) l ≡ with_limit l (m ∷ ms)
+    by_test more true e = rw e refl
+    by_test more false e = rw (e, one-add) (ap (λ rest. m ∷ rest) more)
+
+trans : (a b c : Limit) → stands_before a b ≡ true → stands_before b c ≡ true → stands_before a c ≡ true
+trans a b c h k = grind (arith, nat_tests)
+
+after : (l m : Limit) → stands_before l m ≡ false → is_same_place l m ≡ false → stands_before m l ≡ true
+after l m h k = grind (arith, nat_tests)
+
+pub All-with_limit : (P : Limit → Type 0) (l : Limit) (ms : List Limit) → P l → All P ms → All P (with_limit l ms)
+All-with_limit P l [] here all = All-cons P l [] here all
+All-with_limit P l (m ∷ ms) here all =
+    by_test (All-with_limit P l ms here (All-tail P m ms all)) (stands_before l m) refl
+  where
+    by_test : All P (with_limit l ms) → (b : Bool) → stands_before l m ≡ b → All P (with_limit l (m ∷ ms))
+    by_test more true e = rw e (All-cons P l (m ∷ ms) here all)
+    by_test more false e = rw e (All-cons P m (with_limit l ms) (All-head P m ms all) more)
+
+none_first : (a b : Bool) → (a || b) ≡ false → (a ≡ false) × (b ≡ false)
+none_first true b h = absurd (cc)
+none_first false b h = (refl, h)
+
+pub rises : (l : Limit) (ms : List Limit) → RiseStrictly ms → list_any (λ m. is_same_place l m) ms ≡ false → RiseStrictly (with_limit l ms)
+rises l [] up none = (All-nil (λ m. stands_before l m ≡ true), tt)
+rises l (m ∷ ms) up none =
+    by_test (rises l ms up.1 others.1) (stands_before l m) refl
+  where
+    others : (is_same_place l m ≡ false) × (list_any (λ k. is_same_place l k) ms ≡ false)
+    others = none_first _ _ none
+
+    by_test : RiseStrictly (with_limit l ms) → (b : Bool) → stands_before l m ≡ b → RiseStrictly (with_limit l (m ∷ ms))
+    by_test more true e =
+        rw e (
+          All-cons (λ k. stands_before l k ≡ true) m ms e
+              (All-weaker (λ k. stands_before m k ≡ true) (λ k. stands_before l k ≡ true) (λ k h. trans l m k e h) ms up.0),
+          up,
+        )
+    by_test more false e =
+        rw e (All-with_limit (λ k. stands_before m k ≡ true) l ms (after l m e others.0) up.0, more)
+
+-- a bound whose ends are the right way round
+pub bound_kept : (b : Bound) → AreTonnes b → is_turned b ≡ false → IsBound b
+bound_kept (AtMost v) t h = t
+bound_kept (AtLeast v) t h = t
+bound_kept (Between v w) t h = (t.0, t.1, search rules)

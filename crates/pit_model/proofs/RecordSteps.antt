@@ -1,0 +1,187 @@
+-- A record of a text takes a byte at least, so that reading all of them ends, and taking them one at a time gives them all.
+use Rattle.std.proofs.Common.{◌≡◌, ◌+◌, ◌<◌, ◌≤◌, Bool, true, false, ℕ, zero, suc, List, [], ◌∷◌, ◌++◌, length, Option, Some, None, IfSome, All, if◌then◌else◌, refl, ap, ◌∙◌, arith, rules, inl, length-append}
+use Rattle.std.proofs.lemmas.List.Elements.{All-nil, All-cons}
+use Rattle.csv.specs.Machine.{Read, step, is_end, ends_at_end, field_after, fields_after, next_record}
+use Rattle.csv.specs.Reading.{default_config, is_bom, NextIs, ReadRecord, ReadsNext, pending_of, records_from, records_next, source_of, strip_bom, took_first, is_flexible, reader_trim, reader_config, reader_state}
+use Rattle.csv.specs.declared.parser.State.{State}
+use Rattle.csv.specs.declared.parser.State.TheVariants as st
+use Rattle.csv.specs.declared.parser.Action.{Action}
+use Rattle.csv.specs.declared.parser.Action.TheVariants as act
+use Rattle.csv.specs.declared.reader.Reader.{Reader}
+use Rattle.csv.specs.declared.reader.Trim.TheVariants as trim
+use Rattle.pit_model.specs.Records.{records_of}
+use Rattle.pit_model.specs.RecordsAhead.{IsBetweenRecords, TakesNext, rows_from}
+
+-- a byte that ends a record leaves the machine where the end of the text ends none
+ends-between : (s : State) (c : ℕ) → is_end (step default_config s c).1 ≡ true → ends_at_end (step default_config s c).0 ≡ false
+ends-between st.StartRecord c h = grind rules
+ends-between st.StartField c h = grind rules
+ends-between st.InField c h = grind rules
+ends-between st.InQuoted c h = grind rules
+ends-between st.AfterQuote c h = grind rules
+ends-between st.InEscape c h = grind rules
+ends-between st.InComment c h = grind rules
+ends-between st.AfterCr c h = grind rules
+
+-- a record that ends has the field at hand as its last one
+ends-with-cell : (a : Action) (fields : List (List ℕ)) (field : List ℕ) → is_end a ≡ true → 0 < length (fields_after a fields field)
+ends-with-cell act.EndRecord fields field h = rw (length-append fields (field ∷ [])) (omega arith)
+ends-with-cell act.Skip fields field h = cc h
+ends-with-cell act.Copy fields field h = cc h
+ends-with-cell act.EndField fields field h = cc h
+
+-- what a read of a record leaves: a state between records, a cell at least, and no more than so many bytes
+record Leaves (read : Read) (most : ℕ) : Type 0 where
+  between : ends_at_end read.1 ≡ false
+  cells : 0 < length read.0
+  bytes : length read.2 ≤ most
+
+leaves-more : (found : Option Read) (n m : ℕ) → n ≤ m → IfSome found (λ read. Leaves read n) → IfSome found (λ read. Leaves read m)
+leaves-more None n m h l = tt
+leaves-more (Some read) n m h l = record { between = l.between; cells = l.cells; bytes = omega (arith, l.bytes, h) }
+
+leaves : (state : State) (fields : List (List ℕ)) (field bytes : List ℕ)
+    → IfSome (next_record default_config state fields field bytes) (λ read. Leaves read (length bytes))
+unfolding next_record
+leaves state fields field [] = at-end (ends_at_end state)
+  where
+    at-end : (b : Bool) → IfSome (if b then Some (fields ++ (field ∷ []), st.StartRecord, []) else None) (λ read. Leaves read 0)
+    at-end true = record { between = refl; cells = ends-with-cell act.EndRecord fields field refl; bytes = omega arith }
+    at-end false = tt
+leaves state fields field (c ∷ rest) =
+    by (is_end (step default_config state c).1) refl
+    (leaves-more _ _ (length (c ∷ rest)) (omega arith) (leaves (step default_config state c).0 (fields_after (step default_config state c).1 fields field) (field_after (step default_config state c).1 c field) rest))
+  where
+    by : (b : Bool) → is_end (step default_config state c).1 ≡ b
+        → IfSome (next_record default_config (step default_config state c).0 (fields_after (step default_config state c).1 fields field) (field_after (step default_config state c).1 c field) rest)
+        (λ read. Leaves read (length (c ∷ rest)))
+        → IfSome (next_record default_config state fields field (c ∷ rest)) (λ read. Leaves read (length (c ∷ rest)))
+    by true h more = rw h (record { between = ends-between state c h; cells = ends-with-cell (step default_config state c).1 fields field h; bytes = omega arith })
+    by false h more = rw h more
+
+-- a read between two records takes a byte at least
+takes : (state : State) (bytes : List ℕ) → ends_at_end state ≡ false
+    → IfSome (next_record default_config state [] [] bytes) (λ read. (ends_at_end read.1 ≡ false) × (0 < length read.0) × (length read.2 < length bytes))
+unfolding next_record
+takes state [] h = rw h tt
+takes state (c ∷ rest) h = by (is_end (step default_config state c).1) refl
+    (leaves (step default_config state c).0 (fields_after (step default_config state c).1 [] []) (field_after (step default_config state c).1 c []) rest)
+  where
+    Taken : Option Read → Type 0
+    Taken found = IfSome found (λ read. (ends_at_end read.1 ≡ false) × (0 < length read.0) × (length read.2 < length (c ∷ rest)))
+
+    longer : (found : Option Read) → IfSome found (λ read. Leaves read (length rest)) → Taken found
+    longer None l = tt
+    longer (Some read) l = (l.between, l.cells, omega (arith, l.bytes))
+
+    by : (b : Bool) → is_end (step default_config state c).1 ≡ b
+        → IfSome (next_record default_config (step default_config state c).0 (fields_after (step default_config state c).1 [] []) (field_after (step default_config state c).1 c []) rest)
+        (λ read. Leaves read (length rest))
+        → Taken (next_record default_config state [] [] (c ∷ rest))
+    by true h l = rw h (ends-between state c h, ends-with-cell (step default_config state c).1 [] [] h, omega arith)
+    by false h l = rw h (longer _ l)
+
+-- what a read between two records leaves
+abbrev Taken : List ℕ → Read → Type 0
+Taken bytes read = (ends_at_end read.1 ≡ false) × (0 < length read.0) × (length read.2 < length bytes)
+
+-- the records do not depend on how many are asked for, once there are enough
+enough : (n m : ℕ) (state : State) (bytes : List ℕ) → ends_at_end state ≡ false → length bytes < n → length bytes < m
+    → records_from default_config n state bytes ≡ records_from default_config m state bytes
+unfolding records_from
+enough zero m state bytes h a b = absurd (omega (arith, a))
+enough (suc n) zero state bytes h a b = absurd (omega (arith, b))
+enough (suc n) (suc m) state bytes h a b =
+    by (next_record default_config state [] [] bytes) (takes state bytes h) (λ s xs between x y. enough n m s xs between x y)
+  where
+    by : (found : Option Read) → IfSome found (λ read. Taken bytes read)
+        → ((s : State) (xs : List ℕ) → ends_at_end s ≡ false → length xs < n → length xs < m → records_from default_config n s xs ≡ records_from default_config m s xs)
+        → records_next (records_from default_config n) found ≡ records_next (records_from default_config m) found
+    by None t more = refl
+    by (Some read) t more = ap (λ rows. read.0 ∷ rows) (more read.1 read.2 t.0 (omega (arith, t.2, a)) (omega (arith, t.2, b)))
+
+-- a text has no more records than bytes
+few : (n : ℕ) (state : State) (bytes : List ℕ) → ends_at_end state ≡ false → length (records_from default_config n state bytes) ≤ length bytes
+unfolding records_from
+few zero state bytes h = omega arith
+few (suc n) state bytes h = by (next_record default_config state [] [] bytes) (takes state bytes h) (λ s xs between. few n s xs between)
+  where
+    by : (found : Option Read) → IfSome found (λ read. Taken bytes read)
+        → ((s : State) (xs : List ℕ) → ends_at_end s ≡ false → length (records_from default_config n s xs) ≤ length xs)
+        → length (records_next (records_from default_config n) found) ≤ length bytes
+    by None t more = omega arith
+    by (Some read) t more = let rest = more read.1 read.2 t.0 in omega (arith, rest, t.2)
+
+-- each record of a text has a cell
+celled : (n : ℕ) (state : State) (bytes : List ℕ) → ends_at_end state ≡ false → All (λ row. 0 < length row) (records_from default_config n state bytes)
+unfolding records_from
+celled zero state bytes h = All-nil (λ row. 0 < length row)
+celled (suc n) state bytes h = by (next_record default_config state [] [] bytes) (takes state bytes h) (λ s xs between. celled n s xs between)
+  where
+    by : (found : Option Read) → IfSome found (λ read. Taken bytes read)
+        → ((s : State) (xs : List ℕ) → ends_at_end s ≡ false → All (λ row. 0 < length row) (records_from default_config n s xs))
+        → All (λ row. 0 < length row) (records_next (records_from default_config n) found)
+    by None t more = All-nil (λ row. 0 < length row)
+    by (Some read) t more = All-cons (λ row. 0 < length row) _ _ t.1 (more read.1 read.2 t.0)
+
+shorter-text : (text : List ℕ) → length (strip_bom text) ≤ length text
+unfolding strip_bom
+shorter-text [] = omega arith
+shorter-text (a ∷ []) = omega arith
+shorter-text (a ∷ b ∷ []) = omega arith
+shorter-text (a ∷ b ∷ c ∷ rest) = by (is_bom a b c)
+  where
+    by : (mark : Bool) → length (if mark then rest else a ∷ b ∷ c ∷ rest) ≤ length (a ∷ b ∷ c ∷ rest)
+    by true = omega arith
+    by false = omega arith
+
+-- a text has no more records than bytes, and none without a cell
+pub few_records : (text : List ℕ) → length (records_of text) ≤ length text
+few_records text = let a = few (length (strip_bom text) + 1) st.StartRecord (strip_bom text) refl in let b = shorter-text text in omega (arith, a, b)
+
+pub records_have_cells : (text : List ℕ) → All (λ row. 0 < length row) (records_of text)
+records_have_cells text = celled (length (strip_bom text) + 1) st.StartRecord (strip_bom text) refl
+
+-- one read of the bytes that are left takes the first of the records ahead, or finds none
+rows-next : (state : State) (bytes : List ℕ) → ends_at_end state ≡ false
+    → rows_from state bytes ≡ records_next rows_from (next_record default_config state [] [] bytes)
+unfolding records_from
+rows-next state bytes h =
+    enough (length bytes + 1) (suc (length bytes)) state bytes h (omega arith) (omega arith) ∙ by (next_record default_config state [] [] bytes) (takes state bytes h)
+  where
+    by : (found : Option Read) → IfSome found (λ read. Taken bytes read)
+        → records_next (records_from default_config (length bytes)) found ≡ records_next rows_from found
+    by None t = refl
+    by (Some read) t = ap (λ rows. read.0 ∷ rows) (enough (length bytes) (length read.2 + 1) read.1 read.2 t.0 t.2 (omega arith))
+
+-- what a read shows of the records ahead
+shows : (state after : State) (bytes rest : List ℕ) (found : Bool) (fields : List (List ℕ)) → ends_at_end state ≡ false
+    → NextIs (next_record default_config state [] [] bytes) found fields after rest
+    → (found ≡ true → (ends_at_end after ≡ false) × (rows_from state bytes ≡ fields ∷ rows_from after rest) × (0 < length fields))
+    × (found ≡ false → rows_from state bytes ≡ [])
+shows state after bytes rest found fields h n = by (next_record default_config state [] [] bytes) (rows-next state bytes h) (takes state bytes h) n
+  where
+    by : (read : Option Read) → rows_from state bytes ≡ records_next rows_from read → IfSome read (λ r. Taken bytes r) → NextIs read found fields after rest
+        → (found ≡ true → (ends_at_end after ≡ false) × (rows_from state bytes ≡ fields ∷ rows_from after rest) × (0 < length fields))
+        × (found ≡ false → rows_from state bytes ≡ [])
+    by None e t n = ((λ yes. cc (n, yes)), λ no. e)
+    by (Some r) e t n = ((λ yes. rw (n.1, n.2, n.3) (t.0, e, t.1)), λ no. cc (n.0, no))
+
+-- the same of a reader, by the bytes that the read left
+takes-by : {R : Type 0} (known : R → Option (List ℕ)) (old new : Reader R) (found : Bool) (fields : List (List ℕ)) (rest : Option (List ℕ))
+    → (set : IsBetweenRecords known old) → source_of known new ≡ rest → reader_config new ≡ default_config → reader_trim new ≡ trim.None
+    → is_flexible new ≡ true → took_first new ≡ true
+    → ReadsNext default_config (reader_state old) (Some set.bytes) rest found fields (reader_state new) → TakesNext known old new found fields
+takes-by known old new found fields None set e config plain flexible first r = absurd r
+takes-by known old new true fields (Some xs) set e config plain flexible first r =
+    let s = (shows (reader_state old) (reader_state new) set.bytes xs true fields set.between r).0 refl in
+    (record { plain = plain; ready = inl first; config = config; flexible = flexible; between = s.0; bytes = xs; source = e }, rw (set.source, e) s.1, s.2)
+takes-by known old new false fields (Some xs) set e config plain flexible first r =
+    rw set.source ((shows (reader_state old) (reader_state new) set.bytes xs false fields set.between r).1 refl)
+
+pub reader-takes : {R : Type 0} (known : R → Option (List ℕ)) (old new : Reader R) (found : Bool) (fields : List (List ℕ))
+    → IsBetweenRecords known old → ReadRecord known old new found fields → is_flexible new ≡ is_flexible old → took_first new ≡ true
+    → TakesNext known old new found fields
+reader-takes known old new found fields set read flexible first =
+    takes-by known old new found fields (pending_of (known new.rdr) new) set (rw read.1 refl) (read.2 ∙ set.config) (read.3 ∙ set.plain) (flexible ∙ set.flexible) first
+    (rw (set.source, set.config) at read.0)

@@ -1,0 +1,32 @@
+-- What a reader of records answers, beside what the records say: the answer agrees, unless memory was refused.
+use Rattle.std.specs.Prelude.{◌≡◌, ℕ, List, Result, Ok, Err}
+use Rattle.pit_model.specs.Plan.{PlanParts}
+use Rattle.pit_model.specs.Planned.{Draft}
+use Rattle.pit_model.specs.declared.plan_fault.PlanFault.{PlanFault}
+use Rattle.pit_model.specs.declared.plan_fault.PlanFaultKind.{PlanFaultKind}
+use Rattle.pit_model.specs.declared.plan_fault.RecordError.{RecordError}
+use Rattle.pit_model.specs.declared.plan_fault.RecordError.TheVariants as record_error
+use Rattle.pit_model.specs.declared.plan_fault.ReadPlanError.{ReadPlanError}
+use Rattle.pit_model.specs.declared.plan_fault.ReadPlanError.TheVariants as plan_error
+
+-- taking a record, or a part of it, makes what the definition says of what was there, or finds its fault
+abbrev pub Admits : {S A : Type 0} → S → Result A RecordError → Result S PlanFaultKind → Type 0
+Admits after (Ok x) admitted = admitted ≡ Ok after
+Admits after (Err (record_error.Fault kind)) admitted = admitted ≡ Err kind
+Admits after (Err record_error.OutOfMemory) admitted = Unit {0}
+
+-- reading answers the plan that the text states, or its fault
+abbrev pub Reads : Result PlanParts ReadPlanError → Result PlanParts PlanFault → Type 0
+Reads (Ok plan) stated = stated ≡ Ok plan
+Reads (Err (plan_error.Fault fault)) stated = stated ≡ Err fault
+Reads (Err plan_error.OutOfMemory) stated = Unit {0}
+
+-- the NAME of a cell, or its fault
+abbrev pub Names : Result (List ℕ) RecordError → Result (List ℕ) PlanFaultKind → Type 0
+Names (Ok name) stated = stated ≡ Ok name
+Names (Err (record_error.Fault kind)) stated = stated ≡ Err kind
+Names (Err record_error.OutOfMemory) stated = Unit {0}
+
+-- the destinations that a record covers, or its fault
+abbrev pub Covered : Result (List ℕ) RecordError → Result (List ℕ) PlanFaultKind → Type 0
+Covered = Names

@@ -1,0 +1,31 @@
+-- How the fields of a plan that is being read are seen, and what they keep.
+use Rattle.std.specs.Prelude.{◌<◌, ◌≤◌, ◌^◌, [], length, ◌≤ℤ◌, pos, All, IfSome, unwrap_or}
+use Rattle.pit_model.specs.declared.draft.Draft.TheInside.{Inside}
+use Rattle.pit_model.specs.Plan.{IsGrid, IsCone, IsRuled, IsBound, RiseStrictly}
+use Rattle.pit_model.specs.Planned.{Draft}
+
+abbrev pub draft_of : Inside → Draft
+draft_of d = record {
+  name = d.name;
+  grid = d.grid;
+  cones = d.cones.items;
+  formulas = d.formulas.items;
+  periods = d.periods;
+  rate = d.rate;
+  resources = d.resources.items;
+  limits = d.limits.items;
+}
+
+-- each part that was read is in range
+pub record KeepsDraft (d : Inside) : Type 0 where
+  pub grid : IfSome d.grid IsGrid
+  pub zones : length d.cones.items ≤ 64
+  pub cones : All IsCone d.cones.items
+  pub destinations : length d.formulas.items ≤ 8
+  pub formulas : All (λ f. IsRuled f.formula) d.formulas.items
+  pub periods : IfSome d.periods (λ n. (1 ≤ n) × (n ≤ 100))
+  pub rate : IfSome d.rate (λ r. (pos 0 ≤ℤ r) × (r ≤ℤ pos (10 ^ 6)))
+  pub resources : length d.resources.items ≤ 8
+  pub covers : All (λ r. All (λ n. n < length d.formulas.items) r.covers) d.resources.items
+  pub limits : All (λ l. (l.resource < length d.resources.items) × (l.period < unwrap_or d.periods 0) × IsBound l.bound) d.limits.items
+  pub rising : RiseStrictly d.limits.items

@@ -1,0 +1,101 @@
+-- What a plan is: its parts, and the facts that every plan keeps.
+use Rattle.std.specs.Prelude.{◌≡◌, ℕ, ◌<◌, ◌≤◌, ◌^◌, List, [], ◌∷◌, length, ℤ, pos, negsuc, ◌≤ℤ◌, All, Bool, true, ◌==◌, ◌&&◌, ◌||◌, nat_lt}
+use Rattle.pit_model.specs.Bands.{AreBands}
+use Rattle.pit_model.specs.declared.grid.Axis.{Axis}
+use Rattle.pit_model.specs.declared.grid.Grid.{Grid}
+use Rattle.pit_model.specs.declared.cone.Slope.{Slope}
+use Rattle.pit_model.specs.declared.cone.Cone.{Cone}
+use Rattle.pit_model.specs.declared.formula.Formula.{Formula}
+use Rattle.pit_model.specs.declared.formula.Formula.TheVariants.{Mill, Leach, Dump}
+use Rattle.pit_model.specs.declared.formula.NamedFormula.{NamedFormula}
+use Rattle.pit_model.specs.declared.resource.Resource.{Resource}
+use Rattle.pit_model.specs.declared.limit.Bound.{Bound}
+use Rattle.pit_model.specs.declared.limit.Bound.TheVariants.{AtMost, AtLeast, Between}
+use Rattle.pit_model.specs.declared.limit.Limit.{Limit}
+
+-- the parts of a plan
+pub record PlanParts : Type 0 where
+  pub name : List ℕ
+  pub grid : Grid
+  -- one a zone, in the order of the zone files
+  pub cones : List Cone
+  -- the destinations
+  pub formulas : List NamedFormula
+  pub periods : ℕ
+  -- the discount rate, in millionths
+  pub rate : ℤ
+  pub resources : List Resource
+  pub limits : List Limit
+
+-- a plan by its parts
+abbrev pub plan_of : List ℕ → Grid → List Cone → List NamedFormula → ℕ → ℤ → List Resource → List Limit → PlanParts
+plan_of name grid cones formulas periods rate resources limits = record {
+  name = name;
+  grid = grid;
+  cones = cones;
+  formulas = formulas;
+  periods = periods;
+  rate = rate;
+  resources = resources;
+  limits = limits;
+}
+
+-- an axis's origin is within 10^12 mm of zero, and its blocks are 1 to 100,000 mm long
+abbrev pub IsAxis : Axis → Type 0
+IsAxis a = ((negsuc 999999999999 ≤ℤ a.origin) × (a.origin ≤ℤ pos (10 ^ 12))) × ((1 ≤ a.size) × (a.size ≤ 10 ^ 5))
+
+abbrev pub IsGrid : Grid → Type 0
+IsGrid g = IsAxis g.x × IsAxis g.y × IsAxis g.z
+
+-- rise and run are 1 to 1000
+abbrev pub IsSlope : Slope → Type 0
+IsSlope s = ((1 ≤ s.p) × (s.p ≤ 1000)) × ((1 ≤ s.q) × (s.q ≤ 1000))
+
+-- a cone looks at 1 to 20 benches
+abbrev pub IsCone : Cone → Type 0
+IsCone c = (IsSlope c.east × IsSlope c.west × IsSlope c.north × IsSlope c.south) × ((1 ≤ c.k) × (c.k ≤ 20))
+
+-- the numbers of a formula are in range
+abbrev pub IsRuled : Formula → Type 0
+IsRuled (Mill recovery price cost) = (recovery ≤ 1000) × (price ≤ 10 ^ 8) × (cost ≤ 10 ^ 7)
+IsRuled (Leach bands price cost) = AreBands bands × (price ≤ 10 ^ 8) × (cost ≤ 10 ^ 7)
+IsRuled (Dump cost) = cost ≤ 10 ^ 7
+
+-- tonnes of a limit: 0 to 10^12, in millionths
+abbrev pub IsTonnes : ℤ → Type 0
+IsTonnes v = (pos 0 ≤ℤ v) × (v ≤ℤ pos (10 ^ 18))
+
+-- the numbers of a bound are tonnes
+abbrev pub AreTonnes : Bound → Type 0
+AreTonnes (AtMost v) = IsTonnes v
+AreTonnes (AtLeast v) = IsTonnes v
+AreTonnes (Between v w) = IsTonnes v × IsTonnes w
+
+-- and an interval's ends are the right way round
+abbrev pub IsBound : Bound → Type 0
+IsBound (AtMost v) = IsTonnes v
+IsBound (AtLeast v) = IsTonnes v
+IsBound (Between v w) = IsTonnes v × IsTonnes w × (v ≤ℤ w)
+
+-- a limit stands before another, by resource and then by period
+abbrev pub stands_before : Limit → Limit → Bool
+stands_before l m = nat_lt l.resource m.resource || ((l.resource == m.resource) && nat_lt l.period m.period)
+
+-- limits rise strictly
+abbrev pub RiseStrictly : List Limit → Type 0
+RiseStrictly [] = Unit {0}
+RiseStrictly (l ∷ ls) = All (λ m. stands_before l m ≡ true) ls × RiseStrictly ls
+
+-- what every plan keeps
+pub record IsPlan (p : PlanParts) : Type 0 where
+  pub grid : IsGrid p.grid
+  pub zones : (1 ≤ length p.cones) × (length p.cones ≤ 64)
+  pub cones : All IsCone p.cones
+  pub destinations : (1 ≤ length p.formulas) × (length p.formulas ≤ 8)
+  pub formulas : All (λ f. IsRuled f.formula) p.formulas
+  pub periods : (1 ≤ p.periods) × (p.periods ≤ 100)
+  pub rate : (pos 0 ≤ℤ p.rate) × (p.rate ≤ℤ pos (10 ^ 6))
+  pub resources : length p.resources ≤ 8
+  pub covers : All (λ r. All (λ d. d < length p.formulas) r.covers) p.resources
+  pub limits : All (λ l. (l.resource < length p.resources) × (l.period < p.periods) × IsBound l.bound) p.limits
+  pub rising : RiseStrictly p.limits

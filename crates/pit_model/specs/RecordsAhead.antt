@@ -1,0 +1,50 @@
+-- How the parts of a reader of records are seen as the records that it has ahead.
+use Rattle.std.specs.Prelude.{◌≡◌, ◌+◌, ◌<◌, ◌∷◌, Bool, true, false, ℕ, List, [], Option, Some, None, length}
+use Rattle.csv.specs.Machine.{ends_at_end}
+use Rattle.csv.specs.Reading.{Ready, default_config, is_flexible, reader_config, reader_state, reader_trim, records_from, source_of}
+use Rattle.csv.specs.declared.parser.State.{State}
+use Rattle.csv.specs.declared.reader.Reader.{Reader}
+use Rattle.csv.specs.declared.reader.Trim.TheVariants as trim
+use Rattle.pit_model.specs.Records.{Ahead, Rows, GaveUp}
+use Rattle.pit_model.specs.declared.records.Stage.{Stage}
+use Rattle.pit_model.specs.declared.records.Stage.TheVariants as stage
+
+-- the records of the bytes that are left, read on from a state
+abbrev pub rows_from : State → List ℕ → List (List (List ℕ))
+rows_from state bytes = records_from default_config (length bytes + 1) state bytes
+
+-- the same, where those bytes are known
+abbrev pub rows_of_source : State → Option (List ℕ) → List (List (List ℕ))
+rows_of_source state None = []
+rows_of_source state (Some bytes) = rows_from state bytes
+
+-- the same, of a reader
+abbrev pub rows_left : {R : Type 0} → (R → Option (List ℕ)) → Reader R → List (List (List ℕ))
+rows_left known reader = rows_of_source (reader_state reader) (source_of known reader)
+
+-- what is ahead at each stage
+abbrev pub ahead_of : {R : Type 0} → (R → Option (List ℕ)) → Stage → Reader R → Ahead
+ahead_of known stage.Reading reader = Rows (rows_left known reader)
+ahead_of known stage.Ended reader = Rows []
+ahead_of known stage.Refused reader = GaveUp
+
+-- a reader of known bytes, between two records, that reads as `records_of` says and lets records differ in length
+pub record IsBetweenRecords {R : Type 0} (known : R → Option (List ℕ)) (reader : Reader R) : Type 0 where
+  pub plain : reader_trim reader ≡ trim.None
+  pub ready : Ready reader
+  pub config : reader_config reader ≡ default_config
+  pub flexible : is_flexible reader ≡ true
+  pub between : ends_at_end (reader_state reader) ≡ false
+  pub bytes : List ℕ
+  pub source : source_of known reader ≡ Some bytes
+
+-- what a read does to such a reader: it takes the first of the records ahead, which has a cell, or there was none
+abbrev pub TakesNext : {R : Type 0} → (R → Option (List ℕ)) → Reader R → Reader R → Bool → List (List ℕ) → Type 0
+TakesNext known old new true fields = IsBetweenRecords known new × (rows_left known old ≡ fields ∷ rows_left known new) × (0 < length fields)
+TakesNext known old new false fields = rows_left known old ≡ []
+
+-- what holds of the reader underneath at each stage: nothing once no record is asked of it any more
+abbrev pub IsSetUp : {R : Type 0} → (R → Option (List ℕ)) → Stage → Reader R → Type 0
+IsSetUp known stage.Reading reader = IsBetweenRecords known reader
+IsSetUp known stage.Ended reader = Unit {0}
+IsSetUp known stage.Refused reader = Unit {0}

@@ -1,0 +1,77 @@
+//! The cells of a record, as plans and zone files see them.
+
+ghost use Rattle.std.specs.Prelude.{◌≡◌, ◌+◌, ◌<◌, ◌==◌, length};
+ghost use Rattle.csv.specs.Records.{fields_of};
+ghost use Rattle.pit_model.specs.Cells.{is_blank, without_leading_blanks, without_trailing_blanks, trimmed, cells_of, cell_at, is_word};
+
+use csv::ByteRecord;
+
+/// Whether the byte is a space or a tab.
+pub fn is_blank(byte: u8) -> bool
+    ensures { result ≡ is_blank byte }
+{
+    byte == b' ' || byte == b'\t'
+}
+
+/// The cell without the spaces and tabs at both ends.
+pub fn trimmed(cell: &[u8]) -> &[u8]
+    ensures { result.now ≡ trimmed cell.now }
+{
+    without_trailing_blanks(without_leading_blanks(cell))
+}
+
+fn without_leading_blanks(cell: &[u8]) -> &[u8]
+    ensures { result.now ≡ without_leading_blanks cell.now }
+{
+    let mut rest = cell;
+    while let [first, tail @ ..] = rest {
+        if !is_blank(*first) {
+            break;
+        }
+        rest = tail;
+    }
+    rest
+}
+
+fn without_trailing_blanks(cell: &[u8]) -> &[u8]
+    ensures { result.now ≡ without_trailing_blanks cell.now }
+{
+    let mut rest = cell;
+    while let [front @ .., last] = rest {
+        if !is_blank(*last) {
+            break;
+        }
+        rest = front;
+    }
+    rest
+}
+
+/// The number of cells of a record, those at its end left out that are empty or blank.
+pub fn cell_count(row: &ByteRecord) -> usize
+    ensures { result ≡ length (cells_of (fields_of row.now)) }
+{
+    let mut count = 0;
+    for i in 0..row.len() {
+        if !cell_at(row, i).is_empty() {
+            count = i + 1;
+        }
+    }
+    count
+}
+
+/// The cell of a record at a place, trimmed; it is empty where the record has no such cell.
+pub fn cell_at(row: &ByteRecord, place: usize) -> &[u8]
+    ensures { result.now ≡ cell_at (cells_of (fields_of row.now)) place }
+{
+    match row.get(place) {
+        Some(field) => trimmed(field),
+        None => &[],
+    }
+}
+
+/// Whether the cell is the word, the case of ASCII letters left aside.
+pub fn is_word(cell: &[u8], word: &[u8]) -> bool
+    ensures { result ≡ is_word cell.now word.now }
+{
+    cell.eq_ignore_ascii_case(word)
+}

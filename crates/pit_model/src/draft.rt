@@ -1,0 +1,368 @@
+//! A plan while its records are read.
+
+ghost use Rattle.std.specs.Prelude.{◌≡◌, ◌≤ℤ◌, ◌^◌, ◌<◌, ◌≤◌, pos, length, unwrap_or, All, IfOk};
+ghost use Rattle.csv.specs.Records.{fields_of};
+ghost use Rattle.pit_model.specs.Admits.{Admits};
+ghost use Rattle.pit_model.specs.Bands.{IsBand};
+ghost use Rattle.pit_model.specs.Cells.{cells_of};
+ghost use Rattle.pit_model.specs.Plan.{AreTonnes, IsRuled};
+ghost use Rattle.pit_model.specs.Planned.{admit, admit_name, admit_grid, admit_zone, admit_mill, admit_leach, admit_dump, admit_periods, admit_rate, admit_resource, admit_limit, blank_draft, finished, number_in, with_bound, with_formula, with_leach};
+
+use crate::band::{Band, Bands, starts_rise};
+use crate::band_cells::read_bands;
+use crate::cells::{cell_at, cell_count};
+use crate::cone::Cone;
+use crate::formula::{Formula, NamedFormula};
+use crate::grid::{Axis, Grid};
+use crate::limit::Limit;
+use crate::limit_cells::{bound_in, insert_limit, is_limited, is_turned, limit_width, period_in};
+use crate::name::Name;
+use crate::named::{covers_in, has_repeat, is_resource, is_taken, name_in, resource_in};
+use crate::numbers::{number_in, origin_in, size_in, whole_in};
+use crate::plan::Plan;
+use crate::plan_fault::{PlanFaultKind, RecordError};
+use crate::plan_key::{PlanKey, key_of};
+use crate::ranges::{MAX_BANDS, MAX_DESTINATIONS, MAX_RESOURCES, MAX_ZONES};
+use crate::resource::Resource;
+use crate::zone_cells::cone_in;
+use csv::ByteRecord;
+use pit_units::Dec;
+use std::alloc::Global;
+use std::marker::Model;
+
+/// What the records of a plan have said so far.
+#[derive(Drop)]
+pub struct Draft {
+    alloc: Global,
+    name: Option<Name>,
+    grid: Option<Grid>,
+    cones: Vec<Cone>,
+    formulas: Vec<NamedFormula>,
+    periods: Option<u8>,
+    rate: Option<Dec>,
+    resources: Vec<Resource>,
+    limits: Vec<Limit>,
+}
+
+impl Model for Draft {
+    ghost use Rattle.pit_model.specs.Planned.{Draft as Said};
+
+    ghost Value = { Said };
+
+    ghost use Rattle.pit_model.specs.DraftView.{draft_of, KeepsDraft};
+
+    ghost view = { draft_of };
+
+    ghost invariant = { KeepsDraft };
+}
+
+impl Draft {
+    /// Before the first record.
+    pub fn new(alloc: Global) -> Draft
+        ensures { result ≡ blank_draft }
+    {
+        Draft {
+            alloc,
+            name: None,
+            grid: None,
+            cones: Vec::new(alloc),
+            formulas: Vec::new(alloc),
+            periods: None,
+            rate: None,
+            resources: Vec::new(alloc),
+            limits: Vec::new(alloc),
+        }
+    }
+
+    /// Adds what the next record says. Where it has a fault, or memory is refused, the draft is as it was.
+    pub fn admit(&mut self, row: &ByteRecord) -> Result<(), RecordError>
+        ensures { Admits self.new result (admit self.old (cells_of (fields_of row.now))) }
+    {
+        let count = cell_count(row);
+        if count == 0 {
+            return Ok(());
+        }
+        match key_of(cell_at(row, 0)) {
+            None => Err(RecordError::Fault(PlanFaultKind::Key)),
+            Some(PlanKey::Name) => self.admit_name(row, count),
+            Some(PlanKey::Grid) => self.admit_grid(row, count),
+            Some(PlanKey::Zone) => self.admit_zone(row, count),
+            Some(PlanKey::Mill) => self.admit_mill(row, count),
+            Some(PlanKey::Leach) => self.admit_leach(row, count),
+            Some(PlanKey::Dump) => self.admit_dump(row, count),
+            Some(PlanKey::Periods) => self.admit_periods(row, count),
+            Some(PlanKey::Rate) => self.admit_rate(row, count),
+            Some(PlanKey::Resource) => self.admit_resource(row, count),
+            Some(PlanKey::Limit) => self.admit_limit(row, count),
+        }
+    }
+
+    /// The plan, once all its records are read.
+    pub fn finish(self) -> Result<Plan, PlanFaultKind>
+        ensures { result ≡ finished self }
+    {
+        let (Some(name), Some(grid), Some(periods), Some(rate)) = (
+            self.name,
+            self.grid,
+            self.periods,
+            self.rate,
+        ) else {
+            return Err(PlanFaultKind::Missing);
+        };
+        if self.cones.is_empty() || self.formulas.is_empty() {
+            return Err(PlanFaultKind::Missing);
+        }
+        Ok(Plan::new(
+            name,
+            grid,
+            self.cones,
+            self.formulas,
+            periods,
+            rate,
+            self.resources,
+            self.limits,
+        ))
+    }
+
+    fn admit_name(&mut self, row: &ByteRecord, count: usize) -> Result<(), RecordError>
+        requires { count ≡ length (cells_of (fields_of row.now)) }
+        ensures { Admits self.new result (admit_name self.old (cells_of (fields_of row.now))) }
+    {
+        if count != 2 {
+            return Err(RecordError::Fault(PlanFaultKind::Width));
+        }
+        let name = name_in(self.alloc, cell_at(row, 1))?;
+        if self.name.is_some() {
+            return Err(RecordError::Fault(PlanFaultKind::Twice));
+        }
+        self.name = Some(name);
+        Ok(())
+    }
+
+    fn admit_grid(&mut self, row: &ByteRecord, count: usize) -> Result<(), RecordError>
+        requires { count ≡ length (cells_of (fields_of row.now)) }
+        ensures { Admits self.new result (admit_grid self.old (cells_of (fields_of row.now))) }
+    {
+        if count != 7 {
+            return Err(RecordError::Fault(PlanFaultKind::Width));
+        }
+        let x = origin_in(cell_at(row, 1))?;
+        let y = origin_in(cell_at(row, 2))?;
+        let z = origin_in(cell_at(row, 3))?;
+        let along_x = size_in(cell_at(row, 4))?;
+        let along_y = size_in(cell_at(row, 5))?;
+        let along_z = size_in(cell_at(row, 6))?;
+        if self.grid.is_some() {
+            return Err(RecordError::Fault(PlanFaultKind::Twice));
+        }
+        self.grid = Some(Grid {
+            x: Axis {
+                origin: x,
+                size: along_x,
+            },
+            y: Axis {
+                origin: y,
+                size: along_y,
+            },
+            z: Axis {
+                origin: z,
+                size: along_z,
+            },
+        });
+        Ok(())
+    }
+
+    fn admit_zone(&mut self, row: &ByteRecord, count: usize) -> Result<(), RecordError>
+        requires { count ≡ length (cells_of (fields_of row.now)) }
+        ensures { Admits self.new result (admit_zone self.old (cells_of (fields_of row.now))) }
+    {
+        let cone = cone_in(row, count)?;
+        if self.cones.len() == MAX_ZONES as usize {
+            return Err(RecordError::Fault(PlanFaultKind::TooMany));
+        }
+        self.cones.push(cone)?;
+        Ok(())
+    }
+
+    fn admit_resource(&mut self, row: &ByteRecord, count: usize) -> Result<(), RecordError>
+        requires { count ≡ length (cells_of (fields_of row.now)) }
+        ensures { Admits self.new result (admit_resource self.old (cells_of (fields_of row.now))) }
+    {
+        if count < 3 {
+            return Err(RecordError::Fault(PlanFaultKind::Width));
+        }
+        let name = name_in(self.alloc, cell_at(row, 1))?;
+        let covers = covers_in(self.alloc, row, count, self.formulas.as_slice())?;
+        if is_resource(self.resources.as_slice(), cell_at(row, 1))
+            || has_repeat(covers.as_slice())
+        {
+            return Err(RecordError::Fault(PlanFaultKind::Twice));
+        }
+        if self.resources.len() == MAX_RESOURCES as usize {
+            return Err(RecordError::Fault(PlanFaultKind::TooMany));
+        }
+        self.resources.push(Resource { name, covers })?;
+        Ok(())
+    }
+
+    fn admit_limit(&mut self, row: &ByteRecord, count: usize) -> Result<(), RecordError>
+        requires { count ≡ length (cells_of (fields_of row.now)) }
+        ensures { Admits self.new result (admit_limit self.old (cells_of (fields_of row.now))) }
+    {
+        if count != limit_width(row) {
+            return Err(RecordError::Fault(PlanFaultKind::Width));
+        }
+        let resource = resource_in(self.resources.as_slice(), cell_at(row, 1))?;
+        let period = period_in(self.periods, cell_at(row, 2))?;
+        let bound = bound_in(row)?;
+        self.add_limit(Limit {
+            resource,
+            period,
+            bound,
+        })
+    }
+
+    fn add_limit(&mut self, limit: Limit) -> Result<(), RecordError>
+        requires resource { limit.resource < length self.old.resources }
+        requires period { limit.period < unwrap_or self.old.periods 0 }
+        requires tonnes { AreTonnes limit.bound }
+        ensures { Admits self.new result (with_bound self.old limit) }
+    {
+        if is_limited(self.limits.as_slice(), &limit) {
+            return Err(RecordError::Fault(PlanFaultKind::Twice));
+        }
+        if is_turned(&limit.bound) {
+            return Err(RecordError::Fault(PlanFaultKind::Order));
+        }
+        insert_limit(&mut self.limits, limit)?;
+        Ok(())
+    }
+
+    fn admit_mill(&mut self, row: &ByteRecord, count: usize) -> Result<(), RecordError>
+        requires { count ≡ length (cells_of (fields_of row.now)) }
+        ensures { Admits self.new result (admit_mill self.old (cells_of (fields_of row.now))) }
+    {
+        if count != 5 {
+            return Err(RecordError::Fault(PlanFaultKind::Width));
+        }
+        let name = name_in(self.alloc, cell_at(row, 1))?;
+        let recovery = whole_in(cell_at(row, 2), 0, 1000)?;
+        let price = whole_in(cell_at(row, 3), 0, 100_000_000)?;
+        let cost = whole_in(cell_at(row, 4), 0, 10_000_000)?;
+        if is_taken(self.formulas.as_slice(), cell_at(row, 1)) {
+            return Err(RecordError::Fault(PlanFaultKind::Twice));
+        }
+        let formula = Formula::Mill {
+            recovery: recovery as u16,
+            price: price as u64,
+            cost: cost as u64,
+        };
+        self.add_formula(name, formula)
+    }
+
+    fn admit_leach(&mut self, row: &ByteRecord, count: usize) -> Result<(), RecordError>
+        requires { count ≡ length (cells_of (fields_of row.now)) }
+        ensures { Admits self.new result (admit_leach self.old (cells_of (fields_of row.now))) }
+    {
+        if count < 6 || count % 2 != 0 {
+            return Err(RecordError::Fault(PlanFaultKind::Width));
+        }
+        let name = name_in(self.alloc, cell_at(row, 1))?;
+        let price = whole_in(cell_at(row, 2), 0, 100_000_000)?;
+        let cost = whole_in(cell_at(row, 3), 0, 10_000_000)?;
+        let mut bands = Vec::new(self.alloc);
+        read_bands(row, count, &mut bands)?;
+        if is_taken(self.formulas.as_slice(), cell_at(row, 1)) {
+            return Err(RecordError::Fault(PlanFaultKind::Twice));
+        }
+        self.add_leach(name, bands, price as u64, cost as u64)
+    }
+
+    fn add_leach(
+        &mut self,
+        name: Name,
+        bands: Vec<Band>,
+        price: u64,
+        cost: u64,
+    ) -> Result<(), RecordError>
+        requires some { 1 ≤ length bands.items }
+        requires in_range { All IsBand bands.items }
+        requires price { price ≤ 10 ^ 8 }
+        requires cost { cost ≤ 10 ^ 7 }
+        ensures { Admits self.new result (with_leach self.old name bands.items price cost) }
+    {
+        if !starts_rise(bands.as_slice()) {
+            return Err(RecordError::Fault(PlanFaultKind::Order));
+        }
+        if bands.len() > MAX_BANDS {
+            return Err(RecordError::Fault(PlanFaultKind::TooMany));
+        }
+        let bands = Bands::new(bands).unwrap();
+        self.add_formula(name, Formula::Leach { bands, price, cost })
+    }
+
+    fn admit_dump(&mut self, row: &ByteRecord, count: usize) -> Result<(), RecordError>
+        requires { count ≡ length (cells_of (fields_of row.now)) }
+        ensures { Admits self.new result (admit_dump self.old (cells_of (fields_of row.now))) }
+    {
+        if count != 3 {
+            return Err(RecordError::Fault(PlanFaultKind::Width));
+        }
+        let name = name_in(self.alloc, cell_at(row, 1))?;
+        let cost = whole_in(cell_at(row, 2), 0, 10_000_000)?;
+        if is_taken(self.formulas.as_slice(), cell_at(row, 1)) {
+            return Err(RecordError::Fault(PlanFaultKind::Twice));
+        }
+        self.add_formula(name, Formula::Dump { cost: cost as u64 })
+    }
+
+    fn add_formula(&mut self, name: Name, formula: Formula) -> Result<(), RecordError>
+        requires { IsRuled formula }
+        ensures { Admits self.new result (with_formula self.old name formula) }
+    {
+        if self.formulas.len() == MAX_DESTINATIONS as usize {
+            return Err(RecordError::Fault(PlanFaultKind::TooMany));
+        }
+        self.formulas.push(NamedFormula { name, formula })?;
+        Ok(())
+    }
+
+    fn admit_periods(&mut self, row: &ByteRecord, count: usize) -> Result<(), RecordError>
+        requires { count ≡ length (cells_of (fields_of row.now)) }
+        ensures { Admits self.new result (admit_periods self.old (cells_of (fields_of row.now))) }
+    {
+        if count != 2 {
+            return Err(RecordError::Fault(PlanFaultKind::Width));
+        }
+        let periods = whole_in(cell_at(row, 1), 1, 100)?;
+        if self.periods.is_some() {
+            return Err(RecordError::Fault(PlanFaultKind::Twice));
+        }
+        self.periods = Some(periods as u8);
+        Ok(())
+    }
+
+    fn admit_rate(&mut self, row: &ByteRecord, count: usize) -> Result<(), RecordError>
+        requires { count ≡ length (cells_of (fields_of row.now)) }
+        ensures { Admits self.new result (admit_rate self.old (cells_of (fields_of row.now))) }
+    {
+        if count != 2 {
+            return Err(RecordError::Fault(PlanFaultKind::Width));
+        }
+        let rate = rate_in(cell_at(row, 1))?;
+        if self.rate.is_some() {
+            return Err(RecordError::Fault(PlanFaultKind::Twice));
+        }
+        self.rate = Some(rate);
+        Ok(())
+    }
+}
+
+/// The discount rate that a cell states.
+fn rate_in(cell: &[u8]) -> Result<Dec, PlanFaultKind>
+    ensures value { result ≡ number_in 6 (pos 0) (pos (10 ^ 6)) cell.now }
+    ensures in_range { IfOk result (λ r. (pos 0 ≤ℤ r) × (r ≤ℤ pos (10 ^ 6))) }
+{
+    let millionths = number_in(cell, 6, 0, 1_000_000)?;
+    Ok(Dec::new(millionths).unwrap())
+}

@@ -1,0 +1,136 @@
+//! The cells of a `limit` record, and the limits in order.
+
+ghost use Rattle.std.specs.Prelude.{◌≡◌, ◌<◌, ◌≤◌, ◌^◌, ◌≤ℤ◌, length, pos, unwrap_or, bytes_eq, position, IfErr, IfOk, IfSome, OnErr, OnOk};
+ghost use Rattle.std.specs.List.{list_any, position_or_len};
+ghost use Rattle.csv.specs.Records.{fields_of};
+ghost use Rattle.pit_model.specs.Cells.{cells_of};
+ghost use Rattle.pit_model.specs.Plan.{AreTonnes, stands_before};
+ghost use Rattle.pit_model.specs.Planned.{bound_in, is_same_place, is_turned, limit_width, period_in, tonnes_in, with_limit};
+
+use crate::cells::cell_at;
+use crate::limit::{Bound, Limit};
+use crate::numbers::{number_in, whole_in};
+use crate::plan_fault::{PlanFaultKind, RecordError};
+use csv::ByteRecord;
+use pit_units::{Dec, parse_dec};
+
+fn is_letter(cell: &[u8], letter: &[u8]) -> bool
+    ensures { result ≡ bytes_eq cell.now letter.now }
+{
+    cell == letter
+}
+
+/// How many cells the record has to have: an interval has one more.
+pub fn limit_width(row: &ByteRecord) -> usize
+    ensures { result ≡ limit_width (cells_of (fields_of row.now)) }
+{
+    if is_letter(cell_at(row, 3), b"I") {
+        6
+    } else {
+        5
+    }
+}
+
+/// The number of a period, of which there are so many.
+pub fn period_in(periods: Option<u8>, cell: &[u8]) -> Result<u8, PlanFaultKind>
+    requires { IfSome periods (λ n. 1 ≤ n) }
+    ensures value { result ≡ period_in periods cell.now }
+    ensures there { IfOk result (λ n. n < unwrap_or periods 0) }
+{
+    match periods {
+        Some(periods) => {
+            let period = whole_in(cell, 0, (periods - 1) as u32)?;
+            Ok(period as u8)
+        }
+        None => {
+            let _ = parse_dec(cell, 0)?;
+            Err(PlanFaultKind::Range)
+        }
+    }
+}
+
+fn tonnes_in(cell: &[u8]) -> Result<Dec, PlanFaultKind>
+    ensures value { result ≡ tonnes_in cell.now }
+    ensures in_range { IfOk result (λ v. (pos 0 ≤ℤ v) × (v ≤ℤ pos (10 ^ 18))) }
+{
+    let millionths = number_in(cell, 6, 0, 1_000_000_000_000_000_000)?;
+    Ok(Dec::new(millionths).unwrap())
+}
+
+/// What the record asks, by its letter.
+pub fn bound_in(row: &ByteRecord) -> Result<Bound, PlanFaultKind>
+    ensures value { result ≡ bound_in (cells_of (fields_of row.now)) }
+    ensures in_range { IfOk result AreTonnes }
+{
+    let letter = cell_at(row, 3);
+    if is_letter(letter, b"L") {
+        Ok(Bound::AtMost(tonnes_in(cell_at(row, 4))?))
+    } else if is_letter(letter, b"G") {
+        Ok(Bound::AtLeast(tonnes_in(cell_at(row, 4))?))
+    } else if is_letter(letter, b"I") {
+        let low = tonnes_in(cell_at(row, 4))?;
+        let high = tonnes_in(cell_at(row, 5))?;
+        Ok(Bound::Between(low, high))
+    } else {
+        Err(PlanFaultKind::Name)
+    }
+}
+
+/// Whether the ends of an interval are the wrong way round.
+pub fn is_turned(bound: &Bound) -> bool
+    ensures { result ≡ is_turned bound.now }
+{
+    match bound {
+        Bound::Between(low, high) => low.millionths() > high.millionths(),
+        Bound::AtMost(_) => false,
+        Bound::AtLeast(_) => false,
+    }
+}
+
+fn is_same_place(limit: &Limit, other: &Limit) -> bool
+    ensures { result ≡ is_same_place limit.now other.now }
+{
+    limit.resource == other.resource && limit.period == other.period
+}
+
+fn stands_before(limit: &Limit, other: &Limit) -> bool
+    ensures { result ≡ stands_before limit.now other.now }
+{
+    limit.resource < other.resource
+        || (limit.resource == other.resource && limit.period < other.period)
+}
+
+/// Whether the resource has a limit in the period.
+pub fn is_limited(limits: &[Limit], limit: &Limit) -> bool
+    ensures { result ≡ list_any (λ m. is_same_place limit.now m) limits.now }
+{
+    limits.iter().any(|other| is_same_place(limit, other))
+}
+
+/// Where a limit stands among others: before the first that it stands before.
+#[tactic(auto, using(crate::proofs::Limits::placed))]
+fn place_of(limits: &[Limit], limit: &Limit) -> usize
+    ensures place { result ≡ position_or_len (λ m. stands_before limit.now m) limits.now }
+    ensures within { result ≤ length limits.now }
+{
+    first_after(limits, limit).unwrap_or(limits.len())
+}
+
+fn first_after(limits: &[Limit], limit: &Limit) -> Option<usize>
+    ensures place { result ≡ position (λ m. stands_before limit.now m) limits.now }
+    ensures within { IfSome result (λ n. n < length limits.now) }
+{
+    limits.iter().position(|other| stands_before(limit, other))
+}
+
+/// Adds a limit in its place. Where memory is refused the limits are as they were.
+#[tactic(auto, using(crate::proofs::Limits::inserted))]
+pub fn insert_limit(limits: &mut Vec<Limit>, limit: Limit) -> Result<(), RecordError>
+    ensures ok { OnOk result (limits.new.items ≡ with_limit limit limits.old.items) }
+    ensures err { IfErr result (λ error. error ≡ RecordError.OutOfMemory) }
+    ensures kept { OnErr result (limits.new.items ≡ limits.old.items) }
+{
+    let place = place_of(limits.as_slice(), &limit);
+    limits.insert(place, limit)?;
+    Ok(())
+}

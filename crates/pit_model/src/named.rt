@@ -1,0 +1,111 @@
+//! The NAMEs in a plan's cells.
+
+ghost use Rattle.std.specs.Prelude.{◌≡◌, ◌<◌, ◌≤◌, [], length, drop, position, bytes_eq, All, IfOk, IfSome};
+ghost use Rattle.csv.specs.Records.{fields_of};
+ghost use Rattle.pit_model.specs.Admits.{Covered, Names};
+ghost use Rattle.pit_model.specs.Cells.{cells_of};
+ghost use Rattle.pit_model.specs.Planned.{covers_in, destination_in, has_repeat, is_resource, is_taken, name_in, resource_in};
+
+use crate::cells::cell_at;
+use crate::formula::NamedFormula;
+use crate::name::Name;
+use crate::plan_fault::{PlanFaultKind, RecordError};
+use crate::resource::{Covers, Resource};
+use csv::ByteRecord;
+use std::alloc::Global;
+
+/// The NAME that a cell spells.
+pub fn name_in(alloc: Global, cell: &[u8]) -> Result<Name, RecordError>
+    ensures { Names result (name_in cell.now) }
+{
+    match Name::read(alloc, cell)? {
+        Some(name) => Ok(name),
+        None => Err(RecordError::Fault(PlanFaultKind::Name)),
+    }
+}
+
+/// Whether a destination has this NAME.
+pub fn is_taken(formulas: &[NamedFormula], name: &[u8]) -> bool
+    ensures { result ≡ is_taken formulas.now name.now }
+{
+    formulas.iter().any(|formula| formula.name.is(name))
+}
+
+/// Whether a resource has this NAME.
+pub fn is_resource(resources: &[Resource], name: &[u8]) -> bool
+    ensures { result ≡ is_resource resources.now name.now }
+{
+    resources.iter().any(|resource| resource.name.is(name))
+}
+
+/// The number of the destination that a cell names.
+pub fn destination_in(formulas: &[NamedFormula], cell: &[u8]) -> Result<u8, PlanFaultKind>
+    requires { length formulas.now ≤ 8 }
+    ensures value { result ≡ destination_in formulas.now cell.now }
+    ensures there { IfOk result (λ n. n < length formulas.now) }
+{
+    match formula_place(formulas, cell) {
+        Some(number) => Ok(number as u8),
+        None => Err(PlanFaultKind::Name),
+    }
+}
+
+fn formula_place(formulas: &[NamedFormula], name: &[u8]) -> Option<usize>
+    ensures place { result ≡ position (λ f. bytes_eq f.name name.now) formulas.now }
+    ensures within { IfSome result (λ n. n < length formulas.now) }
+{
+    formulas.iter().position(|formula| formula.name.is(name))
+}
+
+/// The number of the resource that a cell names.
+pub fn resource_in(resources: &[Resource], cell: &[u8]) -> Result<u8, PlanFaultKind>
+    requires { length resources.now ≤ 8 }
+    ensures value { result ≡ resource_in resources.now cell.now }
+    ensures there { IfOk result (λ n. n < length resources.now) }
+{
+    match resource_place(resources, cell) {
+        Some(number) => Ok(number as u8),
+        None => Err(PlanFaultKind::Name),
+    }
+}
+
+fn resource_place(resources: &[Resource], name: &[u8]) -> Option<usize>
+    ensures place { result ≡ position (λ r. bytes_eq r.name name.now) resources.now }
+    ensures within { IfSome result (λ n. n < length resources.now) }
+{
+    resources.iter().position(|resource| resource.name.is(name))
+}
+
+/// The numbers of the destinations that the cells of a `resource` record name, from its third cell on.
+pub fn covers_in(
+    alloc: Global,
+    row: &ByteRecord,
+    count: usize,
+    formulas: &[NamedFormula],
+) -> Result<Covers, RecordError>
+    requires whole { count ≡ length (cells_of (fields_of row.now)) }
+    requires few { length formulas.now ≤ 8 }
+    ensures value { Covered result (covers_in (drop 2 (cells_of (fields_of row.now))) formulas.now []) }
+    ensures there { IfOk result (λ covers. All (λ n. n < length formulas.now) covers) }
+{
+    let mut covers = Vec::new(alloc);
+    for place in 2..count {
+        let number = destination_in(formulas, cell_at(row, place))?;
+        covers.push(number)?;
+    }
+    Ok(Covers::new(covers))
+}
+
+/// Whether a number stands twice.
+pub fn has_repeat(numbers: &[u8]) -> bool
+    ensures { result ≡ has_repeat numbers.now }
+{
+    let mut rest = numbers;
+    while let [first, more @ ..] = rest {
+        if more.contains(first) {
+            return true;
+        }
+        rest = more;
+    }
+    false
+}

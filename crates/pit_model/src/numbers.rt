@@ -1,0 +1,48 @@
+//! The numbers and names in a plan's cells.
+
+ghost use Rattle.std.specs.Prelude.{◌≡◌, ◌≤◌, ◌*◌, ◌^◌, ◌<◌, ◌≤ℤ◌, pos, negsuc, IfOk};
+ghost use Rattle.pit_model.specs.Planned.{number_in, whole_in, origin_in, size_in};
+
+use crate::plan_fault::PlanFaultKind;
+use pit_units::parse_dec;
+
+/// The millionths that a cell states, with at most so many decimals and from `low` to `high`.
+pub fn number_in(cell: &[u8], decimals: u8, low: i128, high: i128) -> Result<i128, PlanFaultKind>
+    requires { decimals ≤ 6 }
+    ensures value { result ≡ number_in decimals low high cell.now }
+    ensures in_range { IfOk result (λ m. (low ≤ℤ m) × (m ≤ℤ high)) }
+{
+    let millionths = parse_dec(cell, decimals)?.millionths();
+    if low <= millionths && millionths <= high {
+        Ok(millionths)
+    } else {
+        Err(PlanFaultKind::Range)
+    }
+}
+
+/// The whole number that a cell states, from `low` to `high`.
+pub fn whole_in(cell: &[u8], low: u32, high: u32) -> Result<u32, PlanFaultKind>
+    ensures value { result ≡ whole_in low high cell.now }
+    ensures in_range { IfOk result (λ n. (low ≤ n) × (n ≤ high)) }
+{
+    let millionths = number_in(cell, 0, low as i128 * 1_000_000, high as i128 * 1_000_000)?;
+    Ok((millionths.unsigned_abs() / 1_000_000) as u32)
+}
+
+/// The millimetres of an origin that a cell states in metres, within 10^12 of zero.
+pub fn origin_in(cell: &[u8]) -> Result<i64, PlanFaultKind>
+    ensures value { result ≡ origin_in cell.now }
+    ensures in_range { IfOk result (λ n. (negsuc 999999999999 ≤ℤ n) × (n ≤ℤ pos (10 ^ 12))) }
+{
+    let millionths = number_in(cell, 3, -1_000_000_000_000_000, 1_000_000_000_000_000)?;
+    Ok((millionths / 1000) as i64)
+}
+
+/// The millimetres of a block's size that a cell states in metres, 1 to 100,000.
+pub fn size_in(cell: &[u8]) -> Result<u32, PlanFaultKind>
+    ensures value { result ≡ size_in cell.now }
+    ensures in_range { IfOk result (λ n. (1 ≤ n) × (n ≤ 10 ^ 5)) }
+{
+    let millionths = number_in(cell, 3, 1000, 100_000_000)?;
+    Ok((millionths.unsigned_abs() / 1000) as u32)
+}

@@ -1,0 +1,50 @@
+//! The keys of a plan's records.
+
+ghost use Rattle.std.specs.Prelude.{◌≡◌};
+ghost use Rattle.pit_model.specs.Planned.{key_of};
+
+use crate::cells::is_word;
+
+/// What a record of a plan is about: its first cell.
+#[derive(Clone, Copy, Debug, PartialEq, Eq)]
+pub enum PlanKey {
+    Name,
+    Grid,
+    Zone,
+    Mill,
+    Leach,
+    Dump,
+    Periods,
+    Rate,
+    Resource,
+    Limit,
+}
+
+/// The key that a cell is, in upper or lower case.
+pub fn key_of(cell: &[u8]) -> Option<PlanKey>
+    ensures { result ≡ key_of cell.now }
+{
+    if is_word(cell, b"name") {
+        Some(PlanKey::Name)
+    } else if is_word(cell, b"grid") {
+        Some(PlanKey::Grid)
+    } else if is_word(cell, b"zone") {
+        Some(PlanKey::Zone)
+    } else if is_word(cell, b"mill") {
+        Some(PlanKey::Mill)
+    } else if is_word(cell, b"leach") {
+        Some(PlanKey::Leach)
+    } else if is_word(cell, b"dump") {
+        Some(PlanKey::Dump)
+    } else if is_word(cell, b"periods") {
+        Some(PlanKey::Periods)
+    } else if is_word(cell, b"rate") {
+        Some(PlanKey::Rate)
+    } else if is_word(cell, b"resource") {
+        Some(PlanKey::Resource)
+    } else if is_word(cell, b"limit") {
+        Some(PlanKey::Limit)
+    } else {
+        None
+    }
+}

@@ -1,0 +1,50 @@
+//! Reading a plan.
+
+ghost use Rattle.std.specs.Prelude.{◌≡◌};
+ghost use Rattle.pit_model.specs.Admits.{Reads};
+ghost use Rattle.pit_model.specs.Planned.{planned};
+
+use crate::draft::Draft;
+use crate::plan::Plan;
+use crate::plan_fault::{PlanFault, PlanFaultKind, ReadPlanError, RecordError};
+use crate::ranges::MAX_PLAN_RECORDS;
+use crate::records::RecordReader;
+use csv::ByteRecord;
+use std::alloc::Global;
+
+/// The plan that a text states.
+///
+/// The text is comma-separated records, cells without the spaces and tabs at both ends, empty cells at a record's end left out, records
+/// of no cells counted and skipped. A record begins with a key, in upper or lower case: `name`, `grid`, `zone`, `dump`, `periods` or
+/// `rate`. The answer is the plan, or the number and kind of the first faulty record; the one other refusal is that of memory.
+pub fn read_plan(alloc: Global, text: &[u8]) -> Result<Plan, ReadPlanError>
+    ensures { Reads result (planned text.now) }
+{
+    let mut reader = RecordReader::from_slice(alloc, text);
+    let mut row = ByteRecord::new(alloc);
+    let mut draft = Draft::new(alloc);
+    let mut number = 1;
+    while reader.next(&mut row)? {
+        if number > MAX_PLAN_RECORDS {
+            return Err(fault(number, PlanFaultKind::TooMany));
+        }
+        match draft.admit(&row) {
+            Ok(()) => number += 1,
+            Err(RecordError::Fault(kind)) => return Err(fault(number, kind)),
+            Err(RecordError::OutOfMemory) => return Err(ReadPlanError::OutOfMemory),
+        }
+    }
+    match draft.finish() {
+        Ok(plan) => Ok(plan),
+        Err(kind) => Err(fault(number, kind)),
+    }
+}
+
+fn fault(row: u32, kind: PlanFaultKind) -> ReadPlanError
+    ensures { result ≡ ReadPlanError.Fault (record { row = row; kind = kind }) }
+{
+    ReadPlanError::Fault(PlanFault { row, kind })
+}
+
+#[cfg(test)]
+mod tests;

@@ -1,0 +1,132 @@
+//! The records of a text of comma-separated cells, one at a time.
+//!
+//! A record is what RFC 4180 says, as the crate `csv` states it: cells between commas, quoted cells between double quotes with a quote
+//! doubled inside, lines ended by LF, CR or both. Records may differ in length, no cell is trimmed, no record is a header, and blank lines
+//! are no records. One byte order mark at the front of the text is dropped.
+//!
+//! Where RFC 4180 is silent: a quote inside an unquoted cell stands for itself, bytes after a closing quote join its cell, and a quote that is
+//! not closed runs to the end of the text. A cell may hold any bytes.
+
+ghost use Rattle.std.specs.Prelude.{◌≡◌, ◌+◌, ◌<◌, ◌≤◌, true, IfOk, IfSome, Ok, length};
+ghost use Rattle.std.specs.List.{All};
+ghost use Rattle.csv.specs.Records.{fields_of};
+ghost use Rattle.pit_model.specs.Records.{TakesRow, Rows, records_of, rows_ahead};
+ghost use Rattle.pit_model.specs.RecordsAhead.{IsBetweenRecords, TakesNext, rows_left};
+
+use csv::{ByteRecord, Reader, ReaderBuilder};
+use std::alloc::{AllocError, Global};
+use std::io::{Cursor, Read};
+use std::marker::Model;
+
+/// Whether the text has given all its records.
+#[derive(Clone, Copy)]
+enum Stage {
+    /// A record may follow.
+    Reading,
+    /// The text has ended.
+    Ended,
+    /// Memory was refused, inside a record perhaps.
+    Refused,
+}
+
+/// A reader of a text's records, over the bytes that it owns or borrows. Contracts see the records that are left, or that memory was refused.
+/// It holds its buffer and tables in itself, some sixteen kilobytes, and takes memory only for the record that it reads into.
+#[derive(Drop)]
+pub struct RecordReader<R: Read> {
+    reader: Reader<R>,
+    stage: Stage,
+}
+
+impl<R: Read> Model for RecordReader<R> {
+    ghost use Rattle.pit_model.specs.Records.{Ahead};
+    ghost use Rattle.pit_model.specs.RecordsAhead.{ahead_of, IsSetUp};
+
+    ghost Value = { Ahead };
+
+    ghost view = { λ r. ahead_of R.remaining r.stage r.reader };
+
+    ghost invariant = { λ r. IsSetUp R.remaining r.stage r.reader };
+}
+
+impl RecordReader<Cursor<Vec<u8>>> {
+    /// A reader of the records of `text`, which it keeps. It takes no memory and reads nothing yet.
+    #[tactic(auto, using(crate::proofs::RecordSteps::few_records, crate::proofs::RecordSteps::records_have_cells))]
+    pub fn new(alloc: Global, text: Vec<u8>) -> RecordReader<Cursor<Vec<u8>>>
+        ensures records { result ≡ Rows (records_of text.items) }
+        ensures few { length (records_of text.items) ≤ length text.items }
+        ensures cells { All (λ row. 0 < length row) (records_of text.items) }
+    {
+        RecordReader {
+            reader: reader_of(alloc, Cursor::new(text)),
+            stage: Stage::Reading,
+        }
+    }
+}
+
+impl<'a> RecordReader<&'a [u8]> {
+    /// A reader of the records of `text`, which it borrows. It takes no memory and reads nothing yet.
+    #[tactic(auto, using(crate::proofs::RecordSteps::few_records, crate::proofs::RecordSteps::records_have_cells))]
+    pub fn from_slice(alloc: Global, text: &'a [u8]) -> RecordReader<&'a [u8]>
+        ensures records { result ≡ Rows (records_of text.now) }
+        ensures few { length (records_of text.now) ≤ length text.now }
+        ensures cells { All (λ row. 0 < length row) (records_of text.now) }
+    {
+        RecordReader {
+            reader: reader_of(alloc, text),
+            stage: Stage::Reading,
+        }
+    }
+}
+
+impl<R: Read> RecordReader<R> {
+    /// Takes the next record into `row`, in place of what `row` held, and says whether there was one.
+    ///
+    /// At the end of the text the answer is `false`, then and ever after, and what `row` holds is left open. The one error is that
+    /// memory was refused for `row`: the reader gives no record after it, and answers it ever after.
+    pub fn next(&mut self, row: &mut ByteRecord) -> Result<bool, AllocError>
+        ensures takes { TakesRow self.old result (fields_of row.new) self.new }
+        ensures fewer { result ≡ Ok true → rows_ahead self.new + 1 ≡ rows_ahead self.old }
+        ensures cells { result ≡ Ok true → 0 < length (fields_of row.new) }
+    {
+        match self.stage {
+            Stage::Reading => {}
+            Stage::Ended => return Ok(false),
+            Stage::Refused => return Err(AllocError),
+        }
+        match take_record(&mut self.reader, row) {
+            Ok(true) => Ok(true),
+            Ok(false) => {
+                self.stage = Stage::Ended;
+                Ok(false)
+            }
+            Err(refusal) => {
+                self.stage = Stage::Refused;
+                Err(refusal)
+            }
+        }
+    }
+}
+
+// Takes the next record. The crate's contract leaves open whether an error is one of memory or of the reader underneath, which here is
+// bytes in memory and has none: so each is one of memory.
+fn take_record<R: Read>(reader: &mut Reader<R>, row: &mut ByteRecord) -> Result<bool, AllocError>
+    ensures { IsBetweenRecords R.remaining reader.old → IfOk result (λ found. TakesNext R.remaining reader.old reader.new found (fields_of row.new)) }
+{
+    match reader.read_byte_record(row) {
+        Ok(found) => Ok(found),
+        Err(_) => Err(AllocError),
+    }
+}
+
+// A reader with the crate's defaults, but with no header and with records of any length.
+fn reader_of<R: Read>(alloc: Global, source: R) -> Reader<R>
+    ensures { IfSome (R.remaining source) (λ text. IsBetweenRecords R.remaining result × (rows_left R.remaining result ≡ records_of text)) }
+{
+    ReaderBuilder::new()
+        .has_headers(false)
+        .flexible(true)
+        .from_reader(alloc, source)
+}
+
+#[cfg(test)]
+mod tests;

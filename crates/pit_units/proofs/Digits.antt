@@ -1,0 +1,44 @@
+-- Digits of a text and their value.
+use Rattle.std.specs.Prelude.{◌≡◌, ℕ, ◌+◌, ◌*◌, ◌-◌, ◌^◌, ◌<◌, ◌≤◌, min, List, ◌++◌, length, get_or, take, replicate, zero, suc, [], ◌∷◌, true, ◌==◌}
+use Rattle.std.proofs.Common.{arith, sym, refl, ap, add-one, length-append}
+use Rattle.std.proofs.Math.Nat.{pow-succ'}
+use borrow.Author.Tests.{eq-eqb, ne_eqb}
+use Rattle.std.proofs.lemmas.Bool.Decides.{nat_tests}
+use Rattle.std.proofs.lemmas.Int.Digits.{digits_value_more}
+use Rattle.std.proofs.lemmas.List.Sums.{AllPass-from_list_all, position_or_len_is}
+use Rattle.std.proofs.lemmas.List.{get_or-replicate}
+use Rattle.std.proofs.lemmas.Str.{digit_value_digit}
+use Rattle.std.specs.Char.{is_ascii_digit}
+use Rattle.std.specs.Int.{IsInRange}
+use Rattle.std.specs.List.{list_all, position_or_len}
+use Rattle.std.specs.Str.Parse.{digits_value}
+
+-- each byte of digits is a digit
+pub digit_in_range : (xs : List ℕ) (i : ℕ) → list_all is_ascii_digit xs ≡ true → i < length xs → IsInRange 48 57 (get_or xs i 0)
+digit_in_range xs i all within =
+    let passes : is_ascii_digit (get_or xs i 0) ≡ true = AllPass-from_list_all is_ascii_digit xs all i 0 within in
+    grind (arith, nat_tests)
+
+-- one more digit of a number that is cut off at a limit
+pub capped_more : (xs : List ℕ) (i value : ℕ) → list_all is_ascii_digit xs ≡ true → i < length xs → value ≡ min (10 ^ 18 + 1) (digits_value 10 (take i xs)) → min (10 ^ 18 + 1) (value * 10 + (get_or xs i 0 - 48)) ≡ min (10 ^ 18 + 1) (digits_value 10 (take (i + 1) xs))
+capped_more xs i value all within so_far =
+    let range = digit_in_range xs i all within in
+    omega (arith, range, digit_value_digit (get_or xs i 0) range, digits_value_more 10 xs i within)
+
+-- the first place that has a byte
+pub first_place : (xs : List ℕ) (i byte : ℕ) → i ≤ length xs → ((k : ℕ) → k < i → get_or xs k 0 ≡ byte → ⊥) → (i < length xs → get_or xs i 0 ≡ byte) → i ≡ position_or_len (λ c. c == byte) xs
+first_place xs i byte within before at = sym (position_or_len_is (λ c. c == byte) xs i 0 within (λ k h. ne_eqb _ _ (before k h)) (λ h. eq-eqb _ _ (at h)))
+
+-- a place of a text with zeros behind it
+pub padded_at : (xs : List ℕ) (n i : ℕ) → i < n → get_or (xs ++ replicate n 48) i 0 ≡ get_or xs i 48
+padded_at [] n i within = get_or-replicate n i 48 0 within
+padded_at (x ∷ xs) n zero within = refl
+padded_at (x ∷ xs) n (suc i) within = padded_at xs n i (omega arith)
+
+-- one more of the six decimals
+pub decimals_more : (xs : List ℕ) (i value digit : ℕ) → i < 6 → digit ≤ 9 → digit + 48 ≡ get_or xs i 48 → value < 10 ^ i → value ≡ digits_value 10 (take i (xs ++ replicate 6 48)) → (value * 10 + digit < 10 ^ (i + 1)) × (value * 10 + digit ≡ digits_value 10 (take (i + 1) (xs ++ replicate 6 48)))
+decimals_more xs i value digit within small is bound so_far =
+    let padded = padded_at xs 6 i within in
+    let range : IsInRange 48 57 (get_or (xs ++ replicate 6 48) i 0) = omega arith in
+    let long : i < length (xs ++ replicate 6 48) = omega (arith, length-append xs (replicate 6 48)) in
+    (omega (arith, pow-succ' 10 i, ap (λ n. 10 ^ n) (add-one i)), omega (arith, digit_value_digit _ range, digits_value_more 10 (xs ++ replicate 6 48) i long))

@@ -1,0 +1,56 @@
+//! What holds of decimal texts, whatever the text and the number: each contract is a law, and a call of it does nothing.
+ghost use Rattle.std.specs.Prelude.{◌≡◌, ◌↔◌, ℕ, ◌++◌, ◌-◌, ◌*◌, ◌%◌, ◌^◌, ◌<◌, ◌≤◌, List, length, drop, ℤ, pos, unsigned_abs, IsTrue, Ok, Err};
+ghost use Rattle.std.specs.Fmt.{decimal};
+ghost use Rattle.std.specs.Str.Parse.{digits_value};
+ghost use Rattle.pit_units.specs.declared.fault.DecFault.TheVariants as DecFault;
+ghost use Rattle.pit_units.specs.Decimal.{all_zeros, decimal_of, shortest, IsPlain, IsShortest, IsSpelled, StandsFor};
+
+/// What is written is read again as the same number.
+pub fn written_is_read()
+    ensures { (z : ℤ) → unsigned_abs z ≤ 10 ^ 24 → decimal_of 6 (shortest z) ≡ Ok z }
+{}
+
+/// A number that needs no more than `max` decimals is read again where no more are allowed.
+pub fn coarse_is_read()
+    ensures { (max : ℕ) (z : ℤ) → max ≤ 6 → unsigned_abs z ≤ 10 ^ 24
+        → unsigned_abs z % 10 ^ (6 - max) ≡ 0 → decimal_of max (shortest z) ≡ Ok z }
+{}
+
+/// A whole number is written as its digits alone, and is read from them.
+pub fn whole_is_digits()
+    ensures written { (k : ℕ) → shortest (pos (k * 10 ^ 6)) ≡ decimal k }
+    ensures read { (k : ℕ) → k ≤ 10 ^ 18 → decimal_of 0 (decimal k) ≡ Ok (pos (k * 10 ^ 6)) }
+{}
+
+/// What is written has nothing needless, and no other text of the number has nothing needless.
+pub fn written_is_shortest()
+    ensures shortest_text { (z : ℤ) → unsigned_abs z ≤ 10 ^ 24 → IsShortest z (shortest z) }
+    ensures only { (z : ℤ) (text : List ℕ) → StandsFor 6 text z → IsShortest z text → text ≡ shortest z }
+{}
+
+/// What is written has digits, a minus and a point alone.
+pub fn written_is_plain()
+    ensures { (z : ℤ) → unsigned_abs z ≤ 10 ^ 24 → IsPlain (shortest z) }
+{}
+
+/// A text is read as the number that it stands for, and as no other.
+pub fn read_is_meant()
+    ensures { (max : ℕ) (text : List ℕ) (m : ℤ) → max ≤ 6
+        → ((decimal_of max text ≡ Ok m) ↔ StandsFor max text m) }
+{}
+
+/// A text is no number where it is spelled in no way.
+pub fn number_is_spelled()
+    ensures { (max : ℕ) (text : List ℕ) → ((decimal_of max text ≡ Err DecFault.Number)
+        ↔ ((sign whole tail fraction : List ℕ) → ¬ (IsSpelled text sign whole tail fraction))) }
+{}
+
+/// Of a text that is spelled: it is too fine where a decimal past `max` is not zero, and else out of range where the number is.
+pub fn spelled_faults()
+    ensures too_fine { (max : ℕ) (text sign whole tail fraction : List ℕ) → IsSpelled text sign whole tail fraction
+        → ((decimal_of max text ≡ Err DecFault.TooFine) ↔ ¬ (IsTrue (all_zeros (drop max fraction)))) }
+    ensures range { (max : ℕ) (text sign whole tail fraction : List ℕ) → max ≤ 6 → IsSpelled text sign whole tail fraction
+        → IsTrue (all_zeros (drop max fraction))
+        → ((decimal_of max text ≡ Err DecFault.Range)
+        ↔ (10 ^ 24 * 10 ^ length fraction < digits_value 10 (whole ++ fraction) * 10 ^ 6)) }
+{}

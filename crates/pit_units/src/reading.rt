@@ -1,0 +1,136 @@
+ghost use Rattle.std.specs.Prelude.{◌≡◌, ◌+◌, ◌*◌, ◌^◌, ◌≤◌, ◌<◌, ◌==◌, min, drop, slice_index_or, length, not, ◌&&◌, IsTrue, nat_lt, if◌then◌else◌, Ok, Err};
+ghost use Rattle.std.specs.List.{position_or_len};
+ghost use Rattle.std.specs.Str.Parse.{digits_value, without_leading_sign};
+ghost use Rattle.pit_units.specs.Decimal.{all_digits, all_zeros, decimal_of, signed, six_decimals};
+
+use crate::decimal::Dec;
+use crate::fault::DecFault;
+
+/// One more than the largest whole part of a decimal: where a longer count of digits stops.
+const PAST_LARGEST: u64 = 1_000_000_000_000_000_001;
+
+/// The decimal that a text states: an optional sign, digits, and optionally a point with digits after it, with a digit in all.
+///
+/// At most `max_decimals` decimals count, and those past them have to be zeros. Nothing is trimmed: a blank makes the text no
+/// number. Of several faults the answer is the first of `Number`, `TooFine` and `Range`.
+#[tactic(auto, unfolding(crate::specs::Decimal::decimal_of))]
+pub fn parse_dec(text: &[u8], max_decimals: u8) -> Result<Dec, DecFault>
+    requires { max_decimals ≤ 6 }
+    ensures { result ≡ decimal_of max_decimals text.now }
+{
+    let unsigned = without_sign(text);
+    let point = first_point(unsigned);
+    let whole = &unsigned[..point];
+    let fraction = after(unsigned, point + 1);
+    if !is_number(whole, fraction) {
+        return Err(DecFault::Number);
+    }
+    if !only_zeros(after(fraction, usize::from(max_decimals))) {
+        return Err(DecFault::TooFine);
+    }
+    within_range(text.first() == Some(&b'-'), size_capped(whole, fraction))
+}
+
+/// The text past one sign.
+fn without_sign(text: &[u8]) -> &[u8]
+    ensures { result.now ≡ without_leading_sign text.now }
+{
+    match text {
+        [b'+' | b'-', rest @ ..] => rest,
+        _ => text,
+    }
+}
+
+/// The place of the first point, or the length.
+fn first_point(text: &[u8]) -> usize
+    ensures value { result ≡ position_or_len (λ c. c == 46) text.now }
+    ensures within { result ≤ length text.now }
+{
+    for (place, c) in text.iter().enumerate() {
+        if *c == b'.' {
+            return place;
+        }
+    }
+    text.len()
+}
+
+/// The bytes from a place on, if there are any.
+fn after(text: &[u8], place: usize) -> &[u8]
+    ensures { result.now ≡ drop place text.now }
+{
+    text.get(place..).unwrap_or(&[])
+}
+
+fn only_digits(bytes: &[u8]) -> bool
+    ensures { result ≡ all_digits bytes.now }
+{
+    bytes.iter().all(|c| c.is_ascii_digit())
+}
+
+fn only_zeros(bytes: &[u8]) -> bool
+    ensures { result ≡ all_zeros bytes.now }
+{
+    bytes.iter().all(|c| *c == b'0')
+}
+
+fn is_number(whole: &[u8], fraction: &[u8]) -> bool
+    ensures { result ≡ (all_digits whole.now && all_digits fraction.now && not (length whole.now + length fraction.now == 0)) }
+{
+    only_digits(whole) && only_digits(fraction) && !(whole.is_empty() && fraction.is_empty())
+}
+
+/// The number that digits write, but for one that is past the range of every decimal.
+fn whole_capped(digits: &[u8]) -> u64
+    requires { IsTrue (all_digits digits.now) }
+    ensures { result ≡ min (10 ^ 18 + 1) (digits_value 10 digits.now) }
+{
+    let mut value = 0;
+    for digit in digits {
+        value = PAST_LARGEST.min(value * 10 + u64::from(digit - b'0'));
+    }
+    value
+}
+
+/// The digit at a place after the point: zero where none is written.
+fn decimal_at(fraction: &[u8], place: usize) -> u8
+    requires { IsTrue (all_digits fraction.now) }
+    ensures value { result + 48 ≡ slice_index_or fraction.now place 48 }
+    ensures digit { result ≤ 9 }
+{
+    if place < fraction.len() {
+        fraction[place] - b'0'
+    } else {
+        0
+    }
+}
+
+/// The millionths in the first six decimals.
+fn decimals(fraction: &[u8]) -> u32
+    requires { IsTrue (all_digits fraction.now) }
+    ensures value { result ≡ digits_value 10 (six_decimals fraction.now) }
+    ensures small { result < 10 ^ 6 }
+{
+    let mut value = 0;
+    for place in 0..6 {
+        value = value * 10 + u32::from(decimal_at(fraction, place));
+    }
+    value
+}
+
+/// The millionths of a number, but for one that is past the range of every decimal.
+fn size_capped(whole: &[u8], fraction: &[u8]) -> u128
+    requires whole_digits { IsTrue (all_digits whole.now) }
+    requires fraction_digits { IsTrue (all_digits fraction.now) }
+    ensures value { result ≡ min (10 ^ 18 + 1) (digits_value 10 whole.now) * 10 ^ 6 + digits_value 10 (six_decimals fraction.now) }
+    ensures small { result ≤ 2 * 10 ^ 24 }
+{
+    u128::from(whole_capped(whole)) * 1_000_000 + u128::from(decimals(fraction))
+}
+
+fn within_range(negative: bool, size: u128) -> Result<Dec, DecFault>
+    requires { size ≤ 2 * 10 ^ 24 }
+    ensures { result ≡ (if nat_lt (10 ^ 24) size then Err DecFault.Range else Ok (signed negative size)) }
+{
+    let above = size as i128;
+    Dec::new(if negative { -above } else { above }).ok_or(DecFault::Range)
+}

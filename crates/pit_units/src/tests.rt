@@ -1,0 +1,119 @@
+// What no clause says: that the definitions are the decimals of worked examples, and that calls succeed where memory is ample.
+ghost use Rattle.std.specs.Prelude.{◌≤◌};
+
+use crate::{Dec, DecFault, parse_dec, put_dec};
+use std::test::Fail;
+
+fn read(text: &[u8], decimals: u8) -> Result<i128, DecFault>
+    requires { decimals ≤ 6 }
+{
+    Ok(parse_dec(text, decimals)?.millionths())
+}
+
+#[test]
+fn decimal_spellings(rt: HostRuntime) -> Result<(), Fail> {
+    let read_texts = [
+        (".5", Ok(500_000)),
+        ("5.", Ok(5_000_000)),
+        ("-0", Ok(0)),
+        ("+7", Ok(7_000_000)),
+        ("", Err(DecFault::Number)),
+        (".", Err(DecFault::Number)),
+        ("-", Err(DecFault::Number)),
+        ("0.0000001", Err(DecFault::TooFine)),
+        ("1000000000000000000", Ok(1_000_000_000_000_000_000_000_000)),
+        ("1000000000000000000.000001", Err(DecFault::Range)),
+    ];
+    for (text, millionths) in read_texts {
+        assert_eq!(rt; read(text.as_bytes(), 6), millionths, "at {text:?}");
+    }
+
+    let written_texts = [(0, "0"), (-10_000, "-0.01"), (2_500_000, "2.5")];
+    for (millionths, text) in written_texts {
+        let mut out = Vec::new(rt.alloc());
+        let dec = Dec::new(millionths).ok_or("out of range")?;
+        put_dec(rt.alloc(), &mut out, dec)?;
+        assert_eq!(rt; out.as_slice(), text.as_bytes(), "at {text:?}");
+    }
+    Ok(())
+}
+
+#[test]
+fn further_spellings(rt: HostRuntime) {
+    let texts = [
+        ("007", Ok(7_000_000)),
+        ("+.25", Ok(250_000)),
+        ("-1.5", Ok(-1_500_000)),
+        ("1.2345670", Ok(1_234_567)),
+        ("0.0000000", Ok(0)),
+        (
+            "-1000000000000000000",
+            Ok(-1_000_000_000_000_000_000_000_000),
+        ),
+        ("-1000000000000000001", Err(DecFault::Range)),
+        ("-1000000000000000000.000001", Err(DecFault::Range)),
+        ("+", Err(DecFault::Number)),
+        ("+-5", Err(DecFault::Number)),
+        ("--1", Err(DecFault::Number)),
+        ("1.2.3", Err(DecFault::Number)),
+        (" 1", Err(DecFault::Number)),
+        ("1 ", Err(DecFault::Number)),
+        ("1e3", Err(DecFault::Number)),
+        ("1,5", Err(DecFault::Number)),
+        ("1.0000001x", Err(DecFault::Number)),
+        ("9999999999999999999.0000001", Err(DecFault::TooFine)),
+    ];
+    for (text, millionths) in texts {
+        assert_eq!(rt; read(text.as_bytes(), 6), millionths, "at {text:?}");
+    }
+    assert_eq!(rt; read(b"12.000", 0), Ok(12_000_000));
+    assert_eq!(rt; read(b"12.001", 0), Err(DecFault::TooFine));
+    assert_eq!(rt; read(b"0.125", 3), Ok(125_000));
+    assert_eq!(rt; read(b"0.1250000000000", 3), Ok(125_000));
+    assert_eq!(rt; read(b"0.0001", 3), Err(DecFault::TooFine));
+}
+
+#[test]
+fn long_texts(rt: HostRuntime) -> Result<(), Fail> {
+    let mut coarse = vec![in rt.alloc(); b'0'; 1_000_000]?;
+    coarse.extend_from_slice(b"7.5")?;
+    assert_eq!(rt; read(coarse.as_slice(), 6), Ok(7_500_000));
+
+    let nines = vec![in rt.alloc(); b'9'; 1_000_000]?;
+    assert_eq!(rt; read(nines.as_slice(), 6), Err(DecFault::Range));
+
+    let mut fine = vec![in rt.alloc(); b'0'; 101]?;
+    fine[0] = b'1';
+    fine.extend_from_slice(b".0001")?;
+    assert_eq!(rt; read(fine.as_slice(), 3), Err(DecFault::TooFine));
+    assert_eq!(rt; read(fine.as_slice(), 6), Err(DecFault::Range));
+    Ok(())
+}
+
+#[test]
+fn further_texts(rt: HostRuntime) -> Result<(), Fail> {
+    let mut out = Vec::new(rt.alloc());
+    let most = 1_000_000_000_000_000_000_000_000;
+    for millionths in [
+        7_000_000,
+        1,
+        -1,
+        100_100,
+        -12_000_340,
+        most,
+        -most,
+        most - 1,
+    ] {
+        let dec = Dec::new(millionths).ok_or("out of range")?;
+        put_dec(rt.alloc(), &mut out, dec)?;
+        out.push(b' ')?;
+    }
+    assert_eq!(rt;
+        out.as_slice(),
+        b"7 0.000001 -0.000001 0.1001 -12.00034 1000000000000000000 -1000000000000000000 999999999999999999.999999 ".as_slice()
+    );
+    assert_eq!(rt; Dec::new(most + 1), None);
+    assert_eq!(rt; Dec::new(-most - 1), None);
+    assert_eq!(rt; Dec::new(i128::MIN), None);
+    Ok(())
+}

@@ -1,0 +1,7 @@
+mod Again
+mod Joined
+mod Lines
+mod Uncut
+mod Walk
+pub mod RowSteps
+pub mod SameFormulas

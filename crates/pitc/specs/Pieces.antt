@@ -1,0 +1,44 @@
+-- The cutting of the input of the pipe form, by lines.
+use Rattle.std.specs.Prelude.{ℕ, Bool, ◌≡◌, ◌-◌, ◌<◌, ◌==◌, ◌||◌, if◌then◌else◌, List, [], ◌∷◌, ◌++◌, length, drop, map, filter, slice_index, codes}
+use Rattle.std.specs.List.{concat, onto_first, slice_index_or, slice_split}
+use Rattle.std.specs.Str.{bytes_eq}
+
+-- the lines of an input, each with the LF that ends it, which only the last may lack
+abbrev pub lines_of : List ℕ → List (List ℕ)
+lines_of [] = []
+lines_of (b ∷ bs) = if b == 10 then (b ∷ []) ∷ lines_of bs else onto_first b (lines_of bs)
+
+-- a line cuts if it is `--`, ended by LF or by CR LF, or at the end of the input by nothing
+abbrev pub is_cut : List ℕ → Bool
+is_cut line = bytes_eq line (codes "--" ++ 10 ∷ []) || bytes_eq line (codes "--" ++ 13 ∷ 10 ∷ []) || bytes_eq line (codes "--")
+
+-- the lines at which an input is cut
+abbrev pub cuts_of : List ℕ → List (List ℕ)
+cuts_of input = filter is_cut (lines_of input)
+
+-- the bytes before, between and behind the cuts: one piece more than there are cuts
+abbrev pub pieces_of : List ℕ → List (List ℕ)
+pieces_of input = map concat (slice_split is_cut (lines_of input))
+
+-- the first piece, which is always there
+abbrev pub plan_of : List ℕ → List ℕ
+plan_of input = slice_index_or (pieces_of input) 0 []
+
+-- the further pieces, one a zone file
+abbrev pub zones_of : List ℕ → List (List ℕ)
+zones_of input = drop 1 (pieces_of input)
+
+-- what `Pieces` holds
+pub record Cutting : Type 0 where
+  pub plan : List ℕ
+  pub zones : List (List ℕ)
+
+-- pieces and cuts in turn, the first piece first
+abbrev pub woven : List (List ℕ) → List (List ℕ) → List ℕ
+woven [] cuts = concat cuts
+woven (piece ∷ pieces) [] = piece ++ concat pieces
+woven (piece ∷ pieces) (cut ∷ cuts) = piece ++ (cut ++ woven pieces cuts)
+
+-- a text is empty, or ends in LF
+abbrev pub IsEnded : List ℕ → Type 0
+IsEnded text = 0 < length text → slice_index text (length text - 1) ≡ 10

@@ -1,0 +1,204 @@
+-- Row by row and bench by bench, the rows of a cone tell which block lies above which.
+use Rattle.std.proofs.Common.{◌≡◌, ◌⊎◌, inl, inr, ℕ, ◌+◌, ◌-◌, ◌*◌, ◌^◌, ◌<◌, ◌≤◌, ◌&&◌, ◌||◌, Bool, true, false, List, [], ◌∷◌, ◌++◌, nat_lt, nat_le, max, min, refl, sym, ap, ◌∙◌, arith, ⊎_elim}
+use Rattle.std.specs.Int.{abs_diff}
+use Rattle.std.proofs.Math.Bool.{and-false, and-true, or-false, or_assoc}
+use Rattle.std.proofs.lemmas.Bool.{and_left, cases_lt, cases_Bool, lt-ltb, le-ltb, ltb-true, leb-true, le-leb, lt-leb}
+use Rattle.std.proofs.lemmas.Bool.Decides.{nat_tests}
+use Rattle.pit_model.specs.declared.block.Block.{Block}
+use Rattle.pit_model.specs.declared.cone.Cone.{Cone}
+use Rattle.pit_model.specs.declared.grid.Grid.{Grid}
+use Rattle.precedence.specs.Codes.{code}
+use Rattle.precedence.specs.Cone.{is_above}
+use Rattle.precedence.specs.Reach.{CountsRow}
+use Rattle.precedence.specs.Rows.{center, edge, is_in_row, is_in_rows, AreApart, IsWithin, Tells, IsTable}
+use Rattle.precedence.specs.declared.extent.Extent.{Extent}
+use Rattle.precedence.specs.declared.reach.Counts.{Counts}
+use Rattle.precedence.specs.declared.rows.Row.{Row}
+use Rattle.precedence.proofs.Geometry.{IsAt, row_told}
+
+-- ---- both of two tests
+
+both_left : (a b : Bool) → (a && b) ≡ true → a ≡ true
+both_left true b h = refl
+both_left false b h = h
+
+both_right : (a b : Bool) → (a && b) ≡ true → b ≡ true
+both_right true b h = h
+both_right false b h = let no : ⊥ = cc in absurd no
+
+-- ---- rows at the end
+
+pub in_rows_push : (from : ℕ) (rows : List Row) (row : Row) (c : ℕ) → is_in_rows from (rows ++ row ∷ []) c ≡ (is_in_rows from rows c || is_in_row from row c)
+in_rows_push from [] row c = or-false (is_in_row from row c)
+in_rows_push from (r ∷ rows) row c =
+    ap (λ b. is_in_row from r c || b) (in_rows_push from rows row c)
+        ∙ sym (or_assoc (is_in_row from r c) (is_in_rows from rows c) (is_in_row from row c))
+
+pub apart_push : (low : ℕ) (rows : List Row) (high : ℕ) (row : Row) (up : ℕ) → AreApart low rows high → high ≤ row.first → row.first < row.past → row.past ≤ up → AreApart low (rows ++ row ∷ []) up
+apart_push low [] high row up h le some past = (omega arith, some, past)
+apart_push low (r ∷ rows) high row up h le some past = (h.0, h.1, apart_push r.past rows high row up h.2 le some past)
+
+pub apart_more : (low : ℕ) (rows : List Row) (high up : ℕ) → AreApart low rows high → high ≤ up → AreApart low rows up
+apart_more low [] high up h le = omega arith
+apart_more low (r ∷ rows) high up h le = (h.0, h.1, apart_more r.past rows high up h.2 le)
+
+-- ---- where the codes of pairs of blocks lie
+
+module _ (extent : Extent) (low high : Block) (near : IsWithin extent low high) where
+  -- between two edges lies just the row
+  at_row : (dz i : ℕ) → 1 ≤ dz → i ≤ 2 * extent.rows → code low + edge extent.rows dz i ≤ code high → code high < code low + edge extent.rows dz (i + 1) → IsAt extent.rows dz i low high
+  at_row dz i up within above below =
+      let lx = low.x_in_grid in
+      let ly = low.y_in_grid in
+      let hx = high.x_in_grid in
+      let hy = high.y_in_grid in
+      let few = extent.few_rows in
+      let apart = near.rows in
+      let bench : high.z ≡ low.z + dz = omega arith in
+      record { bench = bench; row = omega arith }
+
+  -- between the last row of a bench and the next bench lies none
+  between_benches : (dz : ℕ) → nat_lt (code high) (code low + edge extent.rows dz (2 * extent.rows + 1)) ≡ nat_lt (code high) (code low + edge extent.rows (dz + 1) 0)
+  between_benches dz =
+      let lx = low.x_in_grid in
+      let ly = low.y_in_grid in
+      let hx = high.x_in_grid in
+      let hy = high.y_in_grid in
+      let few = extent.few_rows in
+      let apart = near.rows in
+      grind (arith, nat_tests)
+
+  -- a block on a higher bench lies past the first edge
+  past_first : low.z < high.z → code low + edge extent.rows 1 0 ≤ code high
+  past_first lt =
+      let lx = low.x_in_grid in
+      let ly = low.y_in_grid in
+      let hx = high.x_in_grid in
+      let hy = high.y_in_grid in
+      let few = extent.few_rows in
+      let apart = near.rows in
+      omega arith
+
+  -- a block at most `top` benches higher lies before the edge after them
+  before_last : (top : ℕ) → high.z ≤ low.z + top → code high < code low + edge extent.rows (top + 1) 0
+  before_last top le =
+      let lx = low.x_in_grid in
+      let ly = low.y_in_grid in
+      let hx = high.x_in_grid in
+      let hy = high.y_in_grid in
+      let few = extent.few_rows in
+      let apart = near.rows in
+      omega arith
+
+-- ---- one more row
+
+module _ (grid : Grid) (cone : Cone) (extent : Extent) (dz i : ℕ) (up : 1 ≤ dz) (within : dz ≤ cone.k) (inside : i ≤ 2 * extent.rows)
+    (counts : Counts) (counted : CountsRow grid cone extent.rows dz i counts)
+    (row : Row) (first : row.first ≡ center extent.rows dz i + 1 - counts.west) (past : row.past ≡ center extent.rows dz i + max counts.east 1) where
+  after_edge : edge extent.rows dz i ≤ row.first
+  after_edge =
+      let few = extent.few_rows in
+      let west = counted.few_west in
+      omega arith
+
+  before_edge : row.past ≤ edge extent.rows dz (i + 1)
+  before_edge =
+      let few = extent.few_rows in
+      let east = counted.few_east in
+      omega arith
+
+  -- the row tells of the blocks between its edges
+  row_adds : (low high : Block) → IsWithin extent low high
+      → ((nat_lt (code high) (code low + edge extent.rows dz i) && is_above grid cone low high) || is_in_row (code low) row (code high))
+        ≡ (nat_lt (code high) (code low + edge extent.rows dz (i + 1)) && is_above grid cone low high)
+  row_adds low high near = ⊎_elim
+      (λ before.
+        let yes : nat_lt (code high) (code low + edge extent.rows dz i) ≡ true = lt-ltb _ _ before in
+        let yes_too : nat_lt (code high) (code low + edge extent.rows dz (i + 1)) ≡ true = lt-ltb _ _ (omega (arith, after_edge, before_edge, row.in_order)) in
+        let out : nat_le (code low + row.first) (code high) ≡ false = lt-leb _ _ (omega (arith, after_edge)) in
+        (λ j. (yes j && is_above grid cone low high) || (out j && nat_lt (code high) (code low + row.past)))
+          ∙ or-false (is_above grid cone low high)
+          ∙ (λ j. sym yes_too j && is_above grid cone low high))
+      (λ after. ⊎_elim
+        (λ before.
+          let no : nat_lt (code high) (code low + edge extent.rows dz i) ≡ false = le-ltb _ _ after in
+          let yes : nat_lt (code high) (code low + edge extent.rows dz (i + 1)) ≡ true = lt-ltb _ _ before in
+          let at = at_row extent low high near dz i up inside after before in
+          let told = row_told grid cone extent.rows dz i counts counted low high up within extent.few_rows at row first past in
+          (λ j. (no j && is_above grid cone low high) || told j)
+            ∙ (λ j. sym yes j && is_above grid cone low high))
+        (λ later.
+          let no : nat_lt (code high) (code low + edge extent.rows dz i) ≡ false = le-ltb _ _ after in
+          let no_too : nat_lt (code high) (code low + edge extent.rows dz (i + 1)) ≡ false = le-ltb _ _ later in
+          let out : nat_lt (code high) (code low + row.past) ≡ false = le-ltb _ _ (omega (arith, before_edge)) in
+          (λ j. (no j && is_above grid cone low high) || (nat_le (code low + row.first) (code high) && out j))
+            ∙ and-false (nat_le (code low + row.first) (code high))
+            ∙ (λ j. sym no_too j && is_above grid cone low high))
+        (cases_lt (code high) (code low + edge extent.rows dz (i + 1))))
+      (cases_lt (code high) (code low + edge extent.rows dz i))
+
+  pub tells_row : row.first < row.past → (rows : List Row) → Tells grid cone extent (edge extent.rows dz i) rows → Tells grid cone extent (edge extent.rows dz (i + 1)) (rows ++ row ∷ [])
+  tells_row some rows h = record {
+    apart = apart_push 0 rows (edge extent.rows dz i) row (edge extent.rows dz (i + 1)) h.apart after_edge some before_edge;
+    told = λ low high near.
+      in_rows_push (code low) rows row (code high)
+        ∙ ap (λ b. b || is_in_row (code low) row (code high)) (h.told low high near)
+        ∙ row_adds low high near;
+  }
+
+  -- a row with no codes adds nothing
+  pub tells_no_row : row.past ≤ row.first → (rows : List Row) → Tells grid cone extent (edge extent.rows dz i) rows → Tells grid cone extent (edge extent.rows dz (i + 1)) rows
+  tells_no_row empty rows h = record {
+    apart = apart_more 0 rows (edge extent.rows dz i) (edge extent.rows dz (i + 1)) h.apart (omega (arith, after_edge, before_edge, row.in_order));
+    told = λ low high near.
+      let none : is_in_row (code low) row (code high) ≡ false = grind (arith, nat_tests, empty) in
+      h.told low high near
+        ∙ sym (or-false (nat_lt (code high) (code low + edge extent.rows dz i) && is_above grid cone low high))
+        ∙ ap (λ b. (nat_lt (code high) (code low + edge extent.rows dz i) && is_above grid cone low high) || b) (sym none)
+        ∙ row_adds low high near;
+  }
+
+-- ---- one more bench, and all
+
+module _ (grid : Grid) (cone : Cone) (extent : Extent) where
+  pub tells_none : Tells grid cone extent (edge extent.rows 1 0) []
+  tells_none = record {
+    apart = omega arith;
+    told = λ low high near. ⊎_elim
+      (λ higher.
+        let no : nat_lt (code high) (code low + edge extent.rows 1 0) ≡ false = le-ltb _ _ (past_first extent low high near higher) in
+        (λ j. sym no j && is_above grid cone low high))
+      (λ lower.
+        let no : nat_lt low.z high.z ≡ false = le-ltb low.z high.z lower in
+        let none : is_above grid cone low high ≡ false = and_left _ _ no in
+        sym (ap (λ b. nat_lt (code high) (code low + edge extent.rows 1 0) && b) none ∙ and-false (nat_lt (code high) (code low + edge extent.rows 1 0))))
+      (cases_lt low.z high.z);
+  }
+
+  pub tells_bench : (dz : ℕ) (rows : List Row) → Tells grid cone extent (edge extent.rows dz (2 * extent.rows + 1)) rows → Tells grid cone extent (edge extent.rows (dz + 1) 0) rows
+  tells_bench dz rows h = record {
+    apart = apart_more 0 rows (edge extent.rows dz (2 * extent.rows + 1)) (edge extent.rows (dz + 1) 0) h.apart (let few = extent.few_rows in omega arith);
+    told = λ low high near. h.told low high near ∙ ap (λ b. b && is_above grid cone low high) (between_benches extent low high near dz);
+  }
+
+  -- a block above is on one of the benches looked at
+  high_enough : (low high : Block) → IsWithin extent low high → is_above grid cone low high ≡ true → high.z ≤ low.z + min cone.k extent.benches
+  high_enough low high near lies =
+      let higher : nat_lt low.z high.z ≡ true = both_left (nat_lt low.z high.z) _ lies in
+      let looked : nat_le (high.z - low.z) cone.k ≡ true = both_left (nat_le (high.z - low.z) cone.k) _ (both_right (nat_lt low.z high.z) _ lies) in
+      omega (arith, ltb-true low.z high.z higher, leb-true _ _ looked, near.benches)
+
+  pub is_table : (top : ℕ) (rows : List Row) → top ≡ min cone.k extent.benches → Tells grid cone extent (edge extent.rows (top + 1) 0) rows → IsTable grid cone extent rows
+  is_table top rows e h = record {
+    high = edge extent.rows (top + 1) 0;
+    apart = h.apart;
+    told = λ low high near. h.told low high near ∙ ⊎_elim
+      (λ above.
+        let before : nat_lt (code high) (code low + edge extent.rows (top + 1) 0) ≡ true =
+          lt-ltb _ _ (before_last extent low high near top (omega (arith, high_enough low high near above))) in
+        (λ j. before j && is_above grid cone low high))
+      (λ no.
+        ap (λ b. nat_lt (code high) (code low + edge extent.rows (top + 1) 0) && b) no
+          ∙ and-false (nat_lt (code high) (code low + edge extent.rows (top + 1) 0)) ∙ sym no)
+      (cases_Bool (is_above grid cone low high));
+  }

@@ -1,0 +1,50 @@
+-- The predecessors of a block: the blocks of the cone that opens above it.
+use Rattle.std.specs.Prelude.{◌≡◌, ℕ, ◌+◌, ◌-◌, ◌*◌, ◌<◌, ◌&&◌, Bool, true, List, [], ◌∷◌, Option, Some, None, All, map, length, nat_lt, nat_le, slice_get, if◌then◌else◌}
+use Rattle.std.specs.Int.{abs_diff}
+use Rattle.pit_model.specs.Plan.{PlanParts}
+use Rattle.pit_model.specs.declared.block.Block.{Block}
+use Rattle.pit_model.specs.declared.cone.Cone.{Cone}
+use Rattle.pit_model.specs.declared.cone.Slope.{Slope}
+use Rattle.pit_model.specs.declared.grid.Grid.{Grid}
+
+-- the slope on the side where `high` lies, seen from `low`; where it lies on neither side the distance is 0 and either slope serves
+abbrev pub slope_along_x : Cone → Block → Block → Slope
+slope_along_x cone low high = if nat_lt low.x high.x then cone.east else cone.west
+
+abbrev pub slope_along_y : Cone → Block → Block → Slope
+slope_along_y cone low high = if nat_lt low.y high.y then cone.north else cone.south
+
+abbrev pub square : ℕ → ℕ
+square n = n * n
+
+-- (dx Sx px qy)^2 + (dy Sy py qx)^2 ≤ (dz Sz qx qy)^2, with the slopes px : qx and py : qy and the sizes of the blocks
+abbrev pub is_within_slopes : Grid → Slope → Slope → ℕ → ℕ → ℕ → Bool
+is_within_slopes grid along across dx dy dz =
+    nat_le
+      (square (dx * (grid.x.size * along.p * across.q)) + square (dy * (grid.y.size * across.p * along.q)))
+      (square (dz * (grid.z.size * along.q * across.q)))
+
+-- `high` lies 1 to k benches above `low`, inside the slopes
+abbrev pub is_above : Grid → Cone → Block → Block → Bool
+is_above grid cone low high =
+    nat_lt low.z high.z
+      && (nat_le (high.z - low.z) cone.k
+      && is_within_slopes grid (slope_along_x cone low high) (slope_along_y cone low high) (abs_diff low.x high.x) (abs_diff low.y high.y) (high.z - low.z))
+
+-- the numbers of the elements that pass, counted from n on
+abbrev pub places_where : {X : Type 0} → (X → Bool) → ℕ → List X → List ℕ
+places_where test n [] = []
+places_where test n (x ∷ xs) = if test x then n ∷ places_where test (n + 1) xs else places_where test (n + 1) xs
+
+-- the identifiers of the blocks of a cone above a block, in rising order: of blocks by identifier, the numbers of those that pass
+abbrev pub above : Grid → Option Cone → List Block → Block → List ℕ
+above grid (Some cone) blocks low = places_where (is_above grid cone low) 0 blocks
+above grid None blocks low = []
+
+-- the predecessors of each block by identifier, by the cone of its own zone
+abbrev pub preds : PlanParts → List Block → List (List ℕ)
+preds plan blocks = map (λ low. above plan.grid (slice_get plan.cones low.zone) blocks low) blocks
+
+-- the plan has each block's zone
+abbrev pub HasZones : PlanParts → List Block → Type 0
+HasZones plan blocks = All (λ b. b.zone < length plan.cones) blocks

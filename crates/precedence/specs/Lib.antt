@@ -1,0 +1,10 @@
+pub mod Codes
+pub mod Cone
+pub mod Identifier
+pub mod NumberingView
+pub mod PredsView
+pub mod Reach
+pub mod Rows
+pub mod SameBlock
+pub mod Search
+pub mod Seen

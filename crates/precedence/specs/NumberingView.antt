@@ -1,0 +1,15 @@
+-- How a numbering's columns are seen.
+use Rattle.std.specs.Prelude.{◌≡◌, ◌≤◌, length}
+use Rattle.std.specs.List.Sorted.{IsStrictlyIncreasing}
+use Rattle.precedence.specs.Codes.{codes}
+use Rattle.precedence.specs.Identifier.{Numbered}
+use Rattle.precedence.specs.declared.numbering.Numbering.TheInside.{Inside}
+
+abbrev pub numbered_of : Inside → Numbered
+numbered_of n = record { blocks = n.blocks.items; positions = n.positions.items }
+
+-- the blocks rise, each has a position, and their number is that of at most 64 zone files
+pub record KeepsNumbering (n : Inside) : Type 0 where
+  pub rising : IsStrictlyIncreasing (codes n.blocks.items)
+  pub placed : length n.positions.items ≡ length n.blocks.items
+  pub few : length n.blocks.items ≤ 64000000

@@ -1,0 +1,60 @@
+-- The rows of a cone: where the codes of its blocks lie, as seen from a block.
+use Rattle.std.specs.Prelude.{◌≡◌, ℕ, zero, suc, ◌+◌, ◌-◌, ◌*◌, ◌^◌, ◌<◌, ◌≤◌, ◌&&◌, ◌||◌, Bool, true, false, List, [], ◌∷◌, length, map, nat_lt, nat_le, if◌then◌else◌}
+use Rattle.std.specs.Int.{abs_diff}
+use Rattle.pit_model.specs.declared.block.Block.{Block}
+use Rattle.pit_model.specs.declared.cone.Cone.{Cone}
+use Rattle.pit_model.specs.declared.grid.Grid.{Grid}
+use Rattle.precedence.specs.Codes.{code}
+use Rattle.precedence.specs.Cone.{is_above}
+use Rattle.precedence.specs.declared.rows.Row.{Row}
+use Rattle.precedence.specs.declared.extent.Extent.{Extent}
+
+-- a code lies in the row, as seen from the code `from`
+abbrev pub is_in_row : ℕ → Row → ℕ → Bool
+is_in_row from row c = nat_le (from + row.first) c && nat_lt c (from + row.past)
+
+abbrev pub is_in_rows : ℕ → List Row → ℕ → Bool
+is_in_rows from [] c = false
+is_in_rows from (row ∷ rows) c = is_in_row from row c || is_in_rows from rows c
+
+-- no row is without codes, none begins before the one before it is past, nor before `low`, and all are past at `high`
+abbrev pub AreApart : ℕ → List Row → ℕ → Type 0
+AreApart low [] high = low ≤ high
+AreApart low (row ∷ rows) high = (low ≤ row.first) × (row.first < row.past) × AreApart row.past rows high
+
+-- no further apart than a model's rows and benches are
+pub record IsWithin (extent : Extent) (low high : Block) : Type 0 where
+  pub rows : abs_diff low.y high.y ≤ extent.rows
+  pub benches : high.z - low.z ≤ extent.benches
+
+-- up to the distance `up` the rows tell which block is above which
+pub record Tells (grid : Grid) (cone : Cone) (extent : Extent) (up : ℕ) (rows : List Row) : Type 0 where
+  pub apart : AreApart 0 rows up
+  pub told : (low high : Block) → IsWithin extent low high → is_in_rows (code low) rows (code high) ≡ (nat_lt (code high) (code low + up) && is_above grid cone low high)
+
+-- the rows tell of all
+pub record IsTable (grid : Grid) (cone : Cone) (extent : Extent) (rows : List Row) : Type 0 where
+  pub high : ℕ
+  pub apart : AreApart 0 rows high
+  pub told : (low high : Block) → IsWithin extent low high → is_in_rows (code low) rows (code high) ≡ is_above grid cone low high
+
+-- the distance from a block to the codes of the row i of the bench dz above, `rows` rows south of it being row 0
+abbrev pub center : ℕ → ℕ → ℕ → ℕ
+center rows dz i = dz * 10 ^ 10 + i * 10 ^ 5 - rows * 10 ^ 5
+
+-- where the codes of that row begin at the earliest
+abbrev pub edge : ℕ → ℕ → ℕ → ℕ
+edge rows dz i = dz * 10 ^ 10 + i * 10 ^ 5 - (rows * 10 ^ 5 + 20000)
+
+-- how many codes, from the first on, are below t
+abbrev pub start_of : ℕ → List ℕ → ℕ
+start_of t [] = 0
+start_of t (c ∷ cs) = if nat_lt c t then suc (start_of t cs) else 0
+
+-- where each row is past
+abbrev pub pasts : List Row → List ℕ
+pasts rows = map (λ row. row.past) rows
+
+-- the rows lie in order
+abbrev pub AreInOrder : List Row → Type 0
+AreInOrder rows = (high : ℕ) × AreApart 0 rows high

@@ -1,0 +1,10 @@
+-- Runs of identifiers, found by the codes of all blocks.
+use Rattle.std.specs.Prelude.{ℕ, ◌+◌, ◌-◌, List}
+use Rattle.std.specs.List.{range_with_len}
+use Rattle.precedence.specs.Rows.{start_of}
+use Rattle.precedence.specs.declared.rows.Row.{Row}
+
+-- the identifiers whose codes lie in the row
+abbrev pub run : ℕ → Row → List ℕ → List ℕ
+run from row codes =
+    range_with_len (start_of (from + row.first) codes) (start_of (from + row.past) codes - start_of (from + row.first) codes)

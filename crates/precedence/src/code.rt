@@ -1,0 +1,20 @@
+//! One number for a block's place, in the order of identifiers.
+
+ghost use Rattle.std.specs.Prelude.{◌≡◌, ◌+◌, ◌*◌, ◌^◌, ◌<◌};
+ghost use Rattle.precedence.specs.Codes.{code};
+
+use pit_model::block::Block;
+
+/// How far apart the numbers of two rows of a bench are.
+pub const ROW: u64 = 100_000;
+
+/// How far apart the numbers of two benches are.
+pub const BENCH: u64 = 10_000_000_000;
+
+/// The number of a block's place.
+pub fn code(block: &Block) -> u64
+    ensures value { result ≡ code block.now }
+    ensures small { result < 10 ^ 14 }
+{
+    u64::from(block.z) * BENCH + u64::from(block.y) * ROW + u64::from(block.x)
+}

@@ -1,0 +1,124 @@
+//! Counting the blocks of a row that a cone takes in.
+
+ghost use Rattle.std.specs.Prelude.{◌≡◌, ◌*◌, ◌<◌, ◌≤◌, ◌^◌, false};
+ghost use Rattle.std.specs.Int.{abs_diff};
+ghost use Rattle.pit_model.specs.Plan.{IsCone, IsGrid, IsSlope};
+ghost use Rattle.precedence.specs.Cone.{square, is_within_slopes};
+ghost use Rattle.precedence.specs.Reach.{takes_in, slope_across, CountsAll, CountsRow, CountsSide};
+
+use crate::reach::{Counts, Reach};
+use pit_model::cone::{Cone, Slope};
+use pit_model::grid::Grid;
+use pit_model::ranges::GRID_CELLS;
+
+/// How many blocks of the row `i` of the bench `dz` above lie inside the slopes, where the block's own row is `rows`. The counts
+/// of a row nearby make it fast; any others do.
+pub fn row_counts(grid: Grid, cone: Cone, rows: u16, dz: u16, i: u16, nearby: Counts) -> Counts
+    requires grid { IsGrid grid }
+    requires cone { IsCone cone }
+    requires rows { rows < 10000 }
+    requires dz { dz < 10000 }
+    requires i { i ≤ 2 * rows }
+    ensures { CountsRow grid cone rows dz i result }
+{
+    let across = slope_across(cone, rows, i);
+    let dy = i.abs_diff(rows);
+    Counts {
+        west: side_count(grid, cone.west, across, dy, dz, nearby.west),
+        east: side_count(grid, cone.east, across, dy, dz, nearby.east),
+    }
+}
+
+fn slope_across(cone: Cone, rows: u16, i: u16) -> Slope
+    ensures { result ≡ slope_across cone rows i }
+{
+    if rows < i { cone.north } else { cone.south }
+}
+
+fn side_count(grid: Grid, along: Slope, across: Slope, dy: u16, dz: u16, nearby: u16) -> u16
+    requires grid { IsGrid grid }
+    requires along { IsSlope along }
+    requires across { IsSlope across }
+    requires dy { dy < 10000 }
+    requires dz { dz < 10000 }
+    ensures few { result ≤ 10000 }
+    ensures counts { CountsSide grid along across dy dz result }
+{
+    let reach = reach_in_row(grid, along, across, dy, dz);
+    lowered(reach, raised(reach, nearby.min(GRID_CELLS)))
+}
+
+/// What the slopes leave of their reach in the row `dy` rows away on the bench `dz` above.
+fn reach_in_row(grid: Grid, along: Slope, across: Slope, dy: u16, dz: u16) -> Reach
+    requires grid { IsGrid grid }
+    requires along { IsSlope along }
+    requires across { IsSlope across }
+    requires dy { dy < 10000 }
+    requires dz { dz < 10000 }
+    ensures weight { result.weight ≡ grid.x.size * along.p * across.q }
+    ensures used { result.used ≡ square (dy * (grid.y.size * across.p * along.q)) }
+    ensures reach { result.reach ≡ square (dz * (grid.z.size * along.q * across.q)) }
+{
+    Reach {
+        weight: weight(grid.x.size, along.p, across.q),
+        used: squared(dy, weight(grid.y.size, across.p, along.q)),
+        reach: squared(dz, weight(grid.z.size, along.q, across.q)),
+    }
+}
+
+#[tactic(auto, using(crate::proofs::Reaches::products))]
+fn weight(size: u32, a: u16, b: u16) -> u64
+    requires size { size ≤ 10 ^ 5 }
+    requires a { a ≤ 1000 }
+    requires b { b ≤ 1000 }
+    ensures value { result ≡ size * a * b }
+    ensures small { result ≤ 10 ^ 11 }
+{
+    u64::from(size) * u64::from(a) * u64::from(b)
+}
+
+#[tactic(auto, using(crate::proofs::Reaches::products))]
+fn squared(distance: u16, weight: u64) -> u128
+    requires distance { distance < 10000 }
+    requires weight { weight ≤ 10 ^ 11 }
+    ensures value { result ≡ square (distance * weight) }
+    ensures small { result ≤ 10 ^ 30 }
+{
+    let length = u128::from(u64::from(distance) * weight);
+    length * length
+}
+
+#[tactic(auto, using(crate::proofs::Reaches::products))]
+fn takes_in(reach: Reach, distance: u16) -> bool
+    requires { distance < 10000 }
+    ensures { result ≡ takes_in distance reach }
+{
+    squared(distance, reach.weight) + reach.used <= reach.reach
+}
+
+/// The count, or a greater one where the next distance is taken in.
+fn raised(reach: Reach, count: u16) -> u16
+    requires { count ≤ 10000 }
+    ensures few { result ≤ 10000 }
+    ensures enough { result < 10000 → takes_in result reach ≡ false }
+{
+    let mut count = count;
+    while count < GRID_CELLS && takes_in(reach, count) {
+        count += 1;
+    }
+    count
+}
+
+/// The count, or a smaller one where its last distance is not taken in.
+fn lowered(reach: Reach, count: u16) -> u16
+    requires few { count ≤ 10000 }
+    requires enough { count < 10000 → takes_in count reach ≡ false }
+    ensures few { result ≤ 10000 }
+    ensures counts { CountsAll reach result }
+{
+    let mut count = count;
+    while count > 0 && !takes_in(reach, count - 1) {
+        count -= 1;
+    }
+    count
+}

@@ -1,0 +1,14 @@
+//! How far apart the blocks of a model are.
+
+ghost use Rattle.std.specs.Prelude.{◌<◌};
+
+/// The greatest distances between two blocks of a model.
+#[derive(Clone, Copy, Debug)]
+pub struct Extent {
+    /// Along y, in rows.
+    pub rows: u16,
+    /// Along z, in benches.
+    pub benches: u16,
+    pub ghost few_rows: { rows < 10000 },
+    pub ghost few_benches: { benches < 10000 },
+}

@@ -1,0 +1,68 @@
+//! Finding a place in rising numbers, near a place known before.
+
+ghost use Rattle.std.specs.Prelude.{◌≡◌, ◌<◌, ◌≤◌, length};
+ghost use Rattle.std.specs.List.Sorted.{IsStrictlyIncreasing};
+ghost use Rattle.precedence.specs.Rows.{start_of};
+
+/// How many of the numbers are below `target`. It is fast where `hint` is somewhat less than that; any other hint does.
+pub fn find(numbers: &[u64], hint: usize, target: u64) -> usize
+    requires { IsStrictlyIncreasing numbers.now }
+    ensures { result ≡ start_of target numbers.now }
+{
+    let low = checked_hint(numbers, hint, target);
+    let (low, high) = stretched(numbers, low, target);
+    halved(numbers, low, high, target)
+}
+
+/// The hint, where all numbers before it are below the target, or 0.
+#[tactic(auto, using(crate::proofs::Starts::starts))]
+fn checked_hint(numbers: &[u64], hint: usize, target: u64) -> usize
+    requires { IsStrictlyIncreasing numbers.now }
+    ensures { result ≤ start_of target numbers.now }
+{
+    if 0 < hint && hint <= numbers.len() && numbers[hint - 1] < target {
+        hint
+    } else {
+        0
+    }
+}
+
+/// Bounds of the place from `low` on, by steps that double.
+#[tactic(auto, using(crate::proofs::Starts::starts))]
+fn stretched(numbers: &[u64], low: usize, target: u64) -> (usize, usize)
+    requires rising { IsStrictlyIncreasing numbers.now }
+    requires low { low ≤ start_of target numbers.now }
+    ensures low { result.0 ≤ start_of target numbers.now }
+    ensures high { start_of target numbers.now ≤ result.1 }
+    ensures within { result.1 ≤ length numbers.now }
+{
+    let mut low = low;
+    let mut step = 1;
+    while step <= numbers.len() - low && numbers[low + step - 1] < target {
+        low += step;
+        step *= 2;
+    }
+    (low, numbers.len().min(low.saturating_add(step - 1)))
+}
+
+/// The place between two bounds, by halving.
+#[tactic(auto, using(crate::proofs::Starts::starts))]
+fn halved(numbers: &[u64], low: usize, high: usize, target: u64) -> usize
+    requires rising { IsStrictlyIncreasing numbers.now }
+    requires low { low ≤ start_of target numbers.now }
+    requires high { start_of target numbers.now ≤ high }
+    requires within { high ≤ length numbers.now }
+    ensures { result ≡ start_of target numbers.now }
+{
+    let mut low = low;
+    let mut high = high;
+    while low < high {
+        let middle = low + (high - low) / 2;
+        if numbers[middle] < target {
+            low = middle + 1;
+        } else {
+            high = middle;
+        }
+    }
+    low
+}

@@ -1,0 +1,19 @@
+//! The identifiers of a model's blocks, and the blocks that each has to wait for.
+#![tactic(auto)]
+
+mod code;
+mod counting;
+mod extent;
+mod find;
+mod first_seen;
+mod number_error;
+mod numbering;
+mod predecessors;
+mod reach;
+mod rows;
+mod table;
+
+pub use first_seen::number;
+pub use number_error::NumberError;
+pub use numbering::Numbering;
+pub use predecessors::Preds;

@@ -1,0 +1,74 @@
+//! The blocks of a model by identifier.
+
+ghost use Rattle.std.specs.Prelude.{◌≡◌, ◌≤◌, ◌<◌, length, slice_get, slice_index, Some};
+ghost use Rattle.std.specs.List.Sorted.{IsStrictlyIncreasing};
+ghost use Rattle.precedence.specs.Codes.{codes};
+
+use pit_model::block::Block;
+use std::marker::Model;
+
+/// The blocks of a model in the order of their identifiers, 0, 1, 2, .., and the position of each in the list that was numbered.
+/// Contracts see it as the record of the two.
+#[derive(Debug, Drop)]
+pub struct Numbering {
+    blocks: Vec<Block>,
+    positions: Vec<u32>,
+}
+
+impl Model for Numbering {
+    ghost use Rattle.precedence.specs.Identifier.{Numbered};
+
+    ghost Value = { Numbered };
+
+    ghost use Rattle.precedence.specs.NumberingView.{numbered_of, KeepsNumbering};
+
+    ghost view = { numbered_of };
+
+    ghost invariant = { KeepsNumbering };
+}
+
+impl Numbering {
+    /// The numbering of these columns.
+    pub(crate) fn new(blocks: Vec<Block>, positions: Vec<u32>) -> Numbering
+        requires rising { IsStrictlyIncreasing (codes blocks.items) }
+        requires placed { length positions.items ≡ length blocks.items }
+        requires few { length blocks.items ≤ 64000000 }
+        ensures { result ≡ record { blocks = blocks.items; positions = positions.items } }
+    {
+        Numbering { blocks, positions }
+    }
+
+    /// The number of blocks, at most 64,000,000.
+    pub fn len(&self) -> u32
+        ensures value { result ≡ length self.now.blocks }
+        ensures positions { length self.now.positions ≡ result }
+        ensures few { result ≤ 64000000 }
+    {
+        self.blocks.len() as u32
+    }
+
+    /// The block of an identifier.
+    pub fn block(&self, id: u32) -> Block
+        requires { id < length self.now.blocks }
+        ensures { slice_get self.now.blocks id ≡ Some result }
+    {
+        self.blocks[id as usize]
+    }
+
+    /// The position in the list, from 0, of the block of an identifier.
+    pub fn position(&self, id: u32) -> u32
+        requires { id < length self.now.blocks }
+        ensures { result ≡ slice_index self.now.positions id }
+    {
+        self.positions[id as usize]
+    }
+
+    /// The blocks in the order of their identifiers.
+    pub(crate) fn blocks(&self) -> &[Block]
+        ensures value { result.now ≡ self.now.blocks }
+        ensures rising { IsStrictlyIncreasing (codes self.now.blocks) }
+        ensures few { length self.now.blocks ≤ 64000000 }
+    {
+        self.blocks.as_slice()
+    }
+}

@@ -1,0 +1,103 @@
+//! The predecessors of each block of a model.
+
+ghost use Rattle.std.specs.Prelude.{◌≡◌, ◌-◌, ◌≤◌, ◌<◌, ◌++◌, [], ◌∷◌, OnOk, OnErr, Some, length, take, drop, slice_get, slice_index, sum_by};
+ghost use Rattle.precedence.specs.PredsView.{pieces, start_at, AreEnds};
+
+use std::alloc::{AllocError, Global};
+use std::marker::Model;
+
+/// A list of identifiers per block, in the order of the blocks' identifiers. Contracts see the list of these lists.
+#[derive(Debug, Drop)]
+pub struct Preds {
+    // all lists, one after the other
+    flat: Vec<u32>,
+    // where each list ends
+    ends: Vec<usize>,
+}
+
+impl Model for Preds {
+    ghost use Rattle.std.specs.Prelude.{ℕ, List};
+
+    ghost Value = { List (List ℕ) };
+
+    ghost use Rattle.precedence.specs.PredsView.{lists_of, KeepsPreds};
+
+    ghost view = { lists_of };
+
+    ghost invariant = { KeepsPreds };
+}
+
+impl Preds {
+    /// No lists.
+    pub fn new(alloc: Global) -> Preds
+        ensures { result ≡ [] }
+    {
+        Preds {
+            flat: Vec::new(alloc),
+            ends: Vec::new(alloc),
+        }
+    }
+
+    /// Appends the list of one more block. Where memory is refused the lists stay as they were.
+    pub fn push(&mut self, list: &[u32]) -> Result<(), AllocError>
+        ensures ok { OnOk result (self.new ≡ self.old ++ list.now ∷ []) }
+        ensures err { OnErr result (self.new ≡ self.old) }
+    {
+        let start = self.flat.len();
+        self.flat.extend_from_slice(list)?;
+        match self.ends.push(self.flat.len()) {
+            Ok(()) => Ok(()),
+            Err(_) => {
+                self.flat.truncate(start);
+                Err(AllocError)
+            }
+        }
+    }
+
+    /// The number of blocks that have a list.
+    pub fn len(&self) -> usize
+        ensures { result ≡ length self.now }
+    {
+        self.ends.len()
+    }
+
+    /// The number of identifiers in all lists.
+    pub fn arcs(&self) -> usize
+        ensures { result ≡ sum_by length self.now }
+    {
+        self.flat.len()
+    }
+
+    /// The list of a block.
+    pub fn of(&self, id: u32) -> &[u32]
+        requires { id < length self.now }
+        ensures { slice_get self.now id ≡ Some result.now }
+    {
+        piece(self.flat.as_slice(), self.ends.as_slice(), id as usize)
+    }
+}
+
+/// The part of `flat` up to the end at `index`.
+fn piece<'a>(flat: &'a [u32], ends: &[usize], index: usize) -> &'a [u32]
+    requires ends { AreEnds 0 ends.now (length flat.now) }
+    requires within { index < length ends.now }
+    ensures { slice_get (pieces flat.now 0 ends.now) index ≡ Some result.now }
+{
+    let start = start_of_piece(ends, index);
+    part(flat, start, ends[index])
+}
+
+fn part(flat: &[u32], start: usize, end: usize) -> &[u32]
+    requires in_order { start ≤ end }
+    requires within { end ≤ length flat.now }
+    ensures { result.now ≡ take (end - start) (drop start flat.now) }
+{
+    &flat[start..end]
+}
+
+fn start_of_piece(ends: &[usize], index: usize) -> usize
+    requires { index < length ends.now }
+    ensures { result ≡ start_at 0 ends.now index }
+{
+    if index == 0 { 0 } else { ends[index - 1] }
+}

@@ -1,0 +1,24 @@
+//! What a valuer hands on of the messages that it took.
+
+use crate::worths::Worths;
+use pit_model::block::Block;
+
+/// A row of a zone file with its worths.
+#[derive(Clone, Copy, Debug, PartialEq, Eq)]
+pub struct Valued {
+    /// The number of the file, from 0 in the order of the zone files.
+    pub file: u8,
+    /// The place among the rows of its file, from 0.
+    pub place: u32,
+    pub block: Block,
+    pub worths: Worths,
+}
+
+/// A message of a file, as a valuer hands it on.
+#[derive(Clone, Copy, Debug, PartialEq, Eq)]
+pub enum Item {
+    /// A row, with its worths.
+    Row(Valued),
+    /// The end mark of a file, with the number of rows that it sent.
+    End { file: u8, rows: u32 },
+}

@@ -1,0 +1,16 @@
+use Rattle.std.proofs.Common.{◌<◌, arith, refl}
+use Rattle.zone_csv.proofs.ZoneFacts.{few_blocks, own_blocks}
+use Rattle.zone_csv.specs.Zone.{blocks_of, fault_of}
+use Rattle.zone_csv.proofs.zone_reader.ZoneReader.new.Goals as goal
+
+pub returns-clause-says : goal.returns-clause-says
+unfolding blocks_of fault_of
+returns-clause-says c = rw (c.new.ensures.records, c.grid.ensures.value) refl
+
+pub returns-clause-few : goal.returns-clause-few
+returns-clause-few c = few_blocks c.args.plan.now.grid c.args.zone c.args.text.items
+
+pub returns-clause-own : goal.returns-clause-own
+returns-clause-own c =
+    let small : c.args.zone < 64 = omega (arith, c.grid.ensures.kept.zones) in
+    own_blocks c.args.plan.now.grid c.args.zone c.args.text.items small

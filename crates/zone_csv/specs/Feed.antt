@@ -1,0 +1,10 @@
+-- The bytes that a feed still gives, before and after it gave some. A feed that tells no bytes tells none after either.
+use Rattle.std.specs.Prelude.{ℕ, List, ◌++◌, drop, Option, option_map}
+
+-- what was left before these bytes were given: they, and then what is left now
+abbrev pub put_back : List ℕ → Option (List ℕ) → Option (List ℕ)
+put_back given left = option_map (λ rest. given ++ rest) left
+
+-- what is left once n bytes of these were given
+abbrev pub left_after : ℕ → Option (List ℕ) → Option (List ℕ)
+left_after n left = option_map (λ bytes. drop n bytes) left

@@ -1,0 +1,9 @@
+pub mod Cell
+pub mod Faults
+pub mod Feed
+pub mod Header
+pub mod Outlook
+pub mod Row
+pub mod Supply
+pub mod Zone
+pub mod ZoneView

@@ -1,0 +1,35 @@
+-- What a reader of a zone file has still to say, and how it says it.
+use Rattle.std.specs.Prelude.{◌≡◌, ℕ, List, [], ◌∷◌, length, Option, Some, None, Result, Ok, Err}
+use Rattle.pit_model.specs.declared.block.Block.{Block}
+use Rattle.zone_csv.specs.declared.row_fault.RowFault.{RowFault}
+use Rattle.zone_csv.specs.declared.zone_fault.ZoneFault.{ZoneFault}
+use Rattle.zone_csv.specs.declared.zone_fault.ZoneFault.TheVariants.{Row, OutOfMemory}
+
+-- these blocks, and then this fault or the end for ever; or, since memory was refused, that alone
+pub data Outlook : Type 0 where
+  Says : (blocks : List Block) (fault : Option RowFault) → Outlook
+  NoMemory : Outlook
+
+-- the next answer
+abbrev pub answer_of : Outlook → Result (Option Block) ZoneFault
+answer_of (Says (block ∷ blocks) fault) = Ok (Some block)
+answer_of (Says [] (Some fault)) = Err (Row fault)
+answer_of (Says [] None) = Ok None
+answer_of NoMemory = Err OutOfMemory
+
+-- what is to be said after it: the fault and the end stay
+abbrev pub rest_of : Outlook → Outlook
+rest_of (Says (block ∷ blocks) fault) = Says blocks fault
+rest_of (Says [] fault) = Says [] fault
+rest_of NoMemory = NoMemory
+
+-- the next answer was given, or memory was refused, and is ever after
+abbrev pub Answers : Outlook → Result (Option Block) ZoneFault → Outlook → Type 0
+Answers old (Ok found) new = (Ok found ≡ answer_of old) × (new ≡ rest_of old)
+Answers old (Err (Row fault)) new = (Err (Row fault) ≡ answer_of old) × (new ≡ rest_of old)
+Answers old (Err OutOfMemory) new = new ≡ NoMemory
+
+-- how many blocks are still to be said
+abbrev pub blocks_left : Outlook → ℕ
+blocks_left (Says blocks fault) = length blocks
+blocks_left NoMemory = 0

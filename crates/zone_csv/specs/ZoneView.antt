@@ -1,0 +1,37 @@
+-- How the parts of a reader of a zone file are seen as what it has still to say.
+use Rattle.std.specs.Prelude.{ℕ, ◌≤◌, List, [], Some, None, Result}
+use Rattle.pit_model.specs.Records.{Ahead, Rows, GaveUp}
+use Rattle.pit_model.specs.declared.block.Block.{Block}
+use Rattle.pit_model.specs.declared.grid.Grid.{Grid}
+use Rattle.zone_csv.specs.Outlook.{Outlook, Says, NoMemory}
+use Rattle.zone_csv.specs.Zone.{records_say, rows_say, before_fault, first_fault}
+use Rattle.zone_csv.specs.declared.row_fault.RowFault.{RowFault}
+use Rattle.zone_csv.specs.declared.zone_fault.ZoneFault.{ZoneFault}
+use Rattle.zone_csv.specs.declared.zone_fault.ZoneFault.TheVariants.{Row, OutOfMemory}
+use Rattle.zone_csv.specs.declared.zone_reader.Stage.{Stage}
+use Rattle.zone_csv.specs.declared.zone_reader.Stage.TheVariants as stage
+
+-- what these answers of rows say
+abbrev pub says : List (Result Block RowFault) → Outlook
+says said = Says (before_fault said) (first_fault said)
+
+-- a fault, said for ever
+abbrev pub says_fault : ZoneFault → Outlook
+says_fault (Row fault) = Says [] (Some fault)
+says_fault OutOfMemory = NoMemory
+
+-- what is to be said at each stage, with these records ahead
+abbrev pub outlook_of : Grid → ℕ → Stage → Ahead → Outlook
+outlook_of grid zone stage.Header (Rows rows) = says (records_say grid zone rows)
+outlook_of grid zone stage.Header GaveUp = NoMemory
+outlook_of grid zone (stage.Body columns number) (Rows rows) = says (rows_say grid zone columns rows number)
+outlook_of grid zone (stage.Body columns number) GaveUp = NoMemory
+outlook_of grid zone stage.Ended ahead = Says [] None
+outlook_of grid zone (stage.Failed fault) ahead = says_fault fault
+
+-- the rows are counted up to the first one that is too many
+abbrev pub IsCounted : Stage → Type 0
+IsCounted stage.Header = Unit {0}
+IsCounted (stage.Body columns number) = number ≤ 1000002
+IsCounted stage.Ended = Unit {0}
+IsCounted (stage.Failed fault) = Unit {0}

@@ -1,0 +1,71 @@
+//! Where the header of a zone file puts its columns.
+
+ghost use Rattle.std.specs.Prelude.{◌≡◌};
+ghost use Rattle.csv.specs.Records.{fields_of};
+ghost use Rattle.zone_csv.specs.Faults.{at};
+ghost use Rattle.zone_csv.specs.Header.{columns_of, place_of};
+
+use crate::cell::cell_at;
+use crate::row_fault::{Column, RowFault, RowFaultKind};
+use csv::ByteRecord;
+use pit_model::cells::is_word;
+
+/// The places of the five columns in a record, from 0, and the number of cells of each record.
+#[derive(Clone, Copy, Debug, PartialEq, Eq)]
+pub struct Columns {
+    pub width: usize,
+    pub x: usize,
+    pub y: usize,
+    pub z: usize,
+    pub tonnes: usize,
+    pub grade: usize,
+}
+
+// The columns that a header names, or the first of them that it lacks or has twice.
+#[tactic(auto, unfolding(crate::specs::Header::columns_of))]
+pub(crate) fn columns_of(header: &ByteRecord) -> Result<Columns, RowFault>
+    ensures { result ≡ columns_of (fields_of header.now) }
+{
+    let x = place_in(header, Column::X, b"x")?;
+    let y = place_in(header, Column::Y, b"y")?;
+    let z = place_in(header, Column::Z, b"z")?;
+    let tonnes = place_in(header, Column::Tonnes, b"tonnes")?;
+    let grade = place_in(header, Column::Grade, b"grade")?;
+    Ok(Columns {
+        width: header.len(),
+        x,
+        y,
+        z,
+        tonnes,
+        grade,
+    })
+}
+
+// The place of a column, or the header's fault.
+fn place_in(header: &ByteRecord, column: Column, name: &[u8]) -> Result<usize, RowFault>
+    ensures { result ≡ at 1 column (place_of name.now (fields_of header.now)) }
+{
+    match place_of(header, name) {
+        Ok(place) => Ok(place),
+        Err(kind) => Err(RowFault {
+            row: 1,
+            column,
+            kind,
+        }),
+    }
+}
+
+fn place_of(header: &ByteRecord, name: &[u8]) -> Result<usize, RowFaultKind>
+    ensures { result ≡ place_of name.now (fields_of header.now) }
+{
+    let mut found = None;
+    for place in 0..header.len() {
+        if is_word(cell_at(header, place), name) {
+            if found.is_some() {
+                return Err(RowFaultKind::TwiceColumn);
+            }
+            found = Some(place);
+        }
+    }
+    found.ok_or(RowFaultKind::MissingColumn)
+}

@@ -1,0 +1,189 @@
+//! The reader of a zone file.
+
+ghost use Rattle.std.specs.Prelude.{◌≡◌, ◌+◌, ◌<◌, ◌≤◌, length, Err, IfOk, IfSome};
+ghost use Rattle.pit_model.specs.Plan.{IsGrid};
+ghost use Rattle.zone_csv.specs.Outlook.{Says, Answers, blocks_left};
+ghost use Rattle.zone_csv.specs.Zone.{blocks_of, fault_of, HasFewBlocks, HasOwnBlocks};
+ghost use Rattle.zone_csv.specs.ZoneView.{outlook_of, IsCounted};
+
+use crate::columns::{Columns, columns_of};
+use crate::row::row_of;
+use crate::row_fault::{Column, RowFault, RowFaultKind};
+use crate::zone_fault::ZoneFault;
+use csv::ByteRecord;
+use pit_model::block::Block;
+use pit_model::grid::Grid;
+use pit_model::plan::Plan;
+use pit_model::records::RecordReader;
+use std::alloc::Global;
+use std::io::Cursor;
+use std::marker::Model;
+
+/// How far a zone file was read.
+#[derive(Clone, Copy)]
+enum Stage {
+    /// Not at all.
+    Header,
+    /// Up to the record of this number.
+    Body { columns: Columns, number: u32 },
+    /// To its end.
+    Ended,
+    /// Up to this fault.
+    Failed(ZoneFault),
+}
+
+/// A reader of a zone file, which answers the blocks of its rows in order. Contracts see what it has still to say: the blocks before
+/// the file's first fault, and that fault, if there is one; or that memory was refused.
+#[derive(Drop)]
+pub struct ZoneReader {
+    records: RecordReader<Cursor<Vec<u8>>>,
+    row: ByteRecord,
+    grid: Grid,
+    zone: u8,
+    stage: Stage,
+}
+
+impl Model for ZoneReader {
+    ghost use Rattle.std.specs.Prelude.{◌<◌};
+    ghost use Rattle.pit_model.specs.Plan.{IsGrid};
+    ghost use Rattle.zone_csv.specs.Outlook.{Outlook};
+    ghost use Rattle.zone_csv.specs.ZoneView.{outlook_of, IsCounted};
+
+    ghost Value = { Outlook };
+
+    ghost view = { λ r. outlook_of r.grid r.zone r.stage r.records };
+
+    ghost invariant = { λ r. IsGrid r.grid × (r.zone < 64) × IsCounted r.stage };
+}
+
+impl ZoneReader {
+    /// A reader of the zone file `text`, of the zone of this number in the plan. It reads nothing and takes no memory yet.
+    pub fn new(alloc: Global, text: Vec<u8>, plan: &Plan, zone: u8) -> ZoneReader
+        requires { zone < length plan.now.cones }
+        ensures says { result
+            ≡ Says (blocks_of plan.now.grid zone text.items) (fault_of plan.now.grid zone text.items) }
+        ensures few { HasFewBlocks plan.now.grid zone text.items }
+        ensures own { HasOwnBlocks plan.now.grid zone text.items }
+    {
+        ZoneReader {
+            records: RecordReader::new(alloc, text),
+            row: ByteRecord::new(alloc),
+            grid: plan.grid(),
+            zone,
+            stage: Stage::Header,
+        }
+    }
+
+    /// The next block, or `None` at the end of the file, then and ever after. The header is read by the first call.
+    ///
+    /// # Errors
+    ///
+    /// `Row` with the file's first fault, once the blocks before it were answered, or `OutOfMemory` where memory was refused for a
+    /// record; each ever after.
+    pub fn next(&mut self) -> Result<Option<Block>, ZoneFault>
+        ensures answers { Answers self.old result self.new }
+        ensures fewer { IfOk result
+            (λ found. IfSome found (λ _. blocks_left self.new + 1 ≡ blocks_left self.old)) }
+    {
+        let (stage, answer) = step(
+            self.stage,
+            &mut self.records,
+            &mut self.row,
+            self.grid,
+            self.zone,
+        );
+        self.stage = stage;
+        answer
+    }
+}
+
+// One answer of a reader at a stage, and the stage that it is at then.
+fn step(
+    stage: Stage,
+    records: &mut RecordReader<Cursor<Vec<u8>>>,
+    row: &mut ByteRecord,
+    grid: Grid,
+    zone: u8,
+) -> (Stage, Result<Option<Block>, ZoneFault>)
+    requires grid { IsGrid grid }
+    requires zone { zone < 64 }
+    requires counted { IsCounted stage }
+    ensures answers { Answers (outlook_of grid zone stage records.old) result.1
+        (outlook_of grid zone result.0 records.new) }
+    ensures counted { IsCounted result.0 }
+{
+    match stage {
+        Stage::Header => first_row(records, row, grid, zone),
+        Stage::Body { columns, number } => next_row(columns, number, records, row, grid, zone),
+        Stage::Ended => (Stage::Ended, Ok(None)),
+        Stage::Failed(fault) => failed(fault),
+    }
+}
+
+fn failed(fault: ZoneFault) -> (Stage, Result<Option<Block>, ZoneFault>)
+    ensures { result ≡ record { 0 = Stage.Failed fault; 1 = Err fault } }
+{
+    (Stage::Failed(fault), Err(fault))
+}
+
+// The answer for the row behind the header, which is read first.
+fn first_row(
+    records: &mut RecordReader<Cursor<Vec<u8>>>,
+    row: &mut ByteRecord,
+    grid: Grid,
+    zone: u8,
+) -> (Stage, Result<Option<Block>, ZoneFault>)
+    requires grid { IsGrid grid }
+    requires zone { zone < 64 }
+    ensures answers { Answers (outlook_of grid zone Stage.Header records.old) result.1
+        (outlook_of grid zone result.0 records.new) }
+    ensures counted { IsCounted result.0 }
+{
+    match records.next(row) {
+        Ok(true) => match columns_of(row) {
+            Ok(columns) => next_row(columns, 2, records, row, grid, zone),
+            Err(fault) => failed(ZoneFault::Row(fault)),
+        },
+        Ok(false) => failed(ZoneFault::Row(RowFault {
+            row: 1,
+            column: Column::X,
+            kind: RowFaultKind::MissingColumn,
+        })),
+        Err(_) => failed(ZoneFault::OutOfMemory),
+    }
+}
+
+// The answer for the next record, which has this number.
+fn next_row(
+    columns: Columns,
+    number: u32,
+    records: &mut RecordReader<Cursor<Vec<u8>>>,
+    row: &mut ByteRecord,
+    grid: Grid,
+    zone: u8,
+) -> (Stage, Result<Option<Block>, ZoneFault>)
+    requires grid { IsGrid grid }
+    requires zone { zone < 64 }
+    requires counted { number ≤ 1000002 }
+    ensures answers { Answers (outlook_of grid zone (Stage.Body columns number) records.old) result.1
+        (outlook_of grid zone result.0 records.new) }
+    ensures counted { IsCounted result.0 }
+{
+    match records.next(row) {
+        Ok(true) => match row_of(row, number, columns, grid, zone) {
+            Ok(block) => (
+                Stage::Body {
+                    columns,
+                    number: number + 1,
+                },
+                Ok(Some(block)),
+            ),
+            Err(fault) => failed(ZoneFault::Row(fault)),
+        },
+        Ok(false) => (Stage::Ended, Ok(None)),
+        Err(_) => failed(ZoneFault::OutOfMemory),
+    }
+}
+
+#[cfg(test)]
+mod tests;
