@@ -1,17 +1,21 @@
 -- What the parts of a run give each other.
-use Rattle.std.proofs.Common.{◌≡◌, ◌<◌, ◌≤◌, ◌+◌, ◌++◌, ◌&&◌, ◌||◌, ◌==◌, ℕ, List, [], ◌∷◌, Bool, true, false, nat_lt, refl, sym, ◌∙◌, ap, subst, arith, length, get_or, All, Option, Some, None}
+use Rattle.std.proofs.Common.{◌≡◌, ◌<◌, ◌≤◌, ◌+◌, ◌++◌, ◌&&◌, ◌||◌, ◌==◌, ℕ, List, [], ◌∷◌, Bool, true, false, nat_lt, refl, sym, ◌∙◌, ap, subst, arith, length, get_or, All, Option, Some, None, Result, Ok, Err}
 use Rattle.std.specs.Prelude.{count_by, slice_index_or}
 use Rattle.std.proofs.lemmas.Bool.{and_parts, eqb-true}
 use Rattle.std.proofs.lemmas.List.Elements.{All-nil, All-cons, All-append, All-head, All-tail, All-weaker}
 use Rattle.pit_model.specs.declared.block.Block.{Block}
 use Rattle.pit_model.specs.declared.formula.Formula.{Formula}
 use Rattle.pit_model.specs.declared.grid.Grid.{Grid}
+use Rattle.pit_model.specs.Plan.{PlanParts}
 use Rattle.precedence.specs.Identifier.{Numbered, IsNumbering, id, is_same_place}
 use Rattle.valuers.specs.Valuing.{worths_by}
 use Rattle.valuers.specs.declared.item.Valued.{Valued}
 use Rattle.zone_csv.specs.Zone.{blocks_of}
-use Rattle.pitc.specs.Rows.{rows_from, rows_in}
-use Rattle.pitc.specs.Verdict.{AreApart}
+use Rattle.pitc.specs.Reading.{ReadsRows}
+use Rattle.pitc.specs.Rows.{rows_from, rows_in, rows_of, fault_in}
+use Rattle.pitc.specs.Verdict.{AreApart, IsRepeat, PipeRefused}
+use Rattle.pitc.specs.declared.refusal.Refusal.{Refusal}
+use Rattle.pitc.specs.declared.refusal.Refusal.TheVariants.{Settings, TooLong, Row, Same, OutOfMemory}
 
 -- the identifier of a block that would stand at this place
 id_at : List Block → ℕ → ℕ → ℕ → ℕ
@@ -32,11 +36,12 @@ apart listed n h i j d before within = by_test (is_same_place (slice_index_or li
   where
     first : i < length listed
     first = omega arith
+
     by_test : (b : Bool) → is_same_place (slice_index_or listed i d) (slice_index_or listed j d) ≡ b → b ≡ false
     by_test false e = refl
     by_test true e =
         let same : i ≡ j =
-          sym (h.found i d first) ∙ ap (λ k. get_or n.positions k 0) (same_id listed (slice_index_or listed i d) (slice_index_or listed j d) e) ∙ h.found j d within in
+        sym (h.found i d first) ∙ ap (λ k. get_or n.positions k 0) (same_id listed (slice_index_or listed i d) (slice_index_or listed j d) e) ∙ h.found j d within in
         absurd (omega arith)
 
 -- a fact of the blocks of a list holds of the numbered ones
@@ -52,7 +57,7 @@ rows_keep : (P : Valued → Type 0) (formulas : List Formula) (file : ℕ) (Q : 
 rows_keep P formulas file Q each [] n all = All-nil P
 rows_keep P formulas file Q each (b ∷ blocks) n all =
     All-cons P _ (rows_from blocks formulas file (n + 1)) (each n b (All-head Q b blocks all))
-      (rows_keep P formulas file Q each blocks (n + 1) (All-tail Q b blocks all))
+    (rows_keep P formulas file Q each blocks (n + 1) (All-tail Q b blocks all))
 
 -- each row's block is of a zone of the files
 pub zones_there : (grid : Grid) (formulas : List Formula)
@@ -66,10 +71,10 @@ zones_there grid formulas own (text ∷ texts) n few =
     let more : n + 1 + length texts ≤ 64 = omega arith in
     let count : n + 1 + length texts ≡ n + length (text ∷ texts) = omega arith in
     let mine : All Here (rows_from (blocks_of grid n text) formulas n 0) =
-        rows_keep Here formulas n (λ b. b.zone ≡ n) (λ place b is. omega arith) (blocks_of grid n text) 0 (own grid n text there) in
+    rows_keep Here formulas n (λ b. b.zone ≡ n) (λ place b is. omega arith) (blocks_of grid n text) 0 (own grid n text there) in
     let others : All Here (rows_in texts grid formulas (n + 1)) =
-        All-weaker (λ (row : Valued). row.block.zone < n + 1 + length texts) Here (λ row h. omega arith) (rows_in texts grid formulas (n + 1))
-          (zones_there grid formulas own texts (n + 1) more) in
+    All-weaker (λ (row : Valued). row.block.zone < n + 1 + length texts) Here (λ row h. omega arith) (rows_in texts grid formulas (n + 1))
+    (zones_there grid formulas own texts (n + 1) more) in
     All-append Here (rows_from (blocks_of grid n text) formulas n 0) (rows_in texts grid formulas (n + 1)) mine others
 
 -- each row has the worths of its block
@@ -79,5 +84,24 @@ worths_there grid formulas [] n = All-nil (λ (row : Valued). row.worths ≡ wor
 worths_there grid formulas (text ∷ texts) n =
     let Has : Valued → Type 0 = λ row. row.worths ≡ worths_by formulas row.block in
     All-append Has (rows_from (blocks_of grid n text) formulas n 0) (rows_in texts grid formulas (n + 1))
-      (rows_keep Has formulas n (λ b. Unit {0}) (λ place b is. refl) (blocks_of grid n text) 0 (λ k d h. tt))
-      (worths_there grid formulas texts (n + 1))
+    (rows_keep Has formulas n (λ b. Unit {0}) (λ place b is. refl) (blocks_of grid n text) 0 (λ k d h. tt))
+    (worths_there grid formulas texts (n + 1))
+
+-- a refusal of reading is the verdict's
+pub reading_refused : (A : Type 0) (plan : PlanParts) (formulas : List Formula) (texts : List (List ℕ)) (r : Refusal) (now : List Valued)
+    → ReadsRows {A = A} [] (Err r) now (rows_of plan texts) (fault_in texts plan.grid 0)
+    → PipeRefused plan formulas texts r
+reading_refused A plan formulas texts OutOfMemory now h = tt
+reading_refused A plan formulas texts (TooLong file) now h = h
+reading_refused A plan formulas texts (Row file fault) now h = h
+reading_refused A plan formulas texts (Settings kind) now h = absurd h
+reading_refused A plan formulas texts (Same first again) now h = absurd h
+
+-- a refusal of what follows is the verdict's, where no file has a fault
+pub repeat_refused : (plan : PlanParts) (formulas : List Formula) (texts : List (List ℕ)) (r : Refusal)
+    → fault_in texts plan.grid 0 ≡ None → IsRepeat (rows_of plan texts) r → PipeRefused plan formulas texts r
+repeat_refused plan formulas texts OutOfMemory none h = tt
+repeat_refused plan formulas texts (Same first again) none h = (none, h)
+repeat_refused plan formulas texts (Settings kind) none h = absurd h
+repeat_refused plan formulas texts (TooLong file) none h = absurd h
+repeat_refused plan formulas texts (Row file fault) none h = absurd h

@@ -14,13 +14,16 @@ pub mod model;
 pub mod numbered;
 pub mod piece;
 pub mod pieces;
+pub mod pipe_form;
 pub mod printed;
 pub mod refusal;
 pub mod rows;
 pub mod settings;
 pub mod status;
 
+use crate::fault_line::refusal_line;
 use crate::model::read_model;
+use crate::pipe_form::pipe;
 use crate::status::{RESOURCES, finish};
 use pit_model::block::Block;
 use pit_model::destination::{Destination, Valuer};
@@ -31,7 +34,7 @@ use std::process::ExitCode;
 fn main(rt: HostRuntime) -> ExitCode {
     let alloc = rt.alloc();
     let mut lines = Vec::new(alloc);
-    let text = Vec::new(alloc);
+    let mut text = Vec::new(alloc);
     let model = match read_model(&rt, alloc, &mut lines) {
         Ok(model) => model,
         Err(status) => return finish(
@@ -136,10 +139,21 @@ fn main(rt: HostRuntime) -> ExitCode {
             );
         }
     }
+    let zones = model.pieces.zones();
+    let status = match pipe(
+        alloc,
+        zones,
+        &model.plan,
+        destinations.as_slice(),
+        &mut text,
+    ) {
+        Ok(_) => 0,
+        Err(refusal) => refusal_line(alloc, &refusal, &mut lines).unwrap_or(RESOURCES),
+    };
     finish(
         &rt.stdout(),
         &rt.stderr(),
-        0,
+        status,
         text.as_slice(),
         lines.as_slice(),
     )
