@@ -6,11 +6,15 @@ mod counting;
 mod extent;
 mod find;
 mod first_seen;
+mod hint;
 mod number_error;
 mod numbering;
+mod part;
+mod places;
 mod predecessors;
 mod reach;
 mod rows;
+mod runs;
 mod table;
 
 pub use first_seen::number;
