@@ -8,3 +8,4 @@ pub mod SeenPlaces
 pub mod Reaches
 pub mod Starts
 pub mod Tables
+pub mod ZoneFacts

@@ -1,7 +1,10 @@
 //! The identifiers of a model's blocks, and the blocks that each has to wait for.
 #![tactic(auto)]
 
+mod above;
+mod bounds;
 mod code;
+mod cone_table;
 mod counting;
 mod extent;
 mod find;
@@ -16,7 +19,9 @@ mod reach;
 mod rows;
 mod runs;
 mod table;
+mod zone_tables;
 
+pub use above::preds;
 pub use first_seen::number;
 pub use number_error::NumberError;
 pub use numbering::Numbering;
