@@ -1,3 +1,4 @@
+pub mod AllLists
 pub mod Counts
 pub mod Geometry
 pub mod Identifiers
