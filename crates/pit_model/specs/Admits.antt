@@ -9,8 +9,8 @@ use Rattle.pit_model.specs.declared.plan_fault.RecordError.TheVariants as record
 use Rattle.pit_model.specs.declared.plan_fault.ReadPlanError.{ReadPlanError}
 use Rattle.pit_model.specs.declared.plan_fault.ReadPlanError.TheVariants as plan_error
 
--- admitting a record makes the draft that the definition says, or finds its fault
-abbrev pub Admits : {A : Type 0} → Draft → Result A RecordError → Result Draft PlanFaultKind → Type 0
+-- taking a record, or a part of it, makes what the definition says of what was there, or finds its fault
+abbrev pub Admits : {S A : Type 0} → S → Result A RecordError → Result S PlanFaultKind → Type 0
 Admits after (Ok x) admitted = admitted ≡ Ok after
 Admits after (Err (record_error.Fault kind)) admitted = admitted ≡ Err kind
 Admits after (Err record_error.OutOfMemory) admitted = Unit {0}

@@ -1,10 +1,16 @@
 pub mod Admits
+pub mod Bands
 pub mod Block
 pub mod Cells
+pub mod Destinations
 pub mod DraftView
+pub mod Equality
+pub mod Formula
 pub mod Name
 pub mod Plan
 pub mod PlanView
 pub mod Planned
 pub mod Records
 pub mod RecordsAhead
+pub mod Ruled
+pub mod Worth

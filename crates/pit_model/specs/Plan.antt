@@ -1,11 +1,12 @@
 -- What a plan is: its parts, and the facts that every plan keeps.
 use Rattle.std.specs.Prelude.{◌≡◌, ℕ, ◌<◌, ◌≤◌, ◌^◌, List, [], ◌∷◌, length, ℤ, pos, negsuc, ◌≤ℤ◌, All, Bool, true, ◌==◌, ◌&&◌, ◌||◌, nat_lt}
+use Rattle.pit_model.specs.Bands.{AreBands}
 use Rattle.pit_model.specs.declared.grid.Axis.{Axis}
 use Rattle.pit_model.specs.declared.grid.Grid.{Grid}
 use Rattle.pit_model.specs.declared.cone.Slope.{Slope}
 use Rattle.pit_model.specs.declared.cone.Cone.{Cone}
 use Rattle.pit_model.specs.declared.formula.Formula.{Formula}
-use Rattle.pit_model.specs.declared.formula.Formula.TheVariants.{Dump}
+use Rattle.pit_model.specs.declared.formula.Formula.TheVariants.{Mill, Leach, Dump}
 use Rattle.pit_model.specs.declared.formula.NamedFormula.{NamedFormula}
 use Rattle.pit_model.specs.declared.resource.Resource.{Resource}
 use Rattle.pit_model.specs.declared.limit.Bound.{Bound}
@@ -56,6 +57,8 @@ IsCone c = (IsSlope c.east × IsSlope c.west × IsSlope c.north × IsSlope c.sou
 
 -- the numbers of a formula are in range
 abbrev pub IsRuled : Formula → Type 0
+IsRuled (Mill recovery price cost) = (recovery ≤ 1000) × (price ≤ 10 ^ 8) × (cost ≤ 10 ^ 7)
+IsRuled (Leach bands price cost) = AreBands bands × (price ≤ 10 ^ 8) × (cost ≤ 10 ^ 7)
 IsRuled (Dump cost) = cost ≤ 10 ^ 7
 
 -- tonnes of a limit: 0 to 10^12, in millionths

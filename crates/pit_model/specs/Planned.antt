@@ -1,18 +1,21 @@
 -- The plan that a text states: its records in turn, each as far as its first fault.
-use Rattle.std.specs.Prelude.{ℕ, ◌+◌, ◌*◌, ◌-◌, ◌/◌, ◌^◌, Bool, false, not, ◌&&◌, ◌||◌, ◌==◌, nat_lt, List, [], ◌∷◌, ◌++◌, length, drop, position, ℤ, pos, negsuc, unsigned_abs, Option, Some, None, is_some, Result, Ok, Err, if◌then◌else◌, codes}
+use Rattle.std.specs.Prelude.{ℕ, ◌+◌, ◌*◌, ◌-◌, ◌/◌, ◌%◌, ◌^◌, Bool, false, not, ◌&&◌, ◌||◌, ◌==◌, nat_lt, List, [], ◌∷◌, ◌++◌, length, drop, position, ℤ, pos, negsuc, unsigned_abs, Option, Some, None, is_some, Result, Ok, Err, if◌then◌else◌, codes}
 use Rattle.std.specs.Prelude.{int_le, int_div}
 use Rattle.std.specs.List.{list_any}
 use Rattle.std.specs.Str.{bytes_eq}
 use Rattle.pit_units.specs.Decimal.{decimal_of}
 use Rattle.pit_units.specs.declared.fault.DecFault.{DecFault}
 use Rattle.pit_units.specs.declared.fault.DecFault.TheVariants as number_fault
+use Rattle.pit_model.specs.Bands.{starts_rise}
 use Rattle.pit_model.specs.Cells.{cells_of, cell_at, is_word}
 use Rattle.pit_model.specs.Name.{is_name}
 use Rattle.pit_model.specs.Plan.{PlanParts, plan_of, stands_before}
 use Rattle.pit_model.specs.Records.{records_of}
+use Rattle.pit_model.specs.declared.band.Band.{Band}
 use Rattle.pit_model.specs.declared.cone.Cone.{Cone}
 use Rattle.pit_model.specs.declared.cone.Slope.{Slope}
-use Rattle.pit_model.specs.declared.formula.Formula.TheVariants.{Dump}
+use Rattle.pit_model.specs.declared.formula.Formula.{Formula}
+use Rattle.pit_model.specs.declared.formula.Formula.TheVariants.{Mill, Leach, Dump}
 use Rattle.pit_model.specs.declared.formula.NamedFormula.{NamedFormula}
 use Rattle.pit_model.specs.declared.grid.Axis.{Axis}
 use Rattle.pit_model.specs.declared.grid.Grid.{Grid}
@@ -154,15 +157,59 @@ cone_in cells =
 abbrev pub admit_zone : Draft → List (List ℕ) → Result Draft PlanFaultKind
 admit_zone d cells = cone_in cells >>= with_zone d
 
+-- one destination more, of at most 8
+abbrev pub with_formula : Draft → List ℕ → Formula → Result Draft PlanFaultKind
+with_formula d name formula =
+    if length d.formulas == 8 then Err TooMany
+    else Ok (record d { formulas = d.formulas ++ record { name = name; formula = formula } ∷ [] })
+
+-- `mill, NAME, recovery, price, cost`
+abbrev pub admit_mill : Draft → List (List ℕ) → Result Draft PlanFaultKind
+admit_mill d cells =
+    if not (length cells == 5) then Err Width else do
+      name ← name_in (cell_at cells 1)
+      recovery ← whole_in 0 1000 (cell_at cells 2)
+      price ← whole_in 0 (10 ^ 8) (cell_at cells 3)
+      cost ← whole_in 0 (10 ^ 7) (cell_at cells 4)
+      if is_taken d.formulas name then Err Twice else with_formula d name (Mill recovery price cost)
+
+-- the band of a start in g/t with 6 decimals, and of a recovery
+abbrev pub band_in : List ℕ → List ℕ → Result Band PlanFaultKind
+band_in from recovered = do
+  start ← number_in 6 (pos 0) (pos (10 ^ 12)) from
+  recovery ← whole_in 0 1000 recovered
+  Ok (record { start = unsigned_abs start; recovery = recovery })
+
+-- the bands that pairs of cells state, a start and a recovery each, behind those that were read
+abbrev pub bands_in : List (List ℕ) → List Band → Result (List Band) PlanFaultKind
+bands_in [] done = Ok done
+bands_in (lone ∷ []) done = Ok done
+bands_in (start ∷ recovery ∷ more) done = band_in start recovery >>= λ band. bands_in more (done ++ band ∷ [])
+
+-- a leach of these bands, which have to rise and be at most 16
+abbrev pub with_leach : Draft → List ℕ → List Band → ℕ → ℕ → Result Draft PlanFaultKind
+with_leach d name bands price cost =
+    if not (starts_rise bands) then Err Order
+    else (if nat_lt 16 (length bands) then Err TooMany
+    else with_formula d name (Leach bands price cost))
+
+-- `leach, NAME, price, cost`, and a start and a recovery for each band
+abbrev pub admit_leach : Draft → List (List ℕ) → Result Draft PlanFaultKind
+admit_leach d cells =
+    if nat_lt (length cells) 6 || not (length cells % 2 == 0) then Err Width else do
+      name ← name_in (cell_at cells 1)
+      price ← whole_in 0 (10 ^ 8) (cell_at cells 2)
+      cost ← whole_in 0 (10 ^ 7) (cell_at cells 3)
+      bands ← bands_in (drop 4 cells) []
+      if is_taken d.formulas name then Err Twice else with_leach d name bands price cost
+
 -- `dump, NAME, cost`
 abbrev pub admit_dump : Draft → List (List ℕ) → Result Draft PlanFaultKind
 admit_dump d cells =
     if not (length cells == 3) then Err Width else do
       name ← name_in (cell_at cells 1)
       cost ← whole_in 0 (10 ^ 7) (cell_at cells 2)
-      if is_taken d.formulas name then Err Twice
-          else (if length d.formulas == 8 then Err TooMany
-          else Ok (record d { formulas = d.formulas ++ record { name = name; formula = Dump cost } ∷ [] }))
+      if is_taken d.formulas name then Err Twice else with_formula d name (Dump cost)
 
 -- the number of the destination that a cell names
 abbrev pub destination_in : List NamedFormula → List ℕ → Result ℕ PlanFaultKind
@@ -267,12 +314,14 @@ key_of cell =
     if is_word cell (codes "name") then Some key.Name
     else (if is_word cell (codes "grid") then Some key.Grid
     else (if is_word cell (codes "zone") then Some key.Zone
+    else (if is_word cell (codes "mill") then Some key.Mill
+    else (if is_word cell (codes "leach") then Some key.Leach
     else (if is_word cell (codes "dump") then Some key.Dump
     else (if is_word cell (codes "periods") then Some key.Periods
     else (if is_word cell (codes "rate") then Some key.Rate
     else (if is_word cell (codes "resource") then Some key.Resource
     else (if is_word cell (codes "limit") then Some key.Limit
-    else None)))))))
+    else None)))))))))
 
 -- the record of a key, after those of the draft
 abbrev pub admit_key : Draft → Option PlanKey → List (List ℕ) → Result Draft PlanFaultKind
@@ -280,6 +329,8 @@ admit_key d None cells = Err Key
 admit_key d (Some key.Name) cells = admit_name d cells
 admit_key d (Some key.Grid) cells = admit_grid d cells
 admit_key d (Some key.Zone) cells = admit_zone d cells
+admit_key d (Some key.Mill) cells = admit_mill d cells
+admit_key d (Some key.Leach) cells = admit_leach d cells
 admit_key d (Some key.Dump) cells = admit_dump d cells
 admit_key d (Some key.Periods) cells = admit_periods d cells
 admit_key d (Some key.Rate) cells = admit_rate d cells

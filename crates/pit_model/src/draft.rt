@@ -1,12 +1,15 @@
 //! A plan while its records are read.
 
-ghost use Rattle.std.specs.Prelude.{◌≡◌, ◌≤ℤ◌, ◌^◌, ◌<◌, pos, length, unwrap_or, IfOk};
+ghost use Rattle.std.specs.Prelude.{◌≡◌, ◌≤ℤ◌, ◌^◌, ◌<◌, ◌≤◌, pos, length, unwrap_or, All, IfOk};
 ghost use Rattle.csv.specs.Records.{fields_of};
 ghost use Rattle.pit_model.specs.Admits.{Admits};
+ghost use Rattle.pit_model.specs.Bands.{IsBand};
 ghost use Rattle.pit_model.specs.Cells.{cells_of};
-ghost use Rattle.pit_model.specs.Plan.{AreTonnes};
-ghost use Rattle.pit_model.specs.Planned.{admit, admit_name, admit_grid, admit_zone, admit_dump, admit_periods, admit_rate, admit_resource, admit_limit, blank_draft, finished, number_in, with_bound};
+ghost use Rattle.pit_model.specs.Plan.{AreTonnes, IsRuled};
+ghost use Rattle.pit_model.specs.Planned.{admit, admit_name, admit_grid, admit_zone, admit_mill, admit_leach, admit_dump, admit_periods, admit_rate, admit_resource, admit_limit, blank_draft, finished, number_in, with_bound, with_formula, with_leach};
 
+use crate::band::{Band, Bands, starts_rise};
+use crate::band_cells::read_bands;
 use crate::cells::{cell_at, cell_count};
 use crate::cone::Cone;
 use crate::formula::{Formula, NamedFormula};
@@ -19,7 +22,7 @@ use crate::numbers::{number_in, origin_in, size_in, whole_in};
 use crate::plan::Plan;
 use crate::plan_fault::{PlanFaultKind, RecordError};
 use crate::plan_key::{PlanKey, key_of};
-use crate::ranges::{MAX_DESTINATIONS, MAX_RESOURCES, MAX_ZONES};
+use crate::ranges::{MAX_BANDS, MAX_DESTINATIONS, MAX_RESOURCES, MAX_ZONES};
 use crate::resource::Resource;
 use crate::zone_cells::cone_in;
 use csv::ByteRecord;
@@ -84,6 +87,8 @@ impl Draft {
             Some(PlanKey::Name) => self.admit_name(row, count),
             Some(PlanKey::Grid) => self.admit_grid(row, count),
             Some(PlanKey::Zone) => self.admit_zone(row, count),
+            Some(PlanKey::Mill) => self.admit_mill(row, count),
+            Some(PlanKey::Leach) => self.admit_leach(row, count),
             Some(PlanKey::Dump) => self.admit_dump(row, count),
             Some(PlanKey::Periods) => self.admit_periods(row, count),
             Some(PlanKey::Rate) => self.admit_rate(row, count),
@@ -233,6 +238,69 @@ impl Draft {
         Ok(())
     }
 
+    fn admit_mill(&mut self, row: &ByteRecord, count: usize) -> Result<(), RecordError>
+        requires { count ≡ length (cells_of (fields_of row.now)) }
+        ensures { Admits self.new result (admit_mill self.old (cells_of (fields_of row.now))) }
+    {
+        if count != 5 {
+            return Err(RecordError::Fault(PlanFaultKind::Width));
+        }
+        let name = name_in(self.alloc, cell_at(row, 1))?;
+        let recovery = whole_in(cell_at(row, 2), 0, 1000)?;
+        let price = whole_in(cell_at(row, 3), 0, 100_000_000)?;
+        let cost = whole_in(cell_at(row, 4), 0, 10_000_000)?;
+        if is_taken(self.formulas.as_slice(), cell_at(row, 1)) {
+            return Err(RecordError::Fault(PlanFaultKind::Twice));
+        }
+        let formula = Formula::Mill {
+            recovery: recovery as u16,
+            price: price as u64,
+            cost: cost as u64,
+        };
+        self.add_formula(name, formula)
+    }
+
+    fn admit_leach(&mut self, row: &ByteRecord, count: usize) -> Result<(), RecordError>
+        requires { count ≡ length (cells_of (fields_of row.now)) }
+        ensures { Admits self.new result (admit_leach self.old (cells_of (fields_of row.now))) }
+    {
+        if count < 6 || count % 2 != 0 {
+            return Err(RecordError::Fault(PlanFaultKind::Width));
+        }
+        let name = name_in(self.alloc, cell_at(row, 1))?;
+        let price = whole_in(cell_at(row, 2), 0, 100_000_000)?;
+        let cost = whole_in(cell_at(row, 3), 0, 10_000_000)?;
+        let mut bands = Vec::new(self.alloc);
+        read_bands(row, count, &mut bands)?;
+        if is_taken(self.formulas.as_slice(), cell_at(row, 1)) {
+            return Err(RecordError::Fault(PlanFaultKind::Twice));
+        }
+        self.add_leach(name, bands, price as u64, cost as u64)
+    }
+
+    fn add_leach(
+        &mut self,
+        name: Name,
+        bands: Vec<Band>,
+        price: u64,
+        cost: u64,
+    ) -> Result<(), RecordError>
+        requires some { 1 ≤ length bands.items }
+        requires in_range { All IsBand bands.items }
+        requires price { price ≤ 10 ^ 8 }
+        requires cost { cost ≤ 10 ^ 7 }
+        ensures { Admits self.new result (with_leach self.old name bands.items price cost) }
+    {
+        if !starts_rise(bands.as_slice()) {
+            return Err(RecordError::Fault(PlanFaultKind::Order));
+        }
+        if bands.len() > MAX_BANDS {
+            return Err(RecordError::Fault(PlanFaultKind::TooMany));
+        }
+        let bands = Bands::new(bands).unwrap();
+        self.add_formula(name, Formula::Leach { bands, price, cost })
+    }
+
     fn admit_dump(&mut self, row: &ByteRecord, count: usize) -> Result<(), RecordError>
         requires { count ≡ length (cells_of (fields_of row.now)) }
         ensures { Admits self.new result (admit_dump self.old (cells_of (fields_of row.now))) }
@@ -245,10 +313,16 @@ impl Draft {
         if is_taken(self.formulas.as_slice(), cell_at(row, 1)) {
             return Err(RecordError::Fault(PlanFaultKind::Twice));
         }
+        self.add_formula(name, Formula::Dump { cost: cost as u64 })
+    }
+
+    fn add_formula(&mut self, name: Name, formula: Formula) -> Result<(), RecordError>
+        requires { IsRuled formula }
+        ensures { Admits self.new result (with_formula self.old name formula) }
+    {
         if self.formulas.len() == MAX_DESTINATIONS as usize {
             return Err(RecordError::Fault(PlanFaultKind::TooMany));
         }
-        let formula = Formula::Dump { cost: cost as u64 };
         self.formulas.push(NamedFormula { name, formula })?;
         Ok(())
     }

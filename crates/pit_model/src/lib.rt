@@ -1,12 +1,16 @@
 //! Block models and the plan of an open pit mine: blocks, destinations' formulas, slope cones, and the reader of a plan.
 #![tactic(auto)]
 
+pub mod band;
+mod band_cells;
 pub mod block;
 pub mod cells;
 pub mod cone;
+pub mod destination;
 mod draft;
 pub mod formula;
 pub mod grid;
+pub mod laws;
 pub mod limit;
 mod limit_cells;
 pub mod name;
@@ -19,6 +23,7 @@ mod plan_reader;
 pub mod ranges;
 pub mod records;
 pub mod resource;
+pub mod worth;
 mod zone_cells;
 
 pub use plan_reader::read_plan;

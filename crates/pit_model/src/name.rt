@@ -42,6 +42,15 @@ impl Name {
         }))
     }
 
+    /// A copy of the NAME. Fails only where memory is refused.
+    pub fn copy(&self, alloc: Global) -> Result<Name, AllocError>
+        ensures { IfOk result (λ name. name ≡ self.now) }
+    {
+        Ok(Name {
+            text: String::from_str(alloc, self.text.as_str())?,
+        })
+    }
+
     /// Whether these bytes spell this NAME.
     pub fn is(&self, bytes: &[u8]) -> bool
         ensures { result ≡ bytes_eq self.now bytes.now }

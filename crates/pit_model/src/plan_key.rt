@@ -11,6 +11,8 @@ pub enum PlanKey {
     Name,
     Grid,
     Zone,
+    Mill,
+    Leach,
     Dump,
     Periods,
     Rate,
@@ -28,6 +30,10 @@ pub fn key_of(cell: &[u8]) -> Option<PlanKey>
         Some(PlanKey::Grid)
     } else if is_word(cell, b"zone") {
         Some(PlanKey::Zone)
+    } else if is_word(cell, b"mill") {
+        Some(PlanKey::Mill)
+    } else if is_word(cell, b"leach") {
+        Some(PlanKey::Leach)
     } else if is_word(cell, b"dump") {
         Some(PlanKey::Dump)
     } else if is_word(cell, b"periods") {

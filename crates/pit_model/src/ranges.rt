@@ -9,6 +9,12 @@ pub const MAX_KG: u64 = 1_000_000_000;
 /// The greatest grade of a block, in millionths of a gram per tonne.
 pub const MAX_GRADE: u64 = 1_000_000_000_000;
 
+/// The greatest part of the metal that is recovered, per mille.
+pub const MAX_RECOVERY: u16 = 1000;
+
+/// The greatest number of bands of a heap leach.
+pub const MAX_BANDS: usize = 16;
+
 /// The greatest number of zones of a plan, and so of zone files.
 pub const MAX_ZONES: u8 = 64;
 

@@ -37,10 +37,10 @@ stands_read max text m few s =
     ∙ rw (s.fine, size, le-ltb (10 ^ 24) (unsigned_abs m) s.in_range) (ap Ok (sym s.side))
 
 -- the four tests of a text, one after another
-abbrev pick : Bool → Bool → Bool → ℤ → Result ℤ DecFault
+abbrev pub pick : Bool → Bool → Bool → ℤ → Result ℤ DecFault
 pick number fine large m = if not number then Err Number else (if not fine then Err TooFine else (if large then Err Range else Ok m))
 
-picked : (number fine large : Bool) (found m : ℤ) → pick number fine large found ≡ Ok m → (number ≡ true) × (fine ≡ true) × (large ≡ false) × (found ≡ m)
+pub picked : (number fine large : Bool) (found m : ℤ) → pick number fine large found ≡ Ok m → (number ≡ true) × (fine ≡ true) × (large ≡ false) × (found ≡ m)
 picked true true false found m e = (refl, refl, refl, cc)
 picked true true true found m e = cc
 picked true false large found m e = cc
@@ -114,7 +114,7 @@ number_parts text number =
       side = off.side;
     }
 
-size_of_signed : (below : Bool) (n : ℕ) → unsigned_abs (signed below n) ≡ n
+pub size_of_signed : (below : Bool) (n : ℕ) → unsigned_abs (signed below n) ≡ n
 size_of_signed false n = refl
 size_of_signed true zero = refl
 size_of_signed true (suc n) = refl

@@ -18,7 +18,7 @@ use Rattle.pit_units.proofs.Spelling.{both, digit_range, reads}
 use Rattle.pit_units.proofs.Text.{not_below, shortest_is}
 
 -- std's digits by recursion, as a test
-digits_pass : (ds : List ℕ) → AllDigits 10 ds → all_digits ds ≡ true
+pub digits_pass : (ds : List ℕ) → AllDigits 10 ds → all_digits ds ≡ true
 digits_pass [] h = refl
 digits_pass (c ∷ cs) h =
     let range = digit_from_value c h.0 in
@@ -43,7 +43,7 @@ pass_drop_take p (c ∷ cs) (suc from) (suc n) h = pass_drop_take p cs from n h
 digit_passes : (n : ℕ) → is_ascii_digit (48 + n % 10) ≡ true
 digit_passes n = rw (le-leb 48 (48 + n % 10) (omega arith), le-leb (48 + n % 10) 57 (omega arith))
 
-six_pass : (n : ℕ) → all_digits (six_digits n) ≡ true
+pub six_pass : (n : ℕ) → all_digits (six_digits n) ≡ true
 six_pass n = simp digit_passes
 
 -- the zeros at the end
@@ -91,7 +91,7 @@ last_is_no_zero xs some last =
 digit_is : (n : ℕ) → digit_value (48 + n % 10) ≡ n % 10
 digit_is n = omega (arith, digit_value_digit (48 + n % 10) (omega arith, omega arith))
 
-six_value : (n : ℕ) → n < 10 ^ 6 → digits_value 10 (six_digits n) ≡ n
+pub six_value : (n : ℕ) → n < 10 ^ 6 → digits_value 10 (six_digits n) ≡ n
 six_value n small = simp digit_is (omega arith)
 
 -- past the decimals that a multiple needs there are zeros
@@ -108,7 +108,7 @@ fine_places n (suc (suc (suc (suc (suc (suc max)))))) multiple = ap all_zeros (d
 abbrev pub decimals : ℕ → List ℕ
 decimals n = without_end_zeros (six_digits n)
 
-point_part : (n : ℕ) → ((fraction_text n ≡ []) × (decimals n ≡ [])) ⊎ (fraction_text n ≡ 46 ∷ decimals n)
+pub point_part : (n : ℕ) → ((fraction_text n ≡ []) × (decimals n ≡ [])) ⊎ (fraction_text n ≡ 46 ∷ decimals n)
 point_part zero = inl (refl, refl)
 point_part (suc n) = inr (rw (ne_eqb (suc n) 0 (λ e. omega (arith, e))))
 

@@ -1,5 +1,5 @@
 //! What holds of decimal texts, whatever the text and the number: each contract is a law, and a call of it does nothing.
-ghost use Rattle.std.specs.Prelude.{◌≡◌, ◌≢◌, ◌↔◌, ℕ, ◌++◌, ◌+◌, ◌-◌, ◌*◌, ◌%◌, ◌^◌, ◌<◌, ◌≤◌, List, length, drop, ℤ, pos, unsigned_abs, IsTrue, Ok, Err};
+ghost use Rattle.std.specs.Prelude.{◌≡◌, ◌↔◌, ℕ, ◌++◌, ◌-◌, ◌*◌, ◌%◌, ◌^◌, ◌<◌, ◌≤◌, List, length, drop, ℤ, pos, unsigned_abs, IsTrue, Ok, Err};
 ghost use Rattle.std.specs.Fmt.{decimal};
 ghost use Rattle.std.specs.Str.Parse.{digits_value};
 ghost use Rattle.pit_units.specs.declared.fault.DecFault.TheVariants as DecFault;
@@ -22,9 +22,10 @@ pub fn whole_is_digits()
     ensures read { (k : ℕ) → k ≤ 10 ^ 18 → decimal_of 0 (decimal k) ≡ Ok (pos (k * 10 ^ 6)) }
 {}
 
-/// What is written has nothing needless.
+/// What is written has nothing needless, and no other text of the number has nothing needless.
 pub fn written_is_shortest()
-    ensures { (z : ℤ) → unsigned_abs z ≤ 10 ^ 24 → IsShortest z (shortest z) }
+    ensures shortest_text { (z : ℤ) → unsigned_abs z ≤ 10 ^ 24 → IsShortest z (shortest z) }
+    ensures only { (z : ℤ) (text : List ℕ) → StandsFor 6 text z → IsShortest z text → text ≡ shortest z }
 {}
 
 /// What is written has digits, a minus and a point alone.

@@ -1,4 +1,4 @@
-// What no clause says: that the definitions are the decimals of worked examples, and that memory is asked for only where it is needed.
+// What no clause says: that the definitions are the decimals of worked examples, and that calls succeed where memory is ample.
 ghost use Rattle.std.specs.Prelude.{◌≤◌};
 
 use crate::{Dec, DecFault, parse_dec, put_dec};

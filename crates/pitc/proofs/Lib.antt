@@ -3,3 +3,6 @@ mod Joined
 mod Lines
 mod Uncut
 mod Walk
+pub mod RowSteps
+pub mod SameFormulas
+pub mod PipeFacts

@@ -1,13 +1,146 @@
 //! `pitc` turns the block models of an open pit mine into a MineLib instance.
+//!
+//! It reads a plan and its zone files from standard input, cut at lines `--`, and writes the instance to standard output.
 #![tactic(auto)]
 
+ghost use Rattle.std.specs.Prelude.{◌≡◌, ◌≤◌, ◌^◌};
+ghost use Rattle.pit_model.specs.Plan.{IsRuled};
+ghost use Rattle.pit_model.specs.Worth.{worth, mill, dump};
+
+pub mod fault_line;
+pub mod input;
 pub mod laws;
+pub mod model;
+pub mod numbered;
 pub mod piece;
 pub mod pieces;
+pub mod printed;
+pub mod refusal;
+pub mod rows;
+pub mod settings;
+pub mod status;
 
-use std::io;
+use crate::model::read_model;
+use crate::status::{RESOURCES, finish};
+use pit_model::block::Block;
+use pit_model::destination::{Destination, Valuer};
+use pit_model::formula::Formula;
+use pit_model::worth::{dump_worth, mill_worth};
+use std::process::ExitCode;
 
-fn main(rt: HostRuntime) -> io::Result<()> {
-    println!(rt; "pitc: no model is compiled yet")?;
-    Ok(())
+fn main(rt: HostRuntime) -> ExitCode {
+    let alloc = rt.alloc();
+    let mut lines = Vec::new(alloc);
+    let text = Vec::new(alloc);
+    let model = match read_model(&rt, alloc, &mut lines) {
+        Ok(model) => model,
+        Err(status) => return finish(
+            &rt.stdout(),
+            &rt.stderr(),
+            status,
+            text.as_slice(),
+            lines.as_slice(),
+        ),
+    };
+    let mut destinations = Vec::new(alloc);
+    for named in model.plan.formulas() {
+        let destination = match &named.formula {
+            Formula::Mill {
+                recovery,
+                price,
+                cost,
+            } => {
+                let (recovery, price, cost) = (*recovery, *price, *cost);
+                let Ok(boxed) = Box::new(
+                    alloc,
+                    move |block: Block| -> i128
+                        requires recovery { recovery ≤ 1000 }
+                        requires price { price ≤ 10 ^ 8 }
+                        requires cost { cost ≤ 10 ^ 7 }
+                        ensures { result ≡ mill block recovery price cost }
+                    { mill_worth(block, recovery, price, cost) },
+                ) else {
+                    return finish(
+                        &rt.stdout(),
+                        &rt.stderr(),
+                        RESOURCES,
+                        text.as_slice(),
+                        lines.as_slice(),
+                    );
+                };
+                let valuer: Valuer = boxed;
+                let formula = Formula::Mill {
+                    recovery,
+                    price,
+                    cost,
+                };
+                Destination::new(formula, valuer)
+            }
+            Formula::Leach { .. } => {
+                let (Ok(formula), Ok(kept)) = (named.formula.copy(alloc), named.formula.copy(alloc))
+                else {
+                    return finish(
+                        &rt.stdout(),
+                        &rt.stderr(),
+                        RESOURCES,
+                        text.as_slice(),
+                        lines.as_slice(),
+                    );
+                };
+                let Ok(boxed) = Box::new(
+                    alloc,
+                    move |block: Block| -> i128
+                        requires { IsRuled kept }
+                        ensures { result ≡ worth kept block }
+                    { kept.worth(block) },
+                ) else {
+                    return finish(
+                        &rt.stdout(),
+                        &rt.stderr(),
+                        RESOURCES,
+                        text.as_slice(),
+                        lines.as_slice(),
+                    );
+                };
+                let valuer: Valuer = boxed;
+                Destination::new(formula, valuer)
+            }
+            Formula::Dump { cost } => {
+                let cost = *cost;
+                let Ok(boxed) = Box::new(
+                    alloc,
+                    move |block: Block| -> i128
+                        requires { cost ≤ 10 ^ 7 }
+                        ensures { result ≡ dump block cost }
+                    { dump_worth(block, cost) },
+                ) else {
+                    return finish(
+                        &rt.stdout(),
+                        &rt.stderr(),
+                        RESOURCES,
+                        text.as_slice(),
+                        lines.as_slice(),
+                    );
+                };
+                let valuer: Valuer = boxed;
+                Destination::new(Formula::Dump { cost }, valuer)
+            }
+        };
+        if destinations.push(destination).is_err() {
+            return finish(
+                &rt.stdout(),
+                &rt.stderr(),
+                RESOURCES,
+                text.as_slice(),
+                lines.as_slice(),
+            );
+        }
+    }
+    finish(
+        &rt.stdout(),
+        &rt.stderr(),
+        0,
+        text.as_slice(),
+        lines.as_slice(),
+    )
 }

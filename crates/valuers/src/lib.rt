@@ -2,7 +2,9 @@
 #![tactic(auto)]
 
 mod item;
+mod valuing;
 mod worths;
 
 pub use item::{Item, Valued};
+pub use valuing::worths_of;
 pub use worths::Worths;

@@ -1,5 +1,5 @@
 -- What a cell of a row states: an index of the grid, a tonnage or a grade, or the cell's first fault.
-use Rattle.std.specs.Prelude.{◌≡◌, ℕ, ◌+◌, ◌*◌, ◌/◌, ◌%◌, ◌^◌, ◌<◌, ◌≤◌, ◌==◌, nat_lt, nat_le, Bool, true, false, List, [], ℤ, pos, negsuc, ◌-ℤ◌, ◌*ℤ◌, Result, Ok, Err, if◌then◌else◌, refl, slice_index_or}
+use Rattle.std.specs.Prelude.{◌≡◌, ℕ, ◌*◌, ◌/◌, ◌%◌, ◌^◌, ◌<◌, ◌≤◌, ◌==◌, nat_lt, nat_le, Bool, true, false, List, [], ℤ, pos, negsuc, ◌+ℤ◌, ◌-ℤ◌, ◌*ℤ◌, Result, Ok, Err, if◌then◌else◌, refl, slice_index_or}
 use Rattle.std.proofs.lemmas.Bool.{ltb-true, leb-true}
 use Rattle.pit_model.specs.Cells.{trimmed}
 use Rattle.pit_model.specs.declared.grid.Axis.{Axis}
@@ -60,6 +60,10 @@ index_above size (pos above) = index_if (above / size) (above % size) (nat_lt (a
 -- the index along an axis of a coordinate in millionths of a metre; the axis counts thousandths
 abbrev pub index_at : Axis → ℤ → Result Index RowFaultKind
 index_at axis coordinate = index_above (1000 * axis.size) (coordinate -ℤ (pos 1000 *ℤ axis.origin))
+
+-- a coordinate in millionths of a metre is that of the blocks of this index along an axis
+abbrev pub IsCentroid : Axis → ℤ → ℕ → Type 0
+IsCentroid axis coordinate index = coordinate ≡ pos 1000 *ℤ (axis.origin +ℤ pos (index * axis.size))
 
 -- the index that a coordinate's cell states: metres with 3 decimals
 unfoldable pub index_of : Axis → List ℕ → Result Index RowFaultKind

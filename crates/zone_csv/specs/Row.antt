@@ -1,5 +1,5 @@
 -- What a row of a zone file says: a block, or its first fault.
-use Rattle.std.specs.Prelude.{◌≡◌, ℕ, ◌<◌, ◌≤◌, ◌==◌, nat_lt, not, Bool, true, false, refl, List, length, Result, Ok, Err, if◌then◌else◌}
+use Rattle.std.specs.Prelude.{◌≡◌, ℕ, ◌<◌, ◌==◌, nat_lt, not, Bool, true, false, refl, List, length, Result, Err, if◌then◌else◌}
 use Rattle.std.proofs.Common.{lit<}
 use Rattle.std.proofs.lemmas.Bool.{ltb-true}
 use Rattle.pit_model.specs.declared.block.Block.{Block}

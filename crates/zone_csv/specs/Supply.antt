@@ -1,5 +1,5 @@
 -- What a feed of bytes in memory still gives, and which of its pulls fails.
-use Rattle.std.specs.Prelude.{ℕ, ◌+◌, List, drop, min, Bool, ◌==◌, nat_lt, nat_le, ◌&&◌, if◌then◌else◌}
+use Rattle.std.specs.Prelude.{ℕ, ◌+◌, List, length, drop, min, Bool, ◌==◌, nat_lt, nat_le, ◌&&◌, if◌then◌else◌}
 
 pub record Supply : Type 0 where
   -- the bytes that are still to be given
@@ -14,6 +14,10 @@ pub record Supply : Type 0 where
 -- a supply that was not pulled yet
 abbrev pub fresh : List ℕ → ℕ → Supply
 fresh bytes nth = record { left = bytes; given = 0; failing = nth; pulls = 0 }
+
+-- how many bytes a pull gives to a buffer of this length, where it does not fail
+abbrev pub pull_count : Supply → ℕ → ℕ
+pull_count s room = min room (length s.left)
 
 -- the supply after one more pull, which gave n bytes
 abbrev pub after_pull : Supply → ℕ → Supply

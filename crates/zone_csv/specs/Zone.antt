@@ -1,5 +1,5 @@
 -- Reading a zone file: the blocks before its first fault, and that fault.
-use Rattle.std.specs.Prelude.{◌≡◌, ℕ, ◌+◌, ◌<◌, ◌≤◌, List, [], ◌∷◌, length, All, Option, Some, None, Result, Ok, Err}
+use Rattle.std.specs.Prelude.{◌≡◌, ℕ, ◌+◌, ◌≤◌, List, [], ◌∷◌, length, All, ◌⊎◌, MatchOption, Option, Some, None, Result, Ok, Err}
 use Rattle.pit_model.specs.Records.{records_of}
 use Rattle.pit_model.specs.declared.block.Block.{Block}
 use Rattle.pit_model.specs.declared.grid.Grid.{Grid}
@@ -53,3 +53,9 @@ HasFewBlocks grid zone text = length (blocks_of grid zone text) ≤ 1000000
 -- its blocks are of its zone
 abbrev pub HasOwnBlocks : Grid → ℕ → List ℕ → Type 0
 HasOwnBlocks grid zone text = All (λ block. block.zone ≡ zone) (blocks_of grid zone text)
+
+-- its records are the header and a block each, or its fault is that of the record behind its blocks, or of the header
+abbrev pub AccountsForRecords : Grid → ℕ → List ℕ → Type 0
+AccountsForRecords grid zone text =
+    MatchOption (fault_of grid zone text) (length (records_of text) ≡ length (blocks_of grid zone text) + 1)
+    (λ fault. (fault.row ≡ length (blocks_of grid zone text) + 2) ⊎ ((fault.row ≡ 1) × (blocks_of grid zone text ≡ [])))

@@ -1,6 +1,5 @@
 -- How the parts of a reader of a zone file are seen as what it has still to say.
-use Rattle.std.specs.Prelude.{ℕ, ◌<◌, ◌≤◌, List, [], Some, None, Result}
-use Rattle.pit_model.specs.Plan.{IsGrid}
+use Rattle.std.specs.Prelude.{ℕ, ◌≤◌, List, [], Some, None, Result}
 use Rattle.pit_model.specs.Records.{Ahead, Rows, GaveUp}
 use Rattle.pit_model.specs.declared.block.Block.{Block}
 use Rattle.pit_model.specs.declared.grid.Grid.{Grid}

@@ -1,6 +1,6 @@
 //! What a cell of a row states.
 
-ghost use Rattle.std.specs.Prelude.{◌≡◌, ◌*◌, ◌<◌, ◌≤◌, ◌^◌, ◌-ℤ◌, ◌*ℤ◌, pos, unsigned_abs, IfOk, Ok};
+ghost use Rattle.std.specs.Prelude.{◌≡◌, ◌<◌, ◌≤◌, ◌^◌, IfOk};
 ghost use Rattle.csv.specs.Records.{fields_of};
 ghost use Rattle.pit_model.specs.Plan.{IsAxis};
 ghost use Rattle.zone_csv.specs.Cell.{cell_at, value_of, kind_of, index_of, index_at, index_above, kilograms_of, kilograms_at, grade_of, grade_at};

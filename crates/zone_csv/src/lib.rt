@@ -2,8 +2,9 @@
 #![tactic(auto)]
 
 mod cell;
-pub mod columns;
+mod columns;
 pub mod feed;
+pub mod laws;
 pub mod mem_feed;
 mod row;
 pub mod row_fault;

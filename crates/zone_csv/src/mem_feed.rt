@@ -1,7 +1,7 @@
 //! Bytes in memory as a feed.
 
-ghost use Rattle.std.specs.Prelude.{◌≡◌, ◌+◌, ◌≤◌, ◌↔◌, ◌∷◌, take, drop, length, min, Some, IsErr, IfOk, OnErr};
-ghost use Rattle.zone_csv.specs.Supply.{Supply, fresh, after_pull, never_fails, failures_of};
+ghost use Rattle.std.specs.Prelude.{◌≡◌, ◌+◌, ◌≤◌, ◌↔◌, take, drop, length, Some, IsErr, IfOk, OnErr};
+ghost use Rattle.zone_csv.specs.Supply.{Supply, fresh, pull_count, after_pull, never_fails, failures_of};
 
 use crate::feed::{Feed, FeedFault};
 use std::marker::Model;
@@ -66,7 +66,7 @@ impl Feed for MemFeed {
     fn pull(&mut self, buffer: &mut [u8]) -> Result<usize, FeedFault>
         ensures fails { IsErr result ↔ (self.old.pulls + 1 ≡ self.old.failing) }
         ensures refused { OnErr result (self.new ≡ after_pull self.old 0) }
-        ensures count { IfOk result (λ n. n ≡ min (length buffer.old) (length self.old.left)) }
+        ensures count { IfOk result (λ n. n ≡ pull_count self.old (length buffer.old)) }
         ensures gives { IfOk result (λ n. take n buffer.new ≡ take n self.old.left) }
         ensures goes_on { IfOk result (λ n. self.new ≡ after_pull self.old n) }
     {

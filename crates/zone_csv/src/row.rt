@@ -82,7 +82,8 @@ fn index_in(
     column: Column,
 ) -> Result<u16, RowFault>
     requires { IsAxis axis }
-    ensures value { result ≡ value_of (at number column (index_of axis (cell_at (fields_of row.now) place))) }
+    ensures value { result
+        ≡ value_of (at number column (index_of axis (cell_at (fields_of row.now) place))) }
     ensures in_grid { IfOk result (λ index. index < 10000) }
 {
     match index_of(axis, cell_at(row, place)) {
@@ -96,7 +97,8 @@ fn index_in(
 }
 
 fn kilograms_in(row: &ByteRecord, place: usize, number: u32) -> Result<u64, RowFault>
-    ensures value { result ≡ value_of (at number Column.Tonnes (kilograms_of (cell_at (fields_of row.now) place))) }
+    ensures value { result
+        ≡ value_of (at number Column.Tonnes (kilograms_of (cell_at (fields_of row.now) place))) }
     ensures in_range { IfOk result (λ kilograms. kilograms ≤ 10 ^ 9) }
 {
     match kilograms_of(cell_at(row, place)) {
@@ -110,7 +112,8 @@ fn kilograms_in(row: &ByteRecord, place: usize, number: u32) -> Result<u64, RowF
 }
 
 fn grade_in(row: &ByteRecord, place: usize, number: u32) -> Result<u64, RowFault>
-    ensures value { result ≡ value_of (at number Column.Grade (grade_of (cell_at (fields_of row.now) place))) }
+    ensures value { result
+        ≡ value_of (at number Column.Grade (grade_of (cell_at (fields_of row.now) place))) }
     ensures in_range { IfOk result (λ grade. grade ≤ 10 ^ 12) }
 {
     match grade_of(cell_at(row, place)) {

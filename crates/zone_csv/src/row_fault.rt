@@ -1,5 +1,6 @@
 //! The first fault of a zone file.
 
+use std::fmt;
 use thiserror::Error;
 
 /// The column of a fault.
@@ -12,6 +13,19 @@ pub enum Column {
     Grade,
     /// The row as a whole.
     Whole,
+}
+
+impl fmt::Display for Column {
+    fn fmt<W: fmt::Write>(&self, f: &mut fmt::Formatter<W>) -> fmt::Result {
+        f.write_str(match self {
+            Column::X => "x",
+            Column::Y => "y",
+            Column::Z => "z",
+            Column::Tonnes => "tonnes",
+            Column::Grade => "grade",
+            Column::Whole => "whole",
+        })
+    }
 }
 
 /// What is wrong with a row. Of several faults of a cell the first one here is meant.
@@ -37,7 +51,7 @@ pub enum RowFaultKind {
 
 /// The first fault of a zone file, and where it stands.
 #[derive(Clone, Copy, Debug, Error, PartialEq, Eq)]
-#[error("row {row}, column {column:?}: {kind:?}")]
+#[error("row {row} column {column}: {kind:?}")]
 pub struct RowFault {
     /// The number of the record, from 1, the header included. Blank lines are no records.
     pub row: u32,

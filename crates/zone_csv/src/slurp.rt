@@ -1,6 +1,6 @@
 //! A feed read whole.
 
-ghost use Rattle.std.specs.Prelude.{◌≡◌, ◌≢◌, ◌+◌, ◌-◌, ◌*◌, ◌<◌, ◌≤◌, ◌^◌, [], length, take, vec_len, IsTrue, IsOk, IfOk, OnOk, OnErr, IsErr, IfErr, IfSome, IsErrOf};
+ghost use Rattle.std.specs.Prelude.{◌≡◌, ◌≢◌, ◌+◌, ◌-◌, ◌<◌, ◌≤◌, ◌^◌, [], length, take, vec_len, IsTrue, IsOk, IfOk, OnOk, OnErr, IfSome, IsErrOf};
 ghost use Rattle.zone_csv.specs.Feed.{put_back, left_after};
 ghost use Rattle.zone_csv.specs.declared.slurp.SlurpFault.TheVariants.{FeedFailed, OutOfMemory};
 
@@ -62,13 +62,19 @@ pub fn slurp<F: Feed>(alloc: Global, feed: &mut F, limit: u64) -> Result<Vec<u8>
     ensures works { OnOk result (F.failures feed.new ≡ F.failures feed.old) }
 
     // When each fault comes.
-    ensures failed { IsErrOf result SlurpFault.FeedFailed → F.failures feed.new ≡ F.failures feed.old + 1 }
+    ensures failed { IsErrOf result SlurpFault.FeedFailed
+        → F.failures feed.new ≡ F.failures feed.old + 1 }
     ensures sure { IsTrue (F.is_sure feed.old) → result ≢ Err SlurpFault.FeedFailed }
-    ensures long { IsErrOf result SlurpFault.TooLong → IfSome (F.left feed.old) (λ bytes. limit < length bytes) }
-    ensures long_counts { IsErrOf result SlurpFault.TooLong → F.given feed.new ≡ F.given feed.old + (limit + 1) }
-    ensures long_stands { IsErrOf result SlurpFault.TooLong → F.left feed.new ≡ left_after (limit + 1) (F.left feed.old) }
-    ensures long_works { IsErrOf result SlurpFault.TooLong → F.failures feed.new ≡ F.failures feed.old }
-    ensures memory_works { IsErrOf result SlurpFault.OutOfMemory → F.failures feed.new ≡ F.failures feed.old }
+    ensures long { IsErrOf result SlurpFault.TooLong
+        → IfSome (F.left feed.old) (λ bytes. limit < length bytes) }
+    ensures long_counts { IsErrOf result SlurpFault.TooLong
+        → F.given feed.new ≡ F.given feed.old + (limit + 1) }
+    ensures long_stands { IsErrOf result SlurpFault.TooLong
+        → F.left feed.new ≡ left_after (limit + 1) (F.left feed.old) }
+    ensures long_works { IsErrOf result SlurpFault.TooLong
+        → F.failures feed.new ≡ F.failures feed.old }
+    ensures memory_works { IsErrOf result SlurpFault.OutOfMemory
+        → F.failures feed.new ≡ F.failures feed.old }
 
     // How much was read, and where the feed stands, whatever was answered.
     ensures onward { F.given feed.old ≤ F.given feed.new }

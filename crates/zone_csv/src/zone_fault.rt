@@ -1,10 +1,6 @@
 //! Why a reader of a zone file answers no block.
 
-ghost use Rattle.std.specs.Prelude.{◌≡◌};
-ghost use Rattle.zone_csv.specs.declared.zone_fault.ZoneFault.TheVariants.{OutOfMemory};
-
 use crate::row_fault::RowFault;
-use std::alloc::AllocError;
 use thiserror::Error;
 
 /// Why a reader of a zone file answers no block. It answers the same ever after.
@@ -16,12 +12,4 @@ pub enum ZoneFault {
     /// Memory ran out for a record of the file.
     #[error("out of memory")]
     OutOfMemory,
-}
-
-impl From<AllocError> for ZoneFault {
-    ghost from_gives = { λ _ fault. fault ≡ OutOfMemory };
-
-    fn from(_error: AllocError) -> ZoneFault {
-        ZoneFault::OutOfMemory
-    }
 }

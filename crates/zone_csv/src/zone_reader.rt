@@ -1,6 +1,6 @@
 //! The reader of a zone file.
 
-ghost use Rattle.std.specs.Prelude.{◌≡◌, ◌+◌, ◌<◌, ◌≤◌, length, Ok, Err, Some, IfOk, IfSome};
+ghost use Rattle.std.specs.Prelude.{◌≡◌, ◌+◌, ◌<◌, ◌≤◌, length, Err, IfOk, IfSome};
 ghost use Rattle.pit_model.specs.Plan.{IsGrid};
 ghost use Rattle.zone_csv.specs.Outlook.{Says, Answers, blocks_left};
 ghost use Rattle.zone_csv.specs.Zone.{blocks_of, fault_of, HasFewBlocks, HasOwnBlocks};
@@ -60,7 +60,8 @@ impl ZoneReader {
     /// A reader of the zone file `text`, of the zone of this number in the plan. It reads nothing and takes no memory yet.
     pub fn new(alloc: Global, text: Vec<u8>, plan: &Plan, zone: u8) -> ZoneReader
         requires { zone < length plan.now.cones }
-        ensures says { result ≡ Says (blocks_of plan.now.grid zone text.items) (fault_of plan.now.grid zone text.items) }
+        ensures says { result
+            ≡ Says (blocks_of plan.now.grid zone text.items) (fault_of plan.now.grid zone text.items) }
         ensures few { HasFewBlocks plan.now.grid zone text.items }
         ensures own { HasOwnBlocks plan.now.grid zone text.items }
     {
@@ -81,7 +82,8 @@ impl ZoneReader {
     /// record; each ever after.
     pub fn next(&mut self) -> Result<Option<Block>, ZoneFault>
         ensures answers { Answers self.old result self.new }
-        ensures fewer { IfOk result (λ found. IfSome found (λ _. blocks_left self.new + 1 ≡ blocks_left self.old)) }
+        ensures fewer { IfOk result
+            (λ found. IfSome found (λ _. blocks_left self.new + 1 ≡ blocks_left self.old)) }
     {
         let (stage, answer) = step(
             self.stage,
@@ -106,7 +108,8 @@ fn step(
     requires grid { IsGrid grid }
     requires zone { zone < 64 }
     requires counted { IsCounted stage }
-    ensures answers { Answers (outlook_of grid zone stage records.old) result.1 (outlook_of grid zone result.0 records.new) }
+    ensures answers { Answers (outlook_of grid zone stage records.old) result.1
+        (outlook_of grid zone result.0 records.new) }
     ensures counted { IsCounted result.0 }
 {
     match stage {
@@ -132,7 +135,8 @@ fn first_row(
 ) -> (Stage, Result<Option<Block>, ZoneFault>)
     requires grid { IsGrid grid }
     requires zone { zone < 64 }
-    ensures answers { Answers (outlook_of grid zone Stage.Header records.old) result.1 (outlook_of grid zone result.0 records.new) }
+    ensures answers { Answers (outlook_of grid zone Stage.Header records.old) result.1
+        (outlook_of grid zone result.0 records.new) }
     ensures counted { IsCounted result.0 }
 {
     match records.next(row) {
@@ -180,3 +184,6 @@ fn next_row(
         Err(_) => failed(ZoneFault::OutOfMemory),
     }
 }
+
+#[cfg(test)]
+mod tests;

@@ -1,0 +1,73 @@
+-- What the shelves hand over, or lack.
+use Rattle.std.proofs.Common.{◌≡◌, ℕ, suc, zero, ◌<◌, ◌≤◌, true, eqb, is_some, List, [], ◌∷◌, length, map, Option, Some, None, sym, ap, subst, ◌∙◌, ⊎_elim, arith}
+use Rattle.std.proofs.lemmas.List.{length-map}
+use Rattle.std.specs.List.{slice_get}
+use Rattle.std.specs.Option.{option_and_then}
+use Rattle.std.proofs.lemmas.Bool.{cases_lt, cases_Bool, cond-true, cond-false, false≢true}
+use Rattle.std.proofs.lemmas.Option.{slice_get_past, none-some, same_Some}
+use Rattle.valuers.specs.declared.item.Item.{Item}
+use Rattle.valuers.specs.declared.item.Valued.{Valued}
+use Rattle.collector.specs.declared.finish_fault.FinishFault.{FinishFault}
+use Rattle.collector.specs.declared.finish_fault.FinishFault.TheVariants.{Missing, OutOfMemory}
+use Rattle.collector.specs.declared.shelf.Shelf.{Shelf}
+use Rattle.collector.specs.CollectorView.{if_at, slot, rows_in, end_in, IsKept, IsShelved, IsFilled, IsFirstLacking}
+use Rattle.collector.specs.Held.{Held}
+use Rattle.collector.specs.Lists.{AreLists, IsFull, IsOpen, IsMissing, IsFinishFault}
+use Rattle.collector.proofs.Slots.{slot-past}
+
+-- a slot that has a row has the row at its index
+row-or-none : (place : ℕ) (o : Option Valued) → is_some (option_and_then (if_at place) o) ≡ true → o ≡ option_and_then (if_at place) o
+row-or-none place None full = absurd (false≢true full)
+row-or-none place (Some v) full =
+    ⊎_elim (λ yes. sym (cond-true (eqb v.place place) (Some v) None yes))
+    (λ no. absurd (false≢true (sym (ap is_some (cond-false (eqb v.place place) (Some v) None no)) ∙ full)))
+    (cases_Bool (eqb v.place place))
+
+get-filled-row : (rows : List Valued) (end : Option ℕ) (place : ℕ) → IsFilled rows end → slice_get rows place ≡ slot rows place
+get-filled-row rows end place filled =
+    ⊎_elim (λ within. row-or-none place (slice_get rows place) (filled.1 place within))
+    (λ past. slice_get_past rows place past ∙ sym (slot-past rows place past))
+    (cases_lt place (length rows))
+
+-- the rows of the shelves are lists
+list-of : (shelves : List Shelf) (file : ℕ) (rows : List Valued) →
+    slice_get (map (λ (s : Shelf). s.rows.items) shelves) file ≡ Some rows → (file < length shelves) × (rows_in shelves file ≡ rows)
+list-of [] file rows got = absurd (none-some rows got)
+list-of (s ∷ shelves) zero rows got = (omega arith, same_Some s.rows.items rows got)
+list-of (s ∷ shelves) (suc file) rows got = let h = list-of shelves file rows got in (omega (arith, h.0), h.1)
+
+pub are_lists : (held : List Item) (shelves : List Shelf) (lists : List (List Valued)) (view : Held) →
+    record { files = length shelves; items = held } ≡ view →
+    (length shelves ≤ 255) × IsKept (length shelves) held (rows_in shelves) (end_in shelves) →
+    ((file : ℕ) → file < length shelves → IsFilled (rows_in shelves file) (end_in shelves file)) →
+    lists ≡ map (λ (s : Shelf). s.rows.items) shelves → AreLists view.files view.items lists
+are_lists held shelves lists view is_view kept filled is_map =
+    subst (λ (v : Held). AreLists v.files v.items lists) is_view (rw is_map (record {
+      count = length-map shelves (λ (s : Shelf). s.rows.items);
+      ends = λ file rows got. let at = list-of shelves file rows got in
+          (kept.1.shelved file).ended ∙ (filled file at.0).0 ∙ ap (λ rs. Some (length rs)) at.1;
+      rows = λ file place rows got. let at = list-of shelves file rows got in
+          ap (λ rs. slice_get rs place) (sym at.1)
+          ∙ get-filled-row (rows_in shelves file) (end_in shelves file) place (filled file at.0)
+          ∙ sym ((kept.1.shelved file).row place);
+    }))
+
+-- a filled shelf is a full file
+full-kept : (held : List Item) (file : ℕ) (rows : List Valued) (end : Option ℕ) → IsShelved held file rows end → IsFilled rows end → IsFull held file
+full-kept held file rows end shelved filled =
+    (length rows, shelved.ended ∙ filled.0, λ place below. ap is_some (shelved.row place) ∙ filled.1 place below)
+
+pub is_missing : (held : List Item) (shelves : List Shelf) (why : FinishFault) (view : Held) →
+    record { files = length shelves; items = held } ≡ view →
+    (length shelves ≤ 255) × IsKept (length shelves) held (rows_in shelves) (end_in shelves) →
+    IsFirstLacking shelves why → IsFinishFault view.files view.items why
+is_missing held shelves OutOfMemory view is_view kept lacking = absurd lacking
+is_missing held shelves (Missing file place) view is_view kept lacking =
+    let here = kept.1.shelved file in
+    subst (λ (v : Held). IsMissing v.files v.items file place) is_view (record {
+      within = lacking.0;
+      before = λ other below. full-kept held other (rows_in shelves other) (end_in shelves other) (kept.1.shelved other) (lacking.1 other below);
+      open_at = subst (λ (o : Option ℕ). IsOpen o place) (sym here.ended) lacking.2.2;
+      none = here.row place ∙ lacking.2.0;
+      least = λ other below. ap is_some (here.row other) ∙ lacking.2.1 other below;
+    })

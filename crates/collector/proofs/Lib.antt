@@ -1,0 +1,5 @@
+pub mod Complete
+pub mod Finished
+pub mod Kept
+pub mod Shelves
+pub mod Slots

@@ -1,0 +1,54 @@
+-- The shelf of a file among the shelves.
+use Rattle.std.proofs.Common.{◌≡◌, ℕ, ◌<◌, ◌≤◌, leb, List, [], ◌∷◌, ◌++◌, length, get_or, Some, None, refl, sym, ap, subst, ◌∙◌}
+use Rattle.std.proofs.lemmas.Bool.{cond-false, lt-leb}
+use Rattle.valuers.specs.declared.item.Item.{Item}
+use Rattle.valuers.specs.declared.item.Item.TheVariants.{Row, End}
+use Rattle.std.specs.List.{slice_get}
+use Rattle.std.specs.Option.{option_and_then, unwrap_or, option_map}
+use Rattle.std.proofs.lemmas.Option.{slice_get_past, slice_get_read}
+use Rattle.valuers.specs.declared.item.Valued.{Valued}
+use Rattle.collector.specs.declared.shelf.Shelf.{Shelf}
+use Rattle.collector.specs.CollectorView.{rows_in, end_in, row_fault, end_fault, fault_in, ArePut, IsKept}
+use Rattle.collector.specs.Fault.{fault}
+use Rattle.collector.specs.Held.{Held}
+use Rattle.collector.proofs.Kept.{kept_more}
+
+pub rows-at : (shelves : List Shelf) (file : ℕ) (s : Shelf) → slice_get shelves file ≡ Some s → rows_in shelves file ≡ s.rows.items
+rows-at shelves file s e = ap (λ o. unwrap_or (option_map (λ (t : Shelf). t.rows.items) o) []) e
+
+pub end-at : (shelves : List Shelf) (file : ℕ) (s : Shelf) → slice_get shelves file ≡ Some s → end_in shelves file ≡ s.end
+end-at shelves file s e = ap (option_and_then (λ (t : Shelf). t.end)) e
+
+pub rows-past : (shelves : List Shelf) (file : ℕ) → length shelves ≤ file → rows_in shelves file ≡ []
+rows-past shelves file past = ap (λ o. unwrap_or (option_map (λ (t : Shelf). t.rows.items) o) []) (slice_get_past shelves file past)
+
+pub end-past : (shelves : List Shelf) (file : ℕ) → length shelves ≤ file → end_in shelves file ≡ None
+end-past shelves file past = ap (option_and_then (λ (t : Shelf). t.end)) (slice_get_past shelves file past)
+
+-- the fault on a file's shelf is the fault among all shelves
+pub row_fault-at : (shelves : List Shelf) (v : Valued) (s : Shelf) → v.file < length shelves → s ≡ get_or shelves v.file s →
+    row_fault s.rows.items s.end v.place ≡ fault_in (length shelves) (rows_in shelves) (end_in shelves) (Row v)
+row_fault-at shelves v s within read =
+    let found = slice_get_read shelves (length shelves) v.file s refl within read in
+    sym (cond-false (leb (length shelves) v.file) _ _ (lt-leb (length shelves) v.file within)
+    ∙ ap (λ o. row_fault (unwrap_or (option_map (λ (t : Shelf). t.rows.items) o) []) (option_and_then (λ (t : Shelf). t.end) o) v.place) found)
+
+pub end_fault-at : (shelves : List Shelf) (file count : ℕ) (s : Shelf) → file < length shelves → s ≡ get_or shelves file s →
+    end_fault s.rows.items s.end count ≡ fault_in (length shelves) (rows_in shelves) (end_in shelves) (End file count)
+end_fault-at shelves file count s within read =
+    let found = slice_get_read shelves (length shelves) file s refl within read in
+    sym (cond-false (leb (length shelves) file) _ _ (lt-leb (length shelves) file within)
+    ∙ ap (λ o. end_fault (unwrap_or (option_map (λ (t : Shelf). t.rows.items) o) []) (option_and_then (λ (t : Shelf). t.end) o) count) found)
+
+-- one item more, as the shelves are written back
+pub kept-put : (held after : List Item) (item : Item) (old new lent back : List Shelf) (view : Held) →
+    record { files = length old; items = held } ≡ view → (length old ≤ 255) × IsKept (length old) held (rows_in old) (end_in old) →
+    None ≡ fault view.files view.items item → lent ≡ old → ArePut item (rows_in lent) (end_in lent) (rows_in new) (end_in new) →
+    length new ≡ length lent → after ≡ held ++ item ∷ [] → back ≡ new →
+    (length back ≤ 255) × IsKept (length back) after (rows_in back) (end_in back)
+kept-put held after item old new lent back view is_view kept sound is_old put same is_after is_back =
+    let put_old = rw is_old at put in
+    let same_old : length new ≡ length old = same ∙ ap length is_old in
+    let sound_old : fault (length old) held item ≡ None
+    = sym (subst (λ (v : Held). None ≡ fault v.files v.items item) (sym is_view) sound) in
+    rw (is_back, is_after, same_old) (kept.0, kept_more (length old) held (rows_in old) (rows_in new) (end_in old) (end_in new) item kept.1 sound_old put_old)

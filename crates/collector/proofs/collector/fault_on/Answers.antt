@@ -1,0 +1,15 @@
+use Rattle.std.proofs.Common.{◌∙◌}
+use Rattle.collector.proofs.Shelves.{row_fault-at, end_fault-at}
+use Rattle.collector.proofs.collector.fault_on.Goals as goal
+
+pub returns-in-Some : goal.returns-in-Some
+returns-in-Some c =
+    let shelves = c.args.shelves.now in
+    let found = c.in-Some.ensures.lookup in
+    rw c.in-Row.is (c.row_fault.ensures ∙ row_fault-at shelves c.in-Row.row c.in-Some.shelf.now found.3.0 found.1)
+
+pub returns-in-Some-get : goal.returns-in-Some-get
+returns-in-Some-get c =
+    let shelves = c.args.shelves.now in
+    let found = c.in-Some-get.ensures.lookup in
+    rw c.in-End.is (c.end_fault.ensures ∙ end_fault-at shelves c.in-End.file c.in-End.rows c.in-Some-get.shelf.now found.3.0 found.1)

@@ -1,0 +1,20 @@
+-- Complete lists of items.
+use Rattle.std.specs.Prelude.{◌≡◌, ℕ, ◌<◌, ◌≤◌, List, All}
+use Rattle.std.specs.List.{count_by}
+use Rattle.valuers.specs.declared.item.Item.{Item}
+use Rattle.valuers.specs.declared.item.Item.TheVariants.{Row, End}
+use Rattle.collector.specs.Found.{is_row, is_end}
+
+-- the item is of one of these files: a row below its count, or an end mark with its count
+abbrev pub Fits : ℕ → (ℕ → ℕ) → Item → Type 0
+Fits files counts (Row v) = (v.file < files) × (v.place < counts v.file)
+Fits files counts (End file count) = (file < files) × (count ≡ counts file)
+
+-- each file has exactly one end mark, with a count of at most 1,000,000, and each place below that count exactly once, and there is
+-- no other item
+pub record IsComplete (files : ℕ) (items : List Item) : Type 0 where
+  pub counts : ℕ → ℕ
+  pub few : (file : ℕ) → file < files → counts file ≤ 1000000
+  pub ends : (file : ℕ) → file < files → count_by (is_end file) items ≡ 1
+  pub rows : (file place : ℕ) → file < files → place < counts file → count_by (is_row file place) items ≡ 1
+  pub others : All (Fits files counts) items

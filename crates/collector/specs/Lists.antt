@@ -1,0 +1,36 @@
+-- The lists of rows that a list of items gives, or the first row that it lacks.
+use Rattle.std.specs.Prelude.{◌≡◌, ℕ, ◌<◌, true, is_some, List, length, slice_get, Option, Some, None}
+use Rattle.valuers.specs.declared.item.Item.{Item}
+use Rattle.valuers.specs.declared.item.Valued.{Valued}
+use Rattle.collector.specs.declared.finish_fault.FinishFault.{FinishFault}
+use Rattle.collector.specs.declared.finish_fault.FinishFault.TheVariants.{Missing, OutOfMemory}
+use Rattle.collector.specs.Found.{row_at, end_at}
+
+-- one list a file: as long as its end mark says, with the row of each place
+pub record AreLists (files : ℕ) (held : List Item) (lists : List (List Valued)) : Type 0 where
+  pub count : length lists ≡ files
+  pub ends : (file : ℕ) (rows : List Valued) → slice_get lists file ≡ Some rows → end_at file held ≡ Some (length rows)
+  pub rows : (file place : ℕ) (rows : List Valued) → slice_get lists file ≡ Some rows → slice_get rows place ≡ row_at file place held
+
+-- the file has its end mark and each row below its count
+abbrev pub IsFull : List Item → ℕ → Type 0
+IsFull held file =
+    (count : ℕ) × (end_at file held ≡ Some count) × ((place : ℕ) → place < count → is_some (row_at file place held) ≡ true)
+
+-- the file has no end mark, or one with a count above this place
+abbrev pub IsOpen : Option ℕ → ℕ → Type 0
+IsOpen None place = Unit {0}
+IsOpen (Some count) place = place < count
+
+-- the least file that is not full, and its least place with no row
+pub record IsMissing (files : ℕ) (held : List Item) (file place : ℕ) : Type 0 where
+  pub within : file < files
+  pub before : (other : ℕ) → other < file → IsFull held other
+  pub open_at : IsOpen (end_at file held) place
+  pub none : row_at file place held ≡ None
+  pub least : (other : ℕ) → other < place → is_some (row_at file other held) ≡ true
+
+-- the fault names what is missing
+abbrev pub IsFinishFault : ℕ → List Item → FinishFault → Type 0
+IsFinishFault files held (Missing file place) = IsMissing files held file place
+IsFinishFault files held OutOfMemory = Unit {0}

@@ -1,0 +1,38 @@
+//! Why an item is refused.
+
+ghost use Rattle.std.specs.Prelude.{◌≡◌};
+ghost use Rattle.collector.specs.declared.add_fault.AddFault.TheVariants.{OutOfMemory};
+
+use std::alloc::AllocError;
+use thiserror::Error;
+
+/// Why an item was not added. Of several reasons the first one here is meant. The collector holds what it held before.
+#[derive(Clone, Copy, Debug, Error, PartialEq, Eq)]
+pub enum AddFault {
+    /// A row whose file and place are held.
+    #[error("a second row of one place")]
+    Double,
+    /// A row or an end mark of a file that is not expected, or a row whose place is not below 1,000,000.
+    #[error("a file or a place that is not expected")]
+    Stranger,
+    /// A row whose place is not below the count of its file's end mark.
+    #[error("a row past the end of its file")]
+    AfterEnd,
+    /// An end mark of a file whose end mark is held.
+    #[error("a second end of one file")]
+    SecondEnd,
+    /// An end mark whose count is above 1,000,000, or not above the place of a row of its file that is held.
+    #[error("a file that ends before its last row")]
+    BadCount,
+    /// Memory was refused.
+    #[error("OutOfMemory")]
+    OutOfMemory,
+}
+
+impl From<AllocError> for AddFault {
+    ghost from_gives = { λ _ fault. fault ≡ OutOfMemory };
+
+    fn from(_refusal: AllocError) -> AddFault {
+        AddFault::OutOfMemory
+    }
+}

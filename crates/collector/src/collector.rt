@@ -1,0 +1,173 @@
+//! What is held of all files.
+
+ghost use Rattle.std.specs.Prelude.{◌≡◌, ℕ, ◌<◌, ◌≤◌, ◌++◌, [], ◌∷◌, length, map, if◌then◌else◌, ◌==◌, Some, Err, IfOk, IfErr, IfSome, IfNone, OnOk, OnErr};
+ghost use Rattle.collector.specs.CollectorView.{rows_in, end_in, with_row, fault_in, file_of, ArePut, AreSame, IsFilled, IsFirstLacking};
+ghost use Rattle.collector.specs.Fault.{fault};
+ghost use Rattle.collector.specs.Lists.{AreLists, IsFinishFault};
+
+use crate::add_fault::AddFault;
+use crate::finish_fault::FinishFault;
+use crate::history::History;
+use crate::rows::Rows;
+use crate::shelf::Shelf;
+use std::alloc::{AllocError, Global};
+use std::marker::Model;
+use valuers::{Item, Valued};
+
+/// Takes the items of all files in any order, and hands over the rows of each file in order of place. It takes room for the rows of
+/// a file up to the last place that is held, whether or not those before it are. Contracts see the number of files, and the items in
+/// the order in which they were added.
+#[derive(Drop)]
+pub struct Collector {
+    alloc: Global,
+    shelves: Vec<Shelf>,
+    history: History,
+}
+
+impl Model for Collector {
+    ghost use Rattle.std.specs.Prelude.{ℕ, ◌≤◌, length};
+    ghost use Rattle.collector.specs.Held.{Held};
+    ghost use Rattle.collector.specs.History.{items_in};
+    ghost use Rattle.collector.specs.CollectorView.{IsKept, rows_in, end_in};
+
+    ghost Value = { Held };
+
+    ghost view = { λ c. record { files = length c.shelves.items; items = items_in c.history } };
+
+    ghost invariant = { λ c. (length c.shelves.items ≤ 255)
+        × IsKept (length c.shelves.items) (items_in c.history) (rows_in c.shelves.items) (end_in c.shelves.items) };
+}
+
+impl Collector {
+    /// A collector of the files 0 to `files` - 1 that holds nothing. Fails only where memory is refused.
+    pub fn new(alloc: Global, files: u8) -> Result<Collector, AllocError>
+        ensures { IfOk result (λ c. c ≡ record { files = files; items = [] }) }
+    {
+        let mut shelves = Vec::with_capacity(alloc, files as usize)?;
+        for _ in 0..files {
+            shelves.push(Shelf::new(alloc))?;
+        }
+        Ok(Collector {
+            alloc,
+            shelves,
+            history: History::Start,
+        })
+    }
+
+    /// Adds one item, or answers the first of its faults and holds what it held before.
+    pub fn add(&mut self, item: Item) -> Result<(), AddFault>
+        ensures refused { IfSome (fault self.old.files self.old.items item) (λ why. result ≡ Err why) }
+        ensures memory { IfNone (fault self.old.files self.old.items item) (IfErr result (λ why. why ≡ AddFault.OutOfMemory)) }
+        ensures ok { OnOk result (self.new ≡ record self.old { items = self.old.items ++ item ∷ [] }) }
+        ensures err { OnErr result (self.new ≡ self.old) }
+    {
+        if let Some(why) = self.fault_of(&item) {
+            return Err(why);
+        }
+        put_item(&mut self.shelves, &item)?;
+        self.history = self.history.with(&item);
+        Ok(())
+    }
+
+    /// Hands over the rows of each file in order of place, or names the first row that is missing.
+    pub fn finish(self) -> Result<Vec<Rows>, FinishFault>
+        ensures lists { IfOk result (λ lists. AreLists self.files self.items lists.items) }
+        ensures missing { IfErr result (IsFinishFault self.files self.items) }
+    {
+        require_filled(&self.shelves)?;
+        Ok(rows_of(self.alloc, self.shelves)?)
+    }
+
+    /// What is wrong with an item.
+    fn fault_of(&self, item: &Item) -> Option<AddFault>
+        ensures { result ≡ fault self.now.files self.now.items item.now }
+    {
+        fault_on(&self.shelves, item)
+    }
+}
+
+/// What is wrong with an item where these shelves are held.
+fn fault_on(shelves: &[Shelf], item: &Item) -> Option<AddFault>
+    ensures { result ≡ fault_in (length shelves.now) (rows_in shelves.now) (end_in shelves.now) item.now }
+{
+    match item {
+        Item::Row(row) => match shelves.get(row.file as usize) {
+            Some(shelf) => shelf.row_fault(row.place),
+            None => Some(AddFault::Stranger),
+        },
+        Item::End { file, rows } => match shelves.get(*file as usize) {
+            Some(shelf) => shelf.end_fault(*rows),
+            None => Some(AddFault::Stranger),
+        },
+    }
+}
+
+/// Puts an item on the shelf of its file. The shelves stay as they were where memory is refused.
+fn put_item(shelves: &mut [Shelf], item: &Item) -> Result<(), AllocError>
+    requires { file_of item.now < length shelves.old }
+    ensures ok { OnOk result (ArePut item.now (rows_in shelves.old) (end_in shelves.old) (rows_in shelves.new) (end_in shelves.new)) }
+    ensures err { OnErr result (AreSame (rows_in shelves.old) (end_in shelves.old) (rows_in shelves.new) (end_in shelves.new)) }
+    ensures count { length shelves.new ≡ length shelves.old }
+{
+    match item {
+        Item::Row(row) => put_row(shelves, *row),
+        Item::End { file, rows } => {
+            put_end(shelves, *file, *rows);
+            Ok(())
+        }
+    }
+}
+
+/// Puts a row on the shelf of its file. The shelves stay as they were where memory is refused.
+fn put_row(shelves: &mut [Shelf], row: Valued) -> Result<(), AllocError>
+    requires { row.file < length shelves.old }
+    ensures rows { OnOk result ((file : ℕ) → rows_in shelves.new file
+        ≡ (if row.file == file then with_row (rows_in shelves.old file) row else rows_in shelves.old file)) }
+    ensures err { OnErr result ((file : ℕ) → rows_in shelves.new file ≡ rows_in shelves.old file) }
+    ensures ends { (file : ℕ) → end_in shelves.new file ≡ end_in shelves.old file }
+    ensures count { length shelves.new ≡ length shelves.old }
+{
+    shelves[row.file as usize].put_row(row)
+}
+
+/// Puts an end mark on the shelf of its file.
+fn put_end(shelves: &mut [Shelf], file: u8, count: u32)
+    requires { file < length shelves.old }
+    ensures rows { (other : ℕ) → rows_in shelves.new other ≡ rows_in shelves.old other }
+    ensures ends { (other : ℕ) → end_in shelves.new other ≡ (if file == other then Some count else end_in shelves.old other) }
+    ensures count { length shelves.new ≡ length shelves.old }
+{
+    shelves[file as usize].end = Some(count);
+}
+
+/// Refuses the first shelf that is not filled.
+fn require_filled(shelves: &[Shelf]) -> Result<(), FinishFault>
+    requires count { length shelves.now ≤ 255 }
+    requires few { (file : ℕ) → length (rows_in shelves.now file) ≤ 1000000 }
+    requires closed { (file count : ℕ) → end_in shelves.now file ≡ Some count → length (rows_in shelves.now file) ≤ count }
+    ensures filled { OnOk result ((file : ℕ) → file < length shelves.now → IsFilled (rows_in shelves.now file) (end_in shelves.now file)) }
+    ensures lacking { IfErr result (IsFirstLacking shelves.now) }
+{
+    for (file, shelf) in shelves.iter().enumerate() {
+        if let Some(place) = shelf.lacking() {
+            return Err(FinishFault::Missing {
+                file: file as u8,
+                place,
+            });
+        }
+    }
+    Ok(())
+}
+
+/// The rows of each shelf, which are not copied.
+fn rows_of(alloc: Global, shelves: Vec<Shelf>) -> Result<Vec<Rows>, AllocError>
+    ensures { IfOk result (λ lists. lists.items ≡ map (λ shelf. shelf.rows.items) shelves.items) }
+{
+    shelves
+        .into_iter()
+        .map(|shelf| Rows::new(shelf.rows))
+        .collect(alloc)
+}
+
+#[cfg(test)]
+mod tests;

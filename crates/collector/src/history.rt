@@ -1,0 +1,23 @@
+//! The order in which items were added. Only contracts see it.
+
+ghost use Rattle.std.specs.Prelude.{◌≡◌, ◌++◌, [], ◌∷◌};
+ghost use Rattle.collector.specs.History.{items_in};
+
+use std::snapshot::Snapshot;
+use valuers::Item;
+
+/// Nothing, or one item after others: a byte, whatever was added.
+#[derive(Drop)]
+pub enum History {
+    Start,
+    More(Snapshot<History>, Snapshot<Item>),
+}
+
+impl History {
+    /// This history and one item more.
+    pub fn with(&self, item: &Item) -> History
+        ensures { items_in result ≡ items_in self.now ++ item.now ∷ [] }
+    {
+        History::More(Snapshot::of(self), Snapshot::of(item))
+    }
+}

@@ -1,0 +1,16 @@
+//! The last stop of the rows of a model: valued rows and end marks in any order of arrival become one list a file, or are refused
+//! as doubles and strangers.
+#![tactic(auto)]
+
+mod add_fault;
+mod collector;
+mod finish_fault;
+mod history;
+pub mod laws;
+mod rows;
+mod shelf;
+
+pub use add_fault::AddFault;
+pub use collector::Collector;
+pub use finish_fault::FinishFault;
+pub use rows::Rows;

@@ -1,0 +1,115 @@
+//! What is held of one file.
+
+ghost use Rattle.std.specs.Prelude.{◌≡◌, ℕ, ◌<◌, ◌≤◌, [], length, is_some, true, Some, None, MatchOption, OnOk, OnErr};
+ghost use Rattle.collector.specs.CollectorView.{slot, with_row, row_fault, end_fault, IsFilled, IsLacking};
+
+use crate::add_fault::AddFault;
+use std::alloc::{AllocError, Global};
+use valuers::Valued;
+
+/// The greatest number of rows of a file.
+const MAX_ROWS: u32 = 1_000_000;
+
+/// The rows and the end mark of one file.
+#[derive(Drop)]
+pub struct Shelf {
+    /// The rows, each at its place, up to the last one that is held. Where a place before it is not held, a row of a later place
+    /// stands in for it.
+    pub rows: Vec<Valued>,
+    /// The count of the end mark, if that is held.
+    pub end: Option<u32>,
+}
+
+impl Shelf {
+    /// A shelf with nothing on it.
+    pub fn new(alloc: Global) -> Shelf
+        ensures rows { result.rows.items ≡ [] }
+        ensures end { result.end ≡ None }
+    {
+        Shelf {
+            rows: Vec::new(alloc),
+            end: None,
+        }
+    }
+
+    /// What is wrong with a row of this place.
+    pub fn row_fault(&self, place: u32) -> Option<AddFault>
+        ensures { result ≡ row_fault self.now.rows.items self.now.end place }
+    {
+        if holds(&self.rows, place) {
+            Some(AddFault::Double)
+        } else if place >= MAX_ROWS {
+            Some(AddFault::Stranger)
+        } else if self.end.is_some_and(|count| place >= count) {
+            Some(AddFault::AfterEnd)
+        } else {
+            None
+        }
+    }
+
+    /// What is wrong with an end mark of this count.
+    pub fn end_fault(&self, count: u32) -> Option<AddFault>
+        ensures { result ≡ end_fault self.now.rows.items self.now.end count }
+    {
+        if self.end.is_some() {
+            Some(AddFault::SecondEnd)
+        } else if count > MAX_ROWS || (count as usize) < self.rows.len() {
+            Some(AddFault::BadCount)
+        } else {
+            None
+        }
+    }
+
+    /// Puts a row at its place. The shelf stays as it was where memory is refused.
+    pub fn put_row(&mut self, row: Valued) -> Result<(), AllocError>
+        ensures ok { OnOk result (self.new.rows.items ≡ with_row self.old.rows.items row) }
+        ensures err { OnErr result (self.new.rows.items ≡ self.old.rows.items) }
+        ensures end { self.new.end ≡ self.old.end }
+    {
+        let place = row.place as usize;
+        if place < self.rows.len() {
+            self.rows[place] = row;
+        } else {
+            self.rows.resize(place + 1, row)?;
+        }
+        Ok(())
+    }
+
+    /// The least place with no row, or `None` where each place below the end mark's count has its row.
+    pub fn lacking(&self) -> Option<u32>
+        requires few { length self.now.rows.items ≤ 1000000 }
+        requires closed { (count : ℕ) → self.now.end ≡ Some count → length self.now.rows.items ≤ count }
+        ensures { MatchOption result (IsFilled self.now.rows.items self.now.end) (IsLacking self.now.rows.items self.now.end) }
+    {
+        let place = open_place(&self.rows);
+        if self.end == Some(place) {
+            None
+        } else {
+            Some(place)
+        }
+    }
+}
+
+/// The least place that has no row.
+fn open_place(rows: &[Valued]) -> u32
+    requires { length rows.now ≤ 1000000 }
+    ensures within { result ≤ length rows.now }
+    ensures none { slot rows.now result ≡ None }
+    ensures least { (place : ℕ) → place < result → is_some (slot rows.now place) ≡ true }
+{
+    let count = rows.len() as u32;
+    for place in 0..count {
+        if !holds(rows, place) {
+            return place;
+        }
+    }
+    count
+}
+
+/// Whether the row of this place is among these.
+fn holds(rows: &[Valued], place: u32) -> bool
+    ensures { result ≡ is_some (slot rows.now place) }
+{
+    rows.get(place as usize)
+        .is_some_and(|row| row.place == place)
+}

@@ -1,0 +1,174 @@
+-- Lists of messages, with one more message behind.
+use Rattle.std.proofs.Common.{◌≡◌, ℕ, zero, suc, ◌+◌, ◌<◌, ◌≤◌, Bool, true, false, cond, ◌||◌, List, [], ◌∷◌, ◌++◌, length, map, slice_get, Some, None, refl, sym, ap, ◌∙◌, subst, arith, count_by, append-nil}
+use Rattle.std.specs.List.{AllByRecursion}
+use Rattle.std.proofs.lemmas.Bool.{eqb-true, eq-eqb, ne_eqb, true≢false}
+use Rattle.std.proofs.lemmas.List.Elements.{filter-append}
+use Rattle.pit_model.specs.declared.block.Block.{Block}
+use Rattle.lane.specs.declared.message.Taken.{Taken}
+use Rattle.lane.specs.declared.message.Taken.TheVariants.{Row, End, Stop, Quit}
+use Rattle.lane.specs.Message.{is_of, of, position, is_row, is_stop, is_quit, is_mark, rows_in, has_end, is_done, ends_in_mark, IsFrom, IsEndedFrom, IsRising, MarksLast, StopsLast}
+use Rattle.lane.specs.Lawful.{IsPlaced}
+use Rattle.lane.proofs.Lists.{all_more, count_front}
+
+pub rising_more : (xs : List ℕ) (y : ℕ) → IsRising xs → AllByRecursion (λ x. x < y) xs → IsRising (xs ++ y ∷ [])
+rising_more [] y h b = (tt, tt)
+rising_more (x ∷ xs) y h b = (all_more (λ z. x < z) xs y h.0 b.0, rising_more xs y h.1 b.1)
+
+pub of_yes : (f : ℕ) (ms : List Taken) (m : Taken) → is_of f m ≡ true → of f (ms ++ m ∷ []) ≡ of f ms ++ m ∷ []
+of_yes f ms m e = filter-append (is_of f) ms (m ∷ []) ∙ ap (λ (b : Bool). of f ms ++ cond b (m ∷ []) []) e
+
+pub of_no : (f : ℕ) (ms : List Taken) (m : Taken) → is_of f m ≡ false → of f (ms ++ m ∷ []) ≡ of f ms
+of_no f ms m e = filter-append (is_of f) ms (m ∷ []) ∙ (ap (λ (b : Bool). of f ms ++ cond b (m ∷ []) []) e ∙ append-nil (of f ms))
+
+pub front_yes : (f : ℕ) (m : Taken) (ms : List Taken) → is_of f m ≡ true → of f (m ∷ ms) ≡ m ∷ of f ms
+front_yes f m ms e = ap (λ (b : Bool). cond b (m ∷ of f ms) (of f ms)) e
+
+pub front_no : (f : ℕ) (m : Taken) (ms : List Taken) → is_of f m ≡ false → of f (m ∷ ms) ≡ of f ms
+front_no f m ms e = ap (λ (b : Bool). cond b (m ∷ of f ms) (of f ms)) e
+
+-- a message is of one file
+pub of_one : (f j : ℕ) (m : Taken) → is_of f m ≡ true → (j ≡ f → ⊥) → is_of j m ≡ false
+of_one f j (Row g p b) e ne = ne_eqb g j (λ q. ne (sym q ∙ eqb-true g f e))
+of_one f j (End g n) e ne = ne_eqb g j (λ q. ne (sym q ∙ eqb-true g f e))
+of_one f j Stop e ne = refl
+of_one f j Quit e ne = refl
+
+pub mark_of_none : (j : ℕ) (m : Taken) → is_mark m ≡ true → is_of j m ≡ false
+mark_of_none j (Row g p b) e = absurd (cc)
+mark_of_none j (End g n) e = absurd (cc)
+mark_of_none j Stop e = refl
+mark_of_none j Quit e = refl
+
+pub of_is_no_mark : (f : ℕ) (m : Taken) → is_of f m ≡ true → is_mark m ≡ false
+of_is_no_mark f (Row g p b) e = refl
+of_is_no_mark f (End g n) e = refl
+of_is_no_mark f Stop e = absurd (cc)
+of_is_no_mark f Quit e = absurd (cc)
+
+pub unmarked : (m : Taken) → is_mark m ≡ false → (is_stop m ≡ false) × (is_quit m ≡ false)
+unmarked (Row g p b) e = (refl, refl)
+unmarked (End g n) e = (refl, refl)
+unmarked Stop e = absurd (cc)
+unmarked Quit e = absurd (cc)
+
+pub from_row : (f k : ℕ) (ms : List Taken) (b : Block) → IsFrom f k ms → has_end ms ≡ false → IsFrom f k (ms ++ Row f (k + length ms) b ∷ [])
+from_row f k [] b h e = (refl, omega arith, tt)
+from_row f k (Row g p c ∷ ms) b h e =
+    let n : (k + 1) + length ms ≡ k + suc (length ms) = omega arith in
+    (h.0, h.1, subst (λ i. IsFrom f (k + 1) (ms ++ Row f i b ∷ [])) n (from_row f (k + 1) ms b h.2 e))
+from_row f k (End g n ∷ ms) b h e = absurd (true≢false e)
+from_row f k (Stop ∷ ms) b h e = absurd h
+from_row f k (Quit ∷ ms) b h e = absurd h
+
+-- a list with no end mark is all rows
+pub rows_all : (f k : ℕ) (ms : List Taken) → IsFrom f k ms → has_end ms ≡ false → rows_in ms ≡ length ms
+rows_all f k [] h e = refl
+rows_all f k (Row g p c ∷ ms) h e = omega (arith, count_front is_row (Row g p c) ms, rows_all f (k + 1) ms h.2 e)
+rows_all f k (End g n ∷ ms) h e = absurd (true≢false e)
+rows_all f k (Stop ∷ ms) h e = absurd h
+rows_all f k (Quit ∷ ms) h e = absurd h
+
+pub from_end : (f k : ℕ) (ms : List Taken) → IsFrom f k ms → has_end ms ≡ false → IsFrom f k (ms ++ End f (k + length ms) ∷ [])
+from_end f k [] h e = (refl, omega arith, refl)
+from_end f k (Row g p c ∷ ms) h e =
+    let n : (k + 1) + length ms ≡ k + suc (length ms) = omega arith in
+    (h.0, h.1, subst (λ i. IsFrom f (k + 1) (ms ++ End f i ∷ [])) n (from_end f (k + 1) ms h.2 e))
+from_end f k (End g n ∷ ms) h e = absurd (true≢false e)
+from_end f k (Stop ∷ ms) h e = absurd h
+from_end f k (Quit ∷ ms) h e = absurd h
+
+pub ended_from : (f k : ℕ) (ms : List Taken) → IsFrom f k ms → has_end ms ≡ true → IsEndedFrom f k ms
+ended_from f k [] h e = absurd (cc)
+ended_from f k (Row g p c ∷ ms) h e = (h.0, h.1, ended_from f (k + 1) ms h.2 e)
+ended_from f k (End g n ∷ ms) h e = h
+ended_from f k (Stop ∷ ms) h e = absurd h
+ended_from f k (Quit ∷ ms) h e = absurd h
+
+-- what stands at a place of a file's list
+pub from_place : (f k : ℕ) (ms : List Taken) (i : ℕ) (m : Taken) → IsFrom f k ms → slice_get ms i ≡ Some m → (is_of f m ≡ true) × (position m ≡ k + i)
+from_place f k [] i m h e = absurd (cc)
+from_place f k (Row g p c ∷ ms) zero m h e = let q : Row g p c ≡ m = cc in subst (λ (x : Taken). (is_of f x ≡ true) × (position x ≡ k + 0)) q (eq-eqb g f h.0, omega (arith, h.1))
+from_place f k (Row g p c ∷ ms) (suc i) m h e = let r = from_place f (k + 1) ms i m h.2 e in (r.0, omega (arith, r.1))
+from_place f k (End g n ∷ ms) zero m h e = let q : End g n ≡ m = cc in subst (λ (x : Taken). (is_of f x ≡ true) × (position x ≡ k + 0)) q (eq-eqb g f h.0, omega (arith, h.1))
+from_place f k (End g n ∷ ms) (suc i) m h e = let q : slice_get ms i ≡ None = ap (λ (l : List Taken). slice_get l i) h.2 in absurd (cc)
+from_place f k (Stop ∷ ms) i m h e = absurd h
+from_place f k (Quit ∷ ms) i m h e = absurd h
+
+-- nothing stands behind the end mark
+pub end_is_last : (f k : ℕ) (ms : List Taken) (i g n : ℕ) → IsFrom f k ms → slice_get ms i ≡ Some (End g n) → length ms ≡ suc i
+end_is_last f k [] i g n h e = absurd (cc)
+end_is_last f k (Row g' p c ∷ ms) zero g n h e = absurd (cc)
+end_is_last f k (Row g' p c ∷ ms) (suc i) g n h e = omega (arith, end_is_last f (k + 1) ms i g n h.2 e)
+end_is_last f k (End g' n' ∷ ms) zero g n h e = ap (λ (l : List Taken). suc (length l)) h.2
+end_is_last f k (End g' n' ∷ ms) (suc i) g n h e = let q : slice_get ms i ≡ None = ap (λ (l : List Taken). slice_get l i) h.2 in absurd (cc)
+end_is_last f k (Stop ∷ ms) i g n h e = absurd h
+end_is_last f k (Quit ∷ ms) i g n h e = absurd h
+
+pub placed_pos : (sent : ℕ → List Taken) (left : ℕ → ℕ) (f : ℕ) (m : Taken) → IsPlaced sent left m → is_of f m ≡ true → (position m < left f) × (slice_get (sent f) (position m) ≡ Some m)
+placed_pos sent left f (Row g p b) h e = let q : g ≡ f = eqb-true g f e in (subst (λ k. p < left k) q h.0, subst (λ k. slice_get (sent k) p ≡ Some (Row g p b)) q h.1)
+placed_pos sent left f (End g n) h e = let q : g ≡ f = eqb-true g f e in (subst (λ k. n < left k) q h.0, subst (λ k. slice_get (sent k) n ≡ Some (End g n)) q h.1)
+placed_pos sent left f Stop h e = absurd (cc)
+placed_pos sent left f Quit h e = absurd (cc)
+
+pub placed_new : (sent : ℕ → List Taken) (left : ℕ → ℕ) (f : ℕ) (m : Taken) → is_of f m ≡ true → position m < left f → slice_get (sent f) (position m) ≡ Some m → IsPlaced sent left m
+placed_new sent left f (Row g p b) e l s = let q : f ≡ g = sym (eqb-true g f e) in (subst (λ k. p < left k) q l, subst (λ k. slice_get (sent k) p ≡ Some (Row g p b)) q s)
+placed_new sent left f (End g n) e l s = let q : f ≡ g = sym (eqb-true g f e) in (subst (λ k. n < left k) q l, subst (λ k. slice_get (sent k) n ≡ Some (End g n)) q s)
+placed_new sent left f Stop e l s = tt
+placed_new sent left f Quit e l s = tt
+
+pub placed_later : (sent sent' : ℕ → List Taken) (left left' : ℕ → ℕ) → ((f p : ℕ) (m : Taken) → slice_get (sent f) p ≡ Some m → slice_get (sent' f) p ≡ Some m) → ((f : ℕ) → left f ≤ left' f) → (m : Taken) → IsPlaced sent left m → IsPlaced sent' left' m
+placed_later sent sent' left left' keeps grows (Row g p b) h = (omega (arith, h.0, grows g), keeps g p _ h.1)
+placed_later sent sent' left left' keeps grows (End g n) h = (omega (arith, h.0, grows g), keeps g n _ h.1)
+placed_later sent sent' left left' keeps grows Stop h = tt
+placed_later sent sent' left left' keeps grows Quit h = tt
+
+below_cases : (P : ℕ → Type 0) (m : Taken) (rest : List Taken) (b : Bool) → (b ≡ true → P (position m)) → AllByRecursion P (map position rest) → AllByRecursion P (map position (cond b (m ∷ rest) rest))
+below_cases P m rest true h r = (h refl, r)
+below_cases P m rest false h r = r
+
+-- the positions taken of a file are among those that left
+pub placed_below : (sent : ℕ → List Taken) (left : ℕ → ℕ) (f : ℕ) (ms : List Taken) → AllByRecursion (IsPlaced sent left) ms → AllByRecursion (λ p. p < left f) (map position (of f ms))
+placed_below sent left f [] h = tt
+placed_below sent left f (m ∷ ms) h = below_cases (λ p. p < left f) m (of f ms) (is_of f m) (λ e. (placed_pos sent left f m h.0 e).0) (placed_below sent left f ms h.1)
+
+or_false : (b c : Bool) → (b || c) ≡ false → (b ≡ false) × (c ≡ false)
+or_false true c e = absurd (true≢false e)
+or_false false c e = (refl, e)
+
+pub marks_more : (ms : List Taken) (m : Taken) → is_done ms ≡ false → MarksLast (ms ++ m ∷ [])
+marks_more [] m e = ((λ _. refl), tt)
+marks_more (x ∷ ms) m e = let o = or_false (is_mark x) (is_done ms) e in ((λ t. absurd (true≢false (sym t ∙ o.0))), marks_more ms m o.1)
+
+counted_none : (b : Bool) (n : ℕ) → cond {A = ℕ} b 1 0 + n ≡ 0 → (b ≡ false) × (n ≡ 0)
+counted_none true n e = absurd (omega arith)
+counted_none false n e = (refl, omega arith)
+
+-- where no Stop stands, whatever comes behind is fine
+pub stops_none : (ms : List Taken) (m : Taken) → count_by is_stop ms ≡ 0 → StopsLast (ms ++ m ∷ [])
+stops_none [] m e = ((λ _. tt), tt)
+stops_none (x ∷ ms) m e = let c = counted_none (is_stop x) (count_by is_stop ms) (sym (count_front is_stop x ms) ∙ e) in ((λ t. absurd (true≢false (sym t ∙ c.0))), stops_none ms m c.1)
+
+pub stops_more : (ms : List Taken) → StopsLast ms → StopsLast (ms ++ Stop ∷ [])
+stops_more [] h = ((λ _. tt), tt)
+stops_more (x ∷ ms) h = ((λ t. all_more (λ m. is_stop m ≡ true) ms Stop (h.0 t) refl), stops_more ms h.1)
+
+or_nothing : (b : Bool) → (b || false) ≡ b
+or_nothing true = refl
+or_nothing false = refl
+
+-- where a mark is last, a taker is done just where its last message is one
+pub done_is_last : (ms : List Taken) → MarksLast ms → is_done ms ≡ ends_in_mark ms
+done_is_last [] h = refl
+done_is_last (m ∷ []) h = or_nothing (is_mark m)
+done_is_last (m ∷ n ∷ ms) h = ap (λ (b : Bool). b || is_done (n ∷ ms)) (unmarked_before (is_mark m) refl) ∙ done_is_last (n ∷ ms) h.1
+  where
+    unmarked_before : (b : Bool) → is_mark m ≡ b → is_mark m ≡ false
+    unmarked_before true e = absurd (let z : (n ∷ ms) ≡ [] = h.0 e in cc)
+    unmarked_before false e = e
+
+pub ended_has_end : (f k : ℕ) (ms : List Taken) → IsEndedFrom f k ms → has_end ms ≡ true
+ended_has_end f k [] h = absurd h
+ended_has_end f k (Row g p c ∷ ms) h = ended_has_end f (k + 1) ms h.2
+ended_has_end f k (End g n ∷ ms) h = refl
+ended_has_end f k (Stop ∷ ms) h = absurd h
+ended_has_end f k (Quit ∷ ms) h = absurd h

@@ -1,0 +1,7 @@
+use Rattle.std.proofs.Common.{◌≡◌, ◌∙◌, subst}
+use Rattle.lane.specs.Message.{ends_in_mark}
+use Rattle.lane.proofs.Messages.{done_is_last}
+use Rattle.lane.proofs.take_end.TakeEnd.is_done.Goals as goal
+
+pub returns-clause-last : goal.returns-clause-last
+returns-clause-last c = subst (λ v. c.self.inside.done ≡ ends_in_mark v.took) c.self.view_is (c.self.invariant.2 ∙ done_is_last _ c.self.invariant.1.ordered.marks)

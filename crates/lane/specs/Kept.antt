@@ -1,0 +1,126 @@
+-- What the ends keep, and what holds while a lane is opened and its parts join again. Private contracts cite it.
+use Rattle.std.specs.Prelude.{◌≡◌, ℕ, zero, suc, ◌+◌, ◌-◌, ◌*◌, ◌<◌, ◌≤◌, true, false, List, [], ◌∷◌, ◌++◌, length, map, replicate}
+use Rattle.std.specs.List.{AllByRecursion, sum_by}
+use Rattle.atomic_table.specs.declared.badge.Badge.{Badge}
+use Rattle.crossbeam_channel.specs.declared.flavors.array.Doing.{Doing}
+use Rattle.crossbeam_channel.specs.declared.flavors.array.Key.{Key}
+use Rattle.crossbeam_channel.specs.declared.flavors.array.Rows.{Rows}
+use Rattle.crossbeam_channel.specs.Claims.{Pass, view}
+use Rattle.lane.specs.declared.message.Taken.{Taken}
+use Rattle.lane.specs.declared.part.Part.{Part}
+use Rattle.lane.specs.declared.part.Part.TheVariants.{Count, Put, Take, Close}
+use Rattle.lane.specs.Message.{has_end, is_done, rows_in, IsFrom, IsEndedFrom}
+use Rattle.lane.specs.Whole.{Gathering, IsWhole}
+use Rattle.lane.specs.Ends.{Lane, Putting, Taking, Closing, Stopping, ArePutsFrom, AreTakesFrom}
+use Rattle.lane.specs.Rule.{put_parts, take_parts}
+use Rattle.lane.specs.Steps.{full_view, IsFull}
+use Rattle.lane.specs.Views.{IsOrdered, capacity_in, sent_in, took_in, sents_in, tooks_in, gathering_in}
+
+-- the lane that a pass belongs to
+abbrev pub lane_of : Pass Taken (List Part) → Lane
+lane_of p = (p.table_id, p.me.0.of, capacity_in (view p))
+
+-- the lane of a channel
+abbrev pub lane_at : {Q M L A : Type 0} → Rows (Badge (Key Taken)) (Doing Taken (List Part)) Q M (Key Taken) L A → Lane
+lane_at c = (c.stamps.shared.table_id, c.stamps.shared.key, c.cap)
+
+abbrev pub putting_of : Pass Taken (List Part) → ℕ → Putting
+putting_of p file = record { lane = lane_of p; file = file; sent = sent_in (view p) }
+
+abbrev pub taking_of : Pass Taken (List Part) → ℕ → Taking
+taking_of p taker = record { lane = lane_of p; taker = taker; took = took_in (view p) }
+
+abbrev pub closing_of : Pass Taken (List Part) → ℕ → ℕ → Closing
+closing_of p files takers = record { lane = lane_of p; files = files; takers = takers }
+
+abbrev pub stopping_of : Pass Taken (List Part) → ℕ → Stopping
+stopping_of p takers = record { lane = lane_of p; takers = takers; sent = sents_in (view p) }
+
+abbrev pub gathered_of : Pass Taken (List Part) → Gathering
+gathered_of p = gathering_in (view p)
+
+-- the list of a put end that may still send: rows alone, so many
+pub record IsOpenPut (v : List Part) (file count : ℕ) : Type 0 where
+  pub part : v ≡ Put file (capacity_in v) (sent_in v) ∷ []
+  pub list : IsFrom file 0 (sent_in v)
+  pub unended : has_end (sent_in v) ≡ false
+  pub rows : rows_in (sent_in v) ≡ count
+  pub places : length (sent_in v) ≡ count
+  pub few : count ≤ 1000000
+
+-- the list of an ended put: so many rows and the end mark
+pub record IsEndedPut (v : List Part) (file count : ℕ) : Type 0 where
+  pub part : v ≡ Put file (capacity_in v) (sent_in v) ∷ []
+  pub list : IsEndedFrom file 0 (sent_in v)
+  pub rows : rows_in (sent_in v) ≡ count
+  pub few : count ≤ 1000000
+
+pub record IsTake (v : List Part) (taker : ℕ) : Type 0 where
+  pub part : v ≡ Take taker (capacity_in v) (took_in v) ∷ []
+  pub ordered : IsOrdered (took_in v)
+
+-- the closer's part alone: nothing was closed yet
+pub record IsCloser (v : List Part) (files takers capacity : ℕ) : Type 0 where
+  pub part : v ≡ Close files takers capacity 0 0 ∷ []
+  pub some_taker : 0 < takers
+
+-- all Stops were put, and the put parts of all files joined
+pub record IsStopping (v : List Part) (takers capacity : ℕ) : Type 0 where
+  pub part : v ≡ Close (length (sents_in v)) takers capacity takers 0 ∷ put_parts capacity 0 (sents_in v)
+  pub some_taker : 0 < takers
+
+-- all parts of the lane, with the lists of all files and of all takers, who are done
+pub record IsAllIn (v : List Part) (takers capacity : ℕ) : Type 0 where
+  pub part : v ≡ full_view (length (sents_in v)) takers capacity (sents_in v) (tooks_in v)
+  pub full : IsFull takers (length (sents_in v)) (sents_in v) (tooks_in v)
+
+pub record IsGathered (v : List Part) (count : ℕ) : Type 0 where
+  pub whole : IsWhole (gathering_in v)
+  pub rows : sum_by rows_in (sents_in v) ≡ count
+
+-- the view is a closer's
+abbrev pub IsClosers : List Part → Type 0
+IsClosers [] = ⊥
+IsClosers (Count files takers capacity ∷ v) = ⊥
+IsClosers (Put file capacity sent ∷ v) = ⊥
+IsClosers (Take taker capacity took ∷ v) = ⊥
+IsClosers (Close files takers capacity stops quits ∷ v) = Unit {0}
+
+-- some ended parts joined the closer's, and those of the rest are to come
+pub record IsJoining (files takers capacity : ℕ) (lane : Lane) (all rest : List Putting) (v : List Part) (count : ℕ) : Type 0 where
+  pub part : v ≡ Close files takers capacity 0 0 ∷ put_parts capacity 0 (sents_in v)
+  pub lists : sents_in v ++ map (λ p. p.sent) rest ≡ map (λ p. p.sent) all
+  pub puts : ArePutsFrom lane files (length (sents_in v)) rest
+  pub ended : AllByRecursion (λ l. has_end l ≡ true) (sents_in v)
+  pub rows : sum_by rows_in (sents_in v) ≡ count
+  pub few : count ≤ length (sents_in v) * 1000000
+
+-- the ended parts of all files joined the closer's
+pub record IsJoined (v : List Part) (files takers capacity : ℕ) : Type 0 where
+  pub part : v ≡ Close files takers capacity 0 0 ∷ put_parts capacity 0 (sents_in v)
+  pub all_files : length (sents_in v) ≡ files
+  pub ended : AllByRecursion (λ l. has_end l ≡ true) (sents_in v)
+
+-- some take parts joined the closer's, and those of the rest are to come
+pub record IsGathering (files takers capacity : ℕ) (lane : Lane) (sent : List (List Taken)) (all rest : List Taking) (v : List Part) : Type 0 where
+  pub part : v ≡ full_view files takers capacity sent (tooks_in v)
+  pub lists : tooks_in v ++ map (λ t. t.took) rest ≡ map (λ t. t.took) all
+  pub takes : AreTakesFrom lane takers (length (tooks_in v)) rest
+  pub done : AllByRecursion (λ l. is_done l ≡ true) (tooks_in v)
+  pub rest_done : AllByRecursion (λ t. is_done t.took ≡ true) rest
+
+-- the first ends of a lane, from file or taker k on, n of them
+abbrev pub first_puts : Lane → ℕ → ℕ → List Putting
+first_puts lane k zero = []
+first_puts lane k (suc n) = record { lane = lane; file = k; sent = [] } ∷ first_puts lane (k + 1) n
+
+abbrev pub first_takes : Lane → ℕ → ℕ → List Taking
+first_takes lane k zero = []
+first_takes lane k (suc n) = record { lane = lane; taker = k; took = [] } ∷ first_takes lane (k + 1) n
+
+-- the closer's view while put ends, and then take ends, are given away: those from number k on are left
+abbrev pub puts_left : ℕ → ℕ → ℕ → ℕ → List Part
+puts_left files takers capacity k = Close files takers capacity 0 0 ∷ (put_parts capacity k (replicate (files - k) []) ++ take_parts capacity 0 (replicate takers []))
+
+abbrev pub takes_left : ℕ → ℕ → ℕ → ℕ → List Part
+takes_left files takers capacity k = Close files takers capacity 0 0 ∷ take_parts capacity k (replicate (takers - k) [])

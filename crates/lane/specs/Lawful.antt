@@ -1,0 +1,50 @@
+-- What holds of the lane between any two events.
+use Rattle.std.specs.Prelude.{◌≡◌, ℕ, zero, suc, ◌+◌, ◌<◌, ◌≤◌, cond, nat_lt, true, List, [], length, drop, slice_get, Some, ◌⊎◌}
+use Rattle.std.specs.List.{count_by, AllByRecursion}
+use Rattle.lane.specs.declared.message.Taken.{Taken}
+use Rattle.lane.specs.declared.message.Taken.TheVariants.{Row, End, Stop, Quit}
+use Rattle.lane.specs.Message.{of, is_at, is_stop, is_quit, has_end, IsFrom, Rises, MarksLast, AreStops, StopsLast}
+use Rattle.lane.specs.Machine.{Size, State}
+
+-- g 0 + g 1 + .. + g (n - 1)
+abbrev pub over : ℕ → (ℕ → ℕ) → ℕ
+over zero g = 0
+over (suc n) g = over n g + g n
+
+-- the message is the one that its file sent at its position, among the first ones that left
+abbrev pub IsPlaced : (ℕ → List Taken) → (ℕ → ℕ) → Taken → Type 0
+IsPlaced sent left (Row file place block) = (place < left file) × (slice_get (sent file) place ≡ Some (Row file place block))
+IsPlaced sent left (End file rows) = (rows < left file) × (slice_get (sent file) rows ≡ Some (End file rows))
+IsPlaced sent left Stop = Unit {0}
+IsPlaced sent left Quit = Unit {0}
+
+pub record IsLawful (n : Size) (s : State) : Type 0 where
+  -- what each file sent is rows of places 0, 1, 2, .. and then at most one end mark with their count, last
+  pub lists : (file : ℕ) → IsFrom file 0 (s.sent file)
+  -- there are no other files and takers
+  pub files : (file : ℕ) → n.files ≤ file → s.sent file ≡ []
+  pub takers : (taker : ℕ) → n.takers ≤ taker → s.took taker ≡ []
+  -- so many messages of each file left: the positions below, each taken by one taker, once, and no other position
+  pub left : ℕ → ℕ
+  pub within : (file : ℕ) → left file ≤ length (s.sent file)
+  pub once : (file p : ℕ) → over n.takers (λ taker. count_by (is_at file p) (s.took taker)) ≡ cond (nat_lt p (left file)) 1 0
+  pub placed : (taker : ℕ) → AllByRecursion (IsPlaced s.sent left) (s.took taker)
+  -- in each taker's list the positions of one file rise
+  pub rises : (taker : ℕ) → Rises (s.took taker)
+  -- the queue has the rest of each file's list, in order
+  pub rest : (file : ℕ) → of file s.queue ≡ drop (left file) (s.sent file)
+  -- behind a Stop the queue has only Stops, and once a Stop was taken it has nothing else
+  pub behind : StopsLast s.queue
+  pub stopped : (taker : ℕ) → 0 < count_by is_stop (s.took taker) → AreStops s.queue
+  -- a Stop is put only once every file has ended
+  pub ended : 0 < s.stops → (file : ℕ) → file < n.files → has_end (s.sent file) ≡ true
+  -- the queue has room for no more
+  pub room : length s.queue ≤ n.capacity
+  -- the Stops put are those in the queue and those taken, at most one for each taker; the same for Quits; there are never both
+  pub stops : count_by is_stop s.queue + over n.takers (λ taker. count_by is_stop (s.took taker)) ≡ s.stops
+  pub quits : count_by is_quit s.queue + over n.takers (λ taker. count_by is_quit (s.took taker)) ≡ s.quits
+  pub few_stops : s.stops ≤ n.takers
+  pub few_quits : s.quits ≤ n.takers
+  pub one_kind : (s.stops ≡ 0) ⊎ (s.quits ≡ 0)
+  -- a Stop or Quit is the last that its taker took
+  pub marks : (taker : ℕ) → MarksLast (s.took taker)

@@ -1,0 +1,10 @@
+pub mod Message
+pub mod Machine
+pub mod Lawful
+pub mod Whole
+pub mod Rule
+pub mod Steps
+pub mod Views
+pub mod Laws
+pub mod Ends
+pub mod Kept

@@ -1,0 +1,48 @@
+//! What a lane handed over.
+
+ghost use Rattle.std.specs.Prelude.{◌≡◌};
+ghost use Rattle.std.specs.List.{sum_by};
+ghost use Rattle.crossbeam_channel.specs.Claims.{view as known};
+ghost use Rattle.lane.specs.Message.{rows_in};
+ghost use Rattle.lane.specs.Views.{gathering_in, sents_in};
+ghost use Rattle.lane.specs.Whole.{IsWhole};
+
+use crate::rule::Seat;
+use std::marker::Model;
+
+/// What a lane handed over, whole: contracts see what each file sent and what each taker took. Only this crate makes one.
+#[derive(Drop)]
+pub struct Gathered {
+    pass: Seat,
+    rows: u64,
+}
+
+impl Model for Gathered {
+    ghost use Rattle.crossbeam_channel.specs.Claims.{view as known};
+    ghost use Rattle.lane.specs.Whole.{Gathering};
+    ghost use Rattle.lane.specs.Kept.{gathered_of, IsGathered};
+
+    ghost Value = { Gathering };
+
+    ghost view = { λ g. gathered_of g.pass };
+
+    ghost invariant = { λ g. IsGathered (known g.pass) g.rows };
+}
+
+impl Gathered {
+    pub(crate) fn new(pass: Seat, rows: u64) -> Gathered
+        requires whole { IsWhole (gathering_in (known pass)) }
+        requires rows { rows ≡ sum_by rows_in (sents_in (known pass)) }
+        ensures value { result ≡ gathering_in (known pass) }
+    {
+        Gathered { pass, rows }
+    }
+
+    /// The number of rows over all files.
+    pub fn rows(&self) -> u64
+        ensures rows { result ≡ sum_by rows_in self.now.sent }
+        ensures whole { IsWhole self.now }
+    {
+        self.rows
+    }
+}

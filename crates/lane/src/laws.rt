@@ -1,0 +1,25 @@
+//! Laws of the lane, for every size, every sequence of events and every state: their functions do nothing, and their contracts
+//! are what is proved.
+
+ghost use Rattle.lane.specs.Laws.{RunsStayLawful, LeftIsPrefixOfSent, TakenIsPrefixOfSent, SendIsAnEvent, ReceiveIsAnEvent, MakeIsTheOpening, SplitIsNoEvent, JoinIsNoEvent, LookFindsNothing};
+
+/// From the opening state every sequence of allowed events leaves a lawful state.
+pub fn runs_stay_lawful()
+    ensures { RunsStayLawful }
+{}
+
+/// What left of a file is a prefix of what the file sent: along every run in the order of leaving, and in every lawful state.
+pub fn what_left_is_a_prefix()
+    ensures runs { LeftIsPrefixOfSent }
+    ensures states { TakenIsPrefixOfSent }
+{}
+
+/// Each kind of step of the code is one event of the machine, allowed where it comes, or none.
+pub fn steps_are_events()
+    ensures make { MakeIsTheOpening }
+    ensures split { SplitIsNoEvent }
+    ensures join { JoinIsNoEvent }
+    ensures send { SendIsAnEvent }
+    ensures receive { ReceiveIsAnEvent }
+    ensures look { LookFindsNothing }
+{}

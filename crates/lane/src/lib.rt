@@ -1,0 +1,23 @@
+//! The lane: put ends hand rows and end marks to take ends over one bounded channel. Whatever the schedule, each message leaves
+//! once, the messages of a file in order, and what is gathered at the end is whole.
+#![tactic(auto)]
+
+mod channel;
+mod closer;
+mod gathered;
+pub mod laws;
+mod message;
+mod opening;
+mod part;
+mod put_end;
+mod rule;
+mod take_end;
+#[cfg(test)]
+mod tests;
+
+pub use closer::{Closer, Stopped};
+pub use gathered::Gathered;
+pub use message::Taken;
+pub use opening::open;
+pub use put_end::{EndedPut, PutEnd};
+pub use take_end::TakeEnd;

@@ -1,0 +1,81 @@
+-- The CPIT of a valid instance keeps what every CPIT keeps.
+use Rattle.std.proofs.Common.{◌≡◌, ℕ, ◌+◌, ◌<◌, ◌≤◌, Bool, true, false, cond, List, [], ◌∷◌, length, get_or, map, refl, sym, ◌∙◌, ap, subst, arith, ℤ, pos, rules, All}
+use Rattle.std.specs.Prelude.{filter, AllPairs, IsTrue, ◌==◌, ◌&&◌, ◌||◌, nat_lt}
+use Rattle.std.proofs.lemmas.Bool.{eqb-true}
+use Rattle.std.proofs.lemmas.Bool.Decides.{nat_tests}
+use Rattle.std.proofs.lemmas.List.{get_or-map, length-map}
+use Rattle.std.proofs.lemmas.List.Elements.{All-weaker, All-map, All-filter, All-nil, All-cons}
+use Rattle.std.proofs.lemmas.List.Kept.{AllPairs-filter}
+use Rattle.pit_model.specs.declared.limit.Limit.{Limit}
+use Rattle.mine_instance.specs.Cpit.{IsCpit, AreCpitCoefs, cpit_of}
+use Rattle.mine_instance.specs.CpitOrder.{is_listed_before}
+use Rattle.mine_instance.specs.Greatest.{greatest}
+use Rattle.mine_instance.specs.OfCpit.{cpit, is_chosen, without_destination, destination_of}
+use Rattle.mine_instance.specs.Order.{comes_before}
+use Rattle.mine_instance.specs.Valid.{IsValid, AreCoefs}
+use Rattle.mine_instance.specs.declared.coef.Coef.{Coef}
+use Rattle.mine_instance.specs.declared.cpit.CpitCoef.{CpitCoef}
+use Rattle.mine_instance.specs.declared.instance.Instance.{Instance}
+
+-- each block has a value
+pub some_values : (i : Instance) → IsValid i → All (λ of_block. 0 < length of_block) i.values
+some_values i v = All-weaker (λ of_block. length of_block ≡ i.destinations) (λ of_block. 0 < length of_block)
+    (λ of_block e. let one : 1 ≤ i.destinations = v.destinations.from_1_to_8.0 in omega arith) i.values v.destinations.one_each
+
+-- of two coefficients at their blocks' destinations, the order is that of blocks and resources
+listed : (values : List (List ℤ)) (c e : Coef) → is_chosen values c ≡ true → is_chosen values e ≡ true → IsTrue (comes_before c e)
+    → IsTrue (is_listed_before (without_destination c) (without_destination e))
+listed values c e p q h = in_order (destination_of values) c.b e.b c.d e.d c.r e.r (eqb-true _ _ p) (eqb-true _ _ q) h
+  where
+    in_order : (f : ℕ → ℕ) (b b' d d' r r' : ℕ) → d ≡ f b → d' ≡ f b'
+        → (nat_lt b b' || ((b == b') && (nat_lt d d' || ((d == d') && nat_lt r r')))) ≡ true → (nat_lt b b' || ((b == b') && nat_lt r r')) ≡ true
+    in_order f b b' d d' r r' p q h = grind (arith, nat_tests)
+
+-- what a filter leaves passes
+kept_pass : (p : Coef → Bool) (coefs : List Coef) → All (λ c. p c ≡ true) (filter p coefs)
+kept_pass p [] = All-nil (λ c. p c ≡ true)
+kept_pass p (c ∷ coefs) = at (kept_pass p coefs) (p c) refl
+  where
+    at : All (λ c. p c ≡ true) (filter p coefs) → (b : Bool) → p c ≡ b → All (λ c. p c ≡ true) (cond b (c ∷ filter p coefs) (filter p coefs))
+    at rest true e = All-cons (λ c. p c ≡ true) c (filter p coefs) e rest
+    at rest false e = rest
+
+chosen_rise : (values : List (List ℤ)) (coefs : List Coef) → AllPairs (λ c e. IsTrue (comes_before c e)) coefs
+    → AllPairs (λ c e. IsTrue (is_listed_before c e)) (map without_destination (filter (is_chosen values) coefs))
+chosen_rise values coefs rising i j d h k =
+    let blank : Coef = record { b = 0; d = 0; r = 0; v = pos 0 } in
+    let chosen : List Coef = filter (is_chosen values) coefs in
+    let high : j < length chosen = omega (arith, length-map chosen without_destination) in
+    let low : i < length chosen = omega arith in
+    rw (get_or-map without_destination chosen i blank d low, get_or-map without_destination chosen j blank d high)
+        (listed values (get_or chosen i blank) (get_or chosen j blank) (kept_pass (is_chosen values) coefs i blank low)
+            (kept_pass (is_chosen values) coefs j blank high)
+            (AllPairs-filter (λ c e. IsTrue (comes_before c e)) (is_chosen values) coefs rising i j blank h high))
+
+chosen_in_range : (values : List (List ℤ)) (n destinations resources : ℕ) (coefs : List Coef)
+    → All (λ c. (c.b < n) × (c.d < destinations) × (c.r < resources)) coefs
+    → All (λ c. (c.b < n) × (c.r < resources)) (map without_destination (filter (is_chosen values) coefs))
+chosen_in_range values n destinations resources coefs in_range =
+    All-map (λ c. (c.b < n) × (c.r < resources)) without_destination (filter (is_chosen values) coefs)
+        (All-weaker (λ c. (c.b < n) × (c.d < destinations) × (c.r < resources)) (λ c. (c.b < n) × (c.r < resources)) (λ c h. (h.0, h.2)) _
+            (All-filter (is_chosen values) (λ c. (c.b < n) × (c.d < destinations) × (c.r < resources)) coefs in_range))
+
+pub cpit_is_one : (i : Instance) (name : List ℕ) (values : List ℤ) (coefs : List CpitCoef) (limits : List Limit) → IsValid i
+    → values ≡ map greatest i.values → coefs ≡ map without_destination (filter (is_chosen i.values) i.coefs) → limits ≡ i.limits
+    → IsCpit (cpit_of name i.rate i.periods i.resources values coefs limits)
+cpit_is_one i name values coefs limits v of_values of_coefs of_limits =
+    let count : length values ≡ length i.blocks = ap length of_values ∙ length-map i.values greatest ∙ v.lengths.values in
+    record {
+      few = rw count v.lengths.few;
+      horizon = v.horizon;
+      coefs = rw (count, of_coefs) (record {
+        in_range = chosen_in_range i.values (length i.blocks) i.destinations i.resources i.coefs v.coefs.in_range;
+        rising = chosen_rise i.values i.coefs v.coefs.rising
+      });
+      limits = rw of_limits v.limits
+    }
+
+-- each coefficient is of a block that has values
+pub coefs_there : (i : Instance) → IsValid i → All (λ c. c.b < length i.values) i.coefs
+coefs_there i v = All-weaker (λ c. (c.b < length i.blocks) × (c.d < i.destinations) × (c.r < i.resources)) (λ c. c.b < length i.values)
+    (λ c h. let same : length i.values ≡ length i.blocks = v.lengths.values in omega arith) i.coefs v.coefs.in_range

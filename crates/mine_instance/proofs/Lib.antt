@@ -1,0 +1,5 @@
+pub mod RowFacts
+pub mod RisingFacts
+pub mod GreatestFacts
+pub mod ValidFacts
+pub mod CpitFacts

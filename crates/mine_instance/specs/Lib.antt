@@ -1,0 +1,9 @@
+pub mod Cpit
+pub mod CpitOrder
+pub mod CpitView
+pub mod Greatest
+pub mod OfCpit
+pub mod Order
+pub mod OrderLaws
+pub mod Rows
+pub mod Valid

@@ -1,0 +1,19 @@
+-- The orders of coefficients and limits go through.
+use Rattle.std.specs.Prelude.{IsTrue}
+use Rattle.std.proofs.Common.{arith}
+use Rattle.std.proofs.lemmas.Bool.Decides.{nat_tests}
+use Rattle.pit_model.specs.Plan.{stands_before}
+use Rattle.pit_model.specs.declared.limit.Limit.{Limit}
+use Rattle.mine_instance.specs.CpitOrder.{is_listed_before}
+use Rattle.mine_instance.specs.Order.{comes_before}
+use Rattle.mine_instance.specs.declared.coef.Coef.{Coef}
+use Rattle.mine_instance.specs.declared.cpit.CpitCoef.{CpitCoef}
+
+pub comes_before_through : (x y z : Coef) → IsTrue (comes_before x y) → IsTrue (comes_before y z) → IsTrue (comes_before x z)
+comes_before_through x y z h k = grind (arith, nat_tests)
+
+pub stands_before_through : (x y z : Limit) → IsTrue (stands_before x y) → IsTrue (stands_before y z) → IsTrue (stands_before x z)
+stands_before_through x y z h k = grind (arith, nat_tests)
+
+pub is_listed_before_through : (x y z : CpitCoef) → IsTrue (is_listed_before x y) → IsTrue (is_listed_before y z) → IsTrue (is_listed_before x z)
+is_listed_before_through x y z h k = grind (arith, nat_tests)

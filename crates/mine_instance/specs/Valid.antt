@@ -1,0 +1,60 @@
+-- What a valid instance is.
+use Rattle.std.specs.Prelude.{◌≡◌, ◌≢◌, ℕ, ◌<◌, ◌≤◌, ◌^◌, ℤ, pos, ◌≤ℤ◌, List, [], length, slice_index_or, All, AllPairs, EachIndex, IsTrue}
+use Rattle.pit_model.specs.Plan.{stands_before}
+use Rattle.pit_model.specs.declared.limit.Bound.{Bound}
+use Rattle.pit_model.specs.declared.limit.Bound.TheVariants.{AtMost, AtLeast, Between}
+use Rattle.pit_model.specs.declared.limit.Limit.{Limit}
+use Rattle.mine_instance.specs.Order.{comes_before}
+use Rattle.mine_instance.specs.declared.coef.Coef.{Coef}
+use Rattle.mine_instance.specs.declared.instance.Instance.{Instance}
+
+-- blocks, predecessors and values of one number, at most 64,000,000
+pub record HasLengths (i : Instance) : Type 0 where
+  pub few : length i.blocks ≤ 64000000
+  pub preds : length i.preds ≡ length i.blocks
+  pub values : length i.values ≡ length i.blocks
+
+-- identifiers below n, none twice, none the block's own
+pub record ArePredsOf (own n : ℕ) (ids : List ℕ) : Type 0 where
+  pub below : All (λ id. id < n) ids
+  pub others : All (λ id. id ≢ own) ids
+  pub distinct : AllPairs (λ id other. id ≢ other) ids
+
+-- of n blocks, each has such predecessors
+abbrev pub ArePreds : ℕ → List (List ℕ) → Type 0
+ArePreds n preds = EachIndex preds (λ id. ArePredsOf id n (slice_index_or preds id []))
+
+-- periods 1 to 100, at most 8 resources, the rate 0 to 1
+pub record IsHorizon (periods resources : ℕ) (rate : ℤ) : Type 0 where
+  pub periods_1_to_100 : (1 ≤ periods) × (periods ≤ 100)
+  pub at_most_8_resources : resources ≤ 8
+  pub rate_0_to_1 : (pos 0 ≤ℤ rate) × (rate ≤ℤ pos (10 ^ 6))
+
+-- destinations 1 to 8, and a value for each
+pub record HasDestinations (destinations : ℕ) (values : List (List ℤ)) : Type 0 where
+  pub from_1_to_8 : (1 ≤ destinations) × (destinations ≤ 8)
+  pub one_each : All (λ vs. length vs ≡ destinations) values
+
+-- coefficients of blocks, destinations and resources that are there, strictly rising
+pub record AreCoefs (n destinations resources : ℕ) (coefs : List Coef) : Type 0 where
+  pub in_range : All (λ c. (c.b < n) × (c.d < destinations) × (c.r < resources)) coefs
+  pub rising : AllPairs (λ c e. IsTrue (comes_before c e)) coefs
+
+-- an interval's ends are the right way round
+abbrev pub IsUpward : Bound → Type 0
+IsUpward (AtMost v) = Unit {0}
+IsUpward (AtLeast v) = Unit {0}
+IsUpward (Between v w) = v ≤ℤ w
+
+-- limits of resources and periods that are there, strictly rising
+pub record AreLimits (resources periods : ℕ) (limits : List Limit) : Type 0 where
+  pub in_range : All (λ l. (l.resource < resources) × (l.period < periods) × IsUpward l.bound) limits
+  pub rising : AllPairs (λ l m. IsTrue (stands_before l m)) limits
+
+pub record IsValid (i : Instance) : Type 0 where
+  pub lengths : HasLengths i
+  pub preds : ArePreds (length i.blocks) i.preds
+  pub horizon : IsHorizon i.periods i.resources i.rate
+  pub destinations : HasDestinations i.destinations i.values
+  pub coefs : AreCoefs (length i.blocks) i.destinations i.resources i.coefs
+  pub limits : AreLimits i.resources i.periods i.limits

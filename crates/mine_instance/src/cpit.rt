@@ -1,0 +1,148 @@
+//! The constrained pit limit problem of an instance.
+
+ghost use Rattle.std.specs.Prelude.{◌≡◌, length};
+ghost use Rattle.mine_instance.specs.Cpit.{IsCpit};
+
+use crate::rising::Ordered;
+use pit_model::limit::Limit;
+use pit_model::name::Name;
+use pit_units::Dec;
+use std::marker::Model;
+
+/// The tonnes of a block that a resource handles.
+#[derive(Clone, Copy, Debug, PartialEq, Eq)]
+pub struct CpitCoef {
+    /// The identifier of the block.
+    pub b: u32,
+    /// The number of the resource, from 0 in the order of the plan.
+    pub r: u8,
+    /// The tonnes.
+    pub v: Dec,
+}
+
+impl Ordered for CpitCoef {
+    ghost use Rattle.std.specs.Prelude.{IsTrue};
+    ghost use Rattle.mine_instance.specs.CpitOrder.{is_listed_before};
+
+    ghost before = { λ c e. IsTrue (is_listed_before c e) };
+
+    ghost use Rattle.mine_instance.specs.OrderLaws.{is_listed_before_through};
+
+    ghost through = { is_listed_before_through };
+
+    fn is_before(&self, other: &CpitCoef) -> bool {
+        self.b < other.b || (self.b == other.b && self.r < other.r)
+    }
+}
+
+/// An instance of the constrained pit limit problem of MineLib: each block has one destination, so one value. Contracts see it as
+/// the record of its parts, and every value keeps their ranges and orders.
+#[derive(Debug, Drop)]
+pub struct Cpit {
+    name: Name,
+    rate: Dec,
+    periods: u8,
+    resources: u8,
+    values: Vec<Dec>,
+    coefs: Vec<CpitCoef>,
+    limits: Vec<Limit>,
+}
+
+impl Model for Cpit {
+    ghost use Rattle.mine_instance.specs.Cpit.{CpitParts};
+
+    ghost Value = { CpitParts };
+
+    ghost use Rattle.mine_instance.specs.CpitView.{parts_of, KeepsCpit};
+
+    ghost view = { parts_of };
+
+    ghost invariant = { KeepsCpit };
+}
+
+impl Cpit {
+    ghost use Rattle.mine_instance.specs.Cpit.{cpit_of};
+
+    /// The CPIT of these parts.
+    pub fn new(
+        name: Name,
+        rate: Dec,
+        periods: u8,
+        resources: u8,
+        values: Vec<Dec>,
+        coefs: Vec<CpitCoef>,
+        limits: Vec<Limit>,
+    ) -> Cpit
+        requires { IsCpit (cpit_of name rate periods resources values.items coefs.items limits.items) }
+        ensures { result ≡ cpit_of name rate periods resources values.items coefs.items limits.items }
+    {
+        Cpit {
+            name,
+            rate,
+            periods,
+            resources,
+            values,
+            coefs,
+            limits,
+        }
+    }
+
+    /// The NAME of the instance.
+    pub fn name(&self) -> &Name
+        ensures { result.now ≡ self.now.name }
+    {
+        &self.name
+    }
+
+    /// The discount rate, 0 to 1.
+    pub fn rate(&self) -> Dec
+        ensures { result ≡ self.now.rate }
+    {
+        self.rate
+    }
+
+    /// The number of periods, 1 to 100.
+    pub fn periods(&self) -> u8
+        ensures { result ≡ self.now.periods }
+    {
+        self.periods
+    }
+
+    /// The number of resources, at most 8.
+    pub fn resources(&self) -> u8
+        ensures { result ≡ self.now.resources }
+    {
+        self.resources
+    }
+
+    /// The value of each block, in units of 100 cents.
+    pub fn values(&self) -> &[Dec]
+        ensures value { result.now ≡ self.now.values }
+        ensures kept { IsCpit self.now }
+    {
+        self.values.as_slice()
+    }
+
+    /// The coefficients, in strictly rising order of block and resource.
+    pub fn coefs(&self) -> &[CpitCoef]
+        ensures value { result.now ≡ self.now.coefs }
+        ensures kept { IsCpit self.now }
+    {
+        self.coefs.as_slice()
+    }
+
+    /// The limits, in strictly rising order of resource and period.
+    pub fn limits(&self) -> &[Limit]
+        ensures value { result.now ≡ self.now.limits }
+        ensures kept { IsCpit self.now }
+    {
+        self.limits.as_slice()
+    }
+
+    /// The number of coefficients.
+    pub fn coefs_len(&self) -> usize
+        ensures { result ≡ length self.now.coefs }
+    {
+        self.coefs.len()
+    }
+}

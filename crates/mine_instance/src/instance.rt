@@ -1,0 +1,62 @@
+//! The instance of a model.
+
+ghost use Rattle.std.specs.Prelude.{◌≡◌, length, sum_by};
+
+use crate::blocks::Blocks;
+use crate::coef::Coefs;
+use crate::limits::Limits;
+use crate::values::Values;
+use pit_model::name::Name;
+use pit_units::Dec;
+use precedence::Preds;
+
+/// An instance of the production scheduling problem of MineLib. Blocks, predecessors and values stand by identifier.
+#[derive(Debug, Drop)]
+pub struct Instance {
+    pub name: Name,
+    /// The discount rate, 0 to 1 in a valid instance.
+    pub rate: Dec,
+    /// The number of periods.
+    pub periods: u8,
+    /// The number of destinations.
+    pub destinations: u8,
+    /// The number of resources.
+    pub resources: u8,
+    pub blocks: Blocks,
+    /// The blocks that each block has to wait for.
+    pub preds: Preds,
+    /// What each block is worth at each destination, in units of 100 cents.
+    pub values: Values,
+    pub coefs: Coefs,
+    pub limits: Limits,
+}
+
+impl Instance {
+    /// The number of blocks.
+    pub fn blocks_len(&self) -> usize
+        ensures { result ≡ length self.now.blocks }
+    {
+        self.blocks.as_slice().len()
+    }
+
+    /// The number of pairs of a block and one that it has to wait for.
+    pub fn arcs(&self) -> usize
+        ensures { result ≡ sum_by length self.now.preds }
+    {
+        self.preds.arcs()
+    }
+
+    /// The number of coefficients.
+    pub fn coefs_len(&self) -> usize
+        ensures { result ≡ length self.now.coefs }
+    {
+        self.coefs.as_slice().len()
+    }
+
+    /// The number of limits.
+    pub fn limits_len(&self) -> usize
+        ensures { result ≡ length self.now.limits }
+    {
+        self.limits.as_slice().len()
+    }
+}

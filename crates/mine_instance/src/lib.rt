@@ -1,0 +1,16 @@
+//! The instance of a model: its parts by identifier, and what makes it valid.
+#![tactic(auto)]
+
+pub mod blocks;
+pub mod coef;
+pub mod cpit;
+mod cpit_building;
+pub mod greatest;
+pub mod instance;
+pub mod limits;
+mod rising;
+mod validity;
+pub mod values;
+
+pub use cpit_building::build_cpit;
+pub use validity::is_valid;

@@ -1,0 +1,118 @@
+//! The lines of predecessors and values, one for each block.
+
+ghost use Rattle.std.specs.Prelude.{◌≡◌, ◌<◌, ◌≤◌, ◌++◌, ◌∷◌, [], length, All, OnOk, decimal};
+ghost use Rattle.std.specs.List.{flat_map};
+ghost use Rattle.pit_units.specs.Decimal.{shortest};
+ghost use Rattle.minelib_text.specs.Lines.{line_of, lines_from};
+ghost use Rattle.minelib_text.specs.Written.{prec_fields, greatest_fields, value_fields};
+
+use crate::fields::{put_decimal_behind, put_whole, put_whole_behind};
+use crate::output::Section;
+use mine_instance::greatest::greatest;
+use mine_instance::values::Values;
+use pit_units::Dec;
+use precedence::Preds;
+use std::alloc::{AllocError, Global};
+
+/// The predecessors of each block.
+#[derive(Drop)]
+pub struct PrecLines<'a> {
+    pub preds: &'a Preds,
+    pub ghost few: { length preds.now ≤ 64000000 },
+}
+
+impl<'a> Section for PrecLines<'a> {
+    ghost lines = { λ s. lines_from prec_fields 0 s.preds.now };
+
+    fn len(&self) -> usize {
+        self.preds.len()
+    }
+
+    fn append(&self, _alloc: Global, index: usize, out: &mut Vec<u8>) -> Result<(), AllocError> {
+        put_preds(out, index, self.preds.of(index as u32))
+    }
+}
+
+fn put_preds(out: &mut Vec<u8>, id: usize, preds: &[u32]) -> Result<(), AllocError>
+    ensures { OnOk result (out.new.items ≡ out.old.items ++ (line_of (prec_fields id preds.now) ++ 10 ∷ [])) }
+{
+    put_whole(out, id as u64)?;
+    put_whole_behind(out, b' ', preds.len() as u64)?;
+    put_ids(out, preds)?;
+    out.push(b'\n')?;
+    Ok(())
+}
+
+fn put_ids(out: &mut Vec<u8>, ids: &[u32]) -> Result<(), AllocError>
+    ensures { OnOk result (out.new.items ≡ out.old.items ++ flat_map (λ id. 32 ∷ decimal id) ids.now) }
+{
+    for id in ids {
+        put_whole_behind(out, b' ', u64::from(*id))?;
+    }
+    Ok(())
+}
+
+/// The values of each block.
+#[derive(Drop)]
+pub struct ValueLines<'a> {
+    pub values: &'a Values,
+}
+
+impl<'a> Section for ValueLines<'a> {
+    ghost lines = { λ s. lines_from value_fields 0 s.values.now };
+
+    fn len(&self) -> usize {
+        self.values.len()
+    }
+
+    fn append(&self, alloc: Global, index: usize, out: &mut Vec<u8>) -> Result<(), AllocError> {
+        put_values(alloc, out, index, self.values.of(index))
+    }
+}
+
+fn put_values(alloc: Global, out: &mut Vec<u8>, id: usize, values: &[Dec]) -> Result<(), AllocError>
+    ensures { OnOk result (out.new.items ≡ out.old.items ++ (line_of (value_fields id values.now) ++ 10 ∷ [])) }
+{
+    put_whole(out, id as u64)?;
+    put_decimals(alloc, out, values)?;
+    out.push(b'\n')?;
+    Ok(())
+}
+
+fn put_decimals(alloc: Global, out: &mut Vec<u8>, values: &[Dec]) -> Result<(), AllocError>
+    ensures { OnOk result (out.new.items ≡ out.old.items ++ flat_map (λ value. 32 ∷ shortest value) values.now) }
+{
+    for value in values {
+        put_decimal_behind(alloc, out, b' ', *value)?;
+    }
+    Ok(())
+}
+
+/// The greatest value of each block.
+#[derive(Drop)]
+pub struct GreatestLines<'a> {
+    pub values: &'a Values,
+    pub ghost some: { All (λ of_block. 0 < length of_block) values.now },
+}
+
+impl<'a> Section for GreatestLines<'a> {
+    ghost lines = { λ s. lines_from greatest_fields 0 s.values.now };
+
+    fn len(&self) -> usize {
+        self.values.len()
+    }
+
+    fn append(&self, alloc: Global, index: usize, out: &mut Vec<u8>) -> Result<(), AllocError> {
+        put_greatest(alloc, out, index, self.values.of(index))
+    }
+}
+
+fn put_greatest(alloc: Global, out: &mut Vec<u8>, id: usize, values: &[Dec]) -> Result<(), AllocError>
+    requires { 0 < length values.now }
+    ensures { OnOk result (out.new.items ≡ out.old.items ++ (line_of (greatest_fields id values.now) ++ 10 ∷ [])) }
+{
+    put_whole(out, id as u64)?;
+    put_decimal_behind(alloc, out, b' ', greatest(values))?;
+    out.push(b'\n')?;
+    Ok(())
+}

@@ -1,0 +1,59 @@
+//! Fields of a line, and what stands between them.
+
+ghost use Rattle.std.specs.Prelude.{◌≡◌, ◌++◌, ◌∷◌, [], OnOk, decimal};
+ghost use Rattle.pit_units.specs.Decimal.{shortest};
+
+use itoa::Buffer;
+use pit_units::{Dec, put_dec};
+use std::alloc::{AllocError, Global};
+
+/// Appends a text and the byte that ends it.
+pub fn put_text(out: &mut Vec<u8>, text: &[u8], end: u8) -> Result<(), AllocError>
+    ensures { OnOk result (out.new.items ≡ out.old.items ++ (text.now ++ end ∷ [])) }
+{
+    out.extend_from_slice(text)?;
+    out.push(end)?;
+    Ok(())
+}
+
+/// Appends a whole number.
+pub fn put_whole(out: &mut Vec<u8>, number: u64) -> Result<(), AllocError>
+    ensures { OnOk result (out.new.items ≡ out.old.items ++ decimal number) }
+{
+    let mut digits = Buffer::new();
+    out.extend_from_slice(digits.format(number).as_bytes())
+}
+
+/// Appends a whole number and the byte that ends it.
+pub fn put_whole_to(out: &mut Vec<u8>, number: u64, end: u8) -> Result<(), AllocError>
+    ensures { OnOk result (out.new.items ≡ out.old.items ++ (decimal number ++ end ∷ [])) }
+{
+    put_whole(out, number)?;
+    out.push(end)?;
+    Ok(())
+}
+
+/// Appends a byte and a whole number behind it.
+pub fn put_whole_behind(out: &mut Vec<u8>, before: u8, number: u64) -> Result<(), AllocError>
+    ensures { OnOk result (out.new.items ≡ out.old.items ++ before ∷ decimal number) }
+{
+    out.push(before)?;
+    put_whole(out, number)
+}
+
+/// Appends the shortest text of a decimal and the byte that ends it.
+pub fn put_decimal_to(alloc: Global, out: &mut Vec<u8>, number: Dec, end: u8) -> Result<(), AllocError>
+    ensures { OnOk result (out.new.items ≡ out.old.items ++ (shortest number ++ end ∷ [])) }
+{
+    put_dec(alloc, out, number)?;
+    out.push(end)?;
+    Ok(())
+}
+
+/// Appends a byte and the shortest text of a decimal behind it.
+pub fn put_decimal_behind(alloc: Global, out: &mut Vec<u8>, before: u8, number: Dec) -> Result<(), AllocError>
+    ensures { OnOk result (out.new.items ≡ out.old.items ++ before ∷ shortest number) }
+{
+    out.push(before)?;
+    put_dec(alloc, out, number)
+}

@@ -1,0 +1,119 @@
+//! The five texts by their parts.
+
+ghost use Rattle.std.specs.Prelude.{◌≤◌, ◌<◌, length, All};
+ghost use Rattle.minelib_text.specs.Written.{text_blocks, text_prec, text_upit, text_pcpsp, text_cpit};
+
+use crate::block_sections::{GreatestLines, PrecLines, ValueLines};
+use crate::keys::{put_cpit_keys, put_pcpsp_keys, put_problem};
+use crate::lines::Lines;
+use crate::output::{write_section, write_titled};
+use crate::schedule::write_sections;
+use crate::sink::Sink;
+use crate::text::Text;
+use crate::write_fault::WriteFault;
+use mine_instance::cpit::Cpit;
+use mine_instance::instance::Instance;
+use std::alloc::Global;
+
+#[derive(Drop)]
+pub struct BlockFile<'a> {
+    pub instance: &'a Instance,
+}
+
+impl<'a> Text for BlockFile<'a> {
+    ghost text = { λ t. text_blocks t.instance.now };
+
+    fn write<S: Sink>(&self, alloc: Global, sink: &mut S, buffer: &mut Vec<u8>) -> Result<(), WriteFault> {
+        let items = self.instance.blocks.as_slice();
+        write_section(alloc, sink, buffer, &Lines { items })
+    }
+}
+
+#[derive(Drop)]
+pub struct PrecFile<'a> {
+    pub instance: &'a Instance,
+    pub ghost few: { length instance.now.preds ≤ 64000000 },
+}
+
+impl<'a> Text for PrecFile<'a> {
+    ghost text = { λ t. text_prec t.instance.now };
+
+    fn write<S: Sink>(&self, alloc: Global, sink: &mut S, buffer: &mut Vec<u8>) -> Result<(), WriteFault> {
+        let preds = &self.instance.preds;
+        write_section(alloc, sink, buffer, &PrecLines { preds })
+    }
+}
+
+#[derive(Drop)]
+pub struct UpitFile<'a> {
+    pub instance: &'a Instance,
+    pub ghost some: { All (λ of_block. 0 < length of_block) instance.now.values },
+}
+
+impl<'a> Text for UpitFile<'a> {
+    ghost text = { λ t. text_upit t.instance.now };
+
+    fn write<S: Sink>(&self, alloc: Global, sink: &mut S, buffer: &mut Vec<u8>) -> Result<(), WriteFault> {
+        let values = &self.instance.values;
+        put_problem(buffer, &self.instance.name, b"UPIT", self.instance.blocks_len())?;
+        write_titled(alloc, sink, buffer, b"OBJECTIVE_FUNCTION:", &GreatestLines { values })
+    }
+}
+
+#[derive(Drop)]
+pub struct PcpspFile<'a> {
+    pub instance: &'a Instance,
+}
+
+impl<'a> Text for PcpspFile<'a> {
+    ghost text = { λ t. text_pcpsp t.instance.now };
+
+    fn write<S: Sink>(&self, alloc: Global, sink: &mut S, buffer: &mut Vec<u8>) -> Result<(), WriteFault> {
+        let instance = self.instance;
+        put_problem(buffer, &instance.name, b"PCPSP", instance.blocks_len())?;
+        put_pcpsp_keys(alloc, buffer, instance)?;
+        write_sections(
+            alloc,
+            sink,
+            buffer,
+            &ValueLines {
+                values: &instance.values,
+            },
+            &Lines {
+                items: instance.coefs.as_slice(),
+            },
+            &Lines {
+                items: instance.limits.as_slice(),
+            },
+        )
+    }
+}
+
+#[derive(Drop)]
+pub struct CpitFile<'a> {
+    pub cpit: &'a Cpit,
+}
+
+impl<'a> Text for CpitFile<'a> {
+    ghost text = { λ t. text_cpit t.cpit.now };
+
+    fn write<S: Sink>(&self, alloc: Global, sink: &mut S, buffer: &mut Vec<u8>) -> Result<(), WriteFault> {
+        let cpit = self.cpit;
+        put_problem(buffer, cpit.name(), b"CPIT", cpit.values().len())?;
+        put_cpit_keys(alloc, buffer, cpit)?;
+        write_sections(
+            alloc,
+            sink,
+            buffer,
+            &Lines {
+                items: cpit.values(),
+            },
+            &Lines {
+                items: cpit.coefs(),
+            },
+            &Lines {
+                items: cpit.limits(),
+            },
+        )
+    }
+}

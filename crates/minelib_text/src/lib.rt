@@ -1,0 +1,19 @@
+//! The MineLib texts of an instance: the sinks that take them, and their writers.
+#![tactic(auto)]
+
+mod block_sections;
+mod count;
+mod fields;
+mod files;
+mod item_lines;
+mod keys;
+mod lines;
+pub mod mem_sink;
+mod output;
+mod schedule;
+pub mod sink;
+mod text;
+pub mod write_fault;
+mod writers;
+
+pub use writers::{write_blocks, write_cpit, write_pcpsp, write_prec, write_upit};

@@ -1,0 +1,124 @@
+//! Large slices to a sink, and the lines that they are made of.
+
+ghost use Rattle.std.specs.Prelude.{◌≡◌, ◌+◌, ◌<◌, ◌≤◌, ℕ, List, [], ◌∷◌, ◌++◌, length, drop, slice_index_or, OnOk, OnErr, IsErrOf};
+ghost use Rattle.minelib_text.specs.Device.{added, IsFront};
+ghost use Rattle.minelib_text.specs.Lines.{text_of};
+
+use crate::fields::put_text;
+use crate::sink::{Sink, SinkFault};
+use crate::write_fault::WriteFault;
+use std::alloc::{AllocError, Global};
+
+/// How many bytes are collected before they are put.
+pub const LARGE: usize = 65_536;
+
+/// Puts all the bytes, in as many calls as the sink wants.
+pub fn put_all<S: Sink>(sink: &mut S, bytes: &[u8]) -> Result<(), SinkFault>
+    ensures takes { OnOk result (S.taken sink.new ≡ added bytes.now (S.taken sink.old)) }
+    ensures front { OnErr result (IsFront (S.taken sink.new) (added bytes.now (S.taken sink.old))) }
+    ensures works { OnOk result (S.failures sink.new ≡ S.failures sink.old) }
+    ensures fails { OnErr result (S.failures sink.new ≡ S.failures sink.old + 1) }
+    ensures begun { S.is_begun sink.new ≡ S.is_begun sink.old }
+{
+    let mut rest = bytes;
+    while !rest.is_empty() {
+        let (_, left) = rest.split_at(sink.put(rest)?);
+        rest = left;
+    }
+    Ok(())
+}
+
+/// Puts the buffer and empties it.
+pub fn flush<S: Sink>(sink: &mut S, buffer: &mut Vec<u8>) -> Result<(), SinkFault>
+    ensures takes { OnOk result (S.taken sink.new ≡ added buffer.old.items (S.taken sink.old)) }
+    ensures empty { OnOk result (buffer.new.items ≡ []) }
+    ensures front { OnErr result (IsFront (S.taken sink.new) (added buffer.old.items (S.taken sink.old))) }
+    ensures works { OnOk result (S.failures sink.new ≡ S.failures sink.old) }
+    ensures fails { OnErr result (S.failures sink.new ≡ S.failures sink.old + 1) }
+    ensures begun { S.is_begun sink.new ≡ S.is_begun sink.old }
+{
+    put_all(sink, buffer.as_slice())?;
+    buffer.clear();
+    Ok(())
+}
+
+/// Lines that are written one by one.
+pub trait Section {
+    ghost lines: { Self → List (List ℕ) };
+
+    fn len(&self) -> usize
+        ensures { result ≡ length (lines self.now) };
+
+    /// Appends one line with its LF. Where memory is refused a part of it may be appended.
+    fn append(&self, alloc: Global, index: usize, out: &mut Vec<u8>) -> Result<(), AllocError>
+        requires { index < length (lines self.now) }
+        ensures { OnOk result
+            (out.new.items ≡ out.old.items ++ (slice_index_or (lines self.now) index [] ++ 10 ∷ [])) };
+}
+
+/// Writes the lines of a section behind what the buffer holds.
+pub fn write_section<S: Sink, L: Section>(
+    alloc: Global,
+    sink: &mut S,
+    buffer: &mut Vec<u8>,
+    section: &L,
+) -> Result<(), WriteFault>
+    ensures written { OnOk result (added buffer.new.items (S.taken sink.new)
+        ≡ added (text_of (L.lines section.now)) (added buffer.old.items (S.taken sink.old))) }
+    ensures front { OnErr result (IsFront (S.taken sink.new)
+        (added (text_of (L.lines section.now)) (added buffer.old.items (S.taken sink.old)))) }
+    ensures works { OnOk result (S.failures sink.new ≡ S.failures sink.old) }
+    ensures fails { IsErrOf result WriteFault.SinkFailed → S.failures sink.new ≡ S.failures sink.old + 1 }
+    ensures memory { IsErrOf result WriteFault.OutOfMemory → S.failures sink.new ≡ S.failures sink.old }
+    ensures begun { S.is_begun sink.new ≡ S.is_begun sink.old }
+{
+    for index in 0..section.len() {
+        write_line(alloc, sink, buffer, section, index)?;
+    }
+    Ok(())
+}
+
+fn write_line<S: Sink, L: Section>(
+    alloc: Global,
+    sink: &mut S,
+    buffer: &mut Vec<u8>,
+    section: &L,
+    index: usize,
+) -> Result<(), WriteFault>
+    requires { index < length (L.lines section.now) }
+    ensures written { OnOk result (added (text_of (drop (index + 1) (L.lines section.now))) (added buffer.new.items (S.taken sink.new))
+        ≡ added (text_of (drop index (L.lines section.now))) (added buffer.old.items (S.taken sink.old))) }
+    ensures front { OnErr result (IsFront (S.taken sink.new)
+        (added (text_of (drop index (L.lines section.now))) (added buffer.old.items (S.taken sink.old)))) }
+    ensures works { OnOk result (S.failures sink.new ≡ S.failures sink.old) }
+    ensures fails { IsErrOf result WriteFault.SinkFailed → S.failures sink.new ≡ S.failures sink.old + 1 }
+    ensures memory { IsErrOf result WriteFault.OutOfMemory → S.failures sink.new ≡ S.failures sink.old }
+    ensures begun { S.is_begun sink.new ≡ S.is_begun sink.old }
+{
+    section.append(alloc, index, buffer)?;
+    if buffer.len() >= LARGE {
+        flush(sink, buffer)?;
+    }
+    Ok(())
+}
+
+/// Writes a section line and the lines under it behind what the buffer holds.
+pub fn write_titled<S: Sink, L: Section>(
+    alloc: Global,
+    sink: &mut S,
+    buffer: &mut Vec<u8>,
+    title: &[u8],
+    section: &L,
+) -> Result<(), WriteFault>
+    ensures written { OnOk result (added buffer.new.items (S.taken sink.new)
+        ≡ added (text_of (title.now ∷ L.lines section.now)) (added buffer.old.items (S.taken sink.old))) }
+    ensures front { OnErr result (IsFront (S.taken sink.new)
+        (added (text_of (title.now ∷ L.lines section.now)) (added buffer.old.items (S.taken sink.old)))) }
+    ensures works { OnOk result (S.failures sink.new ≡ S.failures sink.old) }
+    ensures fails { IsErrOf result WriteFault.SinkFailed → S.failures sink.new ≡ S.failures sink.old + 1 }
+    ensures memory { IsErrOf result WriteFault.OutOfMemory → S.failures sink.new ≡ S.failures sink.old }
+    ensures begun { S.is_begun sink.new ≡ S.is_begun sink.old }
+{
+    put_text(buffer, title, b'\n')?;
+    write_section(alloc, sink, buffer, section)
+}

@@ -1,0 +1,35 @@
+//! Why a text was not written.
+
+ghost use Rattle.std.specs.Prelude.{◌≡◌};
+ghost use Rattle.minelib_text.specs.declared.write_fault.WriteFault.TheVariants.{SinkFailed, OutOfMemory};
+
+use crate::sink::SinkFault;
+use std::alloc::AllocError;
+use thiserror::Error;
+
+/// Why a text was not written. The sink is as it was, or it was begun and holds the front of the text.
+#[derive(Clone, Copy, Debug, Error, PartialEq, Eq)]
+pub enum WriteFault {
+    /// The sink refused a call.
+    #[error("the sink failed")]
+    SinkFailed,
+    /// Memory was refused.
+    #[error("out of memory")]
+    OutOfMemory,
+}
+
+impl From<SinkFault> for WriteFault {
+    ghost from_gives = { λ _ fault. fault ≡ SinkFailed };
+
+    fn from(_fault: SinkFault) -> WriteFault {
+        WriteFault::SinkFailed
+    }
+}
+
+impl From<AllocError> for WriteFault {
+    ghost from_gives = { λ _ fault. fault ≡ OutOfMemory };
+
+    fn from(_refusal: AllocError) -> WriteFault {
+        WriteFault::OutOfMemory
+    }
+}

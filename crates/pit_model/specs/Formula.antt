@@ -1,0 +1,12 @@
+-- Formulas beside one another.
+use Rattle.std.specs.Prelude.{Bool, false, ◌&&◌, ◌==◌}
+use Rattle.pit_model.specs.Bands.{bands_eq}
+use Rattle.pit_model.specs.declared.formula.Formula.{Formula}
+use Rattle.pit_model.specs.declared.formula.Formula.TheVariants.{Mill, Leach, Dump}
+
+-- whether two formulas are of one kind, with the same numbers
+abbrev pub formula_eq : Formula → Formula → Bool
+formula_eq (Mill r p c) (Mill s q d) = (r == s) && (p == q) && (c == d)
+formula_eq (Leach a p c) (Leach b q d) = bands_eq a b && (p == q) && (c == d)
+formula_eq (Dump c) (Dump d) = c == d
+formula_eq f g = false

@@ -1,0 +1,44 @@
+//! The bands in the cells of a `leach` record.
+
+ghost use Rattle.std.specs.Prelude.{◌≡◌, ◌+◌, ◌-◌, ◌/◌, ◌%◌, ◌≤◌, drop, length, pos, unsigned_abs, All, OnOk, IfOk};
+ghost use Rattle.csv.specs.Records.{fields_of};
+ghost use Rattle.pit_model.specs.Admits.{Admits};
+ghost use Rattle.pit_model.specs.Bands.{IsBand};
+ghost use Rattle.pit_model.specs.Cells.{cells_of};
+ghost use Rattle.pit_model.specs.Planned.{band_in, bands_in};
+
+use crate::band::Band;
+use crate::cells::cell_at;
+use crate::numbers::{number_in, whole_in};
+use crate::plan_fault::{PlanFaultKind, RecordError};
+use csv::ByteRecord;
+
+/// The band of two cells, its start and its recovery.
+fn band_in(start: &[u8], recovery: &[u8]) -> Result<Band, PlanFaultKind>
+    ensures value { result ≡ band_in start.now recovery.now }
+    ensures in_range { IfOk result IsBand }
+{
+    let start = number_in(start, 6, 0, 1_000_000_000_000)?;
+    let recovery = whole_in(recovery, 0, 1000)?;
+    Ok(Band {
+        start: start as u64,
+        recovery: recovery as u16,
+    })
+}
+
+/// Adds the bands of a record of so many cells, an even number, from its fifth cell on.
+pub fn read_bands(row: &ByteRecord, count: usize, bands: &mut Vec<Band>) -> Result<(), RecordError>
+    requires whole { count ≡ length (cells_of (fields_of row.now)) }
+    requires pairs { count % 2 ≡ 0 }
+    requires some { 4 ≤ count }
+    requires in_range { All IsBand bands.old.items }
+    ensures reads { Admits bands.new.items result (bands_in (drop 4 (cells_of (fields_of row.now))) bands.old.items) }
+    ensures in_range { All IsBand bands.new.items }
+    ensures counted { OnOk result (length bands.new.items ≡ length bands.old.items + (count / 2 - 2)) }
+{
+    for pair in 2..count / 2 {
+        let band = band_in(cell_at(row, 2 * pair), cell_at(row, 2 * pair + 1))?;
+        bands.push(band)?;
+    }
+    Ok(())
+}

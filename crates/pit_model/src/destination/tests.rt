@@ -1,0 +1,102 @@
+ghost use Rattle.std.specs.Prelude.{◌≡◌, ◌≤◌, ◌^◌};
+ghost use Rattle.pit_model.specs.Plan.{IsRuled};
+ghost use Rattle.pit_model.specs.Worth.{worth, mill, dump};
+
+use super::{Destination, Valuer};
+use crate::band::{Band, Bands};
+use crate::block::Block;
+use crate::formula::Formula;
+use crate::worth::{dump_worth, mill_worth};
+use std::process::Abort;
+use std::test::Fail;
+
+fn block(rt: &impl Abort, kg: u64, grade: u64) -> Block {
+    Block::new(0, 0, 0, kg, grade, 0).expect(rt, "a block")
+}
+
+// The closure of the leach keeps a copy of its formula. The mill has the greatest worth that there is.
+#[test]
+fn heap_leach_bands(rt: HostRuntime) -> Result<(), Fail> {
+    let bands = [(1_000_000, 300), (2_500_000, 450)].map(|(start, recovery)| Band {
+        start,
+        recovery,
+    });
+    let bands = Bands::new(Vec::from_array(rt.alloc(), bands)?).expect(&rt, "bands");
+    let formula = Formula::Leach {
+        bands,
+        price: 10_000_000,
+        cost: 100,
+    };
+    let kept = formula.copy(rt.alloc())?;
+    assert!(rt; kept == formula);
+    let valuer: Valuer = Box::new(
+        rt.alloc(),
+        move |block: Block| -> i128
+            requires { IsRuled kept }
+            ensures { result ≡ worth kept block }
+        { kept.worth(block) },
+    )?;
+    let heap = Destination::new(formula, valuer);
+    for (grade, cents) in [
+        (2_500_000, 11_150_000),
+        (2_499_999, 7_399_997),
+        (999_999, -100_000),
+    ] {
+        assert_eq!(rt;
+            heap.value(block(&rt, 1_000_000, grade)),
+            cents,
+            "at {grade}"
+        );
+    }
+
+    let valuer: Valuer = Box::new(
+        rt.alloc(),
+        |block: Block| -> i128
+            ensures { result ≡ mill block 1000 (10 ^ 8) 0 }
+        { mill_worth(block, 1000, 100_000_000, 0) },
+    )?;
+    let formula = Formula::Mill {
+        recovery: 1000,
+        price: 100_000_000,
+        cost: 0,
+    };
+    let richest = Destination::new(formula, valuer);
+    let cents = richest.value(block(&rt, 1_000_000_000, 1_000_000_000_000));
+    assert_eq!(rt; cents, 100_000_000_000_000_000);
+    Ok(())
+}
+
+#[test]
+fn one_ore_block(rt: HostRuntime) -> Result<(), Fail> {
+    let valuer: Valuer = Box::new(
+        rt.alloc(),
+        |block: Block| -> i128
+            ensures { result ≡ mill block 900 600 1500 }
+        { mill_worth(block, 900, 600, 1500) },
+    )?;
+    let formula = Formula::Mill {
+        recovery: 900,
+        price: 600,
+        cost: 1500,
+    };
+    let plant = Destination::new(formula, valuer);
+    assert_eq!(rt;
+        plant.value(block(&rt, 1_000_000, 5_000_000_000)),
+        1_200_000
+    );
+    Ok(())
+}
+
+#[test]
+fn waste_of_one_kilogram(rt: HostRuntime) -> Result<(), Fail> {
+    let valuer: Valuer = Box::new(
+        rt.alloc(),
+        |block: Block| -> i128
+            ensures { result ≡ dump block 200 }
+        { dump_worth(block, 200) },
+    )?;
+    let waste = Destination::new(Formula::Dump { cost: 200 }, valuer);
+    assert_eq!(rt; waste.value(block(&rt, 1, 0)), -1);
+    assert!(rt; *waste.formula() == Formula::Dump { cost: 200 });
+    Ok(())
+}

@@ -1,0 +1,28 @@
+-- The line that the program writes of a fault, and the status that it ends with.
+use Rattle.std.specs.Prelude.{◌≡◌, ℕ, ◌<◌, ◌++◌, ◌⊎◌, List, [], ◌∷◌, length, Err, codes}
+use Rattle.pit_model.specs.Planned.{planned}
+use Rattle.pit_model.specs.declared.plan_fault.PlanFault.{PlanFault}
+use Rattle.pitc.specs.declared.refusal.Refusal.{Refusal}
+use Rattle.pitc.specs.declared.refusal.Refusal.TheVariants.{Settings, TooLong, Row, Same, OutOfMemory}
+
+-- 1 for a refused plan or model, 2 for settings, 4 for want of memory
+abbrev pub status_of : Refusal → ℕ
+status_of (Settings kind) = 2
+status_of (TooLong file) = 1
+status_of (Row file fault) = 1
+status_of (Same first again) = 1
+status_of OutOfMemory = 4
+
+-- a line of these words: the program's name before them and a line feed behind
+abbrev pub line_of : List ℕ → List ℕ
+line_of words = codes "pitc: " ++ words ++ 10 ∷ []
+
+-- one line was appended
+abbrev pub AppendsLine : List ℕ → List ℕ → Type 0
+AppendsLine old new = (words : List ℕ) × (new ≡ old ++ line_of words)
+
+-- why a text gives no plan: it is too long, or states none, and a line says so; or memory was refused, and no line stands
+abbrev pub PlanRefused : List ℕ → List ℕ → List ℕ → ℕ → Type 0
+PlanRefused text old new status =
+    ((status ≡ 1) × AppendsLine old new × ((1048576 < length text) ⊎ ((fault : PlanFault) × (planned text ≡ Err fault))))
+    ⊎ ((status ≡ 4) × (new ≡ old))

@@ -1,0 +1,50 @@
+-- The rows of the zone files, valued, and the first fault among the files.
+use Rattle.std.specs.Prelude.{ℕ, ◌+◌, List, [], ◌∷◌, ◌++◌, length, map, nat_lt, Option, Some, None, if◌then◌else◌}
+use Rattle.pit_model.specs.Plan.{PlanParts}
+use Rattle.pit_model.specs.declared.block.Block.{Block}
+use Rattle.pit_model.specs.declared.formula.Formula.{Formula}
+use Rattle.pit_model.specs.declared.grid.Grid.{Grid}
+use Rattle.valuers.specs.Valuing.{worths_by}
+use Rattle.valuers.specs.declared.item.Valued.{Valued}
+use Rattle.zone_csv.specs.Zone.{blocks_of, fault_of}
+use Rattle.zone_csv.specs.declared.row_fault.RowFault.{RowFault}
+use Rattle.pitc.specs.declared.refusal.Refusal.{Refusal}
+use Rattle.pitc.specs.declared.refusal.Refusal.TheVariants.{TooLong, Row}
+
+-- the formulas of a plan's destinations
+abbrev pub formulas_in : PlanParts → List Formula
+formulas_in plan = map (λ f. f.formula) plan.formulas
+
+-- the rows of these blocks of a file, the first of them at place n, each with its worth by each formula
+abbrev pub rows_from : List Block → List Formula → ℕ → ℕ → List Valued
+rows_from [] formulas file n = []
+rows_from (b ∷ blocks) formulas file n =
+    record { file = file; place = n; block = b; worths = worths_by formulas b } ∷ rows_from blocks formulas file (n + 1)
+
+-- the rows of these zone files, the first of them being file n, one file after the other
+abbrev pub rows_in : List (List ℕ) → Grid → List Formula → ℕ → List Valued
+rows_in [] grid formulas n = []
+rows_in (text ∷ texts) grid formulas n = rows_from (blocks_of grid n text) formulas n 0 ++ rows_in texts grid formulas (n + 1)
+
+-- all rows of a model
+abbrev pub rows_of : PlanParts → List (List ℕ) → List Valued
+rows_of plan texts = rows_in texts plan.grid (formulas_in plan) 0
+
+-- a row's fault as the file's
+abbrev pub of_row : ℕ → Option RowFault → Option Refusal
+of_row file None = None
+of_row file (Some fault) = Some (Row file fault)
+
+-- the fault of a zone file: it is too long, or one of its rows is faulty
+abbrev pub file_fault : Grid → ℕ → List ℕ → Option Refusal
+file_fault grid n text = if nat_lt 268435456 (length text) then Some (TooLong n) else of_row n (fault_of grid n text)
+
+-- the first that is there
+abbrev pub first_of_two : Option Refusal → Option Refusal → Option Refusal
+first_of_two (Some refusal) other = Some refusal
+first_of_two None other = other
+
+-- the fault of the least file that has one
+abbrev pub fault_in : List (List ℕ) → Grid → ℕ → Option Refusal
+fault_in [] grid n = None
+fault_in (text ∷ texts) grid n = first_of_two (file_fault grid n text) (fault_in texts grid (n + 1))

@@ -1,0 +1,47 @@
+-- The verdict on the zone files of a plan.
+use Rattle.std.specs.Prelude.{◌≡◌, ℕ, ◌+◌, ◌<◌, List, length, Some, None, false, slice_index_or}
+use Rattle.precedence.specs.Identifier.{blocks_of, is_same_place, IsFirstAgain}
+use Rattle.pit_model.specs.Plan.{PlanParts}
+use Rattle.pit_model.specs.declared.block.Block.{Block}
+use Rattle.valuers.specs.declared.item.Valued.{Valued}
+use Rattle.pitc.specs.Rows.{rows_of, fault_in}
+use Rattle.pitc.specs.declared.refusal.Refusal.{Refusal}
+use Rattle.pitc.specs.declared.refusal.Refusal.TheVariants.{Settings, TooLong, Row, Same, OutOfMemory}
+use Rattle.pitc.specs.declared.refusal.RowAt.{RowAt}
+
+-- no two blocks of the list stand at one place of the grid
+abbrev pub AreApart : List Block → Type 0
+AreApart blocks = (i j : ℕ) (d : Block) → i < j → j < length blocks → is_same_place (slice_index_or blocks i d) (slice_index_or blocks j d) ≡ false
+
+-- accepted: no file has a fault, and no block stands twice
+pub record IsAccepted (plan : PlanParts) (texts : List (List ℕ)) : Type 0 where
+  pub no_fault : fault_in texts plan.grid 0 ≡ None
+  pub apart : AreApart (blocks_of (rows_of plan texts))
+
+-- this is the row at a position of the list: its file, and its place with the header and the count from 1
+abbrev pub IsRowAt : List Valued → ℕ → RowAt → Type 0
+IsRowAt rows i at = (d : Valued) → i < length rows → (at.file ≡ (slice_index_or rows i d).file) × (at.row ≡ (slice_index_or rows i d).place + 2)
+
+-- the first row that repeats an earlier one, and that one
+pub record IsFirstRepeat (rows : List Valued) (first again : RowAt) : Type 0 where
+  pub earlier : ℕ
+  pub later : ℕ
+  pub repeats : IsFirstAgain (blocks_of rows) earlier later
+  pub first_row : IsRowAt rows earlier first
+  pub again_row : IsRowAt rows later again
+
+-- the refusal names the first repetition; of memory nothing is known
+abbrev pub IsRepeat : List Valued → Refusal → Type 0
+IsRepeat rows (Same first again) = IsFirstRepeat rows first again
+IsRepeat rows OutOfMemory = Unit {0}
+IsRepeat rows (Settings kind) = ⊥
+IsRepeat rows (TooLong file) = ⊥
+IsRepeat rows (Row file fault) = ⊥
+
+-- refused: the fault of the least file that has one; or, where none has, the first repetition
+abbrev pub IsRefusedBy : PlanParts → List (List ℕ) → Refusal → Type 0
+IsRefusedBy plan texts (TooLong file) = fault_in texts plan.grid 0 ≡ Some (TooLong file)
+IsRefusedBy plan texts (Row file fault) = fault_in texts plan.grid 0 ≡ Some (Row file fault)
+IsRefusedBy plan texts (Same first again) = (fault_in texts plan.grid 0 ≡ None) × IsFirstRepeat (rows_of plan texts) first again
+IsRefusedBy plan texts (Settings kind) = ⊥
+IsRefusedBy plan texts OutOfMemory = ⊥

@@ -1,0 +1,79 @@
+//! The line that the program writes of a refusal, and the status that it ends with.
+
+ghost use Rattle.std.specs.Prelude.{◌≡◌, ◌≤◌, ◌++◌, length, Ok, IfOk, IfErr, OnOk, OnErr};
+ghost use Rattle.pit_model.specs.Planned.{planned};
+ghost use Rattle.pitc.specs.FaultLine.{AppendsLine, PlanRefused, line_of, status_of};
+
+use crate::refusal::Refusal;
+use crate::status::{REFUSED, RESOURCES, USAGE};
+use pit_model::plan::Plan;
+use pit_model::plan_fault::ReadPlanError;
+use pit_model::read_plan;
+use std::alloc::{AllocError, Global};
+
+/// The most bytes of a plan.
+pub const MAX_PLAN_BYTES: usize = 1_048_576;
+
+/// The plan that a text states; or the status of its refusal, with the line of the fault appended to `lines`.
+///
+/// A text of more than 1,048,576 bytes is `plan: TooLong`. Where memory is refused, for the plan or for the line, the status is that of
+/// memory and `lines` is as it was.
+pub fn plan_from(alloc: Global, text: &[u8], lines: &mut Vec<u8>) -> Result<Plan, u8>
+    ensures plan { IfOk result (λ plan. (length text.now ≤ 1048576) × (planned text.now ≡ Ok plan)) }
+    ensures quiet { OnOk result (lines.new.items ≡ lines.old.items) }
+    ensures refused { IfErr result (PlanRefused text.now lines.old.items lines.new.items) }
+{
+    if text.len() > MAX_PLAN_BYTES {
+        return match append_line(alloc, "plan: TooLong", lines) {
+            Ok(()) => Err(REFUSED),
+            Err(_) => Err(RESOURCES),
+        };
+    }
+    match read_plan(alloc, text) {
+        Ok(plan) => Ok(plan),
+        Err(ReadPlanError::Fault(fault)) => {
+            let Ok(words) = format!(in alloc; "{fault}") else {
+                return Err(RESOURCES);
+            };
+            match append_line(alloc, words.as_str(), lines) {
+                Ok(()) => Err(REFUSED),
+                Err(_) => Err(RESOURCES),
+            }
+        }
+        Err(ReadPlanError::OutOfMemory) => Err(RESOURCES),
+    }
+}
+
+/// Appends the line of a refusal, and answers the status that it ends the program with. Fails only where memory is refused, and then
+/// `lines` is as it was.
+pub fn refusal_line(alloc: Global, refusal: &Refusal, lines: &mut Vec<u8>) -> Result<u8, AllocError>
+    ensures status { IfOk result (λ status. status ≡ status_of refusal.now) }
+    ensures appends { OnOk result (AppendsLine lines.old.items lines.new.items) }
+    ensures err { OnErr result (lines.new.items ≡ lines.old.items) }
+{
+    let words = format!(in alloc; "{refusal}")?;
+    append_line(alloc, words.as_str(), lines)?;
+    Ok(status_of(refusal))
+}
+
+fn status_of(refusal: &Refusal) -> u8
+    ensures { result ≡ status_of refusal.now }
+{
+    match refusal {
+        Refusal::Settings(_) => USAGE,
+        Refusal::TooLong { .. } | Refusal::Row { .. } | Refusal::Same { .. } => REFUSED,
+        Refusal::OutOfMemory => RESOURCES,
+    }
+}
+
+/// Appends a line of these words. Where memory is refused `lines` is as it was.
+pub fn append_line(alloc: Global, words: &str, lines: &mut Vec<u8>) -> Result<(), AllocError>
+    ensures ok { OnOk result (lines.new.items ≡ lines.old.items ++ line_of words.now) }
+    ensures err { OnErr result (lines.new.items ≡ lines.old.items) }
+{
+    let mut line = Vec::new(alloc);
+    line.extend_from_slice(b"pitc: ")?;
+    line.extend_from_slice(words.as_bytes())?;
+    line.extend_from_slice(b"\n")?;
+    lines.extend_from_slice(line.as_slice())
+}
