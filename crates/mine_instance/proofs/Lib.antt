@@ -3,3 +3,5 @@ pub mod RisingFacts
 pub mod GreatestFacts
 pub mod ValidFacts
 pub mod CpitFacts
+pub mod BuildFacts
+pub mod ModelFacts

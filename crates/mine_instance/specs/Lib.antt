@@ -3,6 +3,7 @@ pub mod CpitOrder
 pub mod CpitView
 pub mod Greatest
 pub mod OfCpit
+pub mod OfModel
 pub mod Order
 pub mod OrderLaws
 pub mod Rows

@@ -2,6 +2,7 @@
 #![tactic(auto)]
 
 pub mod blocks;
+mod building;
 pub mod coef;
 pub mod cpit;
 mod cpit_building;
@@ -12,5 +13,6 @@ mod rising;
 mod validity;
 pub mod values;
 
+pub use building::build;
 pub use cpit_building::build_cpit;
 pub use validity::is_valid;

@@ -1,0 +1,207 @@
+//! From a model's valued blocks to its instance.
+
+ghost use Rattle.std.specs.Prelude.{◌≡◌, ◌<◌, ◌≤◌, ◌==◌, ◌++◌, ◌∷◌, [], length, map, slice_get, Some, All, Contains, IfOk, OnOk, if◌then◌else◌};
+ghost use Rattle.std.specs.List.{list_any};
+ghost use Rattle.pit_model.specs.Worth.{IsWorth};
+ghost use Rattle.precedence.specs.Cone.{preds as cone_lists};
+ghost use Rattle.precedence.specs.Identifier.{IsNumbering, blocks_of};
+ghost use Rattle.valuers.specs.Valuing.{worths_by};
+ghost use Rattle.mine_instance.specs.OfModel.{instance, formulas_of_plan, values_of, in_hundreds, covering, covered, coefs_of, block_coefs};
+ghost use Rattle.mine_instance.specs.Valid.{IsValid};
+
+use crate::blocks::Blocks;
+use crate::coef::{Coef, Coefs};
+use crate::instance::Instance;
+use crate::limits::Limits;
+use crate::values::Values;
+use pit_model::block::Block;
+use pit_model::laws::worths_are_in_range;
+use pit_model::plan::Plan;
+use pit_model::resource::Resource;
+use pit_units::Dec;
+use precedence::{Numbering, Preds};
+use std::alloc::{AllocError, Global};
+use valuers::Valued;
+
+/// A destination and a resource that covers it, by their numbers.
+type Covering = (u8, u8);
+
+/// The instance of a model, given its rows, their numbering and their predecessors. Fails only where memory is refused.
+pub fn build(
+    alloc: Global,
+    numbering: &Numbering,
+    preds: Preds,
+    rows: &[Valued],
+    plan: &Plan,
+) -> Result<Instance, AllocError>
+    requires numbering { IsNumbering (blocks_of rows.now) numbering.now }
+    requires preds { preds ≡ cone_lists plan.now numbering.now.blocks }
+    requires worths { All (λ row. row.worths ≡ worths_by (formulas_of_plan plan.now) row.block) rows.now }
+    ensures value { IfOk result (λ built. built ≡ instance plan.now (blocks_of rows.now)) }
+    ensures valid { IfOk result IsValid }
+{
+    let name = plan.name().copy(alloc)?;
+    let blocks = blocks_by_id(alloc, numbering)?;
+    let values = values_by_id(alloc, numbering, rows, plan)?;
+    let pairs = covered_pairs(alloc, plan)?;
+    let coefs = coefs_by_id(alloc, pairs.as_slice(), blocks.as_slice())?;
+    let limits = Vec::from_slice(alloc, plan.limits())?;
+    Ok(Instance {
+        name,
+        rate: plan.rate(),
+        periods: plan.periods(),
+        destinations: plan.formulas().len() as u8,
+        resources: plan.resources().len() as u8,
+        blocks: Blocks::new(blocks),
+        preds,
+        values,
+        coefs: Coefs::new(coefs),
+        limits: Limits::new(limits),
+    })
+}
+
+#[tactic(auto, using(crate::proofs::BuildFacts::take_next))]
+fn blocks_by_id(alloc: Global, numbering: &Numbering) -> Result<Vec<Block>, AllocError>
+    ensures blocks { IfOk result (λ blocks. blocks.items ≡ numbering.now.blocks) }
+    ensures few { length numbering.now.blocks ≤ 64000000 }
+{
+    let mut blocks = Vec::with_capacity(alloc, numbering.len() as usize)?;
+    for id in 0..numbering.len() {
+        blocks.push(numbering.block(id))?;
+    }
+    Ok(blocks)
+}
+
+fn values_by_id(
+    alloc: Global,
+    numbering: &Numbering,
+    rows: &[Valued],
+    plan: &Plan,
+) -> Result<Values, AllocError>
+    requires numbering { IsNumbering (blocks_of rows.now) numbering.now }
+    requires worths { All (λ row. row.worths ≡ worths_by (formulas_of_plan plan.now) row.block) rows.now }
+    ensures { IfOk result (λ values. values ≡ map (values_of plan.now) numbering.now.blocks) }
+{
+    let width = plan.formulas().len();
+    let count = numbering.len() as usize;
+    let mut all = Vec::with_capacity(alloc, count * width)?;
+    for id in 0..numbering.len() {
+        put_values(&mut all, row_of(numbering, rows, id), plan)?;
+    }
+    Ok(Values::new(all, count, width))
+}
+
+// The row of the block that has an identifier.
+fn row_of<'a>(numbering: &Numbering, rows: &'a [Valued], id: u32) -> &'a Valued
+    requires numbering { IsNumbering (blocks_of rows.now) numbering.now }
+    requires within { id < length numbering.now.blocks }
+    ensures block { slice_get numbering.now.blocks id ≡ Some result.now.block }
+    ensures row { Contains rows.now result.now }
+{
+    &rows[numbering.position(id) as usize]
+}
+
+fn put_values(all: &mut Vec<Dec>, row: &Valued, plan: &Plan) -> Result<(), AllocError>
+    requires { row.now.worths ≡ worths_by (formulas_of_plan plan.now) row.now.block }
+    ensures { OnOk result (all.new.items ≡ all.old.items ++ values_of plan.now row.now.block) }
+{
+    // A formula of a plan gives worths that a decimal can hold.
+    worths_are_in_range();
+    let _formulas = plan.formulas();
+    put_in_hundreds(all, row.worths.as_slice())
+}
+
+fn put_in_hundreds(all: &mut Vec<Dec>, cents: &[i128]) -> Result<(), AllocError>
+    requires { All IsWorth cents.now }
+    ensures { OnOk result (all.new.items ≡ all.old.items ++ map in_hundreds cents.now) }
+{
+    for worth in cents {
+        all.push(in_hundreds(*worth))?;
+    }
+    Ok(())
+}
+
+fn in_hundreds(cents: i128) -> Dec
+    requires { IsWorth cents }
+    ensures { result ≡ in_hundreds cents }
+{
+    Dec::new(cents * 10_000).unwrap()
+}
+
+#[tactic(auto, using(crate::proofs::BuildFacts::pairs_next))]
+fn covered_pairs(alloc: Global, plan: &Plan) -> Result<Vec<Covering>, AllocError>
+    ensures { IfOk result (λ pairs. pairs.items ≡ covered plan.now) }
+{
+    let mut pairs = Vec::new(alloc);
+    for destination in 0..plan.formulas().len() {
+        put_covering(&mut pairs, plan.resources(), destination as u8)?;
+    }
+    Ok(pairs)
+}
+
+fn put_covering(
+    pairs: &mut Vec<Covering>,
+    resources: &[Resource],
+    destination: u8,
+) -> Result<(), AllocError>
+    requires { length resources.now ≤ 8 }
+    ensures { OnOk result (pairs.new.items ≡ pairs.old.items ++ covering resources.now destination) }
+{
+    for (number, resource) in resources.iter().enumerate() {
+        put_if_covers(pairs, resource, number as u8, destination)?;
+    }
+    Ok(())
+}
+
+fn put_if_covers(
+    pairs: &mut Vec<Covering>,
+    resource: &Resource,
+    number: u8,
+    destination: u8,
+) -> Result<(), AllocError>
+    ensures { OnOk result (pairs.new.items
+        ≡ pairs.old.items ++ (if list_any (λ e. e == destination) resource.now.covers then (destination, number) ∷ [] else [])) }
+{
+    if resource.covers.as_slice().contains(&destination) {
+        pairs.push((destination, number))?;
+    }
+    Ok(())
+}
+
+fn coefs_by_id(
+    alloc: Global,
+    pairs: &[Covering],
+    blocks: &[Block],
+) -> Result<Vec<Coef>, AllocError>
+    requires { length blocks.now ≤ 64000000 }
+    ensures { IfOk result (λ coefs. coefs.items ≡ coefs_of pairs.now blocks.now) }
+{
+    let mut coefs = Vec::new(alloc);
+    for (id, block) in blocks.iter().enumerate() {
+        put_coefs(&mut coefs, pairs, id as u32, block)?;
+    }
+    Ok(coefs)
+}
+
+fn put_coefs(
+    coefs: &mut Vec<Coef>,
+    pairs: &[Covering],
+    id: u32,
+    block: &Block,
+) -> Result<(), AllocError>
+    ensures { OnOk result (coefs.new.items ≡ coefs.old.items ++ block_coefs pairs.now (id, block.now)) }
+{
+    if block.kg == 0 {
+        return Ok(());
+    }
+    let tonnes = Dec::new(i128::from(block.kg) * 1000).unwrap();
+    for (destination, resource) in pairs {
+        coefs.push(Coef {
+            b: id,
+            d: *destination,
+            r: *resource,
+            v: tonnes,
+        })?;
+    }
+    Ok(())
+}
