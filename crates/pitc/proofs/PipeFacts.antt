@@ -1,6 +1,6 @@
 -- What the parts of a run give each other.
-use Rattle.std.proofs.Common.{◌≡◌, ◌<◌, ◌≤◌, ◌+◌, ◌++◌, ◌&&◌, ◌||◌, ◌==◌, ℕ, List, [], ◌∷◌, Bool, true, false, nat_lt, refl, sym, ◌∙◌, ap, subst, arith, length, get_or, All, Option, Some, None, Result, Ok, Err}
-use Rattle.std.specs.Prelude.{count_by, slice_index_or}
+use Rattle.std.proofs.Common.{◌≡◌, ◌<◌, ◌≤◌, ◌+◌, ◌&&◌, ◌||◌, ◌==◌, ℕ, List, [], ◌∷◌, Bool, true, false, nat_lt, refl, sym, ◌∙◌, ap, subst, arith, length, get_or, All, None, Result, Ok, Err}
+use Rattle.std.specs.Prelude.{count_by, slice_index_or, IfOk}
 use Rattle.std.proofs.lemmas.Bool.{and_parts, eqb-true}
 use Rattle.std.proofs.lemmas.List.Elements.{All-nil, All-cons, All-append, All-head, All-tail, All-weaker}
 use Rattle.pit_model.specs.declared.block.Block.{Block}
@@ -105,3 +105,8 @@ repeat_refused plan formulas texts (Same first again) none h = (none, h)
 repeat_refused plan formulas texts (Settings kind) none h = absurd h
 repeat_refused plan formulas texts (TooLong file) none h = absurd h
 repeat_refused plan formulas texts (Row file fault) none h = absurd h
+
+-- what always holds also holds of an Ok
+pub on_ok : {T E : Type 0} (r : Result T E) (P : Type 0) → P → IfOk r (λ _. P)
+on_ok (Ok x) P p = p
+on_ok (Err e) P p = tt

@@ -1,8 +1,9 @@
 //! The pipe form: from the pieces of the input to the printed instance.
 
 ghost use Rattle.std.specs.Prelude.{◌≡◌, ◌≢◌, ◌<◌, ◌≤◌, ◌++◌, Err, length, All, IfErr, IfOk, OnErr};
-ghost use Rattle.mine_instance.specs.OfModel.{AreValued, instance};
+ghost use Rattle.mine_instance.specs.OfModel.{formulas_of_plan, instance};
 ghost use Rattle.pit_model.specs.Destinations.{formulas_of};
+ghost use Rattle.valuers.specs.Valuing.{worths_by};
 ghost use Rattle.precedence.specs.Identifier.{blocks_of};
 ghost use Rattle.pitc.specs.Printed.{printed};
 ghost use Rattle.pitc.specs.Reading.{HasPlace};
@@ -21,6 +22,7 @@ use pit_model::plan::Plan;
 use precedence::preds;
 use std::alloc::Global;
 use valuers::Valued;
+use zone_csv::laws::zone_files;
 
 #[cfg(test)]
 mod tests;
@@ -39,7 +41,7 @@ pub fn pipe(
     ensures destinations { length zones.now ≡ length plan.now.cones → formulas_of destinations.now ≢ formulas_in plan.now
         → result ≡ Err (Refusal.Settings SettingsFault.Destinations) }
     ensures accepted { IfOk result (λ count. IsAccepted plan.now zones.now × (count ≡ length (rows_of plan.now zones.now))) }
-    ensures printed { IfOk result (λ _. out.new.items ≡ out.old.items ++ printed (instance plan.now (rows_of plan.now zones.now))) }
+    ensures printed { IfOk result (λ _. out.new.items ≡ out.old.items ++ printed (instance plan.now (blocks_of (rows_of plan.now zones.now)))) }
     ensures refused { IfErr result (PipeRefused plan.now (formulas_of destinations.now) zones.now) }
     ensures kept { OnErr result (out.new.items ≡ out.old.items) }
 {
@@ -49,6 +51,7 @@ pub fn pipe(
     if !are_the_plans(destinations, plan) {
         return Err(Refusal::Settings(SettingsFault::Destinations));
     }
+    zone_files();
     let mut rows = Vec::new(alloc);
     read_zones(alloc, zones, plan, destinations, &mut rows)?;
     let text = compiled(alloc, rows.as_slice(), plan)?;
@@ -61,9 +64,9 @@ fn compiled(alloc: Global, rows: &[Valued], plan: &Plan) -> Result<Vec<u8>, Refu
     requires few { length rows.now ≤ 64000000 }
     requires placed { All HasPlace rows.now }
     requires zones { All (λ row. row.block.zone < length plan.now.cones) rows.now }
-    requires valued { AreValued plan.now rows.now }
+    requires valued { All (λ row. row.worths ≡ worths_by (formulas_of_plan plan.now) row.block) rows.now }
     ensures apart { IfOk result (λ _. AreApart (blocks_of rows.now)) }
-    ensures printed { IfOk result (λ text. text.items ≡ printed (instance plan.now rows.now)) }
+    ensures printed { IfOk result (λ text. text.items ≡ printed (instance plan.now (blocks_of rows.now))) }
     ensures refused { IfErr result (IsRepeat rows.now) }
 {
     let numbering = numbered(alloc, rows)?;
