@@ -16,4 +16,4 @@ preds-requires c =
 pub returns-clause-apart : goal.returns-clause-apart
 returns-clause-apart c =
     on_ok c.printed.result (AreApart (blocks_of c.args.rows.now))
-      (apart (blocks_of c.args.rows.now) c.in_ok-numbering.numbering c.in_ok-numbering.ensures.numbering)
+    (apart (blocks_of c.args.rows.now) c.in_ok-numbering.numbering c.in_ok-numbering.ensures.numbering)

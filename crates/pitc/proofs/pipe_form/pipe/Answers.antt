@@ -18,8 +18,8 @@ compiled-requires-clause-zones g c =
     let now = rw c.new-rows.ensures.items at c.in_ok-read_zones.ensures.reads.1 in
     let whole : c.as_slice.result.now ≡ rows_of plan texts = c.as_slice.ensures.value ∙ now in
     subst (λ (rows : List Valued). All InPlan rows) (sym whole)
-      (All-weaker InFiles InPlan (λ row h. omega (arith, count, h)) (rows_of plan texts)
-        (zones_there plan.grid (formulas_in plan) c.zone_files.ensures.own texts 0 few))
+    (All-weaker InFiles InPlan (λ row h. omega (arith, count, h)) (rows_of plan texts)
+    (zones_there plan.grid (formulas_in plan) c.zone_files.ensures.own texts 0 few))
 
 pub compiled-requires-clause-valued : goal.compiled-requires-clause-valued
 compiled-requires-clause-valued g c =
