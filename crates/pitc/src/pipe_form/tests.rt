@@ -214,6 +214,7 @@ fn worked_examples(rt: HostRuntime) -> Result<(), Fail> {
         let input = with_lines(rt.alloc(), input)?;
         let part = with_lines(rt.alloc(), part)?;
         let text = answer_to(rt.alloc(), input.as_slice())?;
+        assert!(rt; !part.is_empty(), "{name}");
         let found = text
             .as_slice()
             .windows(part.len())
