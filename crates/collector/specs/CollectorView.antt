@@ -1,5 +1,5 @@
 -- How the shelves of a collector keep the items that it holds.
-use Rattle.std.specs.Prelude.{◌≡◌, ℕ, ◌+◌, ◌-◌, ◌<◌, ◌≤◌, ◌==◌, ◌||◌, cond, nat_le, nat_lt, is_some, true, List, [], ◌++◌, length, replicate, slice_get, slice_set, Option, Some, None}
+use Rattle.std.specs.Prelude.{◌≡◌, ℕ, ◌+◌, ◌-◌, ◌<◌, ◌≤◌, ◌==◌, ◌||◌, if◌then◌else◌, nat_le, nat_lt, is_some, true, List, [], ◌++◌, length, replicate, slice_get, slice_set, Option, Some, None}
 use Rattle.std.specs.Option.{option_and_then, unwrap_or, option_map}
 use Rattle.valuers.specs.declared.item.Item.{Item}
 use Rattle.valuers.specs.declared.item.Item.TheVariants.{Row, End}
@@ -15,7 +15,7 @@ use Rattle.collector.specs.Found.{row_at, end_at, has_past}
 
 -- the row itself, if it is of this place
 abbrev pub if_at : ℕ → Valued → Option Valued
-if_at place v = cond (v.place == place) (Some v) None
+if_at place v = if v.place == place then Some v else None
 
 -- the row of a place on a shelf, where one is held
 abbrev pub slot : List Valued → ℕ → Option Valued
@@ -24,7 +24,7 @@ slot rows place = option_and_then (if_at place) (slice_get rows place)
 -- the rows with one more, which also fills the places before it that no row reached
 abbrev pub with_row : List Valued → Valued → List Valued
 with_row rows v =
-    cond (nat_lt v.place (length rows)) (slice_set rows v.place v) (rows ++ replicate (v.place + 1 - length rows) v)
+    if nat_lt v.place (length rows) then slice_set rows v.place v else rows ++ replicate (v.place + 1 - length rows) v
 
 -- the rows on the shelf of a file
 abbrev pub rows_in : List Shelf → ℕ → List Valued
@@ -41,20 +41,22 @@ IsBare s = (s.rows.items ≡ []) × (s.end ≡ None)
 -- the fault of a row of this place, on a shelf with these rows and this end mark
 abbrev pub row_fault : List Valued → Option ℕ → ℕ → Option AddFault
 row_fault rows end place =
-    cond (is_some (slot rows place)) (Some Double)
-    (cond (nat_le 1000000 place) (Some Stranger)
-    (cond (is_after end place) (Some AfterEnd) None))
+    if is_some (slot rows place) then Some Double
+    else if nat_le 1000000 place then Some Stranger
+    else if is_after end place then Some AfterEnd
+    else None
 
 -- the fault of an end mark of this count
 abbrev pub end_fault : List Valued → Option ℕ → ℕ → Option AddFault
 end_fault rows end count =
-    cond (is_some end) (Some SecondEnd)
-    (cond (nat_lt 1000000 count || nat_lt count (length rows)) (Some BadCount) None)
+    if is_some end then Some SecondEnd
+    else if nat_lt 1000000 count || nat_lt count (length rows) then Some BadCount
+    else None
 
 -- the fault of an item, by the rows and the end marks of all files
 abbrev pub fault_in : ℕ → (ℕ → List Valued) → (ℕ → Option ℕ) → Item → Option AddFault
-fault_in files rows ends (Row v) = cond (nat_le files v.file) (Some Stranger) (row_fault (rows v.file) (ends v.file) v.place)
-fault_in files rows ends (End file count) = cond (nat_le files file) (Some Stranger) (end_fault (rows file) (ends file) count)
+fault_in files rows ends (Row v) = if nat_le files v.file then Some Stranger else row_fault (rows v.file) (ends v.file) v.place
+fault_in files rows ends (End file count) = if nat_le files file then Some Stranger else end_fault (rows file) (ends file) count
 
 -- the file of an item
 abbrev pub file_of : Item → ℕ
@@ -68,9 +70,9 @@ AreSame rows ends rows' ends' = ((file : ℕ) → rows' file ≡ rows file) × (
 -- the item's file has it, and all else is as before
 abbrev pub ArePut : Item → (ℕ → List Valued) → (ℕ → Option ℕ) → (ℕ → List Valued) → (ℕ → Option ℕ) → Type 0
 ArePut (Row v) rows ends rows' ends' =
-    ((file : ℕ) → rows' file ≡ cond (v.file == file) (with_row (rows file) v) (rows file)) × ((file : ℕ) → ends' file ≡ ends file)
+    ((file : ℕ) → rows' file ≡ (if v.file == file then with_row (rows file) v else rows file)) × ((file : ℕ) → ends' file ≡ ends file)
 ArePut (End f count) rows ends rows' ends' =
-    ((file : ℕ) → rows' file ≡ rows file) × ((file : ℕ) → ends' file ≡ cond (f == file) (Some count) (ends file))
+    ((file : ℕ) → rows' file ≡ rows file) × ((file : ℕ) → ends' file ≡ (if f == file then Some count else ends file))
 
 -- these rows and this end mark are those of the file among the items
 pub record IsShelved (held : List Item) (file : ℕ) (rows : List Valued) (end : Option ℕ) : Type 0 where

@@ -1,5 +1,5 @@
 -- Which items are refused where others are held.
-use Rattle.std.specs.Prelude.{ℕ, Bool, false, cond, ◌||◌, nat_le, nat_lt, is_some, List, Option, Some, None}
+use Rattle.std.specs.Prelude.{ℕ, Bool, false, if◌then◌else◌, ◌||◌, nat_le, nat_lt, is_some, List, Option, Some, None}
 use Rattle.valuers.specs.declared.item.Item.{Item}
 use Rattle.valuers.specs.declared.item.Item.TheVariants.{Row, End}
 use Rattle.collector.specs.declared.add_fault.AddFault.{AddFault}
@@ -14,10 +14,12 @@ is_after (Some count) place = nat_le count place
 -- the first fault of an item, where these were added before it
 abbrev pub fault : ℕ → List Item → Item → Option AddFault
 fault files held (Row v) =
-    cond (is_some (row_at v.file v.place held)) (Some Double)
-    (cond (nat_le files v.file || nat_le 1000000 v.place) (Some Stranger)
-    (cond (is_after (end_at v.file held) v.place) (Some AfterEnd) None))
+    if is_some (row_at v.file v.place held) then Some Double
+    else if nat_le files v.file || nat_le 1000000 v.place then Some Stranger
+    else if is_after (end_at v.file held) v.place then Some AfterEnd
+    else None
 fault files held (End file count) =
-    cond (nat_le files file) (Some Stranger)
-    (cond (is_some (end_at file held)) (Some SecondEnd)
-    (cond (nat_lt 1000000 count || has_past file count held) (Some BadCount) None))
+    if nat_le files file then Some Stranger
+    else if is_some (end_at file held) then Some SecondEnd
+    else if nat_lt 1000000 count || has_past file count held then Some BadCount
+    else None

@@ -1,5 +1,5 @@
 -- What a list of items holds of a file.
-use Rattle.std.specs.Prelude.{ℕ, Bool, false, cond, ◌&&◌, ◌||◌, ◌==◌, nat_le, List, [], ◌∷◌, Option, Some, None}
+use Rattle.std.specs.Prelude.{ℕ, Bool, false, if◌then◌else◌, ◌&&◌, ◌||◌, ◌==◌, nat_le, List, [], ◌∷◌, Option, Some, None}
 use Rattle.valuers.specs.declared.item.Item.{Item}
 use Rattle.valuers.specs.declared.item.Item.TheVariants.{Row, End}
 use Rattle.valuers.specs.declared.item.Valued.{Valued}
@@ -17,14 +17,14 @@ is_end file (End f n) = f == file
 -- the first row of this file and place
 abbrev pub row_at : ℕ → ℕ → List Item → Option Valued
 row_at file place [] = None
-row_at file place (Row v ∷ items) = cond ((v.file == file) && (v.place == place)) (Some v) (row_at file place items)
+row_at file place (Row v ∷ items) = if (v.file == file) && (v.place == place) then Some v else row_at file place items
 row_at file place (End f n ∷ items) = row_at file place items
 
 -- the count of the first end mark of this file
 abbrev pub end_at : ℕ → List Item → Option ℕ
 end_at file [] = None
 end_at file (Row v ∷ items) = end_at file items
-end_at file (End f n ∷ items) = cond (f == file) (Some n) (end_at file items)
+end_at file (End f n ∷ items) = if f == file then Some n else end_at file items
 
 -- some row of this file is at this place or past it
 abbrev pub has_past : ℕ → ℕ → List Item → Bool

@@ -1,6 +1,6 @@
 //! What is held of all files.
 
-ghost use Rattle.std.specs.Prelude.{◌≡◌, ℕ, ◌<◌, ◌≤◌, ◌++◌, [], ◌∷◌, length, map, cond, ◌==◌, Some, Err, IfOk, IfErr, IfSome, IfNone, OnOk, OnErr};
+ghost use Rattle.std.specs.Prelude.{◌≡◌, ℕ, ◌<◌, ◌≤◌, ◌++◌, [], ◌∷◌, length, map, if◌then◌else◌, ◌==◌, Some, Err, IfOk, IfErr, IfSome, IfNone, OnOk, OnErr};
 ghost use Rattle.collector.specs.CollectorView.{rows_in, end_in, with_row, fault_in, file_of, ArePut, AreSame, IsFilled, IsFirstLacking};
 ghost use Rattle.collector.specs.Fault.{fault};
 ghost use Rattle.collector.specs.Lists.{AreLists, IsFinishFault};
@@ -14,8 +14,9 @@ use std::alloc::{AllocError, Global};
 use std::marker::Model;
 use valuers::{Item, Valued};
 
-/// Takes the items of all files in any order, and hands over the rows of each file in order of place. Contracts see the number of
-/// files, and the items in the order in which they were added.
+/// Takes the items of all files in any order, and hands over the rows of each file in order of place. It takes room for the rows of
+/// a file up to the last place that is held, whether or not those before it are. Contracts see the number of files, and the items in
+/// the order in which they were added.
 #[derive(Drop)]
 pub struct Collector {
     alloc: Global,
@@ -74,8 +75,7 @@ impl Collector {
         ensures missing { IfErr result (IsFinishFault self.files self.items) }
     {
         require_filled(&self.shelves)?;
-        let lists = rows_of(self.alloc, self.shelves)?;
-        Ok(lists)
+        Ok(rows_of(self.alloc, self.shelves)?)
     }
 
     /// What is wrong with an item.
@@ -122,7 +122,7 @@ fn put_item(shelves: &mut [Shelf], item: &Item) -> Result<(), AllocError>
 fn put_row(shelves: &mut [Shelf], row: Valued) -> Result<(), AllocError>
     requires { row.file < length shelves.old }
     ensures rows { OnOk result ((file : ℕ) → rows_in shelves.new file
-        ≡ cond (row.file == file) (with_row (rows_in shelves.old file) row) (rows_in shelves.old file)) }
+        ≡ (if row.file == file then with_row (rows_in shelves.old file) row else rows_in shelves.old file)) }
     ensures err { OnErr result ((file : ℕ) → rows_in shelves.new file ≡ rows_in shelves.old file) }
     ensures ends { (file : ℕ) → end_in shelves.new file ≡ end_in shelves.old file }
     ensures count { length shelves.new ≡ length shelves.old }
@@ -134,7 +134,7 @@ fn put_row(shelves: &mut [Shelf], row: Valued) -> Result<(), AllocError>
 fn put_end(shelves: &mut [Shelf], file: u8, count: u32)
     requires { file < length shelves.old }
     ensures rows { (other : ℕ) → rows_in shelves.new other ≡ rows_in shelves.old other }
-    ensures ends { (other : ℕ) → end_in shelves.new other ≡ cond (file == other) (Some count) (end_in shelves.old other) }
+    ensures ends { (other : ℕ) → end_in shelves.new other ≡ (if file == other then Some count else end_in shelves.old other) }
     ensures count { length shelves.new ≡ length shelves.old }
 {
     shelves[file as usize].end = Some(count);
@@ -159,7 +159,7 @@ fn require_filled(shelves: &[Shelf]) -> Result<(), FinishFault>
     Ok(())
 }
 
-/// The rows of each shelf.
+/// The rows of each shelf, which are not copied.
 fn rows_of(alloc: Global, shelves: Vec<Shelf>) -> Result<Vec<Rows>, AllocError>
     ensures { IfOk result (λ lists. lists.items ≡ map (λ shelf. shelf.rows.items) shelves.items) }
 {

@@ -35,6 +35,7 @@ pub fn open(
     requires capacity { (1 ≤ capacity) × (capacity ≤ 4096) }
     ensures files { IfOk result (λ ends. ends.0.files ≡ files) }
     ensures takers { IfOk result (λ ends. ends.0.takers ≡ valuers) }
+    ensures capacity { IfOk result (λ ends. ends.0.lane.2 ≡ capacity) }
     ensures puts { IfOk result (λ ends. ArePutsFrom ends.0.lane files 0 ends.1.items) }
     ensures unsent { IfOk result (λ ends. All (λ put. put.sent ≡ []) ends.1.items) }
     ensures takes { IfOk result (λ ends. AreTakesFrom ends.0.lane valuers 0 ends.2.items) }

@@ -5,3 +5,4 @@ mod Uncut
 mod Walk
 pub mod RowSteps
 pub mod SameFormulas
+pub mod PipeFacts

@@ -1,5 +1,6 @@
 //! Why a run is refused.
 
+use minelib_text::write_fault::WriteFault;
 use std::alloc::{AllocError, AllocFailed};
 use thiserror::Error;
 use zone_csv::row_fault::RowFault;
@@ -63,6 +64,18 @@ impl<T: Drop> From<AllocFailed<T>> for Refusal {
     ghost from_gives = { λ _ refusal. refusal ≡ OutOfMemory };
 
     fn from(_refusal: AllocFailed<T>) -> Refusal {
+        Refusal::OutOfMemory
+    }
+}
+
+// The sinks of a run are in memory, and fail only where memory is refused.
+impl From<WriteFault> for Refusal {
+    ghost use Rattle.std.specs.Prelude.{◌≡◌};
+    ghost use Rattle.pitc.specs.declared.refusal.Refusal.TheVariants.{OutOfMemory};
+
+    ghost from_gives = { λ _ refusal. refusal ≡ OutOfMemory };
+
+    fn from(_fault: WriteFault) -> Refusal {
         Refusal::OutOfMemory
     }
 }

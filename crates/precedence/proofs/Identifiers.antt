@@ -15,7 +15,7 @@ use Rattle.precedence.specs.Identifier.{comes_before, id, IsNumbering}
 use Rattle.precedence.specs.Seen.{placed, IsPlaced, IsSortedTable}
 use Rattle.precedence.proofs.Counts.{count_below, count_keys}
 use Rattle.precedence.proofs.Order.{before_is}
-use Rattle.precedence.proofs.Places.{length-placed, placed_at, all_placed}
+use Rattle.precedence.proofs.SeenPlaces.{length-placed, placed_at, all_placed}
 
 pub keys_rise : (keys : List ℕ) → IsSorted nat_cmp keys → IsDistinct nat_eq keys → IsStrictlyIncreasing keys
 keys_rise keys sorted distinct = IsStrictlyIncreasing-from_distinct keys (IsNonDecreasingBy-from_sort (λ x. x) keys sorted) distinct

@@ -1,9 +1,12 @@
+pub mod AllLists
 pub mod Counts
 pub mod Geometry
 pub mod Identifiers
 pub mod Order
 pub mod Pieces
-pub mod Places
+pub mod RunsOfRows
+pub mod SeenPlaces
 pub mod Reaches
 pub mod Starts
 pub mod Tables
+pub mod ZoneFacts

@@ -66,4 +66,32 @@ start_before t (suc k) (c ∷ cs) lt above = ⊎_elim
     (λ le. omega (arith, start_no t c cs le))
     (cases_lt c t)
 
+pub start_before_in : (t k : ℕ) (cs : List ℕ) → k < start_of t cs → get_or cs k 0 < t
+start_before_in t k [] lt = absurd (omega arith)
+start_before_in t zero (c ∷ cs) lt = ⊎_elim
+    (λ first. first)
+    (λ le. absurd (omega (arith, start_no t c cs le)))
+    (cases_lt c t)
+start_before_in t (suc k) (c ∷ cs) lt = ⊎_elim
+    (λ first. start_before_in t k cs (omega (arith, start_yes t c cs first)))
+    (λ le. absurd (omega (arith, start_no t c cs le)))
+    (cases_lt c t)
+
+pub at_start : (t : ℕ) (cs : List ℕ) → start_of t cs < length cs → t ≤ get_or cs (start_of t cs) 0
+at_start t [] lt = absurd (omega arith)
+at_start t (c ∷ cs) lt = ⊎_elim
+    (λ first.
+      let here = start_yes t c cs first in
+      let later = at_start t cs (omega (arith, here)) in
+      omega (arith, ap (λ k. get_or (c ∷ cs) k 0) here))
+    (λ le. omega (arith, ap (λ k. get_or (c ∷ cs) k 0) (start_no t c cs le)))
+    (cases_lt c t)
+
+pub start_grows : (t u : ℕ) (cs : List ℕ) → t ≤ u → start_of t cs ≤ start_of u cs
+start_grows t u [] le = omega arith
+start_grows t u (c ∷ cs) le = ⊎_elim
+    (λ lt. omega (arith, start_yes t c cs lt, start_yes u c cs (omega arith), start_grows t u cs le))
+    (λ no. omega (arith, start_no t c cs no))
+    (cases_lt c t)
+
 pub ruleset starts = (start_after, start_before, start_within)

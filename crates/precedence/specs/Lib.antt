@@ -1,6 +1,7 @@
 pub mod Codes
 pub mod Cone
 pub mod Identifier
+pub mod Lists
 pub mod NumberingView
 pub mod PredsView
 pub mod Reach
@@ -8,3 +9,4 @@ pub mod Rows
 pub mod SameBlock
 pub mod Search
 pub mod Seen
+pub mod ZoneTables

@@ -1,8 +1,9 @@
 //! The predecessors of each block of a model.
 
-ghost use Rattle.std.specs.Prelude.{◌≡◌, ◌-◌, ◌≤◌, ◌<◌, ◌++◌, [], ◌∷◌, OnOk, OnErr, Some, length, take, drop, slice_get, slice_index, sum_by};
+ghost use Rattle.std.specs.Prelude.{◌≡◌, ◌<◌, ◌++◌, [], ◌∷◌, OnOk, OnErr, Some, length, slice_get, slice_index, sum_by};
 ghost use Rattle.precedence.specs.PredsView.{pieces, start_at, AreEnds};
 
+use crate::part::part;
 use std::alloc::{AllocError, Global};
 use std::marker::Model;
 
@@ -85,14 +86,6 @@ fn piece<'a>(flat: &'a [u32], ends: &[usize], index: usize) -> &'a [u32]
 {
     let start = start_of_piece(ends, index);
     part(flat, start, ends[index])
-}
-
-fn part(flat: &[u32], start: usize, end: usize) -> &[u32]
-    requires in_order { start ≤ end }
-    requires within { end ≤ length flat.now }
-    ensures { result.now ≡ take (end - start) (drop start flat.now) }
-{
-    &flat[start..end]
 }
 
 fn start_of_piece(ends: &[usize], index: usize) -> usize

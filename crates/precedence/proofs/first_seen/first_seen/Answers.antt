@@ -4,7 +4,7 @@ use Rattle.pit_model.specs.declared.block.Block.{Block}
 use Rattle.precedence.specs.Codes.{code}
 use Rattle.precedence.specs.Identifier.{blocks_of}
 use Rattle.precedence.specs.Seen.{placed}
-use Rattle.precedence.proofs.Places.{block_at, first_again, placed_more}
+use Rattle.precedence.proofs.SeenPlaces.{block_at, first_again, placed_more}
 use Rattle.precedence.proofs.first_seen.first_seen.Goals as goal
 
 pub returns-in-Some-clause-same : goal.returns-in-Some-clause-same

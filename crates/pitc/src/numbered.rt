@@ -1,0 +1,42 @@
+//! The numbering of the rows of a model.
+
+ghost use Rattle.std.specs.Prelude.{◌<◌, ◌≤◌, length, All, IfErr, IfOk};
+ghost use Rattle.precedence.specs.Identifier.{blocks_of, IsNumbering};
+ghost use Rattle.pitc.specs.Reading.{HasPlace};
+ghost use Rattle.pitc.specs.Verdict.{IsRepeat, IsRowAt};
+
+use crate::refusal::{Refusal, RowAt};
+use precedence::{NumberError, Numbering, number};
+use std::alloc::Global;
+use valuers::Valued;
+
+/// The blocks of the rows by identifier. Fails with `Same` where a block stands twice, naming the first row that repeats another and
+/// that one, or where memory is refused.
+pub fn numbered(alloc: Global, rows: &[Valued]) -> Result<Numbering, Refusal>
+    requires few { length rows.now ≤ 64000000 }
+    requires placed { All HasPlace rows.now }
+    ensures numbering { IfOk result (IsNumbering (blocks_of rows.now)) }
+    ensures refused { IfErr result (IsRepeat rows.now) }
+{
+    match number(alloc, rows) {
+        Ok(numbering) => Ok(numbering),
+        Err(NumberError::Same { first, again }) => Err(Refusal::Same {
+            first: row_at(rows, first),
+            again: row_at(rows, again),
+        }),
+        Err(NumberError::OutOfMemory) => Err(Refusal::OutOfMemory),
+    }
+}
+
+// The row at a position: the header is record 1, so the row at place 0 is record 2.
+fn row_at(rows: &[Valued], position: u32) -> RowAt
+    requires there { position < length rows.now }
+    requires placed { All HasPlace rows.now }
+    ensures { IsRowAt rows.now position result }
+{
+    let row = rows[position as usize];
+    RowAt {
+        file: row.file,
+        row: row.place + 2,
+    }
+}

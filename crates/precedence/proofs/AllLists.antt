@@ -1,0 +1,78 @@
+-- What the rows of the zones' cones say of all blocks is what lies above each.
+use Rattle.std.proofs.Common.{◌≡◌, ℕ, ◌+◌, ◌<◌, ◌≤◌, Bool, true, false, List, [], ◌∷◌, Option, Some, None, All, length, map, get_or, slice_get, refl, sym, ap, subst, ◌∙◌, arith, ⊎_elim, if◌then◌else◌}
+use Rattle.std.proofs.lemmas.List.{get_or_default}
+use Rattle.std.proofs.lemmas.Option.{slice_get_cases, slice_get-get_or, get_or_from_slice_get}
+use Rattle.std.proofs.lemmas.List.Elements.{All-head, All-tail}
+use Rattle.pit_model.specs.Plan.{PlanParts}
+use Rattle.pit_model.specs.declared.block.Block.{Block}
+use Rattle.pit_model.specs.declared.cone.Cone.{Cone}
+use Rattle.pit_model.specs.declared.cone.Slope.{Slope}
+use Rattle.pit_model.specs.declared.grid.Grid.{Grid}
+use Rattle.precedence.specs.Codes.{code, codes}
+use Rattle.precedence.specs.Cone.{above, is_above, places_where, preds, HasZones}
+use Rattle.precedence.specs.Lists.{in_cone}
+use Rattle.precedence.specs.Rows.{is_in_rows, AreInOrder, IsWithin, IsTable}
+use Rattle.precedence.specs.ZoneTables.{HasTables, IsTold, rows_in, zone_rows}
+use Rattle.precedence.specs.declared.cone_table.ConeTable.{ConeTable}
+use Rattle.precedence.specs.declared.extent.Extent.{Extent}
+
+-- an element that is there meets what all meet
+pub all_at : {X : Type 0} (P : X → Type 0) (xs : List X) (k : ℕ) (x : X) → All P xs → k < length xs → slice_get xs k ≡ Some x → P x
+all_at P xs k x all lt is = subst P (get_or_from_slice_get xs k x x is) (all k x lt)
+
+-- a test of codes finds the blocks that pass the same test
+pub blocks_where : (test : ℕ → Bool) (other : Block → Bool) (n : ℕ) (bs : List Block) → All (λ b. test (code b) ≡ other b) bs → places_where test n (codes bs) ≡ places_where other n bs
+blocks_where test other n [] h = refl
+blocks_where test other n (b ∷ bs) h =
+    let first = All-head (λ b. test (code b) ≡ other b) b bs h in
+    let rest = blocks_where test other (n + 1) bs (All-tail (λ b. test (code b) ≡ other b) b bs h) in
+    λ j. if first j then n ∷ rest j else rest j
+
+map_same : {X Y : Type 0} (f g : X → Y) (xs : List X) → All (λ x. f x ≡ g x) xs → map f xs ≡ map g xs
+map_same f g [] h = refl
+map_same f g (x ∷ xs) h =
+    let first = All-head (λ x. f x ≡ g x) x xs h in
+    let rest = map_same f g xs (All-tail (λ x. f x ≡ g x) x xs h) in
+    λ j. first j ∷ rest j
+
+module _ (grid : Grid) (cones : List Cone) (extent : Extent) (tables : List ConeTable) (of_zone : List ℕ) (blocks : List Block)
+    (has : HasTables grid cones extent tables of_zone)
+    (near : (i j : ℕ) (d : Block) → i < length blocks → j < length blocks → IsWithin extent (get_or blocks i d) (get_or blocks j d))
+    (zones : All (λ b. b.zone < length cones) blocks) where
+  abbrev place : ℕ → ℕ
+  place zone = get_or of_zone zone 0
+
+  -- one block's list
+  list_is : (low : Block) → All (IsWithin extent low) blocks → low.zone < length cones
+      → in_cone tables of_zone (codes blocks) low ≡ above grid (slice_get cones low.zone) blocks low
+  list_is low close lt = ⊎_elim
+      (λ found.
+        let table : ConeTable = found.0 in
+        let cone : Cone = table.cone in
+        let same : slice_get cones low.zone ≡ Some cone =
+          slice_get-get_or cones low.zone cone lt ∙ ap (λ (c : Cone). Some c) (sym (has.same low.zone cone table lt) ∙ ap (λ (t : ConeTable). t.cone) (get_or_from_slice_get tables (place low.zone) table table found.2)) in
+        let told = all_at (IsTold grid extent) tables (place low.zone) table has.told found.1 found.2 in
+        ap (λ o. places_where (is_in_rows (code low) (rows_in o)) 0 (codes blocks)) found.2
+          ∙ blocks_where (is_in_rows (code low) table.rows.items) (is_above grid cone low) 0 blocks (λ k d within. told.told low (get_or blocks k d) (close k d within))
+          ∙ ap (λ o. above grid o blocks low) (sym same))
+      (λ past. let below = has.below low.zone 0 (omega (arith, has.zones)) in absurd (omega (arith, past.0)))
+      ((slice_get_cases tables (place low.zone)).1)
+
+  pub lists_are : map (in_cone tables of_zone (codes blocks)) blocks ≡ map (λ low. above grid (slice_get cones low.zone) blocks low) blocks
+  lists_are = map_same (in_cone tables of_zone (codes blocks)) (λ low. above grid (slice_get cones low.zone) blocks low) blocks
+      (λ k d lt. list_is (get_or blocks k d) (λ j e within. subst (IsWithin extent (get_or blocks k d)) (get_or_default blocks j d e within) (near k j d lt within)) (zones k d lt))
+
+pub tables_in_order : (grid : Grid) (extent : Extent) (tables : List ConeTable) → All (IsTold grid extent) tables → All (λ t. AreInOrder t.rows.items) tables
+tables_in_order grid extent tables told k d lt = let h = told k d lt in (h.high, h.apart)
+
+-- of a plan's grid and cones, and of the blocks by identifier
+pub preds_are : (plan : PlanParts) (listed : List Block) (grid : Grid) (cones : List Cone) (extent : Extent) (tables : List ConeTable) (of_zone : List ℕ) (blocks : List Block)
+    → blocks ≡ listed → grid ≡ plan.grid → cones ≡ plan.cones
+    → HasTables grid cones extent tables of_zone
+    → ((i j : ℕ) (d : Block) → i < length blocks → j < length blocks → IsWithin extent (get_or blocks i d) (get_or blocks j d))
+    → HasZones plan listed
+    → map (in_cone tables of_zone (codes blocks)) blocks ≡ preds plan listed
+preds_are plan listed grid cones extent tables of_zone blocks e g c has near zones =
+    lists_are grid cones extent tables of_zone blocks has near
+        (λ k d lt. omega (arith, zones k d (omega (arith, ap length e)), ap (λ (bs : List Block). (get_or bs k d).zone) e, ap length c))
+        ∙ (λ j. map (λ low. above (g j) (slice_get (c j) low.zone) (e j) low) (e j))

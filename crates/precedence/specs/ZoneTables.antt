@@ -1,0 +1,36 @@
+-- The tables of cones, and which is whose.
+use Rattle.std.specs.Prelude.{◌≡◌, ℕ, ◌<◌, ◌≤◌, List, [], Option, Some, None, All, length, slice_get, slice_index, slice_index_or}
+use Rattle.pit_model.specs.declared.block.Block.{Block}
+use Rattle.pit_model.specs.declared.cone.Cone.{Cone}
+use Rattle.pit_model.specs.declared.grid.Grid.{Grid}
+use Rattle.precedence.specs.Rows.{AreInOrder, IsTable}
+use Rattle.precedence.specs.declared.bounds.Bounds.{Bounds}
+use Rattle.precedence.specs.declared.cone_table.ConeTable.{ConeTable}
+use Rattle.precedence.specs.declared.extent.Extent.{Extent}
+use Rattle.precedence.specs.declared.rows.Row.{Row}
+
+-- the bounds hold the block
+pub record Holds (bounds : Bounds) (b : Block) : Type 0 where
+  pub south : bounds.south ≤ b.y
+  pub north : b.y ≤ bounds.north
+  pub bottom : bounds.bottom ≤ b.z
+  pub top : b.z ≤ bounds.top
+
+-- the table tells of its cone
+abbrev pub IsTold : Grid → Extent → ConeTable → Type 0
+IsTold grid extent table = IsTable grid table.cone extent table.rows.items
+
+-- zone by zone, the table at the zone's index is that of its cone
+pub record HasTables (grid : Grid) (cones : List Cone) (extent : Extent) (tables : List ConeTable) (of_zone : List ℕ) : Type 0 where
+  pub zones : length of_zone ≡ length cones
+  pub below : All (λ t. t < length tables) of_zone
+  pub same : (z : ℕ) (cone : Cone) (table : ConeTable) → z < length cones → (slice_index_or tables (slice_index of_zone z) table).cone ≡ slice_index_or cones z cone
+  pub told : All (IsTold grid extent) tables
+
+abbrev pub rows_in : Option ConeTable → List Row
+rows_in None = []
+rows_in (Some table) = table.rows.items
+
+-- the rows of a zone's cone
+abbrev pub zone_rows : List ConeTable → List ℕ → ℕ → List Row
+zone_rows tables of_zone zone = rows_in (slice_get tables (slice_index of_zone zone))

@@ -1,0 +1,53 @@
+//! The bounds of a model.
+
+ghost use Rattle.std.specs.Prelude.{ℕ, ◌<◌, ◌≤◌, length, slice_index_or};
+ghost use Rattle.pit_model.specs.declared.block.Block.{Block};
+ghost use Rattle.precedence.specs.Rows.{IsWithin};
+ghost use Rattle.precedence.specs.ZoneTables.{Holds};
+
+use crate::extent::Extent;
+use pit_model::block::Block;
+use pit_model::ranges::GRID_CELLS;
+
+/// The least and greatest indices of blocks along y and z.
+#[derive(Clone, Copy, Debug)]
+pub struct Bounds {
+    pub south: u16,
+    pub north: u16,
+    pub bottom: u16,
+    pub top: u16,
+}
+
+/// The greatest distances between two of the blocks.
+pub fn extent_of(blocks: &[Block]) -> Extent
+    ensures { (i j : ℕ) (d : Block) → i < length blocks.now → j < length blocks.now → IsWithin result (slice_index_or blocks.now i d) (slice_index_or blocks.now j d) }
+{
+    let mut bounds = Bounds {
+        south: GRID_CELLS - 1,
+        north: 0,
+        bottom: GRID_CELLS - 1,
+        top: 0,
+    };
+    for block in blocks {
+        bounds = widened(bounds, block);
+    }
+    Extent {
+        rows: bounds.north.saturating_sub(bounds.south),
+        benches: bounds.top.saturating_sub(bounds.bottom),
+    }
+}
+
+/// The bounds that hold the block too.
+fn widened(bounds: Bounds, block: &Block) -> Bounds
+    ensures holds { Holds result block.now }
+    ensures more { (other : Block) → Holds bounds other → Holds result other }
+    ensures north { bounds.north < 10000 → result.north < 10000 }
+    ensures top { bounds.top < 10000 → result.top < 10000 }
+{
+    Bounds {
+        south: bounds.south.min(block.y),
+        north: bounds.north.max(block.y),
+        bottom: bounds.bottom.min(block.z),
+        top: bounds.top.max(block.z),
+    }
+}

@@ -1,0 +1,80 @@
+//! The identifiers of the blocks above a block, by runs.
+
+ghost use Rattle.std.specs.Prelude.{◌≡◌, ℕ, ◌+◌, ◌-◌, ◌<◌, ◌≤◌, ◌^◌, ◌++◌, OnOk, IfOk, length, drop, slice_index};
+ghost use Rattle.std.specs.List.Sorted.{IsStrictlyIncreasing};
+ghost use Rattle.precedence.specs.Cone.{places_where};
+ghost use Rattle.precedence.specs.Rows.{is_in_rows, pasts, start_of, AreInOrder};
+ghost use Rattle.precedence.specs.Search.{run};
+ghost use Rattle.precedence.specs.declared.rows.Row.{Row};
+
+use crate::find::find;
+use crate::hint::{Hint, NOTHING_KNOWN};
+use crate::places::Places;
+use crate::rows::Row;
+use std::alloc::AllocError;
+
+/// Appends the identifiers whose codes lie in the rows, in rising order, seen from the code `from`. `past` has where each row is
+/// past. The hints, one a row, are where the rows' runs were found for a smaller code; any others do.
+pub fn add_above(
+    list: &mut Vec<u32>,
+    places: &Places,
+    rows: &[Row],
+    past: &[u64],
+    hints: &mut [Hint],
+    from: u64,
+) -> Result<(), AllocError>
+    requires in_order { AreInOrder rows.now }
+    requires past { past.now ≡ pasts rows.now }
+    requires from { from < 10 ^ 14 }
+    ensures { OnOk result (list.new.items ≡ list.old.items ++ places_where (is_in_rows from rows.now) 0 places.now.codes.items) }
+{
+    let mut i = 0;
+    while i < rows.len() {
+        let run = add_run(list, places, rows[i], hint_at(hints, i), from)?;
+        keep_hint(hints, i, run);
+        i = next_row(places, past, i, run.past as usize, from);
+    }
+    Ok(())
+}
+
+fn hint_at(hints: &[Hint], i: usize) -> Hint {
+    hints.get(i).copied().unwrap_or(NOTHING_KNOWN)
+}
+
+fn keep_hint(hints: &mut [Hint], i: usize, run: Hint) {
+    if let Some(hint) = hints.get_mut(i) {
+        *hint = run;
+    }
+}
+
+/// Appends the identifiers whose codes lie in a row, and tells the first of them and the one past the last.
+fn add_run(list: &mut Vec<u32>, places: &Places, row: Row, hint: Hint, from: u64) -> Result<Hint, AllocError>
+    requires { from < 10 ^ 14 }
+    ensures run { OnOk result (list.new.items ≡ list.old.items ++ run from row places.now.codes.items) }
+    ensures past { IfOk result (λ found. found.past ≡ start_of (from + row.past) places.now.codes.items) }
+{
+    let codes = places.codes.as_slice();
+    let first = find(codes, hint.first as usize, from + row.first);
+    let past = find(codes, hint.past as usize, from + row.past);
+    list.extend_from_slice(places.ids(first, past))?;
+    Ok(Hint {
+        first: first as u32,
+        past: past as u32,
+    })
+}
+
+/// The first row after the row `i` that can have a code from the one of the identifier `past` on, or the number of rows.
+fn next_row(places: &Places, pasts: &[u64], i: usize, past: usize, from: u64) -> usize
+    requires rising { IsStrictlyIncreasing pasts.now }
+    requires i { i < length pasts.now }
+    ensures later { i < result }
+    ensures within { result ≤ length pasts.now }
+    ensures skipped { (k : ℕ) → i < k → k < result → past < length places.now.codes.items → slice_index pasts.now k ≤ slice_index places.now.codes.items past - from }
+{
+    if past < places.codes.len() {
+        let gap = places.codes[past].saturating_sub(from);
+        find(pasts, i + 1, gap.saturating_add(1)).max(i + 1)
+    } else {
+        pasts.len()
+    }
+}
