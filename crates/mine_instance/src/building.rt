@@ -205,3 +205,6 @@ fn put_coefs(
     }
     Ok(())
 }
+
+#[cfg(test)]
+mod tests;

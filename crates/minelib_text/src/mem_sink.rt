@@ -55,7 +55,16 @@ impl MemSink {
         MemSink::fresh(alloc, usize::MAX, nth)
     }
 
-    fn fresh(alloc: Global, step: usize, failing: u64) -> MemSink
+    /// A sink that takes at most `step` bytes of each put, and fails only where memory is refused.
+    pub fn short(alloc: Global, step: usize) -> MemSink
+        requires { 1 ≤ step }
+        ensures { IsFresh step 0 result }
+    {
+        MemSink::fresh(alloc, step, 0)
+    }
+
+    // A sink that does both.
+    pub(crate) fn fresh(alloc: Global, step: usize, failing: u64) -> MemSink
         requires { 1 ≤ step }
         ensures { IsFresh step failing result }
     {

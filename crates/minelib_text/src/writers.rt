@@ -112,3 +112,6 @@ pub fn write_cpit<S: Sink>(alloc: Global, cpit: &Cpit, sink: &mut S) -> Result<(
 {
     write_text(alloc, &CpitFile { cpit }, sink)
 }
+
+#[cfg(test)]
+mod tests;

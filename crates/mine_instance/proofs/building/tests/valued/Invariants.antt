@@ -1,0 +1,7 @@
+use Rattle.std.proofs.Common.{◌≡◌, take, length, map}
+use Rattle.valuers.specs.Valuing.{worths_by}
+use Rattle.mine_instance.proofs.building.tests.valued.Given as goal
+
+abbrev pub invariant-loop-destination : goal.invariant-loop-destination
+invariant-loop-destination l =
+    (take l.destination l.cells ≡ worths_by (map (λ f. f.formula) (take l.destination l.plan.formulas)) l.block) × (length l.cells ≡ 8)

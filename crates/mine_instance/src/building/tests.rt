@@ -1,0 +1,86 @@
+ghost use Rattle.std.specs.Prelude.{◌≡◌, IfOk, IsTrue};
+ghost use Rattle.precedence.specs.Cone.{HasZones};
+ghost use Rattle.valuers.specs.Valuing.{worths_by};
+ghost use Rattle.mine_instance.specs.OfModel.{formulas_of_plan};
+
+use super::build;
+use crate::coef::Coef;
+use crate::is_valid;
+use pit_model::block::Block;
+use pit_model::limit::Bound;
+use pit_model::plan::Plan;
+use pit_model::read_plan;
+use pit_units::Dec;
+use precedence::{Numbering, number, preds};
+use std::test::Fail;
+use valuers::{Valued, Worths};
+
+// The row of a block, with its worths by the plan's formulas.
+fn valued(plan: &Plan, place: u32, block: Block) -> Valued
+    ensures { result.worths ≡ worths_by (formulas_of_plan plan.now) result.block }
+{
+    let mut cells = [0i128; 8];
+    let formulas = plan.formulas();
+    for (destination, named) in formulas.iter().enumerate() {
+        cells[destination] = named.formula.worth(block);
+    }
+    let worths = Worths::new(&cells[..formulas.len()]).unwrap();
+    Valued {
+        file: 0,
+        place,
+        block,
+        worths,
+    }
+}
+
+fn has_zones(numbering: &Numbering, plan: &Plan) -> bool
+    ensures { IsTrue result → HasZones plan.now numbering.now.blocks }
+{
+    for id in 0..numbering.len() {
+        if usize::from(numbering.block(id).zone) >= plan.cones().len() {
+            return false;
+        }
+    }
+    true
+}
+
+#[test]
+fn limits_and_coefficients(rt: HostRuntime) -> Result<(), Fail> {
+    let alloc = rt.alloc();
+    let plan = read_plan(
+        alloc,
+        b"name,one\ngrid,0,0,0,10,10,10\nzone,1,1,1\nmill,mill,900,600,1500\ndump,dump,200\nperiods,2\nrate,0.1\nresource,plant,mill\nlimit,plant,1,I,0,900\nlimit,plant,0,L,500.5\n",
+    )?;
+    // The block of the greater identifier arrives first.
+    let waste = Block::new(1, 0, 0, 0, 7_000_000, 0).ok_or("a block")?;
+    let ore = Block::new(0, 0, 0, 1_000_000, 5_000_000_000, 0).ok_or("a block")?;
+    let rows = [valued(&plan, 0, waste), valued(&plan, 1, ore)];
+    let numbering = number(alloc, &rows)?;
+    if !has_zones(&numbering, &plan) {
+        return Err("zones")?;
+    }
+    let lists = preds(alloc, &numbering, &plan)?;
+    let instance = build(alloc, &numbering, lists, &rows, &plan)?;
+
+    assert!(rt; is_valid(&instance));
+    assert_eq!(rt; instance.name.as_str(), "one");
+    assert_eq!(rt; instance.blocks.as_slice(), [ore, waste].as_slice());
+    assert_eq!(rt; (instance.blocks_len(), instance.arcs()), (2, 0));
+    assert!(rt; instance.values.len() == 2);
+    for (block, values) in [(0, [12_000i32, -2_000]), (1, [0, 0])] {
+        assert_eq!(rt; instance.values.of(block).len(), 2);
+        for (destination, hundreds) in values.iter().enumerate() {
+            let value = instance.values.of(block).get(destination).copied();
+            let want = Dec::new(i128::from(*hundreds) * 1_000_000);
+            assert_eq!(rt; value, want, "{block} {destination}");
+        }
+    }
+    let v = Dec::new(1_000_000_000).ok_or("tonnes")?;
+    let (b, d, r) = (0, 0, 0);
+    assert_eq!(rt; instance.coefs.as_slice(), [Coef { b, d, r, v }].as_slice());
+    let bounds = instance.limits.as_slice();
+    assert_eq!(rt; (instance.coefs_len(), instance.limits_len()), (1, 2));
+    assert!(rt; matches!(bounds.first(), Some(limit) if matches!(limit.bound, Bound::AtMost(_))));
+    assert!(rt; bounds.last().is_some_and(|limit| limit.period == 1));
+    Ok(())
+}

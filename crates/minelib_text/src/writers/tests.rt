@@ -1,0 +1,314 @@
+ghost use Rattle.std.specs.Prelude.{IfOk};
+ghost use Rattle.mine_instance.specs.Valid.{IsValid};
+
+use super::{write_blocks, write_cpit, write_pcpsp, write_prec, write_upit};
+use crate::mem_sink::MemSink;
+use crate::write_fault::WriteFault;
+use mine_instance::blocks::Blocks;
+use mine_instance::coef::{Coef, Coefs};
+use mine_instance::instance::Instance;
+use mine_instance::limits::Limits;
+use mine_instance::values::Values;
+use mine_instance::{build_cpit, is_valid};
+use pit_model::block::Block;
+use pit_model::limit::{Bound, Limit};
+use pit_model::name::Name;
+use pit_units::Dec;
+use precedence::Preds;
+use std::alloc::Global;
+use std::process::Abort;
+use std::test::Fail;
+
+// The parts of an instance, but for its predecessors, which are none. Blocks by x, y, z, kg and grade; values in millionths.
+#[derive(Clone, Copy)]
+struct Parts<'a> {
+    name: &'a str,
+    periods: u8,
+    destinations: u8,
+    resources: u8,
+    blocks: &'a [(u16, u16, u16, u64, u64)],
+    values: &'a [i128],
+    coefs: &'a [(u32, u8, u8, i128)],
+    limits: &'a [(u8, u8, Option<i128>, i128)],
+}
+
+fn dec(millionths: i128) -> Result<Dec, Fail> {
+    Ok(Dec::new(millionths).ok_or("a decimal")?)
+}
+
+fn blocks_of(alloc: Global, parts: &Parts) -> Result<Blocks, Fail> {
+    let mut blocks = Vec::new(alloc);
+    for (x, y, z, kg, grade) in parts.blocks {
+        blocks.push(Block::new(*x, *y, *z, *kg, *grade, 0).ok_or("a block")?)?;
+    }
+    Ok(Blocks::new(blocks))
+}
+
+fn values_of(alloc: Global, parts: &Parts) -> Result<Values, Fail> {
+    let mut all = Vec::new(alloc);
+    for value in parts.values {
+        all.push(dec(*value)?)?;
+    }
+    let width = usize::from(parts.destinations);
+    let count = parts.blocks.len();
+    if count > 1000 || all.len() != count * width {
+        return Err("values")?;
+    }
+    Ok(Values::new(all, count, width))
+}
+
+fn coefs_of(alloc: Global, parts: &Parts) -> Result<Coefs, Fail> {
+    let mut coefs = Vec::new(alloc);
+    for (b, d, r, v) in parts.coefs {
+        let (b, d, r, v) = (*b, *d, *r, dec(*v)?);
+        coefs.push(Coef { b, d, r, v })?;
+    }
+    Ok(Coefs::new(coefs))
+}
+
+// A limit without a lower number is the one with `L`.
+fn limits_of(alloc: Global, parts: &Parts) -> Result<Limits, Fail> {
+    let mut limits = Vec::new(alloc);
+    for (resource, period, low, high) in parts.limits {
+        let bound = match low {
+            Some(v) => Bound::Between(dec(*v)?, dec(*high)?),
+            None => Bound::AtMost(dec(*high)?),
+        };
+        let (resource, period) = (*resource, *period);
+        limits.push(Limit {
+            resource,
+            period,
+            bound,
+        })?;
+    }
+    Ok(Limits::new(limits))
+}
+
+fn made(alloc: Global, parts: &Parts) -> Result<Instance, Fail>
+    ensures { IfOk result IsValid }
+{
+    let mut preds = Preds::new(alloc);
+    for _block in parts.blocks {
+        preds.push(&[])?;
+    }
+    let instance = Instance {
+        name: Name::read(alloc, parts.name.as_bytes())?.ok_or("a name")?,
+        rate: dec(100_000)?,
+        periods: parts.periods,
+        destinations: parts.destinations,
+        resources: parts.resources,
+        blocks: blocks_of(alloc, parts)?,
+        preds,
+        values: values_of(alloc, parts)?,
+        coefs: coefs_of(alloc, parts)?,
+        limits: limits_of(alloc, parts)?,
+    };
+    if !is_valid(&instance) {
+        return Err("an instance that is not valid")?;
+    }
+    Ok(instance)
+}
+
+const ONE_ORE_BLOCK: Parts = Parts {
+    name: "one",
+    periods: 1,
+    destinations: 1,
+    resources: 0,
+    blocks: &[(0, 0, 0, 1_000_000, 5_000_000_000)],
+    values: &[12_000_000_000],
+    coefs: &[],
+    limits: &[],
+};
+
+const LIMITS_AND_COEFFICIENTS: Parts = Parts {
+    name: "one",
+    periods: 2,
+    destinations: 2,
+    resources: 1,
+    blocks: &[(0, 0, 0, 1_000_000, 5_000_000_000), (1, 0, 0, 0, 7_000_000)],
+    values: &[12_000_000_000, -2_000_000_000, 0, 0],
+    coefs: &[(0, 0, 0, 1_000_000_000)],
+    limits: &[(0, 0, None, 500_500_000), (0, 1, Some(0), 900_000_000)],
+};
+
+#[derive(Clone, Copy, PartialEq, Eq, Debug)]
+enum Which {
+    Blocks,
+    Prec,
+    Upit,
+    Pcpsp,
+    Cpit,
+}
+
+const ALL: [Which; 5] = [
+    Which::Blocks,
+    Which::Prec,
+    Which::Upit,
+    Which::Pcpsp,
+    Which::Cpit,
+];
+
+fn write(
+    alloc: Global,
+    which: Which,
+    instance: &Instance,
+    sink: &mut MemSink,
+) -> Result<Result<(), WriteFault>, Fail>
+    requires { IsValid instance.now }
+{
+    Ok(match which {
+        Which::Blocks => write_blocks(alloc, instance, sink),
+        Which::Prec => write_prec(alloc, instance, sink),
+        Which::Upit => write_upit(alloc, instance, sink),
+        Which::Pcpsp => write_pcpsp(alloc, instance, sink),
+        Which::Cpit => write_cpit(alloc, &build_cpit(alloc, instance)?, sink),
+    })
+}
+
+// The five texts are these.
+fn has_texts(rt: &impl Abort, alloc: Global, parts: &Parts, want: [&str; 5]) -> Result<(), Fail> {
+    let instance = made(alloc, parts)?;
+    for (index, which) in ALL.iter().enumerate() {
+        let mut sink = MemSink::new(alloc);
+        write(alloc, *which, &instance, &mut sink)??;
+        assert!(rt; sink.begun());
+        assert_eq!(rt; sink.bytes(), want[index].as_bytes(), "{which:?}");
+    }
+    Ok(())
+}
+
+#[test]
+fn one_ore_block(rt: HostRuntime) -> Result<(), Fail> {
+    has_texts(
+        &rt,
+        rt.alloc(),
+        &ONE_ORE_BLOCK,
+        [
+            "0 0 0 0 1000 5000 0\n",
+            "0 0\n",
+            "NAME: one\nTYPE: UPIT\nNBLOCKS: 1\nOBJECTIVE_FUNCTION:\n0 12000\n",
+            "NAME: one\nTYPE: PCPSP\nNBLOCKS: 1\nNPERIODS: 1\nNDESTINATIONS: 1\nNRESOURCE_SIDE_CONSTRAINTS: 0\nNGENERAL_SIDE_CONSTRAINTS: 0\nDISCOUNT_RATE: 0.1\nOBJECTIVE_FUNCTION:\n0 12000\nRESOURCE_CONSTRAINT_COEFFICIENTS:\nRESOURCE_CONSTRAINT_LIMITS:\n",
+            "NAME: one\nTYPE: CPIT\nNBLOCKS: 1\nNPERIODS: 1\nNRESOURCE_SIDE_CONSTRAINTS: 0\nDISCOUNT_RATE: 0.1\nOBJECTIVE_FUNCTION:\n0 12000\nRESOURCE_CONSTRAINT_COEFFICIENTS:\nRESOURCE_CONSTRAINT_LIMITS:\n",
+        ],
+    )
+}
+
+#[test]
+fn waste_of_one_kilogram(rt: HostRuntime) -> Result<(), Fail> {
+    has_texts(
+        &rt,
+        rt.alloc(),
+        &Parts {
+            name: "waste",
+            blocks: &[(0, 0, 0, 1, 0)],
+            values: &[-10_000],
+            ..ONE_ORE_BLOCK
+        },
+        [
+            "0 0 0 0 0.001 0 0\n",
+            "0 0\n",
+            "NAME: waste\nTYPE: UPIT\nNBLOCKS: 1\nOBJECTIVE_FUNCTION:\n0 -0.01\n",
+            "NAME: waste\nTYPE: PCPSP\nNBLOCKS: 1\nNPERIODS: 1\nNDESTINATIONS: 1\nNRESOURCE_SIDE_CONSTRAINTS: 0\nNGENERAL_SIDE_CONSTRAINTS: 0\nDISCOUNT_RATE: 0.1\nOBJECTIVE_FUNCTION:\n0 -0.01\nRESOURCE_CONSTRAINT_COEFFICIENTS:\nRESOURCE_CONSTRAINT_LIMITS:\n",
+            "NAME: waste\nTYPE: CPIT\nNBLOCKS: 1\nNPERIODS: 1\nNRESOURCE_SIDE_CONSTRAINTS: 0\nDISCOUNT_RATE: 0.1\nOBJECTIVE_FUNCTION:\n0 -0.01\nRESOURCE_CONSTRAINT_COEFFICIENTS:\nRESOURCE_CONSTRAINT_LIMITS:\n",
+        ],
+    )
+}
+
+#[test]
+fn limits_and_coefficients(rt: HostRuntime) -> Result<(), Fail> {
+    has_texts(
+        &rt,
+        rt.alloc(),
+        &LIMITS_AND_COEFFICIENTS,
+        [
+            "0 0 0 0 1000 5000 0\n1 1 0 0 0 7 0\n",
+            "0 0\n1 0\n",
+            "NAME: one\nTYPE: UPIT\nNBLOCKS: 2\nOBJECTIVE_FUNCTION:\n0 12000\n1 0\n",
+            "NAME: one\nTYPE: PCPSP\nNBLOCKS: 2\nNPERIODS: 2\nNDESTINATIONS: 2\nNRESOURCE_SIDE_CONSTRAINTS: 1\nNGENERAL_SIDE_CONSTRAINTS: 0\nDISCOUNT_RATE: 0.1\nOBJECTIVE_FUNCTION:\n0 12000 -2000\n1 0 0\nRESOURCE_CONSTRAINT_COEFFICIENTS:\n0 0 0 1000\nRESOURCE_CONSTRAINT_LIMITS:\n0 0 L 500.5\n0 1 I 0 900\n",
+            "NAME: one\nTYPE: CPIT\nNBLOCKS: 2\nNPERIODS: 2\nNRESOURCE_SIDE_CONSTRAINTS: 1\nDISCOUNT_RATE: 0.1\nOBJECTIVE_FUNCTION:\n0 12000\n1 0\nRESOURCE_CONSTRAINT_COEFFICIENTS:\n0 0 1000\nRESOURCE_CONSTRAINT_LIMITS:\n0 0 L 500.5\n0 1 I 0 900\n",
+        ],
+    )
+}
+
+// The objective and the coefficients of a CPIT, between its section lines.
+#[test]
+fn cpit_destinations(rt: HostRuntime) -> Result<(), Fail> {
+    let alloc = rt.alloc();
+    let table = [
+        // The dump is the better of the mill and the dump, and the plant covers the mill.
+        (
+            Parts {
+                blocks: &[(0, 0, 0, 1_000_000, 0)],
+                values: &[-15_000_000_000, -2_000_000_000],
+                ..LIMITS_AND_COEFFICIENTS
+            },
+            "OBJECTIVE_FUNCTION:\n0 -2000\nRESOURCE_CONSTRAINT_COEFFICIENTS:\nRESOURCE_CONSTRAINT_LIMITS:\n0 0 L 500.5\n0 1 I 0 900\n",
+        ),
+        // Of two dumps that cost the same the first is taken: with the resource of the second there is no coefficient.
+        (
+            Parts {
+                destinations: 2,
+                resources: 1,
+                blocks: &[(0, 0, 0, 1_000, 0)],
+                values: &[-2_000_000, -2_000_000],
+                coefs: &[(0, 1, 0, 1_000_000)],
+                ..ONE_ORE_BLOCK
+            },
+            "OBJECTIVE_FUNCTION:\n0 -2\nRESOURCE_CONSTRAINT_COEFFICIENTS:\nRESOURCE_CONSTRAINT_LIMITS:\n",
+        ),
+        (
+            Parts {
+                destinations: 2,
+                resources: 1,
+                blocks: &[(0, 0, 0, 1_000, 0)],
+                values: &[-2_000_000, -2_000_000],
+                coefs: &[(0, 0, 0, 1_000_000)],
+                ..ONE_ORE_BLOCK
+            },
+            "OBJECTIVE_FUNCTION:\n0 -2\nRESOURCE_CONSTRAINT_COEFFICIENTS:\n0 0 1\nRESOURCE_CONSTRAINT_LIMITS:\n",
+        ),
+    ];
+    for (parts, end) in &table {
+        let instance = made(alloc, parts)?;
+        let mut sink = MemSink::new(alloc);
+        write(alloc, Which::Cpit, &instance, &mut sink)??;
+        assert!(rt; sink.bytes().ends_with(end.as_bytes()), "{end}");
+    }
+    Ok(())
+}
+
+// A sink that takes a few bytes at a time, and that fails at each of its calls in turn.
+#[test]
+fn failing_devices(rt: HostRuntime) -> Result<(), Fail> {
+    let alloc = rt.alloc();
+    let instance = made(alloc, &LIMITS_AND_COEFFICIENTS)?;
+    for which in &ALL {
+        let mut whole = MemSink::short(alloc, 1);
+        write(alloc, *which, &instance, &mut whole)??;
+        let mut ended = false;
+        for nth in 1..1000u64 {
+            let mut sink = MemSink::fresh(alloc, 7, nth);
+            match write(alloc, *which, &instance, &mut sink)? {
+                Ok(()) => {
+                    // One call begins, and the others take seven bytes each.
+                    let calls: u64 = 1 + whole.bytes().len().div_ceil(7) as u64;
+                    assert!(rt; nth == 1 + calls, "{which:?} {nth}");
+                    assert_eq!(rt; sink.bytes(), whole.bytes(), "{which:?}");
+                    ended = true;
+                    break;
+                }
+                Err(fault) => {
+                    assert_eq!(rt; fault, WriteFault::SinkFailed);
+                    assert_eq!(rt; sink.begun(), nth > 1, "{which:?} {nth}");
+                    assert!(rt; whole.bytes().starts_with(sink.bytes()), "{which:?} {nth}");
+                }
+            }
+        }
+        assert!(rt; ended, "{which:?}");
+    }
+    // The precedence file's second call fails: it was begun and is empty.
+    let mut sink = MemSink::failing(alloc, 2);
+    assert_eq!(rt; write_prec(alloc, &instance, &mut sink), Err(WriteFault::SinkFailed));
+    assert!(rt; sink.begun() && sink.bytes().is_empty());
+    Ok(())
+}
