@@ -1,18 +1,17 @@
 -- What the rows of the zones' cones say of all blocks is what lies above each.
-use Rattle.std.proofs.Common.{◌≡◌, ℕ, ◌+◌, ◌<◌, ◌≤◌, Bool, true, false, List, [], ◌∷◌, Option, Some, None, All, length, map, get_or, slice_get, refl, sym, ap, subst, ◌∙◌, arith, ⊎_elim, if◌then◌else◌}
+use Rattle.std.proofs.Common.{◌≡◌, ℕ, ◌+◌, ◌<◌, Bool, List, [], ◌∷◌, Some, All, length, map, get_or, slice_get, refl, sym, ap, subst, ◌∙◌, arith, ⊎_elim, if◌then◌else◌}
 use Rattle.std.proofs.lemmas.List.{get_or_default}
 use Rattle.std.proofs.lemmas.Option.{slice_get_cases, slice_get-get_or, get_or_from_slice_get}
 use Rattle.std.proofs.lemmas.List.Elements.{All-head, All-tail}
 use Rattle.pit_model.specs.Plan.{PlanParts}
 use Rattle.pit_model.specs.declared.block.Block.{Block}
 use Rattle.pit_model.specs.declared.cone.Cone.{Cone}
-use Rattle.pit_model.specs.declared.cone.Slope.{Slope}
 use Rattle.pit_model.specs.declared.grid.Grid.{Grid}
 use Rattle.precedence.specs.Codes.{code, codes}
 use Rattle.precedence.specs.Cone.{above, is_above, places_where, preds, HasZones}
 use Rattle.precedence.specs.Lists.{in_cone}
-use Rattle.precedence.specs.Rows.{is_in_rows, AreInOrder, IsWithin, IsTable}
-use Rattle.precedence.specs.ZoneTables.{HasTables, IsTold, rows_in, zone_rows}
+use Rattle.precedence.specs.Rows.{is_in_rows, AreInOrder, IsWithin}
+use Rattle.precedence.specs.ZoneTables.{HasTables, IsTold, rows_in}
 use Rattle.precedence.specs.declared.cone_table.ConeTable.{ConeTable}
 use Rattle.precedence.specs.declared.extent.Extent.{Extent}
 
@@ -47,14 +46,14 @@ module _ (grid : Grid) (cones : List Cone) (extent : Extent) (tables : List Cone
       → in_cone tables of_zone (codes blocks) low ≡ above grid (slice_get cones low.zone) blocks low
   list_is low close lt = ⊎_elim
       (λ found.
-        let table : ConeTable = found.0 in
-        let cone : Cone = table.cone in
-        let same : slice_get cones low.zone ≡ Some cone =
-          slice_get-get_or cones low.zone cone lt ∙ ap (λ (c : Cone). Some c) (sym (has.same low.zone cone table lt) ∙ ap (λ (t : ConeTable). t.cone) (get_or_from_slice_get tables (place low.zone) table table found.2)) in
-        let told = all_at (IsTold grid extent) tables (place low.zone) table has.told found.1 found.2 in
-        ap (λ o. places_where (is_in_rows (code low) (rows_in o)) 0 (codes blocks)) found.2
-          ∙ blocks_where (is_in_rows (code low) table.rows.items) (is_above grid cone low) 0 blocks (λ k d within. told.told low (get_or blocks k d) (close k d within))
-          ∙ ap (λ o. above grid o blocks low) (sym same))
+      let table : ConeTable = found.0 in
+      let cone : Cone = table.cone in
+      let same : slice_get cones low.zone ≡ Some cone =
+      slice_get-get_or cones low.zone cone lt ∙ ap (λ (c : Cone). Some c) (sym (has.same low.zone cone table lt) ∙ ap (λ (t : ConeTable). t.cone) (get_or_from_slice_get tables (place low.zone) table table found.2)) in
+      let told = all_at (IsTold grid extent) tables (place low.zone) table has.told found.1 found.2 in
+      ap (λ o. places_where (is_in_rows (code low) (rows_in o)) 0 (codes blocks)) found.2
+      ∙ blocks_where (is_in_rows (code low) table.rows.items) (is_above grid cone low) 0 blocks (λ k d within. told.told low (get_or blocks k d) (close k d within))
+      ∙ ap (λ o. above grid o blocks low) (sym same))
       (λ past. let below = has.below low.zone 0 (omega (arith, has.zones)) in absurd (omega (arith, past.0)))
       ((slice_get_cases tables (place low.zone)).1)
 
@@ -74,5 +73,5 @@ pub preds_are : (plan : PlanParts) (listed : List Block) (grid : Grid) (cones : 
     → map (in_cone tables of_zone (codes blocks)) blocks ≡ preds plan listed
 preds_are plan listed grid cones extent tables of_zone blocks e g c has near zones =
     lists_are grid cones extent tables of_zone blocks has near
-        (λ k d lt. omega (arith, zones k d (omega (arith, ap length e)), ap (λ (bs : List Block). (get_or bs k d).zone) e, ap length c))
-        ∙ (λ j. map (λ low. above (g j) (slice_get (c j) low.zone) (e j) low) (e j))
+    (λ k d lt. omega (arith, zones k d (omega (arith, ap length e)), ap (λ (bs : List Block). (get_or bs k d).zone) e, ap length c))
+    ∙ (λ j. map (λ low. above (g j) (slice_get (c j) low.zone) (e j) low) (e j))

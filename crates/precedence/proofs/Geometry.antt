@@ -1,5 +1,5 @@
 -- Where the codes of a cone's blocks lie.
-use Rattle.std.proofs.Common.{◌≡◌, ◌⊎◌, ℕ, ◌+◌, ◌-◌, ◌*◌, ◌^◌, ◌<◌, ◌≤◌, ◌&&◌, ◌||◌, Bool, true, false, nat_lt, nat_le, max, refl, sym, ap, ◌∙◌, arith, ⊎_elim, if◌then◌else◌}
+use Rattle.std.proofs.Common.{◌≡◌, ℕ, ◌+◌, ◌-◌, ◌<◌, ◌≤◌, ◌&&◌, Bool, true, false, nat_lt, nat_le, max, refl, sym, ap, ◌∙◌, arith, if◌then◌else◌}
 use Rattle.std.specs.Int.{abs_diff}
 use Rattle.std.proofs.lemmas.Bool.{lt-ltb, ltb-true, ltb-false, le-leb}
 use Rattle.std.proofs.lemmas.Bool.Decides.{nat_tests}
@@ -10,8 +10,7 @@ use Rattle.pit_model.specs.declared.grid.Grid.{Grid}
 use Rattle.precedence.specs.Codes.{code}
 use Rattle.precedence.specs.Cone.{is_above, is_within_slopes, slope_along_x, slope_along_y}
 use Rattle.precedence.specs.Reach.{CountsRow, slope_across}
-use Rattle.precedence.specs.Rows.{center, edge, is_in_row, IsWithin}
-use Rattle.precedence.specs.declared.extent.Extent.{Extent}
+use Rattle.precedence.specs.Rows.{center, is_in_row}
 use Rattle.precedence.specs.declared.reach.Counts.{Counts}
 use Rattle.precedence.specs.declared.rows.Row.{Row}
 
@@ -63,15 +62,15 @@ module _ (grid : Grid) (cone : Cone) (rows dz i : ℕ) (counts : Counts) (counte
     where
       by : (b : Bool) → nat_lt low.x high.x ≡ b → slopes (if b then cone.east else cone.west) (abs_diff low.x high.x) ≡ on_side b
       by true e =
-        let bx = high.x_in_grid in
-        let east = ltb-true low.x high.x e in
-        let d : abs_diff low.x high.x ≡ high.x - low.x = omega arith in
-        ap (slopes cone.east) d ∙ counted.east (high.x - low.x) (omega arith)
+          let bx = high.x_in_grid in
+          let east = ltb-true low.x high.x e in
+          let d : abs_diff low.x high.x ≡ high.x - low.x = omega arith in
+          ap (slopes cone.east) d ∙ counted.east (high.x - low.x) (omega arith)
       by false e =
-        let ax = low.x_in_grid in
-        let west = ltb-false low.x high.x e in
-        let d : abs_diff low.x high.x ≡ low.x - high.x = omega arith in
-        ap (slopes cone.west) d ∙ counted.west (low.x - high.x) (omega arith)
+          let ax = low.x_in_grid in
+          let west = ltb-false low.x high.x e in
+          let d : abs_diff low.x high.x ≡ low.x - high.x = omega arith in
+          ap (slopes cone.west) d ∙ counted.west (low.x - high.x) (omega arith)
 
   -- the two codes, by the middle of the row
   apart_is : code high + low.x ≡ (code low + center rows dz i) + high.x
@@ -83,9 +82,9 @@ module _ (grid : Grid) (cone : Cone) (rows dz i : ℕ) (counts : Counts) (counte
   pub row_told : (row : Row) → row.first ≡ center rows dz i + 1 - counts.west → row.past ≡ center rows dz i + max counts.east 1 → is_in_row (code low) row (code high) ≡ is_above grid cone low high
   row_told row first past =
       (λ j. nat_le (code low + first j) (code high) && nat_lt (code high) (code low + past j))
-        ∙ by (nat_lt low.x high.x) refl ∙ sym side_is
+      ∙ by (nat_lt low.x high.x) refl ∙ sym side_is
     where
       by : (b : Bool) → nat_lt low.x high.x ≡ b
-        → (nat_le (code low + (center rows dz i + 1 - counts.west)) (code high) && nat_lt (code high) (code low + (center rows dz i + max counts.east 1))) ≡ on_side b
+          → (nat_le (code low + (center rows dz i + 1 - counts.west)) (code high) && nat_lt (code high) (code low + (center rows dz i + max counts.east 1))) ≡ on_side b
       by true e = beside_east (code low) (code high) (center rows dz i) low.x high.x counts.west counts.east apart_is (ltb-true low.x high.x e) far counted.few_west
       by false e = beside_west (code low) (code high) (center rows dz i) low.x high.x counts.west counts.east apart_is (ltb-false low.x high.x e) far counted.few_west

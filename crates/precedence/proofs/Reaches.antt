@@ -1,7 +1,7 @@
 -- Bounds of the products, and that a reach that takes in a distance takes in each smaller one.
-use Rattle.std.proofs.Common.{◌≡◌, ℕ, ◌+◌, ◌-◌, ◌*◌, ◌<◌, ◌≤◌, ◌^◌, Bool, true, false, nat_lt, nat_le, sym, ◌∙◌, arith, ⊎_elim}
+use Rattle.std.proofs.Common.{◌≡◌, ℕ, ◌+◌, ◌-◌, ◌*◌, ◌<◌, ◌≤◌, ◌^◌, true, false, sym, ◌∙◌, arith, ⊎_elim}
 use Rattle.std.proofs.Math.Nat.{mul-le-mul, mul-le-mul_right}
-use Rattle.std.proofs.lemmas.Bool.{cases_lt, cases_Bool, lt-ltb, le-ltb, leb-true, le-leb, leb-false}
+use Rattle.std.proofs.lemmas.Bool.{cases_lt, cases_Bool, lt-ltb, le-ltb, leb-true, le-leb}
 use Rattle.precedence.specs.Cone.{square}
 use Rattle.precedence.specs.Reach.{takes_in, CountsAll}
 use Rattle.precedence.specs.declared.reach.Reach.{Reach}
@@ -35,9 +35,9 @@ pub counts_all : (r : Reach) (count : ℕ) → (count < 10000 → takes_in count
 counts_all r count enough few d lt = ⊎_elim
     (λ below. takes_smaller r d (count - 1) (omega arith) (few (omega arith)) ∙ sym (lt-ltb d count below))
     (λ above. ⊎_elim
-      (λ yes. let again : takes_in count r ≡ true = takes_smaller r count d above yes in
-        let other : takes_in count r ≡ false = enough (omega arith) in
-        let no : ⊥ = cc in absurd no)
-      (λ no. no ∙ sym (le-ltb d count above))
-      (cases_Bool (takes_in d r)))
+    (λ yes. let again : takes_in count r ≡ true = takes_smaller r count d above yes in
+    let other : takes_in count r ≡ false = enough (omega arith) in
+    let no : ⊥ = cc in absurd no)
+    (λ no. no ∙ sym (le-ltb d count above))
+    (cases_Bool (takes_in d r)))
     (cases_lt d count)

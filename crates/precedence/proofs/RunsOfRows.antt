@@ -1,5 +1,5 @@
 -- The identifiers in rows are the runs of the rows, one after the other.
-use Rattle.std.proofs.Common.{◌≡◌, ◌⊎◌, inl, inr, ℕ, zero, suc, ◌+◌, ◌-◌, ◌<◌, ◌≤◌, ◌&&◌, ◌||◌, Bool, true, false, List, [], ◌∷◌, ◌++◌, All, length, take, drop, map, get_or, nat_lt, nat_le, refl, sym, ap, subst, ◌∙◌, arith, length-drop, ⊎_elim, if◌then◌else◌}
+use Rattle.std.proofs.Common.{◌≡◌, ◌⊎◌, inl, inr, ℕ, zero, suc, ◌+◌, ◌-◌, ◌<◌, ◌≤◌, ◌&&◌, ◌||◌, Bool, true, false, List, [], ◌∷◌, ◌++◌, All, length, take, drop, get_or, nat_lt, nat_le, refl, sym, ap, subst, ◌∙◌, arith, length-drop, ⊎_elim, if◌then◌else◌}
 use Rattle.std.specs.List.{range_with_len}
 use Rattle.std.specs.List.Sorted.{IsStrictlyIncreasing}
 use Rattle.std.proofs.Math.Bool.{and-false}
@@ -41,8 +41,8 @@ take-range (suc k) a (suc n) le = ap (λ xs. a ∷ xs) (take-range k (a + 1) n (
 
 pub part_of_range : (n first past : ℕ) → first ≤ past → past ≤ n → take (past - first) (drop first (range_with_len 0 n)) ≡ range_with_len first (past - first)
 part_of_range n first past le within = ap (take (past - first)) (drop-range first 0 n (omega arith))
-        ∙ take-range (past - first) (0 + first) (n - first) (omega arith)
-        ∙ (let from : 0 + first ≡ first = omega arith in ap (λ a. range_with_len a (past - first)) from)
+    ∙ take-range (past - first) (0 + first) (n - first) (omega arith)
+    ∙ (let from : 0 + first ≡ first = omega arith in ap (λ a. range_with_len a (past - first)) from)
 
 -- ---- codes outside of rows
 
@@ -84,45 +84,45 @@ module _ (from : ℕ) (row : Row) (rows : List Row) (high : ℕ) (some : row.fir
   split low n [] h = refl
   split low n (c ∷ cs) h = ⊎_elim
       (λ before.
-        let out : nat_le (from + row.first) c ≡ false = lt-leb _ _ before in
-        let rest : is_in_rows from rows c ≡ false = before_rows from c row.past rows high apart (omega arith) in
-        let none : is_in_rows from (row ∷ rows) c ≡ false = λ j. (out j && nat_lt c (from + row.past)) || rest j in
-        let one = start_yes (from + row.first) c cs before in
-        let two = start_yes (from + row.past) c cs (omega arith) in
-        let begin : (n + 1) + first_of cs ≡ n + first_of (c ∷ cs) = omega (arith, one) in
-        let len : past_of cs - first_of cs ≡ past_of (c ∷ cs) - first_of (c ∷ cs) = omega (arith, one, two) in
-        let left : places_where (is_in_rows from rows) (n + 1) cs ≡ places_where (is_in_rows from rows) n (c ∷ cs) = sym (where_no (is_in_rows from rows) n c cs rest) in
-        where_no (is_in_rows from (row ∷ rows)) n c cs none ∙ split (c + 1) (n + 1) cs h.1 ∙ (λ j. range_with_len (begin j) (len j) ++ left j))
+      let out : nat_le (from + row.first) c ≡ false = lt-leb _ _ before in
+      let rest : is_in_rows from rows c ≡ false = before_rows from c row.past rows high apart (omega arith) in
+      let none : is_in_rows from (row ∷ rows) c ≡ false = λ j. (out j && nat_lt c (from + row.past)) || rest j in
+      let one = start_yes (from + row.first) c cs before in
+      let two = start_yes (from + row.past) c cs (omega arith) in
+      let begin : (n + 1) + first_of cs ≡ n + first_of (c ∷ cs) = omega (arith, one) in
+      let len : past_of cs - first_of cs ≡ past_of (c ∷ cs) - first_of (c ∷ cs) = omega (arith, one, two) in
+      let left : places_where (is_in_rows from rows) (n + 1) cs ≡ places_where (is_in_rows from rows) n (c ∷ cs) = sym (where_no (is_in_rows from rows) n c cs rest) in
+      where_no (is_in_rows from (row ∷ rows)) n c cs none ∙ split (c + 1) (n + 1) cs h.1 ∙ (λ j. range_with_len (begin j) (len j) ++ left j))
       (λ after. ⊎_elim
-        (λ inside.
-          let in_first : nat_le (from + row.first) c ≡ true = le-leb _ _ after in
-          let in_past : nat_lt c (from + row.past) ≡ true = lt-ltb _ _ inside in
-          let rest : is_in_rows from rows c ≡ false = before_rows from c row.past rows high apart inside in
-          let yes : is_in_rows from (row ∷ rows) c ≡ true = λ j. (in_first j && in_past j) || rest j in
-          let none = start_none (from + row.first) (c + 1) cs h.1 (omega arith) in
-          let one = start_no (from + row.first) c cs after in
-          let two = start_yes (from + row.past) c cs inside in
-          let begin : n ≡ n + first_of (c ∷ cs) = omega (arith, one) in
-          let len : suc (past_of cs - first_of cs) ≡ past_of (c ∷ cs) - first_of (c ∷ cs) = omega (arith, one, two, none) in
-          let next : (n + 1) + first_of cs ≡ n + 1 = omega (arith, none) in
-          let left : places_where (is_in_rows from rows) (n + 1) cs ≡ places_where (is_in_rows from rows) n (c ∷ cs) = sym (where_no (is_in_rows from rows) n c cs rest) in
-          where_yes (is_in_rows from (row ∷ rows)) n c cs yes
-            ∙ ap (λ xs. n ∷ xs) (split (c + 1) (n + 1) cs h.1)
-            ∙ (λ j. n ∷ (range_with_len (next j) (past_of cs - first_of cs) ++ left j))
-            ∙ (λ j. range_with_len (begin j) (len j) ++ places_where (is_in_rows from rows) n (c ∷ cs)))
-        (λ beyond.
-          let out : nat_lt c (from + row.past) ≡ false = le-ltb _ _ beyond in
-          let none : is_in_row from row c ≡ false = ap (λ b. nat_le (from + row.first) c && b) out ∙ and-false (nat_le (from + row.first) c) in
-          let one = start_no (from + row.first) c cs after in
-          let two = start_no (from + row.past) c cs beyond in
-          let no_past = start_none (from + row.past) (c + 1) cs h.1 (omega arith) in
-          let len_of_rest : past_of cs - first_of cs ≡ 0 = omega (arith, no_past) in
-          let len : 0 ≡ past_of (c ∷ cs) - first_of (c ∷ cs) = omega (arith, two) in
-          let same : places_where (is_in_rows from (row ∷ rows)) (n + 1) cs ≡ places_where (is_in_rows from rows) (n + 1) cs =
-            split (c + 1) (n + 1) cs h.1 ∙ (λ j. range_with_len ((n + 1) + first_of cs) (len_of_rest j) ++ places_where (is_in_rows from rows) (n + 1) cs) in
-          (λ j. if none j || is_in_rows from rows c then n ∷ same j else same j)
-            ∙ (λ j. range_with_len (n + first_of (c ∷ cs)) (len j) ++ places_where (is_in_rows from rows) n (c ∷ cs)))
-        (cases_lt c (from + row.past)))
+      (λ inside.
+      let in_first : nat_le (from + row.first) c ≡ true = le-leb _ _ after in
+      let in_past : nat_lt c (from + row.past) ≡ true = lt-ltb _ _ inside in
+      let rest : is_in_rows from rows c ≡ false = before_rows from c row.past rows high apart inside in
+      let yes : is_in_rows from (row ∷ rows) c ≡ true = λ j. (in_first j && in_past j) || rest j in
+      let none = start_none (from + row.first) (c + 1) cs h.1 (omega arith) in
+      let one = start_no (from + row.first) c cs after in
+      let two = start_yes (from + row.past) c cs inside in
+      let begin : n ≡ n + first_of (c ∷ cs) = omega (arith, one) in
+      let len : suc (past_of cs - first_of cs) ≡ past_of (c ∷ cs) - first_of (c ∷ cs) = omega (arith, one, two, none) in
+      let next : (n + 1) + first_of cs ≡ n + 1 = omega (arith, none) in
+      let left : places_where (is_in_rows from rows) (n + 1) cs ≡ places_where (is_in_rows from rows) n (c ∷ cs) = sym (where_no (is_in_rows from rows) n c cs rest) in
+      where_yes (is_in_rows from (row ∷ rows)) n c cs yes
+      ∙ ap (λ xs. n ∷ xs) (split (c + 1) (n + 1) cs h.1)
+      ∙ (λ j. n ∷ (range_with_len (next j) (past_of cs - first_of cs) ++ left j))
+      ∙ (λ j. range_with_len (begin j) (len j) ++ places_where (is_in_rows from rows) n (c ∷ cs)))
+      (λ beyond.
+      let out : nat_lt c (from + row.past) ≡ false = le-ltb _ _ beyond in
+      let none : is_in_row from row c ≡ false = ap (λ b. nat_le (from + row.first) c && b) out ∙ and-false (nat_le (from + row.first) c) in
+      let one = start_no (from + row.first) c cs after in
+      let two = start_no (from + row.past) c cs beyond in
+      let no_past = start_none (from + row.past) (c + 1) cs h.1 (omega arith) in
+      let len_of_rest : past_of cs - first_of cs ≡ 0 = omega (arith, no_past) in
+      let len : 0 ≡ past_of (c ∷ cs) - first_of (c ∷ cs) = omega (arith, two) in
+      let same : places_where (is_in_rows from (row ∷ rows)) (n + 1) cs ≡ places_where (is_in_rows from rows) (n + 1) cs =
+      split (c + 1) (n + 1) cs h.1 ∙ (λ j. range_with_len ((n + 1) + first_of cs) (len_of_rest j) ++ places_where (is_in_rows from rows) (n + 1) cs) in
+      (λ j. if none j || is_in_rows from rows c then n ∷ same j else same j)
+      ∙ (λ j. range_with_len (n + first_of (c ∷ cs)) (len j) ++ places_where (is_in_rows from rows) n (c ∷ cs)))
+      (cases_lt c (from + row.past)))
       (cases_lt c (from + row.first))
 
 -- ---- rows passed over
@@ -135,16 +135,16 @@ skip from low high m zero rows codes h le out = refl
 skip from low high m (suc n) [] codes h le out = absurd (omega arith)
 skip from low high m (suc n) (row ∷ rows) codes h le out =
     where_same (is_in_rows from (row ∷ rows)) (is_in_rows from rows) m codes (λ i d lt.
-        let c = get_or codes i d in
-        let none : is_in_row from row c ≡ false = ⊎_elim
-          (λ before. let no : nat_le (from + row.first) c ≡ false = lt-leb _ _ (omega (arith, h.0)) in ap (λ b. b && nat_lt c (from + row.past)) no)
-          (λ beyond. let no : nat_lt c (from + row.past) ≡ false = le-ltb _ _ beyond in ap (λ b. nat_le (from + row.first) c && b) no ∙ and-false (nat_le (from + row.first) c))
-          (out i d lt 0 (omega arith)) in
-        ap (λ b. b || is_in_rows from rows c) none)
-      ∙ skip from row.past high m n rows codes h.2 (omega arith) (λ i d lt k less. ⊎_elim
-          (λ before. inl (omega (arith, h.0, h.1)))
-          (λ beyond. inr beyond)
-          (out i d lt (suc k) (omega arith)))
+    let c = get_or codes i d in
+    let none : is_in_row from row c ≡ false = ⊎_elim
+    (λ before. let no : nat_le (from + row.first) c ≡ false = lt-leb _ _ (omega (arith, h.0)) in ap (λ b. b && nat_lt c (from + row.past)) no)
+    (λ beyond. let no : nat_lt c (from + row.past) ≡ false = le-ltb _ _ beyond in ap (λ b. nat_le (from + row.first) c && b) no ∙ and-false (nat_le (from + row.first) c))
+    (out i d lt 0 (omega arith)) in
+    ap (λ b. b || is_in_rows from rows c) none)
+    ∙ skip from row.past high m n rows codes h.2 (omega arith) (λ i d lt k less. ⊎_elim
+    (λ before. inl (omega (arith, h.0, h.1)))
+    (λ beyond. inr beyond)
+    (out i d lt (suc k) (omega arith)))
 
 -- ---- the next row
 
@@ -186,19 +186,19 @@ module _ (from high : ℕ) (rows : List Row) (codes : List ℕ) (apart : AreApar
   out m d lt k less = ⊎_elim
       (λ before. inl (omega (arith, start_before_in (from + row.past) m codes (omega (arith, found)), get_or_default codes m d 0 lt)))
       (λ after.
-        let left : past < length codes = omega arith in
-        let gap = skipped (suc i + k) (omega arith) (omega arith) left in
-        let begin = at_start (from + row.past) codes (omega (arith, found)) in
-        let same = ap (λ n. get_or codes n 0) found in
-        let grows : get_or codes past 0 ≤ get_or codes m 0 = not_below codes past m rising after lt in
-        inr (omega (arith, past_at rows (suc i) k, get_or_default codes m d 0 lt)))
+      let left : past < length codes = omega arith in
+      let gap = skipped (suc i + k) (omega arith) (omega arith) left in
+      let begin = at_start (from + row.past) codes (omega (arith, found)) in
+      let same = ap (λ n. get_or codes n 0) found in
+      let grows : get_or codes past 0 ≤ get_or codes m 0 = not_below codes past m rising after lt in
+      inr (omega (arith, past_at rows (suc i) k, get_or_default codes m d 0 lt)))
       (cases_lt m past)
     where
       not_below : (cs : List ℕ) (a b : ℕ) → IsStrictlyIncreasing cs → a ≤ b → b < length cs → get_or cs a 0 ≤ get_or cs b 0
       not_below cs a b up le lt = ⊎_elim
-        (λ below. omega (arith, AllPairs-from_increasing cs up a b 0 below lt))
-        (λ no. let same : a ≡ b = omega arith in omega (arith, ap (λ n. get_or cs n 0) same))
-        (cases_lt a b)
+          (λ below. omega (arith, AllPairs-from_increasing cs up a b 0 below lt))
+          (λ no. let same : a ≡ b = omega arith in omega (arith, ap (λ n. get_or cs n 0) same))
+          (cases_lt a b)
 
   pub adds_run : places_where (is_in_rows from (drop i rows)) 0 codes ≡ run from row codes ++ places_where (is_in_rows from (drop j rows)) 0 codes
   adds_run =
@@ -209,5 +209,5 @@ module _ (from high : ℕ) (rows : List Row) (codes : List ℕ) (apart : AreApar
       let last : suc i + (j - suc i) ≡ j = omega arith in
       let rest : drop (j - suc i) (drop (suc i) rows) ≡ drop j rows = drop-drop (j - suc i) (suc i) rows ∙ ap (λ n. drop n rows) last in
       ap (λ rs. places_where (is_in_rows from rs) 0 codes) whole ∙ first
-        ∙ (λ t. range_with_len (start t) (start_of (from + row.past) codes - start_of (from + row.first) codes) ++ passed t)
-        ∙ ap (λ rs. run from row codes ++ places_where (is_in_rows from rs) 0 codes) rest
+      ∙ (λ t. range_with_len (start t) (start_of (from + row.past) codes - start_of (from + row.first) codes) ++ passed t)
+      ∙ ap (λ rs. run from row codes ++ places_where (is_in_rows from rs) 0 codes) rest

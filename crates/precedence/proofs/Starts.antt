@@ -1,5 +1,5 @@
 -- Where numbers from a target on begin in a rising list.
-use Rattle.std.proofs.Common.{◌≡◌, ℕ, zero, suc, ◌+◌, ◌-◌, ◌<◌, ◌≤◌, Bool, true, false, List, [], ◌∷◌, length, get_or, nat_lt, refl, ap, arith, add-one, ⊎_elim, if◌then◌else◌}
+use Rattle.std.proofs.Common.{◌≡◌, ℕ, zero, suc, ◌+◌, ◌<◌, ◌≤◌, List, [], ◌∷◌, length, get_or, refl, ap, arith, add-one, ⊎_elim, if◌then◌else◌}
 use native.Mathlib.Numerals.{unary_clauses}
 use Rattle.std.specs.List.Sorted.{IsStrictlyIncreasing}
 use Rattle.std.proofs.lemmas.Bool.{cases_lt, lt-ltb, le-ltb}
@@ -81,9 +81,9 @@ pub at_start : (t : ℕ) (cs : List ℕ) → start_of t cs < length cs → t ≤
 at_start t [] lt = absurd (omega arith)
 at_start t (c ∷ cs) lt = ⊎_elim
     (λ first.
-      let here = start_yes t c cs first in
-      let later = at_start t cs (omega (arith, here)) in
-      omega (arith, ap (λ k. get_or (c ∷ cs) k 0) here))
+    let here = start_yes t c cs first in
+    let later = at_start t cs (omega (arith, here)) in
+    omega (arith, ap (λ k. get_or (c ∷ cs) k 0) here))
     (λ le. omega (arith, ap (λ k. get_or (c ∷ cs) k 0) (start_no t c cs le)))
     (cases_lt c t)
 

@@ -1,8 +1,7 @@
 -- Row by row and bench by bench, the rows of a cone tell which block lies above which.
-use Rattle.std.proofs.Common.{◌≡◌, ◌⊎◌, inl, inr, ℕ, ◌+◌, ◌-◌, ◌*◌, ◌^◌, ◌<◌, ◌≤◌, ◌&&◌, ◌||◌, Bool, true, false, List, [], ◌∷◌, ◌++◌, nat_lt, nat_le, max, min, refl, sym, ap, ◌∙◌, arith, ⊎_elim}
-use Rattle.std.specs.Int.{abs_diff}
-use Rattle.std.proofs.Math.Bool.{and-false, and-true, or-false, or_assoc}
-use Rattle.std.proofs.lemmas.Bool.{and_left, cases_lt, cases_Bool, lt-ltb, le-ltb, ltb-true, leb-true, le-leb, lt-leb}
+use Rattle.std.proofs.Common.{◌≡◌, ℕ, ◌+◌, ◌-◌, ◌*◌, ◌<◌, ◌≤◌, ◌&&◌, ◌||◌, Bool, true, false, List, [], ◌∷◌, ◌++◌, nat_lt, nat_le, max, min, refl, sym, ap, ◌∙◌, arith, ⊎_elim}
+use Rattle.std.proofs.Math.Bool.{and-false, or-false, or_assoc}
+use Rattle.std.proofs.lemmas.Bool.{and_left, cases_lt, cases_Bool, lt-ltb, le-ltb, ltb-true, leb-true, lt-leb}
 use Rattle.std.proofs.lemmas.Bool.Decides.{nat_tests}
 use Rattle.pit_model.specs.declared.block.Block.{Block}
 use Rattle.pit_model.specs.declared.cone.Cone.{Cone}
@@ -32,7 +31,7 @@ pub in_rows_push : (from : ℕ) (rows : List Row) (row : Row) (c : ℕ) → is_i
 in_rows_push from [] row c = or-false (is_in_row from row c)
 in_rows_push from (r ∷ rows) row c =
     ap (λ b. is_in_row from r c || b) (in_rows_push from rows row c)
-        ∙ sym (or_assoc (is_in_row from r c) (is_in_rows from rows c) (is_in_row from row c))
+    ∙ sym (or_assoc (is_in_row from r c) (is_in_rows from rows c) (is_in_row from row c))
 
 pub apart_push : (low : ℕ) (rows : List Row) (high : ℕ) (row : Row) (up : ℕ) → AreApart low rows high → high ≤ row.first → row.first < row.past → row.past ≤ up → AreApart low (rows ++ row ∷ []) up
 apart_push low [] high row up h le some past = (omega arith, some, past)
@@ -110,38 +109,38 @@ module _ (grid : Grid) (cone : Cone) (extent : Extent) (dz i : ℕ) (up : 1 ≤ 
   -- the row tells of the blocks between its edges
   row_adds : (low high : Block) → IsWithin extent low high
       → ((nat_lt (code high) (code low + edge extent.rows dz i) && is_above grid cone low high) || is_in_row (code low) row (code high))
-        ≡ (nat_lt (code high) (code low + edge extent.rows dz (i + 1)) && is_above grid cone low high)
+      ≡ (nat_lt (code high) (code low + edge extent.rows dz (i + 1)) && is_above grid cone low high)
   row_adds low high near = ⊎_elim
       (λ before.
-        let yes : nat_lt (code high) (code low + edge extent.rows dz i) ≡ true = lt-ltb _ _ before in
-        let yes_too : nat_lt (code high) (code low + edge extent.rows dz (i + 1)) ≡ true = lt-ltb _ _ (omega (arith, after_edge, before_edge, row.in_order)) in
-        let out : nat_le (code low + row.first) (code high) ≡ false = lt-leb _ _ (omega (arith, after_edge)) in
-        (λ j. (yes j && is_above grid cone low high) || (out j && nat_lt (code high) (code low + row.past)))
-          ∙ or-false (is_above grid cone low high)
-          ∙ (λ j. sym yes_too j && is_above grid cone low high))
+      let yes : nat_lt (code high) (code low + edge extent.rows dz i) ≡ true = lt-ltb _ _ before in
+      let yes_too : nat_lt (code high) (code low + edge extent.rows dz (i + 1)) ≡ true = lt-ltb _ _ (omega (arith, after_edge, before_edge, row.in_order)) in
+      let out : nat_le (code low + row.first) (code high) ≡ false = lt-leb _ _ (omega (arith, after_edge)) in
+      (λ j. (yes j && is_above grid cone low high) || (out j && nat_lt (code high) (code low + row.past)))
+      ∙ or-false (is_above grid cone low high)
+      ∙ (λ j. sym yes_too j && is_above grid cone low high))
       (λ after. ⊎_elim
-        (λ before.
-          let no : nat_lt (code high) (code low + edge extent.rows dz i) ≡ false = le-ltb _ _ after in
-          let yes : nat_lt (code high) (code low + edge extent.rows dz (i + 1)) ≡ true = lt-ltb _ _ before in
-          let at = at_row extent low high near dz i up inside after before in
-          let told = row_told grid cone extent.rows dz i counts counted low high up within extent.few_rows at row first past in
-          (λ j. (no j && is_above grid cone low high) || told j)
-            ∙ (λ j. sym yes j && is_above grid cone low high))
-        (λ later.
-          let no : nat_lt (code high) (code low + edge extent.rows dz i) ≡ false = le-ltb _ _ after in
-          let no_too : nat_lt (code high) (code low + edge extent.rows dz (i + 1)) ≡ false = le-ltb _ _ later in
-          let out : nat_lt (code high) (code low + row.past) ≡ false = le-ltb _ _ (omega (arith, before_edge)) in
-          (λ j. (no j && is_above grid cone low high) || (nat_le (code low + row.first) (code high) && out j))
-            ∙ and-false (nat_le (code low + row.first) (code high))
-            ∙ (λ j. sym no_too j && is_above grid cone low high))
-        (cases_lt (code high) (code low + edge extent.rows dz (i + 1))))
+      (λ before.
+      let no : nat_lt (code high) (code low + edge extent.rows dz i) ≡ false = le-ltb _ _ after in
+      let yes : nat_lt (code high) (code low + edge extent.rows dz (i + 1)) ≡ true = lt-ltb _ _ before in
+      let at = at_row extent low high near dz i up inside after before in
+      let told = row_told grid cone extent.rows dz i counts counted low high up within extent.few_rows at row first past in
+      (λ j. (no j && is_above grid cone low high) || told j)
+      ∙ (λ j. sym yes j && is_above grid cone low high))
+      (λ later.
+      let no : nat_lt (code high) (code low + edge extent.rows dz i) ≡ false = le-ltb _ _ after in
+      let no_too : nat_lt (code high) (code low + edge extent.rows dz (i + 1)) ≡ false = le-ltb _ _ later in
+      let out : nat_lt (code high) (code low + row.past) ≡ false = le-ltb _ _ (omega (arith, before_edge)) in
+      (λ j. (no j && is_above grid cone low high) || (nat_le (code low + row.first) (code high) && out j))
+      ∙ and-false (nat_le (code low + row.first) (code high))
+      ∙ (λ j. sym no_too j && is_above grid cone low high))
+      (cases_lt (code high) (code low + edge extent.rows dz (i + 1))))
       (cases_lt (code high) (code low + edge extent.rows dz i))
 
   pub tells_row : row.first < row.past → (rows : List Row) → Tells grid cone extent (edge extent.rows dz i) rows → Tells grid cone extent (edge extent.rows dz (i + 1)) (rows ++ row ∷ [])
   tells_row some rows h = record {
     apart = apart_push 0 rows (edge extent.rows dz i) row (edge extent.rows dz (i + 1)) h.apart after_edge some before_edge;
     told = λ low high near.
-      in_rows_push (code low) rows row (code high)
+        in_rows_push (code low) rows row (code high)
         ∙ ap (λ b. b || is_in_row (code low) row (code high)) (h.told low high near)
         ∙ row_adds low high near;
   }
@@ -151,8 +150,8 @@ module _ (grid : Grid) (cone : Cone) (extent : Extent) (dz i : ℕ) (up : 1 ≤ 
   tells_no_row empty rows h = record {
     apart = apart_more 0 rows (edge extent.rows dz i) (edge extent.rows dz (i + 1)) h.apart (omega (arith, after_edge, before_edge, row.in_order));
     told = λ low high near.
-      let none : is_in_row (code low) row (code high) ≡ false = grind (arith, nat_tests, empty) in
-      h.told low high near
+        let none : is_in_row (code low) row (code high) ≡ false = grind (arith, nat_tests, empty) in
+        h.told low high near
         ∙ sym (or-false (nat_lt (code high) (code low + edge extent.rows dz i) && is_above grid cone low high))
         ∙ ap (λ b. (nat_lt (code high) (code low + edge extent.rows dz i) && is_above grid cone low high) || b) (sym none)
         ∙ row_adds low high near;
@@ -165,14 +164,14 @@ module _ (grid : Grid) (cone : Cone) (extent : Extent) where
   tells_none = record {
     apart = omega arith;
     told = λ low high near. ⊎_elim
-      (λ higher.
+        (λ higher.
         let no : nat_lt (code high) (code low + edge extent.rows 1 0) ≡ false = le-ltb _ _ (past_first extent low high near higher) in
         (λ j. sym no j && is_above grid cone low high))
-      (λ lower.
+        (λ lower.
         let no : nat_lt low.z high.z ≡ false = le-ltb low.z high.z lower in
         let none : is_above grid cone low high ≡ false = and_left _ _ no in
         sym (ap (λ b. nat_lt (code high) (code low + edge extent.rows 1 0) && b) none ∙ and-false (nat_lt (code high) (code low + edge extent.rows 1 0))))
-      (cases_lt low.z high.z);
+        (cases_lt low.z high.z);
   }
 
   pub tells_bench : (dz : ℕ) (rows : List Row) → Tells grid cone extent (edge extent.rows dz (2 * extent.rows + 1)) rows → Tells grid cone extent (edge extent.rows (dz + 1) 0) rows
@@ -193,12 +192,12 @@ module _ (grid : Grid) (cone : Cone) (extent : Extent) where
     high = edge extent.rows (top + 1) 0;
     apart = h.apart;
     told = λ low high near. h.told low high near ∙ ⊎_elim
-      (λ above.
+        (λ above.
         let before : nat_lt (code high) (code low + edge extent.rows (top + 1) 0) ≡ true =
-          lt-ltb _ _ (before_last extent low high near top (omega (arith, high_enough low high near above))) in
+        lt-ltb _ _ (before_last extent low high near top (omega (arith, high_enough low high near above))) in
         (λ j. before j && is_above grid cone low high))
-      (λ no.
+        (λ no.
         ap (λ b. nat_lt (code high) (code low + edge extent.rows (top + 1) 0) && b) no
-          ∙ and-false (nat_lt (code high) (code low + edge extent.rows (top + 1) 0)) ∙ sym no)
-      (cases_Bool (is_above grid cone low high));
+        ∙ and-false (nat_lt (code high) (code low + edge extent.rows (top + 1) 0)) ∙ sym no)
+        (cases_Bool (is_above grid cone low high));
   }

@@ -1,5 +1,5 @@
 -- The predecessors of a block: the blocks of the cone that opens above it.
-use Rattle.std.specs.Prelude.{◌≡◌, ℕ, ◌+◌, ◌-◌, ◌*◌, ◌<◌, ◌&&◌, Bool, true, List, [], ◌∷◌, Option, Some, None, All, map, length, nat_lt, nat_le, slice_get, if◌then◌else◌}
+use Rattle.std.specs.Prelude.{ℕ, ◌+◌, ◌-◌, ◌*◌, ◌<◌, ◌&&◌, Bool, List, [], ◌∷◌, Option, Some, None, All, map, length, nat_lt, nat_le, slice_get, if◌then◌else◌}
 use Rattle.std.specs.Int.{abs_diff}
 use Rattle.pit_model.specs.Plan.{PlanParts}
 use Rattle.pit_model.specs.declared.block.Block.{Block}
@@ -21,15 +21,15 @@ square n = n * n
 abbrev pub is_within_slopes : Grid → Slope → Slope → ℕ → ℕ → ℕ → Bool
 is_within_slopes grid along across dx dy dz =
     nat_le
-      (square (dx * (grid.x.size * along.p * across.q)) + square (dy * (grid.y.size * across.p * along.q)))
-      (square (dz * (grid.z.size * along.q * across.q)))
+    (square (dx * (grid.x.size * along.p * across.q)) + square (dy * (grid.y.size * across.p * along.q)))
+    (square (dz * (grid.z.size * along.q * across.q)))
 
 -- `high` lies 1 to k benches above `low`, inside the slopes
 abbrev pub is_above : Grid → Cone → Block → Block → Bool
 is_above grid cone low high =
     nat_lt low.z high.z
-      && (nat_le (high.z - low.z) cone.k
-      && is_within_slopes grid (slope_along_x cone low high) (slope_along_y cone low high) (abs_diff low.x high.x) (abs_diff low.y high.y) (high.z - low.z))
+    && (nat_le (high.z - low.z) cone.k
+    && is_within_slopes grid (slope_along_x cone low high) (slope_along_y cone low high) (abs_diff low.x high.x) (abs_diff low.y high.y) (high.z - low.z))
 
 -- the numbers of the elements that pass, counted from n on
 abbrev pub places_where : {X : Type 0} → (X → Bool) → ℕ → List X → List ℕ

@@ -1,7 +1,7 @@
 -- The lists of all blocks, by the rows of their zones' cones.
-use Rattle.std.specs.Prelude.{ℕ, List, map}
+use Rattle.std.specs.Prelude.{ℕ, List}
 use Rattle.pit_model.specs.declared.block.Block.{Block}
-use Rattle.precedence.specs.Codes.{code, codes}
+use Rattle.precedence.specs.Codes.{code}
 use Rattle.precedence.specs.Cone.{places_where}
 use Rattle.precedence.specs.Rows.{is_in_rows}
 use Rattle.precedence.specs.ZoneTables.{zone_rows}

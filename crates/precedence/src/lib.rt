@@ -19,6 +19,8 @@ mod reach;
 mod rows;
 mod runs;
 mod table;
+#[cfg(test)]
+mod tests;
 mod zone_tables;
 
 pub use above::preds;

@@ -48,7 +48,13 @@ fn keep_hint(hints: &mut [Hint], i: usize, run: Hint) {
 }
 
 /// Appends the identifiers whose codes lie in a row, and tells the first of them and the one past the last.
-fn add_run(list: &mut Vec<u32>, places: &Places, row: Row, hint: Hint, from: u64) -> Result<Hint, AllocError>
+fn add_run(
+    list: &mut Vec<u32>,
+    places: &Places,
+    row: Row,
+    hint: Hint,
+    from: u64,
+) -> Result<Hint, AllocError>
     requires { from < 10 ^ 14 }
     ensures run { OnOk result (list.new.items ≡ list.old.items ++ run from row places.now.codes.items) }
     ensures past { IfOk result (λ found. found.past ≡ start_of (from + row.past) places.now.codes.items) }

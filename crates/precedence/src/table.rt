@@ -15,7 +15,12 @@ use std::alloc::{AllocError, Global};
 
 /// The rows of a cone, in order, in a model no greater than `extent`: a block lies above another just where its code lies in one
 /// of them.
-pub fn rows_of(alloc: Global, grid: Grid, cone: Cone, extent: Extent) -> Result<Vec<Row>, AllocError>
+pub fn rows_of(
+    alloc: Global,
+    grid: Grid,
+    cone: Cone,
+    extent: Extent,
+) -> Result<Vec<Row>, AllocError>
     requires grid { IsGrid grid }
     requires cone { IsCone cone }
     ensures { IfOk result (λ rows. IsTable grid cone extent rows.items) }
@@ -29,7 +34,13 @@ pub fn rows_of(alloc: Global, grid: Grid, cone: Cone, extent: Extent) -> Result<
 }
 
 /// Adds the rows of the bench `dz` above.
-fn add_bench(rows: &mut Vec<Row>, grid: Grid, cone: Cone, extent: Extent, dz: u16) -> Result<(), AllocError>
+fn add_bench(
+    rows: &mut Vec<Row>,
+    grid: Grid,
+    cone: Cone,
+    extent: Extent,
+    dz: u16,
+) -> Result<(), AllocError>
     requires grid { IsGrid grid }
     requires cone { IsCone cone }
     requires up { 1 ≤ dz }

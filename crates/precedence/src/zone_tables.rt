@@ -39,7 +39,12 @@ impl ZoneTables {
 }
 
 /// The tables of these cones, one a zone, in a model no greater than `extent`. Equal cones share one.
-pub fn tables_of(alloc: Global, grid: Grid, cones: &[Cone], extent: Extent) -> Result<ZoneTables, AllocError>
+pub fn tables_of(
+    alloc: Global,
+    grid: Grid,
+    cones: &[Cone],
+    extent: Extent,
+) -> Result<ZoneTables, AllocError>
     requires grid { IsGrid grid }
     requires cones { All IsCone cones.now }
     ensures { IfOk result (λ t. HasTables grid cones.now extent t.tables.items t.of_zone.items) }
@@ -54,7 +59,13 @@ pub fn tables_of(alloc: Global, grid: Grid, cones: &[Cone], extent: Extent) -> R
 }
 
 /// The place of a cone's table, which is made where there is none.
-fn place_of(alloc: Global, tables: &mut Vec<ConeTable>, grid: Grid, cone: Cone, extent: Extent) -> Result<usize, AllocError>
+fn place_of(
+    alloc: Global,
+    tables: &mut Vec<ConeTable>,
+    grid: Grid,
+    cone: Cone,
+    extent: Extent,
+) -> Result<usize, AllocError>
     requires grid { IsGrid grid }
     requires cone { IsCone cone }
     requires told { All (IsTold grid extent) tables.old.items }
@@ -93,7 +104,13 @@ fn rows_before(tables: &[ConeTable]) -> usize {
     }
 }
 
-fn table_of(alloc: Global, grid: Grid, cone: Cone, extent: Extent, start: usize) -> Result<ConeTable, AllocError>
+fn table_of(
+    alloc: Global,
+    grid: Grid,
+    cone: Cone,
+    extent: Extent,
+    start: usize,
+) -> Result<ConeTable, AllocError>
     requires grid { IsGrid grid }
     requires cone { IsCone cone }
     ensures cone { IfOk result (λ table. table.cone ≡ cone) }

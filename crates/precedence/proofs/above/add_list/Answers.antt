@@ -12,5 +12,5 @@ add_above-requires-clause-in_order c =
     let place = get_or c.args.tables.now.of_zone.items c.args.block.now.zone 0 in
     let P : List Row → Type 0 = AreInOrder in
     subst P (sym c.as_slice.ensures.value)
-      (all_at (λ (t : ConeTable). AreInOrder t.rows.items) tables place c.of-table.result.now c.requires.in_order
-        (slice_get_within tables place c.of-table.result.now c.of-table.ensures) c.of-table.ensures)
+    (all_at (λ (t : ConeTable). AreInOrder t.rows.items) tables place c.of-table.result.now c.requires.in_order
+    (slice_get_within tables place c.of-table.result.now c.of-table.ensures) c.of-table.ensures)

@@ -7,4 +7,4 @@ pub loop-id-preserved : goal.loop-id-preserved
 loop-id-preserved c =
     let last : c.loop-id.id ≡ 0 + c.loop-id.id = omega arith in
     c.in_ok-push.ensures.items ∙ ap (λ xs. xs ++ c.loop-id.id ∷ []) c.loop-id.invariant
-        ∙ ap (λ k. range_with_len 0 c.loop-id.id ++ k ∷ []) last ∙ sym (range_more 0 c.loop-id.id)
+    ∙ ap (λ k. range_with_len 0 c.loop-id.id ++ k ∷ []) last ∙ sym (range_more 0 c.loop-id.id)

@@ -7,7 +7,7 @@ abbrev pub invariant-loop-i : goal.invariant-loop-i
 invariant-loop-i l = record {
   within : l.i ≤ length l.rows;
   list : l.list.items ++ places_where (is_in_rows l.from (drop l.i l.rows)) 0 l.places.codes.items
-    ≡ l.initial.list.items ++ places_where (is_in_rows l.from l.rows) 0 l.places.codes.items;
+      ≡ l.initial.list.items ++ places_where (is_in_rows l.from l.rows) 0 l.places.codes.items;
 }
 
 abbrev pub decreases-loop-i : goal.decreases-loop-i

@@ -1,4 +1,4 @@
-use Rattle.std.proofs.Common.{◌≡◌, ◌+◌, ◌≤◌, length, ap, arith}
+use Rattle.std.proofs.Common.{◌+◌, length, ap, arith}
 use Rattle.precedence.proofs.Starts.{start_grows, start_within}
 use Rattle.precedence.proofs.runs.add_run.Goals as goal
 

@@ -1,4 +1,4 @@
-use Rattle.std.proofs.Common.{◌≡◌, ◌+◌, ◌≤◌, ◌<◌, length, get_or, ap, arith}
+use Rattle.std.proofs.Common.{◌<◌, arith}
 use Rattle.std.proofs.lemmas.List.{get_or_default}
 use Rattle.precedence.proofs.Starts.{start_before_in, start_within}
 use Rattle.precedence.proofs.runs.next_row.Goals as goal

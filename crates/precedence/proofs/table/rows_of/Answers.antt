@@ -1,4 +1,4 @@
-use Rattle.std.proofs.Common.{◌≡◌, ℕ, List, [], ◌+◌, ◌∙◌, min, sym, ap, subst, arith}
+use Rattle.std.proofs.Common.{◌≡◌, ℕ, List, ◌+◌, ◌∙◌, min, sym, ap, subst, arith}
 use Rattle.precedence.specs.Rows.{edge, Tells}
 use Rattle.precedence.specs.declared.rows.Row.{Row}
 use Rattle.precedence.proofs.Tables.{tells_none, is_table}
@@ -17,5 +17,5 @@ returns c =
     let last : c.loop-dz.dz ≡ top + 1 = omega (arith, c.loop-dz-test.false, c.loop-dz.auto.dz-end) in
     let P : ℕ → Type 0 = λ dz. Tells a.grid a.cone a.extent (edge a.extent.rows dz 0) c.loop-dz.rows.items in
     is_table a.grid a.cone a.extent top c.loop-dz.rows.items
-      (c.min-top.ensures ∙ ap (λ k. min k a.extent.benches) c.from.ensures)
-      (subst P last c.loop-dz.invariant)
+    (c.min-top.ensures ∙ ap (λ k. min k a.extent.benches) c.from.ensures)
+    (subst P last c.loop-dz.invariant)

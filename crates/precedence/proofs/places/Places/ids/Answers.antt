@@ -1,4 +1,4 @@
-use Rattle.std.proofs.Common.{◌≡◌, ◌-◌, ◌≤◌, ◌∙◌, take, drop, length, ap, arith}
+use Rattle.std.proofs.Common.{◌-◌, ◌∙◌, take, drop, length, ap, arith}
 use Rattle.std.proofs.lemmas.List.FromFn.{length-range_with_len}
 use Rattle.precedence.proofs.RunsOfRows.{part_of_range}
 use Rattle.precedence.proofs.places.Places.ids.Goals as goal
@@ -10,4 +10,4 @@ part-requires-clause-within c =
 pub returns : goal.returns
 returns c =
     c.part.ensures ∙ ap (λ ids. take (c.args.past - c.args.first) (drop c.args.first ids)) (c.as_slice.ensures.value ∙ c.args.self.now.all_ids)
-        ∙ part_of_range (length c.args.self.now.codes.items) c.args.first c.args.past c.requires.in_order c.requires.within
+    ∙ part_of_range (length c.args.self.now.codes.items) c.args.first c.args.past c.requires.in_order c.requires.within
