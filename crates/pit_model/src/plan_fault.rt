@@ -26,16 +26,17 @@ pub enum PlanFaultKind {
     /// A number is out of range.
     #[error("Range")]
     Range,
-    /// A cell is no NAME.
+    /// A cell is no NAME, names no earlier destination or resource, or is no letter of a limit.
     #[error("Name")]
     Name,
-    /// The record stands once before, or another destination has the NAME.
+    /// The record stands once before, another destination or resource has the NAME, a resource names a destination twice, or the resource
+    /// has a limit in that period.
     #[error("Twice")]
     Twice,
-    /// Numbers that must rise do not.
+    /// The starts of bands do not rise, or an interval's ends are the wrong way round.
     #[error("Order")]
     Order,
-    /// One more than there may be: a 65th zone, a 9th destination, or record 10,001.
+    /// One more than there may be: a 65th zone, a 9th destination, a 9th resource, a 17th band, or record 10,001.
     #[error("TooMany")]
     TooMany,
     /// At the end there is no `name`, `grid`, `zone`, destination, `periods` or `rate`.
