@@ -69,7 +69,7 @@ pub covering_next : (resources : List Resource) (d i : ℕ) (r : Resource) → i
 covering_next resources d i r h is =
     ap (λ rs. covering rs d) (take_more resources i r h ∙ ap (λ x. take i resources ++ x ∷ []) (sym is))
     ∙ ap (λ (es : List (ℕ × Resource)). map (pair_with d) (filter (covers d) es))
-        (numbered-append 0 (take i resources) (r ∷ []) ∙ ap (λ k. enumerate_from 0 (take i resources) ++ (k, r) ∷ []) at)
+    (numbered-append 0 (take i resources) (r ∷ []) ∙ ap (λ k. enumerate_from 0 (take i resources) ++ (k, r) ∷ []) at)
     ∙ ap (λ (es : List (ℕ × Resource)). map (pair_with d) es) (filter-append (covers d) (enumerate_from 0 (take i resources)) ((i, r) ∷ []))
     ∙ map-append (pair_with d) (filter (covers d) (enumerate_from 0 (take i resources))) (filter (covers d) ((i, r) ∷ []))
     ∙ ap (λ last. covering (take i resources) d ++ last) (one_pair d i r (covers d (i, r)))
@@ -91,8 +91,8 @@ length-flat f width each [] = sym (zero-mul width)
 length-flat f width each (x ∷ xs) =
     length-append (f x) (flat_map f xs)
     ∙ (let rest : length (flat_map f xs) ≡ length xs * width = length-flat f width each xs in
-       let one : length (f x) ≡ width = each x in
-       grind arith)
+    let one : length (f x) ≡ width = each x in
+    grind arith)
 
 -- and cut again
 pub rows_of-flat : {X A : Type 0} (f : X → List A) (width : ℕ) → ((x : X) → length (f x) ≡ width) → (xs : List X)
@@ -105,6 +105,7 @@ rows_of-flat f width each (x ∷ xs) =
   where
     front : {A : Type 0} (ys zs : List A) (n : ℕ) → length ys ≡ n → take n (ys ++ zs) ≡ ys
     front ys zs n e = ap (λ k. take k (ys ++ zs)) (sym e) ∙ take-append_seam ys zs
+
     back : {A : Type 0} (ys zs : List A) (n : ℕ) → length ys ≡ n → drop n (ys ++ zs) ≡ zs
     back ys zs n e = ap (λ k. drop k (ys ++ zs)) (sym e) ∙ drop-append_seam ys zs
 
@@ -123,16 +124,20 @@ block_found listed n is k d h =
   where
     low : k < length listed
     low = let same : length n.blocks ≡ length listed = is.blocks in omega arith
+
     q : ℕ
     q = slice_index n.positions k
+
     within : q < length listed
     within = is.within k low
+
     before : (j : ℕ) → j < q → (id listed (get_or listed j d) == k) ≡ false
     before j g = fails _ (λ t.
         let there : slice_index n.positions (id listed (get_or listed j d)) ≡ j = is.found j d (omega arith) in
         let same : id listed (get_or listed j d) ≡ k = eqb-true _ _ t in
         let e : q ≡ j = sym (ap (slice_index n.positions) same) ∙ there in
         omega arith)
+
     at : q < length listed → (id listed (get_or listed q d) == k) ≡ true
     at g = eq-eqb _ _ (ap (id listed) (is.stands k d low) ∙ is.identifiers k d low)
 
@@ -153,9 +158,18 @@ by_identifier_is listed n is =
   where
     blank : Block
     blank = record {
-      x = 0; y = 0; z = 0; kg = 0; grade = 0; zone = 0;
-      x_in_grid = omega arith; y_in_grid = omega arith; z_in_grid = omega arith;
-      kg_in_range = omega arith; grade_in_range = omega arith; zone_in_range = omega arith
+      x = 0;
+      y = 0;
+      z = 0;
+      kg = 0;
+      grade = 0;
+      zone = 0;
+      x_in_grid = omega arith;
+      y_in_grid = omega arith;
+      z_in_grid = omega arith;
+      kg_in_range = omega arith;
+      grade_in_range = omega arith;
+      zone_in_range = omega arith;
     }
 
 -- a list that grew by one piece

@@ -48,17 +48,17 @@ chosen_rise values coefs rising i j d h k =
     let high : j < length chosen = omega (arith, length-map chosen without_destination) in
     let low : i < length chosen = omega arith in
     rw (get_or-map without_destination chosen i blank d low, get_or-map without_destination chosen j blank d high)
-        (listed values (get_or chosen i blank) (get_or chosen j blank) (kept_pass (is_chosen values) coefs i blank low)
-            (kept_pass (is_chosen values) coefs j blank high)
-            (AllPairs-filter (λ c e. IsTrue (comes_before c e)) (is_chosen values) coefs rising i j blank h high))
+    (listed values (get_or chosen i blank) (get_or chosen j blank) (kept_pass (is_chosen values) coefs i blank low)
+    (kept_pass (is_chosen values) coefs j blank high)
+    (AllPairs-filter (λ c e. IsTrue (comes_before c e)) (is_chosen values) coefs rising i j blank h high))
 
 chosen_in_range : (values : List (List ℤ)) (n destinations resources : ℕ) (coefs : List Coef)
     → All (λ c. (c.b < n) × (c.d < destinations) × (c.r < resources)) coefs
     → All (λ c. (c.b < n) × (c.r < resources)) (map without_destination (filter (is_chosen values) coefs))
 chosen_in_range values n destinations resources coefs in_range =
     All-map (λ c. (c.b < n) × (c.r < resources)) without_destination (filter (is_chosen values) coefs)
-        (All-weaker (λ c. (c.b < n) × (c.d < destinations) × (c.r < resources)) (λ c. (c.b < n) × (c.r < resources)) (λ c h. (h.0, h.2)) _
-            (All-filter (is_chosen values) (λ c. (c.b < n) × (c.d < destinations) × (c.r < resources)) coefs in_range))
+    (All-weaker (λ c. (c.b < n) × (c.d < destinations) × (c.r < resources)) (λ c. (c.b < n) × (c.r < resources)) (λ c h. (h.0, h.2)) _
+    (All-filter (is_chosen values) (λ c. (c.b < n) × (c.d < destinations) × (c.r < resources)) coefs in_range))
 
 pub cpit_is_one : (i : Instance) (name : List ℕ) (values : List ℤ) (coefs : List CpitCoef) (limits : List Limit) → IsValid i
     → values ≡ map greatest i.values → coefs ≡ map without_destination (filter (is_chosen i.values) i.coefs) → limits ≡ i.limits
@@ -70,9 +70,9 @@ cpit_is_one i name values coefs limits v of_values of_coefs of_limits =
       horizon = v.horizon;
       coefs = rw (count, of_coefs) (record {
         in_range = chosen_in_range i.values (length i.blocks) i.destinations i.resources i.coefs v.coefs.in_range;
-        rising = chosen_rise i.values i.coefs v.coefs.rising
+        rising = chosen_rise i.values i.coefs v.coefs.rising;
       });
-      limits = rw of_limits v.limits
+      limits = rw of_limits v.limits;
     }
 
 -- each coefficient is of a block that has values

@@ -18,7 +18,7 @@ pub first_greatest_is : (numbers : List ℤ) (best : ℕ) → best < length numb
     → first_greatest numbers ≡ best
 first_greatest_is numbers best within less most =
     position_or_len_is (is_greatest numbers) numbers best (pos 0) (omega arith)
-        (λ k h. list_all_at (λ m. int_le m (get_or numbers k (pos 0))) numbers best (pos 0) within (int_le-false _ _ (less k (pos 0) h)))
-        (λ _. list_all-from_AllPass (λ m. int_le m (get_or numbers best (pos 0))) numbers
-            (All-from_get_or (λ m. int_le m (get_or numbers best (pos 0)) ≡ true) numbers (pos 0)
-                (λ k h. int_le-true _ _ (most k (pos 0) h))))
+    (λ k h. list_all_at (λ m. int_le m (get_or numbers k (pos 0))) numbers best (pos 0) within (int_le-false _ _ (less k (pos 0) h)))
+    (λ _. list_all-from_AllPass (λ m. int_le m (get_or numbers best (pos 0))) numbers
+    (All-from_get_or (λ m. int_le m (get_or numbers best (pos 0)) ≡ true) numbers (pos 0)
+    (λ k h. int_le-true _ _ (most k (pos 0) h))))

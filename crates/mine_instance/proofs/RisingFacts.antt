@@ -12,9 +12,12 @@ rises_more R through xs n x y from within x_is y_is next before i j d below high
   where
     pair : R (get_or xs (n - 1) d) (get_or xs n d)
     pair = pair_read xs R (n - 1) n x y (omega arith) within x_is y_is next d
+
     up_to : i < n → R (get_or xs i d) (get_or xs n d)
     up_to h = elim (cases_lt i (n - 1)) [
-        inl k ↦ through (get_or xs i d) (get_or xs (n - 1) d) (get_or xs n d) (before i (n - 1) d k (omega arith)) pair
-      | inr k ↦ (let P : ℕ → Type 0 = λ m. R (get_or xs m d) (get_or xs n d) in subst P (omega arith) pair) ]
+      | inl k ↦ through (get_or xs i d) (get_or xs (n - 1) d) (get_or xs n d) (before i (n - 1) d k (omega arith)) pair
+      | inr k ↦ (let P : ℕ → Type 0 = λ m. R (get_or xs m d) (get_or xs n d) in subst P (omega arith) pair)
+    ]
+
     last : j ≡ n → R (get_or xs i d) (get_or xs j d)
     last e = let P : ℕ → Type 0 = λ m. R (get_or xs i d) (get_or xs m d) in subst P (sym e) (up_to (omega arith))

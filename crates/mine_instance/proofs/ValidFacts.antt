@@ -22,12 +22,13 @@ pub distinct_more : (ids : List ℕ) (n x : ℕ) → n < length ids → x ≡ ge
     → ((i j d : ℕ) → i < j → j < n → get_or ids i d ≢ get_or ids j d)
     → (i j d : ℕ) → i < j → j < n + 1 → get_or ids i d ≢ get_or ids j d
 distinct_more ids n x within is new before i j d below high = elim (cases_lt j n) [
-    inl h ↦ before i j d below h
+  | inl h ↦ before i j d below h
   | inr h ↦ (λ same.
       let e : j ≡ n = omega arith in
       let low : i < n = omega arith in
       new i d (omega (arith, length-take-le n ids (omega arith)))
-        (get_or-take n ids i d low ∙ same ∙ ap (λ k. get_or ids k d) e ∙ get_or_default ids n d x within ∙ sym is)) ]
+      (get_or-take n ids i d low ∙ same ∙ ap (λ k. get_or ids k d) e ∙ get_or_default ids n d x within ∙ sym is))
+]
 
 -- numbers that rise differ
 pub rising_differ : (ids : List ℕ) → AllPairs (λ n m. n < m) ids → AllPairs (λ id other. id ≢ other) ids

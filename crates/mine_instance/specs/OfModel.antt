@@ -80,7 +80,7 @@ instance_with name rate periods destinations resources blocks lists values coefs
 abbrev pub instance_of : PlanParts → List Block → Instance
 instance_of plan blocks =
     instance_with plan.name plan.rate plan.periods (length plan.formulas) (length plan.resources) blocks (preds plan blocks)
-        (map (values_of plan) blocks) (coefs_of (covered plan) blocks) plan.limits
+    (map (values_of plan) blocks) (coefs_of (covered plan) blocks) plan.limits
 
 -- the instance of a list of blocks and a plan
 abbrev pub instance : PlanParts → List Block → Instance

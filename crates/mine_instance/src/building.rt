@@ -168,11 +168,7 @@ fn put_if_covers(
     Ok(())
 }
 
-fn coefs_by_id(
-    alloc: Global,
-    pairs: &[Covering],
-    blocks: &[Block],
-) -> Result<Vec<Coef>, AllocError>
+fn coefs_by_id(alloc: Global, pairs: &[Covering], blocks: &[Block]) -> Result<Vec<Coef>, AllocError>
     requires { length blocks.now ≤ 64000000 }
     ensures { IfOk result (λ coefs. coefs.items ≡ coefs_of pairs.now blocks.now) }
 {

@@ -45,11 +45,7 @@ fn greatest_values(alloc: Global, values: &Values) -> Result<Vec<Dec>, AllocErro
     Ok(all)
 }
 
-fn chosen_coefs(
-    alloc: Global,
-    coefs: &[Coef],
-    values: &Values,
-) -> Result<Vec<CpitCoef>, AllocError>
+fn chosen_coefs(alloc: Global, coefs: &[Coef], values: &Values) -> Result<Vec<CpitCoef>, AllocError>
     requires some { All (λ of_block. 0 < length of_block) values.now }
     requires there { All (λ coef. coef.b < length values.now) coefs.now }
     ensures { IfOk result (λ chosen. chosen.items ≡ map without_destination (filter (is_chosen values.now) coefs.now)) }

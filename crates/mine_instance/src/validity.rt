@@ -114,18 +114,18 @@ fn has_destinations(destinations: u8, values: &Values) -> bool
 fn are_coefs(coefs: &[Coef], count: usize, destinations: u8, resources: u8) -> bool
     ensures { IsTrue result ↔ AreCoefs count destinations resources coefs.now }
 {
-    coefs
-        .iter()
-        .all(|coef| (coef.b as usize) < count && coef.d < destinations && coef.r < resources)
+    coefs.iter().all(|coef| (coef.b as usize) < count
+        && coef.d < destinations
+        && coef.r < resources)
         && rises(coefs)
 }
 
 fn are_limits(limits: &[Limit], resources: u8, periods: u8) -> bool
     ensures { IsTrue result ↔ AreLimits resources periods limits.now }
 {
-    limits
-        .iter()
-        .all(|limit| limit.resource < resources && limit.period < periods && is_upward(&limit.bound))
+    limits.iter().all(|limit| limit.resource < resources
+        && limit.period < periods
+        && is_upward(&limit.bound))
         && rises(limits)
 }
 

@@ -109,4 +109,4 @@ pub more_buffered_lines : (xs ys zs : List (List ℕ)) (before between after : L
     → after ≡ between ++ text_of ys → added (text_of zs) (added after t) ≡ added (text_of (xs ++ ys ++ zs)) (added before t)
 more_buffered_lines xs ys zs before between after t d e =
     buffered_lines (xs ++ ys) zs before after t
-        (e ∙ ap (λ front. front ++ text_of ys) d ∙ append_assoc before (text_of xs) (text_of ys) ∙ ap (λ rest. before ++ rest) (sym (text_of-append xs ys)))
+    (e ∙ ap (λ front. front ++ text_of ys) d ∙ append_assoc before (text_of xs) (text_of ys) ∙ ap (λ rest. before ++ rest) (sym (text_of-append xs ys)))

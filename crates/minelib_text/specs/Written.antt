@@ -76,8 +76,8 @@ abbrev pub pcpsp_keys : ℕ → ℕ → ℕ → ℤ → List (List ℕ)
 pcpsp_keys periods destinations resources rate =
     count_keys periods destinations resources
     ++ (key_line (codes "NGENERAL_SIDE_CONSTRAINTS:") (codes "0")
-        ∷ key_line (codes "DISCOUNT_RATE:") (shortest rate)
-        ∷ [])
+    ∷ key_line (codes "DISCOUNT_RATE:") (shortest rate)
+    ∷ [])
 
 -- the further key lines of the constrained pit limit problem
 abbrev pub cpit_keys : ℕ → ℕ → ℤ → List (List ℕ)
@@ -106,18 +106,18 @@ text_prec i = text_of (lines_from prec_fields 0 i.preds)
 unfoldable pub text_upit : Instance → List ℕ
 text_upit i =
     text_of (problem_keys i.name (codes "UPIT") (length i.blocks)
-        ++ (codes "OBJECTIVE_FUNCTION:" ∷ lines_from greatest_fields 0 i.values))
+    ++ (codes "OBJECTIVE_FUNCTION:" ∷ lines_from greatest_fields 0 i.values))
 
 -- the PCPSP file
 unfoldable pub text_pcpsp : Instance → List ℕ
 text_pcpsp i =
     text_of (problem_keys i.name (codes "PCPSP") (length i.blocks)
-        ++ pcpsp_keys i.periods i.destinations i.resources i.rate
-        ++ section_lines (lines_from value_fields 0 i.values) (lines_from coef_fields 0 i.coefs) (lines_from limit_fields 0 i.limits))
+    ++ pcpsp_keys i.periods i.destinations i.resources i.rate
+    ++ section_lines (lines_from value_fields 0 i.values) (lines_from coef_fields 0 i.coefs) (lines_from limit_fields 0 i.limits))
 
 -- the CPIT file
 unfoldable pub text_cpit : CpitParts → List ℕ
 text_cpit c =
     text_of (problem_keys c.name (codes "CPIT") (length c.values)
-        ++ cpit_keys c.periods c.resources c.rate
-        ++ section_lines (lines_from cpit_value_fields 0 c.values) (lines_from cpit_coef_fields 0 c.coefs) (lines_from limit_fields 0 c.limits))
+    ++ cpit_keys c.periods c.resources c.rate
+    ++ section_lines (lines_from cpit_value_fields 0 c.values) (lines_from cpit_coef_fields 0 c.coefs) (lines_from limit_fields 0 c.limits))

@@ -107,7 +107,12 @@ impl<'a> Section for GreatestLines<'a> {
     }
 }
 
-fn put_greatest(alloc: Global, out: &mut Vec<u8>, id: usize, values: &[Dec]) -> Result<(), AllocError>
+fn put_greatest(
+    alloc: Global,
+    out: &mut Vec<u8>,
+    id: usize,
+    values: &[Dec],
+) -> Result<(), AllocError>
     requires { 0 < length values.now }
     ensures { OnOk result (out.new.items ≡ out.old.items ++ (line_of (greatest_fields id values.now) ++ 10 ∷ [])) }
 {

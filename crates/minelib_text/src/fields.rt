@@ -42,7 +42,12 @@ pub fn put_whole_behind(out: &mut Vec<u8>, before: u8, number: u64) -> Result<()
 }
 
 /// Appends the shortest text of a decimal and the byte that ends it.
-pub fn put_decimal_to(alloc: Global, out: &mut Vec<u8>, number: Dec, end: u8) -> Result<(), AllocError>
+pub fn put_decimal_to(
+    alloc: Global,
+    out: &mut Vec<u8>,
+    number: Dec,
+    end: u8,
+) -> Result<(), AllocError>
     ensures { OnOk result (out.new.items ≡ out.old.items ++ (shortest number ++ end ∷ [])) }
 {
     put_dec(alloc, out, number)?;
@@ -51,7 +56,12 @@ pub fn put_decimal_to(alloc: Global, out: &mut Vec<u8>, number: Dec, end: u8) ->
 }
 
 /// Appends a byte and the shortest text of a decimal behind it.
-pub fn put_decimal_behind(alloc: Global, out: &mut Vec<u8>, before: u8, number: Dec) -> Result<(), AllocError>
+pub fn put_decimal_behind(
+    alloc: Global,
+    out: &mut Vec<u8>,
+    before: u8,
+    number: Dec,
+) -> Result<(), AllocError>
     ensures { OnOk result (out.new.items ≡ out.old.items ++ before ∷ shortest number) }
 {
     out.push(before)?;

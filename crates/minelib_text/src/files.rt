@@ -23,7 +23,12 @@ pub struct BlockFile<'a> {
 impl<'a> Text for BlockFile<'a> {
     ghost text = { λ t. text_blocks t.instance.now };
 
-    fn write<S: Sink>(&self, alloc: Global, sink: &mut S, buffer: &mut Vec<u8>) -> Result<(), WriteFault> {
+    fn write<S: Sink>(
+        &self,
+        alloc: Global,
+        sink: &mut S,
+        buffer: &mut Vec<u8>,
+    ) -> Result<(), WriteFault> {
         let items = self.instance.blocks.as_slice();
         write_section(alloc, sink, buffer, &Lines { items })
     }
@@ -38,7 +43,12 @@ pub struct PrecFile<'a> {
 impl<'a> Text for PrecFile<'a> {
     ghost text = { λ t. text_prec t.instance.now };
 
-    fn write<S: Sink>(&self, alloc: Global, sink: &mut S, buffer: &mut Vec<u8>) -> Result<(), WriteFault> {
+    fn write<S: Sink>(
+        &self,
+        alloc: Global,
+        sink: &mut S,
+        buffer: &mut Vec<u8>,
+    ) -> Result<(), WriteFault> {
         let preds = &self.instance.preds;
         write_section(alloc, sink, buffer, &PrecLines { preds })
     }
@@ -53,10 +63,26 @@ pub struct UpitFile<'a> {
 impl<'a> Text for UpitFile<'a> {
     ghost text = { λ t. text_upit t.instance.now };
 
-    fn write<S: Sink>(&self, alloc: Global, sink: &mut S, buffer: &mut Vec<u8>) -> Result<(), WriteFault> {
+    fn write<S: Sink>(
+        &self,
+        alloc: Global,
+        sink: &mut S,
+        buffer: &mut Vec<u8>,
+    ) -> Result<(), WriteFault> {
         let values = &self.instance.values;
-        put_problem(buffer, &self.instance.name, b"UPIT", self.instance.blocks_len())?;
-        write_titled(alloc, sink, buffer, b"OBJECTIVE_FUNCTION:", &GreatestLines { values })
+        put_problem(
+            buffer,
+            &self.instance.name,
+            b"UPIT",
+            self.instance.blocks_len(),
+        )?;
+        write_titled(
+            alloc,
+            sink,
+            buffer,
+            b"OBJECTIVE_FUNCTION:",
+            &GreatestLines { values },
+        )
     }
 }
 
@@ -68,7 +94,12 @@ pub struct PcpspFile<'a> {
 impl<'a> Text for PcpspFile<'a> {
     ghost text = { λ t. text_pcpsp t.instance.now };
 
-    fn write<S: Sink>(&self, alloc: Global, sink: &mut S, buffer: &mut Vec<u8>) -> Result<(), WriteFault> {
+    fn write<S: Sink>(
+        &self,
+        alloc: Global,
+        sink: &mut S,
+        buffer: &mut Vec<u8>,
+    ) -> Result<(), WriteFault> {
         let instance = self.instance;
         put_problem(buffer, &instance.name, b"PCPSP", instance.blocks_len())?;
         put_pcpsp_keys(alloc, buffer, instance)?;
@@ -97,7 +128,12 @@ pub struct CpitFile<'a> {
 impl<'a> Text for CpitFile<'a> {
     ghost text = { λ t. text_cpit t.cpit.now };
 
-    fn write<S: Sink>(&self, alloc: Global, sink: &mut S, buffer: &mut Vec<u8>) -> Result<(), WriteFault> {
+    fn write<S: Sink>(
+        &self,
+        alloc: Global,
+        sink: &mut S,
+        buffer: &mut Vec<u8>,
+    ) -> Result<(), WriteFault> {
         let cpit = self.cpit;
         put_problem(buffer, cpit.name(), b"CPIT", cpit.values().len())?;
         put_cpit_keys(alloc, buffer, cpit)?;

@@ -13,7 +13,12 @@ use pit_units::Dec;
 use std::alloc::{AllocError, Global};
 
 /// Appends the key lines that all problems begin with.
-pub fn put_problem(out: &mut Vec<u8>, name: &Name, problem: &[u8], blocks: usize) -> Result<(), AllocError>
+pub fn put_problem(
+    out: &mut Vec<u8>,
+    name: &Name,
+    problem: &[u8],
+    blocks: usize,
+) -> Result<(), AllocError>
     ensures { OnOk result (out.new.items ≡ out.old.items ++ text_of (problem_keys name.now problem.now blocks)) }
 {
     put_key(out, b"NAME:", name.as_str().as_bytes())?;
@@ -22,7 +27,11 @@ pub fn put_problem(out: &mut Vec<u8>, name: &Name, problem: &[u8], blocks: usize
 }
 
 /// Appends the further key lines of the production scheduling problem.
-pub fn put_pcpsp_keys(alloc: Global, out: &mut Vec<u8>, instance: &Instance) -> Result<(), AllocError>
+pub fn put_pcpsp_keys(
+    alloc: Global,
+    out: &mut Vec<u8>,
+    instance: &Instance,
+) -> Result<(), AllocError>
     ensures { OnOk result (out.new.items ≡ out.old.items
         ++ text_of (pcpsp_keys instance.now.periods instance.now.destinations instance.now.resources instance.now.rate)) }
 {
@@ -64,7 +73,12 @@ fn put_count(out: &mut Vec<u8>, key: &[u8], count: u64) -> Result<(), AllocError
     put_whole_to(out, count, b'\n')
 }
 
-fn put_decimal_key(alloc: Global, out: &mut Vec<u8>, key: &[u8], number: Dec) -> Result<(), AllocError>
+fn put_decimal_key(
+    alloc: Global,
+    out: &mut Vec<u8>,
+    key: &[u8],
+    number: Dec,
+) -> Result<(), AllocError>
     ensures { OnOk result (out.new.items ≡ out.old.items ++ (key_line key.now (shortest number) ++ 10 ∷ [])) }
 {
     put_text(out, key, b' ')?;

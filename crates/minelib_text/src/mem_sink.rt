@@ -27,13 +27,13 @@ impl Model for MemSink {
     ghost Value = { Tray };
 
     ghost view = { λ s. record {
-        begun = s.begun;
-        bytes = s.bytes.items;
-        room = vec_capacity s.bytes;
-        step = s.step;
-        failing = s.failing;
-        calls = s.calls;
-        failures = count_of s.failures
+      begun = s.begun;
+      bytes = s.bytes.items;
+      room = vec_capacity s.bytes;
+      step = s.step;
+      failing = s.failing;
+      calls = s.calls;
+      failures = count_of s.failures;
     } };
 
     ghost invariant = { λ s. (1 ≤ s.step) × (s.calls ≤ s.failing) };

@@ -30,7 +30,7 @@ pub trait Sink {
         ensures works { OnOk result (failures self.new ≡ failures self.old) }
         ensures refused { OnErr result
             (IsAsItWas (is_begun self.old) (is_begun self.new) (taken self.old) (taken self.new)
-                ⊎ IsBegunWithFrontOf [] (is_begun self.new) (taken self.old) (taken self.new)) }
+            ⊎ IsBegunWithFrontOf [] (is_begun self.new) (taken self.old) (taken self.new)) }
         ensures fails { OnErr result (failures self.new ≡ failures self.old + 1) };
 
     /// Takes the first bytes of `bytes`, and answers how many: at least one where there is one.

@@ -13,7 +13,12 @@ pub trait Text {
     ghost text: { Self → List ℕ };
 
     /// Writes the text behind what the buffer holds.
-    fn write<S: Sink>(&self, alloc: Global, sink: &mut S, buffer: &mut Vec<u8>) -> Result<(), WriteFault>
+    fn write<S: Sink>(
+        &self,
+        alloc: Global,
+        sink: &mut S,
+        buffer: &mut Vec<u8>,
+    ) -> Result<(), WriteFault>
         ensures written { OnOk result (added buffer.new.items (S.taken sink.new)
             ≡ added (text self.now) (added buffer.old.items (S.taken sink.old))) }
         ensures front { OnErr result (IsFront (S.taken sink.new)
@@ -31,7 +36,7 @@ pub fn write_text<S: Sink, T: Text>(alloc: Global, text: &T, sink: &mut S) -> Re
     ensures works { OnOk result (S.failures sink.new ≡ S.failures sink.old) }
     ensures refused { OnErr result
         (IsAsItWas (S.is_begun sink.old) (S.is_begun sink.new) (S.taken sink.old) (S.taken sink.new)
-            ⊎ IsBegunWithFrontOf (T.text text.now) (S.is_begun sink.new) (S.taken sink.old) (S.taken sink.new)) }
+        ⊎ IsBegunWithFrontOf (T.text text.now) (S.is_begun sink.new) (S.taken sink.old) (S.taken sink.new)) }
     ensures fails { IsErrOf result WriteFault.SinkFailed → S.failures sink.new ≡ S.failures sink.old + 1 }
     ensures memory { IsErrOf result WriteFault.OutOfMemory → S.failures sink.new ≡ S.failures sink.old }
 {

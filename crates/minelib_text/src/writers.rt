@@ -19,14 +19,18 @@ use std::alloc::Global;
 ///
 /// `SinkFailed` where the sink refused a call of this call, `OutOfMemory` where memory was refused. The sink is as it was, or it
 /// was begun and holds the front of the text.
-pub fn write_blocks<S: Sink>(alloc: Global, instance: &Instance, sink: &mut S) -> Result<(), WriteFault>
+pub fn write_blocks<S: Sink>(
+    alloc: Global,
+    instance: &Instance,
+    sink: &mut S,
+) -> Result<(), WriteFault>
     requires { IsValid instance.now }
     ensures begun { OnOk result (IsTrue (S.is_begun sink.new)) }
     ensures written { OnOk result (S.taken sink.new ≡ holding (text_blocks instance.now) (S.taken sink.old)) }
     ensures works { OnOk result (S.failures sink.new ≡ S.failures sink.old) }
     ensures refused { OnErr result
         (IsAsItWas (S.is_begun sink.old) (S.is_begun sink.new) (S.taken sink.old) (S.taken sink.new)
-            ⊎ IsBegunWithFrontOf (text_blocks instance.now) (S.is_begun sink.new) (S.taken sink.old) (S.taken sink.new)) }
+        ⊎ IsBegunWithFrontOf (text_blocks instance.now) (S.is_begun sink.new) (S.taken sink.old) (S.taken sink.new)) }
     ensures fails { IsErrOf result WriteFault.SinkFailed → S.failures sink.new ≡ S.failures sink.old + 1 }
     ensures memory { IsErrOf result WriteFault.OutOfMemory → S.failures sink.new ≡ S.failures sink.old }
 {
@@ -39,14 +43,18 @@ pub fn write_blocks<S: Sink>(alloc: Global, instance: &Instance, sink: &mut S) -
 ///
 /// `SinkFailed` where the sink refused a call of this call, `OutOfMemory` where memory was refused. The sink is as it was, or it
 /// was begun and holds the front of the text.
-pub fn write_prec<S: Sink>(alloc: Global, instance: &Instance, sink: &mut S) -> Result<(), WriteFault>
+pub fn write_prec<S: Sink>(
+    alloc: Global,
+    instance: &Instance,
+    sink: &mut S,
+) -> Result<(), WriteFault>
     requires { IsValid instance.now }
     ensures begun { OnOk result (IsTrue (S.is_begun sink.new)) }
     ensures written { OnOk result (S.taken sink.new ≡ holding (text_prec instance.now) (S.taken sink.old)) }
     ensures works { OnOk result (S.failures sink.new ≡ S.failures sink.old) }
     ensures refused { OnErr result
         (IsAsItWas (S.is_begun sink.old) (S.is_begun sink.new) (S.taken sink.old) (S.taken sink.new)
-            ⊎ IsBegunWithFrontOf (text_prec instance.now) (S.is_begun sink.new) (S.taken sink.old) (S.taken sink.new)) }
+        ⊎ IsBegunWithFrontOf (text_prec instance.now) (S.is_begun sink.new) (S.taken sink.old) (S.taken sink.new)) }
     ensures fails { IsErrOf result WriteFault.SinkFailed → S.failures sink.new ≡ S.failures sink.old + 1 }
     ensures memory { IsErrOf result WriteFault.OutOfMemory → S.failures sink.new ≡ S.failures sink.old }
 {
@@ -60,14 +68,18 @@ pub fn write_prec<S: Sink>(alloc: Global, instance: &Instance, sink: &mut S) -> 
 ///
 /// `SinkFailed` where the sink refused a call of this call, `OutOfMemory` where memory was refused. The sink is as it was, or it
 /// was begun and holds the front of the text.
-pub fn write_upit<S: Sink>(alloc: Global, instance: &Instance, sink: &mut S) -> Result<(), WriteFault>
+pub fn write_upit<S: Sink>(
+    alloc: Global,
+    instance: &Instance,
+    sink: &mut S,
+) -> Result<(), WriteFault>
     requires { IsValid instance.now }
     ensures begun { OnOk result (IsTrue (S.is_begun sink.new)) }
     ensures written { OnOk result (S.taken sink.new ≡ holding (text_upit instance.now) (S.taken sink.old)) }
     ensures works { OnOk result (S.failures sink.new ≡ S.failures sink.old) }
     ensures refused { OnErr result
         (IsAsItWas (S.is_begun sink.old) (S.is_begun sink.new) (S.taken sink.old) (S.taken sink.new)
-            ⊎ IsBegunWithFrontOf (text_upit instance.now) (S.is_begun sink.new) (S.taken sink.old) (S.taken sink.new)) }
+        ⊎ IsBegunWithFrontOf (text_upit instance.now) (S.is_begun sink.new) (S.taken sink.old) (S.taken sink.new)) }
     ensures fails { IsErrOf result WriteFault.SinkFailed → S.failures sink.new ≡ S.failures sink.old + 1 }
     ensures memory { IsErrOf result WriteFault.OutOfMemory → S.failures sink.new ≡ S.failures sink.old }
 {
@@ -80,14 +92,18 @@ pub fn write_upit<S: Sink>(alloc: Global, instance: &Instance, sink: &mut S) -> 
 ///
 /// `SinkFailed` where the sink refused a call of this call, `OutOfMemory` where memory was refused. The sink is as it was, or it
 /// was begun and holds the front of the text.
-pub fn write_pcpsp<S: Sink>(alloc: Global, instance: &Instance, sink: &mut S) -> Result<(), WriteFault>
+pub fn write_pcpsp<S: Sink>(
+    alloc: Global,
+    instance: &Instance,
+    sink: &mut S,
+) -> Result<(), WriteFault>
     requires { IsValid instance.now }
     ensures begun { OnOk result (IsTrue (S.is_begun sink.new)) }
     ensures written { OnOk result (S.taken sink.new ≡ holding (text_pcpsp instance.now) (S.taken sink.old)) }
     ensures works { OnOk result (S.failures sink.new ≡ S.failures sink.old) }
     ensures refused { OnErr result
         (IsAsItWas (S.is_begun sink.old) (S.is_begun sink.new) (S.taken sink.old) (S.taken sink.new)
-            ⊎ IsBegunWithFrontOf (text_pcpsp instance.now) (S.is_begun sink.new) (S.taken sink.old) (S.taken sink.new)) }
+        ⊎ IsBegunWithFrontOf (text_pcpsp instance.now) (S.is_begun sink.new) (S.taken sink.old) (S.taken sink.new)) }
     ensures fails { IsErrOf result WriteFault.SinkFailed → S.failures sink.new ≡ S.failures sink.old + 1 }
     ensures memory { IsErrOf result WriteFault.OutOfMemory → S.failures sink.new ≡ S.failures sink.old }
 {
@@ -106,7 +122,7 @@ pub fn write_cpit<S: Sink>(alloc: Global, cpit: &Cpit, sink: &mut S) -> Result<(
     ensures works { OnOk result (S.failures sink.new ≡ S.failures sink.old) }
     ensures refused { OnErr result
         (IsAsItWas (S.is_begun sink.old) (S.is_begun sink.new) (S.taken sink.old) (S.taken sink.new)
-            ⊎ IsBegunWithFrontOf (text_cpit cpit.now) (S.is_begun sink.new) (S.taken sink.old) (S.taken sink.new)) }
+        ⊎ IsBegunWithFrontOf (text_cpit cpit.now) (S.is_begun sink.new) (S.taken sink.old) (S.taken sink.new)) }
     ensures fails { IsErrOf result WriteFault.SinkFailed → S.failures sink.new ≡ S.failures sink.old + 1 }
     ensures memory { IsErrOf result WriteFault.OutOfMemory → S.failures sink.new ≡ S.failures sink.old }
 {

@@ -308,7 +308,10 @@ fn failing_devices(rt: HostRuntime) -> Result<(), Fail> {
     }
     // The precedence file's second call fails: it was begun and is empty.
     let mut sink = MemSink::failing(alloc, 2);
-    assert_eq!(rt; write_prec(alloc, &instance, &mut sink), Err(WriteFault::SinkFailed));
+    assert_eq!(rt;
+        write_prec(alloc, &instance, &mut sink),
+        Err(WriteFault::SinkFailed)
+    );
     assert!(rt; sink.begun() && sink.bytes().is_empty());
     Ok(())
 }

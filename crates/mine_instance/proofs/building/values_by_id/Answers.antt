@@ -14,15 +14,15 @@ pub new-requires : goal.new-requires
 new-requires c =
     let blocks = c.args.numbering.now.blocks in
     let all : c.loop-id.all.items ≡ flat_map (values_of c.args.plan.now) blocks =
-        c.loop-id.invariant ∙ ap (flat_map (values_of c.args.plan.now)) (take_all c.loop-id.id blocks (omega arith)) in
+    c.loop-id.invariant ∙ ap (flat_map (values_of c.args.plan.now)) (take_all c.loop-id.id blocks (omega arith)) in
     let count : length c.loop-id.all.items ≡ length blocks * length c.args.plan.now.formulas =
-        ap length all ∙ length-flat (values_of c.args.plan.now) (length c.args.plan.now.formulas) (length-values_of c.args.plan.now) blocks in
+    ap length all ∙ length-flat (values_of c.args.plan.now) (length c.args.plan.now.formulas) (length-values_of c.args.plan.now) blocks in
     rw (c.formulas-width.ensures.value, c.len-count.ensures.value) (omega arith)
 
 pub returns : goal.returns
 returns c =
     let blocks = c.args.numbering.now.blocks in
     let all : c.loop-id.all.items ≡ flat_map (values_of c.args.plan.now) blocks =
-        c.loop-id.invariant ∙ ap (flat_map (values_of c.args.plan.now)) (take_all c.loop-id.id blocks (omega arith)) in
+    c.loop-id.invariant ∙ ap (flat_map (values_of c.args.plan.now)) (take_all c.loop-id.id blocks (omega arith)) in
     c.new.ensures ∙ (rw (c.formulas-width.ensures.value, c.len-count.ensures.value, all)
-        (rows_of-flat (values_of c.args.plan.now) (length c.args.plan.now.formulas) (length-values_of c.args.plan.now) blocks))
+    (rows_of-flat (values_of c.args.plan.now) (length c.args.plan.now.formulas) (length-values_of c.args.plan.now) blocks))

@@ -11,6 +11,6 @@ returns c =
     let destinations = key_line (codes "NDESTINATIONS:") (decimal c.args.instance.now.destinations) in
     let resources = key_line (codes "NRESOURCE_SIDE_CONSTRAINTS:") (decimal c.args.instance.now.resources) in
     on_ok_weaker c.put_small-3.result
-        (line_more (periods ∷ destinations ∷ []) resources _ _ _
-            (line_more (periods ∷ []) destinations _ _ _ (first_line periods _ _ c.in_ok-put_small.ensures) c.in_ok-put_small-2.ensures))
-        c.put_small-3.ensures
+    (line_more (periods ∷ destinations ∷ []) resources _ _ _
+    (line_more (periods ∷ []) destinations _ _ _ (first_line periods _ _ c.in_ok-put_small.ensures) c.in_ok-put_small-2.ensures))
+    c.put_small-3.ensures

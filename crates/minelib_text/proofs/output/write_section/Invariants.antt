@@ -7,7 +7,7 @@ use Rattle.minelib_text.proofs.output.write_section.Given as goal
 abbrev pub invariant-loop-index : goal.invariant-loop-index
 invariant-loop-index g l = record {
   written : added (text_of (drop l.index (g.L.Section.lines l.section))) (added l.buffer.items (g.S.Sink.taken l.sink))
-    ≡ added (text_of (g.L.Section.lines l.section)) (added l.initial.buffer.items (g.S.Sink.taken l.initial.sink));
+      ≡ added (text_of (g.L.Section.lines l.section)) (added l.initial.buffer.items (g.S.Sink.taken l.initial.sink));
   works : g.S.Sink.failures l.sink ≡ g.S.Sink.failures l.initial.sink;
   begun : g.S.Sink.is_begun l.sink ≡ g.S.Sink.is_begun l.initial.sink;
 }

@@ -16,4 +16,4 @@ pub returns : goal.returns
 returns c =
     let within : c.args.index < length c.args.self.now.values.now = rw length-lines_from at c.requires in
     rw (line_at greatest_fields c.args.index c.args.self.now.values.now c.of.result.now within
-        (c.of.ensures ∙ get_or_default c.args.self.now.values.now c.args.index [] c.of.result.now within)) c.put_greatest.ensures
+    (c.of.ensures ∙ get_or_default c.args.self.now.values.now c.args.index [] c.of.result.now within)) c.put_greatest.ensures

@@ -17,4 +17,4 @@ pub returns : goal.returns
 returns c =
     let within : c.args.index < length c.args.self.now.preds.now = rw length-lines_from at c.requires in
     rw (line_at prec_fields c.args.index c.args.self.now.preds.now c.of.result.now within
-        (sym (get_or_from_slice_get c.args.self.now.preds.now c.args.index c.of.result.now c.of.result.now c.of.ensures))) c.put_preds.ensures
+    (sym (get_or_from_slice_get c.args.self.now.preds.now c.args.index c.of.result.now c.of.result.now c.of.ensures))) c.put_preds.ensures

@@ -11,4 +11,4 @@ pub returns : goal.returns
 returns c =
     let within : c.args.index < length c.args.self.now.values.now = rw length-lines_from at c.requires in
     rw (line_at value_fields c.args.index c.args.self.now.values.now c.of.result.now within
-        (c.of.ensures ∙ get_or_default c.args.self.now.values.now c.args.index [] c.of.result.now within)) c.put_values.ensures
+    (c.of.ensures ∙ get_or_default c.args.self.now.values.now c.args.index [] c.of.result.now within)) c.put_values.ensures

@@ -17,17 +17,17 @@ unfolding text_pcpsp
 returns-clause-written g c =
     let i = c.args.self.now.instance.now in
     on_ok_weaker c.write_sections.result
-        (and_then _ _ _ (more_buffered_lines (problem_keys i.name (codes "PCPSP") (length i.blocks)) (pcpsp_keys i.periods i.destinations i.resources i.rate)
-            (section_lines (lines_from value_fields 0 i.values) (lines_from coef_fields 0 i.coefs) (lines_from limit_fields 0 i.limits)) _ _ _ _
-            (rw c.blocks_len.ensures at c.in_ok-put_problem.ensures) c.in_ok-put_pcpsp_keys.ensures))
-        (rw (c.as_slice.ensures, c.as_slice-2.ensures) at c.write_sections.ensures.written)
+    (and_then _ _ _ (more_buffered_lines (problem_keys i.name (codes "PCPSP") (length i.blocks)) (pcpsp_keys i.periods i.destinations i.resources i.rate)
+    (section_lines (lines_from value_fields 0 i.values) (lines_from coef_fields 0 i.coefs) (lines_from limit_fields 0 i.limits)) _ _ _ _
+    (rw c.blocks_len.ensures at c.in_ok-put_problem.ensures) c.in_ok-put_pcpsp_keys.ensures))
+    (rw (c.as_slice.ensures, c.as_slice-2.ensures) at c.write_sections.ensures.written)
 
 pub returns-clause-front : goal.returns-clause-front
 unfolding text_pcpsp
 returns-clause-front g c =
     let i = c.args.self.now.instance.now in
     on_err_weaker c.write_sections.result
-        (front_same _ _ _ (more_buffered_lines (problem_keys i.name (codes "PCPSP") (length i.blocks)) (pcpsp_keys i.periods i.destinations i.resources i.rate)
-            (section_lines (lines_from value_fields 0 i.values) (lines_from coef_fields 0 i.coefs) (lines_from limit_fields 0 i.limits)) _ _ _ _
-            (rw c.blocks_len.ensures at c.in_ok-put_problem.ensures) c.in_ok-put_pcpsp_keys.ensures))
-        (rw (c.as_slice.ensures, c.as_slice-2.ensures) at c.write_sections.ensures.front)
+    (front_same _ _ _ (more_buffered_lines (problem_keys i.name (codes "PCPSP") (length i.blocks)) (pcpsp_keys i.periods i.destinations i.resources i.rate)
+    (section_lines (lines_from value_fields 0 i.values) (lines_from coef_fields 0 i.coefs) (lines_from limit_fields 0 i.limits)) _ _ _ _
+    (rw c.blocks_len.ensures at c.in_ok-put_problem.ensures) c.in_ok-put_pcpsp_keys.ensures))
+    (rw (c.as_slice.ensures, c.as_slice-2.ensures) at c.write_sections.ensures.front)

@@ -14,15 +14,15 @@ unfolding text_upit
 returns-clause-written g c =
     let i = c.args.self.now.instance.now in
     on_ok_weaker c.write_titled.result
-        (and_then _ _ _ (buffered_lines (problem_keys i.name (codes "UPIT") (length i.blocks))
-            (codes "OBJECTIVE_FUNCTION:" ∷ lines_from greatest_fields 0 i.values) _ _ _ (rw c.blocks_len.ensures at c.in_ok-put_problem.ensures)))
-        c.write_titled.ensures.written
+    (and_then _ _ _ (buffered_lines (problem_keys i.name (codes "UPIT") (length i.blocks))
+    (codes "OBJECTIVE_FUNCTION:" ∷ lines_from greatest_fields 0 i.values) _ _ _ (rw c.blocks_len.ensures at c.in_ok-put_problem.ensures)))
+    c.write_titled.ensures.written
 
 pub returns-clause-front : goal.returns-clause-front
 unfolding text_upit
 returns-clause-front g c =
     let i = c.args.self.now.instance.now in
     on_err_weaker c.write_titled.result
-        (front_same _ _ _ (buffered_lines (problem_keys i.name (codes "UPIT") (length i.blocks))
-            (codes "OBJECTIVE_FUNCTION:" ∷ lines_from greatest_fields 0 i.values) _ _ _ (rw c.blocks_len.ensures at c.in_ok-put_problem.ensures)))
-        c.write_titled.ensures.front
+    (front_same _ _ _ (buffered_lines (problem_keys i.name (codes "UPIT") (length i.blocks))
+    (codes "OBJECTIVE_FUNCTION:" ∷ lines_from greatest_fields 0 i.values) _ _ _ (rw c.blocks_len.ensures at c.in_ok-put_problem.ensures)))
+    c.write_titled.ensures.front
