@@ -4,20 +4,18 @@ ghost use Rattle.pit_model.specs.Worth.{worth};
 
 use super::pipe;
 use crate::fault_line::{plan_from, refusal_line};
+use crate::piece::Piece;
 use crate::pieces::cut;
+use crate::refusal::{Refusal, SettingsFault};
 use pit_model::block::Block;
 use pit_model::destination::{Destination, Valuer};
+use pit_model::plan::Plan;
+use pit_model::read_plan;
 use std::alloc::Global;
 use std::test::Fail;
 
-// What the pipe form prints for an input, or the line of its fault.
-fn answer_to(alloc: Global, input: &[u8]) -> Result<Vec<u8>, Fail> {
-    let pieces = cut(alloc, input)?;
-    let mut text = Vec::new(alloc);
-    let mut lines = Vec::new(alloc);
-    let Ok(plan) = plan_from(alloc, pieces.plan(), &mut lines) else {
-        return Ok(lines);
-    };
+// The destinations of a plan, in its order.
+fn destinations_of(alloc: Global, plan: &Plan) -> Result<Vec<Destination>, Fail> {
     let mut destinations = Vec::new(alloc);
     for named in plan.formulas() {
         let kept = named.formula.copy(alloc)?;
@@ -30,6 +28,18 @@ fn answer_to(alloc: Global, input: &[u8]) -> Result<Vec<u8>, Fail> {
         )?;
         destinations.push(Destination::new(named.formula.copy(alloc)?, valuer))?;
     }
+    Ok(destinations)
+}
+
+// What the pipe form prints for an input, or the line of its fault.
+fn answer_to(alloc: Global, input: &[u8]) -> Result<Vec<u8>, Fail> {
+    let pieces = cut(alloc, input)?;
+    let mut text = Vec::new(alloc);
+    let mut lines = Vec::new(alloc);
+    let Ok(plan) = plan_from(alloc, pieces.plan(), &mut lines) else {
+        return Ok(lines);
+    };
+    let destinations = destinations_of(alloc, &plan)?;
     match pipe(
         alloc,
         pieces.zones(),
@@ -221,6 +231,47 @@ fn worked_examples(rt: HostRuntime) -> Result<(), Fail> {
             .any(|lines| lines == part.as_slice());
         assert!(rt; found, "{name}");
     }
+    Ok(())
+}
+
+// The plan of a text whose lines end in bars here.
+fn plan_of(alloc: Global, bars: &str) -> Result<Plan, Fail> {
+    let text = with_lines(alloc, bars)?;
+    match read_plan(alloc, text.as_slice()) {
+        Ok(plan) => Ok(plan),
+        Err(_) => Err("a plan")?,
+    }
+}
+
+const OF_MILL: &str =
+    "name,one|grid,0,0,0,10,10,10|zone,1,1,1|mill,mill,900,600,1500|periods,1|rate,0.1|";
+
+// Destinations of another plan are refused, and nothing is printed.
+#[test]
+fn destinations_of_another_plan(rt: HostRuntime) -> Result<(), Fail> {
+    let plan = plan_of(rt.alloc(), OF_MILL)?;
+    let other = plan_of(
+        rt.alloc(),
+        "name,one|grid,0,0,0,10,10,10|zone,1,1,1|dump,waste,150|periods,1|rate,0.1|",
+    )?;
+    let strange = destinations_of(rt.alloc(), &other)?;
+    let zone = with_lines(rt.alloc(), "x,y,z,tonnes,grade|0,0,0,1000,5000|")?;
+    let zones = [Piece::new(zone)];
+    let mut text = with_lines(rt.alloc(), "kept|")?;
+    let answer = pipe(rt.alloc(), &zones, &plan, strange.as_slice(), &mut text);
+    assert!(rt; matches!(answer, Err(Refusal::Settings(SettingsFault::Destinations))));
+    assert_eq!(rt; text.as_slice(), b"kept\n".as_slice());
+    Ok(())
+}
+
+// A plan with a zone and no zone file is refused, whatever the destinations.
+#[test]
+fn files_of_another_plan(rt: HostRuntime) -> Result<(), Fail> {
+    let plan = plan_of(rt.alloc(), OF_MILL)?;
+    let mut text = with_lines(rt.alloc(), "kept|")?;
+    let answer = pipe(rt.alloc(), &[], &plan, &[], &mut text);
+    assert!(rt; matches!(answer, Err(Refusal::Settings(SettingsFault::Files))));
+    assert_eq!(rt; text.as_slice(), b"kept\n".as_slice());
     Ok(())
 }
 
