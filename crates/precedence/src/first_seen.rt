@@ -35,9 +35,9 @@ fn sorted_places(alloc: Global, rows: &[Valued]) -> Result<IndexMap<u64, u32>, N
     ensures sorted { IfOk result (λ seen. IsSortedTable (blocks_of rows.now) seen.entries) }
     ensures same { IfErr result (IsReason (blocks_of rows.now)) }
 {
-    let mut seen = first_seen(alloc, rows)?;
-    seen.sort_unstable_keys()?;
-    Ok(seen)
+    let mut places = first_seen(alloc, rows)?;
+    places.sort_unstable_keys()?;
+    Ok(places)
 }
 
 /// The place of each block, with its position in the list.
