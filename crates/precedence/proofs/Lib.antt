@@ -10,3 +10,4 @@ pub mod Reaches
 pub mod Starts
 pub mod Tables
 pub mod ZoneFacts
+pub mod LawFacts

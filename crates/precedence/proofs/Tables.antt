@@ -17,11 +17,11 @@ use Rattle.precedence.proofs.Geometry.{IsAt, row_told}
 
 -- ---- both of two tests
 
-both_left : (a b : Bool) → (a && b) ≡ true → a ≡ true
+pub both_left : (a b : Bool) → (a && b) ≡ true → a ≡ true
 both_left true b h = refl
 both_left false b h = h
 
-both_right : (a b : Bool) → (a && b) ≡ true → b ≡ true
+pub both_right : (a b : Bool) → (a && b) ≡ true → b ≡ true
 both_right true b h = h
 both_right false b h = let no : ⊥ = cc in absurd no
 

@@ -1,5 +1,6 @@
 pub mod Codes
 pub mod Cone
+pub mod ConeLaws
 pub mod Identifier
 pub mod Lists
 pub mod NumberingView

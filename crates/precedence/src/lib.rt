@@ -10,6 +10,7 @@ mod extent;
 mod find;
 mod first_seen;
 mod hint;
+pub mod laws;
 mod number_error;
 mod numbering;
 mod part;

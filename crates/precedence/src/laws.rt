@@ -1,0 +1,38 @@
+//! What holds of predecessors, whatever the plan and the blocks: each contract is a law, and a call of it does nothing.
+
+ghost use Rattle.std.specs.Prelude.{◌≡◌, ℕ, ◌<◌, ◌≤◌, List, [], Contains, filter, length, slice_index_or};
+ghost use Rattle.std.specs.List.{range_with_len};
+ghost use Rattle.std.specs.List.Sorted.{IsStrictlyIncreasing};
+ghost use Rattle.pit_model.specs.Plan.{PlanParts};
+ghost use Rattle.pit_model.specs.declared.block.Block.{Block};
+ghost use Rattle.pit_model.specs.declared.cone.Slope.{Slope};
+ghost use Rattle.pit_model.specs.declared.grid.Grid.{Grid};
+ghost use Rattle.precedence.specs.Cone.{is_above, preds};
+ghost use Rattle.precedence.specs.ConeLaws.{even_cone, has_pred, is_above_by};
+ghost use Rattle.precedence.specs.Identifier.{IsNumbering, Numbered};
+
+/// A cone with one slope on all sides is that slope's own.
+pub fn one_slope()
+    ensures { (grid : Grid) (slope : Slope) (k : ℕ) (low high : Block) → 1 ≤ slope.q
+        → is_above grid (even_cone slope k) low high ≡ is_above_by grid slope k low high }
+{}
+
+/// Every predecessor is a block of the model and lies on a higher bench, so no block waits for itself, however far round.
+pub fn preds_lie_higher()
+    ensures { (plan : PlanParts) (blocks : List Block) (i k : ℕ) (d : Block) → i < length blocks
+        → Contains (slice_index_or (preds plan blocks) i []) k
+        → (k < length blocks) × ((slice_index_or blocks i d).z < (slice_index_or blocks k d).z) }
+{}
+
+/// Each list of predecessors rises strictly, so none stands in it twice.
+pub fn preds_rise()
+    ensures { (plan : PlanParts) (blocks : List Block) (i : ℕ) → i < length blocks
+        → IsStrictlyIncreasing (slice_index_or (preds plan blocks) i []) }
+{}
+
+/// Of a list in whatever order, the predecessors of a block are the identifiers of all blocks of that list that lie in its cone.
+pub fn preds_are_of_the_list()
+    ensures { (plan : PlanParts) (listed : List Block) (n : Numbered) (i : ℕ) (d : Block) → IsNumbering listed n → i < length listed
+        → slice_index_or (preds plan n.blocks) i []
+        ≡ filter (has_pred plan listed (slice_index_or n.blocks i d)) (range_with_len 0 (length listed)) }
+{}
