@@ -1,9 +1,9 @@
 -- One step further along the blocks, the resources and the rows of values.
-use Rattle.std.proofs.Common.{◌≡◌, ℕ, zero, suc, ◌+◌, ◌*◌, ◌-◌, ◌<◌, ◌≤◌, Bool, true, false, cond, List, [], ◌∷◌, ◌++◌, length, map, take, drop, get_or, Option, Some, None, refl, sym, ◌∙◌, ap, subst, arith, append_assoc, append-nil, length-append, eq-eqb, ℤ, All, length-take-le, zero-mul, add-one}
-use Rattle.std.specs.Prelude.{filter, slice_get, slice_index, find, ◌==◌}
-use Rattle.std.specs.List.{cons_option, flat_map, filter_map, range_with_len, enumerate_from, list_any, position_or_len}
+use Rattle.std.proofs.Common.{◌≡◌, ℕ, zero, suc, ◌+◌, ◌*◌, ◌<◌, Bool, true, false, cond, List, [], ◌∷◌, ◌++◌, length, map, take, drop, get_or, Option, Some, refl, sym, ◌∙◌, ap, arith, append_assoc, append-nil, length-append, eq-eqb, ℤ, length-take-le, zero-mul, add-one}
+use Rattle.std.specs.Prelude.{filter, slice_get, slice_index, ◌==◌}
+use Rattle.std.specs.List.{cons_option, flat_map, filter_map, range_with_len, enumerate_from, list_any}
 use Rattle.std.proofs.lemmas.Bool.{eqb-true}
-use Rattle.std.proofs.lemmas.List.{map-append, take_more, get_or-map, get_or_default, length-map}
+use Rattle.std.proofs.lemmas.List.{map-append, take_more}
 use Rattle.std.proofs.Math.Seq.{take-append_seam, drop-append_seam}
 use Rattle.std.proofs.lemmas.List.Concat.{flat_map-append}
 use Rattle.std.proofs.lemmas.List.Elements.{filter-append}
@@ -16,7 +16,6 @@ use Rattle.pit_model.specs.declared.resource.Resource.{Resource}
 use Rattle.precedence.specs.Identifier.{id, IsNumbering, Numbered}
 use Rattle.mine_instance.specs.OfModel.{block_with, by_identifier, covers, pair_with, covering, block_coefs, coefs_of}
 use Rattle.mine_instance.specs.Rows.{rows_of}
-use Rattle.mine_instance.specs.declared.coef.Coef.{Coef}
 
 next_taken : {X : Type 0} (xs : List X) (i : ℕ) (x : X) → slice_get xs i ≡ Some x → take (suc i) xs ≡ take i xs ++ x ∷ []
 next_taken [] i x e = absurd (cc)

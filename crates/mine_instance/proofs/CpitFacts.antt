@@ -1,5 +1,5 @@
 -- The CPIT of a valid instance keeps what every CPIT keeps.
-use Rattle.std.proofs.Common.{◌≡◌, ℕ, ◌+◌, ◌<◌, ◌≤◌, Bool, true, false, cond, List, [], ◌∷◌, length, get_or, map, refl, sym, ◌∙◌, ap, subst, arith, ℤ, pos, rules, All}
+use Rattle.std.proofs.Common.{◌≡◌, ℕ, ◌<◌, ◌≤◌, Bool, true, false, cond, List, [], ◌∷◌, length, get_or, map, refl, ◌∙◌, ap, arith, ℤ, pos, All}
 use Rattle.std.specs.Prelude.{filter, AllPairs, IsTrue, ◌==◌, ◌&&◌, ◌||◌, nat_lt}
 use Rattle.std.proofs.lemmas.Bool.{eqb-true}
 use Rattle.std.proofs.lemmas.Bool.Decides.{nat_tests}
@@ -7,12 +7,12 @@ use Rattle.std.proofs.lemmas.List.{get_or-map, length-map}
 use Rattle.std.proofs.lemmas.List.Elements.{All-weaker, All-map, All-filter, All-nil, All-cons}
 use Rattle.std.proofs.lemmas.List.Kept.{AllPairs-filter}
 use Rattle.pit_model.specs.declared.limit.Limit.{Limit}
-use Rattle.mine_instance.specs.Cpit.{IsCpit, AreCpitCoefs, cpit_of}
+use Rattle.mine_instance.specs.Cpit.{IsCpit, cpit_of}
 use Rattle.mine_instance.specs.CpitOrder.{is_listed_before}
 use Rattle.mine_instance.specs.Greatest.{greatest}
-use Rattle.mine_instance.specs.OfCpit.{cpit, is_chosen, without_destination, destination_of}
+use Rattle.mine_instance.specs.OfCpit.{is_chosen, without_destination, destination_of}
 use Rattle.mine_instance.specs.Order.{comes_before}
-use Rattle.mine_instance.specs.Valid.{IsValid, AreCoefs}
+use Rattle.mine_instance.specs.Valid.{IsValid}
 use Rattle.mine_instance.specs.declared.coef.Coef.{Coef}
 use Rattle.mine_instance.specs.declared.cpit.CpitCoef.{CpitCoef}
 use Rattle.mine_instance.specs.declared.instance.Instance.{Instance}

@@ -1,5 +1,5 @@
 -- What a list of predecessors shows of the whole, and pairs that differ as far as one place and one place further.
-use Rattle.std.proofs.Common.{◌≡◌, ◌≢◌, ℕ, ◌+◌, ◌<◌, ◌≤◌, Bool, true, false, List, [], length, take, get_or, refl, sym, ◌∙◌, subst, arith, inl, inr, ap, All, AllPairs, get_or-take, length-take-le}
+use Rattle.std.proofs.Common.{◌≡◌, ◌≢◌, ℕ, ◌+◌, ◌<◌, Bool, true, false, List, [], length, take, get_or, sym, ◌∙◌, subst, arith, inl, inr, ap, All, AllPairs, get_or-take, length-take-le}
 use Rattle.std.proofs.lemmas.List.{get_or_default}
 use Rattle.std.proofs.lemmas.Bool.{cases_lt}
 use Rattle.mine_instance.specs.Valid.{ArePreds, ArePredsOf}

@@ -1,5 +1,5 @@
 -- The CPIT of an instance: each block goes to the first destination where it is worth most.
-use Rattle.std.specs.Prelude.{ℕ, ◌+◌, ◌==◌, ◌&&◌, Bool, List, [], ◌∷◌, ℤ, map, filter, slice_index_or, length}
+use Rattle.std.specs.Prelude.{ℕ, ◌==◌, Bool, List, [], ℤ, map, filter, slice_index_or}
 use Rattle.mine_instance.specs.Greatest.{first_greatest, greatest}
 use Rattle.mine_instance.specs.declared.coef.Coef.{Coef}
 use Rattle.mine_instance.specs.declared.cpit.CpitCoef.{CpitCoef}

@@ -1,6 +1,6 @@
--- The orders of coefficients and limits go through.
+-- The orders of coefficients, limits and numbers go through.
 use Rattle.std.specs.Prelude.{IsTrue}
-use Rattle.std.proofs.Common.{arith}
+use Rattle.std.proofs.Common.{ℕ, ◌<◌, arith}
 use Rattle.std.proofs.lemmas.Bool.Decides.{nat_tests}
 use Rattle.pit_model.specs.Plan.{stands_before}
 use Rattle.pit_model.specs.declared.limit.Limit.{Limit}
@@ -17,3 +17,6 @@ stands_before_through x y z h k = grind (arith, nat_tests)
 
 pub is_listed_before_through : (x y z : CpitCoef) → IsTrue (is_listed_before x y) → IsTrue (is_listed_before y z) → IsTrue (is_listed_before x z)
 is_listed_before_through x y z h k = grind (arith, nat_tests)
+
+pub less_through : (x y z : ℕ) → x < y → y < z → x < z
+less_through x y z h k = omega arith

@@ -29,9 +29,9 @@ impl Ordered for u32 {
 
     ghost before = { λ n m. n < m };
 
-    ghost use Rattle.std.proofs.Common.{arith};
+    ghost use Rattle.mine_instance.specs.OrderLaws.{less_through};
 
-    ghost through = { λ x y z h k. Prim.omega arith };
+    ghost through = { less_through };
 
     fn is_before(&self, other: &u32) -> bool {
         *self < *other

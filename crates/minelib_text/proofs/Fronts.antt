@@ -1,6 +1,6 @@
 -- What a sink tells as the front of what it is to hold.
-use Rattle.std.proofs.Common.{◌≡◌, ℕ, suc, ◌+◌, ◌<◌, List, [], ◌∷◌, ◌++◌, length, drop, get_or, Option, Some, None, refl, sym, ◌∙◌, ap, append_assoc, append-nil, add-one, Bool, ◌⊎◌, inl, inr}
-use Rattle.std.specs.Prelude.{Result, Ok, Err, OnErr, option_map}
+use Rattle.std.proofs.Common.{◌≡◌, ℕ, ◌+◌, ◌<◌, List, [], ◌∷◌, ◌++◌, length, drop, get_or, Option, Some, None, refl, sym, ◌∙◌, ap, append_assoc, append-nil, add-one, Bool, ◌⊎◌, inl, inr}
+use Rattle.std.specs.Prelude.{Result, Ok, Err, OnErr}
 use Rattle.std.proofs.Math.Seq.{drop-cons}
 use Rattle.minelib_text.specs.Device.{added, holding, IsFront, IsAsItWas, IsBegunWithFrontOf}
 use Rattle.minelib_text.specs.Lines.{text_of}

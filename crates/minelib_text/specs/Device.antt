@@ -1,5 +1,5 @@
 -- The bytes that a sink took, before and after it took more. A sink that tells no bytes tells none after either.
-use Rattle.std.specs.Prelude.{◌≡◌, List, ℕ, [], ◌++◌, Option, option_map, Bool, IsTrue, ◌⊎◌}
+use Rattle.std.specs.Prelude.{◌≡◌, List, ℕ, ◌++◌, Option, option_map, Bool, IsTrue}
 
 -- these bytes behind those that were taken
 abbrev pub added : List ℕ → Option (List ℕ) → Option (List ℕ)

@@ -1,5 +1,5 @@
 -- What a sink in memory took, and which of its calls fails.
-use Rattle.std.specs.Prelude.{◌≡◌, ◌≢◌, ℕ, ◌+◌, ◌≤◌, List, [], ◌++◌, length, take, min, Bool, true, false, ◌==◌, nat_lt}
+use Rattle.std.specs.Prelude.{◌≡◌, ℕ, ◌+◌, ◌≤◌, List, [], min, Bool, false}
 
 pub record Tray : Type 0 where
   pub begun : Bool

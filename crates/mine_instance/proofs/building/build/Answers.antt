@@ -2,7 +2,6 @@ use Rattle.std.proofs.Common.{◌≡◌, ◌∙◌, ap, sym, subst, length}
 use Rattle.precedence.specs.Identifier.{blocks_of}
 use Rattle.mine_instance.specs.OfModel.{covered, coefs_of, instance_of}
 use Rattle.mine_instance.specs.Valid.{IsValid}
-use Rattle.mine_instance.specs.declared.coef.Coefs.{Coefs}
 use Rattle.mine_instance.specs.declared.instance.Instance.{Instance}
 use Rattle.mine_instance.proofs.BuildFacts.{by_identifier_is}
 use Rattle.mine_instance.proofs.ModelFacts.{built_is, instance_is_valid}

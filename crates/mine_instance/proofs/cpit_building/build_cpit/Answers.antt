@@ -1,4 +1,3 @@
-use Rattle.std.proofs.Common.{rules, ◌∙◌, ap}
 use Rattle.mine_instance.proofs.CpitFacts.{cpit_is_one}
 use Rattle.mine_instance.proofs.cpit_building.build_cpit.Goals as goal
 

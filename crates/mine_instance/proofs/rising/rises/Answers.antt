@@ -1,4 +1,4 @@
-use Rattle.std.proofs.Common.{arith, sym}
+use Rattle.std.proofs.Common.{arith}
 use Rattle.mine_instance.proofs.RisingFacts.{rises_more}
 use Rattle.mine_instance.proofs.rising.rises.Goals as goal
 

@@ -1,4 +1,4 @@
-use Rattle.std.proofs.Common.{◌≡◌, ℕ, ◌<◌, [], get_or, arith, refl, sym, subst, below_more, List}
+use Rattle.std.proofs.Common.{ℕ, [], arith, refl, sym, subst, below_more, List}
 use Rattle.std.proofs.lemmas.Option.{get_or_from_slice_get}
 use Rattle.mine_instance.specs.Valid.{ArePredsOf}
 use Rattle.mine_instance.proofs.ValidFacts.{one_refused}

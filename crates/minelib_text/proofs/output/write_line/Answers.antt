@@ -1,6 +1,3 @@
-use Rattle.std.proofs.Common.{rules, sym}
-use Rattle.minelib_text.specs.Device.{added, IsFront}
-use Rattle.minelib_text.specs.Lines.{text_of}
 use Rattle.minelib_text.proofs.Fronts.{front_further, front_added, line_front, on_refusal}
 use Rattle.minelib_text.proofs.output.write_line.Goals as goal
 

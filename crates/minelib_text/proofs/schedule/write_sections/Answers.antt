@@ -1,8 +1,6 @@
 use Rattle.std.proofs.Common.{◌++◌, ◌∷◌, ◌∙◌}
 use Rattle.std.specs.Prelude.{codes}
 use Rattle.std.proofs.lemmas.Result.{on_err_weaker, on_ok_weaker}
-use Rattle.minelib_text.specs.Device.{added, IsFront}
-use Rattle.minelib_text.specs.Lines.{text_of}
 use Rattle.minelib_text.proofs.Fronts.{front_same, front_of_lines, more_lines, and_then, on_refusal}
 use Rattle.minelib_text.proofs.schedule.write_sections.Goals as goal
 

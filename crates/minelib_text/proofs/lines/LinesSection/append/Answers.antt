@@ -1,4 +1,4 @@
-use Rattle.std.proofs.Common.{◌<◌, length, arith}
+use Rattle.std.proofs.Common.{◌<◌, length}
 use Rattle.minelib_text.proofs.LineFacts.{length-lines_from, line_at}
 use Rattle.minelib_text.proofs.lines.LinesSection.append.Goals as goal
 
