@@ -3,6 +3,7 @@ pub mod Counts
 pub mod Geometry
 pub mod Identifiers
 pub mod Order
+pub mod OrderFacts
 pub mod Pieces
 pub mod RunsOfRows
 pub mod SeenPlaces

@@ -1,6 +1,6 @@
-//! What holds of predecessors, whatever the plan and the blocks: each contract is a law, and a call of it does nothing.
+//! What holds of identifiers and predecessors, whatever the plan and the blocks: each contract is a law, and a call of it does nothing.
 
-ghost use Rattle.std.specs.Prelude.{◌≡◌, ℕ, ◌<◌, ◌≤◌, List, [], Contains, filter, length, slice_index_or};
+ghost use Rattle.std.specs.Prelude.{◌≡◌, true, ℕ, ◌<◌, ◌≤◌, List, [], Contains, filter, length, slice_index_or};
 ghost use Rattle.std.specs.List.{range_with_len};
 ghost use Rattle.std.specs.List.Sorted.{IsStrictlyIncreasing};
 ghost use Rattle.pit_model.specs.Plan.{PlanParts};
@@ -9,7 +9,13 @@ ghost use Rattle.pit_model.specs.declared.cone.Slope.{Slope};
 ghost use Rattle.pit_model.specs.declared.grid.Grid.{Grid};
 ghost use Rattle.precedence.specs.Cone.{is_above, preds};
 ghost use Rattle.precedence.specs.ConeLaws.{even_cone, has_pred, is_above_by};
-ghost use Rattle.precedence.specs.Identifier.{IsNumbering, Numbered};
+ghost use Rattle.precedence.specs.Identifier.{IsNumbering, Numbered, comes_before};
+
+/// The identifiers 0, 1, 2, .. go by z, then y, then x: of two blocks by identifier the first comes before the second.
+pub fn identifiers_rise()
+    ensures { (listed : List Block) (n : Numbered) (i k : ℕ) (d : Block) → IsNumbering listed n → i < k → k < length listed
+        → comes_before (slice_index_or n.blocks i d) (slice_index_or n.blocks k d) ≡ true }
+{}
 
 /// A cone with one slope on all sides is that slope's own.
 pub fn one_slope()
