@@ -1,5 +1,12 @@
+pub mod BlockLines
 pub mod Count
+pub mod Denotes
 pub mod Device
+pub mod FieldValues
 pub mod Lines
+pub mod ModelLines
+pub mod PrecLines
+pub mod Reading
+pub mod TextLines
 pub mod Tray
 pub mod Written

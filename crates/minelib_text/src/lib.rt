@@ -9,10 +9,12 @@ mod item_lines;
 mod keys;
 mod lines;
 pub mod mem_sink;
+pub mod model_key;
 mod output;
 mod schedule;
 pub mod sink;
 mod text;
+pub mod text_fault;
 pub mod write_fault;
 mod writers;
 

@@ -1,0 +1,68 @@
+-- The blocks that a block file states.
+use Rattle.std.specs.Prelude.{◌≡◌, ℕ, ◌/◌, ◌^◌, ◌==◌, ◌&&◌, nat_lt, nat_le, not, Bool, true, false, List, [], ◌∷◌, ◌++◌, length, Option, Some, None, Result, Ok, Err, if◌then◌else◌, refl}
+use Rattle.std.proofs.lemmas.Bool.{and_parts, ltb-true, leb-true}
+use Rattle.pit_model.specs.declared.block.Block.{Block}
+use Rattle.minelib_text.specs.FieldValues.{◌>>=◌, first_by, size_in, whole_in}
+use Rattle.minelib_text.specs.Reading.{read_lines}
+use Rattle.minelib_text.specs.TextLines.{fields_of, lines_in}
+use Rattle.minelib_text.specs.declared.text_fault.LineFault.{LineFault}
+use Rattle.minelib_text.specs.declared.text_fault.TextKind.{TextKind}
+use Rattle.minelib_text.specs.declared.text_fault.TextKind.TheVariants.{Fields, Range, Order}
+
+-- indices of the grid, a tonnage and a grade in range, and a zone
+abbrev pub are_in_range : ℕ → ℕ → ℕ → ℕ → ℕ → ℕ → Bool
+are_in_range x y z kg grade zone =
+    nat_lt x 10000 && (nat_lt y 10000 && (nat_lt z 10000 && (nat_le kg (10 ^ 9) && (nat_le grade (10 ^ 12) && nat_lt zone 64))))
+
+abbrev pub block_if : (x y z kg grade zone : ℕ) (within : Bool) → are_in_range x y z kg grade zone ≡ within → Option Block
+block_if x y z kg grade zone false is = None
+block_if x y z kg grade zone true is =
+    let behind_x = and_parts _ _ is in
+    let behind_y = and_parts _ _ behind_x.1 in
+    let behind_z = and_parts _ _ behind_y.1 in
+    let behind_kg = and_parts _ _ behind_z.1 in
+    let behind_grade = and_parts _ _ behind_kg.1 in
+    Some (record {
+      x = x;
+      y = y;
+      z = z;
+      kg = kg;
+      grade = grade;
+      zone = zone;
+      x_in_grid = ltb-true x 10000 behind_x.0;
+      y_in_grid = ltb-true y 10000 behind_y.0;
+      z_in_grid = ltb-true z 10000 behind_z.0;
+      kg_in_range = leb-true kg (10 ^ 9) behind_kg.0;
+      grade_in_range = leb-true grade (10 ^ 12) behind_grade.0;
+      zone_in_range = ltb-true zone 64 behind_grade.1;
+    })
+
+-- the block of these fields, where they are in range
+unfoldable pub block_with : ℕ → ℕ → ℕ → ℕ → ℕ → ℕ → Option Block
+block_with x y z kg grade zone = block_if x y z kg grade zone (are_in_range x y z kg grade zone) refl
+
+abbrev pub in_range : Option Block → Result Block TextKind
+in_range (Some b) = Ok b
+in_range None = Err Range
+
+-- `id x y z tonnes grade zone`, where so many blocks stand before: identifiers run 0, 1, 2, .. and are below 64,000,000
+unfoldable pub block_of : ℕ → List (List ℕ) → Result Block TextKind
+block_of before fields =
+    if not (length fields == 7) then Err Fields else do
+      id ← first_by (whole_in 64000000) fields
+      x ← first_by (whole_in 10000) id.1
+      y ← first_by (whole_in 10000) x.1
+      z ← first_by (whole_in 10000) y.1
+      tonnes ← first_by (size_in 3 (10 ^ 12)) z.1
+      grade ← first_by (size_in 6 (10 ^ 12)) tonnes.1
+      zone ← first_by (whole_in 64) grade.1
+      if not (id.0 == before) then Err Order
+          else in_range (block_with x.0 y.0 z.0 (tonnes.0 / 1000) grade.0 zone.0)
+
+-- a line of the file, after those of these blocks
+abbrev pub admit_block : List Block → List ℕ → Result (List Block) TextKind
+admit_block blocks line = block_of (length blocks) (fields_of line) >>= λ b. Ok (blocks ++ b ∷ [])
+
+-- the blocks of a text, or its first faulty line
+abbrev pub blocks_in : List ℕ → Result (List Block) LineFault
+blocks_in text = read_lines admit_block [] (lines_in text)

@@ -1,0 +1,49 @@
+-- Which instance MineLib texts denote, and which constrained pit limit problem its text.
+use Rattle.std.specs.Prelude.{◌≡◌, ℕ, List, length, map, concat, pos, Result, Ok, Err}
+use Rattle.pit_model.specs.declared.block.Block.{Block}
+use Rattle.mine_instance.specs.Cpit.{CpitParts, cpit_of}
+use Rattle.mine_instance.specs.OfCpit.{without_destination}
+use Rattle.mine_instance.specs.OfModel.{instance_with}
+use Rattle.mine_instance.specs.declared.instance.Instance.{Instance}
+use Rattle.minelib_text.specs.BlockLines.{blocks_in}
+use Rattle.minelib_text.specs.FieldValues.{◌>>=◌}
+use Rattle.minelib_text.specs.ModelLines.{ModelDraft, count_in, model_in}
+use Rattle.minelib_text.specs.PrecLines.{preds_in}
+use Rattle.minelib_text.specs.Reading.{in_file}
+use Rattle.minelib_text.specs.declared.model_key.Problem.TheVariants as problem
+use Rattle.minelib_text.specs.declared.text_fault.TextFault.{TextFault}
+use Rattle.minelib_text.specs.declared.text_fault.TextFile.TheVariants.{Blocks, Prec, Pcpsp, Cpit}
+
+-- the instance of what its three files state
+abbrev pub instance_read : List Block → List (List ℕ) → ModelDraft → Instance
+instance_read blocks lists d =
+    instance_with d.name (pos (count_in d.header.rate)) (count_in d.header.periods) (count_in d.header.destinations)
+    (count_in d.header.resources) blocks lists d.values d.coefs d.limits
+
+-- the instance that three texts denote, or the first faulty line: the blocks' first, then the precedences', then the model's
+unfoldable pub denoted : List ℕ → List ℕ → List ℕ → Result Instance TextFault
+denoted blocks prec pcpsp = do
+  all ← in_file Blocks (blocks_in blocks)
+  lists ← in_file Prec (preds_in (length all) prec)
+  model ← in_file Pcpsp (model_in problem.Pcpsp (length all) pcpsp)
+  Ok (instance_read all lists model)
+
+-- the texts denote the instance
+abbrev pub Denotes : List ℕ → List ℕ → List ℕ → Instance → Type 0
+Denotes blocks prec pcpsp i = denoted blocks prec pcpsp ≡ Ok i
+
+-- the constrained pit limit problem of what its file states: one value a block
+abbrev pub cpit_read : ModelDraft → CpitParts
+cpit_read d =
+    cpit_of d.name (pos (count_in d.header.rate)) (count_in d.header.periods) (count_in d.header.resources) (concat d.values)
+    (map without_destination d.coefs) d.limits
+
+-- the constrained pit limit problem of n blocks that a text denotes, or its first faulty line
+unfoldable pub cpit_denoted : ℕ → List ℕ → Result CpitParts TextFault
+cpit_denoted n text = do
+  model ← in_file Cpit (model_in problem.Cpit n text)
+  Ok (cpit_read model)
+
+-- the text denotes the constrained pit limit problem, of n blocks
+abbrev pub DenotesCpit : ℕ → List ℕ → CpitParts → Type 0
+DenotesCpit n text c = cpit_denoted n text ≡ Ok c

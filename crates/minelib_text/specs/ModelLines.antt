@@ -1,0 +1,328 @@
+-- What a model file states: the production scheduling problem, or the constrained pit limit problem.
+use Rattle.std.specs.Prelude.{ℕ, ◌+◌, ◌-◌, ◌==◌, ◌&&◌, ◌||◌, ◌^◌, not, Bool, true, false, List, [], ◌∷◌, ◌++◌, length, ℤ, pos, Option, Some, None, is_some, unwrap_or, slice_get, slice_index_or, Result, Ok, Err, if◌then◌else◌, codes}
+use Rattle.std.specs.List.{list_any, before_first, after_first}
+use Rattle.std.specs.Str.{bytes_eq}
+use Rattle.pit_model.specs.Name.{is_name}
+use Rattle.pit_model.specs.Plan.{stands_before}
+use Rattle.pit_model.specs.Planned.{is_turned}
+use Rattle.pit_model.specs.declared.limit.Bound.{Bound}
+use Rattle.pit_model.specs.declared.limit.Bound.TheVariants.{AtMost, AtLeast, Between}
+use Rattle.pit_model.specs.declared.limit.Limit.{Limit}
+use Rattle.mine_instance.specs.Order.{comes_before}
+use Rattle.mine_instance.specs.declared.coef.Coef.{Coef}
+use Rattle.minelib_text.specs.FieldValues.{◌>>=◌, first_by, all_by, size_in, whole_in, decimal_in}
+use Rattle.minelib_text.specs.Reading.{read_lines}
+use Rattle.minelib_text.specs.TextLines.{fields_of, lines_in, end_of}
+use Rattle.minelib_text.specs.declared.model_key.Header.{Header}
+use Rattle.minelib_text.specs.declared.model_key.HeaderKey.{HeaderKey}
+use Rattle.minelib_text.specs.declared.model_key.HeaderKey.TheVariants as key
+use Rattle.minelib_text.specs.declared.model_key.ModelKey.{ModelKey}
+use Rattle.minelib_text.specs.declared.model_key.ModelKey.TheVariants as model_key
+use Rattle.minelib_text.specs.declared.model_key.Problem.{Problem}
+use Rattle.minelib_text.specs.declared.model_key.Problem.TheVariants.{Pcpsp, Cpit}
+use Rattle.minelib_text.specs.declared.model_key.Section.{Section}
+use Rattle.minelib_text.specs.declared.model_key.Section.TheVariants.{Heading, Objective, Coefs, Limits}
+use Rattle.minelib_text.specs.declared.text_fault.LineFault.{LineFault}
+use Rattle.minelib_text.specs.declared.text_fault.TextKind.{TextKind}
+use Rattle.minelib_text.specs.declared.text_fault.TextKind.TheVariants.{Fields, Range, Order, Count, Twice, Key, Missing, Name}
+
+-- what the lines so far state, of so many blocks
+pub record ModelDraft : Type 0 where
+  pub problem : Problem
+  pub blocks : ℕ
+  -- empty until its key stands
+  pub name : List ℕ
+  pub header : Header
+  pub section : Section
+  pub values : List (List ℤ)
+  pub coefs : List Coef
+  pub limits : List Limit
+
+-- the header before its first key: a CPIT has one destination and no general side constraints, without keys for them
+abbrev pub blank_header : Problem → Header
+blank_header Pcpsp = record {
+  is_typed = false;
+  is_counted = false;
+  is_general = false;
+  periods = None;
+  destinations = None;
+  resources = None;
+  rate = None;
+}
+blank_header Cpit = record {
+  is_typed = false;
+  is_counted = false;
+  is_general = true;
+  periods = None;
+  destinations = Some 1;
+  resources = None;
+  rate = None;
+}
+
+-- before the first line
+abbrev pub blank_model : Problem → ℕ → ModelDraft
+blank_model problem n = record {
+  problem = problem;
+  blocks = n;
+  name = [];
+  header = blank_header problem;
+  section = Heading;
+  values = [];
+  coefs = [];
+  limits = [];
+}
+
+-- how a TYPE names the problem
+abbrev pub type_text : Problem → List ℕ
+type_text Pcpsp = codes "PCPSP"
+type_text Cpit = codes "CPIT"
+
+-- the keys of all problems
+abbrev pub shared_key : List ℕ → Option ModelKey
+shared_key word =
+    if bytes_eq word (codes "NAME") then Some (model_key.Header key.Name)
+    else (if bytes_eq word (codes "TYPE") then Some (model_key.Header key.Type)
+    else (if bytes_eq word (codes "NBLOCKS") then Some (model_key.Header key.Blocks)
+    else (if bytes_eq word (codes "NPERIODS") then Some (model_key.Header key.Periods)
+    else (if bytes_eq word (codes "NRESOURCE_SIDE_CONSTRAINTS") then Some (model_key.Header key.Resources)
+    else (if bytes_eq word (codes "DISCOUNT_RATE") then Some (model_key.Header key.Rate)
+    else (if bytes_eq word (codes "OBJECTIVE_FUNCTION") then Some (model_key.Section Objective)
+    else (if bytes_eq word (codes "RESOURCE_CONSTRAINT_COEFFICIENTS") then Some (model_key.Section Coefs)
+    else (if bytes_eq word (codes "RESOURCE_CONSTRAINT_LIMITS") then Some (model_key.Section Limits)
+    else None))))))))
+
+-- the keys of a problem
+abbrev pub key_in : Problem → List ℕ → Option ModelKey
+key_in Cpit word = shared_key word
+key_in Pcpsp word =
+    if bytes_eq word (codes "NDESTINATIONS") then Some (model_key.Header key.Destinations)
+    else (if bytes_eq word (codes "NGENERAL_SIDE_CONSTRAINTS") then Some (model_key.Header key.General)
+    else shared_key word)
+
+-- the key of the fields before a colon: the one field there
+abbrev pub key_of : Problem → List (List ℕ) → Option ModelKey
+key_of problem [] = None
+key_of problem (word ∷ []) = key_in problem word
+key_of problem (word ∷ other ∷ more) = None
+
+abbrev pub is_heading : Section → Bool
+is_heading Heading = true
+is_heading Objective = false
+is_heading Coefs = false
+is_heading Limits = false
+
+abbrev pub is_limits : Section → Bool
+is_limits Heading = false
+is_limits Objective = false
+is_limits Coefs = false
+is_limits Limits = true
+
+-- the second section follows the first
+abbrev pub is_next : Section → Section → Bool
+is_next Heading Objective = true
+is_next Objective Coefs = true
+is_next Coefs Limits = true
+is_next Heading Heading = false
+is_next Heading Coefs = false
+is_next Heading Limits = false
+is_next Objective Heading = false
+is_next Objective Objective = false
+is_next Objective Limits = false
+is_next Coefs Heading = false
+is_next Coefs Objective = false
+is_next Coefs Coefs = false
+is_next Limits section = false
+
+-- a header key stood before
+abbrev pub is_given : HeaderKey → List ℕ → Header → Bool
+is_given key.Name name h = not (length name == 0)
+is_given key.Type name h = h.is_typed
+is_given key.Blocks name h = h.is_counted
+is_given key.Periods name h = is_some h.periods
+is_given key.Destinations name h = is_some h.destinations
+is_given key.Resources name h = is_some h.resources
+is_given key.General name h = h.is_general
+is_given key.Rate name h = is_some h.rate
+
+-- all header keys stood
+abbrev pub is_complete : List ℕ → Header → Bool
+is_complete name h =
+    not (length name == 0) && h.is_typed && h.is_counted && h.is_general && is_some h.periods && is_some h.destinations
+    && is_some h.resources && is_some h.rate
+
+-- a number that is not 0, below a limit
+abbrev pub counted_in : ℕ → List ℕ → Result ℕ TextKind
+counted_in limit field = whole_in limit field >>= λ n. if n == 0 then Err Range else Ok n
+
+-- what a header key with this value states, of n blocks, after what stood before it
+abbrev pub header_with : Problem → ℕ → HeaderKey → List ℕ → Header → Result Header TextKind
+header_with problem n key.Name field h = if is_name field then Ok h else Err Name
+header_with problem n key.Type field h = if bytes_eq field (type_text problem) then Ok (record h { is_typed = true }) else Err Name
+header_with problem n key.Blocks field h =
+    whole_in 64000001 field >>= λ blocks. if blocks == n then Ok (record h { is_counted = true }) else Err Count
+header_with problem n key.Periods field h = counted_in 101 field >>= λ periods. Ok (record h { periods = Some periods })
+header_with problem n key.Destinations field h = counted_in 9 field >>= λ destinations. Ok (record h { destinations = Some destinations })
+header_with problem n key.Resources field h = whole_in 9 field >>= λ resources. Ok (record h { resources = Some resources })
+header_with problem n key.General field h = whole_in 1 field >>= λ none. Ok (record h { is_general = true })
+header_with problem n key.Rate field h = size_in 6 (10 ^ 6) field >>= λ rate. Ok (record h { rate = Some rate })
+
+-- the NAME after a header key with this value
+abbrev pub name_with : HeaderKey → List ℕ → List ℕ → List ℕ
+name_with key.Name field name = field
+name_with key.Type field name = name
+name_with key.Blocks field name = name
+name_with key.Periods field name = name
+name_with key.Destinations field name = name
+name_with key.Resources field name = name
+name_with key.General field name = name
+name_with key.Rate field name = name
+
+-- the one value of a header key
+abbrev pub only_value : List (List ℕ) → Result (List ℕ) TextKind
+only_value [] = Err Fields
+only_value (value ∷ []) = Ok value
+only_value (value ∷ other ∷ more) = Err Fields
+
+-- a line of a header key, which stands before the first section, and once
+abbrev pub admit_header : ModelDraft → HeaderKey → List (List ℕ) → Result ModelDraft TextKind
+admit_header d k values =
+    if not (is_heading d.section) then Err Key
+    else (if is_given k d.name d.header then Err Twice
+    else (only_value values >>= λ value. header_with d.problem d.blocks k value d.header
+        >>= λ header. Ok (record d { header = header; name = name_with k value d.name })))
+
+-- all that has to stand before the next section does
+abbrev pub is_ready : ModelDraft → Section → Bool
+is_ready d Heading = is_complete d.name d.header
+is_ready d Objective = length d.values == d.blocks
+is_ready d Coefs = true
+is_ready d Limits = true
+
+-- the line that begins a section
+abbrev pub admit_section : ModelDraft → Section → List (List ℕ) → Result ModelDraft TextKind
+admit_section d section values =
+    if not (is_next d.section section) then Err Key
+    else (if not (length values == 0) then Err Fields
+    else (if not (is_ready d d.section) then Err Missing
+    else Ok (record d { section = section })))
+
+-- a key line: its key, and the values after the colon
+abbrev pub admit_key : ModelDraft → Option ModelKey → List (List ℕ) → Result ModelDraft TextKind
+admit_key d None values = Err Key
+admit_key d (Some (model_key.Header k)) values = admit_header d k values
+admit_key d (Some (model_key.Section section)) values = admit_section d section values
+
+-- how many of a kind there are, by the header
+abbrev pub count_in : Option ℕ → ℕ
+count_in count = unwrap_or count 0
+
+-- `b v0 v1 ..` of n blocks, one value for each destination, where so many lines stand before
+abbrev pub values_of : ℕ → ℕ → ℕ → List (List ℕ) → Result (List ℤ) TextKind
+values_of n destinations before fields =
+    if not (length fields == destinations + 1) then Err Fields else do
+      b ← first_by (whole_in n) fields
+      values ← all_by decimal_in [] b.1
+      if not (b.0 == before) then Err Order else Ok values
+
+-- how many fields a coefficient has
+abbrev pub coef_width : Problem → ℕ
+coef_width Pcpsp = 4
+coef_width Cpit = 3
+
+-- the destination of a coefficient, and the fields behind it; that of a CPIT has none, and stands for the only one
+abbrev pub destination_in : Problem → ℕ → List (List ℕ) → Result (ℕ × List (List ℕ)) TextKind
+destination_in Pcpsp destinations fields = first_by (whole_in destinations) fields
+destination_in Cpit destinations fields = Ok (0, fields)
+
+-- `b d r v`, or `b r v`
+abbrev pub coef_of : Problem → ℕ → ℕ → ℕ → List (List ℕ) → Result Coef TextKind
+coef_of problem n destinations resources fields =
+    if not (length fields == coef_width problem) then Err Fields else do
+      b ← first_by (whole_in n) fields
+      d ← destination_in problem destinations b.1
+      r ← first_by (whole_in resources) d.1
+      v ← first_by decimal_in r.1
+      Ok (record { b = b.0; d = d.0; r = r.0; v = v.0 })
+
+-- the last item of a list, if there is one
+abbrev pub last_of : {A : Type 0} → List A → Option A
+last_of items = slice_get items (length items - 1)
+
+-- an item comes after the last
+abbrev pub is_behind : {A : Type 0} → (A → A → Bool) → Option A → A → Bool
+is_behind before None x = true
+is_behind before (Some last) x = before last x
+
+-- an interval has a field more
+abbrev pub limit_width : List (List ℕ) → ℕ
+limit_width fields = if bytes_eq (slice_index_or fields 2 []) (codes "I") then 5 else 4
+
+-- an interval's two ends
+abbrev pub interval_in : List (List ℕ) → Result Bound TextKind
+interval_in fields = do
+  v ← first_by decimal_in fields
+  w ← first_by decimal_in v.1
+  Ok (Between v.0 w.0)
+
+-- `L v`, `G v` or `I v w`
+abbrev pub bound_in : List (List ℕ) → Result Bound TextKind
+bound_in [] = Err Fields
+bound_in (letter ∷ fields) =
+    if bytes_eq letter (codes "L") then (first_by decimal_in fields >>= λ v. Ok (AtMost v.0))
+    else (if bytes_eq letter (codes "G") then (first_by decimal_in fields >>= λ v. Ok (AtLeast v.0))
+    else (if bytes_eq letter (codes "I") then interval_in fields else Err Name))
+
+-- `r t` and a bound
+abbrev pub limit_of : ℕ → ℕ → List (List ℕ) → Result Limit TextKind
+limit_of resources periods fields =
+    if not (length fields == limit_width fields) then Err Fields else do
+      r ← first_by (whole_in resources) fields
+      t ← first_by (whole_in periods) r.1
+      bound ← bound_in t.1
+      Ok (record { resource = r.0; period = t.0; bound = bound })
+
+-- a line of the objective
+abbrev pub admit_values : ModelDraft → List (List ℕ) → Result ModelDraft TextKind
+admit_values d fields = do
+  values ← values_of d.blocks (count_in d.header.destinations) (length d.values) fields
+  Ok (record d { values = d.values ++ values ∷ [] })
+
+-- a line of a coefficient, which comes after those before it
+abbrev pub admit_coef : ModelDraft → List (List ℕ) → Result ModelDraft TextKind
+admit_coef d fields = do
+  c ← coef_of d.problem d.blocks (count_in d.header.destinations) (count_in d.header.resources) fields
+  if is_behind comes_before (last_of d.coefs) c then Ok (record d { coefs = d.coefs ++ c ∷ [] }) else Err Order
+
+-- a line of a limit, which comes after those before it
+abbrev pub admit_limit : ModelDraft → List (List ℕ) → Result ModelDraft TextKind
+admit_limit d fields = do
+  l ← limit_of (count_in d.header.resources) (count_in d.header.periods) fields
+  if is_turned l.bound || not (is_behind stands_before (last_of d.limits) l) then Err Order
+      else Ok (record d { limits = d.limits ++ l ∷ [] })
+
+-- a line without a key, in a section
+abbrev pub admit_item : ModelDraft → Section → List (List ℕ) → Result ModelDraft TextKind
+admit_item d Heading fields = Err Key
+admit_item d Objective fields = admit_values d fields
+admit_item d Coefs fields = admit_coef d fields
+admit_item d Limits fields = admit_limit d fields
+
+abbrev pub is_colon : ℕ → Bool
+is_colon b = b == 58
+
+-- a line of the file, after those so far: one with a colon is a key line
+unfoldable pub admit_model : ModelDraft → List ℕ → Result ModelDraft TextKind
+admit_model d line =
+    if list_any is_colon line
+    then admit_key d (key_of d.problem (fields_of (before_first is_colon line))) (fields_of (after_first is_colon line))
+    else admit_item d d.section (fields_of line)
+
+-- the file once all lines are read: nothing of it is lacking
+abbrev pub finish_model : ℕ → ModelDraft → Result ModelDraft LineFault
+finish_model end d =
+    if is_complete d.name d.header && (length d.values == d.blocks) && is_limits d.section then Ok d
+    else Err (record { line = end; kind = Missing })
+
+-- what the model file of a problem states, of n blocks, or its first faulty line
+abbrev pub model_in : Problem → ℕ → List ℕ → Result ModelDraft LineFault
+model_in problem n text = read_lines admit_model (blank_model problem n) (lines_in text) >>= finish_model (end_of text)

@@ -1,0 +1,59 @@
+-- The lines of a text that is read, and the fields of a line.
+use Rattle.std.specs.Prelude.{ℕ, Bool, true, false, List, [], ◌∷◌, ◌+◌, ◌-◌, ◌==◌, length, take, drop, slice_index, if◌then◌else◌}
+use Rattle.std.specs.Str.{bytes_eq}
+use Rattle.pit_model.specs.Cells.{is_blank}
+
+-- a byte in front of the first line
+abbrev pub onto_first : ℕ → List (List ℕ) → List (List ℕ)
+onto_first b [] = (b ∷ []) ∷ []
+onto_first b (line ∷ lines) = (b ∷ line) ∷ lines
+
+-- the lines of a text, each ended by LF or by the text's end, without the LF
+abbrev pub lines_of : List ℕ → List (List ℕ)
+lines_of [] = []
+lines_of (b ∷ bytes) = if b == 10 then [] ∷ lines_of bytes else onto_first b (lines_of bytes)
+
+-- a line without one CR at its end
+abbrev pub without_cr : List ℕ → List ℕ
+without_cr line = if slice_index line (length line - 1) == 13 then take (length line - 1) line else line
+
+-- a text without one byte order mark at its front
+abbrev pub without_mark : List ℕ → List ℕ
+without_mark text = if bytes_eq (take 3 text) (239 ∷ 187 ∷ 191 ∷ []) then drop 3 text else text
+
+-- blanks alone, or blanks and then `%`
+abbrev pub is_skipped : List ℕ → Bool
+is_skipped [] = true
+is_skipped (b ∷ bytes) = if is_blank b then is_skipped bytes else b == 37
+
+-- a field ends before these bytes
+abbrev pub is_ended : List ℕ → Bool
+is_ended [] = true
+is_ended (b ∷ bytes) = is_blank b
+
+-- the fields of a line: what stands between runs of blanks
+abbrev pub fields_of : List ℕ → List (List ℕ)
+fields_of [] = []
+fields_of (b ∷ bytes) =
+    if is_blank b then fields_of bytes
+    else (if is_ended bytes then (b ∷ []) ∷ fields_of bytes else onto_first b (fields_of bytes))
+
+-- a line by its number
+pub record Line : Type 0 where
+  pub number : ℕ
+  pub text : List ℕ
+
+-- the lines that are read, the first of all lines having this number; those that are skipped count
+abbrev pub told : ℕ → List (List ℕ) → List Line
+told n [] = []
+told n (line ∷ lines) =
+    if is_skipped (without_cr line) then told (n + 1) lines
+    else record { number = n; text = without_cr line } ∷ told (n + 1) lines
+
+-- the lines of a text that are read
+abbrev pub lines_in : List ℕ → List Line
+lines_in text = told 1 (lines_of (without_mark text))
+
+-- the number of the line after the last
+abbrev pub end_of : List ℕ → ℕ
+end_of text = length (lines_of (without_mark text)) + 1

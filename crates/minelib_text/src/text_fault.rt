@@ -1,0 +1,105 @@
+//! What is wrong with a MineLib text.
+
+ghost use Rattle.std.specs.Prelude.{◌≡◌};
+
+use pit_units::DecFault;
+use std::alloc::{AllocError, AllocFailed};
+use thiserror::Error;
+
+/// A file of an instance.
+#[derive(Clone, Copy, Debug, Error, PartialEq, Eq)]
+pub enum TextFile {
+    /// The blocks.
+    #[error("blocks")]
+    Blocks,
+    /// The predecessors of each block.
+    #[error("prec")]
+    Prec,
+    /// The production scheduling problem.
+    #[error("pcpsp")]
+    Pcpsp,
+    /// The constrained pit limit problem.
+    #[error("cpit")]
+    Cpit,
+}
+
+/// What is wrong with a line of a MineLib text. Where several kinds apply to a line, an unknown key, a key that stands twice and the number of
+/// fields come first; then the fields left to right, each by `Number`, `TooFine`, `Range` and `Name`; then `Order`, `Count`, predecessors that
+/// stand twice, and `Missing`.
+#[derive(Clone, Copy, Debug, Error, PartialEq, Eq)]
+pub enum TextKind {
+    /// The line has too few or too many fields.
+    #[error("Fields")]
+    Fields,
+    /// A field is no decimal number.
+    #[error("Number")]
+    Number,
+    /// A number has more decimals than its field allows.
+    #[error("TooFine")]
+    TooFine,
+    /// A number is out of range.
+    #[error("Range")]
+    Range,
+    /// An identifier is not the next one, coefficients or limits do not rise, or an interval's ends are the wrong way round.
+    #[error("Order")]
+    Order,
+    /// The stated number of predecessors is not the number of those that stand, or NBLOCKS is not the number of blocks.
+    #[error("Count")]
+    Count,
+    /// A header key stands before, or a predecessor stands twice or is the block itself.
+    #[error("Twice")]
+    Twice,
+    /// The key is unknown, a header key stands behind a section's, a section is not the next one, or a line without a key stands before the first
+    /// section.
+    #[error("Key")]
+    Key,
+    /// A section begins while header keys or objective lines are lacking, or the text ends while lines, keys or sections are lacking.
+    #[error("Missing")]
+    Missing,
+    /// NAME is no NAME, TYPE is not that of the file, or a limit letter is not `L`, `G` or `I`.
+    #[error("Name")]
+    Name,
+}
+
+impl From<DecFault> for TextKind {
+    ghost use Rattle.minelib_text.specs.FieldValues.{kind_of};
+
+    ghost from_gives = { λ fault kind. kind ≡ kind_of fault };
+
+    fn from(fault: DecFault) -> TextKind {
+        match fault {
+            DecFault::Number => TextKind::Number,
+            DecFault::TooFine => TextKind::TooFine,
+            DecFault::Range => TextKind::Range,
+        }
+    }
+}
+
+/// A faulty line of a text: its number, from 1, and what is wrong with it. Where something is missing at the end of the text, the number is that of
+/// its lines and one more.
+#[derive(Clone, Copy, Debug, PartialEq, Eq)]
+pub struct LineFault {
+    pub line: u64,
+    pub kind: TextKind,
+}
+
+/// The first faulty line of the texts of an instance.
+#[derive(Clone, Copy, Debug, Error, PartialEq, Eq)]
+#[error("{file} line {line}: {kind}")]
+pub struct TextFault {
+    pub file: TextFile,
+    /// The number of the line, from 1; where something is missing at the end, the number of lines and one more.
+    pub line: u64,
+    pub kind: TextKind,
+}
+
+/// Why texts were not read.
+#[derive(Debug, Drop, Error, PartialEq, Eq)]
+pub enum ReadTextError {
+    /// The texts denote nothing.
+    #[error("{0}")]
+    Fault(TextFault),
+    /// Memory was refused.
+    #[error("OutOfMemory")]
+    OutOfMemory,
+}
