@@ -1,5 +1,5 @@
 -- The lines of a text that is read, and the fields of a line.
-use Rattle.std.specs.Prelude.{ℕ, Bool, true, false, List, [], ◌∷◌, ◌+◌, ◌-◌, ◌==◌, length, take, drop, slice_index, if◌then◌else◌}
+use Rattle.std.specs.Prelude.{ℕ, Bool, true, false, not, List, [], ◌∷◌, ◌+◌, ◌-◌, ◌==◌, length, take, drop, slice_index, if◌then◌else◌}
 use Rattle.std.specs.Str.{bytes_eq}
 use Rattle.pit_model.specs.Cells.{is_blank}
 
@@ -37,6 +37,11 @@ fields_of [] = []
 fields_of (b ∷ bytes) =
     if is_blank b then fields_of bytes
     else (if is_ended bytes then (b ∷ []) ∷ fields_of bytes else onto_first b (fields_of bytes))
+
+-- a field begins with the first byte, or there is none
+abbrev pub begins_field : List ℕ → Bool
+begins_field [] = true
+begins_field (b ∷ bytes) = not (is_blank b)
 
 -- a line by its number
 pub record Line : Type 0 where

@@ -3,6 +3,7 @@
 
 mod block_sections;
 mod count;
+mod field_values;
 mod fields;
 mod files;
 mod item_lines;
@@ -15,6 +16,8 @@ mod schedule;
 pub mod sink;
 mod text;
 pub mod text_fault;
+mod text_fields;
+mod text_lines;
 pub mod write_fault;
 mod writers;
 
