@@ -12,6 +12,8 @@ mod lines;
 pub mod mem_sink;
 pub mod model_key;
 mod output;
+pub mod read_fault;
+mod reading;
 mod schedule;
 pub mod sink;
 mod text;
