@@ -1,6 +1,7 @@
 //! The MineLib texts of an instance: the sinks that take them, and their writers.
 #![tactic(auto)]
 
+mod block_reader;
 mod block_sections;
 mod count;
 mod field_values;
