@@ -1,5 +1,7 @@
 pub mod BlocksBack
 pub mod Fronts
+pub mod ItemsBack
+pub mod KeysBack
 pub mod LineFacts
 pub mod LinesBack
 pub mod NumbersBack

@@ -36,10 +36,10 @@ pub record IsLine (line : List ℕ) : Type 0 where
   pub inner : list_all is_inner line ≡ true
   pub is_read : is_skipped line ≡ false
 
-plain_inner : (c : ℕ) → is_plain c ≡ true → is_inner c ≡ true
+pub plain_inner : (c : ℕ) → is_plain c ≡ true → is_inner c ≡ true
 plain_inner c h = grind (arith, nat_tests)
 
-plain_no_colon : (c : ℕ) → is_plain c ≡ true → not (is_colon c) ≡ true
+pub plain_no_colon : (c : ℕ) → is_plain c ≡ true → not (is_colon c) ≡ true
 plain_no_colon c h = grind (arith, nat_tests)
 
 not_blank : (c : ℕ) → is_plain c ≡ true → is_blank c ≡ false
@@ -76,7 +76,7 @@ each_again ((c ∷ cs) ∷ g ∷ gs) h =
 pub fields_again : (fields : List (List ℕ)) → AreFields fields → fields_of (line_of fields) ≡ fields
 fields_again fields h = each_again fields h.each
 
-all_parts : (p : ℕ → Bool) (xs ys : List ℕ) → list_all p xs ≡ true → list_all p ys ≡ true → list_all p (xs ++ ys) ≡ true
+pub all_parts : (p : ℕ → Bool) (xs ys : List ℕ) → list_all p xs ≡ true → list_all p ys ≡ true → list_all p (xs ++ ys) ≡ true
 all_parts p xs ys h k = rw (list_all-append p xs ys, h, k) refl
 
 pub all_weaker : (p q : ℕ → Bool) → ((c : ℕ) → p c ≡ true → q c ≡ true) → (xs : List ℕ) → list_all p xs ≡ true → list_all q xs ≡ true
@@ -100,7 +100,7 @@ none_from_all p (c ∷ cs) h =
 pub no_colon : (fields : List (List ℕ)) → AreFields fields → list_any is_colon (line_of fields) ≡ false
 no_colon fields h = none_from_all is_colon (line_of fields) (line_all (λ c. not (is_colon c)) plain_no_colon refl fields h.each)
 
-first_read : (c : ℕ) (cs : List ℕ) → is_plain c ≡ true → is_skipped (c ∷ cs) ≡ false
+pub first_read : (c : ℕ) (cs : List ℕ) → is_plain c ≡ true → is_skipped (c ∷ cs) ≡ false
 first_read c cs h = rw (not_blank c h, not_percent c h) refl
 
 line_read : (f : List ℕ) (fs : List (List ℕ)) → IsField f → is_skipped (line_of (f ∷ fs)) ≡ false
