@@ -1,3 +1,10 @@
+pub mod BlocksBack
 pub mod Cuts
 pub mod Fronts
+pub mod ItemsBack
+pub mod KeysBack
 pub mod LineFacts
+pub mod LinesBack
+pub mod NumbersBack
+pub mod PlainText
+pub mod PrecBack
