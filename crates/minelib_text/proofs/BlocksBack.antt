@@ -53,7 +53,7 @@ same_if : (b : Block) (within : Bool) (is : are_in_range b.x b.y b.z b.kg b.grad
 same_if b false is there = absurd (cc)
 same_if b true is there = ap Some (same_block b _ _ _ _ _ _)
 
-with_again : (b : Block) → block_with b.x b.y b.z b.kg b.grade b.zone ≡ Some b
+pub with_again : (b : Block) → block_with b.x b.y b.z b.kg b.grade b.zone ≡ Some b
 unfolding block_with
 with_again b = same_if b (are_in_range b.x b.y b.z b.kg b.grade b.zone) refl (in_range_again b)
 
