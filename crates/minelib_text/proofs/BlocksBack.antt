@@ -65,8 +65,22 @@ block_line n b few =
     let kg = b.kg_in_range in
     let grade = b.grade_in_range in
     let zone = b.zone_in_range in
-    record { some = omega arith; each = (whole_field n (omega arith), (whole_field b.x (omega arith), (whole_field b.y (omega arith), (whole_field b.z (omega arith),
-    (decimal_field (pos (b.kg * 1000)) (omega arith), (decimal_field (pos b.grade) (omega arith), (whole_field b.zone (omega arith), tt))))))) }
+    record {
+      some = omega arith;
+      each = (
+        whole_field n (omega arith),
+        (
+          whole_field b.x (omega arith),
+          (
+            whole_field b.y (omega arith),
+            (
+              whole_field b.z (omega arith),
+              (decimal_field (pos (b.kg * 1000)) (omega arith), (decimal_field (pos b.grade) (omega arith), (whole_field b.zone (omega arith), tt))),
+            ),
+          ),
+        ),
+      );
+    }
 
 block_again : (n : ℕ) (b : Block) → n < 64000000 → block_of n (block_fields n b) ≡ Ok b
 unfolding block_of
@@ -74,10 +88,18 @@ block_again n b few =
     let kg = b.kg_in_range in
     let grade = b.grade_in_range in
     let tonnes : b.kg * 1000 / 1000 ≡ b.kg = omega arith in
-    rw (whole_again 64000000 n few (omega arith), whole_again 10000 b.x b.x_in_grid (omega arith), whole_again 10000 b.y b.y_in_grid (omega arith),
-    whole_again 10000 b.z b.z_in_grid (omega arith), size_again 3 (10 ^ 12) (b.kg * 1000) (omega arith) (omega arith) (omega arith) (omega arith),
-    size_again 6 (10 ^ 12) b.grade (omega arith) (omega arith) grade (omega arith), whole_again 64 b.zone b.zone_in_range (omega arith),
-    eq-eqb n n refl, tonnes, with_again b) refl
+    rw (
+      whole_again 64000000 n few (omega arith),
+      whole_again 10000 b.x b.x_in_grid (omega arith),
+      whole_again 10000 b.y b.y_in_grid (omega arith),
+      whole_again 10000 b.z b.z_in_grid (omega arith),
+      size_again 3 (10 ^ 12) (b.kg * 1000) (omega arith) (omega arith) (omega arith) (omega arith),
+      size_again 6 (10 ^ 12) b.grade (omega arith) (omega arith) grade (omega arith),
+      whole_again 64 b.zone b.zone_in_range (omega arith),
+      eq-eqb n n refl,
+      tonnes,
+      with_again b,
+    ) refl
 
 -- each block's line is admitted behind those of the blocks before it
 each_block : (blocks : List Block) → length blocks ≤ 64000000 → AdmitsEach admit_block block_fields (λ done. done) blocks

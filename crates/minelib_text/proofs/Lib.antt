@@ -5,6 +5,7 @@ pub mod ItemsBack
 pub mod KeysBack
 pub mod LineFacts
 pub mod LinesBack
+pub mod MarkFacts
 pub mod NumbersBack
 pub mod PlainText
 pub mod PrecBack

@@ -65,7 +65,10 @@ pub items_admitted : {S A : Type 0} (admit : S → List ℕ → Result S TextKin
     → Admits admit (after done) (lines_from fields n rest) (after all)
 items_admitted admit fields after all each n done [] e whole = ap after (sym (whole ∙ append-nil done))
 items_admitted admit fields after all each n done (x ∷ rest) e whole =
-    let here = each done x rest whole in
-    (after (done ++ x ∷ []), rw e here.0, rw e here.1,
-    items_admitted admit fields after all each (n + 1) (done ++ x ∷ []) rest (omega (arith, length_push done x))
-    (whole ∙ sym (append_assoc done (x ∷ []) rest)))
+    let here = each done x rest whole in (
+      after (done ++ x ∷ []),
+      rw e here.0,
+      rw e here.1,
+      items_admitted admit fields after all each (n + 1) (done ++ x ∷ []) rest (omega (arith, length_push done x))
+          (whole ∙ sym (append_assoc done (x ∷ []) rest)),
+    )

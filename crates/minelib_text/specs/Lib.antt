@@ -5,6 +5,7 @@ pub mod Device
 pub mod FieldValues
 pub mod Kept
 pub mod Lines
+pub mod Marks
 pub mod ModelLines
 pub mod PrecLines
 pub mod Reading

@@ -65,7 +65,14 @@ fn block_of(line: &[u8], before: usize) -> Result<Block, TextKind>
     if id != before as u64 {
         return Err(TextKind::Order);
     }
-    Ok(block_with(x as u16, y as u16, z as u16, tonnes / 1000, grade, zone as u8))
+    Ok(block_with(
+        x as u16,
+        y as u16,
+        z as u16,
+        tonnes / 1000,
+        grade,
+        zone as u8,
+    ))
 }
 
 fn block_with(x: u16, y: u16, z: u16, kg: u64, grade: u64, zone: u8) -> Block
@@ -86,7 +93,9 @@ fn block_with(x: u16, y: u16, z: u16, kg: u64, grade: u64, zone: u8) -> Block
 pub fn read_blocks(alloc: Global, text: &[u8]) -> Result<Blocks, FileError>
     ensures { Gives result (blocks_in text.now) }
 {
-    let mut draft = BlockDraft { blocks: Vec::new(alloc) };
+    let mut draft = BlockDraft {
+        blocks: Vec::new(alloc),
+    };
     read_lines(&mut draft, text)?;
     Ok(Blocks::new(draft.blocks))
 }
