@@ -1,11 +1,11 @@
 -- Blocks are read from their text as they are.
-use Rattle.std.proofs.Common.{◌≡◌, ℕ, suc, zero, ◌+◌, ◌*◌, ◌/◌, ◌%◌, ◌^◌, ◌-◌, ◌<◌, ◌≤◌, Bool, true, false, List, [], ◌∷◌, ◌++◌, length, ℤ, pos, arith, refl, ◌∙◌, ap, sym, length-append}
-use Rattle.std.specs.Prelude.{◌==◌, nat_lt, nat_le, ◌&&◌, Option, Some, None, Result, Ok}
+use Rattle.std.proofs.Common.{◌≡◌, ℕ, ◌*◌, ◌/◌, ◌^◌, ◌<◌, ◌≤◌, Bool, true, false, List, [], ◌∷◌, length, pos, arith, refl, ap, length-append}
+use Rattle.std.specs.Prelude.{Some, Ok}
 use Rattle.std.proofs.Math.Bridge.{le_prop}
 use Rattle.std.proofs.lemmas.Bool.{and_from, lt-ltb, le-leb, eq-eqb}
 use Rattle.pit_model.specs.declared.block.Block.{Block}
 use Rattle.minelib_text.specs.BlockLines.{are_in_range, block_if, block_with, block_of, admit_block, blocks_in}
-use Rattle.minelib_text.specs.Lines.{text_of, line_of, lines_from}
+use Rattle.minelib_text.specs.Lines.{text_of, lines_from}
 use Rattle.minelib_text.specs.Written.{block_fields}
 use Rattle.minelib_text.proofs.LinesBack.{AdmitsEach, items_admitted, text_read}
 use Rattle.minelib_text.proofs.NumbersBack.{decimal_field, whole_field, whole_again, size_again}

@@ -1,8 +1,7 @@
 -- The key lines of a model file are read as they are written.
-use Rattle.std.proofs.Common.{◌≡◌, ℕ, suc, zero, ◌+◌, ◌^◌, ◌-◌, ◌<◌, ◌≤◌, Bool, true, false, not, List, [], ◌∷◌, ◌++◌, length, take, drop, ℤ, pos, arith, refl, ◌∙◌, ap, sym, subst, is_some, eq-eqb, ne_eqb}
-use Rattle.std.specs.Prelude.{◌==◌, ◌&&◌, nat_lt, decimal, Option, Some, None, Result, Ok, codes}
-use Rattle.std.specs.List.{list_all, list_any, position_or_len, before_first, after_first}
-use Rattle.std.specs.Str.{bytes_eq}
+use Rattle.std.proofs.Common.{◌≡◌, ℕ, ◌+◌, ◌^◌, ◌≤◌, true, false, List, [], ◌∷◌, ◌++◌, length, drop, ℤ, pos, arith, refl, ◌∙◌, ap, sym, subst, is_some, eq-eqb, ne_eqb}
+use Rattle.std.specs.Prelude.{decimal, Some, Ok, codes}
+use Rattle.std.specs.List.{list_all, list_any, position_or_len}
 use Rattle.std.proofs.lemmas.Bool.{and_parts, or_right}
 use Rattle.std.proofs.lemmas.Fmt.{decimal_digit}
 use Rattle.std.proofs.lemmas.List.{take_at, drop_at, drop-drop}
@@ -11,8 +10,8 @@ use Rattle.pit_units.specs.Decimal.{shortest}
 use Rattle.mine_instance.specs.declared.coef.Coef.{Coef}
 use Rattle.pit_model.specs.declared.limit.Limit.{Limit}
 use Rattle.minelib_text.specs.FieldValues.{whole_in}
-use Rattle.minelib_text.specs.ModelLines.{ModelDraft, is_colon, key_in, key_of, type_text, is_next, is_ready, is_given, header_with, name_with, only_value, admit_header, admit_key, admit_model, blank_model, blank_header}
-use Rattle.minelib_text.specs.TextLines.{fields_of, is_skipped}
+use Rattle.minelib_text.specs.ModelLines.{ModelDraft, is_colon, key_in, type_text, is_next, is_ready, is_given, header_with, name_with, admit_key, admit_model, blank_model}
+use Rattle.minelib_text.specs.TextLines.{fields_of}
 use Rattle.minelib_text.specs.Written.{key_line, problem_keys, pcpsp_keys, cpit_keys}
 use Rattle.minelib_text.specs.declared.model_key.Header.{Header}
 use Rattle.minelib_text.specs.declared.model_key.HeaderKey.{HeaderKey}
@@ -22,10 +21,10 @@ use Rattle.minelib_text.specs.declared.model_key.ModelKey.TheVariants as model_k
 use Rattle.minelib_text.specs.declared.model_key.Problem.{Problem}
 use Rattle.minelib_text.specs.declared.model_key.Problem.TheVariants.{Pcpsp, Cpit}
 use Rattle.minelib_text.specs.declared.model_key.Section.{Section}
-use Rattle.minelib_text.specs.declared.model_key.Section.TheVariants.{Heading, Objective, Coefs, Limits}
+use Rattle.minelib_text.specs.declared.model_key.Section.TheVariants.{Heading}
 use Rattle.minelib_text.proofs.LinesBack.{Admits}
 use Rattle.minelib_text.proofs.NumbersBack.{decimal_field, whole_field, name_field, whole_again, size_again}
-use Rattle.minelib_text.proofs.PlainText.{is_plain, is_inner, plain_inner, plain_no_colon, all_weaker, all_parts, first_read, IsField, AreFields, IsLine, fields_again}
+use Rattle.minelib_text.proofs.PlainText.{is_plain, is_inner, plain_inner, plain_no_colon, all_weaker, all_parts, first_read, IsField, IsLine, fields_again}
 
 -- a model line takes what was read before it to what was read with it
 pub record IsStep (before : ModelDraft) (line : List ℕ) (after : ModelDraft) : Type 0 where
@@ -68,18 +67,22 @@ key_is_line (c ∷ cs) rest h inner = record {
 pub word_field : (c : ℕ) (cs : List ℕ) → list_all is_plain (c ∷ cs) ≡ true → IsField (c ∷ cs)
 word_field c cs h = record { some = omega arith; bytes = h }
 
--- what was read before the first section
-abbrev pub heading : Problem → ℕ → List ℕ → Header → ModelDraft
-heading p n name h = record {
+-- what was read up to a section
+abbrev pub draft : Problem → ℕ → List ℕ → Header → Section → List (List ℤ) → List Coef → List Limit → ModelDraft
+draft p n name h section values coefs limits = record {
   problem = p;
   blocks = n;
   name = name;
   header = h;
-  section = Heading;
-  values = [];
-  coefs = [];
-  limits = [];
+  section = section;
+  values = values;
+  coefs = coefs;
+  limits = limits;
 }
+
+-- what was read before the first section
+abbrev pub heading : Problem → ℕ → List ℕ → Header → ModelDraft
+heading p n name h = draft p n name h Heading [] [] []
 
 -- a header line is read where its key is new and its value is what the key takes
 header_step : (p : Problem) (n : ℕ) (name word value : List ℕ) (k : HeaderKey) (h new : Header) → IsField word → IsField value

@@ -1,9 +1,12 @@
 pub mod BlocksBack
+pub mod CpitBack
 pub mod Fronts
+pub mod InstanceBack
 pub mod ItemsBack
 pub mod KeysBack
 pub mod LineFacts
 pub mod LinesBack
+pub mod ModelBack
 pub mod NumbersBack
 pub mod PlainText
 pub mod PrecBack

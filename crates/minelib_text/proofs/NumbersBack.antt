@@ -1,6 +1,6 @@
 -- Written numbers and NAMEs are fields, and are read as what they are.
-use Rattle.std.proofs.Common.{◌≡◌, ℕ, suc, zero, ◌+◌, ◌*◌, ◌/◌, ◌%◌, ◌^◌, ◌-◌, ◌<◌, ◌≤◌, Bool, true, false, List, [], ◌∷◌, ◌++◌, map, length, ℤ, pos, arith, refl, ◌∙◌, ap, sym, append_assoc, append-nil, subst}
-use Rattle.std.specs.Prelude.{decimal, unsigned_abs, nat_le, ◌&&◌, Result, Ok, All}
+use Rattle.std.proofs.Common.{◌≡◌, ℕ, ◌*◌, ◌/◌, ◌%◌, ◌^◌, ◌-◌, ◌<◌, ◌≤◌, true, List, [], ◌∷◌, ◌++◌, map, length, ℤ, pos, arith, refl, ap, sym, append_assoc, append-nil, subst}
+use Rattle.std.specs.Prelude.{decimal, nat_le, ◌&&◌, Result, Ok, All}
 use Rattle.std.specs.List.{list_all}
 use Rattle.std.proofs.lemmas.Bool.{and_parts, leb-true, lt-ltb, le-ltb}
 use Rattle.std.proofs.lemmas.Bool.Decides.{nat_tests}
@@ -8,7 +8,7 @@ use Rattle.std.proofs.lemmas.List.Elements.{All-head, All-tail}
 use Rattle.std.proofs.lemmas.List.Sums.{list_all-from_AllPass}
 use Rattle.pit_model.specs.Name.{is_name, is_name_byte}
 use Rattle.pit_units.proofs.Written.{shortest_read, shortest_plain, whole_read, whole_written}
-use Rattle.pit_units.specs.Decimal.{decimal_of, shortest, IsPlainByte}
+use Rattle.pit_units.specs.Decimal.{shortest, IsPlainByte}
 use Rattle.minelib_text.specs.FieldValues.{all_by, size_in, whole_in, decimal_in}
 use Rattle.minelib_text.specs.Kept.{IsDecimal}
 use Rattle.minelib_text.specs.declared.text_fault.TextKind.{TextKind}
