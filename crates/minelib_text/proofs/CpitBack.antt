@@ -1,6 +1,6 @@
 -- The text of a CPIT denotes it.
-use Rattle.std.proofs.Common.{◌≡◌, ℕ, ◌+◌, ◌^◌, ◌<◌, List, [], ◌∷◌, ◌++◌, map, length, ℤ, pos, arith, refl, ap}
-use Rattle.std.specs.Prelude.{unsigned_abs, codes, Ok, All}
+use Rattle.std.proofs.Common.{◌≡◌, ℕ, ◌+◌, ◌<◌, List, [], ◌∷◌, map, length, ℤ, arith, refl, ap}
+use Rattle.std.specs.Prelude.{Ok, All}
 use Rattle.std.specs.List.{flat_map}
 use Rattle.std.proofs.lemmas.List.{get_or-map, length-map}
 use Rattle.std.proofs.lemmas.List.Elements.{All-map, All-nil, All-cons}
@@ -13,10 +13,10 @@ use Rattle.minelib_text.specs.Denotes.{cpit_denoted}
 use Rattle.minelib_text.specs.Kept.{IsDecimal, IsKeptCpit}
 use Rattle.minelib_text.specs.Lines.{line_of, lines_from}
 use Rattle.minelib_text.specs.ModelLines.{model_in}
-use Rattle.minelib_text.specs.Written.{text_cpit, value_fields, problem_keys, cpit_keys}
+use Rattle.minelib_text.specs.Written.{text_cpit, value_fields}
 use Rattle.minelib_text.specs.declared.model_key.Problem.TheVariants.{Cpit}
 use Rattle.minelib_text.specs.declared.model_key.Section.TheVariants.{Limits}
-use Rattle.minelib_text.proofs.InstanceBack.{from_zero, size_most}
+use Rattle.minelib_text.proofs.NumbersBack.{from_zero}
 use Rattle.minelib_text.proofs.ItemsBack.{coef_text}
 use Rattle.minelib_text.proofs.KeysBack.{draft, full_header, cpit_header}
 use Rattle.minelib_text.proofs.ModelBack.{IsModel, model_again}
@@ -45,11 +45,11 @@ coefs_without (c ∷ cs) = ap (λ rest. c ∷ rest) (coefs_without cs)
 coefs_of : (c : CpitParts) → IsCpit c → AreCoefs (length c.values) 1 c.resources (map with_destination c.coefs)
 coefs_of c is = record {
   in_range = All-map (λ e. (e.b < length c.values) × (e.d < 1) × (e.r < c.resources)) with_destination c.coefs
-    (λ k d within. let range = is.coefs.in_range k d within in (range.0, omega arith, range.1));
+      (λ k d within. let range = is.coefs.in_range k d within in (range.0, omega arith, range.1));
   rising = λ i j d before within.
-    let inside : j < length c.coefs = omega (arith, length-map c.coefs with_destination) in
-    rw (get_or-map with_destination c.coefs i (without_destination d) d (omega arith), get_or-map with_destination c.coefs j (without_destination d) d inside)
-    (is.coefs.rising i j (without_destination d) before inside);
+      let inside : j < length c.coefs = omega (arith, length-map c.coefs with_destination) in
+      rw (get_or-map with_destination c.coefs i (without_destination d) d (omega arith), get_or-map with_destination c.coefs j (without_destination d) d inside)
+      (is.coefs.rising i j (without_destination d) before inside);
 }
 
 model_of : (c : CpitParts) → IsCpit c → IsKeptCpit c
@@ -70,17 +70,13 @@ model_of c is kept = record {
 
 cpit_again : (c : CpitParts) → IsCpit c → IsKeptCpit c
     → model_in Cpit (length c.values) (text_cpit c)
-    ≡ Ok (draft Cpit (length c.values) c.name (full_header c.periods 1 c.resources (unsigned_abs c.rate)) Limits (map alone c.values)
+    ≡ Ok (draft Cpit (length c.values) c.name (full_header c.periods 1 c.resources c.rate) Limits (map alone c.values)
     (map with_destination c.coefs) c.limits)
 unfolding text_cpit
 cpit_again c is kept =
-    let horizon = is.horizon in
-    let rate = from_zero c.rate horizon.rate_0_to_1.0 in
-    let read = model_again Cpit (length c.values) c.name c.periods 1 c.resources (unsigned_abs c.rate) (map alone c.values) (map with_destination c.coefs) c.limits
-      (model_of c is kept) kept.name (problem_keys c.name (codes "CPIT") (length c.values) ++ cpit_keys c.periods c.resources (pos (unsigned_abs c.rate)))
-      (cpit_header (length c.values) c.name c.periods c.resources (unsigned_abs c.rate) is.few kept.name horizon.periods_1_to_100
-      horizon.at_most_8_resources (size_most c.rate (10 ^ 6) horizon.rate_0_to_1.1 horizon.rate_0_to_1.0)) in
-    rw (rate, lines_from-map value_fields alone 0 c.values, lines_from-map (coef_text Cpit) with_destination 0 c.coefs) at read
+    let header = cpit_header (length c.values) c.name c.periods c.resources c.rate is.few kept.name is.horizon in
+    let read = model_again _ _ c.name _ _ _ c.rate _ _ _ (model_of c is kept) kept.name _ header in
+    rw (lines_from-map value_fields alone 0 c.values, lines_from-map (coef_text Cpit) with_destination 0 c.coefs) at read
 
 pub written_cpit_again : (c : CpitParts) (n : ℕ) → IsCpit c → IsKeptCpit c → n ≡ length c.values → cpit_denoted n (text_cpit c) ≡ Ok c
 unfolding cpit_denoted

@@ -35,9 +35,9 @@ behind_last before all (y ∷ ys) x rest whole h =
     let last = length (y ∷ ys) - 1 in
     let place : length (y ∷ ys) < length all = omega (arith, ap length whole, length-append (y ∷ ys) (x ∷ rest)) in
     let there : get_or all (length (y ∷ ys)) x ≡ x =
-      ap (λ items. get_or items (length (y ∷ ys)) x) whole ∙ get_or_at (y ∷ ys) x rest x (length (y ∷ ys)) refl in
+    ap (λ items. get_or items (length (y ∷ ys)) x) whole ∙ get_or_at (y ∷ ys) x rest x (length (y ∷ ys)) refl in
     let front : get_or all last x ≡ get_or (y ∷ ys) last x =
-      ap (λ items. get_or items last x) whole ∙ get_or_append_left (y ∷ ys) (x ∷ rest) x last (omega arith) in
+    ap (λ items. get_or items last x) whole ∙ get_or_append_left (y ∷ ys) (x ∷ rest) x last (omega arith) in
     let rising : before (get_or all last x) (get_or all (length (y ∷ ys)) x) ≡ true = h last (length (y ∷ ys)) x (omega arith) place in
     rw (slice_get-get_or (y ∷ ys) last x (omega arith), ← front) (rw there at rising)
 
@@ -45,8 +45,12 @@ pub values_again : (n destinations before : ℕ) (values : List ℤ) → n ≤ 6
     → values_of n destinations before (value_fields before values) ≡ Ok values
 values_again n destinations before values few below as_many h =
     let width : length (value_fields before values) ≡ destinations + 1 = omega (arith, length-map values shortest) in
-    rw (eq-eqb _ _ width, whole_again n before below (omega arith), map_again IsDecimal shortest decimal_in decimal_again [] values h,
-    eq-eqb before before refl) refl
+    rw (
+      eq-eqb _ _ width,
+      whole_again n before below (omega arith),
+      map_again IsDecimal shortest decimal_in decimal_again [] values h,
+      eq-eqb before before refl,
+    ) refl
 
 pub values_fields : (before : ℕ) (values : List ℤ) → before < 64000000 → All IsDecimal values → AreFields (value_fields before values)
 values_fields before values few h =

@@ -43,28 +43,46 @@ member_below : (n q : ℕ) (ids : List ℕ) → All (λ id. id < n) ids → list
 member_below n q [] h e = absurd (cc)
 member_below n q (id ∷ ids) h e =
     elim (or_cases (eqb q id) (list_any (eqb q) ids) e) [
-      inl same ↦ omega (arith, eqb-true q id same, All-head (λ id. id < n) id ids h)
+      | inl same ↦ omega (arith, eqb-true q id same, All-head (λ id. id < n) id ids h)
       | inr later ↦ member_below n q ids (All-tail (λ id. id < n) id ids h) later
     ]
 
 -- there are fewer predecessors than blocks, since none is the block itself
 fewer : (own n : ℕ) (ids : List ℕ) → own < n → ArePredsOf own n ids → length ids < n
 fewer own n ids below h =
-    omega (arith, length-le_from_distinct_below (own ∷ ids) n (distinct_cons own ids h.others (distinct_ids ids h.distinct))
-    (λ q. member_below n q (own ∷ ids) (All-cons (λ id. id < n) own ids below h.below)))
+    omega (
+      arith,
+      length-le_from_distinct_below (own ∷ ids) n (distinct_cons own ids h.others (distinct_ids ids h.distinct))
+          (λ q. member_below n q (own ∷ ids) (All-cons (λ id. id < n) own ids below h.below)),
+    )
 
 preds_again : (own n : ℕ) (ids : List ℕ) → n ≤ 64000000 → own < n → ArePredsOf own n ids → preds_of n own (prec_fields own ids) ≡ Ok ids
 unfolding preds_of
 preds_again own n ids few below h =
     let width : nat_lt (length (prec_fields own ids)) 2 ≡ false = le-ltb _ 2 (omega arith) in
-    rw (width, whole_again n own below (omega arith), whole_again n (length ids) (fewer own n ids below h) (omega arith),
-    map_again (λ id. id < n) decimal (whole_in n) (λ id low. whole_again n id low (omega arith)) [] ids h.below,
-    eq-eqb own own refl, eq-eqb (length ids) (length ids) refl, stands_not own ids h.others, differ_again ids h.distinct) refl
+    rw (
+      width,
+      whole_again n own below (omega arith),
+      whole_again n (length ids) (fewer own n ids below h) (omega arith),
+      map_again (λ id. id < n) decimal (whole_in n) (λ id low. whole_again n id low (omega arith)) [] ids h.below,
+      eq-eqb own own refl,
+      eq-eqb (length ids) (length ids) refl,
+      stands_not own ids h.others,
+      differ_again ids h.distinct,
+    ) refl
 
 preds_fields : (own n : ℕ) (ids : List ℕ) → n ≤ 64000000 → own < n → ArePredsOf own n ids → AreFields (prec_fields own ids)
 preds_fields own n ids few below h =
-    record { some = omega arith; each = (whole_field own (omega arith), (whole_field (length ids) (omega (arith, fewer own n ids below h)),
-    map_fields (λ id. id < n) decimal (λ id low. whole_field id (omega arith)) ids h.below)) }
+    record {
+      some = omega arith;
+      each = (
+        whole_field own (omega arith),
+        (
+          whole_field (length ids) (omega (arith, fewer own n ids below h)),
+          map_fields (λ id. id < n) decimal (λ id low. whole_field id (omega arith)) ids h.below,
+        ),
+      );
+    }
 
 abbrev draft_of : ℕ → List (List ℕ) → PrecDraft
 draft_of n lists = record { blocks = n; lists = lists }
@@ -81,6 +99,8 @@ each_preds n lists few as_many h done ids rest whole =
 pub lists_again : (n : ℕ) (lists : List (List ℕ)) → n ≤ 64000000 → length lists ≡ n → ArePreds n lists
     → preds_in n (text_of (lines_from prec_fields 0 lists)) ≡ Ok lists
 lists_again n lists few as_many h =
-    rw (text_read admit_preds (no_lists n) (draft_of n lists) (lines_from prec_fields 0 lists)
-    (items_admitted admit_preds prec_fields (draft_of n) lists (each_preds n lists few as_many h) 0 [] lists refl refl),
-    eq-eqb (length lists) n as_many) refl
+    rw (
+      text_read admit_preds (no_lists n) (draft_of n lists) (lines_from prec_fields 0 lists)
+          (items_admitted admit_preds prec_fields (draft_of n) lists (each_preds n lists few as_many h) 0 [] lists refl refl),
+      eq-eqb (length lists) n as_many,
+    ) refl
