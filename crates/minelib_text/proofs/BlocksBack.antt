@@ -1,11 +1,11 @@
 -- Blocks are read from their text as they are.
-use Rattle.std.proofs.Common.{◌≡◌, ℕ, suc, zero, ◌+◌, ◌*◌, ◌/◌, ◌%◌, ◌^◌, ◌-◌, ◌<◌, ◌≤◌, Bool, true, false, List, [], ◌∷◌, ◌++◌, length, ℤ, pos, arith, refl, ◌∙◌, ap, sym, length-append}
-use Rattle.std.specs.Prelude.{◌==◌, nat_lt, nat_le, ◌&&◌, Option, Some, None, Result, Ok}
+use Rattle.std.proofs.Common.{◌≡◌, ℕ, ◌*◌, ◌/◌, ◌^◌, ◌<◌, ◌≤◌, Bool, true, false, List, [], ◌∷◌, length, pos, arith, refl, ap, length-append}
+use Rattle.std.specs.Prelude.{Some, Ok}
 use Rattle.std.proofs.Math.Bridge.{le_prop}
-use Rattle.std.proofs.lemmas.Bool.{and_from, lt-ltb, le-leb, eq-eqb}
+use Rattle.std.proofs.lemmas.Bool.{lt-ltb, le-leb, eq-eqb}
 use Rattle.pit_model.specs.declared.block.Block.{Block}
 use Rattle.minelib_text.specs.BlockLines.{are_in_range, block_if, block_with, block_of, admit_block, blocks_in}
-use Rattle.minelib_text.specs.Lines.{text_of, line_of, lines_from}
+use Rattle.minelib_text.specs.Lines.{text_of, lines_from}
 use Rattle.minelib_text.specs.Written.{block_fields}
 use Rattle.minelib_text.proofs.LinesBack.{AdmitsEach, items_admitted, text_read}
 use Rattle.minelib_text.proofs.NumbersBack.{decimal_field, whole_field, whole_again, size_again}
@@ -14,8 +14,14 @@ use Rattle.minelib_text.proofs.PlainText.{AreFields, fields_again, fields_line}
 -- a block's fields are in range
 in_range_again : (b : Block) → are_in_range b.x b.y b.z b.kg b.grade b.zone ≡ true
 in_range_again b =
-    and_from _ _ (lt-ltb b.x 10000 b.x_in_grid) (and_from _ _ (lt-ltb b.y 10000 b.y_in_grid) (and_from _ _ (lt-ltb b.z 10000 b.z_in_grid)
-    (and_from _ _ (le-leb b.kg (10 ^ 9) b.kg_in_range) (and_from _ _ (le-leb b.grade (10 ^ 12) b.grade_in_range) (lt-ltb b.zone 64 b.zone_in_range)))))
+    rw (
+      lt-ltb b.x 10000 b.x_in_grid,
+      lt-ltb b.y 10000 b.y_in_grid,
+      lt-ltb b.z 10000 b.z_in_grid,
+      le-leb b.kg (10 ^ 9) b.kg_in_range,
+      le-leb b.grade (10 ^ 12) b.grade_in_range,
+      lt-ltb b.zone 64 b.zone_in_range,
+    ) refl
 
 -- a block is that of its fields, however they are shown to be in range
 same_block : (b : Block) (x : b.x < 10000) (y : b.y < 10000) (z : b.z < 10000) (kg : b.kg ≤ 10 ^ 9) (grade : b.grade ≤ 10 ^ 12) (zone : b.zone < 64)
@@ -59,34 +65,18 @@ with_again b = same_if b (are_in_range b.x b.y b.z b.kg b.grade b.zone) refl (in
 
 block_line : (n : ℕ) (b : Block) → n < 64000000 → AreFields (block_fields n b)
 block_line n b few =
-    let x = b.x_in_grid in
-    let y = b.y_in_grid in
-    let z = b.z_in_grid in
-    let kg = b.kg_in_range in
-    let grade = b.grade_in_range in
-    let zone = b.zone_in_range in
-    record {
-      some = omega arith;
-      each = (
-        whole_field n (omega arith),
-        (
-          whole_field b.x (omega arith),
-          (
-            whole_field b.y (omega arith),
-            (
-              whole_field b.z (omega arith),
-              (decimal_field (pos (b.kg * 1000)) (omega arith), (decimal_field (pos b.grade) (omega arith), (whole_field b.zone (omega arith), tt))),
-            ),
-          ),
-        ),
-      );
-    }
+    let id = whole_field n (omega arith) in
+    let x = whole_field b.x (omega arith) in
+    let y = whole_field b.y (omega arith) in
+    let z = whole_field b.z (omega arith) in
+    let tonnes = decimal_field (pos (b.kg * 1000)) (omega arith) in
+    let grade = decimal_field (pos b.grade) (omega arith) in
+    let zone = whole_field b.zone (omega arith) in
+    record { some = omega arith; each = (id, (x, (y, (z, (tonnes, (grade, (zone, tt))))))) }
 
 block_again : (n : ℕ) (b : Block) → n < 64000000 → block_of n (block_fields n b) ≡ Ok b
 unfolding block_of
 block_again n b few =
-    let kg = b.kg_in_range in
-    let grade = b.grade_in_range in
     let tonnes : b.kg * 1000 / 1000 ≡ b.kg = omega arith in
     rw (
       whole_again 64000000 n few (omega arith),
@@ -94,7 +84,7 @@ block_again n b few =
       whole_again 10000 b.y b.y_in_grid (omega arith),
       whole_again 10000 b.z b.z_in_grid (omega arith),
       size_again 3 (10 ^ 12) (b.kg * 1000) (omega arith) (omega arith) (omega arith) (omega arith),
-      size_again 6 (10 ^ 12) b.grade (omega arith) (omega arith) grade (omega arith),
+      size_again 6 (10 ^ 12) b.grade (omega arith) (omega arith) b.grade_in_range (omega arith),
       whole_again 64 b.zone b.zone_in_range (omega arith),
       eq-eqb n n refl,
       tonnes,

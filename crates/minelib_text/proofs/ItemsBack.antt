@@ -1,6 +1,6 @@
 -- The items of a model file's sections are read as they are written.
-use Rattle.std.proofs.Common.{◌≡◌, ℕ, suc, zero, ◌+◌, ◌^◌, ◌-◌, ◌<◌, ◌≤◌, Bool, true, false, not, List, [], ◌∷◌, ◌++◌, map, length, get_or, ℤ, arith, refl, ◌∙◌, ap, sym, subst, eq-eqb, length-append}
-use Rattle.std.specs.Prelude.{◌==◌, decimal, Option, Some, None, Result, Ok, codes, All, AllPairs, IsTrue}
+use Rattle.std.proofs.Common.{◌≡◌, ℕ, ◌+◌, ◌-◌, ◌<◌, ◌≤◌, Bool, true, false, List, [], ◌∷◌, ◌++◌, length, get_or, ℤ, arith, refl, ◌∙◌, ap, subst, eq-eqb, length-append}
+use Rattle.std.specs.Prelude.{decimal, Ok, All, AllPairs, IsTrue}
 use Rattle.std.proofs.lemmas.List.{get_or_at, get_or_append_left, length-map}
 use Rattle.std.proofs.lemmas.Option.{slice_get-get_or}
 use Rattle.pit_model.specs.Planned.{is_turned}

@@ -1,18 +1,19 @@
 -- The key lines of a model file are read as they are written.
-use Rattle.std.proofs.Common.{◌≡◌, ℕ, suc, zero, ◌+◌, ◌^◌, ◌-◌, ◌<◌, ◌≤◌, Bool, true, false, not, List, [], ◌∷◌, ◌++◌, length, take, drop, ℤ, pos, arith, refl, ◌∙◌, ap, sym, subst, is_some, eq-eqb, ne_eqb}
-use Rattle.std.specs.Prelude.{◌==◌, ◌&&◌, nat_lt, decimal, Option, Some, None, Result, Ok, codes}
-use Rattle.std.specs.List.{list_all, list_any, position_or_len, before_first, after_first}
-use Rattle.std.specs.Str.{bytes_eq}
+use Rattle.std.proofs.Common.{◌≡◌, ℕ, ◌+◌, ◌^◌, ◌≤◌, true, false, List, [], ◌∷◌, ◌++◌, length, drop, ℤ, pos, negsuc, ◌≤ℤ◌, arith, refl, ◌∙◌, ap, sym, subst, is_some, eq-eqb, ne_eqb}
+use Rattle.std.specs.Prelude.{unsigned_abs, decimal, Some, Ok, codes}
+use Rattle.std.specs.List.{list_all, list_any, position_or_len}
 use Rattle.std.proofs.lemmas.Bool.{and_parts, or_right}
 use Rattle.std.proofs.lemmas.Fmt.{decimal_digit}
+use Rattle.std.proofs.lemmas.Int.{ints}
 use Rattle.std.proofs.lemmas.List.{take_at, drop_at, drop-drop}
 use Rattle.pit_model.specs.Name.{is_name}
 use Rattle.pit_units.specs.Decimal.{shortest}
+use Rattle.mine_instance.specs.Valid.{IsHorizon}
 use Rattle.mine_instance.specs.declared.coef.Coef.{Coef}
 use Rattle.pit_model.specs.declared.limit.Limit.{Limit}
 use Rattle.minelib_text.specs.FieldValues.{whole_in}
-use Rattle.minelib_text.specs.ModelLines.{ModelDraft, is_colon, key_in, key_of, type_text, is_next, is_ready, is_given, header_with, name_with, only_value, admit_header, admit_key, admit_model, blank_model, blank_header}
-use Rattle.minelib_text.specs.TextLines.{fields_of, is_skipped}
+use Rattle.minelib_text.specs.ModelLines.{ModelDraft, is_colon, key_in, type_text, is_next, is_ready, is_given, header_with, name_with, admit_key, admit_model, blank_model}
+use Rattle.minelib_text.specs.TextLines.{fields_of}
 use Rattle.minelib_text.specs.Written.{key_line, problem_keys, pcpsp_keys, cpit_keys}
 use Rattle.minelib_text.specs.declared.model_key.Header.{Header}
 use Rattle.minelib_text.specs.declared.model_key.HeaderKey.{HeaderKey}
@@ -22,10 +23,10 @@ use Rattle.minelib_text.specs.declared.model_key.ModelKey.TheVariants as model_k
 use Rattle.minelib_text.specs.declared.model_key.Problem.{Problem}
 use Rattle.minelib_text.specs.declared.model_key.Problem.TheVariants.{Pcpsp, Cpit}
 use Rattle.minelib_text.specs.declared.model_key.Section.{Section}
-use Rattle.minelib_text.specs.declared.model_key.Section.TheVariants.{Heading, Objective, Coefs, Limits}
-use Rattle.minelib_text.proofs.LinesBack.{Admits}
+use Rattle.minelib_text.specs.declared.model_key.Section.TheVariants.{Heading}
+use Rattle.minelib_text.proofs.LinesBack.{AdmitsAll, admits_both}
 use Rattle.minelib_text.proofs.NumbersBack.{decimal_field, whole_field, name_field, whole_again, size_again}
-use Rattle.minelib_text.proofs.PlainText.{is_plain, is_inner, plain_inner, plain_no_colon, all_weaker, all_parts, first_read, IsField, AreFields, IsLine, fields_again}
+use Rattle.minelib_text.proofs.PlainText.{is_plain, is_inner, plain_inner, plain_no_colon, all_weaker, all_parts, first_read, IsField, IsLine, fields_again}
 
 -- a model line takes what was read before it to what was read with it
 pub record IsStep (before : ModelDraft) (line : List ℕ) (after : ModelDraft) : Type 0 where
@@ -68,18 +69,22 @@ key_is_line (c ∷ cs) rest h inner = record {
 pub word_field : (c : ℕ) (cs : List ℕ) → list_all is_plain (c ∷ cs) ≡ true → IsField (c ∷ cs)
 word_field c cs h = record { some = omega arith; bytes = h }
 
--- what was read before the first section
-abbrev pub heading : Problem → ℕ → List ℕ → Header → ModelDraft
-heading p n name h = record {
+-- what was read up to a section
+abbrev pub draft : Problem → ℕ → List ℕ → Header → Section → List (List ℤ) → List Coef → List Limit → ModelDraft
+draft p n name h section values coefs limits = record {
   problem = p;
   blocks = n;
   name = name;
   header = h;
-  section = Heading;
-  values = [];
-  coefs = [];
-  limits = [];
+  section = section;
+  values = values;
+  coefs = coefs;
+  limits = limits;
 }
+
+-- what was read before the first section
+abbrev pub heading : Problem → ℕ → List ℕ → Header → ModelDraft
+heading p n name h = draft p n name h Heading [] [] []
 
 -- a header line is read where its key is new and its value is what the key takes
 header_step : (p : Problem) (n : ℕ) (name word value : List ℕ) (k : HeaderKey) (h new : Header) → IsField word → IsField value
@@ -119,16 +124,16 @@ blocks_step p n h name few fresh =
     header_step p n name (codes "NBLOCKS") (decimal n) key.Blocks h _ (word_field _ _ refl) (whole_field n (omega arith)) (in_all p _ _ refl refl) fresh
     (rw (whole_again 64000001 n (omega arith) (omega arith), eq-eqb n n refl) refl)
 
-periods_step : (p : Problem) (n : ℕ) (h : Header) (name : List ℕ) (periods : ℕ) → 1 ≤ periods → periods ≤ 100 → is_some h.periods ≡ false
+periods_step : (p : Problem) (n : ℕ) (h : Header) (name : List ℕ) (periods : ℕ) → (1 ≤ periods) × (periods ≤ 100) → is_some h.periods ≡ false
     → IsStep (heading p n name h) (key_line (codes "NPERIODS:") (decimal periods)) (heading p n name (record h { periods = Some periods }))
-periods_step p n h name periods some few fresh =
+periods_step p n h name periods within fresh =
     header_step p n name (codes "NPERIODS") (decimal periods) key.Periods h _ (word_field _ _ refl) (whole_field periods (omega arith))
     (in_all p _ _ refl refl) fresh (rw (whole_again 101 periods (omega arith) (omega arith), ne_eqb periods 0 (λ e. omega arith)) refl)
 
-destinations_step : (n : ℕ) (h : Header) (name : List ℕ) (destinations : ℕ) → 1 ≤ destinations → destinations ≤ 8 → is_some h.destinations ≡ false
+destinations_step : (n : ℕ) (h : Header) (name : List ℕ) (destinations : ℕ) → (1 ≤ destinations) × (destinations ≤ 8) → is_some h.destinations ≡ false
     → IsStep (heading Pcpsp n name h) (key_line (codes "NDESTINATIONS:") (decimal destinations))
     (heading Pcpsp n name (record h { destinations = Some destinations }))
-destinations_step n h name destinations some few fresh =
+destinations_step n h name destinations within fresh =
     header_step Pcpsp n name (codes "NDESTINATIONS") (decimal destinations) key.Destinations h _ (word_field _ _ refl)
     (whole_field destinations (omega arith)) refl fresh
     (rw (whole_again 9 destinations (omega arith) (omega arith), ne_eqb destinations 0 (λ e. omega arith)) refl)
@@ -149,24 +154,29 @@ general_step n h name fresh =
     header_step Pcpsp n name (codes "NGENERAL_SIDE_CONSTRAINTS") (codes "0") key.General h _ (word_field _ _ refl) (word_field _ _ refl) refl fresh
     (rw zero_read refl)
 
-rate_step : (p : Problem) (n : ℕ) (h : Header) (name : List ℕ) (rate : ℕ) → rate ≤ 10 ^ 6 → is_some h.rate ≡ false
-    → IsStep (heading p n name h) (key_line (codes "DISCOUNT_RATE:") (shortest (pos rate))) (heading p n name (record h { rate = Some rate }))
-rate_step p n h name rate most fresh =
-    header_step p n name (codes "DISCOUNT_RATE") (shortest (pos rate)) key.Rate h _ (word_field _ _ refl) (decimal_field (pos rate) (omega arith))
-    (in_all p _ _ refl refl) fresh (rw (size_again 6 (10 ^ 6) rate (omega arith) (omega arith) most (omega arith)) refl)
+rate_step : (p : Problem) (n : ℕ) (h : Header) (name : List ℕ) (rate : ℤ) → (pos 0 ≤ℤ rate) × (rate ≤ℤ pos (10 ^ 6)) → is_some h.rate ≡ false
+    → IsStep (heading p n name h) (key_line (codes "DISCOUNT_RATE:") (shortest rate)) (heading p n name (record h { rate = Some (unsigned_abs rate) }))
+rate_step p n h name (negsuc k) within fresh = absurd (omega (arith, ints))
+rate_step p n h name (pos k) within fresh =
+    let most : k ≤ 10 ^ 6 = omega (arith, ints) in
+    header_step p n name (codes "DISCOUNT_RATE") (shortest (pos k)) key.Rate h _ (word_field _ _ refl) (decimal_field (pos k) (omega arith))
+    (in_all p _ _ refl refl) fresh (rw (size_again 6 (10 ^ 6) k (omega arith) (omega arith) most (omega arith)) refl)
 
 -- model lines take what was read before them to what was read with them
 pub record AreSteps (before : ModelDraft) (lines : List (List ℕ)) (after : ModelDraft) : Type 0 where
-  pub admitted : Admits admit_model before lines after
+  pub admitted : AdmitsAll admit_model before lines after
 
-then_lines : (s t u : ModelDraft) (line : List ℕ) (lines : List (List ℕ)) → IsStep s line t → AreSteps t lines u → AreSteps s (line ∷ lines) u
+pub then_lines : (s t u : ModelDraft) (line : List ℕ) (lines : List (List ℕ)) → IsStep s line t → AreSteps t lines u → AreSteps s (line ∷ lines) u
 then_lines s t u line lines h more = record { admitted = (t, h.is_line, h.admitted, more.admitted) }
+
+pub and_lines : (s t u : ModelDraft) (xs ys : List (List ℕ)) → AreSteps s xs t → AreSteps t ys u → AreSteps s (xs ++ ys) u
+and_lines s t u xs ys h more = record { admitted = admits_both admit_model s t u xs ys h.admitted more.admitted }
 
 no_lines : (s : ModelDraft) → AreSteps s [] s
 no_lines s = record { admitted = refl }
 
 -- a header with all its keys
-abbrev pub full_header : ℕ → ℕ → ℕ → ℕ → Header
+abbrev pub full_header : ℕ → ℕ → ℕ → ℤ → Header
 full_header periods destinations resources rate = record {
   is_typed = true;
   is_counted = true;
@@ -174,31 +184,30 @@ full_header periods destinations resources rate = record {
   periods = Some periods;
   destinations = Some destinations;
   resources = Some resources;
-  rate = Some rate;
+  rate = Some (unsigned_abs rate);
 }
 
-pub pcpsp_header : (n : ℕ) (name : List ℕ) (periods destinations resources rate : ℕ) → n ≤ 64000000 → is_name name ≡ true
-    → (1 ≤ periods) × (periods ≤ 100) → (1 ≤ destinations) × (destinations ≤ 8) → resources ≤ 8 → rate ≤ 10 ^ 6
-    → AreSteps (blank_model Pcpsp n) (problem_keys name (codes "PCPSP") n ++ pcpsp_keys periods destinations resources (pos rate))
+pub pcpsp_header : (n : ℕ) (name : List ℕ) (periods destinations resources : ℕ) (rate : ℤ) → n ≤ 64000000 → is_name name ≡ true
+    → IsHorizon periods resources rate → (1 ≤ destinations) × (destinations ≤ 8)
+    → AreSteps (blank_model Pcpsp n) (problem_keys name (codes "PCPSP") n ++ pcpsp_keys periods destinations resources rate)
     (heading Pcpsp n name (full_header periods destinations resources rate))
-pcpsp_header n name periods destinations resources rate few is_name in_periods in_destinations in_resources in_rate =
+pcpsp_header n name periods destinations resources rate few is_name horizon count =
     then_lines _ _ _ _ _ (name_step Pcpsp n _ name is_name)
     (then_lines _ _ _ _ _ (type_step Pcpsp n _ name refl)
     (then_lines _ _ _ _ _ (blocks_step Pcpsp n _ name few refl)
-    (then_lines _ _ _ _ _ (periods_step Pcpsp n _ name periods in_periods.0 in_periods.1 refl)
-    (then_lines _ _ _ _ _ (destinations_step n _ name destinations in_destinations.0 in_destinations.1 refl)
-    (then_lines _ _ _ _ _ (resources_step Pcpsp n _ name resources in_resources refl)
+    (then_lines _ _ _ _ _ (periods_step Pcpsp n _ name periods horizon.periods_1_to_100 refl)
+    (then_lines _ _ _ _ _ (destinations_step n _ name destinations count refl)
+    (then_lines _ _ _ _ _ (resources_step Pcpsp n _ name resources horizon.at_most_8_resources refl)
     (then_lines _ _ _ _ _ (general_step n _ name refl)
-    (then_lines _ _ _ _ _ (rate_step Pcpsp n _ name rate in_rate refl) (no_lines _))))))))
+    (then_lines _ _ _ _ _ (rate_step Pcpsp n _ name rate horizon.rate_0_to_1 refl) (no_lines _))))))))
 
-pub cpit_header : (n : ℕ) (name : List ℕ) (periods resources rate : ℕ) → n ≤ 64000000 → is_name name ≡ true
-    → (1 ≤ periods) × (periods ≤ 100) → resources ≤ 8 → rate ≤ 10 ^ 6
-    → AreSteps (blank_model Cpit n) (problem_keys name (codes "CPIT") n ++ cpit_keys periods resources (pos rate))
+pub cpit_header : (n : ℕ) (name : List ℕ) (periods resources : ℕ) (rate : ℤ) → n ≤ 64000000 → is_name name ≡ true → IsHorizon periods resources rate
+    → AreSteps (blank_model Cpit n) (problem_keys name (codes "CPIT") n ++ cpit_keys periods resources rate)
     (heading Cpit n name (full_header periods 1 resources rate))
-cpit_header n name periods resources rate few is_name in_periods in_resources in_rate =
+cpit_header n name periods resources rate few is_name horizon =
     then_lines _ _ _ _ _ (name_step Cpit n _ name is_name)
     (then_lines _ _ _ _ _ (type_step Cpit n _ name refl)
     (then_lines _ _ _ _ _ (blocks_step Cpit n _ name few refl)
-    (then_lines _ _ _ _ _ (periods_step Cpit n _ name periods in_periods.0 in_periods.1 refl)
-    (then_lines _ _ _ _ _ (resources_step Cpit n _ name resources in_resources refl)
-    (then_lines _ _ _ _ _ (rate_step Cpit n _ name rate in_rate refl) (no_lines _))))))
+    (then_lines _ _ _ _ _ (periods_step Cpit n _ name periods horizon.periods_1_to_100 refl)
+    (then_lines _ _ _ _ _ (resources_step Cpit n _ name resources horizon.at_most_8_resources refl)
+    (then_lines _ _ _ _ _ (rate_step Cpit n _ name rate horizon.rate_0_to_1 refl) (no_lines _))))))

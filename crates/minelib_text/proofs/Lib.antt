@@ -1,11 +1,14 @@
 pub mod BlocksBack
+pub mod CpitBack
 pub mod Cuts
 pub mod Fronts
+pub mod InstanceBack
 pub mod ItemsBack
 pub mod KeysBack
 pub mod LineFacts
 pub mod LinesBack
 pub mod MarkFacts
+pub mod ModelBack
 pub mod NumbersBack
 pub mod PlainText
 pub mod PrecBack

@@ -1,14 +1,15 @@
 -- Written numbers and NAMEs are fields, and are read as what they are.
-use Rattle.std.proofs.Common.{◌≡◌, ℕ, suc, zero, ◌+◌, ◌*◌, ◌/◌, ◌%◌, ◌^◌, ◌-◌, ◌<◌, ◌≤◌, Bool, true, false, List, [], ◌∷◌, ◌++◌, map, length, ℤ, pos, arith, refl, ◌∙◌, ap, sym, append_assoc, append-nil, subst}
-use Rattle.std.specs.Prelude.{decimal, unsigned_abs, nat_le, ◌&&◌, Result, Ok, All}
+use Rattle.std.proofs.Common.{◌≡◌, ℕ, ◌*◌, ◌/◌, ◌%◌, ◌^◌, ◌-◌, ◌<◌, ◌≤◌, true, List, [], ◌∷◌, ◌++◌, map, length, ℤ, pos, negsuc, ◌≤ℤ◌, arith, refl, ap, sym, append_assoc, append-nil, subst}
+use Rattle.std.specs.Prelude.{unsigned_abs, decimal, nat_le, ◌&&◌, Result, Ok, All}
 use Rattle.std.specs.List.{list_all}
 use Rattle.std.proofs.lemmas.Bool.{and_parts, leb-true, lt-ltb, le-ltb}
 use Rattle.std.proofs.lemmas.Bool.Decides.{nat_tests}
+use Rattle.std.proofs.lemmas.Int.{ints}
 use Rattle.std.proofs.lemmas.List.Elements.{All-head, All-tail}
 use Rattle.std.proofs.lemmas.List.Sums.{list_all-from_AllPass}
 use Rattle.pit_model.specs.Name.{is_name, is_name_byte}
 use Rattle.pit_units.proofs.Written.{shortest_read, shortest_plain, whole_read, whole_written}
-use Rattle.pit_units.specs.Decimal.{decimal_of, shortest, IsPlainByte}
+use Rattle.pit_units.specs.Decimal.{shortest, IsPlainByte}
 use Rattle.minelib_text.specs.FieldValues.{all_by, size_in, whole_in, decimal_in}
 use Rattle.minelib_text.specs.Kept.{IsDecimal}
 use Rattle.minelib_text.specs.declared.text_fault.TextKind.{TextKind}
@@ -24,6 +25,11 @@ decimal_field z most =
 
 pub whole_field : (k : ℕ) → k ≤ 10 ^ 18 → IsField (decimal k)
 whole_field k most = subst IsField (whole_written k) (decimal_field (pos (k * 10 ^ 6)) (omega arith))
+
+-- a number that is not negative is its size
+pub from_zero : (z : ℤ) → pos 0 ≤ℤ z → pos (unsigned_abs z) ≡ z
+from_zero (pos k) h = refl
+from_zero (negsuc k) h = absurd (omega (arith, ints))
 
 name_byte : (c : ℕ) → is_name_byte c ≡ true → is_plain c ≡ true
 name_byte c h = grind (arith, nat_tests)

@@ -1,16 +1,15 @@
 -- Predecessors are read from their text as they are.
-use Rattle.std.proofs.Common.{◌≡◌, ◌≢◌, ℕ, suc, zero, ◌+◌, ◌*◌, ◌^◌, ◌-◌, ◌<◌, ◌≤◌, Bool, true, false, not, List, [], ◌∷◌, ◌++◌, map, length, arith, refl, ◌∙◌, ap, sym, length-append, get_or, eqb, subst, inl, inr}
-use Rattle.std.specs.Prelude.{◌==◌, ◌||◌, nat_lt, decimal, Result, Ok, All, AllPairs, EachIndex}
+use Rattle.std.proofs.Common.{◌≡◌, ◌≢◌, ℕ, suc, ◌<◌, ◌≤◌, true, false, List, [], ◌∷◌, length, arith, refl, ◌∙◌, ap, sym, length-append, get_or, eqb, subst, inl, inr}
+use Rattle.std.specs.Prelude.{nat_lt, decimal, Ok, All, AllPairs}
 use Rattle.std.specs.List.{list_any, IsDistinct}
-use Rattle.std.proofs.lemmas.Bool.{eq-eqb, ne_eqb, le-ltb, or_from, or_cases, eqb-true}
-use Rattle.std.proofs.lemmas.List.{get_or_at, length-map}
+use Rattle.std.proofs.lemmas.Bool.{eq-eqb, ne_eqb, le-ltb, or_cases, eqb-true}
+use Rattle.std.proofs.lemmas.List.{get_or_at}
 use Rattle.std.proofs.lemmas.List.Elements.{All-cons, All-head, All-tail, recursion_from_All}
 use Rattle.std.proofs.lemmas.Map.Steps.{length-le_from_distinct_below}
 use Rattle.mine_instance.specs.Valid.{ArePredsOf, ArePreds}
 use Rattle.minelib_text.specs.FieldValues.{whole_in}
-use Rattle.minelib_text.specs.Lines.{text_of, line_of, lines_from}
-use Rattle.minelib_text.specs.PrecLines.{stands_in, all_differ, PrecDraft, no_lists, preds_of, admit_preds, finish_preds, preds_in}
-use Rattle.minelib_text.specs.TextLines.{end_of}
+use Rattle.minelib_text.specs.Lines.{text_of, lines_from}
+use Rattle.minelib_text.specs.PrecLines.{stands_in, all_differ, PrecDraft, no_lists, preds_of, admit_preds, preds_in}
 use Rattle.minelib_text.specs.Written.{prec_fields}
 use Rattle.minelib_text.proofs.LinesBack.{AdmitsEach, items_admitted, text_read}
 use Rattle.minelib_text.proofs.NumbersBack.{whole_field, whole_again, map_fields, map_again}

@@ -9,6 +9,7 @@ mod fields;
 mod files;
 mod item_lines;
 mod keys;
+pub mod laws;
 mod lines;
 mod marks;
 pub mod mem_sink;
