@@ -1,2 +1,4 @@
 pub mod Fronts
 pub mod LineFacts
+pub mod ReadSteps
+pub mod ValidBlocks
