@@ -2,3 +2,4 @@ pub mod Fronts
 pub mod LineFacts
 pub mod ReadSteps
 pub mod ValidBlocks
+pub mod ValidPreds

@@ -31,6 +31,10 @@ pub not_false : (t : Bool) → not t ≡ false → t ≡ true
 not_false true e = refl
 not_false false e = absurd cc
 
+pub not_true : (t : Bool) → not t ≡ true → t ≡ false
+not_true false e = refl
+not_true true e = absurd cc
+
 pub same_ok : {A F : Type 0} (x y : A) → ◌≡◌ {A = Result A F} (Ok x) (Ok y) → x ≡ y
 same_ok x y e = cc
 

@@ -1,0 +1,140 @@
+-- What the predecessors that are read keep.
+use Rattle.std.specs.Prelude.{◌≡◌, ◌≢◌, ℕ, ◌+◌, ◌-◌, ◌<◌, ◌==◌, ◌&&◌, ◌||◌, nat_lt, Bool, true, false, not, List, [], ◌∷◌, ◌++◌, length, slice_index_or, Result, Ok, Err, if◌then◌else◌, All, AllPairs}
+use Rattle.std.specs.List.{AllZip}
+use Rattle.std.proofs.Common.{refl, sym, ◌∙◌, ap, subst, arith, get_or, length-append, inl, inr}
+use Rattle.std.proofs.lemmas.Bool.{cases_lt, and_parts, or_parts}
+use Rattle.std.proofs.lemmas.Bool.Decides.{nat_tests}
+use Rattle.std.proofs.lemmas.List.{get_or_append_left, get_or-append_right}
+use Rattle.std.proofs.lemmas.List.Elements.{All-nil, All-cons}
+use Rattle.std.proofs.lemmas.List.Kept.{AllPairs-cons}
+use Rattle.mine_instance.specs.Valid.{ArePreds, ArePredsOf}
+use Rattle.minelib_text.specs.FieldValues.{◌>>=◌, whole_in, first_by, all_by}
+use Rattle.minelib_text.specs.PrecLines.{PrecDraft, stands_in, all_differ, no_lists, preds_with, preds_of, admit_preds, finish_preds, preds_in}
+use Rattle.minelib_text.specs.Reading.{read_lines}
+use Rattle.minelib_text.specs.TextLines.{fields_of, lines_in, end_of}
+use Rattle.minelib_text.specs.declared.text_fault.TextKind.{TextKind}
+use Rattle.minelib_text.specs.declared.text_fault.TextKind.TheVariants.{Fields, Order, Count, Twice, Missing}
+use Rattle.minelib_text.proofs.ReadSteps.{bind_ok, guard_ok, then_ok, not_false, not_true, same_ok, kept_by_lines, First, first_ok, all_ok, whole_in_ok}
+
+-- a number that does not stand in a list differs from each one there
+others_differ : (own : ℕ) (ids : List ℕ) → stands_in ids own ≡ false → All (λ id. id ≢ own) ids
+others_differ own [] e = All-nil (λ id. id ≢ own)
+others_differ own (id ∷ ids) e =
+    let parts = or_parts (id == own) (stands_in ids own) e in
+    All-cons (λ other. other ≢ own) id ids (grind (arith, nat_tests, parts.0)) (others_differ own ids parts.1)
+
+-- where no number stands twice, each two differ
+pairs_differ : (ids : List ℕ) → all_differ ids ≡ true → AllPairs (λ id other. id ≢ other) ids
+pairs_differ [] e = λ i j d less high. absurd (omega arith)
+pairs_differ (id ∷ ids) e =
+    let parts = and_parts (not (stands_in ids id)) (all_differ ids) e in
+    AllPairs-cons (λ id other. id ≢ other) id ids (λ k d within same. others_differ id ids (not_true (stands_in ids id) parts.0) k d within (sym same))
+    (pairs_differ ids parts.1)
+
+-- each number that is read from fields is below the limit
+all_below : (n : ℕ) (fields : List (List ℕ)) (ids : List ℕ) → AllZip (λ field id. whole_in n field ≡ Ok id) fields ids → All (λ id. id < n) ids
+all_below n [] [] zip = All-nil (λ id. id < n)
+all_below n [] (id ∷ ids) zip = absurd zip
+all_below n (field ∷ fields) [] zip = absurd zip
+all_below n (field ∷ fields) (id ∷ ids) zip = All-cons (λ id. id < n) id ids (whole_in_ok n field id zip.0) (all_below n fields ids zip.1)
+
+-- what the predecessors of a line show of their number and their block
+pub record Preds (own id stated : ℕ) (given ids : List ℕ) : Type 0 where
+  pub same : given ≡ ids
+  pub of_own : id ≡ own
+  pub counted : stated ≡ length ids
+  pub others : stands_in ids own ≡ false
+  pub distinct : all_differ ids ≡ true
+
+pub preds_with_ok : (own id stated : ℕ) (given ids : List ℕ) → preds_with own id stated given ≡ Ok ids → Preds own id stated given ids
+preds_with_ok own id stated given ids e =
+    let a = guard_ok (not (id == own)) Order _ ids e in
+    let b = guard_ok (not (stated == length given)) Count _ ids a.1 in
+    let c = guard_ok (stands_in given own || not (all_differ given)) Twice (Ok given) ids b.1 in
+    let same : given ≡ ids = same_ok given ids c.1 in
+    let of_own : (id == own) ≡ true = not_false (id == own) a.0 in
+    let counted : (stated == length given) ≡ true = not_false (stated == length given) b.0 in
+    let tests = or_parts (stands_in given own) (not (all_differ given)) c.0 in
+    record {
+      same = same;
+      of_own = grind (arith, nat_tests);
+      counted = rw (sym same) (grind (arith, nat_tests));
+      others = rw (sym same) tests.0;
+      distinct = rw (sym same) (not_false (all_differ given) tests.1);
+    }
+
+-- what the fields of a line show
+pub record PredsLine (n own : ℕ) (fields : List (List ℕ)) (ids : List ℕ) : Type 0 where
+  pub id : List ℕ
+  pub count : List ℕ
+  pub others : List (List ℕ)
+  pub here : fields ≡ id ∷ count ∷ others
+  pub of_own : whole_in n id ≡ Ok own
+  pub counted : whole_in n count ≡ Ok (length ids)
+  pub each : AllZip (λ field other. whole_in n field ≡ Ok other) others ids
+  pub are_preds : ArePredsOf own n ids
+
+pub preds_line : (n own : ℕ) (fields : List (List ℕ)) (ids : List ℕ) → preds_of n own fields ≡ Ok ids → PredsLine n own fields ids
+unfolding preds_of
+preds_line n own fields ids e =
+    let g = guard_ok (nat_lt (length fields) 2) Fields _ ids e in
+    let id = bind_ok (first_by (whole_in n) fields) _ ids g.1 in
+    let stated = bind_ok (first_by (whole_in n) id.0.1) _ ids id.2 in
+    let all = bind_ok (all_by (whole_in n) [] stated.0.1) _ ids stated.2 in
+    let p = preds_with_ok own id.0.0 stated.0.0 all.0 ids all.2 in
+    let f = first_ok (whole_in n) fields id.0 id.1 in
+    let k = first_ok (whole_in n) id.0.1 stated.0 stated.1 in
+    let m = all_ok (whole_in n) [] stated.0.1 all.0 all.1 in
+    let each : AllZip (λ field other. whole_in n field ≡ Ok other) stated.0.1 ids =
+        subst (λ l. AllZip (λ field other. whole_in n field ≡ Ok other) stated.0.1 l) (sym m.1 ∙ p.same) m.2 in
+    record {
+      id = f.field;
+      count = k.field;
+      others = stated.0.1;
+      here = f.here ∙ ap (λ rest. f.field ∷ rest) k.here;
+      of_own = f.says ∙ ap Ok p.of_own;
+      counted = k.says ∙ ap Ok p.counted;
+      each = each;
+      are_preds = record {
+        below = all_below n stated.0.1 ids each;
+        others = others_differ own ids p.others;
+        distinct = pairs_differ ids p.distinct;
+      };
+    }
+
+-- what the lists so far keep
+record KeepsPreds (n : ℕ) (d : PrecDraft) : Type 0 where
+  pub blocks : d.blocks ≡ n
+  pub preds : ArePreds n d.lists
+
+preds_more : (n : ℕ) (lists : List (List ℕ)) (ids : List ℕ) → ArePreds n lists → ArePredsOf (length lists) n ids → ArePreds n (lists ++ ids ∷ [])
+preds_more n lists ids kept here id within = elim (cases_lt id (length lists)) [
+  | inl low ↦ subst (λ l. ArePredsOf id n l) (sym (get_or_append_left lists (ids ∷ []) [] id low)) (kept id low)
+  | inr high ↦ (
+      let e : length lists ≡ id = omega (arith, length-append lists (ids ∷ [])) in
+      let none_before : id - length lists ≡ 0 = omega arith in
+      let first : get_or (lists ++ ids ∷ []) id [] ≡ ids =
+          get_or-append_right lists (ids ∷ []) (length lists) id [] refl high ∙ ap (λ k. get_or (ids ∷ []) k []) none_before in
+      subst (λ l. ArePredsOf id n l) (sym first) (subst (λ k. ArePredsOf k n ids) e here))
+]
+
+preds_kept : (n : ℕ) (d : PrecDraft) (line : List ℕ) (next : PrecDraft) → admit_preds d line ≡ Ok next → KeepsPreds n d → KeepsPreds n next
+preds_kept n d line next e kept =
+    let b = bind_ok (preds_of d.blocks (length d.lists) (fields_of line)) (λ ids. Ok (record d { lists = d.lists ++ ids ∷ [] })) next e in
+    let same : record d { lists = d.lists ++ b.0 ∷ [] } ≡ next = same_ok _ next b.2 in
+    let p = preds_line d.blocks (length d.lists) (fields_of line) b.0 b.1 in
+    subst (λ d'. KeepsPreds n d') same (record {
+      blocks = kept.blocks;
+      preds = preds_more n d.lists b.0 kept.preds (subst (λ k. ArePredsOf (length d.lists) k b.0) kept.blocks p.are_preds);
+    })
+
+-- each block has a list of predecessors, as those of an instance are
+pub preds_are_valid : (n : ℕ) (text : List ℕ) (lists : List (List ℕ)) → preds_in n text ≡ Ok lists → (length lists ≡ n) × ArePreds n lists
+preds_are_valid n text lists e =
+    let b = bind_ok (read_lines admit_preds (no_lists n) (lines_in text)) (finish_preds (end_of text)) lists e in
+    let kept = kept_by_lines (KeepsPreds n) admit_preds (preds_kept n) (no_lists n) (lines_in text) b.0 b.1
+        (record { blocks = refl; preds = λ id within. absurd (omega arith) }) in
+    let g = then_ok (length b.0.lists == b.0.blocks) (record { line = end_of text; kind = Missing }) (Ok b.0.lists) lists b.2 in
+    let same : b.0.lists ≡ lists = same_ok b.0.lists lists g.1 in
+    let count : length b.0.lists ≡ b.0.blocks = grind (arith, nat_tests) in
+    (ap length (sym same) ∙ count ∙ kept.blocks, subst (ArePreds n) same kept.preds)
