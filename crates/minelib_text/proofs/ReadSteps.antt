@@ -1,9 +1,9 @@
 -- What a step of reading shows where it found no fault, and what is kept from line to line.
-use Rattle.std.specs.Prelude.{◌≡◌, ℕ, ◌<◌, ◌≤◌, ◌/◌, ◌^◌, nat_lt, Bool, true, false, not, List, [], ◌∷◌, ◌++◌, ℤ, pos, negsuc, Result, Ok, Err, if◌then◌else◌}
+use Rattle.std.specs.Prelude.{◌≡◌, ℕ, ◌<◌, ◌≤◌, ◌*◌, ◌/◌, ◌%◌, ◌^◌, nat_lt, Bool, true, false, not, List, [], ◌∷◌, ◌++◌, ℤ, pos, negsuc, Result, Ok, Err, if◌then◌else◌}
 use Rattle.std.specs.List.{AllZip}
 use Rattle.std.proofs.Common.{refl, sym, ◌∙◌, ap, subst, arith, append-nil, append_assoc}
 use Rattle.std.proofs.lemmas.Bool.Decides.{nat_tests}
-use Rattle.minelib_text.specs.FieldValues.{◌>>=◌, at_most, whole_below, stated, size_in, whole_in, first_by, all_by}
+use Rattle.minelib_text.specs.FieldValues.{◌>>=◌, at_most, whole_below, stated, size_in, whole_in, decimal_in, first_by, all_by}
 use Rattle.minelib_text.specs.Reading.{at_line, read_lines, in_file}
 use Rattle.minelib_text.specs.TextLines.{Line}
 use Rattle.minelib_text.specs.declared.text_fault.LineFault.{LineFault}
@@ -11,7 +11,11 @@ use Rattle.minelib_text.specs.declared.text_fault.TextFault.{TextFault}
 use Rattle.minelib_text.specs.declared.text_fault.TextFile.{TextFile}
 use Rattle.minelib_text.specs.declared.text_fault.TextKind.{TextKind}
 use Rattle.minelib_text.specs.declared.text_fault.TextKind.TheVariants.{Range}
-use Rattle.pit_units.specs.Decimal.{decimal_of}
+use Rattle.pit_units.proofs.Multiples.{stands_multiple}
+use Rattle.pit_units.proofs.Standing.{read_stands}
+use Rattle.pit_units.specs.Decimal.{StandsFor, decimal_of}
+use Rattle.pit_units.specs.declared.fault.DecFault.{DecFault}
+use Rattle.minelib_text.specs.SpelledFields.{StatesWhole, StatesSize}
 
 -- a step behind another one
 pub bind_ok : {A B F : Type 0} (r : Result A F) (next : A → Result B F) (y : B) → (r >>= next) ≡ Ok y → (x : A) × (r ≡ Ok x) × (next x ≡ Ok y)
@@ -62,24 +66,42 @@ at_most_ok most (pos k) m e =
     (ap pos same, grind (arith, nat_tests))
 at_most_ok most (negsuc k) m e = absurd cc
 
-pub whole_below_ok : (limit : ℕ) (z : ℤ) (n : ℕ) → whole_below limit z ≡ Ok n → n < limit
+pub whole_below_ok : (limit : ℕ) (z : ℤ) (n : ℕ) → whole_below limit z ≡ Ok n → (m : ℕ) × (z ≡ pos m) × (m / 10 ^ 6 ≡ n) × (n < limit)
 whole_below_ok limit (pos k) n e =
     let g = then_ok (nat_lt (k / 10 ^ 6) limit) Range (Ok (k / 10 ^ 6)) n e in
     let same : k / 10 ^ 6 ≡ n = same_ok (k / 10 ^ 6) n g.1 in
-    grind (arith, nat_tests)
+    (k, refl, same, grind (arith, nat_tests))
 whole_below_ok limit (negsuc k) n e = absurd cc
 
-pub size_in_ok : (decimals most : ℕ) (field : List ℕ) (m : ℕ) → size_in decimals most field ≡ Ok m → m ≤ most
-unfolding size_in
-size_in_ok decimals most field m e =
-    let b = bind_ok (stated (decimal_of decimals field)) (at_most most) m e in
-    (at_most_ok most b.0 m b.2).1
+stated_ok : (r : Result ℤ DecFault) (z : ℤ) → stated r ≡ Ok z → r ≡ Ok z
+stated_ok (Ok y) z e = cc
+stated_ok (Err fault) z e = absurd cc
 
-pub whole_in_ok : (limit : ℕ) (field : List ℕ) (n : ℕ) → whole_in limit field ≡ Ok n → n < limit
+pub decimal_in_ok : (field : List ℕ) (z : ℤ) → decimal_in field ≡ Ok z → StandsFor 6 field z
+unfolding decimal_in
+decimal_in_ok field z e = read_stands 6 field z (omega arith) (stated_ok (decimal_of 6 field) z e)
+
+pub size_in_ok : (decimals most : ℕ) (field : List ℕ) (m : ℕ) → decimals ≤ 6 → size_in decimals most field ≡ Ok m → StatesSize decimals most field m
+unfolding size_in
+size_in_ok decimals most field m few e =
+    let b = bind_ok (stated (decimal_of decimals field)) (at_most most) m e in
+    let p = at_most_ok most b.0 m b.2 in
+    record {
+      stands = subst (StandsFor decimals field) p.0 (read_stands decimals field b.0 few (stated_ok (decimal_of decimals field) b.0 b.1));
+      at_most = p.1;
+    }
+
+pub whole_in_ok : (limit : ℕ) (field : List ℕ) (n : ℕ) → whole_in limit field ≡ Ok n → StatesWhole limit field n
 unfolding whole_in
 whole_in_ok limit field n e =
     let b = bind_ok (stated (decimal_of 0 field)) (whole_below limit) n e in
-    whole_below_ok limit b.0 n b.2
+    let p = whole_below_ok limit b.0 n b.2 in
+    let stands : StandsFor 0 field (pos p.0) =
+        subst (StandsFor 0 field) p.1 (read_stands 0 field b.0 (omega arith) (stated_ok (decimal_of 0 field) b.0 b.1)) in
+    let multiple : p.0 % 10 ^ 6 ≡ 0 = stands_multiple 0 field (pos p.0) (omega arith) stands in
+    let quotient : p.0 / 10 ^ 6 ≡ n = p.2 in
+    let whole : p.0 ≡ n * 10 ^ 6 = omega arith in
+    record { stands = subst (λ m. StandsFor 0 field (pos m)) whole stands; below = p.3 }
 
 -- the first field, and those behind it
 pub record First {A : Type 0} (rule : List ℕ → Result A TextKind) (fields : List (List ℕ)) (x : A) (rest : List (List ℕ)) : Type 0 where

@@ -22,7 +22,7 @@ block_below before fields b e =
     let zone = bind_ok (first_by (whole_in 64) grade.0.1) _ b grade.2 in
     let last = guard_ok (not (id.0.0 == before)) Order _ b zone.2 in
     let f = first_ok (whole_in 64000000) fields id.0 id.1 in
-    let low : id.0.0 < 64000000 = whole_in_ok 64000000 f.field id.0.0 f.says in
+    let low : id.0.0 < 64000000 = (whole_in_ok 64000000 f.field id.0.0 f.says).below in
     let same : (id.0.0 == before) ≡ true = not_false (id.0.0 == before) last.0 in
     grind (arith, nat_tests)
 

@@ -14,6 +14,8 @@ use Rattle.minelib_text.specs.Reading.{read_lines}
 use Rattle.minelib_text.specs.TextLines.{fields_of, lines_in, end_of}
 use Rattle.minelib_text.specs.declared.text_fault.TextKind.{TextKind}
 use Rattle.minelib_text.specs.declared.text_fault.TextKind.TheVariants.{Fields, Order, Count, Twice, Missing}
+use Rattle.minelib_text.specs.SpelledFields.{StatesWhole}
+use Rattle.minelib_text.specs.SpelledPrec.{IsPredsLine}
 use Rattle.minelib_text.proofs.ReadSteps.{bind_ok, guard_ok, then_ok, not_false, not_true, same_ok, kept_by_lines, First, first_ok, all_ok, whole_in_ok}
 
 -- a number that does not stand in a list differs from each one there
@@ -31,12 +33,15 @@ pairs_differ (id ∷ ids) e =
     AllPairs-cons (λ id other. id ≢ other) id ids (λ k d within same. others_differ id ids (not_true (stands_in ids id) parts.0) k d within (sym same))
     (pairs_differ ids parts.1)
 
--- each number that is read from fields is below the limit
-all_below : (n : ℕ) (fields : List (List ℕ)) (ids : List ℕ) → AllZip (λ field id. whole_in n field ≡ Ok id) fields ids → All (λ id. id < n) ids
-all_below n [] [] zip = All-nil (λ id. id < n)
-all_below n [] (id ∷ ids) zip = absurd zip
-all_below n (field ∷ fields) [] zip = absurd zip
-all_below n (field ∷ fields) (id ∷ ids) zip = All-cons (λ id. id < n) id ids (whole_in_ok n field id zip.0) (all_below n fields ids zip.1)
+all_stated : (n : ℕ) (fields : List (List ℕ)) (ids : List ℕ) → AllZip (λ field id. whole_in n field ≡ Ok id) fields ids
+    → AllZip (StatesWhole n) fields ids × All (λ id. id < n) ids
+all_stated n [] [] zip = (tt, All-nil (λ id. id < n))
+all_stated n [] (id ∷ ids) zip = absurd zip
+all_stated n (field ∷ fields) [] zip = absurd zip
+all_stated n (field ∷ fields) (id ∷ ids) zip =
+    let here = whole_in_ok n field id zip.0 in
+    let rest = all_stated n fields ids zip.1 in
+    ((here, rest.0), All-cons (λ id. id < n) id ids here.below rest.1)
 
 -- what the predecessors of a line show of their number and their block
 pub record Preds (own id stated : ℕ) (given ids : List ℕ) : Type 0 where
@@ -63,18 +68,8 @@ preds_with_ok own id stated given ids e =
       distinct = rw (sym same) (not_false (all_differ given) tests.1);
     }
 
--- what the fields of a line show
-pub record PredsLine (n own : ℕ) (fields : List (List ℕ)) (ids : List ℕ) : Type 0 where
-  pub id : List ℕ
-  pub count : List ℕ
-  pub others : List (List ℕ)
-  pub here : fields ≡ id ∷ count ∷ others
-  pub of_own : whole_in n id ≡ Ok own
-  pub counted : whole_in n count ≡ Ok (length ids)
-  pub each : AllZip (λ field other. whole_in n field ≡ Ok other) others ids
-  pub are_preds : ArePredsOf own n ids
-
-pub preds_line : (n own : ℕ) (fields : List (List ℕ)) (ids : List ℕ) → preds_of n own fields ≡ Ok ids → PredsLine n own fields ids
+-- how the fields of a line spell the predecessors
+pub preds_line : (n own : ℕ) (fields : List (List ℕ)) (ids : List ℕ) → preds_of n own fields ≡ Ok ids → IsPredsLine n own fields ids
 unfolding preds_of
 preds_line n own fields ids e =
     let g = guard_ok (nat_lt (length fields) 2) Fields _ ids e in
@@ -87,16 +82,17 @@ preds_line n own fields ids e =
     let m = all_ok (whole_in n) [] stated.0.1 all.0 all.1 in
     let each : AllZip (λ field other. whole_in n field ≡ Ok other) stated.0.1 ids =
         subst (λ l. AllZip (λ field other. whole_in n field ≡ Ok other) stated.0.1 l) (sym m.1 ∙ p.same) m.2 in
+    let states = all_stated n stated.0.1 ids each in
     record {
       id = f.field;
       count = k.field;
       others = stated.0.1;
       here = f.here ∙ ap (λ rest. f.field ∷ rest) k.here;
-      of_own = f.says ∙ ap Ok p.of_own;
-      counted = k.says ∙ ap Ok p.counted;
-      each = each;
+      states_id = whole_in_ok n f.field own (f.says ∙ ap Ok p.of_own);
+      states_count = whole_in_ok n k.field (length ids) (k.says ∙ ap Ok p.counted);
+      states_each = states.0;
       are_preds = record {
-        below = all_below n stated.0.1 ids each;
+        below = states.1;
         others = others_differ own ids p.others;
         distinct = pairs_differ ids p.distinct;
       };

@@ -7,6 +7,10 @@ pub mod Lines
 pub mod ModelLines
 pub mod PrecLines
 pub mod Reading
+pub mod SpelledBlocks
+pub mod SpelledFields
+pub mod SpelledItems
+pub mod SpelledPrec
 pub mod TextLines
 pub mod Tray
 pub mod Written
