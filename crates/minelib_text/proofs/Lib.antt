@@ -1,4 +1,5 @@
 pub mod Fronts
+pub mod ItemSteps
 pub mod LineFacts
 pub mod ReadSteps
 pub mod ValidBlocks

@@ -1,7 +1,8 @@
 -- What a step of reading shows where it found no fault, and what is kept from line to line.
-use Rattle.std.specs.Prelude.{◌≡◌, ℕ, ◌<◌, ◌≤◌, ◌*◌, ◌/◌, ◌%◌, ◌^◌, nat_lt, Bool, true, false, not, List, [], ◌∷◌, ◌++◌, ℤ, pos, negsuc, Result, Ok, Err, if◌then◌else◌}
+use Rattle.std.specs.Prelude.{◌≡◌, ℕ, ◌<◌, ◌≤◌, ◌*◌, ◌/◌, ◌%◌, ◌^◌, ◌==◌, nat_lt, Bool, true, false, not, List, [], ◌∷◌, ◌++◌, length, ℤ, pos, negsuc, Result, Ok, Err, if◌then◌else◌}
 use Rattle.std.specs.List.{AllZip}
-use Rattle.std.proofs.Common.{refl, sym, ◌∙◌, ap, subst, arith, append-nil, append_assoc}
+use Rattle.std.proofs.Common.{refl, sym, ◌∙◌, ap, subst, arith, append-nil, append_assoc, length-append}
+use Rattle.std.proofs.lemmas.Bool.{eqb-true}
 use Rattle.std.proofs.lemmas.Bool.Decides.{nat_tests}
 use Rattle.minelib_text.specs.FieldValues.{◌>>=◌, at_most, whole_below, stated, size_in, whole_in, decimal_in, first_by, all_by}
 use Rattle.minelib_text.specs.Reading.{at_line, read_lines, in_file}
@@ -17,15 +18,23 @@ use Rattle.pit_units.specs.Decimal.{StandsFor, decimal_of}
 use Rattle.pit_units.specs.declared.fault.DecFault.{DecFault}
 use Rattle.minelib_text.specs.SpelledFields.{StatesWhole, StatesSize}
 
--- a step behind another one
+-- a step behind another one; the part is told what both found, since a `let` would write them out at each place
 pub bind_ok : {A B F : Type 0} (r : Result A F) (next : A → Result B F) (y : B) → (r >>= next) ≡ Ok y → (x : A) × (r ≡ Ok x) × (next x ≡ Ok y)
 bind_ok (Ok x) next y e = (x, refl, e)
 bind_ok (Err fault) next y e = absurd cc
+
+pub bind_then : {A B F P : Type 0} (r : Result A F) (next : A → Result B F) (y : B) → (r >>= next) ≡ Ok y
+    → ((x : A) → r ≡ Ok x → next x ≡ Ok y → P) → P
+bind_then r next y e part = let b = bind_ok r next y e in part b.0 b.1 b.2
 
 -- a step behind a test that may fail
 pub guard_ok : {A F : Type 0} (t : Bool) (fault : F) (r : Result A F) (y : A) → (if t then Err fault else r) ≡ Ok y → (t ≡ false) × (r ≡ Ok y)
 guard_ok true fault r y e = absurd cc
 guard_ok false fault r y e = (refl, e)
+
+pub guard_then : {A F P : Type 0} (t : Bool) (fault : F) (r : Result A F) (y : A) → (if t then Err fault else r) ≡ Ok y
+    → (t ≡ false → r ≡ Ok y → P) → P
+guard_then t fault r y e part = let g = guard_ok t fault r y e in part g.0 g.1
 
 pub then_ok : {A F : Type 0} (t : Bool) (fault : F) (r : Result A F) (y : A) → (if t then r else Err fault) ≡ Ok y → (t ≡ true) × (r ≡ Ok y)
 then_ok true fault r y e = (refl, e)
@@ -103,19 +112,31 @@ whole_in_ok limit field n e =
     let whole : p.0 ≡ n * 10 ^ 6 = omega arith in
     record { stands = subst (λ m. StandsFor 0 field (pos m)) whole stands; below = p.3 }
 
--- the first field, and those behind it
-pub record First {A : Type 0} (rule : List ℕ → Result A TextKind) (fields : List (List ℕ)) (x : A) (rest : List (List ℕ)) : Type 0 where
-  pub field : List ℕ
-  pub here : fields ≡ field ∷ rest
-  pub says : rule field ≡ Ok x
+-- nothing stands behind as many fields as there are
+pub none_behind : (n : ℕ) (front rest fields : List (List ℕ)) → length fields ≡ n → fields ≡ front ++ rest → length front ≡ n → fields ≡ front
+none_behind n front [] fields all here count = here ∙ append-nil front
+none_behind n front (field ∷ rest) fields all here count = absurd (omega (arith, ap length here, length-append front (field ∷ rest)))
 
-pub first_ok : {A : Type 0} (rule : List ℕ → Result A TextKind) (fields : List (List ℕ)) (x : A × List (List ℕ))
-    → first_by rule fields ≡ Ok x → First rule fields x.0 x.1
+-- the number of fields, where a test found no other
+pub counted : (n : ℕ) (fields : List (List ℕ)) → not (length fields == n) ≡ false → length fields ≡ n
+counted n fields test = eqb-true (length fields) n (not_false (length fields == n) test)
+
+first_ok : {A : Type 0} (rule : List ℕ → Result A TextKind) (fields : List (List ℕ)) (x : A × List (List ℕ)) → first_by rule fields ≡ Ok x
+    → (field : List ℕ) × (fields ≡ field ∷ x.1) × (rule field ≡ Ok x.0)
 first_ok rule [] x e = absurd cc
 first_ok rule (field ∷ fields) x e =
     let b = bind_ok (rule field) _ x e in
     let same : (b.0, fields) ≡ x = same_ok (b.0, fields) x b.2 in
-    record { field = field; here = ap (λ p. field ∷ p.1) same; says = b.1 ∙ ap (λ p. Ok p.0) same }
+    (field, ap (λ p. field ∷ p.1) same, b.1 ∙ ap (λ p. Ok p.0) same)
+
+-- a step behind the first field
+pub first_then : {A B P : Type 0} (rule : List ℕ → Result A TextKind) (fields : List (List ℕ)) (next : A × List (List ℕ) → Result B TextKind) (y : B)
+    → (first_by rule fields >>= next) ≡ Ok y
+    → ((field : List ℕ) (rest : List (List ℕ)) (x : A) → fields ≡ field ∷ rest → rule field ≡ Ok x → next (x, rest) ≡ Ok y → P) → P
+first_then rule fields next y e part =
+    let b = bind_ok (first_by rule fields) next y e in
+    let f = first_ok rule fields b.0 b.1 in
+    part f.0 b.0.1 b.0.0 f.1 f.2 b.2
 
 -- all fields, behind what was read before
 pub all_ok : {A : Type 0} (rule : List ℕ → Result A TextKind) (done : List A) (fields : List (List ℕ)) (xs : List A)
@@ -125,3 +146,10 @@ all_ok rule done (field ∷ fields) xs e =
     let b = bind_ok (rule field) (λ x. all_by rule (done ++ x ∷ []) fields) xs e in
     let m = all_ok rule (done ++ b.0 ∷ []) fields xs b.2 in
     (b.0 ∷ m.0, m.1 ∙ append_assoc done (b.0 ∷ []) m.0, (b.1, m.2))
+
+-- as many items as fields
+pub as_many : {A B : Type 0} (R : A → B → Type 0) (xs : List A) (ys : List B) → AllZip R xs ys → length xs ≡ length ys
+as_many R [] [] zip = refl
+as_many R [] (y ∷ ys) zip = absurd zip
+as_many R (x ∷ xs) [] zip = absurd zip
+as_many R (x ∷ xs) (y ∷ ys) zip = omega (arith, as_many R xs ys zip.1)

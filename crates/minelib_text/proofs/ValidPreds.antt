@@ -16,7 +16,7 @@ use Rattle.minelib_text.specs.declared.text_fault.TextKind.{TextKind}
 use Rattle.minelib_text.specs.declared.text_fault.TextKind.TheVariants.{Fields, Order, Count, Twice, Missing}
 use Rattle.minelib_text.specs.SpelledFields.{StatesWhole}
 use Rattle.minelib_text.specs.SpelledPrec.{IsPredsLine}
-use Rattle.minelib_text.proofs.ReadSteps.{bind_ok, guard_ok, then_ok, not_false, not_true, same_ok, kept_by_lines, First, first_ok, all_ok, whole_in_ok}
+use Rattle.minelib_text.proofs.ReadSteps.{bind_ok, bind_then, guard_ok, guard_then, first_then, then_ok, not_false, not_true, same_ok, kept_by_lines, all_ok, whole_in_ok}
 
 -- a number that does not stand in a list differs from each one there
 others_differ : (own : ℕ) (ids : List ℕ) → stands_in ids own ≡ false → All (λ id. id ≢ own) ids
@@ -72,31 +72,28 @@ preds_with_ok own id stated given ids e =
 pub preds_line : (n own : ℕ) (fields : List (List ℕ)) (ids : List ℕ) → preds_of n own fields ≡ Ok ids → IsPredsLine n own fields ids
 unfolding preds_of
 preds_line n own fields ids e =
-    let g = guard_ok (nat_lt (length fields) 2) Fields _ ids e in
-    let id = bind_ok (first_by (whole_in n) fields) _ ids g.1 in
-    let stated = bind_ok (first_by (whole_in n) id.0.1) _ ids id.2 in
-    let all = bind_ok (all_by (whole_in n) [] stated.0.1) _ ids stated.2 in
-    let p = preds_with_ok own id.0.0 stated.0.0 all.0 ids all.2 in
-    let f = first_ok (whole_in n) fields id.0 id.1 in
-    let k = first_ok (whole_in n) id.0.1 stated.0 stated.1 in
-    let m = all_ok (whole_in n) [] stated.0.1 all.0 all.1 in
-    let each : AllZip (λ field other. whole_in n field ≡ Ok other) stated.0.1 ids =
-        subst (λ l. AllZip (λ field other. whole_in n field ≡ Ok other) stated.0.1 l) (sym m.1 ∙ p.same) m.2 in
-    let states = all_stated n stated.0.1 ids each in
+    guard_then (nat_lt (length fields) 2) Fields _ ids e (λ _ e1.
+    first_then (whole_in n) fields _ ids e1 (λ id f1 k h1 s1 e2.
+    first_then (whole_in n) f1 _ ids e2 (λ count f2 number h2 s2 e3.
+    bind_then (all_by (whole_in n) [] f2) _ ids e3 (λ given of_fields e4.
+    let p = preds_with_ok own k number given ids e4 in
+    let m = all_ok (whole_in n) [] f2 given of_fields in
+    let same : m.0 ≡ ids = sym m.1 ∙ p.same in
+    let states = all_stated n f2 ids (subst (AllZip (λ field other. whole_in n field ≡ Ok other) f2) same m.2) in
     record {
-      id = f.field;
-      count = k.field;
-      others = stated.0.1;
-      here = f.here ∙ ap (λ rest. f.field ∷ rest) k.here;
-      states_id = whole_in_ok n f.field own (f.says ∙ ap Ok p.of_own);
-      states_count = whole_in_ok n k.field (length ids) (k.says ∙ ap Ok p.counted);
+      id = id;
+      count = count;
+      others = f2;
+      here = cc;
+      states_id = subst (StatesWhole n id) p.of_own (whole_in_ok n id k s1);
+      states_count = subst (StatesWhole n count) p.counted (whole_in_ok n count number s2);
       states_each = states.0;
       are_preds = record {
         below = states.1;
         others = others_differ own ids p.others;
         distinct = pairs_differ ids p.distinct;
       };
-    }
+    }))))
 
 -- what the lists so far keep
 record KeepsPreds (n : ℕ) (d : PrecDraft) : Type 0 where
