@@ -10,6 +10,7 @@ pub mod Reading
 pub mod SpelledBlocks
 pub mod SpelledFields
 pub mod SpelledItems
+pub mod SpelledKeys
 pub mod SpelledPrec
 pub mod TextLines
 pub mod Tray
