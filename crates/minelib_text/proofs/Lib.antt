@@ -4,5 +4,7 @@ pub mod KeySteps
 pub mod LineFacts
 pub mod ModelSteps
 pub mod ReadSteps
+pub mod Rising
 pub mod ValidBlocks
+pub mod ValidModel
 pub mod ValidPreds
