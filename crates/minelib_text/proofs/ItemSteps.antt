@@ -1,5 +1,5 @@
 -- How the lines that are read spell values, coefficients and limits.
-use Rattle.std.specs.Prelude.{◌≡◌, ℕ, ◌+◌, ◌==◌, ◌||◌, Bool, true, false, not, List, [], ◌∷◌, ◌++◌, length, slice_index_or, ℤ, Result, Ok, Err, if◌then◌else◌, codes, int_le, ◌≤ℤ◌}
+use Rattle.std.specs.Prelude.{◌≡◌, ℕ, ◌+◌, ◌==◌, Bool, true, false, not, List, [], ◌∷◌, length, ℤ, Result, Ok, Err, if◌then◌else◌, codes, int_le, ◌≤ℤ◌}
 use Rattle.std.specs.List.{AllZip}
 use Rattle.std.specs.Str.{bytes_eq}
 use Rattle.std.proofs.Common.{refl, sym, ◌∙◌, ap, subst, arith, rules}
@@ -103,7 +103,7 @@ interval_states fields bound e two =
       most,
       ap (λ l. codes "I" ∷ l) (none_behind 2 (least ∷ most ∷ []) f2 fields two here refl),
       decimal_in_ok least v s1,
-      decimal_in_ok most w s2
+      decimal_in_ok most w s2,
     )))
 
 -- a letter, as the two tests behind it see it

@@ -6,5 +6,7 @@ pub mod ModelSteps
 pub mod ReadSteps
 pub mod Rising
 pub mod ValidBlocks
+pub mod ValidHeader
 pub mod ValidModel
 pub mod ValidPreds
+pub mod ValidRead

@@ -1,15 +1,14 @@
 -- What an admitted line of a model file is, and what it makes of what stood before.
-use Rattle.std.specs.Prelude.{◌≡◌, ℕ, ◌==◌, ◌||◌, Bool, true, false, not, List, [], ◌∷◌, ◌++◌, length, ℤ, Option, Some, None, Result, Ok, Err, if◌then◌else◌}
+use Rattle.std.specs.Prelude.{◌≡◌, ℕ, ◌==◌, ◌||◌, Bool, true, false, not, List, [], ◌∷◌, ◌++◌, length, ℤ, Option, Some, None, Ok, if◌then◌else◌}
 use Rattle.std.specs.List.{list_any, before_first, after_first}
-use Rattle.std.proofs.Common.{refl, sym, ◌∙◌, ap, subst, arith}
+use Rattle.std.proofs.Common.{refl, ap, arith}
 use Rattle.std.proofs.lemmas.Bool.{or_parts}
 use Rattle.pit_model.specs.Plan.{stands_before}
 use Rattle.pit_model.specs.Planned.{is_turned}
 use Rattle.pit_model.specs.declared.limit.Limit.{Limit}
 use Rattle.mine_instance.specs.Order.{comes_before}
 use Rattle.mine_instance.specs.declared.coef.Coef.{Coef}
-use Rattle.minelib_text.specs.FieldValues.{◌>>=◌}
-use Rattle.minelib_text.specs.ModelLines.{ModelDraft, is_heading, is_next, is_given, is_ready, header_with, name_with, only_value, admit_header, admit_section, admit_key, key_of, count_in, values_of, coef_of, limit_of, last_of, is_behind, admit_values, admit_coef, admit_limit, admit_item, is_colon, admit_model}
+use Rattle.minelib_text.specs.ModelLines.{ModelDraft, is_heading, is_next, is_given, is_ready, header_with, name_with, only_value, admit_key, key_of, count_in, values_of, coef_of, limit_of, last_of, is_behind, admit_item, is_colon, admit_model}
 use Rattle.minelib_text.specs.SpelledItems.{IsValuesLine, IsCoefLine, IsLimitLine}
 use Rattle.minelib_text.specs.SpelledKeys.{IsKeyLine}
 use Rattle.minelib_text.specs.TextLines.{fields_of}
@@ -19,11 +18,10 @@ use Rattle.minelib_text.specs.declared.model_key.ModelKey.{ModelKey}
 use Rattle.minelib_text.specs.declared.model_key.ModelKey.TheVariants as model_key
 use Rattle.minelib_text.specs.declared.model_key.Section.{Section}
 use Rattle.minelib_text.specs.declared.model_key.Section.TheVariants.{Heading, Objective, Coefs, Limits}
-use Rattle.minelib_text.specs.declared.text_fault.TextKind.{TextKind}
 use Rattle.minelib_text.specs.declared.text_fault.TextKind.TheVariants.{Fields, Order, Twice, Key, Missing}
 use Rattle.minelib_text.proofs.ItemSteps.{values_line, coef_line, limit_line}
 use Rattle.minelib_text.proofs.KeySteps.{Sets, key_sets}
-use Rattle.minelib_text.proofs.ReadSteps.{bind_then, guard_then, then_ok, not_false, not_true, same_ok, counted}
+use Rattle.minelib_text.proofs.ReadSteps.{bind_then, guard_then, then_ok, not_false, same_ok, counted}
 
 -- a line of a header key
 pub record SetsKey (d : ModelDraft) (line : List ℕ) (next : ModelDraft) : Type 0 where
@@ -162,7 +160,7 @@ model_step d line next e = by (list_any is_colon line) refl e
   where
     by : (t : Bool) → list_any is_colon line ≡ t
         → (if t then admit_key d (key_of d.problem (fields_of (before_first is_colon line))) (fields_of (after_first is_colon line))
-          else admit_item d d.section (fields_of line)) ≡ Ok next
+        else admit_item d d.section (fields_of line)) ≡ Ok next
         → Step d line next
     by true colon h = key_step d line next (key_of d.problem (fields_of (before_first is_colon line))) colon refl h
     by false keyless h = item_step d line next d.section keyless refl h

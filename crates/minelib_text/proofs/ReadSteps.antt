@@ -8,7 +8,6 @@ use Rattle.minelib_text.specs.FieldValues.{◌>>=◌, at_most, whole_below, stat
 use Rattle.minelib_text.specs.Reading.{at_line, read_lines, in_file}
 use Rattle.minelib_text.specs.TextLines.{Line}
 use Rattle.minelib_text.specs.declared.text_fault.LineFault.{LineFault}
-use Rattle.minelib_text.specs.declared.text_fault.TextFault.{TextFault}
 use Rattle.minelib_text.specs.declared.text_fault.TextFile.{TextFile}
 use Rattle.minelib_text.specs.declared.text_fault.TextKind.{TextKind}
 use Rattle.minelib_text.specs.declared.text_fault.TextKind.TheVariants.{Range}
@@ -106,7 +105,7 @@ whole_in_ok limit field n e =
     let b = bind_ok (stated (decimal_of 0 field)) (whole_below limit) n e in
     let p = whole_below_ok limit b.0 n b.2 in
     let stands : StandsFor 0 field (pos p.0) =
-        subst (StandsFor 0 field) p.1 (read_stands 0 field b.0 (omega arith) (stated_ok (decimal_of 0 field) b.0 b.1)) in
+    subst (StandsFor 0 field) p.1 (read_stands 0 field b.0 (omega arith) (stated_ok (decimal_of 0 field) b.0 b.1)) in
     let multiple : p.0 % 10 ^ 6 ≡ 0 = stands_multiple 0 field (pos p.0) (omega arith) stands in
     let quotient : p.0 / 10 ^ 6 ≡ n = p.2 in
     let whole : p.0 ≡ n * 10 ^ 6 = omega arith in

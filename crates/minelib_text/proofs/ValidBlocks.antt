@@ -1,12 +1,11 @@
 -- How the lines that are read spell the blocks, and how many blocks there are at most.
-use Rattle.std.specs.Prelude.{◌≡◌, ℕ, ◌<◌, ◌≤◌, ◌*◌, ◌/◌, ◌%◌, ◌^◌, ◌==◌, Bool, true, false, not, List, [], ◌∷◌, ◌++◌, length, pos, Result, Ok, Err, if◌then◌else◌}
-use Rattle.std.proofs.Common.{refl, sym, ◌∙◌, ap, subst, arith, length-append}
+use Rattle.std.specs.Prelude.{◌≡◌, ℕ, ◌≤◌, ◌*◌, ◌/◌, ◌%◌, ◌^◌, ◌==◌, Bool, true, false, not, List, [], ◌∷◌, ◌++◌, length, pos, Ok}
+use Rattle.std.proofs.Common.{refl, ap, subst, arith, length-append}
 use Rattle.std.proofs.lemmas.Bool.{eqb-true}
 use Rattle.pit_units.proofs.Multiples.{stands_multiple}
-use Rattle.pit_units.specs.Decimal.{StandsFor}
 use Rattle.pit_model.specs.declared.block.Block.{Block}
 use Rattle.minelib_text.specs.BlockLines.{are_in_range, block_if, block_of, block_with, in_range, admit_block, blocks_in}
-use Rattle.minelib_text.specs.FieldValues.{◌>>=◌, size_in, whole_in, first_by}
+use Rattle.minelib_text.specs.FieldValues.{size_in, whole_in}
 use Rattle.minelib_text.specs.SpelledBlocks.{IsBlockLine}
 use Rattle.minelib_text.specs.SpelledFields.{StatesWhole, StatesSize}
 use Rattle.minelib_text.specs.TextLines.{fields_of, lines_in}

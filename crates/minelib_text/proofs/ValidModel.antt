@@ -1,44 +1,25 @@
 -- What the lines of a model file keep, so that what is read is as an instance and a CPIT have it.
-use Rattle.std.specs.Prelude.{◌≡◌, ℕ, ◌<◌, ◌≤◌, ◌^◌, ◌==◌, ◌&&◌, ◌⊎◌, Bool, true, false, not, List, [], ◌∷◌, ◌++◌, length, pos, Option, Some, None, is_some, Result, Ok, Err, All, AllPairs, IfSome}
-use Rattle.std.proofs.Common.{refl, sym, ◌∙◌, ap, subst, arith, inl, inr}
+use Rattle.std.specs.Prelude.{◌≡◌, ℕ, ◌<◌, true, false, List, [], length, Option, Ok, All}
+use Rattle.std.proofs.Common.{refl, sym, ap, subst, arith, inl}
 use Rattle.std.proofs.lemmas.List.Elements.{All-nil, All-push}
-use Rattle.pit_model.specs.Name.{is_name}
 use Rattle.pit_model.specs.Plan.{stands_before}
-use Rattle.pit_model.specs.declared.limit.Limit.{Limit}
 use Rattle.mine_instance.specs.Order.{comes_before}
 use Rattle.mine_instance.specs.OrderLaws.{comes_before_through, stands_before_through}
 use Rattle.mine_instance.specs.Valid.{AreCoefs, AreLimits, IsUpward}
 use Rattle.mine_instance.specs.declared.coef.Coef.{Coef}
-use Rattle.minelib_text.specs.ModelLines.{ModelDraft, blank_header, blank_model, is_heading, is_next, is_given, name_with, count_in, admit_model}
-use Rattle.minelib_text.specs.SpelledItems.{IsValuesLine, IsCoefLine, IsLimitLine}
-use Rattle.minelib_text.specs.declared.model_key.Header.{Header}
-use Rattle.minelib_text.specs.declared.model_key.HeaderKey.{HeaderKey}
-use Rattle.minelib_text.specs.declared.model_key.HeaderKey.TheVariants as key
+use Rattle.minelib_text.specs.ModelLines.{ModelDraft, blank_header, blank_model, is_heading, is_next, count_in, admit_model}
+use Rattle.minelib_text.specs.SpelledItems.{IsCoefLine}
 use Rattle.minelib_text.specs.declared.model_key.Problem.{Problem}
 use Rattle.minelib_text.specs.declared.model_key.Problem.TheVariants.{Pcpsp, Cpit}
 use Rattle.minelib_text.specs.declared.model_key.Section.{Section}
 use Rattle.minelib_text.specs.declared.model_key.Section.TheVariants.{Heading, Objective, Coefs, Limits}
+use Rattle.minelib_text.specs.Reading.{read_lines}
+use Rattle.minelib_text.specs.TextLines.{Line, fields_of}
 use Rattle.minelib_text.proofs.KeySteps.{Sets}
-use Rattle.minelib_text.proofs.ModelSteps.{SetsKey, BeginsSection, AddsValues, AddsCoef, AddsLimit, Step, model_step}
-use Rattle.minelib_text.proofs.ReadSteps.{same_ok}
+use Rattle.minelib_text.proofs.ValidHeader.{IsSingle, KeepsHeader, KeepsName, blank_kept, name_kept, header_kept}
+use Rattle.minelib_text.proofs.ModelSteps.{SetsKey, BeginsSection, AddsValues, AddsCoef, AddsLimit, Step, model_step, Keyed, Begun, Valued, Spent, Limited}
+use Rattle.minelib_text.proofs.ReadSteps.{kept_by_lines}
 use Rattle.minelib_text.proofs.Rising.{rises_behind}
-
--- a CPIT has one destination
-abbrev pub IsSingle : Problem → Option ℕ → Type 0
-IsSingle Pcpsp destinations = Unit {0}
-IsSingle Cpit destinations = destinations ≡ Some 1
-
--- the numbers of a header are in range where they are given
-pub record KeepsHeader (problem : Problem) (h : Header) : Type 0 where
-  pub periods : IfSome h.periods (λ n. (1 ≤ n) × (n ≤ 100))
-  pub destinations : IfSome h.destinations (λ n. (1 ≤ n) × (n ≤ 8))
-  pub single : IsSingle problem h.destinations
-  pub resources : IfSome h.resources (λ n. n ≤ 8)
-  pub rate : IfSome h.rate (λ n. n ≤ 10 ^ 6)
-
--- a NAME, where it is given
-abbrev pub KeepsName : List ℕ → Type 0
-KeepsName name = ((length name == 0) ≡ true) ⊎ (is_name name ≡ true)
 
 -- what is read of n blocks
 pub record KeepsModel (problem : Problem) (n : ℕ) (d : ModelDraft) : Type 0 where
@@ -63,10 +44,6 @@ no_limits resources periods = record {
   rising = λ i j d less high. absurd (omega arith);
 }
 
-blank_kept : (problem : Problem) → KeepsHeader problem (blank_header problem)
-blank_kept Pcpsp = record { periods = tt; destinations = tt; single = tt; resources = tt; rate = tt }
-blank_kept Cpit = record { periods = tt; destinations = (omega arith, omega arith); single = refl; resources = tt; rate = tt }
-
 kept_at_first : (problem : Problem) (n : ℕ) → KeepsModel problem n (blank_model problem n)
 kept_at_first problem n = record {
   of_problem = refl;
@@ -78,54 +55,6 @@ kept_at_first problem n = record {
   coefs = no_coefs n (count_in (blank_header problem).destinations) (count_in (blank_header problem).resources);
   limits = no_limits (count_in (blank_header problem).resources) (count_in (blank_header problem).periods);
 }
-
-name_kept : (problem : Problem) (n : ℕ) (k : HeaderKey) (value name : List ℕ) (h next : Header) → Sets problem n k value h next → KeepsName name
-    → KeepsName (name_with k value name)
-name_kept problem n key.Name value name h next sets kept = inr sets.1
-name_kept problem n key.Type value name h next sets kept = kept
-name_kept problem n key.Blocks value name h next sets kept = kept
-name_kept problem n key.Periods value name h next sets kept = kept
-name_kept problem n key.Destinations value name h next sets kept = kept
-name_kept problem n key.Resources value name h next sets kept = kept
-name_kept problem n key.General value name h next sets kept = kept
-name_kept problem n key.Rate value name h next sets kept = kept
-
--- a CPIT's destinations are given before the first line
-never_again : (problem : Problem) (given : Option ℕ) (n : ℕ) → is_some given ≡ false → IsSingle problem given → IsSingle problem (Some n)
-never_again Pcpsp given n new single = tt
-never_again Cpit given n new single = absurd (let given_one : is_some given ≡ true = ap is_some single in cc)
-
-header_kept : (problem : Problem) (n : ℕ) (k : HeaderKey) (value name : List ℕ) (h next : Header) → Sets problem n k value h next
-    → is_given k name h ≡ false → KeepsHeader problem h → KeepsHeader problem next
-header_kept problem n key.Name value name h next sets new kept = subst (KeepsHeader problem) sets.0 kept
-header_kept problem n key.Type value name h next sets new kept = subst (KeepsHeader problem) sets.0
-    (record { periods = kept.periods; destinations = kept.destinations; single = kept.single; resources = kept.resources; rate = kept.rate })
-header_kept problem n key.Blocks value name h next sets new kept = subst (KeepsHeader problem) sets.0
-    (record { periods = kept.periods; destinations = kept.destinations; single = kept.single; resources = kept.resources; rate = kept.rate })
-header_kept problem n key.General value name h next sets new kept = subst (KeepsHeader problem) sets.0
-    (record { periods = kept.periods; destinations = kept.destinations; single = kept.single; resources = kept.resources; rate = kept.rate })
-header_kept problem n key.Periods value name h next sets new kept =
-    let below = sets.2.below in
-    let few : sets.0 ≤ 100 = omega arith in
-    subst (KeepsHeader problem) sets.1
-    (record { periods = (sets.3, few); destinations = kept.destinations; single = kept.single; resources = kept.resources; rate = kept.rate })
-header_kept problem n key.Destinations value name h next sets new kept =
-    let below = sets.2.below in
-    let few : sets.0 ≤ 8 = omega arith in
-    subst (KeepsHeader problem) sets.1 (record {
-      periods = kept.periods;
-      destinations = (sets.3, few);
-      single = never_again problem h.destinations sets.0 new kept.single;
-      resources = kept.resources;
-      rate = kept.rate;
-    })
-header_kept problem n key.Resources value name h next sets new kept =
-    let below = sets.2.below in
-    let few : sets.0 ≤ 8 = omega arith in
-    subst (KeepsHeader problem) sets.1
-    (record { periods = kept.periods; destinations = kept.destinations; single = kept.single; resources = few; rate = kept.rate })
-header_kept problem n key.Rate value name h next sets new kept = subst (KeepsHeader problem) sets.1
-    (record { periods = kept.periods; destinations = kept.destinations; single = kept.single; resources = kept.resources; rate = sets.2.at_most })
 
 -- no section is followed by the header
 never_heading : (now next : Section) → is_next now next ≡ true → is_heading next ≡ false
@@ -180,10 +109,78 @@ section_kept problem n d line next s kept = subst (KeepsModel problem n) s.is (r
 behind_heading : (section at : Section) → section ≡ at → is_heading at ≡ false → is_heading section ≡ true → ⊥
 behind_heading section at here other first = let same : is_heading section ≡ is_heading at = ap is_heading here in cc
 
-coef_in_range : (problem : Problem) (n destinations resources : ℕ) (fields : List (List ℕ)) (c : Coef) → IsSingle problem (Some destinations)
-    → IsCoefLine problem n destinations resources fields c → (c.b < n) × (c.d < destinations) × (c.r < resources)
-coef_in_range Pcpsp n destinations resources fields c single l = (l.states_block.below, l.states_destination.below, l.states_resource.below)
-coef_in_range Cpit n destinations resources fields c single l =
-    let one : destinations ≡ 1 = cc in
+coef_in_range : (problem : Problem) (n resources : ℕ) (given : Option ℕ) (fields : List (List ℕ)) (c : Coef) → IsSingle problem given
+    → IsCoefLine problem n (count_in given) resources fields c → (c.b < n) × (c.d < count_in given) × (c.r < resources)
+coef_in_range Pcpsp n resources given fields c single l = (l.states_block.below, l.states_destination.below, l.states_resource.below)
+coef_in_range Cpit n resources given fields c single l =
+    let one : count_in given ≡ 1 = ap count_in single in
     let none : c.d ≡ 0 = l.destination in
     (l.states_block.below, omega arith, l.states_resource.below)
+
+values_kept : (problem : Problem) (n : ℕ) (d : ModelDraft) (line : List ℕ) (next : ModelDraft) → AddsValues d line next → KeepsModel problem n d
+    → KeepsModel problem n next
+values_kept problem n d line next s kept = subst (KeepsModel problem n) s.is (record {
+  of_problem = kept.of_problem;
+  of_blocks = kept.of_blocks;
+  name = kept.name;
+  header = kept.header;
+  none_yet = λ first. absurd (behind_heading d.section Objective s.here refl first);
+  values = All-push (λ values. length values ≡ count_in d.header.destinations) d.values s.values kept.values s.spelled.one_each;
+  coefs = kept.coefs;
+  limits = kept.limits;
+})
+
+coef_kept : (problem : Problem) (n : ℕ) (d : ModelDraft) (line : List ℕ) (next : ModelDraft) → AddsCoef d line next → KeepsModel problem n d
+    → KeepsModel problem n next
+coef_kept problem n d line next s kept =
+    let destinations = count_in d.header.destinations in
+    let resources = count_in d.header.resources in
+    let of_blocks = subst (λ m. IsCoefLine d.problem m destinations resources (fields_of line) s.coef) kept.of_blocks s.spelled in
+    let spelled = subst (λ p. IsCoefLine p n destinations resources (fields_of line) s.coef) kept.of_problem of_blocks in
+    subst (KeepsModel problem n) s.is (record {
+      of_problem = kept.of_problem;
+      of_blocks = kept.of_blocks;
+      name = kept.name;
+      header = kept.header;
+      none_yet = λ first. absurd (behind_heading d.section Coefs s.here refl first);
+      values = kept.values;
+      coefs = record {
+        in_range = All-push (λ c. (c.b < n) × (c.d < count_in d.header.destinations) × (c.r < count_in d.header.resources)) d.coefs s.coef
+            kept.coefs.in_range (coef_in_range problem n resources d.header.destinations (fields_of line) s.coef kept.header.single spelled);
+        rising = rises_behind comes_before comes_before_through d.coefs s.coef kept.coefs.rising s.behind;
+      };
+      limits = kept.limits;
+    })
+
+limit_kept : (problem : Problem) (n : ℕ) (d : ModelDraft) (line : List ℕ) (next : ModelDraft) → AddsLimit d line next → KeepsModel problem n d
+    → KeepsModel problem n next
+limit_kept problem n d line next s kept = subst (KeepsModel problem n) s.is (record {
+  of_problem = kept.of_problem;
+  of_blocks = kept.of_blocks;
+  name = kept.name;
+  header = kept.header;
+  none_yet = λ first. absurd (behind_heading d.section Limits s.here refl first);
+  values = kept.values;
+  coefs = kept.coefs;
+  limits = record {
+    in_range = All-push (λ l. (l.resource < count_in d.header.resources) × (l.period < count_in d.header.periods) × IsUpward l.bound) d.limits
+        s.limit kept.limits.in_range (s.spelled.states_resource.below, s.spelled.states_period.below, s.spelled.upward);
+    rising = rises_behind stands_before stands_before_through d.limits s.limit kept.limits.rising s.behind;
+  };
+})
+
+step_kept : (problem : Problem) (n : ℕ) (d : ModelDraft) (line : List ℕ) (next : ModelDraft) → Step d line next → KeepsModel problem n d
+    → KeepsModel problem n next
+step_kept problem n d line next (Keyed s) kept = key_kept problem n d line next s kept
+step_kept problem n d line next (Begun s) kept = section_kept problem n d line next s kept
+step_kept problem n d line next (Valued s) kept = values_kept problem n d line next s kept
+step_kept problem n d line next (Spent s) kept = coef_kept problem n d line next s kept
+step_kept problem n d line next (Limited s) kept = limit_kept problem n d line next s kept
+
+-- what all lines together keep
+pub model_kept : (problem : Problem) (n : ℕ) (lines : List Line) (d : ModelDraft) → read_lines admit_model (blank_model problem n) lines ≡ Ok d
+    → KeepsModel problem n d
+model_kept problem n lines d e =
+    kept_by_lines (KeepsModel problem n) admit_model
+    (λ d line next says kept. step_kept problem n d line next (model_step d line next says) kept)
+    (blank_model problem n) lines d e (kept_at_first problem n)

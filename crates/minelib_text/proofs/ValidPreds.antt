@@ -1,5 +1,5 @@
 -- What the predecessors that are read keep.
-use Rattle.std.specs.Prelude.{◌≡◌, ◌≢◌, ℕ, ◌+◌, ◌-◌, ◌<◌, ◌==◌, ◌&&◌, ◌||◌, nat_lt, Bool, true, false, not, List, [], ◌∷◌, ◌++◌, length, slice_index_or, Result, Ok, Err, if◌then◌else◌, All, AllPairs}
+use Rattle.std.specs.Prelude.{◌≡◌, ◌≢◌, ℕ, ◌-◌, ◌<◌, ◌==◌, ◌||◌, nat_lt, true, false, not, List, [], ◌∷◌, ◌++◌, length, Ok, All, AllPairs}
 use Rattle.std.specs.List.{AllZip}
 use Rattle.std.proofs.Common.{refl, sym, ◌∙◌, ap, subst, arith, get_or, length-append, inl, inr}
 use Rattle.std.proofs.lemmas.Bool.{cases_lt, and_parts, or_parts}
@@ -8,11 +8,10 @@ use Rattle.std.proofs.lemmas.List.{get_or_append_left, get_or-append_right}
 use Rattle.std.proofs.lemmas.List.Elements.{All-nil, All-cons}
 use Rattle.std.proofs.lemmas.List.Kept.{AllPairs-cons}
 use Rattle.mine_instance.specs.Valid.{ArePreds, ArePredsOf}
-use Rattle.minelib_text.specs.FieldValues.{◌>>=◌, whole_in, first_by, all_by}
+use Rattle.minelib_text.specs.FieldValues.{whole_in, all_by}
 use Rattle.minelib_text.specs.PrecLines.{PrecDraft, stands_in, all_differ, no_lists, preds_with, preds_of, admit_preds, finish_preds, preds_in}
 use Rattle.minelib_text.specs.Reading.{read_lines}
 use Rattle.minelib_text.specs.TextLines.{fields_of, lines_in, end_of}
-use Rattle.minelib_text.specs.declared.text_fault.TextKind.{TextKind}
 use Rattle.minelib_text.specs.declared.text_fault.TextKind.TheVariants.{Fields, Order, Count, Twice, Missing}
 use Rattle.minelib_text.specs.SpelledFields.{StatesWhole}
 use Rattle.minelib_text.specs.SpelledPrec.{IsPredsLine}
@@ -107,7 +106,7 @@ preds_more n lists ids kept here id within = elim (cases_lt id (length lists)) [
       let e : length lists ≡ id = omega (arith, length-append lists (ids ∷ [])) in
       let none_before : id - length lists ≡ 0 = omega arith in
       let first : get_or (lists ++ ids ∷ []) id [] ≡ ids =
-          get_or-append_right lists (ids ∷ []) (length lists) id [] refl high ∙ ap (λ k. get_or (ids ∷ []) k []) none_before in
+      get_or-append_right lists (ids ∷ []) (length lists) id [] refl high ∙ ap (λ k. get_or (ids ∷ []) k []) none_before in
       subst (λ l. ArePredsOf id n l) (sym first) (subst (λ k. ArePredsOf k n ids) e here))
 ]
 
@@ -126,7 +125,7 @@ pub preds_are_valid : (n : ℕ) (text : List ℕ) (lists : List (List ℕ)) → 
 preds_are_valid n text lists e =
     let b = bind_ok (read_lines admit_preds (no_lists n) (lines_in text)) (finish_preds (end_of text)) lists e in
     let kept = kept_by_lines (KeepsPreds n) admit_preds (preds_kept n) (no_lists n) (lines_in text) b.0 b.1
-        (record { blocks = refl; preds = λ id within. absurd (omega arith) }) in
+    (record { blocks = refl; preds = λ id within. absurd (omega arith) }) in
     let g = then_ok (length b.0.lists == b.0.blocks) (record { line = end_of text; kind = Missing }) (Ok b.0.lists) lists b.2 in
     let same : b.0.lists ≡ lists = same_ok b.0.lists lists g.1 in
     let count : length b.0.lists ≡ b.0.blocks = grind (arith, nat_tests) in

@@ -1,5 +1,5 @@
 -- How the key lines of a model file spell the header and begin the sections.
-use Rattle.std.specs.Prelude.{◌≡◌, ℕ, ◌≤◌, ◌^◌, true, List, Option, Some}
+use Rattle.std.specs.Prelude.{◌≡◌, ℕ, ◌≤◌, ◌^◌, true, List, Some}
 use Rattle.std.specs.List.{list_any, before_first, after_first}
 use Rattle.pit_model.specs.Name.{is_name}
 use Rattle.minelib_text.specs.ModelLines.{is_colon, key_of, type_text}

@@ -7,6 +7,7 @@ mod fields;
 mod files;
 mod item_lines;
 mod keys;
+pub mod laws;
 mod lines;
 pub mod mem_sink;
 pub mod model_key;
