@@ -9,6 +9,11 @@ pub mod Marks
 pub mod ModelLines
 pub mod PrecLines
 pub mod Reading
+pub mod SpelledBlocks
+pub mod SpelledFields
+pub mod SpelledItems
+pub mod SpelledKeys
+pub mod SpelledPrec
 pub mod TextLines
 pub mod Tray
 pub mod Written

@@ -15,7 +15,7 @@ use Rattle.pit_units.specs.declared.fault.DecFault.TheVariants.{Number, TooFine,
 use Rattle.pit_units.proofs.Spelling.{both, reads}
 use Rattle.pit_units.proofs.Value.{pass_drop_later, size_scaled}
 
-scale_positive : (n : ℕ) → 0 < 10 ^ n
+pub scale_positive : (n : ℕ) → 0 < 10 ^ n
 scale_positive zero = omega (arith, pow-zero 10)
 scale_positive (suc n) = omega (arith, pow-succ' 10 n, scale_positive n)
 
@@ -25,7 +25,7 @@ same_scaled a b scale some e other (inl less) = absurd (omega (arith, e, mul-lt-
 same_scaled a b scale some e (inr above) (inr below) = omega arith
 
 -- the size of what stands for m is that of m
-size_stands : (whole fraction : List ℕ) (size : ℕ) → all_zeros (drop 6 fraction) ≡ true → size * 10 ^ length fraction ≡ digits_value 10 (whole ++ fraction) * 10 ^ 6 → size_of whole fraction ≡ size
+pub size_stands : (whole fraction : List ℕ) (size : ℕ) → all_zeros (drop 6 fraction) ≡ true → size * 10 ^ length fraction ≡ digits_value 10 (whole ++ fraction) * 10 ^ 6 → size_of whole fraction ≡ size
 size_stands whole fraction size fine value =
     same_scaled (size_of whole fraction) size (10 ^ length fraction) (scale_positive (length fraction)) (size_scaled whole fraction fine ∙ sym value) (cases_lt _ _) (cases_lt _ _)
 

@@ -21,10 +21,10 @@ after_append n [] ys = refl
 after_append n (c ∷ cs) ys = after_append (n * 10 + digit_value c) cs ys
 
 -- digits behind digits
-value_append : (xs ys : List ℕ) → digits_value 10 (xs ++ ys) ≡ digits_value 10 xs * 10 ^ length ys + digits_value 10 ys
+pub value_append : (xs ys : List ℕ) → digits_value 10 (xs ++ ys) ≡ digits_value 10 xs * 10 ^ length ys + digits_value 10 ys
 value_append xs ys = after_append 0 xs ys ∙ after_is (digits_value 10 xs) ys
 
-value_zeros : (zs : List ℕ) → all_zeros zs ≡ true → digits_value 10 zs ≡ 0
+pub value_zeros : (zs : List ℕ) → all_zeros zs ≡ true → digits_value 10 zs ≡ 0
 value_zeros [] h = refl
 value_zeros (c ∷ cs) h =
     let parts = both (c == 48) (all_zeros cs) h in
@@ -43,7 +43,7 @@ pass_drop_later p [] (suc n) (suc m) later h = refl
 pass_drop_later p (c ∷ cs) (suc n) (suc m) later h = pass_drop_later p cs n m (omega arith) h
 
 -- what is passed behind a place, in a longer list
-pass_drop_append : (p : ℕ → Bool) (xs ys : List ℕ) (n : ℕ) → list_all p (drop n xs) ≡ true → list_all p ys ≡ true → list_all p (drop n (xs ++ ys)) ≡ true
+pub pass_drop_append : (p : ℕ → Bool) (xs ys : List ℕ) (n : ℕ) → list_all p (drop n xs) ≡ true → list_all p ys ≡ true → list_all p (drop n (xs ++ ys)) ≡ true
 pass_drop_append p [] ys zero h g = g
 pass_drop_append p [] ys (suc n) h g = pass_drop_all p ys (suc n) g
 pass_drop_append p (c ∷ cs) ys zero h g =

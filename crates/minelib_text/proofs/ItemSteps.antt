@@ -1,0 +1,181 @@
+-- How the lines that are read spell values, coefficients and limits.
+use Rattle.std.specs.Prelude.{◌≡◌, ℕ, ◌+◌, ◌==◌, Bool, true, false, not, List, [], ◌∷◌, length, ℤ, Result, Ok, Err, if◌then◌else◌, codes, int_le, ◌≤ℤ◌}
+use Rattle.std.specs.List.{AllZip}
+use Rattle.std.specs.Str.{bytes_eq}
+use Rattle.std.proofs.Common.{refl, sym, ◌∙◌, ap, subst, arith, rules}
+use Rattle.std.proofs.lemmas.Bool.{eqb-true}
+use Rattle.std.proofs.lemmas.Slice.Eq.{bytes_eq-Decides}
+use Rattle.pit_units.specs.Decimal.{StandsFor}
+use Rattle.pit_model.specs.Planned.{is_turned}
+use Rattle.pit_model.specs.declared.limit.Bound.{Bound}
+use Rattle.pit_model.specs.declared.limit.Bound.TheVariants.{AtMost, AtLeast, Between}
+use Rattle.pit_model.specs.declared.limit.Limit.{Limit}
+use Rattle.mine_instance.specs.Valid.{IsUpward}
+use Rattle.mine_instance.specs.declared.coef.Coef.{Coef}
+use Rattle.minelib_text.specs.FieldValues.{◌>>=◌, first_by, all_by, whole_in, decimal_in}
+use Rattle.minelib_text.specs.ModelLines.{values_of, coef_of, limit_of, limit_width, bound_in, interval_in}
+use Rattle.minelib_text.specs.SpelledFields.{StatesWhole}
+use Rattle.minelib_text.specs.SpelledItems.{IsValuesLine, IsPcpspCoefLine, IsCpitCoefLine, IsCoefLine, StatesBound, IsLimitLine}
+use Rattle.minelib_text.specs.declared.model_key.Problem.{Problem}
+use Rattle.minelib_text.specs.declared.model_key.Problem.TheVariants.{Pcpsp, Cpit}
+use Rattle.minelib_text.specs.declared.text_fault.TextKind.{TextKind}
+use Rattle.minelib_text.specs.declared.text_fault.TextKind.TheVariants.{Fields, Order, Name}
+use Rattle.minelib_text.proofs.ReadSteps.{bind_then, guard_then, first_then, not_false, same_ok, none_behind, counted, all_ok, as_many, whole_in_ok, decimal_in_ok}
+
+all_stand : (fields : List (List ℕ)) (values : List ℤ) → AllZip (λ field v. decimal_in field ≡ Ok v) fields values → AllZip (StandsFor 6) fields values
+all_stand [] [] zip = tt
+all_stand [] (v ∷ values) zip = absurd zip
+all_stand (field ∷ fields) [] zip = absurd zip
+all_stand (field ∷ fields) (v ∷ values) zip = (decimal_in_ok field v zip.0, all_stand fields values zip.1)
+
+pub values_line : (n destinations before : ℕ) (fields : List (List ℕ)) (values : List ℤ) → values_of n destinations before fields ≡ Ok values
+    → IsValuesLine n destinations before fields values
+values_line n destinations before fields values e =
+    guard_then (not (length fields == destinations + 1)) Fields _ values e (λ width e1.
+    first_then (whole_in n) fields _ values e1 (λ b rest block here s1 e2.
+    bind_then (all_by decimal_in [] rest) _ values e2 (λ given of_fields e3.
+    guard_then (not (block == before)) Order (Ok given) values e3 (λ next e4.
+    let m = all_ok decimal_in [] rest given of_fields in
+    let same : m.0 ≡ values = sym m.1 ∙ same_ok given values e4 in
+    let zip : AllZip (StandsFor 6) rest values = subst (AllZip (StandsFor 6) rest) same (all_stand rest m.0 m.2) in
+    record {
+      b = b;
+      each = rest;
+      here = here;
+      states_block = subst (StatesWhole n b) (eqb-true block before (not_false (block == before) next)) (whole_in_ok n b block s1);
+      states_each = zip;
+      one_each = omega (arith, counted (destinations + 1) fields width, ap length here, as_many (StandsFor 6) rest values zip);
+    }))))
+
+pub coef_line : (problem : Problem) (n destinations resources : ℕ) (fields : List (List ℕ)) (c : Coef)
+    → coef_of problem n destinations resources fields ≡ Ok c → IsCoefLine problem n destinations resources fields c
+coef_line Pcpsp n destinations resources fields c e =
+    guard_then (not (length fields == 4)) Fields _ c e (λ four e1.
+    first_then (whole_in n) fields _ c e1 (λ b f1 block h1 s1 e2.
+    first_then (whole_in destinations) f1 _ c e2 (λ d f2 destination h2 s2 e3.
+    first_then (whole_in resources) f2 _ c e3 (λ r f3 resource h3 s3 e4.
+    first_then decimal_in f3 _ c e4 (λ v f4 size h4 s4 e5.
+    let here : fields ≡ b ∷ d ∷ r ∷ v ∷ f4 = cc in
+    subst (IsPcpspCoefLine n destinations resources fields) (same_ok _ c e5) (record {
+      b = b;
+      d = d;
+      r = r;
+      v = v;
+      here = none_behind 4 (b ∷ d ∷ r ∷ v ∷ []) f4 fields (counted 4 fields four) here refl;
+      states_block = whole_in_ok n b block s1;
+      states_destination = whole_in_ok destinations d destination s2;
+      states_resource = whole_in_ok resources r resource s3;
+      states_size = decimal_in_ok v size s4;
+    }))))))
+coef_line Cpit n destinations resources fields c e =
+    guard_then (not (length fields == 3)) Fields _ c e (λ three e1.
+    first_then (whole_in n) fields _ c e1 (λ b f1 block h1 s1 e2.
+    first_then (whole_in resources) f1 _ c e2 (λ r f2 resource h2 s2 e3.
+    first_then decimal_in f2 _ c e3 (λ v f3 size h3 s3 e4.
+    let here : fields ≡ b ∷ r ∷ v ∷ f3 = cc in
+    subst (IsCpitCoefLine n resources fields) (same_ok _ c e4) (record {
+      b = b;
+      r = r;
+      v = v;
+      here = none_behind 3 (b ∷ r ∷ v ∷ []) f3 fields (counted 3 fields three) here refl;
+      states_block = whole_in_ok n b block s1;
+      destination = refl;
+      states_resource = whole_in_ok resources r resource s2;
+      states_size = decimal_in_ok v size s3;
+    })))))
+
+-- the one field behind a letter
+one_value : (letter : List ℕ) (fields : List (List ℕ)) (make : ℤ → Bound) (bound : Bound) → length fields ≡ 1
+    → (first_by decimal_in fields >>= λ v. Ok (make v.0)) ≡ Ok bound
+    → (v : ℤ) × (make v ≡ bound) × (field : List ℕ) × (letter ∷ fields ≡ letter ∷ field ∷ []) × StandsFor 6 field v
+one_value letter fields make bound one e =
+    first_then decimal_in fields (λ v. Ok (make v.0)) bound e (λ field rest v here s made.
+    (v, same_ok (make v) bound made, field, ap (λ l. letter ∷ l) (none_behind 1 (field ∷ []) rest fields one here refl), decimal_in_ok field v s))
+
+interval_states : (fields : List (List ℕ)) (bound : Bound) → interval_in fields ≡ Ok bound → length fields ≡ 2
+    → StatesBound (codes "I" ∷ fields) bound
+interval_states fields bound e two =
+    first_then decimal_in fields _ bound e (λ least f1 v h1 s1 e1.
+    first_then decimal_in f1 _ bound e1 (λ most f2 w h2 s2 e2.
+    let here : fields ≡ least ∷ most ∷ f2 = cc in
+    subst (StatesBound (codes "I" ∷ fields)) (same_ok (Between v w) bound e2) (
+      least,
+      most,
+      ap (λ l. codes "I" ∷ l) (none_behind 2 (least ∷ most ∷ []) f2 fields two here refl),
+      decimal_in_ok least v s1,
+      decimal_in_ok most w s2,
+    )))
+
+-- a letter, as the two tests behind it see it
+bound_states : (letter : List ℕ) (fields : List (List ℕ)) (bound : Bound) → bound_in (letter ∷ fields) ≡ Ok bound
+    → length fields ≡ (if bytes_eq letter (codes "I") then 2 else 1) → StatesBound (letter ∷ fields) bound
+bound_states letter fields bound e width = by_l (bytes_eq letter (codes "L")) refl e
+  where
+    rest_g : Result Bound TextKind
+    rest_g = if bytes_eq letter (codes "I") then interval_in fields else Err Name
+
+    rest_l : Result Bound TextKind
+    rest_l = if bytes_eq letter (codes "G") then (first_by decimal_in fields >>= λ v. Ok (AtLeast v.0)) else rest_g
+
+    by_i : (t : Bool) → bytes_eq letter (codes "I") ≡ t → (if t then interval_in fields else Err Name) ≡ Ok bound
+        → length fields ≡ (if t then 2 else 1) → StatesBound (letter ∷ fields) bound
+    by_i true is h count = subst (λ l. StatesBound (l ∷ fields) bound) (sym ((bytes_eq-Decides letter (codes "I")).0 is)) (interval_states fields bound h count)
+    by_i false is h count = absurd cc
+
+    by_g : (t : Bool) → bytes_eq letter (codes "G") ≡ t
+        → (if t then (first_by decimal_in fields >>= λ v. Ok (AtLeast v.0)) else rest_g) ≡ Ok bound → StatesBound (letter ∷ fields) bound
+    by_g true is h =
+        let same : letter ≡ codes "G" = (bytes_eq-Decides letter (codes "G")).0 is in
+        let one : length fields ≡ 1 = width ∙ ap (λ l. if bytes_eq l (codes "I") then 2 else 1) same in
+        let v = one_value (codes "G") fields AtLeast bound one h in
+        subst (λ l. StatesBound (l ∷ fields) bound) (sym same) (subst (StatesBound (codes "G" ∷ fields)) v.1 (v.2, v.3, v.4))
+    by_g false is h = by_i (bytes_eq letter (codes "I")) refl h width
+
+    by_l : (t : Bool) → bytes_eq letter (codes "L") ≡ t
+        → (if t then (first_by decimal_in fields >>= λ v. Ok (AtMost v.0)) else rest_l) ≡ Ok bound → StatesBound (letter ∷ fields) bound
+    by_l true is h =
+        let same : letter ≡ codes "L" = (bytes_eq-Decides letter (codes "L")).0 is in
+        let one : length fields ≡ 1 = width ∙ ap (λ l. if bytes_eq l (codes "I") then 2 else 1) same in
+        let v = one_value (codes "L") fields AtMost bound one h in
+        subst (λ l. StatesBound (l ∷ fields) bound) (sym same) (subst (StatesBound (codes "L" ∷ fields)) v.1 (v.2, v.3, v.4))
+    by_l false is h = by_g (bytes_eq letter (codes "G")) refl h
+
+-- the bound behind `r t`
+bound_behind : (r t : List ℕ) (fields all : List (List ℕ)) (bound : Bound) → bound_in fields ≡ Ok bound → all ≡ r ∷ t ∷ fields
+    → length all ≡ limit_width all → StatesBound fields bound
+bound_behind r t [] all bound e here width = absurd cc
+bound_behind r t (letter ∷ fields) all bound e here width =
+    bound_states letter fields bound e (two_less (bytes_eq letter (codes "I")) (subst (λ l. length l ≡ limit_width l) here width))
+  where
+    two_less : (is : Bool) → length (r ∷ t ∷ letter ∷ fields) ≡ (if is then 5 else 4) → length fields ≡ (if is then 2 else 1)
+    two_less true h = omega arith
+    two_less false h = omega arith
+
+not_turned : (bound : Bound) → is_turned bound ≡ false → IsUpward bound
+not_turned (AtMost v) e = tt
+not_turned (AtLeast v) e = tt
+not_turned (Between v w) e = upward v w (not_false (int_le v w) e)
+  where
+    upward : (v w : ℤ) → int_le v w ≡ true → v ≤ℤ w
+    upward v w h = search rules
+
+pub limit_line : (resources periods : ℕ) (fields : List (List ℕ)) (l : Limit) → limit_of resources periods fields ≡ Ok l → is_turned l.bound ≡ false
+    → IsLimitLine resources periods fields l
+limit_line resources periods fields l e straight =
+    guard_then (not (length fields == limit_width fields)) Fields _ l e (λ width e1.
+    first_then (whole_in resources) fields _ l e1 (λ r f1 resource h1 s1 e2.
+    first_then (whole_in periods) f1 _ l e2 (λ t f2 period h2 s2 e3.
+    bind_then (bound_in f2) _ l e3 (λ bound s3 e4.
+    let same = same_ok _ l e4 in
+    let here : fields ≡ r ∷ t ∷ f2 = cc in
+    record {
+      r = r;
+      t = t;
+      bound = f2;
+      here = here;
+      states_resource = subst (StatesWhole resources r) (ap (λ m. m.resource) same) (whole_in_ok resources r resource s1);
+      states_period = subst (StatesWhole periods t) (ap (λ m. m.period) same) (whole_in_ok periods t period s2);
+      states_bound = subst (StatesBound f2) (ap (λ m. m.bound) same)
+          (bound_behind r t f2 fields bound s3 here (counted (limit_width fields) fields width));
+      upward = not_turned l.bound straight;
+    }))))

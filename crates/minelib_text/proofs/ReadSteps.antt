@@ -1,0 +1,154 @@
+-- What a step of reading shows where it found no fault, and what is kept from line to line.
+use Rattle.std.specs.Prelude.{◌≡◌, ℕ, ◌<◌, ◌≤◌, ◌*◌, ◌/◌, ◌%◌, ◌^◌, ◌==◌, nat_lt, Bool, true, false, not, List, [], ◌∷◌, ◌++◌, length, ℤ, pos, negsuc, Result, Ok, Err, if◌then◌else◌}
+use Rattle.std.specs.List.{AllZip}
+use Rattle.std.proofs.Common.{refl, sym, ◌∙◌, ap, subst, arith, append-nil, append_assoc, length-append}
+use Rattle.std.proofs.lemmas.Bool.{eqb-true}
+use Rattle.std.proofs.lemmas.Bool.Decides.{nat_tests}
+use Rattle.minelib_text.specs.FieldValues.{◌>>=◌, at_most, whole_below, stated, size_in, whole_in, decimal_in, first_by, all_by}
+use Rattle.minelib_text.specs.Reading.{at_line, read_lines, in_file}
+use Rattle.minelib_text.specs.TextLines.{Line}
+use Rattle.minelib_text.specs.declared.text_fault.LineFault.{LineFault}
+use Rattle.minelib_text.specs.declared.text_fault.TextFile.{TextFile}
+use Rattle.minelib_text.specs.declared.text_fault.TextKind.{TextKind}
+use Rattle.minelib_text.specs.declared.text_fault.TextKind.TheVariants.{Range}
+use Rattle.pit_units.proofs.Multiples.{stands_multiple}
+use Rattle.pit_units.proofs.Standing.{read_stands}
+use Rattle.pit_units.specs.Decimal.{StandsFor, decimal_of}
+use Rattle.pit_units.specs.declared.fault.DecFault.{DecFault}
+use Rattle.minelib_text.specs.SpelledFields.{StatesWhole, StatesSize}
+
+-- a step behind another one; the part is told what both found, since a `let` would write them out at each place
+pub bind_ok : {A B F : Type 0} (r : Result A F) (next : A → Result B F) (y : B) → (r >>= next) ≡ Ok y → (x : A) × (r ≡ Ok x) × (next x ≡ Ok y)
+bind_ok (Ok x) next y e = (x, refl, e)
+bind_ok (Err fault) next y e = absurd cc
+
+pub bind_then : {A B F P : Type 0} (r : Result A F) (next : A → Result B F) (y : B) → (r >>= next) ≡ Ok y
+    → ((x : A) → r ≡ Ok x → next x ≡ Ok y → P) → P
+bind_then r next y e part = let b = bind_ok r next y e in part b.0 b.1 b.2
+
+-- a step behind a test that may fail
+pub guard_ok : {A F : Type 0} (t : Bool) (fault : F) (r : Result A F) (y : A) → (if t then Err fault else r) ≡ Ok y → (t ≡ false) × (r ≡ Ok y)
+guard_ok true fault r y e = absurd cc
+guard_ok false fault r y e = (refl, e)
+
+pub guard_then : {A F P : Type 0} (t : Bool) (fault : F) (r : Result A F) (y : A) → (if t then Err fault else r) ≡ Ok y
+    → (t ≡ false → r ≡ Ok y → P) → P
+guard_then t fault r y e part = let g = guard_ok t fault r y e in part g.0 g.1
+
+pub then_ok : {A F : Type 0} (t : Bool) (fault : F) (r : Result A F) (y : A) → (if t then r else Err fault) ≡ Ok y → (t ≡ true) × (r ≡ Ok y)
+then_ok true fault r y e = (refl, e)
+then_ok false fault r y e = absurd cc
+
+pub not_false : (t : Bool) → not t ≡ false → t ≡ true
+not_false true e = refl
+not_false false e = absurd cc
+
+pub not_true : (t : Bool) → not t ≡ true → t ≡ false
+not_true false e = refl
+not_true true e = absurd cc
+
+pub same_ok : {A F : Type 0} (x y : A) → ◌≡◌ {A = Result A F} (Ok x) (Ok y) → x ≡ y
+same_ok x y e = cc
+
+pub at_line_ok : {S : Type 0} (n : ℕ) (r : Result S TextKind) (s : S) → at_line n r ≡ Ok s → r ≡ Ok s
+at_line_ok n (Ok x) s e = cc
+at_line_ok n (Err kind) s e = absurd cc
+
+pub in_file_ok : {A : Type 0} (file : TextFile) (r : Result A LineFault) (x : A) → in_file file r ≡ Ok x → r ≡ Ok x
+in_file_ok file (Ok y) x e = cc
+in_file_ok file (Err fault) x e = absurd cc
+
+-- what each admitted line keeps stands at the end
+pub kept_by_lines : {S : Type 0} (Keeps : S → Type 0) (admit : S → List ℕ → Result S TextKind)
+    → ((s : S) (line : List ℕ) (next : S) → admit s line ≡ Ok next → Keeps s → Keeps next)
+    → (s : S) (lines : List Line) (last : S) → read_lines admit s lines ≡ Ok last → Keeps s → Keeps last
+kept_by_lines Keeps admit step s [] last e kept = subst Keeps (same_ok s last e) kept
+kept_by_lines Keeps admit step s (line ∷ lines) last e kept =
+    let b = bind_ok (at_line line.number (admit s line.text)) (λ next. read_lines admit next lines) last e in
+    kept_by_lines Keeps admit step b.0 lines last b.2 (step s line.text b.0 (at_line_ok line.number (admit s line.text) b.0 b.1) kept)
+
+pub at_most_ok : (most : ℕ) (z : ℤ) (m : ℕ) → at_most most z ≡ Ok m → (z ≡ pos m) × (m ≤ most)
+at_most_ok most (pos k) m e =
+    let g = guard_ok (nat_lt most k) Range (Ok k) m e in
+    let same : k ≡ m = same_ok k m g.1 in
+    (ap pos same, grind (arith, nat_tests))
+at_most_ok most (negsuc k) m e = absurd cc
+
+pub whole_below_ok : (limit : ℕ) (z : ℤ) (n : ℕ) → whole_below limit z ≡ Ok n → (m : ℕ) × (z ≡ pos m) × (m / 10 ^ 6 ≡ n) × (n < limit)
+whole_below_ok limit (pos k) n e =
+    let g = then_ok (nat_lt (k / 10 ^ 6) limit) Range (Ok (k / 10 ^ 6)) n e in
+    let same : k / 10 ^ 6 ≡ n = same_ok (k / 10 ^ 6) n g.1 in
+    (k, refl, same, grind (arith, nat_tests))
+whole_below_ok limit (negsuc k) n e = absurd cc
+
+stated_ok : (r : Result ℤ DecFault) (z : ℤ) → stated r ≡ Ok z → r ≡ Ok z
+stated_ok (Ok y) z e = cc
+stated_ok (Err fault) z e = absurd cc
+
+pub decimal_in_ok : (field : List ℕ) (z : ℤ) → decimal_in field ≡ Ok z → StandsFor 6 field z
+unfolding decimal_in
+decimal_in_ok field z e = read_stands 6 field z (omega arith) (stated_ok (decimal_of 6 field) z e)
+
+pub size_in_ok : (decimals most : ℕ) (field : List ℕ) (m : ℕ) → decimals ≤ 6 → size_in decimals most field ≡ Ok m → StatesSize decimals most field m
+unfolding size_in
+size_in_ok decimals most field m few e =
+    let b = bind_ok (stated (decimal_of decimals field)) (at_most most) m e in
+    let p = at_most_ok most b.0 m b.2 in
+    record {
+      stands = subst (StandsFor decimals field) p.0 (read_stands decimals field b.0 few (stated_ok (decimal_of decimals field) b.0 b.1));
+      at_most = p.1;
+    }
+
+pub whole_in_ok : (limit : ℕ) (field : List ℕ) (n : ℕ) → whole_in limit field ≡ Ok n → StatesWhole limit field n
+unfolding whole_in
+whole_in_ok limit field n e =
+    let b = bind_ok (stated (decimal_of 0 field)) (whole_below limit) n e in
+    let p = whole_below_ok limit b.0 n b.2 in
+    let stands : StandsFor 0 field (pos p.0) =
+    subst (StandsFor 0 field) p.1 (read_stands 0 field b.0 (omega arith) (stated_ok (decimal_of 0 field) b.0 b.1)) in
+    let multiple : p.0 % 10 ^ 6 ≡ 0 = stands_multiple 0 field (pos p.0) (omega arith) stands in
+    let quotient : p.0 / 10 ^ 6 ≡ n = p.2 in
+    let whole : p.0 ≡ n * 10 ^ 6 = omega arith in
+    record { stands = subst (λ m. StandsFor 0 field (pos m)) whole stands; below = p.3 }
+
+-- nothing stands behind as many fields as there are
+pub none_behind : (n : ℕ) (front rest fields : List (List ℕ)) → length fields ≡ n → fields ≡ front ++ rest → length front ≡ n → fields ≡ front
+none_behind n front [] fields all here count = here ∙ append-nil front
+none_behind n front (field ∷ rest) fields all here count = absurd (omega (arith, ap length here, length-append front (field ∷ rest)))
+
+-- the number of fields, where a test found no other
+pub counted : (n : ℕ) (fields : List (List ℕ)) → not (length fields == n) ≡ false → length fields ≡ n
+counted n fields test = eqb-true (length fields) n (not_false (length fields == n) test)
+
+first_ok : {A : Type 0} (rule : List ℕ → Result A TextKind) (fields : List (List ℕ)) (x : A × List (List ℕ)) → first_by rule fields ≡ Ok x
+    → (field : List ℕ) × (fields ≡ field ∷ x.1) × (rule field ≡ Ok x.0)
+first_ok rule [] x e = absurd cc
+first_ok rule (field ∷ fields) x e =
+    let b = bind_ok (rule field) _ x e in
+    let same : (b.0, fields) ≡ x = same_ok (b.0, fields) x b.2 in
+    (field, ap (λ p. field ∷ p.1) same, b.1 ∙ ap (λ p. Ok p.0) same)
+
+-- a step behind the first field
+pub first_then : {A B P : Type 0} (rule : List ℕ → Result A TextKind) (fields : List (List ℕ)) (next : A × List (List ℕ) → Result B TextKind) (y : B)
+    → (first_by rule fields >>= next) ≡ Ok y
+    → ((field : List ℕ) (rest : List (List ℕ)) (x : A) → fields ≡ field ∷ rest → rule field ≡ Ok x → next (x, rest) ≡ Ok y → P) → P
+first_then rule fields next y e part =
+    let b = bind_ok (first_by rule fields) next y e in
+    let f = first_ok rule fields b.0 b.1 in
+    part f.0 b.0.1 b.0.0 f.1 f.2 b.2
+
+-- all fields, behind what was read before
+pub all_ok : {A : Type 0} (rule : List ℕ → Result A TextKind) (done : List A) (fields : List (List ℕ)) (xs : List A)
+    → all_by rule done fields ≡ Ok xs → (more : List A) × (xs ≡ done ++ more) × AllZip (λ field x. rule field ≡ Ok x) fields more
+all_ok rule done [] xs e = ([], sym (same_ok done xs e) ∙ sym (append-nil done), tt)
+all_ok rule done (field ∷ fields) xs e =
+    let b = bind_ok (rule field) (λ x. all_by rule (done ++ x ∷ []) fields) xs e in
+    let m = all_ok rule (done ++ b.0 ∷ []) fields xs b.2 in
+    (b.0 ∷ m.0, m.1 ∙ append_assoc done (b.0 ∷ []) m.0, (b.1, m.2))
+
+-- as many items as fields
+pub as_many : {A B : Type 0} (R : A → B → Type 0) (xs : List A) (ys : List B) → AllZip R xs ys → length xs ≡ length ys
+as_many R [] [] zip = refl
+as_many R [] (y ∷ ys) zip = absurd zip
+as_many R (x ∷ xs) [] zip = absurd zip
+as_many R (x ∷ xs) (y ∷ ys) zip = omega (arith, as_many R xs ys zip.1)

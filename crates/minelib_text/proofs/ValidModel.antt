@@ -1,0 +1,186 @@
+-- What the lines of a model file keep, so that what is read is as an instance and a CPIT have it.
+use Rattle.std.specs.Prelude.{◌≡◌, ℕ, ◌<◌, true, false, List, [], length, Option, Ok, All}
+use Rattle.std.proofs.Common.{refl, sym, ap, subst, arith, inl}
+use Rattle.std.proofs.lemmas.List.Elements.{All-nil, All-push}
+use Rattle.pit_model.specs.Plan.{stands_before}
+use Rattle.mine_instance.specs.Order.{comes_before}
+use Rattle.mine_instance.specs.OrderLaws.{comes_before_through, stands_before_through}
+use Rattle.mine_instance.specs.Valid.{AreCoefs, AreLimits, IsUpward}
+use Rattle.mine_instance.specs.declared.coef.Coef.{Coef}
+use Rattle.minelib_text.specs.ModelLines.{ModelDraft, blank_header, blank_model, is_heading, is_next, count_in, admit_model}
+use Rattle.minelib_text.specs.SpelledItems.{IsCoefLine}
+use Rattle.minelib_text.specs.declared.model_key.Problem.{Problem}
+use Rattle.minelib_text.specs.declared.model_key.Problem.TheVariants.{Pcpsp, Cpit}
+use Rattle.minelib_text.specs.declared.model_key.Section.{Section}
+use Rattle.minelib_text.specs.declared.model_key.Section.TheVariants.{Heading, Objective, Coefs, Limits}
+use Rattle.minelib_text.specs.Reading.{read_lines}
+use Rattle.minelib_text.specs.TextLines.{Line, fields_of}
+use Rattle.minelib_text.proofs.KeySteps.{Sets}
+use Rattle.minelib_text.proofs.ValidHeader.{IsSingle, KeepsHeader, KeepsName, blank_kept, name_kept, header_kept}
+use Rattle.minelib_text.proofs.ModelSteps.{SetsKey, BeginsSection, AddsValues, AddsCoef, AddsLimit, Step, model_step, Keyed, Begun, Valued, Spent, Limited}
+use Rattle.minelib_text.proofs.ReadSteps.{kept_by_lines}
+use Rattle.minelib_text.proofs.Rising.{rises_behind}
+
+-- what is read of n blocks
+pub record KeepsModel (problem : Problem) (n : ℕ) (d : ModelDraft) : Type 0 where
+  pub of_problem : d.problem ≡ problem
+  pub of_blocks : d.blocks ≡ n
+  pub name : KeepsName d.name
+  pub header : KeepsHeader problem d.header
+  pub none_yet : is_heading d.section ≡ true → (d.values ≡ []) × (d.coefs ≡ []) × (d.limits ≡ [])
+  pub values : All (λ values. length values ≡ count_in d.header.destinations) d.values
+  pub coefs : AreCoefs n (count_in d.header.destinations) (count_in d.header.resources) d.coefs
+  pub limits : AreLimits (count_in d.header.resources) (count_in d.header.periods) d.limits
+
+no_coefs : (n destinations resources : ℕ) → AreCoefs n destinations resources []
+no_coefs n destinations resources = record {
+  in_range = All-nil (λ c. (c.b < n) × (c.d < destinations) × (c.r < resources));
+  rising = λ i j d less high. absurd (omega arith);
+}
+
+no_limits : (resources periods : ℕ) → AreLimits resources periods []
+no_limits resources periods = record {
+  in_range = All-nil (λ l. (l.resource < resources) × (l.period < periods) × IsUpward l.bound);
+  rising = λ i j d less high. absurd (omega arith);
+}
+
+kept_at_first : (problem : Problem) (n : ℕ) → KeepsModel problem n (blank_model problem n)
+kept_at_first problem n = record {
+  of_problem = refl;
+  of_blocks = refl;
+  name = inl refl;
+  header = blank_kept problem;
+  none_yet = λ _. (refl, refl, refl);
+  values = All-nil (λ values. length values ≡ count_in (blank_header problem).destinations);
+  coefs = no_coefs n (count_in (blank_header problem).destinations) (count_in (blank_header problem).resources);
+  limits = no_limits (count_in (blank_header problem).resources) (count_in (blank_header problem).periods);
+}
+
+-- no section is followed by the header
+never_heading : (now next : Section) → is_next now next ≡ true → is_heading next ≡ false
+never_heading Heading Objective e = refl
+never_heading Objective Coefs e = refl
+never_heading Coefs Limits e = refl
+never_heading Heading Heading e = absurd cc
+never_heading Heading Coefs e = absurd cc
+never_heading Heading Limits e = absurd cc
+never_heading Objective Heading e = absurd cc
+never_heading Objective Objective e = absurd cc
+never_heading Objective Limits e = absurd cc
+never_heading Coefs Heading e = absurd cc
+never_heading Coefs Objective e = absurd cc
+never_heading Coefs Coefs e = absurd cc
+never_heading Limits section e = absurd cc
+
+key_kept : (problem : Problem) (n : ℕ) (d : ModelDraft) (line : List ℕ) (next : ModelDraft) → SetsKey d line next → KeepsModel problem n d
+    → KeepsModel problem n next
+key_kept problem n d line next s kept =
+    let none = kept.none_yet s.heading in
+    subst (KeepsModel problem n) s.is (record {
+      of_problem = kept.of_problem;
+      of_blocks = kept.of_blocks;
+      name = name_kept d.problem d.blocks s.key s.value d.name d.header s.header s.sets kept.name;
+      header = header_kept problem n s.key s.value d.name d.header s.header
+          (subst (λ m. Sets problem m s.key s.value d.header s.header) kept.of_blocks
+          (subst (λ p. Sets p d.blocks s.key s.value d.header s.header) kept.of_problem s.sets)) s.new kept.header;
+      none_yet = kept.none_yet;
+      values = subst (All (λ values. length values ≡ count_in s.header.destinations)) (sym none.0)
+          (All-nil (λ values. length values ≡ count_in s.header.destinations));
+      coefs = subst (AreCoefs n (count_in s.header.destinations) (count_in s.header.resources)) (sym none.1)
+          (no_coefs n (count_in s.header.destinations) (count_in s.header.resources));
+      limits = subst (AreLimits (count_in s.header.resources) (count_in s.header.periods)) (sym none.2)
+          (no_limits (count_in s.header.resources) (count_in s.header.periods));
+    })
+
+section_kept : (problem : Problem) (n : ℕ) (d : ModelDraft) (line : List ℕ) (next : ModelDraft) → BeginsSection d line next → KeepsModel problem n d
+    → KeepsModel problem n next
+section_kept problem n d line next s kept = subst (KeepsModel problem n) s.is (record {
+  of_problem = kept.of_problem;
+  of_blocks = kept.of_blocks;
+  name = kept.name;
+  header = kept.header;
+  none_yet = λ first. absurd (let other = never_heading d.section s.section s.follows in cc);
+  values = kept.values;
+  coefs = kept.coefs;
+  limits = kept.limits;
+})
+
+-- a section that is not the header
+behind_heading : (section at : Section) → section ≡ at → is_heading at ≡ false → is_heading section ≡ true → ⊥
+behind_heading section at here other first = let same : is_heading section ≡ is_heading at = ap is_heading here in cc
+
+coef_in_range : (problem : Problem) (n resources : ℕ) (given : Option ℕ) (fields : List (List ℕ)) (c : Coef) → IsSingle problem given
+    → IsCoefLine problem n (count_in given) resources fields c → (c.b < n) × (c.d < count_in given) × (c.r < resources)
+coef_in_range Pcpsp n resources given fields c single l = (l.states_block.below, l.states_destination.below, l.states_resource.below)
+coef_in_range Cpit n resources given fields c single l =
+    let one : count_in given ≡ 1 = ap count_in single in
+    let none : c.d ≡ 0 = l.destination in
+    (l.states_block.below, omega arith, l.states_resource.below)
+
+values_kept : (problem : Problem) (n : ℕ) (d : ModelDraft) (line : List ℕ) (next : ModelDraft) → AddsValues d line next → KeepsModel problem n d
+    → KeepsModel problem n next
+values_kept problem n d line next s kept = subst (KeepsModel problem n) s.is (record {
+  of_problem = kept.of_problem;
+  of_blocks = kept.of_blocks;
+  name = kept.name;
+  header = kept.header;
+  none_yet = λ first. absurd (behind_heading d.section Objective s.here refl first);
+  values = All-push (λ values. length values ≡ count_in d.header.destinations) d.values s.values kept.values s.spelled.one_each;
+  coefs = kept.coefs;
+  limits = kept.limits;
+})
+
+coef_kept : (problem : Problem) (n : ℕ) (d : ModelDraft) (line : List ℕ) (next : ModelDraft) → AddsCoef d line next → KeepsModel problem n d
+    → KeepsModel problem n next
+coef_kept problem n d line next s kept =
+    let destinations = count_in d.header.destinations in
+    let resources = count_in d.header.resources in
+    let of_blocks = subst (λ m. IsCoefLine d.problem m destinations resources (fields_of line) s.coef) kept.of_blocks s.spelled in
+    let spelled = subst (λ p. IsCoefLine p n destinations resources (fields_of line) s.coef) kept.of_problem of_blocks in
+    subst (KeepsModel problem n) s.is (record {
+      of_problem = kept.of_problem;
+      of_blocks = kept.of_blocks;
+      name = kept.name;
+      header = kept.header;
+      none_yet = λ first. absurd (behind_heading d.section Coefs s.here refl first);
+      values = kept.values;
+      coefs = record {
+        in_range = All-push (λ c. (c.b < n) × (c.d < count_in d.header.destinations) × (c.r < count_in d.header.resources)) d.coefs s.coef
+            kept.coefs.in_range (coef_in_range problem n resources d.header.destinations (fields_of line) s.coef kept.header.single spelled);
+        rising = rises_behind comes_before comes_before_through d.coefs s.coef kept.coefs.rising s.behind;
+      };
+      limits = kept.limits;
+    })
+
+limit_kept : (problem : Problem) (n : ℕ) (d : ModelDraft) (line : List ℕ) (next : ModelDraft) → AddsLimit d line next → KeepsModel problem n d
+    → KeepsModel problem n next
+limit_kept problem n d line next s kept = subst (KeepsModel problem n) s.is (record {
+  of_problem = kept.of_problem;
+  of_blocks = kept.of_blocks;
+  name = kept.name;
+  header = kept.header;
+  none_yet = λ first. absurd (behind_heading d.section Limits s.here refl first);
+  values = kept.values;
+  coefs = kept.coefs;
+  limits = record {
+    in_range = All-push (λ l. (l.resource < count_in d.header.resources) × (l.period < count_in d.header.periods) × IsUpward l.bound) d.limits
+        s.limit kept.limits.in_range (s.spelled.states_resource.below, s.spelled.states_period.below, s.spelled.upward);
+    rising = rises_behind stands_before stands_before_through d.limits s.limit kept.limits.rising s.behind;
+  };
+})
+
+step_kept : (problem : Problem) (n : ℕ) (d : ModelDraft) (line : List ℕ) (next : ModelDraft) → Step d line next → KeepsModel problem n d
+    → KeepsModel problem n next
+step_kept problem n d line next (Keyed s) kept = key_kept problem n d line next s kept
+step_kept problem n d line next (Begun s) kept = section_kept problem n d line next s kept
+step_kept problem n d line next (Valued s) kept = values_kept problem n d line next s kept
+step_kept problem n d line next (Spent s) kept = coef_kept problem n d line next s kept
+step_kept problem n d line next (Limited s) kept = limit_kept problem n d line next s kept
+
+-- what all lines together keep
+pub model_kept : (problem : Problem) (n : ℕ) (lines : List Line) (d : ModelDraft) → read_lines admit_model (blank_model problem n) lines ≡ Ok d
+    → KeepsModel problem n d
+model_kept problem n lines d e =
+    kept_by_lines (KeepsModel problem n) admit_model
+    (λ d line next says kept. step_kept problem n d line next (model_step d line next says) kept)
+    (blank_model problem n) lines d e (kept_at_first problem n)

@@ -1,0 +1,187 @@
+-- What is read is valid.
+use Rattle.std.specs.Prelude.{◌≡◌, ℕ, ◌<◌, ◌≤◌, ◌^◌, ◌==◌, ◌&&◌, ◌≤ℤ◌, true, false, not, List, [], ◌∷◌, length, ℤ, pos, Option, Some, None, is_some, Ok, map, All, AllPairs, IfSome, IsTrue}
+use Rattle.std.specs.List.{flat_map}
+use Rattle.std.proofs.Common.{refl, sym, ◌∙◌, ap, subst, arith, inl, inr, get_or, length-append}
+use Rattle.std.proofs.lemmas.Bool.{and_parts, eqb-true}
+use Rattle.std.proofs.lemmas.Bool.Decides.{nat_tests}
+use Rattle.std.proofs.lemmas.Int.{ints}
+use Rattle.std.proofs.lemmas.List.{get_or-map, length-map}
+use Rattle.std.proofs.lemmas.List.Elements.{All-head, All-tail, All-map, All-weaker}
+use Rattle.pit_model.specs.Name.{is_name}
+use Rattle.mine_instance.specs.Cpit.{AreCpitCoefs, CpitParts, IsCpit}
+use Rattle.mine_instance.specs.CpitOrder.{is_listed_before}
+use Rattle.mine_instance.specs.OfCpit.{without_destination}
+use Rattle.mine_instance.specs.Order.{comes_before}
+use Rattle.mine_instance.specs.Valid.{IsHorizon, HasDestinations, AreCoefs, AreLimits, IsValid}
+use Rattle.mine_instance.specs.declared.coef.Coef.{Coef}
+use Rattle.mine_instance.specs.declared.instance.Instance.{Instance}
+use Rattle.minelib_text.specs.BlockLines.{blocks_in}
+use Rattle.minelib_text.specs.Denotes.{instance_read, denoted, Denotes, cpit_read, cpit_denoted, DenotesCpit}
+use Rattle.minelib_text.specs.ModelLines.{ModelDraft, blank_model, is_complete, is_limits, count_in, admit_model, finish_model, model_in}
+use Rattle.minelib_text.specs.PrecLines.{preds_in}
+use Rattle.minelib_text.specs.Reading.{in_file, read_lines}
+use Rattle.minelib_text.specs.TextLines.{lines_in, end_of}
+use Rattle.minelib_text.specs.declared.model_key.Header.{Header}
+use Rattle.minelib_text.specs.declared.model_key.Problem.{Problem}
+use Rattle.minelib_text.specs.declared.model_key.Problem.TheVariants as problem
+use Rattle.minelib_text.specs.declared.text_fault.TextFile.TheVariants.{Blocks, Prec, Pcpsp, Cpit}
+use Rattle.minelib_text.specs.declared.text_fault.TextKind.TheVariants.{Missing}
+use Rattle.minelib_text.proofs.ReadSteps.{bind_then, then_ok, not_true, same_ok, in_file_ok}
+use Rattle.minelib_text.proofs.ValidBlocks.{few_blocks}
+use Rattle.minelib_text.proofs.ValidHeader.{IsSingle, KeepsName}
+use Rattle.minelib_text.proofs.ValidModel.{KeepsModel, model_kept}
+use Rattle.minelib_text.proofs.ValidPreds.{preds_are_valid}
+
+-- what a model file states, of n blocks, is as an instance has it
+pub record IsModel (problem : Problem) (n : ℕ) (d : ModelDraft) : Type 0 where
+  pub name : is_name d.name ≡ true
+  pub horizon : IsHorizon (count_in d.header.periods) (count_in d.header.resources) (pos (count_in d.header.rate))
+  pub count : length d.values ≡ n
+  pub destinations : HasDestinations (count_in d.header.destinations) d.values
+  pub single : IsSingle problem d.header.destinations
+  pub coefs : AreCoefs n (count_in d.header.destinations) (count_in d.header.resources) d.coefs
+  pub limits : AreLimits (count_in d.header.resources) (count_in d.header.periods) d.limits
+
+-- what a header with all keys has
+pub record IsComplete (name : List ℕ) (h : Header) : Type 0 where
+  pub named : (length name == 0) ≡ false
+  pub typed : h.is_typed ≡ true
+  pub counted : h.is_counted ≡ true
+  pub general : h.is_general ≡ true
+  pub periods : is_some h.periods ≡ true
+  pub destinations : is_some h.destinations ≡ true
+  pub resources : is_some h.resources ≡ true
+  pub rate : is_some h.rate ≡ true
+
+pub complete_ok : (name : List ℕ) (h : Header) → is_complete name h ≡ true → IsComplete name h
+complete_ok name h e =
+    let p7 = and_parts _ (is_some h.rate) e in
+    let p6 = and_parts _ (is_some h.resources) p7.0 in
+    let p5 = and_parts _ (is_some h.destinations) p6.0 in
+    let p4 = and_parts _ (is_some h.periods) p5.0 in
+    let p3 = and_parts _ h.is_general p4.0 in
+    let p2 = and_parts _ h.is_counted p3.0 in
+    let p1 = and_parts (not (length name == 0)) h.is_typed p2.0 in
+    record {
+      named = not_true (length name == 0) p1.0;
+      typed = p1.1;
+      counted = p2.1;
+      general = p3.1;
+      periods = p4.1;
+      destinations = p5.1;
+      resources = p6.1;
+      rate = p7.1;
+    }
+
+given_keeps : (P : ℕ → Type 0) (given : Option ℕ) → is_some given ≡ true → IfSome given P → P (count_in given)
+given_keeps P None some kept = absurd cc
+given_keeps P (Some n) some kept = kept
+
+a_name : (name : List ℕ) → (length name == 0) ≡ false → KeepsName name → is_name name ≡ true
+a_name name some (inl none) = absurd cc
+a_name name some (inr is) = is
+
+in_millionths : (rate : ℕ) → rate ≤ 10 ^ 6 → (pos 0 ≤ℤ pos rate) × (pos rate ≤ℤ pos (10 ^ 6))
+in_millionths rate most = (omega (arith, ints), omega (arith, ints))
+
+pub model_is_valid : (problem : Problem) (n : ℕ) (text : List ℕ) (d : ModelDraft) → model_in problem n text ≡ Ok d → IsModel problem n d
+model_is_valid problem n text d e =
+    bind_then (read_lines admit_model (blank_model problem n) (lines_in text)) (finish_model (end_of text)) d e (λ last of_lines e1.
+    let t = then_ok (is_complete last.name last.header && (length last.values == last.blocks) && is_limits last.section)
+    (record { line = end_of text; kind = Missing }) (Ok last) d e1 in
+    let parts = and_parts _ (is_limits last.section) t.0 in
+    let inner = and_parts (is_complete last.name last.header) (length last.values == last.blocks) parts.0 in
+    subst (IsModel problem n) (same_ok last d t.1)
+    (whole problem n last (model_kept problem n (lines_in text) last of_lines) (complete_ok last.name last.header inner.0)
+    (eqb-true (length last.values) last.blocks inner.1)))
+  where
+    whole : (problem : Problem) (n : ℕ) (last : ModelDraft) → KeepsModel problem n last → IsComplete last.name last.header
+        → length last.values ≡ last.blocks → IsModel problem n last
+    whole problem n last kept complete count =
+        record {
+          name = a_name last.name complete.named kept.name;
+          horizon = record {
+            periods_1_to_100 = given_keeps (λ p. (1 ≤ p) × (p ≤ 100)) last.header.periods complete.periods kept.header.periods;
+            at_most_8_resources = given_keeps (λ r. r ≤ 8) last.header.resources complete.resources kept.header.resources;
+            rate_0_to_1 = in_millionths (count_in last.header.rate) (given_keeps (λ r. r ≤ 10 ^ 6) last.header.rate complete.rate kept.header.rate);
+          };
+          count = count ∙ kept.of_blocks;
+          destinations = record {
+            from_1_to_8 = given_keeps (λ p. (1 ≤ p) × (p ≤ 8)) last.header.destinations complete.destinations kept.header.destinations;
+            one_each = kept.values;
+          };
+          single = kept.header.single;
+          coefs = kept.coefs;
+          limits = kept.limits;
+        }
+
+-- the instance that three texts denote is valid
+pub read_valid : (blocks prec pcpsp : List ℕ) (i : Instance) → Denotes blocks prec pcpsp i → IsValid i
+unfolding denoted
+read_valid blocks prec pcpsp i e =
+    bind_then (in_file Blocks (blocks_in blocks)) _ i e (λ all e1 rest1.
+    bind_then (in_file Prec (preds_in (length all) prec)) _ i rest1 (λ lists e2 rest2.
+    bind_then (in_file Pcpsp (model_in problem.Pcpsp (length all) pcpsp)) _ i rest2 (λ d e3 rest3.
+    let preds = preds_are_valid (length all) prec lists (in_file_ok Prec _ lists e2) in
+    let model = model_is_valid problem.Pcpsp (length all) pcpsp d (in_file_ok Pcpsp _ d e3) in
+    subst IsValid (same_ok (instance_read all lists d) i rest3) (record {
+      lengths = record { few = few_blocks blocks all (in_file_ok Blocks _ all e1); preds = preds.0; values = model.count };
+      preds = preds.1;
+      horizon = model.horizon;
+      destinations = model.destinations;
+      coefs = model.coefs;
+      limits = model.limits;
+    }))))
+
+-- one value a block
+one_each : (rows : List (List ℤ)) → All (λ values. length values ≡ 1) rows → length (flat_map (λ values. values) rows) ≡ length rows
+one_each [] each = refl
+one_each (values ∷ rows) each =
+    let here : length values ≡ 1 = All-head (λ values. length values ≡ 1) values rows each in
+    let rest = one_each rows (All-tail (λ values. length values ≡ 1) values rows each) in
+    omega (arith, length-append values (flat_map (λ values. values) rows))
+
+listed : (c e : Coef) → c.d < 1 → e.d < 1 → IsTrue (comes_before c e) → IsTrue (is_listed_before (without_destination c) (without_destination e))
+listed c e low high h = grind (arith, nat_tests)
+
+-- coefficients at the only destination
+pub cpit_coefs : (n resources : ℕ) (coefs : List Coef) → AreCoefs n 1 resources coefs → AreCpitCoefs n resources (map without_destination coefs)
+cpit_coefs n resources coefs are = record {
+  in_range = All-map (λ c. (c.b < n) × (c.r < resources)) without_destination coefs
+      (All-weaker (λ c. (c.b < n) × (c.d < 1) × (c.r < resources)) (λ c. (c.b < n) × (c.r < resources)) (λ c h. (h.0, h.2)) coefs are.in_range);
+  rising = rise;
+}
+  where
+    rise : AllPairs (λ c e. IsTrue (is_listed_before c e)) (map without_destination coefs)
+    rise i j d less within =
+        let blank : Coef = record { b = 0; d = 0; r = 0; v = pos 0 } in
+        let high : j < length coefs = omega (arith, length-map coefs without_destination) in
+        let low : i < length coefs = omega arith in
+        rw (get_or-map without_destination coefs i blank d low, get_or-map without_destination coefs j blank d high)
+        (listed (get_or coefs i blank) (get_or coefs j blank) (are.in_range i blank low).1 (are.in_range j blank high).1
+        (are.rising i j blank less high))
+
+-- what a CPIT's file states keeps what every CPIT keeps, and has one value a block
+pub cpit_is_valid : (n : ℕ) (text : List ℕ) (d : ModelDraft) → n ≤ 64000000 → model_in problem.Cpit n text ≡ Ok d
+    → IsCpit (cpit_read d) × (length (cpit_read d).values ≡ n)
+cpit_is_valid n text d few e =
+    let m = model_is_valid problem.Cpit n text d e in
+    let one : count_in d.header.destinations ≡ 1 = ap count_in m.single in
+    let each : All (λ values. length values ≡ 1) d.values = subst (λ k. All (λ values. length values ≡ k) d.values) one m.destinations.one_each in
+    let count : length (flat_map (λ values. values) d.values) ≡ n = one_each d.values each ∙ m.count in
+    let coefs : AreCoefs n 1 (count_in d.header.resources) d.coefs = subst (λ k. AreCoefs n k (count_in d.header.resources) d.coefs) one m.coefs in (
+      record {
+        few = omega arith;
+        horizon = m.horizon;
+        coefs = subst (λ k. AreCpitCoefs k (count_in d.header.resources) (map without_destination d.coefs)) (sym count)
+            (cpit_coefs n (count_in d.header.resources) d.coefs coefs);
+        limits = m.limits;
+      },
+      count,
+    )
+
+pub read_cpit_valid : (n : ℕ) (text : List ℕ) (c : CpitParts) → n ≤ 64000000 → DenotesCpit n text c → IsCpit c × (length c.values ≡ n)
+unfolding cpit_denoted
+read_cpit_valid n text c few e =
+    bind_then (in_file Cpit (model_in problem.Cpit n text)) _ c e (λ d e1 rest.
+    subst (λ c. IsCpit c × (length c.values ≡ n)) (same_ok (cpit_read d) c rest) (cpit_is_valid n text d few (in_file_ok Cpit _ d e1)))

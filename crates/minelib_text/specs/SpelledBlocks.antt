@@ -1,0 +1,30 @@
+-- How the lines of a block file spell the blocks.
+use Rattle.std.specs.Prelude.{◌≡◌, ℕ, ◌+◌, ◌*◌, ◌^◌, List, [], ◌∷◌}
+use Rattle.pit_model.specs.declared.block.Block.{Block}
+use Rattle.minelib_text.specs.SpelledFields.{StatesWhole, StatesSize}
+use Rattle.minelib_text.specs.TextLines.{Line, fields_of}
+
+-- `id x y z tonnes grade zone`: each field states its part of the block, and the first the block's identifier
+pub record IsBlockLine (n : ℕ) (fields : List (List ℕ)) (b : Block) : Type 0 where
+  pub id : List ℕ
+  pub x : List ℕ
+  pub y : List ℕ
+  pub z : List ℕ
+  pub tonnes : List ℕ
+  pub grade : List ℕ
+  pub zone : List ℕ
+  pub here : fields ≡ id ∷ x ∷ y ∷ z ∷ tonnes ∷ grade ∷ zone ∷ []
+  pub states_id : StatesWhole 64000000 id n
+  pub states_x : StatesWhole 10000 x b.x
+  pub states_y : StatesWhole 10000 y b.y
+  pub states_z : StatesWhole 10000 z b.z
+  pub states_tonnes : StatesSize 3 (10 ^ 12) tonnes (b.kg * 1000)
+  pub states_grade : StatesSize 6 (10 ^ 12) grade b.grade
+  pub states_zone : StatesWhole 64 zone b.zone
+
+-- one line a block, in order, the first of them with this identifier
+abbrev pub AreBlockLines : ℕ → List Line → List Block → Type 0
+AreBlockLines n [] [] = Unit {0}
+AreBlockLines n [] (b ∷ blocks) = ⊥
+AreBlockLines n (line ∷ lines) [] = ⊥
+AreBlockLines n (line ∷ lines) (b ∷ blocks) = IsBlockLine n (fields_of line.text) b × AreBlockLines (n + 1) lines blocks
