@@ -3,6 +3,7 @@ pub mod Count
 pub mod Denotes
 pub mod Device
 pub mod FieldValues
+pub mod FileFault
 pub mod Kept
 pub mod Lines
 pub mod Marks

@@ -1,6 +1,6 @@
 //! Reading a block file.
 
-ghost use Rattle.std.specs.Prelude.{◌≡◌, Some};
+ghost use Rattle.std.specs.Prelude.{◌≡◌, ◌≤◌, Some, length, IfOk};
 ghost use Rattle.pit_model.specs.Block.{AreInRange};
 ghost use Rattle.minelib_text.specs.BlockLines.{admit_block, block_of, block_with, blocks_in};
 ghost use Rattle.minelib_text.specs.Reading.{Gives};
@@ -91,6 +91,14 @@ fn block_with(x: u16, y: u16, z: u16, kg: u64, grade: u64, zone: u8) -> Block
 
 /// The blocks that a text states, by identifier.
 pub fn read_blocks(alloc: Global, text: &[u8]) -> Result<Blocks, FileError>
+    ensures stated { Gives result (blocks_in text.now) }
+    ensures few { IfOk result (λ blocks. length blocks ≤ 64000000) }
+{
+    let blocks = drafted(alloc, text)?;
+    Ok(blocks)
+}
+
+fn drafted(alloc: Global, text: &[u8]) -> Result<Blocks, FileError>
     ensures { Gives result (blocks_in text.now) }
 {
     let mut draft = BlockDraft {

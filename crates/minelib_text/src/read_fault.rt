@@ -4,7 +4,7 @@ ghost use Rattle.std.specs.Prelude.{◌≡◌};
 ghost use Rattle.minelib_text.specs.declared.read_fault.LineError.TheVariants as line_error;
 ghost use Rattle.minelib_text.specs.declared.read_fault.FileError.TheVariants as file_error;
 
-use crate::text_fault::{LineFault, TextKind};
+use crate::text_fault::{LineFault, ReadTextError, TextFault, TextFile, TextKind};
 use std::alloc::{AllocError, AllocFailed};
 
 /// Why a line was not taken.
@@ -47,6 +47,24 @@ pub enum FileError {
     Faulty(LineFault),
     /// Memory was refused.
     OutOfMemory,
+}
+
+impl FileError {
+    ghost use Rattle.minelib_text.specs.FileFault.{fault_in};
+
+    /// The fault of the texts of an instance, where this is the file that has it.
+    pub fn in_file(self, file: TextFile) -> ReadTextError
+        ensures { result ≡ fault_in file self }
+    {
+        match self {
+            FileError::Faulty(fault) => ReadTextError::Fault(TextFault {
+                file,
+                line: fault.line,
+                kind: fault.kind,
+            }),
+            FileError::OutOfMemory => ReadTextError::OutOfMemory,
+        }
+    }
 }
 
 impl From<LineFault> for FileError {
