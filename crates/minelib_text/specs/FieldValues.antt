@@ -1,5 +1,6 @@
 -- What the fields of a line state, left to right, each up to its first fault.
-use Rattle.std.specs.Prelude.{◌≡◌, Bor, ℕ, ◌/◌, ◌^◌, nat_lt, List, [], ◌∷◌, ◌++◌, ℤ, pos, negsuc, Result, Ok, Err, if◌then◌else◌}
+use Rattle.std.specs.Prelude.{◌≡◌, ℕ, ◌/◌, ◌^◌, nat_lt, List, [], ◌∷◌, ◌++◌, ℤ, pos, negsuc, Result, Ok, Err, if◌then◌else◌}
+use Rattle.std.specs.Borrow.{Bor}
 use Rattle.pit_units.specs.Decimal.{decimal_of}
 use Rattle.pit_units.specs.declared.fault.DecFault.{DecFault}
 use Rattle.pit_units.specs.declared.fault.DecFault.TheVariants as number_fault

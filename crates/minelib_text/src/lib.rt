@@ -1,6 +1,7 @@
 //! The MineLib texts of an instance: the sinks that take them, and their writers.
 #![tactic(auto)]
 
+mod block_reader;
 mod block_sections;
 mod count;
 mod field_values;
@@ -12,6 +13,8 @@ mod lines;
 pub mod mem_sink;
 pub mod model_key;
 mod output;
+pub mod read_fault;
+mod reading;
 mod schedule;
 pub mod sink;
 mod text;
