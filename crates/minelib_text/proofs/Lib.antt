@@ -1,3 +1,4 @@
 pub mod Cuts
 pub mod Fronts
 pub mod LineFacts
+pub mod ModelFacts

@@ -5,6 +5,7 @@ pub mod Device
 pub mod FieldValues
 pub mod Lines
 pub mod ModelLines
+pub mod ModelParts
 pub mod PrecLines
 pub mod Reading
 pub mod TextLines
