@@ -12,6 +12,7 @@ mod keys;
 mod lines;
 pub mod mem_sink;
 mod model_header;
+mod model_items;
 pub mod model_key;
 mod model_keys;
 mod output;
