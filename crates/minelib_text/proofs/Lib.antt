@@ -1,4 +1,15 @@
+pub mod BlocksBack
+pub mod CpitBack
 pub mod Cuts
 pub mod Fronts
+pub mod InstanceBack
+pub mod ItemsBack
+pub mod KeysBack
 pub mod LineFacts
+pub mod LinesBack
+pub mod MarkFacts
+pub mod ModelBack
 pub mod ModelFacts
+pub mod NumbersBack
+pub mod PlainText
+pub mod PrecBack

@@ -1,7 +1,8 @@
 //! Reading a block file.
 
-ghost use Rattle.std.specs.Prelude.{◌≡◌, ◌<◌, ◌≤◌, length, IfOk};
-ghost use Rattle.minelib_text.specs.BlockLines.{admit_block, block_of, blocks_in};
+ghost use Rattle.std.specs.Prelude.{◌≡◌, Some};
+ghost use Rattle.pit_model.specs.Block.{AreInRange};
+ghost use Rattle.minelib_text.specs.BlockLines.{admit_block, block_of, block_with, blocks_in};
 ghost use Rattle.minelib_text.specs.Reading.{Gives};
 ghost use Rattle.minelib_text.specs.TextLines.{fields_of};
 
@@ -64,21 +65,37 @@ fn block_of(line: &[u8], before: usize) -> Result<Block, TextKind>
     if id != before as u64 {
         return Err(TextKind::Order);
     }
-    Ok(Block {
-        x: x as u16,
-        y: y as u16,
-        z: z as u16,
-        kg: tonnes / 1000,
+    Ok(block_with(
+        x as u16,
+        y as u16,
+        z as u16,
+        tonnes / 1000,
         grade,
-        zone: zone as u8,
-    })
+        zone as u8,
+    ))
+}
+
+fn block_with(x: u16, y: u16, z: u16, kg: u64, grade: u64, zone: u8) -> Block
+    requires { AreInRange x y z kg grade zone }
+    ensures { block_with x y z kg grade zone ≡ Some result }
+{
+    Block {
+        x,
+        y,
+        z,
+        kg,
+        grade,
+        zone,
+    }
 }
 
 /// The blocks that a text states, by identifier.
 pub fn read_blocks(alloc: Global, text: &[u8]) -> Result<Blocks, FileError>
     ensures { Gives result (blocks_in text.now) }
 {
-    let mut draft = BlockDraft { blocks: Vec::new(alloc) };
+    let mut draft = BlockDraft {
+        blocks: Vec::new(alloc),
+    };
     read_lines(&mut draft, text)?;
     Ok(Blocks::new(draft.blocks))
 }

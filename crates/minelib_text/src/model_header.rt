@@ -1,9 +1,10 @@
 //! The header of a model file that is read.
 
-ghost use Rattle.std.specs.Prelude.{◌≡◌, ◌≤◌, ◌<◌, IfOk};
+ghost use Rattle.std.specs.Prelude.{◌≡◌, ◌≤◌, ◌<◌, true, IfOk};
 ghost use Rattle.std.specs.Str.{bytes_eq};
 ghost use Rattle.pit_model.specs.Name.{is_name};
 ghost use Rattle.minelib_text.specs.ModelLines.{blank_header, counted_in, header_with, type_text};
+ghost use Rattle.minelib_text.specs.ModelParts.{is_name_for};
 
 use crate::field_values::{size_in, whole_in};
 use crate::model_key::{Header, HeaderKey, Problem};
@@ -45,7 +46,8 @@ pub fn header_with(
     value: &[u8],
     header: Header,
 ) -> Result<Header, TextKind>
-    ensures { result ≡ header_with problem blocks key value.now header }
+    ensures value { result ≡ header_with problem blocks key value.now header }
+    ensures name { IfOk result (λ _. is_name_for key value.now ≡ true) }
 {
     match key {
         HeaderKey::Name => with_name(value, header),
@@ -60,7 +62,8 @@ pub fn header_with(
 }
 
 fn with_name(value: &[u8], header: Header) -> Result<Header, TextKind>
-    ensures { result ≡ header_with Problem.Pcpsp 0 HeaderKey.Name value.now header }
+    ensures value { result ≡ header_with Problem.Pcpsp 0 HeaderKey.Name value.now header }
+    ensures name { IfOk result (λ _. is_name value.now ≡ true) }
 {
     if is_name(value) {
         Ok(header)

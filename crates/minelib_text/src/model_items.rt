@@ -35,19 +35,19 @@ pub fn values_in(
         return Err(LineError::Faulty(TextKind::Fields));
     }
     let (b, values) = first_whole(line, blocks as u64)?;
-    row.clear();
-    put_decimals(row, values)?;
+    read_decimals(values, row)?;
     if b != before as u64 {
         return Err(LineError::Faulty(TextKind::Order));
     }
     Ok(())
 }
 
-// Appends the decimals of all fields.
-fn put_decimals(row: &mut Vec<Dec>, line: &[u8]) -> Result<(), LineError>
-    ensures value { Admits row.new.items result (all_by decimal_in row.old.items (fields_of line.now)) }
-    ensures width { OnOk result (length row.new.items ≡ length row.old.items + length (fields_of line.now)) }
+// All decimals of a line.
+fn read_decimals(line: &[u8], row: &mut Vec<Dec>) -> Result<(), LineError>
+    ensures value { Admits row.new.items result (all_by decimal_in [] (fields_of line.now)) }
+    ensures count { OnOk result (length row.new.items ≡ length (fields_of line.now)) }
 {
+    row.clear();
     let mut rest = line;
     while let Some((field, behind)) = next_field(rest) {
         row.push(decimal_in(field)?)?;

@@ -56,3 +56,11 @@ impl From<LineFault> for FileError {
         FileError::Faulty(fault)
     }
 }
+
+impl From<AllocError> for FileError {
+    ghost from_gives = { λ _ error. error ≡ file_error.OutOfMemory };
+
+    fn from(_refusal: AllocError) -> FileError {
+        FileError::OutOfMemory
+    }
+}

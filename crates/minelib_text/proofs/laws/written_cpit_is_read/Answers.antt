@@ -1,0 +1,5 @@
+use Rattle.minelib_text.proofs.CpitBack.{written_cpit_again}
+use Rattle.minelib_text.proofs.laws.written_cpit_is_read.Goals as goal
+
+pub returns : goal.returns
+returns c = written_cpit_again
