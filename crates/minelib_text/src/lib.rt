@@ -18,6 +18,7 @@ mod model_header;
 mod model_items;
 pub mod model_key;
 mod model_keys;
+mod model_reader;
 mod output;
 mod prec_reader;
 pub mod read_fault;

@@ -1,7 +1,10 @@
 //! A model file while its lines are read.
 
-ghost use Rattle.std.specs.Prelude.{◌≡◌, ◌≤◌, ◌<◌, ◌==◌, ◌&&◌, [], true, false, not, length, is_some, unwrap_or, IfOk, IfSome};
-ghost use Rattle.minelib_text.specs.ModelLines.{admit_coef, admit_header, admit_item, admit_key, admit_limit, admit_model, admit_section, admit_values, blank_model, finish_model, is_complete, is_given, is_heading, is_limits, is_ready, model_in, name_with};
+ghost use Rattle.std.specs.Prelude.{◌≡◌, ◌≤◌, ◌<◌, ◌==◌, ◌&&◌, [], true, false, not, length, map, is_some, unwrap_or, IfOk, IfSome};
+ghost use Rattle.mine_instance.specs.Cpit.{IsCpit};
+ghost use Rattle.mine_instance.specs.OfCpit.{without_destination};
+ghost use Rattle.minelib_text.specs.Denotes.{cpit_read, instance_read};
+ghost use Rattle.minelib_text.specs.ModelLines.{admit_coef, admit_header, admit_item, admit_key, admit_limit, admit_model, admit_section, admit_values, blank_model, finish_model, is_complete, is_given, is_heading, is_limits, is_ready, name_with};
 ghost use Rattle.minelib_text.specs.ModelParts.{are_given, is_name_for};
 ghost use Rattle.minelib_text.specs.Reading.{Admits, Gives};
 ghost use Rattle.minelib_text.specs.TextLines.{fields_of};
@@ -11,16 +14,19 @@ use crate::model_items::{coef_of, is_coef_behind, is_limit_behind, limit_of, val
 use crate::model_key::{Header, HeaderKey, ModelKey, Problem, Section};
 use crate::model_keys::{cut_at_colon, is_heading, is_limits, is_next, key_of, only_value};
 use crate::read_fault::{FileError, LineError};
-use crate::reading::{Admit, read_lines};
+use crate::reading::Admit;
 use crate::text_fault::{LineFault, TextKind};
 use crate::text_fields::count_fields;
+use mine_instance::blocks::Blocks;
 use mine_instance::coef::{Coef, Coefs};
+use mine_instance::cpit::{Cpit, CpitCoef};
 use mine_instance::instance::Instance;
 use mine_instance::limits::Limits;
 use mine_instance::values::Values;
 use pit_model::limit::Limit;
 use pit_model::name::Name;
 use pit_units::Dec;
+use precedence::Preds;
 use std::alloc::{AllocError, Global};
 use std::marker::Model;
 
@@ -55,6 +61,7 @@ impl Model for ModelDraft {
 impl Admit for ModelDraft {
     ghost admit_line = { admit_model };
 
+    #[tactic(auto, unfolding(crate::specs::ModelLines::admit_model))]
     fn admit(&mut self, line: &[u8]) -> Result<(), LineError> {
         match cut_at_colon(line) {
             Some((word, values)) => self.admit_key(key_of(self.problem, word), values),
@@ -64,8 +71,8 @@ impl Admit for ModelDraft {
 }
 
 impl ModelDraft {
-    // Before the first line.
-    fn new(alloc: Global, problem: Problem, blocks: usize) -> ModelDraft
+    /// Before the first line.
+    pub fn new(alloc: Global, problem: Problem, blocks: usize) -> ModelDraft
         requires { blocks ≤ 64000000 }
         ensures { result ≡ blank_model problem blocks }
     {
@@ -83,8 +90,8 @@ impl ModelDraft {
         }
     }
 
-    // The draft, once all lines are read and `end` is the number of the line after the last.
-    fn finish(self, end: u64) -> Result<ModelDraft, FileError>
+    /// The draft, once all lines are read and `end` is the number of the line after the last.
+    pub fn finish(self, end: u64) -> Result<ModelDraft, FileError>
         ensures value { Gives result (finish_model end self) }
         ensures complete { IfOk result (λ d. is_complete d.name d.header ≡ true) }
     {
@@ -96,6 +103,45 @@ impl ModelDraft {
                 kind: TextKind::Missing,
             }))
         }
+    }
+
+    /// The instance of this file, and of blocks and predecessors.
+    pub fn into_instance(self, blocks: Blocks, preds: Preds) -> Instance
+        requires { is_complete self.name self.header ≡ true }
+        ensures { result ≡ instance_read blocks preds self }
+    {
+        let rate = self.header.rate.unwrap_or(0);
+        Instance {
+            name: self.name.unwrap(),
+            rate: Dec::new(i128::from(rate)).unwrap(),
+            periods: self.header.periods.unwrap_or(0),
+            destinations: self.header.destinations.unwrap_or(0),
+            resources: self.header.resources.unwrap_or(0),
+            blocks,
+            preds,
+            values: self.values,
+            coefs: Coefs::new(self.coefs),
+            limits: Limits::new(self.limits),
+        }
+    }
+
+    /// The CPIT of this file. Fails only where memory is refused.
+    pub fn into_cpit(self) -> Result<Cpit, AllocError>
+        requires complete { is_complete self.name self.header ≡ true }
+        requires cpit { IsCpit (cpit_read self) }
+        ensures { IfOk result (λ cpit. cpit ≡ cpit_read self) }
+    {
+        let coefs = without_destinations(self.alloc, self.coefs.as_slice())?;
+        let rate = self.header.rate.unwrap_or(0);
+        Ok(Cpit::new(
+            self.name.unwrap(),
+            Dec::new(i128::from(rate)).unwrap(),
+            self.header.periods.unwrap_or(0),
+            self.header.resources.unwrap_or(0),
+            self.values.into_flat(),
+            coefs,
+            self.limits,
+        ))
     }
 
     fn is_whole(&self) -> bool
@@ -238,6 +284,18 @@ impl ModelDraft {
     }
 }
 
+// The coefficients of a CPIT, whose one destination is not named.
+fn without_destinations(alloc: Global, coefs: &[Coef]) -> Result<Vec<CpitCoef>, AllocError>
+    ensures { IfOk result (λ of_cpit. of_cpit.items ≡ map without_destination coefs.now) }
+{
+    let mut of_cpit = Vec::with_capacity(alloc, coefs.len())?;
+    for coef in coefs {
+        let (b, r, v) = (coef.b, coef.r, coef.v);
+        of_cpit.push(CpitCoef { b, r, v })?;
+    }
+    Ok(of_cpit)
+}
+
 fn are_given(header: &Header) -> bool
     ensures { result ≡ are_given header.now }
 {
@@ -273,20 +331,4 @@ fn name_with(
         HeaderKey::General => Ok(name),
         HeaderKey::Rate => Ok(name),
     }
-}
-
-/// What the model file of a problem states, of so many blocks.
-pub fn read_model(
-    alloc: Global,
-    problem: Problem,
-    blocks: usize,
-    text: &[u8],
-) -> Result<ModelDraft, FileError>
-    requires { blocks ≤ 64000000 }
-    ensures value { Gives result (model_in problem blocks text.now) }
-    ensures complete { IfOk result (λ d. is_complete d.name d.header ≡ true) }
-{
-    let mut draft = ModelDraft::new(alloc, problem, blocks);
-    let end = read_lines(&mut draft, text)?;
-    draft.finish(end)
 }
