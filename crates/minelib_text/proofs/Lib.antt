@@ -11,6 +11,7 @@ pub mod LineFacts
 pub mod LinesBack
 pub mod MarkFacts
 pub mod ModelBack
+pub mod ModelFacts
 pub mod ModelSteps
 pub mod NumbersBack
 pub mod PlainText

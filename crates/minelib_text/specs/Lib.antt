@@ -8,6 +8,8 @@ pub mod Kept
 pub mod Lines
 pub mod Marks
 pub mod ModelLines
+pub mod ModelParts
+pub mod ModelView
 pub mod PrecLines
 pub mod Reading
 pub mod SpelledBlocks
