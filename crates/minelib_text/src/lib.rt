@@ -7,6 +7,7 @@ mod count;
 mod field_values;
 mod fields;
 mod files;
+mod instance_reader;
 mod item_lines;
 mod keys;
 pub mod laws;
@@ -32,4 +33,5 @@ mod text_lines;
 pub mod write_fault;
 mod writers;
 
+pub use instance_reader::{read_cpit, read_instance};
 pub use writers::{write_blocks, write_cpit, write_pcpsp, write_prec, write_upit};
