@@ -1,6 +1,6 @@
 -- Which instance MineLib texts denote, and which constrained pit limit problem its text.
 use Rattle.std.specs.Prelude.{◌≡◌, ℕ, List, length, map, pos, Result, Ok, Err}
-use Rattle.std.specs.List.{concat}
+use Rattle.std.specs.List.{flat_map}
 use Rattle.pit_model.specs.declared.block.Block.{Block}
 use Rattle.mine_instance.specs.Cpit.{CpitParts, cpit_of}
 use Rattle.mine_instance.specs.OfCpit.{without_destination}
@@ -36,7 +36,7 @@ Denotes blocks prec pcpsp i = denoted blocks prec pcpsp ≡ Ok i
 -- the constrained pit limit problem of what its file states: one value a block
 abbrev pub cpit_read : ModelDraft → CpitParts
 cpit_read d =
-    cpit_of d.name (pos (count_in d.header.rate)) (count_in d.header.periods) (count_in d.header.resources) (concat d.values)
+    cpit_of d.name (pos (count_in d.header.rate)) (count_in d.header.periods) (count_in d.header.resources) (flat_map (λ values. values) d.values)
     (map without_destination d.coefs) d.limits
 
 -- the constrained pit limit problem of n blocks that a text denotes, or its first faulty line

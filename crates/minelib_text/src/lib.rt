@@ -4,6 +4,7 @@
 mod block_sections;
 mod count;
 mod fields;
+pub mod file_sink;
 mod files;
 mod item_lines;
 mod keys;
