@@ -7,8 +7,11 @@ ghost use Rattle.std.specs.Prelude.{◌≡◌, ◌≤◌, ◌^◌};
 ghost use Rattle.pit_model.specs.Plan.{IsRuled};
 ghost use Rattle.pit_model.specs.Worth.{worth, mill, dump};
 
+pub mod command_line;
 pub mod fault_line;
 pub mod input;
+pub mod job;
+pub mod jobs;
 pub mod laws;
 pub mod model;
 pub mod numbered;
