@@ -6,6 +6,7 @@ mod block_sections;
 mod count;
 mod field_values;
 mod fields;
+pub mod file_sink;
 mod files;
 mod instance_reader;
 mod item_lines;

@@ -1,14 +1,20 @@
 //! `pitc` turns the block models of an open pit mine into a MineLib instance.
 //!
-//! It reads a plan and its zone files from standard input, cut at lines `--`, and writes the instance to standard output.
+//! With no words it reads a plan and its zone files from standard input, cut at lines `--`, and writes the instance to standard
+//! output. `pitc check BASE` reads the files of an instance and prints its counts.
 #![tactic(auto)]
 
 ghost use Rattle.std.specs.Prelude.{◌≡◌, ◌≤◌, ◌^◌};
 ghost use Rattle.pit_model.specs.Plan.{IsRuled};
 ghost use Rattle.pit_model.specs.Worth.{worth, mill, dump};
 
+pub mod check;
+pub mod check_fault;
+pub mod command_line;
 pub mod fault_line;
 pub mod input;
+pub mod job;
+pub mod jobs;
 pub mod laws;
 pub mod model;
 pub mod numbered;
@@ -21,18 +27,29 @@ pub mod rows;
 pub mod settings;
 pub mod status;
 
+use crate::check::check_files;
 use crate::fault_line::refusal_line;
+use crate::job::job;
+use crate::jobs::{Job, JobFault};
 use crate::model::read_model;
 use crate::pipe_form::pipe;
-use crate::status::{RESOURCES, finish};
+use crate::status::{RESOURCES, USAGE, finish};
 use pit_model::block::Block;
 use pit_model::destination::{Destination, Valuer};
 use pit_model::formula::Formula;
 use pit_model::worth::{dump_worth, mill_worth};
+use std::alloc::Global;
 use std::process::ExitCode;
+use std::{env, io};
 
 fn main(rt: HostRuntime) -> ExitCode {
     let alloc = rt.alloc();
+    let Ok(words) = words_of(&rt, alloc) else {
+        return finish(&rt.stdout(), &rt.stderr(), RESOURCES, &[], &[]);
+    };
+    if words.len() > 1 {
+        return run_job(&rt, alloc, words.as_slice());
+    }
     let mut lines = Vec::new(alloc);
     let mut text = Vec::new(alloc);
     let model = match read_model(&rt, alloc, &mut lines) {
@@ -157,4 +174,43 @@ fn main(rt: HostRuntime) -> ExitCode {
         text.as_slice(),
         lines.as_slice(),
     )
+}
+
+// The words of the command line, the program's name first.
+fn words_of(rt: &HostRuntime, alloc: Global) -> io::Result<Vec<String>> {
+    Ok(env::args(rt)?.collect(alloc)?)
+}
+
+// Does the job that the words state.
+fn run_job(rt: &HostRuntime, alloc: Global, words: &[String]) -> ExitCode {
+    let mut text = Vec::new(alloc);
+    let mut lines = Vec::new(alloc);
+    let status = match job(alloc, words) {
+        Ok(Job::Check { base }) => { check_files(rt, alloc, base.as_str(), &mut text, &mut lines) }
+        Err(JobFault::Line(error)) => show(alloc, &error, &mut text, &mut lines),
+        Err(JobFault::OutOfMemory) => RESOURCES,
+    };
+    finish(
+        &rt.stdout(),
+        &rt.stderr(),
+        status,
+        text.as_slice(),
+        lines.as_slice(),
+    )
+}
+
+// Leaves help for standard output, and the text of a refused line for standard error.
+fn show(alloc: Global, error: &clap::Error, text: &mut Vec<u8>, lines: &mut Vec<u8>) -> u8 {
+    let Ok(words) = format!(in alloc; "{error}") else {
+        return RESOURCES;
+    };
+    let (appended, status) = if error.use_stderr() {
+        (lines.extend_from_slice(words.as_bytes()), USAGE)
+    } else {
+        (text.extend_from_slice(words.as_bytes()), 0)
+    };
+    match appended {
+        Ok(()) => status,
+        Err(_) => RESOURCES,
+    }
 }

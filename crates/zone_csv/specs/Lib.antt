@@ -1,4 +1,5 @@
 pub mod Cell
+pub mod Count
 pub mod Faults
 pub mod Feed
 pub mod Header

@@ -3,7 +3,9 @@
 
 mod cell;
 mod columns;
+mod count;
 pub mod feed;
+pub mod file_feed;
 pub mod laws;
 pub mod mem_feed;
 mod row;

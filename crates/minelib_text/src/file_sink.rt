@@ -1,0 +1,133 @@
+//! A file as a sink.
+
+ghost use Rattle.std.specs.Prelude.{◌≡◌, ◌<◌, ◌≤◌, None, false, is_some, length, IfOk};
+ghost use Rattle.minelib_text.specs.Count.{count_of};
+
+use crate::count::{Count, raised};
+use crate::sink::{Sink, SinkFault};
+use std::alloc::{AllocError, Global};
+use std::fs::File;
+use std::io::{ErrorKind, Write};
+use std::rt::Files;
+
+/// A sink whose bytes go to the file at its path. It does not tell which it took. No call but `new` takes memory.
+#[derive(Drop)]
+pub struct FileSink<'a, R: Files> {
+    rt: &'a R,
+    path: String,
+    file: Option<R::File>,
+    failures: Count,
+}
+
+impl<'a, R: Files> FileSink<'a, R> {
+    /// A sink for the file at this path. It is not begun: the file is left alone, and need not be there.
+    ///
+    /// # Errors
+    ///
+    /// Memory for the path was refused.
+    pub fn new(rt: &'a R, alloc: Global, path: &str) -> Result<FileSink<'a, R>, AllocError>
+        ensures begun { IfOk result (λ sink. ⟦<FileSink<'a, R> as Sink>⟧.is_begun sink ≡ false) }
+        ensures taken { IfOk result (λ sink. ⟦<FileSink<'a, R> as Sink>⟧.taken sink ≡ None) }
+        ensures failures { IfOk result (λ sink. ⟦<FileSink<'a, R> as Sink>⟧.failures sink ≡ 0) }
+    {
+        Ok(FileSink {
+            rt,
+            path: String::from_str(alloc, path)?,
+            file: None,
+            failures: Count::Zero,
+        })
+    }
+}
+
+impl<'a, R: Files> Sink for FileSink<'a, R> {
+    ghost is_begun = { λ s. is_some s.file };
+
+    ghost taken = { λ _. None };
+
+    ghost failures = { λ s. count_of s.failures };
+
+    /// Creates the file, or empties the one that is there.
+    ///
+    /// # Errors
+    ///
+    /// The file cannot be created. The sink is as it was.
+    fn begin(&mut self) -> Result<(), SinkFault> {
+        match File::create(self.rt, self.path.as_str()) {
+            Ok(file) => {
+                self.file = Some(file);
+                Ok(())
+            }
+            Err(_) => {
+                self.failures = raised(&self.failures);
+                Err(SinkFault)
+            }
+        }
+    }
+
+    /// Writes what one write to the file takes. A write that a signal interrupts is tried again.
+    ///
+    /// # Errors
+    ///
+    /// The sink was not begun, or the file takes no byte.
+    fn put(&mut self, bytes: &[u8]) -> Result<usize, SinkFault> {
+        let written = match &mut self.file {
+            Some(file) => write_some(file, bytes),
+            None => Err(SinkFault),
+        };
+        if written.is_err() {
+            self.failures = raised(&self.failures);
+        }
+        written
+    }
+}
+
+// One write that no signal interrupts. A file that takes no byte where there is one is full.
+fn write_some<F: Write>(file: &mut F, bytes: &[u8]) -> Result<usize, SinkFault>
+    ensures within { IfOk result (λ count. count ≤ length bytes.now) }
+    ensures some { IfOk result (λ count. 0 < length bytes.now → 0 < count) }
+{
+    for _ in 0..u64::MAX {
+        match file.write(bytes) {
+            Ok(0) if !bytes.is_empty() => return Err(SinkFault),
+            Ok(count) => return Ok(count),
+            Err(error) if error.kind() == ErrorKind::Interrupted => {}
+            Err(_) => return Err(SinkFault),
+        }
+    }
+    Err(SinkFault)
+}
+
+#[cfg(test)]
+mod tests {
+    use super::*;
+    use std::fs;
+    use std::test::Fail;
+
+    // What the file at this path holds.
+    fn held(rt: &HostRuntime, path: &str) -> Result<String, Fail> {
+        Ok(fs::read_to_string(rt, path)?)
+    }
+
+    #[test]
+    fn the_file_holds_what_was_put(rt: HostRuntime) -> Result<(), Fail> {
+        let path = "the_file_holds_what_was_put.txt";
+        fs::write(&rt, path, "an older and longer text\n")?;
+        let mut sink = FileSink::new(&rt, rt.alloc(), path)?;
+        assert!(rt; held(&rt, path)?.as_str() == "an older and longer text\n");
+        sink.begin()?;
+        assert_eq!(rt; sink.put(b"0 0 0\n")?, 6);
+        assert_eq!(rt; sink.put(b"1 0\n")?, 4);
+        assert!(rt; held(&rt, path)?.as_str() == "0 0 0\n1 0\n");
+        fs::remove_file(&rt, path)?;
+        Ok(())
+    }
+
+    #[test]
+    fn no_file_takes_nothing(rt: HostRuntime) -> Result<(), Fail> {
+        let mut sink = FileSink::new(&rt, rt.alloc(), "no/such/folder/file")?;
+        assert!(rt; sink.put(b"0").is_err());
+        assert!(rt; sink.begin().is_err());
+        assert!(rt; sink.put(b"0").is_err());
+        Ok(())
+    }
+}

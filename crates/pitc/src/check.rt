@@ -1,0 +1,138 @@
+//! The check of the files of an instance.
+
+ghost use Rattle.std.specs.Prelude.{◌≡◌, ◌≢◌, ◌++◌, ℕ, List};
+ghost use Rattle.pitc.specs.FaultLine.{AppendsLine};
+
+use crate::check_fault::CheckFault;
+use crate::fault_line::append_line;
+use crate::status::{DEVICE, REFUSED, RESOURCES};
+use minelib_text::text_fault::TextFile;
+use minelib_text::{read_cpit, read_instance};
+use std::alloc::Global;
+use std::rt::Files;
+use zone_csv::file_feed::FileFeed;
+use zone_csv::slurp::{GREATEST_LIMIT, SlurpFault, slurp};
+
+#[cfg(test)]
+mod tests;
+
+// The texts of an instance, and that of its constrained pit limit problem where there is one.
+#[derive(Drop)]
+struct Texts {
+    blocks: Vec<u8>,
+    prec: Vec<u8>,
+    pcpsp: Vec<u8>,
+    cpit: Option<Vec<u8>>,
+}
+
+/// Reads `BASE.blocks`, `BASE.prec` and `BASE.pcpsp`, then `BASE.cpit` if it can be opened, and then their texts. Appends the line of
+/// their counts to `out`, or the line of the first fault to `err`, and answers the status that the program ends with.
+///
+/// Only one of the two vectors grows. For want of memory the status is that of memory, and both are as they were.
+pub fn check_files<R: Files>(
+    rt: &R,
+    alloc: Global,
+    base: &str,
+    out: &mut Vec<u8>,
+    err: &mut Vec<u8>,
+) -> u8
+    ensures done { result ≡ 0 → (line : List ℕ) × (out.new.items ≡ out.old.items ++ line) }
+    ensures quiet { result ≡ 0 → err.new.items ≡ err.old.items }
+    ensures refused { result ≢ 0 → out.new.items ≡ out.old.items }
+    ensures told { result ≢ 0 → result ≢ 4 → AppendsLine err.old.items err.new.items }
+    ensures memory { result ≡ 4 → err.new.items ≡ err.old.items }
+{
+    match checked(rt, alloc, base) {
+        Ok(line) => match out.extend_from_slice(line.as_bytes()) {
+            Ok(()) => 0,
+            Err(_) => RESOURCES,
+        },
+        Err(fault) => refuse(alloc, fault, err),
+    }
+}
+
+// Appends the line of a fault, and answers its status.
+fn refuse(alloc: Global, fault: CheckFault, lines: &mut Vec<u8>) -> u8
+    ensures status { result ≢ 0 }
+    ensures told { result ≢ 4 → AppendsLine lines.old.items lines.new.items }
+    ensures memory { result ≡ 4 → lines.new.items ≡ lines.old.items }
+{
+    let status = match fault {
+        CheckFault::FeedFailed(_) => DEVICE,
+        CheckFault::TooLong(_) | CheckFault::Text(_) => REFUSED,
+        CheckFault::OutOfMemory => return RESOURCES,
+    };
+    let Ok(words) = format!(in alloc; "{fault}") else {
+        return RESOURCES;
+    };
+    match append_line(alloc, words.as_str(), lines) {
+        Ok(()) => status,
+        Err(_) => RESOURCES,
+    }
+}
+
+// The line of the counts of the files.
+fn checked<R: Files>(rt: &R, alloc: Global, base: &str) -> Result<String, CheckFault> {
+    let texts = Texts {
+        blocks: text_of(rt, alloc, base, TextFile::Blocks)?,
+        prec: text_of(rt, alloc, base, TextFile::Prec)?,
+        pcpsp: text_of(rt, alloc, base, TextFile::Pcpsp)?,
+        cpit: text_if_there(rt, alloc, base, TextFile::Cpit)?,
+    };
+    counts_line(alloc, &texts)
+}
+
+fn text_of<R: Files>(
+    rt: &R,
+    alloc: Global,
+    base: &str,
+    file: TextFile,
+) -> Result<Vec<u8>, CheckFault> {
+    match text_if_there(rt, alloc, base, file)? {
+        Some(text) => Ok(text),
+        None => Err(CheckFault::FeedFailed(file)),
+    }
+}
+
+// The text of a file, or `None` where it cannot be opened.
+fn text_if_there<R: Files>(
+    rt: &R,
+    alloc: Global,
+    base: &str,
+    file: TextFile,
+) -> Result<Option<Vec<u8>>, CheckFault> {
+    let path = format!(in alloc; "{base}.{file}")?;
+    let Ok(mut feed) = FileFeed::open(rt, path.as_str()) else {
+        return Ok(None);
+    };
+    match slurp(alloc, &mut feed, GREATEST_LIMIT) {
+        Ok(text) => Ok(Some(text)),
+        Err(SlurpFault::FeedFailed) => Err(CheckFault::FeedFailed(file)),
+        Err(SlurpFault::TooLong) => Err(CheckFault::TooLong(file)),
+        Err(SlurpFault::OutOfMemory) => Err(CheckFault::OutOfMemory),
+    }
+}
+
+fn counts_line(alloc: Global, texts: &Texts) -> Result<String, CheckFault> {
+    let instance = read_instance(
+        alloc,
+        texts.blocks.as_slice(),
+        texts.prec.as_slice(),
+        texts.pcpsp.as_slice(),
+    )?;
+    let blocks = instance.blocks_len();
+    let arcs = instance.arcs();
+    let coefs = instance.coefs_len();
+    let limits = instance.limits_len();
+    let counts = format!(in alloc;
+        "blocks {blocks} arcs {arcs} coefficients {coefs} limits {limits}"
+    )?;
+    match &texts.cpit {
+        None => Ok(format!(in alloc; "{counts}\n")?),
+        Some(text) => {
+            let cpit = read_cpit(alloc, blocks, text.as_slice())?;
+            let coefs = cpit.coefs_len();
+            Ok(format!(in alloc; "{counts} cpit {coefs}\n")?)
+        }
+    }
+}

@@ -1,0 +1,114 @@
+//! A file as a feed.
+
+ghost use Rattle.std.specs.Prelude.{◌≡◌, ◌≤◌, None, false, length, IfOk};
+ghost use Rattle.zone_csv.specs.Count.{count_of};
+
+use crate::count::{Count, raised};
+use crate::feed::{Feed, FeedFault};
+use std::fs::File;
+use std::io::{ErrorKind, Read};
+use std::rt::Files;
+
+/// A feed of an open file, from the byte where the file stands. It does not tell its bytes in advance, and any pull may fail. It
+/// takes no memory.
+#[derive(Drop)]
+pub struct FileFeed<F> {
+    file: F,
+    given: Count,
+    failures: Count,
+}
+
+impl<F: Read + Drop> FileFeed<F> {
+    /// A feed of the file at this path, from its first byte.
+    ///
+    /// # Errors
+    ///
+    /// The file cannot be opened. Where a folder can be opened, each pull of it fails.
+    pub fn open<R: Files<File = F>>(rt: &R, path: &str) -> Result<FileFeed<F>, FeedFault>
+        ensures left { IfOk result (λ feed. ⟦<FileFeed<F> as Feed>⟧.left feed ≡ None) }
+        ensures given { IfOk result (λ feed. ⟦<FileFeed<F> as Feed>⟧.given feed ≡ 0) }
+        ensures failures { IfOk result (λ feed. ⟦<FileFeed<F> as Feed>⟧.failures feed ≡ 0) }
+        ensures unsure { IfOk result (λ feed. ⟦<FileFeed<F> as Feed>⟧.is_sure feed ≡ false) }
+    {
+        match File::open(rt, path) {
+            Ok(file) => Ok(FileFeed {
+                file,
+                given: Count::Zero,
+                failures: Count::Zero,
+            }),
+            Err(_) => Err(FeedFault),
+        }
+    }
+}
+
+impl<F: Read + Drop> Feed for FileFeed<F> {
+    ghost left = { λ _. None };
+
+    ghost given = { λ f. count_of f.given };
+
+    ghost failures = { λ f. count_of f.failures };
+
+    ghost is_sure = { λ _. false };
+
+    /// Gives what one read of the file gives. A read that a signal interrupts is tried again.
+    fn pull(&mut self, buffer: &mut [u8]) -> Result<usize, FeedFault> {
+        match read_some(&mut self.file, buffer) {
+            Ok(count) => {
+                self.given = raised(&self.given, count);
+                Ok(count)
+            }
+            Err(fault) => {
+                self.failures = raised(&self.failures, 1);
+                Err(fault)
+            }
+        }
+    }
+}
+
+// One read that no signal interrupts.
+fn read_some<F: Read>(file: &mut F, buffer: &mut [u8]) -> Result<usize, FeedFault>
+    ensures { IfOk result (λ count. count ≤ length buffer.old) }
+{
+    for _ in 0..u64::MAX {
+        match file.read(buffer) {
+            Ok(count) => return Ok(count),
+            Err(error) if error.kind() == ErrorKind::Interrupted => {}
+            Err(_) => return Err(FeedFault),
+        }
+    }
+    Err(FeedFault)
+}
+
+#[cfg(test)]
+mod tests {
+    use super::*;
+    use crate::slurp::{SlurpFault, slurp};
+    use std::fs;
+    use std::test::Fail;
+
+    // What is read of the file at this path, up to a hundred bytes.
+    fn read(rt: &HostRuntime, path: &str) -> Result<Result<Vec<u8>, SlurpFault>, FeedFault> {
+        let mut feed = FileFeed::open(rt, path)?;
+        Ok(slurp(rt.alloc(), &mut feed, 100))
+    }
+
+    #[test]
+    fn a_file_comes_whole(rt: HostRuntime) -> Result<(), Fail> {
+        let path = "a_file_comes_whole.txt";
+        fs::write(&rt, path, "x,y,z,tonnes,grade\n")?;
+        let text = read(&rt, path)??;
+        assert!(rt; text.as_slice() == b"x,y,z,tonnes,grade\n".as_slice());
+        fs::remove_file(&rt, path)?;
+        Ok(())
+    }
+
+    #[test]
+    fn what_is_no_file_is_refused(rt: HostRuntime) {
+        assert!(rt; read(&rt, "no/such/file") == Err(FeedFault));
+        // The folder of this test.
+        match read(&rt, ".") {
+            Ok(read) => assert!(rt; read == Err(SlurpFault::FeedFailed)),
+            Err(FeedFault) => {}
+        }
+    }
+}
