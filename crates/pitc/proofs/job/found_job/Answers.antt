@@ -1,6 +1,6 @@
-use Rattle.std.proofs.Common.{rules, codes, sym, option_map, Some, List, ℕ, string_bytes, ◌≡◌, ◌∙◌}
+use Rattle.std.proofs.Common.{rules, codes, sym, option_map, Some, List, string_bytes, ◌≡◌, ◌∙◌}
 use Rattle.clap.proofs.WalkLemmas.{first_value-rows}
-use Rattle.clap.specs.Words.{Row, Text, first_of, first_value, found_of, rows_of, subcommand_name_of, subcommand_rows_of}
+use Rattle.clap.specs.Words.{Row, Text, first_value, found_of, rows_of, subcommand_name_of, subcommand_rows_of}
 use Rattle.pitc.proofs.FoundJob.{found_together}
 use Rattle.pitc.proofs.job.found_job.Goals as goal
 
