@@ -8,5 +8,6 @@ pub mod LineFacts
 pub mod LinesBack
 pub mod ModelBack
 pub mod NumbersBack
+pub mod Places
 pub mod PlainText
 pub mod PrecBack
