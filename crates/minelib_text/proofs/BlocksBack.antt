@@ -1,5 +1,5 @@
 -- Blocks are read from their text as they are.
-use Rattle.std.proofs.Common.{◌≡◌, ℕ, ◌*◌, ◌/◌, ◌^◌, ◌<◌, ◌≤◌, Bool, true, false, List, [], ◌∷◌, length, pos, arith, refl, ap, length-append}
+use Rattle.std.proofs.Common.{◌≡◌, ℕ, ◌*◌, ◌/◌, ◌^◌, ◌<◌, ◌≤◌, Bool, true, false, List, [], length, pos, arith, refl, ap}
 use Rattle.std.specs.Prelude.{Some, Ok}
 use Rattle.std.proofs.Math.Bridge.{le_prop}
 use Rattle.std.proofs.lemmas.Bool.{lt-ltb, le-leb, eq-eqb}
@@ -9,6 +9,7 @@ use Rattle.minelib_text.specs.Lines.{text_of, lines_from}
 use Rattle.minelib_text.specs.Written.{block_fields}
 use Rattle.minelib_text.proofs.LinesBack.{AdmitsEach, items_admitted, text_read}
 use Rattle.minelib_text.proofs.NumbersBack.{decimal_field, whole_field, whole_again, size_again}
+use Rattle.minelib_text.proofs.Places.{is_place}
 use Rattle.minelib_text.proofs.PlainText.{AreFields, fields_again, fields_line}
 
 -- a block's fields are in range
@@ -94,7 +95,7 @@ block_again n b few =
 -- each block's line is admitted behind those of the blocks before it
 each_block : (blocks : List Block) → length blocks ≤ 64000000 → AdmitsEach admit_block block_fields (λ done. done) blocks
 each_block blocks few done b rest whole =
-    let place : length done < 64000000 = omega (arith, ap length whole, length-append done (b ∷ rest)) in
+    let place : length done < 64000000 = omega (arith, is_place blocks done b rest whole) in
     let fields = block_line (length done) b place in
     (fields_line _ fields, rw (fields_again _ fields, block_again (length done) b place) refl)
 

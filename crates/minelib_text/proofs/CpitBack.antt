@@ -48,7 +48,10 @@ coefs_of c is = record {
       (λ k d within. let range = is.coefs.in_range k d within in (range.0, omega arith, range.1));
   rising = λ i j d before within.
       let inside : j < length c.coefs = omega (arith, length-map c.coefs with_destination) in
-      rw (get_or-map with_destination c.coefs i (without_destination d) d (omega arith), get_or-map with_destination c.coefs j (without_destination d) d inside)
+      rw (
+        get_or-map with_destination c.coefs i (without_destination d) d (omega arith),
+        get_or-map with_destination c.coefs j (without_destination d) d inside,
+      )
       (is.coefs.rising i j (without_destination d) before inside);
 }
 
@@ -63,7 +66,8 @@ model_of c is kept = record {
   one_each = All-map (λ vs. length vs ≡ 1) alone c.values (λ k d within. refl);
   are_coefs = coefs_of c is;
   are_limits = is.limits;
-  values_kept = All-map (λ vs. All IsDecimal vs) alone c.values (λ k d within. All-cons IsDecimal _ [] (kept.values k d within) (All-nil IsDecimal));
+  values_kept = All-map (λ vs. All IsDecimal vs) alone c.values
+      (λ k d within. All-cons IsDecimal _ [] (kept.values k d within) (All-nil IsDecimal));
   coefs_kept = All-map (λ e. IsDecimal e.v) with_destination c.coefs kept.coefs;
   limits_kept = kept.limits;
 }

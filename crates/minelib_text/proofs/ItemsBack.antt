@@ -1,8 +1,7 @@
 -- The items of a model file's sections are read as they are written.
-use Rattle.std.proofs.Common.{◌≡◌, ℕ, ◌+◌, ◌-◌, ◌<◌, ◌≤◌, Bool, true, false, List, [], ◌∷◌, ◌++◌, length, get_or, ℤ, arith, refl, ◌∙◌, ap, subst, eq-eqb, length-append}
-use Rattle.std.specs.Prelude.{decimal, Ok, All, AllPairs, IsTrue}
-use Rattle.std.proofs.lemmas.List.{get_or_at, get_or_append_left, length-map}
-use Rattle.std.proofs.lemmas.Option.{slice_get-get_or}
+use Rattle.std.proofs.Common.{◌≡◌, ℕ, ◌+◌, ◌<◌, ◌≤◌, false, List, [], ◌∷◌, length, ℤ, arith, refl, ap, eq-eqb}
+use Rattle.std.specs.Prelude.{decimal, Ok, All}
+use Rattle.std.proofs.lemmas.List.{length-map}
 use Rattle.pit_model.specs.Planned.{is_turned}
 use Rattle.pit_model.specs.declared.limit.Bound.{Bound}
 use Rattle.pit_model.specs.declared.limit.Bound.TheVariants.{AtMost, AtLeast, Between}
@@ -13,33 +12,13 @@ use Rattle.mine_instance.specs.Valid.{IsUpward}
 use Rattle.mine_instance.specs.declared.coef.Coef.{Coef}
 use Rattle.minelib_text.specs.FieldValues.{decimal_in}
 use Rattle.minelib_text.specs.Kept.{IsDecimal, HasDecimals}
-use Rattle.minelib_text.specs.ModelLines.{values_of, coef_of, limit_of, last_of, is_behind}
+use Rattle.minelib_text.specs.ModelLines.{values_of, coef_of, limit_of}
 use Rattle.minelib_text.specs.Written.{value_fields, coef_fields, limit_fields, bound_fields}
 use Rattle.minelib_text.specs.declared.model_key.Problem.{Problem}
 use Rattle.minelib_text.specs.declared.model_key.Problem.TheVariants.{Pcpsp, Cpit}
 use Rattle.minelib_text.proofs.KeysBack.{word_field}
 use Rattle.minelib_text.proofs.NumbersBack.{decimal_field, whole_field, whole_again, decimal_again, map_fields, map_again}
 use Rattle.minelib_text.proofs.PlainText.{EachField, AreFields}
-
--- what holds of each item holds of the one behind these
-pub item_there : {A : Type 0} (P : A → Type 0) (all done : List A) (x : A) (rest : List A) → all ≡ done ++ x ∷ rest → All P all → P x
-item_there P all done x rest whole h =
-    let there : get_or all (length done) x ≡ x = ap (λ items. get_or items (length done) x) whole ∙ get_or_at done x rest x (length done) refl in
-    subst P there (h (length done) x (omega (arith, ap length whole, length-append done (x ∷ rest))))
-
--- an item of a list that rises comes behind the last of those before it
-pub behind_last : {A : Type 0} (before : A → A → Bool) (all done : List A) (x : A) (rest : List A) → all ≡ done ++ x ∷ rest
-    → AllPairs (λ c e. IsTrue (before c e)) all → is_behind before (last_of done) x ≡ true
-behind_last before all [] x rest whole h = refl
-behind_last before all (y ∷ ys) x rest whole h =
-    let last = length (y ∷ ys) - 1 in
-    let place : length (y ∷ ys) < length all = omega (arith, ap length whole, length-append (y ∷ ys) (x ∷ rest)) in
-    let there : get_or all (length (y ∷ ys)) x ≡ x =
-    ap (λ items. get_or items (length (y ∷ ys)) x) whole ∙ get_or_at (y ∷ ys) x rest x (length (y ∷ ys)) refl in
-    let front : get_or all last x ≡ get_or (y ∷ ys) last x =
-    ap (λ items. get_or items last x) whole ∙ get_or_append_left (y ∷ ys) (x ∷ rest) x last (omega arith) in
-    let rising : before (get_or all last x) (get_or all (length (y ∷ ys)) x) ≡ true = h last (length (y ∷ ys)) x (omega arith) place in
-    rw (slice_get-get_or (y ∷ ys) last x (omega arith), ← front) (rw there at rising)
 
 pub values_again : (n destinations before : ℕ) (values : List ℤ) → n ≤ 64000000 → before < n → length values ≡ destinations → All IsDecimal values
     → values_of n destinations before (value_fields before values) ≡ Ok values
@@ -69,7 +48,12 @@ IsCount Cpit destinations = destinations ≡ 1
 pub coef_again : (p : Problem) (n destinations resources k : ℕ) (c : Coef) → n ≤ 64000000 → IsCount p destinations → resources ≤ 8
     → (c.b < n) × (c.d < destinations) × (c.r < resources) → IsDecimal c.v → coef_of p n destinations resources (coef_text p k c) ≡ Ok c
 coef_again Pcpsp n destinations resources k c few count small h decimal =
-    rw (whole_again n c.b h.0 (omega arith), whole_again destinations c.d h.1 (omega arith), whole_again resources c.r h.2 (omega arith), decimal_again c.v decimal) refl
+    rw (
+      whole_again n c.b h.0 (omega arith),
+      whole_again destinations c.d h.1 (omega arith),
+      whole_again resources c.r h.2 (omega arith),
+      decimal_again c.v decimal,
+    ) refl
 coef_again Cpit n destinations resources k c few count small h decimal =
     let none : 0 ≡ c.d = omega arith in
     rw (whole_again n c.b h.0 (omega arith), whole_again resources c.r h.2 (omega arith), decimal_again c.v decimal)
@@ -78,26 +62,36 @@ coef_again Cpit n destinations resources k c few count small h decimal =
 pub coefs_fields : (p : Problem) (n destinations resources k : ℕ) (c : Coef) → n ≤ 64000000 → IsCount p destinations → resources ≤ 8
     → (c.b < n) × (c.d < destinations) × (c.r < resources) → IsDecimal c.v → AreFields (coef_text p k c)
 coefs_fields Pcpsp n destinations resources k c few count small h decimal =
-    record { some = omega arith; each = (whole_field c.b (omega arith), (whole_field c.d (omega arith), (whole_field c.r (omega arith), (decimal_field c.v decimal, tt)))) }
+    let b = whole_field c.b (omega arith) in
+    let d = whole_field c.d (omega arith) in
+    let r = whole_field c.r (omega arith) in
+    record { some = omega arith; each = (b, (d, (r, (decimal_field c.v decimal, tt)))) }
 coefs_fields Cpit n destinations resources k c few count small h decimal =
-    record { some = omega arith; each = (whole_field c.b (omega arith), (whole_field c.r (omega arith), (decimal_field c.v decimal, tt))) }
+    let b = whole_field c.b (omega arith) in
+    let r = whole_field c.r (omega arith) in
+    record { some = omega arith; each = (b, (r, (decimal_field c.v decimal, tt))) }
 
-pub limit_again : (resources periods r t : ℕ) (bound : Bound) → resources ≤ 8 → periods ≤ 100 → r < resources → t < periods → HasDecimals bound
-    → limit_of resources periods (decimal r ∷ decimal t ∷ bound_fields bound) ≡ Ok (record { resource = r; period = t; bound = bound })
+pub limit_again : (resources periods r t : ℕ) (bound : Bound) → resources ≤ 8 → periods ≤ 100 → r < resources → t < periods
+    → HasDecimals bound → limit_of resources periods (decimal r ∷ decimal t ∷ bound_fields bound) ≡ Ok (record { resource = r; period = t; bound = bound })
 limit_again resources periods r t (AtMost v) few short in_resources in_periods h =
     rw (whole_again resources r in_resources (omega arith), whole_again periods t in_periods (omega arith), decimal_again v h) refl
 limit_again resources periods r t (AtLeast v) few short in_resources in_periods h =
     rw (whole_again resources r in_resources (omega arith), whole_again periods t in_periods (omega arith), decimal_again v h) refl
 limit_again resources periods r t (Between v w) few short in_resources in_periods h =
-    rw (whole_again resources r in_resources (omega arith), whole_again periods t in_periods (omega arith), decimal_again v h.0, decimal_again w h.1) refl
+    rw (
+      whole_again resources r in_resources (omega arith),
+      whole_again periods t in_periods (omega arith),
+      decimal_again v h.0,
+      decimal_again w h.1,
+    ) refl
 
 bounds_fields : (bound : Bound) → HasDecimals bound → EachField (bound_fields bound)
 bounds_fields (AtMost v) h = (word_field 76 [] refl, (decimal_field v h, tt))
 bounds_fields (AtLeast v) h = (word_field 71 [] refl, (decimal_field v h, tt))
 bounds_fields (Between v w) h = (word_field 73 [] refl, (decimal_field v h.0, (decimal_field w h.1, tt)))
 
-pub limits_fields : (n resources periods : ℕ) (l : Limit) → resources ≤ 8 → periods ≤ 100 → l.resource < resources → l.period < periods → HasDecimals l.bound
-    → AreFields (limit_fields n l)
+pub limits_fields : (n resources periods : ℕ) (l : Limit) → resources ≤ 8 → periods ≤ 100 → l.resource < resources → l.period < periods
+    → HasDecimals l.bound → AreFields (limit_fields n l)
 limits_fields n resources periods l few short in_resources in_periods h =
     record { some = omega arith; each = (whole_field l.resource (omega arith), (whole_field l.period (omega arith), bounds_fields l.bound h)) }
 

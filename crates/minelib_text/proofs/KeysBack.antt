@@ -57,7 +57,13 @@ key_admitted : (d : ModelDraft) (word rest : List ℕ) → IsField word
     → admit_model d (word ++ 58 ∷ rest) ≡ admit_key d (key_in d.problem word) (fields_of rest)
 unfolding admit_model
 key_admitted d word rest h =
-    rw (has_colon word rest h.bytes, colon_place word rest h.bytes, take_at word (58 ∷ rest) (length word) refl, behind_word word rest, only_field word h) refl
+    rw (
+      has_colon word rest h.bytes,
+      colon_place word rest h.bytes,
+      take_at word (58 ∷ rest) (length word) refl,
+      behind_word word rest,
+      only_field word h,
+    ) refl
 
 key_is_line : (word rest : List ℕ) → IsField word → list_all is_inner rest ≡ true → IsLine (word ++ 58 ∷ rest)
 key_is_line [] rest h inner = absurd (omega (arith, h.some))
@@ -115,14 +121,16 @@ name_step p n h name is =
 
 type_step : (p : Problem) (n : ℕ) (h : Header) (name : List ℕ) → h.is_typed ≡ false
     → IsStep (heading p n name h) (key_line (codes "TYPE:") (type_text p)) (heading p n name (record h { is_typed = true }))
-type_step Pcpsp n h name fresh = header_step Pcpsp n name (codes "TYPE") (codes "PCPSP") key.Type h _ (word_field _ _ refl) (word_field _ _ refl) refl fresh refl
-type_step Cpit n h name fresh = header_step Cpit n name (codes "TYPE") (codes "CPIT") key.Type h _ (word_field _ _ refl) (word_field _ _ refl) refl fresh refl
+type_step Pcpsp n h name fresh =
+    header_step Pcpsp n name (codes "TYPE") (codes "PCPSP") key.Type h _ (word_field _ _ refl) (word_field _ _ refl) refl fresh refl
+type_step Cpit n h name fresh =
+    header_step Cpit n name (codes "TYPE") (codes "CPIT") key.Type h _ (word_field _ _ refl) (word_field _ _ refl) refl fresh refl
 
 blocks_step : (p : Problem) (n : ℕ) (h : Header) (name : List ℕ) → n ≤ 64000000 → h.is_counted ≡ false
     → IsStep (heading p n name h) (key_line (codes "NBLOCKS:") (decimal n)) (heading p n name (record h { is_counted = true }))
 blocks_step p n h name few fresh =
-    header_step p n name (codes "NBLOCKS") (decimal n) key.Blocks h _ (word_field _ _ refl) (whole_field n (omega arith)) (in_all p _ _ refl refl) fresh
-    (rw (whole_again 64000001 n (omega arith) (omega arith), eq-eqb n n refl) refl)
+    header_step p n name (codes "NBLOCKS") (decimal n) key.Blocks h _ (word_field _ _ refl) (whole_field n (omega arith))
+    (in_all p _ _ refl refl) fresh (rw (whole_again 64000001 n (omega arith) (omega arith), eq-eqb n n refl) refl)
 
 periods_step : (p : Problem) (n : ℕ) (h : Header) (name : List ℕ) (periods : ℕ) → (1 ≤ periods) × (periods ≤ 100) → is_some h.periods ≡ false
     → IsStep (heading p n name h) (key_line (codes "NPERIODS:") (decimal periods)) (heading p n name (record h { periods = Some periods }))
@@ -130,8 +138,8 @@ periods_step p n h name periods within fresh =
     header_step p n name (codes "NPERIODS") (decimal periods) key.Periods h _ (word_field _ _ refl) (whole_field periods (omega arith))
     (in_all p _ _ refl refl) fresh (rw (whole_again 101 periods (omega arith) (omega arith), ne_eqb periods 0 (λ e. omega arith)) refl)
 
-destinations_step : (n : ℕ) (h : Header) (name : List ℕ) (destinations : ℕ) → (1 ≤ destinations) × (destinations ≤ 8) → is_some h.destinations ≡ false
-    → IsStep (heading Pcpsp n name h) (key_line (codes "NDESTINATIONS:") (decimal destinations))
+destinations_step : (n : ℕ) (h : Header) (name : List ℕ) (destinations : ℕ) → (1 ≤ destinations) × (destinations ≤ 8)
+    → is_some h.destinations ≡ false → IsStep (heading Pcpsp n name h) (key_line (codes "NDESTINATIONS:") (decimal destinations))
     (heading Pcpsp n name (record h { destinations = Some destinations }))
 destinations_step n h name destinations within fresh =
     header_step Pcpsp n name (codes "NDESTINATIONS") (decimal destinations) key.Destinations h _ (word_field _ _ refl)
@@ -149,13 +157,15 @@ zero_read : whole_in 1 (codes "0") ≡ Ok 0
 zero_read = subst (λ text. whole_in 1 text ≡ Ok 0) (decimal_digit 0 (omega arith)) (whole_again 1 0 (omega arith) (omega arith))
 
 general_step : (n : ℕ) (h : Header) (name : List ℕ) → h.is_general ≡ false
-    → IsStep (heading Pcpsp n name h) (key_line (codes "NGENERAL_SIDE_CONSTRAINTS:") (codes "0")) (heading Pcpsp n name (record h { is_general = true }))
+    → IsStep (heading Pcpsp n name h) (key_line (codes "NGENERAL_SIDE_CONSTRAINTS:") (codes "0"))
+    (heading Pcpsp n name (record h { is_general = true }))
 general_step n h name fresh =
     header_step Pcpsp n name (codes "NGENERAL_SIDE_CONSTRAINTS") (codes "0") key.General h _ (word_field _ _ refl) (word_field _ _ refl) refl fresh
     (rw zero_read refl)
 
 rate_step : (p : Problem) (n : ℕ) (h : Header) (name : List ℕ) (rate : ℤ) → (pos 0 ≤ℤ rate) × (rate ≤ℤ pos (10 ^ 6)) → is_some h.rate ≡ false
-    → IsStep (heading p n name h) (key_line (codes "DISCOUNT_RATE:") (shortest rate)) (heading p n name (record h { rate = Some (unsigned_abs rate) }))
+    → IsStep (heading p n name h) (key_line (codes "DISCOUNT_RATE:") (shortest rate))
+    (heading p n name (record h { rate = Some (unsigned_abs rate) }))
 rate_step p n h name (negsuc k) within fresh = absurd (omega (arith, ints))
 rate_step p n h name (pos k) within fresh =
     let most : k ≤ 10 ^ 6 = omega (arith, ints) in
@@ -166,7 +176,8 @@ rate_step p n h name (pos k) within fresh =
 pub record AreSteps (before : ModelDraft) (lines : List (List ℕ)) (after : ModelDraft) : Type 0 where
   pub admitted : AdmitsAll admit_model before lines after
 
-pub then_lines : (s t u : ModelDraft) (line : List ℕ) (lines : List (List ℕ)) → IsStep s line t → AreSteps t lines u → AreSteps s (line ∷ lines) u
+pub then_lines : (s t u : ModelDraft) (line : List ℕ) (lines : List (List ℕ)) → IsStep s line t → AreSteps t lines u
+    → AreSteps s (line ∷ lines) u
 then_lines s t u line lines h more = record { admitted = (t, h.is_line, h.admitted, more.admitted) }
 
 pub and_lines : (s t u : ModelDraft) (xs ys : List (List ℕ)) → AreSteps s xs t → AreSteps t ys u → AreSteps s (xs ++ ys) u
@@ -201,8 +212,8 @@ pcpsp_header n name periods destinations resources rate few is_name horizon coun
     (then_lines _ _ _ _ _ (general_step n _ name refl)
     (then_lines _ _ _ _ _ (rate_step Pcpsp n _ name rate horizon.rate_0_to_1 refl) (no_lines _))))))))
 
-pub cpit_header : (n : ℕ) (name : List ℕ) (periods resources : ℕ) (rate : ℤ) → n ≤ 64000000 → is_name name ≡ true → IsHorizon periods resources rate
-    → AreSteps (blank_model Cpit n) (problem_keys name (codes "CPIT") n ++ cpit_keys periods resources rate)
+pub cpit_header : (n : ℕ) (name : List ℕ) (periods resources : ℕ) (rate : ℤ) → n ≤ 64000000 → is_name name ≡ true
+    → IsHorizon periods resources rate → AreSteps (blank_model Cpit n) (problem_keys name (codes "CPIT") n ++ cpit_keys periods resources rate)
     (heading Cpit n name (full_header periods 1 resources rate))
 cpit_header n name periods resources rate few is_name horizon =
     then_lines _ _ _ _ _ (name_step Cpit n _ name is_name)

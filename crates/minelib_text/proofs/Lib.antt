@@ -14,6 +14,7 @@ pub mod ModelBack
 pub mod ModelFacts
 pub mod ModelSteps
 pub mod NumbersBack
+pub mod Places
 pub mod PlainText
 pub mod PrecBack
 pub mod ReadSteps

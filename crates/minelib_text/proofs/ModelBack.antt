@@ -1,5 +1,5 @@
 -- A model file is read as it is written.
-use Rattle.std.proofs.Common.{◌≡◌, ℕ, ◌<◌, ◌≤◌, true, List, [], ◌∷◌, ◌++◌, length, ℤ, arith, refl, ◌∙◌, ap, length-append, eq-eqb, ne_eqb}
+use Rattle.std.proofs.Common.{◌≡◌, ℕ, ◌<◌, ◌≤◌, true, List, [], ◌++◌, length, ℤ, arith, refl, ◌∙◌, eq-eqb, ne_eqb}
 use Rattle.std.specs.Prelude.{Ok, codes, All}
 use Rattle.pit_model.specs.Name.{is_name}
 use Rattle.pit_model.specs.Plan.{stands_before}
@@ -13,14 +13,16 @@ use Rattle.minelib_text.specs.ModelLines.{ModelDraft, is_complete, admit_item, a
 use Rattle.minelib_text.specs.Written.{value_fields, limit_fields, section_lines}
 use Rattle.minelib_text.specs.declared.model_key.Problem.{Problem}
 use Rattle.minelib_text.specs.declared.model_key.Section.TheVariants.{Objective, Coefs, Limits}
-use Rattle.minelib_text.proofs.ItemsBack.{item_there, behind_last, values_again, values_fields, coef_text, IsCount, coef_again, coefs_fields, limit_again, limits_fields, not_turned}
+use Rattle.minelib_text.proofs.ItemsBack.{values_again, values_fields, coef_text, IsCount, coef_again, coefs_fields, limit_again, limits_fields, not_turned}
 use Rattle.minelib_text.proofs.KeysBack.{AreSteps, and_lines, then_lines, draft, heading, full_header, in_all, section_step, word_field}
 use Rattle.minelib_text.proofs.LinesBack.{AdmitsEach, items_admitted, text_read}
 use Rattle.minelib_text.proofs.NumbersBack.{name_field}
+use Rattle.minelib_text.proofs.Places.{is_place, item_there, behind_last}
 use Rattle.minelib_text.proofs.PlainText.{AreFields, no_colon, fields_again, fields_line}
 
 -- what a model file states is of n blocks, and in order and range
-pub record IsModel (p : Problem) (n periods destinations resources : ℕ) (values : List (List ℤ)) (coefs : List Coef) (limits : List Limit) : Type 0 where
+pub record IsModel (p : Problem) (n periods destinations resources : ℕ) (values : List (List ℤ)) (coefs : List Coef)
+    (limits : List Limit) : Type 0 where
   pub few : n ≤ 64000000
   pub short : periods ≤ 100
   pub count : IsCount p destinations
@@ -49,17 +51,17 @@ module _ (p : Problem) (n : ℕ) (name : List ℕ) (periods destinations resourc
       (λ done. draft p n name (full_header periods destinations resources rate) Objective done [] []) values
   each_values done vs rest whole =
       let few = m.few in
-      let place : length done < n = omega (arith, m.as_many, ap length whole, length-append done (vs ∷ rest)) in
-      let kept = item_there (λ vs. All IsDecimal vs) values done vs rest whole m.values_kept in
-      let as_many = item_there (λ vs. length vs ≡ destinations) values done vs rest whole m.one_each in
+      let place : length done < n = omega (arith, m.as_many, is_place values done vs rest whole) in
+      let kept = item_there values done vs rest whole (λ vs. All IsDecimal vs) m.values_kept in
+      let as_many = item_there values done vs rest whole (λ vs. length vs ≡ destinations) m.one_each in
       let fields = values_fields (length done) vs (omega arith) kept in
       (fields_line _ fields, item_line _ _ fields ∙ rw (values_again n destinations (length done) vs few place as_many kept) refl)
 
   each_coef : AdmitsEach admit_model (coef_text p)
       (λ done. draft p n name (full_header periods destinations resources rate) Coefs values done []) coefs
   each_coef done c rest whole =
-      let range = item_there (λ c. (c.b < n) × (c.d < destinations) × (c.r < resources)) coefs done c rest whole m.are_coefs.in_range in
-      let kept = item_there (λ c. IsDecimal c.v) coefs done c rest whole m.coefs_kept in
+      let range = item_there coefs done c rest whole (λ c. (c.b < n) × (c.d < destinations) × (c.r < resources)) m.are_coefs.in_range in
+      let kept = item_there coefs done c rest whole (λ c. IsDecimal c.v) m.coefs_kept in
       let fields = coefs_fields p n destinations resources (length done) c m.few m.count m.small range kept in (
         fields_line _ fields,
         item_line _ _ fields
@@ -72,8 +74,9 @@ module _ (p : Problem) (n : ℕ) (name : List ℕ) (periods destinations resourc
   each_limit : AdmitsEach admit_model limit_fields
       (λ done. draft p n name (full_header periods destinations resources rate) Limits values coefs done) limits
   each_limit done l rest whole =
-      let range = item_there (λ l. (l.resource < resources) × (l.period < periods) × IsUpward l.bound) limits done l rest whole m.are_limits.in_range in
-      let kept = item_there (λ l. HasDecimals l.bound) limits done l rest whole m.limits_kept in
+      let range = item_there limits done l rest whole (λ l. (l.resource < resources) × (l.period < periods) × IsUpward l.bound)
+      m.are_limits.in_range in
+      let kept = item_there limits done l rest whole (λ l. HasDecimals l.bound) m.limits_kept in
       let fields = limits_fields (length done) resources periods l m.small m.short range.0 range.1 kept in (
         fields_line _ fields,
         item_line _ _ fields
@@ -108,7 +111,8 @@ module _ (p : Problem) (n : ℕ) (name : List ℕ) (periods destinations resourc
   -- behind header lines that are read
   pub model_again : is_name name ≡ true → (keys : List (List ℕ))
       → AreSteps (blank_model p n) keys (heading p n name (full_header periods destinations resources rate))
-      → model_in p n (text_of (keys ++ section_lines (lines_from value_fields 0 values) (lines_from (coef_text p) 0 coefs) (lines_from limit_fields 0 limits)))
+      → model_in p n (text_of (keys
+      ++ section_lines (lines_from value_fields 0 values) (lines_from (coef_text p) 0 coefs) (lines_from limit_fields 0 limits)))
       ≡ Ok (draft p n name (full_header periods destinations resources rate) Limits values coefs limits)
   model_again is keys header =
       let all = and_lines _ _ _ _ _ header (sections_again is) in

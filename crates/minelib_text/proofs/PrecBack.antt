@@ -1,10 +1,10 @@
 -- Predecessors are read from their text as they are.
-use Rattle.std.proofs.Common.{◌≡◌, ◌≢◌, ℕ, suc, ◌<◌, ◌≤◌, true, false, List, [], ◌∷◌, length, arith, refl, ◌∙◌, ap, sym, length-append, get_or, eqb, subst, inl, inr}
+use Rattle.std.proofs.Common.{◌≡◌, ◌≢◌, ℕ, suc, ◌<◌, ◌≤◌, true, false, List, [], ◌∷◌, length, arith, refl, sym, eqb, subst, inl, inr}
 use Rattle.std.specs.Prelude.{nat_lt, decimal, Ok, All, AllPairs}
 use Rattle.std.specs.List.{list_any, IsDistinct}
 use Rattle.std.proofs.lemmas.Bool.{eq-eqb, ne_eqb, le-ltb, or_cases, eqb-true}
-use Rattle.std.proofs.lemmas.List.{get_or_at}
 use Rattle.std.proofs.lemmas.List.Elements.{All-cons, All-head, All-tail, recursion_from_All}
+use Rattle.std.proofs.lemmas.Map.Keys.{IsDistinct-from_apart}
 use Rattle.std.proofs.lemmas.Map.Steps.{length-le_from_distinct_below}
 use Rattle.mine_instance.specs.Valid.{ArePredsOf, ArePreds}
 use Rattle.minelib_text.specs.FieldValues.{whole_in}
@@ -13,6 +13,7 @@ use Rattle.minelib_text.specs.PrecLines.{stands_in, all_differ, PrecDraft, no_li
 use Rattle.minelib_text.specs.Written.{prec_fields}
 use Rattle.minelib_text.proofs.LinesBack.{AdmitsEach, items_admitted, text_read}
 use Rattle.minelib_text.proofs.NumbersBack.{whole_field, whole_again, map_fields, map_again}
+use Rattle.minelib_text.proofs.Places.{is_place, stands_there}
 use Rattle.minelib_text.proofs.PlainText.{AreFields, fields_again, fields_line}
 
 stands_not : (own : ℕ) (ids : List ℕ) → All (λ id. id ≢ own) ids → stands_in ids own ≡ false
@@ -35,9 +36,7 @@ unfolding IsDistinct
 distinct_cons id ids h k = (recursion_from_All (λ other. eqb id other ≡ false) ids (λ k d within. ne_eqb id _ (λ e. h k d within (sym e))), k)
 
 distinct_ids : (ids : List ℕ) → AllPairs (λ id other. id ≢ other) ids → IsDistinct eqb ids
-unfolding IsDistinct
-distinct_ids [] h = tt
-distinct_ids (id ∷ ids) h = distinct_cons id ids (pairs_head id ids h) (distinct_ids ids (pairs_tail id ids h))
+distinct_ids ids h = IsDistinct-from_apart eqb ids (λ i j d before within. ne_eqb _ _ (h i j d before within))
 
 member_below : (n q : ℕ) (ids : List ℕ) → All (λ id. id < n) ids → list_any (eqb q) ids ≡ true → q < n
 member_below n q [] h e = absurd (cc)
@@ -73,16 +72,9 @@ preds_again own n ids few below h =
 
 preds_fields : (own n : ℕ) (ids : List ℕ) → n ≤ 64000000 → own < n → ArePredsOf own n ids → AreFields (prec_fields own ids)
 preds_fields own n ids few below h =
-    record {
-      some = omega arith;
-      each = (
-        whole_field own (omega arith),
-        (
-          whole_field (length ids) (omega (arith, fewer own n ids below h)),
-          map_fields (λ id. id < n) decimal (λ id low. whole_field id (omega arith)) ids h.below,
-        ),
-      );
-    }
+    let id = whole_field own (omega arith) in
+    let number = whole_field (length ids) (omega (arith, fewer own n ids below h)) in
+    record { some = omega arith; each = (id, (number, map_fields (λ id. id < n) decimal (λ id low. whole_field id (omega arith)) ids h.below)) }
 
 abbrev draft_of : ℕ → List (List ℕ) → PrecDraft
 draft_of n lists = record { blocks = n; lists = lists }
@@ -90,9 +82,9 @@ draft_of n lists = record { blocks = n; lists = lists }
 each_preds : (n : ℕ) (lists : List (List ℕ)) → n ≤ 64000000 → length lists ≡ n → ArePreds n lists
     → AdmitsEach admit_preds prec_fields (draft_of n) lists
 each_preds n lists few as_many h done ids rest whole =
-    let place : length done < n = omega (arith, ap length whole, length-append done (ids ∷ rest)) in
-    let there : get_or lists (length done) [] ≡ ids = ap (λ all. get_or all (length done) []) whole ∙ get_or_at done ids rest [] (length done) refl in
-    let own = subst (ArePredsOf (length done) n) there (h (length done) (omega arith)) in
+    let within = is_place lists done ids rest whole in
+    let place : length done < n = omega arith in
+    let own = subst (ArePredsOf (length done) n) (stands_there lists done ids rest whole []) (h (length done) within) in
     let fields = preds_fields (length done) n ids few place own in
     (fields_line _ fields, rw (fields_again _ fields, preds_again (length done) n ids few place own) refl)
 

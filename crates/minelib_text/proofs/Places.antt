@@ -1,0 +1,29 @@
+-- An item of a list, behind those before it.
+use Rattle.std.proofs.Common.{◌≡◌, ◌-◌, ◌<◌, Bool, true, List, [], ◌∷◌, ◌++◌, length, get_or, arith, refl, ◌∙◌, ap, subst, length-append}
+use Rattle.std.specs.Prelude.{All, AllPairs, IsTrue}
+use Rattle.std.proofs.lemmas.List.{get_or_at, get_or_append_left}
+use Rattle.std.proofs.lemmas.Option.{slice_get-get_or}
+use Rattle.minelib_text.specs.ModelLines.{last_of, is_behind}
+
+module _ {A : Type 0} (all done : List A) (x : A) (rest : List A) (whole : all ≡ done ++ x ∷ rest) where
+  -- its place is the number of those before it
+  pub is_place : length done < length all
+  is_place = omega (arith, ap length whole, length-append done (x ∷ rest))
+
+  pub stands_there : (d : A) → get_or all (length done) d ≡ x
+  stands_there d = ap (λ items. get_or items (length done) d) whole ∙ get_or_at done x rest d (length done) refl
+
+  -- what holds of each item holds of it
+  pub item_there : (P : A → Type 0) → All P all → P x
+  item_there P h = subst P (stands_there x) (h (length done) x is_place)
+
+-- in a list that rises it comes behind the last before it
+pub behind_last : {A : Type 0} (before : A → A → Bool) (all done : List A) (x : A) (rest : List A) → all ≡ done ++ x ∷ rest
+    → AllPairs (λ c e. IsTrue (before c e)) all → is_behind before (last_of done) x ≡ true
+behind_last before all [] x rest whole h = refl
+behind_last before all (y ∷ ys) x rest whole h =
+    let last = length (y ∷ ys) - 1 in
+    let front : get_or all last x ≡ get_or (y ∷ ys) last x =
+    ap (λ items. get_or items last x) whole ∙ get_or_append_left (y ∷ ys) (x ∷ rest) x last (omega arith) in
+    let rising = h last (length (y ∷ ys)) x (omega arith) (is_place all (y ∷ ys) x rest whole) in
+    rw (slice_get-get_or (y ∷ ys) last x (omega arith), ← front) (rw (stands_there all (y ∷ ys) x rest whole x) at rising)
