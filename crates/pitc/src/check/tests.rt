@@ -47,3 +47,52 @@ fn files_that_are_not_there(rt: HostRuntime) -> Result<(), Fail> {
     assert!(rt; told(&rt, base)?.as_str() == "pitc: pcpsp: FeedFailed\n3");
     clear(&rt, base)
 }
+
+const ONE_PCPSP: &str = "NAME: one\nTYPE: PCPSP\nNBLOCKS: 1\nNPERIODS: 1\nNDESTINATIONS: 1\nNRESOURCE_SIDE_CONSTRAINTS: 0\nNGENERAL_SIDE_CONSTRAINTS: 0\nDISCOUNT_RATE: 0.1\nOBJECTIVE_FUNCTION:\n0 12000\nRESOURCE_CONSTRAINT_COEFFICIENTS:\nRESOURCE_CONSTRAINT_LIMITS:\n";
+
+const ONE_CPIT: &str = "NAME: one\nTYPE: CPIT\nNBLOCKS: 1\nNPERIODS: 1\nNRESOURCE_SIDE_CONSTRAINTS: 0\nDISCOUNT_RATE: 0.1\nOBJECTIVE_FUNCTION:\n0 12000\nRESOURCE_CONSTRAINT_COEFFICIENTS:\nRESOURCE_CONSTRAINT_LIMITS:\n";
+
+// Writes the three files that have to be there.
+fn put_all(rt: &HostRuntime, base: &str, texts: [&str; 3]) -> Result<(), Fail> {
+    put(rt, base, "blocks", texts[0])?;
+    put(rt, base, "prec", texts[1])?;
+    put(rt, base, "pcpsp", texts[2])
+}
+
+#[test]
+fn one_ore_block(rt: HostRuntime) -> Result<(), Fail> {
+    let base = "one_ore_block";
+    put_all(&rt, base, ["0 0 0 0 1000 5000 0\n", "0 0\n", ONE_PCPSP])?;
+    assert!(rt; told(&rt, base)?.as_str() == "blocks 1 arcs 0 coefficients 0 limits 0\n0");
+    put(&rt, base, "cpit", ONE_CPIT)?;
+    assert!(rt; told(&rt, base)?.as_str() == "blocks 1 arcs 0 coefficients 0 limits 0 cpit 0\n0");
+    put(&rt, base, "cpit", ONE_PCPSP)?;
+    assert!(rt; told(&rt, base)?.as_str() == "pitc: cpit line 2: Name\n1");
+    clear(&rt, base)
+}
+
+#[test]
+fn faulty_precedences(rt: HostRuntime) -> Result<(), Fail> {
+    let base = "faulty_precedences";
+    let blocks = "0 1 1 0 1 0 0\n1 0 0 1 1 0 0\n2 1 0 1 1 0 0\n3 2 0 1 1 0 0\n4 0 1 1 1 0 0\n5 1 1 1 1 0 0\n6 2 1 1 1 0 0\n7 0 2 1 1 0 0\n8 1 2 1 1 0 0\n9 2 2 1 1 0 0\n";
+    let prec = "0 6 2 4 5 6 8\n1 0\n2 0\n3 0\n4 0\n5 0\n6 0\n7 0\n8 0\n9 0\n";
+    put_all(&rt, base, [blocks, prec, ""])?;
+    assert!(rt; told(&rt, base)?.as_str() == "pitc: prec line 1: Count\n1");
+    clear(&rt, base)
+}
+
+#[test]
+fn only_byte_order_marks(rt: HostRuntime) -> Result<(), Fail> {
+    let base = "only_byte_order_marks";
+    put_all(&rt, base, ["\u{FEFF}", "\u{FEFF}", "\u{FEFF}"])?;
+    assert!(rt; told(&rt, base)?.as_str() == "pitc: pcpsp line 1: Missing\n1");
+    clear(&rt, base)
+}
+
+#[test]
+fn a_folder_in_a_files_place(rt: HostRuntime) -> Result<(), Fail> {
+    fs::create_dir(&rt, "a_folder.blocks")?;
+    assert!(rt; told(&rt, "a_folder")?.as_str() == "pitc: blocks: FeedFailed\n3");
+    fs::remove_dir(&rt, "a_folder.blocks")?;
+    Ok(())
+}
