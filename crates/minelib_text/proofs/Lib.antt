@@ -1,10 +1,12 @@
 pub mod Fronts
+pub mod HeaderLines
 pub mod ItemSteps
 pub mod KeySteps
 pub mod LineFacts
 pub mod ModelSteps
 pub mod ReadSteps
 pub mod Rising
+pub mod SpelledRead
 pub mod ValidBlocks
 pub mod ValidHeader
 pub mod ValidModel

@@ -2,8 +2,14 @@
 ghost use Rattle.mine_instance.specs.Cpit.{CpitParts, IsCpit};
 ghost use Rattle.mine_instance.specs.Valid.{IsValid};
 ghost use Rattle.mine_instance.specs.declared.instance.Instance.{Instance};
+ghost use Rattle.minelib_text.specs.BlockLines.{blocks_in};
 ghost use Rattle.minelib_text.specs.Denotes.{Denotes, DenotesCpit};
-ghost use Rattle.std.specs.Prelude.{◌≡◌, ℕ, ◌≤◌, List, length};
+ghost use Rattle.minelib_text.specs.PrecLines.{preds_in};
+ghost use Rattle.minelib_text.specs.SpelledBlocks.{AreBlockLines};
+ghost use Rattle.minelib_text.specs.SpelledPrec.{ArePredsLines};
+ghost use Rattle.minelib_text.specs.TextLines.{lines_in};
+ghost use Rattle.pit_model.specs.declared.block.Block.{Block};
+ghost use Rattle.std.specs.Prelude.{◌≡◌, ℕ, ◌≤◌, List, length, Ok};
 
 /// The instance that three texts denote is valid.
 pub fn read_is_valid()
@@ -13,4 +19,14 @@ pub fn read_is_valid()
 /// The constrained pit limit problem that a text denotes is one, with a value for each block.
 pub fn cpit_read_is_valid()
     ensures { (n : ℕ) (text : List ℕ) (c : CpitParts) → n ≤ 64000000 → DenotesCpit n text c → IsCpit c × (length c.values ≡ n) }
+{}
+
+/// Where blocks are read, each line that is read spells one of them, in order.
+pub fn block_lines_are_spelled()
+    ensures { (text : List ℕ) (blocks : List Block) → blocks_in text ≡ Ok blocks → AreBlockLines 0 (lines_in text) blocks }
+{}
+
+/// Where predecessors of n blocks are read, each line that is read spells those of one block, in order.
+pub fn prec_lines_are_spelled()
+    ensures { (n : ℕ) (text : List ℕ) (lists : List (List ℕ)) → preds_in n text ≡ Ok lists → ArePredsLines n 0 (lines_in text) lists }
 {}
