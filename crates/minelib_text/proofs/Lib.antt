@@ -1,11 +1,14 @@
 pub mod Fronts
 pub mod HeaderLines
+pub mod ItemLines
 pub mod ItemSteps
 pub mod KeySteps
 pub mod LineFacts
+pub mod ModelEnd
 pub mod ModelSteps
 pub mod ReadSteps
 pub mod Rising
+pub mod SpelledModelRead
 pub mod SpelledRead
 pub mod ValidBlocks
 pub mod ValidHeader

@@ -7,23 +7,13 @@ use Rattle.minelib_text.specs.FieldValues.{◌>>=◌}
 use Rattle.minelib_text.specs.PrecLines.{PrecDraft, no_lists, preds_of, admit_preds, finish_preds, preds_in}
 use Rattle.minelib_text.specs.Reading.{read_lines}
 use Rattle.minelib_text.specs.SpelledBlocks.{IsBlockLine, AreBlockLines}
-use Rattle.minelib_text.specs.SpelledLines.{AreLines}
 use Rattle.minelib_text.specs.SpelledPrec.{IsPredsLine, ArePredsLines}
 use Rattle.minelib_text.specs.TextLines.{Line, fields_of, lines_in, end_of}
 use Rattle.minelib_text.specs.declared.text_fault.TextKind.TheVariants.{Missing}
+use Rattle.minelib_text.proofs.ItemLines.{line_more}
 use Rattle.minelib_text.proofs.ReadSteps.{bind_then, then_ok, same_ok, kept_with_lines}
 use Rattle.minelib_text.proofs.ValidBlocks.{block_line}
 use Rattle.minelib_text.proofs.ValidPreds.{preds_line}
-
--- one line and one item more
-pub line_more : {A : Type 0} (Spells : ℕ → List ℕ → A → Type 0) (n : ℕ) (lines : List Line) (items : List A) (line : Line) (item : A)
-    → AreLines Spells n lines items → Spells (n + length items) line.text item → AreLines Spells n (lines ++ line ∷ []) (items ++ item ∷ [])
-line_more Spells n [] [] line item are here = let e : n + 0 ≡ n = omega arith in (subst (λ k. Spells k line.text item) e here, tt)
-line_more Spells n [] (i ∷ items) line item are here = absurd are
-line_more Spells n (l ∷ lines) [] line item are here = absurd are
-line_more Spells n (l ∷ lines) (i ∷ items) line item are here =
-    let e : n + length (i ∷ items) ≡ n + 1 + length items = omega arith in
-    (are.0, line_more Spells (n + 1) lines items line item are.1 (subst (λ k. Spells k line.text item) e here))
 
 block_more : (done : List Line) (blocks : List Block) (line : Line) (next : List Block) → admit_block blocks line.text ≡ Ok next
     → AreBlockLines 0 done blocks → AreBlockLines 0 (done ++ line ∷ []) next

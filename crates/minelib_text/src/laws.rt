@@ -4,10 +4,13 @@ ghost use Rattle.mine_instance.specs.Valid.{IsValid};
 ghost use Rattle.mine_instance.specs.declared.instance.Instance.{Instance};
 ghost use Rattle.minelib_text.specs.BlockLines.{blocks_in};
 ghost use Rattle.minelib_text.specs.Denotes.{Denotes, DenotesCpit};
+ghost use Rattle.minelib_text.specs.ModelLines.{ModelDraft, model_in};
 ghost use Rattle.minelib_text.specs.PrecLines.{preds_in};
 ghost use Rattle.minelib_text.specs.SpelledBlocks.{AreBlockLines};
+ghost use Rattle.minelib_text.specs.SpelledModel.{AreModelLines};
 ghost use Rattle.minelib_text.specs.SpelledPrec.{ArePredsLines};
 ghost use Rattle.minelib_text.specs.TextLines.{lines_in};
+ghost use Rattle.minelib_text.specs.declared.model_key.Problem.{Problem};
 ghost use Rattle.pit_model.specs.declared.block.Block.{Block};
 ghost use Rattle.std.specs.Prelude.{◌≡◌, ℕ, ◌≤◌, List, length, Ok};
 
@@ -29,4 +32,11 @@ pub fn block_lines_are_spelled()
 /// Where predecessors of n blocks are read, each line that is read spells those of one block, in order.
 pub fn prec_lines_are_spelled()
     ensures { (n : ℕ) (text : List ℕ) (lists : List (List ℕ)) → preds_in n text ≡ Ok lists → ArePredsLines n 0 (lines_in text) lists }
+{}
+
+/// Where a model file of n blocks is read, its lines that are read are one for each header key, in any order, and then those of the
+/// sections: each section's key line, and one line for each block's values, each coefficient and each limit, in order.
+pub fn model_lines_are_spelled()
+    ensures { (problem : Problem) (n : ℕ) (text : List ℕ) (d : ModelDraft) → model_in problem n text ≡ Ok d
+        → AreModelLines problem n (lines_in text) d }
 {}
