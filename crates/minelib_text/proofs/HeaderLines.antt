@@ -1,12 +1,11 @@
 -- The lines of a header, one for each key: what an admitted line adds to those before it.
-use Rattle.std.specs.Prelude.{◌≡◌, ◌≢◌, ℕ, ◌+◌, ◌==◌, ◌⊎◌, Bool, true, false, not, List, [], ◌∷◌, ◌++◌, length, is_some, nat_le, ◌&&◌, All, AllPairs, IsTrue}
-use Rattle.std.specs.List.{Contains, list_all}
-use Rattle.std.proofs.Common.{refl, sym, ◌∙◌, ap, subst, arith, inl, inr, get_or}
-use Rattle.std.proofs.lemmas.Bool.{and_parts}
+use Rattle.std.specs.Prelude.{◌≡◌, ◌≢◌, ℕ, ◌==◌, ◌⊎◌, Bool, true, false, not, List, [], ◌∷◌, ◌++◌, length, is_some, All, AllPairs}
+use Rattle.std.specs.List.{Contains}
+use Rattle.std.proofs.Common.{refl, sym, ap, subst, arith, inl, inr}
 use Rattle.std.proofs.lemmas.Bool.Decides.{nat_tests}
-use Rattle.std.proofs.lemmas.List.Elements.{All-nil, All-push, Contains-push, Contains-append_left}
+use Rattle.std.proofs.lemmas.List.Elements.{Contains-push, Contains-append_left}
 use Rattle.std.proofs.lemmas.List.Quantifiers.{all_pairs_push}
-use Rattle.pit_model.specs.Name.{is_name, is_name_byte}
+use Rattle.pit_model.specs.Name.{is_name}
 use Rattle.minelib_text.specs.ModelLines.{blank_header, is_given, name_with}
 use Rattle.minelib_text.specs.SpelledKeys.{IsKeyLine, StatesKey}
 use Rattle.minelib_text.specs.SpelledLines.{AreLines}
@@ -21,7 +20,6 @@ use Rattle.minelib_text.specs.declared.model_key.Problem.TheVariants.{Pcpsp, Cpi
 use Rattle.minelib_text.proofs.ItemLines.{line_more, items_keep, lines_weaker}
 use Rattle.minelib_text.proofs.KeySteps.{Sets}
 use Rattle.minelib_text.proofs.ModelEnd.{IsComplete, each_given}
-use Rattle.minelib_text.proofs.ReadSteps.{not_false}
 
 -- a key that was given, and what its line stated
 abbrev pub Stated : Problem → ℕ → HeaderKey → List ℕ → List ℕ → Header → Type 0

@@ -1,8 +1,7 @@
 -- What a model file that lacks nothing has.
-use Rattle.std.specs.Prelude.{◌≡◌, ℕ, ◌==◌, ◌&&◌, true, false, not, List, length, is_some, Result, Ok, Err}
-use Rattle.std.proofs.Common.{refl, ap, subst}
+use Rattle.std.specs.Prelude.{◌≡◌, ℕ, ◌==◌, ◌&&◌, true, false, not, List, length, is_some, Ok}
+use Rattle.std.proofs.Common.{ap, subst}
 use Rattle.std.proofs.lemmas.Bool.{and_parts, eqb-true}
-use Rattle.minelib_text.specs.FieldValues.{◌>>=◌}
 use Rattle.minelib_text.specs.ModelLines.{ModelDraft, blank_model, is_complete, is_given, is_limits, admit_model, finish_model, model_in}
 use Rattle.minelib_text.specs.Reading.{read_lines}
 use Rattle.minelib_text.specs.TextLines.{lines_in, end_of}
@@ -66,7 +65,7 @@ pub model_finished : (problem : Problem) (n : ℕ) (text : List ℕ) (d : ModelD
 model_finished problem n text d e =
     bind_then (read_lines admit_model (blank_model problem n) (lines_in text)) (finish_model (end_of text)) d e (λ last of_lines e1.
     let t = then_ok (is_complete last.name last.header && (length last.values == last.blocks) && is_limits last.section)
-        (record { line = end_of text; kind = Missing }) (Ok last) d e1 in
+    (record { line = end_of text; kind = Missing }) (Ok last) d e1 in
     let parts = and_parts _ (is_limits last.section) t.0 in
     let inner = and_parts (is_complete last.name last.header) (length last.values == last.blocks) parts.0 in
     subst (IsFinished problem n text) (same_ok last d t.1) (record {

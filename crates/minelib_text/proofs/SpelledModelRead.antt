@@ -1,9 +1,9 @@
 -- The lines that are read of a model file spell what it states.
-use Rattle.std.specs.Prelude.{◌≡◌, ℕ, ◌+◌, Bool, true, false, List, [], ◌∷◌, ◌++◌, length, ℤ, Result, Ok}
+use Rattle.std.specs.Prelude.{◌≡◌, ℕ, ◌+◌, true, List, [], ◌∷◌, ◌++◌, length, ℤ, Ok}
 use Rattle.std.proofs.Common.{refl, sym, ◌∙◌, ap, subst, arith, append_assoc}
 use Rattle.pit_model.specs.declared.limit.Limit.{Limit}
 use Rattle.mine_instance.specs.declared.coef.Coef.{Coef}
-use Rattle.minelib_text.specs.ModelLines.{ModelDraft, blank_model, is_heading, is_limits, is_next, name_with, count_in, admit_model, model_in}
+use Rattle.minelib_text.specs.ModelLines.{ModelDraft, blank_model, is_heading, is_limits, name_with, count_in, admit_model, model_in}
 use Rattle.minelib_text.specs.SpelledItems.{IsValuesLine, IsCoefLine, IsLimitLine}
 use Rattle.minelib_text.specs.SpelledKeys.{IsKeyLine}
 use Rattle.minelib_text.specs.SpelledLines.{AreLines}
@@ -111,7 +111,7 @@ keyed done d line next s was =
       heads_more d.problem d.blocks s.key s.value d.name d.header s.header done line s.sets s.new s.spelled heading.0,
       heading.1,
       heading.2,
-      heading.3
+      heading.3,
     ) in
     subst (λ d. At d.section d (done ++ line ∷ [])) s.is (subst (λ section. At section after (done ++ line ∷ [])) (sym here) now)
 
@@ -120,7 +120,7 @@ begun : (done : List Line) (d : ModelDraft) (line : Line) (next : ModelDraft) �
 begun done d line next s was =
     subst (λ d. At d.section d (done ++ line ∷ [])) s.is
     (next_by (λ now later. IsKeyLine d.problem line.text (model_key.Section later) [] → At now d done
-        → At later (record d { section = later }) (done ++ line ∷ []))
+    → At later (record d { section = later }) (done ++ line ∷ []))
     (λ begins was. (part_first (InHeading d) d.problem Objective (SpellsValues d) d.values done line was.1 was.0 begins, was.2, was.3))
     (λ begins was. (part_first (InValues d) d.problem Coefs (SpellsCoef d) d.coefs done line was.1 was.0 begins, was.2))
     (λ begins was. part_first (InCoefs d) d.problem Limits (SpellsLimit d) d.limits done line was.1 was.0 begins)
@@ -132,7 +132,7 @@ valued done d line next s was =
     let before = subst (λ section. At section d done) s.here was in
     let after : ModelDraft = record d { values = d.values ++ s.values ∷ [] } in
     let now : At Objective after (done ++ line ∷ []) =
-        (part_more (InHeading d) d.problem Objective (SpellsValues d) d.values done line s.values s.spelled before.0, before.1, before.2) in
+    (part_more (InHeading d) d.problem Objective (SpellsValues d) d.values done line s.values s.spelled before.0, before.1, before.2) in
     subst (λ d. At d.section d (done ++ line ∷ [])) s.is (subst (λ section. At section after (done ++ line ∷ [])) (sym s.here) now)
 
 spent : (done : List Line) (d : ModelDraft) (line : Line) (next : ModelDraft) → AddsCoef d line.text next → At d.section d done
@@ -141,7 +141,7 @@ spent done d line next s was =
     let before = subst (λ section. At section d done) s.here was in
     let after : ModelDraft = record d { coefs = d.coefs ++ s.coef ∷ [] } in
     let now : At Coefs after (done ++ line ∷ []) =
-        (part_more (InValues d) d.problem Coefs (SpellsCoef d) d.coefs done line s.coef s.spelled before.0, before.1) in
+    (part_more (InValues d) d.problem Coefs (SpellsCoef d) d.coefs done line s.coef s.spelled before.0, before.1) in
     subst (λ d. At d.section d (done ++ line ∷ [])) s.is (subst (λ section. At section after (done ++ line ∷ [])) (sym s.here) now)
 
 limited : (done : List Line) (d : ModelDraft) (line : Line) (next : ModelDraft) → AddsLimit d line.text next → At d.section d done
@@ -150,7 +150,7 @@ limited done d line next s was =
     let before = subst (λ section. At section d done) s.here was in
     let after : ModelDraft = record d { limits = d.limits ++ s.limit ∷ [] } in
     let now : At Limits after (done ++ line ∷ []) =
-        part_more (InCoefs d) d.problem Limits (SpellsLimit d) d.limits done line s.limit s.spelled before in
+    part_more (InCoefs d) d.problem Limits (SpellsLimit d) d.limits done line s.limit s.spelled before in
     subst (λ d. At d.section d (done ++ line ∷ [])) s.is (subst (λ section. At section after (done ++ line ∷ [])) (sym s.here) now)
 
 stepped : (done : List Line) (d : ModelDraft) (line : Line) (next : ModelDraft) → Step d line.text next → At d.section d done
@@ -167,7 +167,7 @@ whole d lines l complete =
     let c = l.earlier in
     let v = c.earlier in
     let joined : l.before ≡ v.before ++ (v.first ∷ v.lines ++ (c.first ∷ c.lines)) =
-        c.cut ∙ ap (λ x. x ++ c.first ∷ c.lines) v.cut ∙ append_assoc v.before (v.first ∷ v.lines) (c.first ∷ c.lines) in
+    c.cut ∙ ap (λ x. x ++ c.first ∷ c.lines) v.cut ∙ append_assoc v.before (v.first ∷ v.lines) (c.first ∷ c.lines) in
     record {
       heading = v.before;
       objective = v.first;
@@ -194,9 +194,9 @@ model_spelled problem n text d e =
     let f = model_finished problem n text d e in
     let kept = model_kept problem n (lines_in text) d f.of_lines in
     let at : At d.section d (lines_in text) =
-        kept_with_lines (λ done d. At d.section d done) admit_model
-        (λ done d line next says was. stepped done d line next (model_step d line.text next says) was)
-        [] (blank_model problem n) (lines_in text) d f.of_lines (heads_none problem n, refl, refl, refl) in
+    kept_with_lines (λ done d. At d.section d done) admit_model
+    (λ done d line next says was. stepped done d line next (model_step d line.text next says) was)
+    [] (blank_model problem n) (lines_in text) d f.of_lines (heads_none problem n, refl, refl, refl) in
     let limits : InLimits d (lines_in text) = subst (λ section. At section d (lines_in text)) (in_limits d.section f.at_limits) at in
     subst (λ m. AreModelLines problem m (lines_in text) d) kept.of_blocks
     (subst (λ p. AreModelLines p d.blocks (lines_in text) d) kept.of_problem (whole d (lines_in text) limits f.complete))

@@ -1,9 +1,8 @@
 -- The lines that are read spell the blocks and the predecessors.
-use Rattle.std.specs.Prelude.{◌≡◌, ℕ, ◌+◌, List, [], ◌∷◌, ◌++◌, length, Result, Ok}
-use Rattle.std.proofs.Common.{refl, sym, ◌∙◌, ap, subst, arith}
+use Rattle.std.specs.Prelude.{◌≡◌, ℕ, ◌+◌, List, [], ◌∷◌, ◌++◌, length, Ok}
+use Rattle.std.proofs.Common.{refl, subst, arith}
 use Rattle.pit_model.specs.declared.block.Block.{Block}
 use Rattle.minelib_text.specs.BlockLines.{block_of, admit_block, blocks_in}
-use Rattle.minelib_text.specs.FieldValues.{◌>>=◌}
 use Rattle.minelib_text.specs.PrecLines.{PrecDraft, no_lists, preds_of, admit_preds, finish_preds, preds_in}
 use Rattle.minelib_text.specs.Reading.{read_lines}
 use Rattle.minelib_text.specs.SpelledBlocks.{IsBlockLine, AreBlockLines}
@@ -38,8 +37,8 @@ preds_more n done d line next e kept =
     bind_then (preds_of d.blocks (length d.lists) (fields_of line.text)) _ next e (λ ids says added.
     let count : length d.lists ≡ 0 + length d.lists = omega arith in
     let here : IsPredsLine n (length d.lists) (fields_of line.text) ids =
-        subst (λ m. IsPredsLine m (length d.lists) (fields_of line.text) ids) kept.blocks
-        (preds_line d.blocks (length d.lists) (fields_of line.text) ids says) in
+    subst (λ m. IsPredsLine m (length d.lists) (fields_of line.text) ids) kept.blocks
+    (preds_line d.blocks (length d.lists) (fields_of line.text) ids says) in
     subst (KeepsLists n (done ++ line ∷ [])) (same_ok _ next added) (record {
       blocks = kept.blocks;
       spelled = line_more (λ id text ids. IsPredsLine n id (fields_of text) ids) 0 done d.lists line ids kept.spelled
@@ -50,6 +49,6 @@ pub preds_spelled : (n : ℕ) (text : List ℕ) (lists : List (List ℕ)) → pr
 preds_spelled n text lists e =
     bind_then (read_lines admit_preds (no_lists n) (lines_in text)) (finish_preds (end_of text)) lists e (λ d of_lines e1.
     let kept = kept_with_lines (KeepsLists n) admit_preds (preds_more n) [] (no_lists n) (lines_in text) d of_lines
-        (record { blocks = refl; spelled = tt }) in
+    (record { blocks = refl; spelled = tt }) in
     let t = then_ok _ (record { line = end_of text; kind = Missing }) (Ok d.lists) lists e1 in
     subst (ArePredsLines n 0 (lines_in text)) (same_ok d.lists lists t.1) kept.spelled)

@@ -7,12 +7,12 @@ use Rattle.mine_instance.specs.Order.{comes_before}
 use Rattle.mine_instance.specs.OrderLaws.{comes_before_through, stands_before_through}
 use Rattle.mine_instance.specs.Valid.{AreCoefs, AreLimits, IsUpward}
 use Rattle.mine_instance.specs.declared.coef.Coef.{Coef}
-use Rattle.minelib_text.specs.ModelLines.{ModelDraft, blank_header, blank_model, is_heading, is_next, count_in, admit_model}
+use Rattle.minelib_text.specs.ModelLines.{ModelDraft, blank_header, blank_model, is_heading, count_in, admit_model}
 use Rattle.minelib_text.specs.SpelledItems.{IsCoefLine}
 use Rattle.minelib_text.specs.declared.model_key.Problem.{Problem}
 use Rattle.minelib_text.specs.declared.model_key.Problem.TheVariants.{Pcpsp, Cpit}
 use Rattle.minelib_text.specs.declared.model_key.Section.{Section}
-use Rattle.minelib_text.specs.declared.model_key.Section.TheVariants.{Heading, Objective, Coefs, Limits}
+use Rattle.minelib_text.specs.declared.model_key.Section.TheVariants.{Objective, Coefs, Limits}
 use Rattle.minelib_text.specs.Reading.{read_lines}
 use Rattle.minelib_text.specs.TextLines.{Line, fields_of}
 use Rattle.minelib_text.proofs.KeySteps.{Sets}

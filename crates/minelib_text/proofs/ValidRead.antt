@@ -1,8 +1,7 @@
 -- What is read is valid.
-use Rattle.std.specs.Prelude.{◌≡◌, ℕ, ◌<◌, ◌≤◌, ◌^◌, ◌==◌, ◌&&◌, ◌≤ℤ◌, true, false, not, List, [], ◌∷◌, length, ℤ, pos, Option, Some, None, is_some, Ok, map, All, AllPairs, IfSome, IsTrue}
+use Rattle.std.specs.Prelude.{◌≡◌, ℕ, ◌<◌, ◌≤◌, ◌^◌, ◌==◌, ◌≤ℤ◌, true, false, List, [], ◌∷◌, length, ℤ, pos, Option, Some, None, is_some, Ok, map, All, AllPairs, IfSome, IsTrue}
 use Rattle.std.specs.List.{flat_map}
 use Rattle.std.proofs.Common.{refl, sym, ◌∙◌, ap, subst, arith, inl, inr, get_or, length-append}
-use Rattle.std.proofs.lemmas.Bool.{and_parts, eqb-true}
 use Rattle.std.proofs.lemmas.Bool.Decides.{nat_tests}
 use Rattle.std.proofs.lemmas.Int.{ints}
 use Rattle.std.proofs.lemmas.List.{get_or-map, length-map}
@@ -17,17 +16,15 @@ use Rattle.mine_instance.specs.declared.coef.Coef.{Coef}
 use Rattle.mine_instance.specs.declared.instance.Instance.{Instance}
 use Rattle.minelib_text.specs.BlockLines.{blocks_in}
 use Rattle.minelib_text.specs.Denotes.{instance_read, denoted, Denotes, cpit_read, cpit_denoted, DenotesCpit}
-use Rattle.minelib_text.specs.ModelLines.{ModelDraft, blank_model, is_complete, is_limits, count_in, admit_model, finish_model, model_in}
+use Rattle.minelib_text.specs.ModelLines.{ModelDraft, count_in, model_in}
 use Rattle.minelib_text.specs.PrecLines.{preds_in}
-use Rattle.minelib_text.specs.Reading.{in_file, read_lines}
-use Rattle.minelib_text.specs.TextLines.{lines_in, end_of}
-use Rattle.minelib_text.specs.declared.model_key.Header.{Header}
+use Rattle.minelib_text.specs.Reading.{in_file}
+use Rattle.minelib_text.specs.TextLines.{lines_in}
 use Rattle.minelib_text.specs.declared.model_key.Problem.{Problem}
 use Rattle.minelib_text.specs.declared.model_key.Problem.TheVariants as problem
 use Rattle.minelib_text.specs.declared.text_fault.TextFile.TheVariants.{Blocks, Prec, Pcpsp, Cpit}
-use Rattle.minelib_text.specs.declared.text_fault.TextKind.TheVariants.{Missing}
 use Rattle.minelib_text.proofs.ModelEnd.{IsComplete, model_finished}
-use Rattle.minelib_text.proofs.ReadSteps.{bind_then, then_ok, not_true, same_ok, in_file_ok}
+use Rattle.minelib_text.proofs.ReadSteps.{bind_then, same_ok, in_file_ok}
 use Rattle.minelib_text.proofs.ValidBlocks.{few_blocks}
 use Rattle.minelib_text.proofs.ValidHeader.{IsSingle, KeepsName}
 use Rattle.minelib_text.proofs.ValidModel.{KeepsModel, model_kept}

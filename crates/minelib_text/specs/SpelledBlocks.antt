@@ -1,5 +1,5 @@
 -- How the lines of a block file spell the blocks.
-use Rattle.std.specs.Prelude.{◌≡◌, ℕ, ◌+◌, ◌*◌, ◌^◌, List, [], ◌∷◌}
+use Rattle.std.specs.Prelude.{◌≡◌, ℕ, ◌*◌, ◌^◌, List, [], ◌∷◌}
 use Rattle.pit_model.specs.declared.block.Block.{Block}
 use Rattle.minelib_text.specs.SpelledFields.{StatesWhole, StatesSize}
 use Rattle.minelib_text.specs.SpelledLines.{AreLines}

@@ -1,7 +1,6 @@
 -- How the lines of a model file spell what it states: the header's lines, and then the sections, each behind the line that begins it.
 use Rattle.std.specs.Prelude.{◌≡◌, ◌≢◌, ℕ, Bool, true, false, List, [], ◌∷◌, ◌++◌, AllPairs, IsTrue}
 use Rattle.std.specs.List.{Contains}
-use Rattle.mine_instance.specs.declared.coef.Coef.{Coef}
 use Rattle.minelib_text.specs.ModelLines.{ModelDraft, count_in}
 use Rattle.minelib_text.specs.SpelledItems.{IsValuesLine, IsCoefLine, IsLimitLine}
 use Rattle.minelib_text.specs.SpelledKeys.{IsKeyLine, StatesKey}

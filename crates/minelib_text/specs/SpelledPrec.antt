@@ -1,5 +1,5 @@
 -- How the lines of a precedence file spell the predecessors.
-use Rattle.std.specs.Prelude.{◌≡◌, ℕ, ◌+◌, List, [], ◌∷◌, length}
+use Rattle.std.specs.Prelude.{◌≡◌, ℕ, List, ◌∷◌, length}
 use Rattle.std.specs.List.{AllZip}
 use Rattle.mine_instance.specs.Valid.{ArePredsOf}
 use Rattle.minelib_text.specs.SpelledFields.{StatesWhole}
