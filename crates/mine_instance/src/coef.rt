@@ -17,6 +17,19 @@ pub struct Coef {
     pub v: Dec,
 }
 
+impl Coef {
+    ghost use Rattle.std.specs.Prelude.{◌≡◌};
+    ghost use Rattle.mine_instance.specs.Order.{comes_before};
+
+    /// Whether the coefficient comes before another: by block, then destination, then resource.
+    pub fn comes_before(&self, other: &Coef) -> bool
+        ensures { result ≡ comes_before self.now other.now }
+    {
+        self.b < other.b
+            || (self.b == other.b && (self.d < other.d || (self.d == other.d && self.r < other.r)))
+    }
+}
+
 /// Coefficients, in rising order of block, destination and resource. Contracts see the list of them.
 #[derive(Debug, Drop)]
 pub struct Coefs {
@@ -61,7 +74,6 @@ impl Ordered for Coef {
     ghost through = { comes_before_through };
 
     fn is_before(&self, other: &Coef) -> bool {
-        self.b < other.b
-            || (self.b == other.b && (self.d < other.d || (self.d == other.d && self.r < other.r)))
+        self.comes_before(other)
     }
 }

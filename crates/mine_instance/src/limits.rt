@@ -48,7 +48,6 @@ impl Ordered for Limit {
     ghost through = { stands_before_through };
 
     fn is_before(&self, other: &Limit) -> bool {
-        self.resource < other.resource
-            || (self.resource == other.resource && self.period < other.period)
+        self.stands_before(other)
     }
 }

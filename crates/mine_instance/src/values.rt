@@ -1,9 +1,11 @@
 //! The values of the blocks at the destinations.
 
-ghost use Rattle.std.specs.Prelude.{◌≡◌, ◌*◌, ◌<◌, ◌≤◌, length, vec_len, slice_index_or, [], ◌↔◌, IsTrue, All};
+ghost use Rattle.std.specs.Prelude.{◌≡◌, ◌*◌, ◌^◌, ◌-◌, ◌<◌, ◌≤◌, ◌++◌, ◌∷◌, length, vec_len, slice_index_or, [], ◌↔◌, IsTrue, All, OnOk, OnErr};
+ghost use Rattle.std.specs.List.{flat_map};
 ghost use Rattle.mine_instance.specs.Rows.{rows_of};
 
 use pit_units::Dec;
+use std::alloc::AllocError;
 use std::marker::Model;
 
 /// The values of blocks by identifier, one per destination, in units of 100 cents. Contracts see a list of values for each block.
@@ -57,5 +59,27 @@ impl Values {
         let (_, rest) = self.all.as_slice().split_at(block * self.width);
         let (values, _) = rest.split_at(self.width);
         values
+    }
+
+    /// Adds the values of one more block, as many as each of the others has. Where memory is refused the values are as they were.
+    pub fn push(&mut self, values: &[Dec]) -> Result<(), AllocError>
+        requires room { length self.old < 2 ^ 64 - 1 }
+        requires width { All (λ of_block. length of_block ≡ length values.now) self.old }
+        ensures ok { OnOk result (self.new ≡ self.old ++ values.now ∷ []) }
+        ensures kept { OnErr result (self.new ≡ self.old) }
+    {
+        self.all.extend_from_slice(values)?;
+        self.count += 1;
+        // where these are the first, the width was that of no block
+        self.width = values.len();
+        Ok(())
+    }
+
+    /// The values of all blocks, one block's after those of the block before it.
+    pub fn into_flat(self) -> Vec<Dec>
+        ensures { result.items ≡ flat_map (λ of_block. of_block) self }
+    {
+        let Values { all, .. } = self;
+        all
     }
 }

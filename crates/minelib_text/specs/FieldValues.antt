@@ -1,8 +1,10 @@
 -- What the fields of a line state, left to right, each up to its first fault.
-use Rattle.std.specs.Prelude.{ℕ, ◌/◌, ◌^◌, nat_lt, List, [], ◌∷◌, ◌++◌, ℤ, pos, negsuc, Result, Ok, Err, if◌then◌else◌}
+use Rattle.std.specs.Prelude.{◌≡◌, ℕ, ◌/◌, ◌^◌, nat_lt, List, [], ◌∷◌, ◌++◌, ℤ, pos, negsuc, Result, Ok, Err, if◌then◌else◌}
+use Rattle.std.specs.Borrow.{Bor}
 use Rattle.pit_units.specs.Decimal.{decimal_of}
 use Rattle.pit_units.specs.declared.fault.DecFault.{DecFault}
 use Rattle.pit_units.specs.declared.fault.DecFault.TheVariants as number_fault
+use Rattle.minelib_text.specs.TextLines.{fields_of}
 use Rattle.minelib_text.specs.declared.text_fault.TextKind.{TextKind}
 use Rattle.minelib_text.specs.declared.text_fault.TextKind.TheVariants.{Fields, Number, TooFine, Range}
 
@@ -53,3 +55,8 @@ first_by rule (field ∷ fields) = rule field >>= λ x. Ok (x, fields)
 abbrev pub all_by : {A : Type 0} → (List ℕ → Result A TextKind) → List A → List (List ℕ) → Result (List A) TextKind
 all_by rule done [] = Ok done
 all_by rule done (field ∷ fields) = rule field >>= λ x. all_by rule (done ++ x ∷ []) fields
+
+-- what was taken of a line's fields: a value, and the bytes that the fields behind it stand in
+abbrev pub Takes : {A : Type 0} → Result (A × Bor (List ℕ)) TextKind → Result (A × List (List ℕ)) TextKind → Type 0
+Takes (Ok x) stated = stated ≡ Ok (x.0, fields_of x.1.now)
+Takes (Err kind) stated = stated ≡ Err kind

@@ -3,8 +3,13 @@ pub mod Count
 pub mod Denotes
 pub mod Device
 pub mod FieldValues
+pub mod FileFault
+pub mod Kept
 pub mod Lines
+pub mod Marks
 pub mod ModelLines
+pub mod ModelParts
+pub mod ModelView
 pub mod PrecLines
 pub mod Reading
 pub mod SpelledBlocks

@@ -2,6 +2,10 @@
 use Rattle.std.specs.Prelude.{◌≡◌, ℕ, List, [], ◌∷◌, Result, Ok, Err}
 use Rattle.minelib_text.specs.FieldValues.{◌>>=◌}
 use Rattle.minelib_text.specs.TextLines.{Line}
+use Rattle.minelib_text.specs.declared.read_fault.FileError.{FileError}
+use Rattle.minelib_text.specs.declared.read_fault.FileError.TheVariants as file_error
+use Rattle.minelib_text.specs.declared.read_fault.LineError.{LineError}
+use Rattle.minelib_text.specs.declared.read_fault.LineError.TheVariants as line_error
 use Rattle.minelib_text.specs.declared.text_fault.LineFault.{LineFault}
 use Rattle.minelib_text.specs.declared.text_fault.ReadTextError.{ReadTextError}
 use Rattle.minelib_text.specs.declared.text_fault.ReadTextError.TheVariants as text_error
@@ -29,3 +33,21 @@ abbrev pub Reads : {A : Type 0} → Result A ReadTextError → Result A TextFaul
 Reads (Ok x) denoted = denoted ≡ Ok x
 Reads (Err (text_error.Fault fault)) denoted = denoted ≡ Err fault
 Reads (Err text_error.OutOfMemory) denoted = Unit {0}
+
+-- taking a line leaves what it states after those before it, or answers its fault, unless memory was refused
+abbrev pub Admits : {S A : Type 0} → S → Result A LineError → Result S TextKind → Type 0
+Admits after (Ok x) admitted = admitted ≡ Ok after
+Admits after (Err (line_error.Faulty kind)) admitted = admitted ≡ Err kind
+Admits after (Err line_error.OutOfMemory) admitted = Unit {0}
+
+-- taking lines leaves what they state, or answers the first faulty one, unless memory was refused
+abbrev pub Leaves : {S A : Type 0} → S → Result A FileError → Result S LineFault → Type 0
+Leaves after (Ok x) read = read ≡ Ok after
+Leaves after (Err (file_error.Faulty fault)) read = read ≡ Err fault
+Leaves after (Err file_error.OutOfMemory) read = Unit {0}
+
+-- reading a file answers what it states, or its first faulty line, unless memory was refused
+abbrev pub Gives : {A : Type 0} → Result A FileError → Result A LineFault → Type 0
+Gives (Ok x) read = read ≡ Ok x
+Gives (Err (file_error.Faulty fault)) read = read ≡ Err fault
+Gives (Err file_error.OutOfMemory) read = Unit {0}

@@ -1,7 +1,7 @@
 -- The lines of a text that is read, and the fields of a line.
 use Rattle.std.specs.Prelude.{ℕ, Bool, true, false, List, [], ◌∷◌, ◌+◌, ◌-◌, ◌==◌, length, take, drop, slice_index, if◌then◌else◌}
 use Rattle.std.specs.Str.{bytes_eq}
-use Rattle.pit_model.specs.Cells.{is_blank}
+use Rattle.pit_model.specs.Cells.{is_blank, without_leading_blanks}
 
 -- a byte in front of the first line
 abbrev pub onto_first : ℕ → List (List ℕ) → List (List ℕ)
@@ -21,10 +21,14 @@ without_cr line = if slice_index line (length line - 1) == 13 then take (length 
 abbrev pub without_mark : List ℕ → List ℕ
 without_mark text = if bytes_eq (take 3 text) (239 ∷ 187 ∷ 191 ∷ []) then drop 3 text else text
 
+-- nothing, or `%` first
+abbrev pub is_remark : List ℕ → Bool
+is_remark [] = true
+is_remark (b ∷ bytes) = b == 37
+
 -- blanks alone, or blanks and then `%`
 abbrev pub is_skipped : List ℕ → Bool
-is_skipped [] = true
-is_skipped (b ∷ bytes) = if is_blank b then is_skipped bytes else b == 37
+is_skipped line = is_remark (without_leading_blanks line)
 
 -- a field ends before these bytes
 abbrev pub is_ended : List ℕ → Bool

@@ -1,18 +1,30 @@
-//! What holds of the texts that are read, whatever they are: each contract is a law, and a call of it does nothing.
+//! What holds of texts, whatever they say: each contract is a law, and a call of it does nothing.
+ghost use Rattle.std.specs.Prelude.{◌≡◌, ℕ, ◌≤◌, List, length, Ok};
 ghost use Rattle.mine_instance.specs.Cpit.{CpitParts, IsCpit};
 ghost use Rattle.mine_instance.specs.Valid.{IsValid};
 ghost use Rattle.mine_instance.specs.declared.instance.Instance.{Instance};
 ghost use Rattle.minelib_text.specs.BlockLines.{blocks_in};
 ghost use Rattle.minelib_text.specs.Denotes.{Denotes, DenotesCpit};
+ghost use Rattle.minelib_text.specs.Kept.{IsKept, IsKeptCpit};
 ghost use Rattle.minelib_text.specs.ModelLines.{ModelDraft, model_in};
 ghost use Rattle.minelib_text.specs.PrecLines.{preds_in};
 ghost use Rattle.minelib_text.specs.SpelledBlocks.{AreBlockLines};
 ghost use Rattle.minelib_text.specs.SpelledModel.{AreModelLines};
 ghost use Rattle.minelib_text.specs.SpelledPrec.{ArePredsLines};
 ghost use Rattle.minelib_text.specs.TextLines.{lines_in};
+ghost use Rattle.minelib_text.specs.Written.{text_blocks, text_prec, text_pcpsp, text_cpit};
 ghost use Rattle.minelib_text.specs.declared.model_key.Problem.{Problem};
 ghost use Rattle.pit_model.specs.declared.block.Block.{Block};
-ghost use Rattle.std.specs.Prelude.{◌≡◌, ℕ, ◌≤◌, List, length, Ok};
+
+/// The texts of a valid instance denote that instance.
+pub fn written_is_read()
+    ensures { (i : Instance) → IsValid i → IsKept i → Denotes (text_blocks i) (text_prec i) (text_pcpsp i) i }
+{}
+
+/// The text of a CPIT denotes that CPIT.
+pub fn written_cpit_is_read()
+    ensures { (c : CpitParts) → IsCpit c → IsKeptCpit c → DenotesCpit (length c.values) (text_cpit c) c }
+{}
 
 /// The instance that three texts denote is valid.
 pub fn read_is_valid()

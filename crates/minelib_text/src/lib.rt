@@ -1,21 +1,34 @@
 //! The MineLib texts of an instance: the sinks that take them, and their writers.
 #![tactic(auto)]
 
+mod block_reader;
 mod block_sections;
 mod count;
+mod field_values;
 mod fields;
 mod files;
 mod item_lines;
 mod keys;
 pub mod laws;
 mod lines;
+mod marks;
 pub mod mem_sink;
+mod model_draft;
+mod model_header;
+mod model_items;
 pub mod model_key;
+mod model_keys;
+mod model_reader;
 mod output;
+mod prec_reader;
+pub mod read_fault;
+mod reading;
 mod schedule;
 pub mod sink;
 mod text;
 pub mod text_fault;
+mod text_fields;
+mod text_lines;
 pub mod write_fault;
 mod writers;
 

@@ -3,7 +3,7 @@
 ghost use Rattle.std.specs.Prelude.{◌≡◌};
 
 use pit_units::DecFault;
-use std::alloc::{AllocError, AllocFailed};
+use std::alloc::AllocError;
 use thiserror::Error;
 
 /// A file of an instance.
@@ -102,4 +102,14 @@ pub enum ReadTextError {
     /// Memory was refused.
     #[error("OutOfMemory")]
     OutOfMemory,
+}
+
+impl From<AllocError> for ReadTextError {
+    ghost use Rattle.minelib_text.specs.declared.text_fault.ReadTextError.TheVariants.{OutOfMemory};
+
+    ghost from_gives = { λ _ error. error ≡ OutOfMemory };
+
+    fn from(_refusal: AllocError) -> ReadTextError {
+        ReadTextError::OutOfMemory
+    }
 }

@@ -20,7 +20,8 @@ pub fn trimmed(cell: &[u8]) -> &[u8]
     without_trailing_blanks(without_leading_blanks(cell))
 }
 
-fn without_leading_blanks(cell: &[u8]) -> &[u8]
+/// The bytes from the first that is no space or tab on.
+pub fn without_leading_blanks(cell: &[u8]) -> &[u8]
     ensures { result.now ≡ without_leading_blanks cell.now }
 {
     let mut rest = cell;

@@ -15,7 +15,7 @@ use crate::cone::Cone;
 use crate::formula::{Formula, NamedFormula};
 use crate::grid::{Axis, Grid};
 use crate::limit::Limit;
-use crate::limit_cells::{bound_in, insert_limit, is_limited, is_turned, limit_width, period_in};
+use crate::limit_cells::{bound_in, insert_limit, is_limited, limit_width, period_in};
 use crate::name::Name;
 use crate::named::{covers_in, has_repeat, is_resource, is_taken, name_in, resource_in};
 use crate::numbers::{number_in, origin_in, size_in, whole_in};
@@ -231,7 +231,7 @@ impl Draft {
         if is_limited(self.limits.as_slice(), &limit) {
             return Err(RecordError::Fault(PlanFaultKind::Twice));
         }
-        if is_turned(&limit.bound) {
+        if limit.bound.is_turned() {
             return Err(RecordError::Fault(PlanFaultKind::Order));
         }
         insert_limit(&mut self.limits, limit)?;

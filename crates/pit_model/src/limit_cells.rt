@@ -5,7 +5,7 @@ ghost use Rattle.std.specs.List.{list_any, position_or_len};
 ghost use Rattle.csv.specs.Records.{fields_of};
 ghost use Rattle.pit_model.specs.Cells.{cells_of};
 ghost use Rattle.pit_model.specs.Plan.{AreTonnes, stands_before};
-ghost use Rattle.pit_model.specs.Planned.{bound_in, is_same_place, is_turned, limit_width, period_in, tonnes_in, with_limit};
+ghost use Rattle.pit_model.specs.Planned.{bound_in, is_same_place, limit_width, period_in, tonnes_in, with_limit};
 
 use crate::cells::cell_at;
 use crate::limit::{Bound, Limit};
@@ -76,28 +76,10 @@ pub fn bound_in(row: &ByteRecord) -> Result<Bound, PlanFaultKind>
     }
 }
 
-/// Whether the ends of an interval are the wrong way round.
-pub fn is_turned(bound: &Bound) -> bool
-    ensures { result ≡ is_turned bound.now }
-{
-    match bound {
-        Bound::Between(low, high) => low.millionths() > high.millionths(),
-        Bound::AtMost(_) => false,
-        Bound::AtLeast(_) => false,
-    }
-}
-
 fn is_same_place(limit: &Limit, other: &Limit) -> bool
     ensures { result ≡ is_same_place limit.now other.now }
 {
     limit.resource == other.resource && limit.period == other.period
-}
-
-fn stands_before(limit: &Limit, other: &Limit) -> bool
-    ensures { result ≡ stands_before limit.now other.now }
-{
-    limit.resource < other.resource
-        || (limit.resource == other.resource && limit.period < other.period)
 }
 
 /// Whether the resource has a limit in the period.
@@ -120,7 +102,7 @@ fn first_after(limits: &[Limit], limit: &Limit) -> Option<usize>
     ensures place { result ≡ position (λ m. stands_before limit.now m) limits.now }
     ensures within { IfSome result (λ n. n < length limits.now) }
 {
-    limits.iter().position(|other| stands_before(limit, other))
+    limits.iter().position(|other| limit.stands_before(other))
 }
 
 /// Adds a limit in its place. Where memory is refused the limits are as they were.

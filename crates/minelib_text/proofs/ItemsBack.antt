@@ -1,0 +1,108 @@
+-- The items of a model file's sections are read as they are written.
+use Rattle.std.proofs.Common.{◌≡◌, ℕ, ◌+◌, ◌-◌, ◌<◌, ◌≤◌, Bool, true, false, List, [], ◌∷◌, ◌++◌, length, get_or, ℤ, arith, refl, ◌∙◌, ap, subst, eq-eqb, length-append}
+use Rattle.std.specs.Prelude.{decimal, Ok, All, AllPairs, IsTrue}
+use Rattle.std.proofs.lemmas.List.{get_or_at, get_or_append_left, length-map}
+use Rattle.std.proofs.lemmas.Option.{slice_get-get_or}
+use Rattle.pit_model.specs.Planned.{is_turned}
+use Rattle.pit_model.specs.declared.limit.Bound.{Bound}
+use Rattle.pit_model.specs.declared.limit.Bound.TheVariants.{AtMost, AtLeast, Between}
+use Rattle.pit_model.specs.declared.limit.Limit.{Limit}
+use Rattle.pit_units.specs.Decimal.{shortest}
+use Rattle.mine_instance.proofs.GreatestFacts.{int_le-true}
+use Rattle.mine_instance.specs.Valid.{IsUpward}
+use Rattle.mine_instance.specs.declared.coef.Coef.{Coef}
+use Rattle.minelib_text.specs.FieldValues.{decimal_in}
+use Rattle.minelib_text.specs.Kept.{IsDecimal, HasDecimals}
+use Rattle.minelib_text.specs.ModelLines.{values_of, coef_of, limit_of, last_of, is_behind}
+use Rattle.minelib_text.specs.Written.{value_fields, coef_fields, limit_fields, bound_fields}
+use Rattle.minelib_text.specs.declared.model_key.Problem.{Problem}
+use Rattle.minelib_text.specs.declared.model_key.Problem.TheVariants.{Pcpsp, Cpit}
+use Rattle.minelib_text.proofs.KeysBack.{word_field}
+use Rattle.minelib_text.proofs.NumbersBack.{decimal_field, whole_field, whole_again, decimal_again, map_fields, map_again}
+use Rattle.minelib_text.proofs.PlainText.{EachField, AreFields}
+
+-- what holds of each item holds of the one behind these
+pub item_there : {A : Type 0} (P : A → Type 0) (all done : List A) (x : A) (rest : List A) → all ≡ done ++ x ∷ rest → All P all → P x
+item_there P all done x rest whole h =
+    let there : get_or all (length done) x ≡ x = ap (λ items. get_or items (length done) x) whole ∙ get_or_at done x rest x (length done) refl in
+    subst P there (h (length done) x (omega (arith, ap length whole, length-append done (x ∷ rest))))
+
+-- an item of a list that rises comes behind the last of those before it
+pub behind_last : {A : Type 0} (before : A → A → Bool) (all done : List A) (x : A) (rest : List A) → all ≡ done ++ x ∷ rest
+    → AllPairs (λ c e. IsTrue (before c e)) all → is_behind before (last_of done) x ≡ true
+behind_last before all [] x rest whole h = refl
+behind_last before all (y ∷ ys) x rest whole h =
+    let last = length (y ∷ ys) - 1 in
+    let place : length (y ∷ ys) < length all = omega (arith, ap length whole, length-append (y ∷ ys) (x ∷ rest)) in
+    let there : get_or all (length (y ∷ ys)) x ≡ x =
+    ap (λ items. get_or items (length (y ∷ ys)) x) whole ∙ get_or_at (y ∷ ys) x rest x (length (y ∷ ys)) refl in
+    let front : get_or all last x ≡ get_or (y ∷ ys) last x =
+    ap (λ items. get_or items last x) whole ∙ get_or_append_left (y ∷ ys) (x ∷ rest) x last (omega arith) in
+    let rising : before (get_or all last x) (get_or all (length (y ∷ ys)) x) ≡ true = h last (length (y ∷ ys)) x (omega arith) place in
+    rw (slice_get-get_or (y ∷ ys) last x (omega arith), ← front) (rw there at rising)
+
+pub values_again : (n destinations before : ℕ) (values : List ℤ) → n ≤ 64000000 → before < n → length values ≡ destinations → All IsDecimal values
+    → values_of n destinations before (value_fields before values) ≡ Ok values
+values_again n destinations before values few below as_many h =
+    let width : length (value_fields before values) ≡ destinations + 1 = omega (arith, length-map values shortest) in
+    rw (
+      eq-eqb _ _ width,
+      whole_again n before below (omega arith),
+      map_again IsDecimal shortest decimal_in decimal_again [] values h,
+      eq-eqb before before refl,
+    ) refl
+
+pub values_fields : (before : ℕ) (values : List ℤ) → before < 64000000 → All IsDecimal values → AreFields (value_fields before values)
+values_fields before values few h =
+    record { some = omega arith; each = (whole_field before (omega arith), map_fields IsDecimal shortest decimal_field values h) }
+
+-- `b d r v`, or `b r v` without a destination
+abbrev pub coef_text : Problem → ℕ → Coef → List (List ℕ)
+coef_text Pcpsp n c = coef_fields n c
+coef_text Cpit n c = decimal c.b ∷ decimal c.r ∷ shortest c.v ∷ []
+
+-- how many destinations there are: 1 to 8, or that which stands for none
+abbrev pub IsCount : Problem → ℕ → Type 0
+IsCount Pcpsp destinations = (1 ≤ destinations) × (destinations ≤ 8)
+IsCount Cpit destinations = destinations ≡ 1
+
+pub coef_again : (p : Problem) (n destinations resources k : ℕ) (c : Coef) → n ≤ 64000000 → IsCount p destinations → resources ≤ 8
+    → (c.b < n) × (c.d < destinations) × (c.r < resources) → IsDecimal c.v → coef_of p n destinations resources (coef_text p k c) ≡ Ok c
+coef_again Pcpsp n destinations resources k c few count small h decimal =
+    rw (whole_again n c.b h.0 (omega arith), whole_again destinations c.d h.1 (omega arith), whole_again resources c.r h.2 (omega arith), decimal_again c.v decimal) refl
+coef_again Cpit n destinations resources k c few count small h decimal =
+    let none : 0 ≡ c.d = omega arith in
+    rw (whole_again n c.b h.0 (omega arith), whole_again resources c.r h.2 (omega arith), decimal_again c.v decimal)
+    (ap (λ d. Ok (record c { d = d })) none)
+
+pub coefs_fields : (p : Problem) (n destinations resources k : ℕ) (c : Coef) → n ≤ 64000000 → IsCount p destinations → resources ≤ 8
+    → (c.b < n) × (c.d < destinations) × (c.r < resources) → IsDecimal c.v → AreFields (coef_text p k c)
+coefs_fields Pcpsp n destinations resources k c few count small h decimal =
+    record { some = omega arith; each = (whole_field c.b (omega arith), (whole_field c.d (omega arith), (whole_field c.r (omega arith), (decimal_field c.v decimal, tt)))) }
+coefs_fields Cpit n destinations resources k c few count small h decimal =
+    record { some = omega arith; each = (whole_field c.b (omega arith), (whole_field c.r (omega arith), (decimal_field c.v decimal, tt))) }
+
+pub limit_again : (resources periods r t : ℕ) (bound : Bound) → resources ≤ 8 → periods ≤ 100 → r < resources → t < periods → HasDecimals bound
+    → limit_of resources periods (decimal r ∷ decimal t ∷ bound_fields bound) ≡ Ok (record { resource = r; period = t; bound = bound })
+limit_again resources periods r t (AtMost v) few short in_resources in_periods h =
+    rw (whole_again resources r in_resources (omega arith), whole_again periods t in_periods (omega arith), decimal_again v h) refl
+limit_again resources periods r t (AtLeast v) few short in_resources in_periods h =
+    rw (whole_again resources r in_resources (omega arith), whole_again periods t in_periods (omega arith), decimal_again v h) refl
+limit_again resources periods r t (Between v w) few short in_resources in_periods h =
+    rw (whole_again resources r in_resources (omega arith), whole_again periods t in_periods (omega arith), decimal_again v h.0, decimal_again w h.1) refl
+
+bounds_fields : (bound : Bound) → HasDecimals bound → EachField (bound_fields bound)
+bounds_fields (AtMost v) h = (word_field 76 [] refl, (decimal_field v h, tt))
+bounds_fields (AtLeast v) h = (word_field 71 [] refl, (decimal_field v h, tt))
+bounds_fields (Between v w) h = (word_field 73 [] refl, (decimal_field v h.0, (decimal_field w h.1, tt)))
+
+pub limits_fields : (n resources periods : ℕ) (l : Limit) → resources ≤ 8 → periods ≤ 100 → l.resource < resources → l.period < periods → HasDecimals l.bound
+    → AreFields (limit_fields n l)
+limits_fields n resources periods l few short in_resources in_periods h =
+    record { some = omega arith; each = (whole_field l.resource (omega arith), (whole_field l.period (omega arith), bounds_fields l.bound h)) }
+
+-- an interval whose ends are the right way round is not turned
+pub not_turned : (bound : Bound) → IsUpward bound → is_turned bound ≡ false
+not_turned (AtMost v) h = refl
+not_turned (AtLeast v) h = refl
+not_turned (Between v w) h = rw (int_le-true v w h) refl

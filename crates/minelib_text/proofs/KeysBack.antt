@@ -1,0 +1,213 @@
+-- The key lines of a model file are read as they are written.
+use Rattle.std.proofs.Common.{◌≡◌, ℕ, ◌+◌, ◌^◌, ◌≤◌, true, false, List, [], ◌∷◌, ◌++◌, length, drop, ℤ, pos, negsuc, ◌≤ℤ◌, arith, refl, ◌∙◌, ap, sym, subst, is_some, eq-eqb, ne_eqb}
+use Rattle.std.specs.Prelude.{unsigned_abs, decimal, Some, Ok, codes}
+use Rattle.std.specs.List.{list_all, list_any, position_or_len}
+use Rattle.std.proofs.lemmas.Bool.{and_parts, or_right}
+use Rattle.std.proofs.lemmas.Fmt.{decimal_digit}
+use Rattle.std.proofs.lemmas.Int.{ints}
+use Rattle.std.proofs.lemmas.List.{take_at, drop_at, drop-drop}
+use Rattle.pit_model.specs.Name.{is_name}
+use Rattle.pit_units.specs.Decimal.{shortest}
+use Rattle.mine_instance.specs.Valid.{IsHorizon}
+use Rattle.mine_instance.specs.declared.coef.Coef.{Coef}
+use Rattle.pit_model.specs.declared.limit.Limit.{Limit}
+use Rattle.minelib_text.specs.FieldValues.{whole_in}
+use Rattle.minelib_text.specs.ModelLines.{ModelDraft, is_colon, key_in, type_text, is_next, is_ready, is_given, header_with, name_with, admit_key, admit_model, blank_model}
+use Rattle.minelib_text.specs.TextLines.{fields_of}
+use Rattle.minelib_text.specs.Written.{key_line, problem_keys, pcpsp_keys, cpit_keys}
+use Rattle.minelib_text.specs.declared.model_key.Header.{Header}
+use Rattle.minelib_text.specs.declared.model_key.HeaderKey.{HeaderKey}
+use Rattle.minelib_text.specs.declared.model_key.HeaderKey.TheVariants as key
+use Rattle.minelib_text.specs.declared.model_key.ModelKey.{ModelKey}
+use Rattle.minelib_text.specs.declared.model_key.ModelKey.TheVariants as model_key
+use Rattle.minelib_text.specs.declared.model_key.Problem.{Problem}
+use Rattle.minelib_text.specs.declared.model_key.Problem.TheVariants.{Pcpsp, Cpit}
+use Rattle.minelib_text.specs.declared.model_key.Section.{Section}
+use Rattle.minelib_text.specs.declared.model_key.Section.TheVariants.{Heading}
+use Rattle.minelib_text.proofs.LinesBack.{AdmitsAll, admits_both}
+use Rattle.minelib_text.proofs.NumbersBack.{decimal_field, whole_field, name_field, whole_again, size_again}
+use Rattle.minelib_text.proofs.PlainText.{is_plain, is_inner, plain_inner, plain_no_colon, all_weaker, all_parts, first_read, IsField, IsLine, fields_again}
+
+-- a model line takes what was read before it to what was read with it
+pub record IsStep (before : ModelDraft) (line : List ℕ) (after : ModelDraft) : Type 0 where
+  pub is_line : IsLine line
+  pub admitted : admit_model before line ≡ Ok after
+
+-- the first colon stands behind the word
+colon_place : (word rest : List ℕ) → list_all is_plain word ≡ true → position_or_len is_colon (word ++ 58 ∷ rest) ≡ length word
+colon_place [] rest h = refl
+colon_place (c ∷ cs) rest h =
+    let parts = and_parts (is_plain c) (list_all is_plain cs) h in
+    rw (plain_no_colon c parts.0, colon_place cs rest parts.1) (omega arith)
+
+has_colon : (word rest : List ℕ) → list_all is_plain word ≡ true → list_any is_colon (word ++ 58 ∷ rest) ≡ true
+has_colon [] rest h = refl
+has_colon (c ∷ cs) rest h =
+    let parts = and_parts (is_plain c) (list_all is_plain cs) h in
+    rw (has_colon cs rest parts.1) (or_right (is_colon c) true refl)
+
+behind_word : (word rest : List ℕ) → drop (length word + 1) (word ++ 58 ∷ rest) ≡ rest
+behind_word word rest = sym (drop-drop 1 (length word) (word ++ 58 ∷ rest)) ∙ ap (drop 1) (drop_at word (58 ∷ rest) (length word) refl)
+
+pub only_field : (word : List ℕ) → IsField word → fields_of word ≡ word ∷ []
+only_field word h = fields_again (word ∷ []) (record { some = omega arith; each = (h, tt) })
+
+-- a key line is that of its word, and says what is behind the colon
+key_admitted : (d : ModelDraft) (word rest : List ℕ) → IsField word
+    → admit_model d (word ++ 58 ∷ rest) ≡ admit_key d (key_in d.problem word) (fields_of rest)
+unfolding admit_model
+key_admitted d word rest h =
+    rw (has_colon word rest h.bytes, colon_place word rest h.bytes, take_at word (58 ∷ rest) (length word) refl, behind_word word rest, only_field word h) refl
+
+key_is_line : (word rest : List ℕ) → IsField word → list_all is_inner rest ≡ true → IsLine (word ++ 58 ∷ rest)
+key_is_line [] rest h inner = absurd (omega (arith, h.some))
+key_is_line (c ∷ cs) rest h inner = record {
+  inner = all_parts is_inner (c ∷ cs) (58 ∷ rest) (all_weaker is_plain is_inner plain_inner (c ∷ cs) h.bytes) inner;
+  is_read = first_read c (cs ++ 58 ∷ rest) (and_parts (is_plain c) (list_all is_plain cs) h.bytes).0;
+}
+
+pub word_field : (c : ℕ) (cs : List ℕ) → list_all is_plain (c ∷ cs) ≡ true → IsField (c ∷ cs)
+word_field c cs h = record { some = omega arith; bytes = h }
+
+-- what was read up to a section
+abbrev pub draft : Problem → ℕ → List ℕ → Header → Section → List (List ℤ) → List Coef → List Limit → ModelDraft
+draft p n name h section values coefs limits = record {
+  problem = p;
+  blocks = n;
+  name = name;
+  header = h;
+  section = section;
+  values = values;
+  coefs = coefs;
+  limits = limits;
+}
+
+-- what was read before the first section
+abbrev pub heading : Problem → ℕ → List ℕ → Header → ModelDraft
+heading p n name h = draft p n name h Heading [] [] []
+
+-- a header line is read where its key is new and its value is what the key takes
+header_step : (p : Problem) (n : ℕ) (name word value : List ℕ) (k : HeaderKey) (h new : Header) → IsField word → IsField value
+    → key_in p word ≡ Some (model_key.Header k) → is_given k name h ≡ false → header_with p n k value h ≡ Ok new
+    → IsStep (heading p n name h) (word ++ 58 ∷ 32 ∷ value) (heading p n (name_with k value name) new)
+header_step p n name word value k h new is_word is_value is_key fresh with_value = record {
+  is_line = key_is_line word (32 ∷ value) is_word (all_weaker is_plain is_inner plain_inner value is_value.bytes);
+  admitted = rw (key_admitted (heading p n name h) word (32 ∷ value) is_word, is_key, only_field value is_value, fresh, with_value) refl;
+}
+
+-- a line of a section's key is read where the section is the next and what has to stand before it does
+pub section_step : (d : ModelDraft) (word : List ℕ) (section : Section) → IsField word → key_in d.problem word ≡ Some (model_key.Section section)
+    → is_next d.section section ≡ true → is_ready d d.section ≡ true → IsStep d (word ++ 58 ∷ []) (record d { section = section })
+section_step d word section is_word is_key next ready = record {
+  is_line = key_is_line word [] is_word refl;
+  admitted = rw (key_admitted d word [] is_word, is_key, next, ready) refl;
+}
+
+-- a key of all problems
+pub in_all : (p : Problem) (word : List ℕ) (k : ModelKey) → key_in Pcpsp word ≡ Some k → key_in Cpit word ≡ Some k → key_in p word ≡ Some k
+in_all Pcpsp word k h i = h
+in_all Cpit word k h i = i
+
+name_step : (p : Problem) (n : ℕ) (h : Header) (name : List ℕ) → is_name name ≡ true
+    → IsStep (heading p n [] h) (key_line (codes "NAME:") name) (heading p n name h)
+name_step p n h name is =
+    header_step p n [] (codes "NAME") name key.Name h h (word_field _ _ refl) (name_field name is) (in_all p _ _ refl refl) refl (rw is refl)
+
+type_step : (p : Problem) (n : ℕ) (h : Header) (name : List ℕ) → h.is_typed ≡ false
+    → IsStep (heading p n name h) (key_line (codes "TYPE:") (type_text p)) (heading p n name (record h { is_typed = true }))
+type_step Pcpsp n h name fresh = header_step Pcpsp n name (codes "TYPE") (codes "PCPSP") key.Type h _ (word_field _ _ refl) (word_field _ _ refl) refl fresh refl
+type_step Cpit n h name fresh = header_step Cpit n name (codes "TYPE") (codes "CPIT") key.Type h _ (word_field _ _ refl) (word_field _ _ refl) refl fresh refl
+
+blocks_step : (p : Problem) (n : ℕ) (h : Header) (name : List ℕ) → n ≤ 64000000 → h.is_counted ≡ false
+    → IsStep (heading p n name h) (key_line (codes "NBLOCKS:") (decimal n)) (heading p n name (record h { is_counted = true }))
+blocks_step p n h name few fresh =
+    header_step p n name (codes "NBLOCKS") (decimal n) key.Blocks h _ (word_field _ _ refl) (whole_field n (omega arith)) (in_all p _ _ refl refl) fresh
+    (rw (whole_again 64000001 n (omega arith) (omega arith), eq-eqb n n refl) refl)
+
+periods_step : (p : Problem) (n : ℕ) (h : Header) (name : List ℕ) (periods : ℕ) → (1 ≤ periods) × (periods ≤ 100) → is_some h.periods ≡ false
+    → IsStep (heading p n name h) (key_line (codes "NPERIODS:") (decimal periods)) (heading p n name (record h { periods = Some periods }))
+periods_step p n h name periods within fresh =
+    header_step p n name (codes "NPERIODS") (decimal periods) key.Periods h _ (word_field _ _ refl) (whole_field periods (omega arith))
+    (in_all p _ _ refl refl) fresh (rw (whole_again 101 periods (omega arith) (omega arith), ne_eqb periods 0 (λ e. omega arith)) refl)
+
+destinations_step : (n : ℕ) (h : Header) (name : List ℕ) (destinations : ℕ) → (1 ≤ destinations) × (destinations ≤ 8) → is_some h.destinations ≡ false
+    → IsStep (heading Pcpsp n name h) (key_line (codes "NDESTINATIONS:") (decimal destinations))
+    (heading Pcpsp n name (record h { destinations = Some destinations }))
+destinations_step n h name destinations within fresh =
+    header_step Pcpsp n name (codes "NDESTINATIONS") (decimal destinations) key.Destinations h _ (word_field _ _ refl)
+    (whole_field destinations (omega arith)) refl fresh
+    (rw (whole_again 9 destinations (omega arith) (omega arith), ne_eqb destinations 0 (λ e. omega arith)) refl)
+
+resources_step : (p : Problem) (n : ℕ) (h : Header) (name : List ℕ) (resources : ℕ) → resources ≤ 8 → is_some h.resources ≡ false
+    → IsStep (heading p n name h) (key_line (codes "NRESOURCE_SIDE_CONSTRAINTS:") (decimal resources))
+    (heading p n name (record h { resources = Some resources }))
+resources_step p n h name resources few fresh =
+    header_step p n name (codes "NRESOURCE_SIDE_CONSTRAINTS") (decimal resources) key.Resources h _ (word_field _ _ refl)
+    (whole_field resources (omega arith)) (in_all p _ _ refl refl) fresh (rw (whole_again 9 resources (omega arith) (omega arith)) refl)
+
+zero_read : whole_in 1 (codes "0") ≡ Ok 0
+zero_read = subst (λ text. whole_in 1 text ≡ Ok 0) (decimal_digit 0 (omega arith)) (whole_again 1 0 (omega arith) (omega arith))
+
+general_step : (n : ℕ) (h : Header) (name : List ℕ) → h.is_general ≡ false
+    → IsStep (heading Pcpsp n name h) (key_line (codes "NGENERAL_SIDE_CONSTRAINTS:") (codes "0")) (heading Pcpsp n name (record h { is_general = true }))
+general_step n h name fresh =
+    header_step Pcpsp n name (codes "NGENERAL_SIDE_CONSTRAINTS") (codes "0") key.General h _ (word_field _ _ refl) (word_field _ _ refl) refl fresh
+    (rw zero_read refl)
+
+rate_step : (p : Problem) (n : ℕ) (h : Header) (name : List ℕ) (rate : ℤ) → (pos 0 ≤ℤ rate) × (rate ≤ℤ pos (10 ^ 6)) → is_some h.rate ≡ false
+    → IsStep (heading p n name h) (key_line (codes "DISCOUNT_RATE:") (shortest rate)) (heading p n name (record h { rate = Some (unsigned_abs rate) }))
+rate_step p n h name (negsuc k) within fresh = absurd (omega (arith, ints))
+rate_step p n h name (pos k) within fresh =
+    let most : k ≤ 10 ^ 6 = omega (arith, ints) in
+    header_step p n name (codes "DISCOUNT_RATE") (shortest (pos k)) key.Rate h _ (word_field _ _ refl) (decimal_field (pos k) (omega arith))
+    (in_all p _ _ refl refl) fresh (rw (size_again 6 (10 ^ 6) k (omega arith) (omega arith) most (omega arith)) refl)
+
+-- model lines take what was read before them to what was read with them
+pub record AreSteps (before : ModelDraft) (lines : List (List ℕ)) (after : ModelDraft) : Type 0 where
+  pub admitted : AdmitsAll admit_model before lines after
+
+pub then_lines : (s t u : ModelDraft) (line : List ℕ) (lines : List (List ℕ)) → IsStep s line t → AreSteps t lines u → AreSteps s (line ∷ lines) u
+then_lines s t u line lines h more = record { admitted = (t, h.is_line, h.admitted, more.admitted) }
+
+pub and_lines : (s t u : ModelDraft) (xs ys : List (List ℕ)) → AreSteps s xs t → AreSteps t ys u → AreSteps s (xs ++ ys) u
+and_lines s t u xs ys h more = record { admitted = admits_both admit_model s t u xs ys h.admitted more.admitted }
+
+no_lines : (s : ModelDraft) → AreSteps s [] s
+no_lines s = record { admitted = refl }
+
+-- a header with all its keys
+abbrev pub full_header : ℕ → ℕ → ℕ → ℤ → Header
+full_header periods destinations resources rate = record {
+  is_typed = true;
+  is_counted = true;
+  is_general = true;
+  periods = Some periods;
+  destinations = Some destinations;
+  resources = Some resources;
+  rate = Some (unsigned_abs rate);
+}
+
+pub pcpsp_header : (n : ℕ) (name : List ℕ) (periods destinations resources : ℕ) (rate : ℤ) → n ≤ 64000000 → is_name name ≡ true
+    → IsHorizon periods resources rate → (1 ≤ destinations) × (destinations ≤ 8)
+    → AreSteps (blank_model Pcpsp n) (problem_keys name (codes "PCPSP") n ++ pcpsp_keys periods destinations resources rate)
+    (heading Pcpsp n name (full_header periods destinations resources rate))
+pcpsp_header n name periods destinations resources rate few is_name horizon count =
+    then_lines _ _ _ _ _ (name_step Pcpsp n _ name is_name)
+    (then_lines _ _ _ _ _ (type_step Pcpsp n _ name refl)
+    (then_lines _ _ _ _ _ (blocks_step Pcpsp n _ name few refl)
+    (then_lines _ _ _ _ _ (periods_step Pcpsp n _ name periods horizon.periods_1_to_100 refl)
+    (then_lines _ _ _ _ _ (destinations_step n _ name destinations count refl)
+    (then_lines _ _ _ _ _ (resources_step Pcpsp n _ name resources horizon.at_most_8_resources refl)
+    (then_lines _ _ _ _ _ (general_step n _ name refl)
+    (then_lines _ _ _ _ _ (rate_step Pcpsp n _ name rate horizon.rate_0_to_1 refl) (no_lines _))))))))
+
+pub cpit_header : (n : ℕ) (name : List ℕ) (periods resources : ℕ) (rate : ℤ) → n ≤ 64000000 → is_name name ≡ true → IsHorizon periods resources rate
+    → AreSteps (blank_model Cpit n) (problem_keys name (codes "CPIT") n ++ cpit_keys periods resources rate)
+    (heading Cpit n name (full_header periods 1 resources rate))
+cpit_header n name periods resources rate few is_name horizon =
+    then_lines _ _ _ _ _ (name_step Cpit n _ name is_name)
+    (then_lines _ _ _ _ _ (type_step Cpit n _ name refl)
+    (then_lines _ _ _ _ _ (blocks_step Cpit n _ name few refl)
+    (then_lines _ _ _ _ _ (periods_step Cpit n _ name periods horizon.periods_1_to_100 refl)
+    (then_lines _ _ _ _ _ (resources_step Cpit n _ name resources horizon.at_most_8_resources refl)
+    (then_lines _ _ _ _ _ (rate_step Cpit n _ name rate horizon.rate_0_to_1 refl) (no_lines _))))))

@@ -1,0 +1,115 @@
+-- A model file is read as it is written.
+use Rattle.std.proofs.Common.{◌≡◌, ℕ, ◌<◌, ◌≤◌, true, List, [], ◌∷◌, ◌++◌, length, ℤ, arith, refl, ◌∙◌, ap, length-append, eq-eqb, ne_eqb}
+use Rattle.std.specs.Prelude.{Ok, codes, All}
+use Rattle.pit_model.specs.Name.{is_name}
+use Rattle.pit_model.specs.Plan.{stands_before}
+use Rattle.pit_model.specs.declared.limit.Limit.{Limit}
+use Rattle.mine_instance.specs.Order.{comes_before}
+use Rattle.mine_instance.specs.Valid.{AreCoefs, AreLimits, IsUpward}
+use Rattle.mine_instance.specs.declared.coef.Coef.{Coef}
+use Rattle.minelib_text.specs.Kept.{IsDecimal, HasDecimals}
+use Rattle.minelib_text.specs.Lines.{text_of, line_of, lines_from}
+use Rattle.minelib_text.specs.ModelLines.{ModelDraft, is_complete, admit_item, admit_model, blank_model, model_in}
+use Rattle.minelib_text.specs.Written.{value_fields, limit_fields, section_lines}
+use Rattle.minelib_text.specs.declared.model_key.Problem.{Problem}
+use Rattle.minelib_text.specs.declared.model_key.Section.TheVariants.{Objective, Coefs, Limits}
+use Rattle.minelib_text.proofs.ItemsBack.{item_there, behind_last, values_again, values_fields, coef_text, IsCount, coef_again, coefs_fields, limit_again, limits_fields, not_turned}
+use Rattle.minelib_text.proofs.KeysBack.{AreSteps, and_lines, then_lines, draft, heading, full_header, in_all, section_step, word_field}
+use Rattle.minelib_text.proofs.LinesBack.{AdmitsEach, items_admitted, text_read}
+use Rattle.minelib_text.proofs.NumbersBack.{name_field}
+use Rattle.minelib_text.proofs.PlainText.{AreFields, no_colon, fields_again, fields_line}
+
+-- what a model file states is of n blocks, and in order and range
+pub record IsModel (p : Problem) (n periods destinations resources : ℕ) (values : List (List ℤ)) (coefs : List Coef) (limits : List Limit) : Type 0 where
+  pub few : n ≤ 64000000
+  pub short : periods ≤ 100
+  pub count : IsCount p destinations
+  pub small : resources ≤ 8
+  pub as_many : length values ≡ n
+  pub one_each : All (λ vs. length vs ≡ destinations) values
+  pub are_coefs : AreCoefs n destinations resources coefs
+  pub are_limits : AreLimits resources periods limits
+  pub values_kept : All (λ vs. All IsDecimal vs) values
+  pub coefs_kept : All (λ c. IsDecimal c.v) coefs
+  pub limits_kept : All (λ l. HasDecimals l.bound) limits
+
+-- a line of fields is an item of its section
+item_line : (d : ModelDraft) (fields : List (List ℕ)) → AreFields fields → admit_model d (line_of fields) ≡ admit_item d d.section fields
+unfolding admit_model
+item_line d fields h = rw (no_colon fields h, fields_again fields h) refl
+
+-- items that are admitted one after the other are read
+items_read : {A : Type 0} (fields : ℕ → A → List (List ℕ)) (after : List A → ModelDraft) (all : List A) → AdmitsEach admit_model fields after all
+    → AreSteps (after []) (lines_from fields 0 all) (after all)
+items_read fields after all each = record { admitted = items_admitted admit_model fields after all each 0 [] all refl refl }
+
+module _ (p : Problem) (n : ℕ) (name : List ℕ) (periods destinations resources : ℕ) (rate : ℤ) (values : List (List ℤ)) (coefs : List Coef)
+    (limits : List Limit) (m : IsModel p n periods destinations resources values coefs limits) where
+  each_values : AdmitsEach admit_model value_fields
+      (λ done. draft p n name (full_header periods destinations resources rate) Objective done [] []) values
+  each_values done vs rest whole =
+      let few = m.few in
+      let place : length done < n = omega (arith, m.as_many, ap length whole, length-append done (vs ∷ rest)) in
+      let kept = item_there (λ vs. All IsDecimal vs) values done vs rest whole m.values_kept in
+      let as_many = item_there (λ vs. length vs ≡ destinations) values done vs rest whole m.one_each in
+      let fields = values_fields (length done) vs (omega arith) kept in
+      (fields_line _ fields, item_line _ _ fields ∙ rw (values_again n destinations (length done) vs few place as_many kept) refl)
+
+  each_coef : AdmitsEach admit_model (coef_text p)
+      (λ done. draft p n name (full_header periods destinations resources rate) Coefs values done []) coefs
+  each_coef done c rest whole =
+      let range = item_there (λ c. (c.b < n) × (c.d < destinations) × (c.r < resources)) coefs done c rest whole m.are_coefs.in_range in
+      let kept = item_there (λ c. IsDecimal c.v) coefs done c rest whole m.coefs_kept in
+      let fields = coefs_fields p n destinations resources (length done) c m.few m.count m.small range kept in (
+        fields_line _ fields,
+        item_line _ _ fields
+            ∙ rw (
+              coef_again p n destinations resources (length done) c m.few m.count m.small range kept,
+              behind_last comes_before coefs done c rest whole m.are_coefs.rising,
+            ) refl,
+      )
+
+  each_limit : AdmitsEach admit_model limit_fields
+      (λ done. draft p n name (full_header periods destinations resources rate) Limits values coefs done) limits
+  each_limit done l rest whole =
+      let range = item_there (λ l. (l.resource < resources) × (l.period < periods) × IsUpward l.bound) limits done l rest whole m.are_limits.in_range in
+      let kept = item_there (λ l. HasDecimals l.bound) limits done l rest whole m.limits_kept in
+      let fields = limits_fields (length done) resources periods l m.small m.short range.0 range.1 kept in (
+        fields_line _ fields,
+        item_line _ _ fields
+            ∙ rw (
+              limit_again resources periods l.resource l.period l.bound m.small m.short range.0 range.1 kept,
+              not_turned l.bound range.2,
+              behind_last stands_before limits done l rest whole m.are_limits.rising,
+            ) refl,
+      )
+
+  complete : is_name name ≡ true → is_complete name (full_header periods destinations resources rate) ≡ true
+  complete is = let some = (name_field name is).some in rw (ne_eqb (length name) 0 (λ e. omega arith)) refl
+
+  sections_again : is_name name ≡ true
+      → AreSteps (heading p n name (full_header periods destinations resources rate))
+      (section_lines (lines_from value_fields 0 values) (lines_from (coef_text p) 0 coefs) (lines_from limit_fields 0 limits))
+      (draft p n name (full_header periods destinations resources rate) Limits values coefs limits)
+  sections_again is =
+      let h = full_header periods destinations resources rate in
+      let objective = section_step (heading p n name h) (codes "OBJECTIVE_FUNCTION") Objective (word_field _ _ refl) (in_all p _ _ refl refl) refl
+      (complete is) in
+      let coefficients = section_step (draft p n name h Objective values [] []) (codes "RESOURCE_CONSTRAINT_COEFFICIENTS") Coefs
+      (word_field _ _ refl) (in_all p _ _ refl refl) refl (eq-eqb (length values) n m.as_many) in
+      let bounds = section_step (draft p n name h Coefs values coefs []) (codes "RESOURCE_CONSTRAINT_LIMITS") Limits (word_field _ _ refl)
+      (in_all p _ _ refl refl) refl refl in
+      and_lines _ _ _ _ _
+      (and_lines _ _ _ _ _
+      (then_lines _ _ _ _ _ objective (items_read value_fields (λ done. draft p n name h Objective done [] []) values each_values))
+      (then_lines _ _ _ _ _ coefficients (items_read (coef_text p) (λ done. draft p n name h Coefs values done []) coefs each_coef)))
+      (then_lines _ _ _ _ _ bounds (items_read limit_fields (λ done. draft p n name h Limits values coefs done) limits each_limit))
+
+  -- behind header lines that are read
+  pub model_again : is_name name ≡ true → (keys : List (List ℕ))
+      → AreSteps (blank_model p n) keys (heading p n name (full_header periods destinations resources rate))
+      → model_in p n (text_of (keys ++ section_lines (lines_from value_fields 0 values) (lines_from (coef_text p) 0 coefs) (lines_from limit_fields 0 limits)))
+      ≡ Ok (draft p n name (full_header periods destinations resources rate) Limits values coefs limits)
+  model_again is keys header =
+      let all = and_lines _ _ _ _ _ header (sections_again is) in
+      rw (text_read admit_model _ _ _ all.admitted, complete is, eq-eqb (length values) n m.as_many) refl

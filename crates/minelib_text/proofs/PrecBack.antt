@@ -1,0 +1,106 @@
+-- Predecessors are read from their text as they are.
+use Rattle.std.proofs.Common.{◌≡◌, ◌≢◌, ℕ, suc, ◌<◌, ◌≤◌, true, false, List, [], ◌∷◌, length, arith, refl, ◌∙◌, ap, sym, length-append, get_or, eqb, subst, inl, inr}
+use Rattle.std.specs.Prelude.{nat_lt, decimal, Ok, All, AllPairs}
+use Rattle.std.specs.List.{list_any, IsDistinct}
+use Rattle.std.proofs.lemmas.Bool.{eq-eqb, ne_eqb, le-ltb, or_cases, eqb-true}
+use Rattle.std.proofs.lemmas.List.{get_or_at}
+use Rattle.std.proofs.lemmas.List.Elements.{All-cons, All-head, All-tail, recursion_from_All}
+use Rattle.std.proofs.lemmas.Map.Steps.{length-le_from_distinct_below}
+use Rattle.mine_instance.specs.Valid.{ArePredsOf, ArePreds}
+use Rattle.minelib_text.specs.FieldValues.{whole_in}
+use Rattle.minelib_text.specs.Lines.{text_of, lines_from}
+use Rattle.minelib_text.specs.PrecLines.{stands_in, all_differ, PrecDraft, no_lists, preds_of, admit_preds, preds_in}
+use Rattle.minelib_text.specs.Written.{prec_fields}
+use Rattle.minelib_text.proofs.LinesBack.{AdmitsEach, items_admitted, text_read}
+use Rattle.minelib_text.proofs.NumbersBack.{whole_field, whole_again, map_fields, map_again}
+use Rattle.minelib_text.proofs.PlainText.{AreFields, fields_again, fields_line}
+
+stands_not : (own : ℕ) (ids : List ℕ) → All (λ id. id ≢ own) ids → stands_in ids own ≡ false
+stands_not own [] h = refl
+stands_not own (id ∷ ids) h =
+    rw (ne_eqb id own (All-head (λ id. id ≢ own) id ids h), stands_not own ids (All-tail (λ id. id ≢ own) id ids h)) refl
+
+pairs_tail : (id : ℕ) (ids : List ℕ) → AllPairs (λ id other. id ≢ other) (id ∷ ids) → AllPairs (λ id other. id ≢ other) ids
+pairs_tail id ids h = λ i j d before within. h (suc i) (suc j) d (omega arith) (omega arith)
+
+pairs_head : (id : ℕ) (ids : List ℕ) → AllPairs (λ id other. id ≢ other) (id ∷ ids) → All (λ other. other ≢ id) ids
+pairs_head id ids h = λ k d within e. h 0 (suc k) d (omega arith) (omega arith) (sym e)
+
+differ_again : (ids : List ℕ) → AllPairs (λ id other. id ≢ other) ids → all_differ ids ≡ true
+differ_again [] h = refl
+differ_again (id ∷ ids) h = rw (stands_not id ids (pairs_head id ids h), differ_again ids (pairs_tail id ids h)) refl
+
+distinct_cons : (id : ℕ) (ids : List ℕ) → All (λ other. other ≢ id) ids → IsDistinct eqb ids → IsDistinct eqb (id ∷ ids)
+unfolding IsDistinct
+distinct_cons id ids h k = (recursion_from_All (λ other. eqb id other ≡ false) ids (λ k d within. ne_eqb id _ (λ e. h k d within (sym e))), k)
+
+distinct_ids : (ids : List ℕ) → AllPairs (λ id other. id ≢ other) ids → IsDistinct eqb ids
+unfolding IsDistinct
+distinct_ids [] h = tt
+distinct_ids (id ∷ ids) h = distinct_cons id ids (pairs_head id ids h) (distinct_ids ids (pairs_tail id ids h))
+
+member_below : (n q : ℕ) (ids : List ℕ) → All (λ id. id < n) ids → list_any (eqb q) ids ≡ true → q < n
+member_below n q [] h e = absurd (cc)
+member_below n q (id ∷ ids) h e =
+    elim (or_cases (eqb q id) (list_any (eqb q) ids) e) [
+      | inl same ↦ omega (arith, eqb-true q id same, All-head (λ id. id < n) id ids h)
+      | inr later ↦ member_below n q ids (All-tail (λ id. id < n) id ids h) later
+    ]
+
+-- there are fewer predecessors than blocks, since none is the block itself
+fewer : (own n : ℕ) (ids : List ℕ) → own < n → ArePredsOf own n ids → length ids < n
+fewer own n ids below h =
+    omega (
+      arith,
+      length-le_from_distinct_below (own ∷ ids) n (distinct_cons own ids h.others (distinct_ids ids h.distinct))
+          (λ q. member_below n q (own ∷ ids) (All-cons (λ id. id < n) own ids below h.below)),
+    )
+
+preds_again : (own n : ℕ) (ids : List ℕ) → n ≤ 64000000 → own < n → ArePredsOf own n ids → preds_of n own (prec_fields own ids) ≡ Ok ids
+unfolding preds_of
+preds_again own n ids few below h =
+    let width : nat_lt (length (prec_fields own ids)) 2 ≡ false = le-ltb _ 2 (omega arith) in
+    rw (
+      width,
+      whole_again n own below (omega arith),
+      whole_again n (length ids) (fewer own n ids below h) (omega arith),
+      map_again (λ id. id < n) decimal (whole_in n) (λ id low. whole_again n id low (omega arith)) [] ids h.below,
+      eq-eqb own own refl,
+      eq-eqb (length ids) (length ids) refl,
+      stands_not own ids h.others,
+      differ_again ids h.distinct,
+    ) refl
+
+preds_fields : (own n : ℕ) (ids : List ℕ) → n ≤ 64000000 → own < n → ArePredsOf own n ids → AreFields (prec_fields own ids)
+preds_fields own n ids few below h =
+    record {
+      some = omega arith;
+      each = (
+        whole_field own (omega arith),
+        (
+          whole_field (length ids) (omega (arith, fewer own n ids below h)),
+          map_fields (λ id. id < n) decimal (λ id low. whole_field id (omega arith)) ids h.below,
+        ),
+      );
+    }
+
+abbrev draft_of : ℕ → List (List ℕ) → PrecDraft
+draft_of n lists = record { blocks = n; lists = lists }
+
+each_preds : (n : ℕ) (lists : List (List ℕ)) → n ≤ 64000000 → length lists ≡ n → ArePreds n lists
+    → AdmitsEach admit_preds prec_fields (draft_of n) lists
+each_preds n lists few as_many h done ids rest whole =
+    let place : length done < n = omega (arith, ap length whole, length-append done (ids ∷ rest)) in
+    let there : get_or lists (length done) [] ≡ ids = ap (λ all. get_or all (length done) []) whole ∙ get_or_at done ids rest [] (length done) refl in
+    let own = subst (ArePredsOf (length done) n) there (h (length done) (omega arith)) in
+    let fields = preds_fields (length done) n ids few place own in
+    (fields_line _ fields, rw (fields_again _ fields, preds_again (length done) n ids few place own) refl)
+
+pub lists_again : (n : ℕ) (lists : List (List ℕ)) → n ≤ 64000000 → length lists ≡ n → ArePreds n lists
+    → preds_in n (text_of (lines_from prec_fields 0 lists)) ≡ Ok lists
+lists_again n lists few as_many h =
+    rw (
+      text_read admit_preds (no_lists n) (draft_of n lists) (lines_from prec_fields 0 lists)
+          (items_admitted admit_preds prec_fields (draft_of n) lists (each_preds n lists few as_many h) 0 [] lists refl refl),
+      eq-eqb (length lists) n as_many,
+    ) refl

@@ -1,0 +1,11 @@
+use Rattle.std.proofs.Common.{◌∙◌, ap}
+use Rattle.std.specs.Prelude.{unwrap_or, length}
+use Rattle.minelib_text.proofs.Cuts.{is_feed, place_or_length, place_within}
+use Rattle.minelib_text.proofs.text_lines.line_end.Goals as goal
+
+pub returns-clause-value : goal.returns-clause-value
+returns-clause-value c =
+    c.unwrap_or.ensures ∙ ap (λ place. unwrap_or place (length c.args.text.now)) c.feed_place.ensures ∙ place_or_length is_feed c.args.text.now
+
+pub returns-clause-within : goal.returns-clause-within
+returns-clause-within c = rw (returns-clause-value c) (place_within is_feed c.args.text.now)

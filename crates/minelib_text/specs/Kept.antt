@@ -1,0 +1,31 @@
+-- What the types of their parts keep of every instance and of every CPIT.
+use Rattle.std.specs.Prelude.{◌≡◌, ◌≤◌, ◌^◌, true, ℤ, unsigned_abs, All}
+use Rattle.pit_model.specs.Name.{is_name}
+use Rattle.pit_model.specs.declared.limit.Bound.{Bound}
+use Rattle.pit_model.specs.declared.limit.Bound.TheVariants.{AtMost, AtLeast, Between}
+use Rattle.mine_instance.specs.Cpit.{CpitParts}
+use Rattle.mine_instance.specs.declared.instance.Instance.{Instance}
+
+-- a decimal: at most 10^24 millionths either side of zero
+abbrev pub IsDecimal : ℤ → Type 0
+IsDecimal z = unsigned_abs z ≤ 10 ^ 24
+
+-- a bound of such numbers
+abbrev pub HasDecimals : Bound → Type 0
+HasDecimals (AtMost v) = IsDecimal v
+HasDecimals (AtLeast v) = IsDecimal v
+HasDecimals (Between v w) = IsDecimal v × IsDecimal w
+
+-- an instance with a NAME and such numbers
+pub record IsKept (i : Instance) : Type 0 where
+  pub name : is_name i.name ≡ true
+  pub values : All (λ values. All IsDecimal values) i.values
+  pub coefs : All (λ c. IsDecimal c.v) i.coefs
+  pub limits : All (λ l. HasDecimals l.bound) i.limits
+
+-- a CPIT with a NAME and such numbers
+pub record IsKeptCpit (c : CpitParts) : Type 0 where
+  pub name : is_name c.name ≡ true
+  pub values : All IsDecimal c.values
+  pub coefs : All (λ e. IsDecimal e.v) c.coefs
+  pub limits : All (λ l. HasDecimals l.bound) c.limits

@@ -1,0 +1,23 @@
+-- How the fields of a model file that is being read are seen, and what they keep.
+use Rattle.std.specs.Prelude.{◌≡◌, ◌<◌, ◌≤◌, true, [], length, unwrap_or, All, IfSome}
+use Rattle.minelib_text.specs.ModelLines.{ModelDraft, count_in, is_heading}
+use Rattle.minelib_text.specs.declared.model_draft.ModelDraft.TheInside.{Inside}
+
+abbrev pub draft_of : Inside → ModelDraft
+draft_of d = record {
+  problem = d.problem;
+  blocks = d.blocks;
+  name = unwrap_or d.name [];
+  header = d.header;
+  section = d.section;
+  values = d.values;
+  coefs = d.coefs.items;
+  limits = d.limits.items;
+}
+
+-- a NAME has bytes, values stand behind the header alone, and each block has one for each destination
+pub record KeepsModel (d : Inside) : Type 0 where
+  pub few : d.blocks ≤ 64000000
+  pub name : IfSome d.name (λ bytes. 0 < length bytes)
+  pub heading : is_heading d.section ≡ true → d.values ≡ []
+  pub width : All (λ of_block. length of_block ≡ count_in d.header.destinations) d.values

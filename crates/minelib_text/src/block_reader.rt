@@ -1,0 +1,109 @@
+//! Reading a block file.
+
+ghost use Rattle.std.specs.Prelude.{◌≡◌, ◌≤◌, Some, length, IfOk};
+ghost use Rattle.pit_model.specs.Block.{AreInRange};
+ghost use Rattle.minelib_text.specs.BlockLines.{admit_block, block_of, block_with, blocks_in};
+ghost use Rattle.minelib_text.specs.Reading.{Gives};
+ghost use Rattle.minelib_text.specs.TextLines.{fields_of};
+
+use crate::read_fault::{FileError, LineError};
+use crate::reading::{Admit, read_lines};
+use crate::text_fault::TextKind;
+use crate::text_fields::{count_fields, first_size, first_whole};
+use mine_instance::blocks::Blocks;
+use pit_model::block::Block;
+use pit_model::ranges::{GRID_CELLS, MAX_GRADE, MAX_KG, MAX_ZONES};
+use std::alloc::Global;
+use std::marker::Model;
+
+/// The most blocks of an instance.
+const MOST_BLOCKS: u64 = 64_000_000;
+
+/// The fields of a line: the identifier, three indices, tonnes, grade and zone.
+const FIELDS: usize = 7;
+
+/// The blocks of the lines so far, by identifier.
+#[derive(Drop)]
+struct BlockDraft {
+    blocks: Vec<Block>,
+}
+
+impl Model for BlockDraft {
+    ghost use Rattle.std.specs.Prelude.{List};
+    ghost use Rattle.pit_model.specs.declared.block.Block.{Block as OneBlock};
+
+    ghost Value = { List OneBlock };
+
+    ghost view = { λ d. d.blocks.items };
+}
+
+impl Admit for BlockDraft {
+    ghost admit_line = { admit_block };
+
+    fn admit(&mut self, line: &[u8]) -> Result<(), LineError> {
+        let block = block_of(line, self.blocks.len())?;
+        self.blocks.push(block)?;
+        Ok(())
+    }
+}
+
+// The block of a line, where so many blocks stand before.
+#[tactic(auto, unfolding(crate::specs::BlockLines::block_of))]
+fn block_of(line: &[u8], before: usize) -> Result<Block, TextKind>
+    ensures { result ≡ block_of before (fields_of line.now) }
+{
+    if count_fields(line) != FIELDS {
+        return Err(TextKind::Fields);
+    }
+    let (id, behind_id) = first_whole(line, MOST_BLOCKS)?;
+    let (x, behind_x) = first_whole(behind_id, u64::from(GRID_CELLS))?;
+    let (y, behind_y) = first_whole(behind_x, u64::from(GRID_CELLS))?;
+    let (z, behind_z) = first_whole(behind_y, u64::from(GRID_CELLS))?;
+    let (tonnes, behind_tonnes) = first_size(behind_z, 3, MAX_KG * 1000)?;
+    let (grade, behind_grade) = first_size(behind_tonnes, 6, MAX_GRADE)?;
+    let (zone, _) = first_whole(behind_grade, u64::from(MAX_ZONES))?;
+    if id != before as u64 {
+        return Err(TextKind::Order);
+    }
+    Ok(block_with(
+        x as u16,
+        y as u16,
+        z as u16,
+        tonnes / 1000,
+        grade,
+        zone as u8,
+    ))
+}
+
+fn block_with(x: u16, y: u16, z: u16, kg: u64, grade: u64, zone: u8) -> Block
+    requires { AreInRange x y z kg grade zone }
+    ensures { block_with x y z kg grade zone ≡ Some result }
+{
+    Block {
+        x,
+        y,
+        z,
+        kg,
+        grade,
+        zone,
+    }
+}
+
+/// The blocks that a text states, by identifier.
+pub fn read_blocks(alloc: Global, text: &[u8]) -> Result<Blocks, FileError>
+    ensures stated { Gives result (blocks_in text.now) }
+    ensures few { IfOk result (λ blocks. length blocks ≤ 64000000) }
+{
+    let blocks = drafted(alloc, text)?;
+    Ok(blocks)
+}
+
+fn drafted(alloc: Global, text: &[u8]) -> Result<Blocks, FileError>
+    ensures { Gives result (blocks_in text.now) }
+{
+    let mut draft = BlockDraft {
+        blocks: Vec::new(alloc),
+    };
+    read_lines(&mut draft, text)?;
+    Ok(Blocks::new(draft.blocks))
+}

@@ -1,0 +1,334 @@
+//! A model file while its lines are read.
+
+ghost use Rattle.std.specs.Prelude.{◌≡◌, ◌≤◌, ◌<◌, ◌==◌, ◌&&◌, [], true, false, not, length, map, is_some, unwrap_or, IfOk, IfSome};
+ghost use Rattle.mine_instance.specs.Cpit.{IsCpit};
+ghost use Rattle.mine_instance.specs.OfCpit.{without_destination};
+ghost use Rattle.minelib_text.specs.Denotes.{cpit_read, instance_read};
+ghost use Rattle.minelib_text.specs.ModelLines.{admit_coef, admit_header, admit_item, admit_key, admit_limit, admit_model, admit_section, admit_values, blank_model, finish_model, is_complete, is_given, is_heading, is_limits, is_ready, name_with};
+ghost use Rattle.minelib_text.specs.ModelParts.{are_given, is_name_for};
+ghost use Rattle.minelib_text.specs.Reading.{Admits, Gives};
+ghost use Rattle.minelib_text.specs.TextLines.{fields_of};
+
+use crate::model_header::{blank_header, header_with};
+use crate::model_items::{coef_of, is_coef_behind, is_limit_behind, limit_of, values_in};
+use crate::model_key::{Header, HeaderKey, ModelKey, Problem, Section};
+use crate::model_keys::{cut_at_colon, is_heading, is_limits, is_next, key_of, only_value};
+use crate::read_fault::{FileError, LineError};
+use crate::reading::Admit;
+use crate::text_fault::{LineFault, TextKind};
+use crate::text_fields::count_fields;
+use mine_instance::blocks::Blocks;
+use mine_instance::coef::{Coef, Coefs};
+use mine_instance::cpit::{Cpit, CpitCoef};
+use mine_instance::instance::Instance;
+use mine_instance::limits::Limits;
+use mine_instance::values::Values;
+use pit_model::limit::Limit;
+use pit_model::name::Name;
+use pit_units::Dec;
+use precedence::Preds;
+use std::alloc::{AllocError, Global};
+use std::marker::Model;
+
+/// What the lines of a model file so far state, of so many blocks.
+#[derive(Drop)]
+pub struct ModelDraft {
+    alloc: Global,
+    problem: Problem,
+    blocks: usize,
+    name: Option<Name>,
+    header: Header,
+    section: Section,
+    values: Values,
+    coefs: Vec<Coef>,
+    limits: Vec<Limit>,
+    // the values of the last line of the objective
+    row: Vec<Dec>,
+}
+
+impl Model for ModelDraft {
+    ghost use Rattle.minelib_text.specs.ModelLines.{ModelDraft as Stated};
+
+    ghost Value = { Stated };
+
+    ghost use Rattle.minelib_text.specs.ModelView.{draft_of, KeepsModel};
+
+    ghost view = { draft_of };
+
+    ghost invariant = { KeepsModel };
+}
+
+impl Admit for ModelDraft {
+    ghost admit_line = { admit_model };
+
+    #[tactic(auto, unfolding(crate::specs::ModelLines::admit_model))]
+    fn admit(&mut self, line: &[u8]) -> Result<(), LineError> {
+        match cut_at_colon(line) {
+            Some((word, values)) => self.admit_key(key_of(self.problem, word), values),
+            None => self.admit_item(line),
+        }
+    }
+}
+
+impl ModelDraft {
+    /// Before the first line.
+    pub fn new(alloc: Global, problem: Problem, blocks: usize) -> ModelDraft
+        requires { blocks ≤ 64000000 }
+        ensures { result ≡ blank_model problem blocks }
+    {
+        ModelDraft {
+            alloc,
+            problem,
+            blocks,
+            name: None,
+            header: blank_header(problem),
+            section: Section::Heading,
+            values: Values::new(Vec::new(alloc), 0, 0),
+            coefs: Vec::new(alloc),
+            limits: Vec::new(alloc),
+            row: Vec::new(alloc),
+        }
+    }
+
+    /// The draft, once all lines are read and `end` is the number of the line after the last.
+    pub fn finish(self, end: u64) -> Result<ModelDraft, FileError>
+        ensures value { Gives result (finish_model end self) }
+        ensures complete { IfOk result (λ d. is_complete d.name d.header ≡ true) }
+    {
+        if self.is_whole() {
+            Ok(self)
+        } else {
+            Err(FileError::Faulty(LineFault {
+                line: end,
+                kind: TextKind::Missing,
+            }))
+        }
+    }
+
+    /// The instance of this file, and of blocks and predecessors.
+    pub fn into_instance(self, blocks: Blocks, preds: Preds) -> Instance
+        requires { is_complete self.name self.header ≡ true }
+        ensures { result ≡ instance_read blocks preds self }
+    {
+        let rate = self.header.rate.unwrap_or(0);
+        Instance {
+            name: self.name.unwrap(),
+            rate: Dec::new(i128::from(rate)).unwrap(),
+            periods: self.header.periods.unwrap_or(0),
+            destinations: self.header.destinations.unwrap_or(0),
+            resources: self.header.resources.unwrap_or(0),
+            blocks,
+            preds,
+            values: self.values,
+            coefs: Coefs::new(self.coefs),
+            limits: Limits::new(self.limits),
+        }
+    }
+
+    /// The CPIT of this file. Fails only where memory is refused.
+    pub fn into_cpit(self) -> Result<Cpit, AllocError>
+        requires complete { is_complete self.name self.header ≡ true }
+        requires cpit { IsCpit (cpit_read self) }
+        ensures { IfOk result (λ cpit. cpit ≡ cpit_read self) }
+    {
+        let coefs = without_destinations(self.alloc, self.coefs.as_slice())?;
+        let rate = self.header.rate.unwrap_or(0);
+        Ok(Cpit::new(
+            self.name.unwrap(),
+            Dec::new(i128::from(rate)).unwrap(),
+            self.header.periods.unwrap_or(0),
+            self.header.resources.unwrap_or(0),
+            self.values.into_flat(),
+            coefs,
+            self.limits,
+        ))
+    }
+
+    fn is_whole(&self) -> bool
+        ensures { result ≡ (is_complete self.now.name self.now.header && (length self.now.values == self.now.blocks) && is_limits self.now.section) }
+    {
+        self.is_complete() && self.values.len() == self.blocks && is_limits(self.section)
+    }
+
+    fn admit_key(&mut self, key: Option<ModelKey>, values: &[u8]) -> Result<(), LineError>
+        ensures { Admits self.new result (admit_key self.old key (fields_of values.now)) }
+    {
+        match key {
+            None => Err(LineError::Faulty(TextKind::Key)),
+            Some(ModelKey::Header(key)) => self.admit_header(key, values),
+            Some(ModelKey::Section(section)) => self.admit_section(section, values),
+        }
+    }
+
+    fn admit_header(&mut self, key: HeaderKey, values: &[u8]) -> Result<(), LineError>
+        ensures { Admits self.new result (admit_header self.old key (fields_of values.now)) }
+    {
+        if !is_heading(self.section) {
+            return Err(LineError::Faulty(TextKind::Key));
+        }
+        if self.is_given(key) {
+            return Err(LineError::Faulty(TextKind::Twice));
+        }
+        let value = only_value(values)?;
+        let header = header_with(self.problem, self.blocks, key, value, self.header)?;
+        let name = name_with(self.alloc, key, value, self.name.take())?;
+        self.header = header;
+        self.name = name;
+        Ok(())
+    }
+
+    fn admit_section(&mut self, section: Section, values: &[u8]) -> Result<(), LineError>
+        ensures { Admits self.new result (admit_section self.old section (fields_of values.now)) }
+    {
+        if !is_next(self.section, section) {
+            return Err(LineError::Faulty(TextKind::Key));
+        }
+        if count_fields(values) != 0 {
+            return Err(LineError::Faulty(TextKind::Fields));
+        }
+        if !self.is_ready() {
+            return Err(LineError::Faulty(TextKind::Missing));
+        }
+        self.section = section;
+        Ok(())
+    }
+
+    fn admit_item(&mut self, line: &[u8]) -> Result<(), LineError>
+        ensures { Admits self.new result (admit_item self.old self.old.section (fields_of line.now)) }
+    {
+        match self.section {
+            Section::Heading => Err(LineError::Faulty(TextKind::Key)),
+            Section::Objective => self.admit_values(line),
+            Section::Coefs => self.admit_coef(line),
+            Section::Limits => self.admit_limit(line),
+        }
+    }
+
+    fn admit_values(&mut self, line: &[u8]) -> Result<(), LineError>
+        requires { is_heading self.old.section ≡ false }
+        ensures { Admits self.new result (admit_values self.old (fields_of line.now)) }
+    {
+        let destinations = self.header.destinations.unwrap_or(0);
+        let before = self.values.len();
+        values_in(self.blocks, destinations, before, line, &mut self.row)?;
+        self.values.push(self.row.as_slice())?;
+        Ok(())
+    }
+
+    fn admit_coef(&mut self, line: &[u8]) -> Result<(), LineError>
+        requires { is_heading self.old.section ≡ false }
+        ensures { Admits self.new result (admit_coef self.old (fields_of line.now)) }
+    {
+        let destinations = self.header.destinations.unwrap_or(0);
+        let resources = self.header.resources.unwrap_or(0);
+        let coef = coef_of(self.problem, self.blocks, destinations, resources, line)?;
+        if !is_coef_behind(self.coefs.as_slice(), &coef) {
+            return Err(LineError::Faulty(TextKind::Order));
+        }
+        self.coefs.push(coef)?;
+        Ok(())
+    }
+
+    fn admit_limit(&mut self, line: &[u8]) -> Result<(), LineError>
+        ensures { Admits self.new result (admit_limit self.old (fields_of line.now)) }
+    {
+        let resources = self.header.resources.unwrap_or(0);
+        let periods = self.header.periods.unwrap_or(0);
+        let limit = limit_of(resources, periods, line)?;
+        if limit.bound.is_turned() || !is_limit_behind(self.limits.as_slice(), &limit) {
+            return Err(LineError::Faulty(TextKind::Order));
+        }
+        self.limits.push(limit)?;
+        Ok(())
+    }
+
+    fn is_named(&self) -> bool
+        ensures { result ≡ not (length self.now.name == 0) }
+    {
+        self.name.is_some()
+    }
+
+    // Whether the header key stood before.
+    fn is_given(&self, key: HeaderKey) -> bool
+        ensures { result ≡ is_given key self.now.name self.now.header }
+    {
+        match key {
+            HeaderKey::Name => self.is_named(),
+            HeaderKey::Type => self.header.is_typed,
+            HeaderKey::Blocks => self.header.is_counted,
+            HeaderKey::Periods => self.header.periods.is_some(),
+            HeaderKey::Destinations => self.header.destinations.is_some(),
+            HeaderKey::Resources => self.header.resources.is_some(),
+            HeaderKey::General => self.header.is_general,
+            HeaderKey::Rate => self.header.rate.is_some(),
+        }
+    }
+
+    // Whether all header keys stood.
+    fn is_complete(&self) -> bool
+        ensures { result ≡ is_complete self.now.name self.now.header }
+    {
+        self.is_named() && are_given(&self.header)
+    }
+
+    // Whether all that has to stand before the next section does.
+    fn is_ready(&self) -> bool
+        ensures { result ≡ is_ready self.now self.now.section }
+    {
+        match self.section {
+            Section::Heading => self.is_complete(),
+            Section::Objective => self.values.len() == self.blocks,
+            Section::Coefs => true,
+            Section::Limits => true,
+        }
+    }
+}
+
+// The coefficients of a CPIT, whose one destination is not named.
+fn without_destinations(alloc: Global, coefs: &[Coef]) -> Result<Vec<CpitCoef>, AllocError>
+    ensures { IfOk result (λ of_cpit. of_cpit.items ≡ map without_destination coefs.now) }
+{
+    let mut of_cpit = Vec::with_capacity(alloc, coefs.len())?;
+    for coef in coefs {
+        let (b, r, v) = (coef.b, coef.r, coef.v);
+        of_cpit.push(CpitCoef { b, r, v })?;
+    }
+    Ok(of_cpit)
+}
+
+fn are_given(header: &Header) -> bool
+    ensures { result ≡ are_given header.now }
+{
+    header.is_typed
+        && header.is_counted
+        && header.is_general
+        && header.periods.is_some()
+        && header.destinations.is_some()
+        && header.resources.is_some()
+        && header.rate.is_some()
+}
+
+// The NAME after a header key with this value.
+#[tactic(auto, using(crate::proofs::ModelFacts::names_have_bytes))]
+fn name_with(
+    alloc: Global,
+    key: HeaderKey,
+    value: &[u8],
+    name: Option<Name>,
+) -> Result<Option<Name>, AllocError>
+    requires fits { is_name_for key value.now ≡ true }
+    requires some { IfSome name (λ bytes. 0 < length bytes) }
+    ensures value { IfOk result (λ named. unwrap_or named [] ≡ name_with key value.now (unwrap_or name [])) }
+    ensures some { IfOk result (λ named. IfSome named (λ bytes. 0 < length bytes)) }
+{
+    match key {
+        HeaderKey::Name => Name::read(alloc, value),
+        HeaderKey::Type => Ok(name),
+        HeaderKey::Blocks => Ok(name),
+        HeaderKey::Periods => Ok(name),
+        HeaderKey::Destinations => Ok(name),
+        HeaderKey::Resources => Ok(name),
+        HeaderKey::General => Ok(name),
+        HeaderKey::Rate => Ok(name),
+    }
+}

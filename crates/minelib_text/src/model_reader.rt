@@ -1,0 +1,27 @@
+//! Reading a model file.
+
+ghost use Rattle.std.specs.Prelude.{◌≡◌, ◌≤◌, true, IfOk};
+ghost use Rattle.minelib_text.specs.ModelLines.{is_complete, model_in};
+ghost use Rattle.minelib_text.specs.Reading.{Gives};
+
+use crate::model_draft::ModelDraft;
+use crate::model_key::Problem;
+use crate::read_fault::FileError;
+use crate::reading::read_lines;
+use std::alloc::Global;
+
+/// What the model file of a problem states, of so many blocks.
+pub fn read_model(
+    alloc: Global,
+    problem: Problem,
+    blocks: usize,
+    text: &[u8],
+) -> Result<ModelDraft, FileError>
+    requires { blocks ≤ 64000000 }
+    ensures value { Gives result (model_in problem blocks text.now) }
+    ensures complete { IfOk result (λ d. is_complete d.name d.header ≡ true) }
+{
+    let mut draft = ModelDraft::new(alloc, problem, blocks);
+    let end = read_lines(&mut draft, text)?;
+    draft.finish(end)
+}

@@ -1,0 +1,151 @@
+//! Reading a precedence file.
+
+ghost use Rattle.std.specs.Prelude.{◌≡◌, ◌<◌, ◌≤◌, [], length, vec_len, All, IfOk, OnOk};
+ghost use Rattle.minelib_text.specs.FieldValues.{all_by, whole_in};
+ghost use Rattle.minelib_text.specs.Marks.{AreClear};
+ghost use Rattle.minelib_text.specs.PrecLines.{admit_preds, finish_preds, no_lists, preds_in, preds_of, stands_in};
+ghost use Rattle.minelib_text.specs.Reading.{Admits, Gives};
+ghost use Rattle.minelib_text.specs.TextLines.{fields_of};
+
+use crate::field_values::whole_in;
+use crate::marks::all_differ;
+use crate::read_fault::{FileError, LineError};
+use crate::reading::{Admit, read_lines};
+use crate::text_fault::{LineFault, TextKind};
+use crate::text_fields::{count_fields, first_whole, next_field};
+use precedence::Preds;
+use std::alloc::{AllocError, Global};
+use std::marker::Model;
+
+/// The predecessors of the lines so far, by identifier.
+#[derive(Drop)]
+struct PrecDraft {
+    blocks: usize,
+    preds: Preds,
+    // the predecessors of the line that is read
+    ids: Vec<u32>,
+    // a place for each block
+    marks: Vec<bool>,
+}
+
+impl Model for PrecDraft {
+    ghost use Rattle.std.specs.Prelude.{◌≡◌, ◌≤◌, vec_len};
+    ghost use Rattle.minelib_text.specs.Marks.{AreClear};
+    ghost use Rattle.minelib_text.specs.PrecLines.{PrecDraft as Seen};
+
+    ghost Value = { Seen };
+
+    ghost view = { λ d. record { blocks = d.blocks; lists = d.preds } };
+
+    ghost invariant = { λ d. (d.blocks ≤ 64000000) × (vec_len d.marks ≡ d.blocks) × AreClear d.marks.items };
+}
+
+impl Admit for PrecDraft {
+    ghost admit_line = { admit_preds };
+
+    fn admit(&mut self, line: &[u8]) -> Result<(), LineError> {
+        preds_of(
+            line,
+            self.blocks,
+            self.preds.len(),
+            &mut self.ids,
+            &mut self.marks,
+        )?;
+        self.preds.push(self.ids.as_slice())?;
+        Ok(())
+    }
+}
+
+// The predecessors of a line, of so many blocks, where so many lines stand before.
+#[tactic(auto, unfolding(crate::specs::PrecLines::preds_of))]
+fn preds_of(
+    line: &[u8],
+    blocks: usize,
+    before: usize,
+    ids: &mut Vec<u32>,
+    marks: &mut Vec<bool>,
+) -> Result<(), LineError>
+    requires few { blocks ≤ 64000000 }
+    requires places { vec_len marks.old ≡ blocks }
+    requires clear { AreClear marks.old.items }
+    ensures value { Admits ids.new.items result (preds_of blocks before (fields_of line.now)) }
+    ensures places { vec_len marks.new ≡ blocks }
+    ensures clear { AreClear marks.new.items }
+{
+    if count_fields(line) < 2 {
+        return Err(LineError::Faulty(TextKind::Fields));
+    }
+    let (id, behind_id) = first_whole(line, blocks as u64)?;
+    let (stated, behind_stated) = first_whole(behind_id, blocks as u64)?;
+    read_ids(behind_stated, blocks, ids)?;
+    if id != before as u64 {
+        return Err(LineError::Faulty(TextKind::Order));
+    }
+    if stated != ids.len() as u64 {
+        return Err(LineError::Faulty(TextKind::Count));
+    }
+    if stands_in(ids, before as u32) || !all_differ(marks, ids) {
+        return Err(LineError::Faulty(TextKind::Twice));
+    }
+    Ok(())
+}
+
+// All identifiers of a line, of so many blocks.
+fn read_ids(line: &[u8], blocks: usize, ids: &mut Vec<u32>) -> Result<(), LineError>
+    requires { blocks ≤ 64000000 }
+    ensures value { Admits ids.new.items result (all_by (whole_in blocks) [] (fields_of line.now)) }
+    ensures below { OnOk result (All (λ id. id < blocks) ids.new.items) }
+{
+    ids.clear();
+    let mut rest = line;
+    while let Some((field, behind)) = next_field(rest) {
+        let id = whole_in(field, blocks as u64)?;
+        ids.push(id as u32)?;
+        rest = behind;
+    }
+    Ok(())
+}
+
+fn stands_in(ids: &[u32], id: u32) -> bool
+    ensures { result ≡ stands_in ids.now id }
+{
+    ids.iter().any(|other| *other == id)
+}
+
+impl PrecDraft {
+    fn new(alloc: Global, blocks: usize) -> Result<PrecDraft, AllocError>
+        requires { blocks ≤ 64000000 }
+        ensures { IfOk result (λ d. d ≡ no_lists blocks) }
+    {
+        Ok(PrecDraft {
+            blocks,
+            preds: Preds::new(alloc),
+            ids: Vec::new(alloc),
+            marks: Vec::from_elem(alloc, false, blocks)?,
+        })
+    }
+
+    // The lists, once all lines are read and `end` is the number of the line after the last.
+    fn finish(self, end: u64) -> Result<Preds, FileError>
+        ensures { Gives result (finish_preds end self) }
+    {
+        if self.preds.len() == self.blocks {
+            Ok(self.preds)
+        } else {
+            Err(FileError::Faulty(LineFault {
+                line: end,
+                kind: TextKind::Missing,
+            }))
+        }
+    }
+}
+
+/// The predecessors that a text states, of so many blocks.
+pub fn read_preds(alloc: Global, blocks: usize, text: &[u8]) -> Result<Preds, FileError>
+    requires { blocks ≤ 64000000 }
+    ensures { Gives result (preds_in blocks text.now) }
+{
+    let mut draft = PrecDraft::new(alloc, blocks)?;
+    let end = read_lines(&mut draft, text)?;
+    draft.finish(end)
+}
