@@ -22,7 +22,8 @@ use Rattle.minelib_text.specs.declared.text_fault.TextKind.{TextKind}
 use Rattle.minelib_text.specs.declared.text_fault.TextKind.TheVariants.{Fields, Order, Name}
 use Rattle.minelib_text.proofs.ReadSteps.{bind_then, guard_then, first_then, not_false, same_ok, none_behind, counted, all_ok, as_many, whole_in_ok, decimal_in_ok}
 
-all_stand : (fields : List (List ℕ)) (values : List ℤ) → AllZip (λ field v. decimal_in field ≡ Ok v) fields values → AllZip (StandsFor 6) fields values
+all_stand : (fields : List (List ℕ)) (values : List ℤ) → AllZip (λ field v. decimal_in field ≡ Ok v) fields values
+    → AllZip (StandsFor 6) fields values
 all_stand [] [] zip = tt
 all_stand [] (v ∷ values) zip = absurd zip
 all_stand (field ∷ fields) [] zip = absurd zip
@@ -119,7 +120,9 @@ bound_states letter fields bound e width = by_l (bytes_eq letter (codes "L")) re
 
     by_i : (t : Bool) → bytes_eq letter (codes "I") ≡ t → (if t then interval_in fields else Err Name) ≡ Ok bound
         → length fields ≡ (if t then 2 else 1) → StatesBound (letter ∷ fields) bound
-    by_i true is h count = subst (λ l. StatesBound (l ∷ fields) bound) (sym ((bytes_eq-Decides letter (codes "I")).0 is)) (interval_states fields bound h count)
+    by_i true is h count =
+        let same : letter ≡ codes "I" = (bytes_eq-Decides letter (codes "I")).0 is in
+        subst (λ l. StatesBound (l ∷ fields) bound) (sym same) (interval_states fields bound h count)
     by_i false is h count = absurd cc
 
     by_g : (t : Bool) → bytes_eq letter (codes "G") ≡ t

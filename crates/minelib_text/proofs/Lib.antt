@@ -2,7 +2,9 @@ pub mod BlocksBack
 pub mod CpitBack
 pub mod Cuts
 pub mod Fronts
+pub mod HeaderLines
 pub mod InstanceBack
+pub mod ItemLines
 pub mod ItemSteps
 pub mod ItemsBack
 pub mod KeySteps
@@ -11,6 +13,7 @@ pub mod LineFacts
 pub mod LinesBack
 pub mod MarkFacts
 pub mod ModelBack
+pub mod ModelEnd
 pub mod ModelFacts
 pub mod ModelSteps
 pub mod NumbersBack
@@ -19,6 +22,8 @@ pub mod PlainText
 pub mod PrecBack
 pub mod ReadSteps
 pub mod Rising
+pub mod SpelledModelRead
+pub mod SpelledRead
 pub mod ValidBlocks
 pub mod ValidHeader
 pub mod ValidModel

@@ -164,3 +164,20 @@ model_step d line next e = by (list_any is_colon line) refl e
         → Step d line next
     by true colon h = key_step d line next (key_of d.problem (fields_of (before_first is_colon line))) colon refl h
     by false keyless h = item_step d line next d.section keyless refl h
+
+-- what holds of each section and the next
+pub next_by : (P : Section → Section → Type 0) → P Heading Objective → P Objective Coefs → P Coefs Limits
+    → (now next : Section) → is_next now next ≡ true → P now next
+next_by P objective coefs limits Heading Objective e = objective
+next_by P objective coefs limits Objective Coefs e = coefs
+next_by P objective coefs limits Coefs Limits e = limits
+next_by P objective coefs limits Heading Heading e = absurd cc
+next_by P objective coefs limits Heading Coefs e = absurd cc
+next_by P objective coefs limits Heading Limits e = absurd cc
+next_by P objective coefs limits Objective Heading e = absurd cc
+next_by P objective coefs limits Objective Objective e = absurd cc
+next_by P objective coefs limits Objective Limits e = absurd cc
+next_by P objective coefs limits Coefs Heading e = absurd cc
+next_by P objective coefs limits Coefs Objective e = absurd cc
+next_by P objective coefs limits Coefs Coefs e = absurd cc
+next_by P objective coefs limits Limits section e = absurd cc

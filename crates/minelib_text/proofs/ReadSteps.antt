@@ -58,14 +58,24 @@ pub in_file_ok : {A : Type 0} (file : TextFile) (r : Result A LineFault) (x : A)
 in_file_ok file (Ok y) x e = cc
 in_file_ok file (Err fault) x e = absurd cc
 
+-- what each admitted line keeps, of the lines so far, stands at the end of all lines
+pub kept_with_lines : {S : Type 0} (Keeps : List Line → S → Type 0) (admit : S → List ℕ → Result S TextKind)
+    → ((done : List Line) (s : S) (line : Line) (next : S) → admit s line.text ≡ Ok next → Keeps done s → Keeps (done ++ line ∷ []) next)
+    → (done : List Line) (s : S) (lines : List Line) (last : S) → read_lines admit s lines ≡ Ok last → Keeps done s → Keeps (done ++ lines) last
+kept_with_lines Keeps admit step done s [] last e kept =
+    subst (λ lines. Keeps lines last) (sym (append-nil done)) (subst (Keeps done) (same_ok s last e) kept)
+kept_with_lines Keeps admit step done s (line ∷ lines) last e kept =
+    bind_then (at_line line.number (admit s line.text)) (λ next. read_lines admit next lines) last e (λ next admitted rest.
+    let here = step done s line next (at_line_ok line.number (admit s line.text) next admitted) kept in
+    subst (λ all. Keeps all last) (append_assoc done (line ∷ []) lines)
+    (kept_with_lines Keeps admit step (done ++ line ∷ []) next lines last rest here))
+
 -- what each admitted line keeps stands at the end
 pub kept_by_lines : {S : Type 0} (Keeps : S → Type 0) (admit : S → List ℕ → Result S TextKind)
     → ((s : S) (line : List ℕ) (next : S) → admit s line ≡ Ok next → Keeps s → Keeps next)
     → (s : S) (lines : List Line) (last : S) → read_lines admit s lines ≡ Ok last → Keeps s → Keeps last
-kept_by_lines Keeps admit step s [] last e kept = subst Keeps (same_ok s last e) kept
-kept_by_lines Keeps admit step s (line ∷ lines) last e kept =
-    let b = bind_ok (at_line line.number (admit s line.text)) (λ next. read_lines admit next lines) last e in
-    kept_by_lines Keeps admit step b.0 lines last b.2 (step s line.text b.0 (at_line_ok line.number (admit s line.text) b.0 b.1) kept)
+kept_by_lines Keeps admit step s lines last e kept =
+    kept_with_lines (λ _ s. Keeps s) admit (λ done s line next says kept. step s line.text next says kept) [] s lines last e kept
 
 pub at_most_ok : (most : ℕ) (z : ℤ) (m : ℕ) → at_most most z ≡ Ok m → (z ≡ pos m) × (m ≤ most)
 at_most_ok most (pos k) m e =

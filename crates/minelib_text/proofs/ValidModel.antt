@@ -7,17 +7,17 @@ use Rattle.mine_instance.specs.Order.{comes_before}
 use Rattle.mine_instance.specs.OrderLaws.{comes_before_through, stands_before_through}
 use Rattle.mine_instance.specs.Valid.{AreCoefs, AreLimits, IsUpward}
 use Rattle.mine_instance.specs.declared.coef.Coef.{Coef}
-use Rattle.minelib_text.specs.ModelLines.{ModelDraft, blank_header, blank_model, is_heading, is_next, count_in, admit_model}
+use Rattle.minelib_text.specs.ModelLines.{ModelDraft, blank_header, blank_model, is_heading, count_in, admit_model}
 use Rattle.minelib_text.specs.SpelledItems.{IsCoefLine}
 use Rattle.minelib_text.specs.declared.model_key.Problem.{Problem}
 use Rattle.minelib_text.specs.declared.model_key.Problem.TheVariants.{Pcpsp, Cpit}
 use Rattle.minelib_text.specs.declared.model_key.Section.{Section}
-use Rattle.minelib_text.specs.declared.model_key.Section.TheVariants.{Heading, Objective, Coefs, Limits}
+use Rattle.minelib_text.specs.declared.model_key.Section.TheVariants.{Objective, Coefs, Limits}
 use Rattle.minelib_text.specs.Reading.{read_lines}
 use Rattle.minelib_text.specs.TextLines.{Line, fields_of}
 use Rattle.minelib_text.proofs.KeySteps.{Sets}
 use Rattle.minelib_text.proofs.ValidHeader.{IsSingle, KeepsHeader, KeepsName, blank_kept, name_kept, header_kept}
-use Rattle.minelib_text.proofs.ModelSteps.{SetsKey, BeginsSection, AddsValues, AddsCoef, AddsLimit, Step, model_step, Keyed, Begun, Valued, Spent, Limited}
+use Rattle.minelib_text.proofs.ModelSteps.{next_by, SetsKey, BeginsSection, AddsValues, AddsCoef, AddsLimit, Step, model_step, Keyed, Begun, Valued, Spent, Limited}
 use Rattle.minelib_text.proofs.ReadSteps.{kept_by_lines}
 use Rattle.minelib_text.proofs.Rising.{rises_behind}
 
@@ -56,22 +56,6 @@ kept_at_first problem n = record {
   limits = no_limits (count_in (blank_header problem).resources) (count_in (blank_header problem).periods);
 }
 
--- no section is followed by the header
-never_heading : (now next : Section) → is_next now next ≡ true → is_heading next ≡ false
-never_heading Heading Objective e = refl
-never_heading Objective Coefs e = refl
-never_heading Coefs Limits e = refl
-never_heading Heading Heading e = absurd cc
-never_heading Heading Coefs e = absurd cc
-never_heading Heading Limits e = absurd cc
-never_heading Objective Heading e = absurd cc
-never_heading Objective Objective e = absurd cc
-never_heading Objective Limits e = absurd cc
-never_heading Coefs Heading e = absurd cc
-never_heading Coefs Objective e = absurd cc
-never_heading Coefs Coefs e = absurd cc
-never_heading Limits section e = absurd cc
-
 key_kept : (problem : Problem) (n : ℕ) (d : ModelDraft) (line : List ℕ) (next : ModelDraft) → SetsKey d line next → KeepsModel problem n d
     → KeepsModel problem n next
 key_kept problem n d line next s kept =
@@ -99,7 +83,7 @@ section_kept problem n d line next s kept = subst (KeepsModel problem n) s.is (r
   of_blocks = kept.of_blocks;
   name = kept.name;
   header = kept.header;
-  none_yet = λ first. absurd (let other = never_heading d.section s.section s.follows in cc);
+  none_yet = λ first. absurd (let other = next_by (λ _ next. is_heading next ≡ false) refl refl refl d.section s.section s.follows in cc);
   values = kept.values;
   coefs = kept.coefs;
   limits = kept.limits;

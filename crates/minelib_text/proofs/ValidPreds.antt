@@ -29,8 +29,8 @@ pairs_differ : (ids : List ℕ) → all_differ ids ≡ true → AllPairs (λ id 
 pairs_differ [] e = λ i j d less high. absurd (omega arith)
 pairs_differ (id ∷ ids) e =
     let parts = and_parts (not (stands_in ids id)) (all_differ ids) e in
-    AllPairs-cons (λ id other. id ≢ other) id ids (λ k d within same. others_differ id ids (not_true (stands_in ids id) parts.0) k d within (sym same))
-    (pairs_differ ids parts.1)
+    let others = others_differ id ids (not_true (stands_in ids id) parts.0) in
+    AllPairs-cons (λ id other. id ≢ other) id ids (λ k d within same. others k d within (sym same)) (pairs_differ ids parts.1)
 
 all_stated : (n : ℕ) (fields : List (List ℕ)) (ids : List ℕ) → AllZip (λ field id. whole_in n field ≡ Ok id) fields ids
     → AllZip (StatesWhole n) fields ids × All (λ id. id < n) ids

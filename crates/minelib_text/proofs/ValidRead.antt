@@ -1,8 +1,7 @@
 -- What is read is valid.
-use Rattle.std.specs.Prelude.{◌≡◌, ℕ, ◌<◌, ◌≤◌, ◌^◌, ◌==◌, ◌&&◌, ◌≤ℤ◌, true, false, not, List, [], ◌∷◌, length, ℤ, pos, Option, Some, None, is_some, Ok, map, All, AllPairs, IfSome, IsTrue}
+use Rattle.std.specs.Prelude.{◌≡◌, ℕ, ◌<◌, ◌≤◌, ◌^◌, ◌==◌, ◌≤ℤ◌, true, false, List, [], ◌∷◌, length, ℤ, pos, Option, Some, None, is_some, Ok, map, All, AllPairs, IfSome, IsTrue}
 use Rattle.std.specs.List.{flat_map}
 use Rattle.std.proofs.Common.{refl, sym, ◌∙◌, ap, subst, arith, inl, inr, get_or, length-append}
-use Rattle.std.proofs.lemmas.Bool.{and_parts, eqb-true}
 use Rattle.std.proofs.lemmas.Bool.Decides.{nat_tests}
 use Rattle.std.proofs.lemmas.Int.{ints}
 use Rattle.std.proofs.lemmas.List.{get_or-map, length-map}
@@ -17,16 +16,15 @@ use Rattle.mine_instance.specs.declared.coef.Coef.{Coef}
 use Rattle.mine_instance.specs.declared.instance.Instance.{Instance}
 use Rattle.minelib_text.specs.BlockLines.{blocks_in}
 use Rattle.minelib_text.specs.Denotes.{instance_read, denoted, Denotes, cpit_read, cpit_denoted, DenotesCpit}
-use Rattle.minelib_text.specs.ModelLines.{ModelDraft, blank_model, is_complete, is_limits, count_in, admit_model, finish_model, model_in}
+use Rattle.minelib_text.specs.ModelLines.{ModelDraft, count_in, model_in}
 use Rattle.minelib_text.specs.PrecLines.{preds_in}
-use Rattle.minelib_text.specs.Reading.{in_file, read_lines}
-use Rattle.minelib_text.specs.TextLines.{lines_in, end_of}
-use Rattle.minelib_text.specs.declared.model_key.Header.{Header}
+use Rattle.minelib_text.specs.Reading.{in_file}
+use Rattle.minelib_text.specs.TextLines.{lines_in}
 use Rattle.minelib_text.specs.declared.model_key.Problem.{Problem}
 use Rattle.minelib_text.specs.declared.model_key.Problem.TheVariants as problem
 use Rattle.minelib_text.specs.declared.text_fault.TextFile.TheVariants.{Blocks, Prec, Pcpsp, Cpit}
-use Rattle.minelib_text.specs.declared.text_fault.TextKind.TheVariants.{Missing}
-use Rattle.minelib_text.proofs.ReadSteps.{bind_then, then_ok, not_true, same_ok, in_file_ok}
+use Rattle.minelib_text.proofs.ModelEnd.{IsComplete, model_finished}
+use Rattle.minelib_text.proofs.ReadSteps.{bind_then, same_ok, in_file_ok}
 use Rattle.minelib_text.proofs.ValidBlocks.{few_blocks}
 use Rattle.minelib_text.proofs.ValidHeader.{IsSingle, KeepsName}
 use Rattle.minelib_text.proofs.ValidModel.{KeepsModel, model_kept}
@@ -42,37 +40,6 @@ pub record IsModel (problem : Problem) (n : ℕ) (d : ModelDraft) : Type 0 where
   pub coefs : AreCoefs n (count_in d.header.destinations) (count_in d.header.resources) d.coefs
   pub limits : AreLimits (count_in d.header.resources) (count_in d.header.periods) d.limits
 
--- what a header with all keys has
-pub record IsComplete (name : List ℕ) (h : Header) : Type 0 where
-  pub named : (length name == 0) ≡ false
-  pub typed : h.is_typed ≡ true
-  pub counted : h.is_counted ≡ true
-  pub general : h.is_general ≡ true
-  pub periods : is_some h.periods ≡ true
-  pub destinations : is_some h.destinations ≡ true
-  pub resources : is_some h.resources ≡ true
-  pub rate : is_some h.rate ≡ true
-
-pub complete_ok : (name : List ℕ) (h : Header) → is_complete name h ≡ true → IsComplete name h
-complete_ok name h e =
-    let p7 = and_parts _ (is_some h.rate) e in
-    let p6 = and_parts _ (is_some h.resources) p7.0 in
-    let p5 = and_parts _ (is_some h.destinations) p6.0 in
-    let p4 = and_parts _ (is_some h.periods) p5.0 in
-    let p3 = and_parts _ h.is_general p4.0 in
-    let p2 = and_parts _ h.is_counted p3.0 in
-    let p1 = and_parts (not (length name == 0)) h.is_typed p2.0 in
-    record {
-      named = not_true (length name == 0) p1.0;
-      typed = p1.1;
-      counted = p2.1;
-      general = p3.1;
-      periods = p4.1;
-      destinations = p5.1;
-      resources = p6.1;
-      rate = p7.1;
-    }
-
 given_keeps : (P : ℕ → Type 0) (given : Option ℕ) → is_some given ≡ true → IfSome given P → P (count_in given)
 given_keeps P None some kept = absurd cc
 given_keeps P (Some n) some kept = kept
@@ -86,14 +53,8 @@ in_millionths rate most = (omega (arith, ints), omega (arith, ints))
 
 pub model_is_valid : (problem : Problem) (n : ℕ) (text : List ℕ) (d : ModelDraft) → model_in problem n text ≡ Ok d → IsModel problem n d
 model_is_valid problem n text d e =
-    bind_then (read_lines admit_model (blank_model problem n) (lines_in text)) (finish_model (end_of text)) d e (λ last of_lines e1.
-    let t = then_ok (is_complete last.name last.header && (length last.values == last.blocks) && is_limits last.section)
-    (record { line = end_of text; kind = Missing }) (Ok last) d e1 in
-    let parts = and_parts _ (is_limits last.section) t.0 in
-    let inner = and_parts (is_complete last.name last.header) (length last.values == last.blocks) parts.0 in
-    subst (IsModel problem n) (same_ok last d t.1)
-    (whole problem n last (model_kept problem n (lines_in text) last of_lines) (complete_ok last.name last.header inner.0)
-    (eqb-true (length last.values) last.blocks inner.1)))
+    let f = model_finished problem n text d e in
+    whole problem n d (model_kept problem n (lines_in text) d f.of_lines) f.complete f.all_values
   where
     whole : (problem : Problem) (n : ℕ) (last : ModelDraft) → KeepsModel problem n last → IsComplete last.name last.header
         → length last.values ≡ last.blocks → IsModel problem n last

@@ -16,6 +16,8 @@ pub mod SpelledBlocks
 pub mod SpelledFields
 pub mod SpelledItems
 pub mod SpelledKeys
+pub mod SpelledLines
+pub mod SpelledModel
 pub mod SpelledPrec
 pub mod TextLines
 pub mod Tray

@@ -1,7 +1,8 @@
 -- How the lines of a block file spell the blocks.
-use Rattle.std.specs.Prelude.{◌≡◌, ℕ, ◌+◌, ◌*◌, ◌^◌, List, [], ◌∷◌}
+use Rattle.std.specs.Prelude.{◌≡◌, ℕ, ◌*◌, ◌^◌, List, [], ◌∷◌}
 use Rattle.pit_model.specs.declared.block.Block.{Block}
 use Rattle.minelib_text.specs.SpelledFields.{StatesWhole, StatesSize}
+use Rattle.minelib_text.specs.SpelledLines.{AreLines}
 use Rattle.minelib_text.specs.TextLines.{Line, fields_of}
 
 -- `id x y z tonnes grade zone`: each field states its part of the block, and the first the block's identifier
@@ -24,7 +25,4 @@ pub record IsBlockLine (n : ℕ) (fields : List (List ℕ)) (b : Block) : Type 0
 
 -- one line a block, in order, the first of them with this identifier
 abbrev pub AreBlockLines : ℕ → List Line → List Block → Type 0
-AreBlockLines n [] [] = Unit {0}
-AreBlockLines n [] (b ∷ blocks) = ⊥
-AreBlockLines n (line ∷ lines) [] = ⊥
-AreBlockLines n (line ∷ lines) (b ∷ blocks) = IsBlockLine n (fields_of line.text) b × AreBlockLines (n + 1) lines blocks
+AreBlockLines n lines blocks = AreLines (λ id line b. IsBlockLine id (fields_of line) b) n lines blocks

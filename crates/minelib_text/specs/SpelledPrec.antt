@@ -1,8 +1,9 @@
 -- How the lines of a precedence file spell the predecessors.
-use Rattle.std.specs.Prelude.{◌≡◌, ℕ, ◌+◌, List, [], ◌∷◌, length}
+use Rattle.std.specs.Prelude.{◌≡◌, ℕ, List, ◌∷◌, length}
 use Rattle.std.specs.List.{AllZip}
 use Rattle.mine_instance.specs.Valid.{ArePredsOf}
 use Rattle.minelib_text.specs.SpelledFields.{StatesWhole}
+use Rattle.minelib_text.specs.SpelledLines.{AreLines}
 use Rattle.minelib_text.specs.TextLines.{Line, fields_of}
 
 -- `id k p1 .. pk` of n blocks: the block's identifier, the number of its predecessors, and each of them
@@ -16,9 +17,6 @@ pub record IsPredsLine (n own : ℕ) (fields : List (List ℕ)) (ids : List ℕ)
   pub states_each : AllZip (StatesWhole n) others ids
   pub are_preds : ArePredsOf own n ids
 
--- one line a block, in order, the first of them of this block
+-- one line a block of n, in order, the first of them of this block
 abbrev pub ArePredsLines : ℕ → ℕ → List Line → List (List ℕ) → Type 0
-ArePredsLines n own [] [] = Unit {0}
-ArePredsLines n own [] (ids ∷ lists) = ⊥
-ArePredsLines n own (line ∷ lines) [] = ⊥
-ArePredsLines n own (line ∷ lines) (ids ∷ lists) = IsPredsLine n own (fields_of line.text) ids × ArePredsLines n (own + 1) lines lists
+ArePredsLines n own lines lists = AreLines (λ id line ids. IsPredsLine n id (fields_of line) ids) own lines lists

@@ -1,11 +1,20 @@
 //! What holds of texts, whatever they say: each contract is a law, and a call of it does nothing.
-ghost use Rattle.std.specs.Prelude.{◌≡◌, ℕ, ◌≤◌, List, length};
+ghost use Rattle.std.specs.Prelude.{◌≡◌, ℕ, ◌≤◌, List, length, Ok};
 ghost use Rattle.mine_instance.specs.Cpit.{CpitParts, IsCpit};
 ghost use Rattle.mine_instance.specs.Valid.{IsValid};
 ghost use Rattle.mine_instance.specs.declared.instance.Instance.{Instance};
+ghost use Rattle.minelib_text.specs.BlockLines.{blocks_in};
 ghost use Rattle.minelib_text.specs.Denotes.{Denotes, DenotesCpit};
 ghost use Rattle.minelib_text.specs.Kept.{IsKept, IsKeptCpit};
+ghost use Rattle.minelib_text.specs.ModelLines.{ModelDraft, model_in};
+ghost use Rattle.minelib_text.specs.PrecLines.{preds_in};
+ghost use Rattle.minelib_text.specs.SpelledBlocks.{AreBlockLines};
+ghost use Rattle.minelib_text.specs.SpelledModel.{AreModelLines};
+ghost use Rattle.minelib_text.specs.SpelledPrec.{ArePredsLines};
+ghost use Rattle.minelib_text.specs.TextLines.{lines_in};
 ghost use Rattle.minelib_text.specs.Written.{text_blocks, text_prec, text_pcpsp, text_cpit};
+ghost use Rattle.minelib_text.specs.declared.model_key.Problem.{Problem};
+ghost use Rattle.pit_model.specs.declared.block.Block.{Block};
 
 /// The texts of a valid instance denote that instance.
 pub fn written_is_read()
@@ -25,4 +34,21 @@ pub fn read_is_valid()
 /// The constrained pit limit problem that a text denotes is one, with a value for each block.
 pub fn cpit_read_is_valid()
     ensures { (n : ℕ) (text : List ℕ) (c : CpitParts) → n ≤ 64000000 → DenotesCpit n text c → IsCpit c × (length c.values ≡ n) }
+{}
+
+/// Where blocks are read, each line that is read spells one of them, in order.
+pub fn block_lines_are_spelled()
+    ensures { (text : List ℕ) (blocks : List Block) → blocks_in text ≡ Ok blocks → AreBlockLines 0 (lines_in text) blocks }
+{}
+
+/// Where predecessors of n blocks are read, each line that is read spells those of one block, in order.
+pub fn prec_lines_are_spelled()
+    ensures { (n : ℕ) (text : List ℕ) (lists : List (List ℕ)) → preds_in n text ≡ Ok lists → ArePredsLines n 0 (lines_in text) lists }
+{}
+
+/// Where a model file of n blocks is read, its lines that are read are one for each header key, in any order, and then those of the
+/// sections: each section's key line, and one line for each block's values, each coefficient and each limit, in order.
+pub fn model_lines_are_spelled()
+    ensures { (problem : Problem) (n : ℕ) (text : List ℕ) (d : ModelDraft) → model_in problem n text ≡ Ok d
+        → AreModelLines problem n (lines_in text) d }
 {}

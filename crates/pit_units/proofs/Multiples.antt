@@ -24,13 +24,16 @@ six_cut : (fraction : List ℕ) (max : ℕ) → max ≤ 6 → all_zeros (drop ma
 six_cut fraction max few fine =
     let padded = fraction ++ replicate 6 48 in
     let rest = take (6 - max) (drop max padded) in
-    let zeros : all_zeros rest ≡ true = pass_take (λ c. c == 48) (drop max padded) (6 - max) (pass_drop_append (λ c. c == 48) fraction (replicate 6 48) max fine refl) in
-    let count : length rest ≡ 6 - max = length-take-le (6 - max) (drop max padded) (omega (arith, length-drop max padded, length-append fraction (replicate 6 48))) in
+    let zeros : all_zeros rest ≡ true =
+    pass_take (λ c. c == 48) (drop max padded) (6 - max) (pass_drop_append (λ c. c == 48) fraction (replicate 6 48) max fine refl) in
+    let count : length rest ≡ 6 - max =
+    length-take-le (6 - max) (drop max padded) (omega (arith, length-drop max padded, length-append fraction (replicate 6 48))) in
     let whole : max + (6 - max) ≡ 6 = omega arith in
     let split : six_decimals fraction ≡ take max padded ++ rest = ap (λ n. take n padded) (sym whole) ∙ take-add max (6 - max) padded in
     let joined : digits_value 10 (six_decimals fraction) ≡ digits_value 10 (take max padded) * 10 ^ length rest + digits_value 10 rest =
     ap (digits_value 10) split ∙ value_append (take max padded) rest in
-    let cut : digits_value 10 (six_decimals fraction) ≡ digits_value 10 (take max padded) * 10 ^ (6 - max) + 0 = rw (count, value_zeros rest zeros) at joined in
+    let cut : digits_value 10 (six_decimals fraction) ≡ digits_value 10 (take max padded) * 10 ^ (6 - max) + 0 =
+    rw (count, value_zeros rest zeros) at joined in
     omega (arith, cut)
 
 product : (whole cut scale step : ℕ) → whole * (scale * step) + cut * step ≡ (whole * scale + cut) * step + 0
@@ -41,9 +44,11 @@ pub stands_multiple : (max : ℕ) (text : List ℕ) (m : ℤ) → max ≤ 6 → 
 stands_multiple max text m few s =
     let size = size_stands s.whole s.fraction (unsigned_abs m) (pass_drop_later (λ c. c == 48) s.fraction max 6 few s.fine) s.value in
     let cut = six_cut s.fraction max few s.fine in
-    let power : 10 ^ 6 ≡ 10 ^ max * 10 ^ (6 - max) = ap (λ n. 10 ^ n) (let whole : 6 ≡ max + (6 - max) = omega arith in whole) ∙ pow-add 10 max (6 - max) in
-    let W = digits_value 10 s.whole in
-    let D = digits_value 10 (take max (s.fraction ++ replicate 6 48)) in
-    let sum : unsigned_abs m ≡ (W * 10 ^ max + D) * 10 ^ (6 - max) + 0 =
-    sym size ∙ ap (λ d. W * 10 ^ 6 + d) cut ∙ ap (λ p. W * p + D * 10 ^ (6 - max)) power ∙ product W D (10 ^ max) (10 ^ (6 - max)) in
-    ap (λ n. n % 10 ^ (6 - max)) sum ∙ mod-mul-add (W * 10 ^ max + D) (10 ^ (6 - max)) 0 (scale_positive (6 - max))
+    let whole : 6 ≡ max + (6 - max) = omega arith in
+    let power : 10 ^ 6 ≡ 10 ^ max * 10 ^ (6 - max) = ap (λ n. 10 ^ n) whole ∙ pow-add 10 max (6 - max) in
+    let digits = digits_value 10 s.whole in
+    let decimals = digits_value 10 (take max (s.fraction ++ replicate 6 48)) in
+    let sum : unsigned_abs m ≡ (digits * 10 ^ max + decimals) * 10 ^ (6 - max) + 0 =
+    sym size ∙ ap (λ d. digits * 10 ^ 6 + d) cut ∙ ap (λ p. digits * p + decimals * 10 ^ (6 - max)) power
+    ∙ product digits decimals (10 ^ max) (10 ^ (6 - max)) in
+    ap (λ n. n % 10 ^ (6 - max)) sum ∙ mod-mul-add (digits * 10 ^ max + decimals) (10 ^ (6 - max)) 0 (scale_positive (6 - max))

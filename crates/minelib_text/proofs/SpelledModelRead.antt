@@ -1,0 +1,202 @@
+-- The lines that are read of a model file spell what it states.
+use Rattle.std.specs.Prelude.{◌≡◌, ℕ, ◌+◌, true, List, [], ◌∷◌, ◌++◌, length, ℤ, Ok}
+use Rattle.std.proofs.Common.{refl, sym, ◌∙◌, ap, subst, arith, append_assoc}
+use Rattle.pit_model.specs.declared.limit.Limit.{Limit}
+use Rattle.mine_instance.specs.declared.coef.Coef.{Coef}
+use Rattle.minelib_text.specs.ModelLines.{ModelDraft, blank_model, is_heading, is_limits, name_with, count_in, admit_model, model_in}
+use Rattle.minelib_text.specs.SpelledItems.{IsValuesLine, IsCoefLine, IsLimitLine}
+use Rattle.minelib_text.specs.SpelledKeys.{IsKeyLine}
+use Rattle.minelib_text.specs.SpelledLines.{AreLines}
+use Rattle.minelib_text.specs.SpelledModel.{AreModelLines}
+use Rattle.minelib_text.specs.TextLines.{Line, fields_of, lines_in}
+use Rattle.minelib_text.specs.declared.model_key.ModelKey.TheVariants as model_key
+use Rattle.minelib_text.specs.declared.model_key.Problem.{Problem}
+use Rattle.minelib_text.specs.declared.model_key.Section.{Section}
+use Rattle.minelib_text.specs.declared.model_key.Section.TheVariants.{Heading, Objective, Coefs, Limits}
+use Rattle.minelib_text.proofs.HeaderLines.{Heads, heads_none, heads_more, heads_whole}
+use Rattle.minelib_text.proofs.ItemLines.{line_more}
+use Rattle.minelib_text.proofs.ModelEnd.{IsComplete, model_finished}
+use Rattle.minelib_text.proofs.ModelSteps.{SetsKey, BeginsSection, AddsValues, AddsCoef, AddsLimit, Step, Keyed, Begun, Valued, Spent, Limited, model_step, next_by}
+use Rattle.minelib_text.proofs.ReadSteps.{kept_with_lines}
+use Rattle.minelib_text.proofs.ValidModel.{model_kept}
+
+-- the lines of a section so far, behind those before it: the line that begins it, and one for each item
+record Part {A : Type 0} (Before : List Line → Type 0) (problem : Problem) (section : Section) (Spells : ℕ → List ℕ → A → Type 0) (items : List A)
+    (done : List Line) : Type 0 where
+  pub before : List Line
+  pub earlier : Before before
+  pub first : Line
+  pub lines : List Line
+  pub cut : done ≡ before ++ first ∷ lines
+  pub begins : IsKeyLine problem first.text (model_key.Section section) []
+  pub spelled : AreLines Spells 0 lines items
+
+part_first : {A : Type 0} (Before : List Line → Type 0) (problem : Problem) (section : Section) (Spells : ℕ → List ℕ → A → Type 0) (items : List A)
+    (done : List Line) (line : Line) → items ≡ [] → Before done → IsKeyLine problem line.text (model_key.Section section) []
+    → Part Before problem section Spells items (done ++ line ∷ [])
+part_first Before problem section Spells items done line none earlier begins = record {
+  before = done;
+  earlier = earlier;
+  first = line;
+  lines = [];
+  cut = refl;
+  begins = begins;
+  spelled = subst (AreLines Spells 0 []) (sym none) tt;
+}
+
+part_more : {A : Type 0} (Before : List Line → Type 0) (problem : Problem) (section : Section) (Spells : ℕ → List ℕ → A → Type 0) (items : List A)
+    (done : List Line) (line : Line) (item : A) → Spells (length items) line.text item → Part Before problem section Spells items done
+    → Part Before problem section Spells (items ++ item ∷ []) (done ++ line ∷ [])
+part_more Before problem section Spells items done line item here part =
+    let count : length items ≡ 0 + length items = omega arith in
+    record {
+      before = part.before;
+      earlier = part.earlier;
+      first = part.first;
+      lines = part.lines ++ line ∷ [];
+      cut = ap (λ l. l ++ line ∷ []) part.cut ∙ append_assoc part.before (part.first ∷ part.lines) (line ∷ []);
+      begins = part.begins;
+      spelled = line_more Spells 0 part.lines items line item part.spelled (subst (λ n. Spells n line.text item) count here);
+    }
+
+-- how a line spells a block's values, a coefficient and a limit
+abbrev SpellsValues : ModelDraft → ℕ → List ℕ → List ℤ → Type 0
+SpellsValues d block line vs = IsValuesLine d.blocks (count_in d.header.destinations) block (fields_of line) vs
+
+abbrev SpellsCoef : ModelDraft → ℕ → List ℕ → Coef → Type 0
+SpellsCoef d n line c = IsCoefLine d.problem d.blocks (count_in d.header.destinations) (count_in d.header.resources) (fields_of line) c
+
+abbrev SpellsLimit : ModelDraft → ℕ → List ℕ → Limit → Type 0
+SpellsLimit d n line l = IsLimitLine (count_in d.header.resources) (count_in d.header.periods) (fields_of line) l
+
+-- the lines so far, in the header and in each section
+abbrev InHeading : ModelDraft → List Line → Type 0
+InHeading d done = Heads d.problem d.blocks d.name d.header done
+
+abbrev InValues : ModelDraft → List Line → Type 0
+InValues d done = Part (InHeading d) d.problem Objective (SpellsValues d) d.values done
+
+abbrev InCoefs : ModelDraft → List Line → Type 0
+InCoefs d done = Part (InValues d) d.problem Coefs (SpellsCoef d) d.coefs done
+
+abbrev InLimits : ModelDraft → List Line → Type 0
+InLimits d done = Part (InCoefs d) d.problem Limits (SpellsLimit d) d.limits done
+
+-- and no item of a later section
+abbrev At : Section → ModelDraft → List Line → Type 0
+At Heading d done = InHeading d done × (d.values ≡ []) × (d.coefs ≡ []) × (d.limits ≡ [])
+At Objective d done = InValues d done × (d.coefs ≡ []) × (d.limits ≡ [])
+At Coefs d done = InCoefs d done × (d.limits ≡ [])
+At Limits d done = InLimits d done
+
+in_heading : (section : Section) → is_heading section ≡ true → section ≡ Heading
+in_heading Heading e = refl
+in_heading Objective e = absurd cc
+in_heading Coefs e = absurd cc
+in_heading Limits e = absurd cc
+
+in_limits : (section : Section) → is_limits section ≡ true → section ≡ Limits
+in_limits Limits e = refl
+in_limits Heading e = absurd cc
+in_limits Objective e = absurd cc
+in_limits Coefs e = absurd cc
+
+keyed : (done : List Line) (d : ModelDraft) (line : Line) (next : ModelDraft) → SetsKey d line.text next → At d.section d done
+    → At next.section next (done ++ line ∷ [])
+keyed done d line next s was =
+    let here = in_heading d.section s.heading in
+    let heading = subst (λ section. At section d done) here was in
+    let after : ModelDraft = record d { header = s.header; name = name_with s.key s.value d.name } in
+    let now : At Heading after (done ++ line ∷ []) = (
+      heads_more d.problem d.blocks s.key s.value d.name d.header s.header done line s.sets s.new s.spelled heading.0,
+      heading.1,
+      heading.2,
+      heading.3,
+    ) in
+    subst (λ d. At d.section d (done ++ line ∷ [])) s.is (subst (λ section. At section after (done ++ line ∷ [])) (sym here) now)
+
+begun : (done : List Line) (d : ModelDraft) (line : Line) (next : ModelDraft) → BeginsSection d line.text next → At d.section d done
+    → At next.section next (done ++ line ∷ [])
+begun done d line next s was =
+    subst (λ d. At d.section d (done ++ line ∷ [])) s.is
+    (next_by (λ now later. IsKeyLine d.problem line.text (model_key.Section later) [] → At now d done
+    → At later (record d { section = later }) (done ++ line ∷ []))
+    (λ begins was. (part_first (InHeading d) d.problem Objective (SpellsValues d) d.values done line was.1 was.0 begins, was.2, was.3))
+    (λ begins was. (part_first (InValues d) d.problem Coefs (SpellsCoef d) d.coefs done line was.1 was.0 begins, was.2))
+    (λ begins was. part_first (InCoefs d) d.problem Limits (SpellsLimit d) d.limits done line was.1 was.0 begins)
+    d.section s.section s.follows s.spelled was)
+
+valued : (done : List Line) (d : ModelDraft) (line : Line) (next : ModelDraft) → AddsValues d line.text next → At d.section d done
+    → At next.section next (done ++ line ∷ [])
+valued done d line next s was =
+    let before = subst (λ section. At section d done) s.here was in
+    let after : ModelDraft = record d { values = d.values ++ s.values ∷ [] } in
+    let now : At Objective after (done ++ line ∷ []) =
+    (part_more (InHeading d) d.problem Objective (SpellsValues d) d.values done line s.values s.spelled before.0, before.1, before.2) in
+    subst (λ d. At d.section d (done ++ line ∷ [])) s.is (subst (λ section. At section after (done ++ line ∷ [])) (sym s.here) now)
+
+spent : (done : List Line) (d : ModelDraft) (line : Line) (next : ModelDraft) → AddsCoef d line.text next → At d.section d done
+    → At next.section next (done ++ line ∷ [])
+spent done d line next s was =
+    let before = subst (λ section. At section d done) s.here was in
+    let after : ModelDraft = record d { coefs = d.coefs ++ s.coef ∷ [] } in
+    let now : At Coefs after (done ++ line ∷ []) =
+    (part_more (InValues d) d.problem Coefs (SpellsCoef d) d.coefs done line s.coef s.spelled before.0, before.1) in
+    subst (λ d. At d.section d (done ++ line ∷ [])) s.is (subst (λ section. At section after (done ++ line ∷ [])) (sym s.here) now)
+
+limited : (done : List Line) (d : ModelDraft) (line : Line) (next : ModelDraft) → AddsLimit d line.text next → At d.section d done
+    → At next.section next (done ++ line ∷ [])
+limited done d line next s was =
+    let before = subst (λ section. At section d done) s.here was in
+    let after : ModelDraft = record d { limits = d.limits ++ s.limit ∷ [] } in
+    let now : At Limits after (done ++ line ∷ []) =
+    part_more (InCoefs d) d.problem Limits (SpellsLimit d) d.limits done line s.limit s.spelled before in
+    subst (λ d. At d.section d (done ++ line ∷ [])) s.is (subst (λ section. At section after (done ++ line ∷ [])) (sym s.here) now)
+
+stepped : (done : List Line) (d : ModelDraft) (line : Line) (next : ModelDraft) → Step d line.text next → At d.section d done
+    → At next.section next (done ++ line ∷ [])
+stepped done d line next (Keyed s) was = keyed done d line next s was
+stepped done d line next (Begun s) was = begun done d line next s was
+stepped done d line next (Valued s) was = valued done d line next s was
+stepped done d line next (Spent s) was = spent done d line next s was
+stepped done d line next (Limited s) was = limited done d line next s was
+
+-- all lines, cut into the header and the three sections
+whole : (d : ModelDraft) (lines : List Line) → InLimits d lines → IsComplete d.name d.header → AreModelLines d.problem d.blocks lines d
+whole d lines l complete =
+    let c = l.earlier in
+    let v = c.earlier in
+    let joined : l.before ≡ v.before ++ (v.first ∷ v.lines ++ (c.first ∷ c.lines)) =
+    c.cut ∙ ap (λ x. x ++ c.first ∷ c.lines) v.cut ∙ append_assoc v.before (v.first ∷ v.lines) (c.first ∷ c.lines) in
+    record {
+      heading = v.before;
+      objective = v.first;
+      values = v.lines;
+      coefficients = c.first;
+      coefs = c.lines;
+      resource_limits = l.first;
+      limits = l.lines;
+      cut = l.cut ∙ ap (λ x. x ++ l.first ∷ l.lines) joined
+          ∙ append_assoc v.before (v.first ∷ v.lines ++ (c.first ∷ c.lines)) (l.first ∷ l.lines)
+          ∙ ap (λ x. v.before ++ v.first ∷ x) (append_assoc v.lines (c.first ∷ c.lines) (l.first ∷ l.lines));
+      states_header = heads_whole d.problem d.blocks d.name d.header v.before complete v.earlier;
+      begins_values = v.begins;
+      states_values = v.spelled;
+      begins_coefs = c.begins;
+      states_coefs = c.spelled;
+      begins_limits = l.begins;
+      states_limits = l.spelled;
+    }
+
+pub model_spelled : (problem : Problem) (n : ℕ) (text : List ℕ) (d : ModelDraft) → model_in problem n text ≡ Ok d
+    → AreModelLines problem n (lines_in text) d
+model_spelled problem n text d e =
+    let f = model_finished problem n text d e in
+    let kept = model_kept problem n (lines_in text) d f.of_lines in
+    let at : At d.section d (lines_in text) =
+    kept_with_lines (λ done d. At d.section d done) admit_model
+    (λ done d line next says was. stepped done d line next (model_step d line.text next says) was)
+    [] (blank_model problem n) (lines_in text) d f.of_lines (heads_none problem n, refl, refl, refl) in
+    let limits : InLimits d (lines_in text) = subst (λ section. At section d (lines_in text)) (in_limits d.section f.at_limits) at in
+    subst (λ m. AreModelLines problem m (lines_in text) d) kept.of_blocks
+    (subst (λ p. AreModelLines p d.blocks (lines_in text) d) kept.of_problem (whole d (lines_in text) limits f.complete))

@@ -1,0 +1,60 @@
+-- How the lines of a model file spell what it states: the header's lines, and then the sections, each behind the line that begins it.
+use Rattle.std.specs.Prelude.{◌≡◌, ◌≢◌, ℕ, Bool, true, false, List, [], ◌∷◌, ◌++◌, AllPairs, IsTrue}
+use Rattle.std.specs.List.{Contains}
+use Rattle.minelib_text.specs.ModelLines.{ModelDraft, count_in}
+use Rattle.minelib_text.specs.SpelledItems.{IsValuesLine, IsCoefLine, IsLimitLine}
+use Rattle.minelib_text.specs.SpelledKeys.{IsKeyLine, StatesKey}
+use Rattle.minelib_text.specs.SpelledLines.{AreLines}
+use Rattle.minelib_text.specs.TextLines.{Line, fields_of}
+use Rattle.minelib_text.specs.declared.model_key.Header.{Header}
+use Rattle.minelib_text.specs.declared.model_key.HeaderKey.{HeaderKey}
+use Rattle.minelib_text.specs.declared.model_key.HeaderKey.TheVariants as key
+use Rattle.minelib_text.specs.declared.model_key.ModelKey.TheVariants as model_key
+use Rattle.minelib_text.specs.declared.model_key.Problem.{Problem}
+use Rattle.minelib_text.specs.declared.model_key.Problem.TheVariants.{Pcpsp, Cpit}
+use Rattle.minelib_text.specs.declared.model_key.Section.TheVariants.{Objective, Coefs, Limits}
+
+-- the problem's files have this header key
+abbrev pub has_key : Problem → HeaderKey → Bool
+has_key Pcpsp k = true
+has_key Cpit key.Name = true
+has_key Cpit key.Type = true
+has_key Cpit key.Blocks = true
+has_key Cpit key.Periods = true
+has_key Cpit key.Destinations = false
+has_key Cpit key.Resources = true
+has_key Cpit key.General = false
+has_key Cpit key.Rate = true
+
+-- `KEY: value` of a header key, which states its part of the NAME and the header, of n blocks
+pub record IsHeaderLine (problem : Problem) (n : ℕ) (name : List ℕ) (h : Header) (line : List ℕ) (k : HeaderKey) : Type 0 where
+  pub value : List ℕ
+  pub is_key : IsKeyLine problem line (model_key.Header k) (value ∷ [])
+  pub states : StatesKey problem n k value name h
+
+-- one line for each header key of the problem, in any order
+pub record AreHeaderLines (problem : Problem) (n : ℕ) (lines : List Line) (name : List ℕ) (h : Header) : Type 0 where
+  pub keys : List HeaderKey
+  pub spelled : AreLines (λ _ line k. IsHeaderLine problem n name h line k) 0 lines keys
+  pub once : AllPairs (λ k m. k ≢ m) keys
+  pub all : (k : HeaderKey) → IsTrue (has_key problem k) → Contains keys k
+
+-- all lines of a model file, of n blocks
+pub record AreModelLines (problem : Problem) (n : ℕ) (lines : List Line) (d : ModelDraft) : Type 0 where
+  pub heading : List Line
+  pub objective : Line
+  pub values : List Line
+  pub coefficients : Line
+  pub coefs : List Line
+  pub resource_limits : Line
+  pub limits : List Line
+  pub cut : lines ≡ heading ++ (objective ∷ values ++ (coefficients ∷ coefs ++ (resource_limits ∷ limits)))
+  pub states_header : AreHeaderLines problem n heading d.name d.header
+  pub begins_values : IsKeyLine problem objective.text (model_key.Section Objective) []
+  pub states_values : AreLines (λ block line vs. IsValuesLine n (count_in d.header.destinations) block (fields_of line) vs) 0 values d.values
+  pub begins_coefs : IsKeyLine problem coefficients.text (model_key.Section Coefs) []
+  pub states_coefs : AreLines (λ _ line c. IsCoefLine problem n (count_in d.header.destinations) (count_in d.header.resources) (fields_of line) c)
+      0 coefs d.coefs
+  pub begins_limits : IsKeyLine problem resource_limits.text (model_key.Section Limits) []
+  pub states_limits : AreLines (λ _ line l. IsLimitLine (count_in d.header.resources) (count_in d.header.periods) (fields_of line) l)
+      0 limits d.limits
