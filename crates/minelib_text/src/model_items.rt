@@ -92,11 +92,7 @@ fn coef_width(problem: Problem) -> usize
 }
 
 // The destination of a coefficient, and the fields behind it: that of a CPIT has none, and stands for the only one.
-fn destination_in(
-    problem: Problem,
-    destinations: u8,
-    line: &[u8],
-) -> Result<(u64, &[u8]), TextKind>
+fn destination_in(problem: Problem, destinations: u8, line: &[u8]) -> Result<(u64, &[u8]), TextKind>
     ensures value { Takes result (destination_in problem destinations (fields_of line.now)) }
     ensures below { IfOk result (λ x. x.0 < 256) }
 {

@@ -1,4 +1,4 @@
-use Rattle.std.proofs.Common.{sym, ◌∙◌, ap, ℕ, drop, take, ◌+◌}
+use Rattle.std.proofs.Common.{sym, ◌∙◌, ap, drop, take, ◌+◌}
 use Rattle.minelib_text.specs.ModelLines.{is_colon}
 use Rattle.minelib_text.proofs.ModelFacts.{place_found, place_not_found}
 use Rattle.minelib_text.proofs.model_keys.cut_at_colon.Goals as goal
