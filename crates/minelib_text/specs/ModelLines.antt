@@ -189,7 +189,7 @@ admit_header d k values =
     if not (is_heading d.section) then Err Key
     else (if is_given k d.name d.header then Err Twice
     else (only_value values >>= λ value. header_with d.problem d.blocks k value d.header
-        >>= λ header. Ok (record d { header = header; name = name_with k value d.name })))
+    >>= λ header. Ok (record d { header = header; name = name_with k value d.name })))
 
 -- all that has to stand before the next section does
 abbrev pub is_ready : ModelDraft → Section → Bool

@@ -7,6 +7,7 @@ use std::process::Abort;
 use std::test::Fail;
 
 const BLOCKS: &[u8] = b"0 0 0 0 1000 5000 0\n1 1 0 0 0 7 0\n";
+
 const PREC: &[u8] = b"0 1 1\n1 0\n";
 
 const PCPSP: [&[u8]; 16] = [
@@ -60,12 +61,7 @@ fn put_line(text: &mut Vec<u8>, line: &[u8]) -> Result<(), Fail> {
     Ok(())
 }
 
-fn put_changed(
-    text: &mut Vec<u8>,
-    change: Change,
-    number: usize,
-    line: &[u8],
-) -> Result<(), Fail> {
+fn put_changed(text: &mut Vec<u8>, change: Change, number: usize, line: &[u8]) -> Result<(), Fail> {
     match change {
         Change::Put(at, other) if at == number => put_line(text, other),
         Change::Before(at, other) if at == number => {
@@ -91,7 +87,12 @@ fn changed(alloc: Global, lines: &[&'static [u8]], change: Change) -> Result<Vec
     Ok(text)
 }
 
-fn fault_of(alloc: Global, blocks: &[u8], prec: &[u8], pcpsp: &[u8]) -> Result<Option<TextFault>, Fail> {
+fn fault_of(
+    alloc: Global,
+    blocks: &[u8],
+    prec: &[u8],
+    pcpsp: &[u8],
+) -> Result<Option<TextFault>, Fail> {
     match read_instance(alloc, blocks, prec, pcpsp) {
         Ok(_) => Ok(None),
         Err(ReadTextError::Fault(fault)) => Ok(Some(fault)),
@@ -128,13 +129,37 @@ fn faults_of_model_files(rt: HostRuntime) -> Result<(), Fail> {
         (Change::Put(4, b"NPERIODS: 101"), 4, TextKind::Range),
         (Change::Put(5, b"NDESTINATIONS: 0"), 5, TextKind::Range),
         (Change::Put(5, b"NDESTINATIONS: 9"), 5, TextKind::Range),
-        (Change::Put(6, b"NRESOURCE_SIDE_CONSTRAINTS: 9"), 6, TextKind::Range),
-        (Change::Put(7, b"NGENERAL_SIDE_CONSTRAINTS: 1"), 7, TextKind::Range),
-        (Change::Put(8, b"DISCOUNT_RATE: 1.000001"), 8, TextKind::Range),
-        (Change::Put(8, b"DISCOUNT_RATE: 0.0000001"), 8, TextKind::TooFine),
+        (
+            Change::Put(6, b"NRESOURCE_SIDE_CONSTRAINTS: 9"),
+            6,
+            TextKind::Range,
+        ),
+        (
+            Change::Put(7, b"NGENERAL_SIDE_CONSTRAINTS: 1"),
+            7,
+            TextKind::Range,
+        ),
+        (
+            Change::Put(8, b"DISCOUNT_RATE: 1.000001"),
+            8,
+            TextKind::Range,
+        ),
+        (
+            Change::Put(8, b"DISCOUNT_RATE: 0.0000001"),
+            8,
+            TextKind::TooFine,
+        ),
         (Change::Without(8), 8, TextKind::Missing),
-        (Change::Put(9, b"OBJECTIVE_FUNCTION: 1"), 9, TextKind::Fields),
-        (Change::Put(9, b"RESOURCE_CONSTRAINT_COEFFICIENTS:"), 9, TextKind::Key),
+        (
+            Change::Put(9, b"OBJECTIVE_FUNCTION: 1"),
+            9,
+            TextKind::Fields,
+        ),
+        (
+            Change::Put(9, b"RESOURCE_CONSTRAINT_COEFFICIENTS:"),
+            9,
+            TextKind::Key,
+        ),
         (Change::Without(9), 9, TextKind::Key),
         (Change::Put(10, b"0 12000"), 10, TextKind::Fields),
         (Change::Put(10, b"2 12000 -2000"), 10, TextKind::Range),
@@ -170,30 +195,114 @@ fn faults_of_model_files(rt: HostRuntime) -> Result<(), Fail> {
 fn faults_of_blocks_and_precedences(rt: HostRuntime) -> Result<(), Fail> {
     let pcpsp = changed(rt.alloc(), &PCPSP, Change::Front(16))?;
     let cases: [(&[u8], &[u8], TextFile, u64, TextKind); 24] = [
-        (b"0 0 0 0 1000 5000\n", PREC, TextFile::Blocks, 1, TextKind::Fields),
-        (b"0 0 0 0 1000 5000 0 0\n", PREC, TextFile::Blocks, 1, TextKind::Fields),
-        (b"\n1 0 0 0 1000 5000 0\n", PREC, TextFile::Blocks, 2, TextKind::Order),
-        (b"64000000 0 0 0 1000 5000 0", PREC, TextFile::Blocks, 1, TextKind::Range),
-        (b"0 10000 0 0 1000 5000 0", PREC, TextFile::Blocks, 1, TextKind::Range),
-        (b"0 0 0 0 1000.0001 5000 0", PREC, TextFile::Blocks, 1, TextKind::TooFine),
-        (b"0 0 0 0 1000000.001 5000 0", PREC, TextFile::Blocks, 1, TextKind::Range),
-        (b"0 0 0 0 1000 -1 0", PREC, TextFile::Blocks, 1, TextKind::Range),
-        (b"0 0 0 0 1000 1e3 0", PREC, TextFile::Blocks, 1, TextKind::Number),
-        (b"0 0 0 0 1000 5000 64", PREC, TextFile::Blocks, 1, TextKind::Range),
-        (b"0 x 0 0 1000.0001 5000 64", PREC, TextFile::Blocks, 1, TextKind::Number),
+        (
+            b"0 0 0 0 1000 5000\n",
+            PREC,
+            TextFile::Blocks,
+            1,
+            TextKind::Fields,
+        ),
+        (
+            b"0 0 0 0 1000 5000 0 0\n",
+            PREC,
+            TextFile::Blocks,
+            1,
+            TextKind::Fields,
+        ),
+        (
+            b"\n1 0 0 0 1000 5000 0\n",
+            PREC,
+            TextFile::Blocks,
+            2,
+            TextKind::Order,
+        ),
+        (
+            b"64000000 0 0 0 1000 5000 0",
+            PREC,
+            TextFile::Blocks,
+            1,
+            TextKind::Range,
+        ),
+        (
+            b"0 10000 0 0 1000 5000 0",
+            PREC,
+            TextFile::Blocks,
+            1,
+            TextKind::Range,
+        ),
+        (
+            b"0 0 0 0 1000.0001 5000 0",
+            PREC,
+            TextFile::Blocks,
+            1,
+            TextKind::TooFine,
+        ),
+        (
+            b"0 0 0 0 1000000.001 5000 0",
+            PREC,
+            TextFile::Blocks,
+            1,
+            TextKind::Range,
+        ),
+        (
+            b"0 0 0 0 1000 -1 0",
+            PREC,
+            TextFile::Blocks,
+            1,
+            TextKind::Range,
+        ),
+        (
+            b"0 0 0 0 1000 1e3 0",
+            PREC,
+            TextFile::Blocks,
+            1,
+            TextKind::Number,
+        ),
+        (
+            b"0 0 0 0 1000 5000 64",
+            PREC,
+            TextFile::Blocks,
+            1,
+            TextKind::Range,
+        ),
+        (
+            b"0 x 0 0 1000.0001 5000 64",
+            PREC,
+            TextFile::Blocks,
+            1,
+            TextKind::Number,
+        ),
         (b"% none\n \t\n", PREC, TextFile::Prec, 1, TextKind::Range),
         (BLOCKS, b"", TextFile::Prec, 1, TextKind::Missing),
         (BLOCKS, b"0 1 1\n", TextFile::Prec, 2, TextKind::Missing),
         (BLOCKS, b"0\n1 0\n", TextFile::Prec, 1, TextKind::Fields),
         (BLOCKS, b"1 0\n1 0\n", TextFile::Prec, 1, TextKind::Order),
-        (BLOCKS, b"0 1 1\n1 0\n1 0\n", TextFile::Prec, 3, TextKind::Order),
+        (
+            BLOCKS,
+            b"0 1 1\n1 0\n1 0\n",
+            TextFile::Prec,
+            3,
+            TextKind::Order,
+        ),
         (BLOCKS, b"0 0 1\n1 0\n", TextFile::Prec, 1, TextKind::Count),
         (BLOCKS, b"0 1\n1 0\n", TextFile::Prec, 1, TextKind::Count),
         (BLOCKS, b"0 1 0\n1 0\n", TextFile::Prec, 1, TextKind::Twice),
         (BLOCKS, b"0 1 2\n1 0\n", TextFile::Prec, 1, TextKind::Range),
-        (BLOCKS, b"0 2 1 1\n1 0\n", TextFile::Prec, 1, TextKind::Range),
+        (
+            BLOCKS,
+            b"0 2 1 1\n1 0\n",
+            TextFile::Prec,
+            1,
+            TextKind::Range,
+        ),
         (BLOCKS, b"0 1 1\n1 -1\n", TextFile::Prec, 2, TextKind::Range),
-        (BLOCKS, b"0 18446744073709551616\n1 0\n", TextFile::Prec, 1, TextKind::Range),
+        (
+            BLOCKS,
+            b"0 18446744073709551616\n1 0\n",
+            TextFile::Prec,
+            1,
+            TextKind::Range,
+        ),
     ];
     for (blocks, prec, file, line, kind) in &cases {
         let found = fault_of(rt.alloc(), blocks, prec, pcpsp.as_slice())?;
@@ -203,6 +312,7 @@ fn faults_of_blocks_and_precedences(rt: HostRuntime) -> Result<(), Fail> {
 }
 
 const ONE_BLOCK: &[u8] = b"0 0 0 0 1000 5000 0\n";
+
 const ONE_PREC: &[u8] = b"0 0\n";
 
 const ONE_PCPSP: [&[u8]; 12] = [
@@ -224,7 +334,11 @@ const ONE_PCPSP: [&[u8]; 12] = [
 fn faults_of_one_ore_block(rt: HostRuntime) -> Result<(), Fail> {
     let cases: [(Change, u64, TextKind); 10] = [
         (Change::Put(3, b"NBLOCKS: 2"), 3, TextKind::Count),
-        (Change::Put(7, b"NGENERAL_SIDE_CONSTRAINTS: 1"), 7, TextKind::Range),
+        (
+            Change::Put(7, b"NGENERAL_SIDE_CONSTRAINTS: 1"),
+            7,
+            TextKind::Range,
+        ),
         (Change::Put(2, b"TYPE: CPIT"), 2, TextKind::Name),
         (Change::Without(8), 8, TextKind::Missing),
         (Change::Without(10), 10, TextKind::Missing),
@@ -232,7 +346,11 @@ fn faults_of_one_ore_block(rt: HostRuntime) -> Result<(), Fail> {
         (Change::Before(12, b"0 0 0 5"), 12, TextKind::Range),
         (Change::Front(9), 10, TextKind::Missing),
         (Change::Put(3, b"NBLOCKS: 64000001"), 3, TextKind::Range),
-        (Change::Before(13, b"RESOURCE_CONSTRAINT_LIMITS:"), 13, TextKind::Key),
+        (
+            Change::Before(13, b"RESOURCE_CONSTRAINT_LIMITS:"),
+            13,
+            TextKind::Key,
+        ),
     ];
     for (change, line, kind) in &cases {
         let text = changed(rt.alloc(), &ONE_PCPSP, *change)?;
@@ -247,12 +365,30 @@ fn faults_of_one_ore_block(rt: HostRuntime) -> Result<(), Fail> {
 fn hostile_minelib_texts(rt: HostRuntime) -> Result<(), Fail> {
     let pcpsp = changed(rt.alloc(), &ONE_PCPSP, Change::Front(12))?;
     let cases: [(&[u8], &[u8], TextFile, u64, TextKind); 6] = [
-        (b"0 0 0 0 1000 5000", ONE_PREC, TextFile::Blocks, 1, TextKind::Fields),
+        (
+            b"0 0 0 0 1000 5000",
+            ONE_PREC,
+            TextFile::Blocks,
+            1,
+            TextKind::Fields,
+        ),
         (ONE_BLOCK, b"", TextFile::Prec, 1, TextKind::Missing),
         (ONE_BLOCK, b"0 1 0\n", TextFile::Prec, 1, TextKind::Range),
-        (ONE_BLOCK, b"0 18446744073709551616\n", TextFile::Prec, 1, TextKind::Range),
+        (
+            ONE_BLOCK,
+            b"0 18446744073709551616\n",
+            TextFile::Prec,
+            1,
+            TextKind::Range,
+        ),
         (ONE_BLOCK, b"0 -1\n", TextFile::Prec, 1, TextKind::Range),
-        (b"\xEF\xBB\xBF\xEF\xBB\xBF0 0 0 0 1000 5000 0\n", ONE_PREC, TextFile::Blocks, 1, TextKind::Number),
+        (
+            b"\xEF\xBB\xBF\xEF\xBB\xBF0 0 0 0 1000 5000 0\n",
+            ONE_PREC,
+            TextFile::Blocks,
+            1,
+            TextKind::Number,
+        ),
     ];
     for (blocks, prec, file, line, kind) in &cases {
         let found = fault_of(rt.alloc(), blocks, prec, pcpsp.as_slice())?;
@@ -276,7 +412,8 @@ fn ends_after<'a>(text: &'a [u8], bytes: &[u8]) -> Result<&'a [u8], Fail> {
     Err("these bytes")?
 }
 
-const TEN_BLOCKS: &[u8] = b"0 1 1 0 1 0 0\n1 0 0 1 1 0 0\n2 1 0 1 1 0 0\n3 2 0 1 1 0 0\n4 0 1 1 1 0 0\n5 1 1 1 1 0 0\n6 2 1 1 1 0 0\n7 0 2 1 1 0 0\n8 1 2 1 1 0 0\n9 2 2 1 1 0 0\n";
+const TEN_BLOCKS: &[u8] =
+    b"0 1 1 0 1 0 0\n1 0 0 1 1 0 0\n2 1 0 1 1 0 0\n3 2 0 1 1 0 0\n4 0 1 1 1 0 0\n5 1 1 1 1 0 0\n6 2 1 1 1 0 0\n7 0 2 1 1 0 0\n8 1 2 1 1 0 0\n9 2 2 1 1 0 0\n";
 
 #[test]
 fn nine_above(rt: HostRuntime) -> Result<(), Fail> {
@@ -327,7 +464,8 @@ fn joined(alloc: Global, parts: [&[u8]; 3]) -> Result<Vec<u8>, Fail> {
 #[test]
 fn hand_made_instance(rt: HostRuntime) -> Result<(), Fail> {
     let blocks = b"% hand\r\n\n0\t0 0  0 1000.000 5000 0\r\n";
-    let pcpsp = b"DISCOUNT_RATE: 0.1\nNGENERAL_SIDE_CONSTRAINTS: 0\nNRESOURCE_SIDE_CONSTRAINTS: 0\nNDESTINATIONS: 1\nNPERIODS: 1\nNBLOCKS: 1\nTYPE: PCPSP\nNAME : one\nOBJECTIVE_FUNCTION:\n0 12000\nRESOURCE_CONSTRAINT_COEFFICIENTS:\nRESOURCE_CONSTRAINT_LIMITS:";
+    let pcpsp =
+        b"DISCOUNT_RATE: 0.1\nNGENERAL_SIDE_CONSTRAINTS: 0\nNRESOURCE_SIDE_CONSTRAINTS: 0\nNDESTINATIONS: 1\nNPERIODS: 1\nNBLOCKS: 1\nTYPE: PCPSP\nNAME : one\nOBJECTIVE_FUNCTION:\n0 12000\nRESOURCE_CONSTRAINT_COEFFICIENTS:\nRESOURCE_CONSTRAINT_LIMITS:";
     let again = written_again(rt.alloc(), blocks, b"0 0", pcpsp)?;
     let one = changed(rt.alloc(), &ONE_PCPSP, Change::Front(12))?;
     let want = joined(rt.alloc(), [ONE_BLOCK, ONE_PREC, one.as_slice()])?;
@@ -339,12 +477,18 @@ fn hand_made_instance(rt: HostRuntime) -> Result<(), Fail> {
 #[test]
 fn limits_and_coefficients(rt: HostRuntime) -> Result<(), Fail> {
     let written = changed(rt.alloc(), &PCPSP, Change::Front(16))?;
-    let again = written_again(rt.alloc(), b"\xEF\xBB\xBF+0 0. 0 .0 01000.0000000 5000 0\n1 1 0 0 -0 7 0", PREC, written.as_slice())?;
+    let again = written_again(
+        rt.alloc(),
+        b"\xEF\xBB\xBF+0 0. 0 .0 01000.0000000 5000 0\n1 1 0 0 -0 7 0",
+        PREC,
+        written.as_slice(),
+    )?;
     let want = joined(rt.alloc(), [BLOCKS, PREC, written.as_slice()])?;
     assert_eq!(&rt; again.as_slice(), want.as_slice());
     let unsorted = b"0 2 2 1\n1 0\n2 0\n";
     let three = b"0 0 0 0 0 0 0\n1 1 0 0 0 0 0\n2 2 0 0 0 0 0\n";
-    let pcpsp = b"NAME: n\nTYPE: PCPSP\nNBLOCKS: 3\nNPERIODS: 100\nNDESTINATIONS: 1\nNRESOURCE_SIDE_CONSTRAINTS: 8\nNGENERAL_SIDE_CONSTRAINTS: 0\nDISCOUNT_RATE: 1\nOBJECTIVE_FUNCTION:\n0 -1000000000000000000\n1 0.000001\n2 0\nRESOURCE_CONSTRAINT_COEFFICIENTS:\n0 0 7 -1\n2 0 0 0\nRESOURCE_CONSTRAINT_LIMITS:\n0 99 G -5\n7 0 I -2 -2\n";
+    let pcpsp =
+        b"NAME: n\nTYPE: PCPSP\nNBLOCKS: 3\nNPERIODS: 100\nNDESTINATIONS: 1\nNRESOURCE_SIDE_CONSTRAINTS: 8\nNGENERAL_SIDE_CONSTRAINTS: 0\nDISCOUNT_RATE: 1\nOBJECTIVE_FUNCTION:\n0 -1000000000000000000\n1 0.000001\n2 0\nRESOURCE_CONSTRAINT_COEFFICIENTS:\n0 0 7 -1\n2 0 0 0\nRESOURCE_CONSTRAINT_LIMITS:\n0 99 G -5\n7 0 I -2 -2\n";
     let again = written_again(rt.alloc(), three, unsorted, pcpsp)?;
     let want = joined(rt.alloc(), [three, unsorted, pcpsp])?;
     assert_eq!(&rt; again.as_slice(), want.as_slice());
@@ -379,7 +523,11 @@ fn cpit_destinations(rt: HostRuntime) -> Result<(), Fail> {
     assert!(&rt; cpit_fault(rt.alloc(), 2, unlimited.as_slice())?.is_none());
     let cases: [(Change, u64, TextKind); 8] = [
         (Change::Before(5, b"NDESTINATIONS: 2"), 5, TextKind::Key),
-        (Change::Before(5, b"NGENERAL_SIDE_CONSTRAINTS: 0"), 5, TextKind::Key),
+        (
+            Change::Before(5, b"NGENERAL_SIDE_CONSTRAINTS: 0"),
+            5,
+            TextKind::Key,
+        ),
         (Change::Without(9), 9, TextKind::Missing),
         (Change::Put(2, b"TYPE: PCPSP"), 2, TextKind::Name),
         (Change::Put(8, b"0 12000 0"), 8, TextKind::Fields),
