@@ -1,4 +1,4 @@
-//! The MineLib texts of an instance: the sinks that take them, and their writers.
+//! The MineLib texts of an instance: their writers and the sinks that take them, and their readers.
 #![tactic(auto)]
 
 mod block_reader;
