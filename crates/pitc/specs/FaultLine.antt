@@ -1,7 +1,9 @@
 -- The line that the program writes of a fault, and the status that it ends with.
-use Rattle.std.specs.Prelude.{◌≡◌, ℕ, ◌<◌, ◌++◌, ◌⊎◌, List, [], ◌∷◌, length, Err, codes}
+use Rattle.std.specs.Prelude.{◌≡◌, ◌≢◌, ℕ, ◌<◌, ◌++◌, ◌⊎◌, List, [], ◌∷◌, length, Err, codes}
 use Rattle.pit_model.specs.Planned.{planned}
 use Rattle.pit_model.specs.declared.plan_fault.PlanFault.{PlanFault}
+use Rattle.pitc.specs.declared.input.InputFault.{InputFault}
+use Rattle.pitc.specs.declared.input.InputFault.TheVariants as input
 use Rattle.pitc.specs.declared.refusal.Refusal.{Refusal}
 use Rattle.pitc.specs.declared.refusal.Refusal.TheVariants.{Settings, TooLong, Row, Same, OutOfMemory}
 
@@ -13,6 +15,12 @@ status_of (Row file fault) = 1
 status_of (Same first again) = 1
 status_of OutOfMemory = 4
 
+-- 1 for an input that is too long, 3 for one that cannot be read, 4 for want of memory
+abbrev pub status_of_input : InputFault → ℕ
+status_of_input input.FeedFailed = 3
+status_of_input input.TooLong = 1
+status_of_input input.OutOfMemory = 4
+
 -- a line of these words: the program's name before them and a line feed behind
 abbrev pub line_of : List ℕ → List ℕ
 line_of words = codes "pitc: " ++ words ++ 10 ∷ []
@@ -20,6 +28,14 @@ line_of words = codes "pitc: " ++ words ++ 10 ∷ []
 -- one line was appended
 abbrev pub AppendsLine : List ℕ → List ℕ → Type 0
 AppendsLine old new = (words : List ℕ) × (new ≡ old ++ line_of words)
+
+-- the run ends with this status, a line of these words appended; or with that of refused memory, and no line stands
+abbrev pub EndsWith : ℕ → List ℕ → List ℕ → List ℕ → ℕ → Type 0
+EndsWith status words old new answered = ((answered ≡ status) × (new ≡ old ++ line_of words)) ⊎ ((answered ≡ 4) × (new ≡ old))
+
+-- the run is refused: a line was appended, or memory was refused and no line stands
+abbrev pub EndsRefused : List ℕ → List ℕ → ℕ → Type 0
+EndsRefused old new status = (status ≢ 0) × (status ≢ 4 → AppendsLine old new) × (status ≡ 4 → new ≡ old)
 
 -- why a text gives no plan: it is too long, or states none, and a line says so; or memory was refused, and no line stands
 abbrev pub PlanRefused : List ℕ → List ℕ → List ℕ → ℕ → Type 0

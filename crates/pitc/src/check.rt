@@ -1,13 +1,15 @@
 //! The check of the files of an instance.
 
-ghost use Rattle.std.specs.Prelude.{◌≡◌, ◌≢◌, ◌++◌, ℕ, List};
-ghost use Rattle.pitc.specs.FaultLine.{AppendsLine};
+ghost use Rattle.std.specs.Prelude.{◌≡◌, ◌≢◌, ◌++◌, ℕ, List, IfOk};
+ghost use Rattle.pitc.specs.CheckFault.{status_of_fault};
+ghost use Rattle.pitc.specs.Counts.{IsCountsLine};
+ghost use Rattle.pitc.specs.FaultLine.{AppendsLine, EndsRefused};
 
 use crate::check_fault::CheckFault;
-use crate::fault_line::append_line;
+use crate::counts::Texts;
+use crate::fault_line::refuse_with;
 use crate::status::{DEVICE, REFUSED, RESOURCES};
 use minelib_text::text_fault::TextFile;
-use minelib_text::{read_cpit, read_instance};
 use std::alloc::Global;
 use std::rt::Files;
 use zone_csv::file_feed::FileFeed;
@@ -15,15 +17,6 @@ use zone_csv::slurp::{GREATEST_LIMIT, SlurpFault, slurp};
 
 #[cfg(test)]
 mod tests;
-
-// The texts of an instance, and that of its constrained pit limit problem where there is one.
-#[derive(Drop)]
-struct Texts {
-    blocks: Vec<u8>,
-    prec: Vec<u8>,
-    pcpsp: Vec<u8>,
-    cpit: Option<Vec<u8>>,
-}
 
 /// Reads `BASE.blocks`, `BASE.prec` and `BASE.pcpsp`, then `BASE.cpit` if it can be opened, and then their texts. Appends the line of
 /// their counts to `out`, or the line of the first fault to `err`, and answers the status that the program ends with.
@@ -36,7 +29,7 @@ pub fn check_files<R: Files>(
     out: &mut Vec<u8>,
     err: &mut Vec<u8>,
 ) -> u8
-    ensures done { result ≡ 0 → (line : List ℕ) × (out.new.items ≡ out.old.items ++ line) }
+    ensures done { result ≡ 0 → (line : List ℕ) × IsCountsLine line × (out.new.items ≡ out.old.items ++ line) }
     ensures quiet { result ≡ 0 → err.new.items ≡ err.old.items }
     ensures refused { result ≢ 0 → out.new.items ≡ out.old.items }
     ensures told { result ≢ 0 → result ≢ 4 → AppendsLine err.old.items err.new.items }
@@ -53,9 +46,8 @@ pub fn check_files<R: Files>(
 
 // Appends the line of a fault, and answers its status.
 fn refuse(alloc: Global, fault: CheckFault, lines: &mut Vec<u8>) -> u8
-    ensures status { result ≢ 0 }
-    ensures told { result ≢ 4 → AppendsLine lines.old.items lines.new.items }
-    ensures memory { result ≡ 4 → lines.new.items ≡ lines.old.items }
+    ensures status { result ≢ 4 → result ≡ status_of_fault fault }
+    ensures refused { EndsRefused lines.old.items lines.new.items result }
 {
     let status = match fault {
         CheckFault::FeedFailed(_) => DEVICE,
@@ -65,21 +57,21 @@ fn refuse(alloc: Global, fault: CheckFault, lines: &mut Vec<u8>) -> u8
     let Ok(words) = format!(in alloc; "{fault}") else {
         return RESOURCES;
     };
-    match append_line(alloc, words.as_str(), lines) {
-        Ok(()) => status,
-        Err(_) => RESOURCES,
-    }
+    refuse_with(alloc, words.as_str(), status, lines)
 }
 
 // The line of the counts of the files.
-fn checked<R: Files>(rt: &R, alloc: Global, base: &str) -> Result<String, CheckFault> {
+fn checked<R: Files>(rt: &R, alloc: Global, base: &str) -> Result<String, CheckFault>
+    ensures { IfOk result (λ line. IsCountsLine line.bytes.items) }
+{
     let texts = Texts {
         blocks: text_of(rt, alloc, base, TextFile::Blocks)?,
         prec: text_of(rt, alloc, base, TextFile::Prec)?,
         pcpsp: text_of(rt, alloc, base, TextFile::Pcpsp)?,
         cpit: text_if_there(rt, alloc, base, TextFile::Cpit)?,
     };
-    counts_line(alloc, &texts)
+    let counts = texts.counts(alloc)?;
+    Ok(format!(in alloc; "{counts}\n")?)
 }
 
 fn text_of<R: Files>(
@@ -110,29 +102,5 @@ fn text_if_there<R: Files>(
         Err(SlurpFault::FeedFailed) => Err(CheckFault::FeedFailed(file)),
         Err(SlurpFault::TooLong) => Err(CheckFault::TooLong(file)),
         Err(SlurpFault::OutOfMemory) => Err(CheckFault::OutOfMemory),
-    }
-}
-
-fn counts_line(alloc: Global, texts: &Texts) -> Result<String, CheckFault> {
-    let instance = read_instance(
-        alloc,
-        texts.blocks.as_slice(),
-        texts.prec.as_slice(),
-        texts.pcpsp.as_slice(),
-    )?;
-    let blocks = instance.blocks_len();
-    let arcs = instance.arcs();
-    let coefs = instance.coefs_len();
-    let limits = instance.limits_len();
-    let counts = format!(in alloc;
-        "blocks {blocks} arcs {arcs} coefficients {coefs} limits {limits}"
-    )?;
-    match &texts.cpit {
-        None => Ok(format!(in alloc; "{counts}\n")?),
-        Some(text) => {
-            let cpit = read_cpit(alloc, blocks, text.as_slice())?;
-            let coefs = cpit.coefs_len();
-            Ok(format!(in alloc; "{counts} cpit {coefs}\n")?)
-        }
     }
 }

@@ -33,6 +33,11 @@ impl From<AllocError> for CheckFault {
 }
 
 impl From<ReadTextError> for CheckFault {
+    ghost use Rattle.std.specs.Prelude.{◌≡◌};
+    ghost use Rattle.pitc.specs.CheckFault.{fault_of_text};
+
+    ghost from_gives = { λ error fault. fault ≡ fault_of_text error };
+
     fn from(error: ReadTextError) -> CheckFault {
         match error {
             ReadTextError::Fault(fault) => CheckFault::Text(fault),

@@ -2,7 +2,7 @@
 
 ghost use Rattle.std.specs.Prelude.{◌≡◌, ◌≤◌, ◌++◌, length, Ok, IfOk, IfErr, OnOk, OnErr};
 ghost use Rattle.pit_model.specs.Planned.{planned};
-ghost use Rattle.pitc.specs.FaultLine.{AppendsLine, PlanRefused, line_of, status_of};
+ghost use Rattle.pitc.specs.FaultLine.{AppendsLine, EndsWith, PlanRefused, line_of, status_of};
 
 use crate::refusal::Refusal;
 use crate::status::{REFUSED, RESOURCES, USAGE};
@@ -24,10 +24,7 @@ pub fn plan_from(alloc: Global, text: &[u8], lines: &mut Vec<u8>) -> Result<Plan
     ensures refused { IfErr result (PlanRefused text.now lines.old.items lines.new.items) }
 {
     if text.len() > MAX_PLAN_BYTES {
-        return match append_line(alloc, "plan: TooLong", lines) {
-            Ok(()) => Err(REFUSED),
-            Err(_) => Err(RESOURCES),
-        };
+        return Err(refuse_with(alloc, "plan: TooLong", REFUSED, lines));
     }
     match read_plan(alloc, text) {
         Ok(plan) => Ok(plan),
@@ -35,10 +32,7 @@ pub fn plan_from(alloc: Global, text: &[u8], lines: &mut Vec<u8>) -> Result<Plan
             let Ok(words) = format!(in alloc; "{fault}") else {
                 return Err(RESOURCES);
             };
-            match append_line(alloc, words.as_str(), lines) {
-                Ok(()) => Err(REFUSED),
-                Err(_) => Err(RESOURCES),
-            }
+            Err(refuse_with(alloc, words.as_str(), REFUSED, lines))
         }
         Err(ReadPlanError::OutOfMemory) => Err(RESOURCES),
     }
@@ -63,6 +57,16 @@ fn status_of(refusal: &Refusal) -> u8
         Refusal::Settings(_) => USAGE,
         Refusal::TooLong { .. } | Refusal::Row { .. } | Refusal::Same { .. } => REFUSED,
         Refusal::OutOfMemory => RESOURCES,
+    }
+}
+
+/// Appends a line of these words, and answers this status; or that of memory, where it is refused, and then `lines` is as it was.
+pub fn refuse_with(alloc: Global, words: &str, status: u8, lines: &mut Vec<u8>) -> u8
+    ensures { EndsWith status words.now lines.old.items lines.new.items result }
+{
+    match append_line(alloc, words, lines) {
+        Ok(()) => status,
+        Err(_) => RESOURCES,
     }
 }
 

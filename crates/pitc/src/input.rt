@@ -1,5 +1,7 @@
 //! Standard input, whole.
 
+ghost use Rattle.std.specs.Prelude.{◌≤◌, length, IfOk};
+
 use std::alloc::Global;
 use std::io::{ErrorKind, Input, Read};
 use thiserror::Error;
@@ -22,7 +24,9 @@ pub enum InputFault {
 }
 
 /// Reads standard input to its end, but no further than one byte past its limit.
-pub fn read_input<R: Input>(rt: &R, alloc: Global) -> Result<Vec<u8>, InputFault> {
+pub fn read_input<R: Input>(rt: &R, alloc: Global) -> Result<Vec<u8>, InputFault>
+    ensures limit { IfOk result (λ bytes. length bytes.items ≤ 268435456) }
+{
     let mut bytes = Vec::new(alloc);
     let mut input = rt.reader().take(MAX_INPUT_BYTES as u64 + 1);
     match input.read_to_end(&mut bytes) {

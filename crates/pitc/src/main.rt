@@ -11,6 +11,7 @@ ghost use Rattle.pit_model.specs.Worth.{worth, mill, dump};
 pub mod check;
 pub mod check_fault;
 pub mod command_line;
+pub mod counts;
 pub mod fault_line;
 pub mod input;
 pub mod job;

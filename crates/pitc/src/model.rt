@@ -1,6 +1,10 @@
 //! The model that standard input gives.
 
-use crate::fault_line::{append_line, plan_from};
+ghost use Rattle.std.specs.Prelude.{◌≡◌, ◌≢◌, ℕ, List, OnOk, IfOk, IfErr};
+ghost use Rattle.pitc.specs.FaultLine.{EndsRefused, status_of_input};
+ghost use Rattle.pitc.specs.Model.{IsModel};
+
+use crate::fault_line::{plan_from, refuse_with};
 use crate::input::{InputFault, read_input};
 use crate::pieces::{Pieces, cut};
 use crate::status::{DEVICE, REFUSED, RESOURCES};
@@ -16,7 +20,11 @@ pub struct Model {
 }
 
 /// Reads the model from standard input; or answers the status of its refusal, with the line of the fault appended to `lines`.
-pub fn read_model<R: Input>(rt: &R, alloc: Global, lines: &mut Vec<u8>) -> Result<Model, u8> {
+pub fn read_model<R: Input>(rt: &R, alloc: Global, lines: &mut Vec<u8>) -> Result<Model, u8>
+    ensures model { IfOk result (λ model. (input : List ℕ) × IsModel input model.pieces model.plan) }
+    ensures quiet { OnOk result (lines.new.items ≡ lines.old.items) }
+    ensures refused { IfErr result (EndsRefused lines.old.items lines.new.items) }
+{
     let input = match read_input(rt, alloc) {
         Ok(input) => input,
         Err(fault) => return Err(refuse_input(alloc, fault, lines)),
@@ -29,14 +37,14 @@ pub fn read_model<R: Input>(rt: &R, alloc: Global, lines: &mut Vec<u8>) -> Resul
 }
 
 // Appends the line of the input's fault, and answers its status.
-fn refuse_input(alloc: Global, fault: InputFault, lines: &mut Vec<u8>) -> u8 {
+fn refuse_input(alloc: Global, fault: InputFault, lines: &mut Vec<u8>) -> u8
+    ensures status { result ≢ 4 → result ≡ status_of_input fault }
+    ensures refused { EndsRefused lines.old.items lines.new.items result }
+{
     let (words, status) = match fault {
         InputFault::FeedFailed => ("input: FeedFailed", DEVICE),
         InputFault::TooLong => ("input: TooLong", REFUSED),
         InputFault::OutOfMemory => return RESOURCES,
     };
-    match append_line(alloc, words, lines) {
-        Ok(()) => status,
-        Err(_) => RESOURCES,
-    }
+    refuse_with(alloc, words, status, lines)
 }

@@ -5,6 +5,7 @@ ghost use Rattle.mine_instance.specs.OfModel.{formulas_of_plan};
 
 use super::build;
 use crate::coef::Coef;
+use crate::instance::Instance;
 use crate::is_valid;
 use pit_model::block::Block;
 use pit_model::limit::Bound;
@@ -12,6 +13,8 @@ use pit_model::plan::Plan;
 use pit_model::read_plan;
 use pit_units::Dec;
 use precedence::{Numbering, number, preds};
+use std::alloc::Global;
+use std::process::Abort;
 use std::test::Fail;
 use valuers::{Valued, Worths};
 
@@ -44,37 +47,41 @@ fn has_zones(numbering: &Numbering, plan: &Plan) -> bool
     true
 }
 
-#[test]
-fn limits_and_coefficients(rt: HostRuntime) -> Result<(), Fail> {
-    let alloc = rt.alloc();
-    let plan = read_plan(
-        alloc,
-        b"name,one\ngrid,0,0,0,10,10,10\nzone,1,1,1\nmill,mill,900,600,1500\ndump,dump,200\nperiods,2\nrate,0.1\nresource,plant,mill\nlimit,plant,1,I,0,900\nlimit,plant,0,L,500.5\n",
-    )?;
-    // The block of the greater identifier arrives first.
-    let waste = Block::new(1, 0, 0, 0, 7_000_000, 0).ok_or("a block")?;
-    let ore = Block::new(0, 0, 0, 1_000_000, 5_000_000_000, 0).ok_or("a block")?;
+const PLAN: &[u8] =
+    b"name,one\ngrid,0,0,0,10,10,10\nzone,1,1,1\nmill,mill,900,600,1500\ndump,dump,200\nperiods,2\nrate,0.1\nresource,plant,mill\nlimit,plant,1,I,0,900\nlimit,plant,0,L,500.5\n";
+
+// The instance of two blocks under the plan. The block of the greater identifier arrives first.
+fn built(alloc: Global, ore: Block, waste: Block) -> Result<Instance, Fail> {
+    let plan = read_plan(alloc, PLAN)?;
     let rows = [valued(&plan, 0, waste), valued(&plan, 1, ore)];
     let numbering = number(alloc, &rows)?;
     if !has_zones(&numbering, &plan) {
         return Err("zones")?;
     }
     let lists = preds(alloc, &numbering, &plan)?;
-    let instance = build(alloc, &numbering, lists, &rows, &plan)?;
+    Ok(build(alloc, &numbering, lists, &rows, &plan)?)
+}
 
+// The values are so many hundred cents.
+fn are_hundreds(rt: &impl Abort, values: &[Dec], hundreds: &[i32]) {
+    assert_eq!(rt; values.len(), hundreds.len());
+    for (value, hundreds) in values.iter().zip(hundreds) {
+        assert_eq!(rt; Dec::new(i128::from(*hundreds) * 1_000_000), Some(*value));
+    }
+}
+
+#[test]
+fn limits_and_coefficients(rt: HostRuntime) -> Result<(), Fail> {
+    let waste = Block::new(1, 0, 0, 0, 7_000_000, 0).ok_or("a block")?;
+    let ore = Block::new(0, 0, 0, 1_000_000, 5_000_000_000, 0).ok_or("a block")?;
+    let instance = built(rt.alloc(), ore, waste)?;
     assert!(rt; is_valid(&instance));
     assert_eq!(rt; instance.name.as_str(), "one");
     assert_eq!(rt; instance.blocks.as_slice(), [ore, waste].as_slice());
     assert_eq!(rt; (instance.blocks_len(), instance.arcs()), (2, 0));
     assert!(rt; instance.values.len() == 2);
-    for (block, values) in [(0, [12_000i32, -2_000]), (1, [0, 0])] {
-        assert_eq!(rt; instance.values.of(block).len(), 2);
-        for (destination, hundreds) in values.iter().enumerate() {
-            let value = instance.values.of(block).get(destination).copied();
-            let want = Dec::new(i128::from(*hundreds) * 1_000_000);
-            assert_eq!(rt; value, want, "{block} {destination}");
-        }
-    }
+    are_hundreds(&rt, instance.values.of(0), &[12_000, -2_000]);
+    are_hundreds(&rt, instance.values.of(1), &[0, 0]);
     let v = Dec::new(1_000_000_000).ok_or("tonnes")?;
     let (b, d, r) = (0, 0, 0);
     assert_eq!(rt; instance.coefs.as_slice(), [Coef { b, d, r, v }].as_slice());
