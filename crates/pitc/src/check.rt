@@ -1,7 +1,7 @@
 //! The check of the files of an instance.
 
-ghost use Rattle.std.specs.Prelude.{◌≡◌, ◌≢◌, ◌++◌, ℕ, List, IfOk};
-ghost use Rattle.pitc.specs.CheckFault.{status_of_fault};
+ghost use Rattle.std.specs.Prelude.{◌≡◌, ◌≢◌, ◌++◌, ℕ, List, IfErr, IfOk};
+ghost use Rattle.pitc.specs.CheckFault.{IsFaultOf, status_of_fault};
 ghost use Rattle.pitc.specs.Counts.{IsCountsLine};
 ghost use Rattle.pitc.specs.FaultLine.{AppendsLine, EndsRefused};
 
@@ -79,7 +79,9 @@ fn text_of<R: Files>(
     alloc: Global,
     base: &str,
     file: TextFile,
-) -> Result<Vec<u8>, CheckFault> {
+) -> Result<Vec<u8>, CheckFault>
+    ensures { IfErr result (IsFaultOf file) }
+{
     match text_if_there(rt, alloc, base, file)? {
         Some(text) => Ok(text),
         None => Err(CheckFault::FeedFailed(file)),
@@ -92,7 +94,9 @@ fn text_if_there<R: Files>(
     alloc: Global,
     base: &str,
     file: TextFile,
-) -> Result<Option<Vec<u8>>, CheckFault> {
+) -> Result<Option<Vec<u8>>, CheckFault>
+    ensures { IfErr result (IsFaultOf file) }
+{
     let path = format!(in alloc; "{base}.{file}")?;
     let Ok(mut feed) = FileFeed::open(rt, path.as_str()) else {
         return Ok(None);

@@ -22,6 +22,7 @@ pub mod numbered;
 pub mod piece;
 pub mod pieces;
 pub mod pipe_form;
+pub mod pipe_run;
 pub mod printed;
 pub mod refusal;
 pub mod rows;
@@ -29,11 +30,10 @@ pub mod settings;
 pub mod status;
 
 use crate::check::check_files;
-use crate::fault_line::refusal_line;
 use crate::job::job;
 use crate::jobs::{Job, JobFault};
 use crate::model::read_model;
-use crate::pipe_form::pipe;
+use crate::pipe_run::run_pipe;
 use crate::status::{RESOURCES, USAGE, finish};
 use pit_model::block::Block;
 use pit_model::destination::{Destination, Valuer};
@@ -46,22 +46,16 @@ use std::{env, io};
 fn main(rt: HostRuntime) -> ExitCode {
     let alloc = rt.alloc();
     let Ok(words) = words_of(&rt, alloc) else {
-        return finish(&rt.stdout(), &rt.stderr(), RESOURCES, &[], &[]);
+        return out_of_memory(&rt);
     };
     if words.len() > 1 {
         return run_job(&rt, alloc, words.as_slice());
     }
-    let mut lines = Vec::new(alloc);
     let mut text = Vec::new(alloc);
+    let mut lines = Vec::new(alloc);
     let model = match read_model(&rt, alloc, &mut lines) {
         Ok(model) => model,
-        Err(status) => return finish(
-            &rt.stdout(),
-            &rt.stderr(),
-            status,
-            text.as_slice(),
-            lines.as_slice(),
-        ),
+        Err(status) => return end(&rt, status, text.as_slice(), lines.as_slice()),
     };
     let mut destinations = Vec::new(alloc);
     for named in model.plan.formulas() {
@@ -81,13 +75,7 @@ fn main(rt: HostRuntime) -> ExitCode {
                         ensures { result ≡ mill block recovery price cost }
                     { mill_worth(block, recovery, price, cost) },
                 ) else {
-                    return finish(
-                        &rt.stdout(),
-                        &rt.stderr(),
-                        RESOURCES,
-                        text.as_slice(),
-                        lines.as_slice(),
-                    );
+                    return out_of_memory(&rt);
                 };
                 let valuer: Valuer = boxed;
                 let formula = Formula::Mill {
@@ -100,13 +88,7 @@ fn main(rt: HostRuntime) -> ExitCode {
             Formula::Leach { .. } => {
                 let (Ok(formula), Ok(kept)) = (named.formula.copy(alloc), named.formula.copy(alloc))
                 else {
-                    return finish(
-                        &rt.stdout(),
-                        &rt.stderr(),
-                        RESOURCES,
-                        text.as_slice(),
-                        lines.as_slice(),
-                    );
+                    return out_of_memory(&rt);
                 };
                 let Ok(boxed) = Box::new(
                     alloc,
@@ -115,13 +97,7 @@ fn main(rt: HostRuntime) -> ExitCode {
                         ensures { result ≡ worth kept block }
                     { kept.worth(block) },
                 ) else {
-                    return finish(
-                        &rt.stdout(),
-                        &rt.stderr(),
-                        RESOURCES,
-                        text.as_slice(),
-                        lines.as_slice(),
-                    );
+                    return out_of_memory(&rt);
                 };
                 let valuer: Valuer = boxed;
                 Destination::new(formula, valuer)
@@ -135,46 +111,34 @@ fn main(rt: HostRuntime) -> ExitCode {
                         ensures { result ≡ dump block cost }
                     { dump_worth(block, cost) },
                 ) else {
-                    return finish(
-                        &rt.stdout(),
-                        &rt.stderr(),
-                        RESOURCES,
-                        text.as_slice(),
-                        lines.as_slice(),
-                    );
+                    return out_of_memory(&rt);
                 };
                 let valuer: Valuer = boxed;
                 Destination::new(Formula::Dump { cost }, valuer)
             }
         };
         if destinations.push(destination).is_err() {
-            return finish(
-                &rt.stdout(),
-                &rt.stderr(),
-                RESOURCES,
-                text.as_slice(),
-                lines.as_slice(),
-            );
+            return out_of_memory(&rt);
         }
     }
-    let zones = model.pieces.zones();
-    let status = match pipe(
+    let status = run_pipe(
         alloc,
-        zones,
-        &model.plan,
+        &model,
         destinations.as_slice(),
         &mut text,
-    ) {
-        Ok(_) => 0,
-        Err(refusal) => refusal_line(alloc, &refusal, &mut lines).unwrap_or(RESOURCES),
-    };
-    finish(
-        &rt.stdout(),
-        &rt.stderr(),
-        status,
-        text.as_slice(),
-        lines.as_slice(),
-    )
+        &mut lines,
+    );
+    end(&rt, status, text.as_slice(), lines.as_slice())
+}
+
+// Writes what the run left, and ends it.
+fn end(rt: &HostRuntime, status: u8, text: &[u8], lines: &[u8]) -> ExitCode {
+    finish(&rt.stdout(), &rt.stderr(), status, text, lines)
+}
+
+// Ends a run that is refused memory.
+fn out_of_memory(rt: &HostRuntime) -> ExitCode {
+    end(rt, RESOURCES, &[], &[])
 }
 
 // The words of the command line, the program's name first.
@@ -191,13 +155,7 @@ fn run_job(rt: &HostRuntime, alloc: Global, words: &[String]) -> ExitCode {
         Err(JobFault::Line(error)) => show(alloc, &error, &mut text, &mut lines),
         Err(JobFault::OutOfMemory) => RESOURCES,
     };
-    finish(
-        &rt.stdout(),
-        &rt.stderr(),
-        status,
-        text.as_slice(),
-        lines.as_slice(),
-    )
+    end(rt, status, text.as_slice(), lines.as_slice())
 }
 
 // Leaves help for standard output, and the text of a refused line for standard error.
