@@ -1,8 +1,11 @@
 //! The run of the pipe form on the model of an input.
 
 ghost use Rattle.std.specs.Prelude.{◌≡◌, ◌≢◌};
-ghost use Rattle.pitc.specs.FaultLine.{EndsRefused};
+ghost use Rattle.pit_model.specs.Destinations.{formulas_of};
+ghost use Rattle.pitc.specs.FaultLine.{EndsRefused, status_of};
 ghost use Rattle.pitc.specs.Printed.{IsPrinted};
+ghost use Rattle.pitc.specs.Verdict.{PipeRefused};
+ghost use Rattle.pitc.specs.declared.refusal.Refusal.{Refusal};
 
 use crate::fault_line::refusal_line;
 use crate::model::Model;
@@ -26,7 +29,9 @@ pub fn run_pipe(
     ensures done { result ≡ 0 → IsPrinted model.now.plan model.now.pieces.zones text.old.items text.new.items }
     ensures quiet { result ≡ 0 → lines.new.items ≡ lines.old.items }
     ensures kept { result ≢ 0 → text.new.items ≡ text.old.items }
-    ensures refused { result ≢ 0 → EndsRefused lines.old.items lines.new.items result }
+    ensures told { result ≢ 0 → EndsRefused lines.old.items lines.new.items result }
+    ensures refused { result ≢ 0 → result ≢ 4 → (refusal : Refusal) × (result ≡ status_of refusal)
+        × PipeRefused model.now.plan (formulas_of destinations.now) model.now.pieces.zones refusal }
 {
     match pipe(alloc, model.pieces.zones(), &model.plan, destinations, text) {
         Ok(_) => 0,
