@@ -107,7 +107,7 @@ fn two_records(alloc: Global, cell: &[u8]) -> Result<Vec<u8>, Fail> {
 fn cell_of_a_million_bytes(rt: HostRuntime) -> Result<(), Fail> {
     let cell = long_cell(rt.alloc())?;
     let text = two_records(rt.alloc(), cell.as_slice())?;
-    let mut reader = RecordReader::from_slice(rt.alloc(), text.as_slice());
+    let mut reader = RecordReader::new(rt.alloc(), text);
     let mut row = ByteRecord::new(rt.alloc());
     assert!(rt; reader.next(&mut row)?);
     assert_eq!(rt; row.len(), 2);
