@@ -1,6 +1,7 @@
 -- The messages of the lane, and lists of them.
 use Rattle.std.specs.Prelude.{◌≡◌, ℕ, ◌+◌, ◌<◌, Bool, true, false, ◌&&◌, ◌||◌, ◌==◌, List, [], ◌∷◌, map}
 use Rattle.std.specs.List.{filter, count_by, list_any, AllByRecursion}
+use Rattle.pit_model.specs.declared.block.Block.{Block}
 use Rattle.lane.specs.declared.message.Taken.{Taken}
 use Rattle.lane.specs.declared.message.Taken.TheVariants.{Row, End, Stop, Quit}
 
@@ -126,3 +127,8 @@ AreStops ms = AllByRecursion (λ m. is_stop m ≡ true) ms
 abbrev pub StopsLast : List Taken → Type 0
 StopsLast [] = Unit {0}
 StopsLast (m ∷ ms) = (is_stop m ≡ true → AreStops ms) × StopsLast ms
+
+-- what a file of these blocks sends from place k on: its rows, and then its end mark
+abbrev pub sent_from : ℕ → ℕ → List Block → List Taken
+sent_from file k [] = End file k ∷ []
+sent_from file k (b ∷ bs) = Row file k b ∷ sent_from file (k + 1) bs

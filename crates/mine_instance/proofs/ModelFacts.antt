@@ -6,6 +6,7 @@ use Rattle.std.proofs.lemmas.List.Kept.{AllPairs-cons, AllPairs-filter}
 use Rattle.std.specs.Prelude.{AllPairs, IsTrue, nat_lt, slice_get, filter, ◌==◌}
 use Rattle.std.specs.List.{enumerate_from, range_with_len, flat_map}
 use Rattle.std.proofs.lemmas.Bool.Decides.{nat_tests}
+use Rattle.pit_model.specs.Destinations.{formulas_of_plan}
 use Rattle.precedence.specs.Cone.{places_where, above, is_above, preds}
 use Rattle.pit_model.specs.declared.cone.Cone.{Cone}
 use Rattle.pit_model.specs.declared.grid.Grid.{Grid}
@@ -21,7 +22,7 @@ use Rattle.pit_model.specs.declared.formula.NamedFormula.{NamedFormula}
 use Rattle.valuers.specs.Valuing.{worths_by}
 use Rattle.mine_instance.proofs.ValidFacts.{rising_differ}
 use Rattle.mine_instance.specs.Valid.{IsUpward, AreLimits, AreCoefs, ArePreds, ArePredsOf, IsValid}
-use Rattle.mine_instance.specs.OfModel.{formulas_of_plan, values_of, in_hundreds, covers, pair_with, covering, covered, coef_at, block_coefs, coefs_of, instance_of, instance_with}
+use Rattle.mine_instance.specs.OfModel.{values_of, in_hundreds, covers, pair_with, covering, covered, coef_at, block_coefs, coefs_of, instance_of, instance_with}
 use Rattle.mine_instance.specs.Order.{comes_before}
 use Rattle.mine_instance.specs.declared.coef.Coef.{Coef}
 

@@ -2,9 +2,9 @@
 -- (the parts of a MineLib instance: Espinoza, Goycoolea, Moreno and Newman 2013).
 use Rattle.std.specs.Prelude.{ℕ, ◌*◌, ◌==◌, Bool, List, [], ℤ, pos, ◌*ℤ◌, Option, length, map, filter, find, if◌then◌else◌}
 use Rattle.std.specs.List.{list_any, filter_map, flat_map, range_with_len, enumerate_from}
+use Rattle.pit_model.specs.Destinations.{formulas_of_plan}
 use Rattle.pit_model.specs.Plan.{PlanParts}
 use Rattle.pit_model.specs.declared.block.Block.{Block}
-use Rattle.pit_model.specs.declared.formula.Formula.{Formula}
 use Rattle.pit_model.specs.declared.limit.Limit.{Limit}
 use Rattle.pit_model.specs.declared.resource.Resource.{Resource}
 use Rattle.precedence.specs.Cone.{preds}
@@ -20,10 +20,6 @@ block_with listed k = find (λ b. id listed b == k) listed
 -- the blocks of a list by identifier
 abbrev pub by_identifier : List Block → List Block
 by_identifier listed = filter_map (block_with listed) (range_with_len 0 (length listed))
-
--- the formulas of a plan's destinations
-abbrev pub formulas_of_plan : PlanParts → List Formula
-formulas_of_plan plan = map (λ f. f.formula) plan.formulas
 
 -- cents as millionths of 100 cents
 abbrev pub in_hundreds : ℤ → ℤ

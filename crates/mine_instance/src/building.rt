@@ -2,11 +2,12 @@
 
 ghost use Rattle.std.specs.Prelude.{◌≡◌, ◌<◌, ◌≤◌, ◌==◌, ◌++◌, ◌∷◌, [], length, map, slice_get, Some, All, Contains, IfOk, OnOk, if◌then◌else◌};
 ghost use Rattle.std.specs.List.{list_any};
+ghost use Rattle.pit_model.specs.Destinations.{formulas_of_plan};
 ghost use Rattle.pit_model.specs.Worth.{IsWorth};
 ghost use Rattle.precedence.specs.Cone.{preds as cone_lists};
 ghost use Rattle.precedence.specs.Identifier.{IsNumbering, blocks_of};
 ghost use Rattle.valuers.specs.Valuing.{worths_by};
-ghost use Rattle.mine_instance.specs.OfModel.{instance, formulas_of_plan, values_of, in_hundreds, covering, covered, coefs_of, block_coefs};
+ghost use Rattle.mine_instance.specs.OfModel.{instance, values_of, in_hundreds, covering, covered, coefs_of, block_coefs};
 ghost use Rattle.mine_instance.specs.Valid.{IsValid};
 
 use crate::blocks::Blocks;

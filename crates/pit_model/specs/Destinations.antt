@@ -1,5 +1,6 @@
 -- What contracts see of destinations: their formulas.
-use Rattle.std.specs.Prelude.{List, map}
+use Rattle.std.specs.Prelude.{◌≡◌, List, map}
+use Rattle.pit_model.specs.Plan.{PlanParts}
 use Rattle.pit_model.specs.declared.destination.Destination.{Destination}
 use Rattle.pit_model.specs.declared.formula.Formula.{Formula}
 
@@ -10,3 +11,11 @@ formula_of d = d.formula
 -- those of a list of destinations, in its order
 abbrev pub formulas_of : {I : _} {F : _} {g : _} → List (Destination I F g) → List Formula
 formulas_of destinations = map formula_of destinations
+
+-- the formulas of a plan's destinations, in its order
+abbrev pub formulas_of_plan : PlanParts → List Formula
+formulas_of_plan plan = map (λ f. f.formula) plan.formulas
+
+-- the destinations are the plan's: their formulas are, in order
+abbrev pub AreOfPlan : {I : _} {F : _} {g : _} → List (Destination I F g) → PlanParts → Type 0
+AreOfPlan destinations plan = formulas_of destinations ≡ formulas_of_plan plan

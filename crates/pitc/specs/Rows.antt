@@ -1,5 +1,6 @@
 -- The rows of the zone files, valued, and the first fault among the files.
 use Rattle.std.specs.Prelude.{ℕ, ◌+◌, List, [], ◌∷◌, ◌++◌, length, map, nat_lt, Option, Some, None, if◌then◌else◌}
+use Rattle.pit_model.specs.Destinations.{formulas_of_plan}
 use Rattle.pit_model.specs.Plan.{PlanParts}
 use Rattle.pit_model.specs.declared.block.Block.{Block}
 use Rattle.pit_model.specs.declared.formula.Formula.{Formula}
@@ -10,10 +11,6 @@ use Rattle.zone_csv.specs.Zone.{blocks_of, fault_of}
 use Rattle.zone_csv.specs.declared.row_fault.RowFault.{RowFault}
 use Rattle.pitc.specs.declared.refusal.Refusal.{Refusal}
 use Rattle.pitc.specs.declared.refusal.Refusal.TheVariants.{TooLong, Row}
-
--- the formulas of a plan's destinations
-abbrev pub formulas_in : PlanParts → List Formula
-formulas_in plan = map (λ f. f.formula) plan.formulas
 
 -- the rows of these blocks of a file, the first of them at place n, each with its worth by each formula
 abbrev pub rows_from : List Block → List Formula → ℕ → ℕ → List Valued
@@ -28,7 +25,7 @@ rows_in (text ∷ texts) grid formulas n = rows_from (blocks_of grid n text) for
 
 -- all rows of a model
 abbrev pub rows_of : PlanParts → List (List ℕ) → List Valued
-rows_of plan texts = rows_in texts plan.grid (formulas_in plan) 0
+rows_of plan texts = rows_in texts plan.grid (formulas_of_plan plan) 0
 
 -- a row's fault as the file's
 abbrev pub of_row : ℕ → Option RowFault → Option Refusal

@@ -1,11 +1,12 @@
 -- The verdict on the zone files of a plan.
 use Rattle.std.specs.Prelude.{◌≡◌, ◌≢◌, ℕ, ◌+◌, ◌<◌, List, length, Some, None, false, slice_index_or}
+use Rattle.pit_model.specs.Destinations.{formulas_of_plan}
 use Rattle.precedence.specs.Identifier.{blocks_of, is_same_place, IsFirstAgain}
 use Rattle.pit_model.specs.Plan.{PlanParts}
 use Rattle.pit_model.specs.declared.block.Block.{Block}
 use Rattle.pit_model.specs.declared.formula.Formula.{Formula}
 use Rattle.valuers.specs.declared.item.Valued.{Valued}
-use Rattle.pitc.specs.Rows.{rows_of, fault_in, formulas_in}
+use Rattle.pitc.specs.Rows.{rows_of, fault_in}
 use Rattle.pitc.specs.declared.refusal.Refusal.{Refusal}
 use Rattle.pitc.specs.declared.refusal.Refusal.TheVariants.{Settings, TooLong, Row, Same, OutOfMemory}
 use Rattle.pitc.specs.declared.refusal.SettingsFault.TheVariants.{Files, Destinations}
@@ -51,7 +52,7 @@ IsRefusedBy plan texts OutOfMemory = ⊥
 -- why the pipe form answers no text: the files or the destinations are not the plan's; or the verdict; or memory was refused
 abbrev pub PipeRefused : PlanParts → List Formula → List (List ℕ) → Refusal → Type 0
 PipeRefused plan formulas texts (Settings Files) = length texts ≢ length plan.cones
-PipeRefused plan formulas texts (Settings Destinations) = formulas ≢ formulas_in plan
+PipeRefused plan formulas texts (Settings Destinations) = formulas ≢ formulas_of_plan plan
 PipeRefused plan formulas texts (TooLong file) = IsRefusedBy plan texts (TooLong file)
 PipeRefused plan formulas texts (Row file fault) = IsRefusedBy plan texts (Row file fault)
 PipeRefused plan formulas texts (Same first again) = IsRefusedBy plan texts (Same first again)

@@ -1,13 +1,13 @@
 //! The pipe form: from the pieces of the input to the printed instance.
 
 ghost use Rattle.std.specs.Prelude.{◌≡◌, ◌≢◌, ◌<◌, ◌≤◌, ◌++◌, Err, length, All, IfErr, IfOk, OnErr};
-ghost use Rattle.mine_instance.specs.OfModel.{formulas_of_plan, instance};
-ghost use Rattle.pit_model.specs.Destinations.{formulas_of};
+ghost use Rattle.mine_instance.specs.OfModel.{instance};
+ghost use Rattle.pit_model.specs.Destinations.{formulas_of, formulas_of_plan};
 ghost use Rattle.valuers.specs.Valuing.{worths_by};
 ghost use Rattle.precedence.specs.Identifier.{blocks_of};
 ghost use Rattle.pitc.specs.Printed.{printed};
 ghost use Rattle.pitc.specs.Reading.{HasPlace};
-ghost use Rattle.pitc.specs.Rows.{formulas_in, rows_of};
+ghost use Rattle.pitc.specs.Rows.{rows_of};
 ghost use Rattle.pitc.specs.Verdict.{AreApart, IsAccepted, IsRepeat, PipeRefused};
 
 use crate::numbered::numbered;
@@ -38,7 +38,7 @@ pub fn pipe(
     out: &mut Vec<u8>,
 ) -> Result<u64, Refusal>
     ensures files { length zones.now ≢ length plan.now.cones → result ≡ Err (Refusal.Settings SettingsFault.Files) }
-    ensures destinations { length zones.now ≡ length plan.now.cones → formulas_of destinations.now ≢ formulas_in plan.now
+    ensures destinations { length zones.now ≡ length plan.now.cones → formulas_of destinations.now ≢ formulas_of_plan plan.now
         → result ≡ Err (Refusal.Settings SettingsFault.Destinations) }
     ensures accepted { IfOk result (λ count. IsAccepted plan.now zones.now × (count ≡ length (rows_of plan.now zones.now))) }
     ensures printed { IfOk result (λ _. out.new.items ≡ out.old.items ++ printed (instance plan.now (blocks_of (rows_of plan.now zones.now)))) }

@@ -1,11 +1,11 @@
 //! Reading and valuing the rows of zone files, one file after the other.
 
 ghost use Rattle.std.specs.Prelude.{◌≡◌, ◌<◌, ◌≤◌, ◌+◌, [], length, All, IfOk, IfSome};
-ghost use Rattle.pit_model.specs.Destinations.{formulas_of};
+ghost use Rattle.pit_model.specs.Destinations.{formulas_of, formulas_of_plan};
 ghost use Rattle.zone_csv.specs.Outlook.{blocks_left};
 ghost use Rattle.zone_csv.specs.Zone.{blocks_of};
 ghost use Rattle.pitc.specs.Reading.{AnswersOf, HasPlace, ReadsRows};
-ghost use Rattle.pitc.specs.Rows.{fault_in, file_fault, formulas_in, rows_from, rows_in};
+ghost use Rattle.pitc.specs.Rows.{fault_in, file_fault, rows_from, rows_in};
 
 use crate::piece::Piece;
 use crate::refusal::Refusal;
@@ -31,11 +31,11 @@ pub fn read_zones(
     requires files { length zones.now ≡ length plan.now.cones }
     requires some { 1 ≤ length destinations.now }
     requires few { length destinations.now ≤ 8 }
-    requires formulas { formulas_of destinations.now ≡ formulas_in plan.now }
+    requires formulas { formulas_of destinations.now ≡ formulas_of_plan plan.now }
     requires empty { rows.old.items ≡ [] }
     ensures placed { All HasPlace rows.new.items }
     ensures few { length rows.new.items ≤ 64000000 }
-    ensures reads { ReadsRows rows.old.items result rows.new.items (rows_in zones.now plan.now.grid (formulas_in plan.now) 0) (fault_in zones.now plan.now.grid 0) }
+    ensures reads { ReadsRows rows.old.items result rows.new.items (rows_in zones.now plan.now.grid (formulas_of_plan plan.now) 0) (fault_in zones.now plan.now.grid 0) }
 {
     let count = plan.cones().len() as u8;
     for zone in 0..count {
@@ -63,11 +63,11 @@ fn read_zone(
     requires zone { zone < length plan.now.cones }
     requires some { 1 ≤ length destinations.now }
     requires few { length destinations.now ≤ 8 }
-    requires formulas { formulas_of destinations.now ≡ formulas_in plan.now }
+    requires formulas { formulas_of destinations.now ≡ formulas_of_plan plan.now }
     requires placed { All HasPlace rows.old.items }
     ensures placed { All HasPlace rows.new.items }
     ensures few { length rows.new.items ≤ length rows.old.items + 1000000 }
-    ensures reads { ReadsRows rows.old.items result rows.new.items (rows_from (blocks_of plan.now.grid zone text.now) (formulas_in plan.now) zone 0)
+    ensures reads { ReadsRows rows.old.items result rows.new.items (rows_from (blocks_of plan.now.grid zone text.now) (formulas_of_plan plan.now) zone 0)
         (file_fault plan.now.grid zone text.now) }
 {
     if text.len() > MAX_ZONE_BYTES {

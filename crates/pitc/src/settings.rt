@@ -1,8 +1,7 @@
 //! Whether the destinations of a run are those of its plan.
 
 ghost use Rattle.std.specs.Prelude.{◌≡◌, ◌↔◌, IsTrue, length, map};
-ghost use Rattle.pit_model.specs.Destinations.{formulas_of};
-ghost use Rattle.pitc.specs.Rows.{formulas_in};
+ghost use Rattle.pit_model.specs.Destinations.{formulas_of, formulas_of_plan};
 
 use pit_model::destination::Destination;
 use pit_model::formula::{Formula, NamedFormula};
@@ -10,7 +9,7 @@ use pit_model::plan::Plan;
 
 /// Whether the destinations' formulas are the plan's, in order.
 pub fn are_the_plans(destinations: &[Destination], plan: &Plan) -> bool
-    ensures { IsTrue result ↔ (formulas_of destinations.now ≡ formulas_in plan.now) }
+    ensures { IsTrue result ↔ (formulas_of destinations.now ≡ formulas_of_plan plan.now) }
 {
     let formulas = plan.formulas();
     destinations.len() == formulas.len() && are_same(destinations, formulas)

@@ -1,9 +1,34 @@
--- What a block is worth at each destination of a plan.
-use Rattle.std.specs.Prelude.{List, ℤ, map}
+-- What blocks are worth at the destinations of a plan, and what a valuer makes of the messages that it takes.
+use Rattle.std.specs.Prelude.{ℕ, List, [], ◌∷◌, ℤ, map}
 use Rattle.pit_model.specs.Worth.{worth}
 use Rattle.pit_model.specs.declared.block.Block.{Block}
 use Rattle.pit_model.specs.declared.formula.Formula.{Formula}
+use Rattle.lane.specs.declared.message.Taken.{Taken}
+use Rattle.lane.specs.declared.message.Taken.TheVariants.{Row, End, Stop, Quit}
+use Rattle.valuers.specs.declared.item.Item.{Item}
+use Rattle.valuers.specs.declared.item.Item.TheVariants as item
+use Rattle.valuers.specs.declared.item.Valued.{Valued}
 
 -- the worths of a block by these formulas, in their order
 abbrev pub worths_by : List Formula → Block → List ℤ
 worths_by formulas b = map (λ f. worth f b) formulas
+
+-- a row of a file with its worths
+abbrev pub row_by : List Formula → ℕ → ℕ → Block → Valued
+row_by formulas file place b = record { file = file; place = place; block = b; worths = worths_by formulas b }
+
+-- the rows and end marks of these messages, in order, each row with its worths
+abbrev pub items_by : List Formula → List Taken → List Item
+items_by formulas [] = []
+items_by formulas (Row file place block ∷ ms) = item.Row (row_by formulas file place block) ∷ items_by formulas ms
+items_by formulas (End file rows ∷ ms) = item.End file rows ∷ items_by formulas ms
+items_by formulas (Stop ∷ ms) = items_by formulas ms
+items_by formulas (Quit ∷ ms) = items_by formulas ms
+
+-- the rows of these messages, in order, with their worths
+abbrev pub rows_by : List Formula → List Taken → List Valued
+rows_by formulas [] = []
+rows_by formulas (Row file place block ∷ ms) = row_by formulas file place block ∷ rows_by formulas ms
+rows_by formulas (End file rows ∷ ms) = rows_by formulas ms
+rows_by formulas (Stop ∷ ms) = rows_by formulas ms
+rows_by formulas (Quit ∷ ms) = rows_by formulas ms

@@ -1,10 +1,14 @@
-//! What the valuers of a model hand on: each row with its worths, and the end of each file.
+//! The valuers of a run, which hand on each row with its worths, and the end of each file.
 #![tactic(auto)]
 
+mod gate;
 mod item;
+mod items;
 mod valuing;
 mod worths;
 
+pub use gate::{Gate, OpenGate};
 pub use item::{Item, Valued};
+pub use items::Items;
 pub use valuing::worths_of;
 pub use worths::Worths;

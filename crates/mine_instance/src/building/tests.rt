@@ -1,7 +1,7 @@
 ghost use Rattle.std.specs.Prelude.{◌≡◌, IfOk, IsTrue};
+ghost use Rattle.pit_model.specs.Destinations.{formulas_of_plan};
 ghost use Rattle.precedence.specs.Cone.{HasZones};
 ghost use Rattle.valuers.specs.Valuing.{worths_by};
-ghost use Rattle.mine_instance.specs.OfModel.{formulas_of_plan};
 
 use super::build;
 use crate::coef::Coef;

@@ -1,9 +1,9 @@
 use Rattle.std.proofs.Common.{◌≡◌, ◌<◌, ◌≤◌, ◌+◌, sym, ◌∙◌, ap, subst, arith, length, All, List}
 use Rattle.std.proofs.lemmas.List.Elements.{All-weaker}
-use Rattle.mine_instance.specs.OfModel.{formulas_of_plan}
+use Rattle.pit_model.specs.Destinations.{formulas_of_plan}
 use Rattle.valuers.specs.Valuing.{worths_by}
 use Rattle.valuers.specs.declared.item.Valued.{Valued}
-use Rattle.pitc.specs.Rows.{formulas_in, rows_of}
+use Rattle.pitc.specs.Rows.{rows_of}
 use Rattle.pitc.proofs.PipeFacts.{zones_there, worths_there}
 use Rattle.pitc.proofs.pipe_form.pipe.Goals as goal
 
@@ -19,7 +19,7 @@ compiled-requires-clause-zones g c =
     let whole : c.as_slice.result.now ≡ rows_of plan texts = c.as_slice.ensures.value ∙ now in
     subst (λ (rows : List Valued). All InPlan rows) (sym whole)
     (All-weaker InFiles InPlan (λ row h. omega (arith, count, h)) (rows_of plan texts)
-    (zones_there plan.grid (formulas_in plan) c.zone_files.ensures.own texts 0 few))
+    (zones_there plan.grid (formulas_of_plan plan) c.zone_files.ensures.own texts 0 few))
 
 pub compiled-requires-clause-valued : goal.compiled-requires-clause-valued
 compiled-requires-clause-valued g c =
@@ -28,4 +28,4 @@ compiled-requires-clause-valued g c =
     let HasWorths : Valued → Type 0 = λ row. row.worths ≡ worths_by (formulas_of_plan plan) row.block in
     let now = rw c.new-rows.ensures.items at c.in_ok-read_zones.ensures.reads.1 in
     let whole : c.as_slice.result.now ≡ rows_of plan texts = c.as_slice.ensures.value ∙ now in
-    subst (λ (rows : List Valued). All HasWorths rows) (sym whole) (worths_there plan.grid (formulas_in plan) texts 0)
+    subst (λ (rows : List Valued). All HasWorths rows) (sym whole) (worths_there plan.grid (formulas_of_plan plan) texts 0)

@@ -2,8 +2,9 @@ use Rattle.std.proofs.Common.{◌<◌, ◌≤◌, ◌++◌, Option, Err, sym, �
 use Rattle.std.proofs.lemmas.List.Elements.{All-push}
 use Rattle.std.proofs.lemmas.Result.{err_from_is_err_and}
 use Rattle.zone_csv.specs.Zone.{blocks_of, fault_of}
+use Rattle.pit_model.specs.Destinations.{formulas_of_plan}
 use Rattle.pitc.specs.Reading.{HasPlace, ReadsRows}
-use Rattle.pitc.specs.Rows.{formulas_in, rows_from}
+use Rattle.pitc.specs.Rows.{rows_from}
 use Rattle.pitc.specs.declared.refusal.Refusal.{Refusal}
 use Rattle.pitc.proofs.RowSteps.{not_long, took, ended, failed}
 use Rattle.pitc.proofs.rows.read_zone.Goals as goal
@@ -14,7 +15,7 @@ returns-in_err-block-clause-reads g c =
     let grid = c.args.plan.now.grid in
     let text = c.args.text.now in
     let zone = c.args.zone in
-    let formulas = formulas_in c.args.plan.now in
+    let formulas = formulas_of_plan c.args.plan.now in
     let old = c.args.rows.now.items in
     let added = rows_from (blocks_of grid zone text) formulas zone 0 in
     let refusal = c.in_err-block.field-0.0 in
@@ -29,7 +30,7 @@ loop-reader-preserved g c =
     let grid = c.args.plan.now.grid in
     let text = c.args.text.now in
     let zone = c.args.zone in
-    let formulas = formulas_in c.args.plan.now in
+    let formulas = formulas_of_plan c.args.plan.now in
     let next = rw c.in-Some.is at c.in_ok-block.ensures.answers in
     let fewer = rw c.in-Some.is at c.in_ok-block.ensures.fewer in
     let here : c.loop-reader.place < 1000000 = omega (arith, fewer, c.loop-reader.invariant.1) in
@@ -48,7 +49,7 @@ returns-clause-reads g c =
     let grid = c.args.plan.now.grid in
     let text = c.args.text.now in
     let zone = c.args.zone in
-    let formulas = formulas_in c.args.plan.now in
+    let formulas = formulas_of_plan c.args.plan.now in
     let short : length text ≤ 268435456 = omega arith in
     let last = rw c.in_default.is at c.in_ok-block.ensures.answers in
     let e = ended formulas zone c.loop-reader.place c.loop-reader.rows.items c.loop-reader.reader c.next_block.new.reader

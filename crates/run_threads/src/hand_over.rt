@@ -1,0 +1,74 @@
+//! The threads of a run, from the first start to the last join.
+
+ghost use Rattle.std.specs.Prelude.{◌≡◌, ◌+◌, ◌≤◌, length, map, IfOk, IsFalse};
+ghost use Rattle.lane.specs.Whole.{IsWhole};
+ghost use Rattle.pit_model.specs.Destinations.{formulas_of_plan, AreOfPlan};
+ghost use Rattle.run_threads.specs.Reading.{AreRead};
+ghost use Rattle.valuers.specs.Valuing.{items_by};
+
+use crate::read_fault::ReadFault;
+use lane::Gathered;
+use pit_model::destination::Destination;
+use pit_model::plan::Plan;
+use std::alloc::Global;
+use std::sync::{Threads, Wait};
+use thiserror::Error;
+use valuers::{Gate, Items};
+use zone_csv::feed::Feed;
+
+/// What the threads of a run hand over.
+#[derive(Drop)]
+pub struct HandedOver {
+    /// What went through the lane.
+    pub gathered: Gathered,
+    /// What each valuer hands on, in their order.
+    pub items: Vec<Items>,
+    /// Whether some valuer was refused memory. It then dropped what it took from there on.
+    pub memory: bool,
+    /// The answer of each file's reader, in the order of the files.
+    pub answers: Vec<Result<(), ReadFault>>,
+}
+
+/// Why the threads of a run hand nothing over.
+#[derive(Clone, Copy, Debug, Error, PartialEq, Eq)]
+pub enum HandOverFault {
+    /// The start of a thread was refused.
+    #[error("NoThread")]
+    NoThread,
+    /// Memory was refused before the first start.
+    #[error("OutOfMemory")]
+    OutOfMemory,
+}
+
+/// Reads each file in a thread of its own, into a lane from which `valuers` threads take and value the rows. The valuers start first. Every
+/// reader runs to the end of its file or its first fault; nobody is cancelled. At most `starts` threads are started: one more counts as
+/// refused.
+///
+/// # Errors
+///
+/// `NoThread` where a start was refused: no further thread was started, and those that were are joined. `OutOfMemory` where memory was
+/// refused before the first start. The feeds are used up.
+pub fn hand_over<R: Threads + Wait + Sync, F: Feed + Send + Drop, G: Gate + Sync>(
+    _rt: &R,
+    _alloc: Global,
+    feeds: Vec<F>,
+    plan: &Plan,
+    destinations: &[Destination],
+    valuers: u8,
+    capacity: usize,
+    starts: u32,
+    _gate: &G,
+) -> Result<HandedOver, HandOverFault>
+    requires files { length feeds.items ≡ length plan.now.cones }
+    requires valuers { (1 ≤ valuers) × (valuers ≤ 64) }
+    requires capacity { (1 ≤ capacity) × (capacity ≤ 4096) }
+    requires destinations { AreOfPlan destinations.now plan.now }
+    ensures whole { IfOk result (λ handed. IsWhole handed.gathered) }
+    ensures read { IfOk result (λ handed. AreRead plan.now.grid 0 (map F.left feeds.items) (map F.is_sure feeds.items) handed.answers.items handed.gathered.sent) }
+    ensures valued { IfOk result (λ handed. IsFalse handed.memory
+        → handed.items.items ≡ map (items_by (formulas_of_plan plan.now)) handed.gathered.took) }
+    ensures takers { IfOk result (λ handed. length handed.gathered.took ≡ valuers) }
+    ensures budget { IfOk result (λ _. valuers + length feeds.items ≤ starts) }
+{
+    Err(HandOverFault::NoThread)
+}
