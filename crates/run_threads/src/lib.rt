@@ -1,8 +1,8 @@
 //! The threads of a run: one that reads each zone file into the lane, and valuers that take from it.
 #![tactic(auto)]
 
-mod hand_over;
+mod handing_over;
 mod read_fault;
 
-pub use hand_over::{HandOverFault, HandedOver, hand_over};
+pub use handing_over::{HandOverFault, HandedOver, hand_over};
 pub use read_fault::ReadFault;
