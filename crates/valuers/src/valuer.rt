@@ -91,3 +91,6 @@ fn push_item<R: Wait, G: Gate>(
     }
     Ok(())
 }
+
+#[cfg(test)]
+mod tests;
