@@ -1,24 +1,38 @@
 -- The table of places, once sorted, numbers the blocks.
 use Rattle.std.proofs.Common.{◌≡◌, ℕ, ◌+◌, ◌<◌, List, [], ◌∷◌, All, Contains, length, map, get_or, cond, nat_lt, nat_eq, count_by, refl, sym, ap, subst, ◌∙◌, arith}
 use Rattle.std.specs.List.{IsDistinct}
-use Rattle.std.specs.List.Sorted.{IsSorted, IsStrictlyIncreasing}
+use Rattle.std.specs.List.Sorted.{IsNonDecreasing, IsNonDecreasingBy, IsPermutation, IsStrictlyIncreasing}
 use Rattle.std.specs.Map.{keys_of, values_of}
-use Rattle.std.specs.Ordering.{nat_cmp}
+use Rattle.std.proofs.lemmas.Bool.Decides.{nat_tests}
 use Rattle.std.proofs.lemmas.List.{length-map, get_or-map}
 use Rattle.std.proofs.lemmas.List.Elements.{All-same, All-from_get_or, Contains-get_or, at_from_Contains}
-use Rattle.std.proofs.lemmas.List.Sorted.{All-permutation, Contains-permutation, IsNonDecreasingBy-from_sort, length_permutation, sum_by-IsPermutation}
+use Rattle.std.proofs.lemmas.List.Sorted.{All-permutation, Contains-permutation, IsPermutation-map, length_permutation, sum_by-IsPermutation}
 use Rattle.std.proofs.lemmas.List.Sums.{sum_by-cons}
-use Rattle.std.proofs.lemmas.Map.Keys.{IsStrictlyIncreasing-from_distinct}
+use Rattle.std.proofs.lemmas.Map.Keys.{IsDistinct-IsPermutation, IsStrictlyIncreasing-from_distinct}
 use Rattle.pit_model.specs.declared.block.Block.{Block}
 use Rattle.precedence.specs.Codes.{code, codes}
 use Rattle.precedence.specs.Identifier.{comes_before, id, IsNumbering}
 use Rattle.precedence.specs.Seen.{placed, IsPlaced, IsSortedTable}
 use Rattle.precedence.proofs.Counts.{count_below, count_keys}
 use Rattle.precedence.proofs.Order.{before_is}
-use Rattle.precedence.proofs.SeenPlaces.{length-placed, placed_at, all_placed}
+use Rattle.precedence.proofs.SeenPlaces.{keys-placed, length-placed, placed_at, all_placed}
 
-pub keys_rise : (keys : List ℕ) → IsSorted nat_cmp keys → IsDistinct nat_eq keys → IsStrictlyIncreasing keys
-keys_rise keys sorted distinct = IsStrictlyIncreasing-from_distinct keys (IsNonDecreasingBy-from_sort (λ x. x) keys sorted) distinct
+-- the entries of blocks, sorted by place, rise where no two places of the blocks are the same
+pub keys_rise : (listed : List Block) (entries : List (ℕ × ℕ)) → IsPermutation (placed 0 listed) entries
+    → IsNonDecreasingBy (λ e. e.0) entries → IsDistinct nat_eq (codes listed) → IsStrictlyIncreasing (keys_of entries)
+keys_rise listed entries moved sorted distinct = IsStrictlyIncreasing-from_distinct (keys_of entries) no_falls apart
+  where
+    no_falls : IsNonDecreasing (keys_of entries)
+    no_falls i j d le lt =
+        let long = length-map entries (λ (e : ℕ × ℕ). e.0) in
+        let low = get_or-map (λ (e : ℕ × ℕ). e.0) entries i (0, 0) d (omega arith) in
+        let high = get_or-map (λ (e : ℕ × ℕ). e.0) entries j (0, 0) d (omega arith) in
+        omega (arith, sorted i j (0, 0) le (omega arith))
+
+    apart : IsDistinct nat_eq (keys_of entries)
+    apart = IsDistinct-IsPermutation nat_eq (λ x y. grind (arith, nat_tests)) (keys_of (placed 0 listed)) (keys_of entries)
+        (IsPermutation-map (λ e. e.0) (placed 0 listed) entries moved)
+        (subst (IsDistinct nat_eq) (sym (keys-placed 0 listed)) distinct)
 
 -- the blocks before b are the entries below its code
 id_is : (n : ℕ) (bs : List Block) (b : Block) → id bs b ≡ count_by (λ e. nat_lt e.0 (code b)) (placed n bs)

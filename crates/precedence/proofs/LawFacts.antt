@@ -1,5 +1,5 @@
 -- What stands behind the laws of predecessors.
-use Rattle.std.proofs.Common.{◌≡◌, ℕ, zero, suc, ◌+◌, ◌-◌, ◌*◌, ◌<◌, ◌≤◌, ◌==◌, ◌&&◌, Bool, true, false, List, [], ◌∷◌, Option, Some, None, All, Contains, filter, length, get_or, slice_get, nat_lt, nat_le, refl, sym, ap, subst, ◌∙◌, arith, ⊎_elim, cond, if◌then◌else◌}
+use Rattle.std.proofs.Common.{◌≡◌, ℕ, zero, suc, ◌+◌, ◌-◌, ◌*◌, ◌<◌, ◌≤◌, ◌==◌, ◌&&◌, Bool, true, false, List, [], ◌∷◌, Option, Some, None, All, Contains, filter, length, map, get_or, slice_get, nat_lt, nat_le, refl, sym, ap, subst, ◌∙◌, arith, ⊎_elim, cond, if◌then◌else◌}
 use Rattle.std.specs.Int.{abs_diff}
 use Rattle.std.specs.List.{range_with_len, list_any}
 use Rattle.std.specs.List.Sorted.{IsStrictlyIncreasing}
@@ -9,14 +9,16 @@ use Rattle.std.proofs.lemmas.List.Folds.{list_any_at, list_any_none}
 use Rattle.std.proofs.lemmas.Bool.{cases_Bool, cases_lt, le-leb, lt-leb, ltb-true, eqb-true, eq-eqb}
 use Rattle.std.proofs.lemmas.List.{get_or-map, get_or_default}
 use Rattle.std.proofs.lemmas.List.Elements.{All-cons, All-nil, All-contains}
-use Rattle.pit_model.specs.Plan.{PlanParts}
+use Rattle.std.proofs.lemmas.Option.{slice_get_within}
+use Rattle.pit_model.specs.Plan.{IsCone, PlanParts}
 use Rattle.pit_model.specs.declared.block.Block.{Block}
 use Rattle.pit_model.specs.declared.cone.Cone.{Cone}
 use Rattle.pit_model.specs.declared.cone.Slope.{Slope}
 use Rattle.pit_model.specs.declared.grid.Grid.{Grid}
 use Rattle.precedence.specs.Cone.{above, is_above, is_within_slopes, places_where, preds, slope_along_x, slope_along_y, square}
-use Rattle.precedence.specs.ConeLaws.{even_cone, has_pred, is_above_by, is_pred_by}
+use Rattle.precedence.specs.ConeLaws.{above_by, even_cone, has_pred, is_above_by, is_pred_by, preds_by, IsEven}
 use Rattle.precedence.specs.Identifier.{id, IsNumbering, Numbered}
+use Rattle.precedence.proofs.AllLists.{all_at}
 use Rattle.precedence.proofs.Starts.{Rises, rises_less}
 use Rattle.precedence.proofs.Tables.{both_left}
 
@@ -56,6 +58,22 @@ one_slope_is grid slope k low high some =
     let dz = high.z - low.z in
     (λ j. nat_lt low.z high.z && (nat_le dz k && is_within_slopes grid (along j) (across j) dx dy dz))
     ∙ (λ j. nat_lt low.z high.z && (nat_le dz k && even_slopes grid slope dx dy dz some j))
+
+even_above : (grid : Grid) (found : Option Cone) (blocks : List Block) (low : Block)
+    → ((cone : Cone) → found ≡ Some cone → IsEven cone × (1 ≤ cone.east.q)) → above grid found blocks low ≡ above_by grid found blocks low
+even_above grid None blocks low h = refl
+even_above grid (Some cone) blocks low h = λ j. places_where (λ high. same high j) 0 blocks
+  where
+    same : (high : Block) → is_above grid cone low high ≡ is_above_by grid cone.east cone.k low high
+    same high = ap (λ (c : Cone). is_above grid c low high) (h cone refl).0 ∙ one_slope_is grid cone.east cone.k low high (h cone refl).1
+
+pub even_zones_are : (plan : PlanParts) (blocks : List Block) → All IsCone plan.cones → All IsEven plan.cones → preds plan blocks ≡ preds_by plan blocks
+even_zones_are plan blocks cones even = λ j. map (λ low. even_above plan.grid (slice_get plan.cones low.zone) blocks low (one_slope_at low) j) blocks
+  where
+    one_slope_at : (low : Block) (cone : Cone) → slice_get plan.cones low.zone ≡ Some cone → IsEven cone × (1 ≤ cone.east.q)
+    one_slope_at low cone is =
+        let there = slice_get_within plan.cones low.zone cone is in
+        (all_at IsEven plan.cones low.zone cone even there is, (all_at IsCone plan.cones low.zone cone cones there is).0.0.1.0)
 
 -- ---- the places that pass
 

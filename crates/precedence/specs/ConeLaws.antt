@@ -1,5 +1,5 @@
 -- Other words for a cone and for predecessors, which laws compare with their definitions.
-use Rattle.std.specs.Prelude.{ℕ, ◌+◌, ◌-◌, ◌*◌, ◌==◌, ◌&&◌, Bool, false, List, Option, Some, None, nat_lt, nat_le, slice_get}
+use Rattle.std.specs.Prelude.{◌≡◌, ℕ, ◌+◌, ◌-◌, ◌*◌, ◌==◌, ◌&&◌, Bool, false, List, [], Option, Some, None, map, nat_lt, nat_le, slice_get}
 use Rattle.std.specs.Int.{abs_diff}
 use Rattle.std.specs.List.{list_any}
 use Rattle.pit_model.specs.Plan.{PlanParts}
@@ -7,7 +7,7 @@ use Rattle.pit_model.specs.declared.block.Block.{Block}
 use Rattle.pit_model.specs.declared.cone.Cone.{Cone}
 use Rattle.pit_model.specs.declared.cone.Slope.{Slope}
 use Rattle.pit_model.specs.declared.grid.Grid.{Grid}
-use Rattle.precedence.specs.Cone.{is_above, square}
+use Rattle.precedence.specs.Cone.{is_above, places_where, square}
 use Rattle.precedence.specs.Identifier.{id}
 
 -- a cone with one slope on all sides
@@ -22,6 +22,19 @@ is_above_by grid slope k low high =
     && nat_le
     (square slope.p * (square (abs_diff low.x high.x * grid.x.size) + square (abs_diff low.y high.y * grid.y.size)))
     (square slope.q * square ((high.z - low.z) * grid.z.size)))
+
+-- the cone has one slope on all sides
+abbrev pub IsEven : Cone → Type 0
+IsEven cone = cone ≡ even_cone cone.east cone.k
+
+-- the identifiers of the blocks that the test with one slope takes in above a block
+abbrev pub above_by : Grid → Option Cone → List Block → Block → List ℕ
+above_by grid (Some cone) blocks low = places_where (is_above_by grid cone.east cone.k low) 0 blocks
+above_by grid None blocks low = []
+
+-- the predecessors of each block by identifier, by the test with one slope
+abbrev pub preds_by : PlanParts → List Block → List (List ℕ)
+preds_by plan blocks = map (λ low. above_by plan.grid (slice_get plan.cones low.zone) blocks low) blocks
 
 -- `high` is a predecessor of `low`, by the cone of the zone of `low`
 abbrev pub is_pred_by : Grid → Option Cone → Block → Block → Bool

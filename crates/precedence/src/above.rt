@@ -51,14 +51,13 @@ fn lists_of(
     requires in_order { All (λ t. AreInOrder t.rows.items) tables.now.tables.items }
     ensures { IfOk result (λ lists. lists ≡ map (in_cone tables.now.tables.items tables.now.of_zone.items (codes blocks.now)) blocks.now) }
 {
-    let mut lists = Preds::new(alloc);
-    let mut list = Vec::new(alloc);
+    let mut flat = Vec::new(alloc);
+    let mut ends = Vec::with_capacity(alloc, blocks.len())?;
     for block in blocks {
-        list.clear();
-        add_list(&mut list, places, tables, hints, block)?;
-        lists.push(list.as_slice())?;
+        add_list(&mut flat, places, tables, hints, block)?;
+        ends.push(flat.len())?;
     }
-    Ok(lists)
+    Ok(Preds::of_parts(flat, ends))
 }
 
 /// Appends the identifiers of the blocks in the rows of a block's cone.

@@ -1,14 +1,14 @@
 //! What holds of identifiers and predecessors, whatever the plan and the blocks: each contract is a law, and a call of it does nothing.
 
-ghost use Rattle.std.specs.Prelude.{◌≡◌, true, ℕ, ◌<◌, ◌≤◌, List, [], Contains, filter, length, slice_index_or};
+ghost use Rattle.std.specs.Prelude.{◌≡◌, true, ℕ, ◌<◌, ◌≤◌, List, [], All, Contains, filter, length, slice_index_or};
 ghost use Rattle.std.specs.List.{range_with_len};
 ghost use Rattle.std.specs.List.Sorted.{IsStrictlyIncreasing};
-ghost use Rattle.pit_model.specs.Plan.{PlanParts};
+ghost use Rattle.pit_model.specs.Plan.{IsCone, PlanParts};
 ghost use Rattle.pit_model.specs.declared.block.Block.{Block};
 ghost use Rattle.pit_model.specs.declared.cone.Slope.{Slope};
 ghost use Rattle.pit_model.specs.declared.grid.Grid.{Grid};
 ghost use Rattle.precedence.specs.Cone.{is_above, preds};
-ghost use Rattle.precedence.specs.ConeLaws.{even_cone, has_pred, is_above_by};
+ghost use Rattle.precedence.specs.ConeLaws.{even_cone, has_pred, is_above_by, preds_by, IsEven};
 ghost use Rattle.precedence.specs.Identifier.{IsNumbering, Numbered, comes_before};
 
 /// The identifiers 0, 1, 2, .. go by z, then y, then x: of two blocks by identifier the first comes before the second.
@@ -21,6 +21,12 @@ pub fn identifiers_rise()
 pub fn one_slope()
     ensures { (grid : Grid) (slope : Slope) (k : ℕ) (low high : Block) → 1 ≤ slope.q
         → is_above grid (even_cone slope k) low high ≡ is_above_by grid slope k low high }
+{}
+
+/// Where the cone of each zone has one slope on all sides, the lists of predecessors are those of the test with one slope.
+pub fn even_zones()
+    ensures { (plan : PlanParts) (blocks : List Block) → All IsCone plan.cones → All IsEven plan.cones
+        → preds plan blocks ≡ preds_by plan blocks }
 {}
 
 /// Every predecessor is a block of the model and lies on a higher bench, so no block waits for itself, however far round.

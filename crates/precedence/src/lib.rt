@@ -14,6 +14,7 @@ pub mod laws;
 mod number_error;
 mod numbering;
 mod part;
+mod place_hashes;
 mod places;
 mod predecessors;
 mod reach;

@@ -39,6 +39,14 @@ impl Preds {
         }
     }
 
+    /// The parts of `flat` up to each of the ends.
+    pub(crate) fn of_parts(flat: Vec<u32>, ends: Vec<usize>) -> Preds
+        requires { AreEnds 0 ends.items (length flat.items) }
+        ensures { result ≡ pieces flat.items 0 ends.items }
+    {
+        Preds { flat, ends }
+    }
+
     /// Appends the list of one more block. Where memory is refused the lists stay as they were.
     pub fn push(&mut self, list: &[u32]) -> Result<(), AllocError>
         ensures ok { OnOk result (self.new ≡ self.old ++ list.now ∷ []) }

@@ -61,12 +61,27 @@ fn add_run(
 {
     let codes = places.codes.as_slice();
     let first = find(codes, hint.first as usize, from + row.first);
-    let past = find(codes, hint.past as usize, from + row.past);
+    let past = run_end(codes, first, hint.past as usize, from + row.past);
     list.extend_from_slice(places.ids(first, past))?;
     Ok(Hint {
         first: first as u32,
         past: past as u32,
     })
+}
+
+/// Where the codes from the place `first` on are no longer below `past`. Most rows of scattered blocks have no code, and need no
+/// search for it.
+#[tactic(auto, using(crate::proofs::Starts::starts))]
+fn run_end(codes: &[u64], first: usize, hint: usize, past: u64) -> usize
+    requires rising { IsStrictlyIncreasing codes.now }
+    requires first { first ≤ start_of past codes.now }
+    ensures { result ≡ start_of past codes.now }
+{
+    if first < codes.len() && codes[first] < past {
+        find(codes, hint, past)
+    } else {
+        first
+    }
 }
 
 /// The first row after the row `i` that can have a code from the one of the identifier `past` on, or the number of rows.

@@ -9,16 +9,16 @@ use Rattle.precedence.proofs.first_seen.number.Goals as goal
 pub blocks_at-requires : goal.blocks_at-requires
 blocks_at-requires c k d lt =
     let listed = blocks_of c.args.rows.now in
-    let all = all_inside listed c.in_ok-seen.seen.entries c.in_ok-seen.ensures.sorted c.as_slice.result.now
+    let all = all_inside listed c.in_ok-places.places.items c.in_ok-places.ensures.sorted c.as_slice.result.now
     (c.as_slice.ensures.value ∙ c.in_ok-positions.ensures) in
     omega (arith, all k d lt, length-map c.args.rows.now (λ (row : Valued). row.block))
 
 pub new-requires-clause-rising : goal.new-requires-clause-rising
 new-requires-clause-rising c =
     let listed = blocks_of c.args.rows.now in
-    let entries = c.in_ok-seen.seen.entries in
+    let entries = c.in_ok-places.places.items in
     let same : c.as_slice.result.now ≡ values_of entries = c.as_slice.ensures.value ∙ c.in_ok-positions.ensures in
-    blocks_rise listed entries c.in_ok-seen.ensures.sorted c.in_ok-blocks.blocks.items
+    blocks_rise listed entries c.in_ok-places.ensures.sorted c.in_ok-blocks.blocks.items
     (λ d. c.in_ok-blocks.ensures.blocks d ∙ ap (map (λ p. get_or listed p d)) same)
     (c.in_ok-blocks.ensures.len ∙ ap length same ∙ length-map entries (λ (e : ℕ × ℕ). e.1))
 
@@ -28,19 +28,19 @@ new-requires-clause-placed c = ap length (sym c.as_slice.ensures.value) ∙ sym 
 pub new-requires-clause-few : goal.new-requires-clause-few
 new-requires-clause-few c =
     let listed = blocks_of c.args.rows.now in
-    let entries = c.in_ok-seen.seen.entries in
+    let entries = c.in_ok-places.places.items in
     let same : c.as_slice.result.now ≡ values_of entries = c.as_slice.ensures.value ∙ c.in_ok-positions.ensures in
-    let long = as_many_positions listed entries c.in_ok-seen.ensures.sorted in
+    let long = as_many_positions listed entries c.in_ok-places.ensures.sorted in
     let few = c.requires in
     omega (arith, c.in_ok-blocks.ensures.len, ap length same, length-map c.args.rows.now (λ (row : Valued). row.block))
 
 pub returns-clause-numbering : goal.returns-clause-numbering
 returns-clause-numbering c =
     let listed = blocks_of c.args.rows.now in
-    let entries = c.in_ok-seen.seen.entries in
+    let entries = c.in_ok-places.places.items in
     let same : c.as_slice.result.now ≡ values_of entries = c.as_slice.ensures.value ∙ c.in_ok-positions.ensures in
     let P : Numbered → Type 0 = IsNumbering listed in
     subst P (ap (λ positions. record { blocks = c.in_ok-blocks.blocks.items; positions = positions }) (sym c.in_ok-positions.ensures) ∙ sym c.new.ensures)
-    (numbering_is listed entries c.in_ok-seen.ensures.sorted c.in_ok-blocks.blocks.items
+    (numbering_is listed entries c.in_ok-places.ensures.sorted c.in_ok-blocks.blocks.items
     (λ d. c.in_ok-blocks.ensures.blocks d ∙ ap (map (λ p. get_or listed p d)) same)
     (c.in_ok-blocks.ensures.len ∙ ap length same ∙ length-map entries (λ (e : ℕ × ℕ). e.1)))

@@ -5,12 +5,12 @@ use Rattle.precedence.proofs.runs.add_run.Goals as goal
 pub ids-requires-clause-in_order : goal.ids-requires-clause-in_order
 ids-requires-clause-in_order c =
     let grows = start_grows (c.args.from + c.args.row.first) (c.args.from + c.args.row.past) c.as_slice-codes.result.now (omega (arith, c.args.row.in_order)) in
-    omega (arith, c.find-first.ensures, c.find-past.ensures)
+    omega (arith, c.find-first.ensures, c.run_end-past.ensures)
 
 pub ids-requires-clause-within : goal.ids-requires-clause-within
 ids-requires-clause-within c =
     let within = start_within (c.args.from + c.args.row.past) c.as_slice-codes.result.now in
-    omega (arith, c.find-past.ensures, ap length c.as_slice-codes.ensures.value)
+    omega (arith, c.run_end-past.ensures, ap length c.as_slice-codes.ensures.value)
 
 pub overflow_cast-result : goal.overflow_cast-result
 overflow_cast-result c =
@@ -20,4 +20,9 @@ overflow_cast-result c =
 pub overflow_cast-result-2 : goal.overflow_cast-result-2
 overflow_cast-result-2 c =
     let within = start_within (c.args.from + c.args.row.past) c.as_slice-codes.result.now in
-    omega (arith, c.find-past.ensures, ap length c.as_slice-codes.ensures.value, c.args.places.now.few)
+    omega (arith, c.run_end-past.ensures, ap length c.as_slice-codes.ensures.value, c.args.places.now.few)
+
+pub run_end-past-requires-clause-first : goal.run_end-past-requires-clause-first
+run_end-past-requires-clause-first c =
+    let grows = start_grows (c.args.from + c.args.row.first) (c.args.from + c.args.row.past) c.as_slice-codes.result.now (omega (arith, c.args.row.in_order)) in
+    omega (arith, c.find-first.ensures)

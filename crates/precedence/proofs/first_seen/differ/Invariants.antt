@@ -2,7 +2,7 @@ use Rattle.std.proofs.Common.{◌≡◌, take, nat_eq}
 use Rattle.indexmap.specs.IndexMap.{IsUnique}
 use Rattle.precedence.specs.Identifier.{blocks_of}
 use Rattle.precedence.specs.Seen.{placed}
-use Rattle.precedence.proofs.first_seen.first_seen.Given as goal
+use Rattle.precedence.proofs.first_seen.differ.Given as goal
 
 abbrev pub invariant-loop-position : goal.invariant-loop-position
 invariant-loop-position l = record {

@@ -1,11 +1,13 @@
-use Rattle.std.proofs.Common.{◌≡◌, ◌++◌, [], ◌∷◌, ◌<◌, length, take, get_or, arith, sym, ap, ◌∙◌}
-use Rattle.std.proofs.lemmas.List.{length-map}
+use Rattle.std.proofs.Common.{◌≡◌, ◌++◌, [], ◌∷◌, ◌<◌, length, take, get_or, nat_eq, arith, sym, ap, subst, ◌∙◌}
+use Rattle.std.specs.List.{IsDistinct}
+use Rattle.std.specs.Map.{keys_of}
+use Rattle.std.proofs.lemmas.List.{length-map, take_all}
 use Rattle.pit_model.specs.declared.block.Block.{Block}
-use Rattle.precedence.specs.Codes.{code}
+use Rattle.precedence.specs.Codes.{code, codes}
 use Rattle.precedence.specs.Identifier.{blocks_of}
 use Rattle.precedence.specs.Seen.{placed}
-use Rattle.precedence.proofs.SeenPlaces.{block_at, first_again, placed_more}
-use Rattle.precedence.proofs.first_seen.first_seen.Goals as goal
+use Rattle.precedence.proofs.SeenPlaces.{block_at, first_again, keys-placed, placed_more}
+use Rattle.precedence.proofs.first_seen.differ.Goals as goal
 
 pub returns-in-Some-clause-same : goal.returns-in-Some-clause-same
 returns-in-Some-clause-same c =
@@ -35,3 +37,12 @@ loop-position-preserved c =
           ∙ sym (placed_more listed c.loop-position.position row.block (omega (arith, c.loop-position-test.true)));
       unique = c.in_ok-first.ensures.unique;
     }
+
+pub returns-clause-differ : goal.returns-clause-differ
+returns-clause-differ c =
+    let listed = blocks_of c.args.rows.now in
+    let long : length listed ≡ length c.args.rows.now = length-map c.args.rows.now _ in
+    let all : take c.loop-position.position listed ≡ listed = take_all c.loop-position.position listed (omega (arith, c.loop-position-test.false)) in
+    let same : keys_of c.loop-position.seen.entries ≡ codes listed =
+    ap keys_of c.loop-position.invariant.entries ∙ keys-placed 0 (take c.loop-position.position listed) ∙ ap codes all in
+    subst (IsDistinct nat_eq) same c.loop-position.invariant.unique
