@@ -64,6 +64,8 @@ pub fn slurp<F: Feed>(alloc: Global, feed: &mut F, limit: u64) -> Result<Vec<u8>
     // When each fault comes.
     ensures failed { IsErrOf result SlurpFault.FeedFailed
         → F.failures feed.new ≡ F.failures feed.old + 1 }
+    ensures failed_first { IsErrOf result SlurpFault.FeedFailed
+        → F.given feed.new ≤ F.given feed.old + limit }
     ensures sure { IsTrue (F.is_sure feed.old) → result ≢ Err SlurpFault.FeedFailed }
     ensures long { IsErrOf result SlurpFault.TooLong
         → IfSome (F.left feed.old) (λ bytes. limit < length bytes) }
@@ -75,6 +77,8 @@ pub fn slurp<F: Feed>(alloc: Global, feed: &mut F, limit: u64) -> Result<Vec<u8>
         → F.failures feed.new ≡ F.failures feed.old }
     ensures memory_works { IsErrOf result SlurpFault.OutOfMemory
         → F.failures feed.new ≡ F.failures feed.old }
+    ensures memory_first { IsErrOf result SlurpFault.OutOfMemory
+        → F.given feed.new ≤ F.given feed.old + limit }
 
     // How much was read, and where the feed stands, whatever was answered.
     ensures onward { F.given feed.old ≤ F.given feed.new }
