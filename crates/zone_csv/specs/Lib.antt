@@ -5,6 +5,7 @@ pub mod Feed
 pub mod Header
 pub mod Outlook
 pub mod Row
+pub mod Source
 pub mod Supply
 pub mod Zone
 pub mod ZoneView

@@ -5,31 +5,45 @@ use Rattle.zone_csv.specs.declared.row_fault.RowFault.{RowFault}
 use Rattle.zone_csv.specs.declared.zone_fault.ZoneFault.{ZoneFault}
 use Rattle.zone_csv.specs.declared.zone_fault.ZoneFault.TheVariants.{Row, OutOfMemory}
 
--- these blocks, and then this fault or the end for ever; or, since memory was refused, that alone
+-- these blocks, and then this fault or the end; or that fault or that end alone, which was told; or, since memory was refused, that alone
 pub data Outlook : Type 0 where
   Says : (blocks : List Block) (fault : Option RowFault) → Outlook
+  Told : (fault : Option RowFault) → Outlook
   NoMemory : Outlook
+
+-- the answer behind the last block
+abbrev pub last_answer : Option RowFault → Result (Option Block) ZoneFault
+last_answer None = Ok None
+last_answer (Some fault) = Err (Row fault)
 
 -- the next answer
 abbrev pub answer_of : Outlook → Result (Option Block) ZoneFault
 answer_of (Says (block ∷ blocks) fault) = Ok (Some block)
-answer_of (Says [] (Some fault)) = Err (Row fault)
-answer_of (Says [] None) = Ok None
+answer_of (Says [] fault) = last_answer fault
+answer_of (Told fault) = last_answer fault
 answer_of NoMemory = Err OutOfMemory
 
--- what is to be said after it: the fault and the end stay
+-- what is to be said after it
 abbrev pub rest_of : Outlook → Outlook
 rest_of (Says (block ∷ blocks) fault) = Says blocks fault
-rest_of (Says [] fault) = Says [] fault
+rest_of (Says [] fault) = Told fault
+rest_of (Told fault) = Told fault
 rest_of NoMemory = NoMemory
+
+-- memory may be refused, which it is not once the fault or the end was told
+abbrev pub MayRunOut : Outlook → Type 0
+MayRunOut (Says blocks fault) = Unit {0}
+MayRunOut (Told fault) = ⊥
+MayRunOut NoMemory = Unit {0}
 
 -- the next answer was given, or memory was refused, and is ever after
 abbrev pub Answers : Outlook → Result (Option Block) ZoneFault → Outlook → Type 0
 Answers old (Ok found) new = (Ok found ≡ answer_of old) × (new ≡ rest_of old)
 Answers old (Err (Row fault)) new = (Err (Row fault) ≡ answer_of old) × (new ≡ rest_of old)
-Answers old (Err OutOfMemory) new = new ≡ NoMemory
+Answers old (Err OutOfMemory) new = MayRunOut old × (new ≡ NoMemory)
 
 -- how many blocks are still to be said
 abbrev pub blocks_left : Outlook → ℕ
 blocks_left (Says blocks fault) = length blocks
+blocks_left (Told fault) = 0
 blocks_left NoMemory = 0

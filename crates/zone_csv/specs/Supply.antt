@@ -6,23 +6,25 @@ pub record Supply : Type 0 where
   pub left : List ℕ
   -- how many bytes were given
   pub given : ℕ
+  -- how many bytes a pull gives at most
+  pub step : ℕ
   -- the number of the pull that fails, counted from 1; 0 where none does
   pub failing : ℕ
   -- how many pulls there were, counted up to the one that fails
   pub pulls : ℕ
 
 -- a supply that was not pulled yet
-abbrev pub fresh : List ℕ → ℕ → Supply
-fresh bytes nth = record { left = bytes; given = 0; failing = nth; pulls = 0 }
+abbrev pub fresh : List ℕ → (step failing : ℕ) → Supply
+fresh bytes step failing = record { left = bytes; given = 0; step = step; failing = failing; pulls = 0 }
 
 -- how many bytes a pull gives to a buffer of this length, where it does not fail
 abbrev pub pull_count : Supply → ℕ → ℕ
-pull_count s room = min room (length s.left)
+pull_count s room = min (min room s.step) (length s.left)
 
 -- the supply after one more pull, which gave n bytes
 abbrev pub after_pull : Supply → ℕ → Supply
 after_pull s n =
-    record { left = drop n s.left; given = s.given + n; failing = s.failing; pulls = min (s.pulls + 1) s.failing }
+    record { left = drop n s.left; given = s.given + n; step = s.step; failing = s.failing; pulls = min (s.pulls + 1) s.failing }
 
 -- no pull fails
 abbrev pub never_fails : Supply → Bool

@@ -3,7 +3,7 @@ use Rattle.std.specs.Prelude.{ℕ, ◌≤◌, List, [], Some, None, Result}
 use Rattle.pit_model.specs.Records.{Ahead, Rows, GaveUp}
 use Rattle.pit_model.specs.declared.block.Block.{Block}
 use Rattle.pit_model.specs.declared.grid.Grid.{Grid}
-use Rattle.zone_csv.specs.Outlook.{Outlook, Says, NoMemory}
+use Rattle.zone_csv.specs.Outlook.{Outlook, Says, Told, NoMemory}
 use Rattle.zone_csv.specs.Zone.{records_say, rows_say, before_fault, first_fault}
 use Rattle.zone_csv.specs.declared.row_fault.RowFault.{RowFault}
 use Rattle.zone_csv.specs.declared.zone_fault.ZoneFault.{ZoneFault}
@@ -15,9 +15,9 @@ use Rattle.zone_csv.specs.declared.zone_reader.Stage.TheVariants as stage
 abbrev pub says : List (Result Block RowFault) → Outlook
 says said = Says (before_fault said) (first_fault said)
 
--- a fault, said for ever
+-- a fault that was told
 abbrev pub says_fault : ZoneFault → Outlook
-says_fault (Row fault) = Says [] (Some fault)
+says_fault (Row fault) = Told (Some fault)
 says_fault OutOfMemory = NoMemory
 
 -- what is to be said at each stage, with these records ahead
@@ -26,7 +26,7 @@ outlook_of grid zone stage.Header (Rows rows) = says (records_say grid zone rows
 outlook_of grid zone stage.Header GaveUp = NoMemory
 outlook_of grid zone (stage.Body columns number) (Rows rows) = says (rows_say grid zone columns rows number)
 outlook_of grid zone (stage.Body columns number) GaveUp = NoMemory
-outlook_of grid zone stage.Ended ahead = Says [] None
+outlook_of grid zone stage.Ended ahead = Told None
 outlook_of grid zone (stage.Failed fault) ahead = says_fault fault
 
 -- the rows are counted up to the first one that is too many

@@ -1,21 +1,35 @@
 //! A file as a feed.
 
-ghost use Rattle.std.specs.Prelude.{◌≡◌, ◌≤◌, None, false, length, IfOk};
-ghost use Rattle.zone_csv.specs.Count.{count_of};
+ghost use Rattle.std.specs.Io.KnownBytes.{ReadConsumes};
+ghost use Rattle.std.specs.Prelude.{◌≡◌, ◌+◌, ◌≤◌, None, false, length, IfOk, OnOk, OnErr};
 
 use crate::count::{Count, raised};
 use crate::feed::{Feed, FeedFault};
 use std::fs::File;
 use std::io::{ErrorKind, Read};
+use std::marker::Model;
 use std::rt::Files;
 
 /// A feed of an open file, from the byte where the file stands. It does not tell its bytes in advance, and any pull may fail. It
 /// takes no memory.
 #[derive(Drop)]
-pub struct FileFeed<F> {
+pub struct FileFeed<F: Read> {
     file: F,
     given: Count,
     failures: Count,
+}
+
+impl<F: Read> Model for FileFeed<F> {
+    ghost use Rattle.zone_csv.specs.Count.{count_of};
+    ghost use Rattle.zone_csv.specs.Source.{Source};
+
+    ghost Value = { Source };
+
+    ghost view = { λ f. record {
+      left = F.remaining f.file;
+      given = count_of f.given;
+      failures = count_of f.failures;
+    } };
 }
 
 impl<F: Read + Drop> FileFeed<F> {
@@ -44,14 +58,21 @@ impl<F: Read + Drop> FileFeed<F> {
 impl<F: Read + Drop> Feed for FileFeed<F> {
     ghost left = { λ _. None };
 
-    ghost given = { λ f. count_of f.given };
+    ghost given = { λ f. f.given };
 
-    ghost failures = { λ f. count_of f.failures };
+    ghost failures = { λ f. f.failures };
 
     ghost is_sure = { λ _. false };
 
     /// Gives what one read of the file gives. A read that a signal interrupts is tried again.
-    fn pull(&mut self, buffer: &mut [u8]) -> Result<usize, FeedFault> {
+    fn pull(&mut self, buffer: &mut [u8]) -> Result<usize, FeedFault>
+        ensures reads { ReadConsumes self.old.left self.new.left result buffer.new }
+        ensures within { IfOk result (λ n. n ≤ length buffer.old) }
+        ensures counts { IfOk result (λ n. self.new.given ≡ self.old.given + n) }
+        ensures works { OnOk result (self.new.failures ≡ self.old.failures) }
+        ensures refused { OnErr result (self.new.given ≡ self.old.given) }
+        ensures fails { OnErr result (self.new.failures ≡ self.old.failures + 1) }
+    {
         match read_some(&mut self.file, buffer) {
             Ok(count) => {
                 self.given = raised(&self.given, count);
@@ -67,7 +88,8 @@ impl<F: Read + Drop> Feed for FileFeed<F> {
 
 // One read that no signal interrupts.
 fn read_some<F: Read>(file: &mut F, buffer: &mut [u8]) -> Result<usize, FeedFault>
-    ensures { IfOk result (λ count. count ≤ length buffer.old) }
+    ensures within { IfOk result (λ count. count ≤ length buffer.old) }
+    ensures reads { ReadConsumes (F.remaining file.old) (F.remaining file.new) result buffer.new }
 {
     for _ in 0..u64::MAX {
         match file.read(buffer) {

@@ -10,6 +10,7 @@ pub mod laws;
 pub mod mem_feed;
 mod row;
 pub mod row_fault;
+pub mod slice_feed;
 pub mod slurp;
 pub mod zone_fault;
 pub mod zone_reader;

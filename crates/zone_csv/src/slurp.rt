@@ -64,6 +64,8 @@ pub fn slurp<F: Feed>(alloc: Global, feed: &mut F, limit: u64) -> Result<Vec<u8>
     // When each fault comes.
     ensures failed { IsErrOf result SlurpFault.FeedFailed
         → F.failures feed.new ≡ F.failures feed.old + 1 }
+    ensures failed_first { IsErrOf result SlurpFault.FeedFailed
+        → F.given feed.new ≤ F.given feed.old + limit }
     ensures sure { IsTrue (F.is_sure feed.old) → result ≢ Err SlurpFault.FeedFailed }
     ensures long { IsErrOf result SlurpFault.TooLong
         → IfSome (F.left feed.old) (λ bytes. limit < length bytes) }
@@ -75,6 +77,8 @@ pub fn slurp<F: Feed>(alloc: Global, feed: &mut F, limit: u64) -> Result<Vec<u8>
         → F.failures feed.new ≡ F.failures feed.old }
     ensures memory_works { IsErrOf result SlurpFault.OutOfMemory
         → F.failures feed.new ≡ F.failures feed.old }
+    ensures memory_first { IsErrOf result SlurpFault.OutOfMemory
+        → F.given feed.new ≤ F.given feed.old + limit }
 
     // How much was read, and where the feed stands, whatever was answered.
     ensures onward { F.given feed.old ≤ F.given feed.new }
@@ -139,7 +143,22 @@ fn pull_behind<F: Feed>(feed: &mut F, text: &mut [u8], filled: usize) -> Result<
 mod tests {
     use super::*;
     use crate::mem_feed::MemFeed;
+    use crate::slice_feed::SliceFeed;
     use std::test::Fail;
+
+    // 46 bytes.
+    const ROWS: &str = "x,y,z,tonnes,grade\n0,0,0,1000,5000\n10,0,0,0,7\n";
+
+    // A feed read whole by a thread, which takes the feed.
+    fn read_away<F: Feed + Send + Drop>(
+        alloc: Global,
+        mut feed: F,
+        limit: u64,
+    ) -> Result<Vec<u8>, SlurpFault>
+        requires { limit ≤ GREATEST_LIMIT }
+    {
+        slurp(alloc, &mut feed, limit)
+    }
 
     #[test]
     fn failing_devices(rt: HostRuntime) -> Result<(), Fail> {
@@ -167,6 +186,27 @@ mod tests {
                 Err(fault) => assert!(rt; fails && fault == SlurpFault::FeedFailed, "pull {nth}"),
             }
         }
+        for step in [1usize, 2, 7] {
+            let whole = MemFeed::cutting(ROWS.as_bytes().to_vec(alloc)?, step);
+            assert!(rt;
+                read_away(alloc, whole, 46)?.as_slice() == ROWS.as_bytes(),
+                "{step}"
+            );
+            let long = MemFeed::cutting(ROWS.as_bytes().to_vec(alloc)?, step);
+            assert!(rt;
+                read_away(alloc, long, 45) == Err(SlurpFault::TooLong),
+                "{step}"
+            );
+        }
+        Ok(())
+    }
+
+    #[test]
+    fn a_lent_text_comes_whole(rt: HostRuntime) -> Result<(), Fail> {
+        let alloc = rt.alloc();
+        let lent = ROWS.as_bytes();
+        assert!(rt; read_away(alloc, SliceFeed::new(lent), 46)?.as_slice() == lent);
+        assert!(rt; read_away(alloc, SliceFeed::new(lent), 45) == Err(SlurpFault::TooLong));
         Ok(())
     }
 

@@ -33,7 +33,7 @@ enum Stage {
 }
 
 /// A reader of a zone file, which answers the blocks of its rows in order. Contracts see what it has still to say: the blocks before
-/// the file's first fault, and that fault, if there is one; or that memory was refused.
+/// the file's first fault, and that fault, if there is one; that the fault or the end was told; or that memory was refused.
 #[derive(Drop)]
 pub struct ZoneReader {
     records: RecordReader<Cursor<Vec<u8>>>,
@@ -79,7 +79,7 @@ impl ZoneReader {
     /// # Errors
     ///
     /// `Row` with the file's first fault, once the blocks before it were answered, or `OutOfMemory` where memory was refused for a
-    /// record; each ever after.
+    /// record; each ever after. Once the end or the fault was answered, want of memory never comes in its place.
     pub fn next(&mut self) -> Result<Option<Block>, ZoneFault>
         ensures answers { Answers self.old result self.new }
         ensures fewer { IfOk result

@@ -65,6 +65,15 @@ fn row_says(
     Ok(fault.map_or(Ok(last), Err))
 }
 
+// A header and a row more than a file may have.
+fn too_many_rows(alloc: Global) -> Result<Vec<u8>, Fail> {
+    let mut text = HEADER.as_bytes().to_vec(alloc)?;
+    for _ in 0..1_000_001u32 {
+        text.extend_from_slice(b"0,0,0,1,0\n")?;
+    }
+    Ok(text)
+}
+
 fn fault(row: u32, column: Column, kind: RowFaultKind) -> RowFault {
     RowFault { row, column, kind }
 }
@@ -91,12 +100,6 @@ fn header_faults(rt: HostRuntime) -> Result<(), Fail> {
     for (header, column, kind) in [
         ("x,y,z,tonnes", Column::Grade, RowFaultKind::MissingColumn),
         ("x,y,X,tonnes", Column::X, RowFaultKind::TwiceColumn),
-        ("x", Column::Y, RowFaultKind::MissingColumn),
-        (
-            "x,y,z,tonnes,grad",
-            Column::Grade,
-            RowFaultKind::MissingColumn,
-        ),
         // One byte order mark is dropped, and no second one.
         (
             "\u{FEFF}\u{FEFF}x,y,z,tonnes,grade",
@@ -164,6 +167,13 @@ fn grid_edges(rt: HostRuntime) -> Result<(), Fail> {
 #[test]
 fn zone_texts_at_the_edge(rt: HostRuntime) -> Result<(), Fail> {
     let alloc = rt.alloc();
+    for (header, column) in [("x", Column::Y), ("x,y,z,tonnes,grad", Column::Grade)] {
+        let (blocks, _, found) = said(&rt, alloc, header.as_bytes())?;
+        let missing = fault(1, column, RowFaultKind::MissingColumn);
+        assert!(rt; blocks == 0 && found == Some(missing), "{header}");
+    }
+    let no_grade = row_says(&rt, alloc, b"0,0,0,1000")?;
+    assert!(rt; no_grade == Err(fault(2, Column::Whole, RowFaultKind::Width)));
     let empty_grade = row_says(&rt, alloc, b"0,0,0,1000,")?;
     assert!(rt; empty_grade == Err(fault(2, Column::Grade, RowFaultKind::Number)));
     let no_line_end = row_says(&rt, alloc, b"0,0,0,1000,5")?;
@@ -182,16 +192,9 @@ fn zone_texts_at_the_edge(rt: HostRuntime) -> Result<(), Fail> {
     long.extend_from_slice(b",0,0,1,0")?;
     let long = row_says(&rt, alloc, long.as_slice())?;
     assert!(rt; long == Ok(Block::new(0, 0, 0, 1000, 0, 0)));
-    Ok(())
-}
 
-#[test]
-fn too_many_rows(rt: HostRuntime) -> Result<(), Fail> {
-    let mut text = HEADER.as_bytes().to_vec(rt.alloc())?;
-    for _ in 0..1_000_001u32 {
-        text.extend_from_slice(b"0,0,0,1,0\n")?;
-    }
-    let (blocks, _, found) = said(&rt, rt.alloc(), text.as_slice())?;
+    let rows = too_many_rows(alloc)?;
+    let (blocks, _, found) = said(&rt, alloc, rows.as_slice())?;
     assert_eq!(rt; blocks, 1_000_000);
     assert!(rt; found == Some(fault(1_000_002, Column::Whole, RowFaultKind::TooManyRows)));
     Ok(())
