@@ -2,8 +2,8 @@
 
 ghost use Rattle.std.specs.Prelude.{◌<◌, ◌≤◌, length, All, IfErr, IfOk};
 ghost use Rattle.precedence.specs.Identifier.{blocks_of, IsNumbering};
-ghost use Rattle.pitc.specs.Reading.{HasPlace};
-ghost use Rattle.pitc.specs.Verdict.{IsRepeat, IsRowAt};
+ghost use Rattle.pit_compile.specs.Rows.{HasPlace};
+ghost use Rattle.pit_compile.specs.Verdict.{IsRepeat, IsRowAt};
 
 use crate::refusal::{Refusal, RowAt};
 use precedence::{NumberError, Numbering, number};

@@ -1,8 +1,8 @@
 use Rattle.std.proofs.Common.{◌<◌, ◌∙◌, refl, sym, ap, length, arith}
 use Rattle.pit_model.specs.Destinations.{formula_of}
 use Rattle.pit_model.specs.declared.formula.NamedFormula.{NamedFormula}
-use Rattle.pitc.proofs.SameFormulas.{one_more_same, same_at}
-use Rattle.pitc.proofs.settings.are_same.Goals as goal
+use Rattle.pit_compile.proofs.SameFormulas.{one_more_same, same_at}
+use Rattle.pit_compile.proofs.settings.are_same.Goals as goal
 
 pub returns-then-not-is_same : goal.returns-then-not-is_same
 returns-then-not-is_same g c =

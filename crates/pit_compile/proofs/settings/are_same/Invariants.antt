@@ -1,6 +1,6 @@
 use Rattle.std.proofs.Common.{◌≡◌, take, map}
 use Rattle.pit_model.specs.Destinations.{formulas_of}
-use Rattle.pitc.proofs.settings.are_same.Given as goal
+use Rattle.pit_compile.proofs.settings.are_same.Given as goal
 
 abbrev pub invariant-loop-i : goal.invariant-loop-i
 invariant-loop-i g l = formulas_of (take l.i l.destinations) ≡ map (λ f. f.formula) (take l.i l.formulas)

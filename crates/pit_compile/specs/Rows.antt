@@ -1,22 +1,24 @@
--- The rows of the zone files, valued, and the first fault among the files.
-use Rattle.std.specs.Prelude.{ℕ, ◌+◌, List, [], ◌∷◌, ◌++◌, length, map, nat_lt, Option, Some, None, if◌then◌else◌}
+-- The rows of the zone files, valued, what their readers send, and the first fault among the files.
+use Rattle.std.specs.Prelude.{◌≡◌, ℕ, ◌+◌, ◌<◌, ◌≤◌, List, [], ◌∷◌, ◌++◌, length, nat_lt, Option, Some, None, if◌then◌else◌, All}
+use Rattle.lane.specs.Message.{sent_from}
+use Rattle.lane.specs.declared.message.Taken.{Taken}
 use Rattle.pit_model.specs.Destinations.{formulas_of_plan}
 use Rattle.pit_model.specs.Plan.{PlanParts}
 use Rattle.pit_model.specs.declared.block.Block.{Block}
 use Rattle.pit_model.specs.declared.formula.Formula.{Formula}
 use Rattle.pit_model.specs.declared.grid.Grid.{Grid}
-use Rattle.valuers.specs.Valuing.{worths_by}
+use Rattle.run_threads.specs.Reading.{most_bytes}
+use Rattle.valuers.specs.Valuing.{row_by, worths_by}
 use Rattle.valuers.specs.declared.item.Valued.{Valued}
 use Rattle.zone_csv.specs.Zone.{blocks_of, fault_of}
 use Rattle.zone_csv.specs.declared.row_fault.RowFault.{RowFault}
-use Rattle.pitc.specs.declared.refusal.Refusal.{Refusal}
-use Rattle.pitc.specs.declared.refusal.Refusal.TheVariants.{TooLong, Row}
+use Rattle.pit_compile.specs.declared.refusal.Refusal.{Refusal}
+use Rattle.pit_compile.specs.declared.refusal.Refusal.TheVariants.{TooLong, Row}
 
 -- the rows of these blocks of a file, the first of them at place n, each with its worth by each formula
 abbrev pub rows_from : List Block → List Formula → ℕ → ℕ → List Valued
 rows_from [] formulas file n = []
-rows_from (b ∷ blocks) formulas file n =
-    record { file = file; place = n; block = b; worths = worths_by formulas b } ∷ rows_from blocks formulas file (n + 1)
+rows_from (b ∷ blocks) formulas file n = row_by formulas file n b ∷ rows_from blocks formulas file (n + 1)
 
 -- the rows of these zone files, the first of them being file n, one file after the other
 abbrev pub rows_in : List (List ℕ) → Grid → List Formula → ℕ → List Valued
@@ -27,6 +29,26 @@ rows_in (text ∷ texts) grid formulas n = rows_from (blocks_of grid n text) for
 abbrev pub rows_of : PlanParts → List (List ℕ) → List Valued
 rows_of plan texts = rows_in texts plan.grid (formulas_of_plan plan) 0
 
+-- what each of these zone files sends into the lane, the first of them being file n: its rows, and then its end mark
+abbrev pub sents_from : ℕ → Grid → List (List ℕ) → List (List Taken)
+sents_from n grid [] = []
+sents_from n grid (text ∷ texts) = sent_from n 0 (blocks_of grid n text) ∷ sents_from (n + 1) grid texts
+
+-- what each zone file of a model sends
+abbrev pub sents_of : PlanParts → List (List ℕ) → List (List Taken)
+sents_of plan texts = sents_from 0 plan.grid texts
+
+-- the place of a row is one of its file's
+abbrev pub HasPlace : Valued → Type 0
+HasPlace row = row.place < 1000000
+
+-- these are rows as the zone files of a plan can have them
+pub record AreModelRows (plan : PlanParts) (rows : List Valued) : Type 0 where
+  pub few : length rows ≤ 64000000
+  pub placed : All HasPlace rows
+  pub zones : All (λ row. row.block.zone < length plan.cones) rows
+  pub valued : All (λ row. row.worths ≡ worths_by (formulas_of_plan plan) row.block) rows
+
 -- a row's fault as the file's
 abbrev pub of_row : ℕ → Option RowFault → Option Refusal
 of_row file None = None
@@ -34,7 +56,7 @@ of_row file (Some fault) = Some (Row file fault)
 
 -- the fault of a zone file: it is too long, or one of its rows is faulty
 abbrev pub file_fault : Grid → ℕ → List ℕ → Option Refusal
-file_fault grid n text = if nat_lt 268435456 (length text) then Some (TooLong n) else of_row n (fault_of grid n text)
+file_fault grid n text = if nat_lt most_bytes (length text) then Some (TooLong n) else of_row n (fault_of grid n text)
 
 -- the first that is there
 abbrev pub first_of_two : Option Refusal → Option Refusal → Option Refusal

@@ -1,16 +1,13 @@
 -- The verdict on the zone files of a plan.
-use Rattle.std.specs.Prelude.{◌≡◌, ◌≢◌, ℕ, ◌+◌, ◌<◌, List, length, Some, None, false, slice_index_or}
-use Rattle.pit_model.specs.Destinations.{formulas_of_plan}
+use Rattle.std.specs.Prelude.{◌≡◌, ℕ, ◌+◌, ◌<◌, List, length, Some, None, false, slice_index_or}
 use Rattle.precedence.specs.Identifier.{blocks_of, is_same_place, IsFirstAgain}
 use Rattle.pit_model.specs.Plan.{PlanParts}
 use Rattle.pit_model.specs.declared.block.Block.{Block}
-use Rattle.pit_model.specs.declared.formula.Formula.{Formula}
 use Rattle.valuers.specs.declared.item.Valued.{Valued}
-use Rattle.pitc.specs.Rows.{rows_of, fault_in}
-use Rattle.pitc.specs.declared.refusal.Refusal.{Refusal}
-use Rattle.pitc.specs.declared.refusal.Refusal.TheVariants.{Settings, TooLong, Row, Same, OutOfMemory}
-use Rattle.pitc.specs.declared.refusal.SettingsFault.TheVariants.{Files, Destinations}
-use Rattle.pitc.specs.declared.refusal.RowAt.{RowAt}
+use Rattle.pit_compile.specs.Rows.{rows_of, fault_in}
+use Rattle.pit_compile.specs.declared.refusal.Refusal.{Refusal}
+use Rattle.pit_compile.specs.declared.refusal.Refusal.TheVariants.{Settings, NoThread, FeedFailed, TooLong, Row, Same, SinkFailed, OutOfMemory}
+use Rattle.pit_compile.specs.declared.refusal.RowAt.{RowAt}
 
 -- no two blocks of the list stand at one place of the grid
 abbrev pub AreApart : List Block → Type 0
@@ -38,8 +35,11 @@ abbrev pub IsRepeat : List Valued → Refusal → Type 0
 IsRepeat rows (Same first again) = IsFirstRepeat rows first again
 IsRepeat rows OutOfMemory = Unit {0}
 IsRepeat rows (Settings kind) = ⊥
+IsRepeat rows NoThread = ⊥
+IsRepeat rows (FeedFailed file) = ⊥
 IsRepeat rows (TooLong file) = ⊥
 IsRepeat rows (Row file fault) = ⊥
+IsRepeat rows (SinkFailed which) = ⊥
 
 -- refused: the fault of the least file that has one; or, where none has, the first repetition
 abbrev pub IsRefusedBy : PlanParts → List (List ℕ) → Refusal → Type 0
@@ -47,13 +47,7 @@ IsRefusedBy plan texts (TooLong file) = fault_in texts plan.grid 0 ≡ Some (Too
 IsRefusedBy plan texts (Row file fault) = fault_in texts plan.grid 0 ≡ Some (Row file fault)
 IsRefusedBy plan texts (Same first again) = (fault_in texts plan.grid 0 ≡ None) × IsFirstRepeat (rows_of plan texts) first again
 IsRefusedBy plan texts (Settings kind) = ⊥
+IsRefusedBy plan texts NoThread = ⊥
+IsRefusedBy plan texts (FeedFailed file) = ⊥
+IsRefusedBy plan texts (SinkFailed which) = ⊥
 IsRefusedBy plan texts OutOfMemory = ⊥
-
--- why the pipe form answers no text: the files or the destinations are not the plan's; or the verdict; or memory was refused
-abbrev pub PipeRefused : PlanParts → List Formula → List (List ℕ) → Refusal → Type 0
-PipeRefused plan formulas texts (Settings Files) = length texts ≢ length plan.cones
-PipeRefused plan formulas texts (Settings Destinations) = formulas ≢ formulas_of_plan plan
-PipeRefused plan formulas texts (TooLong file) = IsRefusedBy plan texts (TooLong file)
-PipeRefused plan formulas texts (Row file fault) = IsRefusedBy plan texts (Row file fault)
-PipeRefused plan formulas texts (Same first again) = IsRefusedBy plan texts (Same first again)
-PipeRefused plan formulas texts OutOfMemory = Unit {0}

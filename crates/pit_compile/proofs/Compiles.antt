@@ -1,0 +1,65 @@
+-- What the readers' answers and the collected rows say of the model.
+use Rattle.std.proofs.Common.{◌≡◌, ◌≤◌, ℕ, List, [], ◌∷◌, Bool, Option, None, Result, refl, sym, ◌∙◌, ap, subst, arith, length}
+use Rattle.std.specs.List.{flat_map}
+use Rattle.lane.specs.declared.message.Taken.{Taken}
+use Rattle.pit_model.specs.Destinations.{formulas_of_plan}
+use Rattle.pit_model.specs.Plan.{PlanParts}
+use Rattle.run_threads.specs.Reading.{AreRead}
+use Rattle.run_threads.specs.declared.read_fault.ReadFault.{ReadFault}
+use Rattle.valuers.specs.Valuing.{rows_by}
+use Rattle.valuers.specs.declared.item.Valued.{Valued}
+use Rattle.pit_compile.specs.Answers.{refusal_in}
+use Rattle.pit_compile.specs.Compiled.{AreGiven, IsNotCompiled}
+use Rattle.pit_compile.specs.Rows.{fault_in, rows_of, sents_of, AreModelRows}
+use Rattle.pit_compile.specs.Verdict.{IsRepeat}
+use Rattle.pit_compile.specs.declared.refusal.Refusal.{Refusal}
+use Rattle.pit_compile.specs.declared.refusal.Refusal.TheVariants.{Settings, NoThread, FeedFailed, TooLong, Row, Same, SinkFailed, OutOfMemory}
+use Rattle.pit_compile.proofs.Readers.{all_read}
+use Rattle.pit_compile.proofs.RowFacts.{AreZoneFiles, model_rows, sent_rows}
+
+given_count : (lefts : List (Option (List ℕ))) (texts : List (List ℕ)) → AreGiven lefts texts → length texts ≡ length lefts
+given_count [] [] h = refl
+given_count [] (t ∷ ts) h = absurd h
+given_count (l ∷ ls) [] h = absurd h
+given_count (l ∷ ls) (t ∷ ts) h = let rest = given_count ls ts h.1 in omega arith
+
+-- texts are given that have no fault, the lane had what their files send, and these are their rows
+pub record Compiles (plan : PlanParts) (lefts : List (Option (List ℕ))) (sents : List (List Taken)) (rows : List Valued) : Type 0 where
+  pub texts : List (List ℕ)
+  pub given : AreGiven lefts texts
+  pub no_fault : fault_in texts plan.grid 0 ≡ None
+  pub sent : sents ≡ sents_of plan texts
+  pub rows_are : rows ≡ rows_of plan texts
+  pub model : AreModelRows plan rows
+
+pub compiles : (plan : PlanParts) (lefts : List (Option (List ℕ))) (sures : List Bool) (answers : List (Result (Unit {0}) ReadFault))
+    (sents : List (List Taken)) (rows : List Valued)
+    → AreZoneFiles → length lefts ≡ length plan.cones → length plan.cones ≤ 64
+    → AreRead plan.grid 0 lefts sures answers sents → refusal_in 0 answers ≡ None
+    → rows ≡ flat_map (rows_by (formulas_of_plan plan)) sents → Compiles plan lefts sents rows
+compiles plan lefts sures answers sents rows files count most h e collected =
+    let read = all_read plan.grid lefts sures answers sents h e in
+    let as_many = given_count lefts read.texts read.given in
+    let same : rows ≡ rows_of plan read.texts
+    = collected ∙ ap (flat_map (rows_by (formulas_of_plan plan))) read.sent ∙ sent_rows plan.grid (formulas_of_plan plan) 0 read.texts in
+    record {
+      texts = read.texts;
+      given = read.given;
+      no_fault = read.no_fault;
+      sent = read.sent;
+      rows_are = same;
+      model = subst (AreModelRows plan) (sym same) (model_rows plan read.texts files (as_many ∙ count) most);
+    }
+
+-- a refusal of numbering is the verdict's
+pub repeat_refused : (plan : PlanParts) (lefts : List (Option (List ℕ))) (sures : List Bool) (sents : List (List Taken)) (rows : List Valued) (r : Refusal)
+    → Compiles plan lefts sents rows → IsRepeat rows r → IsNotCompiled plan lefts sures r
+repeat_refused plan lefts sures sents rows (Same first again) m h =
+    record { texts = m.texts; given = m.given; refused = (m.no_fault, subst (λ rs. IsRepeat rs (Same first again)) m.rows_are h) }
+repeat_refused plan lefts sures sents rows OutOfMemory m h = tt
+repeat_refused plan lefts sures sents rows (Settings kind) m h = absurd h
+repeat_refused plan lefts sures sents rows NoThread m h = absurd h
+repeat_refused plan lefts sures sents rows (FeedFailed file) m h = absurd h
+repeat_refused plan lefts sures sents rows (TooLong file) m h = absurd h
+repeat_refused plan lefts sures sents rows (Row file fault) m h = absurd h
+repeat_refused plan lefts sures sents rows (SinkFailed which) m h = absurd h

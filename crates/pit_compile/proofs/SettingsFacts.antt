@@ -1,0 +1,34 @@
+-- The settings have at most one fault by kind, and none where they suit.
+use Rattle.std.proofs.Common.{◌≡◌, ℕ, List, refl}
+use Rattle.pit_model.specs.Plan.{PlanParts}
+use Rattle.pit_model.specs.declared.formula.Formula.{Formula}
+use Rattle.pit_compile.specs.Settings.{IsSettingsFault, Suits}
+use Rattle.pit_compile.specs.declared.settings.Settings.{Settings}
+use Rattle.pit_compile.specs.declared.settings.SettingsFault.{SettingsFault}
+use Rattle.pit_compile.specs.declared.settings.SettingsFault.TheVariants.{Files, Valuers, Capacity, Destinations}
+
+pub only_one : (plan : PlanParts) (files : ℕ) (formulas : List Formula) (settings : Settings) (a b : SettingsFault)
+    → IsSettingsFault plan files formulas settings a → IsSettingsFault plan files formulas settings b → a ≡ b
+only_one plan files formulas settings Files Files h k = refl
+only_one plan files formulas settings Files Valuers h k = absurd (h k.0)
+only_one plan files formulas settings Files Capacity h k = absurd (h k.0)
+only_one plan files formulas settings Files Destinations h k = absurd (h k.0)
+only_one plan files formulas settings Valuers Files h k = absurd (k h.0)
+only_one plan files formulas settings Valuers Valuers h k = refl
+only_one plan files formulas settings Valuers Capacity h k = absurd (h.1 k.1)
+only_one plan files formulas settings Valuers Destinations h k = absurd (h.1 k.1)
+only_one plan files formulas settings Capacity Files h k = absurd (k h.0)
+only_one plan files formulas settings Capacity Valuers h k = absurd (k.1 h.1)
+only_one plan files formulas settings Capacity Capacity h k = refl
+only_one plan files formulas settings Capacity Destinations h k = absurd (h.2 k.2)
+only_one plan files formulas settings Destinations Files h k = absurd (k h.0)
+only_one plan files formulas settings Destinations Valuers h k = absurd (k.1 h.1)
+only_one plan files formulas settings Destinations Capacity h k = absurd (k.2 h.2)
+only_one plan files formulas settings Destinations Destinations h k = refl
+
+pub none_where_suits : (plan : PlanParts) (files : ℕ) (formulas : List Formula) (settings : Settings) (kind : SettingsFault)
+    → Suits plan files formulas settings → IsSettingsFault plan files formulas settings kind → ⊥
+none_where_suits plan files formulas settings Files fit h = h fit.files_fit
+none_where_suits plan files formulas settings Valuers fit h = h.1 fit.valuers_fit
+none_where_suits plan files formulas settings Capacity fit h = h.2 fit.capacity_fits
+none_where_suits plan files formulas settings Destinations fit h = h.3 fit.destinations_fit

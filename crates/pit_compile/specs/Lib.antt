@@ -1,0 +1,5 @@
+pub mod Answers
+pub mod Compiled
+pub mod Rows
+pub mod Settings
+pub mod Verdict

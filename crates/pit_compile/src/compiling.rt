@@ -1,0 +1,114 @@
+//! The first half of a run: from zone files to the instance.
+
+ghost use Rattle.std.specs.Prelude.{◌≡◌, ◌≢◌, ◌↔◌, Err, length, map, IfErr, IfOk};
+ghost use Rattle.mine_instance.specs.Valid.{IsValid};
+ghost use Rattle.pit_compile.specs.Compiled.{IsCompiled, IsNotCompiled};
+ghost use Rattle.pit_compile.specs.Settings.{IsSettingsFault, Suits};
+ghost use Rattle.pit_compile.specs.declared.settings.SettingsFault.{SettingsFault as ASettingsFault};
+ghost use Rattle.pit_model.specs.Destinations.{formulas_of};
+
+use crate::collecting::collect;
+use crate::instance_building::instance_of;
+use crate::reading::require_read;
+use crate::refusal::Refusal;
+use crate::settings::{Settings, require_settings};
+use lane::Gathered;
+use mine_instance::build_cpit;
+use mine_instance::cpit::Cpit;
+use mine_instance::instance::Instance;
+use pit_model::destination::Destination;
+use pit_model::plan::Plan;
+use run_threads::{HandedOver, hand_over};
+use std::alloc::Global;
+use std::sync::Wait;
+use std::thread::Threads;
+use valuers::Gate;
+use zone_csv::feed::Feed;
+use zone_csv::laws::zone_files;
+
+/// What a run makes of zone files before it writes.
+#[derive(Drop)]
+pub struct Compiled {
+    /// What went through the lane.
+    pub gathered: Gathered,
+    /// The instance of the model.
+    pub instance: Instance,
+    /// Its constrained pit limit problem.
+    pub cpit: Cpit,
+}
+
+/// Reads and values the zone files over threads, and builds the instance of the plan and these files. At most `starts` threads are started:
+/// one more counts as refused. The feeds are used up.
+///
+/// # Errors
+///
+/// The first that applies of: the least fault of the settings; that memory was refused before the first start; `NoThread`; the answer of
+/// the least file whose reader did not finish; that a valuer was refused memory; the first row that repeats another, or that memory was
+/// refused in collecting or numbering; that memory was refused for the instance.
+pub fn compile<R: Threads + Wait + Sync, F: Feed + Send + Drop, G: Gate + Sync>(
+    rt: &R,
+    alloc: Global,
+    feeds: Vec<F>,
+    plan: &Plan,
+    destinations: &[Destination],
+    settings: Settings,
+    starts: u32,
+    gate: &G,
+) -> Result<Compiled, Refusal>
+    ensures settings { (kind : ASettingsFault) → (result ≡ Err (Refusal.Settings kind))
+        ↔ IsSettingsFault plan.now (length feeds.items) (formulas_of destinations.now) settings kind }
+    ensures done { IfOk result (IsCompiled plan.now (map F.left feeds.items) settings.valuers) }
+    ensures valid { IfOk result (λ compiled. IsValid compiled.instance) }
+    ensures refused { IfErr result (IsNotCompiled plan.now (map F.left feeds.items) (map F.is_sure feeds.items)) }
+{
+    require_settings(feeds.len(), plan, destinations, settings)?;
+    fitting(rt, alloc, feeds, plan, destinations, settings, starts, gate)
+}
+
+// The same where the settings fit the plan.
+fn fitting<R: Threads + Wait + Sync, F: Feed + Send + Drop, G: Gate + Sync>(
+    rt: &R,
+    alloc: Global,
+    feeds: Vec<F>,
+    plan: &Plan,
+    destinations: &[Destination],
+    settings: Settings,
+    starts: u32,
+    gate: &G,
+) -> Result<Compiled, Refusal>
+    requires { Suits plan.now (length feeds.items) (formulas_of destinations.now) settings }
+    ensures settings { (kind : ASettingsFault) → result ≢ Err (Refusal.Settings kind) }
+    ensures done { IfOk result (IsCompiled plan.now (map F.left feeds.items) settings.valuers) }
+    ensures valid { IfOk result (λ compiled. IsValid compiled.instance) }
+    ensures refused { IfErr result (IsNotCompiled plan.now (map F.left feeds.items) (map F.is_sure feeds.items)) }
+{
+    zone_files();
+    let HandedOver {
+        gathered,
+        items,
+        memory,
+        answers,
+    } = hand_over(
+        rt,
+        alloc,
+        feeds,
+        plan,
+        destinations,
+        settings.valuers as u8,
+        settings.capacity,
+        starts,
+        gate,
+    )?;
+    require_read(answers.as_slice())?;
+    if memory {
+        return Err(Refusal::OutOfMemory);
+    }
+    let rows = collect(alloc, &gathered, plan, items)?;
+    let instance = instance_of(alloc, rows, plan)?;
+    let cpit = build_cpit(alloc, &instance)?;
+    Ok(Compiled {
+        gathered,
+        instance,
+        cpit,
+    })
+}

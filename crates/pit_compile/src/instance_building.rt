@@ -1,0 +1,31 @@
+//! From the rows of a model to its instance.
+
+ghost use Rattle.std.specs.Prelude.{◌≡◌, IfErr, IfOk};
+ghost use Rattle.mine_instance.specs.OfModel.{instance};
+ghost use Rattle.mine_instance.specs.Valid.{IsValid};
+ghost use Rattle.precedence.specs.Identifier.{blocks_of};
+ghost use Rattle.pit_compile.specs.Rows.{AreModelRows};
+ghost use Rattle.pit_compile.specs.Verdict.{AreApart, IsRepeat};
+
+use crate::numbered::numbered;
+use crate::refusal::Refusal;
+use mine_instance::build;
+use mine_instance::instance::Instance;
+use pit_model::plan::Plan;
+use precedence::preds;
+use std::alloc::Global;
+use valuers::Valued;
+
+/// The instance of these rows, which are given up with their numbering. Fails with `Same` where a block stands twice, or where memory is
+/// refused.
+pub fn instance_of(alloc: Global, rows: Vec<Valued>, plan: &Plan) -> Result<Instance, Refusal>
+    requires { AreModelRows plan.now rows.items }
+    ensures apart { IfOk result (λ _. AreApart (blocks_of rows.items)) }
+    ensures value { IfOk result (λ built. built ≡ instance plan.now (blocks_of rows.items)) }
+    ensures valid { IfOk result IsValid }
+    ensures refused { IfErr result (IsRepeat rows.items) }
+{
+    let numbering = numbered(alloc, rows.as_slice())?;
+    let preds = preds(alloc, &numbering, plan)?;
+    Ok(build(alloc, &numbering, preds, rows.as_slice(), plan)?)
+}

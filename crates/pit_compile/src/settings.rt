@@ -1,0 +1,93 @@
+//! How a run is to be made, and whether that fits its plan.
+
+ghost use Rattle.std.specs.Prelude.{◌≡◌, ◌↔◌, IsTrue, IfErr, OnOk, length, map};
+ghost use Rattle.pit_compile.specs.Settings.{IsSettingsFault, Suits};
+ghost use Rattle.pit_model.specs.Destinations.{formulas_of, formulas_of_plan};
+
+use pit_model::destination::Destination;
+use pit_model::formula::{Formula, NamedFormula};
+use pit_model::plan::Plan;
+use thiserror::Error;
+
+/// The most threads that value rows.
+pub const MOST_VALUERS: usize = 64;
+
+/// The most messages that the lane of a run may hold.
+pub const MOST_CAPACITY: usize = 4096;
+
+/// How a run is to be made.
+#[derive(Clone, Copy, Debug, PartialEq, Eq)]
+pub struct Settings {
+    /// The number of threads that value rows, 1 to 64.
+    pub valuers: usize,
+    /// How many messages the lane holds at most, 1 to 4096.
+    pub capacity: usize,
+}
+
+/// What is wrong with the settings of a run. Of several kinds the first one here is meant.
+#[derive(Clone, Copy, Debug, Error, PartialEq, Eq)]
+pub enum SettingsFault {
+    /// There are not as many zone files as the plan has zones.
+    #[error("Files")]
+    Files,
+    /// The number of valuers is not 1 to 64.
+    #[error("Valuers")]
+    Valuers,
+    /// The capacity is not 1 to 4096.
+    #[error("Capacity")]
+    Capacity,
+    /// The destinations' formulas are not the plan's, in order.
+    #[error("Destinations")]
+    Destinations,
+}
+
+/// Fails with the least kind of fault that the settings have, for so many zone files.
+pub(crate) fn require_settings(
+    files: usize,
+    plan: &Plan,
+    destinations: &[Destination],
+    settings: Settings,
+) -> Result<(), SettingsFault>
+    ensures fit { OnOk result (Suits plan.now files (formulas_of destinations.now) settings) }
+    ensures refused { IfErr result (IsSettingsFault plan.now files (formulas_of destinations.now) settings) }
+{
+    if files != plan.cones().len() {
+        return Err(SettingsFault::Files);
+    }
+    if settings.valuers == 0 || settings.valuers > MOST_VALUERS {
+        return Err(SettingsFault::Valuers);
+    }
+    if settings.capacity == 0 || settings.capacity > MOST_CAPACITY {
+        return Err(SettingsFault::Capacity);
+    }
+    if !are_the_plans(destinations, plan) {
+        return Err(SettingsFault::Destinations);
+    }
+    Ok(())
+}
+
+/// Whether the destinations' formulas are the plan's, in order.
+fn are_the_plans(destinations: &[Destination], plan: &Plan) -> bool
+    ensures { IsTrue result ↔ (formulas_of destinations.now ≡ formulas_of_plan plan.now) }
+{
+    let formulas = plan.formulas();
+    destinations.len() == formulas.len() && are_same(destinations, formulas)
+}
+
+fn are_same(destinations: &[Destination], formulas: &[NamedFormula]) -> bool
+    requires { length destinations.now ≡ length formulas.now }
+    ensures { IsTrue result ↔ (formulas_of destinations.now ≡ map (λ f. f.formula) formulas.now) }
+{
+    for i in 0..formulas.len() {
+        if !is_same(destinations[i].formula(), &formulas[i].formula) {
+            return false;
+        }
+    }
+    true
+}
+
+fn is_same(formula: &Formula, other: &Formula) -> bool
+    ensures { IsTrue result ↔ (formula.now ≡ other.now) }
+{
+    *formula == *other
+}
