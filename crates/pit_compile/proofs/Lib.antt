@@ -1,0 +1,4 @@
+pub mod Adding
+pub mod Collected
+pub mod HandedOn
+pub mod SentRows
