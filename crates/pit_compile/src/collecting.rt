@@ -18,8 +18,8 @@ use pit_model::plan::Plan;
 use std::alloc::{AllocError, Global};
 use valuers::{Item, Items, Valued};
 
-/// The valued rows of all zone files, in the order of the files and within a file in order of place, from what the valuers hand on.
-/// Fails only where memory is refused.
+/// The rows of all zone files with their worths: file after file, and in each file in order of place. `items` is what each valuer hands
+/// on of what it took. Fails only where memory is refused.
 pub fn collect(
     alloc: Global,
     gathered: &Gathered,
@@ -87,19 +87,19 @@ fn finished(collector: Collector) -> Result<Vec<Rows>, AllocError>
     }
 }
 
-/// The rows of all files in one list, of which `count` says how long it comes out. The first file's rows stay where they are, and each
-/// other file's are freed once they are copied.
+/// The rows of all files in one list, with room for `count` of them from the start. The rows of the first file are not copied unless they
+/// have to move, and those of each other file are freed once they are copied.
 fn join(alloc: Global, lists: Vec<Rows>, count: usize) -> Result<Vec<Valued>, AllocError>
     ensures { IfOk result (λ rows. rows.items ≡ joined lists.items) }
 {
-    let mut lists = lists.into_iter();
-    let Some(first) = lists.next() else {
+    let mut files = lists.into_iter();
+    let Some(first) = files.next() else {
         return Ok(Vec::new(alloc));
     };
     let mut rows = first.into_vec();
     rows.reserve_exact(count.saturating_sub(rows.len()))?;
-    for list in lists {
-        rows.extend_from_slice(list.as_slice())?;
+    for file in files {
+        rows.extend_from_slice(file.as_slice())?;
     }
     Ok(rows)
 }
