@@ -1,6 +1,10 @@
+pub mod Adding
 pub mod Apart
+pub mod Collected
 pub mod Compiles
+pub mod HandedOn
 pub mod Readers
 pub mod RowFacts
 pub mod SameFormulas
+pub mod SentRows
 pub mod SettingsFacts

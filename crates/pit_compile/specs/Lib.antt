@@ -1,4 +1,5 @@
 pub mod Answers
+pub mod Collecting
 pub mod Compiled
 pub mod Rows
 pub mod Settings
