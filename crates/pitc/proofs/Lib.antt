@@ -1,9 +1,7 @@
 mod Again
 mod FoundJob
 mod Joined
+mod Lent
 mod Lines
 mod Uncut
 mod Walk
-pub mod PipeFacts
-pub mod RowSteps
-pub mod SameFormulas

@@ -4,15 +4,18 @@ use Rattle.pit_model.specs.Planned.{planned}
 use Rattle.pit_model.specs.declared.plan_fault.PlanFault.{PlanFault}
 use Rattle.pitc.specs.declared.input.InputFault.{InputFault}
 use Rattle.pitc.specs.declared.input.InputFault.TheVariants as input
-use Rattle.pitc.specs.declared.refusal.Refusal.{Refusal}
-use Rattle.pitc.specs.declared.refusal.Refusal.TheVariants.{Settings, TooLong, Row, Same, OutOfMemory}
+use Rattle.pit_compile.specs.declared.refusal.Refusal.{Refusal}
+use Rattle.pit_compile.specs.declared.refusal.Refusal.TheVariants.{Settings, NoThread, FeedFailed, TooLong, Row, Same, SinkFailed, OutOfMemory}
 
--- 1 for a refused plan or model, 2 for settings, 4 for want of memory
+-- 1 for a refused model, 2 for settings, 3 for a feed or a sink that failed, 4 where a thread or memory was refused
 abbrev pub status_of : Refusal → ℕ
 status_of (Settings kind) = 2
+status_of NoThread = 4
+status_of (FeedFailed file) = 3
 status_of (TooLong file) = 1
 status_of (Row file fault) = 1
 status_of (Same first again) = 1
+status_of (SinkFailed which) = 3
 status_of OutOfMemory = 4
 
 -- 1 for an input that is too long, 3 for one that cannot be read, 4 for want of memory

@@ -1,17 +1,21 @@
--- What the pipe form prints of an instance: its five texts, each under its section line.
-use Rattle.std.specs.Prelude.{◌≡◌, ℕ, List, [], ◌∷◌, ◌++◌, codes}
+-- What the pipe form prints of a model: the five texts of its instance, each under its section line.
+use Rattle.std.specs.Prelude.{◌≡◌, ℕ, List, ◌∷◌, [], ◌++◌, codes}
 use Rattle.mine_instance.specs.OfCpit.{cpit}
-use Rattle.mine_instance.specs.OfModel.{instance}
 use Rattle.mine_instance.specs.declared.instance.Instance.{Instance}
-use Rattle.pit_model.specs.declared.plan.Plan.{Plan}
-use Rattle.precedence.specs.Identifier.{blocks_of}
-use Rattle.pitc.specs.Rows.{rows_of}
-use Rattle.pitc.specs.Verdict.{IsAccepted}
 use Rattle.minelib_text.specs.Written.{text_blocks, text_prec, text_upit, text_pcpsp, text_cpit}
+use Rattle.pit_compile.specs.Compiled.{instance_from}
+use Rattle.pit_compile.specs.Settings.{IsSettingsFault}
+use Rattle.pit_compile.specs.Verdict.{IsAccepted, IsRefusedBy}
+use Rattle.pit_compile.specs.declared.refusal.Refusal.{Refusal}
+use Rattle.pit_compile.specs.declared.refusal.Refusal.TheVariants.{Settings, NoThread, FeedFailed, TooLong, Row, Same, SinkFailed, OutOfMemory}
+use Rattle.pit_compile.specs.declared.settings.Settings as settings
+use Rattle.pit_model.specs.Plan.{PlanParts}
+use Rattle.pit_model.specs.declared.formula.Formula.{Formula}
+use Rattle.std.specs.Prelude.{length, Unit, ⊥}
 
 -- a text under its section line
 abbrev pub section : List ℕ → List ℕ → List ℕ
-section name text = codes "== " ++ name ++ (10 ∷ []) ++ text
+section name text = codes "== " ++ (name ++ (10 ∷ text))
 
 -- the five sections
 abbrev pub printed : Instance → List ℕ
@@ -23,5 +27,21 @@ printed i =
     ++ section (codes "cpit") (text_cpit (cpit i))
 
 -- the verdict accepts the zone files, and what is printed of their instance is appended
-abbrev pub IsPrinted : Plan → List (List ℕ) → List ℕ → List ℕ → Type 0
-IsPrinted plan zones old new = IsAccepted plan zones × (new ≡ old ++ printed (instance plan (blocks_of (rows_of plan zones))))
+pub record IsPrinted (plan : PlanParts) (zones : List (List ℕ)) (old new : List ℕ) : Type 0 where
+  pub accepted : IsAccepted plan zones
+  pub appended : new ≡ old ++ printed (instance_from plan zones)
+
+-- the settings of the pipe form: four valuers, and a lane of 64 places
+abbrev pub pipe_settings : settings.Settings
+pipe_settings = record { valuers = 4; capacity = 64 }
+
+-- why the pipe form prints nothing: its settings do not fit the plan; or the verdict; or a thread or memory was refused
+abbrev pub PipeRefused : PlanParts → List Formula → List (List ℕ) → Refusal → Type 0
+PipeRefused plan formulas zones (Settings kind) = IsSettingsFault plan (length zones) formulas pipe_settings kind
+PipeRefused plan formulas zones NoThread = Unit {0}
+PipeRefused plan formulas zones (FeedFailed file) = ⊥
+PipeRefused plan formulas zones (TooLong file) = IsRefusedBy plan zones (TooLong file)
+PipeRefused plan formulas zones (Row file fault) = IsRefusedBy plan zones (Row file fault)
+PipeRefused plan formulas zones (Same first again) = IsRefusedBy plan zones (Same first again)
+PipeRefused plan formulas zones (SinkFailed which) = ⊥
+PipeRefused plan formulas zones OutOfMemory = Unit {0}

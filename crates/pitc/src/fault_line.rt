@@ -4,8 +4,8 @@ ghost use Rattle.std.specs.Prelude.{◌≡◌, ◌≤◌, ◌++◌, length, Ok, 
 ghost use Rattle.pit_model.specs.Planned.{planned};
 ghost use Rattle.pitc.specs.FaultLine.{AppendsLine, EndsWith, PlanRefused, line_of, status_of};
 
-use crate::refusal::Refusal;
-use crate::status::{REFUSED, RESOURCES, USAGE};
+use crate::status::{DEVICE, REFUSED, RESOURCES, USAGE};
+use pit_compile::refusal::Refusal;
 use pit_model::plan::Plan;
 use pit_model::plan_fault::ReadPlanError;
 use pit_model::read_plan;
@@ -56,7 +56,8 @@ fn status_of(refusal: &Refusal) -> u8
     match refusal {
         Refusal::Settings(_) => USAGE,
         Refusal::TooLong { .. } | Refusal::Row { .. } | Refusal::Same { .. } => REFUSED,
-        Refusal::OutOfMemory => RESOURCES,
+        Refusal::FeedFailed { .. } | Refusal::SinkFailed { .. } => DEVICE,
+        Refusal::NoThread | Refusal::OutOfMemory => RESOURCES,
     }
 }
 

@@ -18,15 +18,11 @@ pub mod job;
 pub mod jobs;
 pub mod laws;
 pub mod model;
-pub mod numbered;
 pub mod piece;
 pub mod pieces;
 pub mod pipe_form;
 pub mod pipe_run;
-pub mod printed;
-pub mod refusal;
-pub mod rows;
-pub mod settings;
+pub mod printing;
 pub mod status;
 
 use crate::check::check_files;
@@ -122,6 +118,7 @@ fn main(rt: HostRuntime) -> ExitCode {
         }
     }
     let status = run_pipe(
+        &rt,
         alloc,
         &model,
         destinations.as_slice(),
