@@ -26,6 +26,7 @@ mod prec_reader;
 pub mod read_fault;
 mod reading;
 mod schedule;
+pub mod section_sink;
 pub mod sink;
 mod text;
 pub mod text_fault;

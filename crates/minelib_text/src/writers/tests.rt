@@ -3,6 +3,8 @@ ghost use Rattle.mine_instance.specs.Valid.{IsValid};
 
 use super::{write_blocks, write_cpit, write_pcpsp, write_prec, write_upit};
 use crate::mem_sink::MemSink;
+use crate::section_sink::SectionSink;
+use crate::sink::Sink;
 use crate::write_fault::WriteFault;
 use mine_instance::blocks::Blocks;
 use mine_instance::coef::{Coef, Coefs};
@@ -148,11 +150,11 @@ const ALL: [Which; 5] = [
     Which::Cpit,
 ];
 
-fn write(
+fn write<S: Sink>(
     alloc: Global,
     which: Which,
     instance: &Instance,
-    sink: &mut MemSink,
+    sink: &mut S,
 ) -> Result<Result<(), WriteFault>, Fail>
     requires { IsValid instance.now }
 {
@@ -228,6 +230,24 @@ fn limits_and_coefficients(rt: HostRuntime) -> Result<(), Fail> {
             "NAME: one\nTYPE: CPIT\nNBLOCKS: 2\nNPERIODS: 2\nNRESOURCE_SIDE_CONSTRAINTS: 1\nDISCOUNT_RATE: 0.1\nOBJECTIVE_FUNCTION:\n0 12000\n1 0\nRESOURCE_CONSTRAINT_COEFFICIENTS:\n0 0 1000\nRESOURCE_CONSTRAINT_LIMITS:\n0 0 L 500.5\n0 1 I 0 900\n",
         ],
     )
+}
+
+// Two texts behind their lines and behind what stood there. What is begun again gives up its own text alone.
+#[test]
+fn sections_stay(rt: HostRuntime) -> Result<(), Fail> {
+    let alloc = rt.alloc();
+    let instance = made(alloc, &LIMITS_AND_COEFFICIENTS)?;
+    let mut sink = SectionSink::new(Vec::from_slice(alloc, b"old\n")?);
+    sink.section(b"== blocks\n")?;
+    write_upit(alloc, &instance, &mut sink)?;
+    write_blocks(alloc, &instance, &mut sink)?;
+    sink.section(b"== prec\n")?;
+    write_prec(alloc, &instance, &mut sink)?;
+    assert_eq!(rt;
+        sink.into_vec().as_slice(),
+        b"old\n== blocks\n0 0 0 0 1000 5000 0\n1 1 0 0 0 7 0\n== prec\n0 0\n1 0\n"
+    );
+    Ok(())
 }
 
 // The objective and the coefficients of a CPIT, between its section lines.
