@@ -11,7 +11,7 @@ use Rattle.pit_compile.specs.declared.refusal.Refusal.TheVariants.{Settings, NoT
 use Rattle.pit_compile.specs.declared.settings.Settings as settings
 use Rattle.pit_model.specs.Plan.{PlanParts}
 use Rattle.pit_model.specs.declared.formula.Formula.{Formula}
-use Rattle.std.specs.Prelude.{length, Unit, ⊥}
+use Rattle.std.specs.Prelude.{length}
 
 -- a text under its section line
 abbrev pub section : List ℕ → List ℕ → List ℕ
