@@ -1,29 +1,105 @@
-//! From what the valuers handed on to the rows of all files.
+//! The rows of a run, collected from what its valuers hand on.
 
-ghost use Rattle.std.specs.Prelude.{◌≡◌, ◌≤◌, All, IfOk, length, map};
+ghost use Rattle.std.specs.Prelude.{◌≡◌, ◌≤◌, ◌++◌, [], ◌∷◌, length, map, All, Some, None, IfOk, OnOk};
 ghost use Rattle.std.specs.List.{flat_map};
+ghost use Rattle.collector.specs.Complete.{IsComplete};
+ghost use Rattle.collector.specs.Fault.{fault};
+ghost use Rattle.collector.specs.Lists.{AreLists};
 ghost use Rattle.lane.specs.Message.{rows_in};
 ghost use Rattle.lane.specs.Whole.{IsWhole};
+ghost use Rattle.pit_compile.specs.Collecting.{joined, IsFront};
 ghost use Rattle.pit_model.specs.Destinations.{formulas_of_plan};
 ghost use Rattle.valuers.specs.Valuing.{items_by, rows_by};
 
+use collector::laws::{complete_is_not_refused, complete_lacks_nothing, found_is_held};
+use collector::{AddFault, Collector, FinishFault, Rows};
 use lane::Gathered;
 use pit_model::plan::Plan;
 use std::alloc::{AllocError, Global};
-use valuers::{Items, Valued};
+use valuers::{Item, Items, Valued};
 
+/// The rows of all zone files with their worths: file after file, and in each file in order of place. `items` is what each valuer hands
+/// on of what it took. Fails only where memory is refused.
 pub fn collect(
     alloc: Global,
-    _gathered: &Gathered,
-    _plan: &Plan,
+    gathered: &Gathered,
+    plan: &Plan,
     items: Vec<Items>,
 ) -> Result<Vec<Valued>, AllocError>
-    requires whole { IsWhole _gathered.now }
-    requires files { length _gathered.now.sent ≡ length _plan.now.cones }
-    requires few { All (λ sent. rows_in sent ≤ 1000000) _gathered.now.sent }
-    requires handed { items.items ≡ map (items_by (formulas_of_plan _plan.now)) _gathered.now.took }
-    ensures { IfOk result (λ rows. rows.items ≡ flat_map (rows_by (formulas_of_plan _plan.now)) _gathered.now.sent) }
+    requires whole { IsWhole gathered.now }
+    requires files { length gathered.now.sent ≡ length plan.now.cones }
+    requires few { All (λ sent. rows_in sent ≤ 1000000) gathered.now.sent }
+    requires handed { items.items ≡ map (items_by (formulas_of_plan plan.now)) gathered.now.took }
+    ensures { IfOk result (λ rows. rows.items ≡ flat_map (rows_by (formulas_of_plan plan.now)) gathered.now.sent) }
 {
-    let _room: Vec<u64> = Vec::with_capacity(alloc, usize::MAX)?;
-    Err(AllocError)
+    found_is_held();
+    let mut collector = Collector::new(alloc, plan.cones().len() as u8)?;
+    add_lists(&mut collector, items)?;
+    let lists = finished(collector)?;
+    join(alloc, lists, gathered.rows() as usize)
+}
+
+/// Adds what all valuers hand on, and frees each list once it is added.
+fn add_lists(collector: &mut Collector, lists: Vec<Items>) -> Result<(), AllocError>
+    requires { IsComplete collector.old.files (collector.old.items ++ joined lists.items) }
+    ensures { OnOk result (collector.new ≡ record collector.old { items = collector.old.items ++ joined lists.items }) }
+{
+    for list in lists {
+        add_all(collector, list.as_slice())?;
+    }
+    Ok(())
+}
+
+/// Adds items that, with others after them, make a complete list.
+fn add_all(collector: &mut Collector, items: &[Item]) -> Result<(), AllocError>
+    requires { IsFront collector.old.files (collector.old.items ++ items.now) }
+    ensures { OnOk result (collector.new ≡ record collector.old { items = collector.old.items ++ items.now }) }
+{
+    complete_is_not_refused();
+    for item in items {
+        add_one(collector, *item)?;
+    }
+    Ok(())
+}
+
+/// Adds an item that has no fault.
+fn add_one(collector: &mut Collector, item: Item) -> Result<(), AllocError>
+    requires { fault collector.old.files collector.old.items item ≡ None }
+    ensures { OnOk result (collector.new ≡ record collector.old { items = collector.old.items ++ item ∷ [] }) }
+{
+    match collector.add(item) {
+        Ok(()) => Ok(()),
+        Err(AddFault::OutOfMemory) => Err(AllocError),
+        Err(_) => unreachable!(),
+    }
+}
+
+/// The rows of each file, from a complete list of items.
+fn finished(collector: Collector) -> Result<Vec<Rows>, AllocError>
+    requires { IsComplete collector.files collector.items }
+    ensures { IfOk result (λ lists. AreLists collector.files collector.items lists.items) }
+{
+    complete_lacks_nothing();
+    match collector.finish() {
+        Ok(lists) => Ok(lists),
+        Err(FinishFault::OutOfMemory) => Err(AllocError),
+        Err(FinishFault::Missing { .. }) => unreachable!(),
+    }
+}
+
+/// The rows of all files in one list, with room for `count` of them from the start. The rows of the first file are not copied unless they
+/// have to move, and those of each other file are freed once they are copied.
+fn join(alloc: Global, lists: Vec<Rows>, count: usize) -> Result<Vec<Valued>, AllocError>
+    ensures { IfOk result (λ rows. rows.items ≡ joined lists.items) }
+{
+    let mut files = lists.into_iter();
+    let Some(first) = files.next() else {
+        return Ok(Vec::new(alloc));
+    };
+    let mut rows = first.into_vec();
+    rows.reserve_exact(count.saturating_sub(rows.len()))?;
+    for file in files {
+        rows.extend_from_slice(file.as_slice())?;
+    }
+    Ok(rows)
 }
