@@ -1,9 +1,10 @@
 -- What a sink tells as the front of what it is to hold.
-use Rattle.std.proofs.Common.{◌≡◌, ℕ, ◌+◌, ◌<◌, List, [], ◌∷◌, ◌++◌, length, drop, get_or, Option, Some, None, refl, sym, ◌∙◌, ap, append_assoc, append-nil, add-one, Bool, ◌⊎◌, inl, inr}
+use Rattle.std.proofs.Common.{◌≡◌, ℕ, ◌+◌, ◌<◌, List, [], ◌∷◌, ◌++◌, length, drop, get_or, Option, Some, None, refl, sym, ◌∙◌, ap, append_assoc, append-nil, add-one, inl, inr}
 use Rattle.std.specs.Prelude.{Result, Ok, Err, OnErr}
 use Rattle.std.proofs.Math.Seq.{drop-cons}
-use Rattle.minelib_text.specs.Device.{added, holding, IsFront, IsAsItWas, IsBegunWithFrontOf}
+use Rattle.minelib_text.specs.Device.{added, holding, IsFront}
 use Rattle.minelib_text.specs.Lines.{text_of}
+use Rattle.minelib_text.specs.SinkState.{SinkState, IsCutOff}
 
 -- added in two steps
 pub added-added : (a b : List ℕ) (t : Option (List ℕ)) → added b (added a t) ≡ added (a ++ b) t
@@ -80,11 +81,16 @@ front_of_any text now before front = front_same now _ _ (held before) (front_fur
     held None = refl
     held (Some bytes) = refl
 
--- a sink that could not begin, as one that does not hold the text
-pub begin_refused : (text : List ℕ) (was now : Bool) (before after : Option (List ℕ))
-    → IsAsItWas was now before after ⊎ IsBegunWithFrontOf [] now before after → IsAsItWas was now before after ⊎ IsBegunWithFrontOf text now before after
-begin_refused text was now before after (inl as_it_was) = inl as_it_was
-begin_refused text was now before after (inr empty) = inr (record { begun = empty.begun; taken = front_of_any text after before empty.taken })
+-- a sink that could not begin does not hold the text either
+pub cut_at_begin : (text : List ℕ) (old new : SinkState) → IsCutOff 1 [] old new → IsCutOff 1 text old new
+cut_at_begin text old new cut = record {
+  stands = elim cut.stands [
+    | inl untouched ↦ inl untouched
+    | inr empty ↦ inr (record { begun = empty.begun; taken = front_of_any text new.taken old.taken empty.taken })
+  ];
+  before = cut.before;
+  fails = cut.fails;
+}
 
 pub and_then : {A : Type 0} (a b c : A) → b ≡ c → a ≡ b → a ≡ c
 and_then a b c e f = f ∙ e

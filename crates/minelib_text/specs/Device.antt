@@ -1,5 +1,5 @@
 -- The bytes that a sink took, before and after it took more. A sink that tells no bytes tells none after either.
-use Rattle.std.specs.Prelude.{◌≡◌, List, ℕ, ◌++◌, Option, option_map, Bool, IsTrue}
+use Rattle.std.specs.Prelude.{◌≡◌, List, ℕ, ◌++◌, Option, option_map}
 
 -- these bytes behind those that were taken
 abbrev pub added : List ℕ → Option (List ℕ) → Option (List ℕ)
@@ -13,13 +13,3 @@ holding text taken = option_map (λ _. text) taken
 pub record IsFront (now whole : Option (List ℕ)) : Type 0 where
   pub rest : List ℕ
   pub joined : whole ≡ added rest now
-
--- what a sink tells is as it was
-pub record IsAsItWas (was_begun is_begun : Bool) (before now : Option (List ℕ)) : Type 0 where
-  pub begun : is_begun ≡ was_begun
-  pub taken : now ≡ before
-
--- a sink was begun, and what it took since is the front of a text
-pub record IsBegunWithFrontOf (text : List ℕ) (is_begun : Bool) (before now : Option (List ℕ)) : Type 0 where
-  pub begun : IsTrue is_begun
-  pub taken : IsFront now (holding text before)

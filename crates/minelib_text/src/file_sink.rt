@@ -1,6 +1,6 @@
 //! A file as a sink.
 
-ghost use Rattle.std.specs.Prelude.{◌≡◌, ◌<◌, ◌≤◌, None, false, is_some, length, IfOk};
+ghost use Rattle.std.specs.Prelude.{◌≡◌, ◌<◌, ◌≤◌, [], None, false, is_some, length, IfOk};
 ghost use Rattle.minelib_text.specs.Count.{count_of};
 
 use crate::count::{Count, raised};
@@ -26,9 +26,8 @@ impl<'a, R: Files> FileSink<'a, R> {
     ///
     /// Memory for the path was refused.
     pub fn new(rt: &'a R, alloc: Global, path: &str) -> Result<FileSink<'a, R>, AllocError>
-        ensures begun { IfOk result (λ sink. ⟦<FileSink<'a, R> as Sink>⟧.is_begun sink ≡ false) }
-        ensures taken { IfOk result (λ sink. ⟦<FileSink<'a, R> as Sink>⟧.taken sink ≡ None) }
-        ensures failures { IfOk result (λ sink. ⟦<FileSink<'a, R> as Sink>⟧.failures sink ≡ 0) }
+        ensures { IfOk result (λ sink. ⟦<FileSink<'a, R> as Sink>⟧.state sink
+            ≡ record { begun = false; before = []; taken = None; failures = 0 }) }
     {
         Ok(FileSink {
             rt,
@@ -40,11 +39,12 @@ impl<'a, R: Files> FileSink<'a, R> {
 }
 
 impl<'a, R: Files> Sink for FileSink<'a, R> {
-    ghost is_begun = { λ s. is_some s.file };
-
-    ghost taken = { λ _. None };
-
-    ghost failures = { λ s. count_of s.failures };
+    ghost state = { λ s. record {
+      begun = is_some s.file;
+      before = [];
+      taken = None;
+      failures = count_of s.failures;
+    } };
 
     /// Creates the file, or empties the one that is there.
     ///

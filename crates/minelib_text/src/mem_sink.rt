@@ -113,11 +113,12 @@ impl MemSink {
 }
 
 impl Sink for MemSink {
-    ghost is_begun = { λ s. s.begun };
-
-    ghost taken = { λ s. Some s.bytes };
-
-    ghost failures = { λ s. s.failures };
+    ghost state = { λ s. record {
+      begun = s.begun;
+      before = [];
+      taken = Some s.bytes;
+      failures = s.failures;
+    } };
 
     /// Gives up the bytes, but for the one call that fails: then all is as it was. Takes no memory.
     fn begin(&mut self) -> Result<(), SinkFault>

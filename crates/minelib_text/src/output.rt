@@ -3,6 +3,7 @@
 ghost use Rattle.std.specs.Prelude.{◌≡◌, ◌+◌, ◌<◌, ◌≤◌, ℕ, List, [], ◌∷◌, ◌++◌, length, drop, slice_index_or, OnOk, OnErr, IsErrOf};
 ghost use Rattle.minelib_text.specs.Device.{added, IsFront};
 ghost use Rattle.minelib_text.specs.Lines.{text_of};
+ghost use Rattle.minelib_text.specs.SinkState.{IsStill};
 
 use crate::fields::put_text;
 use crate::sink::{Sink, SinkFault};
@@ -14,11 +15,11 @@ pub const LARGE: usize = 65_536;
 
 /// Puts all the bytes, in as many calls as the sink wants.
 pub fn put_all<S: Sink>(sink: &mut S, bytes: &[u8]) -> Result<(), SinkFault>
-    ensures takes { OnOk result (S.taken sink.new ≡ added bytes.now (S.taken sink.old)) }
-    ensures front { OnErr result (IsFront (S.taken sink.new) (added bytes.now (S.taken sink.old))) }
-    ensures works { OnOk result (S.failures sink.new ≡ S.failures sink.old) }
-    ensures fails { OnErr result (S.failures sink.new ≡ S.failures sink.old + 1) }
-    ensures begun { S.is_begun sink.new ≡ S.is_begun sink.old }
+    ensures takes { OnOk result ((S.state sink.new).taken ≡ added bytes.now (S.state sink.old).taken) }
+    ensures front { OnErr result (IsFront (S.state sink.new).taken (added bytes.now (S.state sink.old).taken)) }
+    ensures works { OnOk result ((S.state sink.new).failures ≡ (S.state sink.old).failures) }
+    ensures fails { OnErr result ((S.state sink.new).failures ≡ (S.state sink.old).failures + 1) }
+    ensures still { IsStill (S.state sink.old) (S.state sink.new) }
 {
     let mut rest = bytes;
     while !rest.is_empty() {
@@ -30,12 +31,12 @@ pub fn put_all<S: Sink>(sink: &mut S, bytes: &[u8]) -> Result<(), SinkFault>
 
 /// Puts the buffer and empties it.
 pub fn flush<S: Sink>(sink: &mut S, buffer: &mut Vec<u8>) -> Result<(), SinkFault>
-    ensures takes { OnOk result (S.taken sink.new ≡ added buffer.old.items (S.taken sink.old)) }
+    ensures takes { OnOk result ((S.state sink.new).taken ≡ added buffer.old.items (S.state sink.old).taken) }
     ensures empty { OnOk result (buffer.new.items ≡ []) }
-    ensures front { OnErr result (IsFront (S.taken sink.new) (added buffer.old.items (S.taken sink.old))) }
-    ensures works { OnOk result (S.failures sink.new ≡ S.failures sink.old) }
-    ensures fails { OnErr result (S.failures sink.new ≡ S.failures sink.old + 1) }
-    ensures begun { S.is_begun sink.new ≡ S.is_begun sink.old }
+    ensures front { OnErr result (IsFront (S.state sink.new).taken (added buffer.old.items (S.state sink.old).taken)) }
+    ensures works { OnOk result ((S.state sink.new).failures ≡ (S.state sink.old).failures) }
+    ensures fails { OnErr result ((S.state sink.new).failures ≡ (S.state sink.old).failures + 1) }
+    ensures still { IsStill (S.state sink.old) (S.state sink.new) }
 {
     put_all(sink, buffer.as_slice())?;
     buffer.clear();
@@ -63,14 +64,14 @@ pub fn write_section<S: Sink, L: Section>(
     buffer: &mut Vec<u8>,
     section: &L,
 ) -> Result<(), WriteFault>
-    ensures written { OnOk result (added buffer.new.items (S.taken sink.new)
-        ≡ added (text_of (L.lines section.now)) (added buffer.old.items (S.taken sink.old))) }
-    ensures front { OnErr result (IsFront (S.taken sink.new)
-        (added (text_of (L.lines section.now)) (added buffer.old.items (S.taken sink.old)))) }
-    ensures works { OnOk result (S.failures sink.new ≡ S.failures sink.old) }
-    ensures fails { IsErrOf result WriteFault.SinkFailed → S.failures sink.new ≡ S.failures sink.old + 1 }
-    ensures memory { IsErrOf result WriteFault.OutOfMemory → S.failures sink.new ≡ S.failures sink.old }
-    ensures begun { S.is_begun sink.new ≡ S.is_begun sink.old }
+    ensures written { OnOk result (added buffer.new.items (S.state sink.new).taken
+        ≡ added (text_of (L.lines section.now)) (added buffer.old.items (S.state sink.old).taken)) }
+    ensures front { OnErr result (IsFront (S.state sink.new).taken
+        (added (text_of (L.lines section.now)) (added buffer.old.items (S.state sink.old).taken))) }
+    ensures works { OnOk result ((S.state sink.new).failures ≡ (S.state sink.old).failures) }
+    ensures fails { IsErrOf result WriteFault.SinkFailed → (S.state sink.new).failures ≡ (S.state sink.old).failures + 1 }
+    ensures memory { IsErrOf result WriteFault.OutOfMemory → (S.state sink.new).failures ≡ (S.state sink.old).failures }
+    ensures still { IsStill (S.state sink.old) (S.state sink.new) }
 {
     for index in 0..section.len() {
         write_line(alloc, sink, buffer, section, index)?;
@@ -86,14 +87,14 @@ fn write_line<S: Sink, L: Section>(
     index: usize,
 ) -> Result<(), WriteFault>
     requires { index < length (L.lines section.now) }
-    ensures written { OnOk result (added (text_of (drop (index + 1) (L.lines section.now))) (added buffer.new.items (S.taken sink.new))
-        ≡ added (text_of (drop index (L.lines section.now))) (added buffer.old.items (S.taken sink.old))) }
-    ensures front { OnErr result (IsFront (S.taken sink.new)
-        (added (text_of (drop index (L.lines section.now))) (added buffer.old.items (S.taken sink.old)))) }
-    ensures works { OnOk result (S.failures sink.new ≡ S.failures sink.old) }
-    ensures fails { IsErrOf result WriteFault.SinkFailed → S.failures sink.new ≡ S.failures sink.old + 1 }
-    ensures memory { IsErrOf result WriteFault.OutOfMemory → S.failures sink.new ≡ S.failures sink.old }
-    ensures begun { S.is_begun sink.new ≡ S.is_begun sink.old }
+    ensures written { OnOk result (added (text_of (drop (index + 1) (L.lines section.now))) (added buffer.new.items (S.state sink.new).taken)
+        ≡ added (text_of (drop index (L.lines section.now))) (added buffer.old.items (S.state sink.old).taken)) }
+    ensures front { OnErr result (IsFront (S.state sink.new).taken
+        (added (text_of (drop index (L.lines section.now))) (added buffer.old.items (S.state sink.old).taken))) }
+    ensures works { OnOk result ((S.state sink.new).failures ≡ (S.state sink.old).failures) }
+    ensures fails { IsErrOf result WriteFault.SinkFailed → (S.state sink.new).failures ≡ (S.state sink.old).failures + 1 }
+    ensures memory { IsErrOf result WriteFault.OutOfMemory → (S.state sink.new).failures ≡ (S.state sink.old).failures }
+    ensures still { IsStill (S.state sink.old) (S.state sink.new) }
 {
     section.append(alloc, index, buffer)?;
     if buffer.len() >= LARGE {
@@ -110,14 +111,14 @@ pub fn write_titled<S: Sink, L: Section>(
     title: &[u8],
     section: &L,
 ) -> Result<(), WriteFault>
-    ensures written { OnOk result (added buffer.new.items (S.taken sink.new)
-        ≡ added (text_of (title.now ∷ L.lines section.now)) (added buffer.old.items (S.taken sink.old))) }
-    ensures front { OnErr result (IsFront (S.taken sink.new)
-        (added (text_of (title.now ∷ L.lines section.now)) (added buffer.old.items (S.taken sink.old)))) }
-    ensures works { OnOk result (S.failures sink.new ≡ S.failures sink.old) }
-    ensures fails { IsErrOf result WriteFault.SinkFailed → S.failures sink.new ≡ S.failures sink.old + 1 }
-    ensures memory { IsErrOf result WriteFault.OutOfMemory → S.failures sink.new ≡ S.failures sink.old }
-    ensures begun { S.is_begun sink.new ≡ S.is_begun sink.old }
+    ensures written { OnOk result (added buffer.new.items (S.state sink.new).taken
+        ≡ added (text_of (title.now ∷ L.lines section.now)) (added buffer.old.items (S.state sink.old).taken)) }
+    ensures front { OnErr result (IsFront (S.state sink.new).taken
+        (added (text_of (title.now ∷ L.lines section.now)) (added buffer.old.items (S.state sink.old).taken))) }
+    ensures works { OnOk result ((S.state sink.new).failures ≡ (S.state sink.old).failures) }
+    ensures fails { IsErrOf result WriteFault.SinkFailed → (S.state sink.new).failures ≡ (S.state sink.old).failures + 1 }
+    ensures memory { IsErrOf result WriteFault.OutOfMemory → (S.state sink.new).failures ≡ (S.state sink.old).failures }
+    ensures still { IsStill (S.state sink.old) (S.state sink.new) }
 {
     put_text(buffer, title, b'\n')?;
     write_section(alloc, sink, buffer, section)

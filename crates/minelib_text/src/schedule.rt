@@ -3,6 +3,7 @@
 ghost use Rattle.std.specs.Prelude.{◌≡◌, ◌+◌, OnOk, OnErr, IsErrOf};
 ghost use Rattle.minelib_text.specs.Device.{added, IsFront};
 ghost use Rattle.minelib_text.specs.Lines.{text_of};
+ghost use Rattle.minelib_text.specs.SinkState.{IsStill};
 ghost use Rattle.minelib_text.specs.Written.{section_lines};
 
 use crate::output::{Section, write_titled};
@@ -19,16 +20,16 @@ pub fn write_sections<S: Sink, V: Section, C: Section, L: Section>(
     coefs: &C,
     limits: &L,
 ) -> Result<(), WriteFault>
-    ensures written { OnOk result (added buffer.new.items (S.taken sink.new)
+    ensures written { OnOk result (added buffer.new.items (S.state sink.new).taken
         ≡ added (text_of (section_lines (V.lines values.now) (C.lines coefs.now) (L.lines limits.now)))
-        (added buffer.old.items (S.taken sink.old))) }
-    ensures front { OnErr result (IsFront (S.taken sink.new)
+        (added buffer.old.items (S.state sink.old).taken)) }
+    ensures front { OnErr result (IsFront (S.state sink.new).taken
         (added (text_of (section_lines (V.lines values.now) (C.lines coefs.now) (L.lines limits.now)))
-        (added buffer.old.items (S.taken sink.old)))) }
-    ensures works { OnOk result (S.failures sink.new ≡ S.failures sink.old) }
-    ensures fails { IsErrOf result WriteFault.SinkFailed → S.failures sink.new ≡ S.failures sink.old + 1 }
-    ensures memory { IsErrOf result WriteFault.OutOfMemory → S.failures sink.new ≡ S.failures sink.old }
-    ensures begun { S.is_begun sink.new ≡ S.is_begun sink.old }
+        (added buffer.old.items (S.state sink.old).taken))) }
+    ensures works { OnOk result ((S.state sink.new).failures ≡ (S.state sink.old).failures) }
+    ensures fails { IsErrOf result WriteFault.SinkFailed → (S.state sink.new).failures ≡ (S.state sink.old).failures + 1 }
+    ensures memory { IsErrOf result WriteFault.OutOfMemory → (S.state sink.new).failures ≡ (S.state sink.old).failures }
+    ensures still { IsStill (S.state sink.old) (S.state sink.new) }
 {
     write_titled(alloc, sink, buffer, b"OBJECTIVE_FUNCTION:", values)?;
     write_titled(

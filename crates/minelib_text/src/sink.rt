@@ -1,7 +1,8 @@
 //! A device that takes bytes.
 
-ghost use Rattle.std.specs.Prelude.{◌≡◌, ◌+◌, ◌<◌, ◌≤◌, ◌⊎◌, ℕ, List, [], Bool, Option, length, take, IsTrue, IfOk, OnOk, OnErr};
-ghost use Rattle.minelib_text.specs.Device.{added, holding, IsAsItWas, IsBegunWithFrontOf};
+ghost use Rattle.std.specs.Prelude.{◌≡◌, ◌+◌, ◌<◌, ◌≤◌, [], length, take, IfOk, OnOk, OnErr};
+ghost use Rattle.minelib_text.specs.Device.{added};
+ghost use Rattle.minelib_text.specs.SinkState.{SinkState, IsStill, IsWritten, IsCutOff};
 
 use thiserror::Error;
 
@@ -12,26 +13,17 @@ pub struct SinkFault;
 
 /// A device that takes one text: a file, or bytes in memory.
 pub trait Sink {
-    // Whether it was begun.
-    ghost is_begun: { Self → Bool };
-    // The bytes that it took since it was begun, where it tells them.
-    ghost taken: { Self → Option (List ℕ) };
-    // How many calls it refused so far.
-    ghost failures: { Self → ℕ };
+    // What it tells of itself.
+    ghost state: { Self → SinkState };
 
-    /// Begins the text: what the sink held is given up.
+    /// Begins the text: what the sink held is given up, and it holds none.
     ///
     /// # Errors
     ///
     /// The device failed. The sink is as it was, or it was begun and is empty.
     fn begin(&mut self) -> Result<(), SinkFault>
-        ensures begins { OnOk result (IsTrue (is_begun self.new)) }
-        ensures empties { OnOk result (taken self.new ≡ holding [] (taken self.old)) }
-        ensures works { OnOk result (failures self.new ≡ failures self.old) }
-        ensures refused { OnErr result
-            (IsAsItWas (is_begun self.old) (is_begun self.new) (taken self.old) (taken self.new)
-            ⊎ IsBegunWithFrontOf [] (is_begun self.new) (taken self.old) (taken self.new)) }
-        ensures fails { OnErr result (failures self.new ≡ failures self.old + 1) };
+        ensures begins { OnOk result (IsWritten [] (state self.old) (state self.new)) }
+        ensures refused { OnErr result (IsCutOff 1 [] (state self.old) (state self.new)) };
 
     /// Takes the first bytes of `bytes`, and answers how many: at least one where there is one.
     ///
@@ -41,9 +33,9 @@ pub trait Sink {
     fn put(&mut self, bytes: &[u8]) -> Result<usize, SinkFault>
         ensures within { IfOk result (λ n. n ≤ length bytes.now) }
         ensures some { IfOk result (λ n. 0 < length bytes.now → 0 < n) }
-        ensures takes { IfOk result (λ n. taken self.new ≡ added (take n bytes.now) (taken self.old)) }
-        ensures works { OnOk result (failures self.new ≡ failures self.old) }
-        ensures refused { OnErr result (taken self.new ≡ taken self.old) }
-        ensures fails { OnErr result (failures self.new ≡ failures self.old + 1) }
-        ensures begun { is_begun self.new ≡ is_begun self.old };
+        ensures takes { IfOk result (λ n. (state self.new).taken ≡ added (take n bytes.now) (state self.old).taken) }
+        ensures works { OnOk result ((state self.new).failures ≡ (state self.old).failures) }
+        ensures refused { OnErr result ((state self.new).taken ≡ (state self.old).taken) }
+        ensures fails { OnErr result ((state self.new).failures ≡ (state self.old).failures + 1) }
+        ensures still { IsStill (state self.old) (state self.new) };
 }

@@ -1,7 +1,8 @@
 //! A whole text to a sink.
 
-ghost use Rattle.std.specs.Prelude.{◌≡◌, ◌+◌, ◌⊎◌, ℕ, List, OnOk, OnErr, IsErrOf, IsTrue};
-ghost use Rattle.minelib_text.specs.Device.{added, holding, IsFront, IsAsItWas, IsBegunWithFrontOf};
+ghost use Rattle.std.specs.Prelude.{◌≡◌, ◌+◌, ℕ, List, IfErr, OnOk, OnErr, IsErrOf};
+ghost use Rattle.minelib_text.specs.Device.{added, IsFront};
+ghost use Rattle.minelib_text.specs.SinkState.{refusals, IsStill, IsWritten, IsCutOff};
 
 use crate::output::{LARGE, flush};
 use crate::sink::Sink;
@@ -19,26 +20,20 @@ pub trait Text {
         sink: &mut S,
         buffer: &mut Vec<u8>,
     ) -> Result<(), WriteFault>
-        ensures written { OnOk result (added buffer.new.items (S.taken sink.new)
-            ≡ added (text self.now) (added buffer.old.items (S.taken sink.old))) }
-        ensures front { OnErr result (IsFront (S.taken sink.new)
-            (added (text self.now) (added buffer.old.items (S.taken sink.old)))) }
-        ensures works { OnOk result (S.failures sink.new ≡ S.failures sink.old) }
-        ensures fails { IsErrOf result WriteFault.SinkFailed → S.failures sink.new ≡ S.failures sink.old + 1 }
-        ensures memory { IsErrOf result WriteFault.OutOfMemory → S.failures sink.new ≡ S.failures sink.old }
-        ensures begun { S.is_begun sink.new ≡ S.is_begun sink.old };
+        ensures written { OnOk result (added buffer.new.items (S.state sink.new).taken
+            ≡ added (text self.now) (added buffer.old.items (S.state sink.old).taken)) }
+        ensures front { OnErr result (IsFront (S.state sink.new).taken
+            (added (text self.now) (added buffer.old.items (S.state sink.old).taken))) }
+        ensures works { OnOk result ((S.state sink.new).failures ≡ (S.state sink.old).failures) }
+        ensures fails { IsErrOf result WriteFault.SinkFailed → (S.state sink.new).failures ≡ (S.state sink.old).failures + 1 }
+        ensures memory { IsErrOf result WriteFault.OutOfMemory → (S.state sink.new).failures ≡ (S.state sink.old).failures }
+        ensures still { IsStill (S.state sink.old) (S.state sink.new) };
 }
 
 /// Begins the sink and writes the text.
 pub fn write_text<S: Sink, T: Text>(alloc: Global, text: &T, sink: &mut S) -> Result<(), WriteFault>
-    ensures begun { OnOk result (IsTrue (S.is_begun sink.new)) }
-    ensures written { OnOk result (S.taken sink.new ≡ holding (T.text text.now) (S.taken sink.old)) }
-    ensures works { OnOk result (S.failures sink.new ≡ S.failures sink.old) }
-    ensures refused { OnErr result
-        (IsAsItWas (S.is_begun sink.old) (S.is_begun sink.new) (S.taken sink.old) (S.taken sink.new)
-        ⊎ IsBegunWithFrontOf (T.text text.now) (S.is_begun sink.new) (S.taken sink.old) (S.taken sink.new)) }
-    ensures fails { IsErrOf result WriteFault.SinkFailed → S.failures sink.new ≡ S.failures sink.old + 1 }
-    ensures memory { IsErrOf result WriteFault.OutOfMemory → S.failures sink.new ≡ S.failures sink.old }
+    ensures written { OnOk result (IsWritten (T.text text.now) (S.state sink.old) (S.state sink.new)) }
+    ensures refused { IfErr result (λ fault. IsCutOff (refusals fault) (T.text text.now) (S.state sink.old) (S.state sink.new)) }
 {
     let mut buffer = Vec::with_capacity(alloc, 2 * LARGE)?;
     sink.begin()?;

@@ -11,5 +11,5 @@ pub returns-clause-front : goal.returns-clause-front
 returns-clause-front g c =
     on_err_weaker c.write_section.result
     (front_same _ _ _ (behind_buffer c.args.buffer.now.items _ (c.args.title.now ++ 10 ∷ []) (text_of (g.L.Section.lines c.args.section.now))
-    (g.S.Sink.taken c.args.sink.now) c.in_ok-put_text.ensures))
+    (g.S.Sink.state c.args.sink.now).taken c.in_ok-put_text.ensures))
     c.write_section.ensures.front
