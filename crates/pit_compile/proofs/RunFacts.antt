@@ -1,9 +1,11 @@
 -- What the two halves of a run say of it.
-use Rattle.std.proofs.Common.{◌≡◌, ℕ, ◌⊎◌, inl, inr, Bool, List, Option, Err, refl}
+use Rattle.std.proofs.Common.{◌≡◌, ℕ, inl, inr, Bool, List, Option, refl, subst}
 use Rattle.pit_model.specs.Plan.{PlanParts}
-use Rattle.pit_compile.specs.Compiled.{IsCompiled, IsNotCompiled, instance_from}
-use Rattle.pit_compile.specs.Run.{IsRefused, IsStopped}
-use Rattle.pit_compile.specs.Sinks.{SinkState, AreCutOff, texts_of}
+use Rattle.pit_compile.specs.Compiled.{IsCompiled, IsNotCompiled}
+use Rattle.pit_compile.specs.Run.{IsRefused}
+use Rattle.pit_compile.specs.Sinks.{AreCutOff, AreCutOffAt, place_of, texts_of}
+use Rattle.minelib_text.specs.SinkState.{SinkState}
+use Rattle.mine_instance.specs.declared.instance.Instance.{Instance}
 use Rattle.pit_compile.specs.declared.compiling.Compiled.{Compiled}
 use Rattle.pit_compile.specs.declared.refusal.Refusal.{Refusal}
 use Rattle.pit_compile.specs.declared.refusal.Refusal.TheVariants.{Settings, NoThread, FeedFailed, TooLong, Row, Same, SinkFailed, OutOfMemory}
@@ -25,9 +27,9 @@ not_compiled plan lefts sures old OutOfMemory h = inl refl
 pub cut_off : (plan : PlanParts) (lefts : List (Option (List ℕ))) (sures : List Bool) (valuers : ℕ) (old new : List SinkState) (c : Compiled) (refusal : Refusal)
     → IsCompiled plan lefts valuers c → AreCutOff (texts_of c.instance) old new refusal → IsRefused plan lefts sures old new refusal
 cut_off plan lefts sures valuers old new c (SinkFailed which) h k =
-    record { texts = h.texts; given = h.given; accepted = h.accepted; cut = rw (← h.instance_is) k }
+    record { texts = h.texts; given = h.given; accepted = h.accepted; cut = subst (λ (i : Instance). AreCutOffAt (place_of which) 1 (texts_of i) old new) h.instance_is k }
 cut_off plan lefts sures valuers old new c OutOfMemory h k =
-    inr (k.0, record { texts = h.texts; given = h.given; accepted = h.accepted; cut = rw (← h.instance_is) (k.1) })
+    inr (k.0, record { texts = h.texts; given = h.given; accepted = h.accepted; cut = subst (λ (i : Instance). AreCutOffAt (k.0) 0 (texts_of i) old new) h.instance_is (k.1) })
 cut_off plan lefts sures valuers old new c (Settings kind) h k = absurd k
 cut_off plan lefts sures valuers old new c NoThread h k = absurd k
 cut_off plan lefts sures valuers old new c (FeedFailed file) h k = absurd k

@@ -3,7 +3,8 @@ use Rattle.std.specs.Prelude.{◌≡◌, ℕ, ◌⊎◌, Bool, List, Option}
 use Rattle.lane.specs.Whole.{Gathering}
 use Rattle.pit_model.specs.Plan.{PlanParts}
 use Rattle.pit_compile.specs.Compiled.{AreGiven, HasPassed, IsFeedFault, IsVerdict, instance_from}
-use Rattle.pit_compile.specs.Sinks.{SinkState, texts_of, place_of, AreWritten, AreCutOffAt}
+use Rattle.minelib_text.specs.SinkState.{SinkState}
+use Rattle.pit_compile.specs.Sinks.{texts_of, place_of, AreWritten, AreCutOffAt}
 use Rattle.pit_compile.specs.Verdict.{IsAccepted}
 use Rattle.pit_compile.specs.declared.refusal.Refusal.{Refusal}
 use Rattle.pit_compile.specs.declared.refusal.Refusal.TheVariants.{Settings, NoThread, FeedFailed, TooLong, Row, Same, SinkFailed, OutOfMemory}

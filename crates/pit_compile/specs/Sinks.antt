@@ -1,6 +1,6 @@
 -- What the five sinks of a run tell, before and after the texts of an instance are written to them in turn.
-use Rattle.std.specs.Prelude.{◌≡◌, ℕ, zero, suc, ◌+◌, ◌⊎◌, Bool, IsTrue, List, [], ◌∷◌, Option, Result, Ok, Err}
-use Rattle.minelib_text.specs.Device.{holding, IsAsItWas, IsBegunWithFrontOf}
+use Rattle.std.specs.Prelude.{◌≡◌, ℕ, zero, suc, List, [], ◌∷◌, Result, Ok, Err}
+use Rattle.minelib_text.specs.SinkState.{SinkState, IsWritten, IsCutOff}
 use Rattle.minelib_text.specs.Written.{text_blocks, text_prec, text_upit, text_pcpsp, text_cpit}
 use Rattle.minelib_text.specs.declared.write_fault.WriteFault.{WriteFault}
 use Rattle.minelib_text.specs.declared.write_fault.WriteFault.TheVariants as write
@@ -12,19 +12,9 @@ use Rattle.pit_compile.specs.declared.refusal.SinkName.{SinkName}
 use Rattle.pit_compile.specs.declared.refusal.SinkName.TheVariants.{Blocks, Prec, Upit, Pcpsp, Cpit}
 use Rattle.pit_compile.specs.declared.sinks.Sinks.{Sinks}
 
--- what a sink tells
-pub record SinkState : Type 0 where
-  pub begun : Bool
-  pub taken : Option (List ℕ)
-  pub failures : ℕ
-
-abbrev pub state_of : {S : Type 0} → (S → Bool) → (S → Option (List ℕ)) → (S → ℕ) → S → SinkState
-state_of is_begun taken failures sink = record { begun = is_begun sink; taken = taken sink; failures = failures sink }
-
 -- what the five sinks tell, in the order of writing
-abbrev pub all_told : {S : Type 0} → (S → Bool) → (S → Option (List ℕ)) → (S → ℕ) → Sinks S → List SinkState
-all_told is_begun taken failures sinks =
-    let state = state_of is_begun taken failures in
+abbrev pub all_told : {S : Type 0} → (S → SinkState) → Sinks S → List SinkState
+all_told state sinks =
     state sinks.blocks ∷ state sinks.prec ∷ state sinks.upit ∷ state sinks.pcpsp ∷ state sinks.cpit ∷ []
 
 -- the five texts of an instance, in the order of writing
@@ -38,17 +28,6 @@ place_of Prec = 1
 place_of Upit = 2
 place_of Pcpsp = 3
 place_of Cpit = 4
-
--- the sink was begun, and the bytes that it took since are the text
-pub record IsWritten (text : List ℕ) (old new : SinkState) : Type 0 where
-  pub begun : IsTrue new.begun
-  pub taken : new.taken ≡ holding text old.taken
-  pub works : new.failures ≡ old.failures
-
--- the sink is as it was, or it was begun and holds the front of the text; and it refused so many calls more
-pub record IsCutOff (more : ℕ) (text : List ℕ) (old new : SinkState) : Type 0 where
-  pub stands : IsAsItWas old.begun new.begun old.taken new.taken ⊎ IsBegunWithFrontOf text new.begun old.taken new.taken
-  pub fails : new.failures ≡ old.failures + more
 
 -- each sink holds its text
 abbrev pub AreWritten : List (List ℕ) → List SinkState → List SinkState → Type 0

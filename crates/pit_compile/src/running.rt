@@ -47,12 +47,22 @@ pub fn run<R: Threads + Wait + Sync, F: Feed + Send + Drop, G: Gate + Sync, S: S
 ) -> Result<Gathered, Refusal>
     ensures settings { (kind : ASettingsFault) → (result ≡ Err (Refusal.Settings kind))
         ↔ IsSettingsFault plan.now (length feeds.items) (formulas_of destinations.now) settings kind }
-    ensures done { let told = all_told S.is_begun S.taken S.failures in
+    ensures done { let told = all_told S.state in
         IfOk result (IsDone plan.now (map F.left feeds.items) settings.valuers (told sinks.old) (told sinks.new)) }
-    ensures refused { let told = all_told S.is_begun S.taken S.failures in
+    ensures refused { let told = all_told S.state in
         IfErr result (IsRefused plan.now (map F.left feeds.items) (map F.is_sure feeds.items) (told sinks.old) (told sinks.new)) }
 {
-    run_limited(rt, alloc, feeds, plan, destinations, settings, MOST_STARTS, gate, sinks)
+    run_limited(
+        rt,
+        alloc,
+        feeds,
+        plan,
+        destinations,
+        settings,
+        MOST_STARTS,
+        gate,
+        sinks,
+    )
 }
 
 /// The same, where at most `starts` threads are started: one more counts as refused.
@@ -69,9 +79,9 @@ pub fn run_limited<R: Threads + Wait + Sync, F: Feed + Send + Drop, G: Gate + Sy
 ) -> Result<Gathered, Refusal>
     ensures settings { (kind : ASettingsFault) → (result ≡ Err (Refusal.Settings kind))
         ↔ IsSettingsFault plan.now (length feeds.items) (formulas_of destinations.now) settings kind }
-    ensures done { let told = all_told S.is_begun S.taken S.failures in
+    ensures done { let told = all_told S.state in
         IfOk result (IsDone plan.now (map F.left feeds.items) settings.valuers (told sinks.old) (told sinks.new)) }
-    ensures refused { let told = all_told S.is_begun S.taken S.failures in
+    ensures refused { let told = all_told S.state in
         IfErr result (IsRefused plan.now (map F.left feeds.items) (map F.is_sure feeds.items) (told sinks.old) (told sinks.new)) }
 {
     let Compiled {

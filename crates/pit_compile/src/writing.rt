@@ -28,15 +28,21 @@ pub fn write_texts<S: Sink>(
 ) -> Result<(), Refusal>
     requires valid { IsValid instance.now }
     requires problem { problem.now ≡ cpit instance.now }
-    ensures written { let told = all_told S.is_begun S.taken S.failures in
+    ensures written { let told = all_told S.state in
         OnOk result (AreWritten (texts_of instance.now) (told sinks.old) (told sinks.new)) }
-    ensures refused { let told = all_told S.is_begun S.taken S.failures in
+    ensures refused { let told = all_told S.state in
         IfErr result (AreCutOff (texts_of instance.now) (told sinks.old) (told sinks.new)) }
 {
-    in_sink(SinkName::Blocks, write_blocks(alloc, instance, &mut sinks.blocks))?;
+    in_sink(
+        SinkName::Blocks,
+        write_blocks(alloc, instance, &mut sinks.blocks),
+    )?;
     in_sink(SinkName::Prec, write_prec(alloc, instance, &mut sinks.prec))?;
     in_sink(SinkName::Upit, write_upit(alloc, instance, &mut sinks.upit))?;
-    in_sink(SinkName::Pcpsp, write_pcpsp(alloc, instance, &mut sinks.pcpsp))?;
+    in_sink(
+        SinkName::Pcpsp,
+        write_pcpsp(alloc, instance, &mut sinks.pcpsp),
+    )?;
     in_sink(SinkName::Cpit, write_cpit(alloc, problem, &mut sinks.cpit))
 }
 
