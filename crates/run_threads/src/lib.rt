@@ -3,6 +3,7 @@
 
 mod handing_over;
 mod read_fault;
+mod reading;
 
 pub use handing_over::{HandOverFault, HandedOver, hand_over};
 pub use read_fault::ReadFault;
