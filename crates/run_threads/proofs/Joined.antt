@@ -1,5 +1,5 @@
 -- What joined threads gave back, by what they promised.
-use Rattle.std.proofs.Common.{◌≡◌, ℕ, zero, suc, ◌+◌, ◌<◌, List, [], ◌∷◌, ◌++◌, Bool, true, false, Option, length, map, drop, get_or, refl, sym, ap, ◌∙◌, subst, arith, All, append_assoc}
+use Rattle.std.proofs.Common.{◌≡◌, ℕ, zero, suc, ◌+◌, List, [], ◌∷◌, ◌++◌, Bool, true, false, Option, length, map, drop, get_or, refl, sym, ap, ◌∙◌, subst, arith, All, append_assoc}
 use Rattle.std.proofs.lemmas.List.{map-append, length-map}
 use Rattle.std.specs.List.{AllZip, list_any}
 use Rattle.std.specs.Prelude.{◌||◌}
@@ -9,7 +9,6 @@ use Rattle.lane.specs.Ends.{Lane, Putting, Taking, ArePutsFrom, AreTakesFrom, fi
 use Rattle.lane.specs.Message.{is_done}
 use Rattle.pit_model.specs.Destinations.{formulas_of_plan}
 use Rattle.pit_model.specs.Plan.{PlanParts}
-use Rattle.pit_model.specs.declared.formula.Formula.{Formula}
 use Rattle.valuers.specs.Valuing.{items_by}
 use Rattle.valuers.specs.declared.valuer.ValuerResult.{ValuerResult}
 use Rattle.run_threads.specs.Promises.{KeepsRead, KeepsValued, AreUnsentFrom, IsPartly}

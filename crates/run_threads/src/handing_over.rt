@@ -4,6 +4,7 @@ ghost use Rattle.std.specs.Prelude.{◌≡◌, ◌+◌, ◌≤◌, length, map, 
 ghost use Rattle.lane.specs.Whole.{IsWhole};
 ghost use Rattle.pit_model.specs.Destinations.{formulas_of_plan, AreOfPlan};
 ghost use Rattle.run_threads.specs.Reading.{AreRead};
+ghost use Rattle.run_threads.specs.declared.handing_over.HandOverFault.TheVariants.{OutOfMemory};
 ghost use Rattle.valuers.specs.Valuing.{items_by};
 
 use crate::opened::open_lane;
@@ -45,7 +46,9 @@ pub enum HandOverFault {
 }
 
 impl From<AllocError> for HandOverFault {
-    fn from(_refused: AllocError) -> HandOverFault {
+    ghost from_gives = { λ _ fault. fault ≡ OutOfMemory };
+
+    fn from(_refusal: AllocError) -> HandOverFault {
         HandOverFault::OutOfMemory
     }
 }

@@ -1,4 +1,4 @@
-use Rattle.std.proofs.Common.{arith, ◌≡◌, ◌∙◌, List, All, true, sym, subst}
+use Rattle.std.proofs.Common.{arith, ◌≡◌, ◌∙◌, All, true, sym, subst}
 use Rattle.lane.specs.Ends.{Taking}
 use Rattle.lane.specs.Message.{is_done}
 use Rattle.run_threads.proofs.Joined.{puts_of, read_of, takes_of, done_of, valued_of}
