@@ -1,7 +1,7 @@
 -- Ends that were handed to threads and came back are those of the lane, in order.
-use Rattle.std.proofs.Common.{◌≡◌, ℕ, suc, ◌+◌, ◌<◌, List, [], ◌∷◌, ◌++◌, length, get_or, Option, Some, None, IfSome, option_to_list, All, ◌∙◌, subst, arith, length-append}
-use Rattle.lane.specs.Ends.{Lane, Putting, Taking, ArePutsFrom, AreTakesFrom}
-use Rattle.lane.proofs.Joining.{puts_count, takes_count}
+use Rattle.std.proofs.Common.{◌≡◌, ℕ, zero, suc, refl, sym, ap, ◌+◌, ◌<◌, List, [], ◌∷◌, ◌++◌, length, get_or, Option, Some, None, IfSome, option_to_list, All, ◌∙◌, arith, length-append}
+use Rattle.std.proofs.lemmas.List.Elements.{All-nil, All-cons}
+use Rattle.lane.specs.Ends.{Lane, Putting, Taking, ArePutsFrom, AreTakesFrom, first_puts, first_takes}
 
 pub puts_back : (lane : Lane) (files k : ℕ) (xs ys : List Putting) → length ys ≡ length xs
     → ((i : ℕ) (d e : Putting) → i < length xs → (get_or ys i d).lane ≡ (get_or xs i e).lane) → ((i : ℕ) (d e : Putting) → i < length xs → (get_or ys i d).file ≡ (get_or xs i e).file)
@@ -21,14 +21,22 @@ takes_back lane takers k (x ∷ xs) [] len l f h = absurd (omega arith)
 takes_back lane takers k (x ∷ xs) (y ∷ ys) len l f h =
     (l 0 y x (omega arith) ∙ h.0, f 0 y x (omega arith) ∙ h.1, takes_back lane takers (k + 1) xs ys (omega arith) (λ i d e b. l (suc i) d e (omega arith)) (λ i d e b. f (suc i) d e (omega arith)) h.2)
 
-pub last_put : (lane : Lane) (items rest : List Putting) (o : Option Putting) → items ≡ rest ++ option_to_list o → ArePutsFrom lane 1 0 items → All (λ (p : Putting). p.sent ≡ []) items
+pub last_put : (lane : Lane) (items rest : List Putting) (o : Option Putting) → items ≡ rest ++ option_to_list o → items ≡ first_puts lane 0 1
     → IfSome o (λ p. (p.lane ≡ lane) × (p.file ≡ 0) × (p.sent ≡ []))
-last_put lane items rest None e h a = tt
-last_put lane items [] (Some p) e h a = let one = subst (ArePutsFrom lane 1 0) e h in (one.0, one.1, subst (All (λ (q : Putting). q.sent ≡ [])) e a 0 p (omega arith))
-last_put lane items (x ∷ rest) (Some p) e h a = absurd (let n : 0 + suc (length (rest ++ p ∷ [])) ≡ 1 = puts_count lane 1 0 (x ∷ (rest ++ p ∷ [])) (subst (ArePutsFrom lane 1 0) e h) in let l = length-append rest (p ∷ []) in let z : ⊥ = omega arith in z)
+last_put lane items rest None e h = tt
+last_put lane items [] (Some p) e h =
+    let same = ap (λ (l : List Putting). get_or l 0 p) (sym e ∙ h) in
+    (ap (λ (q : Putting). q.lane) same, ap (λ (q : Putting). q.file) same, ap (λ (q : Putting). q.sent) same)
+last_put lane items (x ∷ rest) (Some p) e h = absurd (let n = ap (λ (l : List Putting). length l) (sym e ∙ h) in let l = length-append rest (p ∷ []) in let z : ⊥ = omega arith in z)
 
-pub last_take : (lane : Lane) (items rest : List Taking) (o : Option Taking) → items ≡ rest ++ option_to_list o → AreTakesFrom lane 1 0 items → All (λ (t : Taking). t.took ≡ []) items
+pub last_take : (lane : Lane) (items rest : List Taking) (o : Option Taking) → items ≡ rest ++ option_to_list o → items ≡ first_takes lane 0 1
     → IfSome o (λ t. (t.lane ≡ lane) × (t.taker ≡ 0) × (t.took ≡ []))
-last_take lane items rest None e h a = tt
-last_take lane items [] (Some t) e h a = let one = subst (AreTakesFrom lane 1 0) e h in (one.0, one.1, subst (All (λ (q : Taking). q.took ≡ [])) e a 0 t (omega arith))
-last_take lane items (x ∷ rest) (Some t) e h a = absurd (let n : 0 + suc (length (rest ++ t ∷ [])) ≡ 1 = takes_count lane 1 0 (x ∷ (rest ++ t ∷ [])) (subst (AreTakesFrom lane 1 0) e h) in let l = length-append rest (t ∷ []) in let z : ⊥ = omega arith in z)
+last_take lane items rest None e h = tt
+last_take lane items [] (Some t) e h =
+    let same = ap (λ (l : List Taking). get_or l 0 t) (sym e ∙ h) in
+    (ap (λ (q : Taking). q.lane) same, ap (λ (q : Taking). q.taker) same, ap (λ (q : Taking). q.took) same)
+last_take lane items (x ∷ rest) (Some t) e h = absurd (let n = ap (λ (l : List Taking). length l) (sym e ∙ h) in let l = length-append rest (t ∷ []) in let z : ⊥ = omega arith in z)
+
+pub first_puts_unsent : (lane : Lane) (k n : ℕ) → All (λ (p : Putting). p.sent ≡ []) (first_puts lane k n)
+first_puts_unsent lane k zero = All-nil (λ (p : Putting). p.sent ≡ [])
+first_puts_unsent lane k (suc n) = All-cons (λ (p : Putting). p.sent ≡ []) _ _ refl (first_puts_unsent lane (k + 1) n)

@@ -1,13 +1,12 @@
 -- How the lane is counted, opened and given away, part by part.
-use Rattle.std.proofs.Common.{◌≡◌, ℕ, zero, suc, ◌+◌, ◌-◌, ◌<◌, ◌≤◌, List, [], ◌∷◌, ◌++◌, replicate, refl, sym, ap, ◌∙◌, subst, arith, All}
-use Rattle.std.proofs.lemmas.List.Elements.{All-nil, All-cons}
+use Rattle.std.proofs.Common.{◌≡◌, ℕ, zero, suc, ◌+◌, ◌-◌, ◌<◌, ◌≤◌, List, [], ◌∷◌, ◌++◌, replicate, length, refl, sym, ap, ◌∙◌, subst, arith}
 use Rattle.crossbeam_channel.specs.Fifo.{Forks}
 use Rattle.lane.specs.declared.part.Part.{Part}
 use Rattle.lane.specs.declared.part.Part.TheVariants.{Count, Put, Take, Close}
 use Rattle.lane.specs.Rule.{IsLane, put_parts, take_parts, all_parts}
 use Rattle.lane.specs.Views.{more_files, more_takers, more_places, opened_view, without_second, second_alone}
-use Rattle.lane.specs.Ends.{Lane, Putting, Taking, ArePutsFrom, AreTakesFrom}
-use Rattle.lane.specs.Kept.{first_puts, first_takes, puts_left, takes_left}
+use Rattle.lane.specs.Ends.{Lane, ArePutsFrom, AreTakesFrom, first_puts, first_takes}
+use Rattle.lane.specs.Kept.{puts_left, takes_left}
 use Rattle.lane.proofs.Rules.{counts, opens, gives_put, gives_take}
 
 pub counts_file : (pass : ℕ) (v : List Part) (f w c : ℕ) → v ≡ Count f w c ∷ [] → Forks IsLane pass v (more_files v) []
@@ -73,13 +72,13 @@ pub first_takes_are : (lane : Lane) (k n w : ℕ) → k + n ≡ w → AreTakesFr
 first_takes_are lane k zero w e = omega arith
 first_takes_are lane k (suc n) w e = (refl, refl, first_takes_are lane (k + 1) n w (omega arith))
 
-pub first_puts_unsent : (lane : Lane) (k n : ℕ) → All (λ (p : Putting). p.sent ≡ []) (first_puts lane k n)
-first_puts_unsent lane k zero = All-nil (λ (p : Putting). p.sent ≡ [])
-first_puts_unsent lane k (suc n) = All-cons (λ (p : Putting). p.sent ≡ []) _ _ refl (first_puts_unsent lane (k + 1) n)
+pub first_puts_count : (lane : Lane) (k n : ℕ) → length (first_puts lane k n) ≡ n
+first_puts_count lane k zero = refl
+first_puts_count lane k (suc n) = ap suc (first_puts_count lane (k + 1) n)
 
-pub first_takes_untaken : (lane : Lane) (k n : ℕ) → All (λ (t : Taking). t.took ≡ []) (first_takes lane k n)
-first_takes_untaken lane k zero = All-nil (λ (t : Taking). t.took ≡ [])
-first_takes_untaken lane k (suc n) = All-cons (λ (t : Taking). t.took ≡ []) _ _ refl (first_takes_untaken lane (k + 1) n)
+pub first_takes_count : (lane : Lane) (k n : ℕ) → length (first_takes lane k n) ≡ n
+first_takes_count lane k zero = refl
+first_takes_count lane k (suc n) = ap suc (first_takes_count lane (k + 1) n)
 
 pub first_puts_next : (lane : Lane) (n : ℕ) → first_puts lane 0 (n + 1) ≡ first_puts lane 0 n ++ record { lane = lane; file = n; sent = [] } ∷ []
 first_puts_next lane n = ap (first_puts lane 0) (let z : n + 1 ≡ suc n = omega arith in z) ∙ (first_puts_more lane 0 n ∙ ap (λ (i : ℕ). first_puts lane 0 n ++ record { lane = lane; file = i; sent = [] } ∷ []) (let z : 0 + n ≡ n = omega arith in z))

@@ -1,5 +1,5 @@
 -- What contracts see of the ends of a lane.
-use Rattle.std.specs.Prelude.{◌≡◌, ℕ, ◌+◌, List, [], ◌∷◌}
+use Rattle.std.specs.Prelude.{◌≡◌, ℕ, zero, suc, ◌+◌, List, [], ◌∷◌}
 use Rattle.atomic_table.specs.declared.badge.Badge.{Badge}
 use Rattle.atomic_table.specs.Seated.{TableId}
 use Rattle.crossbeam_channel.specs.declared.flavors.array.Key.{Key}
@@ -42,3 +42,13 @@ ArePutsFrom lane files k (p ∷ ps) = (p.lane ≡ lane) × (p.file ≡ k) × Are
 abbrev pub AreTakesFrom : Lane → ℕ → ℕ → List Taking → Type 0
 AreTakesFrom lane takers k [] = k ≡ takers
 AreTakesFrom lane takers k (t ∷ ts) = (t.lane ≡ lane) × (t.taker ≡ k) × AreTakesFrom lane takers (k + 1) ts
+
+-- n put ends of the lane that sent nothing yet, of the files from number k on
+abbrev pub first_puts : Lane → ℕ → ℕ → List Putting
+first_puts lane k zero = []
+first_puts lane k (suc n) = record { lane = lane; file = k; sent = [] } ∷ first_puts lane (k + 1) n
+
+-- n take ends of the lane that took nothing yet, of the takers from number k on
+abbrev pub first_takes : Lane → ℕ → ℕ → List Taking
+first_takes lane k zero = []
+first_takes lane k (suc n) = record { lane = lane; taker = k; took = [] } ∷ first_takes lane (k + 1) n

@@ -1,5 +1,5 @@
 -- What the ends keep, and what holds while a lane is opened and its parts join again. Private contracts cite it.
-use Rattle.std.specs.Prelude.{◌≡◌, ℕ, zero, suc, ◌+◌, ◌-◌, ◌*◌, ◌<◌, ◌≤◌, true, false, List, [], ◌∷◌, ◌++◌, length, map, replicate}
+use Rattle.std.specs.Prelude.{◌≡◌, ℕ, ◌-◌, ◌*◌, ◌<◌, ◌≤◌, true, false, List, [], ◌∷◌, ◌++◌, length, map, replicate}
 use Rattle.std.specs.List.{AllByRecursion, sum_by}
 use Rattle.atomic_table.specs.declared.badge.Badge.{Badge}
 use Rattle.crossbeam_channel.specs.declared.flavors.array.Doing.{Doing}
@@ -14,7 +14,7 @@ use Rattle.lane.specs.Whole.{Gathering, IsWhole}
 use Rattle.lane.specs.Ends.{Lane, Putting, Taking, Closing, Stopping, ArePutsFrom, AreTakesFrom}
 use Rattle.lane.specs.Rule.{put_parts, take_parts}
 use Rattle.lane.specs.Steps.{full_view, IsFull}
-use Rattle.lane.specs.Views.{IsOrdered, capacity_in, sent_in, took_in, sents_in, tooks_in, gathering_in}
+use Rattle.lane.specs.Views.{IsOrdered, capacity_in, sent_in, took_in, sents_in, tooks_in, quits_in, gathering_in}
 
 -- the lane that a pass belongs to
 abbrev pub lane_of : Pass Taken (List Part) → Lane
@@ -35,6 +35,10 @@ closing_of p files takers = record { lane = lane_of p; files = files; takers = t
 
 abbrev pub stopping_of : Pass Taken (List Part) → ℕ → Stopping
 stopping_of p takers = record { lane = lane_of p; takers = takers; sent = sents_in (view p) }
+
+-- the number of Quits that the pass put
+abbrev pub quits_of : Pass Taken (List Part) → ℕ
+quits_of p = quits_in (view p)
 
 abbrev pub gathered_of : Pass Taken (List Part) → Gathering
 gathered_of p = gathering_in (view p)
@@ -108,15 +112,6 @@ pub record IsGathering (files takers capacity : ℕ) (lane : Lane) (sent : List 
   pub takes : AreTakesFrom lane takers (length (tooks_in v)) rest
   pub done : AllByRecursion (λ l. is_done l ≡ true) (tooks_in v)
   pub rest_done : AllByRecursion (λ t. is_done t.took ≡ true) rest
-
--- the first ends of a lane, from file or taker k on, n of them
-abbrev pub first_puts : Lane → ℕ → ℕ → List Putting
-first_puts lane k zero = []
-first_puts lane k (suc n) = record { lane = lane; file = k; sent = [] } ∷ first_puts lane (k + 1) n
-
-abbrev pub first_takes : Lane → ℕ → ℕ → List Taking
-first_takes lane k zero = []
-first_takes lane k (suc n) = record { lane = lane; taker = k; took = [] } ∷ first_takes lane (k + 1) n
 
 -- the closer's view while put ends, and then take ends, are given away: those from number k on are left
 abbrev pub puts_left : ℕ → ℕ → ℕ → ℕ → List Part

@@ -42,7 +42,7 @@ Has part (x ∷ v) = (part ≡ x) ⊎ Has part v
 abbrev pub IsSeated : Size → State → (Role → ℕ) → ℕ → Part → Type 0
 IsSeated n s seat pass part = (role : Role) × IsRole n role × (part ≡ part_of n s role) × (seat role ≡ pass)
 
--- every part stands in exactly one view, that of its seat, and there is nothing else in the views
+-- every part stands at least once in the view of its seat, and in no other, and there is nothing else in the views
 pub record AreSeated (n : Size) (s : State) (seat : Role → ℕ) (views : List (List Part)) : Type 0 where
   pub only : (pass : ℕ) (v : List Part) → get_elem? views pass ≡ some v → AllByRecursion (IsSeated n s seat pass) v
   pub stands : (role : Role) → IsRole n role → (v : List Part) × (get_elem? views (seat role) ≡ some v) × Has (part_of n s role) v

@@ -14,7 +14,7 @@ pub record IsOrdered (took : List Taken) : Type 0 where
   pub ends : EndsClose took
   pub marks : MarksLast took
 
--- what the first part of a view knows: its list, its taker, and the capacity
+-- what the first part of a view knows: its list, the capacity, and the Quits that the closer put
 abbrev pub sent_in : List Part → List Taken
 sent_in [] = []
 sent_in (Count files takers capacity ∷ v) = []
@@ -35,6 +35,13 @@ capacity_in (Count files takers capacity ∷ v) = capacity
 capacity_in (Put file capacity sent ∷ v) = capacity
 capacity_in (Take taker capacity took ∷ v) = capacity
 capacity_in (Close files takers capacity stops quits ∷ v) = capacity
+
+abbrev pub quits_in : List Part → ℕ
+quits_in [] = 0
+quits_in (Count files takers capacity ∷ v) = 0
+quits_in (Put file capacity sent ∷ v) = 0
+quits_in (Take taker capacity took ∷ v) = 0
+quits_in (Close files takers capacity stops quits ∷ v) = quits
 
 -- a take tells that the message joined the taker's list, which is in order
 abbrev pub Takes : List Part → Taken → List Part → Type 0

@@ -75,6 +75,7 @@ impl Closer {
         ensures lane { result.lane ≡ self.lane }
         ensures takers { result.takers ≡ self.takers }
         ensures sent { result.sent ≡ map (λ put. put.sent) puts.items }
+        ensures files { length result.sent ≡ self.files }
     {
         let Closer {
             sender,
@@ -95,8 +96,9 @@ impl Closer {
     }
 
     /// Sends `n` Quit marks, and gives the lane up. It serves where a thread could not be started: each Quit ends one valuer.
-    pub fn quit<R: Wait>(self, rt: &R, n: u8)
+    pub fn quit<R: Wait>(self, rt: &R, n: u8) -> GivenUp
         requires few { n ≤ self.takers }
+        ensures quits { result ≡ n }
     {
         let Closer {
             sender,
@@ -106,7 +108,23 @@ impl Closer {
             takers,
         } = self;
         put_quits(rt, &sender, &mut pass, files, takers, n);
+        GivenUp { pass }
     }
+}
+
+/// A lane that was given up. Contracts see the number of its Quit marks.
+#[derive(Drop)]
+pub struct GivenUp {
+    pass: Seat,
+}
+
+impl Model for GivenUp {
+    ghost use Rattle.std.specs.Prelude.{ℕ};
+    ghost use Rattle.lane.specs.Kept.{quits_of};
+
+    ghost Value = { ℕ };
+
+    ghost view = { λ e. quits_of e.pass };
 }
 
 /// The parts of the ended puts join the closer's. Answers the number of their rows.
@@ -185,6 +203,7 @@ impl Stopped {
         requires done { All (λ take. is_done take.took ≡ true) takes.items }
         ensures sent { result.sent ≡ self.sent }
         ensures took { result.took ≡ map (λ take. take.took) takes.items }
+        ensures takers { length result.took ≡ self.takers }
         ensures whole { IsWhole result }
     {
         let Stopped {

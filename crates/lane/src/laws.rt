@@ -1,7 +1,19 @@
 //! Laws of the lane, for every size, every sequence of events and every state: their functions do nothing, and their contracts
 //! are what is proved.
 
+ghost use Rattle.std.specs.Prelude.{List};
+ghost use Rattle.lane.specs.declared.part.Part.{Part};
+ghost use Rattle.lane.specs.Rule.{IsLane};
 ghost use Rattle.lane.specs.Laws.{RunsStayLawful, LeftIsPrefixOfSent, TakenIsPrefixOfSent, SendIsAnEvent, ReceiveIsAnEvent, MakeIsTheOpening, SplitIsNoEvent, JoinIsNoEvent, LookFindsNothing};
+
+use crate::message::Taken;
+use crate::rule::{Parts, Rule};
+use crossbeam_channel::protocol::Protocol;
+
+/// The rule of the channel that `open` makes: whatever the schedule, what the channel holds and what its passes know is a lawful lane.
+pub fn the_rule_is_kept()
+    ensures { (items : List Taken) (views : List (List Part)) → ⟦<Rule as Protocol<Taken, Parts>>⟧.holds items views → IsLane items views }
+{}
 
 /// From the opening state every sequence of allowed events leaves a lawful state.
 pub fn runs_stay_lawful()

@@ -15,7 +15,7 @@ mod take_end;
 #[cfg(test)]
 mod tests;
 
-pub use closer::{Closer, Stopped};
+pub use closer::{Closer, GivenUp, Stopped};
 pub use gathered::Gathered;
 pub use message::Taken;
 pub use opening::open;

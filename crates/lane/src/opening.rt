@@ -1,13 +1,12 @@
 //! How a lane is opened: the first pass counts its files, takers and places, then has all parts, and gives each end its own.
 
-ghost use Rattle.std.specs.Prelude.{◌≡◌, ◌<◌, ◌≤◌, [], ◌∷◌, IfOk, OnOk};
-ghost use Rattle.std.specs.List.{All};
+ghost use Rattle.std.specs.Prelude.{◌≡◌, ◌<◌, ◌≤◌, [], ◌∷◌, IfOk, OnOk, length, vec_len};
 ghost use Rattle.crossbeam_channel.specs.Claims.{view, IsSeatAt};
 ghost use Rattle.crossbeam_channel.specs.Ends.{sends_on, receives_on, ruled_capacity};
 ghost use Rattle.crossbeam_channel.specs.Fifo.{Forks};
 ghost use Rattle.lane.specs.declared.part.Part.TheVariants.{Count};
-ghost use Rattle.lane.specs.Ends.{ArePutsFrom, AreTakesFrom};
-ghost use Rattle.lane.specs.Kept.{first_puts, first_takes, lane_at, puts_left, takes_left};
+ghost use Rattle.lane.specs.Ends.{ArePutsFrom, AreTakesFrom, first_puts, first_takes};
+ghost use Rattle.lane.specs.Kept.{lane_at, puts_left, takes_left};
 ghost use Rattle.lane.specs.Rule.{IsLane, all_parts};
 ghost use Rattle.lane.specs.Views.{without_second, second_alone};
 
@@ -37,9 +36,13 @@ pub fn open(
     ensures takers { IfOk result (λ ends. ends.0.takers ≡ valuers) }
     ensures capacity { IfOk result (λ ends. ends.0.lane.2 ≡ capacity) }
     ensures puts { IfOk result (λ ends. ArePutsFrom ends.0.lane files 0 ends.1.items) }
-    ensures unsent { IfOk result (λ ends. All (λ put. put.sent ≡ []) ends.1.items) }
+    ensures first_puts { IfOk result (λ ends. ends.1.items ≡ first_puts ends.0.lane 0 files) }
+    ensures put_count { IfOk result (λ ends. length ends.1.items ≡ files) }
+    ensures put_len { IfOk result (λ ends. vec_len ends.1 ≡ files) }
     ensures takes { IfOk result (λ ends. AreTakesFrom ends.0.lane valuers 0 ends.2.items) }
-    ensures untaken { IfOk result (λ ends. All (λ take. take.took ≡ []) ends.2.items) }
+    ensures first_takes { IfOk result (λ ends. ends.2.items ≡ first_takes ends.0.lane 0 valuers) }
+    ensures take_count { IfOk result (λ ends. length ends.2.items ≡ valuers) }
+    ensures take_len { IfOk result (λ ends. vec_len ends.2 ≡ valuers) }
 {
     let (sender, receiver, mut pass) = bounded_with::<Taken, Parts, Rule, Global>(alloc, capacity)?;
     count_files(&sender, &mut pass, files);

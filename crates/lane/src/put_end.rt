@@ -78,6 +78,7 @@ impl PutEnd {
     /// Sends the end mark with the number of rows. Nothing can be sent for the file after it.
     pub fn end<R: Wait>(self, rt: &R) -> EndedPut
         ensures sent { result ≡ record self { sent = self.sent ++ Taken.End self.file (rows_in self.sent) ∷ [] } }
+        ensures places { result ≡ record self { sent = self.sent ++ Taken.End self.file (length self.sent) ∷ [] } }
         ensures ended { IsEndedFrom result.file 0 result.sent }
     {
         let PutEnd {

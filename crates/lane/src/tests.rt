@@ -3,7 +3,7 @@
 ghost use Rattle.std.specs.Prelude.{◌≡◌, ℕ, ◌<◌, ◌≤◌, true, [], IfOk, IfSome, length, slice_index_or};
 ghost use Rattle.std.specs.List.{All};
 ghost use Rattle.lane.specs.Message.{is_done};
-ghost use Rattle.lane.specs.Ends.{Lane, ArePutsFrom, AreTakesFrom};
+ghost use Rattle.lane.specs.Ends.{Lane, AreTakesFrom, first_puts, first_takes};
 
 use super::*;
 use pit_model::block::Block;
@@ -29,8 +29,7 @@ fn block(row: u32) -> Block {
 
 // The one put end of a lane.
 fn only_put(closer: &Closer, mut puts: Vec<PutEnd>) -> Option<PutEnd>
-    requires puts { ArePutsFrom closer.now.lane 1 0 puts.items }
-    requires unsent { All (λ put. put.sent ≡ []) puts.items }
+    requires { puts.items ≡ first_puts closer.now.lane 0 1 }
     ensures { IfSome result (λ put. (put.lane ≡ closer.now.lane) × (put.file ≡ 0) × (put.sent ≡ [])) }
 {
     puts.pop()
@@ -38,8 +37,7 @@ fn only_put(closer: &Closer, mut puts: Vec<PutEnd>) -> Option<PutEnd>
 
 // The one take end of a lane.
 fn only_take(closer: &Closer, mut takes: Vec<TakeEnd>) -> Option<TakeEnd>
-    requires takes { AreTakesFrom closer.now.lane 1 0 takes.items }
-    requires untaken { All (λ take. take.took ≡ []) takes.items }
+    requires { takes.items ≡ first_takes closer.now.lane 0 1 }
     ensures { IfSome result (λ take. (take.lane ≡ closer.now.lane) × (take.taker ≡ 0) × (take.took ≡ [])) }
 {
     takes.pop()
@@ -192,8 +190,7 @@ fn hand_over<R: Threads + Wait + Abort + Sync>(
     let (stopped, taken) = thread::join(
         rt,
         move || -> Result<Stopped, AllocError>
-            requires puts { ArePutsFrom closer.lane closer.files 0 puts.items }
-            requires unsent { All (λ put. put.sent ≡ []) puts.items }
+            requires first { puts.items ≡ first_puts closer.lane 0 closer.files }
             requires few { rows ≤ 1000000 }
             ensures lane { IfOk result (λ stopped. stopped.lane ≡ closer.lane) }
             ensures takers { IfOk result (λ stopped. stopped.takers ≡ closer.takers) }
@@ -227,8 +224,7 @@ fn put_all<R: Threads + Wait + Sync>(
     puts: Vec<PutEnd>,
     rows: u32,
 ) -> Result<Stopped, AllocError>
-    requires puts { ArePutsFrom closer.lane closer.files 0 puts.items }
-    requires unsent { All (λ put. put.sent ≡ []) puts.items }
+    requires first { puts.items ≡ first_puts closer.lane 0 closer.files }
     requires few { rows ≤ 1000000 }
     ensures lane { IfOk result (λ stopped. stopped.lane ≡ closer.lane) }
     ensures takers { IfOk result (λ stopped. stopped.takers ≡ closer.takers) }

@@ -33,4 +33,11 @@ impl Items {
     {
         self.items.as_slice()
     }
+
+    /// The items as a vector, with no copy.
+    pub fn into_vec(self) -> Vec<Item>
+        ensures { result.items ≡ self }
+    {
+        self.items
+    }
 }

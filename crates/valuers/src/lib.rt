@@ -4,11 +4,13 @@
 mod gate;
 mod item;
 mod items;
+mod valuer;
 mod valuing;
 mod worths;
 
 pub use gate::{Gate, OpenGate};
 pub use item::{Item, Valued};
 pub use items::Items;
+pub use valuer::{ValuerResult, value_all};
 pub use valuing::worths_of;
 pub use worths::Worths;

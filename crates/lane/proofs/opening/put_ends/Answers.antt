@@ -1,8 +1,8 @@
 use Rattle.std.proofs.Common.{[], ◌∷◌, ◌++◌, sym, ap, ◌∙◌}
 use Rattle.crossbeam_channel.specs.Ends.{sends_on, ruled_capacity}
 use Rattle.lane.specs.declared.part.Part.TheVariants.{Put}
-use Rattle.lane.specs.Ends.{Putting}
-use Rattle.lane.specs.Kept.{first_puts, lane_at}
+use Rattle.lane.specs.Ends.{Putting, first_puts}
+use Rattle.lane.specs.Kept.{lane_at}
 use Rattle.lane.proofs.Opens.{put_given, first_puts_next}
 use Rattle.lane.proofs.opening.put_ends.Goals as goal
 

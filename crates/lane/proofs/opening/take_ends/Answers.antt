@@ -1,8 +1,8 @@
 use Rattle.std.proofs.Common.{[], ◌∷◌, ◌++◌, sym, ap, ◌∙◌}
 use Rattle.crossbeam_channel.specs.Ends.{sends_on, ruled_capacity}
 use Rattle.lane.specs.declared.part.Part.TheVariants.{Take}
-use Rattle.lane.specs.Ends.{Taking}
-use Rattle.lane.specs.Kept.{first_takes, lane_at}
+use Rattle.lane.specs.Ends.{Taking, first_takes}
+use Rattle.lane.specs.Kept.{lane_at}
 use Rattle.lane.proofs.Opens.{take_given, first_takes_next}
 use Rattle.lane.proofs.opening.take_ends.Goals as goal
 

@@ -1,0 +1,62 @@
+-- One more message of a taker, and what is handed on of it.
+use Rattle.std.proofs.Common.{◌≡◌, ℕ, ◌≤◌, ◌++◌, List, [], ◌∷◌, length, take, drop, refl, arith, ap, sym, ◌∙◌, append_assoc, length-append, length-take}
+use Rattle.std.proofs.Math.Seq.{take-append_seam, take-length}
+use Rattle.std.proofs.lemmas.Bool.{true≢false}
+use Rattle.std.proofs.lemmas.List.{drop-append-le, take-append-le}
+use Rattle.std.specs.Prelude.{Result, Ok, Err, OnOk, OnErr, IsFalse}
+use Rattle.std.specs.Result.{is_err}
+use Rattle.lane.specs.declared.message.Taken.{Taken}
+use Rattle.lane.specs.declared.message.Taken.TheVariants.{Row, End, Stop, Quit}
+use Rattle.pit_model.specs.declared.formula.Formula.{Formula}
+use Rattle.valuers.specs.declared.item.Item.{Item}
+use Rattle.valuers.specs.declared.item.Item.TheVariants as item
+use Rattle.valuers.specs.Valuing.{row_by, items_by}
+
+module _ (first later : List Taken) (m : Taken) (h : later ≡ first ++ drop (length first) later) where
+  pub behind_more : drop (length first) (later ++ m ∷ []) ≡ drop (length first) later ++ m ∷ []
+  behind_more =
+      drop-append-le
+      (length first)
+      later
+      (m ∷ [])
+      (omega (arith, ap length h, length-append first (drop (length first) later)))
+
+  pub took_more : later ++ m ∷ [] ≡ first ++ drop (length first) (later ++ m ∷ [])
+  took_more =
+      ap (λ w. w ++ m ∷ []) h
+      ∙ append_assoc first (drop (length first) later) (m ∷ [])
+      ∙ ap (λ w. first ++ w) (sym behind_more)
+
+pub items_of_both : (formulas : List Formula) (xs ys : List Taken) → items_by formulas (xs ++ ys) ≡ items_by formulas xs ++ items_by formulas ys
+items_of_both formulas [] ys = refl
+items_of_both formulas (Row file place block ∷ xs) ys =
+    ap (λ w. item.Row (row_by formulas file place block) ∷ w) (items_of_both formulas xs ys)
+items_of_both formulas (End file rows ∷ xs) ys = ap (λ w. item.End file rows ∷ w) (items_of_both formulas xs ys)
+items_of_both formulas (Stop ∷ xs) ys = items_of_both formulas xs ys
+items_of_both formulas (Quit ∷ xs) ys = items_of_both formulas xs ys
+
+pub front_more : (front xs ys : List Item) → front ≡ take (length front) xs → front ≡ take (length front) (xs ++ ys)
+front_more front xs ys h =
+    h ∙ sym (take-append-le (length front) xs ys (omega (arith, ap length h, length-take (length front) xs)))
+
+-- what was handed on still is a front, where one more message was taken
+module _ (formulas : List Formula) (first later : List Taken) (m : Taken) (h : later ≡ first ++ drop (length first) later) where
+  pub items_more : items_by formulas (drop (length first) (later ++ m ∷ []))
+      ≡ items_by formulas (drop (length first) later) ++ items_by formulas (m ∷ [])
+  items_more =
+      ap (items_by formulas) (behind_more first later m h) ∙ items_of_both formulas (drop (length first) later) (m ∷ [])
+
+  pub front_stays : (front : List Item) → front ≡ take (length front) (items_by formulas (drop (length first) later))
+      → front ≡ take (length front) (items_by formulas (drop (length first) (later ++ m ∷ [])))
+  front_stays front is =
+      rw items_more (front_more front (items_by formulas (drop (length first) later)) (items_by formulas (m ∷ [])) is)
+
+-- an item was appended or refused: the items are all or still a front of all
+module _ {E : Type 0} (old new more all : List Item) (is : all ≡ old ++ more) where
+  pub all_where_pushed : (r : Result (Unit {0}) E) → OnOk r (new ≡ old ++ more) → IsFalse (is_err r) → new ≡ all
+  all_where_pushed (Ok done) pushed fine = pushed ∙ sym is
+  all_where_pushed (Err fault) pushed fine = absurd (true≢false fine)
+
+  pub front_where_pushed : (r : Result (Unit {0}) E) → OnOk r (new ≡ old ++ more) → OnErr r (new ≡ old) → new ≡ take (length new) all
+  front_where_pushed (Ok done) pushed kept = rw (pushed ∙ sym is) (sym (take-length all))
+  front_where_pushed (Err fault) pushed kept = rw (kept, is) (sym (take-append_seam old more))
