@@ -2,9 +2,11 @@ pub mod Adding
 pub mod Apart
 pub mod Collected
 pub mod Compiles
+pub mod CutOff
 pub mod HandedOn
 pub mod Readers
 pub mod RowFacts
+pub mod RunFacts
 pub mod SameFormulas
 pub mod SentRows
 pub mod SettingsFacts

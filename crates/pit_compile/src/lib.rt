@@ -1,4 +1,4 @@
-//! The run: the zone files of a plan, read and valued by threads, become the instance of the plan, and its five texts.
+//! The run: many zone files, many valuers, one instance and its five texts.
 #![tactic(auto)]
 
 mod collecting;
@@ -7,6 +7,11 @@ mod instance_building;
 mod numbered;
 mod reading;
 pub mod refusal;
+mod running;
 pub mod settings;
+pub mod sinks;
+mod writing;
 
 pub use compiling::{Compiled, compile};
+pub use running::{run, run_limited};
+pub use writing::write_texts;

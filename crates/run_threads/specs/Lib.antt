@@ -1,1 +1,4 @@
 pub mod Reading
+pub mod Sending
+pub mod Promises
+pub mod Ready

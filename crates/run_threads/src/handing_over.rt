@@ -4,13 +4,17 @@ ghost use Rattle.std.specs.Prelude.{◌≡◌, ◌+◌, ◌≤◌, length, map, 
 ghost use Rattle.lane.specs.Whole.{IsWhole};
 ghost use Rattle.pit_model.specs.Destinations.{formulas_of_plan, AreOfPlan};
 ghost use Rattle.run_threads.specs.Reading.{AreRead};
+ghost use Rattle.run_threads.specs.declared.handing_over.HandOverFault.TheVariants.{OutOfMemory};
 ghost use Rattle.valuers.specs.Valuing.{items_by};
 
+use crate::opened::open_lane;
 use crate::read_fault::ReadFault;
+use crate::room::room_for;
+use crate::running::in_scope;
 use lane::Gathered;
 use pit_model::destination::Destination;
 use pit_model::plan::Plan;
-use std::alloc::Global;
+use std::alloc::{AllocError, Global};
 use std::sync::Wait;
 use std::thread::Threads;
 use thiserror::Error;
@@ -41,6 +45,14 @@ pub enum HandOverFault {
     OutOfMemory,
 }
 
+impl From<AllocError> for HandOverFault {
+    ghost from_gives = { λ _ fault. fault ≡ OutOfMemory };
+
+    fn from(_refusal: AllocError) -> HandOverFault {
+        HandOverFault::OutOfMemory
+    }
+}
+
 /// Reads each file in a thread of its own, into a lane from which `valuers` threads take and value the rows. The valuers start first. Every
 /// reader runs to the end of its file or its first fault; nobody is cancelled. At most `starts` threads are started: one more counts as
 /// refused.
@@ -50,15 +62,15 @@ pub enum HandOverFault {
 /// `NoThread` where a start was refused: no further thread was started, and those that were are joined. `OutOfMemory` where memory was
 /// refused before the first start. The feeds are used up.
 pub fn hand_over<R: Threads + Wait + Sync, F: Feed + Send + Drop, G: Gate + Sync>(
-    _rt: &R,
-    _alloc: Global,
+    rt: &R,
+    alloc: Global,
     feeds: Vec<F>,
     plan: &Plan,
     destinations: &[Destination],
     valuers: u8,
     capacity: usize,
     starts: u32,
-    _gate: &G,
+    gate: &G,
 ) -> Result<HandedOver, HandOverFault>
     requires files { length feeds.items ≡ length plan.now.cones }
     requires valuers { (1 ≤ valuers) × (valuers ≤ 64) }
@@ -71,5 +83,22 @@ pub fn hand_over<R: Threads + Wait + Sync, F: Feed + Send + Drop, G: Gate + Sync
     ensures takers { IfOk result (λ handed. length handed.gathered.took ≡ valuers) }
     ensures budget { IfOk result (λ _. valuers + length feeds.items ≤ starts) }
 {
-    Err(HandOverFault::NoThread)
+    let files = plan.cones().len() as u8;
+    let lane = open_lane(alloc, files, valuers, capacity)?;
+    let room = room_for(alloc, files, valuers)?;
+    let for_valuers = Vec::with_capacity(alloc, usize::from(valuers))?;
+    let for_readers = Vec::with_capacity(alloc, usize::from(files))?;
+    in_scope(
+        rt,
+        alloc,
+        lane,
+        feeds,
+        room,
+        for_valuers,
+        for_readers,
+        plan,
+        destinations,
+        gate,
+        starts,
+    )
 }

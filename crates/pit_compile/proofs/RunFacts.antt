@@ -1,0 +1,50 @@
+-- What the two halves of a run say of it.
+use Rattle.std.proofs.Common.{◌≡◌, ℕ, inl, inr, Bool, List, Option, refl, subst}
+use Rattle.pit_model.specs.Plan.{PlanParts}
+use Rattle.pit_compile.specs.Compiled.{IsCompiled, IsNotCompiled}
+use Rattle.pit_compile.specs.Run.{IsRefused}
+use Rattle.pit_compile.specs.Sinks.{AreCutOff, AreCutOffAt, place_of, texts_of}
+use Rattle.minelib_text.specs.SinkState.{SinkState}
+use Rattle.mine_instance.specs.declared.instance.Instance.{Instance}
+use Rattle.pit_compile.specs.declared.compiling.Compiled.{Compiled}
+use Rattle.pit_compile.specs.declared.refusal.Refusal.{Refusal}
+use Rattle.pit_compile.specs.declared.refusal.Refusal.TheVariants.{Settings, NoThread, FeedFailed, TooLong, Row, Same, SinkFailed, OutOfMemory}
+use Rattle.pit_compile.specs.declared.settings.SettingsFault.{SettingsFault}
+
+-- a run that compiles nothing leaves the sinks
+pub not_compiled : (plan : PlanParts) (lefts : List (Option (List ℕ))) (sures : List Bool) (old : List SinkState) (refusal : Refusal)
+    → IsNotCompiled plan lefts sures refusal → IsRefused plan lefts sures old old refusal
+not_compiled plan lefts sures old (Settings kind) h = refl
+not_compiled plan lefts sures old NoThread h = refl
+not_compiled plan lefts sures old (FeedFailed file) h = (h, refl)
+not_compiled plan lefts sures old (TooLong file) h = (h, refl)
+not_compiled plan lefts sures old (Row file fault) h = (h, refl)
+not_compiled plan lefts sures old (Same first again) h = (h, refl)
+not_compiled plan lefts sures old (SinkFailed which) h = absurd h
+not_compiled plan lefts sures old OutOfMemory h = inl refl
+
+-- a run that is refused in writing
+pub cut_off : (plan : PlanParts) (lefts : List (Option (List ℕ))) (sures : List Bool) (valuers : ℕ) (old new : List SinkState) (c : Compiled) (refusal : Refusal)
+    → IsCompiled plan lefts valuers c → AreCutOff (texts_of c.instance) old new refusal → IsRefused plan lefts sures old new refusal
+cut_off plan lefts sures valuers old new c (SinkFailed which) h k =
+    record { texts = h.texts; given = h.given; accepted = h.accepted; cut = subst (λ (i : Instance). AreCutOffAt (place_of which) 1 (texts_of i) old new) h.instance_is k }
+cut_off plan lefts sures valuers old new c OutOfMemory h k =
+    inr (k.0, record { texts = h.texts; given = h.given; accepted = h.accepted; cut = subst (λ (i : Instance). AreCutOffAt (k.0) 0 (texts_of i) old new) h.instance_is (k.1) })
+cut_off plan lefts sures valuers old new c (Settings kind) h k = absurd k
+cut_off plan lefts sures valuers old new c NoThread h k = absurd k
+cut_off plan lefts sures valuers old new c (FeedFailed file) h k = absurd k
+cut_off plan lefts sures valuers old new c (TooLong file) h k = absurd k
+cut_off plan lefts sures valuers old new c (Row file fault) h k = absurd k
+cut_off plan lefts sures valuers old new c (Same first again) h k = absurd k
+
+-- and it is not refused for its settings
+pub cut_is_not_settings : (texts : List (List ℕ)) (old new : List SinkState) (refusal : Refusal) (kind : SettingsFault)
+    → AreCutOff texts old new refusal → refusal ≡ Settings kind → ⊥
+cut_is_not_settings texts old new (SinkFailed which) kind k e = cc
+cut_is_not_settings texts old new OutOfMemory kind k e = cc
+cut_is_not_settings texts old new (Settings other) kind k e = absurd k
+cut_is_not_settings texts old new NoThread kind k e = cc
+cut_is_not_settings texts old new (FeedFailed file) kind k e = cc
+cut_is_not_settings texts old new (TooLong file) kind k e = cc
+cut_is_not_settings texts old new (Row file fault) kind k e = cc
+cut_is_not_settings texts old new (Same first again) kind k e = cc

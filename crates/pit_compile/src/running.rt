@@ -1,0 +1,94 @@
+//! The run: from zone files to the five texts of the instance.
+
+ghost use Rattle.std.specs.Prelude.{◌≡◌, ◌↔◌, Err, length, map, IfErr, IfOk};
+ghost use Rattle.pit_compile.specs.Run.{IsDone, IsRefused};
+ghost use Rattle.pit_compile.specs.Settings.{IsSettingsFault};
+ghost use Rattle.pit_compile.specs.Sinks.{all_told};
+ghost use Rattle.pit_compile.specs.declared.settings.SettingsFault.{SettingsFault as ASettingsFault};
+ghost use Rattle.pit_model.specs.Destinations.{formulas_of};
+
+use crate::compiling::{Compiled, compile};
+use crate::refusal::Refusal;
+use crate::settings::Settings;
+use crate::sinks::Sinks;
+use crate::writing::write_texts;
+use lane::Gathered;
+use minelib_text::sink::Sink;
+use pit_model::destination::Destination;
+use pit_model::plan::Plan;
+use std::alloc::Global;
+use std::sync::Wait;
+use std::thread::Threads;
+use valuers::Gate;
+use zone_csv::feed::Feed;
+
+/// How many threads a run may start: one for each zone file and each valuer, where there are 64 of each.
+const MOST_STARTS: u32 = 128;
+
+/// Reads and values the zone files over threads, builds the instance of the plan and these files, and writes its five texts to the sinks,
+/// which are begun only when all blocks are known to be different. Answers what went through the lane. The feeds are used up.
+///
+/// # Errors
+///
+/// The first that applies of: the least fault of the settings; that memory was refused before the first start; `NoThread`; the answer of
+/// the least file whose reader did not finish; that a valuer was refused memory; the first row that repeats another, or that memory was
+/// refused in collecting or numbering; that memory was refused for the instance; and of each sink in turn, that it failed or that memory
+/// was refused. Up to the instance each sink is as it was. A refusal in writing leaves the sinks before that one with their texts, that one as
+/// it was or begun with the front of its text, and those behind it as they were.
+pub fn run<R: Threads + Wait + Sync, F: Feed + Send + Drop, G: Gate + Sync, S: Sink>(
+    rt: &R,
+    alloc: Global,
+    feeds: Vec<F>,
+    plan: &Plan,
+    destinations: &[Destination],
+    settings: Settings,
+    gate: &G,
+    sinks: &mut Sinks<S>,
+) -> Result<Gathered, Refusal>
+    ensures settings { (kind : ASettingsFault) → (result ≡ Err (Refusal.Settings kind))
+        ↔ IsSettingsFault plan.now (length feeds.items) (formulas_of destinations.now) settings kind }
+    ensures done { let told = all_told S.state in
+        IfOk result (IsDone plan.now (map F.left feeds.items) settings.valuers (told sinks.old) (told sinks.new)) }
+    ensures refused { let told = all_told S.state in
+        IfErr result (IsRefused plan.now (map F.left feeds.items) (map F.is_sure feeds.items) (told sinks.old) (told sinks.new)) }
+{
+    run_limited(
+        rt,
+        alloc,
+        feeds,
+        plan,
+        destinations,
+        settings,
+        MOST_STARTS,
+        gate,
+        sinks,
+    )
+}
+
+/// The same, where at most `starts` threads are started: one more counts as refused.
+pub fn run_limited<R: Threads + Wait + Sync, F: Feed + Send + Drop, G: Gate + Sync, S: Sink>(
+    rt: &R,
+    alloc: Global,
+    feeds: Vec<F>,
+    plan: &Plan,
+    destinations: &[Destination],
+    settings: Settings,
+    starts: u32,
+    gate: &G,
+    sinks: &mut Sinks<S>,
+) -> Result<Gathered, Refusal>
+    ensures settings { (kind : ASettingsFault) → (result ≡ Err (Refusal.Settings kind))
+        ↔ IsSettingsFault plan.now (length feeds.items) (formulas_of destinations.now) settings kind }
+    ensures done { let told = all_told S.state in
+        IfOk result (IsDone plan.now (map F.left feeds.items) settings.valuers (told sinks.old) (told sinks.new)) }
+    ensures refused { let told = all_told S.state in
+        IfErr result (IsRefused plan.now (map F.left feeds.items) (map F.is_sure feeds.items) (told sinks.old) (told sinks.new)) }
+{
+    let Compiled {
+        gathered,
+        instance,
+        cpit,
+    } = compile(rt, alloc, feeds, plan, destinations, settings, starts, gate)?;
+    write_texts(alloc, &instance, &cpit, sinks)?;
+    Ok(gathered)
+}

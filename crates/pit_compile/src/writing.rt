@@ -1,0 +1,58 @@
+//! Writing the five texts of an instance, one sink after the other.
+
+ghost use Rattle.std.specs.Prelude.{◌≡◌, IfErr, OnOk};
+ghost use Rattle.mine_instance.specs.OfCpit.{cpit};
+ghost use Rattle.mine_instance.specs.Valid.{IsValid};
+ghost use Rattle.pit_compile.specs.Sinks.{all_told, in_sink, texts_of, AreCutOff, AreWritten};
+
+use crate::refusal::{Refusal, SinkName};
+use crate::sinks::Sinks;
+use mine_instance::cpit::Cpit;
+use mine_instance::instance::Instance;
+use minelib_text::sink::Sink;
+use minelib_text::write_fault::WriteFault;
+use minelib_text::{write_blocks, write_cpit, write_pcpsp, write_prec, write_upit};
+use std::alloc::Global;
+
+/// Begins the sinks and writes the texts of an instance and its CPIT, one after the other.
+///
+/// # Errors
+///
+/// `SinkFailed` where a sink refused a call, `OutOfMemory` where memory was refused. The sinks before that one hold their texts, it is as it
+/// was or was begun and holds the front of its text, and those behind it are as they were.
+pub fn write_texts<S: Sink>(
+    alloc: Global,
+    instance: &Instance,
+    problem: &Cpit,
+    sinks: &mut Sinks<S>,
+) -> Result<(), Refusal>
+    requires valid { IsValid instance.now }
+    requires problem { problem.now ≡ cpit instance.now }
+    ensures written { let told = all_told S.state in
+        OnOk result (AreWritten (texts_of instance.now) (told sinks.old) (told sinks.new)) }
+    ensures refused { let told = all_told S.state in
+        IfErr result (AreCutOff (texts_of instance.now) (told sinks.old) (told sinks.new)) }
+{
+    in_sink(
+        SinkName::Blocks,
+        write_blocks(alloc, instance, &mut sinks.blocks),
+    )?;
+    in_sink(SinkName::Prec, write_prec(alloc, instance, &mut sinks.prec))?;
+    in_sink(SinkName::Upit, write_upit(alloc, instance, &mut sinks.upit))?;
+    in_sink(
+        SinkName::Pcpsp,
+        write_pcpsp(alloc, instance, &mut sinks.pcpsp),
+    )?;
+    in_sink(SinkName::Cpit, write_cpit(alloc, problem, &mut sinks.cpit))
+}
+
+// What came of writing, as the answer of a run.
+fn in_sink(which: SinkName, written: Result<(), WriteFault>) -> Result<(), Refusal>
+    ensures { result ≡ in_sink which written }
+{
+    match written {
+        Ok(()) => Ok(()),
+        Err(WriteFault::SinkFailed) => Err(Refusal::SinkFailed { which }),
+        Err(WriteFault::OutOfMemory) => Err(Refusal::OutOfMemory),
+    }
+}

@@ -1,0 +1,134 @@
+-- What joined threads gave back, by what they promised.
+use Rattle.std.proofs.Common.{◌≡◌, ℕ, zero, suc, ◌+◌, List, [], ◌∷◌, ◌++◌, Bool, true, false, Option, length, map, drop, get_or, refl, sym, ap, ◌∙◌, subst, arith, All, append_assoc}
+use Rattle.std.proofs.lemmas.List.{map-append, length-map}
+use Rattle.std.specs.List.{AllZip, list_any}
+use Rattle.std.specs.Prelude.{◌||◌}
+use Rattle.std.proofs.lemmas.Bool.{true≢false}
+use Rattle.std.proofs.lemmas.List.Elements.{All-nil, All-cons, All-head, All-rest}
+use Rattle.lane.specs.Ends.{Lane, Putting, Taking, ArePutsFrom, AreTakesFrom, first_puts, first_takes}
+use Rattle.lane.specs.Message.{is_done}
+use Rattle.pit_model.specs.Destinations.{formulas_of_plan}
+use Rattle.pit_model.specs.Plan.{PlanParts}
+use Rattle.valuers.specs.Valuing.{items_by}
+use Rattle.valuers.specs.declared.valuer.ValuerResult.{ValuerResult}
+use Rattle.run_threads.specs.Promises.{KeepsRead, KeepsValued, AreUnsentFrom, IsPartly}
+use Rattle.run_threads.specs.Reading.{AreRead}
+use Rattle.run_threads.specs.declared.reading.FileRead.{FileRead}
+
+map_twice : {X Y Z : Type 0} (f : X → Y) (g : Y → Z) (xs : List X) → map (λ x. g (f x)) xs ≡ map g (map f xs)
+map_twice f g [] = refl
+map_twice f g (x ∷ xs) = ap (λ w. g (f x) ∷ w) (map_twice f g xs)
+
+-- one more item joins those before it, and leaves the rest
+pub map_step : {X Y : Type 0} (f : X → Y) (old : List X) (x : X) (y : Y) (l rest all : List Y) → l ≡ y ∷ rest → f x ≡ y → map f old ++ l ≡ all
+    → map f (old ++ x ∷ []) ++ rest ≡ all
+map_step f old x y l rest all is same h =
+    ap (λ w. w ++ rest) (map-append f old (x ∷ []))
+    ∙ append_assoc (map f old) (f x ∷ []) rest
+    ∙ ap (λ w. map f old ++ w ∷ rest) same
+    ∙ ap (λ w. map f old ++ w) (sym is)
+    ∙ h
+
+pub map_through : {X Y Z : Type 0} (f : X → Y) (g : Y → Z) (xs : List X) (ys : List Y) → map f xs ≡ ys → map (λ x. g (f x)) xs ≡ map g ys
+map_through f g xs ys same = map_twice f g xs ∙ ap (map g) same
+
+pub same_lengths : {X Y Z : Type 0} (f : X → Z) (g : Y → Z) (xs : List X) (ys : List Y) → map f xs ≡ map g ys → length xs ≡ length ys
+same_lengths f g xs ys same = sym (length-map xs f) ∙ ap length same ∙ length-map ys g
+
+pub partly_none : {A B : Type 0} (R : A → B → Type 0) (all rest : List A) (done : List B) → done ≡ [] → all ≡ rest → IsPartly R all done rest
+partly_none R all rest [] none same = same
+partly_none R all rest (y ∷ ys) none same = absurd (let n = ap length none in let z : ⊥ = omega arith in z)
+
+pub partly_more : {A B : Type 0} (R : A → B → Type 0) (all : List A) (done : List B) (x : A) (rest : List A) (y : B)
+    → IsPartly R all done (x ∷ rest) → R x y → IsPartly R all (done ++ y ∷ []) rest
+partly_more R [] [] x rest y same kept = absurd (let n = ap length same in let z : ⊥ = omega arith in z)
+partly_more {A = A} R (a ∷ all) [] x rest y same kept =
+    let P : A → Type 0 = λ w. R w y in
+    (subst P (ap (λ l. get_or l 0 x) (sym same)) kept, ap (drop 1) same)
+partly_more R [] (b ∷ done) x rest y h kept = h
+partly_more R (a ∷ all) (b ∷ done) x rest y h kept = (h.0, partly_more R all done x rest y h.1 kept)
+
+pub partly_all : {A B : Type 0} (R : A → B → Type 0) (all : List A) (done : List B) → IsPartly R all done [] → AllZip R all done
+partly_all R [] [] same = tt
+partly_all R (a ∷ all) [] same = absurd (let n = ap length same in let z : ⊥ = omega arith in z)
+partly_all R [] (b ∷ done) h = h
+partly_all R (a ∷ all) (b ∷ done) h = (h.0, partly_all R all done h.1)
+
+pub first_unsent : (lane : Lane) (k n : ℕ) → AreUnsentFrom k (first_puts lane k n)
+first_unsent lane k zero = tt
+first_unsent lane k (suc n) = (refl, refl, first_unsent lane (k + 1) n)
+
+pub unsent_rest : (k : ℕ) (e : Putting) (l rest : List Putting) → l ≡ e ∷ rest → AreUnsentFrom k l
+    → (e.file ≡ k) × (e.sent ≡ []) × AreUnsentFrom (k + 1) rest
+unsent_rest k e l rest is h = subst (AreUnsentFrom k) is h
+
+left_false : (a b : Bool) → (a || b) ≡ false → a ≡ false
+left_false true b h = h
+left_false false b h = refl
+
+right_false : (a b : Bool) → (a || b) ≡ false → b ≡ false
+right_false true b h = absurd (true≢false h)
+right_false false b h = h
+
+-- the readers of one plan, whatever their handles are
+module _ {H : Type 0} (left : H → Option (List ℕ)) (sure : H → Bool) (plan : H → PlanParts) (end : H → Putting) (p : PlanParts) (lane : Lane) (files : ℕ) where
+  abbrev Kept : H → FileRead → Type 0
+  Kept h r = KeepsRead (plan h).grid (left h) (sure h) (end h) r.ended r.answer
+
+  pub puts_of : (k n : ℕ) → k + n ≡ files → (hs : List H) (rs : List FileRead) → AllZip Kept hs rs → map end hs ≡ first_puts lane k n
+      → ArePutsFrom lane files k (map (λ r. r.ended) rs)
+  puts_of k zero sum [] [] kept ends = omega arith
+  puts_of k (suc n) sum [] [] kept ends = absurd (let l = ap length ends in let z : ⊥ = omega arith in z)
+  puts_of k n sum [] (r ∷ rs) kept ends = absurd kept
+  puts_of k n sum (h ∷ hs) [] kept ends = absurd kept
+  puts_of k zero sum (h ∷ hs) (r ∷ rs) kept ends = absurd (let l = ap length ends in let z : ⊥ = omega arith in z)
+  puts_of k (suc n) sum (h ∷ hs) (r ∷ rs) kept ends =
+      let here = ap (λ l. get_or l 0 (end h)) ends in
+      (kept.0.0 ∙ ap (λ e. e.lane) here, kept.0.1 ∙ ap (λ e. e.file) here, puts_of (k + 1) n (omega arith) hs rs kept.1 (ap (drop 1) ends))
+
+  pub read_of : (k n : ℕ) (hs : List H) (rs : List FileRead) → AllZip Kept hs rs → All (λ h. plan h ≡ p) hs → map end hs ≡ first_puts lane k n
+      → AreRead p.grid k (map left hs) (map sure hs) (map (λ r. r.answer) rs) (map (λ (e : Putting). e.sent) (map (λ r. r.ended) rs))
+  read_of k n [] [] kept plans ends = tt
+  read_of k n [] (r ∷ rs) kept plans ends = absurd kept
+  read_of k n (h ∷ hs) [] kept plans ends = absurd kept
+  read_of k zero (h ∷ hs) (r ∷ rs) kept plans ends = absurd (let l = ap length ends in let z : ⊥ = omega arith in z)
+  read_of k (suc n) (h ∷ hs) (r ∷ rs) kept plans ends =
+      let Same : H → Type 0 = λ w. plan w ≡ p in
+      let number : (end h).file ≡ k = ap (λ l. (get_or l 0 (end h)).file) ends in
+      (rw (number, All-head Same h hs plans) at kept.0.2, read_of (k + 1) n hs rs kept.1 (All-rest Same h hs (h ∷ hs) refl plans) (ap (drop 1) ends))
+
+-- the valuers of one plan
+module _ {H : Type 0} (plan : H → PlanParts) (end : H → Taking) (p : PlanParts) (lane : Lane) (takers : ℕ) where
+  abbrev KeptValues : H → ValuerResult → Type 0
+  KeptValues h r = KeepsValued (formulas_of_plan (plan h)) (end h) r.taker r.items r.memory
+
+  pub takes_of : (k n : ℕ) → k + n ≡ takers → (hs : List H) (rs : List ValuerResult) → AllZip KeptValues hs rs → map end hs ≡ first_takes lane k n
+      → AreTakesFrom lane takers k (map (λ r. r.taker) rs)
+  takes_of k zero sum [] [] kept ends = omega arith
+  takes_of k (suc n) sum [] [] kept ends = absurd (let l = ap length ends in let z : ⊥ = omega arith in z)
+  takes_of k n sum [] (r ∷ rs) kept ends = absurd kept
+  takes_of k n sum (h ∷ hs) [] kept ends = absurd kept
+  takes_of k zero sum (h ∷ hs) (r ∷ rs) kept ends = absurd (let l = ap length ends in let z : ⊥ = omega arith in z)
+  takes_of k (suc n) sum (h ∷ hs) (r ∷ rs) kept ends =
+      let here = ap (λ l. get_or l 0 (end h)) ends in
+      (ap (λ t. t.lane) kept.0.0 ∙ ap (λ e. e.lane) here, ap (λ t. t.taker) kept.0.0 ∙ ap (λ e. e.taker) here, takes_of (k + 1) n (omega arith) hs rs kept.1 (ap (drop 1) ends))
+
+  pub done_of : (hs : List H) (rs : List ValuerResult) → AllZip KeptValues hs rs → All (λ (t : Taking). is_done t.took ≡ true) (map (λ r. r.taker) rs)
+  done_of [] [] kept = All-nil (λ (t : Taking). is_done t.took ≡ true)
+  done_of [] (r ∷ rs) kept = absurd kept
+  done_of (h ∷ hs) [] kept = absurd kept
+  done_of (h ∷ hs) (r ∷ rs) kept =
+      All-cons (λ (t : Taking). is_done t.took ≡ true) r.taker (map (λ r. r.taker) rs) kept.0.1 (done_of hs rs kept.1)
+
+  pub valued_of : (k n : ℕ) (hs : List H) (rs : List ValuerResult) → AllZip KeptValues hs rs → All (λ h. plan h ≡ p) hs → map end hs ≡ first_takes lane k n
+      → list_any (λ r. r.memory) rs ≡ false → map (λ r. r.items) rs ≡ map (items_by (formulas_of_plan p)) (map (λ (t : Taking). t.took) (map (λ r. r.taker) rs))
+  valued_of k n [] [] kept plans ends fine = refl
+  valued_of k n [] (r ∷ rs) kept plans ends fine = absurd kept
+  valued_of k n (h ∷ hs) [] kept plans ends fine = absurd kept
+  valued_of k zero (h ∷ hs) (r ∷ rs) kept plans ends fine = absurd (let l = ap length ends in let z : ⊥ = omega arith in z)
+  valued_of k (suc n) (h ∷ hs) (r ∷ rs) kept plans ends fine =
+      let Same : H → Type 0 = λ w. plan w ≡ p in
+      let fresh : (end h).took ≡ [] = ap (λ l. (get_or l 0 (end h)).took) ends in
+      let here : r.items ≡ items_by (formulas_of_plan p) r.taker.took = rw (fresh, All-head Same h hs plans) at kept.0.2 (left_false r.memory _ fine) in
+      let rest : map (λ r. r.items) rs ≡ map (items_by (formulas_of_plan p)) (map (λ (t : Taking). t.took) (map (λ r. r.taker) rs)) = valued_of (k + 1) n hs rs kept.1 (All-rest Same h hs (h ∷ hs) refl plans) (ap (drop 1) ends) (right_false r.memory _ fine) in
+      ap (λ w. w ∷ map (λ r. r.items) rs) here ∙ ap (λ w. items_by (formulas_of_plan p) r.taker.took ∷ w) rest

@@ -1,0 +1,14 @@
+use Rattle.std.proofs.Common.{◌≡◌}
+use Rattle.zone_csv.specs.Outlook.{blocks_left}
+use Rattle.zone_csv.specs.Zone.{blocks_of, fault_of}
+use Rattle.run_threads.specs.Sending.{IsSending}
+use Rattle.run_threads.proofs.reading.put_blocks.Given as goal
+
+abbrev pub invariant-loop-reader : goal.invariant-loop-reader
+invariant-loop-reader g l =
+    (l.put_end.lane ≡ l.fn.put_end.lane)
+    × (l.put_end.file ≡ l.file)
+    × IsSending l.file (blocks_of l.plan.grid l.file l.fn.text.items) (fault_of l.plan.grid l.file l.fn.text.items) l.put_end.sent l.reader
+
+abbrev pub decreases-loop-reader : goal.decreases-loop-reader
+decreases-loop-reader g l = blocks_left l.reader

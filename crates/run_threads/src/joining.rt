@@ -1,0 +1,76 @@
+//! Joining threads, and parting what they give back.
+
+ghost use Rattle.std.specs.Prelude.{◌≡◌, ◌≤◌, [], map, vec_len, vec_capacity};
+ghost use Rattle.std.specs.List.{AllZip, list_any};
+
+use crate::read_fault::ReadFault;
+use crate::reading::FileRead;
+use lane::{EndedPut, TakeEnd};
+use std::thread::{Promise, PromisedHandle, Threads};
+use valuers::{Items, ValuerResult};
+
+/// Joins each thread, and gives what they gave back, in their order.
+pub fn join_all<R: Threads, T: Drop, P: Promise<T>>(
+    rt: &R,
+    handles: Vec<PromisedHandle<T, P>>,
+    mut results: Vec<T>,
+) -> Vec<T>
+    requires empty { results.items ≡ [] }
+    requires room { vec_len handles ≤ vec_capacity results }
+    ensures kept { AllZip (λ h r. P.kept_by h.promise r) handles.items result.items }
+    ensures count { vec_len result ≡ vec_len handles }
+{
+    for handle in handles {
+        results.push(handle.join(rt)).unwrap();
+    }
+    results
+}
+
+/// The ended puts of files that were read, and the readers' answers.
+pub fn split_reads(
+    reads: Vec<FileRead>,
+    mut ended: Vec<EndedPut>,
+    mut answers: Vec<Result<(), ReadFault>>,
+) -> (Vec<EndedPut>, Vec<Result<(), ReadFault>>)
+    requires empty { ended.items ≡ [] }
+    requires no_answers { answers.items ≡ [] }
+    requires room { vec_len reads ≤ vec_capacity ended }
+    requires room_for_answers { vec_len reads ≤ vec_capacity answers }
+    ensures ended { result.0.items ≡ map (λ read. read.ended) reads.items }
+    ensures answers { result.1.items ≡ map (λ read. read.answer) reads.items }
+{
+    for read in reads {
+        let FileRead { ended: end, answer } = read;
+        ended.push(end).unwrap();
+        answers.push(answer).unwrap();
+    }
+    (ended, answers)
+}
+
+/// The take ends of valuers and what they hand on, and whether memory was refused to one of them.
+pub fn split_values(
+    values: Vec<ValuerResult>,
+    mut takers: Vec<TakeEnd>,
+    mut items: Vec<Items>,
+) -> (Vec<TakeEnd>, Vec<Items>, bool)
+    requires empty { takers.items ≡ [] }
+    requires no_items { items.items ≡ [] }
+    requires room { vec_len values ≤ vec_capacity takers }
+    requires room_for_items { vec_len values ≤ vec_capacity items }
+    ensures takers { result.0.items ≡ map (λ value. value.taker) values.items }
+    ensures items { result.1.items ≡ map (λ value. value.items) values.items }
+    ensures memory { result.2 ≡ list_any (λ value. value.memory) values.items }
+{
+    let mut refused = false;
+    for value in values {
+        let ValuerResult {
+            taker,
+            items: handed_on,
+            memory,
+        } = value;
+        takers.push(taker).unwrap();
+        items.push(handed_on).unwrap();
+        refused = refused || memory;
+    }
+    (takers, items, refused)
+}

@@ -1,0 +1,41 @@
+//! What the threads of a run promise of what they give back.
+
+use crate::reading::FileRead;
+use lane::{PutEnd, TakeEnd};
+use pit_model::plan::Plan;
+use std::snapshot::Snapshot;
+use std::thread::{Promise, PromisedHandle};
+use valuers::ValuerResult;
+use zone_csv::feed::Feed;
+
+/// A reader reads this feed, as a zone file of this plan, into this put end.
+#[derive(Drop)]
+pub struct ReadBy<F> {
+    pub feed: Snapshot<F>,
+    pub plan: Snapshot<Plan>,
+    pub end: Snapshot<PutEnd>,
+}
+
+impl<F: Feed> Promise<FileRead> for ReadBy<F> {
+    ghost use Rattle.run_threads.specs.Promises.{KeepsRead};
+
+    ghost kept_by = { λ p r. KeepsRead p.plan.value.grid (F.left p.feed.value) (F.is_sure p.feed.value) p.end.value r.ended r.answer };
+}
+
+/// A valuer takes from this end, and values by the formulas of this plan.
+#[derive(Drop)]
+pub struct ValuedBy {
+    pub plan: Snapshot<Plan>,
+    pub end: Snapshot<TakeEnd>,
+}
+
+impl Promise<ValuerResult> for ValuedBy {
+    ghost use Rattle.pit_model.specs.Destinations.{formulas_of_plan};
+    ghost use Rattle.run_threads.specs.Promises.{KeepsValued};
+
+    ghost kept_by = { λ p r. KeepsValued (formulas_of_plan p.plan.value) p.end.value r.taker r.items r.memory };
+}
+
+pub type ReaderHandle<F> = PromisedHandle<FileRead, ReadBy<F>>;
+
+pub type ValuerHandle = PromisedHandle<ValuerResult, ValuedBy>;

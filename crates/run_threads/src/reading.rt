@@ -1,0 +1,125 @@
+//! A zone file's reader, which puts the file's rows into the lane.
+
+ghost use Rattle.std.specs.Prelude.{◌≡◌, ◌+◌, ◌<◌, ◌≤◌, ◌++◌, [], ◌∷◌, length, vec_len, IfOk, IfErr, IfSome};
+ghost use Rattle.run_threads.specs.Reading.{most_bytes, IsRead};
+ghost use Rattle.run_threads.specs.Sending.{IsUnread, HasPut, TellsNext};
+ghost use Rattle.zone_csv.specs.Outlook.{blocks_left};
+ghost use Rattle.zone_csv.specs.Zone.{blocks_of, fault_of};
+
+use crate::read_fault::ReadFault;
+use lane::{EndedPut, PutEnd, Taken};
+use pit_model::block::Block;
+use pit_model::plan::Plan;
+use std::alloc::Global;
+use std::sync::Wait;
+use valuers::Gate;
+use zone_csv::feed::Feed;
+use zone_csv::slurp::{SlurpFault, slurp};
+use zone_csv::zone_fault::ZoneFault;
+use zone_csv::zone_reader::ZoneReader;
+
+/// The most bytes that a zone file may have: 256 MiB.
+const MOST_BYTES: u64 = 268_435_456;
+
+/// What a file's reader gives back.
+#[derive(Drop)]
+pub struct FileRead {
+    /// The file's put end, behind its end mark.
+    pub ended: EndedPut,
+    /// Whether the file was read to its end.
+    pub answer: Result<(), ReadFault>,
+}
+
+/// Reads the zone file that `feed` gives whole, tells `gate` before the first pull, and puts a row for each block of the file into the
+/// lane, in their order. After the last one, or after a fault, it always puts the file's end mark. `file` is the number of the file and of
+/// its zone in `plan`, from 0. The answer tells why the file was not read to its end: on `Row` the blocks before the faulty row were put.
+pub fn read_file<R: Wait, F: Feed + Drop, G: Gate>(
+    rt: &R,
+    alloc: Global,
+    mut feed: F,
+    plan: &Plan,
+    file: u8,
+    mut put_end: PutEnd,
+    gate: &G,
+) -> FileRead
+    requires zone { file < length plan.now.cones }
+    requires file { put_end.file ≡ file }
+    requires unsent { put_end.sent ≡ [] }
+    ensures end { (result.ended.lane ≡ put_end.lane) × (result.ended.file ≡ file) }
+    ensures read { IsRead plan.now.grid file (F.left feed) (F.is_sure feed) result.answer result.ended.sent }
+{
+    let answer = put_file(rt, alloc, &mut feed, plan, file, &mut put_end, gate);
+    FileRead {
+        ended: put_end.end(rt),
+        answer,
+    }
+}
+
+// Puts the rows of the feed's zone file, and no end mark.
+fn put_file<R: Wait, F: Feed, G: Gate>(
+    rt: &R,
+    alloc: Global,
+    feed: &mut F,
+    plan: &Plan,
+    file: u8,
+    put_end: &mut PutEnd,
+    gate: &G,
+) -> Result<(), ReadFault>
+    requires zone { file < length plan.now.cones }
+    requires file { put_end.old.file ≡ file }
+    requires unsent { put_end.old.sent ≡ [] }
+    ensures end { (put_end.new.lane ≡ put_end.old.lane) × (put_end.new.file ≡ file) }
+    ensures read { IsRead plan.now.grid file (F.left feed.old) (F.is_sure feed.old) result
+        (put_end.new.sent ++ Taken.End file (length put_end.new.sent) ∷ []) }
+{
+    gate.reader(rt, file);
+    let text = slurped(alloc, feed)?;
+    put_blocks(rt, alloc, text, plan, file, put_end)
+}
+
+// The bytes of a zone file.
+fn slurped<F: Feed>(alloc: Global, feed: &mut F) -> Result<Vec<u8>, ReadFault>
+    ensures whole { IfOk result (λ text. IfSome (F.left feed.old) (λ bytes. text.items ≡ bytes)) }
+    ensures short { IfOk result (λ text. vec_len text ≤ most_bytes) }
+    ensures fault { IfErr result (λ fault. IsUnread (F.left feed.old) (F.is_sure feed.old) fault) }
+{
+    match slurp(alloc, feed, MOST_BYTES) {
+        Ok(text) => Ok(text),
+        Err(SlurpFault::FeedFailed) => Err(ReadFault::FeedFailed),
+        Err(SlurpFault::TooLong) => Err(ReadFault::TooLong),
+        Err(SlurpFault::OutOfMemory) => Err(ReadFault::OutOfMemory),
+    }
+}
+
+// Puts a row for each block of the text, up to its end or its first fault.
+fn put_blocks<R: Wait>(
+    rt: &R,
+    alloc: Global,
+    text: Vec<u8>,
+    plan: &Plan,
+    file: u8,
+    put_end: &mut PutEnd,
+) -> Result<(), ReadFault>
+    requires zone { file < length plan.now.cones }
+    requires file { put_end.old.file ≡ file }
+    requires unsent { put_end.old.sent ≡ [] }
+    ensures end { (put_end.new.lane ≡ put_end.old.lane) × (put_end.new.file ≡ file) }
+    ensures put { HasPut file (blocks_of plan.now.grid file text.items) (fault_of plan.now.grid file text.items) result put_end.new.sent }
+{
+    let mut reader = ZoneReader::new(alloc, text, plan, file);
+    while let Some(block) = next_block(&mut reader)? {
+        put_end.row(rt, block);
+    }
+    Ok(())
+}
+
+fn next_block(reader: &mut ZoneReader) -> Result<Option<Block>, ReadFault>
+    ensures tells { TellsNext reader.old result reader.new }
+    ensures fewer { IfOk result (λ found. IfSome found (λ _. blocks_left reader.new + 1 ≡ blocks_left reader.old)) }
+{
+    match reader.next() {
+        Ok(found) => Ok(found),
+        Err(ZoneFault::Row(fault)) => Err(ReadFault::Row(fault)),
+        Err(ZoneFault::OutOfMemory) => Err(ReadFault::OutOfMemory),
+    }
+}
