@@ -1,7 +1,8 @@
 //! How a run is to be made, and whether that fits its plan.
 
-ghost use Rattle.std.specs.Prelude.{◌≡◌, ◌↔◌, IsTrue, IfErr, OnOk, length, map};
+ghost use Rattle.std.specs.Prelude.{◌≡◌, ◌↔◌, Err, IsTrue, IfErr, OnOk, length, map};
 ghost use Rattle.pit_compile.specs.Settings.{IsSettingsFault, Suits};
+ghost use Rattle.pit_compile.specs.declared.settings.SettingsFault.{SettingsFault as ASettingsFault};
 ghost use Rattle.pit_model.specs.Destinations.{formulas_of, formulas_of_plan};
 
 use pit_model::destination::Destination;
@@ -42,7 +43,20 @@ pub enum SettingsFault {
 }
 
 /// Fails with the least kind of fault that the settings have, for so many zone files.
-pub(crate) fn require_settings(
+pub fn require_settings(
+    files: usize,
+    plan: &Plan,
+    destinations: &[Destination],
+    settings: Settings,
+) -> Result<(), SettingsFault>
+    ensures fit { OnOk result (Suits plan.now files (formulas_of destinations.now) settings) }
+    ensures exact { (kind : ASettingsFault) → (result ≡ Err kind) ↔ IsSettingsFault plan.now files (formulas_of destinations.now) settings kind }
+{
+    suits(files, plan, destinations, settings)
+}
+
+// The same, and why it fails.
+fn suits(
     files: usize,
     plan: &Plan,
     destinations: &[Destination],
