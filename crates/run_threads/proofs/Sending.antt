@@ -1,15 +1,12 @@
 -- How a reader goes through its zone file, block by block, and what it then did with the file.
-use Rattle.std.proofs.Common.{◌≡◌, ℕ, ◌+◌, ◌≤◌, Bool, List, [], ◌∷◌, ◌++◌, length, Option, Some, None, IfSome, Result, Ok, Err, refl, ap, ◌∙◌, arith, append_assoc, length-append}
+use Rattle.std.proofs.Common.{◌≡◌, ℕ, ◌+◌, ◌≤◌, List, [], ◌∷◌, ◌++◌, length, Option, Some, None, Ok, Err, ap, ◌∙◌, arith, append_assoc, length-append}
 use Rattle.lane.specs.Message.{sent_from}
 use Rattle.lane.specs.declared.message.Taken.{Taken}
 use Rattle.lane.specs.declared.message.Taken.TheVariants as message
 use Rattle.pit_model.specs.declared.block.Block.{Block}
-use Rattle.pit_model.specs.declared.grid.Grid.{Grid}
-use Rattle.zone_csv.specs.Outlook.{Outlook, Says}
-use Rattle.zone_csv.specs.Zone.{blocks_of, fault_of}
+use Rattle.zone_csv.specs.Outlook.{Outlook}
 use Rattle.zone_csv.specs.declared.row_fault.RowFault.{RowFault}
-use Rattle.run_threads.specs.Reading.{most_bytes, IsRead}
-use Rattle.run_threads.specs.Sending.{IsUnread, IsNext, TellsNext, IsSending, IsAllBut, HasPut}
+use Rattle.run_threads.specs.Sending.{IsNext, TellsNext, IsSending, IsAllBut, HasPut}
 use Rattle.run_threads.specs.declared.read_fault.ReadFault.{ReadFault}
 use Rattle.run_threads.specs.declared.read_fault.ReadFault.TheVariants.{FeedFailed, TooLong, Row, OutOfMemory}
 

@@ -1,7 +1,6 @@
 use Rattle.std.proofs.Common.{◌≡◌, ◌++◌, [], ◌∷◌, length, sym, ap, ◌∙◌, subst}
 use Rattle.std.proofs.lemmas.Result.{err_from_is_err_and}
 use Rattle.lane.specs.Ends.{Putting}
-use Rattle.lane.specs.declared.message.Taken.{Taken}
 use Rattle.lane.specs.declared.message.Taken.TheVariants.{Row}
 use Rattle.zone_csv.specs.Zone.{blocks_of, fault_of}
 use Rattle.run_threads.specs.Sending.{IsSending}
