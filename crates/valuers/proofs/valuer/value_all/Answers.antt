@@ -1,4 +1,4 @@
-use Rattle.std.proofs.Common.{rules, arith, ap, ◌∙◌, ◌++◌, [], ◌∷◌, refl, ◌≡◌, List, drop, length}
+use Rattle.std.proofs.Common.{rules, ap, ◌∙◌, ◌++◌, [], ◌∷◌, ◌≡◌, drop, length}
 use Rattle.pit_model.specs.Destinations.{formulas_of}
 use Rattle.valuers.specs.Valuing.{items_by}
 use Rattle.valuers.proofs.Taking.{took_more, front_stays, items_more, all_where_pushed, front_where_pushed}
