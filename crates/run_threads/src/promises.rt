@@ -36,6 +36,8 @@ impl Promise<ValuerResult> for ValuedBy {
     ghost kept_by = { λ p r. KeepsValued (formulas_of_plan p.plan.value) p.end.value r.taker r.items r.memory };
 }
 
+/// The thread of a file's reader.
 pub type ReaderHandle<F> = PromisedHandle<FileRead, ReadBy<F>>;
 
+/// The thread of a valuer.
 pub type ValuerHandle = PromisedHandle<ValuerResult, ValuedBy>;

@@ -19,7 +19,8 @@ use std::sync::Wait;
 use std::thread::{Promise, PromisedHandle, Threads};
 use zone_csv::feed::Feed;
 
-/// Joins the readers, stops the lane, joins the valuers, and gathers what they hand over.
+/// Joins the readers, stops the lane, joins the valuers, and gathers what they hand over. Of `_plan`, which is the plan of them all, only
+/// the contract speaks.
 pub fn settle<R: Threads + Wait, F: Feed>(
     rt: &R,
     closer: Closer,

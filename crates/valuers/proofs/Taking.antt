@@ -1,5 +1,5 @@
 -- One more message of a taker, and what is handed on of it.
-use Rattle.std.proofs.Common.{◌≡◌, ℕ, ◌≤◌, ◌++◌, List, [], ◌∷◌, length, take, drop, refl, arith, ap, sym, ◌∙◌, append_assoc, length-append, length-take}
+use Rattle.std.proofs.Common.{◌≡◌, ◌++◌, List, [], ◌∷◌, length, take, drop, refl, arith, ap, sym, ◌∙◌, append_assoc, length-append, length-take}
 use Rattle.std.proofs.Math.Seq.{take-append_seam, take-length}
 use Rattle.std.proofs.lemmas.Bool.{true≢false}
 use Rattle.std.proofs.lemmas.List.{drop-append-le, take-append-le}

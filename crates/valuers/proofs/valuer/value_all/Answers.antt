@@ -1,4 +1,4 @@
-use Rattle.std.proofs.Common.{rules, arith, ap, ◌∙◌, ◌++◌, [], ◌∷◌, refl, ◌≡◌, List, drop, length}
+use Rattle.std.proofs.Common.{rules, ◌++◌, [], ◌∷◌, ◌≡◌, drop, length}
 use Rattle.pit_model.specs.Destinations.{formulas_of}
 use Rattle.valuers.specs.Valuing.{items_by}
 use Rattle.valuers.proofs.Taking.{took_more, front_stays, items_more, all_where_pushed, front_where_pushed}
@@ -11,8 +11,8 @@ loop-preserved-then-not-memory g c =
     let all = items_by (formulas_of c.args.destinations.now) (drop (length c.args.take_end.took) c.take-message.new.self.took) in
     let is : all ≡ c.loop.items.items ++ items_by (formulas_of c.args.destinations.now) (c.take-message.result ∷ []) = rw (now, was.items (search rules)) (items_more (formulas_of c.args.destinations.now) c.args.take_end.took c.loop.take_end.took c.take-message.result was.took) in
     record {
-      lane = ap (λ e. e.lane) now ∙ was.lane;
-      taker = ap (λ e. e.taker) now ∙ was.taker;
+      lane = rw now was.lane;
+      taker = rw now was.taker;
       took = rw now (took_more c.args.take_end.took c.loop.take_end.took c.take-message.result was.took);
       items = λ fine. all_where_pushed c.loop.items.items c.push_item.new.items.items (items_by (formulas_of c.args.destinations.now) (c.take-message.result ∷ [])) all is c.push_item.result c.push_item.ensures.pushed (rw c.is_err-memory.ensures.value at fine);
       front = front_where_pushed c.loop.items.items c.push_item.new.items.items (items_by (formulas_of c.args.destinations.now) (c.take-message.result ∷ [])) all is c.push_item.result c.push_item.ensures.pushed c.push_item.ensures.kept;
@@ -23,8 +23,8 @@ loop-preserved g c =
     let was = c.loop.invariant in
     let now = c.take-message.ensures.took in
     record {
-      lane = ap (λ e. e.lane) now ∙ was.lane;
-      taker = ap (λ e. e.taker) now ∙ was.taker;
+      lane = rw now was.lane;
+      taker = rw now was.taker;
       took = rw now (took_more c.args.take_end.took c.loop.take_end.took c.take-message.result was.took);
       items = search rules;
       front = rw now (front_stays (formulas_of c.args.destinations.now) c.args.take_end.took c.loop.take_end.took c.take-message.result was.took c.loop.items.items was.front);
