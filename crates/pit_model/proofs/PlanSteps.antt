@@ -4,7 +4,7 @@ use Rattle.std.proofs.lemmas.Bool.Decides.{nat_tests}
 use Rattle.pit_model.specs.Cells.{cells_of}
 use Rattle.pit_model.specs.Plan.{PlanParts}
 use Rattle.pit_model.specs.Planned.{Draft, plan_from, admit, finished, at_record, ◌>>=◌}
-use Rattle.pit_model.specs.Records.{Ahead, Rows, GaveUp, TakesRow}
+use Rattle.pit_model.specs.Records.{Ahead, Rows, Over, GaveUp, TakesRow}
 use Rattle.pit_model.specs.declared.plan_fault.PlanFault.{PlanFault}
 use Rattle.pit_model.specs.declared.plan_fault.PlanFaultKind.{PlanFaultKind}
 use Rattle.pit_model.specs.declared.plan_fault.PlanFaultKind.TheVariants.{TooMany}
@@ -12,6 +12,7 @@ use Rattle.pit_model.specs.declared.plan_fault.PlanFaultKind.TheVariants.{TooMan
 -- the records ahead, after those of the draft, state this plan
 abbrev pub Leads : Ahead → ℕ → Draft → Result PlanParts PlanFault → Type 0
 Leads (Rows rows) n d stated = plan_from rows n d ≡ stated
+Leads Over n d stated = ⊥
 Leads GaveUp n d stated = ⊥
 
 -- a record was taken: it and those ahead now are those that were ahead
@@ -20,12 +21,14 @@ took : (E : Type 0) (old : Ahead) (fields : List (List ℕ)) (after : Ahead) (n 
     → (rest : List (List (List ℕ))) × ((after ≡ Rows rest) × (plan_from (fields ∷ rest) n d ≡ stated))
 took E (Rows []) fields after n d stated t h = absurd (cc (t.0))
 took E (Rows (row ∷ rows)) fields after n d stated t h = (rows, (t.2, ap (λ f. plan_from (f ∷ rows) n d) t.1 ∙ h))
+took E Over fields after n d stated t h = absurd h
 took E GaveUp fields after n d stated t h = absurd t
 
 pub ended : (E : Type 0) (old : Ahead) (fields : List (List ℕ)) (after : Ahead) (n : ℕ) (d : Draft) (stated : Result PlanParts PlanFault)
     → TakesRow {E = E} old (Ok false) fields after → Leads old n d stated → at_record n (finished d) ≡ stated
 ended E (Rows []) fields after n d stated t h = h
 ended E (Rows (row ∷ rows)) fields after n d stated t h = absurd (cc (t.0))
+ended E Over fields after n d stated t h = absurd h
 ended E GaveUp fields after n d stated t h = absurd t
 
 pub too_many : (E : Type 0) (old : Ahead) (fields : List (List ℕ)) (after : Ahead) (n : ℕ) (d : Draft) (stated : Result PlanParts PlanFault)

@@ -1,5 +1,7 @@
 -- What contracts see of destinations: their formulas.
 use Rattle.std.specs.Prelude.{◌≡◌, List, map}
+use Rattle.std.specs.declared.alloc.Global.{Global}
+use Rattle.std.specs.declared.dyn_box.DynBox.{DynBox}
 use Rattle.pit_model.specs.Plan.{PlanParts}
 use Rattle.pit_model.specs.declared.destination.Destination.{Destination}
 use Rattle.pit_model.specs.declared.formula.Formula.{Formula}
@@ -8,7 +10,11 @@ use Rattle.pit_model.specs.declared.formula.Formula.{Formula}
 abbrev pub formula_of : {I : _} {F : _} {g : _} → Destination I F g → Formula
 formula_of d = d.formula
 
--- those of a list of destinations, in its order
+-- the closure that it asks
+abbrev pub valuer_of : {I : _} {F : _} {g : _} → Destination I F g → DynBox I Global F
+valuer_of d = d.valuer
+
+-- the formulas of a list of destinations, in its order
 abbrev pub formulas_of : {I : _} {F : _} {g : _} → List (Destination I F g) → List Formula
 formulas_of destinations = map formula_of destinations
 

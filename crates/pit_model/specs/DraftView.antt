@@ -1,7 +1,7 @@
 -- How the fields of a plan that is being read are seen, and what they keep.
 use Rattle.std.specs.Prelude.{◌<◌, ◌≤◌, ◌^◌, [], length, ◌≤ℤ◌, pos, All, IfSome, unwrap_or}
 use Rattle.pit_model.specs.declared.draft.Draft.TheInside.{Inside}
-use Rattle.pit_model.specs.Plan.{IsGrid, IsCone, IsRuled, IsBound, RiseStrictly}
+use Rattle.pit_model.specs.Plan.{IsGrid, IsCone, IsRuled, IsBound, AreCovers, RiseStrictly}
 use Rattle.pit_model.specs.Planned.{Draft}
 
 abbrev pub draft_of : Inside → Draft
@@ -27,5 +27,6 @@ pub record KeepsDraft (d : Inside) : Type 0 where
   pub rate : IfSome d.rate (λ r. (pos 0 ≤ℤ r) × (r ≤ℤ pos (10 ^ 6)))
   pub resources : length d.resources.items ≤ 8
   pub covers : All (λ r. All (λ n. n < length d.formulas.items) r.covers) d.resources.items
+  pub covers_once : All (λ r. AreCovers r.covers) d.resources.items
   pub limits : All (λ l. (l.resource < length d.resources.items) × (l.period < unwrap_or d.periods 0) × IsBound l.bound) d.limits.items
   pub rising : RiseStrictly d.limits.items

@@ -1,5 +1,6 @@
 -- What a plan is: its parts, and the facts that every plan keeps.
-use Rattle.std.specs.Prelude.{◌≡◌, ℕ, ◌<◌, ◌≤◌, ◌^◌, List, [], ◌∷◌, length, ℤ, pos, negsuc, ◌≤ℤ◌, All, Bool, true, ◌==◌, ◌&&◌, ◌||◌, nat_lt}
+use Rattle.std.specs.Prelude.{◌≡◌, ℕ, ◌<◌, ◌≤◌, ◌^◌, List, [], ◌∷◌, length, ℤ, pos, negsuc, ◌≤ℤ◌, All, Bool, true, false, ◌==◌, ◌&&◌, ◌||◌, nat_lt}
+use Rattle.std.specs.List.{list_any}
 use Rattle.pit_model.specs.Bands.{AreBands}
 use Rattle.pit_model.specs.declared.grid.Axis.{Axis}
 use Rattle.pit_model.specs.declared.grid.Grid.{Grid}
@@ -86,6 +87,15 @@ abbrev pub RiseStrictly : List Limit → Type 0
 RiseStrictly [] = Unit {0}
 RiseStrictly (l ∷ ls) = All (λ m. stands_before l m ≡ true) ls × RiseStrictly ls
 
+-- a number stands twice
+abbrev pub has_repeat : List ℕ → Bool
+has_repeat [] = false
+has_repeat (n ∷ ns) = list_any (λ m. m == n) ns || has_repeat ns
+
+-- a resource covers at least one destination, and none twice
+abbrev pub AreCovers : List ℕ → Type 0
+AreCovers covers = (1 ≤ length covers) × (has_repeat covers ≡ false)
+
 -- what every plan keeps
 pub record IsPlan (p : PlanParts) : Type 0 where
   pub grid : IsGrid p.grid
@@ -97,5 +107,6 @@ pub record IsPlan (p : PlanParts) : Type 0 where
   pub rate : (pos 0 ≤ℤ p.rate) × (p.rate ≤ℤ pos (10 ^ 6))
   pub resources : length p.resources ≤ 8
   pub covers : All (λ r. All (λ d. d < length p.formulas) r.covers) p.resources
+  pub covers_once : All (λ r. AreCovers r.covers) p.resources
   pub limits : All (λ l. (l.resource < length p.resources) × (l.period < p.periods) × IsBound l.bound) p.limits
   pub rising : RiseStrictly p.limits

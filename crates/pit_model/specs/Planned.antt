@@ -9,7 +9,7 @@ use Rattle.pit_units.specs.declared.fault.DecFault.TheVariants as number_fault
 use Rattle.pit_model.specs.Bands.{starts_rise}
 use Rattle.pit_model.specs.Cells.{cells_of, cell_at, is_word}
 use Rattle.pit_model.specs.Name.{is_name}
-use Rattle.pit_model.specs.Plan.{PlanParts, plan_of, stands_before}
+use Rattle.pit_model.specs.Plan.{PlanParts, plan_of, stands_before, has_repeat}
 use Rattle.pit_model.specs.Records.{records_of}
 use Rattle.pit_model.specs.declared.band.Band.{Band}
 use Rattle.pit_model.specs.declared.cone.Cone.{Cone}
@@ -223,11 +223,6 @@ resource_in resources cell = known (position (λ r. bytes_eq r.name cell) resour
 abbrev pub covers_in : List (List ℕ) → List NamedFormula → List ℕ → Result (List ℕ) PlanFaultKind
 covers_in [] formulas done = Ok done
 covers_in (cell ∷ more) formulas done = destination_in formulas cell >>= λ n. covers_in more formulas (done ++ n ∷ [])
-
--- a number stands twice
-abbrev pub has_repeat : List ℕ → Bool
-has_repeat [] = false
-has_repeat (n ∷ ns) = list_any (λ m. m == n) ns || has_repeat ns
 
 -- a resource has this NAME
 abbrev pub is_resource : List Resource → List ℕ → Bool

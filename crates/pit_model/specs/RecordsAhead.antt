@@ -5,7 +5,7 @@ use Rattle.csv.specs.Reading.{Ready, default_config, is_flexible, reader_config,
 use Rattle.csv.specs.declared.parser.State.{State}
 use Rattle.csv.specs.declared.reader.Reader.{Reader}
 use Rattle.csv.specs.declared.reader.Trim.TheVariants as trim
-use Rattle.pit_model.specs.Records.{Ahead, Rows, GaveUp}
+use Rattle.pit_model.specs.Records.{Ahead, Rows, Over, GaveUp}
 use Rattle.pit_model.specs.declared.records.Stage.{Stage}
 use Rattle.pit_model.specs.declared.records.Stage.TheVariants as stage
 
@@ -25,7 +25,7 @@ rows_left known reader = rows_of_source (reader_state reader) (source_of known r
 -- what is ahead at each stage
 abbrev pub ahead_of : {R : Type 0} → (R → Option (List ℕ)) → Stage → Reader R → Ahead
 ahead_of known stage.Reading reader = Rows (rows_left known reader)
-ahead_of known stage.Ended reader = Rows []
+ahead_of known stage.Ended reader = Over
 ahead_of known stage.Refused reader = GaveUp
 
 -- a reader of known bytes, between two records, that reads as `records_of` says and lets records differ in length

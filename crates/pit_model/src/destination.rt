@@ -23,7 +23,7 @@ pub struct Destination {
 }
 
 impl Destination {
-    ghost use Rattle.pit_model.specs.Destinations.{formula_of};
+    ghost use Rattle.pit_model.specs.Destinations.{formula_of, valuer_of};
 
     /// A destination with this formula, and a closure that may be called on every block and then answers the formula's worth. It takes no
     /// memory.
@@ -39,6 +39,7 @@ impl Destination {
     /// What a block is worth here, in cents: the answer of the closure.
     #[tactic(auto, using(crate::proofs::WorthFacts::worth_bound))]
     pub fn value(&self, block: Block) -> i128
+        ensures asked { Valuer.post (valuer_of self.now) block result }
         ensures value { result ≡ worth (formula_of self.now) block }
         ensures in_range { IsWorth result }
     {

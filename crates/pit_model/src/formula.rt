@@ -1,6 +1,7 @@
 //! How a destination values a block.
 
-ghost use Rattle.std.specs.Prelude.{◌≡◌, IfOk};
+ghost use Rattle.std.specs.Prelude.{◌≡◌, IfOk, OnErr};
+ghost use Rattle.pit_model.specs.Formula.{HasBands};
 ghost use Rattle.pit_model.specs.Plan.{IsRuled};
 ghost use Rattle.pit_model.specs.Worth.{worth, IsWorth};
 
@@ -36,7 +37,8 @@ pub enum Formula {
 impl Formula {
     /// The same formula in memory of its own. Fails only where memory is refused, which only a leach asks for.
     pub fn copy(&self, alloc: Global) -> Result<Formula, AllocError>
-        ensures { IfOk result (λ f. f ≡ self.now) }
+        ensures value { IfOk result (λ f. f ≡ self.now) }
+        ensures memory { OnErr result (HasBands self.now) }
     {
         Ok(match self {
             Formula::Mill {

@@ -1,6 +1,6 @@
 //! A NAME: what a plan calls itself, a destination or a resource.
 
-ghost use Rattle.std.specs.Prelude.{◌≡◌, ◌<◌, ◌≤◌, ◌==◌, ◌&&◌, length, IfOk, MatchOption, false};
+ghost use Rattle.std.specs.Prelude.{◌≡◌, ◌<◌, ◌≤◌, ◌==◌, ◌&&◌, length, IfOk, MatchOption, true, false};
 ghost use Rattle.std.specs.List.{list_all};
 ghost use Rattle.std.specs.Str.{bytes_eq};
 ghost use Rattle.pit_model.specs.Name.{is_name_byte, is_name};
@@ -60,7 +60,8 @@ impl Name {
 
     /// The NAME as text.
     pub fn as_str(&self) -> &str
-        ensures { result.now ≡ self.now }
+        ensures value { result.now ≡ self.now }
+        ensures kept { is_name self.now ≡ true }
     {
         self.text.as_str()
     }

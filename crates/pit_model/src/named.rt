@@ -1,10 +1,11 @@
 //! The NAMEs in a plan's cells.
 
-ghost use Rattle.std.specs.Prelude.{◌≡◌, ◌<◌, ◌≤◌, [], length, drop, position, bytes_eq, All, IfOk, IfSome};
+ghost use Rattle.std.specs.Prelude.{◌≡◌, ◌-◌, ◌<◌, ◌≤◌, [], length, drop, position, bytes_eq, All, IfOk, IfSome};
 ghost use Rattle.csv.specs.Records.{fields_of};
 ghost use Rattle.pit_model.specs.Admits.{Covered, Names};
 ghost use Rattle.pit_model.specs.Cells.{cells_of};
-ghost use Rattle.pit_model.specs.Planned.{covers_in, destination_in, has_repeat, is_resource, is_taken, name_in, resource_in};
+ghost use Rattle.pit_model.specs.Plan.{has_repeat};
+ghost use Rattle.pit_model.specs.Planned.{covers_in, destination_in, is_resource, is_taken, name_in, resource_in};
 
 use crate::cells::cell_at;
 use crate::formula::NamedFormula;
@@ -87,6 +88,7 @@ pub fn covers_in(
     requires few { length formulas.now ≤ 8 }
     ensures value { Covered result (covers_in (drop 2 (cells_of (fields_of row.now))) formulas.now []) }
     ensures there { IfOk result (λ covers. All (λ n. n < length formulas.now) covers) }
+    ensures each { IfOk result (λ covers. length covers ≡ count - 2) }
 {
     let mut covers = Vec::new(alloc);
     for place in 2..count {

@@ -29,7 +29,8 @@ enum Stage {
     Refused,
 }
 
-/// A reader of a text's records, over the bytes that it owns or borrows. Contracts see the records that are left, or that memory was refused.
+/// A reader of a text's records, over the bytes that it owns or borrows. Contracts see the records that are left, that their end was told, or
+/// that memory was refused.
 /// It holds its buffer and tables in itself, some sixteen kilobytes, and takes memory only for the record that it reads into.
 #[derive(Drop)]
 pub struct RecordReader<R: Read> {
@@ -82,7 +83,8 @@ impl<R: Read> RecordReader<R> {
     /// Takes the next record into `row`, in place of what `row` held, and says whether there was one.
     ///
     /// At the end of the text the answer is `false`, then and ever after, and what `row` holds is left open. The one error is that
-    /// memory was refused for `row`: the reader gives no record after it, and answers it ever after.
+    /// memory was refused for `row`, which does not happen any more once the end was told: the reader gives no record after it, and
+    /// answers it ever after.
     pub fn next(&mut self, row: &mut ByteRecord) -> Result<bool, AllocError>
         ensures takes { TakesRow self.old result (fields_of row.new) self.new }
         ensures fewer { result ≡ Ok true → rows_ahead self.new + 1 ≡ rows_ahead self.old }

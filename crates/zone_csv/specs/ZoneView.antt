@@ -1,6 +1,6 @@
 -- How the parts of a reader of a zone file are seen as what it has still to say.
 use Rattle.std.specs.Prelude.{ℕ, ◌≤◌, List, [], Some, None, Result}
-use Rattle.pit_model.specs.Records.{Ahead, Rows, GaveUp}
+use Rattle.pit_model.specs.Records.{Ahead, Rows, Over, GaveUp}
 use Rattle.pit_model.specs.declared.block.Block.{Block}
 use Rattle.pit_model.specs.declared.grid.Grid.{Grid}
 use Rattle.zone_csv.specs.Outlook.{Outlook, Says, Told, NoMemory}
@@ -23,8 +23,10 @@ says_fault OutOfMemory = NoMemory
 -- what is to be said at each stage, with these records ahead
 abbrev pub outlook_of : Grid → ℕ → Stage → Ahead → Outlook
 outlook_of grid zone stage.Header (Rows rows) = says (records_say grid zone rows)
+outlook_of grid zone stage.Header Over = says (records_say grid zone [])
 outlook_of grid zone stage.Header GaveUp = NoMemory
 outlook_of grid zone (stage.Body columns number) (Rows rows) = says (rows_say grid zone columns rows number)
+outlook_of grid zone (stage.Body columns number) Over = says []
 outlook_of grid zone (stage.Body columns number) GaveUp = NoMemory
 outlook_of grid zone stage.Ended ahead = Told None
 outlook_of grid zone (stage.Failed fault) ahead = says_fault fault

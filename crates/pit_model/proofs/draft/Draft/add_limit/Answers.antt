@@ -28,6 +28,7 @@ invariant_of-self-2 c =
       rate = kept.rate;
       resources = kept.resources;
       covers = kept.covers;
+      covers_once = kept.covers_once;
       limits = rw now (All-with_limit (λ l. (l.resource < length c.self.inside.resources.items) × (l.period < unwrap_or c.self.inside.periods 0) × IsBound l.bound) c.args.limit old (resource, period, bound) kept.limits);
       rising = rw now (rises c.args.limit old kept.rising none);
     }

@@ -16,6 +16,7 @@ invariant_of-self-2 c =
       rate = kept.rate;
       resources = kept.resources;
       covers = kept.covers;
+      covers_once = kept.covers_once;
       limits = kept.limits;
       rising = kept.rising;
     }
