@@ -14,7 +14,8 @@ use std::io::{ErrorKind, Write};
 use std::marker::Model;
 use std::rt::Files;
 
-/// A sink whose bytes go to the file at its path. It does not tell which it took. No call but `new` takes memory.
+/// A sink whose bytes go to the file at its path. It tells what the file holds as far as the file does, and no file of a system
+/// does. No call but `new` takes memory.
 #[derive(Drop)]
 pub struct FileSink<'a, R: Files> {
     rt: &'a R,
@@ -150,9 +151,9 @@ mod tests {
     fn a_second_text_stands_alone(rt: HostRuntime) -> Result<(), Fail> {
         let path = "a_second_text_stands_alone.txt";
         let mut sink = FileSink::new(&rt, rt.alloc(), path)?;
-        for text in [b"the first and longer text\n".as_slice(), b"the second\n"] {
+        for text in ["the first and longer text\n", "the second\n"] {
             sink.begin()?;
-            assert_eq!(rt; sink.put(text)?, text.len());
+            assert_eq!(rt; sink.put(text.as_bytes())?, text.len());
         }
         assert!(rt; held(&rt, path)?.as_str() == "the second\n");
         fs::remove_file(&rt, path)?;
