@@ -29,3 +29,4 @@ pub mod ValidHeader
 pub mod ValidModel
 pub mod ValidPreds
 pub mod ValidRead
+pub mod WriteFacts

@@ -4,6 +4,7 @@ pub mod Denotes
 pub mod Device
 pub mod FieldValues
 pub mod FileFault
+pub mod FileState
 pub mod Kept
 pub mod Lines
 pub mod Marks

@@ -1,22 +1,41 @@
 //! A file as a sink.
 
-ghost use Rattle.std.specs.Prelude.{◌≡◌, ◌<◌, ◌≤◌, [], None, false, is_some, length, IfOk};
-ghost use Rattle.minelib_text.specs.Count.{count_of};
+ghost use Rattle.std.specs.Prelude.{◌≡◌, ◌+◌, ◌<◌, ◌≤◌, None, false, length, take, IfOk, OnOk, OnErr};
+ghost use Rattle.std.specs.Io.KnownBytes.{WriteAppends};
+ghost use Rattle.minelib_text.specs.Device.{added};
+ghost use Rattle.minelib_text.specs.FileState.{told};
+ghost use Rattle.minelib_text.specs.SinkState.{IsStill};
 
 use crate::count::{Count, raised};
 use crate::sink::{Sink, SinkFault};
 use std::alloc::{AllocError, Global};
 use std::fs::File;
 use std::io::{ErrorKind, Write};
+use std::marker::Model;
 use std::rt::Files;
 
-/// A sink whose bytes go to the file at its path. It does not tell which it took. No call but `new` takes memory.
+/// A sink whose bytes go to the file at its path. It tells what the file holds as far as the file does, and no file of a system
+/// does. No call but `new` takes memory.
 #[derive(Drop)]
 pub struct FileSink<'a, R: Files> {
     rt: &'a R,
     path: String,
     file: Option<R::File>,
     failures: Count,
+}
+
+impl<'a, R: Files> Model for FileSink<'a, R> {
+    ghost use Rattle.std.specs.Prelude.{is_some};
+    ghost use Rattle.minelib_text.specs.Count.{count_of};
+    ghost use Rattle.minelib_text.specs.FileState.{FileState, held_by};
+
+    ghost Value = { FileState };
+
+    ghost view = { λ s. record {
+      begun = is_some s.file;
+      held = held_by R.File.contents s.file;
+      failures = count_of s.failures;
+    } };
 }
 
 impl<'a, R: Files> FileSink<'a, R> {
@@ -26,8 +45,7 @@ impl<'a, R: Files> FileSink<'a, R> {
     ///
     /// Memory for the path was refused.
     pub fn new(rt: &'a R, alloc: Global, path: &str) -> Result<FileSink<'a, R>, AllocError>
-        ensures { IfOk result (λ sink. ⟦<FileSink<'a, R> as Sink>⟧.state sink
-            ≡ record { begun = false; before = []; taken = None; failures = 0 }) }
+        ensures { IfOk result (λ sink. sink ≡ record { begun = false; held = None; failures = 0 }) }
     {
         Ok(FileSink {
             rt,
@@ -39,12 +57,7 @@ impl<'a, R: Files> FileSink<'a, R> {
 }
 
 impl<'a, R: Files> Sink for FileSink<'a, R> {
-    ghost state = { λ s. record {
-      begun = is_some s.file;
-      before = [];
-      taken = None;
-      failures = count_of s.failures;
-    } };
+    ghost state = { told };
 
     /// Creates the file, or empties the one that is there.
     ///
@@ -69,7 +82,16 @@ impl<'a, R: Files> Sink for FileSink<'a, R> {
     /// # Errors
     ///
     /// The sink was not begun, or the file takes no byte.
-    fn put(&mut self, bytes: &[u8]) -> Result<usize, SinkFault> {
+    fn put(&mut self, bytes: &[u8]) -> Result<usize, SinkFault>
+        ensures within { IfOk result (λ n. n ≤ length bytes.now) }
+        ensures some { IfOk result (λ n. 0 < length bytes.now → 0 < n) }
+        ensures bytes { WriteAppends self.old.held self.new.held result bytes.now }
+        ensures takes { IfOk result (λ n. (told self.new).taken ≡ added (take n bytes.now) (told self.old).taken) }
+        ensures works { OnOk result ((told self.new).failures ≡ (told self.old).failures) }
+        ensures refused { OnErr result ((told self.new).taken ≡ (told self.old).taken) }
+        ensures fails { OnErr result ((told self.new).failures ≡ (told self.old).failures + 1) }
+        ensures still { IsStill (told self.old) (told self.new) }
+    {
         let written = match &mut self.file {
             Some(file) => write_some(file, bytes),
             None => Err(SinkFault),
@@ -82,9 +104,11 @@ impl<'a, R: Files> Sink for FileSink<'a, R> {
 }
 
 // One write that no signal interrupts. A file that takes no byte where there is one is full.
+#[tactic(auto, using(crate::proofs::WriteFacts::appends_after, crate::proofs::WriteFacts::keeps_after_none, crate::proofs::WriteFacts::keeps_self, crate::proofs::WriteFacts::keeps_after))]
 fn write_some<F: Write>(file: &mut F, bytes: &[u8]) -> Result<usize, SinkFault>
     ensures within { IfOk result (λ count. count ≤ length bytes.now) }
     ensures some { IfOk result (λ count. 0 < length bytes.now → 0 < count) }
+    ensures bytes { WriteAppends (F.contents file.old) (F.contents file.new) result bytes.now }
 {
     for _ in 0..u64::MAX {
         match file.write(bytes) {
@@ -118,6 +142,20 @@ mod tests {
         assert_eq!(rt; sink.put(b"0 0 0\n")?, 6);
         assert_eq!(rt; sink.put(b"1 0\n")?, 4);
         assert!(rt; held(&rt, path)?.as_str() == "0 0 0\n1 0\n");
+        fs::remove_file(&rt, path)?;
+        Ok(())
+    }
+
+    // A second text takes the place of the first.
+    #[test]
+    fn a_second_text_stands_alone(rt: HostRuntime) -> Result<(), Fail> {
+        let path = "a_second_text_stands_alone.txt";
+        let mut sink = FileSink::new(&rt, rt.alloc(), path)?;
+        for text in ["the first and longer text\n", "the second\n"] {
+            sink.begin()?;
+            assert_eq!(rt; sink.put(text.as_bytes())?, text.len());
+        }
+        assert!(rt; held(&rt, path)?.as_str() == "the second\n");
         fs::remove_file(&rt, path)?;
         Ok(())
     }

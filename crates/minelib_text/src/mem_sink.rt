@@ -142,7 +142,7 @@ impl Sink for MemSink {
     fn put(&mut self, bytes: &[u8]) -> Result<usize, SinkFault>
         ensures fails { FailsNext self.old → IsErr result }
         ensures fails_only { OnErr result
-            (FailsNext self.old ⊎ (self.old.room < length self.old.bytes + length bytes.now)) }
+            (FailsNext self.old ⊎ (self.old.room < length self.old.bytes + min (length bytes.now) self.old.step)) }
         ensures count { IfOk result (λ n. n ≡ min (length bytes.now) self.old.step) }
         ensures some { IfOk result (λ n. 0 < length bytes.now → 0 < n) }
         ensures takes { IfOk result

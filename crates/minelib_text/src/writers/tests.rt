@@ -245,7 +245,7 @@ fn sections_stay(rt: HostRuntime) -> Result<(), Fail> {
     write_prec(alloc, &instance, &mut sink)?;
     assert_eq!(rt;
         sink.into_vec().as_slice(),
-        b"old\n== blocks\n0 0 0 0 1000 5000 0\n1 1 0 0 0 7 0\n== prec\n0 0\n1 0\n"
+        "old\n== blocks\n0 0 0 0 1000 5000 0\n1 1 0 0 0 7 0\n== prec\n0 0\n1 0\n".as_bytes()
     );
     Ok(())
 }
