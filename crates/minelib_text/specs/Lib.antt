@@ -12,6 +12,7 @@ pub mod ModelParts
 pub mod ModelView
 pub mod PrecLines
 pub mod Reading
+pub mod Spaced
 pub mod SpelledBlocks
 pub mod SpelledFields
 pub mod SpelledItems
