@@ -4,13 +4,13 @@ use Rattle.std.specs.Prelude.{filter, AllPairs, IsTrue, ◌==◌, ◌&&◌, ◌|
 use Rattle.std.proofs.lemmas.Bool.{eqb-true}
 use Rattle.std.proofs.lemmas.Bool.Decides.{nat_tests}
 use Rattle.std.proofs.lemmas.List.{get_or-map, length-map}
-use Rattle.std.proofs.lemmas.List.Elements.{All-weaker, All-map, All-filter, All-nil, All-cons}
+use Rattle.std.proofs.lemmas.List.Elements.{All-weaker, All-map, All-filter, All-nil, All-cons, All-head, All-tail}
 use Rattle.std.proofs.lemmas.List.Kept.{AllPairs-filter}
 use Rattle.pit_model.specs.declared.limit.Limit.{Limit}
 use Rattle.mine_instance.specs.Cpit.{IsCpit, cpit_of}
 use Rattle.mine_instance.specs.CpitOrder.{is_listed_before}
-use Rattle.mine_instance.specs.Greatest.{greatest}
-use Rattle.mine_instance.specs.OfCpit.{is_chosen, without_destination, destination_of}
+use Rattle.mine_instance.specs.Greatest.{first_greatest, greatest}
+use Rattle.mine_instance.specs.OfCpit.{is_at, is_chosen, without_destination, destination_of}
 use Rattle.mine_instance.specs.Order.{comes_before}
 use Rattle.mine_instance.specs.Valid.{IsValid}
 use Rattle.mine_instance.specs.declared.coef.Coef.{Coef}
@@ -75,7 +75,24 @@ cpit_is_one i name values coefs limits v of_values of_coefs of_limits =
       limits = rw of_limits v.limits;
     }
 
+-- the coefficients at the blocks' destinations are those that are chosen
+pub same_destinations : (values : List (List ℤ)) (destinations : List ℕ) (coefs : List Coef) → destinations ≡ map first_greatest values
+    → All (λ c. c.b < length values) coefs → filter (is_at destinations) coefs ≡ filter (is_chosen values) coefs
+same_destinations values destinations [] is there = refl
+same_destinations values destinations (c ∷ coefs) is there =
+    let rest = same_destinations values destinations coefs is (All-tail (λ (c : Coef). c.b < length values) c coefs there) in
+    let within : c.b < length values = All-head (λ (c : Coef). c.b < length values) c coefs there in
+    let first : is_at destinations c ≡ is_chosen values c =
+    ap (λ ds. c.d == get_or ds c.b 0) is ∙ ap (λ n. c.d == n) (get_or-map first_greatest values c.b [] 0 within) in
+    λ j. cond (first j) (c ∷ rest j) (rest j)
+
 -- each coefficient is of a block that has values
 pub coefs_there : (i : Instance) → IsValid i → All (λ c. c.b < length i.values) i.coefs
 coefs_there i v = All-weaker (λ c. (c.b < length i.blocks) × (c.d < i.destinations) × (c.r < i.resources)) (λ c. c.b < length i.values)
     (λ c h. let same : length i.values ≡ length i.blocks = v.lengths.values in omega arith) i.coefs v.coefs.in_range
+
+-- and so are those that were found by the blocks' destinations
+pub coefs_are_chosen : (i : Instance) (destinations : List ℕ) (coefs : List CpitCoef) → IsValid i → destinations ≡ map first_greatest i.values
+    → coefs ≡ map without_destination (filter (is_at destinations) i.coefs) → coefs ≡ map without_destination (filter (is_chosen i.values) i.coefs)
+coefs_are_chosen i destinations coefs v is of_coefs =
+    of_coefs ∙ ap (map without_destination) (same_destinations i.values destinations i.coefs is (coefs_there i v))

@@ -4,6 +4,7 @@ pub mod CpitView
 pub mod Greatest
 pub mod OfCpit
 pub mod OfModel
+pub mod OneSlope
 pub mod Order
 pub mod OrderLaws
 pub mod Rows

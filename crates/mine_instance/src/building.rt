@@ -42,7 +42,7 @@ pub fn build(
     ensures valid { IfOk result IsValid }
 {
     let name = plan.name().copy(alloc)?;
-    let blocks = blocks_by_id(alloc, numbering)?;
+    let blocks = Vec::from_slice(alloc, numbering.blocks())?;
     let values = values_by_id(alloc, numbering, rows, plan)?;
     let pairs = covered_pairs(alloc, plan)?;
     let coefs = coefs_by_id(alloc, pairs.as_slice(), blocks.as_slice())?;
@@ -59,18 +59,6 @@ pub fn build(
         coefs: Coefs::new(coefs),
         limits: Limits::new(limits),
     })
-}
-
-#[tactic(auto, using(crate::proofs::BuildFacts::take_next))]
-fn blocks_by_id(alloc: Global, numbering: &Numbering) -> Result<Vec<Block>, AllocError>
-    ensures blocks { IfOk result (λ blocks. blocks.items ≡ numbering.now.blocks) }
-    ensures few { length numbering.now.blocks ≤ 64000000 }
-{
-    let mut blocks = Vec::with_capacity(alloc, numbering.len() as usize)?;
-    for id in 0..numbering.len() {
-        blocks.push(numbering.block(id))?;
-    }
-    Ok(blocks)
 }
 
 fn values_by_id(
@@ -173,7 +161,8 @@ fn coefs_by_id(alloc: Global, pairs: &[Covering], blocks: &[Block]) -> Result<Ve
     requires { length blocks.now ≤ 64000000 }
     ensures { IfOk result (λ coefs. coefs.items ≡ coefs_of pairs.now blocks.now) }
 {
-    let mut coefs = Vec::new(alloc);
+    let heavy = blocks.iter().filter(|block| block.kg != 0).count();
+    let mut coefs = Vec::with_capacity(alloc, heavy.saturating_mul(pairs.len()))?;
     for (id, block) in blocks.iter().enumerate() {
         put_coefs(&mut coefs, pairs, id as u32, block)?;
     }

@@ -1,13 +1,13 @@
 //! From an instance to its CPIT.
 
 ghost use Rattle.std.specs.Prelude.{◌≡◌, ◌<◌, ℤ, List, length, map, filter, All, IfOk};
-ghost use Rattle.mine_instance.specs.Greatest.{greatest};
-ghost use Rattle.mine_instance.specs.OfCpit.{cpit, is_chosen, without_destination};
+ghost use Rattle.mine_instance.specs.Greatest.{first_greatest, greatest};
+ghost use Rattle.mine_instance.specs.OfCpit.{cpit, is_at, without_destination};
 ghost use Rattle.mine_instance.specs.Valid.{IsValid};
 
 use crate::coef::Coef;
 use crate::cpit::{Cpit, CpitCoef};
-use crate::greatest::{first_greatest, greatest};
+use crate::greatest::first_greatest;
 use crate::instance::Instance;
 use crate::values::Values;
 use pit_units::Dec;
@@ -20,8 +20,11 @@ pub fn build_cpit(alloc: Global, instance: &Instance) -> Result<Cpit, AllocError
     ensures { IfOk result (λ built. built ≡ cpit instance.now) }
 {
     let name = instance.name.copy(alloc)?;
-    let values = greatest_values(alloc, &instance.values)?;
-    let coefs = chosen_coefs(alloc, instance.coefs.as_slice(), &instance.values)?;
+    let Chosen {
+        destinations,
+        values,
+    } = chosen_of(alloc, &instance.values)?;
+    let coefs = coefs_at(alloc, instance.coefs.as_slice(), destinations.as_slice())?;
     let limits = Vec::from_slice(alloc, instance.limits.as_slice())?;
     Ok(Cpit::new(
         name,
@@ -34,25 +37,44 @@ pub fn build_cpit(alloc: Global, instance: &Instance) -> Result<Cpit, AllocError
     ))
 }
 
-fn greatest_values(alloc: Global, values: &Values) -> Result<Vec<Dec>, AllocError>
-    requires { All (λ of_block. 0 < length of_block) values.now }
-    ensures { IfOk result (λ all. all.items ≡ map greatest values.now) }
-{
-    let mut all = Vec::with_capacity(alloc, values.len())?;
-    for block in 0..values.len() {
-        all.push(greatest(values.of(block)))?;
-    }
-    Ok(all)
+/// Where each block is worth most, and what it is worth there.
+#[derive(Drop)]
+struct Chosen {
+    destinations: Vec<usize>,
+    values: Vec<Dec>,
 }
 
-fn chosen_coefs(alloc: Global, coefs: &[Coef], values: &Values) -> Result<Vec<CpitCoef>, AllocError>
-    requires some { All (λ of_block. 0 < length of_block) values.now }
-    requires there { All (λ coef. coef.b < length values.now) coefs.now }
-    ensures { IfOk result (λ chosen. chosen.items ≡ map without_destination (filter (is_chosen values.now) coefs.now)) }
+fn chosen_of(alloc: Global, values: &Values) -> Result<Chosen, AllocError>
+    requires { All (λ of_block. 0 < length of_block) values.now }
+    ensures destinations { IfOk result (λ chosen. chosen.destinations.items ≡ map first_greatest values.now) }
+    ensures values { IfOk result (λ chosen. chosen.values.items ≡ map greatest values.now) }
+{
+    let mut destinations = Vec::with_capacity(alloc, values.len())?;
+    let mut all = Vec::with_capacity(alloc, values.len())?;
+    for block in 0..values.len() {
+        let of_block = values.of(block);
+        let destination = first_greatest(of_block);
+        destinations.push(destination)?;
+        all.push(of_block[destination])?;
+    }
+    Ok(Chosen {
+        destinations,
+        values: all,
+    })
+}
+
+/// The coefficients at their blocks' destinations.
+fn coefs_at(
+    alloc: Global,
+    coefs: &[Coef],
+    destinations: &[usize],
+) -> Result<Vec<CpitCoef>, AllocError>
+    requires { All (λ coef. coef.b < length destinations.now) coefs.now }
+    ensures { IfOk result (λ chosen. chosen.items ≡ map without_destination (filter (is_at destinations.now) coefs.now)) }
 {
     let mut chosen = Vec::new(alloc);
     for coef in coefs {
-        if is_chosen(values, coef) {
+        if is_at(destinations, coef) {
             let (b, r, v) = (coef.b, coef.r, coef.v);
             chosen.push(CpitCoef { b, r, v })?;
         }
@@ -60,10 +82,9 @@ fn chosen_coefs(alloc: Global, coefs: &[Coef], values: &Values) -> Result<Vec<Cp
     Ok(chosen)
 }
 
-fn is_chosen(values: &Values, coef: &Coef) -> bool
-    requires some { All (λ of_block. 0 < length of_block) values.now }
-    requires there { coef.now.b < length values.now }
-    ensures { result ≡ is_chosen values.now coef.now }
+fn is_at(destinations: &[usize], coef: &Coef) -> bool
+    requires { coef.now.b < length destinations.now }
+    ensures { result ≡ is_at destinations.now coef.now }
 {
-    usize::from(coef.d) == first_greatest(values.of(coef.b as usize))
+    usize::from(coef.d) == destinations[coef.b as usize]
 }

@@ -8,6 +8,7 @@ pub mod cpit;
 mod cpit_building;
 pub mod greatest;
 pub mod instance;
+pub mod laws;
 pub mod limits;
 mod rising;
 mod validity;

@@ -22,6 +22,7 @@ pub mod PlainText
 pub mod PrecBack
 pub mod ReadSteps
 pub mod Rising
+pub mod SpacedFacts
 pub mod SpelledModelRead
 pub mod SpelledRead
 pub mod ValidBlocks

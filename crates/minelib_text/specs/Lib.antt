@@ -15,6 +15,7 @@ pub mod PrecLines
 pub mod Reading
 pub mod Sections
 pub mod SinkState
+pub mod Spaced
 pub mod SpelledBlocks
 pub mod SpelledFields
 pub mod SpelledItems

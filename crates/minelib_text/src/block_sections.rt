@@ -7,6 +7,7 @@ ghost use Rattle.minelib_text.specs.Lines.{line_of, lines_from};
 ghost use Rattle.minelib_text.specs.Written.{prec_fields, greatest_fields, value_fields};
 
 use crate::fields::{put_decimal_behind, put_whole, put_whole_behind};
+use crate::id_text::IdText;
 use crate::output::Section;
 use mine_instance::greatest::greatest;
 use mine_instance::values::Values;
@@ -18,6 +19,8 @@ use std::alloc::{AllocError, Global};
 #[derive(Drop)]
 pub struct PrecLines<'a> {
     pub preds: &'a Preds,
+    /// The texts of the blocks' identifiers.
+    pub texts: &'a IdText,
     pub ghost few: { length preds.now ≤ 64000000 },
 }
 
@@ -29,26 +32,17 @@ impl<'a> Section for PrecLines<'a> {
     }
 
     fn append(&self, _alloc: Global, index: usize, out: &mut Vec<u8>) -> Result<(), AllocError> {
-        put_preds(out, index, self.preds.of(index as u32))
+        put_preds(out, index, self.preds.of(index as u32), self.texts)
     }
 }
 
-fn put_preds(out: &mut Vec<u8>, id: usize, preds: &[u32]) -> Result<(), AllocError>
+fn put_preds(out: &mut Vec<u8>, id: usize, preds: &[u32], texts: &IdText) -> Result<(), AllocError>
     ensures { OnOk result (out.new.items ≡ out.old.items ++ (line_of (prec_fields id preds.now) ++ 10 ∷ [])) }
 {
     put_whole(out, id as u64)?;
     put_whole_behind(out, b' ', preds.len() as u64)?;
-    put_ids(out, preds)?;
+    texts.put(out, preds)?;
     out.push(b'\n')?;
-    Ok(())
-}
-
-fn put_ids(out: &mut Vec<u8>, ids: &[u32]) -> Result<(), AllocError>
-    ensures { OnOk result (out.new.items ≡ out.old.items ++ flat_map (λ id. 32 ∷ decimal id) ids.now) }
-{
-    for id in ids {
-        put_whole_behind(out, b' ', u64::from(*id))?;
-    }
     Ok(())
 }
 

@@ -4,6 +4,7 @@ ghost use Rattle.std.specs.Prelude.{◌≤◌, ◌<◌, length, All};
 ghost use Rattle.minelib_text.specs.Written.{text_blocks, text_prec, text_upit, text_pcpsp, text_cpit};
 
 use crate::block_sections::{GreatestLines, PrecLines, ValueLines};
+use crate::id_text::IdText;
 use crate::keys::{put_cpit_keys, put_pcpsp_keys, put_problem};
 use crate::lines::Lines;
 use crate::output::{write_section, write_titled};
@@ -50,7 +51,10 @@ impl<'a> Text for PrecFile<'a> {
         buffer: &mut Vec<u8>,
     ) -> Result<(), WriteFault> {
         let preds = &self.instance.preds;
-        write_section(alloc, sink, buffer, &PrecLines { preds })
+        // One more than there are blocks: where the last block's text ends.
+        let texts = IdText::below(alloc, preds.len() + 1)?;
+        let texts = &texts;
+        write_section(alloc, sink, buffer, &PrecLines { preds, texts })
     }
 }
 

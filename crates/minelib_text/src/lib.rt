@@ -8,6 +8,7 @@ mod field_values;
 mod fields;
 pub mod file_sink;
 mod files;
+mod id_text;
 mod instance_reader;
 mod item_lines;
 mod keys;

@@ -64,7 +64,7 @@ impl Numbering {
     }
 
     /// The blocks in the order of their identifiers.
-    pub(crate) fn blocks(&self) -> &[Block]
+    pub fn blocks(&self) -> &[Block]
         ensures value { result.now ≡ self.now.blocks }
         ensures rising { IsStrictlyIncreasing (codes self.now.blocks) }
         ensures few { length self.now.blocks ≤ 64000000 }

@@ -11,9 +11,9 @@ pub returns-clause-value : goal.returns-clause-value
 returns-clause-value c =
     let plan = c.args.plan.now in
     let coefs : c.new-2.result ≡ coefs_of (covered plan) c.args.numbering.now.blocks =
-    c.new-2.ensures ∙ (rw (c.as_slice.ensures.value, c.in_ok-pairs.ensures, c.as_slice-2.ensures.value, c.in_ok-blocks.ensures.blocks) at c.in_ok-coefs.ensures) in
+    c.new-2.ensures ∙ (rw (c.as_slice.ensures.value, c.in_ok-pairs.ensures, c.as_slice-2.ensures.value, c.in_ok-blocks.ensures.items, c.blocks-2.ensures.value) at c.in_ok-coefs.ensures) in
     built_is plan c.args.numbering.now.blocks _ _ _ _ _ _ _ _ _ _ (c.in_ok-name.ensures ∙ c.name.ensures.value) c.rate.ensures.value c.periods.ensures.value
-    (ap length c.formulas.ensures.value) (ap length c.resources.ensures.value) (c.new.ensures ∙ c.in_ok-blocks.ensures.blocks) c.requires.preds
+    (ap length c.formulas.ensures.value) (ap length c.resources.ensures.value) (c.new.ensures ∙ c.in_ok-blocks.ensures.items ∙ c.blocks-2.ensures.value) c.requires.preds
     c.in_ok-values.ensures coefs (c.new-3.ensures ∙ c.in_ok-limits.ensures.items ∙ c.limits.ensures.value)
     ∙ ap (instance_of plan) (sym (by_identifier_is (blocks_of c.args.rows.now) c.args.numbering.now c.requires.numbering))
 
@@ -21,9 +21,9 @@ pub returns-clause-valid : goal.returns-clause-valid
 returns-clause-valid c =
     let plan = c.args.plan.now in
     let coefs : c.new-2.result ≡ coefs_of (covered plan) c.args.numbering.now.blocks =
-    c.new-2.ensures ∙ (rw (c.as_slice.ensures.value, c.in_ok-pairs.ensures, c.as_slice-2.ensures.value, c.in_ok-blocks.ensures.blocks) at c.in_ok-coefs.ensures) in
+    c.new-2.ensures ∙ (rw (c.as_slice.ensures.value, c.in_ok-pairs.ensures, c.as_slice-2.ensures.value, c.in_ok-blocks.ensures.items, c.blocks-2.ensures.value) at c.in_ok-coefs.ensures) in
     let P : Instance → Type 0 = λ i. IsValid i in
     subst P (sym (built_is plan c.args.numbering.now.blocks _ _ _ _ _ _ _ _ _ _ (c.in_ok-name.ensures ∙ c.name.ensures.value) c.rate.ensures.value c.periods.ensures.value
-    (ap length c.formulas.ensures.value) (ap length c.resources.ensures.value) (c.new.ensures ∙ c.in_ok-blocks.ensures.blocks) c.requires.preds
+    (ap length c.formulas.ensures.value) (ap length c.resources.ensures.value) (c.new.ensures ∙ c.in_ok-blocks.ensures.items ∙ c.blocks-2.ensures.value) c.requires.preds
     c.in_ok-values.ensures coefs (c.new-3.ensures ∙ c.in_ok-limits.ensures.items ∙ c.limits.ensures.value)))
-    (instance_is_valid plan c.args.numbering.now.blocks c.rate.ensures.kept c.in_ok-blocks.ensures.few)
+    (instance_is_valid plan c.args.numbering.now.blocks c.rate.ensures.kept c.blocks-2.ensures.few)

@@ -1,7 +1,0 @@
-use Rattle.std.proofs.Common.{◌≡◌, map, take}
-use Rattle.std.specs.Prelude.{filter}
-use Rattle.mine_instance.specs.OfCpit.{is_chosen, without_destination}
-use Rattle.mine_instance.proofs.cpit_building.chosen_coefs.Given as goal
-
-abbrev pub invariant-loop-coef : goal.invariant-loop-coef
-invariant-loop-coef l = l.chosen.items ≡ map without_destination (filter (is_chosen l.values) (take l.coef-index l.coefs))

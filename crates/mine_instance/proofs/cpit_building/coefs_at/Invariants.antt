@@ -1,0 +1,7 @@
+use Rattle.std.proofs.Common.{◌≡◌, map, take}
+use Rattle.std.specs.Prelude.{filter}
+use Rattle.mine_instance.specs.OfCpit.{is_at, without_destination}
+use Rattle.mine_instance.proofs.cpit_building.coefs_at.Given as goal
+
+abbrev pub invariant-loop-coef : goal.invariant-loop-coef
+invariant-loop-coef l = l.chosen.items ≡ map without_destination (filter (is_at l.destinations) (take l.coef-index l.coefs))
