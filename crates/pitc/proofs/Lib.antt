@@ -1,7 +1,10 @@
+pub mod Accepted
 mod Again
-mod FoundJob
+pub mod Commands
+pub mod FoundJob
 mod Joined
 mod Lent
 mod Lines
+pub mod Numbers
 mod Uncut
 mod Walk

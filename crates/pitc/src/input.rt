@@ -1,13 +1,16 @@
 //! Standard input, whole.
 
-ghost use Rattle.std.specs.Prelude.{◌≤◌, length, IfOk};
+ghost use Rattle.std.specs.Prelude.{◌≡◌, ◌+◌, ◌<◌, ◌≤◌, length, IfOk};
 
-use std::alloc::Global;
+use std::alloc::{AllocError, Global};
 use std::io::{ErrorKind, Input, Read};
 use thiserror::Error;
 
 /// The most bytes of the input.
 pub const MAX_INPUT_BYTES: usize = 268_435_456;
+
+// What is asked of the input at once, in bytes.
+const CHUNK: usize = 65_536;
 
 /// Why the input was not read.
 #[derive(Clone, Copy, Debug, Error, PartialEq, Eq)]
@@ -23,16 +26,48 @@ pub enum InputFault {
     OutOfMemory,
 }
 
-/// Reads standard input to its end, but no further than one byte past its limit.
+impl From<AllocError> for InputFault {
+    ghost use Rattle.pitc.specs.declared.input.InputFault.TheVariants.{OutOfMemory};
+
+    ghost from_gives = { λ _ fault. fault ≡ OutOfMemory };
+
+    fn from(_refusal: AllocError) -> InputFault {
+        InputFault::OutOfMemory
+    }
+}
+
+/// Reads standard input to its end, and asks for no more than one byte past its limit. A read that fails is a `FeedFailed`, whatever the
+/// system's reason.
 pub fn read_input<R: Input>(rt: &R, alloc: Global) -> Result<Vec<u8>, InputFault>
     ensures limit { IfOk result (λ bytes. length bytes.items ≤ 268435456) }
 {
+    let mut input = rt.reader();
     let mut bytes = Vec::new(alloc);
-    let mut input = rt.reader().take(MAX_INPUT_BYTES as u64 + 1);
-    match input.read_to_end(&mut bytes) {
-        Ok(_) if bytes.len() <= MAX_INPUT_BYTES => Ok(bytes),
-        Ok(_) => Err(InputFault::TooLong),
-        Err(error) if error.kind() == ErrorKind::OutOfMemory => Err(InputFault::OutOfMemory),
-        Err(_) => Err(InputFault::FeedFailed),
+    for _ in 0..u64::MAX {
+        let len = bytes.len();
+        bytes.resize(len + CHUNK.min((MAX_INPUT_BYTES + 1).saturating_sub(len)), 0)?;
+        let count = read_some(&mut input, &mut bytes[len..])?;
+        bytes.truncate(len + count);
+        if bytes.len() > MAX_INPUT_BYTES {
+            return Err(InputFault::TooLong);
+        }
+        if count == 0 {
+            return Ok(bytes);
+        }
     }
+    Err(InputFault::FeedFailed)
+}
+
+// One read that no signal interrupts.
+fn read_some<T: Read>(input: &mut T, buffer: &mut [u8]) -> Result<usize, InputFault>
+    ensures { IfOk result (λ count. count ≤ length buffer.old) }
+{
+    for _ in 0..u64::MAX {
+        match input.read(buffer) {
+            Ok(count) => return Ok(count),
+            Err(error) if error.kind() == ErrorKind::Interrupted => {}
+            Err(_) => return Err(InputFault::FeedFailed),
+        }
+    }
+    Err(InputFault::FeedFailed)
 }

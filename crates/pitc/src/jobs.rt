@@ -2,12 +2,21 @@
 
 ghost use Rattle.std.specs.Prelude.{◌≡◌};
 
+use crate::settings_words::Settings;
 use std::alloc::AllocError;
 use thiserror::Error;
 
 /// A job of the program.
 #[derive(Debug, Drop, PartialEq, Eq)]
 pub enum Job {
+    /// Compiles the plan in the file `plan` with the zone files `zones`, in order, of which there is at least one, and writes the files of the
+    /// instance, whose paths begin with `out`.
+    Compile {
+        plan: String,
+        out: String,
+        settings: Settings,
+        zones: Vec<String>,
+    },
     /// Reads the files of an instance, whose paths begin with `base`, and prints its counts.
     Check { base: String },
 }
@@ -18,7 +27,7 @@ pub enum JobFault {
     /// Memory was refused.
     #[error("OutOfMemory")]
     OutOfMemory,
-    /// The words are not taken, or ask for help. The error's text is for the user.
+    /// The words are not taken, or ask for help or the version. The error's text is for the user.
     #[error("{0}")]
     Line(clap::Error),
 }

@@ -1,7 +1,7 @@
 //! `pitc` turns the block models of an open pit mine into a MineLib instance.
 //!
 //! With no words it reads a plan and its zone files from standard input, cut at lines `--`, and writes the instance to standard
-//! output. `pitc check BASE` reads the files of an instance and prints its counts.
+//! output. `pitc compile` does so from files to files. `pitc check BASE` reads the files of an instance and prints its counts.
 #![tactic(auto)]
 
 ghost use Rattle.std.specs.Prelude.{◌≡◌, ◌≤◌, ◌^◌};
@@ -11,6 +11,7 @@ ghost use Rattle.pit_model.specs.Worth.{worth, mill, dump};
 pub mod check;
 pub mod check_fault;
 pub mod command_line;
+pub mod compile;
 pub mod counts;
 pub mod fault_line;
 pub mod input;
@@ -24,31 +25,34 @@ pub mod pipe_form;
 pub mod pipe_run;
 pub mod printing;
 pub mod status;
+pub mod words;
 
 use crate::check::check_files;
+use crate::fault_line::refuse_with;
 use crate::job::job;
 use crate::jobs::{Job, JobFault};
 use crate::model::read_model;
 use crate::pipe_run::run_pipe;
 use crate::status::{RESOURCES, USAGE, finish};
+use crate::words::words_of;
 use pit_model::block::Block;
 use pit_model::destination::{Destination, Valuer};
 use pit_model::formula::Formula;
 use pit_model::worth::{dump_worth, mill_worth};
 use std::alloc::Global;
 use std::process::ExitCode;
-use std::{env, io};
 
 fn main(rt: HostRuntime) -> ExitCode {
     let alloc = rt.alloc();
-    let Ok(words) = words_of(&rt, alloc) else {
-        return out_of_memory(&rt);
+    let mut text = Vec::new(alloc);
+    let mut lines = Vec::new(alloc);
+    let words = match words_of(&rt, alloc, &mut lines) {
+        Ok(words) => words,
+        Err(status) => return end(&rt, status, text.as_slice(), lines.as_slice()),
     };
     if words.len() > 1 {
         return run_job(&rt, alloc, words.as_slice());
     }
-    let mut text = Vec::new(alloc);
-    let mut lines = Vec::new(alloc);
     let model = match read_model(&rt, alloc, &mut lines) {
         Ok(model) => model,
         Err(status) => return end(&rt, status, text.as_slice(), lines.as_slice()),
@@ -138,16 +142,12 @@ fn out_of_memory(rt: &HostRuntime) -> ExitCode {
     end(rt, RESOURCES, &[], &[])
 }
 
-// The words of the command line, the program's name first.
-fn words_of(rt: &HostRuntime, alloc: Global) -> io::Result<Vec<String>> {
-    Ok(env::args(rt)?.collect(alloc)?)
-}
-
 // Does the job that the words state.
 fn run_job(rt: &HostRuntime, alloc: Global, words: &[String]) -> ExitCode {
     let mut text = Vec::new(alloc);
     let mut lines = Vec::new(alloc);
     let status = match job(alloc, words) {
+        Ok(Job::Compile { .. }) => refuse_with(alloc, "compile: NotYet", USAGE, &mut lines),
         Ok(Job::Check { base }) => { check_files(rt, alloc, base.as_str(), &mut text, &mut lines) }
         Err(JobFault::Line(error)) => show(alloc, &error, &mut text, &mut lines),
         Err(JobFault::OutOfMemory) => RESOURCES,

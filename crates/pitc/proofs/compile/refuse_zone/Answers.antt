@@ -1,0 +1,9 @@
+use Rattle.std.proofs.Common.{rules, ◌≡◌, subst}
+use Rattle.pitc.specs.Compile.{zone_fault}
+use Rattle.pitc.specs.FaultLine.{EndsWith}
+use Rattle.pitc.proofs.compile.refuse_zone.Goals as goal
+
+pub returns-in-Ok : goal.returns-in-Ok
+returns-in-Ok c =
+    let same : c.as_str.result.now ≡ zone_fault c.args.file = search rules in
+    subst (λ words. EndsWith 3 words _ _ _) same c.refuse_with.ensures

@@ -1,0 +1,129 @@
+//! What a compile reads and writes: the plan's file, the zone files and the files of the instance.
+
+ghost use Rattle.std.specs.Prelude.{◌≡◌, ◌≢◌, ◌≤◌, ◌++◌, ◌∷◌, ℕ, List, [], Ok, codes, length, string_bytes, vec_len, IfOk, IfErr, OnOk};
+ghost use Rattle.std.specs.Fmt.{decimal};
+ghost use Rattle.pit_model.specs.Planned.{planned};
+ghost use Rattle.pitc.specs.Compile.{ZonesRefused, zone_fault};
+ghost use Rattle.pitc.specs.FaultLine.{EndsRefused, EndsWith};
+
+use crate::fault_line::{MAX_PLAN_BYTES, plan_from, refuse_with};
+use crate::status::{DEVICE, REFUSED, RESOURCES};
+use minelib_text::file_sink::FileSink;
+use pit_model::plan::Plan;
+use std::alloc::{AllocError, Global};
+use std::rt::Files;
+use zone_csv::file_feed::FileFeed;
+use zone_csv::slurp::{SlurpFault, slurp};
+
+#[cfg(test)]
+mod tests;
+
+/// The plan in the file at this path; or the status of its refusal, with its line appended to `lines`.
+///
+/// A file that cannot be opened or read is `plan: FeedFailed`. Where memory is refused the status is that of memory, and `lines` is as it
+/// was.
+pub fn read_plan_file<R: Files>(
+    rt: &R,
+    alloc: Global,
+    path: &str,
+    lines: &mut Vec<u8>,
+) -> Result<Plan, u8>
+    ensures plan { IfOk result (λ plan. (text : List ℕ) × (length text ≤ 1048576) × (planned text ≡ Ok plan)) }
+    ensures quiet { OnOk result (lines.new.items ≡ lines.old.items) }
+    ensures refused { IfErr result (EndsRefused lines.old.items lines.new.items) }
+{
+    match text_of(rt, alloc, path) {
+        Ok(text) => plan_from(alloc, text.as_slice(), lines),
+        Err(fault) => Err(refuse_plan(alloc, fault, lines)),
+    }
+}
+
+// Appends the line of the fault of a plan's file, and answers its status.
+fn refuse_plan(alloc: Global, fault: SlurpFault, lines: &mut Vec<u8>) -> u8
+    ensures { EndsRefused lines.old.items lines.new.items result }
+{
+    let (words, status) = match fault {
+        SlurpFault::FeedFailed => ("plan: FeedFailed", DEVICE),
+        SlurpFault::TooLong => ("plan: TooLong", REFUSED),
+        SlurpFault::OutOfMemory => return RESOURCES,
+    };
+    refuse_with(alloc, words, status, lines)
+}
+
+// The text of a plan's file.
+fn text_of<R: Files>(rt: &R, alloc: Global, path: &str) -> Result<Vec<u8>, SlurpFault> {
+    let mut feed = FileFeed::open(rt, path)?;
+    slurp(alloc, &mut feed, MAX_PLAN_BYTES as u64)
+}
+
+/// Opens the zone files, in order; or answers the status of a refusal, with its line appended to `lines`.
+///
+/// The first file that cannot be opened is named, by its number from 0, and no further one is opened. Where memory is refused the status
+/// is that of memory, and `lines` is as it was.
+pub fn open_zones<R: Files>(
+    rt: &R,
+    alloc: Global,
+    zones: &[String],
+    lines: &mut Vec<u8>,
+) -> Result<Vec<FileFeed<R::File>>, u8>
+    ensures all { IfOk result (λ feeds. vec_len feeds ≡ length zones.now) }
+    ensures quiet { OnOk result (lines.new.items ≡ lines.old.items) }
+    ensures refused { IfErr result (ZonesRefused (length zones.now) lines.old.items lines.new.items) }
+{
+    let mut feeds = Vec::new(alloc);
+    for file in 0..zones.len() {
+        let Ok(feed) = FileFeed::open(rt, zones[file].as_str()) else {
+            return Err(refuse_zone(alloc, file, lines));
+        };
+        if feeds.push(feed).is_err() {
+            return Err(RESOURCES);
+        }
+    }
+    Ok(feeds)
+}
+
+// Appends the line of a zone file that cannot be opened, and answers its status.
+fn refuse_zone(alloc: Global, file: usize, lines: &mut Vec<u8>) -> u8
+    ensures { EndsWith 3 (zone_fault file) lines.old.items lines.new.items result }
+{
+    match format!(in alloc; "file {file}: FeedFailed") {
+        Ok(words) => refuse_with(alloc, words.as_str(), DEVICE, lines),
+        Err(_) => RESOURCES,
+    }
+}
+
+/// A sink for the file of the instance with this ending. It is not begun.
+///
+/// # Errors
+///
+/// Memory for the path was refused.
+pub fn sink_of<'a, R: Files>(
+    rt: &'a R,
+    alloc: Global,
+    base: &str,
+    ending: &str,
+) -> Result<FileSink<'a, R>, AllocError> {
+    let path = path_of(alloc, base, ending)?;
+    FileSink::new(rt, alloc, path.as_str())
+}
+
+// The path of a file of the instance.
+fn path_of(alloc: Global, base: &str, ending: &str) -> Result<String, AllocError>
+    ensures { IfOk result (λ path. string_bytes path ≡ base.now ++ (46 ∷ ending.now)) }
+{
+    Ok(format!(in alloc; "{base}.{ending}")?)
+}
+
+/// Appends the line of so many rows to `out`, and answers 0; or the status of memory, where it is refused, and then `out` is as it was.
+pub fn tell_rows(alloc: Global, rows: u64, out: &mut Vec<u8>) -> u8
+    ensures told { result ≡ 0 → out.new.items ≡ out.old.items ++ (codes "rows " ++ (decimal rows ++ 10 ∷ [])) }
+    ensures kept { result ≢ 0 → (result ≡ 4) × (out.new.items ≡ out.old.items) }
+{
+    let Ok(line) = format!(in alloc; "rows {rows}\n") else {
+        return RESOURCES;
+    };
+    match out.extend_from_slice(line.as_bytes()) {
+        Ok(()) => 0,
+        Err(_) => RESOURCES,
+    }
+}
