@@ -5,7 +5,7 @@ use Rattle.clap.specs.Words.{Row, Text, all_of, first_of}
 use Rattle.pitc.specs.CommandLine.{Finds, FindsCheck, FindsCompile, FindsIfAny, FindsSettings}
 use Rattle.pitc.specs.declared.jobs.Job.{Job}
 use Rattle.pitc.specs.declared.jobs.Job.TheVariants.{Check, Compile}
-use Rattle.pitc.specs.declared.settings_words.Settings.{Settings}
+use Rattle.pit_compile.specs.declared.settings.Settings.{Settings}
 
 -- the name and the rows of what was found
 abbrev name_in : Option (Text × List Row) → Text

@@ -1,10 +1,11 @@
-pub mod Accepted
 mod Again
-pub mod Commands
-pub mod FoundJob
 mod Joined
 mod Lent
 mod Lines
-pub mod Numbers
+mod Sections
 mod Uncut
 mod Walk
+pub mod Accepted
+pub mod Commands
+pub mod FoundJob
+pub mod Numbers

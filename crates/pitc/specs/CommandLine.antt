@@ -10,7 +10,7 @@ use Rattle.pitc.specs.declared.jobs.Job.{Job}
 use Rattle.pitc.specs.declared.jobs.Job.TheVariants.{Check, Compile}
 use Rattle.pitc.specs.declared.jobs.JobFault.{JobFault}
 use Rattle.pitc.specs.declared.jobs.JobFault.TheVariants.{OutOfMemory, Line}
-use Rattle.pitc.specs.declared.settings_words.Settings.{Settings}
+use Rattle.pit_compile.specs.declared.settings.Settings.{Settings}
 
 -- BASE, which has to be given
 abbrev pub base_word : Rule

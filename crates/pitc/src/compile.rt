@@ -1,22 +1,90 @@
-//! What a compile reads and writes: the plan's file, the zone files and the files of the instance.
+//! From the files of a plan and its zones to the files of an instance.
 
 ghost use Rattle.std.specs.Prelude.{◌≡◌, ◌≢◌, ◌≤◌, ◌++◌, ◌∷◌, ℕ, List, [], Ok, codes, length, string_bytes, vec_len, IfOk, IfErr, OnOk};
-ghost use Rattle.std.specs.Fmt.{decimal};
 ghost use Rattle.pit_model.specs.Planned.{planned};
-ghost use Rattle.pitc.specs.Compile.{ZonesRefused, zone_fault};
+ghost use Rattle.pitc.specs.Compile.{TellsRows, ZonesRefused, rows_line, zone_fault};
 ghost use Rattle.pitc.specs.FaultLine.{EndsRefused, EndsWith};
 
-use crate::fault_line::{MAX_PLAN_BYTES, plan_from, refuse_with};
+use crate::fault_line::{MAX_PLAN_BYTES, plan_from, refusal_line, refuse_with};
 use crate::status::{DEVICE, REFUSED, RESOURCES};
 use minelib_text::file_sink::FileSink;
+use pit_compile::refusal::Refusal;
+use pit_compile::run;
+use pit_compile::settings::Settings;
+use pit_compile::sinks::Sinks;
+use pit_model::destination::Destination;
 use pit_model::plan::Plan;
 use std::alloc::{AllocError, Global};
 use std::rt::Files;
+use std::sync::Wait;
+use std::thread::Threads;
+use valuers::OpenGate;
 use zone_csv::file_feed::FileFeed;
 use zone_csv::slurp::{SlurpFault, slurp};
 
 #[cfg(test)]
 mod tests;
+
+/// Compiles the zone files, which are opened in order, and writes the instance to the files `BASE.blocks`, `BASE.prec`, `BASE.upit`,
+/// `BASE.pcpsp` and `BASE.cpit`, each of which replaces what is there. Appends the line `rows N` to `out`, N being the number of rows over all
+/// zone files, or the line of the refusal to `err`, and answers the status that the program ends with.
+///
+/// The first zone file that cannot be opened is refused before anything else. No file is begun before all blocks are known to be different;
+/// where a file then fails, those before it are whole. Only one of the two vectors grows. For want of memory the status is that of memory, and
+/// both are as they were.
+pub fn compile_files<R: Files + Threads + Wait + Sync>(
+    rt: &R,
+    alloc: Global,
+    plan: &Plan,
+    destinations: &[Destination],
+    settings: Settings,
+    base: &str,
+    zones: &[String],
+    out: &mut Vec<u8>,
+    err: &mut Vec<u8>,
+) -> u8
+    ensures done { result ≡ 0 → TellsRows plan.now (length zones.now) out.old.items out.new.items }
+    ensures quiet { result ≡ 0 → err.new.items ≡ err.old.items }
+    ensures kept { result ≢ 0 → out.new.items ≡ out.old.items }
+    ensures told { result ≢ 0 → EndsRefused err.old.items err.new.items result }
+{
+    let feeds = match open_zones(rt, alloc, zones, err) {
+        Ok(feeds) => feeds,
+        Err(status) => return status,
+    };
+    let Ok(mut sinks) = sinks_of(rt, alloc, base) else {
+        return RESOURCES;
+    };
+    match run(
+        rt,
+        alloc,
+        feeds,
+        plan,
+        destinations,
+        settings,
+        &OpenGate,
+        &mut sinks,
+    ) {
+        Ok(gathered) => tell_rows(alloc, gathered.rows(), out),
+        Err(Refusal::OutOfMemory) => RESOURCES,
+        Err(refusal) => refusal_line(alloc, &refusal, err).unwrap_or(RESOURCES),
+    }
+}
+
+// Sinks for the files of the instance. None is begun. Fails only where memory for the paths is refused.
+fn sinks_of<'a, R: Files>(
+    rt: &'a R,
+    alloc: Global,
+    base: &str,
+) -> Result<Sinks<FileSink<'a, R>>, AllocError> {
+    Ok(Sinks {
+        blocks: sink_of(rt, alloc, base, "blocks")?,
+        prec: sink_of(rt, alloc, base, "prec")?,
+        upit: sink_of(rt, alloc, base, "upit")?,
+        pcpsp: sink_of(rt, alloc, base, "pcpsp")?,
+        cpit: sink_of(rt, alloc, base, "cpit")?,
+    })
+}
 
 /// The plan in the file at this path; or the status of its refusal, with its line appended to `lines`.
 ///
@@ -56,11 +124,11 @@ fn text_of<R: Files>(rt: &R, alloc: Global, path: &str) -> Result<Vec<u8>, Slurp
     slurp(alloc, &mut feed, MAX_PLAN_BYTES as u64)
 }
 
-/// Opens the zone files, in order; or answers the status of a refusal, with its line appended to `lines`.
-///
-/// The first file that cannot be opened is named, by its number from 0, and no further one is opened. Where memory is refused the status
-/// is that of memory, and `lines` is as it was.
-pub fn open_zones<R: Files>(
+// Opens the zone files, in order; or answers the status of a refusal, with its line appended to `lines`.
+//
+// The first file that cannot be opened is named, by its number from 0, and no further one is opened. Where memory is refused the status
+// is that of memory, and `lines` is as it was.
+fn open_zones<R: Files>(
     rt: &R,
     alloc: Global,
     zones: &[String],
@@ -92,12 +160,8 @@ fn refuse_zone(alloc: Global, file: usize, lines: &mut Vec<u8>) -> u8
     }
 }
 
-/// A sink for the file of the instance with this ending. It is not begun.
-///
-/// # Errors
-///
-/// Memory for the path was refused.
-pub fn sink_of<'a, R: Files>(
+// A sink for the file of the instance with this ending. It is not begun. Fails only where memory for the path is refused.
+fn sink_of<'a, R: Files>(
     rt: &'a R,
     alloc: Global,
     base: &str,
@@ -114,9 +178,9 @@ fn path_of(alloc: Global, base: &str, ending: &str) -> Result<String, AllocError
     Ok(format!(in alloc; "{base}.{ending}")?)
 }
 
-/// Appends the line of so many rows to `out`, and answers 0; or the status of memory, where it is refused, and then `out` is as it was.
-pub fn tell_rows(alloc: Global, rows: u64, out: &mut Vec<u8>) -> u8
-    ensures told { result ≡ 0 → out.new.items ≡ out.old.items ++ (codes "rows " ++ (decimal rows ++ 10 ∷ [])) }
+// Appends the line of so many rows to `out`, and answers 0; or the status of memory, where it is refused, and then `out` is as it was.
+fn tell_rows(alloc: Global, rows: u64, out: &mut Vec<u8>) -> u8
+    ensures told { result ≡ 0 → out.new.items ≡ out.old.items ++ rows_line rows }
     ensures kept { result ≢ 0 → (result ≡ 4) × (out.new.items ≡ out.old.items) }
 {
     let Ok(line) = format!(in alloc; "rows {rows}\n") else {

@@ -3,11 +3,11 @@
 ghost use Rattle.std.specs.Prelude.{◌≡◌, ℕ, [], Some, codes, map, string_bytes, IfOk, IfErr, MatchOption};
 ghost use Rattle.clap.specs.Words.{fault_of, found_of, rows_of, subcommand_rows_of};
 ghost use Rattle.pitc.specs.CommandLine.{FindsIfAny, FindsNumber, FindsSettings, IsNoMemoryLine, RefusesWords, StatesJob, program};
-ghost use Rattle.pitc.specs.declared.settings_words.Settings.{Settings as ASettings};
+ghost use Rattle.pit_compile.specs.declared.settings.Settings.{Settings as ASettings};
 
 use crate::command_line::{MAX_CAPACITY, MAX_VALUERS, command_line};
 use crate::jobs::{Job, JobFault};
-use crate::settings_words::Settings;
+use pit_compile::settings::Settings;
 use clap::ArgMatches;
 use clap::error::ErrorKind;
 use std::alloc::{AllocError, Global};

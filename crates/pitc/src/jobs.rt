@@ -2,7 +2,7 @@
 
 ghost use Rattle.std.specs.Prelude.{◌≡◌};
 
-use crate::settings_words::Settings;
+use pit_compile::settings::Settings;
 use std::alloc::AllocError;
 use thiserror::Error;
 

@@ -25,15 +25,16 @@ pub mod pipe_form;
 pub mod pipe_run;
 pub mod printing;
 pub mod status;
+pub mod task;
 pub mod words;
 
 use crate::check::check_files;
-use crate::fault_line::refuse_with;
+use crate::compile::read_plan_file;
 use crate::job::job;
 use crate::jobs::{Job, JobFault};
 use crate::model::read_model;
-use crate::pipe_run::run_pipe;
 use crate::status::{RESOURCES, USAGE, finish};
+use crate::task::Task;
 use crate::words::words_of;
 use pit_model::block::Block;
 use pit_model::destination::{Destination, Valuer};
@@ -46,19 +47,12 @@ fn main(rt: HostRuntime) -> ExitCode {
     let alloc = rt.alloc();
     let mut text = Vec::new(alloc);
     let mut lines = Vec::new(alloc);
-    let words = match words_of(&rt, alloc, &mut lines) {
-        Ok(words) => words,
-        Err(status) => return end(&rt, status, text.as_slice(), lines.as_slice()),
-    };
-    if words.len() > 1 {
-        return run_job(&rt, alloc, words.as_slice());
-    }
-    let model = match read_model(&rt, alloc, &mut lines) {
-        Ok(model) => model,
+    let task = match task_of(&rt, alloc, &mut text, &mut lines) {
+        Ok(task) => task,
         Err(status) => return end(&rt, status, text.as_slice(), lines.as_slice()),
     };
     let mut destinations = Vec::new(alloc);
-    for named in model.plan.formulas() {
+    for named in task.plan().formulas() {
         let destination = match &named.formula {
             Formula::Mill {
                 recovery,
@@ -121,14 +115,7 @@ fn main(rt: HostRuntime) -> ExitCode {
             return out_of_memory(&rt);
         }
     }
-    let status = run_pipe(
-        &rt,
-        alloc,
-        &model,
-        destinations.as_slice(),
-        &mut text,
-        &mut lines,
-    );
+    let status = task.run(&rt, alloc, destinations.as_slice(), &mut text, &mut lines);
     end(&rt, status, text.as_slice(), lines.as_slice())
 }
 
@@ -142,17 +129,33 @@ fn out_of_memory(rt: &HostRuntime) -> ExitCode {
     end(rt, RESOURCES, &[], &[])
 }
 
-// Does the job that the words state.
-fn run_job(rt: &HostRuntime, alloc: Global, words: &[String]) -> ExitCode {
-    let mut text = Vec::new(alloc);
-    let mut lines = Vec::new(alloc);
-    let status = match job(alloc, words) {
-        Ok(Job::Compile { .. }) => refuse_with(alloc, "compile: NotYet", USAGE, &mut lines),
-        Ok(Job::Check { base }) => { check_files(rt, alloc, base.as_str(), &mut text, &mut lines) }
-        Err(JobFault::Line(error)) => show(alloc, &error, &mut text, &mut lines),
-        Err(JobFault::OutOfMemory) => RESOURCES,
-    };
-    end(rt, status, text.as_slice(), lines.as_slice())
+// The model that is to be compiled; or the status that the program ends with, once another job is done or refused.
+fn task_of(
+    rt: &HostRuntime,
+    alloc: Global,
+    text: &mut Vec<u8>,
+    lines: &mut Vec<u8>,
+) -> Result<Task, u8> {
+    let words = words_of(rt, alloc, lines)?;
+    if words.len() <= 1 {
+        return Ok(Task::Pipe(read_model(rt, alloc, lines)?));
+    }
+    match job(alloc, words.as_slice()) {
+        Ok(Job::Compile {
+            plan,
+            out,
+            settings,
+            zones,
+        }) => Ok(Task::Files {
+            plan: read_plan_file(rt, alloc, plan.as_str(), lines)?,
+            settings,
+            base: out,
+            zones,
+        }),
+        Ok(Job::Check { base }) => Err(check_files(rt, alloc, base.as_str(), text, lines)),
+        Err(JobFault::Line(error)) => Err(show(alloc, &error, text, lines)),
+        Err(JobFault::OutOfMemory) => Err(RESOURCES),
+    }
 }
 
 // Leaves help for standard output, and the text of a refused line for standard error.

@@ -12,7 +12,7 @@ use crate::printing::print;
 use lane::Gathered;
 use pit_compile::compile;
 use pit_compile::refusal::Refusal;
-use pit_compile::settings::Settings;
+use pit_compile::settings::{Settings, require_settings};
 use pit_model::destination::Destination;
 use pit_model::plan::Plan;
 use std::alloc::{AllocError, Global};
@@ -50,12 +50,13 @@ pub fn pipe<R: Threads + Wait + Sync>(
     out: &mut Vec<u8>,
 ) -> Result<Gathered, Refusal>
     ensures settings { (kind : ASettingsFault) → (result ≡ Err (Refusal.Settings kind))
-        → IsSettingsFault plan.now (length zones.now) (formulas_of destinations.now) pipe_settings kind }
+        ↔ IsSettingsFault plan.now (length zones.now) (formulas_of destinations.now) pipe_settings kind }
     ensures passed { IfOk result (HasPassed plan.now zones.now 4) }
     ensures printed { OnOk result (IsPrinted plan.now zones.now out.old.items out.new.items) }
     ensures refused { IfErr result (PipeRefused plan.now (formulas_of destinations.now) zones.now) }
     ensures kept { OnErr result (out.new.items ≡ out.old.items) }
 {
+    require_settings(zones.len(), plan, destinations, SETTINGS)?;
     let feeds = lent(alloc, zones)?;
     let compiled = compile(
         rt,
@@ -73,6 +74,7 @@ pub fn pipe<R: Threads + Wait + Sync>(
 
 // A feed of each piece, which is lent to it.
 fn lent<'a>(alloc: Global, zones: &'a [Piece]) -> Result<Vec<SliceFeed<'a>>, AllocError>
+    ensures count { IfOk result (λ feeds. length feeds.items ≡ length zones.now) }
     ensures left { IfOk result (λ feeds. map (⟦<SliceFeed<'a> as Feed>⟧.left) feeds.items ≡ map Some zones.now) }
     ensures sure { IfOk result (λ feeds. map (⟦<SliceFeed<'a> as Feed>⟧.is_sure) feeds.items ≡ map (λ _. true) zones.now) }
 {

@@ -1,6 +1,6 @@
 use super::job;
 use crate::jobs::{Job, JobFault};
-use crate::settings_words::Settings;
+use pit_compile::settings::Settings;
 use std::alloc::Global;
 use std::test::Fail;
 

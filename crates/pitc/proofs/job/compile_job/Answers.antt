@@ -2,7 +2,7 @@ use Rattle.std.proofs.Common.{rules, ◌≡◌, ◌∙◌, ◌<◌, [], None, So
 use Rattle.clap.proofs.WalkLemmas.{first_value-rows, raw_values-rows}
 use Rattle.clap.specs.Words.{first_value, found_of, matched_of, raw_values, rows_of}
 use Rattle.pitc.specs.CommandLine.{FindsSettings}
-use Rattle.pitc.specs.declared.settings_words.Settings.{Settings}
+use Rattle.pit_compile.specs.declared.settings.Settings.{Settings}
 use Rattle.pitc.proofs.FoundJob.{no_out, no_plan, no_settings, no_zone, no_zones, none_mapped, some_copied}
 use Rattle.pitc.proofs.job.compile_job.Goals as goal
 

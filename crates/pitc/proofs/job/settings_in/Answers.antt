@@ -1,7 +1,7 @@
 use Rattle.std.proofs.Common.{◌≡◌, ℕ, None, codes, subst, sym, MatchOption}
 use Rattle.clap.specs.Words.{found_of, rows_of}
 use Rattle.pitc.specs.CommandLine.{FindsNumber, FindsSettings}
-use Rattle.pitc.specs.declared.settings_words.Settings.{Settings}
+use Rattle.pit_compile.specs.declared.settings.Settings.{Settings}
 use Rattle.pitc.proofs.job.settings_in.Goals as goal
 
 pub returns-in_err-valuers : goal.returns-in_err-valuers
