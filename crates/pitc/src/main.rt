@@ -151,12 +151,25 @@ fn run_job(rt: &HostRuntime, alloc: Global, words: &[String]) -> ExitCode {
     let mut text = Vec::new(alloc);
     let mut lines = Vec::new(alloc);
     let status = match job(alloc, words) {
-        Ok(Job::Compile { .. }) => refuse_with(alloc, "compile: NotYet", USAGE, &mut lines),
-        Ok(Job::Check { base }) => { check_files(rt, alloc, base.as_str(), &mut text, &mut lines) }
+        Ok(job) => do_job(rt, alloc, &job, &mut text, &mut lines),
         Err(JobFault::Line(error)) => show(alloc, &error, &mut text, &mut lines),
         Err(JobFault::OutOfMemory) => RESOURCES,
     };
     end(rt, status, text.as_slice(), lines.as_slice())
+}
+
+// Does a job, and answers the status that the program ends with.
+fn do_job(
+    rt: &HostRuntime,
+    alloc: Global,
+    job: &Job,
+    text: &mut Vec<u8>,
+    lines: &mut Vec<u8>,
+) -> u8 {
+    match job {
+        Job::Compile { .. } => refuse_with(alloc, "compile: NotYet", USAGE, lines),
+        Job::Check { base } => check_files(rt, alloc, base.as_str(), text, lines),
+    }
 }
 
 // Leaves help for standard output, and the text of a refused line for standard error.
