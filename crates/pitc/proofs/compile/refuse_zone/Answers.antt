@@ -6,4 +6,4 @@ use Rattle.pitc.proofs.compile.refuse_zone.Goals as goal
 pub returns-in-Ok : goal.returns-in-Ok
 returns-in-Ok c =
     let same : c.as_str.result.now ≡ zone_fault c.args.file = search rules in
-    subst (λ words. EndsWith 3 words _ _ _) same c.refuse_with.ensures
+    subst (λ words. EndsWith 3 words c.args.lines.now.items c.refuse_with.new.lines.items c.refuse_with.result) same c.refuse_with.ensures
