@@ -33,16 +33,18 @@ none_where_suits plan files formulas settings Valuers fit h = h.1 fit.valuers_fi
 none_where_suits plan files formulas settings Capacity fit h = h.2 fit.capacity_fits
 none_where_suits plan files formulas settings Destinations fit h = h.3 fit.destinations_fit
 
+-- the fault that an answer tells
+fault_in : SettingsFault → Result (Unit {0}) SettingsFault → SettingsFault
+fault_in other (Ok done) = other
+fault_in other (Err fault) = fault
+
 -- an answer that tells a fault of the settings, or that they suit, tells it exactly
 pub told_exactly : (plan : PlanParts) (files : ℕ) (formulas : List Formula) (settings : Settings) (answer : Result (Unit {0}) SettingsFault)
     → OnOk answer (Suits plan files formulas settings) → IfErr answer (IsSettingsFault plan files formulas settings)
     → (kind : SettingsFault) → (answer ≡ Err kind) ↔ IsSettingsFault plan files formulas settings kind
 told_exactly plan files formulas settings (Ok done) fit refused kind =
     (λ e. absurd cc, λ h. absurd (none_where_suits plan files formulas settings kind fit h))
-told_exactly plan files formulas settings (Err fault) fit refused kind =
-    (λ e. subst (IsFault) (told e) refused, λ h. ap Err (only_one plan files formulas settings fault kind refused h)) where
-      IsFault : SettingsFault → Type 0
-      IsFault = IsSettingsFault plan files formulas settings
-
-      told : {k : SettingsFault} → Err {Unit {0}} fault ≡ Err k → fault ≡ k
-      told e = cc
+told_exactly plan files formulas settings (Err fault) fit refused kind = (
+  λ e. subst (λ k. IsSettingsFault plan files formulas settings k) (ap (fault_in fault) e) refused,
+  λ h. ap Err (only_one plan files formulas settings fault kind refused h),
+)
