@@ -1,7 +1,7 @@
 -- What the two halves of a run say of it.
-use Rattle.std.proofs.Common.{◌≡◌, ℕ, inl, inr, Bool, List, Option, refl, subst}
+use Rattle.std.proofs.Common.{◌≡◌, ℕ, inr, Bool, List, Option, subst}
 use Rattle.pit_model.specs.Plan.{PlanParts}
-use Rattle.pit_compile.specs.Compiled.{IsCompiled, IsNotCompiled}
+use Rattle.pit_compile.specs.Compiled.{IsCompiled}
 use Rattle.pit_compile.specs.Run.{IsRefused}
 use Rattle.pit_compile.specs.Sinks.{AreCutOff, AreCutOffAt, place_of, texts_of}
 use Rattle.minelib_text.specs.SinkState.{SinkState}
