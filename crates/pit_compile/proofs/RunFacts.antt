@@ -1,7 +1,7 @@
 -- What the two halves of a run say of it.
-use Rattle.std.proofs.Common.{◌≡◌, ℕ, inl, inr, Bool, List, Option, refl, subst}
+use Rattle.std.proofs.Common.{◌≡◌, ℕ, inr, Bool, List, Option, subst}
 use Rattle.pit_model.specs.Plan.{PlanParts}
-use Rattle.pit_compile.specs.Compiled.{IsCompiled, IsNotCompiled}
+use Rattle.pit_compile.specs.Compiled.{IsCompiled}
 use Rattle.pit_compile.specs.Run.{IsRefused}
 use Rattle.pit_compile.specs.Sinks.{AreCutOff, AreCutOffAt, place_of, texts_of}
 use Rattle.minelib_text.specs.SinkState.{SinkState}
@@ -10,18 +10,6 @@ use Rattle.pit_compile.specs.declared.compiling.Compiled.{Compiled}
 use Rattle.pit_compile.specs.declared.refusal.Refusal.{Refusal}
 use Rattle.pit_compile.specs.declared.refusal.Refusal.TheVariants.{Settings, NoThread, FeedFailed, TooLong, Row, Same, SinkFailed, OutOfMemory}
 use Rattle.pit_compile.specs.declared.settings.SettingsFault.{SettingsFault}
-
--- a run that compiles nothing leaves the sinks
-pub not_compiled : (plan : PlanParts) (lefts : List (Option (List ℕ))) (sures : List Bool) (old : List SinkState) (refusal : Refusal)
-    → IsNotCompiled plan lefts sures refusal → IsRefused plan lefts sures old old refusal
-not_compiled plan lefts sures old (Settings kind) h = refl
-not_compiled plan lefts sures old NoThread h = refl
-not_compiled plan lefts sures old (FeedFailed file) h = (h, refl)
-not_compiled plan lefts sures old (TooLong file) h = (h, refl)
-not_compiled plan lefts sures old (Row file fault) h = (h, refl)
-not_compiled plan lefts sures old (Same first again) h = (h, refl)
-not_compiled plan lefts sures old (SinkFailed which) h = absurd h
-not_compiled plan lefts sures old OutOfMemory h = inl refl
 
 -- a run that is refused in writing
 pub cut_off : (plan : PlanParts) (lefts : List (Option (List ℕ))) (sures : List Bool) (valuers : ℕ) (old new : List SinkState) (c : Compiled) (refusal : Refusal)
