@@ -34,7 +34,7 @@ none_where_suits plan files formulas settings Capacity fit h = h.2 fit.capacity_
 none_where_suits plan files formulas settings Destinations fit h = h.3 fit.destinations_fit
 
 -- the fault that an answer tells
-fault_in : SettingsFault → Result (Unit {0}) SettingsFault → SettingsFault
+abbrev fault_in : SettingsFault → Result (Unit {0}) SettingsFault → SettingsFault
 fault_in other (Ok done) = other
 fault_in other (Err fault) = fault
 

@@ -50,6 +50,7 @@ pub fn require_settings(
     settings: Settings,
 ) -> Result<(), SettingsFault>
     ensures fit { OnOk result (Suits plan.now files (formulas_of destinations.now) settings) }
+    ensures refused { IfErr result (IsSettingsFault plan.now files (formulas_of destinations.now) settings) }
     ensures exact { (kind : ASettingsFault) → (result ≡ Err kind) ↔ IsSettingsFault plan.now files (formulas_of destinations.now) settings kind }
 {
     suits(files, plan, destinations, settings)

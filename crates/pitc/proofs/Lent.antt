@@ -1,13 +1,15 @@
 -- Zone files that are lent to a run: it reads just these, and no feed of them fails.
-use Rattle.std.proofs.Common.{◌≡◌, ℕ, zero, suc, Bool, true, false, List, [], ◌∷◌, length, map, Option, Some, None, IfSome, refl, ap, ◌∙◌, subst}
+use Rattle.std.proofs.Common.{◌≡◌, ℕ, zero, suc, Bool, true, false, List, [], ◌∷◌, length, map, Option, Some, None, IfSome, Result, Ok, Err, refl, ap, ◌∙◌, subst}
 use Rattle.std.specs.List.{AllZip}
 use Rattle.std.specs.Prelude.{slice_get}
 use Rattle.pit_compile.specs.Compiled.{AreGiven, HasPassed, IsVerdict, IsFeedFault, IsNotCompiled}
-use Rattle.pit_compile.specs.Settings.{IsSettingsFault}
+use Rattle.pit_compile.specs.Settings.{IsSettingsFault, Suits}
 use Rattle.pit_compile.specs.Verdict.{IsRefusedBy}
 use Rattle.pit_compile.specs.declared.refusal.Refusal.{Refusal}
 use Rattle.pit_compile.specs.declared.refusal.Refusal.TheVariants.{Settings, NoThread, FeedFailed, TooLong, Row, Same, SinkFailed, OutOfMemory}
+use Rattle.pit_compile.specs.declared.settings.Settings as set
 use Rattle.pit_compile.specs.declared.settings.SettingsFault.{SettingsFault}
+use Rattle.pit_compile.specs.declared.settings.SettingsFault.TheVariants.{Files, Valuers, Capacity, Destinations}
 use Rattle.pit_model.specs.Plan.{PlanParts}
 use Rattle.pit_model.specs.declared.formula.Formula.{Formula}
 use Rattle.pitc.specs.Printed.{pipe_settings, PipeRefused}
@@ -41,3 +43,30 @@ module _ (plan : PlanParts) (formulas : List Formula) (zones : List (List ℕ)) 
   refused_by (Same first again) settings h = by_verdict (Same first again) h
   refused_by (SinkFailed which) settings h = h
   refused_by OutOfMemory settings h = _
+
+-- settings that suit have no fault
+pub none_where_suits : (plan : PlanParts) (files : ℕ) (formulas : List Formula) (settings : set.Settings) (kind : SettingsFault)
+    → Suits plan files formulas settings → IsSettingsFault plan files formulas settings kind → ⊥
+none_where_suits plan files formulas settings Files fit h = h fit.files_fit
+none_where_suits plan files formulas settings Valuers fit h = h.1 fit.valuers_fit
+none_where_suits plan files formulas settings Capacity fit h = h.2 fit.capacity_fits
+none_where_suits plan files formulas settings Destinations fit h = h.3 fit.destinations_fit
+
+-- the refusal of an answer, and the settings' fault of a refusal
+abbrev pub refusal_in : {A : Type 0} → Result A Refusal → Refusal
+refusal_in (Ok done) = OutOfMemory
+refusal_in (Err refusal) = refusal
+
+abbrev pub fault_in : {A : Type 0} → Result A SettingsFault → SettingsFault
+fault_in (Ok done) = Files
+fault_in (Err fault) = fault
+
+abbrev pub kind_in : Refusal → SettingsFault
+kind_in (Settings kind) = kind
+kind_in NoThread = Files
+kind_in (FeedFailed file) = Files
+kind_in (TooLong file) = Files
+kind_in (Row file fault) = Files
+kind_in (Same first again) = Files
+kind_in (SinkFailed which) = Files
+kind_in OutOfMemory = Files

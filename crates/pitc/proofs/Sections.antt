@@ -3,7 +3,7 @@ use Rattle.std.proofs.Common.{◌≡◌, ℕ, List, [], ◌∷◌, ◌++◌, Opt
 use Rattle.minelib_text.specs.Sections.{Sections, told}
 use Rattle.minelib_text.specs.SinkState.{IsWritten}
 
-held : Option (List ℕ) → List ℕ
+abbrev held : Option (List ℕ) → List ℕ
 held None = []
 held (Some bytes) = bytes
 

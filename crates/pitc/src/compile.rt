@@ -43,6 +43,8 @@ pub fn compile_files<R: Files + Threads + Wait + Sync>(
     out: &mut Vec<u8>,
     err: &mut Vec<u8>,
 ) -> u8
+where
+    R::File: Send,
     ensures done { result ≡ 0 → TellsRows plan.now (length zones.now) out.old.items out.new.items }
     ensures quiet { result ≡ 0 → err.new.items ≡ err.old.items }
     ensures kept { result ≢ 0 → out.new.items ≡ out.old.items }

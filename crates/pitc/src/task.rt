@@ -47,6 +47,8 @@ impl Task {
         text: &mut Vec<u8>,
         lines: &mut Vec<u8>,
     ) -> u8
+    where
+        R::File: Send,
         ensures told { result ≢ 0 → EndsRefused lines.old.items lines.new.items result }
     {
         match self {

@@ -1,28 +1,52 @@
-use Rattle.std.proofs.Common.{◌≡◌, ◌++◌, ◌∙◌, ℕ, Ok, Err, length, map, subst, ap, arith, rules, Some, true}
+use Rattle.std.proofs.Common.{◌≡◌, ◌++◌, ◌∙◌, ℕ, Ok, Err, length, map, subst, sym, ap, arith, rules, Some, true}
 use Rattle.pit_compile.specs.Compiled.{HasPassed, instance_from}
 use Rattle.pit_compile.specs.Settings.{IsSettingsFault}
 use Rattle.pit_compile.specs.Verdict.{IsAccepted}
-use Rattle.pit_compile.specs.declared.refusal.Refusal.TheVariants.{Settings}
+use Rattle.pit_compile.specs.declared.refusal.Refusal.TheVariants.{Settings, OutOfMemory}
 use Rattle.pit_compile.specs.declared.settings.SettingsFault.{SettingsFault}
 use Rattle.pit_model.specs.Destinations.{formulas_of}
 use Rattle.pitc.specs.Printed.{pipe_settings, printed, IsPrinted, PipeRefused}
-use Rattle.pitc.proofs.Lent.{given_texts, refused_by}
+use Rattle.pitc.proofs.Lent.{given_texts, refused_by, none_where_suits, refusal_in, fault_in, kind_in}
 use Rattle.pitc.proofs.pipe_form.pipe.Goals as goal
 
 pub returns-clause-settings : goal.returns-clause-settings
-returns-clause-settings g c = ?
+returns-clause-settings g c = λ kind. (
+  λ e. absurd cc,
+  λ h. absurd (none_where_suits c.args.plan.now (length c.args.zones.now) (formulas_of c.args.destinations.now) pipe_settings kind c.in_ok-require_settings.ensures.fit h),
+)
 
 pub returns-in_err-require_settings-clause-settings : goal.returns-in_err-require_settings-clause-settings
-returns-in_err-require_settings-clause-settings g c = ?
+returns-in_err-require_settings-clause-settings g c =
+    let told : c.from_residual.result ≡ Err (Settings c.in_err-require_settings.field-0.0) = search rules in
+    λ kind. (
+      λ e. (c.require_settings.ensures.exact kind).0 (c.in_err-require_settings.was ∙ ap (λ r. Err (kind_in (refusal_in r))) (sym told ∙ e)),
+      λ h. told ∙ ap (λ r. Err (Settings (fault_in r))) (sym c.in_err-require_settings.was ∙ (c.require_settings.ensures.exact kind).1 h),
+    )
 
 pub returns-in_err-feeds-clause-settings : goal.returns-in_err-feeds-clause-settings
-returns-in_err-feeds-clause-settings g c = ?
+returns-in_err-feeds-clause-settings g c =
+    let told : c.from_residual-in_err-feeds.result ≡ Err OutOfMemory = search rules in
+    λ kind. (
+      λ e. let clash = sym told ∙ e in absurd cc,
+      λ h. absurd (none_where_suits c.args.plan.now (length c.args.zones.now) (formulas_of c.args.destinations.now) pipe_settings kind c.in_ok-require_settings.ensures.fit h),
+    )
 
 pub returns-in_err-compiled-clause-settings : goal.returns-in_err-compiled-clause-settings
-returns-in_err-compiled-clause-settings g c = ?
+returns-in_err-compiled-clause-settings g c =
+    let told : c.from_residual-in_err-compiled.result ≡ Err c.in_err-compiled.field-0.0 = search rules in
+    λ kind. (
+      λ e. subst (λ n. IsSettingsFault c.args.plan.now n (formulas_of c.args.destinations.now) pipe_settings kind) c.in_ok-feeds.ensures.count
+        ((c.compile.ensures.settings kind).0 (c.in_err-compiled.was ∙ ap (λ r. Err (refusal_in r)) (sym told ∙ e))),
+      λ h. absurd (none_where_suits c.args.plan.now (length c.args.zones.now) (formulas_of c.args.destinations.now) pipe_settings kind c.in_ok-require_settings.ensures.fit h),
+    )
 
 pub returns-in_err-print-clause-settings : goal.returns-in_err-print-clause-settings
-returns-in_err-print-clause-settings g c = ?
+returns-in_err-print-clause-settings g c =
+    let told : c.from_residual-in_err-print.result ≡ Err OutOfMemory = search rules in
+    λ kind. (
+      λ e. let clash = sym told ∙ e in absurd cc,
+      λ h. absurd (none_where_suits c.args.plan.now (length c.args.zones.now) (formulas_of c.args.destinations.now) pipe_settings kind c.in_ok-require_settings.ensures.fit h),
+    )
 
 pub returns-in_err-compiled-clause-refused : goal.returns-in_err-compiled-clause-refused
 returns-in_err-compiled-clause-refused g c =

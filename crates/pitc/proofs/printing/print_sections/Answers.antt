@@ -5,7 +5,7 @@ use Rattle.pitc.specs.Printed.{printed, section}
 use Rattle.pitc.proofs.Sections.{section_more, five_more, where_ok}
 use Rattle.pitc.proofs.printing.print_sections.Goals as goal
 
-line : List ℕ → List ℕ
+abbrev line : List ℕ → List ℕ
 line name = codes "== " ++ (name ++ 10 ∷ [])
 
 pub returns-clause-ok : goal.returns-clause-ok
