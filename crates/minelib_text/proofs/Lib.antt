@@ -7,6 +7,7 @@ pub mod InstanceBack
 pub mod ItemLines
 pub mod ItemSteps
 pub mod ItemsBack
+pub mod KeepFacts
 pub mod KeySteps
 pub mod KeysBack
 pub mod LineFacts

@@ -1,8 +1,8 @@
-//! What holds of texts, whatever they say: each contract is a law, and a call of it does nothing.
+//! What holds of texts, whatever they say: each contract is a law, and a call of it changes nothing.
 ghost use Rattle.std.specs.Prelude.{◌≡◌, ℕ, ◌≤◌, List, length, Ok};
 ghost use Rattle.mine_instance.specs.Cpit.{CpitParts, IsCpit};
 ghost use Rattle.mine_instance.specs.Valid.{IsValid};
-ghost use Rattle.mine_instance.specs.declared.instance.Instance.{Instance};
+ghost use Rattle.mine_instance.specs.declared.instance.Instance.{Instance as OneInstance};
 ghost use Rattle.minelib_text.specs.BlockLines.{blocks_in};
 ghost use Rattle.minelib_text.specs.Denotes.{Denotes, DenotesCpit};
 ghost use Rattle.minelib_text.specs.Kept.{IsKept, IsKeptCpit};
@@ -16,9 +16,13 @@ ghost use Rattle.minelib_text.specs.Written.{text_blocks, text_prec, text_pcpsp,
 ghost use Rattle.minelib_text.specs.declared.model_key.Problem.{Problem};
 ghost use Rattle.pit_model.specs.declared.block.Block.{Block};
 
+use crate::keeping::{keep_cpit, keep_instance};
+use mine_instance::cpit::Cpit;
+use mine_instance::instance::Instance;
+
 /// The texts of a valid instance denote that instance.
 pub fn written_is_read()
-    ensures { (i : Instance) → IsValid i → IsKept i → Denotes (text_blocks i) (text_prec i) (text_pcpsp i) i }
+    ensures { (i : OneInstance) → IsValid i → IsKept i → Denotes (text_blocks i) (text_prec i) (text_pcpsp i) i }
 {}
 
 /// The text of a CPIT denotes that CPIT.
@@ -26,9 +30,24 @@ pub fn written_cpit_is_read()
     ensures { (c : CpitParts) → IsCpit c → IsKeptCpit c → DenotesCpit (length c.values) (text_cpit c) c }
 {}
 
+/// The texts of this instance denote it. A call looks at each of its numbers once.
+pub fn texts_denote(instance: &Instance)
+    requires { IsValid instance.now }
+    ensures { Denotes (text_blocks instance.now) (text_prec instance.now) (text_pcpsp instance.now) instance.now }
+{
+    keep_instance(instance);
+}
+
+/// The text of this CPIT denotes it. A call looks at each of its numbers once.
+pub fn cpit_text_denotes(cpit: &Cpit)
+    ensures { DenotesCpit (length cpit.now.values) (text_cpit cpit.now) cpit.now }
+{
+    keep_cpit(cpit);
+}
+
 /// The instance that three texts denote is valid.
 pub fn read_is_valid()
-    ensures { (blocks prec pcpsp : List ℕ) (i : Instance) → Denotes blocks prec pcpsp i → IsValid i }
+    ensures { (blocks prec pcpsp : List ℕ) (i : OneInstance) → Denotes blocks prec pcpsp i → IsValid i }
 {}
 
 /// The constrained pit limit problem that a text denotes is one, with a value for each block.

@@ -11,6 +11,7 @@ mod files;
 mod id_text;
 mod instance_reader;
 mod item_lines;
+mod keeping;
 mod keys;
 pub mod laws;
 mod lines;
