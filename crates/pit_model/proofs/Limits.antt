@@ -1,5 +1,5 @@
 -- One limit more, in its place, keeps what a list of limits keeps.
-use Rattle.std.proofs.Common.{◌≡◌, ◌<◌, ◌≤◌, ◌+◌, ◌&&◌, ◌||◌, ◌==◌, ◌++◌, ℕ, suc, List, [], ◌∷◌, Bool, true, false, not, cond, arith, refl, sym, ◌∙◌, ap, length, nat_lt, take, drop, All, rules, Option, unwrap_or}
+use Rattle.std.proofs.Common.{◌≡◌, ◌≤◌, ◌||◌, List, [], ◌∷◌, Bool, true, false, not, arith, refl, ap, length, nat_lt, All, rules, unwrap_or}
 use Rattle.std.specs.List.{list_any, insert, position, position_or_len}
 use Rattle.std.proofs.lemmas.Bool.Decides.{nat_tests}
 use Rattle.std.proofs.Math.Numerals.{one-add}

@@ -20,3 +20,6 @@ pub fn worths_of(block: Block, destinations: &[Destination]) -> Worths
     }
     Worths::new(&cells[..destinations.len()]).unwrap()
 }
+
+#[cfg(test)]
+mod tests;

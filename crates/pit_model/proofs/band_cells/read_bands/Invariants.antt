@@ -1,4 +1,4 @@
-use Rattle.std.proofs.Common.{◌≡◌, ◌+◌, ◌*◌, ◌-◌, drop, length, All}
+use Rattle.std.proofs.Common.{◌≡◌, ◌+◌, ◌*◌, drop, length, All}
 use Rattle.csv.specs.Records.{fields_of}
 use Rattle.pit_model.specs.Bands.{IsBand}
 use Rattle.pit_model.specs.Cells.{cells_of}

@@ -1,4 +1,4 @@
-use Rattle.std.proofs.Common.{◌≡◌, ◌<◌, sym, ◌∙◌, ap, arith, length, unwrap_or, false}
+use Rattle.std.proofs.Common.{◌≡◌, ◌<◌, sym, ◌∙◌, ap, length, unwrap_or, false}
 use Rattle.std.specs.List.{list_any}
 use Rattle.pit_model.specs.Plan.{IsBound}
 use Rattle.pit_model.specs.Planned.{Draft, is_same_place}

@@ -1,0 +1,49 @@
+//! The worths that the stored closures answer.
+
+ghost use Rattle.std.specs.Prelude.{◌≡◌, ◌≤◌, ◌^◌};
+ghost use Rattle.pit_model.specs.Worth.{dump};
+
+use super::worths_of;
+use pit_model::block::Block;
+use pit_model::destination::{Destination, Valuer};
+use pit_model::formula::Formula;
+use pit_model::worth::dump_worth;
+use std::alloc::Global;
+use std::sync::Arc;
+use std::sync::atomic::{AtomicU64, Ordering};
+use std::test::Fail;
+
+// A dump at so many cents a tonne, and how often its closure was asked.
+fn counting_dump(alloc: Global, cost: u64) -> Result<(Destination, Arc<AtomicU64>), Fail>
+    requires { cost ≤ 10 ^ 7 }
+{
+    let asked = Arc::new(alloc, AtomicU64::new(0))?;
+    let count = Arc::try_clone(&asked)?;
+    let valuer: Valuer = Box::new(
+        alloc,
+        move |block: Block| -> i128
+            requires { cost ≤ 10 ^ 7 }
+            ensures { result ≡ dump block cost }
+        {
+            count.fetch_add(1, Ordering::SeqCst);
+            dump_worth(block, cost)
+        },
+    )?;
+    let destination = Destination::new(Formula::Dump { cost }, valuer);
+    Ok((destination, asked))
+}
+
+#[test]
+fn each_closure_is_asked_once(rt: HostRuntime) -> Result<(), Fail> {
+    let (first, first_asked) = counting_dump(rt.alloc(), 200)?;
+    let (second, second_asked) = counting_dump(rt.alloc(), 300)?;
+    let (third, third_asked) = counting_dump(rt.alloc(), 400)?;
+    let destinations = [first, second, third];
+    let block = Block::new(0, 0, 0, 1_000, 0, 0).expect(&rt, "a block");
+    let worths = worths_of(block, &destinations);
+    assert_eq!(rt; worths.as_slice(), [-200i128, -300, -400].as_slice());
+    for asked in [first_asked, second_asked, third_asked] {
+        assert_eq!(rt; asked.load(Ordering::SeqCst), 1);
+    }
+    Ok(())
+}
