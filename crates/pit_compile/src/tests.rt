@@ -1,84 +1,84 @@
-//! Runs over feeds and sinks in memory.
+//! Runs on plans and zone files in memory.
 
-ghost use Rattle.std.specs.Prelude.{◌≡◌};
+ghost use Rattle.std.specs.Prelude.{◌≡◌, IfOk};
 ghost use Rattle.pit_model.specs.Plan.{IsRuled};
 ghost use Rattle.pit_model.specs.Worth.{worth};
 
-use crate::run_limited;
+use crate::refusal::Refusal;
+use crate::running::run_limited;
 use crate::settings::Settings;
 use crate::sinks::Sinks;
 use minelib_text::mem_sink::MemSink;
 use pit_model::block::Block;
 use pit_model::destination::{Destination, Valuer};
+use pit_model::formula::Formula;
 use pit_model::plan::Plan;
 use pit_model::read_plan;
 use std::alloc::Global;
+use std::process::Abort;
 use std::sync::Wait;
 use std::test::Fail;
 use std::thread::Threads;
-use valuers::OpenGate;
+use valuers::{Gate, OpenGate};
 use zone_csv::mem_feed::MemFeed;
 
-const ONE_FILE: &str =
-    "name,one|grid,0,0,0,10,10,10|zone,1,1,1|mill,mill,900,600,1500|periods,1|rate,0.1|";
+mod devices;
+mod examples;
+mod schedules;
 
-const TWO_FILES: &str =
-    "name,one|grid,0,0,0,10,10,10|zone,1,1,1|zone,1,1,1|mill,mill,900,600,1500|periods,1|rate,0.1|";
+// The first record of each zone file.
+const HEADER: &str = "x,y,z,tonnes,grade\n";
 
-const THREE_FILES: &str =
-    "name,one|grid,0,0,0,10,10,10|zone,1,1,1|zone,1,1,1|zone,1,1,1|mill,mill,900,600,1500|periods,1|rate,0.1|";
+// As many starts as a run is given.
+const ENOUGH: u32 = 128;
 
-const ORE: &str = "x,y,z,tonnes,grade|0,0,0,1000,5000|";
-
-const EAST: &str = "x,y,z,tonnes,grade|10,0,0,1000,5000|";
-
-const FAR_EAST: &str = "x,y,z,tonnes,grade|20,0,0,1000,5000|";
-
-const FAULTY: &str = "x,y,z,tonnes,grade|0,0,0,-1,5000|";
-
-// A text whose lines end in bars here.
-fn with_lines(alloc: Global, bars: &str) -> Result<Vec<u8>, Fail> {
-    let mut text = Vec::new(alloc);
-    for byte in bars.bytes() {
-        text.push(if byte == b'|' { b'\n' } else { byte })?;
-    }
+// A zone file in memory: the header and these rows.
+fn zone_text(alloc: Global, rows: &str) -> Result<Vec<u8>, Fail> {
+    let mut text = HEADER.as_bytes().to_vec(alloc)?;
+    text.extend_from_slice(rows.as_bytes())?;
     Ok(text)
 }
 
-fn plan_of(alloc: Global, bars: &str) -> Result<Plan, Fail> {
-    let text = with_lines(alloc, bars)?;
-    match read_plan(alloc, text.as_slice()) {
-        Ok(plan) => Ok(plan),
-        Err(_) => Err("a plan")?,
+// The text of the mill plan, with so many zones of one slope.
+fn mill_text(alloc: Global, zones: u8) -> Result<Vec<u8>, Fail> {
+    let mut text = b"name,one\ngrid,0,0,0,10,10,10\n".to_vec(alloc)?;
+    for _zone in 0..zones {
+        text.extend_from_slice(b"zone,1,1,1\n")?;
     }
+    text.extend_from_slice(b"mill,mill,900,600,1500\nperiods,1\nrate,0.1\n")?;
+    Ok(text)
+}
+
+fn mill_plan(alloc: Global, zones: u8) -> Result<Plan, Fail> {
+    let text = mill_text(alloc, zones)?;
+    Ok(read_plan(alloc, text.as_slice())?)
+}
+
+fn destination_of(alloc: Global, formula: &Formula) -> Result<Destination, Fail>
+    requires { IsRuled formula.now }
+{
+    let kept = formula.copy(alloc)?;
+    let valuer: Valuer = Box::new(
+        alloc,
+        move |block: Block| -> i128
+            requires { IsRuled kept }
+            ensures { result ≡ worth kept block }
+        { kept.worth(block) },
+    )?;
+    Ok(Destination::new(formula.copy(alloc)?, valuer))
 }
 
 // The destinations of a plan, in its order.
 fn destinations_of(alloc: Global, plan: &Plan) -> Result<Vec<Destination>, Fail> {
     let mut destinations = Vec::new(alloc);
     for named in plan.formulas() {
-        let kept = named.formula.copy(alloc)?;
-        let valuer: Valuer = Box::new(
-            alloc,
-            move |block: Block| -> i128
-                requires { IsRuled kept }
-                ensures { result ≡ worth kept block }
-            { kept.worth(block) },
-        )?;
-        destinations.push(Destination::new(named.formula.copy(alloc)?, valuer))?;
+        destinations.push(destination_of(alloc, &named.formula)?)?;
     }
     Ok(destinations)
 }
 
-fn feeds_of(alloc: Global, zones: &[&str]) -> Result<Vec<MemFeed>, Fail> {
-    let mut feeds = Vec::new(alloc);
-    for zone in zones {
-        feeds.push(MemFeed::new(with_lines(alloc, zone)?))?;
-    }
-    Ok(feeds)
-}
-
-fn empty_sinks(alloc: Global) -> Sinks<MemSink> {
+// Sinks in memory that were not begun.
+fn new_sinks(alloc: Global) -> Sinks<MemSink> {
     Sinks {
         blocks: MemSink::new(alloc),
         prec: MemSink::new(alloc),
@@ -88,114 +88,118 @@ fn empty_sinks(alloc: Global) -> Sinks<MemSink> {
     }
 }
 
-// What a run answers, in words, and whether its first sink was begun.
-fn answer<R: Threads + Wait + Sync>(
-    rt: &R,
-    alloc: Global,
-    plan: &str,
-    zones: &[&str],
-    settings: Settings,
-    starts: u32,
-) -> Result<(String, bool), Fail> {
-    let plan = plan_of(alloc, plan)?;
-    let destinations = destinations_of(alloc, &plan)?;
-    let mut sinks = empty_sinks(alloc);
-    let feeds = feeds_of(alloc, zones)?;
-    let words = match run_limited(
-        rt,
-        alloc,
-        feeds,
-        &plan,
-        destinations.as_slice(),
-        settings,
-        starts,
-        &OpenGate,
-        &mut sinks,
-    ) {
-        Ok(gathered) => format!(in alloc; "rows {}", gathered.rows())?,
-        Err(refusal) => format!(in alloc; "{refusal}")?,
-    };
-    Ok((words, sinks.blocks.begun()))
+// Which sinks were begun, in the order of writing.
+fn begun(sinks: &Sinks<MemSink>) -> [bool; 5] {
+    [
+        sinks.blocks.begun(),
+        sinks.prec.begun(),
+        sinks.upit.begun(),
+        sinks.pcpsp.begun(),
+        sinks.cpit.begun(),
+    ]
 }
 
-const fn with(valuers: usize, capacity: usize) -> Settings {
+fn is_untouched(sinks: &Sinks<MemSink>) -> bool {
+    begun(sinks) == [false; 5]
+}
+
+// A feed for each of the files, which have these rows.
+fn feeds_of(alloc: Global, files: &[&str]) -> Result<Vec<MemFeed>, Fail> {
+    let mut feeds = Vec::new(alloc);
+    for rows in files {
+        feeds.push(MemFeed::new(zone_text(alloc, rows)?))?;
+    }
+    Ok(feeds)
+}
+
+fn settings(valuers: usize, capacity: usize) -> Settings {
     Settings { valuers, capacity }
 }
 
-// What runs answer, the refusals in their order: a fault of the settings, a refused thread, a file's fault, a block that stands twice.
-#[test]
-fn answers_in_order(rt: HostRuntime) -> Result<(), Fail> {
-    let cases: [(&str, &[&str], Settings, u32, &str); 17] = [
-        (ONE_FILE, &[ORE], with(4, 64), 128, "rows 1"),
-        (TWO_FILES, &[ORE], with(4, 64), 128, "settings: Files"),
-        (TWO_FILES, &[ORE], with(0, 64), 128, "settings: Files"),
-        (ONE_FILE, &[ORE], with(0, 64), 128, "settings: Valuers"),
-        (ONE_FILE, &[ORE], with(65, 64), 128, "settings: Valuers"),
-        (ONE_FILE, &[ORE], with(65, 0), 128, "settings: Valuers"),
-        (ONE_FILE, &[ORE], with(4, 0), 128, "settings: Capacity"),
-        (ONE_FILE, &[ORE], with(4, 4097), 128, "settings: Capacity"),
-        (
-            THREE_FILES,
-            &[ORE, EAST, FAR_EAST],
-            with(2, 1),
-            0,
-            "NoThread",
-        ),
-        (
-            THREE_FILES,
-            &[ORE, EAST, FAR_EAST],
-            with(2, 1),
-            1,
-            "NoThread",
-        ),
-        (
-            THREE_FILES,
-            &[ORE, EAST, FAR_EAST],
-            with(2, 1),
-            2,
-            "NoThread",
-        ),
-        (
-            THREE_FILES,
-            &[ORE, EAST, FAR_EAST],
-            with(2, 1),
-            3,
-            "NoThread",
-        ),
-        (
-            THREE_FILES,
-            &[ORE, EAST, FAR_EAST],
-            with(2, 1),
-            4,
-            "NoThread",
-        ),
-        (THREE_FILES, &[ORE, EAST, FAR_EAST], with(2, 1), 5, "rows 3"),
-        (
-            THREE_FILES,
-            &[FAULTY, EAST, FAR_EAST],
-            with(2, 1),
-            3,
-            "NoThread",
-        ),
-        (
-            THREE_FILES,
-            &[FAULTY, EAST, FAULTY],
-            with(2, 1),
-            5,
-            "file 0 row 2 column tonnes: Range",
-        ),
-        (
-            TWO_FILES,
-            &[ORE, ORE],
-            with(8, 1),
-            128,
-            "file 1 row 2 repeats file 0 row 2",
-        ),
-    ];
-    for (plan, zones, settings, starts, wanted) in cases {
-        let (words, begun) = answer(&rt, rt.alloc(), plan, zones, settings, starts)?;
-        assert_eq!(rt; words.as_str(), wanted);
-        assert_eq!(rt; begun, wanted.starts_with("rows"));
+// How a run went: its number of rows or its refusal.
+fn answer<R: Threads + Wait + Sync, G: Gate + Sync>(
+    rt: &R,
+    alloc: Global,
+    plan: &Plan,
+    feeds: Vec<MemFeed>,
+    settings: Settings,
+    starts: u32,
+    gate: &G,
+    sinks: &mut Sinks<MemSink>,
+) -> Result<Result<u64, Refusal>, Fail> {
+    let destinations = destinations_of(alloc, plan)?;
+    let answered = run_limited(
+        rt,
+        alloc,
+        feeds,
+        plan,
+        destinations.as_slice(),
+        settings,
+        starts,
+        gate,
+        sinks,
+    );
+    match answered {
+        Ok(gathered) => Ok(Ok(gathered.rows())),
+        Err(refusal) => Ok(Err(refusal)),
     }
+}
+
+// The same with an open gate and enough starts.
+fn open_answer<R: Threads + Wait + Sync>(
+    rt: &R,
+    alloc: Global,
+    plan: &Plan,
+    feeds: Vec<MemFeed>,
+    settings: Settings,
+    sinks: &mut Sinks<MemSink>,
+) -> Result<Result<u64, Refusal>, Fail> {
+    answer(rt, alloc, plan, feeds, settings, ENOUGH, &OpenGate, sinks)
+}
+
+fn put_section(text: &mut Vec<u8>, name: &str, sink: &MemSink) -> Result<(), Fail> {
+    text.extend_from_slice(b"== ")?;
+    text.extend_from_slice(name.as_bytes())?;
+    text.push(b'\n')?;
+    text.extend_from_slice(sink.bytes())?;
     Ok(())
+}
+
+// The five texts, each behind the name of its file.
+fn joined(alloc: Global, sinks: &Sinks<MemSink>) -> Result<Vec<u8>, Fail> {
+    let mut text = Vec::new(alloc);
+    put_section(&mut text, "blocks", &sinks.blocks)?;
+    put_section(&mut text, "prec", &sinks.prec)?;
+    put_section(&mut text, "upit", &sinks.upit)?;
+    put_section(&mut text, "pcpsp", &sinks.pcpsp)?;
+    put_section(&mut text, "cpit", &sinks.cpit)?;
+    Ok(text)
+}
+
+// The five texts of a run into these sinks; or the words of its refusal, where no sink was begun.
+fn text_into<R: Threads + Wait + Sync + Abort>(
+    rt: &R,
+    alloc: Global,
+    plan: &Plan,
+    feeds: Vec<MemFeed>,
+    settings: Settings,
+    mut sinks: Sinks<MemSink>,
+) -> Result<Vec<u8>, Fail> {
+    match open_answer(rt, alloc, plan, feeds, settings, &mut sinks)? {
+        Ok(_rows) => joined(alloc, &sinks),
+        Err(refusal) => {
+            assert!(rt; is_untouched(&sinks), "{refusal}");
+            Ok(format!(in alloc; "{refusal}")?.as_bytes().to_vec(alloc)?)
+        }
+    }
+}
+
+fn compiled_text<R: Threads + Wait + Sync + Abort>(
+    rt: &R,
+    alloc: Global,
+    plan: &Plan,
+    feeds: Vec<MemFeed>,
+    settings: Settings,
+) -> Result<Vec<u8>, Fail> {
+    text_into(rt, alloc, plan, feeds, settings, new_sinks(alloc))
 }

@@ -1,0 +1,180 @@
+ghost use Rattle.std.specs.Prelude.{◌≤◌};
+
+use super::{
+    MemFeed, MemSink, Sinks, compiled_text, feeds_of, mill_plan, read_plan, settings, text_into,
+    zone_text,
+};
+use std::alloc::Global;
+use std::test::Fail;
+
+const ONE_ORE_BLOCK: &str =
+    "== blocks\n0 0 0 0 1000 5000 0\n== prec\n0 0\n== upit\nNAME: one\nTYPE: UPIT\nNBLOCKS: 1\nOBJECTIVE_FUNCTION:\n0 12000\n== pcpsp\nNAME: one\nTYPE: PCPSP\nNBLOCKS: 1\nNPERIODS: 1\nNDESTINATIONS: 1\nNRESOURCE_SIDE_CONSTRAINTS: 0\nNGENERAL_SIDE_CONSTRAINTS: 0\nDISCOUNT_RATE: 0.1\nOBJECTIVE_FUNCTION:\n0 12000\nRESOURCE_CONSTRAINT_COEFFICIENTS:\nRESOURCE_CONSTRAINT_LIMITS:\n== cpit\nNAME: one\nTYPE: CPIT\nNBLOCKS: 1\nNPERIODS: 1\nNRESOURCE_SIDE_CONSTRAINTS: 0\nDISCOUNT_RATE: 0.1\nOBJECTIVE_FUNCTION:\n0 12000\nRESOURCE_CONSTRAINT_COEFFICIENTS:\nRESOURCE_CONSTRAINT_LIMITS:\n";
+
+const HEADER_ALONE: &str =
+    "== blocks\n== prec\n== upit\nNAME: one\nTYPE: UPIT\nNBLOCKS: 0\nOBJECTIVE_FUNCTION:\n== pcpsp\nNAME: one\nTYPE: PCPSP\nNBLOCKS: 0\nNPERIODS: 1\nNDESTINATIONS: 1\nNRESOURCE_SIDE_CONSTRAINTS: 0\nNGENERAL_SIDE_CONSTRAINTS: 0\nDISCOUNT_RATE: 0.1\nOBJECTIVE_FUNCTION:\nRESOURCE_CONSTRAINT_COEFFICIENTS:\nRESOURCE_CONSTRAINT_LIMITS:\n== cpit\nNAME: one\nTYPE: CPIT\nNBLOCKS: 0\nNPERIODS: 1\nNRESOURCE_SIDE_CONSTRAINTS: 0\nDISCOUNT_RATE: 0.1\nOBJECTIVE_FUNCTION:\nRESOURCE_CONSTRAINT_COEFFICIENTS:\nRESOURCE_CONSTRAINT_LIMITS:\n";
+
+// The rows of each zone file, and the texts or the refusal of a run on the mill plan with as many zones.
+const RUNS: [(&str, &[&str], &str); 5] = [
+    ("one_ore_block", &["0,0,0,1000,5000\n"], ONE_ORE_BLOCK),
+    ("header_alone", &[""], HEADER_ALONE),
+    (
+        "same_block_in_two_files",
+        &["0,0,0,1,0\n", "10,0,0,1,0\n20,0,0,1,0\n0,0,0,1,0\n"],
+        "file 1 row 4 repeats file 0 row 2",
+    ),
+    (
+        "a faulty file before a repeated block",
+        &["0,0,0,1,0\n0,0,0,1,0\n", "0,0,0,1,0\n10,0,0,1\n"],
+        "file 1 row 3 column whole: Width",
+    ),
+    (
+        "the least file of two faulty ones",
+        &["0,0,0,1,0\n5,0,0,1,0\n", "0,0,0,?,0\n"],
+        "file 0 row 3 column x: OffGrid",
+    ),
+];
+
+#[test]
+fn runs_of_worked_examples(rt: HostRuntime) -> Result<(), Fail> {
+    let alloc = rt.alloc();
+    for (name, files, expected) in RUNS {
+        let plan = mill_plan(alloc, files.len() as u8)?;
+        let text = compiled_text(&rt, alloc, &plan, feeds_of(alloc, files)?, settings(2, 3))?;
+        assert!(rt; text.as_slice() == expected.as_bytes(), "{name}");
+    }
+    Ok(())
+}
+
+const QUOTED: &[u8] =
+    b"\xef\xbb\xbf\"grade\",Z,rock,y,X,tonnes\r\n\" 5000 \",0,\"ox, hard\",0,0,1000.000\r\n";
+
+// A whole zone file, and the texts or the refusal of a run on it.
+const WHOLE_FILES: [(&str, &[u8], &str); 2] = [
+    ("quoted_and_reordered", QUOTED, ONE_ORE_BLOCK),
+    ("empty_file", b"", "file 0 row 1 column x: MissingColumn"),
+];
+
+#[test]
+fn runs_of_whole_files(rt: HostRuntime) -> Result<(), Fail> {
+    let alloc = rt.alloc();
+    let plan = mill_plan(alloc, 1)?;
+    for (name, file, expected) in WHOLE_FILES {
+        let feeds = Vec::from_array(alloc, [MemFeed::new(file.to_vec(alloc)?)])?;
+        let text = compiled_text(&rt, alloc, &plan, feeds, settings(1, 1))?;
+        assert!(rt; text.as_slice() == expected.as_bytes(), "{name}");
+    }
+    Ok(())
+}
+
+const LIMITED_PLAN: &[u8] =
+    b"name,one\ngrid,0,0,0,10,10,10\nzone,1,1,1\nmill,mill,900,600,1500\ndump,dump,200\nperiods,2\nrate,0.1\nresource,plant,mill\nlimit,plant,1,I,0,900\nlimit,plant,0,L,500.5\n";
+
+const LIMITED_ROWS: &str = "0,0,0,1000,5000\n10,0,0,0,7\n";
+
+const LIMITED: &str =
+    "== blocks\n0 0 0 0 1000 5000 0\n1 1 0 0 0 7 0\n== prec\n0 0\n1 0\n== upit\nNAME: one\nTYPE: UPIT\nNBLOCKS: 2\nOBJECTIVE_FUNCTION:\n0 12000\n1 0\n== pcpsp\nNAME: one\nTYPE: PCPSP\nNBLOCKS: 2\nNPERIODS: 2\nNDESTINATIONS: 2\nNRESOURCE_SIDE_CONSTRAINTS: 1\nNGENERAL_SIDE_CONSTRAINTS: 0\nDISCOUNT_RATE: 0.1\nOBJECTIVE_FUNCTION:\n0 12000 -2000\n1 0 0\nRESOURCE_CONSTRAINT_COEFFICIENTS:\n0 0 0 1000\nRESOURCE_CONSTRAINT_LIMITS:\n0 0 L 500.5\n0 1 I 0 900\n== cpit\nNAME: one\nTYPE: CPIT\nNBLOCKS: 2\nNPERIODS: 2\nNRESOURCE_SIDE_CONSTRAINTS: 1\nDISCOUNT_RATE: 0.1\nOBJECTIVE_FUNCTION:\n0 12000\n1 0\nRESOURCE_CONSTRAINT_COEFFICIENTS:\n0 0 1000\nRESOURCE_CONSTRAINT_LIMITS:\n0 0 L 500.5\n0 1 I 0 900\n";
+
+// A feed that gives at most so many bytes a pull.
+fn cutting_feed(alloc: Global, step: usize) -> Result<Vec<MemFeed>, Fail>
+    requires { 1 ≤ step }
+{
+    let text = zone_text(alloc, LIMITED_ROWS)?;
+    Ok(Vec::from_array(alloc, [MemFeed::cutting(text, step)])?)
+}
+
+// Sinks that take at most so many bytes a put.
+fn short_sinks(alloc: Global, step: usize) -> Sinks<MemSink>
+    requires { 1 ≤ step }
+{
+    Sinks {
+        blocks: MemSink::short(alloc, step),
+        prec: MemSink::short(alloc, step),
+        upit: MemSink::short(alloc, step),
+        pcpsp: MemSink::short(alloc, step),
+        cpit: MemSink::short(alloc, step),
+    }
+}
+
+// The texts do not depend on how many bytes a feed gives at once, or a sink takes.
+#[test]
+fn limits_and_coefficients(rt: HostRuntime) -> Result<(), Fail> {
+    let alloc = rt.alloc();
+    let plan = read_plan(alloc, LIMITED_PLAN)?;
+    for step in [1, 2, 7, 100_000] {
+        let sinks = short_sinks(alloc, step);
+        let text = text_into(
+            &rt,
+            alloc,
+            &plan,
+            cutting_feed(alloc, step)?,
+            settings(4, 64),
+            sinks,
+        )?;
+        assert!(rt;
+            text.as_slice() == LIMITED.as_bytes(),
+            "{step} bytes at once"
+        );
+    }
+    Ok(())
+}
+
+// So many good rows, and one more whose grade is no number.
+fn long_file(alloc: Global, rows: u32) -> Result<MemFeed, Fail> {
+    let mut text = zone_text(alloc, "")?;
+    for row in 0..rows {
+        text.extend_from_slice(format!(in alloc; "{row}0,0,0,1,0\n")?.as_bytes())?;
+    }
+    text.extend_from_slice(b"0,0,0,1,?\n")?;
+    Ok(MemFeed::new(text))
+}
+
+#[test]
+fn late_fault_in_file_0(rt: HostRuntime) -> Result<(), Fail> {
+    let alloc = rt.alloc();
+    let plan = mill_plan(alloc, 2)?;
+    for valuers in [1, 8] {
+        let feeds = Vec::from_array(alloc, [long_file(alloc, 898)?, long_file(alloc, 0)?])?;
+        let text = compiled_text(&rt, alloc, &plan, feeds, settings(valuers, 64))?;
+        let expected: &[u8] = b"file 0 row 900 column grade: Number";
+        assert!(rt; text.as_slice() == expected, "{valuers} valuers");
+    }
+    Ok(())
+}
+
+// The file of this number: one row at x = 10 times the number, whose grade is the number.
+fn file_of_one_row(alloc: Global, file: u8) -> Result<MemFeed, Fail> {
+    let row = format!(in alloc; "{file}0,0,0,1,{file}\n")?;
+    Ok(MemFeed::new(zone_text(alloc, row.as_str())?))
+}
+
+fn files_of_one_row(alloc: Global, files: u8) -> Result<Vec<MemFeed>, Fail> {
+    let mut feeds = Vec::new(alloc);
+    for file in 0..files {
+        feeds.push(file_of_one_row(alloc, file)?)?;
+    }
+    Ok(feeds)
+}
+
+#[test]
+fn sixty_four_files(rt: HostRuntime) -> Result<(), Fail> {
+    let alloc = rt.alloc();
+    let plan = mill_plan(alloc, 64)?;
+    let narrow = compiled_text(
+        &rt,
+        alloc,
+        &plan,
+        files_of_one_row(alloc, 64)?,
+        settings(64, 1),
+    )?;
+    let wide = compiled_text(
+        &rt,
+        alloc,
+        &plan,
+        files_of_one_row(alloc, 64)?,
+        settings(1, 4096),
+    )?;
+    assert!(rt; narrow.as_slice() == wide.as_slice());
+    let front: &[u8] = b"== blocks\n0 0 0 0 1 0 0\n1 1 0 0 1 1 1\n";
+    assert!(rt; narrow.as_slice().starts_with(front));
+    Ok(())
+}
