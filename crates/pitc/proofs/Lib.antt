@@ -1,11 +1,12 @@
+pub mod Accepted
 mod Again
+pub mod Commands
+mod FilesRun
+pub mod FoundJob
 mod Joined
 mod Lent
 mod Lines
+pub mod Numbers
 mod Sections
 mod Uncut
 mod Walk
-pub mod Accepted
-pub mod Commands
-pub mod FoundJob
-pub mod Numbers

@@ -1,12 +1,17 @@
 -- What a compile says of the files that it opens, and of the run on them.
-use Rattle.std.specs.Prelude.{◌≡◌, ℕ, ◌<◌, List, [], ◌∷◌, ◌++◌, codes, length}
+use Rattle.std.specs.Prelude.{◌≡◌, ℕ, ◌<◌, ◌⊎◌, List, [], ◌∷◌, ◌++◌, codes, length}
 use Rattle.std.specs.Fmt.{decimal}
 use Rattle.std.specs.List.{sum_by}
 use Rattle.lane.specs.Message.{rows_in}
 use Rattle.pit_compile.specs.Rows.{sents_of}
-use Rattle.pit_compile.specs.Verdict.{IsAccepted}
+use Rattle.pit_compile.specs.Settings.{IsSettingsFault}
+use Rattle.pit_compile.specs.Verdict.{IsAccepted, IsRefusedBy}
+use Rattle.pit_compile.specs.declared.refusal.Refusal.{Refusal}
+use Rattle.pit_compile.specs.declared.refusal.Refusal.TheVariants as refusal
+use Rattle.pit_compile.specs.declared.settings.Settings.{Settings}
 use Rattle.pit_model.specs.Plan.{PlanParts}
-use Rattle.pitc.specs.FaultLine.{EndsWith}
+use Rattle.pit_model.specs.declared.formula.Formula.{Formula}
+use Rattle.pitc.specs.FaultLine.{EndsRun, EndsWith}
 
 -- the fault of a zone file that cannot be opened
 abbrev pub zone_fault : ℕ → List ℕ
@@ -20,9 +25,38 @@ ZonesRefused count old new status = (file : ℕ) × (file < count) × EndsWith 3
 abbrev pub rows_line : ℕ → List ℕ
 rows_line rows = codes "rows " ++ (decimal rows ++ 10 ∷ [])
 
--- as many zone files as were opened are accepted, and the line of the rows that their readers sent was appended
-pub record TellsRows (plan : PlanParts) (count : ℕ) (old new : List ℕ) : Type 0 where
+-- so many zone files are accepted, and so many rows were sent by their readers
+pub record HasRows (plan : PlanParts) (count rows : ℕ) : Type 0 where
   pub texts : List (List ℕ)
   pub counted : length texts ≡ count
   pub accepted : IsAccepted plan texts
-  pub appended : new ≡ old ++ rows_line (sum_by rows_in (sents_of plan texts))
+  pub rows_are : rows ≡ sum_by rows_in (sents_of plan texts)
+
+-- the same, and the line of the rows was appended
+pub record TellsRows (plan : PlanParts) (count : ℕ) (old new : List ℕ) : Type 0 where
+  pub rows : ℕ
+  pub has : HasRows plan count rows
+  pub appended : new ≡ old ++ rows_line rows
+
+-- so many zone files have this verdict
+pub record HasVerdict (plan : PlanParts) (count : ℕ) (refusal : Refusal) : Type 0 where
+  pub texts : List (List ℕ)
+  pub counted : length texts ≡ count
+  pub refused : IsRefusedBy plan texts refusal
+
+-- why so many zone files were not compiled, as far as files tell: the settings do not fit; or the verdict; or a thread, a device or memory failed
+abbrev pub NotCompiled : PlanParts → ℕ → List Formula → Settings → Refusal → Type 0
+NotCompiled plan count formulas settings (refusal.Settings kind) = IsSettingsFault plan count formulas settings kind
+NotCompiled plan count formulas settings refusal.NoThread = Unit {0}
+NotCompiled plan count formulas settings (refusal.FeedFailed file) = Unit {0}
+NotCompiled plan count formulas settings (refusal.TooLong file) = HasVerdict plan count (refusal.TooLong file)
+NotCompiled plan count formulas settings (refusal.Row file fault) = HasVerdict plan count (refusal.Row file fault)
+NotCompiled plan count formulas settings (refusal.Same first again) = HasVerdict plan count (refusal.Same first again)
+NotCompiled plan count formulas settings (refusal.SinkFailed which) = Unit {0}
+NotCompiled plan count formulas settings refusal.OutOfMemory = Unit {0}
+
+-- a zone file cannot be opened; or the run is refused
+abbrev pub EndsRefusedCompile : PlanParts → ℕ → List Formula → Settings → List ℕ → List ℕ → ℕ → Type 0
+EndsRefusedCompile plan count formulas settings old new status =
+    ZonesRefused count old new status
+    ⊎ ((refusal : Refusal) × EndsRun refusal old new status × NotCompiled plan count formulas settings refusal)

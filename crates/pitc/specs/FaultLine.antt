@@ -40,6 +40,10 @@ EndsWith status words old new answered = ((answered ≡ status) × (new ≡ old 
 abbrev pub EndsRefused : List ℕ → List ℕ → ℕ → Type 0
 EndsRefused old new status = (status ≢ 0) × (status ≢ 4 → AppendsLine old new) × (status ≡ 4 → new ≡ old)
 
+-- the run ends with this refusal, its status and a line of it; or memory was refused, and no line stands
+abbrev pub EndsRun : Refusal → List ℕ → List ℕ → ℕ → Type 0
+EndsRun refusal old new status = ((status ≡ status_of refusal) × AppendsLine old new) ⊎ ((status ≡ 4) × (new ≡ old))
+
 -- why a text gives no plan: it is too long, or states none, and a line says so; or memory was refused, and no line stands
 abbrev pub PlanRefused : List ℕ → List ℕ → List ℕ → ℕ → Type 0
 PlanRefused text old new status =

@@ -1,13 +1,15 @@
 //! From the files of a plan and its zones to the files of an instance.
 
 ghost use Rattle.std.specs.Prelude.{◌≡◌, ◌≢◌, ◌≤◌, ◌++◌, ◌∷◌, ℕ, List, [], Ok, codes, length, string_bytes, vec_len, IfOk, IfErr, OnOk};
+ghost use Rattle.pit_model.specs.Destinations.{formulas_of};
 ghost use Rattle.pit_model.specs.Planned.{planned};
-ghost use Rattle.pitc.specs.Compile.{TellsRows, ZonesRefused, rows_line, zone_fault};
+ghost use Rattle.pitc.specs.Compile.{EndsRefusedCompile, HasRows, NotCompiled, TellsRows, ZonesRefused, rows_line, zone_fault};
 ghost use Rattle.pitc.specs.FaultLine.{EndsRefused, EndsWith};
 
-use crate::fault_line::{MAX_PLAN_BYTES, plan_from, refusal_line, refuse_with};
+use crate::fault_line::{MAX_PLAN_BYTES, plan_from, refuse_run, refuse_with};
 use crate::status::{DEVICE, REFUSED, RESOURCES};
 use minelib_text::file_sink::FileSink;
+use minelib_text::sink::Sink;
 use pit_compile::refusal::Refusal;
 use pit_compile::run;
 use pit_compile::settings::Settings;
@@ -19,6 +21,7 @@ use std::rt::Files;
 use std::sync::Wait;
 use std::thread::Threads;
 use valuers::OpenGate;
+use zone_csv::feed::Feed;
 use zone_csv::file_feed::FileFeed;
 use zone_csv::slurp::{SlurpFault, slurp};
 
@@ -48,7 +51,8 @@ where
     ensures done { result ≡ 0 → TellsRows plan.now (length zones.now) out.old.items out.new.items }
     ensures quiet { result ≡ 0 → err.new.items ≡ err.old.items }
     ensures kept { result ≢ 0 → out.new.items ≡ out.old.items }
-    ensures told { result ≢ 0 → EndsRefused err.old.items err.new.items result }
+    ensures refused { result ≢ 0
+        → EndsRefusedCompile plan.now (length zones.now) (formulas_of destinations.now) settings err.old.items err.new.items result }
 {
     let feeds = match open_zones(rt, alloc, zones, err) {
         Ok(feeds) => feeds,
@@ -57,7 +61,26 @@ where
     let Ok(mut sinks) = sinks_of(rt, alloc, base) else {
         return RESOURCES;
     };
-    match run(
+    match run_on(rt, alloc, feeds, plan, destinations, settings, &mut sinks) {
+        Ok(rows) => tell_rows(alloc, rows, out),
+        Err(refusal) => refuse_run(alloc, &refusal, err),
+    }
+}
+
+// Runs on open feeds, and answers the number of rows over all files.
+fn run_on<R: Threads + Wait + Sync, F: Feed + Send + Drop, S: Sink>(
+    rt: &R,
+    alloc: Global,
+    feeds: Vec<F>,
+    plan: &Plan,
+    destinations: &[Destination],
+    settings: Settings,
+    sinks: &mut Sinks<S>,
+) -> Result<u64, Refusal>
+    ensures done { IfOk result (HasRows plan.now (length feeds.items)) }
+    ensures refused { IfErr result (NotCompiled plan.now (length feeds.items) (formulas_of destinations.now) settings) }
+{
+    let gathered = run(
         rt,
         alloc,
         feeds,
@@ -65,12 +88,9 @@ where
         destinations,
         settings,
         &OpenGate,
-        &mut sinks,
-    ) {
-        Ok(gathered) => tell_rows(alloc, gathered.rows(), out),
-        Err(Refusal::OutOfMemory) => RESOURCES,
-        Err(refusal) => refusal_line(alloc, &refusal, err).unwrap_or(RESOURCES),
-    }
+        sinks,
+    )?;
+    Ok(gathered.rows())
 }
 
 // Sinks for the files of the instance. None is begun. Fails only where memory for the paths is refused.
@@ -136,7 +156,7 @@ fn open_zones<R: Files>(
     zones: &[String],
     lines: &mut Vec<u8>,
 ) -> Result<Vec<FileFeed<R::File>>, u8>
-    ensures all { IfOk result (λ feeds. vec_len feeds ≡ length zones.now) }
+    ensures all { IfOk result (λ feeds. length feeds.items ≡ length zones.now) }
     ensures quiet { OnOk result (lines.new.items ≡ lines.old.items) }
     ensures refused { IfErr result (ZonesRefused (length zones.now) lines.old.items lines.new.items) }
 {

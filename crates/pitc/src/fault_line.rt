@@ -2,7 +2,7 @@
 
 ghost use Rattle.std.specs.Prelude.{◌≡◌, ◌≤◌, ◌++◌, length, Ok, IfOk, IfErr, OnOk, OnErr};
 ghost use Rattle.pit_model.specs.Planned.{planned};
-ghost use Rattle.pitc.specs.FaultLine.{AppendsLine, EndsWith, PlanRefused, line_of, status_of};
+ghost use Rattle.pitc.specs.FaultLine.{AppendsLine, EndsRun, EndsWith, PlanRefused, line_of, status_of};
 
 use crate::status::{DEVICE, REFUSED, RESOURCES, USAGE};
 use pit_compile::refusal::Refusal;
@@ -48,6 +48,20 @@ pub fn refusal_line(alloc: Global, refusal: &Refusal, lines: &mut Vec<u8>) -> Re
     let words = format!(in alloc; "{refusal}")?;
     append_line(alloc, words.as_str(), lines)?;
     Ok(status_of(refusal))
+}
+
+/// Appends the line of a refusal, and answers the status that it ends the program with. Where memory is refused, of the run or for the line,
+/// the status is that of memory and `lines` is as it was.
+pub fn refuse_run(alloc: Global, refusal: &Refusal, lines: &mut Vec<u8>) -> u8
+    ensures { EndsRun refusal.now lines.old.items lines.new.items result }
+{
+    if *refusal == Refusal::OutOfMemory {
+        return RESOURCES;
+    }
+    match refusal_line(alloc, refusal, lines) {
+        Ok(status) => status,
+        Err(_) => RESOURCES,
+    }
 }
 
 fn status_of(refusal: &Refusal) -> u8

@@ -2,15 +2,13 @@
 
 ghost use Rattle.std.specs.Prelude.{◌≡◌, ◌≢◌};
 ghost use Rattle.pit_model.specs.Destinations.{formulas_of};
-ghost use Rattle.pitc.specs.FaultLine.{EndsRefused, status_of};
+ghost use Rattle.pitc.specs.FaultLine.{EndsRun};
 ghost use Rattle.pit_compile.specs.declared.refusal.Refusal.{Refusal as ARefusal};
 ghost use Rattle.pitc.specs.Printed.{IsPrinted, PipeRefused};
 
-use crate::fault_line::refusal_line;
+use crate::fault_line::refuse_run;
 use crate::model::Model;
 use crate::pipe_form::pipe;
-use crate::status::RESOURCES;
-use pit_compile::refusal::Refusal;
 use pit_model::destination::Destination;
 use std::alloc::Global;
 use std::sync::Wait;
@@ -19,7 +17,8 @@ use std::thread::Threads;
 /// Appends what the pipe form prints of the model to `text`, or the line of its refusal to `lines`, and answers the status that the program ends
 /// with.
 ///
-/// Only one of the two vectors grows. For want of memory the status is that of memory, and both are as they were.
+/// Only one of the two vectors grows. For want of memory the status is that of memory, and both are as they were; a thread that could not be
+/// started has that status too, and a line.
 pub fn run_pipe<R: Threads + Wait + Sync>(
     rt: &R,
     alloc: Global,
@@ -31,13 +30,18 @@ pub fn run_pipe<R: Threads + Wait + Sync>(
     ensures done { result ≡ 0 → IsPrinted model.now.plan model.now.pieces.zones text.old.items text.new.items }
     ensures quiet { result ≡ 0 → lines.new.items ≡ lines.old.items }
     ensures kept { result ≢ 0 → text.new.items ≡ text.old.items }
-    ensures told { result ≢ 0 → EndsRefused lines.old.items lines.new.items result }
-    ensures refused { result ≢ 0 → result ≢ 4 → (refusal : ARefusal) × (result ≡ status_of refusal)
+    ensures refused { result ≢ 0 → (refusal : ARefusal) × EndsRun refusal lines.old.items lines.new.items result
         × PipeRefused model.now.plan (formulas_of destinations.now) model.now.pieces.zones refusal }
 {
-    match pipe(rt, alloc, model.pieces.zones(), &model.plan, destinations, text) {
+    match pipe(
+        rt,
+        alloc,
+        model.pieces.zones(),
+        &model.plan,
+        destinations,
+        text,
+    ) {
         Ok(_) => 0,
-        Err(Refusal::OutOfMemory) => RESOURCES,
-        Err(refusal) => refusal_line(alloc, &refusal, lines).unwrap_or(RESOURCES),
+        Err(refusal) => refuse_run(alloc, &refusal, lines),
     }
 }

@@ -1,8 +1,5 @@
 //! A model to be compiled, by the pipe form or from files to files.
 
-ghost use Rattle.std.specs.Prelude.{◌≢◌};
-ghost use Rattle.pitc.specs.FaultLine.{EndsRefused};
-
 use crate::compile::compile_files;
 use crate::model::Model;
 use crate::pipe_run::run_pipe;
@@ -49,7 +46,6 @@ impl Task {
     ) -> u8
     where
         R::File: Send,
-        ensures told { result ≢ 0 → EndsRefused lines.old.items lines.new.items result }
     {
         match self {
             Task::Pipe(model) => run_pipe(rt, alloc, model, destinations, text, lines),
