@@ -105,7 +105,7 @@ fn failing_sinks_stop_the_run(rt: HostRuntime) -> Result<(), Fail> {
     let alloc = rt.alloc();
     let plan = mill_plan(alloc, 1)?;
     for (which, nth, expected) in SINKS {
-        let mut sinks = failing_sinks(alloc, which, nth);
+        let mut sinks = failing_sinks(alloc, which, nth.max(1));
         let feeds = feeds_of(alloc, &["0,0,0,1,0\n10,0,0,1,0\n"])?;
         let answered = open_answer(&rt, alloc, &plan, feeds, settings(1, 1), &mut sinks)?;
         assert!(rt;
