@@ -45,7 +45,10 @@ pub fn read_input<R: Input>(rt: &R, alloc: Global) -> Result<Vec<u8>, InputFault
     let mut bytes = Vec::new(alloc);
     for _ in 0..u64::MAX {
         let len = bytes.len();
-        bytes.resize(len + CHUNK.min((MAX_INPUT_BYTES + 1).saturating_sub(len)), 0)?;
+        bytes.resize(
+            len + CHUNK.min((MAX_INPUT_BYTES + 1).saturating_sub(len)),
+            0,
+        )?;
         let count = read_some(&mut input, &mut bytes[len..])?;
         bytes.truncate(len + count);
         if bytes.len() > MAX_INPUT_BYTES {

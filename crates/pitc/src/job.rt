@@ -7,9 +7,9 @@ ghost use Rattle.pit_compile.specs.declared.settings.Settings.{Settings as ASett
 
 use crate::command_line::{MAX_CAPACITY, MAX_VALUERS, command_line};
 use crate::jobs::{Job, JobFault};
-use pit_compile::settings::Settings;
 use clap::ArgMatches;
 use clap::error::ErrorKind;
+use pit_compile::settings::Settings;
 use std::alloc::{AllocError, Global};
 
 #[cfg(test)]

@@ -18,7 +18,9 @@ pub enum Job {
         zones: Vec<String>,
     },
     /// Reads the files of an instance, whose paths begin with `base`, and prints its counts.
-    Check { base: String },
+    Check {
+        base: String,
+    },
 }
 
 /// Why the words state no job.

@@ -141,12 +141,14 @@ fn task_of(
         return Ok(Task::Pipe(read_model(rt, alloc, lines)?));
     }
     match job(alloc, words.as_slice()) {
-        Ok(Job::Compile {
-            plan,
-            out,
-            settings,
-            zones,
-        }) => Ok(Task::Files {
+        Ok(
+            Job::Compile {
+                plan,
+                out,
+                settings,
+                zones,
+            },
+        ) => Ok(Task::Files {
             plan: read_plan_file(rt, alloc, plan.as_str(), lines)?,
             settings,
             base: out,

@@ -14,7 +14,11 @@ use std::rt::Env;
 ///
 /// A word that is not UTF-8 is refused, and so is a program's name that is not. Where memory is refused the status is that of memory, and
 /// `lines` is as it was.
-pub fn words_of<R: Env + Alloc<A = Global>>(rt: &R, alloc: Global, lines: &mut Vec<u8>) -> Result<Vec<String>, u8>
+pub fn words_of<R: Env + Alloc<A = Global>>(
+    rt: &R,
+    alloc: Global,
+    lines: &mut Vec<u8>,
+) -> Result<Vec<String>, u8>
     ensures quiet { OnOk result (lines.new.items ≡ lines.old.items) }
     ensures refused { IfErr result (EndsWith 2 (codes "command line: NotUtf8") lines.old.items lines.new.items) }
 {

@@ -17,12 +17,14 @@ fn job_of(alloc: Global, words: &[&str]) -> Result<Result<Job, JobFault>, Fail> 
 // The values of the job that these words state, one a line; or the status of the fault.
 fn stated(alloc: Global, words: &[&str]) -> Result<String, Fail> {
     match job_of(alloc, words)? {
-        Ok(Job::Compile {
-            plan,
-            out,
-            settings: Settings { valuers, capacity },
-            zones,
-        }) => {
+        Ok(
+            Job::Compile {
+                plan,
+                out,
+                settings: Settings { valuers, capacity },
+                zones,
+            },
+        ) => {
             let mut text = format!(in alloc; "{plan} {out} {valuers} {capacity}")?;
             for zone in &zones {
                 text.push_str(" ")?;
@@ -59,9 +61,18 @@ const WORDS: [(&str, &str); 27] = [
     ("compile --plan p --out b z", "p b 4 64 z"),
     ("compile --plan p --out b z y x", "p b 4 64 z y x"),
     ("compile z y --plan p --out b", "p b 4 64 z y"),
-    ("compile --plan=p --out=b --valuers=64 --capacity=1 z", "p b 64 1 z"),
-    ("compile --plan p z --valuers 1 --out b --capacity 4096", "p b 1 4096 z"),
-    ("compile --plan p --out b --valuers +5 --capacity 007 z", "p b 5 7 z"),
+    (
+        "compile --plan=p --out=b --valuers=64 --capacity=1 z",
+        "p b 64 1 z",
+    ),
+    (
+        "compile --plan p z --valuers 1 --out b --capacity 4096",
+        "p b 1 4096 z",
+    ),
+    (
+        "compile --plan p --out b --valuers +5 --capacity 007 z",
+        "p b 5 7 z",
+    ),
     ("compile --plan p --out b -- --z", "p b 4 64 --z"),
     ("compile --plan p --out b", "status 2"),
     ("compile --plan p z", "status 2"),
@@ -92,13 +103,22 @@ fn settings_and_words(rt: HostRuntime) -> Result<(), Fail> {
 
 // What the help of these words shows.
 const HELPS: [(&str, &str); 9] = [
-    ("--help", "With no words, pitc reads a plan and then its zone files from standard input"),
+    (
+        "--help",
+        "With no words, pitc reads a plan and then its zone files from standard input",
+    ),
     ("--help", "a terminal that brings nothing is yours to end"),
-    ("--help", "pitc compile --plan march.plan --out out/march north.csv south.csv"),
+    (
+        "--help",
+        "pitc compile --plan march.plan --out out/march north.csv south.csv",
+    ),
     ("--help", "pitc check out/march"),
     ("--help", "  4  memory or a thread was refused"),
     ("compile --help", "prints `rows N`"),
-    ("check --help", "and ` cpit P` behind it where there is a cpit file"),
+    (
+        "check --help",
+        "and ` cpit P` behind it where there is a cpit file",
+    ),
     ("help compile", "[default: 4]"),
     ("--version", "pitc 0.1.0"),
 ];

@@ -20,6 +20,6 @@ returns-clause-done g c =
 pub returns-in_err-gathered-clause-refused : goal.returns-in_err-gathered-clause-refused
 returns-in_err-gathered-clause-refused g c =
     let fact : NotCompiled c.args.plan.now (length c.args.feeds.items) (formulas_of c.args.destinations.now) c.args.settings c.in_err-gathered.field-0.0
-      = not_compiled c.args.plan.now (formulas_of c.args.destinations.now) c.args.settings _ _ _ _ (length c.args.feeds.items) (length-map c.args.feeds.items _) c.in_err-gathered.field-0.0
-          (λ kind e. (c.in_err-gathered.ensures.settings kind).0 (ap Err e)) c.in_err-gathered.ensures.refused in
+    = not_compiled c.args.plan.now (formulas_of c.args.destinations.now) c.args.settings _ _ _ _ (length c.args.feeds.items) (length-map c.args.feeds.items _) c.in_err-gathered.field-0.0
+    (λ kind e. (c.in_err-gathered.ensures.settings kind).0 (ap Err e)) c.in_err-gathered.ensures.refused in
     search rules

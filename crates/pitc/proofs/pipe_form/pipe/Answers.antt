@@ -36,7 +36,7 @@ returns-in_err-compiled-clause-settings g c =
     let told : c.from_residual-in_err-compiled.result ≡ Err c.in_err-compiled.field-0.0 = search rules in
     λ kind. (
       λ e. subst (λ n. IsSettingsFault c.args.plan.now n (formulas_of c.args.destinations.now) pipe_settings kind) c.in_ok-feeds.ensures.count
-        ((c.compile.ensures.settings kind).0 (c.in_err-compiled.was ∙ ap (λ r. Err (refusal_in r)) (sym told ∙ e))),
+          ((c.compile.ensures.settings kind).0 (c.in_err-compiled.was ∙ ap (λ r. Err (refusal_in r)) (sym told ∙ e))),
       λ h. absurd (none_where_suits c.args.plan.now (length c.args.zones.now) (formulas_of c.args.destinations.now) pipe_settings kind c.in_ok-require_settings.ensures.fit h),
     )
 

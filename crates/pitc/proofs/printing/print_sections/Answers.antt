@@ -17,13 +17,13 @@ returns-clause-ok c =
     let upit = section_more c.write_prec.new.sink c.section-3.new.self c.write_upit.new.sink (line (codes "upit")) (text_upit i) c.in_ok-section-3.ensures.kept c.in_ok-write_upit.ensures.written in
     let pcpsp = section_more c.write_upit.new.sink c.section-4.new.self c.write_pcpsp.new.sink (line (codes "pcpsp")) (text_pcpsp i) c.in_ok-section-4.ensures.kept c.in_ok-write_pcpsp.ensures.written in
     let four : c.write_pcpsp.new.sink.before ++ c.write_pcpsp.new.sink.taken
-        ≡ (((start ++ section (codes "blocks") (text_blocks i)) ++ section (codes "prec") (text_prec i)) ++ section (codes "upit") (text_upit i)) ++ section (codes "pcpsp") (text_pcpsp i)
-      = pcpsp ∙ ap (λ x. x ++ section (codes "pcpsp") (text_pcpsp i)) (upit ∙ ap (λ x. x ++ section (codes "upit") (text_upit i)) (prec ∙ ap (λ x. x ++ section (codes "prec") (text_prec i)) blocks)) in
+    ≡ (((start ++ section (codes "blocks") (text_blocks i)) ++ section (codes "prec") (text_prec i)) ++ section (codes "upit") (text_upit i)) ++ section (codes "pcpsp") (text_pcpsp i)
+    = pcpsp ∙ ap (λ x. x ++ section (codes "pcpsp") (text_pcpsp i)) (upit ∙ ap (λ x. x ++ section (codes "upit") (text_upit i)) (prec ∙ ap (λ x. x ++ section (codes "prec") (text_prec i)) blocks)) in
     where_ok
-      (λ written.
-        section_more c.write_pcpsp.new.sink c.section-5.new.self c.write_cpit.new.sink (line (codes "cpit")) (text_cpit c.args.cpit.now) c.in_ok-section-5.ensures.kept written
-        ∙ ap (λ x. x ++ section (codes "cpit") (text_cpit c.args.cpit.now)) four
-        ∙ ap (λ x. ((((start ++ section (codes "blocks") (text_blocks i)) ++ section (codes "prec") (text_prec i)) ++ section (codes "upit") (text_upit i)) ++ section (codes "pcpsp") (text_pcpsp i)) ++ section (codes "cpit") (text_cpit x)) c.requires.cpit
-        ∙ five_more start (section (codes "blocks") (text_blocks i)) (section (codes "prec") (text_prec i)) (section (codes "upit") (text_upit i)) (section (codes "pcpsp") (text_pcpsp i)) (section (codes "cpit") (text_cpit (cpit i))))
-      c.write_cpit.result
-      c.write_cpit.ensures.written
+    (λ written.
+    section_more c.write_pcpsp.new.sink c.section-5.new.self c.write_cpit.new.sink (line (codes "cpit")) (text_cpit c.args.cpit.now) c.in_ok-section-5.ensures.kept written
+    ∙ ap (λ x. x ++ section (codes "cpit") (text_cpit c.args.cpit.now)) four
+    ∙ ap (λ x. ((((start ++ section (codes "blocks") (text_blocks i)) ++ section (codes "prec") (text_prec i)) ++ section (codes "upit") (text_upit i)) ++ section (codes "pcpsp") (text_pcpsp i)) ++ section (codes "cpit") (text_cpit x)) c.requires.cpit
+    ∙ five_more start (section (codes "blocks") (text_blocks i)) (section (codes "prec") (text_prec i)) (section (codes "upit") (text_upit i)) (section (codes "pcpsp") (text_pcpsp i)) (section (codes "cpit") (text_cpit (cpit i))))
+    c.write_cpit.result
+    c.write_cpit.ensures.written
