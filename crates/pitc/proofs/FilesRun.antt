@@ -1,5 +1,5 @@
 -- What a run on files tells: as many texts as there are feeds.
-use Rattle.std.proofs.Common.{◌≡◌, ℕ, Bool, List, [], ◌∷◌, length, Option, Some, None, refl, ap, ◌∙◌}
+use Rattle.std.proofs.Common.{◌≡◌, ℕ, suc, Bool, List, [], ◌∷◌, length, Option, Some, None, refl, ap, ◌∙◌}
 use Rattle.minelib_text.specs.SinkState.{SinkState}
 use Rattle.pit_compile.specs.Compiled.{AreGiven, IsVerdict}
 use Rattle.pit_compile.specs.Run.{IsRefused}
@@ -16,7 +16,7 @@ pub as_many : (lefts : List (Option (List ℕ))) (texts : List (List ℕ)) → A
 as_many [] [] h = refl
 as_many [] (text ∷ texts) h = absurd h
 as_many (left ∷ lefts) [] h = absurd h
-as_many (left ∷ lefts) (text ∷ texts) h = ap (λ n. 1 + n) (as_many lefts texts h.1)
+as_many (left ∷ lefts) (text ∷ texts) h = ap suc (as_many lefts texts h.1)
 
 module _ (plan : PlanParts) (formulas : List Formula) (settings : Settings) (lefts : List (Option (List ℕ))) (sures : List Bool) (old new : List SinkState) (count : ℕ) (all : length lefts ≡ count) where
   verdict_on : (r : Refusal) → IsVerdict plan lefts r → HasVerdict plan count r

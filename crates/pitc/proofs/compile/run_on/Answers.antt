@@ -1,4 +1,5 @@
-use Rattle.std.proofs.Common.{◌≡◌, Err, Ok, length, ap, sym, ◌∙◌, subst, rules, length-map}
+use Rattle.std.proofs.Common.{◌≡◌, Err, Ok, length, ap, sym, ◌∙◌, subst, rules}
+use Rattle.std.proofs.lemmas.List.{length-map}
 use Rattle.std.specs.List.{sum_by}
 use Rattle.lane.specs.Message.{rows_in}
 use Rattle.pit_compile.specs.declared.refusal.Refusal.TheVariants.{Settings}
