@@ -16,23 +16,25 @@ fn job_of(alloc: Global, words: &[&str]) -> Result<Result<Job, JobFault>, Fail> 
 
 // The values of the job that these words state, one a line; or the status of the fault.
 fn stated(alloc: Global, words: &[&str]) -> Result<String, Fail> {
-    match job_of(alloc, words)? {
+    let answered = job_of(alloc, words)?;
+    match &answered {
         Ok(
             Job::Compile {
                 plan,
                 out,
-                settings: Settings { valuers, capacity },
+                settings,
                 zones,
             },
         ) => {
+            let Settings { valuers, capacity } = *settings;
             let mut text = format!(in alloc; "{plan} {out} {valuers} {capacity}")?;
-            for zone in &zones {
+            for zone in zones {
                 text.push_str(" ")?;
                 text.push_str(zone.as_str())?;
             }
             Ok(text)
         }
-        Ok(Job::Check { base }) => Ok(base),
+        Ok(Job::Check { base }) => Ok(String::from_str(alloc, base.as_str())?),
         Err(JobFault::Line(error)) => Ok(format!(in alloc; "status {}", error.exit_code())?),
         Err(JobFault::OutOfMemory) => Err("out of memory")?,
     }
