@@ -212,7 +212,7 @@ fn failing_devices(rt: HostRuntime) -> Result<(), Fail> {
     fs::write(&rt, "refused.csv", ORE)?;
     for (zones, base, expected) in REFUSED {
         let answer = told(&rt, rt.alloc(), ONE_ZONE, base, zones)?;
-        assert!(rt; answer.as_str() == expected, "{expected}");
+        assert!(rt; answer.as_str() == expected);
     }
     fs::remove_file(&rt, "refused.csv")?;
     Ok(())
