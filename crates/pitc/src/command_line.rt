@@ -8,12 +8,6 @@ ghost use Rattle.pitc.specs.CommandLine.{capacity_word, check_words, compile_wor
 use clap::{Arg, Command, value_parser};
 use std::alloc::{AllocError, Global};
 
-/// The most threads that value rows.
-pub const MAX_VALUERS: usize = 64;
-
-/// The most messages that the lane holds.
-pub const MAX_CAPACITY: usize = 4096;
-
 const ABOUT: &str = "Turns the block models of an open pit mine into a MineLib instance.
 
 With no words, pitc reads a plan and then its zone files from standard input, cut at each line that is

@@ -5,11 +5,11 @@ ghost use Rattle.clap.specs.Words.{fault_of, found_of, rows_of, subcommand_rows_
 ghost use Rattle.pitc.specs.CommandLine.{FindsIfAny, FindsNumber, FindsSettings, IsNoMemoryLine, RefusesWords, StatesJob, program};
 ghost use Rattle.pit_compile.specs.declared.settings.Settings.{Settings as ASettings};
 
-use crate::command_line::{MAX_CAPACITY, MAX_VALUERS, command_line};
+use crate::command_line::command_line;
 use crate::jobs::{Job, JobFault};
 use clap::ArgMatches;
 use clap::error::ErrorKind;
-use pit_compile::settings::Settings;
+use pit_compile::settings::{MOST_CAPACITY, MOST_VALUERS, Settings};
 use std::alloc::{AllocError, Global};
 
 #[cfg(test)]
@@ -103,8 +103,8 @@ fn copied(alloc: Global, words: &[&str]) -> Result<Vec<String>, AllocError>
 fn settings_in(found: &ArgMatches<'_>) -> Option<Settings>
     ensures { MatchOption result ((settings : ASettings) → FindsSettings (rows_of (found_of found.now)) settings → ⊥) (FindsSettings (rows_of (found_of found.now))) }
 {
-    let valuers = number_in(found, "valuers", MAX_VALUERS)?;
-    let capacity = number_in(found, "capacity", MAX_CAPACITY)?;
+    let valuers = number_in(found, "valuers", MOST_VALUERS)?;
+    let capacity = number_in(found, "capacity", MOST_CAPACITY)?;
     Some(Settings { valuers, capacity })
 }
 

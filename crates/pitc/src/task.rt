@@ -1,5 +1,8 @@
 //! A model to be compiled, by the pipe form or from files to files.
 
+ghost use Rattle.std.specs.Prelude.{◌≡◌, ◌≢◌};
+ghost use Rattle.pitc.specs.Task.{IsTaskDone, plan_in};
+
 use crate::compile::compile_files;
 use crate::model::Model;
 use crate::pipe_run::run_pipe;
@@ -27,7 +30,9 @@ pub enum Task {
 
 impl Task {
     /// The plan of the model.
-    pub fn plan(&self) -> &Plan {
+    pub fn plan(&self) -> &Plan
+        ensures { result.now ≡ plan_in self.now }
+    {
         match self {
             Task::Pipe(model) => &model.plan,
             Task::Files { plan, .. } => plan,
@@ -46,6 +51,9 @@ impl Task {
     ) -> u8
     where
         R::File: Send,
+        ensures done { result ≡ 0 → IsTaskDone self.now text.old.items text.new.items }
+        ensures quiet { result ≡ 0 → lines.new.items ≡ lines.old.items }
+        ensures kept { result ≢ 0 → text.new.items ≡ text.old.items }
     {
         match self {
             Task::Pipe(model) => run_pipe(rt, alloc, model, destinations, text, lines),
