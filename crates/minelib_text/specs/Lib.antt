@@ -2,6 +2,7 @@ pub mod BlockLines
 pub mod Count
 pub mod Denotes
 pub mod Device
+pub mod FaultText
 pub mod FieldValues
 pub mod FileFault
 pub mod FileState
@@ -13,6 +14,7 @@ pub mod ModelParts
 pub mod ModelView
 pub mod PrecLines
 pub mod Reading
+pub mod SameTexts
 pub mod Sections
 pub mod SinkState
 pub mod Spaced

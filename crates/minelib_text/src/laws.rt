@@ -1,6 +1,8 @@
 //! What holds of texts, whatever they say: each contract is a law, and a call of it changes nothing.
-ghost use Rattle.std.specs.Prelude.{◌≡◌, ℕ, ◌≤◌, List, length, Ok};
+ghost use Rattle.std.specs.Prelude.{◌≡◌, ℕ, ◌≤◌, List, All, length, Ok};
 ghost use Rattle.mine_instance.specs.Cpit.{CpitParts, IsCpit};
+ghost use Rattle.mine_instance.specs.OfModel.{instance as instance_of};
+ghost use Rattle.mine_instance.specs.OneSlope.{instance_by};
 ghost use Rattle.mine_instance.specs.Valid.{IsValid};
 ghost use Rattle.mine_instance.specs.declared.instance.Instance.{Instance as OneInstance};
 ghost use Rattle.minelib_text.specs.BlockLines.{blocks_in};
@@ -8,13 +10,16 @@ ghost use Rattle.minelib_text.specs.Denotes.{Denotes, DenotesCpit};
 ghost use Rattle.minelib_text.specs.Kept.{IsKept, IsKeptCpit};
 ghost use Rattle.minelib_text.specs.ModelLines.{ModelDraft, model_in};
 ghost use Rattle.minelib_text.specs.PrecLines.{preds_in};
+ghost use Rattle.minelib_text.specs.SameTexts.{HaveSameTexts};
 ghost use Rattle.minelib_text.specs.SpelledBlocks.{AreBlockLines};
 ghost use Rattle.minelib_text.specs.SpelledModel.{AreModelLines};
 ghost use Rattle.minelib_text.specs.SpelledPrec.{ArePredsLines};
 ghost use Rattle.minelib_text.specs.TextLines.{lines_in};
 ghost use Rattle.minelib_text.specs.Written.{text_blocks, text_prec, text_pcpsp, text_cpit};
 ghost use Rattle.minelib_text.specs.declared.model_key.Problem.{Problem};
+ghost use Rattle.pit_model.specs.Plan.{IsCone, PlanParts};
 ghost use Rattle.pit_model.specs.declared.block.Block.{Block};
+ghost use Rattle.precedence.specs.ConeLaws.{IsEven};
 
 use crate::keeping::{keep_cpit, keep_instance};
 use mine_instance::cpit::Cpit;
@@ -43,6 +48,15 @@ pub fn cpit_text_denotes(cpit: &Cpit)
     ensures { DenotesCpit (length cpit.now.values) (text_cpit cpit.now) cpit.now }
 {
     keep_cpit(cpit);
+}
+
+/// Where the cone of each zone has one slope on all sides, the texts of a model's instance are those of the instance with predecessors by the
+/// test with one slope.
+pub fn even_zones()
+    ensures { (plan : PlanParts) (listed : List Block) → All IsCone plan.cones → All IsEven plan.cones
+        → HaveSameTexts (instance_of plan listed) (instance_by plan listed) }
+{
+    mine_instance::laws::even_zones();
 }
 
 /// The instance that three texts denote is valid.

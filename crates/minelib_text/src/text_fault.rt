@@ -4,23 +4,36 @@ ghost use Rattle.std.specs.Prelude.{◌≡◌};
 
 use pit_units::DecFault;
 use std::alloc::AllocError;
+use std::fmt;
 use thiserror::Error;
 
 /// A file of an instance.
 #[derive(Clone, Copy, Debug, Error, PartialEq, Eq)]
 pub enum TextFile {
     /// The blocks.
-    #[error("blocks")]
     Blocks,
     /// The predecessors of each block.
-    #[error("prec")]
     Prec,
     /// The production scheduling problem.
-    #[error("pcpsp")]
     Pcpsp,
     /// The constrained pit limit problem.
-    #[error("cpit")]
     Cpit,
+}
+
+impl fmt::Display for TextFile {
+    ghost use Rattle.std.specs.Prelude.{Some};
+    ghost use Rattle.minelib_text.specs.FaultText.{file_name};
+
+    ghost output = { λ file. Some (file_name file) };
+
+    fn fmt<W: fmt::Write>(&self, f: &mut fmt::Formatter<W>) -> fmt::Result {
+        match self {
+            TextFile::Blocks => f.write_str("blocks"),
+            TextFile::Prec => f.write_str("prec"),
+            TextFile::Pcpsp => f.write_str("pcpsp"),
+            TextFile::Cpit => f.write_str("cpit"),
+        }
+    }
 }
 
 /// What is wrong with a line of a MineLib text. Where several kinds apply to a line, an unknown key, a key that stands twice and the number of
@@ -29,36 +42,48 @@ pub enum TextFile {
 #[derive(Clone, Copy, Debug, Error, PartialEq, Eq)]
 pub enum TextKind {
     /// The line has too few or too many fields.
-    #[error("Fields")]
     Fields,
     /// A field is no decimal number.
-    #[error("Number")]
     Number,
     /// A number has more decimals than its field allows.
-    #[error("TooFine")]
     TooFine,
     /// A number is out of range.
-    #[error("Range")]
     Range,
     /// An identifier is not the next one, coefficients or limits do not rise, or an interval's ends are the wrong way round.
-    #[error("Order")]
     Order,
     /// The stated number of predecessors is not the number of those that stand, or NBLOCKS is not the number of blocks.
-    #[error("Count")]
     Count,
     /// A header key stands before, or a predecessor stands twice or is the block itself.
-    #[error("Twice")]
     Twice,
     /// The key is unknown, a header key stands behind a section's, a section is not the next one, or a line without a key stands before the first
     /// section.
-    #[error("Key")]
     Key,
     /// A section begins while header keys or objective lines are lacking, or the text ends while lines, keys or sections are lacking.
-    #[error("Missing")]
     Missing,
     /// NAME is no NAME, TYPE is not that of the file, or a limit letter is not `L`, `G` or `I`.
-    #[error("Name")]
     Name,
+}
+
+impl fmt::Display for TextKind {
+    ghost use Rattle.std.specs.Prelude.{Some};
+    ghost use Rattle.minelib_text.specs.FaultText.{kind_name};
+
+    ghost output = { λ kind. Some (kind_name kind) };
+
+    fn fmt<W: fmt::Write>(&self, f: &mut fmt::Formatter<W>) -> fmt::Result {
+        match self {
+            TextKind::Fields => f.write_str("Fields"),
+            TextKind::Number => f.write_str("Number"),
+            TextKind::TooFine => f.write_str("TooFine"),
+            TextKind::Range => f.write_str("Range"),
+            TextKind::Order => f.write_str("Order"),
+            TextKind::Count => f.write_str("Count"),
+            TextKind::Twice => f.write_str("Twice"),
+            TextKind::Key => f.write_str("Key"),
+            TextKind::Missing => f.write_str("Missing"),
+            TextKind::Name => f.write_str("Name"),
+        }
+    }
 }
 
 impl From<DecFault> for TextKind {
@@ -85,12 +110,23 @@ pub struct LineFault {
 
 /// The first faulty line of the texts of an instance.
 #[derive(Clone, Copy, Debug, Error, PartialEq, Eq)]
-#[error("{file} line {line}: {kind}")]
 pub struct TextFault {
     pub file: TextFile,
     /// The number of the line, from 1; where something is missing at the end, the number of lines and one more.
     pub line: u64,
     pub kind: TextKind,
+}
+
+impl fmt::Display for TextFault {
+    ghost use Rattle.std.specs.Prelude.{Some};
+    ghost use Rattle.minelib_text.specs.FaultText.{fault_text};
+
+    ghost output = { λ fault. Some (fault_text fault) };
+
+    fn fmt<W: fmt::Write>(&self, f: &mut fmt::Formatter<W>) -> fmt::Result {
+        let TextFault { file, line, kind } = self;
+        write!(f, "{file} line {line}: {kind}")
+    }
 }
 
 /// Why texts were not read.

@@ -1,6 +1,7 @@
 pub mod Answers
 pub mod Collecting
 pub mod Compiled
+pub mod FaultText
 pub mod Rows
 pub mod Run
 pub mod Settings

@@ -7,27 +7,39 @@ ghost use Rattle.pit_compile.specs.Answers.{refused_start};
 use crate::settings::SettingsFault;
 use run_threads::HandOverFault;
 use std::alloc::AllocError;
+use std::fmt;
 use thiserror::Error;
 use zone_csv::row_fault::RowFault;
 
 /// One of the five sinks of a run, in the order of writing.
 #[derive(Clone, Copy, Debug, Error, PartialEq, Eq)]
 pub enum SinkName {
-    #[error("blocks")]
     Blocks,
-    #[error("prec")]
     Prec,
-    #[error("upit")]
     Upit,
-    #[error("pcpsp")]
     Pcpsp,
-    #[error("cpit")]
     Cpit,
+}
+
+impl fmt::Display for SinkName {
+    ghost use Rattle.std.specs.Prelude.{Some};
+    ghost use Rattle.pit_compile.specs.FaultText.{sink_name};
+
+    ghost output = { λ which. Some (sink_name which) };
+
+    fn fmt<W: fmt::Write>(&self, f: &mut fmt::Formatter<W>) -> fmt::Result {
+        match self {
+            SinkName::Blocks => f.write_str("blocks"),
+            SinkName::Prec => f.write_str("prec"),
+            SinkName::Upit => f.write_str("upit"),
+            SinkName::Pcpsp => f.write_str("pcpsp"),
+            SinkName::Cpit => f.write_str("cpit"),
+        }
+    }
 }
 
 /// A row of a zone file.
 #[derive(Clone, Copy, Debug, Error, PartialEq, Eq)]
-#[error("file {file} row {row}")]
 pub struct RowAt {
     /// The number of the file, from 0.
     pub file: u8,
@@ -35,33 +47,57 @@ pub struct RowAt {
     pub row: u32,
 }
 
+impl fmt::Display for RowAt {
+    ghost use Rattle.std.specs.Prelude.{Some};
+    ghost use Rattle.pit_compile.specs.FaultText.{row_text};
+
+    ghost output = { λ at. Some (row_text at) };
+
+    fn fmt<W: fmt::Write>(&self, f: &mut fmt::Formatter<W>) -> fmt::Result {
+        let RowAt { file, row } = self;
+        write!(f, "file {file} row {row}")
+    }
+}
+
 /// Why a run is refused. Files are numbered from 0, in the order of the feeds.
 #[derive(Clone, Copy, Debug, Error, PartialEq, Eq)]
 pub enum Refusal {
     /// The settings do not fit the plan.
-    #[error("settings: {0}")]
     Settings(SettingsFault),
     /// The start of a thread was refused.
-    #[error("NoThread")]
     NoThread,
     /// The feed of a zone file failed.
-    #[error("file {file}: FeedFailed")]
     FeedFailed { file: u8 },
     /// A zone file has more bytes than a zone file may have.
-    #[error("file {file}: TooLong")]
     TooLong { file: u8 },
     /// A zone file has a faulty row.
-    #[error("file {file} {fault}")]
     Row { file: u8, fault: RowFault },
     /// A block stands a second time: its first row, and the first row of all that repeats another one.
-    #[error("{again} repeats {first}")]
     Same { first: RowAt, again: RowAt },
     /// A sink refused a call.
-    #[error("sink {which}: SinkFailed")]
     SinkFailed { which: SinkName },
     /// Memory was refused.
-    #[error("OutOfMemory")]
     OutOfMemory,
+}
+
+impl fmt::Display for Refusal {
+    ghost use Rattle.std.specs.Prelude.{Some};
+    ghost use Rattle.pit_compile.specs.FaultText.{refusal_text};
+
+    ghost output = { λ refusal. Some (refusal_text refusal) };
+
+    fn fmt<W: fmt::Write>(&self, f: &mut fmt::Formatter<W>) -> fmt::Result {
+        match self {
+            Refusal::Settings(kind) => write!(f, "settings: {kind}"),
+            Refusal::NoThread => f.write_str("NoThread"),
+            Refusal::FeedFailed { file } => write!(f, "file {file}: FeedFailed"),
+            Refusal::TooLong { file } => write!(f, "file {file}: TooLong"),
+            Refusal::Row { file, fault } => write!(f, "file {file} {fault}"),
+            Refusal::Same { first, again } => write!(f, "{again} repeats {first}"),
+            Refusal::SinkFailed { which } => write!(f, "sink {which}: SinkFailed"),
+            Refusal::OutOfMemory => f.write_str("OutOfMemory"),
+        }
+    }
 }
 
 impl From<SettingsFault> for Refusal {

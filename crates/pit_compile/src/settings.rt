@@ -8,6 +8,7 @@ ghost use Rattle.pit_model.specs.Destinations.{formulas_of, formulas_of_plan};
 use pit_model::destination::Destination;
 use pit_model::formula::{Formula, NamedFormula};
 use pit_model::plan::Plan;
+use std::fmt;
 use thiserror::Error;
 
 /// The most threads that value rows.
@@ -29,17 +30,29 @@ pub struct Settings {
 #[derive(Clone, Copy, Debug, Error, PartialEq, Eq)]
 pub enum SettingsFault {
     /// There are not as many zone files as the plan has zones.
-    #[error("Files")]
     Files,
     /// The number of valuers is not 1 to 64.
-    #[error("Valuers")]
     Valuers,
     /// The capacity is not 1 to 4096.
-    #[error("Capacity")]
     Capacity,
     /// The destinations' formulas are not the plan's, in order.
-    #[error("Destinations")]
     Destinations,
+}
+
+impl fmt::Display for SettingsFault {
+    ghost use Rattle.std.specs.Prelude.{Some};
+    ghost use Rattle.pit_compile.specs.FaultText.{settings_name};
+
+    ghost output = { λ kind. Some (settings_name kind) };
+
+    fn fmt<W: fmt::Write>(&self, f: &mut fmt::Formatter<W>) -> fmt::Result {
+        match self {
+            SettingsFault::Files => f.write_str("Files"),
+            SettingsFault::Valuers => f.write_str("Valuers"),
+            SettingsFault::Capacity => f.write_str("Capacity"),
+            SettingsFault::Destinations => f.write_str("Destinations"),
+        }
+    }
 }
 
 /// Fails with the least kind of fault that the settings have, for so many zone files.

@@ -5,6 +5,7 @@ pub mod Cells
 pub mod Destinations
 pub mod DraftView
 pub mod Equality
+pub mod FaultText
 pub mod Formula
 pub mod Name
 pub mod Plan

@@ -74,7 +74,7 @@ impl Draft {
         }
     }
 
-    /// Adds what the next record says. Where it has a fault, or memory is refused, the draft is as it was.
+    /// Adds what the next record says. Where it has a fault, or memory is refused, the draft is of no use.
     pub fn admit(&mut self, row: &ByteRecord) -> Result<(), RecordError>
         ensures { Admits self.new result (admit self.old (cells_of (fields_of row.now))) }
     {

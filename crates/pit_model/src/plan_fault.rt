@@ -5,6 +5,7 @@ ghost use Rattle.pit_model.specs.declared.plan_fault.RecordError.TheVariants.{Fa
 
 use pit_units::DecFault;
 use std::alloc::{AllocError, AllocFailed};
+use std::fmt;
 use thiserror::Error;
 
 /// What is wrong with a record of a plan. Where several kinds apply, the record's cells are looked at in the order of these variants,
@@ -12,36 +13,48 @@ use thiserror::Error;
 #[derive(Clone, Copy, Debug, Error, PartialEq, Eq)]
 pub enum PlanFaultKind {
     /// The record's first cell is no key.
-    #[error("Key")]
     Key,
     /// The record has too few or too many cells for its key.
-    #[error("Width")]
     Width,
     /// A cell is no decimal number.
-    #[error("Number")]
     Number,
     /// A number has more decimals than its cell allows.
-    #[error("TooFine")]
     TooFine,
     /// A number is out of range.
-    #[error("Range")]
     Range,
     /// A cell is no NAME, names no earlier destination or resource, or is no letter of a limit.
-    #[error("Name")]
     Name,
     /// The record stands once before, another destination or resource has the NAME, a resource names a destination twice, or the resource
     /// has a limit in that period.
-    #[error("Twice")]
     Twice,
     /// The starts of bands do not rise, or an interval's ends are the wrong way round.
-    #[error("Order")]
     Order,
     /// One more than there may be: a 65th zone, a 9th destination, a 9th resource, a 17th band, or record 10,001.
-    #[error("TooMany")]
     TooMany,
     /// At the end there is no `name`, `grid`, `zone`, destination, `periods` or `rate`.
-    #[error("Missing")]
     Missing,
+}
+
+impl fmt::Display for PlanFaultKind {
+    ghost use Rattle.std.specs.Prelude.{Some};
+    ghost use Rattle.pit_model.specs.FaultText.{kind_name};
+
+    ghost output = { λ kind. Some (kind_name kind) };
+
+    fn fmt<W: fmt::Write>(&self, f: &mut fmt::Formatter<W>) -> fmt::Result {
+        match self {
+            PlanFaultKind::Key => f.write_str("Key"),
+            PlanFaultKind::Width => f.write_str("Width"),
+            PlanFaultKind::Number => f.write_str("Number"),
+            PlanFaultKind::TooFine => f.write_str("TooFine"),
+            PlanFaultKind::Range => f.write_str("Range"),
+            PlanFaultKind::Name => f.write_str("Name"),
+            PlanFaultKind::Twice => f.write_str("Twice"),
+            PlanFaultKind::Order => f.write_str("Order"),
+            PlanFaultKind::TooMany => f.write_str("TooMany"),
+            PlanFaultKind::Missing => f.write_str("Missing"),
+        }
+    }
 }
 
 impl From<DecFault> for PlanFaultKind {
@@ -61,11 +74,22 @@ impl From<DecFault> for PlanFaultKind {
 
 /// The first faulty record of a plan.
 #[derive(Clone, Copy, Debug, Error, PartialEq, Eq)]
-#[error("plan row {row}: {kind}")]
 pub struct PlanFault {
     /// The number of the record, from 1; where something is missing, one past the last.
     pub row: u32,
     pub kind: PlanFaultKind,
+}
+
+impl fmt::Display for PlanFault {
+    ghost use Rattle.std.specs.Prelude.{Some};
+    ghost use Rattle.pit_model.specs.FaultText.{fault_text};
+
+    ghost output = { λ fault. Some (fault_text fault) };
+
+    fn fmt<W: fmt::Write>(&self, f: &mut fmt::Formatter<W>) -> fmt::Result {
+        let PlanFault { row, kind } = self;
+        write!(f, "plan row {row}: {kind}")
+    }
 }
 
 /// Why one record was not admitted.

@@ -16,15 +16,20 @@ pub enum Column {
 }
 
 impl fmt::Display for Column {
+    ghost use Rattle.std.specs.Prelude.{Some};
+    ghost use Rattle.zone_csv.specs.FaultText.{column_name};
+
+    ghost output = { λ column. Some (column_name column) };
+
     fn fmt<W: fmt::Write>(&self, f: &mut fmt::Formatter<W>) -> fmt::Result {
-        f.write_str(match self {
-            Column::X => "x",
-            Column::Y => "y",
-            Column::Z => "z",
-            Column::Tonnes => "tonnes",
-            Column::Grade => "grade",
-            Column::Whole => "whole",
-        })
+        match self {
+            Column::X => f.write_str("x"),
+            Column::Y => f.write_str("y"),
+            Column::Z => f.write_str("z"),
+            Column::Tonnes => f.write_str("tonnes"),
+            Column::Grade => f.write_str("grade"),
+            Column::Whole => f.write_str("whole"),
+        }
     }
 }
 
@@ -49,12 +54,43 @@ pub enum RowFaultKind {
     TooManyRows,
 }
 
+impl fmt::Display for RowFaultKind {
+    ghost use Rattle.std.specs.Prelude.{Some};
+    ghost use Rattle.zone_csv.specs.FaultText.{kind_name};
+
+    ghost output = { λ kind. Some (kind_name kind) };
+
+    fn fmt<W: fmt::Write>(&self, f: &mut fmt::Formatter<W>) -> fmt::Result {
+        match self {
+            RowFaultKind::MissingColumn => f.write_str("MissingColumn"),
+            RowFaultKind::TwiceColumn => f.write_str("TwiceColumn"),
+            RowFaultKind::Width => f.write_str("Width"),
+            RowFaultKind::Number => f.write_str("Number"),
+            RowFaultKind::TooFine => f.write_str("TooFine"),
+            RowFaultKind::Range => f.write_str("Range"),
+            RowFaultKind::OffGrid => f.write_str("OffGrid"),
+            RowFaultKind::TooManyRows => f.write_str("TooManyRows"),
+        }
+    }
+}
+
 /// The first fault of a zone file, and where it stands.
 #[derive(Clone, Copy, Debug, Error, PartialEq, Eq)]
-#[error("row {row} column {column}: {kind:?}")]
 pub struct RowFault {
     /// The number of the record, from 1, the header included. Blank lines are no records.
     pub row: u32,
     pub column: Column,
     pub kind: RowFaultKind,
+}
+
+impl fmt::Display for RowFault {
+    ghost use Rattle.std.specs.Prelude.{Some};
+    ghost use Rattle.zone_csv.specs.FaultText.{fault_text};
+
+    ghost output = { λ fault. Some (fault_text fault) };
+
+    fn fmt<W: fmt::Write>(&self, f: &mut fmt::Formatter<W>) -> fmt::Result {
+        let RowFault { row, column, kind } = self;
+        write!(f, "row {row} column {column}: {kind}")
+    }
 }

@@ -37,7 +37,7 @@ impl<'a> Feed for SliceFeed<'a> {
 
     ghost is_sure = { λ _. true };
 
-    /// Gives as many of the bytes that are left as the buffer holds.
+    /// Gives the next of the bytes that are left.
     fn pull(&mut self, buffer: &mut [u8]) -> Result<usize, FeedFault> {
         let count = self.left.len().min(buffer.len());
         let (given, left) = self.left.split_at(count);
