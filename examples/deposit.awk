@@ -37,8 +37,9 @@ BEGIN {
     print "resource,crusher,mill,heap" > plan
     print "resource,fleet,mill,heap,dump" > plan
     for (period = 0; period < 4; period++) {
+        most = 6000000 + 500000 * period
         print "limit,crusher," period ",L,2500000" > plan
-        print "limit,fleet," period ",I,1000000," 6000000 + 500000 * period > plan
+        print "limit,fleet," period ",I,1000000," most > plan
     }
 
     zones[0] = "deposit-oxide.csv"
@@ -55,11 +56,11 @@ BEGIN {
                 # old workings
                 if (z < 4 && x > 15 && x < 19 && chance(3) == 0) continue
                 zone = z >= 8 ? 0 : (x < 12 ? 1 : 2)
+                rock = zone == 0 ? "oxide" : "sulphide"
                 tonnes = (zone == 0 ? 9600 : 10800) * 1000 + chance(400000)
                 grade = grade_of(x, y, z)
-                printf "%d,%d,%d,%d.%03d,%d.%06d,%s\n", 1000 + 20 * x, 2000 + 20 * y, 300 + 10 * z,
-                    int(tonnes / 1000), tonnes % 1000, int(grade / 1000000), grade % 1000000,
-                    zone == 0 ? "oxide" : "sulphide" > zones[zone]
+                printf("%d,%d,%d,%d.%03d,%d.%06d,%s\n", 1000 + 20 * x, 2000 + 20 * y, 300 + 10 * z,
+                    int(tonnes / 1000), tonnes % 1000, int(grade / 1000000), grade % 1000000, rock) > zones[zone]
             }
         }
     }
