@@ -1,7 +1,7 @@
 -- How the parts of a reader of records are seen as the records that it has ahead.
 use Rattle.std.specs.Prelude.{◌≡◌, ◌+◌, ◌<◌, ◌∷◌, Bool, true, false, ℕ, List, [], Option, Some, None, length}
 use Rattle.csv.specs.Machine.{ends_at_end}
-use Rattle.csv.specs.Reading.{Ready, default_config, is_flexible, reader_config, reader_state, reader_trim, records_from, source_of}
+use Rattle.csv.specs.Reading.{Ready, default_config, is_flexible, names_headers, reader_config, reader_state, reader_trim, records_from, source_of}
 use Rattle.csv.specs.declared.parser.State.{State}
 use Rattle.csv.specs.declared.reader.Reader.{Reader}
 use Rattle.csv.specs.declared.reader.Trim.TheVariants as trim
@@ -24,9 +24,20 @@ rows_left known reader = rows_of_source (reader_state reader) (source_of known r
 
 -- what is ahead at each stage
 abbrev pub ahead_of : {R : Type 0} → (R → Option (List ℕ)) → Stage → Reader R → Ahead
+ahead_of known stage.Unread reader = Rows (rows_left known reader)
 ahead_of known stage.Reading reader = Rows (rows_left known reader)
 ahead_of known stage.Ended reader = Over
 ahead_of known stage.Refused reader = GaveUp
+
+-- a reader of known bytes before the first record, that sets its first record apart as a header unless it is given one, and is else as below
+pub record IsUnread {R : Type 0} (known : R → Option (List ℕ)) (reader : Reader R) : Type 0 where
+  pub plain : reader_trim reader ≡ trim.None
+  pub named : names_headers reader ≡ true
+  pub config : reader_config reader ≡ default_config
+  pub flexible : is_flexible reader ≡ true
+  pub between : ends_at_end (reader_state reader) ≡ false
+  pub bytes : List ℕ
+  pub source : source_of known reader ≡ Some bytes
 
 -- a reader of known bytes, between two records, that reads as `records_of` says and lets records differ in length
 pub record IsBetweenRecords {R : Type 0} (known : R → Option (List ℕ)) (reader : Reader R) : Type 0 where
@@ -45,6 +56,7 @@ TakesNext known old new false fields = rows_left known old ≡ []
 
 -- what holds of the reader underneath at each stage: nothing once no record is asked of it any more
 abbrev pub IsSetUp : {R : Type 0} → (R → Option (List ℕ)) → Stage → Reader R → Type 0
+IsSetUp known stage.Unread reader = IsUnread known reader
 IsSetUp known stage.Reading reader = IsBetweenRecords known reader
 IsSetUp known stage.Ended reader = Unit {0}
 IsSetUp known stage.Refused reader = Unit {0}

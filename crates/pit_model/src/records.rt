@@ -7,11 +7,11 @@
 //! Where RFC 4180 is silent: a quote inside an unquoted cell stands for itself, bytes after a closing quote join its cell, and a quote that is
 //! not closed runs to the end of the text. A cell may hold any bytes.
 
-ghost use Rattle.std.specs.Prelude.{◌≡◌, ◌+◌, ◌<◌, ◌≤◌, true, IfOk, IfSome, Ok, length};
+ghost use Rattle.std.specs.Prelude.{◌≡◌, ◌+◌, ◌<◌, ◌≤◌, true, IfOk, IfSome, OnOk, Ok, length};
 ghost use Rattle.std.specs.List.{All};
 ghost use Rattle.csv.specs.Records.{fields_of};
 ghost use Rattle.pit_model.specs.Records.{TakesRow, Rows, records_of, rows_ahead};
-ghost use Rattle.pit_model.specs.RecordsAhead.{IsBetweenRecords, TakesNext, rows_left};
+ghost use Rattle.pit_model.specs.RecordsAhead.{IsBetweenRecords, IsUnread, TakesNext, rows_left};
 
 use csv::{ByteRecord, Reader, ReaderBuilder};
 use std::alloc::{AllocError, Global};
@@ -21,6 +21,8 @@ use std::marker::Model;
 /// Whether the text has given all its records.
 #[derive(Clone, Copy)]
 enum Stage {
+    /// No record was asked for yet.
+    Unread,
     /// A record may follow.
     Reading,
     /// The text has ended.
@@ -34,6 +36,7 @@ enum Stage {
 /// It holds its buffer and tables in itself, some sixteen kilobytes, and takes memory only for the record that it reads into.
 #[derive(Drop)]
 pub struct RecordReader<R: Read> {
+    alloc: Global,
     reader: Reader<R>,
     stage: Stage,
 }
@@ -58,8 +61,9 @@ impl RecordReader<Cursor<Vec<u8>>> {
         ensures cells { All (λ row. 0 < length row) (records_of text.items) }
     {
         RecordReader {
+            alloc,
             reader: reader_of(alloc, Cursor::new(text)),
-            stage: Stage::Reading,
+            stage: Stage::Unread,
         }
     }
 }
@@ -73,8 +77,9 @@ impl<'a> RecordReader<&'a [u8]> {
         ensures cells { All (λ row. 0 < length row) (records_of text.now) }
     {
         RecordReader {
+            alloc,
             reader: reader_of(alloc, text),
-            stage: Stage::Reading,
+            stage: Stage::Unread,
         }
     }
 }
@@ -90,13 +95,17 @@ impl<R: Read> RecordReader<R> {
         ensures fewer { result ≡ Ok true → rows_ahead self.new + 1 ≡ rows_ahead self.old }
         ensures cells { result ≡ Ok true → 0 < length (fields_of row.new) }
     {
-        match self.stage {
-            Stage::Reading => {}
+        let found = match self.stage {
+            Stage::Unread => take_first(self.alloc, &mut self.reader, row),
+            Stage::Reading => take_record(&mut self.reader, row),
             Stage::Ended => return Ok(false),
             Stage::Refused => return Err(AllocError),
-        }
-        match take_record(&mut self.reader, row) {
-            Ok(true) => Ok(true),
+        };
+        match found {
+            Ok(true) => {
+                self.stage = Stage::Reading;
+                Ok(true)
+            }
             Ok(false) => {
                 self.stage = Stage::Ended;
                 Ok(false)
@@ -106,6 +115,28 @@ impl<R: Read> RecordReader<R> {
                 Err(refusal)
             }
         }
+    }
+}
+
+// Takes the first record.
+fn take_first<R: Read>(
+    alloc: Global,
+    reader: &mut Reader<R>,
+    row: &mut ByteRecord,
+) -> Result<bool, AllocError>
+    ensures { IsUnread R.remaining reader.old → IfOk result (λ found. TakesNext R.remaining reader.old reader.new found (fields_of row.new)) }
+{
+    name_no_columns(alloc, reader)?;
+    take_record(reader, row)
+}
+
+// Gives the reader a header of no cells. Without one it would keep two copies of the first record, however long that is, as its own header.
+fn name_no_columns<R: Read>(alloc: Global, reader: &mut Reader<R>) -> Result<(), AllocError>
+    ensures { IsUnread R.remaining reader.old → OnOk result (IsBetweenRecords R.remaining reader.new × (rows_left R.remaining reader.new ≡ rows_left R.remaining reader.old)) }
+{
+    match reader.set_byte_headers(ByteRecord::new(alloc)) {
+        Ok(()) => Ok(()),
+        Err(_) => Err(AllocError),
     }
 }
 
@@ -120,12 +151,11 @@ fn take_record<R: Read>(reader: &mut Reader<R>, row: &mut ByteRecord) -> Result<
     }
 }
 
-// A reader with the crate's defaults, but with no header and with records of any length.
+// A reader with the crate's defaults, but with records of any length. It is still to be given a header, so that the first record is none.
 fn reader_of<R: Read>(alloc: Global, source: R) -> Reader<R>
-    ensures { IfSome (R.remaining source) (λ text. IsBetweenRecords R.remaining result × (rows_left R.remaining result ≡ records_of text)) }
+    ensures { IfSome (R.remaining source) (λ text. IsUnread R.remaining result × (rows_left R.remaining result ≡ records_of text)) }
 {
     ReaderBuilder::new()
-        .has_headers(false)
         .flexible(true)
         .from_reader(alloc, source)
 }

@@ -1,14 +1,17 @@
 //! What one valuer hands on.
 
-ghost use Rattle.std.specs.Prelude.{◌≡◌};
+ghost use Rattle.std.specs.Prelude.{◌≡◌, ◌++◌, [], ◌∷◌, OnOk, OnErr};
 
 use crate::item::Item;
+use std::alloc::{AllocError, Global};
 use std::marker::Model;
 
 /// What one valuer hands on: the rows and end marks that it took, in order. Contracts see the list of them.
 #[derive(Drop)]
 pub struct Items {
     items: Vec<Item>,
+    // As many as the list takes, which a test sets: an allocator that refuses cannot be put in the place of `Global`.
+    most: usize,
 }
 
 impl Model for Items {
@@ -21,10 +24,33 @@ impl Model for Items {
 }
 
 impl Items {
-    pub(crate) fn new(items: Vec<Item>) -> Items
-        ensures { result ≡ items.items }
+    // A list of no items, which takes what memory holds.
+    pub(crate) fn new(alloc: Global) -> Items
+        ensures { result ≡ [] }
     {
-        Items { items }
+        Items::refusing_after(alloc, usize::MAX)
+    }
+
+    // The same, but memory for more than so many items is refused.
+    pub(crate) fn refusing_after(alloc: Global, most: usize) -> Items
+        ensures { result ≡ [] }
+    {
+        Items {
+            items: Vec::new(alloc),
+            most,
+        }
+    }
+
+    // Appends an item.
+    pub(crate) fn push(&mut self, item: Item) -> Result<(), AllocError>
+        ensures pushed { OnOk result (self.new ≡ self.old ++ item ∷ []) }
+        ensures kept { OnErr result (self.new ≡ self.old) }
+    {
+        if self.items.len() >= self.most {
+            return Err(AllocError);
+        }
+        self.items.push(item)?;
+        Ok(())
     }
 
     /// The items.

@@ -31,7 +31,7 @@ pub struct ValuerResult {
 pub fn value_all<R: Wait, G: Gate>(
     rt: &R,
     alloc: Global,
-    mut take_end: TakeEnd,
+    take_end: TakeEnd,
     valuer: u8,
     destinations: &[Destination],
     gate: &G,
@@ -43,7 +43,26 @@ pub fn value_all<R: Wait, G: Gate>(
     ensures items { IsFalse result.memory → result.items ≡ items_by (formulas_of destinations.now) (drop (length take_end.took) result.taker.took) }
     ensures front { result.items ≡ take (length result.items) (items_by (formulas_of destinations.now) (drop (length take_end.took) result.taker.took)) }
 {
-    let mut items = Vec::new(alloc);
+    take_all(rt, take_end, valuer, destinations, gate, Items::new(alloc))
+}
+
+// The same, into a list of no items.
+fn take_all<R: Wait, G: Gate>(
+    rt: &R,
+    mut take_end: TakeEnd,
+    valuer: u8,
+    destinations: &[Destination],
+    gate: &G,
+    mut items: Items,
+) -> ValuerResult
+    requires some { 1 ≤ length destinations.now }
+    requires few { length destinations.now ≤ 8 }
+    requires empty { items ≡ [] }
+    ensures taker { result.taker ≡ record take_end { took = take_end.took ++ drop (length take_end.took) result.taker.took } }
+    ensures done { is_done result.taker.took ≡ true }
+    ensures items { IsFalse result.memory → result.items ≡ items_by (formulas_of destinations.now) (drop (length take_end.took) result.taker.took) }
+    ensures front { result.items ≡ take (length result.items) (items_by (formulas_of destinations.now) (drop (length take_end.took) result.taker.took)) }
+{
     let mut memory = false;
     for _ in rt.forever() {
         if take_end.is_done() {
@@ -56,7 +75,7 @@ pub fn value_all<R: Wait, G: Gate>(
     }
     ValuerResult {
         taker: take_end,
-        items: Items::new(items),
+        items,
         memory,
     }
 }
@@ -68,12 +87,12 @@ fn push_item<R: Wait, G: Gate>(
     valuer: u8,
     destinations: &[Destination],
     gate: &G,
-    items: &mut Vec<Item>,
+    items: &mut Items,
 ) -> Result<(), AllocError>
     requires some { 1 ≤ length destinations.now }
     requires few { length destinations.now ≤ 8 }
-    ensures pushed { OnOk result (items.new.items ≡ items.old.items ++ items_by (formulas_of destinations.now) (message ∷ [])) }
-    ensures kept { OnErr result (items.new.items ≡ items.old.items) }
+    ensures pushed { OnOk result (items.new ≡ items.old ++ items_by (formulas_of destinations.now) (message ∷ [])) }
+    ensures kept { OnErr result (items.new ≡ items.old) }
 {
     match message {
         Taken::Row { file, place, block } => {

@@ -390,7 +390,28 @@ const HOSTILE_TEXTS: [(&[u8], &[u8], TextFile, u64, TextKind); 6] = [
     ),
 ];
 
-// The texts of the one block, with something wrong in a hostile way.
+const HOSTILE_CPIT: [(Change, u64, TextKind); 6] = [
+    (Change::Put(3, b"NBLOCKS: 64000001"), 3, TextKind::Range),
+    (
+        Change::Put(3, b"NBLOCKS: 18446744073709551616"),
+        3,
+        TextKind::Range,
+    ),
+    (Change::Front(7), 8, TextKind::Missing),
+    (Change::Put(8, b"-1 12000"), 8, TextKind::Range),
+    (
+        Change::Put(8, b"18446744073709551616 12000"),
+        8,
+        TextKind::Range,
+    ),
+    (
+        Change::Put(11, b"0 18446744073709551616 1000"),
+        11,
+        TextKind::Range,
+    ),
+];
+
+// The texts of the one block and of a CPIT, with something wrong in a hostile way.
 #[test]
 fn hostile_minelib_texts(rt: HostRuntime) -> Result<(), Fail> {
     let pcpsp = changed(rt.alloc(), &ONE_PCPSP, Change::Front(12))?;
@@ -402,6 +423,15 @@ fn hostile_minelib_texts(rt: HostRuntime) -> Result<(), Fail> {
     let end = ends_after(cut.as_slice(), b"\n0 1")?;
     let found = fault_of(rt.alloc(), ONE_BLOCK, ONE_PREC, end)?;
     assert!(&rt; is_fault(found, TextFile::Pcpsp, 11, TextKind::Missing));
+    for (change, line, kind) in &HOSTILE_CPIT {
+        let text = changed(rt.alloc(), &CPIT, *change)?;
+        let found = cpit_fault(rt.alloc(), 2, text.as_slice())?;
+        assert!(&rt; is_fault(found, TextFile::Cpit, *line, *kind));
+    }
+    let whole = changed(rt.alloc(), &CPIT, Change::Front(13))?;
+    let end = ends_after(whole.as_slice(), b"\n0 1")?;
+    let found = cpit_fault(rt.alloc(), 2, end)?;
+    assert!(&rt; is_fault(found, TextFile::Cpit, 9, TextKind::Missing));
     Ok(())
 }
 

@@ -303,8 +303,13 @@ fn failing_devices(rt: HostRuntime) -> Result<(), Fail> {
     let alloc = rt.alloc();
     let instance = made(alloc, &LIMITS_AND_COEFFICIENTS)?;
     for which in &ALL {
-        let mut whole = MemSink::short(alloc, 1);
+        let mut whole = MemSink::new(alloc);
         write(alloc, *which, &instance, &mut whole)??;
+        for step in [1usize, 2, 7] {
+            let mut short = MemSink::short(alloc, step);
+            write(alloc, *which, &instance, &mut short)??;
+            assert_eq!(rt; short.bytes(), whole.bytes(), "{which:?} {step}");
+        }
         let mut ended = false;
         for nth in 1..1000u64 {
             let mut sink = MemSink::fresh(alloc, 7, nth);

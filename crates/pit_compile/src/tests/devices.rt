@@ -86,33 +86,65 @@ fn failing_sinks(alloc: Global, which: SinkName, nth: u64) -> Sinks<MemSink>
     sinks
 }
 
-// A sink, which of its calls fails, and which sinks are begun then. Each text is begun and then put at once.
-const SINKS: [(SinkName, u64, [bool; 5]); 10] = [
-    (SinkName::Blocks, 1, [false, false, false, false, false]),
-    (SinkName::Blocks, 2, [true, false, false, false, false]),
-    (SinkName::Prec, 1, [true, false, false, false, false]),
-    (SinkName::Prec, 2, [true, true, false, false, false]),
-    (SinkName::Upit, 1, [true, true, false, false, false]),
-    (SinkName::Upit, 2, [true, true, true, false, false]),
-    (SinkName::Pcpsp, 1, [true, true, true, false, false]),
-    (SinkName::Pcpsp, 2, [true, true, true, true, false]),
-    (SinkName::Cpit, 1, [true, true, true, true, false]),
-    (SinkName::Cpit, 2, [true, true, true, true, true]),
+// A sink, which of its calls fails, which sinks are begun then, and how many texts are whole. Each text is begun and then put at once, so
+// its third call does not come.
+const SINKS: [(SinkName, u64, [bool; 5], usize); 15] = [
+    (SinkName::Blocks, 1, [false, false, false, false, false], 0),
+    (SinkName::Blocks, 2, [true, false, false, false, false], 0),
+    (SinkName::Blocks, 3, [true, true, true, true, true], 5),
+    (SinkName::Prec, 1, [true, false, false, false, false], 1),
+    (SinkName::Prec, 2, [true, true, false, false, false], 1),
+    (SinkName::Prec, 3, [true, true, true, true, true], 5),
+    (SinkName::Upit, 1, [true, true, false, false, false], 2),
+    (SinkName::Upit, 2, [true, true, true, false, false], 2),
+    (SinkName::Upit, 3, [true, true, true, true, true], 5),
+    (SinkName::Pcpsp, 1, [true, true, true, false, false], 3),
+    (SinkName::Pcpsp, 2, [true, true, true, true, false], 3),
+    (SinkName::Pcpsp, 3, [true, true, true, true, true], 5),
+    (SinkName::Cpit, 1, [true, true, true, true, false], 4),
+    (SinkName::Cpit, 2, [true, true, true, true, true], 4),
+    (SinkName::Cpit, 3, [true, true, true, true, true], 5),
 ];
+
+// A sink holds the bytes of the other, or none.
+fn holds(sink: &MemSink, other: &MemSink, is_whole: bool) -> bool {
+    if is_whole {
+        sink.bytes() == other.bytes()
+    } else {
+        sink.bytes().is_empty()
+    }
+}
+
+// So many of the texts are those of the other sinks, and the others are empty.
+fn hold_texts(sinks: &Sinks<MemSink>, others: &Sinks<MemSink>, texts: usize) -> bool {
+    holds(&sinks.blocks, &others.blocks, texts > 0)
+        && holds(&sinks.prec, &others.prec, texts > 1)
+        && holds(&sinks.upit, &others.upit, texts > 2)
+        && holds(&sinks.pcpsp, &others.pcpsp, texts > 3)
+        && holds(&sinks.cpit, &others.cpit, texts > 4)
+}
 
 #[test]
 fn failing_sinks_stop_the_run(rt: HostRuntime) -> Result<(), Fail> {
     let alloc = rt.alloc();
     let plan = mill_plan(alloc, 1)?;
-    for (which, nth, expected) in SINKS {
+    let rows = ["0,0,0,1,0\n10,0,0,1,0\n"];
+    let mut whole = new_sinks(alloc);
+    let feeds = feeds_of(alloc, &rows)?;
+    let answered = open_answer(&rt, alloc, &plan, feeds, settings(1, 1), &mut whole)?;
+    assert!(rt; answered == Ok(2));
+    for (which, nth, expected, texts) in SINKS {
         let mut sinks = failing_sinks(alloc, which, nth.max(1));
-        let feeds = feeds_of(alloc, &["0,0,0,1,0\n10,0,0,1,0\n"])?;
+        let feeds = feeds_of(alloc, &rows)?;
         let answered = open_answer(&rt, alloc, &plan, feeds, settings(1, 1), &mut sinks)?;
-        assert!(rt;
-            answered == Err(Refusal::SinkFailed { which }),
-            "{which} {nth}"
-        );
+        let wanted = if texts == 5 {
+            Ok(2)
+        } else {
+            Err(Refusal::SinkFailed { which })
+        };
+        assert!(rt; answered == wanted, "{which} {nth}");
         assert!(rt; begun(&sinks) == expected, "{which} {nth}");
+        assert!(rt; hold_texts(&sinks, &whole, texts), "{which} {nth}");
     }
     Ok(())
 }

@@ -1,21 +1,23 @@
-//! A valuer on one thread.
+//! A valuer on one thread, and one beside a reader.
 
-ghost use Rattle.std.specs.Prelude.{◌≡◌};
+ghost use Rattle.std.specs.Prelude.{◌≡◌, ◌≤◌, true, [], IfOk, IfSome, length};
+ghost use Rattle.lane.specs.Message.{is_done};
+ghost use Rattle.lane.specs.Ends.{first_puts, first_takes};
 ghost use Rattle.pit_model.specs.Worth.{mill};
 
 use super::*;
 use crate::gate::OpenGate;
 use crate::worths::Worths;
-use lane::open;
+use lane::{Closer, Gathered, PutEnd, Stopped, open};
 use pit_model::block::Block;
 use pit_model::destination::Valuer;
 use pit_model::formula::Formula;
 use pit_model::worth::mill_worth;
 use std::test::Fail;
+use std::thread;
+use std::thread::Threads;
 
-#[test]
-fn lane_on_one_thread(rt: HostRuntime) -> Result<(), Fail> {
-    let alloc = rt.alloc();
+fn mill(alloc: Global) -> Result<Destination, Fail> {
     let valuer: Valuer = Box::new(
         alloc,
         |block: Block| -> i128
@@ -27,9 +29,18 @@ fn lane_on_one_thread(rt: HostRuntime) -> Result<(), Fail> {
         price: 600,
         cost: 1500,
     };
-    let plant = Destination::new(formula, valuer);
-    let block = Block::new(0, 0, 0, 1_000_000, 5_000_000_000, 0).expect(&rt, "a block");
+    Ok(Destination::new(formula, valuer))
+}
 
+fn ore() -> Result<Block, Fail> {
+    Ok(Block::new(0, 0, 0, 1_000_000, 5_000_000_000, 0).ok_or("a block")?)
+}
+
+#[test]
+fn lane_on_one_thread(rt: HostRuntime) -> Result<(), Fail> {
+    let alloc = rt.alloc();
+    let plant = mill(alloc)?;
+    let block = ore()?;
     let (closer, mut puts, mut takes) = open(alloc, 1, 1, 3)?;
     let mut put = puts.pop().expect(&rt, "a put end");
     assert_eq!(rt; put.rows(), 0);
@@ -50,5 +61,107 @@ fn lane_on_one_thread(rt: HostRuntime) -> Result<(), Fail> {
     assert_eq!(rt; result.items.as_slice(), handed_on.as_slice());
     let items = result.items.into_vec();
     assert_eq!(rt; items.len(), 2);
+    Ok(())
+}
+
+// The one put end of a lane.
+fn only_put(closer: &Closer, mut puts: Vec<PutEnd>) -> Option<PutEnd>
+    requires { puts.items ≡ first_puts closer.now.lane 0 1 }
+    ensures { IfSome result (λ put. (put.lane ≡ closer.now.lane) × (put.file ≡ 0) × (put.sent ≡ [])) }
+{
+    puts.pop()
+}
+
+// The one take end of a lane.
+fn only_take(closer: &Closer, mut takes: Vec<TakeEnd>) -> Option<TakeEnd>
+    requires { takes.items ≡ first_takes closer.now.lane 0 1 }
+    ensures { IfSome result (λ take. (take.lane ≡ closer.now.lane) × (take.taker ≡ 0) × (take.took ≡ [])) }
+{
+    takes.pop()
+}
+
+// Puts two rows and the end mark of the one file of a lane, and stops the lane.
+fn put_two<R: Wait>(
+    rt: &R,
+    alloc: Global,
+    closer: Closer,
+    mut put: PutEnd,
+    block: Block,
+) -> Result<Stopped, AllocError>
+    requires lane { put.lane ≡ closer.lane }
+    requires file { (put.file ≡ 0) × (closer.files ≡ 1) }
+    requires unsent { put.sent ≡ [] }
+    ensures lane { IfOk result (λ stopped. stopped.lane ≡ closer.lane) }
+    ensures takers { IfOk result (λ stopped. stopped.takers ≡ closer.takers) }
+{
+    put.row(rt, block);
+    put.row(rt, block);
+    let ended = Vec::from_array(alloc, [put.end(rt)])?;
+    Ok(closer.stop(rt, ended))
+}
+
+fn gather_one<R: Wait>(
+    rt: &R,
+    alloc: Global,
+    stopped: Stopped,
+    take: TakeEnd,
+) -> Result<Gathered, AllocError>
+    requires lane { take.lane ≡ stopped.lane }
+    requires taker { (take.taker ≡ 0) × (stopped.takers ≡ 1) }
+    requires done { is_done take.took ≡ true }
+{
+    let takes = Vec::from_array(alloc, [take])?;
+    Ok(stopped.gather(rt, takes))
+}
+
+// The number of rows that are gathered, what the valuer hands on and whether it was refused memory, over a lane of one place whose reader
+// puts two rows while the valuer takes into a list of at most so many items.
+fn handed_on<R: Threads + Wait + Sync>(
+    rt: &R,
+    alloc: Global,
+    destinations: &[Destination],
+    block: Block,
+    most: usize,
+) -> Result<(u64, Items, bool), Fail>
+    requires some { 1 ≤ length destinations.now }
+    requires few { length destinations.now ≤ 8 }
+{
+    let (closer, puts, takes) = open(alloc, 1, 1, 1)?;
+    let put = only_put(&closer, puts).ok_or("a put end")?;
+    let take = only_take(&closer, takes).ok_or("a take end")?;
+    let items = Items::refusing_after(alloc, most);
+    let (stopped, result) = thread::join(
+        rt,
+        move || -> Result<Stopped, AllocError>
+            requires lane { put.lane ≡ closer.lane }
+            requires file { (put.file ≡ 0) × (closer.files ≡ 1) }
+            requires unsent { put.sent ≡ [] }
+            ensures lane { IfOk result (λ stopped. stopped.lane ≡ closer.lane) }
+            ensures takers { IfOk result (λ stopped. stopped.takers ≡ closer.takers) }
+        { put_two(rt, alloc, closer, put, block) },
+        move || -> ValuerResult
+            requires some { 1 ≤ length destinations.now }
+            requires few { length destinations.now ≤ 8 }
+            requires empty { items ≡ [] }
+            ensures lane { result.taker.lane ≡ take.lane }
+            ensures taker { result.taker.taker ≡ take.taker }
+            ensures done { is_done result.taker.took ≡ true }
+        { take_all(rt, take, 0, destinations, &OpenGate, items) },
+    );
+    let gathered = gather_one(rt, alloc, stopped?, result.taker)?;
+    Ok((gathered.rows(), result.items, result.memory))
+}
+
+// Memory is refused for the first item, for the second, and so on: the reader ends, all is gathered, and the items are those before.
+#[test]
+fn growth_refused(rt: HostRuntime) -> Result<(), Fail> {
+    let alloc = rt.alloc();
+    let plant = [mill(alloc)?];
+    for most in 0..4usize {
+        let (rows, items, memory) = handed_on(&rt, alloc, &plant, ore()?, most)?;
+        assert_eq!(rt; rows, 2);
+        assert_eq!(rt; memory, most < 3);
+        assert_eq!(rt; items.as_slice().len(), most.min(3));
+    }
     Ok(())
 }

@@ -2,7 +2,7 @@ use Rattle.std.proofs.Common.{◌≡◌, ◌++◌, take, drop, length}
 use Rattle.std.specs.Prelude.{IsFalse}
 use Rattle.pit_model.specs.Destinations.{formulas_of}
 use Rattle.valuers.specs.Valuing.{items_by}
-use Rattle.valuers.proofs.valuer.value_all.Given as goal
+use Rattle.valuers.proofs.valuer.take_all.Given as goal
 
 abbrev pub invariant-loop : goal.invariant-loop
 invariant-loop g l =
@@ -10,6 +10,6 @@ invariant-loop g l =
       lane : l.take_end.lane ≡ l.fn.take_end.lane;
       taker : l.take_end.taker ≡ l.fn.take_end.taker;
       took : l.take_end.took ≡ l.fn.take_end.took ++ drop (length l.fn.take_end.took) l.take_end.took;
-      items : IsFalse l.memory → l.items.items ≡ items_by (formulas_of l.destinations) (drop (length l.fn.take_end.took) l.take_end.took);
-      front : l.items.items ≡ take (length l.items.items) (items_by (formulas_of l.destinations) (drop (length l.fn.take_end.took) l.take_end.took));
+      items : IsFalse l.memory → l.items ≡ items_by (formulas_of l.destinations) (drop (length l.fn.take_end.took) l.take_end.took);
+      front : l.items ≡ take (length l.items) (items_by (formulas_of l.destinations) (drop (length l.fn.take_end.took) l.take_end.took));
     }
