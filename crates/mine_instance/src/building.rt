@@ -1,8 +1,9 @@
 //! From a model's valued blocks to its instance.
 
-ghost use Rattle.std.specs.Prelude.{◌≡◌, ◌<◌, ◌≤◌, ◌==◌, ◌++◌, ◌∷◌, [], length, map, slice_get, Some, All, Contains, IfOk, OnOk, if◌then◌else◌};
+ghost use Rattle.std.specs.Prelude.{◌≡◌, ◌<◌, ◌≤◌, ◌==◌, ◌++◌, ◌∷◌, [], List, length, map, slice_get, Some, All, Contains, IfOk, OnOk, if◌then◌else◌};
 ghost use Rattle.std.specs.List.{list_any};
 ghost use Rattle.pit_model.specs.Destinations.{formulas_of_plan};
+ghost use Rattle.pit_model.specs.declared.block.Block.{Block};
 ghost use Rattle.pit_model.specs.Worth.{IsWorth};
 ghost use Rattle.precedence.specs.Cone.{preds as cone_lists};
 ghost use Rattle.precedence.specs.Identifier.{IsNumbering, blocks_of};
@@ -41,9 +42,27 @@ pub fn build(
     ensures value { IfOk result (λ built. built ≡ instance plan.now (blocks_of rows.now)) }
     ensures valid { IfOk result IsValid }
 {
+    let values = values_by_id(alloc, numbering, rows, plan)?;
+    build_with(alloc, numbering, preds, values, plan)
+}
+
+/// The instance of a model whose blocks have these predecessors and values. The rows that the values come from may be gone. Fails only
+/// where memory is refused.
+pub fn build_with(
+    alloc: Global,
+    numbering: &Numbering,
+    preds: Preds,
+    values: Values,
+    plan: &Plan,
+) -> Result<Instance, AllocError>
+    requires preds { preds ≡ cone_lists plan.now numbering.now.blocks }
+    requires values { values ≡ map (values_of plan.now) numbering.now.blocks }
+    ensures value { (listed : List Block) → IsNumbering listed numbering.now
+        → IfOk result (λ built. built ≡ instance plan.now listed) }
+    ensures valid { IfOk result IsValid }
+{
     let name = plan.name().copy(alloc)?;
     let blocks = Vec::from_slice(alloc, numbering.blocks())?;
-    let values = values_by_id(alloc, numbering, rows, plan)?;
     let pairs = covered_pairs(alloc, plan)?;
     let coefs = coefs_by_id(alloc, pairs.as_slice(), blocks.as_slice())?;
     let limits = Vec::from_slice(alloc, plan.limits())?;
@@ -61,7 +80,8 @@ pub fn build(
     })
 }
 
-fn values_by_id(
+/// What each block is worth at each destination, by identifier. Fails only where memory is refused.
+pub fn values_by_id(
     alloc: Global,
     numbering: &Numbering,
     rows: &[Valued],

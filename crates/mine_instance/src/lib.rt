@@ -14,6 +14,6 @@ mod rising;
 mod validity;
 pub mod values;
 
-pub use building::build;
+pub use building::{build, build_with, values_by_id};
 pub use cpit_building::build_cpit;
 pub use validity::is_valid;

@@ -8,16 +8,16 @@ use crate::ranges::{GRID_CELLS, MAX_GRADE, MAX_KG, MAX_ZONES};
 /// the ranges of its fields.
 #[derive(Clone, Copy, Debug, PartialEq, Eq)]
 pub struct Block {
+    /// The tonnage in kilograms, 0 to 10^9.
+    pub kg: u64,
+    /// The grade in millionths of a gram per tonne, 0 to 10^12.
+    pub grade: u64,
     /// The index along x, 0 to 9999, in blocks from the grid's origin.
     pub x: u16,
     /// The index along y, 0 to 9999.
     pub y: u16,
     /// The index along z, 0 to 9999, growing upward: the bench.
     pub z: u16,
-    /// The tonnage in kilograms, 0 to 10^9.
-    pub kg: u64,
-    /// The grade in millionths of a gram per tonne, 0 to 10^12.
-    pub grade: u64,
     /// The number of the zone file, 0 to 63.
     pub zone: u8,
     pub ghost x_in_grid: { x < 10000 },

@@ -7,6 +7,7 @@ ghost use Rattle.pit_model.specs.Cells.{is_blank, without_leading_blanks, withou
 use csv::ByteRecord;
 
 /// Whether the byte is a space or a tab.
+#[inline(always)]
 pub fn is_blank(byte: u8) -> bool
     ensures { result ≡ is_blank byte }
 {
@@ -14,6 +15,7 @@ pub fn is_blank(byte: u8) -> bool
 }
 
 /// The cell without the spaces and tabs at both ends.
+#[inline(always)]
 pub fn trimmed(cell: &[u8]) -> &[u8]
     ensures { result.now ≡ trimmed cell.now }
 {
@@ -21,6 +23,7 @@ pub fn trimmed(cell: &[u8]) -> &[u8]
 }
 
 /// The bytes from the first that is no space or tab on.
+#[inline(always)]
 pub fn without_leading_blanks(cell: &[u8]) -> &[u8]
     ensures { result.now ≡ without_leading_blanks cell.now }
 {
@@ -34,6 +37,7 @@ pub fn without_leading_blanks(cell: &[u8]) -> &[u8]
     rest
 }
 
+#[inline(always)]
 fn without_trailing_blanks(cell: &[u8]) -> &[u8]
     ensures { result.now ≡ without_trailing_blanks cell.now }
 {
@@ -61,6 +65,7 @@ pub fn cell_count(row: &ByteRecord) -> usize
 }
 
 /// The cell of a record at a place, trimmed; it is empty where the record has no such cell.
+#[inline(always)]
 pub fn cell_at(row: &ByteRecord, place: usize) -> &[u8]
     ensures { result.now ≡ cell_at (cells_of (fields_of row.now)) place }
 {

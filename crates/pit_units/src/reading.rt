@@ -1,4 +1,4 @@
-ghost use Rattle.std.specs.Prelude.{◌≡◌, ◌+◌, ◌*◌, ◌^◌, ◌≤◌, ◌<◌, ◌==◌, min, drop, slice_index_or, length, not, ◌&&◌, IsTrue, nat_lt, if◌then◌else◌, Ok, Err};
+ghost use Rattle.std.specs.Prelude.{◌≡◌, ℕ, ◌+◌, ◌*◌, ◌^◌, ◌≤◌, ◌<◌, ◌==◌, min, drop, slice_index_or, length, not, ◌&&◌, IsTrue, nat_lt, if◌then◌else◌, IfSome, Ok, Err, pos};
 ghost use Rattle.std.specs.List.{position_or_len};
 ghost use Rattle.std.specs.Str.Parse.{digits_value, without_leading_sign};
 ghost use Rattle.pit_units.specs.Decimal.{all_digits, all_zeros, decimal_of, signed, six_decimals};
@@ -13,8 +13,45 @@ const PAST_LARGEST: u64 = 1_000_000_000_000_000_001;
 ///
 /// At most `max_decimals` decimals count, and those past them have to be zeros. Nothing is trimmed: a blank makes the text no
 /// number. Of several faults the answer is the first of `Number`, `TooFine` and `Range`.
-#[tactic(auto, unfolding(crate::specs::Decimal::decimal_of))]
 pub fn parse_dec(text: &[u8], max_decimals: u8) -> Result<Dec, DecFault>
+    requires { max_decimals ≤ 6 }
+    ensures { result ≡ decimal_of max_decimals text.now }
+{
+    match short_whole(text) {
+        Some(whole) => Ok(whole),
+        None => parse_any(text, max_decimals),
+    }
+}
+
+/// The number of a text of digits alone, 1 to 18 of them, as most texts are; `None` for any other.
+#[inline(always)]
+fn short_whole(text: &[u8]) -> Option<Dec>
+    ensures { IfSome result (λ dec. (max : ℕ) → decimal_of max text.now ≡ Ok dec) }
+{
+    if text.is_empty() || text.len() > 18 {
+        return None;
+    }
+    let mut value = 0;
+    for digit in text {
+        if !digit.is_ascii_digit() {
+            return None;
+        }
+        value = value * 10 + u64::from(digit - b'0');
+    }
+    Some(whole_number(value))
+}
+
+/// So many whole units.
+#[inline(always)]
+fn whole_number(units: u64) -> Dec
+    requires { units < 10 ^ 18 }
+    ensures { result ≡ pos (units * 10 ^ 6) }
+{
+    Dec::new(i128::from(units) * 1_000_000).unwrap()
+}
+
+#[tactic(auto, unfolding(crate::specs::Decimal::decimal_of))]
+fn parse_any(text: &[u8], max_decimals: u8) -> Result<Dec, DecFault>
     requires { max_decimals ≤ 6 }
     ensures { result ≡ decimal_of max_decimals text.now }
 {

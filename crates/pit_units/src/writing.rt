@@ -63,9 +63,26 @@ fn append_size(out: &mut Vec<u8>, millionths: u128) -> Result<(), AllocError>
     ensures kept { take (length out.old.items) out.new.items ≡ out.old.items }
 {
     let mut digits = Buffer::new();
-    let whole = (millionths / 1_000_000) as u64;
+    let (whole, decimals) = parts(millionths);
     out.extend_from_slice(digits.format(whole).as_bytes())?;
-    append_decimals(out, (millionths % 1_000_000) as u32)
+    append_decimals(out, decimals)
+}
+
+/// The whole part of so many millionths, and the millionths past it. A number of 64 bits is divided as one.
+#[inline(always)]
+fn parts(millionths: u128) -> (u64, u32)
+    requires { millionths ≤ 10 ^ 24 }
+    ensures whole { result.0 ≡ millionths / 10 ^ 6 }
+    ensures decimals { result.1 ≡ millionths % 10 ^ 6 }
+{
+    if millionths <= u128::from(u64::MAX) {
+        let few = millionths as u64;
+        return (few / 1_000_000, (few % 1_000_000) as u32);
+    }
+    (
+        (millionths / 1_000_000) as u64,
+        (millionths % 1_000_000) as u32,
+    )
 }
 
 /// Appends a point and the decimals of so many millionths, or nothing where there are none.

@@ -61,6 +61,7 @@ fn lists_of(
 }
 
 /// Appends the identifiers of the blocks in the rows of a block's cone.
+#[inline(always)]
 fn add_list(
     list: &mut Vec<u32>,
     places: &Places,

@@ -12,6 +12,7 @@ pub const ROW: u64 = 100_000;
 pub const BENCH: u64 = 10_000_000_000;
 
 /// The number of a block's place.
+#[inline(always)]
 pub fn code(block: &Block) -> u64
     ensures value { result ≡ code block.now }
     ensures small { result < 10 ^ 14 }

@@ -5,6 +5,7 @@ ghost use Rattle.std.specs.List.Sorted.{IsStrictlyIncreasing};
 ghost use Rattle.precedence.specs.Rows.{start_of};
 
 /// How many of the numbers are below `target`. It is fast where `hint` is somewhat less than that; any other hint does.
+#[inline(always)]
 pub fn find(numbers: &[u64], hint: usize, target: u64) -> usize
     requires { IsStrictlyIncreasing numbers.now }
     ensures { result ≡ start_of target numbers.now }
@@ -16,6 +17,7 @@ pub fn find(numbers: &[u64], hint: usize, target: u64) -> usize
 
 /// The hint, where all numbers before it are below the target, or 0.
 #[tactic(auto, using(crate::proofs::Starts::starts))]
+#[inline(always)]
 fn checked_hint(numbers: &[u64], hint: usize, target: u64) -> usize
     requires { IsStrictlyIncreasing numbers.now }
     ensures { result ≤ start_of target numbers.now }
@@ -29,6 +31,7 @@ fn checked_hint(numbers: &[u64], hint: usize, target: u64) -> usize
 
 /// Bounds of the place from `low` on, by steps that double.
 #[tactic(auto, using(crate::proofs::Starts::starts))]
+#[inline(always)]
 fn stretched(numbers: &[u64], low: usize, target: u64) -> (usize, usize)
     requires rising { IsStrictlyIncreasing numbers.now }
     requires low { low ≤ start_of target numbers.now }
@@ -47,6 +50,7 @@ fn stretched(numbers: &[u64], low: usize, target: u64) -> (usize, usize)
 
 /// The place between two bounds, by halving.
 #[tactic(auto, using(crate::proofs::Starts::starts))]
+#[inline(always)]
 fn halved(numbers: &[u64], low: usize, high: usize, target: u64) -> usize
     requires rising { IsStrictlyIncreasing numbers.now }
     requires low { low ≤ start_of target numbers.now }

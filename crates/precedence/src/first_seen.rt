@@ -46,7 +46,8 @@ fn sorted_places(alloc: Global, rows: &[Valued]) -> Result<Vec<Place>, NumberErr
     ensures same { IfErr result (IsReason (blocks_of rows.now)) }
 {
     let mut places = places_of_list(alloc, rows)?;
-    places.sort_unstable_by_key(|place| place.0);
+    // The rows of a file mostly stand in order: this sort finds such runs.
+    places.sort_by_key(|place| place.0)?;
     if rise(places.as_slice()) {
         return Ok(places);
     }

@@ -37,10 +37,12 @@ pub fn add_above(
     Ok(())
 }
 
+#[inline(always)]
 fn hint_at(hints: &[Hint], i: usize) -> Hint {
     hints.get(i).copied().unwrap_or(NOTHING_KNOWN)
 }
 
+#[inline(always)]
 fn keep_hint(hints: &mut [Hint], i: usize, run: Hint) {
     if let Some(hint) = hints.get_mut(i) {
         *hint = run;
@@ -48,6 +50,7 @@ fn keep_hint(hints: &mut [Hint], i: usize, run: Hint) {
 }
 
 /// Appends the identifiers whose codes lie in a row, and tells the first of them and the one past the last.
+#[inline(always)]
 fn add_run(
     list: &mut Vec<u32>,
     places: &Places,
@@ -72,6 +75,7 @@ fn add_run(
 /// Where the codes from the place `first` on are no longer below `past`. Most rows of scattered blocks have no code, and need no
 /// search for it.
 #[tactic(auto, using(crate::proofs::Starts::starts))]
+#[inline(always)]
 fn run_end(codes: &[u64], first: usize, hint: usize, past: u64) -> usize
     requires rising { IsStrictlyIncreasing codes.now }
     requires first { first ≤ start_of past codes.now }
@@ -85,6 +89,7 @@ fn run_end(codes: &[u64], first: usize, hint: usize, past: u64) -> usize
 }
 
 /// The first row after the row `i` that can have a code from the one of the identifier `past` on, or the number of rows.
+#[inline(always)]
 fn next_row(places: &Places, pasts: &[u64], i: usize, past: usize, from: u64) -> usize
     requires rising { IsStrictlyIncreasing pasts.now }
     requires i { i < length pasts.now }

@@ -13,6 +13,7 @@ use pit_model::ranges::{GRID_CELLS, MAX_GRADE, MAX_KG};
 use pit_units::{Dec, DecFault, parse_dec};
 
 // The cell of a record at a place, without the blanks at both ends; it is empty where the record has no such cell.
+#[inline(always)]
 pub(crate) fn cell_at(row: &ByteRecord, place: usize) -> &[u8]
     ensures { result.now ≡ cell_at (fields_of row.now) place }
 {
@@ -34,6 +35,7 @@ fn kind_of(fault: DecFault) -> RowFaultKind
 
 // The index along an axis that a coordinate's cell states.
 #[tactic(auto, unfolding(crate::specs::Cell::index_of))]
+#[inline(always)]
 pub(crate) fn index_of(axis: Axis, cell: &[u8]) -> Result<u16, RowFaultKind>
     requires { IsAxis axis }
     ensures value { result ≡ value_of (index_of axis cell.now) }
@@ -45,6 +47,7 @@ pub(crate) fn index_of(axis: Axis, cell: &[u8]) -> Result<u16, RowFaultKind>
     }
 }
 
+#[inline(always)]
 fn index_at(axis: Axis, coordinate: Dec) -> Result<u16, RowFaultKind>
     requires { IsAxis axis }
     ensures value { result ≡ value_of (index_at axis coordinate) }
@@ -55,6 +58,7 @@ fn index_at(axis: Axis, coordinate: Dec) -> Result<u16, RowFaultKind>
 }
 
 // The index of a place so far above the origin, where each block is so long, both in millionths of a metre.
+#[inline(always)]
 fn index_above(size: u64, above: i128) -> Result<u16, RowFaultKind>
     requires { (0 < size) × (size ≤ 10 ^ 8) }
     ensures value { result ≡ value_of (index_above size above) }
@@ -75,6 +79,7 @@ fn index_above(size: u64, above: i128) -> Result<u16, RowFaultKind>
 
 // The kilograms that a tonnage's cell states.
 #[tactic(auto, unfolding(crate::specs::Cell::kilograms_of))]
+#[inline(always)]
 pub(crate) fn kilograms_of(cell: &[u8]) -> Result<u64, RowFaultKind>
     ensures value { result ≡ value_of (kilograms_of cell.now) }
     ensures in_range { IfOk result (λ kilograms. kilograms ≤ 10 ^ 9) }
@@ -85,6 +90,7 @@ pub(crate) fn kilograms_of(cell: &[u8]) -> Result<u64, RowFaultKind>
     }
 }
 
+#[inline(always)]
 fn kilograms_at(tonnes: Dec) -> Result<u64, RowFaultKind>
     ensures value { result ≡ value_of (kilograms_at tonnes) }
     ensures in_range { IfOk result (λ kilograms. kilograms ≤ 10 ^ 9) }
@@ -93,15 +99,15 @@ fn kilograms_at(tonnes: Dec) -> Result<u64, RowFaultKind>
     if millionths < 0 {
         return Err(RowFaultKind::Range);
     }
-    let kilograms = millionths as u128 / 1000;
-    if kilograms > u128::from(MAX_KG) {
+    if millionths >= i128::from((MAX_KG + 1) * 1000) {
         return Err(RowFaultKind::Range);
     }
-    Ok(kilograms as u64)
+    Ok(millionths as u64 / 1000)
 }
 
 // The millionths of a gram per tonne that a grade's cell states.
 #[tactic(auto, unfolding(crate::specs::Cell::grade_of))]
+#[inline(always)]
 pub(crate) fn grade_of(cell: &[u8]) -> Result<u64, RowFaultKind>
     ensures value { result ≡ value_of (grade_of cell.now) }
     ensures in_range { IfOk result (λ grade. grade ≤ 10 ^ 12) }
@@ -112,6 +118,7 @@ pub(crate) fn grade_of(cell: &[u8]) -> Result<u64, RowFaultKind>
     }
 }
 
+#[inline(always)]
 fn grade_at(grade: Dec) -> Result<u64, RowFaultKind>
     ensures value { result ≡ value_of (grade_at grade) }
     ensures in_range { IfOk result (λ grade. grade ≤ 10 ^ 12) }

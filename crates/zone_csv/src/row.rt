@@ -19,6 +19,7 @@ const LAST_ROW: u32 = 1_000_001;
 
 // What the record of this number says, under a header with these columns.
 #[tactic(auto, unfolding(crate::specs::Row::row_of))]
+#[inline(always)]
 pub(crate) fn row_of(
     row: &ByteRecord,
     number: u32,
@@ -48,6 +49,7 @@ pub(crate) fn row_of(
     block_of(row, number, columns, grid, zone)
 }
 
+#[inline(always)]
 fn block_of(
     row: &ByteRecord,
     number: u32,
@@ -74,6 +76,7 @@ fn block_of(
     })
 }
 
+#[inline(always)]
 fn index_in(
     row: &ByteRecord,
     place: usize,
@@ -96,6 +99,7 @@ fn index_in(
     }
 }
 
+#[inline(always)]
 fn kilograms_in(row: &ByteRecord, place: usize, number: u32) -> Result<u64, RowFault>
     ensures value { result
         ≡ value_of (at number Column.Tonnes (kilograms_of (cell_at (fields_of row.now) place))) }
@@ -111,6 +115,7 @@ fn kilograms_in(row: &ByteRecord, place: usize, number: u32) -> Result<u64, RowF
     }
 }
 
+#[inline(always)]
 fn grade_in(row: &ByteRecord, place: usize, number: u32) -> Result<u64, RowFault>
     ensures value { result
         ≡ value_of (at number Column.Grade (grade_of (cell_at (fields_of row.now) place))) }

@@ -11,8 +11,8 @@ use thiserror::Error;
 /// The greatest limit that `slurp` takes, in bytes: 64 GiB.
 pub const GREATEST_LIMIT: u64 = 68_719_476_736;
 
-// What is asked of the feed first, in bytes.
-const FIRST_CHUNK: usize = 65_536;
+// The most that is asked of the feed at a time, in bytes.
+const CHUNK: usize = 262_144;
 
 /// Why a feed was not read whole.
 #[derive(Debug, Drop, Error, PartialEq, Eq)]
@@ -101,8 +101,8 @@ pub fn slurp<F: Feed>(alloc: Global, feed: &mut F, limit: u64) -> Result<Vec<u8>
     Err(SlurpFault::TooLong)
 }
 
-// Leaves room for a byte behind the first `filled`, within the first `most`. The list doubles, so that a long feed is copied a
-// bounded number of times.
+// Leaves room for a byte behind the first `filled`, within the first `most`. Memory of the list doubles, so that a long feed is copied a
+// bounded number of times, and is written no further than the next bytes go.
 fn make_room(text: &mut Vec<u8>, filled: usize, most: usize) -> Result<(), AllocError>
     requires filled { filled ≤ vec_len text.old }
     requires within { vec_len text.old ≤ most }
@@ -113,7 +113,7 @@ fn make_room(text: &mut Vec<u8>, filled: usize, most: usize) -> Result<(), Alloc
     ensures kept { take filled text.new.items ≡ take filled text.old.items }
 {
     if filled == text.len() {
-        let wanted = (2 * filled).max(FIRST_CHUNK).min(most);
+        let wanted = (filled + CHUNK).min(most);
         text.resize(wanted, 0)?;
     }
     Ok(())

@@ -98,6 +98,7 @@ impl ZoneReader {
 }
 
 // One answer of a reader at a stage, and the stage that it is at then.
+#[inline(always)]
 fn step(
     stage: Stage,
     records: &mut RecordReader<Cursor<Vec<u8>>>,
@@ -154,6 +155,7 @@ fn first_row(
 }
 
 // The answer for the next record, which has this number.
+#[inline(always)]
 fn next_row(
     columns: Columns,
     number: u32,
