@@ -9,9 +9,12 @@ pub mod FaultText
 pub mod Formula
 pub mod Name
 pub mod Plan
+pub mod PlanDemands
+pub mod PlanPart
 pub mod PlanView
 pub mod Planned
 pub mod Records
 pub mod RecordsAhead
 pub mod Ruled
+pub mod SpelledPlan
 pub mod Worth

@@ -93,7 +93,7 @@ pub record Parts (text : List ℕ) : Type 0 where
 some_from : (n : ℕ) → not (n == 0) ≡ true → 0 < n
 some_from n h = grind (arith, nat_tests)
 
-number_parts : (text : List ℕ) → is_number text ≡ true → Parts text
+pub number_parts : (text : List ℕ) → is_number text ≡ true → Parts text
 number_parts text number =
     let off = sign_off text in
     let bare = without_leading_sign text in

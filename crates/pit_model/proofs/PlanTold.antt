@@ -1,0 +1,249 @@
+-- Reading step by step follows what is asked: where it answers, all of it holds, and a fault is the first that does not.
+use Rattle.std.specs.Prelude.{◌≡◌, ◌≢◌, ℕ, ◌*◌, ◌/◌, ◌%◌, ◌^◌, ◌<◌, ◌≤◌, Bool, true, false, not, ◌&&◌, List, [], ◌∷◌, ◌++◌, length, drop, ℤ, pos, negsuc, unsigned_abs, neg_ℤ, suc, ◌*ℤ◌, ◌≤ℤ◌, int_le, int_div, nat_lt, Result, Ok, Err, if◌then◌else◌, ◌⊎◌}
+use Rattle.std.proofs.Common.{refl, sym, ◌∙◌, ap, subst, arith, inl, inr}
+use Rattle.std.proofs.lemmas.Bool.{and_parts}
+use Rattle.std.proofs.lemmas.Int.{ints}
+use Rattle.pit_units.proofs.Multiples.{stands_multiple}
+use Rattle.pit_units.proofs.Standing.{number_parts, read_stands, stands_read, spelled_number, spelled_too_fine}
+use Rattle.pit_units.specs.Decimal.{StandsFor, IsSpelled, decimal_of, is_number, all_zeros, fraction_of, whole_of, size_of, signed}
+use Rattle.pit_units.specs.declared.fault.DecFault.{DecFault}
+use Rattle.pit_units.specs.declared.fault.DecFault.TheVariants as dec
+use Rattle.pit_model.specs.Planned.{◌>>=◌, kind_of, stated, number_in, whole_in, origin_in, size_in}
+use Rattle.pit_model.specs.PlanDemands.{Demand, demand, AreMet, FailsFirst, IsDecimal, IsFine, IsWithin, number, whole, metres}
+use Rattle.pit_model.specs.PlanPart.{StandsWhole, StandsMetres}
+use Rattle.pit_model.specs.declared.plan_fault.PlanFaultKind.{PlanFaultKind}
+use Rattle.pit_model.specs.declared.plan_fault.PlanFaultKind.TheVariants.{Number, TooFine, Range}
+
+-- what is asked holds and the answer keeps P; or the fault is the first that does not hold
+abbrev pub Follows : {A : Type 0} → Result A PlanFaultKind → List Demand → (A → Type 0) → Type 0
+Follows (Ok x) demands P = AreMet demands × P x
+Follows (Err kind) demands P = FailsFirst demands kind
+
+fails_before : (ds es : List Demand) (kind : PlanFaultKind) → FailsFirst ds kind → FailsFirst (ds ++ es) kind
+fails_before [] es kind h = absurd h
+fails_before (d ∷ ds) es kind (inl h) = inl h
+fails_before (d ∷ ds) es kind (inr h) = inr (h.0, fails_before ds es kind h.1)
+
+fails_behind : (ds es : List Demand) (kind : PlanFaultKind) → AreMet ds → FailsFirst es kind → FailsFirst (ds ++ es) kind
+fails_behind [] es kind met h = h
+fails_behind (d ∷ ds) es kind met h = inr (met.0, fails_behind ds es kind met.1 h)
+
+both_met : (ds es : List Demand) → AreMet ds → AreMet es → AreMet (ds ++ es)
+both_met [] es met more = more
+both_met (d ∷ ds) es met more = (met.0, both_met ds es met.1 more)
+
+pub behind : {B : Type 0} (r : Result B PlanFaultKind) (ds es : List Demand) (Q : B → Type 0) → AreMet ds → Follows r es Q → Follows r (ds ++ es) Q
+behind (Ok x) ds es Q met h = (both_met ds es met h.0, h.1)
+behind (Err kind) ds es Q met h = fails_behind ds es kind met h
+
+-- one step and then the next
+pub bound : {A B : Type 0} (r : Result A PlanFaultKind) (f : A → Result B PlanFaultKind) (ds es : List Demand) (P : A → Type 0) (Q : B → Type 0)
+    → Follows r ds P → ((x : A) → P x → Follows (f x) es Q) → Follows (r >>= f) (ds ++ es) Q
+bound (Ok x) f ds es P Q here next = behind (f x) ds es Q here.0 (next x here.1)
+bound (Err kind) f ds es P Q here next = fails_before ds es kind here
+
+-- an answer changed keeps what it then keeps
+pub mapped : {A B : Type 0} (r : Result A PlanFaultKind) (g : A → B) (ds : List Demand) (P : A → Type 0) (Q : B → Type 0)
+    → Follows r ds P → ((x : A) → P x → Q (g x)) → Follows (r >>= λ x. Ok (g x)) ds Q
+mapped (Ok x) g ds P Q here next = (here.0, next x here.1)
+mapped (Err kind) g ds P Q here next = here
+
+-- the same answer keeps what follows from what it keeps
+pub weaker : {A : Type 0} (r : Result A PlanFaultKind) (ds : List Demand) (P Q : A → Type 0) → ((x : A) → P x → Q x) → Follows r ds P → Follows r ds Q
+weaker (Ok x) ds P Q to h = (h.0, to x h.1)
+weaker (Err kind) ds P Q to h = h
+
+-- a test, and then the rest
+pub guarded : {B : Type 0} (t : Bool) (kind : PlanFaultKind) (met : Type 0) (r : Result B PlanFaultKind) (es : List Demand) (Q : B → Type 0)
+    → (t ≡ true → ¬ met) → (t ≡ false → met × Follows r es Q) → Follows (if t then Err kind else r) (demand kind met ++ es) Q
+guarded true kind met r es Q refuted kept = inl (refuted refl, refl)
+guarded false kind met r es Q refuted kept = let h = kept refl in behind r (demand kind met) es Q (h.0, tt) h.1
+
+-- a test at the end
+pub last_guarded : {B : Type 0} (t : Bool) (kind : PlanFaultKind) (met : Type 0) (x : B) (Q : B → Type 0)
+    → (t ≡ true → ¬ met) → (t ≡ false → met × Q x) → Follows (if t then Err kind else Ok x) (demand kind met) Q
+last_guarded true kind met x Q refuted kept = inl (refuted refl, refl)
+last_guarded false kind met x Q refuted kept = let h = kept refl in ((h.0, tt), h.1)
+
+-- the first that fails is of one kind
+pub one_kind : (ds : List Demand) (k l : PlanFaultKind) → FailsFirst ds k → FailsFirst ds l → k ≡ l
+one_kind [] k l a b = absurd a
+one_kind (d ∷ ds) k l (inl a) (inl b) = a.1 ∙ sym b.1
+one_kind (d ∷ ds) k l (inl a) (inr b) = absurd (a.0 b.0)
+one_kind (d ∷ ds) k l (inr a) (inl b) = absurd (b.0 a.0)
+one_kind (d ∷ ds) k l (inr a) (inr b) = one_kind ds k l a.1 b.1
+
+pub none_fails : (ds : List Demand) (k : PlanFaultKind) → AreMet ds → FailsFirst ds k → ⊥
+none_fails [] k met h = h
+none_fails (d ∷ ds) k met (inl h) = h.0 met.0
+none_fails (d ∷ ds) k met (inr h) = none_fails ds k met.1 h.1
+
+-- a text stands for one number
+pub one_number : (decimals : ℕ) (cell : List ℕ) (m n : ℤ) → decimals ≤ 6 → StandsFor decimals cell m → StandsFor decimals cell n → m ≡ n
+one_number decimals cell m n few a b =
+    let same : ◌≡◌ {A = Result ℤ DecFault} (Ok m) (Ok n) = sym (stands_read decimals cell m few a) ∙ stands_read decimals cell n few b in
+    cc
+
+pick_fine : (number fine large : Bool) (found : ℤ) → (if not number then Err dec.Number else (if not fine then Err dec.TooFine else (if large then Err dec.Range else Ok found))) ≡ Err dec.TooFine → number ≡ true
+pick_fine true fine large found e = refl
+pick_fine false fine large found e = absurd cc
+
+pick_range : (number fine large : Bool) (found : ℤ) → (if not number then Err dec.Number else (if not fine then Err dec.TooFine else (if large then Err dec.Range else Ok found))) ≡ Err dec.Range → (number ≡ true) × (fine ≡ true)
+pick_range true true large found e = (refl, refl)
+pick_range true false large found e = absurd cc
+pick_range false fine large found e = absurd cc
+
+too_fine_decimal : (decimals : ℕ) (cell : List ℕ) → decimal_of decimals cell ≡ Err dec.TooFine → IsDecimal cell
+unfolding decimal_of
+too_fine_decimal decimals cell e =
+    let p = number_parts cell (pick_fine (is_number cell) (all_zeros (drop decimals (fraction_of cell))) _ _ e) in
+    (p.sign, whole_of cell, p.tail, fraction_of cell, p.spelled)
+
+out_of_range_fine : (decimals : ℕ) (cell : List ℕ) → decimal_of decimals cell ≡ Err dec.Range → IsFine decimals cell
+unfolding decimal_of
+out_of_range_fine decimals cell e =
+    let h = pick_range (is_number cell) (all_zeros (drop decimals (fraction_of cell))) _ _ e in
+    let p = number_parts cell h.0 in
+    (p.sign, whole_of cell, p.tail, fraction_of cell, p.spelled, h.1)
+
+pub fine_decimal : (decimals : ℕ) (cell : List ℕ) → IsFine decimals cell → IsDecimal cell
+fine_decimal decimals cell f = (f.0, f.1, f.2, f.3, f.4)
+
+pub stands_fine : (decimals : ℕ) (cell : List ℕ) (m : ℤ) → StandsFor decimals cell m → IsFine decimals cell
+stands_fine decimals cell m s = (s.sign, s.whole, s.tail, s.fraction, s.spelled, s.fine)
+
+-- a decimal, and then a test of its number
+pub read_number : {B : Type 0} (decimals : ℕ) (cell : List ℕ) (f : ℤ → Result B PlanFaultKind) (met : Type 0) (Q : B → Type 0) → decimals ≤ 6
+    → (met → (m : ℤ) × StandsFor decimals cell m)
+    → ((m : ℤ) → StandsFor decimals cell m → Follows (f m) (demand Range met) Q)
+    → Follows (stated (decimal_of decimals cell) >>= f) (demand Number (IsDecimal cell) ++ demand TooFine (IsFine decimals cell) ++ demand Range met) Q
+read_number {B} decimals cell f met Q few there next = by (decimal_of decimals cell) refl
+  where
+    front : List Demand
+    front = demand Number (IsDecimal cell) ++ demand TooFine (IsFine decimals cell)
+
+    by : (r : Result ℤ DecFault) → decimal_of decimals cell ≡ r → Follows (stated r >>= f) (front ++ demand Range met) Q
+    by (Ok m) e =
+        let stands = read_stands decimals cell m few e in
+        let fine = stands_fine decimals cell m stands in
+        behind (f m) front (demand Range met) Q (fine_decimal decimals cell fine, (fine, tt)) (next m stands)
+    by (Err dec.Number) e = inl ((λ d. spelled_number decimals cell d.0 d.1 d.2 d.3 d.4 e), refl)
+    by (Err dec.TooFine) e =
+        inr (too_fine_decimal decimals cell e, inl ((λ f. (spelled_too_fine decimals cell f.0 f.1 f.2 f.3 f.4).0 e f.5), refl))
+    by (Err dec.Range) e =
+        let fine = out_of_range_fine decimals cell e in
+        let never : ¬ met = λ h. let t = there h in absurd (cc (sym e ∙ stands_read decimals cell t.0 few t.1)) in
+        inr (fine_decimal decimals cell fine, inr (fine, inl (never, refl)))
+
+pub le_true : (a b : ℤ) → int_le a b ≡ true → a ≤ℤ b
+le_true a b e = grind (arith, ints)
+
+pub le_false : (a b : ℤ) → int_le a b ≡ false → ¬ (a ≤ℤ b)
+le_false a b e = grind (arith, ints)
+
+pub true_le : (a b : ℤ) → a ≤ℤ b → int_le a b ≡ true
+true_le a b e = grind (arith, ints)
+
+both_true : (a b : Bool) → (a && b) ≡ false → a ≡ true → b ≡ true → ⊥
+both_true true b e a is = absurd cc
+both_true false b e a is = absurd cc
+
+-- a number in a range
+pub number_told : (decimals : ℕ) (low high : ℤ) (cell : List ℕ) → decimals ≤ 6
+    → Follows (number_in decimals low high cell) (number decimals low high cell) (λ m. StandsFor decimals cell m × (low ≤ℤ m) × (m ≤ℤ high))
+number_told decimals low high cell few =
+    read_number decimals cell _ (IsWithin decimals low high cell) _ few (λ h. (h.0, h.1)) test
+  where
+    Q : ℤ → Type 0
+    Q m = StandsFor decimals cell m × (low ≤ℤ m) × (m ≤ℤ high)
+
+    by : (m : ℤ) → StandsFor decimals cell m → (t : Bool) → (int_le low m && int_le m high) ≡ t
+        → Follows (if t then Ok m else Err Range) (demand Range (IsWithin decimals low high cell)) Q
+    by m stands true e =
+        let parts = and_parts (int_le low m) (int_le m high) e in
+        let from : low ≤ℤ m = le_true low m parts.0 in
+        let to : m ≤ℤ high = le_true m high parts.1 in
+        (((m, stands, from, to), tt), (stands, from, to))
+    by m stands false e =
+        let never : ¬ (IsWithin decimals low high cell) = λ h.
+        let same : h.0 ≡ m = one_number decimals cell h.0 m few h.1 stands in
+        both_true (int_le low m) (int_le m high) e (true_le low m (subst (λ z. low ≤ℤ z) same h.2)) (true_le m high (subst (λ z. z ≤ℤ high) same h.3)) in
+        inl (never, refl)
+
+    test : (m : ℤ) → StandsFor decimals cell m → Follows (if int_le low m && int_le m high then Ok m else Err Range) (demand Range (IsWithin decimals low high cell)) Q
+    test m stands = by m stands (int_le low m && int_le m high) refl
+
+positive : (low : ℕ) (m : ℤ) → pos low ≤ℤ m → m ≡ pos (unsigned_abs m)
+positive low (pos k) h = refl
+positive low (negsuc k) h = absurd (omega (arith, ints))
+
+-- a whole number in a range, of its millionths
+pub whole_from : (low high : ℕ) (cell : List ℕ) (m : ℤ) → StandsFor 0 cell m → pos (low * 10 ^ 6) ≤ℤ m → m ≤ℤ pos (high * 10 ^ 6)
+    → StandsWhole cell (unsigned_abs m / 10 ^ 6) × ((low ≤ unsigned_abs m / 10 ^ 6) × (unsigned_abs m / 10 ^ 6 ≤ high))
+whole_from low high cell m stands least most =
+    let is : m ≡ pos (unsigned_abs m) = positive (low * 10 ^ 6) m least in
+    let size : unsigned_abs m % 10 ^ 6 ≡ 0 = stands_multiple 0 cell m (omega arith) stands in
+    let count : unsigned_abs m ≡ unsigned_abs m / 10 ^ 6 * 10 ^ 6 = omega arith in
+    let same : m ≡ pos (unsigned_abs m / 10 ^ 6 * 10 ^ 6) = is ∙ ap pos count in
+    let from : low * 10 ^ 6 ≤ unsigned_abs m = omega (arith, ints, subst (λ z. pos (low * 10 ^ 6) ≤ℤ z) is least) in
+    let to : unsigned_abs m ≤ high * 10 ^ 6 = omega (arith, ints, subst (λ z. z ≤ℤ pos (high * 10 ^ 6)) is most) in
+    (subst (StandsFor 0 cell) same stands, (omega arith, omega arith))
+
+-- a whole number in a range
+pub whole_told : (low high : ℕ) (cell : List ℕ) → Follows (whole_in low high cell) (whole low high cell) (λ n. StandsWhole cell n × ((low ≤ n) × (n ≤ high)))
+whole_told low high cell =
+    mapped (number_in 0 (pos (low * 10 ^ 6)) (pos (high * 10 ^ 6)) cell) (λ m. unsigned_abs m / 10 ^ 6) (whole low high cell) _ _
+    (number_told 0 (pos (low * 10 ^ 6)) (pos (high * 10 ^ 6)) cell (omega arith)) (λ m h. whole_from low high cell m h.0 h.1 h.2)
+
+-- a cell stands for one whole number
+pub one_whole : (cell : List ℕ) (a b : ℕ) → StandsWhole cell a → StandsWhole cell b → a ≡ b
+one_whole cell a b first second =
+    let same : pos (a * 10 ^ 6) ≡ pos (b * 10 ^ 6) = one_number 0 cell (pos (a * 10 ^ 6)) (pos (b * 10 ^ 6)) (omega arith) first second in
+    omega (arith, ints)
+
+-- the last thing that is asked, in other words
+pub reworded : {B : Type 0} (r : Result B PlanFaultKind) (ds : List Demand) (kind : PlanFaultKind) (met other : Type 0) (Q : B → Type 0)
+    → (met → other) → (other → met) → Follows r (ds ++ demand kind met) Q → Follows r (ds ++ demand kind other) Q
+reworded {B} r ds kind met other Q to from h = by r h
+  where
+    are : (ds : List Demand) → AreMet (ds ++ demand kind met) → AreMet (ds ++ demand kind other)
+    are [] h = (to h.0, tt)
+    are (d ∷ ds) h = (h.0, are ds h.1)
+
+    fail : (ds : List Demand) (found : PlanFaultKind) → FailsFirst (ds ++ demand kind met) found → FailsFirst (ds ++ demand kind other) found
+    fail [] found (inl h) = inl ((λ o. h.0 (from o)), h.1)
+    fail [] found (inr h) = absurd h.1
+    fail (d ∷ ds) found (inl h) = inl h
+    fail (d ∷ ds) found (inr h) = inr (h.0, fail ds found h.1)
+
+    by : (r : Result B PlanFaultKind) → Follows r (ds ++ demand kind met) Q → Follows r (ds ++ demand kind other) Q
+    by (Ok x) h = (are ds h.0, h.1)
+    by (Err found) h = fail ds found h
+
+below : (k n : ℕ) → suc k ≡ n * 1000 → negsuc k ≡ neg_ℤ (pos n) *ℤ pos 1000
+below k n h = omega (arith, ints)
+
+-- thousands, with no rest
+thousands : (m : ℤ) → unsigned_abs m % 10 ^ 3 ≡ 0 → m ≡ int_div m (pos 1000) *ℤ pos 1000
+thousands (pos k) h = let same : k ≡ k / 1000 * 1000 = omega arith in ap pos same
+thousands (negsuc k) h = let same : suc k ≡ suc k / 1000 * 1000 = omega (arith, h) in below k (suc k / 1000) same
+
+pub origin_told : (cell : List ℕ) → Follows (origin_in cell) (metres (negsuc 999999999999) (pos (10 ^ 12)) cell)
+    (λ n. StandsMetres cell n × ((negsuc 999999999999 ≤ℤ n) × (n ≤ℤ pos (10 ^ 12))))
+origin_told cell =
+    mapped (number_in 3 (negsuc 999999999999999) (pos (10 ^ 15)) cell) (λ m. int_div m (pos 1000)) _ _ _
+    (number_told 3 (negsuc 999999999999999) (pos (10 ^ 15)) cell (omega arith)) (λ m h.
+    let same : m ≡ int_div m (pos 1000) *ℤ pos 1000 = thousands m (stands_multiple 3 cell m (omega arith) h.0) in
+    (subst (StandsFor 3 cell) same h.0, (omega (arith, ints, h.1, h.2), omega (arith, ints, h.1, h.2))))
+
+pub size_told : (cell : List ℕ) → Follows (size_in cell) (metres (pos 1) (pos (10 ^ 5)) cell) (λ n. StandsMetres cell (pos n) × ((1 ≤ n) × (n ≤ 10 ^ 5)))
+size_told cell =
+    mapped (number_in 3 (pos 1000) (pos (10 ^ 8)) cell) (λ m. unsigned_abs m / 1000) _ _ _
+    (number_told 3 (pos 1000) (pos (10 ^ 8)) cell (omega arith)) (λ m h.
+    let is : m ≡ pos (unsigned_abs m) = positive 1000 m h.1 in
+    let size : unsigned_abs m % 10 ^ 3 ≡ 0 = stands_multiple 3 cell m (omega arith) h.0 in
+    let count : unsigned_abs m ≡ unsigned_abs m / 1000 * 1000 = omega arith in
+    let same : m ≡ pos (unsigned_abs m / 1000) *ℤ pos 1000 = is ∙ ap pos count in
+    let from : 1000 ≤ unsigned_abs m = omega (arith, ints, subst (λ z. pos 1000 ≤ℤ z) is h.1) in
+    let to : unsigned_abs m ≤ 10 ^ 8 = omega (arith, ints, subst (λ z. z ≤ℤ pos (10 ^ 8)) is h.2) in
+    (subst (StandsFor 3 cell) same h.0, (omega arith, omega arith)))
