@@ -18,6 +18,7 @@ pub mod ModelEnd
 pub mod ModelFacts
 pub mod ModelSteps
 pub mod NumbersBack
+pub mod OneDigit
 pub mod Places
 pub mod PlainText
 pub mod PrecBack

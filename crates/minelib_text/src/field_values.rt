@@ -1,6 +1,6 @@
 //! What a field of a line states.
 
-ghost use Rattle.std.specs.Prelude.{◌≡◌, ◌<◌, ◌≤◌, ◌^◌, IfOk};
+ghost use Rattle.std.specs.Prelude.{◌≡◌, ◌/◌, ◌<◌, ◌≤◌, ◌^◌, IfOk};
 ghost use Rattle.minelib_text.specs.FieldValues.{at_most, decimal_in, size_in, whole_below, whole_in};
 
 use crate::text_fault::TextKind;
@@ -8,6 +8,7 @@ use pit_units::{Dec, parse_dec};
 
 /// The whole number that a field states, below `limit`.
 #[tactic(auto, unfolding(crate::specs::FieldValues::whole_in))]
+#[inline(always)]
 pub fn whole_in(field: &[u8], limit: u64) -> Result<u64, TextKind>
     ensures value { result ≡ whole_in limit field.now }
     ensures below { IfOk result (λ n. n < limit) }
@@ -15,6 +16,7 @@ pub fn whole_in(field: &[u8], limit: u64) -> Result<u64, TextKind>
     whole_below(parse_dec(field, 0)?, limit)
 }
 
+#[inline(always)]
 fn whole_below(number: Dec, limit: u64) -> Result<u64, TextKind>
     ensures value { result ≡ whole_below limit number }
     ensures below { IfOk result (λ n. n < limit) }
@@ -23,7 +25,7 @@ fn whole_below(number: Dec, limit: u64) -> Result<u64, TextKind>
     if millionths < 0 {
         return Err(TextKind::Range);
     }
-    let whole = millionths as u128 / 1_000_000;
+    let whole = whole_part(millionths as u128);
     if whole < u128::from(limit) {
         Ok(whole as u64)
     } else {
@@ -31,8 +33,21 @@ fn whole_below(number: Dec, limit: u64) -> Result<u64, TextKind>
     }
 }
 
+/// The whole part of so many millionths. A number of 64 bits is divided as one.
+#[inline(always)]
+fn whole_part(millionths: u128) -> u128
+    ensures { result ≡ millionths / 10 ^ 6 }
+{
+    if millionths <= u128::from(u64::MAX) {
+        u128::from(millionths as u64 / 1_000_000)
+    } else {
+        millionths / 1_000_000
+    }
+}
+
 /// The millionths that a field states with at most so many decimals, from 0 to `most`.
 #[tactic(auto, unfolding(crate::specs::FieldValues::size_in))]
+#[inline(always)]
 pub fn size_in(field: &[u8], decimals: u8, most: u64) -> Result<u64, TextKind>
     requires { decimals ≤ 6 }
     ensures value { result ≡ size_in decimals most field.now }
@@ -41,6 +56,7 @@ pub fn size_in(field: &[u8], decimals: u8, most: u64) -> Result<u64, TextKind>
     at_most(parse_dec(field, decimals)?, most)
 }
 
+#[inline(always)]
 fn at_most(number: Dec, most: u64) -> Result<u64, TextKind>
     ensures value { result ≡ at_most most number }
     ensures in_range { IfOk result (λ m. m ≤ most) }

@@ -8,6 +8,7 @@ use pit_units::{Dec, put_dec};
 use std::alloc::{AllocError, Global};
 
 /// Appends a text and the byte that ends it.
+#[inline(always)]
 pub fn put_text(out: &mut Vec<u8>, text: &[u8], end: u8) -> Result<(), AllocError>
     ensures { OnOk result (out.new.items ≡ out.old.items ++ (text.now ++ end ∷ [])) }
 {
@@ -17,14 +18,21 @@ pub fn put_text(out: &mut Vec<u8>, text: &[u8], end: u8) -> Result<(), AllocErro
 }
 
 /// Appends a whole number.
+#[inline(always)]
+#[tactic(auto, using(crate::proofs::OneDigit::one_digit))]
 pub fn put_whole(out: &mut Vec<u8>, number: u64) -> Result<(), AllocError>
     ensures { OnOk result (out.new.items ≡ out.old.items ++ decimal number) }
 {
+    if number < 10 {
+        out.push(b'0' + number as u8)?;
+        return Ok(());
+    }
     let mut digits = Buffer::new();
     out.extend_from_slice(digits.format(number).as_bytes())
 }
 
 /// Appends a whole number and the byte that ends it.
+#[inline(always)]
 pub fn put_whole_to(out: &mut Vec<u8>, number: u64, end: u8) -> Result<(), AllocError>
     ensures { OnOk result (out.new.items ≡ out.old.items ++ (decimal number ++ end ∷ [])) }
 {
@@ -34,6 +42,7 @@ pub fn put_whole_to(out: &mut Vec<u8>, number: u64, end: u8) -> Result<(), Alloc
 }
 
 /// Appends a byte and a whole number behind it.
+#[inline(always)]
 pub fn put_whole_behind(out: &mut Vec<u8>, before: u8, number: u64) -> Result<(), AllocError>
     ensures { OnOk result (out.new.items ≡ out.old.items ++ before ∷ decimal number) }
 {
@@ -42,6 +51,7 @@ pub fn put_whole_behind(out: &mut Vec<u8>, before: u8, number: u64) -> Result<()
 }
 
 /// Appends the shortest text of a decimal and the byte that ends it.
+#[inline(always)]
 pub fn put_decimal_to(
     alloc: Global,
     out: &mut Vec<u8>,
@@ -56,6 +66,7 @@ pub fn put_decimal_to(
 }
 
 /// Appends a byte and the shortest text of a decimal behind it.
+#[inline(always)]
 pub fn put_decimal_behind(
     alloc: Global,
     out: &mut Vec<u8>,

@@ -30,6 +30,7 @@ impl IdText {
     }
 
     /// Appends identifiers, each behind a space.
+    #[inline(always)]
     pub fn put(&self, out: &mut Vec<u8>, ids: &[u32]) -> Result<(), AllocError>
         ensures { OnOk result (out.new.items ≡ out.old.items ++ spaced ids.now) }
     {
@@ -43,6 +44,7 @@ impl IdText {
     }
 
     // those past the table go one by one
+    #[inline(always)]
     fn put_run(&self, out: &mut Vec<u8>, run: &[u32]) -> Result<(), AllocError>
         requires some { 0 < length run.now }
         requires run { run.now ≡ range_with_len (slice_index run.now 0) (length run.now) }
@@ -59,6 +61,7 @@ impl IdText {
     }
 }
 
+#[inline(always)]
 fn part(text: &[u8], start: usize, end: usize) -> &[u8]
     requires in_order { start ≤ end }
     requires within { end ≤ length text.now }
@@ -77,6 +80,7 @@ fn put_each(out: &mut Vec<u8>, ids: &[u32]) -> Result<(), AllocError>
 }
 
 /// How many identifiers follow one another, from the first on.
+#[inline(always)]
 fn run_len(ids: &[u32]) -> usize
     requires { 0 < length ids.now }
     ensures some { 0 < result }

@@ -25,6 +25,7 @@ impl Line for Block {
     }
 }
 
+#[inline(always)]
 fn put_place(out: &mut Vec<u8>, block: &Block) -> Result<(), AllocError>
     ensures { OnOk result (out.new.items ≡ out.old.items
         ++ ((decimal block.now.x ++ 32 ∷ []) ++ (decimal block.now.y ++ 32 ∷ []) ++ (decimal block.now.z ++ 32 ∷ []))) }
@@ -34,6 +35,7 @@ fn put_place(out: &mut Vec<u8>, block: &Block) -> Result<(), AllocError>
     put_whole_to(out, u64::from(block.z), b' ')
 }
 
+#[inline(always)]
 fn put_ore(alloc: Global, out: &mut Vec<u8>, block: &Block) -> Result<(), AllocError>
     ensures { OnOk result (out.new.items ≡ out.old.items
         ++ ((shortest (pos (block.now.kg * 1000)) ++ 32 ∷ []) ++ (shortest (pos block.now.grade) ++ 32 ∷ []))) }

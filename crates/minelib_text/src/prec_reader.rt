@@ -12,7 +12,7 @@ use crate::marks::all_differ;
 use crate::read_fault::{FileError, LineError};
 use crate::reading::{Admit, read_lines};
 use crate::text_fault::{LineFault, TextKind};
-use crate::text_fields::{count_fields, first_whole, next_field};
+use crate::text_fields::{first_whole, lacks_two_fields, next_field};
 use precedence::Preds;
 use std::alloc::{AllocError, Global};
 use std::marker::Model;
@@ -72,7 +72,7 @@ fn preds_of(
     ensures places { vec_len marks.new ≡ blocks }
     ensures clear { AreClear marks.new.items }
 {
-    if count_fields(line) < 2 {
+    if lacks_two_fields(line) {
         return Err(LineError::Faulty(TextKind::Fields));
     }
     let (id, behind_id) = first_whole(line, blocks as u64)?;

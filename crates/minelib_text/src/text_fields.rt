@@ -1,6 +1,6 @@
 //! The fields of a line: what stands between runs of blanks.
 
-ghost use Rattle.std.specs.Prelude.{◌≡◌, ◌<◌, ◌≤◌, ◌∷◌, [], length, position, IfOk, IfSome, MatchOption};
+ghost use Rattle.std.specs.Prelude.{◌≡◌, ◌<◌, ◌≤◌, ◌∷◌, [], length, nat_lt, position, IfOk, IfSome, MatchOption};
 ghost use Rattle.std.specs.List.{position_or_len};
 ghost use Rattle.pit_model.specs.Cells.{is_blank};
 ghost use Rattle.minelib_text.specs.FieldValues.{Takes, decimal_in, first_by, size_in, whole_in};
@@ -13,6 +13,7 @@ use pit_model::cells::{is_blank, without_leading_blanks};
 use pit_units::Dec;
 
 /// The first field of a line and what stands behind it, or `None` where the line has no field.
+#[inline(always)]
 pub fn next_field(line: &[u8]) -> Option<(&[u8], &[u8])>
     ensures cut { MatchOption result (fields_of line.now ≡ []) (λ x. fields_of line.now ≡ x.0.now ∷ fields_of x.1.now) }
     ensures less { IfSome result (λ x. length x.1.now < length line.now) }
@@ -25,6 +26,7 @@ pub fn next_field(line: &[u8]) -> Option<(&[u8], &[u8])>
     Some((&text[..end], behind(text, end)))
 }
 
+#[inline(always)]
 fn field_end(text: &[u8]) -> usize
     ensures value { result ≡ position_or_len is_blank text.now }
     ensures within { result ≤ length text.now }
@@ -32,6 +34,7 @@ fn field_end(text: &[u8]) -> usize
     blank_place(text).unwrap_or(text.len())
 }
 
+#[inline(always)]
 fn blank_place(text: &[u8]) -> Option<usize>
     ensures { result ≡ position is_blank text.now }
 {
@@ -51,7 +54,18 @@ pub fn count_fields(line: &[u8]) -> usize
     count
 }
 
+/// Whether a line has fewer than two fields. What stands behind the second is not looked at.
+pub fn lacks_two_fields(line: &[u8]) -> bool
+    ensures { result ≡ nat_lt (length (fields_of line.now)) 2 }
+{
+    match next_field(line) {
+        Some((_, behind)) => next_field(behind).is_none(),
+        None => true,
+    }
+}
+
 /// The whole number of the first field, below `limit`, and what stands behind it.
+#[inline(always)]
 pub fn first_whole(line: &[u8], limit: u64) -> Result<(u64, &[u8]), TextKind>
     ensures value { Takes result (first_by (whole_in limit) (fields_of line.now)) }
     ensures below { IfOk result (λ x. x.0 < limit) }
@@ -63,6 +77,7 @@ pub fn first_whole(line: &[u8], limit: u64) -> Result<(u64, &[u8]), TextKind>
 }
 
 /// The millionths of the first field, with at most so many decimals, from 0 to `most`, and what stands behind it.
+#[inline(always)]
 pub fn first_size(line: &[u8], decimals: u8, most: u64) -> Result<(u64, &[u8]), TextKind>
     requires { decimals ≤ 6 }
     ensures value { Takes result (first_by (size_in decimals most) (fields_of line.now)) }

@@ -1,9 +1,10 @@
 //! The lines of a text that is read.
 
-ghost use Rattle.std.specs.Prelude.{◌≡◌, ◌<◌, ◌≤◌, ◌==◌, ◌∷◌, drop, length, position};
+ghost use Rattle.std.specs.Prelude.{◌≡◌, ◌<◌, ◌≤◌, ◌==◌, ◌∷◌, drop, length};
 ghost use Rattle.std.specs.List.{position_or_len};
 ghost use Rattle.minelib_text.specs.TextLines.{is_skipped, lines_of, without_cr, without_mark};
 
+use memchr::memchr;
 use pit_model::cells::without_leading_blanks;
 
 /// The text without one byte order mark at its front.
@@ -37,13 +38,7 @@ fn line_end(text: &[u8]) -> usize
     ensures value { result ≡ position_or_len (λ b. b == 10) text.now }
     ensures within { result ≤ length text.now }
 {
-    feed_place(text).unwrap_or(text.len())
-}
-
-fn feed_place(text: &[u8]) -> Option<usize>
-    ensures { result ≡ position (λ b. b == 10) text.now }
-{
-    text.iter().position(|b| *b == b'\n')
+    memchr(b'\n', text).unwrap_or(text.len())
 }
 
 /// The line without one CR at its end.

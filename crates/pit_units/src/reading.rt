@@ -13,6 +13,7 @@ const PAST_LARGEST: u64 = 1_000_000_000_000_000_001;
 ///
 /// At most `max_decimals` decimals count, and those past them have to be zeros. Nothing is trimmed: a blank makes the text no
 /// number. Of several faults the answer is the first of `Number`, `TooFine` and `Range`.
+#[inline(always)]
 pub fn parse_dec(text: &[u8], max_decimals: u8) -> Result<Dec, DecFault>
     requires { max_decimals ≤ 6 }
     ensures { result ≡ decimal_of max_decimals text.now }
@@ -50,6 +51,7 @@ fn whole_number(units: u64) -> Dec
     Dec::new(i128::from(units) * 1_000_000).unwrap()
 }
 
+#[inline(never)]
 #[tactic(auto, unfolding(crate::specs::Decimal::decimal_of))]
 fn parse_any(text: &[u8], max_decimals: u8) -> Result<Dec, DecFault>
     requires { max_decimals ≤ 6 }

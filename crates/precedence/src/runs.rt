@@ -29,17 +29,24 @@ pub fn add_above(
     ensures { OnOk result (list.new.items ≡ list.old.items ++ places_where (is_in_rows from rows.now) 0 places.now.codes.items) }
 {
     let mut i = 0;
+    let mut behind = 0;
     while i < rows.len() {
-        let run = add_run(list, places, rows[i], hint_at(hints, i), from)?;
+        let run = add_run(list, places, rows[i], hint_at(hints, i, behind), from)?;
         keep_hint(hints, i, run);
+        behind = run.past;
         i = next_row(places, past, i, run.past as usize, from);
     }
     Ok(())
 }
 
 #[inline(always)]
-fn hint_at(hints: &[Hint], i: usize) -> Hint {
-    hints.get(i).copied().unwrap_or(NOTHING_KNOWN)
+// A row's hint, but for what is before `behind`, where the row before it ends: a row that was left out for long has an old one.
+fn hint_at(hints: &[Hint], i: usize, behind: u32) -> Hint {
+    let known = hints.get(i).copied().unwrap_or(NOTHING_KNOWN);
+    Hint {
+        first: known.first.max(behind),
+        past: known.past.max(behind),
+    }
 }
 
 #[inline(always)]
@@ -82,7 +89,7 @@ fn run_end(codes: &[u64], first: usize, hint: usize, past: u64) -> usize
     ensures { result ≡ start_of past codes.now }
 {
     if first < codes.len() && codes[first] < past {
-        find(codes, hint, past)
+        find(codes, hint.max(first), past)
     } else {
         first
     }

@@ -1,11 +1,9 @@
-use Rattle.std.proofs.Common.{◌∙◌, ap}
-use Rattle.std.specs.Prelude.{unwrap_or, length}
-use Rattle.minelib_text.proofs.Cuts.{is_feed, place_or_length, place_within}
+use Rattle.std.proofs.Common.{◌∙◌}
+use Rattle.minelib_text.proofs.Cuts.{feed_found, is_feed, place_within}
 use Rattle.minelib_text.proofs.text_lines.line_end.Goals as goal
 
 pub returns-clause-value : goal.returns-clause-value
-returns-clause-value c =
-    c.unwrap_or.ensures ∙ ap (λ place. unwrap_or place (length c.args.text.now)) c.feed_place.ensures ∙ place_or_length is_feed c.args.text.now
+returns-clause-value c = c.unwrap_or.ensures ∙ feed_found c.args.text.now c.memchr.result c.memchr.ensures
 
 pub returns-clause-within : goal.returns-clause-within
 returns-clause-within c = rw (returns-clause-value c) (place_within is_feed c.args.text.now)
