@@ -1,6 +1,6 @@
 use Rattle.std.proofs.Common.{◌++◌, ap, ◌∙◌}
 use Rattle.pitc.proofs.Walk.{cut_on, pieces_behind}
-use Rattle.pitc.proofs.pieces.cut_at_most.Goals as goal
+use Rattle.pitc.proofs.pieces.cut.Goals as goal
 
 pub loop-behind-preserved : goal.loop-behind-preserved
 loop-behind-preserved c =
