@@ -1,5 +1,5 @@
 //! The cutting of the input of the pipe form into a plan and zone files, at the lines `--`.
-ghost use Rattle.std.specs.Prelude.{◌≡◌, ℕ, ◌<◌, ◌≤◌, ◌==◌, [], ◌∷◌, length, take, drop, position, IfOk, IfSome, MatchOption};
+ghost use Rattle.std.specs.Prelude.{◌≡◌, ℕ, ◌<◌, ◌≤◌, ◌==◌, [], ◌∷◌, length, take, drop, position, Ok, None, IfOk, IfSome, MatchOption};
 ghost use Rattle.pitc.specs.Pieces.{lines_of, is_cut, pieces_of, plan_of, zones_of};
 
 use crate::piece::Piece;
@@ -44,15 +44,40 @@ pub fn cut(alloc: Global, input: &[u8]) -> Result<Pieces, AllocError>
     ensures plan { IfOk result (λ pieces. pieces.plan ≡ plan_of input.now) }
     ensures zones { IfOk result (λ pieces. pieces.zones ≡ zones_of input.now) }
 {
+    match cut_at_most(alloc, input, input.len())? {
+        Some(pieces) => Ok(pieces),
+        None => unreachable!(),
+    }
+}
+
+/// Cuts an input as `cut` does, into at most so many zone files; or answers `None` where it has more of them, and so never holds
+/// more than that. Its only error is want of memory.
+pub fn cut_at_most(alloc: Global, input: &[u8], most: usize) -> Result<Option<Pieces>, AllocError>
+    ensures plan { IfOk result (λ found. IfSome found (λ pieces. pieces.plan ≡ plan_of input.now)) }
+    ensures zones { IfOk result (λ found. IfSome found (λ pieces. pieces.zones ≡ zones_of input.now)) }
+    ensures few { IfOk result (λ found. IfSome found (λ pieces. length pieces.zones ≤ most)) }
+    ensures more { result ≡ Ok None → most < length (zones_of input.now) }
+    ensures bytes { result ≡ Ok None → most < length input.now }
+{
     let (plan, mut behind) = first_piece(input);
     let plan = copied(alloc, plan)?;
     let mut zones = Vec::new(alloc);
     while let Some(rest) = behind {
+        if zones.len() == most {
+            return Ok(None);
+        }
         let (zone, next) = first_piece(rest);
         zones.push(copied(alloc, zone)?)?;
         behind = next;
     }
-    Ok(Pieces { plan, zones })
+    Ok(Some(Pieces { plan, zones }))
+}
+
+/// The plan of an input, which `cut` copies.
+pub fn plan_text(input: &[u8]) -> &[u8]
+    ensures { result.now ≡ plan_of input.now }
+{
+    first_piece(input).0
 }
 
 /// A piece of its own with these bytes.
