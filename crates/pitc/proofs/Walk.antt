@@ -1,5 +1,5 @@
 -- The walk over the lines of a text up to its first cut.
-use Rattle.std.proofs.Common.{◌≡◌, ℕ, ◌+◌, ◌<◌, ◌≤◌, false, List, [], ◌∷◌, ◌++◌, length, take, drop, map, get_or, refl, sym, ◌∙◌, ap, append_assoc, arith, MatchOption, Option, Some, None, Bor}
+use Rattle.std.proofs.Common.{◌≡◌, ℕ, ◌+◌, ◌<◌, ◌≤◌, false, List, [], ◌∷◌, ◌++◌, length, take, drop, map, get_or, refl, sym, ◌∙◌, ap, append_assoc, length-append, arith, IfSome, MatchOption, Option, Some, None, Bor}
 use Rattle.std.specs.List.{concat, onto_first, slice_split}
 use Rattle.std.proofs.lemmas.List.{drop-drop}
 use Rattle.std.proofs.lemmas.List.Splits.{slice_split-cons_no, length-slice_split}
@@ -59,3 +59,18 @@ cut_on zones more cut rest zone next before first further push =
       by_next : (next : Option (Bor (List ℕ))) → MatchOption next (zones_of rest ≡ []) (λ behind. zones_of rest ≡ pieces_of behind.now) → zones_of rest ≡ pieces_behind next
       by_next None e = e
       by_next (Some behind) e = e
+
+-- where something is still to be cut, there are more pieces than are held
+pub more_than_held : (zones held : List (List ℕ)) (rest : List ℕ) → zones ≡ held ++ pieces_of rest → length held < length zones
+more_than_held zones held rest e = rw (e, length-append held (pieces_of rest), pieces_first rest) (omega arith)
+
+-- one piece more is held: it fits where the others did not fill the room, and less is left to cut
+pub one_more_fits : (held more : List (List ℕ)) (piece : List ℕ) (most n : ℕ) → more ≡ held ++ piece ∷ [] → length held ≤ most → n ≡ length held → (n ≡ most → ⊥) → length more ≤ most
+one_more_fits held more piece most n push fit same differs = omega (arith, ap length push, length-append held (piece ∷ []), fit, same, differs)
+
+pub less_left : (held more : List (List ℕ)) (piece : List ℕ) (rest : Bor (List ℕ)) (behind next : Option (Bor (List ℕ))) (size : ℕ) → more ≡ held ++ piece ∷ []
+    → behind ≡ Some rest → IfSome next (λ r. length r.now < length rest.now) → length held + steps_behind behind ≤ size → length more + steps_behind next ≤ size
+less_left held more piece rest behind None size push is shorter fit =
+    let before : length held + (1 + length rest.now) ≤ size = rw is at fit in omega (arith, ap length push, length-append held (piece ∷ []), before)
+less_left held more piece rest behind (Some r) size push is shorter fit =
+    let before : length held + (1 + length rest.now) ≤ size = rw is at fit in omega (arith, ap length push, length-append held (piece ∷ []), before, shorter)
