@@ -9,14 +9,14 @@ ghost use Rattle.pit_compile.specs.Verdict.{AreApart, IsRepeat};
 
 use crate::numbered::numbered;
 use crate::refusal::Refusal;
-use mine_instance::build;
 use mine_instance::instance::Instance;
+use mine_instance::{build_with, values_by_id};
 use pit_model::plan::Plan;
 use precedence::preds;
 use std::alloc::Global;
 use valuers::Valued;
 
-/// The instance of these rows, which are given up with their numbering. Fails with `Same` where a block stands twice, or where memory is
+/// The instance of these rows, which are given up once their values are taken. Fails with `Same` where a block stands twice, or where memory is
 /// refused.
 pub fn instance_of(alloc: Global, rows: Vec<Valued>, plan: &Plan) -> Result<Instance, Refusal>
     requires { AreModelRows plan.now rows.items }
@@ -26,6 +26,8 @@ pub fn instance_of(alloc: Global, rows: Vec<Valued>, plan: &Plan) -> Result<Inst
     ensures refused { IfErr result (IsRepeat rows.items) }
 {
     let numbering = numbered(alloc, rows.as_slice())?;
+    let values = values_by_id(alloc, &numbering, rows.as_slice(), plan)?;
+    drop(rows);
     let preds = preds(alloc, &numbering, plan)?;
-    Ok(build(alloc, &numbering, preds, rows.as_slice(), plan)?)
+    Ok(build_with(alloc, &numbering, preds, values, plan)?)
 }

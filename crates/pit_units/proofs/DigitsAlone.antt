@@ -36,10 +36,13 @@ pub more_digits : (xs : List ℕ) (i value : ℕ) → i < length xs → is_ascii
     → (value < 10 ^ i) × ((value ≡ digits_value 10 (take i xs)) × (all_digits (take i xs) ≡ true))
     → (value * 10 + (get_or xs i 0 - 48) < 10 ^ (i + 1)) × ((value * 10 + (get_or xs i 0 - 48) ≡ digits_value 10 (take (i + 1) xs)) × (all_digits (take (i + 1) xs) ≡ true))
 more_digits xs i value within digit so_far =
-    let range = digit_range (get_or xs i 0) digit in
-    (omega (arith, range, so_far.0, pow-succ' 10 i, ap (λ n. 10 ^ n) (add-one i)),
-    (omega (arith, range, so_far.1.0, digit_value_digit (get_or xs i 0) range, digits_value_more 10 xs i within),
-    list_all_more is_ascii_digit xs i 0 within ∙ rw (so_far.1.1, digit) refl))
+    let range = digit_range (get_or xs i 0) digit in (
+      omega (arith, range, so_far.0, pow-succ' 10 i, ap (λ n. 10 ^ n) (add-one i)),
+      (
+        omega (arith, range, so_far.1.0, digit_value_digit (get_or xs i 0) range, digits_value_more 10 xs i within),
+        list_all_more is_ascii_digit xs i 0 within ∙ rw (so_far.1.1, digit) refl,
+      ),
+    )
 
 -- all digits of a short text
 pub all_alone : (max : ℕ) (text : List ℕ) (i value : ℕ) → length text ≤ i → i ≤ 18 → 0 < length text
