@@ -5,6 +5,7 @@ pub mod Device
 pub mod FieldValues
 pub mod FileFault
 pub mod FileState
+pub mod FirstBad
 pub mod Kept
 pub mod Lines
 pub mod Marks
