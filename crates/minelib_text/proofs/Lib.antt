@@ -33,3 +33,5 @@ pub mod ValidModel
 pub mod ValidPreds
 pub mod ValidRead
 pub mod WriteFacts
+pub mod LinesOfText
+pub mod SpelledBack

@@ -16,7 +16,7 @@ use Rattle.minelib_text.proofs.NumbersBack.{whole_field, whole_again, map_fields
 use Rattle.minelib_text.proofs.Places.{is_place, stands_there}
 use Rattle.minelib_text.proofs.PlainText.{AreFields, fields_again, fields_line}
 
-stands_not : (own : ℕ) (ids : List ℕ) → All (λ id. id ≢ own) ids → stands_in ids own ≡ false
+pub stands_not : (own : ℕ) (ids : List ℕ) → All (λ id. id ≢ own) ids → stands_in ids own ≡ false
 stands_not own [] h = refl
 stands_not own (id ∷ ids) h =
     rw (ne_eqb id own (All-head (λ id. id ≢ own) id ids h), stands_not own ids (All-tail (λ id. id ≢ own) id ids h)) refl
@@ -27,7 +27,7 @@ pairs_tail id ids h = λ i j d before within. h (suc i) (suc j) d (omega arith) 
 pairs_head : (id : ℕ) (ids : List ℕ) → AllPairs (λ id other. id ≢ other) (id ∷ ids) → All (λ other. other ≢ id) ids
 pairs_head id ids h = λ k d within e. h 0 (suc k) d (omega arith) (omega arith) (sym e)
 
-differ_again : (ids : List ℕ) → AllPairs (λ id other. id ≢ other) ids → all_differ ids ≡ true
+pub differ_again : (ids : List ℕ) → AllPairs (λ id other. id ≢ other) ids → all_differ ids ≡ true
 differ_again [] h = refl
 differ_again (id ∷ ids) h = rw (stands_not id ids (pairs_head id ids h), differ_again ids (pairs_tail id ids h)) refl
 

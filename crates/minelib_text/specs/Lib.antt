@@ -6,6 +6,7 @@ pub mod FaultText
 pub mod FieldValues
 pub mod FileFault
 pub mod FileState
+pub mod FirstBad
 pub mod Kept
 pub mod Lines
 pub mod Marks

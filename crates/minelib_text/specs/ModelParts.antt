@@ -1,4 +1,4 @@
--- How the parts of a model file's lines are taken, and how a draft of it is seen.
+-- How the parts of a model file's lines are taken, and how a draft of it is seen. Only proofs and private contracts need it.
 use Rattle.std.specs.Prelude.{◌≡◌, ℕ, ◌&&◌, Bool, true, List, is_some, Result, Ok, Err}
 use Rattle.std.specs.Borrow.{Bor}
 use Rattle.pit_model.specs.Name.{is_name}

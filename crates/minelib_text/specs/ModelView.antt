@@ -1,4 +1,4 @@
--- How the fields of a model file that is being read are seen, and what they keep.
+-- How the fields of a model file that is being read are seen, and what they keep. Only proofs and private contracts need it.
 use Rattle.std.specs.Prelude.{◌≡◌, ◌<◌, ◌≤◌, true, [], length, unwrap_or, All, IfSome}
 use Rattle.minelib_text.specs.ModelLines.{ModelDraft, count_in, is_heading}
 use Rattle.minelib_text.specs.declared.model_draft.ModelDraft.TheInside.{Inside}

@@ -1,5 +1,5 @@
 //! What holds of texts, whatever they say: each contract is a law, and a call of it changes nothing.
-ghost use Rattle.std.specs.Prelude.{◌≡◌, ℕ, ◌≤◌, List, All, length, Ok};
+ghost use Rattle.std.specs.Prelude.{◌≡◌, ℕ, ◌≤◌, ◌++◌, ◌∷◌, [], All, true, List, length, Ok};
 ghost use Rattle.mine_instance.specs.Cpit.{CpitParts, IsCpit};
 ghost use Rattle.mine_instance.specs.OfModel.{instance as instance_of};
 ghost use Rattle.mine_instance.specs.OneSlope.{instance_by};
@@ -7,14 +7,16 @@ ghost use Rattle.mine_instance.specs.Valid.{IsValid};
 ghost use Rattle.mine_instance.specs.declared.instance.Instance.{Instance as OneInstance};
 ghost use Rattle.minelib_text.specs.BlockLines.{blocks_in};
 ghost use Rattle.minelib_text.specs.Denotes.{Denotes, DenotesCpit};
+ghost use Rattle.minelib_text.specs.FirstBad.{AreBlanks, IsFieldText, IsLineText};
 ghost use Rattle.minelib_text.specs.Kept.{IsKept, IsKeptCpit};
 ghost use Rattle.minelib_text.specs.ModelLines.{ModelDraft, model_in};
 ghost use Rattle.minelib_text.specs.PrecLines.{preds_in};
 ghost use Rattle.minelib_text.specs.SameTexts.{HaveSameTexts};
+ghost use Rattle.minelib_text.specs.Lines.{text_of};
 ghost use Rattle.minelib_text.specs.SpelledBlocks.{AreBlockLines};
 ghost use Rattle.minelib_text.specs.SpelledModel.{AreModelLines};
 ghost use Rattle.minelib_text.specs.SpelledPrec.{ArePredsLines};
-ghost use Rattle.minelib_text.specs.TextLines.{lines_in};
+ghost use Rattle.minelib_text.specs.TextLines.{fields_of, is_ended, lines_in, lines_of};
 ghost use Rattle.minelib_text.specs.Written.{text_blocks, text_prec, text_pcpsp, text_cpit};
 ghost use Rattle.minelib_text.specs.declared.model_key.Problem.{Problem};
 ghost use Rattle.pit_model.specs.Plan.{IsCone, PlanParts};
@@ -84,4 +86,23 @@ pub fn prec_lines_are_spelled()
 pub fn model_lines_are_spelled()
     ensures { (problem : Problem) (n : ℕ) (text : List ℕ) (d : ModelDraft) → model_in problem n text ≡ Ok d
         → AreModelLines problem n (lines_in text) d }
+{}
+
+/// Lines that spell blocks are read as these blocks, whatever their spelling.
+pub fn spelled_blocks_are_read()
+    ensures { (text : List ℕ) (blocks : List Block) → AreBlockLines 0 (lines_in text) blocks → blocks_in text ≡ Ok blocks }
+{}
+
+/// Lines that spell the predecessors of n blocks, one a block, are read as these.
+pub fn spelled_preds_are_read()
+    ensures { (n : ℕ) (text : List ℕ) (lists : List (List ℕ)) → length lists ≡ n → ArePredsLines n 0 (lines_in text) lists → preds_in n text ≡ Ok lists }
+{}
+
+/// Lines are what stands between LFs, a last one without LF as well; fields are what stands between runs of blanks.
+pub fn lines_and_fields()
+    ensures lines { (lines : List (List ℕ)) → All IsLineText lines → lines_of (text_of lines) ≡ lines }
+    ensures last_line { (lines : List (List ℕ)) (last : List ℕ) → All IsLineText lines → IsLineText last → 1 ≤ length last
+        → lines_of (text_of lines ++ last) ≡ lines ++ last ∷ [] }
+    ensures blanks { (blanks rest : List ℕ) → AreBlanks blanks → fields_of (blanks ++ rest) ≡ fields_of rest }
+    ensures field { (field rest : List ℕ) → IsFieldText field → is_ended rest ≡ true → fields_of (field ++ rest) ≡ field ∷ fields_of rest }
 {}

@@ -16,7 +16,7 @@ use Rattle.zone_csv.specs.declared.row_fault.RowFaultKind.{RowFaultKind}
 use Rattle.zone_csv.specs.declared.row_fault.RowFaultKind.TheVariants.{Width, TooManyRows}
 
 -- a fault of this answer is of this row
-abbrev IsOfRow : {A : Type 0} → ℕ → Result A RowFault → Type 0
+abbrev pub IsOfRow : {A : Type 0} → ℕ → Result A RowFault → Type 0
 IsOfRow row (Ok value) = Unit {0}
 IsOfRow row (Err fault) = fault.row ≡ row
 
@@ -34,7 +34,7 @@ five_of_row make row (Ok a) (Ok b) (Ok c) (Err fault) e in_a in_b in_c in_d in_e
 five_of_row make row (Ok a) (Ok b) (Ok c) (Ok d) (Err fault) in_a in_b in_c in_d in_e = in_e
 five_of_row make row (Ok a) (Ok b) (Ok c) (Ok d) (Ok e) in_a in_b in_c in_d in_e = tt
 
-header_of_row : (header : List (List ℕ)) → IsOfRow 1 (columns_of header)
+pub header_of_row : (header : List (List ℕ)) → IsOfRow 1 (columns_of header)
 unfolding columns_of
 header_of_row header =
     five_of_row _ 1 _ _ _ _ _ (at_of_row 1 column.X _) (at_of_row 1 column.Y _) (at_of_row 1 column.Z _) (at_of_row 1 column.Tonnes _) (at_of_row 1 column.Grade _)
@@ -50,7 +50,7 @@ counted_of_row true wide number of_cells of_row = refl
 counted_of_row false true number of_cells of_row = refl
 counted_of_row false false number of_cells of_row = of_row
 
-row_of_row : (grid : Grid) (zone : ℕ) (columns : Columns) (number : ℕ) (cells : List (List ℕ)) → IsOfRow number (row_of grid zone columns number cells)
+pub row_of_row : (grid : Grid) (zone : ℕ) (columns : Columns) (number : ℕ) (cells : List (List ℕ)) → IsOfRow number (row_of grid zone columns number cells)
 unfolding row_of
 row_of_row grid zone columns number cells =
     counted_of_row (nat_lt 1000001 number) (not (length cells == columns.width)) number (block_of grid zone columns number cells)

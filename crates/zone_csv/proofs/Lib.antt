@@ -5,3 +5,5 @@ pub mod FaultFacts
 pub mod Giving
 pub mod GridFacts
 pub mod ZoneFacts
+pub mod ColumnFacts
+pub mod SpelledRows

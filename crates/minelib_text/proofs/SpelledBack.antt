@@ -1,0 +1,102 @@
+-- Lines that spell blocks and predecessors are read as these.
+use Rattle.std.specs.Prelude.{◌≡◌, ◌≢◌, ℕ, ◌+◌, ◌*◌, ◌/◌, ◌^◌, ◌<◌, ◌≤◌, ◌==◌, nat_lt, true, false, not, List, [], ◌∷◌, ◌++◌, length, pos, Result, Ok, Err}
+use Rattle.std.proofs.Common.{refl, sym, ◌∙◌, ap, subst, arith, append-nil, append_assoc, length-append, eq-eqb, lt-ltb, le-ltb}
+use Rattle.std.specs.List.{AllZip}
+use Rattle.std.proofs.Math.Nat.{mul-div_left}
+use Rattle.pit_units.proofs.Standing.{stands_read}
+use Rattle.pit_model.specs.declared.block.Block.{Block}
+use Rattle.minelib_text.specs.BlockLines.{block_of, admit_block, blocks_in}
+use Rattle.minelib_text.specs.FieldValues.{◌>>=◌, stated, whole_below, at_most, whole_in, size_in, all_by}
+use Rattle.minelib_text.specs.PrecLines.{PrecDraft, no_lists, preds_of, admit_preds, finish_preds, preds_in}
+use Rattle.minelib_text.specs.Reading.{at_line, read_lines}
+use Rattle.minelib_text.specs.SpelledBlocks.{IsBlockLine, AreBlockLines}
+use Rattle.minelib_text.specs.SpelledFields.{StatesWhole, StatesSize}
+use Rattle.minelib_text.specs.SpelledPrec.{IsPredsLine, ArePredsLines}
+use Rattle.minelib_text.specs.TextLines.{Line, fields_of, lines_in, end_of}
+use Rattle.minelib_text.specs.declared.text_fault.TextKind.{TextKind}
+use Rattle.minelib_text.proofs.BlocksBack.{with_again}
+use Rattle.minelib_text.proofs.PrecBack.{stands_not, differ_again}
+
+pub whole_back : (limit : ℕ) (field : List ℕ) (n : ℕ) → StatesWhole limit field n → whole_in limit field ≡ Ok n
+unfolding whole_in
+whole_back limit field n h =
+    let same : n * 10 ^ 6 / 10 ^ 6 ≡ n = omega arith in
+    rw (stands_read 0 field (pos (n * 10 ^ 6)) (omega arith) h.stands, same, lt-ltb n limit h.below) refl
+
+pub size_back : (decimals most : ℕ) (field : List ℕ) (m : ℕ) → decimals ≤ 6 → StatesSize decimals most field m → size_in decimals most field ≡ Ok m
+unfolding size_in
+size_back decimals most field m few h = rw (stands_read decimals field (pos m) few h.stands, le-ltb most m h.at_most) refl
+
+seven_back : (before : ℕ) (b : Block) (id x y z tonnes grade zone : List ℕ) → whole_in 64000000 id ≡ Ok before → whole_in 10000 x ≡ Ok b.x → whole_in 10000 y ≡ Ok b.y
+    → whole_in 10000 z ≡ Ok b.z → size_in 3 (10 ^ 12) tonnes ≡ Ok (b.kg * 1000) → size_in 6 (10 ^ 12) grade ≡ Ok b.grade → whole_in 64 zone ≡ Ok b.zone
+    → block_of before (id ∷ x ∷ y ∷ z ∷ tonnes ∷ grade ∷ zone ∷ []) ≡ Ok b
+unfolding block_of
+seven_back before b id x y z tonnes grade zone e1 e2 e3 e4 e5 e6 e7 =
+    let kg : b.kg * 1000 / 1000 ≡ b.kg = omega arith in
+    rw (e1, e2, e3, e4, e5, e6, e7, eq-eqb before before refl, kg, with_again b) refl
+
+pub block_back : (before : ℕ) (fields : List (List ℕ)) (b : Block) → IsBlockLine before fields b → block_of before fields ≡ Ok b
+block_back before fields b h =
+    ap (block_of before) h.here
+    ∙ seven_back before b h.id h.x h.y h.z h.tonnes h.grade h.zone (whole_back 64000000 h.id before h.states_id) (whole_back 10000 h.x b.x h.states_x)
+    (whole_back 10000 h.y b.y h.states_y) (whole_back 10000 h.z b.z h.states_z) (size_back 3 (10 ^ 12) h.tonnes (b.kg * 1000) (omega arith) h.states_tonnes)
+    (size_back 6 (10 ^ 12) h.grade b.grade (omega arith) h.states_grade) (whole_back 64 h.zone b.zone h.states_zone)
+
+-- a line that is admitted, and then the others
+pub next_line : {S : Type 0} (admit : S → List ℕ → Result S TextKind) (s next : S) (line : Line) (lines : List Line) → admit s line.text ≡ Ok next
+    → read_lines admit s (line ∷ lines) ≡ read_lines admit next lines
+next_line admit s next line lines e = ap (λ r. at_line line.number r >>= λ t. read_lines admit t lines) e
+
+blocks_from : (n : ℕ) (lines : List Line) (done blocks : List Block) → n ≡ length done → AreBlockLines n lines blocks
+    → read_lines admit_block done lines ≡ Ok (done ++ blocks)
+blocks_from n [] done [] e h = ap Ok (sym (append-nil done))
+blocks_from n [] done (b ∷ blocks) e h = absurd h
+blocks_from n (line ∷ lines) done [] e h = absurd h
+blocks_from n (line ∷ lines) done (b ∷ blocks) e h =
+    let here : block_of (length done) (fields_of line.text) ≡ Ok b = block_back (length done) (fields_of line.text) b (subst (λ id. IsBlockLine id (fields_of line.text) b) e h.0) in
+    next_line admit_block done (done ++ b ∷ []) line lines (ap (λ r. r >>= λ x. Ok (done ++ x ∷ [])) here)
+    ∙ blocks_from (n + 1) lines (done ++ b ∷ []) blocks (omega (arith, length-append done (b ∷ []))) h.1
+    ∙ ap Ok (append_assoc done (b ∷ []) blocks)
+
+pub blocks_back : (text : List ℕ) (blocks : List Block) → AreBlockLines 0 (lines_in text) blocks → blocks_in text ≡ Ok blocks
+blocks_back text blocks h = blocks_from 0 (lines_in text) [] blocks refl h
+
+all_back : (n : ℕ) (done : List ℕ) (fields : List (List ℕ)) (ids : List ℕ) → AllZip (StatesWhole n) fields ids → all_by (whole_in n) done fields ≡ Ok (done ++ ids)
+all_back n done [] [] h = ap Ok (sym (append-nil done))
+all_back n done [] (id ∷ ids) h = absurd h
+all_back n done (field ∷ fields) [] h = absurd h
+all_back n done (field ∷ fields) (id ∷ ids) h =
+    ap (λ r. r >>= λ x. all_by (whole_in n) (done ++ x ∷ []) fields) (whole_back n field id h.0)
+    ∙ all_back n (done ++ id ∷ []) fields ids h.1 ∙ ap Ok (append_assoc done (id ∷ []) ids)
+
+three_back : (n own : ℕ) (ids : List ℕ) (id count : List ℕ) (others : List (List ℕ)) → whole_in n id ≡ Ok own → whole_in n count ≡ Ok (length ids)
+    → all_by (whole_in n) [] others ≡ Ok ids → IsPredsLine n own (id ∷ count ∷ others) ids → preds_of n own (id ∷ count ∷ others) ≡ Ok ids
+unfolding preds_of
+three_back n own ids id count others e1 e2 e3 h =
+    let width : nat_lt (length (id ∷ count ∷ others)) 2 ≡ false = le-ltb _ 2 (omega arith) in
+    rw (width, e1, e2, e3, eq-eqb own own refl, eq-eqb (length ids) (length ids) refl, stands_not own ids h.are_preds.others, differ_again ids h.are_preds.distinct) refl
+
+pub preds_back : (n own : ℕ) (fields : List (List ℕ)) (ids : List ℕ) → IsPredsLine n own fields ids → preds_of n own fields ≡ Ok ids
+preds_back n own fields ids h =
+    ap (preds_of n own) h.here
+    ∙ three_back n own ids h.id h.count h.others (whole_back n h.id own h.states_id) (whole_back n h.count (length ids) h.states_count)
+    (all_back n [] h.others ids h.states_each) (subst (λ fs. IsPredsLine n own fs ids) h.here h)
+
+abbrev lists_of : ℕ → List (List ℕ) → PrecDraft
+lists_of n lists = record { blocks = n; lists = lists }
+
+preds_from : (n own : ℕ) (lines : List Line) (done lists : List (List ℕ)) → own ≡ length done → ArePredsLines n own lines lists
+    → read_lines admit_preds (lists_of n done) lines ≡ Ok (lists_of n (done ++ lists))
+preds_from n own [] done [] e h = ap (λ all. Ok (lists_of n all)) (sym (append-nil done))
+preds_from n own [] done (ids ∷ lists) e h = absurd h
+preds_from n own (line ∷ lines) done [] e h = absurd h
+preds_from n own (line ∷ lines) done (ids ∷ lists) e h =
+    let here : preds_of n (length done) (fields_of line.text) ≡ Ok ids = preds_back n (length done) (fields_of line.text) ids (subst (λ id. IsPredsLine n id (fields_of line.text) ids) e h.0) in
+    next_line admit_preds (lists_of n done) (lists_of n (done ++ ids ∷ [])) line lines (ap (λ r. r >>= λ x. Ok (lists_of n (done ++ x ∷ []))) here)
+    ∙ preds_from n (own + 1) lines (done ++ ids ∷ []) lists (omega (arith, length-append done (ids ∷ []))) h.1
+    ∙ ap (λ all. Ok (lists_of n all)) (append_assoc done (ids ∷ []) lists)
+
+pub lists_back : (n : ℕ) (text : List ℕ) (lists : List (List ℕ)) → length lists ≡ n → ArePredsLines n 0 (lines_in text) lists → preds_in n text ≡ Ok lists
+lists_back n text lists count h =
+    let all : (length lists == n) ≡ true = eq-eqb (length lists) n count in
+    ap (λ r. r >>= finish_preds (end_of text)) (preds_from n 0 (lines_in text) [] lists refl h) ∙ rw all refl
