@@ -33,5 +33,6 @@ pub mod ValidModel
 pub mod ValidPreds
 pub mod ValidRead
 pub mod WriteFacts
+pub mod FirstBadFacts
 pub mod LinesOfText
 pub mod SpelledBack

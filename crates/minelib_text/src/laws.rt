@@ -1,5 +1,5 @@
 //! What holds of texts, whatever they say: each contract is a law, and a call of it changes nothing.
-ghost use Rattle.std.specs.Prelude.{◌≡◌, ℕ, ◌≤◌, ◌++◌, ◌∷◌, [], All, true, List, length, Ok};
+ghost use Rattle.std.specs.Prelude.{◌≡◌, ◌⊎◌, ℕ, ◌≤◌, ◌++◌, ◌∷◌, [], All, true, List, length, Ok, Err};
 ghost use Rattle.mine_instance.specs.Cpit.{CpitParts, IsCpit};
 ghost use Rattle.mine_instance.specs.OfModel.{instance as instance_of};
 ghost use Rattle.mine_instance.specs.OneSlope.{instance_by};
@@ -7,19 +7,20 @@ ghost use Rattle.mine_instance.specs.Valid.{IsValid};
 ghost use Rattle.mine_instance.specs.declared.instance.Instance.{Instance as OneInstance};
 ghost use Rattle.minelib_text.specs.BlockLines.{blocks_in};
 ghost use Rattle.minelib_text.specs.Denotes.{Denotes, DenotesCpit};
-ghost use Rattle.minelib_text.specs.FirstBad.{AreBlanks, IsFieldText, IsLineText};
+ghost use Rattle.minelib_text.specs.FirstBad.{AreBlanks, IsFirstBad, IsFieldText, IsLineText, LacksLines};
 ghost use Rattle.minelib_text.specs.Kept.{IsKept, IsKeptCpit};
 ghost use Rattle.minelib_text.specs.ModelLines.{ModelDraft, model_in};
 ghost use Rattle.minelib_text.specs.PrecLines.{preds_in};
 ghost use Rattle.minelib_text.specs.SameTexts.{HaveSameTexts};
 ghost use Rattle.minelib_text.specs.Lines.{text_of};
-ghost use Rattle.minelib_text.specs.SpelledBlocks.{AreBlockLines};
+ghost use Rattle.minelib_text.specs.SpelledBlocks.{AreBlockLines, IsBlockLine};
 ghost use Rattle.minelib_text.specs.SpelledModel.{AreModelLines};
-ghost use Rattle.minelib_text.specs.SpelledPrec.{ArePredsLines};
+ghost use Rattle.minelib_text.specs.SpelledPrec.{ArePredsLines, IsPredsLine};
 ghost use Rattle.minelib_text.specs.TextLines.{fields_of, is_ended, lines_in, lines_of};
 ghost use Rattle.minelib_text.specs.Written.{text_blocks, text_prec, text_pcpsp, text_cpit};
 ghost use Rattle.minelib_text.specs.declared.model_key.Problem.{Problem};
 ghost use Rattle.pit_model.specs.Plan.{IsCone, PlanParts};
+ghost use Rattle.minelib_text.specs.declared.text_fault.LineFault.{LineFault};
 ghost use Rattle.pit_model.specs.declared.block.Block.{Block};
 ghost use Rattle.precedence.specs.ConeLaws.{IsEven};
 
@@ -96,6 +97,20 @@ pub fn spelled_blocks_are_read()
 /// Lines that spell the predecessors of n blocks, one a block, are read as these.
 pub fn spelled_preds_are_read()
     ensures { (n : ℕ) (text : List ℕ) (lists : List (List ℕ)) → length lists ≡ n → ArePredsLines n 0 (lines_in text) lists → preds_in n text ≡ Ok lists }
+{}
+
+/// A faulty line of a block file is the first that spells no block behind those before it.
+pub fn faulty_lines_spell_no_block()
+    ensures { (text : List ℕ) (fault : LineFault) → blocks_in text ≡ Err fault
+        → IsFirstBad (λ id line b. IsBlockLine id (fields_of line) b) (lines_in text) fault.line }
+{}
+
+/// A faulty line of a precedence file is the first that spells no predecessors behind those before it, or all lines spell some, and lines
+/// are lacking at the end.
+pub fn faulty_lines_spell_no_preds()
+    ensures { (n : ℕ) (text : List ℕ) (fault : LineFault) → preds_in n text ≡ Err fault
+        → IsFirstBad (λ id line ids. IsPredsLine n id (fields_of line) ids) (lines_in text) fault.line
+        ⊎ LacksLines (λ id line ids. IsPredsLine n id (fields_of line) ids) n text fault }
 {}
 
 /// Lines are what stands between LFs, a last one without LF as well; fields are what stands between runs of blanks.

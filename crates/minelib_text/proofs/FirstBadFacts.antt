@@ -1,0 +1,113 @@
+-- A faulty line is the first that spells nothing behind those before it.
+use Rattle.std.specs.Prelude.{◌≡◌, ◌≢◌, ℕ, ◌+◌, ◌==◌, Bool, true, false, List, [], ◌∷◌, ◌++◌, length, Result, Ok, Err, ◌⊎◌, if◌then◌else◌}
+use Rattle.std.proofs.Common.{refl, sym, ◌∙◌, ap, subst, arith, inl, inr, append_assoc, append-nil, length-append, eq-eqb}
+use Rattle.pit_model.specs.declared.block.Block.{Block}
+use Rattle.minelib_text.specs.BlockLines.{block_of, admit_block, blocks_in}
+use Rattle.minelib_text.specs.FieldValues.{◌>>=◌}
+use Rattle.minelib_text.specs.FirstBad.{IsFirstBad, LacksLines}
+use Rattle.minelib_text.specs.PrecLines.{PrecDraft, no_lists, preds_of, admit_preds, finish_preds, preds_in}
+use Rattle.minelib_text.specs.Reading.{at_line, read_lines}
+use Rattle.minelib_text.specs.SpelledBlocks.{IsBlockLine}
+use Rattle.minelib_text.specs.SpelledLines.{AreLines}
+use Rattle.minelib_text.specs.SpelledPrec.{IsPredsLine}
+use Rattle.minelib_text.specs.TextLines.{Line, fields_of, lines_in, end_of}
+use Rattle.minelib_text.specs.declared.text_fault.LineFault.{LineFault}
+use Rattle.minelib_text.specs.declared.text_fault.TextKind.{TextKind}
+use Rattle.minelib_text.specs.declared.text_fault.TextKind.TheVariants.{Missing}
+use Rattle.minelib_text.proofs.ItemLines.{line_more}
+use Rattle.minelib_text.proofs.SpelledBack.{block_back, preds_back}
+use Rattle.minelib_text.proofs.ValidBlocks.{block_line}
+use Rattle.minelib_text.proofs.ValidPreds.{preds_line}
+
+-- files whose lines each state an item, where a rule reads the item of a number
+module _ {S A : Type 0} (Spells : ℕ → List ℕ → A → Type 0) (state : List A → S) (read : ℕ → List ℕ → Result A TextKind)
+    (admit : S → List ℕ → Result S TextKind)
+    (admits : (items : List A) (line : List ℕ) → admit (state items) line ≡ (read (length items) line >>= λ x. Ok (state (items ++ x ∷ []))))
+    (spelled : (n : ℕ) (line : List ℕ) (x : A) → read n line ≡ Ok x → Spells n line x)
+    (back : (n : ℕ) (line : List ℕ) (x : A) → Spells n line x → read n line ≡ Ok x) where
+  -- what reading finds: all lines spell items, or one is the first that spells none
+  record AllOf (lines : List Line) (s : S) : Type 0 where
+    pub items : List A
+    pub is : s ≡ state items
+    pub are : AreLines Spells 0 lines items
+
+  abbrev Found : List Line → Result S LineFault → Type 0
+  Found lines (Ok s) = AllOf lines s
+  Found lines (Err fault) = IsFirstBad Spells lines fault.line
+
+  find : (done : List Line) (items : List A) (lines : List Line) → AreLines Spells 0 done items → Found (done ++ lines) (read_lines admit (state items) lines)
+  find done items [] are = record { items = items; is = refl; are = subst (λ lines. AreLines Spells 0 lines items) (sym (append-nil done)) are }
+  find done items (line ∷ lines) are =
+      subst (λ r. Found (done ++ line ∷ lines) (at_line line.number r >>= λ next. read_lines admit next lines)) (sym (admits items line.text))
+      (by (λ more all. find (done ++ line ∷ []) (items ++ more ∷ []) lines all) (read (length items) line.text) refl)
+    where
+      counted : (x : A) → Spells (length items) line.text x → Spells (0 + length items) line.text x
+      counted x h = let count : length items ≡ 0 + length items = omega arith in subst (λ id. Spells id line.text x) count h
+
+      by : ((x : A) → AreLines Spells 0 (done ++ line ∷ []) (items ++ x ∷ []) → Found ((done ++ line ∷ []) ++ lines) (read_lines admit (state (items ++ x ∷ [])) lines))
+          → (r : Result A TextKind) → read (length items) line.text ≡ r
+          → Found (done ++ line ∷ lines) (at_line line.number (r >>= λ x. Ok (state (items ++ x ∷ []))) >>= λ next. read_lines admit next lines)
+      by deeper (Ok x) e =
+          subst (λ all. Found all (read_lines admit (state (items ++ x ∷ [])) lines)) (append_assoc done (line ∷ []) lines)
+          (deeper x (line_more Spells 0 done items line x are (counted x (spelled (length items) line.text x e))))
+      by deeper (Err kind) e = record {
+        before = done;
+        bad = line;
+        behind = lines;
+        cut = refl;
+        place = refl;
+        items = items;
+        spelled = are;
+        spells_none = λ x h. absurd (cc (e, back (length items) line.text x h));
+      }
+
+abbrev IsBlockOf : ℕ → List ℕ → Block → Type 0
+IsBlockOf id line b = IsBlockLine id (fields_of line) b
+
+pub bad_block : (text : List ℕ) (fault : LineFault) → blocks_in text ≡ Err fault → IsFirstBad (λ id line b. IsBlockLine id (fields_of line) b) (lines_in text) fault.line
+bad_block text fault e =
+    subst (Found IsBlockOf (λ blocks. blocks) (λ n line. block_of n (fields_of line)) admit_block (λ items line. refl)
+    (λ n line b h. block_line n (fields_of line) b h) (λ n line b h. block_back n (fields_of line) b h) (lines_in text)) e
+    (find IsBlockOf (λ blocks. blocks) (λ n line. block_of n (fields_of line)) admit_block (λ items line. refl)
+    (λ n line b h. block_line n (fields_of line) b h) (λ n line b h. block_back n (fields_of line) b h) [] [] (lines_in text) tt)
+
+abbrev ArePredsIn : ℕ → ℕ → List ℕ → List ℕ → Type 0
+ArePredsIn n id line ids = IsPredsLine n id (fields_of line) ids
+
+abbrev lists_of : ℕ → List (List ℕ) → PrecDraft
+lists_of n lists = record { blocks = n; lists = lists }
+
+pub bad_preds : (n : ℕ) (text : List ℕ) (fault : LineFault) → preds_in n text ≡ Err fault
+    → IsFirstBad (λ id line ids. IsPredsLine n id (fields_of line) ids) (lines_in text) fault.line ⊎ LacksLines (λ id line ids. IsPredsLine n id (fields_of line) ids) n text fault
+bad_preds n text fault e =
+    by (read_lines admit_preds (no_lists n) (lines_in text)) e
+    (find (ArePredsIn n) (lists_of n) (λ own line. preds_of n own (fields_of line)) admit_preds (λ items line. refl)
+    (λ own line ids h. preds_line n own (fields_of line) ids h) (λ own line ids h. preds_back n own (fields_of line) ids h) [] [] (lines_in text) tt)
+  where
+    Here : Result PrecDraft LineFault → Type 0
+    Here r = Found (ArePredsIn n) (lists_of n) (λ own line. preds_of n own (fields_of line)) admit_preds (λ items line. refl)
+        (λ own line ids h. preds_line n own (fields_of line) ids h) (λ own line ids h. preds_back n own (fields_of line) ids h) (lines_in text) r
+
+    err_same : {B : Type 0} (f g : LineFault) → ◌≡◌ {A = Result B LineFault} (Err f) (Err g) → f ≡ g
+    err_same f g e = cc
+
+    lacks : (items : List (List ℕ)) (t : Bool) → (length items == n) ≡ t → AreLines (ArePredsIn n) 0 (lines_in text) items
+        → (if t then Ok items else Err (record { line = end_of text; kind = Missing })) ≡ Err fault
+        → LacksLines (λ id line ids. IsPredsLine n id (fields_of line) ids) n text fault
+    lacks items true test are e = absurd cc
+    lacks items false test are e =
+        let same : record { line = end_of text; kind = Missing } ≡ fault = err_same {B = List (List ℕ)} (record { line = end_of text; kind = Missing }) fault e in
+        record {
+          place = sym (ap (λ (f : LineFault). f.line) same);
+          kind = sym (ap (λ (f : LineFault). f.kind) same);
+          items = items;
+          spelled = are;
+          other_count = λ count. absurd (cc (test, eq-eqb (length items) n count));
+        }
+
+    by : (r : Result PrecDraft LineFault) → (r >>= finish_preds (end_of text)) ≡ Err fault → Here r
+        → IsFirstBad (λ id line ids. IsPredsLine n id (fields_of line) ids) (lines_in text) fault.line ⊎ LacksLines (λ id line ids. IsPredsLine n id (fields_of line) ids) n text fault
+    by (Ok d) e h =
+        let finished : finish_preds (end_of text) (lists_of n h.items) ≡ Err fault = ap (finish_preds (end_of text)) (sym h.is) ∙ e in
+        inr (lacks h.items (length h.items == n) refl h.are finished)
+    by (Err f) e h = inl (subst (λ (g : LineFault). IsFirstBad (λ id line ids. IsPredsLine n id (fields_of line) ids) (lines_in text) g.line) (err_same {B = List (List ℕ)} f fault e) h)
