@@ -1,8 +1,8 @@
 //! The model that standard input gives.
 
-ghost use Rattle.std.specs.Prelude.{◌≡◌, ◌≢◌, ℕ, List, OnOk, IfOk, IfErr};
-ghost use Rattle.pitc.specs.FaultLine.{EndsRefused, status_of_input};
-ghost use Rattle.pitc.specs.Model.{IsModel};
+ghost use Rattle.std.specs.Prelude.{◌≡◌, ℕ, List, OnOk, IfOk, IfErr};
+ghost use Rattle.pitc.specs.FaultLine.{EndsInput, EndsRefused};
+ghost use Rattle.pitc.specs.Model.{IsModel, ModelRefused};
 
 use crate::fault_line::{plan_from, refuse_with};
 use crate::input::{InputFault, read_input};
@@ -20,10 +20,12 @@ pub struct Model {
 }
 
 /// Reads the model from standard input; or answers the status of its refusal, with the line of the fault appended to `lines`.
+#[tactic(auto, using(crate::proofs::Ends::input_refused, crate::proofs::Ends::no_memory_for_pieces, crate::proofs::Ends::piece_refused))]
 pub fn read_model<R: Input>(rt: &R, alloc: Global, lines: &mut Vec<u8>) -> Result<Model, u8>
     ensures model { IfOk result (λ model. (input : List ℕ) × IsModel input model.pieces model.plan) }
     ensures quiet { OnOk result (lines.new.items ≡ lines.old.items) }
     ensures refused { IfErr result (EndsRefused lines.old.items lines.new.items) }
+    ensures told { IfErr result (ModelRefused lines.old.items lines.new.items) }
 {
     let input = match read_input(rt, alloc) {
         Ok(input) => input,
@@ -37,9 +39,10 @@ pub fn read_model<R: Input>(rt: &R, alloc: Global, lines: &mut Vec<u8>) -> Resul
 }
 
 // Appends the line of the input's fault, and answers its status.
+#[tactic(auto, using(crate::proofs::Ends::ends_same))]
 fn refuse_input(alloc: Global, fault: InputFault, lines: &mut Vec<u8>) -> u8
-    ensures status { result ≢ 4 → result ≡ status_of_input fault }
     ensures refused { EndsRefused lines.old.items lines.new.items result }
+    ensures told { EndsInput fault lines.old.items lines.new.items result }
 {
     let (words, status) = match fault {
         InputFault::FeedFailed => ("input: FeedFailed", DEVICE),
