@@ -1,6 +1,8 @@
 pub mod Accepted
 mod Again
+pub mod CheckFaults
 pub mod Commands
+pub mod Ends
 mod FilesRun
 pub mod FoundJob
 mod Joined

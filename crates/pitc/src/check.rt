@@ -1,9 +1,9 @@
 //! The check of the files of an instance.
 
 ghost use Rattle.std.specs.Prelude.{◌≡◌, ◌≢◌, ◌++◌, ℕ, List, IfErr, IfOk};
-ghost use Rattle.pitc.specs.CheckFault.{IsFaultOf, status_of_fault};
+ghost use Rattle.pitc.specs.CheckFault.{EndsCheck, IsCheckStatus, IsFaultOf, IsFound, TellsFault};
 ghost use Rattle.pitc.specs.Counts.{IsCountsLine};
-ghost use Rattle.pitc.specs.FaultLine.{AppendsLine, EndsRefused};
+ghost use Rattle.pitc.specs.FaultLine.{EndsRefused};
 
 use crate::check_fault::CheckFault;
 use crate::counts::Texts;
@@ -21,7 +21,9 @@ mod tests;
 /// Reads `BASE.blocks`, `BASE.prec` and `BASE.pcpsp`, then `BASE.cpit` if it can be opened, and then their texts. Appends the line of
 /// their counts to `out`, or the line of the first fault to `err`, and answers the status that the program ends with.
 ///
-/// Only one of the two vectors grows. For want of memory the status is that of memory, and both are as they were.
+/// The status is 0 where the counts were appended, 1 where a text is too long or has a faulty line, and 3 where a file cannot be opened or read.
+/// Only one of the two vectors grows. For want of memory the status is 4, and both are as they were.
+#[tactic(auto, using(crate::proofs::CheckFaults::status_listed, crate::proofs::CheckFaults::fault_told))]
 pub fn check_files<R: Files>(
     rt: &R,
     alloc: Global,
@@ -32,7 +34,8 @@ pub fn check_files<R: Files>(
     ensures done { result ≡ 0 → (line : List ℕ) × IsCountsLine line × (out.new.items ≡ out.old.items ++ line) }
     ensures quiet { result ≡ 0 → err.new.items ≡ err.old.items }
     ensures refused { result ≢ 0 → out.new.items ≡ out.old.items }
-    ensures told { result ≢ 0 → result ≢ 4 → AppendsLine err.old.items err.new.items }
+    ensures status { IsCheckStatus result }
+    ensures told { result ≢ 0 → result ≢ 4 → TellsFault err.old.items err.new.items result }
     ensures memory { result ≡ 4 → err.new.items ≡ err.old.items }
 {
     match checked(rt, alloc, base) {
@@ -45,9 +48,10 @@ pub fn check_files<R: Files>(
 }
 
 // Appends the line of a fault, and answers its status.
+#[tactic(auto, using(crate::proofs::Ends::ends_same))]
 fn refuse(alloc: Global, fault: CheckFault, lines: &mut Vec<u8>) -> u8
-    ensures status { result ≢ 4 → result ≡ status_of_fault fault }
     ensures refused { EndsRefused lines.old.items lines.new.items result }
+    ensures told { EndsCheck fault lines.old.items lines.new.items result }
 {
     let status = match fault {
         CheckFault::FeedFailed(_) => DEVICE,
@@ -61,8 +65,10 @@ fn refuse(alloc: Global, fault: CheckFault, lines: &mut Vec<u8>) -> u8
 }
 
 // The line of the counts of the files.
+#[tactic(auto, using(crate::proofs::CheckFaults::found_in_file, crate::proofs::CheckFaults::found_in_texts, crate::proofs::CheckFaults::no_memory_found))]
 fn checked<R: Files>(rt: &R, alloc: Global, base: &str) -> Result<String, CheckFault>
-    ensures { IfOk result (λ line. IsCountsLine line.bytes.items) }
+    ensures counts { IfOk result (λ line. IsCountsLine line.bytes.items) }
+    ensures fault { IfErr result IsFound }
 {
     let texts = Texts {
         blocks: text_of(rt, alloc, base, TextFile::Blocks)?,

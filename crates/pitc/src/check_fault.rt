@@ -2,23 +2,36 @@
 
 use minelib_text::text_fault::{ReadTextError, TextFault, TextFile};
 use std::alloc::AllocError;
+use std::fmt;
 use thiserror::Error;
 
 /// Why the files of an instance are refused.
 #[derive(Clone, Copy, Debug, Error, PartialEq, Eq)]
 pub enum CheckFault {
     /// A file cannot be opened, or cannot be read.
-    #[error("{0}: FeedFailed")]
     FeedFailed(TextFile),
     /// A file has more bytes than a file may have.
-    #[error("{0}: TooLong")]
     TooLong(TextFile),
     /// A text has a faulty line.
-    #[error("{0}")]
     Text(TextFault),
     /// Memory was refused.
-    #[error("OutOfMemory")]
     OutOfMemory,
+}
+
+impl fmt::Display for CheckFault {
+    ghost use Rattle.std.specs.Prelude.{Some};
+    ghost use Rattle.pitc.specs.CheckFault.{check_text};
+
+    ghost output = { λ fault. Some (check_text fault) };
+
+    fn fmt<W: fmt::Write>(&self, f: &mut fmt::Formatter<W>) -> fmt::Result {
+        match self {
+            CheckFault::FeedFailed(file) => write!(f, "{file}: FeedFailed"),
+            CheckFault::TooLong(file) => write!(f, "{file}: TooLong"),
+            CheckFault::Text(fault) => write!(f, "{fault}"),
+            CheckFault::OutOfMemory => f.write_str("OutOfMemory"),
+        }
+    }
 }
 
 impl From<AllocError> for CheckFault {

@@ -3,7 +3,7 @@
 ghost use Rattle.std.specs.Prelude.{◌≡◌, ◌≢◌, ◌≤◌, ◌++◌, ◌∷◌, ℕ, List, [], Ok, codes, length, string_bytes, vec_len, IfOk, IfErr, OnOk};
 ghost use Rattle.pit_model.specs.Destinations.{formulas_of};
 ghost use Rattle.pit_model.specs.Planned.{planned};
-ghost use Rattle.pitc.specs.Compile.{EndsRefusedCompile, HasRows, NotCompiled, TellsRows, ZonesRefused, rows_line, zone_fault};
+ghost use Rattle.pitc.specs.Compile.{EndsPlanFile, EndsRefusedCompile, HasRows, NotCompiled, PlanFileRefused, TellsRows, ZonesRefused, rows_line, zone_fault};
 ghost use Rattle.pitc.specs.FaultLine.{EndsRefused, EndsWith};
 
 use crate::fault_line::{MAX_PLAN_BYTES, plan_from, refuse_run, refuse_with};
@@ -112,6 +112,7 @@ fn sinks_of<'a, R: Files>(
 ///
 /// A file that cannot be opened or read is `plan: FeedFailed`. Where memory is refused the status is that of memory, and `lines` is as it
 /// was.
+#[tactic(auto, using(crate::proofs::Ends::plan_file_refused, crate::proofs::Ends::plan_text_refused))]
 pub fn read_plan_file<R: Files>(
     rt: &R,
     alloc: Global,
@@ -121,6 +122,7 @@ pub fn read_plan_file<R: Files>(
     ensures plan { IfOk result (λ plan. (text : List ℕ) × (length text ≤ 1048576) × (planned text ≡ Ok plan)) }
     ensures quiet { OnOk result (lines.new.items ≡ lines.old.items) }
     ensures refused { IfErr result (EndsRefused lines.old.items lines.new.items) }
+    ensures told { IfErr result (PlanFileRefused lines.old.items lines.new.items) }
 {
     match text_of(rt, alloc, path) {
         Ok(text) => plan_from(alloc, text.as_slice(), lines),
@@ -129,8 +131,10 @@ pub fn read_plan_file<R: Files>(
 }
 
 // Appends the line of the fault of a plan's file, and answers its status.
+#[tactic(auto, using(crate::proofs::Ends::ends_same))]
 fn refuse_plan(alloc: Global, fault: SlurpFault, lines: &mut Vec<u8>) -> u8
-    ensures { EndsRefused lines.old.items lines.new.items result }
+    ensures refused { EndsRefused lines.old.items lines.new.items result }
+    ensures told { EndsPlanFile fault lines.old.items lines.new.items result }
 {
     let (words, status) = match fault {
         SlurpFault::FeedFailed => ("plan: FeedFailed", DEVICE),

@@ -2,7 +2,8 @@
 
 ghost use Rattle.std.specs.Prelude.{◌≡◌, ◌≤◌, ◌++◌, length, Ok, IfOk, IfErr, OnOk, OnErr};
 ghost use Rattle.pit_model.specs.Planned.{planned};
-ghost use Rattle.pitc.specs.FaultLine.{AppendsLine, EndsRun, EndsWith, PlanRefused, line_of, status_of};
+ghost use Rattle.pitc.specs.FaultLine.{EndsRefused, EndsRun, EndsWith, PlanRefused, line_of, status_of};
+ghost use Rattle.pit_compile.specs.FaultText.{refusal_text};
 
 use crate::status::{DEVICE, REFUSED, RESOURCES, USAGE};
 use pit_compile::refusal::Refusal;
@@ -18,10 +19,12 @@ pub const MAX_PLAN_BYTES: usize = 1_048_576;
 ///
 /// A text of more than 1,048,576 bytes is `plan: TooLong`. Where memory is refused, for the plan or for the line, the status is that of
 /// memory and `lines` is as it was.
+#[tactic(auto, using(crate::proofs::Ends::plan_told))]
 pub fn plan_from(alloc: Global, text: &[u8], lines: &mut Vec<u8>) -> Result<Plan, u8>
     ensures plan { IfOk result (λ plan. (length text.now ≤ 1048576) × (planned text.now ≡ Ok plan)) }
     ensures quiet { OnOk result (lines.new.items ≡ lines.old.items) }
     ensures refused { IfErr result (PlanRefused text.now lines.old.items lines.new.items) }
+    ensures ends { IfErr result (EndsRefused lines.old.items lines.new.items) }
 {
     if text.len() > MAX_PLAN_BYTES {
         return Err(refuse_with(alloc, "plan: TooLong", REFUSED, lines));
@@ -42,7 +45,7 @@ pub fn plan_from(alloc: Global, text: &[u8], lines: &mut Vec<u8>) -> Result<Plan
 /// `lines` is as it was.
 pub fn refusal_line(alloc: Global, refusal: &Refusal, lines: &mut Vec<u8>) -> Result<u8, AllocError>
     ensures status { IfOk result (λ status. status ≡ status_of refusal.now) }
-    ensures appends { OnOk result (AppendsLine lines.old.items lines.new.items) }
+    ensures appends { OnOk result (lines.new.items ≡ lines.old.items ++ line_of (refusal_text refusal.now)) }
     ensures err { OnErr result (lines.new.items ≡ lines.old.items) }
 {
     let words = format!(in alloc; "{refusal}")?;

@@ -4,7 +4,8 @@
 //! output. `pitc compile` does so from files to files. `pitc check BASE` reads the files of an instance and prints its counts.
 #![tactic(auto)]
 
-ghost use Rattle.std.specs.Prelude.{◌≡◌, ◌≤◌, ◌^◌};
+ghost use Rattle.std.specs.Prelude.{◌≡◌, ◌≢◌, ◌≤◌, ◌^◌, ◌⊎◌};
+ghost use Rattle.std.specs.Process.{exit_status};
 ghost use Rattle.pit_model.specs.Plan.{IsRuled};
 ghost use Rattle.pit_model.specs.Worth.{worth, mill, dump};
 
@@ -120,12 +121,17 @@ fn main(rt: HostRuntime) -> ExitCode {
 }
 
 // Writes what the run left, and ends it.
-fn end(rt: &HostRuntime, status: u8, text: &[u8], lines: &[u8]) -> ExitCode {
+fn end(rt: &HostRuntime, status: u8, text: &[u8], lines: &[u8]) -> ExitCode
+    ensures refused { status ≢ 0 → exit_status result ≡ status }
+    ensures done { status ≡ 0 → (exit_status result ≡ 0) ⊎ (exit_status result ≡ 3) }
+{
     finish(&rt.stdout(), &rt.stderr(), status, text, lines)
 }
 
 // Ends a run that is refused memory.
-fn out_of_memory(rt: &HostRuntime) -> ExitCode {
+fn out_of_memory(rt: &HostRuntime) -> ExitCode
+    ensures { exit_status result ≡ 4 }
+{
     end(rt, RESOURCES, &[], &[])
 }
 

@@ -1,8 +1,8 @@
 //! The model that standard input gives.
 
-ghost use Rattle.std.specs.Prelude.{◌≡◌, ◌≢◌, ℕ, List, OnOk, IfOk, IfErr};
-ghost use Rattle.pitc.specs.FaultLine.{EndsRefused, status_of_input};
-ghost use Rattle.pitc.specs.Model.{HasTooManyFiles, IsCutRefused, IsModel};
+ghost use Rattle.std.specs.Prelude.{◌≡◌, ℕ, List, OnOk, IfOk, IfErr};
+ghost use Rattle.pitc.specs.FaultLine.{EndsInput, EndsRefused};
+ghost use Rattle.pitc.specs.Model.{CutRefused, IsModel, ModelRefused};
 ghost use Rattle.pitc.specs.Pieces.{plan_of, zones_of};
 
 use crate::fault_line::{plan_from, refuse_run, refuse_with};
@@ -28,11 +28,12 @@ pub struct Model {
 /// Reads the model from standard input; or answers the status of its refusal, with the line of the fault appended to `lines`.
 ///
 /// An input of more zone files than its plan has zones is refused here, as the run would refuse it: so no list of them is held.
+#[tactic(auto, using(crate::proofs::Ends::input_refused, crate::proofs::Ends::files_refused, crate::proofs::Ends::piece_refused))]
 pub fn read_model<R: Input>(rt: &R, alloc: Global, lines: &mut Vec<u8>) -> Result<Model, u8>
     ensures model { IfOk result (λ model. (input : List ℕ) × IsModel input model.pieces model.plan) }
     ensures quiet { OnOk result (lines.new.items ≡ lines.old.items) }
     ensures refused { IfErr result (EndsRefused lines.old.items lines.new.items) }
-    ensures settings { IfErr result (λ status. status ≡ 2 → (input : List ℕ) × HasTooManyFiles input) }
+    ensures told { IfErr result (ModelRefused lines.old.items lines.new.items) }
 {
     let input = match read_input(rt, alloc) {
         Ok(input) => input,
@@ -44,10 +45,12 @@ pub fn read_model<R: Input>(rt: &R, alloc: Global, lines: &mut Vec<u8>) -> Resul
 }
 
 // The pieces of an input, if it has at most as many zone files as the plan has zones; or the status of the refusal.
+#[tactic(auto, using(crate::proofs::Ends::ended_by_two))]
 fn pieces_for(alloc: Global, input: &[u8], plan: &Plan, lines: &mut Vec<u8>) -> Result<Pieces, u8>
     ensures pieces { IfOk result (λ pieces. (pieces.plan ≡ plan_of input.now) × (pieces.zones ≡ zones_of input.now)) }
     ensures quiet { OnOk result (lines.new.items ≡ lines.old.items) }
-    ensures refused { IfErr result (IsCutRefused input.now plan.now lines.old.items lines.new.items) }
+    ensures refused { IfErr result (EndsRefused lines.old.items lines.new.items) }
+    ensures told { IfErr result (CutRefused input.now plan.now lines.old.items lines.new.items) }
 {
     match cut_at_most(alloc, input, plan.cones().len()) {
         Ok(Some(pieces)) => Ok(pieces),
@@ -57,10 +60,10 @@ fn pieces_for(alloc: Global, input: &[u8], plan: &Plan, lines: &mut Vec<u8>) -> 
 }
 
 // Appends the line of the input's fault, and answers its status.
+#[tactic(auto, using(crate::proofs::Ends::ends_same))]
 fn refuse_input(alloc: Global, fault: InputFault, lines: &mut Vec<u8>) -> u8
-    ensures status { result ≢ 4 → result ≡ status_of_input fault }
-    ensures not_settings { result ≢ 2 }
     ensures refused { EndsRefused lines.old.items lines.new.items result }
+    ensures told { EndsInput fault lines.old.items lines.new.items result }
 {
     let (words, status) = match fault {
         InputFault::FeedFailed => ("input: FeedFailed", DEVICE),

@@ -1,5 +1,8 @@
 //! The statuses that the program ends with.
 
+ghost use Rattle.std.specs.Prelude.{◌≡◌, ◌≢◌, ◌⊎◌};
+ghost use Rattle.std.specs.Process.{exit_status};
+
 use std::io::Print;
 use std::process::ExitCode;
 
@@ -25,7 +28,10 @@ pub fn finish<O: Print, E: Print>(
     status: u8,
     text: &[u8],
     lines: &[u8],
-) -> ExitCode {
+) -> ExitCode
+    ensures refused { status ≢ 0 → exit_status result ≡ status }
+    ensures done { status ≡ 0 → (exit_status result ≡ 0) ⊎ (exit_status result ≡ 3) }
+{
     if status != 0 {
         let _ = if lines.is_empty() {
             errors.write_all(b"pitc: OutOfMemory\n")

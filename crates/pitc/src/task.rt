@@ -1,7 +1,8 @@
 //! A model to be compiled, by the pipe form or from files to files.
 
 ghost use Rattle.std.specs.Prelude.{◌≡◌, ◌≢◌};
-ghost use Rattle.pitc.specs.Task.{IsTaskDone, plan_in};
+ghost use Rattle.pit_model.specs.Destinations.{formulas_of};
+ghost use Rattle.pitc.specs.Task.{IsTaskDone, IsTaskRefused, plan_in};
 
 use crate::compile::compile_files;
 use crate::model::Model;
@@ -54,6 +55,7 @@ impl Task {
         ensures done { result ≡ 0 → IsTaskDone self.now text.old.items text.new.items }
         ensures quiet { result ≡ 0 → lines.new.items ≡ lines.old.items }
         ensures kept { result ≢ 0 → text.new.items ≡ text.old.items }
+        ensures refused { result ≢ 0 → IsTaskRefused self.now (formulas_of destinations.now) lines.old.items lines.new.items result }
     {
         match self {
             Task::Pipe(model) => run_pipe(rt, alloc, model, destinations, text, lines),

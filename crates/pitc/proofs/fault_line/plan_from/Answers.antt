@@ -1,12 +1,12 @@
-use Rattle.std.proofs.Common.{inl, inr, ⊎_elim}
+use Rattle.std.proofs.Common.{inl}
 use Rattle.std.specs.Prelude.{codes}
+use Rattle.pitc.proofs.Ends.{ended_by_one}
 use Rattle.pitc.proofs.fault_line.plan_from.Goals as goal
 
--- src/fault_line.rt:27:9
 pub returns-then-text-gt-MAX_PLAN_BYTES-clause-refused :
     goal.returns-then-text-gt-MAX_PLAN_BYTES-clause-refused
-returns-then-text-gt-MAX_PLAN_BYTES-clause-refused c =
-    ⊎_elim
-    (λ told. inl (told.0, (codes "plan: TooLong", told.1), inl c.if-text-gt-MAX_PLAN_BYTES.true))
-    (λ refused. inr refused)
-    c.refuse_with.ensures
+returns-then-text-gt-MAX_PLAN_BYTES-clause-refused c = inl (c.if-text-gt-MAX_PLAN_BYTES.true, c.refuse_with.ensures)
+
+pub returns-then-text-gt-MAX_PLAN_BYTES-clause-ends :
+    goal.returns-then-text-gt-MAX_PLAN_BYTES-clause-ends
+returns-then-text-gt-MAX_PLAN_BYTES-clause-ends c = ended_by_one (codes "plan: TooLong") _ _ _ c.refuse_with.ensures
