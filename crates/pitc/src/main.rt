@@ -9,6 +9,8 @@ ghost use Rattle.std.specs.Process.{exit_status};
 ghost use Rattle.pit_model.specs.Plan.{IsRuled};
 ghost use Rattle.pit_model.specs.Worth.{worth, mill, dump};
 
+#[cfg(test)]
+mod callers;
 pub mod check;
 pub mod check_fault;
 pub mod command_line;
@@ -27,6 +29,8 @@ pub mod pipe_run;
 pub mod printing;
 pub mod status;
 pub mod task;
+#[cfg(test)]
+mod test_models;
 pub mod words;
 
 use crate::check::check_files;

@@ -1,38 +1,16 @@
-ghost use Rattle.std.specs.Prelude.{◌≡◌};
-ghost use Rattle.pit_model.specs.Plan.{IsRuled};
-ghost use Rattle.pit_model.specs.Worth.{worth};
-
 use super::pipe;
 use crate::fault_line::{plan_from, refusal_line};
 use crate::piece::Piece;
 use crate::pieces::cut;
+use crate::test_models::destinations_of;
 use pit_compile::refusal::Refusal;
 use pit_compile::settings::SettingsFault;
-use pit_model::block::Block;
-use pit_model::destination::{Destination, Valuer};
 use pit_model::plan::Plan;
 use pit_model::read_plan;
 use std::alloc::Global;
 use std::sync::Wait;
 use std::test::Fail;
 use std::thread::Threads;
-
-// The destinations of a plan, in its order.
-fn destinations_of(alloc: Global, plan: &Plan) -> Result<Vec<Destination>, Fail> {
-    let mut destinations = Vec::new(alloc);
-    for named in plan.formulas() {
-        let kept = named.formula.copy(alloc)?;
-        let valuer: Valuer = Box::new(
-            alloc,
-            move |block: Block| -> i128
-                requires { IsRuled kept }
-                ensures { result ≡ worth kept block }
-            { kept.worth(block) },
-        )?;
-        destinations.push(Destination::new(named.formula.copy(alloc)?, valuer))?;
-    }
-    Ok(destinations)
-}
 
 // What the pipe form prints for an input, or the line of its fault.
 fn answer_to<R: Threads + Wait + Sync>(

@@ -1,0 +1,116 @@
+//! Callers of the crates below, as docs/calling.md shows them.
+
+ghost use Rattle.std.specs.Prelude.{◌≡◌, [], ◌∷◌, length, sum_by, Err, IfErr, IfOk, OnOk};
+ghost use Rattle.mine_instance.specs.declared.instance.Instance.{Instance as AnInstance};
+ghost use Rattle.minelib_text.specs.Denotes.{Denotes, denoted};
+ghost use Rattle.minelib_text.specs.Reading.{Reads};
+ghost use Rattle.minelib_text.specs.Written.{text_blocks};
+ghost use Rattle.pit_compile.specs.Compiled.{instance_from};
+ghost use Rattle.pit_compile.specs.Verdict.{IsAccepted};
+
+use crate::test_models::destinations_of;
+use minelib_text::mem_sink::MemSink;
+use minelib_text::read_instance;
+use minelib_text::text_fault::ReadTextError;
+use pit_compile::refusal::Refusal;
+use pit_compile::run;
+use pit_compile::settings::Settings;
+use pit_compile::sinks::Sinks;
+use pit_model::destination::Destination;
+use pit_model::plan::Plan;
+use pit_model::read_plan;
+use std::alloc::Global;
+use std::sync::Wait;
+use std::test::Fail;
+use std::thread::Threads;
+use valuers::OpenGate;
+use zone_csv::slice_feed::SliceFeed;
+
+/// The number of arcs of the instance that three texts denote: pairs of a block and one that it has to wait for.
+///
+/// # Errors
+///
+/// The first faulty line of the texts, or that memory was refused.
+pub fn count_arcs(
+    alloc: Global,
+    blocks: &[u8],
+    prec: &[u8],
+    pcpsp: &[u8],
+) -> Result<usize, ReadTextError>
+    ensures arcs { IfOk result (λ arcs. (i : AnInstance) × Denotes blocks.now prec.now pcpsp.now i × (arcs ≡ sum_by length i.preds)) }
+    ensures refused { IfErr result (λ error. Reads (Err error) (denoted blocks.now prec.now pcpsp.now)) }
+{
+    let instance = read_instance(alloc, blocks, prec, pcpsp)?;
+    Ok(instance.arcs())
+}
+
+/// The block file of the instance of a plan with one zone, whose rows two threads value.
+///
+/// # Errors
+///
+/// Those of `run`.
+pub fn block_file<R: Threads + Wait + Sync>(
+    rt: &R,
+    alloc: Global,
+    plan: &Plan,
+    destinations: &[Destination],
+    zone: &[u8],
+) -> Result<Vec<u8>, Refusal>
+    ensures accepted { OnOk result (IsAccepted plan.now (zone.now ∷ [])) }
+    ensures text { IfOk result (λ text. text.items ≡ text_blocks (instance_from plan.now (zone.now ∷ []))) }
+{
+    let Ok(feeds) = Vec::from_array(alloc, [SliceFeed::new(zone)]) else {
+        return Err(Refusal::OutOfMemory);
+    };
+    let mut sinks = Sinks {
+        blocks: MemSink::new(alloc),
+        prec: MemSink::new(alloc),
+        upit: MemSink::new(alloc),
+        pcpsp: MemSink::new(alloc),
+        cpit: MemSink::new(alloc),
+    };
+    let settings = Settings {
+        valuers: 2,
+        capacity: 64,
+    };
+    let _gathered = run(
+        rt,
+        alloc,
+        feeds,
+        plan,
+        destinations,
+        settings,
+        &OpenGate,
+        &mut sinks,
+    )?;
+    Ok(sinks.blocks.bytes().to_vec(alloc)?)
+}
+
+const TWO_BLOCKS: &[u8] = b"0 0 0 0 1 0 0\n1 0 0 1 1 0 0\n";
+
+const TWO_PCPSP: &[u8] =
+    b"NAME: two\nTYPE: PCPSP\nNBLOCKS: 2\nNPERIODS: 1\nNDESTINATIONS: 1\nNRESOURCE_SIDE_CONSTRAINTS: 0\nNGENERAL_SIDE_CONSTRAINTS: 0\nDISCOUNT_RATE: 0.1\nOBJECTIVE_FUNCTION:\n0 -15\n1 -15\nRESOURCE_CONSTRAINT_COEFFICIENTS:\nRESOURCE_CONSTRAINT_LIMITS:\n";
+
+#[test]
+fn arcs_are_counted(rt: HostRuntime) {
+    let one = count_arcs(rt.alloc(), TWO_BLOCKS, b"0 1 1\n1 0\n", TWO_PCPSP);
+    assert!(rt; matches!(one, Ok(1)));
+    let none = count_arcs(rt.alloc(), TWO_BLOCKS, b"0 2 1\n1 0\n", TWO_PCPSP);
+    assert!(rt; none.is_err());
+}
+
+const ONE_ZONE: &[u8] =
+    b"name,one\ngrid,0,0,0,10,10,10\nzone,1,1,1\nmill,mill,900,600,1500\nperiods,1\nrate,0.1\n";
+
+const ORE: &[u8] = b"x,y,z,tonnes,grade\n0,0,0,1000,5000\n";
+
+#[test]
+fn one_ore_block(rt: HostRuntime) -> Result<(), Fail> {
+    let plan = read_plan(rt.alloc(), ONE_ZONE)?;
+    let destinations = destinations_of(rt.alloc(), &plan)?;
+    let Ok(text) = block_file(&rt, rt.alloc(), &plan, destinations.as_slice(), ORE) else {
+        return Err("refused")?;
+    };
+    assert!(rt; text.as_slice() == b"0 0 0 0 1000 5000 0\n".as_slice());
+    Ok(())
+}
