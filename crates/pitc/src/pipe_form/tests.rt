@@ -1,12 +1,7 @@
 use super::pipe;
 use crate::fault_line::{plan_from, refusal_line};
-use crate::piece::Piece;
 use crate::pieces::cut;
 use crate::test_models::destinations_of;
-use pit_compile::refusal::Refusal;
-use pit_compile::settings::SettingsFault;
-use pit_model::plan::Plan;
-use pit_model::read_plan;
 use std::alloc::Global;
 use std::sync::Wait;
 use std::test::Fail;
@@ -218,74 +213,5 @@ fn worked_examples(rt: HostRuntime) -> Result<(), Fail> {
             .any(|lines| lines == part.as_slice());
         assert!(rt; found, "{name}");
     }
-    Ok(())
-}
-
-// The plan of a text whose lines end in bars here.
-fn plan_of(alloc: Global, bars: &str) -> Result<Plan, Fail> {
-    let text = with_lines(alloc, bars)?;
-    match read_plan(alloc, text.as_slice()) {
-        Ok(plan) => Ok(plan),
-        Err(_) => Err("a plan")?,
-    }
-}
-
-const OF_MILL: &str =
-    "name,one|grid,0,0,0,10,10,10|zone,1,1,1|mill,mill,900,600,1500|periods,1|rate,0.1|";
-
-// Destinations of another plan are refused, and nothing is printed.
-#[test]
-fn destinations_of_another_plan(rt: HostRuntime) -> Result<(), Fail> {
-    let plan = plan_of(rt.alloc(), OF_MILL)?;
-    let other = plan_of(
-        rt.alloc(),
-        "name,one|grid,0,0,0,10,10,10|zone,1,1,1|dump,waste,150|periods,1|rate,0.1|",
-    )?;
-    let strange = destinations_of(rt.alloc(), &other)?;
-    let zone = with_lines(rt.alloc(), "x,y,z,tonnes,grade|0,0,0,1000,5000|")?;
-    let zones = [Piece::new(zone)];
-    let mut text = with_lines(rt.alloc(), "kept|")?;
-    let answer = pipe(
-        &rt,
-        rt.alloc(),
-        &zones,
-        &plan,
-        strange.as_slice(),
-        &mut text,
-    );
-    assert!(rt; matches!(answer, Err(Refusal::Settings(SettingsFault::Destinations))));
-    assert_eq!(rt; text.as_slice(), b"kept\n".as_slice());
-    Ok(())
-}
-
-// A plan with a zone and no zone file is refused, whatever the destinations.
-#[test]
-fn files_of_another_plan(rt: HostRuntime) -> Result<(), Fail> {
-    let plan = plan_of(rt.alloc(), OF_MILL)?;
-    let mut text = with_lines(rt.alloc(), "kept|")?;
-    let answer = pipe(&rt, rt.alloc(), &[], &plan, &[], &mut text);
-    assert!(rt; matches!(answer, Err(Refusal::Settings(SettingsFault::Files))));
-    assert_eq!(rt; text.as_slice(), b"kept\n".as_slice());
-    Ok(())
-}
-
-// The fault is the least file's, however late it comes.
-#[test]
-fn late_fault_in_file_0(rt: HostRuntime) -> Result<(), Fail> {
-    let mut input = with_lines(
-        rt.alloc(),
-        "name,one|grid,0,0,0,10,10,10|zone,1,1,1|zone,1,1,1|mill,mill,900,600,1500|periods,1|rate,0.1|--|x,y,z,tonnes,grade|",
-    )?;
-    for row in 0..898u32 {
-        let line = format!(in rt.alloc(); "{},{},0,1,0\n", row % 30 * 10, row / 30 * 10)?;
-        input.extend_from_slice(line.as_bytes())?;
-    }
-    let rest = with_lines(rt.alloc(), "0,0,0,1,?|--|x,y,z,tonnes,grade|0,0,0,1,?|")?;
-    input.extend_from_slice(rest.as_slice())?;
-    let text = answer_to(&rt, rt.alloc(), input.as_slice())?;
-    assert_eq!(rt;
-        text.as_slice(),
-        b"pitc: file 0 row 900 column grade: Number\n".as_slice()
-    );
     Ok(())
 }
