@@ -45,7 +45,6 @@ pub fn read_model<R: Input>(rt: &R, alloc: Global, lines: &mut Vec<u8>) -> Resul
 }
 
 // The pieces of an input, if it has at most as many zone files as the plan has zones; or the status of the refusal.
-#[tactic(auto, using(crate::proofs::Ends::ended_by_two))]
 fn pieces_for(alloc: Global, input: &[u8], plan: &Plan, lines: &mut Vec<u8>) -> Result<Pieces, u8>
     ensures pieces { IfOk result (λ pieces. (pieces.plan ≡ plan_of input.now) × (pieces.zones ≡ zones_of input.now)) }
     ensures quiet { OnOk result (lines.new.items ≡ lines.old.items) }

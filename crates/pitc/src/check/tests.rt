@@ -17,7 +17,7 @@ fn put(rt: &HostRuntime, base: &str, end: &str, text: &str) -> Result<(), Fail> 
 
 // Takes away the files that a test wrote.
 fn clear(rt: &HostRuntime, base: &str) -> Result<(), Fail> {
-    for end in ["blocks", "prec", "pcpsp", "cpit"] {
+    for end in ["blocks", "prec", "pcpsp"] {
         let path = format!(in rt.alloc(); "{base}.{end}")?;
         if fs::exists(rt, path.as_str())? {
             fs::remove_file(rt, path.as_str())?;
@@ -48,29 +48,11 @@ fn files_that_are_not_there(rt: HostRuntime) -> Result<(), Fail> {
     clear(&rt, base)
 }
 
-const ONE_PCPSP: &str =
-    "NAME: one\nTYPE: PCPSP\nNBLOCKS: 1\nNPERIODS: 1\nNDESTINATIONS: 1\nNRESOURCE_SIDE_CONSTRAINTS: 0\nNGENERAL_SIDE_CONSTRAINTS: 0\nDISCOUNT_RATE: 0.1\nOBJECTIVE_FUNCTION:\n0 12000\nRESOURCE_CONSTRAINT_COEFFICIENTS:\nRESOURCE_CONSTRAINT_LIMITS:\n";
-
-const ONE_CPIT: &str =
-    "NAME: one\nTYPE: CPIT\nNBLOCKS: 1\nNPERIODS: 1\nNRESOURCE_SIDE_CONSTRAINTS: 0\nDISCOUNT_RATE: 0.1\nOBJECTIVE_FUNCTION:\n0 12000\nRESOURCE_CONSTRAINT_COEFFICIENTS:\nRESOURCE_CONSTRAINT_LIMITS:\n";
-
 // Writes the three files that have to be there.
 fn put_all(rt: &HostRuntime, base: &str, texts: [&str; 3]) -> Result<(), Fail> {
     put(rt, base, "blocks", texts[0])?;
     put(rt, base, "prec", texts[1])?;
     put(rt, base, "pcpsp", texts[2])
-}
-
-#[test]
-fn one_ore_block(rt: HostRuntime) -> Result<(), Fail> {
-    let base = "one_ore_block";
-    put_all(&rt, base, ["0 0 0 0 1000 5000 0\n", "0 0\n", ONE_PCPSP])?;
-    assert!(rt; told(&rt, base)?.as_str() == "blocks 1 arcs 0 coefficients 0 limits 0\n0");
-    put(&rt, base, "cpit", ONE_CPIT)?;
-    assert!(rt; told(&rt, base)?.as_str() == "blocks 1 arcs 0 coefficients 0 limits 0 cpit 0\n0");
-    put(&rt, base, "cpit", ONE_PCPSP)?;
-    assert!(rt; told(&rt, base)?.as_str() == "pitc: cpit line 2: Name\n1");
-    clear(&rt, base)
 }
 
 #[test]

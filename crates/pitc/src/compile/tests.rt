@@ -1,8 +1,7 @@
-use super::{compile_files, open_zones, read_plan_file};
+use super::{compile_files, read_plan_file};
 use crate::check::check_files;
 use crate::test_models::destinations_of;
 use pit_compile::settings::Settings;
-use pit_model::plan::Plan;
 use pit_model::read_plan;
 use std::alloc::Global;
 use std::fs;
@@ -34,29 +33,6 @@ fn plans_that_cannot_be_read(rt: HostRuntime) -> Result<(), Fail> {
     Ok(())
 }
 
-#[test]
-fn zones_that_cannot_be_opened(rt: HostRuntime) -> Result<(), Fail> {
-    let alloc = rt.alloc();
-    fs::write(&rt, "open.csv", "x,y,z,tonnes,grade\n")?;
-    let mut zones = Vec::new(alloc);
-    let mut lines = Vec::new(alloc);
-    for _ in 0..3 {
-        zones.push(String::from_str(alloc, "open.csv")?)?;
-    }
-    match open_zones(&rt, alloc, zones.as_slice(), &mut lines) {
-        Ok(feeds) => assert!(rt; feeds.len() == 3 && lines.is_empty()),
-        Err(_) => return Err("refused")?,
-    }
-    zones.push(String::from_str(alloc, "no/such.csv")?)?;
-    match open_zones(&rt, alloc, zones.as_slice(), &mut lines) {
-        Ok(_) => return Err("opened")?,
-        Err(status) => assert!(rt; status == 3),
-    }
-    assert!(rt; lines.as_slice() == b"pitc: file 3: FeedFailed\n".as_slice());
-    fs::remove_file(&rt, "open.csv")?;
-    Ok(())
-}
-
 const ONE_ZONE: &str =
     "name,one\ngrid,0,0,0,10,10,10\nzone,1,1,1\nmill,mill,900,600,1500\nperiods,1\nrate,0.1\n";
 
@@ -65,9 +41,6 @@ const TWO_ZONES: &str =
 
 const LIMITED_PLAN: &str =
     "name,one\ngrid,0,0,0,10,10,10\nzone,1,1,1\nmill,mill,900,600,1500\ndump,dump,200\nperiods,2\nrate,0.1\nresource,plant,mill\nlimit,plant,1,I,0,900\nlimit,plant,0,L,500.5\n";
-
-const WASTE_PLAN: &str =
-    "name,waste\ngrid,0,0,0,10,10,10\nzone,1,1,1\ndump,dump,200\nperiods,1\nrate,0.1\n";
 
 const ORE: &str = "x,y,z,tonnes,grade\n0,0,0,1000,5000\n";
 
@@ -154,43 +127,7 @@ fn settings(valuers: usize, capacity: usize) -> Settings {
     Settings { valuers, capacity }
 }
 
-fn plan_of(alloc: Global, text: &str) -> Result<Plan, Fail> {
-    Ok(read_plan(alloc, text.as_bytes())?)
-}
-
-// What a compile with the destinations of some plan told, and its status.
-fn told_of<R: Files + Threads + Wait + Sync>(
-    rt: &R,
-    alloc: Global,
-    plan: &Plan,
-    valued: &Plan,
-    settings: Settings,
-    base: &str,
-    zones: &[String],
-) -> Result<String, Fail>
-where
-    R::File: Send,
-{
-    let destinations = destinations_of(alloc, valued)?;
-    let mut out = Vec::new(alloc);
-    let mut err = Vec::new(alloc);
-    let status = compile_files(
-        rt,
-        alloc,
-        plan,
-        destinations.as_slice(),
-        settings,
-        base,
-        zones,
-        &mut out,
-        &mut err,
-    );
-    let printed = String::from_utf8(out)?;
-    let lines = String::from_utf8(err)?;
-    Ok(format!(in alloc; "{printed}{lines}{status}")?)
-}
-
-// The same with the plan's own destinations.
+// What a compile told, and its status.
 fn told<R: Files + Threads + Wait + Sync>(
     rt: &R,
     alloc: Global,
@@ -202,8 +139,24 @@ fn told<R: Files + Threads + Wait + Sync>(
 where
     R::File: Send,
 {
-    let plan = plan_of(alloc, plan)?;
-    told_of(rt, alloc, &plan, &plan, settings, base, zones)
+    let plan = read_plan(alloc, plan.as_bytes())?;
+    let destinations = destinations_of(alloc, &plan)?;
+    let mut out = Vec::new(alloc);
+    let mut err = Vec::new(alloc);
+    let status = compile_files(
+        rt,
+        alloc,
+        &plan,
+        destinations.as_slice(),
+        settings,
+        base,
+        zones,
+        &mut out,
+        &mut err,
+    );
+    let printed = String::from_utf8(out)?;
+    let lines = String::from_utf8(err)?;
+    Ok(format!(in alloc; "{printed}{lines}{status}")?)
 }
 
 // What a check of the files told, and its status.
@@ -342,32 +295,6 @@ fn models_that_are_refused(rt: HostRuntime) -> Result<(), Fail> {
     clear(&rt, base)
 }
 
-// The mill plan with the destinations of the waste plan.
-#[test]
-fn destinations_of_another_plan(rt: HostRuntime) -> Result<(), Fail> {
-    let base = "strange";
-    put_older(&rt, base)?;
-    let paths = put_zones(&rt, base, &[ORE])?;
-    let plan = plan_of(rt.alloc(), ONE_ZONE)?;
-    let other = plan_of(rt.alloc(), WASTE_PLAN)?;
-    let found = told_of(
-        &rt,
-        rt.alloc(),
-        &plan,
-        &other,
-        settings(4, 64),
-        base,
-        paths.as_slice(),
-    )?;
-    assert!(rt;
-        found.as_str() == "pitc: settings: Destinations\n2",
-        "{found}"
-    );
-    assert!(rt; are_older(&rt, base)?);
-    clear(&rt, base)?;
-    clear_zones(&rt, paths.as_slice())
-}
-
 fn paths_of(alloc: Global, names: &[&str]) -> Result<Vec<String>, Fail> {
     let mut all = Vec::new(alloc);
     for name in names {
@@ -379,9 +306,14 @@ fn paths_of(alloc: Global, names: &[&str]) -> Result<Vec<String>, Fail> {
 // Zones of a plan of one zone, the base of the files, and what is told. A zone that cannot be opened comes before the settings.
 const FAILING: [(&[&str], &str, &str); 5] = [
     (
-        &["failing.0.csv", "no/such.csv"],
+        &[
+            "failing.0.csv",
+            "failing.0.csv",
+            "failing.0.csv",
+            "no/such.csv",
+        ],
         "failing",
-        "pitc: file 1: FeedFailed\n3",
+        "pitc: file 3: FeedFailed\n3",
     ),
     (
         &["no/such.csv", "."],
