@@ -24,6 +24,7 @@ use zone_csv::mem_feed::MemFeed;
 
 mod devices;
 mod examples;
+mod random_runs;
 mod schedules;
 
 // The first record of each zone file.
