@@ -10,8 +10,6 @@ pub mod refusal;
 mod running;
 pub mod settings;
 pub mod sinks;
-#[cfg(test)]
-mod tests;
 mod writing;
 
 pub use compiling::{Compiled, compile};

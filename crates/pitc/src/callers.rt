@@ -8,7 +8,7 @@ ghost use Rattle.minelib_text.specs.Written.{text_blocks};
 ghost use Rattle.pit_compile.specs.Compiled.{instance_from};
 ghost use Rattle.pit_compile.specs.Verdict.{IsAccepted};
 
-use crate::test_models::destinations_of;
+use crate::tests::models::destinations_of;
 use minelib_text::mem_sink::MemSink;
 use minelib_text::read_instance;
 use minelib_text::text_fault::ReadTextError;

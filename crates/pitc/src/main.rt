@@ -11,36 +11,17 @@ ghost use Rattle.pit_model.specs.Worth.{worth, mill, dump};
 
 #[cfg(test)]
 mod callers;
-pub mod check;
-pub mod check_fault;
-pub mod command_line;
-pub mod compile;
-pub mod counts;
-pub mod fault_line;
-pub mod input;
-pub mod job;
-pub mod jobs;
-pub mod laws;
-pub mod model;
-pub mod piece;
-pub mod pieces;
-pub mod pipe_form;
-pub mod pipe_run;
-pub mod printing;
-pub mod status;
-pub mod task;
 #[cfg(test)]
-mod test_models;
-pub mod words;
+mod tests;
 
-use crate::check::check_files;
-use crate::compile::read_plan_file;
-use crate::job::job;
-use crate::jobs::{Job, JobFault};
-use crate::model::read_model;
-use crate::status::{RESOURCES, USAGE, finish};
-use crate::task::Task;
-use crate::words::words_of;
+use pit_commands::check::check_files;
+use pit_commands::compile::read_plan_file;
+use pit_commands::job::job;
+use pit_commands::jobs::{Job, JobFault};
+use pit_commands::model::read_model;
+use pit_commands::status::{RESOURCES, USAGE, finish};
+use pit_commands::task::Task;
+use pit_commands::words::words_of;
 use pit_model::block::Block;
 use pit_model::destination::{Destination, Valuer};
 use pit_model::formula::Formula;

@@ -1,0 +1,36 @@
+-- What clap's contract says of the program's own command line.
+use Rattle.std.proofs.Common.{◌≡◌, ◌∙◌, List, [], None, Ok, Option, Result, inl, inr, refl, subst, sym, true}
+use Rattle.clap.proofs.OnLiterals.{clap_on_literals}
+use Rattle.clap.specs.Words.{App, FailsBy, HasKind, IsAmong, Kinds, Row, Text, fault_of, is_simple_and_free, kind_of, subcommand_of}
+use Rattle.clap.specs.declared.error.Error.{Error}
+use Rattle.pit_commands.specs.CommandLine.{Finds, FindsIfAny, HandsOn, RefusesWords, program}
+use Rattle.pit_commands.specs.declared.jobs.Job.{Job}
+use Rattle.pit_commands.specs.declared.jobs.JobFault.{JobFault}
+use Rattle.pit_commands.specs.declared.jobs.JobFault.TheVariants.{OutOfMemory, Line}
+
+is_free : is_simple_and_free program ≡ true
+unfolding clap_on_literals
+is_free = refl
+
+-- a parse of the program's command line fails by the faults that clap has for the words
+pub program_fails : {T : Type 0} (app : App) (words : List Text) (r : Result T Error) → app ≡ program
+    → (is_simple_and_free app ≡ true → FailsBy (fault_of app words) r) → FailsBy (fault_of program words) r
+program_fails app words r same fails = subst (λ a. is_simple_and_free a ≡ true → FailsBy (fault_of a words) r) same fails is_free
+
+-- where there are matches there is no fault
+pub no_fault : {T : Type 0} (kinds : Kinds) (r : Result T Error) (m : T) → FailsBy kinds r → r ≡ Ok m → kinds ≡ []
+no_fault kinds r m fails is = subst (FailsBy kinds) is fails
+
+-- an error that is handed on is one of the words'
+pub handed_on : (words : List Text) (error : Error) (fault : JobFault) → HasKind (fault_of program words) error → HandsOn error fault → RefusesWords words fault
+handed_on words error OutOfMemory has on = tt
+handed_on words error (Line same) (inl memory) on = absurd (on.1 memory)
+handed_on words error (Line same) (inr among) on = inl (subst (λ e. IsAmong (kind_of e) (fault_of program words)) (sym on.0) among)
+
+-- and so is any where no job was found
+pub no_job_found : (words : List Text) (found : Option (Text × List Row)) (answer : Option Job) (fault : JobFault) → FindsIfAny found answer → answer ≡ None
+    → found ≡ subcommand_of program words → RefusesWords words fault
+no_job_found words found answer OutOfMemory finds none same = tt
+no_job_found words found answer (Line error) finds none same =
+    let at_none : FindsIfAny found None = subst (FindsIfAny found) none finds in
+    inr (subst (λ f. (job : Job) → Finds f job → ⊥) same at_none)

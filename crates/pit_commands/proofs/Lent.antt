@@ -1,0 +1,72 @@
+-- Zone files that are lent to a run: it reads just these, and no feed of them fails.
+use Rattle.std.proofs.Common.{◌≡◌, ℕ, zero, suc, Bool, true, false, List, [], ◌∷◌, length, map, Option, Some, None, IfSome, Result, Ok, Err, refl, ap, ◌∙◌, subst}
+use Rattle.std.specs.List.{AllZip}
+use Rattle.std.specs.Prelude.{slice_get}
+use Rattle.pit_compile.specs.Compiled.{AreGiven, HasPassed, IsVerdict, IsFeedFault, IsNotCompiled}
+use Rattle.pit_compile.specs.Settings.{IsSettingsFault, Suits}
+use Rattle.pit_compile.specs.Verdict.{IsRefusedBy}
+use Rattle.pit_compile.specs.declared.refusal.Refusal.{Refusal}
+use Rattle.pit_compile.specs.declared.refusal.Refusal.TheVariants.{Settings, NoThread, FeedFailed, TooLong, Row, Same, SinkFailed, OutOfMemory}
+use Rattle.pit_compile.specs.declared.settings.Settings as set
+use Rattle.pit_compile.specs.declared.settings.SettingsFault.{SettingsFault}
+use Rattle.pit_compile.specs.declared.settings.SettingsFault.TheVariants.{Files, Valuers, Capacity, Destinations}
+use Rattle.pit_model.specs.Plan.{PlanParts}
+use Rattle.pit_model.specs.declared.formula.Formula.{Formula}
+use Rattle.pit_commands.specs.Printed.{pipe_settings, PipeRefused}
+
+same_texts : (zones texts : List (List ℕ)) → AreGiven (map Some zones) texts → texts ≡ zones
+same_texts [] [] h = refl
+same_texts [] (text ∷ texts) h = absurd h
+same_texts (zone ∷ zones) [] h = absurd h
+same_texts (zone ∷ zones) (text ∷ texts) h = ap (λ t. t ∷ texts) h.0 ∙ ap (λ ts. zone ∷ ts) (same_texts zones texts h.1)
+
+pub given_texts : (lefts : List (Option (List ℕ))) (zones texts : List (List ℕ)) → lefts ≡ map Some zones → AreGiven lefts texts → texts ≡ zones
+given_texts lefts zones texts e given = same_texts zones texts (subst (λ ls. AreGiven ls texts) e given)
+
+none_unsure : (zones : List (List ℕ)) (k : ℕ) → slice_get (map (λ _. true) zones) k ≡ Some false → ⊥
+none_unsure [] k h = absurd cc
+none_unsure (zone ∷ zones) zero h = absurd cc
+none_unsure (zone ∷ zones) (suc k) h = none_unsure zones k h
+
+module _ (plan : PlanParts) (formulas : List Formula) (zones : List (List ℕ)) (lefts : List (Option (List ℕ))) (sures : List Bool) (left : lefts ≡ map Some zones) (sure : sures ≡ map (λ _. true) zones) where
+  by_verdict : (refusal : Refusal) → IsVerdict plan lefts refusal → IsRefusedBy plan zones refusal
+  by_verdict refusal h = subst (λ texts. IsRefusedBy plan texts refusal) (given_texts lefts zones h.texts left h.given) h.refused
+
+  pub refused_by : (refusal : Refusal)
+      → ((kind : SettingsFault) → refusal ≡ Settings kind → IsSettingsFault plan (length zones) formulas pipe_settings kind)
+      → IsNotCompiled plan lefts sures refusal → PipeRefused plan formulas zones refusal
+  refused_by (Settings kind) settings h = settings kind refl
+  refused_by NoThread settings h = _
+  refused_by (FeedFailed file) settings h = none_unsure zones file (subst (λ us. slice_get us file ≡ Some false) sure h.unsure)
+  refused_by (TooLong file) settings h = by_verdict (TooLong file) h
+  refused_by (Row file fault) settings h = by_verdict (Row file fault) h
+  refused_by (Same first again) settings h = by_verdict (Same first again) h
+  refused_by (SinkFailed which) settings h = h
+  refused_by OutOfMemory settings h = _
+
+-- settings that suit have no fault
+pub none_where_suits : (plan : PlanParts) (files : ℕ) (formulas : List Formula) (settings : set.Settings) (kind : SettingsFault)
+    → Suits plan files formulas settings → IsSettingsFault plan files formulas settings kind → ⊥
+none_where_suits plan files formulas settings Files fit h = h fit.files_fit
+none_where_suits plan files formulas settings Valuers fit h = h.1 fit.valuers_fit
+none_where_suits plan files formulas settings Capacity fit h = h.2 fit.capacity_fits
+none_where_suits plan files formulas settings Destinations fit h = h.3 fit.destinations_fit
+
+-- the refusal of an answer, and the settings' fault of a refusal
+abbrev pub refusal_in : {A : Type 0} → Result A Refusal → Refusal
+refusal_in (Ok done) = OutOfMemory
+refusal_in (Err refusal) = refusal
+
+abbrev pub fault_in : {A : Type 0} → Result A SettingsFault → SettingsFault
+fault_in (Ok done) = Files
+fault_in (Err fault) = fault
+
+abbrev pub kind_in : Refusal → SettingsFault
+kind_in (Settings kind) = kind
+kind_in NoThread = Files
+kind_in (FeedFailed file) = Files
+kind_in (TooLong file) = Files
+kind_in (Row file fault) = Files
+kind_in (Same first again) = Files
+kind_in (SinkFailed which) = Files
+kind_in OutOfMemory = Files

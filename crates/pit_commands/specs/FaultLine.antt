@@ -1,0 +1,70 @@
+-- The line that the program writes of a fault, and the status that it ends with.
+use Rattle.std.specs.Prelude.{◌≡◌, ◌≢◌, ℕ, ◌<◌, ◌≤◌, ◌++◌, ◌⊎◌, List, [], ◌∷◌, length, Err, codes}
+use Rattle.pit_model.specs.FaultText.{fault_text as plan_fault_text}
+use Rattle.pit_model.specs.Planned.{planned}
+use Rattle.pit_model.specs.declared.plan_fault.PlanFault.{PlanFault}
+use Rattle.pit_commands.specs.declared.input.InputFault.{InputFault}
+use Rattle.pit_commands.specs.declared.input.InputFault.TheVariants as input
+use Rattle.pit_compile.specs.FaultText.{refusal_text}
+use Rattle.pit_compile.specs.declared.refusal.Refusal.{Refusal}
+use Rattle.pit_compile.specs.declared.refusal.Refusal.TheVariants.{Settings, NoThread, FeedFailed, TooLong, Row, Same, SinkFailed, OutOfMemory}
+
+-- 1 for a refused model, 2 for settings, 3 for a feed or a sink that failed, 4 where a thread or memory was refused
+abbrev pub status_of : Refusal → ℕ
+status_of (Settings kind) = 2
+status_of NoThread = 4
+status_of (FeedFailed file) = 3
+status_of (TooLong file) = 1
+status_of (Row file fault) = 1
+status_of (Same first again) = 1
+status_of (SinkFailed which) = 3
+status_of OutOfMemory = 4
+
+-- 1 for an input that is too long, 3 for one that cannot be read, 4 for want of memory
+abbrev pub status_of_input : InputFault → ℕ
+status_of_input input.FeedFailed = 3
+status_of_input input.TooLong = 1
+status_of_input input.OutOfMemory = 4
+
+-- the words that show why an input was not read
+abbrev pub input_text : InputFault → List ℕ
+input_text input.FeedFailed = codes "input: FeedFailed"
+input_text input.TooLong = codes "input: TooLong"
+input_text input.OutOfMemory = codes "OutOfMemory"
+
+-- a line of these words: the program's name before them and a line feed behind
+abbrev pub line_of : List ℕ → List ℕ
+line_of words = codes "pitc: " ++ words ++ 10 ∷ []
+
+-- one line was appended
+abbrev pub AppendsLine : List ℕ → List ℕ → Type 0
+AppendsLine old new = (words : List ℕ) × (new ≡ old ++ line_of words)
+
+-- the run ends with this status, a line of these words appended; or with that of refused memory, and no line stands
+abbrev pub EndsWith : ℕ → List ℕ → List ℕ → List ℕ → ℕ → Type 0
+EndsWith status words old new answered = ((answered ≡ status) × (new ≡ old ++ line_of words)) ⊎ ((answered ≡ 4) × (new ≡ old))
+
+-- the run is refused: a line was appended, or memory was refused and no line stands
+abbrev pub EndsRefused : List ℕ → List ℕ → ℕ → Type 0
+EndsRefused old new status = (status ≢ 0) × (status ≢ 4 → AppendsLine old new) × (status ≡ 4 → new ≡ old)
+
+-- the run ends with this refusal, its status and its line; or memory was refused, and no line stands
+abbrev pub EndsRun : Refusal → List ℕ → List ℕ → ℕ → Type 0
+EndsRun refusal old new status = EndsWith (status_of refusal) (refusal_text refusal) old new status
+
+-- the run ends with this fault of the input, its status and its line; or memory was refused, and no line stands
+abbrev pub EndsInput : InputFault → List ℕ → List ℕ → ℕ → Type 0
+EndsInput fault old new status = EndsWith (status_of_input fault) (input_text fault) old new status
+
+-- a text of more than 1,048,576 bytes gives no plan, and a line says so; or memory was refused, and no line stands
+abbrev pub PlanTooLong : List ℕ → List ℕ → List ℕ → ℕ → Type 0
+PlanTooLong text old new status = (1048576 < length text) × EndsWith 1 (codes "plan: TooLong") old new status
+
+-- a shorter text states no plan, and the line of its fault says so
+abbrev pub PlanFaulty : List ℕ → List ℕ → List ℕ → ℕ → Type 0
+PlanFaulty text old new status =
+    (length text ≤ 1048576) × (status ≡ 1) × ((fault : PlanFault) × (planned text ≡ Err fault) × (new ≡ old ++ line_of (plan_fault_text fault)))
+
+-- why a text gives no plan: it is too long; or it has a fault; or memory was refused, and no line stands
+abbrev pub PlanRefused : List ℕ → List ℕ → List ℕ → ℕ → Type 0
+PlanRefused text old new status = PlanTooLong text old new status ⊎ (PlanFaulty text old new status ⊎ ((status ≡ 4) × (new ≡ old)))

@@ -1,0 +1,35 @@
+-- The model that an input gives, and why one gives none.
+use Rattle.std.specs.Prelude.{◌≡◌, ℕ, ◌<◌, ◌≤◌, ◌⊎◌, List, length, Ok}
+use Rattle.pit_compile.specs.declared.refusal.Refusal.TheVariants.{Settings}
+use Rattle.pit_compile.specs.declared.settings.SettingsFault.TheVariants.{Files}
+use Rattle.pit_model.specs.Planned.{planned}
+use Rattle.pit_model.specs.declared.plan.Plan.{Plan}
+use Rattle.pit_commands.specs.FaultLine.{EndsInput, EndsRun, PlanRefused}
+use Rattle.pit_commands.specs.Pieces.{Cutting, plan_of, zones_of}
+use Rattle.pit_commands.specs.declared.input.InputFault.{InputFault}
+
+-- an input of at most 256 MiB is cut into these pieces, of which the first, of at most 1 MiB, states the plan
+abbrev pub IsModel : List ℕ → Cutting → Plan → Type 0
+IsModel input pieces plan =
+    (length input ≤ 268435456)
+    × ((pieces.plan ≡ plan_of input) × (pieces.zones ≡ zones_of input))
+    × ((length pieces.plan ≤ 1048576) × (planned pieces.plan ≡ Ok plan))
+
+-- an input has more zone files than this plan has zones, and the run ends so
+abbrev pub FilesRefused : List ℕ → Plan → List ℕ → List ℕ → ℕ → Type 0
+FilesRefused input plan old new status = (length plan.cones < length (zones_of input)) × EndsRun (Settings Files) old new status
+
+-- why an input is not cut for a plan: it has too many zone files; or memory was refused, and no line stands
+abbrev pub CutRefused : List ℕ → Plan → List ℕ → List ℕ → ℕ → Type 0
+CutRefused input plan old new status = FilesRefused input plan old new status ⊎ ((status ≡ 4) × (new ≡ old))
+
+-- the first piece of an input gives no plan; or it states a plan with fewer zones than there are further pieces
+abbrev pub PiecesRefused : List ℕ → List ℕ → List ℕ → ℕ → Type 0
+PiecesRefused input old new status =
+    PlanRefused (plan_of input) old new status ⊎ ((plan : Plan) × (planned (plan_of input) ≡ Ok plan) × FilesRefused input plan old new status)
+
+-- the input was not read; or the pieces of some input of at most 256 MiB give no model
+abbrev pub ModelRefused : List ℕ → List ℕ → ℕ → Type 0
+ModelRefused old new status =
+    ((fault : InputFault) × EndsInput fault old new status)
+    ⊎ ((input : List ℕ) × (length input ≤ 268435456) × PiecesRefused input old new status)

@@ -1,0 +1,113 @@
+//! The check of the files of an instance.
+
+ghost use Rattle.std.specs.Prelude.{◌≡◌, ◌≢◌, ◌++◌, ℕ, List, IfErr, IfOk};
+ghost use Rattle.pit_commands.specs.CheckFault.{EndsCheck, IsCheckStatus, IsFaultOf, IsFound, TellsFault};
+ghost use Rattle.pit_commands.specs.Counts.{IsCountsLine};
+ghost use Rattle.pit_commands.specs.FaultLine.{EndsRefused};
+
+use crate::check_fault::CheckFault;
+use crate::counts::Texts;
+use crate::fault_line::refuse_with;
+use crate::status::{DEVICE, REFUSED, RESOURCES};
+use minelib_text::text_fault::TextFile;
+use std::alloc::Global;
+use std::rt::Files;
+use zone_csv::file_feed::FileFeed;
+use zone_csv::slurp::{GREATEST_LIMIT, SlurpFault, slurp};
+
+/// Reads `BASE.blocks`, `BASE.prec` and `BASE.pcpsp`, then `BASE.cpit` if it can be opened, and then their texts. Appends the line of
+/// their counts to `out`, or the line of the first fault to `err`, and answers the status that the program ends with.
+///
+/// The status is 0 where the counts were appended, 1 where a text is too long or has a faulty line, and 3 where a file cannot be opened or read.
+/// Only one of the two vectors grows. For want of memory the status is 4, and both are as they were.
+#[tactic(auto, using(crate::proofs::CheckFaults::status_listed, crate::proofs::CheckFaults::fault_told))]
+pub fn check_files<R: Files>(
+    rt: &R,
+    alloc: Global,
+    base: &str,
+    out: &mut Vec<u8>,
+    err: &mut Vec<u8>,
+) -> u8
+    ensures done { result ≡ 0 → (line : List ℕ) × IsCountsLine line × (out.new.items ≡ out.old.items ++ line) }
+    ensures quiet { result ≡ 0 → err.new.items ≡ err.old.items }
+    ensures refused { result ≢ 0 → out.new.items ≡ out.old.items }
+    ensures status { IsCheckStatus result }
+    ensures told { result ≢ 0 → result ≢ 4 → TellsFault err.old.items err.new.items result }
+    ensures memory { result ≡ 4 → err.new.items ≡ err.old.items }
+{
+    match checked(rt, alloc, base) {
+        Ok(line) => match out.extend_from_slice(line.as_bytes()) {
+            Ok(()) => 0,
+            Err(_) => RESOURCES,
+        },
+        Err(fault) => refuse(alloc, fault, err),
+    }
+}
+
+// Appends the line of a fault, and answers its status.
+#[tactic(auto, using(crate::proofs::Ends::ends_same))]
+fn refuse(alloc: Global, fault: CheckFault, lines: &mut Vec<u8>) -> u8
+    ensures refused { EndsRefused lines.old.items lines.new.items result }
+    ensures told { EndsCheck fault lines.old.items lines.new.items result }
+{
+    let status = match fault {
+        CheckFault::FeedFailed(_) => DEVICE,
+        CheckFault::TooLong(_) | CheckFault::Text(_) => REFUSED,
+        CheckFault::OutOfMemory => return RESOURCES,
+    };
+    let Ok(words) = format!(in alloc; "{fault}") else {
+        return RESOURCES;
+    };
+    refuse_with(alloc, words.as_str(), status, lines)
+}
+
+// The line of the counts of the files.
+#[tactic(auto, using(crate::proofs::CheckFaults::found_in_file, crate::proofs::CheckFaults::found_in_texts, crate::proofs::CheckFaults::no_memory_found))]
+fn checked<R: Files>(rt: &R, alloc: Global, base: &str) -> Result<String, CheckFault>
+    ensures counts { IfOk result (λ line. IsCountsLine line.bytes.items) }
+    ensures fault { IfErr result IsFound }
+{
+    let texts = Texts {
+        blocks: text_of(rt, alloc, base, TextFile::Blocks)?,
+        prec: text_of(rt, alloc, base, TextFile::Prec)?,
+        pcpsp: text_of(rt, alloc, base, TextFile::Pcpsp)?,
+        cpit: text_if_there(rt, alloc, base, TextFile::Cpit)?,
+    };
+    let counts = texts.counts(alloc)?;
+    Ok(format!(in alloc; "{counts}\n")?)
+}
+
+fn text_of<R: Files>(
+    rt: &R,
+    alloc: Global,
+    base: &str,
+    file: TextFile,
+) -> Result<Vec<u8>, CheckFault>
+    ensures { IfErr result (IsFaultOf file) }
+{
+    match text_if_there(rt, alloc, base, file)? {
+        Some(text) => Ok(text),
+        None => Err(CheckFault::FeedFailed(file)),
+    }
+}
+
+// The text of a file, or `None` where it cannot be opened.
+fn text_if_there<R: Files>(
+    rt: &R,
+    alloc: Global,
+    base: &str,
+    file: TextFile,
+) -> Result<Option<Vec<u8>>, CheckFault>
+    ensures { IfErr result (IsFaultOf file) }
+{
+    let path = format!(in alloc; "{base}.{file}")?;
+    let Ok(mut feed) = FileFeed::open(rt, path.as_str()) else {
+        return Ok(None);
+    };
+    match slurp(alloc, &mut feed, GREATEST_LIMIT) {
+        Ok(text) => Ok(Some(text)),
+        Err(SlurpFault::FeedFailed) => Err(CheckFault::FeedFailed(file)),
+        Err(SlurpFault::TooLong) => Err(CheckFault::TooLong(file)),
+        Err(SlurpFault::OutOfMemory) => Err(CheckFault::OutOfMemory),
+    }
+}

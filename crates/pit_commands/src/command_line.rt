@@ -1,0 +1,142 @@
+//! The command line that the program takes.
+
+ghost use Rattle.std.specs.Prelude.{◌≡◌, false, IfOk};
+ghost use Rattle.clap.specs.Words.{app_of, rule_of};
+ghost use Rattle.clap.specs.declared.builder.Command.TheViews.{out-Command as fields_of};
+ghost use Rattle.pit_commands.specs.CommandLine.{capacity_word, check_words, compile_words, out_word, plan_word, program, valuers_word, zone_word};
+
+use clap::{Arg, Command, value_parser};
+use std::alloc::{AllocError, Global};
+
+const ABOUT: &str = "Turns the block models of an open pit mine into a MineLib instance.
+
+With no words, pitc reads a plan and then its zone files from standard input, cut at each line that is
+exactly `--`, and prints the five texts of the instance, each under a line that begins with `== `.
+It reads up to the end of its input: a terminal that brings nothing is yours to end (Ctrl-D).";
+
+const AFTER: &str = "Examples:
+  pitc < march.txt
+      reads the plan, and behind each line `--` a zone file, from march.txt
+  pitc compile --plan march.plan --out out/march north.csv south.csv
+      writes the files of the instance, out/march.blocks and so on
+  pitc check out/march
+      reads these files and prints their counts
+
+Statuses:
+  0  done, also where help or the version was asked for
+  1  a plan, a model or a text is refused, or an input is too long
+  2  the words are refused, or there are not as many zone files as the plan has zones
+  3  an input cannot be opened or read, or an output cannot be written
+  4  memory or a thread was refused";
+
+const AFTER_COMPILE: &str = "Example:
+  pitc compile --plan march.plan --out out/march north.csv south.csv
+      reads the plan and its zone files, one for each zone of the plan and in its order,
+      writes out/march.blocks, out/march.prec, out/march.upit, out/march.pcpsp and out/march.cpit,
+      replacing what is there, and prints `rows N`, the number of blocks";
+
+const AFTER_CHECK: &str = "Example:
+  pitc check out/march
+      reads out/march.blocks, out/march.prec and out/march.pcpsp, and out/march.cpit where it is there,
+      and prints `blocks N arcs M coefficients C limits L`, and ` cpit P` behind it where there is a cpit file";
+
+/// The program's command line. With no words at all the program reads a model from standard input.
+pub fn command_line<'a>(alloc: Global) -> Result<Command<'a>, AllocError>
+    ensures { IfOk result (λ command. app_of command ≡ program) }
+{
+    let compile = compile_command(alloc)?;
+    let check = check_command(alloc)?;
+    Command::new(alloc, "pitc")
+        .about(ABOUT)
+        .after_help(AFTER)
+        .version("0.1.0")
+        .override_usage("pitc\n       pitc <COMMAND>")
+        .subcommand_required(true)
+        .subcommand(compile)?
+        .subcommand(check)
+}
+
+fn compile_command<'a>(alloc: Global) -> Result<Command<'a>, AllocError>
+    ensures words { IfOk result (λ command. app_of command ≡ compile_words) }
+    ensures own { IfOk result (λ command. (fields_of command).has_globals ≡ false) }
+{
+    Command::new(alloc, "compile")
+        .about("Writes the files of the instance of a plan and its zone files")
+        .after_help(AFTER_COMPILE)
+        .arg(plan_option(alloc))?
+        .arg(out_option(alloc))?
+        .arg(valuers_option(alloc))?
+        .arg(capacity_option(alloc))?
+        .arg(zones(alloc))
+}
+
+fn plan_option<'a>(alloc: Global) -> Arg<'a>
+    ensures rule { rule_of result ≡ plan_word }
+    ensures local { result.global ≡ false }
+{
+    Arg::new(alloc, "plan")
+        .long("plan")
+        .value_name("P")
+        .required(true)
+        .help("The file of the plan")
+}
+
+fn out_option<'a>(alloc: Global) -> Arg<'a>
+    ensures rule { rule_of result ≡ out_word }
+    ensures local { result.global ≡ false }
+{
+    Arg::new(alloc, "out")
+        .long("out")
+        .value_name("BASE")
+        .required(true)
+        .help("What the paths of the files that are written begin with")
+}
+
+fn valuers_option<'a>(alloc: Global) -> Arg<'a>
+    ensures rule { rule_of result ≡ valuers_word }
+    ensures local { result.global ≡ false }
+{
+    Arg::new(alloc, "valuers")
+        .long("valuers")
+        .value_name("N")
+        .default_value("4")
+        .value_parser(value_parser!(usize).range(1..=64))
+        .help("How many threads value blocks, from 1 to 64")
+}
+
+fn capacity_option<'a>(alloc: Global) -> Arg<'a>
+    ensures rule { rule_of result ≡ capacity_word }
+    ensures local { result.global ≡ false }
+{
+    Arg::new(alloc, "capacity")
+        .long("capacity")
+        .value_name("N")
+        .default_value("64")
+        .value_parser(value_parser!(usize).range(1..=4096))
+        .help("How many blocks wait between the threads, from 1 to 4096")
+}
+
+fn zones<'a>(alloc: Global) -> Arg<'a>
+    ensures rule { rule_of result ≡ zone_word }
+    ensures local { result.global ≡ false }
+{
+    Arg::new(alloc, "zone")
+        .value_name("ZONE")
+        .num_args(1..)
+        .required(true)
+        .help("The zone files, one for each zone of the plan, in its order")
+}
+
+fn check_command<'a>(alloc: Global) -> Result<Command<'a>, AllocError>
+    ensures words { IfOk result (λ command. app_of command ≡ check_words) }
+    ensures own { IfOk result (λ command. (fields_of command).has_globals ≡ false) }
+{
+    let base = Arg::new(alloc, "base")
+        .value_name("BASE")
+        .required(true)
+        .help("What the paths of the files begin with");
+    Command::new(alloc, "check")
+        .about("Reads the files of an instance and prints its counts")
+        .after_help(AFTER_CHECK)
+        .arg(base)
+}

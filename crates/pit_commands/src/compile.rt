@@ -1,0 +1,216 @@
+//! From the files of a plan and its zones to the files of an instance.
+
+ghost use Rattle.std.specs.Prelude.{◌≡◌, ◌≢◌, ◌≤◌, ◌++◌, ◌∷◌, ℕ, List, [], Ok, codes, length, string_bytes, vec_len, IfOk, IfErr, OnOk};
+ghost use Rattle.pit_model.specs.Destinations.{formulas_of};
+ghost use Rattle.pit_model.specs.Planned.{planned};
+ghost use Rattle.pit_commands.specs.Compile.{EndsPlanFile, EndsRefusedCompile, HasRows, NotCompiled, PlanFileRefused, TellsRows, ZonesRefused, rows_line, zone_fault};
+ghost use Rattle.pit_commands.specs.FaultLine.{EndsRefused, EndsWith};
+
+use crate::fault_line::{MAX_PLAN_BYTES, plan_from, refuse_run, refuse_with};
+use crate::status::{DEVICE, REFUSED, RESOURCES};
+use minelib_text::file_sink::FileSink;
+use minelib_text::sink::Sink;
+use pit_compile::refusal::Refusal;
+use pit_compile::run;
+use pit_compile::settings::Settings;
+use pit_compile::sinks::Sinks;
+use pit_model::destination::Destination;
+use pit_model::plan::Plan;
+use std::alloc::{AllocError, Global};
+use std::rt::Files;
+use std::sync::Wait;
+use std::thread::Threads;
+use valuers::OpenGate;
+use zone_csv::feed::Feed;
+use zone_csv::file_feed::FileFeed;
+use zone_csv::slurp::{SlurpFault, slurp};
+
+/// Compiles the zone files, which are opened in order, and writes the instance to the files `BASE.blocks`, `BASE.prec`, `BASE.upit`,
+/// `BASE.pcpsp` and `BASE.cpit`, each of which replaces what is there. Appends the line `rows N` to `out`, N being the number of rows over all
+/// zone files, or the line of the refusal to `err`, and answers the status that the program ends with.
+///
+/// The first zone file that cannot be opened is refused before anything else. No file is begun before all blocks are known to be different;
+/// where a file then fails, those before it are whole. Only one of the two vectors grows. For want of memory the status is that of memory, and
+/// both are as they were.
+pub fn compile_files<R: Files + Threads + Wait + Sync>(
+    rt: &R,
+    alloc: Global,
+    plan: &Plan,
+    destinations: &[Destination],
+    settings: Settings,
+    base: &str,
+    zones: &[String],
+    out: &mut Vec<u8>,
+    err: &mut Vec<u8>,
+) -> u8
+where
+    R::File: Send,
+    ensures done { result ≡ 0 → TellsRows plan.now (length zones.now) out.old.items out.new.items }
+    ensures quiet { result ≡ 0 → err.new.items ≡ err.old.items }
+    ensures kept { result ≢ 0 → out.new.items ≡ out.old.items }
+    ensures refused { result ≢ 0
+        → EndsRefusedCompile plan.now (length zones.now) (formulas_of destinations.now) settings err.old.items err.new.items result }
+{
+    let feeds = match open_zones(rt, alloc, zones, err) {
+        Ok(feeds) => feeds,
+        Err(status) => return status,
+    };
+    let Ok(mut sinks) = sinks_of(rt, alloc, base) else {
+        return RESOURCES;
+    };
+    match run_on(rt, alloc, feeds, plan, destinations, settings, &mut sinks) {
+        Ok(rows) => tell_rows(alloc, rows, out),
+        Err(refusal) => refuse_run(alloc, &refusal, err),
+    }
+}
+
+// Runs on open feeds, and answers the number of rows over all files.
+fn run_on<R: Threads + Wait + Sync, F: Feed + Send + Drop, S: Sink>(
+    rt: &R,
+    alloc: Global,
+    feeds: Vec<F>,
+    plan: &Plan,
+    destinations: &[Destination],
+    settings: Settings,
+    sinks: &mut Sinks<S>,
+) -> Result<u64, Refusal>
+    ensures done { IfOk result (HasRows plan.now (length feeds.items)) }
+    ensures refused { IfErr result (NotCompiled plan.now (length feeds.items) (formulas_of destinations.now) settings) }
+{
+    let gathered = run(
+        rt,
+        alloc,
+        feeds,
+        plan,
+        destinations,
+        settings,
+        &OpenGate,
+        sinks,
+    )?;
+    Ok(gathered.rows())
+}
+
+// Sinks for the files of the instance. None is begun. Fails only where memory for the paths is refused.
+fn sinks_of<'a, R: Files>(
+    rt: &'a R,
+    alloc: Global,
+    base: &str,
+) -> Result<Sinks<FileSink<'a, R>>, AllocError> {
+    Ok(Sinks {
+        blocks: sink_of(rt, alloc, base, "blocks")?,
+        prec: sink_of(rt, alloc, base, "prec")?,
+        upit: sink_of(rt, alloc, base, "upit")?,
+        pcpsp: sink_of(rt, alloc, base, "pcpsp")?,
+        cpit: sink_of(rt, alloc, base, "cpit")?,
+    })
+}
+
+/// The plan in the file at this path; or the status of its refusal, with its line appended to `lines`.
+///
+/// A file that cannot be opened or read is `plan: FeedFailed`. Where memory is refused the status is that of memory, and `lines` is as it
+/// was.
+#[tactic(auto, using(crate::proofs::Ends::plan_file_refused, crate::proofs::Ends::plan_text_refused))]
+pub fn read_plan_file<R: Files>(
+    rt: &R,
+    alloc: Global,
+    path: &str,
+    lines: &mut Vec<u8>,
+) -> Result<Plan, u8>
+    ensures plan { IfOk result (λ plan. (text : List ℕ) × (length text ≤ 1048576) × (planned text ≡ Ok plan)) }
+    ensures quiet { OnOk result (lines.new.items ≡ lines.old.items) }
+    ensures refused { IfErr result (EndsRefused lines.old.items lines.new.items) }
+    ensures told { IfErr result (PlanFileRefused lines.old.items lines.new.items) }
+{
+    match text_of(rt, alloc, path) {
+        Ok(text) => plan_from(alloc, text.as_slice(), lines),
+        Err(fault) => Err(refuse_plan(alloc, fault, lines)),
+    }
+}
+
+// Appends the line of the fault of a plan's file, and answers its status.
+#[tactic(auto, using(crate::proofs::Ends::ends_same))]
+fn refuse_plan(alloc: Global, fault: SlurpFault, lines: &mut Vec<u8>) -> u8
+    ensures refused { EndsRefused lines.old.items lines.new.items result }
+    ensures told { EndsPlanFile fault lines.old.items lines.new.items result }
+{
+    let (words, status) = match fault {
+        SlurpFault::FeedFailed => ("plan: FeedFailed", DEVICE),
+        SlurpFault::TooLong => ("plan: TooLong", REFUSED),
+        SlurpFault::OutOfMemory => return RESOURCES,
+    };
+    refuse_with(alloc, words, status, lines)
+}
+
+// The text of a plan's file.
+fn text_of<R: Files>(rt: &R, alloc: Global, path: &str) -> Result<Vec<u8>, SlurpFault> {
+    let mut feed = FileFeed::open(rt, path)?;
+    slurp(alloc, &mut feed, MAX_PLAN_BYTES as u64)
+}
+
+// Opens the zone files, in order; or answers the status of a refusal, with its line appended to `lines`.
+//
+// The first file that cannot be opened is named, by its number from 0, and no further one is opened. Where memory is refused the status
+// is that of memory, and `lines` is as it was.
+fn open_zones<R: Files>(
+    rt: &R,
+    alloc: Global,
+    zones: &[String],
+    lines: &mut Vec<u8>,
+) -> Result<Vec<FileFeed<R::File>>, u8>
+    ensures all { IfOk result (λ feeds. length feeds.items ≡ length zones.now) }
+    ensures quiet { OnOk result (lines.new.items ≡ lines.old.items) }
+    ensures refused { IfErr result (ZonesRefused (length zones.now) lines.old.items lines.new.items) }
+{
+    let mut feeds = Vec::new(alloc);
+    for file in 0..zones.len() {
+        let Ok(feed) = FileFeed::open(rt, zones[file].as_str()) else {
+            return Err(refuse_zone(alloc, file, lines));
+        };
+        if feeds.push(feed).is_err() {
+            return Err(RESOURCES);
+        }
+    }
+    Ok(feeds)
+}
+
+// Appends the line of a zone file that cannot be opened, and answers its status.
+fn refuse_zone(alloc: Global, file: usize, lines: &mut Vec<u8>) -> u8
+    ensures { EndsWith 3 (zone_fault file) lines.old.items lines.new.items result }
+{
+    match format!(in alloc; "file {file}: FeedFailed") {
+        Ok(words) => refuse_with(alloc, words.as_str(), DEVICE, lines),
+        Err(_) => RESOURCES,
+    }
+}
+
+// A sink for the file of the instance with this ending. It is not begun. Fails only where memory for the path is refused.
+fn sink_of<'a, R: Files>(
+    rt: &'a R,
+    alloc: Global,
+    base: &str,
+    ending: &str,
+) -> Result<FileSink<'a, R>, AllocError> {
+    let path = path_of(alloc, base, ending)?;
+    FileSink::new(rt, alloc, path.as_str())
+}
+
+// The path of a file of the instance.
+fn path_of(alloc: Global, base: &str, ending: &str) -> Result<String, AllocError>
+    ensures { IfOk result (λ path. string_bytes path ≡ base.now ++ (46 ∷ ending.now)) }
+{
+    Ok(format!(in alloc; "{base}.{ending}")?)
+}
+
+// Appends the line of so many rows to `out`, and answers 0; or the status of memory, where it is refused, and then `out` is as it was.
+fn tell_rows(alloc: Global, rows: u64, out: &mut Vec<u8>) -> u8
+    ensures told { result ≡ 0 → out.new.items ≡ out.old.items ++ rows_line rows }
+    ensures kept { result ≢ 0 → (result ≡ 4) × (out.new.items ≡ out.old.items) }
+{
+    let Ok(line) = format!(in alloc; "rows {rows}\n") else {
+        return RESOURCES;
+    };
+    match out.extend_from_slice(line.as_bytes()) {
+        Ok(()) => 0,
+        Err(_) => RESOURCES,
+    }
+}

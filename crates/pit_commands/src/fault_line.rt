@@ -1,0 +1,101 @@
+//! The line that the program writes of a refusal, and the status that it ends with.
+
+ghost use Rattle.std.specs.Prelude.{◌≡◌, ◌≤◌, ◌++◌, length, Ok, IfOk, IfErr, OnOk, OnErr};
+ghost use Rattle.pit_model.specs.Planned.{planned};
+ghost use Rattle.pit_commands.specs.FaultLine.{EndsRefused, EndsRun, EndsWith, PlanRefused, line_of, status_of};
+ghost use Rattle.pit_compile.specs.FaultText.{refusal_text};
+
+use crate::status::{DEVICE, REFUSED, RESOURCES, USAGE};
+use pit_compile::refusal::Refusal;
+use pit_model::plan::Plan;
+use pit_model::plan_fault::ReadPlanError;
+use pit_model::read_plan;
+use std::alloc::{AllocError, Global};
+
+/// The most bytes of a plan.
+pub const MAX_PLAN_BYTES: usize = 1_048_576;
+
+/// The plan that a text states; or the status of its refusal, with the line of the fault appended to `lines`.
+///
+/// A text of more than 1,048,576 bytes is `plan: TooLong`. Where memory is refused, for the plan or for the line, the status is that of
+/// memory and `lines` is as it was.
+#[tactic(auto, using(crate::proofs::Ends::plan_told))]
+pub fn plan_from(alloc: Global, text: &[u8], lines: &mut Vec<u8>) -> Result<Plan, u8>
+    ensures plan { IfOk result (λ plan. (length text.now ≤ 1048576) × (planned text.now ≡ Ok plan)) }
+    ensures quiet { OnOk result (lines.new.items ≡ lines.old.items) }
+    ensures refused { IfErr result (PlanRefused text.now lines.old.items lines.new.items) }
+    ensures ends { IfErr result (EndsRefused lines.old.items lines.new.items) }
+{
+    if text.len() > MAX_PLAN_BYTES {
+        return Err(refuse_with(alloc, "plan: TooLong", REFUSED, lines));
+    }
+    match read_plan(alloc, text) {
+        Ok(plan) => Ok(plan),
+        Err(ReadPlanError::Fault(fault)) => {
+            let Ok(words) = format!(in alloc; "{fault}") else {
+                return Err(RESOURCES);
+            };
+            Err(refuse_with(alloc, words.as_str(), REFUSED, lines))
+        }
+        Err(ReadPlanError::OutOfMemory) => Err(RESOURCES),
+    }
+}
+
+/// Appends the line of a refusal, and answers the status that it ends the program with. Fails only where memory is refused, and then
+/// `lines` is as it was.
+pub fn refusal_line(alloc: Global, refusal: &Refusal, lines: &mut Vec<u8>) -> Result<u8, AllocError>
+    ensures status { IfOk result (λ status. status ≡ status_of refusal.now) }
+    ensures appends { OnOk result (lines.new.items ≡ lines.old.items ++ line_of (refusal_text refusal.now)) }
+    ensures err { OnErr result (lines.new.items ≡ lines.old.items) }
+{
+    let words = format!(in alloc; "{refusal}")?;
+    append_line(alloc, words.as_str(), lines)?;
+    Ok(status_of(refusal))
+}
+
+/// Appends the line of a refusal, and answers the status that it ends the program with. Where memory is refused, of the run or for the line,
+/// the status is that of memory and `lines` is as it was.
+pub fn refuse_run(alloc: Global, refusal: &Refusal, lines: &mut Vec<u8>) -> u8
+    ensures { EndsRun refusal.now lines.old.items lines.new.items result }
+{
+    if *refusal == Refusal::OutOfMemory {
+        return RESOURCES;
+    }
+    match refusal_line(alloc, refusal, lines) {
+        Ok(status) => status,
+        Err(_) => RESOURCES,
+    }
+}
+
+fn status_of(refusal: &Refusal) -> u8
+    ensures { result ≡ status_of refusal.now }
+{
+    match refusal {
+        Refusal::Settings(_) => USAGE,
+        Refusal::TooLong { .. } | Refusal::Row { .. } | Refusal::Same { .. } => REFUSED,
+        Refusal::FeedFailed { .. } | Refusal::SinkFailed { .. } => DEVICE,
+        Refusal::NoThread | Refusal::OutOfMemory => RESOURCES,
+    }
+}
+
+/// Appends a line of these words, and answers this status; or that of memory, where it is refused, and then `lines` is as it was.
+pub fn refuse_with(alloc: Global, words: &str, status: u8, lines: &mut Vec<u8>) -> u8
+    ensures { EndsWith status words.now lines.old.items lines.new.items result }
+{
+    match append_line(alloc, words, lines) {
+        Ok(()) => status,
+        Err(_) => RESOURCES,
+    }
+}
+
+/// Appends a line of these words. Where memory is refused `lines` is as it was.
+pub fn append_line(alloc: Global, words: &str, lines: &mut Vec<u8>) -> Result<(), AllocError>
+    ensures ok { OnOk result (lines.new.items ≡ lines.old.items ++ line_of words.now) }
+    ensures err { OnErr result (lines.new.items ≡ lines.old.items) }
+{
+    let mut line = Vec::new(alloc);
+    line.extend_from_slice(b"pitc: ")?;
+    line.extend_from_slice(words.as_bytes())?;
+    line.extend_from_slice(b"\n")?;
+    lines.extend_from_slice(line.as_slice())
+}

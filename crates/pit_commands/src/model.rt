@@ -1,0 +1,73 @@
+//! The model that standard input gives.
+
+ghost use Rattle.std.specs.Prelude.{◌≡◌, ℕ, List, OnOk, IfOk, IfErr};
+ghost use Rattle.pit_commands.specs.FaultLine.{EndsInput, EndsRefused};
+ghost use Rattle.pit_commands.specs.Model.{CutRefused, IsModel, ModelRefused};
+ghost use Rattle.pit_commands.specs.Pieces.{plan_of, zones_of};
+
+use crate::fault_line::{plan_from, refuse_run, refuse_with};
+use crate::input::{InputFault, read_input};
+use crate::pieces::{Pieces, cut_at_most, plan_text};
+use crate::status::{DEVICE, REFUSED, RESOURCES};
+use pit_compile::refusal::Refusal;
+use pit_compile::settings::SettingsFault;
+use pit_model::plan::Plan;
+use std::alloc::Global;
+use std::io::Input;
+
+// The refusal of an input with more zone files than its plan has zones.
+const TOO_MANY_FILES: Refusal = Refusal::Settings(SettingsFault::Files);
+
+/// A plan and the zone files that came with it.
+#[derive(Drop)]
+pub struct Model {
+    pub plan: Plan,
+    pub pieces: Pieces,
+}
+
+/// Reads the model from standard input; or answers the status of its refusal, with the line of the fault appended to `lines`.
+///
+/// An input of more zone files than its plan has zones is refused here, as the run would refuse it: so no list of them is held.
+#[tactic(auto, using(crate::proofs::Ends::input_refused, crate::proofs::Ends::files_refused, crate::proofs::Ends::piece_refused))]
+pub fn read_model<R: Input>(rt: &R, alloc: Global, lines: &mut Vec<u8>) -> Result<Model, u8>
+    ensures model { IfOk result (λ model. (input : List ℕ) × IsModel input model.pieces model.plan) }
+    ensures quiet { OnOk result (lines.new.items ≡ lines.old.items) }
+    ensures refused { IfErr result (EndsRefused lines.old.items lines.new.items) }
+    ensures told { IfErr result (ModelRefused lines.old.items lines.new.items) }
+{
+    let input = match read_input(rt, alloc) {
+        Ok(input) => input,
+        Err(fault) => return Err(refuse_input(alloc, fault, lines)),
+    };
+    let plan = plan_from(alloc, plan_text(input.as_slice()), lines)?;
+    let pieces = pieces_for(alloc, input.as_slice(), &plan, lines)?;
+    Ok(Model { plan, pieces })
+}
+
+// The pieces of an input, if it has at most as many zone files as the plan has zones; or the status of the refusal.
+fn pieces_for(alloc: Global, input: &[u8], plan: &Plan, lines: &mut Vec<u8>) -> Result<Pieces, u8>
+    ensures pieces { IfOk result (λ pieces. (pieces.plan ≡ plan_of input.now) × (pieces.zones ≡ zones_of input.now)) }
+    ensures quiet { OnOk result (lines.new.items ≡ lines.old.items) }
+    ensures refused { IfErr result (EndsRefused lines.old.items lines.new.items) }
+    ensures told { IfErr result (CutRefused input.now plan.now lines.old.items lines.new.items) }
+{
+    match cut_at_most(alloc, input, plan.cones().len()) {
+        Ok(Some(pieces)) => Ok(pieces),
+        Ok(None) => Err(refuse_run(alloc, &TOO_MANY_FILES, lines)),
+        Err(_) => Err(RESOURCES),
+    }
+}
+
+// Appends the line of the input's fault, and answers its status.
+#[tactic(auto, using(crate::proofs::Ends::ends_same))]
+fn refuse_input(alloc: Global, fault: InputFault, lines: &mut Vec<u8>) -> u8
+    ensures refused { EndsRefused lines.old.items lines.new.items result }
+    ensures told { EndsInput fault lines.old.items lines.new.items result }
+{
+    let (words, status) = match fault {
+        InputFault::FeedFailed => ("input: FeedFailed", DEVICE),
+        InputFault::TooLong => ("input: TooLong", REFUSED),
+        InputFault::OutOfMemory => return RESOURCES,
+    };
+    refuse_with(alloc, words, status, lines)
+}

@@ -1,0 +1,83 @@
+//! The pipe form: from the pieces of the input to the printed instance.
+
+ghost use Rattle.std.specs.Prelude.{◌≡◌, ◌↔◌, Err, Some, true, length, map, IfErr, IfOk, OnErr, OnOk};
+ghost use Rattle.pit_compile.specs.Compiled.{HasPassed};
+ghost use Rattle.pit_compile.specs.Settings.{IsSettingsFault};
+ghost use Rattle.pit_compile.specs.declared.settings.SettingsFault.{SettingsFault as ASettingsFault};
+ghost use Rattle.pit_model.specs.Destinations.{formulas_of};
+ghost use Rattle.pit_commands.specs.Printed.{pipe_settings, IsPrinted, PipeRefused};
+
+use crate::piece::Piece;
+use crate::printing::print;
+use lane::Gathered;
+use pit_compile::compile;
+use pit_compile::refusal::Refusal;
+use pit_compile::settings::{Settings, require_settings};
+use pit_model::destination::Destination;
+use pit_model::plan::Plan;
+use std::alloc::{AllocError, Global};
+use std::sync::Wait;
+use std::thread::Threads;
+use valuers::OpenGate;
+use zone_csv::feed::Feed;
+use zone_csv::slice_feed::SliceFeed;
+
+/// The settings of the pipe form.
+pub const SETTINGS: Settings = Settings {
+    valuers: 4,
+    capacity: 64,
+};
+
+/// As many starts of threads as a run may need: one for each valuer and each file.
+const STARTS: u32 = 128;
+
+/// Appends what the pipe form prints of the model of a plan and its zone files, and answers what went through the lane. Any refusal leaves
+/// `out` as it was.
+///
+/// # Errors
+///
+/// The first that applies of: `Settings` where the zone files or the destinations are not the plan's; `NoThread` where a thread could not
+/// be started; the fault of the least zone file that has one; the first block that stands a second time; or that memory was refused.
+pub fn pipe<R: Threads + Wait + Sync>(
+    rt: &R,
+    alloc: Global,
+    zones: &[Piece],
+    plan: &Plan,
+    destinations: &[Destination],
+    out: &mut Vec<u8>,
+) -> Result<Gathered, Refusal>
+    ensures settings { (kind : ASettingsFault) → (result ≡ Err (Refusal.Settings kind))
+        ↔ IsSettingsFault plan.now (length zones.now) (formulas_of destinations.now) pipe_settings kind }
+    ensures passed { IfOk result (HasPassed plan.now zones.now 4) }
+    ensures printed { OnOk result (IsPrinted plan.now zones.now out.old.items out.new.items) }
+    ensures refused { IfErr result (PipeRefused plan.now (formulas_of destinations.now) zones.now) }
+    ensures kept { OnErr result (out.new.items ≡ out.old.items) }
+{
+    require_settings(zones.len(), plan, destinations, SETTINGS)?;
+    let feeds = lent(alloc, zones)?;
+    let compiled = compile(
+        rt,
+        alloc,
+        feeds,
+        plan,
+        destinations,
+        SETTINGS,
+        STARTS,
+        &OpenGate,
+    )?;
+    print(alloc, &compiled.instance, &compiled.cpit, out)?;
+    Ok(compiled.gathered)
+}
+
+// A feed of each piece, which is lent to it.
+fn lent<'a>(alloc: Global, zones: &'a [Piece]) -> Result<Vec<SliceFeed<'a>>, AllocError>
+    ensures count { IfOk result (λ feeds. length feeds.items ≡ length zones.now) }
+    ensures left { IfOk result (λ feeds. map (⟦<SliceFeed<'a> as Feed>⟧.left) feeds.items ≡ map Some zones.now) }
+    ensures sure { IfOk result (λ feeds. map (⟦<SliceFeed<'a> as Feed>⟧.is_sure) feeds.items ≡ map (λ _. true) zones.now) }
+{
+    let mut feeds = Vec::with_capacity(alloc, zones.len())?;
+    for zone in zones {
+        feeds.push(SliceFeed::new(zone.as_slice()))?;
+    }
+    Ok(feeds)
+}

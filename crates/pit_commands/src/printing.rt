@@ -1,0 +1,61 @@
+//! How the five texts of an instance are printed into one vector.
+
+ghost use Rattle.std.specs.Prelude.{◌≡◌, ◌++◌, length, take, OnErr, OnOk};
+ghost use Rattle.mine_instance.specs.OfCpit.{cpit as cpit_of};
+ghost use Rattle.mine_instance.specs.Valid.{IsValid};
+ghost use Rattle.pit_commands.specs.Printed.{printed};
+
+use mine_instance::cpit::Cpit;
+use mine_instance::instance::Instance;
+use minelib_text::section_sink::SectionSink;
+use minelib_text::write_fault::WriteFault;
+use minelib_text::{write_blocks, write_cpit, write_pcpsp, write_prec, write_upit};
+use std::alloc::{AllocError, Global};
+use std::mem::replace;
+
+/// Appends the five texts of an instance, each under its section line. Fails only where memory is refused, and then `out` is as it was.
+pub fn print(
+    alloc: Global,
+    instance: &Instance,
+    cpit: &Cpit,
+    out: &mut Vec<u8>,
+) -> Result<(), AllocError>
+    requires valid { IsValid instance.now }
+    requires cpit { cpit.now ≡ cpit_of instance.now }
+    ensures ok { OnOk result (out.new.items ≡ out.old.items ++ printed instance.now) }
+    ensures err { OnErr result (out.new.items ≡ out.old.items) }
+{
+    let kept = out.len();
+    let mut sink = SectionSink::new(replace(out, Vec::new(alloc)));
+    let printed = print_sections(alloc, instance, cpit, &mut sink);
+    *out = sink.into_vec();
+    if printed.is_err() {
+        out.truncate(kept);
+        return Err(AllocError);
+    }
+    Ok(())
+}
+
+// The same behind what a sink holds. Where it is refused, what stood before stands at the front.
+fn print_sections(
+    alloc: Global,
+    instance: &Instance,
+    cpit: &Cpit,
+    sink: &mut SectionSink,
+) -> Result<(), WriteFault>
+    requires valid { IsValid instance.now }
+    requires cpit { cpit.now ≡ cpit_of instance.now }
+    ensures ok { OnOk result (sink.new.before ++ sink.new.taken ≡ (sink.old.before ++ sink.old.taken) ++ printed instance.now) }
+    ensures err { OnErr result (take (length sink.old.before) sink.new.before ≡ sink.old.before) }
+{
+    sink.section(b"== blocks\n")?;
+    write_blocks(alloc, instance, sink)?;
+    sink.section(b"== prec\n")?;
+    write_prec(alloc, instance, sink)?;
+    sink.section(b"== upit\n")?;
+    write_upit(alloc, instance, sink)?;
+    sink.section(b"== pcpsp\n")?;
+    write_pcpsp(alloc, instance, sink)?;
+    sink.section(b"== cpit\n")?;
+    write_cpit(alloc, cpit, sink)
+}

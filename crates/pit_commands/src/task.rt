@@ -1,0 +1,80 @@
+//! A model to be compiled, by the pipe form or from files to files.
+
+ghost use Rattle.std.specs.Prelude.{◌≡◌, ◌≢◌};
+ghost use Rattle.pit_model.specs.Destinations.{formulas_of};
+ghost use Rattle.pit_commands.specs.Task.{IsTaskDone, IsTaskRefused, plan_in};
+
+use crate::compile::compile_files;
+use crate::model::Model;
+use crate::pipe_run::run_pipe;
+use pit_compile::settings::Settings;
+use pit_model::destination::Destination;
+use pit_model::plan::Plan;
+use std::alloc::Global;
+use std::rt::Files;
+use std::sync::Wait;
+use std::thread::Threads;
+
+/// A model to be compiled.
+#[derive(Drop)]
+pub enum Task {
+    /// The model that standard input gave, whose texts are printed.
+    Pipe(Model),
+    /// A plan with the paths of its zone files; the files of the instance begin with `base`.
+    Files {
+        plan: Plan,
+        settings: Settings,
+        base: String,
+        zones: Vec<String>,
+    },
+}
+
+impl Task {
+    /// The plan of the model.
+    pub fn plan(&self) -> &Plan
+        ensures { result.now ≡ plan_in self.now }
+    {
+        match self {
+            Task::Pipe(model) => &model.plan,
+            Task::Files { plan, .. } => plan,
+        }
+    }
+
+    /// Compiles the model with these destinations, leaves what is to be printed in one of the two vectors, and answers the status that the
+    /// program ends with.
+    pub fn run<R: Files + Threads + Wait + Sync>(
+        &self,
+        rt: &R,
+        alloc: Global,
+        destinations: &[Destination],
+        text: &mut Vec<u8>,
+        lines: &mut Vec<u8>,
+    ) -> u8
+    where
+        R::File: Send,
+        ensures done { result ≡ 0 → IsTaskDone self.now text.old.items text.new.items }
+        ensures quiet { result ≡ 0 → lines.new.items ≡ lines.old.items }
+        ensures kept { result ≢ 0 → text.new.items ≡ text.old.items }
+        ensures refused { result ≢ 0 → IsTaskRefused self.now (formulas_of destinations.now) lines.old.items lines.new.items result }
+    {
+        match self {
+            Task::Pipe(model) => run_pipe(rt, alloc, model, destinations, text, lines),
+            Task::Files {
+                plan,
+                settings,
+                base,
+                zones,
+            } => compile_files(
+                rt,
+                alloc,
+                plan,
+                destinations,
+                *settings,
+                base.as_str(),
+                zones.as_slice(),
+                text,
+                lines,
+            ),
+        }
+    }
+}

@@ -1,0 +1,9 @@
+//! Tests of the commands, and of all crates together.
+
+mod check;
+mod compile;
+mod job;
+pub mod models;
+mod pieces;
+mod pipe_form;
+mod runs;

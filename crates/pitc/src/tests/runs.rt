@@ -1,0 +1,179 @@
+//! Runs on plans and zone files in memory.
+
+ghost use Rattle.std.specs.Prelude.{◌≡◌, IfOk};
+
+use crate::tests::models::destinations_of;
+use minelib_text::mem_sink::MemSink;
+use pit_compile::refusal::Refusal;
+use pit_compile::run_limited;
+use pit_compile::settings::Settings;
+use pit_compile::sinks::Sinks;
+use pit_model::plan::Plan;
+use pit_model::read_plan;
+use std::alloc::Global;
+use std::process::Abort;
+use std::sync::Wait;
+use std::test::Fail;
+use std::thread::Threads;
+use valuers::{Gate, OpenGate};
+use zone_csv::mem_feed::MemFeed;
+
+mod devices;
+mod examples;
+mod random_runs;
+mod schedules;
+
+// The first record of each zone file.
+const HEADER: &str = "x,y,z,tonnes,grade\n";
+
+// As many starts as a run is given.
+const ENOUGH: u32 = 128;
+
+// A zone file in memory: the header and these rows.
+fn zone_text(alloc: Global, rows: &str) -> Result<Vec<u8>, Fail> {
+    let mut text = HEADER.as_bytes().to_vec(alloc)?;
+    text.extend_from_slice(rows.as_bytes())?;
+    Ok(text)
+}
+
+// The text of the mill plan, with so many zones of one slope.
+fn mill_text(alloc: Global, zones: u8) -> Result<Vec<u8>, Fail> {
+    let mut text = b"name,one\ngrid,0,0,0,10,10,10\n".to_vec(alloc)?;
+    for _zone in 0..zones {
+        text.extend_from_slice(b"zone,1,1,1\n")?;
+    }
+    text.extend_from_slice(b"mill,mill,900,600,1500\nperiods,1\nrate,0.1\n")?;
+    Ok(text)
+}
+
+fn mill_plan(alloc: Global, zones: u8) -> Result<Plan, Fail> {
+    let text = mill_text(alloc, zones)?;
+    Ok(read_plan(alloc, text.as_slice())?)
+}
+
+// Sinks in memory that were not begun.
+fn new_sinks(alloc: Global) -> Sinks<MemSink> {
+    Sinks {
+        blocks: MemSink::new(alloc),
+        prec: MemSink::new(alloc),
+        upit: MemSink::new(alloc),
+        pcpsp: MemSink::new(alloc),
+        cpit: MemSink::new(alloc),
+    }
+}
+
+// Which sinks were begun, in the order of writing.
+fn begun(sinks: &Sinks<MemSink>) -> [bool; 5] {
+    [
+        sinks.blocks.begun(),
+        sinks.prec.begun(),
+        sinks.upit.begun(),
+        sinks.pcpsp.begun(),
+        sinks.cpit.begun(),
+    ]
+}
+
+fn is_untouched(sinks: &Sinks<MemSink>) -> bool {
+    begun(sinks) == [false; 5]
+}
+
+// A feed for each of the files, which have these rows.
+fn feeds_of(alloc: Global, files: &[&str]) -> Result<Vec<MemFeed>, Fail> {
+    let mut feeds = Vec::new(alloc);
+    for rows in files {
+        feeds.push(MemFeed::new(zone_text(alloc, rows)?))?;
+    }
+    Ok(feeds)
+}
+
+fn settings(valuers: usize, capacity: usize) -> Settings {
+    Settings { valuers, capacity }
+}
+
+// How a run went: its number of rows or its refusal.
+fn answer<R: Threads + Wait + Sync, G: Gate + Sync>(
+    rt: &R,
+    alloc: Global,
+    plan: &Plan,
+    feeds: Vec<MemFeed>,
+    settings: Settings,
+    starts: u32,
+    gate: &G,
+    sinks: &mut Sinks<MemSink>,
+) -> Result<Result<u64, Refusal>, Fail> {
+    let destinations = destinations_of(alloc, plan)?;
+    let answered = run_limited(
+        rt,
+        alloc,
+        feeds,
+        plan,
+        destinations.as_slice(),
+        settings,
+        starts,
+        gate,
+        sinks,
+    );
+    match answered {
+        Ok(gathered) => Ok(Ok(gathered.rows())),
+        Err(refusal) => Ok(Err(refusal)),
+    }
+}
+
+// The same with an open gate and enough starts.
+fn open_answer<R: Threads + Wait + Sync>(
+    rt: &R,
+    alloc: Global,
+    plan: &Plan,
+    feeds: Vec<MemFeed>,
+    settings: Settings,
+    sinks: &mut Sinks<MemSink>,
+) -> Result<Result<u64, Refusal>, Fail> {
+    answer(rt, alloc, plan, feeds, settings, ENOUGH, &OpenGate, sinks)
+}
+
+fn put_section(text: &mut Vec<u8>, name: &str, sink: &MemSink) -> Result<(), Fail> {
+    text.extend_from_slice(b"== ")?;
+    text.extend_from_slice(name.as_bytes())?;
+    text.push(b'\n')?;
+    text.extend_from_slice(sink.bytes())?;
+    Ok(())
+}
+
+// The five texts, each behind the name of its file.
+fn joined(alloc: Global, sinks: &Sinks<MemSink>) -> Result<Vec<u8>, Fail> {
+    let mut text = Vec::new(alloc);
+    put_section(&mut text, "blocks", &sinks.blocks)?;
+    put_section(&mut text, "prec", &sinks.prec)?;
+    put_section(&mut text, "upit", &sinks.upit)?;
+    put_section(&mut text, "pcpsp", &sinks.pcpsp)?;
+    put_section(&mut text, "cpit", &sinks.cpit)?;
+    Ok(text)
+}
+
+// The five texts of a run into these sinks; or the words of its refusal, where no sink was begun.
+fn text_into<R: Threads + Wait + Sync + Abort>(
+    rt: &R,
+    alloc: Global,
+    plan: &Plan,
+    feeds: Vec<MemFeed>,
+    settings: Settings,
+    mut sinks: Sinks<MemSink>,
+) -> Result<Vec<u8>, Fail> {
+    match open_answer(rt, alloc, plan, feeds, settings, &mut sinks)? {
+        Ok(_rows) => joined(alloc, &sinks),
+        Err(refusal) => {
+            assert!(rt; is_untouched(&sinks), "{refusal}");
+            Ok(format!(in alloc; "{refusal}")?.as_bytes().to_vec(alloc)?)
+        }
+    }
+}
+
+fn compiled_text<R: Threads + Wait + Sync + Abort>(
+    rt: &R,
+    alloc: Global,
+    plan: &Plan,
+    feeds: Vec<MemFeed>,
+    settings: Settings,
+) -> Result<Vec<u8>, Fail> {
+    text_into(rt, alloc, plan, feeds, settings, new_sinks(alloc))
+}

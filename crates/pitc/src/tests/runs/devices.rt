@@ -1,0 +1,248 @@
+ghost use Rattle.std.specs.Prelude.{◌≤◌};
+
+use super::{
+    Fail, Global, MemFeed, MemSink, OpenGate, Refusal, Sinks, Threads, Wait, answer, begun,
+    destinations_of, feeds_of, is_untouched, mill_plan, new_sinks, open_answer, read_plan,
+    run_limited, settings, zone_text,
+};
+use pit_compile::refusal::SinkName;
+use pit_compile::settings::SettingsFault;
+
+fn good_feed(alloc: Global) -> Result<MemFeed, Fail> {
+    Ok(MemFeed::new(zone_text(alloc, "0,0,0,1,0\n")?))
+}
+
+fn faulty_feed(alloc: Global) -> Result<MemFeed, Fail> {
+    Ok(MemFeed::new(zone_text(alloc, "0,0,0,1,?\n")?))
+}
+
+// A feed of one good row that fails at this pull.
+fn failing_feed(alloc: Global, nth: u64) -> Result<MemFeed, Fail>
+    requires { 1 ≤ nth }
+{
+    Ok(MemFeed::failing(zone_text(alloc, "20,0,0,1,0\n")?, nth))
+}
+
+// How a run on two files goes.
+fn run_of_two<R: Threads + Wait + Sync>(
+    rt: &R,
+    alloc: Global,
+    first: MemFeed,
+    second: MemFeed,
+    sinks: &mut Sinks<MemSink>,
+) -> Result<Result<u64, Refusal>, Fail> {
+    let plan = mill_plan(alloc, 2)?;
+    let feeds = Vec::from_array(alloc, [first, second])?;
+    open_answer(rt, alloc, &plan, feeds, settings(2, 1), sinks)
+}
+
+// A feed fails at its first pull, its second, and so on, until the run meets no failure.
+#[test]
+fn failing_feeds(rt: HostRuntime) -> Result<(), Fail> {
+    let alloc = rt.alloc();
+    for (nth, fails) in [(1, true), (2, true), (3, false)] {
+        let mut sinks = new_sinks(alloc);
+        let second = failing_feed(alloc, nth)?;
+        let answered = run_of_two(&rt, alloc, good_feed(alloc)?, second, &mut sinks)?;
+        let expected = if fails {
+            Err(Refusal::FeedFailed { file: 1 })
+        } else {
+            Ok(2)
+        };
+        assert!(rt; answered == expected, "pull {nth}");
+        assert_eq!(rt; is_untouched(&sinks), fails, "pull {nth}");
+    }
+    Ok(())
+}
+
+// The least file's answer counts, whatever it is.
+#[test]
+fn the_least_file_answers(rt: HostRuntime) -> Result<(), Fail> {
+    let alloc = rt.alloc();
+    let mut sinks = new_sinks(alloc);
+    let failing = failing_feed(alloc, 1)?;
+    let answered = run_of_two(&rt, alloc, faulty_feed(alloc)?, failing, &mut sinks)?;
+    assert!(rt; matches!(answered, Err(Refusal::Row { file: 0, .. })));
+    let failing = failing_feed(alloc, 1)?;
+    let answered = run_of_two(&rt, alloc, failing, faulty_feed(alloc)?, &mut sinks)?;
+    assert!(rt; matches!(answered, Err(Refusal::FeedFailed { file: 0 })));
+    assert!(rt; is_untouched(&sinks));
+    Ok(())
+}
+
+// Sinks of which this one fails at this call.
+fn failing_sinks(alloc: Global, which: SinkName, nth: u64) -> Sinks<MemSink>
+    requires { 1 ≤ nth }
+{
+    let mut sinks = new_sinks(alloc);
+    let failing = MemSink::failing(alloc, nth);
+    match which {
+        SinkName::Blocks => sinks.blocks = failing,
+        SinkName::Prec => sinks.prec = failing,
+        SinkName::Upit => sinks.upit = failing,
+        SinkName::Pcpsp => sinks.pcpsp = failing,
+        SinkName::Cpit => sinks.cpit = failing,
+    }
+    sinks
+}
+
+// A sink, which of its calls fails, which sinks are begun then, and how many texts are whole. Each text is begun and then put at once, so
+// its third call does not come.
+const SINKS: [(SinkName, u64, [bool; 5], usize); 15] = [
+    (SinkName::Blocks, 1, [false, false, false, false, false], 0),
+    (SinkName::Blocks, 2, [true, false, false, false, false], 0),
+    (SinkName::Blocks, 3, [true, true, true, true, true], 5),
+    (SinkName::Prec, 1, [true, false, false, false, false], 1),
+    (SinkName::Prec, 2, [true, true, false, false, false], 1),
+    (SinkName::Prec, 3, [true, true, true, true, true], 5),
+    (SinkName::Upit, 1, [true, true, false, false, false], 2),
+    (SinkName::Upit, 2, [true, true, true, false, false], 2),
+    (SinkName::Upit, 3, [true, true, true, true, true], 5),
+    (SinkName::Pcpsp, 1, [true, true, true, false, false], 3),
+    (SinkName::Pcpsp, 2, [true, true, true, true, false], 3),
+    (SinkName::Pcpsp, 3, [true, true, true, true, true], 5),
+    (SinkName::Cpit, 1, [true, true, true, true, false], 4),
+    (SinkName::Cpit, 2, [true, true, true, true, true], 4),
+    (SinkName::Cpit, 3, [true, true, true, true, true], 5),
+];
+
+// A sink holds the bytes of the other, or none.
+fn holds(sink: &MemSink, other: &MemSink, is_whole: bool) -> bool {
+    if is_whole {
+        sink.bytes() == other.bytes()
+    } else {
+        sink.bytes().is_empty()
+    }
+}
+
+// So many of the texts are those of the other sinks, and the others are empty.
+fn hold_texts(sinks: &Sinks<MemSink>, others: &Sinks<MemSink>, texts: usize) -> bool {
+    holds(&sinks.blocks, &others.blocks, texts > 0)
+        && holds(&sinks.prec, &others.prec, texts > 1)
+        && holds(&sinks.upit, &others.upit, texts > 2)
+        && holds(&sinks.pcpsp, &others.pcpsp, texts > 3)
+        && holds(&sinks.cpit, &others.cpit, texts > 4)
+}
+
+#[test]
+fn failing_sinks_stop_the_run(rt: HostRuntime) -> Result<(), Fail> {
+    let alloc = rt.alloc();
+    let plan = mill_plan(alloc, 1)?;
+    let rows = ["0,0,0,1,0\n10,0,0,1,0\n"];
+    let mut whole = new_sinks(alloc);
+    let feeds = feeds_of(alloc, &rows)?;
+    let answered = open_answer(&rt, alloc, &plan, feeds, settings(1, 1), &mut whole)?;
+    assert!(rt; answered == Ok(2));
+    for (which, nth, expected, texts) in SINKS {
+        let mut sinks = failing_sinks(alloc, which, nth.max(1));
+        let feeds = feeds_of(alloc, &rows)?;
+        let answered = open_answer(&rt, alloc, &plan, feeds, settings(1, 1), &mut sinks)?;
+        let wanted = if texts == 5 {
+            Ok(2)
+        } else {
+            Err(Refusal::SinkFailed { which })
+        };
+        assert!(rt; answered == wanted, "{which} {nth}");
+        assert!(rt; begun(&sinks) == expected, "{which} {nth}");
+        assert!(rt; hold_texts(&sinks, &whole, texts), "{which} {nth}");
+    }
+    Ok(())
+}
+
+// The texts in front of the sink that fails are whole, and its own is empty.
+#[test]
+fn texts_before_a_failing_sink(rt: HostRuntime) -> Result<(), Fail> {
+    let alloc = rt.alloc();
+    let plan = mill_plan(alloc, 1)?;
+    let mut sinks = failing_sinks(alloc, SinkName::Prec, 2);
+    let feeds = feeds_of(alloc, &["0,0,0,1000,5000\n"])?;
+    let answered = open_answer(&rt, alloc, &plan, feeds, settings(1, 1), &mut sinks)?;
+    let which = SinkName::Prec;
+    assert!(rt; answered == Err(Refusal::SinkFailed { which }));
+    let blocks: &[u8] = b"0 0 0 0 1000 5000 0\n";
+    assert!(rt; sinks.blocks.bytes() == blocks);
+    assert!(rt; sinks.prec.bytes().is_empty());
+    Ok(())
+}
+
+// The numbers of feeds, valuers and places of the lane, on a plan of one zone, and the fault of the settings.
+const SETTINGS: [(usize, usize, usize, Option<SettingsFault>); 8] = [
+    (1, 1, 1, None),
+    (1, 64, 4096, None),
+    (2, 1, 1, Some(SettingsFault::Files)),
+    (0, 0, 0, Some(SettingsFault::Files)),
+    (1, 0, 0, Some(SettingsFault::Valuers)),
+    (1, 65, 1, Some(SettingsFault::Valuers)),
+    (1, 1, 0, Some(SettingsFault::Capacity)),
+    (1, 1, 4097, Some(SettingsFault::Capacity)),
+];
+
+fn good_feeds(alloc: Global, files: usize) -> Result<Vec<MemFeed>, Fail> {
+    let mut feeds = Vec::new(alloc);
+    for _file in 0..files {
+        feeds.push(good_feed(alloc)?)?;
+    }
+    Ok(feeds)
+}
+
+#[test]
+fn settings_of_a_run(rt: HostRuntime) -> Result<(), Fail> {
+    let alloc = rt.alloc();
+    let plan = mill_plan(alloc, 1)?;
+    for (files, valuers, capacity, fault) in SETTINGS {
+        let mut sinks = new_sinks(alloc);
+        let feeds = good_feeds(alloc, files)?;
+        let answered = open_answer(
+            &rt,
+            alloc,
+            &plan,
+            feeds,
+            settings(valuers, capacity),
+            &mut sinks,
+        )?;
+        let expected = match fault {
+            Some(kind) => Err(Refusal::Settings(kind)),
+            None => Ok(1),
+        };
+        assert!(rt; answered == expected, "{files} {valuers} {capacity}");
+        assert_eq!(rt;
+            is_untouched(&sinks),
+            fault.is_some(),
+            "{files} {valuers} {capacity}"
+        );
+    }
+    Ok(())
+}
+
+const WASTE_PLAN: &[u8] =
+    b"name,waste\ngrid,0,0,0,10,10,10\nzone,1,1,1\ndump,dump,200\nperiods,1\nrate,0.1\n";
+
+// Settings come before a refused thread and a faulty file, and destinations last among them.
+#[test]
+fn destinations_of_another_plan(rt: HostRuntime) -> Result<(), Fail> {
+    let alloc = rt.alloc();
+    let plan = mill_plan(alloc, 1)?;
+    let other = read_plan(alloc, WASTE_PLAN)?;
+    let destinations = destinations_of(alloc, &other)?;
+    for (capacity, kind) in [
+        (0, SettingsFault::Capacity),
+        (1, SettingsFault::Destinations),
+    ] {
+        let mut sinks = new_sinks(alloc);
+        let feeds = Vec::from_array(alloc, [faulty_feed(alloc)?])?;
+        let answered = run_limited(
+            &rt,
+            alloc,
+            feeds,
+            &plan,
+            destinations.as_slice(),
+            settings(1, capacity),
+            0,
+            &OpenGate,
+            &mut sinks,
+        );
+        let is_kind = matches!(answered, Err(Refusal::Settings(found)) if found == kind);
+        assert!(rt; is_kind && is_untouched(&sinks), "{kind}");
+    }
+    Ok(())
+}
