@@ -12,6 +12,7 @@ use Rattle.collector.specs.declared.finish_fault.FinishFault.TheVariants.{Missin
 use Rattle.collector.specs.Fault.{is_after}
 use Rattle.collector.specs.Lists.{IsOpen}
 use Rattle.collector.specs.Found.{row_at, end_at, has_past}
+use Rattle.pit_model.specs.declared.ranges.TheConstants.{MAX_ROWS}
 
 -- the row itself, if it is of this place
 abbrev pub if_at : ℕ → Valued → Option Valued
@@ -42,7 +43,7 @@ IsBare s = (s.rows.items ≡ []) × (s.end ≡ None)
 abbrev pub row_fault : List Valued → Option ℕ → ℕ → Option AddFault
 row_fault rows end place =
     if is_some (slot rows place) then Some Double
-    else if nat_le 1000000 place then Some Stranger
+    else if nat_le MAX_ROWS place then Some Stranger
     else if is_after end place then Some AfterEnd
     else None
 
@@ -50,7 +51,7 @@ row_fault rows end place =
 abbrev pub end_fault : List Valued → Option ℕ → ℕ → Option AddFault
 end_fault rows end count =
     if is_some end then Some SecondEnd
-    else if nat_lt 1000000 count || nat_lt count (length rows) then Some BadCount
+    else if nat_lt MAX_ROWS count || nat_lt count (length rows) then Some BadCount
     else None
 
 -- the fault of an item, by the rows and the end marks of all files
@@ -79,7 +80,7 @@ pub record IsShelved (held : List Item) (file : ℕ) (rows : List Valued) (end :
   pub row : (place : ℕ) → row_at file place held ≡ slot rows place
   pub ended : end_at file held ≡ end
   pub past : (place : ℕ) → has_past file place held ≡ nat_lt place (length rows)
-  pub few : length rows ≤ 1000000
+  pub few : length rows ≤ MAX_ROWS
   pub closed : (count : ℕ) → end ≡ Some count → length rows ≤ count
 
 -- each file's rows and end mark are those among the items, and no item is of another file

@@ -4,6 +4,7 @@ use Rattle.std.specs.List.{count_by}
 use Rattle.valuers.specs.declared.item.Item.{Item}
 use Rattle.valuers.specs.declared.item.Item.TheVariants.{Row, End}
 use Rattle.collector.specs.Found.{is_row, is_end}
+use Rattle.pit_model.specs.declared.ranges.TheConstants.{MAX_ROWS}
 
 -- the item is of one of these files: a row below its count, or an end mark with its count
 abbrev pub Fits : ℕ → (ℕ → ℕ) → Item → Type 0
@@ -14,7 +15,7 @@ Fits files counts (End file count) = (file < files) × (count ≡ counts file)
 -- no other item
 pub record IsComplete (files : ℕ) (items : List Item) : Type 0 where
   pub counts : ℕ → ℕ
-  pub few : (file : ℕ) → file < files → counts file ≤ 1000000
+  pub few : (file : ℕ) → file < files → counts file ≤ MAX_ROWS
   pub ends : (file : ℕ) → file < files → count_by (is_end file) items ≡ 1
   pub rows : (file place : ℕ) → file < files → place < counts file → count_by (is_row file place) items ≡ 1
   pub others : All (Fits files counts) items

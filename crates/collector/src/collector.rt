@@ -4,6 +4,7 @@ ghost use Rattle.std.specs.Prelude.{◌≡◌, ℕ, ◌<◌, ◌≤◌, ◌++◌
 ghost use Rattle.collector.specs.CollectorView.{rows_in, end_in, with_row, fault_in, file_of, ArePut, AreSame, IsFilled, IsFirstLacking};
 ghost use Rattle.collector.specs.Fault.{fault};
 ghost use Rattle.collector.specs.Lists.{AreLists, IsFinishFault};
+ghost use Rattle.pit_model.specs.declared.ranges.TheConstants.{MAX_ROWS};
 
 use crate::add_fault::AddFault;
 use crate::finish_fault::FinishFault;
@@ -143,7 +144,7 @@ fn put_end(shelves: &mut [Shelf], file: u8, count: u32)
 /// Refuses the first shelf that is not filled.
 fn require_filled(shelves: &[Shelf]) -> Result<(), FinishFault>
     requires count { length shelves.now ≤ 255 }
-    requires few { (file : ℕ) → length (rows_in shelves.now file) ≤ 1000000 }
+    requires few { (file : ℕ) → length (rows_in shelves.now file) ≤ MAX_ROWS }
     requires closed { (file count : ℕ) → end_in shelves.now file ≡ Some count → length (rows_in shelves.now file) ≤ count }
     ensures filled { OnOk result ((file : ℕ) → file < length shelves.now → IsFilled (rows_in shelves.now file) (end_in shelves.now file)) }
     ensures lacking { IfErr result (IsFirstLacking shelves.now) }

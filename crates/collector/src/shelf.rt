@@ -2,13 +2,12 @@
 
 ghost use Rattle.std.specs.Prelude.{◌≡◌, ℕ, ◌<◌, ◌≤◌, [], length, is_some, true, Some, None, MatchOption, OnOk, OnErr};
 ghost use Rattle.collector.specs.CollectorView.{slot, with_row, row_fault, end_fault, IsFilled, IsLacking};
+ghost use Rattle.pit_model.specs.declared.ranges.TheConstants.{MAX_ROWS};
 
 use crate::add_fault::AddFault;
+use pit_model::ranges::MAX_ROWS;
 use std::alloc::{AllocError, Global};
 use valuers::Valued;
-
-/// The greatest number of rows of a file.
-const MAX_ROWS: u32 = 1_000_000;
 
 /// The rows and the end mark of one file.
 #[derive(Drop)]
@@ -77,7 +76,7 @@ impl Shelf {
 
     /// The least place with no row, or `None` where each place below the end mark's count has its row.
     pub fn lacking(&self) -> Option<u32>
-        requires few { length self.now.rows.items ≤ 1000000 }
+        requires few { length self.now.rows.items ≤ MAX_ROWS }
         requires closed { (count : ℕ) → self.now.end ≡ Some count → length self.now.rows.items ≤ count }
         ensures { MatchOption result (IsFilled self.now.rows.items self.now.end) (IsLacking self.now.rows.items self.now.end) }
     {
@@ -92,7 +91,7 @@ impl Shelf {
 
 /// The least place that has no row.
 fn open_place(rows: &[Valued]) -> u32
-    requires { length rows.now ≤ 1000000 }
+    requires { length rows.now ≤ MAX_ROWS }
     ensures within { result ≤ length rows.now }
     ensures none { slot rows.now result ≡ None }
     ensures least { (place : ℕ) → place < result → is_some (slot rows.now place) ≡ true }

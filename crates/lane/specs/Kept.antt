@@ -15,6 +15,7 @@ use Rattle.lane.specs.Ends.{Lane, Putting, Taking, Closing, Stopping, ArePutsFro
 use Rattle.lane.specs.Rule.{put_parts, take_parts}
 use Rattle.lane.specs.Steps.{full_view, IsFull}
 use Rattle.lane.specs.Views.{IsOrdered, capacity_in, sent_in, took_in, sents_in, tooks_in, quits_in, gathering_in}
+use Rattle.pit_model.specs.declared.ranges.TheConstants.{MAX_ROWS}
 
 -- the lane that a pass belongs to
 abbrev pub lane_of : Pass Taken (List Part) → Lane
@@ -50,14 +51,14 @@ pub record IsOpenPut (v : List Part) (file count : ℕ) : Type 0 where
   pub unended : has_end (sent_in v) ≡ false
   pub rows : rows_in (sent_in v) ≡ count
   pub places : length (sent_in v) ≡ count
-  pub few : count ≤ 1000000
+  pub few : count ≤ MAX_ROWS
 
 -- the list of an ended put: so many rows and the end mark
 pub record IsEndedPut (v : List Part) (file count : ℕ) : Type 0 where
   pub part : v ≡ Put file (capacity_in v) (sent_in v) ∷ []
   pub list : IsEndedFrom file 0 (sent_in v)
   pub rows : rows_in (sent_in v) ≡ count
-  pub few : count ≤ 1000000
+  pub few : count ≤ MAX_ROWS
 
 pub record IsTake (v : List Part) (taker : ℕ) : Type 0 where
   pub part : v ≡ Take taker (capacity_in v) (took_in v) ∷ []
@@ -97,7 +98,7 @@ pub record IsJoining (files takers capacity : ℕ) (lane : Lane) (all rest : Lis
   pub puts : ArePutsFrom lane files (length (sents_in v)) rest
   pub ended : AllByRecursion (λ l. has_end l ≡ true) (sents_in v)
   pub rows : sum_by rows_in (sents_in v) ≡ count
-  pub few : count ≤ length (sents_in v) * 1000000
+  pub few : count ≤ length (sents_in v) * MAX_ROWS
 
 -- the ended parts of all files joined the closer's
 pub record IsJoined (v : List Part) (files takers capacity : ℕ) : Type 0 where

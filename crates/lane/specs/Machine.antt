@@ -5,6 +5,7 @@ use Rattle.pit_model.specs.declared.block.Block.{Block}
 use Rattle.lane.specs.declared.message.Taken.{Taken}
 use Rattle.lane.specs.declared.message.Taken.TheVariants.{Row, End, Stop, Quit}
 use Rattle.lane.specs.Message.{has_end, is_done, rows_in}
+use Rattle.pit_model.specs.declared.ranges.TheConstants.{MAX_ROWS}
 
 -- the number of files and of takers, and how many messages the queue has room for
 pub record Size : Type 0 where
@@ -36,7 +37,7 @@ HasRoom n s = length s.queue < n.capacity
 
 -- where an event is allowed
 abbrev pub Allowed : Size → State → Event → Type 0
-Allowed n s (PutRow file block) = (file < n.files) × HasRoom n s × (has_end (s.sent file) ≡ false) × (rows_in (s.sent file) < 1000000)
+Allowed n s (PutRow file block) = (file < n.files) × HasRoom n s × (has_end (s.sent file) ≡ false) × (rows_in (s.sent file) < MAX_ROWS)
 Allowed n s (PutEnd file) = (file < n.files) × HasRoom n s × (has_end (s.sent file) ≡ false)
 Allowed n s PutStop = HasRoom n s × ((file : ℕ) → file < n.files → has_end (s.sent file) ≡ true) × (s.quits ≡ 0) × (s.stops < n.takers)
 Allowed n s PutQuit = HasRoom n s × (s.stops ≡ 0) × (s.quits < n.takers)

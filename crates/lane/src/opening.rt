@@ -9,6 +9,7 @@ ghost use Rattle.lane.specs.Ends.{ArePutsFrom, AreTakesFrom, first_puts, first_t
 ghost use Rattle.lane.specs.Kept.{lane_at, puts_left, takes_left};
 ghost use Rattle.lane.specs.Rule.{IsLane, all_parts};
 ghost use Rattle.lane.specs.Views.{without_second, second_alone};
+ghost use Rattle.pit_model.specs.declared.ranges.TheConstants.{MAX_CAPACITY, MAX_VALUERS, MAX_ZONES};
 
 use crate::closer::Closer;
 use crate::message::Taken;
@@ -29,9 +30,9 @@ pub fn open(
     valuers: u8,
     capacity: usize,
 ) -> Result<(Closer, Vec<PutEnd>, Vec<TakeEnd>), AllocError>
-    requires files { (1 ≤ files) × (files ≤ 64) }
-    requires valuers { (1 ≤ valuers) × (valuers ≤ 64) }
-    requires capacity { (1 ≤ capacity) × (capacity ≤ 4096) }
+    requires files { (1 ≤ files) × (files ≤ MAX_ZONES) }
+    requires valuers { (1 ≤ valuers) × (valuers ≤ MAX_VALUERS) }
+    requires capacity { (1 ≤ capacity) × (capacity ≤ MAX_CAPACITY) }
     ensures files { IfOk result (λ ends. ends.0.files ≡ files) }
     ensures takers { IfOk result (λ ends. ends.0.takers ≡ valuers) }
     ensures capacity { IfOk result (λ ends. ends.0.lane.2 ≡ capacity) }

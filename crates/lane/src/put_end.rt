@@ -5,6 +5,7 @@ ghost use Rattle.crossbeam_channel.specs.Claims.{view as known, IsSeatAt};
 ghost use Rattle.crossbeam_channel.specs.Ends.{sends_on, ruled_capacity};
 ghost use Rattle.lane.specs.Kept.{IsClosers, lane_at};
 ghost use Rattle.lane.specs.Message.{has_end, rows_in, IsEndedFrom};
+ghost use Rattle.pit_model.specs.declared.ranges.TheConstants.{MAX_ROWS};
 
 use crate::channel::put;
 use crate::message::Taken;
@@ -55,7 +56,7 @@ impl PutEnd {
 
     /// Sends the block as the file's next row: its place is the number of rows sent before. At most 1,000,000 rows may be sent.
     pub fn row<R: Wait>(&mut self, rt: &R, block: Block)
-        requires few { length self.old.sent < 1000000 }
+        requires few { length self.old.sent < MAX_ROWS }
         ensures sent { self.new ≡ record self.old { sent = self.old.sent ++ Taken.Row self.old.file (length self.old.sent) block ∷ [] } }
     {
         let message = Taken::Row {
@@ -123,7 +124,7 @@ impl EndedPut {
         ensures joined { known pass.new ≡ known pass.old ++ Part.Put self.file (ruled_capacity (sends_on sender.now)) self.sent ∷ [] }
         ensures ended { has_end self.sent ≡ true }
         ensures rows { result ≡ rows_in self.sent }
-        ensures few { result ≤ 1000000 }
+        ensures few { result ≤ MAX_ROWS }
     {
         let EndedPut {
             pass: theirs,

@@ -4,6 +4,7 @@ use Rattle.pit_model.specs.declared.limit.Limit.{Limit}
 use Rattle.mine_instance.specs.CpitOrder.{is_listed_before}
 use Rattle.mine_instance.specs.Valid.{IsHorizon, AreLimits}
 use Rattle.mine_instance.specs.declared.cpit.CpitCoef.{CpitCoef}
+use Rattle.pit_model.specs.declared.ranges.TheConstants.{MAX_BLOCKS}
 
 pub record CpitParts : Type 0 where
   pub name : List ℕ
@@ -35,7 +36,7 @@ pub record AreCpitCoefs (n resources : ℕ) (coefs : List CpitCoef) : Type 0 whe
 
 -- what every CPIT keeps
 pub record IsCpit (p : CpitParts) : Type 0 where
-  pub few : length p.values ≤ 64000000
+  pub few : length p.values ≤ MAX_BLOCKS
   pub horizon : IsHorizon p.periods p.resources p.rate
   pub coefs : AreCpitCoefs (length p.values) p.resources p.coefs
   pub limits : AreLimits p.resources p.periods p.limits

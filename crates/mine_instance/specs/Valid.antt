@@ -7,10 +7,11 @@ use Rattle.pit_model.specs.declared.limit.Limit.{Limit}
 use Rattle.mine_instance.specs.Order.{comes_before}
 use Rattle.mine_instance.specs.declared.coef.Coef.{Coef}
 use Rattle.mine_instance.specs.declared.instance.Instance.{Instance}
+use Rattle.pit_model.specs.declared.ranges.TheConstants.{MAX_BLOCKS, MAX_DESTINATIONS, MAX_PERIODS, MAX_RATE, MAX_RESOURCES}
 
 -- blocks, predecessors and values of one number, at most 64,000,000
 pub record HasLengths (i : Instance) : Type 0 where
-  pub few : length i.blocks ≤ 64000000
+  pub few : length i.blocks ≤ MAX_BLOCKS
   pub preds : length i.preds ≡ length i.blocks
   pub values : length i.values ≡ length i.blocks
 
@@ -26,13 +27,13 @@ ArePreds n preds = EachIndex preds (λ id. ArePredsOf id n (slice_index_or preds
 
 -- periods 1 to 100, at most 8 resources, the rate 0 to 1
 pub record IsHorizon (periods resources : ℕ) (rate : ℤ) : Type 0 where
-  pub periods_1_to_100 : (1 ≤ periods) × (periods ≤ 100)
-  pub at_most_8_resources : resources ≤ 8
-  pub rate_0_to_1 : (pos 0 ≤ℤ rate) × (rate ≤ℤ pos (10 ^ 6))
+  pub periods_1_to_100 : (1 ≤ periods) × (periods ≤ MAX_PERIODS)
+  pub at_most_8_resources : resources ≤ MAX_RESOURCES
+  pub rate_0_to_1 : (pos 0 ≤ℤ rate) × (rate ≤ℤ MAX_RATE)
 
 -- destinations 1 to 8, and a value for each
 pub record HasDestinations (destinations : ℕ) (values : List (List ℤ)) : Type 0 where
-  pub from_1_to_8 : (1 ≤ destinations) × (destinations ≤ 8)
+  pub from_1_to_8 : (1 ≤ destinations) × (destinations ≤ MAX_DESTINATIONS)
   pub one_each : All (λ vs. length vs ≡ destinations) values
 
 -- coefficients of blocks, destinations and resources that are there, strictly rising

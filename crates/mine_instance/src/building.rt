@@ -10,6 +10,7 @@ ghost use Rattle.precedence.specs.Identifier.{IsNumbering, blocks_of};
 ghost use Rattle.valuers.specs.Valuing.{worths_by};
 ghost use Rattle.mine_instance.specs.OfModel.{instance, values_of, in_hundreds, covering, covered, coefs_of, block_coefs};
 ghost use Rattle.mine_instance.specs.Valid.{IsValid};
+ghost use Rattle.pit_model.specs.declared.ranges.TheConstants.{MAX_BLOCKS, MAX_RESOURCES};
 
 use crate::blocks::Blocks;
 use crate::coef::{Coef, Coefs};
@@ -153,7 +154,7 @@ fn put_covering(
     resources: &[Resource],
     destination: u8,
 ) -> Result<(), AllocError>
-    requires { length resources.now ≤ 8 }
+    requires { length resources.now ≤ MAX_RESOURCES }
     ensures { OnOk result (pairs.new.items ≡ pairs.old.items ++ covering resources.now destination) }
 {
     for (number, resource) in resources.iter().enumerate() {
@@ -178,7 +179,7 @@ fn put_if_covers(
 }
 
 fn coefs_by_id(alloc: Global, pairs: &[Covering], blocks: &[Block]) -> Result<Vec<Coef>, AllocError>
-    requires { length blocks.now ≤ 64000000 }
+    requires { length blocks.now ≤ MAX_BLOCKS }
     ensures { IfOk result (λ coefs. coefs.items ≡ coefs_of pairs.now blocks.now) }
 {
     let heavy = blocks.iter().filter(|block| block.kg != 0).count();

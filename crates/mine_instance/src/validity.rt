@@ -2,17 +2,16 @@
 
 ghost use Rattle.std.specs.Prelude.{◌≡◌, ◌≢◌, ◌<◌, ◌≤◌, ◌↔◌, length, All, AllPairs, IsTrue};
 ghost use Rattle.mine_instance.specs.Valid.{HasLengths, ArePredsOf, ArePreds, IsHorizon, HasDestinations, AreCoefs, AreLimits, IsUpward, IsValid};
+ghost use Rattle.pit_model.specs.declared.ranges.TheConstants.{MAX_BLOCKS};
 
 use crate::coef::Coef;
 use crate::instance::Instance;
 use crate::rising::rises;
 use crate::values::Values;
 use pit_model::limit::{Bound, Limit};
+use pit_model::ranges::{MAX_BLOCKS, MAX_DESTINATIONS, MAX_PERIODS, MAX_RATE, MAX_RESOURCES};
 use pit_units::Dec;
 use precedence::Preds;
-
-/// The most blocks of an instance.
-const MOST_BLOCKS: usize = 64_000_000;
 
 /// Whether the parts of an instance fit one another and keep their ranges and orders.
 pub fn is_valid(instance: &Instance) -> bool
@@ -50,11 +49,11 @@ fn has_lengths(instance: &Instance) -> bool
     ensures { IsTrue result ↔ HasLengths instance.now }
 {
     let count = instance.blocks_len();
-    count <= MOST_BLOCKS && instance.preds.len() == count && instance.values.len() == count
+    count <= MAX_BLOCKS && instance.preds.len() == count && instance.values.len() == count
 }
 
 fn are_preds(preds: &Preds, count: usize) -> bool
-    requires { length preds.now ≤ 64000000 }
+    requires { length preds.now ≤ MAX_BLOCKS }
     ensures { IsTrue result ↔ ArePreds count preds.now }
 {
     for id in 0..preds.len() {
@@ -102,13 +101,19 @@ fn is_horizon(periods: u8, resources: u8, rate: Dec) -> bool
     ensures { IsTrue result ↔ IsHorizon periods resources rate }
 {
     let millionths = rate.millionths();
-    1 <= periods && periods <= 100 && resources <= 8 && 0 <= millionths && millionths <= 1_000_000
+    1 <= periods
+        && u32::from(periods) <= MAX_PERIODS
+        && resources <= MAX_RESOURCES
+        && 0 <= millionths
+        && millionths <= MAX_RATE
 }
 
 fn has_destinations(destinations: u8, values: &Values) -> bool
     ensures { IsTrue result ↔ HasDestinations destinations values.now }
 {
-    1 <= destinations && destinations <= 8 && values.are_of_width(usize::from(destinations))
+    1 <= destinations
+        && destinations <= MAX_DESTINATIONS
+        && values.are_of_width(usize::from(destinations))
 }
 
 fn are_coefs(coefs: &[Coef], count: usize, destinations: u8, resources: u8) -> bool

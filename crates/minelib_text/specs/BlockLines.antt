@@ -8,11 +8,12 @@ use Rattle.minelib_text.specs.TextLines.{fields_of, lines_in}
 use Rattle.minelib_text.specs.declared.text_fault.LineFault.{LineFault}
 use Rattle.minelib_text.specs.declared.text_fault.TextKind.{TextKind}
 use Rattle.minelib_text.specs.declared.text_fault.TextKind.TheVariants.{Fields, Range, Order}
+use Rattle.pit_model.specs.declared.ranges.TheConstants.{GRID_CELLS, MAX_BLOCKS, MAX_GRADE, MAX_KG, MAX_ZONES}
 
 -- indices of the grid, a tonnage and a grade in range, and a zone
 abbrev pub are_in_range : ℕ → ℕ → ℕ → ℕ → ℕ → ℕ → Bool
 are_in_range x y z kg grade zone =
-    nat_lt x 10000 && (nat_lt y 10000 && (nat_lt z 10000 && (nat_le kg (10 ^ 9) && (nat_le grade (10 ^ 12) && nat_lt zone 64))))
+    nat_lt x GRID_CELLS && (nat_lt y GRID_CELLS && (nat_lt z GRID_CELLS && (nat_le kg MAX_KG && (nat_le grade MAX_GRADE && nat_lt zone MAX_ZONES))))
 
 abbrev pub block_if : (x y z kg grade zone : ℕ) (within : Bool) → are_in_range x y z kg grade zone ≡ within → Option Block
 block_if x y z kg grade zone false is = None
@@ -29,12 +30,12 @@ block_if x y z kg grade zone true is =
       kg = kg;
       grade = grade;
       zone = zone;
-      x_in_grid = ltb-true x 10000 behind_x.0;
-      y_in_grid = ltb-true y 10000 behind_y.0;
-      z_in_grid = ltb-true z 10000 behind_z.0;
-      kg_in_range = leb-true kg (10 ^ 9) behind_kg.0;
-      grade_in_range = leb-true grade (10 ^ 12) behind_grade.0;
-      zone_in_range = ltb-true zone 64 behind_grade.1;
+      x_in_grid = ltb-true x GRID_CELLS behind_x.0;
+      y_in_grid = ltb-true y GRID_CELLS behind_y.0;
+      z_in_grid = ltb-true z GRID_CELLS behind_z.0;
+      kg_in_range = leb-true kg MAX_KG behind_kg.0;
+      grade_in_range = leb-true grade MAX_GRADE behind_grade.0;
+      zone_in_range = ltb-true zone MAX_ZONES behind_grade.1;
     })
 
 -- the block of these fields, where they are in range
@@ -49,13 +50,13 @@ in_range None = Err Range
 unfoldable pub block_of : ℕ → List (List ℕ) → Result Block TextKind
 block_of before fields =
     if not (length fields == 7) then Err Fields else do
-      id ← first_by (whole_in 64000000) fields
-      x ← first_by (whole_in 10000) id.1
-      y ← first_by (whole_in 10000) x.1
-      z ← first_by (whole_in 10000) y.1
-      tonnes ← first_by (size_in 3 (10 ^ 12)) z.1
-      grade ← first_by (size_in 6 (10 ^ 12)) tonnes.1
-      zone ← first_by (whole_in 64) grade.1
+      id ← first_by (whole_in MAX_BLOCKS) fields
+      x ← first_by (whole_in GRID_CELLS) id.1
+      y ← first_by (whole_in GRID_CELLS) x.1
+      z ← first_by (whole_in GRID_CELLS) y.1
+      tonnes ← first_by (size_in 3 (MAX_KG * 1000)) z.1
+      grade ← first_by (size_in 6 MAX_GRADE) tonnes.1
+      zone ← first_by (whole_in MAX_ZONES) grade.1
       if not (id.0 == before) then Err Order
           else in_range (block_with x.0 y.0 z.0 (tonnes.0 / 1000) grade.0 zone.0)
 

@@ -2,6 +2,7 @@
 use Rattle.std.specs.Prelude.{◌≡◌, ◌<◌, ◌≤◌, true, [], length, unwrap_or, All, IfSome}
 use Rattle.minelib_text.specs.ModelLines.{ModelDraft, count_in, is_heading}
 use Rattle.minelib_text.specs.declared.model_draft.ModelDraft.TheInside.{Inside}
+use Rattle.pit_model.specs.declared.ranges.TheConstants.{MAX_BLOCKS}
 
 abbrev pub draft_of : Inside → ModelDraft
 draft_of d = record {
@@ -17,7 +18,7 @@ draft_of d = record {
 
 -- a NAME has bytes, values stand behind the header alone, and each block has one for each destination
 pub record KeepsModel (d : Inside) : Type 0 where
-  pub few : d.blocks ≤ 64000000
+  pub few : d.blocks ≤ MAX_BLOCKS
   pub name : IfSome d.name (λ bytes. 0 < length bytes)
   pub heading : is_heading d.section ≡ true → d.values ≡ []
   pub width : All (λ of_block. length of_block ≡ count_in d.header.destinations) d.values

@@ -5,6 +5,7 @@ ghost use Rattle.pit_model.specs.Block.{AreInRange};
 ghost use Rattle.minelib_text.specs.BlockLines.{admit_block, block_of, block_with, blocks_in};
 ghost use Rattle.minelib_text.specs.Reading.{Gives};
 ghost use Rattle.minelib_text.specs.TextLines.{fields_of};
+ghost use Rattle.pit_model.specs.declared.ranges.TheConstants.{MAX_BLOCKS};
 
 use crate::read_fault::{FileError, LineError};
 use crate::reading::{Admit, read_lines};
@@ -12,12 +13,9 @@ use crate::text_fault::TextKind;
 use crate::text_fields::{count_fields, first_size, first_whole};
 use mine_instance::blocks::Blocks;
 use pit_model::block::Block;
-use pit_model::ranges::{GRID_CELLS, MAX_GRADE, MAX_KG, MAX_ZONES};
+use pit_model::ranges::{GRID_CELLS, MAX_BLOCKS, MAX_GRADE, MAX_KG, MAX_ZONES};
 use std::alloc::Global;
 use std::marker::Model;
-
-/// The most blocks of an instance.
-const MOST_BLOCKS: u64 = 64_000_000;
 
 /// The fields of a line: the identifier, three indices, tonnes, grade and zone.
 const FIELDS: usize = 7;
@@ -55,7 +53,7 @@ fn block_of(line: &[u8], before: usize) -> Result<Block, TextKind>
     if count_fields(line) != FIELDS {
         return Err(TextKind::Fields);
     }
-    let (id, behind_id) = first_whole(line, MOST_BLOCKS)?;
+    let (id, behind_id) = first_whole(line, MAX_BLOCKS as u64)?;
     let (x, behind_x) = first_whole(behind_id, u64::from(GRID_CELLS))?;
     let (y, behind_y) = first_whole(behind_x, u64::from(GRID_CELLS))?;
     let (z, behind_z) = first_whole(behind_y, u64::from(GRID_CELLS))?;
@@ -92,7 +90,7 @@ fn block_with(x: u16, y: u16, z: u16, kg: u64, grade: u64, zone: u8) -> Block
 /// The blocks that a text states, by identifier.
 pub fn read_blocks(alloc: Global, text: &[u8]) -> Result<Blocks, FileError>
     ensures stated { Gives result (blocks_in text.now) }
-    ensures few { IfOk result (λ blocks. length blocks ≤ 64000000) }
+    ensures few { IfOk result (λ blocks. length blocks ≤ MAX_BLOCKS) }
 {
     let blocks = drafted(alloc, text)?;
     Ok(blocks)

@@ -5,6 +5,7 @@ ghost use Rattle.std.specs.List.{flat_map};
 ghost use Rattle.pit_units.specs.Decimal.{shortest};
 ghost use Rattle.minelib_text.specs.Lines.{line_of, lines_from};
 ghost use Rattle.minelib_text.specs.Written.{prec_fields, greatest_fields, value_fields};
+ghost use Rattle.pit_model.specs.declared.ranges.TheConstants.{MAX_BLOCKS};
 
 use crate::fields::{put_decimal_behind, put_whole, put_whole_behind};
 use crate::id_text::IdText;
@@ -21,7 +22,7 @@ pub struct PrecLines<'a> {
     pub preds: &'a Preds,
     /// The texts of the blocks' identifiers.
     pub texts: &'a IdText,
-    pub ghost few: { length preds.now ≤ 64000000 },
+    pub ghost few: { length preds.now ≤ MAX_BLOCKS },
 }
 
 impl<'a> Section for PrecLines<'a> {

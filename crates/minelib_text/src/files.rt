@@ -2,6 +2,7 @@
 
 ghost use Rattle.std.specs.Prelude.{◌≤◌, ◌<◌, length, All};
 ghost use Rattle.minelib_text.specs.Written.{text_blocks, text_prec, text_upit, text_pcpsp, text_cpit};
+ghost use Rattle.pit_model.specs.declared.ranges.TheConstants.{MAX_BLOCKS};
 
 use crate::block_sections::{GreatestLines, PrecLines, ValueLines};
 use crate::id_text::IdText;
@@ -38,7 +39,7 @@ impl<'a> Text for BlockFile<'a> {
 #[derive(Drop)]
 pub struct PrecFile<'a> {
     pub instance: &'a Instance,
-    pub ghost few: { length instance.now.preds ≤ 64000000 },
+    pub ghost few: { length instance.now.preds ≤ MAX_BLOCKS },
 }
 
 impl<'a> Text for PrecFile<'a> {

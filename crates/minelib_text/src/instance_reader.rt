@@ -4,6 +4,7 @@ ghost use Rattle.std.specs.Prelude.{◌≡◌, ◌≤◌, length, IfOk};
 ghost use Rattle.mine_instance.specs.Valid.{IsValid};
 ghost use Rattle.minelib_text.specs.Denotes.{cpit_denoted, denoted};
 ghost use Rattle.minelib_text.specs.Reading.{Reads};
+ghost use Rattle.pit_model.specs.declared.ranges.TheConstants.{MAX_BLOCKS};
 
 use crate::block_reader::read_blocks;
 use crate::model_key::Problem;
@@ -64,7 +65,7 @@ fn joined(
 /// The text denotes none, and the answer names its first faulty line; or memory was refused.
 #[tactic(auto, unfolding(crate::specs::Denotes::cpit_denoted))]
 pub fn read_cpit(alloc: Global, n: usize, text: &[u8]) -> Result<Cpit, ReadTextError>
-    requires { n ≤ 64000000 }
+    requires { n ≤ MAX_BLOCKS }
     ensures denoted { Reads result (cpit_denoted n text.now) }
     ensures blocks { IfOk result (λ cpit. length cpit.values ≡ n) }
 {

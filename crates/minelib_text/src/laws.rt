@@ -23,6 +23,7 @@ ghost use Rattle.pit_model.specs.Plan.{IsCone, PlanParts};
 ghost use Rattle.minelib_text.specs.declared.text_fault.LineFault.{LineFault};
 ghost use Rattle.pit_model.specs.declared.block.Block.{Block};
 ghost use Rattle.precedence.specs.ConeLaws.{IsEven};
+ghost use Rattle.pit_model.specs.declared.ranges.TheConstants.{MAX_BLOCKS};
 
 use crate::keeping::{keep_cpit, keep_instance};
 use mine_instance::cpit::Cpit;
@@ -69,7 +70,7 @@ pub fn read_is_valid()
 
 /// The constrained pit limit problem that a text denotes is one, with a value for each block.
 pub fn cpit_read_is_valid()
-    ensures { (n : ℕ) (text : List ℕ) (c : CpitParts) → n ≤ 64000000 → DenotesCpit n text c → IsCpit c × (length c.values ≡ n) }
+    ensures { (n : ℕ) (text : List ℕ) (c : CpitParts) → n ≤ MAX_BLOCKS → DenotesCpit n text c → IsCpit c × (length c.values ≡ n) }
 {}
 
 /// Where blocks are read, each line that is read spells one of them, in order.

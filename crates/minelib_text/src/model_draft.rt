@@ -8,6 +8,7 @@ ghost use Rattle.minelib_text.specs.ModelLines.{admit_coef, admit_header, admit_
 ghost use Rattle.minelib_text.specs.ModelParts.{are_given, is_name_for};
 ghost use Rattle.minelib_text.specs.Reading.{Admits, Gives};
 ghost use Rattle.minelib_text.specs.TextLines.{fields_of};
+ghost use Rattle.pit_model.specs.declared.ranges.TheConstants.{MAX_BLOCKS};
 
 use crate::model_header::{blank_header, header_with};
 use crate::model_items::{coef_of, is_coef_behind, is_limit_behind, limit_of, values_in};
@@ -73,7 +74,7 @@ impl Admit for ModelDraft {
 impl ModelDraft {
     /// Before the first line.
     pub fn new(alloc: Global, problem: Problem, blocks: usize) -> ModelDraft
-        requires { blocks ≤ 64000000 }
+        requires { blocks ≤ MAX_BLOCKS }
         ensures { result ≡ blank_model problem blocks }
     {
         ModelDraft {

@@ -8,6 +8,7 @@ ghost use Rattle.minelib_text.specs.ModelLines.{bound_in, coef_of, coef_width, d
 ghost use Rattle.minelib_text.specs.ModelParts.{TakesFirst};
 ghost use Rattle.minelib_text.specs.Reading.{Admits};
 ghost use Rattle.minelib_text.specs.TextLines.{fields_of};
+ghost use Rattle.pit_model.specs.declared.ranges.TheConstants.{MAX_BLOCKS};
 
 use crate::field_values::decimal_in;
 use crate::model_key::Problem;
@@ -64,7 +65,7 @@ pub fn coef_of(
     resources: u8,
     line: &[u8],
 ) -> Result<Coef, TextKind>
-    requires { blocks ≤ 64000000 }
+    requires { blocks ≤ MAX_BLOCKS }
     ensures { result ≡ coef_of problem blocks destinations resources (fields_of line.now) }
 {
     if count_fields(line) != coef_width(problem) {

@@ -3,6 +3,7 @@
 ghost use Rattle.std.specs.Prelude.{◌≡◌, ◌≤◌, true, IfOk};
 ghost use Rattle.minelib_text.specs.ModelLines.{is_complete, model_in};
 ghost use Rattle.minelib_text.specs.Reading.{Gives};
+ghost use Rattle.pit_model.specs.declared.ranges.TheConstants.{MAX_BLOCKS};
 
 use crate::model_draft::ModelDraft;
 use crate::model_key::Problem;
@@ -17,7 +18,7 @@ pub fn read_model(
     blocks: usize,
     text: &[u8],
 ) -> Result<ModelDraft, FileError>
-    requires { blocks ≤ 64000000 }
+    requires { blocks ≤ MAX_BLOCKS }
     ensures value { Gives result (model_in problem blocks text.now) }
     ensures complete { IfOk result (λ d. is_complete d.name d.header ≡ true) }
 {

@@ -6,6 +6,7 @@ ghost use Rattle.minelib_text.specs.Marks.{AreClear};
 ghost use Rattle.minelib_text.specs.PrecLines.{admit_preds, finish_preds, no_lists, preds_in, preds_of, stands_in};
 ghost use Rattle.minelib_text.specs.Reading.{Admits, Gives};
 ghost use Rattle.minelib_text.specs.TextLines.{fields_of};
+ghost use Rattle.pit_model.specs.declared.ranges.TheConstants.{MAX_BLOCKS};
 
 use crate::field_values::whole_in;
 use crate::marks::all_differ;
@@ -37,7 +38,7 @@ impl Model for PrecDraft {
 
     ghost view = { λ d. record { blocks = d.blocks; lists = d.preds } };
 
-    ghost invariant = { λ d. (d.blocks ≤ 64000000) × (vec_len d.marks ≡ d.blocks) × AreClear d.marks.items };
+    ghost invariant = { λ d. (d.blocks ≤ MAX_BLOCKS) × (vec_len d.marks ≡ d.blocks) × AreClear d.marks.items };
 }
 
 impl Admit for PrecDraft {
@@ -65,7 +66,7 @@ fn preds_of(
     ids: &mut Vec<u32>,
     marks: &mut Vec<bool>,
 ) -> Result<(), LineError>
-    requires few { blocks ≤ 64000000 }
+    requires few { blocks ≤ MAX_BLOCKS }
     requires places { vec_len marks.old ≡ blocks }
     requires clear { AreClear marks.old.items }
     ensures value { Admits ids.new.items result (preds_of blocks before (fields_of line.now)) }
@@ -92,7 +93,7 @@ fn preds_of(
 
 // All identifiers of a line, of so many blocks.
 fn read_ids(line: &[u8], blocks: usize, ids: &mut Vec<u32>) -> Result<(), LineError>
-    requires { blocks ≤ 64000000 }
+    requires { blocks ≤ MAX_BLOCKS }
     ensures value { Admits ids.new.items result (all_by (whole_in blocks) [] (fields_of line.now)) }
     ensures below { OnOk result (All (λ id. id < blocks) ids.new.items) }
 {
@@ -114,7 +115,7 @@ fn stands_in(ids: &[u32], id: u32) -> bool
 
 impl PrecDraft {
     fn new(alloc: Global, blocks: usize) -> Result<PrecDraft, AllocError>
-        requires { blocks ≤ 64000000 }
+        requires { blocks ≤ MAX_BLOCKS }
         ensures { IfOk result (λ d. d ≡ no_lists blocks) }
     {
         Ok(PrecDraft {
@@ -142,7 +143,7 @@ impl PrecDraft {
 
 /// The predecessors that a text states, of so many blocks.
 pub fn read_preds(alloc: Global, blocks: usize, text: &[u8]) -> Result<Preds, FileError>
-    requires { blocks ≤ 64000000 }
+    requires { blocks ≤ MAX_BLOCKS }
     ensures { Gives result (preds_in blocks text.now) }
 {
     let mut draft = PrecDraft::new(alloc, blocks)?;

@@ -11,6 +11,7 @@ use Rattle.pit_commands.specs.declared.jobs.Job.TheVariants.{Check, Compile}
 use Rattle.pit_commands.specs.declared.jobs.JobFault.{JobFault}
 use Rattle.pit_commands.specs.declared.jobs.JobFault.TheVariants.{OutOfMemory, Line}
 use Rattle.pit_compile.specs.declared.settings.Settings.{Settings}
+use Rattle.pit_model.specs.declared.ranges.TheConstants.{MAX_CAPACITY, MAX_VALUERS}
 
 -- BASE, which has to be given
 abbrev pub base_word : Rule
@@ -34,11 +35,11 @@ number_word name default most = record (new_rule name) { long = Some name; value
 
 -- `--valuers N`, from 1 to 64, and 4 where it is not given
 abbrev pub valuers_word : Rule
-valuers_word = number_word (codes "valuers") (codes "4") 64
+valuers_word = number_word (codes "valuers") (codes "4") MAX_VALUERS
 
 -- `--capacity N`, from 1 to 4096, and 64 where it is not given
 abbrev pub capacity_word : Rule
-capacity_word = number_word (codes "capacity") (codes "64") 4096
+capacity_word = number_word (codes "capacity") (codes "64") MAX_CAPACITY
 
 -- ZONE.., of which at least one has to be given
 abbrev pub zone_word : Rule
@@ -70,7 +71,7 @@ FindsNumber rows id most n = (text : Text) × (one_of id rows ≡ Some text) × 
 
 -- clap found these settings
 abbrev pub FindsSettings : List Row → Settings → Type 0
-FindsSettings rows settings = FindsNumber rows (codes "valuers") 64 settings.valuers × FindsNumber rows (codes "capacity") 4096 settings.capacity
+FindsSettings rows settings = FindsNumber rows (codes "valuers") MAX_VALUERS settings.valuers × FindsNumber rows (codes "capacity") MAX_CAPACITY settings.capacity
 
 -- clap found the subcommand `check`, and this BASE behind it
 pub record FindsCheck (found : Option (Text × List Row)) (base : Text) : Type 0 where

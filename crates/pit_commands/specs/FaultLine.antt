@@ -8,6 +8,7 @@ use Rattle.pit_commands.specs.declared.input.InputFault.TheVariants as input
 use Rattle.pit_compile.specs.FaultText.{refusal_text}
 use Rattle.pit_compile.specs.declared.refusal.Refusal.{Refusal}
 use Rattle.pit_compile.specs.declared.refusal.Refusal.TheVariants.{Settings, NoThread, FeedFailed, TooLong, Row, Same, SinkFailed, OutOfMemory}
+use Rattle.pit_model.specs.declared.ranges.TheConstants.{MAX_PLAN_BYTES}
 
 -- 1 for a refused model, 2 for settings, 3 for a feed or a sink that failed, 4 where a thread or memory was refused
 abbrev pub status_of : Refusal → ℕ
@@ -58,12 +59,12 @@ EndsInput fault old new status = EndsWith (status_of_input fault) (input_text fa
 
 -- a text of more than 1,048,576 bytes gives no plan, and a line says so; or memory was refused, and no line stands
 abbrev pub PlanTooLong : List ℕ → List ℕ → List ℕ → ℕ → Type 0
-PlanTooLong text old new status = (1048576 < length text) × EndsWith 1 (codes "plan: TooLong") old new status
+PlanTooLong text old new status = (MAX_PLAN_BYTES < length text) × EndsWith 1 (codes "plan: TooLong") old new status
 
 -- a shorter text states no plan, and the line of its fault says so
 abbrev pub PlanFaulty : List ℕ → List ℕ → List ℕ → ℕ → Type 0
 PlanFaulty text old new status =
-    (length text ≤ 1048576) × (status ≡ 1) × ((fault : PlanFault) × (planned text ≡ Err fault) × (new ≡ old ++ line_of (plan_fault_text fault)))
+    (length text ≤ MAX_PLAN_BYTES) × (status ≡ 1) × ((fault : PlanFault) × (planned text ≡ Err fault) × (new ≡ old ++ line_of (plan_fault_text fault)))
 
 -- why a text gives no plan: it is too long; or it has a fault; or memory was refused, and no line stands
 abbrev pub PlanRefused : List ℕ → List ℕ → List ℕ → ℕ → Type 0

@@ -7,13 +7,14 @@ use Rattle.pit_model.specs.declared.plan.Plan.{Plan}
 use Rattle.pit_commands.specs.FaultLine.{EndsInput, EndsRun, PlanRefused}
 use Rattle.pit_commands.specs.Pieces.{Cutting, plan_of, zones_of}
 use Rattle.pit_commands.specs.declared.input.InputFault.{InputFault}
+use Rattle.pit_model.specs.declared.ranges.TheConstants.{MAX_FILE_BYTES, MAX_PLAN_BYTES}
 
 -- an input of at most 256 MiB is cut into these pieces, of which the first, of at most 1 MiB, states the plan
 abbrev pub IsModel : List ℕ → Cutting → Plan → Type 0
 IsModel input pieces plan =
-    (length input ≤ 268435456)
+    (length input ≤ MAX_FILE_BYTES)
     × ((pieces.plan ≡ plan_of input) × (pieces.zones ≡ zones_of input))
-    × ((length pieces.plan ≤ 1048576) × (planned pieces.plan ≡ Ok plan))
+    × ((length pieces.plan ≤ MAX_PLAN_BYTES) × (planned pieces.plan ≡ Ok plan))
 
 -- an input has more zone files than this plan has zones, and the run ends so
 abbrev pub FilesRefused : List ℕ → Plan → List ℕ → List ℕ → ℕ → Type 0
@@ -32,4 +33,4 @@ PiecesRefused input old new status =
 abbrev pub ModelRefused : List ℕ → List ℕ → ℕ → Type 0
 ModelRefused old new status =
     ((fault : InputFault) × EndsInput fault old new status)
-    ⊎ ((input : List ℕ) × (length input ≤ 268435456) × PiecesRefused input old new status)
+    ⊎ ((input : List ℕ) × (length input ≤ MAX_FILE_BYTES) × PiecesRefused input old new status)

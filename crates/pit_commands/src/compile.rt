@@ -5,8 +5,9 @@ ghost use Rattle.pit_model.specs.Destinations.{formulas_of};
 ghost use Rattle.pit_model.specs.Planned.{planned};
 ghost use Rattle.pit_commands.specs.Compile.{EndsPlanFile, EndsRefusedCompile, HasRows, NotCompiled, PlanFileRefused, TellsRows, ZonesRefused, rows_line, zone_fault};
 ghost use Rattle.pit_commands.specs.FaultLine.{EndsRefused, EndsWith};
+ghost use Rattle.pit_model.specs.declared.ranges.TheConstants.{MAX_PLAN_BYTES};
 
-use crate::fault_line::{MAX_PLAN_BYTES, plan_from, refuse_run, refuse_with};
+use crate::fault_line::{plan_from, refuse_run, refuse_with};
 use crate::status::{DEVICE, REFUSED, RESOURCES};
 use minelib_text::file_sink::FileSink;
 use minelib_text::sink::Sink;
@@ -16,6 +17,7 @@ use pit_compile::settings::Settings;
 use pit_compile::sinks::Sinks;
 use pit_model::destination::Destination;
 use pit_model::plan::Plan;
+use pit_model::ranges::MAX_PLAN_BYTES;
 use std::alloc::{AllocError, Global};
 use std::rt::Files;
 use std::sync::Wait;
@@ -116,7 +118,7 @@ pub fn read_plan_file<R: Files>(
     path: &str,
     lines: &mut Vec<u8>,
 ) -> Result<Plan, u8>
-    ensures plan { IfOk result (λ plan. (text : List ℕ) × (length text ≤ 1048576) × (planned text ≡ Ok plan)) }
+    ensures plan { IfOk result (λ plan. (text : List ℕ) × (length text ≤ MAX_PLAN_BYTES) × (planned text ≡ Ok plan)) }
     ensures quiet { OnOk result (lines.new.items ≡ lines.old.items) }
     ensures refused { IfErr result (EndsRefused lines.old.items lines.new.items) }
     ensures told { IfErr result (PlanFileRefused lines.old.items lines.new.items) }

@@ -3,6 +3,7 @@
 ghost use Rattle.std.specs.Prelude.{◌≤◌};
 ghost use Rattle.minelib_text.specs.Reading.{Reads};
 ghost use Rattle.pit_commands.specs.Counts.{counted, cpit_counted};
+ghost use Rattle.pit_model.specs.declared.ranges.TheConstants.{MAX_BLOCKS};
 
 use minelib_text::text_fault::ReadTextError;
 use minelib_text::{read_cpit, read_instance};
@@ -92,7 +93,7 @@ fn cpit_count(
     n: usize,
     text: &Option<Vec<u8>>,
 ) -> Result<Option<usize>, ReadTextError>
-    requires { n ≤ 64000000 }
+    requires { n ≤ MAX_BLOCKS }
     ensures { Reads result (cpit_counted n text.now) }
 {
     let Some(text) = text else {

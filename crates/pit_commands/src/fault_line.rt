@@ -4,16 +4,15 @@ ghost use Rattle.std.specs.Prelude.{◌≡◌, ◌≤◌, ◌++◌, length, Ok, 
 ghost use Rattle.pit_model.specs.Planned.{planned};
 ghost use Rattle.pit_commands.specs.FaultLine.{EndsRefused, EndsRun, EndsWith, PlanRefused, line_of, status_of};
 ghost use Rattle.pit_compile.specs.FaultText.{refusal_text};
+ghost use Rattle.pit_model.specs.declared.ranges.TheConstants.{MAX_PLAN_BYTES};
 
 use crate::status::{DEVICE, REFUSED, RESOURCES, USAGE};
 use pit_compile::refusal::Refusal;
 use pit_model::plan::Plan;
 use pit_model::plan_fault::ReadPlanError;
+use pit_model::ranges::MAX_PLAN_BYTES;
 use pit_model::read_plan;
 use std::alloc::{AllocError, Global};
-
-/// The most bytes of a plan.
-pub const MAX_PLAN_BYTES: usize = 1_048_576;
 
 /// The plan that a text states; or the status of its refusal, with the line of the fault appended to `lines`.
 ///
@@ -21,7 +20,7 @@ pub const MAX_PLAN_BYTES: usize = 1_048_576;
 /// memory and `lines` is as it was.
 #[tactic(auto, using(crate::proofs::Ends::plan_told))]
 pub fn plan_from(alloc: Global, text: &[u8], lines: &mut Vec<u8>) -> Result<Plan, u8>
-    ensures plan { IfOk result (λ plan. (length text.now ≤ 1048576) × (planned text.now ≡ Ok plan)) }
+    ensures plan { IfOk result (λ plan. (length text.now ≤ MAX_PLAN_BYTES) × (planned text.now ≡ Ok plan)) }
     ensures quiet { OnOk result (lines.new.items ≡ lines.old.items) }
     ensures refused { IfErr result (PlanRefused text.now lines.old.items lines.new.items) }
     ensures ends { IfErr result (EndsRefused lines.old.items lines.new.items) }

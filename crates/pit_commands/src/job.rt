@@ -9,7 +9,8 @@ use crate::command_line::command_line;
 use crate::jobs::{Job, JobFault};
 use clap::ArgMatches;
 use clap::error::ErrorKind;
-use pit_compile::settings::{MOST_CAPACITY, MOST_VALUERS, Settings};
+use pit_compile::settings::Settings;
+use pit_model::ranges::{MAX_CAPACITY, MAX_VALUERS};
 use std::alloc::{AllocError, Global};
 
 /// The job that these words state, the program's name first.
@@ -100,8 +101,8 @@ fn copied(alloc: Global, words: &[&str]) -> Result<Vec<String>, AllocError>
 fn settings_in(found: &ArgMatches<'_>) -> Option<Settings>
     ensures { MatchOption result ((settings : ASettings) → FindsSettings (rows_of (found_of found.now)) settings → ⊥) (FindsSettings (rows_of (found_of found.now))) }
 {
-    let valuers = number_in(found, "valuers", MOST_VALUERS)?;
-    let capacity = number_in(found, "capacity", MOST_CAPACITY)?;
+    let valuers = number_in(found, "valuers", MAX_VALUERS)?;
+    let capacity = number_in(found, "capacity", MAX_CAPACITY)?;
     Some(Settings { valuers, capacity })
 }
 

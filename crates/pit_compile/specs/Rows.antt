@@ -14,6 +14,7 @@ use Rattle.zone_csv.specs.Zone.{blocks_of, fault_of}
 use Rattle.zone_csv.specs.declared.row_fault.RowFault.{RowFault}
 use Rattle.pit_compile.specs.declared.refusal.Refusal.{Refusal}
 use Rattle.pit_compile.specs.declared.refusal.Refusal.TheVariants.{TooLong, Row}
+use Rattle.pit_model.specs.declared.ranges.TheConstants.{MAX_BLOCKS, MAX_ROWS}
 
 -- the rows of these blocks of a file, the first of them at place n, each with its worth by each formula
 abbrev pub rows_from : List Block → List Formula → ℕ → ℕ → List Valued
@@ -40,11 +41,11 @@ sents_of plan texts = sents_from 0 plan.grid texts
 
 -- the place of a row is one of its file's
 abbrev pub HasPlace : Valued → Type 0
-HasPlace row = row.place < 1000000
+HasPlace row = row.place < MAX_ROWS
 
 -- these are rows as the zone files of a plan can have them
 pub record AreModelRows (plan : PlanParts) (rows : List Valued) : Type 0 where
-  pub few : length rows ≤ 64000000
+  pub few : length rows ≤ MAX_BLOCKS
   pub placed : All HasPlace rows
   pub zones : All (λ row. row.block.zone < length plan.cones) rows
   pub valued : All (λ row. row.worths ≡ worths_by (formulas_of_plan plan) row.block) rows

@@ -6,6 +6,7 @@ use Rattle.pit_model.specs.declared.formula.Formula.{Formula}
 use Rattle.pit_compile.specs.declared.settings.Settings.{Settings}
 use Rattle.pit_compile.specs.declared.settings.SettingsFault.{SettingsFault}
 use Rattle.pit_compile.specs.declared.settings.SettingsFault.TheVariants.{Files, Valuers, Capacity, Destinations}
+use Rattle.pit_model.specs.declared.ranges.TheConstants.{MAX_CAPACITY, MAX_VALUERS, MAX_ZONES}
 
 -- a number from 1 on, and not above the most
 abbrev pub IsFrom1To : ℕ → ℕ → Type 0
@@ -14,16 +15,16 @@ IsFrom1To most n = (1 ≤ n) × (n ≤ most)
 -- nothing is wrong with them. A plan has at most 64 zones
 pub record Suits (plan : PlanParts) (files : ℕ) (formulas : List Formula) (settings : Settings) : Type 0 where
   pub files_fit : files ≡ length plan.cones
-  pub few_files : files ≤ 64
-  pub valuers_fit : IsFrom1To 64 settings.valuers
-  pub capacity_fits : IsFrom1To 4096 settings.capacity
+  pub few_files : files ≤ MAX_ZONES
+  pub valuers_fit : IsFrom1To MAX_VALUERS settings.valuers
+  pub capacity_fits : IsFrom1To MAX_CAPACITY settings.capacity
   pub destinations_fit : formulas ≡ formulas_of_plan plan
 
 -- this is wrong with them, and nothing that stands before it in this list
 abbrev pub IsSettingsFault : PlanParts → ℕ → List Formula → Settings → SettingsFault → Type 0
 IsSettingsFault plan files formulas settings Files = files ≢ length plan.cones
-IsSettingsFault plan files formulas settings Valuers = (files ≡ length plan.cones) × ¬ IsFrom1To 64 settings.valuers
+IsSettingsFault plan files formulas settings Valuers = (files ≡ length plan.cones) × ¬ IsFrom1To MAX_VALUERS settings.valuers
 IsSettingsFault plan files formulas settings Capacity =
-    (files ≡ length plan.cones) × IsFrom1To 64 settings.valuers × ¬ IsFrom1To 4096 settings.capacity
+    (files ≡ length plan.cones) × IsFrom1To MAX_VALUERS settings.valuers × ¬ IsFrom1To MAX_CAPACITY settings.capacity
 IsSettingsFault plan files formulas settings Destinations =
-    (files ≡ length plan.cones) × IsFrom1To 64 settings.valuers × IsFrom1To 4096 settings.capacity × (formulas ≢ formulas_of_plan plan)
+    (files ≡ length plan.cones) × IsFrom1To MAX_VALUERS settings.valuers × IsFrom1To MAX_CAPACITY settings.capacity × (formulas ≢ formulas_of_plan plan)

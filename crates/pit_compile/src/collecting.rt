@@ -10,6 +10,7 @@ ghost use Rattle.lane.specs.Whole.{IsWhole};
 ghost use Rattle.pit_compile.specs.Collecting.{joined, IsFront};
 ghost use Rattle.pit_model.specs.Destinations.{formulas_of_plan};
 ghost use Rattle.valuers.specs.Valuing.{items_by, rows_by};
+ghost use Rattle.pit_model.specs.declared.ranges.TheConstants.{MAX_ROWS};
 
 use collector::laws::{complete_is_not_refused, complete_lacks_nothing, found_is_held};
 use collector::{AddFault, Collector, FinishFault, Rows};
@@ -28,7 +29,7 @@ pub(crate) fn collect(
 ) -> Result<Vec<Valued>, AllocError>
     requires whole { IsWhole gathered.now }
     requires files { length gathered.now.sent ≡ length plan.now.cones }
-    requires few { All (λ sent. rows_in sent ≤ 1000000) gathered.now.sent }
+    requires few { All (λ sent. rows_in sent ≤ MAX_ROWS) gathered.now.sent }
     requires handed { items.items ≡ map (items_by (formulas_of_plan plan.now)) gathered.now.took }
     ensures { IfOk result (λ rows. rows.items ≡ flat_map (rows_by (formulas_of_plan plan.now)) gathered.now.sent) }
 {

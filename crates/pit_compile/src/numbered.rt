@@ -4,6 +4,7 @@ ghost use Rattle.std.specs.Prelude.{◌<◌, ◌≤◌, length, All, IfErr, IfOk
 ghost use Rattle.precedence.specs.Identifier.{blocks_of, IsNumbering};
 ghost use Rattle.pit_compile.specs.Rows.{HasPlace};
 ghost use Rattle.pit_compile.specs.Verdict.{IsRepeat, IsRowAt};
+ghost use Rattle.pit_model.specs.declared.ranges.TheConstants.{MAX_BLOCKS};
 
 use crate::refusal::{Refusal, RowAt};
 use precedence::{NumberError, Numbering, number};
@@ -13,7 +14,7 @@ use valuers::Valued;
 /// The blocks of the rows by identifier. Fails with `Same` where a block stands twice, naming the first row that repeats another and
 /// that one, or where memory is refused.
 pub fn numbered(alloc: Global, rows: &[Valued]) -> Result<Numbering, Refusal>
-    requires few { length rows.now ≤ 64000000 }
+    requires few { length rows.now ≤ MAX_BLOCKS }
     requires placed { All HasPlace rows.now }
     ensures numbering { IfOk result (IsNumbering (blocks_of rows.now)) }
     ensures refused { IfErr result (IsRepeat rows.now) }

@@ -2,13 +2,14 @@
 
 ghost use Rattle.std.specs.Prelude.{◌≡◌, ◌≤◌, None, Some, length, IfErr, OnOk};
 ghost use Rattle.pit_compile.specs.Answers.{refusal_in, refusal_of};
+ghost use Rattle.pit_model.specs.declared.ranges.TheConstants.{MAX_ZONES};
 
 use crate::refusal::Refusal;
 use run_threads::ReadFault;
 
 /// Fails with the answer of the least file whose reader did not finish.
 pub fn require_read(answers: &[Result<(), ReadFault>]) -> Result<(), Refusal>
-    requires { length answers.now ≤ 64 }
+    requires { length answers.now ≤ MAX_ZONES }
     ensures read { OnOk result (refusal_in 0 answers.now ≡ None) }
     ensures refused { IfErr result (λ refusal. refusal_in 0 answers.now ≡ Some refusal) }
 {

@@ -8,14 +8,9 @@ ghost use Rattle.pit_model.specs.Destinations.{formulas_of, formulas_of_plan};
 use pit_model::destination::Destination;
 use pit_model::formula::{Formula, NamedFormula};
 use pit_model::plan::Plan;
+use pit_model::ranges::{MAX_CAPACITY, MAX_VALUERS};
 use std::fmt;
 use thiserror::Error;
-
-/// The most threads that value rows.
-pub const MOST_VALUERS: usize = 64;
-
-/// The most messages that the lane of a run may hold.
-pub const MOST_CAPACITY: usize = 4096;
 
 /// How a run is to be made.
 #[derive(Clone, Copy, Debug, PartialEq, Eq)]
@@ -82,10 +77,10 @@ fn suits(
     if files != plan.cones().len() {
         return Err(SettingsFault::Files);
     }
-    if settings.valuers == 0 || settings.valuers > MOST_VALUERS {
+    if settings.valuers == 0 || settings.valuers > MAX_VALUERS {
         return Err(SettingsFault::Valuers);
     }
-    if settings.capacity == 0 || settings.capacity > MOST_CAPACITY {
+    if settings.capacity == 0 || settings.capacity > MAX_CAPACITY {
         return Err(SettingsFault::Capacity);
     }
     if !are_the_plans(destinations, plan) {

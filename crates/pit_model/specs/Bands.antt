@@ -4,10 +4,11 @@ use Rattle.std.specs.List.{last_or}
 use Rattle.std.specs.Cmp.Lexicographic.{pointwise}
 use Rattle.std.specs.Option.{option_map_or}
 use Rattle.pit_model.specs.declared.band.Band.{Band}
+use Rattle.pit_model.specs.declared.ranges.TheConstants.{MAX_BANDS, MAX_GRADE, MAX_RECOVERY}
 
 -- a start of at most 10^12 millionths of a gram per tonne, a recovery of at most 1000 per mille
 abbrev pub IsBand : Band → Type 0
-IsBand b = (b.start ≤ 10 ^ 12) × (b.recovery ≤ 1000)
+IsBand b = (b.start ≤ MAX_GRADE) × (b.recovery ≤ MAX_RECOVERY)
 
 -- each band begins above the one before it
 abbrev pub starts_rise : List Band → Bool
@@ -17,7 +18,7 @@ starts_rise (b ∷ (c ∷ bands)) = nat_lt b.start c.start && starts_rise (c ∷
 
 -- 1 to 16 bands in range, in strictly rising order of their starts
 pub record AreBands (bands : List Band) : Type 0 where
-  pub count : (1 ≤ length bands) × (length bands ≤ 16)
+  pub count : (1 ≤ length bands) × (length bands ≤ MAX_BANDS)
   pub in_range : All IsBand bands
   pub rising : starts_rise bands ≡ true
 

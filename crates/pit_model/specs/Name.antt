@@ -1,6 +1,7 @@
 -- What a NAME is: 1 to 64 bytes, each an ASCII letter, a digit, `_`, `-` or `.`.
 use Rattle.std.specs.Prelude.{ℕ, Bool, List, length, nat_le, ◌&&◌, ◌||◌, ◌==◌}
 use Rattle.std.specs.List.{list_all}
+use Rattle.pit_model.specs.declared.ranges.TheConstants.{MAX_NAME_BYTES}
 
 -- an ASCII letter, a digit, `_`, `-` or `.`
 abbrev pub is_name_byte : ℕ → Bool
@@ -9,4 +10,4 @@ is_name_byte b =
 
 -- 1 to 64 of them
 abbrev pub is_name : List ℕ → Bool
-is_name bytes = nat_le 1 (length bytes) && nat_le (length bytes) 64 && list_all is_name_byte bytes
+is_name bytes = nat_le 1 (length bytes) && nat_le (length bytes) MAX_NAME_BYTES && list_all is_name_byte bytes

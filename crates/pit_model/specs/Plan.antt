@@ -13,6 +13,7 @@ use Rattle.pit_model.specs.declared.resource.Resource.{Resource}
 use Rattle.pit_model.specs.declared.limit.Bound.{Bound}
 use Rattle.pit_model.specs.declared.limit.Bound.TheVariants.{AtMost, AtLeast, Between}
 use Rattle.pit_model.specs.declared.limit.Limit.{Limit}
+use Rattle.pit_model.specs.declared.ranges.TheConstants.{MAX_BENCHES, MAX_COST, MAX_DESTINATIONS, MAX_ORIGIN, MAX_PERIODS, MAX_PRICE, MAX_RATE, MAX_RECOVERY, MAX_RESOURCES, MAX_SIZE, MAX_SLOPE, MAX_TONNES, MAX_ZONES, MIN_ORIGIN}
 
 -- the parts of a plan
 pub record PlanParts : Type 0 where
@@ -43,28 +44,28 @@ plan_of name grid cones formulas periods rate resources limits = record {
 
 -- an axis's origin is within 10^12 mm of zero, and its blocks are 1 to 100,000 mm long
 abbrev pub IsAxis : Axis → Type 0
-IsAxis a = ((negsuc 999999999999 ≤ℤ a.origin) × (a.origin ≤ℤ pos (10 ^ 12))) × ((1 ≤ a.size) × (a.size ≤ 10 ^ 5))
+IsAxis a = ((MIN_ORIGIN ≤ℤ a.origin) × (a.origin ≤ℤ MAX_ORIGIN)) × ((1 ≤ a.size) × (a.size ≤ MAX_SIZE))
 
 abbrev pub IsGrid : Grid → Type 0
 IsGrid g = IsAxis g.x × IsAxis g.y × IsAxis g.z
 
 -- rise and run are 1 to 1000
 abbrev pub IsSlope : Slope → Type 0
-IsSlope s = ((1 ≤ s.p) × (s.p ≤ 1000)) × ((1 ≤ s.q) × (s.q ≤ 1000))
+IsSlope s = ((1 ≤ s.p) × (s.p ≤ MAX_SLOPE)) × ((1 ≤ s.q) × (s.q ≤ MAX_SLOPE))
 
 -- a cone looks at 1 to 20 benches
 abbrev pub IsCone : Cone → Type 0
-IsCone c = (IsSlope c.east × IsSlope c.west × IsSlope c.north × IsSlope c.south) × ((1 ≤ c.k) × (c.k ≤ 20))
+IsCone c = (IsSlope c.east × IsSlope c.west × IsSlope c.north × IsSlope c.south) × ((1 ≤ c.k) × (c.k ≤ MAX_BENCHES))
 
 -- the numbers of a formula are in range
 abbrev pub IsRuled : Formula → Type 0
-IsRuled (Mill recovery price cost) = (recovery ≤ 1000) × (price ≤ 10 ^ 8) × (cost ≤ 10 ^ 7)
-IsRuled (Leach bands price cost) = AreBands bands × (price ≤ 10 ^ 8) × (cost ≤ 10 ^ 7)
-IsRuled (Dump cost) = cost ≤ 10 ^ 7
+IsRuled (Mill recovery price cost) = (recovery ≤ MAX_RECOVERY) × (price ≤ MAX_PRICE) × (cost ≤ MAX_COST)
+IsRuled (Leach bands price cost) = AreBands bands × (price ≤ MAX_PRICE) × (cost ≤ MAX_COST)
+IsRuled (Dump cost) = cost ≤ MAX_COST
 
 -- tonnes of a limit: 0 to 10^12, in millionths
 abbrev pub IsTonnes : ℤ → Type 0
-IsTonnes v = (pos 0 ≤ℤ v) × (v ≤ℤ pos (10 ^ 18))
+IsTonnes v = (pos 0 ≤ℤ v) × (v ≤ℤ MAX_TONNES)
 
 -- the numbers of a bound are tonnes
 abbrev pub AreTonnes : Bound → Type 0
@@ -99,13 +100,13 @@ AreCovers covers = (1 ≤ length covers) × (has_repeat covers ≡ false)
 -- what every plan keeps
 pub record IsPlan (p : PlanParts) : Type 0 where
   pub grid : IsGrid p.grid
-  pub zones : (1 ≤ length p.cones) × (length p.cones ≤ 64)
+  pub zones : (1 ≤ length p.cones) × (length p.cones ≤ MAX_ZONES)
   pub cones : All IsCone p.cones
-  pub destinations : (1 ≤ length p.formulas) × (length p.formulas ≤ 8)
+  pub destinations : (1 ≤ length p.formulas) × (length p.formulas ≤ MAX_DESTINATIONS)
   pub formulas : All (λ f. IsRuled f.formula) p.formulas
-  pub periods : (1 ≤ p.periods) × (p.periods ≤ 100)
-  pub rate : (pos 0 ≤ℤ p.rate) × (p.rate ≤ℤ pos (10 ^ 6))
-  pub resources : length p.resources ≤ 8
+  pub periods : (1 ≤ p.periods) × (p.periods ≤ MAX_PERIODS)
+  pub rate : (pos 0 ≤ℤ p.rate) × (p.rate ≤ℤ MAX_RATE)
+  pub resources : length p.resources ≤ MAX_RESOURCES
   pub covers : All (λ r. All (λ d. d < length p.formulas) r.covers) p.resources
   pub covers_once : All (λ r. AreCovers r.covers) p.resources
   pub limits : All (λ l. (l.resource < length p.resources) × (l.period < p.periods) × IsBound l.bound) p.limits

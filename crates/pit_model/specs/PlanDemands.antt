@@ -14,6 +14,7 @@ use Rattle.pit_model.specs.declared.plan_fault.PlanFaultKind.{PlanFaultKind}
 use Rattle.pit_model.specs.declared.plan_fault.PlanFaultKind.TheVariants.{Width, Number, TooFine, Range, Name, Twice, Order, TooMany}
 use Rattle.pit_model.specs.declared.plan_key.PlanKey.{PlanKey}
 use Rattle.pit_model.specs.declared.plan_key.PlanKey.TheVariants as key
+use Rattle.pit_model.specs.declared.ranges.TheConstants.{MAX_BANDS, MAX_BENCHES, MAX_COST, MAX_DESTINATIONS, MAX_GRADE, MAX_ORIGIN, MAX_PERIODS, MAX_PRICE, MAX_RATE, MAX_RECOVERY, MAX_RESOURCES, MAX_SIZE, MAX_SLOPE, MAX_TONNES, MAX_ZONES, MIN_ORIGIN}
 
 -- something that has to hold, and the kind of fault where it does not
 pub record Demand : Type 1 where
@@ -59,7 +60,7 @@ metres low high cell = number 3 (low *ℤ pos 1000) (high *ℤ pos 1000) cell
 
 -- tonnes with six decimals, 0 to 10^12
 abbrev pub tonnes : List ℕ → List Demand
-tonnes cell = number 6 (pos 0) (pos (10 ^ 18)) cell
+tonnes cell = number 6 (pos 0) (MAX_TONNES) cell
 
 -- so many cells, the key among them
 abbrev pub width : ℕ → List (List ℕ) → List Demand
@@ -75,32 +76,32 @@ new_destination s cell = demand Twice ((n : ℕ) → ¬ (NamesDestination s cell
 
 -- a place for one more of at most eight destinations
 abbrev pub room_for_destination : Stated → List Demand
-room_for_destination s = demand TooMany (length s.destinations < 8)
+room_for_destination s = demand TooMany (length s.destinations < MAX_DESTINATIONS)
 
 -- an origin, -10^12 to 10^12 mm
 abbrev pub an_origin : List ℕ → List Demand
-an_origin cell = metres (negsuc 999999999999) (pos (10 ^ 12)) cell
+an_origin cell = metres MIN_ORIGIN MAX_ORIGIN cell
 
 -- the size of a block, 1 to 100,000 mm
 abbrev pub a_size : List ℕ → List Demand
-a_size cell = metres (pos 1) (pos (10 ^ 5)) cell
+a_size cell = metres (pos 1) (pos MAX_SIZE) cell
 
 -- rise and run, 1 to 1000
 abbrev pub a_slope : List ℕ → List ℕ → List Demand
-a_slope rise run = whole 1 1000 rise ++ whole 1 1000 run
+a_slope rise run = whole 1 MAX_SLOPE rise ++ whole 1 MAX_SLOPE run
 
 -- the cells of a zone's record, of either form
 abbrev pub zone_cells : Bool → List (List ℕ) → List Demand
-zone_cells true cells = a_slope (cell_at cells 1) (cell_at cells 2) ++ whole 1 20 (cell_at cells 3)
+zone_cells true cells = a_slope (cell_at cells 1) (cell_at cells 2) ++ whole 1 MAX_BENCHES (cell_at cells 3)
 zone_cells false cells =
     a_slope (cell_at cells 1) (cell_at cells 2) ++ a_slope (cell_at cells 3) (cell_at cells 4) ++ a_slope (cell_at cells 5) (cell_at cells 6)
-    ++ a_slope (cell_at cells 7) (cell_at cells 8) ++ whole 1 20 (cell_at cells 9)
+    ++ a_slope (cell_at cells 7) (cell_at cells 8) ++ whole 1 MAX_BENCHES (cell_at cells 9)
 
 -- pairs of a start and a recovery
 abbrev pub band_cells : List (List ℕ) → List Demand
 band_cells [] = []
 band_cells (lone ∷ []) = []
-band_cells (start ∷ recovery ∷ cells) = number 6 (pos 0) (pos (10 ^ 12)) start ++ whole 0 1000 recovery ++ band_cells cells
+band_cells (start ∷ recovery ∷ cells) = number 6 (pos 0) (pos MAX_GRADE) start ++ whole 0 MAX_RECOVERY recovery ++ band_cells cells
 
 -- NAMEs of earlier destinations
 abbrev pub covered_cells : Stated → List (List ℕ) → List Demand
@@ -132,14 +133,14 @@ abbrev pub leach_end : Stated → List (List ℕ) → List Demand
 leach_end s cells =
     new_destination s (cell_at cells 1)
     ++ demand Order ((bands : List Band) → SpellBands (drop 4 cells) bands → starts_rise bands ≡ true)
-    ++ demand TooMany ((bands : List Band) → SpellBands (drop 4 cells) bands → length bands ≤ 16) ++ room_for_destination s
+    ++ demand TooMany ((bands : List Band) → SpellBands (drop 4 cells) bands → length bands ≤ MAX_BANDS) ++ room_for_destination s
 
 -- of a resource, behind its cells: a new NAME, no destination twice, at most eight resources
 abbrev pub resource_end : Stated → List (List ℕ) → List Demand
 resource_end s cells =
     demand Twice ((n : ℕ) → ¬ (NamesResource s (cell_at cells 1) n))
     ++ demand Twice ((covers : List ℕ) → AllZip (NamesDestination s) (drop 2 cells) covers → has_repeat covers ≡ false)
-    ++ demand TooMany (length s.resources < 8)
+    ++ demand TooMany (length s.resources < MAX_RESOURCES)
 
 -- of a limit, behind its cells: no other of its resource and period, and an interval in order
 abbrev pub limit_end : Stated → List (List ℕ) → List Demand
@@ -155,17 +156,17 @@ asked s key.Grid cells =
     width 7 cells ++ an_origin (cell_at cells 1) ++ an_origin (cell_at cells 2) ++ an_origin (cell_at cells 3)
     ++ a_size (cell_at cells 4) ++ a_size (cell_at cells 5) ++ a_size (cell_at cells 6) ++ demand Twice (s.grids ≡ [])
 asked s key.Zone cells =
-    demand Width ((length cells ≡ 4) ⊎ (length cells ≡ 10)) ++ zone_cells (length cells == 4) cells ++ demand TooMany (length s.zones < 64)
+    demand Width ((length cells ≡ 4) ⊎ (length cells ≡ 10)) ++ zone_cells (length cells == 4) cells ++ demand TooMany (length s.zones < MAX_ZONES)
 asked s key.Mill cells =
-    width 5 cells ++ a_name (cell_at cells 1) ++ whole 0 1000 (cell_at cells 2) ++ whole 0 (10 ^ 8) (cell_at cells 3)
-    ++ whole 0 (10 ^ 7) (cell_at cells 4) ++ new_destination s (cell_at cells 1) ++ room_for_destination s
+    width 5 cells ++ a_name (cell_at cells 1) ++ whole 0 MAX_RECOVERY (cell_at cells 2) ++ whole 0 MAX_PRICE (cell_at cells 3)
+    ++ whole 0 MAX_COST (cell_at cells 4) ++ new_destination s (cell_at cells 1) ++ room_for_destination s
 asked s key.Leach cells =
-    demand Width ((6 ≤ length cells) × (length cells % 2 ≡ 0)) ++ a_name (cell_at cells 1) ++ whole 0 (10 ^ 8) (cell_at cells 2)
-    ++ whole 0 (10 ^ 7) (cell_at cells 3) ++ band_cells (drop 4 cells) ++ leach_end s cells
+    demand Width ((6 ≤ length cells) × (length cells % 2 ≡ 0)) ++ a_name (cell_at cells 1) ++ whole 0 MAX_PRICE (cell_at cells 2)
+    ++ whole 0 MAX_COST (cell_at cells 3) ++ band_cells (drop 4 cells) ++ leach_end s cells
 asked s key.Dump cells =
-    width 3 cells ++ a_name (cell_at cells 1) ++ whole 0 (10 ^ 7) (cell_at cells 2) ++ new_destination s (cell_at cells 1) ++ room_for_destination s
-asked s key.Periods cells = width 2 cells ++ whole 1 100 (cell_at cells 1) ++ demand Twice (s.periods ≡ [])
-asked s key.Rate cells = width 2 cells ++ number 6 (pos 0) (pos (10 ^ 6)) (cell_at cells 1) ++ demand Twice (s.rates ≡ [])
+    width 3 cells ++ a_name (cell_at cells 1) ++ whole 0 MAX_COST (cell_at cells 2) ++ new_destination s (cell_at cells 1) ++ room_for_destination s
+asked s key.Periods cells = width 2 cells ++ whole 1 MAX_PERIODS (cell_at cells 1) ++ demand Twice (s.periods ≡ [])
+asked s key.Rate cells = width 2 cells ++ number 6 (pos 0) MAX_RATE (cell_at cells 1) ++ demand Twice (s.rates ≡ [])
 asked s key.Resource cells =
     demand Width (3 ≤ length cells) ++ a_name (cell_at cells 1) ++ covered_cells s (drop 2 cells) ++ resource_end s cells
 asked s key.Limit cells =

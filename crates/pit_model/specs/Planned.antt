@@ -1,6 +1,6 @@
 -- The plan that a text states: its records in turn, each as far as its first fault.
 use Rattle.std.specs.Prelude.{ℕ, ◌+◌, ◌*◌, ◌-◌, ◌/◌, ◌%◌, ◌^◌, Bool, false, not, ◌&&◌, ◌||◌, ◌==◌, nat_lt, List, [], ◌∷◌, ◌++◌, length, drop, position, ℤ, pos, negsuc, unsigned_abs, Option, Some, None, is_some, Result, Ok, Err, if◌then◌else◌, codes}
-use Rattle.std.specs.Prelude.{int_le, int_div}
+use Rattle.std.specs.Prelude.{◌*ℤ◌, int_le, int_div}
 use Rattle.std.specs.List.{list_any}
 use Rattle.std.specs.Str.{bytes_eq}
 use Rattle.pit_units.specs.Decimal.{decimal_of}
@@ -28,6 +28,7 @@ use Rattle.pit_model.specs.declared.plan_fault.PlanFaultKind.TheVariants.{Key, W
 use Rattle.pit_model.specs.declared.plan_key.PlanKey.{PlanKey}
 use Rattle.pit_model.specs.declared.plan_key.PlanKey.TheVariants as key
 use Rattle.pit_model.specs.declared.resource.Resource.{Resource}
+use Rattle.pit_model.specs.declared.ranges.TheConstants.{MAX_BANDS, MAX_BENCHES, MAX_COST, MAX_DESTINATIONS, MAX_GRADE, MAX_ORIGIN, MAX_PERIODS, MAX_PLAN_RECORDS, MAX_PRICE, MAX_RATE, MAX_RECOVERY, MAX_RESOURCES, MAX_SIZE, MAX_SLOPE, MAX_TONNES, MAX_ZONES, MIN_ORIGIN}
 
 -- a step after one that found no fault
 infixl 10 ◌>>=◌
@@ -75,13 +76,13 @@ whole_in low high cell = do
 -- metres with three decimals, in millimetres: an axis's origin, within 10^12 of zero
 abbrev pub origin_in : List ℕ → Result ℤ PlanFaultKind
 origin_in cell = do
-  m ← number_in 3 (negsuc 999999999999999) (pos (10 ^ 15)) cell
+  m ← number_in 3 (MIN_ORIGIN *ℤ pos 1000) (MAX_ORIGIN *ℤ pos 1000) cell
   Ok (int_div m (pos 1000))
 
 -- metres with three decimals, in millimetres: the size of a block along an axis, 1 to 100,000
 abbrev pub size_in : List ℕ → Result ℕ PlanFaultKind
 size_in cell = do
-  m ← number_in 3 (pos 1000) (pos (10 ^ 8)) cell
+  m ← number_in 3 (pos 1000) (pos (MAX_SIZE * 1000)) cell
   Ok (unsigned_abs m / 1000)
 
 abbrev pub name_in : List ℕ → Result (List ℕ) PlanFaultKind
@@ -101,13 +102,13 @@ axis origin size = record { origin = origin; size = size }
 
 -- one zone more, of at most 64
 abbrev pub with_zone : Draft → Cone → Result Draft PlanFaultKind
-with_zone d cone = if length d.cones == 64 then Err TooMany else Ok (record d { cones = d.cones ++ cone ∷ [] })
+with_zone d cone = if length d.cones == MAX_ZONES then Err TooMany else Ok (record d { cones = d.cones ++ cone ∷ [] })
 
 -- a slope by its rise and its run
 abbrev pub slope_in : List ℕ → List ℕ → Result Slope PlanFaultKind
 slope_in rise run = do
-  p ← whole_in 1 1000 rise
-  q ← whole_in 1 1000 run
+  p ← whole_in 1 MAX_SLOPE rise
+  q ← whole_in 1 MAX_SLOPE run
   Ok (record { p = p; q = q })
 
 -- `name, NAME`
@@ -134,7 +135,7 @@ admit_grid d cells =
 abbrev pub equal_zone_in : List (List ℕ) → Result Cone PlanFaultKind
 equal_zone_in cells = do
   slope ← slope_in (cell_at cells 1) (cell_at cells 2)
-  k ← whole_in 1 20 (cell_at cells 3)
+  k ← whole_in 1 MAX_BENCHES (cell_at cells 3)
   Ok (record { east = slope; west = slope; north = slope; south = slope; k = k })
 
 -- p and q of +x, of -x, of +y and of -y, K
@@ -144,7 +145,7 @@ sided_zone_in cells = do
   west ← slope_in (cell_at cells 3) (cell_at cells 4)
   north ← slope_in (cell_at cells 5) (cell_at cells 6)
   south ← slope_in (cell_at cells 7) (cell_at cells 8)
-  k ← whole_in 1 20 (cell_at cells 9)
+  k ← whole_in 1 MAX_BENCHES (cell_at cells 9)
   Ok (record { east = east; west = west; north = north; south = south; k = k })
 
 -- the cone of a zone's record, of either form
@@ -160,7 +161,7 @@ admit_zone d cells = cone_in cells >>= with_zone d
 -- one destination more, of at most 8
 abbrev pub with_formula : Draft → List ℕ → Formula → Result Draft PlanFaultKind
 with_formula d name formula =
-    if length d.formulas == 8 then Err TooMany
+    if length d.formulas == MAX_DESTINATIONS then Err TooMany
     else Ok (record d { formulas = d.formulas ++ record { name = name; formula = formula } ∷ [] })
 
 -- `mill, NAME, recovery, price, cost`
@@ -168,16 +169,16 @@ abbrev pub admit_mill : Draft → List (List ℕ) → Result Draft PlanFaultKind
 admit_mill d cells =
     if not (length cells == 5) then Err Width else do
       name ← name_in (cell_at cells 1)
-      recovery ← whole_in 0 1000 (cell_at cells 2)
-      price ← whole_in 0 (10 ^ 8) (cell_at cells 3)
-      cost ← whole_in 0 (10 ^ 7) (cell_at cells 4)
+      recovery ← whole_in 0 MAX_RECOVERY (cell_at cells 2)
+      price ← whole_in 0 MAX_PRICE (cell_at cells 3)
+      cost ← whole_in 0 MAX_COST (cell_at cells 4)
       if is_taken d.formulas name then Err Twice else with_formula d name (Mill recovery price cost)
 
 -- the band of a start in g/t with 6 decimals, and of a recovery
 abbrev pub band_in : List ℕ → List ℕ → Result Band PlanFaultKind
 band_in from recovered = do
-  start ← number_in 6 (pos 0) (pos (10 ^ 12)) from
-  recovery ← whole_in 0 1000 recovered
+  start ← number_in 6 (pos 0) (pos MAX_GRADE) from
+  recovery ← whole_in 0 MAX_RECOVERY recovered
   Ok (record { start = unsigned_abs start; recovery = recovery })
 
 -- the bands that pairs of cells state, a start and a recovery each, behind those that were read
@@ -190,7 +191,7 @@ bands_in (start ∷ recovery ∷ more) done = band_in start recovery >>= λ band
 abbrev pub with_leach : Draft → List ℕ → List Band → ℕ → ℕ → Result Draft PlanFaultKind
 with_leach d name bands price cost =
     if not (starts_rise bands) then Err Order
-    else (if nat_lt 16 (length bands) then Err TooMany
+    else (if nat_lt MAX_BANDS (length bands) then Err TooMany
     else with_formula d name (Leach bands price cost))
 
 -- `leach, NAME, price, cost`, and a start and a recovery for each band
@@ -198,8 +199,8 @@ abbrev pub admit_leach : Draft → List (List ℕ) → Result Draft PlanFaultKin
 admit_leach d cells =
     if nat_lt (length cells) 6 || not (length cells % 2 == 0) then Err Width else do
       name ← name_in (cell_at cells 1)
-      price ← whole_in 0 (10 ^ 8) (cell_at cells 2)
-      cost ← whole_in 0 (10 ^ 7) (cell_at cells 3)
+      price ← whole_in 0 MAX_PRICE (cell_at cells 2)
+      cost ← whole_in 0 MAX_COST (cell_at cells 3)
       bands ← bands_in (drop 4 cells) []
       if is_taken d.formulas name then Err Twice else with_leach d name bands price cost
 
@@ -208,7 +209,7 @@ abbrev pub admit_dump : Draft → List (List ℕ) → Result Draft PlanFaultKind
 admit_dump d cells =
     if not (length cells == 3) then Err Width else do
       name ← name_in (cell_at cells 1)
-      cost ← whole_in 0 (10 ^ 7) (cell_at cells 2)
+      cost ← whole_in 0 MAX_COST (cell_at cells 2)
       if is_taken d.formulas name then Err Twice else with_formula d name (Dump cost)
 
 -- the number of the destination that a cell names
@@ -235,7 +236,7 @@ admit_resource d cells =
       name ← name_in (cell_at cells 1)
       covers ← covers_in (drop 2 cells) d.formulas []
       if is_resource d.resources name || has_repeat covers then Err Twice
-          else (if length d.resources == 8 then Err TooMany
+          else (if length d.resources == MAX_RESOURCES then Err TooMany
           else Ok (record d { resources = d.resources ++ record { name = name; covers = covers } ∷ [] }))
 
 -- the number of a period; without a number of periods there is none
@@ -245,7 +246,7 @@ period_in (Some periods) cell = whole_in 0 (periods - 1) cell
 
 -- tonnes of a limit
 abbrev pub tonnes_in : List ℕ → Result ℤ PlanFaultKind
-tonnes_in cell = number_in 6 (pos 0) (pos (10 ^ 18)) cell
+tonnes_in cell = number_in 6 (pos 0) (MAX_TONNES) cell
 
 -- what a limit asks, by its letter
 abbrev pub bound_in : List (List ℕ) → Result Bound PlanFaultKind
@@ -293,14 +294,14 @@ admit_limit d cells =
 abbrev pub admit_periods : Draft → List (List ℕ) → Result Draft PlanFaultKind
 admit_periods d cells =
     if not (length cells == 2) then Err Width else do
-      periods ← whole_in 1 100 (cell_at cells 1)
+      periods ← whole_in 1 MAX_PERIODS (cell_at cells 1)
       if is_some d.periods then Err Twice else Ok (record d { periods = Some periods })
 
 -- `rate, number`
 abbrev pub admit_rate : Draft → List (List ℕ) → Result Draft PlanFaultKind
 admit_rate d cells =
     if not (length cells == 2) then Err Width else do
-      rate ← number_in 6 (pos 0) (pos (10 ^ 6)) (cell_at cells 1)
+      rate ← number_in 6 (pos 0) MAX_RATE (cell_at cells 1)
       if is_some d.rate then Err Twice else Ok (record d { rate = Some rate })
 
 -- the key that a cell is, its letters in any case
@@ -356,7 +357,7 @@ at_record n (Err kind) = Err (record { row = n; kind = kind })
 abbrev pub plan_from : List (List (List ℕ)) → ℕ → Draft → Result PlanParts PlanFault
 plan_from [] n d = at_record n (finished d)
 plan_from (fields ∷ more) n d =
-    if nat_lt 10000 n then Err (record { row = n; kind = TooMany })
+    if nat_lt MAX_PLAN_RECORDS n then Err (record { row = n; kind = TooMany })
     else (at_record n (admit d (cells_of fields)) >>= λ next. plan_from more (n + 1) next)
 
 -- the plan that a text states, or the row and kind of its first faulty record

@@ -9,6 +9,7 @@ use Rattle.pit_model.specs.declared.plan_fault.PlanFault.{PlanFault}
 use Rattle.pit_model.specs.declared.plan_fault.PlanFaultKind.{PlanFaultKind}
 use Rattle.pit_model.specs.declared.plan_fault.PlanFaultKind.TheVariants.{Key, TooMany, Missing}
 use Rattle.pit_model.specs.declared.plan_key.PlanKey.{PlanKey}
+use Rattle.pit_model.specs.declared.ranges.TheConstants.{MAX_PLAN_RECORDS}
 
 -- behind those so far, the record of these cells spells this part, and all that is asked of it holds
 pub record IsRecordOf (s : Stated) (cells : List (List ℕ)) (part : Part) : Type 0 where
@@ -39,7 +40,7 @@ pub record ArePartsOf (s : Stated) (p : PlanParts) : Type 0 where
 
 -- the records spell the plan
 pub record SpellPlan (rows : List (List (List ℕ))) (p : PlanParts) : Type 0 where
-  pub few : length rows ≤ 10000
+  pub few : length rows ≤ MAX_PLAN_RECORDS
   pub stated : Stated
   pub spelled : AllSpelled nothing_stated rows stated
   pub parts : ArePartsOf stated p
@@ -59,7 +60,7 @@ pub record IsRefused (rows : List (List (List ℕ))) (fault : PlanFault) : Type 
   pub place : fault.row ≡ length before + 1
   pub stated : Stated
   pub spelled : AllSpelled nothing_stated before stated
-  pub reason : ((length before ≡ 10000) × (fault.kind ≡ TooMany)) ⊎ ((length before < 10000) × IsFaulty stated (cells_of row) fault.kind)
+  pub reason : ((length before ≡ MAX_PLAN_RECORDS) × (fault.kind ≡ TooMany)) ⊎ ((length before < MAX_PLAN_RECORDS) × IsFaulty stated (cells_of row) fault.kind)
 
 -- there is no `name`, `grid`, `zone`, destination, `periods` or `rate`
 abbrev pub Lacks : Stated → Type 0
@@ -68,7 +69,7 @@ Lacks s =
 
 -- all records spell parts, and at their end a part is missing
 pub record IsLacking (rows : List (List (List ℕ))) (fault : PlanFault) : Type 0 where
-  pub few : length rows ≤ 10000
+  pub few : length rows ≤ MAX_PLAN_RECORDS
   pub place : fault.row ≡ length rows + 1
   pub kind : fault.kind ≡ Missing
   pub stated : Stated

@@ -11,6 +11,7 @@ use crate::band::Band;
 use crate::cells::cell_at;
 use crate::numbers::{number_in, whole_in};
 use crate::plan_fault::{PlanFaultKind, RecordError};
+use crate::ranges::MAX_RECOVERY;
 use csv::ByteRecord;
 
 /// The band of two cells, its start and its recovery.
@@ -19,7 +20,7 @@ fn band_in(start: &[u8], recovery: &[u8]) -> Result<Band, PlanFaultKind>
     ensures in_range { IfOk result IsBand }
 {
     let start = number_in(start, 6, 0, 1_000_000_000_000)?;
-    let recovery = whole_in(recovery, 0, 1000)?;
+    let recovery = whole_in(recovery, 0, u32::from(MAX_RECOVERY))?;
     Ok(Band {
         start: start as u64,
         recovery: recovery as u16,

@@ -1,6 +1,7 @@
 //! A block of the model.
 
 ghost use Rattle.std.specs.Prelude.{◌≡◌, ◌<◌, ◌≤◌, ◌^◌, ◌↔◌, IsSome, IfSome};
+ghost use Rattle.pit_model.specs.declared.ranges.TheConstants.{GRID_CELLS, MAX_GRADE, MAX_KG, MAX_ZONES};
 
 use crate::ranges::{GRID_CELLS, MAX_GRADE, MAX_KG, MAX_ZONES};
 
@@ -20,12 +21,12 @@ pub struct Block {
     pub z: u16,
     /// The number of the zone file, 0 to 63.
     pub zone: u8,
-    pub ghost x_in_grid: { x < 10000 },
-    pub ghost y_in_grid: { y < 10000 },
-    pub ghost z_in_grid: { z < 10000 },
-    pub ghost kg_in_range: { kg ≤ 10 ^ 9 },
-    pub ghost grade_in_range: { grade ≤ 10 ^ 12 },
-    pub ghost zone_in_range: { zone < 64 },
+    pub ghost x_in_grid: { x < GRID_CELLS },
+    pub ghost y_in_grid: { y < GRID_CELLS },
+    pub ghost z_in_grid: { z < GRID_CELLS },
+    pub ghost kg_in_range: { kg ≤ MAX_KG },
+    pub ghost grade_in_range: { grade ≤ MAX_GRADE },
+    pub ghost zone_in_range: { zone < MAX_ZONES },
 }
 
 impl Block {

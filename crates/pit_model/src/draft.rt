@@ -7,6 +7,7 @@ ghost use Rattle.pit_model.specs.Bands.{IsBand};
 ghost use Rattle.pit_model.specs.Cells.{cells_of};
 ghost use Rattle.pit_model.specs.Plan.{AreTonnes, IsRuled};
 ghost use Rattle.pit_model.specs.Planned.{admit, admit_name, admit_grid, admit_zone, admit_mill, admit_leach, admit_dump, admit_periods, admit_rate, admit_resource, admit_limit, blank_draft, finished, number_in, with_bound, with_formula, with_leach};
+ghost use Rattle.pit_model.specs.declared.ranges.TheConstants.{MAX_COST, MAX_PRICE, MAX_RATE};
 
 use crate::band::{Band, Bands, starts_rise};
 use crate::band_cells::read_bands;
@@ -22,7 +23,9 @@ use crate::numbers::{number_in, origin_in, size_in, whole_in};
 use crate::plan::Plan;
 use crate::plan_fault::{PlanFaultKind, RecordError};
 use crate::plan_key::{PlanKey, key_of};
-use crate::ranges::{MAX_BANDS, MAX_DESTINATIONS, MAX_RESOURCES, MAX_ZONES};
+use crate::ranges::{
+    MAX_BANDS, MAX_DESTINATIONS, MAX_PERIODS, MAX_RATE, MAX_RECOVERY, MAX_RESOURCES, MAX_ZONES,
+};
 use crate::resource::Resource;
 use crate::zone_cells::cone_in;
 use csv::ByteRecord;
@@ -246,7 +249,7 @@ impl Draft {
             return Err(RecordError::Fault(PlanFaultKind::Width));
         }
         let name = name_in(self.alloc, cell_at(row, 1))?;
-        let recovery = whole_in(cell_at(row, 2), 0, 1000)?;
+        let recovery = whole_in(cell_at(row, 2), 0, u32::from(MAX_RECOVERY))?;
         let price = whole_in(cell_at(row, 3), 0, 100_000_000)?;
         let cost = whole_in(cell_at(row, 4), 0, 10_000_000)?;
         if is_taken(self.formulas.as_slice(), cell_at(row, 1)) {
@@ -287,8 +290,8 @@ impl Draft {
     ) -> Result<(), RecordError>
         requires some { 1 ≤ length bands.items }
         requires in_range { All IsBand bands.items }
-        requires price { price ≤ 10 ^ 8 }
-        requires cost { cost ≤ 10 ^ 7 }
+        requires price { price ≤ MAX_PRICE }
+        requires cost { cost ≤ MAX_COST }
         ensures { Admits self.new result (with_leach self.old name bands.items price cost) }
     {
         if !starts_rise(bands.as_slice()) {
@@ -334,7 +337,7 @@ impl Draft {
         if count != 2 {
             return Err(RecordError::Fault(PlanFaultKind::Width));
         }
-        let periods = whole_in(cell_at(row, 1), 1, 100)?;
+        let periods = whole_in(cell_at(row, 1), 1, MAX_PERIODS)?;
         if self.periods.is_some() {
             return Err(RecordError::Fault(PlanFaultKind::Twice));
         }
@@ -360,9 +363,9 @@ impl Draft {
 
 /// The discount rate that a cell states.
 fn rate_in(cell: &[u8]) -> Result<Dec, PlanFaultKind>
-    ensures value { result ≡ number_in 6 (pos 0) (pos (10 ^ 6)) cell.now }
-    ensures in_range { IfOk result (λ r. (pos 0 ≤ℤ r) × (r ≤ℤ pos (10 ^ 6))) }
+    ensures value { result ≡ number_in 6 (pos 0) MAX_RATE cell.now }
+    ensures in_range { IfOk result (λ r. (pos 0 ≤ℤ r) × (r ≤ℤ MAX_RATE)) }
 {
-    let millionths = number_in(cell, 6, 0, 1_000_000)?;
+    let millionths = number_in(cell, 6, 0, MAX_RATE)?;
     Ok(Dec::new(millionths).unwrap())
 }

@@ -6,11 +6,13 @@ ghost use Rattle.csv.specs.Records.{fields_of};
 ghost use Rattle.pit_model.specs.Cells.{cells_of};
 ghost use Rattle.pit_model.specs.Plan.{AreTonnes, stands_before};
 ghost use Rattle.pit_model.specs.Planned.{bound_in, is_same_place, limit_width, period_in, tonnes_in, with_limit};
+ghost use Rattle.pit_model.specs.declared.ranges.TheConstants.{MAX_TONNES};
 
 use crate::cells::cell_at;
 use crate::limit::{Bound, Limit};
 use crate::numbers::{number_in, whole_in};
 use crate::plan_fault::{PlanFaultKind, RecordError};
+use crate::ranges::MAX_TONNES;
 use csv::ByteRecord;
 use pit_units::{Dec, parse_dec};
 
@@ -51,9 +53,9 @@ pub fn period_in(periods: Option<u8>, cell: &[u8]) -> Result<u8, PlanFaultKind>
 
 fn tonnes_in(cell: &[u8]) -> Result<Dec, PlanFaultKind>
     ensures value { result ≡ tonnes_in cell.now }
-    ensures in_range { IfOk result (λ v. (pos 0 ≤ℤ v) × (v ≤ℤ pos (10 ^ 18))) }
+    ensures in_range { IfOk result (λ v. (pos 0 ≤ℤ v) × (v ≤ℤ MAX_TONNES)) }
 {
-    let millionths = number_in(cell, 6, 0, 1_000_000_000_000_000_000)?;
+    let millionths = number_in(cell, 6, 0, MAX_TONNES)?;
     Ok(Dec::new(millionths).unwrap())
 }
 

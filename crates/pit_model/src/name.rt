@@ -5,6 +5,7 @@ ghost use Rattle.std.specs.List.{list_all};
 ghost use Rattle.std.specs.Str.{bytes_eq};
 ghost use Rattle.pit_model.specs.Name.{is_name_byte, is_name};
 
+use crate::ranges::MAX_NAME_BYTES;
 use std::alloc::{AllocError, Global};
 use std::marker::Model;
 use std::str;
@@ -71,7 +72,7 @@ impl Name {
 pub fn is_name(bytes: &[u8]) -> bool
     ensures { result ≡ is_name bytes.now }
 {
-    1 <= bytes.len() && bytes.len() <= 64 && are_name_bytes(bytes)
+    1 <= bytes.len() && bytes.len() <= MAX_NAME_BYTES && are_name_bytes(bytes)
 }
 
 fn are_name_bytes(bytes: &[u8]) -> bool

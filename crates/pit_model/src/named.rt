@@ -6,6 +6,7 @@ ghost use Rattle.pit_model.specs.Admits.{Covered, Names};
 ghost use Rattle.pit_model.specs.Cells.{cells_of};
 ghost use Rattle.pit_model.specs.Plan.{has_repeat};
 ghost use Rattle.pit_model.specs.Planned.{covers_in, destination_in, is_resource, is_taken, name_in, resource_in};
+ghost use Rattle.pit_model.specs.declared.ranges.TheConstants.{MAX_DESTINATIONS, MAX_RESOURCES};
 
 use crate::cells::cell_at;
 use crate::formula::NamedFormula;
@@ -41,7 +42,7 @@ pub fn is_resource(resources: &[Resource], name: &[u8]) -> bool
 
 /// The number of the destination that a cell names.
 pub fn destination_in(formulas: &[NamedFormula], cell: &[u8]) -> Result<u8, PlanFaultKind>
-    requires { length formulas.now ≤ 8 }
+    requires { length formulas.now ≤ MAX_DESTINATIONS }
     ensures value { result ≡ destination_in formulas.now cell.now }
     ensures there { IfOk result (λ n. n < length formulas.now) }
 {
@@ -60,7 +61,7 @@ fn formula_place(formulas: &[NamedFormula], name: &[u8]) -> Option<usize>
 
 /// The number of the resource that a cell names.
 pub fn resource_in(resources: &[Resource], cell: &[u8]) -> Result<u8, PlanFaultKind>
-    requires { length resources.now ≤ 8 }
+    requires { length resources.now ≤ MAX_RESOURCES }
     ensures value { result ≡ resource_in resources.now cell.now }
     ensures there { IfOk result (λ n. n < length resources.now) }
 {
@@ -85,7 +86,7 @@ pub fn covers_in(
     formulas: &[NamedFormula],
 ) -> Result<Covers, RecordError>
     requires whole { count ≡ length (cells_of (fields_of row.now)) }
-    requires few { length formulas.now ≤ 8 }
+    requires few { length formulas.now ≤ MAX_DESTINATIONS }
     ensures value { Covered result (covers_in (drop 2 (cells_of (fields_of row.now))) formulas.now []) }
     ensures there { IfOk result (λ covers. All (λ n. n < length formulas.now) covers) }
     ensures each { IfOk result (λ covers. length covers ≡ count - 2) }

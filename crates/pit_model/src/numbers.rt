@@ -2,8 +2,10 @@
 
 ghost use Rattle.std.specs.Prelude.{◌≡◌, ◌≤◌, ◌*◌, ◌^◌, ◌<◌, ◌≤ℤ◌, pos, negsuc, IfOk};
 ghost use Rattle.pit_model.specs.Planned.{number_in, whole_in, origin_in, size_in};
+ghost use Rattle.pit_model.specs.declared.ranges.TheConstants.{MAX_ORIGIN, MAX_SIZE, MIN_ORIGIN};
 
 use crate::plan_fault::PlanFaultKind;
+use crate::ranges::{MAX_ORIGIN, MAX_SIZE, MIN_ORIGIN};
 use pit_units::parse_dec;
 
 /// The millionths that a cell states, with at most so many decimals and from `low` to `high`.
@@ -32,17 +34,22 @@ pub fn whole_in(cell: &[u8], low: u32, high: u32) -> Result<u32, PlanFaultKind>
 /// The millimetres of an origin that a cell states in metres, within 10^12 of zero.
 pub fn origin_in(cell: &[u8]) -> Result<i64, PlanFaultKind>
     ensures value { result ≡ origin_in cell.now }
-    ensures in_range { IfOk result (λ n. (negsuc 999999999999 ≤ℤ n) × (n ≤ℤ pos (10 ^ 12))) }
+    ensures in_range { IfOk result (λ n. (MIN_ORIGIN ≤ℤ n) × (n ≤ℤ MAX_ORIGIN)) }
 {
-    let millionths = number_in(cell, 3, -1_000_000_000_000_000, 1_000_000_000_000_000)?;
+    let millionths = number_in(
+        cell,
+        3,
+        MIN_ORIGIN as i128 * 1000,
+        MAX_ORIGIN as i128 * 1000,
+    )?;
     Ok((millionths / 1000) as i64)
 }
 
 /// The millimetres of a block's size that a cell states in metres, 1 to 100,000.
 pub fn size_in(cell: &[u8]) -> Result<u32, PlanFaultKind>
     ensures value { result ≡ size_in cell.now }
-    ensures in_range { IfOk result (λ n. (1 ≤ n) × (n ≤ 10 ^ 5)) }
+    ensures in_range { IfOk result (λ n. (1 ≤ n) × (n ≤ MAX_SIZE)) }
 {
-    let millionths = number_in(cell, 3, 1000, 100_000_000)?;
+    let millionths = number_in(cell, 3, 1000, MAX_SIZE as i128 * 1000)?;
     Ok((millionths.unsigned_abs() / 1000) as u32)
 }

@@ -2,6 +2,7 @@
 
 ghost use Rattle.std.specs.Prelude.{◌≡◌, ◌≤◌, ◌*◌, ◌^◌};
 ghost use Rattle.pit_model.specs.Worth.{mill, leach, dump, IsWorth};
+ghost use Rattle.pit_model.specs.declared.ranges.TheConstants.{MAX_COST, MAX_PRICE, MAX_RECOVERY};
 
 use crate::band::Bands;
 use crate::block::Block;
@@ -9,9 +10,9 @@ use crate::block::Block;
 /// The worth of a block at a mill that recovers `recovery` per mille of the metal, which sells for `price` cents per kilogram, at a cost of
 /// `cost` cents per tonne: in cents, rounded down, also below zero.
 pub fn mill_worth(block: Block, recovery: u16, price: u64, cost: u64) -> i128
-    requires recovery { recovery ≤ 1000 }
-    requires price { price ≤ 10 ^ 8 }
-    requires cost { cost ≤ 10 ^ 7 }
+    requires recovery { recovery ≤ MAX_RECOVERY }
+    requires price { price ≤ MAX_PRICE }
+    requires cost { cost ≤ MAX_COST }
     ensures value { result ≡ mill block recovery price cost }
     ensures in_range { IsWorth result }
 {
@@ -23,8 +24,8 @@ pub fn mill_worth(block: Block, recovery: u16, price: u64, cost: u64) -> i128
 /// The worth of a block on a heap leach: that of a mill with the recovery of the last band that begins at or below the block's grade, or 0
 /// where the first band begins above it.
 pub fn leach_worth(block: Block, bands: &Bands, price: u64, cost: u64) -> i128
-    requires price { price ≤ 10 ^ 8 }
-    requires cost { cost ≤ 10 ^ 7 }
+    requires price { price ≤ MAX_PRICE }
+    requires cost { cost ≤ MAX_COST }
     ensures value { result ≡ leach block bands.now price cost }
     ensures in_range { IsWorth result }
 {
@@ -33,7 +34,7 @@ pub fn leach_worth(block: Block, bands: &Bands, price: u64, cost: u64) -> i128
 
 /// The worth of a block on a dump that costs `cost` cents per tonne: in cents, rounded down, so never above zero.
 pub fn dump_worth(block: Block, cost: u64) -> i128
-    requires { cost ≤ 10 ^ 7 }
+    requires { cost ≤ MAX_COST }
     ensures value { result ≡ dump block cost }
     ensures in_range { IsWorth result }
 {
@@ -44,8 +45,8 @@ pub fn dump_worth(block: Block, cost: u64) -> i128
 // What the recovered metal of a block sells for, in parts of which 10^15 make a cent.
 #[tactic(auto, using(crate::proofs::WorthFacts::metal_bound))]
 fn metal_value(block: Block, recovery: u16, price: u64) -> u128
-    requires recovery { recovery ≤ 1000 }
-    requires price { price ≤ 10 ^ 8 }
+    requires recovery { recovery ≤ MAX_RECOVERY }
+    requires price { price ≤ MAX_PRICE }
     ensures value { result ≡ block.kg * block.grade * recovery * price }
     ensures in_range { result ≤ 10 ^ 32 }
 {
@@ -54,7 +55,7 @@ fn metal_value(block: Block, recovery: u16, price: u64) -> u128
 
 // What it costs to process a block, in the same parts.
 fn processing_cost(block: Block, cost: u64) -> u128
-    requires { cost ≤ 10 ^ 7 }
+    requires { cost ≤ MAX_COST }
     ensures value { result ≡ block.kg * cost * 10 ^ 12 }
     ensures in_range { result ≤ 10 ^ 28 }
 {

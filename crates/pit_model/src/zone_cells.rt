@@ -10,6 +10,7 @@ use crate::cells::cell_at;
 use crate::cone::{Cone, Slope};
 use crate::numbers::whole_in;
 use crate::plan_fault::PlanFaultKind;
+use crate::ranges::{MAX_BENCHES, MAX_SLOPE};
 use csv::ByteRecord;
 
 /// A slope by the cells of its rise and its run.
@@ -17,8 +18,8 @@ fn slope_in(rise: &[u8], run: &[u8]) -> Result<Slope, PlanFaultKind>
     ensures value { result ≡ slope_in rise.now run.now }
     ensures in_range { IfOk result IsSlope }
 {
-    let p = whole_in(rise, 1, 1000)?;
-    let q = whole_in(run, 1, 1000)?;
+    let p = whole_in(rise, 1, MAX_SLOPE)?;
+    let q = whole_in(run, 1, MAX_SLOPE)?;
     Ok(Slope {
         p: p as u16,
         q: q as u16,
@@ -31,7 +32,7 @@ fn equal_zone_in(row: &ByteRecord) -> Result<Cone, PlanFaultKind>
     ensures in_range { IfOk result IsCone }
 {
     let slope = slope_in(cell_at(row, 1), cell_at(row, 2))?;
-    let k = whole_in(cell_at(row, 3), 1, 20)?;
+    let k = whole_in(cell_at(row, 3), 1, MAX_BENCHES)?;
     Ok(Cone {
         east: slope,
         west: slope,
@@ -50,7 +51,7 @@ fn sided_zone_in(row: &ByteRecord) -> Result<Cone, PlanFaultKind>
     let west = slope_in(cell_at(row, 3), cell_at(row, 4))?;
     let north = slope_in(cell_at(row, 5), cell_at(row, 6))?;
     let south = slope_in(cell_at(row, 7), cell_at(row, 8))?;
-    let k = whole_in(cell_at(row, 9), 1, 20)?;
+    let k = whole_in(cell_at(row, 9), 1, MAX_BENCHES)?;
     Ok(Cone {
         east,
         west,

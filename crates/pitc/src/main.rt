@@ -8,6 +8,7 @@ ghost use Rattle.std.specs.Prelude.{◌≡◌, ◌≢◌, ◌≤◌, ◌^◌, �
 ghost use Rattle.std.specs.Process.{exit_status};
 ghost use Rattle.pit_model.specs.Plan.{IsRuled};
 ghost use Rattle.pit_model.specs.Worth.{worth, mill, dump};
+ghost use Rattle.pit_model.specs.declared.ranges.TheConstants.{MAX_COST, MAX_PRICE, MAX_RECOVERY};
 
 #[cfg(test)]
 mod callers;
@@ -49,9 +50,9 @@ fn main(rt: HostRuntime) -> ExitCode {
                 let Ok(boxed) = Box::new(
                     alloc,
                     move |block: Block| -> i128
-                        requires recovery { recovery ≤ 1000 }
-                        requires price { price ≤ 10 ^ 8 }
-                        requires cost { cost ≤ 10 ^ 7 }
+                        requires recovery { recovery ≤ MAX_RECOVERY }
+                        requires price { price ≤ MAX_PRICE }
+                        requires cost { cost ≤ MAX_COST }
                         ensures { result ≡ mill block recovery price cost }
                     { mill_worth(block, recovery, price, cost) },
                 ) else {
@@ -87,7 +88,7 @@ fn main(rt: HostRuntime) -> ExitCode {
                 let Ok(boxed) = Box::new(
                     alloc,
                     move |block: Block| -> i128
-                        requires { cost ≤ 10 ^ 7 }
+                        requires { cost ≤ MAX_COST }
                         ensures { result ≡ dump block cost }
                     { dump_worth(block, cost) },
                 ) else {

@@ -4,6 +4,7 @@ use Rattle.std.specs.List.Sorted.{IsStrictlyIncreasing}
 use Rattle.precedence.specs.Codes.{codes}
 use Rattle.precedence.specs.Identifier.{Numbered}
 use Rattle.precedence.specs.declared.numbering.Numbering.TheInside.{Inside}
+use Rattle.pit_model.specs.declared.ranges.TheConstants.{MAX_BLOCKS}
 
 abbrev pub numbered_of : Inside → Numbered
 numbered_of n = record { blocks = n.blocks.items; positions = n.positions.items }
@@ -12,4 +13,4 @@ numbered_of n = record { blocks = n.blocks.items; positions = n.positions.items 
 pub record KeepsNumbering (n : Inside) : Type 0 where
   pub rising : IsStrictlyIncreasing (codes n.blocks.items)
   pub placed : length n.positions.items ≡ length n.blocks.items
-  pub few : length n.blocks.items ≤ 64000000
+  pub few : length n.blocks.items ≤ MAX_BLOCKS

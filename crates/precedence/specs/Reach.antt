@@ -7,6 +7,7 @@ use Rattle.pit_model.specs.declared.grid.Grid.{Grid}
 use Rattle.precedence.specs.Cone.{square, is_within_slopes}
 use Rattle.precedence.specs.declared.reach.Counts.{Counts}
 use Rattle.precedence.specs.declared.reach.Reach.{Reach}
+use Rattle.pit_model.specs.declared.ranges.TheConstants.{GRID_CELLS}
 
 -- what is left of the reach takes in the distance d
 abbrev pub takes_in : ℕ → Reach → Bool
@@ -14,7 +15,7 @@ takes_in d r = nat_le (square (d * r.weight) + r.used) r.reach
 
 -- of the distances 0, 1, .. below 10,000 just the first `count` are taken in
 abbrev pub CountsAll : Reach → ℕ → Type 0
-CountsAll r count = (d : ℕ) → d < 10000 → takes_in d r ≡ nat_lt d count
+CountsAll r count = (d : ℕ) → d < GRID_CELLS → takes_in d r ≡ nat_lt d count
 
 -- the slope along y of the row i, where row `rows` is the block's own
 abbrev pub slope_across : Cone → ℕ → ℕ → Slope
@@ -22,10 +23,10 @@ slope_across cone rows i = if nat_lt rows i then cone.north else cone.south
 
 -- in the row i of the bench dz above, just the first `count` blocks on a side lie inside the slopes
 abbrev pub CountsSide : Grid → Slope → Slope → ℕ → ℕ → ℕ → Type 0
-CountsSide grid along across dy dz count = (d : ℕ) → d < 10000 → is_within_slopes grid along across d dy dz ≡ nat_lt d count
+CountsSide grid along across dy dz count = (d : ℕ) → d < GRID_CELLS → is_within_slopes grid along across d dy dz ≡ nat_lt d count
 
 pub record CountsRow (grid : Grid) (cone : Cone) (rows dz i : ℕ) (counts : Counts) : Type 0 where
-  pub few_west : counts.west ≤ 10000
-  pub few_east : counts.east ≤ 10000
+  pub few_west : counts.west ≤ GRID_CELLS
+  pub few_east : counts.east ≤ GRID_CELLS
   pub west : CountsSide grid cone.west (slope_across cone rows i) (abs_diff i rows) dz counts.west
   pub east : CountsSide grid cone.east (slope_across cone rows i) (abs_diff i rows) dz counts.east

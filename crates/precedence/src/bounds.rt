@@ -4,6 +4,7 @@ ghost use Rattle.std.specs.Prelude.{ℕ, ◌<◌, ◌≤◌, length, slice_index
 ghost use Rattle.pit_model.specs.declared.block.Block.{Block};
 ghost use Rattle.precedence.specs.Rows.{IsWithin};
 ghost use Rattle.precedence.specs.ZoneTables.{Holds};
+ghost use Rattle.pit_model.specs.declared.ranges.TheConstants.{GRID_CELLS};
 
 use crate::extent::Extent;
 use pit_model::block::Block;
@@ -41,8 +42,8 @@ pub fn extent_of(blocks: &[Block]) -> Extent
 fn widened(bounds: Bounds, block: &Block) -> Bounds
     ensures holds { Holds result block.now }
     ensures more { (other : Block) → Holds bounds other → Holds result other }
-    ensures north { bounds.north < 10000 → result.north < 10000 }
-    ensures top { bounds.top < 10000 → result.top < 10000 }
+    ensures north { bounds.north < GRID_CELLS → result.north < GRID_CELLS }
+    ensures top { bounds.top < GRID_CELLS → result.top < GRID_CELLS }
 {
     Bounds {
         south: bounds.south.min(block.y),

@@ -5,6 +5,7 @@ ghost use Rattle.std.specs.Int.{abs_diff};
 ghost use Rattle.pit_model.specs.Plan.{IsCone, IsGrid, IsSlope};
 ghost use Rattle.precedence.specs.Cone.{square, is_within_slopes};
 ghost use Rattle.precedence.specs.Reach.{takes_in, slope_across, CountsAll, CountsRow, CountsSide};
+ghost use Rattle.pit_model.specs.declared.ranges.TheConstants.{GRID_CELLS, MAX_SIZE, MAX_SLOPE};
 
 use crate::reach::{Counts, Reach};
 use pit_model::cone::{Cone, Slope};
@@ -16,8 +17,8 @@ use pit_model::ranges::GRID_CELLS;
 pub fn row_counts(grid: Grid, cone: Cone, rows: u16, dz: u16, i: u16, nearby: Counts) -> Counts
     requires grid { IsGrid grid }
     requires cone { IsCone cone }
-    requires rows { rows < 10000 }
-    requires dz { dz < 10000 }
+    requires rows { rows < GRID_CELLS }
+    requires dz { dz < GRID_CELLS }
     requires i { i ≤ 2 * rows }
     ensures { CountsRow grid cone rows dz i result }
 {
@@ -39,9 +40,9 @@ fn side_count(grid: Grid, along: Slope, across: Slope, dy: u16, dz: u16, nearby:
     requires grid { IsGrid grid }
     requires along { IsSlope along }
     requires across { IsSlope across }
-    requires dy { dy < 10000 }
-    requires dz { dz < 10000 }
-    ensures few { result ≤ 10000 }
+    requires dy { dy < GRID_CELLS }
+    requires dz { dz < GRID_CELLS }
+    ensures few { result ≤ GRID_CELLS }
     ensures counts { CountsSide grid along across dy dz result }
 {
     let reach = reach_in_row(grid, along, across, dy, dz);
@@ -53,8 +54,8 @@ fn reach_in_row(grid: Grid, along: Slope, across: Slope, dy: u16, dz: u16) -> Re
     requires grid { IsGrid grid }
     requires along { IsSlope along }
     requires across { IsSlope across }
-    requires dy { dy < 10000 }
-    requires dz { dz < 10000 }
+    requires dy { dy < GRID_CELLS }
+    requires dz { dz < GRID_CELLS }
     ensures weight { result.weight ≡ grid.x.size * along.p * across.q }
     ensures used { result.used ≡ square (dy * (grid.y.size * across.p * along.q)) }
     ensures reach { result.reach ≡ square (dz * (grid.z.size * along.q * across.q)) }
@@ -68,9 +69,9 @@ fn reach_in_row(grid: Grid, along: Slope, across: Slope, dy: u16, dz: u16) -> Re
 
 #[tactic(auto, using(crate::proofs::Reaches::products))]
 fn weight(size: u32, a: u16, b: u16) -> u64
-    requires size { size ≤ 10 ^ 5 }
-    requires a { a ≤ 1000 }
-    requires b { b ≤ 1000 }
+    requires size { size ≤ MAX_SIZE }
+    requires a { a ≤ MAX_SLOPE }
+    requires b { b ≤ MAX_SLOPE }
     ensures value { result ≡ size * a * b }
     ensures small { result ≤ 10 ^ 11 }
 {
@@ -79,7 +80,7 @@ fn weight(size: u32, a: u16, b: u16) -> u64
 
 #[tactic(auto, using(crate::proofs::Reaches::products))]
 fn squared(distance: u16, weight: u64) -> u128
-    requires distance { distance < 10000 }
+    requires distance { distance < GRID_CELLS }
     requires weight { weight ≤ 10 ^ 11 }
     ensures value { result ≡ square (distance * weight) }
     ensures small { result ≤ 10 ^ 30 }
@@ -90,7 +91,7 @@ fn squared(distance: u16, weight: u64) -> u128
 
 #[tactic(auto, using(crate::proofs::Reaches::products))]
 fn takes_in(reach: Reach, distance: u16) -> bool
-    requires { distance < 10000 }
+    requires { distance < GRID_CELLS }
     ensures { result ≡ takes_in distance reach }
 {
     squared(distance, reach.weight) + reach.used <= reach.reach
@@ -98,9 +99,9 @@ fn takes_in(reach: Reach, distance: u16) -> bool
 
 /// The count, or a greater one where the next distance is taken in.
 fn raised(reach: Reach, count: u16) -> u16
-    requires { count ≤ 10000 }
-    ensures few { result ≤ 10000 }
-    ensures enough { result < 10000 → takes_in result reach ≡ false }
+    requires { count ≤ GRID_CELLS }
+    ensures few { result ≤ GRID_CELLS }
+    ensures enough { result < GRID_CELLS → takes_in result reach ≡ false }
 {
     let mut count = count;
     while count < GRID_CELLS && takes_in(reach, count) {
@@ -111,9 +112,9 @@ fn raised(reach: Reach, count: u16) -> u16
 
 /// The count, or a smaller one where its last distance is not taken in.
 fn lowered(reach: Reach, count: u16) -> u16
-    requires few { count ≤ 10000 }
-    requires enough { count < 10000 → takes_in count reach ≡ false }
-    ensures few { result ≤ 10000 }
+    requires few { count ≤ GRID_CELLS }
+    requires enough { count < GRID_CELLS → takes_in count reach ≡ false }
+    ensures few { result ≤ GRID_CELLS }
     ensures counts { CountsAll reach result }
 {
     let mut count = count;

@@ -1,6 +1,7 @@
 //! How far apart the blocks of a model are.
 
 ghost use Rattle.std.specs.Prelude.{◌<◌};
+ghost use Rattle.pit_model.specs.declared.ranges.TheConstants.{GRID_CELLS};
 
 /// The greatest distances between two blocks of a model.
 #[derive(Clone, Copy, Debug)]
@@ -9,6 +10,6 @@ pub struct Extent {
     pub rows: u16,
     /// Along z, in benches.
     pub benches: u16,
-    pub ghost few_rows: { rows < 10000 },
-    pub ghost few_benches: { benches < 10000 },
+    pub ghost few_rows: { rows < GRID_CELLS },
+    pub ghost few_benches: { benches < GRID_CELLS },
 }

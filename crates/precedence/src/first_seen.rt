@@ -10,6 +10,7 @@ ghost use Rattle.precedence.specs.Codes.{codes};
 ghost use Rattle.precedence.specs.Identifier.{blocks_of, IsNumbering};
 ghost use Rattle.precedence.specs.SameBlock.{IsReason};
 ghost use Rattle.precedence.specs.Seen.{placed, IsSortedTable};
+ghost use Rattle.pit_model.specs.declared.ranges.TheConstants.{MAX_BLOCKS};
 
 use crate::code::code;
 use crate::number_error::NumberError;
@@ -29,7 +30,7 @@ type Seen = IndexMap<u64, u32, PlaceHashes>;
 /// Numbers the blocks of a list of at most 64,000,000 rows: the identifier of a block is the number of blocks of the list with a
 /// smaller (z, y, x). Fails with `Same` where two blocks have the same indices, or where memory is refused.
 pub fn number(alloc: Global, rows: &[Valued]) -> Result<Numbering, NumberError>
-    requires { length rows.now ≤ 64000000 }
+    requires { length rows.now ≤ MAX_BLOCKS }
     ensures numbering { IfOk result (IsNumbering (blocks_of rows.now)) }
     ensures same { IfErr result (IsReason (blocks_of rows.now)) }
 {
@@ -41,7 +42,7 @@ pub fn number(alloc: Global, rows: &[Valued]) -> Result<Numbering, NumberError>
 
 /// The place of each block, in order.
 fn sorted_places(alloc: Global, rows: &[Valued]) -> Result<Vec<Place>, NumberError>
-    requires { length rows.now ≤ 64000000 }
+    requires { length rows.now ≤ MAX_BLOCKS }
     ensures sorted { IfOk result (λ places. IsSortedTable (blocks_of rows.now) places.items) }
     ensures same { IfErr result (IsReason (blocks_of rows.now)) }
 {
@@ -58,7 +59,7 @@ fn sorted_places(alloc: Global, rows: &[Valued]) -> Result<Vec<Place>, NumberErr
 
 /// The place of each block, in the order of the list.
 fn places_of_list(alloc: Global, rows: &[Valued]) -> Result<Vec<Place>, AllocError>
-    requires { length rows.now ≤ 64000000 }
+    requires { length rows.now ≤ MAX_BLOCKS }
     ensures { IfOk result (λ places. places.items ≡ placed 0 (blocks_of rows.now)) }
 {
     let mut places = Vec::with_capacity(alloc, rows.len())?;
@@ -82,7 +83,7 @@ fn rise(places: &[Place]) -> bool
 
 /// Finds the first block of a list whose place stood before, and fails there.
 fn differ(alloc: Global, rows: &[Valued]) -> Result<(), NumberError>
-    requires { length rows.now ≤ 64000000 }
+    requires { length rows.now ≤ MAX_BLOCKS }
     ensures differ { OnOk result (IsDistinct nat_eq (codes (blocks_of rows.now))) }
     ensures same { IfErr result (IsReason (blocks_of rows.now)) }
 {

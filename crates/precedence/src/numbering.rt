@@ -3,6 +3,7 @@
 ghost use Rattle.std.specs.Prelude.{◌≡◌, ◌≤◌, ◌<◌, length, slice_get, slice_index, Some};
 ghost use Rattle.std.specs.List.Sorted.{IsStrictlyIncreasing};
 ghost use Rattle.precedence.specs.Codes.{codes};
+ghost use Rattle.pit_model.specs.declared.ranges.TheConstants.{MAX_BLOCKS};
 
 use pit_model::block::Block;
 use std::marker::Model;
@@ -32,7 +33,7 @@ impl Numbering {
     pub(crate) fn new(blocks: Vec<Block>, positions: Vec<u32>) -> Numbering
         requires rising { IsStrictlyIncreasing (codes blocks.items) }
         requires placed { length positions.items ≡ length blocks.items }
-        requires few { length blocks.items ≤ 64000000 }
+        requires few { length blocks.items ≤ MAX_BLOCKS }
         ensures { result ≡ record { blocks = blocks.items; positions = positions.items } }
     {
         Numbering { blocks, positions }
@@ -42,7 +43,7 @@ impl Numbering {
     pub fn len(&self) -> u32
         ensures value { result ≡ length self.now.blocks }
         ensures positions { length self.now.positions ≡ result }
-        ensures few { result ≤ 64000000 }
+        ensures few { result ≤ MAX_BLOCKS }
     {
         self.blocks.len() as u32
     }
@@ -67,7 +68,7 @@ impl Numbering {
     pub fn blocks(&self) -> &[Block]
         ensures value { result.now ≡ self.now.blocks }
         ensures rising { IsStrictlyIncreasing (codes self.now.blocks) }
-        ensures few { length self.now.blocks ≤ 64000000 }
+        ensures few { length self.now.blocks ≤ MAX_BLOCKS }
     {
         self.blocks.as_slice()
     }

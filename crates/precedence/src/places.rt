@@ -4,6 +4,7 @@ ghost use Rattle.std.specs.Prelude.{◌≡◌, ◌-◌, ◌≤◌, IfOk, length,
 ghost use Rattle.std.specs.List.{range_with_len};
 ghost use Rattle.std.specs.List.Sorted.{IsStrictlyIncreasing};
 ghost use Rattle.precedence.specs.Codes.{code, codes};
+ghost use Rattle.pit_model.specs.declared.ranges.TheConstants.{MAX_BLOCKS};
 
 use crate::code::code;
 use crate::part::part;
@@ -17,7 +18,7 @@ pub struct Places {
     /// 0, 1, 2, ..: a part of it is a run of identifiers.
     pub ids: Vec<u32>,
     pub ghost rising: { IsStrictlyIncreasing codes.items },
-    pub ghost few: { length codes.items ≤ 64000000 },
+    pub ghost few: { length codes.items ≤ MAX_BLOCKS },
     pub ghost all_ids: { ids.items ≡ range_with_len 0 (length codes.items) },
 }
 
@@ -35,7 +36,7 @@ impl Places {
 /// The places of blocks that stand in the order of their identifiers.
 pub fn places_of(alloc: Global, blocks: &[Block]) -> Result<Places, AllocError>
     requires rising { IsStrictlyIncreasing (codes blocks.now) }
-    requires few { length blocks.now ≤ 64000000 }
+    requires few { length blocks.now ≤ MAX_BLOCKS }
     ensures { IfOk result (λ places. places.codes.items ≡ codes blocks.now) }
 {
     let codes = codes_of(alloc, blocks)?;

@@ -3,6 +3,7 @@
 ghost use Rattle.std.specs.Prelude.{◌≡◌, ◌+◌, ◌-◌, ◌*◌, ◌<◌, ◌≤◌, ◌++◌, [], ◌∷◌, OnOk, IfOk, max};
 ghost use Rattle.pit_model.specs.Plan.{IsCone, IsGrid};
 ghost use Rattle.precedence.specs.Rows.{center, edge, IsTable, Tells};
+ghost use Rattle.pit_model.specs.declared.ranges.TheConstants.{GRID_CELLS};
 
 use crate::code::{BENCH, ROW};
 use crate::counting::row_counts;
@@ -70,10 +71,10 @@ fn add_row(rows: &mut Vec<Row>, row: Row) -> Result<(), AllocError>
 /// The row `i` of the bench `dz` above, with so many blocks on each side.
 fn row_at(extent: Extent, dz: u16, i: u16, counts: Counts) -> Row
     requires up { 1 ≤ dz }
-    requires dz { dz < 10000 }
+    requires dz { dz < GRID_CELLS }
     requires i { i ≤ 2 * extent.rows }
-    requires west { counts.west ≤ 10000 }
-    requires east { counts.east ≤ 10000 }
+    requires west { counts.west ≤ GRID_CELLS }
+    requires east { counts.east ≤ GRID_CELLS }
     ensures first { result.first ≡ center extent.rows dz i + 1 - counts.west }
     ensures past { result.past ≡ center extent.rows dz i + max counts.east 1 }
 {

@@ -9,6 +9,7 @@ use Rattle.zone_csv.specs.declared.row_fault.RowFault.{RowFault}
 use Rattle.run_threads.specs.Reading.{most_bytes}
 use Rattle.run_threads.specs.declared.read_fault.ReadFault.{ReadFault}
 use Rattle.run_threads.specs.declared.read_fault.ReadFault.TheVariants.{FeedFailed, TooLong, Row, OutOfMemory}
+use Rattle.pit_model.specs.declared.ranges.TheConstants.{MAX_ROWS}
 
 -- why a feed gives no text, by what it had left and whether it was sure
 abbrev pub IsUnread : Option (List ℕ) → Bool → ReadFault → Type 0
@@ -35,7 +36,7 @@ pub record IsSending (file : ℕ) (whole : List Block) (fault : Option RowFault)
   pub rest : List Block
   pub says : still ≡ Says rest fault
   pub makes_up : sent ++ sent_from file (length sent) rest ≡ sent_from file 0 whole
-  pub few : length sent + length rest ≤ 1000000
+  pub few : length sent + length rest ≤ MAX_ROWS
 
 -- with the end mark behind it, what was put is all of a file of these blocks
 abbrev pub IsAllBut : ℕ → List Block → List Taken → Type 0

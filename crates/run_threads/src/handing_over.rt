@@ -6,6 +6,7 @@ ghost use Rattle.pit_model.specs.Destinations.{formulas_of_plan, AreOfPlan};
 ghost use Rattle.run_threads.specs.Reading.{AreRead};
 ghost use Rattle.run_threads.specs.declared.handing_over.HandOverFault.TheVariants.{OutOfMemory};
 ghost use Rattle.valuers.specs.Valuing.{items_by};
+ghost use Rattle.pit_model.specs.declared.ranges.TheConstants.{MAX_CAPACITY, MAX_VALUERS};
 
 use crate::opened::open_lane;
 use crate::read_fault::ReadFault;
@@ -73,8 +74,8 @@ pub fn hand_over<R: Threads + Wait + Sync, F: Feed + Send + Drop, G: Gate + Sync
     gate: &G,
 ) -> Result<HandedOver, HandOverFault>
     requires files { length feeds.items ≡ length plan.now.cones }
-    requires valuers { (1 ≤ valuers) × (valuers ≤ 64) }
-    requires capacity { (1 ≤ capacity) × (capacity ≤ 4096) }
+    requires valuers { (1 ≤ valuers) × (valuers ≤ MAX_VALUERS) }
+    requires capacity { (1 ≤ capacity) × (capacity ≤ MAX_CAPACITY) }
     requires destinations { AreOfPlan destinations.now plan.now }
     ensures whole { IfOk result (λ handed. IsWhole handed.gathered) }
     ensures read { IfOk result (λ handed. AreRead plan.now.grid 0 (map F.left feeds.items) (map F.is_sure feeds.items) handed.answers.items handed.gathered.sent) }

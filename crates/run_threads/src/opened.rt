@@ -2,6 +2,7 @@
 
 ghost use Rattle.std.specs.Prelude.{◌≤◌, IfOk};
 ghost use Rattle.run_threads.specs.Ready.{IsOpened};
+ghost use Rattle.pit_model.specs.declared.ranges.TheConstants.{MAX_CAPACITY, MAX_VALUERS, MAX_ZONES};
 
 use lane::{Closer, PutEnd, TakeEnd, open};
 use std::alloc::{AllocError, Global};
@@ -21,9 +22,9 @@ pub fn open_lane(
     valuers: u8,
     capacity: usize,
 ) -> Result<Opened, AllocError>
-    requires files { (1 ≤ files) × (files ≤ 64) }
-    requires valuers { (1 ≤ valuers) × (valuers ≤ 64) }
-    requires capacity { (1 ≤ capacity) × (capacity ≤ 4096) }
+    requires files { (1 ≤ files) × (files ≤ MAX_ZONES) }
+    requires valuers { (1 ≤ valuers) × (valuers ≤ MAX_VALUERS) }
+    requires capacity { (1 ≤ capacity) × (capacity ≤ MAX_CAPACITY) }
     ensures { IfOk result (λ lane. IsOpened files valuers lane) }
 {
     let (closer, puts, takes) = open(alloc, files, valuers, capacity)?;

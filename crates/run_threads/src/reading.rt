@@ -10,6 +10,7 @@ use crate::read_fault::ReadFault;
 use lane::{EndedPut, PutEnd, Taken};
 use pit_model::block::Block;
 use pit_model::plan::Plan;
+use pit_model::ranges::MAX_FILE_BYTES;
 use std::alloc::Global;
 use std::sync::Wait;
 use valuers::Gate;
@@ -17,9 +18,6 @@ use zone_csv::feed::Feed;
 use zone_csv::slurp::{SlurpFault, slurp};
 use zone_csv::zone_fault::ZoneFault;
 use zone_csv::zone_reader::ZoneReader;
-
-/// The most bytes that a zone file may have: 256 MiB.
-const MOST_BYTES: u64 = 268_435_456;
 
 /// What a file's reader gives back.
 #[derive(Drop)]
@@ -83,7 +81,7 @@ fn slurped<F: Feed>(alloc: Global, feed: &mut F) -> Result<Vec<u8>, ReadFault>
     ensures short { IfOk result (λ text. vec_len text ≤ most_bytes) }
     ensures fault { IfErr result (λ fault. IsUnread (F.left feed.old) (F.is_sure feed.old) fault) }
 {
-    match slurp(alloc, feed, MOST_BYTES) {
+    match slurp(alloc, feed, MAX_FILE_BYTES as u64) {
         Ok(text) => Ok(text),
         Err(SlurpFault::FeedFailed) => Err(ReadFault::FeedFailed),
         Err(SlurpFault::TooLong) => Err(ReadFault::TooLong),

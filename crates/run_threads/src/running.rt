@@ -6,6 +6,7 @@ ghost use Rattle.pit_model.specs.Destinations.{formulas_of_plan, AreOfPlan};
 ghost use Rattle.run_threads.specs.Reading.{AreRead};
 ghost use Rattle.run_threads.specs.Ready.{IsOpened, IsRoomFor};
 ghost use Rattle.valuers.specs.Valuing.{items_by};
+ghost use Rattle.pit_model.specs.declared.ranges.TheConstants.{MAX_DESTINATIONS, MAX_VALUERS, MAX_ZONES};
 
 use crate::handing_over::{HandOverFault, HandedOver};
 use crate::opened::Opened;
@@ -37,10 +38,10 @@ pub fn in_scope<R: Threads + Wait + Sync, F: Feed + Send + Drop, G: Gate + Sync>
     starts: u32,
 ) -> Result<HandedOver, HandOverFault>
     requires some { 1 ≤ length destinations.now }
-    requires few { length destinations.now ≤ 8 }
+    requires few { length destinations.now ≤ MAX_DESTINATIONS }
     requires destinations { AreOfPlan destinations.now plan.now }
-    requires zones { length plan.now.cones ≤ 64 }
-    requires takers { lane.closer.takers ≤ 64 }
+    requires zones { length plan.now.cones ≤ MAX_ZONES }
+    requires takers { lane.closer.takers ≤ MAX_VALUERS }
     requires feeds { vec_len feeds ≡ length plan.now.cones }
     requires lane { IsOpened (length plan.now.cones) lane.closer.takers lane }
     requires room { IsRoomFor (length plan.now.cones) lane.closer.takers room }
@@ -59,10 +60,10 @@ pub fn in_scope<R: Threads + Wait + Sync, F: Feed + Send + Drop, G: Gate + Sync>
         rt,
         move |scope| -> Result<HandedOver, HandOverFault>
             requires some { 1 ≤ length destinations.now }
-            requires few { length destinations.now ≤ 8 }
+            requires few { length destinations.now ≤ MAX_DESTINATIONS }
             requires destinations { AreOfPlan destinations.now plan.now }
-            requires zones { length plan.now.cones ≤ 64 }
-            requires takers { lane.closer.takers ≤ 64 }
+            requires zones { length plan.now.cones ≤ MAX_ZONES }
+            requires takers { lane.closer.takers ≤ MAX_VALUERS }
             requires feeds { vec_len feeds ≡ length plan.now.cones }
             requires lane { IsOpened (length plan.now.cones) lane.closer.takers lane }
             requires room { IsRoomFor (length plan.now.cones) lane.closer.takers room }
@@ -110,10 +111,10 @@ fn run_in<'s, E, R: Threads + Wait + Sync, F: Feed + Send + Drop + 's, G: Gate +
     starts: u32,
 ) -> Result<HandedOver, HandOverFault>
     requires some { 1 ≤ length destinations.now }
-    requires few { length destinations.now ≤ 8 }
+    requires few { length destinations.now ≤ MAX_DESTINATIONS }
     requires destinations { AreOfPlan destinations.now plan.now }
-    requires zones { length plan.now.cones ≤ 64 }
-    requires takers { lane.closer.takers ≤ 64 }
+    requires zones { length plan.now.cones ≤ MAX_ZONES }
+    requires takers { lane.closer.takers ≤ MAX_VALUERS }
     requires feeds { vec_len feeds ≡ length plan.now.cones }
     requires lane { IsOpened (length plan.now.cones) lane.closer.takers lane }
     requires room { IsRoomFor (length plan.now.cones) lane.closer.takers room }

@@ -8,6 +8,7 @@ ghost use Rattle.pit_model.specs.Destinations.{formulas_of, AreOfPlan};
 ghost use Rattle.run_threads.specs.Promises.{AreUnsentFrom};
 ghost use Rattle.run_threads.specs.Reading.{IsRead};
 ghost use Rattle.valuers.specs.Valuing.{items_by};
+ghost use Rattle.pit_model.specs.declared.ranges.TheConstants.{MAX_DESTINATIONS, MAX_VALUERS, MAX_ZONES};
 
 use crate::promises::{ReadBy, ReaderHandle, ValuedBy, ValuerHandle};
 use crate::reading::{FileRead, read_file};
@@ -41,9 +42,9 @@ pub fn start_valuers<'s, E, R: Threads + Wait + Sync, G: Gate + Sync>(
     mut handles: Vec<ValuerHandle>,
 ) -> Started<ValuerHandle>
     requires some { 1 ≤ length destinations.now }
-    requires few { length destinations.now ≤ 8 }
+    requires few { length destinations.now ≤ MAX_DESTINATIONS }
     requires destinations { AreOfPlan destinations.now plan.now }
-    requires takers { vec_len takes ≤ 64 }
+    requires takers { vec_len takes ≤ MAX_VALUERS }
     requires empty { handles.items ≡ [] }
     requires room { vec_len takes ≤ vec_capacity handles }
     ensures ends { IsFalse result.refused → map (λ h. h.promise.end.value) result.handles.items ≡ takes.items }
@@ -89,7 +90,7 @@ pub fn start_readers<'s, E, R: Threads + Wait + Sync, F: Feed + Send + Drop + 's
     mut handles: Vec<ReaderHandle<F>>,
 ) -> Started<ReaderHandle<F>>
     requires files { length plan.now.cones ≡ vec_len ends }
-    requires few { vec_len ends ≤ 64 }
+    requires few { vec_len ends ≤ MAX_ZONES }
     requires feeds { vec_len feeds ≡ vec_len ends }
     requires unsent { AreUnsentFrom 0 ends.items }
     requires empty { handles.items ≡ [] }
@@ -139,7 +140,7 @@ fn start_valuer<'s, E, R: Threads + Wait + Sync, G: Gate + Sync>(
     gate: &'s G,
 ) -> Option<ValuerHandle>
     requires some { 1 ≤ length destinations.now }
-    requires few { length destinations.now ≤ 8 }
+    requires few { length destinations.now ≤ MAX_DESTINATIONS }
     requires destinations { AreOfPlan destinations.now plan.now }
     ensures { IfSome result (λ h. (h.promise.plan.value ≡ plan.now) × (h.promise.end.value ≡ end)) }
 {
@@ -152,7 +153,7 @@ fn start_valuer<'s, E, R: Threads + Wait + Sync, G: Gate + Sync>(
             promise,
             move || -> ValuerResult
                 requires some { 1 ≤ length destinations.now }
-                requires few { length destinations.now ≤ 8 }
+                requires few { length destinations.now ≤ MAX_DESTINATIONS }
                 ensures taker { result.taker ≡ record end { took = end.took ++ drop (length end.took) result.taker.took } }
                 ensures done { is_done result.taker.took ≡ true }
                 ensures items { IsFalse result.memory → result.items ≡ items_by (formulas_of destinations.entry.now) (drop (length end.took) result.taker.took) }

@@ -2,6 +2,7 @@
 use Rattle.std.specs.Prelude.{◌≡◌, ℕ, ◌≤◌, ◌-◌, ◌++◌, ℤ, pos, List, length, take, replicate}
 use Rattle.std.proofs.Common.{sym, ap, subst, ◌∙◌, length-take-le}
 use Rattle.valuers.specs.declared.worths.Worths.TheInside.{Inside}
+use Rattle.pit_model.specs.declared.ranges.TheConstants.{MAX_DESTINATIONS}
 
 -- the cells before the count
 abbrev pub worths_of : Inside → List ℤ
@@ -9,18 +10,18 @@ worths_of w = take w.count w.cells
 
 -- 1 to 8 worths, and zeros in the other cells
 abbrev pub KeepsWorths : Inside → Type 0
-KeepsWorths w = ((1 ≤ w.count) × (w.count ≤ 8))
-    × (length w.cells ≡ 8)
-    × (w.cells ≡ take w.count w.cells ++ replicate (8 - w.count) (pos 0))
+KeepsWorths w = ((1 ≤ w.count) × (w.count ≤ MAX_DESTINATIONS))
+    × (length w.cells ≡ MAX_DESTINATIONS)
+    × (w.cells ≡ take w.count w.cells ++ replicate (MAX_DESTINATIONS - w.count) (pos 0))
 
 -- the cells that hold these worths
 abbrev pub cells_of : List ℤ → Inside
-cells_of worths = record { cells = worths ++ replicate (8 - length worths) (pos 0); count = length worths }
+cells_of worths = record { cells = worths ++ replicate (MAX_DESTINATIONS - length worths) (pos 0); count = length worths }
 
 pub count_back : (w : Inside) → KeepsWorths w → length (worths_of w) ≡ w.count
 count_back w h =
     let P : ℕ → Type 0 = λ n. w.count ≤ n in length-take-le w.count w.cells (subst P (sym h.1) h.0.1)
 
-pub cells_back : (w : Inside) → KeepsWorths w → worths_of w ++ replicate (8 - length (worths_of w)) (pos 0) ≡ w.cells
+pub cells_back : (w : Inside) → KeepsWorths w → worths_of w ++ replicate (MAX_DESTINATIONS - length (worths_of w)) (pos 0) ≡ w.cells
 cells_back w h =
-    ap (λ n. take w.count w.cells ++ replicate (8 - n) (pos 0)) (count_back w h) ∙ sym h.2
+    ap (λ n. take w.count w.cells ++ replicate (MAX_DESTINATIONS - n) (pos 0)) (count_back w h) ∙ sym h.2

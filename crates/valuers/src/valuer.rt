@@ -4,6 +4,7 @@ ghost use Rattle.std.specs.Prelude.{◌≡◌, ◌≤◌, ◌++◌, true, [], �
 ghost use Rattle.lane.specs.Message.{is_done};
 ghost use Rattle.pit_model.specs.Destinations.{formulas_of};
 ghost use Rattle.valuers.specs.Valuing.{items_by};
+ghost use Rattle.pit_model.specs.declared.ranges.TheConstants.{MAX_DESTINATIONS};
 
 use crate::gate::Gate;
 use crate::item::{Item, Valued};
@@ -37,7 +38,7 @@ pub fn value_all<R: Wait, G: Gate>(
     gate: &G,
 ) -> ValuerResult
     requires some { 1 ≤ length destinations.now }
-    requires few { length destinations.now ≤ 8 }
+    requires few { length destinations.now ≤ MAX_DESTINATIONS }
     ensures taker { result.taker ≡ record take_end { took = take_end.took ++ drop (length take_end.took) result.taker.took } }
     ensures done { is_done result.taker.took ≡ true }
     ensures items { IsFalse result.memory → result.items ≡ items_by (formulas_of destinations.now) (drop (length take_end.took) result.taker.took) }
@@ -56,7 +57,7 @@ fn take_all<R: Wait, G: Gate>(
     mut items: Items,
 ) -> ValuerResult
     requires some { 1 ≤ length destinations.now }
-    requires few { length destinations.now ≤ 8 }
+    requires few { length destinations.now ≤ MAX_DESTINATIONS }
     requires empty { items ≡ [] }
     ensures taker { result.taker ≡ record take_end { took = take_end.took ++ drop (length take_end.took) result.taker.took } }
     ensures done { is_done result.taker.took ≡ true }
@@ -90,7 +91,7 @@ fn push_item<R: Wait, G: Gate>(
     items: &mut Items,
 ) -> Result<(), AllocError>
     requires some { 1 ≤ length destinations.now }
-    requires few { length destinations.now ≤ 8 }
+    requires few { length destinations.now ≤ MAX_DESTINATIONS }
     ensures pushed { OnOk result (items.new ≡ items.old ++ items_by (formulas_of destinations.now) (message ∷ [])) }
     ensures kept { OnErr result (items.new ≡ items.old) }
 {

@@ -3,6 +3,7 @@
 ghost use Rattle.std.specs.Prelude.{◌≡◌, ◌≤◌, length};
 ghost use Rattle.pit_model.specs.Destinations.{formulas_of};
 ghost use Rattle.valuers.specs.Valuing.{worths_by};
+ghost use Rattle.pit_model.specs.declared.ranges.TheConstants.{MAX_DESTINATIONS};
 
 use crate::worths::Worths;
 use pit_model::block::Block;
@@ -11,7 +12,7 @@ use pit_model::destination::Destination;
 /// What a block is worth at each of 1 to 8 destinations, in their order.
 pub fn worths_of(block: Block, destinations: &[Destination]) -> Worths
     requires some { 1 ≤ length destinations.now }
-    requires few { length destinations.now ≤ 8 }
+    requires few { length destinations.now ≤ MAX_DESTINATIONS }
     ensures { result ≡ worths_by (formulas_of destinations.now) block }
 {
     let mut cells = [0i128; 8];

@@ -1,11 +1,13 @@
 //! The worths of a block, one a destination.
 
 ghost use Rattle.std.specs.Prelude.{◌≡◌, ◌≤◌, ◌↔◌, length, IsSome, IfSome};
+ghost use Rattle.pit_model.specs.declared.ranges.TheConstants.{MAX_DESTINATIONS};
 
+use pit_model::ranges::MAX_DESTINATIONS;
 use std::marker::Model;
 
 /// The most worths of a block.
-const MOST: usize = 8;
+const MOST: usize = MAX_DESTINATIONS as usize;
 
 /// 1 to 8 worths in cents, one a destination in the order of the plan, held in place. Contracts see the list of them.
 #[derive(Clone, Copy, Debug, PartialEq, Eq)]
@@ -34,7 +36,7 @@ impl Model for Worths {
 impl Worths {
     /// These worths, in their order, or `None` where they are not 1 to 8.
     pub fn new(worths: &[i128]) -> Option<Worths>
-        ensures valid { IsSome result ↔ ((1 ≤ length worths.now) × (length worths.now ≤ 8)) }
+        ensures valid { IsSome result ↔ ((1 ≤ length worths.now) × (length worths.now ≤ MAX_DESTINATIONS)) }
         ensures value { IfSome result (λ held. held ≡ worths.now) }
     {
         let count = worths.len();
@@ -49,7 +51,7 @@ impl Worths {
     /// The worths, in the order of the destinations.
     pub fn as_slice(&self) -> &[i128]
         ensures value { result.now ≡ self.now }
-        ensures count { (1 ≤ length self.now) × (length self.now ≤ 8) }
+        ensures count { (1 ≤ length self.now) × (length self.now ≤ MAX_DESTINATIONS) }
     {
         &self.cells[..self.count]
     }

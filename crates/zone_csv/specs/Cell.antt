@@ -8,6 +8,7 @@ use Rattle.pit_units.specs.declared.fault.DecFault.{DecFault}
 use Rattle.pit_units.specs.declared.fault.DecFault.TheVariants as decimal
 use Rattle.zone_csv.specs.declared.row_fault.RowFaultKind.{RowFaultKind}
 use Rattle.zone_csv.specs.declared.row_fault.RowFaultKind.TheVariants.{Number, TooFine, Range, OffGrid}
+use Rattle.pit_model.specs.declared.ranges.TheConstants.{GRID_CELLS, MAX_GRADE, MAX_KG}
 
 -- a number that keeps a range
 pub record Kept (InRange : ℕ → Type 0) : Type 0 where
@@ -21,15 +22,15 @@ value_of (Err fault) = Err fault
 
 -- an index of the grid
 abbrev pub Index : Type 0
-Index = Kept (λ n. n < 10000)
+Index = Kept (λ n. n < GRID_CELLS)
 
 -- the kilograms of a block
 abbrev pub Kilograms : Type 0
-Kilograms = Kept (λ n. n ≤ 10 ^ 9)
+Kilograms = Kept (λ n. n ≤ MAX_KG)
 
 -- the grade of a block, in millionths of a gram per tonne
 abbrev pub Grade : Type 0
-Grade = Kept (λ n. n ≤ 10 ^ 12)
+Grade = Kept (λ n. n ≤ MAX_GRADE)
 
 -- the cell of a record at a place, without the blanks at both ends
 abbrev pub cell_at : List (List ℕ) → ℕ → List ℕ
@@ -47,15 +48,15 @@ meaning_of meaning (Ok millionths) = meaning millionths
 meaning_of meaning (Err fault) = Err (kind_of fault)
 
 -- the index of so many whole blocks above the origin, where that is a place of the grid, and a rest
-abbrev pub index_if : (blocks rest : ℕ) (below : Bool) → nat_lt blocks 10000 ≡ below → Result Index RowFaultKind
+abbrev pub index_if : (blocks rest : ℕ) (below : Bool) → nat_lt blocks GRID_CELLS ≡ below → Result Index RowFaultKind
 index_if blocks rest false is = Err Range
 index_if blocks rest true is =
-    if rest == 0 then Ok (record { value = blocks; in_range = ltb-true blocks 10000 is }) else Err OffGrid
+    if rest == 0 then Ok (record { value = blocks; in_range = ltb-true blocks GRID_CELLS is }) else Err OffGrid
 
 -- the index of a place so far above the origin, where each block is so long
 abbrev pub index_above : (size : ℕ) → ℤ → Result Index RowFaultKind
 index_above size (negsuc below) = Err Range
-index_above size (pos above) = index_if (above / size) (above % size) (nat_lt (above / size) 10000) refl
+index_above size (pos above) = index_if (above / size) (above % size) (nat_lt (above / size) GRID_CELLS) refl
 
 -- the index along an axis of a coordinate in millionths of a metre; the axis counts thousandths
 abbrev pub index_at : Axis → ℤ → Result Index RowFaultKind
@@ -70,27 +71,27 @@ unfoldable pub index_of : Axis → List ℕ → Result Index RowFaultKind
 index_of axis cell = meaning_of (index_at axis) (decimal_of 3 cell)
 
 -- so many kilograms, where that is in range
-abbrev pub kilograms_if : (n : ℕ) (within : Bool) → nat_le n (10 ^ 9) ≡ within → Result Kilograms RowFaultKind
+abbrev pub kilograms_if : (n : ℕ) (within : Bool) → nat_le n MAX_KG ≡ within → Result Kilograms RowFaultKind
 kilograms_if n false is = Err Range
-kilograms_if n true is = Ok (record { value = n; in_range = leb-true n (10 ^ 9) is })
+kilograms_if n true is = Ok (record { value = n; in_range = leb-true n MAX_KG is })
 
 -- the kilograms of so many millionths of a tonne, which are thousands of them since the cell has 3 decimals
 abbrev pub kilograms_at : ℤ → Result Kilograms RowFaultKind
 kilograms_at (negsuc below) = Err Range
-kilograms_at (pos tonnes) = kilograms_if (tonnes / 1000) (nat_le (tonnes / 1000) (10 ^ 9)) refl
+kilograms_at (pos tonnes) = kilograms_if (tonnes / 1000) (nat_le (tonnes / 1000) MAX_KG) refl
 
 -- the kilograms that a tonnage's cell states: tonnes with 3 decimals
 unfoldable pub kilograms_of : List ℕ → Result Kilograms RowFaultKind
 kilograms_of cell = meaning_of kilograms_at (decimal_of 3 cell)
 
 -- so many millionths of a gram per tonne, where that is in range
-abbrev pub grade_if : (n : ℕ) (within : Bool) → nat_le n (10 ^ 12) ≡ within → Result Grade RowFaultKind
+abbrev pub grade_if : (n : ℕ) (within : Bool) → nat_le n MAX_GRADE ≡ within → Result Grade RowFaultKind
 grade_if n false is = Err Range
-grade_if n true is = Ok (record { value = n; in_range = leb-true n (10 ^ 12) is })
+grade_if n true is = Ok (record { value = n; in_range = leb-true n MAX_GRADE is })
 
 abbrev pub grade_at : ℤ → Result Grade RowFaultKind
 grade_at (negsuc below) = Err Range
-grade_at (pos grade) = grade_if grade (nat_le grade (10 ^ 12)) refl
+grade_at (pos grade) = grade_if grade (nat_le grade MAX_GRADE) refl
 
 -- the grade that a grade's cell states: grams per tonne with 6 decimals
 unfoldable pub grade_of : List ℕ → Result Grade RowFaultKind

@@ -10,18 +10,19 @@ use Rattle.zone_csv.specs.declared.columns.Columns.{Columns}
 use Rattle.zone_csv.specs.declared.row_fault.Column.TheVariants as column
 use Rattle.zone_csv.specs.declared.row_fault.RowFault.{RowFault}
 use Rattle.zone_csv.specs.declared.row_fault.RowFaultKind.TheVariants.{Width, TooManyRows}
+use Rattle.pit_model.specs.declared.ranges.TheConstants.{MAX_ZONES}
 
 -- the number of a zone, of which a plan has at most 64
 abbrev pub Zone : Type 0
-Zone = Kept (λ n. n < 64)
+Zone = Kept (λ n. n < MAX_ZONES)
 
 -- the zone of this number; a number that no plan has stands for the last zone
-abbrev pub zone_if : (number : ℕ) (there : Bool) → nat_lt number 64 ≡ there → Zone
-zone_if number true is = record { value = number; in_range = ltb-true number 64 is }
+abbrev pub zone_if : (number : ℕ) (there : Bool) → nat_lt number MAX_ZONES ≡ there → Zone
+zone_if number true is = record { value = number; in_range = ltb-true number MAX_ZONES is }
 zone_if number false is = record { value = 63; in_range = lit< tt }
 
 abbrev pub zone_of : ℕ → Zone
-zone_of number = zone_if number (nat_lt number 64) refl
+zone_of number = zone_if number (nat_lt number MAX_ZONES) refl
 
 -- the block of these fields
 abbrev pub block : Zone → Index → Index → Index → Kilograms → Grade → Block

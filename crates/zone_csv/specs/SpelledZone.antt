@@ -10,6 +10,7 @@ use Rattle.zone_csv.specs.Cell.{cell_at, IsCentroid}
 use Rattle.zone_csv.specs.declared.columns.Columns.{Columns}
 use Rattle.zone_csv.specs.declared.row_fault.RowFault.{RowFault}
 use Rattle.zone_csv.specs.declared.row_fault.RowFaultKind.TheVariants.{TooManyRows}
+use Rattle.pit_model.specs.declared.ranges.TheConstants.{MAX_ROWS}
 
 -- the cell at this place is the column's name, in any case, and no other cell is
 abbrev pub NamesColumn : List (List ℕ) → List ℕ → ℕ → Type 0
@@ -50,7 +51,7 @@ pub record SpellZone (grid : Grid) (zone : ℕ) (records : List (List (List ℕ)
   pub cut : records ≡ header ∷ rows
   pub columns : Columns
   pub named : NamesColumns header columns
-  pub few : length rows ≤ 1000000
+  pub few : length rows ≤ MAX_ROWS
   pub spelled : SpellBlocks grid zone columns rows blocks
 
 -- the first record behind the header that spells no block, or record 1,000,002; those before it spell these blocks
@@ -64,7 +65,7 @@ pub record IsFirstFaulty (grid : Grid) (zone : ℕ) (records : List (List (List 
   pub named : NamesColumns header columns
   pub spelled : SpellBlocks grid zone columns before blocks
   pub place : fault.row ≡ length before + 2
-  pub reason : ((length before ≡ 1000000) × (fault.kind ≡ TooManyRows)) ⊎ ((b : Block) → ¬ (SpellBlock grid zone columns row b))
+  pub reason : ((length before ≡ MAX_ROWS) × (fault.kind ≡ TooManyRows)) ⊎ ((b : Block) → ¬ (SpellBlock grid zone columns row b))
 
 -- the first record is no header: it names no five columns, or there is none
 pub record IsNoHeader (records : List (List (List ℕ))) (found : List Block) (fault : RowFault) : Type 0 where

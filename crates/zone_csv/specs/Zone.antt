@@ -9,6 +9,7 @@ use Rattle.zone_csv.specs.declared.columns.Columns.{Columns}
 use Rattle.zone_csv.specs.declared.row_fault.Column.TheVariants as column
 use Rattle.zone_csv.specs.declared.row_fault.RowFault.{RowFault}
 use Rattle.zone_csv.specs.declared.row_fault.RowFaultKind.TheVariants.{MissingColumn}
+use Rattle.pit_model.specs.declared.ranges.TheConstants.{MAX_ROWS}
 
 -- what each of these rows says, the first one being record `number`
 abbrev pub rows_say : Grid → ℕ → Columns → List (List (List ℕ)) → ℕ → List (Result Block RowFault)
@@ -48,7 +49,7 @@ fault_of grid zone text = first_fault (records_say grid zone (records_of text))
 
 -- a zone file has at most a million blocks
 abbrev pub HasFewBlocks : Grid → ℕ → List ℕ → Type 0
-HasFewBlocks grid zone text = length (blocks_of grid zone text) ≤ 1000000
+HasFewBlocks grid zone text = length (blocks_of grid zone text) ≤ MAX_ROWS
 
 -- its blocks are of its zone
 abbrev pub HasOwnBlocks : Grid → ℕ → List ℕ → Type 0

@@ -4,6 +4,7 @@ ghost use Rattle.std.specs.Prelude.{◌≡◌, ◌<◌, ◌≤◌, ◌^◌, IfOk
 ghost use Rattle.csv.specs.Records.{fields_of};
 ghost use Rattle.pit_model.specs.Plan.{IsAxis};
 ghost use Rattle.zone_csv.specs.Cell.{cell_at, value_of, kind_of, index_of, index_at, index_above, kilograms_of, kilograms_at, grade_of, grade_at};
+ghost use Rattle.pit_model.specs.declared.ranges.TheConstants.{GRID_CELLS, MAX_GRADE, MAX_KG};
 
 use crate::row_fault::RowFaultKind;
 use csv::ByteRecord;
@@ -39,7 +40,7 @@ fn kind_of(fault: DecFault) -> RowFaultKind
 pub(crate) fn index_of(axis: Axis, cell: &[u8]) -> Result<u16, RowFaultKind>
     requires { IsAxis axis }
     ensures value { result ≡ value_of (index_of axis cell.now) }
-    ensures in_grid { IfOk result (λ index. index < 10000) }
+    ensures in_grid { IfOk result (λ index. index < GRID_CELLS) }
 {
     match parse_dec(cell, 3) {
         Ok(coordinate) => index_at(axis, coordinate),
@@ -51,7 +52,7 @@ pub(crate) fn index_of(axis: Axis, cell: &[u8]) -> Result<u16, RowFaultKind>
 fn index_at(axis: Axis, coordinate: Dec) -> Result<u16, RowFaultKind>
     requires { IsAxis axis }
     ensures value { result ≡ value_of (index_at axis coordinate) }
-    ensures in_grid { IfOk result (λ index. index < 10000) }
+    ensures in_grid { IfOk result (λ index. index < GRID_CELLS) }
 {
     let above = coordinate.millionths() - i128::from(axis.origin) * 1000;
     index_above(u64::from(axis.size) * 1000, above)
@@ -62,7 +63,7 @@ fn index_at(axis: Axis, coordinate: Dec) -> Result<u16, RowFaultKind>
 fn index_above(size: u64, above: i128) -> Result<u16, RowFaultKind>
     requires { (0 < size) × (size ≤ 10 ^ 8) }
     ensures value { result ≡ value_of (index_above size above) }
-    ensures in_grid { IfOk result (λ index. index < 10000) }
+    ensures in_grid { IfOk result (λ index. index < GRID_CELLS) }
 {
     if above < 0 {
         return Err(RowFaultKind::Range);
@@ -82,7 +83,7 @@ fn index_above(size: u64, above: i128) -> Result<u16, RowFaultKind>
 #[inline(always)]
 pub(crate) fn kilograms_of(cell: &[u8]) -> Result<u64, RowFaultKind>
     ensures value { result ≡ value_of (kilograms_of cell.now) }
-    ensures in_range { IfOk result (λ kilograms. kilograms ≤ 10 ^ 9) }
+    ensures in_range { IfOk result (λ kilograms. kilograms ≤ MAX_KG) }
 {
     match parse_dec(cell, 3) {
         Ok(tonnes) => kilograms_at(tonnes),
@@ -93,7 +94,7 @@ pub(crate) fn kilograms_of(cell: &[u8]) -> Result<u64, RowFaultKind>
 #[inline(always)]
 fn kilograms_at(tonnes: Dec) -> Result<u64, RowFaultKind>
     ensures value { result ≡ value_of (kilograms_at tonnes) }
-    ensures in_range { IfOk result (λ kilograms. kilograms ≤ 10 ^ 9) }
+    ensures in_range { IfOk result (λ kilograms. kilograms ≤ MAX_KG) }
 {
     let millionths = tonnes.millionths();
     if millionths < 0 {
@@ -110,7 +111,7 @@ fn kilograms_at(tonnes: Dec) -> Result<u64, RowFaultKind>
 #[inline(always)]
 pub(crate) fn grade_of(cell: &[u8]) -> Result<u64, RowFaultKind>
     ensures value { result ≡ value_of (grade_of cell.now) }
-    ensures in_range { IfOk result (λ grade. grade ≤ 10 ^ 12) }
+    ensures in_range { IfOk result (λ grade. grade ≤ MAX_GRADE) }
 {
     match parse_dec(cell, 6) {
         Ok(grade) => grade_at(grade),
@@ -121,7 +122,7 @@ pub(crate) fn grade_of(cell: &[u8]) -> Result<u64, RowFaultKind>
 #[inline(always)]
 fn grade_at(grade: Dec) -> Result<u64, RowFaultKind>
     ensures value { result ≡ value_of (grade_at grade) }
-    ensures in_range { IfOk result (λ grade. grade ≤ 10 ^ 12) }
+    ensures in_range { IfOk result (λ grade. grade ≤ MAX_GRADE) }
 {
     let millionths = grade.millionths();
     if millionths < 0 {

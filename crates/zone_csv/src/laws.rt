@@ -11,12 +11,13 @@ ghost use Rattle.zone_csv.specs.SpelledZone.{IsFirstFaulty, IsNoHeader, NamesCol
 ghost use Rattle.zone_csv.specs.Zone.{HasFewBlocks, HasOwnBlocks, AccountsForRecords, blocks_of, fault_of};
 ghost use Rattle.zone_csv.specs.declared.columns.Columns.{Columns as FiveColumns};
 ghost use Rattle.zone_csv.specs.declared.row_fault.RowFault.{RowFault};
+ghost use Rattle.pit_model.specs.declared.ranges.TheConstants.{GRID_CELLS, MAX_ZONES};
 
 /// A zone file has at most a million blocks, all of its own zone. Each record behind the header is a block, up to the record of
 /// the fault, if there is one.
 pub fn zone_files()
     ensures few { (grid : AGrid) (zone : ℕ) (text : List ℕ) → HasFewBlocks grid zone text }
-    ensures own { (grid : AGrid) (zone : ℕ) (text : List ℕ) → zone < 64 → HasOwnBlocks grid zone text }
+    ensures own { (grid : AGrid) (zone : ℕ) (text : List ℕ) → zone < MAX_ZONES → HasOwnBlocks grid zone text }
     ensures accounts { (grid : AGrid) (zone : ℕ) (text : List ℕ) → AccountsForRecords grid zone text }
 {}
 
@@ -24,7 +25,7 @@ pub fn zone_files()
 pub fn coordinates()
     ensures { (axis : AnAxis) (coordinate : ℤ) (index : ℕ) → 0 < axis.size
         → (value_of (index_at axis coordinate) ≡ Ok index)
-        ↔ (IsCentroid axis coordinate index × (index < 10000)) }
+        ↔ (IsCentroid axis coordinate index × (index < GRID_CELLS)) }
 {}
 
 /// A header has the columns that it names, in any order and in upper or lower case.
@@ -36,14 +37,14 @@ pub fn columns_are_named()
 /// its place.
 pub fn zone_files_are_spelled()
     ensures { (grid : AGrid) (zone : ℕ) (text : List ℕ) (blocks : List Block)
-        → 0 < grid.x.size → 0 < grid.y.size → 0 < grid.z.size → zone < 64
+        → 0 < grid.x.size → 0 < grid.y.size → 0 < grid.z.size → zone < MAX_ZONES
         → ((fault_of grid zone text ≡ None) × (blocks_of grid zone text ≡ blocks)) ↔ SpellZone grid zone (records_of text) blocks }
 {}
 
 /// Where a zone file has a fault, it is the header's, or the records before it spell the blocks and the fault's is the first that spells none.
 pub fn faulty_rows_spell_no_block()
     ensures { (grid : AGrid) (zone : ℕ) (text : List ℕ) (fault : RowFault)
-        → 0 < grid.x.size → 0 < grid.y.size → 0 < grid.z.size → zone < 64 → fault_of grid zone text ≡ Some fault
+        → 0 < grid.x.size → 0 < grid.y.size → 0 < grid.z.size → zone < MAX_ZONES → fault_of grid zone text ≡ Some fault
         → IsNoHeader (records_of text) (blocks_of grid zone text) fault
         ⊎ IsFirstFaulty grid zone (records_of text) (blocks_of grid zone text) fault }
 {}

@@ -6,6 +6,7 @@ ghost use Rattle.pit_model.specs.Plan.{IsAxis, IsGrid};
 ghost use Rattle.zone_csv.specs.Cell.{cell_at, value_of, index_of, kilograms_of, grade_of};
 ghost use Rattle.zone_csv.specs.Faults.{at};
 ghost use Rattle.zone_csv.specs.Row.{row_of, block_of};
+ghost use Rattle.pit_model.specs.declared.ranges.TheConstants.{GRID_CELLS, MAX_GRADE, MAX_KG, MAX_ZONES};
 
 use crate::cell::{cell_at, grade_of, index_of, kilograms_of};
 use crate::columns::Columns;
@@ -13,9 +14,10 @@ use crate::row_fault::{Column, RowFault, RowFaultKind};
 use csv::ByteRecord;
 use pit_model::block::Block;
 use pit_model::grid::{Axis, Grid};
+use pit_model::ranges::MAX_ROWS;
 
 // The number of the last record that may hold a block: the header is record 1, and a file has at most 1,000,000 blocks.
-const LAST_ROW: u32 = 1_000_001;
+const LAST_ROW: u32 = MAX_ROWS + 1;
 
 // What the record of this number says, under a header with these columns.
 #[tactic(auto, unfolding(crate::specs::Row::row_of))]
@@ -28,7 +30,7 @@ pub(crate) fn row_of(
     zone: u8,
 ) -> Result<Block, RowFault>
     requires grid { IsGrid grid }
-    requires zone { zone < 64 }
+    requires zone { zone < MAX_ZONES }
     ensures value { result ≡ row_of grid zone columns number (fields_of row.now) }
     ensures within { OnOk result (number ≤ 1000001) }
 {
@@ -58,7 +60,7 @@ fn block_of(
     zone: u8,
 ) -> Result<Block, RowFault>
     requires grid { IsGrid grid }
-    requires zone { zone < 64 }
+    requires zone { zone < MAX_ZONES }
     ensures { result ≡ block_of grid zone columns number (fields_of row.now) }
 {
     let x = index_in(row, columns.x, grid.x, number, Column::X)?;
@@ -87,7 +89,7 @@ fn index_in(
     requires { IsAxis axis }
     ensures value { result
         ≡ value_of (at number column (index_of axis (cell_at (fields_of row.now) place))) }
-    ensures in_grid { IfOk result (λ index. index < 10000) }
+    ensures in_grid { IfOk result (λ index. index < GRID_CELLS) }
 {
     match index_of(axis, cell_at(row, place)) {
         Ok(index) => Ok(index),
@@ -103,7 +105,7 @@ fn index_in(
 fn kilograms_in(row: &ByteRecord, place: usize, number: u32) -> Result<u64, RowFault>
     ensures value { result
         ≡ value_of (at number Column.Tonnes (kilograms_of (cell_at (fields_of row.now) place))) }
-    ensures in_range { IfOk result (λ kilograms. kilograms ≤ 10 ^ 9) }
+    ensures in_range { IfOk result (λ kilograms. kilograms ≤ MAX_KG) }
 {
     match kilograms_of(cell_at(row, place)) {
         Ok(kilograms) => Ok(kilograms),
@@ -119,7 +121,7 @@ fn kilograms_in(row: &ByteRecord, place: usize, number: u32) -> Result<u64, RowF
 fn grade_in(row: &ByteRecord, place: usize, number: u32) -> Result<u64, RowFault>
     ensures value { result
         ≡ value_of (at number Column.Grade (grade_of (cell_at (fields_of row.now) place))) }
-    ensures in_range { IfOk result (λ grade. grade ≤ 10 ^ 12) }
+    ensures in_range { IfOk result (λ grade. grade ≤ MAX_GRADE) }
 {
     match grade_of(cell_at(row, place)) {
         Ok(grade) => Ok(grade),

@@ -5,6 +5,7 @@ ghost use Rattle.pit_model.specs.Plan.{IsGrid};
 ghost use Rattle.zone_csv.specs.Outlook.{Says, Answers, blocks_left};
 ghost use Rattle.zone_csv.specs.Zone.{blocks_of, fault_of, HasFewBlocks, HasOwnBlocks};
 ghost use Rattle.zone_csv.specs.ZoneView.{outlook_of, IsCounted};
+ghost use Rattle.pit_model.specs.declared.ranges.TheConstants.{MAX_ZONES};
 
 use crate::columns::{Columns, columns_of};
 use crate::row::row_of;
@@ -53,7 +54,7 @@ impl Model for ZoneReader {
 
     ghost view = { λ r. outlook_of r.grid r.zone r.stage r.records };
 
-    ghost invariant = { λ r. IsGrid r.grid × (r.zone < 64) × IsCounted r.stage };
+    ghost invariant = { λ r. IsGrid r.grid × (r.zone < MAX_ZONES) × IsCounted r.stage };
 }
 
 impl ZoneReader {
@@ -107,7 +108,7 @@ fn step(
     zone: u8,
 ) -> (Stage, Result<Option<Block>, ZoneFault>)
     requires grid { IsGrid grid }
-    requires zone { zone < 64 }
+    requires zone { zone < MAX_ZONES }
     requires counted { IsCounted stage }
     ensures answers { Answers (outlook_of grid zone stage records.old) result.1
         (outlook_of grid zone result.0 records.new) }
@@ -135,7 +136,7 @@ fn first_row(
     zone: u8,
 ) -> (Stage, Result<Option<Block>, ZoneFault>)
     requires grid { IsGrid grid }
-    requires zone { zone < 64 }
+    requires zone { zone < MAX_ZONES }
     ensures answers { Answers (outlook_of grid zone Stage.Header records.old) result.1
         (outlook_of grid zone result.0 records.new) }
     ensures counted { IsCounted result.0 }
@@ -165,7 +166,7 @@ fn next_row(
     zone: u8,
 ) -> (Stage, Result<Option<Block>, ZoneFault>)
     requires grid { IsGrid grid }
-    requires zone { zone < 64 }
+    requires zone { zone < MAX_ZONES }
     requires counted { number ≤ 1000002 }
     ensures answers { Answers (outlook_of grid zone (Stage.Body columns number) records.old) result.1
         (outlook_of grid zone result.0 records.new) }
