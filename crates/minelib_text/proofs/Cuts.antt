@@ -2,7 +2,7 @@
 use Rattle.std.proofs.Common.{◌≡◌, ℕ, suc, ◌+◌, ◌<◌, ◌≤◌, ◌==◌, Bool, true, false, List, [], ◌∷◌, length, get_or, take, drop, refl, sym, ap, ◌∙◌, arith, position, nat_lt, Option, None, Some}
 use Rattle.std.specs.Prelude.{unwrap_or}
 use Rattle.std.specs.List.{position_or_len}
-use Rattle.std.proofs.lemmas.Bool.{ltb-false}
+use Rattle.std.proofs.lemmas.Bool.{le-ltb, lt-ltb, ltb-false}
 use Rattle.std.proofs.lemmas.List.Sums.{position_or_len_is}
 use borrow.Author.Tests.{eq-eqb, ne_eqb}
 use Rattle.memchr.specs.Find.{IsFirstByte, is_byte}
@@ -26,12 +26,22 @@ place_or_length p xs = found (nat_lt (position_or_len p xs) (length xs)) refl wh
 abbrev pub is_feed : ℕ → Bool
 is_feed b = b == 10
 
--- what a search for the first LF finds, or the length
-pub feed_found : (text : List ℕ) (r : Option ℕ) → IsFirstByte (is_byte 10) text r → unwrap_or r (length text) ≡ position_or_len is_feed text
-feed_found text None h =
-    sym (position_or_len_is is_feed text (length text) 0 (omega arith) (λ k within. ne_eqb (get_or text k 0) 10 (λ e. h k (omega arith) within (eq-eqb _ _ e))) (λ within. absurd (omega arith)))
-feed_found text (Some k) h =
-    sym (position_or_len_is is_feed text k 0 (omega (arith, h.0.high)) (λ i before. ne_eqb (get_or text i 0) 10 (λ e. h.0.before i (omega arith) before (eq-eqb _ _ e))) (λ _. h.1))
+-- what a search for the first of some byte finds, or the length
+pub byte_found : (c : ℕ) (text : List ℕ) (r : Option ℕ) → IsFirstByte (is_byte c) text r → unwrap_or r (length text) ≡ position_or_len (λ b. b == c) text
+byte_found c text None h =
+    sym (position_or_len_is (λ b. b == c) text (length text) 0 (omega arith) (λ k within. ne_eqb (get_or text k 0) c (λ e. h k (omega arith) within (eq-eqb _ _ e))) (λ within. absurd (omega arith)))
+byte_found c text (Some k) h =
+    sym (position_or_len_is (λ b. b == c) text k 0 (omega (arith, h.0.high)) (λ i before. ne_eqb (get_or text i 0) c (λ e. h.0.before i (omega arith) before (eq-eqb _ _ e))) (λ _. h.1))
+
+-- what a search for the first of some byte finds
+pub byte_placed : (c : ℕ) (text : List ℕ) (r : Option ℕ) → IsFirstByte (is_byte c) text r → position (λ b. b == c) text ≡ r
+byte_placed c text None h =
+    let past : nat_lt (position_or_len (λ b. b == c) text) (length text) ≡ false = le-ltb _ _ (omega (arith, byte_found c text None h)) in
+    rw past refl
+byte_placed c text (Some k) h =
+    let found = byte_found c text (Some k) h in
+    let within : nat_lt (position_or_len (λ b. b == c) text) (length text) ≡ true = lt-ltb _ _ (omega (arith, found, h.0.high)) in
+    rw (within, sym found) refl
 
 -- the first n bytes of a text are its first line, and the next line begins behind its LF
 abbrev pub BeginsWithLine : List ℕ → ℕ → Type 0

@@ -11,6 +11,7 @@ use crate::model_key::{HeaderKey, ModelKey, Problem, Section};
 use crate::text_fault::TextKind;
 use crate::text_fields::next_field;
 use crate::text_lines::behind;
+use memchr::memchr;
 
 /// The bytes before the first colon of a line and those behind it, or `None` where it has no colon.
 pub fn cut_at_colon(line: &[u8]) -> Option<(&[u8], &[u8])>
@@ -26,7 +27,7 @@ pub fn cut_at_colon(line: &[u8]) -> Option<(&[u8], &[u8])>
 fn colon_place(line: &[u8]) -> Option<usize>
     ensures { result ≡ position is_colon line.now }
 {
-    line.iter().position(|byte| *byte == b':')
+    memchr(b':', line)
 }
 
 /// Whether the bytes are this word.

@@ -33,6 +33,7 @@ impl Model for PrecDraft {
     ghost use Rattle.std.specs.Prelude.{◌≡◌, ◌≤◌, vec_len};
     ghost use Rattle.minelib_text.specs.Marks.{AreClear};
     ghost use Rattle.minelib_text.specs.PrecLines.{PrecDraft as Seen};
+    ghost use Rattle.pit_model.specs.declared.ranges.TheConstants.{MAX_BLOCKS};
 
     ghost Value = { Seen };
 

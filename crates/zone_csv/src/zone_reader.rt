@@ -49,6 +49,7 @@ impl Model for ZoneReader {
     ghost use Rattle.pit_model.specs.Plan.{IsGrid};
     ghost use Rattle.zone_csv.specs.Outlook.{Outlook};
     ghost use Rattle.zone_csv.specs.ZoneView.{outlook_of, IsCounted};
+    ghost use Rattle.pit_model.specs.declared.ranges.TheConstants.{MAX_ZONES};
 
     ghost Value = { Outlook };
 
