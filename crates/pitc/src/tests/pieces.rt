@@ -1,27 +1,28 @@
 use pit_commands::pieces::cut;
 use std::test::Fail;
 
+// Each input, and its pieces with a bar between them.
+const CUTS: [(&str, &str); 15] = [
+    ("", ""),
+    ("a\n--\nb\n", "a\n|b\n"),
+    ("a\n--\r\n--", "a\n||"),
+    ("a--\n--b\n", "a--\n--b\n"),
+    ("a\r\n--\r\nb\r\n--\nc", "a\r\n|b\r\n|c"),
+    ("--", "|"),
+    ("--\n", "|"),
+    ("--\n--\r\n--\n", "|||"),
+    ("a\n\n--\n\nb", "a\n\n|\nb"),
+    ("a\n--\r", "a\n--\r"),
+    ("a\n--\r\r\n", "a\n--\r\r\n"),
+    ("---\n-\n-- \n --\n", "---\n-\n-- \n --\n"),
+    ("\u{feff}--\na\n", "\u{feff}--\na\n"),
+    ("a\n--\n\u{feff}b\n", "a\n|\u{feff}b\n"),
+    ("\"a\n--\nb\"\n", "\"a\n|b\"\n"),
+];
+
 #[test]
 fn cutting_table(rt: HostRuntime) -> Result<(), Fail> {
-    // Each input, and its pieces with a bar between them.
-    let table = [
-        ("", ""),
-        ("a\n--\nb\n", "a\n|b\n"),
-        ("a\n--\r\n--", "a\n||"),
-        ("a--\n--b\n", "a--\n--b\n"),
-        ("a\r\n--\r\nb\r\n--\nc", "a\r\n|b\r\n|c"),
-        ("--", "|"),
-        ("--\n", "|"),
-        ("--\n--\r\n--\n", "|||"),
-        ("a\n\n--\n\nb", "a\n\n|\nb"),
-        ("a\n--\r", "a\n--\r"),
-        ("a\n--\r\r\n", "a\n--\r\r\n"),
-        ("---\n-\n-- \n --\n", "---\n-\n-- \n --\n"),
-        ("\u{feff}--\na\n", "\u{feff}--\na\n"),
-        ("a\n--\n\u{feff}b\n", "a\n|\u{feff}b\n"),
-        ("\"a\n--\nb\"\n", "\"a\n|b\"\n"),
-    ];
-    for (input, wanted) in table {
+    for (input, wanted) in CUTS {
         let pieces = cut(rt.alloc(), input.as_bytes())?;
         let mut found = Vec::from_slice(rt.alloc(), pieces.plan())?;
         for zone in pieces.zones() {

@@ -149,22 +149,6 @@ fn failing_sinks_stop_the_run(rt: HostRuntime) -> Result<(), Fail> {
     Ok(())
 }
 
-// The texts in front of the sink that fails are whole, and its own is empty.
-#[test]
-fn texts_before_a_failing_sink(rt: HostRuntime) -> Result<(), Fail> {
-    let alloc = rt.alloc();
-    let plan = mill_plan(alloc, 1)?;
-    let mut sinks = failing_sinks(alloc, SinkName::Prec, 2);
-    let feeds = feeds_of(alloc, &["0,0,0,1000,5000\n"])?;
-    let answered = open_answer(&rt, alloc, &plan, feeds, settings(1, 1), &mut sinks)?;
-    let which = SinkName::Prec;
-    assert!(rt; answered == Err(Refusal::SinkFailed { which }));
-    let blocks: &[u8] = b"0 0 0 0 1000 5000 0\n";
-    assert!(rt; sinks.blocks.bytes() == blocks);
-    assert!(rt; sinks.prec.bytes().is_empty());
-    Ok(())
-}
-
 // The numbers of feeds, valuers and places of the lane, on a plan of one zone, and the fault of the settings.
 const SETTINGS: [(usize, usize, usize, Option<SettingsFault>); 8] = [
     (1, 1, 1, None),

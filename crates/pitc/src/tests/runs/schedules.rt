@@ -3,8 +3,8 @@ ghost use Rattle.pit_model.specs.Plan.{IsRuled};
 ghost use Rattle.pit_model.specs.Worth.{worth};
 
 use super::{
-    ENOUGH, Fail, Gate, Global, MemFeed, OpenGate, Plan, Refusal, answer, feeds_of, is_untouched,
-    mill_plan, new_sinks, run_limited, settings,
+    ENOUGH, Fail, Gate, Global, OpenGate, Plan, Refusal, Settings, Threads, answer, feeds_of,
+    is_untouched, mill_plan, new_sinks, run_limited, settings,
 };
 use pit_model::block::Block;
 use pit_model::destination::{Destination, Valuer};
@@ -51,30 +51,40 @@ impl Gate for Meeting {
     fn reader<R: Wait>(&self, _rt: &R, _file: u8) {}
 }
 
+// The answer of a run on files with these rows through a gate, and whether no sink was begun.
+fn gated<R: Threads + Wait + Sync, G: Gate + Sync>(
+    rt: &R,
+    alloc: Global,
+    files: &[&str],
+    settings: Settings,
+    starts: u32,
+    gate: &G,
+) -> Result<(Result<u64, Refusal>, bool), Fail> {
+    let plan = mill_plan(alloc, files.len().min(64) as u8)?;
+    let feeds = feeds_of(alloc, files)?;
+    let mut sinks = new_sinks(alloc);
+    let answered = answer(rt, alloc, &plan, feeds, settings, starts, gate, &mut sinks)?;
+    Ok((answered, is_untouched(&sinks)))
+}
+
 const EIGHT_ROWS: &str =
     "0,0,0,1,0\n10,0,0,1,0\n20,0,0,1,0\n30,0,0,1,0\n40,0,0,1,0\n50,0,0,1,0\n60,0,0,1,0\n70,0,0,1,0\n";
 
 // Each of eight valuers has a row at the same time, or the gate is called otherwise.
 #[test]
 fn eight_rows_at_once(rt: HostRuntime) -> Result<(), Fail> {
-    let alloc = rt.alloc();
-    let plan = mill_plan(alloc, 1)?;
     let gate = Meeting {
         places: AtomicU64::new(0),
         valuers: AtomicU64::new(0),
         strange: AtomicU64::new(0),
     };
-    let mut sinks = new_sinks(alloc);
-    let feeds = feeds_of(alloc, &[EIGHT_ROWS])?;
-    let answered = answer(
+    let (answered, _) = gated(
         &rt,
-        alloc,
-        &plan,
-        feeds,
+        rt.alloc(),
+        &[EIGHT_ROWS],
         settings(8, 64),
         ENOUGH,
         &gate,
-        &mut sinks,
     )?;
     assert!(rt; answered == Ok(8));
     assert_eq!(rt; gate.places.load(Ordering::SeqCst), EACH_ONCE);
@@ -172,24 +182,12 @@ impl Gate for RowFirst {
 
 #[test]
 fn reader_held_by_a_row(rt: HostRuntime) -> Result<(), Fail> {
-    let alloc = rt.alloc();
-    let plan = mill_plan(alloc, 2)?;
     let gate = RowFirst {
         rows_of_file_1: AtomicU64::new(0),
         held: AtomicU64::new(0),
     };
-    let mut sinks = new_sinks(alloc);
-    let feeds = feeds_of(alloc, &["0,0,0,1,0\n", "10,0,0,1,0\n"])?;
-    let answered = answer(
-        &rt,
-        alloc,
-        &plan,
-        feeds,
-        settings(1, 1),
-        ENOUGH,
-        &gate,
-        &mut sinks,
-    )?;
+    let files = ["0,0,0,1,0\n", "10,0,0,1,0\n"];
+    let (answered, _) = gated(&rt, rt.alloc(), &files, settings(1, 1), ENOUGH, &gate)?;
     assert!(rt; answered == Ok(2));
     assert_eq!(rt; gate.held.load(Ordering::SeqCst), 1);
     Ok(())
@@ -233,24 +231,11 @@ const STARTS: [([&str; 3], u32, u64, bool); 7] = [
 
 #[test]
 fn refused_starts(rt: HostRuntime) -> Result<(), Fail> {
-    let alloc = rt.alloc();
-    let plan = mill_plan(alloc, 3)?;
     for (files, starts, readers, refused) in STARTS {
         let gate = Readers {
             called: AtomicU64::new(0),
         };
-        let mut sinks = new_sinks(alloc);
-        let feeds = feeds_of(alloc, &files)?;
-        let answered = answer(
-            &rt,
-            alloc,
-            &plan,
-            feeds,
-            settings(2, 1),
-            starts,
-            &gate,
-            &mut sinks,
-        )?;
+        let (answered, untouched) = gated(&rt, rt.alloc(), &files, settings(2, 1), starts, &gate)?;
         let expected = if refused {
             Err(Refusal::NoThread)
         } else {
@@ -258,7 +243,7 @@ fn refused_starts(rt: HostRuntime) -> Result<(), Fail> {
         };
         assert!(rt; answered == expected, "{starts}");
         assert_eq!(rt; gate.called.load(Ordering::SeqCst), readers, "{starts}");
-        assert_eq!(rt; is_untouched(&sinks), refused, "{starts}");
+        assert_eq!(rt; untouched, refused, "{starts}");
     }
     Ok(())
 }
