@@ -39,8 +39,8 @@ pub fn add_above(
     Ok(())
 }
 
-#[inline(always)]
 // A row's hint, but for what is before `behind`, where the row before it ends: a row that was left out for long has an old one.
+#[inline(always)]
 fn hint_at(hints: &[Hint], i: usize, behind: u32) -> Hint {
     let known = hints.get(i).copied().unwrap_or(NOTHING_KNOWN);
     Hint {

@@ -2,18 +2,19 @@
 
 ghost use Rattle.std.specs.Prelude.{◌≡◌, ◌≤◌, length};
 ghost use Rattle.pit_model.specs.Destinations.{formulas_of};
-ghost use Rattle.valuers.specs.Valuing.{worths_by};
 ghost use Rattle.pit_model.specs.declared.ranges.TheConstants.{MAX_DESTINATIONS};
+ghost use Rattle.valuers.specs.Valuing.{AreAnswered, worths_by};
 
 use crate::worths::Worths;
 use pit_model::block::Block;
-use pit_model::destination::Destination;
+use pit_model::destination::{Destination, Valuer};
 
 /// What a block is worth at each of 1 to 8 destinations, in their order.
 pub fn worths_of(block: Block, destinations: &[Destination]) -> Worths
     requires some { 1 ≤ length destinations.now }
     requires few { length destinations.now ≤ MAX_DESTINATIONS }
-    ensures { result ≡ worths_by (formulas_of destinations.now) block }
+    ensures asked { AreAnswered ⟦<Valuer as Fn(Block) -> i128>⟧.post destinations.now block result }
+    ensures worths { result ≡ worths_by (formulas_of destinations.now) block }
 {
     let mut cells = [0i128; 8];
     for (place, destination) in destinations.iter().enumerate() {

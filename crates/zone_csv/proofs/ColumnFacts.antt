@@ -1,6 +1,6 @@
 -- A header's columns are those that it names.
 use Rattle.std.proofs.Common.{◌≡◌, ℕ, zero, suc, ◌+◌, Bool, true, false, List, [], ◌∷◌, length, arith, refl, sym, ◌∙◌, ap, subst, Ok, Err}
-use Rattle.std.specs.Prelude.{Result, if◌then◌else◌, codes}
+use Rattle.std.specs.Prelude.{Result, codes}
 use Rattle.pit_model.specs.Cells.{trimmed, is_word}
 use Rattle.zone_csv.specs.Cell.{cell_at}
 use Rattle.zone_csv.specs.Faults.{at, all_five}
@@ -28,7 +28,7 @@ module _ (name : List ℕ) (no_name : is_word [] name ≡ false) where
       by true e rest = absurd (none 0 e)
       by false e rest = rw e rest
 
-  none_at : (cells : List (List ℕ)) (n : ℕ) → places_of name cells n ≡ [] → (q : ℕ) → Is cells q → ⊥
+  pub none_at : (cells : List (List ℕ)) (n : ℕ) → places_of name cells n ≡ [] → (q : ℕ) → Is cells q → ⊥
   none_at [] n e q h = none_there q h
   none_at (cell ∷ cells) n e q h = by (is_word (trimmed cell) name) refl q h (λ rest r there. none_at cells (n + 1) rest r there)
     where
@@ -40,7 +40,7 @@ module _ (name : List ℕ) (no_name : is_word [] name ≡ false) where
   abbrev One : List (List ℕ) → ℕ → Type 0
   One cells q = Is cells q × ((r : ℕ) → Is cells r → r ≡ q)
 
-  one_place : (cells : List (List ℕ)) (n q : ℕ) → One cells q → places_of name cells n ≡ (n + q) ∷ []
+  pub one_place : (cells : List (List ℕ)) (n q : ℕ) → One cells q → places_of name cells n ≡ (n + q) ∷ []
   one_place [] n q h = absurd (none_there q h.0)
   one_place (cell ∷ cells) n zero h =
       let none : places_of name cells (n + 1) ≡ [] = no_places cells (n + 1) (λ r there. absurd (omega (arith, h.1 (suc r) there))) in

@@ -2,6 +2,7 @@ pub mod BlockFacts
 pub mod CellFacts
 pub mod CentroidFacts
 pub mod FaultFacts
+pub mod FirstFaults
 pub mod Giving
 pub mod GridFacts
 pub mod ZoneFacts

@@ -1,9 +1,8 @@
 -- A row says a block exactly where it spells it.
-use Rattle.std.proofs.Common.{◌≡◌, ℕ, suc, ◌+◌, ◌*◌, ◌/◌, ◌%◌, ◌^◌, ◌<◌, ◌≤◌, ◌==◌, Bool, true, false, not, List, [], ◌∷◌, ◌++◌, length, arith, refl, sym, ◌∙◌, ap, subst, ltb-true, ltb-false, eqb-true, eq-eqb, le-ltb, leb-true, le-leb, append-nil, inl, inr, ℤ, pos, negsuc, Ok, Err, Some, None}
+use Rattle.std.proofs.Common.{◌≡◌, ℕ, ◌+◌, ◌*◌, ◌/◌, ◌%◌, ◌^◌, ◌<◌, ◌≤◌, ◌==◌, Bool, true, false, not, List, [], ◌∷◌, ◌++◌, length, arith, refl, sym, ◌∙◌, ap, subst, ltb-true, ltb-false, eqb-true, eq-eqb, leb-true, le-leb, append-nil, inl, inr, ℤ, pos, negsuc, Ok, Err, Some, None}
 use Rattle.std.specs.Prelude.{Result, Option, nat_lt, nat_le, ◌↔◌, ◌⊎◌, if◌then◌else◌}
 use Rattle.std.proofs.Math.Nat.{mul-div_left}
 use Rattle.std.proofs.lemmas.Bool.Decides.{nat_tests}
-use Rattle.std.specs.List.{AllZip}
 use Rattle.pit_model.specs.Records.{records_of}
 use Rattle.pit_model.specs.declared.block.Block.{Block}
 use Rattle.pit_model.specs.declared.grid.Axis.{Axis}
@@ -16,11 +15,11 @@ use Rattle.zone_csv.proofs.BlockFacts.{made_block, zone_value}
 use Rattle.zone_csv.proofs.CentroidFacts.{index_is_centroid, centroid_has_index}
 use Rattle.zone_csv.proofs.ColumnFacts.{five_parts, at_ok, columns_named, named_columns}
 use Rattle.zone_csv.proofs.FaultFacts.{IsOfRow, header_of_row, row_of_row}
-use Rattle.zone_csv.specs.Cell.{Kept, Index, Kilograms, Grade, value_of, meaning_of, cell_at, index_at, index_of, kilograms_if, kilograms_at, kilograms_of, grade_if, grade_at, grade_of, IsCentroid}
-use Rattle.zone_csv.specs.Faults.{at, all_five}
+use Rattle.zone_csv.specs.Cell.{Kept, Index, Kilograms, Grade, value_of, meaning_of, cell_at, index_at, index_of, kilograms_if, kilograms_at, kilograms_of, grade_if, grade_at, grade_of}
+use Rattle.zone_csv.specs.Faults.{at}
 use Rattle.zone_csv.specs.Header.{columns_of}
 use Rattle.zone_csv.specs.Row.{zone_of, block, block_of, row_of}
-use Rattle.zone_csv.specs.SpelledZone.{NamesColumns, SpellIndex, SpellBlock, SpellBlocks, SpellZone, IsFirstFaulty, IsNoHeader}
+use Rattle.zone_csv.specs.SpelledZone.{SpellIndex, SpellBlock, SpellBlocks, SpellZone, IsFirstFaulty, IsNoHeader}
 use Rattle.zone_csv.specs.Zone.{rows_say, below_header, records_say, before_fault, first_fault, blocks_of, fault_of}
 use Rattle.zone_csv.specs.declared.columns.Columns.{Columns}
 use Rattle.zone_csv.specs.declared.row_fault.Column.{Column}
@@ -158,7 +157,7 @@ spelled_row grid zone columns number cells b sx sy sz small few h =
     (value_at number column.Grade _ b.grade (spelled_grade (cell_at cells columns.grade) b.grade b.grade_in_range h.grade)) in
     rw (many, eq-eqb (length cells) columns.width h.wide) (sym made)
 
-too_many : (grid : Grid) (zone : ℕ) (columns : Columns) (number : ℕ) (cells : List (List ℕ)) → nat_lt 1000001 number ≡ true
+pub too_many : (grid : Grid) (zone : ℕ) (columns : Columns) (number : ℕ) (cells : List (List ℕ)) → nat_lt 1000001 number ≡ true
     → row_of grid zone columns number cells ≡ Err (record { row = number; column = column.Whole; kind = TooManyRows })
 unfolding row_of
 too_many grid zone columns number cells test = rw test refl

@@ -7,6 +7,7 @@ pub mod Header
 pub mod Outlook
 pub mod Row
 pub mod Source
+pub mod RowDemands
 pub mod SpelledZone
 pub mod Supply
 pub mod Zone

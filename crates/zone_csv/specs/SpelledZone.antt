@@ -1,5 +1,5 @@
 -- How the records of a zone file spell its blocks: the header names the columns, and each record behind it spells a block.
-use Rattle.std.specs.Prelude.{◌≡◌, ℕ, ◌+◌, ◌*◌, ◌<◌, ◌≤◌, true, List, [], ◌∷◌, ◌++◌, length, ℤ, pos, codes, ◌⊎◌}
+use Rattle.std.specs.Prelude.{◌≡◌, ℕ, ◌+◌, ◌*◌, ◌≤◌, true, List, [], ◌∷◌, ◌++◌, length, ℤ, pos, codes, ◌⊎◌}
 use Rattle.std.specs.List.{AllZip}
 use Rattle.pit_units.specs.Decimal.{StandsFor}
 use Rattle.pit_model.specs.Cells.{is_word}

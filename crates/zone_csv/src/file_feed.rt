@@ -105,8 +105,34 @@ fn read_some<F: Read>(file: &mut F, buffer: &mut [u8]) -> Result<usize, FeedFaul
 mod tests {
     use super::*;
     use crate::slurp::{SlurpFault, slurp};
-    use std::fs;
     use std::test::Fail;
+    use std::{fs, io};
+
+    // A file that gives a byte a read, behind one read that is interrupted, and then ends or fails.
+    #[derive(Drop)]
+    struct Interrupted {
+        left: &'static [u8],
+        interrupts: bool,
+        fails: bool,
+    }
+
+    impl Read for Interrupted {
+        fn read(&mut self, buffer: &mut [u8]) -> io::Result<usize> {
+            self.interrupts = !self.interrupts;
+            if self.interrupts {
+                return Err(io::Error::from(ErrorKind::Interrupted));
+            }
+            match (self.left.first(), buffer.first_mut()) {
+                (Some(byte), Some(place)) => {
+                    *place = *byte;
+                    self.left = &self.left[1..];
+                    Ok(1)
+                }
+                _ if self.fails => Err(io::Error::from(ErrorKind::BrokenPipe)),
+                _ => Ok(0),
+            }
+        }
+    }
 
     // What is read of the file at this path, up to a hundred bytes.
     fn read(rt: &HostRuntime, path: &str) -> Result<Result<Vec<u8>, SlurpFault>, FeedFault> {
@@ -132,5 +158,25 @@ mod tests {
             Ok(read) => assert!(rt; read == Err(SlurpFault::FeedFailed)),
             Err(FeedFault) => {}
         }
+    }
+
+    #[test]
+    fn an_interrupted_read_loses_nothing(rt: HostRuntime) -> Result<(), Fail> {
+        for fails in [false, true] {
+            let mut feed = FileFeed {
+                file: Interrupted {
+                    left: b"x,y,z\n",
+                    interrupts: false,
+                    fails,
+                },
+                given: Count::Zero,
+                failures: Count::Zero,
+            };
+            match slurp(rt.alloc(), &mut feed, 100) {
+                Ok(text) => assert!(rt; !fails && text.as_slice() == b"x,y,z\n".as_slice()),
+                Err(fault) => assert!(rt; fails && fault == SlurpFault::FeedFailed),
+            }
+        }
+        Ok(())
     }
 }

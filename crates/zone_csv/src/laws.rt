@@ -7,6 +7,7 @@ ghost use Rattle.pit_model.specs.Records.{records_of};
 ghost use Rattle.pit_model.specs.declared.block.Block.{Block};
 ghost use Rattle.zone_csv.specs.Cell.{value_of, index_at, IsCentroid};
 ghost use Rattle.zone_csv.specs.Header.{columns_of};
+ghost use Rattle.zone_csv.specs.RowDemands.{IsFaultOfHeader, IsFaultOfRow};
 ghost use Rattle.zone_csv.specs.SpelledZone.{IsFirstFaulty, IsNoHeader, NamesColumns, SpellZone};
 ghost use Rattle.zone_csv.specs.Zone.{HasFewBlocks, HasOwnBlocks, AccountsForRecords, blocks_of, fault_of};
 ghost use Rattle.zone_csv.specs.declared.columns.Columns.{Columns as FiveColumns};
@@ -47,4 +48,12 @@ pub fn faulty_rows_spell_no_block()
         → 0 < grid.x.size → 0 < grid.y.size → 0 < grid.z.size → zone < MAX_ZONES → fault_of grid zone text ≡ Some fault
         → IsNoHeader (records_of text) (blocks_of grid zone text) fault
         ⊎ IsFirstFaulty grid zone (records_of text) (blocks_of grid zone text) fault }
+{}
+
+/// Where a zone file has a fault, its column and kind are those of the first thing asked of the header that does not hold; or of the first
+/// record behind it that spells no block.
+pub fn zone_faults_are_first()
+    ensures { (grid : AGrid) (zone : ℕ) (text : List ℕ) (fault : RowFault)
+        → 0 < grid.x.size → 0 < grid.y.size → 0 < grid.z.size → zone < 64 → fault_of grid zone text ≡ Some fault
+        → IsFaultOfHeader (records_of text) fault ⊎ IsFaultOfRow grid zone (records_of text) fault }
 {}

@@ -1,7 +1,10 @@
 use Rattle.std.proofs.Common.{◌≡◌, take, length}
 use Rattle.pit_model.specs.Destinations.{formulas_of}
-use Rattle.valuers.specs.Valuing.{worths_by}
+use Rattle.valuers.specs.Valuing.{AreAnswered, worths_by}
 use Rattle.valuers.proofs.valuing.worths_of.Given as goal
 
 abbrev pub invariant-loop-place : goal.invariant-loop-place
-invariant-loop-place g l = (take l.place l.cells ≡ worths_by (formulas_of (take l.place l.destinations)) l.block) × (length l.cells ≡ 8)
+invariant-loop-place g l =
+    (take l.place l.cells ≡ worths_by (formulas_of (take l.place l.destinations)) l.block)
+    × (length l.cells ≡ 8)
+    × AreAnswered (λ v b r. (goal.Fn-dyn g).post (v.vtable, v.value) (b, record {}) r) (take l.place l.destinations) l.block (take l.place l.cells)
