@@ -36,3 +36,7 @@ pub mod WriteFacts
 pub mod FirstBadFacts
 pub mod LinesOfText
 pub mod SpelledBack
+pub mod SpelledDenotes
+pub mod Keyless
+pub mod SpelledItemsBack
+pub mod SpelledModelBack

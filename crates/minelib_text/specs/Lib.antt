@@ -26,6 +26,8 @@ pub mod SpelledKeys
 pub mod SpelledLines
 pub mod SpelledModel
 pub mod SpelledPrec
+pub mod SpelledTexts
+pub mod StatedModel
 pub mod TextLines
 pub mod Tray
 pub mod Written

@@ -1,5 +1,5 @@
 //! What holds of texts, whatever they say: each contract is a law, and a call of it changes nothing.
-ghost use Rattle.std.specs.Prelude.{◌≡◌, ◌⊎◌, ℕ, ◌≤◌, ◌++◌, ◌∷◌, [], All, true, List, length, Ok, Err};
+ghost use Rattle.std.specs.Prelude.{◌≡◌, ◌↔◌, ◌⊎◌, ℕ, ◌≤◌, ◌++◌, ◌∷◌, [], All, true, List, length, Ok, Err};
 ghost use Rattle.mine_instance.specs.Cpit.{CpitParts, IsCpit};
 ghost use Rattle.mine_instance.specs.OfModel.{instance as instance_of};
 ghost use Rattle.mine_instance.specs.OneSlope.{instance_by};
@@ -15,6 +15,8 @@ ghost use Rattle.minelib_text.specs.SameTexts.{HaveSameTexts};
 ghost use Rattle.minelib_text.specs.Lines.{text_of};
 ghost use Rattle.minelib_text.specs.SpelledBlocks.{AreBlockLines, IsBlockLine};
 ghost use Rattle.minelib_text.specs.SpelledModel.{AreModelLines};
+ghost use Rattle.minelib_text.specs.SpelledTexts.{SpellCpit, SpellInstance};
+ghost use Rattle.minelib_text.specs.StatedModel.{StatedModel, stated_by};
 ghost use Rattle.minelib_text.specs.SpelledPrec.{ArePredsLines, IsPredsLine};
 ghost use Rattle.minelib_text.specs.TextLines.{fields_of, is_ended, lines_in, lines_of};
 ghost use Rattle.minelib_text.specs.Written.{text_blocks, text_prec, text_pcpsp, text_cpit};
@@ -86,7 +88,23 @@ pub fn prec_lines_are_spelled()
 /// sections: each section's key line, and one line for each block's values, each coefficient and each limit, in order.
 pub fn model_lines_are_spelled()
     ensures { (problem : Problem) (n : ℕ) (text : List ℕ) (d : ModelDraft) → model_in problem n text ≡ Ok d
-        → AreModelLines problem n (lines_in text) d }
+        → AreModelLines problem n (lines_in text) (stated_by d) }
+{}
+
+/// Lines that spell what a model file states are read as it, header keys in any order and numbers in any spelling.
+pub fn spelled_models_are_read()
+    ensures { (problem : Problem) (n : ℕ) (text : List ℕ) (m : StatedModel) → AreModelLines problem n (lines_in text) m
+        → (d : ModelDraft) × (model_in problem n text ≡ Ok d) × (stated_by d ≡ m) }
+{}
+
+/// Three texts denote an instance exactly where their lines spell it.
+pub fn instances_are_spelled()
+    ensures { (blocks prec pcpsp : List ℕ) (i : OneInstance) → Denotes blocks prec pcpsp i ↔ SpellInstance blocks prec pcpsp i }
+{}
+
+/// A text denotes a constrained pit limit problem of n blocks exactly where its lines spell it.
+pub fn cpits_are_spelled()
+    ensures { (n : ℕ) (text : List ℕ) (c : CpitParts) → DenotesCpit n text c ↔ SpellCpit n text c }
 {}
 
 /// Lines that spell blocks are read as these blocks, whatever their spelling.
