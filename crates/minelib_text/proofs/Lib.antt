@@ -1,5 +1,6 @@
 pub mod BlocksBack
 pub mod CpitBack
+pub mod Completed
 pub mod Cuts
 pub mod Fronts
 pub mod HeaderLines
@@ -16,6 +17,7 @@ pub mod MarkFacts
 pub mod ModelBack
 pub mod ModelEnd
 pub mod ModelFacts
+pub mod ModelReady
 pub mod ModelSteps
 pub mod NumbersBack
 pub mod OneDigit
@@ -34,6 +36,7 @@ pub mod ValidPreds
 pub mod ValidRead
 pub mod WriteFacts
 pub mod FirstBadFacts
+pub mod FirstSpoiledFacts
 pub mod LinesOfText
 pub mod SpelledBack
 pub mod SpelledDenotes

@@ -93,7 +93,7 @@ At Objective d done = InValues d done × (d.coefs ≡ []) × (d.limits ≡ [])
 At Coefs d done = InCoefs d done × (d.limits ≡ [])
 At Limits d done = InLimits d done
 
-in_heading : (section : Section) → is_heading section ≡ true → section ≡ Heading
+pub in_heading : (section : Section) → is_heading section ≡ true → section ≡ Heading
 in_heading Heading e = refl
 in_heading Objective e = absurd cc
 in_heading Coefs e = absurd cc

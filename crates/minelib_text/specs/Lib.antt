@@ -1,3 +1,4 @@
+pub mod BegunModel
 pub mod BlockLines
 pub mod Count
 pub mod Denotes

@@ -5,6 +5,7 @@ ghost use Rattle.mine_instance.specs.OfModel.{instance as instance_of};
 ghost use Rattle.mine_instance.specs.OneSlope.{instance_by};
 ghost use Rattle.mine_instance.specs.Valid.{IsValid};
 ghost use Rattle.mine_instance.specs.declared.instance.Instance.{Instance as OneInstance};
+ghost use Rattle.minelib_text.specs.BegunModel.{EndsEarly, IsFirstSpoiled};
 ghost use Rattle.minelib_text.specs.BlockLines.{blocks_in};
 ghost use Rattle.minelib_text.specs.Denotes.{Denotes, DenotesCpit};
 ghost use Rattle.minelib_text.specs.FirstBad.{AreBlanks, IsFirstBad, IsFieldText, IsLineText, LacksLines};
@@ -129,6 +130,13 @@ pub fn faulty_lines_spell_no_preds()
     ensures { (n : ℕ) (text : List ℕ) (fault : LineFault) → preds_in n text ≡ Err fault
         → IsFirstBad (λ id line ids. IsPredsLine n id (fields_of line) ids) (lines_in text) fault.line
         ⊎ LacksLines (λ id line ids. IsPredsLine n id (fields_of line) ids) n text fault }
+{}
+
+/// A faulty line of a model file of n blocks is the first behind which nothing makes it a model, or all lines begin one, and lines are
+/// lacking at the end.
+pub fn faulty_lines_begin_no_model()
+    ensures { (problem : Problem) (n : ℕ) (text : List ℕ) (fault : LineFault) → n ≤ 64000000 → model_in problem n text ≡ Err fault
+        → IsFirstSpoiled problem n (lines_in text) fault.line ⊎ EndsEarly problem n text fault }
 {}
 
 /// Lines are what stands between LFs, a last one without LF as well; fields are what stands between runs of blanks.
