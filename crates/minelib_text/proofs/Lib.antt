@@ -12,6 +12,7 @@ pub mod KeepFacts
 pub mod KeySteps
 pub mod KeysBack
 pub mod LineFacts
+pub mod LineTold
 pub mod LinesBack
 pub mod MarkFacts
 pub mod ModelBack

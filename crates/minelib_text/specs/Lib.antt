@@ -9,6 +9,7 @@ pub mod FileFault
 pub mod FileState
 pub mod FirstBad
 pub mod Kept
+pub mod LineDemands
 pub mod Lines
 pub mod Marks
 pub mod ModelLines

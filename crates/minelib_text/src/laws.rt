@@ -13,6 +13,7 @@ ghost use Rattle.minelib_text.specs.Kept.{IsKept, IsKeptCpit};
 ghost use Rattle.minelib_text.specs.ModelLines.{ModelDraft, model_in};
 ghost use Rattle.minelib_text.specs.PrecLines.{preds_in};
 ghost use Rattle.minelib_text.specs.SameTexts.{HaveSameTexts};
+ghost use Rattle.minelib_text.specs.LineDemands.{asked_of_block, asked_of_preds};
 ghost use Rattle.minelib_text.specs.Lines.{text_of};
 ghost use Rattle.minelib_text.specs.SpelledBlocks.{AreBlockLines, IsBlockLine};
 ghost use Rattle.minelib_text.specs.SpelledModel.{AreModelLines};
@@ -118,17 +119,18 @@ pub fn spelled_preds_are_read()
     ensures { (n : ℕ) (text : List ℕ) (lists : List (List ℕ)) → length lists ≡ n → ArePredsLines n 0 (lines_in text) lists → preds_in n text ≡ Ok lists }
 {}
 
-/// A faulty line of a block file is the first that spells no block behind those before it.
+/// A faulty line of a block file is the first that spells no block behind those before it, and its kind that of the first thing asked
+/// of it that does not hold.
 pub fn faulty_lines_spell_no_block()
     ensures { (text : List ℕ) (fault : LineFault) → blocks_in text ≡ Err fault
-        → IsFirstBad (λ id line b. IsBlockLine id (fields_of line) b) (lines_in text) fault.line }
+        → IsFirstBad (λ id line b. IsBlockLine id (fields_of line) b) (λ id line. asked_of_block id (fields_of line)) (lines_in text) fault }
 {}
 
-/// A faulty line of a precedence file is the first that spells no predecessors behind those before it, or all lines spell some, and lines
-/// are lacking at the end.
+/// A faulty line of a precedence file is the first that spells no predecessors behind those before it, and its kind that of the first
+/// thing asked of it that does not hold; or all lines spell some, and lines are lacking at the end.
 pub fn faulty_lines_spell_no_preds()
     ensures { (n : ℕ) (text : List ℕ) (fault : LineFault) → preds_in n text ≡ Err fault
-        → IsFirstBad (λ id line ids. IsPredsLine n id (fields_of line) ids) (lines_in text) fault.line
+        → IsFirstBad (λ id line ids. IsPredsLine n id (fields_of line) ids) (λ id line. asked_of_preds n id (fields_of line)) (lines_in text) fault
         ⊎ LacksLines (λ id line ids. IsPredsLine n id (fields_of line) ids) n text fault }
 {}
 
