@@ -7,12 +7,12 @@ use Rattle.std.proofs.lemmas.List.Elements.{All-map, All-nil, All-cons}
 use Rattle.mine_instance.specs.Cpit.{CpitParts, IsCpit}
 use Rattle.mine_instance.specs.OfCpit.{without_destination}
 use Rattle.mine_instance.specs.Valid.{AreCoefs}
-use Rattle.mine_instance.specs.declared.coef.Coef.{Coef}
 use Rattle.mine_instance.specs.declared.cpit.CpitCoef.{CpitCoef}
 use Rattle.minelib_text.specs.Denotes.{cpit_denoted}
 use Rattle.minelib_text.specs.Kept.{IsDecimal, IsKeptCpit}
 use Rattle.minelib_text.specs.Lines.{line_of, lines_from}
 use Rattle.minelib_text.specs.ModelLines.{model_in}
+use Rattle.minelib_text.specs.StatedModel.{alone, at_only_destination}
 use Rattle.minelib_text.specs.Written.{text_cpit, value_fields}
 use Rattle.minelib_text.specs.declared.model_key.Problem.TheVariants.{Cpit}
 use Rattle.minelib_text.specs.declared.model_key.Section.TheVariants.{Limits}
@@ -21,42 +21,34 @@ use Rattle.minelib_text.proofs.ItemsBack.{coef_text}
 use Rattle.minelib_text.proofs.KeysBack.{draft, full_header, cpit_header}
 use Rattle.minelib_text.proofs.ModelBack.{IsModel, model_again}
 
--- a value as those of the only destination
-abbrev alone : ℤ → List ℤ
-alone v = v ∷ []
-
--- a coefficient as one of the only destination
-abbrev with_destination : CpitCoef → Coef
-with_destination c = record { b = c.b; d = 0; r = c.r; v = c.v }
-
 lines_from-map : {A B : Type 0} (fields : ℕ → B → List (List ℕ)) (f : A → B) (n : ℕ) (xs : List A)
     → lines_from fields n (map f xs) ≡ lines_from (λ k x. fields k (f x)) n xs
 lines_from-map fields f n [] = refl
 lines_from-map fields f n (x ∷ xs) = ap (λ lines. line_of (fields n (f x)) ∷ lines) (lines_from-map fields f (n + 1) xs)
 
-values_joined : (vs : List ℤ) → flat_map (λ values. values) (map alone vs) ≡ vs
+pub values_joined : (vs : List ℤ) → flat_map (λ values. values) (map alone vs) ≡ vs
 values_joined [] = refl
 values_joined (v ∷ vs) = ap (λ rest. v ∷ rest) (values_joined vs)
 
-coefs_without : (cs : List CpitCoef) → map without_destination (map with_destination cs) ≡ cs
+pub coefs_without : (cs : List CpitCoef) → map without_destination (map at_only_destination cs) ≡ cs
 coefs_without [] = refl
 coefs_without (c ∷ cs) = ap (λ rest. c ∷ rest) (coefs_without cs)
 
-coefs_of : (c : CpitParts) → IsCpit c → AreCoefs (length c.values) 1 c.resources (map with_destination c.coefs)
+coefs_of : (c : CpitParts) → IsCpit c → AreCoefs (length c.values) 1 c.resources (map at_only_destination c.coefs)
 coefs_of c is = record {
-  in_range = All-map (λ e. (e.b < length c.values) × (e.d < 1) × (e.r < c.resources)) with_destination c.coefs
+  in_range = All-map (λ e. (e.b < length c.values) × (e.d < 1) × (e.r < c.resources)) at_only_destination c.coefs
       (λ k d within. let range = is.coefs.in_range k d within in (range.0, omega arith, range.1));
   rising = λ i j d before within.
-      let inside : j < length c.coefs = omega (arith, length-map c.coefs with_destination) in
+      let inside : j < length c.coefs = omega (arith, length-map c.coefs at_only_destination) in
       rw (
-        get_or-map with_destination c.coefs i (without_destination d) d (omega arith),
-        get_or-map with_destination c.coefs j (without_destination d) d inside,
+        get_or-map at_only_destination c.coefs i (without_destination d) d (omega arith),
+        get_or-map at_only_destination c.coefs j (without_destination d) d inside,
       )
       (is.coefs.rising i j (without_destination d) before inside);
 }
 
 model_of : (c : CpitParts) → IsCpit c → IsKeptCpit c
-    → IsModel Cpit (length c.values) c.periods 1 c.resources (map alone c.values) (map with_destination c.coefs) c.limits
+    → IsModel Cpit (length c.values) c.periods 1 c.resources (map alone c.values) (map at_only_destination c.coefs) c.limits
 model_of c is kept = record {
   few = is.few;
   short = is.horizon.periods_1_to_100.1;
@@ -68,19 +60,19 @@ model_of c is kept = record {
   are_limits = is.limits;
   values_kept = All-map (λ vs. All IsDecimal vs) alone c.values
       (λ k d within. All-cons IsDecimal _ [] (kept.values k d within) (All-nil IsDecimal));
-  coefs_kept = All-map (λ e. IsDecimal e.v) with_destination c.coefs kept.coefs;
+  coefs_kept = All-map (λ e. IsDecimal e.v) at_only_destination c.coefs kept.coefs;
   limits_kept = kept.limits;
 }
 
 cpit_again : (c : CpitParts) → IsCpit c → IsKeptCpit c
     → model_in Cpit (length c.values) (text_cpit c)
     ≡ Ok (draft Cpit (length c.values) c.name (full_header c.periods 1 c.resources c.rate) Limits (map alone c.values)
-    (map with_destination c.coefs) c.limits)
+    (map at_only_destination c.coefs) c.limits)
 unfolding text_cpit
 cpit_again c is kept =
     let header = cpit_header (length c.values) c.name c.periods c.resources c.rate is.few kept.name is.horizon in
     let read = model_again _ _ c.name _ _ _ c.rate _ _ _ (model_of c is kept) kept.name _ header in
-    rw (lines_from-map value_fields alone 0 c.values, lines_from-map (coef_text Cpit) with_destination 0 c.coefs) at read
+    rw (lines_from-map value_fields alone 0 c.values, lines_from-map (coef_text Cpit) at_only_destination 0 c.coefs) at read
 
 pub written_cpit_again : (c : CpitParts) (n : ℕ) → IsCpit c → IsKeptCpit c → n ≡ length c.values → cpit_denoted n (text_cpit c) ≡ Ok c
 unfolding cpit_denoted

@@ -1,10 +1,11 @@
 -- A faulty line is the first that spells nothing behind those before it.
-use Rattle.std.specs.Prelude.{◌≡◌, ◌≢◌, ℕ, ◌+◌, ◌==◌, Bool, true, false, List, [], ◌∷◌, ◌++◌, length, Result, Ok, Err, ◌⊎◌, if◌then◌else◌}
-use Rattle.std.proofs.Common.{refl, sym, ◌∙◌, ap, subst, arith, inl, inr, append_assoc, append-nil, length-append, eq-eqb}
+use Rattle.std.specs.Prelude.{◌≡◌, ℕ, ◌+◌, ◌==◌, Bool, true, false, List, [], ◌∷◌, ◌++◌, length, Result, Ok, Err, ◌⊎◌, if◌then◌else◌}
+use Rattle.std.proofs.Common.{refl, sym, ◌∙◌, ap, subst, arith, inl, inr, append_assoc, append-nil, eq-eqb}
 use Rattle.pit_model.specs.declared.block.Block.{Block}
 use Rattle.minelib_text.specs.BlockLines.{block_of, admit_block, blocks_in}
 use Rattle.minelib_text.specs.FieldValues.{◌>>=◌}
 use Rattle.minelib_text.specs.FirstBad.{IsFirstBad, LacksLines}
+use Rattle.minelib_text.specs.LineDemands.{Demand, asked_of_block, asked_of_preds}
 use Rattle.minelib_text.specs.PrecLines.{PrecDraft, no_lists, preds_of, admit_preds, finish_preds, preds_in}
 use Rattle.minelib_text.specs.Reading.{at_line, read_lines}
 use Rattle.minelib_text.specs.SpelledBlocks.{IsBlockLine}
@@ -15,6 +16,7 @@ use Rattle.minelib_text.specs.declared.text_fault.LineFault.{LineFault}
 use Rattle.minelib_text.specs.declared.text_fault.TextKind.{TextKind}
 use Rattle.minelib_text.specs.declared.text_fault.TextKind.TheVariants.{Missing}
 use Rattle.minelib_text.proofs.ItemLines.{line_more}
+use Rattle.minelib_text.proofs.LineTold.{Follows, block_told, preds_told}
 use Rattle.minelib_text.proofs.SpelledBack.{block_back, preds_back}
 use Rattle.minelib_text.proofs.ValidBlocks.{block_line}
 use Rattle.minelib_text.proofs.ValidPreds.{preds_line}
@@ -24,7 +26,8 @@ module _ {S A : Type 0} (Spells : ℕ → List ℕ → A → Type 0) (state : Li
     (admit : S → List ℕ → Result S TextKind)
     (admits : (items : List A) (line : List ℕ) → admit (state items) line ≡ (read (length items) line >>= λ x. Ok (state (items ++ x ∷ []))))
     (spelled : (n : ℕ) (line : List ℕ) (x : A) → read n line ≡ Ok x → Spells n line x)
-    (back : (n : ℕ) (line : List ℕ) (x : A) → Spells n line x → read n line ≡ Ok x) where
+    (back : (n : ℕ) (line : List ℕ) (x : A) → Spells n line x → read n line ≡ Ok x) (asked : ℕ → List ℕ → List Demand)
+    (told : (n : ℕ) (line : List ℕ) → Follows (read n line) (asked n line) (λ x. Unit {0})) where
   -- what reading finds: all lines spell items, or one is the first that spells none
   record AllOf (lines : List Line) (s : S) : Type 0 where
     pub items : List A
@@ -33,7 +36,7 @@ module _ {S A : Type 0} (Spells : ℕ → List ℕ → A → Type 0) (state : Li
 
   abbrev Found : List Line → Result S LineFault → Type 0
   Found lines (Ok s) = AllOf lines s
-  Found lines (Err fault) = IsFirstBad Spells lines fault.line
+  Found lines (Err fault) = IsFirstBad Spells asked lines fault
 
   find : (done : List Line) (items : List A) (lines : List Line) → AreLines Spells 0 done items → Found (done ++ lines) (read_lines admit (state items) lines)
   find done items [] are = record { items = items; is = refl; are = subst (λ lines. AreLines Spells 0 lines items) (sym (append-nil done)) are }
@@ -59,34 +62,47 @@ module _ {S A : Type 0} (Spells : ℕ → List ℕ → A → Type 0) (state : Li
         items = items;
         spelled = are;
         spells_none = λ x h. absurd (cc (e, back (length items) line.text x h));
+        fails = subst (λ r. Follows r (asked (length items) line.text) (λ x. Unit {0})) e (told (length items) line.text);
       }
 
 abbrev IsBlockOf : ℕ → List ℕ → Block → Type 0
 IsBlockOf id line b = IsBlockLine id (fields_of line) b
 
-pub bad_block : (text : List ℕ) (fault : LineFault) → blocks_in text ≡ Err fault → IsFirstBad (λ id line b. IsBlockLine id (fields_of line) b) (lines_in text) fault.line
+abbrev asked_block : ℕ → List ℕ → List Demand
+asked_block id line = asked_of_block id (fields_of line)
+
+pub bad_block : (text : List ℕ) (fault : LineFault) → blocks_in text ≡ Err fault
+    → IsFirstBad (λ id line b. IsBlockLine id (fields_of line) b) (λ id line. asked_of_block id (fields_of line)) (lines_in text) fault
 bad_block text fault e =
     subst (Found IsBlockOf (λ blocks. blocks) (λ n line. block_of n (fields_of line)) admit_block (λ items line. refl)
-    (λ n line b h. block_line n (fields_of line) b h) (λ n line b h. block_back n (fields_of line) b h) (lines_in text)) e
+    (λ n line b h. block_line n (fields_of line) b h) (λ n line b h. block_back n (fields_of line) b h) asked_block
+    (λ n line. block_told n (fields_of line)) (lines_in text)) e
     (find IsBlockOf (λ blocks. blocks) (λ n line. block_of n (fields_of line)) admit_block (λ items line. refl)
-    (λ n line b h. block_line n (fields_of line) b h) (λ n line b h. block_back n (fields_of line) b h) [] [] (lines_in text) tt)
+    (λ n line b h. block_line n (fields_of line) b h) (λ n line b h. block_back n (fields_of line) b h) asked_block
+    (λ n line. block_told n (fields_of line)) [] [] (lines_in text) tt)
 
 abbrev ArePredsIn : ℕ → ℕ → List ℕ → List ℕ → Type 0
 ArePredsIn n id line ids = IsPredsLine n id (fields_of line) ids
+
+abbrev asked_preds : ℕ → ℕ → List ℕ → List Demand
+asked_preds n id line = asked_of_preds n id (fields_of line)
 
 abbrev lists_of : ℕ → List (List ℕ) → PrecDraft
 lists_of n lists = record { blocks = n; lists = lists }
 
 pub bad_preds : (n : ℕ) (text : List ℕ) (fault : LineFault) → preds_in n text ≡ Err fault
-    → IsFirstBad (λ id line ids. IsPredsLine n id (fields_of line) ids) (lines_in text) fault.line ⊎ LacksLines (λ id line ids. IsPredsLine n id (fields_of line) ids) n text fault
+    → IsFirstBad (λ id line ids. IsPredsLine n id (fields_of line) ids) (λ id line. asked_of_preds n id (fields_of line)) (lines_in text) fault
+    ⊎ LacksLines (λ id line ids. IsPredsLine n id (fields_of line) ids) n text fault
 bad_preds n text fault e =
     by (read_lines admit_preds (no_lists n) (lines_in text)) e
     (find (ArePredsIn n) (lists_of n) (λ own line. preds_of n own (fields_of line)) admit_preds (λ items line. refl)
-    (λ own line ids h. preds_line n own (fields_of line) ids h) (λ own line ids h. preds_back n own (fields_of line) ids h) [] [] (lines_in text) tt)
+    (λ own line ids h. preds_line n own (fields_of line) ids h) (λ own line ids h. preds_back n own (fields_of line) ids h) (asked_preds n)
+    (λ own line. preds_told n own (fields_of line)) [] [] (lines_in text) tt)
   where
     Here : Result PrecDraft LineFault → Type 0
     Here r = Found (ArePredsIn n) (lists_of n) (λ own line. preds_of n own (fields_of line)) admit_preds (λ items line. refl)
-        (λ own line ids h. preds_line n own (fields_of line) ids h) (λ own line ids h. preds_back n own (fields_of line) ids h) (lines_in text) r
+        (λ own line ids h. preds_line n own (fields_of line) ids h) (λ own line ids h. preds_back n own (fields_of line) ids h) (asked_preds n)
+        (λ own line. preds_told n own (fields_of line)) (lines_in text) r
 
     err_same : {B : Type 0} (f g : LineFault) → ◌≡◌ {A = Result B LineFault} (Err f) (Err g) → f ≡ g
     err_same f g e = cc
@@ -106,8 +122,11 @@ bad_preds n text fault e =
         }
 
     by : (r : Result PrecDraft LineFault) → (r >>= finish_preds (end_of text)) ≡ Err fault → Here r
-        → IsFirstBad (λ id line ids. IsPredsLine n id (fields_of line) ids) (lines_in text) fault.line ⊎ LacksLines (λ id line ids. IsPredsLine n id (fields_of line) ids) n text fault
+        → IsFirstBad (λ id line ids. IsPredsLine n id (fields_of line) ids) (λ id line. asked_of_preds n id (fields_of line)) (lines_in text) fault
+        ⊎ LacksLines (λ id line ids. IsPredsLine n id (fields_of line) ids) n text fault
     by (Ok d) e h =
         let finished : finish_preds (end_of text) (lists_of n h.items) ≡ Err fault = ap (finish_preds (end_of text)) (sym h.is) ∙ e in
         inr (lacks h.items (length h.items == n) refl h.are finished)
-    by (Err f) e h = inl (subst (λ (g : LineFault). IsFirstBad (λ id line ids. IsPredsLine n id (fields_of line) ids) (lines_in text) g.line) (err_same {B = List (List ℕ)} f fault e) h)
+    by (Err f) e h =
+        inl (subst (λ (g : LineFault). IsFirstBad (λ id line ids. IsPredsLine n id (fields_of line) ids)
+        (λ id line. asked_of_preds n id (fields_of line)) (lines_in text) g) (err_same {B = List (List ℕ)} f fault e) h)

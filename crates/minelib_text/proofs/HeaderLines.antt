@@ -1,15 +1,17 @@
 -- The lines of a header, one for each key: what an admitted line adds to those before it.
-use Rattle.std.specs.Prelude.{◌≡◌, ◌≢◌, ℕ, ◌==◌, ◌⊎◌, Bool, true, false, not, List, [], ◌∷◌, ◌++◌, length, is_some, All, AllPairs}
+use Rattle.std.specs.Prelude.{◌≡◌, ◌≢◌, ℕ, ◌≤◌, ◌^◌, ◌==◌, ◌⊎◌, Bool, true, false, not, List, [], ◌∷◌, ◌++◌, length, pos, Some, is_some, All, AllPairs}
 use Rattle.std.specs.List.{Contains}
 use Rattle.std.proofs.Common.{refl, sym, ap, subst, arith, inl, inr}
 use Rattle.std.proofs.lemmas.Bool.Decides.{nat_tests}
 use Rattle.std.proofs.lemmas.List.Elements.{Contains-push, Contains-append_left}
 use Rattle.std.proofs.lemmas.List.Quantifiers.{all_pairs_push}
 use Rattle.pit_model.specs.Name.{is_name}
-use Rattle.minelib_text.specs.ModelLines.{blank_header, is_given, name_with}
+use Rattle.minelib_text.specs.ModelLines.{ModelDraft, blank_header, count_in, is_given, name_with, type_text}
+use Rattle.minelib_text.specs.SpelledFields.{StatesWhole, StatesSize}
 use Rattle.minelib_text.specs.SpelledKeys.{IsKeyLine, StatesKey}
 use Rattle.minelib_text.specs.SpelledLines.{AreLines}
 use Rattle.minelib_text.specs.SpelledModel.{has_key, IsHeaderLine, AreHeaderLines}
+use Rattle.minelib_text.specs.StatedModel.{stated_by}
 use Rattle.minelib_text.specs.TextLines.{Line}
 use Rattle.minelib_text.specs.declared.model_key.Header.{Header}
 use Rattle.minelib_text.specs.declared.model_key.HeaderKey.{HeaderKey}
@@ -21,9 +23,21 @@ use Rattle.minelib_text.proofs.ItemLines.{line_more, items_keep, lines_weaker}
 use Rattle.minelib_text.proofs.KeySteps.{Sets}
 use Rattle.minelib_text.proofs.ModelEnd.{IsComplete, each_given}
 
+-- a header key with this value states its part of the NAME and the header, of n blocks
+abbrev pub SaysKey : Problem → ℕ → HeaderKey → List ℕ → List ℕ → Header → Type 0
+SaysKey problem n key.Name value name h = (name ≡ value) × (is_name value ≡ true)
+SaysKey problem n key.Type value name h = value ≡ type_text problem
+SaysKey problem n key.Blocks value name h = StatesWhole 64000001 value n
+SaysKey problem n key.Periods value name h = (periods : ℕ) × (h.periods ≡ Some periods) × StatesWhole 101 value periods × (1 ≤ periods)
+SaysKey problem n key.Destinations value name h =
+    (destinations : ℕ) × (h.destinations ≡ Some destinations) × StatesWhole 9 value destinations × (1 ≤ destinations)
+SaysKey problem n key.Resources value name h = (resources : ℕ) × (h.resources ≡ Some resources) × StatesWhole 9 value resources
+SaysKey problem n key.General value name h = StatesWhole 1 value 0
+SaysKey problem n key.Rate value name h = (rate : ℕ) × (h.rate ≡ Some rate) × StatesSize 6 (10 ^ 6) value rate
+
 -- a key that was given, and what its line stated
 abbrev pub Stated : Problem → ℕ → HeaderKey → List ℕ → List ℕ → Header → Type 0
-Stated problem n k value name h = StatesKey problem n k value name h × (is_given k name h ≡ true)
+Stated problem n k value name h = SaysKey problem n k value name h × (is_given k name h ≡ true)
 
 some_byte : (name : List ℕ) → is_name name ≡ true → not (length name == 0) ≡ true
 some_byte [] is = absurd cc
@@ -138,13 +152,28 @@ heads_more problem n k value name h next lines line sets new is_key heads = reco
     given = items_keep (λ _ text m. KeyLine problem n name h text m) (λ m. is_given m name h ≡ true) (λ _ text m l. l.stated.1) 0 lines heads.keys
         heads.spelled
 
+-- what a key says of a draft its model states
+model_stated : (problem : Problem) (n : ℕ) (k : HeaderKey) (value : List ℕ) (d : ModelDraft) → SaysKey problem n k value d.name d.header
+    → StatesKey problem n k value (stated_by d)
+model_stated problem n key.Name value d s = s
+model_stated problem n key.Type value d s = s
+model_stated problem n key.Blocks value d s = s
+model_stated problem n key.General value d s = s
+model_stated problem n key.Periods value d s =
+    subst (λ p. StatesWhole 101 value p × (1 ≤ p)) (sym (ap count_in s.1)) (s.2, s.3)
+model_stated problem n key.Destinations value d s =
+    subst (λ p. StatesWhole 9 value p × (1 ≤ p)) (sym (ap count_in s.1)) (s.2, s.3)
+model_stated problem n key.Resources value d s = subst (StatesWhole 9 value) (sym (ap count_in s.1)) s.2
+model_stated problem n key.Rate value d s = (s.0, ap (λ r. pos (count_in r)) s.1, s.2)
+
 -- the lines of a header that lacks no key
-pub heads_whole : (problem : Problem) (n : ℕ) (name : List ℕ) (h : Header) (lines : List Line) → IsComplete name h → Heads problem n name h lines
-    → AreHeaderLines problem n lines name h
-heads_whole problem n name h lines complete heads = record {
+pub heads_whole : (problem : Problem) (n : ℕ) (d : ModelDraft) (lines : List Line) → IsComplete d.name d.header
+    → Heads problem n d.name d.header lines → AreHeaderLines problem n lines (stated_by d)
+heads_whole problem n d lines complete heads = record {
   keys = heads.keys;
-  spelled = lines_weaker (λ _ text k. KeyLine problem n name h text k) (λ _ text k. IsHeaderLine problem n name h text k)
-      (λ _ text k l. record { value = l.value; is_key = l.is_key; states = l.stated.0 }) 0 lines heads.keys heads.spelled;
+  spelled = lines_weaker (λ _ text k. KeyLine problem n d.name d.header text k) (λ _ text k. IsHeaderLine problem n (stated_by d) text k)
+      (λ _ text k l. record { value = l.value; is_key = l.is_key; states = model_stated problem n k l.value d l.stated.0 }) 0 lines heads.keys
+      heads.spelled;
   once = heads.once;
-  all = λ k has. heads.all k has (each_given name h complete k);
+  all = λ k has. heads.all k has (each_given d.name d.header complete k);
 }

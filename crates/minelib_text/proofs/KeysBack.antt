@@ -114,31 +114,31 @@ pub in_all : (p : Problem) (word : List ℕ) (k : ModelKey) → key_in Pcpsp wor
 in_all Pcpsp word k h i = h
 in_all Cpit word k h i = i
 
-name_step : (p : Problem) (n : ℕ) (h : Header) (name : List ℕ) → is_name name ≡ true
+pub name_step : (p : Problem) (n : ℕ) (h : Header) (name : List ℕ) → is_name name ≡ true
     → IsStep (heading p n [] h) (key_line (codes "NAME:") name) (heading p n name h)
 name_step p n h name is =
     header_step p n [] (codes "NAME") name key.Name h h (word_field _ _ refl) (name_field name is) (in_all p _ _ refl refl) refl (rw is refl)
 
-type_step : (p : Problem) (n : ℕ) (h : Header) (name : List ℕ) → h.is_typed ≡ false
+pub type_step : (p : Problem) (n : ℕ) (h : Header) (name : List ℕ) → h.is_typed ≡ false
     → IsStep (heading p n name h) (key_line (codes "TYPE:") (type_text p)) (heading p n name (record h { is_typed = true }))
 type_step Pcpsp n h name fresh =
     header_step Pcpsp n name (codes "TYPE") (codes "PCPSP") key.Type h _ (word_field _ _ refl) (word_field _ _ refl) refl fresh refl
 type_step Cpit n h name fresh =
     header_step Cpit n name (codes "TYPE") (codes "CPIT") key.Type h _ (word_field _ _ refl) (word_field _ _ refl) refl fresh refl
 
-blocks_step : (p : Problem) (n : ℕ) (h : Header) (name : List ℕ) → n ≤ 64000000 → h.is_counted ≡ false
+pub blocks_step : (p : Problem) (n : ℕ) (h : Header) (name : List ℕ) → n ≤ 64000000 → h.is_counted ≡ false
     → IsStep (heading p n name h) (key_line (codes "NBLOCKS:") (decimal n)) (heading p n name (record h { is_counted = true }))
 blocks_step p n h name few fresh =
     header_step p n name (codes "NBLOCKS") (decimal n) key.Blocks h _ (word_field _ _ refl) (whole_field n (omega arith))
     (in_all p _ _ refl refl) fresh (rw (whole_again 64000001 n (omega arith) (omega arith), eq-eqb n n refl) refl)
 
-periods_step : (p : Problem) (n : ℕ) (h : Header) (name : List ℕ) (periods : ℕ) → (1 ≤ periods) × (periods ≤ 100) → is_some h.periods ≡ false
+pub periods_step : (p : Problem) (n : ℕ) (h : Header) (name : List ℕ) (periods : ℕ) → (1 ≤ periods) × (periods ≤ 100) → is_some h.periods ≡ false
     → IsStep (heading p n name h) (key_line (codes "NPERIODS:") (decimal periods)) (heading p n name (record h { periods = Some periods }))
 periods_step p n h name periods within fresh =
     header_step p n name (codes "NPERIODS") (decimal periods) key.Periods h _ (word_field _ _ refl) (whole_field periods (omega arith))
     (in_all p _ _ refl refl) fresh (rw (whole_again 101 periods (omega arith) (omega arith), ne_eqb periods 0 (λ e. omega arith)) refl)
 
-destinations_step : (n : ℕ) (h : Header) (name : List ℕ) (destinations : ℕ) → (1 ≤ destinations) × (destinations ≤ 8)
+pub destinations_step : (n : ℕ) (h : Header) (name : List ℕ) (destinations : ℕ) → (1 ≤ destinations) × (destinations ≤ 8)
     → is_some h.destinations ≡ false → IsStep (heading Pcpsp n name h) (key_line (codes "NDESTINATIONS:") (decimal destinations))
     (heading Pcpsp n name (record h { destinations = Some destinations }))
 destinations_step n h name destinations within fresh =
@@ -146,7 +146,7 @@ destinations_step n h name destinations within fresh =
     (whole_field destinations (omega arith)) refl fresh
     (rw (whole_again 9 destinations (omega arith) (omega arith), ne_eqb destinations 0 (λ e. omega arith)) refl)
 
-resources_step : (p : Problem) (n : ℕ) (h : Header) (name : List ℕ) (resources : ℕ) → resources ≤ 8 → is_some h.resources ≡ false
+pub resources_step : (p : Problem) (n : ℕ) (h : Header) (name : List ℕ) (resources : ℕ) → resources ≤ 8 → is_some h.resources ≡ false
     → IsStep (heading p n name h) (key_line (codes "NRESOURCE_SIDE_CONSTRAINTS:") (decimal resources))
     (heading p n name (record h { resources = Some resources }))
 resources_step p n h name resources few fresh =
@@ -156,14 +156,14 @@ resources_step p n h name resources few fresh =
 zero_read : whole_in 1 (codes "0") ≡ Ok 0
 zero_read = subst (λ text. whole_in 1 text ≡ Ok 0) (decimal_digit 0 (omega arith)) (whole_again 1 0 (omega arith) (omega arith))
 
-general_step : (n : ℕ) (h : Header) (name : List ℕ) → h.is_general ≡ false
+pub general_step : (n : ℕ) (h : Header) (name : List ℕ) → h.is_general ≡ false
     → IsStep (heading Pcpsp n name h) (key_line (codes "NGENERAL_SIDE_CONSTRAINTS:") (codes "0"))
     (heading Pcpsp n name (record h { is_general = true }))
 general_step n h name fresh =
     header_step Pcpsp n name (codes "NGENERAL_SIDE_CONSTRAINTS") (codes "0") key.General h _ (word_field _ _ refl) (word_field _ _ refl) refl fresh
     (rw zero_read refl)
 
-rate_step : (p : Problem) (n : ℕ) (h : Header) (name : List ℕ) (rate : ℤ) → (pos 0 ≤ℤ rate) × (rate ≤ℤ pos (10 ^ 6)) → is_some h.rate ≡ false
+pub rate_step : (p : Problem) (n : ℕ) (h : Header) (name : List ℕ) (rate : ℤ) → (pos 0 ≤ℤ rate) × (rate ≤ℤ pos (10 ^ 6)) → is_some h.rate ≡ false
     → IsStep (heading p n name h) (key_line (codes "DISCOUNT_RATE:") (shortest rate))
     (heading p n name (record h { rate = Some (unsigned_abs rate) }))
 rate_step p n h name (negsuc k) within fresh = absurd (omega (arith, ints))

@@ -1,5 +1,6 @@
 pub mod BlocksBack
 pub mod CpitBack
+pub mod Completed
 pub mod Cuts
 pub mod Fronts
 pub mod HeaderLines
@@ -11,11 +12,13 @@ pub mod KeepFacts
 pub mod KeySteps
 pub mod KeysBack
 pub mod LineFacts
+pub mod LineTold
 pub mod LinesBack
 pub mod MarkFacts
 pub mod ModelBack
 pub mod ModelEnd
 pub mod ModelFacts
+pub mod ModelReady
 pub mod ModelSteps
 pub mod NumbersBack
 pub mod OneDigit
@@ -34,5 +37,10 @@ pub mod ValidPreds
 pub mod ValidRead
 pub mod WriteFacts
 pub mod FirstBadFacts
+pub mod FirstSpoiledFacts
 pub mod LinesOfText
 pub mod SpelledBack
+pub mod SpelledDenotes
+pub mod Keyless
+pub mod SpelledItemsBack
+pub mod SpelledModelBack

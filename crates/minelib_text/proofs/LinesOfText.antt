@@ -1,11 +1,11 @@
 -- What the lines of a text and the fields of a line are.
 use Rattle.std.specs.Prelude.{◌≡◌, ◌≢◌, ℕ, ◌≤◌, true, false, List, [], ◌∷◌, ◌++◌, length, All, ◌==◌}
-use Rattle.std.proofs.Common.{refl, ◌∙◌, ap, arith, ne_eqb, append_assoc, append-nil, sym}
+use Rattle.std.proofs.Common.{refl, ◌∙◌, ap, arith, ne_eqb, append_assoc}
 use Rattle.std.proofs.lemmas.List.Elements.{All-head, All-tail}
 use Rattle.pit_model.specs.Cells.{is_blank}
 use Rattle.minelib_text.specs.FirstBad.{IsLineText, AreBlanks, IsFieldText}
 use Rattle.minelib_text.specs.Lines.{text_of}
-use Rattle.minelib_text.specs.TextLines.{lines_of, onto_first, is_ended, fields_of}
+use Rattle.minelib_text.specs.TextLines.{lines_of, is_ended, fields_of}
 
 one_line : (line rest : List ℕ) → IsLineText line → lines_of ((line ++ 10 ∷ []) ++ rest) ≡ line ∷ lines_of rest
 one_line [] rest h = refl

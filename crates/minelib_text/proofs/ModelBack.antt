@@ -36,7 +36,7 @@ pub record IsModel (p : Problem) (n periods destinations resources : ℕ) (value
   pub limits_kept : All (λ l. HasDecimals l.bound) limits
 
 -- a line of fields is an item of its section
-item_line : (d : ModelDraft) (fields : List (List ℕ)) → AreFields fields → admit_model d (line_of fields) ≡ admit_item d d.section fields
+pub item_line : (d : ModelDraft) (fields : List (List ℕ)) → AreFields fields → admit_model d (line_of fields) ≡ admit_item d d.section fields
 unfolding admit_model
 item_line d fields h = rw (no_colon fields h, fields_again fields h) refl
 

@@ -23,7 +23,7 @@ pub record IsComplete (name : List ℕ) (h : Header) : Type 0 where
   pub resources : is_some h.resources ≡ true
   pub rate : is_some h.rate ≡ true
 
-complete_ok : (name : List ℕ) (h : Header) → is_complete name h ≡ true → IsComplete name h
+pub complete_ok : (name : List ℕ) (h : Header) → is_complete name h ≡ true → IsComplete name h
 complete_ok name h e =
     let p7 = and_parts _ (is_some h.rate) e in
     let p6 = and_parts _ (is_some h.resources) p7.0 in

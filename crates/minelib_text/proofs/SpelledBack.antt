@@ -1,13 +1,12 @@
 -- Lines that spell blocks and predecessors are read as these.
-use Rattle.std.specs.Prelude.{◌≡◌, ◌≢◌, ℕ, ◌+◌, ◌*◌, ◌/◌, ◌^◌, ◌<◌, ◌≤◌, ◌==◌, nat_lt, true, false, not, List, [], ◌∷◌, ◌++◌, length, pos, Result, Ok, Err}
+use Rattle.std.specs.Prelude.{◌≡◌, ℕ, ◌+◌, ◌*◌, ◌/◌, ◌^◌, ◌≤◌, ◌==◌, nat_lt, true, false, List, [], ◌∷◌, ◌++◌, length, pos, Result, Ok}
 use Rattle.std.proofs.Common.{refl, sym, ◌∙◌, ap, subst, arith, append-nil, append_assoc, length-append, eq-eqb, lt-ltb, le-ltb}
 use Rattle.std.specs.List.{AllZip}
-use Rattle.std.proofs.Math.Nat.{mul-div_left}
 use Rattle.pit_units.proofs.Standing.{stands_read}
 use Rattle.pit_model.specs.declared.block.Block.{Block}
 use Rattle.minelib_text.specs.BlockLines.{block_of, admit_block, blocks_in}
-use Rattle.minelib_text.specs.FieldValues.{◌>>=◌, stated, whole_below, at_most, whole_in, size_in, all_by}
-use Rattle.minelib_text.specs.PrecLines.{PrecDraft, no_lists, preds_of, admit_preds, finish_preds, preds_in}
+use Rattle.minelib_text.specs.FieldValues.{◌>>=◌, whole_in, size_in, all_by}
+use Rattle.minelib_text.specs.PrecLines.{PrecDraft, preds_of, admit_preds, finish_preds, preds_in}
 use Rattle.minelib_text.specs.Reading.{at_line, read_lines}
 use Rattle.minelib_text.specs.SpelledBlocks.{IsBlockLine, AreBlockLines}
 use Rattle.minelib_text.specs.SpelledFields.{StatesWhole, StatesSize}

@@ -1,16 +1,19 @@
 -- The lines that are read of a model file spell what it states.
-use Rattle.std.specs.Prelude.{◌≡◌, ℕ, ◌+◌, true, List, [], ◌∷◌, ◌++◌, length, ℤ, Ok}
+use Rattle.std.specs.Prelude.{◌≡◌, ℕ, ◌+◌, true, List, [], ◌∷◌, ◌++◌, length, ℤ, Option, Ok}
 use Rattle.std.proofs.Common.{refl, sym, ◌∙◌, ap, subst, arith, append_assoc}
 use Rattle.pit_model.specs.declared.limit.Limit.{Limit}
 use Rattle.mine_instance.specs.declared.coef.Coef.{Coef}
 use Rattle.minelib_text.specs.ModelLines.{ModelDraft, blank_model, is_heading, is_limits, name_with, count_in, admit_model, model_in}
+use Rattle.minelib_text.specs.Reading.{read_lines}
 use Rattle.minelib_text.specs.SpelledItems.{IsValuesLine, IsCoefLine, IsLimitLine}
 use Rattle.minelib_text.specs.SpelledKeys.{IsKeyLine}
 use Rattle.minelib_text.specs.SpelledLines.{AreLines}
-use Rattle.minelib_text.specs.SpelledModel.{AreModelLines}
+use Rattle.minelib_text.specs.SpelledModel.{IsSingle, AreModelLines}
+use Rattle.minelib_text.specs.StatedModel.{stated_by}
 use Rattle.minelib_text.specs.TextLines.{Line, fields_of, lines_in}
 use Rattle.minelib_text.specs.declared.model_key.ModelKey.TheVariants as model_key
 use Rattle.minelib_text.specs.declared.model_key.Problem.{Problem}
+use Rattle.minelib_text.specs.declared.model_key.Problem.TheVariants.{Pcpsp, Cpit}
 use Rattle.minelib_text.specs.declared.model_key.Section.{Section}
 use Rattle.minelib_text.specs.declared.model_key.Section.TheVariants.{Heading, Objective, Coefs, Limits}
 use Rattle.minelib_text.proofs.HeaderLines.{Heads, heads_none, heads_more, heads_whole}
@@ -18,7 +21,8 @@ use Rattle.minelib_text.proofs.ItemLines.{line_more}
 use Rattle.minelib_text.proofs.ModelEnd.{IsComplete, model_finished}
 use Rattle.minelib_text.proofs.ModelSteps.{SetsKey, BeginsSection, AddsValues, AddsCoef, AddsLimit, Step, Keyed, Begun, Valued, Spent, Limited, model_step, next_by}
 use Rattle.minelib_text.proofs.ReadSteps.{kept_with_lines}
-use Rattle.minelib_text.proofs.ValidModel.{model_kept}
+use Rattle.minelib_text.proofs.ValidHeader.{IsSingle as IsSingleGiven}
+use Rattle.minelib_text.proofs.ValidModel.{KeepsModel, model_kept}
 
 -- the lines of a section so far, behind those before it: the line that begins it, and one for each item
 record Part {A : Type 0} (Before : List Line → Type 0) (problem : Problem) (section : Section) (Spells : ℕ → List ℕ → A → Type 0) (items : List A)
@@ -89,7 +93,7 @@ At Objective d done = InValues d done × (d.coefs ≡ []) × (d.limits ≡ [])
 At Coefs d done = InCoefs d done × (d.limits ≡ [])
 At Limits d done = InLimits d done
 
-in_heading : (section : Section) → is_heading section ≡ true → section ≡ Heading
+pub in_heading : (section : Section) → is_heading section ≡ true → section ≡ Heading
 in_heading Heading e = refl
 in_heading Objective e = absurd cc
 in_heading Coefs e = absurd cc
@@ -161,9 +165,14 @@ stepped done d line next (Valued s) was = valued done d line next s was
 stepped done d line next (Spent s) was = spent done d line next s was
 stepped done d line next (Limited s) was = limited done d line next s was
 
+single : (problem : Problem) (given : Option ℕ) → IsSingleGiven problem given → IsSingle problem (count_in given)
+single Pcpsp given h = tt
+single Cpit given h = ap count_in h
+
 -- all lines, cut into the header and the three sections
-whole : (d : ModelDraft) (lines : List Line) → InLimits d lines → IsComplete d.name d.header → AreModelLines d.problem d.blocks lines d
-whole d lines l complete =
+whole : (d : ModelDraft) (lines : List Line) → InLimits d lines → IsComplete d.name d.header → KeepsModel d.problem d.blocks d
+    → length d.values ≡ d.blocks → AreModelLines d.problem d.blocks lines (stated_by d)
+whole d lines l complete kept count =
     let c = l.earlier in
     let v = c.earlier in
     let joined : l.before ≡ v.before ++ (v.first ∷ v.lines ++ (c.first ∷ c.lines)) =
@@ -179,24 +188,36 @@ whole d lines l complete =
       cut = l.cut ∙ ap (λ x. x ++ l.first ∷ l.lines) joined
           ∙ append_assoc v.before (v.first ∷ v.lines ++ (c.first ∷ c.lines)) (l.first ∷ l.lines)
           ∙ ap (λ x. v.before ++ v.first ∷ x) (append_assoc v.lines (c.first ∷ c.lines) (l.first ∷ l.lines));
-      states_header = heads_whole d.problem d.blocks d.name d.header v.before complete v.earlier;
+      states_header = heads_whole d.problem d.blocks d v.before complete v.earlier;
+      destinations = single d.problem d.header.destinations kept.header.single;
       begins_values = v.begins;
       states_values = v.spelled;
+      all_values = count;
       begins_coefs = c.begins;
       states_coefs = c.spelled;
+      rising_coefs = kept.coefs.rising;
       begins_limits = l.begins;
       states_limits = l.spelled;
+      rising_limits = kept.limits.rising;
     }
 
-pub model_spelled : (problem : Problem) (n : ℕ) (text : List ℕ) (d : ModelDraft) → model_in problem n text ≡ Ok d
-    → AreModelLines problem n (lines_in text) d
-model_spelled problem n text d e =
-    let f = model_finished problem n text d e in
-    let kept = model_kept problem n (lines_in text) d f.of_lines in
-    let at : At d.section d (lines_in text) =
+-- lines that are read to their end
+pub lines_spelled : (problem : Problem) (n : ℕ) (lines : List Line) (d : ModelDraft) → read_lines admit_model (blank_model problem n) lines ≡ Ok d
+    → IsComplete d.name d.header → length d.values ≡ d.blocks → is_limits d.section ≡ true → AreModelLines problem n lines (stated_by d)
+lines_spelled problem n lines d of_lines complete count end =
+    let kept = model_kept problem n lines d of_lines in
+    let at : At d.section d lines =
     kept_with_lines (λ done d. At d.section d done) admit_model
     (λ done d line next says was. stepped done d line next (model_step d line.text next says) was)
-    [] (blank_model problem n) (lines_in text) d f.of_lines (heads_none problem n, refl, refl, refl) in
-    let limits : InLimits d (lines_in text) = subst (λ section. At section d (lines_in text)) (in_limits d.section f.at_limits) at in
-    subst (λ m. AreModelLines problem m (lines_in text) d) kept.of_blocks
-    (subst (λ p. AreModelLines p d.blocks (lines_in text) d) kept.of_problem (whole d (lines_in text) limits f.complete))
+    [] (blank_model problem n) lines d of_lines (heads_none problem n, refl, refl, refl) in
+    let limits : InLimits d lines = subst (λ section. At section d lines) (in_limits d.section end) at in
+    let own : KeepsModel d.problem d.blocks d =
+    subst (λ k. KeepsModel d.problem k d) (sym kept.of_blocks) (subst (λ p. KeepsModel p n d) (sym kept.of_problem) kept) in
+    subst (λ k. AreModelLines problem k lines (stated_by d)) kept.of_blocks
+    (subst (λ p. AreModelLines p d.blocks lines (stated_by d)) kept.of_problem (whole d lines limits complete own count))
+
+pub model_spelled : (problem : Problem) (n : ℕ) (text : List ℕ) (d : ModelDraft) → model_in problem n text ≡ Ok d
+    → AreModelLines problem n (lines_in text) (stated_by d)
+model_spelled problem n text d e =
+    let f = model_finished problem n text d e in
+    lines_spelled problem n (lines_in text) d f.of_lines f.complete f.all_values f.at_limits

@@ -18,14 +18,14 @@ use Rattle.minelib_text.specs.SpelledPrec.{IsPredsLine}
 use Rattle.minelib_text.proofs.ReadSteps.{bind_ok, bind_then, guard_ok, guard_then, first_then, then_ok, not_false, not_true, same_ok, kept_by_lines, all_ok, whole_in_ok}
 
 -- a number that does not stand in a list differs from each one there
-others_differ : (own : ℕ) (ids : List ℕ) → stands_in ids own ≡ false → All (λ id. id ≢ own) ids
+pub others_differ : (own : ℕ) (ids : List ℕ) → stands_in ids own ≡ false → All (λ id. id ≢ own) ids
 others_differ own [] e = All-nil (λ id. id ≢ own)
 others_differ own (id ∷ ids) e =
     let parts = or_parts (id == own) (stands_in ids own) e in
     All-cons (λ other. other ≢ own) id ids (grind (arith, nat_tests, parts.0)) (others_differ own ids parts.1)
 
 -- where no number stands twice, each two differ
-pairs_differ : (ids : List ℕ) → all_differ ids ≡ true → AllPairs (λ id other. id ≢ other) ids
+pub pairs_differ : (ids : List ℕ) → all_differ ids ≡ true → AllPairs (λ id other. id ≢ other) ids
 pairs_differ [] e = λ i j d less high. absurd (omega arith)
 pairs_differ (id ∷ ids) e =
     let parts = and_parts (not (stands_in ids id)) (all_differ ids) e in

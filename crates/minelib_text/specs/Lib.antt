@@ -1,3 +1,4 @@
+pub mod BegunModel
 pub mod BlockLines
 pub mod Count
 pub mod Denotes
@@ -8,6 +9,7 @@ pub mod FileFault
 pub mod FileState
 pub mod FirstBad
 pub mod Kept
+pub mod LineDemands
 pub mod Lines
 pub mod Marks
 pub mod ModelLines
@@ -26,6 +28,8 @@ pub mod SpelledKeys
 pub mod SpelledLines
 pub mod SpelledModel
 pub mod SpelledPrec
+pub mod SpelledTexts
+pub mod StatedModel
 pub mod TextLines
 pub mod Tray
 pub mod Written

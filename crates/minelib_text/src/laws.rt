@@ -1,10 +1,11 @@
 //! What holds of texts, whatever they say: each contract is a law, and a call of it changes nothing.
-ghost use Rattle.std.specs.Prelude.{◌≡◌, ◌⊎◌, ℕ, ◌≤◌, ◌++◌, ◌∷◌, [], All, true, List, length, Ok, Err};
+ghost use Rattle.std.specs.Prelude.{◌≡◌, ◌↔◌, ◌⊎◌, ℕ, ◌≤◌, ◌++◌, ◌∷◌, [], All, true, List, length, Ok, Err};
 ghost use Rattle.mine_instance.specs.Cpit.{CpitParts, IsCpit};
 ghost use Rattle.mine_instance.specs.OfModel.{instance as instance_of};
 ghost use Rattle.mine_instance.specs.OneSlope.{instance_by};
 ghost use Rattle.mine_instance.specs.Valid.{IsValid};
 ghost use Rattle.mine_instance.specs.declared.instance.Instance.{Instance as OneInstance};
+ghost use Rattle.minelib_text.specs.BegunModel.{EndsEarly, IsFirstSpoiled};
 ghost use Rattle.minelib_text.specs.BlockLines.{blocks_in};
 ghost use Rattle.minelib_text.specs.Denotes.{Denotes, DenotesCpit};
 ghost use Rattle.minelib_text.specs.FirstBad.{AreBlanks, IsFirstBad, IsFieldText, IsLineText, LacksLines};
@@ -12,9 +13,12 @@ ghost use Rattle.minelib_text.specs.Kept.{IsKept, IsKeptCpit};
 ghost use Rattle.minelib_text.specs.ModelLines.{ModelDraft, model_in};
 ghost use Rattle.minelib_text.specs.PrecLines.{preds_in};
 ghost use Rattle.minelib_text.specs.SameTexts.{HaveSameTexts};
+ghost use Rattle.minelib_text.specs.LineDemands.{asked_of_block, asked_of_preds};
 ghost use Rattle.minelib_text.specs.Lines.{text_of};
 ghost use Rattle.minelib_text.specs.SpelledBlocks.{AreBlockLines, IsBlockLine};
 ghost use Rattle.minelib_text.specs.SpelledModel.{AreModelLines};
+ghost use Rattle.minelib_text.specs.SpelledTexts.{SpellCpit, SpellInstance};
+ghost use Rattle.minelib_text.specs.StatedModel.{StatedModel, stated_by};
 ghost use Rattle.minelib_text.specs.SpelledPrec.{ArePredsLines, IsPredsLine};
 ghost use Rattle.minelib_text.specs.TextLines.{fields_of, is_ended, lines_in, lines_of};
 ghost use Rattle.minelib_text.specs.Written.{text_blocks, text_prec, text_pcpsp, text_cpit};
@@ -87,7 +91,23 @@ pub fn prec_lines_are_spelled()
 /// sections: each section's key line, and one line for each block's values, each coefficient and each limit, in order.
 pub fn model_lines_are_spelled()
     ensures { (problem : Problem) (n : ℕ) (text : List ℕ) (d : ModelDraft) → model_in problem n text ≡ Ok d
-        → AreModelLines problem n (lines_in text) d }
+        → AreModelLines problem n (lines_in text) (stated_by d) }
+{}
+
+/// Lines that spell what a model file states are read as it, header keys in any order and numbers in any spelling.
+pub fn spelled_models_are_read()
+    ensures { (problem : Problem) (n : ℕ) (text : List ℕ) (m : StatedModel) → AreModelLines problem n (lines_in text) m
+        → (d : ModelDraft) × (model_in problem n text ≡ Ok d) × (stated_by d ≡ m) }
+{}
+
+/// Three texts denote an instance exactly where their lines spell it.
+pub fn instances_are_spelled()
+    ensures { (blocks prec pcpsp : List ℕ) (i : OneInstance) → Denotes blocks prec pcpsp i ↔ SpellInstance blocks prec pcpsp i }
+{}
+
+/// A text denotes a constrained pit limit problem of n blocks exactly where its lines spell it.
+pub fn cpits_are_spelled()
+    ensures { (n : ℕ) (text : List ℕ) (c : CpitParts) → DenotesCpit n text c ↔ SpellCpit n text c }
 {}
 
 /// Lines that spell blocks are read as these blocks, whatever their spelling.
@@ -100,18 +120,26 @@ pub fn spelled_preds_are_read()
     ensures { (n : ℕ) (text : List ℕ) (lists : List (List ℕ)) → length lists ≡ n → ArePredsLines n 0 (lines_in text) lists → preds_in n text ≡ Ok lists }
 {}
 
-/// A faulty line of a block file is the first that spells no block behind those before it.
+/// A faulty line of a block file is the first that spells no block behind those before it, and its kind that of the first thing asked
+/// of it that does not hold.
 pub fn faulty_lines_spell_no_block()
     ensures { (text : List ℕ) (fault : LineFault) → blocks_in text ≡ Err fault
-        → IsFirstBad (λ id line b. IsBlockLine id (fields_of line) b) (lines_in text) fault.line }
+        → IsFirstBad (λ id line b. IsBlockLine id (fields_of line) b) (λ id line. asked_of_block id (fields_of line)) (lines_in text) fault }
 {}
 
-/// A faulty line of a precedence file is the first that spells no predecessors behind those before it, or all lines spell some, and lines
-/// are lacking at the end.
+/// A faulty line of a precedence file is the first that spells no predecessors behind those before it, and its kind that of the first
+/// thing asked of it that does not hold; or all lines spell some, and lines are lacking at the end.
 pub fn faulty_lines_spell_no_preds()
     ensures { (n : ℕ) (text : List ℕ) (fault : LineFault) → preds_in n text ≡ Err fault
-        → IsFirstBad (λ id line ids. IsPredsLine n id (fields_of line) ids) (lines_in text) fault.line
+        → IsFirstBad (λ id line ids. IsPredsLine n id (fields_of line) ids) (λ id line. asked_of_preds n id (fields_of line)) (lines_in text) fault
         ⊎ LacksLines (λ id line ids. IsPredsLine n id (fields_of line) ids) n text fault }
+{}
+
+/// A faulty line of a model file of n blocks is the first behind which nothing makes it a model, or all lines begin one, and lines are
+/// lacking at the end.
+pub fn faulty_lines_begin_no_model()
+    ensures { (problem : Problem) (n : ℕ) (text : List ℕ) (fault : LineFault) → n ≤ 64000000 → model_in problem n text ≡ Err fault
+        → IsFirstSpoiled problem n (lines_in text) fault.line ⊎ EndsEarly problem n text fault }
 {}
 
 /// Lines are what stands between LFs, a last one without LF as well; fields are what stands between runs of blanks.

@@ -1,0 +1,356 @@
+-- The fault of a line of a block or precedence file is the first thing asked of it that does not hold.
+use Rattle.std.specs.Prelude.{◌≡◌, ℕ, ◌/◌, ◌^◌, ◌<◌, ◌≤◌, ◌==◌, ◌||◌, nat_lt, not, Bool, true, false, List, [], ◌∷◌, ◌++◌, length, drop, ℤ, pos, negsuc, Some, Result, Ok, Err, if◌then◌else◌, All}
+use Rattle.std.specs.List.{AllZip}
+use Rattle.std.proofs.Common.{refl, sym, ◌∙◌, subst, arith, inl, inr, append-nil, append_assoc, eq-eqb, ltb-true, ltb-false}
+use Rattle.std.proofs.lemmas.Bool.{eqb-true, or_parts}
+use Rattle.std.proofs.lemmas.List.Elements.{All-nil, All-cons}
+use Rattle.pit_units.proofs.Standing.{number_parts, read_stands, spelled_number, spelled_too_fine}
+use Rattle.pit_units.specs.Decimal.{StandsFor, decimal_of, is_number, all_zeros, fraction_of, whole_of}
+use Rattle.pit_units.specs.declared.fault.DecFault.{DecFault}
+use Rattle.pit_units.specs.declared.fault.DecFault.TheVariants as dec
+use Rattle.pit_model.specs.PlanDemands.{IsDecimal, IsFine}
+use Rattle.pit_model.specs.declared.block.Block.{Block}
+use Rattle.mine_instance.specs.Valid.{ArePredsOf}
+use Rattle.minelib_text.specs.BlockLines.{block_of, block_with, in_range}
+use Rattle.minelib_text.specs.FieldValues.{◌>>=◌, stated, at_most, whole_below, size_in, whole_in, first_by, all_by}
+use Rattle.minelib_text.specs.LineDemands.{Demand, demand, AreMet, FailsFirst, number, whole, size, wholes, asked_of_block, asked_of_preds}
+use Rattle.minelib_text.specs.PrecLines.{stands_in, all_differ, preds_of, preds_with}
+use Rattle.minelib_text.specs.SpelledFields.{StatesWhole, StatesSize}
+use Rattle.minelib_text.specs.declared.text_fault.TextKind.{TextKind}
+use Rattle.minelib_text.specs.declared.text_fault.TextKind.TheVariants.{Fields, Range, Order, Count, Twice}
+use Rattle.minelib_text.proofs.BlocksBack.{with_again}
+use Rattle.minelib_text.proofs.PrecBack.{stands_not, differ_again}
+use Rattle.minelib_text.proofs.ReadSteps.{as_many, not_false, size_in_ok, whole_in_ok}
+use Rattle.minelib_text.proofs.SpelledBack.{size_back, whole_back}
+use Rattle.minelib_text.proofs.ValidPreds.{others_differ, pairs_differ}
+
+-- what is asked holds and the answer keeps P; or the fault is the first that does not hold
+abbrev pub Follows : {A : Type 0} → Result A TextKind → List Demand → (A → Type 0) → Type 0
+Follows (Ok x) demands P = AreMet demands × P x
+Follows (Err kind) demands P = FailsFirst demands kind
+
+fails_before : (ds es : List Demand) (kind : TextKind) → FailsFirst ds kind → FailsFirst (ds ++ es) kind
+fails_before [] es kind h = absurd h
+fails_before (d ∷ ds) es kind (inl h) = inl h
+fails_before (d ∷ ds) es kind (inr h) = inr (h.0, fails_before ds es kind h.1)
+
+fails_behind : (ds es : List Demand) (kind : TextKind) → AreMet ds → FailsFirst es kind → FailsFirst (ds ++ es) kind
+fails_behind [] es kind met h = h
+fails_behind (d ∷ ds) es kind met h = inr (met.0, fails_behind ds es kind met.1 h)
+
+both_met : (ds es : List Demand) → AreMet ds → AreMet es → AreMet (ds ++ es)
+both_met [] es met more = more
+both_met (d ∷ ds) es met more = (met.0, both_met ds es met.1 more)
+
+behind : {B : Type 0} (r : Result B TextKind) (ds es : List Demand) (Q : B → Type 0) → AreMet ds → Follows r es Q → Follows r (ds ++ es) Q
+behind (Ok x) ds es Q met h = (both_met ds es met h.0, h.1)
+behind (Err kind) ds es Q met h = fails_behind ds es kind met h
+
+-- one step and then the next
+bound : {A B : Type 0} (r : Result A TextKind) (f : A → Result B TextKind) (ds es : List Demand) (P : A → Type 0) (Q : B → Type 0)
+    → Follows r ds P → ((x : A) → P x → Follows (f x) es Q) → Follows (r >>= f) (ds ++ es) Q
+bound (Ok x) f ds es P Q here next = behind (f x) ds es Q here.0 (next x here.1)
+bound (Err kind) f ds es P Q here next = fails_before ds es kind here
+
+weaker : {A : Type 0} (r : Result A TextKind) (ds : List Demand) (P Q : A → Type 0) → ((x : A) → P x → Q x) → Follows r ds P → Follows r ds Q
+weaker (Ok x) ds P Q to h = (h.0, to x h.1)
+weaker (Err kind) ds P Q to h = h
+
+-- a test, and then the rest
+guarded : {B : Type 0} (t : Bool) (kind : TextKind) (met : Type 0) (r : Result B TextKind) (es : List Demand) (Q : B → Type 0)
+    → (t ≡ true → ¬ met) → (t ≡ false → met × Follows r es Q) → Follows (if t then Err kind else r) (demand kind met ++ es) Q
+guarded true kind met r es Q refuted kept = inl (refuted refl, refl)
+guarded false kind met r es Q refuted kept = let h = kept refl in behind r (demand kind met) es Q (h.0, tt) h.1
+
+pick_fine : (number fine large : Bool) (found : ℤ) → (if not number then Err dec.Number else (if not fine then Err dec.TooFine else (if large then Err dec.Range else Ok found))) ≡ Err dec.TooFine → number ≡ true
+pick_fine true fine large found e = refl
+pick_fine false fine large found e = absurd cc
+
+pick_range : (number fine large : Bool) (found : ℤ) → (if not number then Err dec.Number else (if not fine then Err dec.TooFine else (if large then Err dec.Range else Ok found))) ≡ Err dec.Range → (number ≡ true) × (fine ≡ true)
+pick_range true true large found e = (refl, refl)
+pick_range true false large found e = absurd cc
+pick_range false fine large found e = absurd cc
+
+too_fine_decimal : (decimals : ℕ) (field : List ℕ) → decimal_of decimals field ≡ Err dec.TooFine → IsDecimal field
+unfolding decimal_of
+too_fine_decimal decimals field e =
+    let p = number_parts field (pick_fine (is_number field) (all_zeros (drop decimals (fraction_of field))) _ _ e) in
+    (p.sign, whole_of field, p.tail, fraction_of field, p.spelled)
+
+out_of_range_fine : (decimals : ℕ) (field : List ℕ) → decimal_of decimals field ≡ Err dec.Range → IsFine decimals field
+unfolding decimal_of
+out_of_range_fine decimals field e =
+    let h = pick_range (is_number field) (all_zeros (drop decimals (fraction_of field))) _ _ e in
+    let p = number_parts field h.0 in
+    (p.sign, whole_of field, p.tail, fraction_of field, p.spelled, h.1)
+
+fine_decimal : (decimals : ℕ) (field : List ℕ) → IsFine decimals field → IsDecimal field
+fine_decimal decimals field f = (f.0, f.1, f.2, f.3, f.4)
+
+stands_fine : (decimals : ℕ) (field : List ℕ) (m : ℤ) → StandsFor decimals field m → IsFine decimals field
+stands_fine decimals field m s = (s.sign, s.whole, s.tail, s.fraction, s.spelled, s.fine)
+
+-- a decimal, and then a test of its range
+number_told : {B : Type 0} (decimals : ℕ) (field : List ℕ) (f : ℤ → Result B TextKind) (Says : B → Type 0) → decimals ≤ 6
+    → ((m : ℤ) (kind : TextKind) → f m ≡ Err kind → kind ≡ Range)
+    → ((x : B) → (stated (decimal_of decimals field) >>= f) ≡ Ok x → Says x)
+    → ((x : B) → Says x → (stated (decimal_of decimals field) >>= f) ≡ Ok x)
+    → Follows (stated (decimal_of decimals field) >>= f) (number decimals field ((x : B) × Says x)) Says
+number_told {B} decimals field f Says few ranged says back = by (decimal_of decimals field) refl says back
+  where
+    not_both : (r : Result B TextKind) (x : B) (kind : TextKind) → r ≡ Ok x → r ≡ Err kind → ⊥
+    not_both r x kind a b = cc
+
+    within : (m : ℤ) → StandsFor decimals field m → (r : Result B TextKind) → f m ≡ r → ((x : B) → r ≡ Ok x → Says x) → ((x : B) → Says x → r ≡ Ok x)
+        → Follows r (number decimals field ((x : B) × Says x)) Says
+    within m stands (Ok x) e says back =
+        let fine = stands_fine decimals field m stands in
+        ((fine_decimal decimals field fine, (fine, ((x, says x refl), tt))), says x refl)
+    within m stands (Err kind) e says back =
+        let fine = stands_fine decimals field m stands in
+        inr (fine_decimal decimals field fine, inr (fine, inl ((λ h. not_both (Err kind) h.0 kind (back h.0 h.1) refl), ranged m kind e)))
+
+    by : (r : Result ℤ DecFault) → decimal_of decimals field ≡ r → ((x : B) → (stated r >>= f) ≡ Ok x → Says x)
+        → ((x : B) → Says x → (stated r >>= f) ≡ Ok x)
+        → Follows (stated r >>= f) (number decimals field ((x : B) × Says x)) Says
+    by (Ok m) e says back = within m (read_stands decimals field m few e) (f m) refl says back
+    by (Err dec.Number) e says back = inl ((λ d. spelled_number decimals field d.0 d.1 d.2 d.3 d.4 e), refl)
+    by (Err dec.TooFine) e says back =
+        inr (too_fine_decimal decimals field e, inl ((λ g. (spelled_too_fine decimals field g.0 g.1 g.2 g.3 g.4).0 e g.5), refl))
+    by (Err dec.Range) e says back =
+        let fine = out_of_range_fine decimals field e in
+        inr (fine_decimal decimals field fine, inr (fine, inl ((λ h. not_both (Err Range) h.0 Range (back h.0 h.1) refl), refl)))
+
+below_ranged : (limit : ℕ) (m : ℤ) (kind : TextKind) → whole_below limit m ≡ Err kind → kind ≡ Range
+below_ranged limit (pos m) kind e = by (nat_lt (m / 10 ^ 6) limit) e
+  where
+    by : (t : Bool) → (if t then Ok (m / 10 ^ 6) else Err Range) ≡ Err kind → kind ≡ Range
+    by true e = absurd cc
+    by false e = cc
+below_ranged limit (negsuc m) kind e = cc
+
+most_ranged : (most : ℕ) (m : ℤ) (kind : TextKind) → at_most most m ≡ Err kind → kind ≡ Range
+most_ranged most (pos m) kind e = by (nat_lt most m) e
+  where
+    by : (t : Bool) → (if t then Err Range else Ok m) ≡ Err kind → kind ≡ Range
+    by true e = cc
+    by false e = absurd cc
+most_ranged most (negsuc m) kind e = cc
+
+whole_says : (limit : ℕ) (field : List ℕ) (n : ℕ) → (stated (decimal_of 0 field) >>= whole_below limit) ≡ Ok n → StatesWhole limit field n
+unfolding whole_in
+whole_says limit field n e = whole_in_ok limit field n e
+
+whole_is : (limit : ℕ) (field : List ℕ) (n : ℕ) → StatesWhole limit field n → (stated (decimal_of 0 field) >>= whole_below limit) ≡ Ok n
+unfolding whole_in
+whole_is limit field n h = whole_back limit field n h
+
+whole_told : (limit : ℕ) (field : List ℕ) → Follows (whole_in limit field) (whole limit field) (StatesWhole limit field)
+unfolding whole_in
+whole_told limit field =
+    number_told 0 field (whole_below limit) (StatesWhole limit field) (omega arith) (below_ranged limit) (whole_says limit field) (whole_is limit field)
+
+size_says : (decimals most : ℕ) (field : List ℕ) (m : ℕ) → decimals ≤ 6 → (stated (decimal_of decimals field) >>= at_most most) ≡ Ok m
+    → StatesSize decimals most field m
+unfolding size_in
+size_says decimals most field m few e = size_in_ok decimals most field m few e
+
+size_is : (decimals most : ℕ) (field : List ℕ) (m : ℕ) → decimals ≤ 6 → StatesSize decimals most field m
+    → (stated (decimal_of decimals field) >>= at_most most) ≡ Ok m
+unfolding size_in
+size_is decimals most field m few h = size_back decimals most field m few h
+
+size_told : (decimals most : ℕ) (field : List ℕ) → decimals ≤ 6
+    → Follows (size_in decimals most field) (size decimals most field) (StatesSize decimals most field)
+unfolding size_in
+size_told decimals most field few =
+    number_told decimals field (at_most most) (StatesSize decimals most field) few (most_ranged most)
+    (λ m e. size_says decimals most field m few e) (λ m h. size_is decimals most field m few h)
+
+-- a field, and then those behind it
+first_told : {A B : Type 0} (rule : List ℕ → Result A TextKind) (field : List ℕ) (rest : List (List ℕ))
+    (next : A × List (List ℕ) → Result B TextKind) (ds es : List Demand) (P : A → Type 0) (Q : B → Type 0)
+    → Follows (rule field) ds P → ((x : A) → P x → Follows (next (x, rest)) es Q) → Follows (first_by rule (field ∷ rest) >>= next) (ds ++ es) Q
+first_told {A} {B} rule field rest next ds es P Q here more = by (rule field) here
+  where
+    by : (r : Result A TextKind) → Follows r ds P → Follows ((r >>= λ x. Ok (x, rest)) >>= next) (ds ++ es) Q
+    by (Ok x) h = behind (next (x, rest)) ds es Q h.0 (more x h.1)
+    by (Err kind) h = fails_before ds es kind h
+
+-- a text states one whole number
+one_whole : (limit : ℕ) (field : List ℕ) (m n : ℕ) → StatesWhole limit field m → StatesWhole limit field n → m ≡ n
+one_whole limit field m n a b =
+    let same : ◌≡◌ {A = Result ℕ TextKind} (Ok m) (Ok n) = sym (whole_back limit field m a) ∙ whole_back limit field n b in
+    cc
+
+-- a number is the one that is asked for, or another
+test_told : (limit : ℕ) (field : List ℕ) (n wanted : ℕ) → StatesWhole limit field n → not (n == wanted) ≡ true → ¬ (StatesWhole limit field wanted)
+test_told limit field n wanted s t h =
+    let same : (n == wanted) ≡ true = eq-eqb n wanted (one_whole limit field n wanted s h) in
+    absurd (cc)
+
+tested : (limit : ℕ) (field : List ℕ) (n wanted : ℕ) → StatesWhole limit field n → not (n == wanted) ≡ false → StatesWhole limit field wanted
+tested limit field n wanted s t = subst (StatesWhole limit field) (eqb-true n wanted (not_false (n == wanted) t)) s
+
+-- the block of numbers that are in range
+made : (x y z tonnes grade zone : ℕ) → x < 10000 → y < 10000 → z < 10000 → tonnes ≤ 10 ^ 12 → grade ≤ 10 ^ 12 → zone < 64
+    → (b : Block) × (block_with x y z (tonnes / 1000) grade zone ≡ Some b)
+made x y z tonnes grade zone low_x low_y low_z few low_grade low_zone =
+    let kg : tonnes / 1000 ≤ 10 ^ 9 = omega arith in
+    let b : Block = record {
+      x = x;
+      y = y;
+      z = z;
+      kg = tonnes / 1000;
+      grade = grade;
+      zone = zone;
+      x_in_grid = low_x;
+      y_in_grid = low_y;
+      z_in_grid = low_z;
+      kg_in_range = kg;
+      grade_in_range = low_grade;
+      zone_in_range = low_zone;
+    } in
+    (b, with_again b)
+
+abbrev Anything : {A : Type 0} → A → Type 0
+Anything x = Unit {0}
+
+seven_told : (before : ℕ) (id x y z tonnes grade zone : List ℕ)
+    → Follows (block_of before (id ∷ x ∷ y ∷ z ∷ tonnes ∷ grade ∷ zone ∷ []))
+    (asked_of_block before (id ∷ x ∷ y ∷ z ∷ tonnes ∷ grade ∷ zone ∷ [])) (λ b. Unit {0})
+unfolding block_of
+seven_told before id x y z tonnes grade zone =
+    behind _ (demand Fields (7 ≡ 7)) _ (λ b. Unit {0}) (refl, tt)
+    (first_told (whole_in 64000000) id (x ∷ y ∷ z ∷ tonnes ∷ grade ∷ zone ∷ []) _ (whole 64000000 id) _ (StatesWhole 64000000 id) _ (whole_told 64000000 id) (λ n is_n.
+    first_told (whole_in 10000) x (y ∷ z ∷ tonnes ∷ grade ∷ zone ∷ []) _ (whole 10000 x) _ (StatesWhole 10000 x) _ (whole_told 10000 x) (λ i is_i.
+    first_told (whole_in 10000) y (z ∷ tonnes ∷ grade ∷ zone ∷ []) _ (whole 10000 y) _ (StatesWhole 10000 y) _ (whole_told 10000 y) (λ j is_j.
+    first_told (whole_in 10000) z (tonnes ∷ grade ∷ zone ∷ []) _ (whole 10000 z) _ (StatesWhole 10000 z) _ (whole_told 10000 z) (λ k is_k.
+    first_told (size_in 3 (10 ^ 12)) tonnes (grade ∷ zone ∷ []) _ (size 3 (10 ^ 12) tonnes) _ (StatesSize 3 (10 ^ 12) tonnes) _
+    (size_told 3 (10 ^ 12) tonnes (omega arith)) (λ t is_t.
+    first_told (size_in 6 (10 ^ 12)) grade (zone ∷ []) _ (size 6 (10 ^ 12) grade) _ (StatesSize 6 (10 ^ 12) grade) _
+    (size_told 6 (10 ^ 12) grade (omega arith)) (λ g is_g.
+    first_told (whole_in 64) zone [] _ (whole 64 zone) _ (StatesWhole 64 zone) _ (whole_told 64 zone) (λ w is_w.
+    guarded (not (n == before)) Order (StatesWhole 64000000 id before) (in_range (block_with i j k (t / 1000) g w)) [] (λ b. Unit {0})
+    (test_told 64000000 id n before is_n) (λ test.
+    let b = made i j k t g w is_i.below is_j.below is_k.below is_t.at_most is_g.at_most is_w.below in
+    (tested 64000000 id n before is_n test, rw (b.1) (tt, tt)))))))))))
+
+-- the seven fields of a line that has so many
+record AreSeven (fields : List (List ℕ)) : Type 0 where
+  pub a : List ℕ
+  pub b : List ℕ
+  pub c : List ℕ
+  pub d : List ℕ
+  pub e : List ℕ
+  pub f : List ℕ
+  pub g : List ℕ
+  pub are : fields ≡ a ∷ b ∷ c ∷ d ∷ e ∷ f ∷ g ∷ []
+
+seven : (fields : List (List ℕ)) → length fields ≡ 7 → AreSeven fields
+seven (a ∷ b ∷ c ∷ d ∷ e ∷ f ∷ g ∷ []) h = record { a = a; b = b; c = c; d = d; e = e; f = f; g = g; are = refl }
+seven [] h = absurd (omega (arith, h))
+seven (a ∷ []) h = absurd (omega (arith, h))
+seven (a ∷ b ∷ []) h = absurd (omega (arith, h))
+seven (a ∷ b ∷ c ∷ []) h = absurd (omega (arith, h))
+seven (a ∷ b ∷ c ∷ d ∷ []) h = absurd (omega (arith, h))
+seven (a ∷ b ∷ c ∷ d ∷ e ∷ []) h = absurd (omega (arith, h))
+seven (a ∷ b ∷ c ∷ d ∷ e ∷ f ∷ []) h = absurd (omega (arith, h))
+seven (a ∷ b ∷ c ∷ d ∷ e ∷ f ∷ g ∷ x ∷ more) h = absurd (omega (arith, h))
+
+other_width : (before : ℕ) (fields : List (List ℕ)) → (length fields == 7) ≡ false → block_of before fields ≡ Err Fields
+unfolding block_of
+other_width before fields e = rw e refl
+
+pub block_told : (before : ℕ) (fields : List (List ℕ)) → Follows (block_of before fields) (asked_of_block before fields) (λ b. Unit {0})
+block_told before fields = by (length fields == 7) refl
+  where
+    by : (t : Bool) → (length fields == 7) ≡ t → Follows (block_of before fields) (asked_of_block before fields) (λ b. Unit {0})
+    by true e =
+        let s = seven fields (eqb-true (length fields) 7 e) in
+        subst (λ fs. Follows (block_of before fs) (asked_of_block before fs) (λ b. Unit {0})) (sym s.are)
+        (seven_told before s.a s.b s.c s.d s.e s.f s.g)
+    by false e =
+        let never : ¬ (length fields ≡ 7) = λ h. (let same : (length fields == 7) ≡ true = eq-eqb (length fields) 7 h in absurd cc) in
+        rw (other_width before fields e) (inl (never, refl))
+
+-- whole numbers, behind those before them
+wholes_told : (limit : ℕ) (done : List ℕ) (fields : List (List ℕ))
+    → Follows (all_by (whole_in limit) done fields) (wholes limit fields)
+    (λ ids. (more : List ℕ) × (ids ≡ done ++ more) × AllZip (StatesWhole limit) fields more)
+wholes_told limit done [] = (tt, ([], sym (append-nil done), tt))
+wholes_told limit done (field ∷ fields) =
+    bound (whole_in limit field) _ (whole limit field) (wholes limit fields) (StatesWhole limit field) _ (whole_told limit field) (λ n is.
+    weaker (all_by (whole_in limit) (done ++ n ∷ []) fields) (wholes limit fields) _ _ (λ ids h.
+    (n ∷ h.0, h.1 ∙ append_assoc done (n ∷ []) h.0, (is, h.2)))
+    (wholes_told limit (done ++ n ∷ []) fields))
+
+-- fields state one list of whole numbers
+one_list : (limit : ℕ) (fields : List (List ℕ)) (a b : List ℕ) → AllZip (StatesWhole limit) fields a → AllZip (StatesWhole limit) fields b → a ≡ b
+one_list limit [] [] [] h k = refl
+one_list limit [] [] (y ∷ b) h k = absurd k
+one_list limit [] (x ∷ a) b h k = absurd h
+one_list limit (field ∷ fields) [] b h k = absurd h
+one_list limit (field ∷ fields) (x ∷ a) [] h k = absurd k
+one_list limit (field ∷ fields) (x ∷ a) (y ∷ b) h k =
+    let first = one_whole limit field x y h.0 k.0 in
+    let rest = one_list limit fields a b h.1 k.1 in
+    cc
+
+all_below : (limit : ℕ) (fields : List (List ℕ)) (ids : List ℕ) → AllZip (StatesWhole limit) fields ids → All (λ id. id < limit) ids
+all_below limit [] [] h = All-nil (λ id. id < limit)
+all_below limit [] (id ∷ ids) h = absurd h
+all_below limit (field ∷ fields) [] h = absurd h
+all_below limit (field ∷ fields) (id ∷ ids) h = All-cons (λ id. id < limit) id ids h.0.below (all_below limit fields ids h.1)
+
+with_told : (n own : ℕ) (id count : List ℕ) (others : List (List ℕ)) (k m : ℕ) (ids : List ℕ) → StatesWhole n id k → StatesWhole n count m
+    → AllZip (StatesWhole n) others ids
+    → Follows (preds_with own k m ids)
+    (demand Order (StatesWhole n id own) ++ demand Count (StatesWhole n count (length others))
+    ++ demand Twice ((ids : List ℕ) → AllZip (StatesWhole n) others ids → ArePredsOf own n ids)) (λ ids. Unit {0})
+with_told n own id count others k m ids is_k is_m are =
+    guarded (not (k == own)) Order (StatesWhole n id own) _ _ (λ ids. Unit {0}) (test_told n id k own is_k) (λ t1. (
+      tested n id k own is_k t1,
+      guarded (not (m == length ids)) Count (StatesWhole n count (length others)) _ _ (λ ids. Unit {0})
+          (λ t h. test_told n count m (length ids) is_m t (subst (StatesWhole n count) same h))
+          (λ t2. (
+            subst (StatesWhole n count) (sym same) (tested n count m (length ids) is_m t2),
+            guarded (stands_in ids own || not (all_differ ids)) Twice ((ids : List ℕ) → AllZip (StatesWhole n) others ids → ArePredsOf own n ids) (Ok ids) []
+                (λ ids. Unit {0}) refuted (λ t3. (kept (or_parts (stands_in ids own) (not (all_differ ids)) t3), (tt, tt))),
+          )),
+    ))
+  where
+    same : length others ≡ length ids
+    same = as_many (StatesWhole n) others ids are
+
+    refuted : (stands_in ids own || not (all_differ ids)) ≡ true → ¬ ((ids : List ℕ) → AllZip (StatesWhole n) others ids → ArePredsOf own n ids)
+    refuted t h =
+        let p = h ids are in
+        let none = stands_not own ids p.others in
+        let differ = differ_again ids p.distinct in
+        absurd (neither (stands_in ids own) (all_differ ids) none differ t)
+      where
+        neither : (a b : Bool) → a ≡ false → b ≡ true → (a || not b) ≡ true → ⊥
+        neither a b x y z = cc
+
+    kept : (stands_in ids own ≡ false) × (not (all_differ ids) ≡ false) → (others_too : List ℕ) → AllZip (StatesWhole n) others others_too
+        → ArePredsOf own n others_too
+    kept tests too h = subst (ArePredsOf own n) (one_list n others ids too are h) (record {
+      below = all_below n others ids are;
+      others = others_differ own ids tests.0;
+      distinct = pairs_differ ids (not_false (all_differ ids) tests.1);
+    })
+
+pub preds_told : (n own : ℕ) (fields : List (List ℕ)) → Follows (preds_of n own fields) (asked_of_preds n own fields) (λ ids. Unit {0})
+unfolding preds_of
+preds_told n own [] = inl ((λ h. omega (arith, h)), refl)
+preds_told n own (lone ∷ []) = inl ((λ h. omega (arith, h)), refl)
+preds_told n own (id ∷ count ∷ others) =
+    guarded (nat_lt (length (id ∷ count ∷ others)) 2) Fields (2 ≤ length (id ∷ count ∷ others)) _ _ (λ ids. Unit {0})
+    (λ t h. omega (arith, ltb-true (length (id ∷ count ∷ others)) 2 t, h)) (λ t. (
+      ltb-false (length (id ∷ count ∷ others)) 2 t,
+      first_told (whole_in n) id (count ∷ others) _ (whole n id) _ (StatesWhole n id) _ (whole_told n id) (λ k is_k.
+          first_told (whole_in n) count others _ (whole n count) _ (StatesWhole n count) _ (whole_told n count) (λ m is_m.
+          bound (all_by (whole_in n) [] others) _ (wholes n others) _ _ _ (wholes_told n [] others) (λ ids h.
+          with_told n own id count others k m ids is_k is_m (subst (AllZip (StatesWhole n) others) (sym h.1) h.2)))),
+    ))
