@@ -138,7 +138,7 @@ pub fn faulty_lines_spell_no_preds()
 /// A faulty line of a model file of n blocks is the first behind which nothing makes it a model, or all lines begin one, and lines are
 /// lacking at the end.
 pub fn faulty_lines_begin_no_model()
-    ensures { (problem : Problem) (n : ℕ) (text : List ℕ) (fault : LineFault) → n ≤ 64000000 → model_in problem n text ≡ Err fault
+    ensures { (problem : Problem) (n : ℕ) (text : List ℕ) (fault : LineFault) → n ≤ MAX_BLOCKS → model_in problem n text ≡ Err fault
         → IsFirstSpoiled problem n (lines_in text) fault.line ⊎ EndsEarly problem n text fault }
 {}
 

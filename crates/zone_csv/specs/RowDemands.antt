@@ -15,6 +15,7 @@ use Rattle.zone_csv.specs.declared.row_fault.Column.TheVariants as column
 use Rattle.zone_csv.specs.declared.row_fault.RowFault.{RowFault}
 use Rattle.zone_csv.specs.declared.row_fault.RowFaultKind.{RowFaultKind}
 use Rattle.zone_csv.specs.declared.row_fault.RowFaultKind.TheVariants.{MissingColumn, TwiceColumn, Width, Number, TooFine, Range, OffGrid, TooManyRows}
+use Rattle.pit_model.specs.declared.ranges.TheConstants.{GRID_CELLS, MAX_GRADE, MAX_KG, MAX_ROWS}
 
 -- something that has to hold, and the column and kind of the fault where it does not
 pub record Demand : Type 1 where
@@ -59,7 +60,7 @@ a_decimal column decimals cell = demand column Number (IsDecimal cell) ++ demand
 -- from the origin of the grid to less than 10,000 sizes above it
 abbrev pub IsInGrid : Axis → ℤ → Type 0
 IsInGrid axis m =
-    ((pos 1000 *ℤ axis.origin) ≤ℤ m) × (m <ℤ (pos 1000 *ℤ (axis.origin +ℤ pos (10000 * axis.size))))
+    ((pos 1000 *ℤ axis.origin) ≤ℤ m) × (m <ℤ (pos 1000 *ℤ (axis.origin +ℤ pos (GRID_CELLS * axis.size))))
 
 -- metres with three decimals, in the grid, at the centroid of a block
 abbrev pub a_coordinate : Column → Axis → List ℕ → List Demand
@@ -69,11 +70,11 @@ a_coordinate column axis cell =
 
 -- tonnes with three decimals, 0 to 10^9 kg
 abbrev pub some_tonnes : List ℕ → List Demand
-some_tonnes cell = a_decimal column.Tonnes 3 cell ++ demand column.Tonnes Range (IsWithin 3 (pos 0) (pos (10 ^ 9 * 1000)) cell)
+some_tonnes cell = a_decimal column.Tonnes 3 cell ++ demand column.Tonnes Range (IsWithin 3 (pos 0) (pos (MAX_KG * 1000)) cell)
 
 -- a grade with six decimals, 0 to 10^12 millionths
 abbrev pub a_grade : List ℕ → List Demand
-a_grade cell = a_decimal column.Grade 6 cell ++ demand column.Grade Range (IsWithin 6 (pos 0) (pos (10 ^ 12)) cell)
+a_grade cell = a_decimal column.Grade 6 cell ++ demand column.Grade Range (IsWithin 6 (pos 0) (pos MAX_GRADE) cell)
 
 -- what is asked of a record behind a header with these columns
 abbrev pub asked_of_row : Grid → Columns → List (List ℕ) → List Demand
@@ -105,5 +106,5 @@ pub record IsFaultOfRow (grid : Grid) (zone : ℕ) (records : List (List (List �
   pub named : NamesColumns header columns
   pub blocks : List Block
   pub spelled : SpellBlocks grid zone columns before blocks
-  pub reason : ((length before ≡ 1000000) × (fault.column ≡ column.Whole) × (fault.kind ≡ TooManyRows))
-      ⊎ ((length before < 1000000) × FailsFirst (asked_of_row grid columns row) fault)
+  pub reason : ((length before ≡ MAX_ROWS) × (fault.column ≡ column.Whole) × (fault.kind ≡ TooManyRows))
+      ⊎ ((length before < MAX_ROWS) × FailsFirst (asked_of_row grid columns row) fault)

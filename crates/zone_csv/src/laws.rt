@@ -54,6 +54,6 @@ pub fn faulty_rows_spell_no_block()
 /// record behind it that spells no block.
 pub fn zone_faults_are_first()
     ensures { (grid : AGrid) (zone : ℕ) (text : List ℕ) (fault : RowFault)
-        → 0 < grid.x.size → 0 < grid.y.size → 0 < grid.z.size → zone < 64 → fault_of grid zone text ≡ Some fault
+        → 0 < grid.x.size → 0 < grid.y.size → 0 < grid.z.size → zone < MAX_ZONES → fault_of grid zone text ≡ Some fault
         → IsFaultOfHeader (records_of text) fault ⊎ IsFaultOfRow grid zone (records_of text) fault }
 {}
