@@ -10,6 +10,7 @@ ghost use Rattle.minelib_text.specs.BlockLines.{blocks_in};
 ghost use Rattle.minelib_text.specs.Denotes.{Denotes, DenotesCpit};
 ghost use Rattle.minelib_text.specs.FirstBad.{AreBlanks, IsFirstBad, IsFieldText, IsLineText, LacksLines};
 ghost use Rattle.minelib_text.specs.Kept.{IsKept, IsKeptCpit};
+ghost use Rattle.minelib_text.specs.ModelDemands.{HasKind};
 ghost use Rattle.minelib_text.specs.ModelLines.{ModelDraft, model_in};
 ghost use Rattle.minelib_text.specs.PrecLines.{preds_in};
 ghost use Rattle.minelib_text.specs.SameTexts.{HaveSameTexts};
@@ -134,11 +135,11 @@ pub fn faulty_lines_spell_no_preds()
         ⊎ LacksLines (λ id line ids. IsPredsLine n id (fields_of line) ids) n text fault }
 {}
 
-/// A faulty line of a model file of n blocks is the first behind which nothing makes it a model, or all lines begin one, and lines are
-/// lacking at the end.
+/// A faulty line of a model file of n blocks is the first behind which nothing makes it a model, and its kind that of the first thing
+/// asked of it that does not hold; or all lines begin a model, and lines are lacking at the end.
 pub fn faulty_lines_begin_no_model()
     ensures { (problem : Problem) (n : ℕ) (text : List ℕ) (fault : LineFault) → n ≤ 64000000 → model_in problem n text ≡ Err fault
-        → IsFirstSpoiled problem n (lines_in text) fault.line ⊎ EndsEarly problem n text fault }
+        → (IsFirstSpoiled problem n (lines_in text) fault.line × HasKind problem n (lines_in text) fault) ⊎ EndsEarly problem n text fault }
 {}
 
 /// Lines are what stands between LFs, a last one without LF as well; fields are what stands between runs of blanks.
