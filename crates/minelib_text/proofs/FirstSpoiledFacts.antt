@@ -1,22 +1,32 @@
 -- A faulty line of a model file is the first behind which nothing makes it a model.
 use Rattle.std.specs.Prelude.{◌≡◌, ℕ, ◌≤◌, ◌==◌, ◌&&◌, Bool, true, false, List, [], ◌∷◌, ◌++◌, length, Result, Ok, Err, ◌⊎◌, if◌then◌else◌}
-use Rattle.std.proofs.Common.{refl, sym, ◌∙◌, ap, inl, inr, append_assoc}
+use Rattle.std.proofs.Common.{refl, sym, ◌∙◌, ap, subst, inl, inr, append_assoc}
 use Rattle.minelib_text.specs.BegunModel.{BeginModel, IsFirstSpoiled, EndsEarly}
 use Rattle.minelib_text.specs.FieldValues.{◌>>=◌}
+use Rattle.minelib_text.specs.LineDemands.{FailsFirst}
+use Rattle.minelib_text.specs.ModelDemands.{asked_of_model, HasKind}
 use Rattle.minelib_text.specs.ModelLines.{ModelDraft, blank_model, is_complete, is_limits, admit_model, finish_model, model_in}
+use Rattle.minelib_text.specs.ModelSoFar.{HasOwn}
 use Rattle.minelib_text.specs.Reading.{at_line, read_lines}
 use Rattle.minelib_text.specs.SpelledModel.{AreModelLines}
 use Rattle.minelib_text.specs.StatedModel.{StatedModel, stated_by}
 use Rattle.minelib_text.specs.TextLines.{Line, lines_in, end_of}
+use Rattle.minelib_text.specs.declared.model_key.Header.{Header}
 use Rattle.minelib_text.specs.declared.model_key.Problem.{Problem}
+use Rattle.minelib_text.specs.declared.model_key.Problem.TheVariants.{Pcpsp, Cpit}
 use Rattle.minelib_text.specs.declared.text_fault.LineFault.{LineFault}
 use Rattle.minelib_text.specs.declared.text_fault.TextKind.{TextKind}
 use Rattle.minelib_text.specs.declared.text_fault.TextKind.TheVariants.{Missing}
 use Rattle.minelib_text.proofs.Completed.{completed}
+use Rattle.minelib_text.proofs.LineTold.{Follows}
 use Rattle.minelib_text.proofs.ModelEnd.{complete_ok}
+use Rattle.minelib_text.proofs.ModelReady.{IsGeneral, model_general}
+use Rattle.minelib_text.proofs.ModelTold.{model_told}
 use Rattle.minelib_text.proofs.SpelledBack.{next_line}
 use Rattle.minelib_text.proofs.SpelledModelBack.{lines_then, lines_back, model_back}
-use Rattle.minelib_text.proofs.SpelledModelRead.{lines_spelled}
+use Rattle.minelib_text.proofs.SpelledModelRead.{lines_so_far, lines_spelled}
+use Rattle.minelib_text.proofs.ValidHeader.{IsSingle}
+use Rattle.minelib_text.proofs.ValidModel.{model_kept}
 
 -- where lines are refused
 record Stops (s : ModelDraft) (lines : List Line) (fault : LineFault) : Type 0 where
@@ -29,6 +39,7 @@ record Stops (s : ModelDraft) (lines : List Line) (fault : LineFault) : Type 0 w
   pub read : read_lines admit_model s before ≡ Ok state
   pub kind : TextKind
   pub refused : admit_model state bad.text ≡ Err kind
+  pub same_kind : fault.kind ≡ kind
 
 err_same : {B : Type 0} (f g : LineFault) → ◌≡◌ {A = Result B LineFault} (Err f) (Err g) → f ≡ g
 err_same f g e = cc
@@ -52,6 +63,7 @@ stops s (line ∷ lines) fault e = by (λ next h. stops next lines fault h) (adm
           read = next_line admit_model s next line more.before is ∙ more.read;
           kind = more.kind;
           refused = more.refused;
+          same_kind = more.same_kind;
         }
     by deeper (Err kind) is h =
         let same : record { line = line.number; kind = kind } ≡ fault = err_same {B = ModelDraft} (record { line = line.number; kind = kind }) fault h in
@@ -65,6 +77,7 @@ stops s (line ∷ lines) fault e = by (λ next h. stops next lines fault h) (adm
           read = refl;
           kind = kind;
           refused = is;
+          same_kind = sym (ap (λ (f : LineFault). f.kind) same);
         }
 
 -- lines that are read begin a model
@@ -91,8 +104,29 @@ spoils problem n before bad d kind e refused (rest, m, are) =
     not_both : (r : Result ModelDraft LineFault) (last : ModelDraft) (fault : LineFault) → r ≡ Ok last → r ≡ Err fault → ⊥
     not_both r last fault a b = cc
 
+own : (problem : Problem) (h : Header) → IsSingle problem h.destinations → IsGeneral problem h → HasOwn problem h
+own Pcpsp h single general = tt
+own Cpit h single general = (single, general)
+
+-- the kind of a line that is refused
+kinds : (problem : Problem) (n : ℕ) (lines : List Line) (fault : LineFault) → Stops (blank_model problem n) lines fault → HasKind problem n lines fault
+kinds problem n lines fault stop =
+    let kept = model_kept problem n stop.before stop.state stop.read in
+    let general = subst (λ p. IsGeneral p stop.state.header) kept.of_problem (model_general problem n stop.before stop.state stop.read) in
+    let told = subst (λ r. Follows r (asked_of_model stop.state stop.bad.text) (λ d. Unit {0})) stop.refused (model_told stop.state stop.bad.text) in
+    record {
+      before = stop.before;
+      bad = stop.bad;
+      behind = stop.behind;
+      cut = stop.cut;
+      place = stop.place;
+      so_far = stop.state;
+      spelled = (kept.of_problem, kept.of_blocks, own problem stop.state.header kept.header.single general, lines_so_far problem n stop.before stop.state stop.read);
+      fails = subst (FailsFirst (asked_of_model stop.state stop.bad.text)) (sym stop.same_kind) told;
+    }
+
 pub bad_model : (problem : Problem) (n : ℕ) (text : List ℕ) (fault : LineFault) → n ≤ 64000000 → model_in problem n text ≡ Err fault
-    → IsFirstSpoiled problem n (lines_in text) fault.line ⊎ EndsEarly problem n text fault
+    → (IsFirstSpoiled problem n (lines_in text) fault.line × HasKind problem n (lines_in text) fault) ⊎ EndsEarly problem n text fault
 bad_model problem n text fault few e = by (read_lines admit_model (blank_model problem n) (lines_in text)) refl e
   where
     no_model : (m : StatedModel) → ¬ (AreModelLines problem n (lines_in text) m)
@@ -113,18 +147,22 @@ bad_model problem n text fault few e = by (read_lines admit_model (blank_model p
 
     by : (r : Result ModelDraft LineFault) → read_lines admit_model (blank_model problem n) (lines_in text) ≡ r
         → (r >>= finish_model (end_of text)) ≡ Err fault
-        → IsFirstSpoiled problem n (lines_in text) fault.line ⊎ EndsEarly problem n text fault
+        → (IsFirstSpoiled problem n (lines_in text) fault.line × HasKind problem n (lines_in text) fault) ⊎ EndsEarly problem n text fault
     by (Ok d) is h =
         inr (ends (is_complete d.name d.header && (length d.values == d.blocks) && is_limits d.section) d h (begins problem n (lines_in text) d few is))
     by (Err f) is h =
-        let stop = stops (blank_model problem n) (lines_in text) f is in
         let same = err_same {B = ModelDraft} f fault h in
-        inl (record {
-          before = stop.before;
-          bad = stop.bad;
-          behind = stop.behind;
-          cut = stop.cut;
-          place = sym (ap (λ (f : LineFault). f.line) same) ∙ stop.place;
-          begun = begins problem n stop.before stop.state few stop.read;
-          spoiled = spoils problem n stop.before stop.bad stop.state stop.kind stop.read stop.refused;
-        })
+        let stop : Stops (blank_model problem n) (lines_in text) fault =
+        subst (Stops (blank_model problem n) (lines_in text)) same (stops (blank_model problem n) (lines_in text) f is) in
+        inl (
+          record {
+            before = stop.before;
+            bad = stop.bad;
+            behind = stop.behind;
+            cut = stop.cut;
+            place = stop.place;
+            begun = begins problem n stop.before stop.state few stop.read;
+            spoiled = spoils problem n stop.before stop.bad stop.state stop.kind stop.read stop.refused;
+          },
+          kinds problem n (lines_in text) fault stop,
+        )

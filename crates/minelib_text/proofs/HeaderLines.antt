@@ -1,15 +1,15 @@
 -- The lines of a header, one for each key: what an admitted line adds to those before it.
-use Rattle.std.specs.Prelude.{◌≡◌, ◌≢◌, ℕ, ◌≤◌, ◌^◌, ◌==◌, ◌⊎◌, Bool, true, false, not, List, [], ◌∷◌, ◌++◌, length, pos, Some, is_some, All, AllPairs}
+use Rattle.std.specs.Prelude.{◌≡◌, ◌≢◌, ℕ, ◌≤◌, ◌==◌, ◌⊎◌, Bool, true, false, not, List, [], ◌∷◌, ◌++◌, length, pos, is_some, All}
 use Rattle.std.specs.List.{Contains}
 use Rattle.std.proofs.Common.{refl, sym, ap, subst, arith, inl, inr}
 use Rattle.std.proofs.lemmas.Bool.Decides.{nat_tests}
 use Rattle.std.proofs.lemmas.List.Elements.{Contains-push, Contains-append_left}
 use Rattle.std.proofs.lemmas.List.Quantifiers.{all_pairs_push}
 use Rattle.pit_model.specs.Name.{is_name}
-use Rattle.minelib_text.specs.ModelLines.{ModelDraft, blank_header, count_in, is_given, name_with, type_text}
-use Rattle.minelib_text.specs.SpelledFields.{StatesWhole, StatesSize}
+use Rattle.minelib_text.specs.ModelLines.{ModelDraft, blank_header, count_in, is_given, name_with}
+use Rattle.minelib_text.specs.ModelSoFar.{SaysKey, Stated, KeyLine, Heads}
+use Rattle.minelib_text.specs.SpelledFields.{StatesWhole}
 use Rattle.minelib_text.specs.SpelledKeys.{IsKeyLine, StatesKey}
-use Rattle.minelib_text.specs.SpelledLines.{AreLines}
 use Rattle.minelib_text.specs.SpelledModel.{has_key, IsHeaderLine, AreHeaderLines}
 use Rattle.minelib_text.specs.StatedModel.{stated_by}
 use Rattle.minelib_text.specs.TextLines.{Line}
@@ -22,22 +22,6 @@ use Rattle.minelib_text.specs.declared.model_key.Problem.TheVariants.{Pcpsp, Cpi
 use Rattle.minelib_text.proofs.ItemLines.{line_more, items_keep, lines_weaker}
 use Rattle.minelib_text.proofs.KeySteps.{Sets}
 use Rattle.minelib_text.proofs.ModelEnd.{IsComplete, each_given}
-
--- a header key with this value states its part of the NAME and the header, of n blocks
-abbrev pub SaysKey : Problem → ℕ → HeaderKey → List ℕ → List ℕ → Header → Type 0
-SaysKey problem n key.Name value name h = (name ≡ value) × (is_name value ≡ true)
-SaysKey problem n key.Type value name h = value ≡ type_text problem
-SaysKey problem n key.Blocks value name h = StatesWhole 64000001 value n
-SaysKey problem n key.Periods value name h = (periods : ℕ) × (h.periods ≡ Some periods) × StatesWhole 101 value periods × (1 ≤ periods)
-SaysKey problem n key.Destinations value name h =
-    (destinations : ℕ) × (h.destinations ≡ Some destinations) × StatesWhole 9 value destinations × (1 ≤ destinations)
-SaysKey problem n key.Resources value name h = (resources : ℕ) × (h.resources ≡ Some resources) × StatesWhole 9 value resources
-SaysKey problem n key.General value name h = StatesWhole 1 value 0
-SaysKey problem n key.Rate value name h = (rate : ℕ) × (h.rate ≡ Some rate) × StatesSize 6 (10 ^ 6) value rate
-
--- a key that was given, and what its line stated
-abbrev pub Stated : Problem → ℕ → HeaderKey → List ℕ → List ℕ → Header → Type 0
-Stated problem n k value name h = SaysKey problem n k value name h × (is_given k name h ≡ true)
 
 some_byte : (name : List ℕ) → is_name name ≡ true → not (length name == 0) ≡ true
 some_byte [] is = absurd cc
@@ -99,19 +83,6 @@ given_by problem n key.Resources value name h next s key.Resources is = inl refl
 given_by problem n key.Resources value name h next s m is = inr (subst (λ h. is_given m name h ≡ true) (sym s.1) is)
 given_by problem n key.Rate value name h next s key.Rate is = inl refl
 given_by problem n key.Rate value name h next s m is = inr (subst (λ h. is_given m name h ≡ true) (sym s.1) is)
-
--- the line of a key that was given
-pub record KeyLine (problem : Problem) (n : ℕ) (name : List ℕ) (h : Header) (line : List ℕ) (k : HeaderKey) : Type 0 where
-  pub value : List ℕ
-  pub is_key : IsKeyLine problem line (model_key.Header k) (value ∷ [])
-  pub stated : Stated problem n k value name h
-
--- the header's lines so far
-pub record Heads (problem : Problem) (n : ℕ) (name : List ℕ) (h : Header) (lines : List Line) : Type 0 where
-  pub keys : List HeaderKey
-  pub spelled : AreLines (λ _ line k. KeyLine problem n name h line k) 0 lines keys
-  pub once : AllPairs (λ k m. k ≢ m) keys
-  pub all : (k : HeaderKey) → has_key problem k ≡ true → is_given k name h ≡ true → Contains keys k
 
 none_given : (problem : Problem) (k : HeaderKey) → has_key problem k ≡ true → is_given k [] (blank_header problem) ≡ true → ⊥
 none_given Pcpsp key.Name has is = cc

@@ -29,7 +29,7 @@ Sets problem n key.Resources value h next = (resources : ℕ) × (record h { res
 Sets problem n key.General value h next = (record h { is_general = true } ≡ next) × StatesWhole 1 value 0
 Sets problem n key.Rate value h next = (rate : ℕ) × (record h { rate = Some rate } ≡ next) × StatesSize 6 (10 ^ 6) value rate
 
-counted_ok : (limit : ℕ) (field : List ℕ) (n : ℕ) → counted_in limit field ≡ Ok n → StatesWhole limit field n × (1 ≤ n)
+pub counted_ok : (limit : ℕ) (field : List ℕ) (n : ℕ) → counted_in limit field ≡ Ok n → StatesWhole limit field n × (1 ≤ n)
 counted_ok limit field n e =
     bind_then (whole_in limit field) _ n e (λ m s e1.
     guard_then (m == 0) Range (Ok m) n e1 (λ some e2.

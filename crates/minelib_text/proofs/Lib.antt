@@ -20,6 +20,7 @@ pub mod ModelEnd
 pub mod ModelFacts
 pub mod ModelReady
 pub mod ModelSteps
+pub mod ModelTold
 pub mod NumbersBack
 pub mod OneDigit
 pub mod Places

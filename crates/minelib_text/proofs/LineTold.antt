@@ -29,7 +29,7 @@ abbrev pub Follows : {A : Type 0} → Result A TextKind → List Demand → (A �
 Follows (Ok x) demands P = AreMet demands × P x
 Follows (Err kind) demands P = FailsFirst demands kind
 
-fails_before : (ds es : List Demand) (kind : TextKind) → FailsFirst ds kind → FailsFirst (ds ++ es) kind
+pub fails_before : (ds es : List Demand) (kind : TextKind) → FailsFirst ds kind → FailsFirst (ds ++ es) kind
 fails_before [] es kind h = absurd h
 fails_before (d ∷ ds) es kind (inl h) = inl h
 fails_before (d ∷ ds) es kind (inr h) = inr (h.0, fails_before ds es kind h.1)
@@ -42,12 +42,12 @@ both_met : (ds es : List Demand) → AreMet ds → AreMet es → AreMet (ds ++ e
 both_met [] es met more = more
 both_met (d ∷ ds) es met more = (met.0, both_met ds es met.1 more)
 
-behind : {B : Type 0} (r : Result B TextKind) (ds es : List Demand) (Q : B → Type 0) → AreMet ds → Follows r es Q → Follows r (ds ++ es) Q
+pub behind : {B : Type 0} (r : Result B TextKind) (ds es : List Demand) (Q : B → Type 0) → AreMet ds → Follows r es Q → Follows r (ds ++ es) Q
 behind (Ok x) ds es Q met h = (both_met ds es met h.0, h.1)
 behind (Err kind) ds es Q met h = fails_behind ds es kind met h
 
 -- one step and then the next
-bound : {A B : Type 0} (r : Result A TextKind) (f : A → Result B TextKind) (ds es : List Demand) (P : A → Type 0) (Q : B → Type 0)
+pub bound : {A B : Type 0} (r : Result A TextKind) (f : A → Result B TextKind) (ds es : List Demand) (P : A → Type 0) (Q : B → Type 0)
     → Follows r ds P → ((x : A) → P x → Follows (f x) es Q) → Follows (r >>= f) (ds ++ es) Q
 bound (Ok x) f ds es P Q here next = behind (f x) ds es Q here.0 (next x here.1)
 bound (Err kind) f ds es P Q here next = fails_before ds es kind here
@@ -57,7 +57,7 @@ weaker (Ok x) ds P Q to h = (h.0, to x h.1)
 weaker (Err kind) ds P Q to h = h
 
 -- a test, and then the rest
-guarded : {B : Type 0} (t : Bool) (kind : TextKind) (met : Type 0) (r : Result B TextKind) (es : List Demand) (Q : B → Type 0)
+pub guarded : {B : Type 0} (t : Bool) (kind : TextKind) (met : Type 0) (r : Result B TextKind) (es : List Demand) (Q : B → Type 0)
     → (t ≡ true → ¬ met) → (t ≡ false → met × Follows r es Q) → Follows (if t then Err kind else r) (demand kind met ++ es) Q
 guarded true kind met r es Q refuted kept = inl (refuted refl, refl)
 guarded false kind met r es Q refuted kept = let h = kept refl in behind r (demand kind met) es Q (h.0, tt) h.1
@@ -91,7 +91,7 @@ stands_fine : (decimals : ℕ) (field : List ℕ) (m : ℤ) → StandsFor decima
 stands_fine decimals field m s = (s.sign, s.whole, s.tail, s.fraction, s.spelled, s.fine)
 
 -- a decimal, and then a test of its range
-number_told : {B : Type 0} (decimals : ℕ) (field : List ℕ) (f : ℤ → Result B TextKind) (Says : B → Type 0) → decimals ≤ 6
+pub number_told : {B : Type 0} (decimals : ℕ) (field : List ℕ) (f : ℤ → Result B TextKind) (Says : B → Type 0) → decimals ≤ 6
     → ((m : ℤ) (kind : TextKind) → f m ≡ Err kind → kind ≡ Range)
     → ((x : B) → (stated (decimal_of decimals field) >>= f) ≡ Ok x → Says x)
     → ((x : B) → Says x → (stated (decimal_of decimals field) >>= f) ≡ Ok x)
@@ -121,7 +121,7 @@ number_told {B} decimals field f Says few ranged says back = by (decimal_of deci
         let fine = out_of_range_fine decimals field e in
         inr (fine_decimal decimals field fine, inr (fine, inl ((λ h. not_both (Err Range) h.0 Range (back h.0 h.1) refl), refl)))
 
-below_ranged : (limit : ℕ) (m : ℤ) (kind : TextKind) → whole_below limit m ≡ Err kind → kind ≡ Range
+pub below_ranged : (limit : ℕ) (m : ℤ) (kind : TextKind) → whole_below limit m ≡ Err kind → kind ≡ Range
 below_ranged limit (pos m) kind e = by (nat_lt (m / 10 ^ 6) limit) e
   where
     by : (t : Bool) → (if t then Ok (m / 10 ^ 6) else Err Range) ≡ Err kind → kind ≡ Range
@@ -145,7 +145,7 @@ whole_is : (limit : ℕ) (field : List ℕ) (n : ℕ) → StatesWhole limit fiel
 unfolding whole_in
 whole_is limit field n h = whole_back limit field n h
 
-whole_told : (limit : ℕ) (field : List ℕ) → Follows (whole_in limit field) (whole limit field) (StatesWhole limit field)
+pub whole_told : (limit : ℕ) (field : List ℕ) → Follows (whole_in limit field) (whole limit field) (StatesWhole limit field)
 unfolding whole_in
 whole_told limit field =
     number_told 0 field (whole_below limit) (StatesWhole limit field) (omega arith) (below_ranged limit) (whole_says limit field) (whole_is limit field)
@@ -160,7 +160,7 @@ size_is : (decimals most : ℕ) (field : List ℕ) (m : ℕ) → decimals ≤ 6 
 unfolding size_in
 size_is decimals most field m few h = size_back decimals most field m few h
 
-size_told : (decimals most : ℕ) (field : List ℕ) → decimals ≤ 6
+pub size_told : (decimals most : ℕ) (field : List ℕ) → decimals ≤ 6
     → Follows (size_in decimals most field) (size decimals most field) (StatesSize decimals most field)
 unfolding size_in
 size_told decimals most field few =
@@ -168,7 +168,7 @@ size_told decimals most field few =
     (λ m e. size_says decimals most field m few e) (λ m h. size_is decimals most field m few h)
 
 -- a field, and then those behind it
-first_told : {A B : Type 0} (rule : List ℕ → Result A TextKind) (field : List ℕ) (rest : List (List ℕ))
+pub first_told : {A B : Type 0} (rule : List ℕ → Result A TextKind) (field : List ℕ) (rest : List (List ℕ))
     (next : A × List (List ℕ) → Result B TextKind) (ds es : List Demand) (P : A → Type 0) (Q : B → Type 0)
     → Follows (rule field) ds P → ((x : A) → P x → Follows (next (x, rest)) es Q) → Follows (first_by rule (field ∷ rest) >>= next) (ds ++ es) Q
 first_told {A} {B} rule field rest next ds es P Q here more = by (rule field) here
@@ -178,18 +178,18 @@ first_told {A} {B} rule field rest next ds es P Q here more = by (rule field) he
     by (Err kind) h = fails_before ds es kind h
 
 -- a text states one whole number
-one_whole : (limit : ℕ) (field : List ℕ) (m n : ℕ) → StatesWhole limit field m → StatesWhole limit field n → m ≡ n
+pub one_whole : (limit : ℕ) (field : List ℕ) (m n : ℕ) → StatesWhole limit field m → StatesWhole limit field n → m ≡ n
 one_whole limit field m n a b =
     let same : ◌≡◌ {A = Result ℕ TextKind} (Ok m) (Ok n) = sym (whole_back limit field m a) ∙ whole_back limit field n b in
     cc
 
 -- a number is the one that is asked for, or another
-test_told : (limit : ℕ) (field : List ℕ) (n wanted : ℕ) → StatesWhole limit field n → not (n == wanted) ≡ true → ¬ (StatesWhole limit field wanted)
+pub test_told : (limit : ℕ) (field : List ℕ) (n wanted : ℕ) → StatesWhole limit field n → not (n == wanted) ≡ true → ¬ (StatesWhole limit field wanted)
 test_told limit field n wanted s t h =
     let same : (n == wanted) ≡ true = eq-eqb n wanted (one_whole limit field n wanted s h) in
     absurd (cc)
 
-tested : (limit : ℕ) (field : List ℕ) (n wanted : ℕ) → StatesWhole limit field n → not (n == wanted) ≡ false → StatesWhole limit field wanted
+pub tested : (limit : ℕ) (field : List ℕ) (n wanted : ℕ) → StatesWhole limit field n → not (n == wanted) ≡ false → StatesWhole limit field wanted
 tested limit field n wanted s t = subst (StatesWhole limit field) (eqb-true n wanted (not_false (n == wanted) t)) s
 
 -- the block of numbers that are in range

@@ -102,3 +102,18 @@ pub model_ready : (problem : Problem) (n : ℕ) (lines : List Line) (d : ModelDr
 model_ready problem n lines d e =
     kept_by_lines (λ d. Ready d.section d) admit_model (λ d line next says kept. stepped d line next (model_step d line next says) kept)
     (blank_model problem n) lines d e (at_first problem n)
+
+general_step : (d : ModelDraft) (line : List ℕ) (next : ModelDraft) → Step d line next → IsGeneral d.problem d.header
+    → IsGeneral next.problem next.header
+general_step d line next (Keyed s) was =
+    subst (λ d. IsGeneral d.problem d.header) s.is (general_kept d.problem d.blocks s.key s.value d.header s.header s.sets was)
+general_step d line next (Begun s) was = subst (λ d. IsGeneral d.problem d.header) s.is was
+general_step d line next (Valued s) was = subst (λ d. IsGeneral d.problem d.header) s.is was
+general_step d line next (Spent s) was = subst (λ d. IsGeneral d.problem d.header) s.is was
+general_step d line next (Limited s) was = subst (λ d. IsGeneral d.problem d.header) s.is was
+
+pub model_general : (problem : Problem) (n : ℕ) (lines : List Line) (d : ModelDraft) → read_lines admit_model (blank_model problem n) lines ≡ Ok d
+    → IsGeneral d.problem d.header
+model_general problem n lines d e =
+    kept_by_lines (λ d. IsGeneral d.problem d.header) admit_model
+    (λ d line next says kept. general_step d line next (model_step d line next says) kept) (blank_model problem n) lines d e (at_first problem n).0

@@ -17,7 +17,7 @@ use Rattle.minelib_text.proofs.Keyless.{have_colon, number_no_colon, numbers_no_
 use Rattle.minelib_text.proofs.ReadSteps.{as_many}
 use Rattle.minelib_text.proofs.SpelledBack.{whole_back}
 
-decimal_back : (field : List ℕ) (m : ℤ) → StandsFor 6 field m → decimal_in field ≡ Ok m
+pub decimal_back : (field : List ℕ) (m : ℤ) → StandsFor 6 field m → decimal_in field ≡ Ok m
 unfolding decimal_in
 decimal_back field m h = rw (stands_read 6 field m (omega arith) h) refl
 

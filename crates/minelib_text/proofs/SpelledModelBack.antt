@@ -99,7 +99,7 @@ not_given Pcpsp m done key.General has new = rw new refl
 not_given Cpit m done key.General has new = absurd cc
 not_given problem m done key.Rate has new = rw new refl
 
-counted_back : (limit : ℕ) (field : List ℕ) (n : ℕ) → StatesWhole limit field n → 1 ≤ n → counted_in limit field ≡ Ok n
+pub counted_back : (limit : ℕ) (field : List ℕ) (n : ℕ) → StatesWhole limit field n → 1 ≤ n → counted_in limit field ≡ Ok n
 counted_back limit field n h some = rw (whole_back limit field n h, ne_eqb n 0 (λ e. omega arith)) refl
 
 -- the header after the key's line

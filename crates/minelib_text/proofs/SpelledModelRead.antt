@@ -1,39 +1,26 @@
 -- The lines that are read of a model file spell what it states.
-use Rattle.std.specs.Prelude.{◌≡◌, ℕ, ◌+◌, true, List, [], ◌∷◌, ◌++◌, length, ℤ, Option, Ok}
+use Rattle.std.specs.Prelude.{◌≡◌, ℕ, ◌+◌, true, List, [], ◌∷◌, ◌++◌, length, Option, Ok}
 use Rattle.std.proofs.Common.{refl, sym, ◌∙◌, ap, subst, arith, append_assoc}
-use Rattle.pit_model.specs.declared.limit.Limit.{Limit}
-use Rattle.mine_instance.specs.declared.coef.Coef.{Coef}
 use Rattle.minelib_text.specs.ModelLines.{ModelDraft, blank_model, is_heading, is_limits, name_with, count_in, admit_model, model_in}
+use Rattle.minelib_text.specs.ModelSoFar.{SpellsValues, SpellsCoef, SpellsLimit, InHeading, InValues, InCoefs, InLimits, Part, At}
 use Rattle.minelib_text.specs.Reading.{read_lines}
-use Rattle.minelib_text.specs.SpelledItems.{IsValuesLine, IsCoefLine, IsLimitLine}
 use Rattle.minelib_text.specs.SpelledKeys.{IsKeyLine}
 use Rattle.minelib_text.specs.SpelledLines.{AreLines}
 use Rattle.minelib_text.specs.SpelledModel.{IsSingle, AreModelLines}
 use Rattle.minelib_text.specs.StatedModel.{stated_by}
-use Rattle.minelib_text.specs.TextLines.{Line, fields_of, lines_in}
+use Rattle.minelib_text.specs.TextLines.{Line, lines_in}
 use Rattle.minelib_text.specs.declared.model_key.ModelKey.TheVariants as model_key
 use Rattle.minelib_text.specs.declared.model_key.Problem.{Problem}
 use Rattle.minelib_text.specs.declared.model_key.Problem.TheVariants.{Pcpsp, Cpit}
 use Rattle.minelib_text.specs.declared.model_key.Section.{Section}
 use Rattle.minelib_text.specs.declared.model_key.Section.TheVariants.{Heading, Objective, Coefs, Limits}
-use Rattle.minelib_text.proofs.HeaderLines.{Heads, heads_none, heads_more, heads_whole}
+use Rattle.minelib_text.proofs.HeaderLines.{heads_none, heads_more, heads_whole}
 use Rattle.minelib_text.proofs.ItemLines.{line_more}
 use Rattle.minelib_text.proofs.ModelEnd.{IsComplete, model_finished}
 use Rattle.minelib_text.proofs.ModelSteps.{SetsKey, BeginsSection, AddsValues, AddsCoef, AddsLimit, Step, Keyed, Begun, Valued, Spent, Limited, model_step, next_by}
 use Rattle.minelib_text.proofs.ReadSteps.{kept_with_lines}
 use Rattle.minelib_text.proofs.ValidHeader.{IsSingle as IsSingleGiven}
 use Rattle.minelib_text.proofs.ValidModel.{KeepsModel, model_kept}
-
--- the lines of a section so far, behind those before it: the line that begins it, and one for each item
-record Part {A : Type 0} (Before : List Line → Type 0) (problem : Problem) (section : Section) (Spells : ℕ → List ℕ → A → Type 0) (items : List A)
-    (done : List Line) : Type 0 where
-  pub before : List Line
-  pub earlier : Before before
-  pub first : Line
-  pub lines : List Line
-  pub cut : done ≡ before ++ first ∷ lines
-  pub begins : IsKeyLine problem first.text (model_key.Section section) []
-  pub spelled : AreLines Spells 0 lines items
 
 part_first : {A : Type 0} (Before : List Line → Type 0) (problem : Problem) (section : Section) (Spells : ℕ → List ℕ → A → Type 0) (items : List A)
     (done : List Line) (line : Line) → items ≡ [] → Before done → IsKeyLine problem line.text (model_key.Section section) []
@@ -62,36 +49,6 @@ part_more Before problem section Spells items done line item here part =
       begins = part.begins;
       spelled = line_more Spells 0 part.lines items line item part.spelled (subst (λ n. Spells n line.text item) count here);
     }
-
--- how a line spells a block's values, a coefficient and a limit
-abbrev SpellsValues : ModelDraft → ℕ → List ℕ → List ℤ → Type 0
-SpellsValues d block line vs = IsValuesLine d.blocks (count_in d.header.destinations) block (fields_of line) vs
-
-abbrev SpellsCoef : ModelDraft → ℕ → List ℕ → Coef → Type 0
-SpellsCoef d n line c = IsCoefLine d.problem d.blocks (count_in d.header.destinations) (count_in d.header.resources) (fields_of line) c
-
-abbrev SpellsLimit : ModelDraft → ℕ → List ℕ → Limit → Type 0
-SpellsLimit d n line l = IsLimitLine (count_in d.header.resources) (count_in d.header.periods) (fields_of line) l
-
--- the lines so far, in the header and in each section
-abbrev InHeading : ModelDraft → List Line → Type 0
-InHeading d done = Heads d.problem d.blocks d.name d.header done
-
-abbrev InValues : ModelDraft → List Line → Type 0
-InValues d done = Part (InHeading d) d.problem Objective (SpellsValues d) d.values done
-
-abbrev InCoefs : ModelDraft → List Line → Type 0
-InCoefs d done = Part (InValues d) d.problem Coefs (SpellsCoef d) d.coefs done
-
-abbrev InLimits : ModelDraft → List Line → Type 0
-InLimits d done = Part (InCoefs d) d.problem Limits (SpellsLimit d) d.limits done
-
--- and no item of a later section
-abbrev At : Section → ModelDraft → List Line → Type 0
-At Heading d done = InHeading d done × (d.values ≡ []) × (d.coefs ≡ []) × (d.limits ≡ [])
-At Objective d done = InValues d done × (d.coefs ≡ []) × (d.limits ≡ [])
-At Coefs d done = InCoefs d done × (d.limits ≡ [])
-At Limits d done = InLimits d done
 
 pub in_heading : (section : Section) → is_heading section ≡ true → section ≡ Heading
 in_heading Heading e = refl
@@ -201,15 +158,20 @@ whole d lines l complete kept count =
       rising_limits = kept.limits.rising;
     }
 
+-- what lines that are read spell so far
+pub lines_so_far : (problem : Problem) (n : ℕ) (lines : List Line) (d : ModelDraft) → read_lines admit_model (blank_model problem n) lines ≡ Ok d
+    → At d.section d lines
+lines_so_far problem n lines d of_lines =
+    kept_with_lines (λ done d. At d.section d done) admit_model
+    (λ done d line next says was. stepped done d line next (model_step d line.text next says) was)
+    [] (blank_model problem n) lines d of_lines (heads_none problem n, refl, refl, refl)
+
 -- lines that are read to their end
 pub lines_spelled : (problem : Problem) (n : ℕ) (lines : List Line) (d : ModelDraft) → read_lines admit_model (blank_model problem n) lines ≡ Ok d
     → IsComplete d.name d.header → length d.values ≡ d.blocks → is_limits d.section ≡ true → AreModelLines problem n lines (stated_by d)
 lines_spelled problem n lines d of_lines complete count end =
     let kept = model_kept problem n lines d of_lines in
-    let at : At d.section d lines =
-    kept_with_lines (λ done d. At d.section d done) admit_model
-    (λ done d line next says was. stepped done d line next (model_step d line.text next says) was)
-    [] (blank_model problem n) lines d of_lines (heads_none problem n, refl, refl, refl) in
+    let at = lines_so_far problem n lines d of_lines in
     let limits : InLimits d lines = subst (λ section. At section d lines) (in_limits d.section end) at in
     let own : KeepsModel d.problem d.blocks d =
     subst (λ k. KeepsModel d.problem k d) (sym kept.of_blocks) (subst (λ p. KeepsModel p n d) (sym kept.of_problem) kept) in

@@ -9,10 +9,12 @@ use Rattle.minelib_text.specs.declared.text_fault.TextKind.TheVariants.{Missing}
 
 -- the lines begin a model of n blocks: with some lines behind them they spell one
 abbrev pub BeginModel : Problem → ℕ → List Line → Type 0
-BeginModel problem n lines = (behind : List Line) × (m : StatedModel) × AreModelLines problem n (lines ++ behind) m
+BeginModel problem n lines = (behind : List Line) × (m : StatedModel)
+    × AreModelLines problem n (lines ++ behind) m
 
 -- the lines before that of this number begin a model, and with it they begin none
-pub record IsFirstSpoiled (problem : Problem) (n : ℕ) (lines : List Line) (number : ℕ) : Type 0 where
+pub record IsFirstSpoiled (problem : Problem) (n : ℕ) (lines : List Line)
+    (number : ℕ) : Type 0 where
   pub before : List Line
   pub bad : Line
   pub behind : List Line

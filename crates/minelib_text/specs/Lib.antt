@@ -12,8 +12,10 @@ pub mod Kept
 pub mod LineDemands
 pub mod Lines
 pub mod Marks
+pub mod ModelDemands
 pub mod ModelLines
 pub mod ModelParts
+pub mod ModelSoFar
 pub mod ModelView
 pub mod PrecLines
 pub mod Reading

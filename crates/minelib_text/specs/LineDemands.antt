@@ -1,5 +1,5 @@
--- What is asked of a line of a block or precedence file, in the order in which it is looked at, with the kind of fault where it is
--- not so: the table of kinds, in its own words.
+-- What is asked of a line of a block or precedence file, in the order in which it is looked at,
+-- with the kind of fault where it is not so: the table of kinds, in its own words.
 use Rattle.std.specs.Prelude.{◌≡◌, ℕ, ◌*◌, ◌^◌, ◌≤◌, List, [], ◌∷◌, ◌++◌, length, drop, slice_index_or, ◌⊎◌}
 use Rattle.std.specs.List.{AllZip}
 use Rattle.pit_model.specs.PlanDemands.{IsDecimal, IsFine}
@@ -29,7 +29,8 @@ FailsFirst (d ∷ demands) kind = (¬ d.met × (kind ≡ d.kind)) ⊎ (d.met × 
 
 -- a decimal with so many decimals, in its range
 abbrev pub number : ℕ → List ℕ → Type 0 → List Demand
-number decimals field within = demand Number (IsDecimal field) ++ demand TooFine (IsFine decimals field) ++ demand Range within
+number decimals field within = demand Number (IsDecimal field)
+    ++ demand TooFine (IsFine decimals field) ++ demand Range within
 
 -- a whole number below a limit
 abbrev pub whole : ℕ → List ℕ → List Demand
@@ -51,13 +52,18 @@ field_at fields k = slice_index_or fields k []
 -- `id x y z tonnes grade zone`, behind so many blocks
 abbrev pub asked_of_block : ℕ → List (List ℕ) → List Demand
 asked_of_block before fields =
-    demand Fields (length fields ≡ 7) ++ whole MAX_BLOCKS (field_at fields 0) ++ whole GRID_CELLS (field_at fields 1) ++ whole GRID_CELLS (field_at fields 2)
-    ++ whole GRID_CELLS (field_at fields 3) ++ size 3 (MAX_KG * 1000) (field_at fields 4) ++ size 6 MAX_GRADE (field_at fields 5) ++ whole MAX_ZONES (field_at fields 6)
+    demand Fields (length fields ≡ 7) ++ whole MAX_BLOCKS (field_at fields 0)
+    ++ whole GRID_CELLS (field_at fields 1) ++ whole GRID_CELLS (field_at fields 2)
+    ++ whole GRID_CELLS (field_at fields 3) ++ size 3 (MAX_KG * 1000) (field_at fields 4)
+    ++ size 6 MAX_GRADE (field_at fields 5) ++ whole MAX_ZONES (field_at fields 6)
     ++ demand Order (StatesWhole MAX_BLOCKS (field_at fields 0) before)
 
 -- `id k p1 .. pk` of n blocks: those of this block
 abbrev pub asked_of_preds : ℕ → ℕ → List (List ℕ) → List Demand
 asked_of_preds n own fields =
-    demand Fields (2 ≤ length fields) ++ whole n (field_at fields 0) ++ whole n (field_at fields 1) ++ wholes n (drop 2 fields)
-    ++ (demand Order (StatesWhole n (field_at fields 0) own) ++ demand Count (StatesWhole n (field_at fields 1) (length (drop 2 fields)))
-    ++ demand Twice ((ids : List ℕ) → AllZip (StatesWhole n) (drop 2 fields) ids → ArePredsOf own n ids))
+    demand Fields (2 ≤ length fields) ++ whole n (field_at fields 0)
+    ++ whole n (field_at fields 1) ++ wholes n (drop 2 fields)
+    ++ (demand Order (StatesWhole n (field_at fields 0) own)
+    ++ demand Count (StatesWhole n (field_at fields 1) (length (drop 2 fields)))
+    ++ demand Twice ((ids : List ℕ) → AllZip (StatesWhole n) (drop 2 fields) ids
+    → ArePredsOf own n ids))

@@ -23,7 +23,9 @@ StatesKey problem n key.Name value m = (m.name ≡ value) × (is_name value ≡ 
 StatesKey problem n key.Type value m = value ≡ type_text problem
 StatesKey problem n key.Blocks value m = StatesWhole 64000001 value n
 StatesKey problem n key.Periods value m = StatesWhole 101 value m.periods × (1 ≤ m.periods)
-StatesKey problem n key.Destinations value m = StatesWhole 9 value m.destinations × (1 ≤ m.destinations)
+StatesKey problem n key.Destinations value m = StatesWhole 9 value m.destinations
+    × (1 ≤ m.destinations)
 StatesKey problem n key.Resources value m = StatesWhole 9 value m.resources
 StatesKey problem n key.General value m = StatesWhole 1 value 0
-StatesKey problem n key.Rate value m = (rate : ℕ) × (m.rate ≡ pos rate) × StatesSize 6 (10 ^ 6) value rate
+StatesKey problem n key.Rate value m = (rate : ℕ) × (m.rate ≡ pos rate)
+    × StatesSize 6 (10 ^ 6) value rate

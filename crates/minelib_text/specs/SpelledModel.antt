@@ -33,20 +33,24 @@ IsSingle Pcpsp destinations = Unit {0}
 IsSingle Cpit destinations = destinations ≡ 1
 
 -- `KEY: value` of a header key, which states its part of the model, of n blocks
-pub record IsHeaderLine (problem : Problem) (n : ℕ) (m : StatedModel) (line : List ℕ) (k : HeaderKey) : Type 0 where
+pub record IsHeaderLine (problem : Problem) (n : ℕ) (m : StatedModel) (line : List ℕ)
+    (k : HeaderKey) : Type 0 where
   pub value : List ℕ
   pub is_key : IsKeyLine problem line (model_key.Header k) (value ∷ [])
   pub states : StatesKey problem n k value m
 
 -- one line for each header key of the problem, in any order
-pub record AreHeaderLines (problem : Problem) (n : ℕ) (lines : List Line) (m : StatedModel) : Type 0 where
+pub record AreHeaderLines (problem : Problem) (n : ℕ) (lines : List Line)
+    (m : StatedModel) : Type 0 where
   pub keys : List HeaderKey
   pub spelled : AreLines (λ _ line k. IsHeaderLine problem n m line k) 0 lines keys
   pub once : AllPairs (λ k j. k ≢ j) keys
   pub all : (k : HeaderKey) → IsTrue (has_key problem k) → Contains keys k
 
--- all lines of a model file, of n blocks: the header, then a line of values for each block, coefficients and limits, these in rising order
-pub record AreModelLines (problem : Problem) (n : ℕ) (lines : List Line) (m : StatedModel) : Type 0 where
+-- all lines of a model file, of n blocks: the header, then a line of values for each block,
+-- coefficients and limits, these in rising order
+pub record AreModelLines (problem : Problem) (n : ℕ) (lines : List Line)
+    (m : StatedModel) : Type 0 where
   pub heading : List Line
   pub objective : Line
   pub values : List Line
@@ -58,11 +62,14 @@ pub record AreModelLines (problem : Problem) (n : ℕ) (lines : List Line) (m : 
   pub states_header : AreHeaderLines problem n heading m
   pub destinations : IsSingle problem m.destinations
   pub begins_values : IsKeyLine problem objective.text (model_key.Section Objective) []
-  pub states_values : AreLines (λ block line vs. IsValuesLine n m.destinations block (fields_of line) vs) 0 values m.values
+  pub states_values : AreLines
+      (λ block line vs. IsValuesLine n m.destinations block (fields_of line) vs) 0 values m.values
   pub all_values : length m.values ≡ n
   pub begins_coefs : IsKeyLine problem coefficients.text (model_key.Section Coefs) []
-  pub states_coefs : AreLines (λ _ line c. IsCoefLine problem n m.destinations m.resources (fields_of line) c) 0 coefs m.coefs
+  pub states_coefs : AreLines
+      (λ _ line c. IsCoefLine problem n m.destinations m.resources (fields_of line) c) 0 coefs m.coefs
   pub rising_coefs : AllPairs (λ c e. IsTrue (comes_before c e)) m.coefs
   pub begins_limits : IsKeyLine problem resource_limits.text (model_key.Section Limits) []
-  pub states_limits : AreLines (λ _ line l. IsLimitLine m.resources m.periods (fields_of line) l) 0 limits m.limits
+  pub states_limits : AreLines
+      (λ _ line l. IsLimitLine m.resources m.periods (fields_of line) l) 0 limits m.limits
   pub rising_limits : AllPairs (λ l k. IsTrue (stands_before l k)) m.limits

@@ -1,4 +1,5 @@
--- Three texts spell an instance, and one spells a constrained pit limit problem: by their lines, in order.
+-- Three texts spell an instance, and one spells a constrained pit limit problem: by their lines, in
+-- order.
 use Rattle.std.specs.Prelude.{◌≡◌, ℕ, List, length}
 use Rattle.mine_instance.specs.Cpit.{CpitParts}
 use Rattle.mine_instance.specs.declared.instance.Instance.{Instance}

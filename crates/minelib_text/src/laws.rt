@@ -10,6 +10,7 @@ ghost use Rattle.minelib_text.specs.BlockLines.{blocks_in};
 ghost use Rattle.minelib_text.specs.Denotes.{Denotes, DenotesCpit};
 ghost use Rattle.minelib_text.specs.FirstBad.{AreBlanks, IsFirstBad, IsFieldText, IsLineText, LacksLines};
 ghost use Rattle.minelib_text.specs.Kept.{IsKept, IsKeptCpit};
+ghost use Rattle.minelib_text.specs.ModelDemands.{HasKind};
 ghost use Rattle.minelib_text.specs.ModelLines.{ModelDraft, model_in};
 ghost use Rattle.minelib_text.specs.PrecLines.{preds_in};
 ghost use Rattle.minelib_text.specs.SameTexts.{HaveSameTexts};
@@ -94,15 +95,18 @@ pub fn model_lines_are_spelled()
         → AreModelLines problem n (lines_in text) (stated_by d) }
 {}
 
-/// Lines that spell what a model file states are read as it, header keys in any order and numbers in any spelling.
+/// Lines that spell what a model file states are read as it, header keys in any order and numbers
+/// in any spelling.
 pub fn spelled_models_are_read()
-    ensures { (problem : Problem) (n : ℕ) (text : List ℕ) (m : StatedModel) → AreModelLines problem n (lines_in text) m
+    ensures { (problem : Problem) (n : ℕ) (text : List ℕ) (m : StatedModel)
+        → AreModelLines problem n (lines_in text) m
         → (d : ModelDraft) × (model_in problem n text ≡ Ok d) × (stated_by d ≡ m) }
 {}
 
 /// Three texts denote an instance exactly where their lines spell it.
 pub fn instances_are_spelled()
-    ensures { (blocks prec pcpsp : List ℕ) (i : OneInstance) → Denotes blocks prec pcpsp i ↔ SpellInstance blocks prec pcpsp i }
+    ensures { (blocks prec pcpsp : List ℕ) (i : OneInstance)
+        → Denotes blocks prec pcpsp i ↔ SpellInstance blocks prec pcpsp i }
 {}
 
 /// A text denotes a constrained pit limit problem of n blocks exactly where its lines spell it.
@@ -120,26 +124,32 @@ pub fn spelled_preds_are_read()
     ensures { (n : ℕ) (text : List ℕ) (lists : List (List ℕ)) → length lists ≡ n → ArePredsLines n 0 (lines_in text) lists → preds_in n text ≡ Ok lists }
 {}
 
-/// A faulty line of a block file is the first that spells no block behind those before it, and its kind that of the first thing asked
-/// of it that does not hold.
+/// A faulty line of a block file is the first that spells no block behind those before it, and its
+/// kind that of the first thing asked of it that does not hold.
 pub fn faulty_lines_spell_no_block()
     ensures { (text : List ℕ) (fault : LineFault) → blocks_in text ≡ Err fault
-        → IsFirstBad (λ id line b. IsBlockLine id (fields_of line) b) (λ id line. asked_of_block id (fields_of line)) (lines_in text) fault }
+        → IsFirstBad (λ id line b. IsBlockLine id (fields_of line) b)
+        (λ id line. asked_of_block id (fields_of line)) (lines_in text) fault }
 {}
 
-/// A faulty line of a precedence file is the first that spells no predecessors behind those before it, and its kind that of the first
-/// thing asked of it that does not hold; or all lines spell some, and lines are lacking at the end.
+/// A faulty line of a precedence file is the first that spells no predecessors behind those before
+/// it, and its kind that of the first thing asked of it that does not hold; or all lines spell
+/// some, and lines are lacking at the end.
 pub fn faulty_lines_spell_no_preds()
     ensures { (n : ℕ) (text : List ℕ) (fault : LineFault) → preds_in n text ≡ Err fault
-        → IsFirstBad (λ id line ids. IsPredsLine n id (fields_of line) ids) (λ id line. asked_of_preds n id (fields_of line)) (lines_in text) fault
+        → IsFirstBad (λ id line ids. IsPredsLine n id (fields_of line) ids)
+        (λ id line. asked_of_preds n id (fields_of line)) (lines_in text) fault
         ⊎ LacksLines (λ id line ids. IsPredsLine n id (fields_of line) ids) n text fault }
 {}
 
-/// A faulty line of a model file of n blocks is the first behind which nothing makes it a model, or all lines begin one, and lines are
-/// lacking at the end.
+/// A faulty line of a model file of n blocks is the first behind which nothing makes it a model,
+/// and its kind that of the first thing asked of it that does not hold; or all lines begin a model,
+/// and lines are lacking at the end.
 pub fn faulty_lines_begin_no_model()
-    ensures { (problem : Problem) (n : ℕ) (text : List ℕ) (fault : LineFault) → n ≤ MAX_BLOCKS → model_in problem n text ≡ Err fault
-        → IsFirstSpoiled problem n (lines_in text) fault.line ⊎ EndsEarly problem n text fault }
+    ensures { (problem : Problem) (n : ℕ) (text : List ℕ) (fault : LineFault) → n ≤ MAX_BLOCKS
+        → model_in problem n text ≡ Err fault
+        → (IsFirstSpoiled problem n (lines_in text) fault.line
+        × HasKind problem n (lines_in text) fault) ⊎ EndsEarly problem n text fault }
 {}
 
 /// Lines are what stands between LFs, a last one without LF as well; fields are what stands between runs of blanks.
