@@ -2,6 +2,7 @@ pub mod Accepted
 mod Again
 pub mod CheckFaults
 pub mod Commands
+pub mod Consumed
 pub mod Ends
 mod FilesRun
 pub mod FoundJob

@@ -1,13 +1,13 @@
-//! Standard input, whole.
+//! An input, whole.
 
-ghost use Rattle.std.specs.Prelude.{◌≡◌, ◌+◌, ◌<◌, ◌≤◌, length, IfOk};
+ghost use Rattle.std.specs.Io.KnownBytes.{Consumes, IsAtEnd, ReadConsumes};
+ghost use Rattle.std.specs.Prelude.{◌≡◌, ◌+◌, ◌<◌, ◌≤◌, length, take, drop, vec_len, IfOk, OnOk, IfSome, IsErrOf};
+ghost use Rattle.pit_model.specs.declared.ranges.TheConstants.{MAX_FILE_BYTES};
 
+use pit_model::ranges::MAX_FILE_BYTES;
 use std::alloc::{AllocError, Global};
-use std::io::{ErrorKind, Input, Read};
+use std::io::{ErrorKind, Read};
 use thiserror::Error;
-
-/// The most bytes of the input.
-pub const MAX_INPUT_BYTES: usize = 268_435_456;
 
 // What is asked of the input at once, in bytes.
 const CHUNK: usize = 65_536;
@@ -36,22 +36,19 @@ impl From<AllocError> for InputFault {
     }
 }
 
-/// Reads standard input to its end, and asks for no more than one byte past its limit. A read that fails is a `FeedFailed`, whatever the
-/// system's reason.
-pub fn read_input<R: Input>(rt: &R, alloc: Global) -> Result<Vec<u8>, InputFault>
-    ensures limit { IfOk result (λ bytes. length bytes.items ≤ 268435456) }
+/// Reads an input to its end, and asks for no more than one byte past the limit. A read that fails is a `FeedFailed`, whatever the
+/// system's reason; one that a signal interrupts is tried again.
+#[tactic(auto, using(crate::proofs::Consumed::consumed_all, crate::proofs::Consumed::consumed_long, crate::proofs::Consumed::consumed_more))]
+pub fn read_whole<T: Read>(input: &mut T, alloc: Global) -> Result<Vec<u8>, InputFault>
+    ensures limit { IfOk result (λ bytes. length bytes.items ≤ MAX_FILE_BYTES) }
+    ensures whole { IfOk result (λ bytes. IfSome (T.remaining input.old) (λ left. bytes.items ≡ left)) }
+    ensures long { IsErrOf result InputFault.TooLong
+        → IfSome (T.remaining input.old) (λ left. MAX_FILE_BYTES < length left) }
 {
-    let mut input = rt.reader();
     let mut bytes = Vec::new(alloc);
     for _ in 0..u64::MAX {
-        let len = bytes.len();
-        bytes.resize(
-            len + CHUNK.min((MAX_INPUT_BYTES + 1).saturating_sub(len)),
-            0,
-        )?;
-        let count = read_some(&mut input, &mut bytes[len..])?;
-        bytes.truncate(len + count);
-        if bytes.len() > MAX_INPUT_BYTES {
+        let count = read_behind(input, &mut bytes)?;
+        if bytes.len() > MAX_FILE_BYTES {
             return Err(InputFault::TooLong);
         }
         if count == 0 {
@@ -61,9 +58,40 @@ pub fn read_input<R: Input>(rt: &R, alloc: Global) -> Result<Vec<u8>, InputFault
     Err(InputFault::FeedFailed)
 }
 
+// Appends what one read gives.
+fn read_behind<T: Read>(input: &mut T, bytes: &mut Vec<u8>) -> Result<usize, InputFault>
+    requires { vec_len bytes.old ≤ MAX_FILE_BYTES }
+    ensures kept { OnOk result (take (vec_len bytes.old) bytes.new.items ≡ bytes.old.items) }
+    ensures reads { OnOk result (Consumes (T.remaining input.old) (T.remaining input.new)
+        (drop (vec_len bytes.old) bytes.new.items)) }
+    ensures end { IfOk result (λ count. count ≡ 0 → IsAtEnd (T.remaining input.new)) }
+    ensures never_long { IsErrOf result InputFault.TooLong → ⊥ }
+{
+    let len = bytes.len();
+    bytes.resize(len + CHUNK.min(MAX_FILE_BYTES + 1 - len), 0)?;
+    let count = read_past(input, bytes.as_mut_slice(), len)?;
+    bytes.truncate(len + count);
+    Ok(count)
+}
+
+// One read into these bytes, past the first `len` of them.
+fn read_past<T: Read>(input: &mut T, bytes: &mut [u8], len: usize) -> Result<usize, InputFault>
+    requires { len ≤ length bytes.old }
+    ensures within { IfOk result (λ count. len + count ≤ length bytes.new) }
+    ensures front { take len bytes.new ≡ take len bytes.old }
+    ensures room { length bytes.new ≡ length bytes.old }
+    ensures reads { ReadConsumes (T.remaining input.old) (T.remaining input.new) result (drop len bytes.new) }
+    ensures never_long { IsErrOf result InputFault.TooLong → ⊥ }
+{
+    let (_, room) = bytes.split_at_mut(len);
+    read_some(input, room)
+}
+
 // One read that no signal interrupts.
 fn read_some<T: Read>(input: &mut T, buffer: &mut [u8]) -> Result<usize, InputFault>
-    ensures { IfOk result (λ count. count ≤ length buffer.old) }
+    ensures within { IfOk result (λ count. count ≤ length buffer.new) }
+    ensures reads { ReadConsumes (T.remaining input.old) (T.remaining input.new) result buffer.new }
+    ensures never_long { IsErrOf result InputFault.TooLong → ⊥ }
 {
     for _ in 0..u64::MAX {
         match input.read(buffer) {

@@ -1,19 +1,19 @@
 //! The model that standard input gives.
 
-ghost use Rattle.std.specs.Prelude.{◌≡◌, ℕ, List, OnOk, IfOk, IfErr};
+ghost use Rattle.std.specs.Prelude.{◌≡◌, ℕ, List, OnOk, IfOk, IfErr, IfSome};
 ghost use Rattle.pit_commands.specs.FaultLine.{EndsInput, EndsRefused};
 ghost use Rattle.pit_commands.specs.Model.{CutRefused, IsModel, ModelRefused};
 ghost use Rattle.pit_commands.specs.Pieces.{plan_of, zones_of};
 
 use crate::fault_line::{plan_from, refuse_run, refuse_with};
-use crate::input::{InputFault, read_input};
+use crate::input::{InputFault, read_whole};
 use crate::pieces::{Pieces, cut_at_most, plan_text};
 use crate::status::{DEVICE, REFUSED, RESOURCES};
 use pit_compile::refusal::Refusal;
 use pit_compile::settings::SettingsFault;
 use pit_model::plan::Plan;
 use std::alloc::Global;
-use std::io::Input;
+use std::io::{Input, Read};
 
 // The refusal of an input with more zone files than its plan has zones.
 const TOO_MANY_FILES: Refusal = Refusal::Settings(SettingsFault::Files);
@@ -25,17 +25,32 @@ pub struct Model {
     pub pieces: Pieces,
 }
 
-/// Reads the model from standard input; or answers the status of its refusal, with the line of the fault appended to `lines`.
-///
-/// An input of more zone files than its plan has zones is refused here, as the run would refuse it: so no list of them is held.
-#[tactic(auto, using(crate::proofs::Ends::input_refused, crate::proofs::Ends::files_refused, crate::proofs::Ends::piece_refused))]
+/// Reads the model from standard input, as `read_model_from` does.
 pub fn read_model<R: Input>(rt: &R, alloc: Global, lines: &mut Vec<u8>) -> Result<Model, u8>
     ensures model { IfOk result (λ model. (input : List ℕ) × IsModel input model.pieces model.plan) }
     ensures quiet { OnOk result (lines.new.items ≡ lines.old.items) }
     ensures refused { IfErr result (EndsRefused lines.old.items lines.new.items) }
     ensures told { IfErr result (ModelRefused lines.old.items lines.new.items) }
 {
-    let input = match read_input(rt, alloc) {
+    read_model_from(&mut rt.reader(), alloc, lines)
+}
+
+/// Reads the model from an input: all its bytes; or answers the status of its refusal, with the line of the fault appended to `lines`.
+///
+/// An input of more zone files than its plan has zones is refused here, as the run would refuse it: so no list of them is held.
+#[tactic(auto, using(crate::proofs::Ends::input_refused, crate::proofs::Ends::files_refused, crate::proofs::Ends::piece_refused))]
+pub fn read_model_from<T: Read>(
+    reader: &mut T,
+    alloc: Global,
+    lines: &mut Vec<u8>,
+) -> Result<Model, u8>
+    ensures model { IfOk result (λ model. (input : List ℕ)
+        × IfSome (T.remaining reader.old) (λ left. input ≡ left) × IsModel input model.pieces model.plan) }
+    ensures quiet { OnOk result (lines.new.items ≡ lines.old.items) }
+    ensures refused { IfErr result (EndsRefused lines.old.items lines.new.items) }
+    ensures told { IfErr result (ModelRefused lines.old.items lines.new.items) }
+{
+    let input = match read_whole(reader, alloc) {
         Ok(input) => input,
         Err(fault) => return Err(refuse_input(alloc, fault, lines)),
     };
