@@ -63,8 +63,9 @@ impl MemSink {
         MemSink::fresh(alloc, step, 0)
     }
 
-    // A sink that does both.
-    pub(crate) fn fresh(alloc: Global, step: usize, failing: u64) -> MemSink
+    /// A sink that does both: it takes at most `step` bytes of each put, and its call of the number `failing` alone fails, or none where
+    /// that is 0.
+    pub fn fresh(alloc: Global, step: usize, failing: u64) -> MemSink
         requires { 1 ≤ step }
         ensures { IsFresh step failing result }
     {

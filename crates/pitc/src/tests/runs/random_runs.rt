@@ -3,7 +3,7 @@
 //!
 //! A test makes a few of them. `tools/random-runs` makes thousands, by the environment variables `RANDOM_RUNS` and `RANDOM_SEED`.
 
-ghost use Rattle.std.specs.Prelude.{◌<◌, ◌≤◌};
+ghost use Rattle.std.specs.Prelude.{◌<◌, ◌≤◌, IfSome};
 
 use super::{
     ENOUGH, Fail, Global, HEADER, MemFeed, MemSink, Refusal, Sinks, Threads, Wait, answer, begun,
@@ -220,37 +220,51 @@ impl Gate for Delay {
     }
 }
 
-// A sink that takes few bytes at a time or all, or fails at a call.
-fn random_sink(alloc: Global, dice: &mut Dice, failing: Option<u64>) -> MemSink {
-    match failing {
-        Some(nth) => MemSink::failing(alloc, nth.max(1)),
-        None => MemSink::short(alloc, 1 + dice.roll(90) as usize),
-    }
+// Which sink fails, if any; at which call; and how many bytes of a put it takes at most, which may be all.
+#[derive(Clone, Copy, Drop)]
+struct Failing {
+    place: u64,
+    nth: u64,
+    step: usize,
 }
 
-// Which sink fails, if any, and at which call.
-fn failing_sink(dice: &mut Dice) -> Option<(u64, u64)> {
-    if dice.roll(4) == 0 {
-        Some((dice.roll(5), 1 + dice.roll(3)))
+fn failing_sink(dice: &mut Dice) -> Option<Failing>
+    ensures { IfSome result (λ failing. 1 ≤ failing.step) }
+{
+    if dice.roll(4) != 0 {
+        return None;
+    }
+    let place = dice.roll(5);
+    let nth = 1 + dice.roll(5);
+    let step = if dice.roll(2) == 0 {
+        1 + dice.roll(90) as usize
     } else {
-        None
-    }
+        1_000_000
+    };
+    Some(Failing { place, nth, step })
 }
 
-fn call_of(failing: Option<(u64, u64)>, place: u64) -> Option<u64> {
+// A sink that takes few bytes at a time; or the one that fails.
+fn random_sink(alloc: Global, dice: &mut Dice, failing: Option<Failing>, place: u64) -> MemSink {
     match failing {
-        Some((at, nth)) if at == place => Some(nth),
-        _ => None,
+        Some(
+            Failing {
+                place: at,
+                nth,
+                step,
+            },
+        ) if at == place => MemSink::fresh(alloc, step.max(1), nth),
+        _ => MemSink::short(alloc, 1 + dice.roll(90) as usize),
     }
 }
 
-fn random_sinks(alloc: Global, dice: &mut Dice, failing: Option<(u64, u64)>) -> Sinks<MemSink> {
+fn random_sinks(alloc: Global, dice: &mut Dice, failing: Option<Failing>) -> Sinks<MemSink> {
     let mut sinks = new_sinks(alloc);
-    sinks.blocks = random_sink(alloc, dice, call_of(failing, 0));
-    sinks.prec = random_sink(alloc, dice, call_of(failing, 1));
-    sinks.upit = random_sink(alloc, dice, call_of(failing, 2));
-    sinks.pcpsp = random_sink(alloc, dice, call_of(failing, 3));
-    sinks.cpit = random_sink(alloc, dice, call_of(failing, 4));
+    sinks.blocks = random_sink(alloc, dice, failing, 0);
+    sinks.prec = random_sink(alloc, dice, failing, 1);
+    sinks.upit = random_sink(alloc, dice, failing, 2);
+    sinks.pcpsp = random_sink(alloc, dice, failing, 3);
+    sinks.cpit = random_sink(alloc, dice, failing, 4);
     sinks
 }
 
@@ -262,24 +276,35 @@ const NAMES: [SinkName; 5] = [
     SinkName::Cpit,
 ];
 
-// The sink that stops the run, if any. A text is begun and then put at once, where it is not empty; those of the blocks and of the
-// precedences are empty where there is no block.
-fn stopped_by(rows: u64, failing: Option<(u64, u64)>) -> Option<Refusal> {
-    let (place, nth) = failing?;
-    let last = if rows == 0 && place < 2 { 1 } else { 2 };
-    if nth > last {
+// The sink that stops the run, if any. A text is begun and then put at once, where it is not empty, and what was not taken is put again.
+fn stopped_by(texts: &Texts, failing: Option<Failing>) -> Option<Refusal> {
+    let Failing { place, nth, step } = failing?;
+    let step = step.max(1);
+    let puts = text_at(texts, place).len().saturating_add(step - 1) / step;
+    if nth > (puts as u64).saturating_add(1) {
         return None;
     }
     let which = *NAMES.get(place as usize)?;
     Some(Refusal::SinkFailed { which })
 }
 
+// How many bytes the sink that fails took before.
+fn front_taken(answer: Result<u64, Refusal>, failing: Option<Failing>) -> usize {
+    match (answer, failing) {
+        (Err(Refusal::SinkFailed { which: _ }), Some(Failing { nth, step, .. })) => {
+            (nth.saturating_sub(2) as usize).saturating_mul(step)
+        }
+        _ => 0,
+    }
+}
+
 // What a run answers that makes so many starts of threads, where it needs so many.
 fn expected_answer(
     model: &Model,
+    texts: &Texts,
     starts: u64,
     needed: u64,
-    failing: Option<(u64, u64)>,
+    failing: Option<Failing>,
 ) -> Result<u64, Refusal> {
     if starts < needed {
         return Err(Refusal::NoThread);
@@ -290,7 +315,7 @@ fn expected_answer(
     if let Some(refusal) = model.same {
         return Err(refusal);
     }
-    match stopped_by(model.rows, failing) {
+    match stopped_by(texts, failing) {
         Some(refusal) => Err(refusal),
         None => Ok(model.rows),
     }
@@ -334,34 +359,60 @@ const CPIT_KEYS: &[u8] =
 
 const TAIL: &[u8] = b"RESOURCE_CONSTRAINT_COEFFICIENTS:\nRESOURCE_CONSTRAINT_LIMITS:\n";
 
-// So many texts are whole, and the others are empty.
-fn texts_are(
-    alloc: Global,
-    sinks: &Sinks<MemSink>,
-    model: &Model,
-    whole: u64,
-) -> Result<bool, Fail> {
+// The texts of the instance of a model.
+#[derive(Drop)]
+struct Texts {
+    blocks: Vec<u8>,
+    prec: Vec<u8>,
+    upit: Vec<u8>,
+    pcpsp: Vec<u8>,
+    cpit: Vec<u8>,
+}
+
+fn texts_of(alloc: Global, model: &Model) -> Result<Texts, Fail> {
     let rows = format!(in alloc; "{}", model.rows)?;
     let (count, objective) = (rows.as_bytes(), model.objective.as_slice());
     let keys: &[u8] = b"\nOBJECTIVE_FUNCTION:\n";
-    let upit = joined(alloc, &[UPIT_HEAD, count, keys, objective])?;
-    let pcpsp = joined(alloc, &[PCPSP_HEAD, count, PCPSP_KEYS, objective, TAIL])?;
-    let cpit = joined(alloc, &[CPIT_HEAD, count, CPIT_KEYS, objective, TAIL])?;
-    Ok(
-        is_text(&sinks.blocks, model.blocks.as_slice(), whole > 0)
-            && is_text(&sinks.prec, model.prec.as_slice(), whole > 1)
-            && is_text(&sinks.upit, upit.as_slice(), whole > 2)
-            && is_text(&sinks.pcpsp, pcpsp.as_slice(), whole > 3)
-            && is_text(&sinks.cpit, cpit.as_slice(), whole > 4),
-    )
+    Ok(Texts {
+        blocks: model.blocks.as_slice().to_vec(alloc)?,
+        prec: model.prec.as_slice().to_vec(alloc)?,
+        upit: joined(alloc, &[UPIT_HEAD, count, keys, objective])?,
+        pcpsp: joined(alloc, &[PCPSP_HEAD, count, PCPSP_KEYS, objective, TAIL])?,
+        cpit: joined(alloc, &[CPIT_HEAD, count, CPIT_KEYS, objective, TAIL])?,
+    })
 }
 
-fn is_text(sink: &MemSink, text: &[u8], is_whole: bool) -> bool {
-    if is_whole {
-        sink.begun() && sink.bytes() == text
-    } else {
-        sink.bytes().is_empty()
+fn text_at(texts: &Texts, place: u64) -> &[u8] {
+    match place {
+        0 => texts.blocks.as_slice(),
+        1 => texts.prec.as_slice(),
+        2 => texts.upit.as_slice(),
+        3 => texts.pcpsp.as_slice(),
+        _ => texts.cpit.as_slice(),
     }
+}
+
+// So many texts are whole, the next one has so many bytes, and the others are empty.
+fn texts_are(sinks: &Sinks<MemSink>, texts: &Texts, whole: u64, front: usize) -> bool {
+    is_text(&sinks.blocks, texts, 0, whole, front)
+        && is_text(&sinks.prec, texts, 1, whole, front)
+        && is_text(&sinks.upit, texts, 2, whole, front)
+        && is_text(&sinks.pcpsp, texts, 3, whole, front)
+        && is_text(&sinks.cpit, texts, 4, whole, front)
+}
+
+fn is_text(sink: &MemSink, texts: &Texts, place: u64, whole: u64, front: usize) -> bool {
+    let text = text_at(texts, place);
+    if place < whole {
+        return sink.begun() && sink.bytes() == text;
+    }
+    let taken = if place == whole {
+        front.min(text.len())
+    } else {
+        0
+    };
+    let (taken, _) = text.split_at(taken);
+    sink.bytes() == taken
 }
 
 // The sinks behind the one that is not whole were not begun; none was, where no sink stopped the run.
@@ -387,7 +438,7 @@ struct Making {
     valuers: u64,
     capacity: u64,
     starts: u32,
-    failing: Option<(u64, u64)>,
+    failing: Option<Failing>,
     gate: Delay,
 }
 
@@ -432,9 +483,16 @@ fn random_run<R: Threads + Wait + Sync + Abort>(
         &mut sinks,
     )?;
     let needed = making.valuers + u64::from(making.files);
-    let expected = expected_answer(&model, u64::from(making.starts), needed, making.failing);
-    let whole = texts_whole(expected);
-    let are_texts = texts_are(alloc, &sinks, &model, whole)?;
+    let texts = texts_of(alloc, &model)?;
+    let expected = expected_answer(
+        &model,
+        &texts,
+        u64::from(making.starts),
+        needed,
+        making.failing,
+    );
+    let front = front_taken(expected, making.failing);
+    let are_texts = texts_are(&sinks, &texts, texts_whole(expected), front);
     assert!(rt; answered == expected, "seed {seed}");
     assert!(rt; are_texts, "seed {seed}");
     assert!(rt; are_left(&sinks, expected), "seed {seed}");
