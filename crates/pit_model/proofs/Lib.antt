@@ -1,14 +1,15 @@
 pub mod BandFacts
 pub mod BandSteps
 pub mod CellFacts
+pub mod DemandFacts
 pub mod Limits
 pub mod Names
 pub mod PlanDraft
 pub mod PlanFollows
 pub mod PlanKeys
 pub mod PlanNames
+pub mod PlanSpelled
 pub mod PlanSteps
 pub mod PlanTold
-pub mod PlanSpelled
 pub mod RecordSteps
 pub mod WorthFacts

@@ -6,11 +6,12 @@ use Rattle.std.proofs.lemmas.List.Elements.{All-nil, All-push, All-weaker}
 use Rattle.std.proofs.lemmas.List.Sorted.{IsPermutation-refl}
 use Rattle.std.specs.List.{AllZip, list_any}
 use Rattle.std.specs.List.Sorted.{IsPermutation}
+use Rattle.pit_model.specs.Demands.{AreMet, Demand, demand, FailsFirst}
 use Rattle.pit_model.specs.Bands.{starts_rise, AreBands, IsBand}
 use Rattle.pit_model.specs.Cells.{cell_at}
 use Rattle.pit_model.specs.Name.{is_name}
 use Rattle.pit_model.specs.Plan.{IsGrid, IsAxis, IsSlope, IsCone, IsRuled, IsBound, AreCovers, RiseStrictly, has_repeat}
-use Rattle.pit_model.specs.PlanDemands.{Demand, demand, AreMet, FailsFirst, asked, width, a_name, an_origin, a_size, a_slope, zone_cells, band_cells, covered_cells, is_interval, a_period, limit_cells, limit_order, tonnes, whole, number, new_destination, room_for_destination}
+use Rattle.pit_model.specs.PlanDemands.{asked, width, a_name, an_origin, a_size, a_slope, zone_cells, band_cells, covered_cells, is_interval, a_period, limit_cells, limit_order, tonnes, whole, number, new_destination, room_for_destination}
 use Rattle.pit_model.specs.PlanPart.{Part, TheName, TheGrid, AZone, ADestination, ThePeriods, TheRate, AResource, ALimit, Stated, with_part, SpellPart, SpellAxis, SpellSlope, SpellCone, SpellBands, SpellBound, StandsWhole, NamesDestination, NamesResource, destination}
 use Rattle.pit_model.specs.Planned.{Draft, blank_draft, ◌>>=◌, name_in, is_taken, with_zone, slope_in, with_formula, band_in, bands_in, with_leach, cone_in, equal_zone_in, sided_zone_in, axis, admit_name, admit_grid, admit_zone, admit_mill, admit_leach, admit_dump, admit_periods, admit_rate, admit_resource, admit_limit, origin_in, size_in, whole_in, number_in}
 use Rattle.pit_model.specs.declared.cone.Cone.{Cone}
@@ -80,7 +81,7 @@ pub record Adds (s : Stated) (k : PlanKey) (cells : List (List ℕ)) (next : Dra
   pub keeps : Keeps next ls
 
 -- a test for so many cells, and then the rest
-pub width_then : {B : Type 0} (n : ℕ) (cells : List (List ℕ)) (r : Result B PlanFaultKind) (es : List Demand) (Q : B → Type 0)
+pub width_then : {B : Type 0} (n : ℕ) (cells : List (List ℕ)) (r : Result B PlanFaultKind) (es : List (Demand PlanFaultKind)) (Q : B → Type 0)
     → (length cells ≡ n → Follows r es Q) → Follows (if not (length cells == n) then Err Width else r) (width n cells ++ es) Q
 width_then {B} n cells r es Q rest = by (length cells == n) refl
   where
@@ -96,7 +97,7 @@ name_told cell = by (is_name cell) refl
     by false e = inl ((λ is. absurd (cc (e, is))), refl)
 
 -- a NAME in the first cell behind the key, and then the rest
-pub named_then : {B : Type 0} (cells : List (List ℕ)) (f : List ℕ → Result B PlanFaultKind) (es : List Demand) (Q : B → Type 0)
+pub named_then : {B : Type 0} (cells : List (List ℕ)) (f : List ℕ → Result B PlanFaultKind) (es : List (Demand PlanFaultKind)) (Q : B → Type 0)
     → Follows (f (cell_at cells 1)) es Q → Follows (name_in (cell_at cells 1) >>= f) (a_name (cell_at cells 1) ++ es) Q
 named_then cells f es Q rest =
     bound (name_in (cell_at cells 1)) f (a_name (cell_at cells 1)) es _ Q (name_told (cell_at cells 1)) (λ name is. subst (λ n. Follows (f n) es Q) (sym is) rest)
@@ -212,7 +213,7 @@ zone_follows d ls cells k = by (length cells == 4) refl (length cells == 10) ref
         neither (inr is) = other (length cells) 10 f is
 
 -- a NAME that is new, and then a place for the destination
-pub destination_told : (d : Draft) (ls : List Limit) (cells : List (List ℕ)) (k : PlanKey) (es : List Demand) (r : Result Draft PlanFaultKind)
+pub destination_told : (d : Draft) (ls : List Limit) (cells : List (List ℕ)) (k : PlanKey) (es : List (Demand PlanFaultKind)) (r : Result Draft PlanFaultKind)
     → (((n : ℕ) → ¬ (NamesDestination (stated_of d ls) (cell_at cells 1) n)) → Follows r es (Adds (stated_of d ls) k cells))
     → Follows (if is_taken d.formulas (cell_at cells 1) then Err Twice else r) (new_destination (stated_of d ls) (cell_at cells 1) ++ es) (Adds (stated_of d ls) k cells)
 destination_told d ls cells k es r next =

@@ -7,11 +7,12 @@ use Rattle.std.proofs.lemmas.List.Sorted.{IsPermutation-refl}
 use Rattle.std.proofs.lemmas.Bool.{and_parts}
 use Rattle.std.specs.List.{AllZip, list_any}
 use Rattle.std.specs.List.Sorted.{IsPermutation}
+use Rattle.pit_model.specs.Demands.{AreMet, Demand, demand, FailsFirst}
 use Rattle.pit_model.specs.Bands.{starts_rise, AreBands, IsBand}
 use Rattle.pit_model.specs.Cells.{cell_at}
 use Rattle.pit_model.specs.Name.{is_name}
 use Rattle.pit_model.specs.Plan.{IsGrid, IsAxis, IsSlope, IsCone, IsRuled, IsBound, AreCovers, RiseStrictly, has_repeat}
-use Rattle.pit_model.specs.PlanDemands.{Demand, demand, AreMet, FailsFirst, asked, width, a_name, an_origin, a_size, a_slope, zone_cells, band_cells, covered_cells, is_interval, a_period, limit_cells, limit_order, leach_end, resource_end, limit_end, tonnes, whole, number, new_destination, room_for_destination}
+use Rattle.pit_model.specs.PlanDemands.{asked, width, a_name, an_origin, a_size, a_slope, zone_cells, band_cells, covered_cells, is_interval, a_period, limit_cells, limit_order, leach_end, resource_end, limit_end, tonnes, whole, number, new_destination, room_for_destination}
 use Rattle.pit_model.specs.PlanPart.{Part, TheName, TheGrid, AZone, ADestination, ThePeriods, TheRate, AResource, ALimit, Stated, with_part, SpellPart, SpellAxis, SpellSlope, SpellCone, SpellBands, SpellBound, StandsWhole, NamesDestination, NamesResource, destination}
 use Rattle.pit_model.specs.Planned.{Draft, blank_draft, ◌>>=◌, name_in, is_taken, with_zone, slope_in, with_formula, band_in, bands_in, with_leach, cone_in, equal_zone_in, sided_zone_in, axis, admit_name, admit_grid, admit_zone, admit_mill, admit_leach, admit_dump, admit_periods, admit_rate, admit_resource, admit_limit, origin_in, size_in, whole_in, number_in}
 use Rattle.pit_model.specs.declared.cone.Cone.{Cone}
@@ -237,7 +238,7 @@ as_many R [] (y ∷ ys) zip = absurd zip
 as_many R (x ∷ xs) [] zip = absurd zip
 as_many R (x ∷ xs) (y ∷ ys) zip = omega (arith, as_many R xs ys zip.1)
 
-either : {B : Type 0} (s t : Bool) (first second : Type 0) (r : Result B PlanFaultKind) (es : List Demand) (Q : B → Type 0)
+either : {B : Type 0} (s t : Bool) (first second : Type 0) (r : Result B PlanFaultKind) (es : List (Demand PlanFaultKind)) (Q : B → Type 0)
     → (s ≡ true → ¬ first) → (s ≡ false → first) → (t ≡ true → ¬ second) → (t ≡ false → second) → (s ≡ false → t ≡ false → Follows r es Q)
     → Follows (if s || t then Err Twice else r) (demand Twice first ++ demand Twice second ++ es) Q
 either true t first second r es Q no_first first_is no_second second_is rest = inl (no_first refl, refl)

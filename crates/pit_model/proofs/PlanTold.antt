@@ -8,53 +8,42 @@ use Rattle.pit_units.proofs.Standing.{number_parts, read_stands, stands_read, sp
 use Rattle.pit_units.specs.Decimal.{StandsFor, IsSpelled, decimal_of, is_number, all_zeros, fraction_of, whole_of, size_of, signed}
 use Rattle.pit_units.specs.declared.fault.DecFault.{DecFault}
 use Rattle.pit_units.specs.declared.fault.DecFault.TheVariants as dec
+use Rattle.pit_model.proofs.DemandFacts.{fails_before, fails_behind, both_met}
+use Rattle.pit_model.specs.Demands.{AreMet, Demand, demand, FailsFirst}
 use Rattle.pit_model.specs.Planned.{◌>>=◌, kind_of, stated, number_in, whole_in, origin_in, size_in}
-use Rattle.pit_model.specs.PlanDemands.{Demand, demand, AreMet, FailsFirst, IsDecimal, IsFine, IsWithin, number, whole, metres}
+use Rattle.pit_model.specs.PlanDemands.{IsDecimal, IsFine, IsWithin, number, whole, metres}
 use Rattle.pit_model.specs.PlanPart.{StandsWhole, StandsMetres}
 use Rattle.pit_model.specs.declared.plan_fault.PlanFaultKind.{PlanFaultKind}
 use Rattle.pit_model.specs.declared.plan_fault.PlanFaultKind.TheVariants.{Number, TooFine, Range}
 
 -- what is asked holds and the answer keeps P; or the fault is the first that does not hold
-abbrev pub Follows : {A : Type 0} → Result A PlanFaultKind → List Demand → (A → Type 0) → Type 0
+abbrev pub Follows : {A : Type 0} → Result A PlanFaultKind → List (Demand PlanFaultKind) → (A → Type 0) → Type 0
 Follows (Ok x) demands P = AreMet demands × P x
 Follows (Err kind) demands P = FailsFirst demands kind
 
-fails_before : (ds es : List Demand) (kind : PlanFaultKind) → FailsFirst ds kind → FailsFirst (ds ++ es) kind
-fails_before [] es kind h = absurd h
-fails_before (d ∷ ds) es kind (inl h) = inl h
-fails_before (d ∷ ds) es kind (inr h) = inr (h.0, fails_before ds es kind h.1)
-
-fails_behind : (ds es : List Demand) (kind : PlanFaultKind) → AreMet ds → FailsFirst es kind → FailsFirst (ds ++ es) kind
-fails_behind [] es kind met h = h
-fails_behind (d ∷ ds) es kind met h = inr (met.0, fails_behind ds es kind met.1 h)
-
-both_met : (ds es : List Demand) → AreMet ds → AreMet es → AreMet (ds ++ es)
-both_met [] es met more = more
-both_met (d ∷ ds) es met more = (met.0, both_met ds es met.1 more)
-
-pub behind : {B : Type 0} (r : Result B PlanFaultKind) (ds es : List Demand) (Q : B → Type 0) → AreMet ds → Follows r es Q → Follows r (ds ++ es) Q
+pub behind : {B : Type 0} (r : Result B PlanFaultKind) (ds es : List (Demand PlanFaultKind)) (Q : B → Type 0) → AreMet ds → Follows r es Q → Follows r (ds ++ es) Q
 behind (Ok x) ds es Q met h = (both_met ds es met h.0, h.1)
 behind (Err kind) ds es Q met h = fails_behind ds es kind met h
 
 -- one step and then the next
-pub bound : {A B : Type 0} (r : Result A PlanFaultKind) (f : A → Result B PlanFaultKind) (ds es : List Demand) (P : A → Type 0) (Q : B → Type 0)
+pub bound : {A B : Type 0} (r : Result A PlanFaultKind) (f : A → Result B PlanFaultKind) (ds es : List (Demand PlanFaultKind)) (P : A → Type 0) (Q : B → Type 0)
     → Follows r ds P → ((x : A) → P x → Follows (f x) es Q) → Follows (r >>= f) (ds ++ es) Q
 bound (Ok x) f ds es P Q here next = behind (f x) ds es Q here.0 (next x here.1)
 bound (Err kind) f ds es P Q here next = fails_before ds es kind here
 
 -- an answer changed keeps what it then keeps
-pub mapped : {A B : Type 0} (r : Result A PlanFaultKind) (g : A → B) (ds : List Demand) (P : A → Type 0) (Q : B → Type 0)
+pub mapped : {A B : Type 0} (r : Result A PlanFaultKind) (g : A → B) (ds : List (Demand PlanFaultKind)) (P : A → Type 0) (Q : B → Type 0)
     → Follows r ds P → ((x : A) → P x → Q (g x)) → Follows (r >>= λ x. Ok (g x)) ds Q
 mapped (Ok x) g ds P Q here next = (here.0, next x here.1)
 mapped (Err kind) g ds P Q here next = here
 
 -- the same answer keeps what follows from what it keeps
-pub weaker : {A : Type 0} (r : Result A PlanFaultKind) (ds : List Demand) (P Q : A → Type 0) → ((x : A) → P x → Q x) → Follows r ds P → Follows r ds Q
+pub weaker : {A : Type 0} (r : Result A PlanFaultKind) (ds : List (Demand PlanFaultKind)) (P Q : A → Type 0) → ((x : A) → P x → Q x) → Follows r ds P → Follows r ds Q
 weaker (Ok x) ds P Q to h = (h.0, to x h.1)
 weaker (Err kind) ds P Q to h = h
 
 -- a test, and then the rest
-pub guarded : {B : Type 0} (t : Bool) (kind : PlanFaultKind) (met : Type 0) (r : Result B PlanFaultKind) (es : List Demand) (Q : B → Type 0)
+pub guarded : {B : Type 0} (t : Bool) (kind : PlanFaultKind) (met : Type 0) (r : Result B PlanFaultKind) (es : List (Demand PlanFaultKind)) (Q : B → Type 0)
     → (t ≡ true → ¬ met) → (t ≡ false → met × Follows r es Q) → Follows (if t then Err kind else r) (demand kind met ++ es) Q
 guarded true kind met r es Q refuted kept = inl (refuted refl, refl)
 guarded false kind met r es Q refuted kept = let h = kept refl in behind r (demand kind met) es Q (h.0, tt) h.1
@@ -64,19 +53,6 @@ pub last_guarded : {B : Type 0} (t : Bool) (kind : PlanFaultKind) (met : Type 0)
     → (t ≡ true → ¬ met) → (t ≡ false → met × Q x) → Follows (if t then Err kind else Ok x) (demand kind met) Q
 last_guarded true kind met x Q refuted kept = inl (refuted refl, refl)
 last_guarded false kind met x Q refuted kept = let h = kept refl in ((h.0, tt), h.1)
-
--- the first that fails is of one kind
-pub one_kind : (ds : List Demand) (k l : PlanFaultKind) → FailsFirst ds k → FailsFirst ds l → k ≡ l
-one_kind [] k l a b = absurd a
-one_kind (d ∷ ds) k l (inl a) (inl b) = a.1 ∙ sym b.1
-one_kind (d ∷ ds) k l (inl a) (inr b) = absurd (a.0 b.0)
-one_kind (d ∷ ds) k l (inr a) (inl b) = absurd (b.0 a.0)
-one_kind (d ∷ ds) k l (inr a) (inr b) = one_kind ds k l a.1 b.1
-
-pub none_fails : (ds : List Demand) (k : PlanFaultKind) → AreMet ds → FailsFirst ds k → ⊥
-none_fails [] k met h = h
-none_fails (d ∷ ds) k met (inl h) = h.0 met.0
-none_fails (d ∷ ds) k met (inr h) = none_fails ds k met.1 h.1
 
 -- a text stands for one number
 pub one_number : (decimals : ℕ) (cell : List ℕ) (m n : ℤ) → decimals ≤ 6 → StandsFor decimals cell m → StandsFor decimals cell n → m ≡ n
@@ -119,7 +95,7 @@ pub read_number : {B : Type 0} (decimals : ℕ) (cell : List ℕ) (f : ℤ → R
     → Follows (stated (decimal_of decimals cell) >>= f) (demand Number (IsDecimal cell) ++ demand TooFine (IsFine decimals cell) ++ demand Range met) Q
 read_number {B} decimals cell f met Q few there next = by (decimal_of decimals cell) refl
   where
-    front : List Demand
+    front : List (Demand PlanFaultKind)
     front = demand Number (IsDecimal cell) ++ demand TooFine (IsFine decimals cell)
 
     by : (r : Result ℤ DecFault) → decimal_of decimals cell ≡ r → Follows (stated r >>= f) (front ++ demand Range met) Q
@@ -202,15 +178,15 @@ one_whole cell a b first second =
     omega (arith, ints)
 
 -- the last thing that is asked, in other words
-pub reworded : {B : Type 0} (r : Result B PlanFaultKind) (ds : List Demand) (kind : PlanFaultKind) (met other : Type 0) (Q : B → Type 0)
+pub reworded : {B : Type 0} (r : Result B PlanFaultKind) (ds : List (Demand PlanFaultKind)) (kind : PlanFaultKind) (met other : Type 0) (Q : B → Type 0)
     → (met → other) → (other → met) → Follows r (ds ++ demand kind met) Q → Follows r (ds ++ demand kind other) Q
 reworded {B} r ds kind met other Q to from h = by r h
   where
-    are : (ds : List Demand) → AreMet (ds ++ demand kind met) → AreMet (ds ++ demand kind other)
+    are : (ds : List (Demand PlanFaultKind)) → AreMet (ds ++ demand kind met) → AreMet (ds ++ demand kind other)
     are [] h = (to h.0, tt)
     are (d ∷ ds) h = (h.0, are ds h.1)
 
-    fail : (ds : List Demand) (found : PlanFaultKind) → FailsFirst (ds ++ demand kind met) found → FailsFirst (ds ++ demand kind other) found
+    fail : (ds : List (Demand PlanFaultKind)) (found : PlanFaultKind) → FailsFirst (ds ++ demand kind met) found → FailsFirst (ds ++ demand kind other) found
     fail [] found (inl h) = inl ((λ o. h.0 (from o)), h.1)
     fail [] found (inr h) = absurd h.1
     fail (d ∷ ds) found (inl h) = inl h

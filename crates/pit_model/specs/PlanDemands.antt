@@ -6,6 +6,7 @@ use Rattle.std.specs.Str.{bytes_eq}
 use Rattle.pit_units.specs.Decimal.{StandsFor, IsSpelled, all_zeros}
 use Rattle.pit_model.specs.Bands.{starts_rise}
 use Rattle.pit_model.specs.Cells.{cell_at}
+use Rattle.pit_model.specs.Demands.{Demand, demand}
 use Rattle.pit_model.specs.Name.{is_name}
 use Rattle.pit_model.specs.Plan.{has_repeat}
 use Rattle.pit_model.specs.PlanPart.{Stated, StandsWhole, SpellBands, NamesDestination, NamesResource}
@@ -15,24 +16,6 @@ use Rattle.pit_model.specs.declared.plan_fault.PlanFaultKind.TheVariants.{Width,
 use Rattle.pit_model.specs.declared.plan_key.PlanKey.{PlanKey}
 use Rattle.pit_model.specs.declared.plan_key.PlanKey.TheVariants as key
 use Rattle.pit_model.specs.declared.ranges.TheConstants.{MAX_BANDS, MAX_BENCHES, MAX_COST, MAX_DESTINATIONS, MAX_GRADE, MAX_ORIGIN, MAX_PERIODS, MAX_PRICE, MAX_RATE, MAX_RECOVERY, MAX_RESOURCES, MAX_SIZE, MAX_SLOPE, MAX_TONNES, MAX_ZONES, MIN_ORIGIN}
-
--- something that has to hold, and the kind of fault where it does not
-pub record Demand : Type 1 where
-  pub kind : PlanFaultKind
-  pub met : Type 0
-
-abbrev pub demand : PlanFaultKind → Type 0 → List Demand
-demand kind met = record { kind = kind; met = met } ∷ []
-
--- all of it holds
-abbrev pub AreMet : List Demand → Type 0
-AreMet [] = Unit {0}
-AreMet (d ∷ demands) = d.met × AreMet demands
-
--- the first that does not hold is of this kind
-abbrev pub FailsFirst : List Demand → PlanFaultKind → Type 0
-FailsFirst [] kind = ⊥
-FailsFirst (d ∷ demands) kind = (¬ d.met × (kind ≡ d.kind)) ⊎ (d.met × FailsFirst demands kind)
 
 -- the cell is a decimal
 abbrev pub IsDecimal : List ℕ → Type 0
@@ -47,64 +30,64 @@ abbrev pub IsWithin : ℕ → ℤ → ℤ → List ℕ → Type 0
 IsWithin decimals low high cell = (m : ℤ) × StandsFor decimals cell m × (low ≤ℤ m) × (m ≤ℤ high)
 
 -- a decimal with so many decimals, from the lowest to the highest millionths
-abbrev pub number : ℕ → ℤ → ℤ → List ℕ → List Demand
+abbrev pub number : ℕ → ℤ → ℤ → List ℕ → List (Demand PlanFaultKind)
 number decimals low high cell = demand Number (IsDecimal cell) ++ demand TooFine (IsFine decimals cell) ++ demand Range (IsWithin decimals low high cell)
 
 -- a whole number from the lowest to the highest
-abbrev pub whole : ℕ → ℕ → List ℕ → List Demand
+abbrev pub whole : ℕ → ℕ → List ℕ → List (Demand PlanFaultKind)
 whole low high cell = number 0 (pos (low * 10 ^ 6)) (pos (high * 10 ^ 6)) cell
 
 -- metres with three decimals, from the lowest to the highest millimetres
-abbrev pub metres : ℤ → ℤ → List ℕ → List Demand
+abbrev pub metres : ℤ → ℤ → List ℕ → List (Demand PlanFaultKind)
 metres low high cell = number 3 (low *ℤ pos 1000) (high *ℤ pos 1000) cell
 
 -- tonnes with six decimals, 0 to 10^12
-abbrev pub tonnes : List ℕ → List Demand
+abbrev pub tonnes : List ℕ → List (Demand PlanFaultKind)
 tonnes cell = number 6 (pos 0) (MAX_TONNES) cell
 
 -- so many cells, the key among them
-abbrev pub width : ℕ → List (List ℕ) → List Demand
+abbrev pub width : ℕ → List (List ℕ) → List (Demand PlanFaultKind)
 width n cells = demand Width (length cells ≡ n)
 
 -- a NAME
-abbrev pub a_name : List ℕ → List Demand
+abbrev pub a_name : List ℕ → List (Demand PlanFaultKind)
 a_name cell = demand Name (is_name cell ≡ true)
 
 -- a NAME that no earlier destination has
-abbrev pub new_destination : Stated → List ℕ → List Demand
+abbrev pub new_destination : Stated → List ℕ → List (Demand PlanFaultKind)
 new_destination s cell = demand Twice ((n : ℕ) → ¬ (NamesDestination s cell n))
 
 -- a place for one more of at most eight destinations
-abbrev pub room_for_destination : Stated → List Demand
+abbrev pub room_for_destination : Stated → List (Demand PlanFaultKind)
 room_for_destination s = demand TooMany (length s.destinations < MAX_DESTINATIONS)
 
 -- an origin, -10^12 to 10^12 mm
-abbrev pub an_origin : List ℕ → List Demand
+abbrev pub an_origin : List ℕ → List (Demand PlanFaultKind)
 an_origin cell = metres MIN_ORIGIN MAX_ORIGIN cell
 
 -- the size of a block, 1 to 100,000 mm
-abbrev pub a_size : List ℕ → List Demand
+abbrev pub a_size : List ℕ → List (Demand PlanFaultKind)
 a_size cell = metres (pos 1) (pos MAX_SIZE) cell
 
 -- rise and run, 1 to 1000
-abbrev pub a_slope : List ℕ → List ℕ → List Demand
+abbrev pub a_slope : List ℕ → List ℕ → List (Demand PlanFaultKind)
 a_slope rise run = whole 1 MAX_SLOPE rise ++ whole 1 MAX_SLOPE run
 
 -- the cells of a zone's record, of either form
-abbrev pub zone_cells : Bool → List (List ℕ) → List Demand
+abbrev pub zone_cells : Bool → List (List ℕ) → List (Demand PlanFaultKind)
 zone_cells true cells = a_slope (cell_at cells 1) (cell_at cells 2) ++ whole 1 MAX_BENCHES (cell_at cells 3)
 zone_cells false cells =
     a_slope (cell_at cells 1) (cell_at cells 2) ++ a_slope (cell_at cells 3) (cell_at cells 4) ++ a_slope (cell_at cells 5) (cell_at cells 6)
     ++ a_slope (cell_at cells 7) (cell_at cells 8) ++ whole 1 MAX_BENCHES (cell_at cells 9)
 
 -- pairs of a start and a recovery
-abbrev pub band_cells : List (List ℕ) → List Demand
+abbrev pub band_cells : List (List ℕ) → List (Demand PlanFaultKind)
 band_cells [] = []
 band_cells (lone ∷ []) = []
 band_cells (start ∷ recovery ∷ cells) = number 6 (pos 0) (pos MAX_GRADE) start ++ whole 0 MAX_RECOVERY recovery ++ band_cells cells
 
 -- NAMEs of earlier destinations
-abbrev pub covered_cells : Stated → List (List ℕ) → List Demand
+abbrev pub covered_cells : Stated → List (List ℕ) → List (Demand PlanFaultKind)
 covered_cells s [] = []
 covered_cells s (cell ∷ cells) = demand Name ((n : ℕ) × NamesDestination s cell n) ++ covered_cells s cells
 
@@ -113,44 +96,44 @@ abbrev pub is_interval : List (List ℕ) → Bool
 is_interval cells = bytes_eq (cell_at cells 3) (codes "I")
 
 -- a period: a number below that of an earlier `periods`
-abbrev pub a_period : Stated → List ℕ → List Demand
+abbrev pub a_period : Stated → List ℕ → List (Demand PlanFaultKind)
 a_period s cell =
     demand Number (IsDecimal cell) ++ demand TooFine (IsFine 0 cell)
     ++ demand Range ((periods t : ℕ) × (s.periods ≡ periods ∷ []) × StandsWhole cell t × (t < periods))
 
 -- the tonnes of a limit: v, and w where there are two
-abbrev pub limit_cells : Bool → List (List ℕ) → List Demand
+abbrev pub limit_cells : Bool → List (List ℕ) → List (Demand PlanFaultKind)
 limit_cells false cells = tonnes (cell_at cells 4)
 limit_cells true cells = tonnes (cell_at cells 4) ++ tonnes (cell_at cells 5)
 
 -- v is no greater than w, where there are two
-abbrev pub limit_order : Bool → List (List ℕ) → List Demand
+abbrev pub limit_order : Bool → List (List ℕ) → List (Demand PlanFaultKind)
 limit_order false cells = []
 limit_order true cells = demand Order ((v w : ℤ) → StandsFor 6 (cell_at cells 4) v → StandsFor 6 (cell_at cells 5) w → v ≤ℤ w)
 
 -- of a leach, behind its cells: a new NAME, starts that rise, at most 16 bands
-abbrev pub leach_end : Stated → List (List ℕ) → List Demand
+abbrev pub leach_end : Stated → List (List ℕ) → List (Demand PlanFaultKind)
 leach_end s cells =
     new_destination s (cell_at cells 1)
     ++ demand Order ((bands : List Band) → SpellBands (drop 4 cells) bands → starts_rise bands ≡ true)
     ++ demand TooMany ((bands : List Band) → SpellBands (drop 4 cells) bands → length bands ≤ MAX_BANDS) ++ room_for_destination s
 
 -- of a resource, behind its cells: a new NAME, no destination twice, at most eight resources
-abbrev pub resource_end : Stated → List (List ℕ) → List Demand
+abbrev pub resource_end : Stated → List (List ℕ) → List (Demand PlanFaultKind)
 resource_end s cells =
     demand Twice ((n : ℕ) → ¬ (NamesResource s (cell_at cells 1) n))
     ++ demand Twice ((covers : List ℕ) → AllZip (NamesDestination s) (drop 2 cells) covers → has_repeat covers ≡ false)
     ++ demand TooMany (length s.resources < MAX_RESOURCES)
 
 -- of a limit, behind its cells: no other of its resource and period, and an interval in order
-abbrev pub limit_end : Stated → List (List ℕ) → List Demand
+abbrev pub limit_end : Stated → List (List ℕ) → List (Demand PlanFaultKind)
 limit_end s cells =
     demand Twice ((r t : ℕ) → NamesResource s (cell_at cells 1) r → StandsWhole (cell_at cells 2) t
     → All (λ l. ¬ ((l.resource ≡ r) × (l.period ≡ t))) s.limits)
     ++ limit_order (is_interval cells) cells
 
 -- what is asked of the record of a key, behind the records so far
-abbrev pub asked : Stated → PlanKey → List (List ℕ) → List Demand
+abbrev pub asked : Stated → PlanKey → List (List ℕ) → List (Demand PlanFaultKind)
 asked s key.Name cells = width 2 cells ++ a_name (cell_at cells 1) ++ demand Twice (s.names ≡ [])
 asked s key.Grid cells =
     width 7 cells ++ an_origin (cell_at cells 1) ++ an_origin (cell_at cells 2) ++ an_origin (cell_at cells 3)
