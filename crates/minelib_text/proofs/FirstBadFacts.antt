@@ -1,11 +1,13 @@
 -- A faulty line is the first that spells nothing behind those before it.
 use Rattle.std.specs.Prelude.{◌≡◌, ℕ, ◌+◌, ◌==◌, Bool, true, false, List, [], ◌∷◌, ◌++◌, length, Result, Ok, Err, ◌⊎◌, if◌then◌else◌}
 use Rattle.std.proofs.Common.{refl, sym, ◌∙◌, ap, subst, arith, inl, inr, append_assoc, append-nil, eq-eqb}
+use Rattle.pit_model.proofs.DemandFacts.{Follows}
+use Rattle.pit_model.specs.Demands.{Demand}
+use Rattle.pit_model.specs.Steps.{◌>>=◌}
 use Rattle.pit_model.specs.declared.block.Block.{Block}
 use Rattle.minelib_text.specs.BlockLines.{block_of, admit_block, blocks_in}
-use Rattle.minelib_text.specs.FieldValues.{◌>>=◌}
 use Rattle.minelib_text.specs.FirstBad.{IsFirstBad, LacksLines}
-use Rattle.minelib_text.specs.LineDemands.{Demand, asked_of_block, asked_of_preds}
+use Rattle.minelib_text.specs.LineDemands.{asked_of_block, asked_of_preds}
 use Rattle.minelib_text.specs.PrecLines.{PrecDraft, no_lists, preds_of, admit_preds, finish_preds, preds_in}
 use Rattle.minelib_text.specs.Reading.{at_line, read_lines}
 use Rattle.minelib_text.specs.SpelledBlocks.{IsBlockLine}
@@ -16,7 +18,7 @@ use Rattle.minelib_text.specs.declared.text_fault.LineFault.{LineFault}
 use Rattle.minelib_text.specs.declared.text_fault.TextKind.{TextKind}
 use Rattle.minelib_text.specs.declared.text_fault.TextKind.TheVariants.{Missing}
 use Rattle.minelib_text.proofs.ItemLines.{line_more}
-use Rattle.minelib_text.proofs.LineTold.{Follows, block_told, preds_told}
+use Rattle.minelib_text.proofs.LineTold.{block_told, preds_told}
 use Rattle.minelib_text.proofs.SpelledBack.{block_back, preds_back}
 use Rattle.minelib_text.proofs.ValidBlocks.{block_line}
 use Rattle.minelib_text.proofs.ValidPreds.{preds_line}
@@ -26,7 +28,7 @@ module _ {S A : Type 0} (Spells : ℕ → List ℕ → A → Type 0) (state : Li
     (admit : S → List ℕ → Result S TextKind)
     (admits : (items : List A) (line : List ℕ) → admit (state items) line ≡ (read (length items) line >>= λ x. Ok (state (items ++ x ∷ []))))
     (spelled : (n : ℕ) (line : List ℕ) (x : A) → read n line ≡ Ok x → Spells n line x)
-    (back : (n : ℕ) (line : List ℕ) (x : A) → Spells n line x → read n line ≡ Ok x) (asked : ℕ → List ℕ → List Demand)
+    (back : (n : ℕ) (line : List ℕ) (x : A) → Spells n line x → read n line ≡ Ok x) (asked : ℕ → List ℕ → List (Demand TextKind))
     (told : (n : ℕ) (line : List ℕ) → Follows (read n line) (asked n line) (λ x. Unit {0})) where
   -- what reading finds: all lines spell items, or one is the first that spells none
   record AllOf (lines : List Line) (s : S) : Type 0 where
@@ -68,7 +70,7 @@ module _ {S A : Type 0} (Spells : ℕ → List ℕ → A → Type 0) (state : Li
 abbrev IsBlockOf : ℕ → List ℕ → Block → Type 0
 IsBlockOf id line b = IsBlockLine id (fields_of line) b
 
-abbrev asked_block : ℕ → List ℕ → List Demand
+abbrev asked_block : ℕ → List ℕ → List (Demand TextKind)
 asked_block id line = asked_of_block id (fields_of line)
 
 pub bad_block : (text : List ℕ) (fault : LineFault) → blocks_in text ≡ Err fault
@@ -84,7 +86,7 @@ bad_block text fault e =
 abbrev ArePredsIn : ℕ → ℕ → List ℕ → List ℕ → Type 0
 ArePredsIn n id line ids = IsPredsLine n id (fields_of line) ids
 
-abbrev asked_preds : ℕ → ℕ → List ℕ → List Demand
+abbrev asked_preds : ℕ → ℕ → List ℕ → List (Demand TextKind)
 asked_preds n id line = asked_of_preds n id (fields_of line)
 
 abbrev lists_of : ℕ → List (List ℕ) → PrecDraft

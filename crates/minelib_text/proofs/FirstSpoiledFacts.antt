@@ -1,9 +1,10 @@
 -- A faulty line of a model file is the first behind which nothing makes it a model.
 use Rattle.std.specs.Prelude.{◌≡◌, ℕ, ◌≤◌, ◌==◌, ◌&&◌, Bool, true, false, List, [], ◌∷◌, ◌++◌, length, Result, Ok, Err, ◌⊎◌, if◌then◌else◌}
 use Rattle.std.proofs.Common.{refl, sym, ◌∙◌, ap, subst, inl, inr, append_assoc}
+use Rattle.pit_model.proofs.DemandFacts.{Follows}
+use Rattle.pit_model.specs.Demands.{FailsFirst}
+use Rattle.pit_model.specs.Steps.{◌>>=◌}
 use Rattle.minelib_text.specs.BegunModel.{BeginModel, IsFirstSpoiled, EndsEarly}
-use Rattle.minelib_text.specs.FieldValues.{◌>>=◌}
-use Rattle.minelib_text.specs.LineDemands.{FailsFirst}
 use Rattle.minelib_text.specs.ModelDemands.{asked_of_model, HasKind}
 use Rattle.minelib_text.specs.ModelLines.{ModelDraft, blank_model, is_complete, is_limits, admit_model, finish_model, model_in}
 use Rattle.minelib_text.specs.ModelSoFar.{HasOwn}
@@ -18,7 +19,6 @@ use Rattle.minelib_text.specs.declared.text_fault.LineFault.{LineFault}
 use Rattle.minelib_text.specs.declared.text_fault.TextKind.{TextKind}
 use Rattle.minelib_text.specs.declared.text_fault.TextKind.TheVariants.{Missing}
 use Rattle.minelib_text.proofs.Completed.{completed}
-use Rattle.minelib_text.proofs.LineTold.{Follows}
 use Rattle.minelib_text.proofs.ModelEnd.{complete_ok}
 use Rattle.minelib_text.proofs.ModelReady.{IsGeneral, model_general}
 use Rattle.minelib_text.proofs.ModelTold.{model_told}

@@ -6,13 +6,14 @@ use Rattle.std.proofs.Common.{refl, sym, ◌∙◌, ap, subst, arith, rules}
 use Rattle.std.proofs.lemmas.Bool.{eqb-true}
 use Rattle.std.proofs.lemmas.Slice.Eq.{bytes_eq-Decides}
 use Rattle.pit_units.specs.Decimal.{StandsFor}
+use Rattle.pit_model.specs.Steps.{◌>>=◌}
 use Rattle.pit_model.specs.Planned.{is_turned}
 use Rattle.pit_model.specs.declared.limit.Bound.{Bound}
 use Rattle.pit_model.specs.declared.limit.Bound.TheVariants.{AtMost, AtLeast, Between}
 use Rattle.pit_model.specs.declared.limit.Limit.{Limit}
 use Rattle.mine_instance.specs.Valid.{IsUpward}
 use Rattle.mine_instance.specs.declared.coef.Coef.{Coef}
-use Rattle.minelib_text.specs.FieldValues.{◌>>=◌, first_by, all_by, whole_in, decimal_in}
+use Rattle.minelib_text.specs.FieldValues.{first_by, all_by, whole_in, decimal_in}
 use Rattle.minelib_text.specs.ModelLines.{values_of, coef_of, limit_of, limit_width, bound_in, interval_in}
 use Rattle.minelib_text.specs.SpelledFields.{StatesWhole}
 use Rattle.minelib_text.specs.SpelledItems.{IsValuesLine, IsPcpspCoefLine, IsCpitCoefLine, IsCoefLine, StatesBound, IsLimitLine}

@@ -8,12 +8,15 @@ use Rattle.pit_units.proofs.Standing.{number_parts, read_stands, spelled_number,
 use Rattle.pit_units.specs.Decimal.{StandsFor, decimal_of, is_number, all_zeros, fraction_of, whole_of}
 use Rattle.pit_units.specs.declared.fault.DecFault.{DecFault}
 use Rattle.pit_units.specs.declared.fault.DecFault.TheVariants as dec
+use Rattle.pit_model.proofs.DemandFacts.{Follows, behind, bound, weaker, guarded, fails_before}
+use Rattle.pit_model.specs.Demands.{Demand, demand, AreMet, FailsFirst}
+use Rattle.pit_model.specs.Steps.{◌>>=◌}
 use Rattle.pit_model.specs.PlanDemands.{IsDecimal, IsFine}
 use Rattle.pit_model.specs.declared.block.Block.{Block}
 use Rattle.mine_instance.specs.Valid.{ArePredsOf}
 use Rattle.minelib_text.specs.BlockLines.{block_of, block_with, in_range}
-use Rattle.minelib_text.specs.FieldValues.{◌>>=◌, stated, at_most, whole_below, size_in, whole_in, first_by, all_by}
-use Rattle.minelib_text.specs.LineDemands.{Demand, demand, AreMet, FailsFirst, number, whole, size, wholes, asked_of_block, asked_of_preds}
+use Rattle.minelib_text.specs.FieldValues.{stated, at_most, whole_below, size_in, whole_in, first_by, all_by}
+use Rattle.minelib_text.specs.LineDemands.{number, whole, size, wholes, asked_of_block, asked_of_preds}
 use Rattle.minelib_text.specs.PrecLines.{stands_in, all_differ, preds_of, preds_with}
 use Rattle.minelib_text.specs.SpelledFields.{StatesWhole, StatesSize}
 use Rattle.minelib_text.specs.declared.text_fault.TextKind.{TextKind}
@@ -23,44 +26,6 @@ use Rattle.minelib_text.proofs.PrecBack.{stands_not, differ_again}
 use Rattle.minelib_text.proofs.ReadSteps.{as_many, not_false, size_in_ok, whole_in_ok}
 use Rattle.minelib_text.proofs.SpelledBack.{size_back, whole_back}
 use Rattle.minelib_text.proofs.ValidPreds.{others_differ, pairs_differ}
-
--- what is asked holds and the answer keeps P; or the fault is the first that does not hold
-abbrev pub Follows : {A : Type 0} → Result A TextKind → List Demand → (A → Type 0) → Type 0
-Follows (Ok x) demands P = AreMet demands × P x
-Follows (Err kind) demands P = FailsFirst demands kind
-
-pub fails_before : (ds es : List Demand) (kind : TextKind) → FailsFirst ds kind → FailsFirst (ds ++ es) kind
-fails_before [] es kind h = absurd h
-fails_before (d ∷ ds) es kind (inl h) = inl h
-fails_before (d ∷ ds) es kind (inr h) = inr (h.0, fails_before ds es kind h.1)
-
-fails_behind : (ds es : List Demand) (kind : TextKind) → AreMet ds → FailsFirst es kind → FailsFirst (ds ++ es) kind
-fails_behind [] es kind met h = h
-fails_behind (d ∷ ds) es kind met h = inr (met.0, fails_behind ds es kind met.1 h)
-
-both_met : (ds es : List Demand) → AreMet ds → AreMet es → AreMet (ds ++ es)
-both_met [] es met more = more
-both_met (d ∷ ds) es met more = (met.0, both_met ds es met.1 more)
-
-pub behind : {B : Type 0} (r : Result B TextKind) (ds es : List Demand) (Q : B → Type 0) → AreMet ds → Follows r es Q → Follows r (ds ++ es) Q
-behind (Ok x) ds es Q met h = (both_met ds es met h.0, h.1)
-behind (Err kind) ds es Q met h = fails_behind ds es kind met h
-
--- one step and then the next
-pub bound : {A B : Type 0} (r : Result A TextKind) (f : A → Result B TextKind) (ds es : List Demand) (P : A → Type 0) (Q : B → Type 0)
-    → Follows r ds P → ((x : A) → P x → Follows (f x) es Q) → Follows (r >>= f) (ds ++ es) Q
-bound (Ok x) f ds es P Q here next = behind (f x) ds es Q here.0 (next x here.1)
-bound (Err kind) f ds es P Q here next = fails_before ds es kind here
-
-weaker : {A : Type 0} (r : Result A TextKind) (ds : List Demand) (P Q : A → Type 0) → ((x : A) → P x → Q x) → Follows r ds P → Follows r ds Q
-weaker (Ok x) ds P Q to h = (h.0, to x h.1)
-weaker (Err kind) ds P Q to h = h
-
--- a test, and then the rest
-pub guarded : {B : Type 0} (t : Bool) (kind : TextKind) (met : Type 0) (r : Result B TextKind) (es : List Demand) (Q : B → Type 0)
-    → (t ≡ true → ¬ met) → (t ≡ false → met × Follows r es Q) → Follows (if t then Err kind else r) (demand kind met ++ es) Q
-guarded true kind met r es Q refuted kept = inl (refuted refl, refl)
-guarded false kind met r es Q refuted kept = let h = kept refl in behind r (demand kind met) es Q (h.0, tt) h.1
 
 pick_fine : (number fine large : Bool) (found : ℤ) → (if not number then Err dec.Number else (if not fine then Err dec.TooFine else (if large then Err dec.Range else Ok found))) ≡ Err dec.TooFine → number ≡ true
 pick_fine true fine large found e = refl
@@ -169,7 +134,7 @@ size_told decimals most field few =
 
 -- a field, and then those behind it
 pub first_told : {A B : Type 0} (rule : List ℕ → Result A TextKind) (field : List ℕ) (rest : List (List ℕ))
-    (next : A × List (List ℕ) → Result B TextKind) (ds es : List Demand) (P : A → Type 0) (Q : B → Type 0)
+    (next : A × List (List ℕ) → Result B TextKind) (ds es : List (Demand TextKind)) (P : A → Type 0) (Q : B → Type 0)
     → Follows (rule field) ds P → ((x : A) → P x → Follows (next (x, rest)) es Q) → Follows (first_by rule (field ∷ rest) >>= next) (ds ++ es) Q
 first_told {A} {B} rule field rest next ds es P Q here more = by (rule field) here
   where

@@ -6,6 +6,9 @@ use Rattle.std.proofs.Common.{refl, sym, ◌∙◌, ap, subst, arith, inl, inr, 
 use Rattle.std.proofs.lemmas.Bool.{eqb-true, or_parts}
 use Rattle.std.proofs.lemmas.Slice.Eq.{bytes_eq-Decides}
 use Rattle.pit_units.specs.Decimal.{StandsFor, decimal_of}
+use Rattle.pit_model.proofs.DemandFacts.{Follows, fails_before, behind, bound, guarded}
+use Rattle.pit_model.specs.Demands.{Demand, demand}
+use Rattle.pit_model.specs.Steps.{◌>>=◌}
 use Rattle.pit_model.specs.Name.{is_name}
 use Rattle.pit_model.specs.Plan.{stands_before}
 use Rattle.pit_model.specs.Planned.{is_turned}
@@ -14,8 +17,8 @@ use Rattle.pit_model.specs.declared.limit.Bound.TheVariants.{AtMost, AtLeast}
 use Rattle.pit_model.specs.declared.limit.Limit.{Limit}
 use Rattle.mine_instance.specs.Order.{comes_before}
 use Rattle.mine_instance.specs.declared.coef.Coef.{Coef}
-use Rattle.minelib_text.specs.FieldValues.{◌>>=◌, stated, whole_below, whole_in, size_in, decimal_in, first_by, all_by}
-use Rattle.minelib_text.specs.LineDemands.{Demand, demand, whole, size, field_at}
+use Rattle.minelib_text.specs.FieldValues.{stated, whole_below, whole_in, size_in, decimal_in, first_by, all_by}
+use Rattle.minelib_text.specs.LineDemands.{whole, size, field_at}
 use Rattle.minelib_text.specs.ModelDemands.{decimal, decimals, counted, asked_of_value, asked_of_key, asked_of_values, coef_fields, asked_of_coef, width_of_limit, limit_fields, asked_of_limit, asked_of_item, asked_by, asked_of_model}
 use Rattle.minelib_text.specs.ModelLines.{ModelDraft, count_in, counted_in, is_colon, is_given, is_heading, is_next, is_ready, is_behind, key_of, last_of, type_text, header_with, only_value, admit_key, values_of, coef_of, limit_width, interval_in, bound_in, limit_of, admit_coef, admit_limit, admit_item, admit_model}
 use Rattle.minelib_text.specs.SpelledFields.{StatesWhole}
@@ -35,19 +38,19 @@ use Rattle.minelib_text.specs.declared.text_fault.TextKind.TheVariants as fault
 use Rattle.minelib_text.proofs.ItemSteps.{coef_line, limit_line}
 use Rattle.minelib_text.proofs.ItemsBack.{not_turned}
 use Rattle.minelib_text.proofs.KeySteps.{counted_ok}
-use Rattle.minelib_text.proofs.LineTold.{Follows, fails_before, behind, bound, guarded, number_told, below_ranged, whole_told, size_told, first_told, test_told, tested, one_whole}
+use Rattle.minelib_text.proofs.LineTold.{number_told, below_ranged, whole_told, size_told, first_told, test_told, tested, one_whole}
 use Rattle.minelib_text.proofs.ReadSteps.{not_false, decimal_in_ok}
 use Rattle.minelib_text.proofs.SpelledItemsBack.{decimal_back, coef_back, limit_back}
 use Rattle.minelib_text.proofs.SpelledModelBack.{counted_back}
 
 -- an answer changed
-mapped : {A B : Type 0} (r : Result A TextKind) (g : A → B) (ds : List Demand) (P : A → Type 0) → Follows r ds P
+mapped : {A B : Type 0} (r : Result A TextKind) (g : A → B) (ds : List (Demand TextKind)) (P : A → Type 0) → Follows r ds P
     → Follows (r >>= λ x. Ok (g x)) ds (λ y. Unit {0})
 mapped (Ok x) g ds P h = (h.0, tt)
 mapped (Err kind) g ds P h = h
 
 -- one step and then the next, which knows the first
-bound_is : {A B : Type 0} (r : Result A TextKind) (f : A → Result B TextKind) (ds es : List Demand) (P : A → Type 0) (Q : B → Type 0)
+bound_is : {A B : Type 0} (r : Result A TextKind) (f : A → Result B TextKind) (ds es : List (Demand TextKind)) (P : A → Type 0) (Q : B → Type 0)
     → Follows r ds P → ((x : A) → r ≡ Ok x → Follows (f x) es Q) → Follows (r >>= f) (ds ++ es) Q
 bound_is {A} {B} r f ds es P Q here next = by r refl here
   where

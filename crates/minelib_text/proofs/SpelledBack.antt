@@ -3,9 +3,10 @@ use Rattle.std.specs.Prelude.{◌≡◌, ℕ, ◌+◌, ◌*◌, ◌/◌, ◌^◌
 use Rattle.std.proofs.Common.{refl, sym, ◌∙◌, ap, subst, arith, append-nil, append_assoc, length-append, eq-eqb, lt-ltb, le-ltb}
 use Rattle.std.specs.List.{AllZip}
 use Rattle.pit_units.proofs.Standing.{stands_read}
+use Rattle.pit_model.specs.Steps.{◌>>=◌}
 use Rattle.pit_model.specs.declared.block.Block.{Block}
 use Rattle.minelib_text.specs.BlockLines.{block_of, admit_block, blocks_in}
-use Rattle.minelib_text.specs.FieldValues.{◌>>=◌, whole_in, size_in, all_by}
+use Rattle.minelib_text.specs.FieldValues.{whole_in, size_in, all_by}
 use Rattle.minelib_text.specs.PrecLines.{PrecDraft, preds_of, admit_preds, finish_preds, preds_in}
 use Rattle.minelib_text.specs.Reading.{at_line, read_lines}
 use Rattle.minelib_text.specs.SpelledBlocks.{IsBlockLine, AreBlockLines}

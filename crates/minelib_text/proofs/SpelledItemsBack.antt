@@ -4,11 +4,12 @@ use Rattle.std.specs.List.{AllZip}
 use Rattle.std.proofs.Common.{refl, sym, ◌∙◌, ap, arith, append-nil, append_assoc, eq-eqb}
 use Rattle.pit_units.proofs.Standing.{stands_read}
 use Rattle.pit_units.specs.Decimal.{StandsFor}
+use Rattle.pit_model.specs.Steps.{◌>>=◌}
 use Rattle.pit_model.specs.declared.limit.Bound.{Bound}
 use Rattle.pit_model.specs.declared.limit.Bound.TheVariants.{AtMost, AtLeast, Between}
 use Rattle.pit_model.specs.declared.limit.Limit.{Limit}
 use Rattle.mine_instance.specs.declared.coef.Coef.{Coef}
-use Rattle.minelib_text.specs.FieldValues.{◌>>=◌, all_by, decimal_in, whole_in}
+use Rattle.minelib_text.specs.FieldValues.{all_by, decimal_in, whole_in}
 use Rattle.minelib_text.specs.ModelLines.{values_of, coef_of, limit_of}
 use Rattle.minelib_text.specs.SpelledItems.{IsValuesLine, IsCoefLine, StatesBound, IsLimitLine}
 use Rattle.minelib_text.specs.declared.model_key.Problem.{Problem}

@@ -1,8 +1,9 @@
 -- The blocks that a block file states.
 use Rattle.std.specs.Prelude.{◌≡◌, ℕ, ◌*◌, ◌/◌, ◌^◌, ◌==◌, ◌&&◌, nat_lt, nat_le, not, Bool, true, false, List, [], ◌∷◌, ◌++◌, length, Option, Some, None, Result, Ok, Err, if◌then◌else◌, refl}
 use Rattle.std.proofs.lemmas.Bool.{and_parts, ltb-true, leb-true}
+use Rattle.pit_model.specs.Steps.{◌>>=◌}
 use Rattle.pit_model.specs.declared.block.Block.{Block}
-use Rattle.minelib_text.specs.FieldValues.{◌>>=◌, first_by, size_in, whole_in}
+use Rattle.minelib_text.specs.FieldValues.{first_by, size_in, whole_in}
 use Rattle.minelib_text.specs.Reading.{read_lines}
 use Rattle.minelib_text.specs.TextLines.{fields_of, lines_in}
 use Rattle.minelib_text.specs.declared.text_fault.LineFault.{LineFault}

@@ -1,13 +1,13 @@
 -- Which instance MineLib texts denote, and which constrained pit limit problem its text.
 use Rattle.std.specs.Prelude.{◌≡◌, ℕ, List, length, map, pos, Result, Ok}
 use Rattle.std.specs.List.{flat_map}
+use Rattle.pit_model.specs.Steps.{◌>>=◌}
 use Rattle.pit_model.specs.declared.block.Block.{Block}
 use Rattle.mine_instance.specs.Cpit.{CpitParts, cpit_of}
 use Rattle.mine_instance.specs.OfCpit.{without_destination}
 use Rattle.mine_instance.specs.OfModel.{instance_with}
 use Rattle.mine_instance.specs.declared.instance.Instance.{Instance}
 use Rattle.minelib_text.specs.BlockLines.{blocks_in}
-use Rattle.minelib_text.specs.FieldValues.{◌>>=◌}
 use Rattle.minelib_text.specs.ModelLines.{ModelDraft, count_in, model_in}
 use Rattle.minelib_text.specs.PrecLines.{preds_in}
 use Rattle.minelib_text.specs.Reading.{in_file}

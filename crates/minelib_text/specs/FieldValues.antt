@@ -4,15 +4,10 @@ use Rattle.std.specs.Borrow.{Bor}
 use Rattle.pit_units.specs.Decimal.{decimal_of}
 use Rattle.pit_units.specs.declared.fault.DecFault.{DecFault}
 use Rattle.pit_units.specs.declared.fault.DecFault.TheVariants as number_fault
+use Rattle.pit_model.specs.Steps.{◌>>=◌}
 use Rattle.minelib_text.specs.TextLines.{fields_of}
 use Rattle.minelib_text.specs.declared.text_fault.TextKind.{TextKind}
 use Rattle.minelib_text.specs.declared.text_fault.TextKind.TheVariants.{Fields, Number, TooFine, Range}
-
--- a step after one that found no fault
-infixl 10 ◌>>=◌
-abbrev pub ◌>>=◌ : {A B F : Type 0} → Result A F → (A → Result B F) → Result B F
-(Ok x) >>= next = next x
-(Err fault) >>= next = Err fault
 
 -- the fault of a number, as a line's
 abbrev pub kind_of : DecFault → TextKind

@@ -1,16 +1,17 @@
 -- The first line that spells nothing behind those before it; and what lines and fields are made of.
 use Rattle.std.specs.Prelude.{◌≡◌, ◌≢◌, ℕ, ◌≤◌, false, true, List, ◌∷◌, ◌++◌, length, All}
 use Rattle.pit_model.specs.Cells.{is_blank}
-use Rattle.minelib_text.specs.LineDemands.{Demand, FailsFirst}
+use Rattle.pit_model.specs.Demands.{Demand, FailsFirst}
 use Rattle.minelib_text.specs.SpelledLines.{AreLines}
 use Rattle.minelib_text.specs.TextLines.{Line, lines_in, end_of}
 use Rattle.minelib_text.specs.declared.text_fault.LineFault.{LineFault}
+use Rattle.minelib_text.specs.declared.text_fault.TextKind.{TextKind}
 use Rattle.minelib_text.specs.declared.text_fault.TextKind.TheVariants.{Missing}
 
 -- the faulty line is the first that spells no item, and its kind that of the first thing asked of
 -- it that does not hold; rules say how a line spells the item of a number, and what is asked of it
 pub record IsFirstBad {A : Type 0} (Spells : ℕ → List ℕ → A → Type 0)
-    (asked : ℕ → List ℕ → List Demand) (lines : List Line) (fault : LineFault) : Type 0 where
+    (asked : ℕ → List ℕ → List (Demand TextKind)) (lines : List Line) (fault : LineFault) : Type 0 where
   pub before : List Line
   pub bad : Line
   pub behind : List Line

@@ -2,6 +2,7 @@
 -- with the kind of fault where it is not so: the table of kinds, in its own words.
 use Rattle.std.specs.Prelude.{◌≡◌, ℕ, ◌*◌, ◌^◌, ◌≤◌, List, [], ◌∷◌, ◌++◌, length, drop, slice_index_or, ◌⊎◌}
 use Rattle.std.specs.List.{AllZip}
+use Rattle.pit_model.specs.Demands.{Demand, demand}
 use Rattle.pit_model.specs.PlanDemands.{IsDecimal, IsFine}
 use Rattle.mine_instance.specs.Valid.{ArePredsOf}
 use Rattle.minelib_text.specs.SpelledFields.{StatesWhole, StatesSize}
@@ -9,39 +10,21 @@ use Rattle.minelib_text.specs.declared.text_fault.TextKind.{TextKind}
 use Rattle.minelib_text.specs.declared.text_fault.TextKind.TheVariants.{Fields, Number, TooFine, Range, Order, Count, Twice}
 use Rattle.pit_model.specs.declared.ranges.TheConstants.{GRID_CELLS, MAX_BLOCKS, MAX_GRADE, MAX_KG, MAX_ZONES}
 
--- something that has to hold, and the kind of fault where it does not
-pub record Demand : Type 1 where
-  pub kind : TextKind
-  pub met : Type 0
-
-abbrev pub demand : TextKind → Type 0 → List Demand
-demand kind met = record { kind = kind; met = met } ∷ []
-
--- all of it holds
-abbrev pub AreMet : List Demand → Type 0
-AreMet [] = Unit {0}
-AreMet (d ∷ demands) = d.met × AreMet demands
-
--- the first that does not hold is of this kind
-abbrev pub FailsFirst : List Demand → TextKind → Type 0
-FailsFirst [] kind = ⊥
-FailsFirst (d ∷ demands) kind = (¬ d.met × (kind ≡ d.kind)) ⊎ (d.met × FailsFirst demands kind)
-
 -- a decimal with so many decimals, in its range
-abbrev pub number : ℕ → List ℕ → Type 0 → List Demand
+abbrev pub number : ℕ → List ℕ → Type 0 → List (Demand TextKind)
 number decimals field within = demand Number (IsDecimal field)
     ++ demand TooFine (IsFine decimals field) ++ demand Range within
 
 -- a whole number below a limit
-abbrev pub whole : ℕ → List ℕ → List Demand
+abbrev pub whole : ℕ → List ℕ → List (Demand TextKind)
 whole limit field = number 0 field ((n : ℕ) × StatesWhole limit field n)
 
 -- so many millionths, from 0 to the most, with so many decimals
-abbrev pub size : ℕ → ℕ → List ℕ → List Demand
+abbrev pub size : ℕ → ℕ → List ℕ → List (Demand TextKind)
 size decimals most field = number decimals field ((m : ℕ) × StatesSize decimals most field m)
 
 -- whole numbers below a limit
-abbrev pub wholes : ℕ → List (List ℕ) → List Demand
+abbrev pub wholes : ℕ → List (List ℕ) → List (Demand TextKind)
 wholes limit [] = []
 wholes limit (field ∷ fields) = whole limit field ++ wholes limit fields
 
@@ -50,7 +33,7 @@ abbrev pub field_at : List (List ℕ) → ℕ → List ℕ
 field_at fields k = slice_index_or fields k []
 
 -- `id x y z tonnes grade zone`, behind so many blocks
-abbrev pub asked_of_block : ℕ → List (List ℕ) → List Demand
+abbrev pub asked_of_block : ℕ → List (List ℕ) → List (Demand TextKind)
 asked_of_block before fields =
     demand Fields (length fields ≡ 7) ++ whole MAX_BLOCKS (field_at fields 0)
     ++ whole GRID_CELLS (field_at fields 1) ++ whole GRID_CELLS (field_at fields 2)
@@ -59,7 +42,7 @@ asked_of_block before fields =
     ++ demand Order (StatesWhole MAX_BLOCKS (field_at fields 0) before)
 
 -- `id k p1 .. pk` of n blocks: those of this block
-abbrev pub asked_of_preds : ℕ → ℕ → List (List ℕ) → List Demand
+abbrev pub asked_of_preds : ℕ → ℕ → List (List ℕ) → List (Demand TextKind)
 asked_of_preds n own fields =
     demand Fields (2 ≤ length fields) ++ whole n (field_at fields 0)
     ++ whole n (field_at fields 1) ++ wholes n (drop 2 fields)

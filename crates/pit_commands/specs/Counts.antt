@@ -2,8 +2,8 @@
 use Rattle.std.specs.Prelude.{◌≡◌, ℕ, List, [], ◌∷◌, ◌++◌, Vec, length, sum_by, codes, Option, None, Some, Result, Ok}
 use Rattle.std.specs.Fmt.{decimal}
 use Rattle.std.specs.declared.alloc.Global.{Global}
+use Rattle.pit_model.specs.Steps.{◌>>=◌}
 use Rattle.minelib_text.specs.Denotes.{cpit_denoted, denoted}
-use Rattle.minelib_text.specs.FieldValues.{◌>>=◌}
 use Rattle.minelib_text.specs.declared.text_fault.TextFault.{TextFault}
 use Rattle.mine_instance.specs.declared.instance.Instance.{Instance}
 use Rattle.pit_commands.specs.declared.counts.Counts.{Counts}

@@ -1,7 +1,9 @@
--- What holds of demands, one behind the other.
-use Rattle.std.specs.Prelude.{◌≡◌, List, [], ◌∷◌, ◌++◌}
-use Rattle.std.proofs.Common.{sym, ◌∙◌, inl, inr}
-use Rattle.pit_model.specs.Demands.{Demand, AreMet, FailsFirst}
+-- What holds of demands, one behind the other, and of steps that follow what is asked: where a step answers, all of it holds, and a fault
+-- is the first that does not.
+use Rattle.std.specs.Prelude.{◌≡◌, Bool, true, false, List, [], ◌∷◌, ◌++◌, Result, Ok, Err, if◌then◌else◌}
+use Rattle.std.proofs.Common.{refl, sym, ◌∙◌, inl, inr}
+use Rattle.pit_model.specs.Demands.{Demand, demand, AreMet, FailsFirst}
+use Rattle.pit_model.specs.Steps.{◌>>=◌}
 
 pub fails_before : {K : Type 0} (ds es : List (Demand K)) (kind : K) → FailsFirst ds kind → FailsFirst (ds ++ es) kind
 fails_before [] es kind h = absurd h
@@ -28,3 +30,41 @@ pub none_fails : {K : Type 0} (ds : List (Demand K)) (k : K) → AreMet ds → F
 none_fails [] k met h = h
 none_fails (d ∷ ds) k met (inl h) = h.0 met.0
 none_fails (d ∷ ds) k met (inr h) = none_fails ds k met.1 h.1
+
+-- what is asked holds and the answer keeps P; or the fault is the first that does not hold
+abbrev pub Follows : {A K : Type 0} → Result A K → List (Demand K) → (A → Type 0) → Type 0
+Follows (Ok x) demands P = AreMet demands × P x
+Follows (Err kind) demands P = FailsFirst demands kind
+
+pub behind : {B K : Type 0} (r : Result B K) (ds es : List (Demand K)) (Q : B → Type 0) → AreMet ds → Follows r es Q → Follows r (ds ++ es) Q
+behind (Ok x) ds es Q met h = (both_met ds es met h.0, h.1)
+behind (Err kind) ds es Q met h = fails_behind ds es kind met h
+
+-- one step and then the next
+pub bound : {A B K : Type 0} (r : Result A K) (f : A → Result B K) (ds es : List (Demand K)) (P : A → Type 0) (Q : B → Type 0)
+    → Follows r ds P → ((x : A) → P x → Follows (f x) es Q) → Follows (r >>= f) (ds ++ es) Q
+bound (Ok x) f ds es P Q here next = behind (f x) ds es Q here.0 (next x here.1)
+bound (Err kind) f ds es P Q here next = fails_before ds es kind here
+
+-- an answer changed keeps what it then keeps
+pub mapped : {A B K : Type 0} (r : Result A K) (g : A → B) (ds : List (Demand K)) (P : A → Type 0) (Q : B → Type 0)
+    → Follows r ds P → ((x : A) → P x → Q (g x)) → Follows (r >>= λ x. Ok (g x)) ds Q
+mapped (Ok x) g ds P Q here next = (here.0, next x here.1)
+mapped (Err kind) g ds P Q here next = here
+
+-- the same answer keeps what follows from what it keeps
+pub weaker : {A K : Type 0} (r : Result A K) (ds : List (Demand K)) (P Q : A → Type 0) → ((x : A) → P x → Q x) → Follows r ds P → Follows r ds Q
+weaker (Ok x) ds P Q to h = (h.0, to x h.1)
+weaker (Err kind) ds P Q to h = h
+
+-- a test, and then the rest
+pub guarded : {B K : Type 0} (t : Bool) (kind : K) (met : Type 0) (r : Result B K) (es : List (Demand K)) (Q : B → Type 0)
+    → (t ≡ true → ¬ met) → (t ≡ false → met × Follows r es Q) → Follows (if t then Err kind else r) (demand kind met ++ es) Q
+guarded true kind met r es Q refuted kept = inl (refuted refl, refl)
+guarded false kind met r es Q refuted kept = let h = kept refl in behind r (demand kind met) es Q (h.0, tt) h.1
+
+-- a test at the end
+pub last_guarded : {B K : Type 0} (t : Bool) (kind : K) (met : Type 0) (x : B) (Q : B → Type 0)
+    → (t ≡ true → ¬ met) → (t ≡ false → met × Q x) → Follows (if t then Err kind else Ok x) (demand kind met) Q
+last_guarded true kind met x Q refuted kept = inl (refuted refl, refl)
+last_guarded false kind met x Q refuted kept = let h = kept refl in ((h.0, tt), h.1)

@@ -7,6 +7,8 @@ use Rattle.std.proofs.lemmas.List.Sorted.{IsPermutation-refl}
 use Rattle.std.proofs.lemmas.Bool.{and_parts}
 use Rattle.std.specs.List.{AllZip, list_any}
 use Rattle.std.specs.List.Sorted.{IsPermutation}
+use Rattle.pit_model.proofs.DemandFacts.{Follows, behind, bound, mapped, guarded, last_guarded, weaker}
+use Rattle.pit_model.specs.Steps.{◌>>=◌}
 use Rattle.pit_model.specs.Demands.{AreMet, Demand, demand, FailsFirst}
 use Rattle.pit_model.specs.Bands.{starts_rise, AreBands, IsBand}
 use Rattle.pit_model.specs.Cells.{cell_at}
@@ -14,7 +16,7 @@ use Rattle.pit_model.specs.Name.{is_name}
 use Rattle.pit_model.specs.Plan.{IsGrid, IsAxis, IsSlope, IsCone, IsRuled, IsBound, AreCovers, RiseStrictly, has_repeat}
 use Rattle.pit_model.specs.PlanDemands.{asked, width, a_name, an_origin, a_size, a_slope, zone_cells, band_cells, covered_cells, is_interval, a_period, limit_cells, limit_order, leach_end, resource_end, limit_end, tonnes, whole, number, new_destination, room_for_destination}
 use Rattle.pit_model.specs.PlanPart.{Part, TheName, TheGrid, AZone, ADestination, ThePeriods, TheRate, AResource, ALimit, Stated, with_part, SpellPart, SpellAxis, SpellSlope, SpellCone, SpellBands, SpellBound, StandsWhole, NamesDestination, NamesResource, destination}
-use Rattle.pit_model.specs.Planned.{Draft, blank_draft, ◌>>=◌, name_in, is_taken, with_zone, slope_in, with_formula, band_in, bands_in, with_leach, cone_in, equal_zone_in, sided_zone_in, axis, admit_name, admit_grid, admit_zone, admit_mill, admit_leach, admit_dump, admit_periods, admit_rate, admit_resource, admit_limit, origin_in, size_in, whole_in, number_in}
+use Rattle.pit_model.specs.Planned.{Draft, blank_draft, name_in, is_taken, with_zone, slope_in, with_formula, band_in, bands_in, with_leach, cone_in, equal_zone_in, sided_zone_in, axis, admit_name, admit_grid, admit_zone, admit_mill, admit_leach, admit_dump, admit_periods, admit_rate, admit_resource, admit_limit, origin_in, size_in, whole_in, number_in}
 use Rattle.pit_model.specs.declared.cone.Cone.{Cone}
 use Rattle.pit_model.specs.declared.cone.Slope.{Slope}
 use Rattle.pit_model.specs.declared.formula.Formula.{Formula}
@@ -28,7 +30,7 @@ use Rattle.pit_model.specs.declared.plan_key.PlanKey.{PlanKey}
 use Rattle.pit_model.specs.declared.plan_key.PlanKey.TheVariants as key
 use Rattle.pit_model.specs.declared.resource.Resource.{Resource}
 use Rattle.pit_model.proofs.PlanNames.{Apart, apart_none, apart_more, any_named, none_named, found, not_found}
-use Rattle.pit_model.proofs.PlanTold.{Follows, behind, bound, mapped, guarded, last_guarded, number_told, whole_told, origin_told, size_told}
+use Rattle.pit_model.proofs.PlanTold.{number_told, whole_told, origin_told, size_told}
 use Rattle.std.proofs.Common.{length-drop, suc, zero, append-nil, append_assoc}
 use Rattle.std.proofs.lemmas.Int.{ints}
 use Rattle.std.proofs.lemmas.List.{length-map}
@@ -49,7 +51,7 @@ use Rattle.pit_model.specs.declared.plan_fault.PlanFaultKind.TheVariants.{Number
 use Rattle.pit_model.proofs.Limits.{inserted, All-with_limit, rises, bound_kept}
 use Rattle.pit_model.proofs.PlanDraft.{listed, stated_of, Keeps, Adds, width_then, named_then, once_told, other, room_told, destination_told, formula_told}
 use Rattle.pit_model.proofs.PlanNames.{bytes_same, same_bytes, bytes_other}
-use Rattle.pit_model.proofs.PlanTold.{one_number, one_whole, whole_from, weaker, read_number, reworded, le_true, true_le}
+use Rattle.pit_model.proofs.PlanTold.{one_number, one_whole, whole_from, read_number, reworded, le_true, true_le}
 
 pub periods_follows : (d : Draft) (ls : List Limit) (cells : List (List ℕ)) → Keeps d ls
     → Follows (admit_periods d cells) (asked (stated_of d ls) key.Periods cells) (Adds (stated_of d ls) key.Periods cells)

@@ -6,12 +6,13 @@ use Rattle.std.proofs.lemmas.List.Elements.{All-contains, Contains-append_cases,
 use Rattle.std.proofs.lemmas.List.Sorted.{Contains-permutation, IsPermutation-sym}
 use Rattle.std.specs.List.{Contains}
 use Rattle.std.specs.List.Sorted.{IsPermutation}
+use Rattle.pit_model.specs.Steps.{◌>>=◌}
 use Rattle.pit_model.specs.Demands.{AreMet, FailsFirst}
 use Rattle.pit_model.specs.Cells.{cell_at, cells_of, is_word}
 use Rattle.pit_model.specs.Plan.{PlanParts, IsPlan, RiseStrictly, stands_before, plan_of}
 use Rattle.pit_model.specs.PlanDemands.{asked}
 use Rattle.pit_model.specs.PlanPart.{Part, Stated, nothing_stated, with_part, word_of, BeginsWith, SpellPart}
-use Rattle.pit_model.specs.Planned.{Draft, blank_draft, ◌>>=◌, key_of, admit, admit_key, at_record, finished, plan_from, whole_plan}
+use Rattle.pit_model.specs.Planned.{Draft, blank_draft, key_of, admit, admit_key, at_record, finished, plan_from, whole_plan}
 use Rattle.pit_model.specs.SpelledPlan.{IsRecordOf, AllSpelled, ArePartsOf, SpellPlan, IsFaulty, IsRefused, Lacks, IsLacking}
 use Rattle.pit_model.specs.declared.grid.Grid.{Grid}
 use Rattle.pit_model.specs.declared.limit.Limit.{Limit}
@@ -23,8 +24,7 @@ use Rattle.pit_model.specs.declared.plan_key.PlanKey.TheVariants as key
 use Rattle.pit_model.proofs.PlanDraft.{listed, stated_of, Keeps, blank_keeps, Adds, name_follows, grid_follows, zone_follows, mill_follows, dump_follows}
 use Rattle.pit_model.proofs.PlanFollows.{periods_follows, rate_follows, leach_follows, resource_follows, limit_follows}
 use Rattle.pit_model.proofs.PlanKeys.{word_key, key_word, one_key, one_part}
-use Rattle.pit_model.proofs.PlanTold.{Follows}
-use Rattle.pit_model.proofs.DemandFacts.{one_kind, none_fails}
+use Rattle.pit_model.proofs.DemandFacts.{one_kind, none_fails, Follows}
 
 keyed : (d : Draft) (ls : List Limit) (k : PlanKey) (cells : List (List ℕ)) → Keeps d ls
     → Follows (admit_key d (Some k) cells) (asked (stated_of d ls) k cells) (Adds (stated_of d ls) k cells)

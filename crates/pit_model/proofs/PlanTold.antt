@@ -8,51 +8,14 @@ use Rattle.pit_units.proofs.Standing.{number_parts, read_stands, stands_read, sp
 use Rattle.pit_units.specs.Decimal.{StandsFor, IsSpelled, decimal_of, is_number, all_zeros, fraction_of, whole_of, size_of, signed}
 use Rattle.pit_units.specs.declared.fault.DecFault.{DecFault}
 use Rattle.pit_units.specs.declared.fault.DecFault.TheVariants as dec
-use Rattle.pit_model.proofs.DemandFacts.{fails_before, fails_behind, both_met}
+use Rattle.pit_model.specs.Steps.{◌>>=◌}
+use Rattle.pit_model.proofs.DemandFacts.{Follows, behind, bound, mapped, weaker, guarded, fails_before}
 use Rattle.pit_model.specs.Demands.{AreMet, Demand, demand, FailsFirst}
-use Rattle.pit_model.specs.Planned.{◌>>=◌, kind_of, stated, number_in, whole_in, origin_in, size_in}
+use Rattle.pit_model.specs.Planned.{kind_of, stated, number_in, whole_in, origin_in, size_in}
 use Rattle.pit_model.specs.PlanDemands.{IsDecimal, IsFine, IsWithin, number, whole, metres}
 use Rattle.pit_model.specs.PlanPart.{StandsWhole, StandsMetres}
 use Rattle.pit_model.specs.declared.plan_fault.PlanFaultKind.{PlanFaultKind}
 use Rattle.pit_model.specs.declared.plan_fault.PlanFaultKind.TheVariants.{Number, TooFine, Range}
-
--- what is asked holds and the answer keeps P; or the fault is the first that does not hold
-abbrev pub Follows : {A : Type 0} → Result A PlanFaultKind → List (Demand PlanFaultKind) → (A → Type 0) → Type 0
-Follows (Ok x) demands P = AreMet demands × P x
-Follows (Err kind) demands P = FailsFirst demands kind
-
-pub behind : {B : Type 0} (r : Result B PlanFaultKind) (ds es : List (Demand PlanFaultKind)) (Q : B → Type 0) → AreMet ds → Follows r es Q → Follows r (ds ++ es) Q
-behind (Ok x) ds es Q met h = (both_met ds es met h.0, h.1)
-behind (Err kind) ds es Q met h = fails_behind ds es kind met h
-
--- one step and then the next
-pub bound : {A B : Type 0} (r : Result A PlanFaultKind) (f : A → Result B PlanFaultKind) (ds es : List (Demand PlanFaultKind)) (P : A → Type 0) (Q : B → Type 0)
-    → Follows r ds P → ((x : A) → P x → Follows (f x) es Q) → Follows (r >>= f) (ds ++ es) Q
-bound (Ok x) f ds es P Q here next = behind (f x) ds es Q here.0 (next x here.1)
-bound (Err kind) f ds es P Q here next = fails_before ds es kind here
-
--- an answer changed keeps what it then keeps
-pub mapped : {A B : Type 0} (r : Result A PlanFaultKind) (g : A → B) (ds : List (Demand PlanFaultKind)) (P : A → Type 0) (Q : B → Type 0)
-    → Follows r ds P → ((x : A) → P x → Q (g x)) → Follows (r >>= λ x. Ok (g x)) ds Q
-mapped (Ok x) g ds P Q here next = (here.0, next x here.1)
-mapped (Err kind) g ds P Q here next = here
-
--- the same answer keeps what follows from what it keeps
-pub weaker : {A : Type 0} (r : Result A PlanFaultKind) (ds : List (Demand PlanFaultKind)) (P Q : A → Type 0) → ((x : A) → P x → Q x) → Follows r ds P → Follows r ds Q
-weaker (Ok x) ds P Q to h = (h.0, to x h.1)
-weaker (Err kind) ds P Q to h = h
-
--- a test, and then the rest
-pub guarded : {B : Type 0} (t : Bool) (kind : PlanFaultKind) (met : Type 0) (r : Result B PlanFaultKind) (es : List (Demand PlanFaultKind)) (Q : B → Type 0)
-    → (t ≡ true → ¬ met) → (t ≡ false → met × Follows r es Q) → Follows (if t then Err kind else r) (demand kind met ++ es) Q
-guarded true kind met r es Q refuted kept = inl (refuted refl, refl)
-guarded false kind met r es Q refuted kept = let h = kept refl in behind r (demand kind met) es Q (h.0, tt) h.1
-
--- a test at the end
-pub last_guarded : {B : Type 0} (t : Bool) (kind : PlanFaultKind) (met : Type 0) (x : B) (Q : B → Type 0)
-    → (t ≡ true → ¬ met) → (t ≡ false → met × Q x) → Follows (if t then Err kind else Ok x) (demand kind met) Q
-last_guarded true kind met x Q refuted kept = inl (refuted refl, refl)
-last_guarded false kind met x Q refuted kept = let h = kept refl in ((h.0, tt), h.1)
 
 -- a text stands for one number
 pub one_number : (decimals : ℕ) (cell : List ℕ) (m n : ℤ) → decimals ≤ 6 → StandsFor decimals cell m → StandsFor decimals cell n → m ≡ n

@@ -18,4 +18,5 @@ pub mod Records
 pub mod RecordsAhead
 pub mod Ruled
 pub mod SpelledPlan
+pub mod Steps
 pub mod Worth

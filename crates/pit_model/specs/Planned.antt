@@ -11,6 +11,7 @@ use Rattle.pit_model.specs.Cells.{cells_of, cell_at, is_word}
 use Rattle.pit_model.specs.Name.{is_name}
 use Rattle.pit_model.specs.Plan.{PlanParts, plan_of, stands_before, has_repeat}
 use Rattle.pit_model.specs.Records.{records_of}
+use Rattle.pit_model.specs.Steps.{◌>>=◌}
 use Rattle.pit_model.specs.declared.band.Band.{Band}
 use Rattle.pit_model.specs.declared.cone.Cone.{Cone}
 use Rattle.pit_model.specs.declared.cone.Slope.{Slope}
@@ -29,12 +30,6 @@ use Rattle.pit_model.specs.declared.plan_key.PlanKey.{PlanKey}
 use Rattle.pit_model.specs.declared.plan_key.PlanKey.TheVariants as key
 use Rattle.pit_model.specs.declared.resource.Resource.{Resource}
 use Rattle.pit_model.specs.declared.ranges.TheConstants.{MAX_BANDS, MAX_BENCHES, MAX_COST, MAX_DESTINATIONS, MAX_GRADE, MAX_ORIGIN, MAX_PERIODS, MAX_PLAN_RECORDS, MAX_PRICE, MAX_RATE, MAX_RECOVERY, MAX_RESOURCES, MAX_SIZE, MAX_SLOPE, MAX_TONNES, MAX_ZONES, MIN_ORIGIN}
-
--- a step after one that found no fault
-infixl 10 ◌>>=◌
-abbrev pub ◌>>=◌ : {A B F : Type 0} → Result A F → (A → Result B F) → Result B F
-(Ok x) >>= next = next x
-(Err fault) >>= next = Err fault
 
 -- what the records so far say
 pub record Draft : Type 0 where

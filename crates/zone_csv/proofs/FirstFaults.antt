@@ -5,6 +5,8 @@ use Rattle.std.proofs.Math.Nat.{mul-div_left, div-lt_iff_lt-mul}
 use Rattle.std.proofs.lemmas.Int.{ints}
 use Rattle.std.proofs.lemmas.Nat.{div-add-mod'}
 use Rattle.pit_model.specs.Cells.{trimmed, is_word}
+use Rattle.pit_model.proofs.DemandFacts.{fails_before, fails_behind, both_met}
+use Rattle.pit_model.specs.Demands.{Demand, AreMet, FailsFirst}
 use Rattle.pit_model.specs.PlanDemands.{IsDecimal, IsFine, IsWithin}
 use Rattle.pit_model.specs.Records.{records_of}
 use Rattle.pit_model.specs.declared.block.Block.{Block}
@@ -22,7 +24,7 @@ use Rattle.zone_csv.specs.Cell.{Index, cell_at, meaning_of, index_if, index_abov
 use Rattle.zone_csv.specs.Faults.{at, all_five}
 use Rattle.zone_csv.specs.Header.{places_of, only_place, place_of, columns_of}
 use Rattle.zone_csv.specs.Row.{zone_of, block, block_of, row_of}
-use Rattle.zone_csv.specs.RowDemands.{Demand, demand, AreMet, FailsFirst, IsNamed, a_column, asked_of_header, a_decimal, IsInGrid, a_coordinate, some_tonnes, a_grade, asked_of_row, IsFaultOfHeader, IsFaultOfRow}
+use Rattle.zone_csv.specs.RowDemands.{Told, told_by, demand, IsNamed, a_column, asked_of_header, a_decimal, IsInGrid, a_coordinate, some_tonnes, a_grade, asked_of_row, IsFaultOfHeader, IsFaultOfRow}
 use Rattle.zone_csv.specs.SpelledZone.{SpellIndex, SpellBlocks}
 use Rattle.zone_csv.specs.Zone.{rows_say, below_header, records_say, first_fault, fault_of}
 use Rattle.zone_csv.specs.declared.columns.Columns.{Columns}
@@ -33,31 +35,18 @@ use Rattle.zone_csv.specs.declared.row_fault.RowFaultKind.{RowFaultKind}
 use Rattle.zone_csv.specs.declared.row_fault.RowFaultKind.TheVariants.{MissingColumn, Width, Range, OffGrid, TooManyRows}
 
 -- all that is asked holds; or the fault is that of the first that does not
-abbrev Follows : {A : Type 0} → Result A RowFault → List Demand → Type 0
+abbrev Follows : {A : Type 0} → Result A RowFault → List (Demand Told) → Type 0
 Follows (Ok value) demands = AreMet demands
-Follows (Err fault) demands = FailsFirst demands fault
+Follows (Err fault) demands = FailsFirst demands (told_by fault)
 
-fails_before : (ds es : List Demand) (fault : RowFault) → FailsFirst ds fault → FailsFirst (ds ++ es) fault
-fails_before [] es fault h = absurd h
-fails_before (d ∷ ds) es fault (inl h) = inl h
-fails_before (d ∷ ds) es fault (inr h) = inr (h.0, fails_before ds es fault h.1)
-
-fails_behind : (ds es : List Demand) (fault : RowFault) → AreMet ds → FailsFirst es fault → FailsFirst (ds ++ es) fault
-fails_behind [] es fault met h = h
-fails_behind (d ∷ ds) es fault met h = inr (met.0, fails_behind ds es fault met.1 h)
-
-both_met : (ds es : List Demand) → AreMet ds → AreMet es → AreMet (ds ++ es)
-both_met [] es met more = more
-both_met (d ∷ ds) es met more = (met.0, both_met ds es met.1 more)
-
-behind : {A : Type 0} (r : Result A RowFault) (ds es : List Demand) → AreMet ds → Follows r es → Follows r (ds ++ es)
+behind : {A : Type 0} (r : Result A RowFault) (ds es : List (Demand Told)) → AreMet ds → Follows r es → Follows r (ds ++ es)
 behind (Ok value) ds es met h = both_met ds es met h
 behind (Err fault) ds es met h = fails_behind ds es fault met h
 
 -- five answers, one after another
 five : {A B C D E F : Type 0} (make : A → B → C → D → E → F)
     (a : Result A RowFault) (b : Result B RowFault) (c : Result C RowFault) (d : Result D RowFault) (e : Result E RowFault)
-    (of_a of_b of_c of_d of_e : List Demand)
+    (of_a of_b of_c of_d of_e : List (Demand Told))
     → Follows a of_a → Follows b of_b → Follows c of_c → Follows d of_d → Follows e of_e
     → Follows (all_five make a b c d e) (of_a ++ (of_b ++ (of_c ++ (of_d ++ of_e))))
 five make (Err f) b c d e of_a of_b of_c of_d of_e in_a in_b in_c in_d in_e = fails_before of_a _ f in_a
@@ -87,7 +76,7 @@ column_follows : (place : Column) (name : List ℕ) (no_name : is_word [] name �
 column_follows place name no_name header = by (places_of name header 0) refl
   where
     by : (places : List ℕ) → places_of name header 0 ≡ places → Follows (at 1 place (only_place places)) (a_column place name header)
-    by [] e = inl ((λ h. none_at name no_name header 0 e h.0 h.1), refl, refl)
+    by [] e = inl ((λ h. none_at name no_name header 0 e h.0 h.1), refl)
     by (p ∷ []) e =
         let named = place_named name no_name header p (ap only_place e) in
         ((p, named.0), ((λ q r is_q is_r. named.1 q is_q ∙ sym (named.1 r is_r)), tt))
@@ -95,7 +84,7 @@ column_follows place name no_name header = by (places_of name header 0) refl
         let there = some_there name header 0 p (second ∷ more) e in
         let never : ¬ ((q r : ℕ) → IsNamed header name q → IsNamed header name r → q ≡ r) = λ only.
         absurd (cc (e, one_place name no_name header 0 there.0 (there.1, λ r is. only r there.0 is there.1))) in
-        inr (there, inl (never, refl, refl))
+        inr (there, inl (never, refl))
 
 pub header_follows : (header : List (List ℕ)) → Follows (columns_of header) (asked_of_header header)
 unfolding columns_of
@@ -140,7 +129,7 @@ out_of_range_fine decimals cell e =
 
 -- a decimal, its range, and what is asked behind it
 cell_follows : {A : Type 0} (place : Column) (number decimals : ℕ) (cell : List ℕ) (meaning : ℤ → Result A RowFaultKind) (met : Type 0)
-    (more : List Demand) → decimals ≤ 6 → (met → (m : ℤ) × StandsFor decimals cell m)
+    (more : List (Demand Told)) → decimals ≤ 6 → (met → (m : ℤ) × StandsFor decimals cell m)
     → ((m : ℤ) → StandsFor decimals cell m → Follows (at number place (meaning m)) (demand place Range met ++ more))
     → Follows (at number place (meaning_of meaning (decimal_of decimals cell))) (a_decimal place decimals cell ++ demand place Range met ++ more)
 cell_follows place number decimals cell meaning met more few there next = by (decimal_of decimals cell) refl
@@ -151,13 +140,13 @@ cell_follows place number decimals cell meaning met more few there next = by (de
         let s = read_stands decimals cell m few e in
         behind (at number place (meaning m)) (a_decimal place decimals cell) (demand place Range met ++ more)
         ((s.sign, s.whole, s.tail, s.fraction, s.spelled), ((s.sign, s.whole, s.tail, s.fraction, s.spelled, s.fine), tt)) (next m s)
-    by (Err decimal.Number) e = inl ((λ d. spelled_number decimals cell d.0 d.1 d.2 d.3 d.4 e), refl, refl)
+    by (Err decimal.Number) e = inl ((λ d. spelled_number decimals cell d.0 d.1 d.2 d.3 d.4 e), refl)
     by (Err decimal.TooFine) e =
-        inr (too_fine_decimal decimals cell e, inl ((λ f. (spelled_too_fine decimals cell f.0 f.1 f.2 f.3 f.4).0 e f.5), refl, refl))
+        inr (too_fine_decimal decimals cell e, inl ((λ f. (spelled_too_fine decimals cell f.0 f.1 f.2 f.3 f.4).0 e f.5), refl))
     by (Err decimal.Range) e =
         let f = out_of_range_fine decimals cell e in
         let never : ¬ met = λ h. let t = there h in absurd (cc (sym e ∙ stands_read decimals cell t.0 few t.1)) in
-        inr ((f.0, f.1, f.2, f.3, f.4), inr (f, inl (never, refl, refl)))
+        inr ((f.0, f.1, f.2, f.3, f.4), inr (f, inl (never, refl)))
 
 module _ (place : Column) (number : ℕ) (axis : Axis) (cell : List ℕ) (some : 0 < axis.size) where
   abbrev InGrid : Type 0
@@ -208,7 +197,7 @@ module _ (place : Column) (number : ℕ) (axis : Axis) (cell : List ℕ) (some :
           let product : k / size * size ≡ c.0 * size = ap (λ n. n * size) count in
           let none : k % size ≡ 0 = omega (arith, sum, all, product) in
           absurd (cc (sym rest ∙ eq-eqb (k % size) 0 none)) in
-          inr (in_grid, inl (never, refl, refl))
+          inr (in_grid, inl (never, refl))
 
   below_or_not : (m : ℤ) → StandsFor 3 cell m → (k : ℕ) → (m -ℤ (pos 1000 *ℤ axis.origin)) ≡ pos k
       → (below : Bool) (is : nat_lt (k / size) 10000 ≡ below) → Placed (index_if (k / size) (k % size) below is)
@@ -220,13 +209,13 @@ module _ (place : Column) (number : ℕ) (axis : Axis) (cell : List ℕ) (some :
       let few : k / size < 10000 = (div-lt_iff_lt-mul {k = size} {x = k} {y = 10000} (omega arith)).1 small in
       let many : 10000 ≤ k / size = ltb-false (k / size) 10000 is in
       absurd (omega (arith, few, many)) in
-      inl (never, refl, refl)
+      inl (never, refl)
 
   placed : (m : ℤ) → StandsFor 3 cell m → (above : ℤ) → (m -ℤ (pos 1000 *ℤ axis.origin)) ≡ above → Placed (index_above size above)
   placed m stands (pos k) e = below_or_not m stands k e (nat_lt (k / size) 10000) refl
   placed m stands (negsuc k) e =
       let never : ¬ InGrid = λ h. let g = in_grid_is m stands h in absurd (omega (arith, ints, e, g.0)) in
-      inl (never, refl, refl)
+      inl (never, refl)
 
   index_follows : Follows (at number place (index_of axis cell)) (a_coordinate place axis cell)
   unfolding index_of
@@ -258,7 +247,7 @@ tonnes_follow number cell =
         let small : n ≤ 10 ^ 9 * 1000 = omega (arith, ints, w.1) in
         let most : n / 1000 ≤ 10 ^ 9 = omega (arith, small) in
         absurd (cc (is, le-leb (n / 1000) (10 ^ 9) most)) in
-        inl (never, refl, refl)
+        inl (never, refl)
 
     weighed : (m : ℤ) → StandsFor 3 cell m
         → Follows (at number column.Tonnes (kilograms_at m)) (demand column.Tonnes Range (IsWithin 3 (pos 0) (pos (10 ^ 9 * 1000)) cell))
@@ -266,7 +255,7 @@ tonnes_follow number cell =
     weighed (negsuc n) stands =
         let never : ¬ (IsWithin 3 (pos 0) (pos (10 ^ 9 * 1000)) cell) = λ h.
         let w = within_is 3 (10 ^ 9 * 1000) cell (negsuc n) (omega arith) stands h in absurd (omega (arith, ints, w.0)) in
-        inl (never, refl, refl)
+        inl (never, refl)
 
 grade_follows : (number : ℕ) (cell : List ℕ) → Follows (at number column.Grade (grade_of cell)) (a_grade cell)
 unfolding grade_of
@@ -283,7 +272,7 @@ grade_follows number cell =
         let w = within_is 6 (10 ^ 12) cell (pos n) (omega arith) stands h in
         let most : n ≤ 10 ^ 12 = omega (arith, ints, w.1) in
         absurd (cc (is, le-leb n (10 ^ 12) most)) in
-        inl (never, refl, refl)
+        inl (never, refl)
 
     graded : (m : ℤ) → StandsFor 6 cell m
         → Follows (at number column.Grade (grade_at m)) (demand column.Grade Range (IsWithin 6 (pos 0) (pos (10 ^ 12)) cell))
@@ -291,14 +280,14 @@ grade_follows number cell =
     graded (negsuc n) stands =
         let never : ¬ (IsWithin 6 (pos 0) (pos (10 ^ 12)) cell) = λ h.
         let w = within_is 6 (10 ^ 12) cell (negsuc n) (omega arith) stands h in absurd (omega (arith, ints, w.0)) in
-        inl (never, refl, refl)
+        inl (never, refl)
 
 module _ (grid : Grid) (zone : ℕ) (sx : 0 < grid.x.size) (sy : 0 < grid.y.size) (sz : 0 < grid.z.size) (small : zone < 64) where
   cells_follow : (columns : Columns) (number : ℕ) (cells : List (List ℕ)) (same : Bool) → (length cells == columns.width) ≡ same
       → Follows (if not same then at number column.Whole (Err Width) else block_of grid zone columns number cells) (asked_of_row grid columns cells)
   cells_follow columns number cells false is =
       let never : ¬ (length cells ≡ columns.width) = λ wide. absurd (cc (sym is ∙ eq-eqb (length cells) columns.width wide)) in
-      inl (never, refl, refl)
+      inl (never, refl)
   cells_follow columns number cells true is =
       behind (block_of grid zone columns number cells) (demand column.Whole Width (length cells ≡ columns.width)) _
       (eqb-true (length cells) columns.width is, tt)
@@ -388,7 +377,7 @@ module _ (grid : Grid) (zone : ℕ) (sx : 0 < grid.x.size) (sy : 0 < grid.y.size
     where
       by : (many : Bool) → nat_lt 1000001 (2 + length first.before) ≡ many → (first.before ≡ []) ⊎ (2 + length first.before ≤ 1000002)
           → ((length first.before ≡ 1000000) × (fault.column ≡ column.Whole) × (fault.kind ≡ TooManyRows))
-          ⊎ ((length first.before < 1000000) × FailsFirst (asked_of_row grid columns first.row) fault)
+          ⊎ ((length first.before < 1000000) × FailsFirst (asked_of_row grid columns first.row) (told_by fault))
       by true many (inl none) = let m = ltb-true 1000001 (2 + length first.before) many in absurd (omega (arith, ap length none, m))
       by true many (inr few) =
           let m = ltb-true 1000001 (2 + length first.before) many in
@@ -404,7 +393,7 @@ module _ (grid : Grid) (zone : ℕ) (sx : 0 < grid.x.size) (sy : 0 < grid.y.size
       → IsFaultOfHeader records fault ⊎ IsFaultOfRow grid zone records fault
   of_records [] fault e =
       let same : record { row = 1; column = column.X; kind = MissingColumn } ≡ fault = cc in
-      inl (subst (IsFaultOfHeader []) same (refl, inl ((λ h. absurd cc), refl, refl)))
+      inl (subst (IsFaultOfHeader []) same (refl, inl ((λ h. absurd cc), refl)))
   of_records (header ∷ rows) fault e = by (columns_of header) refl e
     where
       by : (r : Result Columns RowFault) → columns_of header ≡ r → first_fault (below_header grid zone r rows) ≡ Some fault
