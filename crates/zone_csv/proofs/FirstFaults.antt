@@ -41,7 +41,7 @@ Follows (Err fault) demands = FailsFirst demands (told_by fault)
 
 behind : {A : Type 0} (r : Result A RowFault) (ds es : List (Demand Told)) → AreMet ds → Follows r es → Follows r (ds ++ es)
 behind (Ok value) ds es met h = both_met ds es met h
-behind (Err fault) ds es met h = fails_behind ds es fault met h
+behind (Err fault) ds es met h = fails_behind ds es (told_by fault) met h
 
 -- five answers, one after another
 five : {A B C D E F : Type 0} (make : A → B → C → D → E → F)
@@ -49,15 +49,15 @@ five : {A B C D E F : Type 0} (make : A → B → C → D → E → F)
     (of_a of_b of_c of_d of_e : List (Demand Told))
     → Follows a of_a → Follows b of_b → Follows c of_c → Follows d of_d → Follows e of_e
     → Follows (all_five make a b c d e) (of_a ++ (of_b ++ (of_c ++ (of_d ++ of_e))))
-five make (Err f) b c d e of_a of_b of_c of_d of_e in_a in_b in_c in_d in_e = fails_before of_a _ f in_a
+five make (Err f) b c d e of_a of_b of_c of_d of_e in_a in_b in_c in_d in_e = fails_before of_a _ (told_by f) in_a
 five make (Ok v) (Err f) c d e of_a of_b of_c of_d of_e in_a in_b in_c in_d in_e =
-    fails_behind of_a _ f in_a (fails_before of_b _ f in_b)
+    fails_behind of_a _ (told_by f) in_a (fails_before of_b _ (told_by f) in_b)
 five make (Ok v) (Ok w) (Err f) d e of_a of_b of_c of_d of_e in_a in_b in_c in_d in_e =
-    fails_behind of_a _ f in_a (fails_behind of_b _ f in_b (fails_before of_c _ f in_c))
+    fails_behind of_a _ (told_by f) in_a (fails_behind of_b _ (told_by f) in_b (fails_before of_c _ (told_by f) in_c))
 five make (Ok v) (Ok w) (Ok x) (Err f) e of_a of_b of_c of_d of_e in_a in_b in_c in_d in_e =
-    fails_behind of_a _ f in_a (fails_behind of_b _ f in_b (fails_behind of_c _ f in_c (fails_before of_d _ f in_d)))
+    fails_behind of_a _ (told_by f) in_a (fails_behind of_b _ (told_by f) in_b (fails_behind of_c _ (told_by f) in_c (fails_before of_d _ (told_by f) in_d)))
 five make (Ok v) (Ok w) (Ok x) (Ok y) (Err f) of_a of_b of_c of_d of_e in_a in_b in_c in_d in_e =
-    fails_behind of_a _ f in_a (fails_behind of_b _ f in_b (fails_behind of_c _ f in_c (fails_behind of_d _ f in_d in_e)))
+    fails_behind of_a _ (told_by f) in_a (fails_behind of_b _ (told_by f) in_b (fails_behind of_c _ (told_by f) in_c (fails_behind of_d _ (told_by f) in_d in_e)))
 five make (Ok v) (Ok w) (Ok x) (Ok y) (Ok z) of_a of_b of_c of_d of_e in_a in_b in_c in_d in_e =
     both_met of_a _ in_a (both_met of_b _ in_b (both_met of_c _ in_c (both_met of_d _ in_d in_e)))
 
