@@ -1,6 +1,5 @@
 pub mod BegunModel
 pub mod BlockLines
-pub mod Count
 pub mod Denotes
 pub mod Device
 pub mod FaultText

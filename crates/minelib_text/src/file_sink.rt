@@ -6,8 +6,8 @@ ghost use Rattle.minelib_text.specs.Device.{added};
 ghost use Rattle.minelib_text.specs.FileState.{told};
 ghost use Rattle.minelib_text.specs.SinkState.{IsStill};
 
-use crate::count::{Count, raised};
 use crate::sink::{Sink, SinkFault};
+use pit_model::count::{Count, raised};
 use std::alloc::{AllocError, Global};
 use std::fs::File;
 use std::io::{ErrorKind, Write};
@@ -26,7 +26,7 @@ pub struct FileSink<'a, R: Files> {
 
 impl<'a, R: Files> Model for FileSink<'a, R> {
     ghost use Rattle.std.specs.Prelude.{is_some};
-    ghost use Rattle.minelib_text.specs.Count.{count_of};
+    ghost use Rattle.pit_model.specs.Count.{count_of};
     ghost use Rattle.minelib_text.specs.FileState.{FileState, held_by};
 
     ghost Value = { FileState };
@@ -71,7 +71,7 @@ impl<'a, R: Files> Sink for FileSink<'a, R> {
                 Ok(())
             }
             Err(_) => {
-                self.failures = raised(&self.failures);
+                self.failures = raised(&self.failures, 1);
                 Err(SinkFault)
             }
         }
@@ -97,7 +97,7 @@ impl<'a, R: Files> Sink for FileSink<'a, R> {
             None => Err(SinkFault),
         };
         if written.is_err() {
-            self.failures = raised(&self.failures);
+            self.failures = raised(&self.failures, 1);
         }
         written
     }

@@ -3,7 +3,6 @@
 
 mod block_reader;
 mod block_sections;
-mod count;
 mod field_values;
 mod fields;
 pub mod file_sink;

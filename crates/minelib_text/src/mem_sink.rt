@@ -3,8 +3,8 @@
 ghost use Rattle.std.specs.Prelude.{◌≡◌, ◌+◌, ◌<◌, ◌≤◌, ◌↔◌, ◌⊎◌, [], ◌++◌, take, length, min, Some, true, IsTrue, IsErr, IfOk, OnOk, OnErr};
 ghost use Rattle.minelib_text.specs.Tray.{IsFresh, IsCalled, FailsNext};
 
-use crate::count::{Count, raised};
 use crate::sink::{Sink, SinkFault};
+use pit_model::count::{Count, raised};
 use std::alloc::Global;
 use std::marker::Model;
 
@@ -22,7 +22,7 @@ pub struct MemSink {
 impl Model for MemSink {
     ghost use Rattle.std.specs.Prelude.{◌≤◌, vec_capacity};
     ghost use Rattle.minelib_text.specs.Tray.{Tray};
-    ghost use Rattle.minelib_text.specs.Count.{count_of};
+    ghost use Rattle.pit_model.specs.Count.{count_of};
 
     ghost Value = { Tray };
 
@@ -108,7 +108,7 @@ impl MemSink {
     fn refuse(&mut self) -> SinkFault
         ensures { self.new ≡ record self.old { failures = self.old.failures + 1 } }
     {
-        self.failures = raised(&self.failures);
+        self.failures = raised(&self.failures, 1);
         SinkFault
     }
 }

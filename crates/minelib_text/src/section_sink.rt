@@ -3,8 +3,8 @@
 ghost use Rattle.std.specs.Prelude.{◌≡◌, ◌+◌, ◌<◌, [], ◌++◌, Some, length, true, false, IsOk, IfOk, OnOk, OnErr};
 ghost use Rattle.minelib_text.specs.Sections.{told};
 
-use crate::count::{Count, raised};
 use crate::sink::{Sink, SinkFault};
+use pit_model::count::{Count, raised};
 use std::alloc::AllocError;
 use std::marker::Model;
 
@@ -20,7 +20,7 @@ pub struct SectionSink {
 
 impl Model for SectionSink {
     ghost use Rattle.std.specs.Prelude.{◌≤◌, take, drop, length, vec_capacity};
-    ghost use Rattle.minelib_text.specs.Count.{count_of};
+    ghost use Rattle.pit_model.specs.Count.{count_of};
     ghost use Rattle.minelib_text.specs.Sections.{Sections};
 
     ghost Value = { Sections };
@@ -106,7 +106,7 @@ impl Sink for SectionSink {
             (self.old.room < length self.old.before + length self.old.taken + length bytes.now) }
     {
         if self.bytes.extend_from_slice(bytes).is_err() {
-            self.failures = raised(&self.failures);
+            self.failures = raised(&self.failures, 1);
             return Err(SinkFault);
         }
         Ok(bytes.len())

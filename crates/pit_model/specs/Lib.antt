@@ -2,6 +2,7 @@ pub mod Admits
 pub mod Bands
 pub mod Block
 pub mod Cells
+pub mod Count
 pub mod Demands
 pub mod Destinations
 pub mod DraftView

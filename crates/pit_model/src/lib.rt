@@ -6,6 +6,7 @@ mod band_cells;
 pub mod block;
 pub mod cells;
 pub mod cone;
+pub mod count;
 pub mod destination;
 mod draft;
 pub mod formula;

@@ -1,5 +1,4 @@
 pub mod Cell
-pub mod Count
 pub mod FaultText
 pub mod Faults
 pub mod Feed

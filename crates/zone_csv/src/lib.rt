@@ -3,7 +3,6 @@
 
 mod cell;
 mod columns;
-mod count;
 pub mod feed;
 pub mod file_feed;
 pub mod laws;

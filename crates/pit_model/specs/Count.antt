@@ -1,6 +1,6 @@
 -- The number that a count stands for.
 use Rattle.std.specs.Prelude.{ℕ, ◌+◌}
-use Rattle.zone_csv.specs.declared.count.Count.{Count, Zero, More'}
+use Rattle.pit_model.specs.declared.count.Count.{Count, Zero, More'}
 
 abbrev pub count_of : Count → ℕ
 count_of Zero = 0

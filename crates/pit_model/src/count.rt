@@ -1,7 +1,7 @@
 //! A count that no run brings to an end.
 
 ghost use Rattle.std.specs.Prelude.{◌≡◌, ◌+◌};
-ghost use Rattle.zone_csv.specs.Count.{count_of};
+ghost use Rattle.pit_model.specs.Count.{count_of};
 
 use std::snapshot::Snapshot;
 
