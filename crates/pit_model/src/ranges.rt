@@ -63,7 +63,7 @@ pub const MAX_PLAN_RECORDS: u32 = 10_000;
 /// The greatest number of bytes of a plan.
 pub const MAX_PLAN_BYTES: usize = 1_048_576;
 
-/// The greatest number of bytes of a zone file, of a text, and of standard input.
+/// The greatest number of bytes of a zone file, and of standard input.
 pub const MAX_FILE_BYTES: usize = 268_435_456;
 
 /// The greatest number of rows of a zone file, its header left out.

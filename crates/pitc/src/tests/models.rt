@@ -11,6 +11,22 @@ use pit_model::plan::Plan;
 use std::alloc::Global;
 use std::test::Fail;
 
+/// The five texts of one block of ore under the plan of one mill, each behind its section line.
+pub const ONE_ORE_BLOCK: &str =
+    "== blocks\n0 0 0 0 1000 5000 0\n== prec\n0 0\n== upit\nNAME: one\nTYPE: UPIT\nNBLOCKS: 1\nOBJECTIVE_FUNCTION:\n0 12000\n== pcpsp\nNAME: one\nTYPE: PCPSP\nNBLOCKS: 1\nNPERIODS: 1\nNDESTINATIONS: 1\nNRESOURCE_SIDE_CONSTRAINTS: 0\nNGENERAL_SIDE_CONSTRAINTS: 0\nDISCOUNT_RATE: 0.1\nOBJECTIVE_FUNCTION:\n0 12000\nRESOURCE_CONSTRAINT_COEFFICIENTS:\nRESOURCE_CONSTRAINT_LIMITS:\n== cpit\nNAME: one\nTYPE: CPIT\nNBLOCKS: 1\nNPERIODS: 1\nNRESOURCE_SIDE_CONSTRAINTS: 0\nDISCOUNT_RATE: 0.1\nOBJECTIVE_FUNCTION:\n0 12000\nRESOURCE_CONSTRAINT_COEFFICIENTS:\nRESOURCE_CONSTRAINT_LIMITS:\n";
+
+/// Those of no block.
+pub const HEADER_ALONE: &str =
+    "== blocks\n== prec\n== upit\nNAME: one\nTYPE: UPIT\nNBLOCKS: 0\nOBJECTIVE_FUNCTION:\n== pcpsp\nNAME: one\nTYPE: PCPSP\nNBLOCKS: 0\nNPERIODS: 1\nNDESTINATIONS: 1\nNRESOURCE_SIDE_CONSTRAINTS: 0\nNGENERAL_SIDE_CONSTRAINTS: 0\nDISCOUNT_RATE: 0.1\nOBJECTIVE_FUNCTION:\nRESOURCE_CONSTRAINT_COEFFICIENTS:\nRESOURCE_CONSTRAINT_LIMITS:\n== cpit\nNAME: one\nTYPE: CPIT\nNBLOCKS: 0\nNPERIODS: 1\nNRESOURCE_SIDE_CONSTRAINTS: 0\nDISCOUNT_RATE: 0.1\nOBJECTIVE_FUNCTION:\nRESOURCE_CONSTRAINT_COEFFICIENTS:\nRESOURCE_CONSTRAINT_LIMITS:\n";
+
+/// A plan of a mill and a dump, with a resource and its limits.
+pub const LIMITED_PLAN: &str =
+    "name,one\ngrid,0,0,0,10,10,10\nzone,1,1,1\nmill,mill,900,600,1500\ndump,dump,200\nperiods,2\nrate,0.1\nresource,plant,mill\nlimit,plant,1,I,0,900\nlimit,plant,0,L,500.5\n";
+
+/// The five texts of two blocks under it, one of which has no tonnage.
+pub const LIMITED: &str =
+    "== blocks\n0 0 0 0 1000 5000 0\n1 1 0 0 0 7 0\n== prec\n0 0\n1 0\n== upit\nNAME: one\nTYPE: UPIT\nNBLOCKS: 2\nOBJECTIVE_FUNCTION:\n0 12000\n1 0\n== pcpsp\nNAME: one\nTYPE: PCPSP\nNBLOCKS: 2\nNPERIODS: 2\nNDESTINATIONS: 2\nNRESOURCE_SIDE_CONSTRAINTS: 1\nNGENERAL_SIDE_CONSTRAINTS: 0\nDISCOUNT_RATE: 0.1\nOBJECTIVE_FUNCTION:\n0 12000 -2000\n1 0 0\nRESOURCE_CONSTRAINT_COEFFICIENTS:\n0 0 0 1000\nRESOURCE_CONSTRAINT_LIMITS:\n0 0 L 500.5\n0 1 I 0 900\n== cpit\nNAME: one\nTYPE: CPIT\nNBLOCKS: 2\nNPERIODS: 2\nNRESOURCE_SIDE_CONSTRAINTS: 1\nDISCOUNT_RATE: 0.1\nOBJECTIVE_FUNCTION:\n0 12000\n1 0\nRESOURCE_CONSTRAINT_COEFFICIENTS:\n0 0 1000\nRESOURCE_CONSTRAINT_LIMITS:\n0 0 L 500.5\n0 1 I 0 900\n";
+
 /// The destination of a formula, whose closure computes it.
 pub fn destination_of(alloc: Global, formula: &Formula) -> Result<Destination, Fail>
     requires { IsRuled formula.now }

@@ -4,14 +4,9 @@ use super::{
     MemFeed, MemSink, Sinks, compiled_text, feeds_of, mill_plan, read_plan, settings, text_into,
     zone_text,
 };
+use crate::tests::models::{HEADER_ALONE, LIMITED, LIMITED_PLAN, ONE_ORE_BLOCK};
 use std::alloc::Global;
 use std::test::Fail;
-
-const ONE_ORE_BLOCK: &str =
-    "== blocks\n0 0 0 0 1000 5000 0\n== prec\n0 0\n== upit\nNAME: one\nTYPE: UPIT\nNBLOCKS: 1\nOBJECTIVE_FUNCTION:\n0 12000\n== pcpsp\nNAME: one\nTYPE: PCPSP\nNBLOCKS: 1\nNPERIODS: 1\nNDESTINATIONS: 1\nNRESOURCE_SIDE_CONSTRAINTS: 0\nNGENERAL_SIDE_CONSTRAINTS: 0\nDISCOUNT_RATE: 0.1\nOBJECTIVE_FUNCTION:\n0 12000\nRESOURCE_CONSTRAINT_COEFFICIENTS:\nRESOURCE_CONSTRAINT_LIMITS:\n== cpit\nNAME: one\nTYPE: CPIT\nNBLOCKS: 1\nNPERIODS: 1\nNRESOURCE_SIDE_CONSTRAINTS: 0\nDISCOUNT_RATE: 0.1\nOBJECTIVE_FUNCTION:\n0 12000\nRESOURCE_CONSTRAINT_COEFFICIENTS:\nRESOURCE_CONSTRAINT_LIMITS:\n";
-
-const HEADER_ALONE: &str =
-    "== blocks\n== prec\n== upit\nNAME: one\nTYPE: UPIT\nNBLOCKS: 0\nOBJECTIVE_FUNCTION:\n== pcpsp\nNAME: one\nTYPE: PCPSP\nNBLOCKS: 0\nNPERIODS: 1\nNDESTINATIONS: 1\nNRESOURCE_SIDE_CONSTRAINTS: 0\nNGENERAL_SIDE_CONSTRAINTS: 0\nDISCOUNT_RATE: 0.1\nOBJECTIVE_FUNCTION:\nRESOURCE_CONSTRAINT_COEFFICIENTS:\nRESOURCE_CONSTRAINT_LIMITS:\n== cpit\nNAME: one\nTYPE: CPIT\nNBLOCKS: 0\nNPERIODS: 1\nNRESOURCE_SIDE_CONSTRAINTS: 0\nDISCOUNT_RATE: 0.1\nOBJECTIVE_FUNCTION:\nRESOURCE_CONSTRAINT_COEFFICIENTS:\nRESOURCE_CONSTRAINT_LIMITS:\n";
 
 // The rows of each zone file, and the texts or the refusal of a run on the mill plan with as many zones.
 const RUNS: [(&str, &[&str], &str); 5] = [
@@ -66,13 +61,7 @@ fn runs_of_whole_files(rt: HostRuntime) -> Result<(), Fail> {
     Ok(())
 }
 
-const LIMITED_PLAN: &[u8] =
-    b"name,one\ngrid,0,0,0,10,10,10\nzone,1,1,1\nmill,mill,900,600,1500\ndump,dump,200\nperiods,2\nrate,0.1\nresource,plant,mill\nlimit,plant,1,I,0,900\nlimit,plant,0,L,500.5\n";
-
 const LIMITED_ROWS: &str = "0,0,0,1000,5000\n10,0,0,0,7\n";
-
-const LIMITED: &str =
-    "== blocks\n0 0 0 0 1000 5000 0\n1 1 0 0 0 7 0\n== prec\n0 0\n1 0\n== upit\nNAME: one\nTYPE: UPIT\nNBLOCKS: 2\nOBJECTIVE_FUNCTION:\n0 12000\n1 0\n== pcpsp\nNAME: one\nTYPE: PCPSP\nNBLOCKS: 2\nNPERIODS: 2\nNDESTINATIONS: 2\nNRESOURCE_SIDE_CONSTRAINTS: 1\nNGENERAL_SIDE_CONSTRAINTS: 0\nDISCOUNT_RATE: 0.1\nOBJECTIVE_FUNCTION:\n0 12000 -2000\n1 0 0\nRESOURCE_CONSTRAINT_COEFFICIENTS:\n0 0 0 1000\nRESOURCE_CONSTRAINT_LIMITS:\n0 0 L 500.5\n0 1 I 0 900\n== cpit\nNAME: one\nTYPE: CPIT\nNBLOCKS: 2\nNPERIODS: 2\nNRESOURCE_SIDE_CONSTRAINTS: 1\nDISCOUNT_RATE: 0.1\nOBJECTIVE_FUNCTION:\n0 12000\n1 0\nRESOURCE_CONSTRAINT_COEFFICIENTS:\n0 0 1000\nRESOURCE_CONSTRAINT_LIMITS:\n0 0 L 500.5\n0 1 I 0 900\n";
 
 // A feed that gives at most so many bytes a pull.
 fn cutting_feed(alloc: Global, step: usize) -> Result<Vec<MemFeed>, Fail>
@@ -99,7 +88,7 @@ fn short_sinks(alloc: Global, step: usize) -> Sinks<MemSink>
 #[test]
 fn limits_and_coefficients(rt: HostRuntime) -> Result<(), Fail> {
     let alloc = rt.alloc();
-    let plan = read_plan(alloc, LIMITED_PLAN)?;
+    let plan = read_plan(alloc, LIMITED_PLAN.as_bytes())?;
     for step in [1, 2, 7, 100_000] {
         let sinks = short_sinks(alloc, step);
         let text = text_into(
