@@ -3,6 +3,7 @@ ghost use Rattle.std.specs.Prelude.{◌≡◌, ℕ, ◌<◌, ◌≤◌, ◌==◌
 ghost use Rattle.pit_commands.specs.Pieces.{lines_of, is_cut, pieces_of, plan_of, zones_of};
 
 use crate::piece::Piece;
+use memchr::memchr;
 use std::alloc::{AllocError, Global};
 use std::marker::Model;
 
@@ -121,7 +122,7 @@ fn first_line_len(text: &[u8]) -> usize
 fn line_feed_place(text: &[u8]) -> Option<usize>
     ensures { result ≡ position (λ b. b == 10) text.now }
 {
-    text.iter().position(|b| *b == b'\n')
+    memchr(b'\n', text)
 }
 
 /// Whether a line, with the LF that ends it, cuts the input.
