@@ -10,8 +10,8 @@ use Rattle.valuers.specs.declared.item.Valued.{Valued}
 use Rattle.collector.specs.declared.finish_fault.FinishFault.{FinishFault}
 use Rattle.collector.specs.declared.finish_fault.FinishFault.TheVariants.{Missing, OutOfMemory}
 use Rattle.collector.specs.declared.shelf.Shelf.{Shelf}
-use Rattle.collector.specs.CollectorView.{if_at, slot, rows_in, end_in, IsKept, IsShelved, IsFilled, IsFirstLacking}
-use Rattle.collector.specs.Held.{Held}
+use Rattle.collector.specs.Shelves.{if_at, slot, rows_in, end_in, IsKept, IsShelved, IsFilled, IsFirstLacking}
+use Rattle.collector.specs.CollectorView.{CollectorView}
 use Rattle.collector.specs.Lists.{AreLists, IsFull, IsOpen, IsMissing, IsFinishFault}
 use Rattle.collector.proofs.Slots.{slot-past}
 
@@ -36,13 +36,13 @@ list-of [] file rows got = absurd (none-some rows got)
 list-of (s ∷ shelves) zero rows got = (omega arith, same_Some s.rows.items rows got)
 list-of (s ∷ shelves) (suc file) rows got = let h = list-of shelves file rows got in (omega (arith, h.0), h.1)
 
-pub are_lists : (held : List Item) (shelves : List Shelf) (lists : List (List Valued)) (view : Held) →
+pub are_lists : (held : List Item) (shelves : List Shelf) (lists : List (List Valued)) (view : CollectorView) →
     record { files = length shelves; items = held } ≡ view →
     (length shelves ≤ 255) × IsKept (length shelves) held (rows_in shelves) (end_in shelves) →
     ((file : ℕ) → file < length shelves → IsFilled (rows_in shelves file) (end_in shelves file)) →
     lists ≡ map (λ (s : Shelf). s.rows.items) shelves → AreLists view.files view.items lists
 are_lists held shelves lists view is_view kept filled is_map =
-    subst (λ (v : Held). AreLists v.files v.items lists) is_view (rw is_map (record {
+    subst (λ (v : CollectorView). AreLists v.files v.items lists) is_view (rw is_map (record {
       count = length-map shelves (λ (s : Shelf). s.rows.items);
       ends = λ file rows got. let at = list-of shelves file rows got in
           (kept.1.shelved file).ended ∙ (filled file at.0).0 ∙ ap (λ rs. Some (length rs)) at.1;
@@ -57,14 +57,14 @@ full-kept : (held : List Item) (file : ℕ) (rows : List Valued) (end : Option �
 full-kept held file rows end shelved filled =
     (length rows, shelved.ended ∙ filled.0, λ place below. ap is_some (shelved.row place) ∙ filled.1 place below)
 
-pub is_missing : (held : List Item) (shelves : List Shelf) (why : FinishFault) (view : Held) →
+pub is_missing : (held : List Item) (shelves : List Shelf) (why : FinishFault) (view : CollectorView) →
     record { files = length shelves; items = held } ≡ view →
     (length shelves ≤ 255) × IsKept (length shelves) held (rows_in shelves) (end_in shelves) →
     IsFirstLacking shelves why → IsFinishFault view.files view.items why
 is_missing held shelves OutOfMemory view is_view kept lacking = absurd lacking
 is_missing held shelves (Missing file place) view is_view kept lacking =
     let here = kept.1.shelved file in
-    subst (λ (v : Held). IsMissing v.files v.items file place) is_view (record {
+    subst (λ (v : CollectorView). IsMissing v.files v.items file place) is_view (record {
       within = lacking.0;
       before = λ other below. full-kept held other (rows_in shelves other) (end_in shelves other) (kept.1.shelved other) (lacking.1 other below);
       open_at = subst (λ (o : Option ℕ). IsOpen o place) (sym here.ended) lacking.2.2;

@@ -7,7 +7,7 @@ use Rattle.std.proofs.lemmas.Bool.Decides.{nat_tests}
 use Rattle.valuers.specs.declared.item.Item.{Item}
 use Rattle.valuers.specs.declared.item.Item.TheVariants.{Row, End}
 use Rattle.valuers.specs.declared.item.Valued.{Valued}
-use Rattle.collector.specs.CollectorView.{slot, with_row, fault_in, file_of, ArePut, IsShelved, IsKept}
+use Rattle.collector.specs.Shelves.{slot, with_row, fault_in, file_of, ArePut, IsShelved, IsKept}
 use Rattle.collector.specs.Fault.{is_after, fault}
 use Rattle.collector.specs.Found.{row_at, end_at, has_past}
 use Rattle.collector.proofs.Slots.{eqb-same, eqb-other, slot-put, slot-kept, length-with_row}

@@ -8,9 +8,9 @@ use Rattle.std.specs.Option.{option_and_then, unwrap_or, option_map}
 use Rattle.std.proofs.lemmas.Option.{slice_get_past, slice_get_read}
 use Rattle.valuers.specs.declared.item.Valued.{Valued}
 use Rattle.collector.specs.declared.shelf.Shelf.{Shelf}
-use Rattle.collector.specs.CollectorView.{rows_in, end_in, row_fault, end_fault, fault_in, ArePut, IsKept}
+use Rattle.collector.specs.Shelves.{rows_in, end_in, row_fault, end_fault, fault_in, ArePut, IsKept}
 use Rattle.collector.specs.Fault.{fault}
-use Rattle.collector.specs.Held.{Held}
+use Rattle.collector.specs.CollectorView.{CollectorView}
 use Rattle.collector.proofs.Kept.{kept_more}
 
 pub rows-at : (shelves : List Shelf) (file : ℕ) (s : Shelf) → slice_get shelves file ≡ Some s → rows_in shelves file ≡ s.rows.items
@@ -41,7 +41,7 @@ end_fault-at shelves file count s within read =
     ∙ ap (λ o. end_fault (unwrap_or (option_map (λ (t : Shelf). t.rows.items) o) []) (option_and_then (λ (t : Shelf). t.end) o) count) found)
 
 -- one item more, as the shelves are written back
-pub kept-put : (held after : List Item) (item : Item) (old new lent back : List Shelf) (view : Held) →
+pub kept-put : (held after : List Item) (item : Item) (old new lent back : List Shelf) (view : CollectorView) →
     record { files = length old; items = held } ≡ view → (length old ≤ 255) × IsKept (length old) held (rows_in old) (end_in old) →
     None ≡ fault view.files view.items item → lent ≡ old → ArePut item (rows_in lent) (end_in lent) (rows_in new) (end_in new) →
     length new ≡ length lent → after ≡ held ++ item ∷ [] → back ≡ new →
@@ -50,5 +50,5 @@ kept-put held after item old new lent back view is_view kept sound is_old put sa
     let put_old = rw is_old at put in
     let same_old : length new ≡ length old = same ∙ ap length is_old in
     let sound_old : fault (length old) held item ≡ None
-    = sym (subst (λ (v : Held). None ≡ fault v.files v.items item) (sym is_view) sound) in
+    = sym (subst (λ (v : CollectorView). None ≡ fault v.files v.items item) (sym is_view) sound) in
     rw (is_back, is_after, same_old) (kept.0, kept_more (length old) held (rows_in old) (rows_in new) (end_in old) (end_in new) item kept.1 sound_old put_old)

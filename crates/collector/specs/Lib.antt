@@ -1,7 +1,7 @@
-pub mod CollectorView
+pub mod Shelves
 pub mod Complete
 pub mod Fault
 pub mod Found
 pub mod History
-pub mod Held
+pub mod CollectorView
 pub mod Lists

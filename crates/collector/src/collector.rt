@@ -1,7 +1,7 @@
 //! What is held of all files.
 
 ghost use Rattle.std.specs.Prelude.{◌≡◌, ℕ, ◌<◌, ◌≤◌, ◌++◌, [], ◌∷◌, length, map, if◌then◌else◌, ◌==◌, Some, Err, IfOk, IfErr, IfSome, IfNone, OnOk, OnErr};
-ghost use Rattle.collector.specs.CollectorView.{rows_in, end_in, with_row, fault_in, file_of, ArePut, AreSame, IsFilled, IsFirstLacking};
+ghost use Rattle.collector.specs.Shelves.{rows_in, end_in, with_row, fault_in, file_of, ArePut, AreSame, IsFilled, IsFirstLacking};
 ghost use Rattle.collector.specs.Fault.{fault};
 ghost use Rattle.collector.specs.Lists.{AreLists, IsFinishFault};
 ghost use Rattle.pit_model.specs.declared.ranges.TheConstants.{MAX_ROWS};
@@ -27,11 +27,11 @@ pub struct Collector {
 
 impl Model for Collector {
     ghost use Rattle.std.specs.Prelude.{ℕ, ◌≤◌, length};
-    ghost use Rattle.collector.specs.Held.{Held};
+    ghost use Rattle.collector.specs.CollectorView.{CollectorView};
     ghost use Rattle.collector.specs.History.{items_in};
-    ghost use Rattle.collector.specs.CollectorView.{IsKept, rows_in, end_in};
+    ghost use Rattle.collector.specs.Shelves.{IsKept, rows_in, end_in};
 
-    ghost Value = { Held };
+    ghost Value = { CollectorView };
 
     ghost view = { λ c. record { files = length c.shelves.items; items = items_in c.history } };
 
@@ -79,7 +79,7 @@ impl Collector {
         Ok(rows_of(self.alloc, self.shelves)?)
     }
 
-    /// What is wrong with an item.
+    // What is wrong with an item.
     fn fault_of(&self, item: &Item) -> Option<AddFault>
         ensures { result ≡ fault self.now.files self.now.items item.now }
     {
@@ -87,7 +87,7 @@ impl Collector {
     }
 }
 
-/// What is wrong with an item where these shelves are held.
+// What is wrong with an item where these shelves are held.
 fn fault_on(shelves: &[Shelf], item: &Item) -> Option<AddFault>
     ensures { result ≡ fault_in (length shelves.now) (rows_in shelves.now) (end_in shelves.now) item.now }
 {
@@ -103,7 +103,7 @@ fn fault_on(shelves: &[Shelf], item: &Item) -> Option<AddFault>
     }
 }
 
-/// Puts an item on the shelf of its file. The shelves stay as they were where memory is refused.
+// Puts an item on the shelf of its file. The shelves stay as they were where memory is refused.
 fn put_item(shelves: &mut [Shelf], item: &Item) -> Result<(), AllocError>
     requires { file_of item.now < length shelves.old }
     ensures ok { OnOk result (ArePut item.now (rows_in shelves.old) (end_in shelves.old) (rows_in shelves.new) (end_in shelves.new)) }
@@ -119,7 +119,7 @@ fn put_item(shelves: &mut [Shelf], item: &Item) -> Result<(), AllocError>
     }
 }
 
-/// Puts a row on the shelf of its file. The shelves stay as they were where memory is refused.
+// Puts a row on the shelf of its file. The shelves stay as they were where memory is refused.
 fn put_row(shelves: &mut [Shelf], row: Valued) -> Result<(), AllocError>
     requires { row.file < length shelves.old }
     ensures rows { OnOk result ((file : ℕ) → rows_in shelves.new file
@@ -131,7 +131,7 @@ fn put_row(shelves: &mut [Shelf], row: Valued) -> Result<(), AllocError>
     shelves[row.file as usize].put_row(row)
 }
 
-/// Puts an end mark on the shelf of its file.
+// Puts an end mark on the shelf of its file.
 fn put_end(shelves: &mut [Shelf], file: u8, count: u32)
     requires { file < length shelves.old }
     ensures rows { (other : ℕ) → rows_in shelves.new other ≡ rows_in shelves.old other }
@@ -141,7 +141,7 @@ fn put_end(shelves: &mut [Shelf], file: u8, count: u32)
     shelves[file as usize].end = Some(count);
 }
 
-/// Refuses the first shelf that is not filled.
+// Refuses the first shelf that is not filled.
 fn require_filled(shelves: &[Shelf]) -> Result<(), FinishFault>
     requires count { length shelves.now ≤ 255 }
     requires few { (file : ℕ) → length (rows_in shelves.now file) ≤ MAX_ROWS }
@@ -160,7 +160,7 @@ fn require_filled(shelves: &[Shelf]) -> Result<(), FinishFault>
     Ok(())
 }
 
-/// The rows of each shelf, which are not copied.
+// The rows of each shelf, which are not copied.
 fn rows_of(alloc: Global, shelves: Vec<Shelf>) -> Result<Vec<Rows>, AllocError>
     ensures { IfOk result (λ lists. lists.items ≡ map (λ shelf. shelf.rows.items) shelves.items) }
 {

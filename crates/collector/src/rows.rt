@@ -21,7 +21,7 @@ impl Model for Rows {
 }
 
 impl Rows {
-    /// These rows, in their order.
+    // These rows, in their order.
     pub(crate) fn new(rows: Vec<Valued>) -> Rows
         ensures { result ≡ rows.items }
     {

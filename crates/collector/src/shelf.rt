@@ -1,7 +1,7 @@
 //! What is held of one file.
 
 ghost use Rattle.std.specs.Prelude.{◌≡◌, ℕ, ◌<◌, ◌≤◌, [], length, is_some, true, Some, None, MatchOption, OnOk, OnErr};
-ghost use Rattle.collector.specs.CollectorView.{slot, with_row, row_fault, end_fault, IsFilled, IsLacking};
+ghost use Rattle.collector.specs.Shelves.{slot, with_row, row_fault, end_fault, IsFilled, IsLacking};
 ghost use Rattle.pit_model.specs.declared.ranges.TheConstants.{MAX_ROWS};
 
 use crate::add_fault::AddFault;
@@ -89,7 +89,7 @@ impl Shelf {
     }
 }
 
-/// The least place that has no row.
+// The least place that has no row.
 fn open_place(rows: &[Valued]) -> u32
     requires { length rows.now ≤ MAX_ROWS }
     ensures within { result ≤ length rows.now }
@@ -105,7 +105,7 @@ fn open_place(rows: &[Valued]) -> u32
     count
 }
 
-/// Whether the row of this place is among these.
+// Whether the row of this place is among these.
 fn holds(rows: &[Valued], place: u32) -> bool
     ensures { result ≡ is_some (slot rows.now place) }
 {

@@ -13,7 +13,7 @@ use Rattle.lane.specs.Whole.{IsWhole}
 use Rattle.lane.specs.Rule.{IsLane, put_parts, take_parts}
 use Rattle.lane.specs.Steps.{MaySend, full_view}
 use Rattle.lane.specs.Views.{sents_in, tooks_in, gathering_in}
-use Rattle.lane.specs.Ends.{Lane, Putting, Taking, ArePutsFrom, AreTakesFrom}
+use Rattle.lane.specs.Ends.{Lane, PutEndView, TakeEndView, ArePutsFrom, AreTakesFrom}
 use Rattle.lane.specs.Kept.{IsClosers, IsJoining, IsJoined, IsStopping, IsGathering, IsAllIn}
 use Rattle.lane.proofs.Lists.{all_more}
 use Rattle.lane.proofs.Rules.{put_joins, take_joins, sents_all, tooks_all, free_puts, ended_view, finds_nothing, tells}
@@ -28,15 +28,15 @@ sents_alone c sent = ap sents_in (puts_alone c sent) ∙ sents_all c 0 0 sent []
 tooks_alone : (c : ℕ) (sent : List (List Taken)) → tooks_in (put_parts c 0 sent) ≡ []
 tooks_alone c sent = ap tooks_in (puts_alone c sent) ∙ tooks_all c 0 0 sent []
 
-pub puts_count : (lane : Lane) (files k : ℕ) (ps : List Putting) → ArePutsFrom lane files k ps → k + length ps ≡ files
+pub puts_count : (lane : Lane) (files k : ℕ) (ps : List PutEndView) → ArePutsFrom lane files k ps → k + length ps ≡ files
 puts_count lane files k [] h = omega arith
 puts_count lane files k (p ∷ ps) h = omega (arith, puts_count lane files (k + 1) ps h.2)
 
-pub takes_count : (lane : Lane) (takers k : ℕ) (ts : List Taking) → AreTakesFrom lane takers k ts → k + length ts ≡ takers
+pub takes_count : (lane : Lane) (takers k : ℕ) (ts : List TakeEndView) → AreTakesFrom lane takers k ts → k + length ts ≡ takers
 takes_count lane takers k [] h = omega arith
 takes_count lane takers k (t ∷ ts) h = omega (arith, takes_count lane takers (k + 1) ts h.2)
 
-module _ (files takers c : ℕ) (lane : Lane) (all : List Putting) where
+module _ (files takers c : ℕ) (lane : Lane) (all : List PutEndView) where
   pub join_begin : (v : List Part) → v ≡ Close files takers c 0 0 ∷ [] → ArePutsFrom lane files 0 all → IsJoining files takers c lane all all v 0
   join_begin v e h =
       let none : sents_in v ≡ [] = ap sents_in e in
@@ -49,13 +49,13 @@ module _ (files takers c : ℕ) (lane : Lane) (all : List Putting) where
         few = omega arith;
       }
 
-  pub join_fits : (v : List Part) (rest : List Putting) (n : ℕ) → IsJoining files takers c lane all rest v n → n ≤ files * 1000000
+  pub join_fits : (v : List Part) (rest : List PutEndView) (n : ℕ) → IsJoining files takers c lane all rest v n → n ≤ files * 1000000
   join_fits v rest n h = let k = puts_count lane files (length (sents_in v)) rest h.puts in let few = h.few in omega arith
 
-  pub join_may : (v : List Part) (rest : List Putting) (n : ℕ) → IsJoining files takers c lane all rest v n → IsClosers v
+  pub join_may : (v : List Part) (rest : List PutEndView) (n : ℕ) → IsJoining files takers c lane all rest v n → IsClosers v
   join_may v rest n h = subst IsClosers (sym h.part) tt
 
-  pub join_more : (v u : List Part) (p : Putting) (rest : List Putting) (n k : ℕ) → IsJoining files takers c lane all (p ∷ rest) v n
+  pub join_more : (v u : List Part) (p : PutEndView) (rest : List PutEndView) (n k : ℕ) → IsJoining files takers c lane all (p ∷ rest) v n
       → u ≡ v ++ Put p.file c p.sent ∷ [] → has_end p.sent ≡ true → k ≡ rows_in p.sent → k ≤ 1000000 → IsJoining files takers c lane all rest u (n + k)
   join_more v u p rest n k h e ended count few =
       let lists : List (List Taken) = sents_in v in
@@ -92,8 +92,8 @@ stopping v u files takers c h some e =
       same,
     )
 
-module _ (takers c : ℕ) (lane : Lane) (all : List Taking) where
-  pub gather_begin : (v : List Part) → IsStopping v takers c → AreTakesFrom lane takers 0 all → All (λ (t : Taking). is_done t.took ≡ true) all → IsGathering (length (sents_in v)) takers c lane (sents_in v) all all v
+module _ (takers c : ℕ) (lane : Lane) (all : List TakeEndView) where
+  pub gather_begin : (v : List Part) → IsStopping v takers c → AreTakesFrom lane takers 0 all → All (λ (t : TakeEndView). is_done t.took ≡ true) all → IsGathering (length (sents_in v)) takers c lane (sents_in v) all all v
   gather_begin v h takes done =
       let none : tooks_in v ≡ [] = ap tooks_in h.part ∙ tooks_alone c (sents_in v) in
       record {
@@ -101,14 +101,14 @@ module _ (takers c : ℕ) (lane : Lane) (all : List Taking) where
         lists = ap (λ l. l ++ map (λ t. t.took) all) none;
         takes = subst (λ (l : List (List Taken)). AreTakesFrom lane takers (length l) all) (sym none) takes;
         done = subst (AllByRecursion (λ l. is_done l ≡ true)) (sym none) tt;
-        rest_done = recursion_from_All (λ (t : Taking). is_done t.took ≡ true) all done;
+        rest_done = recursion_from_All (λ (t : TakeEndView). is_done t.took ≡ true) all done;
       }
 
   module _ (files : ℕ) (sent : List (List Taken)) where
-    pub gather_may : (v : List Part) (rest : List Taking) → IsGathering files takers c lane sent all rest v → IsClosers v
+    pub gather_may : (v : List Part) (rest : List TakeEndView) → IsGathering files takers c lane sent all rest v → IsClosers v
     gather_may v rest h = subst IsClosers (sym h.part) tt
 
-    pub gather_more : (v u : List Part) (t : Taking) (rest : List Taking) → IsGathering files takers c lane sent all (t ∷ rest) v → u ≡ v ++ Take t.taker c t.took ∷ [] → IsGathering files takers c lane sent all rest u
+    pub gather_more : (v u : List Part) (t : TakeEndView) (rest : List TakeEndView) → IsGathering files takers c lane sent all (t ∷ rest) v → u ≡ v ++ Take t.taker c t.took ∷ [] → IsGathering files takers c lane sent all rest u
     gather_more v u t rest h e =
         let lists : List (List Taken) = tooks_in v in
         let is : u ≡ full_view files takers c sent (lists ++ t.took ∷ []) =

@@ -10,45 +10,45 @@ abbrev pub Lane : Type 0
 Lane = TableId × Badge (Key Taken) × ℕ
 
 -- a put end: its lane, its file, and what it sent so far
-pub record Putting : Type 0 where
+pub record PutEndView : Type 0 where
   pub lane : Lane
   pub file : ℕ
   pub sent : List Taken
 
 -- a take end: its lane, its number, and what it took so far
-pub record Taking : Type 0 where
+pub record TakeEndView : Type 0 where
   pub lane : Lane
   pub taker : ℕ
   pub took : List Taken
 
 -- the closer of a lane
-pub record Closing : Type 0 where
+pub record CloserView : Type 0 where
   pub lane : Lane
   pub files : ℕ
   pub takers : ℕ
 
 -- a stopped lane, with what each file sent
-pub record Stopping : Type 0 where
+pub record StoppedView : Type 0 where
   pub lane : Lane
   pub takers : ℕ
   pub sent : List (List Taken)
 
 -- the put ends of the lane's files from number k on, in order
-abbrev pub ArePutsFrom : Lane → ℕ → ℕ → List Putting → Type 0
+abbrev pub ArePutsFrom : Lane → ℕ → ℕ → List PutEndView → Type 0
 ArePutsFrom lane files k [] = k ≡ files
 ArePutsFrom lane files k (p ∷ ps) = (p.lane ≡ lane) × (p.file ≡ k) × ArePutsFrom lane files (k + 1) ps
 
 -- the take ends of the lane's takers from number k on, in order
-abbrev pub AreTakesFrom : Lane → ℕ → ℕ → List Taking → Type 0
+abbrev pub AreTakesFrom : Lane → ℕ → ℕ → List TakeEndView → Type 0
 AreTakesFrom lane takers k [] = k ≡ takers
 AreTakesFrom lane takers k (t ∷ ts) = (t.lane ≡ lane) × (t.taker ≡ k) × AreTakesFrom lane takers (k + 1) ts
 
 -- n put ends of the lane that sent nothing yet, of the files from number k on
-abbrev pub first_puts : Lane → ℕ → ℕ → List Putting
+abbrev pub first_puts : Lane → ℕ → ℕ → List PutEndView
 first_puts lane k zero = []
 first_puts lane k (suc n) = record { lane = lane; file = k; sent = [] } ∷ first_puts lane (k + 1) n
 
 -- n take ends of the lane that took nothing yet, of the takers from number k on
-abbrev pub first_takes : Lane → ℕ → ℕ → List Taking
+abbrev pub first_takes : Lane → ℕ → ℕ → List TakeEndView
 first_takes lane k zero = []
 first_takes lane k (suc n) = record { lane = lane; taker = k; took = [] } ∷ first_takes lane (k + 1) n

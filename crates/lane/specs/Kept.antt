@@ -10,8 +10,8 @@ use Rattle.lane.specs.declared.message.Taken.{Taken}
 use Rattle.lane.specs.declared.part.Part.{Part}
 use Rattle.lane.specs.declared.part.Part.TheVariants.{Count, Put, Take, Close}
 use Rattle.lane.specs.Message.{has_end, is_done, rows_in, IsFrom, IsEndedFrom}
-use Rattle.lane.specs.Whole.{Gathering, IsWhole}
-use Rattle.lane.specs.Ends.{Lane, Putting, Taking, Closing, Stopping, ArePutsFrom, AreTakesFrom}
+use Rattle.lane.specs.Whole.{GatheredView, IsWhole}
+use Rattle.lane.specs.Ends.{Lane, PutEndView, TakeEndView, CloserView, StoppedView, ArePutsFrom, AreTakesFrom}
 use Rattle.lane.specs.Rule.{put_parts, take_parts}
 use Rattle.lane.specs.Steps.{full_view, IsFull}
 use Rattle.lane.specs.Views.{IsOrdered, capacity_in, sent_in, took_in, sents_in, tooks_in, quits_in, gathering_in}
@@ -25,24 +25,24 @@ lane_of p = (p.table_id, p.me.0.of, capacity_in (view p))
 abbrev pub lane_at : {Q M L A : Type 0} → Rows (Badge (Key Taken)) (Doing Taken (List Part)) Q M (Key Taken) L A → Lane
 lane_at c = (c.stamps.shared.table_id, c.stamps.shared.key, c.cap)
 
-abbrev pub putting_of : Pass Taken (List Part) → ℕ → Putting
-putting_of p file = record { lane = lane_of p; file = file; sent = sent_in (view p) }
+abbrev pub put_end_view : Pass Taken (List Part) → ℕ → PutEndView
+put_end_view p file = record { lane = lane_of p; file = file; sent = sent_in (view p) }
 
-abbrev pub taking_of : Pass Taken (List Part) → ℕ → Taking
-taking_of p taker = record { lane = lane_of p; taker = taker; took = took_in (view p) }
+abbrev pub take_end_view : Pass Taken (List Part) → ℕ → TakeEndView
+take_end_view p taker = record { lane = lane_of p; taker = taker; took = took_in (view p) }
 
-abbrev pub closing_of : Pass Taken (List Part) → ℕ → ℕ → Closing
-closing_of p files takers = record { lane = lane_of p; files = files; takers = takers }
+abbrev pub closer_view : Pass Taken (List Part) → ℕ → ℕ → CloserView
+closer_view p files takers = record { lane = lane_of p; files = files; takers = takers }
 
-abbrev pub stopping_of : Pass Taken (List Part) → ℕ → Stopping
-stopping_of p takers = record { lane = lane_of p; takers = takers; sent = sents_in (view p) }
+abbrev pub stopped_view : Pass Taken (List Part) → ℕ → StoppedView
+stopped_view p takers = record { lane = lane_of p; takers = takers; sent = sents_in (view p) }
 
 -- the number of Quits that the pass put
 abbrev pub quits_of : Pass Taken (List Part) → ℕ
 quits_of p = quits_in (view p)
 
-abbrev pub gathered_of : Pass Taken (List Part) → Gathering
-gathered_of p = gathering_in (view p)
+abbrev pub gathered_view : Pass Taken (List Part) → GatheredView
+gathered_view p = gathering_in (view p)
 
 -- the list of a put end that may still send: rows alone, so many
 pub record IsOpenPut (v : List Part) (file count : ℕ) : Type 0 where
@@ -92,7 +92,7 @@ IsClosers (Take taker capacity took ∷ v) = ⊥
 IsClosers (Close files takers capacity stops quits ∷ v) = Unit {0}
 
 -- some ended parts joined the closer's, and those of the rest are to come
-pub record IsJoining (files takers capacity : ℕ) (lane : Lane) (all rest : List Putting) (v : List Part) (count : ℕ) : Type 0 where
+pub record IsJoining (files takers capacity : ℕ) (lane : Lane) (all rest : List PutEndView) (v : List Part) (count : ℕ) : Type 0 where
   pub part : v ≡ Close files takers capacity 0 0 ∷ put_parts capacity 0 (sents_in v)
   pub lists : sents_in v ++ map (λ p. p.sent) rest ≡ map (λ p. p.sent) all
   pub puts : ArePutsFrom lane files (length (sents_in v)) rest
@@ -107,7 +107,7 @@ pub record IsJoined (v : List Part) (files takers capacity : ℕ) : Type 0 where
   pub ended : AllByRecursion (λ l. has_end l ≡ true) (sents_in v)
 
 -- some take parts joined the closer's, and those of the rest are to come
-pub record IsGathering (files takers capacity : ℕ) (lane : Lane) (sent : List (List Taken)) (all rest : List Taking) (v : List Part) : Type 0 where
+pub record IsGathering (files takers capacity : ℕ) (lane : Lane) (sent : List (List Taken)) (all rest : List TakeEndView) (v : List Part) : Type 0 where
   pub part : v ≡ full_view files takers capacity sent (tooks_in v)
   pub lists : tooks_in v ++ map (λ t. t.took) rest ≡ map (λ t. t.took) all
   pub takes : AreTakesFrom lane takers (length (tooks_in v)) rest

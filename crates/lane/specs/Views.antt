@@ -5,7 +5,7 @@ use Rattle.lane.specs.declared.part.Part.{Part}
 use Rattle.lane.specs.declared.part.Part.TheVariants.{Count, Put, Take, Close}
 use Rattle.lane.specs.Message.{Rises, EndsClose, MarksLast}
 use Rattle.lane.specs.Rule.{all_parts}
-use Rattle.lane.specs.Whole.{Gathering}
+use Rattle.lane.specs.Whole.{GatheredView}
 use Rattle.lane.specs.Steps.{with_message}
 
 -- what holds of what one taker took: positions of one file rise, nothing of a file follows its end mark, and Stop or Quit is last
@@ -62,7 +62,7 @@ tooks_in (Put file capacity sent ∷ v) = tooks_in v
 tooks_in (Take taker capacity took ∷ v) = took ∷ tooks_in v
 tooks_in (Close files takers capacity stops quits ∷ v) = tooks_in v
 
-abbrev pub gathering_in : List Part → Gathering
+abbrev pub gathering_in : List Part → GatheredView
 gathering_in v = record { sent = sents_in v; took = tooks_in v }
 
 -- how the views change as the lane is opened: one more file, taker or place; the count becomes all parts; the second part moves to a new pass

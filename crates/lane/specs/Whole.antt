@@ -6,7 +6,7 @@ use Rattle.lane.specs.declared.message.Taken.TheVariants.{Row, End, Stop, Quit}
 use Rattle.lane.specs.Message.{is_at, IsEndedFrom, Rises, EndsInStop}
 
 -- what each file sent, and what each taker took
-pub record Gathering : Type 0 where
+pub record GatheredView : Type 0 where
   pub sent : List (List Taken)
   pub took : List (List Taken)
 
@@ -21,7 +21,7 @@ IsSent sent (End file rows) = IsSentAt sent file rows (End file rows)
 IsSent sent Stop = Unit {0}
 IsSent sent Quit = Unit {0}
 
-pub record IsWhole (g : Gathering) : Type 0 where
+pub record IsWhole (g : GatheredView) : Type 0 where
   -- what each file sent is rows of places 0, 1, 2, .. and its end mark with their count
   pub sents : (file : ℕ) (list : List Taken) → slice_get g.sent file ≡ Some list → IsEndedFrom file 0 list
   -- each position of each of these lists was taken by exactly one taker, once

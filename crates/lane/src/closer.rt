@@ -35,18 +35,18 @@ impl Model for Closer {
     ghost use Rattle.std.specs.Prelude.{◌≡◌};
     ghost use Rattle.crossbeam_channel.specs.Claims.{view as known, IsSeatAt};
     ghost use Rattle.crossbeam_channel.specs.Ends.{sends_on, receives_on, ruled_capacity};
-    ghost use Rattle.lane.specs.Ends.{Closing};
-    ghost use Rattle.lane.specs.Kept.{closing_of, IsCloser};
+    ghost use Rattle.lane.specs.Ends.{CloserView};
+    ghost use Rattle.lane.specs.Kept.{closer_view, IsCloser};
 
-    ghost Value = { Closing };
+    ghost Value = { CloserView };
 
-    ghost view = { λ e. closing_of e.pass e.files e.takers };
+    ghost view = { λ e. closer_view e.pass e.files e.takers };
 
     ghost invariant = { λ e. IsSeatAt (sends_on e.sender) e.pass × (receives_on e.receiver ≡ sends_on e.sender) × IsCloser (known e.pass) e.files e.takers (ruled_capacity (sends_on e.sender)) };
 }
 
 impl Closer {
-    /// The closer of a lane whose other parts were given away.
+    // The closer of a lane whose other parts were given away.
     pub(crate) fn new(
         sender: Sender,
         receiver: Receiver,
@@ -127,7 +127,7 @@ impl Model for GivenUp {
     ghost view = { λ e. quits_of e.pass };
 }
 
-/// The parts of the ended puts join the closer's. Answers the number of their rows.
+// The parts of the ended puts join the closer's. Answers the number of their rows.
 fn join_puts(sender: &Sender, pass: &mut Seat, files: u8, takers: u8, puts: Vec<EndedPut>) -> u64
     requires seat { IsSeatAt (sends_on sender.now) pass.old }
     requires part { known pass.old ≡ Part.Close files takers (ruled_capacity (sends_on sender.now)) 0 0 ∷ [] }
@@ -144,7 +144,7 @@ fn join_puts(sender: &Sender, pass: &mut Seat, files: u8, takers: u8, puts: Vec<
     rows
 }
 
-/// Sends a Stop for each taker.
+// Sends a Stop for each taker.
 fn put_stops<R: Wait>(rt: &R, sender: &Sender, pass: &mut Seat, files: u8, takers: u8)
     requires seat { IsSeatAt (sends_on sender.now) pass.old }
     requires joined { IsJoined (known pass.old) files takers (ruled_capacity (sends_on sender.now)) }
@@ -156,7 +156,7 @@ fn put_stops<R: Wait>(rt: &R, sender: &Sender, pass: &mut Seat, files: u8, taker
     }
 }
 
-/// Sends `n` Quits.
+// Sends `n` Quits.
 fn put_quits<R: Wait>(rt: &R, sender: &Sender, pass: &mut Seat, files: u8, takers: u8, n: u8)
     requires seat { IsSeatAt (sends_on sender.now) pass.old }
     requires part { known pass.old ≡ Part.Close files takers (ruled_capacity (sends_on sender.now)) 0 0 ∷ [] }
@@ -185,12 +185,12 @@ impl Model for Stopped {
     ghost use Rattle.std.specs.List.{sum_by};
     ghost use Rattle.lane.specs.Message.{rows_in};
     ghost use Rattle.lane.specs.Views.{sents_in};
-    ghost use Rattle.lane.specs.Ends.{Stopping};
-    ghost use Rattle.lane.specs.Kept.{stopping_of, IsStopping};
+    ghost use Rattle.lane.specs.Ends.{StoppedView};
+    ghost use Rattle.lane.specs.Kept.{stopped_view, IsStopping};
 
-    ghost Value = { Stopping };
+    ghost Value = { StoppedView };
 
-    ghost view = { λ e. stopping_of e.pass e.takers };
+    ghost view = { λ e. stopped_view e.pass e.takers };
 
     ghost invariant = { λ e. IsSeatAt (sends_on e.sender) e.pass × (receives_on e.receiver ≡ sends_on e.sender) × IsStopping (known e.pass) e.takers (ruled_capacity (sends_on e.sender)) × (e.rows ≡ sum_by rows_in (sents_in (known e.pass))) };
 }
@@ -219,7 +219,7 @@ impl Stopped {
     }
 }
 
-/// The parts of the take ends join the closer's.
+// The parts of the take ends join the closer's.
 fn join_takes(sender: &Sender, pass: &mut Seat, takers: u8, takes: Vec<TakeEnd>)
     requires seat { IsSeatAt (sends_on sender.now) pass.old }
     requires stopped { IsStopping (known pass.old) takers (ruled_capacity (sends_on sender.now)) }

@@ -19,12 +19,12 @@ pub struct Gathered {
 
 impl Model for Gathered {
     ghost use Rattle.crossbeam_channel.specs.Claims.{view as known};
-    ghost use Rattle.lane.specs.Whole.{Gathering};
-    ghost use Rattle.lane.specs.Kept.{gathered_of, IsGathered};
+    ghost use Rattle.lane.specs.Whole.{GatheredView};
+    ghost use Rattle.lane.specs.Kept.{gathered_view, IsGathered};
 
-    ghost Value = { Gathering };
+    ghost Value = { GatheredView };
 
-    ghost view = { λ g. gathered_of g.pass };
+    ghost view = { λ g. gathered_view g.pass };
 
     ghost invariant = { λ g. IsGathered (known g.pass) g.rows };
 }

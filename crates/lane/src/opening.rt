@@ -101,7 +101,7 @@ fn open_parts(sender: &Sender, pass: &mut Seat, files: u8, takers: u8, capacity:
     let _spent = sender.another::<Opens>(pass);
 }
 
-/// The part behind the closer's, in a pass of its own.
+// The part behind the closer's, in a pass of its own.
 fn next_part(sender: &Sender, pass: &mut Seat) -> Seat
     requires seat { IsSeatAt (sends_on sender.now) pass.old }
     requires rule { Forks IsLane pass.old.id (view pass.old) (without_second (view pass.old)) (second_alone (view pass.old)) }

@@ -29,18 +29,18 @@ impl Model for PutEnd {
     ghost use Rattle.crossbeam_channel.specs.Claims.{view as known, IsSeatAt};
     ghost use Rattle.crossbeam_channel.specs.Ends.{sends_on, ruled_capacity};
     ghost use Rattle.lane.specs.Views.{capacity_in};
-    ghost use Rattle.lane.specs.Ends.{Putting};
-    ghost use Rattle.lane.specs.Kept.{putting_of, IsOpenPut};
+    ghost use Rattle.lane.specs.Ends.{PutEndView};
+    ghost use Rattle.lane.specs.Kept.{put_end_view, IsOpenPut};
 
-    ghost Value = { Putting };
+    ghost Value = { PutEndView };
 
-    ghost view = { λ e. putting_of e.pass e.file };
+    ghost view = { λ e. put_end_view e.pass e.file };
 
     ghost invariant = { λ e. IsSeatAt (sends_on e.sender) e.pass × (ruled_capacity (sends_on e.sender) ≡ capacity_in (known e.pass)) × IsOpenPut (known e.pass) e.file e.rows };
 }
 
 impl PutEnd {
-    /// A put end that sent nothing yet.
+    // A put end that sent nothing yet.
     pub(crate) fn new(sender: Sender, pass: Seat, file: u8) -> PutEnd
         requires seat { IsSeatAt (sends_on sender) pass }
         requires part { known pass ≡ Part.Put file (ruled_capacity (sends_on sender)) [] ∷ [] }
@@ -104,18 +104,18 @@ pub struct EndedPut {
 impl Model for EndedPut {
     ghost use Rattle.std.specs.Prelude.{◌≡◌, []};
     ghost use Rattle.crossbeam_channel.specs.Claims.{view as known};
-    ghost use Rattle.lane.specs.Ends.{Putting};
-    ghost use Rattle.lane.specs.Kept.{putting_of, IsEndedPut};
+    ghost use Rattle.lane.specs.Ends.{PutEndView};
+    ghost use Rattle.lane.specs.Kept.{put_end_view, IsEndedPut};
 
-    ghost Value = { Putting };
+    ghost Value = { PutEndView };
 
-    ghost view = { λ e. putting_of e.pass e.file };
+    ghost view = { λ e. put_end_view e.pass e.file };
 
     ghost invariant = { λ e. (e.pass.me.1 ≡ []) × IsEndedPut (known e.pass) e.file e.rows };
 }
 
 impl EndedPut {
-    /// Hands the end's part to the pass of the closer, and answers the number of rows.
+    // Hands the end's part to the pass of the closer, and answers the number of rows.
     pub(crate) fn join(self, sender: &Sender, pass: &mut Seat) -> u32
         requires seat { IsSeatAt (sends_on sender.now) pass.old }
         requires closer { IsClosers (known pass.old) }

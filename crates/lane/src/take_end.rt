@@ -28,18 +28,18 @@ impl Model for TakeEnd {
     ghost use Rattle.crossbeam_channel.specs.Ends.{receives_on};
     ghost use Rattle.lane.specs.Message.{is_done};
     ghost use Rattle.lane.specs.Views.{took_in};
-    ghost use Rattle.lane.specs.Ends.{Taking};
-    ghost use Rattle.lane.specs.Kept.{taking_of, IsTake};
+    ghost use Rattle.lane.specs.Ends.{TakeEndView};
+    ghost use Rattle.lane.specs.Kept.{take_end_view, IsTake};
 
-    ghost Value = { Taking };
+    ghost Value = { TakeEndView };
 
-    ghost view = { λ e. taking_of e.pass e.taker };
+    ghost view = { λ e. take_end_view e.pass e.taker };
 
     ghost invariant = { λ e. IsSeatAt (receives_on e.receiver) e.pass × IsTake (known e.pass) e.taker × (e.done ≡ is_done (took_in (known e.pass))) };
 }
 
 impl TakeEnd {
-    /// A take end that took nothing yet.
+    // A take end that took nothing yet.
     pub(crate) fn new(receiver: Receiver, pass: Seat, taker: u8) -> TakeEnd
         requires seat { IsSeatAt (receives_on receiver) pass }
         requires part { known pass ≡ Part.Take taker (ruled_capacity (receives_on receiver)) [] ∷ [] }
@@ -74,7 +74,7 @@ impl TakeEnd {
         self.done
     }
 
-    /// Hands the end's part to the pass of the closer.
+    // Hands the end's part to the pass of the closer.
     pub(crate) fn join(self, sender: &Sender, pass: &mut Seat)
         requires seat { IsSeatAt (sends_on sender.now) pass.old }
         requires closer { IsClosers (known pass.old) }

@@ -13,7 +13,7 @@ use Rattle.std.proofs.lemmas.List.Sums.{position_or_len_is}
 use Rattle.std.proofs.lemmas.Option.{slice_get-get_or}
 use Rattle.pit_model.specs.declared.block.Block.{Block}
 use Rattle.pit_model.specs.declared.resource.Resource.{Resource}
-use Rattle.precedence.specs.Identifier.{id, IsNumbering, Numbered}
+use Rattle.precedence.specs.Identifier.{id, IsNumbering, NumberingView}
 use Rattle.mine_instance.specs.OfModel.{block_with, by_identifier, covers, pair_with, covering, block_coefs, coefs_of}
 use Rattle.mine_instance.specs.Rows.{rows_of}
 
@@ -114,7 +114,7 @@ fails true never = absurd (never refl)
 fails false never = refl
 
 -- the block of an identifier is the one of the numbering
-block_found : (listed : List Block) (n : Numbered) → IsNumbering listed n → (k : ℕ) (d : Block) → k < length n.blocks
+block_found : (listed : List Block) (n : NumberingView) → IsNumbering listed n → (k : ℕ) (d : Block) → k < length n.blocks
     → block_with listed k ≡ Some (get_or n.blocks k d)
 block_found listed n is k d h =
     find_at (λ b. id listed b == k) listed
@@ -149,7 +149,7 @@ all_found f g a (suc m) each =
     ∙ ap (λ rest. g a ∷ rest) (all_found f g (a + 1) m (λ k h. each k (omega arith)))
 
 -- blocks by identifier are those of the numbering
-pub by_identifier_is : (listed : List Block) (n : Numbered) → IsNumbering listed n → by_identifier listed ≡ n.blocks
+pub by_identifier_is : (listed : List Block) (n : NumberingView) → IsNumbering listed n → by_identifier listed ≡ n.blocks
 by_identifier_is listed n is =
     ap (λ m. filter_map (block_with listed) (range_with_len 0 m)) (sym is.blocks)
     ∙ all_found (block_with listed) (λ k. get_or n.blocks k blank) 0 (length n.blocks) (λ k h. block_found listed n is k blank (omega arith))

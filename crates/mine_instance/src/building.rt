@@ -26,7 +26,7 @@ use precedence::{Numbering, Preds};
 use std::alloc::{AllocError, Global};
 use valuers::Valued;
 
-/// A destination and a resource that covers it, by their numbers.
+// A destination and a resource that covers it, by their numbers.
 type Covering = (u8, u8);
 
 /// The instance of a model, given its rows, their numbering and their predecessors. Fails only where memory is refused.

@@ -37,7 +37,7 @@ pub fn build_cpit(alloc: Global, instance: &Instance) -> Result<Cpit, AllocError
     ))
 }
 
-/// Where each block is worth most, and what it is worth there.
+// Where each block is worth most, and what it is worth there.
 #[derive(Drop)]
 struct Chosen {
     destinations: Vec<usize>,
@@ -63,7 +63,7 @@ fn chosen_of(alloc: Global, values: &Values) -> Result<Chosen, AllocError>
     })
 }
 
-/// The coefficients at their blocks' destinations.
+// The coefficients at their blocks' destinations.
 fn coefs_at(
     alloc: Global,
     coefs: &[Coef],

@@ -6,7 +6,7 @@ use Rattle.std.proofs.lemmas.Int.{ints}
 use Rattle.std.proofs.lemmas.List.Elements.{All-nil, All-cons}
 use Rattle.minelib_text.specs.Kept.{IsDecimal}
 use Rattle.minelib_text.specs.Lines.{line_of}
-use Rattle.minelib_text.specs.ModelLines.{ModelDraft, blank_model, count_in, is_complete, is_limits, admit_model}
+use Rattle.minelib_text.specs.ModelLines.{ModelDraftView, blank_model, count_in, is_complete, is_limits, admit_model}
 use Rattle.minelib_text.specs.Reading.{read_lines}
 use Rattle.minelib_text.specs.TextLines.{Line}
 use Rattle.minelib_text.specs.Written.{value_fields}
@@ -24,15 +24,15 @@ use Rattle.minelib_text.proofs.ValidHeader.{IsSingle}
 use Rattle.minelib_text.proofs.ValidModel.{model_kept}
 
 -- some lines behind what was read make it whole
-pub record Completes (d : ModelDraft) : Type 0 where
+pub record Completes (d : ModelDraftView) : Type 0 where
   pub rest : List Line
-  pub last : ModelDraft
+  pub last : ModelDraftView
   pub read : read_lines admit_model d rest ≡ Ok last
   pub complete : is_complete last.name last.header ≡ true
   pub all_values : length last.values ≡ last.blocks
   pub end : is_limits last.section ≡ true
 
-then_complete : (s t : ModelDraft) (line : List ℕ) → admit_model s line ≡ Ok t → Completes t → Completes s
+then_complete : (s t : ModelDraftView) (line : List ℕ) → admit_model s line ≡ Ok t → Completes t → Completes s
 then_complete s t line e c =
     let first : Line = record { number = 0; text = line } in
     record {
@@ -44,14 +44,14 @@ then_complete s t line e c =
       end = c.end;
     }
 
-abbrev in_section : Section → ModelDraft → ModelDraft
+abbrev in_section : Section → ModelDraftView → ModelDraftView
 in_section section d = record d { section = section }
 
-from_limits : (d : ModelDraft) → is_complete d.name d.header ≡ true → length d.values ≡ d.blocks → Completes (in_section Limits d)
+from_limits : (d : ModelDraftView) → is_complete d.name d.header ≡ true → length d.values ≡ d.blocks → Completes (in_section Limits d)
 from_limits d complete all =
     record { rest = []; last = in_section Limits d; read = refl; complete = complete; all_values = all; end = refl }
 
-from_coefs : (d : ModelDraft) → is_complete d.name d.header ≡ true → length d.values ≡ d.blocks → Completes (in_section Coefs d)
+from_coefs : (d : ModelDraftView) → is_complete d.name d.header ≡ true → length d.values ≡ d.blocks → Completes (in_section Coefs d)
 from_coefs d complete all =
     then_complete (in_section Coefs d) (in_section Limits d) _
     (section_step (in_section Coefs d) (codes "RESOURCE_CONSTRAINT_LIMITS") Limits (word_field _ _ refl) (in_all d.problem _ _ refl refl) refl
@@ -73,7 +73,7 @@ zeros_kept zero = All-nil IsDecimal
 zeros_kept (suc k) = All-cons IsDecimal (pos 0) (zeros k) (omega arith) (zeros_kept k)
 
 -- so many blocks have no values yet
-values_left : (k : ℕ) (d : ModelDraft) → is_complete d.name d.header ≡ true → length d.values + k ≡ d.blocks → d.blocks ≤ 64000000
+values_left : (k : ℕ) (d : ModelDraftView) → is_complete d.name d.header ≡ true → length d.values + k ≡ d.blocks → d.blocks ≤ 64000000
     → Completes (in_section Objective d)
 values_left zero d complete count few =
     let all : length d.values ≡ d.blocks = omega arith in
@@ -86,13 +86,13 @@ values_left (suc k) d complete count few =
     let vs = zeros destinations in
     let place : length d.values < d.blocks = omega arith in
     let fields = values_fields (length d.values) vs (omega arith) (zeros_kept destinations) in
-    let next : ModelDraft = record d { values = d.values ++ vs ∷ [] } in
+    let next : ModelDraftView = record d { values = d.values ++ vs ∷ [] } in
     then_complete (in_section Objective d) (in_section Objective next) (line_of (value_fields (length d.values) vs))
     (item_line (in_section Objective d) (value_fields (length d.values) vs) fields
     ∙ rw (values_again d.blocks destinations (length d.values) vs few place (zeros_count destinations) (zeros_kept destinations)) refl)
     (values_left k next complete (omega (arith, length-append d.values (vs ∷ []))) few)
 
-from_objective : (d : ModelDraft) → is_complete d.name d.header ≡ true → length d.values ≤ d.blocks → d.blocks ≤ 64000000
+from_objective : (d : ModelDraftView) → is_complete d.name d.header ≡ true → length d.values ≤ d.blocks → d.blocks ≤ 64000000
     → Completes (in_section Objective d)
 from_objective d complete most few = values_left (d.blocks - length d.values) d complete (omega arith) few
 
@@ -183,7 +183,7 @@ from_heading Cpit n name h few general single =
     whole : header h.is_typed h.is_counted true h.periods (Some 1) h.resources h.rate ≡ h
     whole = rw (sym general, sym single) refl
 
-from_section : (section : Section) (d : ModelDraft) → Ready section d → d.blocks ≤ 64000000 → IsSingle d.problem d.header.destinations
+from_section : (section : Section) (d : ModelDraftView) → Ready section d → d.blocks ≤ 64000000 → IsSingle d.problem d.header.destinations
     → Completes (in_section section d)
 from_section Heading d ready few single =
     let empty : heading d.problem d.blocks d.name d.header ≡ in_section Heading d = rw (ready.1, ready.2, ready.3) refl in
@@ -192,7 +192,7 @@ from_section Objective d ready few single = from_objective d ready.0 ready.1 few
 from_section Coefs d ready few single = from_coefs d ready.0 ready.1
 from_section Limits d ready few single = from_limits d ready.0 ready.1
 
-pub completed : (problem : Problem) (n : ℕ) (lines : List Line) (d : ModelDraft) → n ≤ 64000000
+pub completed : (problem : Problem) (n : ℕ) (lines : List Line) (d : ModelDraftView) → n ≤ 64000000
     → read_lines admit_model (blank_model problem n) lines ≡ Ok d → Completes d
 completed problem n lines d few e =
     let kept = model_kept problem n lines d e in

@@ -8,7 +8,7 @@ use Rattle.pit_model.specs.declared.block.Block.{Block}
 use Rattle.minelib_text.specs.BlockLines.{block_of, admit_block, blocks_in}
 use Rattle.minelib_text.specs.FirstBad.{IsFirstBad, LacksLines}
 use Rattle.minelib_text.specs.LineDemands.{asked_of_block, asked_of_preds}
-use Rattle.minelib_text.specs.PrecLines.{PrecDraft, no_lists, preds_of, admit_preds, finish_preds, preds_in}
+use Rattle.minelib_text.specs.PrecLines.{PrecDraftView, no_lists, preds_of, admit_preds, finish_preds, preds_in}
 use Rattle.minelib_text.specs.Reading.{at_line, read_lines}
 use Rattle.minelib_text.specs.SpelledBlocks.{IsBlockLine}
 use Rattle.minelib_text.specs.SpelledLines.{AreLines}
@@ -89,7 +89,7 @@ ArePredsIn n id line ids = IsPredsLine n id (fields_of line) ids
 abbrev asked_preds : ℕ → ℕ → List ℕ → List (Demand TextKind)
 asked_preds n id line = asked_of_preds n id (fields_of line)
 
-abbrev lists_of : ℕ → List (List ℕ) → PrecDraft
+abbrev lists_of : ℕ → List (List ℕ) → PrecDraftView
 lists_of n lists = record { blocks = n; lists = lists }
 
 pub bad_preds : (n : ℕ) (text : List ℕ) (fault : LineFault) → preds_in n text ≡ Err fault
@@ -101,7 +101,7 @@ bad_preds n text fault e =
     (λ own line ids h. preds_line n own (fields_of line) ids h) (λ own line ids h. preds_back n own (fields_of line) ids h) (asked_preds n)
     (λ own line. preds_told n own (fields_of line)) [] [] (lines_in text) tt)
   where
-    Here : Result PrecDraft LineFault → Type 0
+    Here : Result PrecDraftView LineFault → Type 0
     Here r = Found (ArePredsIn n) (lists_of n) (λ own line. preds_of n own (fields_of line)) admit_preds (λ items line. refl)
         (λ own line ids h. preds_line n own (fields_of line) ids h) (λ own line ids h. preds_back n own (fields_of line) ids h) (asked_preds n)
         (λ own line. preds_told n own (fields_of line)) (lines_in text) r
@@ -123,7 +123,7 @@ bad_preds n text fault e =
           other_count = λ count. absurd (cc (test, eq-eqb (length items) n count));
         }
 
-    by : (r : Result PrecDraft LineFault) → (r >>= finish_preds (end_of text)) ≡ Err fault → Here r
+    by : (r : Result PrecDraftView LineFault) → (r >>= finish_preds (end_of text)) ≡ Err fault → Here r
         → IsFirstBad (λ id line ids. IsPredsLine n id (fields_of line) ids) (λ id line. asked_of_preds n id (fields_of line)) (lines_in text) fault
         ⊎ LacksLines (λ id line ids. IsPredsLine n id (fields_of line) ids) n text fault
     by (Ok d) e h =

@@ -6,7 +6,7 @@ use Rattle.pit_model.specs.Demands.{FailsFirst}
 use Rattle.pit_model.specs.Steps.{◌>>=◌}
 use Rattle.minelib_text.specs.BegunModel.{BeginModel, IsFirstSpoiled, EndsEarly}
 use Rattle.minelib_text.specs.ModelDemands.{asked_of_model, HasKind}
-use Rattle.minelib_text.specs.ModelLines.{ModelDraft, blank_model, is_complete, is_limits, admit_model, finish_model, model_in}
+use Rattle.minelib_text.specs.ModelLines.{ModelDraftView, blank_model, is_complete, is_limits, admit_model, finish_model, model_in}
 use Rattle.minelib_text.specs.ModelSoFar.{HasOwn}
 use Rattle.minelib_text.specs.Reading.{at_line, read_lines}
 use Rattle.minelib_text.specs.SpelledModel.{AreModelLines}
@@ -29,13 +29,13 @@ use Rattle.minelib_text.proofs.ValidHeader.{IsSingle}
 use Rattle.minelib_text.proofs.ValidModel.{model_kept}
 
 -- where lines are refused
-record Stops (s : ModelDraft) (lines : List Line) (fault : LineFault) : Type 0 where
+record Stops (s : ModelDraftView) (lines : List Line) (fault : LineFault) : Type 0 where
   pub before : List Line
   pub bad : Line
   pub behind : List Line
   pub cut : lines ≡ before ++ bad ∷ behind
   pub place : fault.line ≡ bad.number
-  pub state : ModelDraft
+  pub state : ModelDraftView
   pub read : read_lines admit_model s before ≡ Ok state
   pub kind : TextKind
   pub refused : admit_model state bad.text ≡ Err kind
@@ -44,12 +44,12 @@ record Stops (s : ModelDraft) (lines : List Line) (fault : LineFault) : Type 0 w
 err_same : {B : Type 0} (f g : LineFault) → ◌≡◌ {A = Result B LineFault} (Err f) (Err g) → f ≡ g
 err_same f g e = cc
 
-stops : (s : ModelDraft) (lines : List Line) (fault : LineFault) → read_lines admit_model s lines ≡ Err fault → Stops s lines fault
+stops : (s : ModelDraftView) (lines : List Line) (fault : LineFault) → read_lines admit_model s lines ≡ Err fault → Stops s lines fault
 stops s [] fault e = absurd cc
 stops s (line ∷ lines) fault e = by (λ next h. stops next lines fault h) (admit_model s line.text) refl e
   where
-    by : ((next : ModelDraft) → read_lines admit_model next lines ≡ Err fault → Stops next lines fault)
-        → (r : Result ModelDraft TextKind) → admit_model s line.text ≡ r
+    by : ((next : ModelDraftView) → read_lines admit_model next lines ≡ Err fault → Stops next lines fault)
+        → (r : Result ModelDraftView TextKind) → admit_model s line.text ≡ r
         → (at_line line.number r >>= λ next. read_lines admit_model next lines) ≡ Err fault → Stops s (line ∷ lines) fault
     by deeper (Ok next) is h =
         let more = deeper next h in
@@ -66,7 +66,7 @@ stops s (line ∷ lines) fault e = by (λ next h. stops next lines fault h) (adm
           same_kind = more.same_kind;
         }
     by deeper (Err kind) is h =
-        let same : record { line = line.number; kind = kind } ≡ fault = err_same {B = ModelDraft} (record { line = line.number; kind = kind }) fault h in
+        let same : record { line = line.number; kind = kind } ≡ fault = err_same {B = ModelDraftView} (record { line = line.number; kind = kind }) fault h in
         record {
           before = [];
           bad = line;
@@ -81,7 +81,7 @@ stops s (line ∷ lines) fault e = by (λ next h. stops next lines fault h) (adm
         }
 
 -- lines that are read begin a model
-begins : (problem : Problem) (n : ℕ) (lines : List Line) (d : ModelDraft) → n ≤ 64000000 → read_lines admit_model (blank_model problem n) lines ≡ Ok d
+begins : (problem : Problem) (n : ℕ) (lines : List Line) (d : ModelDraftView) → n ≤ 64000000 → read_lines admit_model (blank_model problem n) lines ≡ Ok d
     → BeginModel problem n lines
 begins problem n lines d few e =
     let c = completed problem n lines d few e in (
@@ -92,7 +92,7 @@ begins problem n lines d few e =
     )
 
 -- a line that is refused begins none
-spoils : (problem : Problem) (n : ℕ) (before : List Line) (bad : Line) (d : ModelDraft) (kind : TextKind)
+spoils : (problem : Problem) (n : ℕ) (before : List Line) (bad : Line) (d : ModelDraftView) (kind : TextKind)
     → read_lines admit_model (blank_model problem n) before ≡ Ok d → admit_model d bad.text ≡ Err kind → ¬ (BeginModel problem n (before ++ bad ∷ []))
 spoils problem n before bad d kind e refused (rest, m, are) =
     let whole = lines_back problem n m ((before ++ bad ∷ []) ++ rest) are in
@@ -101,7 +101,7 @@ spoils problem n before bad d kind e refused (rest, m, are) =
     ∙ ap (λ r. at_line bad.number r >>= λ next. read_lines admit_model next rest) refused in
     absurd (not_both _ _ _ whole (cut ∙ fails))
   where
-    not_both : (r : Result ModelDraft LineFault) (last : ModelDraft) (fault : LineFault) → r ≡ Ok last → r ≡ Err fault → ⊥
+    not_both : (r : Result ModelDraftView LineFault) (last : ModelDraftView) (fault : LineFault) → r ≡ Ok last → r ≡ Err fault → ⊥
     not_both r last fault a b = cc
 
 own : (problem : Problem) (h : Header) → IsSingle problem h.destinations → IsGeneral problem h → HasOwn problem h
@@ -132,12 +132,12 @@ bad_model problem n text fault few e = by (read_lines admit_model (blank_model p
     no_model : (m : StatedModel) → ¬ (AreModelLines problem n (lines_in text) m)
     no_model m are = let back = model_back problem n text m are in let read = back.1 in absurd cc
 
-    ends : (t : Bool) (d : ModelDraft) → (if t then Ok d else Err (record { line = end_of text; kind = Missing })) ≡ Err fault
+    ends : (t : Bool) (d : ModelDraftView) → (if t then Ok d else Err (record { line = end_of text; kind = Missing })) ≡ Err fault
         → BeginModel problem n (lines_in text) → EndsEarly problem n text fault
     ends true d e begun = absurd cc
     ends false d e begun =
         let same : record { line = end_of text; kind = Missing } ≡ fault =
-        err_same {B = ModelDraft} (record { line = end_of text; kind = Missing }) fault e in
+        err_same {B = ModelDraftView} (record { line = end_of text; kind = Missing }) fault e in
         record {
           place = sym (ap (λ (f : LineFault). f.line) same);
           kind = sym (ap (λ (f : LineFault). f.kind) same);
@@ -145,13 +145,13 @@ bad_model problem n text fault few e = by (read_lines admit_model (blank_model p
           no_model = no_model;
         }
 
-    by : (r : Result ModelDraft LineFault) → read_lines admit_model (blank_model problem n) (lines_in text) ≡ r
+    by : (r : Result ModelDraftView LineFault) → read_lines admit_model (blank_model problem n) (lines_in text) ≡ r
         → (r >>= finish_model (end_of text)) ≡ Err fault
         → (IsFirstSpoiled problem n (lines_in text) fault.line × HasKind problem n (lines_in text) fault) ⊎ EndsEarly problem n text fault
     by (Ok d) is h =
         inr (ends (is_complete d.name d.header && (length d.values == d.blocks) && is_limits d.section) d h (begins problem n (lines_in text) d few is))
     by (Err f) is h =
-        let same = err_same {B = ModelDraft} f fault h in
+        let same = err_same {B = ModelDraftView} f fault h in
         let stop : Stops (blank_model problem n) (lines_in text) fault =
         subst (Stops (blank_model problem n) (lines_in text)) same (stops (blank_model problem n) (lines_in text) f is) in
         inl (

@@ -6,7 +6,7 @@ use Rattle.std.proofs.lemmas.Bool.Decides.{nat_tests}
 use Rattle.std.proofs.lemmas.List.Elements.{Contains-push, Contains-append_left}
 use Rattle.std.proofs.lemmas.List.Quantifiers.{all_pairs_push}
 use Rattle.pit_model.specs.Name.{is_name}
-use Rattle.minelib_text.specs.ModelLines.{ModelDraft, blank_header, count_in, is_given, name_with}
+use Rattle.minelib_text.specs.ModelLines.{ModelDraftView, blank_header, count_in, is_given, name_with}
 use Rattle.minelib_text.specs.ModelSoFar.{SaysKey, Stated, KeyLine, Heads}
 use Rattle.minelib_text.specs.SpelledFields.{StatesWhole}
 use Rattle.minelib_text.specs.SpelledKeys.{IsKeyLine, StatesKey}
@@ -124,7 +124,7 @@ heads_more problem n k value name h next lines line sets new is_key heads = reco
         heads.spelled
 
 -- what a key says of a draft its model states
-model_stated : (problem : Problem) (n : ℕ) (k : HeaderKey) (value : List ℕ) (d : ModelDraft) → SaysKey problem n k value d.name d.header
+model_stated : (problem : Problem) (n : ℕ) (k : HeaderKey) (value : List ℕ) (d : ModelDraftView) → SaysKey problem n k value d.name d.header
     → StatesKey problem n k value (stated_by d)
 model_stated problem n key.Name value d s = s
 model_stated problem n key.Type value d s = s
@@ -138,7 +138,7 @@ model_stated problem n key.Resources value d s = subst (StatesWhole 9 value) (sy
 model_stated problem n key.Rate value d s = (s.0, ap (λ r. pos (count_in r)) s.1, s.2)
 
 -- the lines of a header that lacks no key
-pub heads_whole : (problem : Problem) (n : ℕ) (d : ModelDraft) (lines : List Line) → IsComplete d.name d.header
+pub heads_whole : (problem : Problem) (n : ℕ) (d : ModelDraftView) (lines : List Line) → IsComplete d.name d.header
     → Heads problem n d.name d.header lines → AreHeaderLines problem n lines (stated_by d)
 heads_whole problem n d lines complete heads = record {
   keys = heads.keys;

@@ -12,7 +12,7 @@ use Rattle.mine_instance.specs.Valid.{IsHorizon}
 use Rattle.mine_instance.specs.declared.coef.Coef.{Coef}
 use Rattle.pit_model.specs.declared.limit.Limit.{Limit}
 use Rattle.minelib_text.specs.FieldValues.{whole_in}
-use Rattle.minelib_text.specs.ModelLines.{ModelDraft, is_colon, key_in, type_text, is_next, is_ready, is_given, header_with, name_with, admit_key, admit_model, blank_model}
+use Rattle.minelib_text.specs.ModelLines.{ModelDraftView, is_colon, key_in, type_text, is_next, is_ready, is_given, header_with, name_with, admit_key, admit_model, blank_model}
 use Rattle.minelib_text.specs.TextLines.{fields_of}
 use Rattle.minelib_text.specs.Written.{key_line, problem_keys, pcpsp_keys, cpit_keys}
 use Rattle.minelib_text.specs.declared.model_key.Header.{Header}
@@ -29,7 +29,7 @@ use Rattle.minelib_text.proofs.NumbersBack.{decimal_field, whole_field, name_fie
 use Rattle.minelib_text.proofs.PlainText.{is_plain, is_inner, plain_inner, plain_no_colon, all_weaker, all_parts, first_read, IsField, IsLine, fields_again}
 
 -- a model line takes what was read before it to what was read with it
-pub record IsStep (before : ModelDraft) (line : List ℕ) (after : ModelDraft) : Type 0 where
+pub record IsStep (before : ModelDraftView) (line : List ℕ) (after : ModelDraftView) : Type 0 where
   pub is_line : IsLine line
   pub admitted : admit_model before line ≡ Ok after
 
@@ -53,7 +53,7 @@ pub only_field : (word : List ℕ) → IsField word → fields_of word ≡ word 
 only_field word h = fields_again (word ∷ []) (record { some = omega arith; each = (h, tt) })
 
 -- a key line is that of its word, and says what is behind the colon
-key_admitted : (d : ModelDraft) (word rest : List ℕ) → IsField word
+key_admitted : (d : ModelDraftView) (word rest : List ℕ) → IsField word
     → admit_model d (word ++ 58 ∷ rest) ≡ admit_key d (key_in d.problem word) (fields_of rest)
 unfolding admit_model
 key_admitted d word rest h =
@@ -76,7 +76,7 @@ pub word_field : (c : ℕ) (cs : List ℕ) → list_all is_plain (c ∷ cs) ≡ 
 word_field c cs h = record { some = omega arith; bytes = h }
 
 -- what was read up to a section
-abbrev pub draft : Problem → ℕ → List ℕ → Header → Section → List (List ℤ) → List Coef → List Limit → ModelDraft
+abbrev pub draft : Problem → ℕ → List ℕ → Header → Section → List (List ℤ) → List Coef → List Limit → ModelDraftView
 draft p n name h section values coefs limits = record {
   problem = p;
   blocks = n;
@@ -89,7 +89,7 @@ draft p n name h section values coefs limits = record {
 }
 
 -- what was read before the first section
-abbrev pub heading : Problem → ℕ → List ℕ → Header → ModelDraft
+abbrev pub heading : Problem → ℕ → List ℕ → Header → ModelDraftView
 heading p n name h = draft p n name h Heading [] [] []
 
 -- a header line is read where its key is new and its value is what the key takes
@@ -102,7 +102,7 @@ header_step p n name word value k h new is_word is_value is_key fresh with_value
 }
 
 -- a line of a section's key is read where the section is the next and what has to stand before it does
-pub section_step : (d : ModelDraft) (word : List ℕ) (section : Section) → IsField word → key_in d.problem word ≡ Some (model_key.Section section)
+pub section_step : (d : ModelDraftView) (word : List ℕ) (section : Section) → IsField word → key_in d.problem word ≡ Some (model_key.Section section)
     → is_next d.section section ≡ true → is_ready d d.section ≡ true → IsStep d (word ++ 58 ∷ []) (record d { section = section })
 section_step d word section is_word is_key next ready = record {
   is_line = key_is_line word [] is_word refl;
@@ -173,17 +173,17 @@ rate_step p n h name (pos k) within fresh =
     (in_all p _ _ refl refl) fresh (rw (size_again 6 (10 ^ 6) k (omega arith) (omega arith) most (omega arith)) refl)
 
 -- model lines take what was read before them to what was read with them
-pub record AreSteps (before : ModelDraft) (lines : List (List ℕ)) (after : ModelDraft) : Type 0 where
+pub record AreSteps (before : ModelDraftView) (lines : List (List ℕ)) (after : ModelDraftView) : Type 0 where
   pub admitted : AdmitsAll admit_model before lines after
 
-pub then_lines : (s t u : ModelDraft) (line : List ℕ) (lines : List (List ℕ)) → IsStep s line t → AreSteps t lines u
+pub then_lines : (s t u : ModelDraftView) (line : List ℕ) (lines : List (List ℕ)) → IsStep s line t → AreSteps t lines u
     → AreSteps s (line ∷ lines) u
 then_lines s t u line lines h more = record { admitted = (t, h.is_line, h.admitted, more.admitted) }
 
-pub and_lines : (s t u : ModelDraft) (xs ys : List (List ℕ)) → AreSteps s xs t → AreSteps t ys u → AreSteps s (xs ++ ys) u
+pub and_lines : (s t u : ModelDraftView) (xs ys : List (List ℕ)) → AreSteps s xs t → AreSteps t ys u → AreSteps s (xs ++ ys) u
 and_lines s t u xs ys h more = record { admitted = admits_both admit_model s t u xs ys h.admitted more.admitted }
 
-no_lines : (s : ModelDraft) → AreSteps s [] s
+no_lines : (s : ModelDraftView) → AreSteps s [] s
 no_lines s = record { admitted = refl }
 
 -- a header with all its keys

@@ -9,7 +9,7 @@ use Rattle.mine_instance.specs.Valid.{AreCoefs, AreLimits, IsUpward}
 use Rattle.mine_instance.specs.declared.coef.Coef.{Coef}
 use Rattle.minelib_text.specs.Kept.{IsDecimal, HasDecimals}
 use Rattle.minelib_text.specs.Lines.{text_of, line_of, lines_from}
-use Rattle.minelib_text.specs.ModelLines.{ModelDraft, is_complete, admit_item, admit_model, blank_model, model_in}
+use Rattle.minelib_text.specs.ModelLines.{ModelDraftView, is_complete, admit_item, admit_model, blank_model, model_in}
 use Rattle.minelib_text.specs.Written.{value_fields, limit_fields, section_lines}
 use Rattle.minelib_text.specs.declared.model_key.Problem.{Problem}
 use Rattle.minelib_text.specs.declared.model_key.Section.TheVariants.{Objective, Coefs, Limits}
@@ -36,12 +36,12 @@ pub record IsModel (p : Problem) (n periods destinations resources : ℕ) (value
   pub limits_kept : All (λ l. HasDecimals l.bound) limits
 
 -- a line of fields is an item of its section
-pub item_line : (d : ModelDraft) (fields : List (List ℕ)) → AreFields fields → admit_model d (line_of fields) ≡ admit_item d d.section fields
+pub item_line : (d : ModelDraftView) (fields : List (List ℕ)) → AreFields fields → admit_model d (line_of fields) ≡ admit_item d d.section fields
 unfolding admit_model
 item_line d fields h = rw (no_colon fields h, fields_again fields h) refl
 
 -- items that are admitted one after the other are read
-items_read : {A : Type 0} (fields : ℕ → A → List (List ℕ)) (after : List A → ModelDraft) (all : List A) → AdmitsEach admit_model fields after all
+items_read : {A : Type 0} (fields : ℕ → A → List (List ℕ)) (after : List A → ModelDraftView) (all : List A) → AdmitsEach admit_model fields after all
     → AreSteps (after []) (lines_from fields 0 all) (after all)
 items_read fields after all each = record { admitted = items_admitted admit_model fields after all each 0 [] all refl refl }
 

@@ -2,7 +2,7 @@
 use Rattle.std.specs.Prelude.{◌≡◌, ℕ, ◌==◌, ◌&&◌, true, false, not, List, length, is_some, Ok}
 use Rattle.std.proofs.Common.{ap, subst}
 use Rattle.std.proofs.lemmas.Bool.{and_parts, eqb-true}
-use Rattle.minelib_text.specs.ModelLines.{ModelDraft, blank_model, is_complete, is_given, is_limits, admit_model, finish_model, model_in}
+use Rattle.minelib_text.specs.ModelLines.{ModelDraftView, blank_model, is_complete, is_given, is_limits, admit_model, finish_model, model_in}
 use Rattle.minelib_text.specs.Reading.{read_lines}
 use Rattle.minelib_text.specs.TextLines.{lines_in, end_of}
 use Rattle.minelib_text.specs.declared.model_key.Header.{Header}
@@ -55,13 +55,13 @@ each_given name h c key.General = c.general
 each_given name h c key.Rate = c.rate
 
 -- a model file that was read to its end
-pub record IsFinished (problem : Problem) (n : ℕ) (text : List ℕ) (d : ModelDraft) : Type 0 where
+pub record IsFinished (problem : Problem) (n : ℕ) (text : List ℕ) (d : ModelDraftView) : Type 0 where
   pub of_lines : read_lines admit_model (blank_model problem n) (lines_in text) ≡ Ok d
   pub complete : IsComplete d.name d.header
   pub all_values : length d.values ≡ d.blocks
   pub at_limits : is_limits d.section ≡ true
 
-pub model_finished : (problem : Problem) (n : ℕ) (text : List ℕ) (d : ModelDraft) → model_in problem n text ≡ Ok d → IsFinished problem n text d
+pub model_finished : (problem : Problem) (n : ℕ) (text : List ℕ) (d : ModelDraftView) → model_in problem n text ≡ Ok d → IsFinished problem n text d
 model_finished problem n text d e =
     bind_then (read_lines admit_model (blank_model problem n) (lines_in text)) (finish_model (end_of text)) d e (λ last of_lines e1.
     let t = then_ok (is_complete last.name last.header && (length last.values == last.blocks) && is_limits last.section)

@@ -2,7 +2,7 @@
 use Rattle.std.specs.Prelude.{◌≡◌, ℕ, ◌≤◌, true, List, [], ◌∷◌, ◌++◌, length, Ok}
 use Rattle.std.proofs.Common.{refl, sym, ap, subst, arith, length-append}
 use Rattle.std.proofs.lemmas.Bool.{eqb-true}
-use Rattle.minelib_text.specs.ModelLines.{ModelDraft, blank_model, is_ready, is_complete, name_with, admit_model}
+use Rattle.minelib_text.specs.ModelLines.{ModelDraftView, blank_model, is_ready, is_complete, name_with, admit_model}
 use Rattle.minelib_text.specs.Reading.{read_lines}
 use Rattle.minelib_text.specs.TextLines.{Line}
 use Rattle.minelib_text.specs.declared.model_key.Header.{Header}
@@ -23,7 +23,7 @@ IsGeneral Pcpsp h = Unit {0}
 IsGeneral Cpit h = h.is_general ≡ true
 
 -- in the header no item stands; behind it all keys do, and behind the values all of these
-abbrev pub Ready : Section → ModelDraft → Type 0
+abbrev pub Ready : Section → ModelDraftView → Type 0
 Ready Heading d = IsGeneral d.problem d.header × (d.values ≡ []) × (d.coefs ≡ []) × (d.limits ≡ [])
 Ready Objective d = (is_complete d.name d.header ≡ true) × (length d.values ≤ d.blocks)
 Ready Coefs d = (is_complete d.name d.header ≡ true) × (length d.values ≡ d.blocks)
@@ -41,11 +41,11 @@ general_kept Cpit n key.Resources value h next s was = subst (λ h. h.is_general
 general_kept Cpit n key.General value h next s was = subst (λ h. h.is_general ≡ true) s.0 refl
 general_kept Cpit n key.Rate value h next s was = subst (λ h. h.is_general ≡ true) s.1 was
 
-keyed : (d : ModelDraft) (line : List ℕ) (next : ModelDraft) → SetsKey d line next → Ready d.section d → Ready next.section next
+keyed : (d : ModelDraftView) (line : List ℕ) (next : ModelDraftView) → SetsKey d line next → Ready d.section d → Ready next.section next
 keyed d line next s was =
     let here = in_heading d.section s.heading in
     let heading = subst (λ section. Ready section d) here was in
-    let after : ModelDraft = record d { header = s.header; name = name_with s.key s.value d.name } in
+    let after : ModelDraftView = record d { header = s.header; name = name_with s.key s.value d.name } in
     let now : Ready Heading after = (
       general_kept d.problem d.blocks s.key s.value d.header s.header s.sets heading.0,
       heading.1,
@@ -54,7 +54,7 @@ keyed d line next s was =
     ) in
     subst (λ d. Ready d.section d) s.is (subst (λ section. Ready section after) (sym here) now)
 
-begun : (d : ModelDraft) (line : List ℕ) (next : ModelDraft) → BeginsSection d line next → Ready d.section d → Ready next.section next
+begun : (d : ModelDraftView) (line : List ℕ) (next : ModelDraftView) → BeginsSection d line next → Ready d.section d → Ready next.section next
 begun d line next s was =
     subst (λ d. Ready d.section d) s.is
     (next_by (λ now later. is_ready d now ≡ true → Ready now d → Ready later (record d { section = later }))
@@ -66,27 +66,27 @@ begun d line next s was =
     none_yet : d.values ≡ [] → length d.values ≤ d.blocks
     none_yet e = omega (arith, ap length e)
 
-valued : (d : ModelDraft) (line : List ℕ) (next : ModelDraft) → AddsValues d line next → Ready d.section d → Ready next.section next
+valued : (d : ModelDraftView) (line : List ℕ) (next : ModelDraftView) → AddsValues d line next → Ready d.section d → Ready next.section next
 valued d line next s was =
     let before = subst (λ section. Ready section d) s.here was in
-    let after : ModelDraft = record d { values = d.values ++ s.values ∷ [] } in
+    let after : ModelDraftView = record d { values = d.values ++ s.values ∷ [] } in
     let below = s.spelled.states_block.below in
     let now : Ready Objective after = (before.0, omega (arith, length-append d.values (s.values ∷ []))) in
     subst (λ d. Ready d.section d) s.is (subst (λ section. Ready section after) (sym s.here) now)
 
-spent : (d : ModelDraft) (line : List ℕ) (next : ModelDraft) → AddsCoef d line next → Ready d.section d → Ready next.section next
+spent : (d : ModelDraftView) (line : List ℕ) (next : ModelDraftView) → AddsCoef d line next → Ready d.section d → Ready next.section next
 spent d line next s was =
-    let after : ModelDraft = record d { coefs = d.coefs ++ s.coef ∷ [] } in
+    let after : ModelDraftView = record d { coefs = d.coefs ++ s.coef ∷ [] } in
     let now : Ready Coefs after = subst (λ section. Ready section d) s.here was in
     subst (λ d. Ready d.section d) s.is (subst (λ section. Ready section after) (sym s.here) now)
 
-limited : (d : ModelDraft) (line : List ℕ) (next : ModelDraft) → AddsLimit d line next → Ready d.section d → Ready next.section next
+limited : (d : ModelDraftView) (line : List ℕ) (next : ModelDraftView) → AddsLimit d line next → Ready d.section d → Ready next.section next
 limited d line next s was =
-    let after : ModelDraft = record d { limits = d.limits ++ s.limit ∷ [] } in
+    let after : ModelDraftView = record d { limits = d.limits ++ s.limit ∷ [] } in
     let now : Ready Limits after = subst (λ section. Ready section d) s.here was in
     subst (λ d. Ready d.section d) s.is (subst (λ section. Ready section after) (sym s.here) now)
 
-stepped : (d : ModelDraft) (line : List ℕ) (next : ModelDraft) → Step d line next → Ready d.section d → Ready next.section next
+stepped : (d : ModelDraftView) (line : List ℕ) (next : ModelDraftView) → Step d line next → Ready d.section d → Ready next.section next
 stepped d line next (Keyed s) was = keyed d line next s was
 stepped d line next (Begun s) was = begun d line next s was
 stepped d line next (Valued s) was = valued d line next s was
@@ -97,13 +97,13 @@ at_first : (problem : Problem) (n : ℕ) → Ready Heading (blank_model problem 
 at_first Pcpsp n = (tt, refl, refl, refl)
 at_first Cpit n = (refl, refl, refl, refl)
 
-pub model_ready : (problem : Problem) (n : ℕ) (lines : List Line) (d : ModelDraft) → read_lines admit_model (blank_model problem n) lines ≡ Ok d
+pub model_ready : (problem : Problem) (n : ℕ) (lines : List Line) (d : ModelDraftView) → read_lines admit_model (blank_model problem n) lines ≡ Ok d
     → Ready d.section d
 model_ready problem n lines d e =
     kept_by_lines (λ d. Ready d.section d) admit_model (λ d line next says kept. stepped d line next (model_step d line next says) kept)
     (blank_model problem n) lines d e (at_first problem n)
 
-general_step : (d : ModelDraft) (line : List ℕ) (next : ModelDraft) → Step d line next → IsGeneral d.problem d.header
+general_step : (d : ModelDraftView) (line : List ℕ) (next : ModelDraftView) → Step d line next → IsGeneral d.problem d.header
     → IsGeneral next.problem next.header
 general_step d line next (Keyed s) was =
     subst (λ d. IsGeneral d.problem d.header) s.is (general_kept d.problem d.blocks s.key s.value d.header s.header s.sets was)
@@ -112,7 +112,7 @@ general_step d line next (Valued s) was = subst (λ d. IsGeneral d.problem d.hea
 general_step d line next (Spent s) was = subst (λ d. IsGeneral d.problem d.header) s.is was
 general_step d line next (Limited s) was = subst (λ d. IsGeneral d.problem d.header) s.is was
 
-pub model_general : (problem : Problem) (n : ℕ) (lines : List Line) (d : ModelDraft) → read_lines admit_model (blank_model problem n) lines ≡ Ok d
+pub model_general : (problem : Problem) (n : ℕ) (lines : List Line) (d : ModelDraftView) → read_lines admit_model (blank_model problem n) lines ≡ Ok d
     → IsGeneral d.problem d.header
 model_general problem n lines d e =
     kept_by_lines (λ d. IsGeneral d.problem d.header) admit_model

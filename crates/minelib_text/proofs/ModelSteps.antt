@@ -8,7 +8,7 @@ use Rattle.pit_model.specs.Planned.{is_turned}
 use Rattle.pit_model.specs.declared.limit.Limit.{Limit}
 use Rattle.mine_instance.specs.Order.{comes_before}
 use Rattle.mine_instance.specs.declared.coef.Coef.{Coef}
-use Rattle.minelib_text.specs.ModelLines.{ModelDraft, is_heading, is_next, is_given, is_ready, header_with, name_with, only_value, admit_key, key_of, count_in, values_of, coef_of, limit_of, last_of, is_behind, admit_item, is_colon, admit_model}
+use Rattle.minelib_text.specs.ModelLines.{ModelDraftView, is_heading, is_next, is_given, is_ready, header_with, name_with, only_value, admit_key, key_of, count_in, values_of, coef_of, limit_of, last_of, is_behind, admit_item, is_colon, admit_model}
 use Rattle.minelib_text.specs.SpelledItems.{IsValuesLine, IsCoefLine, IsLimitLine}
 use Rattle.minelib_text.specs.SpelledKeys.{IsKeyLine}
 use Rattle.minelib_text.specs.TextLines.{fields_of}
@@ -24,7 +24,7 @@ use Rattle.minelib_text.proofs.KeySteps.{Sets, key_sets}
 use Rattle.minelib_text.proofs.ReadSteps.{bind_then, guard_then, then_ok, not_false, same_ok, counted}
 
 -- a line of a header key
-pub record SetsKey (d : ModelDraft) (line : List ℕ) (next : ModelDraft) : Type 0 where
+pub record SetsKey (d : ModelDraftView) (line : List ℕ) (next : ModelDraftView) : Type 0 where
   pub key : HeaderKey
   pub value : List ℕ
   pub spelled : IsKeyLine d.problem line (model_key.Header key) (value ∷ [])
@@ -35,7 +35,7 @@ pub record SetsKey (d : ModelDraft) (line : List ℕ) (next : ModelDraft) : Type
   pub is : record d { header = header; name = name_with key value d.name } ≡ next
 
 -- the line that begins a section
-pub record BeginsSection (d : ModelDraft) (line : List ℕ) (next : ModelDraft) : Type 0 where
+pub record BeginsSection (d : ModelDraftView) (line : List ℕ) (next : ModelDraftView) : Type 0 where
   pub section : Section
   pub spelled : IsKeyLine d.problem line (model_key.Section section) []
   pub follows : is_next d.section section ≡ true
@@ -43,7 +43,7 @@ pub record BeginsSection (d : ModelDraft) (line : List ℕ) (next : ModelDraft) 
   pub is : record d { section = section } ≡ next
 
 -- a line of a block's values
-pub record AddsValues (d : ModelDraft) (line : List ℕ) (next : ModelDraft) : Type 0 where
+pub record AddsValues (d : ModelDraftView) (line : List ℕ) (next : ModelDraftView) : Type 0 where
   pub here : d.section ≡ Objective
   pub keyless : list_any is_colon line ≡ false
   pub values : List ℤ
@@ -51,7 +51,7 @@ pub record AddsValues (d : ModelDraft) (line : List ℕ) (next : ModelDraft) : T
   pub is : record d { values = d.values ++ values ∷ [] } ≡ next
 
 -- a line of a coefficient
-pub record AddsCoef (d : ModelDraft) (line : List ℕ) (next : ModelDraft) : Type 0 where
+pub record AddsCoef (d : ModelDraftView) (line : List ℕ) (next : ModelDraftView) : Type 0 where
   pub here : d.section ≡ Coefs
   pub keyless : list_any is_colon line ≡ false
   pub coef : Coef
@@ -60,7 +60,7 @@ pub record AddsCoef (d : ModelDraft) (line : List ℕ) (next : ModelDraft) : Typ
   pub is : record d { coefs = d.coefs ++ coef ∷ [] } ≡ next
 
 -- a line of a limit
-pub record AddsLimit (d : ModelDraft) (line : List ℕ) (next : ModelDraft) : Type 0 where
+pub record AddsLimit (d : ModelDraftView) (line : List ℕ) (next : ModelDraftView) : Type 0 where
   pub here : d.section ≡ Limits
   pub keyless : list_any is_colon line ≡ false
   pub limit : Limit
@@ -69,7 +69,7 @@ pub record AddsLimit (d : ModelDraft) (line : List ℕ) (next : ModelDraft) : Ty
   pub is : record d { limits = d.limits ++ limit ∷ [] } ≡ next
 
 -- an admitted line
-pub data Step (d : ModelDraft) (line : List ℕ) (next : ModelDraft) : Type 0 where
+pub data Step (d : ModelDraftView) (line : List ℕ) (next : ModelDraftView) : Type 0 where
   Keyed : SetsKey d line next → Step d line next
   Begun : BeginsSection d line next → Step d line next
   Valued : AddsValues d line next → Step d line next
@@ -85,7 +85,7 @@ empty : (values : List (List ℕ)) → not (length values == 0) ≡ false → va
 empty [] e = refl
 empty (value ∷ values) e = absurd (omega (arith, counted 0 (value ∷ values) e))
 
-key_step : (d : ModelDraft) (line : List ℕ) (next : ModelDraft) (found : Option ModelKey) → list_any is_colon line ≡ true
+key_step : (d : ModelDraftView) (line : List ℕ) (next : ModelDraftView) (found : Option ModelKey) → list_any is_colon line ≡ true
     → key_of d.problem (fields_of (before_first is_colon line)) ≡ found → admit_key d found (fields_of (after_first is_colon line)) ≡ Ok next
     → Step d line next
 key_step d line next None colon is e = absurd cc
@@ -118,7 +118,7 @@ key_step d line next (Some (model_key.Section section)) colon is e =
       is = same_ok _ next e3;
     }))))
 
-item_step : (d : ModelDraft) (line : List ℕ) (next : ModelDraft) (section : Section) → list_any is_colon line ≡ false → d.section ≡ section
+item_step : (d : ModelDraftView) (line : List ℕ) (next : ModelDraftView) (section : Section) → list_any is_colon line ≡ false → d.section ≡ section
     → admit_item d section (fields_of line) ≡ Ok next → Step d line next
 item_step d line next Heading keyless here e = absurd cc
 item_step d line next Objective keyless here e =
@@ -154,7 +154,7 @@ item_step d line next Limits keyless here e =
       is = same_ok _ next e2;
     })))
 
-pub model_step : (d : ModelDraft) (line : List ℕ) (next : ModelDraft) → admit_model d line ≡ Ok next → Step d line next
+pub model_step : (d : ModelDraftView) (line : List ℕ) (next : ModelDraftView) → admit_model d line ≡ Ok next → Step d line next
 unfolding admit_model
 model_step d line next e = by (list_any is_colon line) refl e
   where

@@ -20,7 +20,7 @@ use Rattle.mine_instance.specs.declared.coef.Coef.{Coef}
 use Rattle.minelib_text.specs.FieldValues.{stated, whole_below, whole_in, size_in, decimal_in, first_by, all_by}
 use Rattle.minelib_text.specs.LineDemands.{whole, size, field_at}
 use Rattle.minelib_text.specs.ModelDemands.{decimal, decimals, counted, asked_of_value, asked_of_key, asked_of_values, coef_fields, asked_of_coef, width_of_limit, limit_fields, asked_of_limit, asked_of_item, asked_by, asked_of_model}
-use Rattle.minelib_text.specs.ModelLines.{ModelDraft, count_in, counted_in, is_colon, is_given, is_heading, is_next, is_ready, is_behind, key_of, last_of, type_text, header_with, only_value, admit_key, values_of, coef_of, limit_width, interval_in, bound_in, limit_of, admit_coef, admit_limit, admit_item, admit_model}
+use Rattle.minelib_text.specs.ModelLines.{ModelDraftView, count_in, counted_in, is_colon, is_given, is_heading, is_next, is_ready, is_behind, key_of, last_of, type_text, header_with, only_value, admit_key, values_of, coef_of, limit_width, interval_in, bound_in, limit_of, admit_coef, admit_limit, admit_item, admit_model}
 use Rattle.minelib_text.specs.SpelledFields.{StatesWhole}
 use Rattle.minelib_text.specs.SpelledItems.{IsCoefLine, IsLimitLine}
 use Rattle.minelib_text.specs.TextLines.{fields_of}
@@ -109,7 +109,7 @@ counted_told limit field =
     same : (stated (decimal_of 0 field) >>= λ m. whole_below limit m >>= λ n. if n == 0 then Err fault.Range else Ok n) ≡ counted_in limit field
     same = bind_twice (stated (decimal_of 0 field)) (whole_below limit) (λ n. if n == 0 then Err fault.Range else Ok n)
 
-value_told : (d : ModelDraft) (k : HeaderKey) (value : List ℕ)
+value_told : (d : ModelDraftView) (k : HeaderKey) (value : List ℕ)
     → Follows (header_with d.problem d.blocks k value d.header) (asked_of_value d k value) (λ h. Unit {0})
 value_told d key.Name value = passed (is_name value) fault.Name (is_name value ≡ true) d.header (λ t. t) (λ t h. absurd cc)
 value_told d key.Type value =
@@ -128,7 +128,7 @@ value_told d key.General value = mapped (whole_in 1 value) _ (whole 1 value) _ (
 value_told d key.Rate value = mapped (size_in 6 (10 ^ 6) value) _ (size 6 (10 ^ 6) value) _ (size_told 6 (10 ^ 6) value (omega arith))
 
 -- the one value of a header key
-only_told : {B : Type 0} (d : ModelDraft) (k : HeaderKey) (values : List (List ℕ)) (next : List ℕ → Header → B)
+only_told : {B : Type 0} (d : ModelDraftView) (k : HeaderKey) (values : List (List ℕ)) (next : List ℕ → Header → B)
     → Follows (only_value values >>= λ value. header_with d.problem d.blocks k value d.header >>= λ h. Ok (next value h))
     (demand fault.Fields (length values ≡ 1) ++ asked_of_value d k (field_at values 0)) (λ y. Unit {0})
 only_told d k [] next = inl ((λ h. omega (arith, h)), refl)
@@ -147,7 +147,7 @@ no_values (v ∷ values) t =
     let same : length (v ∷ values) ≡ 0 = eqb-true (length (v ∷ values)) 0 (not_false (length (v ∷ values) == 0) t) in
     absurd (omega (arith, same))
 
-key_told : (d : ModelDraft) (found : Option ModelKey) (values : List (List ℕ)) → Follows (admit_key d found values) (asked_of_key d found values) (λ y. Unit {0})
+key_told : (d : ModelDraftView) (found : Option ModelKey) (values : List (List ℕ)) → Follows (admit_key d found values) (asked_of_key d found values) (λ y. Unit {0})
 key_told d None values = inl ((λ h. h), refl)
 key_told d (Some (model_key.Header k)) values =
     guarded (not (is_heading d.section)) fault.Key (is_heading d.section ≡ true) _ _ (λ y. Unit {0}) (λ t h. absurd cc) (λ t. (
@@ -217,7 +217,7 @@ three (a ∷ []) h = absurd (omega (arith, h))
 three (a ∷ b ∷ []) h = absurd (omega (arith, h))
 three (a ∷ b ∷ c ∷ d ∷ more) h = absurd (omega (arith, h))
 
-four_told : (m : ModelDraft) (n destinations resources : ℕ) (b d r v : List ℕ)
+four_told : (m : ModelDraftView) (n destinations resources : ℕ) (b d r v : List ℕ)
     → Follows (coef_of Pcpsp n destinations resources (b ∷ d ∷ r ∷ v ∷ []))
     (demand fault.Fields (length (b ∷ d ∷ r ∷ v ∷ []) ≡ 4) ++ whole n b ++ whole destinations d ++ whole resources r ++ decimal v) (λ c. Unit {0})
 four_told m n destinations resources b d r v =
@@ -227,7 +227,7 @@ four_told m n destinations resources b d r v =
     first_told (whole_in resources) r (v ∷ []) _ (whole resources r) _ (StatesWhole resources r) _ (whole_told resources r) (λ resource _.
     first_told decimal_in v [] _ (decimal v) [] (StandsFor 6 v) _ (decimal_told v) (λ size _. (tt, tt))))))
 
-three_told : (m : ModelDraft) (n resources : ℕ) (destinations : ℕ) (b r v : List ℕ)
+three_told : (m : ModelDraftView) (n resources : ℕ) (destinations : ℕ) (b r v : List ℕ)
     → Follows (coef_of Cpit n destinations resources (b ∷ r ∷ v ∷ []))
     (demand fault.Fields (length (b ∷ r ∷ v ∷ []) ≡ 3) ++ whole n b ++ whole resources r ++ decimal v) (λ c. Unit {0})
 three_told m n resources destinations b r v =
@@ -236,7 +236,7 @@ three_told m n resources destinations b r v =
     first_told (whole_in resources) r (v ∷ []) _ (whole resources r) _ (StatesWhole resources r) _ (whole_told resources r) (λ resource _.
     first_told decimal_in v [] _ (decimal v) [] (StandsFor 6 v) _ (decimal_told v) (λ size _. (tt, tt)))))
 
-coef_told : (p : Problem) (d : ModelDraft) (fields : List (List ℕ))
+coef_told : (p : Problem) (d : ModelDraftView) (fields : List (List ℕ))
     → Follows (coef_of p d.blocks (count_in d.header.destinations) (count_in d.header.resources) fields) (coef_fields p d fields) (λ c. Unit {0})
 coef_told Pcpsp d fields = by (length fields == 4) refl
   where
@@ -261,7 +261,7 @@ coef_told Cpit d fields = by (length fields == 3) refl
         let never : ¬ (length fields ≡ 3) = λ h. (let same : (length fields == 3) ≡ true = eq-eqb (length fields) 3 h in absurd cc) in
         rw e (inl (never, refl))
 
-admit_coef_told : (d : ModelDraft) (fields : List (List ℕ)) → Follows (admit_coef d fields) (asked_of_coef d fields) (λ y. Unit {0})
+admit_coef_told : (d : ModelDraftView) (fields : List (List ℕ)) → Follows (admit_coef d fields) (asked_of_coef d fields) (λ y. Unit {0})
 admit_coef_told d fields =
     bound_is (coef_of d.problem d.blocks (count_in d.header.destinations) (count_in d.header.resources) fields) _ (coef_fields d.problem d fields) _
     (λ c. Unit {0}) (λ y. Unit {0}) (coef_told d.problem d fields) (λ c is.
@@ -354,7 +354,7 @@ five (a ∷ b ∷ c ∷ []) h = absurd (omega (arith, h))
 five (a ∷ b ∷ c ∷ d ∷ []) h = absurd (omega (arith, h))
 five (a ∷ b ∷ c ∷ d ∷ e ∷ f ∷ more) h = absurd (omega (arith, h))
 
-limit_told : (is : Bool) (d : ModelDraft) (fields : List (List ℕ)) → bytes_eq (field_at fields 2) (codes "I") ≡ is
+limit_told : (is : Bool) (d : ModelDraftView) (fields : List (List ℕ)) → bytes_eq (field_at fields 2) (codes "I") ≡ is
     → Follows (limit_of (count_in d.header.resources) (count_in d.header.periods) fields) (limit_fields is d fields) (λ l. Unit {0})
 limit_told is d fields e = by (length fields == width_of_limit is) refl
   where
@@ -402,7 +402,7 @@ limit_told is d fields e = by (length fields == width_of_limit is) refl
         let refused : limit_of resources periods fields ≡ Err fault.Fields = rw (width, t) refl in
         subst (λ r. Follows r (limit_fields is d fields) (λ l. Unit {0})) (sym refused) (inl (never, refl))
 
-admit_limit_told : (d : ModelDraft) (fields : List (List ℕ)) → Follows (admit_limit d fields) (asked_of_limit d fields) (λ y. Unit {0})
+admit_limit_told : (d : ModelDraftView) (fields : List (List ℕ)) → Follows (admit_limit d fields) (asked_of_limit d fields) (λ y. Unit {0})
 admit_limit_told d fields =
     bound_is (limit_of (count_in d.header.resources) (count_in d.header.periods) fields) _
     (limit_fields (bytes_eq (field_at fields 2) (codes "I")) d fields) _
@@ -424,7 +424,7 @@ admit_limit_told d fields =
     neither : (a b : Bool) → a ≡ false → b ≡ true → (a || not b) ≡ true → ⊥
     neither a b x y z = cc
 
-item_told : (d : ModelDraft) (section : Section) (fields : List (List ℕ)) → Follows (admit_item d section fields) (asked_of_item d section fields) (λ y. Unit {0})
+item_told : (d : ModelDraftView) (section : Section) (fields : List (List ℕ)) → Follows (admit_item d section fields) (asked_of_item d section fields) (λ y. Unit {0})
 item_told d Heading fields = inl ((λ h. h), refl)
 item_told d Objective fields =
     mapped (values_of d.blocks (count_in d.header.destinations) (length d.values) fields) _ (asked_of_values d fields) (λ vs. Unit {0})
@@ -432,7 +432,7 @@ item_told d Objective fields =
 item_told d Coefs fields = admit_coef_told d fields
 item_told d Limits fields = admit_limit_told d fields
 
-pub model_told : (d : ModelDraft) (line : List ℕ) → Follows (admit_model d line) (asked_of_model d line) (λ y. Unit {0})
+pub model_told : (d : ModelDraftView) (line : List ℕ) → Follows (admit_model d line) (asked_of_model d line) (λ y. Unit {0})
 unfolding admit_model
 model_told d line = by (list_any is_colon line)
   where

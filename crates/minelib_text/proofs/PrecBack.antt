@@ -9,7 +9,7 @@ use Rattle.std.proofs.lemmas.Map.Steps.{length-le_from_distinct_below}
 use Rattle.mine_instance.specs.Valid.{ArePredsOf, ArePreds}
 use Rattle.minelib_text.specs.FieldValues.{whole_in}
 use Rattle.minelib_text.specs.Lines.{text_of, lines_from}
-use Rattle.minelib_text.specs.PrecLines.{stands_in, all_differ, PrecDraft, no_lists, preds_of, admit_preds, preds_in}
+use Rattle.minelib_text.specs.PrecLines.{stands_in, all_differ, PrecDraftView, no_lists, preds_of, admit_preds, preds_in}
 use Rattle.minelib_text.specs.Written.{prec_fields}
 use Rattle.minelib_text.proofs.LinesBack.{AdmitsEach, items_admitted, text_read}
 use Rattle.minelib_text.proofs.NumbersBack.{whole_field, whole_again, map_fields, map_again}
@@ -76,7 +76,7 @@ preds_fields own n ids few below h =
     let number = whole_field (length ids) (omega (arith, fewer own n ids below h)) in
     record { some = omega arith; each = (id, (number, map_fields (λ id. id < n) decimal (λ id low. whole_field id (omega arith)) ids h.below)) }
 
-abbrev draft_of : ℕ → List (List ℕ) → PrecDraft
+abbrev draft_of : ℕ → List (List ℕ) → PrecDraftView
 draft_of n lists = record { blocks = n; lists = lists }
 
 each_preds : (n : ℕ) (lists : List (List ℕ)) → n ≤ 64000000 → length lists ≡ n → ArePreds n lists

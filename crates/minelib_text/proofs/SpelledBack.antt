@@ -7,7 +7,7 @@ use Rattle.pit_model.specs.Steps.{◌>>=◌}
 use Rattle.pit_model.specs.declared.block.Block.{Block}
 use Rattle.minelib_text.specs.BlockLines.{block_of, admit_block, blocks_in}
 use Rattle.minelib_text.specs.FieldValues.{whole_in, size_in, all_by}
-use Rattle.minelib_text.specs.PrecLines.{PrecDraft, preds_of, admit_preds, finish_preds, preds_in}
+use Rattle.minelib_text.specs.PrecLines.{PrecDraftView, preds_of, admit_preds, finish_preds, preds_in}
 use Rattle.minelib_text.specs.Reading.{at_line, read_lines}
 use Rattle.minelib_text.specs.SpelledBlocks.{IsBlockLine, AreBlockLines}
 use Rattle.minelib_text.specs.SpelledFields.{StatesWhole, StatesSize}
@@ -82,7 +82,7 @@ preds_back n own fields ids h =
     ∙ three_back n own ids h.id h.count h.others (whole_back n h.id own h.states_id) (whole_back n h.count (length ids) h.states_count)
     (all_back n [] h.others ids h.states_each) (subst (λ fs. IsPredsLine n own fs ids) h.here h)
 
-abbrev lists_of : ℕ → List (List ℕ) → PrecDraft
+abbrev lists_of : ℕ → List (List ℕ) → PrecDraftView
 lists_of n lists = record { blocks = n; lists = lists }
 
 preds_from : (n own : ℕ) (lines : List Line) (done lists : List (List ℕ)) → own ≡ length done → ArePredsLines n own lines lists

@@ -11,7 +11,7 @@ use Rattle.mine_instance.specs.declared.coef.Coef.{Coef}
 use Rattle.mine_instance.specs.declared.instance.Instance.{Instance}
 use Rattle.minelib_text.specs.BlockLines.{blocks_in}
 use Rattle.minelib_text.specs.Denotes.{instance_read, denoted, Denotes, cpit_read, cpit_denoted, DenotesCpit}
-use Rattle.minelib_text.specs.ModelLines.{ModelDraft, count_in, model_in}
+use Rattle.minelib_text.specs.ModelLines.{ModelDraftView, count_in, model_in}
 use Rattle.minelib_text.specs.PrecLines.{preds_in}
 use Rattle.minelib_text.specs.Reading.{in_file}
 use Rattle.minelib_text.specs.SpelledModel.{AreModelLines}
@@ -72,7 +72,7 @@ only_again (c ∷ coefs) each =
     rw (only_again coefs (All-tail (λ c. c.d ≡ 0) c coefs each)) (ap (λ d. record c { d = d } ∷ coefs) zero)
 
 -- what is read of a CPIT's file is of one destination
-cpit_stated : (n : ℕ) (text : List ℕ) (d : ModelDraft) → model_in problem.Cpit n text ≡ Ok d → stated_by d ≡ model_of_cpit (cpit_read d)
+cpit_stated : (n : ℕ) (text : List ℕ) (d : ModelDraftView) → model_in problem.Cpit n text ≡ Ok d → stated_by d ≡ model_of_cpit (cpit_read d)
 cpit_stated n text d e =
     let m = model_is_valid problem.Cpit n text d e in
     let one : count_in d.header.destinations ≡ 1 = ap count_in m.single in

@@ -11,7 +11,7 @@ use Rattle.pit_model.specs.Plan.{stands_before}
 use Rattle.pit_model.specs.declared.limit.Limit.{Limit}
 use Rattle.mine_instance.specs.Order.{comes_before}
 use Rattle.mine_instance.specs.declared.coef.Coef.{Coef}
-use Rattle.minelib_text.specs.ModelLines.{ModelDraft, blank_header, blank_model, shared_key, key_of, is_given, is_next, is_ready, is_complete, counted_in, header_with, name_with, type_text, admit_key, admit_item, is_colon, admit_model, finish_model, model_in}
+use Rattle.minelib_text.specs.ModelLines.{ModelDraftView, blank_header, blank_model, shared_key, key_of, is_given, is_next, is_ready, is_complete, counted_in, header_with, name_with, type_text, admit_key, admit_item, is_colon, admit_model, finish_model, model_in}
 use Rattle.minelib_text.specs.Reading.{at_line, read_lines}
 use Rattle.minelib_text.specs.SpelledFields.{StatesWhole}
 use Rattle.minelib_text.specs.SpelledItems.{IsValuesLine, IsCoefLine, IsLimitLine}
@@ -73,11 +73,11 @@ header_after problem m done = record {
   rate = if stood done key.Rate then Some (unsigned_abs m.rate) else None;
 }
 
-abbrev after : Problem → ℕ → StatedModel → List HeaderKey → ModelDraft
+abbrev after : Problem → ℕ → StatedModel → List HeaderKey → ModelDraftView
 after problem n m done = draft problem n (name_after m done) (header_after problem m done) Heading [] [] []
 
 -- behind the header, in a section with these items
-abbrev within : Problem → ℕ → StatedModel → Section → List (List ℤ) → List Coef → List Limit → ModelDraft
+abbrev within : Problem → ℕ → StatedModel → Section → List (List ℤ) → List Coef → List Limit → ModelDraftView
 within problem n m section values coefs limits =
     draft problem n m.name (full_header m.periods m.destinations m.resources m.rate) section values coefs limits
 
@@ -126,7 +126,7 @@ name_back problem n m done key.General value s = refl
 name_back problem n m done key.Rate value s = refl
 
 -- a key line is that of its key
-keyed_line : (d : ModelDraft) (line : List ℕ) (found : ModelKey) (values : List (List ℕ)) → IsKeyLine d.problem line found values
+keyed_line : (d : ModelDraftView) (line : List ℕ) (found : ModelKey) (values : List (List ℕ)) → IsKeyLine d.problem line found values
     → admit_model d line ≡ admit_key d (Some found) values
 unfolding admit_model
 keyed_line d line found values h = rw (h.colon, h.key_is, h.values_are) refl
@@ -186,7 +186,7 @@ own_key Cpit (word ∷ []) k e = subst OfCpit e (shared_of_cpit word)
 own_key Cpit (word ∷ other ∷ more) k e = absurd cc
 
 -- lines that are read, and then others
-pub lines_then : (s t : ModelDraft) (lines more : List Line) → read_lines admit_model s lines ≡ Ok t
+pub lines_then : (s t : ModelDraftView) (lines more : List Line) → read_lines admit_model s lines ≡ Ok t
     → read_lines admit_model s (lines ++ more) ≡ read_lines admit_model t more
 lines_then s t [] more e = ap (λ d. read_lines admit_model d more) (same_ok s t e)
 lines_then s t (line ∷ lines) more e =
@@ -323,17 +323,17 @@ complete : (m : StatedModel) → is_name m.name ≡ true → is_complete m.name 
 complete m is = let some = (name_field m.name is).some in rw (ne_eqb (length m.name) 0 (λ e. omega arith)) refl
 
 -- the line that begins a section
-begun : (d : ModelDraft) (line : List ℕ) (section : Section) → IsKeyLine d.problem line (model_key.Section section) []
+begun : (d : ModelDraftView) (line : List ℕ) (section : Section) → IsKeyLine d.problem line (model_key.Section section) []
     → is_next d.section section ≡ true → is_ready d d.section ≡ true → admit_model d line ≡ Ok (record d { section = section })
 begun d line section h next ready = keyed_line d line (model_key.Section section) [] h ∙ rw (next, ready) refl
 
 -- a line without a colon
-item_back : (d : ModelDraft) (line : List ℕ) → have_colon (fields_of line) ≡ false → admit_model d line ≡ admit_item d d.section (fields_of line)
+item_back : (d : ModelDraftView) (line : List ℕ) → have_colon (fields_of line) ≡ false → admit_model d line ≡ admit_item d d.section (fields_of line)
 unfolding admit_model
 item_back d line h = rw (keyless line h) refl
 
 -- lines that spell items, each of which is admitted behind those before it
-items_back : {A : Type 0} (Spells : ℕ → List ℕ → A → Type 0) (state : List A → ModelDraft) (all : List A)
+items_back : {A : Type 0} (Spells : ℕ → List ℕ → A → Type 0) (state : List A → ModelDraftView) (all : List A)
     → ((done : List A) (x : A) (rest : List A) (line : List ℕ) → all ≡ done ++ x ∷ rest → Spells (length done) line x
     → admit_model (state done) line ≡ Ok (state (done ++ x ∷ [])))
     → (i : ℕ) (done rest : List A) (lines : List Line) → i ≡ length done → all ≡ done ++ rest → AreLines Spells i lines rest
@@ -376,7 +376,7 @@ module _ (problem : Problem) (n : ℕ) (m : StatedModel) where
       ) refl
 
   -- what is read of the lines of a model
-  pub whole_draft : ModelDraft
+  pub whole_draft : ModelDraftView
   whole_draft = within problem n m Limits m.values m.coefs m.limits
 
   pub lines_back : (lines : List Line) → AreModelLines problem n lines m
@@ -419,7 +419,7 @@ rated problem n lines m h =
     each there.0 key.Rate there.1 there.2
 
 pub model_back : (problem : Problem) (n : ℕ) (text : List ℕ) (m : StatedModel) → AreModelLines problem n (lines_in text) m
-    → (d : ModelDraft) × (model_in problem n text ≡ Ok d) × (stated_by d ≡ m)
+    → (d : ModelDraftView) × (model_in problem n text ≡ Ok d) × (stated_by d ≡ m)
 model_back problem n text m h =
     let name = named problem n h.heading m h.states_header in
     let rate = rated problem n h.heading m h.states_header in (

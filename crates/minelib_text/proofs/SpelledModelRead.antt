@@ -1,7 +1,7 @@
 -- The lines that are read of a model file spell what it states.
 use Rattle.std.specs.Prelude.{◌≡◌, ℕ, ◌+◌, true, List, [], ◌∷◌, ◌++◌, length, Option, Ok}
 use Rattle.std.proofs.Common.{refl, sym, ◌∙◌, ap, subst, arith, append_assoc}
-use Rattle.minelib_text.specs.ModelLines.{ModelDraft, blank_model, is_heading, is_limits, name_with, count_in, admit_model, model_in}
+use Rattle.minelib_text.specs.ModelLines.{ModelDraftView, blank_model, is_heading, is_limits, name_with, count_in, admit_model, model_in}
 use Rattle.minelib_text.specs.ModelSoFar.{SpellsValues, SpellsCoef, SpellsLimit, InHeading, InValues, InCoefs, InLimits, Part, At}
 use Rattle.minelib_text.specs.Reading.{read_lines}
 use Rattle.minelib_text.specs.SpelledKeys.{IsKeyLine}
@@ -62,12 +62,12 @@ in_limits Heading e = absurd cc
 in_limits Objective e = absurd cc
 in_limits Coefs e = absurd cc
 
-keyed : (done : List Line) (d : ModelDraft) (line : Line) (next : ModelDraft) → SetsKey d line.text next → At d.section d done
+keyed : (done : List Line) (d : ModelDraftView) (line : Line) (next : ModelDraftView) → SetsKey d line.text next → At d.section d done
     → At next.section next (done ++ line ∷ [])
 keyed done d line next s was =
     let here = in_heading d.section s.heading in
     let heading = subst (λ section. At section d done) here was in
-    let after : ModelDraft = record d { header = s.header; name = name_with s.key s.value d.name } in
+    let after : ModelDraftView = record d { header = s.header; name = name_with s.key s.value d.name } in
     let now : At Heading after (done ++ line ∷ []) = (
       heads_more d.problem d.blocks s.key s.value d.name d.header s.header done line s.sets s.new s.spelled heading.0,
       heading.1,
@@ -76,7 +76,7 @@ keyed done d line next s was =
     ) in
     subst (λ d. At d.section d (done ++ line ∷ [])) s.is (subst (λ section. At section after (done ++ line ∷ [])) (sym here) now)
 
-begun : (done : List Line) (d : ModelDraft) (line : Line) (next : ModelDraft) → BeginsSection d line.text next → At d.section d done
+begun : (done : List Line) (d : ModelDraftView) (line : Line) (next : ModelDraftView) → BeginsSection d line.text next → At d.section d done
     → At next.section next (done ++ line ∷ [])
 begun done d line next s was =
     subst (λ d. At d.section d (done ++ line ∷ [])) s.is
@@ -87,34 +87,34 @@ begun done d line next s was =
     (λ begins was. part_first (InCoefs d) d.problem Limits (SpellsLimit d) d.limits done line was.1 was.0 begins)
     d.section s.section s.follows s.spelled was)
 
-valued : (done : List Line) (d : ModelDraft) (line : Line) (next : ModelDraft) → AddsValues d line.text next → At d.section d done
+valued : (done : List Line) (d : ModelDraftView) (line : Line) (next : ModelDraftView) → AddsValues d line.text next → At d.section d done
     → At next.section next (done ++ line ∷ [])
 valued done d line next s was =
     let before = subst (λ section. At section d done) s.here was in
-    let after : ModelDraft = record d { values = d.values ++ s.values ∷ [] } in
+    let after : ModelDraftView = record d { values = d.values ++ s.values ∷ [] } in
     let now : At Objective after (done ++ line ∷ []) =
     (part_more (InHeading d) d.problem Objective (SpellsValues d) d.values done line s.values s.spelled before.0, before.1, before.2) in
     subst (λ d. At d.section d (done ++ line ∷ [])) s.is (subst (λ section. At section after (done ++ line ∷ [])) (sym s.here) now)
 
-spent : (done : List Line) (d : ModelDraft) (line : Line) (next : ModelDraft) → AddsCoef d line.text next → At d.section d done
+spent : (done : List Line) (d : ModelDraftView) (line : Line) (next : ModelDraftView) → AddsCoef d line.text next → At d.section d done
     → At next.section next (done ++ line ∷ [])
 spent done d line next s was =
     let before = subst (λ section. At section d done) s.here was in
-    let after : ModelDraft = record d { coefs = d.coefs ++ s.coef ∷ [] } in
+    let after : ModelDraftView = record d { coefs = d.coefs ++ s.coef ∷ [] } in
     let now : At Coefs after (done ++ line ∷ []) =
     (part_more (InValues d) d.problem Coefs (SpellsCoef d) d.coefs done line s.coef s.spelled before.0, before.1) in
     subst (λ d. At d.section d (done ++ line ∷ [])) s.is (subst (λ section. At section after (done ++ line ∷ [])) (sym s.here) now)
 
-limited : (done : List Line) (d : ModelDraft) (line : Line) (next : ModelDraft) → AddsLimit d line.text next → At d.section d done
+limited : (done : List Line) (d : ModelDraftView) (line : Line) (next : ModelDraftView) → AddsLimit d line.text next → At d.section d done
     → At next.section next (done ++ line ∷ [])
 limited done d line next s was =
     let before = subst (λ section. At section d done) s.here was in
-    let after : ModelDraft = record d { limits = d.limits ++ s.limit ∷ [] } in
+    let after : ModelDraftView = record d { limits = d.limits ++ s.limit ∷ [] } in
     let now : At Limits after (done ++ line ∷ []) =
     part_more (InCoefs d) d.problem Limits (SpellsLimit d) d.limits done line s.limit s.spelled before in
     subst (λ d. At d.section d (done ++ line ∷ [])) s.is (subst (λ section. At section after (done ++ line ∷ [])) (sym s.here) now)
 
-stepped : (done : List Line) (d : ModelDraft) (line : Line) (next : ModelDraft) → Step d line.text next → At d.section d done
+stepped : (done : List Line) (d : ModelDraftView) (line : Line) (next : ModelDraftView) → Step d line.text next → At d.section d done
     → At next.section next (done ++ line ∷ [])
 stepped done d line next (Keyed s) was = keyed done d line next s was
 stepped done d line next (Begun s) was = begun done d line next s was
@@ -127,7 +127,7 @@ single Pcpsp given h = tt
 single Cpit given h = ap count_in h
 
 -- all lines, cut into the header and the three sections
-whole : (d : ModelDraft) (lines : List Line) → InLimits d lines → IsComplete d.name d.header → KeepsModel d.problem d.blocks d
+whole : (d : ModelDraftView) (lines : List Line) → InLimits d lines → IsComplete d.name d.header → KeepsModel d.problem d.blocks d
     → length d.values ≡ d.blocks → AreModelLines d.problem d.blocks lines (stated_by d)
 whole d lines l complete kept count =
     let c = l.earlier in
@@ -159,7 +159,7 @@ whole d lines l complete kept count =
     }
 
 -- what lines that are read spell so far
-pub lines_so_far : (problem : Problem) (n : ℕ) (lines : List Line) (d : ModelDraft) → read_lines admit_model (blank_model problem n) lines ≡ Ok d
+pub lines_so_far : (problem : Problem) (n : ℕ) (lines : List Line) (d : ModelDraftView) → read_lines admit_model (blank_model problem n) lines ≡ Ok d
     → At d.section d lines
 lines_so_far problem n lines d of_lines =
     kept_with_lines (λ done d. At d.section d done) admit_model
@@ -167,7 +167,7 @@ lines_so_far problem n lines d of_lines =
     [] (blank_model problem n) lines d of_lines (heads_none problem n, refl, refl, refl)
 
 -- lines that are read to their end
-pub lines_spelled : (problem : Problem) (n : ℕ) (lines : List Line) (d : ModelDraft) → read_lines admit_model (blank_model problem n) lines ≡ Ok d
+pub lines_spelled : (problem : Problem) (n : ℕ) (lines : List Line) (d : ModelDraftView) → read_lines admit_model (blank_model problem n) lines ≡ Ok d
     → IsComplete d.name d.header → length d.values ≡ d.blocks → is_limits d.section ≡ true → AreModelLines problem n lines (stated_by d)
 lines_spelled problem n lines d of_lines complete count end =
     let kept = model_kept problem n lines d of_lines in
@@ -178,7 +178,7 @@ lines_spelled problem n lines d of_lines complete count end =
     subst (λ k. AreModelLines problem k lines (stated_by d)) kept.of_blocks
     (subst (λ p. AreModelLines p d.blocks lines (stated_by d)) kept.of_problem (whole d lines limits complete own count))
 
-pub model_spelled : (problem : Problem) (n : ℕ) (text : List ℕ) (d : ModelDraft) → model_in problem n text ≡ Ok d
+pub model_spelled : (problem : Problem) (n : ℕ) (text : List ℕ) (d : ModelDraftView) → model_in problem n text ≡ Ok d
     → AreModelLines problem n (lines_in text) (stated_by d)
 model_spelled problem n text d e =
     let f = model_finished problem n text d e in

@@ -3,7 +3,7 @@ use Rattle.std.specs.Prelude.{◌≡◌, ℕ, ◌+◌, List, [], ◌∷◌, ◌+
 use Rattle.std.proofs.Common.{refl, subst, arith}
 use Rattle.pit_model.specs.declared.block.Block.{Block}
 use Rattle.minelib_text.specs.BlockLines.{block_of, admit_block, blocks_in}
-use Rattle.minelib_text.specs.PrecLines.{PrecDraft, no_lists, preds_of, admit_preds, finish_preds, preds_in}
+use Rattle.minelib_text.specs.PrecLines.{PrecDraftView, no_lists, preds_of, admit_preds, finish_preds, preds_in}
 use Rattle.minelib_text.specs.Reading.{read_lines}
 use Rattle.minelib_text.specs.SpelledBlocks.{IsBlockLine, AreBlockLines}
 use Rattle.minelib_text.specs.SpelledPrec.{IsPredsLine, ArePredsLines}
@@ -27,11 +27,11 @@ pub blocks_spelled : (text : List ℕ) (blocks : List Block) → blocks_in text 
 blocks_spelled text blocks e = kept_with_lines (AreBlockLines 0) admit_block block_more [] [] (lines_in text) blocks e tt
 
 -- what the lines of predecessors so far keep
-record KeepsLists (n : ℕ) (done : List Line) (d : PrecDraft) : Type 0 where
+record KeepsLists (n : ℕ) (done : List Line) (d : PrecDraftView) : Type 0 where
   pub blocks : d.blocks ≡ n
   pub spelled : ArePredsLines n 0 done d.lists
 
-preds_more : (n : ℕ) (done : List Line) (d : PrecDraft) (line : Line) (next : PrecDraft) → admit_preds d line.text ≡ Ok next
+preds_more : (n : ℕ) (done : List Line) (d : PrecDraftView) (line : Line) (next : PrecDraftView) → admit_preds d line.text ≡ Ok next
     → KeepsLists n done d → KeepsLists n (done ++ line ∷ []) next
 preds_more n done d line next e kept =
     bind_then (preds_of d.blocks (length d.lists) (fields_of line.text)) _ next e (λ ids says added.

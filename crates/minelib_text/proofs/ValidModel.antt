@@ -7,7 +7,7 @@ use Rattle.mine_instance.specs.Order.{comes_before}
 use Rattle.mine_instance.specs.OrderLaws.{comes_before_through, stands_before_through}
 use Rattle.mine_instance.specs.Valid.{AreCoefs, AreLimits, IsUpward}
 use Rattle.mine_instance.specs.declared.coef.Coef.{Coef}
-use Rattle.minelib_text.specs.ModelLines.{ModelDraft, blank_header, blank_model, is_heading, count_in, admit_model}
+use Rattle.minelib_text.specs.ModelLines.{ModelDraftView, blank_header, blank_model, is_heading, count_in, admit_model}
 use Rattle.minelib_text.specs.SpelledItems.{IsCoefLine}
 use Rattle.minelib_text.specs.declared.model_key.Problem.{Problem}
 use Rattle.minelib_text.specs.declared.model_key.Problem.TheVariants.{Pcpsp, Cpit}
@@ -22,7 +22,7 @@ use Rattle.minelib_text.proofs.ReadSteps.{kept_by_lines}
 use Rattle.minelib_text.proofs.Rising.{rises_behind}
 
 -- what is read of n blocks
-pub record KeepsModel (problem : Problem) (n : ℕ) (d : ModelDraft) : Type 0 where
+pub record KeepsModel (problem : Problem) (n : ℕ) (d : ModelDraftView) : Type 0 where
   pub of_problem : d.problem ≡ problem
   pub of_blocks : d.blocks ≡ n
   pub name : KeepsName d.name
@@ -56,7 +56,7 @@ kept_at_first problem n = record {
   limits = no_limits (count_in (blank_header problem).resources) (count_in (blank_header problem).periods);
 }
 
-key_kept : (problem : Problem) (n : ℕ) (d : ModelDraft) (line : List ℕ) (next : ModelDraft) → SetsKey d line next → KeepsModel problem n d
+key_kept : (problem : Problem) (n : ℕ) (d : ModelDraftView) (line : List ℕ) (next : ModelDraftView) → SetsKey d line next → KeepsModel problem n d
     → KeepsModel problem n next
 key_kept problem n d line next s kept =
     let none = kept.none_yet s.heading in
@@ -76,7 +76,7 @@ key_kept problem n d line next s kept =
           (no_limits (count_in s.header.resources) (count_in s.header.periods));
     })
 
-section_kept : (problem : Problem) (n : ℕ) (d : ModelDraft) (line : List ℕ) (next : ModelDraft) → BeginsSection d line next → KeepsModel problem n d
+section_kept : (problem : Problem) (n : ℕ) (d : ModelDraftView) (line : List ℕ) (next : ModelDraftView) → BeginsSection d line next → KeepsModel problem n d
     → KeepsModel problem n next
 section_kept problem n d line next s kept = subst (KeepsModel problem n) s.is (record {
   of_problem = kept.of_problem;
@@ -101,7 +101,7 @@ coef_in_range Cpit n resources given fields c single l =
     let none : c.d ≡ 0 = l.destination in
     (l.states_block.below, omega arith, l.states_resource.below)
 
-values_kept : (problem : Problem) (n : ℕ) (d : ModelDraft) (line : List ℕ) (next : ModelDraft) → AddsValues d line next → KeepsModel problem n d
+values_kept : (problem : Problem) (n : ℕ) (d : ModelDraftView) (line : List ℕ) (next : ModelDraftView) → AddsValues d line next → KeepsModel problem n d
     → KeepsModel problem n next
 values_kept problem n d line next s kept = subst (KeepsModel problem n) s.is (record {
   of_problem = kept.of_problem;
@@ -114,7 +114,7 @@ values_kept problem n d line next s kept = subst (KeepsModel problem n) s.is (re
   limits = kept.limits;
 })
 
-coef_kept : (problem : Problem) (n : ℕ) (d : ModelDraft) (line : List ℕ) (next : ModelDraft) → AddsCoef d line next → KeepsModel problem n d
+coef_kept : (problem : Problem) (n : ℕ) (d : ModelDraftView) (line : List ℕ) (next : ModelDraftView) → AddsCoef d line next → KeepsModel problem n d
     → KeepsModel problem n next
 coef_kept problem n d line next s kept =
     let destinations = count_in d.header.destinations in
@@ -136,7 +136,7 @@ coef_kept problem n d line next s kept =
       limits = kept.limits;
     })
 
-limit_kept : (problem : Problem) (n : ℕ) (d : ModelDraft) (line : List ℕ) (next : ModelDraft) → AddsLimit d line next → KeepsModel problem n d
+limit_kept : (problem : Problem) (n : ℕ) (d : ModelDraftView) (line : List ℕ) (next : ModelDraftView) → AddsLimit d line next → KeepsModel problem n d
     → KeepsModel problem n next
 limit_kept problem n d line next s kept = subst (KeepsModel problem n) s.is (record {
   of_problem = kept.of_problem;
@@ -153,7 +153,7 @@ limit_kept problem n d line next s kept = subst (KeepsModel problem n) s.is (rec
   };
 })
 
-step_kept : (problem : Problem) (n : ℕ) (d : ModelDraft) (line : List ℕ) (next : ModelDraft) → Step d line next → KeepsModel problem n d
+step_kept : (problem : Problem) (n : ℕ) (d : ModelDraftView) (line : List ℕ) (next : ModelDraftView) → Step d line next → KeepsModel problem n d
     → KeepsModel problem n next
 step_kept problem n d line next (Keyed s) kept = key_kept problem n d line next s kept
 step_kept problem n d line next (Begun s) kept = section_kept problem n d line next s kept
@@ -162,7 +162,7 @@ step_kept problem n d line next (Spent s) kept = coef_kept problem n d line next
 step_kept problem n d line next (Limited s) kept = limit_kept problem n d line next s kept
 
 -- what all lines together keep
-pub model_kept : (problem : Problem) (n : ℕ) (lines : List Line) (d : ModelDraft) → read_lines admit_model (blank_model problem n) lines ≡ Ok d
+pub model_kept : (problem : Problem) (n : ℕ) (lines : List Line) (d : ModelDraftView) → read_lines admit_model (blank_model problem n) lines ≡ Ok d
     → KeepsModel problem n d
 model_kept problem n lines d e =
     kept_by_lines (KeepsModel problem n) admit_model

@@ -9,7 +9,7 @@ use Rattle.std.proofs.lemmas.List.Elements.{All-nil, All-cons}
 use Rattle.std.proofs.lemmas.List.Kept.{AllPairs-cons}
 use Rattle.mine_instance.specs.Valid.{ArePreds, ArePredsOf}
 use Rattle.minelib_text.specs.FieldValues.{whole_in, all_by}
-use Rattle.minelib_text.specs.PrecLines.{PrecDraft, stands_in, all_differ, no_lists, preds_with, preds_of, admit_preds, finish_preds, preds_in}
+use Rattle.minelib_text.specs.PrecLines.{PrecDraftView, stands_in, all_differ, no_lists, preds_with, preds_of, admit_preds, finish_preds, preds_in}
 use Rattle.minelib_text.specs.Reading.{read_lines}
 use Rattle.minelib_text.specs.TextLines.{fields_of, lines_in, end_of}
 use Rattle.minelib_text.specs.declared.text_fault.TextKind.TheVariants.{Fields, Order, Count, Twice, Missing}
@@ -95,7 +95,7 @@ preds_line n own fields ids e =
     }))))
 
 -- what the lists so far keep
-record KeepsPreds (n : ℕ) (d : PrecDraft) : Type 0 where
+record KeepsPreds (n : ℕ) (d : PrecDraftView) : Type 0 where
   pub blocks : d.blocks ≡ n
   pub preds : ArePreds n d.lists
 
@@ -110,7 +110,7 @@ preds_more n lists ids kept here id within = elim (cases_lt id (length lists)) [
       subst (λ l. ArePredsOf id n l) (sym first) (subst (λ k. ArePredsOf k n ids) e here))
 ]
 
-preds_kept : (n : ℕ) (d : PrecDraft) (line : List ℕ) (next : PrecDraft) → admit_preds d line ≡ Ok next → KeepsPreds n d → KeepsPreds n next
+preds_kept : (n : ℕ) (d : PrecDraftView) (line : List ℕ) (next : PrecDraftView) → admit_preds d line ≡ Ok next → KeepsPreds n d → KeepsPreds n next
 preds_kept n d line next e kept =
     let b = bind_ok (preds_of d.blocks (length d.lists) (fields_of line)) (λ ids. Ok (record d { lists = d.lists ++ ids ∷ [] })) next e in
     let same : record d { lists = d.lists ++ b.0 ∷ [] } ≡ next = same_ok _ next b.2 in

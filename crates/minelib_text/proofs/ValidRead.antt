@@ -16,7 +16,7 @@ use Rattle.mine_instance.specs.declared.coef.Coef.{Coef}
 use Rattle.mine_instance.specs.declared.instance.Instance.{Instance}
 use Rattle.minelib_text.specs.BlockLines.{blocks_in}
 use Rattle.minelib_text.specs.Denotes.{instance_read, denoted, Denotes, cpit_read, cpit_denoted, DenotesCpit}
-use Rattle.minelib_text.specs.ModelLines.{ModelDraft, count_in, model_in}
+use Rattle.minelib_text.specs.ModelLines.{ModelDraftView, count_in, model_in}
 use Rattle.minelib_text.specs.PrecLines.{preds_in}
 use Rattle.minelib_text.specs.Reading.{in_file}
 use Rattle.minelib_text.specs.TextLines.{lines_in}
@@ -31,7 +31,7 @@ use Rattle.minelib_text.proofs.ValidModel.{KeepsModel, model_kept}
 use Rattle.minelib_text.proofs.ValidPreds.{preds_are_valid}
 
 -- what a model file states, of n blocks, is as an instance has it
-pub record IsModel (problem : Problem) (n : ℕ) (d : ModelDraft) : Type 0 where
+pub record IsModel (problem : Problem) (n : ℕ) (d : ModelDraftView) : Type 0 where
   pub name : is_name d.name ≡ true
   pub horizon : IsHorizon (count_in d.header.periods) (count_in d.header.resources) (pos (count_in d.header.rate))
   pub count : length d.values ≡ n
@@ -51,12 +51,12 @@ a_name name some (inr is) = is
 in_millionths : (rate : ℕ) → rate ≤ 10 ^ 6 → (pos 0 ≤ℤ pos rate) × (pos rate ≤ℤ pos (10 ^ 6))
 in_millionths rate most = (omega (arith, ints), omega (arith, ints))
 
-pub model_is_valid : (problem : Problem) (n : ℕ) (text : List ℕ) (d : ModelDraft) → model_in problem n text ≡ Ok d → IsModel problem n d
+pub model_is_valid : (problem : Problem) (n : ℕ) (text : List ℕ) (d : ModelDraftView) → model_in problem n text ≡ Ok d → IsModel problem n d
 model_is_valid problem n text d e =
     let f = model_finished problem n text d e in
     whole problem n d (model_kept problem n (lines_in text) d f.of_lines) f.complete f.all_values
   where
-    whole : (problem : Problem) (n : ℕ) (last : ModelDraft) → KeepsModel problem n last → IsComplete last.name last.header
+    whole : (problem : Problem) (n : ℕ) (last : ModelDraftView) → KeepsModel problem n last → IsComplete last.name last.header
         → length last.values ≡ last.blocks → IsModel problem n last
     whole problem n last kept complete count =
         record {
@@ -123,7 +123,7 @@ cpit_coefs n resources coefs are = record {
         (are.rising i j blank less high))
 
 -- what a CPIT's file states keeps what every CPIT keeps, and has one value a block
-pub cpit_is_valid : (n : ℕ) (text : List ℕ) (d : ModelDraft) → n ≤ 64000000 → model_in problem.Cpit n text ≡ Ok d
+pub cpit_is_valid : (n : ℕ) (text : List ℕ) (d : ModelDraftView) → n ≤ 64000000 → model_in problem.Cpit n text ≡ Ok d
     → IsCpit (cpit_read d) × (length (cpit_read d).values ≡ n)
 cpit_is_valid n text d few e =
     let m = model_is_valid problem.Cpit n text d e in

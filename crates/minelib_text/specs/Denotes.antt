@@ -8,7 +8,7 @@ use Rattle.mine_instance.specs.OfCpit.{without_destination}
 use Rattle.mine_instance.specs.OfModel.{instance_with}
 use Rattle.mine_instance.specs.declared.instance.Instance.{Instance}
 use Rattle.minelib_text.specs.BlockLines.{blocks_in}
-use Rattle.minelib_text.specs.ModelLines.{ModelDraft, count_in, model_in}
+use Rattle.minelib_text.specs.ModelLines.{ModelDraftView, count_in, model_in}
 use Rattle.minelib_text.specs.PrecLines.{preds_in}
 use Rattle.minelib_text.specs.Reading.{in_file}
 use Rattle.minelib_text.specs.declared.model_key.Problem.TheVariants as problem
@@ -16,7 +16,7 @@ use Rattle.minelib_text.specs.declared.text_fault.TextFault.{TextFault}
 use Rattle.minelib_text.specs.declared.text_fault.TextFile.TheVariants.{Blocks, Prec, Pcpsp, Cpit}
 
 -- the instance of what its three files state
-abbrev pub instance_read : List Block → List (List ℕ) → ModelDraft → Instance
+abbrev pub instance_read : List Block → List (List ℕ) → ModelDraftView → Instance
 instance_read blocks lists d =
     instance_with d.name (pos (count_in d.header.rate)) (count_in d.header.periods) (count_in d.header.destinations)
     (count_in d.header.resources) blocks lists d.values d.coefs d.limits
@@ -34,7 +34,7 @@ abbrev pub Denotes : List ℕ → List ℕ → List ℕ → Instance → Type 0
 Denotes blocks prec pcpsp i = denoted blocks prec pcpsp ≡ Ok i
 
 -- the constrained pit limit problem of what its file states: one value a block
-abbrev pub cpit_read : ModelDraft → CpitParts
+abbrev pub cpit_read : ModelDraftView → CpitParts
 cpit_read d =
     cpit_of d.name (pos (count_in d.header.rate)) (count_in d.header.periods) (count_in d.header.resources) (flat_map (λ values. values) d.values)
     (map without_destination d.coefs) d.limits

@@ -5,7 +5,7 @@ pub mod Device
 pub mod FaultText
 pub mod FieldValues
 pub mod FileFault
-pub mod FileState
+pub mod FileSinkView
 pub mod FirstBad
 pub mod Kept
 pub mod LineDemands
@@ -19,7 +19,7 @@ pub mod ModelView
 pub mod PrecLines
 pub mod Reading
 pub mod SameTexts
-pub mod Sections
+pub mod SectionSinkView
 pub mod SinkState
 pub mod Spaced
 pub mod SpelledBlocks
@@ -32,5 +32,5 @@ pub mod SpelledPrec
 pub mod SpelledTexts
 pub mod StatedModel
 pub mod TextLines
-pub mod Tray
+pub mod MemSinkView
 pub mod Written

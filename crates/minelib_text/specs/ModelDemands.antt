@@ -11,7 +11,7 @@ use Rattle.pit_model.specs.declared.limit.Limit.{Limit}
 use Rattle.mine_instance.specs.Order.{comes_before}
 use Rattle.mine_instance.specs.declared.coef.Coef.{Coef}
 use Rattle.minelib_text.specs.LineDemands.{number, whole, size, field_at}
-use Rattle.minelib_text.specs.ModelLines.{ModelDraft, count_in, is_colon, is_given, is_heading, is_next, is_ready, is_behind, key_of, last_of, type_text}
+use Rattle.minelib_text.specs.ModelLines.{ModelDraftView, count_in, is_colon, is_given, is_heading, is_next, is_ready, is_behind, key_of, last_of, type_text}
 use Rattle.minelib_text.specs.ModelSoFar.{SpellSoFar}
 use Rattle.minelib_text.specs.SpelledFields.{StatesWhole}
 use Rattle.minelib_text.specs.SpelledItems.{IsCoefLine, IsLimitLine}
@@ -41,7 +41,7 @@ abbrev pub counted : ℕ → List ℕ → List (Demand TextKind)
 counted limit field = number 0 field ((n : ℕ) × (StatesWhole limit field n × (1 ≤ n)))
 
 -- the value of a header key
-abbrev pub asked_of_value : ModelDraft → HeaderKey → List ℕ → List (Demand TextKind)
+abbrev pub asked_of_value : ModelDraftView → HeaderKey → List ℕ → List (Demand TextKind)
 asked_of_value d key.Name value = demand fault.Name (is_name value ≡ true)
 asked_of_value d key.Type value = demand fault.Name (value ≡ type_text d.problem)
 asked_of_value d key.Blocks value = whole 64000001 value
@@ -54,7 +54,7 @@ asked_of_value d key.Rate value = size 6 (10 ^ 6) value
 
 -- a key line, by its key: of the header, before the first section and once; of the next section,
 -- where all before it stands
-abbrev pub asked_of_key : ModelDraft → Option ModelKey → List (List ℕ) → List (Demand TextKind)
+abbrev pub asked_of_key : ModelDraftView → Option ModelKey → List (List ℕ) → List (Demand TextKind)
 asked_of_key d None values = demand fault.Key ⊥
 asked_of_key d (Some (model_key.Header k)) values =
     demand fault.Key (is_heading d.section ≡ true)
@@ -65,7 +65,7 @@ asked_of_key d (Some (model_key.Section section)) values =
     ++ demand fault.Missing (is_ready d d.section ≡ true)
 
 -- `b v0 v1 ..`: those of the next block
-abbrev pub asked_of_values : ModelDraft → List (List ℕ) → List (Demand TextKind)
+abbrev pub asked_of_values : ModelDraftView → List (List ℕ) → List (Demand TextKind)
 asked_of_values d fields =
     demand fault.Fields (length fields ≡ count_in d.header.destinations + 1)
     ++ whole d.blocks (field_at fields 0)
@@ -73,7 +73,7 @@ asked_of_values d fields =
     ++ demand fault.Order (StatesWhole d.blocks (field_at fields 0) (length d.values)))
 
 -- the fields of a coefficient: `b d r v`, or `b r v`
-abbrev pub coef_fields : Problem → ModelDraft → List (List ℕ) → List (Demand TextKind)
+abbrev pub coef_fields : Problem → ModelDraftView → List (List ℕ) → List (Demand TextKind)
 coef_fields Pcpsp d fields =
     demand fault.Fields (length fields ≡ 4) ++ whole d.blocks (field_at fields 0)
     ++ whole (count_in d.header.destinations) (field_at fields 1)
@@ -84,7 +84,7 @@ coef_fields Cpit d fields =
     ++ decimal (field_at fields 2)
 
 -- a coefficient, behind the last one
-abbrev pub asked_of_coef : ModelDraft → List (List ℕ) → List (Demand TextKind)
+abbrev pub asked_of_coef : ModelDraftView → List (List ℕ) → List (Demand TextKind)
 asked_of_coef d fields =
     coef_fields d.problem d fields
     ++ demand fault.Order ((c : Coef)
@@ -102,7 +102,7 @@ width_of_limit false = 4
 width_of_limit true = 5
 
 -- the fields of a limit, whose third is `I` or not
-abbrev pub limit_fields : Bool → ModelDraft → List (List ℕ) → List (Demand TextKind)
+abbrev pub limit_fields : Bool → ModelDraftView → List (List ℕ) → List (Demand TextKind)
 limit_fields is_interval d fields =
     demand fault.Fields (length fields ≡ width_of_limit is_interval)
     ++ whole (count_in d.header.resources) (field_at fields 0)
@@ -112,7 +112,7 @@ limit_fields is_interval d fields =
     ++ bound_fields is_interval fields
 
 -- a limit, the right way round and behind the last one
-abbrev pub asked_of_limit : ModelDraft → List (List ℕ) → List (Demand TextKind)
+abbrev pub asked_of_limit : ModelDraftView → List (List ℕ) → List (Demand TextKind)
 asked_of_limit d fields =
     limit_fields (bytes_eq (field_at fields 2) (codes "I")) d fields
     ++ demand fault.Order ((l : Limit)
@@ -120,21 +120,21 @@ asked_of_limit d fields =
     × (is_behind stands_before (last_of d.limits) l ≡ true))
 
 -- a line without a key, in a section
-abbrev pub asked_of_item : ModelDraft → Section → List (List ℕ) → List (Demand TextKind)
+abbrev pub asked_of_item : ModelDraftView → Section → List (List ℕ) → List (Demand TextKind)
 asked_of_item d Heading fields = demand fault.Key ⊥
 asked_of_item d Objective fields = asked_of_values d fields
 asked_of_item d Coefs fields = asked_of_coef d fields
 asked_of_item d Limits fields = asked_of_limit d fields
 
 -- a line with a colon or without one
-abbrev pub asked_by : Bool → ModelDraft → List ℕ → List (Demand TextKind)
+abbrev pub asked_by : Bool → ModelDraftView → List ℕ → List (Demand TextKind)
 asked_by true d line =
     asked_of_key d (key_of d.problem (fields_of (before_first is_colon line)))
     (fields_of (after_first is_colon line))
 asked_by false d line = asked_of_item d d.section (fields_of line)
 
 -- a line of a model file, behind what the lines so far state
-abbrev pub asked_of_model : ModelDraft → List ℕ → List (Demand TextKind)
+abbrev pub asked_of_model : ModelDraftView → List ℕ → List (Demand TextKind)
 asked_of_model d line = asked_by (list_any is_colon line) d line
 
 -- the kind of the faulty line is that of the first thing asked of it that does not hold, behind
@@ -145,6 +145,6 @@ pub record HasKind (problem : Problem) (n : ℕ) (lines : List Line) (told : Lin
   pub behind : List Line
   pub cut : lines ≡ before ++ bad ∷ behind
   pub place : told.line ≡ bad.number
-  pub so_far : ModelDraft
+  pub so_far : ModelDraftView
   pub spelled : SpellSoFar problem n before so_far
   pub fails : FailsFirst (asked_of_model so_far bad.text) told.kind

@@ -28,7 +28,7 @@ use Rattle.minelib_text.specs.declared.text_fault.TextKind.{TextKind}
 use Rattle.minelib_text.specs.declared.text_fault.TextKind.TheVariants.{Fields, Range, Order, Count, Twice, Key, Missing, Name}
 
 -- what the lines so far state, of so many blocks
-pub record ModelDraft : Type 0 where
+pub record ModelDraftView : Type 0 where
   pub problem : Problem
   pub blocks : ℕ
   -- empty until its key stands
@@ -61,7 +61,7 @@ blank_header Cpit = record {
 }
 
 -- before the first line
-abbrev pub blank_model : Problem → ℕ → ModelDraft
+abbrev pub blank_model : Problem → ℕ → ModelDraftView
 blank_model problem n = record {
   problem = problem;
   blocks = n;
@@ -185,7 +185,7 @@ only_value (value ∷ []) = Ok value
 only_value (value ∷ other ∷ more) = Err Fields
 
 -- a line of a header key, which stands before the first section, and once
-abbrev pub admit_header : ModelDraft → HeaderKey → List (List ℕ) → Result ModelDraft TextKind
+abbrev pub admit_header : ModelDraftView → HeaderKey → List (List ℕ) → Result ModelDraftView TextKind
 admit_header d k values =
     if not (is_heading d.section) then Err Key
     else (if is_given k d.name d.header then Err Twice
@@ -193,14 +193,14 @@ admit_header d k values =
     >>= λ header. Ok (record d { header = header; name = name_with k value d.name })))
 
 -- all that has to stand before the next section does
-abbrev pub is_ready : ModelDraft → Section → Bool
+abbrev pub is_ready : ModelDraftView → Section → Bool
 is_ready d Heading = is_complete d.name d.header
 is_ready d Objective = length d.values == d.blocks
 is_ready d Coefs = true
 is_ready d Limits = true
 
 -- the line that begins a section
-abbrev pub admit_section : ModelDraft → Section → List (List ℕ) → Result ModelDraft TextKind
+abbrev pub admit_section : ModelDraftView → Section → List (List ℕ) → Result ModelDraftView TextKind
 admit_section d section values =
     if not (is_next d.section section) then Err Key
     else (if not (length values == 0) then Err Fields
@@ -208,7 +208,7 @@ admit_section d section values =
     else Ok (record d { section = section })))
 
 -- a key line: its key, and the values after the colon
-abbrev pub admit_key : ModelDraft → Option ModelKey → List (List ℕ) → Result ModelDraft TextKind
+abbrev pub admit_key : ModelDraftView → Option ModelKey → List (List ℕ) → Result ModelDraftView TextKind
 admit_key d None values = Err Key
 admit_key d (Some (model_key.Header k)) values = admit_header d k values
 admit_key d (Some (model_key.Section section)) values = admit_section d section values
@@ -283,26 +283,26 @@ limit_of resources periods fields =
       Ok (record { resource = r.0; period = t.0; bound = bound })
 
 -- a line of the objective
-abbrev pub admit_values : ModelDraft → List (List ℕ) → Result ModelDraft TextKind
+abbrev pub admit_values : ModelDraftView → List (List ℕ) → Result ModelDraftView TextKind
 admit_values d fields = do
   values ← values_of d.blocks (count_in d.header.destinations) (length d.values) fields
   Ok (record d { values = d.values ++ values ∷ [] })
 
 -- a line of a coefficient, which comes after those before it
-abbrev pub admit_coef : ModelDraft → List (List ℕ) → Result ModelDraft TextKind
+abbrev pub admit_coef : ModelDraftView → List (List ℕ) → Result ModelDraftView TextKind
 admit_coef d fields = do
   c ← coef_of d.problem d.blocks (count_in d.header.destinations) (count_in d.header.resources) fields
   if is_behind comes_before (last_of d.coefs) c then Ok (record d { coefs = d.coefs ++ c ∷ [] }) else Err Order
 
 -- a line of a limit, which comes after those before it
-abbrev pub admit_limit : ModelDraft → List (List ℕ) → Result ModelDraft TextKind
+abbrev pub admit_limit : ModelDraftView → List (List ℕ) → Result ModelDraftView TextKind
 admit_limit d fields = do
   l ← limit_of (count_in d.header.resources) (count_in d.header.periods) fields
   if is_turned l.bound || not (is_behind stands_before (last_of d.limits) l) then Err Order
       else Ok (record d { limits = d.limits ++ l ∷ [] })
 
 -- a line without a key, in a section
-abbrev pub admit_item : ModelDraft → Section → List (List ℕ) → Result ModelDraft TextKind
+abbrev pub admit_item : ModelDraftView → Section → List (List ℕ) → Result ModelDraftView TextKind
 admit_item d Heading fields = Err Key
 admit_item d Objective fields = admit_values d fields
 admit_item d Coefs fields = admit_coef d fields
@@ -312,18 +312,18 @@ abbrev pub is_colon : ℕ → Bool
 is_colon b = b == 58
 
 -- a line of the file, after those so far: one with a colon is a key line
-unfoldable pub admit_model : ModelDraft → List ℕ → Result ModelDraft TextKind
+unfoldable pub admit_model : ModelDraftView → List ℕ → Result ModelDraftView TextKind
 admit_model d line =
     if list_any is_colon line
     then admit_key d (key_of d.problem (fields_of (before_first is_colon line))) (fields_of (after_first is_colon line))
     else admit_item d d.section (fields_of line)
 
 -- the file once all lines are read: nothing of it is lacking
-abbrev pub finish_model : ℕ → ModelDraft → Result ModelDraft LineFault
+abbrev pub finish_model : ℕ → ModelDraftView → Result ModelDraftView LineFault
 finish_model end d =
     if is_complete d.name d.header && (length d.values == d.blocks) && is_limits d.section then Ok d
     else Err (record { line = end; kind = Missing })
 
 -- what the model file of a problem states, of n blocks, or its first faulty line
-abbrev pub model_in : Problem → ℕ → List ℕ → Result ModelDraft LineFault
+abbrev pub model_in : Problem → ℕ → List ℕ → Result ModelDraftView LineFault
 model_in problem n text = read_lines admit_model (blank_model problem n) (lines_in text) >>= finish_model (end_of text)

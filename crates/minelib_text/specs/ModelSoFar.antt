@@ -5,7 +5,7 @@ use Rattle.std.specs.List.{Contains}
 use Rattle.pit_model.specs.Name.{is_name}
 use Rattle.pit_model.specs.declared.limit.Limit.{Limit}
 use Rattle.mine_instance.specs.declared.coef.Coef.{Coef}
-use Rattle.minelib_text.specs.ModelLines.{ModelDraft, count_in, is_given, type_text}
+use Rattle.minelib_text.specs.ModelLines.{ModelDraftView, count_in, is_given, type_text}
 use Rattle.minelib_text.specs.SpelledFields.{StatesWhole, StatesSize}
 use Rattle.minelib_text.specs.SpelledItems.{IsValuesLine, IsCoefLine, IsLimitLine}
 use Rattle.minelib_text.specs.SpelledKeys.{IsKeyLine}
@@ -69,34 +69,34 @@ pub record Part {A : Type 0} (Before : List Line → Type 0) (problem : Problem)
   pub spelled : AreLines Spells 0 lines items
 
 -- how a line spells a block's values, a coefficient and a limit
-abbrev pub SpellsValues : ModelDraft → ℕ → List ℕ → List ℤ → Type 0
+abbrev pub SpellsValues : ModelDraftView → ℕ → List ℕ → List ℤ → Type 0
 SpellsValues d block line vs =
     IsValuesLine d.blocks (count_in d.header.destinations) block (fields_of line) vs
 
-abbrev pub SpellsCoef : ModelDraft → ℕ → List ℕ → Coef → Type 0
+abbrev pub SpellsCoef : ModelDraftView → ℕ → List ℕ → Coef → Type 0
 SpellsCoef d n line c =
     IsCoefLine d.problem d.blocks (count_in d.header.destinations) (count_in d.header.resources)
     (fields_of line) c
 
-abbrev pub SpellsLimit : ModelDraft → ℕ → List ℕ → Limit → Type 0
+abbrev pub SpellsLimit : ModelDraftView → ℕ → List ℕ → Limit → Type 0
 SpellsLimit d n line l =
     IsLimitLine (count_in d.header.resources) (count_in d.header.periods) (fields_of line) l
 
 -- the lines so far, in the header and in each section
-abbrev pub InHeading : ModelDraft → List Line → Type 0
+abbrev pub InHeading : ModelDraftView → List Line → Type 0
 InHeading d done = Heads d.problem d.blocks d.name d.header done
 
-abbrev pub InValues : ModelDraft → List Line → Type 0
+abbrev pub InValues : ModelDraftView → List Line → Type 0
 InValues d done = Part (InHeading d) d.problem Objective (SpellsValues d) d.values done
 
-abbrev pub InCoefs : ModelDraft → List Line → Type 0
+abbrev pub InCoefs : ModelDraftView → List Line → Type 0
 InCoefs d done = Part (InValues d) d.problem Coefs (SpellsCoef d) d.coefs done
 
-abbrev pub InLimits : ModelDraft → List Line → Type 0
+abbrev pub InLimits : ModelDraftView → List Line → Type 0
 InLimits d done = Part (InCoefs d) d.problem Limits (SpellsLimit d) d.limits done
 
 -- and no item of a later section
-abbrev pub At : Section → ModelDraft → List Line → Type 0
+abbrev pub At : Section → ModelDraftView → List Line → Type 0
 At Heading d done = InHeading d done × (d.values ≡ []) × (d.coefs ≡ []) × (d.limits ≡ [])
 At Objective d done = InValues d done × (d.coefs ≡ []) × (d.limits ≡ [])
 At Coefs d done = InCoefs d done × (d.limits ≡ [])
@@ -108,6 +108,6 @@ HasOwn Pcpsp h = Unit {0}
 HasOwn Cpit h = (h.destinations ≡ Some 1) × (h.is_general ≡ true)
 
 -- the lines spell what is stated so far, of n blocks
-abbrev pub SpellSoFar : Problem → ℕ → List Line → ModelDraft → Type 0
+abbrev pub SpellSoFar : Problem → ℕ → List Line → ModelDraftView → Type 0
 SpellSoFar problem n lines d = (d.problem ≡ problem) × (d.blocks ≡ n) × HasOwn problem d.header
     × At d.section d lines

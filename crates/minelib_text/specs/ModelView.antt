@@ -1,10 +1,10 @@
 -- How the fields of a model file that is being read are seen, and what they keep. Only proofs and private contracts need it.
 use Rattle.std.specs.Prelude.{◌≡◌, ◌<◌, ◌≤◌, true, [], length, unwrap_or, All, IfSome}
-use Rattle.minelib_text.specs.ModelLines.{ModelDraft, count_in, is_heading}
+use Rattle.minelib_text.specs.ModelLines.{ModelDraftView, count_in, is_heading}
 use Rattle.minelib_text.specs.declared.model_draft.ModelDraft.TheInside.{Inside}
 use Rattle.pit_model.specs.declared.ranges.TheConstants.{MAX_BLOCKS}
 
-abbrev pub draft_of : Inside → ModelDraft
+abbrev pub draft_of : Inside → ModelDraftView
 draft_of d = record {
   problem = d.problem;
   blocks = d.blocks;

@@ -19,12 +19,12 @@ all_differ [] = true
 all_differ (id ∷ ids) = not (stands_in ids id) && all_differ ids
 
 -- what the lines so far state, of so many blocks
-pub record PrecDraft : Type 0 where
+pub record PrecDraftView : Type 0 where
   pub blocks : ℕ
   pub lists : List (List ℕ)
 
 -- before the first line
-abbrev pub no_lists : ℕ → PrecDraft
+abbrev pub no_lists : ℕ → PrecDraftView
 no_lists n = record { blocks = n; lists = [] }
 
 -- the predecessors of a line of this block, with the identifier and the number of predecessors that it states
@@ -45,11 +45,11 @@ preds_of n before fields =
       preds_with before id.0 stated.0 ids
 
 -- a line of the file, after those so far
-abbrev pub admit_preds : PrecDraft → List ℕ → Result PrecDraft TextKind
+abbrev pub admit_preds : PrecDraftView → List ℕ → Result PrecDraftView TextKind
 admit_preds d line = preds_of d.blocks (length d.lists) (fields_of line) >>= λ ids. Ok (record d { lists = d.lists ++ ids ∷ [] })
 
 -- the lists once all lines are read: each block has one
-abbrev pub finish_preds : ℕ → PrecDraft → Result (List (List ℕ)) LineFault
+abbrev pub finish_preds : ℕ → PrecDraftView → Result (List (List ℕ)) LineFault
 finish_preds end d = if length d.lists == d.blocks then Ok d.lists else Err (record { line = end; kind = Missing })
 
 -- the predecessors of a text, of n blocks, or its first faulty line

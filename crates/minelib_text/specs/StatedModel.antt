@@ -5,7 +5,7 @@ use Rattle.mine_instance.specs.Cpit.{CpitParts}
 use Rattle.mine_instance.specs.declared.coef.Coef.{Coef}
 use Rattle.mine_instance.specs.declared.cpit.CpitCoef.{CpitCoef}
 use Rattle.mine_instance.specs.declared.instance.Instance.{Instance}
-use Rattle.minelib_text.specs.ModelLines.{ModelDraft, count_in}
+use Rattle.minelib_text.specs.ModelLines.{ModelDraftView, count_in}
 
 pub record StatedModel : Type 0 where
   pub name : List ℕ
@@ -20,7 +20,7 @@ pub record StatedModel : Type 0 where
   pub limits : List Limit
 
 -- what the lines so far state
-abbrev pub stated_by : ModelDraft → StatedModel
+abbrev pub stated_by : ModelDraftView → StatedModel
 stated_by d = record {
   name = d.name;
   periods = count_in d.header.periods;

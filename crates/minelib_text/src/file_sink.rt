@@ -3,7 +3,7 @@
 ghost use Rattle.std.specs.Prelude.{◌≡◌, ◌+◌, ◌<◌, ◌≤◌, None, false, length, take, IfOk, OnOk, OnErr};
 ghost use Rattle.std.specs.Io.KnownBytes.{WriteAppends};
 ghost use Rattle.minelib_text.specs.Device.{added};
-ghost use Rattle.minelib_text.specs.FileState.{told};
+ghost use Rattle.minelib_text.specs.FileSinkView.{told};
 ghost use Rattle.minelib_text.specs.SinkState.{IsStill};
 
 use crate::sink::{Sink, SinkFault};
@@ -27,9 +27,9 @@ pub struct FileSink<'a, R: Files> {
 impl<'a, R: Files> Model for FileSink<'a, R> {
     ghost use Rattle.std.specs.Prelude.{is_some};
     ghost use Rattle.pit_model.specs.Count.{count_of};
-    ghost use Rattle.minelib_text.specs.FileState.{FileState, held_by};
+    ghost use Rattle.minelib_text.specs.FileSinkView.{FileSinkView, held_by};
 
-    ghost Value = { FileState };
+    ghost Value = { FileSinkView };
 
     ghost view = { λ s. record {
       begun = is_some s.file;

@@ -79,7 +79,7 @@ fn put_each(out: &mut Vec<u8>, ids: &[u32]) -> Result<(), AllocError>
     Ok(())
 }
 
-/// How many identifiers follow one another, from the first on.
+// How many identifiers follow one another, from the first on.
 #[inline(always)]
 fn run_len(ids: &[u32]) -> usize
     requires { 0 < length ids.now }

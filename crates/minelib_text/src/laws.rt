@@ -11,7 +11,7 @@ ghost use Rattle.minelib_text.specs.Denotes.{Denotes, DenotesCpit};
 ghost use Rattle.minelib_text.specs.FirstBad.{AreBlanks, IsFirstBad, IsFieldText, IsLineText, LacksLines};
 ghost use Rattle.minelib_text.specs.Kept.{IsKept, IsKeptCpit};
 ghost use Rattle.minelib_text.specs.ModelDemands.{HasKind};
-ghost use Rattle.minelib_text.specs.ModelLines.{ModelDraft, model_in};
+ghost use Rattle.minelib_text.specs.ModelLines.{ModelDraftView, model_in};
 ghost use Rattle.minelib_text.specs.PrecLines.{preds_in};
 ghost use Rattle.minelib_text.specs.SameTexts.{HaveSameTexts};
 ghost use Rattle.minelib_text.specs.LineDemands.{asked_of_block, asked_of_preds};
@@ -91,7 +91,7 @@ pub fn prec_lines_are_spelled()
 /// Where a model file of n blocks is read, its lines that are read are one for each header key, in any order, and then those of the
 /// sections: each section's key line, and one line for each block's values, each coefficient and each limit, in order.
 pub fn model_lines_are_spelled()
-    ensures { (problem : Problem) (n : ℕ) (text : List ℕ) (d : ModelDraft) → model_in problem n text ≡ Ok d
+    ensures { (problem : Problem) (n : ℕ) (text : List ℕ) (d : ModelDraftView) → model_in problem n text ≡ Ok d
         → AreModelLines problem n (lines_in text) (stated_by d) }
 {}
 
@@ -100,7 +100,7 @@ pub fn model_lines_are_spelled()
 pub fn spelled_models_are_read()
     ensures { (problem : Problem) (n : ℕ) (text : List ℕ) (m : StatedModel)
         → AreModelLines problem n (lines_in text) m
-        → (d : ModelDraft) × (model_in problem n text ≡ Ok d) × (stated_by d ≡ m) }
+        → (d : ModelDraftView) × (model_in problem n text ≡ Ok d) × (stated_by d ≡ m) }
 {}
 
 /// Three texts denote an instance exactly where their lines spell it.

@@ -48,9 +48,9 @@ pub struct ModelDraft {
 }
 
 impl Model for ModelDraft {
-    ghost use Rattle.minelib_text.specs.ModelLines.{ModelDraft as Stated};
+    ghost use Rattle.minelib_text.specs.ModelLines.{ModelDraftView};
 
-    ghost Value = { Stated };
+    ghost Value = { ModelDraftView };
 
     ghost use Rattle.minelib_text.specs.ModelView.{draft_of, KeepsModel};
 

@@ -32,10 +32,10 @@ struct PrecDraft {
 impl Model for PrecDraft {
     ghost use Rattle.std.specs.Prelude.{◌≡◌, ◌≤◌, vec_len};
     ghost use Rattle.minelib_text.specs.Marks.{AreClear};
-    ghost use Rattle.minelib_text.specs.PrecLines.{PrecDraft as Seen};
+    ghost use Rattle.minelib_text.specs.PrecLines.{PrecDraftView};
     ghost use Rattle.pit_model.specs.declared.ranges.TheConstants.{MAX_BLOCKS};
 
-    ghost Value = { Seen };
+    ghost Value = { PrecDraftView };
 
     ghost view = { λ d. record { blocks = d.blocks; lists = d.preds } };
 

@@ -1,13 +1,13 @@
 -- One section more behind what a sink holds.
 use Rattle.std.proofs.Common.{◌≡◌, ℕ, List, [], ◌∷◌, ◌++◌, Option, None, Some, Result, Ok, Err, OnOk, false, ap, ◌∙◌, append_assoc}
-use Rattle.minelib_text.specs.Sections.{Sections, told}
+use Rattle.minelib_text.specs.SectionSinkView.{SectionSinkView, told}
 use Rattle.minelib_text.specs.SinkState.{IsWritten}
 
 abbrev held : Option (List ℕ) → List ℕ
 held None = []
 held (Some bytes) = bytes
 
-module _ (s0 s1 s2 : Sections) (line text : List ℕ)
+module _ (s0 s1 s2 : SectionSinkView) (line text : List ℕ)
     (kept : told s1 ≡ record { begun = false; before = s0.before ++ s0.taken ++ line; taken = Some []; failures = s0.failures })
     (written : IsWritten text (told s1) (told s2)) where
   before : s2.before ≡ (s0.before ++ s0.taken) ++ line

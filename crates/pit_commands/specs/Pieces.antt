@@ -29,7 +29,7 @@ abbrev pub zones_of : List ℕ → List (List ℕ)
 zones_of input = drop 1 (pieces_of input)
 
 -- what `Pieces` holds
-pub record Cutting : Type 0 where
+pub record PiecesView : Type 0 where
   pub plan : List ℕ
   pub zones : List (List ℕ)
 

@@ -16,9 +16,9 @@ pub struct Pieces {
 
 /// The pieces are seen as the bytes of the plan, and of each zone file.
 impl Model for Pieces {
-    ghost use Rattle.pit_commands.specs.Pieces.{Cutting};
+    ghost use Rattle.pit_commands.specs.Pieces.{PiecesView};
 
-    ghost Value = { Cutting };
+    ghost Value = { PiecesView };
 
     ghost view = { λ pieces. record { plan = pieces.plan; zones = pieces.zones.items } };
 }
@@ -81,14 +81,14 @@ pub fn plan_text(input: &[u8]) -> &[u8]
     first_piece(input).0
 }
 
-/// A piece of its own with these bytes.
+// A piece of its own with these bytes.
 fn copied(alloc: Global, bytes: &[u8]) -> Result<Piece, AllocError>
     ensures { IfOk result (λ piece. piece ≡ bytes.now) }
 {
     Ok(Piece::new(Vec::from_slice(alloc, bytes)?))
 }
 
-/// The first piece of a text, and what stands behind the cut that ends it, if there is one.
+// The first piece of a text, and what stands behind the cut that ends it, if there is one.
 fn first_piece(text: &[u8]) -> (&[u8], Option<&[u8]>)
     ensures first { result.0.now ≡ plan_of text.now }
     ensures further { MatchOption result.1 (zones_of text.now ≡ []) (λ rest. zones_of text.now ≡ pieces_of rest.now) }
@@ -105,7 +105,7 @@ fn first_piece(text: &[u8]) -> (&[u8], Option<&[u8]>)
     (text, None)
 }
 
-/// The length of the first line, with the LF that ends it.
+// The length of the first line, with the LF that ends it.
 fn first_line_len(text: &[u8]) -> usize
     requires { 0 < length text.now }
     ensures line { lines_of text.now ≡ take result text.now ∷ lines_of (drop result text.now) }
@@ -118,14 +118,14 @@ fn first_line_len(text: &[u8]) -> usize
     }
 }
 
-/// The place of the first LF.
+// The place of the first LF.
 fn line_feed_place(text: &[u8]) -> Option<usize>
     ensures { result ≡ position (λ b. b == 10) text.now }
 {
     memchr(b'\n', text)
 }
 
-/// Whether a line, with the LF that ends it, cuts the input.
+// Whether a line, with the LF that ends it, cuts the input.
 fn is_cut_line(line: &[u8]) -> bool
     ensures { result ≡ is_cut line.now }
 {

@@ -28,7 +28,7 @@ pub const SETTINGS: Settings = Settings {
     capacity: 64,
 };
 
-/// As many starts of threads as a run may need: one for each valuer and each file.
+// As many starts of threads as a run may need: one for each valuer and each file.
 const STARTS: u32 = 128;
 
 /// Appends what the pipe form prints of the model of a plan and its zone files, and answers what went through the lane. Any refusal leaves

@@ -6,7 +6,7 @@ use Rattle.std.proofs.lemmas.List.{take-append-drop}
 use Rattle.std.proofs.lemmas.List.Sorted.{IsPermutation-refl}
 use Rattle.collector.specs.Complete.{IsComplete}
 use Rattle.collector.specs.Fault.{fault}
-use Rattle.collector.specs.Held.{Held}
+use Rattle.collector.specs.CollectorView.{CollectorView}
 use Rattle.pit_compile.specs.Collecting.{joined, IsFront}
 use Rattle.valuers.specs.declared.item.Item.{Item}
 
@@ -26,7 +26,7 @@ cut-at before xs rest i d within =
     ∙ append_assoc (before ++ take i xs) (get_or xs i d ∷ drop (suc i) xs) rest
 
 -- the next item has no fault
-pub next-sound : (law : IsNeverRefused) (old now : Held) (items : List Item) (i : ℕ) (item : Item) → IsFront old.files (old.items ++ items) →
+pub next-sound : (law : IsNeverRefused) (old now : CollectorView) (items : List Item) (i : ℕ) (item : Item) → IsFront old.files (old.items ++ items) →
     now ≡ record old { items = old.items ++ take i items } → i < length items → item ≡ get_or items i item →
     fault now.files now.items item ≡ None
 next-sound law old now items i item front is_now within read =
@@ -37,7 +37,7 @@ next-sound law old now items i item front is_now within read =
     rw is_now (law old.files all all (old.items ++ take i items) (drop (suc i) items ++ front.0) item front.1 (IsPermutation-refl all) cut)
 
 -- the next list is the front of what is still to come
-pub next-front : (old now : Held) (lists all rest : List (List Item)) (list items : List Item) →
+pub next-front : (old now : CollectorView) (lists all rest : List (List Item)) (list items : List Item) →
     IsComplete old.files (old.items ++ joined lists) → now.files ≡ old.files → now.items ++ joined all ≡ old.items ++ joined lists →
     all ≡ list ∷ rest → items ≡ list → IsFront now.files (now.items ++ items)
 next-front old now lists all rest list items whole same come cut is_list =

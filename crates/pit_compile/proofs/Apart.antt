@@ -3,7 +3,7 @@ use Rattle.std.proofs.Common.{◌≡◌, ◌<◌, ◌&&◌, ◌||◌, ◌==◌, 
 use Rattle.std.specs.Prelude.{count_by, slice_index_or, IfOk}
 use Rattle.std.proofs.lemmas.Bool.{and_parts, eqb-true}
 use Rattle.pit_model.specs.declared.block.Block.{Block}
-use Rattle.precedence.specs.Identifier.{Numbered, IsNumbering, id, is_same_place}
+use Rattle.precedence.specs.Identifier.{NumberingView, IsNumbering, id, is_same_place}
 use Rattle.pit_compile.specs.Verdict.{AreApart}
 
 -- the identifier of a block that would stand at this place
@@ -20,7 +20,7 @@ same_id listed a b h =
     ∙ ap (λ z. id_at listed b.x b.y z) (eqb-true a.z b.z zs.1)
 
 -- blocks that are numbered stand apart
-pub apart : (listed : List Block) (n : Numbered) → IsNumbering listed n → AreApart listed
+pub apart : (listed : List Block) (n : NumberingView) → IsNumbering listed n → AreApart listed
 apart listed n h i j d before within = by_test (is_same_place (slice_index_or listed i d) (slice_index_or listed j d)) refl
   where
     first : i < length listed
@@ -34,7 +34,7 @@ apart listed n h i j d before within = by_test (is_same_place (slice_index_or li
         absurd (omega arith)
 
 -- a fact of the blocks of a list holds of the numbered ones
-pub numbered_too : (P : Block → Type 0) (listed : List Block) (n : Numbered) → IsNumbering listed n → All P listed → All P n.blocks
+pub numbered_too : (P : Block → Type 0) (listed : List Block) (n : NumberingView) → IsNumbering listed n → All P listed → All P n.blocks
 numbered_too P listed n h all k d within =
     let there : k < length listed = omega (arith, h.blocks) in
     subst P (h.stands k d there) (all (get_or n.positions k 0) d (h.within k there))

@@ -10,7 +10,7 @@ use Rattle.collector.specs.Found.{is_row, is_end}
 use Rattle.lane.specs.declared.message.Taken.{Taken}
 use Rattle.lane.specs.declared.message.Taken.TheVariants.{Row, End, Stop, Quit}
 use Rattle.lane.specs.Message.{is_at, rows_in, IsEndedFrom}
-use Rattle.lane.specs.Whole.{Gathering, IsSent, IsWhole}
+use Rattle.lane.specs.Whole.{GatheredView, IsSent, IsWhole}
 use Rattle.pit_compile.proofs.SentRows.{counted, rows-counted, row-sent, end-sent, ended-length}
 use Rattle.pit_compile.specs.Collecting.{joined}
 use Rattle.pit_model.specs.declared.formula.Formula.{Formula}
@@ -153,12 +153,12 @@ fits fs sent (item.End f n) of = (
   of.2 ∙ ap (λ l. length (rows_by fs l)) (sym (get_or_from_slice_get sent f of.0 [] of.1)),
 )
 
-pub all-of : (fs : List Formula) (g : Gathering) → IsWhole g → All (IsOf fs g.sent) (joined (map (items_by fs) g.took))
+pub all-of : (fs : List Formula) (g : GatheredView) → IsWhole g → All (IsOf fs g.sent) (joined (map (items_by fs) g.took))
 all-of fs g whole =
     all-joined fs g.sent g.took
     (are-handed fs g.sent whole.sents g.took (recursion_from_All (λ took. All (IsSent g.sent) took) g.took whole.only))
 
-pub complete : (fs : List Formula) (g : Gathering) → IsWhole g → All (λ list. rows_in list ≤ 1000000) g.sent →
+pub complete : (fs : List Formula) (g : GatheredView) → IsWhole g → All (λ list. rows_in list ≤ 1000000) g.sent →
     IsComplete (length g.sent) (joined (map (items_by fs) g.took))
 complete fs g whole few =
     let handed = are-handed fs g.sent whole.sents g.took (recursion_from_All (λ took. All (IsSent g.sent) took) g.took whole.only) in

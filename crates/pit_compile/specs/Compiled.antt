@@ -1,7 +1,7 @@
 -- What the first half of a run makes of zone files, or why it makes nothing.
 use Rattle.std.specs.Prelude.{◌≡◌, ℕ, Bool, false, List, length, take, slice_get, Option, Some, None, IfSome}
 use Rattle.std.specs.List.{AllZip}
-use Rattle.lane.specs.Whole.{Gathering, IsWhole}
+use Rattle.lane.specs.Whole.{GatheredView, IsWhole}
 use Rattle.mine_instance.specs.OfCpit.{cpit}
 use Rattle.mine_instance.specs.OfModel.{instance}
 use Rattle.mine_instance.specs.declared.instance.Instance.{Instance}
@@ -22,7 +22,7 @@ abbrev pub instance_from : PlanParts → List (List ℕ) → Instance
 instance_from plan texts = instance plan (blocks_of (rows_of plan texts))
 
 -- what went through the lane: of each zone file its rows and its end mark, whole, to so many valuers
-pub record HasPassed (plan : PlanParts) (texts : List (List ℕ)) (valuers : ℕ) (g : Gathering) : Type 0 where
+pub record HasPassed (plan : PlanParts) (texts : List (List ℕ)) (valuers : ℕ) (g : GatheredView) : Type 0 where
   pub sent : g.sent ≡ sents_of plan texts
   pub takers : length g.took ≡ valuers
   pub whole : IsWhole g

@@ -1,6 +1,6 @@
 -- What a run does, by what its feeds had left, which of them were sure, and what its five sinks tell before and after.
 use Rattle.std.specs.Prelude.{◌≡◌, ℕ, ◌⊎◌, Bool, List, Option}
-use Rattle.lane.specs.Whole.{Gathering}
+use Rattle.lane.specs.Whole.{GatheredView}
 use Rattle.pit_model.specs.Plan.{PlanParts}
 use Rattle.pit_compile.specs.Compiled.{AreGiven, HasPassed, IsFeedFault, IsVerdict, instance_from}
 use Rattle.minelib_text.specs.SinkState.{SinkState}
@@ -10,7 +10,7 @@ use Rattle.pit_compile.specs.declared.refusal.Refusal.{Refusal}
 use Rattle.pit_compile.specs.declared.refusal.Refusal.TheVariants.{Settings, NoThread, FeedFailed, TooLong, Row, Same, SinkFailed, OutOfMemory}
 
 -- the zone files are accepted, every row of every file passed the lane whole, and each sink holds its text of their instance
-pub record IsDone (plan : PlanParts) (lefts : List (Option (List ℕ))) (valuers : ℕ) (old new : List SinkState) (g : Gathering) : Type 0 where
+pub record IsDone (plan : PlanParts) (lefts : List (Option (List ℕ))) (valuers : ℕ) (old new : List SinkState) (g : GatheredView) : Type 0 where
   pub texts : List (List ℕ)
   pub given : AreGiven lefts texts
   pub accepted : IsAccepted plan texts

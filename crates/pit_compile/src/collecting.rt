@@ -19,8 +19,8 @@ use pit_model::plan::Plan;
 use std::alloc::{AllocError, Global};
 use valuers::{Item, Items, Valued};
 
-/// The rows of all zone files with their worths: file after file, and in each file in order of place. `items` is what each valuer hands
-/// on of what it took. Fails only where memory is refused.
+// The rows of all zone files with their worths: file after file, and in each file in order of place. `items` is what each valuer hands
+// on of what it took. Fails only where memory is refused.
 pub(crate) fn collect(
     alloc: Global,
     gathered: &Gathered,
@@ -40,7 +40,7 @@ pub(crate) fn collect(
     join(alloc, lists, gathered.rows() as usize)
 }
 
-/// Adds what all valuers hand on, and frees each list once it is added.
+// Adds what all valuers hand on, and frees each list once it is added.
 fn add_lists(collector: &mut Collector, lists: Vec<Items>) -> Result<(), AllocError>
     requires { IsComplete collector.old.files (collector.old.items ++ joined lists.items) }
     ensures { OnOk result (collector.new ≡ record collector.old { items = collector.old.items ++ joined lists.items }) }
@@ -51,7 +51,7 @@ fn add_lists(collector: &mut Collector, lists: Vec<Items>) -> Result<(), AllocEr
     Ok(())
 }
 
-/// Adds items that, with others after them, make a complete list.
+// Adds items that, with others after them, make a complete list.
 fn add_all(collector: &mut Collector, items: &[Item]) -> Result<(), AllocError>
     requires { IsFront collector.old.files (collector.old.items ++ items.now) }
     ensures { OnOk result (collector.new ≡ record collector.old { items = collector.old.items ++ items.now }) }
@@ -63,7 +63,7 @@ fn add_all(collector: &mut Collector, items: &[Item]) -> Result<(), AllocError>
     Ok(())
 }
 
-/// Adds an item that has no fault.
+// Adds an item that has no fault.
 fn add_one(collector: &mut Collector, item: Item) -> Result<(), AllocError>
     requires { fault collector.old.files collector.old.items item ≡ None }
     ensures { OnOk result (collector.new ≡ record collector.old { items = collector.old.items ++ item ∷ [] }) }
@@ -75,7 +75,7 @@ fn add_one(collector: &mut Collector, item: Item) -> Result<(), AllocError>
     }
 }
 
-/// The rows of each file, from a complete list of items.
+// The rows of each file, from a complete list of items.
 fn finished(collector: Collector) -> Result<Vec<Rows>, AllocError>
     requires { IsComplete collector.files collector.items }
     ensures { IfOk result (λ lists. AreLists collector.files collector.items lists.items) }
@@ -88,8 +88,8 @@ fn finished(collector: Collector) -> Result<Vec<Rows>, AllocError>
     }
 }
 
-/// The rows of all files in one list, with room for `count` of them from the start. The rows of the first file are not copied unless they
-/// have to move, and those of each other file are freed once they are copied.
+// The rows of all files in one list, with room for `count` of them from the start. The rows of the first file are not copied unless they
+// have to move, and those of each other file are freed once they are copied.
 fn join(alloc: Global, lists: Vec<Rows>, count: usize) -> Result<Vec<Valued>, AllocError>
     ensures { IfOk result (λ rows. rows.items ≡ joined lists.items) }
 {

@@ -22,7 +22,7 @@ use std::thread::Threads;
 use valuers::Gate;
 use zone_csv::feed::Feed;
 
-/// How many threads a run may start: one for each zone file and each valuer, where there are 64 of each.
+// How many threads a run may start: one for each zone file and each valuer, where there are 64 of each.
 const MOST_STARTS: u32 = 128;
 
 /// Reads and values the zone files over threads, builds the instance of the plan and these files, and writes its five texts to the sinks,

@@ -89,7 +89,7 @@ fn suits(
     Ok(())
 }
 
-/// Whether the destinations' formulas are the plan's, in order.
+// Whether the destinations' formulas are the plan's, in order.
 fn are_the_plans(destinations: &[Destination], plan: &Plan) -> bool
     ensures { IsTrue result ↔ (formulas_of destinations.now ≡ formulas_of_plan plan.now) }
 {

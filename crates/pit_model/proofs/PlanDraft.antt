@@ -15,7 +15,7 @@ use Rattle.pit_model.specs.Name.{is_name}
 use Rattle.pit_model.specs.Plan.{IsGrid, IsAxis, IsSlope, IsCone, IsRuled, IsBound, AreCovers, RiseStrictly, has_repeat}
 use Rattle.pit_model.specs.PlanDemands.{asked, width, a_name, an_origin, a_size, a_slope, zone_cells, band_cells, covered_cells, is_interval, a_period, limit_cells, limit_order, tonnes, whole, number, new_destination, room_for_destination}
 use Rattle.pit_model.specs.PlanPart.{Part, TheName, TheGrid, AZone, ADestination, ThePeriods, TheRate, AResource, ALimit, Stated, with_part, SpellPart, SpellAxis, SpellSlope, SpellCone, SpellBands, SpellBound, StandsWhole, NamesDestination, NamesResource, destination}
-use Rattle.pit_model.specs.Planned.{Draft, blank_draft, name_in, is_taken, with_zone, slope_in, with_formula, band_in, bands_in, with_leach, cone_in, equal_zone_in, sided_zone_in, axis, admit_name, admit_grid, admit_zone, admit_mill, admit_leach, admit_dump, admit_periods, admit_rate, admit_resource, admit_limit, origin_in, size_in, whole_in, number_in}
+use Rattle.pit_model.specs.Planned.{DraftView, blank_draft, name_in, is_taken, with_zone, slope_in, with_formula, band_in, bands_in, with_leach, cone_in, equal_zone_in, sided_zone_in, axis, admit_name, admit_grid, admit_zone, admit_mill, admit_leach, admit_dump, admit_periods, admit_rate, admit_resource, admit_limit, origin_in, size_in, whole_in, number_in}
 use Rattle.pit_model.specs.declared.cone.Cone.{Cone}
 use Rattle.pit_model.specs.declared.cone.Slope.{Slope}
 use Rattle.pit_model.specs.declared.formula.Formula.{Formula}
@@ -36,7 +36,7 @@ listed None = []
 listed (Some x) = x ∷ []
 
 -- what was stated, the limits in the order of their records
-abbrev pub stated_of : Draft → List Limit → Stated
+abbrev pub stated_of : DraftView → List Limit → Stated
 stated_of d ls = record {
   names = listed d.name;
   grids = listed d.grid;
@@ -64,7 +64,7 @@ abbrev pub KeepsLimits : ℕ → ℕ → List Limit → List Limit → Type 0
 KeepsLimits resources periods limits ls =
     All (λ l. (l.resource < resources) × (l.period < periods) × IsBound l.bound) limits × RiseStrictly limits × IsPermutation ls limits
 
-abbrev pub Keeps : Draft → List Limit → Type 0
+abbrev pub Keeps : DraftView → List Limit → Type 0
 Keeps d ls =
     IfSome d.grid IsGrid × KeepsZones d.cones × KeepsDestinations d.formulas × IfSome d.periods (λ n. (1 ≤ n) × (n ≤ 100))
     × IfSome d.rate (λ r. (pos 0 ≤ℤ r) × (r ≤ℤ pos (10 ^ 6))) × KeepsResources (length d.formulas) d.resources
@@ -75,7 +75,7 @@ blank_keeps =
     (tt, (omega arith, All-nil _), (omega arith, All-nil _, apart_none), tt, tt, (omega arith, All-nil _, All-nil _, apart_none), (All-nil _, tt, IsPermutation-refl []))
 
 -- the draft after a record: one part more than was stated before it
-pub record Adds (s : Stated) (k : PlanKey) (cells : List (List ℕ)) (next : Draft) : Type 0 where
+pub record Adds (s : Stated) (k : PlanKey) (cells : List (List ℕ)) (next : DraftView) : Type 0 where
   pub part : Part
   pub spells : SpellPart s k cells part
   pub ls : List Limit
@@ -113,12 +113,12 @@ some_listed (Some x) e is = absurd cc
 some_listed None e is = absurd cc
 
 -- what stands once
-pub once_told : {A : Type 0} (o : Option A) (x : Draft) (Q : Draft → Type 0) → (o ≡ None → Q x)
+pub once_told : {A : Type 0} (o : Option A) (x : DraftView) (Q : DraftView → Type 0) → (o ≡ None → Q x)
     → Follows (if is_some o then Err Twice else Ok x) (demand Twice (listed o ≡ [])) Q
 once_told o x Q next =
     last_guarded (is_some o) Twice (listed o ≡ []) x Q (some_listed o) (λ e. let h = none_listed o e in (h.0, next h.1))
 
-pub name_follows : (d : Draft) (ls : List Limit) (cells : List (List ℕ)) → Keeps d ls
+pub name_follows : (d : DraftView) (ls : List Limit) (cells : List (List ℕ)) → Keeps d ls
     → Follows (admit_name d cells) (asked (stated_of d ls) key.Name cells) (Adds (stated_of d ls) key.Name cells)
 name_follows d ls cells k =
     width_then 2 cells _ _ _ (λ _.
@@ -131,7 +131,7 @@ name_follows d ls cells k =
       keeps = k;
     })))
 
-pub grid_follows : (d : Draft) (ls : List Limit) (cells : List (List ℕ)) → Keeps d ls
+pub grid_follows : (d : DraftView) (ls : List Limit) (cells : List (List ℕ)) → Keeps d ls
     → Follows (admit_grid d cells) (asked (stated_of d ls) key.Grid cells) (Adds (stated_of d ls) key.Grid cells)
 grid_follows d ls cells k =
     width_then 7 cells _ _ _ (λ _.
@@ -183,7 +183,7 @@ room_told {B} count most x Q within next = by (count == most) refl
     by true e = inl ((λ below. absurd (omega (arith, eqb-true count most e))), refl)
     by false e = let below : count < most = omega (arith, other count most e) in ((below, tt), next below)
 
-pub zone_follows : (d : Draft) (ls : List Limit) (cells : List (List ℕ)) → Keeps d ls
+pub zone_follows : (d : DraftView) (ls : List Limit) (cells : List (List ℕ)) → Keeps d ls
     → Follows (admit_zone d cells) (asked (stated_of d ls) key.Zone cells) (Adds (stated_of d ls) key.Zone cells)
 zone_follows d ls cells k = by (length cells == 4) refl (length cells == 10) refl
   where
@@ -215,7 +215,7 @@ zone_follows d ls cells k = by (length cells == 4) refl (length cells == 10) ref
         neither (inr is) = other (length cells) 10 f is
 
 -- a NAME that is new, and then a place for the destination
-pub destination_told : (d : Draft) (ls : List Limit) (cells : List (List ℕ)) (k : PlanKey) (es : List (Demand PlanFaultKind)) (r : Result Draft PlanFaultKind)
+pub destination_told : (d : DraftView) (ls : List Limit) (cells : List (List ℕ)) (k : PlanKey) (es : List (Demand PlanFaultKind)) (r : Result DraftView PlanFaultKind)
     → (((n : ℕ) → ¬ (NamesDestination (stated_of d ls) (cell_at cells 1) n)) → Follows r es (Adds (stated_of d ls) k cells))
     → Follows (if is_taken d.formulas (cell_at cells 1) then Err Twice else r) (new_destination (stated_of d ls) (cell_at cells 1) ++ es) (Adds (stated_of d ls) k cells)
 destination_told d ls cells k es r next =
@@ -225,7 +225,7 @@ destination_told d ls cells k es r next =
     (λ free. let h = none_named (λ (f : NamedFormula). f.name) d.formulas name free in (h, next h))
 
 -- one destination more
-pub formula_told : (d : Draft) (ls : List Limit) (cells : List (List ℕ)) (k : PlanKey) (formula : Formula) → Keeps d ls → IsRuled formula
+pub formula_told : (d : DraftView) (ls : List Limit) (cells : List (List ℕ)) (k : PlanKey) (formula : Formula) → Keeps d ls → IsRuled formula
     → SpellPart (stated_of d ls) k cells (destination (cell_at cells 1) formula)
     → ((n : ℕ) → ¬ (NamesDestination (stated_of d ls) (cell_at cells 1) n))
     → Follows (with_formula d (cell_at cells 1) formula) (room_for_destination (stated_of d ls)) (Adds (stated_of d ls) k cells)
@@ -261,7 +261,7 @@ formula_told d ls cells key formula k ruled spells free =
       );
     })
 
-pub mill_follows : (d : Draft) (ls : List Limit) (cells : List (List ℕ)) → Keeps d ls
+pub mill_follows : (d : DraftView) (ls : List Limit) (cells : List (List ℕ)) → Keeps d ls
     → Follows (admit_mill d cells) (asked (stated_of d ls) key.Mill cells) (Adds (stated_of d ls) key.Mill cells)
 mill_follows d ls cells k =
     width_then 5 cells _ _ _ (λ _.
@@ -273,7 +273,7 @@ mill_follows d ls cells k =
     formula_told d ls cells key.Mill (Mill recovery price cost) k (is_recovery.1.1, is_price.1.1, is_cost.1.1)
     (recovery, price, cost, refl, is_recovery.0, is_price.0, is_cost.0) free))))))
 
-pub dump_follows : (d : Draft) (ls : List Limit) (cells : List (List ℕ)) → Keeps d ls
+pub dump_follows : (d : DraftView) (ls : List Limit) (cells : List (List ℕ)) → Keeps d ls
     → Follows (admit_dump d cells) (asked (stated_of d ls) key.Dump cells) (Adds (stated_of d ls) key.Dump cells)
 dump_follows d ls cells k =
     width_then 3 cells _ _ _ (λ _.

@@ -16,7 +16,7 @@ use Rattle.pit_model.specs.Name.{is_name}
 use Rattle.pit_model.specs.Plan.{IsGrid, IsAxis, IsSlope, IsCone, IsRuled, IsBound, AreCovers, RiseStrictly, has_repeat}
 use Rattle.pit_model.specs.PlanDemands.{asked, width, a_name, an_origin, a_size, a_slope, zone_cells, band_cells, covered_cells, is_interval, a_period, limit_cells, limit_order, leach_end, resource_end, limit_end, tonnes, whole, number, new_destination, room_for_destination}
 use Rattle.pit_model.specs.PlanPart.{Part, TheName, TheGrid, AZone, ADestination, ThePeriods, TheRate, AResource, ALimit, Stated, with_part, SpellPart, SpellAxis, SpellSlope, SpellCone, SpellBands, SpellBound, StandsWhole, NamesDestination, NamesResource, destination}
-use Rattle.pit_model.specs.Planned.{Draft, blank_draft, name_in, is_taken, with_zone, slope_in, with_formula, band_in, bands_in, with_leach, cone_in, equal_zone_in, sided_zone_in, axis, admit_name, admit_grid, admit_zone, admit_mill, admit_leach, admit_dump, admit_periods, admit_rate, admit_resource, admit_limit, origin_in, size_in, whole_in, number_in}
+use Rattle.pit_model.specs.Planned.{DraftView, blank_draft, name_in, is_taken, with_zone, slope_in, with_formula, band_in, bands_in, with_leach, cone_in, equal_zone_in, sided_zone_in, axis, admit_name, admit_grid, admit_zone, admit_mill, admit_leach, admit_dump, admit_periods, admit_rate, admit_resource, admit_limit, origin_in, size_in, whole_in, number_in}
 use Rattle.pit_model.specs.declared.cone.Cone.{Cone}
 use Rattle.pit_model.specs.declared.cone.Slope.{Slope}
 use Rattle.pit_model.specs.declared.formula.Formula.{Formula}
@@ -53,7 +53,7 @@ use Rattle.pit_model.proofs.PlanDraft.{listed, stated_of, Keeps, Adds, width_the
 use Rattle.pit_model.proofs.PlanNames.{bytes_same, same_bytes, bytes_other}
 use Rattle.pit_model.proofs.PlanTold.{one_number, one_whole, whole_from, read_number, reworded, le_true, true_le}
 
-pub periods_follows : (d : Draft) (ls : List Limit) (cells : List (List ℕ)) → Keeps d ls
+pub periods_follows : (d : DraftView) (ls : List Limit) (cells : List (List ℕ)) → Keeps d ls
     → Follows (admit_periods d cells) (asked (stated_of d ls) key.Periods cells) (Adds (stated_of d ls) key.Periods cells)
 periods_follows d ls cells k =
     width_then 2 cells _ _ _ (λ _.
@@ -80,7 +80,7 @@ periods_follows d ls cells k =
       );
     })))
 
-pub rate_follows : (d : Draft) (ls : List Limit) (cells : List (List ℕ)) → Keeps d ls
+pub rate_follows : (d : DraftView) (ls : List Limit) (cells : List (List ℕ)) → Keeps d ls
     → Follows (admit_rate d cells) (asked (stated_of d ls) key.Rate cells) (Adds (stated_of d ls) key.Rate cells)
 rate_follows d ls cells k =
     width_then 2 cells _ _ _ (λ _.
@@ -143,7 +143,7 @@ band_count (from ∷ recovered ∷ cells) [] h = absurd h
 band_count (from ∷ recovered ∷ cells) (b ∷ those) h = omega (arith, band_count cells those h.2)
 
 -- bands that rise, and no more than there may be, and then the destination
-leach_told : (d : Draft) (ls : List Limit) (cells : List (List ℕ)) (bands : List Band) (price cost : ℕ) → Keeps d ls → 6 ≤ length cells
+leach_told : (d : DraftView) (ls : List Limit) (cells : List (List ℕ)) (bands : List Band) (price cost : ℕ) → Keeps d ls → 6 ≤ length cells
     → SpellBands (drop 4 cells) bands → All IsBand bands → StandsWhole (cell_at cells 2) price × ((0 ≤ price) × (price ≤ 10 ^ 8))
     → StandsWhole (cell_at cells 3) cost × ((0 ≤ cost) × (cost ≤ 10 ^ 7))
     → Follows (if is_taken d.formulas (cell_at cells 1) then Err Twice else with_leach d (cell_at cells 1) bands price cost)
@@ -164,7 +164,7 @@ leach_told d ls cells bands price cost k long spelled in_range is_price is_cost 
           )),
     )))
   where
-    Q : Draft → Type 0
+    Q : DraftView → Type 0
     Q = Adds (stated_of d ls) key.Leach cells
 
     same : (others : List Band) → SpellBands (drop 4 cells) others → bands ≡ others
@@ -174,7 +174,7 @@ leach_told d ls cells bands price cost k long spelled in_range is_price is_cost 
     not_false true e = refl
     not_false false e = absurd cc
 
-pub leach_follows : (d : Draft) (ls : List Limit) (cells : List (List ℕ)) → Keeps d ls
+pub leach_follows : (d : DraftView) (ls : List Limit) (cells : List (List ℕ)) → Keeps d ls
     → Follows (admit_leach d cells) (asked (stated_of d ls) key.Leach cells) (Adds (stated_of d ls) key.Leach cells)
 leach_follows d ls cells k =
     guarded (nat_lt (length cells) 6 || not (length cells % 2 == 0)) Width ((6 ≤ length cells) × (length cells % 2 ≡ 0)) _ _ (Adds (stated_of d ls) key.Leach cells)
@@ -210,7 +210,7 @@ known_told g xs cell = by (position (λ x. bytes_eq (g x) cell) xs) refl
     by None e = inl ((λ h. not_found g xs cell e h.0 h.1), refl)
 
 -- the NAMEs of earlier destinations, behind those before them
-covers_told : (d : Draft) (ls : List Limit) (cells : List (List ℕ)) (done : List ℕ)
+covers_told : (d : DraftView) (ls : List Limit) (cells : List (List ℕ)) (done : List ℕ)
     → Follows (covers_in cells d.formulas done) (covered_cells (stated_of d ls) cells)
     (λ covers. (more : List ℕ) × (covers ≡ done ++ more) × AllZip (NamesDestination (stated_of d ls)) cells more × All (λ n. n < length d.formulas) more)
 covers_told d ls [] done = (tt, ([], sym (append-nil done), tt, All-nil _))
@@ -249,7 +249,7 @@ either false false first second r es Q no_first first_is no_second second_is res
     behind r (demand Twice first ++ demand Twice second) es Q (first_is refl, (second_is refl, tt)) (rest refl refl)
 
 -- a NAME that is new, destinations that stand once, and a place for the resource
-resource_told : (d : Draft) (ls : List Limit) (cells : List (List ℕ)) (covers : List ℕ) → Keeps d ls → 3 ≤ length cells
+resource_told : (d : DraftView) (ls : List Limit) (cells : List (List ℕ)) (covers : List ℕ) → Keeps d ls → 3 ≤ length cells
     → AllZip (NamesDestination (stated_of d ls)) (drop 2 cells) covers → All (λ n. n < length d.formulas) covers
     → Follows (if is_resource d.resources (cell_at cells 1) || has_repeat covers then Err Twice else (if length d.resources == 8 then Err TooMany
     else Ok (record d { resources = d.resources ++ record { name = cell_at cells 1; covers = covers } ∷ [] })))
@@ -307,7 +307,7 @@ resource_told d ls cells covers k long spelled within =
     some : 1 ≤ length covers
     some = omega (arith, as_many (NamesDestination s) (drop 2 cells) covers spelled, length-drop 2 cells)
 
-pub resource_follows : (d : Draft) (ls : List Limit) (cells : List (List ℕ)) → Keeps d ls
+pub resource_follows : (d : DraftView) (ls : List Limit) (cells : List (List ℕ)) → Keeps d ls
     → Follows (admit_resource d cells) (asked (stated_of d ls) key.Resource cells) (Adds (stated_of d ls) key.Resource cells)
 resource_follows d ls cells k =
     guarded (nat_lt (length cells) 3) Width (3 ≤ length cells) _ _ (Adds (stated_of d ls) key.Resource cells) (λ t h. omega (arith, ltb-true (length cells) 3 t, h)) (λ t.
@@ -416,7 +416,7 @@ not_beside l ls ms order found all =
     all a.0 a.1 a.2 (ap (λ (m : Limit). m.resource) here ∙ sym same.0, ap (λ (m : Limit). m.period) here ∙ sym same.1)
 
 -- the ends of an interval in order, and then it is added
-order_told : (cells : List (List ℕ)) (b : Bound) (next : Draft) (Q : Draft → Type 0) → SpellBound cells b → (is_turned b ≡ false → Q next)
+order_told : (cells : List (List ℕ)) (b : Bound) (next : DraftView) (Q : DraftView → Type 0) → SpellBound cells b → (is_turned b ≡ false → Q next)
     → Follows (if is_turned b then Err Order else Ok next) (limit_order (is_interval cells) cells) Q
 order_told cells b next Q spells kept = by b (is_interval cells) refl spells kept
   where
@@ -450,7 +450,7 @@ limit_order_of l ls ms order =
     (subst (IsPermutation (l ∷ ms)) (inserted l ms) (IsPermutation-insert ms (position_or_len (λ m. stands_before l m) ms) l)))
 
 -- the one limit of its resource and period, its ends in order
-limit_told : (d : Draft) (ls : List Limit) (cells : List (List ℕ)) (l : Limit) → Keeps d ls → NamesResource (stated_of d ls) (cell_at cells 1) l.resource
+limit_told : (d : DraftView) (ls : List Limit) (cells : List (List ℕ)) (l : Limit) → Keeps d ls → NamesResource (stated_of d ls) (cell_at cells 1) l.resource
     → StandsWhole (cell_at cells 2) l.period × (l.period < unwrap_or d.periods 0) → SpellBound cells l.bound × AreTonnes l.bound
     → Follows (with_bound d l) (limit_end (stated_of d ls) cells)
     (Adds (stated_of d ls) key.Limit cells)
@@ -491,7 +491,7 @@ limit_told d ls cells l k is_r is_t is_b =
     within =
         omega (arith, slice_get_within (map (λ (r : Resource). r.name) d.resources) l.resource (cell_at cells 1) is_r, length-map d.resources (λ (r : Resource). r.name))
 
-pub limit_follows : (d : Draft) (ls : List Limit) (cells : List (List ℕ)) → Keeps d ls
+pub limit_follows : (d : DraftView) (ls : List Limit) (cells : List (List ℕ)) → Keeps d ls
     → Follows (admit_limit d cells) (asked (stated_of d ls) key.Limit cells) (Adds (stated_of d ls) key.Limit cells)
 limit_follows d ls cells k =
     width_then (limit_width cells) cells _ _ (Adds (stated_of d ls) key.Limit cells) (λ _.

@@ -12,7 +12,7 @@ use Rattle.pit_model.specs.Cells.{cell_at, cells_of, is_word}
 use Rattle.pit_model.specs.Plan.{PlanParts, IsPlan, RiseStrictly, stands_before, plan_of}
 use Rattle.pit_model.specs.PlanDemands.{asked}
 use Rattle.pit_model.specs.PlanPart.{Part, Stated, nothing_stated, with_part, word_of, BeginsWith, SpellPart}
-use Rattle.pit_model.specs.Planned.{Draft, blank_draft, key_of, admit, admit_key, at_record, finished, plan_from, whole_plan}
+use Rattle.pit_model.specs.Planned.{DraftView, blank_draft, key_of, admit, admit_key, at_record, finished, plan_from, whole_plan}
 use Rattle.pit_model.specs.SpelledPlan.{IsRecordOf, AllSpelled, ArePartsOf, SpellPlan, IsFaulty, IsRefused, Lacks, IsLacking}
 use Rattle.pit_model.specs.declared.grid.Grid.{Grid}
 use Rattle.pit_model.specs.declared.limit.Limit.{Limit}
@@ -26,7 +26,7 @@ use Rattle.pit_model.proofs.PlanFollows.{periods_follows, rate_follows, leach_fo
 use Rattle.pit_model.proofs.PlanKeys.{word_key, key_word, one_key, one_part}
 use Rattle.pit_model.proofs.DemandFacts.{one_kind, none_fails, Follows}
 
-keyed : (d : Draft) (ls : List Limit) (k : PlanKey) (cells : List (List ℕ)) → Keeps d ls
+keyed : (d : DraftView) (ls : List Limit) (k : PlanKey) (cells : List (List ℕ)) → Keeps d ls
     → Follows (admit_key d (Some k) cells) (asked (stated_of d ls) k cells) (Adds (stated_of d ls) k cells)
 keyed d ls key.Name cells k = name_follows d ls cells k
 keyed d ls key.Grid cells k = grid_follows d ls cells k
@@ -40,7 +40,7 @@ keyed d ls key.Resource cells k = resource_follows d ls cells k
 keyed d ls key.Limit cells k = limit_follows d ls cells k
 
 -- what the draft after a record states: one part more
-record Grows (d : Draft) (ls : List Limit) (cells : List (List ℕ)) (next : Draft) : Type 0 where
+record Grows (d : DraftView) (ls : List Limit) (cells : List (List ℕ)) (next : DraftView) : Type 0 where
   pub part : Part
   pub is_record : IsRecordOf (stated_of d ls) cells part
   pub more : List Limit
@@ -48,11 +48,11 @@ record Grows (d : Draft) (ls : List Limit) (cells : List (List ℕ)) (next : Dra
   pub keeps : Keeps next more
 
 -- a record is taken where it spells a part, and its fault is the first
-abbrev Takes : Draft → List Limit → List (List ℕ) → Result Draft PlanFaultKind → Type 0
+abbrev Takes : DraftView → List Limit → List (List ℕ) → Result DraftView PlanFaultKind → Type 0
 Takes d ls cells (Ok next) = ((cells ≡ []) × (next ≡ d)) ⊎ Grows d ls cells next
 Takes d ls cells (Err kind) = IsFaulty (stated_of d ls) cells kind
 
-taken : (d : Draft) (ls : List Limit) (cells : List (List ℕ)) → Keeps d ls → Takes d ls cells (admit d cells)
+taken : (d : DraftView) (ls : List Limit) (cells : List (List ℕ)) → Keeps d ls → Takes d ls cells (admit d cells)
 taken d ls [] keeps = inl (refl, refl)
 taken d ls (cell ∷ more) keeps = subst (Takes d ls (cell ∷ more)) (sym admitted) (by_key (key_of cell) refl)
   where
@@ -64,7 +64,7 @@ taken d ls (cell ∷ more) keeps = subst (Takes d ls (cell ∷ more)) (sym admit
         let test : (length (cell ∷ more) == 0) ≡ false = ne_eqb (length (cell ∷ more)) 0 (λ e. omega arith) in
         rw test refl
 
-    by_answer : (k : PlanKey) → BeginsWith k (cell ∷ more) → (r : Result Draft PlanFaultKind)
+    by_answer : (k : PlanKey) → BeginsWith k (cell ∷ more) → (r : Result DraftView PlanFaultKind)
         → Follows r (asked (stated_of d ls) k (cell ∷ more)) (Adds (stated_of d ls) k (cell ∷ more)) → Takes d ls (cell ∷ more) r
     by_answer k begins (Ok next) h =
         inr (record {
@@ -80,12 +80,12 @@ taken d ls (cell ∷ more) keeps = subst (Takes d ls (cell ∷ more)) (sym admit
     by_key None e = (filled, inl ((λ k begins. absurd (cc (e, word_key cell k begins))), refl))
     by_key (Some k) e = by_answer k (key_word cell k e) (admit_key d (Some k) (cell ∷ more)) (keyed d ls k (cell ∷ more) keeps)
 
-own_destinations : (d : Draft) (ls : List Limit) (k : PlanKey) (cells : List (List ℕ)) (a b : Part) → Keeps d ls → SpellPart (stated_of d ls) k cells a
+own_destinations : (d : DraftView) (ls : List Limit) (k : PlanKey) (cells : List (List ℕ)) (a b : Part) → Keeps d ls → SpellPart (stated_of d ls) k cells a
     → SpellPart (stated_of d ls) k cells b → a ≡ b
 own_destinations d ls k cells a b keeps h j = one_part (stated_of d ls) k cells a b keeps.2.2 keeps.5.3 h j
 
 -- a record spells one part
-one_record : (d : Draft) (ls : List Limit) (cells : List (List ℕ)) (a b : Part) → Keeps d ls → IsRecordOf (stated_of d ls) cells a
+one_record : (d : DraftView) (ls : List Limit) (cells : List (List ℕ)) (a b : Part) → Keeps d ls → IsRecordOf (stated_of d ls) cells a
     → IsRecordOf (stated_of d ls) cells b → a ≡ b
 one_record d ls cells a b keeps h j =
     let same : h.key ≡ j.key = one_key (cell_at cells 0) h.key j.key h.begins j.begins in
@@ -115,33 +115,33 @@ one_fault s cells a b h j = by h.1 j.1
         one_kind (asked s j.0 cells) a b (subst (λ k. FailsFirst (asked s k cells) a) same h.2) j.2
 
 -- where records spell parts, reading goes on behind them
-record Behind (rows rest : List (List (List ℕ))) (n : ℕ) (d : Draft) (last : Stated) : Type 0 where
-  pub after : Draft
+record Behind (rows rest : List (List (List ℕ))) (n : ℕ) (d : DraftView) (last : Stated) : Type 0 where
+  pub after : DraftView
   pub ls : List Limit
   pub keeps : Keeps after ls
   pub states : stated_of after ls ≡ last
   pub goes_on : plan_from (rows ++ rest) n d ≡ plan_from rest (n + length rows) after
 
 -- reading a record, below the last number
-at_once : (fields : List (List ℕ)) (rest : List (List (List ℕ))) (n : ℕ) (d next : Draft) → n ≤ 10000 → admit d (cells_of fields) ≡ Ok next
+at_once : (fields : List (List ℕ)) (rest : List (List (List ℕ))) (n : ℕ) (d next : DraftView) → n ≤ 10000 → admit d (cells_of fields) ≡ Ok next
     → plan_from (fields ∷ rest) n d ≡ plan_from rest (n + 1) next
 at_once fields rest n d next small e =
     let test : nat_lt 10000 n ≡ false = grind (arith, nat_tests) in
     rw (test, e) refl
 
-at_fault : (fields : List (List ℕ)) (rest : List (List (List ℕ))) (n : ℕ) (d : Draft) (kind : PlanFaultKind) → n ≤ 10000 → admit d (cells_of fields) ≡ Err kind
+at_fault : (fields : List (List ℕ)) (rest : List (List (List ℕ))) (n : ℕ) (d : DraftView) (kind : PlanFaultKind) → n ≤ 10000 → admit d (cells_of fields) ≡ Err kind
     → plan_from (fields ∷ rest) n d ≡ Err (record { row = n; kind = kind })
 at_fault fields rest n d kind small e =
     let test : nat_lt 10000 n ≡ false = grind (arith, nat_tests) in
     rw (test, e) refl
 
-at_last : (fields : List (List ℕ)) (rest : List (List (List ℕ))) (n : ℕ) (d : Draft) → 10000 < n
+at_last : (fields : List (List ℕ)) (rest : List (List (List ℕ))) (n : ℕ) (d : DraftView) → 10000 < n
     → plan_from (fields ∷ rest) n d ≡ Err (record { row = n; kind = TooMany })
 at_last fields rest n d large =
     let test : nat_lt 10000 n ≡ true = grind (arith, nat_tests) in
     rw test refl
 
-walk : (rows rest : List (List (List ℕ))) (n : ℕ) (d : Draft) (ls : List Limit) (last : Stated) → Keeps d ls → n + length rows ≤ 10001
+walk : (rows rest : List (List (List ℕ))) (n : ℕ) (d : DraftView) (ls : List Limit) (last : Stated) → Keeps d ls → n + length rows ≤ 10001
     → AllSpelled (stated_of d ls) rows last → Behind rows rest n d last
 walk [] rest n d ls last keeps few spelled =
     record { after = d; ls = ls; keeps = keeps; states = sym spelled; goes_on = ap (λ m. plan_from rest m d) (omega arith) }
@@ -149,9 +149,9 @@ walk (row ∷ rows) rest n d ls last keeps few spelled =
     by (λ next more kept rest_spelled. walk rows rest (n + 1) next more last kept (omega arith) rest_spelled) spelled (admit d (cells_of row)) refl (taken d ls (cells_of row) keeps)
   where
     Deeper : Type 0
-    Deeper = (next : Draft) (more : List Limit) → Keeps next more → AllSpelled (stated_of next more) rows last → Behind rows rest (n + 1) next last
+    Deeper = (next : DraftView) (more : List Limit) → Keeps next more → AllSpelled (stated_of next more) rows last → Behind rows rest (n + 1) next last
 
-    go : Deeper → (next : Draft) (more : List Limit) → Keeps next more → AllSpelled (stated_of next more) rows last → admit d (cells_of row) ≡ Ok next
+    go : Deeper → (next : DraftView) (more : List Limit) → Keeps next more → AllSpelled (stated_of next more) rows last → admit d (cells_of row) ≡ Ok next
         → Behind (row ∷ rows) rest n d last
     go deeper next more kept spelled e =
         let b = deeper next more kept spelled in
@@ -164,7 +164,7 @@ walk (row ∷ rows) rest n d ls last keeps few spelled =
           goes_on = at_once row (rows ++ rest) n d next (omega arith) e ∙ b.goes_on ∙ ap (λ m. plan_from rest m b.after) count;
         }
 
-    by : Deeper → AllSpelled (stated_of d ls) (row ∷ rows) last → (r : Result Draft PlanFaultKind) → admit d (cells_of row) ≡ r → Takes d ls (cells_of row) r
+    by : Deeper → AllSpelled (stated_of d ls) (row ∷ rows) last → (r : Result DraftView PlanFaultKind) → admit d (cells_of row) ≡ r → Takes d ls (cells_of row) r
         → Behind (row ∷ rows) rest n d last
     by deeper (inl h) (Ok next) e t =
         let none : admit d (cells_of row) ≡ Ok d = ap (admit d) h.0 in
@@ -239,7 +239,7 @@ one_plan s p q h j =
     λ i. plan_of (name i) (grid i) (cones i) (formulas i) (periods i) (rate i) (resources i) (limits i)
 
 -- the end of the records
-abbrev Ends : Draft → List Limit → Result PlanParts PlanFaultKind → Type 0
+abbrev Ends : DraftView → List Limit → Result PlanParts PlanFaultKind → Type 0
 Ends d ls (Ok p) = ArePartsOf (stated_of d ls) p × IsPlan p
 Ends d ls (Err kind) = (kind ≡ Missing) × Lacks (stated_of d ls)
 
@@ -247,7 +247,7 @@ empty : {A : Type 0} (xs : List A) → length xs ≡ 0 → xs ≡ []
 empty [] e = refl
 empty (x ∷ xs) e = absurd (omega arith)
 
-ended : (d : Draft) (ls : List Limit) → Keeps d ls → Ends d ls (finished d)
+ended : (d : DraftView) (ls : List Limit) → Keeps d ls → Ends d ls (finished d)
 ended d ls k = by d.name refl d.grid refl d.periods refl d.rate refl
   where
     lists : (name : List ℕ) (grid : Grid) (periods : ℕ) (rate : ℤ) → d.name ≡ Some name → d.grid ≡ Some grid → d.periods ≡ Some periods → d.rate ≡ Some rate
@@ -303,14 +303,14 @@ not_lacking s p h (inr (inr (inr (inl e)))) = omega (arith, h.some_destination, 
 not_lacking s p h (inr (inr (inr (inr (inl e))))) = absurd (cc (sym h.periods ∙ e))
 not_lacking s p h (inr (inr (inr (inr (inr e))))) = absurd (cc (sym h.rate ∙ e))
 
-finished_with : (d : Draft) (ls : List Limit) (p : PlanParts) → Keeps d ls → ArePartsOf (stated_of d ls) p → (finished d ≡ Ok p) × IsPlan p
+finished_with : (d : DraftView) (ls : List Limit) (p : PlanParts) → Keeps d ls → ArePartsOf (stated_of d ls) p → (finished d ≡ Ok p) × IsPlan p
 finished_with d ls p keeps parts = by (finished d) refl (ended d ls keeps)
   where
     by : (r : Result PlanParts PlanFaultKind) → finished d ≡ r → Ends d ls r → (finished d ≡ Ok p) × IsPlan p
     by (Ok q) e h = let same : q ≡ p = one_plan (stated_of d ls) q p h.0 parts in (e ∙ ap Ok same, subst IsPlan same h.1)
     by (Err kind) e h = absurd (not_lacking (stated_of d ls) p parts h.1)
 
-finished_without : (d : Draft) (ls : List Limit) → Keeps d ls → Lacks (stated_of d ls) → finished d ≡ Err Missing
+finished_without : (d : DraftView) (ls : List Limit) → Keeps d ls → Lacks (stated_of d ls) → finished d ≡ Err Missing
 finished_without d ls keeps lacks = by (finished d) refl (ended d ls keeps)
   where
     by : (r : Result PlanParts PlanFaultKind) → finished d ≡ r → Ends d ls r → finished d ≡ Err Missing
@@ -319,7 +319,7 @@ finished_without d ls keeps lacks = by (finished d) refl (ended d ls keeps)
 
 -- all records, and then the end
 at_end : (rows : List (List (List ℕ))) (last : Stated) → length rows ≤ 10000 → AllSpelled nothing_stated rows last
-    → (d : Draft) × (ls : List Limit) × Keeps d ls × (stated_of d ls ≡ last) × (plan_from rows 1 blank_draft ≡ at_record (1 + length rows) (finished d))
+    → (d : DraftView) × (ls : List Limit) × Keeps d ls × (stated_of d ls ≡ last) × (plan_from rows 1 blank_draft ≡ at_record (1 + length rows) (finished d))
 at_end rows last few spelled =
     let b = walk rows [] 1 blank_draft [] last blank_keeps (omega arith) spelled in
     (b.after, b.ls, b.keeps, b.states, ap (λ all. plan_from all 1 blank_draft) (sym (append-nil rows)) ∙ b.goes_on)
@@ -346,10 +346,10 @@ refused_states rows fault h = ap (λ all. plan_from all 1 blank_draft) h.cut ∙
     here : 1 + length h.before ≤ 10001 → Behind h.before (h.row ∷ h.behind) 1 blank_draft h.stated
     here few = walk h.before (h.row ∷ h.behind) 1 blank_draft [] h.stated blank_keeps few h.spelled
 
-    fault_in : (d : Draft) (ls : List Limit) → Keeps d ls → IsFaulty (stated_of d ls) (cells_of h.row) fault.kind → admit d (cells_of h.row) ≡ Err fault.kind
+    fault_in : (d : DraftView) (ls : List Limit) → Keeps d ls → IsFaulty (stated_of d ls) (cells_of h.row) fault.kind → admit d (cells_of h.row) ≡ Err fault.kind
     fault_in d ls keeps faulty = test (admit d (cells_of h.row)) refl (taken d ls (cells_of h.row) keeps)
       where
-        test : (r : Result Draft PlanFaultKind) → admit d (cells_of h.row) ≡ r → Takes d ls (cells_of h.row) r → admit d (cells_of h.row) ≡ Err fault.kind
+        test : (r : Result DraftView PlanFaultKind) → admit d (cells_of h.row) ≡ r → Takes d ls (cells_of h.row) r → admit d (cells_of h.row) ≡ Err fault.kind
         test (Ok next) e (inl none) = absurd (faulty.0 none.0)
         test (Ok next) e (inr g) = absurd (no_fault (stated_of d ls) (cells_of h.row) g.part fault.kind g.is_record faulty)
         test (Err kind) e t = e ∙ ap Err (one_fault (stated_of d ls) (cells_of h.row) kind fault.kind t faulty)
@@ -420,7 +420,7 @@ earlier row rows n s next step (Err fault) (inr o) =
       lacks = o.lacks;
     })
 
-outcome : (rows : List (List (List ℕ))) (n : ℕ) (d : Draft) (ls : List Limit) → Keeps d ls → n ≤ 10001 → Outcome rows n (stated_of d ls) (plan_from rows n d)
+outcome : (rows : List (List (List ℕ))) (n : ℕ) (d : DraftView) (ls : List Limit) → Keeps d ls → n ≤ 10001 → Outcome rows n (stated_of d ls) (plan_from rows n d)
 outcome [] n d ls keeps few = by (finished d) (ended d ls keeps)
   where
     by : (r : Result PlanParts PlanFaultKind) → Ends d ls r → Outcome [] n (stated_of d ls) (at_record n r)
@@ -430,9 +430,9 @@ outcome (row ∷ rows) n d ls keeps few =
     by (λ next more kept small. outcome rows (n + 1) next more kept (omega arith)) (nat_lt 10000 n) refl (admit d (cells_of row)) refl (taken d ls (cells_of row) keeps)
   where
     Deeper : Type 0
-    Deeper = (next : Draft) (more : List Limit) → Keeps next more → n ≤ 10000 → Outcome rows (n + 1) (stated_of next more) (plan_from rows (n + 1) next)
+    Deeper = (next : DraftView) (more : List Limit) → Keeps next more → n ≤ 10000 → Outcome rows (n + 1) (stated_of next more) (plan_from rows (n + 1) next)
 
-    by : Deeper → (t : Bool) → nat_lt 10000 n ≡ t → (r : Result Draft PlanFaultKind) → admit d (cells_of row) ≡ r → Takes d ls (cells_of row) r
+    by : Deeper → (t : Bool) → nat_lt 10000 n ≡ t → (r : Result DraftView PlanFaultKind) → admit d (cells_of row) ≡ r → Takes d ls (cells_of row) r
         → Outcome (row ∷ rows) n (stated_of d ls) (plan_from (row ∷ rows) n d)
     by deeper true e r a t =
         let large : 10000 < n = ltb-true 10000 n e in

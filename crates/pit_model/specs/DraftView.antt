@@ -2,10 +2,10 @@
 use Rattle.std.specs.Prelude.{◌<◌, ◌≤◌, ◌^◌, length, ◌≤ℤ◌, pos, All, IfSome, unwrap_or}
 use Rattle.pit_model.specs.declared.draft.Draft.TheInside.{Inside}
 use Rattle.pit_model.specs.Plan.{IsGrid, IsCone, IsRuled, IsBound, AreCovers, RiseStrictly}
-use Rattle.pit_model.specs.Planned.{Draft}
+use Rattle.pit_model.specs.Planned.{DraftView}
 use Rattle.pit_model.specs.declared.ranges.TheConstants.{MAX_DESTINATIONS, MAX_PERIODS, MAX_RATE, MAX_RESOURCES, MAX_ZONES}
 
-abbrev pub draft_of : Inside → Draft
+abbrev pub draft_of : Inside → DraftView
 draft_of d = record {
   name = d.name;
   grid = d.grid;

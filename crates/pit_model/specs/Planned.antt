@@ -32,7 +32,7 @@ use Rattle.pit_model.specs.declared.resource.Resource.{Resource}
 use Rattle.pit_model.specs.declared.ranges.TheConstants.{MAX_BANDS, MAX_BENCHES, MAX_COST, MAX_DESTINATIONS, MAX_GRADE, MAX_ORIGIN, MAX_PERIODS, MAX_PLAN_RECORDS, MAX_PRICE, MAX_RATE, MAX_RECOVERY, MAX_RESOURCES, MAX_SIZE, MAX_SLOPE, MAX_TONNES, MAX_ZONES, MIN_ORIGIN}
 
 -- what the records so far say
-pub record Draft : Type 0 where
+pub record DraftView : Type 0 where
   pub name : Option (List ℕ)
   pub grid : Option Grid
   pub cones : List Cone
@@ -43,7 +43,7 @@ pub record Draft : Type 0 where
   pub limits : List Limit
 
 -- before the first record
-abbrev pub blank_draft : Draft
+abbrev pub blank_draft : DraftView
 blank_draft = record { name = None; grid = None; cones = []; formulas = []; periods = None; rate = None; resources = []; limits = [] }
 
 -- the fault of a number, as a plan's
@@ -96,7 +96,7 @@ abbrev pub axis : ℤ → ℕ → Axis
 axis origin size = record { origin = origin; size = size }
 
 -- one zone more, of at most 64
-abbrev pub with_zone : Draft → Cone → Result Draft PlanFaultKind
+abbrev pub with_zone : DraftView → Cone → Result DraftView PlanFaultKind
 with_zone d cone = if length d.cones == MAX_ZONES then Err TooMany else Ok (record d { cones = d.cones ++ cone ∷ [] })
 
 -- a slope by its rise and its run
@@ -107,14 +107,14 @@ slope_in rise run = do
   Ok (record { p = p; q = q })
 
 -- `name, NAME`
-abbrev pub admit_name : Draft → List (List ℕ) → Result Draft PlanFaultKind
+abbrev pub admit_name : DraftView → List (List ℕ) → Result DraftView PlanFaultKind
 admit_name d cells =
     if not (length cells == 2) then Err Width else do
       name ← name_in (cell_at cells 1)
       if is_some d.name then Err Twice else Ok (record d { name = Some name })
 
 -- `grid`, the origin's three coordinates, the three sizes
-abbrev pub admit_grid : Draft → List (List ℕ) → Result Draft PlanFaultKind
+abbrev pub admit_grid : DraftView → List (List ℕ) → Result DraftView PlanFaultKind
 admit_grid d cells =
     if not (length cells == 7) then Err Width else do
       x ← origin_in (cell_at cells 1)
@@ -150,17 +150,17 @@ cone_in cells =
     else (if length cells == 10 then sided_zone_in cells else Err Width)
 
 -- `zone, p, q, K`, or with four slopes
-abbrev pub admit_zone : Draft → List (List ℕ) → Result Draft PlanFaultKind
+abbrev pub admit_zone : DraftView → List (List ℕ) → Result DraftView PlanFaultKind
 admit_zone d cells = cone_in cells >>= with_zone d
 
 -- one destination more, of at most 8
-abbrev pub with_formula : Draft → List ℕ → Formula → Result Draft PlanFaultKind
+abbrev pub with_formula : DraftView → List ℕ → Formula → Result DraftView PlanFaultKind
 with_formula d name formula =
     if length d.formulas == MAX_DESTINATIONS then Err TooMany
     else Ok (record d { formulas = d.formulas ++ record { name = name; formula = formula } ∷ [] })
 
 -- `mill, NAME, recovery, price, cost`
-abbrev pub admit_mill : Draft → List (List ℕ) → Result Draft PlanFaultKind
+abbrev pub admit_mill : DraftView → List (List ℕ) → Result DraftView PlanFaultKind
 admit_mill d cells =
     if not (length cells == 5) then Err Width else do
       name ← name_in (cell_at cells 1)
@@ -183,14 +183,14 @@ bands_in (lone ∷ []) done = Ok done
 bands_in (start ∷ recovery ∷ more) done = band_in start recovery >>= λ band. bands_in more (done ++ band ∷ [])
 
 -- a leach of these bands, which have to rise and be at most 16
-abbrev pub with_leach : Draft → List ℕ → List Band → ℕ → ℕ → Result Draft PlanFaultKind
+abbrev pub with_leach : DraftView → List ℕ → List Band → ℕ → ℕ → Result DraftView PlanFaultKind
 with_leach d name bands price cost =
     if not (starts_rise bands) then Err Order
     else (if nat_lt MAX_BANDS (length bands) then Err TooMany
     else with_formula d name (Leach bands price cost))
 
 -- `leach, NAME, price, cost`, and a start and a recovery for each band
-abbrev pub admit_leach : Draft → List (List ℕ) → Result Draft PlanFaultKind
+abbrev pub admit_leach : DraftView → List (List ℕ) → Result DraftView PlanFaultKind
 admit_leach d cells =
     if nat_lt (length cells) 6 || not (length cells % 2 == 0) then Err Width else do
       name ← name_in (cell_at cells 1)
@@ -200,7 +200,7 @@ admit_leach d cells =
       if is_taken d.formulas name then Err Twice else with_leach d name bands price cost
 
 -- `dump, NAME, cost`
-abbrev pub admit_dump : Draft → List (List ℕ) → Result Draft PlanFaultKind
+abbrev pub admit_dump : DraftView → List (List ℕ) → Result DraftView PlanFaultKind
 admit_dump d cells =
     if not (length cells == 3) then Err Width else do
       name ← name_in (cell_at cells 1)
@@ -225,7 +225,7 @@ abbrev pub is_resource : List Resource → List ℕ → Bool
 is_resource resources name = list_any (λ r. bytes_eq r.name name) resources
 
 -- `resource, NAME, destination NAMEs`
-abbrev pub admit_resource : Draft → List (List ℕ) → Result Draft PlanFaultKind
+abbrev pub admit_resource : DraftView → List (List ℕ) → Result DraftView PlanFaultKind
 admit_resource d cells =
     if nat_lt (length cells) 3 then Err Width else do
       name ← name_in (cell_at cells 1)
@@ -267,7 +267,7 @@ with_limit l [] = l ∷ []
 with_limit l (m ∷ ms) = if stands_before l m then l ∷ m ∷ ms else m ∷ with_limit l ms
 
 -- one limit more, of a resource and a period that have none
-abbrev pub with_bound : Draft → Limit → Result Draft PlanFaultKind
+abbrev pub with_bound : DraftView → Limit → Result DraftView PlanFaultKind
 with_bound d l =
     if list_any (λ m. is_same_place l m) d.limits then Err Twice
     else (if is_turned l.bound then Err Order else Ok (record d { limits = with_limit l d.limits }))
@@ -277,7 +277,7 @@ abbrev pub limit_width : List (List ℕ) → ℕ
 limit_width cells = if bytes_eq (cell_at cells 3) (codes "I") then 6 else 5
 
 -- `limit, resource NAME, period, letter, v`, and w for an interval
-abbrev pub admit_limit : Draft → List (List ℕ) → Result Draft PlanFaultKind
+abbrev pub admit_limit : DraftView → List (List ℕ) → Result DraftView PlanFaultKind
 admit_limit d cells =
     if not (length cells == limit_width cells) then Err Width else do
       resource ← resource_in d.resources (cell_at cells 1)
@@ -286,14 +286,14 @@ admit_limit d cells =
       with_bound d (record { resource = resource; period = period; bound = bound })
 
 -- `periods, number`
-abbrev pub admit_periods : Draft → List (List ℕ) → Result Draft PlanFaultKind
+abbrev pub admit_periods : DraftView → List (List ℕ) → Result DraftView PlanFaultKind
 admit_periods d cells =
     if not (length cells == 2) then Err Width else do
       periods ← whole_in 1 MAX_PERIODS (cell_at cells 1)
       if is_some d.periods then Err Twice else Ok (record d { periods = Some periods })
 
 -- `rate, number`
-abbrev pub admit_rate : Draft → List (List ℕ) → Result Draft PlanFaultKind
+abbrev pub admit_rate : DraftView → List (List ℕ) → Result DraftView PlanFaultKind
 admit_rate d cells =
     if not (length cells == 2) then Err Width else do
       rate ← number_in 6 (pos 0) MAX_RATE (cell_at cells 1)
@@ -315,7 +315,7 @@ key_of cell =
     else None)))))))))
 
 -- the record of a key, after those of the draft
-abbrev pub admit_key : Draft → Option PlanKey → List (List ℕ) → Result Draft PlanFaultKind
+abbrev pub admit_key : DraftView → Option PlanKey → List (List ℕ) → Result DraftView PlanFaultKind
 admit_key d None cells = Err Key
 admit_key d (Some key.Name) cells = admit_name d cells
 admit_key d (Some key.Grid) cells = admit_grid d cells
@@ -329,18 +329,18 @@ admit_key d (Some key.Resource) cells = admit_resource d cells
 admit_key d (Some key.Limit) cells = admit_limit d cells
 
 -- the record after those of the draft; one without cells says nothing
-abbrev pub admit : Draft → List (List ℕ) → Result Draft PlanFaultKind
+abbrev pub admit : DraftView → List (List ℕ) → Result DraftView PlanFaultKind
 admit d cells = if length cells == 0 then Ok d else admit_key d (key_of (cell_at cells 0)) cells
 
 -- the parts that must be there, and a zone and a destination
-abbrev pub whole_plan : Option (List ℕ) → Option Grid → Option ℕ → Option ℤ → Draft → Result PlanParts PlanFaultKind
+abbrev pub whole_plan : Option (List ℕ) → Option Grid → Option ℕ → Option ℤ → DraftView → Result PlanParts PlanFaultKind
 whole_plan (Some name) (Some grid) (Some periods) (Some rate) d =
     if (length d.cones == 0) || (length d.formulas == 0) then Err Missing
     else Ok (plan_of name grid d.cones d.formulas periods rate d.resources d.limits)
 whole_plan name grid periods rate d = Err Missing
 
 -- the plan once all records are read: each part that must be there is
-abbrev pub finished : Draft → Result PlanParts PlanFaultKind
+abbrev pub finished : DraftView → Result PlanParts PlanFaultKind
 finished d = whole_plan d.name d.grid d.periods d.rate d
 
 -- a kind of fault, at the record of this number
@@ -349,7 +349,7 @@ at_record n (Ok x) = Ok x
 at_record n (Err kind) = Err (record { row = n; kind = kind })
 
 -- the plan of these records after those of the draft, the first of them having this number
-abbrev pub plan_from : List (List (List ℕ)) → ℕ → Draft → Result PlanParts PlanFault
+abbrev pub plan_from : List (List (List ℕ)) → ℕ → DraftView → Result PlanParts PlanFault
 plan_from [] n d = at_record n (finished d)
 plan_from (fields ∷ more) n d =
     if nat_lt MAX_PLAN_RECORDS n then Err (record { row = n; kind = TooMany })

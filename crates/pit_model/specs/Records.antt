@@ -10,20 +10,20 @@ records_of text = records default_config (strip_bom text)
 
 -- what a reader of records has ahead of it: these records in turn; none, since the end was told; or none that it can give, since memory
 -- was refused
-pub data Ahead : Type 0 where
-  Rows : (rows : List (List (List ℕ))) → Ahead
-  Over : Ahead
-  GaveUp : Ahead
+pub data RecordReaderView : Type 0 where
+  Rows : (rows : List (List (List ℕ))) → RecordReaderView
+  Over : RecordReaderView
+  GaveUp : RecordReaderView
 
 -- how many records a reader can still give
-abbrev pub rows_ahead : Ahead → ℕ
+abbrev pub rows_ahead : RecordReaderView → ℕ
 rows_ahead (Rows rows) = length rows
 rows_ahead Over = 0
 rows_ahead GaveUp = 0
 
 -- taking a record gives the first of those ahead and leaves the others; at the end it finds none, then and ever after;
 -- memory may be refused until then, and is ever after
-abbrev pub TakesRow : {E : Type 0} → Ahead → Result Bool E → List (List ℕ) → Ahead → Type 0
+abbrev pub TakesRow : {E : Type 0} → RecordReaderView → Result Bool E → List (List ℕ) → RecordReaderView → Type 0
 TakesRow GaveUp (Ok found) fields after = ⊥
 TakesRow GaveUp (Err refusal) fields after = after ≡ GaveUp
 TakesRow Over (Ok found) fields after = (found ≡ false) × (after ≡ Over)

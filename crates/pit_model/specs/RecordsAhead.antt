@@ -5,7 +5,7 @@ use Rattle.csv.specs.Reading.{Ready, default_config, is_flexible, names_headers,
 use Rattle.csv.specs.declared.parser.State.{State}
 use Rattle.csv.specs.declared.reader.Reader.{Reader}
 use Rattle.csv.specs.declared.reader.Trim.TheVariants as trim
-use Rattle.pit_model.specs.Records.{Ahead, Rows, Over, GaveUp}
+use Rattle.pit_model.specs.Records.{RecordReaderView, Rows, Over, GaveUp}
 use Rattle.pit_model.specs.declared.records.Stage.{Stage}
 use Rattle.pit_model.specs.declared.records.Stage.TheVariants as stage
 
@@ -23,7 +23,7 @@ abbrev pub rows_left : {R : Type 0} → (R → Option (List ℕ)) → Reader R �
 rows_left known reader = rows_of_source (reader_state reader) (source_of known reader)
 
 -- what is ahead at each stage
-abbrev pub ahead_of : {R : Type 0} → (R → Option (List ℕ)) → Stage → Reader R → Ahead
+abbrev pub ahead_of : {R : Type 0} → (R → Option (List ℕ)) → Stage → Reader R → RecordReaderView
 ahead_of known stage.Unread reader = Rows (rows_left known reader)
 ahead_of known stage.Reading reader = Rows (rows_left known reader)
 ahead_of known stage.Ended reader = Over

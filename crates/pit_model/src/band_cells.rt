@@ -14,7 +14,7 @@ use crate::plan_fault::{PlanFaultKind, RecordError};
 use crate::ranges::MAX_RECOVERY;
 use csv::ByteRecord;
 
-/// The band of two cells, its start and its recovery.
+// The band of two cells, its start and its recovery.
 fn band_in(start: &[u8], recovery: &[u8]) -> Result<Band, PlanFaultKind>
     ensures value { result ≡ band_in start.now recovery.now }
     ensures in_range { IfOk result IsBand }

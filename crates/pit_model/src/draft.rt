@@ -48,9 +48,9 @@ pub struct Draft {
 }
 
 impl Model for Draft {
-    ghost use Rattle.pit_model.specs.Planned.{Draft as Said};
+    ghost use Rattle.pit_model.specs.Planned.{DraftView};
 
-    ghost Value = { Said };
+    ghost Value = { DraftView };
 
     ghost use Rattle.pit_model.specs.DraftView.{draft_of, KeepsDraft};
 
@@ -361,7 +361,7 @@ impl Draft {
     }
 }
 
-/// The discount rate that a cell states.
+// The discount rate that a cell states.
 fn rate_in(cell: &[u8]) -> Result<Dec, PlanFaultKind>
     ensures value { result ≡ number_in 6 (pos 0) MAX_RATE cell.now }
     ensures in_range { IfOk result (λ r. (pos 0 ≤ℤ r) × (r ≤ℤ MAX_RATE)) }

@@ -91,7 +91,7 @@ pub fn is_limited(limits: &[Limit], limit: &Limit) -> bool
     limits.iter().any(|other| is_same_place(limit, other))
 }
 
-/// Where a limit stands among others: before the first that it stands before.
+// Where a limit stands among others: before the first that it stands before.
 #[tactic(auto, using(crate::proofs::Limits::placed))]
 fn place_of(limits: &[Limit], limit: &Limit) -> usize
     ensures place { result ≡ position_or_len (λ m. stands_before limit.now m) limits.now }

@@ -39,7 +39,7 @@ impl Model for Plan {
 }
 
 impl Plan {
-    /// A plan of these parts.
+    // A plan of these parts.
     pub(crate) fn new(
         name: Name,
         grid: Grid,

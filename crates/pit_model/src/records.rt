@@ -18,16 +18,16 @@ use std::alloc::{AllocError, Global};
 use std::io::{Cursor, Read};
 use std::marker::Model;
 
-/// Whether the text has given all its records.
+// Whether the text has given all its records.
 #[derive(Clone, Copy)]
 enum Stage {
-    /// No record was asked for yet.
+    // No record was asked for yet.
     Unread,
-    /// A record may follow.
+    // A record may follow.
     Reading,
-    /// The text has ended.
+    // The text has ended.
     Ended,
-    /// Memory was refused, inside a record perhaps.
+    // Memory was refused, inside a record perhaps.
     Refused,
 }
 
@@ -42,10 +42,10 @@ pub struct RecordReader<R: Read> {
 }
 
 impl<R: Read> Model for RecordReader<R> {
-    ghost use Rattle.pit_model.specs.Records.{Ahead};
+    ghost use Rattle.pit_model.specs.Records.{RecordReaderView};
     ghost use Rattle.pit_model.specs.RecordsAhead.{ahead_of, IsSetUp};
 
-    ghost Value = { Ahead };
+    ghost Value = { RecordReaderView };
 
     ghost view = { λ r. ahead_of R.remaining r.stage r.reader };
 

@@ -13,7 +13,7 @@ use crate::plan_fault::PlanFaultKind;
 use crate::ranges::{MAX_BENCHES, MAX_SLOPE};
 use csv::ByteRecord;
 
-/// A slope by the cells of its rise and its run.
+// A slope by the cells of its rise and its run.
 fn slope_in(rise: &[u8], run: &[u8]) -> Result<Slope, PlanFaultKind>
     ensures value { result ≡ slope_in rise.now run.now }
     ensures in_range { IfOk result IsSlope }
@@ -26,7 +26,7 @@ fn slope_in(rise: &[u8], run: &[u8]) -> Result<Slope, PlanFaultKind>
     })
 }
 
-/// The cone of a record of four cells: one slope on all sides.
+// The cone of a record of four cells: one slope on all sides.
 fn equal_zone_in(row: &ByteRecord) -> Result<Cone, PlanFaultKind>
     ensures value { result ≡ equal_zone_in (cells_of (fields_of row.now)) }
     ensures in_range { IfOk result IsCone }
@@ -42,7 +42,7 @@ fn equal_zone_in(row: &ByteRecord) -> Result<Cone, PlanFaultKind>
     })
 }
 
-/// The cone of a record of ten cells: a slope for each side.
+// The cone of a record of ten cells: a slope for each side.
 fn sided_zone_in(row: &ByteRecord) -> Result<Cone, PlanFaultKind>
     ensures value { result ≡ sided_zone_in (cells_of (fields_of row.now)) }
     ensures in_range { IfOk result IsCone }

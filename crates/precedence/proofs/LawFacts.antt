@@ -17,7 +17,7 @@ use Rattle.pit_model.specs.declared.cone.Slope.{Slope}
 use Rattle.pit_model.specs.declared.grid.Grid.{Grid}
 use Rattle.precedence.specs.Cone.{above, is_above, is_within_slopes, places_where, preds, slope_along_x, slope_along_y, square}
 use Rattle.precedence.specs.ConeLaws.{above_by, even_cone, has_pred, is_above_by, is_pred_by, preds_by, IsEven}
-use Rattle.precedence.specs.Identifier.{id, IsNumbering, Numbered}
+use Rattle.precedence.specs.Identifier.{id, IsNumbering, NumberingView}
 use Rattle.precedence.proofs.AllLists.{all_at}
 use Rattle.precedence.proofs.Starts.{Rises, rises_less}
 use Rattle.precedence.proofs.Tables.{both_left}
@@ -173,7 +173,7 @@ lists_rise plan (b ∷ bs) i lt = rise_at plan (b ∷ bs) i b lt
 
 -- ---- the list that was numbered
 
-module _ (listed : List Block) (n : Numbered) (numbering : IsNumbering listed n) (p : Block → Bool) where
+module _ (listed : List Block) (n : NumberingView) (numbering : IsNumbering listed n) (p : Block → Bool) where
   -- some block of the list has the identifier and passes, just where the block by that identifier passes
   some_passes : (k : ℕ) (d : Block) → k < length listed → list_any (λ high. (id listed high == k) && p high) listed ≡ p (get_or n.blocks k d)
   some_passes k d lt = ⊎_elim
@@ -192,7 +192,7 @@ module _ (listed : List Block) (n : Numbered) (numbering : IsNumbering listed n)
       (cases_Bool (id listed (get_or listed i e) == k))) ∙ sym fails)
       (cases_Bool (p (get_or n.blocks k d)))
 
-module _ (plan : PlanParts) (listed : List Block) (n : Numbered) (numbering : IsNumbering listed n) where
+module _ (plan : PlanParts) (listed : List Block) (n : NumberingView) (numbering : IsNumbering listed n) where
   by_filter : (o : Option Cone) (low : Block) → above plan.grid o n.blocks low ≡ filter (λ k. list_any (λ high. (id listed high == k) && is_pred_by plan.grid o low high) listed) (range_with_len 0 (length n.blocks))
   by_filter None low = sym (nowhere 0 n.blocks) ∙ where_filter (λ high. false) (λ k. list_any (λ high. (id listed high == k) && false) listed) 0 n.blocks (λ i d lt. none_at i d lt)
     where

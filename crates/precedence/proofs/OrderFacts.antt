@@ -4,7 +4,7 @@ use Rattle.std.proofs.lemmas.Bool.{cases_lt, lt-ltb, ltb-true}
 use Rattle.std.proofs.lemmas.List.Sums.{sum_by-cons}
 use Rattle.pit_model.specs.declared.block.Block.{Block}
 use Rattle.precedence.specs.Codes.{code}
-use Rattle.precedence.specs.Identifier.{comes_before, id, IsNumbering, Numbered}
+use Rattle.precedence.specs.Identifier.{comes_before, id, IsNumbering, NumberingView}
 use Rattle.precedence.proofs.Order.{before_is}
 
 ones : (s t : Bool) → (s ≡ true → t ≡ true) → cond s 1 0 ≤ cond t 1 0
@@ -27,7 +27,7 @@ fewer (c ∷ bs) a b le =
     let of_b = sum_by-cons (λ x. cond (comes_before x b) 1 0) c bs in
     omega (arith, rest, first, of_a, of_b)
 
-pub in_order : (listed : List Block) (n : Numbered) (i k : ℕ) (d : Block) → IsNumbering listed n → i < k → k < length listed
+pub in_order : (listed : List Block) (n : NumberingView) (i k : ℕ) (d : Block) → IsNumbering listed n → i < k → k < length listed
     → comes_before (get_or n.blocks i d) (get_or n.blocks k d) ≡ true
 in_order listed n i k d numbering lt within =
     let at_i = numbering.identifiers i d (omega (arith, lt, within)) in

@@ -20,12 +20,12 @@ abbrev pub is_same_place : Block → Block → Bool
 is_same_place a b = (a.x == b.x) && (a.y == b.y) && (a.z == b.z)
 
 -- blocks in order, and the position of each in a list
-pub record Numbered : Type 0 where
+pub record NumberingView : Type 0 where
   pub blocks : List Block
   pub positions : List ℕ
 
 -- these are the blocks of the list by identifier, with their positions in it
-pub record IsNumbering (listed : List Block) (n : Numbered) : Type 0 where
+pub record IsNumbering (listed : List Block) (n : NumberingView) : Type 0 where
   pub blocks : length n.blocks ≡ length listed
   pub positions : length n.positions ≡ length listed
   -- the block at k has the identifier k

@@ -2,11 +2,11 @@
 use Rattle.std.specs.Prelude.{◌≡◌, ◌≤◌, length}
 use Rattle.std.specs.List.Sorted.{IsStrictlyIncreasing}
 use Rattle.precedence.specs.Codes.{codes}
-use Rattle.precedence.specs.Identifier.{Numbered}
+use Rattle.precedence.specs.Identifier.{NumberingView}
 use Rattle.precedence.specs.declared.numbering.Numbering.TheInside.{Inside}
 use Rattle.pit_model.specs.declared.ranges.TheConstants.{MAX_BLOCKS}
 
-abbrev pub numbered_of : Inside → Numbered
+abbrev pub numbered_of : Inside → NumberingView
 numbered_of n = record { blocks = n.blocks.items; positions = n.positions.items }
 
 -- the blocks rise, each has a position, and their number is that of at most 64 zone files

@@ -6,7 +6,7 @@ ghost use Rattle.precedence.specs.Rows.{IsWithin};
 ghost use Rattle.precedence.specs.ZoneTables.{Holds};
 ghost use Rattle.pit_model.specs.declared.ranges.TheConstants.{GRID_CELLS};
 
-use crate::extent::Extent;
+use crate::rows::Extent;
 use pit_model::block::Block;
 use pit_model::ranges::GRID_CELLS;
 
@@ -38,7 +38,7 @@ pub fn extent_of(blocks: &[Block]) -> Extent
     }
 }
 
-/// The bounds that hold the block too.
+// The bounds that hold the block too.
 fn widened(bounds: Bounds, block: &Block) -> Bounds
     ensures holds { Holds result block.now }
     ensures more { (other : Block) → Holds bounds other → Holds result other }

@@ -7,7 +7,7 @@ ghost use Rattle.precedence.specs.Cone.{square, is_within_slopes};
 ghost use Rattle.precedence.specs.Reach.{takes_in, slope_across, CountsAll, CountsRow, CountsSide};
 ghost use Rattle.pit_model.specs.declared.ranges.TheConstants.{GRID_CELLS, MAX_SIZE, MAX_SLOPE};
 
-use crate::reach::{Counts, Reach};
+use crate::rows::{Counts, Reach};
 use pit_model::cone::{Cone, Slope};
 use pit_model::grid::Grid;
 use pit_model::ranges::GRID_CELLS;
@@ -49,7 +49,7 @@ fn side_count(grid: Grid, along: Slope, across: Slope, dy: u16, dz: u16, nearby:
     lowered(reach, raised(reach, nearby.min(GRID_CELLS)))
 }
 
-/// What the slopes leave of their reach in the row `dy` rows away on the bench `dz` above.
+// What the slopes leave of their reach in the row `dy` rows away on the bench `dz` above.
 fn reach_in_row(grid: Grid, along: Slope, across: Slope, dy: u16, dz: u16) -> Reach
     requires grid { IsGrid grid }
     requires along { IsSlope along }
@@ -97,7 +97,7 @@ fn takes_in(reach: Reach, distance: u16) -> bool
     squared(distance, reach.weight) + reach.used <= reach.reach
 }
 
-/// The count, or a greater one where the next distance is taken in.
+// The count, or a greater one where the next distance is taken in.
 fn raised(reach: Reach, count: u16) -> u16
     requires { count ≤ GRID_CELLS }
     ensures few { result ≤ GRID_CELLS }
@@ -110,7 +110,7 @@ fn raised(reach: Reach, count: u16) -> u16
     count
 }
 
-/// The count, or a smaller one where its last distance is not taken in.
+// The count, or a smaller one where its last distance is not taken in.
 fn lowered(reach: Reach, count: u16) -> u16
     requires few { count ≤ GRID_CELLS }
     requires enough { count < GRID_CELLS → takes_in count reach ≡ false }

@@ -15,7 +15,7 @@ pub fn find(numbers: &[u64], hint: usize, target: u64) -> usize
     halved(numbers, low, high, target)
 }
 
-/// The hint, where all numbers before it are below the target, or 0.
+// The hint, where all numbers before it are below the target, or 0.
 #[tactic(auto, using(crate::proofs::Starts::starts))]
 #[inline(always)]
 fn checked_hint(numbers: &[u64], hint: usize, target: u64) -> usize
@@ -29,7 +29,7 @@ fn checked_hint(numbers: &[u64], hint: usize, target: u64) -> usize
     }
 }
 
-/// Bounds of the place from `low` on, by steps that double.
+// Bounds of the place from `low` on, by steps that double.
 #[tactic(auto, using(crate::proofs::Starts::starts))]
 #[inline(always)]
 fn stretched(numbers: &[u64], low: usize, target: u64) -> (usize, usize)
@@ -48,7 +48,7 @@ fn stretched(numbers: &[u64], low: usize, target: u64) -> (usize, usize)
     (low, numbers.len().min(low.saturating_add(step - 1)))
 }
 
-/// The place between two bounds, by halving.
+// The place between two bounds, by halving.
 #[tactic(auto, using(crate::proofs::Starts::starts))]
 #[inline(always)]
 fn halved(numbers: &[u64], low: usize, high: usize, target: u64) -> usize

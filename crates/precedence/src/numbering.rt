@@ -17,9 +17,9 @@ pub struct Numbering {
 }
 
 impl Model for Numbering {
-    ghost use Rattle.precedence.specs.Identifier.{Numbered};
+    ghost use Rattle.precedence.specs.Identifier.{NumberingView};
 
-    ghost Value = { Numbered };
+    ghost Value = { NumberingView };
 
     ghost use Rattle.precedence.specs.NumberingView.{numbered_of, KeepsNumbering};
 
@@ -29,7 +29,7 @@ impl Model for Numbering {
 }
 
 impl Numbering {
-    /// The numbering of these columns.
+    // The numbering of these columns.
     pub(crate) fn new(blocks: Vec<Block>, positions: Vec<u32>) -> Numbering
         requires rising { IsStrictlyIncreasing (codes blocks.items) }
         requires placed { length positions.items ≡ length blocks.items }

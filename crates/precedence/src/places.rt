@@ -7,7 +7,7 @@ ghost use Rattle.precedence.specs.Codes.{code, codes};
 ghost use Rattle.pit_model.specs.declared.ranges.TheConstants.{MAX_BLOCKS};
 
 use crate::code::code;
-use crate::part::part;
+use crate::predecessors::part;
 use pit_model::block::Block;
 use std::alloc::{AllocError, Global};
 

@@ -1,9 +1,8 @@
 //! The predecessors of each block of a model.
 
-ghost use Rattle.std.specs.Prelude.{◌≡◌, ◌<◌, ◌++◌, [], ◌∷◌, OnOk, OnErr, Some, length, slice_get, slice_index, sum_by};
+ghost use Rattle.std.specs.Prelude.{◌≡◌, ◌-◌, ◌<◌, ◌≤◌, ◌++◌, [], ◌∷◌, OnOk, OnErr, Some, drop, length, slice_get, slice_index, sum_by, take};
 ghost use Rattle.precedence.specs.PredsView.{pieces, start_at, AreEnds};
 
-use crate::part::part;
 use std::alloc::{AllocError, Global};
 use std::marker::Model;
 
@@ -39,7 +38,7 @@ impl Preds {
         }
     }
 
-    /// The parts of `flat` up to each of the ends.
+    // The parts of `flat` up to each of the ends.
     pub(crate) fn of_parts(flat: Vec<u32>, ends: Vec<usize>) -> Preds
         requires { AreEnds 0 ends.items (length flat.items) }
         ensures { result ≡ pieces flat.items 0 ends.items }
@@ -86,7 +85,7 @@ impl Preds {
     }
 }
 
-/// The part of `flat` up to the end at `index`.
+// The part of `flat` up to the end at `index`.
 fn piece<'a>(flat: &'a [u32], ends: &[usize], index: usize) -> &'a [u32]
     requires ends { AreEnds 0 ends.now (length flat.now) }
     requires within { index < length ends.now }
@@ -101,4 +100,13 @@ fn start_of_piece(ends: &[usize], index: usize) -> usize
     ensures { result ≡ start_at 0 ends.now index }
 {
     if index == 0 { 0 } else { ends[index - 1] }
+}
+
+/// The identifiers from the place `start` on and before `end`.
+pub fn part(ids: &[u32], start: usize, end: usize) -> &[u32]
+    requires in_order { start ≤ end }
+    requires within { end ≤ length ids.now }
+    ensures { result.now ≡ take (end - start) (drop start ids.now) }
+{
+    &ids[start..end]
 }

@@ -1,6 +1,39 @@
-//! The rows of a cone.
+//! What is told of the rows of cones. Definitions name these types, and so no function stands beside them.
 
 ghost use Rattle.std.specs.Prelude.{◌<◌, ◌≤◌, ◌^◌};
+ghost use Rattle.pit_model.specs.declared.ranges.TheConstants.{GRID_CELLS};
+
+/// The greatest distances between two blocks of a model.
+#[derive(Clone, Copy, Debug)]
+pub struct Extent {
+    /// Along y, in rows.
+    pub rows: u16,
+    /// Along z, in benches.
+    pub benches: u16,
+    pub ghost few_rows: { rows < GRID_CELLS },
+    pub ghost few_benches: { benches < GRID_CELLS },
+}
+
+/// What the slopes leave of their reach in one row. All in square units of the sizes times the slopes' numbers.
+#[derive(Clone, Copy, Debug)]
+pub struct Reach {
+    /// The length of one block along x.
+    pub weight: u64,
+    /// The square of the distance along y.
+    pub used: u128,
+    /// The square of the reach.
+    pub reach: u128,
+    pub ghost small_weight: { weight ≤ 10 ^ 11 },
+    pub ghost small_used: { used ≤ 10 ^ 30 },
+    pub ghost small_reach: { reach ≤ 10 ^ 30 },
+}
+
+/// How many of the distances 0, 1, .. along x a row of a cone takes in on each side, at most 10,000.
+#[derive(Clone, Copy, Debug)]
+pub struct Counts {
+    pub west: u16,
+    pub east: u16,
+}
 
 /// Where a row of a cone lies: the codes of its blocks are from `first` on and before `past`, as distances from the code of the
 /// block below.

@@ -8,10 +8,19 @@ ghost use Rattle.precedence.specs.Search.{run};
 ghost use Rattle.precedence.specs.declared.rows.Row.{Row};
 
 use crate::find::find;
-use crate::hint::{Hint, NOTHING_KNOWN};
 use crate::places::Places;
 use crate::rows::Row;
 use std::alloc::AllocError;
+
+/// The identifiers that a row's run began and ended at, for the block that was looked at last.
+#[derive(Clone, Copy, Debug)]
+pub struct Hint {
+    pub first: u32,
+    pub past: u32,
+}
+
+/// What is known before the first block.
+pub const NOTHING_KNOWN: Hint = Hint { first: 0, past: 0 };
 
 /// Appends the identifiers whose codes lie in the rows, in rising order, seen from the code `from`. `past` has where each row is
 /// past. The hints, one a row, are where the rows' runs were found for a smaller code; any others do.
@@ -56,7 +65,7 @@ fn keep_hint(hints: &mut [Hint], i: usize, run: Hint) {
     }
 }
 
-/// Appends the identifiers whose codes lie in a row, and tells the first of them and the one past the last.
+// Appends the identifiers whose codes lie in a row, and tells the first of them and the one past the last.
 #[inline(always)]
 fn add_run(
     list: &mut Vec<u32>,
@@ -79,8 +88,8 @@ fn add_run(
     })
 }
 
-/// Where the codes from the place `first` on are no longer below `past`. Most rows of scattered blocks have no code, and need no
-/// search for it.
+// Where the codes from the place `first` on are no longer below `past`. Most rows of scattered blocks have no code, and need no
+// search for it.
 #[tactic(auto, using(crate::proofs::Starts::starts))]
 #[inline(always)]
 fn run_end(codes: &[u64], first: usize, hint: usize, past: u64) -> usize
@@ -95,7 +104,7 @@ fn run_end(codes: &[u64], first: usize, hint: usize, past: u64) -> usize
     }
 }
 
-/// The first row after the row `i` that can have a code from the one of the identifier `past` on, or the number of rows.
+// The first row after the row `i` that can have a code from the one of the identifier `past` on, or the number of rows.
 #[inline(always)]
 fn next_row(places: &Places, pasts: &[u64], i: usize, past: usize, from: u64) -> usize
     requires rising { IsStrictlyIncreasing pasts.now }

@@ -7,9 +7,7 @@ ghost use Rattle.pit_model.specs.declared.ranges.TheConstants.{GRID_CELLS};
 
 use crate::code::{BENCH, ROW};
 use crate::counting::row_counts;
-use crate::extent::Extent;
-use crate::reach::Counts;
-use crate::rows::Row;
+use crate::rows::{Counts, Extent, Row};
 use pit_model::cone::Cone;
 use pit_model::grid::Grid;
 use std::alloc::{AllocError, Global};
@@ -34,7 +32,7 @@ pub fn rows_of(
     Ok(rows)
 }
 
-/// Adds the rows of the bench `dz` above.
+// Adds the rows of the bench `dz` above.
 fn add_bench(
     rows: &mut Vec<Row>,
     grid: Grid,
@@ -57,7 +55,7 @@ fn add_bench(
     Ok(())
 }
 
-/// Adds a row where it has codes.
+// Adds a row where it has codes.
 fn add_row(rows: &mut Vec<Row>, row: Row) -> Result<(), AllocError>
     ensures row { OnOk result (row.first < row.past → rows.new.items ≡ rows.old.items ++ row ∷ []) }
     ensures no_row { OnOk result (row.past ≤ row.first → rows.new.items ≡ rows.old.items) }
@@ -68,7 +66,7 @@ fn add_row(rows: &mut Vec<Row>, row: Row) -> Result<(), AllocError>
     Ok(())
 }
 
-/// The row `i` of the bench `dz` above, with so many blocks on each side.
+// The row `i` of the bench `dz` above, with so many blocks on each side.
 fn row_at(extent: Extent, dz: u16, i: u16, counts: Counts) -> Row
     requires up { 1 ≤ dz }
     requires dz { dz < GRID_CELLS }

@@ -12,7 +12,7 @@ use std::process::Abort;
 use std::test::Fail;
 use valuers::{Valued, Worths};
 
-/// The mill plan.
+// The mill plan.
 const MILL: &[u8] =
     b"name,one\ngrid,0,0,0,10,10,10\nzone,1,1,1\nmill,mill,900,600,1500\nperiods,1\nrate,0.1\n";
 
@@ -25,7 +25,7 @@ fn row(x: u16, y: u16, z: u16, zone: u8) -> Result<Valued, Fail> {
     })
 }
 
-/// All blocks of a box of benches from `bottom` to below `top`.
+// All blocks of a box of benches from `bottom` to below `top`.
 fn add_box(
     rows: &mut Vec<Valued>,
     wide: u16,
@@ -66,13 +66,13 @@ fn lists_by(alloc: Global, numbering: &Numbering, plan: &Plan) -> Result<Preds, 
     Ok(preds(alloc, numbering, plan)?)
 }
 
-/// The blocks' lists by a plan's text.
+// The blocks' lists by a plan's text.
 fn lists_of(alloc: Global, rows: &[Valued], text: &[u8]) -> Result<Preds, Fail> {
     let plan = read_plan(alloc, text)?;
     lists_by(alloc, &numbered(alloc, rows)?, &plan)
 }
 
-/// The list of a block, or `None` where there is no such block.
+// The list of a block, or `None` where there is no such block.
 fn list_of(lists: &Preds, id: u32) -> Option<&[u32]> {
     if (id as usize) < lists.len() {
         Some(lists.of(id))
@@ -192,7 +192,7 @@ fn four_slopes(rt: HostRuntime) -> Result<(), Fail> {
     Ok(())
 }
 
-/// One side of the test of a cone, as it is written.
+// One side of the test of a cone, as it is written.
 fn term(distance: u16, size: u32, a: u16, b: u16) -> u128 {
     let length = u128::from(distance)
         .wrapping_mul(u128::from(size))
@@ -207,7 +207,7 @@ fn is_inside(grid: Grid, along: Slope, across: Slope, low: Block, high: Block, r
     x.wrapping_add(y) <= term(rise, grid.z.size, along.q, across.q)
 }
 
-/// Whether `high` is a predecessor of `low`, by testing the pair alone.
+// Whether `high` is a predecessor of `low`, by testing the pair alone.
 fn is_above(grid: Grid, cone: Cone, low: Block, high: Block) -> bool {
     let Some(rise) = high.z.checked_sub(low.z) else {
         return false;
@@ -221,7 +221,7 @@ fn is_above(grid: Grid, cone: Cone, low: Block, high: Block) -> bool {
     0 < rise && rise <= u16::from(cone.k) && is_inside(grid, along, across, low, high, rise)
 }
 
-/// The predecessors of a block, by testing all others.
+// The predecessors of a block, by testing all others.
 fn above_by_pairs(
     alloc: Global,
     numbering: &Numbering,
@@ -238,7 +238,7 @@ fn above_by_pairs(
     Ok(list)
 }
 
-/// A model of a seed: about three of four places of a box, in zones by chance.
+// A model of a seed: about three of four places of a box, in zones by chance.
 fn model_of(
     alloc: Global,
     seed: u64,

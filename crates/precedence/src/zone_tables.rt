@@ -8,8 +8,7 @@ ghost use Rattle.precedence.specs.ZoneTables.{HasTables, IsTold};
 ghost use Rattle.precedence.specs.declared.cone_table.ConeTable.{ConeTable};
 
 use crate::cone_table::ConeTable;
-use crate::extent::Extent;
-use crate::rows::Row;
+use crate::rows::{Extent, Row};
 use crate::table::rows_of;
 use pit_model::cone::Cone;
 use pit_model::grid::Grid;
@@ -58,7 +57,7 @@ pub fn tables_of(
     Ok(ZoneTables { tables, of_zone })
 }
 
-/// The place of a cone's table, which is made where there is none.
+// The place of a cone's table, which is made where there is none.
 fn place_of(
     alloc: Global,
     tables: &mut Vec<ConeTable>,
@@ -84,7 +83,7 @@ fn place_of(
     Ok(place)
 }
 
-/// The place of the first table of a cone, or their number where there is none.
+// The place of the first table of a cone, or their number where there is none.
 fn find_cone(tables: &[ConeTable], cone: Cone) -> usize
     ensures within { result ≤ length tables.now }
     ensures same { result < length tables.now → (t : ConeTable) → (slice_index_or tables.now result t).cone ≡ cone }

@@ -5,7 +5,7 @@ use Rattle.std.specs.List.{AllZip, list_any}
 use Rattle.std.specs.Prelude.{◌||◌}
 use Rattle.std.proofs.lemmas.Bool.{true≢false}
 use Rattle.std.proofs.lemmas.List.Elements.{All-nil, All-cons, All-head, All-rest}
-use Rattle.lane.specs.Ends.{Lane, Putting, Taking, ArePutsFrom, AreTakesFrom, first_puts, first_takes}
+use Rattle.lane.specs.Ends.{Lane, PutEndView, TakeEndView, ArePutsFrom, AreTakesFrom, first_puts, first_takes}
 use Rattle.lane.specs.Message.{is_done}
 use Rattle.pit_model.specs.Destinations.{formulas_of_plan}
 use Rattle.pit_model.specs.Plan.{PlanParts}
@@ -58,7 +58,7 @@ pub first_unsent : (lane : Lane) (k n : ℕ) → AreUnsentFrom k (first_puts lan
 first_unsent lane k zero = tt
 first_unsent lane k (suc n) = (refl, refl, first_unsent lane (k + 1) n)
 
-pub unsent_rest : (k : ℕ) (e : Putting) (l rest : List Putting) → l ≡ e ∷ rest → AreUnsentFrom k l
+pub unsent_rest : (k : ℕ) (e : PutEndView) (l rest : List PutEndView) → l ≡ e ∷ rest → AreUnsentFrom k l
     → (e.file ≡ k) × (e.sent ≡ []) × AreUnsentFrom (k + 1) rest
 unsent_rest k e l rest is h = subst (AreUnsentFrom k) is h
 
@@ -71,7 +71,7 @@ right_false true b h = absurd (true≢false h)
 right_false false b h = h
 
 -- the readers of one plan, whatever their handles are
-module _ {H : Type 0} (left : H → Option (List ℕ)) (sure : H → Bool) (plan : H → PlanParts) (end : H → Putting) (p : PlanParts) (lane : Lane) (files : ℕ) where
+module _ {H : Type 0} (left : H → Option (List ℕ)) (sure : H → Bool) (plan : H → PlanParts) (end : H → PutEndView) (p : PlanParts) (lane : Lane) (files : ℕ) where
   abbrev Kept : H → FileRead → Type 0
   Kept h r = KeepsRead (plan h).grid (left h) (sure h) (end h) r.ended r.answer
 
@@ -87,7 +87,7 @@ module _ {H : Type 0} (left : H → Option (List ℕ)) (sure : H → Bool) (plan
       (kept.0.0 ∙ ap (λ e. e.lane) here, kept.0.1 ∙ ap (λ e. e.file) here, puts_of (k + 1) n (omega arith) hs rs kept.1 (ap (drop 1) ends))
 
   pub read_of : (k n : ℕ) (hs : List H) (rs : List FileRead) → AllZip Kept hs rs → All (λ h. plan h ≡ p) hs → map end hs ≡ first_puts lane k n
-      → AreRead p.grid k (map left hs) (map sure hs) (map (λ r. r.answer) rs) (map (λ (e : Putting). e.sent) (map (λ r. r.ended) rs))
+      → AreRead p.grid k (map left hs) (map sure hs) (map (λ r. r.answer) rs) (map (λ (e : PutEndView). e.sent) (map (λ r. r.ended) rs))
   read_of k n [] [] kept plans ends = tt
   read_of k n [] (r ∷ rs) kept plans ends = absurd kept
   read_of k n (h ∷ hs) [] kept plans ends = absurd kept
@@ -98,7 +98,7 @@ module _ {H : Type 0} (left : H → Option (List ℕ)) (sure : H → Bool) (plan
       (rw (number, All-head Same h hs plans) at kept.0.2, read_of (k + 1) n hs rs kept.1 (All-rest Same h hs (h ∷ hs) refl plans) (ap (drop 1) ends))
 
 -- the valuers of one plan
-module _ {H : Type 0} (plan : H → PlanParts) (end : H → Taking) (p : PlanParts) (lane : Lane) (takers : ℕ) where
+module _ {H : Type 0} (plan : H → PlanParts) (end : H → TakeEndView) (p : PlanParts) (lane : Lane) (takers : ℕ) where
   abbrev KeptValues : H → ValuerResult → Type 0
   KeptValues h r = KeepsValued (formulas_of_plan (plan h)) (end h) r.taker r.items r.memory
 
@@ -113,15 +113,15 @@ module _ {H : Type 0} (plan : H → PlanParts) (end : H → Taking) (p : PlanPar
       let here = ap (λ l. get_or l 0 (end h)) ends in
       (ap (λ t. t.lane) kept.0.0 ∙ ap (λ e. e.lane) here, ap (λ t. t.taker) kept.0.0 ∙ ap (λ e. e.taker) here, takes_of (k + 1) n (omega arith) hs rs kept.1 (ap (drop 1) ends))
 
-  pub done_of : (hs : List H) (rs : List ValuerResult) → AllZip KeptValues hs rs → All (λ (t : Taking). is_done t.took ≡ true) (map (λ r. r.taker) rs)
-  done_of [] [] kept = All-nil (λ (t : Taking). is_done t.took ≡ true)
+  pub done_of : (hs : List H) (rs : List ValuerResult) → AllZip KeptValues hs rs → All (λ (t : TakeEndView). is_done t.took ≡ true) (map (λ r. r.taker) rs)
+  done_of [] [] kept = All-nil (λ (t : TakeEndView). is_done t.took ≡ true)
   done_of [] (r ∷ rs) kept = absurd kept
   done_of (h ∷ hs) [] kept = absurd kept
   done_of (h ∷ hs) (r ∷ rs) kept =
-      All-cons (λ (t : Taking). is_done t.took ≡ true) r.taker (map (λ r. r.taker) rs) kept.0.1 (done_of hs rs kept.1)
+      All-cons (λ (t : TakeEndView). is_done t.took ≡ true) r.taker (map (λ r. r.taker) rs) kept.0.1 (done_of hs rs kept.1)
 
   pub valued_of : (k n : ℕ) (hs : List H) (rs : List ValuerResult) → AllZip KeptValues hs rs → All (λ h. plan h ≡ p) hs → map end hs ≡ first_takes lane k n
-      → list_any (λ r. r.memory) rs ≡ false → map (λ r. r.items) rs ≡ map (items_by (formulas_of_plan p)) (map (λ (t : Taking). t.took) (map (λ r. r.taker) rs))
+      → list_any (λ r. r.memory) rs ≡ false → map (λ r. r.items) rs ≡ map (items_by (formulas_of_plan p)) (map (λ (t : TakeEndView). t.took) (map (λ r. r.taker) rs))
   valued_of k n [] [] kept plans ends fine = refl
   valued_of k n [] (r ∷ rs) kept plans ends fine = absurd kept
   valued_of k n (h ∷ hs) [] kept plans ends fine = absurd kept
@@ -130,5 +130,5 @@ module _ {H : Type 0} (plan : H → PlanParts) (end : H → Taking) (p : PlanPar
       let Same : H → Type 0 = λ w. plan w ≡ p in
       let fresh : (end h).took ≡ [] = ap (λ l. (get_or l 0 (end h)).took) ends in
       let here : r.items ≡ items_by (formulas_of_plan p) r.taker.took = rw (fresh, All-head Same h hs plans) at kept.0.2 (left_false r.memory _ fine) in
-      let rest : map (λ r. r.items) rs ≡ map (items_by (formulas_of_plan p)) (map (λ (t : Taking). t.took) (map (λ r. r.taker) rs)) = valued_of (k + 1) n hs rs kept.1 (All-rest Same h hs (h ∷ hs) refl plans) (ap (drop 1) ends) (right_false r.memory _ fine) in
+      let rest : map (λ r. r.items) rs ≡ map (items_by (formulas_of_plan p)) (map (λ (t : TakeEndView). t.took) (map (λ r. r.taker) rs)) = valued_of (k + 1) n hs rs kept.1 (All-rest Same h hs (h ∷ hs) refl plans) (ap (drop 1) ends) (right_false r.memory _ fine) in
       ap (λ w. w ∷ map (λ r. r.items) rs) here ∙ ap (λ w. items_by (formulas_of_plan p) r.taker.took ∷ w) rest

@@ -1,6 +1,6 @@
 -- What the threads of a run promise of what they give back, and what is made ready for them.
 use Rattle.std.specs.Prelude.{◌≡◌, ℕ, ◌+◌, Bool, true, List, [], ◌∷◌, ◌++◌, length, drop, Option, Result, IsFalse}
-use Rattle.lane.specs.Ends.{Putting, Taking}
+use Rattle.lane.specs.Ends.{PutEndView, TakeEndView}
 use Rattle.lane.specs.Message.{is_done}
 use Rattle.pit_model.specs.declared.formula.Formula.{Formula}
 use Rattle.pit_model.specs.declared.grid.Grid.{Grid}
@@ -10,19 +10,19 @@ use Rattle.run_threads.specs.Reading.{IsRead}
 use Rattle.run_threads.specs.declared.read_fault.ReadFault.{ReadFault}
 
 -- a reader that was given this end ended it, and read its file
-abbrev pub KeepsRead : Grid → Option (List ℕ) → Bool → Putting → Putting → Result (Unit {0}) ReadFault → Type 0
+abbrev pub KeepsRead : Grid → Option (List ℕ) → Bool → PutEndView → PutEndView → Result (Unit {0}) ReadFault → Type 0
 KeepsRead grid left sure given ended answer =
     (ended.lane ≡ given.lane) × (ended.file ≡ given.file) × IsRead grid given.file left sure answer ended.sent
 
 -- a valuer that was given this end took until it was done, and valued what it took
-abbrev pub KeepsValued : List Formula → Taking → Taking → List Item → Bool → Type 0
+abbrev pub KeepsValued : List Formula → TakeEndView → TakeEndView → List Item → Bool → Type 0
 KeepsValued formulas given taker items memory =
     (taker ≡ record given { took = given.took ++ drop (length given.took) taker.took })
     × (is_done taker.took ≡ true)
     × (IsFalse memory → items ≡ items_by formulas (drop (length given.took) taker.took))
 
 -- put ends of the files from number k on, in order, that sent nothing
-abbrev pub AreUnsentFrom : ℕ → List Putting → Type 0
+abbrev pub AreUnsentFrom : ℕ → List PutEndView → Type 0
 AreUnsentFrom k [] = Unit {0}
 AreUnsentFrom k (p ∷ ps) = (p.file ≡ k) × (p.sent ≡ []) × AreUnsentFrom (k + 1) ps
 

@@ -3,7 +3,7 @@
 ghost use Rattle.std.specs.Prelude.{◌≡◌, ◌+◌, ◌<◌, ◌≤◌, ◌++◌, [], ◌∷◌, length, vec_len, IfOk, IfErr, IfSome};
 ghost use Rattle.run_threads.specs.Reading.{most_bytes, IsRead};
 ghost use Rattle.run_threads.specs.Sending.{IsUnread, HasPut, TellsNext};
-ghost use Rattle.zone_csv.specs.Outlook.{blocks_left};
+ghost use Rattle.zone_csv.specs.ZoneReaderView.{blocks_left};
 ghost use Rattle.zone_csv.specs.Zone.{blocks_of, fault_of};
 
 use crate::read_fault::ReadFault;

@@ -95,7 +95,7 @@ pub fn in_scope<R: Threads + Wait + Sync, F: Feed + Send + Drop, G: Gate + Sync>
     )
 }
 
-/// Starts the valuers and then the readers, at most `starts` threads, and settles. After a refused start it joins what was started.
+// Starts the valuers and then the readers, at most `starts` threads, and settles. After a refused start it joins what was started.
 fn run_in<'s, E, R: Threads + Wait + Sync, F: Feed + Send + Drop + 's, G: Gate + Sync>(
     rt: &'s R,
     alloc: Global,

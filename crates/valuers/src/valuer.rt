@@ -81,7 +81,7 @@ fn take_all<R: Wait, G: Gate>(
     }
 }
 
-/// Appends what a message is handed on as: a Stop or Quit as nothing.
+// Appends what a message is handed on as: a Stop or Quit as nothing.
 fn push_item<R: Wait, G: Gate>(
     rt: &R,
     message: Taken,

@@ -6,7 +6,7 @@ ghost use Rattle.pit_model.specs.declared.ranges.TheConstants.{MAX_DESTINATIONS}
 use pit_model::ranges::MAX_DESTINATIONS;
 use std::marker::Model;
 
-/// The most worths of a block.
+// The most worths of a block.
 const MOST: usize = MAX_DESTINATIONS as usize;
 
 /// 1 to 8 worths in cents, one a destination in the order of the plan, held in place. Contracts see the list of them.

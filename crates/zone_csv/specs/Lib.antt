@@ -3,11 +3,11 @@ pub mod FaultText
 pub mod Faults
 pub mod Feed
 pub mod Header
-pub mod Outlook
+pub mod ZoneReaderView
 pub mod Row
-pub mod Source
+pub mod FileFeedView
 pub mod RowDemands
 pub mod SpelledZone
-pub mod Supply
+pub mod MemFeedView
 pub mod Zone
-pub mod ZoneView
+pub mod ZoneStages

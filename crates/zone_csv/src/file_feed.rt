@@ -21,9 +21,9 @@ pub struct FileFeed<F: Read> {
 
 impl<F: Read> Model for FileFeed<F> {
     ghost use Rattle.pit_model.specs.Count.{count_of};
-    ghost use Rattle.zone_csv.specs.Source.{Source};
+    ghost use Rattle.zone_csv.specs.FileFeedView.{FileFeedView};
 
-    ghost Value = { Source };
+    ghost Value = { FileFeedView };
 
     ghost view = { λ f. record {
       left = F.remaining f.file;

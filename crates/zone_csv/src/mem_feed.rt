@@ -1,7 +1,7 @@
 //! Bytes in memory as a feed.
 
 ghost use Rattle.std.specs.Prelude.{◌≡◌, ◌+◌, ◌<◌, ◌≤◌, ◌↔◌, [], take, drop, length, Some, IsErr, IfOk, OnErr};
-ghost use Rattle.zone_csv.specs.Supply.{Supply, fresh, pull_count, after_pull, never_fails, failures_of};
+ghost use Rattle.zone_csv.specs.MemFeedView.{MemFeedView, fresh, pull_count, after_pull, never_fails, failures_of};
 
 use crate::feed::{Feed, FeedFault};
 use std::marker::Model;
@@ -18,9 +18,9 @@ pub struct MemFeed {
 
 impl Model for MemFeed {
     ghost use Rattle.std.specs.Prelude.{◌≤◌, drop, vec_len};
-    ghost use Rattle.zone_csv.specs.Supply.{Supply};
+    ghost use Rattle.zone_csv.specs.MemFeedView.{MemFeedView};
 
-    ghost Value = { Supply };
+    ghost Value = { MemFeedView };
 
     ghost view = { λ f. record {
       left = drop f.given f.bytes.items;

@@ -2,9 +2,9 @@
 
 ghost use Rattle.std.specs.Prelude.{◌≡◌, ◌+◌, ◌<◌, ◌≤◌, length, Err, IfOk, IfSome};
 ghost use Rattle.pit_model.specs.Plan.{IsGrid};
-ghost use Rattle.zone_csv.specs.Outlook.{Says, Answers, blocks_left};
+ghost use Rattle.zone_csv.specs.ZoneReaderView.{Says, Answers, blocks_left};
 ghost use Rattle.zone_csv.specs.Zone.{blocks_of, fault_of, HasFewBlocks, HasOwnBlocks};
-ghost use Rattle.zone_csv.specs.ZoneView.{outlook_of, IsCounted};
+ghost use Rattle.zone_csv.specs.ZoneStages.{reader_view, IsCounted};
 ghost use Rattle.pit_model.specs.declared.ranges.TheConstants.{MAX_ZONES};
 
 use crate::columns::{Columns, columns_of};
@@ -20,16 +20,16 @@ use std::alloc::Global;
 use std::io::Cursor;
 use std::marker::Model;
 
-/// How far a zone file was read.
+// How far a zone file was read.
 #[derive(Clone, Copy)]
 enum Stage {
-    /// Not at all.
+    // Not at all.
     Header,
-    /// Up to the record of this number.
+    // Up to the record of this number.
     Body { columns: Columns, number: u32 },
-    /// To its end.
+    // To its end.
     Ended,
-    /// Up to this fault.
+    // Up to this fault.
     Failed(ZoneFault),
 }
 
@@ -47,13 +47,13 @@ pub struct ZoneReader {
 impl Model for ZoneReader {
     ghost use Rattle.std.specs.Prelude.{◌<◌};
     ghost use Rattle.pit_model.specs.Plan.{IsGrid};
-    ghost use Rattle.zone_csv.specs.Outlook.{Outlook};
-    ghost use Rattle.zone_csv.specs.ZoneView.{outlook_of, IsCounted};
+    ghost use Rattle.zone_csv.specs.ZoneReaderView.{ZoneReaderView};
+    ghost use Rattle.zone_csv.specs.ZoneStages.{reader_view, IsCounted};
     ghost use Rattle.pit_model.specs.declared.ranges.TheConstants.{MAX_ZONES};
 
-    ghost Value = { Outlook };
+    ghost Value = { ZoneReaderView };
 
-    ghost view = { λ r. outlook_of r.grid r.zone r.stage r.records };
+    ghost view = { λ r. reader_view r.grid r.zone r.stage r.records };
 
     ghost invariant = { λ r. IsGrid r.grid × (r.zone < MAX_ZONES) × IsCounted r.stage };
 }
@@ -111,8 +111,8 @@ fn step(
     requires grid { IsGrid grid }
     requires zone { zone < MAX_ZONES }
     requires counted { IsCounted stage }
-    ensures answers { Answers (outlook_of grid zone stage records.old) result.1
-        (outlook_of grid zone result.0 records.new) }
+    ensures answers { Answers (reader_view grid zone stage records.old) result.1
+        (reader_view grid zone result.0 records.new) }
     ensures counted { IsCounted result.0 }
 {
     match stage {
@@ -138,8 +138,8 @@ fn first_row(
 ) -> (Stage, Result<Option<Block>, ZoneFault>)
     requires grid { IsGrid grid }
     requires zone { zone < MAX_ZONES }
-    ensures answers { Answers (outlook_of grid zone Stage.Header records.old) result.1
-        (outlook_of grid zone result.0 records.new) }
+    ensures answers { Answers (reader_view grid zone Stage.Header records.old) result.1
+        (reader_view grid zone result.0 records.new) }
     ensures counted { IsCounted result.0 }
 {
     match records.next(row) {
@@ -169,8 +169,8 @@ fn next_row(
     requires grid { IsGrid grid }
     requires zone { zone < MAX_ZONES }
     requires counted { number ≤ 1000002 }
-    ensures answers { Answers (outlook_of grid zone (Stage.Body columns number) records.old) result.1
-        (outlook_of grid zone result.0 records.new) }
+    ensures answers { Answers (reader_view grid zone (Stage.Body columns number) records.old) result.1
+        (reader_view grid zone result.0 records.new) }
     ensures counted { IsCounted result.0 }
 {
     match records.next(row) {

@@ -3,7 +3,7 @@ use Rattle.std.specs.Vec.Iter.{into_iter_items}
 use Rattle.crossbeam_channel.specs.Claims.{view}
 use Rattle.crossbeam_channel.specs.Ends.{sends_on, ruled_capacity}
 use Rattle.lane.specs.Views.{sents_in, tooks_in}
-use Rattle.lane.specs.Ends.{Taking}
+use Rattle.lane.specs.Ends.{TakeEndView}
 use Rattle.lane.specs.Kept.{IsAllIn, IsGathering, lane_at}
 use Rattle.lane.proofs.Joining.{gather_begin, gather_more, gather_done, nothing_left, one_less}
 use Rattle.lane.proofs.closer.join_takes.Goals as goal
@@ -14,7 +14,7 @@ loop-take-init c =
     let sent = sents_in (view c.args.pass.now) in
     let lane = lane_at (sends_on c.args.sender.now) in (
       c.requires.seat,
-      subst (λ (l : List Taking). IsGathering (length sent) c.args.takers (ruled_capacity (sends_on c.args.sender.now)) lane sent l l (view c.args.pass.now)) (sym all) (gather_begin _ _ lane _ _ c.requires.stopped c.requires.takes c.requires.done),
+      subst (λ (l : List TakeEndView). IsGathering (length sent) c.args.takers (ruled_capacity (sends_on c.args.sender.now)) lane sent l l (view c.args.pass.now)) (sym all) (gather_begin _ _ lane _ _ c.requires.stopped c.requires.takes c.requires.done),
       search rules,
     )
 
@@ -23,7 +23,7 @@ loop-take-preserved c =
     let loop = c.loop-take in
     let steps = c.in-Some.ensures.steps in
     let sent = sents_in (view c.args.pass.now) in
-    let before = subst (λ (l : List Taking). IsGathering (length sent) c.args.takers (ruled_capacity (sends_on c.args.sender.now)) (lane_at (sends_on c.args.sender.now)) sent (into_iter_items c.into_iter-take-iterator.result) l (view loop.pass)) steps.0 loop.invariant.1 in (
+    let before = subst (λ (l : List TakeEndView). IsGathering (length sent) c.args.takers (ruled_capacity (sends_on c.args.sender.now)) (lane_at (sends_on c.args.sender.now)) sent (into_iter_items c.into_iter-take-iterator.result) l (view loop.pass)) steps.0 loop.invariant.1 in (
       c.join.ensures.seat,
       gather_more _ _ _ _ _ _ _ _ c.in-Some.take _ before c.join.ensures.joined,
       one_less _ _ c.in-Some.take _ _ loop.invariant.2 steps.0 (sym steps.1),
@@ -34,7 +34,7 @@ gathered c =
     let loop = c.loop-take in
     let sent = sents_in (view c.args.pass.now) in
     let none = nothing_left (into_iter_items loop.take-iterator) (sym loop.invariant.2 ∙ c.in-None.ensures.steps.0) in
-    let last = subst (λ (l : List Taking). IsGathering (length sent) c.args.takers (ruled_capacity (sends_on c.args.sender.now)) (lane_at (sends_on c.args.sender.now)) sent (into_iter_items c.into_iter-take-iterator.result) l (view loop.pass)) none loop.invariant.1 in
+    let last = subst (λ (l : List TakeEndView). IsGathering (length sent) c.args.takers (ruled_capacity (sends_on c.args.sender.now)) (lane_at (sends_on c.args.sender.now)) sent (into_iter_items c.into_iter-take-iterator.result) l (view loop.pass)) none loop.invariant.1 in
     gather_done _ _ (lane_at (sends_on c.args.sender.now)) _ _ _ _ last refl c.requires.stopped.some_taker
 
 pub returns-clause-full : goal.returns-clause-full

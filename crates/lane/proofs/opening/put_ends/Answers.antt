@@ -1,7 +1,7 @@
 use Rattle.std.proofs.Common.{[], ◌∷◌, ◌++◌, sym, ap, ◌∙◌}
 use Rattle.crossbeam_channel.specs.Ends.{sends_on, ruled_capacity}
 use Rattle.lane.specs.declared.part.Part.TheVariants.{Put}
-use Rattle.lane.specs.Ends.{Putting, first_puts}
+use Rattle.lane.specs.Ends.{PutEndView, first_puts}
 use Rattle.lane.specs.Kept.{lane_at}
 use Rattle.lane.proofs.Opens.{put_given, first_puts_next}
 use Rattle.lane.proofs.opening.put_ends.Goals as goal
@@ -22,6 +22,6 @@ loop-file-preserved c =
       c.next_part-part.ensures.left ∙ given.1,
       c.in_ok-push.ensures.items
           ∙ (ap (λ l. l ++ c.new.result ∷ []) c.loop-file.invariant.2
-          ∙ (ap (λ (p : Putting). first_puts lane 0 c.loop-file.file ++ p ∷ []) (c.new.ensures.value ∙ ap (λ channel. record { lane = lane_at channel; file = c.loop-file.file; sent = [] }) c.in_ok-sender_of_file.ensures)
+          ∙ (ap (λ (p : PutEndView). first_puts lane 0 c.loop-file.file ++ p ∷ []) (c.new.ensures.value ∙ ap (λ channel. record { lane = lane_at channel; file = c.loop-file.file; sent = [] }) c.in_ok-sender_of_file.ensures)
           ∙ sym (first_puts_next lane c.loop-file.file))),
     )

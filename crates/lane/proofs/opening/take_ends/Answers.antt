@@ -1,7 +1,7 @@
 use Rattle.std.proofs.Common.{[], ◌∷◌, ◌++◌, sym, ap, ◌∙◌}
 use Rattle.crossbeam_channel.specs.Ends.{sends_on, ruled_capacity}
 use Rattle.lane.specs.declared.part.Part.TheVariants.{Take}
-use Rattle.lane.specs.Ends.{Taking, first_takes}
+use Rattle.lane.specs.Ends.{TakeEndView, first_takes}
 use Rattle.lane.specs.Kept.{lane_at}
 use Rattle.lane.proofs.Opens.{take_given, first_takes_next}
 use Rattle.lane.proofs.opening.take_ends.Goals as goal
@@ -22,6 +22,6 @@ loop-taker-preserved c =
       c.next_part-part.ensures.left ∙ given.1,
       c.in_ok-push.ensures.items
           ∙ (ap (λ l. l ++ c.new.result ∷ []) c.loop-taker.invariant.2
-          ∙ (ap (λ (p : Taking). first_takes lane 0 c.loop-taker.taker ++ p ∷ []) (c.new.ensures.value ∙ ap (λ channel. record { lane = lane_at channel; taker = c.loop-taker.taker; took = [] }) (c.in_ok-receiver_of_taker.ensures ∙ c.requires.channel))
+          ∙ (ap (λ (p : TakeEndView). first_takes lane 0 c.loop-taker.taker ++ p ∷ []) (c.new.ensures.value ∙ ap (λ channel. record { lane = lane_at channel; taker = c.loop-taker.taker; took = [] }) (c.in_ok-receiver_of_taker.ensures ∙ c.requires.channel))
           ∙ sym (first_takes_next lane c.loop-taker.taker))),
     )

@@ -1,11 +1,11 @@
 use Rattle.std.proofs.Common.{◌≡◌, [], List, All, sym, subst, arith}
-use Rattle.lane.specs.Ends.{Putting, ArePutsFrom}
+use Rattle.lane.specs.Ends.{PutEndView, ArePutsFrom}
 use Rattle.lane.proofs.HandedOver.{puts_back, first_puts_unsent}
 use Rattle.lane.proofs.Opens.{first_puts_are}
 use Rattle.lane.proofs.tests.put_all.Goals as goal
 
 pub put_each-requires-clause-unsent : goal.put_each-requires-clause-unsent
-put_each-requires-clause-unsent g c = λ lives within. subst (λ (l : List Putting). All (λ (p : Putting). p.sent ≡ []) l) (sym c.requires.first) (first_puts_unsent c.args.closer.lane 0 c.args.closer.files)
+put_each-requires-clause-unsent g c = λ lives within. subst (λ (l : List PutEndView). All (λ (p : PutEndView). p.sent ≡ []) l) (sym c.requires.first) (first_puts_unsent c.args.closer.lane 0 c.args.closer.files)
 
 pub stop-requires : goal.stop-requires
 stop-requires g c =

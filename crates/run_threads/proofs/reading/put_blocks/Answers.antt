@@ -1,6 +1,6 @@
 use Rattle.std.proofs.Common.{◌≡◌, ◌++◌, [], ◌∷◌, length, sym, ap, ◌∙◌, subst}
 use Rattle.std.proofs.lemmas.Result.{err_from_is_err_and}
-use Rattle.lane.specs.Ends.{Putting}
+use Rattle.lane.specs.Ends.{PutEndView}
 use Rattle.lane.specs.declared.message.Taken.TheVariants.{Row}
 use Rattle.zone_csv.specs.Zone.{blocks_of, fault_of}
 use Rattle.run_threads.specs.Sending.{IsSending}
@@ -23,9 +23,9 @@ loop-reader-preserved g c =
     let sent = c.loop-reader.put_end.sent in
     let block = c.in-Some.block in
     let next = rw c.in-Some.is at c.in_ok-block.ensures.tells in
-    let more : c.row.new.self.sent ≡ sent ++ Row file (length sent) block ∷ [] = ap (λ (v : Putting). v.sent) c.row.ensures.sent ∙ ap (λ f. sent ++ Row f (length sent) block ∷ []) c.loop-reader.invariant.1 in (
-      ap (λ (v : Putting). v.lane) c.row.ensures.sent ∙ c.loop-reader.invariant.0,
-      ap (λ (v : Putting). v.file) c.row.ensures.sent ∙ c.loop-reader.invariant.1,
+    let more : c.row.new.self.sent ≡ sent ++ Row file (length sent) block ∷ [] = ap (λ (v : PutEndView). v.sent) c.row.ensures.sent ∙ ap (λ f. sent ++ Row f (length sent) block ∷ []) c.loop-reader.invariant.1 in (
+      ap (λ (v : PutEndView). v.lane) c.row.ensures.sent ∙ c.loop-reader.invariant.0,
+      ap (λ (v : PutEndView). v.file) c.row.ensures.sent ∙ c.loop-reader.invariant.1,
       subst (λ s. IsSending file whole fault s c.next_block.new.reader) (sym more)
           (puts_row file whole fault sent c.loop-reader.reader c.next_block.new.reader block c.loop-reader.invariant.2 next),
     )

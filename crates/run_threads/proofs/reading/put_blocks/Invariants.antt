@@ -1,5 +1,5 @@
 use Rattle.std.proofs.Common.{◌≡◌}
-use Rattle.zone_csv.specs.Outlook.{blocks_left}
+use Rattle.zone_csv.specs.ZoneReaderView.{blocks_left}
 use Rattle.zone_csv.specs.Zone.{blocks_of, fault_of}
 use Rattle.run_threads.specs.Sending.{IsSending}
 use Rattle.run_threads.proofs.reading.put_blocks.Given as goal

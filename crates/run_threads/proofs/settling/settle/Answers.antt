@@ -1,5 +1,5 @@
 use Rattle.std.proofs.Common.{arith, ◌≡◌, ◌∙◌, All, true, sym, subst}
-use Rattle.lane.specs.Ends.{Taking}
+use Rattle.lane.specs.Ends.{TakeEndView}
 use Rattle.lane.specs.Message.{is_done}
 use Rattle.run_threads.proofs.Joined.{puts_of, read_of, takes_of, done_of, valued_of}
 use Rattle.run_threads.proofs.settling.settle.Goals as goal
@@ -17,7 +17,7 @@ gather-gathered-requires-clause-takes g c =
 
 pub gather-gathered-requires-clause-done : goal.gather-gathered-requires-clause-done
 gather-gathered-requires-clause-done g c =
-    subst (λ l. All (λ (t : Taking). is_done t.took ≡ true) l) (sym c.split_values-takers.ensures.takers)
+    subst (λ l. All (λ (t : TakeEndView). is_done t.took ≡ true) l) (sym c.split_values-takers.ensures.takers)
     (done_of (λ h. h.promise.plan.value) (λ h. h.promise.end.value) c.args._plan.now c.args.closer.lane c.args.closer.takers c.args.valuers.items c.join_all-values.result.items c.join_all-values.ensures.kept)
 
 pub returns-clause-read : goal.returns-clause-read

@@ -1,0 +1,106 @@
+-- How the shelves of a collector keep the items that it holds.
+use Rattle.std.specs.Prelude.{◌≡◌, ℕ, ◌+◌, ◌-◌, ◌<◌, ◌≤◌, ◌==◌, ◌||◌, if◌then◌else◌, nat_le, nat_lt, is_some, true, List, [], ◌++◌, length, replicate, slice_get, slice_set, Option, Some, None}
+use Rattle.std.specs.Option.{option_and_then, unwrap_or, option_map}
+use Rattle.valuers.specs.declared.item.Item.{Item}
+use Rattle.valuers.specs.declared.item.Item.TheVariants.{Row, End}
+use Rattle.valuers.specs.declared.item.Valued.{Valued}
+use Rattle.collector.specs.declared.shelf.Shelf.{Shelf}
+use Rattle.collector.specs.declared.add_fault.AddFault.{AddFault}
+use Rattle.collector.specs.declared.add_fault.AddFault.TheVariants.{Double, Stranger, AfterEnd, SecondEnd, BadCount}
+use Rattle.collector.specs.declared.finish_fault.FinishFault.{FinishFault}
+use Rattle.collector.specs.declared.finish_fault.FinishFault.TheVariants.{Missing, OutOfMemory}
+use Rattle.collector.specs.Fault.{is_after}
+use Rattle.collector.specs.Lists.{IsOpen}
+use Rattle.collector.specs.Found.{row_at, end_at, has_past}
+use Rattle.pit_model.specs.declared.ranges.TheConstants.{MAX_ROWS}
+
+-- the row itself, if it is of this place
+abbrev pub if_at : ℕ → Valued → Option Valued
+if_at place v = if v.place == place then Some v else None
+
+-- the row of a place on a shelf, where one is held
+abbrev pub slot : List Valued → ℕ → Option Valued
+slot rows place = option_and_then (if_at place) (slice_get rows place)
+
+-- the rows with one more, which also fills the places before it that no row reached
+abbrev pub with_row : List Valued → Valued → List Valued
+with_row rows v =
+    if nat_lt v.place (length rows) then slice_set rows v.place v else rows ++ replicate (v.place + 1 - length rows) v
+
+-- the rows on the shelf of a file
+abbrev pub rows_in : List Shelf → ℕ → List Valued
+rows_in shelves file = unwrap_or (option_map (λ s. s.rows.items) (slice_get shelves file)) []
+
+-- the count of the end mark on the shelf of a file
+abbrev pub end_in : List Shelf → ℕ → Option ℕ
+end_in shelves file = option_and_then (λ s. s.end) (slice_get shelves file)
+
+-- nothing is on the shelf
+abbrev pub IsBare : Shelf → Type 0
+IsBare s = (s.rows.items ≡ []) × (s.end ≡ None)
+
+-- the fault of a row of this place, on a shelf with these rows and this end mark
+abbrev pub row_fault : List Valued → Option ℕ → ℕ → Option AddFault
+row_fault rows end place =
+    if is_some (slot rows place) then Some Double
+    else if nat_le MAX_ROWS place then Some Stranger
+    else if is_after end place then Some AfterEnd
+    else None
+
+-- the fault of an end mark of this count
+abbrev pub end_fault : List Valued → Option ℕ → ℕ → Option AddFault
+end_fault rows end count =
+    if is_some end then Some SecondEnd
+    else if nat_lt MAX_ROWS count || nat_lt count (length rows) then Some BadCount
+    else None
+
+-- the fault of an item, by the rows and the end marks of all files
+abbrev pub fault_in : ℕ → (ℕ → List Valued) → (ℕ → Option ℕ) → Item → Option AddFault
+fault_in files rows ends (Row v) = if nat_le files v.file then Some Stranger else row_fault (rows v.file) (ends v.file) v.place
+fault_in files rows ends (End file count) = if nat_le files file then Some Stranger else end_fault (rows file) (ends file) count
+
+-- the file of an item
+abbrev pub file_of : Item → ℕ
+file_of (Row v) = v.file
+file_of (End file count) = file
+
+-- each file has the same rows and end mark as before
+abbrev pub AreSame : (ℕ → List Valued) → (ℕ → Option ℕ) → (ℕ → List Valued) → (ℕ → Option ℕ) → Type 0
+AreSame rows ends rows' ends' = ((file : ℕ) → rows' file ≡ rows file) × ((file : ℕ) → ends' file ≡ ends file)
+
+-- the item's file has it, and all else is as before
+abbrev pub ArePut : Item → (ℕ → List Valued) → (ℕ → Option ℕ) → (ℕ → List Valued) → (ℕ → Option ℕ) → Type 0
+ArePut (Row v) rows ends rows' ends' =
+    ((file : ℕ) → rows' file ≡ (if v.file == file then with_row (rows file) v else rows file)) × ((file : ℕ) → ends' file ≡ ends file)
+ArePut (End f count) rows ends rows' ends' =
+    ((file : ℕ) → rows' file ≡ rows file) × ((file : ℕ) → ends' file ≡ (if f == file then Some count else ends file))
+
+-- these rows and this end mark are those of the file among the items
+pub record IsShelved (held : List Item) (file : ℕ) (rows : List Valued) (end : Option ℕ) : Type 0 where
+  pub row : (place : ℕ) → row_at file place held ≡ slot rows place
+  pub ended : end_at file held ≡ end
+  pub past : (place : ℕ) → has_past file place held ≡ nat_lt place (length rows)
+  pub few : length rows ≤ MAX_ROWS
+  pub closed : (count : ℕ) → end ≡ Some count → length rows ≤ count
+
+-- each file's rows and end mark are those among the items, and no item is of another file
+pub record IsKept (files : ℕ) (held : List Item) (rows : ℕ → List Valued) (ends : ℕ → Option ℕ) : Type 0 where
+  pub outside : (file : ℕ) → files ≤ file → rows file ≡ []
+  pub shelved : (file : ℕ) → IsShelved held file (rows file) (ends file)
+
+-- the end mark's count is the number of rows, and each is at its place
+abbrev pub IsFilled : List Valued → Option ℕ → Type 0
+IsFilled rows end = (end ≡ Some (length rows)) × ((place : ℕ) → place < length rows → is_some (slot rows place) ≡ true)
+
+-- the least place with no row, where there is no end mark or the end mark is past it
+abbrev pub IsLacking : List Valued → Option ℕ → ℕ → Type 0
+IsLacking rows end place =
+    (slot rows place ≡ None) × ((other : ℕ) → other < place → is_some (slot rows other) ≡ true) × IsOpen end place
+
+-- the fault names the first shelf that is not filled
+abbrev pub IsFirstLacking : List Shelf → FinishFault → Type 0
+IsFirstLacking shelves (Missing file place) =
+    (file < length shelves)
+    × ((other : ℕ) → other < file → IsFilled (rows_in shelves other) (end_in shelves other))
+    × IsLacking (rows_in shelves file) (end_in shelves file) place
+IsFirstLacking shelves OutOfMemory = ⊥
