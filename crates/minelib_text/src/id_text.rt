@@ -87,9 +87,10 @@ fn run_len(ids: &[u32]) -> usize
     ensures within { result ≤ length ids.now }
     ensures run { take result ids.now ≡ range_with_len (slice_index ids.now 0) result }
 {
-    let first = ids[0] as usize;
+    let first = ids[0];
+    let most = ids.len().min((u32::MAX - first) as usize);
     let mut len = 1;
-    while len < ids.len() && ids[len] as usize == first.saturating_add(len) {
+    while len < most && ids[len] == first + len as u32 {
         len += 1;
     }
     len

@@ -1,18 +1,33 @@
 //! Finding a place in rising numbers, near a place known before.
 
-ghost use Rattle.std.specs.Prelude.{◌≡◌, ◌<◌, ◌≤◌, length};
+ghost use Rattle.std.specs.Prelude.{◌≡◌, ◌+◌, ◌<◌, ◌≤◌, IsTrue, length};
 ghost use Rattle.std.specs.List.Sorted.{IsStrictlyIncreasing};
 ghost use Rattle.precedence.specs.Rows.{start_of};
 
-/// How many of the numbers are below `target`. It is fast where `hint` is somewhat less than that; any other hint does.
+/// How many of the numbers are below `target`. It is fast where `hint` is somewhat less than that, and fastest where it is one
+/// less; any other hint does.
 #[inline(always)]
 pub fn find(numbers: &[u64], hint: usize, target: u64) -> usize
     requires { IsStrictlyIncreasing numbers.now }
     ensures { result ≡ start_of target numbers.now }
 {
+    if is_last_below(numbers, hint, target) {
+        return hint + 1;
+    }
     let low = checked_hint(numbers, hint, target);
     let (low, high) = stretched(numbers, low, target);
     halved(numbers, low, high, target)
+}
+
+// Whether the number at the hint is the last below the target, and another follows: mostly so for the next block of a row.
+#[tactic(auto, using(crate::proofs::Starts::starts))]
+#[inline(always)]
+fn is_last_below(numbers: &[u64], hint: usize, target: u64) -> bool
+    requires { IsStrictlyIncreasing numbers.now }
+    ensures last { IsTrue result → start_of target numbers.now ≡ hint + 1 }
+    ensures within { IsTrue result → hint < length numbers.now }
+{
+    hint < numbers.len().saturating_sub(1) && numbers[hint] < target && target <= numbers[hint + 1]
 }
 
 // The hint, where all numbers before it are below the target, or 0.

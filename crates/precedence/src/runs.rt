@@ -115,7 +115,7 @@ fn next_row(places: &Places, pasts: &[u64], i: usize, past: usize, from: u64) ->
 {
     if past < places.codes.len() {
         let gap = places.codes[past].saturating_sub(from);
-        find(pasts, i + 1, gap.saturating_add(1)).max(i + 1)
+        find(pasts, i, gap.saturating_add(1)).max(i + 1)
     } else {
         pasts.len()
     }
