@@ -5,6 +5,7 @@ ghost use Rattle.pit_units.specs.Decimal.{all_digits, all_zeros, decimal_of, sig
 
 use crate::decimal::Dec;
 use crate::fault::DecFault;
+use crate::front::front_dec;
 
 /// One more than the largest whole part of a decimal: where a longer count of digits stops.
 const PAST_LARGEST: u64 = 1_000_000_000_000_000_001;
@@ -18,37 +19,23 @@ pub fn parse_dec(text: &[u8], max_decimals: u8) -> Result<Dec, DecFault>
     requires { max_decimals ≤ 6 }
     ensures { result ≡ decimal_of max_decimals text.now }
 {
-    match short_whole(text) {
-        Some(whole) => Ok(whole),
+    match short_decimal(text, max_decimals) {
+        Some(dec) => Ok(dec),
         None => parse_any(text, max_decimals),
     }
 }
 
-/// The number of a text of digits alone, 1 to 18 of them, as most texts are; `None` for any other.
+/// The decimal of a text as most are written, read in one pass. `None` says nothing of the text.
 #[inline(always)]
-fn short_whole(text: &[u8]) -> Option<Dec>
-    ensures { IfSome result (λ dec. (max : ℕ) → decimal_of max text.now ≡ Ok dec) }
+fn short_decimal(text: &[u8], max_decimals: u8) -> Option<Dec>
+    requires { max_decimals ≤ 6 }
+    ensures { IfSome result (λ dec. decimal_of max_decimals text.now ≡ Ok dec) }
 {
-    if text.is_empty() || text.len() > 18 {
+    let (millionths, rest) = front_dec(text, max_decimals)?;
+    if !rest.is_empty() {
         return None;
     }
-    let mut value = 0;
-    for digit in text {
-        if !digit.is_ascii_digit() {
-            return None;
-        }
-        value = value * 10 + u64::from(digit - b'0');
-    }
-    Some(whole_number(value))
-}
-
-/// So many whole units.
-#[inline(always)]
-fn whole_number(units: u64) -> Dec
-    requires { units < 10 ^ 18 }
-    ensures { result ≡ pos (units * 10 ^ 6) }
-{
-    Dec::new(i128::from(units) * 1_000_000).unwrap()
+    Some(Dec::new(i128::from(millionths)).unwrap())
 }
 
 #[inline(never)]
