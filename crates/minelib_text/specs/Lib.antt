@@ -33,4 +33,5 @@ pub mod SpelledTexts
 pub mod StatedModel
 pub mod TextLines
 pub mod Tray
+pub mod Uncounted
 pub mod Written
