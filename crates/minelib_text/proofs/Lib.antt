@@ -1,8 +1,10 @@
 pub mod BlocksBack
 pub mod CpitBack
 pub mod Completed
+pub mod CountedLater
 pub mod Cuts
 pub mod Fronts
+pub mod FrontFields
 pub mod HeaderLines
 pub mod InstanceBack
 pub mod ItemLines

@@ -15,7 +15,7 @@ use Rattle.minelib_text.specs.Kept.{IsDecimal}
 use Rattle.minelib_text.specs.declared.text_fault.TextKind.{TextKind}
 use Rattle.minelib_text.proofs.PlainText.{is_plain, all_weaker, IsField, EachField}
 
-number_byte : (c : ℕ) → IsPlainByte c → is_plain c ≡ true
+pub number_byte : (c : ℕ) → IsPlainByte c → is_plain c ≡ true
 number_byte c h = grind (arith, nat_tests)
 
 pub decimal_field : (z : ℤ) → IsDecimal z → IsField (shortest z)

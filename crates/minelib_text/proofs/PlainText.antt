@@ -58,7 +58,7 @@ pub not_mark : (c : ℕ) → is_inner c ≡ true → (c == 239) ≡ false
 not_mark c h = grind (arith, nat_tests)
 
 -- fields: a field is what stands before a blank or the end
-first_field : (c : ℕ) (cs rest : List ℕ) → list_all is_plain (c ∷ cs) ≡ true → is_ended rest ≡ true
+pub first_field : (c : ℕ) (cs rest : List ℕ) → list_all is_plain (c ∷ cs) ≡ true → is_ended rest ≡ true
     → fields_of (c ∷ (cs ++ rest)) ≡ (c ∷ cs) ∷ fields_of rest
 first_field c [] rest h ended = let parts = and_parts (is_plain c) true h in rw (not_blank c parts.0, ended) refl
 first_field c (d ∷ ds) rest h ended =

@@ -131,7 +131,7 @@ none_behind n front (field ∷ rest) fields all here count = absurd (omega (arit
 pub counted : (n : ℕ) (fields : List (List ℕ)) → not (length fields == n) ≡ false → length fields ≡ n
 counted n fields test = eqb-true (length fields) n (not_false (length fields == n) test)
 
-first_ok : {A : Type 0} (rule : List ℕ → Result A TextKind) (fields : List (List ℕ)) (x : A × List (List ℕ)) → first_by rule fields ≡ Ok x
+pub first_ok : {A : Type 0} (rule : List ℕ → Result A TextKind) (fields : List (List ℕ)) (x : A × List (List ℕ)) → first_by rule fields ≡ Ok x
     → (field : List ℕ) × (fields ≡ field ∷ x.1) × (rule field ≡ Ok x.0)
 first_ok rule [] x e = absurd cc
 first_ok rule (field ∷ fields) x e =

@@ -11,6 +11,7 @@ pub mod Kept
 pub mod LineDemands
 pub mod Lines
 pub mod Marks
+pub mod MemSinkView
 pub mod ModelDemands
 pub mod ModelLines
 pub mod ModelParts
@@ -32,5 +33,5 @@ pub mod SpelledPrec
 pub mod SpelledTexts
 pub mod StatedModel
 pub mod TextLines
-pub mod MemSinkView
+pub mod Uncounted
 pub mod Written

@@ -5,12 +5,13 @@ ghost use Rattle.pit_model.specs.Block.{AreInRange};
 ghost use Rattle.minelib_text.specs.BlockLines.{admit_block, block_of, block_with, blocks_in};
 ghost use Rattle.minelib_text.specs.Reading.{Gives};
 ghost use Rattle.minelib_text.specs.TextLines.{fields_of};
+ghost use Rattle.minelib_text.specs.Uncounted.{block_alone};
 ghost use Rattle.pit_model.specs.declared.ranges.TheConstants.{MAX_BLOCKS};
 
 use crate::read_fault::{FileError, LineError};
 use crate::reading::{Admit, read_lines};
 use crate::text_fault::TextKind;
-use crate::text_fields::{count_fields, first_size, first_whole};
+use crate::text_fields::{first_size, first_whole, has_field, kind_by_count};
 use mine_instance::blocks::Blocks;
 use pit_model::block::Block;
 use pit_model::ranges::{GRID_CELLS, MAX_BLOCKS, MAX_GRADE, MAX_KG, MAX_ZONES};
@@ -46,20 +47,30 @@ impl Admit for BlockDraft {
 }
 
 // The block of a line, where so many blocks stand before.
-#[tactic(auto, unfolding(crate::specs::BlockLines::block_of))]
 fn block_of(line: &[u8], before: usize) -> Result<Block, TextKind>
     ensures { result ≡ block_of before (fields_of line.now) }
 {
-    if count_fields(line) != FIELDS {
-        return Err(TextKind::Fields);
+    match block_alone(line, before) {
+        Ok(block) => Ok(block),
+        Err(kind) => Err(kind_by_count(line, FIELDS, kind)),
     }
+}
+
+#[inline(always)]
+#[tactic(auto, unfolding(crate::specs::Uncounted::block_alone))]
+fn block_alone(line: &[u8], before: usize) -> Result<Block, TextKind>
+    ensures { result ≡ block_alone before (fields_of line.now) }
+{
     let (id, behind_id) = first_whole(line, MAX_BLOCKS as u64)?;
     let (x, behind_x) = first_whole(behind_id, u64::from(GRID_CELLS))?;
     let (y, behind_y) = first_whole(behind_x, u64::from(GRID_CELLS))?;
     let (z, behind_z) = first_whole(behind_y, u64::from(GRID_CELLS))?;
     let (tonnes, behind_tonnes) = first_size(behind_z, 3, MAX_KG * 1000)?;
     let (grade, behind_grade) = first_size(behind_tonnes, 6, MAX_GRADE)?;
-    let (zone, _) = first_whole(behind_grade, u64::from(MAX_ZONES))?;
+    let (zone, behind_zone) = first_whole(behind_grade, u64::from(MAX_ZONES))?;
+    if has_field(behind_zone) {
+        return Err(TextKind::Fields);
+    }
     if id != before as u64 {
         return Err(TextKind::Order);
     }

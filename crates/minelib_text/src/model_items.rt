@@ -8,6 +8,7 @@ ghost use Rattle.minelib_text.specs.ModelLines.{bound_in, coef_of, coef_width, d
 ghost use Rattle.minelib_text.specs.ModelParts.{TakesFirst};
 ghost use Rattle.minelib_text.specs.Reading.{Admits};
 ghost use Rattle.minelib_text.specs.TextLines.{fields_of};
+ghost use Rattle.minelib_text.specs.Uncounted.{AdmitsCounted, coef_alone};
 ghost use Rattle.pit_model.specs.declared.ranges.TheConstants.{MAX_BLOCKS};
 
 use crate::field_values::decimal_in;
@@ -15,7 +16,9 @@ use crate::model_key::Problem;
 use crate::model_keys::is_word;
 use crate::read_fault::LineError;
 use crate::text_fault::TextKind;
-use crate::text_fields::{count_fields, first_whole, next_field};
+use crate::text_fields::{
+    count_fields, first_millionths, first_whole, has_field, kind_by_count, next_field,
+};
 use mine_instance::coef::Coef;
 use pit_model::limit::{Bound, Limit};
 use pit_units::Dec;
@@ -32,27 +35,50 @@ pub fn values_in(
     ensures width { OnOk result (length row.new.items ≡ destinations) }
     ensures room { OnOk result (before < blocks) }
 {
-    if count_fields(line) != usize::from(destinations) + 1 {
-        return Err(LineError::Faulty(TextKind::Fields));
+    match values_alone(blocks, destinations, before, line, row) {
+        Ok(()) => Ok(()),
+        Err(LineError::Faulty(kind)) => {
+            let width = usize::from(destinations) + 1;
+            Err(LineError::Faulty(kind_by_count(line, width, kind)))
+        }
+        Err(LineError::OutOfMemory) => Err(LineError::OutOfMemory),
     }
+}
+
+// Reads the values of a line of as many fields as it has to have.
+fn values_alone(
+    blocks: usize,
+    destinations: u8,
+    before: usize,
+    line: &[u8],
+    row: &mut Vec<Dec>,
+) -> Result<(), LineError>
+    ensures value { AdmitsCounted (length (fields_of line.now) ≡ destinations + 1) row.new.items result (values_of blocks destinations before (fields_of line.now)) }
+    ensures width { OnOk result (length row.new.items ≡ destinations) }
+    ensures room { OnOk result (before < blocks) }
+{
     let (b, values) = first_whole(line, blocks as u64)?;
-    read_decimals(values, row)?;
+    read_decimals(values, usize::from(destinations), row)?;
     if b != before as u64 {
         return Err(LineError::Faulty(TextKind::Order));
     }
     Ok(())
 }
 
-// All decimals of a line.
-fn read_decimals(line: &[u8], row: &mut Vec<Dec>) -> Result<(), LineError>
-    ensures value { Admits row.new.items result (all_by decimal_in [] (fields_of line.now)) }
-    ensures count { OnOk result (length row.new.items ≡ length (fields_of line.now)) }
+// All decimals of a line of so many fields.
+fn read_decimals(line: &[u8], count: usize, row: &mut Vec<Dec>) -> Result<(), LineError>
+    ensures value { AdmitsCounted (length (fields_of line.now) ≡ count) row.new.items result (all_by decimal_in [] (fields_of line.now)) }
+    ensures width { OnOk result (length row.new.items ≡ count) }
 {
     row.clear();
     let mut rest = line;
-    while let Some((field, behind)) = next_field(rest) {
-        row.push(decimal_in(field)?)?;
+    while row.len() < count {
+        let (value, behind) = first_millionths(rest)?;
+        row.push(Dec::new(value).unwrap())?;
         rest = behind;
+    }
+    if has_field(rest) {
+        return Err(LineError::Faulty(TextKind::Fields));
     }
     Ok(())
 }
@@ -68,18 +94,36 @@ pub fn coef_of(
     requires { blocks ≤ MAX_BLOCKS }
     ensures { result ≡ coef_of problem blocks destinations resources (fields_of line.now) }
 {
-    if count_fields(line) != coef_width(problem) {
-        return Err(TextKind::Fields);
+    match coef_alone(problem, blocks, destinations, resources, line) {
+        Ok(coef) => Ok(coef),
+        Err(kind) => Err(kind_by_count(line, coef_width(problem), kind)),
     }
+}
+
+#[inline(always)]
+#[tactic(auto, unfolding(crate::specs::Uncounted::coef_alone))]
+fn coef_alone(
+    problem: Problem,
+    blocks: usize,
+    destinations: u8,
+    resources: u8,
+    line: &[u8],
+) -> Result<Coef, TextKind>
+    requires { blocks ≤ MAX_BLOCKS }
+    ensures { result ≡ coef_alone problem blocks destinations resources (fields_of line.now) }
+{
     let (b, behind_b) = first_whole(line, blocks as u64)?;
     let (d, behind_d) = destination_in(problem, destinations, behind_b)?;
     let (r, behind_r) = first_whole(behind_d, u64::from(resources))?;
-    let v = first_decimal(behind_r)?;
+    let (v, behind_v) = first_millionths(behind_r)?;
+    if has_field(behind_v) {
+        return Err(TextKind::Fields);
+    }
     Ok(Coef {
         b: b as u32,
         d: d as u8,
         r: r as u8,
-        v,
+        v: Dec::new(v).unwrap(),
     })
 }
 
@@ -93,6 +137,7 @@ fn coef_width(problem: Problem) -> usize
 }
 
 // The destination of a coefficient, and the fields behind it: that of a CPIT has none, and stands for the only one.
+#[inline(always)]
 fn destination_in(problem: Problem, destinations: u8, line: &[u8]) -> Result<(u64, &[u8]), TextKind>
     ensures value { Takes result (destination_in problem destinations (fields_of line.now)) }
     ensures below { IfOk result (λ x. x.0 < 256) }

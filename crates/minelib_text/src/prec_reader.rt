@@ -1,19 +1,19 @@
 //! Reading a precedence file.
 
-ghost use Rattle.std.specs.Prelude.{◌≡◌, ◌<◌, ◌≤◌, [], length, vec_len, All, IfOk, OnOk};
+ghost use Rattle.std.specs.Prelude.{◌≡◌, ◌<◌, ◌≤◌, [], false, nat_lt, length, vec_len, All, IfOk, OnOk};
 ghost use Rattle.minelib_text.specs.FieldValues.{all_by, whole_in};
 ghost use Rattle.minelib_text.specs.Marks.{AreClear};
 ghost use Rattle.minelib_text.specs.PrecLines.{admit_preds, finish_preds, no_lists, preds_in, preds_of, stands_in};
 ghost use Rattle.minelib_text.specs.Reading.{Admits, Gives};
 ghost use Rattle.minelib_text.specs.TextLines.{fields_of};
+ghost use Rattle.minelib_text.specs.Uncounted.{AdmitsCounted};
 ghost use Rattle.pit_model.specs.declared.ranges.TheConstants.{MAX_BLOCKS};
 
-use crate::field_values::whole_in;
 use crate::marks::all_differ;
 use crate::read_fault::{FileError, LineError};
 use crate::reading::{Admit, read_lines};
 use crate::text_fault::{LineFault, TextKind};
-use crate::text_fields::{first_whole, lacks_two_fields, next_field};
+use crate::text_fields::{first_whole, has_field, lacks_two_fields};
 use precedence::Preds;
 use std::alloc::{AllocError, Global};
 use std::marker::Model;
@@ -74,9 +74,31 @@ fn preds_of(
     ensures places { vec_len marks.new ≡ blocks }
     ensures clear { AreClear marks.new.items }
 {
-    if lacks_two_fields(line) {
-        return Err(LineError::Faulty(TextKind::Fields));
+    match preds_alone(line, blocks, before, ids, marks) {
+        Ok(()) => Ok(()),
+        Err(LineError::Faulty(_)) if lacks_two_fields(line) => {
+            Err(LineError::Faulty(TextKind::Fields))
+        }
+        Err(error) => Err(error),
     }
+}
+
+// The predecessors of a line of two fields or more.
+#[tactic(auto, unfolding(crate::specs::PrecLines::preds_of), using(crate::proofs::CountedLater::two_taken))]
+fn preds_alone(
+    line: &[u8],
+    blocks: usize,
+    before: usize,
+    ids: &mut Vec<u32>,
+    marks: &mut Vec<bool>,
+) -> Result<(), LineError>
+    requires few { blocks ≤ MAX_BLOCKS }
+    requires places { vec_len marks.old ≡ blocks }
+    requires clear { AreClear marks.old.items }
+    ensures value { AdmitsCounted (nat_lt (length (fields_of line.now)) 2 ≡ false) ids.new.items result (preds_of blocks before (fields_of line.now)) }
+    ensures places { vec_len marks.new ≡ blocks }
+    ensures clear { AreClear marks.new.items }
+{
     let (id, behind_id) = first_whole(line, blocks as u64)?;
     let (stated, behind_stated) = first_whole(behind_id, blocks as u64)?;
     read_ids(behind_stated, blocks, ids)?;
@@ -100,8 +122,8 @@ fn read_ids(line: &[u8], blocks: usize, ids: &mut Vec<u32>) -> Result<(), LineEr
 {
     ids.clear();
     let mut rest = line;
-    while let Some((field, behind)) = next_field(rest) {
-        let id = whole_in(field, blocks as u64)?;
+    while has_field(rest) {
+        let (id, behind) = first_whole(rest, blocks as u64)?;
         ids.push(id as u32)?;
         rest = behind;
     }

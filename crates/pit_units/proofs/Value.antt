@@ -51,7 +51,7 @@ pass_drop_append p (c ∷ cs) ys zero h g =
     rw parts.0 (pass_drop_append p cs ys zero parts.1 g)
 pass_drop_append p (c ∷ cs) ys (suc n) h g = pass_drop_append p cs ys n h g
 
-size_product : (whole decimals scale : ℕ) → (whole * 10 ^ 6 + decimals) * scale ≡ whole * scale * 10 ^ 6 + decimals * scale
+pub size_product : (whole decimals scale : ℕ) → (whole * 10 ^ 6 + decimals) * scale ≡ whole * scale * 10 ^ 6 + decimals * scale
 size_product whole decimals scale = omega arith
 
 -- digits and the six decimals that count make the number that all digits make

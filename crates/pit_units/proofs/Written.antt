@@ -213,7 +213,7 @@ shortest_shape z most =
     } in
     rw (shortest_is z below n refl refl) shape
 
-all_cons : (x : ℕ) (xs : List ℕ) → IsPlainByte x → All IsPlainByte xs → All IsPlainByte (x ∷ xs)
+pub all_cons : (x : ℕ) (xs : List ℕ) → IsPlainByte x → All IsPlainByte xs → All IsPlainByte (x ∷ xs)
 all_cons x xs p h = at
   where
     at : (k : ℕ) (d : ℕ) → k < length (x ∷ xs) → IsPlainByte (get_or (x ∷ xs) k d)
@@ -221,7 +221,7 @@ all_cons x xs p h = at
     at (suc k) d within = h k d (omega arith)
 
 -- digits are plain bytes
-digits_plain : (ds : List ℕ) → all_digits ds ≡ true → All IsPlainByte ds
+pub digits_plain : (ds : List ℕ) → all_digits ds ≡ true → All IsPlainByte ds
 digits_plain ds h = λ k d within. let range = digit_range (get_or ds k d) (AllPass-from_list_all is_ascii_digit ds h k d within) in (omega arith, omega arith, λ e. omega arith)
 
 all_append : (xs ys : List ℕ) → All IsPlainByte xs → All IsPlainByte ys → All IsPlainByte (xs ++ ys)

@@ -2,7 +2,7 @@ ghost use Rattle.std.specs.Prelude.{◌≡◌, ◌≤◌, ◌^◌, ◌↔◌, Is
 
 use std::marker::Model;
 
-/// The most millionths that a decimal counts, either side of zero: 10^18 as a number.
+// The most millionths that a decimal counts, either side of zero: 10^18 as a number.
 const MOST: u128 = 1_000_000_000_000_000_000_000_000;
 
 /// A decimal number, counted in millionths: between -10^24 and 10^24 of them.

@@ -3,6 +3,7 @@
 
 mod decimal;
 mod fault;
+mod front;
 pub mod laws;
 mod reading;
 #[cfg(test)]
@@ -11,5 +12,6 @@ mod writing;
 
 pub use decimal::Dec;
 pub use fault::DecFault;
+pub use front::{front_dec, front_whole};
 pub use reading::parse_dec;
 pub use writing::put_dec;

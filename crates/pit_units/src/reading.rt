@@ -5,8 +5,9 @@ ghost use Rattle.pit_units.specs.Decimal.{all_digits, all_zeros, decimal_of, sig
 
 use crate::decimal::Dec;
 use crate::fault::DecFault;
+use crate::front::front_dec;
 
-/// One more than the largest whole part of a decimal: where a longer count of digits stops.
+// One more than the largest whole part of a decimal: where a longer count of digits stops.
 const PAST_LARGEST: u64 = 1_000_000_000_000_000_001;
 
 /// The decimal that a text states: an optional sign, digits, and optionally a point with digits after it, with a digit in all.
@@ -18,37 +19,23 @@ pub fn parse_dec(text: &[u8], max_decimals: u8) -> Result<Dec, DecFault>
     requires { max_decimals ≤ 6 }
     ensures { result ≡ decimal_of max_decimals text.now }
 {
-    match short_whole(text) {
-        Some(whole) => Ok(whole),
+    match short_decimal(text, max_decimals) {
+        Some(dec) => Ok(dec),
         None => parse_any(text, max_decimals),
     }
 }
 
-/// The number of a text of digits alone, 1 to 18 of them, as most texts are; `None` for any other.
+// The decimal of a text as most are written, read in one pass. `None` says nothing of the text.
 #[inline(always)]
-fn short_whole(text: &[u8]) -> Option<Dec>
-    ensures { IfSome result (λ dec. (max : ℕ) → decimal_of max text.now ≡ Ok dec) }
+fn short_decimal(text: &[u8], max_decimals: u8) -> Option<Dec>
+    requires { max_decimals ≤ 6 }
+    ensures { IfSome result (λ dec. decimal_of max_decimals text.now ≡ Ok dec) }
 {
-    if text.is_empty() || text.len() > 18 {
+    let (millionths, rest) = front_dec(text, max_decimals)?;
+    if !rest.is_empty() {
         return None;
     }
-    let mut value = 0;
-    for digit in text {
-        if !digit.is_ascii_digit() {
-            return None;
-        }
-        value = value * 10 + u64::from(digit - b'0');
-    }
-    Some(whole_number(value))
-}
-
-/// So many whole units.
-#[inline(always)]
-fn whole_number(units: u64) -> Dec
-    requires { units < 10 ^ 18 }
-    ensures { result ≡ pos (units * 10 ^ 6) }
-{
-    Dec::new(i128::from(units) * 1_000_000).unwrap()
+    Some(Dec::new(i128::from(millionths)).unwrap())
 }
 
 #[inline(never)]
@@ -70,7 +57,7 @@ fn parse_any(text: &[u8], max_decimals: u8) -> Result<Dec, DecFault>
     within_range(text.first() == Some(&b'-'), size_capped(whole, fraction))
 }
 
-/// The text past one sign.
+// The text past one sign.
 fn without_sign(text: &[u8]) -> &[u8]
     ensures { result.now ≡ without_leading_sign text.now }
 {
@@ -80,7 +67,7 @@ fn without_sign(text: &[u8]) -> &[u8]
     }
 }
 
-/// The place of the first point, or the length.
+// The place of the first point, or the length.
 fn first_point(text: &[u8]) -> usize
     ensures value { result ≡ position_or_len (λ c. c == 46) text.now }
     ensures within { result ≤ length text.now }
@@ -93,7 +80,7 @@ fn first_point(text: &[u8]) -> usize
     text.len()
 }
 
-/// The bytes from a place on, if there are any.
+// The bytes from a place on, if there are any.
 fn after(text: &[u8], place: usize) -> &[u8]
     ensures { result.now ≡ drop place text.now }
 {
@@ -118,7 +105,7 @@ fn is_number(whole: &[u8], fraction: &[u8]) -> bool
     only_digits(whole) && only_digits(fraction) && !(whole.is_empty() && fraction.is_empty())
 }
 
-/// The number that digits write, but for one that is past the range of every decimal.
+// The number that digits write, but for one that is past the range of every decimal.
 fn whole_capped(digits: &[u8]) -> u64
     requires { IsTrue (all_digits digits.now) }
     ensures { result ≡ min (10 ^ 18 + 1) (digits_value 10 digits.now) }
@@ -130,7 +117,7 @@ fn whole_capped(digits: &[u8]) -> u64
     value
 }
 
-/// The digit at a place after the point: zero where none is written.
+// The digit at a place after the point: zero where none is written.
 fn decimal_at(fraction: &[u8], place: usize) -> u8
     requires { IsTrue (all_digits fraction.now) }
     ensures value { result + 48 ≡ slice_index_or fraction.now place 48 }
@@ -143,7 +130,7 @@ fn decimal_at(fraction: &[u8], place: usize) -> u8
     }
 }
 
-/// The millionths in the first six decimals.
+// The millionths in the first six decimals.
 fn decimals(fraction: &[u8]) -> u32
     requires { IsTrue (all_digits fraction.now) }
     ensures value { result ≡ digits_value 10 (six_decimals fraction.now) }
@@ -156,7 +143,7 @@ fn decimals(fraction: &[u8]) -> u32
     value
 }
 
-/// The millionths of a number, but for one that is past the range of every decimal.
+// The millionths of a number, but for one that is past the range of every decimal.
 fn size_capped(whole: &[u8], fraction: &[u8]) -> u128
     requires whole_digits { IsTrue (all_digits whole.now) }
     requires fraction_digits { IsTrue (all_digits fraction.now) }

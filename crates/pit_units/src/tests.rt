@@ -1,7 +1,7 @@
 // What no clause says: that the definitions are the decimals of worked examples, and that calls succeed where memory is ample.
 ghost use Rattle.std.specs.Prelude.{◌≤◌};
 
-use crate::{Dec, DecFault, parse_dec, put_dec};
+use crate::{Dec, DecFault, front_dec, front_whole, parse_dec, put_dec};
 use std::test::Fail;
 
 fn read(text: &[u8], decimals: u8) -> Result<i128, DecFault>
@@ -71,6 +71,35 @@ fn further_spellings(rt: HostRuntime) {
     assert_eq!(rt; read(b"0.125", 3), Ok(125_000));
     assert_eq!(rt; read(b"0.1250000000000", 3), Ok(125_000));
     assert_eq!(rt; read(b"0.0001", 3), Err(DecFault::TooFine));
+}
+
+#[test]
+fn front_of_texts(rt: HostRuntime) {
+    let wholes: [(&[u8], Option<(u64, &[u8])>); 5] = [
+        (b"12 7", Some((12, b" 7"))),
+        (b"5.5", Some((5, b".5"))),
+        (
+            b"1234567890123456789",
+            Some((123_456_789_012_345_678, b"9")),
+        ),
+        (b"", None),
+        (b"-1", None),
+    ];
+    for (text, front) in wholes {
+        assert_eq!(rt; front_whole(text), front, "at {text:?}");
+    }
+
+    let decimals: [(&[u8], Option<(i64, &[u8])>); 6] = [
+        (b"-2000", Some((-2_000_000_000, b""))),
+        (b"500.5\t3", Some((500_500_000, b"\t3"))),
+        (b"5.x", Some((5_000_000, b"x"))),
+        (b"0.1234", None),
+        (b".5", None),
+        (b"+1", None),
+    ];
+    for (text, front) in decimals {
+        assert_eq!(rt; front_dec(text, 3), front, "at {text:?}");
+    }
 }
 
 #[test]

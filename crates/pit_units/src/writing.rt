@@ -22,7 +22,7 @@ pub fn put_dec(_alloc: Global, out: &mut Vec<u8>, dec: Dec) -> Result<(), AllocE
     }
 }
 
-/// Appends the shortest text, or a part of it where memory is refused.
+// Appends the shortest text, or a part of it where memory is refused.
 fn append(out: &mut Vec<u8>, dec: Dec) -> Result<(), AllocError>
     ensures ok { OnOk result (out.new.items ≡ out.old.items ++ shortest dec) }
     ensures kept { take (length out.old.items) out.new.items ≡ out.old.items }
@@ -37,7 +37,7 @@ fn is_negative(dec: Dec) -> bool
     dec.millionths() < 0
 }
 
-/// How many millionths the decimal is away from zero.
+// How many millionths the decimal is away from zero.
 fn size(dec: Dec) -> u128
     ensures value { result ≡ unsigned_abs dec }
     ensures in_range { result ≤ 10 ^ 24 }
@@ -45,7 +45,7 @@ fn size(dec: Dec) -> u128
     dec.millionths().unsigned_abs()
 }
 
-/// Appends a minus where the number is below zero.
+// Appends a minus where the number is below zero.
 fn append_sign(out: &mut Vec<u8>, below_zero: bool) -> Result<(), AllocError>
     ensures ok { OnOk result (out.new.items ≡ out.old.items ++ sign_text below_zero) }
     ensures err { OnErr result (out.new.items ≡ out.old.items) }
@@ -56,7 +56,7 @@ fn append_sign(out: &mut Vec<u8>, below_zero: bool) -> Result<(), AllocError>
     Ok(())
 }
 
-/// Appends the shortest text of so many millionths, or a part of it where memory is refused.
+// Appends the shortest text of so many millionths, or a part of it where memory is refused.
 fn append_size(out: &mut Vec<u8>, millionths: u128) -> Result<(), AllocError>
     requires { millionths ≤ 10 ^ 24 }
     ensures ok { OnOk result (out.new.items ≡ out.old.items ++ size_text millionths) }
@@ -68,7 +68,7 @@ fn append_size(out: &mut Vec<u8>, millionths: u128) -> Result<(), AllocError>
     append_decimals(out, decimals)
 }
 
-/// The whole part of so many millionths, and the millionths past it. A number of 64 bits is divided as one.
+// The whole part of so many millionths, and the millionths past it. A number of 64 bits is divided as one.
 #[inline(always)]
 fn parts(millionths: u128) -> (u64, u32)
     requires { millionths ≤ 10 ^ 24 }
@@ -85,7 +85,7 @@ fn parts(millionths: u128) -> (u64, u32)
     )
 }
 
-/// Appends a point and the decimals of so many millionths, or nothing where there are none.
+// Appends a point and the decimals of so many millionths, or nothing where there are none.
 fn append_decimals(out: &mut Vec<u8>, millionths: u32) -> Result<(), AllocError>
     requires { millionths < 10 ^ 6 }
     ensures ok { OnOk result (out.new.items ≡ out.old.items ++ fraction_text millionths) }
@@ -106,7 +106,7 @@ fn append_decimals(out: &mut Vec<u8>, millionths: u32) -> Result<(), AllocError>
     out.extend_from_slice(&text[..1 + length_without_zeros(&text[1..])])
 }
 
-/// The digit of a number at a place, as a character.
+// The digit of a number at a place, as a character.
 fn digit(number: u32, place: u32) -> u8
     requires { 0 < place }
     ensures { result ≡ 48 + number / place % 10 }
@@ -114,7 +114,7 @@ fn digit(number: u32, place: u32) -> u8
     b'0' + (number / place % 10) as u8
 }
 
-/// How many digits there are before the zeros at the end.
+// How many digits there are before the zeros at the end.
 fn length_without_zeros(digits: &[u8]) -> usize
     ensures value { result ≡ length digits.now - suffix_len (λ c. c == 48) digits.now }
     ensures within { result ≤ length digits.now }

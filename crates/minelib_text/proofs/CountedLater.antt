@@ -1,0 +1,123 @@
+-- A line of which all fields are read, and none is left, has as many fields as it has to have.
+use Rattle.std.specs.Prelude.{◌≡◌, ℕ, suc, ◌+◌, ◌*◌, ◌/◌, ◌==◌, nat_lt, not, Bool, true, false, List, [], ◌∷◌, length, ℤ, Result, Ok, Err, if◌then◌else◌}
+use Rattle.std.proofs.Common.{refl, sym, ◌∙◌, ap, arith}
+use Rattle.std.proofs.lemmas.Bool.{eqb-true, le-ltb}
+use Rattle.std.proofs.lemmas.Bool.Decides.{nat_tests}
+use Rattle.mine_instance.specs.declared.coef.Coef.{Coef}
+use Rattle.pit_model.specs.Steps.{◌>>=◌}
+use Rattle.pit_model.specs.declared.block.Block.{Block}
+use Rattle.minelib_text.specs.BlockLines.{block_of, block_with, in_range}
+use Rattle.minelib_text.specs.FieldValues.{first_by, decimal_in, size_in, whole_in}
+use Rattle.minelib_text.specs.ModelLines.{coef_of, coef_width, destination_in}
+use Rattle.minelib_text.specs.Uncounted.{block_alone, coef_alone, kind_by}
+use Rattle.minelib_text.specs.declared.model_key.Problem.{Problem}
+use Rattle.minelib_text.specs.declared.model_key.Problem.TheVariants.{Pcpsp, Cpit}
+use Rattle.minelib_text.specs.declared.text_fault.TextKind.{TextKind}
+use Rattle.minelib_text.specs.declared.text_fault.TextKind.TheVariants.{Fields, Order}
+use Rattle.minelib_text.proofs.ReadSteps.{first_ok, first_then, guard_ok, not_false}
+use Rattle.pit_model.specs.declared.ranges.TheConstants.{GRID_CELLS, MAX_BLOCKS, MAX_GRADE, MAX_KG, MAX_ZONES}
+
+-- two continuations that agree on what is left of as many fields
+agree_on : {A B : Type 0} (r : Result A TextKind) (fields : List (List ℕ)) (next other : A × List (List ℕ) → Result B TextKind)
+    → ((x : A) → next (x, fields) ≡ other (x, fields)) → ((r >>= λ x. Ok (x, fields)) >>= next) ≡ ((r >>= λ x. Ok (x, fields)) >>= other)
+agree_on (Ok x) fields next other same = same x
+agree_on (Err kind) fields next other same = refl
+
+agree : {A B : Type 0} (rule : List ℕ → Result A TextKind) (n : ℕ) (fields : List (List ℕ)) (next other : A × List (List ℕ) → Result B TextKind)
+    → length fields ≡ suc n → ((x : A) (rest : List (List ℕ)) → length rest ≡ n → next (x, rest) ≡ other (x, rest))
+    → (first_by rule fields >>= next) ≡ (first_by rule fields >>= other)
+agree rule n [] next other count same = absurd (omega (arith, count))
+agree rule n (field ∷ fields) next other count same = agree_on (rule field) fields next other (λ x. same x fields (omega (arith, count)))
+
+-- a step takes one field
+one_more : {A B : Type 0} (rule : List ℕ → Result A TextKind) (n : ℕ) (fields : List (List ℕ)) (next : A × List (List ℕ) → Result B TextKind) (y : B)
+    → (first_by rule fields >>= next) ≡ Ok y → ((x : A) (rest : List (List ℕ)) → next (x, rest) ≡ Ok y → length rest ≡ n) → length fields ≡ suc n
+one_more rule n fields next y e count =
+    first_then rule fields next y e (λ field rest x cut _ goes_on. ap length cut ∙ ap suc (count x rest goes_on))
+
+none_left : {B : Type 0} (rest : List (List ℕ)) (r : Result B TextKind) (y : B) → (if not (length rest == 0) then Err Fields else r) ≡ Ok y → length rest ≡ 0
+none_left rest r y e = let g = guard_ok (not (length rest == 0)) Fields r y e in eqb-true (length rest) 0 (not_false (length rest == 0) g.0)
+
+-- coefficients
+coef_same : (problem : Problem) (n destinations resources : ℕ) (fields : List (List ℕ)) → length fields ≡ coef_width problem
+    → coef_of problem n destinations resources fields ≡ coef_alone problem n destinations resources fields
+unfolding coef_alone
+coef_same Pcpsp n destinations resources fields count = rw count (
+    agree (whole_in n) 3 fields _ _ count (λ b rest1 count1.
+    agree (whole_in destinations) 2 rest1 _ _ count1 (λ d rest2 count2.
+    agree (whole_in resources) 1 rest2 _ _ count2 (λ r rest3 count3.
+    agree decimal_in 0 rest3 _ _ count3 (λ v rest4 count4. rw count4 refl)))))
+coef_same Cpit n destinations resources fields count = rw count (
+    agree (whole_in n) 2 fields _ _ count (λ b rest1 count1.
+    agree (whole_in resources) 1 rest1 _ _ count1 (λ r rest3 count3.
+    agree decimal_in 0 rest3 _ _ count3 (λ v rest4 count4. rw count4 refl))))
+
+coef_width_met : (problem : Problem) (n destinations resources : ℕ) (fields : List (List ℕ)) (coef : Coef)
+    → coef_alone problem n destinations resources fields ≡ Ok coef → length fields ≡ coef_width problem
+unfolding coef_alone
+coef_width_met Pcpsp n destinations resources fields coef e =
+    one_more (whole_in n) 3 fields _ coef e (λ b rest1 e1.
+    one_more (whole_in destinations) 2 rest1 _ coef e1 (λ d rest2 e2.
+    one_more (whole_in resources) 1 rest2 _ coef e2 (λ r rest3 e3.
+    one_more decimal_in 0 rest3 _ coef e3 (λ v rest4 e4. none_left rest4 _ coef e4))))
+coef_width_met Cpit n destinations resources fields coef e =
+    one_more (whole_in n) 2 fields _ coef e (λ b rest1 e1.
+    one_more (whole_in resources) 1 rest1 _ coef e1 (λ r rest3 e3.
+    one_more decimal_in 0 rest3 _ coef e3 (λ v rest4 e4. none_left rest4 _ coef e4)))
+
+pub coef_counted : (problem : Problem) (n destinations resources : ℕ) (fields : List (List ℕ)) (coef : Coef)
+    → coef_alone problem n destinations resources fields ≡ Ok coef → coef_of problem n destinations resources fields ≡ Ok coef
+coef_counted problem n destinations resources fields coef e =
+    coef_same problem n destinations resources fields (coef_width_met problem n destinations resources fields coef e) ∙ e
+
+by_count : {A : Type 0} (n : ℕ) (fields : List (List ℕ)) (of alone : Result A TextKind) (kind : TextKind) (counted : Bool)
+    → counted ≡ (length fields == n) → (counted ≡ false → of ≡ Err Fields) → (length fields ≡ n → of ≡ alone) → alone ≡ Err kind
+    → of ≡ Err (kind_by (length fields == n) kind)
+by_count n fields of alone kind true test other same e = rw (sym test) (same (eqb-true (length fields) n (sym test)) ∙ e)
+by_count n fields of alone kind false test other same e = rw (sym test) (other refl)
+
+pub coef_kind : (problem : Problem) (n destinations resources : ℕ) (fields : List (List ℕ)) (kind : TextKind)
+    → coef_alone problem n destinations resources fields ≡ Err kind
+    → coef_of problem n destinations resources fields ≡ Err (kind_by (length fields == coef_width problem) kind)
+coef_kind problem n destinations resources fields kind e =
+    by_count (coef_width problem) fields _ _ kind (length fields == coef_width problem) refl (λ no. rw no refl) (coef_same problem n destinations resources fields) e
+
+-- blocks
+block_same : (before : ℕ) (fields : List (List ℕ)) → length fields ≡ 7 → block_of before fields ≡ block_alone before fields
+unfolding block_of block_alone
+block_same before fields count = rw count (
+    agree (whole_in MAX_BLOCKS) 6 fields _ _ count (λ id rest1 count1.
+    agree (whole_in GRID_CELLS) 5 rest1 _ _ count1 (λ x rest2 count2.
+    agree (whole_in GRID_CELLS) 4 rest2 _ _ count2 (λ y rest3 count3.
+    agree (whole_in GRID_CELLS) 3 rest3 _ _ count3 (λ z rest4 count4.
+    agree (size_in 3 (MAX_KG * 1000)) 2 rest4 _ _ count4 (λ tonnes rest5 count5.
+    agree (size_in 6 MAX_GRADE) 1 rest5 _ _ count5 (λ grade rest6 count6.
+    agree (whole_in MAX_ZONES) 0 rest6 _ _ count6 (λ zone rest7 count7. rw count7 refl))))))))
+
+block_width_met : (before : ℕ) (fields : List (List ℕ)) (block : Block) → block_alone before fields ≡ Ok block → length fields ≡ 7
+unfolding block_alone
+block_width_met before fields block e =
+    one_more (whole_in MAX_BLOCKS) 6 fields _ block e (λ id rest1 e1.
+    one_more (whole_in GRID_CELLS) 5 rest1 _ block e1 (λ x rest2 e2.
+    one_more (whole_in GRID_CELLS) 4 rest2 _ block e2 (λ y rest3 e3.
+    one_more (whole_in GRID_CELLS) 3 rest3 _ block e3 (λ z rest4 e4.
+    one_more (size_in 3 (MAX_KG * 1000)) 2 rest4 _ block e4 (λ tonnes rest5 e5.
+    one_more (size_in 6 MAX_GRADE) 1 rest5 _ block e5 (λ grade rest6 e6.
+    one_more (whole_in MAX_ZONES) 0 rest6 _ block e6 (λ zone rest7 e7. none_left rest7 _ block e7)))))))
+
+pub block_counted : (before : ℕ) (fields : List (List ℕ)) (block : Block) → block_alone before fields ≡ Ok block → block_of before fields ≡ Ok block
+block_counted before fields block e = block_same before fields (block_width_met before fields block e) ∙ e
+
+pub block_kind : (before : ℕ) (fields : List (List ℕ)) (kind : TextKind) → block_alone before fields ≡ Err kind
+    → block_of before fields ≡ Err (kind_by (length fields == 7) kind)
+unfolding block_of
+block_kind before fields kind e =
+    by_count 7 fields (block_of before fields) (block_alone before fields) kind (length fields == 7) refl (λ no. rw no refl) (block_same before fields) e
+
+-- predecessors: two fields or more
+pub two_taken : (n : ℕ) (fields : List (List ℕ)) (x y : ℕ) (behind rest : List (List ℕ)) → first_by (whole_in n) fields ≡ Ok (x, behind)
+    → first_by (whole_in n) behind ≡ Ok (y, rest) → nat_lt (length fields) 2 ≡ false
+two_taken n fields x y behind rest first second =
+    let one = first_ok (whole_in n) fields (x, behind) first in
+    let two = first_ok (whole_in n) behind (y, rest) second in
+    le-ltb (length fields) 2 (omega (arith, ap length one.1, ap length two.1))

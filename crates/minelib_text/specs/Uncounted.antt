@@ -1,0 +1,55 @@
+-- Lines whose fields are read before they are counted. Only proofs and private contracts need it.
+use Rattle.std.specs.Prelude.{◌≡◌, ℕ, ◌*◌, ◌/◌, ◌==◌, nat_lt, not, Bool, false, List, [], ◌∷◌, length, ℤ, Result, Ok, Err, if◌then◌else◌}
+use Rattle.mine_instance.specs.declared.coef.Coef.{Coef}
+use Rattle.pit_model.specs.Steps.{◌>>=◌}
+use Rattle.pit_model.specs.declared.block.Block.{Block}
+use Rattle.pit_units.specs.Decimal.{decimal_of}
+use Rattle.minelib_text.specs.BlockLines.{block_with, in_range}
+use Rattle.minelib_text.specs.FieldValues.{first_by, decimal_in, size_in, whole_in}
+use Rattle.minelib_text.specs.ModelLines.{destination_in}
+use Rattle.minelib_text.specs.TextLines.{fields_of}
+use Rattle.minelib_text.specs.declared.model_key.Problem.{Problem}
+use Rattle.minelib_text.specs.declared.read_fault.LineError.{LineError}
+use Rattle.minelib_text.specs.declared.read_fault.LineError.TheVariants as line_error
+use Rattle.minelib_text.specs.declared.text_fault.TextKind.{TextKind}
+use Rattle.minelib_text.specs.declared.text_fault.TextKind.TheVariants.{Fields, Order}
+use Rattle.pit_model.specs.declared.ranges.TheConstants.{GRID_CELLS, MAX_BLOCKS, MAX_GRADE, MAX_KG, MAX_ZONES}
+
+-- the first field of a line states so many millionths, and the others stand in the rest of it
+pub record TakesDecimal (decimals : ℕ) (line : List ℕ) (m : ℤ) (rest : List ℕ) : Type 0 where
+  pub field : List ℕ
+  pub cut : fields_of line ≡ field ∷ fields_of rest
+  pub stated : decimal_of decimals field ≡ Ok m
+
+-- the kind of fault that a line has by its number of fields, or else by what was met in reading them
+abbrev pub kind_by : Bool → TextKind → TextKind
+kind_by counted kind = if counted then kind else Fields
+
+-- the block of a line of as many fields as are read
+unfoldable pub block_alone : ℕ → List (List ℕ) → Result Block TextKind
+block_alone before fields = do
+  id ← first_by (whole_in MAX_BLOCKS) fields
+  x ← first_by (whole_in GRID_CELLS) id.1
+  y ← first_by (whole_in GRID_CELLS) x.1
+  z ← first_by (whole_in GRID_CELLS) y.1
+  tonnes ← first_by (size_in 3 (MAX_KG * 1000)) z.1
+  grade ← first_by (size_in 6 MAX_GRADE) tonnes.1
+  zone ← first_by (whole_in MAX_ZONES) grade.1
+  if not (length zone.1 == 0) then Err Fields else (
+      if not (id.0 == before) then Err Order
+      else in_range (block_with x.0 y.0 z.0 (tonnes.0 / 1000) grade.0 zone.0))
+
+-- the coefficient of a line of as many fields as are read
+unfoldable pub coef_alone : Problem → ℕ → ℕ → ℕ → List (List ℕ) → Result Coef TextKind
+coef_alone problem n destinations resources fields = do
+  b ← first_by (whole_in n) fields
+  d ← destination_in problem destinations b.1
+  r ← first_by (whole_in resources) d.1
+  v ← first_by decimal_in r.1
+  if not (length v.1 == 0) then Err Fields else Ok (record { b = b.0; d = d.0; r = r.0; v = v.0 })
+
+-- what a line states that has as many fields as it has to have; a fault that was met in another line may be of another kind
+abbrev pub AdmitsCounted : {S A : Type 0} → Type 0 → S → Result A LineError → Result S TextKind → Type 0
+AdmitsCounted Counted after (Ok x) admitted = Counted × (admitted ≡ Ok after)
+AdmitsCounted Counted after (Err (line_error.Faulty kind)) admitted = Counted → admitted ≡ Err kind
+AdmitsCounted Counted after (Err line_error.OutOfMemory) admitted = Unit {0}

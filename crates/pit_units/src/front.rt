@@ -1,0 +1,131 @@
+ghost use Rattle.std.specs.Prelude.{◌≡◌, [], ◌∷◌, ◌++◌, ◌*◌, ◌^◌, ◌<◌, ◌≤◌, if◌then◌else◌, IfSome, pos};
+ghost use Rattle.pit_units.specs.Decimal.{signed};
+ghost use Rattle.pit_units.specs.Front.{BeginsWith, BeginsWithDecimals, BeginsWithDigits, BeginsWithSize};
+
+// The most digits that are read at a text's front: their number is one of 64 bits.
+const MOST_DIGITS: usize = 18;
+
+// The most whole units whose millionths are surely a number of 64 bits.
+const MOST_UNITS: u64 = 1_000_000_000_000;
+
+/// The whole number that the digits at a text's front make, and what stands behind them: of one to 18 digits. A text with more of
+/// them goes on with a digit.
+#[inline(always)]
+pub fn front_whole(text: &[u8]) -> Option<(u64, &[u8])>
+    ensures { IfSome result (λ x. BeginsWith 0 text.now (pos (x.0 * 10 ^ 6)) x.1.now) }
+{
+    let (number, rest) = front_digits(text);
+    if rest.len() == text.len() {
+        return None;
+    }
+    Some((number, rest))
+}
+
+/// The millionths of the decimal that a text begins with, and what stands behind it: as most are written, with a digit before the
+/// point, no plus, no more than `max_decimals` decimals and 10^12 units either side of zero. `None` says nothing of the text.
+#[inline]
+pub fn front_dec(text: &[u8], max_decimals: u8) -> Option<(i64, &[u8])>
+    requires { max_decimals ≤ 6 }
+    ensures { IfSome result (λ x. BeginsWith max_decimals text.now x.0 x.1.now) }
+{
+    let (negative, unsigned) = without_minus(text);
+    let (size, rest) = front_size(unsigned, max_decimals)?;
+    Some((with_sign(negative, size), rest))
+}
+
+#[inline(always)]
+fn with_sign(negative: bool, size: u64) -> i64
+    requires { size < 2 * 10 ^ 18 }
+    ensures { result ≡ signed negative size }
+{
+    let above = size as i64;
+    if negative { -above } else { above }
+}
+
+// Whether a text begins with a minus, and the text past it.
+#[inline(always)]
+fn without_minus(text: &[u8]) -> (bool, &[u8])
+    ensures { text.now ≡ (if result.0 then 45 ∷ [] else []) ++ result.1.now }
+{
+    match text {
+        [b'-', rest @ ..] => (true, rest),
+        _ => (false, text),
+    }
+}
+
+// The millionths of the decimal without a sign that a text begins with, and what stands behind it.
+#[inline(always)]
+fn front_size(text: &[u8], max_decimals: u8) -> Option<(u64, &[u8])>
+    requires { max_decimals ≤ 6 }
+    ensures size { IfSome result (λ x. BeginsWithSize max_decimals text.now x.0 x.1.now) }
+    ensures small { IfSome result (λ x. x.0 < 2 * 10 ^ 18) }
+{
+    let (units, behind) = front_digits(text);
+    if behind.len() == text.len() || units > MOST_UNITS {
+        return None;
+    }
+    match behind_point(behind) {
+        Some(tail) => {
+            let (decimals, rest) = front_decimals(tail, max_decimals)?;
+            Some((units * 1_000_000 + u64::from(decimals), rest))
+        }
+        None => Some((units * 1_000_000, behind)),
+    }
+}
+
+// The text past the point that it begins with.
+#[inline(always)]
+fn behind_point(text: &[u8]) -> Option<&[u8]>
+    ensures { IfSome result (λ tail. text.now ≡ 46 ∷ tail.now) }
+{
+    match text {
+        [b'.', tail @ ..] => Some(tail),
+        _ => None,
+    }
+}
+
+// The millionths that the digits at a text's front make behind a point, and what stands behind them.
+#[inline(always)]
+fn front_decimals(text: &[u8], max_decimals: u8) -> Option<(u32, &[u8])>
+    requires { max_decimals ≤ 6 }
+    ensures { IfSome result (λ x. BeginsWithDecimals max_decimals text.now x.0 x.1.now) }
+{
+    let (number, rest) = front_digits(text);
+    let count = text.len() - rest.len();
+    if count > usize::from(max_decimals) {
+        return None;
+    }
+    Some((number as u32 * scale(count), rest))
+}
+
+// How many millionths the last of so many decimals counts.
+#[inline(always)]
+fn scale(decimals: usize) -> u32
+    requires { decimals ≤ 6 }
+    ensures { result * 10 ^ decimals ≡ 10 ^ 6 }
+{
+    match decimals {
+        0 => 1_000_000,
+        1 => 100_000,
+        2 => 10_000,
+        3 => 1_000,
+        4 => 100,
+        5 => 10,
+        _ => 1,
+    }
+}
+
+// The number that the digits at a text's front make, 18 of them at most, and what stands behind them.
+#[inline(always)]
+fn front_digits(text: &[u8]) -> (u64, &[u8])
+    ensures { BeginsWithDigits text.now result.0 result.1.now }
+{
+    let mut number = 0;
+    for (place, byte) in text.iter().enumerate() {
+        if place == MOST_DIGITS || !byte.is_ascii_digit() {
+            return (number, &text[place..]);
+        }
+        number = number * 10 + u64::from(byte - b'0');
+    }
+    (number, &[])
+}
