@@ -1,19 +1,18 @@
 -- A line of which all fields are read, and none is left, has as many fields as it has to have.
-use Rattle.std.specs.Prelude.{◌≡◌, ℕ, suc, ◌+◌, ◌*◌, ◌/◌, ◌==◌, nat_lt, not, Bool, true, false, List, [], ◌∷◌, length, ℤ, Result, Ok, Err, if◌then◌else◌}
+use Rattle.std.specs.Prelude.{◌≡◌, ℕ, suc, ◌*◌, ◌==◌, nat_lt, not, Bool, true, false, List, [], ◌∷◌, length, Result, Ok, Err, if◌then◌else◌}
 use Rattle.std.proofs.Common.{refl, sym, ◌∙◌, ap, arith}
 use Rattle.std.proofs.lemmas.Bool.{eqb-true, le-ltb}
-use Rattle.std.proofs.lemmas.Bool.Decides.{nat_tests}
 use Rattle.mine_instance.specs.declared.coef.Coef.{Coef}
 use Rattle.pit_model.specs.Steps.{◌>>=◌}
 use Rattle.pit_model.specs.declared.block.Block.{Block}
-use Rattle.minelib_text.specs.BlockLines.{block_of, block_with, in_range}
+use Rattle.minelib_text.specs.BlockLines.{block_of}
 use Rattle.minelib_text.specs.FieldValues.{first_by, decimal_in, size_in, whole_in}
-use Rattle.minelib_text.specs.ModelLines.{coef_of, coef_width, destination_in}
+use Rattle.minelib_text.specs.ModelLines.{coef_of, coef_width}
 use Rattle.minelib_text.specs.Uncounted.{block_alone, coef_alone, kind_by}
 use Rattle.minelib_text.specs.declared.model_key.Problem.{Problem}
 use Rattle.minelib_text.specs.declared.model_key.Problem.TheVariants.{Pcpsp, Cpit}
 use Rattle.minelib_text.specs.declared.text_fault.TextKind.{TextKind}
-use Rattle.minelib_text.specs.declared.text_fault.TextKind.TheVariants.{Fields, Order}
+use Rattle.minelib_text.specs.declared.text_fault.TextKind.TheVariants.{Fields}
 use Rattle.minelib_text.proofs.ReadSteps.{first_ok, first_then, guard_ok, not_false}
 use Rattle.pit_model.specs.declared.ranges.TheConstants.{GRID_CELLS, MAX_BLOCKS, MAX_GRADE, MAX_KG, MAX_ZONES}
 
@@ -35,7 +34,7 @@ one_more : {A B : Type 0} (rule : List ℕ → Result A TextKind) (n : ℕ) (fie
 one_more rule n fields next y e count =
     first_then rule fields next y e (λ field rest x cut _ goes_on. ap length cut ∙ ap suc (count x rest goes_on))
 
-none_left : {B : Type 0} (rest : List (List ℕ)) (r : Result B TextKind) (y : B) → (if not (length rest == 0) then Err Fields else r) ≡ Ok y → length rest ≡ 0
+pub none_left : {B : Type 0} (rest : List (List ℕ)) (r : Result B TextKind) (y : B) → (if not (length rest == 0) then Err Fields else r) ≡ Ok y → length rest ≡ 0
 none_left rest r y e = let g = guard_ok (not (length rest == 0)) Fields r y e in eqb-true (length rest) 0 (not_false (length rest == 0) g.0)
 
 -- coefficients

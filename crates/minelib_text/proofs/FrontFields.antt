@@ -1,13 +1,11 @@
 -- A number that a line begins with is its first field, if a blank or nothing stands behind it.
 use Rattle.std.proofs.Common.{◌≡◌, ℕ, ◌*◌, ◌/◌, ◌^◌, ◌<◌, ◌≤◌, ◌==◌, true, List, [], ◌∷◌, ◌++◌, length, ℤ, pos, arith, refl, sym, ap, ◌∙◌}
-use Rattle.std.specs.Prelude.{Result, Ok, Err}
+use Rattle.std.specs.Prelude.{Ok, Err}
 use Rattle.std.specs.List.{list_all}
 use Rattle.std.proofs.lemmas.Bool.{le-ltb, lt-ltb}
 use Rattle.std.proofs.lemmas.List.Sums.{list_all-from_AllPass}
 use borrow.Author.Tests.{ne_eqb}
-use Rattle.pit_model.specs.Cells.{is_blank, without_leading_blanks}
-use Rattle.pit_model.specs.Steps.{◌>>=◌}
-use Rattle.pit_units.specs.Decimal.{decimal_of}
+use Rattle.pit_model.specs.Cells.{without_leading_blanks}
 use Rattle.pit_units.specs.Front.{BeginsWith}
 use Rattle.minelib_text.specs.FieldValues.{at_most, first_by, decimal_in, size_in, whole_in}
 use Rattle.minelib_text.specs.TextLines.{fields_of, is_ended}

@@ -10,6 +10,7 @@ pub mod InstanceBack
 pub mod ItemLines
 pub mod ItemSteps
 pub mod ItemsBack
+pub mod ItemsKeyless
 pub mod KeepFacts
 pub mod KeySteps
 pub mod KeysBack

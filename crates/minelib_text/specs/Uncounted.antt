@@ -1,5 +1,5 @@
 -- Lines whose fields are read before they are counted. Only proofs and private contracts need it.
-use Rattle.std.specs.Prelude.{◌≡◌, ℕ, ◌*◌, ◌/◌, ◌==◌, nat_lt, not, Bool, false, List, [], ◌∷◌, length, ℤ, Result, Ok, Err, if◌then◌else◌}
+use Rattle.std.specs.Prelude.{◌≡◌, ℕ, ◌*◌, ◌/◌, ◌==◌, not, Bool, List, ◌∷◌, length, ℤ, Result, Ok, Err, if◌then◌else◌}
 use Rattle.mine_instance.specs.declared.coef.Coef.{Coef}
 use Rattle.pit_model.specs.Steps.{◌>>=◌}
 use Rattle.pit_model.specs.declared.block.Block.{Block}

@@ -1,17 +1,22 @@
 //! A model file while its lines are read.
 
-ghost use Rattle.std.specs.Prelude.{◌≡◌, ◌≤◌, ◌<◌, ◌==◌, ◌&&◌, [], true, false, not, length, map, is_some, unwrap_or, IfOk, IfSome};
+ghost use Rattle.std.specs.Prelude.{◌≡◌, ◌≤◌, ◌<◌, ◌==◌, ◌&&◌, ◌++◌, ◌∷◌, if◌then◌else◌, Ok, Err, [], true, false, not, length, map, is_some, unwrap_or, IfOk, IfSome};
 ghost use Rattle.mine_instance.specs.Cpit.{IsCpit};
 ghost use Rattle.mine_instance.specs.OfCpit.{without_destination};
 ghost use Rattle.minelib_text.specs.Denotes.{cpit_read, instance_read};
-ghost use Rattle.minelib_text.specs.ModelLines.{admit_coef, admit_header, admit_item, admit_key, admit_limit, admit_model, admit_section, admit_values, blank_model, finish_model, is_complete, is_given, is_heading, is_limits, is_ready, name_with};
+ghost use Rattle.minelib_text.specs.ModelLines.{admit_coef, admit_header, admit_item, admit_key, admit_limit, admit_model, admit_section, admit_values, blank_model, finish_model, is_complete, is_given, is_heading, is_behind, is_limits, is_ready, last_of, name_with};
+ghost use Rattle.mine_instance.specs.Order.{comes_before};
+ghost use Rattle.minelib_text.specs.declared.model_key.Section.TheVariants as Section;
+ghost use Rattle.minelib_text.specs.declared.text_fault.TextKind.TheVariants as TextKind;
 ghost use Rattle.minelib_text.specs.ModelParts.{are_given, is_name_for};
 ghost use Rattle.minelib_text.specs.Reading.{Admits, Gives};
 ghost use Rattle.minelib_text.specs.TextLines.{fields_of};
 ghost use Rattle.pit_model.specs.declared.ranges.TheConstants.{MAX_BLOCKS};
 
 use crate::model_header::{blank_header, header_with};
-use crate::model_items::{coef_of, is_coef_behind, is_limit_behind, limit_of, values_in};
+use crate::model_items::{
+    coef_alone, coef_of, is_coef_behind, is_limit_behind, limit_of, values_alone, values_in,
+};
 use crate::model_key::{Header, HeaderKey, ModelKey, Problem, Section};
 use crate::model_keys::{cut_at_colon, is_heading, is_limits, is_next, key_of, only_value};
 use crate::read_fault::{FileError, LineError};
@@ -62,11 +67,11 @@ impl Model for ModelDraft {
 impl Admit for ModelDraft {
     ghost admit_line = { admit_model };
 
-    #[tactic(auto, unfolding(crate::specs::ModelLines::admit_model))]
     fn admit(&mut self, line: &[u8]) -> Result<(), LineError> {
-        match cut_at_colon(line) {
-            Some((word, values)) => self.admit_key(key_of(self.problem, word), values),
-            None => self.admit_item(line),
+        match self.section {
+            Section::Objective => self.admit_in_objective(line),
+            Section::Coefs => self.admit_in_coefs(line),
+            Section::Heading | Section::Limits => self.admit_any(line),
         }
     }
 }
@@ -151,6 +156,60 @@ impl ModelDraft {
         self.is_complete() && self.values.len() == self.blocks && is_limits(self.section)
     }
 
+    #[inline(never)]
+    #[tactic(auto, unfolding(crate::specs::ModelLines::admit_model))]
+    fn admit_any(&mut self, line: &[u8]) -> Result<(), LineError>
+        ensures { Admits self.new result (admit_model self.old line.now) }
+    {
+        match cut_at_colon(line) {
+            Some((word, values)) => self.admit_key(key_of(self.problem, word), values),
+            None => self.admit_item(line),
+        }
+    }
+
+    // A line below the key of the objective. One that is read as values has no colon, so it is not searched for one.
+    #[tactic(auto, unfolding(crate::specs::ModelLines::admit_model), using(crate::proofs::ItemsKeyless::values_keyless))]
+    fn admit_in_objective(&mut self, line: &[u8]) -> Result<(), LineError>
+        requires { self.old.section ≡ Section.Objective }
+        ensures { Admits self.new result (admit_model self.old line.now) }
+    {
+        let destinations = self.header.destinations.unwrap_or(0);
+        let before = self.values.len();
+        match values_alone(self.blocks, destinations, before, line, &mut self.row) {
+            Ok(()) => {
+                self.values.push(self.row.as_slice())?;
+                Ok(())
+            }
+            Err(LineError::Faulty(_)) => self.admit_any(line),
+            Err(LineError::OutOfMemory) => Err(LineError::OutOfMemory),
+        }
+    }
+
+    // A line below the key of the coefficients. One that is read as a coefficient has no colon, so it is not searched for one.
+    fn admit_in_coefs(&mut self, line: &[u8]) -> Result<(), LineError>
+        requires { self.old.section ≡ Section.Coefs }
+        ensures { Admits self.new result (admit_model self.old line.now) }
+    {
+        let destinations = self.header.destinations.unwrap_or(0);
+        let resources = self.header.resources.unwrap_or(0);
+        match coef_alone(self.problem, self.blocks, destinations, resources, line) {
+            Ok(coef) => self.add_coef(coef),
+            Err(_) => self.admit_any(line),
+        }
+    }
+
+    #[inline(always)]
+    fn add_coef(&mut self, coef: Coef) -> Result<(), LineError>
+        requires { is_heading self.old.section ≡ false }
+        ensures { Admits self.new result (if is_behind comes_before (last_of self.old.coefs) coef then Ok (record self.old { coefs = self.old.coefs ++ coef ∷ [] }) else Err TextKind.Order) }
+    {
+        if !is_coef_behind(self.coefs.as_slice(), &coef) {
+            return Err(LineError::Faulty(TextKind::Order));
+        }
+        self.coefs.push(coef)?;
+        Ok(())
+    }
+
     fn admit_key(&mut self, key: Option<ModelKey>, values: &[u8]) -> Result<(), LineError>
         ensures { Admits self.new result (admit_key self.old key (fields_of values.now)) }
     {
@@ -223,11 +282,7 @@ impl ModelDraft {
         let destinations = self.header.destinations.unwrap_or(0);
         let resources = self.header.resources.unwrap_or(0);
         let coef = coef_of(self.problem, self.blocks, destinations, resources, line)?;
-        if !is_coef_behind(self.coefs.as_slice(), &coef) {
-            return Err(LineError::Faulty(TextKind::Order));
-        }
-        self.coefs.push(coef)?;
-        Ok(())
+        self.add_coef(coef)
     }
 
     fn admit_limit(&mut self, line: &[u8]) -> Result<(), LineError>

@@ -45,8 +45,8 @@ pub fn values_in(
     }
 }
 
-// Reads the values of a line of as many fields as it has to have.
-fn values_alone(
+/// Reads the values of a line of as many fields as it has to have. The fault of another line may be of another kind.
+pub fn values_alone(
     blocks: usize,
     destinations: u8,
     before: usize,
@@ -100,9 +100,10 @@ pub fn coef_of(
     }
 }
 
+/// The coefficient of a line of as many fields as it has to have. The fault of another line may be of another kind.
 #[inline(always)]
 #[tactic(auto, unfolding(crate::specs::Uncounted::coef_alone))]
-fn coef_alone(
+pub fn coef_alone(
     problem: Problem,
     blocks: usize,
     destinations: u8,

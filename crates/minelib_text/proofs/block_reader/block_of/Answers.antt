@@ -1,4 +1,4 @@
-use Rattle.std.proofs.Common.{◌≡◌, ◌∙◌, ap, sym, Err}
+use Rattle.std.proofs.Common.{sym}
 use Rattle.minelib_text.specs.TextLines.{fields_of}
 use Rattle.minelib_text.proofs.CountedLater.{block_counted, block_kind}
 use Rattle.minelib_text.proofs.block_reader.block_of.Goals as goal

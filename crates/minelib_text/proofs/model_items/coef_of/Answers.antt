@@ -1,4 +1,4 @@
-use Rattle.std.proofs.Common.{◌≡◌, ◌≤◌, ◌∙◌, ap, sym, Err}
+use Rattle.std.proofs.Common.{sym}
 use Rattle.minelib_text.specs.TextLines.{fields_of}
 use Rattle.minelib_text.proofs.CountedLater.{coef_counted, coef_kind}
 use Rattle.minelib_text.proofs.model_items.coef_of.Goals as goal

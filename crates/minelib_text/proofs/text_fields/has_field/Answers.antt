@@ -1,4 +1,4 @@
-use Rattle.std.proofs.Common.{◌≡◌, ◌==◌, ◌∙◌, ap, not, length}
+use Rattle.std.proofs.Common.{◌==◌, ◌∙◌, ap, not, length}
 use Rattle.minelib_text.proofs.FrontFields.{none_past_blanks}
 use Rattle.minelib_text.proofs.text_fields.has_field.Goals as goal
 
