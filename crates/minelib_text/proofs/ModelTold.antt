@@ -15,6 +15,7 @@ use Rattle.pit_model.specs.Planned.{is_turned}
 use Rattle.pit_model.specs.declared.limit.Bound.{Bound}
 use Rattle.pit_model.specs.declared.limit.Bound.TheVariants.{AtMost, AtLeast}
 use Rattle.pit_model.specs.declared.limit.Limit.{Limit}
+use Rattle.pit_model.specs.declared.ranges.TheConstants.{MAX_BLOCKS, MAX_DESTINATIONS, MAX_PERIODS, MAX_RESOURCES}
 use Rattle.mine_instance.specs.Order.{comes_before}
 use Rattle.mine_instance.specs.declared.coef.Coef.{Coef}
 use Rattle.minelib_text.specs.FieldValues.{stated, whole_below, whole_in, size_in, decimal_in, first_by, all_by}
@@ -117,13 +118,13 @@ value_told d key.Type value =
     (λ t. (bytes_eq-Decides value (type_text d.problem)).0 t)
     (λ t h. (let is = (bytes_eq-Decides value (type_text d.problem)).1 h in absurd cc))
 value_told d key.Blocks value =
-    bound (whole_in 64000001 value) _ (whole 64000001 value) _ (StatesWhole 64000001 value) (λ h. Unit {0}) (whole_told 64000001 value) (λ n is.
-    passed (n == d.blocks) fault.Count (StatesWhole 64000001 value d.blocks) (record d.header { is_counted = true })
-    (λ t. subst (StatesWhole 64000001 value) (eqb-true n d.blocks t) is)
-    (λ t h. (let same : (n == d.blocks) ≡ true = eq-eqb n d.blocks (one_whole 64000001 value n d.blocks is h) in absurd cc)))
-value_told d key.Periods value = mapped (counted_in 101 value) _ (counted 101 value) _ (counted_told 101 value)
-value_told d key.Destinations value = mapped (counted_in 9 value) _ (counted 9 value) _ (counted_told 9 value)
-value_told d key.Resources value = mapped (whole_in 9 value) _ (whole 9 value) _ (whole_told 9 value)
+    bound (whole_in (MAX_BLOCKS + 1) value) _ (whole (MAX_BLOCKS + 1) value) _ (StatesWhole (MAX_BLOCKS + 1) value) (λ h. Unit {0}) (whole_told (MAX_BLOCKS + 1) value) (λ n is.
+    passed (n == d.blocks) fault.Count (StatesWhole (MAX_BLOCKS + 1) value d.blocks) (record d.header { is_counted = true })
+    (λ t. subst (StatesWhole (MAX_BLOCKS + 1) value) (eqb-true n d.blocks t) is)
+    (λ t h. (let same : (n == d.blocks) ≡ true = eq-eqb n d.blocks (one_whole (MAX_BLOCKS + 1) value n d.blocks is h) in absurd cc)))
+value_told d key.Periods value = mapped (counted_in (MAX_PERIODS + 1) value) _ (counted (MAX_PERIODS + 1) value) _ (counted_told (MAX_PERIODS + 1) value)
+value_told d key.Destinations value = mapped (counted_in (MAX_DESTINATIONS + 1) value) _ (counted (MAX_DESTINATIONS + 1) value) _ (counted_told (MAX_DESTINATIONS + 1) value)
+value_told d key.Resources value = mapped (whole_in (MAX_RESOURCES + 1) value) _ (whole (MAX_RESOURCES + 1) value) _ (whole_told (MAX_RESOURCES + 1) value)
 value_told d key.General value = mapped (whole_in 1 value) _ (whole 1 value) _ (whole_told 1 value)
 value_told d key.Rate value = mapped (size_in 6 (10 ^ 6) value) _ (size 6 (10 ^ 6) value) _ (size_told 6 (10 ^ 6) value (omega arith))
 

@@ -9,6 +9,7 @@ use Rattle.pit_model.specs.Steps.{◌>>=◌}
 use Rattle.pit_model.specs.Name.{is_name}
 use Rattle.pit_model.specs.Plan.{stands_before}
 use Rattle.pit_model.specs.declared.limit.Limit.{Limit}
+use Rattle.pit_model.specs.declared.ranges.TheConstants.{MAX_BLOCKS, MAX_DESTINATIONS, MAX_PERIODS, MAX_RESOURCES}
 use Rattle.mine_instance.specs.Order.{comes_before}
 use Rattle.mine_instance.specs.declared.coef.Coef.{Coef}
 use Rattle.minelib_text.specs.ModelLines.{ModelDraftView, blank_header, blank_model, shared_key, key_of, is_given, is_next, is_ready, is_complete, counted_in, header_with, name_with, type_text, admit_key, admit_item, is_colon, admit_model, finish_model, model_in}
@@ -107,10 +108,10 @@ key_back : (problem : Problem) (n : ℕ) (m : StatedModel) (done : List HeaderKe
     → header_with problem n k value (header_after problem m done) ≡ Ok (header_after problem m (k ∷ done))
 key_back problem n m done key.Name value s = rw (s.1) refl
 key_back problem n m done key.Type value s = rw ((bytes_eq-Decides value (type_text problem)).1 s) refl
-key_back problem n m done key.Blocks value s = rw (whole_back 64000001 value n s, eq-eqb n n refl) refl
-key_back problem n m done key.Periods value s = rw (counted_back 101 value m.periods s.0 s.1) refl
-key_back problem n m done key.Destinations value s = rw (counted_back 9 value m.destinations s.0 s.1) refl
-key_back problem n m done key.Resources value s = rw (whole_back 9 value m.resources s) refl
+key_back problem n m done key.Blocks value s = rw (whole_back (MAX_BLOCKS + 1) value n s, eq-eqb n n refl) refl
+key_back problem n m done key.Periods value s = rw (counted_back (MAX_PERIODS + 1) value m.periods s.0 s.1) refl
+key_back problem n m done key.Destinations value s = rw (counted_back (MAX_DESTINATIONS + 1) value m.destinations s.0 s.1) refl
+key_back problem n m done key.Resources value s = rw (whole_back (MAX_RESOURCES + 1) value m.resources s) refl
 key_back problem n m done key.General value s = rw (whole_back 1 value 0 s) refl
 key_back problem n m done key.Rate value (rate, is, s) = rw (size_back 6 (10 ^ 6) value rate (omega arith) s, is) refl
 
