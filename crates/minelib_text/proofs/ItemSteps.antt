@@ -7,11 +7,10 @@ use Rattle.std.proofs.lemmas.Bool.{eqb-true}
 use Rattle.std.proofs.lemmas.Slice.Eq.{bytes_eq-Decides}
 use Rattle.pit_units.specs.Decimal.{StandsFor}
 use Rattle.pit_model.specs.Steps.{◌>>=◌}
-use Rattle.pit_model.specs.Planned.{is_turned}
+use Rattle.pit_model.specs.Plan.{is_turned}
 use Rattle.pit_model.specs.declared.limit.Bound.{Bound}
 use Rattle.pit_model.specs.declared.limit.Bound.TheVariants.{AtMost, AtLeast, Between}
 use Rattle.pit_model.specs.declared.limit.Limit.{Limit}
-use Rattle.mine_instance.specs.Valid.{IsUpward}
 use Rattle.mine_instance.specs.declared.coef.Coef.{Coef}
 use Rattle.minelib_text.specs.FieldValues.{first_by, all_by, whole_in, decimal_in}
 use Rattle.minelib_text.specs.ModelLines.{values_of, coef_of, limit_of, limit_width, bound_in, interval_in}
@@ -155,14 +154,6 @@ bound_behind r t (letter ∷ fields) all bound e here width =
     two_less true h = omega arith
     two_less false h = omega arith
 
-not_turned : (bound : Bound) → is_turned bound ≡ false → IsUpward bound
-not_turned (AtMost v) e = tt
-not_turned (AtLeast v) e = tt
-not_turned (Between v w) e = upward v w (not_false (int_le v w) e)
-  where
-    upward : (v w : ℤ) → int_le v w ≡ true → v ≤ℤ w
-    upward v w h = search rules
-
 pub limit_line : (resources periods : ℕ) (fields : List (List ℕ)) (l : Limit) → limit_of resources periods fields ≡ Ok l → is_turned l.bound ≡ false
     → IsLimitLine resources periods fields l
 limit_line resources periods fields l e straight =
@@ -181,5 +172,5 @@ limit_line resources periods fields l e straight =
       states_period = subst (StatesWhole periods t) (ap (λ m. m.period) same) (whole_in_ok periods t period s2);
       states_bound = subst (StatesBound f2) (ap (λ m. m.bound) same)
           (bound_behind r t f2 fields bound s3 here (counted (limit_width fields) fields width));
-      upward = not_turned l.bound straight;
+      straight = straight;
     }))))

@@ -4,7 +4,7 @@ use Rattle.std.specs.List.{list_any, before_first, after_first}
 use Rattle.std.proofs.Common.{refl, ap, arith}
 use Rattle.std.proofs.lemmas.Bool.{or_parts}
 use Rattle.pit_model.specs.Plan.{stands_before}
-use Rattle.pit_model.specs.Planned.{is_turned}
+use Rattle.pit_model.specs.Plan.{is_turned}
 use Rattle.pit_model.specs.declared.limit.Limit.{Limit}
 use Rattle.mine_instance.specs.Order.{comes_before}
 use Rattle.mine_instance.specs.declared.coef.Coef.{Coef}

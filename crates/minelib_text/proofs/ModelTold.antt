@@ -11,7 +11,7 @@ use Rattle.pit_model.specs.Demands.{Demand, demand}
 use Rattle.pit_model.specs.Steps.{◌>>=◌}
 use Rattle.pit_model.specs.Name.{is_name}
 use Rattle.pit_model.specs.Plan.{stands_before}
-use Rattle.pit_model.specs.Planned.{is_turned}
+use Rattle.pit_model.specs.Plan.{is_turned}
 use Rattle.pit_model.specs.declared.limit.Bound.{Bound}
 use Rattle.pit_model.specs.declared.limit.Bound.TheVariants.{AtMost, AtLeast}
 use Rattle.pit_model.specs.declared.limit.Limit.{Limit}
@@ -37,7 +37,6 @@ use Rattle.minelib_text.specs.declared.model_key.Section.TheVariants.{Heading, O
 use Rattle.minelib_text.specs.declared.text_fault.TextKind.{TextKind}
 use Rattle.minelib_text.specs.declared.text_fault.TextKind.TheVariants as fault
 use Rattle.minelib_text.proofs.ItemSteps.{coef_line, limit_line}
-use Rattle.minelib_text.proofs.ItemsBack.{not_turned}
 use Rattle.minelib_text.proofs.KeySteps.{counted_ok}
 use Rattle.minelib_text.proofs.LineTold.{number_told, below_ranged, whole_told, size_told, first_told, test_told, tested, one_whole}
 use Rattle.minelib_text.proofs.ReadSteps.{not_false, decimal_in_ok}
@@ -413,7 +412,7 @@ admit_limit_told d fields =
     × (is_behind stands_before (last_of d.limits) l ≡ true)) (Ok (record d { limits = d.limits ++ l ∷ [] })) [] (λ y. Unit {0})
     (λ t h. (let back = limit_back (count_in d.header.resources) (count_in d.header.periods) fields h.0 h.1 in
     let same : l ≡ h.0 = one_ok _ l h.0 is back in
-    let straight : is_turned l.bound ≡ false = ap (λ (k : Limit). is_turned k.bound) same ∙ not_turned h.0.bound h.1.upward in
+    let straight : is_turned l.bound ≡ false = ap (λ (k : Limit). is_turned k.bound) same ∙ h.1.straight in
     let later : is_behind stands_before (last_of d.limits) l ≡ true = ap (is_behind stands_before (last_of d.limits)) same ∙ h.2 in
     absurd (neither _ _ straight later t)))
     (λ t. (let parts = or_parts (is_turned l.bound) (not (is_behind stands_before (last_of d.limits) l)) t in

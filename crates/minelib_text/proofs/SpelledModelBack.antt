@@ -31,7 +31,6 @@ use Rattle.minelib_text.specs.declared.model_key.Problem.TheVariants.{Pcpsp, Cpi
 use Rattle.minelib_text.specs.declared.model_key.Section.{Section}
 use Rattle.minelib_text.specs.declared.model_key.Section.TheVariants.{Heading, Objective, Coefs, Limits}
 use Rattle.minelib_text.proofs.ItemLines.{items_keep}
-use Rattle.minelib_text.proofs.ItemsBack.{not_turned}
 use Rattle.minelib_text.proofs.KeysBack.{draft, full_header}
 use Rattle.minelib_text.proofs.Keyless.{have_colon, keyless}
 use Rattle.minelib_text.proofs.NumbersBack.{name_field}
@@ -372,7 +371,7 @@ module _ (problem : Problem) (n : ℕ) (m : StatedModel) where
       item_back (within problem n m Limits m.values m.coefs done) line (limit_keyless m.resources m.periods (fields_of line) x h)
       ∙ rw (
         limit_back m.resources m.periods (fields_of line) x h,
-        not_turned x.bound h.upward,
+        h.straight,
         behind_last stands_before m.limits done x rest whole rising,
       ) refl
 

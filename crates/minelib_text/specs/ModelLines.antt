@@ -4,8 +4,7 @@ use Rattle.std.specs.List.{list_any, before_first, after_first}
 use Rattle.std.specs.Str.{bytes_eq}
 use Rattle.pit_model.specs.Steps.{◌>>=◌}
 use Rattle.pit_model.specs.Name.{is_name}
-use Rattle.pit_model.specs.Plan.{stands_before}
-use Rattle.pit_model.specs.Planned.{is_turned}
+use Rattle.pit_model.specs.Plan.{is_turned, stands_before}
 use Rattle.pit_model.specs.declared.limit.Bound.{Bound}
 use Rattle.pit_model.specs.declared.limit.Bound.TheVariants.{AtMost, AtLeast, Between}
 use Rattle.pit_model.specs.declared.limit.Limit.{Limit}

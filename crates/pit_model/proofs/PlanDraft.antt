@@ -70,9 +70,12 @@ Keeps d ls =
     × IfSome d.rate (λ r. (pos 0 ≤ℤ r) × (r ≤ℤ pos (10 ^ 6))) × KeepsResources (length d.formulas) d.resources
     × KeepsLimits (length d.resources) (unwrap_or d.periods 0) d.limits ls
 
+no_limits : RiseStrictly []
+no_limits i j d before within = absurd (omega arith)
+
 pub blank_keeps : Keeps blank_draft []
 blank_keeps =
-    (tt, (omega arith, All-nil _), (omega arith, All-nil _, apart_none), tt, tt, (omega arith, All-nil _, All-nil _, apart_none), (All-nil _, tt, IsPermutation-refl []))
+    (tt, (omega arith, All-nil _), (omega arith, All-nil _, apart_none), tt, tt, (omega arith, All-nil _, All-nil _, apart_none), (All-nil _, no_limits, IsPermutation-refl []))
 
 -- the draft after a record: one part more than was stated before it
 pub record Adds (s : Stated) (k : PlanKey) (cells : List (List ℕ)) (next : DraftView) : Type 0 where

@@ -41,14 +41,14 @@ use Rattle.std.specs.List.{position_or_len}
 use Rattle.std.specs.Prelude.{get_or, unsigned_abs, int_le, ◌/◌}
 use Rattle.std.specs.Str.{bytes_eq}
 use Rattle.pit_units.specs.Decimal.{StandsFor, decimal_of}
-use Rattle.pit_model.specs.Plan.{AreTonnes, IsTonnes, stands_before}
+use Rattle.pit_model.specs.Plan.{AreTonnes, IsTonnes, is_turned, stands_before}
 use Rattle.pit_model.specs.PlanDemands.{IsWithin, IsDecimal, IsFine}
-use Rattle.pit_model.specs.Planned.{known, destination_in, resource_in, covers_in, is_resource, period_in, tonnes_in, bound_in, is_turned, is_same_place, with_limit, with_bound, limit_width, stated}
+use Rattle.pit_model.specs.Planned.{known, destination_in, resource_in, covers_in, is_resource, period_in, tonnes_in, bound_in, is_same_place, with_limit, with_bound, limit_width, stated}
 use Rattle.pit_model.specs.declared.band.Band.{Band}
 use Rattle.pit_model.specs.declared.limit.Bound.{Bound}
 use Rattle.pit_model.specs.declared.limit.Bound.TheVariants.{AtMost, AtLeast, Between}
 use Rattle.pit_model.specs.declared.plan_fault.PlanFaultKind.TheVariants.{Number, TooFine, Range}
-use Rattle.pit_model.proofs.Limits.{inserted, All-with_limit, rises, bound_kept}
+use Rattle.pit_model.proofs.Limits.{inserted, All-with_limit, rises}
 use Rattle.pit_model.proofs.PlanDraft.{listed, stated_of, Keeps, Adds, width_then, named_then, once_told, other, room_told, destination_told, formula_told}
 use Rattle.pit_model.proofs.PlanNames.{bytes_same, same_bytes, bytes_other}
 use Rattle.pit_model.proofs.PlanTold.{one_number, one_whole, whole_from, read_number, reworded, le_true, true_le}
@@ -465,7 +465,7 @@ limit_told d ls cells l k is_r is_t is_b =
           let same_t : l.period ≡ t = one_whole (cell_at cells 2) l.period t is_t.0 stands in
           subst (λ n. All (λ m. ¬ ((m.resource ≡ n) × (m.period ≡ t))) ls) same_r
           (subst (λ n. All (λ m. ¬ ((m.resource ≡ l.resource) × (m.period ≡ n))) ls) same_t (beside l ls d.limits k.6.2 none))),
-      order_told cells l.bound (record d { limits = with_limit l d.limits }) (Adds (stated_of d ls) key.Limit cells) is_b.0 (λ upward. record {
+      order_told cells l.bound (record d { limits = with_limit l d.limits }) (Adds (stated_of d ls) key.Limit cells) is_b.0 (λ straight. record {
         part = ALimit l;
         spells = (l, refl, is_r, is_t.0, is_b.0);
         ls = ls ++ l ∷ [];
@@ -479,7 +479,7 @@ limit_told d ls cells l k is_r is_t is_b =
           k.5,
           (
             All-with_limit (λ m. (m.resource < length d.resources) × (m.period < unwrap_or d.periods 0) × IsBound m.bound) l d.limits
-                (within, is_t.1, bound_kept l.bound is_b.1 upward) k.6.0,
+                (within, is_t.1, record { tonnes = is_b.1; straight = straight }) k.6.0,
             rises l d.limits k.6.1 none,
             limit_order_of l ls d.limits k.6.2,
           ),
