@@ -142,7 +142,7 @@ pub marks_more : (ms : List Taken) (m : Taken) → is_done ms ≡ false → Mark
 marks_more [] m e = ((λ _. refl), tt)
 marks_more (x ∷ ms) m e = let o = or_false (is_mark x) (is_done ms) e in ((λ t. absurd (true≢false (sym t ∙ o.0))), marks_more ms m o.1)
 
-counted_none : (b : Bool) (n : ℕ) → cond {A = ℕ} b 1 0 + n ≡ 0 → (b ≡ false) × (n ≡ 0)
+pub counted_none : (b : Bool) (n : ℕ) → cond {A = ℕ} b 1 0 + n ≡ 0 → (b ≡ false) × (n ≡ 0)
 counted_none true n e = absurd (omega arith)
 counted_none false n e = (refl, omega arith)
 

@@ -1,10 +1,11 @@
 -- How the lines that are read spell values, coefficients and limits.
-use Rattle.std.specs.Prelude.{◌≡◌, ℕ, ◌+◌, ◌==◌, Bool, true, false, not, List, [], ◌∷◌, length, ℤ, Result, Ok, Err, if◌then◌else◌, codes, int_le, ◌≤ℤ◌}
+use Rattle.std.specs.Prelude.{◌≡◌, ℕ, ◌+◌, ◌==◌, Bool, true, false, not, List, [], ◌∷◌, length, ℤ, Result, Ok, Err, if◌then◌else◌, codes}
 use Rattle.std.specs.List.{AllZip}
 use Rattle.std.specs.Str.{bytes_eq}
-use Rattle.std.proofs.Common.{refl, sym, ◌∙◌, ap, subst, arith, rules}
-use Rattle.std.proofs.lemmas.Bool.{eqb-true}
+use Rattle.std.proofs.Common.{refl, sym, ◌∙◌, ap, subst, arith}
+use Rattle.std.proofs.lemmas.Bool.{eqb-true, not-false}
 use Rattle.std.proofs.lemmas.Slice.Eq.{bytes_eq-Decides}
+use Rattle.std.proofs.lemmas.Slice.Zip.{AllZip-long}
 use Rattle.pit_units.specs.Decimal.{StandsFor}
 use Rattle.pit_model.specs.Steps.{◌>>=◌}
 use Rattle.pit_model.specs.Plan.{is_turned}
@@ -20,7 +21,7 @@ use Rattle.minelib_text.specs.declared.model_key.Problem.{Problem}
 use Rattle.minelib_text.specs.declared.model_key.Problem.TheVariants.{Pcpsp, Cpit}
 use Rattle.minelib_text.specs.declared.text_fault.TextKind.{TextKind}
 use Rattle.minelib_text.specs.declared.text_fault.TextKind.TheVariants.{Fields, Order, Name}
-use Rattle.minelib_text.proofs.ReadSteps.{bind_then, guard_then, first_then, not_false, same_ok, none_behind, counted, all_ok, as_many, whole_in_ok, decimal_in_ok}
+use Rattle.minelib_text.proofs.ReadSteps.{bind_then, guard_then, first_then, same_ok, none_behind, counted, all_ok, whole_in_ok, decimal_in_ok}
 
 all_stand : (fields : List (List ℕ)) (values : List ℤ) → AllZip (λ field v. decimal_in field ≡ Ok v) fields values
     → AllZip (StandsFor 6) fields values
@@ -43,9 +44,9 @@ values_line n destinations before fields values e =
       b = b;
       each = rest;
       here = here;
-      states_block = subst (StatesWhole n b) (eqb-true block before (not_false (block == before) next)) (whole_in_ok n b block s1);
+      states_block = subst (StatesWhole n b) (eqb-true block before (not-false (block == before) next)) (whole_in_ok n b block s1);
       states_each = zip;
-      one_each = omega (arith, counted (destinations + 1) fields width, ap length here, as_many (StandsFor 6) rest values zip);
+      one_each = omega (arith, counted (destinations + 1) fields width, ap length here, AllZip-long (StandsFor 6) rest values zip);
     }))))
 
 pub coef_line : (problem : Problem) (n destinations resources : ℕ) (fields : List (List ℕ)) (c : Coef)

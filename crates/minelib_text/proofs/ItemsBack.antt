@@ -1,12 +1,11 @@
 -- The items of a model file's sections are read as they are written.
-use Rattle.std.proofs.Common.{◌≡◌, ℕ, ◌+◌, ◌<◌, ◌≤◌, false, List, [], ◌∷◌, length, ℤ, arith, refl, ap, eq-eqb}
+use Rattle.std.proofs.Common.{◌≡◌, ℕ, ◌+◌, ◌<◌, ◌≤◌, List, [], ◌∷◌, length, ℤ, arith, refl, ap, eq-eqb}
 use Rattle.std.specs.Prelude.{decimal, Ok, All}
 use Rattle.std.proofs.lemmas.List.{length-map}
 use Rattle.pit_model.specs.declared.limit.Bound.{Bound}
 use Rattle.pit_model.specs.declared.limit.Bound.TheVariants.{AtMost, AtLeast, Between}
 use Rattle.pit_model.specs.declared.limit.Limit.{Limit}
 use Rattle.pit_units.specs.Decimal.{shortest}
-use Rattle.mine_instance.proofs.GreatestFacts.{int_le-true}
 use Rattle.mine_instance.specs.declared.coef.Coef.{Coef}
 use Rattle.minelib_text.specs.FieldValues.{decimal_in}
 use Rattle.minelib_text.specs.Kept.{IsDecimal, HasDecimals}

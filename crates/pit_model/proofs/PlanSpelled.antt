@@ -1,18 +1,17 @@
 -- Records spell a plan exactly where they state it, and the first that spells no part is the first faulty one.
-use Rattle.std.specs.Prelude.{◌≡◌, ◌↔◌, ℕ, zero, suc, ◌+◌, ◌<◌, ◌≤◌, ◌==◌, Bool, true, false, ◌||◌, List, [], ◌∷◌, ◌++◌, length, map, ℤ, All, Option, Some, None, nat_lt, Result, Ok, Err, if◌then◌else◌, ◌⊎◌}
-use Rattle.std.proofs.Common.{refl, sym, ◌∙◌, ap, subst, arith, inl, inr, eqb-true, ltb-true, ltb-false, ne_eqb, append-nil, length-append}
+use Rattle.std.specs.Prelude.{◌≡◌, ℕ, zero, suc, ◌+◌, ◌<◌, ◌≤◌, ◌==◌, Bool, true, false, ◌||◌, List, [], ◌∷◌, ◌++◌, length, ℤ, All, Option, Some, None, nat_lt, Result, Ok, Err, if◌then◌else◌, ◌⊎◌}
+use Rattle.std.proofs.Common.{refl, sym, ◌∙◌, ap, subst, arith, inl, inr, eqb-true, ltb-true, ltb-false, ne_eqb, append-nil}
 use Rattle.std.proofs.lemmas.Bool.Decides.{nat_tests}
-use Rattle.std.proofs.lemmas.List.Elements.{All-contains, Contains-append_cases, Contains-append_right}
+use Rattle.std.proofs.lemmas.List.Elements.{All-contains}
 use Rattle.std.proofs.lemmas.List.Sorted.{Contains-permutation, IsPermutation-sym}
 use Rattle.std.specs.List.{Contains}
 use Rattle.std.specs.List.Sorted.{IsPermutation}
 use Rattle.pit_model.proofs.Limits.{first_rises, rest_rises}
-use Rattle.pit_model.specs.Steps.{◌>>=◌}
-use Rattle.pit_model.specs.Demands.{AreMet, FailsFirst}
-use Rattle.pit_model.specs.Cells.{cell_at, cells_of, is_word}
+use Rattle.pit_model.specs.Demands.{FailsFirst}
+use Rattle.pit_model.specs.Cells.{cell_at, cells_of}
 use Rattle.pit_model.specs.Plan.{PlanParts, IsPlan, RiseStrictly, stands_before, plan_of}
 use Rattle.pit_model.specs.PlanDemands.{asked}
-use Rattle.pit_model.specs.PlanPart.{Part, Stated, nothing_stated, with_part, word_of, BeginsWith, SpellPart}
+use Rattle.pit_model.specs.PlanPart.{Part, Stated, nothing_stated, with_part, BeginsWith, SpellPart}
 use Rattle.pit_model.specs.Planned.{DraftView, blank_draft, key_of, admit, admit_key, at_record, finished, plan_from, whole_plan}
 use Rattle.pit_model.specs.SpelledPlan.{IsRecordOf, AllSpelled, ArePartsOf, SpellPlan, IsFaulty, IsRefused, Lacks, IsLacking}
 use Rattle.pit_model.specs.declared.grid.Grid.{Grid}
