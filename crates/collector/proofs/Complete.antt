@@ -2,7 +2,7 @@
 use Rattle.std.proofs.Common.{◌≡◌, ℕ, suc, ◌+◌, ◌<◌, Bool, true, false, ◌&&◌, cond, eqb, ltb, is_some, List, [], ◌∷◌, ◌++◌, Option, Some, None, refl, sym, ap, subst, ◌∙◌, ⊎_elim, arith}
 use Rattle.std.specs.List.{AllByRecursion, Contains, count_by}
 use Rattle.std.specs.List.Sorted.{IsPermutation}
-use Rattle.std.proofs.lemmas.Bool.{cond-true, cond-false, le-ltb, lt-ltb, lt-leb, cases_Bool, cases_eq, eqb-true, false≢true}
+use Rattle.std.proofs.lemmas.Bool.{cond-true, cond-false, le-ltb, lt-ltb, lt-leb, cases_Bool, cases_eq, eqb-true, false≢true, eq-eqb}
 use Rattle.std.proofs.lemmas.List.Elements.{recursion_from_All}
 use Rattle.std.proofs.lemmas.List.Sorted.{All-permutation, sum_by-IsPermutation}
 use Rattle.std.proofs.lemmas.List.Sums.{sum_by-append, sum_by-cons}
@@ -14,7 +14,7 @@ use Rattle.collector.specs.Complete.{Fits, IsComplete}
 use Rattle.collector.specs.Fault.{fault, is_after}
 use Rattle.collector.specs.Found.{is_row, is_end, row_at, end_at, has_past}
 use Rattle.collector.specs.Lists.{IsFull, IsMissing, IsOpen}
-use Rattle.collector.proofs.Slots.{eqb-same, eqb-other}
+use Rattle.collector.proofs.Slots.{eqb-other}
 
 -- one item more counts once, if it passes
 counted : (p : Item → Bool) (item : Item) (items : List Item) → count_by p (item ∷ items) ≡ cond (p item) 1 0 + count_by p items
@@ -68,7 +68,7 @@ past-fits files counts file [] fit = refl
 past-fits files counts file (End f n ∷ items) fit = past-fits files counts file items fit.1
 past-fits files counts file (Row v ∷ items) fit =
     ⊎_elim
-    (λ same. rw (eqb-same v.file file same, lt-leb (counts file) v.place (subst (λ (f : ℕ). v.place < counts f) same fit.0.1))
+    (λ same. rw (eq-eqb v.file file same, lt-leb (counts file) v.place (subst (λ (f : ℕ). v.place < counts f) same fit.0.1))
     (past-fits files counts file items fit.1))
     (λ differs. rw (eqb-other v.file file differs) (past-fits files counts file items fit.1))
     (cases_eq v.file file)
@@ -102,7 +102,7 @@ not_refused files held rest (Row v) whole =
     let here = at-cut (Fits files whole.counts) held rest (Row v) fit in
     let most = whole.few v.file here.0 in
     let single = single-cut (is_row v.file v.place) held rest (Row v)
-    (rw (eqb-same v.file v.file refl, eqb-same v.place v.place refl)) (whole.rows v.file v.place here.0 here.1) in
+    (rw (eq-eqb v.file v.file refl, eq-eqb v.place v.place refl)) (whole.rows v.file v.place here.0 here.1) in
     let fresh = row-found v.file v.place held ∙ single in
     let below = after-fits files whole.counts v.file v.place held (front _ held (Row v ∷ rest) fit) here.1 (end_at v.file held) refl in
     rw (fresh, lt-leb files v.file here.0, lt-leb 1000000 v.place (omega arith), below)
@@ -110,7 +110,7 @@ not_refused files held rest (End f n) whole =
     let fit = recursion_from_All (Fits files whole.counts) _ whole.others in
     let here = at-cut (Fits files whole.counts) held rest (End f n) fit in
     let most = whole.few f here.0 in
-    let single = single-cut (is_end f) held rest (End f n) (eqb-same f f refl) (whole.ends f here.0) in
+    let single = single-cut (is_end f) held rest (End f n) (eq-eqb f f refl) (whole.ends f here.0) in
     let fresh = end-found f held ∙ single in
     let none : has_past f n held ≡ false
     = subst (λ (k : ℕ). has_past f k held ≡ false) (sym here.1) (past-fits files whole.counts f held (front _ held (End f n ∷ rest) fit)) in

@@ -1,6 +1,6 @@
 -- The shelves keep the items, one item after the other.
 use Rattle.std.proofs.Common.{◌≡◌, ℕ, ◌+◌, ◌<◌, ◌≤◌, Bool, true, false, ◌&&◌, ◌||◌, cond, eqb, leb, ltb, is_some, List, [], ◌∷◌, ◌++◌, length, take, drop, Option, Some, None, refl, sym, ap, subst, ◌∙◌, ⊎_elim, arith}
-use Rattle.std.proofs.lemmas.Bool.{cond-true, cond-false, le-ltb, ltb-false, leb-true, leb-false, cases_Bool, cases_eq, false≢true}
+use Rattle.std.proofs.lemmas.Bool.{cond-true, cond-false, le-ltb, ltb-false, leb-true, leb-false, cases_Bool, cases_eq, false≢true, eq-eqb}
 use Rattle.std.proofs.lemmas.Option.{none-some, same_Some}
 use Rattle.std.proofs.lemmas.List.{append-nil, take_all, drop_all}
 use Rattle.std.proofs.lemmas.Bool.Decides.{nat_tests}
@@ -10,7 +10,7 @@ use Rattle.valuers.specs.declared.item.Valued.{Valued}
 use Rattle.collector.specs.Shelves.{slot, with_row, fault_in, file_of, ArePut, IsShelved, IsKept}
 use Rattle.collector.specs.Fault.{is_after, fault}
 use Rattle.collector.specs.Found.{row_at, end_at, has_past}
-use Rattle.collector.proofs.Slots.{eqb-same, eqb-other, slot-put, slot-kept, length-with_row}
+use Rattle.collector.proofs.Slots.{eqb-other, slot-put, slot-kept, length-with_row}
 
 -- a row of no shelf is no double, so it does not matter which of the two is asked first
 outside_first : {A : Type 0} (outside double far : Bool) (x y z : A) → (outside ≡ true → double ≡ false) →
@@ -107,10 +107,10 @@ past-more rows v place =
     last rows v place past = grind (arith, nat_tests)
 
 found : (v : Valued) (file place : ℕ) → v.file ≡ file → v.place ≡ place → row_at file place (Row v ∷ []) ≡ Some v
-found v file place same here = rw (eqb-same v.file file same, eqb-same v.place place here)
+found v file place same here = rw (eq-eqb v.file file same, eq-eqb v.place place here)
 
 not_found : (v : Valued) (file place : ℕ) → v.file ≡ file → (v.place ≡ place → ⊥) → row_at file place (Row v ∷ []) ≡ None
-not_found v file place same differs = rw (eqb-same v.file file same, eqb-other v.place place differs)
+not_found v file place same differs = rw (eq-eqb v.file file same, eqb-other v.place place differs)
 
 -- one row more on the shelf of its file
 shelved-row : (held : List Item) (file : ℕ) (rows : List Valued) (end : Option ℕ) (v : Valued) → IsShelved held file rows end →
@@ -128,7 +128,7 @@ shelved-row held file rows end v kept same single in_places before = record {
       (cases_eq v.place place);
   ended = end_at-push file held (Row v) ∙ else-none (end_at file held) ∙ kept.ended;
   past = λ place. has_past-push file place held (Row v)
-      ∙ rw (kept.past place, eqb-same v.file file same, or-nothing (leb place v.place)) (past-more rows v place);
+      ∙ rw (kept.past place, eq-eqb v.file file same, or-nothing (leb place v.place)) (past-more rows v place);
   few = ⊎_elim (λ h. let most = kept.few in omega (arith, h.1)) (λ h. omega (arith, h.1)) (length-with_row rows v);
   closed = λ count e.
       let above = below-count end v.place count before e in
@@ -142,7 +142,7 @@ shelved-end : (held : List Item) (file f count : ℕ) (rows : List Valued) (end 
     IsShelved (held ++ End f count ∷ []) file rows (Some count)
 shelved-end held file f count rows end kept same single above = record {
   row = λ place. row_at-push file place held (End f count) ∙ else-none (row_at file place held) ∙ kept.row place;
-  ended = end_at-push file held (End f count) ∙ else-first _ _ single ∙ cond-true _ _ _ (eqb-same f file same);
+  ended = end_at-push file held (End f count) ∙ else-first _ _ single ∙ cond-true _ _ _ (eq-eqb f file same);
   past = λ place. has_past-push file place held (End f count) ∙ or-nothing (has_past file place held) ∙ kept.past place;
   few = kept.few;
   closed = λ n e. let is_count = same_Some count n e in
@@ -179,7 +179,7 @@ kept_more files held rows rows' ends ends' (Row v) kept sound put =
     let in_files : v.file < files = leb-false files v.file inside.0 in
     let in_places : v.place < 1000000 = leb-false 1000000 v.place inside.1 in
     let here : (file : ℕ) → v.file ≡ file → rows' file ≡ with_row (rows file) v
-    = λ file e. put.0 file ∙ cond-true (eqb v.file file) _ _ (eqb-same v.file file e) in
+    = λ file e. put.0 file ∙ cond-true (eqb v.file file) _ _ (eq-eqb v.file file e) in
     let elsewhere : (file : ℕ) → (v.file ≡ file → ⊥) → rows' file ≡ rows file
     = λ file differs. put.0 file ∙ cond-false (eqb v.file file) _ _ (eqb-other v.file file differs) in
     record {
@@ -198,7 +198,7 @@ kept_more files held rows rows' ends ends' (End f count) kept sound put =
     let clear = no-fault (leb files f) (is_some (end_at f held)) (ltb 1000000 count || has_past f count held) _ _ _ sound in
     let allowed = or-false (ltb 1000000 count) (has_past f count held) clear.2 in
     let here : (file : ℕ) → f ≡ file → ends' file ≡ Some count
-    = λ file e. put.1 file ∙ cond-true (eqb f file) _ _ (eqb-same f file e) in
+    = λ file e. put.1 file ∙ cond-true (eqb f file) _ _ (eq-eqb f file e) in
     let elsewhere : (file : ℕ) → (f ≡ file → ⊥) → ends' file ≡ ends file
     = λ file differs. put.1 file ∙ cond-false (eqb f file) _ _ (eqb-other f file differs) in
     record {

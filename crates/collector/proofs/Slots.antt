@@ -1,8 +1,8 @@
 -- The slots of a shelf after one more row.
-use Rattle.std.proofs.Common.{◌⊎◌, ◌≡◌, ℕ, zero, suc, ◌+◌, ◌-◌, ◌<◌, ◌≤◌, eqb, ltb, true, false, List, [], ◌∷◌, ◌++◌, length, set, replicate, Some, None, refl, sym, ap, ◌∙◌, ⊎_elim, inl, inr, arith, length-append, length-set}
+use Rattle.std.proofs.Common.{◌⊎◌, ◌≡◌, ℕ, zero, suc, ◌+◌, ◌-◌, ◌<◌, ◌≤◌, eqb, ltb, false, List, [], ◌∷◌, ◌++◌, length, set, replicate, Some, None, refl, sym, ap, ◌∙◌, ⊎_elim, inl, inr, arith, length-append, length-set}
 use Rattle.std.specs.List.{slice_get}
 use Rattle.std.specs.Option.{option_and_then}
-use Rattle.std.proofs.lemmas.Bool.{cond-true, cond-false, lt-ltb, le-ltb, cases_lt, eqb-true, eqb-false, false_from_ne_true, true_from_ne_false}
+use Rattle.std.proofs.lemmas.Bool.{cond-true, cond-false, lt-ltb, le-ltb, cases_lt, eqb-true, false_from_ne_true, eq-eqb}
 use Rattle.std.proofs.lemmas.Option.{slice_get_past}
 use Rattle.std.proofs.lemmas.List.{length-replicate}
 use Rattle.valuers.specs.declared.item.Valued.{Valued}
@@ -36,14 +36,11 @@ get-filled (x ∷ xs) y n (suc k) past within = get-filled xs y n k (omega arith
 pub eqb-other : (a b : ℕ) → (a ≡ b → ⊥) → eqb a b ≡ false
 eqb-other a b differs = false_from_ne_true (eqb a b) (λ e. differs (eqb-true a b e))
 
-pub eqb-same : (a b : ℕ) → a ≡ b → eqb a b ≡ true
-eqb-same a b e = true_from_ne_false (eqb a b) (λ f. eqb-false a b f e)
-
 pub if_at-other : (v : Valued) (place : ℕ) → (v.place ≡ place → ⊥) → if_at place v ≡ None
 if_at-other v place differs = cond-false (eqb v.place place) (Some v) None (eqb-other v.place place differs)
 
 pub if_at-same : (v : Valued) (place : ℕ) → v.place ≡ place → if_at place v ≡ Some v
-if_at-same v place e = cond-true (eqb v.place place) (Some v) None (eqb-same v.place place e)
+if_at-same v place e = cond-true (eqb v.place place) (Some v) None (eq-eqb v.place place e)
 
 pub slot-at : (rows : List Valued) (place : ℕ) (v : Valued) → slice_get rows place ≡ Some v → slot rows place ≡ if_at place v
 slot-at rows place v e = ap (option_and_then (if_at place)) e

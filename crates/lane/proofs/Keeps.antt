@@ -1,12 +1,13 @@
 -- Every allowed event of the machine leaves a lawful state.
 use Rattle.std.proofs.Common.{◌≡◌, ⊎_elim, inl, inr, ℕ, suc, ◌+◌, ◌<◌, ◌≤◌, Bool, true, false, cond, ◌==◌, ◌&&◌, nat_lt, List, [], ◌∷◌, ◌++◌, length, map, drop, slice_get, Some, refl, sym, ap, ◌∙◌, subst, arith, count_by, length-append}
 use Rattle.std.specs.List.{AllByRecursion}
+use Rattle.std.specs.List.Sorted.{IsStrictlyIncreasing}
 use Rattle.std.proofs.lemmas.Bool.{cases_Bool, cases_eq, cases_lt, eq-eqb, le-ltb, true≢false}
 use Rattle.std.proofs.lemmas.Bool.Decides.{nat_tests}
 use Rattle.std.proofs.lemmas.List.{drop-append-le, map-append}
 use Rattle.lane.specs.declared.message.Taken.{Taken}
 use Rattle.lane.specs.declared.message.Taken.TheVariants.{Row, End, Stop, Quit}
-use Rattle.lane.specs.Message.{is_of, of, position, is_at, is_stop, is_quit, is_mark, rows_in, has_end, is_done, IsFrom, IsRising, Rises, MarksLast, AreStops, StopsLast}
+use Rattle.lane.specs.Message.{is_of, of, position, is_at, is_stop, is_quit, is_mark, rows_in, has_end, is_done, IsFrom, Rises, MarksLast, AreStops, StopsLast}
 use Rattle.lane.specs.Machine.{Size, State, opening, Event, PutRow, PutEnd, PutStop, PutQuit, TakeNext, HasRoom, Allowed, with_at, put, take_front, take_next, after, after_all, AreAllowed, IsReached}
 use Rattle.lane.specs.Lawful.{over, IsPlaced, IsLawful}
 use Rattle.lane.proofs.Lists.{all_more, all_weaker, get_more, drop_front, count_more, count_front, with_at_all, with_at_here, over_zero, over_le, over_at}
@@ -21,7 +22,7 @@ begins n = record {
   within = λ f. omega arith;
   once = λ f p. over_zero n.takers (λ w. 0) (λ k. refl) ∙ sym (ap (λ (b : Bool). cond {A = ℕ} b 1 0) (le-ltb p 0 (omega arith)));
   placed = λ w. tt;
-  rises = λ w f. tt;
+  rises = λ w f k within. absurd (omega arith);
   rest = λ f. refl;
   behind = tt;
   stopped = λ w _. tt;
@@ -166,10 +167,10 @@ module _ (n : Size) (s : State) (h : IsLawful n s) where
           ⊎_elim
           (λ (t : is_of j m ≡ true).
           let e : map position (of j (s.took w ++ m ∷ [])) ≡ map position (of j (s.took w)) ++ position m ∷ [] = ap (map position) (of_yes j (s.took w) m t) ∙ map-append position (of j (s.took w)) (m ∷ []) in
-          subst IsRising (sym e)
+          subst IsStrictlyIncreasing (sym e)
           (rising_more (map position (of j (s.took w))) (position m) (h.rises w j)
           (subst (λ k. AllByRecursion (λ p. p < k) (map position (of j (s.took w)))) (sym (next j t)) (placed_below s.sent h.left j (s.took w) (h.placed w)))))
-          (λ (t : is_of j m ≡ false). subst (λ (l : List Taken). IsRising (map position l)) (sym (of_no j (s.took w) m t)) (h.rises w j))
+          (λ (t : is_of j m ≡ false). subst (λ (l : List Taken). IsStrictlyIncreasing (map position l)) (sym (of_no j (s.took w) m t)) (h.rises w j))
           (cases_Bool (is_of j m))
 
       takes : IsLawful n (take_front w m rest s)

@@ -1,18 +1,21 @@
 -- Lists of messages, with one more message behind.
 use Rattle.std.proofs.Common.{◌≡◌, ℕ, zero, suc, ◌+◌, ◌<◌, ◌≤◌, Bool, true, false, cond, ◌||◌, List, [], ◌∷◌, ◌++◌, length, map, slice_get, Some, None, refl, sym, ap, ◌∙◌, subst, arith, count_by, append-nil}
 use Rattle.std.specs.List.{AllByRecursion}
+use Rattle.std.specs.List.Sorted.{IsStrictlyIncreasing}
 use Rattle.std.proofs.lemmas.Bool.{eqb-true, eq-eqb, ne_eqb, true≢false}
-use Rattle.std.proofs.lemmas.List.Elements.{filter-append}
+use Rattle.std.proofs.lemmas.List.Elements.{All-from_recursion, filter-append}
+use Rattle.std.proofs.lemmas.List.Kept.{AllPairs-from_increasing}
+use Rattle.std.proofs.lemmas.List.Quantifiers.{all_pairs_push}
 use Rattle.pit_model.specs.declared.block.Block.{Block}
 use Rattle.lane.specs.declared.message.Taken.{Taken}
 use Rattle.lane.specs.declared.message.Taken.TheVariants.{Row, End, Stop, Quit}
-use Rattle.lane.specs.Message.{is_of, of, position, is_row, is_stop, is_quit, is_mark, rows_in, has_end, is_done, ends_in_mark, IsFrom, IsEndedFrom, IsRising, MarksLast, StopsLast}
+use Rattle.lane.specs.Message.{is_of, of, position, is_row, is_stop, is_quit, is_mark, rows_in, has_end, is_done, ends_in_mark, IsFrom, IsEndedFrom, MarksLast, StopsLast}
 use Rattle.lane.specs.Lawful.{IsPlaced}
 use Rattle.lane.proofs.Lists.{all_more, count_front}
 
-pub rising_more : (xs : List ℕ) (y : ℕ) → IsRising xs → AllByRecursion (λ x. x < y) xs → IsRising (xs ++ y ∷ [])
-rising_more [] y h b = (tt, tt)
-rising_more (x ∷ xs) y h b = (all_more (λ z. x < z) xs y h.0 b.0, rising_more xs y h.1 b.1)
+pub rising_more : (xs : List ℕ) (y : ℕ) → IsStrictlyIncreasing xs → AllByRecursion (λ x. x < y) xs → IsStrictlyIncreasing (xs ++ y ∷ [])
+rising_more xs y h b k within =
+    all_pairs_push (λ a c. a < c) xs y (AllPairs-from_increasing xs h) (All-from_recursion (λ x. x < y) xs b) k (k + 1) 0 (omega arith) within
 
 pub of_yes : (f : ℕ) (ms : List Taken) (m : Taken) → is_of f m ≡ true → of f (ms ++ m ∷ []) ≡ of f ms ++ m ∷ []
 of_yes f ms m e = filter-append (is_of f) ms (m ∷ []) ∙ ap (λ (b : Bool). of f ms ++ cond b (m ∷ []) []) e
@@ -139,7 +142,7 @@ pub marks_more : (ms : List Taken) (m : Taken) → is_done ms ≡ false → Mark
 marks_more [] m e = ((λ _. refl), tt)
 marks_more (x ∷ ms) m e = let o = or_false (is_mark x) (is_done ms) e in ((λ t. absurd (true≢false (sym t ∙ o.0))), marks_more ms m o.1)
 
-counted_none : (b : Bool) (n : ℕ) → cond {A = ℕ} b 1 0 + n ≡ 0 → (b ≡ false) × (n ≡ 0)
+pub counted_none : (b : Bool) (n : ℕ) → cond {A = ℕ} b 1 0 + n ≡ 0 → (b ≡ false) × (n ≡ 0)
 counted_none true n e = absurd (omega arith)
 counted_none false n e = (refl, omega arith)
 

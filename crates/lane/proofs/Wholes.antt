@@ -12,7 +12,7 @@ use Rattle.lane.specs.Machine.{Size, State}
 use Rattle.lane.specs.Lawful.{over, IsPlaced, IsLawful}
 use Rattle.lane.specs.Whole.{IsSent, IsWhole}
 use Rattle.lane.proofs.Lists.{count_front, over_le, over_same}
-use Rattle.lane.proofs.Messages.{ended_from}
+use Rattle.lane.proofs.Messages.{ended_from, counted_none}
 
 over_least : (n : ℕ) (g : ℕ → ℕ) → ((k : ℕ) → k < n → 1 ≤ g k) → n ≤ over n g
 over_least zero g h = omega arith
@@ -40,10 +40,6 @@ sum_all : (F : List Taken → ℕ) (took : ℕ → List Taken) (lists : List (Li
 sum_all F took lists n len h =
     let zero_is : (i : ℕ) → i + 0 ≡ i = λ i. omega arith in
     sum_over F took lists 0 (λ i l e. h i l e ∙ ap took (sym (zero_is i))) ∙ (over_same (length lists) (λ j. F (took (j + 0))) (λ j. F (took j)) (λ j l. ap (λ i. F (took i)) (zero_is j)) ∙ ap (λ k. over k (λ j. F (took j))) len)
-
-counted_none : (b : Bool) (n : ℕ) → cond {A = ℕ} b 1 0 + n ≡ 0 → (b ≡ false) × (n ≡ 0)
-counted_none true n e = absurd (omega arith)
-counted_none false n e = (refl, omega arith)
 
 -- a done taker that took no Quit took a Stop, and that is its last
 ends_in_stop : (ms : List Taken) → is_done ms ≡ true → count_by is_quit ms ≡ 0 → MarksLast ms → EndsInStop ms

@@ -1,6 +1,7 @@
 -- The messages of the lane, and lists of them.
-use Rattle.std.specs.Prelude.{◌≡◌, ℕ, ◌+◌, ◌<◌, Bool, true, false, ◌&&◌, ◌||◌, ◌==◌, List, [], ◌∷◌, map}
+use Rattle.std.specs.Prelude.{◌≡◌, ℕ, ◌+◌, Bool, true, false, ◌&&◌, ◌||◌, ◌==◌, List, [], ◌∷◌, map}
 use Rattle.std.specs.List.{filter, count_by, list_any, AllByRecursion}
+use Rattle.std.specs.List.Sorted.{IsStrictlyIncreasing}
 use Rattle.pit_model.specs.declared.block.Block.{Block}
 use Rattle.lane.specs.declared.message.Taken.{Taken}
 use Rattle.lane.specs.declared.message.Taken.TheVariants.{Row, End, Stop, Quit}
@@ -89,14 +90,9 @@ IsEndedFrom file k (End f rows ∷ ms) = (f ≡ file) × (rows ≡ k) × (ms ≡
 IsEndedFrom file k (Stop ∷ ms) = ⊥
 IsEndedFrom file k (Quit ∷ ms) = ⊥
 
--- each number is below all behind it
-abbrev pub IsRising : List ℕ → Type 0
-IsRising [] = Unit {0}
-IsRising (x ∷ xs) = AllByRecursion (λ y. x < y) xs × IsRising xs
-
 -- the positions of each file rise
 abbrev pub Rises : List Taken → Type 0
-Rises ms = (file : ℕ) → IsRising (map position (of file ms))
+Rises ms = (file : ℕ) → IsStrictlyIncreasing (map position (of file ms))
 
 -- nothing of a file follows its end mark
 abbrev pub EndsClose : List Taken → Type 0

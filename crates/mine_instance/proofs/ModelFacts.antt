@@ -12,16 +12,14 @@ use Rattle.pit_model.specs.declared.cone.Cone.{Cone}
 use Rattle.pit_model.specs.declared.grid.Grid.{Grid}
 use Rattle.pit_model.specs.declared.limit.Limit.{Limit}
 use Rattle.pit_model.specs.declared.resource.Resource.{Resource}
-use Rattle.pit_model.specs.declared.limit.Bound.{Bound}
-use Rattle.pit_model.specs.declared.limit.Bound.TheVariants.{AtMost, AtLeast, Between}
-use Rattle.pit_model.specs.Plan.{PlanParts, IsRuled, IsPlan, IsBound, RiseStrictly, stands_before}
+use Rattle.pit_model.specs.Plan.{PlanParts, IsRuled, IsPlan, IsBound, is_turned}
 use Rattle.pit_model.specs.Worth.{worth, IsWorth}
 use Rattle.pit_model.specs.declared.block.Block.{Block}
 use Rattle.pit_model.specs.declared.formula.Formula.{Formula}
 use Rattle.pit_model.specs.declared.formula.NamedFormula.{NamedFormula}
 use Rattle.valuers.specs.Valuing.{worths_by}
 use Rattle.mine_instance.proofs.ValidFacts.{rising_differ}
-use Rattle.mine_instance.specs.Valid.{IsUpward, AreLimits, AreCoefs, ArePreds, ArePredsOf, IsValid}
+use Rattle.mine_instance.specs.Valid.{AreLimits, AreCoefs, ArePreds, ArePredsOf, IsValid}
 use Rattle.mine_instance.specs.OfModel.{values_of, in_hundreds, covers, pair_with, covering, covered, coef_at, block_coefs, coefs_of, instance_of, instance_with}
 use Rattle.mine_instance.specs.Order.{comes_before}
 use Rattle.mine_instance.specs.declared.coef.Coef.{Coef}
@@ -56,22 +54,12 @@ pub across : {X : Type 0} (R : X → X → Type 0) (P Q : X → Type 0) → ((x 
 across R P Q before xs ys ps qs =
     All-weaker P (λ x. All (R x) ys) (λ x p. All-weaker Q (R x) (λ y q. before x y p q) ys qs) xs ps
 
--- limits that rise one by one
-pub limits_rise : (limits : List Limit) → RiseStrictly limits → AllPairs (λ l m. IsTrue (stands_before l m)) limits
-limits_rise [] rise = λ i j d h k. absurd (omega arith)
-limits_rise (l ∷ ls) rise = AllPairs-cons (λ l m. IsTrue (stands_before l m)) l ls rise.0 (limits_rise ls rise.1)
-
-upward : (b : Bound) → IsBound b → IsUpward b
-upward (AtMost v) h = tt
-upward (AtLeast v) h = tt
-upward (Between v w) h = h.2
-
 pub limits_are : (plan : PlanParts) → IsPlan plan → AreLimits (length plan.resources) plan.periods plan.limits
 limits_are plan is = record {
   in_range = All-weaker (λ l. (l.resource < length plan.resources) × (l.period < plan.periods) × IsBound l.bound)
-      (λ l. (l.resource < length plan.resources) × (l.period < plan.periods) × IsUpward l.bound)
-      (λ l h. (h.0, h.1, upward l.bound h.2)) plan.limits is.limits;
-  rising = limits_rise plan.limits is.rising;
+      (λ l. (l.resource < length plan.resources) × (l.period < plan.periods) × (is_turned l.bound ≡ false))
+      (λ l h. (h.0, h.1, h.2.straight)) plan.limits is.limits;
+  rising = is.rising;
 }
 
 -- the numbers of the elements that pass are among those counted

@@ -1,8 +1,6 @@
 -- What a valid instance is.
-use Rattle.std.specs.Prelude.{◌≡◌, ◌≢◌, ℕ, ◌<◌, ◌≤◌, ◌^◌, ℤ, pos, ◌≤ℤ◌, List, [], length, slice_index_or, All, AllPairs, EachIndex, IsTrue}
-use Rattle.pit_model.specs.Plan.{stands_before}
-use Rattle.pit_model.specs.declared.limit.Bound.{Bound}
-use Rattle.pit_model.specs.declared.limit.Bound.TheVariants.{AtMost, AtLeast, Between}
+use Rattle.std.specs.Prelude.{◌≡◌, ◌≢◌, ℕ, ◌<◌, ◌≤◌, ℤ, pos, ◌≤ℤ◌, List, [], length, slice_index_or, All, AllPairs, EachIndex, IsTrue, false}
+use Rattle.pit_model.specs.Plan.{RiseStrictly, is_turned}
 use Rattle.pit_model.specs.declared.limit.Limit.{Limit}
 use Rattle.mine_instance.specs.Order.{comes_before}
 use Rattle.mine_instance.specs.declared.coef.Coef.{Coef}
@@ -41,16 +39,10 @@ pub record AreCoefs (n destinations resources : ℕ) (coefs : List Coef) : Type 
   pub in_range : All (λ c. (c.b < n) × (c.d < destinations) × (c.r < resources)) coefs
   pub rising : AllPairs (λ c e. IsTrue (comes_before c e)) coefs
 
--- an interval's ends are the right way round
-abbrev pub IsUpward : Bound → Type 0
-IsUpward (AtMost v) = Unit {0}
-IsUpward (AtLeast v) = Unit {0}
-IsUpward (Between v w) = v ≤ℤ w
-
--- limits of resources and periods that are there, strictly rising
+-- limits of resources and periods that are there, none turned, strictly rising
 pub record AreLimits (resources periods : ℕ) (limits : List Limit) : Type 0 where
-  pub in_range : All (λ l. (l.resource < resources) × (l.period < periods) × IsUpward l.bound) limits
-  pub rising : AllPairs (λ l m. IsTrue (stands_before l m)) limits
+  pub in_range : All (λ l. (l.resource < resources) × (l.period < periods) × (is_turned l.bound ≡ false)) limits
+  pub rising : RiseStrictly limits
 
 pub record IsValid (i : Instance) : Type 0 where
   pub lengths : HasLengths i

@@ -1,14 +1,14 @@
 //! Whether an instance is valid.
 
 ghost use Rattle.std.specs.Prelude.{◌≡◌, ◌≢◌, ◌<◌, ◌≤◌, ◌↔◌, length, All, AllPairs, IsTrue};
-ghost use Rattle.mine_instance.specs.Valid.{HasLengths, ArePredsOf, ArePreds, IsHorizon, HasDestinations, AreCoefs, AreLimits, IsUpward, IsValid};
+ghost use Rattle.mine_instance.specs.Valid.{HasLengths, ArePredsOf, ArePreds, IsHorizon, HasDestinations, AreCoefs, AreLimits, IsValid};
 ghost use Rattle.pit_model.specs.declared.ranges.TheConstants.{MAX_BLOCKS};
 
 use crate::coef::Coef;
 use crate::instance::Instance;
 use crate::rising::rises;
 use crate::values::Values;
-use pit_model::limit::{Bound, Limit};
+use pit_model::limit::Limit;
 use pit_model::ranges::{MAX_BLOCKS, MAX_DESTINATIONS, MAX_PERIODS, MAX_RATE, MAX_RESOURCES};
 use pit_units::Dec;
 use precedence::Preds;
@@ -130,15 +130,6 @@ fn are_limits(limits: &[Limit], resources: u8, periods: u8) -> bool
 {
     limits.iter().all(|limit| limit.resource < resources
         && limit.period < periods
-        && is_upward(&limit.bound))
+        && !limit.bound.is_turned())
         && rises(limits)
-}
-
-fn is_upward(bound: &Bound) -> bool
-    ensures { IsTrue result ↔ IsUpward bound.now }
-{
-    match bound {
-        Bound::Between(v, w) => v.millionths() <= w.millionths(),
-        _ => true,
-    }
 }

@@ -22,6 +22,10 @@ use Rattle.minelib_text.proofs.LineTold.{block_told, preds_told}
 use Rattle.minelib_text.proofs.SpelledBack.{block_back, preds_back}
 use Rattle.minelib_text.proofs.ValidBlocks.{block_line}
 use Rattle.minelib_text.proofs.ValidPreds.{preds_line}
+use Rattle.minelib_text.proofs.PrecBack.{draft_of}
+
+pub err_same : {B : Type 0} (f g : LineFault) → ◌≡◌ {A = Result B LineFault} (Err f) (Err g) → f ≡ g
+err_same f g e = cc
 
 -- files whose lines each state an item, where a rule reads the item of a number
 module _ {S A : Type 0} (Spells : ℕ → List ℕ → A → Type 0) (state : List A → S) (read : ℕ → List ℕ → Result A TextKind)
@@ -89,25 +93,19 @@ ArePredsIn n id line ids = IsPredsLine n id (fields_of line) ids
 abbrev asked_preds : ℕ → ℕ → List ℕ → List (Demand TextKind)
 asked_preds n id line = asked_of_preds n id (fields_of line)
 
-abbrev lists_of : ℕ → List (List ℕ) → PrecDraftView
-lists_of n lists = record { blocks = n; lists = lists }
-
 pub bad_preds : (n : ℕ) (text : List ℕ) (fault : LineFault) → preds_in n text ≡ Err fault
     → IsFirstBad (λ id line ids. IsPredsLine n id (fields_of line) ids) (λ id line. asked_of_preds n id (fields_of line)) (lines_in text) fault
     ⊎ LacksLines (λ id line ids. IsPredsLine n id (fields_of line) ids) n text fault
 bad_preds n text fault e =
     by (read_lines admit_preds (no_lists n) (lines_in text)) e
-    (find (ArePredsIn n) (lists_of n) (λ own line. preds_of n own (fields_of line)) admit_preds (λ items line. refl)
+    (find (ArePredsIn n) (draft_of n) (λ own line. preds_of n own (fields_of line)) admit_preds (λ items line. refl)
     (λ own line ids h. preds_line n own (fields_of line) ids h) (λ own line ids h. preds_back n own (fields_of line) ids h) (asked_preds n)
     (λ own line. preds_told n own (fields_of line)) [] [] (lines_in text) tt)
   where
     Here : Result PrecDraftView LineFault → Type 0
-    Here r = Found (ArePredsIn n) (lists_of n) (λ own line. preds_of n own (fields_of line)) admit_preds (λ items line. refl)
+    Here r = Found (ArePredsIn n) (draft_of n) (λ own line. preds_of n own (fields_of line)) admit_preds (λ items line. refl)
         (λ own line ids h. preds_line n own (fields_of line) ids h) (λ own line ids h. preds_back n own (fields_of line) ids h) (asked_preds n)
         (λ own line. preds_told n own (fields_of line)) (lines_in text) r
-
-    err_same : {B : Type 0} (f g : LineFault) → ◌≡◌ {A = Result B LineFault} (Err f) (Err g) → f ≡ g
-    err_same f g e = cc
 
     lacks : (items : List (List ℕ)) (t : Bool) → (length items == n) ≡ t → AreLines (ArePredsIn n) 0 (lines_in text) items
         → (if t then Ok items else Err (record { line = end_of text; kind = Missing })) ≡ Err fault
@@ -127,7 +125,7 @@ bad_preds n text fault e =
         → IsFirstBad (λ id line ids. IsPredsLine n id (fields_of line) ids) (λ id line. asked_of_preds n id (fields_of line)) (lines_in text) fault
         ⊎ LacksLines (λ id line ids. IsPredsLine n id (fields_of line) ids) n text fault
     by (Ok d) e h =
-        let finished : finish_preds (end_of text) (lists_of n h.items) ≡ Err fault = ap (finish_preds (end_of text)) (sym h.is) ∙ e in
+        let finished : finish_preds (end_of text) (draft_of n h.items) ≡ Err fault = ap (finish_preds (end_of text)) (sym h.is) ∙ e in
         inr (lacks h.items (length h.items == n) refl h.are finished)
     by (Err f) e h =
         inl (subst (λ (g : LineFault). IsFirstBad (λ id line ids. IsPredsLine n id (fields_of line) ids)

@@ -27,6 +27,7 @@ use Rattle.minelib_text.proofs.SpelledModelBack.{lines_then, lines_back, model_b
 use Rattle.minelib_text.proofs.SpelledModelRead.{lines_so_far, lines_spelled}
 use Rattle.minelib_text.proofs.ValidHeader.{IsSingle}
 use Rattle.minelib_text.proofs.ValidModel.{model_kept}
+use Rattle.minelib_text.proofs.FirstBadFacts.{err_same}
 
 -- where lines are refused
 record Stops (s : ModelDraftView) (lines : List Line) (fault : LineFault) : Type 0 where
@@ -40,9 +41,6 @@ record Stops (s : ModelDraftView) (lines : List Line) (fault : LineFault) : Type
   pub kind : TextKind
   pub refused : admit_model state bad.text ≡ Err kind
   pub same_kind : fault.kind ≡ kind
-
-err_same : {B : Type 0} (f g : LineFault) → ◌≡◌ {A = Result B LineFault} (Err f) (Err g) → f ≡ g
-err_same f g e = cc
 
 stops : (s : ModelDraftView) (lines : List Line) (fault : LineFault) → read_lines admit_model s lines ≡ Err fault → Stops s lines fault
 stops s [] fault e = absurd cc

@@ -1,11 +1,12 @@
 -- The lines of a header, one for each key: what an admitted line adds to those before it.
-use Rattle.std.specs.Prelude.{◌≡◌, ◌≢◌, ℕ, ◌≤◌, ◌==◌, ◌⊎◌, Bool, true, false, not, List, [], ◌∷◌, ◌++◌, length, pos, is_some, All}
+use Rattle.std.specs.Prelude.{◌≡◌, ◌≢◌, ℕ, ◌+◌, ◌≤◌, ◌==◌, ◌⊎◌, Bool, true, false, not, List, [], ◌∷◌, ◌++◌, length, pos, is_some, All}
 use Rattle.std.specs.List.{Contains}
 use Rattle.std.proofs.Common.{refl, sym, ap, subst, arith, inl, inr}
 use Rattle.std.proofs.lemmas.Bool.Decides.{nat_tests}
 use Rattle.std.proofs.lemmas.List.Elements.{Contains-push, Contains-append_left}
 use Rattle.std.proofs.lemmas.List.Quantifiers.{all_pairs_push}
 use Rattle.pit_model.specs.Name.{is_name}
+use Rattle.pit_model.specs.declared.ranges.TheConstants.{MAX_DESTINATIONS, MAX_PERIODS, MAX_RESOURCES}
 use Rattle.minelib_text.specs.ModelLines.{ModelDraftView, blank_header, count_in, is_given, name_with}
 use Rattle.minelib_text.specs.ModelSoFar.{SaysKey, Stated, KeyLine, Heads}
 use Rattle.minelib_text.specs.SpelledFields.{StatesWhole}
@@ -131,10 +132,10 @@ model_stated problem n key.Type value d s = s
 model_stated problem n key.Blocks value d s = s
 model_stated problem n key.General value d s = s
 model_stated problem n key.Periods value d s =
-    subst (λ p. StatesWhole 101 value p × (1 ≤ p)) (sym (ap count_in s.1)) (s.2, s.3)
+    subst (λ p. StatesWhole (MAX_PERIODS + 1) value p × (1 ≤ p)) (sym (ap count_in s.1)) (s.2, s.3)
 model_stated problem n key.Destinations value d s =
-    subst (λ p. StatesWhole 9 value p × (1 ≤ p)) (sym (ap count_in s.1)) (s.2, s.3)
-model_stated problem n key.Resources value d s = subst (StatesWhole 9 value) (sym (ap count_in s.1)) s.2
+    subst (λ p. StatesWhole (MAX_DESTINATIONS + 1) value p × (1 ≤ p)) (sym (ap count_in s.1)) (s.2, s.3)
+model_stated problem n key.Resources value d s = subst (StatesWhole (MAX_RESOURCES + 1) value) (sym (ap count_in s.1)) s.2
 model_stated problem n key.Rate value d s = (s.0, ap (λ r. pos (count_in r)) s.1, s.2)
 
 -- the lines of a header that lacks no key

@@ -1,17 +1,17 @@
 -- How the lines that are read spell values, coefficients and limits.
-use Rattle.std.specs.Prelude.{◌≡◌, ℕ, ◌+◌, ◌==◌, Bool, true, false, not, List, [], ◌∷◌, length, ℤ, Result, Ok, Err, if◌then◌else◌, codes, int_le, ◌≤ℤ◌}
+use Rattle.std.specs.Prelude.{◌≡◌, ℕ, ◌+◌, ◌==◌, Bool, true, false, not, List, [], ◌∷◌, length, ℤ, Result, Ok, Err, if◌then◌else◌, codes}
 use Rattle.std.specs.List.{AllZip}
 use Rattle.std.specs.Str.{bytes_eq}
-use Rattle.std.proofs.Common.{refl, sym, ◌∙◌, ap, subst, arith, rules}
-use Rattle.std.proofs.lemmas.Bool.{eqb-true}
+use Rattle.std.proofs.Common.{refl, sym, ◌∙◌, ap, subst, arith}
+use Rattle.std.proofs.lemmas.Bool.{eqb-true, not-false}
 use Rattle.std.proofs.lemmas.Slice.Eq.{bytes_eq-Decides}
+use Rattle.std.proofs.lemmas.Slice.Zip.{AllZip-long}
 use Rattle.pit_units.specs.Decimal.{StandsFor}
 use Rattle.pit_model.specs.Steps.{◌>>=◌}
-use Rattle.pit_model.specs.Planned.{is_turned}
+use Rattle.pit_model.specs.Plan.{is_turned}
 use Rattle.pit_model.specs.declared.limit.Bound.{Bound}
 use Rattle.pit_model.specs.declared.limit.Bound.TheVariants.{AtMost, AtLeast, Between}
 use Rattle.pit_model.specs.declared.limit.Limit.{Limit}
-use Rattle.mine_instance.specs.Valid.{IsUpward}
 use Rattle.mine_instance.specs.declared.coef.Coef.{Coef}
 use Rattle.minelib_text.specs.FieldValues.{first_by, all_by, whole_in, decimal_in}
 use Rattle.minelib_text.specs.ModelLines.{values_of, coef_of, limit_of, limit_width, bound_in, interval_in}
@@ -21,7 +21,7 @@ use Rattle.minelib_text.specs.declared.model_key.Problem.{Problem}
 use Rattle.minelib_text.specs.declared.model_key.Problem.TheVariants.{Pcpsp, Cpit}
 use Rattle.minelib_text.specs.declared.text_fault.TextKind.{TextKind}
 use Rattle.minelib_text.specs.declared.text_fault.TextKind.TheVariants.{Fields, Order, Name}
-use Rattle.minelib_text.proofs.ReadSteps.{bind_then, guard_then, first_then, not_false, same_ok, none_behind, counted, all_ok, as_many, whole_in_ok, decimal_in_ok}
+use Rattle.minelib_text.proofs.ReadSteps.{bind_then, guard_then, first_then, same_ok, none_behind, counted, all_ok, whole_in_ok, decimal_in_ok}
 
 all_stand : (fields : List (List ℕ)) (values : List ℤ) → AllZip (λ field v. decimal_in field ≡ Ok v) fields values
     → AllZip (StandsFor 6) fields values
@@ -44,9 +44,9 @@ values_line n destinations before fields values e =
       b = b;
       each = rest;
       here = here;
-      states_block = subst (StatesWhole n b) (eqb-true block before (not_false (block == before) next)) (whole_in_ok n b block s1);
+      states_block = subst (StatesWhole n b) (eqb-true block before (not-false (block == before) next)) (whole_in_ok n b block s1);
       states_each = zip;
-      one_each = omega (arith, counted (destinations + 1) fields width, ap length here, as_many (StandsFor 6) rest values zip);
+      one_each = omega (arith, counted (destinations + 1) fields width, ap length here, AllZip-long (StandsFor 6) rest values zip);
     }))))
 
 pub coef_line : (problem : Problem) (n destinations resources : ℕ) (fields : List (List ℕ)) (c : Coef)
@@ -155,14 +155,6 @@ bound_behind r t (letter ∷ fields) all bound e here width =
     two_less true h = omega arith
     two_less false h = omega arith
 
-not_turned : (bound : Bound) → is_turned bound ≡ false → IsUpward bound
-not_turned (AtMost v) e = tt
-not_turned (AtLeast v) e = tt
-not_turned (Between v w) e = upward v w (not_false (int_le v w) e)
-  where
-    upward : (v w : ℤ) → int_le v w ≡ true → v ≤ℤ w
-    upward v w h = search rules
-
 pub limit_line : (resources periods : ℕ) (fields : List (List ℕ)) (l : Limit) → limit_of resources periods fields ≡ Ok l → is_turned l.bound ≡ false
     → IsLimitLine resources periods fields l
 limit_line resources periods fields l e straight =
@@ -181,5 +173,5 @@ limit_line resources periods fields l e straight =
       states_period = subst (StatesWhole periods t) (ap (λ m. m.period) same) (whole_in_ok periods t period s2);
       states_bound = subst (StatesBound f2) (ap (λ m. m.bound) same)
           (bound_behind r t f2 fields bound s3 here (counted (limit_width fields) fields width));
-      upward = not_turned l.bound straight;
+      straight = straight;
     }))))

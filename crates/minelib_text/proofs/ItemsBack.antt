@@ -1,14 +1,11 @@
 -- The items of a model file's sections are read as they are written.
-use Rattle.std.proofs.Common.{◌≡◌, ℕ, ◌+◌, ◌<◌, ◌≤◌, false, List, [], ◌∷◌, length, ℤ, arith, refl, ap, eq-eqb}
+use Rattle.std.proofs.Common.{◌≡◌, ℕ, ◌+◌, ◌<◌, ◌≤◌, List, [], ◌∷◌, length, ℤ, arith, refl, ap, eq-eqb}
 use Rattle.std.specs.Prelude.{decimal, Ok, All}
 use Rattle.std.proofs.lemmas.List.{length-map}
-use Rattle.pit_model.specs.Planned.{is_turned}
 use Rattle.pit_model.specs.declared.limit.Bound.{Bound}
 use Rattle.pit_model.specs.declared.limit.Bound.TheVariants.{AtMost, AtLeast, Between}
 use Rattle.pit_model.specs.declared.limit.Limit.{Limit}
 use Rattle.pit_units.specs.Decimal.{shortest}
-use Rattle.mine_instance.proofs.GreatestFacts.{int_le-true}
-use Rattle.mine_instance.specs.Valid.{IsUpward}
 use Rattle.mine_instance.specs.declared.coef.Coef.{Coef}
 use Rattle.minelib_text.specs.FieldValues.{decimal_in}
 use Rattle.minelib_text.specs.Kept.{IsDecimal, HasDecimals}
@@ -94,9 +91,3 @@ pub limits_fields : (n resources periods : ℕ) (l : Limit) → resources ≤ 8 
     → HasDecimals l.bound → AreFields (limit_fields n l)
 limits_fields n resources periods l few short in_resources in_periods h =
     record { some = omega arith; each = (whole_field l.resource (omega arith), (whole_field l.period (omega arith), bounds_fields l.bound h)) }
-
--- an interval whose ends are the right way round is not turned
-pub not_turned : (bound : Bound) → IsUpward bound → is_turned bound ≡ false
-not_turned (AtMost v) h = refl
-not_turned (AtLeast v) h = refl
-not_turned (Between v w) h = rw (int_le-true v w h) refl

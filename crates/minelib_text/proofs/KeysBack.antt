@@ -11,6 +11,7 @@ use Rattle.pit_units.specs.Decimal.{shortest}
 use Rattle.mine_instance.specs.Valid.{IsHorizon}
 use Rattle.mine_instance.specs.declared.coef.Coef.{Coef}
 use Rattle.pit_model.specs.declared.limit.Limit.{Limit}
+use Rattle.pit_model.specs.declared.ranges.TheConstants.{MAX_BLOCKS, MAX_DESTINATIONS, MAX_PERIODS, MAX_RESOURCES}
 use Rattle.minelib_text.specs.FieldValues.{whole_in}
 use Rattle.minelib_text.specs.ModelLines.{ModelDraftView, is_colon, key_in, type_text, is_next, is_ready, is_given, header_with, name_with, admit_key, admit_model, blank_model}
 use Rattle.minelib_text.specs.TextLines.{fields_of}
@@ -130,13 +131,13 @@ pub blocks_step : (p : Problem) (n : ℕ) (h : Header) (name : List ℕ) → n �
     → IsStep (heading p n name h) (key_line (codes "NBLOCKS:") (decimal n)) (heading p n name (record h { is_counted = true }))
 blocks_step p n h name few fresh =
     header_step p n name (codes "NBLOCKS") (decimal n) key.Blocks h _ (word_field _ _ refl) (whole_field n (omega arith))
-    (in_all p _ _ refl refl) fresh (rw (whole_again 64000001 n (omega arith) (omega arith), eq-eqb n n refl) refl)
+    (in_all p _ _ refl refl) fresh (rw (whole_again (MAX_BLOCKS + 1) n (omega arith) (omega arith), eq-eqb n n refl) refl)
 
 pub periods_step : (p : Problem) (n : ℕ) (h : Header) (name : List ℕ) (periods : ℕ) → (1 ≤ periods) × (periods ≤ 100) → is_some h.periods ≡ false
     → IsStep (heading p n name h) (key_line (codes "NPERIODS:") (decimal periods)) (heading p n name (record h { periods = Some periods }))
 periods_step p n h name periods within fresh =
     header_step p n name (codes "NPERIODS") (decimal periods) key.Periods h _ (word_field _ _ refl) (whole_field periods (omega arith))
-    (in_all p _ _ refl refl) fresh (rw (whole_again 101 periods (omega arith) (omega arith), ne_eqb periods 0 (λ e. omega arith)) refl)
+    (in_all p _ _ refl refl) fresh (rw (whole_again (MAX_PERIODS + 1) periods (omega arith) (omega arith), ne_eqb periods 0 (λ e. omega arith)) refl)
 
 pub destinations_step : (n : ℕ) (h : Header) (name : List ℕ) (destinations : ℕ) → (1 ≤ destinations) × (destinations ≤ 8)
     → is_some h.destinations ≡ false → IsStep (heading Pcpsp n name h) (key_line (codes "NDESTINATIONS:") (decimal destinations))
@@ -144,14 +145,14 @@ pub destinations_step : (n : ℕ) (h : Header) (name : List ℕ) (destinations :
 destinations_step n h name destinations within fresh =
     header_step Pcpsp n name (codes "NDESTINATIONS") (decimal destinations) key.Destinations h _ (word_field _ _ refl)
     (whole_field destinations (omega arith)) refl fresh
-    (rw (whole_again 9 destinations (omega arith) (omega arith), ne_eqb destinations 0 (λ e. omega arith)) refl)
+    (rw (whole_again (MAX_DESTINATIONS + 1) destinations (omega arith) (omega arith), ne_eqb destinations 0 (λ e. omega arith)) refl)
 
 pub resources_step : (p : Problem) (n : ℕ) (h : Header) (name : List ℕ) (resources : ℕ) → resources ≤ 8 → is_some h.resources ≡ false
     → IsStep (heading p n name h) (key_line (codes "NRESOURCE_SIDE_CONSTRAINTS:") (decimal resources))
     (heading p n name (record h { resources = Some resources }))
 resources_step p n h name resources few fresh =
     header_step p n name (codes "NRESOURCE_SIDE_CONSTRAINTS") (decimal resources) key.Resources h _ (word_field _ _ refl)
-    (whole_field resources (omega arith)) (in_all p _ _ refl refl) fresh (rw (whole_again 9 resources (omega arith) (omega arith)) refl)
+    (whole_field resources (omega arith)) (in_all p _ _ refl refl) fresh (rw (whole_again (MAX_RESOURCES + 1) resources (omega arith) (omega arith)) refl)
 
 zero_read : whole_in 1 (codes "0") ≡ Ok 0
 zero_read = subst (λ text. whole_in 1 text ≡ Ok 0) (decimal_digit 0 (omega arith)) (whole_again 1 0 (omega arith) (omega arith))

@@ -1,17 +1,18 @@
 -- The fault of a line of a block or precedence file is the first thing asked of it that does not hold.
-use Rattle.std.specs.Prelude.{◌≡◌, ℕ, ◌/◌, ◌^◌, ◌<◌, ◌≤◌, ◌==◌, ◌||◌, nat_lt, not, Bool, true, false, List, [], ◌∷◌, ◌++◌, length, drop, ℤ, pos, negsuc, Some, Result, Ok, Err, if◌then◌else◌, All}
+use Rattle.std.specs.Prelude.{◌≡◌, ℕ, ◌/◌, ◌^◌, ◌<◌, ◌≤◌, ◌==◌, ◌||◌, nat_lt, not, Bool, true, false, List, [], ◌∷◌, ◌++◌, length, ℤ, pos, negsuc, Some, Result, Ok, Err, if◌then◌else◌, All}
 use Rattle.std.specs.List.{AllZip}
 use Rattle.std.proofs.Common.{refl, sym, ◌∙◌, subst, arith, inl, inr, append-nil, append_assoc, eq-eqb, ltb-true, ltb-false}
-use Rattle.std.proofs.lemmas.Bool.{eqb-true, or_parts}
+use Rattle.std.proofs.lemmas.Bool.{eqb-true, or_parts, not-false}
 use Rattle.std.proofs.lemmas.List.Elements.{All-nil, All-cons}
-use Rattle.pit_units.proofs.Standing.{number_parts, read_stands, spelled_number, spelled_too_fine}
-use Rattle.pit_units.specs.Decimal.{StandsFor, decimal_of, is_number, all_zeros, fraction_of, whole_of}
+use Rattle.std.proofs.lemmas.Slice.Zip.{AllZip-long}
+use Rattle.pit_units.proofs.Standing.{read_stands, spelled_number, spelled_too_fine}
+use Rattle.pit_units.specs.Decimal.{StandsFor, decimal_of}
 use Rattle.pit_units.specs.declared.fault.DecFault.{DecFault}
 use Rattle.pit_units.specs.declared.fault.DecFault.TheVariants as dec
+use Rattle.pit_model.proofs.DecimalFaults.{too_fine_decimal, out_of_range_fine, fine_decimal, stands_fine}
 use Rattle.pit_model.proofs.DemandFacts.{Follows, behind, bound, weaker, guarded, fails_before}
-use Rattle.pit_model.specs.Demands.{Demand, demand, AreMet, FailsFirst}
+use Rattle.pit_model.specs.Demands.{Demand, demand}
 use Rattle.pit_model.specs.Steps.{◌>>=◌}
-use Rattle.pit_model.specs.PlanDemands.{IsDecimal, IsFine}
 use Rattle.pit_model.specs.declared.block.Block.{Block}
 use Rattle.mine_instance.specs.Valid.{ArePredsOf}
 use Rattle.minelib_text.specs.BlockLines.{block_of, block_with, in_range}
@@ -23,37 +24,9 @@ use Rattle.minelib_text.specs.declared.text_fault.TextKind.{TextKind}
 use Rattle.minelib_text.specs.declared.text_fault.TextKind.TheVariants.{Fields, Range, Order, Count, Twice}
 use Rattle.minelib_text.proofs.BlocksBack.{with_again}
 use Rattle.minelib_text.proofs.PrecBack.{stands_not, differ_again}
-use Rattle.minelib_text.proofs.ReadSteps.{as_many, not_false, size_in_ok, whole_in_ok}
+use Rattle.minelib_text.proofs.ReadSteps.{size_in_ok, whole_in_ok}
 use Rattle.minelib_text.proofs.SpelledBack.{size_back, whole_back}
 use Rattle.minelib_text.proofs.ValidPreds.{others_differ, pairs_differ}
-
-pick_fine : (number fine large : Bool) (found : ℤ) → (if not number then Err dec.Number else (if not fine then Err dec.TooFine else (if large then Err dec.Range else Ok found))) ≡ Err dec.TooFine → number ≡ true
-pick_fine true fine large found e = refl
-pick_fine false fine large found e = absurd cc
-
-pick_range : (number fine large : Bool) (found : ℤ) → (if not number then Err dec.Number else (if not fine then Err dec.TooFine else (if large then Err dec.Range else Ok found))) ≡ Err dec.Range → (number ≡ true) × (fine ≡ true)
-pick_range true true large found e = (refl, refl)
-pick_range true false large found e = absurd cc
-pick_range false fine large found e = absurd cc
-
-too_fine_decimal : (decimals : ℕ) (field : List ℕ) → decimal_of decimals field ≡ Err dec.TooFine → IsDecimal field
-unfolding decimal_of
-too_fine_decimal decimals field e =
-    let p = number_parts field (pick_fine (is_number field) (all_zeros (drop decimals (fraction_of field))) _ _ e) in
-    (p.sign, whole_of field, p.tail, fraction_of field, p.spelled)
-
-out_of_range_fine : (decimals : ℕ) (field : List ℕ) → decimal_of decimals field ≡ Err dec.Range → IsFine decimals field
-unfolding decimal_of
-out_of_range_fine decimals field e =
-    let h = pick_range (is_number field) (all_zeros (drop decimals (fraction_of field))) _ _ e in
-    let p = number_parts field h.0 in
-    (p.sign, whole_of field, p.tail, fraction_of field, p.spelled, h.1)
-
-fine_decimal : (decimals : ℕ) (field : List ℕ) → IsFine decimals field → IsDecimal field
-fine_decimal decimals field f = (f.0, f.1, f.2, f.3, f.4)
-
-stands_fine : (decimals : ℕ) (field : List ℕ) (m : ℤ) → StandsFor decimals field m → IsFine decimals field
-stands_fine decimals field m s = (s.sign, s.whole, s.tail, s.fraction, s.spelled, s.fine)
 
 -- a decimal, and then a test of its range
 pub number_told : {B : Type 0} (decimals : ℕ) (field : List ℕ) (f : ℤ → Result B TextKind) (Says : B → Type 0) → decimals ≤ 6
@@ -155,7 +128,7 @@ test_told limit field n wanted s t h =
     absurd (cc)
 
 pub tested : (limit : ℕ) (field : List ℕ) (n wanted : ℕ) → StatesWhole limit field n → not (n == wanted) ≡ false → StatesWhole limit field wanted
-tested limit field n wanted s t = subst (StatesWhole limit field) (eqb-true n wanted (not_false (n == wanted) t)) s
+tested limit field n wanted s t = subst (StatesWhole limit field) (eqb-true n wanted (not-false (n == wanted) t)) s
 
 -- the block of numbers that are in range
 made : (x y z tonnes grade zone : ℕ) → x < 10000 → y < 10000 → z < 10000 → tonnes ≤ 10 ^ 12 → grade ≤ 10 ^ 12 → zone < 64
@@ -286,7 +259,7 @@ with_told n own id count others k m ids is_k is_m are =
     ))
   where
     same : length others ≡ length ids
-    same = as_many (StatesWhole n) others ids are
+    same = sym (AllZip-long (StatesWhole n) others ids are)
 
     refuted : (stands_in ids own || not (all_differ ids)) ≡ true → ¬ ((ids : List ℕ) → AllZip (StatesWhole n) others ids → ArePredsOf own n ids)
     refuted t h =
@@ -303,7 +276,7 @@ with_told n own id count others k m ids is_k is_m are =
     kept tests too h = subst (ArePredsOf own n) (one_list n others ids too are h) (record {
       below = all_below n others ids are;
       others = others_differ own ids tests.0;
-      distinct = pairs_differ ids (not_false (all_differ ids) tests.1);
+      distinct = pairs_differ ids (not-false (all_differ ids) tests.1);
     })
 
 pub preds_told : (n own : ℕ) (fields : List (List ℕ)) → Follows (preds_of n own fields) (asked_of_preds n own fields) (λ ids. Unit {0})

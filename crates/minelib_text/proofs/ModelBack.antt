@@ -1,11 +1,11 @@
 -- A model file is read as it is written.
-use Rattle.std.proofs.Common.{◌≡◌, ℕ, ◌<◌, ◌≤◌, true, List, [], ◌++◌, length, ℤ, arith, refl, ◌∙◌, eq-eqb, ne_eqb}
+use Rattle.std.proofs.Common.{◌≡◌, ℕ, ◌<◌, ◌≤◌, true, false, List, [], ◌++◌, length, ℤ, arith, refl, ◌∙◌, eq-eqb, ne_eqb}
 use Rattle.std.specs.Prelude.{Ok, codes, All}
 use Rattle.pit_model.specs.Name.{is_name}
-use Rattle.pit_model.specs.Plan.{stands_before}
+use Rattle.pit_model.specs.Plan.{stands_before, is_turned}
 use Rattle.pit_model.specs.declared.limit.Limit.{Limit}
 use Rattle.mine_instance.specs.Order.{comes_before}
-use Rattle.mine_instance.specs.Valid.{AreCoefs, AreLimits, IsUpward}
+use Rattle.mine_instance.specs.Valid.{AreCoefs, AreLimits}
 use Rattle.mine_instance.specs.declared.coef.Coef.{Coef}
 use Rattle.minelib_text.specs.Kept.{IsDecimal, HasDecimals}
 use Rattle.minelib_text.specs.Lines.{text_of, line_of, lines_from}
@@ -13,7 +13,7 @@ use Rattle.minelib_text.specs.ModelLines.{ModelDraftView, is_complete, admit_ite
 use Rattle.minelib_text.specs.Written.{value_fields, limit_fields, section_lines}
 use Rattle.minelib_text.specs.declared.model_key.Problem.{Problem}
 use Rattle.minelib_text.specs.declared.model_key.Section.TheVariants.{Objective, Coefs, Limits}
-use Rattle.minelib_text.proofs.ItemsBack.{values_again, values_fields, coef_text, IsCount, coef_again, coefs_fields, limit_again, limits_fields, not_turned}
+use Rattle.minelib_text.proofs.ItemsBack.{values_again, values_fields, coef_text, IsCount, coef_again, coefs_fields, limit_again, limits_fields}
 use Rattle.minelib_text.proofs.KeysBack.{AreSteps, and_lines, then_lines, draft, heading, full_header, in_all, section_step, word_field}
 use Rattle.minelib_text.proofs.LinesBack.{AdmitsEach, items_admitted, text_read}
 use Rattle.minelib_text.proofs.NumbersBack.{name_field}
@@ -74,7 +74,7 @@ module _ (p : Problem) (n : ℕ) (name : List ℕ) (periods destinations resourc
   each_limit : AdmitsEach admit_model limit_fields
       (λ done. draft p n name (full_header periods destinations resources rate) Limits values coefs done) limits
   each_limit done l rest whole =
-      let range = item_there limits done l rest whole (λ l. (l.resource < resources) × (l.period < periods) × IsUpward l.bound)
+      let range = item_there limits done l rest whole (λ l. (l.resource < resources) × (l.period < periods) × (is_turned l.bound ≡ false))
       m.are_limits.in_range in
       let kept = item_there limits done l rest whole (λ l. HasDecimals l.bound) m.limits_kept in
       let fields = limits_fields (length done) resources periods l m.small m.short range.0 range.1 kept in (
@@ -82,7 +82,7 @@ module _ (p : Problem) (n : ℕ) (name : List ℕ) (periods destinations resourc
         item_line _ _ fields
             ∙ rw (
               limit_again resources periods l.resource l.period l.bound m.small m.short range.0 range.1 kept,
-              not_turned l.bound range.2,
+              range.2,
               behind_last stands_before limits done l rest whole m.are_limits.rising,
             ) refl,
       )

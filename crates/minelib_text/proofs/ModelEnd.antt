@@ -1,7 +1,7 @@
 -- What a model file that lacks nothing has.
 use Rattle.std.specs.Prelude.{◌≡◌, ℕ, ◌==◌, ◌&&◌, true, false, not, List, length, is_some, Ok}
 use Rattle.std.proofs.Common.{ap, subst}
-use Rattle.std.proofs.lemmas.Bool.{and_parts, eqb-true}
+use Rattle.std.proofs.lemmas.Bool.{and_parts, eqb-true, not-true}
 use Rattle.minelib_text.specs.ModelLines.{ModelDraftView, blank_model, is_complete, is_given, is_limits, admit_model, finish_model, model_in}
 use Rattle.minelib_text.specs.Reading.{read_lines}
 use Rattle.minelib_text.specs.TextLines.{lines_in, end_of}
@@ -10,7 +10,7 @@ use Rattle.minelib_text.specs.declared.model_key.HeaderKey.{HeaderKey}
 use Rattle.minelib_text.specs.declared.model_key.HeaderKey.TheVariants as key
 use Rattle.minelib_text.specs.declared.model_key.Problem.{Problem}
 use Rattle.minelib_text.specs.declared.text_fault.TextKind.TheVariants.{Missing}
-use Rattle.minelib_text.proofs.ReadSteps.{bind_then, then_ok, not_true, same_ok}
+use Rattle.minelib_text.proofs.ReadSteps.{bind_then, then_ok, same_ok}
 
 -- what a header with all keys has
 pub record IsComplete (name : List ℕ) (h : Header) : Type 0 where
@@ -33,7 +33,7 @@ complete_ok name h e =
     let p2 = and_parts _ h.is_counted p3.0 in
     let p1 = and_parts (not (length name == 0)) h.is_typed p2.0 in
     record {
-      named = not_true (length name == 0) p1.0;
+      named = not-true (length name == 0) p1.0;
       typed = p1.1;
       counted = p2.1;
       general = p3.1;

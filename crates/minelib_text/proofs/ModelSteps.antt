@@ -2,9 +2,9 @@
 use Rattle.std.specs.Prelude.{◌≡◌, ℕ, ◌==◌, ◌||◌, Bool, true, false, not, List, [], ◌∷◌, ◌++◌, length, ℤ, Option, Some, None, Ok, if◌then◌else◌}
 use Rattle.std.specs.List.{list_any, before_first, after_first}
 use Rattle.std.proofs.Common.{refl, ap, arith}
-use Rattle.std.proofs.lemmas.Bool.{or_parts}
+use Rattle.std.proofs.lemmas.Bool.{or_parts, not-false}
 use Rattle.pit_model.specs.Plan.{stands_before}
-use Rattle.pit_model.specs.Planned.{is_turned}
+use Rattle.pit_model.specs.Plan.{is_turned}
 use Rattle.pit_model.specs.declared.limit.Limit.{Limit}
 use Rattle.mine_instance.specs.Order.{comes_before}
 use Rattle.mine_instance.specs.declared.coef.Coef.{Coef}
@@ -21,7 +21,7 @@ use Rattle.minelib_text.specs.declared.model_key.Section.TheVariants.{Heading, O
 use Rattle.minelib_text.specs.declared.text_fault.TextKind.TheVariants.{Fields, Order, Twice, Key, Missing}
 use Rattle.minelib_text.proofs.ItemSteps.{values_line, coef_line, limit_line}
 use Rattle.minelib_text.proofs.KeySteps.{Sets, key_sets}
-use Rattle.minelib_text.proofs.ReadSteps.{bind_then, guard_then, then_ok, not_false, same_ok, counted}
+use Rattle.minelib_text.proofs.ReadSteps.{bind_then, guard_then, then_ok, same_ok, counted}
 
 -- a line of a header key
 pub record SetsKey (d : ModelDraftView) (line : List ℕ) (next : ModelDraftView) : Type 0 where
@@ -99,7 +99,7 @@ key_step d line next (Some (model_key.Header k)) colon is e =
       key = k;
       value = value;
       spelled = record { colon = colon; key_is = is; values_are = only_ok values value only };
-      heading = not_false (is_heading d.section) heading;
+      heading = not-false (is_heading d.section) heading;
       new = new;
       header = header;
       sets = key_sets d.problem d.blocks k value d.header header says;
@@ -113,8 +113,8 @@ key_step d line next (Some (model_key.Section section)) colon is e =
     Begun (record {
       section = section;
       spelled = record { colon = colon; key_is = is; values_are = empty values none };
-      follows = not_false (is_next d.section section) follows;
-      ready = not_false (is_ready d d.section) ready;
+      follows = not-false (is_next d.section section) follows;
+      ready = not-false (is_ready d d.section) ready;
       is = same_ok _ next e3;
     }))))
 
@@ -150,7 +150,7 @@ item_step d line next Limits keyless here e =
       keyless = keyless;
       limit = l;
       spelled = limit_line (count_in d.header.resources) (count_in d.header.periods) (fields_of line) l says parts.0;
-      behind = not_false (is_behind stands_before (last_of d.limits) l) parts.1;
+      behind = not-false (is_behind stands_before (last_of d.limits) l) parts.1;
       is = same_ok _ next e2;
     })))
 

@@ -3,18 +3,20 @@ use Rattle.std.specs.Prelude.{◌≡◌, ℕ, ◌+◌, ◌^◌, ◌≤◌, ◌==
 use Rattle.std.specs.List.{list_any, before_first, after_first}
 use Rattle.std.specs.Str.{bytes_eq}
 use Rattle.std.proofs.Common.{refl, sym, ◌∙◌, ap, subst, arith, inl, inr, eq-eqb}
-use Rattle.std.proofs.lemmas.Bool.{eqb-true, or_parts}
+use Rattle.std.proofs.lemmas.Bool.{eqb-true, or_parts, not-false}
 use Rattle.std.proofs.lemmas.Slice.Eq.{bytes_eq-Decides}
 use Rattle.pit_units.specs.Decimal.{StandsFor, decimal_of}
+use Rattle.pit_model.proofs.PlanNames.{bytes_same}
 use Rattle.pit_model.proofs.DemandFacts.{Follows, fails_before, behind, bound, guarded}
 use Rattle.pit_model.specs.Demands.{Demand, demand}
 use Rattle.pit_model.specs.Steps.{◌>>=◌}
 use Rattle.pit_model.specs.Name.{is_name}
 use Rattle.pit_model.specs.Plan.{stands_before}
-use Rattle.pit_model.specs.Planned.{is_turned}
+use Rattle.pit_model.specs.Plan.{is_turned}
 use Rattle.pit_model.specs.declared.limit.Bound.{Bound}
 use Rattle.pit_model.specs.declared.limit.Bound.TheVariants.{AtMost, AtLeast}
 use Rattle.pit_model.specs.declared.limit.Limit.{Limit}
+use Rattle.pit_model.specs.declared.ranges.TheConstants.{MAX_BLOCKS, MAX_DESTINATIONS, MAX_PERIODS, MAX_RESOURCES}
 use Rattle.mine_instance.specs.Order.{comes_before}
 use Rattle.mine_instance.specs.declared.coef.Coef.{Coef}
 use Rattle.minelib_text.specs.FieldValues.{stated, whole_below, whole_in, size_in, decimal_in, first_by, all_by}
@@ -36,10 +38,9 @@ use Rattle.minelib_text.specs.declared.model_key.Section.TheVariants.{Heading, O
 use Rattle.minelib_text.specs.declared.text_fault.TextKind.{TextKind}
 use Rattle.minelib_text.specs.declared.text_fault.TextKind.TheVariants as fault
 use Rattle.minelib_text.proofs.ItemSteps.{coef_line, limit_line}
-use Rattle.minelib_text.proofs.ItemsBack.{not_turned}
 use Rattle.minelib_text.proofs.KeySteps.{counted_ok}
 use Rattle.minelib_text.proofs.LineTold.{number_told, below_ranged, whole_told, size_told, first_told, test_told, tested, one_whole}
-use Rattle.minelib_text.proofs.ReadSteps.{not_false, decimal_in_ok}
+use Rattle.minelib_text.proofs.ReadSteps.{decimal_in_ok}
 use Rattle.minelib_text.proofs.SpelledItemsBack.{decimal_back, coef_back, limit_back}
 use Rattle.minelib_text.proofs.SpelledModelBack.{counted_back}
 
@@ -117,13 +118,13 @@ value_told d key.Type value =
     (λ t. (bytes_eq-Decides value (type_text d.problem)).0 t)
     (λ t h. (let is = (bytes_eq-Decides value (type_text d.problem)).1 h in absurd cc))
 value_told d key.Blocks value =
-    bound (whole_in 64000001 value) _ (whole 64000001 value) _ (StatesWhole 64000001 value) (λ h. Unit {0}) (whole_told 64000001 value) (λ n is.
-    passed (n == d.blocks) fault.Count (StatesWhole 64000001 value d.blocks) (record d.header { is_counted = true })
-    (λ t. subst (StatesWhole 64000001 value) (eqb-true n d.blocks t) is)
-    (λ t h. (let same : (n == d.blocks) ≡ true = eq-eqb n d.blocks (one_whole 64000001 value n d.blocks is h) in absurd cc)))
-value_told d key.Periods value = mapped (counted_in 101 value) _ (counted 101 value) _ (counted_told 101 value)
-value_told d key.Destinations value = mapped (counted_in 9 value) _ (counted 9 value) _ (counted_told 9 value)
-value_told d key.Resources value = mapped (whole_in 9 value) _ (whole 9 value) _ (whole_told 9 value)
+    bound (whole_in (MAX_BLOCKS + 1) value) _ (whole (MAX_BLOCKS + 1) value) _ (StatesWhole (MAX_BLOCKS + 1) value) (λ h. Unit {0}) (whole_told (MAX_BLOCKS + 1) value) (λ n is.
+    passed (n == d.blocks) fault.Count (StatesWhole (MAX_BLOCKS + 1) value d.blocks) (record d.header { is_counted = true })
+    (λ t. subst (StatesWhole (MAX_BLOCKS + 1) value) (eqb-true n d.blocks t) is)
+    (λ t h. (let same : (n == d.blocks) ≡ true = eq-eqb n d.blocks (one_whole (MAX_BLOCKS + 1) value n d.blocks is h) in absurd cc)))
+value_told d key.Periods value = mapped (counted_in (MAX_PERIODS + 1) value) _ (counted (MAX_PERIODS + 1) value) _ (counted_told (MAX_PERIODS + 1) value)
+value_told d key.Destinations value = mapped (counted_in (MAX_DESTINATIONS + 1) value) _ (counted (MAX_DESTINATIONS + 1) value) _ (counted_told (MAX_DESTINATIONS + 1) value)
+value_told d key.Resources value = mapped (whole_in (MAX_RESOURCES + 1) value) _ (whole (MAX_RESOURCES + 1) value) _ (whole_told (MAX_RESOURCES + 1) value)
 value_told d key.General value = mapped (whole_in 1 value) _ (whole 1 value) _ (whole_told 1 value)
 value_told d key.Rate value = mapped (size_in 6 (10 ^ 6) value) _ (size 6 (10 ^ 6) value) _ (size_told 6 (10 ^ 6) value (omega arith))
 
@@ -144,24 +145,24 @@ some_values (v ∷ values) t h = absurd cc
 no_values : (values : List (List ℕ)) → not (length values == 0) ≡ false → values ≡ []
 no_values [] t = refl
 no_values (v ∷ values) t =
-    let same : length (v ∷ values) ≡ 0 = eqb-true (length (v ∷ values)) 0 (not_false (length (v ∷ values) == 0) t) in
+    let same : length (v ∷ values) ≡ 0 = eqb-true (length (v ∷ values)) 0 (not-false (length (v ∷ values) == 0) t) in
     absurd (omega (arith, same))
 
 key_told : (d : ModelDraftView) (found : Option ModelKey) (values : List (List ℕ)) → Follows (admit_key d found values) (asked_of_key d found values) (λ y. Unit {0})
 key_told d None values = inl ((λ h. h), refl)
 key_told d (Some (model_key.Header k)) values =
     guarded (not (is_heading d.section)) fault.Key (is_heading d.section ≡ true) _ _ (λ y. Unit {0}) (λ t h. absurd cc) (λ t. (
-      not_false (is_heading d.section) t,
+      not-false (is_heading d.section) t,
       guarded (is_given k d.name d.header) fault.Twice (is_given k d.name d.header ≡ false) _ _ (λ y. Unit {0}) (λ t h. absurd cc) (λ t.
           (t, only_told d k values _)),
     ))
 key_told d (Some (model_key.Section section)) values =
     guarded (not (is_next d.section section)) fault.Key (is_next d.section section ≡ true) _ _ (λ y. Unit {0}) (λ t h. absurd cc) (λ t. (
-      not_false (is_next d.section section) t,
+      not-false (is_next d.section section) t,
       guarded (not (length values == 0)) fault.Fields (values ≡ []) _ _ (λ y. Unit {0}) (some_values values) (λ t. (
         no_values values t,
         guarded (not (is_ready d d.section)) fault.Missing (is_ready d d.section ≡ true) (Ok (record d { section = section })) [] (λ y. Unit {0})
-            (λ t h. absurd cc) (λ t. (not_false (is_ready d d.section) t, (tt, tt))),
+            (λ t h. absurd cc) (λ t. (not-false (is_ready d d.section) t, (tt, tt))),
       )),
     ))
 
@@ -169,7 +170,7 @@ wrong_width : (n : ℕ) (fields : List (List ℕ)) → not (length fields == n) 
 wrong_width n fields t h = let same : (length fields == n) ≡ true = eq-eqb (length fields) n h in absurd cc
 
 right_width : (n : ℕ) (fields : List (List ℕ)) → not (length fields == n) ≡ false → length fields ≡ n
-right_width n fields t = eqb-true (length fields) n (not_false (length fields == n) t)
+right_width n fields t = eqb-true (length fields) n (not-false (length fields == n) t)
 
 values_told : (n destinations before : ℕ) (fields : List (List ℕ))
     → Follows (values_of n destinations before fields)
@@ -285,9 +286,6 @@ limit_rest resources periods fields = do
   bound ← bound_in t.1
   Ok (record { resource = r.0; period = t.0; bound = bound })
 
-same_bytes : (a b : List ℕ) → bytes_eq a b ≡ true → a ≡ b
-same_bytes a b e = (bytes_eq-Decides a b).0 e
-
 other_bytes : (a b : List ℕ) → bytes_eq a b ≡ false → ¬ (a ≡ b)
 other_bytes a b e h = let is = (bytes_eq-Decides a b).1 h in absurd cc
 
@@ -308,7 +306,7 @@ one_told letter v not_i = by_l (bytes_eq letter (codes "L")) refl
     by_g : (t : Bool) → bytes_eq letter (codes "G") ≡ t → bytes_eq letter (codes "L") ≡ false
         → Follows (rest_g t) (demand fault.Name (IsLetter letter) ++ decimal v) (λ bound. Unit {0})
     by_g true is not_l =
-        behind _ (demand fault.Name (IsLetter letter)) (decimal v) (λ bound. Unit {0}) (inr (inl (same_bytes letter (codes "G") is)), tt)
+        behind _ (demand fault.Name (IsLetter letter)) (decimal v) (λ bound. Unit {0}) (inr (inl (bytes_same letter (codes "G") is)), tt)
         (first_told decimal_in v [] _ (decimal v) [] (StandsFor 6 v) _ (decimal_told v) (λ size _. (tt, tt)))
     by_g false is not_l =
         let never : ¬ (IsLetter letter) = λ h. elim h [
@@ -323,7 +321,7 @@ one_told letter v not_i = by_l (bytes_eq letter (codes "L")) refl
     by_l : (t : Bool) → bytes_eq letter (codes "L") ≡ t
         → Follows (rest_l t) (demand fault.Name (IsLetter letter) ++ decimal v) (λ bound. Unit {0})
     by_l true is =
-        behind _ (demand fault.Name (IsLetter letter)) (decimal v) (λ bound. Unit {0}) (inl (same_bytes letter (codes "L") is), tt)
+        behind _ (demand fault.Name (IsLetter letter)) (decimal v) (λ bound. Unit {0}) (inl (bytes_same letter (codes "L") is), tt)
         (first_told decimal_in v [] _ (decimal v) [] (StandsFor 6 v) _ (decimal_told v) (λ size _. (tt, tt)))
     by_l false is = by_g (bytes_eq letter (codes "G")) refl is
 
@@ -332,7 +330,7 @@ two_told : (letter v w : List ℕ) → bytes_eq letter (codes "I") ≡ true
     → Follows (bound_in (letter ∷ v ∷ w ∷ [])) (demand fault.Name (IsLetter letter) ++ (decimal v ++ decimal w)) (λ bound. Unit {0})
 two_told letter v w is =
     subst (λ l. Follows (bound_in (l ∷ v ∷ w ∷ [])) (demand fault.Name (IsLetter l) ++ (decimal v ++ decimal w)) (λ bound. Unit {0}))
-    (sym (same_bytes letter (codes "I") is))
+    (sym (bytes_same letter (codes "I") is))
     (behind _ (demand fault.Name (IsLetter (codes "I"))) (decimal v ++ decimal w) (λ bound. Unit {0}) (inr (inr refl), tt)
     (first_told decimal_in v (w ∷ []) _ (decimal v) (decimal w) (StandsFor 6 v) _ (decimal_told v) (λ least _.
     first_told decimal_in w [] _ (decimal w) [] (StandsFor 6 w) _ (decimal_told w) (λ most _. (tt, tt)))))
@@ -412,11 +410,11 @@ admit_limit_told d fields =
     × (is_behind stands_before (last_of d.limits) l ≡ true)) (Ok (record d { limits = d.limits ++ l ∷ [] })) [] (λ y. Unit {0})
     (λ t h. (let back = limit_back (count_in d.header.resources) (count_in d.header.periods) fields h.0 h.1 in
     let same : l ≡ h.0 = one_ok _ l h.0 is back in
-    let straight : is_turned l.bound ≡ false = ap (λ (k : Limit). is_turned k.bound) same ∙ not_turned h.0.bound h.1.upward in
+    let straight : is_turned l.bound ≡ false = ap (λ (k : Limit). is_turned k.bound) same ∙ h.1.straight in
     let later : is_behind stands_before (last_of d.limits) l ≡ true = ap (is_behind stands_before (last_of d.limits)) same ∙ h.2 in
     absurd (neither _ _ straight later t)))
     (λ t. (let parts = or_parts (is_turned l.bound) (not (is_behind stands_before (last_of d.limits) l)) t in
-    ((l, limit_line (count_in d.header.resources) (count_in d.header.periods) fields l is parts.0, not_false _ parts.1), (tt, tt)))))
+    ((l, limit_line (count_in d.header.resources) (count_in d.header.periods) fields l is parts.0, not-false _ parts.1), (tt, tt)))))
   where
     one_ok : (r : Result Limit TextKind) (x y : Limit) → r ≡ Ok x → r ≡ Ok y → x ≡ y
     one_ok r x y a b = cc

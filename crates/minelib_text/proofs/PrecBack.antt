@@ -76,7 +76,8 @@ preds_fields own n ids few below h =
     let number = whole_field (length ids) (omega (arith, fewer own n ids below h)) in
     record { some = omega arith; each = (id, (number, map_fields (λ id. id < n) decimal (λ id low. whole_field id (omega arith)) ids h.below)) }
 
-abbrev draft_of : ℕ → List (List ℕ) → PrecDraftView
+-- a precedence file of n blocks, of which these lists were read
+abbrev pub draft_of : ℕ → List (List ℕ) → PrecDraftView
 draft_of n lists = record { blocks = n; lists = lists }
 
 each_preds : (n : ℕ) (lists : List (List ℕ)) → n ≤ 64000000 → length lists ≡ n → ArePreds n lists

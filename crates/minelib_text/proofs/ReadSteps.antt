@@ -2,7 +2,7 @@
 use Rattle.std.specs.Prelude.{◌≡◌, ℕ, ◌<◌, ◌≤◌, ◌*◌, ◌/◌, ◌%◌, ◌^◌, ◌==◌, nat_lt, Bool, true, false, not, List, [], ◌∷◌, ◌++◌, length, ℤ, pos, negsuc, Result, Ok, Err, if◌then◌else◌}
 use Rattle.std.specs.List.{AllZip}
 use Rattle.std.proofs.Common.{refl, sym, ◌∙◌, ap, subst, arith, append-nil, append_assoc, length-append}
-use Rattle.std.proofs.lemmas.Bool.{eqb-true}
+use Rattle.std.proofs.lemmas.Bool.{eqb-true, not-false}
 use Rattle.std.proofs.lemmas.Bool.Decides.{nat_tests}
 use Rattle.pit_model.specs.Steps.{◌>>=◌}
 use Rattle.minelib_text.specs.FieldValues.{at_most, whole_below, stated, size_in, whole_in, decimal_in, first_by, all_by}
@@ -39,14 +39,6 @@ guard_then t fault r y e part = let g = guard_ok t fault r y e in part g.0 g.1
 pub then_ok : {A F : Type 0} (t : Bool) (fault : F) (r : Result A F) (y : A) → (if t then r else Err fault) ≡ Ok y → (t ≡ true) × (r ≡ Ok y)
 then_ok true fault r y e = (refl, e)
 then_ok false fault r y e = absurd cc
-
-pub not_false : (t : Bool) → not t ≡ false → t ≡ true
-not_false true e = refl
-not_false false e = absurd cc
-
-pub not_true : (t : Bool) → not t ≡ true → t ≡ false
-not_true false e = refl
-not_true true e = absurd cc
 
 pub same_ok : {A F : Type 0} (x y : A) → ◌≡◌ {A = Result A F} (Ok x) (Ok y) → x ≡ y
 same_ok x y e = cc
@@ -129,7 +121,7 @@ none_behind n front (field ∷ rest) fields all here count = absurd (omega (arit
 
 -- the number of fields, where a test found no other
 pub counted : (n : ℕ) (fields : List (List ℕ)) → not (length fields == n) ≡ false → length fields ≡ n
-counted n fields test = eqb-true (length fields) n (not_false (length fields == n) test)
+counted n fields test = eqb-true (length fields) n (not-false (length fields == n) test)
 
 pub first_ok : {A : Type 0} (rule : List ℕ → Result A TextKind) (fields : List (List ℕ)) (x : A × List (List ℕ)) → first_by rule fields ≡ Ok x
     → (field : List ℕ) × (fields ≡ field ∷ x.1) × (rule field ≡ Ok x.0)
@@ -156,10 +148,3 @@ all_ok rule done (field ∷ fields) xs e =
     let b = bind_ok (rule field) (λ x. all_by rule (done ++ x ∷ []) fields) xs e in
     let m = all_ok rule (done ++ b.0 ∷ []) fields xs b.2 in
     (b.0 ∷ m.0, m.1 ∙ append_assoc done (b.0 ∷ []) m.0, (b.1, m.2))
-
--- as many items as fields
-pub as_many : {A B : Type 0} (R : A → B → Type 0) (xs : List A) (ys : List B) → AllZip R xs ys → length xs ≡ length ys
-as_many R [] [] zip = refl
-as_many R [] (y ∷ ys) zip = absurd zip
-as_many R (x ∷ xs) [] zip = absurd zip
-as_many R (x ∷ xs) (y ∷ ys) zip = omega (arith, as_many R xs ys zip.1)

@@ -7,7 +7,7 @@ use Rattle.pit_model.specs.Steps.{◌>>=◌}
 use Rattle.pit_model.specs.declared.block.Block.{Block}
 use Rattle.minelib_text.specs.BlockLines.{block_of, admit_block, blocks_in}
 use Rattle.minelib_text.specs.FieldValues.{whole_in, size_in, all_by}
-use Rattle.minelib_text.specs.PrecLines.{PrecDraftView, preds_of, admit_preds, finish_preds, preds_in}
+use Rattle.minelib_text.specs.PrecLines.{preds_of, admit_preds, finish_preds, preds_in}
 use Rattle.minelib_text.specs.Reading.{at_line, read_lines}
 use Rattle.minelib_text.specs.SpelledBlocks.{IsBlockLine, AreBlockLines}
 use Rattle.minelib_text.specs.SpelledFields.{StatesWhole, StatesSize}
@@ -15,7 +15,7 @@ use Rattle.minelib_text.specs.SpelledPrec.{IsPredsLine, ArePredsLines}
 use Rattle.minelib_text.specs.TextLines.{Line, fields_of, lines_in, end_of}
 use Rattle.minelib_text.specs.declared.text_fault.TextKind.{TextKind}
 use Rattle.minelib_text.proofs.BlocksBack.{with_again}
-use Rattle.minelib_text.proofs.PrecBack.{stands_not, differ_again}
+use Rattle.minelib_text.proofs.PrecBack.{stands_not, differ_again, draft_of}
 
 pub whole_back : (limit : ℕ) (field : List ℕ) (n : ℕ) → StatesWhole limit field n → whole_in limit field ≡ Ok n
 unfolding whole_in
@@ -82,19 +82,16 @@ preds_back n own fields ids h =
     ∙ three_back n own ids h.id h.count h.others (whole_back n h.id own h.states_id) (whole_back n h.count (length ids) h.states_count)
     (all_back n [] h.others ids h.states_each) (subst (λ fs. IsPredsLine n own fs ids) h.here h)
 
-abbrev lists_of : ℕ → List (List ℕ) → PrecDraftView
-lists_of n lists = record { blocks = n; lists = lists }
-
 preds_from : (n own : ℕ) (lines : List Line) (done lists : List (List ℕ)) → own ≡ length done → ArePredsLines n own lines lists
-    → read_lines admit_preds (lists_of n done) lines ≡ Ok (lists_of n (done ++ lists))
-preds_from n own [] done [] e h = ap (λ all. Ok (lists_of n all)) (sym (append-nil done))
+    → read_lines admit_preds (draft_of n done) lines ≡ Ok (draft_of n (done ++ lists))
+preds_from n own [] done [] e h = ap (λ all. Ok (draft_of n all)) (sym (append-nil done))
 preds_from n own [] done (ids ∷ lists) e h = absurd h
 preds_from n own (line ∷ lines) done [] e h = absurd h
 preds_from n own (line ∷ lines) done (ids ∷ lists) e h =
     let here : preds_of n (length done) (fields_of line.text) ≡ Ok ids = preds_back n (length done) (fields_of line.text) ids (subst (λ id. IsPredsLine n id (fields_of line.text) ids) e h.0) in
-    next_line admit_preds (lists_of n done) (lists_of n (done ++ ids ∷ [])) line lines (ap (λ r. r >>= λ x. Ok (lists_of n (done ++ x ∷ []))) here)
+    next_line admit_preds (draft_of n done) (draft_of n (done ++ ids ∷ [])) line lines (ap (λ r. r >>= λ x. Ok (draft_of n (done ++ x ∷ []))) here)
     ∙ preds_from n (own + 1) lines (done ++ ids ∷ []) lists (omega (arith, length-append done (ids ∷ []))) h.1
-    ∙ ap (λ all. Ok (lists_of n all)) (append_assoc done (ids ∷ []) lists)
+    ∙ ap (λ all. Ok (draft_of n all)) (append_assoc done (ids ∷ []) lists)
 
 pub lists_back : (n : ℕ) (text : List ℕ) (lists : List (List ℕ)) → length lists ≡ n → ArePredsLines n 0 (lines_in text) lists → preds_in n text ≡ Ok lists
 lists_back n text lists count h =

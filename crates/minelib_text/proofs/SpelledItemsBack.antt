@@ -2,6 +2,7 @@
 use Rattle.std.specs.Prelude.{◌≡◌, ℕ, ◌+◌, false, List, [], ◌∷◌, ◌++◌, length, ℤ, Ok}
 use Rattle.std.specs.List.{AllZip}
 use Rattle.std.proofs.Common.{refl, sym, ◌∙◌, ap, arith, append-nil, append_assoc, eq-eqb}
+use Rattle.std.proofs.lemmas.Slice.Zip.{AllZip-long}
 use Rattle.pit_units.proofs.Standing.{stands_read}
 use Rattle.pit_units.specs.Decimal.{StandsFor}
 use Rattle.pit_model.specs.Steps.{◌>>=◌}
@@ -15,7 +16,6 @@ use Rattle.minelib_text.specs.SpelledItems.{IsValuesLine, IsCoefLine, StatesBoun
 use Rattle.minelib_text.specs.declared.model_key.Problem.{Problem}
 use Rattle.minelib_text.specs.declared.model_key.Problem.TheVariants.{Pcpsp, Cpit}
 use Rattle.minelib_text.proofs.Keyless.{have_colon, number_no_colon, numbers_no_colon}
-use Rattle.minelib_text.proofs.ReadSteps.{as_many}
 use Rattle.minelib_text.proofs.SpelledBack.{whole_back}
 
 pub decimal_back : (field : List ℕ) (m : ℤ) → StandsFor 6 field m → decimal_in field ≡ Ok m
@@ -42,7 +42,7 @@ pub values_back : (n destinations before : ℕ) (fields : List (List ℕ)) (vs :
 values_back n destinations before fields vs h =
     ap (values_of n destinations before) h.here
     ∙ values_here n destinations before h.b h.each vs (whole_back n h.b before h.states_block) (decimals_back [] h.each vs h.states_each)
-    (as_many (StandsFor 6) h.each vs h.states_each ∙ h.one_each)
+    (sym (AllZip-long (StandsFor 6) h.each vs h.states_each) ∙ h.one_each)
 
 pub values_keyless : (n destinations before : ℕ) (fields : List (List ℕ)) (vs : List ℤ) → IsValuesLine n destinations before fields vs
     → have_colon fields ≡ false

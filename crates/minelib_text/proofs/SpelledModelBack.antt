@@ -9,6 +9,7 @@ use Rattle.pit_model.specs.Steps.{◌>>=◌}
 use Rattle.pit_model.specs.Name.{is_name}
 use Rattle.pit_model.specs.Plan.{stands_before}
 use Rattle.pit_model.specs.declared.limit.Limit.{Limit}
+use Rattle.pit_model.specs.declared.ranges.TheConstants.{MAX_BLOCKS, MAX_DESTINATIONS, MAX_PERIODS, MAX_RESOURCES}
 use Rattle.mine_instance.specs.Order.{comes_before}
 use Rattle.mine_instance.specs.declared.coef.Coef.{Coef}
 use Rattle.minelib_text.specs.ModelLines.{ModelDraftView, blank_header, blank_model, shared_key, key_of, is_given, is_next, is_ready, is_complete, counted_in, header_with, name_with, type_text, admit_key, admit_item, is_colon, admit_model, finish_model, model_in}
@@ -30,7 +31,6 @@ use Rattle.minelib_text.specs.declared.model_key.Problem.TheVariants.{Pcpsp, Cpi
 use Rattle.minelib_text.specs.declared.model_key.Section.{Section}
 use Rattle.minelib_text.specs.declared.model_key.Section.TheVariants.{Heading, Objective, Coefs, Limits}
 use Rattle.minelib_text.proofs.ItemLines.{items_keep}
-use Rattle.minelib_text.proofs.ItemsBack.{not_turned}
 use Rattle.minelib_text.proofs.KeysBack.{draft, full_header}
 use Rattle.minelib_text.proofs.Keyless.{have_colon, keyless}
 use Rattle.minelib_text.proofs.NumbersBack.{name_field}
@@ -107,10 +107,10 @@ key_back : (problem : Problem) (n : ℕ) (m : StatedModel) (done : List HeaderKe
     → header_with problem n k value (header_after problem m done) ≡ Ok (header_after problem m (k ∷ done))
 key_back problem n m done key.Name value s = rw (s.1) refl
 key_back problem n m done key.Type value s = rw ((bytes_eq-Decides value (type_text problem)).1 s) refl
-key_back problem n m done key.Blocks value s = rw (whole_back 64000001 value n s, eq-eqb n n refl) refl
-key_back problem n m done key.Periods value s = rw (counted_back 101 value m.periods s.0 s.1) refl
-key_back problem n m done key.Destinations value s = rw (counted_back 9 value m.destinations s.0 s.1) refl
-key_back problem n m done key.Resources value s = rw (whole_back 9 value m.resources s) refl
+key_back problem n m done key.Blocks value s = rw (whole_back (MAX_BLOCKS + 1) value n s, eq-eqb n n refl) refl
+key_back problem n m done key.Periods value s = rw (counted_back (MAX_PERIODS + 1) value m.periods s.0 s.1) refl
+key_back problem n m done key.Destinations value s = rw (counted_back (MAX_DESTINATIONS + 1) value m.destinations s.0 s.1) refl
+key_back problem n m done key.Resources value s = rw (whole_back (MAX_RESOURCES + 1) value m.resources s) refl
 key_back problem n m done key.General value s = rw (whole_back 1 value 0 s) refl
 key_back problem n m done key.Rate value (rate, is, s) = rw (size_back 6 (10 ^ 6) value rate (omega arith) s, is) refl
 
@@ -371,7 +371,7 @@ module _ (problem : Problem) (n : ℕ) (m : StatedModel) where
       item_back (within problem n m Limits m.values m.coefs done) line (limit_keyless m.resources m.periods (fields_of line) x h)
       ∙ rw (
         limit_back m.resources m.periods (fields_of line) x h,
-        not_turned x.bound h.upward,
+        h.straight,
         behind_last stands_before m.limits done x rest whole rising,
       ) refl
 

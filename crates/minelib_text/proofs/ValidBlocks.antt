@@ -1,7 +1,7 @@
 -- How the lines that are read spell the blocks, and how many blocks there are at most.
 use Rattle.std.specs.Prelude.{◌≡◌, ℕ, ◌≤◌, ◌*◌, ◌/◌, ◌%◌, ◌^◌, ◌==◌, Bool, true, false, not, List, [], ◌∷◌, ◌++◌, length, pos, Ok}
 use Rattle.std.proofs.Common.{refl, ap, subst, arith, length-append}
-use Rattle.std.proofs.lemmas.Bool.{eqb-true}
+use Rattle.std.proofs.lemmas.Bool.{eqb-true, not-false}
 use Rattle.pit_units.proofs.Multiples.{stands_multiple}
 use Rattle.pit_model.specs.declared.block.Block.{Block}
 use Rattle.minelib_text.specs.BlockLines.{are_in_range, block_if, block_of, block_with, in_range, admit_block, blocks_in}
@@ -10,7 +10,7 @@ use Rattle.minelib_text.specs.SpelledBlocks.{IsBlockLine}
 use Rattle.minelib_text.specs.SpelledFields.{StatesWhole, StatesSize}
 use Rattle.minelib_text.specs.TextLines.{fields_of, lines_in}
 use Rattle.minelib_text.specs.declared.text_fault.TextKind.TheVariants.{Fields, Order}
-use Rattle.minelib_text.proofs.ReadSteps.{bind_ok, guard_then, first_then, not_false, same_ok, none_behind, counted, kept_by_lines, whole_in_ok, size_in_ok}
+use Rattle.minelib_text.proofs.ReadSteps.{bind_ok, guard_then, first_then, same_ok, none_behind, counted, kept_by_lines, whole_in_ok, size_in_ok}
 
 -- the parts of a block
 record HasParts (x y z kg grade zone : ℕ) (b : Block) : Type 0 where
@@ -69,7 +69,7 @@ block_line before fields b e =
       grade = grade;
       zone = zone;
       here = none_behind 7 (id ∷ x ∷ y ∷ z ∷ tonnes ∷ grade ∷ zone ∷ []) f7 fields (counted 7 fields seven) here refl;
-      states_id = subst (StatesWhole 64000000 id) (eqb-true n before (not_false (n == before) next)) (whole_in_ok 64000000 id n s1);
+      states_id = subst (StatesWhole 64000000 id) (eqb-true n before (not-false (n == before) next)) (whole_in_ok 64000000 id n s1);
       states_x = subst (StatesWhole 10000 x) parts.x_is (whole_in_ok 10000 x at_x s2);
       states_y = subst (StatesWhole 10000 y) parts.y_is (whole_in_ok 10000 y at_y s3);
       states_z = subst (StatesWhole 10000 z) parts.z_is (whole_in_ok 10000 z at_z s4);

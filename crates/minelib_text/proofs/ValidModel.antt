@@ -2,10 +2,10 @@
 use Rattle.std.specs.Prelude.{◌≡◌, ℕ, ◌<◌, true, false, List, [], length, Option, Ok, All}
 use Rattle.std.proofs.Common.{refl, sym, ap, subst, arith, inl}
 use Rattle.std.proofs.lemmas.List.Elements.{All-nil, All-push}
-use Rattle.pit_model.specs.Plan.{stands_before}
+use Rattle.pit_model.specs.Plan.{stands_before, is_turned}
 use Rattle.mine_instance.specs.Order.{comes_before}
 use Rattle.mine_instance.specs.OrderLaws.{comes_before_through, stands_before_through}
-use Rattle.mine_instance.specs.Valid.{AreCoefs, AreLimits, IsUpward}
+use Rattle.mine_instance.specs.Valid.{AreCoefs, AreLimits}
 use Rattle.mine_instance.specs.declared.coef.Coef.{Coef}
 use Rattle.minelib_text.specs.ModelLines.{ModelDraftView, blank_header, blank_model, is_heading, count_in, admit_model}
 use Rattle.minelib_text.specs.SpelledItems.{IsCoefLine}
@@ -40,7 +40,7 @@ no_coefs n destinations resources = record {
 
 no_limits : (resources periods : ℕ) → AreLimits resources periods []
 no_limits resources periods = record {
-  in_range = All-nil (λ l. (l.resource < resources) × (l.period < periods) × IsUpward l.bound);
+  in_range = All-nil (λ l. (l.resource < resources) × (l.period < periods) × (is_turned l.bound ≡ false));
   rising = λ i j d less high. absurd (omega arith);
 }
 
@@ -147,8 +147,8 @@ limit_kept problem n d line next s kept = subst (KeepsModel problem n) s.is (rec
   values = kept.values;
   coefs = kept.coefs;
   limits = record {
-    in_range = All-push (λ l. (l.resource < count_in d.header.resources) × (l.period < count_in d.header.periods) × IsUpward l.bound) d.limits
-        s.limit kept.limits.in_range (s.spelled.states_resource.below, s.spelled.states_period.below, s.spelled.upward);
+    in_range = All-push (λ l. (l.resource < count_in d.header.resources) × (l.period < count_in d.header.periods) × (is_turned l.bound ≡ false)) d.limits
+        s.limit kept.limits.in_range (s.spelled.states_resource.below, s.spelled.states_period.below, s.spelled.straight);
     rising = rises_behind stands_before stands_before_through d.limits s.limit kept.limits.rising s.behind;
   };
 })

@@ -2,7 +2,7 @@
 use Rattle.std.specs.Prelude.{◌≡◌, ◌≢◌, ℕ, ◌-◌, ◌<◌, ◌==◌, ◌||◌, nat_lt, true, false, not, List, [], ◌∷◌, ◌++◌, length, Ok, All, AllPairs}
 use Rattle.std.specs.List.{AllZip}
 use Rattle.std.proofs.Common.{refl, sym, ◌∙◌, ap, subst, arith, get_or, length-append, inl, inr}
-use Rattle.std.proofs.lemmas.Bool.{cases_lt, and_parts, or_parts}
+use Rattle.std.proofs.lemmas.Bool.{cases_lt, and_parts, or_parts, not-false, not-true}
 use Rattle.std.proofs.lemmas.Bool.Decides.{nat_tests}
 use Rattle.std.proofs.lemmas.List.{get_or_append_left, get_or-append_right}
 use Rattle.std.proofs.lemmas.List.Elements.{All-nil, All-cons}
@@ -15,7 +15,7 @@ use Rattle.minelib_text.specs.TextLines.{fields_of, lines_in, end_of}
 use Rattle.minelib_text.specs.declared.text_fault.TextKind.TheVariants.{Fields, Order, Count, Twice, Missing}
 use Rattle.minelib_text.specs.SpelledFields.{StatesWhole}
 use Rattle.minelib_text.specs.SpelledPrec.{IsPredsLine}
-use Rattle.minelib_text.proofs.ReadSteps.{bind_ok, bind_then, guard_ok, guard_then, first_then, then_ok, not_false, not_true, same_ok, kept_by_lines, all_ok, whole_in_ok}
+use Rattle.minelib_text.proofs.ReadSteps.{bind_ok, bind_then, guard_ok, guard_then, first_then, then_ok, same_ok, kept_by_lines, all_ok, whole_in_ok}
 
 -- a number that does not stand in a list differs from each one there
 pub others_differ : (own : ℕ) (ids : List ℕ) → stands_in ids own ≡ false → All (λ id. id ≢ own) ids
@@ -29,7 +29,7 @@ pub pairs_differ : (ids : List ℕ) → all_differ ids ≡ true → AllPairs (λ
 pairs_differ [] e = λ i j d less high. absurd (omega arith)
 pairs_differ (id ∷ ids) e =
     let parts = and_parts (not (stands_in ids id)) (all_differ ids) e in
-    let others = others_differ id ids (not_true (stands_in ids id) parts.0) in
+    let others = others_differ id ids (not-true (stands_in ids id) parts.0) in
     AllPairs-cons (λ id other. id ≢ other) id ids (λ k d within same. others k d within (sym same)) (pairs_differ ids parts.1)
 
 all_stated : (n : ℕ) (fields : List (List ℕ)) (ids : List ℕ) → AllZip (λ field id. whole_in n field ≡ Ok id) fields ids
@@ -56,15 +56,15 @@ preds_with_ok own id stated given ids e =
     let b = guard_ok (not (stated == length given)) Count _ ids a.1 in
     let c = guard_ok (stands_in given own || not (all_differ given)) Twice (Ok given) ids b.1 in
     let same : given ≡ ids = same_ok given ids c.1 in
-    let of_own : (id == own) ≡ true = not_false (id == own) a.0 in
-    let counted : (stated == length given) ≡ true = not_false (stated == length given) b.0 in
+    let of_own : (id == own) ≡ true = not-false (id == own) a.0 in
+    let counted : (stated == length given) ≡ true = not-false (stated == length given) b.0 in
     let tests = or_parts (stands_in given own) (not (all_differ given)) c.0 in
     record {
       same = same;
       of_own = grind (arith, nat_tests);
       counted = rw (sym same) (grind (arith, nat_tests));
       others = rw (sym same) tests.0;
-      distinct = rw (sym same) (not_false (all_differ given) tests.1);
+      distinct = rw (sym same) (not-false (all_differ given) tests.1);
     }
 
 -- how the fields of a line spell the predecessors

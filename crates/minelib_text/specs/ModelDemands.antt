@@ -8,6 +8,7 @@ use Rattle.pit_model.specs.Demands.{Demand, demand, FailsFirst}
 use Rattle.pit_model.specs.Name.{is_name}
 use Rattle.pit_model.specs.Plan.{stands_before}
 use Rattle.pit_model.specs.declared.limit.Limit.{Limit}
+use Rattle.pit_model.specs.declared.ranges.TheConstants.{MAX_BLOCKS, MAX_DESTINATIONS, MAX_PERIODS, MAX_RESOURCES}
 use Rattle.mine_instance.specs.Order.{comes_before}
 use Rattle.mine_instance.specs.declared.coef.Coef.{Coef}
 use Rattle.minelib_text.specs.LineDemands.{number, whole, size, field_at}
@@ -44,11 +45,11 @@ counted limit field = number 0 field ((n : ℕ) × (StatesWhole limit field n ×
 abbrev pub asked_of_value : ModelDraftView → HeaderKey → List ℕ → List (Demand TextKind)
 asked_of_value d key.Name value = demand fault.Name (is_name value ≡ true)
 asked_of_value d key.Type value = demand fault.Name (value ≡ type_text d.problem)
-asked_of_value d key.Blocks value = whole 64000001 value
-    ++ demand fault.Count (StatesWhole 64000001 value d.blocks)
-asked_of_value d key.Periods value = counted 101 value
-asked_of_value d key.Destinations value = counted 9 value
-asked_of_value d key.Resources value = whole 9 value
+asked_of_value d key.Blocks value = whole (MAX_BLOCKS + 1) value
+    ++ demand fault.Count (StatesWhole (MAX_BLOCKS + 1) value d.blocks)
+asked_of_value d key.Periods value = counted (MAX_PERIODS + 1) value
+asked_of_value d key.Destinations value = counted (MAX_DESTINATIONS + 1) value
+asked_of_value d key.Resources value = whole (MAX_RESOURCES + 1) value
 asked_of_value d key.General value = whole 1 value
 asked_of_value d key.Rate value = size 6 (10 ^ 6) value
 

@@ -4,11 +4,11 @@ use Rattle.std.specs.List.{list_any, before_first, after_first}
 use Rattle.std.specs.Str.{bytes_eq}
 use Rattle.pit_model.specs.Steps.{◌>>=◌}
 use Rattle.pit_model.specs.Name.{is_name}
-use Rattle.pit_model.specs.Plan.{stands_before}
-use Rattle.pit_model.specs.Planned.{is_turned}
+use Rattle.pit_model.specs.Plan.{is_turned, stands_before}
 use Rattle.pit_model.specs.declared.limit.Bound.{Bound}
 use Rattle.pit_model.specs.declared.limit.Bound.TheVariants.{AtMost, AtLeast, Between}
 use Rattle.pit_model.specs.declared.limit.Limit.{Limit}
+use Rattle.pit_model.specs.declared.ranges.TheConstants.{MAX_BLOCKS, MAX_DESTINATIONS, MAX_PERIODS, MAX_RESOURCES}
 use Rattle.mine_instance.specs.Order.{comes_before}
 use Rattle.mine_instance.specs.declared.coef.Coef.{Coef}
 use Rattle.minelib_text.specs.FieldValues.{first_by, all_by, size_in, whole_in, decimal_in}
@@ -160,10 +160,10 @@ abbrev pub header_with : Problem → ℕ → HeaderKey → List ℕ → Header �
 header_with problem n key.Name field h = if is_name field then Ok h else Err Name
 header_with problem n key.Type field h = if bytes_eq field (type_text problem) then Ok (record h { is_typed = true }) else Err Name
 header_with problem n key.Blocks field h =
-    whole_in 64000001 field >>= λ blocks. if blocks == n then Ok (record h { is_counted = true }) else Err Count
-header_with problem n key.Periods field h = counted_in 101 field >>= λ periods. Ok (record h { periods = Some periods })
-header_with problem n key.Destinations field h = counted_in 9 field >>= λ destinations. Ok (record h { destinations = Some destinations })
-header_with problem n key.Resources field h = whole_in 9 field >>= λ resources. Ok (record h { resources = Some resources })
+    whole_in (MAX_BLOCKS + 1) field >>= λ blocks. if blocks == n then Ok (record h { is_counted = true }) else Err Count
+header_with problem n key.Periods field h = counted_in (MAX_PERIODS + 1) field >>= λ periods. Ok (record h { periods = Some periods })
+header_with problem n key.Destinations field h = counted_in (MAX_DESTINATIONS + 1) field >>= λ destinations. Ok (record h { destinations = Some destinations })
+header_with problem n key.Resources field h = whole_in (MAX_RESOURCES + 1) field >>= λ resources. Ok (record h { resources = Some resources })
 header_with problem n key.General field h = whole_in 1 field >>= λ none. Ok (record h { is_general = true })
 header_with problem n key.Rate field h = size_in 6 (10 ^ 6) field >>= λ rate. Ok (record h { rate = Some rate })
 

@@ -1,9 +1,10 @@
 -- How lines spell what a model file states so far: in its header, and in each section behind the
 -- line that begins it.
-use Rattle.std.specs.Prelude.{◌≡◌, ◌≢◌, ℕ, ◌≤◌, ◌^◌, true, List, [], ◌∷◌, ◌++◌, ℤ, Some, AllPairs}
+use Rattle.std.specs.Prelude.{◌≡◌, ◌≢◌, ℕ, ◌+◌, ◌≤◌, ◌^◌, true, List, [], ◌∷◌, ◌++◌, ℤ, Some, AllPairs}
 use Rattle.std.specs.List.{Contains}
 use Rattle.pit_model.specs.Name.{is_name}
 use Rattle.pit_model.specs.declared.limit.Limit.{Limit}
+use Rattle.pit_model.specs.declared.ranges.TheConstants.{MAX_BLOCKS, MAX_DESTINATIONS, MAX_PERIODS, MAX_RESOURCES}
 use Rattle.mine_instance.specs.declared.coef.Coef.{Coef}
 use Rattle.minelib_text.specs.ModelLines.{ModelDraftView, count_in, is_given, type_text}
 use Rattle.minelib_text.specs.SpelledFields.{StatesWhole, StatesSize}
@@ -25,14 +26,14 @@ use Rattle.minelib_text.specs.declared.model_key.Section.TheVariants.{Heading, O
 abbrev pub SaysKey : Problem → ℕ → HeaderKey → List ℕ → List ℕ → Header → Type 0
 SaysKey problem n key.Name value name h = (name ≡ value) × (is_name value ≡ true)
 SaysKey problem n key.Type value name h = value ≡ type_text problem
-SaysKey problem n key.Blocks value name h = StatesWhole 64000001 value n
+SaysKey problem n key.Blocks value name h = StatesWhole (MAX_BLOCKS + 1) value n
 SaysKey problem n key.Periods value name h = (periods : ℕ) × (h.periods ≡ Some periods)
-    × StatesWhole 101 value periods × (1 ≤ periods)
+    × StatesWhole (MAX_PERIODS + 1) value periods × (1 ≤ periods)
 SaysKey problem n key.Destinations value name h =
-    (destinations : ℕ) × (h.destinations ≡ Some destinations) × StatesWhole 9 value destinations
+    (destinations : ℕ) × (h.destinations ≡ Some destinations) × StatesWhole (MAX_DESTINATIONS + 1) value destinations
     × (1 ≤ destinations)
 SaysKey problem n key.Resources value name h = (resources : ℕ) × (h.resources ≡ Some resources)
-    × StatesWhole 9 value resources
+    × StatesWhole (MAX_RESOURCES + 1) value resources
 SaysKey problem n key.General value name h = StatesWhole 1 value 0
 SaysKey problem n key.Rate value name h = (rate : ℕ) × (h.rate ≡ Some rate)
     × StatesSize 6 (10 ^ 6) value rate

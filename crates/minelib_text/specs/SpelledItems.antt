@@ -1,11 +1,11 @@
 -- How the lines of a model file's sections spell values, coefficients and limits.
-use Rattle.std.specs.Prelude.{◌≡◌, ℕ, List, [], ◌∷◌, length, ℤ, codes}
+use Rattle.std.specs.Prelude.{◌≡◌, ℕ, List, [], ◌∷◌, length, ℤ, codes, false}
 use Rattle.std.specs.List.{AllZip}
 use Rattle.pit_units.specs.Decimal.{StandsFor}
+use Rattle.pit_model.specs.Plan.{is_turned}
 use Rattle.pit_model.specs.declared.limit.Bound.{Bound}
 use Rattle.pit_model.specs.declared.limit.Bound.TheVariants.{AtMost, AtLeast, Between}
 use Rattle.pit_model.specs.declared.limit.Limit.{Limit}
-use Rattle.mine_instance.specs.Valid.{IsUpward}
 use Rattle.mine_instance.specs.declared.coef.Coef.{Coef}
 use Rattle.minelib_text.specs.SpelledFields.{StatesWhole}
 use Rattle.minelib_text.specs.declared.model_key.Problem.{Problem}
@@ -64,4 +64,4 @@ pub record IsLimitLine (resources periods : ℕ) (fields : List (List ℕ)) (l :
   pub states_resource : StatesWhole resources r l.resource
   pub states_period : StatesWhole periods t l.period
   pub states_bound : StatesBound bound l.bound
-  pub upward : IsUpward l.bound
+  pub straight : is_turned l.bound ≡ false

@@ -1,7 +1,8 @@
 -- How the key lines of a model file spell the header and begin the sections.
-use Rattle.std.specs.Prelude.{◌≡◌, ℕ, ◌≤◌, ◌^◌, true, List, pos, Some}
+use Rattle.std.specs.Prelude.{◌≡◌, ℕ, ◌+◌, ◌≤◌, ◌^◌, true, List, pos, Some}
 use Rattle.std.specs.List.{list_any, before_first, after_first}
 use Rattle.pit_model.specs.Name.{is_name}
+use Rattle.pit_model.specs.declared.ranges.TheConstants.{MAX_BLOCKS, MAX_DESTINATIONS, MAX_PERIODS, MAX_RESOURCES}
 use Rattle.minelib_text.specs.ModelLines.{is_colon, key_of, type_text}
 use Rattle.minelib_text.specs.SpelledFields.{StatesWhole, StatesSize}
 use Rattle.minelib_text.specs.StatedModel.{StatedModel}
@@ -21,11 +22,11 @@ pub record IsKeyLine (problem : Problem) (line : List ℕ) (found : ModelKey) (v
 abbrev pub StatesKey : Problem → ℕ → HeaderKey → List ℕ → StatedModel → Type 0
 StatesKey problem n key.Name value m = (m.name ≡ value) × (is_name value ≡ true)
 StatesKey problem n key.Type value m = value ≡ type_text problem
-StatesKey problem n key.Blocks value m = StatesWhole 64000001 value n
-StatesKey problem n key.Periods value m = StatesWhole 101 value m.periods × (1 ≤ m.periods)
-StatesKey problem n key.Destinations value m = StatesWhole 9 value m.destinations
+StatesKey problem n key.Blocks value m = StatesWhole (MAX_BLOCKS + 1) value n
+StatesKey problem n key.Periods value m = StatesWhole (MAX_PERIODS + 1) value m.periods × (1 ≤ m.periods)
+StatesKey problem n key.Destinations value m = StatesWhole (MAX_DESTINATIONS + 1) value m.destinations
     × (1 ≤ m.destinations)
-StatesKey problem n key.Resources value m = StatesWhole 9 value m.resources
+StatesKey problem n key.Resources value m = StatesWhole (MAX_RESOURCES + 1) value m.resources
 StatesKey problem n key.General value m = StatesWhole 1 value 0
 StatesKey problem n key.Rate value m = (rate : ℕ) × (m.rate ≡ pos rate)
     × StatesSize 6 (10 ^ 6) value rate

@@ -1,7 +1,7 @@
 -- How the lines of a model file spell what it states: the header's lines, and then the sections, each behind the line that begins it.
 use Rattle.std.specs.Prelude.{◌≡◌, ◌≢◌, ℕ, Bool, true, false, List, [], ◌∷◌, ◌++◌, length, AllPairs, IsTrue}
 use Rattle.std.specs.List.{Contains}
-use Rattle.pit_model.specs.Plan.{stands_before}
+use Rattle.pit_model.specs.Plan.{RiseStrictly}
 use Rattle.mine_instance.specs.Order.{comes_before}
 use Rattle.minelib_text.specs.SpelledItems.{IsValuesLine, IsCoefLine, IsLimitLine}
 use Rattle.minelib_text.specs.SpelledKeys.{IsKeyLine, StatesKey}
@@ -72,4 +72,4 @@ pub record AreModelLines (problem : Problem) (n : ℕ) (lines : List Line)
   pub begins_limits : IsKeyLine problem resource_limits.text (model_key.Section Limits) []
   pub states_limits : AreLines
       (λ _ line l. IsLimitLine m.resources m.periods (fields_of line) l) 0 limits m.limits
-  pub rising_limits : AllPairs (λ l k. IsTrue (stands_before l k)) m.limits
+  pub rising_limits : RiseStrictly m.limits

@@ -11,6 +11,7 @@ use crate::model_key::{Header, HeaderKey, Problem};
 use crate::model_keys::is_word;
 use crate::text_fault::TextKind;
 use pit_model::name::is_name;
+use pit_model::ranges::{MAX_BLOCKS, MAX_DESTINATIONS, MAX_PERIODS, MAX_RESOURCES};
 
 /// The header before its first key.
 pub fn blank_header(problem: Problem) -> Header
@@ -98,7 +99,7 @@ fn type_text(problem: Problem) -> &'static [u8]
 fn with_blocks(blocks: usize, value: &[u8], header: Header) -> Result<Header, TextKind>
     ensures { result ≡ header_with Problem.Pcpsp blocks HeaderKey.Blocks value.now header }
 {
-    if whole_in(value, 64_000_001)? == blocks as u64 {
+    if whole_in(value, MAX_BLOCKS as u64 + 1)? == blocks as u64 {
         Ok(Header {
             is_counted: true,
             ..header
@@ -111,7 +112,7 @@ fn with_blocks(blocks: usize, value: &[u8], header: Header) -> Result<Header, Te
 fn with_periods(value: &[u8], header: Header) -> Result<Header, TextKind>
     ensures { result ≡ header_with Problem.Pcpsp 0 HeaderKey.Periods value.now header }
 {
-    let periods = counted_in(value, 101)?;
+    let periods = counted_in(value, u64::from(MAX_PERIODS) + 1)?;
     Ok(Header {
         periods: Some(periods as u8),
         ..header
@@ -121,7 +122,7 @@ fn with_periods(value: &[u8], header: Header) -> Result<Header, TextKind>
 fn with_destinations(value: &[u8], header: Header) -> Result<Header, TextKind>
     ensures { result ≡ header_with Problem.Pcpsp 0 HeaderKey.Destinations value.now header }
 {
-    let destinations = counted_in(value, 9)?;
+    let destinations = counted_in(value, u64::from(MAX_DESTINATIONS) + 1)?;
     Ok(Header {
         destinations: Some(destinations as u8),
         ..header
@@ -131,7 +132,7 @@ fn with_destinations(value: &[u8], header: Header) -> Result<Header, TextKind>
 fn with_resources(value: &[u8], header: Header) -> Result<Header, TextKind>
     ensures { result ≡ header_with Problem.Pcpsp 0 HeaderKey.Resources value.now header }
 {
-    let resources = whole_in(value, 9)?;
+    let resources = whole_in(value, u64::from(MAX_RESOURCES) + 1)?;
     Ok(Header {
         resources: Some(resources as u8),
         ..header

@@ -1,7 +1,7 @@
 -- What the valuers hand on of a whole gathering is complete.
-use Rattle.std.proofs.Common.{◌≡◌, ℕ, ◌+◌, ◌<◌, ◌≤◌, Bool, true, false, ◌&&◌, cond, eqb, List, [], ◌∷◌, length, map, get_or, Some, refl, sym, ap, subst, ◌∙◌, ⊎_elim, arith}
+use Rattle.std.proofs.Common.{◌≡◌, ℕ, ◌+◌, ◌<◌, ◌≤◌, Bool, false, ◌&&◌, cond, eqb, List, [], ◌∷◌, length, map, get_or, Some, refl, sym, ap, subst, ◌∙◌, ⊎_elim, arith}
 use Rattle.std.specs.List.{All, AllByRecursion, count_by, sum_by, slice_get}
-use Rattle.std.proofs.lemmas.Bool.{cases_eq, eqb-false, ne_eqb, true_from_ne_false}
+use Rattle.std.proofs.lemmas.Bool.{cases_eq, ne_eqb, eq-eqb}
 use Rattle.std.proofs.lemmas.List.Elements.{recursion_from_All, All-from_recursion, All-append, All-nil, All-weaker}
 use Rattle.std.proofs.lemmas.List.Sums.{sum_by-append, sum_by-cons}
 use Rattle.std.proofs.lemmas.Option.{same_Some, slice_get_within, slice_get-get_or, get_or_from_slice_get}
@@ -75,18 +75,15 @@ counted-same p q x y xs ys same rest =
 counted-no : {X : Type 0} (p : X → Bool) (x : X) (xs : List X) → p x ≡ false → count_by p (x ∷ xs) ≡ count_by p xs
 counted-no p x xs fails = let e = counted p x xs ∙ ap (λ b. cond b 1 0 + count_by p xs) fails in omega arith
 
-eqb-same : (a b : ℕ) → a ≡ b → eqb a b ≡ true
-eqb-same a b e = true_from_ne_false (eqb a b) (λ f. eqb-false a b f e)
-
 not-both : (f file p r : ℕ) → (f ≡ file → p ≡ r → ⊥) → (eqb f file && eqb p r) ≡ false
 not-both f file p r differs =
-    ⊎_elim (λ same. let other : p ≡ r → ⊥ = differs same in rw (eqb-same f file same, ne_eqb p r other) refl)
+    ⊎_elim (λ same. let other : p ≡ r → ⊥ = differs same in rw (eq-eqb f file same, ne_eqb p r other) refl)
     (λ other. rw (ne_eqb f file other) refl)
     (cases_eq f file)
 
 as-both : (f file n r : ℕ) → (f ≡ file → n ≡ r) → eqb f file ≡ (eqb f file && eqb n r)
 as-both f file n r same_then =
-    ⊎_elim (λ same. rw (eqb-same f file same, eqb-same n r (same_then same)) refl)
+    ⊎_elim (λ same. rw (eq-eqb f file same, eq-eqb n r (same_then same)) refl)
     (λ other. rw (ne_eqb f file other) refl)
     (cases_eq f file)
 

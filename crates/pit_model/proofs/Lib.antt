@@ -1,6 +1,7 @@
 pub mod BandFacts
 pub mod BandSteps
 pub mod CellFacts
+pub mod DecimalFaults
 pub mod DemandFacts
 pub mod Limits
 pub mod Names

@@ -1,14 +1,14 @@
 -- One limit more, in its place, keeps what a list of limits keeps.
-use Rattle.std.proofs.Common.{◌≡◌, ◌≤◌, ◌||◌, List, [], ◌∷◌, Bool, true, false, not, arith, refl, ap, length, nat_lt, All, rules, unwrap_or}
+use Rattle.std.proofs.Common.{◌≡◌, ◌≤◌, ◌||◌, List, [], ◌∷◌, Bool, true, false, not, suc, arith, refl, ap, length, nat_lt, All, unwrap_or}
+use Rattle.std.specs.Prelude.{IsTrue}
 use Rattle.std.specs.List.{list_any, insert, position, position_or_len}
 use Rattle.std.proofs.lemmas.Bool.Decides.{nat_tests}
 use Rattle.std.proofs.Math.Numerals.{one-add}
 use Rattle.std.proofs.lemmas.List.Elements.{All-nil, All-cons, All-head, All-tail, All-weaker}
+use Rattle.std.proofs.lemmas.List.Kept.{AllPairs-cons}
 use Rattle.std.proofs.lemmas.List.Sums.{prefix_len-le-length}
-use Rattle.pit_model.specs.Plan.{stands_before, RiseStrictly, AreTonnes, IsBound}
-use Rattle.pit_model.specs.Planned.{with_limit, is_same_place, is_turned}
-use Rattle.pit_model.specs.declared.limit.Bound.{Bound}
-use Rattle.pit_model.specs.declared.limit.Bound.TheVariants.{AtMost, AtLeast, Between}
+use Rattle.pit_model.specs.Plan.{stands_before, RiseStrictly}
+use Rattle.pit_model.specs.Planned.{with_limit, is_same_place}
 use Rattle.pit_model.specs.declared.limit.Limit.{Limit}
 
 pub placed : {X : Type 0} (p : X → Bool) (xs : List X) → unwrap_or (position p xs) (length xs) ≡ position_or_len p xs
@@ -50,26 +50,30 @@ none_first : (a b : Bool) → (a || b) ≡ false → (a ≡ false) × (b ≡ fal
 none_first true b h = absurd (cc)
 none_first false b h = (refl, h)
 
+abbrev before : Limit → Limit → Type 0
+before l m = IsTrue (stands_before l m)
+
+-- of limits that rise, the first stands before those behind it, which rise
+pub first_rises : (l : Limit) (ls : List Limit) → RiseStrictly (l ∷ ls) → All (λ m. stands_before l m ≡ true) ls
+first_rises l ls up k d within = up 0 (suc k) d (omega arith) (omega arith)
+
+pub rest_rises : (l : Limit) (ls : List Limit) → RiseStrictly (l ∷ ls) → RiseStrictly ls
+rest_rises l ls up i j d before within = up (suc i) (suc j) d (omega arith) (omega arith)
+
 pub rises : (l : Limit) (ms : List Limit) → RiseStrictly ms → list_any (λ m. is_same_place l m) ms ≡ false → RiseStrictly (with_limit l ms)
-rises l [] up none = (All-nil (λ m. stands_before l m ≡ true), tt)
+rises l [] up none = AllPairs-cons before l [] (All-nil (λ m. stands_before l m ≡ true)) up
 rises l (m ∷ ms) up none =
-    by_test (rises l ms up.1 others.1) (stands_before l m) refl
+    by_test (rises l ms (rest_rises m ms up) others.1) (stands_before l m) refl
   where
     others : (is_same_place l m ≡ false) × (list_any (λ k. is_same_place l k) ms ≡ false)
     others = none_first _ _ none
 
     by_test : RiseStrictly (with_limit l ms) → (b : Bool) → stands_before l m ≡ b → RiseStrictly (with_limit l (m ∷ ms))
     by_test more true e =
-        rw e (
-          All-cons (λ k. stands_before l k ≡ true) m ms e
-              (All-weaker (λ k. stands_before m k ≡ true) (λ k. stands_before l k ≡ true) (λ k h. trans l m k e h) ms up.0),
-          up,
-        )
+        rw e (AllPairs-cons before l (m ∷ ms)
+        (All-cons (λ k. stands_before l k ≡ true) m ms e
+        (All-weaker (λ k. stands_before m k ≡ true) (λ k. stands_before l k ≡ true) (λ k h. trans l m k e h) ms (first_rises m ms up)))
+        up)
     by_test more false e =
-        rw e (All-with_limit (λ k. stands_before m k ≡ true) l ms (after l m e others.0) up.0, more)
-
--- a bound whose ends are the right way round
-pub bound_kept : (b : Bound) → AreTonnes b → is_turned b ≡ false → IsBound b
-bound_kept (AtMost v) t h = t
-bound_kept (AtLeast v) t h = t
-bound_kept (Between v w) t h = (t.0, t.1, search rules)
+        rw e (AllPairs-cons before m (with_limit l ms)
+        (All-with_limit (λ k. stands_before m k ≡ true) l ms (after l m e others.0) (first_rises m ms up)) more)

@@ -1,35 +1,32 @@
 -- What the draft of a plan holds is what its records have spelled.
-use Rattle.std.specs.Prelude.{◌≡◌, ℕ, ◌+◌, ◌*◌, ◌%◌, ◌-◌, ◌^◌, ◌<◌, ◌≤◌, ◌==◌, Bool, true, false, not, ◌&&◌, ◌||◌, List, [], ◌∷◌, ◌++◌, length, map, drop, position, slice_get, All, ℤ, pos, negsuc, ◌≤ℤ◌, Option, Some, None, is_some, IfSome, unwrap_or, nat_lt, Result, Ok, Err, if◌then◌else◌, ◌⊎◌, codes}
-use Rattle.std.proofs.Common.{refl, sym, ◌∙◌, ap, subst, arith, inl, inr, eqb-true, eq-eqb, ltb-true, ltb-false}
+use Rattle.std.specs.Prelude.{◌≡◌, ℕ, ◌+◌, ◌-◌, ◌^◌, ◌<◌, ◌≤◌, ◌==◌, Bool, true, false, not, List, [], ◌∷◌, ◌++◌, length, map, All, ℤ, pos, ◌≤ℤ◌, Option, Some, None, is_some, IfSome, unwrap_or, Result, Ok, Err, if◌then◌else◌, ◌⊎◌}
+use Rattle.std.proofs.Common.{refl, sym, subst, arith, inl, inr, eqb-true, eq-eqb}
 use Rattle.std.proofs.lemmas.List.{length-append, map-append}
 use Rattle.std.proofs.lemmas.List.Elements.{All-nil, All-push, All-weaker}
 use Rattle.std.proofs.lemmas.List.Sorted.{IsPermutation-refl}
-use Rattle.std.specs.List.{AllZip, list_any}
 use Rattle.std.specs.List.Sorted.{IsPermutation}
 use Rattle.pit_model.proofs.DemandFacts.{Follows, behind, bound, mapped, guarded, last_guarded}
 use Rattle.pit_model.specs.Steps.{◌>>=◌}
-use Rattle.pit_model.specs.Demands.{AreMet, Demand, demand, FailsFirst}
-use Rattle.pit_model.specs.Bands.{starts_rise, AreBands, IsBand}
+use Rattle.pit_model.specs.Demands.{Demand, demand}
 use Rattle.pit_model.specs.Cells.{cell_at}
 use Rattle.pit_model.specs.Name.{is_name}
-use Rattle.pit_model.specs.Plan.{IsGrid, IsAxis, IsSlope, IsCone, IsRuled, IsBound, AreCovers, RiseStrictly, has_repeat}
-use Rattle.pit_model.specs.PlanDemands.{asked, width, a_name, an_origin, a_size, a_slope, zone_cells, band_cells, covered_cells, is_interval, a_period, limit_cells, limit_order, tonnes, whole, number, new_destination, room_for_destination}
-use Rattle.pit_model.specs.PlanPart.{Part, TheName, TheGrid, AZone, ADestination, ThePeriods, TheRate, AResource, ALimit, Stated, with_part, SpellPart, SpellAxis, SpellSlope, SpellCone, SpellBands, SpellBound, StandsWhole, NamesDestination, NamesResource, destination}
-use Rattle.pit_model.specs.Planned.{DraftView, blank_draft, name_in, is_taken, with_zone, slope_in, with_formula, band_in, bands_in, with_leach, cone_in, equal_zone_in, sided_zone_in, axis, admit_name, admit_grid, admit_zone, admit_mill, admit_leach, admit_dump, admit_periods, admit_rate, admit_resource, admit_limit, origin_in, size_in, whole_in, number_in}
+use Rattle.pit_model.specs.Plan.{IsGrid, IsSlope, IsCone, IsRuled, IsBound, AreCovers, RiseStrictly}
+use Rattle.pit_model.specs.PlanDemands.{asked, width, a_name, an_origin, a_size, a_slope, zone_cells, whole, new_destination, room_for_destination}
+use Rattle.pit_model.specs.PlanPart.{Part, TheName, TheGrid, AZone, Stated, with_part, SpellPart, SpellSlope, SpellCone, NamesDestination, destination}
+use Rattle.pit_model.specs.Planned.{DraftView, blank_draft, name_in, is_taken, with_zone, slope_in, with_formula, equal_zone_in, sided_zone_in, axis, admit_name, admit_grid, admit_zone, admit_mill, admit_dump, origin_in, size_in, whole_in}
 use Rattle.pit_model.specs.declared.cone.Cone.{Cone}
-use Rattle.pit_model.specs.declared.cone.Slope.{Slope}
 use Rattle.pit_model.specs.declared.formula.Formula.{Formula}
-use Rattle.pit_model.specs.declared.formula.Formula.TheVariants.{Mill, Leach, Dump}
+use Rattle.pit_model.specs.declared.formula.Formula.TheVariants.{Mill, Dump}
 use Rattle.pit_model.specs.declared.formula.NamedFormula.{NamedFormula}
 use Rattle.pit_model.specs.declared.grid.Grid.{Grid}
 use Rattle.pit_model.specs.declared.limit.Limit.{Limit}
 use Rattle.pit_model.specs.declared.plan_fault.PlanFaultKind.{PlanFaultKind}
-use Rattle.pit_model.specs.declared.plan_fault.PlanFaultKind.TheVariants.{Width, Name, Twice, Order, TooMany}
+use Rattle.pit_model.specs.declared.plan_fault.PlanFaultKind.TheVariants.{Width, Name, Twice, TooMany}
 use Rattle.pit_model.specs.declared.plan_key.PlanKey.{PlanKey}
 use Rattle.pit_model.specs.declared.plan_key.PlanKey.TheVariants as key
 use Rattle.pit_model.specs.declared.resource.Resource.{Resource}
-use Rattle.pit_model.proofs.PlanNames.{Apart, apart_none, apart_more, any_named, none_named, found, not_found}
-use Rattle.pit_model.proofs.PlanTold.{number_told, whole_told, origin_told, size_told}
+use Rattle.pit_model.proofs.PlanNames.{Apart, apart_none, apart_more, any_named, none_named}
+use Rattle.pit_model.proofs.PlanTold.{whole_told, origin_told, size_told}
 
 abbrev pub listed : {A : Type 0} → Option A → List A
 listed None = []
@@ -70,9 +67,12 @@ Keeps d ls =
     × IfSome d.rate (λ r. (pos 0 ≤ℤ r) × (r ≤ℤ pos (10 ^ 6))) × KeepsResources (length d.formulas) d.resources
     × KeepsLimits (length d.resources) (unwrap_or d.periods 0) d.limits ls
 
+no_limits : RiseStrictly []
+no_limits i j d before within = absurd (omega arith)
+
 pub blank_keeps : Keeps blank_draft []
 blank_keeps =
-    (tt, (omega arith, All-nil _), (omega arith, All-nil _, apart_none), tt, tt, (omega arith, All-nil _, All-nil _, apart_none), (All-nil _, tt, IsPermutation-refl []))
+    (tt, (omega arith, All-nil _), (omega arith, All-nil _, apart_none), tt, tt, (omega arith, All-nil _, All-nil _, apart_none), (All-nil _, no_limits, IsPermutation-refl []))
 
 -- the draft after a record: one part more than was stated before it
 pub record Adds (s : Stated) (k : PlanKey) (cells : List (List ℕ)) (next : DraftView) : Type 0 where

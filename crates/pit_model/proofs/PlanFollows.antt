@@ -1,37 +1,30 @@
 -- Bands, covered destinations and limits follow what is asked of their cells.
-use Rattle.std.specs.Prelude.{◌≡◌, ℕ, ◌+◌, ◌*◌, ◌%◌, ◌-◌, ◌^◌, ◌<◌, ◌≤◌, ◌==◌, Bool, true, false, not, ◌&&◌, ◌||◌, List, [], ◌∷◌, ◌++◌, length, map, drop, position, slice_get, All, ℤ, pos, negsuc, ◌≤ℤ◌, Option, Some, None, is_some, IfSome, unwrap_or, nat_lt, Result, Ok, Err, if◌then◌else◌, ◌⊎◌, codes}
+use Rattle.std.specs.Prelude.{◌≡◌, ℕ, ◌+◌, ◌*◌, ◌%◌, ◌-◌, ◌^◌, ◌<◌, ◌≤◌, ◌==◌, Bool, true, false, not, ◌||◌, List, [], ◌∷◌, ◌++◌, length, map, drop, position, slice_get, All, ℤ, pos, negsuc, ◌≤ℤ◌, Option, Some, None, IfSome, unwrap_or, nat_lt, Result, Ok, Err, if◌then◌else◌, ◌⊎◌, codes}
 use Rattle.std.proofs.Common.{refl, sym, ◌∙◌, ap, subst, arith, inl, inr, eqb-true, eq-eqb, ltb-true, ltb-false}
 use Rattle.std.proofs.lemmas.List.{length-append, map-append}
 use Rattle.std.proofs.lemmas.List.Elements.{All-nil, All-cons, All-push, All-weaker}
-use Rattle.std.proofs.lemmas.List.Sorted.{IsPermutation-refl}
-use Rattle.std.proofs.lemmas.Bool.{and_parts}
+use Rattle.std.proofs.lemmas.Bool.{and_parts, not-false}
 use Rattle.std.specs.List.{AllZip, list_any}
 use Rattle.std.specs.List.Sorted.{IsPermutation}
 use Rattle.pit_model.proofs.DemandFacts.{Follows, behind, bound, mapped, guarded, last_guarded, weaker}
 use Rattle.pit_model.specs.Steps.{◌>>=◌}
-use Rattle.pit_model.specs.Demands.{AreMet, Demand, demand, FailsFirst}
+use Rattle.pit_model.specs.Demands.{Demand, demand}
 use Rattle.pit_model.specs.Bands.{starts_rise, AreBands, IsBand}
 use Rattle.pit_model.specs.Cells.{cell_at}
-use Rattle.pit_model.specs.Name.{is_name}
-use Rattle.pit_model.specs.Plan.{IsGrid, IsAxis, IsSlope, IsCone, IsRuled, IsBound, AreCovers, RiseStrictly, has_repeat}
-use Rattle.pit_model.specs.PlanDemands.{asked, width, a_name, an_origin, a_size, a_slope, zone_cells, band_cells, covered_cells, is_interval, a_period, limit_cells, limit_order, leach_end, resource_end, limit_end, tonnes, whole, number, new_destination, room_for_destination}
-use Rattle.pit_model.specs.PlanPart.{Part, TheName, TheGrid, AZone, ADestination, ThePeriods, TheRate, AResource, ALimit, Stated, with_part, SpellPart, SpellAxis, SpellSlope, SpellCone, SpellBands, SpellBound, StandsWhole, NamesDestination, NamesResource, destination}
-use Rattle.pit_model.specs.Planned.{DraftView, blank_draft, name_in, is_taken, with_zone, slope_in, with_formula, band_in, bands_in, with_leach, cone_in, equal_zone_in, sided_zone_in, axis, admit_name, admit_grid, admit_zone, admit_mill, admit_leach, admit_dump, admit_periods, admit_rate, admit_resource, admit_limit, origin_in, size_in, whole_in, number_in}
-use Rattle.pit_model.specs.declared.cone.Cone.{Cone}
-use Rattle.pit_model.specs.declared.cone.Slope.{Slope}
-use Rattle.pit_model.specs.declared.formula.Formula.{Formula}
-use Rattle.pit_model.specs.declared.formula.Formula.TheVariants.{Mill, Leach, Dump}
+use Rattle.pit_model.specs.Plan.{IsBound, AreCovers, has_repeat}
+use Rattle.pit_model.specs.PlanDemands.{asked, band_cells, covered_cells, is_interval, a_period, limit_cells, limit_order, leach_end, resource_end, limit_end, tonnes, whole, number}
+use Rattle.pit_model.specs.PlanPart.{ThePeriods, TheRate, AResource, ALimit, Stated, SpellBands, SpellBound, StandsWhole, NamesDestination, NamesResource, destination}
+use Rattle.pit_model.specs.Planned.{DraftView, is_taken, band_in, bands_in, with_leach, admit_leach, admit_periods, admit_rate, admit_resource, admit_limit, whole_in, number_in}
+use Rattle.pit_model.specs.declared.formula.Formula.TheVariants.{Leach}
 use Rattle.pit_model.specs.declared.formula.NamedFormula.{NamedFormula}
-use Rattle.pit_model.specs.declared.grid.Grid.{Grid}
 use Rattle.pit_model.specs.declared.limit.Limit.{Limit}
 use Rattle.pit_model.specs.declared.plan_fault.PlanFaultKind.{PlanFaultKind}
 use Rattle.pit_model.specs.declared.plan_fault.PlanFaultKind.TheVariants.{Width, Name, Twice, Order, TooMany}
-use Rattle.pit_model.specs.declared.plan_key.PlanKey.{PlanKey}
 use Rattle.pit_model.specs.declared.plan_key.PlanKey.TheVariants as key
 use Rattle.pit_model.specs.declared.resource.Resource.{Resource}
-use Rattle.pit_model.proofs.PlanNames.{Apart, apart_none, apart_more, any_named, none_named, found, not_found}
-use Rattle.pit_model.proofs.PlanTold.{number_told, whole_told, origin_told, size_told}
-use Rattle.std.proofs.Common.{length-drop, suc, zero, append-nil, append_assoc}
+use Rattle.pit_model.proofs.PlanNames.{Apart, apart_more, any_named, none_named, found, not_found}
+use Rattle.pit_model.proofs.PlanTold.{number_told, whole_told}
+use Rattle.std.proofs.Common.{length-drop, append-nil, append_assoc}
 use Rattle.std.proofs.lemmas.Int.{ints}
 use Rattle.std.proofs.lemmas.List.{length-map}
 use Rattle.std.proofs.lemmas.List.Folds.{Any-from_list_any, list_any_at}
@@ -40,18 +33,20 @@ use Rattle.std.proofs.lemmas.Option.{slice_get_within}
 use Rattle.std.specs.List.{position_or_len}
 use Rattle.std.specs.Prelude.{get_or, unsigned_abs, int_le, ◌/◌}
 use Rattle.std.specs.Str.{bytes_eq}
-use Rattle.pit_units.specs.Decimal.{StandsFor, decimal_of}
-use Rattle.pit_model.specs.Plan.{AreTonnes, IsTonnes, stands_before}
+use Rattle.std.proofs.lemmas.Slice.Zip.{AllZip-long}
+use Rattle.pit_units.specs.Decimal.{StandsFor}
+use Rattle.pit_model.specs.Plan.{AreTonnes, IsTonnes, is_turned, stands_before}
 use Rattle.pit_model.specs.PlanDemands.{IsWithin, IsDecimal, IsFine}
-use Rattle.pit_model.specs.Planned.{known, destination_in, resource_in, covers_in, is_resource, period_in, tonnes_in, bound_in, is_turned, is_same_place, with_limit, with_bound, limit_width, stated}
+use Rattle.pit_model.specs.Planned.{known, destination_in, resource_in, covers_in, is_resource, period_in, tonnes_in, bound_in, is_same_place, with_limit, with_bound, limit_width}
 use Rattle.pit_model.specs.declared.band.Band.{Band}
 use Rattle.pit_model.specs.declared.limit.Bound.{Bound}
 use Rattle.pit_model.specs.declared.limit.Bound.TheVariants.{AtMost, AtLeast, Between}
 use Rattle.pit_model.specs.declared.plan_fault.PlanFaultKind.TheVariants.{Number, TooFine, Range}
-use Rattle.pit_model.proofs.Limits.{inserted, All-with_limit, rises, bound_kept}
+use Rattle.pit_model.proofs.Limits.{inserted, All-with_limit, rises}
 use Rattle.pit_model.proofs.PlanDraft.{listed, stated_of, Keeps, Adds, width_then, named_then, once_told, other, room_told, destination_told, formula_told}
 use Rattle.pit_model.proofs.PlanNames.{bytes_same, same_bytes, bytes_other}
-use Rattle.pit_model.proofs.PlanTold.{one_number, one_whole, whole_from, read_number, reworded, le_true, true_le}
+use Rattle.pit_model.proofs.DecimalFaults.{one_number}
+use Rattle.pit_model.proofs.PlanTold.{one_whole, whole_from, read_number, reworded, le_true, true_le}
 
 pub periods_follows : (d : DraftView) (ls : List Limit) (cells : List (List ℕ)) → Keeps d ls
     → Follows (admit_periods d cells) (asked (stated_of d ls) key.Periods cells) (Adds (stated_of d ls) key.Periods cells)
@@ -151,7 +146,7 @@ leach_told : (d : DraftView) (ls : List Limit) (cells : List (List ℕ)) (bands 
 leach_told d ls cells bands price cost k long spelled in_range is_price is_cost =
     destination_told d ls cells key.Leach _ _ (λ free.
     guarded (not (starts_rise bands)) Order ((others : List Band) → SpellBands (drop 4 cells) others → starts_rise others ≡ true) _ _ Q (λ t h. absurd (cc (t, h bands spelled))) (λ rise.
-    let rising : starts_rise bands ≡ true = not_false (starts_rise bands) rise in (
+    let rising : starts_rise bands ≡ true = not-false (starts_rise bands) rise in (
       (λ others h. subst (λ (these : List Band). starts_rise these ≡ true) (same others h) rising),
       guarded (nat_lt 16 (length bands)) TooMany ((others : List Band) → SpellBands (drop 4 cells) others → length others ≤ 16) _ _ Q
           (λ t h. omega (arith, ltb-true 16 (length bands) t, h bands spelled)) (λ t.
@@ -169,10 +164,6 @@ leach_told d ls cells bands price cost k long spelled in_range is_price is_cost 
 
     same : (others : List Band) → SpellBands (drop 4 cells) others → bands ≡ others
     same others h = one_bands (drop 4 cells) bands others spelled h
-
-    not_false : (t : Bool) → not t ≡ false → t ≡ true
-    not_false true e = refl
-    not_false false e = absurd cc
 
 pub leach_follows : (d : DraftView) (ls : List Limit) (cells : List (List ℕ)) → Keeps d ls
     → Follows (admit_leach d cells) (asked (stated_of d ls) key.Leach cells) (Adds (stated_of d ls) key.Leach cells)
@@ -233,12 +224,6 @@ one_covers s (cell ∷ cells) (a ∷ these) (b ∷ those) apart h k =
     let first = apart a b cell h.0 k.0 in
     let rest = one_covers s cells these those apart h.1 k.1 in
     λ i. first i ∷ rest i
-
-as_many : {A B : Type 0} (R : A → B → Type 0) (xs : List A) (ys : List B) → AllZip R xs ys → length xs ≡ length ys
-as_many R [] [] zip = refl
-as_many R [] (y ∷ ys) zip = absurd zip
-as_many R (x ∷ xs) [] zip = absurd zip
-as_many R (x ∷ xs) (y ∷ ys) zip = omega (arith, as_many R xs ys zip.1)
 
 either : {B : Type 0} (s t : Bool) (first second : Type 0) (r : Result B PlanFaultKind) (es : List (Demand PlanFaultKind)) (Q : B → Type 0)
     → (s ≡ true → ¬ first) → (s ≡ false → first) → (t ≡ true → ¬ second) → (t ≡ false → second) → (s ≡ false → t ≡ false → Follows r es Q)
@@ -305,7 +290,7 @@ resource_told d ls cells covers k long spelled within =
     same others h = one_covers s (drop 2 cells) covers others k.2.2 spelled h
 
     some : 1 ≤ length covers
-    some = omega (arith, as_many (NamesDestination s) (drop 2 cells) covers spelled, length-drop 2 cells)
+    some = omega (arith, AllZip-long (NamesDestination s) (drop 2 cells) covers spelled, length-drop 2 cells)
 
 pub resource_follows : (d : DraftView) (ls : List Limit) (cells : List (List ℕ)) → Keeps d ls
     → Follows (admit_resource d cells) (asked (stated_of d ls) key.Resource cells) (Adds (stated_of d ls) key.Resource cells)
@@ -431,17 +416,13 @@ order_told cells b next Q spells kept = by b (is_interval cells) refl spells kep
         last_guarded (not (int_le v w)) Order ((a b : ℤ) → StandsFor 6 (cell_at cells 4) a → StandsFor 6 (cell_at cells 5) b → a ≤ℤ b) next Q
         (λ t h. let le = true_le v w (h v w spells.1 spells.2) in absurd (cc (t, le)))
         (λ t.
-        let le : v ≤ℤ w = le_true v w (not_no (int_le v w) t) in (
+        let le : v ≤ℤ w = le_true v w (not-false (int_le v w) t) in (
           (λ a b is_a is_b.
               let same_a : v ≡ a = one_number 6 (cell_at cells 4) v a (omega arith) spells.1 is_a in
               let same_b : w ≡ b = one_number 6 (cell_at cells 5) w b (omega arith) spells.2 is_b in
               subst (λ z. a ≤ℤ z) same_b (subst (λ z. z ≤ℤ w) same_a le)),
           kept t,
         ))
-      where
-        not_no : (t : Bool) → not t ≡ false → t ≡ true
-        not_no true e = refl
-        not_no false e = absurd cc
 
 limit_order_of : (l : Limit) (ls ms : List Limit) → IsPermutation ls ms → IsPermutation (ls ++ l ∷ []) (with_limit l ms)
 limit_order_of l ls ms order =
@@ -465,7 +446,7 @@ limit_told d ls cells l k is_r is_t is_b =
           let same_t : l.period ≡ t = one_whole (cell_at cells 2) l.period t is_t.0 stands in
           subst (λ n. All (λ m. ¬ ((m.resource ≡ n) × (m.period ≡ t))) ls) same_r
           (subst (λ n. All (λ m. ¬ ((m.resource ≡ l.resource) × (m.period ≡ n))) ls) same_t (beside l ls d.limits k.6.2 none))),
-      order_told cells l.bound (record d { limits = with_limit l d.limits }) (Adds (stated_of d ls) key.Limit cells) is_b.0 (λ upward. record {
+      order_told cells l.bound (record d { limits = with_limit l d.limits }) (Adds (stated_of d ls) key.Limit cells) is_b.0 (λ straight. record {
         part = ALimit l;
         spells = (l, refl, is_r, is_t.0, is_b.0);
         ls = ls ++ l ∷ [];
@@ -479,7 +460,7 @@ limit_told d ls cells l k is_r is_t is_b =
           k.5,
           (
             All-with_limit (λ m. (m.resource < length d.resources) × (m.period < unwrap_or d.periods 0) × IsBound m.bound) l d.limits
-                (within, is_t.1, bound_kept l.bound is_b.1 upward) k.6.0,
+                (within, is_t.1, record { tonnes = is_b.1; straight = straight }) k.6.0,
             rises l d.limits k.6.1 none,
             limit_order_of l ls d.limits k.6.2,
           ),

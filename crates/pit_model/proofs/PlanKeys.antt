@@ -1,11 +1,10 @@
 -- The key that a cell is, by its word; and the part that the cells of a key spell is one.
-use Rattle.std.specs.Prelude.{◌≡◌, ℕ, ◌*◌, ◌<◌, Bool, true, false, List, [], ◌∷◌, length, map, drop, ℤ, pos, ◌*ℤ◌, Option, Some, None, if◌then◌else◌, ◌⊎◌, codes}
+use Rattle.std.specs.Prelude.{◌≡◌, ℕ, ◌*◌, Bool, true, false, List, map, drop, ℤ, pos, ◌*ℤ◌, Option, Some, None, if◌then◌else◌, codes}
 use Rattle.std.proofs.Common.{refl, sym, ◌∙◌, ap, subst, arith, inl, inr}
 use Rattle.std.proofs.lemmas.Int.{ints}
 use Rattle.std.specs.Str.{bytes_eq, str_to_ascii_lowercase}
-use Rattle.pit_units.specs.Decimal.{StandsFor}
 use Rattle.pit_model.specs.Cells.{cell_at, is_word}
-use Rattle.pit_model.specs.PlanPart.{Part, Stated, TheGrid, AZone, ADestination, ThePeriods, TheRate, AResource, ALimit, destination, word_of, BeginsWith, SpellPart, SpellAxis, SpellSlope, SpellCone, SpellBound, StandsMetres, StandsWhole, NamesResource}
+use Rattle.pit_model.specs.PlanPart.{Part, Stated, TheGrid, AZone, ThePeriods, TheRate, AResource, ALimit, destination, word_of, SpellPart, SpellAxis, SpellSlope, SpellCone, SpellBound, StandsMetres}
 use Rattle.pit_model.specs.Planned.{key_of}
 use Rattle.pit_model.specs.declared.cone.Cone.{Cone}
 use Rattle.pit_model.specs.declared.cone.Slope.{Slope}
@@ -19,7 +18,8 @@ use Rattle.pit_model.specs.declared.plan_key.PlanKey.{PlanKey}
 use Rattle.pit_model.specs.declared.plan_key.PlanKey.TheVariants as key
 use Rattle.pit_model.proofs.PlanFollows.{one_bands, one_covers}
 use Rattle.pit_model.proofs.PlanNames.{Apart, bytes_same, bytes_other}
-use Rattle.pit_model.proofs.PlanTold.{one_number, one_whole}
+use Rattle.pit_model.proofs.DecimalFaults.{one_number}
+use Rattle.pit_model.proofs.PlanTold.{one_whole}
 
 -- the key by the small letters of a cell
 abbrev key_by : List ℕ → Option PlanKey

@@ -1,17 +1,17 @@
 -- Records spell a plan exactly where they state it, and the first that spells no part is the first faulty one.
-use Rattle.std.specs.Prelude.{◌≡◌, ◌↔◌, ℕ, zero, suc, ◌+◌, ◌<◌, ◌≤◌, ◌==◌, Bool, true, false, ◌||◌, List, [], ◌∷◌, ◌++◌, length, map, ℤ, All, Option, Some, None, nat_lt, Result, Ok, Err, if◌then◌else◌, ◌⊎◌}
-use Rattle.std.proofs.Common.{refl, sym, ◌∙◌, ap, subst, arith, inl, inr, eqb-true, ltb-true, ltb-false, ne_eqb, append-nil, length-append}
+use Rattle.std.specs.Prelude.{◌≡◌, ℕ, zero, suc, ◌+◌, ◌<◌, ◌≤◌, ◌==◌, Bool, true, false, ◌||◌, List, [], ◌∷◌, ◌++◌, length, ℤ, All, Option, Some, None, nat_lt, Result, Ok, Err, if◌then◌else◌, ◌⊎◌}
+use Rattle.std.proofs.Common.{refl, sym, ◌∙◌, ap, subst, arith, inl, inr, eqb-true, ltb-true, ltb-false, ne_eqb, append-nil}
 use Rattle.std.proofs.lemmas.Bool.Decides.{nat_tests}
-use Rattle.std.proofs.lemmas.List.Elements.{All-contains, Contains-append_cases, Contains-append_right}
+use Rattle.std.proofs.lemmas.List.Elements.{All-contains}
 use Rattle.std.proofs.lemmas.List.Sorted.{Contains-permutation, IsPermutation-sym}
 use Rattle.std.specs.List.{Contains}
 use Rattle.std.specs.List.Sorted.{IsPermutation}
-use Rattle.pit_model.specs.Steps.{◌>>=◌}
-use Rattle.pit_model.specs.Demands.{AreMet, FailsFirst}
-use Rattle.pit_model.specs.Cells.{cell_at, cells_of, is_word}
+use Rattle.pit_model.proofs.Limits.{first_rises, rest_rises}
+use Rattle.pit_model.specs.Demands.{FailsFirst}
+use Rattle.pit_model.specs.Cells.{cell_at, cells_of}
 use Rattle.pit_model.specs.Plan.{PlanParts, IsPlan, RiseStrictly, stands_before, plan_of}
 use Rattle.pit_model.specs.PlanDemands.{asked}
-use Rattle.pit_model.specs.PlanPart.{Part, Stated, nothing_stated, with_part, word_of, BeginsWith, SpellPart}
+use Rattle.pit_model.specs.PlanPart.{Part, Stated, nothing_stated, with_part, BeginsWith, SpellPart}
 use Rattle.pit_model.specs.Planned.{DraftView, blank_draft, key_of, admit, admit_key, at_record, finished, plan_from, whole_plan}
 use Rattle.pit_model.specs.SpelledPlan.{IsRecordOf, AllSpelled, ArePartsOf, SpellPlan, IsFaulty, IsRefused, Lacks, IsLacking}
 use Rattle.pit_model.specs.declared.grid.Grid.{Grid}
@@ -199,7 +199,7 @@ rising_once [] (y ∷ ys) up_x up_y to from = let h = (from y (0, omega arith, r
 rising_once (x ∷ xs) [] up_x up_y to from = let h = (to x (0, omega arith, refl)).1 in absurd (omega (arith, h))
 rising_once (x ∷ xs) (y ∷ ys) up_x up_y to from =
     let same : x ≡ y = heads (first_or_behind x y ys (to x (0, omega arith, refl))) (first_or_behind y x xs (from y (0, omega arith, refl))) in
-    let rest : xs ≡ ys = rising_once xs ys up_x.1 up_y.1 (λ l h. behind_y same l h (first_or_behind l y ys (to l (later x xs l h)))) (λ l h. behind_x same l h (first_or_behind l x xs (from l (later y ys l h)))) in
+    let rest : xs ≡ ys = rising_once xs ys (rest_rises x xs up_x) (rest_rises y ys up_y) (λ l h. behind_y same l h (first_or_behind l y ys (to l (later x xs l h)))) (λ l h. behind_x same l h (first_or_behind l x xs (from l (later y ys l h)))) in
     λ i. same i ∷ rest i
   where
     later : (z : Limit) (zs : List Limit) (l : Limit) → Contains zs l → Contains (z ∷ zs) l
@@ -208,17 +208,17 @@ rising_once (x ∷ xs) (y ∷ ys) up_x up_y to from =
     heads : (y ≡ x) ⊎ Contains ys x → (x ≡ y) ⊎ Contains xs y → x ≡ y
     heads (inl e) other = sym e
     heads (inr h) (inl e) = e
-    heads (inr h) (inr k) = absurd (not_both x y (All-contains (λ m. stands_before x m ≡ true) xs y up_x.0 k) (All-contains (λ m. stands_before y m ≡ true) ys x up_y.0 h))
+    heads (inr h) (inr k) = absurd (not_both x y (All-contains (λ m. stands_before x m ≡ true) xs y (first_rises x xs up_x) k) (All-contains (λ m. stands_before y m ≡ true) ys x (first_rises y ys up_y) h))
 
     behind_y : x ≡ y → (l : Limit) → Contains xs l → (y ≡ l) ⊎ Contains ys l → Contains ys l
     behind_y same l h (inr k) = k
     behind_y same l h (inl e) =
-        absurd (before_itself x (subst (λ m. stands_before x m ≡ true) (sym e ∙ sym same) (All-contains (λ m. stands_before x m ≡ true) xs l up_x.0 h)))
+        absurd (before_itself x (subst (λ m. stands_before x m ≡ true) (sym e ∙ sym same) (All-contains (λ m. stands_before x m ≡ true) xs l (first_rises x xs up_x) h)))
 
     behind_x : x ≡ y → (l : Limit) → Contains ys l → (x ≡ l) ⊎ Contains xs l → Contains xs l
     behind_x same l h (inr k) = k
     behind_x same l h (inl e) =
-        absurd (before_itself y (subst (λ m. stands_before y m ≡ true) (sym e ∙ same) (All-contains (λ m. stands_before y m ≡ true) ys l up_y.0 h)))
+        absurd (before_itself y (subst (λ m. stands_before y m ≡ true) (sym e ∙ same) (All-contains (λ m. stands_before y m ≡ true) ys l (first_rises y ys up_y) h)))
 
 one_item : {A : Type 0} (a b : A) → a ∷ [] ≡ b ∷ [] → a ≡ b
 one_item a b e = cc

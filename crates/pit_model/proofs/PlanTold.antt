@@ -1,55 +1,22 @@
 -- Reading step by step follows what is asked: where it answers, all of it holds, and a fault is the first that does not.
-use Rattle.std.specs.Prelude.{◌≡◌, ◌≢◌, ℕ, ◌*◌, ◌/◌, ◌%◌, ◌^◌, ◌<◌, ◌≤◌, Bool, true, false, not, ◌&&◌, List, [], ◌∷◌, ◌++◌, length, drop, ℤ, pos, negsuc, unsigned_abs, neg_ℤ, suc, ◌*ℤ◌, ◌≤ℤ◌, int_le, int_div, nat_lt, Result, Ok, Err, if◌then◌else◌, ◌⊎◌}
+use Rattle.std.specs.Prelude.{◌≡◌, ℕ, ◌*◌, ◌/◌, ◌%◌, ◌^◌, ◌≤◌, Bool, true, false, not, ◌&&◌, List, [], ◌∷◌, ◌++◌, ℤ, pos, negsuc, unsigned_abs, neg_ℤ, suc, ◌*ℤ◌, ◌≤ℤ◌, int_le, int_div, Result, Ok, Err, if◌then◌else◌}
 use Rattle.std.proofs.Common.{refl, sym, ◌∙◌, ap, subst, arith, inl, inr}
 use Rattle.std.proofs.lemmas.Bool.{and_parts}
 use Rattle.std.proofs.lemmas.Int.{ints}
 use Rattle.pit_units.proofs.Multiples.{stands_multiple}
-use Rattle.pit_units.proofs.Standing.{number_parts, read_stands, stands_read, spelled_number, spelled_too_fine}
-use Rattle.pit_units.specs.Decimal.{StandsFor, IsSpelled, decimal_of, is_number, all_zeros, fraction_of, whole_of, size_of, signed}
+use Rattle.pit_units.proofs.Standing.{read_stands, stands_read, spelled_number, spelled_too_fine}
+use Rattle.pit_units.specs.Decimal.{StandsFor, decimal_of}
 use Rattle.pit_units.specs.declared.fault.DecFault.{DecFault}
 use Rattle.pit_units.specs.declared.fault.DecFault.TheVariants as dec
 use Rattle.pit_model.specs.Steps.{◌>>=◌}
-use Rattle.pit_model.proofs.DemandFacts.{Follows, behind, bound, mapped, weaker, guarded, fails_before}
+use Rattle.pit_model.proofs.DecimalFaults.{one_number, too_fine_decimal, out_of_range_fine, fine_decimal, stands_fine}
+use Rattle.pit_model.proofs.DemandFacts.{Follows, behind, mapped}
 use Rattle.pit_model.specs.Demands.{AreMet, Demand, demand, FailsFirst}
-use Rattle.pit_model.specs.Planned.{kind_of, stated, number_in, whole_in, origin_in, size_in}
+use Rattle.pit_model.specs.Planned.{stated, number_in, whole_in, origin_in, size_in}
 use Rattle.pit_model.specs.PlanDemands.{IsDecimal, IsFine, IsWithin, number, whole, metres}
 use Rattle.pit_model.specs.PlanPart.{StandsWhole, StandsMetres}
 use Rattle.pit_model.specs.declared.plan_fault.PlanFaultKind.{PlanFaultKind}
 use Rattle.pit_model.specs.declared.plan_fault.PlanFaultKind.TheVariants.{Number, TooFine, Range}
-
--- a text stands for one number
-pub one_number : (decimals : ℕ) (cell : List ℕ) (m n : ℤ) → decimals ≤ 6 → StandsFor decimals cell m → StandsFor decimals cell n → m ≡ n
-one_number decimals cell m n few a b =
-    let same : ◌≡◌ {A = Result ℤ DecFault} (Ok m) (Ok n) = sym (stands_read decimals cell m few a) ∙ stands_read decimals cell n few b in
-    cc
-
-pick_fine : (number fine large : Bool) (found : ℤ) → (if not number then Err dec.Number else (if not fine then Err dec.TooFine else (if large then Err dec.Range else Ok found))) ≡ Err dec.TooFine → number ≡ true
-pick_fine true fine large found e = refl
-pick_fine false fine large found e = absurd cc
-
-pick_range : (number fine large : Bool) (found : ℤ) → (if not number then Err dec.Number else (if not fine then Err dec.TooFine else (if large then Err dec.Range else Ok found))) ≡ Err dec.Range → (number ≡ true) × (fine ≡ true)
-pick_range true true large found e = (refl, refl)
-pick_range true false large found e = absurd cc
-pick_range false fine large found e = absurd cc
-
-too_fine_decimal : (decimals : ℕ) (cell : List ℕ) → decimal_of decimals cell ≡ Err dec.TooFine → IsDecimal cell
-unfolding decimal_of
-too_fine_decimal decimals cell e =
-    let p = number_parts cell (pick_fine (is_number cell) (all_zeros (drop decimals (fraction_of cell))) _ _ e) in
-    (p.sign, whole_of cell, p.tail, fraction_of cell, p.spelled)
-
-out_of_range_fine : (decimals : ℕ) (cell : List ℕ) → decimal_of decimals cell ≡ Err dec.Range → IsFine decimals cell
-unfolding decimal_of
-out_of_range_fine decimals cell e =
-    let h = pick_range (is_number cell) (all_zeros (drop decimals (fraction_of cell))) _ _ e in
-    let p = number_parts cell h.0 in
-    (p.sign, whole_of cell, p.tail, fraction_of cell, p.spelled, h.1)
-
-pub fine_decimal : (decimals : ℕ) (cell : List ℕ) → IsFine decimals cell → IsDecimal cell
-fine_decimal decimals cell f = (f.0, f.1, f.2, f.3, f.4)
-
-pub stands_fine : (decimals : ℕ) (cell : List ℕ) (m : ℤ) → StandsFor decimals cell m → IsFine decimals cell
-stands_fine decimals cell m s = (s.sign, s.whole, s.tail, s.fraction, s.spelled, s.fine)
 
 -- a decimal, and then a test of its number
 pub read_number : {B : Type 0} (decimals : ℕ) (cell : List ℕ) (f : ℤ → Result B PlanFaultKind) (met : Type 0) (Q : B → Type 0) → decimals ≤ 6

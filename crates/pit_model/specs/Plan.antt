@@ -1,5 +1,5 @@
 -- What a plan is: its parts, and the facts that every plan keeps.
-use Rattle.std.specs.Prelude.{◌≡◌, ℕ, ◌<◌, ◌≤◌, ◌^◌, List, [], ◌∷◌, length, ℤ, pos, negsuc, ◌≤ℤ◌, All, Bool, true, false, ◌==◌, ◌&&◌, ◌||◌, nat_lt}
+use Rattle.std.specs.Prelude.{◌≡◌, ℕ, ◌<◌, ◌≤◌, ◌^◌, List, [], ◌∷◌, length, ℤ, pos, ◌≤ℤ◌, All, Bool, false, ◌==◌, ◌&&◌, ◌||◌, nat_lt, AllPairs, IsTrue, int_le, not}
 use Rattle.std.specs.List.{list_any}
 use Rattle.pit_model.specs.Bands.{AreBands}
 use Rattle.pit_model.specs.declared.grid.Axis.{Axis}
@@ -73,11 +73,16 @@ AreTonnes (AtMost v) = IsTonnes v
 AreTonnes (AtLeast v) = IsTonnes v
 AreTonnes (Between v w) = IsTonnes v × IsTonnes w
 
--- and an interval's ends are the right way round
-abbrev pub IsBound : Bound → Type 0
-IsBound (AtMost v) = IsTonnes v
-IsBound (AtLeast v) = IsTonnes v
-IsBound (Between v w) = IsTonnes v × IsTonnes w × (v ≤ℤ w)
+-- an interval's ends are the wrong way round
+abbrev pub is_turned : Bound → Bool
+is_turned (Between v w) = not (int_le v w)
+is_turned (AtMost v) = false
+is_turned (AtLeast v) = false
+
+-- a bound is of tonnes, the right way round
+pub record IsBound (b : Bound) : Type 0 where
+  pub tonnes : AreTonnes b
+  pub straight : is_turned b ≡ false
 
 -- a limit stands before another, by resource and then by period
 abbrev pub stands_before : Limit → Limit → Bool
@@ -85,8 +90,7 @@ stands_before l m = nat_lt l.resource m.resource || ((l.resource == m.resource) 
 
 -- limits rise strictly
 abbrev pub RiseStrictly : List Limit → Type 0
-RiseStrictly [] = Unit {0}
-RiseStrictly (l ∷ ls) = All (λ m. stands_before l m ≡ true) ls × RiseStrictly ls
+RiseStrictly = AllPairs (λ l m. IsTrue (stands_before l m))
 
 -- a number stands twice
 abbrev pub has_repeat : List ℕ → Bool

@@ -1,5 +1,5 @@
 -- The plan that a text states: its records in turn, each as far as its first fault.
-use Rattle.std.specs.Prelude.{ℕ, ◌+◌, ◌*◌, ◌-◌, ◌/◌, ◌%◌, ◌^◌, Bool, false, not, ◌&&◌, ◌||◌, ◌==◌, nat_lt, List, [], ◌∷◌, ◌++◌, length, drop, position, ℤ, pos, negsuc, unsigned_abs, Option, Some, None, is_some, Result, Ok, Err, if◌then◌else◌, codes}
+use Rattle.std.specs.Prelude.{ℕ, ◌+◌, ◌*◌, ◌-◌, ◌/◌, ◌%◌, ◌^◌, Bool, not, ◌&&◌, ◌||◌, ◌==◌, nat_lt, List, [], ◌∷◌, ◌++◌, length, drop, position, ℤ, pos, unsigned_abs, Option, Some, None, is_some, Result, Ok, Err, if◌then◌else◌, codes}
 use Rattle.std.specs.Prelude.{◌*ℤ◌, int_le, int_div}
 use Rattle.std.specs.List.{list_any}
 use Rattle.std.specs.Str.{bytes_eq}
@@ -9,7 +9,7 @@ use Rattle.pit_units.specs.declared.fault.DecFault.TheVariants as number_fault
 use Rattle.pit_model.specs.Bands.{starts_rise}
 use Rattle.pit_model.specs.Cells.{cells_of, cell_at, is_word}
 use Rattle.pit_model.specs.Name.{is_name}
-use Rattle.pit_model.specs.Plan.{PlanParts, plan_of, stands_before, has_repeat}
+use Rattle.pit_model.specs.Plan.{PlanParts, plan_of, stands_before, has_repeat, is_turned}
 use Rattle.pit_model.specs.Records.{records_of}
 use Rattle.pit_model.specs.Steps.{◌>>=◌}
 use Rattle.pit_model.specs.declared.band.Band.{Band}
@@ -250,12 +250,6 @@ bound_in cells =
     else (if bytes_eq (cell_at cells 3) (codes "G") then (tonnes_in (cell_at cells 4) >>= λ v. Ok (AtLeast v))
     else (if bytes_eq (cell_at cells 3) (codes "I") then (tonnes_in (cell_at cells 4) >>= λ v. tonnes_in (cell_at cells 5) >>= λ w. Ok (Between v w))
     else Err Name))
-
--- the interval's ends are the wrong way round
-abbrev pub is_turned : Bound → Bool
-is_turned (Between v w) = not (int_le v w)
-is_turned (AtMost v) = false
-is_turned (AtLeast v) = false
 
 -- two limits are of one resource and period
 abbrev pub is_same_place : Limit → Limit → Bool

@@ -1,20 +1,21 @@
 -- A fault of a zone file is that of the first thing asked that does not hold.
-use Rattle.std.proofs.Common.{◌≡◌, ℕ, suc, ◌+◌, ◌*◌, ◌/◌, ◌%◌, ◌^◌, ◌<◌, ◌≤◌, ◌==◌, Bool, true, false, not, List, [], ◌∷◌, ◌++◌, length, drop, arith, refl, sym, ◌∙◌, ap, subst, ltb-true, ltb-false, eqb-true, eq-eqb, leb-true, le-leb, inl, inr, ℤ, pos, negsuc, Ok, Err, Some}
+use Rattle.std.proofs.Common.{◌≡◌, ℕ, suc, ◌+◌, ◌*◌, ◌/◌, ◌%◌, ◌^◌, ◌<◌, ◌≤◌, ◌==◌, Bool, true, false, not, List, [], ◌∷◌, ◌++◌, length, arith, refl, sym, ◌∙◌, ap, subst, ltb-true, ltb-false, eqb-true, eq-eqb, leb-true, le-leb, inl, inr, ℤ, pos, negsuc, Ok, Err, Some}
 use Rattle.std.specs.Prelude.{Result, nat_lt, nat_le, ◌⊎◌, if◌then◌else◌, codes, ◌-ℤ◌, ◌*ℤ◌, ◌≤ℤ◌}
 use Rattle.std.proofs.Math.Nat.{mul-div_left, div-lt_iff_lt-mul}
 use Rattle.std.proofs.lemmas.Int.{ints}
 use Rattle.std.proofs.lemmas.Nat.{div-add-mod'}
 use Rattle.pit_model.specs.Cells.{trimmed, is_word}
+use Rattle.pit_model.proofs.DecimalFaults.{one_number, too_fine_decimal, out_of_range_fine}
 use Rattle.pit_model.proofs.DemandFacts.{fails_before, fails_behind, both_met}
 use Rattle.pit_model.specs.Demands.{Demand, AreMet, FailsFirst}
-use Rattle.pit_model.specs.PlanDemands.{IsDecimal, IsFine, IsWithin}
+use Rattle.pit_model.specs.PlanDemands.{IsWithin}
 use Rattle.pit_model.specs.Records.{records_of}
 use Rattle.pit_model.specs.declared.block.Block.{Block}
 use Rattle.pit_model.specs.declared.grid.Axis.{Axis}
 use Rattle.pit_model.specs.declared.grid.Grid.{Grid}
 use Rattle.pit_units.proofs.Multiples.{stands_multiple}
-use Rattle.pit_units.proofs.Standing.{number_parts, read_stands, stands_read, spelled_number, spelled_too_fine}
-use Rattle.pit_units.specs.Decimal.{StandsFor, decimal_of, is_number, all_zeros, fraction_of, whole_of}
+use Rattle.pit_units.proofs.Standing.{read_stands, stands_read, spelled_number, spelled_too_fine}
+use Rattle.pit_units.specs.Decimal.{StandsFor, decimal_of}
 use Rattle.pit_units.specs.declared.fault.DecFault.{DecFault}
 use Rattle.pit_units.specs.declared.fault.DecFault.TheVariants as decimal
 use Rattle.zone_csv.proofs.ColumnFacts.{none_at, one_place, place_named, columns_named}
@@ -94,38 +95,6 @@ header_follows header =
     (column_follows column.X (codes "x") refl header) (column_follows column.Y (codes "y") refl header)
     (column_follows column.Z (codes "z") refl header) (column_follows column.Tonnes (codes "tonnes") refl header)
     (column_follows column.Grade (codes "grade") refl header)
-
--- a text stands for one number
-one_number : (decimals : ℕ) (cell : List ℕ) (m n : ℤ) → decimals ≤ 6 → StandsFor decimals cell m → StandsFor decimals cell n → m ≡ n
-one_number decimals cell m n few a b =
-    let same : ◌≡◌ {A = Result ℤ DecFault} (Ok m) (Ok n) = sym (stands_read decimals cell m few a) ∙ stands_read decimals cell n few b in
-    cc
-
-abbrev Tests : Bool → Bool → Bool → ℤ → Result ℤ DecFault
-Tests number fine large found =
-    if not number then Err decimal.Number else (if not fine then Err decimal.TooFine else (if large then Err decimal.Range else Ok found))
-
-pick_fine : (number fine large : Bool) (found : ℤ) → Tests number fine large found ≡ Err decimal.TooFine → number ≡ true
-pick_fine true fine large found e = refl
-pick_fine false fine large found e = absurd cc
-
-pick_range : (number fine large : Bool) (found : ℤ) → Tests number fine large found ≡ Err decimal.Range → (number ≡ true) × (fine ≡ true)
-pick_range true true large found e = (refl, refl)
-pick_range true false large found e = absurd cc
-pick_range false fine large found e = absurd cc
-
-too_fine_decimal : (decimals : ℕ) (cell : List ℕ) → decimal_of decimals cell ≡ Err decimal.TooFine → IsDecimal cell
-unfolding decimal_of
-too_fine_decimal decimals cell e =
-    let p = number_parts cell (pick_fine (is_number cell) (all_zeros (drop decimals (fraction_of cell))) _ _ e) in
-    (p.sign, whole_of cell, p.tail, fraction_of cell, p.spelled)
-
-out_of_range_fine : (decimals : ℕ) (cell : List ℕ) → decimal_of decimals cell ≡ Err decimal.Range → IsFine decimals cell
-unfolding decimal_of
-out_of_range_fine decimals cell e =
-    let h = pick_range (is_number cell) (all_zeros (drop decimals (fraction_of cell))) _ _ e in
-    let p = number_parts cell h.0 in
-    (p.sign, whole_of cell, p.tail, fraction_of cell, p.spelled, h.1)
 
 -- a decimal, its range, and what is asked behind it
 cell_follows : {A : Type 0} (place : Column) (number decimals : ℕ) (cell : List ℕ) (meaning : ℤ → Result A RowFaultKind) (met : Type 0)

@@ -3,6 +3,7 @@ use Rattle.std.proofs.Common.{◌≡◌, ℕ, ◌+◌, ◌*◌, ◌/◌, ◌%◌
 use Rattle.std.specs.Prelude.{Result, Option, nat_lt, nat_le, ◌↔◌, ◌⊎◌, if◌then◌else◌}
 use Rattle.std.proofs.Math.Nat.{mul-div_left}
 use Rattle.std.proofs.lemmas.Bool.Decides.{nat_tests}
+use Rattle.std.proofs.lemmas.Bool.{not-false}
 use Rattle.pit_model.specs.Records.{records_of}
 use Rattle.pit_model.specs.declared.block.Block.{Block}
 use Rattle.pit_model.specs.declared.grid.Axis.{Axis}
@@ -113,10 +114,6 @@ counted true wide number of_cells b is = absurd (cc)
 counted false true number of_cells b is = absurd (cc)
 counted false false number of_cells b is = (refl, refl, is)
 
-not_false : (t : Bool) → not t ≡ false → t ≡ true
-not_false true e = refl
-not_false false e = absurd cc
-
 pub row_spelled : (grid : Grid) (zone : ℕ) (columns : Columns) (number : ℕ) (cells : List (List ℕ)) (b : Block) → zone < 64
     → row_of grid zone columns number cells ≡ Ok b → (number ≤ 1000001) × SpellBlock grid zone columns cells b
 unfolding row_of
@@ -126,7 +123,7 @@ row_spelled grid zone columns number cells b small e =
     (at number column.Z (index_of grid.z (cell_at cells columns.z))) (at number column.Tonnes (kilograms_of (cell_at cells columns.tonnes)))
     (at number column.Grade (grade_of (cell_at cells columns.grade))) b c.2 in
     let spells : SpellBlock grid zone columns cells (block (zone_of zone) f.0 f.1 f.2 f.3 f.4) = record {
-      wide = eqb-true (length cells) columns.width (not_false (length cells == columns.width) c.1);
+      wide = eqb-true (length cells) columns.width (not-false (length cells == columns.width) c.1);
       x = index_spelled grid.x (cell_at cells columns.x) f.0 (at_ok number column.X _ f.0 f.5);
       y = index_spelled grid.y (cell_at cells columns.y) f.1 (at_ok number column.Y _ f.1 f.6);
       z = index_spelled grid.z (cell_at cells columns.z) f.2 (at_ok number column.Z _ f.2 f.7);

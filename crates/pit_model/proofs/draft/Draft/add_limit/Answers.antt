@@ -2,7 +2,7 @@ use Rattle.std.proofs.Common.{◌≡◌, ◌<◌, sym, ◌∙◌, ap, length, un
 use Rattle.std.specs.List.{list_any}
 use Rattle.pit_model.specs.Plan.{IsBound}
 use Rattle.pit_model.specs.Planned.{DraftView, is_same_place}
-use Rattle.pit_model.proofs.Limits.{rises, All-with_limit, bound_kept}
+use Rattle.pit_model.proofs.Limits.{rises, All-with_limit}
 use Rattle.pit_model.proofs.draft.Draft.add_limit.Goals as goal
 
 pub invariant_of-self-2 : goal.invariant_of-self-2
@@ -15,7 +15,7 @@ invariant_of-self-2 c =
     let period : c.args.limit.period < unwrap_or c.self.inside.periods 0 =
     rw (ap (λ (d : DraftView). unwrap_or d.periods 0) c.self.view_is) c.requires.period in
     let bound : IsBound c.args.limit.bound =
-    bound_kept c.args.limit.bound c.requires.tonnes (sym c.is_turned.ensures ∙ c.if-is_turned.false) in
+    record { tonnes = c.requires.tonnes; straight = sym c.is_turned.ensures ∙ c.if-is_turned.false } in
     let none : list_any (λ m. is_same_place c.args.limit m) old ≡ false =
     ap (λ xs. list_any (λ m. is_same_place c.args.limit m) xs) (sym c.as_slice.ensures.value) ∙ sym c.is_limited.ensures ∙ c.if-is_limited.false in
     record {
