@@ -1,6 +1,6 @@
 pub mod Cpit
 pub mod CpitOrder
-pub mod CpitView
+pub mod CpitFields
 pub mod Greatest
 pub mod OfCpit
 pub mod OfModel

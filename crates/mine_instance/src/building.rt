@@ -6,7 +6,7 @@ ghost use Rattle.pit_model.specs.Destinations.{formulas_of_plan};
 ghost use Rattle.pit_model.specs.declared.block.Block.{Block};
 ghost use Rattle.pit_model.specs.Worth.{IsWorth};
 ghost use Rattle.precedence.specs.Cone.{preds as cone_lists};
-ghost use Rattle.precedence.specs.Identifier.{IsNumbering, blocks_of};
+ghost use Rattle.precedence.specs.Identifier.{IsNumbering, blocks_of_rows};
 ghost use Rattle.valuers.specs.Valuing.{worths_by};
 ghost use Rattle.mine_instance.specs.OfModel.{instance, values_of, in_hundreds, covering, covered, coefs_of, block_coefs};
 ghost use Rattle.mine_instance.specs.Valid.{IsValid};
@@ -37,10 +37,10 @@ pub fn build(
     rows: &[Valued],
     plan: &Plan,
 ) -> Result<Instance, AllocError>
-    requires numbering { IsNumbering (blocks_of rows.now) numbering.now }
+    requires numbering { IsNumbering (blocks_of_rows rows.now) numbering.now }
     requires preds { preds ≡ cone_lists plan.now numbering.now.blocks }
     requires worths { All (λ row. row.worths ≡ worths_by (formulas_of_plan plan.now) row.block) rows.now }
-    ensures value { IfOk result (λ built. built ≡ instance plan.now (blocks_of rows.now)) }
+    ensures value { IfOk result (λ built. built ≡ instance plan.now (blocks_of_rows rows.now)) }
     ensures valid { IfOk result IsValid }
 {
     let values = values_by_id(alloc, numbering, rows, plan)?;
@@ -88,7 +88,7 @@ pub fn values_by_id(
     rows: &[Valued],
     plan: &Plan,
 ) -> Result<Values, AllocError>
-    requires numbering { IsNumbering (blocks_of rows.now) numbering.now }
+    requires numbering { IsNumbering (blocks_of_rows rows.now) numbering.now }
     requires worths { All (λ row. row.worths ≡ worths_by (formulas_of_plan plan.now) row.block) rows.now }
     ensures { IfOk result (λ values. values ≡ map (values_of plan.now) numbering.now.blocks) }
 {
@@ -103,7 +103,7 @@ pub fn values_by_id(
 
 // The row of the block that has an identifier.
 fn row_of<'a>(numbering: &Numbering, rows: &'a [Valued], id: u32) -> &'a Valued
-    requires numbering { IsNumbering (blocks_of rows.now) numbering.now }
+    requires numbering { IsNumbering (blocks_of_rows rows.now) numbering.now }
     requires within { id < length numbering.now.blocks }
     ensures block { slice_get numbering.now.blocks id ≡ Some result.now.block }
     ensures row { Contains rows.now result.now }

@@ -16,7 +16,7 @@ pub mod ModelDemands
 pub mod ModelLines
 pub mod ModelParts
 pub mod ModelSoFar
-pub mod ModelView
+pub mod ModelFields
 pub mod PrecLines
 pub mod Reading
 pub mod SameTexts

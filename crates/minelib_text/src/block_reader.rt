@@ -18,10 +18,10 @@ use pit_model::ranges::{GRID_CELLS, MAX_BLOCKS, MAX_GRADE, MAX_KG, MAX_ZONES};
 use std::alloc::Global;
 use std::marker::Model;
 
-/// The fields of a line: the identifier, three indices, tonnes, grade and zone.
+// The fields of a line: the identifier, three indices, tonnes, grade and zone.
 const FIELDS: usize = 7;
 
-/// The blocks of the lines so far, by identifier.
+// The blocks of the lines so far, by identifier.
 #[derive(Drop)]
 struct BlockDraft {
     blocks: Vec<Block>,

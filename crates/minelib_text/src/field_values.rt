@@ -33,7 +33,7 @@ fn whole_below(number: Dec, limit: u64) -> Result<u64, TextKind>
     }
 }
 
-/// The whole part of so many millionths. A number of 64 bits is divided as one.
+// The whole part of so many millionths. A number of 64 bits is divided as one.
 #[inline(always)]
 fn whole_part(millionths: u128) -> u128
     ensures { result ≡ millionths / 10 ^ 6 }

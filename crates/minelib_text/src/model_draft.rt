@@ -57,7 +57,7 @@ impl Model for ModelDraft {
 
     ghost Value = { ModelDraftView };
 
-    ghost use Rattle.minelib_text.specs.ModelView.{draft_of, KeepsModel};
+    ghost use Rattle.minelib_text.specs.ModelFields.{draft_of, KeepsModel};
 
     ghost view = { draft_of };
 

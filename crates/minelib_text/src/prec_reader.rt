@@ -18,7 +18,7 @@ use precedence::Preds;
 use std::alloc::{AllocError, Global};
 use std::marker::Model;
 
-/// The predecessors of the lines so far, by identifier.
+// The predecessors of the lines so far, by identifier.
 #[derive(Drop)]
 struct PrecDraft {
     blocks: usize,

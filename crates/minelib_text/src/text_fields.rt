@@ -145,7 +145,7 @@ fn within(millionths: i64, most: u64) -> Result<u64, TextKind>
     Ok(millionths as u64)
 }
 
-/// The first field as a whole number, where it is of digits alone and not too long; `None` says nothing of it.
+// The first field as a whole number, where it is of digits alone and not too long; `None` says nothing of it.
 #[inline(always)]
 #[tactic(auto, using(crate::proofs::FrontFields::field_in_front))]
 fn front_whole_field(line: &[u8]) -> Option<(u64, &[u8])>
@@ -158,7 +158,7 @@ fn front_whole_field(line: &[u8]) -> Option<(u64, &[u8])>
     Some((number, behind))
 }
 
-/// The millionths of the first field, where it is a decimal as most are; `None` says nothing of it.
+// The millionths of the first field, where it is a decimal as most are; `None` says nothing of it.
 #[inline(always)]
 #[tactic(auto, using(crate::proofs::FrontFields::field_in_front))]
 fn front_dec_field(line: &[u8], decimals: u8) -> Option<(i64, &[u8])>
@@ -172,7 +172,7 @@ fn front_dec_field(line: &[u8], decimals: u8) -> Option<(i64, &[u8])>
     Some((millionths, behind))
 }
 
-/// Whether a field ends before these bytes.
+// Whether a field ends before these bytes.
 #[inline(always)]
 fn is_ended(bytes: &[u8]) -> bool
     ensures { result ≡ is_ended bytes.now }

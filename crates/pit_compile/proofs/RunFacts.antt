@@ -3,7 +3,7 @@ use Rattle.std.proofs.Common.{◌≡◌, ℕ, inr, Bool, List, Option, subst}
 use Rattle.pit_model.specs.Plan.{PlanParts}
 use Rattle.pit_compile.specs.Compiled.{IsCompiled}
 use Rattle.pit_compile.specs.Run.{IsRefused}
-use Rattle.pit_compile.specs.Sinks.{AreCutOff, AreCutOffAt, place_of, texts_of}
+use Rattle.pit_compile.specs.Sinks.{AreCutOff, AreCutOffAt, place_of, minelib_texts}
 use Rattle.minelib_text.specs.SinkState.{SinkState}
 use Rattle.mine_instance.specs.declared.instance.Instance.{Instance}
 use Rattle.pit_compile.specs.declared.compiling.Compiled.{Compiled}
@@ -13,11 +13,11 @@ use Rattle.pit_compile.specs.declared.settings.SettingsFault.{SettingsFault}
 
 -- a run that is refused in writing
 pub cut_off : (plan : PlanParts) (lefts : List (Option (List ℕ))) (sures : List Bool) (valuers : ℕ) (old new : List SinkState) (c : Compiled) (refusal : Refusal)
-    → IsCompiled plan lefts valuers c → AreCutOff (texts_of c.instance) old new refusal → IsRefused plan lefts sures old new refusal
+    → IsCompiled plan lefts valuers c → AreCutOff (minelib_texts c.instance) old new refusal → IsRefused plan lefts sures old new refusal
 cut_off plan lefts sures valuers old new c (SinkFailed which) h k =
-    record { texts = h.texts; given = h.given; accepted = h.accepted; cut = subst (λ (i : Instance). AreCutOffAt (place_of which) 1 (texts_of i) old new) h.instance_is k }
+    record { texts = h.texts; given = h.given; accepted = h.accepted; cut = subst (λ (i : Instance). AreCutOffAt (place_of which) 1 (minelib_texts i) old new) h.instance_is k }
 cut_off plan lefts sures valuers old new c OutOfMemory h k =
-    inr (k.0, record { texts = h.texts; given = h.given; accepted = h.accepted; cut = subst (λ (i : Instance). AreCutOffAt (k.0) 0 (texts_of i) old new) h.instance_is (k.1) })
+    inr (k.0, record { texts = h.texts; given = h.given; accepted = h.accepted; cut = subst (λ (i : Instance). AreCutOffAt (k.0) 0 (minelib_texts i) old new) h.instance_is (k.1) })
 cut_off plan lefts sures valuers old new c (Settings kind) h k = absurd k
 cut_off plan lefts sures valuers old new c NoThread h k = absurd k
 cut_off plan lefts sures valuers old new c (FeedFailed file) h k = absurd k

@@ -6,7 +6,7 @@ use Rattle.mine_instance.specs.OfCpit.{cpit}
 use Rattle.mine_instance.specs.OfModel.{instance}
 use Rattle.mine_instance.specs.declared.instance.Instance.{Instance}
 use Rattle.pit_model.specs.Plan.{PlanParts}
-use Rattle.precedence.specs.Identifier.{blocks_of}
+use Rattle.precedence.specs.Identifier.{blocks_of_rows}
 use Rattle.pit_compile.specs.Rows.{rows_of, sents_of, fault_in}
 use Rattle.pit_compile.specs.Verdict.{IsAccepted, IsRefusedBy}
 use Rattle.pit_compile.specs.declared.compiling.Compiled.{Compiled}
@@ -19,7 +19,7 @@ AreGiven lefts texts = AllZip (λ left text. IfSome left (λ bytes. text ≡ byt
 
 -- the instance of a plan and these zone files
 abbrev pub instance_from : PlanParts → List (List ℕ) → Instance
-instance_from plan texts = instance plan (blocks_of (rows_of plan texts))
+instance_from plan texts = instance plan (blocks_of_rows (rows_of plan texts))
 
 -- what went through the lane: of each zone file its rows and its end mark, whole, to so many valuers
 pub record HasPassed (plan : PlanParts) (texts : List (List ℕ)) (valuers : ℕ) (g : GatheredView) : Type 0 where

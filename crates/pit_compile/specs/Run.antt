@@ -4,7 +4,7 @@ use Rattle.lane.specs.Whole.{GatheredView}
 use Rattle.pit_model.specs.Plan.{PlanParts}
 use Rattle.pit_compile.specs.Compiled.{AreGiven, HasPassed, IsFeedFault, IsVerdict, instance_from}
 use Rattle.minelib_text.specs.SinkState.{SinkState}
-use Rattle.pit_compile.specs.Sinks.{texts_of, place_of, AreWritten, AreCutOffAt}
+use Rattle.pit_compile.specs.Sinks.{minelib_texts, place_of, AreWritten, AreCutOffAt}
 use Rattle.pit_compile.specs.Verdict.{IsAccepted}
 use Rattle.pit_compile.specs.declared.refusal.Refusal.{Refusal}
 use Rattle.pit_compile.specs.declared.refusal.Refusal.TheVariants.{Settings, NoThread, FeedFailed, TooLong, Row, Same, SinkFailed, OutOfMemory}
@@ -15,14 +15,14 @@ pub record IsDone (plan : PlanParts) (lefts : List (Option (List ℕ))) (valuers
   pub given : AreGiven lefts texts
   pub accepted : IsAccepted plan texts
   pub passed : HasPassed plan texts valuers g
-  pub written : AreWritten (texts_of (instance_from plan texts)) old new
+  pub written : AreWritten (minelib_texts (instance_from plan texts)) old new
 
 -- the zone files are accepted, and the sinks were cut off at this place
 pub record IsStopped (plan : PlanParts) (lefts : List (Option (List ℕ))) (place more : ℕ) (old new : List SinkState) : Type 0 where
   pub texts : List (List ℕ)
   pub given : AreGiven lefts texts
   pub accepted : IsAccepted plan texts
-  pub cut : AreCutOffAt place more (texts_of (instance_from plan texts)) old new
+  pub cut : AreCutOffAt place more (minelib_texts (instance_from plan texts)) old new
 
 -- why a run is refused, and how it leaves the sinks
 abbrev pub IsRefused : PlanParts → List (Option (List ℕ)) → List Bool → List SinkState → List SinkState → Refusal → Type 0

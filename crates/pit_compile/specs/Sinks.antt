@@ -18,8 +18,8 @@ all_told state sinks =
     state sinks.blocks ∷ state sinks.prec ∷ state sinks.upit ∷ state sinks.pcpsp ∷ state sinks.cpit ∷ []
 
 -- the five texts of an instance, in the order of writing
-abbrev pub texts_of : Instance → List (List ℕ)
-texts_of i = text_blocks i ∷ text_prec i ∷ text_upit i ∷ text_pcpsp i ∷ text_cpit (cpit i) ∷ []
+abbrev pub minelib_texts : Instance → List (List ℕ)
+minelib_texts i = text_blocks i ∷ text_prec i ∷ text_upit i ∷ text_pcpsp i ∷ text_cpit (cpit i) ∷ []
 
 -- the place of a sink in that order
 abbrev pub place_of : SinkName → ℕ

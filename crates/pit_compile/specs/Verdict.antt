@@ -1,6 +1,6 @@
 -- The verdict on the zone files of a plan.
 use Rattle.std.specs.Prelude.{◌≡◌, ℕ, ◌+◌, ◌<◌, List, length, Some, None, false, slice_index_or}
-use Rattle.precedence.specs.Identifier.{blocks_of, is_same_place, IsFirstAgain}
+use Rattle.precedence.specs.Identifier.{blocks_of_rows, is_same_place, IsFirstAgain}
 use Rattle.pit_model.specs.Plan.{PlanParts}
 use Rattle.pit_model.specs.declared.block.Block.{Block}
 use Rattle.valuers.specs.declared.item.Valued.{Valued}
@@ -16,7 +16,7 @@ AreApart blocks = (i j : ℕ) (d : Block) → i < j → j < length blocks → is
 -- accepted: no file has a fault, and no block stands twice
 pub record IsAccepted (plan : PlanParts) (texts : List (List ℕ)) : Type 0 where
   pub no_fault : fault_in texts plan.grid 0 ≡ None
-  pub apart : AreApart (blocks_of (rows_of plan texts))
+  pub apart : AreApart (blocks_of_rows (rows_of plan texts))
 
 -- this is the row at a position of the list: its file, and its place with the header and the count from 1
 abbrev pub IsRowAt : List Valued → ℕ → RowAt → Type 0
@@ -26,7 +26,7 @@ IsRowAt rows i at = (d : Valued) → i < length rows → (at.file ≡ (slice_ind
 pub record IsFirstRepeat (rows : List Valued) (first again : RowAt) : Type 0 where
   pub earlier : ℕ
   pub later : ℕ
-  pub repeats : IsFirstAgain (blocks_of rows) earlier later
+  pub repeats : IsFirstAgain (blocks_of_rows rows) earlier later
   pub first_row : IsRowAt rows earlier first
   pub again_row : IsRowAt rows later again
 

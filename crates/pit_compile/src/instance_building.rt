@@ -3,7 +3,7 @@
 ghost use Rattle.std.specs.Prelude.{◌≡◌, IfErr, IfOk};
 ghost use Rattle.mine_instance.specs.OfModel.{instance};
 ghost use Rattle.mine_instance.specs.Valid.{IsValid};
-ghost use Rattle.precedence.specs.Identifier.{blocks_of};
+ghost use Rattle.precedence.specs.Identifier.{blocks_of_rows};
 ghost use Rattle.pit_compile.specs.Rows.{AreModelRows};
 ghost use Rattle.pit_compile.specs.Verdict.{AreApart, IsRepeat};
 
@@ -20,8 +20,8 @@ use valuers::Valued;
 /// refused.
 pub fn instance_of(alloc: Global, rows: Vec<Valued>, plan: &Plan) -> Result<Instance, Refusal>
     requires { AreModelRows plan.now rows.items }
-    ensures apart { IfOk result (λ _. AreApart (blocks_of rows.items)) }
-    ensures value { IfOk result (λ built. built ≡ instance plan.now (blocks_of rows.items)) }
+    ensures apart { IfOk result (λ _. AreApart (blocks_of_rows rows.items)) }
+    ensures value { IfOk result (λ built. built ≡ instance plan.now (blocks_of_rows rows.items)) }
     ensures valid { IfOk result IsValid }
     ensures refused { IfErr result (IsRepeat rows.items) }
 {

@@ -1,7 +1,7 @@
 //! The numbering of the rows of a model.
 
 ghost use Rattle.std.specs.Prelude.{◌<◌, ◌≤◌, length, All, IfErr, IfOk};
-ghost use Rattle.precedence.specs.Identifier.{blocks_of, IsNumbering};
+ghost use Rattle.precedence.specs.Identifier.{blocks_of_rows, IsNumbering};
 ghost use Rattle.pit_compile.specs.Rows.{HasPlace};
 ghost use Rattle.pit_compile.specs.Verdict.{IsRepeat, IsRowAt};
 ghost use Rattle.pit_model.specs.declared.ranges.TheConstants.{MAX_BLOCKS};
@@ -16,7 +16,7 @@ use valuers::Valued;
 pub fn numbered(alloc: Global, rows: &[Valued]) -> Result<Numbering, Refusal>
     requires few { length rows.now ≤ MAX_BLOCKS }
     requires placed { All HasPlace rows.now }
-    ensures numbering { IfOk result (IsNumbering (blocks_of rows.now)) }
+    ensures numbering { IfOk result (IsNumbering (blocks_of_rows rows.now)) }
     ensures refused { IfErr result (IsRepeat rows.now) }
 {
     match number(alloc, rows) {

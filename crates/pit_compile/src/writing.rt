@@ -3,7 +3,7 @@
 ghost use Rattle.std.specs.Prelude.{◌≡◌, IfErr, OnOk};
 ghost use Rattle.mine_instance.specs.OfCpit.{cpit};
 ghost use Rattle.mine_instance.specs.Valid.{IsValid};
-ghost use Rattle.pit_compile.specs.Sinks.{all_told, in_sink, texts_of, AreCutOff, AreWritten};
+ghost use Rattle.pit_compile.specs.Sinks.{all_told, in_sink, minelib_texts, AreCutOff, AreWritten};
 
 use crate::refusal::{Refusal, SinkName};
 use crate::sinks::Sinks;
@@ -29,9 +29,9 @@ pub fn write_texts<S: Sink>(
     requires valid { IsValid instance.now }
     requires problem { problem.now ≡ cpit instance.now }
     ensures written { let told = all_told S.state in
-        OnOk result (AreWritten (texts_of instance.now) (told sinks.old) (told sinks.new)) }
+        OnOk result (AreWritten (minelib_texts instance.now) (told sinks.old) (told sinks.new)) }
     ensures refused { let told = all_told S.state in
-        IfErr result (AreCutOff (texts_of instance.now) (told sinks.old) (told sinks.new)) }
+        IfErr result (AreCutOff (minelib_texts instance.now) (told sinks.old) (told sinks.new)) }
 {
     in_sink(
         SinkName::Blocks,

@@ -5,7 +5,7 @@ pub mod Cells
 pub mod Count
 pub mod Demands
 pub mod Destinations
-pub mod DraftView
+pub mod DraftFields
 pub mod Equality
 pub mod FaultText
 pub mod Formula
@@ -13,7 +13,7 @@ pub mod Name
 pub mod Plan
 pub mod PlanDemands
 pub mod PlanPart
-pub mod PlanView
+pub mod PlanFields
 pub mod Planned
 pub mod Records
 pub mod RecordsAhead

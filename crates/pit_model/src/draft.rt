@@ -52,7 +52,7 @@ impl Model for Draft {
 
     ghost Value = { DraftView };
 
-    ghost use Rattle.pit_model.specs.DraftView.{draft_of, KeepsDraft};
+    ghost use Rattle.pit_model.specs.DraftFields.{draft_of, KeepsDraft};
 
     ghost view = { draft_of };
 

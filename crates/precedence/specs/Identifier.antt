@@ -4,8 +4,8 @@ use Rattle.pit_model.specs.declared.block.Block.{Block}
 use Rattle.valuers.specs.declared.item.Valued.{Valued}
 
 -- the blocks of rows
-abbrev pub blocks_of : List Valued → List Block
-blocks_of rows = map (λ row. row.block) rows
+abbrev pub blocks_of_rows : List Valued → List Block
+blocks_of_rows rows = map (λ row. row.block) rows
 
 -- by z, then y, then x
 abbrev pub comes_before : Block → Block → Bool

@@ -3,8 +3,8 @@ pub mod Cone
 pub mod ConeLaws
 pub mod Identifier
 pub mod Lists
-pub mod NumberingView
-pub mod PredsView
+pub mod NumberingFields
+pub mod PredsFields
 pub mod Reach
 pub mod Rows
 pub mod SameBlock

@@ -7,7 +7,7 @@ ghost use Rattle.std.specs.Map.{keys_of, values_of};
 ghost use Rattle.indexmap.specs.IndexMap.{get, IsUnique};
 ghost use Rattle.pit_model.specs.declared.block.Block.{Block};
 ghost use Rattle.precedence.specs.Codes.{codes};
-ghost use Rattle.precedence.specs.Identifier.{blocks_of, IsNumbering};
+ghost use Rattle.precedence.specs.Identifier.{blocks_of_rows, IsNumbering};
 ghost use Rattle.precedence.specs.SameBlock.{IsReason};
 ghost use Rattle.precedence.specs.Seen.{placed, IsSortedTable};
 ghost use Rattle.pit_model.specs.declared.ranges.TheConstants.{MAX_BLOCKS};
@@ -31,8 +31,8 @@ type Seen = IndexMap<u64, u32, PlaceHashes>;
 /// smaller (z, y, x). Fails with `Same` where two blocks have the same indices, or where memory is refused.
 pub fn number(alloc: Global, rows: &[Valued]) -> Result<Numbering, NumberError>
     requires { length rows.now ≤ MAX_BLOCKS }
-    ensures numbering { IfOk result (IsNumbering (blocks_of rows.now)) }
-    ensures same { IfErr result (IsReason (blocks_of rows.now)) }
+    ensures numbering { IfOk result (IsNumbering (blocks_of_rows rows.now)) }
+    ensures same { IfErr result (IsReason (blocks_of_rows rows.now)) }
 {
     let places = sorted_places(alloc, rows)?;
     let positions = positions_of(alloc, places)?;
@@ -43,8 +43,8 @@ pub fn number(alloc: Global, rows: &[Valued]) -> Result<Numbering, NumberError>
 // The place of each block, in order.
 fn sorted_places(alloc: Global, rows: &[Valued]) -> Result<Vec<Place>, NumberError>
     requires { length rows.now ≤ MAX_BLOCKS }
-    ensures sorted { IfOk result (λ places. IsSortedTable (blocks_of rows.now) places.items) }
-    ensures same { IfErr result (IsReason (blocks_of rows.now)) }
+    ensures sorted { IfOk result (λ places. IsSortedTable (blocks_of_rows rows.now) places.items) }
+    ensures same { IfErr result (IsReason (blocks_of_rows rows.now)) }
 {
     let mut places = places_of_list(alloc, rows)?;
     // The rows of a file mostly stand in order: this sort finds such runs.
@@ -60,7 +60,7 @@ fn sorted_places(alloc: Global, rows: &[Valued]) -> Result<Vec<Place>, NumberErr
 // The place of each block, in the order of the list.
 fn places_of_list(alloc: Global, rows: &[Valued]) -> Result<Vec<Place>, AllocError>
     requires { length rows.now ≤ MAX_BLOCKS }
-    ensures { IfOk result (λ places. places.items ≡ placed 0 (blocks_of rows.now)) }
+    ensures { IfOk result (λ places. places.items ≡ placed 0 (blocks_of_rows rows.now)) }
 {
     let mut places = Vec::with_capacity(alloc, rows.len())?;
     for (position, row) in rows.iter().enumerate() {
@@ -84,8 +84,8 @@ fn rise(places: &[Place]) -> bool
 // Finds the first block of a list whose place stood before, and fails there.
 fn differ(alloc: Global, rows: &[Valued]) -> Result<(), NumberError>
     requires { length rows.now ≤ MAX_BLOCKS }
-    ensures differ { OnOk result (IsDistinct nat_eq (codes (blocks_of rows.now))) }
-    ensures same { IfErr result (IsReason (blocks_of rows.now)) }
+    ensures differ { OnOk result (IsDistinct nat_eq (codes (blocks_of_rows rows.now))) }
+    ensures same { IfErr result (IsReason (blocks_of_rows rows.now)) }
 {
     let mut seen = Seen::with_capacity_and_hasher(alloc, rows.len(), PlaceHashes::of(rows))?;
     for (position, row) in rows.iter().enumerate() {
@@ -120,7 +120,7 @@ fn positions_of(alloc: Global, places: Vec<Place>) -> Result<Vec<u32>, AllocErro
 fn blocks_at(alloc: Global, rows: &[Valued], positions: &[u32]) -> Result<Vec<Block>, AllocError>
     requires { All (λ p. p < length rows.now) positions.now }
     ensures len { IfOk result (λ blocks. length blocks.items ≡ length positions.now) }
-    ensures blocks { IfOk result (λ blocks. (d : Block) → blocks.items ≡ map (λ p. slice_index_or (blocks_of rows.now) p d) positions.now) }
+    ensures blocks { IfOk result (λ blocks. (d : Block) → blocks.items ≡ map (λ p. slice_index_or (blocks_of_rows rows.now) p d) positions.now) }
 {
     let mut blocks = Vec::with_capacity(alloc, positions.len())?;
     for position in positions {

@@ -1,2 +1,2 @@
 pub mod Valuing
-pub mod WorthsView
+pub mod WorthsFields

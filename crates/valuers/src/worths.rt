@@ -22,7 +22,7 @@ impl Model for Worths {
 
     ghost Value = { List ℤ };
 
-    ghost use Rattle.valuers.specs.WorthsView.{worths_of, KeepsWorths, cells_of, cells_back, count_back};
+    ghost use Rattle.valuers.specs.WorthsFields.{worths_of, KeepsWorths, cells_of, cells_back, count_back};
 
     ghost view = { worths_of };
 

@@ -5,7 +5,7 @@ use Rattle.lane.specs.Message.{rows_in}
 use Rattle.lane.specs.declared.message.Taken.{Taken}
 use Rattle.mine_instance.specs.OfCpit.{cpit}
 use Rattle.mine_instance.specs.OfModel.{instance}
-use Rattle.precedence.specs.Identifier.{blocks_of}
+use Rattle.precedence.specs.Identifier.{blocks_of_rows}
 use Rattle.valuers.specs.declared.item.Valued.{Valued}
 use Rattle.pit_compile.specs.Answers.{refusal_in}
 use Rattle.pit_compile.specs.Verdict.{AreApart}
@@ -102,13 +102,13 @@ returns-clause-done g c =
     let most : length plan.cones ≤ 64 = omega (arith, c.requires.files_fit, c.requires.few_files) in
     let model = compiles plan lefts sures handed.answers.items handed.gathered.sent c.in_ok-rows.rows.items files count most
     c.in_ok-gathered.ensures.read none c.in_ok-rows.ensures in
-    let built = c.in_ok-instance.ensures.value ∙ ap (λ (rows : List Valued). instance plan (blocks_of rows)) model.rows_are in
+    let built = c.in_ok-instance.ensures.value ∙ ap (λ (rows : List Valued). instance plan (blocks_of_rows rows)) model.rows_are in
     record {
       texts = model.texts;
       given = model.given;
       accepted = record {
         no_fault = model.no_fault;
-        apart = subst (λ (rows : List Valued). AreApart (blocks_of rows)) model.rows_are c.in_ok-instance.ensures.apart;
+        apart = subst (λ (rows : List Valued). AreApart (blocks_of_rows rows)) model.rows_are c.in_ok-instance.ensures.apart;
       };
       passed = record { sent = model.sent; takers = c.in_ok-gathered.ensures.takers; whole = c.in_ok-gathered.ensures.whole };
       instance_is = built;

@@ -4,7 +4,7 @@ use Rattle.std.specs.Map.{keys_of}
 use Rattle.std.proofs.lemmas.List.{length-map, take_all}
 use Rattle.pit_model.specs.declared.block.Block.{Block}
 use Rattle.precedence.specs.Codes.{code, codes}
-use Rattle.precedence.specs.Identifier.{blocks_of}
+use Rattle.precedence.specs.Identifier.{blocks_of_rows}
 use Rattle.precedence.specs.Seen.{placed}
 use Rattle.precedence.proofs.SeenPlaces.{block_at, first_again, keys-placed, placed_more}
 use Rattle.precedence.proofs.number_blocks.differ.Goals as goal
@@ -12,7 +12,7 @@ use Rattle.precedence.proofs.number_blocks.differ.Goals as goal
 pub returns-in-Some-clause-same : goal.returns-in-Some-clause-same
 returns-in-Some-clause-same c =
     let row = c.index-rows-position.result in
-    let listed = blocks_of c.args.rows.now in
+    let listed = blocks_of_rows c.args.rows.now in
     let long : length listed ≡ length c.args.rows.now = length-map c.args.rows.now _ in
     let within : c.loop-position.position < length listed = omega (arith, c.loop-position-test.true) in
     let place : (d : Block) → code (get_or listed c.loop-position.position d) ≡ c.code.result =
@@ -24,7 +24,7 @@ returns-in-Some-clause-same c =
 pub loop-position-preserved : goal.loop-position-preserved
 loop-position-preserved c =
     let row = c.index-rows-position.result in
-    let listed = blocks_of c.args.rows.now in
+    let listed = blocks_of_rows c.args.rows.now in
     let long : length listed ≡ length c.args.rows.now = length-map c.args.rows.now _ in
     let place : c.code.result ≡ code (get_or listed c.loop-position.position row.block) =
     c.code.ensures.value
@@ -40,7 +40,7 @@ loop-position-preserved c =
 
 pub returns-clause-differ : goal.returns-clause-differ
 returns-clause-differ c =
-    let listed = blocks_of c.args.rows.now in
+    let listed = blocks_of_rows c.args.rows.now in
     let long : length listed ≡ length c.args.rows.now = length-map c.args.rows.now _ in
     let all : take c.loop-position.position listed ≡ listed = take_all c.loop-position.position listed (omega (arith, c.loop-position-test.false)) in
     let same : keys_of c.loop-position.seen.entries ≡ codes listed =

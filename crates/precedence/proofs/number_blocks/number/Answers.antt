@@ -2,20 +2,20 @@ use Rattle.std.proofs.Common.{◌≡◌, ℕ, ◌∙◌, ap, subst, sym, map, ge
 use Rattle.std.specs.Map.{values_of}
 use Rattle.std.proofs.lemmas.List.{length-map}
 use Rattle.valuers.specs.declared.item.Valued.{Valued}
-use Rattle.precedence.specs.Identifier.{blocks_of, NumberingView, IsNumbering}
+use Rattle.precedence.specs.Identifier.{blocks_of_rows, NumberingView, IsNumbering}
 use Rattle.precedence.proofs.Identifiers.{all_inside, as_many_positions, blocks_rise, numbering_is}
 use Rattle.precedence.proofs.number_blocks.number.Goals as goal
 
 pub blocks_at-requires : goal.blocks_at-requires
 blocks_at-requires c k d lt =
-    let listed = blocks_of c.args.rows.now in
+    let listed = blocks_of_rows c.args.rows.now in
     let all = all_inside listed c.in_ok-places.places.items c.in_ok-places.ensures.sorted c.as_slice.result.now
     (c.as_slice.ensures.value ∙ c.in_ok-positions.ensures) in
     omega (arith, all k d lt, length-map c.args.rows.now (λ (row : Valued). row.block))
 
 pub new-requires-clause-rising : goal.new-requires-clause-rising
 new-requires-clause-rising c =
-    let listed = blocks_of c.args.rows.now in
+    let listed = blocks_of_rows c.args.rows.now in
     let entries = c.in_ok-places.places.items in
     let same : c.as_slice.result.now ≡ values_of entries = c.as_slice.ensures.value ∙ c.in_ok-positions.ensures in
     blocks_rise listed entries c.in_ok-places.ensures.sorted c.in_ok-blocks.blocks.items
@@ -27,7 +27,7 @@ new-requires-clause-placed c = ap length (sym c.as_slice.ensures.value) ∙ sym 
 
 pub new-requires-clause-few : goal.new-requires-clause-few
 new-requires-clause-few c =
-    let listed = blocks_of c.args.rows.now in
+    let listed = blocks_of_rows c.args.rows.now in
     let entries = c.in_ok-places.places.items in
     let same : c.as_slice.result.now ≡ values_of entries = c.as_slice.ensures.value ∙ c.in_ok-positions.ensures in
     let long = as_many_positions listed entries c.in_ok-places.ensures.sorted in
@@ -36,7 +36,7 @@ new-requires-clause-few c =
 
 pub returns-clause-numbering : goal.returns-clause-numbering
 returns-clause-numbering c =
-    let listed = blocks_of c.args.rows.now in
+    let listed = blocks_of_rows c.args.rows.now in
     let entries = c.in_ok-places.places.items in
     let same : c.as_slice.result.now ≡ values_of entries = c.as_slice.ensures.value ∙ c.in_ok-positions.ensures in
     let P : NumberingView → Type 0 = IsNumbering listed in
