@@ -2,7 +2,7 @@
 use Rattle.std.proofs.Common.{◌≡◌, ℕ, suc, ◌+◌, ◌<◌, Bool, true, false, ◌&&◌, cond, eqb, ltb, is_some, List, [], ◌∷◌, ◌++◌, Option, Some, None, refl, sym, ap, subst, ◌∙◌, ⊎_elim, arith}
 use Rattle.std.specs.List.{AllByRecursion, Contains, count_by}
 use Rattle.std.specs.List.Sorted.{IsPermutation}
-use Rattle.std.proofs.lemmas.Bool.{cond-true, cond-false, le-ltb, lt-ltb, lt-leb, cases_Bool, cases_eq, eqb-true, false≢true, eq-eqb}
+use Rattle.std.proofs.lemmas.Bool.{cond-true, cond-false, le-ltb, lt-ltb, lt-leb, cases_Bool, cases_eq, eqb-true, false≢true, eq-eqb, and_parts}
 use Rattle.std.proofs.lemmas.List.Elements.{recursion_from_All}
 use Rattle.std.proofs.lemmas.List.Sorted.{All-permutation, sum_by-IsPermutation}
 use Rattle.std.proofs.lemmas.List.Sums.{sum_by-append, sum_by-cons}
@@ -152,10 +152,6 @@ any_order files items order whole moved = record {
   others = All-permutation (Fits files whole.counts) items order moved whole.others;
 }
 
-and-true : (a b : Bool) → (a && b) ≡ true → (a ≡ true) × (b ≡ true)
-and-true true b e = (refl, e)
-and-true false b e = absurd (false≢true e)
-
 -- an item of the rest is an item of the whole
 later : (items : List Item) (first item : Item) → Contains items item → Contains (first ∷ items) item
 later items first item h = (suc h.0, omega (arith, h.1), h.2)
@@ -167,7 +163,7 @@ row-held (End f n ∷ items) file place v e = let h = row-held items file place 
 row-held (Row w ∷ items) file place v e =
     ⊎_elim
     (λ yes. let same = same_Some w v (sym (cond-true _ (Some w) (row_at file place items) yes) ∙ e) in
-    let both = and-true (eqb w.file file) (eqb w.place place) yes in (
+    let both = and_parts (eqb w.file file) (eqb w.place place) yes in (
       ap (λ u. u.file) (sym same) ∙ eqb-true w.file file both.0,
       ap (λ u. u.place) (sym same) ∙ eqb-true w.place place both.1,
       (0, omega arith, ap Row same),

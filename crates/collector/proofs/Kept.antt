@@ -1,9 +1,10 @@
 -- The shelves keep the items, one item after the other.
 use Rattle.std.proofs.Common.{◌≡◌, ℕ, ◌+◌, ◌<◌, ◌≤◌, Bool, true, false, ◌&&◌, ◌||◌, cond, eqb, leb, ltb, is_some, List, [], ◌∷◌, ◌++◌, length, take, drop, Option, Some, None, refl, sym, ap, subst, ◌∙◌, ⊎_elim, arith}
-use Rattle.std.proofs.lemmas.Bool.{cond-true, cond-false, le-ltb, ltb-false, leb-true, leb-false, cases_Bool, cases_eq, false≢true, eq-eqb}
+use Rattle.std.proofs.lemmas.Bool.{cond-true, cond-false, le-ltb, ltb-false, leb-true, leb-false, cases_Bool, cases_eq, eq-eqb, or_parts}
 use Rattle.std.proofs.lemmas.Option.{none-some, same_Some}
 use Rattle.std.proofs.lemmas.List.{append-nil, take_all, drop_all}
 use Rattle.std.proofs.lemmas.Bool.Decides.{nat_tests}
+use Rattle.std.proofs.Math.Bool.{or-false}
 use Rattle.valuers.specs.declared.item.Item.{Item}
 use Rattle.valuers.specs.declared.item.Item.TheVariants.{Row, End}
 use Rattle.valuers.specs.declared.item.Valued.{Valued}
@@ -82,14 +83,6 @@ no-fault false true c x y z e = absurd (none-some y (sym e))
 no-fault false false true x y z e = absurd (none-some z (sym e))
 no-fault false false false x y z e = (refl, refl, refl)
 
-or-false : (a b : Bool) → (a || b) ≡ false → (a ≡ false) × (b ≡ false)
-or-false true b e = absurd (false≢true (sym e))
-or-false false b e = (refl, e)
-
-or-nothing : (a : Bool) → (a || false) ≡ a
-or-nothing true = refl
-or-nothing false = refl
-
 below-count : (end : Option ℕ) (place count : ℕ) → is_after end place ≡ false → end ≡ Some count → place < count
 below-count None place count before e = absurd (none-some count e)
 below-count (Some n) place count before e = let same = same_Some n count e in omega (arith, leb-false n place before)
@@ -128,7 +121,7 @@ shelved-row held file rows end v kept same single in_places before = record {
       (cases_eq v.place place);
   ended = end_at-push file held (Row v) ∙ else-none (end_at file held) ∙ kept.ended;
   past = λ place. has_past-push file place held (Row v)
-      ∙ rw (kept.past place, eq-eqb v.file file same, or-nothing (leb place v.place)) (past-more rows v place);
+      ∙ rw (kept.past place, eq-eqb v.file file same, or-false (leb place v.place)) (past-more rows v place);
   few = ⊎_elim (λ h. let most = kept.few in omega (arith, h.1)) (λ h. omega (arith, h.1)) (length-with_row rows v);
   closed = λ count e.
       let above = below-count end v.place count before e in
@@ -143,7 +136,7 @@ shelved-end : (held : List Item) (file f count : ℕ) (rows : List Valued) (end 
 shelved-end held file f count rows end kept same single above = record {
   row = λ place. row_at-push file place held (End f count) ∙ else-none (row_at file place held) ∙ kept.row place;
   ended = end_at-push file held (End f count) ∙ else-first _ _ single ∙ cond-true _ _ _ (eq-eqb f file same);
-  past = λ place. has_past-push file place held (End f count) ∙ or-nothing (has_past file place held) ∙ kept.past place;
+  past = λ place. has_past-push file place held (End f count) ∙ or-false (has_past file place held) ∙ kept.past place;
   few = kept.few;
   closed = λ n e. let is_count = same_Some count n e in
       let most = ltb-false count (length rows) (sym (kept.past count) ∙ above) in omega arith;
@@ -157,14 +150,14 @@ shelved-other held file rows end (Row v) kept differs = record {
       ∙ rw (eqb-other v.file file differs) (else-none (row_at file place held) ∙ kept.row place);
   ended = end_at-push file held (Row v) ∙ else-none (end_at file held) ∙ kept.ended;
   past = λ place. has_past-push file place held (Row v)
-      ∙ rw (eqb-other v.file file differs) (or-nothing (has_past file place held) ∙ kept.past place);
+      ∙ rw (eqb-other v.file file differs) (or-false (has_past file place held) ∙ kept.past place);
   few = kept.few;
   closed = kept.closed;
 }
 shelved-other held file rows end (End f count) kept differs = record {
   row = λ place. row_at-push file place held (End f count) ∙ else-none (row_at file place held) ∙ kept.row place;
   ended = end_at-push file held (End f count) ∙ rw (eqb-other f file differs) (else-none (end_at file held) ∙ kept.ended);
-  past = λ place. has_past-push file place held (End f count) ∙ or-nothing (has_past file place held) ∙ kept.past place;
+  past = λ place. has_past-push file place held (End f count) ∙ or-false (has_past file place held) ∙ kept.past place;
   few = kept.few;
   closed = kept.closed;
 }
@@ -175,7 +168,7 @@ pub kept_more : (files : ℕ) (held : List Item) (rows rows' : ℕ → List Valu
     IsKept files (held ++ item ∷ []) rows' ends'
 kept_more files held rows rows' ends ends' (Row v) kept sound put =
     let clear = no-fault (is_some (row_at v.file v.place held)) (leb files v.file || leb 1000000 v.place) (is_after (end_at v.file held) v.place) _ _ _ sound in
-    let inside = or-false (leb files v.file) (leb 1000000 v.place) clear.1 in
+    let inside = or_parts (leb files v.file) (leb 1000000 v.place) clear.1 in
     let in_files : v.file < files = leb-false files v.file inside.0 in
     let in_places : v.place < 1000000 = leb-false 1000000 v.place inside.1 in
     let here : (file : ℕ) → v.file ≡ file → rows' file ≡ with_row (rows file) v
@@ -196,7 +189,7 @@ kept_more files held rows rows' ends ends' (Row v) kept sound put =
     }
 kept_more files held rows rows' ends ends' (End f count) kept sound put =
     let clear = no-fault (leb files f) (is_some (end_at f held)) (ltb 1000000 count || has_past f count held) _ _ _ sound in
-    let allowed = or-false (ltb 1000000 count) (has_past f count held) clear.2 in
+    let allowed = or_parts (ltb 1000000 count) (has_past f count held) clear.2 in
     let here : (file : ℕ) → f ≡ file → ends' file ≡ Some count
     = λ file e. put.1 file ∙ cond-true (eqb f file) _ _ (eq-eqb f file e) in
     let elsewhere : (file : ℕ) → (f ≡ file → ⊥) → ends' file ≡ ends file

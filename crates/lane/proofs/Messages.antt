@@ -2,10 +2,11 @@
 use Rattle.std.proofs.Common.{◌≡◌, ℕ, zero, suc, ◌+◌, ◌<◌, ◌≤◌, Bool, true, false, cond, ◌||◌, List, [], ◌∷◌, ◌++◌, length, map, slice_get, Some, None, refl, sym, ap, ◌∙◌, subst, arith, count_by, append-nil}
 use Rattle.std.specs.List.{AllByRecursion}
 use Rattle.std.specs.List.Sorted.{IsStrictlyIncreasing}
-use Rattle.std.proofs.lemmas.Bool.{eqb-true, eq-eqb, ne_eqb, true≢false}
+use Rattle.std.proofs.lemmas.Bool.{eqb-true, eq-eqb, ne_eqb, true≢false, or_parts}
 use Rattle.std.proofs.lemmas.List.Elements.{All-from_recursion, filter-append}
 use Rattle.std.proofs.lemmas.List.Kept.{AllPairs-from_increasing}
 use Rattle.std.proofs.lemmas.List.Quantifiers.{all_pairs_push}
+use Rattle.std.proofs.Math.Bool.{or-false}
 use Rattle.pit_model.specs.declared.block.Block.{Block}
 use Rattle.lane.specs.declared.message.Taken.{Taken}
 use Rattle.lane.specs.declared.message.Taken.TheVariants.{Row, End, Stop, Quit}
@@ -134,13 +135,9 @@ pub placed_below : (sent : ℕ → List Taken) (left : ℕ → ℕ) (f : ℕ) (m
 placed_below sent left f [] h = tt
 placed_below sent left f (m ∷ ms) h = below_cases (λ p. p < left f) m (of f ms) (is_of f m) (λ e. (placed_pos sent left f m h.0 e).0) (placed_below sent left f ms h.1)
 
-or_false : (b c : Bool) → (b || c) ≡ false → (b ≡ false) × (c ≡ false)
-or_false true c e = absurd (true≢false e)
-or_false false c e = (refl, e)
-
 pub marks_more : (ms : List Taken) (m : Taken) → is_done ms ≡ false → MarksLast (ms ++ m ∷ [])
 marks_more [] m e = ((λ _. refl), tt)
-marks_more (x ∷ ms) m e = let o = or_false (is_mark x) (is_done ms) e in ((λ t. absurd (true≢false (sym t ∙ o.0))), marks_more ms m o.1)
+marks_more (x ∷ ms) m e = let o = or_parts (is_mark x) (is_done ms) e in ((λ t. absurd (true≢false (sym t ∙ o.0))), marks_more ms m o.1)
 
 pub counted_none : (b : Bool) (n : ℕ) → cond {A = ℕ} b 1 0 + n ≡ 0 → (b ≡ false) × (n ≡ 0)
 counted_none true n e = absurd (omega arith)
@@ -155,14 +152,10 @@ pub stops_more : (ms : List Taken) → StopsLast ms → StopsLast (ms ++ Stop �
 stops_more [] h = ((λ _. tt), tt)
 stops_more (x ∷ ms) h = ((λ t. all_more (λ m. is_stop m ≡ true) ms Stop (h.0 t) refl), stops_more ms h.1)
 
-or_nothing : (b : Bool) → (b || false) ≡ b
-or_nothing true = refl
-or_nothing false = refl
-
 -- where a mark is last, a taker is done just where its last message is one
 pub done_is_last : (ms : List Taken) → MarksLast ms → is_done ms ≡ ends_in_mark ms
 done_is_last [] h = refl
-done_is_last (m ∷ []) h = or_nothing (is_mark m)
+done_is_last (m ∷ []) h = or-false (is_mark m)
 done_is_last (m ∷ n ∷ ms) h = ap (λ (b : Bool). b || is_done (n ∷ ms)) (unmarked_before (is_mark m) refl) ∙ done_is_last (n ∷ ms) h.1
   where
     unmarked_before : (b : Bool) → is_mark m ≡ b → is_mark m ≡ false

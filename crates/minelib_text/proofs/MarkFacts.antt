@@ -7,20 +7,9 @@ use Rattle.std.proofs.lemmas.Bool.Decides.{nat_tests}
 use Rattle.std.proofs.lemmas.List.{get_or-set_other}
 use Rattle.std.proofs.lemmas.List.Folds.{list_any-append}
 use Rattle.std.proofs.lemmas.Grind.{get_or-set_at}
+use Rattle.std.proofs.Math.Bool.{or-true, or-false, and-false}
 use Rattle.minelib_text.specs.Marks.{AreClear, AreMarked}
 use Rattle.minelib_text.specs.PrecLines.{stands_in, all_differ}
-
-or_true : (t : Bool) → (t || true) ≡ true
-or_true true = refl
-or_true false = refl
-
-or_false : (t : Bool) → (t || false) ≡ t
-or_false true = refl
-or_false false = refl
-
-and_false : (t : Bool) → (t && false) ≡ false
-and_false true = refl
-and_false false = refl
 
 one_more : (ids : List ℕ) (id place : ℕ) → stands_in (ids ++ id ∷ []) place ≡ (stands_in ids place || ((id == place) || false))
 one_more ids id place = list_any-append (λ other. other == place) ids (id ∷ [])
@@ -33,9 +22,9 @@ stands_twice (x ∷ xs) id rest e = at (x == id) refl (stands_in xs id) refl (st
       → (stands_in xs id ≡ true → all_differ (xs ++ id ∷ rest) ≡ false) → all_differ ((x ∷ xs) ++ id ∷ rest) ≡ false
   at true is found f twice =
       let back : (id == x) ≡ true = grind (arith, nat_tests, is) in
-      let again : stands_in (xs ++ id ∷ rest) x ≡ true = list_any-append (λ other. other == x) xs (id ∷ rest) ∙ rw back (or_true (stands_in xs x)) in
+      let again : stands_in (xs ++ id ∷ rest) x ≡ true = list_any-append (λ other. other == x) xs (id ∷ rest) ∙ rw back (or-true (stands_in xs x)) in
       rw again refl
-  at false is true f twice = rw (twice f) (and_false (not (stands_in (xs ++ id ∷ rest) x)))
+  at false is true f twice = rw (twice f) (and-false (not (stands_in (xs ++ id ∷ rest) x)))
   at false is false f twice = absurd (true≢false (sym e ∙ rw (is, f) refl))
 
 -- numbers that differ, and one more that does not stand among them
@@ -58,8 +47,8 @@ pub marked_more : (ids : List ℕ) (marks : List Bool) (id : ℕ) → id < lengt
     → AreJustMarked (ids ++ id ∷ []) (slice_set marks id true)
 marked_more ids marks id within just place = at (id == place) refl where
   at : (t : Bool) → (id == place) ≡ t → slice_index_or (slice_set marks id true) place false ≡ stands_in (ids ++ id ∷ []) place
-  at true e = get_or-set_at marks id place true false (grind (arith, nat_tests, e)) within ∙ sym (one_more ids id place ∙ rw e (or_true (stands_in ids place)))
-  at false e = get_or-set_other marks id place true false (grind (arith, nat_tests, e)) ∙ just place ∙ sym (one_more ids id place ∙ rw e (or_false (stands_in ids place)))
+  at true e = get_or-set_at marks id place true false (grind (arith, nat_tests, e)) within ∙ sym (one_more ids id place ∙ rw e (or-true (stands_in ids place)))
+  at false e = get_or-set_other marks id place true false (grind (arith, nat_tests, e)) ∙ just place ∙ sym (one_more ids id place ∙ rw e (or-false (stands_in ids place)))
 
 -- a mark that is taken away leaves those of the numbers behind it
 pub unmarked_one : (id : ℕ) (rest : List ℕ) (marks : List Bool) → id < length marks → AreMarked (id ∷ rest) marks

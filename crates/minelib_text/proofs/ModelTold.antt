@@ -1,11 +1,12 @@
 -- The fault of a line of a model file is the first thing asked of it that does not hold.
-use Rattle.std.specs.Prelude.{◌≡◌, ℕ, ◌+◌, ◌^◌, ◌≤◌, ◌==◌, ◌||◌, not, Bool, true, false, List, [], ◌∷◌, ◌++◌, length, drop, ℤ, Option, Some, None, Result, Ok, Err, if◌then◌else◌, ◌⊎◌, codes}
+use Rattle.std.specs.Prelude.{◌≡◌, ℕ, ◌+◌, ◌^◌, ◌≤◌, ◌==◌, ◌||◌, not, Bool, true, false, List, [], ◌∷◌, ◌++◌, length, drop, ℤ, Option, Some, None, Result, Ok, Err, if◌then◌else◌, codes}
 use Rattle.std.specs.List.{list_any, before_first, after_first}
 use Rattle.std.specs.Str.{bytes_eq}
 use Rattle.std.proofs.Common.{refl, sym, ◌∙◌, ap, subst, arith, inl, inr, eq-eqb}
 use Rattle.std.proofs.lemmas.Bool.{eqb-true, or_parts, not-false}
 use Rattle.std.proofs.lemmas.Slice.Eq.{bytes_eq-Decides}
 use Rattle.pit_units.specs.Decimal.{StandsFor, decimal_of}
+use Rattle.pit_model.proofs.PlanFollows.{IsLetter}
 use Rattle.pit_model.proofs.PlanNames.{bytes_same}
 use Rattle.pit_model.proofs.DemandFacts.{Follows, fails_before, behind, bound, guarded}
 use Rattle.pit_model.specs.Demands.{Demand, demand}
@@ -40,7 +41,7 @@ use Rattle.minelib_text.specs.declared.text_fault.TextKind.TheVariants as fault
 use Rattle.minelib_text.proofs.ItemSteps.{coef_line, limit_line}
 use Rattle.minelib_text.proofs.KeySteps.{counted_ok}
 use Rattle.minelib_text.proofs.LineTold.{number_told, below_ranged, whole_told, size_told, first_told, test_told, tested, one_whole}
-use Rattle.minelib_text.proofs.ReadSteps.{decimal_in_ok}
+use Rattle.minelib_text.proofs.ReadSteps.{counted as right_width, decimal_in_ok}
 use Rattle.minelib_text.proofs.SpelledItemsBack.{decimal_back, coef_back, limit_back}
 use Rattle.minelib_text.proofs.SpelledModelBack.{counted_back}
 
@@ -169,9 +170,6 @@ key_told d (Some (model_key.Section section)) values =
 wrong_width : (n : ℕ) (fields : List (List ℕ)) → not (length fields == n) ≡ true → ¬ (length fields ≡ n)
 wrong_width n fields t h = let same : (length fields == n) ≡ true = eq-eqb (length fields) n h in absurd cc
 
-right_width : (n : ℕ) (fields : List (List ℕ)) → not (length fields == n) ≡ false → length fields ≡ n
-right_width n fields t = eqb-true (length fields) n (not-false (length fields == n) t)
-
 values_told : (n destinations before : ℕ) (fields : List (List ℕ))
     → Follows (values_of n destinations before fields)
     (demand fault.Fields (length fields ≡ destinations + 1) ++ whole n (field_at fields 0)
@@ -288,9 +286,6 @@ limit_rest resources periods fields = do
 
 other_bytes : (a b : List ℕ) → bytes_eq a b ≡ false → ¬ (a ≡ b)
 other_bytes a b e h = let is = (bytes_eq-Decides a b).1 h in absurd cc
-
-abbrev IsLetter : List ℕ → Type 0
-IsLetter letter = (letter ≡ codes "L") ⊎ ((letter ≡ codes "G") ⊎ (letter ≡ codes "I"))
 
 -- `L v` or `G v`
 one_told : (letter v : List ℕ) → bytes_eq letter (codes "I") ≡ false

@@ -1,5 +1,5 @@
 -- Bands in order: what a scan finds is what a search by halves finds.
-use Rattle.std.proofs.Common.{◌≡◌, ◌<◌, ◌≤◌, ◌&&◌, ℕ, zero, suc, ◌+◌, ◌-◌, List, [], ◌∷◌, Bool, true, false, nat_lt, nat_le, Option, Some, None, arith, refl, sym, ◌∙◌, ap, length, get_or, take}
+use Rattle.std.proofs.Common.{◌≡◌, ◌<◌, ◌≤◌, ℕ, zero, suc, ◌+◌, ◌-◌, List, [], ◌∷◌, Bool, true, false, nat_lt, nat_le, Option, Some, None, arith, refl, sym, ◌∙◌, ap, length, get_or, take}
 use Rattle.std.proofs.Math.Nat.{suc-add}
 use Rattle.std.proofs.lemmas.Bool.{and_parts}
 use Rattle.std.proofs.lemmas.Bool.Decides.{nat_tests}
@@ -7,6 +7,7 @@ use Rattle.std.proofs.lemmas.List.Sorted.{IsNonDecreasingBy-from_all_adjacent, I
 use Rattle.std.specs.List.{filter, last_or, slice_get, AllAdjacentBelow, AllWithin, IsAllAdjacentAnswer}
 use Rattle.std.specs.List.Sorted.{IsPartitionPoint, IsPartitionedBy}
 use Rattle.std.specs.Option.{option_map_or}
+use Rattle.std.proofs.Math.Bool.{and-false}
 use Rattle.pit_model.specs.Bands.{starts_rise, recovery_at}
 use Rattle.pit_model.specs.declared.band.Band.{Band}
 
@@ -25,11 +26,7 @@ rise_no (b ∷ []) k below h = absurd (omega arith)
 rise_no (b ∷ (c ∷ bands)) zero below h = rw (sym (h b)) refl
 rise_no (b ∷ (c ∷ bands)) (suc k) below h =
     let rest : starts_rise (c ∷ bands) ≡ false = rise_no (c ∷ bands) k (omega arith) (λ d. rw suc-add at (h d)) in
-    rw rest (none (nat_lt b.start c.start))
-  where
-    none : (t : Bool) → (t && false) ≡ false
-    none true = refl
-    none false = refl
+    rw rest (and-false (nat_lt b.start c.start))
 
 pub rise_told : (bands : List Band) (r : Bool) → IsAllAdjacentAnswer (λ b c t. t ≡ nat_lt b.start c.start) bands r → r ≡ starts_rise bands
 rise_told bands true h = sym (rise_yes bands h)

@@ -77,7 +77,7 @@ at_cell fields i = cell_stays (map trimmed fields) i ∙ get_or-map trimmed fiel
 pub field_is : (fields : List (List ℕ)) (i : ℕ) (field : List ℕ) → field_at fields i ≡ Some field → trimmed field ≡ cell_at (cells_of fields) i
 field_is fields i field h = sym (at_cell fields i ∙ ap trimmed (field-get fields i field h))
 
-none_there : (fields : List (List ℕ)) (i : ℕ) → field_at fields i ≡ None → get_or fields i [] ≡ []
+pub none_there : (fields : List (List ℕ)) (i : ℕ) → field_at fields i ≡ None → get_or fields i [] ≡ []
 unfolding field_at
 none_there [] i h = refl
 none_there (f ∷ fields) zero h = absurd (cc)

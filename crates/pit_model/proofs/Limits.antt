@@ -1,5 +1,5 @@
 -- One limit more, in its place, keeps what a list of limits keeps.
-use Rattle.std.proofs.Common.{◌≡◌, ◌≤◌, ◌||◌, List, [], ◌∷◌, Bool, true, false, not, suc, arith, refl, ap, length, nat_lt, All, unwrap_or}
+use Rattle.std.proofs.Common.{◌≡◌, ◌≤◌, List, [], ◌∷◌, Bool, true, false, not, suc, arith, refl, ap, length, nat_lt, All, unwrap_or}
 use Rattle.std.specs.Prelude.{IsTrue}
 use Rattle.std.specs.List.{list_any, insert, position, position_or_len}
 use Rattle.std.proofs.lemmas.Bool.Decides.{nat_tests}
@@ -7,6 +7,7 @@ use Rattle.std.proofs.Math.Numerals.{one-add}
 use Rattle.std.proofs.lemmas.List.Elements.{All-nil, All-cons, All-head, All-tail, All-weaker}
 use Rattle.std.proofs.lemmas.List.Kept.{AllPairs-cons}
 use Rattle.std.proofs.lemmas.List.Sums.{prefix_len-le-length}
+use Rattle.std.proofs.lemmas.Bool.{or_parts}
 use Rattle.pit_model.specs.Plan.{stands_before, RiseStrictly}
 use Rattle.pit_model.specs.Planned.{with_limit, is_same_place}
 use Rattle.pit_model.specs.declared.limit.Limit.{Limit}
@@ -46,10 +47,6 @@ All-with_limit P l (m ∷ ms) here all =
     by_test more true e = rw e (All-cons P l (m ∷ ms) here all)
     by_test more false e = rw e (All-cons P m (with_limit l ms) (All-head P m ms all) more)
 
-none_first : (a b : Bool) → (a || b) ≡ false → (a ≡ false) × (b ≡ false)
-none_first true b h = absurd (cc)
-none_first false b h = (refl, h)
-
 abbrev before : Limit → Limit → Type 0
 before l m = IsTrue (stands_before l m)
 
@@ -66,7 +63,7 @@ rises l (m ∷ ms) up none =
     by_test (rises l ms (rest_rises m ms up) others.1) (stands_before l m) refl
   where
     others : (is_same_place l m ≡ false) × (list_any (λ k. is_same_place l k) ms ≡ false)
-    others = none_first _ _ none
+    others = or_parts _ _ none
 
     by_test : RiseStrictly (with_limit l ms) → (b : Bool) → stands_before l m ≡ b → RiseStrictly (with_limit l (m ∷ ms))
     by_test more true e =

@@ -331,7 +331,7 @@ period_told (Some n) cell kept =
 tonnes_told : (cell : List ℕ) → Follows (tonnes_in cell) (tonnes cell) (λ v. StandsFor 6 cell v × IsTonnes v)
 tonnes_told cell = weaker (tonnes_in cell) (tonnes cell) _ _ (λ v h. (h.0, (h.1, h.2))) (number_told 6 (pos 0) (pos (10 ^ 18)) cell (omega arith))
 
-abbrev IsLetter : List ℕ → Type 0
+abbrev pub IsLetter : List ℕ → Type 0
 IsLetter cell = (cell ≡ codes "L") ⊎ ((cell ≡ codes "G") ⊎ (cell ≡ codes "I"))
 
 -- the letter, and then its tonnes

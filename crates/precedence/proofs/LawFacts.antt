@@ -6,7 +6,7 @@ use Rattle.std.specs.List.Sorted.{IsStrictlyIncreasing}
 use Rattle.std.proofs.Math.Nat.{mul-le-mul, mul-le-mul_left, le_of_mul-le-mul_left}
 use Rattle.std.proofs.Math.Bool.{and-false}
 use Rattle.std.proofs.lemmas.List.Folds.{list_any_at, list_any_none}
-use Rattle.std.proofs.lemmas.Bool.{cases_Bool, cases_lt, le-leb, lt-leb, ltb-true, eqb-true, eq-eqb}
+use Rattle.std.proofs.lemmas.Bool.{cases_Bool, cases_lt, le-leb, lt-leb, ltb-true, eqb-true, eq-eqb, and_parts}
 use Rattle.std.proofs.lemmas.List.{get_or-map, get_or_default}
 use Rattle.std.proofs.lemmas.List.Elements.{All-cons, All-nil, All-contains}
 use Rattle.std.proofs.lemmas.Option.{slice_get_within}
@@ -20,7 +20,6 @@ use Rattle.precedence.specs.ConeLaws.{above_by, even_cone, has_pred, is_above_by
 use Rattle.precedence.specs.Identifier.{id, IsNumbering, NumberingView}
 use Rattle.precedence.proofs.AllLists.{all_at}
 use Rattle.precedence.proofs.Starts.{Rises, rises_less}
-use Rattle.precedence.proofs.Tables.{both_left}
 
 -- ---- one slope
 
@@ -147,7 +146,7 @@ module _ (plan : PlanParts) (blocks : List Block) where
 
   higher : (o : Option Cone) (low high : Block) → is_pred_by plan.grid o low high ≡ true → low.z < high.z
   higher None low high h = let no : ⊥ = cc in absurd no
-  higher (Some cone) low high h = ltb-true low.z high.z (both_left (nat_lt low.z high.z) _ h)
+  higher (Some cone) low high h = ltb-true low.z high.z (and_parts (nat_lt low.z high.z) _ h).0
 
   pub lies_higher : (i k : ℕ) (d : Block) → i < length blocks → Contains (get_or (preds plan blocks) i []) k → (k < length blocks) × ((get_or blocks i d).z < (get_or blocks k d).z)
   lies_higher i k d lt has =

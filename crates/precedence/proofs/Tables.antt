@@ -1,7 +1,7 @@
 -- Row by row and bench by bench, the rows of a cone tell which block lies above which.
-use Rattle.std.proofs.Common.{◌≡◌, ℕ, ◌+◌, ◌-◌, ◌*◌, ◌<◌, ◌≤◌, ◌&&◌, ◌||◌, Bool, true, false, List, [], ◌∷◌, ◌++◌, nat_lt, nat_le, max, min, refl, sym, ap, ◌∙◌, arith, ⊎_elim}
+use Rattle.std.proofs.Common.{◌≡◌, ℕ, ◌+◌, ◌-◌, ◌*◌, ◌<◌, ◌≤◌, ◌&&◌, ◌||◌, true, false, List, [], ◌∷◌, ◌++◌, nat_lt, nat_le, max, min, sym, ap, ◌∙◌, arith, ⊎_elim}
 use Rattle.std.proofs.Math.Bool.{and-false, or-false, or_assoc}
-use Rattle.std.proofs.lemmas.Bool.{and_left, cases_lt, cases_Bool, lt-ltb, le-ltb, ltb-true, leb-true, lt-leb}
+use Rattle.std.proofs.lemmas.Bool.{and_left, cases_lt, cases_Bool, lt-ltb, le-ltb, ltb-true, leb-true, lt-leb, and_parts}
 use Rattle.std.proofs.lemmas.Bool.Decides.{nat_tests}
 use Rattle.pit_model.specs.declared.block.Block.{Block}
 use Rattle.pit_model.specs.declared.cone.Cone.{Cone}
@@ -14,16 +14,6 @@ use Rattle.precedence.specs.declared.rows.Extent.{Extent}
 use Rattle.precedence.specs.declared.rows.Counts.{Counts}
 use Rattle.precedence.specs.declared.rows.Row.{Row}
 use Rattle.precedence.proofs.Geometry.{IsAt, row_told}
-
--- ---- both of two tests
-
-pub both_left : (a b : Bool) → (a && b) ≡ true → a ≡ true
-both_left true b h = refl
-both_left false b h = h
-
-pub both_right : (a b : Bool) → (a && b) ≡ true → b ≡ true
-both_right true b h = h
-both_right false b h = let no : ⊥ = cc in absurd no
 
 -- ---- rows at the end
 
@@ -183,8 +173,8 @@ module _ (grid : Grid) (cone : Cone) (extent : Extent) where
   -- a block above is on one of the benches looked at
   high_enough : (low high : Block) → IsWithin extent low high → is_above grid cone low high ≡ true → high.z ≤ low.z + min cone.k extent.benches
   high_enough low high near lies =
-      let higher : nat_lt low.z high.z ≡ true = both_left (nat_lt low.z high.z) _ lies in
-      let looked : nat_le (high.z - low.z) cone.k ≡ true = both_left (nat_le (high.z - low.z) cone.k) _ (both_right (nat_lt low.z high.z) _ lies) in
+      let higher : nat_lt low.z high.z ≡ true = (and_parts (nat_lt low.z high.z) _ lies).0 in
+      let looked : nat_le (high.z - low.z) cone.k ≡ true = (and_parts (nat_le (high.z - low.z) cone.k) _ (and_parts (nat_lt low.z high.z) _ lies).1).0 in
       omega (arith, ltb-true low.z high.z higher, leb-true _ _ looked, near.benches)
 
   pub is_table : (top : ℕ) (rows : List Row) → top ≡ min cone.k extent.benches → Tells grid cone extent (edge extent.rows (top + 1) 0) rows → IsTable grid cone extent rows

@@ -2,8 +2,7 @@
 use Rattle.std.proofs.Common.{◌≡◌, ℕ, zero, suc, ◌+◌, List, [], ◌∷◌, ◌++◌, Bool, true, false, Option, length, map, drop, get_or, refl, sym, ap, ◌∙◌, subst, arith, All, append_assoc}
 use Rattle.std.proofs.lemmas.List.{map-append, length-map}
 use Rattle.std.specs.List.{AllZip, list_any}
-use Rattle.std.specs.Prelude.{◌||◌}
-use Rattle.std.proofs.lemmas.Bool.{true≢false}
+use Rattle.std.proofs.lemmas.Bool.{or_parts}
 use Rattle.std.proofs.lemmas.List.Elements.{All-nil, All-cons, All-head, All-rest}
 use Rattle.lane.specs.Ends.{Lane, PutEndView, TakeEndView, ArePutsFrom, AreTakesFrom, first_puts, first_takes}
 use Rattle.lane.specs.Message.{is_done}
@@ -61,14 +60,6 @@ first_unsent lane k (suc n) = (refl, refl, first_unsent lane (k + 1) n)
 pub unsent_rest : (k : ℕ) (e : PutEndView) (l rest : List PutEndView) → l ≡ e ∷ rest → AreUnsentFrom k l
     → (e.file ≡ k) × (e.sent ≡ []) × AreUnsentFrom (k + 1) rest
 unsent_rest k e l rest is h = subst (AreUnsentFrom k) is h
-
-left_false : (a b : Bool) → (a || b) ≡ false → a ≡ false
-left_false true b h = h
-left_false false b h = refl
-
-right_false : (a b : Bool) → (a || b) ≡ false → b ≡ false
-right_false true b h = absurd (true≢false h)
-right_false false b h = h
 
 -- the readers of one plan, whatever their handles are
 module _ {H : Type 0} (left : H → Option (List ℕ)) (sure : H → Bool) (plan : H → PlanParts) (end : H → PutEndView) (p : PlanParts) (lane : Lane) (files : ℕ) where
@@ -129,6 +120,6 @@ module _ {H : Type 0} (plan : H → PlanParts) (end : H → TakeEndView) (p : Pl
   valued_of k (suc n) (h ∷ hs) (r ∷ rs) kept plans ends fine =
       let Same : H → Type 0 = λ w. plan w ≡ p in
       let fresh : (end h).took ≡ [] = ap (λ l. (get_or l 0 (end h)).took) ends in
-      let here : r.items ≡ items_by (formulas_of_plan p) r.taker.took = rw (fresh, All-head Same h hs plans) at kept.0.2 (left_false r.memory _ fine) in
-      let rest : map (λ r. r.items) rs ≡ map (items_by (formulas_of_plan p)) (map (λ (t : TakeEndView). t.took) (map (λ r. r.taker) rs)) = valued_of (k + 1) n hs rs kept.1 (All-rest Same h hs (h ∷ hs) refl plans) (ap (drop 1) ends) (right_false r.memory _ fine) in
+      let here : r.items ≡ items_by (formulas_of_plan p) r.taker.took = rw (fresh, All-head Same h hs plans) at kept.0.2 (or_parts r.memory _ fine).0 in
+      let rest : map (λ r. r.items) rs ≡ map (items_by (formulas_of_plan p)) (map (λ (t : TakeEndView). t.took) (map (λ r. r.taker) rs)) = valued_of (k + 1) n hs rs kept.1 (All-rest Same h hs (h ∷ hs) refl plans) (ap (drop 1) ends) (or_parts r.memory _ fine).1 in
       ap (λ w. w ∷ map (λ r. r.items) rs) here ∙ ap (λ w. items_by (formulas_of_plan p) r.taker.took ∷ w) rest
