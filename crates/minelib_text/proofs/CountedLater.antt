@@ -1,7 +1,7 @@
 -- A line of which all fields are read, and none is left, has as many fields as it has to have.
 use Rattle.std.specs.Prelude.{◌≡◌, ℕ, suc, ◌*◌, ◌==◌, nat_lt, not, Bool, true, false, List, [], ◌∷◌, length, Result, Ok, Err, if◌then◌else◌}
 use Rattle.std.proofs.Common.{refl, sym, ◌∙◌, ap, arith}
-use Rattle.std.proofs.lemmas.Bool.{eqb-true, le-ltb}
+use Rattle.std.proofs.lemmas.Bool.{eqb-true, le-ltb, not-false}
 use Rattle.mine_instance.specs.declared.coef.Coef.{Coef}
 use Rattle.pit_model.specs.Steps.{◌>>=◌}
 use Rattle.pit_model.specs.declared.block.Block.{Block}
@@ -13,7 +13,7 @@ use Rattle.minelib_text.specs.declared.model_key.Problem.{Problem}
 use Rattle.minelib_text.specs.declared.model_key.Problem.TheVariants.{Pcpsp, Cpit}
 use Rattle.minelib_text.specs.declared.text_fault.TextKind.{TextKind}
 use Rattle.minelib_text.specs.declared.text_fault.TextKind.TheVariants.{Fields}
-use Rattle.minelib_text.proofs.ReadSteps.{first_ok, first_then, guard_ok, not_false}
+use Rattle.minelib_text.proofs.ReadSteps.{first_ok, first_then, guard_ok}
 use Rattle.pit_model.specs.declared.ranges.TheConstants.{GRID_CELLS, MAX_BLOCKS, MAX_GRADE, MAX_KG, MAX_ZONES}
 
 -- two continuations that agree on what is left of as many fields
@@ -35,7 +35,7 @@ one_more rule n fields next y e count =
     first_then rule fields next y e (λ field rest x cut _ goes_on. ap length cut ∙ ap suc (count x rest goes_on))
 
 pub none_left : {B : Type 0} (rest : List (List ℕ)) (r : Result B TextKind) (y : B) → (if not (length rest == 0) then Err Fields else r) ≡ Ok y → length rest ≡ 0
-none_left rest r y e = let g = guard_ok (not (length rest == 0)) Fields r y e in eqb-true (length rest) 0 (not_false (length rest == 0) g.0)
+none_left rest r y e = let g = guard_ok (not (length rest == 0)) Fields r y e in eqb-true (length rest) 0 (not-false (length rest == 0) g.0)
 
 -- coefficients
 coef_same : (problem : Problem) (n destinations resources : ℕ) (fields : List (List ℕ)) → length fields ≡ coef_width problem

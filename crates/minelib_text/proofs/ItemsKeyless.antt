@@ -6,7 +6,7 @@ use Rattle.mine_instance.specs.Order.{comes_before}
 use Rattle.mine_instance.specs.declared.coef.Coef.{Coef}
 use Rattle.pit_model.specs.Steps.{◌>>=◌}
 use Rattle.minelib_text.specs.FieldValues.{all_by, first_by, decimal_in, whole_in}
-use Rattle.minelib_text.specs.ModelLines.{admit_model, count_in, is_behind, is_colon, last_of, values_of, ModelDraft}
+use Rattle.minelib_text.specs.ModelLines.{admit_model, count_in, is_behind, is_colon, last_of, values_of, ModelDraftView}
 use Rattle.minelib_text.specs.TextLines.{fields_of}
 use Rattle.minelib_text.specs.Uncounted.{coef_alone}
 use Rattle.minelib_text.specs.declared.model_key.Problem.{Problem}
@@ -68,7 +68,7 @@ values_keyless n destinations before line values e =
     let told = all_ok decimal_in [] rest all read in zip_keyless rest told.0 told.2))))
 
 -- a line below the key of the coefficients that is read as one
-pub coef_admitted : (d : ModelDraft) (line : List ℕ) (coef : Coef) → d.section ≡ Coefs
+pub coef_admitted : (d : ModelDraftView) (line : List ℕ) (coef : Coef) → d.section ≡ Coefs
     → coef_alone d.problem d.blocks (count_in d.header.destinations) (count_in d.header.resources) (fields_of line) ≡ Ok coef
     → admit_model d line
     ≡ (if is_behind comes_before (last_of d.coefs) coef then Ok (record d { coefs = d.coefs ++ coef ∷ [] }) else Err Order)

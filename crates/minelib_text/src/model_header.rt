@@ -11,7 +11,7 @@ use crate::model_key::{Header, HeaderKey, Problem};
 use crate::model_keys::is_word;
 use crate::text_fault::TextKind;
 use pit_model::name::is_name;
-use pit_model::ranges::{MAX_BLOCKS, MAX_DESTINATIONS, MAX_PERIODS, MAX_RESOURCES};
+use pit_model::ranges::{MAX_BLOCKS, MAX_DESTINATIONS, MAX_PERIODS, MAX_RATE, MAX_RESOURCES};
 
 /// The header before its first key.
 pub fn blank_header(problem: Problem) -> Header
@@ -152,7 +152,7 @@ fn with_general(value: &[u8], header: Header) -> Result<Header, TextKind>
 fn with_rate(value: &[u8], header: Header) -> Result<Header, TextKind>
     ensures { result ≡ header_with Problem.Pcpsp 0 HeaderKey.Rate value.now header }
 {
-    let rate = size_in(value, 6, 1_000_000)?;
+    let rate = size_in(value, 6, MAX_RATE as u64)?;
     Ok(Header {
         rate: Some(rate as u32),
         ..header

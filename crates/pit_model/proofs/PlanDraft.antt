@@ -1,5 +1,5 @@
 -- What the draft of a plan holds is what its records have spelled.
-use Rattle.std.specs.Prelude.{◌≡◌, ℕ, ◌+◌, ◌-◌, ◌^◌, ◌<◌, ◌≤◌, ◌==◌, Bool, true, false, not, List, [], ◌∷◌, ◌++◌, length, map, All, ℤ, pos, ◌≤ℤ◌, Option, Some, None, is_some, IfSome, unwrap_or, Result, Ok, Err, if◌then◌else◌, ◌⊎◌}
+use Rattle.std.specs.Prelude.{◌≡◌, ℕ, ◌+◌, ◌^◌, ◌<◌, ◌≤◌, ◌==◌, Bool, true, false, not, List, [], ◌∷◌, ◌++◌, length, map, All, pos, ◌≤ℤ◌, Option, Some, None, is_some, IfSome, unwrap_or, Result, Ok, Err, if◌then◌else◌, ◌⊎◌}
 use Rattle.std.proofs.Common.{refl, sym, subst, arith, inl, inr, eqb-true, eq-eqb}
 use Rattle.std.proofs.lemmas.List.{length-append, map-append}
 use Rattle.std.proofs.lemmas.List.Elements.{All-nil, All-push, All-weaker}

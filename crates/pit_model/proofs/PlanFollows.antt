@@ -13,7 +13,7 @@ use Rattle.pit_model.specs.Bands.{starts_rise, AreBands, IsBand}
 use Rattle.pit_model.specs.Cells.{cell_at}
 use Rattle.pit_model.specs.Plan.{IsBound, AreCovers, has_repeat}
 use Rattle.pit_model.specs.PlanDemands.{asked, band_cells, covered_cells, is_interval, a_period, limit_cells, limit_order, leach_end, resource_end, limit_end, tonnes, whole, number}
-use Rattle.pit_model.specs.PlanPart.{ThePeriods, TheRate, AResource, ALimit, Stated, SpellBands, SpellBound, StandsWhole, NamesDestination, NamesResource, destination}
+use Rattle.pit_model.specs.PlanPart.{ThePeriods, TheRate, AResource, ALimit, Stated, SpellBands, SpellBound, StandsWhole, NamesDestination, NamesResource}
 use Rattle.pit_model.specs.Planned.{DraftView, is_taken, band_in, bands_in, with_leach, admit_leach, admit_periods, admit_rate, admit_resource, admit_limit, whole_in, number_in}
 use Rattle.pit_model.specs.declared.formula.Formula.TheVariants.{Leach}
 use Rattle.pit_model.specs.declared.formula.NamedFormula.{NamedFormula}

@@ -1,5 +1,5 @@
 -- How the fields of a plan that is being read are seen, and what they keep.
-use Rattle.std.specs.Prelude.{◌<◌, ◌≤◌, ◌^◌, length, ◌≤ℤ◌, pos, All, IfSome, unwrap_or}
+use Rattle.std.specs.Prelude.{◌<◌, ◌≤◌, length, ◌≤ℤ◌, pos, All, IfSome, unwrap_or}
 use Rattle.pit_model.specs.declared.draft.Draft.TheInside.{Inside}
 use Rattle.pit_model.specs.Plan.{IsGrid, IsCone, IsRuled, IsBound, AreCovers, RiseStrictly}
 use Rattle.pit_model.specs.Planned.{DraftView}

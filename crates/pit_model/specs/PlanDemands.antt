@@ -1,6 +1,6 @@
 -- What is asked of a record of a plan, in the order in which it is looked at, with the kind of fault where it is not so: the table of
 -- kinds, in its own words.
-use Rattle.std.specs.Prelude.{◌≡◌, ◌≢◌, ℕ, ◌*◌, ◌%◌, ◌^◌, ◌<◌, ◌≤◌, ◌==◌, Bool, true, false, List, [], ◌∷◌, ◌++◌, length, drop, All, ℤ, pos, negsuc, ◌*ℤ◌, ◌≤ℤ◌, IsTrue, codes, ◌⊎◌, if◌then◌else◌}
+use Rattle.std.specs.Prelude.{◌≡◌, ℕ, ◌*◌, ◌%◌, ◌^◌, ◌<◌, ◌≤◌, ◌==◌, Bool, true, false, List, [], ◌∷◌, ◌++◌, length, drop, All, ℤ, pos, ◌*ℤ◌, ◌≤ℤ◌, IsTrue, codes, ◌⊎◌, if◌then◌else◌}
 use Rattle.std.specs.List.{AllZip}
 use Rattle.std.specs.Str.{bytes_eq}
 use Rattle.pit_units.specs.Decimal.{StandsFor, IsSpelled, all_zeros}

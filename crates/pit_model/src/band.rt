@@ -2,6 +2,7 @@
 
 ghost use Rattle.std.specs.Prelude.{◌≡◌, ◌≤◌, ◌↔◌, IsTrue, IsSome, IfSome, IfOk, All, true, length, take, nat_le, filter};
 ghost use Rattle.pit_model.specs.Bands.{IsBand, AreBands, starts_rise, recovery_at};
+ghost use Rattle.pit_model.specs.declared.ranges.TheConstants.{MAX_RECOVERY};
 
 use crate::ranges::{MAX_BANDS, MAX_GRADE, MAX_RECOVERY};
 use std::alloc::{AllocError, Global};
@@ -57,7 +58,7 @@ impl Bands {
     /// the first band begins above it. It searches by halves.
     pub fn recovery(&self, grade: u64) -> u16
         ensures value { result ≡ recovery_at self.now grade }
-        ensures in_range { result ≤ 1000 }
+        ensures in_range { result ≤ MAX_RECOVERY }
     {
         let bands = self.bands.as_slice();
         match bands[..count_begun(bands, grade)].last() {

@@ -24,7 +24,8 @@ use crate::plan::Plan;
 use crate::plan_fault::{PlanFaultKind, RecordError};
 use crate::plan_key::{PlanKey, key_of};
 use crate::ranges::{
-    MAX_BANDS, MAX_DESTINATIONS, MAX_PERIODS, MAX_RATE, MAX_RECOVERY, MAX_RESOURCES, MAX_ZONES,
+    MAX_BANDS, MAX_COST, MAX_DESTINATIONS, MAX_PERIODS, MAX_PRICE, MAX_RATE, MAX_RECOVERY,
+    MAX_RESOURCES, MAX_ZONES,
 };
 use crate::resource::Resource;
 use crate::zone_cells::cone_in;
@@ -250,8 +251,8 @@ impl Draft {
         }
         let name = name_in(self.alloc, cell_at(row, 1))?;
         let recovery = whole_in(cell_at(row, 2), 0, u32::from(MAX_RECOVERY))?;
-        let price = whole_in(cell_at(row, 3), 0, 100_000_000)?;
-        let cost = whole_in(cell_at(row, 4), 0, 10_000_000)?;
+        let price = whole_in(cell_at(row, 3), 0, MAX_PRICE)?;
+        let cost = whole_in(cell_at(row, 4), 0, MAX_COST)?;
         if is_taken(self.formulas.as_slice(), cell_at(row, 1)) {
             return Err(RecordError::Fault(PlanFaultKind::Twice));
         }
@@ -271,8 +272,8 @@ impl Draft {
             return Err(RecordError::Fault(PlanFaultKind::Width));
         }
         let name = name_in(self.alloc, cell_at(row, 1))?;
-        let price = whole_in(cell_at(row, 2), 0, 100_000_000)?;
-        let cost = whole_in(cell_at(row, 3), 0, 10_000_000)?;
+        let price = whole_in(cell_at(row, 2), 0, MAX_PRICE)?;
+        let cost = whole_in(cell_at(row, 3), 0, MAX_COST)?;
         let mut bands = Vec::new(self.alloc);
         read_bands(row, count, &mut bands)?;
         if is_taken(self.formulas.as_slice(), cell_at(row, 1)) {
@@ -312,7 +313,7 @@ impl Draft {
             return Err(RecordError::Fault(PlanFaultKind::Width));
         }
         let name = name_in(self.alloc, cell_at(row, 1))?;
-        let cost = whole_in(cell_at(row, 2), 0, 10_000_000)?;
+        let cost = whole_in(cell_at(row, 2), 0, MAX_COST)?;
         if is_taken(self.formulas.as_slice(), cell_at(row, 1)) {
             return Err(RecordError::Fault(PlanFaultKind::Twice));
         }

@@ -1,5 +1,5 @@
 -- What a row of a zone file says: a block, or its first fault.
-use Rattle.std.specs.Prelude.{◌≡◌, ℕ, ◌<◌, ◌==◌, nat_lt, not, Bool, true, false, refl, List, length, Result, Err, if◌then◌else◌}
+use Rattle.std.specs.Prelude.{◌≡◌, ℕ, ◌+◌, ◌-◌, ◌<◌, ◌==◌, nat_lt, not, Bool, true, false, refl, List, length, Result, Err, if◌then◌else◌}
 use Rattle.std.proofs.Common.{lit<}
 use Rattle.std.proofs.lemmas.Bool.{ltb-true}
 use Rattle.pit_model.specs.declared.block.Block.{Block}
@@ -10,7 +10,7 @@ use Rattle.zone_csv.specs.declared.columns.Columns.{Columns}
 use Rattle.zone_csv.specs.declared.row_fault.Column.TheVariants as column
 use Rattle.zone_csv.specs.declared.row_fault.RowFault.{RowFault}
 use Rattle.zone_csv.specs.declared.row_fault.RowFaultKind.TheVariants.{Width, TooManyRows}
-use Rattle.pit_model.specs.declared.ranges.TheConstants.{MAX_ZONES}
+use Rattle.pit_model.specs.declared.ranges.TheConstants.{MAX_ROWS, MAX_ZONES}
 
 -- the number of a zone, of which a plan has at most 64
 abbrev pub Zone : Type 0
@@ -19,7 +19,7 @@ Zone = Kept (λ n. n < MAX_ZONES)
 -- the zone of this number; a number that no plan has stands for the last zone
 abbrev pub zone_if : (number : ℕ) (there : Bool) → nat_lt number MAX_ZONES ≡ there → Zone
 zone_if number true is = record { value = number; in_range = ltb-true number MAX_ZONES is }
-zone_if number false is = record { value = 63; in_range = lit< tt }
+zone_if number false is = record { value = MAX_ZONES - 1; in_range = lit< tt }
 
 abbrev pub zone_of : ℕ → Zone
 zone_of number = zone_if number (nat_lt number MAX_ZONES) refl
@@ -54,6 +54,6 @@ block_of grid zone columns number cells =
 -- what the record of this number says, under a header with these columns: too many rows; another width than the header's; the cells
 unfoldable pub row_of : Grid → ℕ → Columns → ℕ → List (List ℕ) → Result Block RowFault
 row_of grid zone columns number cells =
-    if nat_lt 1000001 number then at number column.Whole (Err TooManyRows)
+    if nat_lt (MAX_ROWS + 1) number then at number column.Whole (Err TooManyRows)
     else (if not (length cells == columns.width) then at number column.Whole (Err Width)
     else block_of grid zone columns number cells)

@@ -1,6 +1,6 @@
 -- What is asked of the records of a zone file, in the order in which it is looked at, with the column and the kind of the fault where it
 -- is not so: the table of kinds, in its own words.
-use Rattle.std.specs.Prelude.{◌≡◌, ℕ, ◌+◌, ◌*◌, ◌^◌, ◌<◌, true, List, [], ◌∷◌, ◌++◌, length, ℤ, pos, ◌+ℤ◌, ◌*ℤ◌, ◌≤ℤ◌, ◌<ℤ◌, codes, ◌⊎◌}
+use Rattle.std.specs.Prelude.{◌≡◌, ℕ, ◌+◌, ◌*◌, ◌<◌, true, List, [], ◌∷◌, ◌++◌, length, ℤ, pos, ◌+ℤ◌, ◌*ℤ◌, ◌≤ℤ◌, ◌<ℤ◌, codes, ◌⊎◌}
 use Rattle.pit_units.specs.Decimal.{StandsFor}
 use Rattle.pit_model.specs.Cells.{is_word}
 use Rattle.pit_model.specs.Demands.{Demand, FailsFirst}

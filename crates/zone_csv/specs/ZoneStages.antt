@@ -1,5 +1,6 @@
 -- How the parts of a reader of a zone file are seen as what it has still to say. Only proofs and private contracts need it.
-use Rattle.std.specs.Prelude.{ℕ, ◌≤◌, List, [], Some, None, Result}
+use Rattle.std.specs.Prelude.{ℕ, ◌+◌, ◌≤◌, List, [], Some, None, Result}
+use Rattle.pit_model.specs.declared.ranges.TheConstants.{MAX_ROWS}
 use Rattle.pit_model.specs.Records.{RecordReaderView, Rows, Over, GaveUp}
 use Rattle.pit_model.specs.declared.block.Block.{Block}
 use Rattle.pit_model.specs.declared.grid.Grid.{Grid}
@@ -34,6 +35,6 @@ reader_view grid zone (stage.Failed fault) ahead = says_fault fault
 -- the rows are counted up to the first one that is too many
 abbrev pub IsCounted : Stage → Type 0
 IsCounted stage.Header = Unit {0}
-IsCounted (stage.Body columns number) = number ≤ 1000002
+IsCounted (stage.Body columns number) = number ≤ MAX_ROWS + 2
 IsCounted stage.Ended = Unit {0}
 IsCounted (stage.Failed fault) = Unit {0}

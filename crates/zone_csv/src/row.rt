@@ -1,12 +1,12 @@
 //! The block that a row says.
 
-ghost use Rattle.std.specs.Prelude.{◌≡◌, ◌<◌, ◌≤◌, ◌^◌, IfOk, OnOk};
+ghost use Rattle.std.specs.Prelude.{◌≡◌, ◌+◌, ◌<◌, ◌≤◌, ◌^◌, IfOk, OnOk};
 ghost use Rattle.csv.specs.Records.{fields_of};
 ghost use Rattle.pit_model.specs.Plan.{IsAxis, IsGrid};
 ghost use Rattle.zone_csv.specs.Cell.{cell_at, value_of, index_of, kilograms_of, grade_of};
 ghost use Rattle.zone_csv.specs.Faults.{at};
 ghost use Rattle.zone_csv.specs.Row.{row_of, block_of};
-ghost use Rattle.pit_model.specs.declared.ranges.TheConstants.{GRID_CELLS, MAX_GRADE, MAX_KG, MAX_ZONES};
+ghost use Rattle.pit_model.specs.declared.ranges.TheConstants.{GRID_CELLS, MAX_GRADE, MAX_KG, MAX_ROWS, MAX_ZONES};
 
 use crate::cell::{cell_at, grade_of, index_of, kilograms_of};
 use crate::columns::Columns;
@@ -32,7 +32,7 @@ pub(crate) fn row_of(
     requires grid { IsGrid grid }
     requires zone { zone < MAX_ZONES }
     ensures value { result ≡ row_of grid zone columns number (fields_of row.now) }
-    ensures within { OnOk result (number ≤ 1000001) }
+    ensures within { OnOk result (number ≤ MAX_ROWS + 1) }
 {
     if number > LAST_ROW {
         return Err(RowFault {

@@ -5,7 +5,7 @@ ghost use Rattle.pit_model.specs.Plan.{IsGrid};
 ghost use Rattle.zone_csv.specs.ZoneReaderView.{Says, Answers, blocks_left};
 ghost use Rattle.zone_csv.specs.Zone.{blocks_of, fault_of, HasFewBlocks, HasOwnBlocks};
 ghost use Rattle.zone_csv.specs.ZoneStages.{reader_view, IsCounted};
-ghost use Rattle.pit_model.specs.declared.ranges.TheConstants.{MAX_ZONES};
+ghost use Rattle.pit_model.specs.declared.ranges.TheConstants.{MAX_ROWS, MAX_ZONES};
 
 use crate::columns::{Columns, columns_of};
 use crate::row::row_of;
@@ -168,7 +168,7 @@ fn next_row(
 ) -> (Stage, Result<Option<Block>, ZoneFault>)
     requires grid { IsGrid grid }
     requires zone { zone < MAX_ZONES }
-    requires counted { number ≤ 1000002 }
+    requires counted { number ≤ MAX_ROWS + 2 }
     ensures answers { Answers (reader_view grid zone (Stage.Body columns number) records.old) result.1
         (reader_view grid zone result.0 records.new) }
     ensures counted { IsCounted result.0 }
