@@ -1,17 +1,21 @@
 -- What a text begins with.
-use Rattle.std.specs.Prelude.{◌≡◌, ◌⊎◌, ℕ, ◌+◌, ◌*◌, ◌-◌, ◌^◌, ◌<◌, ◌≤◌, Bool, true, false, List, [], ◌∷◌, ◌++◌, length, drop, take, pos, zero, suc, unsigned_abs, Ok, if◌then◌else◌}
+use Rattle.std.specs.Prelude.{◌≡◌, ◌⊎◌, ℕ, ◌+◌, ◌*◌, ◌-◌, ◌^◌, ◌<◌, ◌≤◌, Bool, true, false, List, [], ◌∷◌, ◌++◌, length, drop, get_or, min, take, pos, zero, suc, unsigned_abs, Ok, if◌then◌else◌}
 use Rattle.std.proofs.Common.{arith, refl, sym, ap, ◌∙◌, inl, inr, append-nil, append_assoc, length-append}
 use Rattle.std.specs.List.{All}
 use Rattle.std.specs.Str.Parse.{digits_value, starts_with_minus}
-use Rattle.std.proofs.Math.Nat.{mul-lt-mul_of_pos_right, pow-zero}
+use Rattle.std.proofs.Math.Nat.{min-eq_left, min-eq_right, mul-lt-mul_of_pos_right, pow-zero}
+use Rattle.std.proofs.lemmas.Bool.{cases_lt}
 use Rattle.std.proofs.lemmas.List.{drop_all, length-take, length-drop, take_all, take-append-drop}
 use Rattle.std.proofs.lemmas.List.Elements.{All-append}
+use Rattle.std.proofs.lemmas.List.Sums.{prefix_len-le-length, prefix_len_passes}
+use Rattle.std.specs.Char.{is_ascii_digit}
 use Rattle.pit_units.proofs.DigitsAlone.{digits_alone, small_value}
+use Rattle.pit_units.proofs.Spelling.{both}
 use Rattle.pit_units.proofs.Standing.{stands_read}
 use Rattle.pit_units.proofs.Value.{size_product, value_append}
 use Rattle.pit_units.proofs.Written.{all_cons, digits_plain}
 use Rattle.pit_units.specs.Decimal.{all_digits, signed, IsPlainByte, IsSpelled, StandsFor}
-use Rattle.pit_units.specs.Front.{BeginsWith, BeginsWithDecimals, BeginsWithDigits, BeginsWithSize}
+use Rattle.pit_units.specs.Front.{digits_ahead, past_point, BeginsWith, BeginsWithDecimals, BeginsWithDigits, BeginsWithSize, IsUsual}
 
 -- the digits before a place
 pub digits_up_to : (text : List ℕ) (i n : ℕ) → i ≤ length text
@@ -44,9 +48,64 @@ digits_alone_there text i n end so_far =
       small = rw end so_far.1.0;
     }
 
+-- digits alone are no more than those that a text begins with
+all_ahead : (i : ℕ) (text : List ℕ) → i ≤ length text → all_digits (take i text) ≡ true → i ≤ digits_ahead text
+all_ahead zero text within digits = omega arith
+all_ahead (suc i) [] within digits = absurd (omega (arith, within))
+all_ahead (suc i) (c ∷ text) within digits =
+    let parts = both (is_ascii_digit c) (all_digits (take i text)) digits in
+    let more = all_ahead i text (omega (arith, within)) parts.1 in
+    rw parts.0 (omega (arith, more))
+
+-- digits that stop at the eighteenth, at the end or at another character are as many as there are
+pub most_digits : (text : List ℕ) (i : ℕ) → i ≤ length text → i ≤ 18 → all_digits (take i text) ≡ true
+    → (i ≡ 18) ⊎ (digits_ahead text ≤ i) → i ≡ min 18 (digits_ahead text)
+most_digits text i within few digits (inl all) = all ∙ sym (min-eq_left (omega (arith, all, all_ahead i text within digits)))
+most_digits text i within few digits (inr end) =
+    let same : digits_ahead text ≡ i = omega (arith, end, all_ahead i text within digits) in
+    rw same (sym (min-eq_right few))
+
+stops : (text : List ℕ) (i : ℕ) → is_ascii_digit (get_or text i 0) ≡ false → (i < digits_ahead text) ⊎ (digits_ahead text ≤ i) → digits_ahead text ≤ i
+stops text i other (inl less) = let passes : is_ascii_digit (get_or text i 0) ≡ true = prefix_len_passes is_ascii_digit text i 0 less in cc (passes, other)
+stops text i other (inr there) = there
+
+-- no digit is ahead of another character
+pub stops_there : (text : List ℕ) (i : ℕ) → is_ascii_digit (get_or text i 0) ≡ false → digits_ahead text ≤ i
+stops_there text i other = stops text i other (cases_lt i (digits_ahead text))
+
 -- how many digits there are
 pub digits_count : (text : List ℕ) (n : ℕ) (rest : List ℕ) (d : BeginsWithDigits text n rest) → length text ≡ length d.digits + length rest
 digits_count text n rest d = ap length d.joined ∙ length-append d.digits rest
+
+-- what stands behind the digits that were read
+pub behind_digits : (text : List ℕ) (i : ℕ) → i ≤ length text → i ≡ min 18 (digits_ahead text)
+    → take (length text - i) (drop i text) ≡ drop (min 18 (digits_ahead text)) text
+behind_digits text i within most = take_all (length text - i) (drop i text) (omega (arith, length-drop i text)) ∙ ap (λ n. drop n text) most
+
+-- nothing stands behind digits that reach the end
+pub behind_all_digits : (text : List ℕ) (i : ℕ) → length text ≡ i → i ≡ min 18 (digits_ahead text) → [] ≡ drop (min 18 (digits_ahead text)) text
+behind_all_digits text i end most = sym (drop_all (min 18 (digits_ahead text)) text (omega (arith, end, most)))
+
+-- what stands behind the digits of a usual number
+pub behind_usual : (max : ℕ) (text behind : List ℕ) → behind ≡ drop (min 18 (digits_ahead text)) text → IsUsual max text
+    → behind ≡ drop (digits_ahead text) text
+behind_usual max text behind most usual = most ∙ ap (λ n. drop n text) (min-eq_right (omega (arith, usual.few)))
+
+-- a usual number has digits, and few of them
+pub usual_is_taken : (max : ℕ) (text : List ℕ) (units : ℕ) (behind : List ℕ) → BeginsWithDigits text units behind
+    → behind ≡ drop (min 18 (digits_ahead text)) text → IsUsual max text → (length behind < length text) × (units < 10 ^ 12)
+usual_is_taken max text units behind d most usual =
+    let ahead = prefix_len-le-length is_ascii_digit text in
+    let long : length behind ≡ length text - digits_ahead text = ap length (behind_usual max text behind most usual) ∙ length-drop (digits_ahead text) text in
+    let count = digits_count text units behind d in
+    (omega (arith, long, ahead, usual.some), small_value (length d.digits) 12 units (omega (arith, long, ahead, count, usual.few)) d.small)
+
+-- few digits stand behind the point of a usual number
+pub usual_is_coarse : (max : ℕ) (text behind tail : List ℕ) → behind ≡ drop (min 18 (digits_ahead text)) text → behind ≡ 46 ∷ tail → IsUsual max text
+    → digits_ahead tail ≤ max
+usual_is_coarse max text behind tail most point usual =
+    let past : past_point (drop (digits_ahead text) text) ≡ tail = ap past_point (sym (behind_usual max text behind most usual) ∙ point) in
+    rw past at usual.coarse
 
 some_digits : (text digits rest : List ℕ) → text ≡ digits ++ rest → (length rest ≡ length text → ⊥) → 0 < length digits
 some_digits text [] rest joined other = absurd (other (sym (ap length joined)))

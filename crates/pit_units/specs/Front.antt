@@ -1,7 +1,8 @@
 -- What a text begins with: digits, or a decimal.
-use Rattle.std.specs.Prelude.{◌≡◌, ◌⊎◌, ℕ, ◌*◌, ◌^◌, ◌<◌, ◌≤◌, List, [], ◌∷◌, ◌++◌, length, ℤ, true, Ok}
-use Rattle.std.specs.List.{All}
-use Rattle.std.specs.Str.Parse.{digits_value}
+use Rattle.std.specs.Prelude.{◌≡◌, ◌⊎◌, ℕ, ◌*◌, ◌^◌, ◌<◌, ◌≤◌, ◌==◌, List, [], ◌∷◌, ◌++◌, length, drop, ℤ, true, Ok, if◌then◌else◌}
+use Rattle.std.specs.Char.{is_ascii_digit}
+use Rattle.std.specs.List.{All, prefix_len}
+use Rattle.std.specs.Str.Parse.{digits_value, starts_with_minus}
 use Rattle.pit_units.specs.Decimal.{all_digits, decimal_of, IsPlainByte}
 
 -- the text begins with a decimal of m millionths, `max` decimals allowed, of digits, a point and a minus alone, and goes on with the rest
@@ -11,6 +12,25 @@ pub record BeginsWith (max : ℕ) (text : List ℕ) (m : ℤ) (rest : List ℕ) 
   pub some : 0 < length front
   pub bytes : All IsPlainByte front
   pub stated : decimal_of max front ≡ Ok m
+
+-- how many digits a text begins with
+abbrev pub digits_ahead : List ℕ → ℕ
+digits_ahead text = prefix_len is_ascii_digit text
+
+-- what stands past a minus that the text may begin with
+abbrev pub past_minus : List ℕ → List ℕ
+past_minus text = if starts_with_minus text then drop 1 text else text
+
+-- what stands past a point that the text begins with, or nothing
+abbrev pub past_point : List ℕ → List ℕ
+past_point [] = []
+past_point (c ∷ text) = if c == 46 then text else []
+
+-- the text begins as most decimals are written, but for a minus: 1 to 12 digits, and behind a point no more than `max` of them
+pub record IsUsual (max : ℕ) (text : List ℕ) : Type 0 where
+  pub some : 0 < digits_ahead text
+  pub few : digits_ahead text ≤ 12
+  pub coarse : digits_ahead (past_point (drop (digits_ahead text) text)) ≤ max
 
 -- the text begins with 18 digits at most, which make a number, and goes on with the rest. Only proofs and private contracts need it.
 pub record BeginsWithDigits (text : List ℕ) (n : ℕ) (rest : List ℕ) : Type 0 where

@@ -1,6 +1,6 @@
-ghost use Rattle.std.specs.Prelude.{◌≡◌, [], ◌∷◌, ◌++◌, ◌*◌, ◌^◌, ◌<◌, ◌≤◌, if◌then◌else◌, IfSome, pos};
+ghost use Rattle.std.specs.Prelude.{◌≡◌, [], ◌∷◌, ◌++◌, ◌*◌, ◌^◌, ◌<◌, ◌≤◌, drop, min, if◌then◌else◌, IfSome, IsSome, pos};
 ghost use Rattle.pit_units.specs.Decimal.{signed};
-ghost use Rattle.pit_units.specs.Front.{BeginsWith, BeginsWithDecimals, BeginsWithDigits, BeginsWithSize};
+ghost use Rattle.pit_units.specs.Front.{digits_ahead, past_minus, BeginsWith, BeginsWithDecimals, BeginsWithDigits, BeginsWithSize, IsUsual};
 
 // The most digits that are read at a text's front: their number is one of 64 bits.
 const MOST_DIGITS: usize = 18;
@@ -9,10 +9,11 @@ const MOST_DIGITS: usize = 18;
 const MOST_UNITS: u64 = 1_000_000_000_000;
 
 /// The whole number that the digits at a text's front make, and what stands behind them: of one to 18 digits. A text with more of
-/// them goes on with a digit.
+/// them goes on with a digit, and one that begins with none gives `None`.
 #[inline(always)]
 pub fn front_whole(text: &[u8]) -> Option<(u64, &[u8])>
-    ensures { IfSome result (λ x. BeginsWith 0 text.now (pos (x.0 * 10 ^ 6)) x.1.now) }
+    ensures whole { IfSome result (λ x. BeginsWith 0 text.now (pos (x.0 * 10 ^ 6)) x.1.now) }
+    ensures taken { 0 < digits_ahead text.now → IsSome result }
 {
     let (number, rest) = front_digits(text);
     if rest.len() == text.len() {
@@ -22,11 +23,13 @@ pub fn front_whole(text: &[u8]) -> Option<(u64, &[u8])>
 }
 
 /// The millionths of the decimal that a text begins with, and what stands behind it: as most are written, with a digit before the
-/// point, no plus, no more than `max_decimals` decimals and 10^12 units either side of zero. `None` says nothing of the text.
+/// point, no plus, no more than `max_decimals` decimals and 10^12 units either side of zero. All with one to 12 digits before the
+/// point are taken; `None` says that the text begins otherwise.
 #[inline]
 pub fn front_dec(text: &[u8], max_decimals: u8) -> Option<(i64, &[u8])>
     requires { max_decimals ≤ 6 }
-    ensures { IfSome result (λ x. BeginsWith max_decimals text.now x.0 x.1.now) }
+    ensures decimal { IfSome result (λ x. BeginsWith max_decimals text.now x.0 x.1.now) }
+    ensures taken { IsUsual max_decimals (past_minus text.now) → IsSome result }
 {
     let (negative, unsigned) = without_minus(text);
     let (size, rest) = front_size(unsigned, max_decimals)?;
@@ -45,7 +48,8 @@ fn with_sign(negative: bool, size: u64) -> i64
 // Whether a text begins with a minus, and the text past it.
 #[inline(always)]
 fn without_minus(text: &[u8]) -> (bool, &[u8])
-    ensures { text.now ≡ (if result.0 then 45 ∷ [] else []) ++ result.1.now }
+    ensures joined { text.now ≡ (if result.0 then 45 ∷ [] else []) ++ result.1.now }
+    ensures past { result.1.now ≡ past_minus text.now }
 {
     match text {
         [b'-', rest @ ..] => (true, rest),
@@ -59,6 +63,7 @@ fn front_size(text: &[u8], max_decimals: u8) -> Option<(u64, &[u8])>
     requires { max_decimals ≤ 6 }
     ensures size { IfSome result (λ x. BeginsWithSize max_decimals text.now x.0 x.1.now) }
     ensures small { IfSome result (λ x. x.0 < 2 * 10 ^ 18) }
+    ensures taken { IsUsual max_decimals text.now → IsSome result }
 {
     let (units, behind) = front_digits(text);
     if behind.len() == text.len() || units > MOST_UNITS {
@@ -88,7 +93,8 @@ fn behind_point(text: &[u8]) -> Option<&[u8]>
 #[inline(always)]
 fn front_decimals(text: &[u8], max_decimals: u8) -> Option<(u32, &[u8])>
     requires { max_decimals ≤ 6 }
-    ensures { IfSome result (λ x. BeginsWithDecimals max_decimals text.now x.0 x.1.now) }
+    ensures decimals { IfSome result (λ x. BeginsWithDecimals max_decimals text.now x.0 x.1.now) }
+    ensures taken { digits_ahead text.now ≤ max_decimals → IsSome result }
 {
     let (number, rest) = front_digits(text);
     let count = text.len() - rest.len();
@@ -118,7 +124,8 @@ fn scale(decimals: usize) -> u32
 // The number that the digits at a text's front make, 18 of them at most, and what stands behind them.
 #[inline(always)]
 fn front_digits(text: &[u8]) -> (u64, &[u8])
-    ensures { BeginsWithDigits text.now result.0 result.1.now }
+    ensures digits { BeginsWithDigits text.now result.0 result.1.now }
+    ensures most { result.1.now ≡ drop (min 18 (digits_ahead text.now)) text.now }
 {
     let mut number = 0;
     for (place, byte) in text.iter().enumerate() {

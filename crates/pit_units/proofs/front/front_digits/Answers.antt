@@ -1,11 +1,13 @@
-use Rattle.std.proofs.Common.{arith, rules, ◌≡◌, true, get_or}
+use Rattle.std.proofs.Common.{arith, rules, inl, inr, ◌≡◌, true, get_or}
+use Rattle.std.proofs.lemmas.List.Sums.{prefix_len-le-length}
 use Rattle.std.specs.Char.{is_ascii_digit}
 use Rattle.pit_units.proofs.DigitsAlone.{more_digits, small_value}
-use Rattle.pit_units.proofs.FrontFacts.{digits_up_to, digits_alone_there}
+use Rattle.pit_units.proofs.FrontFacts.{behind_all_digits, behind_digits, digits_up_to, digits_alone_there, most_digits, stops_there}
 use Rattle.pit_units.proofs.front.front_digits.Goals as goal
+use Rattle.pit_units.proofs.front.front_digits.Goals.{then-place-eq-MOST_DIGITS-via-then-place-eq-MOST_DIGITS, then-place-eq-MOST_DIGITS-via-else-place-eq-MOST_DIGITS+then-not-is_ascii_digit}
 
-pub returns-then-place-eq-MOST_DIGITS : goal.returns-then-place-eq-MOST_DIGITS
-returns-then-place-eq-MOST_DIGITS c = digits_up_to c.args.text.now c.loop-place.place c.loop-place.number (omega arith) c.loop-place.invariant
+pub returns-then-place-eq-MOST_DIGITS-clause-digits : goal.returns-then-place-eq-MOST_DIGITS-clause-digits
+returns-then-place-eq-MOST_DIGITS-clause-digits c = digits_up_to c.args.text.now c.loop-place.place c.loop-place.number (omega arith) c.loop-place.invariant
 
 pub overflow_mul-number : goal.overflow_mul-number
 overflow_mul-number c = omega (arith, small_value c.loop-place.place 18 c.loop-place.number c.loop-place.invariant.0 c.loop-place.invariant.1.0)
@@ -18,5 +20,20 @@ loop-place-preserved c =
     let digit : is_ascii_digit (get_or c.args.text.now c.loop-place.place 0) ≡ true = search rules in
     (omega arith, rw c.from.ensures (more_digits c.args.text.now c.loop-place.place c.loop-place.number (omega arith) digit c.loop-place.invariant.1))
 
-pub returns : goal.returns
-returns c = digits_alone_there c.args.text.now c.loop-place.place c.loop-place.number (omega arith) c.loop-place.invariant
+pub returns-clause-digits : goal.returns-clause-digits
+returns-clause-digits c = digits_alone_there c.args.text.now c.loop-place.place c.loop-place.number (omega arith) c.loop-place.invariant
+
+pub returns-then-place-eq-MOST_DIGITS-clause-most : goal.returns-then-place-eq-MOST_DIGITS-clause-most
+returns-then-place-eq-MOST_DIGITS-clause-most c =
+    let so_far = c.loop-place.invariant in
+    let most = most_digits c.args.text.now c.loop-place.place (omega arith) so_far.0 so_far.1.1.1 in
+    behind_digits c.args.text.now c.loop-place.place (omega arith) (elim c.then-place-eq-MOST_DIGITS.branch [
+      | then-place-eq-MOST_DIGITS-via-then-place-eq-MOST_DIGITS w ↦ most (inl (omega arith))
+      | then-place-eq-MOST_DIGITS-via-else-place-eq-MOST_DIGITS+then-not-is_ascii_digit w ↦ most (inr (stops_there c.args.text.now c.loop-place.place (search rules)))
+    ])
+
+pub returns-clause-most : goal.returns-clause-most
+returns-clause-most c =
+    let so_far = c.loop-place.invariant in
+    let ahead = prefix_len-le-length is_ascii_digit c.args.text.now in
+    behind_all_digits c.args.text.now c.loop-place.place (omega arith) (most_digits c.args.text.now c.loop-place.place (omega arith) so_far.0 so_far.1.1.1 (inr (omega (arith, ahead))))
