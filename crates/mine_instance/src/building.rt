@@ -212,6 +212,3 @@ fn put_coefs(
     }
     Ok(())
 }
-
-#[cfg(test)]
-mod tests;

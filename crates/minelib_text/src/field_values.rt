@@ -25,23 +25,11 @@ fn whole_below(number: Dec, limit: u64) -> Result<u64, TextKind>
     if millionths < 0 {
         return Err(TextKind::Range);
     }
-    let whole = whole_part(millionths as u128);
+    let whole = millionths as u128 / 1_000_000;
     if whole < u128::from(limit) {
         Ok(whole as u64)
     } else {
         Err(TextKind::Range)
-    }
-}
-
-// The whole part of so many millionths. A number of 64 bits is divided as one.
-#[inline(always)]
-fn whole_part(millionths: u128) -> u128
-    ensures { result ≡ millionths / 10 ^ 6 }
-{
-    if millionths <= u128::from(u64::MAX) {
-        u128::from(millionths as u64 / 1_000_000)
-    } else {
-        millionths / 1_000_000
     }
 }
 

@@ -2,6 +2,7 @@
 
 mod check;
 mod compile;
+mod instance;
 mod job;
 pub mod models;
 mod pieces;

@@ -1,12 +1,14 @@
+//! An instance that is built of rows in one call.
+
 ghost use Rattle.std.specs.Prelude.{◌≡◌, IfOk, IsTrue};
 ghost use Rattle.pit_model.specs.Destinations.{formulas_of_plan};
 ghost use Rattle.precedence.specs.Cone.{HasZones};
 ghost use Rattle.valuers.specs.Valuing.{worths_by};
 
-use super::build;
-use crate::coef::Coef;
-use crate::instance::Instance;
-use crate::is_valid;
+use crate::tests::models::LIMITED_PLAN;
+use mine_instance::coef::Coef;
+use mine_instance::instance::Instance;
+use mine_instance::{build, is_valid};
 use pit_model::block::Block;
 use pit_model::limit::Bound;
 use pit_model::plan::Plan;
@@ -47,12 +49,9 @@ fn has_zones(numbering: &Numbering, plan: &Plan) -> bool
     true
 }
 
-const PLAN: &[u8] =
-    b"name,one\ngrid,0,0,0,10,10,10\nzone,1,1,1\nmill,mill,900,600,1500\ndump,dump,200\nperiods,2\nrate,0.1\nresource,plant,mill\nlimit,plant,1,I,0,900\nlimit,plant,0,L,500.5\n";
-
 // The instance of two blocks under the plan. The block of the greater identifier arrives first.
 fn built(alloc: Global, ore: Block, waste: Block) -> Result<Instance, Fail> {
-    let plan = read_plan(alloc, PLAN)?;
+    let plan = read_plan(alloc, LIMITED_PLAN.as_bytes())?;
     let rows = [valued(&plan, 0, waste), valued(&plan, 1, ore)];
     let numbering = number(alloc, &rows)?;
     if !has_zones(&numbering, &plan) {
