@@ -75,6 +75,3 @@ pub fn read_cpit(alloc: Global, n: usize, text: &[u8]) -> Result<Cpit, ReadTextE
     };
     Ok(model.into_cpit()?)
 }
-
-#[cfg(test)]
-mod tests;

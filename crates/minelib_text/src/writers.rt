@@ -74,6 +74,3 @@ pub fn write_cpit<S: Sink>(alloc: Global, cpit: &Cpit, sink: &mut S) -> Result<(
 {
     write_text(alloc, &CpitFile { cpit }, sink)
 }
-
-#[cfg(test)]
-mod tests;

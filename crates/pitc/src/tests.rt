@@ -1,10 +1,9 @@
 //! Tests of the commands, and of all crates together.
 
-mod check;
-mod compile;
 mod instance;
 mod job;
 pub mod models;
 mod pieces;
 mod pipe_form;
 mod runs;
+mod texts;

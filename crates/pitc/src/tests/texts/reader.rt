@@ -1,7 +1,6 @@
-use super::{read_cpit, read_instance};
-use crate::mem_sink::MemSink;
-use crate::text_fault::{ReadTextError, TextFault, TextFile, TextKind};
-use crate::{write_blocks, write_cpit, write_pcpsp, write_prec};
+use minelib_text::mem_sink::MemSink;
+use minelib_text::text_fault::{ReadTextError, TextFault, TextFile, TextKind};
+use minelib_text::{read_cpit, read_instance, write_blocks, write_cpit, write_pcpsp, write_prec};
 use std::alloc::Global;
 use std::process::Abort;
 use std::test::Fail;

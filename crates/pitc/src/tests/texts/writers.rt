@@ -1,11 +1,11 @@
 ghost use Rattle.std.specs.Prelude.{IfOk};
 ghost use Rattle.mine_instance.specs.Valid.{IsValid};
 
-use super::{write_blocks, write_cpit, write_pcpsp, write_prec, write_upit};
-use crate::mem_sink::MemSink;
-use crate::section_sink::SectionSink;
-use crate::sink::Sink;
-use crate::write_fault::WriteFault;
+use minelib_text::mem_sink::MemSink;
+use minelib_text::section_sink::SectionSink;
+use minelib_text::sink::Sink;
+use minelib_text::write_fault::WriteFault;
+use minelib_text::{write_blocks, write_cpit, write_pcpsp, write_prec, write_upit};
 use mine_instance::blocks::Blocks;
 use mine_instance::coef::{Coef, Coefs};
 use mine_instance::instance::Instance;

@@ -1,0 +1,5 @@
+//! The MineLib texts that are written and read.
+
+mod file_sink;
+mod reader;
+mod writers;
