@@ -1,99 +1,137 @@
--- What a sink tells as the front of what it is to hold.
-use Rattle.std.proofs.Common.{◌≡◌, ℕ, ◌+◌, ◌<◌, List, [], ◌∷◌, ◌++◌, length, drop, get_or, Option, Some, None, refl, sym, ◌∙◌, ap, append_assoc, append-nil, add-one, inl, inr}
-use Rattle.std.specs.Prelude.{Result, Ok, Err, OnErr}
-use Rattle.std.proofs.Math.Seq.{drop-cons}
-use Rattle.minelib_text.specs.Device.{added, holding, IsFront}
+-- What writing on does to a sink and a buffer, and what a sink holds that was cut short.
+use Rattle.std.proofs.Common.{◌≡◌, ℕ, ◌+◌, ◌<◌, List, [], ◌∷◌, ◌++◌, length, take, drop, get_or, subst, Option, Some, None, refl, sym, ◌∙◌, ap, append_assoc, append-nil, add-one, inl, inr, arith}
+use Rattle.std.proofs.lemmas.List.{take-append-drop}
+use Rattle.std.proofs.Math.Seq.{take-suc}
+use Rattle.minelib_text.specs.Device.{added, holding}
 use Rattle.minelib_text.specs.Lines.{text_of}
-use Rattle.minelib_text.specs.SinkState.{SinkState, IsCutOff}
+use Rattle.minelib_text.specs.SinkState.{SinkState, IsStill, IsCutOff, IsWrittenOn, IsCutShort}
 
 -- added in two steps
 pub added-added : (a b : List ℕ) (t : Option (List ℕ)) → added b (added a t) ≡ added (a ++ b) t
 added-added a b None = refl
 added-added a b (Some bytes) = ap Some (append_assoc bytes a b)
 
--- a front stays one when more comes behind
-pub front_further : (now whole : Option (List ℕ)) (more : List ℕ) → IsFront now whole → IsFront now (added more whole)
-front_further now whole more front =
-    record { rest = front.rest ++ more; joined = ap (added more) front.joined ∙ added-added front.rest more now }
+still_self : (s : SinkState) → IsStill s s
+still_self s = record { begun = refl; before = refl }
 
--- what was taken is the front of it and more
-pub front_added : (now : Option (List ℕ)) (more : List ℕ) → IsFront now (added more now)
-front_added now more = record { rest = more; joined = refl }
+still_after : (old between new : SinkState) → IsStill old between → IsStill between new → IsStill old new
+still_after old between new first then = record { begun = then.begun ∙ first.begun; before = then.before ∙ first.before }
 
--- the text of the lines from one on: that line, then those after it
-pub text_of-drop : (lines : List (List ℕ)) (i : ℕ) → i < length lines
-    → text_of (drop i lines) ≡ (get_or lines i [] ++ 10 ∷ []) ++ text_of (drop (i + 1) lines)
-text_of-drop lines i h = rw (add-one i, drop-cons lines i []) refl
+-- the buffer took the text, and the sink is as it was
+pub buffered : {before after : List ℕ} {s : SinkState} (text : List ℕ) → after ≡ before ++ text
+    → IsWrittenOn text before after s s
+buffered {before} {s = s} text e = record {
+  taken = ap (λ bytes. added bytes s.taken) e ∙ sym (added-added before text s.taken);
+  works = refl;
+  still = still_self s;
+}
 
--- a line that is collected before the rest
-pub line_first : (lines : List (List ℕ)) (i : ℕ) (before after : List ℕ) (t : Option (List ℕ)) → i < length lines
-    → after ≡ before ++ (get_or lines i [] ++ 10 ∷ [])
-    → added (text_of (drop i lines)) (added before t) ≡ added (text_of (drop (i + 1) lines)) (added after t)
-line_first lines i before after t h e =
-    ap (λ text. added text (added before t)) (text_of-drop lines i h)
-    ∙ added-added before _ t
-    ∙ ap (λ bytes. added bytes t) (sym (append_assoc before _ _) ∙ ap (λ bytes. bytes ++ text_of (drop (i + 1) lines)) (sym e))
-    ∙ sym (added-added after _ t)
+-- no call was made: the sink is as it was
+pub nothing_put : (text before : List ℕ) (s : SinkState) → IsCutShort 0 text before s s
+nothing_put text before s = record {
+  front = record { rest = before ++ text; joined = added-added before text s.taken };
+  fails = omega arith;
+  still = still_self s;
+}
 
--- a clause on refusals, at a refusal
-pub on_refusal : {T E P : Type 0} (r : Result T E) → P → OnErr r P
-on_refusal (Ok x) p = tt
-on_refusal (Err e) p = p
+-- more was to come behind the text
+cut_before : {n : ℕ} {a before : List ℕ} {old new : SinkState} (b : List ℕ) → IsCutShort n a before old new
+    → IsCutShort n (a ++ b) before old new
+cut_before {a = a} {new = new} b cut = record {
+  front = record {
+    rest = cut.front.rest ++ b;
+    joined = sym (added-added a b _) ∙ ap (added b) cut.front.joined ∙ added-added cut.front.rest b new.taken;
+  };
+  fails = cut.fails;
+  still = cut.still;
+}
 
--- a front of what is put is a front of all that is to come
-pub line_front : (lines : List (List ℕ)) (i : ℕ) (before after : List ℕ) (t now : Option (List ℕ)) → i < length lines
-    → after ≡ before ++ (get_or lines i [] ++ 10 ∷ []) → IsFront now (added after t)
-    → IsFront now (added (text_of (drop i lines)) (added before t))
-line_front lines i before after t now h e front =
-    rw (line_first lines i before after t h e) (front_further now (added after t) (text_of (drop (i + 1) lines)) front)
+module _ {a b before mid : List ℕ} {old between new : SinkState} where
+  -- one text was written on, and then another
+  written_then : {after : List ℕ} → IsWrittenOn a before mid old between → IsWrittenOn b mid after between new
+      → IsWrittenOn (a ++ b) before after old new
+  written_then first then = record {
+    taken = then.taken ∙ ap (added b) first.taken ∙ added-added a b _;
+    works = then.works ∙ first.works;
+    still = still_after old between new first.still then.still;
+  }
+
+  -- one text was written on, and the next was cut short
+  cut_then : {n : ℕ} → IsWrittenOn a before mid old between → IsCutShort n b mid between new
+      → IsCutShort n (a ++ b) before old new
+  cut_then {n = n} first cut = record {
+    front = record {
+      rest = cut.front.rest;
+      joined = sym (ap (added b) first.taken ∙ added-added a b _) ∙ cut.front.joined;
+    };
+    fails = cut.fails ∙ ap (λ failures. failures + n) first.works;
+    still = still_after old between new first.still cut.still;
+  }
 
 pub text_of-append : (xs ys : List (List ℕ)) → text_of (xs ++ ys) ≡ text_of xs ++ text_of ys
 text_of-append [] ys = refl
 text_of-append (x ∷ xs) ys = ap (λ rest. (x ++ 10 ∷ []) ++ rest) (text_of-append xs ys) ∙ sym (append_assoc (x ++ 10 ∷ []) (text_of xs) (text_of ys))
 
--- what stands in the buffer is part of what is to come
-pub behind_buffer : (before after x y : List ℕ) (t : Option (List ℕ)) → after ≡ before ++ x
-    → added y (added after t) ≡ added (x ++ y) (added before t)
-behind_buffer before after x y t e =
-    added-added after y t ∙ ap (λ bytes. added (bytes ++ y) t) e ∙ ap (λ bytes. added bytes t) (append_assoc before x y)
-    ∙ sym (added-added before (x ++ y) t)
+-- one line behind the others
+text_of-line : (lines : List (List ℕ)) (line : List ℕ) → text_of (lines ++ line ∷ []) ≡ text_of lines ++ (line ++ 10 ∷ [])
+text_of-line lines line = text_of-append lines (line ∷ []) ∙ ap (λ last. text_of lines ++ last) (append-nil (line ++ 10 ∷ []))
 
-pub front_same : (now whole same : Option (List ℕ)) → whole ≡ same → IsFront now whole → IsFront now same
-front_same now whole same e front = record { rest = front.rest; joined = sym e ∙ front.joined }
+-- the text of the lines up to one and with it: those before it, and then that line
+text_of-take : (lines : List (List ℕ)) (i : ℕ) → i < length lines
+    → text_of (take (i + 1) lines) ≡ text_of (take i lines) ++ (get_or lines i [] ++ 10 ∷ [])
+text_of-take lines i h = rw (add-one i, take-suc lines i [] h) (text_of-line (take i lines) (get_or lines i []))
 
--- lines, and then more of them
-pub more_lines : (xs ys : List (List ℕ)) (before held : Option (List ℕ)) → held ≡ added (text_of xs) before
-    → added (text_of ys) held ≡ added (text_of (xs ++ ys)) before
-more_lines xs ys before held e =
-    ap (added (text_of ys)) e ∙ added-added (text_of xs) (text_of ys) before ∙ ap (λ text. added text before) (sym (text_of-append xs ys))
+-- lines were cut short, and more were to come
+pub lines_cut_before : {n : ℕ} {before : List ℕ} {old new : SinkState} (xs ys : List (List ℕ))
+    → IsCutShort n (text_of xs) before old new → IsCutShort n (text_of (xs ++ ys)) before old new
+lines_cut_before xs ys cut = rw text_of-append (cut_before (text_of ys) cut)
 
--- a front of the lines is one of more lines
-pub front_of_lines : (xs ys : List (List ℕ)) (now held : Option (List ℕ)) → IsFront now (added (text_of xs) held)
-    → IsFront now (added (text_of (xs ++ ys)) held)
-front_of_lines xs ys now held front =
-    front_same now _ _ (more_lines xs ys held (added (text_of xs) held) refl) (front_further now (added (text_of xs) held) (text_of ys) front)
+module _ {before mid : List ℕ} {old between new : SinkState} where
+  -- lines were written on, and then more of them
+  pub lines_then : {after : List ℕ} (xs ys : List (List ℕ)) → IsWrittenOn (text_of xs) before mid old between
+      → IsWrittenOn (text_of ys) mid after between new → IsWrittenOn (text_of (xs ++ ys)) before after old new
+  lines_then xs ys first then = rw text_of-append (written_then first then)
 
--- an empty sink is the front of any text
-pub front_of_any : (text : List ℕ) (now before : Option (List ℕ)) → IsFront now (holding [] before) → IsFront now (holding text before)
-front_of_any text now before front = front_same now _ _ (held before) (front_further now (holding [] before) text front)
-  where
-    held : (t : Option (List ℕ)) → added text (holding [] t) ≡ holding text t
-    held None = refl
-    held (Some bytes) = refl
+  -- lines were written on, and the next were cut short
+  pub lines_cut_then : {n : ℕ} (xs ys : List (List ℕ)) → IsWrittenOn (text_of xs) before mid old between
+      → IsCutShort n (text_of ys) mid between new → IsCutShort n (text_of (xs ++ ys)) before old new
+  lines_cut_then xs ys first cut = rw text_of-append (cut_then first cut)
+
+  -- all the lines before this one were written on, and then this one
+  pub line_then : {after : List ℕ} (lines : List (List ℕ)) (i : ℕ) → i < length lines
+      → IsWrittenOn (text_of (take i lines)) before mid old between
+      → IsWrittenOn (get_or lines i [] ++ 10 ∷ []) mid after between new
+      → IsWrittenOn (text_of (take (i + 1) lines)) before after old new
+  line_then lines i h first then = rw (text_of-take lines i h) (written_then first then)
+
+  -- all the lines before this one were written on, and this one was cut short
+  pub line_cut : {n : ℕ} (lines : List (List ℕ)) (i : ℕ) → i < length lines
+      → IsWrittenOn (text_of (take i lines)) before mid old between
+      → IsCutShort n (get_or lines i [] ++ 10 ∷ []) mid between new → IsCutShort n (text_of lines) before old new
+  line_cut {n} lines i h first cut =
+      subst (λ all. IsCutShort n (text_of all) before old new) (take-append-drop (i + 1) lines)
+      (lines_cut_before (take (i + 1) lines) (drop (i + 1) lines) (rw (text_of-take lines i h) (cut_then first cut)))
 
 -- a sink that could not begin does not hold the text either
 pub cut_at_begin : (text : List ℕ) (old new : SinkState) → IsCutOff 1 [] old new → IsCutOff 1 text old new
 cut_at_begin text old new cut = record {
   stands = elim cut.stands [
     | inl untouched ↦ inl untouched
-    | inr empty ↦ inr (record { begun = empty.begun; taken = front_of_any text new.taken old.taken empty.taken })
+    | inr empty ↦ inr (record {
+      begun = empty.begun;
+      taken = record {
+        rest = empty.taken.rest ++ text;
+        joined = sym (held old.taken) ∙ ap (added text) empty.taken.joined ∙ added-added empty.taken.rest text new.taken;
+      };
+    })
   ];
   before = cut.before;
   fails = cut.fails;
 }
-
-pub and_then : {A : Type 0} (a b c : A) → b ≡ c → a ≡ b → a ≡ c
-and_then a b c e f = f ∙ e
+  where
+    held : (t : Option (List ℕ)) → added text (holding [] t) ≡ holding text t
+    held None = refl
+    held (Some bytes) = refl
 
 -- the first line of an empty buffer's text, and one line more
 pub first_line : (line before after : List ℕ) → after ≡ before ++ (line ++ 10 ∷ []) → after ≡ before ++ text_of (line ∷ [])
@@ -103,16 +141,4 @@ pub line_more : (lines : List (List ℕ)) (line before between after : List ℕ)
     → after ≡ between ++ (line ++ 10 ∷ []) → after ≡ before ++ text_of (lines ++ line ∷ [])
 line_more lines line before between after d e =
     e ∙ ap (λ front. front ++ (line ++ 10 ∷ [])) d ∙ append_assoc before (text_of lines) (line ++ 10 ∷ [])
-    ∙ ap (λ rest. before ++ rest) (ap (λ last. text_of lines ++ last) (sym (append-nil (line ++ 10 ∷ []))) ∙ sym (text_of-append lines (line ∷ [])))
-
--- lines that are in the buffer, and then more of them
-pub buffered_lines : (xs ys : List (List ℕ)) (before after : List ℕ) (t : Option (List ℕ)) → after ≡ before ++ text_of xs
-    → added (text_of ys) (added after t) ≡ added (text_of (xs ++ ys)) (added before t)
-buffered_lines xs ys before after t e =
-    behind_buffer before after (text_of xs) (text_of ys) t e ∙ ap (λ text. added text (added before t)) (sym (text_of-append xs ys))
-
-pub more_buffered_lines : (xs ys zs : List (List ℕ)) (before between after : List ℕ) (t : Option (List ℕ)) → between ≡ before ++ text_of xs
-    → after ≡ between ++ text_of ys → added (text_of zs) (added after t) ≡ added (text_of (xs ++ ys ++ zs)) (added before t)
-more_buffered_lines xs ys zs before between after t d e =
-    buffered_lines (xs ++ ys) zs before after t
-    (e ∙ ap (λ front. front ++ text_of ys) d ∙ append_assoc before (text_of xs) (text_of ys) ∙ ap (λ rest. before ++ rest) (sym (text_of-append xs ys)))
+    ∙ ap (λ rest. before ++ rest) (sym (text_of-line lines line))

@@ -25,6 +25,7 @@ pub struct BlockFile<'a> {
 impl<'a> Text for BlockFile<'a> {
     ghost text = { λ t. text_blocks t.instance.now };
 
+    #[tactic(auto, unfolding(crate::specs::Written::text_blocks))]
     fn write<S: Sink>(
         &self,
         alloc: Global,
@@ -45,6 +46,7 @@ pub struct PrecFile<'a> {
 impl<'a> Text for PrecFile<'a> {
     ghost text = { λ t. text_prec t.instance.now };
 
+    #[tactic(auto, using(crate::proofs::Fronts::nothing_put), unfolding(crate::specs::Written::text_prec))]
     fn write<S: Sink>(
         &self,
         alloc: Global,
@@ -68,6 +70,7 @@ pub struct UpitFile<'a> {
 impl<'a> Text for UpitFile<'a> {
     ghost text = { λ t. text_upit t.instance.now };
 
+    #[tactic(auto, using(crate::proofs::Fronts::nothing_put))]
     fn write<S: Sink>(
         &self,
         alloc: Global,
@@ -99,6 +102,7 @@ pub struct PcpspFile<'a> {
 impl<'a> Text for PcpspFile<'a> {
     ghost text = { λ t. text_pcpsp t.instance.now };
 
+    #[tactic(auto, using(crate::proofs::Fronts::nothing_put))]
     fn write<S: Sink>(
         &self,
         alloc: Global,
@@ -133,6 +137,7 @@ pub struct CpitFile<'a> {
 impl<'a> Text for CpitFile<'a> {
     ghost text = { λ t. text_cpit t.cpit.now };
 
+    #[tactic(auto, using(crate::proofs::Fronts::nothing_put))]
     fn write<S: Sink>(
         &self,
         alloc: Global,

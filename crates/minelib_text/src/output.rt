@@ -1,9 +1,8 @@
 //! Large slices to a sink, and the lines that they are made of.
 
-ghost use Rattle.std.specs.Prelude.{◌≡◌, ◌+◌, ◌<◌, ◌≤◌, ℕ, List, [], ◌∷◌, ◌++◌, length, drop, slice_index_or, OnOk, OnErr, IsErrOf};
-ghost use Rattle.minelib_text.specs.Device.{added, IsFront};
+ghost use Rattle.std.specs.Prelude.{◌≡◌, ◌<◌, ℕ, List, [], ◌∷◌, ◌++◌, length, slice_index_or, IfErr, OnOk, OnErr};
 ghost use Rattle.minelib_text.specs.Lines.{text_of};
-ghost use Rattle.minelib_text.specs.SinkState.{IsStill};
+ghost use Rattle.minelib_text.specs.SinkState.{refusals, IsWrittenOn, IsCutShort};
 
 use crate::fields::put_text;
 use crate::sink::{Sink, SinkFault};
@@ -15,11 +14,8 @@ pub const LARGE: usize = 65_536;
 
 /// Puts all the bytes, in as many calls as the sink wants.
 pub fn put_all<S: Sink>(sink: &mut S, bytes: &[u8]) -> Result<(), SinkFault>
-    ensures takes { OnOk result ((S.state sink.new).taken ≡ added bytes.now (S.state sink.old).taken) }
-    ensures front { OnErr result (IsFront (S.state sink.new).taken (added bytes.now (S.state sink.old).taken)) }
-    ensures works { OnOk result ((S.state sink.new).failures ≡ (S.state sink.old).failures) }
-    ensures fails { OnErr result ((S.state sink.new).failures ≡ (S.state sink.old).failures + 1) }
-    ensures still { IsStill (S.state sink.old) (S.state sink.new) }
+    ensures written { OnOk result (IsWrittenOn bytes.now [] [] (S.state sink.old) (S.state sink.new)) }
+    ensures refused { OnErr result (IsCutShort 1 bytes.now [] (S.state sink.old) (S.state sink.new)) }
 {
     let mut rest = bytes;
     while !rest.is_empty() {
@@ -31,12 +27,9 @@ pub fn put_all<S: Sink>(sink: &mut S, bytes: &[u8]) -> Result<(), SinkFault>
 
 /// Puts the buffer and empties it.
 pub fn flush<S: Sink>(sink: &mut S, buffer: &mut Vec<u8>) -> Result<(), SinkFault>
-    ensures takes { OnOk result ((S.state sink.new).taken ≡ added buffer.old.items (S.state sink.old).taken) }
+    ensures written { OnOk result (IsWrittenOn [] buffer.old.items buffer.new.items (S.state sink.old) (S.state sink.new)) }
     ensures empty { OnOk result (buffer.new.items ≡ []) }
-    ensures front { OnErr result (IsFront (S.state sink.new).taken (added buffer.old.items (S.state sink.old).taken)) }
-    ensures works { OnOk result ((S.state sink.new).failures ≡ (S.state sink.old).failures) }
-    ensures fails { OnErr result ((S.state sink.new).failures ≡ (S.state sink.old).failures + 1) }
-    ensures still { IsStill (S.state sink.old) (S.state sink.new) }
+    ensures refused { OnErr result (IsCutShort 1 [] buffer.old.items (S.state sink.old) (S.state sink.new)) }
 {
     put_all(sink, buffer.as_slice())?;
     buffer.clear();
@@ -58,20 +51,17 @@ pub trait Section {
 }
 
 /// Writes the lines of a section behind what the buffer holds.
+#[tactic(auto, using(crate::proofs::Fronts::line_then))]
 pub fn write_section<S: Sink, L: Section>(
     alloc: Global,
     sink: &mut S,
     buffer: &mut Vec<u8>,
     section: &L,
 ) -> Result<(), WriteFault>
-    ensures written { OnOk result (added buffer.new.items (S.state sink.new).taken
-        ≡ added (text_of (L.lines section.now)) (added buffer.old.items (S.state sink.old).taken)) }
-    ensures front { OnErr result (IsFront (S.state sink.new).taken
-        (added (text_of (L.lines section.now)) (added buffer.old.items (S.state sink.old).taken))) }
-    ensures works { OnOk result ((S.state sink.new).failures ≡ (S.state sink.old).failures) }
-    ensures fails { IsErrOf result WriteFault.SinkFailed → (S.state sink.new).failures ≡ (S.state sink.old).failures + 1 }
-    ensures memory { IsErrOf result WriteFault.OutOfMemory → (S.state sink.new).failures ≡ (S.state sink.old).failures }
-    ensures still { IsStill (S.state sink.old) (S.state sink.new) }
+    ensures written { OnOk result (IsWrittenOn (text_of (L.lines section.now))
+        buffer.old.items buffer.new.items (S.state sink.old) (S.state sink.new)) }
+    ensures refused { IfErr result (λ fault. IsCutShort (refusals fault) (text_of (L.lines section.now))
+        buffer.old.items (S.state sink.old) (S.state sink.new)) }
 {
     for index in 0..section.len() {
         write_line(alloc, sink, buffer, section, index)?;
@@ -79,6 +69,7 @@ pub fn write_section<S: Sink, L: Section>(
     Ok(())
 }
 
+#[tactic(auto, using(crate::proofs::Fronts::nothing_put))]
 fn write_line<S: Sink, L: Section>(
     alloc: Global,
     sink: &mut S,
@@ -87,14 +78,10 @@ fn write_line<S: Sink, L: Section>(
     index: usize,
 ) -> Result<(), WriteFault>
     requires { index < length (L.lines section.now) }
-    ensures written { OnOk result (added (text_of (drop (index + 1) (L.lines section.now))) (added buffer.new.items (S.state sink.new).taken)
-        ≡ added (text_of (drop index (L.lines section.now))) (added buffer.old.items (S.state sink.old).taken)) }
-    ensures front { OnErr result (IsFront (S.state sink.new).taken
-        (added (text_of (drop index (L.lines section.now))) (added buffer.old.items (S.state sink.old).taken))) }
-    ensures works { OnOk result ((S.state sink.new).failures ≡ (S.state sink.old).failures) }
-    ensures fails { IsErrOf result WriteFault.SinkFailed → (S.state sink.new).failures ≡ (S.state sink.old).failures + 1 }
-    ensures memory { IsErrOf result WriteFault.OutOfMemory → (S.state sink.new).failures ≡ (S.state sink.old).failures }
-    ensures still { IsStill (S.state sink.old) (S.state sink.new) }
+    ensures written { OnOk result (IsWrittenOn (slice_index_or (L.lines section.now) index [] ++ 10 ∷ [])
+        buffer.old.items buffer.new.items (S.state sink.old) (S.state sink.new)) }
+    ensures refused { IfErr result (λ fault. IsCutShort (refusals fault) (slice_index_or (L.lines section.now) index [] ++ 10 ∷ [])
+        buffer.old.items (S.state sink.old) (S.state sink.new)) }
 {
     section.append(alloc, index, buffer)?;
     if buffer.len() >= LARGE {
@@ -104,6 +91,7 @@ fn write_line<S: Sink, L: Section>(
 }
 
 /// Writes a section line and the lines under it behind what the buffer holds.
+#[tactic(auto, using(crate::proofs::Fronts::nothing_put))]
 pub fn write_titled<S: Sink, L: Section>(
     alloc: Global,
     sink: &mut S,
@@ -111,14 +99,10 @@ pub fn write_titled<S: Sink, L: Section>(
     title: &[u8],
     section: &L,
 ) -> Result<(), WriteFault>
-    ensures written { OnOk result (added buffer.new.items (S.state sink.new).taken
-        ≡ added (text_of (title.now ∷ L.lines section.now)) (added buffer.old.items (S.state sink.old).taken)) }
-    ensures front { OnErr result (IsFront (S.state sink.new).taken
-        (added (text_of (title.now ∷ L.lines section.now)) (added buffer.old.items (S.state sink.old).taken))) }
-    ensures works { OnOk result ((S.state sink.new).failures ≡ (S.state sink.old).failures) }
-    ensures fails { IsErrOf result WriteFault.SinkFailed → (S.state sink.new).failures ≡ (S.state sink.old).failures + 1 }
-    ensures memory { IsErrOf result WriteFault.OutOfMemory → (S.state sink.new).failures ≡ (S.state sink.old).failures }
-    ensures still { IsStill (S.state sink.old) (S.state sink.new) }
+    ensures written { OnOk result (IsWrittenOn (text_of (title.now ∷ L.lines section.now))
+        buffer.old.items buffer.new.items (S.state sink.old) (S.state sink.new)) }
+    ensures refused { IfErr result (λ fault. IsCutShort (refusals fault) (text_of (title.now ∷ L.lines section.now))
+        buffer.old.items (S.state sink.old) (S.state sink.new)) }
 {
     put_text(buffer, title, b'\n')?;
     write_section(alloc, sink, buffer, section)

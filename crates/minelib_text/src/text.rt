@@ -1,8 +1,7 @@
 //! A whole text to a sink.
 
-ghost use Rattle.std.specs.Prelude.{◌≡◌, ◌+◌, ℕ, List, IfErr, OnOk, OnErr, IsErrOf};
-ghost use Rattle.minelib_text.specs.Device.{added, IsFront};
-ghost use Rattle.minelib_text.specs.SinkState.{refusals, IsStill, IsWritten, IsCutOff};
+ghost use Rattle.std.specs.Prelude.{ℕ, List, IfErr, OnOk};
+ghost use Rattle.minelib_text.specs.SinkState.{refusals, IsWritten, IsCutOff, IsWrittenOn, IsCutShort};
 
 use crate::output::{LARGE, flush};
 use crate::sink::Sink;
@@ -20,17 +19,14 @@ pub trait Text {
         sink: &mut S,
         buffer: &mut Vec<u8>,
     ) -> Result<(), WriteFault>
-        ensures written { OnOk result (added buffer.new.items (S.state sink.new).taken
-            ≡ added (text self.now) (added buffer.old.items (S.state sink.old).taken)) }
-        ensures front { OnErr result (IsFront (S.state sink.new).taken
-            (added (text self.now) (added buffer.old.items (S.state sink.old).taken))) }
-        ensures works { OnOk result ((S.state sink.new).failures ≡ (S.state sink.old).failures) }
-        ensures fails { IsErrOf result WriteFault.SinkFailed → (S.state sink.new).failures ≡ (S.state sink.old).failures + 1 }
-        ensures memory { IsErrOf result WriteFault.OutOfMemory → (S.state sink.new).failures ≡ (S.state sink.old).failures }
-        ensures still { IsStill (S.state sink.old) (S.state sink.new) };
+        ensures written { OnOk result (IsWrittenOn (text self.now)
+            buffer.old.items buffer.new.items (S.state sink.old) (S.state sink.new)) }
+        ensures refused { IfErr result (λ fault. IsCutShort (refusals fault) (text self.now)
+            buffer.old.items (S.state sink.old) (S.state sink.new)) };
 }
 
 /// Begins the sink and writes the text.
+#[tactic(auto, using(crate::proofs::Fronts::cut_at_begin))]
 pub fn write_text<S: Sink, T: Text>(alloc: Global, text: &T, sink: &mut S) -> Result<(), WriteFault>
     ensures written { OnOk result (IsWritten (T.text text.now) (S.state sink.old) (S.state sink.new)) }
     ensures refused { IfErr result (λ fault. IsCutOff (refusals fault) (T.text text.now) (S.state sink.old) (S.state sink.new)) }
