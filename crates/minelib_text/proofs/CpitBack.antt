@@ -71,7 +71,7 @@ cpit_again : (c : CpitParts) → IsCpit c → IsKeptCpit c
 unfolding text_cpit
 cpit_again c is kept =
     let header = cpit_header (length c.values) c.name c.periods c.resources c.rate is.few kept.name is.horizon in
-    let read = model_again _ _ c.name _ _ _ c.rate _ _ _ (model_of c is kept) kept.name _ header in
+    let read = model_again _ _ c.name _ _ _ c.rate _ _ _ (model_of c is kept) _ header in
     rw (lines_from-map value_fields alone 0 c.values, lines_from-map (coef_text Cpit) at_only_destination 0 c.coefs) at read
 
 pub written_cpit_again : (c : CpitParts) (n : ℕ) → IsCpit c → IsKeptCpit c → n ≡ length c.values → cpit_denoted n (text_cpit c) ≡ Ok c

@@ -6,26 +6,22 @@ use Rattle.pit_model.specs.Demands.{FailsFirst}
 use Rattle.pit_model.specs.Steps.{◌>>=◌}
 use Rattle.minelib_text.specs.BegunModel.{BeginModel, IsFirstSpoiled, EndsEarly}
 use Rattle.minelib_text.specs.ModelDemands.{asked_of_model, HasKind}
-use Rattle.minelib_text.specs.ModelLines.{ModelDraftView, blank_model, is_complete, is_limits, admit_model, finish_model, model_in}
-use Rattle.minelib_text.specs.ModelSoFar.{HasOwn}
+use Rattle.minelib_text.specs.HeaderKeys.{is_complete}
+use Rattle.minelib_text.specs.ModelLines.{ModelDraftView, blank_model, is_limits, admit_model, finish_model, model_in}
 use Rattle.minelib_text.specs.Reading.{at_line, read_lines}
 use Rattle.minelib_text.specs.SpelledModel.{AreModelLines}
 use Rattle.minelib_text.specs.StatedModel.{StatedModel, stated_by}
 use Rattle.minelib_text.specs.TextLines.{Line, lines_in, end_of}
-use Rattle.minelib_text.specs.declared.model_key.Header.{Header}
 use Rattle.minelib_text.specs.declared.model_key.Problem.{Problem}
-use Rattle.minelib_text.specs.declared.model_key.Problem.TheVariants.{Pcpsp, Cpit}
 use Rattle.minelib_text.specs.declared.text_fault.LineFault.{LineFault}
 use Rattle.minelib_text.specs.declared.text_fault.TextKind.{TextKind}
 use Rattle.minelib_text.specs.declared.text_fault.TextKind.TheVariants.{Missing}
 use Rattle.minelib_text.proofs.Completed.{completed}
-use Rattle.minelib_text.proofs.ModelEnd.{complete_ok}
-use Rattle.minelib_text.proofs.ModelReady.{IsGeneral, model_general}
 use Rattle.minelib_text.proofs.ModelTold.{model_told}
 use Rattle.minelib_text.proofs.SpelledBack.{next_line}
 use Rattle.minelib_text.proofs.SpelledModelBack.{lines_then, lines_back, model_back}
 use Rattle.minelib_text.proofs.SpelledModelRead.{lines_so_far, lines_spelled}
-use Rattle.minelib_text.proofs.ValidHeader.{IsSingle}
+use Rattle.minelib_text.proofs.ValidHeader.{own}
 use Rattle.minelib_text.proofs.ValidModel.{model_kept}
 use Rattle.minelib_text.proofs.FirstBadFacts.{err_same}
 
@@ -86,7 +82,7 @@ begins problem n lines d few e =
       c.rest,
       stated_by c.last,
       lines_spelled problem n (lines ++ c.rest) c.last (lines_then (blank_model problem n) d lines c.rest e ∙ c.read)
-          (complete_ok c.last.name c.last.header c.complete) c.all_values c.end,
+          c.complete c.all_values c.end,
     )
 
 -- a line that is refused begins none
@@ -102,15 +98,10 @@ spoils problem n before bad d kind e refused (rest, m, are) =
     not_both : (r : Result ModelDraftView LineFault) (last : ModelDraftView) (fault : LineFault) → r ≡ Ok last → r ≡ Err fault → ⊥
     not_both r last fault a b = cc
 
-own : (problem : Problem) (h : Header) → IsSingle problem h.destinations → IsGeneral problem h → HasOwn problem h
-own Pcpsp h single general = tt
-own Cpit h single general = (single, general)
-
 -- the kind of a line that is refused
 kinds : (problem : Problem) (n : ℕ) (lines : List Line) (fault : LineFault) → Stops (blank_model problem n) lines fault → HasKind problem n lines fault
 kinds problem n lines fault stop =
     let kept = model_kept problem n stop.before stop.state stop.read in
-    let general = subst (λ p. IsGeneral p stop.state.header) kept.of_problem (model_general problem n stop.before stop.state stop.read) in
     let told = subst (λ r. Follows r (asked_of_model stop.state stop.bad.text) (λ d. Unit {0})) stop.refused (model_told stop.state stop.bad.text) in
     record {
       before = stop.before;
@@ -119,7 +110,7 @@ kinds problem n lines fault stop =
       cut = stop.cut;
       place = stop.place;
       so_far = stop.state;
-      spelled = (kept.of_problem, kept.of_blocks, own problem stop.state.header kept.header.single general, lines_so_far problem n stop.before stop.state stop.read);
+      spelled = (kept.of_problem, kept.of_blocks, own problem stop.state.header kept.header.own, lines_so_far problem n stop.before stop.state stop.read);
       fails = subst (FailsFirst (asked_of_model stop.state stop.bad.text)) (sym stop.same_kind) told;
     }
 
@@ -147,7 +138,7 @@ bad_model problem n text fault few e = by (read_lines admit_model (blank_model p
         → (r >>= finish_model (end_of text)) ≡ Err fault
         → (IsFirstSpoiled problem n (lines_in text) fault.line × HasKind problem n (lines_in text) fault) ⊎ EndsEarly problem n text fault
     by (Ok d) is h =
-        inr (ends (is_complete d.name d.header && (length d.values == d.blocks) && is_limits d.section) d h (begins problem n (lines_in text) d few is))
+        inr (ends (is_complete d.header && (length d.values == d.blocks) && is_limits d.section) d h (begins problem n (lines_in text) d few is))
     by (Err f) is h =
         let same = err_same {B = ModelDraftView} f fault h in
         let stop : Stops (blank_model problem n) (lines_in text) fault =

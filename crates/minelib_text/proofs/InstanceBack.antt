@@ -38,7 +38,7 @@ unfolding text_pcpsp
 pcpsp_again i valid kept =
     let header = pcpsp_header (length i.blocks) i.name i.periods i.destinations i.resources i.rate valid.lengths.few kept.name valid.horizon
     valid.destinations.from_1_to_8 in
-    model_again _ _ i.name _ _ _ i.rate _ _ _ (model_of i valid kept) kept.name _ header
+    model_again _ _ i.name _ _ _ i.rate _ _ _ (model_of i valid kept) _ header
 
 pub written_again : (i : Instance) → IsValid i → IsKept i → denoted (text_blocks i) (text_prec i) (text_pcpsp i) ≡ Ok i
 unfolding denoted text_blocks text_prec

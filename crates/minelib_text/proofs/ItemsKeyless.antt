@@ -6,9 +6,11 @@ use Rattle.mine_instance.specs.Order.{comes_before}
 use Rattle.mine_instance.specs.declared.coef.Coef.{Coef}
 use Rattle.pit_model.specs.Steps.{◌>>=◌}
 use Rattle.minelib_text.specs.FieldValues.{all_by, first_by, decimal_in, whole_in}
-use Rattle.minelib_text.specs.ModelLines.{admit_model, count_in, is_behind, is_colon, last_of, values_of, ModelDraftView}
+use Rattle.minelib_text.specs.HeaderKeys.{count_in}
+use Rattle.minelib_text.specs.ModelLines.{admit_model, is_behind, is_colon, last_of, values_of, ModelDraftView}
 use Rattle.minelib_text.specs.TextLines.{fields_of}
 use Rattle.minelib_text.specs.Uncounted.{coef_alone}
+use Rattle.minelib_text.specs.declared.model_key.HeaderKey.TheVariants as key
 use Rattle.minelib_text.specs.declared.model_key.Problem.{Problem}
 use Rattle.minelib_text.specs.declared.model_key.Problem.TheVariants.{Pcpsp, Cpit}
 use Rattle.minelib_text.specs.declared.model_key.Section.TheVariants.{Coefs}
@@ -69,13 +71,13 @@ values_keyless n destinations before line values e =
 
 -- a line below the key of the coefficients that is read as one
 pub coef_admitted : (d : ModelDraftView) (line : List ℕ) (coef : Coef) → d.section ≡ Coefs
-    → coef_alone d.problem d.blocks (count_in d.header.destinations) (count_in d.header.resources) (fields_of line) ≡ Ok coef
+    → coef_alone d.problem d.blocks (count_in d.header key.Destinations) (count_in d.header key.Resources) (fields_of line) ≡ Ok coef
     → admit_model d line
     ≡ (if is_behind comes_before (last_of d.coefs) coef then Ok (record d { coefs = d.coefs ++ coef ∷ [] }) else Err Order)
 unfolding admit_model
 coef_admitted d line coef below e =
-    let destinations = count_in d.header.destinations in
-    let resources = count_in d.header.resources in
+    let destinations = count_in d.header key.Destinations in
+    let resources = count_in d.header key.Resources in
     rw (
       coef_keyless d.problem d.blocks destinations resources line coef e,
       below,

@@ -1,5 +1,5 @@
 -- The key lines of a model file are read as they are written.
-use Rattle.std.proofs.Common.{◌≡◌, ℕ, ◌+◌, ◌^◌, ◌≤◌, true, false, List, [], ◌∷◌, ◌++◌, length, drop, ℤ, pos, negsuc, ◌≤ℤ◌, arith, refl, ◌∙◌, ap, sym, subst, is_some, eq-eqb, ne_eqb}
+use Rattle.std.proofs.Common.{◌≡◌, ℕ, ◌+◌, ◌^◌, ◌≤◌, true, false, List, [], ◌∷◌, ◌++◌, length, drop, ℤ, pos, negsuc, ◌≤ℤ◌, arith, refl, ◌∙◌, ap, sym, subst, eq-eqb, ne_eqb}
 use Rattle.std.specs.Prelude.{unsigned_abs, decimal, Some, Ok, codes}
 use Rattle.std.specs.List.{list_all, list_any, position_or_len}
 use Rattle.std.proofs.lemmas.Bool.{and_parts, or_right}
@@ -13,7 +13,8 @@ use Rattle.mine_instance.specs.declared.coef.Coef.{Coef}
 use Rattle.pit_model.specs.declared.limit.Limit.{Limit}
 use Rattle.pit_model.specs.declared.ranges.TheConstants.{MAX_BLOCKS, MAX_DESTINATIONS, MAX_PERIODS, MAX_RESOURCES}
 use Rattle.minelib_text.specs.FieldValues.{whole_in}
-use Rattle.minelib_text.specs.ModelLines.{ModelDraftView, is_colon, key_in, type_text, is_next, is_ready, is_given, header_with, name_with, admit_key, admit_model, blank_model}
+use Rattle.minelib_text.specs.HeaderKeys.{is_given, with_key}
+use Rattle.minelib_text.specs.ModelLines.{ModelDraftView, is_colon, key_in, type_text, is_next, is_ready, number_in, name_with, admit_key, admit_model, blank_model}
 use Rattle.minelib_text.specs.TextLines.{fields_of}
 use Rattle.minelib_text.specs.Written.{key_line, problem_keys, pcpsp_keys, cpit_keys}
 use Rattle.minelib_text.specs.declared.model_key.Header.{Header}
@@ -93,13 +94,13 @@ draft p n name h section values coefs limits = record {
 abbrev pub heading : Problem → ℕ → List ℕ → Header → ModelDraftView
 heading p n name h = draft p n name h Heading [] [] []
 
--- a header line is read where its key is new and its value is what the key takes
-header_step : (p : Problem) (n : ℕ) (name word value : List ℕ) (k : HeaderKey) (h new : Header) → IsField word → IsField value
-    → key_in p word ≡ Some (model_key.Header k) → is_given k name h ≡ false → header_with p n k value h ≡ Ok new
-    → IsStep (heading p n name h) (word ++ 58 ∷ 32 ∷ value) (heading p n (name_with k value name) new)
-header_step p n name word value k h new is_word is_value is_key fresh with_value = record {
+-- a header line is read where its key is new and its value states a number
+header_step : (p : Problem) (n : ℕ) (name word value : List ℕ) (k : HeaderKey) (h : Header) (number : ℕ) → IsField word → IsField value
+    → key_in p word ≡ Some (model_key.Header k) → is_given k h ≡ false → number_in p n k value ≡ Ok number
+    → IsStep (heading p n name h) (word ++ 58 ∷ 32 ∷ value) (heading p n (name_with k value name) (with_key h k number))
+header_step p n name word value k h number is_word is_value is_key fresh states = record {
   is_line = key_is_line word (32 ∷ value) is_word (all_weaker is_plain is_inner plain_inner value is_value.bytes);
-  admitted = rw (key_admitted (heading p n name h) word (32 ∷ value) is_word, is_key, only_field value is_value, fresh, with_value) refl;
+  admitted = rw (key_admitted (heading p n name h) word (32 ∷ value) is_word, is_key, only_field value is_value, fresh, states) refl;
 }
 
 -- a line of a section's key is read where the section is the next and what has to stand before it does
@@ -115,63 +116,64 @@ pub in_all : (p : Problem) (word : List ℕ) (k : ModelKey) → key_in Pcpsp wor
 in_all Pcpsp word k h i = h
 in_all Cpit word k h i = i
 
-pub name_step : (p : Problem) (n : ℕ) (h : Header) (name : List ℕ) → is_name name ≡ true
-    → IsStep (heading p n [] h) (key_line (codes "NAME:") name) (heading p n name h)
-name_step p n h name is =
-    header_step p n [] (codes "NAME") name key.Name h h (word_field _ _ refl) (name_field name is) (in_all p _ _ refl refl) refl (rw is refl)
+pub name_step : (p : Problem) (n : ℕ) (h : Header) (old name : List ℕ) → is_name name ≡ true → is_given key.Name h ≡ false
+    → IsStep (heading p n old h) (key_line (codes "NAME:") name) (heading p n name (with_key h key.Name 0))
+name_step p n h old name is fresh =
+    header_step p n old (codes "NAME") name key.Name h 0 (word_field _ _ refl) (name_field name is) (in_all p _ _ refl refl) fresh (rw is refl)
 
-pub type_step : (p : Problem) (n : ℕ) (h : Header) (name : List ℕ) → h.is_typed ≡ false
-    → IsStep (heading p n name h) (key_line (codes "TYPE:") (type_text p)) (heading p n name (record h { is_typed = true }))
+pub type_step : (p : Problem) (n : ℕ) (h : Header) (name : List ℕ) → is_given key.Type h ≡ false
+    → IsStep (heading p n name h) (key_line (codes "TYPE:") (type_text p)) (heading p n name (with_key h key.Type 0))
 type_step Pcpsp n h name fresh =
-    header_step Pcpsp n name (codes "TYPE") (codes "PCPSP") key.Type h _ (word_field _ _ refl) (word_field _ _ refl) refl fresh refl
+    header_step Pcpsp n name (codes "TYPE") (codes "PCPSP") key.Type h 0 (word_field _ _ refl) (word_field _ _ refl) refl fresh refl
 type_step Cpit n h name fresh =
-    header_step Cpit n name (codes "TYPE") (codes "CPIT") key.Type h _ (word_field _ _ refl) (word_field _ _ refl) refl fresh refl
+    header_step Cpit n name (codes "TYPE") (codes "CPIT") key.Type h 0 (word_field _ _ refl) (word_field _ _ refl) refl fresh refl
 
-pub blocks_step : (p : Problem) (n : ℕ) (h : Header) (name : List ℕ) → n ≤ 64000000 → h.is_counted ≡ false
-    → IsStep (heading p n name h) (key_line (codes "NBLOCKS:") (decimal n)) (heading p n name (record h { is_counted = true }))
+pub blocks_step : (p : Problem) (n : ℕ) (h : Header) (name : List ℕ) → n ≤ 64000000 → is_given key.Blocks h ≡ false
+    → IsStep (heading p n name h) (key_line (codes "NBLOCKS:") (decimal n)) (heading p n name (with_key h key.Blocks 0))
 blocks_step p n h name few fresh =
-    header_step p n name (codes "NBLOCKS") (decimal n) key.Blocks h _ (word_field _ _ refl) (whole_field n (omega arith))
+    header_step p n name (codes "NBLOCKS") (decimal n) key.Blocks h 0 (word_field _ _ refl) (whole_field n (omega arith))
     (in_all p _ _ refl refl) fresh (rw (whole_again (MAX_BLOCKS + 1) n (omega arith) (omega arith), eq-eqb n n refl) refl)
 
-pub periods_step : (p : Problem) (n : ℕ) (h : Header) (name : List ℕ) (periods : ℕ) → (1 ≤ periods) × (periods ≤ 100) → is_some h.periods ≡ false
-    → IsStep (heading p n name h) (key_line (codes "NPERIODS:") (decimal periods)) (heading p n name (record h { periods = Some periods }))
+pub periods_step : (p : Problem) (n : ℕ) (h : Header) (name : List ℕ) (periods : ℕ) → (1 ≤ periods) × (periods ≤ 100)
+    → is_given key.Periods h ≡ false
+    → IsStep (heading p n name h) (key_line (codes "NPERIODS:") (decimal periods)) (heading p n name (with_key h key.Periods periods))
 periods_step p n h name periods within fresh =
-    header_step p n name (codes "NPERIODS") (decimal periods) key.Periods h _ (word_field _ _ refl) (whole_field periods (omega arith))
+    header_step p n name (codes "NPERIODS") (decimal periods) key.Periods h periods (word_field _ _ refl) (whole_field periods (omega arith))
     (in_all p _ _ refl refl) fresh (rw (whole_again (MAX_PERIODS + 1) periods (omega arith) (omega arith), ne_eqb periods 0 (λ e. omega arith)) refl)
 
 pub destinations_step : (n : ℕ) (h : Header) (name : List ℕ) (destinations : ℕ) → (1 ≤ destinations) × (destinations ≤ 8)
-    → is_some h.destinations ≡ false → IsStep (heading Pcpsp n name h) (key_line (codes "NDESTINATIONS:") (decimal destinations))
-    (heading Pcpsp n name (record h { destinations = Some destinations }))
+    → is_given key.Destinations h ≡ false → IsStep (heading Pcpsp n name h) (key_line (codes "NDESTINATIONS:") (decimal destinations))
+    (heading Pcpsp n name (with_key h key.Destinations destinations))
 destinations_step n h name destinations within fresh =
-    header_step Pcpsp n name (codes "NDESTINATIONS") (decimal destinations) key.Destinations h _ (word_field _ _ refl)
+    header_step Pcpsp n name (codes "NDESTINATIONS") (decimal destinations) key.Destinations h destinations (word_field _ _ refl)
     (whole_field destinations (omega arith)) refl fresh
     (rw (whole_again (MAX_DESTINATIONS + 1) destinations (omega arith) (omega arith), ne_eqb destinations 0 (λ e. omega arith)) refl)
 
-pub resources_step : (p : Problem) (n : ℕ) (h : Header) (name : List ℕ) (resources : ℕ) → resources ≤ 8 → is_some h.resources ≡ false
+pub resources_step : (p : Problem) (n : ℕ) (h : Header) (name : List ℕ) (resources : ℕ) → resources ≤ 8 → is_given key.Resources h ≡ false
     → IsStep (heading p n name h) (key_line (codes "NRESOURCE_SIDE_CONSTRAINTS:") (decimal resources))
-    (heading p n name (record h { resources = Some resources }))
+    (heading p n name (with_key h key.Resources resources))
 resources_step p n h name resources few fresh =
-    header_step p n name (codes "NRESOURCE_SIDE_CONSTRAINTS") (decimal resources) key.Resources h _ (word_field _ _ refl)
-    (whole_field resources (omega arith)) (in_all p _ _ refl refl) fresh (rw (whole_again (MAX_RESOURCES + 1) resources (omega arith) (omega arith)) refl)
+    header_step p n name (codes "NRESOURCE_SIDE_CONSTRAINTS") (decimal resources) key.Resources h resources (word_field _ _ refl)
+    (whole_field resources (omega arith)) (in_all p _ _ refl refl) fresh (whole_again (MAX_RESOURCES + 1) resources (omega arith) (omega arith))
 
 zero_read : whole_in 1 (codes "0") ≡ Ok 0
 zero_read = subst (λ text. whole_in 1 text ≡ Ok 0) (decimal_digit 0 (omega arith)) (whole_again 1 0 (omega arith) (omega arith))
 
-pub general_step : (n : ℕ) (h : Header) (name : List ℕ) → h.is_general ≡ false
+pub general_step : (n : ℕ) (h : Header) (name : List ℕ) → is_given key.General h ≡ false
     → IsStep (heading Pcpsp n name h) (key_line (codes "NGENERAL_SIDE_CONSTRAINTS:") (codes "0"))
-    (heading Pcpsp n name (record h { is_general = true }))
+    (heading Pcpsp n name (with_key h key.General 0))
 general_step n h name fresh =
-    header_step Pcpsp n name (codes "NGENERAL_SIDE_CONSTRAINTS") (codes "0") key.General h _ (word_field _ _ refl) (word_field _ _ refl) refl fresh
-    (rw zero_read refl)
+    header_step Pcpsp n name (codes "NGENERAL_SIDE_CONSTRAINTS") (codes "0") key.General h 0 (word_field _ _ refl) (word_field _ _ refl) refl fresh
+    zero_read
 
-pub rate_step : (p : Problem) (n : ℕ) (h : Header) (name : List ℕ) (rate : ℤ) → (pos 0 ≤ℤ rate) × (rate ≤ℤ pos (10 ^ 6)) → is_some h.rate ≡ false
+pub rate_step : (p : Problem) (n : ℕ) (h : Header) (name : List ℕ) (rate : ℤ) → (pos 0 ≤ℤ rate) × (rate ≤ℤ pos (10 ^ 6)) → is_given key.Rate h ≡ false
     → IsStep (heading p n name h) (key_line (codes "DISCOUNT_RATE:") (shortest rate))
-    (heading p n name (record h { rate = Some (unsigned_abs rate) }))
+    (heading p n name (with_key h key.Rate (unsigned_abs rate)))
 rate_step p n h name (negsuc k) within fresh = absurd (omega (arith, ints))
 rate_step p n h name (pos k) within fresh =
     let most : k ≤ 10 ^ 6 = omega (arith, ints) in
-    header_step p n name (codes "DISCOUNT_RATE") (shortest (pos k)) key.Rate h _ (word_field _ _ refl) (decimal_field (pos k) (omega arith))
-    (in_all p _ _ refl refl) fresh (rw (size_again 6 (10 ^ 6) k (omega arith) (omega arith) most (omega arith)) refl)
+    header_step p n name (codes "DISCOUNT_RATE") (shortest (pos k)) key.Rate h k (word_field _ _ refl) (decimal_field (pos k) (omega arith))
+    (in_all p _ _ refl refl) fresh (size_again 6 (10 ^ 6) k (omega arith) (omega arith) most (omega arith))
 
 -- model lines take what was read before them to what was read with them
 pub record AreSteps (before : ModelDraftView) (lines : List (List ℕ)) (after : ModelDraftView) : Type 0 where
@@ -190,21 +192,17 @@ no_lines s = record { admitted = refl }
 -- a header with all its keys
 abbrev pub full_header : ℕ → ℕ → ℕ → ℤ → Header
 full_header periods destinations resources rate = record {
-  is_typed = true;
-  is_counted = true;
-  is_general = true;
-  periods = Some periods;
-  destinations = Some destinations;
-  resources = Some resources;
-  rate = Some (unsigned_abs rate);
+  numbers =
+      Some 0 ∷ Some 0 ∷ Some 0 ∷ Some periods ∷ Some destinations ∷ Some resources ∷ Some 0 ∷ Some (unsigned_abs rate) ∷ [];
 }
 
 pub pcpsp_header : (n : ℕ) (name : List ℕ) (periods destinations resources : ℕ) (rate : ℤ) → n ≤ 64000000 → is_name name ≡ true
     → IsHorizon periods resources rate → (1 ≤ destinations) × (destinations ≤ 8)
     → AreSteps (blank_model Pcpsp n) (problem_keys name (codes "PCPSP") n ++ pcpsp_keys periods destinations resources rate)
     (heading Pcpsp n name (full_header periods destinations resources rate))
+unfolding with_key
 pcpsp_header n name periods destinations resources rate few is_name horizon count =
-    then_lines _ _ _ _ _ (name_step Pcpsp n _ name is_name)
+    then_lines _ _ _ _ _ (name_step Pcpsp n _ [] name is_name refl)
     (then_lines _ _ _ _ _ (type_step Pcpsp n _ name refl)
     (then_lines _ _ _ _ _ (blocks_step Pcpsp n _ name few refl)
     (then_lines _ _ _ _ _ (periods_step Pcpsp n _ name periods horizon.periods_1_to_100 refl)
@@ -216,8 +214,9 @@ pcpsp_header n name periods destinations resources rate few is_name horizon coun
 pub cpit_header : (n : ℕ) (name : List ℕ) (periods resources : ℕ) (rate : ℤ) → n ≤ 64000000 → is_name name ≡ true
     → IsHorizon periods resources rate → AreSteps (blank_model Cpit n) (problem_keys name (codes "CPIT") n ++ cpit_keys periods resources rate)
     (heading Cpit n name (full_header periods 1 resources rate))
+unfolding with_key
 cpit_header n name periods resources rate few is_name horizon =
-    then_lines _ _ _ _ _ (name_step Cpit n _ name is_name)
+    then_lines _ _ _ _ _ (name_step Cpit n _ [] name is_name refl)
     (then_lines _ _ _ _ _ (type_step Cpit n _ name refl)
     (then_lines _ _ _ _ _ (blocks_step Cpit n _ name few refl)
     (then_lines _ _ _ _ _ (periods_step Cpit n _ name periods horizon.periods_1_to_100 refl)

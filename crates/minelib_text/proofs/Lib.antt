@@ -5,6 +5,7 @@ pub mod CountedLater
 pub mod Cuts
 pub mod Fronts
 pub mod FrontFields
+pub mod HeaderFacts
 pub mod HeaderLines
 pub mod InstanceBack
 pub mod ItemLines

@@ -1,7 +1,6 @@
 -- A model file is read as it is written.
-use Rattle.std.proofs.Common.{◌≡◌, ℕ, ◌<◌, ◌≤◌, true, false, List, [], ◌++◌, length, ℤ, arith, refl, ◌∙◌, eq-eqb, ne_eqb}
+use Rattle.std.proofs.Common.{◌≡◌, ℕ, ◌<◌, ◌≤◌, false, List, [], ◌++◌, length, ℤ, arith, refl, ◌∙◌, eq-eqb}
 use Rattle.std.specs.Prelude.{Ok, codes, All}
-use Rattle.pit_model.specs.Name.{is_name}
 use Rattle.pit_model.specs.Plan.{stands_before, is_turned}
 use Rattle.pit_model.specs.declared.limit.Limit.{Limit}
 use Rattle.mine_instance.specs.Order.{comes_before}
@@ -9,14 +8,13 @@ use Rattle.mine_instance.specs.Valid.{AreCoefs, AreLimits}
 use Rattle.mine_instance.specs.declared.coef.Coef.{Coef}
 use Rattle.minelib_text.specs.Kept.{IsDecimal, HasDecimals}
 use Rattle.minelib_text.specs.Lines.{text_of, line_of, lines_from}
-use Rattle.minelib_text.specs.ModelLines.{ModelDraftView, is_complete, admit_item, admit_model, blank_model, model_in}
+use Rattle.minelib_text.specs.ModelLines.{ModelDraftView, admit_item, admit_model, blank_model, model_in}
 use Rattle.minelib_text.specs.Written.{value_fields, limit_fields, section_lines}
 use Rattle.minelib_text.specs.declared.model_key.Problem.{Problem}
 use Rattle.minelib_text.specs.declared.model_key.Section.TheVariants.{Objective, Coefs, Limits}
 use Rattle.minelib_text.proofs.ItemsBack.{values_again, values_fields, coef_text, IsCount, coef_again, coefs_fields, limit_again, limits_fields}
 use Rattle.minelib_text.proofs.KeysBack.{AreSteps, and_lines, then_lines, draft, heading, full_header, in_all, section_step, word_field}
 use Rattle.minelib_text.proofs.LinesBack.{AdmitsEach, items_admitted, text_read}
-use Rattle.minelib_text.proofs.NumbersBack.{name_field}
 use Rattle.minelib_text.proofs.Places.{is_place, item_there, behind_last}
 use Rattle.minelib_text.proofs.PlainText.{AreFields, no_colon, fields_again, fields_line}
 
@@ -87,17 +85,14 @@ module _ (p : Problem) (n : ℕ) (name : List ℕ) (periods destinations resourc
             ) refl,
       )
 
-  complete : is_name name ≡ true → is_complete name (full_header periods destinations resources rate) ≡ true
-  complete is = let some = (name_field name is).some in rw (ne_eqb (length name) 0 (λ e. omega arith)) refl
-
-  sections_again : is_name name ≡ true
-      → AreSteps (heading p n name (full_header periods destinations resources rate))
+  sections_again :
+      AreSteps (heading p n name (full_header periods destinations resources rate))
       (section_lines (lines_from value_fields 0 values) (lines_from (coef_text p) 0 coefs) (lines_from limit_fields 0 limits))
       (draft p n name (full_header periods destinations resources rate) Limits values coefs limits)
-  sections_again is =
+  sections_again =
       let h = full_header periods destinations resources rate in
       let objective = section_step (heading p n name h) (codes "OBJECTIVE_FUNCTION") Objective (word_field _ _ refl) (in_all p _ _ refl refl) refl
-      (complete is) in
+      refl in
       let coefficients = section_step (draft p n name h Objective values [] []) (codes "RESOURCE_CONSTRAINT_COEFFICIENTS") Coefs
       (word_field _ _ refl) (in_all p _ _ refl refl) refl (eq-eqb (length values) n m.as_many) in
       let bounds = section_step (draft p n name h Coefs values coefs []) (codes "RESOURCE_CONSTRAINT_LIMITS") Limits (word_field _ _ refl)
@@ -109,11 +104,11 @@ module _ (p : Problem) (n : ℕ) (name : List ℕ) (periods destinations resourc
       (then_lines _ _ _ _ _ bounds (items_read limit_fields (λ done. draft p n name h Limits values coefs done) limits each_limit))
 
   -- behind header lines that are read
-  pub model_again : is_name name ≡ true → (keys : List (List ℕ))
+  pub model_again : (keys : List (List ℕ))
       → AreSteps (blank_model p n) keys (heading p n name (full_header periods destinations resources rate))
       → model_in p n (text_of (keys
       ++ section_lines (lines_from value_fields 0 values) (lines_from (coef_text p) 0 coefs) (lines_from limit_fields 0 limits)))
       ≡ Ok (draft p n name (full_header periods destinations resources rate) Limits values coefs limits)
-  model_again is keys header =
-      let all = and_lines _ _ _ _ _ header (sections_again is) in
-      rw (text_read admit_model _ _ _ all.admitted, complete is, eq-eqb (length values) n m.as_many) refl
+  model_again keys header =
+      let all = and_lines _ _ _ _ _ header sections_again in
+      rw (text_read admit_model _ _ _ all.admitted, eq-eqb (length values) n m.as_many) refl

@@ -1,12 +1,11 @@
 -- The keys and the header of a model file.
-use Rattle.std.proofs.Common.{◌≡◌, ℕ, ◌<◌, Bool, true, false, List, [], ◌∷◌, length, refl, ap, arith, Ok, Err, Some, None, position, nat_lt}
+use Rattle.std.proofs.Common.{◌≡◌, ℕ, Bool, true, false, List, [], ◌∷◌, length, refl, ap, arith, Ok, Err, Some, None, position, nat_lt}
 use Rattle.std.specs.List.{list_any, position_or_len}
 use Rattle.std.proofs.lemmas.Bool.{ltb-false}
 use Rattle.std.proofs.lemmas.List.Elements.{All-from_get_or}
 use Rattle.std.proofs.lemmas.List.Folds.{list_any_at, list_any_none}
 use Rattle.std.proofs.lemmas.List.Quantifiers.{position-Some}
 use Rattle.std.proofs.lemmas.List.Sums.{fails_before_first}
-use Rattle.pit_model.specs.Name.{is_name}
 use Rattle.minelib_text.specs.ModelLines.{key_in, key_of, only_value}
 use Rattle.minelib_text.specs.declared.model_key.Problem.{Problem}
 use Rattle.minelib_text.specs.declared.text_fault.TextKind.{TextKind}
@@ -42,8 +41,3 @@ place_not_found p xs e = at (nat_lt (position_or_len p xs) (length xs)) refl whe
   at false f =
       list_any_none p xs (All-from_get_or (λ x. p x ≡ false) xs 0
       (λ k h. fails_before_first p xs k 0 (omega (arith, h, ltb-false (position_or_len p xs) (length xs) f))))
-
--- a NAME has bytes
-pub names_have_bytes : (bytes : List ℕ) → is_name bytes ≡ true → 0 < length bytes
-names_have_bytes [] e = absurd (cc)
-names_have_bytes (b ∷ bytes) e = omega arith

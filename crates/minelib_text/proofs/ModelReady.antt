@@ -2,63 +2,37 @@
 use Rattle.std.specs.Prelude.{◌≡◌, ℕ, ◌≤◌, true, List, [], ◌∷◌, ◌++◌, length, Ok}
 use Rattle.std.proofs.Common.{refl, sym, ap, subst, arith, length-append}
 use Rattle.std.proofs.lemmas.Bool.{eqb-true}
-use Rattle.minelib_text.specs.ModelLines.{ModelDraftView, blank_model, is_ready, is_complete, name_with, admit_model}
+use Rattle.minelib_text.specs.HeaderKeys.{is_complete, with_key}
+use Rattle.minelib_text.specs.ModelLines.{ModelDraftView, blank_model, is_ready, name_with, admit_model}
 use Rattle.minelib_text.specs.Reading.{read_lines}
 use Rattle.minelib_text.specs.TextLines.{Line}
-use Rattle.minelib_text.specs.declared.model_key.Header.{Header}
-use Rattle.minelib_text.specs.declared.model_key.HeaderKey.{HeaderKey}
-use Rattle.minelib_text.specs.declared.model_key.HeaderKey.TheVariants as key
 use Rattle.minelib_text.specs.declared.model_key.Problem.{Problem}
-use Rattle.minelib_text.specs.declared.model_key.Problem.TheVariants.{Pcpsp, Cpit}
 use Rattle.minelib_text.specs.declared.model_key.Section.{Section}
 use Rattle.minelib_text.specs.declared.model_key.Section.TheVariants.{Heading, Objective, Coefs, Limits}
-use Rattle.minelib_text.proofs.KeySteps.{Sets}
 use Rattle.minelib_text.proofs.ModelSteps.{next_by, SetsKey, BeginsSection, AddsValues, AddsCoef, AddsLimit, Step, model_step, Keyed, Begun, Valued, Spent, Limited}
 use Rattle.minelib_text.proofs.ReadSteps.{kept_by_lines}
 use Rattle.minelib_text.proofs.SpelledModelRead.{in_heading}
 
--- a CPIT has no key of general side constraints
-abbrev pub IsGeneral : Problem → Header → Type 0
-IsGeneral Pcpsp h = Unit {0}
-IsGeneral Cpit h = h.is_general ≡ true
-
 -- in the header no item stands; behind it all keys do, and behind the values all of these
 abbrev pub Ready : Section → ModelDraftView → Type 0
-Ready Heading d = IsGeneral d.problem d.header × (d.values ≡ []) × (d.coefs ≡ []) × (d.limits ≡ [])
-Ready Objective d = (is_complete d.name d.header ≡ true) × (length d.values ≤ d.blocks)
-Ready Coefs d = (is_complete d.name d.header ≡ true) × (length d.values ≡ d.blocks)
-Ready Limits d = (is_complete d.name d.header ≡ true) × (length d.values ≡ d.blocks)
-
-general_kept : (problem : Problem) (n : ℕ) (k : HeaderKey) (value : List ℕ) (h next : Header) → Sets problem n k value h next → IsGeneral problem h
-    → IsGeneral problem next
-general_kept Pcpsp n k value h next s was = tt
-general_kept Cpit n key.Name value h next s was = subst (λ h. h.is_general ≡ true) s.0 was
-general_kept Cpit n key.Type value h next s was = subst (λ h. h.is_general ≡ true) s.0 was
-general_kept Cpit n key.Blocks value h next s was = subst (λ h. h.is_general ≡ true) s.0 was
-general_kept Cpit n key.Periods value h next s was = subst (λ h. h.is_general ≡ true) s.1 was
-general_kept Cpit n key.Destinations value h next s was = subst (λ h. h.is_general ≡ true) s.1 was
-general_kept Cpit n key.Resources value h next s was = subst (λ h. h.is_general ≡ true) s.1 was
-general_kept Cpit n key.General value h next s was = subst (λ h. h.is_general ≡ true) s.0 refl
-general_kept Cpit n key.Rate value h next s was = subst (λ h. h.is_general ≡ true) s.1 was
+Ready Heading d = (d.values ≡ []) × (d.coefs ≡ []) × (d.limits ≡ [])
+Ready Objective d = (is_complete d.header ≡ true) × (length d.values ≤ d.blocks)
+Ready Coefs d = (is_complete d.header ≡ true) × (length d.values ≡ d.blocks)
+Ready Limits d = (is_complete d.header ≡ true) × (length d.values ≡ d.blocks)
 
 keyed : (d : ModelDraftView) (line : List ℕ) (next : ModelDraftView) → SetsKey d line next → Ready d.section d → Ready next.section next
 keyed d line next s was =
     let here = in_heading d.section s.heading in
     let heading = subst (λ section. Ready section d) here was in
-    let after : ModelDraftView = record d { header = s.header; name = name_with s.key s.value d.name } in
-    let now : Ready Heading after = (
-      general_kept d.problem d.blocks s.key s.value d.header s.header s.sets heading.0,
-      heading.1,
-      heading.2,
-      heading.3,
-    ) in
+    let after : ModelDraftView = record d { header = with_key d.header s.key s.number; name = name_with s.key s.value d.name } in
+    let now : Ready Heading after = heading in
     subst (λ d. Ready d.section d) s.is (subst (λ section. Ready section after) (sym here) now)
 
 begun : (d : ModelDraftView) (line : List ℕ) (next : ModelDraftView) → BeginsSection d line next → Ready d.section d → Ready next.section next
 begun d line next s was =
     subst (λ d. Ready d.section d) s.is
     (next_by (λ now later. is_ready d now ≡ true → Ready now d → Ready later (record d { section = later }))
-    (λ ready was. (ready, none_yet was.1))
+    (λ ready was. (ready, none_yet was.0))
     (λ ready was. (was.0, eqb-true (length d.values) d.blocks ready))
     (λ ready was. was)
     d.section s.section s.follows s.ready was)
@@ -94,26 +68,10 @@ stepped d line next (Spent s) was = spent d line next s was
 stepped d line next (Limited s) was = limited d line next s was
 
 at_first : (problem : Problem) (n : ℕ) → Ready Heading (blank_model problem n)
-at_first Pcpsp n = (tt, refl, refl, refl)
-at_first Cpit n = (refl, refl, refl, refl)
+at_first problem n = (refl, refl, refl)
 
 pub model_ready : (problem : Problem) (n : ℕ) (lines : List Line) (d : ModelDraftView) → read_lines admit_model (blank_model problem n) lines ≡ Ok d
     → Ready d.section d
 model_ready problem n lines d e =
     kept_by_lines (λ d. Ready d.section d) admit_model (λ d line next says kept. stepped d line next (model_step d line next says) kept)
     (blank_model problem n) lines d e (at_first problem n)
-
-general_step : (d : ModelDraftView) (line : List ℕ) (next : ModelDraftView) → Step d line next → IsGeneral d.problem d.header
-    → IsGeneral next.problem next.header
-general_step d line next (Keyed s) was =
-    subst (λ d. IsGeneral d.problem d.header) s.is (general_kept d.problem d.blocks s.key s.value d.header s.header s.sets was)
-general_step d line next (Begun s) was = subst (λ d. IsGeneral d.problem d.header) s.is was
-general_step d line next (Valued s) was = subst (λ d. IsGeneral d.problem d.header) s.is was
-general_step d line next (Spent s) was = subst (λ d. IsGeneral d.problem d.header) s.is was
-general_step d line next (Limited s) was = subst (λ d. IsGeneral d.problem d.header) s.is was
-
-pub model_general : (problem : Problem) (n : ℕ) (lines : List Line) (d : ModelDraftView) → read_lines admit_model (blank_model problem n) lines ≡ Ok d
-    → IsGeneral d.problem d.header
-model_general problem n lines d e =
-    kept_by_lines (λ d. IsGeneral d.problem d.header) admit_model
-    (λ d line next says kept. general_step d line next (model_step d line next says) kept) (blank_model problem n) lines d e (at_first problem n).0

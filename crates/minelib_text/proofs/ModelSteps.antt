@@ -8,11 +8,13 @@ use Rattle.pit_model.specs.Plan.{is_turned}
 use Rattle.pit_model.specs.declared.limit.Limit.{Limit}
 use Rattle.mine_instance.specs.Order.{comes_before}
 use Rattle.mine_instance.specs.declared.coef.Coef.{Coef}
-use Rattle.minelib_text.specs.ModelLines.{ModelDraftView, is_heading, is_next, is_given, is_ready, header_with, name_with, only_value, admit_key, key_of, count_in, values_of, coef_of, limit_of, last_of, is_behind, admit_item, is_colon, admit_model}
+use Rattle.minelib_text.specs.HeaderKeys.{count_in, is_given, with_key}
+use Rattle.minelib_text.specs.ModelLines.{ModelDraftView, is_heading, is_next, is_ready, number_in, name_with, only_value, admit_key, key_of, values_of, coef_of, limit_of, last_of, is_behind, admit_item, is_colon, admit_model}
+use Rattle.minelib_text.specs.ModelSoFar.{SaysKey}
 use Rattle.minelib_text.specs.SpelledItems.{IsValuesLine, IsCoefLine, IsLimitLine}
 use Rattle.minelib_text.specs.SpelledKeys.{IsKeyLine}
 use Rattle.minelib_text.specs.TextLines.{fields_of}
-use Rattle.minelib_text.specs.declared.model_key.Header.{Header}
+use Rattle.minelib_text.specs.declared.model_key.HeaderKey.TheVariants as key
 use Rattle.minelib_text.specs.declared.model_key.HeaderKey.{HeaderKey}
 use Rattle.minelib_text.specs.declared.model_key.ModelKey.{ModelKey}
 use Rattle.minelib_text.specs.declared.model_key.ModelKey.TheVariants as model_key
@@ -20,7 +22,7 @@ use Rattle.minelib_text.specs.declared.model_key.Section.{Section}
 use Rattle.minelib_text.specs.declared.model_key.Section.TheVariants.{Heading, Objective, Coefs, Limits}
 use Rattle.minelib_text.specs.declared.text_fault.TextKind.TheVariants.{Fields, Order, Twice, Key, Missing}
 use Rattle.minelib_text.proofs.ItemSteps.{values_line, coef_line, limit_line}
-use Rattle.minelib_text.proofs.KeySteps.{Sets, key_sets}
+use Rattle.minelib_text.proofs.KeySteps.{key_says}
 use Rattle.minelib_text.proofs.ReadSteps.{bind_then, guard_then, then_ok, same_ok, counted}
 
 -- a line of a header key
@@ -29,10 +31,10 @@ pub record SetsKey (d : ModelDraftView) (line : List ℕ) (next : ModelDraftView
   pub value : List ℕ
   pub spelled : IsKeyLine d.problem line (model_key.Header key) (value ∷ [])
   pub heading : is_heading d.section ≡ true
-  pub new : is_given key d.name d.header ≡ false
-  pub header : Header
-  pub sets : Sets d.problem d.blocks key value d.header header
-  pub is : record d { header = header; name = name_with key value d.name } ≡ next
+  pub new : is_given key d.header ≡ false
+  pub number : ℕ
+  pub says : SaysKey d.problem d.blocks key value number
+  pub is : record d { header = with_key d.header key number; name = name_with key value d.name } ≡ next
 
 -- the line that begins a section
 pub record BeginsSection (d : ModelDraftView) (line : List ℕ) (next : ModelDraftView) : Type 0 where
@@ -47,7 +49,7 @@ pub record AddsValues (d : ModelDraftView) (line : List ℕ) (next : ModelDraftV
   pub here : d.section ≡ Objective
   pub keyless : list_any is_colon line ≡ false
   pub values : List ℤ
-  pub spelled : IsValuesLine d.blocks (count_in d.header.destinations) (length d.values) (fields_of line) values
+  pub spelled : IsValuesLine d.blocks (count_in d.header key.Destinations) (length d.values) (fields_of line) values
   pub is : record d { values = d.values ++ values ∷ [] } ≡ next
 
 -- a line of a coefficient
@@ -55,7 +57,7 @@ pub record AddsCoef (d : ModelDraftView) (line : List ℕ) (next : ModelDraftVie
   pub here : d.section ≡ Coefs
   pub keyless : list_any is_colon line ≡ false
   pub coef : Coef
-  pub spelled : IsCoefLine d.problem d.blocks (count_in d.header.destinations) (count_in d.header.resources) (fields_of line) coef
+  pub spelled : IsCoefLine d.problem d.blocks (count_in d.header key.Destinations) (count_in d.header key.Resources) (fields_of line) coef
   pub behind : is_behind comes_before (last_of d.coefs) coef ≡ true
   pub is : record d { coefs = d.coefs ++ coef ∷ [] } ≡ next
 
@@ -64,7 +66,7 @@ pub record AddsLimit (d : ModelDraftView) (line : List ℕ) (next : ModelDraftVi
   pub here : d.section ≡ Limits
   pub keyless : list_any is_colon line ≡ false
   pub limit : Limit
-  pub spelled : IsLimitLine (count_in d.header.resources) (count_in d.header.periods) (fields_of line) limit
+  pub spelled : IsLimitLine (count_in d.header key.Resources) (count_in d.header key.Periods) (fields_of line) limit
   pub behind : is_behind stands_before (last_of d.limits) limit ≡ true
   pub is : record d { limits = d.limits ++ limit ∷ [] } ≡ next
 
@@ -92,17 +94,17 @@ key_step d line next None colon is e = absurd cc
 key_step d line next (Some (model_key.Header k)) colon is e =
     let values = fields_of (after_first is_colon line) in
     guard_then (not (is_heading d.section)) Key _ next e (λ heading e1.
-    guard_then (is_given k d.name d.header) Twice _ next e1 (λ new e2.
+    guard_then (is_given k d.header) Twice _ next e1 (λ new e2.
     bind_then (only_value values) _ next e2 (λ value only e3.
-    bind_then (header_with d.problem d.blocks k value d.header) _ next e3 (λ header says e4.
+    bind_then (number_in d.problem d.blocks k value) _ next e3 (λ number states e4.
     Keyed (record {
       key = k;
       value = value;
       spelled = record { colon = colon; key_is = is; values_are = only_ok values value only };
       heading = not-false (is_heading d.section) heading;
       new = new;
-      header = header;
-      sets = key_sets d.problem d.blocks k value d.header header says;
+      number = number;
+      says = key_says d.problem d.blocks k value number states;
       is = same_ok _ next e4;
     })))))
 key_step d line next (Some (model_key.Section section)) colon is e =
@@ -122,34 +124,34 @@ item_step : (d : ModelDraftView) (line : List ℕ) (next : ModelDraftView) (sect
     → admit_item d section (fields_of line) ≡ Ok next → Step d line next
 item_step d line next Heading keyless here e = absurd cc
 item_step d line next Objective keyless here e =
-    bind_then (values_of d.blocks (count_in d.header.destinations) (length d.values) (fields_of line)) _ next e (λ values says e1.
+    bind_then (values_of d.blocks (count_in d.header key.Destinations) (length d.values) (fields_of line)) _ next e (λ values says e1.
     Valued (record {
       here = here;
       keyless = keyless;
       values = values;
-      spelled = values_line d.blocks (count_in d.header.destinations) (length d.values) (fields_of line) values says;
+      spelled = values_line d.blocks (count_in d.header key.Destinations) (length d.values) (fields_of line) values says;
       is = same_ok _ next e1;
     }))
 item_step d line next Coefs keyless here e =
-    bind_then (coef_of d.problem d.blocks (count_in d.header.destinations) (count_in d.header.resources) (fields_of line)) _ next e (λ c says e1.
+    bind_then (coef_of d.problem d.blocks (count_in d.header key.Destinations) (count_in d.header key.Resources) (fields_of line)) _ next e (λ c says e1.
     let t = then_ok (is_behind comes_before (last_of d.coefs) c) Order _ next e1 in
     Spent (record {
       here = here;
       keyless = keyless;
       coef = c;
-      spelled = coef_line d.problem d.blocks (count_in d.header.destinations) (count_in d.header.resources) (fields_of line) c says;
+      spelled = coef_line d.problem d.blocks (count_in d.header key.Destinations) (count_in d.header key.Resources) (fields_of line) c says;
       behind = t.0;
       is = same_ok _ next t.1;
     }))
 item_step d line next Limits keyless here e =
-    bind_then (limit_of (count_in d.header.resources) (count_in d.header.periods) (fields_of line)) _ next e (λ l says e1.
+    bind_then (limit_of (count_in d.header key.Resources) (count_in d.header key.Periods) (fields_of line)) _ next e (λ l says e1.
     guard_then (is_turned l.bound || not (is_behind stands_before (last_of d.limits) l)) Order _ next e1 (λ tests e2.
     let parts = or_parts (is_turned l.bound) (not (is_behind stands_before (last_of d.limits) l)) tests in
     Limited (record {
       here = here;
       keyless = keyless;
       limit = l;
-      spelled = limit_line (count_in d.header.resources) (count_in d.header.periods) (fields_of line) l says parts.0;
+      spelled = limit_line (count_in d.header key.Resources) (count_in d.header key.Periods) (fields_of line) l says parts.0;
       behind = not-false (is_behind stands_before (last_of d.limits) l) parts.1;
       is = same_ok _ next e2;
     })))

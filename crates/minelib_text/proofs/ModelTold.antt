@@ -20,14 +20,14 @@ use Rattle.pit_model.specs.declared.limit.Limit.{Limit}
 use Rattle.pit_model.specs.declared.ranges.TheConstants.{MAX_BLOCKS, MAX_DESTINATIONS, MAX_PERIODS, MAX_RESOURCES}
 use Rattle.mine_instance.specs.Order.{comes_before}
 use Rattle.mine_instance.specs.declared.coef.Coef.{Coef}
-use Rattle.minelib_text.specs.FieldValues.{stated, whole_below, whole_in, size_in, decimal_in, first_by, all_by}
+use Rattle.minelib_text.specs.FieldValues.{stated, whole_below, whole_in, decimal_in, first_by, all_by}
 use Rattle.minelib_text.specs.LineDemands.{whole, size, field_at}
 use Rattle.minelib_text.specs.ModelDemands.{decimal, decimals, counted, asked_of_value, asked_of_key, asked_of_values, coef_fields, asked_of_coef, width_of_limit, limit_fields, asked_of_limit, asked_of_item, asked_by, asked_of_model}
-use Rattle.minelib_text.specs.ModelLines.{ModelDraftView, count_in, counted_in, is_colon, is_given, is_heading, is_next, is_ready, is_behind, key_of, last_of, type_text, header_with, only_value, admit_key, values_of, coef_of, limit_width, interval_in, bound_in, limit_of, admit_coef, admit_limit, admit_item, admit_model}
+use Rattle.minelib_text.specs.HeaderKeys.{count_in, is_given}
+use Rattle.minelib_text.specs.ModelLines.{ModelDraftView, counted_in, is_colon, is_heading, is_next, is_ready, is_behind, key_of, last_of, type_text, number_in, only_value, admit_key, values_of, coef_of, limit_width, interval_in, bound_in, limit_of, admit_coef, admit_limit, admit_item, admit_model}
 use Rattle.minelib_text.specs.SpelledFields.{StatesWhole}
 use Rattle.minelib_text.specs.SpelledItems.{IsCoefLine, IsLimitLine}
 use Rattle.minelib_text.specs.TextLines.{fields_of}
-use Rattle.minelib_text.specs.declared.model_key.Header.{Header}
 use Rattle.minelib_text.specs.declared.model_key.HeaderKey.{HeaderKey}
 use Rattle.minelib_text.specs.declared.model_key.HeaderKey.TheVariants as key
 use Rattle.minelib_text.specs.declared.model_key.ModelKey.{ModelKey}
@@ -111,32 +111,37 @@ counted_told limit field =
     same : (stated (decimal_of 0 field) >>= λ m. whole_below limit m >>= λ n. if n == 0 then Err fault.Range else Ok n) ≡ counted_in limit field
     same = bind_twice (stated (decimal_of 0 field)) (whole_below limit) (λ n. if n == 0 then Err fault.Range else Ok n)
 
+-- what a step shows is not told
+untold : {A : Type 0} (r : Result A TextKind) (ds : List (Demand TextKind)) (P : A → Type 0) → Follows r ds P → Follows r ds (λ x. Unit {0})
+untold (Ok x) ds P h = (h.0, tt)
+untold (Err kind) ds P h = h
+
 value_told : (d : ModelDraftView) (k : HeaderKey) (value : List ℕ)
-    → Follows (header_with d.problem d.blocks k value d.header) (asked_of_value d k value) (λ h. Unit {0})
-value_told d key.Name value = passed (is_name value) fault.Name (is_name value ≡ true) d.header (λ t. t) (λ t h. absurd cc)
+    → Follows (number_in d.problem d.blocks k value) (asked_of_value d k value) (λ number. Unit {0})
+value_told d key.Name value = passed (is_name value) fault.Name (is_name value ≡ true) 0 (λ t. t) (λ t h. absurd cc)
 value_told d key.Type value =
-    passed (bytes_eq value (type_text d.problem)) fault.Name (value ≡ type_text d.problem) (record d.header { is_typed = true })
+    passed (bytes_eq value (type_text d.problem)) fault.Name (value ≡ type_text d.problem) 0
     (λ t. (bytes_eq-Decides value (type_text d.problem)).0 t)
     (λ t h. (let is = (bytes_eq-Decides value (type_text d.problem)).1 h in absurd cc))
 value_told d key.Blocks value =
     bound (whole_in (MAX_BLOCKS + 1) value) _ (whole (MAX_BLOCKS + 1) value) _ (StatesWhole (MAX_BLOCKS + 1) value) (λ h. Unit {0}) (whole_told (MAX_BLOCKS + 1) value) (λ n is.
-    passed (n == d.blocks) fault.Count (StatesWhole (MAX_BLOCKS + 1) value d.blocks) (record d.header { is_counted = true })
+    passed (n == d.blocks) fault.Count (StatesWhole (MAX_BLOCKS + 1) value d.blocks) 0
     (λ t. subst (StatesWhole (MAX_BLOCKS + 1) value) (eqb-true n d.blocks t) is)
     (λ t h. (let same : (n == d.blocks) ≡ true = eq-eqb n d.blocks (one_whole (MAX_BLOCKS + 1) value n d.blocks is h) in absurd cc)))
-value_told d key.Periods value = mapped (counted_in (MAX_PERIODS + 1) value) _ (counted (MAX_PERIODS + 1) value) _ (counted_told (MAX_PERIODS + 1) value)
-value_told d key.Destinations value = mapped (counted_in (MAX_DESTINATIONS + 1) value) _ (counted (MAX_DESTINATIONS + 1) value) _ (counted_told (MAX_DESTINATIONS + 1) value)
-value_told d key.Resources value = mapped (whole_in (MAX_RESOURCES + 1) value) _ (whole (MAX_RESOURCES + 1) value) _ (whole_told (MAX_RESOURCES + 1) value)
-value_told d key.General value = mapped (whole_in 1 value) _ (whole 1 value) _ (whole_told 1 value)
-value_told d key.Rate value = mapped (size_in 6 (10 ^ 6) value) _ (size 6 (10 ^ 6) value) _ (size_told 6 (10 ^ 6) value (omega arith))
+value_told d key.Periods value = untold _ (counted (MAX_PERIODS + 1) value) _ (counted_told (MAX_PERIODS + 1) value)
+value_told d key.Destinations value = untold _ (counted (MAX_DESTINATIONS + 1) value) _ (counted_told (MAX_DESTINATIONS + 1) value)
+value_told d key.Resources value = untold _ (whole (MAX_RESOURCES + 1) value) _ (whole_told (MAX_RESOURCES + 1) value)
+value_told d key.General value = untold _ (whole 1 value) _ (whole_told 1 value)
+value_told d key.Rate value = untold _ (size 6 (10 ^ 6) value) _ (size_told 6 (10 ^ 6) value (omega arith))
 
 -- the one value of a header key
-only_told : {B : Type 0} (d : ModelDraftView) (k : HeaderKey) (values : List (List ℕ)) (next : List ℕ → Header → B)
-    → Follows (only_value values >>= λ value. header_with d.problem d.blocks k value d.header >>= λ h. Ok (next value h))
+only_told : {B : Type 0} (d : ModelDraftView) (k : HeaderKey) (values : List (List ℕ)) (next : List ℕ → ℕ → B)
+    → Follows (only_value values >>= λ value. number_in d.problem d.blocks k value >>= λ number. Ok (next value number))
     (demand fault.Fields (length values ≡ 1) ++ asked_of_value d k (field_at values 0)) (λ y. Unit {0})
 only_told d k [] next = inl ((λ h. omega (arith, h)), refl)
 only_told d k (value ∷ []) next =
     behind _ (demand fault.Fields (length (value ∷ []) ≡ 1)) (asked_of_value d k value) (λ y. Unit {0}) (refl, tt)
-    (mapped (header_with d.problem d.blocks k value d.header) (next value) (asked_of_value d k value) (λ h. Unit {0}) (value_told d k value))
+    (mapped (number_in d.problem d.blocks k value) (next value) (asked_of_value d k value) (λ number. Unit {0}) (value_told d k value))
 only_told d k (value ∷ other ∷ more) next = inl ((λ h. omega (arith, h)), refl)
 
 some_values : (values : List (List ℕ)) → not (length values == 0) ≡ true → ¬ (values ≡ [])
@@ -154,7 +159,7 @@ key_told d None values = inl ((λ h. h), refl)
 key_told d (Some (model_key.Header k)) values =
     guarded (not (is_heading d.section)) fault.Key (is_heading d.section ≡ true) _ _ (λ y. Unit {0}) (λ t h. absurd cc) (λ t. (
       not-false (is_heading d.section) t,
-      guarded (is_given k d.name d.header) fault.Twice (is_given k d.name d.header ≡ false) _ _ (λ y. Unit {0}) (λ t h. absurd cc) (λ t.
+      guarded (is_given k d.header) fault.Twice (is_given k d.header ≡ false) _ _ (λ y. Unit {0}) (λ t h. absurd cc) (λ t.
           (t, only_told d k values _)),
     ))
 key_told d (Some (model_key.Section section)) values =
@@ -236,39 +241,39 @@ three_told m n resources destinations b r v =
     first_told decimal_in v [] _ (decimal v) [] (StandsFor 6 v) _ (decimal_told v) (λ size _. (tt, tt)))))
 
 coef_told : (p : Problem) (d : ModelDraftView) (fields : List (List ℕ))
-    → Follows (coef_of p d.blocks (count_in d.header.destinations) (count_in d.header.resources) fields) (coef_fields p d fields) (λ c. Unit {0})
+    → Follows (coef_of p d.blocks (count_in d.header key.Destinations) (count_in d.header key.Resources) fields) (coef_fields p d fields) (λ c. Unit {0})
 coef_told Pcpsp d fields = by (length fields == 4) refl
   where
     by : (t : Bool) → (length fields == 4) ≡ t
-        → Follows (coef_of Pcpsp d.blocks (count_in d.header.destinations) (count_in d.header.resources) fields) (coef_fields Pcpsp d fields) (λ c. Unit {0})
+        → Follows (coef_of Pcpsp d.blocks (count_in d.header key.Destinations) (count_in d.header key.Resources) fields) (coef_fields Pcpsp d fields) (λ c. Unit {0})
     by true e =
         let s = four fields (eqb-true (length fields) 4 e) in
-        subst (λ fs. Follows (coef_of Pcpsp d.blocks (count_in d.header.destinations) (count_in d.header.resources) fs) (coef_fields Pcpsp d fs) (λ c. Unit {0}))
-        (sym s.are) (four_told d d.blocks (count_in d.header.destinations) (count_in d.header.resources) s.a s.b s.c s.d)
+        subst (λ fs. Follows (coef_of Pcpsp d.blocks (count_in d.header key.Destinations) (count_in d.header key.Resources) fs) (coef_fields Pcpsp d fs) (λ c. Unit {0}))
+        (sym s.are) (four_told d d.blocks (count_in d.header key.Destinations) (count_in d.header key.Resources) s.a s.b s.c s.d)
     by false e =
         let never : ¬ (length fields ≡ 4) = λ h. (let same : (length fields == 4) ≡ true = eq-eqb (length fields) 4 h in absurd cc) in
         rw e (inl (never, refl))
 coef_told Cpit d fields = by (length fields == 3) refl
   where
     by : (t : Bool) → (length fields == 3) ≡ t
-        → Follows (coef_of Cpit d.blocks (count_in d.header.destinations) (count_in d.header.resources) fields) (coef_fields Cpit d fields) (λ c. Unit {0})
+        → Follows (coef_of Cpit d.blocks (count_in d.header key.Destinations) (count_in d.header key.Resources) fields) (coef_fields Cpit d fields) (λ c. Unit {0})
     by true e =
         let s = three fields (eqb-true (length fields) 3 e) in
-        subst (λ fs. Follows (coef_of Cpit d.blocks (count_in d.header.destinations) (count_in d.header.resources) fs) (coef_fields Cpit d fs) (λ c. Unit {0}))
-        (sym s.are) (three_told d d.blocks (count_in d.header.resources) (count_in d.header.destinations) s.a s.b s.c)
+        subst (λ fs. Follows (coef_of Cpit d.blocks (count_in d.header key.Destinations) (count_in d.header key.Resources) fs) (coef_fields Cpit d fs) (λ c. Unit {0}))
+        (sym s.are) (three_told d d.blocks (count_in d.header key.Resources) (count_in d.header key.Destinations) s.a s.b s.c)
     by false e =
         let never : ¬ (length fields ≡ 3) = λ h. (let same : (length fields == 3) ≡ true = eq-eqb (length fields) 3 h in absurd cc) in
         rw e (inl (never, refl))
 
 admit_coef_told : (d : ModelDraftView) (fields : List (List ℕ)) → Follows (admit_coef d fields) (asked_of_coef d fields) (λ y. Unit {0})
 admit_coef_told d fields =
-    bound_is (coef_of d.problem d.blocks (count_in d.header.destinations) (count_in d.header.resources) fields) _ (coef_fields d.problem d fields) _
+    bound_is (coef_of d.problem d.blocks (count_in d.header key.Destinations) (count_in d.header key.Resources) fields) _ (coef_fields d.problem d fields) _
     (λ c. Unit {0}) (λ y. Unit {0}) (coef_told d.problem d fields) (λ c is.
     passed (is_behind comes_before (last_of d.coefs) c) fault.Order
-    ((c : Coef) × IsCoefLine d.problem d.blocks (count_in d.header.destinations) (count_in d.header.resources) fields c
+    ((c : Coef) × IsCoefLine d.problem d.blocks (count_in d.header key.Destinations) (count_in d.header key.Resources) fields c
     × (is_behind comes_before (last_of d.coefs) c ≡ true)) (record d { coefs = d.coefs ++ c ∷ [] })
-    (λ t. (c, coef_line d.problem d.blocks (count_in d.header.destinations) (count_in d.header.resources) fields c is, t))
-    (λ t h. (let back = coef_back d.problem d.blocks (count_in d.header.destinations) (count_in d.header.resources) fields h.0 h.1 in
+    (λ t. (c, coef_line d.problem d.blocks (count_in d.header key.Destinations) (count_in d.header key.Resources) fields c is, t))
+    (λ t h. (let back = coef_back d.problem d.blocks (count_in d.header key.Destinations) (count_in d.header key.Resources) fields h.0 h.1 in
     let same : c ≡ h.0 = one_ok _ c h.0 is back in
     let later = h.2 in
     absurd cc)))
@@ -348,14 +353,14 @@ five (a ∷ b ∷ c ∷ d ∷ []) h = absurd (omega (arith, h))
 five (a ∷ b ∷ c ∷ d ∷ e ∷ f ∷ more) h = absurd (omega (arith, h))
 
 limit_told : (is : Bool) (d : ModelDraftView) (fields : List (List ℕ)) → bytes_eq (field_at fields 2) (codes "I") ≡ is
-    → Follows (limit_of (count_in d.header.resources) (count_in d.header.periods) fields) (limit_fields is d fields) (λ l. Unit {0})
+    → Follows (limit_of (count_in d.header key.Resources) (count_in d.header key.Periods) fields) (limit_fields is d fields) (λ l. Unit {0})
 limit_told is d fields e = by (length fields == width_of_limit is) refl
   where
     resources : ℕ
-    resources = count_in d.header.resources
+    resources = count_in d.header key.Resources
 
     periods : ℕ
-    periods = count_in d.header.periods
+    periods = count_in d.header key.Periods
 
     width : limit_width fields ≡ width_of_limit is
     width = ap (λ t. if t then 5 else 4) e ∙ pick is
@@ -397,19 +402,19 @@ limit_told is d fields e = by (length fields == width_of_limit is) refl
 
 admit_limit_told : (d : ModelDraftView) (fields : List (List ℕ)) → Follows (admit_limit d fields) (asked_of_limit d fields) (λ y. Unit {0})
 admit_limit_told d fields =
-    bound_is (limit_of (count_in d.header.resources) (count_in d.header.periods) fields) _
+    bound_is (limit_of (count_in d.header key.Resources) (count_in d.header key.Periods) fields) _
     (limit_fields (bytes_eq (field_at fields 2) (codes "I")) d fields) _
     (λ l. Unit {0}) (λ y. Unit {0}) (limit_told (bytes_eq (field_at fields 2) (codes "I")) d fields refl) (λ l is.
     guarded (is_turned l.bound || not (is_behind stands_before (last_of d.limits) l)) fault.Order
-    ((l : Limit) × IsLimitLine (count_in d.header.resources) (count_in d.header.periods) fields l
+    ((l : Limit) × IsLimitLine (count_in d.header key.Resources) (count_in d.header key.Periods) fields l
     × (is_behind stands_before (last_of d.limits) l ≡ true)) (Ok (record d { limits = d.limits ++ l ∷ [] })) [] (λ y. Unit {0})
-    (λ t h. (let back = limit_back (count_in d.header.resources) (count_in d.header.periods) fields h.0 h.1 in
+    (λ t h. (let back = limit_back (count_in d.header key.Resources) (count_in d.header key.Periods) fields h.0 h.1 in
     let same : l ≡ h.0 = one_ok _ l h.0 is back in
     let straight : is_turned l.bound ≡ false = ap (λ (k : Limit). is_turned k.bound) same ∙ h.1.straight in
     let later : is_behind stands_before (last_of d.limits) l ≡ true = ap (is_behind stands_before (last_of d.limits)) same ∙ h.2 in
     absurd (neither _ _ straight later t)))
     (λ t. (let parts = or_parts (is_turned l.bound) (not (is_behind stands_before (last_of d.limits) l)) t in
-    ((l, limit_line (count_in d.header.resources) (count_in d.header.periods) fields l is parts.0, not-false _ parts.1), (tt, tt)))))
+    ((l, limit_line (count_in d.header key.Resources) (count_in d.header key.Periods) fields l is parts.0, not-false _ parts.1), (tt, tt)))))
   where
     one_ok : (r : Result Limit TextKind) (x y : Limit) → r ≡ Ok x → r ≡ Ok y → x ≡ y
     one_ok r x y a b = cc
@@ -420,8 +425,8 @@ admit_limit_told d fields =
 item_told : (d : ModelDraftView) (section : Section) (fields : List (List ℕ)) → Follows (admit_item d section fields) (asked_of_item d section fields) (λ y. Unit {0})
 item_told d Heading fields = inl ((λ h. h), refl)
 item_told d Objective fields =
-    mapped (values_of d.blocks (count_in d.header.destinations) (length d.values) fields) _ (asked_of_values d fields) (λ vs. Unit {0})
-    (values_told d.blocks (count_in d.header.destinations) (length d.values) fields)
+    mapped (values_of d.blocks (count_in d.header key.Destinations) (length d.values) fields) _ (asked_of_values d fields) (λ vs. Unit {0})
+    (values_told d.blocks (count_in d.header key.Destinations) (length d.values) fields)
 item_told d Coefs fields = admit_coef_told d fields
 item_told d Limits fields = admit_limit_told d fields
 

@@ -11,13 +11,15 @@ use Rattle.mine_instance.specs.declared.coef.Coef.{Coef}
 use Rattle.mine_instance.specs.declared.instance.Instance.{Instance}
 use Rattle.minelib_text.specs.BlockLines.{blocks_in}
 use Rattle.minelib_text.specs.Denotes.{instance_read, denoted, Denotes, cpit_read, cpit_denoted, DenotesCpit}
-use Rattle.minelib_text.specs.ModelLines.{ModelDraftView, count_in, model_in}
+use Rattle.minelib_text.specs.HeaderKeys.{count_in}
+use Rattle.minelib_text.specs.ModelLines.{ModelDraftView, model_in}
 use Rattle.minelib_text.specs.PrecLines.{preds_in}
 use Rattle.minelib_text.specs.Reading.{in_file}
 use Rattle.minelib_text.specs.SpelledModel.{AreModelLines}
 use Rattle.minelib_text.specs.SpelledTexts.{SpellInstance, SpellCpit}
 use Rattle.minelib_text.specs.StatedModel.{StatedModel, stated_by, model_of, alone, at_only_destination, model_of_cpit}
 use Rattle.minelib_text.specs.TextLines.{lines_in}
+use Rattle.minelib_text.specs.declared.model_key.HeaderKey.TheVariants as key
 use Rattle.minelib_text.specs.declared.model_key.Problem.TheVariants as problem
 use Rattle.minelib_text.specs.declared.text_fault.TextFile.TheVariants.{Blocks, Prec, Pcpsp, Cpit}
 use Rattle.minelib_text.proofs.CpitBack.{values_joined, coefs_without}
@@ -26,6 +28,7 @@ use Rattle.minelib_text.proofs.SpelledBack.{blocks_back, lists_back}
 use Rattle.minelib_text.proofs.SpelledModelBack.{model_back}
 use Rattle.minelib_text.proofs.SpelledModelRead.{model_spelled}
 use Rattle.minelib_text.proofs.SpelledRead.{blocks_spelled, preds_spelled}
+use Rattle.minelib_text.proofs.ValidHeader.{one_destination}
 use Rattle.minelib_text.proofs.ValidPreds.{preds_are_valid}
 use Rattle.minelib_text.proofs.ValidRead.{model_is_valid}
 
@@ -75,7 +78,7 @@ only_again (c ∷ coefs) each =
 cpit_stated : (n : ℕ) (text : List ℕ) (d : ModelDraftView) → model_in problem.Cpit n text ≡ Ok d → stated_by d ≡ model_of_cpit (cpit_read d)
 cpit_stated n text d e =
     let m = model_is_valid problem.Cpit n text d e in
-    let one : count_in d.header.destinations ≡ 1 = ap count_in m.single in
+    let one : count_in d.header key.Destinations ≡ 1 = one_destination d.header m.own in
     let each : All (λ values. length values ≡ 1) d.values = subst (λ k. All (λ values. length values ≡ k) d.values) one m.destinations.one_each in
     let none : All (λ c. c.d ≡ 0) d.coefs = λ k blank inside. (let within = (m.coefs.in_range k blank inside).1 in omega arith) in
     rw (alone_again d.values each, only_again d.coefs none, one) refl

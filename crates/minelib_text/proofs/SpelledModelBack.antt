@@ -1,18 +1,19 @@
 -- Lines that spell a model are read as it.
-use Rattle.std.specs.Prelude.{◌≡◌, ◌≢◌, ℕ, zero, suc, ◌+◌, ◌^◌, ◌<◌, ◌≤◌, ◌==◌, ◌||◌, Bool, true, false, List, [], ◌∷◌, ◌++◌, length, ℤ, pos, unsigned_abs, Option, Some, None, Ok, AllPairs, IsTrue, ◌⊎◌, if◌then◌else◌, codes}
-use Rattle.std.specs.List.{Contains, slice_index_or, before_first}
+use Rattle.std.specs.Prelude.{◌≡◌, ◌≢◌, ℕ, suc, ◌+◌, ◌^◌, ◌≤◌, Bool, true, false, not, List, [], ◌∷◌, ◌++◌, length, ℤ, pos, unsigned_abs, Option, Some, None, is_some, Ok, AllPairs, IsTrue, if◌then◌else◌, codes}
+use Rattle.std.specs.List.{Contains, before_first}
 use Rattle.std.specs.Str.{bytes_eq}
 use Rattle.std.proofs.Common.{refl, sym, ◌∙◌, ap, subst, arith, inl, inr, append_assoc, append-nil, length-append, eq-eqb, ne_eqb}
-use Rattle.std.proofs.lemmas.Bool.{or_left, or_right, or_from}
+use Rattle.std.proofs.lemmas.Bool.{cases_Bool}
 use Rattle.std.proofs.lemmas.Slice.Eq.{bytes_eq-Decides}
 use Rattle.pit_model.specs.Steps.{◌>>=◌}
-use Rattle.pit_model.specs.Name.{is_name}
 use Rattle.pit_model.specs.Plan.{stands_before}
 use Rattle.pit_model.specs.declared.limit.Limit.{Limit}
 use Rattle.pit_model.specs.declared.ranges.TheConstants.{MAX_BLOCKS, MAX_DESTINATIONS, MAX_PERIODS, MAX_RESOURCES}
 use Rattle.mine_instance.specs.Order.{comes_before}
 use Rattle.mine_instance.specs.declared.coef.Coef.{Coef}
-use Rattle.minelib_text.specs.ModelLines.{ModelDraftView, blank_header, blank_model, shared_key, key_of, is_given, is_next, is_ready, is_complete, counted_in, header_with, name_with, type_text, admit_key, admit_item, is_colon, admit_model, finish_model, model_in}
+use Rattle.minelib_text.specs.HeaderKeys.{number_of, with_key, count_in, is_given}
+use Rattle.minelib_text.specs.ModelLines.{ModelDraftView, blank_header, blank_model, shared_key, key_of, is_next, is_ready, counted_in, number_in, name_with, type_text, admit_key, admit_item, is_colon, admit_model, finish_model, model_in}
+use Rattle.minelib_text.specs.ModelSoFar.{IsNameOf}
 use Rattle.minelib_text.specs.Reading.{at_line, read_lines}
 use Rattle.minelib_text.specs.SpelledFields.{StatesWhole}
 use Rattle.minelib_text.specs.SpelledItems.{IsValuesLine, IsCoefLine, IsLimitLine}
@@ -30,100 +31,50 @@ use Rattle.minelib_text.specs.declared.model_key.Problem.{Problem}
 use Rattle.minelib_text.specs.declared.model_key.Problem.TheVariants.{Pcpsp, Cpit}
 use Rattle.minelib_text.specs.declared.model_key.Section.{Section}
 use Rattle.minelib_text.specs.declared.model_key.Section.TheVariants.{Heading, Objective, Coefs, Limits}
+use Rattle.minelib_text.proofs.HeaderFacts.{IsWhole, contains_cases, each_with, first_given, of_keys, same_header, whole_blank, whole_with, with_same}
+use Rattle.minelib_text.proofs.HeaderLines.{name_stands}
 use Rattle.minelib_text.proofs.ItemLines.{items_keep}
-use Rattle.minelib_text.proofs.KeysBack.{draft, full_header}
+use Rattle.minelib_text.proofs.KeysBack.{draft, heading, full_header}
 use Rattle.minelib_text.proofs.Keyless.{have_colon, keyless}
-use Rattle.minelib_text.proofs.NumbersBack.{name_field}
 use Rattle.minelib_text.proofs.Places.{behind_last}
 use Rattle.minelib_text.proofs.ReadSteps.{bind_then, same_ok}
 use Rattle.minelib_text.proofs.SpelledBack.{whole_back, size_back, next_line}
 use Rattle.minelib_text.proofs.SpelledItemsBack.{values_back, values_keyless, coef_back, coef_keyless, limit_back, limit_keyless}
 
--- a key by its number
-abbrev number_of : HeaderKey → ℕ
-number_of key.Name = 0
-number_of key.Type = 1
-number_of key.Blocks = 2
-number_of key.Periods = 3
-number_of key.Destinations = 4
-number_of key.Resources = 5
-number_of key.General = 6
-number_of key.Rate = 7
+-- a header with all that the model states
+abbrev full : StatedModel → Header
+full m = full_header m.periods m.destinations m.resources m.rate
 
-abbrev is_key : HeaderKey → HeaderKey → Bool
-is_key j k = number_of j == number_of k
+full_given : (m : StatedModel) (k : HeaderKey) → Some (count_in (full m) k) ≡ number_of (full m) k
+full_given m = of_keys (λ k. Some (count_in (full m) k) ≡ number_of (full m) k) refl refl refl refl refl refl refl refl
 
--- the key stood, the last of these first
-abbrev stood : List HeaderKey → HeaderKey → Bool
-stood [] k = false
-stood (j ∷ done) k = is_key j k || stood done k
-
--- what is read of a header of this model behind the lines of these keys
-abbrev name_after : StatedModel → List HeaderKey → List ℕ
-name_after m done = if stood done key.Name then m.name else []
-
-abbrev header_after : Problem → StatedModel → List HeaderKey → Header
-header_after problem m done = record {
-  is_typed = stood done key.Type;
-  is_counted = stood done key.Blocks;
-  is_general = stood done key.General || (blank_header problem).is_general;
-  periods = if stood done key.Periods then Some m.periods else None;
-  destinations = if stood done key.Destinations then Some m.destinations else (blank_header problem).destinations;
-  resources = if stood done key.Resources then Some m.resources else None;
-  rate = if stood done key.Rate then Some (unsigned_abs m.rate) else None;
-}
-
-abbrev after : Problem → ℕ → StatedModel → List HeaderKey → ModelDraftView
-after problem n m done = draft problem n (name_after m done) (header_after problem m done) Heading [] [] []
+-- a NAME and a header have what the model states by a key
+abbrev Has : StatedModel → HeaderKey → List ℕ → Header → Type 0
+Has m k name h = (number_of h k ≡ number_of (full m) k) × IsNameOf k m.name name
 
 -- behind the header, in a section with these items
 abbrev within : Problem → ℕ → StatedModel → Section → List (List ℤ) → List Coef → List Limit → ModelDraftView
-within problem n m section values coefs limits =
-    draft problem n m.name (full_header m.periods m.destinations m.resources m.rate) section values coefs limits
-
-none_stood : (problem : Problem) (n : ℕ) (m : StatedModel) → after problem n m [] ≡ blank_model problem n
-none_stood Pcpsp n m = refl
-none_stood Cpit n m = refl
-
--- a key that has not stood is not given
-not_given : (problem : Problem) (m : StatedModel) (done : List HeaderKey) (k : HeaderKey) → has_key problem k ≡ true → stood done k ≡ false
-    → is_given k (name_after m done) (header_after problem m done) ≡ false
-not_given problem m done key.Name has new = rw new refl
-not_given problem m done key.Type has new = new
-not_given problem m done key.Blocks has new = new
-not_given problem m done key.Periods has new = rw new refl
-not_given Pcpsp m done key.Destinations has new = rw new refl
-not_given Cpit m done key.Destinations has new = absurd cc
-not_given problem m done key.Resources has new = rw new refl
-not_given Pcpsp m done key.General has new = rw new refl
-not_given Cpit m done key.General has new = absurd cc
-not_given problem m done key.Rate has new = rw new refl
+within problem n m section values coefs limits = draft problem n m.name (full m) section values coefs limits
 
 pub counted_back : (limit : ℕ) (field : List ℕ) (n : ℕ) → StatesWhole limit field n → 1 ≤ n → counted_in limit field ≡ Ok n
 counted_back limit field n h some = rw (whole_back limit field n h, ne_eqb n 0 (λ e. omega arith)) refl
 
--- the header after the key's line
-key_back : (problem : Problem) (n : ℕ) (m : StatedModel) (done : List HeaderKey) (k : HeaderKey) (value : List ℕ) → StatesKey problem n k value m
-    → header_with problem n k value (header_after problem m done) ≡ Ok (header_after problem m (k ∷ done))
-key_back problem n m done key.Name value s = rw (s.1) refl
-key_back problem n m done key.Type value s = rw ((bytes_eq-Decides value (type_text problem)).1 s) refl
-key_back problem n m done key.Blocks value s = rw (whole_back (MAX_BLOCKS + 1) value n s, eq-eqb n n refl) refl
-key_back problem n m done key.Periods value s = rw (counted_back (MAX_PERIODS + 1) value m.periods s.0 s.1) refl
-key_back problem n m done key.Destinations value s = rw (counted_back (MAX_DESTINATIONS + 1) value m.destinations s.0 s.1) refl
-key_back problem n m done key.Resources value s = rw (whole_back (MAX_RESOURCES + 1) value m.resources s) refl
-key_back problem n m done key.General value s = rw (whole_back 1 value 0 s) refl
-key_back problem n m done key.Rate value (rate, is, s) = rw (size_back 6 (10 ^ 6) value rate (omega arith) s, is) refl
+-- the number that the key's line states
+key_back : (problem : Problem) (n : ℕ) (m : StatedModel) (k : HeaderKey) (value : List ℕ) → StatesKey problem n k value m
+    → number_in problem n k value ≡ Ok (count_in (full m) k)
+key_back problem n m key.Name value s = rw (s.1) refl
+key_back problem n m key.Type value s = rw ((bytes_eq-Decides value (type_text problem)).1 s) refl
+key_back problem n m key.Blocks value s = rw (whole_back (MAX_BLOCKS + 1) value n s, eq-eqb n n refl) refl
+key_back problem n m key.Periods value s = counted_back (MAX_PERIODS + 1) value m.periods s.0 s.1
+key_back problem n m key.Destinations value s = counted_back (MAX_DESTINATIONS + 1) value m.destinations s.0 s.1
+key_back problem n m key.Resources value s = whole_back (MAX_RESOURCES + 1) value m.resources s
+key_back problem n m key.General value s = whole_back 1 value 0 s
+key_back problem n m key.Rate value (rate, is, s) = rw is (size_back 6 (10 ^ 6) value rate (omega arith) s)
 
-name_back : (problem : Problem) (n : ℕ) (m : StatedModel) (done : List HeaderKey) (k : HeaderKey) (value : List ℕ) → StatesKey problem n k value m
-    → name_with k value (name_after m done) ≡ name_after m (k ∷ done)
-name_back problem n m done key.Name value s = sym s.0
-name_back problem n m done key.Type value s = refl
-name_back problem n m done key.Blocks value s = refl
-name_back problem n m done key.Periods value s = refl
-name_back problem n m done key.Destinations value s = refl
-name_back problem n m done key.Resources value s = refl
-name_back problem n m done key.General value s = refl
-name_back problem n m done key.Rate value s = refl
+name_back : (problem : Problem) (n : ℕ) (m : StatedModel) (k : HeaderKey) (value name : List ℕ) → StatesKey problem n k value m
+    → name_with k value name ≡ name_with k m.name name
+name_back problem n m key.Name value name s = sym s.0
+name_back problem n m k value name s = refl
 
 -- a key line is that of its key
 keyed_line : (d : ModelDraftView) (line : List ℕ) (found : ModelKey) (values : List (List ℕ)) → IsKeyLine d.problem line found values
@@ -131,15 +82,18 @@ keyed_line : (d : ModelDraftView) (line : List ℕ) (found : ModelKey) (values :
 unfolding admit_model
 keyed_line d line found values h = rw (h.colon, h.key_is, h.values_are) refl
 
-header_line : (problem : Problem) (n : ℕ) (m : StatedModel) (done : List HeaderKey) (k : HeaderKey) (line : List ℕ) → IsHeaderLine problem n m line k
-    → has_key problem k ≡ true → stood done k ≡ false → admit_model (after problem n m done) line ≡ Ok (after problem n m (k ∷ done))
-header_line problem n m done k line h has new =
-    keyed_line (after problem n m done) line (model_key.Header k) (h.value ∷ []) h.is_key
-    ∙ rw (
-      not_given problem m done k has new,
-      key_back problem n m done k h.value h.states,
-      name_back problem n m done k h.value h.states,
-    ) refl
+-- a key's line adds what the model states by it
+header_line : (problem : Problem) (n : ℕ) (m : StatedModel) (name : List ℕ) (h : Header) (k : HeaderKey) (line : List ℕ)
+    → IsHeaderLine problem n m line k → is_given k h ≡ false
+    → admit_model (heading problem n name h) line ≡ Ok (heading problem n (name_with k m.name name) (with_key h k (count_in (full m) k)))
+header_line problem n m name h k line l new =
+    keyed_line (heading problem n name h) line (model_key.Header k) (l.value ∷ []) l.is_key
+    ∙ rw (new, key_back problem n m k l.value l.states, name_back problem n m k l.value name l.states) refl
+
+name_kept : (k j : HeaderKey) (value name : List ℕ) → IsNameOf j value name → IsNameOf j value (name_with k value name)
+name_kept key.Name key.Name value name was = refl
+name_kept key.Name j value name was = was
+name_kept k j value name was = was
 
 -- a CPIT's key is one of its own
 abbrev OfCpit : Option ModelKey → Type 0
@@ -193,134 +147,74 @@ lines_then s t (line ∷ lines) more e =
     bind_then (at_line line.number (admit_model s line.text)) (λ next. read_lines admit_model next lines) t e (λ next says rest.
     ap (λ r. r >>= λ d. read_lines admit_model d (lines ++ more)) says ∙ lines_then next t lines more rest)
 
-key_at : ℕ → HeaderKey
-key_at n =
-    if n == 0 then key.Name
-    else (if n == 1 then key.Type
-    else (if n == 2 then key.Blocks
-    else (if n == 3 then key.Periods
-    else (if n == 4 then key.Destinations
-    else (if n == 5 then key.Resources
-    else (if n == 6 then key.General
-    else key.Rate))))))
+-- behind the lines of these keys
+record Walked (problem : Problem) (n : ℕ) (m : StatedModel) (keys : List HeaderKey) (lines : List Line) (name : List ℕ)
+    (h : Header) : Type 0 where
+  pub last_name : List ℕ
+  pub last : Header
+  pub read : read_lines admit_model (heading problem n name h) lines ≡ Ok (heading problem n last_name last)
+  pub whole : IsWhole last
+  pub kept : (k : HeaderKey) → Has m k name h → Has m k last_name last
+  pub all : (k : HeaderKey) → Contains keys k → Has m k last_name last
 
-key_there : (k : HeaderKey) → key_at (number_of k) ≡ k
-unfolding key_at
-key_there key.Name = refl
-key_there key.Type = refl
-key_there key.Blocks = refl
-key_there key.Periods = refl
-key_there key.Destinations = refl
-key_there key.Resources = refl
-key_there key.General = refl
-key_there key.Rate = refl
-
-other_key : (j k : HeaderKey) → j ≢ k → is_key j k ≡ false
-other_key j k differ =
-    ne_eqb (number_of j) (number_of k) (λ same. differ (sym (key_there j) ∙ ap key_at same ∙ key_there k))
-
-same_key : (j k : HeaderKey) → j ≡ k → is_key j k ≡ true
-same_key j k same = eq-eqb (number_of j) (number_of k) (ap (λ k. number_of k) same)
-
-contains_cases : (k : HeaderKey) (keys : List HeaderKey) (j : HeaderKey) (i : ℕ) → i < length (k ∷ keys) → slice_index_or (k ∷ keys) i j ≡ j
-    → (k ≡ j) ⊎ Contains keys j
-contains_cases k keys j zero inside is = inl is
-contains_cases k keys j (suc i) inside is = inr (i, omega arith, is)
-
--- the keys of these lines stand behind those before them
-record Walked (problem : Problem) (n : ℕ) (m : StatedModel) (done keys : List HeaderKey) (lines : List Line) : Type 0 where
-  pub last : List HeaderKey
-  pub read : read_lines admit_model (after problem n m done) lines ≡ Ok (after problem n m last)
-  pub kept : (k : HeaderKey) → stood done k ≡ true → stood last k ≡ true
-  pub all : (k : HeaderKey) → Contains keys k → stood last k ≡ true
-
-walk : (problem : Problem) (n : ℕ) (m : StatedModel) (done : List HeaderKey) (i : ℕ) (lines : List Line) (keys : List HeaderKey)
-    → AreLines (λ _ line k. IsHeaderLine problem n m line k) i lines keys → AllPairs (λ k j. k ≢ j) keys
-    → ((k : HeaderKey) → Contains keys k → stood done k ≡ false) → Walked problem n m done keys lines
-walk problem n m done i [] [] are once fresh = record {
-  last = done;
-  read = refl;
-  kept = λ k was. was;
-  all = λ k c. absurd (omega (arith, c.1));
-}
-walk problem n m done i [] (k ∷ keys) are once fresh = absurd are
-walk problem n m done i (line ∷ lines) [] are once fresh = absurd are
-walk problem n m done i (line ∷ lines) (k ∷ keys) are once fresh =
-    let has = own_key problem (fields_of (before_first is_colon line.text)) k are.0.is_key.key_is in
-    let new = fresh k (0, omega arith, refl) in
-    let here = header_line problem n m done k line.text are.0 has new in
-    let later : (j : HeaderKey) → Contains keys j → stood (k ∷ done) j ≡ false =
-    λ j c. or_from (is_key k j) (stood done j)
-    (other_key k j (subst (λ x. k ≢ x) c.2 (once 0 (suc c.0) j (omega arith) (omega (arith, c.1)))))
-    (fresh j (suc c.0, omega (arith, c.1), c.2)) in
-    let more = walk problem n m (k ∷ done) (i + 1) lines keys are.1
-    (λ a b d less inside. once (suc a) (suc b) d (omega arith) (omega arith)) later in
+walk : (problem : Problem) (n : ℕ) (m : StatedModel) (i : ℕ) (lines : List Line) (keys : List HeaderKey) (name : List ℕ) (h : Header)
+    → AreLines (λ _ line k. IsHeaderLine problem n m line k) i lines keys → AllPairs (λ k j. k ≢ j) keys → IsWhole h
+    → ((k : HeaderKey) → Contains keys k → has_key problem k ≡ true → is_given k h ≡ false) → Walked problem n m keys lines name h
+walk problem n m i [] [] name h are once whole fresh =
+    record { last_name = name; last = h; read = refl; whole = whole; kept = λ k was. was; all = λ k c. absurd (omega (arith, c.1)) }
+walk problem n m i [] (k ∷ keys) name h are once whole fresh = absurd are
+walk problem n m i (line ∷ lines) [] name h are once whole fresh = absurd are
+walk problem n m i (line ∷ lines) (k ∷ keys) name h are once whole fresh =
+    let number = count_in (full m) k in
+    let next_name = name_with k m.name name in
+    let next = with_key h k number in
+    let new = fresh k (0, omega arith, refl) (own_key problem (fields_of (before_first is_colon line.text)) k are.0.is_key.key_is) in
+    let differs : (j : HeaderKey) → Contains keys j → k ≢ j =
+    λ j c. subst (λ x. k ≢ x) c.2 (once 0 (suc c.0) j (omega arith) (omega (arith, c.1))) in
+    let more = walk problem n m (i + 1) lines keys next_name next are.1
+    (λ a b d less inside. once (suc a) (suc b) d (omega arith) (omega arith)) (whole_with h k number)
+    (each_with (λ j found. Contains keys j → has_key problem j ≡ true → is_some found ≡ false) h k number
+    (λ c has. absurd (differs k c refl)) (λ j _ c has. fresh j (suc c.0, omega (arith, c.1), c.2) has)) in
     record {
+      last_name = more.last_name;
       last = more.last;
-      read = next_line admit_model (after problem n m done) (after problem n m (k ∷ done)) line lines here ∙ more.read;
-      kept = λ j was. more.kept j (or_right (is_key k j) (stood done j) was);
+      read = next_line admit_model (heading problem n name h) (heading problem n next_name next) line lines
+          (header_line problem n m name h k line.text are.0 new)
+          ∙ more.read;
+      whole = more.whole;
+      kept = λ j was. more.kept j (
+        each_with (λ j found. number_of h j ≡ number_of (full m) j → found ≡ number_of (full m) j) h k number (λ _. full_given m k)
+            (λ j _ same. same) j was.0,
+        name_kept k j m.name name was.1,
+      );
       all = λ j c. elim (contains_cases k keys j c.0 c.1 c.2) [
-        | inl same ↦ more.kept j (or_left (is_key k j) (stood done j) (same_key k j same))
+        | inl same ↦ subst (λ j. Has m j more.last_name more.last) same
+            (more.kept k (with_same h k number ∙ full_given m k, name_stands k m.name name))
         | inr there ↦ more.all j there
       ];
     }
 
-pick : (t : Bool) (destinations : ℕ) → destinations ≡ 1 → (if t then Some destinations else Some 1) ≡ Some destinations
-pick true destinations one = refl
-pick false destinations one = ap Some (sym one)
-
--- all keys stood
-full : (problem : Problem) (n : ℕ) (m : StatedModel) (last : List HeaderKey) → IsSingle problem m.destinations
-    → ((k : HeaderKey) → has_key problem k ≡ true → stood last k ≡ true) → after problem n m last ≡ within problem n m Heading [] [] []
-full Pcpsp n m last single all =
-    rw (
-      all key.Name refl,
-      all key.Type refl,
-      all key.Blocks refl,
-      all key.Periods refl,
-      all key.Destinations refl,
-      all key.Resources refl,
-      all key.General refl,
-      all key.Rate refl,
-    ) refl
-full Cpit n m last single all =
-    rw (
-      all key.Name refl,
-      all key.Type refl,
-      all key.Blocks refl,
-      all key.Periods refl,
-      all key.Resources refl,
-      all key.Rate refl,
-      or_right (stood last key.General) true refl,
-      pick (stood last key.Destinations) m.destinations single,
-    ) refl
-
-has_name : (problem : Problem) → has_key problem key.Name ≡ true
-has_name Pcpsp = refl
-has_name Cpit = refl
-
-name_line : (problem : Problem) (n : ℕ) (m : StatedModel) (line : List ℕ) (k : HeaderKey) → IsHeaderLine problem n m line k → k ≡ key.Name
-    → is_name m.name ≡ true
-name_line problem n m line k h is =
-    let named = subst (λ k. IsHeaderLine problem n m line k) is h in
-    ap is_name named.states.0 ∙ named.states.1
-
-named : (problem : Problem) (n : ℕ) (lines : List Line) (m : StatedModel) → AreHeaderLines problem n lines m → is_name m.name ≡ true
-named problem n lines m h =
-    let each = items_keep (λ _ line k. IsHeaderLine problem n m line k) (λ k. k ≡ key.Name → is_name m.name ≡ true)
-    (λ _ line k l is. name_line problem n m line k l is) 0 lines h.keys h.spelled in
-    let there = h.all key.Name (has_name problem) in
-    each there.0 key.Name there.1 there.2
+-- what has no key stands before the first
+without : (problem : Problem) (m : StatedModel) (k : HeaderKey) → has_key problem k ≡ false → IsSingle problem m.destinations
+    → Has m k [] (blank_header problem)
+unfolding with_key
+without Pcpsp m k e single = absurd cc
+without Cpit m key.Destinations e single = (ap Some (sym single), tt)
+without Cpit m key.General e single = (refl, tt)
+without Cpit m k e single = absurd cc
 
 heading_back : (problem : Problem) (n : ℕ) (lines : List Line) (m : StatedModel) → IsSingle problem m.destinations → AreHeaderLines problem n lines m
     → read_lines admit_model (blank_model problem n) lines ≡ Ok (within problem n m Heading [] [] [])
 heading_back problem n lines m single h =
-    let w = walk problem n m [] 0 lines h.keys h.spelled h.once (λ k c. refl) in
-    ap (λ d. read_lines admit_model d lines) (sym (none_stood problem n m)) ∙ w.read
-    ∙ ap Ok (full problem n m w.last single (λ k has. w.all k (h.all k has)))
-
-complete : (m : StatedModel) → is_name m.name ≡ true → is_complete m.name (full_header m.periods m.destinations m.resources m.rate) ≡ true
-complete m is = let some = (name_field m.name is).some in rw (ne_eqb (length m.name) 0 (λ e. omega arith)) refl
+    let w = walk problem n m 0 lines h.keys [] (blank_header problem) h.spelled h.once (whole_blank problem)
+    (λ k _ has. first_given problem k ∙ ap not has) in
+    let each : (k : HeaderKey) → Has m k w.last_name w.last =
+    λ k. elim (cases_Bool (has_key problem k)) [
+      | inl has ↦ w.all k (h.all k has)
+      | inr none ↦ w.kept k (without problem m k none single)
+    ] in
+    let header : w.last ≡ full m = same_header w.last (full m) w.whole refl (λ k. (each k).0) in
+    w.read ∙ ap Ok (rw (header, (each key.Name).1) refl)
 
 -- the line that begins a section
 begun : (d : ModelDraftView) (line : List ℕ) (section : Section) → IsKeyLine d.problem line (model_key.Section section) []
@@ -382,9 +276,8 @@ module _ (problem : Problem) (n : ℕ) (m : StatedModel) where
   pub lines_back : (lines : List Line) → AreModelLines problem n lines m
       → read_lines admit_model (blank_model problem n) lines ≡ Ok (within problem n m Limits m.values m.coefs m.limits)
   lines_back lines h =
-      let name = named problem n h.heading m h.states_header in
       let header = heading_back problem n h.heading m h.destinations h.states_header in
-      let objective = begun (within problem n m Heading [] [] []) h.objective.text Objective h.begins_values refl (complete m name) in
+      let objective = begun (within problem n m Heading [] [] []) h.objective.text Objective h.begins_values refl refl in
       let values = items_back (λ block line vs. IsValuesLine n m.destinations block (fields_of line) vs)
       (λ done. within problem n m Objective done [] []) m.values each_values 0 [] m.values h.values refl refl h.states_values in
       let coefficients = begun (within problem n m Objective m.values [] []) h.coefficients.text Coefs h.begins_coefs refl
@@ -421,10 +314,9 @@ rated problem n lines m h =
 pub model_back : (problem : Problem) (n : ℕ) (text : List ℕ) (m : StatedModel) → AreModelLines problem n (lines_in text) m
     → (d : ModelDraftView) × (model_in problem n text ≡ Ok d) × (stated_by d ≡ m)
 model_back problem n text m h =
-    let name = named problem n h.heading m h.states_header in
     let rate = rated problem n h.heading m h.states_header in (
       within problem n m Limits m.values m.coefs m.limits,
       ap (λ r. r >>= finish_model (end_of text)) (lines_back problem n m (lines_in text) h)
-          ∙ rw (complete m name, eq-eqb (length m.values) n h.all_values) refl,
+          ∙ rw (eq-eqb (length m.values) n h.all_values) refl,
       ap (λ r. record m { rate = r }) rate,
     )

@@ -1,7 +1,8 @@
 -- The lines that are read of a model file spell what it states.
-use Rattle.std.specs.Prelude.{◌≡◌, ℕ, ◌+◌, true, List, [], ◌∷◌, ◌++◌, length, Option, Ok}
+use Rattle.std.specs.Prelude.{◌≡◌, ℕ, ◌+◌, true, List, [], ◌∷◌, ◌++◌, length, Ok}
 use Rattle.std.proofs.Common.{refl, sym, ◌∙◌, ap, subst, arith, append_assoc}
-use Rattle.minelib_text.specs.ModelLines.{ModelDraftView, blank_model, is_heading, is_limits, name_with, count_in, admit_model, model_in}
+use Rattle.minelib_text.specs.HeaderKeys.{count_in, is_complete, with_key}
+use Rattle.minelib_text.specs.ModelLines.{ModelDraftView, blank_model, is_heading, is_limits, name_with, admit_model, model_in}
 use Rattle.minelib_text.specs.ModelSoFar.{SpellsValues, SpellsCoef, SpellsLimit, InHeading, InValues, InCoefs, InLimits, Part, At}
 use Rattle.minelib_text.specs.Reading.{read_lines}
 use Rattle.minelib_text.specs.SpelledKeys.{IsKeyLine}
@@ -9,6 +10,8 @@ use Rattle.minelib_text.specs.SpelledLines.{AreLines}
 use Rattle.minelib_text.specs.SpelledModel.{IsSingle, AreModelLines}
 use Rattle.minelib_text.specs.StatedModel.{stated_by}
 use Rattle.minelib_text.specs.TextLines.{Line, lines_in}
+use Rattle.minelib_text.specs.declared.model_key.Header.{Header}
+use Rattle.minelib_text.specs.declared.model_key.HeaderKey.TheVariants as key
 use Rattle.minelib_text.specs.declared.model_key.ModelKey.TheVariants as model_key
 use Rattle.minelib_text.specs.declared.model_key.Problem.{Problem}
 use Rattle.minelib_text.specs.declared.model_key.Problem.TheVariants.{Pcpsp, Cpit}
@@ -16,10 +19,10 @@ use Rattle.minelib_text.specs.declared.model_key.Section.{Section}
 use Rattle.minelib_text.specs.declared.model_key.Section.TheVariants.{Heading, Objective, Coefs, Limits}
 use Rattle.minelib_text.proofs.HeaderLines.{heads_none, heads_more, heads_whole}
 use Rattle.minelib_text.proofs.ItemLines.{line_more}
-use Rattle.minelib_text.proofs.ModelEnd.{IsComplete, model_finished}
+use Rattle.minelib_text.proofs.ModelEnd.{model_finished}
 use Rattle.minelib_text.proofs.ModelSteps.{SetsKey, BeginsSection, AddsValues, AddsCoef, AddsLimit, Step, Keyed, Begun, Valued, Spent, Limited, model_step, next_by}
 use Rattle.minelib_text.proofs.ReadSteps.{kept_with_lines}
-use Rattle.minelib_text.proofs.ValidHeader.{IsSingle as IsSingleGiven}
+use Rattle.minelib_text.proofs.ValidHeader.{KeepsOwn, one_destination}
 use Rattle.minelib_text.proofs.ValidModel.{KeepsModel, model_kept}
 
 part_first : {A : Type 0} (Before : List Line → Type 0) (problem : Problem) (section : Section) (Spells : ℕ → List ℕ → A → Type 0) (items : List A)
@@ -67,9 +70,9 @@ keyed : (done : List Line) (d : ModelDraftView) (line : Line) (next : ModelDraft
 keyed done d line next s was =
     let here = in_heading d.section s.heading in
     let heading = subst (λ section. At section d done) here was in
-    let after : ModelDraftView = record d { header = s.header; name = name_with s.key s.value d.name } in
+    let after : ModelDraftView = record d { header = with_key d.header s.key s.number; name = name_with s.key s.value d.name } in
     let now : At Heading after (done ++ line ∷ []) = (
-      heads_more d.problem d.blocks s.key s.value d.name d.header s.header done line s.sets s.new s.spelled heading.0,
+      heads_more d.problem d.blocks s.key s.value d.name d.header s.number done line s.says s.new s.spelled heading.0,
       heading.1,
       heading.2,
       heading.3,
@@ -122,12 +125,12 @@ stepped done d line next (Valued s) was = valued done d line next s was
 stepped done d line next (Spent s) was = spent done d line next s was
 stepped done d line next (Limited s) was = limited done d line next s was
 
-single : (problem : Problem) (given : Option ℕ) → IsSingleGiven problem given → IsSingle problem (count_in given)
-single Pcpsp given h = tt
-single Cpit given h = ap count_in h
+single : (problem : Problem) (h : Header) → KeepsOwn problem h → IsSingle problem (count_in h key.Destinations)
+single Pcpsp h own = tt
+single Cpit h own = one_destination h own
 
 -- all lines, cut into the header and the three sections
-whole : (d : ModelDraftView) (lines : List Line) → InLimits d lines → IsComplete d.name d.header → KeepsModel d.problem d.blocks d
+whole : (d : ModelDraftView) (lines : List Line) → InLimits d lines → is_complete d.header ≡ true → KeepsModel d.problem d.blocks d
     → length d.values ≡ d.blocks → AreModelLines d.problem d.blocks lines (stated_by d)
 whole d lines l complete kept count =
     let c = l.earlier in
@@ -146,7 +149,7 @@ whole d lines l complete kept count =
           ∙ append_assoc v.before (v.first ∷ v.lines ++ (c.first ∷ c.lines)) (l.first ∷ l.lines)
           ∙ ap (λ x. v.before ++ v.first ∷ x) (append_assoc v.lines (c.first ∷ c.lines) (l.first ∷ l.lines));
       states_header = heads_whole d.problem d.blocks d v.before complete v.earlier;
-      destinations = single d.problem d.header.destinations kept.header.single;
+      destinations = single d.problem d.header kept.header.own;
       begins_values = v.begins;
       states_values = v.spelled;
       all_values = count;
@@ -168,7 +171,7 @@ lines_so_far problem n lines d of_lines =
 
 -- lines that are read to their end
 pub lines_spelled : (problem : Problem) (n : ℕ) (lines : List Line) (d : ModelDraftView) → read_lines admit_model (blank_model problem n) lines ≡ Ok d
-    → IsComplete d.name d.header → length d.values ≡ d.blocks → is_limits d.section ≡ true → AreModelLines problem n lines (stated_by d)
+    → is_complete d.header ≡ true → length d.values ≡ d.blocks → is_limits d.section ≡ true → AreModelLines problem n lines (stated_by d)
 lines_spelled problem n lines d of_lines complete count end =
     let kept = model_kept problem n lines d of_lines in
     let at = lines_so_far problem n lines d of_lines in

@@ -1,7 +1,7 @@
 -- What is read is valid.
-use Rattle.std.specs.Prelude.{◌≡◌, ℕ, ◌<◌, ◌≤◌, ◌^◌, ◌==◌, ◌≤ℤ◌, true, false, List, [], ◌∷◌, length, ℤ, pos, Option, Some, None, is_some, Ok, map, All, AllPairs, IfSome, IsTrue}
+use Rattle.std.specs.Prelude.{◌≡◌, ℕ, ◌<◌, ◌≤◌, ◌^◌, ◌≤ℤ◌, true, List, [], ◌∷◌, length, ℤ, pos, Option, Some, None, is_some, unwrap_or, Ok, map, All, AllPairs, IfSome, IsTrue}
 use Rattle.std.specs.List.{flat_map}
-use Rattle.std.proofs.Common.{refl, sym, ◌∙◌, ap, subst, arith, inl, inr, get_or, length-append}
+use Rattle.std.proofs.Common.{refl, sym, ◌∙◌, subst, arith, get_or, length-append}
 use Rattle.std.proofs.lemmas.Bool.Decides.{nat_tests}
 use Rattle.std.proofs.lemmas.Int.{ints}
 use Rattle.std.proofs.lemmas.List.{get_or-map, length-map}
@@ -16,37 +16,43 @@ use Rattle.mine_instance.specs.declared.coef.Coef.{Coef}
 use Rattle.mine_instance.specs.declared.instance.Instance.{Instance}
 use Rattle.minelib_text.specs.BlockLines.{blocks_in}
 use Rattle.minelib_text.specs.Denotes.{instance_read, denoted, Denotes, cpit_read, cpit_denoted, DenotesCpit}
-use Rattle.minelib_text.specs.ModelLines.{ModelDraftView, count_in, model_in}
+use Rattle.minelib_text.specs.HeaderKeys.{count_in, is_complete, is_given, number_of}
+use Rattle.minelib_text.specs.ModelLines.{ModelDraftView, model_in}
 use Rattle.minelib_text.specs.PrecLines.{preds_in}
 use Rattle.minelib_text.specs.Reading.{in_file}
 use Rattle.minelib_text.specs.TextLines.{lines_in}
+use Rattle.minelib_text.specs.declared.model_key.Header.{Header}
+use Rattle.minelib_text.specs.declared.model_key.HeaderKey.{HeaderKey}
+use Rattle.minelib_text.specs.declared.model_key.HeaderKey.TheVariants as key
 use Rattle.minelib_text.specs.declared.model_key.Problem.{Problem}
 use Rattle.minelib_text.specs.declared.model_key.Problem.TheVariants as problem
 use Rattle.minelib_text.specs.declared.text_fault.TextFile.TheVariants.{Blocks, Prec, Pcpsp, Cpit}
-use Rattle.minelib_text.proofs.ModelEnd.{IsComplete, model_finished}
+use Rattle.minelib_text.proofs.HeaderFacts.{each_given}
+use Rattle.minelib_text.proofs.ModelEnd.{model_finished}
 use Rattle.minelib_text.proofs.ReadSteps.{bind_then, same_ok, in_file_ok}
 use Rattle.minelib_text.proofs.ValidBlocks.{few_blocks}
-use Rattle.minelib_text.proofs.ValidHeader.{IsSingle, KeepsName}
+use Rattle.minelib_text.proofs.ValidHeader.{KeepsOwn, IsInRange, one_destination}
 use Rattle.minelib_text.proofs.ValidModel.{KeepsModel, model_kept}
 use Rattle.minelib_text.proofs.ValidPreds.{preds_are_valid}
 
 -- what a model file states, of n blocks, is as an instance has it
 pub record IsModel (problem : Problem) (n : ℕ) (d : ModelDraftView) : Type 0 where
   pub name : is_name d.name ≡ true
-  pub horizon : IsHorizon (count_in d.header.periods) (count_in d.header.resources) (pos (count_in d.header.rate))
+  pub horizon : IsHorizon (count_in d.header key.Periods) (count_in d.header key.Resources) (pos (count_in d.header key.Rate))
   pub count : length d.values ≡ n
-  pub destinations : HasDestinations (count_in d.header.destinations) d.values
-  pub single : IsSingle problem d.header.destinations
-  pub coefs : AreCoefs n (count_in d.header.destinations) (count_in d.header.resources) d.coefs
-  pub limits : AreLimits (count_in d.header.resources) (count_in d.header.periods) d.limits
+  pub destinations : HasDestinations (count_in d.header key.Destinations) d.values
+  pub own : KeepsOwn problem d.header
+  pub coefs : AreCoefs n (count_in d.header key.Destinations) (count_in d.header key.Resources) d.coefs
+  pub limits : AreLimits (count_in d.header key.Resources) (count_in d.header key.Periods) d.limits
 
-given_keeps : (P : ℕ → Type 0) (given : Option ℕ) → is_some given ≡ true → IfSome given P → P (count_in given)
-given_keeps P None some kept = absurd cc
-given_keeps P (Some n) some kept = kept
-
-a_name : (name : List ℕ) → (length name == 0) ≡ false → KeepsName name → is_name name ≡ true
-a_name name some (inl none) = absurd cc
-a_name name some (inr is) = is
+-- what is given is in range
+given_in_range : (name : List ℕ) (h : Header) (k : HeaderKey) → is_given k h ≡ true → IfSome (number_of h k) (IsInRange k name)
+    → IsInRange k name (count_in h k)
+given_in_range name h k given kept = by (number_of h k) given kept
+  where
+    by : (found : Option ℕ) → is_some found ≡ true → IfSome found (IsInRange k name) → IsInRange k name (unwrap_or found 0)
+    by None some kept = absurd cc
+    by (Some n) some kept = kept
 
 in_millionths : (rate : ℕ) → rate ≤ 10 ^ 6 → (pos 0 ≤ℤ pos rate) × (pos rate ≤ℤ pos (10 ^ 6))
 in_millionths rate most = (omega (arith, ints), omega (arith, ints))
@@ -56,25 +62,25 @@ model_is_valid problem n text d e =
     let f = model_finished problem n text d e in
     whole problem n d (model_kept problem n (lines_in text) d f.of_lines) f.complete f.all_values
   where
-    whole : (problem : Problem) (n : ℕ) (last : ModelDraftView) → KeepsModel problem n last → IsComplete last.name last.header
+    whole : (problem : Problem) (n : ℕ) (last : ModelDraftView) → KeepsModel problem n last → is_complete last.header ≡ true
         → length last.values ≡ last.blocks → IsModel problem n last
     whole problem n last kept complete count =
         record {
-          name = a_name last.name complete.named kept.name;
+          name = in_range key.Name;
           horizon = record {
-            periods_1_to_100 = given_keeps (λ p. (1 ≤ p) × (p ≤ 100)) last.header.periods complete.periods kept.header.periods;
-            at_most_8_resources = given_keeps (λ r. r ≤ 8) last.header.resources complete.resources kept.header.resources;
-            rate_0_to_1 = in_millionths (count_in last.header.rate) (given_keeps (λ r. r ≤ 10 ^ 6) last.header.rate complete.rate kept.header.rate);
+            periods_1_to_100 = in_range key.Periods;
+            at_most_8_resources = in_range key.Resources;
+            rate_0_to_1 = in_millionths (count_in last.header key.Rate) (in_range key.Rate);
           };
           count = count ∙ kept.of_blocks;
-          destinations = record {
-            from_1_to_8 = given_keeps (λ p. (1 ≤ p) × (p ≤ 8)) last.header.destinations complete.destinations kept.header.destinations;
-            one_each = kept.values;
-          };
-          single = kept.header.single;
+          destinations = record { from_1_to_8 = in_range key.Destinations; one_each = kept.values };
+          own = kept.header.own;
           coefs = kept.coefs;
           limits = kept.limits;
         }
+      where
+        in_range : (k : HeaderKey) → IsInRange k last.name (count_in last.header k)
+        in_range k = given_in_range last.name last.header k (each_given last.header complete k) (kept.header.in_range k)
 
 -- the instance that three texts denote is valid
 pub read_valid : (blocks prec pcpsp : List ℕ) (i : Instance) → Denotes blocks prec pcpsp i → IsValid i
@@ -127,15 +133,16 @@ pub cpit_is_valid : (n : ℕ) (text : List ℕ) (d : ModelDraftView) → n ≤ 6
     → IsCpit (cpit_read d) × (length (cpit_read d).values ≡ n)
 cpit_is_valid n text d few e =
     let m = model_is_valid problem.Cpit n text d e in
-    let one : count_in d.header.destinations ≡ 1 = ap count_in m.single in
+    let one : count_in d.header key.Destinations ≡ 1 = one_destination d.header m.own in
     let each : All (λ values. length values ≡ 1) d.values = subst (λ k. All (λ values. length values ≡ k) d.values) one m.destinations.one_each in
     let count : length (flat_map (λ values. values) d.values) ≡ n = one_each d.values each ∙ m.count in
-    let coefs : AreCoefs n 1 (count_in d.header.resources) d.coefs = subst (λ k. AreCoefs n k (count_in d.header.resources) d.coefs) one m.coefs in (
+    let coefs : AreCoefs n 1 (count_in d.header key.Resources) d.coefs =
+    subst (λ k. AreCoefs n k (count_in d.header key.Resources) d.coefs) one m.coefs in (
       record {
         few = omega arith;
         horizon = m.horizon;
-        coefs = subst (λ k. AreCpitCoefs k (count_in d.header.resources) (map without_destination d.coefs)) (sym count)
-            (cpit_coefs n (count_in d.header.resources) d.coefs coefs);
+        coefs = subst (λ k. AreCpitCoefs k (count_in d.header key.Resources) (map without_destination d.coefs)) (sym count)
+            (cpit_coefs n (count_in d.header key.Resources) d.coefs coefs);
         limits = m.limits;
       },
       count,

@@ -8,9 +8,11 @@ use Rattle.mine_instance.specs.OfCpit.{without_destination}
 use Rattle.mine_instance.specs.OfModel.{instance_with}
 use Rattle.mine_instance.specs.declared.instance.Instance.{Instance}
 use Rattle.minelib_text.specs.BlockLines.{blocks_in}
-use Rattle.minelib_text.specs.ModelLines.{ModelDraftView, count_in, model_in}
+use Rattle.minelib_text.specs.HeaderKeys.{count_in}
+use Rattle.minelib_text.specs.ModelLines.{ModelDraftView, model_in}
 use Rattle.minelib_text.specs.PrecLines.{preds_in}
 use Rattle.minelib_text.specs.Reading.{in_file}
+use Rattle.minelib_text.specs.declared.model_key.HeaderKey.TheVariants as key
 use Rattle.minelib_text.specs.declared.model_key.Problem.TheVariants as problem
 use Rattle.minelib_text.specs.declared.text_fault.TextFault.{TextFault}
 use Rattle.minelib_text.specs.declared.text_fault.TextFile.TheVariants.{Blocks, Prec, Pcpsp, Cpit}
@@ -18,8 +20,8 @@ use Rattle.minelib_text.specs.declared.text_fault.TextFile.TheVariants.{Blocks, 
 -- the instance of what its three files state
 abbrev pub instance_read : List Block → List (List ℕ) → ModelDraftView → Instance
 instance_read blocks lists d =
-    instance_with d.name (pos (count_in d.header.rate)) (count_in d.header.periods) (count_in d.header.destinations)
-    (count_in d.header.resources) blocks lists d.values d.coefs d.limits
+    instance_with d.name (pos (count_in d.header key.Rate)) (count_in d.header key.Periods) (count_in d.header key.Destinations)
+    (count_in d.header key.Resources) blocks lists d.values d.coefs d.limits
 
 -- the instance that three texts denote, or the first faulty line: the blocks' first, then the precedences', then the model's
 unfoldable pub denoted : List ℕ → List ℕ → List ℕ → Result Instance TextFault
@@ -36,8 +38,8 @@ Denotes blocks prec pcpsp i = denoted blocks prec pcpsp ≡ Ok i
 -- the constrained pit limit problem of what its file states: one value a block
 abbrev pub cpit_read : ModelDraftView → CpitParts
 cpit_read d =
-    cpit_of d.name (pos (count_in d.header.rate)) (count_in d.header.periods) (count_in d.header.resources) (flat_map (λ values. values) d.values)
-    (map without_destination d.coefs) d.limits
+    cpit_of d.name (pos (count_in d.header key.Rate)) (count_in d.header key.Periods) (count_in d.header key.Resources)
+    (flat_map (λ values. values) d.values) (map without_destination d.coefs) d.limits
 
 -- the constrained pit limit problem of n blocks that a text denotes, or its first faulty line
 unfoldable pub cpit_denoted : ℕ → List ℕ → Result CpitParts TextFault

@@ -7,6 +7,7 @@ pub mod FieldValues
 pub mod FileFault
 pub mod FileSinkView
 pub mod FirstBad
+pub mod HeaderKeys
 pub mod Kept
 pub mod LineDemands
 pub mod Lines

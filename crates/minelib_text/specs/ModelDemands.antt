@@ -12,7 +12,8 @@ use Rattle.pit_model.specs.declared.ranges.TheConstants.{MAX_BLOCKS, MAX_DESTINA
 use Rattle.mine_instance.specs.Order.{comes_before}
 use Rattle.mine_instance.specs.declared.coef.Coef.{Coef}
 use Rattle.minelib_text.specs.LineDemands.{number, whole, size, field_at}
-use Rattle.minelib_text.specs.ModelLines.{ModelDraftView, count_in, is_colon, is_given, is_heading, is_next, is_ready, is_behind, key_of, last_of, type_text}
+use Rattle.minelib_text.specs.HeaderKeys.{count_in, is_given}
+use Rattle.minelib_text.specs.ModelLines.{ModelDraftView, is_colon, is_heading, is_next, is_ready, is_behind, key_of, last_of, type_text}
 use Rattle.minelib_text.specs.ModelSoFar.{SpellSoFar}
 use Rattle.minelib_text.specs.SpelledFields.{StatesWhole}
 use Rattle.minelib_text.specs.SpelledItems.{IsCoefLine, IsLimitLine}
@@ -59,7 +60,7 @@ abbrev pub asked_of_key : ModelDraftView → Option ModelKey → List (List ℕ)
 asked_of_key d None values = demand fault.Key ⊥
 asked_of_key d (Some (model_key.Header k)) values =
     demand fault.Key (is_heading d.section ≡ true)
-    ++ demand fault.Twice (is_given k d.name d.header ≡ false)
+    ++ demand fault.Twice (is_given k d.header ≡ false)
     ++ demand fault.Fields (length values ≡ 1) ++ asked_of_value d k (field_at values 0)
 asked_of_key d (Some (model_key.Section section)) values =
     demand fault.Key (is_next d.section section ≡ true) ++ demand fault.Fields (values ≡ [])
@@ -68,7 +69,7 @@ asked_of_key d (Some (model_key.Section section)) values =
 -- `b v0 v1 ..`: those of the next block
 abbrev pub asked_of_values : ModelDraftView → List (List ℕ) → List (Demand TextKind)
 asked_of_values d fields =
-    demand fault.Fields (length fields ≡ count_in d.header.destinations + 1)
+    demand fault.Fields (length fields ≡ count_in d.header key.Destinations + 1)
     ++ whole d.blocks (field_at fields 0)
     ++ (decimals (drop 1 fields)
     ++ demand fault.Order (StatesWhole d.blocks (field_at fields 0) (length d.values)))
@@ -77,11 +78,11 @@ asked_of_values d fields =
 abbrev pub coef_fields : Problem → ModelDraftView → List (List ℕ) → List (Demand TextKind)
 coef_fields Pcpsp d fields =
     demand fault.Fields (length fields ≡ 4) ++ whole d.blocks (field_at fields 0)
-    ++ whole (count_in d.header.destinations) (field_at fields 1)
-    ++ whole (count_in d.header.resources) (field_at fields 2) ++ decimal (field_at fields 3)
+    ++ whole (count_in d.header key.Destinations) (field_at fields 1)
+    ++ whole (count_in d.header key.Resources) (field_at fields 2) ++ decimal (field_at fields 3)
 coef_fields Cpit d fields =
     demand fault.Fields (length fields ≡ 3) ++ whole d.blocks (field_at fields 0)
-    ++ whole (count_in d.header.resources) (field_at fields 1)
+    ++ whole (count_in d.header key.Resources) (field_at fields 1)
     ++ decimal (field_at fields 2)
 
 -- a coefficient, behind the last one
@@ -89,7 +90,7 @@ abbrev pub asked_of_coef : ModelDraftView → List (List ℕ) → List (Demand T
 asked_of_coef d fields =
     coef_fields d.problem d fields
     ++ demand fault.Order ((c : Coef)
-    × IsCoefLine d.problem d.blocks (count_in d.header.destinations) (count_in d.header.resources)
+    × IsCoefLine d.problem d.blocks (count_in d.header key.Destinations) (count_in d.header key.Resources)
     fields c × (is_behind comes_before (last_of d.coefs) c ≡ true))
 
 -- the numbers of a bound: one, or those of an interval
@@ -106,8 +107,8 @@ width_of_limit true = 5
 abbrev pub limit_fields : Bool → ModelDraftView → List (List ℕ) → List (Demand TextKind)
 limit_fields is_interval d fields =
     demand fault.Fields (length fields ≡ width_of_limit is_interval)
-    ++ whole (count_in d.header.resources) (field_at fields 0)
-    ++ whole (count_in d.header.periods) (field_at fields 1)
+    ++ whole (count_in d.header key.Resources) (field_at fields 0)
+    ++ whole (count_in d.header key.Periods) (field_at fields 1)
     ++ demand fault.Name ((field_at fields 2 ≡ codes "L") ⊎ ((field_at fields 2 ≡ codes "G")
     ⊎ (field_at fields 2 ≡ codes "I")))
     ++ bound_fields is_interval fields
@@ -117,7 +118,7 @@ abbrev pub asked_of_limit : ModelDraftView → List (List ℕ) → List (Demand 
 asked_of_limit d fields =
     limit_fields (bytes_eq (field_at fields 2) (codes "I")) d fields
     ++ demand fault.Order ((l : Limit)
-    × IsLimitLine (count_in d.header.resources) (count_in d.header.periods) fields l
+    × IsLimitLine (count_in d.header key.Resources) (count_in d.header key.Periods) fields l
     × (is_behind stands_before (last_of d.limits) l ≡ true))
 
 -- a line without a key, in a section

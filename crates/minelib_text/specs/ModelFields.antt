@@ -1,7 +1,11 @@
 -- How the fields of a model file that is being read are seen, and what they keep. Only proofs and private contracts need it.
-use Rattle.std.specs.Prelude.{◌≡◌, ◌<◌, ◌≤◌, true, [], length, unwrap_or, All, IfSome}
-use Rattle.minelib_text.specs.ModelLines.{ModelDraftView, count_in, is_heading}
+use Rattle.std.specs.Prelude.{◌≡◌, ◌<◌, ◌≤◌, true, [], length, unwrap_or, All}
+use Rattle.minelib_text.specs.HeaderKeys.{count_in}
+use Rattle.minelib_text.specs.ModelLines.{ModelDraftView, is_heading}
 use Rattle.minelib_text.specs.declared.model_draft.ModelDraft.TheInside.{Inside}
+use Rattle.minelib_text.specs.ModelParts.{number_limit}
+use Rattle.minelib_text.specs.declared.model_key.HeaderKey.{HeaderKey}
+use Rattle.minelib_text.specs.declared.model_key.HeaderKey.TheVariants as key
 use Rattle.pit_model.specs.declared.ranges.TheConstants.{MAX_BLOCKS}
 
 abbrev pub draft_of : Inside → ModelDraftView
@@ -16,9 +20,9 @@ draft_of d = record {
   limits = d.limits.items;
 }
 
--- a NAME has bytes, values stand behind the header alone, and each block has one for each destination
+-- numbers are below the limits of their keys, values stand behind the header alone, and each block has one for each destination
 pub record KeepsModel (d : Inside) : Type 0 where
   pub few : d.blocks ≤ MAX_BLOCKS
-  pub name : IfSome d.name (λ bytes. 0 < length bytes)
+  pub numbers : (k : HeaderKey) → count_in d.header k < number_limit k
   pub heading : is_heading d.section ≡ true → d.values ≡ []
-  pub width : All (λ of_block. length of_block ≡ count_in d.header.destinations) d.values
+  pub width : All (λ of_block. length of_block ≡ count_in d.header key.Destinations) d.values

@@ -1,5 +1,5 @@
 -- What a model file states: the production scheduling problem, or the constrained pit limit problem.
-use Rattle.std.specs.Prelude.{ℕ, ◌+◌, ◌-◌, ◌==◌, ◌&&◌, ◌||◌, ◌^◌, not, Bool, true, false, List, [], ◌∷◌, ◌++◌, length, ℤ, Option, Some, None, is_some, unwrap_or, slice_get, slice_index_or, Result, Ok, Err, if◌then◌else◌, codes}
+use Rattle.std.specs.Prelude.{ℕ, ◌+◌, ◌-◌, ◌==◌, ◌&&◌, ◌||◌, ◌^◌, not, Bool, true, false, List, [], ◌∷◌, ◌++◌, length, ℤ, Option, Some, None, slice_get, slice_index_or, Result, Ok, Err, if◌then◌else◌, codes}
 use Rattle.std.specs.List.{list_any, before_first, after_first}
 use Rattle.std.specs.Str.{bytes_eq}
 use Rattle.pit_model.specs.Steps.{◌>>=◌}
@@ -12,6 +12,7 @@ use Rattle.pit_model.specs.declared.ranges.TheConstants.{MAX_BLOCKS, MAX_DESTINA
 use Rattle.mine_instance.specs.Order.{comes_before}
 use Rattle.mine_instance.specs.declared.coef.Coef.{Coef}
 use Rattle.minelib_text.specs.FieldValues.{first_by, all_by, size_in, whole_in, decimal_in}
+use Rattle.minelib_text.specs.HeaderKeys.{no_key, with_key, count_in, is_given, is_complete}
 use Rattle.minelib_text.specs.Reading.{read_lines}
 use Rattle.minelib_text.specs.TextLines.{fields_of, lines_in, end_of}
 use Rattle.minelib_text.specs.declared.model_key.Header.{Header}
@@ -41,24 +42,8 @@ pub record ModelDraftView : Type 0 where
 
 -- the header before its first key: a CPIT has one destination and no general side constraints, without keys for them
 abbrev pub blank_header : Problem → Header
-blank_header Pcpsp = record {
-  is_typed = false;
-  is_counted = false;
-  is_general = false;
-  periods = None;
-  destinations = None;
-  resources = None;
-  rate = None;
-}
-blank_header Cpit = record {
-  is_typed = false;
-  is_counted = false;
-  is_general = true;
-  periods = None;
-  destinations = Some 1;
-  resources = None;
-  rate = None;
-}
+blank_header Pcpsp = no_key
+blank_header Cpit = with_key (with_key no_key key.Destinations 1) key.General 0
 
 -- before the first line
 abbrev pub blank_model : Problem → ℕ → ModelDraftView
@@ -134,49 +119,25 @@ is_next Coefs Objective = false
 is_next Coefs Coefs = false
 is_next Limits section = false
 
--- a header key stood before
-abbrev pub is_given : HeaderKey → List ℕ → Header → Bool
-is_given key.Name name h = not (length name == 0)
-is_given key.Type name h = h.is_typed
-is_given key.Blocks name h = h.is_counted
-is_given key.Periods name h = is_some h.periods
-is_given key.Destinations name h = is_some h.destinations
-is_given key.Resources name h = is_some h.resources
-is_given key.General name h = h.is_general
-is_given key.Rate name h = is_some h.rate
-
--- all header keys stood
-abbrev pub is_complete : List ℕ → Header → Bool
-is_complete name h =
-    not (length name == 0) && h.is_typed && h.is_counted && h.is_general && is_some h.periods && is_some h.destinations
-    && is_some h.resources && is_some h.rate
-
 -- a number that is not 0, below a limit
 abbrev pub counted_in : ℕ → List ℕ → Result ℕ TextKind
 counted_in limit field = whole_in limit field >>= λ n. if n == 0 then Err Range else Ok n
 
--- what a header key with this value states, of n blocks, after what stood before it
-abbrev pub header_with : Problem → ℕ → HeaderKey → List ℕ → Header → Result Header TextKind
-header_with problem n key.Name field h = if is_name field then Ok h else Err Name
-header_with problem n key.Type field h = if bytes_eq field (type_text problem) then Ok (record h { is_typed = true }) else Err Name
-header_with problem n key.Blocks field h =
-    whole_in (MAX_BLOCKS + 1) field >>= λ blocks. if blocks == n then Ok (record h { is_counted = true }) else Err Count
-header_with problem n key.Periods field h = counted_in (MAX_PERIODS + 1) field >>= λ periods. Ok (record h { periods = Some periods })
-header_with problem n key.Destinations field h = counted_in (MAX_DESTINATIONS + 1) field >>= λ destinations. Ok (record h { destinations = Some destinations })
-header_with problem n key.Resources field h = whole_in (MAX_RESOURCES + 1) field >>= λ resources. Ok (record h { resources = Some resources })
-header_with problem n key.General field h = whole_in 1 field >>= λ none. Ok (record h { is_general = true })
-header_with problem n key.Rate field h = size_in 6 (10 ^ 6) field >>= λ rate. Ok (record h { rate = Some rate })
+-- the number that a header key with this value states, of n blocks: 0 where it states no more than that it stands
+abbrev pub number_in : Problem → ℕ → HeaderKey → List ℕ → Result ℕ TextKind
+number_in problem n key.Name field = if is_name field then Ok 0 else Err Name
+number_in problem n key.Type field = if bytes_eq field (type_text problem) then Ok 0 else Err Name
+number_in problem n key.Blocks field = whole_in (MAX_BLOCKS + 1) field >>= λ blocks. if blocks == n then Ok 0 else Err Count
+number_in problem n key.Periods field = counted_in (MAX_PERIODS + 1) field
+number_in problem n key.Destinations field = counted_in (MAX_DESTINATIONS + 1) field
+number_in problem n key.Resources field = whole_in (MAX_RESOURCES + 1) field
+number_in problem n key.General field = whole_in 1 field
+number_in problem n key.Rate field = size_in 6 (10 ^ 6) field
 
 -- the NAME after a header key with this value
 abbrev pub name_with : HeaderKey → List ℕ → List ℕ → List ℕ
 name_with key.Name field name = field
-name_with key.Type field name = name
-name_with key.Blocks field name = name
-name_with key.Periods field name = name
-name_with key.Destinations field name = name
-name_with key.Resources field name = name
-name_with key.General field name = name
-name_with key.Rate field name = name
+name_with k field name = name
 
 -- the one value of a header key
 abbrev pub only_value : List (List ℕ) → Result (List ℕ) TextKind
@@ -188,13 +149,13 @@ only_value (value ∷ other ∷ more) = Err Fields
 abbrev pub admit_header : ModelDraftView → HeaderKey → List (List ℕ) → Result ModelDraftView TextKind
 admit_header d k values =
     if not (is_heading d.section) then Err Key
-    else (if is_given k d.name d.header then Err Twice
-    else (only_value values >>= λ value. header_with d.problem d.blocks k value d.header
-    >>= λ header. Ok (record d { header = header; name = name_with k value d.name })))
+    else (if is_given k d.header then Err Twice
+    else (only_value values >>= λ value. number_in d.problem d.blocks k value
+    >>= λ number. Ok (record d { header = with_key d.header k number; name = name_with k value d.name })))
 
 -- all that has to stand before the next section does
 abbrev pub is_ready : ModelDraftView → Section → Bool
-is_ready d Heading = is_complete d.name d.header
+is_ready d Heading = is_complete d.header
 is_ready d Objective = length d.values == d.blocks
 is_ready d Coefs = true
 is_ready d Limits = true
@@ -212,10 +173,6 @@ abbrev pub admit_key : ModelDraftView → Option ModelKey → List (List ℕ) �
 admit_key d None values = Err Key
 admit_key d (Some (model_key.Header k)) values = admit_header d k values
 admit_key d (Some (model_key.Section section)) values = admit_section d section values
-
--- how many of a kind there are, by the header
-abbrev pub count_in : Option ℕ → ℕ
-count_in count = unwrap_or count 0
 
 -- `b v0 v1 ..` of n blocks, one value for each destination, where so many lines stand before
 abbrev pub values_of : ℕ → ℕ → ℕ → List (List ℕ) → Result (List ℤ) TextKind
@@ -285,19 +242,19 @@ limit_of resources periods fields =
 -- a line of the objective
 abbrev pub admit_values : ModelDraftView → List (List ℕ) → Result ModelDraftView TextKind
 admit_values d fields = do
-  values ← values_of d.blocks (count_in d.header.destinations) (length d.values) fields
+  values ← values_of d.blocks (count_in d.header key.Destinations) (length d.values) fields
   Ok (record d { values = d.values ++ values ∷ [] })
 
 -- a line of a coefficient, which comes after those before it
 abbrev pub admit_coef : ModelDraftView → List (List ℕ) → Result ModelDraftView TextKind
 admit_coef d fields = do
-  c ← coef_of d.problem d.blocks (count_in d.header.destinations) (count_in d.header.resources) fields
+  c ← coef_of d.problem d.blocks (count_in d.header key.Destinations) (count_in d.header key.Resources) fields
   if is_behind comes_before (last_of d.coefs) c then Ok (record d { coefs = d.coefs ++ c ∷ [] }) else Err Order
 
 -- a line of a limit, which comes after those before it
 abbrev pub admit_limit : ModelDraftView → List (List ℕ) → Result ModelDraftView TextKind
 admit_limit d fields = do
-  l ← limit_of (count_in d.header.resources) (count_in d.header.periods) fields
+  l ← limit_of (count_in d.header key.Resources) (count_in d.header key.Periods) fields
   if is_turned l.bound || not (is_behind stands_before (last_of d.limits) l) then Err Order
       else Ok (record d { limits = d.limits ++ l ∷ [] })
 
@@ -321,7 +278,7 @@ admit_model d line =
 -- the file once all lines are read: nothing of it is lacking
 abbrev pub finish_model : ℕ → ModelDraftView → Result ModelDraftView LineFault
 finish_model end d =
-    if is_complete d.name d.header && (length d.values == d.blocks) && is_limits d.section then Ok d
+    if is_complete d.header && (length d.values == d.blocks) && is_limits d.section then Ok d
     else Err (record { line = end; kind = Missing })
 
 -- what the model file of a problem states, of n blocks, or its first faulty line

@@ -1,8 +1,7 @@
 -- How the parts of a model file's lines are taken, and how a draft of it is seen. Only proofs and private contracts need it.
-use Rattle.std.specs.Prelude.{◌≡◌, ℕ, ◌&&◌, Bool, true, List, is_some, Result, Ok, Err}
+use Rattle.std.specs.Prelude.{◌≡◌, ℕ, ◌^◌, Bool, true, List, Result, Ok, Err}
 use Rattle.std.specs.Borrow.{Bor}
 use Rattle.pit_model.specs.Name.{is_name}
-use Rattle.minelib_text.specs.declared.model_key.Header.{Header}
 use Rattle.minelib_text.specs.declared.model_key.HeaderKey.{HeaderKey}
 use Rattle.minelib_text.specs.declared.model_key.HeaderKey.TheVariants as key
 use Rattle.minelib_text.specs.declared.text_fault.TextKind.{TextKind}
@@ -17,18 +16,12 @@ abbrev pub TakesFirst : {A : Type 0} → Result A TextKind → List (List ℕ) �
 TakesFirst (Ok x) behind stated = stated ≡ Ok (x, behind)
 TakesFirst (Err kind) behind stated = stated ≡ Err kind
 
--- all header keys but the NAME stood
-abbrev pub are_given : Header → Bool
-are_given h =
-    h.is_typed && h.is_counted && h.is_general && is_some h.periods && is_some h.destinations && is_some h.resources && is_some h.rate
-
 -- the value is a NAME, where the key asks for one
 abbrev pub is_name_for : HeaderKey → List ℕ → Bool
 is_name_for key.Name value = is_name value
-is_name_for key.Type value = true
-is_name_for key.Blocks value = true
-is_name_for key.Periods value = true
-is_name_for key.Destinations value = true
-is_name_for key.Resources value = true
-is_name_for key.General value = true
-is_name_for key.Rate value = true
+is_name_for k value = true
+
+-- no number of a key reaches this: all but the rate fit a byte
+abbrev pub number_limit : HeaderKey → ℕ
+number_limit key.Rate = 2 ^ 32
+number_limit k = 256

@@ -6,7 +6,8 @@ use Rattle.pit_model.specs.Name.{is_name}
 use Rattle.pit_model.specs.declared.limit.Limit.{Limit}
 use Rattle.pit_model.specs.declared.ranges.TheConstants.{MAX_BLOCKS, MAX_DESTINATIONS, MAX_PERIODS, MAX_RESOURCES}
 use Rattle.mine_instance.specs.declared.coef.Coef.{Coef}
-use Rattle.minelib_text.specs.ModelLines.{ModelDraftView, count_in, is_given, type_text}
+use Rattle.minelib_text.specs.HeaderKeys.{count_in, is_given, number_of}
+use Rattle.minelib_text.specs.ModelLines.{ModelDraftView, type_text}
 use Rattle.minelib_text.specs.SpelledFields.{StatesWhole, StatesSize}
 use Rattle.minelib_text.specs.SpelledItems.{IsValuesLine, IsCoefLine, IsLimitLine}
 use Rattle.minelib_text.specs.SpelledKeys.{IsKeyLine}
@@ -22,32 +23,31 @@ use Rattle.minelib_text.specs.declared.model_key.Problem.TheVariants.{Pcpsp, Cpi
 use Rattle.minelib_text.specs.declared.model_key.Section.{Section}
 use Rattle.minelib_text.specs.declared.model_key.Section.TheVariants.{Heading, Objective, Coefs, Limits}
 
--- a header key with this value states its part of the NAME and the header, of n blocks
-abbrev pub SaysKey : Problem → ℕ → HeaderKey → List ℕ → List ℕ → Header → Type 0
-SaysKey problem n key.Name value name h = (name ≡ value) × (is_name value ≡ true)
-SaysKey problem n key.Type value name h = value ≡ type_text problem
-SaysKey problem n key.Blocks value name h = StatesWhole (MAX_BLOCKS + 1) value n
-SaysKey problem n key.Periods value name h = (periods : ℕ) × (h.periods ≡ Some periods)
-    × StatesWhole (MAX_PERIODS + 1) value periods × (1 ≤ periods)
-SaysKey problem n key.Destinations value name h =
-    (destinations : ℕ) × (h.destinations ≡ Some destinations) × StatesWhole (MAX_DESTINATIONS + 1) value destinations
-    × (1 ≤ destinations)
-SaysKey problem n key.Resources value name h = (resources : ℕ) × (h.resources ≡ Some resources)
-    × StatesWhole (MAX_RESOURCES + 1) value resources
-SaysKey problem n key.General value name h = StatesWhole 1 value 0
-SaysKey problem n key.Rate value name h = (rate : ℕ) × (h.rate ≡ Some rate)
-    × StatesSize 6 (10 ^ 6) value rate
+-- a header key with this value states this number, of n blocks
+abbrev pub SaysKey : Problem → ℕ → HeaderKey → List ℕ → ℕ → Type 0
+SaysKey problem n key.Name value number = is_name value ≡ true
+SaysKey problem n key.Type value number = value ≡ type_text problem
+SaysKey problem n key.Blocks value number = StatesWhole (MAX_BLOCKS + 1) value n
+SaysKey problem n key.Periods value number = StatesWhole (MAX_PERIODS + 1) value number × (1 ≤ number)
+SaysKey problem n key.Destinations value number = StatesWhole (MAX_DESTINATIONS + 1) value number × (1 ≤ number)
+SaysKey problem n key.Resources value number = StatesWhole (MAX_RESOURCES + 1) value number
+SaysKey problem n key.General value number = StatesWhole 1 value 0
+SaysKey problem n key.Rate value number = StatesSize 6 (10 ^ 6) value number
 
--- a key that was given, and what its line stated
-abbrev pub Stated : Problem → ℕ → HeaderKey → List ℕ → List ℕ → Header → Type 0
-Stated problem n k value name h = SaysKey problem n k value name h × (is_given k name h ≡ true)
+-- the NAME is the value of its key
+abbrev pub IsNameOf : HeaderKey → List ℕ → List ℕ → Type 0
+IsNameOf key.Name value name = name ≡ value
+IsNameOf k value name = Unit {0}
 
--- the line of a key that was given
+-- the line of a key that was given, and what it stated
 pub record KeyLine (problem : Problem) (n : ℕ) (name : List ℕ) (h : Header) (line : List ℕ)
     (k : HeaderKey) : Type 0 where
   pub value : List ℕ
   pub is_key : IsKeyLine problem line (model_key.Header k) (value ∷ [])
-  pub stated : Stated problem n k value name h
+  pub number : ℕ
+  pub says : SaysKey problem n k value number
+  pub kept : number_of h k ≡ Some number
+  pub name_kept : IsNameOf k value name
 
 -- the header's lines so far: one for each key that is given
 pub record Heads (problem : Problem) (n : ℕ) (name : List ℕ) (h : Header)
@@ -55,7 +55,7 @@ pub record Heads (problem : Problem) (n : ℕ) (name : List ℕ) (h : Header)
   pub keys : List HeaderKey
   pub spelled : AreLines (λ _ line k. KeyLine problem n name h line k) 0 lines keys
   pub once : AllPairs (λ k m. k ≢ m) keys
-  pub all : (k : HeaderKey) → has_key problem k ≡ true → is_given k name h ≡ true → Contains keys k
+  pub all : (k : HeaderKey) → has_key problem k ≡ true → is_given k h ≡ true → Contains keys k
 
 -- the lines of a section so far: those before it, the line that begins it, and one for each item
 pub record Part {A : Type 0} (Before : List Line → Type 0) (problem : Problem) (section : Section)
@@ -72,16 +72,16 @@ pub record Part {A : Type 0} (Before : List Line → Type 0) (problem : Problem)
 -- how a line spells a block's values, a coefficient and a limit
 abbrev pub SpellsValues : ModelDraftView → ℕ → List ℕ → List ℤ → Type 0
 SpellsValues d block line vs =
-    IsValuesLine d.blocks (count_in d.header.destinations) block (fields_of line) vs
+    IsValuesLine d.blocks (count_in d.header key.Destinations) block (fields_of line) vs
 
 abbrev pub SpellsCoef : ModelDraftView → ℕ → List ℕ → Coef → Type 0
 SpellsCoef d n line c =
-    IsCoefLine d.problem d.blocks (count_in d.header.destinations) (count_in d.header.resources)
+    IsCoefLine d.problem d.blocks (count_in d.header key.Destinations) (count_in d.header key.Resources)
     (fields_of line) c
 
 abbrev pub SpellsLimit : ModelDraftView → ℕ → List ℕ → Limit → Type 0
 SpellsLimit d n line l =
-    IsLimitLine (count_in d.header.resources) (count_in d.header.periods) (fields_of line) l
+    IsLimitLine (count_in d.header key.Resources) (count_in d.header key.Periods) (fields_of line) l
 
 -- the lines so far, in the header and in each section
 abbrev pub InHeading : ModelDraftView → List Line → Type 0
@@ -106,7 +106,7 @@ At Limits d done = InLimits d done
 -- a CPIT has one destination and no general side constraints, without keys for them
 abbrev pub HasOwn : Problem → Header → Type 0
 HasOwn Pcpsp h = Unit {0}
-HasOwn Cpit h = (h.destinations ≡ Some 1) × (h.is_general ≡ true)
+HasOwn Cpit h = (number_of h key.Destinations ≡ Some 1) × (is_given key.General h ≡ true)
 
 -- the lines spell what is stated so far, of n blocks
 abbrev pub SpellSoFar : Problem → ℕ → List Line → ModelDraftView → Type 0

@@ -5,7 +5,9 @@ use Rattle.mine_instance.specs.Cpit.{CpitParts}
 use Rattle.mine_instance.specs.declared.coef.Coef.{Coef}
 use Rattle.mine_instance.specs.declared.cpit.CpitCoef.{CpitCoef}
 use Rattle.mine_instance.specs.declared.instance.Instance.{Instance}
-use Rattle.minelib_text.specs.ModelLines.{ModelDraftView, count_in}
+use Rattle.minelib_text.specs.HeaderKeys.{count_in}
+use Rattle.minelib_text.specs.ModelLines.{ModelDraftView}
+use Rattle.minelib_text.specs.declared.model_key.HeaderKey.TheVariants as key
 
 pub record StatedModel : Type 0 where
   pub name : List ℕ
@@ -23,10 +25,10 @@ pub record StatedModel : Type 0 where
 abbrev pub stated_by : ModelDraftView → StatedModel
 stated_by d = record {
   name = d.name;
-  periods = count_in d.header.periods;
-  destinations = count_in d.header.destinations;
-  resources = count_in d.header.resources;
-  rate = pos (count_in d.header.rate);
+  periods = count_in d.header key.Periods;
+  destinations = count_in d.header key.Destinations;
+  resources = count_in d.header key.Resources;
+  rate = pos (count_in d.header key.Rate);
   values = d.values;
   coefs = d.coefs;
   limits = d.limits;

@@ -1,19 +1,22 @@
 //! A model file while its lines are read.
 
-ghost use Rattle.std.specs.Prelude.{◌≡◌, ◌≤◌, ◌<◌, ◌==◌, ◌&&◌, ◌++◌, ◌∷◌, if◌then◌else◌, Ok, Err, [], true, false, not, length, map, is_some, unwrap_or, IfOk, IfSome};
+ghost use Rattle.std.specs.Prelude.{◌≡◌, ◌≤◌, ◌==◌, ◌&&◌, ◌++◌, ◌∷◌, if◌then◌else◌, Ok, Err, [], true, false, length, map, unwrap_or, IfOk};
 ghost use Rattle.mine_instance.specs.Cpit.{IsCpit};
 ghost use Rattle.mine_instance.specs.OfCpit.{without_destination};
 ghost use Rattle.minelib_text.specs.Denotes.{cpit_read, instance_read};
-ghost use Rattle.minelib_text.specs.ModelLines.{admit_coef, admit_header, admit_item, admit_key, admit_limit, admit_model, admit_section, admit_values, blank_model, finish_model, is_complete, is_given, is_heading, is_behind, is_limits, is_ready, last_of, name_with};
+ghost use Rattle.minelib_text.specs.HeaderKeys.{count_in, is_complete};
+ghost use Rattle.minelib_text.specs.ModelLines.{admit_coef, admit_header, admit_item, admit_key, admit_limit, admit_model, admit_section, admit_values, blank_model, finish_model, is_heading, is_behind, is_limits, is_ready, last_of, name_with};
+ghost use Rattle.minelib_text.specs.ModelParts.{is_name_for};
 ghost use Rattle.mine_instance.specs.Order.{comes_before};
+ghost use Rattle.minelib_text.specs.declared.model_key.HeaderKey.TheVariants as key;
 ghost use Rattle.minelib_text.specs.declared.model_key.Section.TheVariants as Section;
 ghost use Rattle.minelib_text.specs.declared.text_fault.TextKind.TheVariants as TextKind;
-ghost use Rattle.minelib_text.specs.ModelParts.{are_given, is_name_for};
 ghost use Rattle.minelib_text.specs.Reading.{Admits, Gives};
 ghost use Rattle.minelib_text.specs.TextLines.{fields_of};
+ghost use Rattle.pit_model.specs.Name.{is_name};
 ghost use Rattle.pit_model.specs.declared.ranges.TheConstants.{MAX_BLOCKS};
 
-use crate::model_header::{blank_header, header_with};
+use crate::model_header::{blank_header, number_in};
 use crate::model_items::{
     coef_alone, coef_of, is_coef_behind, is_limit_behind, limit_of, values_alone, values_in,
 };
@@ -98,8 +101,7 @@ impl ModelDraft {
 
     /// The draft, once all lines are read and `end` is the number of the line after the last.
     pub fn finish(self, end: u64) -> Result<ModelDraft, FileError>
-        ensures value { Gives result (finish_model end self) }
-        ensures complete { IfOk result (λ d. is_complete d.name d.header ≡ true) }
+        ensures { Gives result (finish_model end self) }
     {
         if self.is_whole() {
             Ok(self)
@@ -113,16 +115,19 @@ impl ModelDraft {
 
     /// The instance of this file, and of blocks and predecessors.
     pub fn into_instance(self, blocks: Blocks, preds: Preds) -> Instance
-        requires { is_complete self.name self.header ≡ true }
+        requires { is_name self.name ≡ true }
         ensures { result ≡ instance_read blocks preds self }
     {
-        let rate = self.header.rate.unwrap_or(0);
+        let rate = self.header.count(HeaderKey::Rate);
+        let periods = self.periods();
+        let destinations = self.destinations();
+        let resources = self.resources();
         Instance {
             name: self.name.unwrap(),
             rate: Dec::new(i128::from(rate)).unwrap(),
-            periods: self.header.periods.unwrap_or(0),
-            destinations: self.header.destinations.unwrap_or(0),
-            resources: self.header.resources.unwrap_or(0),
+            periods,
+            destinations,
+            resources,
             blocks,
             preds,
             values: self.values,
@@ -133,17 +138,19 @@ impl ModelDraft {
 
     /// The CPIT of this file. Fails only where memory is refused.
     pub fn into_cpit(self) -> Result<Cpit, AllocError>
-        requires complete { is_complete self.name self.header ≡ true }
+        requires name { is_name self.name ≡ true }
         requires cpit { IsCpit (cpit_read self) }
         ensures { IfOk result (λ cpit. cpit ≡ cpit_read self) }
     {
         let coefs = without_destinations(self.alloc, self.coefs.as_slice())?;
-        let rate = self.header.rate.unwrap_or(0);
+        let rate = self.header.count(HeaderKey::Rate);
+        let periods = self.periods();
+        let resources = self.resources();
         Ok(Cpit::new(
             self.name.unwrap(),
             Dec::new(i128::from(rate)).unwrap(),
-            self.header.periods.unwrap_or(0),
-            self.header.resources.unwrap_or(0),
+            periods,
+            resources,
             self.values.into_flat(),
             coefs,
             self.limits,
@@ -151,9 +158,9 @@ impl ModelDraft {
     }
 
     fn is_whole(&self) -> bool
-        ensures { result ≡ (is_complete self.now.name self.now.header && (length self.now.values == self.now.blocks) && is_limits self.now.section) }
+        ensures { result ≡ (is_complete self.now.header && (length self.now.values == self.now.blocks) && is_limits self.now.section) }
     {
-        self.is_complete() && self.values.len() == self.blocks && is_limits(self.section)
+        self.header.is_complete() && self.values.len() == self.blocks && is_limits(self.section)
     }
 
     #[inline(never)]
@@ -173,7 +180,7 @@ impl ModelDraft {
         requires { self.old.section ≡ Section.Objective }
         ensures { Admits self.new result (admit_model self.old line.now) }
     {
-        let destinations = self.header.destinations.unwrap_or(0);
+        let destinations = self.destinations();
         let before = self.values.len();
         match values_alone(self.blocks, destinations, before, line, &mut self.row) {
             Ok(()) => {
@@ -190,8 +197,8 @@ impl ModelDraft {
         requires { self.old.section ≡ Section.Coefs }
         ensures { Admits self.new result (admit_model self.old line.now) }
     {
-        let destinations = self.header.destinations.unwrap_or(0);
-        let resources = self.header.resources.unwrap_or(0);
+        let destinations = self.destinations();
+        let resources = self.resources();
         match coef_alone(self.problem, self.blocks, destinations, resources, line) {
             Ok(coef) => self.add_coef(coef),
             Err(_) => self.admit_any(line),
@@ -226,14 +233,13 @@ impl ModelDraft {
         if !is_heading(self.section) {
             return Err(LineError::Faulty(TextKind::Key));
         }
-        if self.is_given(key) {
+        if self.header.is_given(key) {
             return Err(LineError::Faulty(TextKind::Twice));
         }
         let value = only_value(values)?;
-        let header = header_with(self.problem, self.blocks, key, value, self.header)?;
-        let name = name_with(self.alloc, key, value, self.name.take())?;
-        self.header = header;
-        self.name = name;
+        let number = number_in(self.problem, self.blocks, key, value)?;
+        self.name = name_with(self.alloc, key, value, self.name.take())?;
+        self.header = self.header.with(key, number as u32);
         Ok(())
     }
 
@@ -268,7 +274,7 @@ impl ModelDraft {
         requires { is_heading self.old.section ≡ false }
         ensures { Admits self.new result (admit_values self.old (fields_of line.now)) }
     {
-        let destinations = self.header.destinations.unwrap_or(0);
+        let destinations = self.destinations();
         let before = self.values.len();
         values_in(self.blocks, destinations, before, line, &mut self.row)?;
         self.values.push(self.row.as_slice())?;
@@ -279,8 +285,8 @@ impl ModelDraft {
         requires { is_heading self.old.section ≡ false }
         ensures { Admits self.new result (admit_coef self.old (fields_of line.now)) }
     {
-        let destinations = self.header.destinations.unwrap_or(0);
-        let resources = self.header.resources.unwrap_or(0);
+        let destinations = self.destinations();
+        let resources = self.resources();
         let coef = coef_of(self.problem, self.blocks, destinations, resources, line)?;
         self.add_coef(coef)
     }
@@ -288,8 +294,8 @@ impl ModelDraft {
     fn admit_limit(&mut self, line: &[u8]) -> Result<(), LineError>
         ensures { Admits self.new result (admit_limit self.old (fields_of line.now)) }
     {
-        let resources = self.header.resources.unwrap_or(0);
-        let periods = self.header.periods.unwrap_or(0);
+        let resources = self.resources();
+        let periods = self.periods();
         let limit = limit_of(resources, periods, line)?;
         if limit.bound.is_turned() || !is_limit_behind(self.limits.as_slice(), &limit) {
             return Err(LineError::Faulty(TextKind::Order));
@@ -298,33 +304,25 @@ impl ModelDraft {
         Ok(())
     }
 
-    fn is_named(&self) -> bool
-        ensures { result ≡ not (length self.now.name == 0) }
+    #[inline]
+    fn periods(&self) -> u8
+        ensures { result ≡ count_in self.now.header key.Periods }
     {
-        self.name.is_some()
+        self.header.count(HeaderKey::Periods) as u8
     }
 
-    // Whether the header key stood before.
-    fn is_given(&self, key: HeaderKey) -> bool
-        ensures { result ≡ is_given key self.now.name self.now.header }
+    #[inline]
+    fn destinations(&self) -> u8
+        ensures { result ≡ count_in self.now.header key.Destinations }
     {
-        match key {
-            HeaderKey::Name => self.is_named(),
-            HeaderKey::Type => self.header.is_typed,
-            HeaderKey::Blocks => self.header.is_counted,
-            HeaderKey::Periods => self.header.periods.is_some(),
-            HeaderKey::Destinations => self.header.destinations.is_some(),
-            HeaderKey::Resources => self.header.resources.is_some(),
-            HeaderKey::General => self.header.is_general,
-            HeaderKey::Rate => self.header.rate.is_some(),
-        }
+        self.header.count(HeaderKey::Destinations) as u8
     }
 
-    // Whether all header keys stood.
-    fn is_complete(&self) -> bool
-        ensures { result ≡ is_complete self.now.name self.now.header }
+    #[inline]
+    fn resources(&self) -> u8
+        ensures { result ≡ count_in self.now.header key.Resources }
     {
-        self.is_named() && are_given(&self.header)
+        self.header.count(HeaderKey::Resources) as u8
     }
 
     // Whether all that has to stand before the next section does.
@@ -332,7 +330,7 @@ impl ModelDraft {
         ensures { result ≡ is_ready self.now self.now.section }
     {
         match self.section {
-            Section::Heading => self.is_complete(),
+            Section::Heading => self.header.is_complete(),
             Section::Objective => self.values.len() == self.blocks,
             Section::Coefs => true,
             Section::Limits => true,
@@ -352,39 +350,18 @@ fn without_destinations(alloc: Global, coefs: &[Coef]) -> Result<Vec<CpitCoef>, 
     Ok(of_cpit)
 }
 
-fn are_given(header: &Header) -> bool
-    ensures { result ≡ are_given header.now }
-{
-    header.is_typed
-        && header.is_counted
-        && header.is_general
-        && header.periods.is_some()
-        && header.destinations.is_some()
-        && header.resources.is_some()
-        && header.rate.is_some()
-}
-
 // The NAME after a header key with this value.
-#[tactic(auto, using(crate::proofs::ModelFacts::names_have_bytes))]
 fn name_with(
     alloc: Global,
     key: HeaderKey,
     value: &[u8],
     name: Option<Name>,
 ) -> Result<Option<Name>, AllocError>
-    requires fits { is_name_for key value.now ≡ true }
-    requires some { IfSome name (λ bytes. 0 < length bytes) }
-    ensures value { IfOk result (λ named. unwrap_or named [] ≡ name_with key value.now (unwrap_or name [])) }
-    ensures some { IfOk result (λ named. IfSome named (λ bytes. 0 < length bytes)) }
+    requires { is_name_for key value.now ≡ true }
+    ensures { IfOk result (λ named. unwrap_or named [] ≡ name_with key value.now (unwrap_or name [])) }
 {
     match key {
         HeaderKey::Name => Name::read(alloc, value),
-        HeaderKey::Type => Ok(name),
-        HeaderKey::Blocks => Ok(name),
-        HeaderKey::Periods => Ok(name),
-        HeaderKey::Destinations => Ok(name),
-        HeaderKey::Resources => Ok(name),
-        HeaderKey::General => Ok(name),
-        HeaderKey::Rate => Ok(name),
+        _ => Ok(name),
     }
 }

@@ -1,10 +1,8 @@
 //! The header of a model file that is read.
 
-ghost use Rattle.std.specs.Prelude.{◌≡◌, ◌≤◌, ◌<◌, true, IfOk};
-ghost use Rattle.std.specs.Str.{bytes_eq};
-ghost use Rattle.pit_model.specs.Name.{is_name};
-ghost use Rattle.minelib_text.specs.ModelLines.{blank_header, counted_in, header_with, type_text};
-ghost use Rattle.minelib_text.specs.ModelParts.{is_name_for};
+ghost use Rattle.std.specs.Prelude.{◌≡◌, ◌<◌, if◌then◌else◌, Ok, Err, true, IfOk};
+ghost use Rattle.minelib_text.specs.ModelLines.{blank_header, counted_in, number_in, type_text};
+ghost use Rattle.minelib_text.specs.ModelParts.{is_name_for, number_limit};
 
 use crate::field_values::{size_in, whole_in};
 use crate::model_key::{Header, HeaderKey, Problem};
@@ -17,73 +15,47 @@ use pit_model::ranges::{MAX_BLOCKS, MAX_DESTINATIONS, MAX_PERIODS, MAX_RATE, MAX
 pub fn blank_header(problem: Problem) -> Header
     ensures { result ≡ blank_header problem }
 {
+    let blank = Header::blank();
     match problem {
-        Problem::Pcpsp => Header {
-            is_typed: false,
-            is_counted: false,
-            is_general: false,
-            periods: None,
-            destinations: None,
-            resources: None,
-            rate: None,
-        },
-        Problem::Cpit => Header {
-            is_typed: false,
-            is_counted: false,
-            is_general: true,
-            periods: None,
-            destinations: Some(1),
-            resources: None,
-            rate: None,
-        },
+        Problem::Pcpsp => blank,
+        Problem::Cpit => blank
+            .with(HeaderKey::Destinations, 1)
+            .with(HeaderKey::General, 0),
     }
 }
 
-/// What a header key with this value states, of so many blocks, after what stood before it.
-pub fn header_with(
+/// The number that a header key with this value states, of so many blocks: 0 where it states no
+/// more than that it stands.
+pub fn number_in(
     problem: Problem,
     blocks: usize,
     key: HeaderKey,
     value: &[u8],
-    header: Header,
-) -> Result<Header, TextKind>
-    ensures value { result ≡ header_with problem blocks key value.now header }
+) -> Result<u64, TextKind>
+    ensures value { result ≡ number_in problem blocks key value.now }
     ensures name { IfOk result (λ _. is_name_for key value.now ≡ true) }
+    ensures below { IfOk result (λ n. n < number_limit key) }
 {
     match key {
-        HeaderKey::Name => with_name(value, header),
-        HeaderKey::Type => with_type(problem, value, header),
-        HeaderKey::Blocks => with_blocks(blocks, value, header),
-        HeaderKey::Periods => with_periods(value, header),
-        HeaderKey::Destinations => with_destinations(value, header),
-        HeaderKey::Resources => with_resources(value, header),
-        HeaderKey::General => with_general(value, header),
-        HeaderKey::Rate => with_rate(value, header),
+        HeaderKey::Name => stands_if(is_name(value), TextKind::Name),
+        HeaderKey::Type => stands_if(is_word(value, type_text(problem)), TextKind::Name),
+        HeaderKey::Blocks => {
+            let stated = whole_in(value, MAX_BLOCKS as u64 + 1)?;
+            stands_if(stated == blocks as u64, TextKind::Count)
+        }
+        HeaderKey::Periods => counted_in(value, u64::from(MAX_PERIODS) + 1),
+        HeaderKey::Destinations => counted_in(value, u64::from(MAX_DESTINATIONS) + 1),
+        HeaderKey::Resources => whole_in(value, u64::from(MAX_RESOURCES) + 1),
+        HeaderKey::General => whole_in(value, 1),
+        HeaderKey::Rate => size_in(value, 6, MAX_RATE as u64),
     }
 }
 
-fn with_name(value: &[u8], header: Header) -> Result<Header, TextKind>
-    ensures value { result ≡ header_with Problem.Pcpsp 0 HeaderKey.Name value.now header }
-    ensures name { IfOk result (λ _. is_name value.now ≡ true) }
+// The number of a key whose value only has to pass a test.
+fn stands_if(passes: bool, kind: TextKind) -> Result<u64, TextKind>
+    ensures { result ≡ (if passes then Ok 0 else Err kind) }
 {
-    if is_name(value) {
-        Ok(header)
-    } else {
-        Err(TextKind::Name)
-    }
-}
-
-fn with_type(problem: Problem, value: &[u8], header: Header) -> Result<Header, TextKind>
-    ensures { result ≡ header_with problem 0 HeaderKey.Type value.now header }
-{
-    if is_word(value, type_text(problem)) {
-        Ok(Header {
-            is_typed: true,
-            ..header
-        })
-    } else {
-        Err(TextKind::Name)
-    }
+    if passes { Ok(0) } else { Err(kind) }
 }
 
 // How a TYPE names the problem.
@@ -94,69 +66,6 @@ fn type_text(problem: Problem) -> &'static [u8]
         Problem::Pcpsp => b"PCPSP",
         Problem::Cpit => b"CPIT",
     }
-}
-
-fn with_blocks(blocks: usize, value: &[u8], header: Header) -> Result<Header, TextKind>
-    ensures { result ≡ header_with Problem.Pcpsp blocks HeaderKey.Blocks value.now header }
-{
-    if whole_in(value, MAX_BLOCKS as u64 + 1)? == blocks as u64 {
-        Ok(Header {
-            is_counted: true,
-            ..header
-        })
-    } else {
-        Err(TextKind::Count)
-    }
-}
-
-fn with_periods(value: &[u8], header: Header) -> Result<Header, TextKind>
-    ensures { result ≡ header_with Problem.Pcpsp 0 HeaderKey.Periods value.now header }
-{
-    let periods = counted_in(value, u64::from(MAX_PERIODS) + 1)?;
-    Ok(Header {
-        periods: Some(periods as u8),
-        ..header
-    })
-}
-
-fn with_destinations(value: &[u8], header: Header) -> Result<Header, TextKind>
-    ensures { result ≡ header_with Problem.Pcpsp 0 HeaderKey.Destinations value.now header }
-{
-    let destinations = counted_in(value, u64::from(MAX_DESTINATIONS) + 1)?;
-    Ok(Header {
-        destinations: Some(destinations as u8),
-        ..header
-    })
-}
-
-fn with_resources(value: &[u8], header: Header) -> Result<Header, TextKind>
-    ensures { result ≡ header_with Problem.Pcpsp 0 HeaderKey.Resources value.now header }
-{
-    let resources = whole_in(value, u64::from(MAX_RESOURCES) + 1)?;
-    Ok(Header {
-        resources: Some(resources as u8),
-        ..header
-    })
-}
-
-fn with_general(value: &[u8], header: Header) -> Result<Header, TextKind>
-    ensures { result ≡ header_with Problem.Pcpsp 0 HeaderKey.General value.now header }
-{
-    let _none = whole_in(value, 1)?;
-    Ok(Header {
-        is_general: true,
-        ..header
-    })
-}
-
-fn with_rate(value: &[u8], header: Header) -> Result<Header, TextKind>
-    ensures { result ≡ header_with Problem.Pcpsp 0 HeaderKey.Rate value.now header }
-{
-    let rate = size_in(value, 6, MAX_RATE as u64)?;
-    Ok(Header {
-        rate: Some(rate as u32),
-        ..header
-    })
 }
 
 // A number that is not 0, below a limit.

@@ -1,5 +1,8 @@
 //! The key lines of a model file.
 
+ghost use Rattle.std.specs.Prelude.{◌≡◌, ◌<◌};
+ghost use Rattle.minelib_text.specs.HeaderKeys.{count_in, is_complete, is_given, no_key, number_of, place, with_key};
+
 /// The problem that a model file states.
 #[derive(Clone, Copy, Debug, PartialEq, Eq)]
 pub enum Problem {
@@ -42,15 +45,93 @@ pub enum ModelKey {
     Section(Section),
 }
 
-/// What the header keys so far state, but for the NAME.
+/// The number that each header key so far states: 0 where it states no more than that it stands.
 #[derive(Clone, Copy, Debug, PartialEq, Eq)]
 pub struct Header {
-    pub is_typed: bool,
-    pub is_counted: bool,
-    pub is_general: bool,
-    pub periods: Option<u8>,
-    pub destinations: Option<u8>,
-    pub resources: Option<u8>,
-    /// The discount rate in millionths.
-    pub rate: Option<u32>,
+    // by the place of the key
+    numbers: [Option<u32>; 8],
+}
+
+impl Header {
+    /// Where no key stood.
+    pub fn blank() -> Header
+        ensures { result ≡ no_key }
+    {
+        Header { numbers: [None; 8] }
+    }
+
+    /// This header, and a key with this number.
+    pub fn with(mut self, key: HeaderKey, number: u32) -> Header
+        ensures { result ≡ with_key self key number }
+    {
+        put(&mut self.numbers, key, number);
+        self
+    }
+
+    // The number of a key that stood.
+    #[inline]
+    fn number(&self, key: HeaderKey) -> Option<u32>
+        ensures { result ≡ number_of self.now key }
+    {
+        self.numbers[place(key)]
+    }
+
+    /// The number of a key, or 0 before it stood.
+    #[inline]
+    pub fn count(&self, key: HeaderKey) -> u32
+        ensures { result ≡ count_in self.now key }
+    {
+        self.number(key).unwrap_or(0)
+    }
+
+    /// Whether a key stood before.
+    pub fn is_given(&self, key: HeaderKey) -> bool
+        ensures { result ≡ is_given key self.now }
+    {
+        self.number(key).is_some()
+    }
+
+    /// Whether all keys stood.
+    pub fn is_complete(&self) -> bool
+        ensures { result ≡ is_complete self.now }
+    {
+        HEADER_KEYS.iter().all(|key| self.is_given(*key))
+    }
+}
+
+// All keys, in the order of their places.
+const HEADER_KEYS: [HeaderKey; 8] = [
+    HeaderKey::Name,
+    HeaderKey::Type,
+    HeaderKey::Blocks,
+    HeaderKey::Periods,
+    HeaderKey::Destinations,
+    HeaderKey::Resources,
+    HeaderKey::General,
+    HeaderKey::Rate,
+];
+
+// Keeps the number of a key at its place.
+fn put(numbers: &mut [Option<u32>; 8], key: HeaderKey, number: u32)
+    ensures { record { numbers = numbers.new } ≡ with_key (record { numbers = numbers.old }) key number }
+{
+    numbers[place(key)] = Some(number);
+}
+
+// The place of a key among all.
+#[inline]
+fn place(key: HeaderKey) -> usize
+    ensures value { result ≡ place key }
+    ensures below { result < 8 }
+{
+    match key {
+        HeaderKey::Name => 0,
+        HeaderKey::Type => 1,
+        HeaderKey::Blocks => 2,
+        HeaderKey::Periods => 3,
+        HeaderKey::Destinations => 4,
+        HeaderKey::Resources => 5,
+        HeaderKey::General => 6,
+        HeaderKey::Rate => 7,
+    }
 }

@@ -1,7 +1,7 @@
 //! Reading a model file.
 
-ghost use Rattle.std.specs.Prelude.{◌≡◌, ◌≤◌, true, IfOk};
-ghost use Rattle.minelib_text.specs.ModelLines.{is_complete, model_in};
+ghost use Rattle.std.specs.Prelude.{◌≤◌};
+ghost use Rattle.minelib_text.specs.ModelLines.{model_in};
 ghost use Rattle.minelib_text.specs.Reading.{Gives};
 ghost use Rattle.pit_model.specs.declared.ranges.TheConstants.{MAX_BLOCKS};
 
@@ -19,8 +19,7 @@ pub fn read_model(
     text: &[u8],
 ) -> Result<ModelDraft, FileError>
     requires { blocks ≤ MAX_BLOCKS }
-    ensures value { Gives result (model_in problem blocks text.now) }
-    ensures complete { IfOk result (λ d. is_complete d.name d.header ≡ true) }
+    ensures { Gives result (model_in problem blocks text.now) }
 {
     let mut draft = ModelDraft::new(alloc, problem, blocks);
     let end = read_lines(&mut draft, text)?;
