@@ -1,17 +1,17 @@
 ghost use Rattle.std.specs.Prelude.{IfOk};
 ghost use Rattle.mine_instance.specs.Valid.{IsValid};
 
-use minelib_text::mem_sink::MemSink;
-use minelib_text::section_sink::SectionSink;
-use minelib_text::sink::Sink;
-use minelib_text::write_fault::WriteFault;
-use minelib_text::{write_blocks, write_cpit, write_pcpsp, write_prec, write_upit};
 use mine_instance::blocks::Blocks;
 use mine_instance::coef::{Coef, Coefs};
 use mine_instance::instance::Instance;
 use mine_instance::limits::Limits;
 use mine_instance::values::Values;
 use mine_instance::{build_cpit, is_valid};
+use minelib_text::mem_sink::MemSink;
+use minelib_text::section_sink::SectionSink;
+use minelib_text::sink::Sink;
+use minelib_text::write_fault::WriteFault;
+use minelib_text::{write_blocks, write_cpit, write_pcpsp, write_prec, write_upit};
 use pit_model::block::Block;
 use pit_model::limit::{Bound, Limit};
 use pit_model::name::Name;
