@@ -1,5 +1,5 @@
 -- What a text begins with: digits, or a decimal.
-use Rattle.std.specs.Prelude.{◌≡◌, ◌⊎◌, ℕ, ◌*◌, ◌^◌, ◌<◌, ◌≤◌, ◌==◌, List, [], ◌∷◌, ◌++◌, length, drop, ℤ, true, Ok, if◌then◌else◌}
+use Rattle.std.specs.Prelude.{◌≡◌, ◌⊎◌, ℕ, ◌*◌, ◌^◌, ◌<◌, ◌≤◌, ◌==◌, List, [], ◌∷◌, ◌++◌, length, drop, min, ℤ, true, Ok, if◌then◌else◌}
 use Rattle.std.specs.Char.{is_ascii_digit}
 use Rattle.std.specs.List.{All, prefix_len}
 use Rattle.std.specs.Str.Parse.{digits_value, starts_with_minus}
@@ -25,6 +25,15 @@ past_minus text = if starts_with_minus text then drop 1 text else text
 abbrev pub past_point : List ℕ → List ℕ
 past_point [] = []
 past_point (c ∷ text) = if c == 46 then text else []
+
+-- what stands past the digits that a text begins with, 18 of them at most
+abbrev pub past_digits : List ℕ → List ℕ
+past_digits text = drop (min 18 (digits_ahead text)) text
+
+-- what stands past a point that the text begins with and the digits behind it, or all of the text
+abbrev pub past_fraction : List ℕ → List ℕ
+past_fraction [] = []
+past_fraction (c ∷ text) = if c == 46 then past_digits text else c ∷ text
 
 -- the text begins as most decimals are written, but for a minus: 1 to 12 digits, and behind a point no more than `max` of them
 pub record IsUsual (max : ℕ) (text : List ℕ) : Type 0 where

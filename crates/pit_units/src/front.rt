@@ -1,6 +1,6 @@
-ghost use Rattle.std.specs.Prelude.{◌≡◌, [], ◌∷◌, ◌++◌, ◌*◌, ◌^◌, ◌<◌, ◌≤◌, drop, min, if◌then◌else◌, IfSome, IsSome, pos};
+ghost use Rattle.std.specs.Prelude.{◌≡◌, [], ◌∷◌, ◌++◌, ◌*◌, ◌^◌, ◌<◌, ◌≤◌, if◌then◌else◌, IfSome, IsSome, MatchOption, pos};
 ghost use Rattle.pit_units.specs.Decimal.{signed};
-ghost use Rattle.pit_units.specs.Front.{digits_ahead, past_minus, BeginsWith, BeginsWithDecimals, BeginsWithDigits, BeginsWithSize, IsUsual};
+ghost use Rattle.pit_units.specs.Front.{digits_ahead, past_digits, past_fraction, past_minus, BeginsWith, BeginsWithDecimals, BeginsWithDigits, BeginsWithSize, IsUsual};
 
 // The most digits that are read at a text's front: their number is one of 64 bits.
 const MOST_DIGITS: usize = 18;
@@ -13,6 +13,7 @@ const MOST_UNITS: u64 = 1_000_000_000_000;
 #[inline(always)]
 pub fn front_whole(text: &[u8]) -> Option<(u64, &[u8])>
     ensures whole { IfSome result (λ x. BeginsWith 0 text.now (pos (x.0 * 10 ^ 6)) x.1.now) }
+    ensures rest { IfSome result (λ x. x.1.now ≡ past_digits text.now) }
     ensures taken { 0 < digits_ahead text.now → IsSome result }
 {
     let (number, rest) = front_digits(text);
@@ -29,6 +30,7 @@ pub fn front_whole(text: &[u8]) -> Option<(u64, &[u8])>
 pub fn front_dec(text: &[u8], max_decimals: u8) -> Option<(i64, &[u8])>
     requires { max_decimals ≤ 6 }
     ensures decimal { IfSome result (λ x. BeginsWith max_decimals text.now x.0 x.1.now) }
+    ensures rest { IfSome result (λ x. x.1.now ≡ past_fraction (past_digits (past_minus text.now))) }
     ensures taken { IsUsual max_decimals (past_minus text.now) → IsSome result }
 {
     let (negative, unsigned) = without_minus(text);
@@ -63,6 +65,7 @@ fn front_size(text: &[u8], max_decimals: u8) -> Option<(u64, &[u8])>
     requires { max_decimals ≤ 6 }
     ensures size { IfSome result (λ x. BeginsWithSize max_decimals text.now x.0 x.1.now) }
     ensures small { IfSome result (λ x. x.0 < 2 * 10 ^ 18) }
+    ensures rest { IfSome result (λ x. x.1.now ≡ past_fraction (past_digits text.now)) }
     ensures taken { IsUsual max_decimals text.now → IsSome result }
 {
     let (units, behind) = front_digits(text);
@@ -81,7 +84,7 @@ fn front_size(text: &[u8], max_decimals: u8) -> Option<(u64, &[u8])>
 // The text past the point that it begins with.
 #[inline(always)]
 fn behind_point(text: &[u8]) -> Option<&[u8]>
-    ensures { IfSome result (λ tail. text.now ≡ 46 ∷ tail.now) }
+    ensures { MatchOption result (past_fraction text.now ≡ text.now) (λ tail. text.now ≡ 46 ∷ tail.now) }
 {
     match text {
         [b'.', tail @ ..] => Some(tail),
@@ -94,6 +97,7 @@ fn behind_point(text: &[u8]) -> Option<&[u8]>
 fn front_decimals(text: &[u8], max_decimals: u8) -> Option<(u32, &[u8])>
     requires { max_decimals ≤ 6 }
     ensures decimals { IfSome result (λ x. BeginsWithDecimals max_decimals text.now x.0 x.1.now) }
+    ensures rest { IfSome result (λ x. x.1.now ≡ past_digits text.now) }
     ensures taken { digits_ahead text.now ≤ max_decimals → IsSome result }
 {
     let (number, rest) = front_digits(text);
@@ -125,7 +129,7 @@ fn scale(decimals: usize) -> u32
 #[inline(always)]
 fn front_digits(text: &[u8]) -> (u64, &[u8])
     ensures digits { BeginsWithDigits text.now result.0 result.1.now }
-    ensures most { result.1.now ≡ drop (min 18 (digits_ahead text.now)) text.now }
+    ensures rest { result.1.now ≡ past_digits text.now }
 {
     let mut number = 0;
     for (place, byte) in text.iter().enumerate() {

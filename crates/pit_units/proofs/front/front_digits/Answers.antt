@@ -23,8 +23,8 @@ loop-place-preserved c =
 pub returns-clause-digits : goal.returns-clause-digits
 returns-clause-digits c = digits_alone_there c.args.text.now c.loop-place.place c.loop-place.number (omega arith) c.loop-place.invariant
 
-pub returns-then-place-eq-MOST_DIGITS-clause-most : goal.returns-then-place-eq-MOST_DIGITS-clause-most
-returns-then-place-eq-MOST_DIGITS-clause-most c =
+pub returns-then-place-eq-MOST_DIGITS-clause-rest : goal.returns-then-place-eq-MOST_DIGITS-clause-rest
+returns-then-place-eq-MOST_DIGITS-clause-rest c =
     let so_far = c.loop-place.invariant in
     let most = most_digits c.args.text.now c.loop-place.place (omega arith) so_far.0 so_far.1.1.1 in
     behind_digits c.args.text.now c.loop-place.place (omega arith) (elim c.then-place-eq-MOST_DIGITS.branch [
@@ -32,8 +32,8 @@ returns-then-place-eq-MOST_DIGITS-clause-most c =
       | then-place-eq-MOST_DIGITS-via-else-place-eq-MOST_DIGITS+then-not-is_ascii_digit w ↦ most (inr (stops_there c.args.text.now c.loop-place.place (search rules)))
     ])
 
-pub returns-clause-most : goal.returns-clause-most
-returns-clause-most c =
+pub returns-clause-rest : goal.returns-clause-rest
+returns-clause-rest c =
     let so_far = c.loop-place.invariant in
     let ahead = prefix_len-le-length is_ascii_digit c.args.text.now in
     behind_all_digits c.args.text.now c.loop-place.place (omega arith) (most_digits c.args.text.now c.loop-place.place (omega arith) so_far.0 so_far.1.1.1 (inr (omega (arith, ahead))))

@@ -14,7 +14,7 @@ returns-in-None-clause-size c =
 
 pub returns-then-behind-text-clause-taken : goal.returns-then-behind-text-clause-taken
 returns-then-behind-text-clause-taken c = λ usual.
-    let taken = usual_is_taken c.args.max_decimals c.args.text.now c.front_digits-units.result.0 c.front_digits-units.result.1.now c.front_digits-units.ensures.digits c.front_digits-units.ensures.most usual in
+    let taken = usual_is_taken c.args.max_decimals c.args.text.now c.front_digits-units.result.0 c.front_digits-units.result.1.now c.front_digits-units.ensures.digits c.front_digits-units.ensures.rest usual in
     absurd (elim c.then-behind-text.branch [
       | then-behind-text-via-then-behind-text w ↦ omega (arith, taken)
       | then-behind-text-via-else-behind-text+then-units-gt-MOST_UNITS w ↦ omega (arith, taken)
@@ -22,6 +22,6 @@ returns-then-behind-text-clause-taken c = λ usual.
 
 pub returns-in_err-decimals-in-Some-clause-taken : goal.returns-in_err-decimals-in-Some-clause-taken
 returns-in_err-decimals-in-Some-clause-taken c = λ usual.
-    let coarse = usual_is_coarse c.args.max_decimals c.args.text.now c.front_digits-units.result.1.now c.in-Some.tail.now c.front_digits-units.ensures.most c.in-Some.ensures usual in
+    let coarse = usual_is_coarse c.args.max_decimals c.args.text.now c.front_digits-units.result.1.now c.in-Some.tail.now c.front_digits-units.ensures.rest c.in-Some.ensures usual in
     let none = c.in_err-decimals-in-Some.ensures.taken coarse in
     cc none
