@@ -130,6 +130,3 @@ fn are_in_range(bands: &[Band]) -> bool
 {
     bands.iter().all(|band| band.start <= MAX_GRADE && band.recovery <= MAX_RECOVERY)
 }
-
-#[cfg(test)]
-mod tests;

@@ -62,6 +62,3 @@ fn ask(valuer: &Valuer, block: Block) -> i128
 {
     valuer(block)
 }
-
-#[cfg(test)]
-mod tests;

@@ -46,6 +46,3 @@ fn fault(row: u32, kind: PlanFaultKind) -> ReadPlanError
 {
     ReadPlanError::Fault(PlanFault { row, kind })
 }
-
-#[cfg(test)]
-mod tests;

@@ -159,6 +159,3 @@ fn reader_of<R: Read>(alloc: Global, source: R) -> Reader<R>
         .flexible(true)
         .from_reader(alloc, source)
 }
-
-#[cfg(test)]
-mod tests;

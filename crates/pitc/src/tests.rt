@@ -5,5 +5,6 @@ mod job;
 pub mod models;
 mod pieces;
 mod pipe_form;
+mod plan;
 mod runs;
 mod texts;

@@ -1,14 +1,14 @@
-use crate::band::Band;
-use crate::cone::{Cone, Slope};
-use crate::formula::{Formula, NamedFormula};
-use crate::grid::{Axis, Grid};
-use crate::limit::Bound;
-use crate::plan::Plan;
-use crate::plan_fault::PlanFaultKind::{
+use pit_model::band::Band;
+use pit_model::cone::{Cone, Slope};
+use pit_model::formula::{Formula, NamedFormula};
+use pit_model::grid::{Axis, Grid};
+use pit_model::limit::Bound;
+use pit_model::plan::Plan;
+use pit_model::plan_fault::PlanFaultKind::{
     Key, Missing, Name, Number, Order, Range, TooFine, TooMany, Twice, Width,
 };
-use crate::plan_fault::{PlanFault, PlanFaultKind, ReadPlanError};
-use crate::plan_reader::read_plan;
+use pit_model::plan_fault::{PlanFault, PlanFaultKind, ReadPlanError};
+use pit_model::read_plan;
 use pit_units::Dec;
 use std::alloc::Global;
 use std::test::Fail;

@@ -1,5 +1,5 @@
-use super::RecordReader;
 use csv::ByteRecord;
+use pit_model::records::RecordReader;
 use std::alloc::Global;
 use std::io::Read;
 use std::process::Abort;

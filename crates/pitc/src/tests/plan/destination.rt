@@ -2,11 +2,11 @@ ghost use Rattle.std.specs.Prelude.{◌≡◌, ◌≤◌, ◌^◌};
 ghost use Rattle.pit_model.specs.Plan.{IsRuled};
 ghost use Rattle.pit_model.specs.Worth.{worth, mill, dump};
 
-use super::{Destination, Valuer};
-use crate::band::{Band, Bands};
-use crate::block::Block;
-use crate::formula::Formula;
-use crate::worth::{dump_worth, mill_worth};
+use pit_model::band::{Band, Bands};
+use pit_model::block::Block;
+use pit_model::destination::{Destination, Valuer};
+use pit_model::formula::Formula;
+use pit_model::worth::{dump_worth, mill_worth};
 use std::process::Abort;
 use std::test::Fail;
 

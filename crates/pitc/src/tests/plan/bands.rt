@@ -1,4 +1,4 @@
-use super::{Band, Bands};
+use pit_model::band::{Band, Bands};
 use std::alloc::{AllocError, Global};
 use std::process::Abort;
 use std::test::Fail;

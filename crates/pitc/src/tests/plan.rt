@@ -1,0 +1,6 @@
+//! The plan that is read: its records, and the formulas of its destinations.
+
+mod bands;
+mod destination;
+mod reader;
+mod records;
