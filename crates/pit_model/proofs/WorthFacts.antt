@@ -1,6 +1,6 @@
 -- Floors, and the ranges of worths.
 use Rattle.std.proofs.Common.{◌≡◌, ◌<◌, ◌≤◌, ℕ, zero, suc, add-one, ◌+◌, ◌*◌, ◌/◌, ◌^◌, List, [], ◌∷◌, Bool, true, false, cond, Option, Some, None, arith, sym, ap, nat_le, All}
-use Rattle.std.proofs.Math.Nat.{suc-mul, div-eq_of_lt-le}
+use Rattle.std.proofs.Math.Nat.{div-div-eq-div-mul, div-eq_of_lt-le, suc-mul}
 use Rattle.std.proofs.lemmas.Int.{ints}
 use Rattle.std.proofs.lemmas.Nat.{mul-le, div-add-mod', mod_below}
 use Rattle.std.specs.Prelude.{ℤ, pos, negsuc, ◌-ℤ◌, neg_ℤ, unsigned_abs}
@@ -35,6 +35,11 @@ floor_alone (negsuc q) (negsuc a) n some h =
     ap negsuc (quotient q a n (omega (arith, ints, h.1, suc-mul q n)) (omega (arith, ints, h.0, suc-mul q n)))
 floor_alone (pos q) (negsuc a) n some h = absurd (omega (arith, ints, h.0))
 floor_alone (negsuc q) (pos a) n some h = absurd (omega (arith, ints, h.1, suc-mul q n))
+
+-- a floor of a floor is one
+pub floor_twice : (z : ℤ) (m n : ℕ) → floor (floor z m) n ≡ floor z (m * n)
+floor_twice (pos a) m n = ap pos (div-div-eq-div-mul a m n)
+floor_twice (negsuc a) m n = ap negsuc (div-div-eq-div-mul a m n)
 
 -- a recovery is in range where each band is
 recovery_bound : (o : Option Band) (bands : List Band) (grade : ℕ) → option_map_or (λ b. b.recovery) o 0 ≤ 1000 → All IsBand bands

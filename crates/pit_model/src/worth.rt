@@ -1,7 +1,7 @@
 //! What a block is worth, in cents.
 
 ghost use Rattle.std.specs.Prelude.{◌≡◌, ◌≤◌, ◌*◌, ◌^◌};
-ghost use Rattle.pit_model.specs.Worth.{mill, leach, dump, IsWorth};
+ghost use Rattle.pit_model.specs.Worth.{mill, leach, dump, floor, IsWorth};
 ghost use Rattle.pit_model.specs.declared.ranges.TheConstants.{MAX_COST, MAX_PRICE, MAX_RECOVERY};
 
 use crate::band::Bands;
@@ -18,7 +18,7 @@ pub fn mill_worth(block: Block, recovery: u16, price: u64, cost: u64) -> i128
 {
     let earned = metal_value(block, recovery, price);
     let spent = processing_cost(block, cost);
-    (earned as i128 - spent as i128).div_euclid(1_000_000_000_000_000)
+    in_cents(earned as i128 - spent as i128)
 }
 
 /// The worth of a block on a heap leach: that of a mill with the recovery of the last band that begins at or below the block's grade, or 0
@@ -38,8 +38,21 @@ pub fn dump_worth(block: Block, cost: u64) -> i128
     ensures value { result ≡ dump block cost }
     ensures in_range { IsWorth result }
 {
-    let spent = i128::from(block.kg * cost);
-    (-spent).div_euclid(1000)
+    let spent = (block.kg * cost) as i64;
+    i128::from((-spent).div_euclid(1000))
+}
+
+// How many cents so many parts make, of which 10^15 make a cent, rounded down. Where their number has 64 bits once it is taken by 2^15, it is
+// divided as such.
+#[tactic(auto, using(crate::proofs::WorthFacts::floor_twice))]
+fn in_cents(parts: i128) -> i128
+    ensures { result ≡ floor parts (10 ^ 15) }
+{
+    let coarse = parts >> 15;
+    match i64::try_from(coarse) {
+        Ok(few) => i128::from(few.div_euclid(30_517_578_125)),
+        Err(_) => coarse.div_euclid(30_517_578_125),
+    }
 }
 
 // What the recovered metal of a block sells for, in parts of which 10^15 make a cent.
