@@ -6,7 +6,7 @@ ghost use Rattle.pit_model.specs.Destinations.{formulas_of_plan};
 ghost use Rattle.pit_model.specs.declared.block.Block.{Block};
 ghost use Rattle.pit_model.specs.Worth.{IsWorth};
 ghost use Rattle.precedence.specs.Cone.{preds as cone_lists};
-ghost use Rattle.precedence.specs.Identifier.{IsNumbering, blocks_of_rows};
+ghost use Rattle.precedence.specs.Identifier.{IsNumbering, NumberingView, blocks_of_rows};
 ghost use Rattle.valuers.specs.Valuing.{worths_by};
 ghost use Rattle.mine_instance.specs.OfModel.{instance, values_of, in_hundreds, covering, covered, coefs_of, block_coefs};
 ghost use Rattle.mine_instance.specs.Valid.{IsValid};
@@ -44,26 +44,27 @@ pub fn build(
     ensures valid { IfOk result IsValid }
 {
     let values = values_by_id(alloc, numbering, rows, plan)?;
-    build_with(alloc, numbering, preds, values, plan)
+    let blocks = Vec::from_slice(alloc, numbering.blocks())?;
+    build_with(alloc, blocks, preds, values, plan)
 }
 
-/// The instance of a model whose blocks have these predecessors and values. The rows that the values come from may be gone. Fails only
-/// where memory is refused.
+/// The instance of a model whose blocks, in the order of their identifiers, are these, with their predecessors and values. The rows that
+/// the values come from, and their numbering, may be gone. Fails only where memory is refused.
 pub fn build_with(
     alloc: Global,
-    numbering: &Numbering,
+    blocks: Vec<Block>,
     preds: Preds,
     values: Values,
     plan: &Plan,
 ) -> Result<Instance, AllocError>
-    requires preds { preds ≡ cone_lists plan.now numbering.now.blocks }
-    requires values { values ≡ map (values_of plan.now) numbering.now.blocks }
-    ensures value { (listed : List Block) → IsNumbering listed numbering.now
+    requires few { length blocks.items ≤ MAX_BLOCKS }
+    requires preds { preds ≡ cone_lists plan.now blocks.items }
+    requires values { values ≡ map (values_of plan.now) blocks.items }
+    ensures value { (listed : List Block) → (n : NumberingView) → IsNumbering listed n → n.blocks ≡ blocks.items
         → IfOk result (λ built. built ≡ instance plan.now listed) }
     ensures valid { IfOk result IsValid }
 {
     let name = plan.name().copy(alloc)?;
-    let blocks = Vec::from_slice(alloc, numbering.blocks())?;
     let pairs = covered_pairs(alloc, plan)?;
     let coefs = coefs_by_id(alloc, pairs.as_slice(), blocks.as_slice())?;
     let limits = Vec::from_slice(alloc, plan.limits())?;

@@ -1,6 +1,6 @@
 -- What a header has once a key with a number was added to it, key by key.
-use Rattle.std.specs.Prelude.{◌≡◌, ◌≢◌, ℕ, zero, suc, ◌<◌, ◌==◌, ◌⊎◌, Bool, true, false, not, List, ◌∷◌, length, map, Option, Some, None, unwrap_or, slice_index_or, if◌then◌else◌}
-use Rattle.std.specs.List.{Contains, range_with_len}
+use Rattle.std.specs.Prelude.{◌≡◌, ◌≢◌, ℕ, zero, suc, ◌<◌, ◌==◌, ◌⊎◌, Bool, true, false, not, List, ◌∷◌, length, map, Option, Some, None, is_some, unwrap_or, slice_index_or, if◌then◌else◌}
+use Rattle.std.specs.List.{Contains, list_all, range_with_len}
 use Rattle.std.proofs.Common.{refl, sym, ◌∙◌, ap, subst, arith, inl, inr, eq-eqb, set, get_or}
 use Rattle.std.proofs.Math.Path.{fun_ext}
 use Rattle.std.proofs.lemmas.Bool.{eqb-true}
@@ -84,6 +84,11 @@ key_set xs k n count =
   where
     at : ℕ → Option ℕ
     at i = get_or xs i None
+
+-- all keys stood where all of their numbers are there
+pub all_numbers : (xs : List (Option ℕ)) → length xs ≡ 8
+    → list_all (λ number. is_some number) xs ≡ is_complete (record { numbers = xs })
+all_numbers xs count = ap (λ ys. list_all (λ number. is_some number) ys) (fill_by_all (λ i. get_or xs i None) xs 8 None count (λ i h. refl))
 
 -- each key is among all
 pub each_key : (k : HeaderKey) → Contains header_keys k

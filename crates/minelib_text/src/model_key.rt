@@ -25,7 +25,7 @@ pub enum Section {
     Limits,
 }
 
-/// A key of the header.
+/// A key of the header. A header keeps the numbers of its keys in this order.
 #[derive(Clone, Copy, Debug, PartialEq, Eq)]
 pub enum HeaderKey {
     Name,
@@ -92,24 +92,13 @@ impl Header {
     }
 
     /// Whether all keys stood.
+    #[tactic(auto, using(crate::proofs::HeaderFacts::all_numbers))]
     pub fn is_complete(&self) -> bool
         ensures { result ≡ is_complete self.now }
     {
-        HEADER_KEYS.iter().all(|key| self.is_given(*key))
+        self.numbers.iter().all(|number| number.is_some())
     }
 }
-
-// All keys, in the order of their places.
-const HEADER_KEYS: [HeaderKey; 8] = [
-    HeaderKey::Name,
-    HeaderKey::Type,
-    HeaderKey::Blocks,
-    HeaderKey::Periods,
-    HeaderKey::Destinations,
-    HeaderKey::Resources,
-    HeaderKey::General,
-    HeaderKey::Rate,
-];
 
 // Keeps the number of a key at its place.
 fn put(numbers: &mut [Option<u32>; 8], key: HeaderKey, number: u32)
@@ -124,14 +113,5 @@ fn place(key: HeaderKey) -> usize
     ensures value { result ≡ place key }
     ensures below { result < 8 }
 {
-    match key {
-        HeaderKey::Name => 0,
-        HeaderKey::Type => 1,
-        HeaderKey::Blocks => 2,
-        HeaderKey::Periods => 3,
-        HeaderKey::Destinations => 4,
-        HeaderKey::Resources => 5,
-        HeaderKey::General => 6,
-        HeaderKey::Rate => 7,
-    }
+    key as usize
 }

@@ -29,5 +29,5 @@ pub fn instance_of(alloc: Global, rows: Vec<Valued>, plan: &Plan) -> Result<Inst
     let values = values_by_id(alloc, &numbering, rows.as_slice(), plan)?;
     drop(rows);
     let preds = preds(alloc, &numbering, plan)?;
-    Ok(build_with(alloc, &numbering, preds, values, plan)?)
+    Ok(build_with(alloc, numbering.into_blocks(), preds, values, plan)?)
 }

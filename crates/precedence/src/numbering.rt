@@ -72,4 +72,12 @@ impl Numbering {
     {
         self.blocks.as_slice()
     }
+
+    /// The blocks in the order of their identifiers; their positions are given up.
+    pub fn into_blocks(self) -> Vec<Block>
+        ensures value { result.items ≡ self.blocks }
+        ensures few { length self.blocks ≤ MAX_BLOCKS }
+    {
+        self.blocks
+    }
 }

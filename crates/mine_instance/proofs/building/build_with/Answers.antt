@@ -7,22 +7,24 @@ use Rattle.mine_instance.proofs.ModelFacts.{built_is, instance_is_valid}
 use Rattle.mine_instance.proofs.building.build_with.Goals as goal
 
 pub returns-clause-value : goal.returns-clause-value
-returns-clause-value c = λ listed numbered.
+returns-clause-value c = λ listed n numbered same.
     let plan = c.args.plan.now in
-    let coefs : c.new-2.result ≡ coefs_of (covered plan) c.args.numbering.now.blocks =
-    c.new-2.ensures ∙ (rw (c.as_slice.ensures.value, c.in_ok-pairs.ensures, c.as_slice-2.ensures.value, c.in_ok-blocks.ensures.items, c.blocks-2.ensures.value) at c.in_ok-coefs.ensures) in
-    built_is plan c.args.numbering.now.blocks _ _ _ _ _ _ _ _ _ _ (c.in_ok-name.ensures ∙ c.name.ensures.value) c.rate.ensures.value c.periods.ensures.value
-    (ap length c.formulas.ensures.value) (ap length c.resources.ensures.value) (c.new.ensures ∙ c.in_ok-blocks.ensures.items ∙ c.blocks-2.ensures.value) c.requires.preds
+    let blocks = c.args.blocks.items in
+    let coefs : c.new-2.result ≡ coefs_of (covered plan) blocks =
+    c.new-2.ensures ∙ (rw (c.as_slice.ensures.value, c.in_ok-pairs.ensures, c.as_slice-2.ensures.value) at c.in_ok-coefs.ensures) in
+    built_is plan blocks _ _ _ _ _ _ _ _ _ _ (c.in_ok-name.ensures ∙ c.name.ensures.value) c.rate.ensures.value c.periods.ensures.value
+    (ap length c.formulas.ensures.value) (ap length c.resources.ensures.value) c.new.ensures c.requires.preds
     c.requires.values coefs (c.new-3.ensures ∙ c.in_ok-limits.ensures.items ∙ c.limits.ensures.value)
-    ∙ ap (instance_of plan) (sym (by_identifier_is listed c.args.numbering.now numbered))
+    ∙ ap (instance_of plan) (sym (by_identifier_is listed n numbered ∙ same))
 
 pub returns-clause-valid : goal.returns-clause-valid
 returns-clause-valid c =
     let plan = c.args.plan.now in
-    let coefs : c.new-2.result ≡ coefs_of (covered plan) c.args.numbering.now.blocks =
-    c.new-2.ensures ∙ (rw (c.as_slice.ensures.value, c.in_ok-pairs.ensures, c.as_slice-2.ensures.value, c.in_ok-blocks.ensures.items, c.blocks-2.ensures.value) at c.in_ok-coefs.ensures) in
+    let blocks = c.args.blocks.items in
+    let coefs : c.new-2.result ≡ coefs_of (covered plan) blocks =
+    c.new-2.ensures ∙ (rw (c.as_slice.ensures.value, c.in_ok-pairs.ensures, c.as_slice-2.ensures.value) at c.in_ok-coefs.ensures) in
     let P : Instance → Type 0 = λ i. IsValid i in
-    subst P (sym (built_is plan c.args.numbering.now.blocks _ _ _ _ _ _ _ _ _ _ (c.in_ok-name.ensures ∙ c.name.ensures.value) c.rate.ensures.value c.periods.ensures.value
-    (ap length c.formulas.ensures.value) (ap length c.resources.ensures.value) (c.new.ensures ∙ c.in_ok-blocks.ensures.items ∙ c.blocks-2.ensures.value) c.requires.preds
+    subst P (sym (built_is plan blocks _ _ _ _ _ _ _ _ _ _ (c.in_ok-name.ensures ∙ c.name.ensures.value) c.rate.ensures.value c.periods.ensures.value
+    (ap length c.formulas.ensures.value) (ap length c.resources.ensures.value) c.new.ensures c.requires.preds
     c.requires.values coefs (c.new-3.ensures ∙ c.in_ok-limits.ensures.items ∙ c.limits.ensures.value)))
-    (instance_is_valid plan c.args.numbering.now.blocks c.rate.ensures.kept c.blocks-2.ensures.few)
+    (instance_is_valid plan blocks c.rate.ensures.kept c.requires.few)
