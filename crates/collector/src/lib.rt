@@ -7,10 +7,9 @@ mod collector;
 mod finish_fault;
 mod history;
 pub mod laws;
-mod rows;
 mod shelf;
 
 pub use add_fault::AddFault;
 pub use collector::Collector;
 pub use finish_fault::FinishFault;
-pub use rows::Rows;
+pub use valuers::Rows;

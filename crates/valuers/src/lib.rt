@@ -4,6 +4,8 @@
 mod gate;
 mod item;
 mod items;
+mod row_lists;
+mod rows;
 mod valuer;
 mod valuing;
 mod worths;
@@ -11,6 +13,8 @@ mod worths;
 pub use gate::{Gate, OpenGate};
 pub use item::{Item, Valued};
 pub use items::Items;
+pub use row_lists::RowLists;
+pub use rows::Rows;
 pub use valuer::{ValuerResult, value_all};
 pub use valuing::worths_of;
 pub use worths::Worths;

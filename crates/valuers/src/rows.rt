@@ -2,8 +2,8 @@
 
 ghost use Rattle.std.specs.Prelude.{◌≡◌};
 
+use crate::item::Valued;
 use std::marker::Model;
-use valuers::Valued;
 
 /// The rows of one file in order of place: the row of place 0, of place 1, and so on. Contracts see the list of them.
 #[derive(Debug, Drop)]
@@ -21,8 +21,8 @@ impl Model for Rows {
 }
 
 impl Rows {
-    // These rows, in their order.
-    pub(crate) fn new(rows: Vec<Valued>) -> Rows
+    /// These rows, in their order.
+    pub fn new(rows: Vec<Valued>) -> Rows
         ensures { result ≡ rows.items }
     {
         Rows { rows }

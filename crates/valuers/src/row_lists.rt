@@ -1,0 +1,89 @@
+//! The rows of several files as one list.
+
+ghost use Rattle.std.specs.Prelude.{◌≡◌, ◌<◌, ◌++◌, List, length, map, slice_index_or, IfOk, OnOk};
+ghost use Rattle.std.specs.List.{flat_map};
+
+use crate::item::Valued;
+use crate::rows::Rows;
+use pit_model::block::Block;
+use std::alloc::{AllocError, Global};
+use std::marker::Model;
+
+/// The rows of several files, which are not copied. Contracts see them as one list: the rows of each file behind those of the file
+/// before it.
+#[derive(Debug, Drop)]
+pub struct RowLists {
+    lists: Vec<Rows>,
+}
+
+impl Model for RowLists {
+    ghost use Rattle.std.specs.Prelude.{List};
+    ghost use Rattle.std.specs.List.{flat_map};
+    ghost use Rattle.valuers.specs.declared.item.Valued.{Valued};
+
+    ghost Value = { List Valued };
+
+    ghost view = { λ r. flat_map (λ list. list) r.lists.items };
+}
+
+impl RowLists {
+    /// The rows of these files.
+    pub fn new(lists: Vec<Rows>) -> RowLists
+        ensures { result ≡ flat_map (λ list. list) lists.items }
+    {
+        RowLists { lists }
+    }
+
+    /// The row at a position, from 0.
+    pub fn at(&self, position: usize) -> &Valued
+        requires { position < length self.now }
+        ensures { result.now ≡ slice_index_or self.now position result.now }
+    {
+        row_at(self.lists.as_slice(), position)
+    }
+
+    /// The blocks of the rows, in their order. Fails only where memory is refused.
+    pub fn blocks(&self, alloc: Global) -> Result<Vec<Block>, AllocError>
+        ensures { IfOk result (λ blocks. blocks.items ≡ map (λ row. row.block) self.now) }
+    {
+        blocks_in(alloc, self.lists.as_slice())
+    }
+}
+
+// The row at a position of the files' rows, one file's behind those of the file before it.
+fn row_at(lists: &[Rows], position: usize) -> &Valued
+    requires { position < length (flat_map (λ list. list) lists.now) }
+    ensures { result.now ≡ slice_index_or (flat_map (λ list. list) lists.now) position result.now }
+{
+    let mut place = position;
+    for list in lists {
+        let rows = list.as_slice();
+        if place < rows.len() {
+            return &rows[place];
+        }
+        place -= rows.len();
+    }
+    unreachable!()
+}
+
+// The blocks of the files' rows, one file's behind those of the file before it.
+fn blocks_in(alloc: Global, lists: &[Rows]) -> Result<Vec<Block>, AllocError>
+    ensures { IfOk result (λ blocks. blocks.items ≡ map (λ row. row.block) (flat_map (λ list. list) lists.now)) }
+{
+    let mut blocks = Vec::new(alloc);
+    for list in lists {
+        let rows = list.as_slice();
+        blocks.reserve(rows.len())?;
+        put_blocks(&mut blocks, rows)?;
+    }
+    Ok(blocks)
+}
+
+fn put_blocks(blocks: &mut Vec<Block>, rows: &[Valued]) -> Result<(), AllocError>
+    ensures { OnOk result (blocks.new.items ≡ blocks.old.items ++ map (λ row. row.block) rows.now) }
+{
+    for row in rows {
+        blocks.push(row.block)?;
+    }
+    Ok(())
+}
