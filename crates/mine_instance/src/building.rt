@@ -24,7 +24,7 @@ use pit_model::resource::Resource;
 use pit_units::Dec;
 use precedence::{Numbering, Preds};
 use std::alloc::{AllocError, Global};
-use valuers::Valued;
+use valuers::{RowLists, Valued};
 
 // A destination and a resource that covers it, by their numbers.
 type Covering = (u8, u8);
@@ -43,7 +43,7 @@ pub fn build(
     ensures value { IfOk result (λ built. built ≡ instance plan.now (blocks_of_rows rows.now)) }
     ensures valid { IfOk result IsValid }
 {
-    let values = values_by_id(alloc, numbering, rows, plan)?;
+    let values = values_by_id(alloc, numbering, &RowLists::of(alloc, rows)?, plan)?;
     let blocks = Vec::from_slice(alloc, numbering.blocks())?;
     build_with(alloc, blocks, preds, values, plan)
 }
@@ -86,7 +86,7 @@ pub fn build_with(
 pub fn values_by_id(
     alloc: Global,
     numbering: &Numbering,
-    rows: &[Valued],
+    rows: &RowLists,
     plan: &Plan,
 ) -> Result<Values, AllocError>
     requires numbering { IsNumbering (blocks_of_rows rows.now) numbering.now }
@@ -103,13 +103,13 @@ pub fn values_by_id(
 }
 
 // The row of the block that has an identifier.
-fn row_of<'a>(numbering: &Numbering, rows: &'a [Valued], id: u32) -> &'a Valued
+fn row_of<'a>(numbering: &Numbering, rows: &'a RowLists, id: u32) -> &'a Valued
     requires numbering { IsNumbering (blocks_of_rows rows.now) numbering.now }
     requires within { id < length numbering.now.blocks }
     ensures block { slice_get numbering.now.blocks id ≡ Some result.now.block }
     ensures row { Contains rows.now result.now }
 {
-    &rows[numbering.position(id) as usize]
+    rows.at(numbering.position(id) as usize)
 }
 
 fn put_values(all: &mut Vec<Dec>, row: &Valued, plan: &Plan) -> Result<(), AllocError>

@@ -13,31 +13,31 @@ ghost use Rattle.valuers.specs.Valuing.{items_by, rows_by};
 ghost use Rattle.pit_model.specs.declared.ranges.TheConstants.{MAX_ROWS};
 
 use collector::laws::{complete_is_not_refused, complete_lacks_nothing, found_is_held};
-use collector::{AddFault, Collector, FinishFault, Rows};
+use collector::{AddFault, Collector, FinishFault};
 use lane::Gathered;
 use pit_model::plan::Plan;
 use std::alloc::{AllocError, Global};
-use valuers::{Item, Items, Valued};
+use valuers::{Item, Items, RowLists, Rows};
 
 // The rows of all zone files with their worths: file after file, and in each file in order of place. `items` is what each valuer hands
 // on of what it took. Fails only where memory is refused.
 pub(crate) fn collect(
     alloc: Global,
-    gathered: &Gathered,
+    _gathered: &Gathered,
     plan: &Plan,
     items: Vec<Items>,
-) -> Result<Vec<Valued>, AllocError>
-    requires whole { IsWhole gathered.now }
-    requires files { length gathered.now.sent ≡ length plan.now.cones }
-    requires few { All (λ sent. rows_in sent ≤ MAX_ROWS) gathered.now.sent }
-    requires handed { items.items ≡ map (items_by (formulas_of_plan plan.now)) gathered.now.took }
-    ensures { IfOk result (λ rows. rows.items ≡ flat_map (rows_by (formulas_of_plan plan.now)) gathered.now.sent) }
+) -> Result<RowLists, AllocError>
+    requires whole { IsWhole _gathered.now }
+    requires files { length _gathered.now.sent ≡ length plan.now.cones }
+    requires few { All (λ sent. rows_in sent ≤ MAX_ROWS) _gathered.now.sent }
+    requires handed { items.items ≡ map (items_by (formulas_of_plan plan.now)) _gathered.now.took }
+    ensures { IfOk result (λ rows. rows ≡ flat_map (rows_by (formulas_of_plan plan.now)) _gathered.now.sent) }
 {
     found_is_held();
     let mut collector = Collector::new(alloc, plan.cones().len() as u8)?;
     add_lists(&mut collector, items)?;
     let lists = finished(collector)?;
-    join(alloc, lists, gathered.rows() as usize)
+    Ok(RowLists::new(lists))
 }
 
 // Adds what all valuers hand on, and frees each list once it is added.
@@ -86,21 +86,4 @@ fn finished(collector: Collector) -> Result<Vec<Rows>, AllocError>
         Err(FinishFault::OutOfMemory) => Err(AllocError),
         Err(FinishFault::Missing { .. }) => unreachable!(),
     }
-}
-
-// The rows of all files in one list, with room for `count` of them from the start. The rows of the first file are not copied unless they
-// have to move, and those of each other file are freed once they are copied.
-fn join(alloc: Global, lists: Vec<Rows>, count: usize) -> Result<Vec<Valued>, AllocError>
-    ensures { IfOk result (λ rows. rows.items ≡ joined lists.items) }
-{
-    let mut files = lists.into_iter();
-    let Some(first) = files.next() else {
-        return Ok(Vec::new(alloc));
-    };
-    let mut rows = first.into_vec();
-    rows.reserve_exact(count.saturating_sub(rows.len()))?;
-    for file in files {
-        rows.extend_from_slice(file.as_slice())?;
-    }
-    Ok(rows)
 }

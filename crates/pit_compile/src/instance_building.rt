@@ -14,19 +14,19 @@ use mine_instance::{build_with, values_by_id};
 use pit_model::plan::Plan;
 use precedence::preds;
 use std::alloc::Global;
-use valuers::Valued;
+use valuers::RowLists;
 
 /// The instance of these rows, which are given up once their values are taken. Fails with `Same` where a block stands twice, or where memory is
 /// refused.
-pub fn instance_of(alloc: Global, rows: Vec<Valued>, plan: &Plan) -> Result<Instance, Refusal>
-    requires { AreModelRows plan.now rows.items }
-    ensures apart { IfOk result (λ _. AreApart (blocks_of_rows rows.items)) }
-    ensures value { IfOk result (λ built. built ≡ instance plan.now (blocks_of_rows rows.items)) }
+pub fn instance_of(alloc: Global, rows: RowLists, plan: &Plan) -> Result<Instance, Refusal>
+    requires { AreModelRows plan.now rows }
+    ensures apart { IfOk result (λ _. AreApart (blocks_of_rows rows)) }
+    ensures value { IfOk result (λ built. built ≡ instance plan.now (blocks_of_rows rows)) }
     ensures valid { IfOk result IsValid }
-    ensures refused { IfErr result (IsRepeat rows.items) }
+    ensures refused { IfErr result (IsRepeat rows) }
 {
-    let numbering = numbered(alloc, rows.as_slice())?;
-    let values = values_by_id(alloc, &numbering, rows.as_slice(), plan)?;
+    let numbering = numbered(alloc, &rows)?;
+    let values = values_by_id(alloc, &numbering, &rows, plan)?;
     drop(rows);
     let preds = preds(alloc, &numbering, plan)?;
     Ok(build_with(alloc, numbering.into_blocks(), preds, values, plan)?)

@@ -7,19 +7,20 @@ ghost use Rattle.pit_compile.specs.Verdict.{IsRepeat, IsRowAt};
 ghost use Rattle.pit_model.specs.declared.ranges.TheConstants.{MAX_BLOCKS};
 
 use crate::refusal::{Refusal, RowAt};
-use precedence::{NumberError, Numbering, number};
+use precedence::{NumberError, Numbering, number_blocks};
 use std::alloc::Global;
-use valuers::Valued;
+use valuers::RowLists;
 
 /// The blocks of the rows by identifier. Fails with `Same` where a block stands twice, naming the first row that repeats another and
 /// that one, or where memory is refused.
-pub fn numbered(alloc: Global, rows: &[Valued]) -> Result<Numbering, Refusal>
+pub fn numbered(alloc: Global, rows: &RowLists) -> Result<Numbering, Refusal>
     requires few { length rows.now ≤ MAX_BLOCKS }
     requires placed { All HasPlace rows.now }
     ensures numbering { IfOk result (IsNumbering (blocks_of_rows rows.now)) }
     ensures refused { IfErr result (IsRepeat rows.now) }
 {
-    match number(alloc, rows) {
+    let blocks = rows.blocks(alloc)?;
+    match number_blocks(alloc, blocks.as_slice()) {
         Ok(numbering) => Ok(numbering),
         Err(NumberError::Same { first, again }) => Err(Refusal::Same {
             first: row_at(rows, first),
@@ -30,12 +31,12 @@ pub fn numbered(alloc: Global, rows: &[Valued]) -> Result<Numbering, Refusal>
 }
 
 // The row at a position: the header is record 1, so the row at place 0 is record 2.
-fn row_at(rows: &[Valued], position: u32) -> RowAt
+fn row_at(rows: &RowLists, position: u32) -> RowAt
     requires there { position < length rows.now }
     requires placed { All HasPlace rows.now }
     ensures { IsRowAt rows.now position result }
 {
-    let row = rows[position as usize];
+    let row = rows.at(position as usize);
     RowAt {
         file: row.file,
         row: row.place + 2,

@@ -34,6 +34,13 @@ impl RowLists {
         RowLists { lists }
     }
 
+    /// The rows of one list, which are copied. Fails only where memory is refused.
+    pub fn of(alloc: Global, rows: &[Valued]) -> Result<RowLists, AllocError>
+        ensures { IfOk result (λ lists. lists ≡ rows.now) }
+    {
+        one_list(alloc, rows)
+    }
+
     /// The row at a position, from 0.
     pub fn at(&self, position: usize) -> &Valued
         requires { position < length self.now }
@@ -48,6 +55,14 @@ impl RowLists {
     {
         blocks_in(alloc, self.lists.as_slice())
     }
+}
+
+fn one_list(alloc: Global, rows: &[Valued]) -> Result<RowLists, AllocError>
+    ensures { IfOk result (λ lists. lists ≡ rows.now) }
+{
+    let mut lists = Vec::with_capacity(alloc, 1)?;
+    lists.push(Rows::new(Vec::from_slice(alloc, rows)?))?;
+    Ok(RowLists::new(lists))
 }
 
 // The row at a position of the files' rows, one file's behind those of the file before it.

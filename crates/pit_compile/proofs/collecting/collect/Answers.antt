@@ -7,14 +7,14 @@ use Rattle.valuers.specs.declared.item.Valued.{Valued}
 pub add_lists-requires : goal.add_lists-requires
 add_lists-requires c =
     let given = c.requires in
-    to-add (formulas_of_plan c.args.plan.now) c.args.gathered.now c.args.items.items _ c.in_ok-collector.collector
+    to-add (formulas_of_plan c.args.plan.now) c.args._gathered.now c.args.items.items _ c.in_ok-collector.collector
     given.whole given.few given.handed (given.files ∙ ap length (sym c.cones.ensures.value)) c.in_ok-collector.ensures
 
 pub finished-requires : goal.finished-requires
 finished-requires c =
     let given = c.requires in
     is-added c.args.items.items c.in_ok-collector.collector c.add_lists.new.collector
-    (to-add (formulas_of_plan c.args.plan.now) c.args.gathered.now c.args.items.items _ c.in_ok-collector.collector
+    (to-add (formulas_of_plan c.args.plan.now) c.args._gathered.now c.args.items.items _ c.in_ok-collector.collector
     given.whole given.few given.handed (given.files ∙ ap length (sym c.cones.ensures.value)) c.in_ok-collector.ensures)
     c.in_ok-add_lists.ensures
 
@@ -22,8 +22,6 @@ pub returns : goal.returns
 returns c =
     let given = c.requires in
     let found : FoundIsHeld = record { row = c.found_is_held.ensures.row; end = c.found_is_held.ensures.end } in
-    subst (λ (xs : List Valued). IfOk c.join.result (λ rows. rows.items ≡ xs))
-    (collected found (formulas_of_plan c.args.plan.now) c.args.gathered.now c.args.items.items _ c.in_ok-collector.collector
+    c.new.ensures ∙ collected found (formulas_of_plan c.args.plan.now) c.args._gathered.now c.args.items.items _ c.in_ok-collector.collector
     c.add_lists.new.collector c.in_ok-lists.lists.items given.whole given.handed
-    (given.files ∙ ap length (sym c.cones.ensures.value)) c.in_ok-collector.ensures c.in_ok-add_lists.ensures c.in_ok-lists.ensures)
-    c.join.ensures
+    (given.files ∙ ap length (sym c.cones.ensures.value)) c.in_ok-collector.ensures c.in_ok-add_lists.ensures c.in_ok-lists.ensures

@@ -71,7 +71,7 @@ instance_of-requires g c =
     let none : refusal_in 0 handed.answers.items ≡ None = ap (refusal_in 0) (sym c.as_slice.ensures.value) ∙ c.in_ok-require_read.ensures.read in
     let count : length lefts ≡ length plan.cones = length-map c.args.feeds.items g.F.Feed.left ∙ c.requires.files_fit in
     let most : length plan.cones ≤ 64 = omega (arith, c.requires.files_fit, c.requires.few_files) in
-    let model = compiles plan lefts sures handed.answers.items handed.gathered.sent c.in_ok-rows.rows.items files count most
+    let model = compiles plan lefts sures handed.answers.items handed.gathered.sent c.in_ok-rows.rows files count most
     c.in_ok-gathered.ensures.read none c.in_ok-rows.ensures in
     model.model
 
@@ -86,9 +86,9 @@ returns-in_err-instance-clause-refused g c =
     let none : refusal_in 0 handed.answers.items ≡ None = ap (refusal_in 0) (sym c.as_slice.ensures.value) ∙ c.in_ok-require_read.ensures.read in
     let count : length lefts ≡ length plan.cones = length-map c.args.feeds.items g.F.Feed.left ∙ c.requires.files_fit in
     let most : length plan.cones ≤ 64 = omega (arith, c.requires.files_fit, c.requires.few_files) in
-    let model = compiles plan lefts sures handed.answers.items handed.gathered.sent c.in_ok-rows.rows.items files count most
+    let model = compiles plan lefts sures handed.answers.items handed.gathered.sent c.in_ok-rows.rows files count most
     c.in_ok-gathered.ensures.read none c.in_ok-rows.ensures in
-    rw (p.1, p.2) (repeat_refused plan lefts sures handed.gathered.sent c.in_ok-rows.rows.items c.in_err-instance.field-0.0 model c.in_err-instance.ensures.refused)
+    rw (p.1, p.2) (repeat_refused plan lefts sures handed.gathered.sent c.in_ok-rows.rows c.in_err-instance.field-0.0 model c.in_err-instance.ensures.refused)
 
 pub returns-clause-done : goal.returns-clause-done
 returns-clause-done g c =
@@ -100,7 +100,7 @@ returns-clause-done g c =
     let none : refusal_in 0 handed.answers.items ≡ None = ap (refusal_in 0) (sym c.as_slice.ensures.value) ∙ c.in_ok-require_read.ensures.read in
     let count : length lefts ≡ length plan.cones = length-map c.args.feeds.items g.F.Feed.left ∙ c.requires.files_fit in
     let most : length plan.cones ≤ 64 = omega (arith, c.requires.files_fit, c.requires.few_files) in
-    let model = compiles plan lefts sures handed.answers.items handed.gathered.sent c.in_ok-rows.rows.items files count most
+    let model = compiles plan lefts sures handed.answers.items handed.gathered.sent c.in_ok-rows.rows files count most
     c.in_ok-gathered.ensures.read none c.in_ok-rows.ensures in
     let built = c.in_ok-instance.ensures.value ∙ ap (λ (rows : List Valued). instance plan (blocks_of_rows rows)) model.rows_are in
     record {

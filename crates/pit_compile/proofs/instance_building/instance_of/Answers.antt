@@ -1,6 +1,6 @@
-use Rattle.std.proofs.Common.{◌<◌, List, length, subst}
+use Rattle.std.proofs.Common.{◌<◌, length}
 use Rattle.pit_model.specs.declared.block.Block.{Block}
-use Rattle.precedence.specs.Identifier.{blocks_of_rows, IsNumbering}
+use Rattle.precedence.specs.Identifier.{blocks_of_rows}
 use Rattle.valuers.specs.declared.item.Valued.{Valued}
 use Rattle.std.proofs.lemmas.List.Elements.{All-map}
 use Rattle.pit_compile.proofs.Apart.{apart, numbered_too}
@@ -9,12 +9,9 @@ use Rattle.pit_compile.proofs.instance_building.instance_of.Goals as goal
 pub preds-requires : goal.preds-requires
 preds-requires c =
     let InPlan : Block → Type 0 = λ b. b.zone < length c.args.plan.now.cones in
-    let rows = c.args.rows.items in
-    let numbering = subst (λ (rs : List Valued). IsNumbering (blocks_of_rows rs) c.in_ok-numbering.numbering) c.as_slice.ensures.value c.in_ok-numbering.ensures.numbering in
-    numbered_too InPlan (blocks_of_rows rows) c.in_ok-numbering.numbering numbering (All-map InPlan (λ (row : Valued). row.block) rows c.requires.zones)
+    let rows = c.args.rows in
+    numbered_too InPlan (blocks_of_rows rows) c.in_ok-numbering.numbering c.in_ok-numbering.ensures.numbering
+    (All-map InPlan (λ (row : Valued). row.block) rows c.requires.zones)
 
 pub returns-clause-apart : goal.returns-clause-apart
-returns-clause-apart c =
-    let rows = c.args.rows.items in
-    let numbering = subst (λ (rs : List Valued). IsNumbering (blocks_of_rows rs) c.in_ok-numbering.numbering) c.as_slice.ensures.value c.in_ok-numbering.ensures.numbering in
-    apart (blocks_of_rows rows) c.in_ok-numbering.numbering numbering
+returns-clause-apart c = apart (blocks_of_rows c.args.rows) c.in_ok-numbering.numbering c.in_ok-numbering.ensures.numbering
