@@ -6,9 +6,8 @@ use Rattle.std.proofs.lemmas.Bool.{cases_Bool, eqb-true, eq-eqb}
 use Rattle.std.proofs.lemmas.List.{get_or-map, get_or-take, length-take, length-map, take_more}
 use Rattle.std.proofs.lemmas.Map.Keys.{apart_from_distinct}
 use Rattle.pit_model.specs.declared.block.Block.{Block}
-use Rattle.valuers.specs.declared.item.Valued.{Valued}
 use Rattle.precedence.specs.Codes.{code, codes}
-use Rattle.precedence.specs.Identifier.{IsFirstAgain, is_same_place, blocks_of_rows}
+use Rattle.precedence.specs.Identifier.{IsFirstAgain, is_same_place}
 use Rattle.precedence.specs.Seen.{placed, IsPlaced}
 use Rattle.precedence.proofs.Order.{same_is}
 
@@ -83,10 +82,6 @@ placed_more listed i d lt =
     let long : 0 + length (take i listed) ≡ i = omega (arith, length-take i listed) in
     ap (placed 0) (take_more listed i d lt) ∙ placed_push 0 (take i listed) (get_or listed i d)
     ∙ ap (λ n. placed 0 (take i listed) ++ (code (get_or listed i d), n) ∷ []) long
-
--- the block of a row of the list
-pub block_at : (rows : List Valued) (i : ℕ) (row : Valued) (d : Block) → i < length rows → row ≡ get_or rows i row → get_or (blocks_of_rows rows) i d ≡ row.block
-block_at rows i row d lt is = get_or-map (λ r. r.block) rows i row d lt ∙ ap (λ r. r.block) (sym is)
 
 -- the refusal at a place that the table has
 pub first_again : (listed : List Block) (first again c : ℕ) (a : Block) → again < length listed

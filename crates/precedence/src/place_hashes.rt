@@ -1,10 +1,10 @@
 //! Hashes of places that no list can be made for.
 
 use crate::code::code;
+use pit_model::block::Block;
 use std::hash::{BuildHasher, DefaultHasher, Hasher};
-use valuers::Valued;
 
-/// Hashes that begin with the places of a whole list: a row that is changed changes them all, so nobody can choose rows whose
+/// Hashes that begin with the places of a whole list: a block that is changed changes them all, so nobody can choose blocks whose
 /// places have like hashes.
 #[derive(Clone, Copy)]
 pub struct PlaceHashes {
@@ -12,11 +12,11 @@ pub struct PlaceHashes {
 }
 
 impl PlaceHashes {
-    /// The hashes for the places of these rows.
-    pub fn of(rows: &[Valued]) -> PlaceHashes {
+    /// The hashes for the places of these blocks.
+    pub fn of(blocks: &[Block]) -> PlaceHashes {
         let mut beginning = DefaultHasher::new();
-        for row in rows {
-            beginning.write_u64(code(&row.block));
+        for block in blocks {
+            beginning.write_u64(code(block));
         }
         PlaceHashes { beginning }
     }

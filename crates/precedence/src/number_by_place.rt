@@ -7,7 +7,7 @@ ghost use Rattle.std.specs.Map.{keys_of, values_of};
 ghost use Rattle.indexmap.specs.IndexMap.{get, IsUnique};
 ghost use Rattle.pit_model.specs.declared.block.Block.{Block};
 ghost use Rattle.precedence.specs.Codes.{codes};
-ghost use Rattle.precedence.specs.Identifier.{blocks_of_rows, IsNumbering};
+ghost use Rattle.precedence.specs.Identifier.{IsNumbering};
 ghost use Rattle.precedence.specs.SameBlock.{IsReason};
 ghost use Rattle.precedence.specs.Seen.{placed, IsSortedTable};
 ghost use Rattle.pit_model.specs.declared.ranges.TheConstants.{MAX_BLOCKS};
@@ -19,7 +19,6 @@ use crate::place_hashes::PlaceHashes;
 use indexmap::IndexMap;
 use pit_model::block::Block;
 use std::alloc::{AllocError, Global};
-use valuers::Valued;
 
 // The place of a block, as its code, and the block's position in the list.
 type Place = (u64, u32);
@@ -27,44 +26,44 @@ type Place = (u64, u32);
 // Where each place was seen first.
 type Seen = IndexMap<u64, u32, PlaceHashes>;
 
-/// Numbers the blocks of a list of at most 64,000,000 rows: the identifier of a block is the number of blocks of the list with a
-/// smaller (z, y, x). Fails with `Same` where two blocks have the same indices, or where memory is refused.
-pub fn number(alloc: Global, rows: &[Valued]) -> Result<Numbering, NumberError>
-    requires { length rows.now ≤ MAX_BLOCKS }
-    ensures numbering { IfOk result (IsNumbering (blocks_of_rows rows.now)) }
-    ensures same { IfErr result (IsReason (blocks_of_rows rows.now)) }
+/// Numbers a list of at most 64,000,000 blocks: the identifier of a block is the number of blocks of the list with a smaller
+/// (z, y, x). Fails with `Same` where two blocks have the same indices, or where memory is refused.
+pub fn number_blocks(alloc: Global, blocks: &[Block]) -> Result<Numbering, NumberError>
+    requires { length blocks.now ≤ MAX_BLOCKS }
+    ensures numbering { IfOk result (IsNumbering blocks.now) }
+    ensures same { IfErr result (IsReason blocks.now) }
 {
-    let places = sorted_places(alloc, rows)?;
+    let places = sorted_places(alloc, blocks)?;
     let positions = positions_of(alloc, places)?;
-    let blocks = blocks_at(alloc, rows, positions.as_slice())?;
-    Ok(Numbering::new(blocks, positions))
+    let ordered = blocks_at(alloc, blocks, positions.as_slice())?;
+    Ok(Numbering::new(ordered, positions))
 }
 
 // The place of each block, in order.
-fn sorted_places(alloc: Global, rows: &[Valued]) -> Result<Vec<Place>, NumberError>
-    requires { length rows.now ≤ MAX_BLOCKS }
-    ensures sorted { IfOk result (λ places. IsSortedTable (blocks_of_rows rows.now) places.items) }
-    ensures same { IfErr result (IsReason (blocks_of_rows rows.now)) }
+fn sorted_places(alloc: Global, blocks: &[Block]) -> Result<Vec<Place>, NumberError>
+    requires { length blocks.now ≤ MAX_BLOCKS }
+    ensures sorted { IfOk result (λ places. IsSortedTable blocks.now places.items) }
+    ensures same { IfErr result (IsReason blocks.now) }
 {
-    let mut places = places_of_list(alloc, rows)?;
-    // The rows of a file mostly stand in order: this sort finds such runs.
+    let mut places = places_of_list(alloc, blocks)?;
+    // The blocks of a file mostly stand in order: this sort finds such runs.
     places.sort_by_key(|place| place.0)?;
     if rise(places.as_slice()) {
         return Ok(places);
     }
     // Some place stands twice: the list itself tells which comes first.
-    differ(alloc, rows)?;
+    differ(alloc, blocks)?;
     Ok(places)
 }
 
 // The place of each block, in the order of the list.
-fn places_of_list(alloc: Global, rows: &[Valued]) -> Result<Vec<Place>, AllocError>
-    requires { length rows.now ≤ MAX_BLOCKS }
-    ensures { IfOk result (λ places. places.items ≡ placed 0 (blocks_of_rows rows.now)) }
+fn places_of_list(alloc: Global, blocks: &[Block]) -> Result<Vec<Place>, AllocError>
+    requires { length blocks.now ≤ MAX_BLOCKS }
+    ensures { IfOk result (λ places. places.items ≡ placed 0 blocks.now) }
 {
-    let mut places = Vec::with_capacity(alloc, rows.len())?;
-    for (position, row) in rows.iter().enumerate() {
-        places.push((code(&row.block), position as u32))?;
+    let mut places = Vec::with_capacity(alloc, blocks.len())?;
+    for (position, block) in blocks.iter().enumerate() {
+        places.push((code(block), position as u32))?;
     }
     Ok(places)
 }
@@ -82,15 +81,15 @@ fn rise(places: &[Place]) -> bool
 }
 
 // Finds the first block of a list whose place stood before, and fails there.
-fn differ(alloc: Global, rows: &[Valued]) -> Result<(), NumberError>
-    requires { length rows.now ≤ MAX_BLOCKS }
-    ensures differ { OnOk result (IsDistinct nat_eq (codes (blocks_of_rows rows.now))) }
-    ensures same { IfErr result (IsReason (blocks_of_rows rows.now)) }
+fn differ(alloc: Global, blocks: &[Block]) -> Result<(), NumberError>
+    requires { length blocks.now ≤ MAX_BLOCKS }
+    ensures differ { OnOk result (IsDistinct nat_eq (codes blocks.now)) }
+    ensures same { IfErr result (IsReason blocks.now) }
 {
-    let mut seen = Seen::with_capacity_and_hasher(alloc, rows.len(), PlaceHashes::of(rows))?;
-    for (position, row) in rows.iter().enumerate() {
+    let mut seen = Seen::with_capacity_and_hasher(alloc, blocks.len(), PlaceHashes::of(blocks))?;
+    for (position, block) in blocks.iter().enumerate() {
         let again = position as u32;
-        if let Some(first) = note(&mut seen, code(&row.block), again)? {
+        if let Some(first) = note(&mut seen, code(block), again)? {
             return Err(NumberError::Same { first, again });
         }
     }
@@ -117,14 +116,14 @@ fn positions_of(alloc: Global, places: Vec<Place>) -> Result<Vec<u32>, AllocErro
 }
 
 // The blocks at these positions.
-fn blocks_at(alloc: Global, rows: &[Valued], positions: &[u32]) -> Result<Vec<Block>, AllocError>
-    requires { All (λ p. p < length rows.now) positions.now }
-    ensures len { IfOk result (λ blocks. length blocks.items ≡ length positions.now) }
-    ensures blocks { IfOk result (λ blocks. (d : Block) → blocks.items ≡ map (λ p. slice_index_or (blocks_of_rows rows.now) p d) positions.now) }
+fn blocks_at(alloc: Global, blocks: &[Block], positions: &[u32]) -> Result<Vec<Block>, AllocError>
+    requires { All (λ p. p < length blocks.now) positions.now }
+    ensures len { IfOk result (λ ordered. length ordered.items ≡ length positions.now) }
+    ensures blocks { IfOk result (λ ordered. (d : Block) → ordered.items ≡ map (λ p. slice_index_or blocks.now p d) positions.now) }
 {
-    let mut blocks = Vec::with_capacity(alloc, positions.len())?;
+    let mut ordered = Vec::with_capacity(alloc, positions.len())?;
     for position in positions {
-        blocks.push(rows[*position as usize].block)?;
+        ordered.push(blocks[*position as usize])?;
     }
-    Ok(blocks)
+    Ok(ordered)
 }

@@ -1,11 +1,10 @@
 use Rattle.std.proofs.Common.{◌≡◌, take, nat_eq}
 use Rattle.indexmap.specs.IndexMap.{IsUnique}
-use Rattle.precedence.specs.Identifier.{blocks_of_rows}
 use Rattle.precedence.specs.Seen.{placed}
-use Rattle.precedence.proofs.number_blocks.differ.Given as goal
+use Rattle.precedence.proofs.number_by_place.differ.Given as goal
 
 abbrev pub invariant-loop-position : goal.invariant-loop-position
 invariant-loop-position l = record {
-  entries : l.seen.entries ≡ placed 0 (take l.position (blocks_of_rows l.rows));
+  entries : l.seen.entries ≡ placed 0 (take l.position l.blocks);
   unique : IsUnique nat_eq l.seen;
 }

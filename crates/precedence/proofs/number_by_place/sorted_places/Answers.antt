@@ -1,10 +1,9 @@
 use Rattle.std.proofs.Common.{List, ℕ, refl, subst, rules}
 use Rattle.std.specs.List.Sorted.{IsPermutation}
 use Rattle.std.proofs.lemmas.List.Sorted.{IsNonDecreasingBy-from_sort_by_key}
-use Rattle.precedence.specs.Identifier.{blocks_of_rows}
 use Rattle.precedence.specs.Seen.{placed}
 use Rattle.precedence.proofs.Identifiers.{keys_rise}
-use Rattle.precedence.proofs.number_blocks.sorted_places.Goals as goal
+use Rattle.precedence.proofs.number_by_place.sorted_places.Goals as goal
 
 pub returns-then-rise-clause-sorted : goal.returns-then-rise-clause-sorted
 returns-then-rise-clause-sorted c =
@@ -16,7 +15,7 @@ returns-then-rise-clause-sorted c =
 
 pub returns-clause-sorted : goal.returns-clause-sorted
 returns-clause-sorted c =
-    let listed = blocks_of_rows c.args.rows.now in
+    let listed = c.args.blocks.now in
     let places = c.sort_by_key.new.self.items in
     let P : List (ℕ × ℕ) → Type 0 = λ es. IsPermutation es places in
     let moved : IsPermutation (placed 0 listed) places = subst P c.in_ok-places.ensures c.sort_by_key.ensures.permutation in

@@ -1,7 +1,7 @@
 use Rattle.std.proofs.Common.{◌≡◌, ℕ, ◌+◌, ◌-◌, get_or, ap, arith, ⊎_elim}
 use Rattle.std.proofs.lemmas.Bool.{cases_lt}
 use Rattle.std.proofs.lemmas.List.{get_or-map}
-use Rattle.precedence.proofs.number_blocks.rise.Goals as goal
+use Rattle.precedence.proofs.number_by_place.rise.Goals as goal
 
 pub loop-next-preserved : goal.loop-next-preserved
 loop-next-preserved c k lt = ⊎_elim

@@ -1,7 +1,0 @@
-use Rattle.std.proofs.Common.{◌≡◌, take}
-use Rattle.precedence.specs.Identifier.{blocks_of_rows}
-use Rattle.precedence.specs.Seen.{placed}
-use Rattle.precedence.proofs.number_blocks.places_of_list.Given as goal
-
-abbrev pub invariant-loop-position : goal.invariant-loop-position
-invariant-loop-position l = l.places.items ≡ placed 0 (take l.position (blocks_of_rows l.rows))

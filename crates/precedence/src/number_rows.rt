@@ -1,0 +1,31 @@
+//! Numbering the blocks of rows.
+
+ghost use Rattle.std.specs.Prelude.{◌≡◌, ◌≤◌, IfOk, IfErr, length};
+ghost use Rattle.precedence.specs.Identifier.{blocks_of_rows, IsNumbering};
+ghost use Rattle.precedence.specs.SameBlock.{IsReason};
+ghost use Rattle.pit_model.specs.declared.ranges.TheConstants.{MAX_BLOCKS};
+
+use crate::number_by_place::number_blocks;
+use crate::number_error::NumberError;
+use crate::numbering::Numbering;
+use pit_model::block::Block;
+use std::alloc::{AllocError, Global};
+use valuers::Valued;
+
+/// Numbers the blocks of a list of at most 64,000,000 rows: the identifier of a block is the number of blocks of the list with a
+/// smaller (z, y, x). Fails with `Same` where two blocks have the same indices, or where memory is refused.
+pub fn number(alloc: Global, rows: &[Valued]) -> Result<Numbering, NumberError>
+    requires { length rows.now ≤ MAX_BLOCKS }
+    ensures numbering { IfOk result (IsNumbering (blocks_of_rows rows.now)) }
+    ensures same { IfErr result (IsReason (blocks_of_rows rows.now)) }
+{
+    let blocks = blocks_of(alloc, rows)?;
+    number_blocks(alloc, blocks.as_slice())
+}
+
+// The blocks of the rows.
+fn blocks_of(alloc: Global, rows: &[Valued]) -> Result<Vec<Block>, AllocError>
+    ensures { IfOk result (λ blocks. blocks.items ≡ blocks_of_rows rows.now) }
+{
+    rows.iter().map(|row| row.block).collect(alloc)
+}
