@@ -1,36 +1,58 @@
-ghost use Rattle.std.specs.Prelude.{◌≡◌, ◌+◌, ◌-◌, ◌/◌, ◌%◌, ◌^◌, ◌<◌, ◌≤◌, ◌==◌, ◌++◌, length, take, int_lt, pos, unsigned_abs, OnOk, OnErr};
+ghost use Rattle.std.specs.Prelude.{◌≡◌, ◌+◌, ◌-◌, ◌/◌, ◌%◌, ◌^◌, ◌<◌, ◌≤◌, ◌==◌, ◌∷◌, ◌++◌, if◌then◌else◌, length, drop, take, slice_range, int_lt, pos, unsigned_abs, OnOk, OnErr};
 ghost use Rattle.std.specs.Fmt.{sign_text};
-ghost use Rattle.std.specs.List.{suffix_len};
-ghost use Rattle.pit_units.specs.Decimal.{fraction_text, shortest, size_text};
+ghost use Rattle.pit_units.specs.Decimal.{fraction_text, shortest};
 
 use crate::decimal::Dec;
-use itoa::Buffer;
+use itoa::write_digits;
 use std::alloc::{AllocError, Global};
+
+// The most bytes of a text: a minus, 19 digits, a point and six decimals.
+const LONGEST: usize = 27;
+
+// Where the whole part ends in the room of a text, and a point may stand.
+const POINT: usize = LONGEST - 7;
+
+// The bytes of the room: wherever before the point a text starts, as many as the longest has stand from there on.
+const ROOM: usize = POINT + LONGEST;
 
 /// Appends the shortest text of a decimal. Where memory is refused `out` is as it was.
 pub fn put_dec(_alloc: Global, out: &mut Vec<u8>, dec: Dec) -> Result<(), AllocError>
     ensures ok { OnOk result (out.new.items ≡ out.old.items ++ shortest dec) }
     ensures err { OnErr result (out.new.items ≡ out.old.items) }
 {
-    let before = out.len();
-    match append(out, dec) {
-        Ok(()) => Ok(()),
-        Err(refused) => {
-            out.truncate(before);
-            Err(refused)
-        }
-    }
+    let mut room = [0; ROOM];
+    let (start, end) = write_text(&mut room, dec);
+    append_front(out, &room[start..start + LONGEST], end - start)
 }
 
-// Appends the shortest text, or a part of it where memory is refused.
-fn append(out: &mut Vec<u8>, dec: Dec) -> Result<(), AllocError>
-    ensures ok { OnOk result (out.new.items ≡ out.old.items ++ shortest dec) }
-    ensures kept { take (length out.old.items) out.new.items ≡ out.old.items }
+// Appends the first few of some bytes. All are copied, and the others taken off again: a copy of a known length needs no call.
+#[inline(always)]
+fn append_front(out: &mut Vec<u8>, bytes: &[u8], count: usize) -> Result<(), AllocError>
+    requires { count ≤ length bytes.now }
+    ensures ok { OnOk result (out.new.items ≡ out.old.items ++ take count bytes.now) }
+    ensures err { OnErr result (out.new.items ≡ out.old.items) }
 {
-    append_sign(out, is_negative(dec))?;
-    append_size(out, size(dec))
+    let before = out.len();
+    out.extend_from_slice(bytes)?;
+    out.truncate(before + count);
+    Ok(())
 }
 
+// Writes the shortest text of a decimal into the room, and gives where it starts and where it ends.
+#[inline(always)]
+fn write_text(room: &mut [u8], dec: Dec) -> (usize, usize)
+    requires { length room.old ≡ 47 }
+    ensures text { slice_range room.new result.0 result.1 ≡ shortest dec }
+    ensures start { result.0 ≤ 20 }
+    ensures end { (result.0 ≤ result.1) × (result.1 ≤ 27) }
+{
+    let (whole, decimals) = parts(size(dec));
+    let end = write_decimals(room, decimals);
+    let start = write_digits(whole, room, POINT);
+    (write_sign(room, start, is_negative(dec)), end)
+}
+
+#[inline(always)]
 fn is_negative(dec: Dec) -> bool
     ensures { result ≡ int_lt dec (pos 0) }
 {
@@ -38,34 +60,12 @@ fn is_negative(dec: Dec) -> bool
 }
 
 // How many millionths the decimal is away from zero.
+#[inline(always)]
 fn size(dec: Dec) -> u128
     ensures value { result ≡ unsigned_abs dec }
     ensures in_range { result ≤ 10 ^ 24 }
 {
     dec.millionths().unsigned_abs()
-}
-
-// Appends a minus where the number is below zero.
-fn append_sign(out: &mut Vec<u8>, below_zero: bool) -> Result<(), AllocError>
-    ensures ok { OnOk result (out.new.items ≡ out.old.items ++ sign_text below_zero) }
-    ensures err { OnErr result (out.new.items ≡ out.old.items) }
-{
-    if below_zero {
-        return out.extend_from_slice(b"-");
-    }
-    Ok(())
-}
-
-// Appends the shortest text of so many millionths, or a part of it where memory is refused.
-fn append_size(out: &mut Vec<u8>, millionths: u128) -> Result<(), AllocError>
-    requires { millionths ≤ 10 ^ 24 }
-    ensures ok { OnOk result (out.new.items ≡ out.old.items ++ size_text millionths) }
-    ensures kept { take (length out.old.items) out.new.items ≡ out.old.items }
-{
-    let mut digits = Buffer::new();
-    let (whole, decimals) = parts(millionths);
-    out.extend_from_slice(digits.format(whole).as_bytes())?;
-    append_decimals(out, decimals)
 }
 
 // The whole part of so many millionths, and the millionths past it. A number of 64 bits is divided as one.
@@ -85,43 +85,71 @@ fn parts(millionths: u128) -> (u64, u32)
     )
 }
 
-// Appends a point and the decimals of so many millionths, or nothing where there are none.
-fn append_decimals(out: &mut Vec<u8>, millionths: u32) -> Result<(), AllocError>
-    requires { millionths < 10 ^ 6 }
-    ensures ok { OnOk result (out.new.items ≡ out.old.items ++ fraction_text millionths) }
-    ensures err { OnErr result (out.new.items ≡ out.old.items) }
+// Writes a minus before a place where the number is below zero, and gives where the text starts then.
+#[inline(always)]
+fn write_sign(room: &mut [u8], at: usize, below_zero: bool) -> usize
+    requires { (0 < at) × (at ≤ length room.old) }
+    ensures start { result + length (sign_text below_zero) ≡ at }
+    ensures written { drop result room.new ≡ sign_text below_zero ++ drop at room.old }
+{
+    room[at - 1] = b'-';
+    at - usize::from(below_zero)
+}
+
+// Writes a point and the decimals of so many millionths behind the whole part, or nothing where there are none, and gives where
+// they end.
+#[inline(always)]
+fn write_decimals(room: &mut [u8], millionths: u32) -> usize
+    requires { (millionths < 10 ^ 6) × (length room.old ≡ 47) }
+    ensures text { slice_range room.new 20 result ≡ fraction_text millionths }
+    ensures end { (20 ≤ result) × (result ≤ 27) }
 {
     if millionths == 0 {
-        return Ok(());
+        return POINT;
     }
-    let text = [
-        b'.',
-        digit(millionths, 100_000),
-        digit(millionths, 10_000),
-        digit(millionths, 1_000),
-        digit(millionths, 100),
-        digit(millionths, 10),
-        digit(millionths, 1),
-    ];
-    out.extend_from_slice(&text[..1 + length_without_zeros(&text[1..])])
+    let (thousandths, rest) = (millionths / 1_000, millionths % 1_000);
+    if rest == 0 {
+        write_thousandths(room, thousandths);
+        return POINT + 4 - zeros_at_end(thousandths);
+    }
+    write_three(room, POINT + 4, rest);
+    write_thousandths(room, thousandths);
+    POINT + 7 - zeros_at_end(rest)
 }
 
-// The digit of a number at a place, as a character.
-fn digit(number: u32, place: u32) -> u8
-    requires { 0 < place }
-    ensures { result ≡ 48 + number / place % 10 }
+// Writes a point and three decimals behind the whole part.
+#[inline(always)]
+fn write_thousandths(room: &mut [u8], thousandths: u32)
+    requires { (thousandths < 1000) × (length room.old ≡ 47) }
+    ensures { drop 20 room.new ≡ 46 ∷ (48 + thousandths / 100) ∷ (48 + thousandths / 10 % 10) ∷ (48 + thousandths % 10) ∷ drop 24 room.old }
 {
-    b'0' + (number / place % 10) as u8
+    write_three(room, POINT + 1, thousandths);
+    room[POINT] = b'.';
 }
 
-// How many digits there are before the zeros at the end.
-fn length_without_zeros(digits: &[u8]) -> usize
-    ensures value { result ≡ length digits.now - suffix_len (λ c. c == 48) digits.now }
-    ensures within { result ≤ length digits.now }
+// Writes the three digits of a number at a place.
+#[inline(always)]
+fn write_three(room: &mut [u8], at: usize, number: u32)
+    requires { (number < 1000) × (at + 3 ≤ length room.old) }
+    ensures { drop at room.new ≡ (48 + number / 100) ∷ (48 + number / 10 % 10) ∷ (48 + number % 10) ∷ drop (at + 3) room.old }
 {
-    let mut length = digits.len();
-    while length > 0 && digits[length - 1] == b'0' {
-        length -= 1;
-    }
-    length
+    room[at + 2] = digit(number);
+    room[at + 1] = digit(number / 10);
+    room[at] = digit(number / 100);
+}
+
+// The last digit of a number, as a character.
+#[inline(always)]
+fn digit(number: u32) -> u8
+    ensures { result ≡ 48 + number % 10 }
+{
+    b'0' + (number % 10) as u8
+}
+
+// How many zeros there are at the end of three digits that are not all zero.
+#[inline(always)]
+fn zeros_at_end(number: u32) -> usize
+    ensures { result ≡ (if number % 100 == 0 then 2 else (if number % 10 == 0 then 1 else 0)) }
+{
+    usize::from(number % 10 == 0) + usize::from(number % 100 == 0)
 }
