@@ -22,6 +22,6 @@ pub returns : goal.returns
 returns c =
     let given = c.requires in
     let found : FoundIsHeld = record { row = c.found_is_held.ensures.row; end = c.found_is_held.ensures.end } in
-    c.new.ensures ∙ collected found (formulas_of_plan c.args.plan.now) c.args._gathered.now c.args.items.items _ c.in_ok-collector.collector
+    c.new-2.ensures ∙ collected found (formulas_of_plan c.args.plan.now) c.args._gathered.now c.args.items.items _ c.in_ok-collector.collector
     c.add_lists.new.collector c.in_ok-lists.lists.items given.whole given.handed
     (given.files ∙ ap length (sym c.cones.ensures.value)) c.in_ok-collector.ensures c.in_ok-add_lists.ensures c.in_ok-lists.ensures
