@@ -1,7 +1,7 @@
 -- What writing on does to a sink and a buffer, and what a sink holds that was cut short.
-use Rattle.std.proofs.Common.{◌≡◌, ℕ, ◌+◌, ◌<◌, List, [], ◌∷◌, ◌++◌, length, take, drop, get_or, subst, Option, Some, None, refl, sym, ◌∙◌, ap, append_assoc, append-nil, add-one, inl, inr, arith}
-use Rattle.std.proofs.lemmas.List.{take-append-drop}
-use Rattle.std.proofs.Math.Seq.{take-suc}
+use Rattle.std.proofs.Common.{◌≡◌, ℕ, ◌+◌, ◌<◌, List, [], ◌∷◌, ◌++◌, length, take, drop, get_or, subst, Option, Some, None, refl, sym, ◌∙◌, ap, append_assoc, append-nil, inl, inr, arith}
+use Rattle.std.proofs.lemmas.List.{drop_more, take-append-drop}
+use Rattle.std.proofs.Math.Seq.{take-add}
 use Rattle.minelib_text.specs.Device.{added, holding}
 use Rattle.minelib_text.specs.Lines.{text_of}
 use Rattle.minelib_text.specs.SinkState.{SinkState, IsStill, IsCutOff, IsWrittenOn, IsCutShort}
@@ -76,10 +76,9 @@ text_of-append (x ∷ xs) ys = ap (λ rest. (x ++ 10 ∷ []) ++ rest) (text_of-a
 text_of-line : (lines : List (List ℕ)) (line : List ℕ) → text_of (lines ++ line ∷ []) ≡ text_of lines ++ (line ++ 10 ∷ [])
 text_of-line lines line = text_of-append lines (line ∷ []) ∙ ap (λ last. text_of lines ++ last) (append-nil (line ++ 10 ∷ []))
 
--- the text of the lines up to one and with it: those before it, and then that line
-text_of-take : (lines : List (List ℕ)) (i : ℕ) → i < length lines
-    → text_of (take (i + 1) lines) ≡ text_of (take i lines) ++ (get_or lines i [] ++ 10 ∷ [])
-text_of-take lines i h = rw (add-one i, take-suc lines i [] h) (text_of-line (take i lines) (get_or lines i []))
+-- the first of the rest
+pub text_of-one : (lines : List (List ℕ)) (i : ℕ) → i < length lines → text_of (take 1 (drop i lines)) ≡ get_or lines i [] ++ 10 ∷ []
+text_of-one lines i h = rw (drop_more lines i [] h) (append-nil (get_or lines i [] ++ 10 ∷ []))
 
 -- lines were cut short, and more were to come
 pub lines_cut_before : {n : ℕ} {before : List ℕ} {old new : SinkState} (xs ys : List (List ℕ))
@@ -97,20 +96,25 @@ module _ {before mid : List ℕ} {old between new : SinkState} where
       → IsCutShort n (text_of ys) mid between new → IsCutShort n (text_of (xs ++ ys)) before old new
   lines_cut_then xs ys first cut = rw text_of-append (cut_then first cut)
 
-  -- all the lines before this one were written on, and then this one
-  pub line_then : {after : List ℕ} (lines : List (List ℕ)) (i : ℕ) → i < length lines
-      → IsWrittenOn (text_of (take i lines)) before mid old between
-      → IsWrittenOn (get_or lines i [] ++ 10 ∷ []) mid after between new
-      → IsWrittenOn (text_of (take (i + 1) lines)) before after old new
-  line_then lines i h first then = rw (text_of-take lines i h) (written_then first then)
+  -- all the lines before a place were written on, and then so many more
+  pub more_then : {after : List ℕ} (lines : List (List ℕ)) (i n : ℕ) → IsWrittenOn (text_of (take i lines)) before mid old between
+      → IsWrittenOn (text_of (take n (drop i lines))) mid after between new → IsWrittenOn (text_of (take (i + n) lines)) before after old new
+  more_then lines i n first then = rw take-add (lines_then (take i lines) (take n (drop i lines)) first then)
 
-  -- all the lines before this one were written on, and this one was cut short
-  pub line_cut : {n : ℕ} (lines : List (List ℕ)) (i : ℕ) → i < length lines
-      → IsWrittenOn (text_of (take i lines)) before mid old between
-      → IsCutShort n (get_or lines i [] ++ 10 ∷ []) mid between new → IsCutShort n (text_of lines) before old new
-  line_cut {n} lines i h first cut =
-      subst (λ all. IsCutShort n (text_of all) before old new) (take-append-drop (i + 1) lines)
-      (lines_cut_before (take (i + 1) lines) (drop (i + 1) lines) (rw (text_of-take lines i h) (cut_then first cut)))
+  -- all the lines before a place were written on, and the others were cut short
+  pub rest_cut : {n : ℕ} (lines : List (List ℕ)) (i : ℕ) → IsWrittenOn (text_of (take i lines)) before mid old between
+      → IsCutShort n (text_of (drop i lines)) mid between new → IsCutShort n (text_of lines) before old new
+  rest_cut {n} lines i first cut =
+      subst (λ all. IsCutShort n (text_of all) before old new) (take-append-drop i lines)
+      (lines_cut_then (take i lines) (drop i lines) first cut)
+
+-- the buffer took the first lines, and what it held was cut short
+pub buffered_cut : {n : ℕ} {before after : List ℕ} {old new : SinkState} (lines : List (List ℕ)) (i : ℕ)
+    → after ≡ before ++ text_of (take i lines) → IsCutShort n [] after old new → IsCutShort n (text_of lines) before old new
+buffered_cut {n} {before} {after} {old} {new} lines i e cut =
+    subst (λ all. IsCutShort n (text_of all) before old new) (take-append-drop i lines)
+    (lines_cut_before (take i lines) (drop i lines)
+    (subst (λ text. IsCutShort n text before old new) (append-nil (text_of (take i lines))) (cut_then (buffered (text_of (take i lines)) e) cut)))
 
 -- a sink that could not begin does not hold the text either
 pub cut_at_begin : (text : List ℕ) (old new : SinkState) → IsCutOff 1 [] old new → IsCutOff 1 text old new

@@ -1,5 +1,6 @@
 pub mod BlocksBack
 pub mod CpitBack
+pub mod CoefFacts
 pub mod Completed
 pub mod CountedLater
 pub mod Cuts

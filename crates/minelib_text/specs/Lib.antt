@@ -1,5 +1,6 @@
 pub mod BegunModel
 pub mod BlockLines
+pub mod CoefParts
 pub mod Denotes
 pub mod Device
 pub mod FaultText

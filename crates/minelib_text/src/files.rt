@@ -5,6 +5,7 @@ ghost use Rattle.minelib_text.specs.Written.{text_blocks, text_prec, text_upit, 
 ghost use Rattle.pit_model.specs.declared.ranges.TheConstants.{MAX_BLOCKS};
 
 use crate::block_sections::{GreatestLines, PrecLines, ValueLines};
+use crate::coef_lines::CoefLines;
 use crate::id_text::IdText;
 use crate::keys::{put_cpit_keys, put_pcpsp_keys, put_problem};
 use crate::lines::Lines;
@@ -119,8 +120,8 @@ impl<'a> Text for PcpspFile<'a> {
             &ValueLines {
                 values: &instance.values,
             },
-            &Lines {
-                items: instance.coefs.as_slice(),
+            &CoefLines {
+                coefs: instance.coefs.as_slice(),
             },
             &Lines {
                 items: instance.limits.as_slice(),
@@ -154,8 +155,8 @@ impl<'a> Text for CpitFile<'a> {
             &Lines {
                 items: cpit.values(),
             },
-            &Lines {
-                items: cpit.coefs(),
+            &CoefLines {
+                coefs: cpit.coefs(),
             },
             &Lines {
                 items: cpit.limits(),

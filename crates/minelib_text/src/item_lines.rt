@@ -1,14 +1,12 @@
-//! The lines of blocks, coefficients and limits, and of a CPIT's values and coefficients.
+//! The lines of blocks and limits, and of a CPIT's values.
 
 ghost use Rattle.std.specs.Prelude.{◌≡◌, ◌++◌, ◌∷◌, [], ◌*◌, pos, OnOk, decimal};
 ghost use Rattle.pit_units.specs.Decimal.{shortest};
 ghost use Rattle.minelib_text.specs.Lines.{line_of};
-ghost use Rattle.minelib_text.specs.Written.{block_fields, coef_fields, limit_fields, bound_fields, cpit_value_fields, cpit_coef_fields};
+ghost use Rattle.minelib_text.specs.Written.{block_fields, limit_fields, bound_fields, cpit_value_fields};
 
 use crate::fields::{put_decimal_to, put_text, put_whole_to};
 use crate::lines::Line;
-use mine_instance::coef::Coef;
-use mine_instance::cpit::CpitCoef;
 use pit_model::block::Block;
 use pit_model::limit::{Bound, Limit};
 use pit_units::Dec;
@@ -44,17 +42,6 @@ fn put_ore(alloc: Global, out: &mut Vec<u8>, block: &Block) -> Result<(), AllocE
     let grade = Dec::new(i128::from(block.grade)).unwrap();
     put_decimal_to(alloc, out, tonnes, b' ')?;
     put_decimal_to(alloc, out, grade, b' ')
-}
-
-impl Line for Coef {
-    ghost fields = { coef_fields };
-
-    fn put(&self, alloc: Global, _index: usize, out: &mut Vec<u8>) -> Result<(), AllocError> {
-        put_whole_to(out, u64::from(self.b), b' ')?;
-        put_whole_to(out, u64::from(self.d), b' ')?;
-        put_whole_to(out, u64::from(self.r), b' ')?;
-        put_decimal_to(alloc, out, self.v, b'\n')
-    }
 }
 
 impl Line for Limit {
@@ -94,15 +81,5 @@ impl Line for Dec {
     fn put(&self, alloc: Global, index: usize, out: &mut Vec<u8>) -> Result<(), AllocError> {
         put_whole_to(out, index as u64, b' ')?;
         put_decimal_to(alloc, out, *self, b'\n')
-    }
-}
-
-impl Line for CpitCoef {
-    ghost fields = { cpit_coef_fields };
-
-    fn put(&self, alloc: Global, _index: usize, out: &mut Vec<u8>) -> Result<(), AllocError> {
-        put_whole_to(out, u64::from(self.b), b' ')?;
-        put_whole_to(out, u64::from(self.r), b' ')?;
-        put_decimal_to(alloc, out, self.v, b'\n')
     }
 }

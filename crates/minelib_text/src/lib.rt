@@ -3,6 +3,7 @@
 
 mod block_reader;
 mod block_sections;
+mod coef_lines;
 mod field_values;
 mod fields;
 pub mod file_sink;

@@ -1,6 +1,6 @@
 //! Large slices to a sink, and the lines that they are made of.
 
-ghost use Rattle.std.specs.Prelude.{◌≡◌, ◌<◌, ℕ, List, [], ◌∷◌, ◌++◌, length, slice_index_or, IfErr, OnOk, OnErr};
+ghost use Rattle.std.specs.Prelude.{◌≡◌, ◌+◌, ◌<◌, ◌≤◌, ℕ, List, [], ◌∷◌, ◌++◌, length, take, drop, slice_index_or, IfOk, IfErr, OnOk, OnErr};
 ghost use Rattle.minelib_text.specs.Lines.{text_of};
 ghost use Rattle.minelib_text.specs.SinkState.{refusals, IsWrittenOn, IsCutShort};
 
@@ -48,10 +48,27 @@ pub trait Section {
         requires { index < length (lines self.now) }
         ensures { OnOk result
             (out.new.items ≡ out.old.items ++ (slice_index_or (lines self.now) index [] ++ 10 ∷ [])) };
+
+    /// Appends one line or more, each with its LF, and answers how many. Where memory is refused a part of them may be appended.
+    fn append_some(
+        &self,
+        alloc: Global,
+        index: usize,
+        out: &mut Vec<u8>,
+    ) -> Result<usize, AllocError>
+        requires { index < length (lines self.now) }
+        ensures some { IfOk result (λ n. 0 < n) }
+        ensures within { IfOk result (λ n. index + n ≤ length (lines self.now)) }
+        ensures appended { IfOk result (λ n.
+            out.new.items ≡ out.old.items ++ text_of (take n (drop index (lines self.now)))) }
+    {
+        self.append(alloc, index, out)?;
+        Ok(1)
+    }
 }
 
 /// Writes the lines of a section behind what the buffer holds.
-#[tactic(auto, using(crate::proofs::Fronts::line_then))]
+#[tactic(auto, using(crate::proofs::Fronts::more_then))]
 pub fn write_section<S: Sink, L: Section>(
     alloc: Global,
     sink: &mut S,
@@ -63,27 +80,42 @@ pub fn write_section<S: Sink, L: Section>(
     ensures refused { IfErr result (λ fault. IsCutShort (refusals fault) (text_of (L.lines section.now))
         buffer.old.items (S.state sink.old) (S.state sink.new)) }
 {
-    for index in 0..section.len() {
-        write_line(alloc, sink, buffer, section, index)?;
+    let mut index = 0;
+    while index < section.len() {
+        let count = write_some(alloc, sink, buffer, section, index)?;
+        index += count;
     }
     Ok(())
 }
 
+// Writes one line or more, and answers how many.
 #[tactic(auto, using(crate::proofs::Fronts::nothing_put))]
-fn write_line<S: Sink, L: Section>(
+fn write_some<S: Sink, L: Section>(
     alloc: Global,
     sink: &mut S,
     buffer: &mut Vec<u8>,
     section: &L,
     index: usize,
-) -> Result<(), WriteFault>
+) -> Result<usize, WriteFault>
     requires { index < length (L.lines section.now) }
-    ensures written { OnOk result (IsWrittenOn (slice_index_or (L.lines section.now) index [] ++ 10 ∷ [])
+    ensures some { IfOk result (λ n. 0 < n) }
+    ensures within { IfOk result (λ n. index + n ≤ length (L.lines section.now)) }
+    ensures written { IfOk result (λ n. IsWrittenOn (text_of (take n (drop index (L.lines section.now))))
         buffer.old.items buffer.new.items (S.state sink.old) (S.state sink.new)) }
-    ensures refused { IfErr result (λ fault. IsCutShort (refusals fault) (slice_index_or (L.lines section.now) index [] ++ 10 ∷ [])
+    ensures refused { IfErr result (λ fault. IsCutShort (refusals fault) (text_of (drop index (L.lines section.now)))
         buffer.old.items (S.state sink.old) (S.state sink.new)) }
 {
-    section.append(alloc, index, buffer)?;
+    let count = section.append_some(alloc, index, buffer)?;
+    flush_full(sink, buffer)?;
+    Ok(count)
+}
+
+// Puts a full buffer and empties it.
+#[tactic(auto, using(crate::proofs::Fronts::buffered))]
+fn flush_full<S: Sink>(sink: &mut S, buffer: &mut Vec<u8>) -> Result<(), SinkFault>
+    ensures written { OnOk result (IsWrittenOn [] buffer.old.items buffer.new.items (S.state sink.old) (S.state sink.new)) }
+    ensures refused { OnErr result (IsCutShort 1 [] buffer.old.items (S.state sink.old) (S.state sink.new)) }
+{
     if buffer.len() >= LARGE {
         flush(sink, buffer)?;
     }
