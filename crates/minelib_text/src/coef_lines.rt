@@ -1,5 +1,5 @@
-//! The lines of coefficients. Those of a block stand together and most often state the same tonnes: such a line is the one before
-//! it with other digits.
+//! The lines of coefficients. Those of a block stand together, and most often they and the next block's state the same tonnes: such
+//! a line is the one before it with other digits.
 
 ghost use Rattle.std.specs.Prelude.{◌≡◌, ◌+◌, ◌<◌, ◌≤◌, ◌++◌, ◌∷◌, [], ℕ, List, IsTrue, IfOk, OnOk, decimal, length, take, drop};
 ghost use Rattle.std.specs.List.{flat_map};
@@ -10,48 +10,50 @@ ghost use Rattle.minelib_text.specs.Written.{coef_fields, cpit_coef_fields};
 use crate::fields::{put_decimal_to, put_whole_to};
 use crate::lines::item;
 use crate::output::Section;
+use itoa::write_digits;
 use mine_instance::coef::Coef;
 use mine_instance::cpit::CpitCoef;
 use std::alloc::{AllocError, Global};
 
+// Where the space behind the block stands in the room of a line: the identifier of a block has at most ten digits.
+const SPACE: usize = 10;
+
 // How many lines are appended at once at most: a buffer that is not full has room for them.
 const MOST: usize = 512;
 
-/// A coefficient by the two parts of its line: its block with a space, and the rest with the LF.
+/// A coefficient by the parts of its line: its block, and behind a space the rest with the LF.
 pub trait CoefLine {
     ghost fields: { Self → List (List ℕ) };
 
-    ghost block: { Self → List ℕ };
+    ghost block: { Self → ℕ };
 
     ghost rest: { Self → List ℕ };
 
-    /// Appends the block.
-    fn put_block(&self, out: &mut Vec<u8>) -> Result<(), AllocError>
-        ensures { OnOk result (out.new.items ≡ out.old.items ++ block self.now) };
+    /// The identifier of the block.
+    fn block(&self) -> u32
+        ensures { result ≡ block self.now };
 
     /// Appends the rest.
     fn put_rest(&self, alloc: Global, out: &mut Vec<u8>) -> Result<(), AllocError>
         ensures { OnOk result (out.new.items ≡ out.old.items ++ rest self.now) };
 
-    /// Makes the rest of another coefficient's line that of this one, and answers whether it could: the block is the same, and they
-    /// differ in digits alone.
+    /// Makes the rest of another coefficient's line that of this one where they differ in digits alone, and answers whether they do.
     fn rewrite(&self, other: &Self, text: &mut [u8]) -> bool
         requires { text.old ≡ rest other.now }
-        ensures block { IsTrue result → block self.now ≡ block other.now }
-        ensures rest { IsTrue result → text.new ≡ rest self.now };
+        ensures { IsTrue result → text.new ≡ rest self.now };
 
-    ghost parts: { (c : Self) → line_of (fields c) ++ 10 ∷ [] ≡ block c ++ rest c };
+    ghost parts: { (c : Self) → line_of (fields c) ++ 10 ∷ [] ≡ decimal (block c) ++ 32 ∷ rest c };
 }
 
 impl CoefLine for Coef {
     ghost fields = { coef_fields 0 };
 
-    ghost block = { λ c. decimal c.b ++ 32 ∷ [] };
+    ghost block = { λ c. c.b };
 
     ghost rest = { λ c. line_of (decimal c.d ∷ decimal c.r ∷ shortest c.v ∷ []) ++ 10 ∷ [] };
 
-    fn put_block(&self, out: &mut Vec<u8>) -> Result<(), AllocError> {
-        put_whole_to(out, u64::from(self.b), b' ')
+    fn block(&self) -> u32 {
+        self.b
     }
 
     fn put_rest(&self, alloc: Global, out: &mut Vec<u8>) -> Result<(), AllocError> {
@@ -61,10 +63,7 @@ impl CoefLine for Coef {
     }
 
     fn rewrite(&self, other: &Coef, text: &mut [u8]) -> bool {
-        if self.b != other.b || self.v != other.v {
-            return false;
-        }
-        if self.d >= 10 || self.r >= 10 || other.d >= 10 || other.r >= 10 {
+        if self.v != other.v || self.d >= 10 || self.r >= 10 || other.d >= 10 || other.r >= 10 {
             return false;
         }
         text[0] = b'0' + self.d;
@@ -80,12 +79,12 @@ impl CoefLine for Coef {
 impl CoefLine for CpitCoef {
     ghost fields = { cpit_coef_fields 0 };
 
-    ghost block = { λ c. decimal c.b ++ 32 ∷ [] };
+    ghost block = { λ c. c.b };
 
     ghost rest = { λ c. line_of (decimal c.r ∷ shortest c.v ∷ []) ++ 10 ∷ [] };
 
-    fn put_block(&self, out: &mut Vec<u8>) -> Result<(), AllocError> {
-        put_whole_to(out, u64::from(self.b), b' ')
+    fn block(&self) -> u32 {
+        self.b
     }
 
     fn put_rest(&self, alloc: Global, out: &mut Vec<u8>) -> Result<(), AllocError> {
@@ -94,7 +93,7 @@ impl CoefLine for CpitCoef {
     }
 
     fn rewrite(&self, other: &CpitCoef, text: &mut [u8]) -> bool {
-        if self.b != other.b || self.v != other.v || self.r >= 10 || other.r >= 10 {
+        if self.v != other.v || self.r >= 10 || other.r >= 10 {
             return false;
         }
         text[0] = b'0' + self.r;
@@ -121,7 +120,7 @@ impl<'a, C: CoefLine> Section for CoefLines<'a, C> {
 
     fn append(&self, alloc: Global, index: usize, out: &mut Vec<u8>) -> Result<(), AllocError> {
         let coef = item(self.coefs, index);
-        coef.put_block(out)?;
+        put_whole_to(out, u64::from(coef.block()), b' ')?;
         coef.put_rest(alloc, out)
     }
 
@@ -148,49 +147,62 @@ fn some_from<C>(coefs: &[C], index: usize) -> &[C]
     &coefs[index..index + count]
 }
 
+// Appends the lines of these coefficients. Each is made from the one before it in a room: the digits of the block end where a space
+// stands, and the rest stands behind it.
 fn put_coefs<C: CoefLine>(alloc: Global, out: &mut Vec<u8>, coefs: &[C]) -> Result<(), AllocError>
     requires { 0 < length coefs.now }
-    ensures { OnOk result (out.new.items ≡ out.old.items ++ flat_map (λ c. C.block c ++ C.rest c) coefs.now) }
+    ensures { OnOk result (out.new.items ≡ out.old.items ++ flat_map (λ c. decimal (C.block c) ++ 32 ∷ C.rest c) coefs.now) }
 {
-    let mut line = Vec::new(alloc);
     let mut before = &coefs[0];
-    let mut place = put_line(alloc, &mut line, before)?;
+    let mut room = new_room(alloc, before)?;
+    let mut start = write_block(room.as_mut_slice(), before.block());
     for coef in coefs {
-        place = next_line(alloc, &mut line, place, before, coef)?;
-        out.extend_from_slice(line.as_slice())?;
+        if coef.block() != before.block() {
+            start = write_block(room.as_mut_slice(), coef.block());
+        }
+        next_rest(alloc, &mut room, before, coef)?;
+        out.extend_from_slice(&room[start..])?;
         before = coef;
     }
     Ok(())
 }
 
-// Makes the line of a coefficient from that of another, whose rest begins at the place, and answers where its own begins.
-#[inline(always)]
-fn next_line<C: CoefLine>(
-    alloc: Global,
-    line: &mut Vec<u8>,
-    place: usize,
-    before: &C,
-    coef: &C,
-) -> Result<usize, AllocError>
-    requires place { place ≡ length (C.block before.now) }
-    requires line { line.old.items ≡ C.block before.now ++ C.rest before.now }
-    ensures place { IfOk result (λ place. place ≡ length (C.block coef.now)) }
-    ensures line { OnOk result (line.new.items ≡ C.block coef.now ++ C.rest coef.now) }
+// A room with the rest of a line behind a space.
+fn new_room<C: CoefLine>(alloc: Global, coef: &C) -> Result<Vec<u8>, AllocError>
+    ensures { IfOk result (λ room. drop 10 room.items ≡ 32 ∷ C.rest coef.now) }
 {
-    if coef.rewrite(before, &mut line[place..]) {
-        return Ok(place);
-    }
-    put_line(alloc, line, coef)
+    let mut room = Vec::new(alloc);
+    room.resize(SPACE + 1, b' ')?;
+    coef.put_rest(alloc, &mut room)?;
+    Ok(room)
 }
 
-// Puts a line in the place of another, and answers where its rest begins.
-fn put_line<C: CoefLine>(alloc: Global, line: &mut Vec<u8>, coef: &C) -> Result<usize, AllocError>
-    ensures place { IfOk result (λ place. place ≡ length (C.block coef.now)) }
-    ensures line { OnOk result (line.new.items ≡ C.block coef.now ++ C.rest coef.now) }
+// Writes the digits of a block before the space, and answers where they begin.
+#[inline(always)]
+fn write_block(room: &mut [u8], block: u32) -> usize
+    requires { 10 ≤ length room.old }
+    ensures start { result ≤ 10 }
+    ensures digits { drop result (take 10 room.new) ≡ decimal block }
+    ensures behind { drop 10 room.new ≡ drop 10 room.old }
 {
-    line.clear();
-    coef.put_block(line)?;
-    let place = line.len();
-    coef.put_rest(alloc, line)?;
-    Ok(place)
+    write_digits(u64::from(block), room, SPACE)
+}
+
+// Makes the rest behind the space that of another coefficient.
+#[inline(always)]
+fn next_rest<C: CoefLine>(
+    alloc: Global,
+    room: &mut Vec<u8>,
+    before: &C,
+    coef: &C,
+) -> Result<(), AllocError>
+    requires { drop 10 room.old.items ≡ 32 ∷ C.rest before.now }
+    ensures rest { OnOk result (drop 10 room.new.items ≡ 32 ∷ C.rest coef.now) }
+    ensures digits { take 10 room.new.items ≡ take 10 room.old.items }
+{
+    if coef.rewrite(before, &mut room[SPACE + 1..]) {
+        return Ok(());
+    }
+    room.truncate(SPACE + 1);
+    coef.put_rest(alloc, room)
 }

@@ -1,4 +1,5 @@
-use Rattle.std.proofs.Common.{◌++◌, length, sym}
+use Rattle.std.proofs.Common.{◌∷◌, ◌++◌, length, sym}
+use Rattle.std.specs.Prelude.{decimal}
 use Rattle.minelib_text.proofs.LineFacts.{length-lines_from, some_texts}
 use Rattle.minelib_text.proofs.coef_lines.CoefLinesSection.append_some.Goals as goal
 
@@ -9,7 +10,7 @@ pub returns : goal.returns
 returns g c =
     let all = c.args.self.now.coefs.now in
     let some = c.some_from-coefs.result.now in
-    let texts = some_texts g.C.CoefLine.fields (λ x. g.C.CoefLine.block x ++ g.C.CoefLine.rest x) g.met.C.CoefLine.parts
+    let texts = some_texts g.C.CoefLine.fields (λ x. decimal (g.C.CoefLine.block x) ++ 32 ∷ g.C.CoefLine.rest x) g.met.C.CoefLine.parts
     c.args.index (length some) all in
     record {
       some = c.some_from-coefs.ensures.some;
