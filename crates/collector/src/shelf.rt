@@ -7,7 +7,7 @@ ghost use Rattle.pit_model.specs.declared.ranges.TheConstants.{MAX_ROWS};
 use crate::add_fault::AddFault;
 use pit_model::ranges::MAX_ROWS;
 use std::alloc::{AllocError, Global};
-use valuers::Valued;
+use valuers::{Valued, make_room};
 
 /// The rows and the end mark of one file.
 #[derive(Drop)]
@@ -69,6 +69,7 @@ impl Shelf {
         if place < self.rows.len() {
             self.rows[place] = row;
         } else {
+            make_room(&mut self.rows, place);
             self.rows.resize(place + 1, row)?;
         }
         Ok(())

@@ -24,7 +24,15 @@ pub fn build_cpit(alloc: Global, instance: &Instance) -> Result<Cpit, AllocError
         destinations,
         values,
     } = chosen_of(alloc, &instance.values)?;
-    let coefs = coefs_at(alloc, instance.coefs.as_slice(), destinations.as_slice())?;
+    let most = destinations
+        .len()
+        .saturating_mul(usize::from(instance.resources));
+    let coefs = coefs_at(
+        alloc,
+        instance.coefs.as_slice(),
+        destinations.as_slice(),
+        most,
+    )?;
     let limits = Vec::from_slice(alloc, instance.limits.as_slice())?;
     Ok(Cpit::new(
         name,
@@ -63,16 +71,17 @@ fn chosen_of(alloc: Global, values: &Values) -> Result<Chosen, AllocError>
     })
 }
 
-// The coefficients at their blocks' destinations.
+// The coefficients at their blocks' destinations, which are mostly not more than `most`.
 fn coefs_at(
     alloc: Global,
     coefs: &[Coef],
     destinations: &[usize],
+    most: usize,
 ) -> Result<Vec<CpitCoef>, AllocError>
     requires { All (λ coef. coef.b < length destinations.now) coefs.now }
     ensures { IfOk result (λ chosen. chosen.items ≡ map without_destination (filter (is_at destinations.now) coefs.now)) }
 {
-    let mut chosen = Vec::new(alloc);
+    let mut chosen = Vec::with_capacity(alloc, most.min(coefs.len()))?;
     for coef in coefs {
         if is_at(destinations, coef) {
             let (b, r, v) = (coef.b, coef.r, coef.v);

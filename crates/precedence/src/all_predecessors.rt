@@ -17,6 +17,9 @@ use pit_model::block::Block;
 use pit_model::plan::Plan;
 use std::alloc::{AllocError, Global};
 
+// As many blocks lie in a cone of one bench under slopes of 1:1, and a few more.
+const USUAL: usize = 8;
+
 /// The predecessors of each block by identifier, in rising order: the blocks of the cone above it, whose slopes and number of
 /// benches are those of the block's own zone. The plan has to have the zone of each block. Fails only where memory is refused.
 pub fn preds(alloc: Global, numbering: &Numbering, plan: &Plan) -> Result<Preds, AllocError>
@@ -50,7 +53,7 @@ fn lists_of(
     requires in_order { All (λ t. AreInOrder t.rows.items) tables.now.tables.items }
     ensures { IfOk result (λ lists. lists ≡ map (in_cone tables.now.tables.items tables.now.of_zone.items (codes blocks.now)) blocks.now) }
 {
-    let mut flat = Vec::new(alloc);
+    let mut flat = Vec::with_capacity(alloc, blocks.len().saturating_mul(USUAL))?;
     let mut ends = Vec::with_capacity(alloc, blocks.len())?;
     for block in blocks {
         add_list(&mut flat, places, tables, hints, block)?;

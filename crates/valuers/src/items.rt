@@ -3,6 +3,7 @@
 ghost use Rattle.std.specs.Prelude.{◌≡◌, ◌++◌, [], ◌∷◌, OnOk, OnErr};
 
 use crate::item::Item;
+use crate::room::make_room;
 use std::alloc::{AllocError, Global};
 use std::marker::Model;
 
@@ -49,6 +50,8 @@ impl Items {
         if self.items.len() >= self.most {
             return Err(AllocError);
         }
+        let place = self.items.len();
+        make_room(&mut self.items, place);
         self.items.push(item)?;
         Ok(())
     }

@@ -4,6 +4,7 @@
 mod gate;
 mod item;
 mod items;
+mod room;
 mod row_lists;
 mod rows;
 mod valuer;
@@ -13,6 +14,7 @@ mod worths;
 pub use gate::{Gate, OpenGate};
 pub use item::{Item, Valued};
 pub use items::Items;
+pub use room::make_room;
 pub use row_lists::RowLists;
 pub use rows::Rows;
 pub use valuer::{ValuerResult, value_all};

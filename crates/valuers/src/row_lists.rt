@@ -85,13 +85,20 @@ fn row_at(lists: &[Rows], position: usize) -> &Valued
 fn blocks_in(alloc: Global, lists: &[Rows]) -> Result<Vec<Block>, AllocError>
     ensures { IfOk result (λ blocks. blocks.items ≡ map (λ row. row.block) (flat_map (λ list. list) lists.now)) }
 {
-    let mut blocks = Vec::new(alloc);
+    let mut blocks = Vec::with_capacity(alloc, count_of(lists))?;
     for list in lists {
-        let rows = list.as_slice();
-        blocks.reserve(rows.len())?;
-        put_blocks(&mut blocks, rows)?;
+        put_blocks(&mut blocks, list.as_slice())?;
     }
     Ok(blocks)
+}
+
+// The number of the files' rows, as far as it can be said.
+fn count_of(lists: &[Rows]) -> usize {
+    let mut count: usize = 0;
+    for list in lists {
+        count = count.saturating_add(list.as_slice().len());
+    }
+    count
 }
 
 fn put_blocks(blocks: &mut Vec<Block>, rows: &[Valued]) -> Result<(), AllocError>
