@@ -157,9 +157,7 @@ fn put_coefs<C: CoefLine>(alloc: Global, out: &mut Vec<u8>, coefs: &[C]) -> Resu
     let mut room = new_room(alloc, before)?;
     let mut start = write_block(room.as_mut_slice(), before.block());
     for coef in coefs {
-        if coef.block() != before.block() {
-            start = write_block(room.as_mut_slice(), coef.block());
-        }
+        start = next_block(room.as_mut_slice(), start, before, coef);
         next_rest(alloc, &mut room, before, coef)?;
         out.extend_from_slice(&room[start..])?;
         before = coef;
@@ -188,6 +186,22 @@ fn write_block(room: &mut [u8], block: u32) -> usize
     write_digits(u64::from(block), room, SPACE)
 }
 
+// Makes the digits before the space those of another coefficient's block, and answers where they begin.
+#[inline(always)]
+fn next_block<C: CoefLine>(room: &mut [u8], start: usize, before: &C, coef: &C) -> usize
+    requires start { start ≤ 10 }
+    requires digits { drop start (take 10 room.old) ≡ decimal (C.block before.now) }
+    requires rest { drop 10 room.old ≡ 32 ∷ C.rest before.now }
+    ensures start { result ≤ 10 }
+    ensures digits { drop result (take 10 room.new) ≡ decimal (C.block coef.now) }
+    ensures behind { drop 10 room.new ≡ drop 10 room.old }
+{
+    if coef.block() == before.block() {
+        return start;
+    }
+    write_block(room, coef.block())
+}
+
 // Makes the rest behind the space that of another coefficient.
 #[inline(always)]
 fn next_rest<C: CoefLine>(
@@ -198,7 +212,7 @@ fn next_rest<C: CoefLine>(
 ) -> Result<(), AllocError>
     requires { drop 10 room.old.items ≡ 32 ∷ C.rest before.now }
     ensures rest { OnOk result (drop 10 room.new.items ≡ 32 ∷ C.rest coef.now) }
-    ensures digits { take 10 room.new.items ≡ take 10 room.old.items }
+    ensures digits { OnOk result (take 10 room.new.items ≡ take 10 room.old.items) }
 {
     if coef.rewrite(before, &mut room[SPACE + 1..]) {
         return Ok(());

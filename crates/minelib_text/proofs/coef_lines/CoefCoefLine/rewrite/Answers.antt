@@ -1,11 +1,11 @@
-use Rattle.std.proofs.Common.{◌≡◌, ◌+◌, ◌∙◌, ap, sym, arith, rules, tests}
+use Rattle.std.proofs.Common.{◌≡◌, ◌+◌, ◌∙◌, ap, arith, rules, tests}
 use Rattle.std.specs.Prelude.{slice_set}
 use Rattle.pit_units.specs.Decimal.{shortest}
 use Rattle.minelib_text.proofs.CoefFacts.{two_digits_set}
 use Rattle.minelib_text.proofs.coef_lines.CoefCoefLine.rewrite.Goals as goal
 
-pub returns-clause-rest : goal.returns-clause-rest
-returns-clause-rest c _ =
+pub returns : goal.returns
+returns c _ =
     let new = c.args.self.now in
     let old = c.args.other.now in
     let same : old.v ≡ new.v = search (tests, rules) in
