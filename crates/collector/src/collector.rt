@@ -110,7 +110,7 @@ fn put_item(shelves: &mut [Shelf], item: &Item) -> Result<(), AllocError>
     ensures count { length shelves.new ≡ length shelves.old }
 {
     match item {
-        Item::Row(row) => put_row(shelves, *row),
+        Item::Row(row) => put_row(shelves, row),
         Item::End { file, rows } => {
             put_end(shelves, *file, *rows);
             Ok(())
@@ -119,10 +119,10 @@ fn put_item(shelves: &mut [Shelf], item: &Item) -> Result<(), AllocError>
 }
 
 // Puts a row on the shelf of its file. The shelves stay as they were where memory is refused.
-fn put_row(shelves: &mut [Shelf], row: Valued) -> Result<(), AllocError>
-    requires { row.file < length shelves.old }
+fn put_row(shelves: &mut [Shelf], row: &Valued) -> Result<(), AllocError>
+    requires { row.now.file < length shelves.old }
     ensures rows { OnOk result ((file : ℕ) → rows_in shelves.new file
-        ≡ (if row.file == file then with_row (rows_in shelves.old file) row else rows_in shelves.old file)) }
+        ≡ (if row.now.file == file then with_row (rows_in shelves.old file) row.now else rows_in shelves.old file)) }
     ensures err { OnErr result ((file : ℕ) → rows_in shelves.new file ≡ rows_in shelves.old file) }
     ensures ends { (file : ℕ) → end_in shelves.new file ≡ end_in shelves.old file }
     ensures count { length shelves.new ≡ length shelves.old }

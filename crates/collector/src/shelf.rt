@@ -60,17 +60,17 @@ impl Shelf {
     }
 
     /// Puts a row at its place. The shelf stays as it was where memory is refused.
-    pub fn put_row(&mut self, row: Valued) -> Result<(), AllocError>
-        ensures ok { OnOk result (self.new.rows.items ≡ with_row self.old.rows.items row) }
+    pub fn put_row(&mut self, row: &Valued) -> Result<(), AllocError>
+        ensures ok { OnOk result (self.new.rows.items ≡ with_row self.old.rows.items row.now) }
         ensures err { OnErr result (self.new.rows.items ≡ self.old.rows.items) }
         ensures end { self.new.end ≡ self.old.end }
     {
         let place = row.place as usize;
         if place < self.rows.len() {
-            self.rows[place] = row;
+            self.rows[place] = *row;
         } else {
             make_room(&mut self.rows, place);
-            self.rows.resize(place + 1, row)?;
+            self.rows.resize(place + 1, *row)?;
         }
         Ok(())
     }
