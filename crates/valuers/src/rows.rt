@@ -34,11 +34,4 @@ impl Rows {
     {
         self.rows.as_slice()
     }
-
-    /// The rows, in order of place, which are not copied.
-    pub fn into_vec(self) -> Vec<Valued>
-        ensures { result.items ≡ self }
-    {
-        self.rows
-    }
 }
