@@ -22,7 +22,10 @@ pub enum Entry {
         block: Block,
     },
     /// An end mark.
-    End { file: u8, rows: u32 },
+    End {
+        file: u8,
+        rows: u32,
+    },
 }
 
 /// What one valuer hands on: the rows and end marks that it took, in order. Contracts see the list of them. In memory an item takes 40

@@ -7,6 +7,7 @@ const FEW: usize = 4_096;
 
 // For how many more rows a long list gets room, and for how many worths. Room that is not used takes no memory but addresses.
 const MANY: usize = 262_144;
+
 const MANY_WORTHS: usize = 1_048_576;
 
 /// Takes room for many more rows and their worths where a list of rows becomes a long one as one comes to this place. Where the room is refused

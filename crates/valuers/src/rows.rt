@@ -104,3 +104,6 @@ fn put_blocks(blocks: &mut Vec<Block>, heads: &[Head]) -> Result<(), AllocError>
     }
     Ok(())
 }
+
+#[cfg(test)]
+mod tests;
