@@ -31,19 +31,19 @@ get-filled-row rows end place filled =
 
 -- the rows of the shelves are lists
 list-of : (shelves : List Shelf) (file : ℕ) (rows : List Valued) →
-    slice_get (map (λ (s : Shelf). s.rows.items) shelves) file ≡ Some rows → (file < length shelves) × (rows_in shelves file ≡ rows)
+    slice_get (map (λ (s : Shelf). s.rows) shelves) file ≡ Some rows → (file < length shelves) × (rows_in shelves file ≡ rows)
 list-of [] file rows got = absurd (none-some rows got)
-list-of (s ∷ shelves) zero rows got = (omega arith, same_Some s.rows.items rows got)
+list-of (s ∷ shelves) zero rows got = (omega arith, same_Some s.rows rows got)
 list-of (s ∷ shelves) (suc file) rows got = let h = list-of shelves file rows got in (omega (arith, h.0), h.1)
 
 pub are_lists : (held : List Item) (shelves : List Shelf) (lists : List (List Valued)) (view : CollectorView) →
     record { files = length shelves; items = held } ≡ view →
     (length shelves ≤ 255) × IsKept (length shelves) held (rows_in shelves) (end_in shelves) →
     ((file : ℕ) → file < length shelves → IsFilled (rows_in shelves file) (end_in shelves file)) →
-    lists ≡ map (λ (s : Shelf). s.rows.items) shelves → AreLists view.files view.items lists
+    lists ≡ map (λ (s : Shelf). s.rows) shelves → AreLists view.files view.items lists
 are_lists held shelves lists view is_view kept filled is_map =
     subst (λ (v : CollectorView). AreLists v.files v.items lists) is_view (rw is_map (record {
-      count = length-map shelves (λ (s : Shelf). s.rows.items);
+      count = length-map shelves (λ (s : Shelf). s.rows);
       ends = λ file rows got. let at = list-of shelves file rows got in
           (kept.1.shelved file).ended ∙ (filled file at.0).0 ∙ ap (λ rs. Some (length rs)) at.1;
       rows = λ file place rows got. let at = list-of shelves file rows got in

@@ -13,32 +13,32 @@ use Rattle.collector.specs.Fault.{fault}
 use Rattle.collector.specs.CollectorView.{CollectorView}
 use Rattle.collector.proofs.Kept.{kept_more}
 
-pub rows-at : (shelves : List Shelf) (file : ℕ) (s : Shelf) → slice_get shelves file ≡ Some s → rows_in shelves file ≡ s.rows.items
-rows-at shelves file s e = ap (λ o. unwrap_or (option_map (λ (t : Shelf). t.rows.items) o) []) e
+pub rows-at : (shelves : List Shelf) (file : ℕ) (s : Shelf) → slice_get shelves file ≡ Some s → rows_in shelves file ≡ s.rows
+rows-at shelves file s e = ap (λ o. unwrap_or (option_map (λ (t : Shelf). t.rows) o) []) e
 
 pub end-at : (shelves : List Shelf) (file : ℕ) (s : Shelf) → slice_get shelves file ≡ Some s → end_in shelves file ≡ s.end
 end-at shelves file s e = ap (option_and_then (λ (t : Shelf). t.end)) e
 
 pub rows-past : (shelves : List Shelf) (file : ℕ) → length shelves ≤ file → rows_in shelves file ≡ []
-rows-past shelves file past = ap (λ o. unwrap_or (option_map (λ (t : Shelf). t.rows.items) o) []) (slice_get_past shelves file past)
+rows-past shelves file past = ap (λ o. unwrap_or (option_map (λ (t : Shelf). t.rows) o) []) (slice_get_past shelves file past)
 
 pub end-past : (shelves : List Shelf) (file : ℕ) → length shelves ≤ file → end_in shelves file ≡ None
 end-past shelves file past = ap (option_and_then (λ (t : Shelf). t.end)) (slice_get_past shelves file past)
 
 -- the fault on a file's shelf is the fault among all shelves
 pub row_fault-at : (shelves : List Shelf) (v : Valued) (s : Shelf) → v.file < length shelves → s ≡ get_or shelves v.file s →
-    row_fault s.rows.items s.end v.place ≡ fault_in (length shelves) (rows_in shelves) (end_in shelves) (Row v)
+    row_fault s.rows s.end v.place ≡ fault_in (length shelves) (rows_in shelves) (end_in shelves) (Row v)
 row_fault-at shelves v s within read =
     let found = slice_get_read shelves (length shelves) v.file s refl within read in
     sym (cond-false (leb (length shelves) v.file) _ _ (lt-leb (length shelves) v.file within)
-    ∙ ap (λ o. row_fault (unwrap_or (option_map (λ (t : Shelf). t.rows.items) o) []) (option_and_then (λ (t : Shelf). t.end) o) v.place) found)
+    ∙ ap (λ o. row_fault (unwrap_or (option_map (λ (t : Shelf). t.rows) o) []) (option_and_then (λ (t : Shelf). t.end) o) v.place) found)
 
 pub end_fault-at : (shelves : List Shelf) (file count : ℕ) (s : Shelf) → file < length shelves → s ≡ get_or shelves file s →
-    end_fault s.rows.items s.end count ≡ fault_in (length shelves) (rows_in shelves) (end_in shelves) (End file count)
+    end_fault s.rows s.end count ≡ fault_in (length shelves) (rows_in shelves) (end_in shelves) (End file count)
 end_fault-at shelves file count s within read =
     let found = slice_get_read shelves (length shelves) file s refl within read in
     sym (cond-false (leb (length shelves) file) _ _ (lt-leb (length shelves) file within)
-    ∙ ap (λ o. end_fault (unwrap_or (option_map (λ (t : Shelf). t.rows.items) o) []) (option_and_then (λ (t : Shelf). t.end) o) count) found)
+    ∙ ap (λ o. end_fault (unwrap_or (option_map (λ (t : Shelf). t.rows) o) []) (option_and_then (λ (t : Shelf). t.end) o) count) found)
 
 -- one item more, as the shelves are written back
 pub kept-put : (held after : List Item) (item : Item) (old new lent back : List Shelf) (view : CollectorView) →

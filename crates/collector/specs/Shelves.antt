@@ -29,7 +29,7 @@ with_row rows v =
 
 -- the rows on the shelf of a file
 abbrev pub rows_in : List Shelf → ℕ → List Valued
-rows_in shelves file = unwrap_or (option_map (λ s. s.rows.items) (slice_get shelves file)) []
+rows_in shelves file = unwrap_or (option_map (λ s. s.rows) (slice_get shelves file)) []
 
 -- the count of the end mark on the shelf of a file
 abbrev pub end_in : List Shelf → ℕ → Option ℕ
@@ -37,7 +37,7 @@ end_in shelves file = option_and_then (λ s. s.end) (slice_get shelves file)
 
 -- nothing is on the shelf
 abbrev pub IsBare : Shelf → Type 0
-IsBare s = (s.rows.items ≡ []) × (s.end ≡ None)
+IsBare s = (s.rows ≡ []) × (s.end ≡ None)
 
 -- the fault of a row of this place, on a shelf with these rows and this end mark
 abbrev pub row_fault : List Valued → Option ℕ → ℕ → Option AddFault

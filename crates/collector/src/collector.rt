@@ -161,12 +161,9 @@ fn require_filled(shelves: &[Shelf]) -> Result<(), FinishFault>
 
 // The rows of each shelf, which are not copied.
 fn rows_of(alloc: Global, shelves: Vec<Shelf>) -> Result<Vec<Rows>, AllocError>
-    ensures { IfOk result (λ lists. lists.items ≡ map (λ shelf. shelf.rows.items) shelves.items) }
+    ensures { IfOk result (λ lists. lists.items ≡ map (λ shelf. shelf.rows) shelves.items) }
 {
-    shelves
-        .into_iter()
-        .map(|shelf| Rows::new(shelf.rows))
-        .collect(alloc)
+    shelves.into_iter().map(|shelf| shelf.rows).collect(alloc)
 }
 
 #[cfg(test)]

@@ -7,14 +7,14 @@ ghost use Rattle.pit_model.specs.declared.ranges.TheConstants.{MAX_ROWS};
 use crate::add_fault::AddFault;
 use pit_model::ranges::MAX_ROWS;
 use std::alloc::{AllocError, Global};
-use valuers::{Valued, make_room};
+use valuers::{Rows, Valued};
 
 /// The rows and the end mark of one file.
 #[derive(Drop)]
 pub struct Shelf {
     /// The rows, each at its place, up to the last one that is held. Where a place before it is not held, a row of a later place
     /// stands in for it.
-    pub rows: Vec<Valued>,
+    pub rows: Rows,
     /// The count of the end mark, if that is held.
     pub end: Option<u32>,
 }
@@ -22,18 +22,18 @@ pub struct Shelf {
 impl Shelf {
     /// A shelf with nothing on it.
     pub fn new(alloc: Global) -> Shelf
-        ensures rows { result.rows.items ≡ [] }
+        ensures rows { result.rows ≡ [] }
         ensures end { result.end ≡ None }
     {
         Shelf {
-            rows: Vec::new(alloc),
+            rows: Rows::new(alloc),
             end: None,
         }
     }
 
     /// What is wrong with a row of this place.
     pub fn row_fault(&self, place: u32) -> Option<AddFault>
-        ensures { result ≡ row_fault self.now.rows.items self.now.end place }
+        ensures { result ≡ row_fault self.now.rows self.now.end place }
     {
         if holds(&self.rows, place) {
             Some(AddFault::Double)
@@ -48,7 +48,7 @@ impl Shelf {
 
     /// What is wrong with an end mark of this count.
     pub fn end_fault(&self, count: u32) -> Option<AddFault>
-        ensures { result ≡ end_fault self.now.rows.items self.now.end count }
+        ensures { result ≡ end_fault self.now.rows self.now.end count }
     {
         if self.end.is_some() {
             Some(AddFault::SecondEnd)
@@ -61,25 +61,23 @@ impl Shelf {
 
     /// Puts a row at its place. The shelf stays as it was where memory is refused.
     pub fn put_row(&mut self, row: &Valued) -> Result<(), AllocError>
-        ensures ok { OnOk result (self.new.rows.items ≡ with_row self.old.rows.items row.now) }
-        ensures err { OnErr result (self.new.rows.items ≡ self.old.rows.items) }
+        ensures ok { OnOk result (self.new.rows ≡ with_row self.old.rows row.now) }
+        ensures err { OnErr result (self.new.rows ≡ self.old.rows) }
         ensures end { self.new.end ≡ self.old.end }
     {
         let place = row.place as usize;
         if place < self.rows.len() {
-            self.rows[place] = *row;
+            self.rows.set(place, row)
         } else {
-            make_room(&mut self.rows, place);
-            self.rows.resize(place + 1, *row)?;
+            self.rows.resize(place + 1, row)
         }
-        Ok(())
     }
 
     /// The least place with no row, or `None` where each place below the end mark's count has its row.
     pub fn lacking(&self) -> Option<u32>
-        requires few { length self.now.rows.items ≤ MAX_ROWS }
-        requires closed { (count : ℕ) → self.now.end ≡ Some count → length self.now.rows.items ≤ count }
-        ensures { MatchOption result (IsFilled self.now.rows.items self.now.end) (IsLacking self.now.rows.items self.now.end) }
+        requires few { length self.now.rows ≤ MAX_ROWS }
+        requires closed { (count : ℕ) → self.now.end ≡ Some count → length self.now.rows ≤ count }
+        ensures { MatchOption result (IsFilled self.now.rows self.now.end) (IsLacking self.now.rows self.now.end) }
     {
         let place = open_place(&self.rows);
         if self.end == Some(place) {
@@ -91,7 +89,7 @@ impl Shelf {
 }
 
 // The least place that has no row.
-fn open_place(rows: &[Valued]) -> u32
+fn open_place(rows: &Rows) -> u32
     requires { length rows.now ≤ MAX_ROWS }
     ensures within { result ≤ length rows.now }
     ensures none { slot rows.now result ≡ None }
@@ -107,9 +105,8 @@ fn open_place(rows: &[Valued]) -> u32
 }
 
 // Whether the row of this place is among these.
-fn holds(rows: &[Valued], place: u32) -> bool
+fn holds(rows: &Rows, place: u32) -> bool
     ensures { result ≡ is_some (slot rows.now place) }
 {
-    rows.get(place as usize)
-        .is_some_and(|row| row.place == place)
+    rows.place_at(place as usize) == Some(place)
 }

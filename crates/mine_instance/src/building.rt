@@ -97,17 +97,17 @@ pub fn values_by_id(
     let count = numbering.len() as usize;
     let mut all = Vec::with_capacity(alloc, count * width)?;
     for id in 0..numbering.len() {
-        put_values(&mut all, row_of(numbering, rows, id), plan)?;
+        put_values(&mut all, &row_of(numbering, rows, id), plan)?;
     }
     Ok(Values::new(all, count, width))
 }
 
 // The row of the block that has an identifier.
-fn row_of<'a>(numbering: &Numbering, rows: &'a RowLists, id: u32) -> &'a Valued
+fn row_of(numbering: &Numbering, rows: &RowLists, id: u32) -> Valued
     requires numbering { IsNumbering (blocks_of_rows rows.now) numbering.now }
     requires within { id < length numbering.now.blocks }
-    ensures block { slice_get numbering.now.blocks id ≡ Some result.now.block }
-    ensures row { Contains rows.now result.now }
+    ensures block { slice_get numbering.now.blocks id ≡ Some result.block }
+    ensures row { Contains rows.now result }
 {
     rows.at(numbering.position(id) as usize)
 }

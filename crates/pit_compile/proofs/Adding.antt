@@ -1,5 +1,6 @@
 -- Adding the items of a complete list, one list of them after the other.
-use Rattle.std.proofs.Common.{◌≡◌, ℕ, suc, ◌<◌, List, ◌∷◌, ◌++◌, length, get_or, take, drop, None, sym, ap, subst, ◌∙◌, append_assoc}
+use Rattle.std.proofs.Common.{◌≡◌, ℕ, suc, ◌<◌, ◌+◌, List, [], ◌∷◌, ◌++◌, length, get_or, take, drop, Some, None, sym, ap, subst, ◌∙◌, append_assoc}
+use Rattle.std.specs.List.{slice_get}
 use Rattle.std.specs.List.Sorted.{IsPermutation}
 use Rattle.std.proofs.Math.Seq.{drop-cons}
 use Rattle.std.proofs.lemmas.List.{take-append-drop}
@@ -7,6 +8,7 @@ use Rattle.std.proofs.lemmas.List.Sorted.{IsPermutation-refl}
 use Rattle.collector.specs.Complete.{IsComplete}
 use Rattle.collector.specs.Fault.{fault}
 use Rattle.collector.specs.CollectorView.{CollectorView}
+use Rattle.mine_instance.proofs.BuildFacts.{take_next}
 use Rattle.pit_compile.specs.Collecting.{joined, IsFront}
 use Rattle.valuers.specs.declared.item.Item.{Item}
 
@@ -48,3 +50,12 @@ next-front old now lists all rest list items whole same come cut is_list =
       subst (λ (n : ℕ). IsComplete n ((now.items ++ items) ++ joined rest)) (sym same)
           (subst (λ (xs : List Item). IsComplete old.files xs) parts whole),
     )
+
+-- one item more was added of those to add
+pub added-next : (old now next : CollectorView) (items : List Item) (i : ℕ) (item : Item) → now ≡ record old { items = old.items ++ take i items } →
+    slice_get items i ≡ Some item → next ≡ record now { items = now.items ++ item ∷ [] } →
+    next ≡ record old { items = old.items ++ take (i + 1) items }
+added-next old now next items i item is_now read is_next =
+    is_next
+    ∙ ap (λ (view : CollectorView). record view { items = view.items ++ item ∷ [] }) is_now
+    ∙ ap (λ xs. record old { items = xs }) (append_assoc old.items (take i items) (item ∷ []) ∙ ap (λ xs. old.items ++ xs) (sym (take_next items i item read)))

@@ -2,6 +2,7 @@
 #![tactic(auto)]
 
 mod gate;
+mod head;
 mod item;
 mod items;
 mod room;
@@ -14,7 +15,6 @@ mod worths;
 pub use gate::{Gate, OpenGate};
 pub use item::{Item, Valued};
 pub use items::Items;
-pub use room::make_room;
 pub use row_lists::RowLists;
 pub use rows::Rows;
 pub use valuer::{ValuerResult, value_all};

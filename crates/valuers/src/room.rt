@@ -2,20 +2,23 @@
 
 ghost use Rattle.std.specs.Prelude.{◌≡◌};
 
-// How many items a list has when it counts as long.
+// How many rows a list has when it counts as long.
 const FEW: usize = 4_096;
 
-// How many more a long list gets room for: of rows so many take more memory than an allocator keeps in one place with others, and what
-// stands alone grows on with no copy. Room that is not used takes no memory but addresses.
+// For how many more rows a long list gets room, and for how many worths. Room that is not used takes no memory but addresses.
 const MANY: usize = 262_144;
 
-/// Takes room for many more items where the next one, at this place, makes the list a long one. Where the room is refused nothing is
-/// lost: the list grows as it comes.
+const MANY_WORTHS: usize = 1_048_576;
+
+/// Takes room for many more rows and their worths where a list of rows becomes a long one as one comes to this place. Where the room is refused
+/// nothing is lost: the lists grow as they come.
 #[inline(always)]
-pub fn make_room<T>(list: &mut Vec<T>, place: usize)
-    ensures { list.new.items ≡ list.old.items }
+pub fn make_room<T>(rows: &mut Vec<T>, worths: &mut Vec<i128>, place: usize)
+    ensures rows { rows.new.items ≡ rows.old.items }
+    ensures worths { worths.new.items ≡ worths.old.items }
 {
-    if place == FEW {
-        let _ = list.reserve(MANY);
+    if rows.len() <= FEW && FEW <= place {
+        let _ = rows.reserve(MANY);
+        let _ = worths.reserve(MANY_WORTHS);
     }
 }

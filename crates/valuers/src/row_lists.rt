@@ -1,6 +1,6 @@
 //! The rows of several files as one list.
 
-ghost use Rattle.std.specs.Prelude.{◌≡◌, ◌<◌, ◌++◌, List, length, map, slice_index_or, IfOk, OnOk};
+ghost use Rattle.std.specs.Prelude.{◌≡◌, ◌<◌, List, Some, length, map, slice_get, IfOk};
 ghost use Rattle.std.specs.List.{flat_map};
 
 use crate::item::Valued;
@@ -42,9 +42,9 @@ impl RowLists {
     }
 
     /// The row at a position, from 0.
-    pub fn at(&self, position: usize) -> &Valued
+    pub fn at(&self, position: usize) -> Valued
         requires { position < length self.now }
-        ensures { result.now ≡ slice_index_or self.now position result.now }
+        ensures { slice_get self.now position ≡ Some result }
     {
         row_at(self.lists.as_slice(), position)
     }
@@ -61,22 +61,31 @@ fn one_list(alloc: Global, rows: &[Valued]) -> Result<RowLists, AllocError>
     ensures { IfOk result (λ lists. lists ≡ rows.now) }
 {
     let mut lists = Vec::with_capacity(alloc, 1)?;
-    lists.push(Rows::new(Vec::from_slice(alloc, rows)?))?;
+    lists.push(copied(alloc, rows)?)?;
     Ok(RowLists::new(lists))
 }
 
+fn copied(alloc: Global, rows: &[Valued]) -> Result<Rows, AllocError>
+    ensures { IfOk result (λ copy. copy ≡ rows.now) }
+{
+    let mut copy = Rows::new(alloc);
+    for (position, row) in rows.iter().enumerate() {
+        copy.resize(position + 1, row)?;
+    }
+    Ok(copy)
+}
+
 // The row at a position of the files' rows, one file's behind those of the file before it.
-fn row_at(lists: &[Rows], position: usize) -> &Valued
+fn row_at(lists: &[Rows], position: usize) -> Valued
     requires { position < length (flat_map (λ list. list) lists.now) }
-    ensures { result.now ≡ slice_index_or (flat_map (λ list. list) lists.now) position result.now }
+    ensures { slice_get (flat_map (λ list. list) lists.now) position ≡ Some result }
 {
     let mut place = position;
     for list in lists {
-        let rows = list.as_slice();
-        if place < rows.len() {
-            return &rows[place];
+        if place < list.len() {
+            return list.at(place);
         }
-        place -= rows.len();
+        place -= list.len();
     }
     unreachable!()
 }
@@ -87,7 +96,7 @@ fn blocks_in(alloc: Global, lists: &[Rows]) -> Result<Vec<Block>, AllocError>
 {
     let mut blocks = Vec::with_capacity(alloc, count_of(lists))?;
     for list in lists {
-        put_blocks(&mut blocks, list.as_slice())?;
+        list.put_blocks(&mut blocks)?;
     }
     Ok(blocks)
 }
@@ -96,16 +105,7 @@ fn blocks_in(alloc: Global, lists: &[Rows]) -> Result<Vec<Block>, AllocError>
 fn count_of(lists: &[Rows]) -> usize {
     let mut count: usize = 0;
     for list in lists {
-        count = count.saturating_add(list.as_slice().len());
+        count = count.saturating_add(list.len());
     }
     count
-}
-
-fn put_blocks(blocks: &mut Vec<Block>, rows: &[Valued]) -> Result<(), AllocError>
-    ensures { OnOk result (blocks.new.items ≡ blocks.old.items ++ map (λ row. row.block) rows.now) }
-{
-    for row in rows {
-        blocks.push(row.block)?;
-    }
-    Ok(())
 }

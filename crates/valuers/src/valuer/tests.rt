@@ -58,9 +58,10 @@ fn lane_on_one_thread(rt: HostRuntime) -> Result<(), Fail> {
         worths: Worths::new(&[1_200_000]).expect(&rt, "worths"),
     });
     let handed_on = [row, Item::End { file: 0, rows: 1 }];
-    assert_eq!(rt; result.items.as_slice(), handed_on.as_slice());
-    let items = result.items.into_vec();
-    assert_eq!(rt; items.len(), 2);
+    assert_eq!(rt; result.items.len(), handed_on.len());
+    for (position, item) in handed_on.iter().enumerate() {
+        assert_eq!(rt; result.items.at(position), *item);
+    }
     Ok(())
 }
 
@@ -161,7 +162,7 @@ fn growth_refused(rt: HostRuntime) -> Result<(), Fail> {
         let (rows, items, memory) = handed_on(&rt, alloc, &plant, ore()?, most)?;
         assert_eq!(rt; rows, 2);
         assert_eq!(rt; memory, most < 3);
-        assert_eq!(rt; items.as_slice().len(), most.min(3));
+        assert_eq!(rt; items.len(), most.min(3));
     }
     Ok(())
 }

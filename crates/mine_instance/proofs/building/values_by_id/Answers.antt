@@ -7,8 +7,8 @@ use Rattle.mine_instance.proofs.building.values_by_id.Goals as goal
 
 pub loop-id-preserved : goal.loop-id-preserved
 loop-id-preserved c =
-    c.in_ok-put_values.ensures ∙ ap (λ values. values ++ values_of c.args.plan.now c.row_of.result.now.block) c.loop-id.invariant
-    ∙ sym (values_next (values_of c.args.plan.now) c.args.numbering.now.blocks c.loop-id.id c.row_of.result.now.block c.row_of.ensures.block)
+    c.in_ok-put_values.ensures ∙ ap (λ values. values ++ values_of c.args.plan.now c.row_of.result.block) c.loop-id.invariant
+    ∙ sym (values_next (values_of c.args.plan.now) c.args.numbering.now.blocks c.loop-id.id c.row_of.result.block c.row_of.ensures.block)
 
 pub new-requires : goal.new-requires
 new-requires c =

@@ -1,0 +1,42 @@
+use super::Rows;
+use crate::item::Valued;
+use crate::worths::Worths;
+use pit_model::block::Block;
+use std::test::Fail;
+
+// A row with so many worths, the first of which says which row it is.
+fn valued(place: u32, count: usize) -> Result<Valued, Fail> {
+    let worths: [i128; 8] = [i128::from(place), 1, 2, 3, 4, 5, 6, 7];
+    Ok(Valued {
+        file: 3,
+        place,
+        block: Block::new(7, 0, 0, 1_000, u64::from(place), 3).ok_or("block")?,
+        worths: Worths::new(worths.get(..count).ok_or("count")?).ok_or("worths")?,
+    })
+}
+
+// Rows of one to eight worths, each put behind those before it, and some in the place of a row of another width.
+#[test]
+fn rows_of_any_width(rt: HostRuntime) -> Result<(), Fail> {
+    let mut rows = Rows::new(rt.alloc());
+    for place in 0..8usize {
+        rows.resize(place + 1, &valued(place as u32, place + 1)?)?;
+    }
+    rows.resize(10, &valued(9, 2)?)?;
+    assert_eq!(rt; rows.len(), 10);
+    assert_eq!(rt; rows.at(8), valued(9, 2)?);
+    rows.set(8, &valued(8, 1)?)?;
+    rows.set(0, &valued(0, 8)?)?;
+    let counts: [usize; 10] = [8, 2, 3, 4, 5, 6, 7, 8, 1, 2];
+    assert_eq!(rt; rows.len(), 10);
+    for place in 0..10usize {
+        assert_eq!(rt; rows.place_at(place), Some(place as u32));
+        assert_eq!(rt; rows.at(place), valued(place as u32, counts[place])?);
+    }
+    assert_eq!(rt; rows.place_at(10), None);
+    let mut blocks = Vec::new(rt.alloc());
+    rows.put_blocks(&mut blocks)?;
+    assert_eq!(rt; blocks.len(), 10);
+    assert_eq!(rt; blocks.get(9).map(|block| block.grade), Some(9));
+    Ok(())
+}
