@@ -1,3 +1,5 @@
+//! A decimal number.
+
 ghost use Rattle.std.specs.Prelude.{◌≡◌, ◌≤◌, ◌^◌, ◌↔◌, IsSome, IfSome, unsigned_abs};
 
 use std::marker::Model;
