@@ -11,7 +11,7 @@ const MOST: u128 = 1_000_000_000_000_000_000_000_000;
 const HALF: u128 = 18_446_744_073_709_551_616;
 
 /// A decimal number, counted in millionths: between -10^24 and 10^24 of them.
-#[derive(Clone, Copy, Debug, PartialEq, Eq)]
+#[derive(Clone, Copy, Debug)]
 pub struct Dec {
     // The millionths and 10^24 more, as two digits of 64 bits: these may stand at places of 8 bytes, where one number of 128 bits may not.
     high: u64,
@@ -57,4 +57,23 @@ impl Dec {
         let raised = u128::from(self.high) * HALF + u128::from(self.low);
         raised as i128 - MOST as i128
     }
+}
+
+impl PartialEq for Dec {
+    ghost use Rattle.std.specs.Ordering.{int_eq};
+    ghost use Rattle.std.specs.Cmp.{int_eq_equiv, partial_equiv_from_equiv};
+
+    ghost eq = { int_eq };
+
+    ghost laws = { partial_equiv_from_equiv int_eq_equiv };
+
+    fn eq(&self, other: &Dec) -> bool {
+        self.millionths() == other.millionths()
+    }
+}
+
+impl Eq for Dec {
+    ghost use Rattle.std.specs.Cmp.{int_eq_equiv};
+
+    ghost laws = { int_eq_equiv };
 }
