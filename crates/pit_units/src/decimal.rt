@@ -1,3 +1,5 @@
+//! A decimal number.
+
 ghost use Rattle.std.specs.Prelude.{◌≡◌, ◌≤◌, ◌^◌, ◌↔◌, IsSome, IfSome, unsigned_abs};
 
 use std::marker::Model;
@@ -5,22 +7,30 @@ use std::marker::Model;
 // The most millionths that a decimal counts, either side of zero: 10^18 as a number.
 const MOST: u128 = 1_000_000_000_000_000_000_000_000;
 
+// 2^64.
+const HALF: u128 = 18_446_744_073_709_551_616;
+
 /// A decimal number, counted in millionths: between -10^24 and 10^24 of them.
-#[derive(Clone, Copy, Debug, PartialEq, Eq)]
+#[derive(Clone, Copy, Debug)]
 pub struct Dec {
-    millionths: i128,
+    // The millionths and 10^24 more, as two digits of 64 bits: these may stand at places of 8 bytes, where one number of 128 bits may not.
+    high: u64,
+    low: u64,
 }
 
 impl Model for Dec {
-    ghost use Rattle.std.specs.Prelude.{ℤ, ◌≤◌, ◌^◌, unsigned_abs};
+    ghost use Rattle.std.specs.Prelude.{ℤ};
+    ghost use Rattle.pit_units.specs.DecFields.{millionths_of, KeepsRange, halves_of, high_back, low_back};
 
     ghost Value = { ℤ };
 
-    ghost view = { λ dec. dec.millionths };
+    ghost view = { millionths_of };
 
-    ghost invariant = { λ dec. unsigned_abs dec.millionths ≤ 10 ^ 24 };
+    ghost invariant = { KeepsRange };
 
-    ghost inverse = { λ n. record { millionths = n } };
+    ghost inverse = { halves_of };
+
+    ghost inverse_ok = { λ dec kept i. record { high = high_back dec kept i; low = low_back dec kept i } };
 }
 
 impl Dec {
@@ -32,7 +42,11 @@ impl Dec {
         if millionths.unsigned_abs() > MOST {
             return None;
         }
-        Some(Dec { millionths })
+        let raised = (millionths + MOST as i128) as u128;
+        Some(Dec {
+            high: (raised / HALF) as u64,
+            low: (raised % HALF) as u64,
+        })
     }
 
     /// How many millionths the decimal counts: at most 10^24 either side of zero.
@@ -40,6 +54,26 @@ impl Dec {
         ensures value { result ≡ self }
         ensures in_range { unsigned_abs result ≤ 10 ^ 24 }
     {
-        self.millionths
+        let raised = u128::from(self.high) * HALF + u128::from(self.low);
+        raised as i128 - MOST as i128
     }
+}
+
+impl PartialEq for Dec {
+    ghost use Rattle.std.specs.Ordering.{int_eq};
+    ghost use Rattle.std.specs.Cmp.{int_eq_equiv, partial_equiv_from_equiv};
+
+    ghost eq = { int_eq };
+
+    ghost laws = { partial_equiv_from_equiv int_eq_equiv };
+
+    fn eq(&self, other: &Dec) -> bool {
+        self.millionths() == other.millionths()
+    }
+}
+
+impl Eq for Dec {
+    ghost use Rattle.std.specs.Cmp.{int_eq_equiv};
+
+    ghost laws = { int_eq_equiv };
 }

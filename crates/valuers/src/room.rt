@@ -10,8 +10,8 @@ const MANY: usize = 262_144;
 
 const MANY_WORTHS: usize = 1_048_576;
 
-/// Takes room for many more rows and their worths where a list of rows becomes a long one as one comes to this place. Where the room is refused
-/// nothing is lost: the lists grow as they come.
+/// Takes room for many more rows and their worths where the row that comes to this place makes a list of rows a long one. Where the room is
+/// refused nothing is lost: the lists grow as they come.
 #[inline(always)]
 pub fn make_room<T>(rows: &mut Vec<T>, worths: &mut Vec<i128>, place: usize)
     ensures rows { rows.new.items ≡ rows.old.items }

@@ -82,7 +82,7 @@ impl Rows {
         ensures ok { OnOk result (self.new ≡ self.old ++ replicate (count - length self.old) row.now) }
         ensures err { OnErr result (self.new ≡ self.old) }
     {
-        make_room(&mut self.heads, &mut self.worths, count);
+        make_room(&mut self.heads, &mut self.worths, count.saturating_sub(1));
         let head = Head::new(&mut self.worths, row)?;
         self.heads.resize(count, head)?;
         Ok(())
