@@ -14,7 +14,7 @@ function chance(n) {
     return state % n
 }
 
-# the grade in micrograms a gram: high near the middle of the lens, and never below zero
+# the grade in millionths of a g/t: high near the middle of the lens, and never below zero
 function grade_of(x, y, z,    above, off) {
     above = z - 9 + int(x / 3)
     off = (x - 11) * (x - 11) + 2 * (y - 9) * (y - 9) + 6 * above * above
