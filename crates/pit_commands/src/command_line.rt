@@ -8,6 +8,9 @@ ghost use Rattle.pit_commands.specs.CommandLine.{capacity_word, check_words, com
 use clap::{Arg, Command, value_parser};
 use std::alloc::{AllocError, Global};
 
+// The version, which the newest entry of CHANGELOG.md has too.
+const VERSION: &str = "0.2.0";
+
 const ABOUT: &str = "Turns the block models of an open pit mine into a MineLib instance.
 
 With no words, pitc reads a plan and then its zone files from standard input, cut at each line that is
@@ -33,12 +36,18 @@ const AFTER_COMPILE: &str = "Example:
   pitc compile --plan march.plan --out out/march north.csv south.csv
       reads the plan and its zone files, one for each zone of the plan and in its order,
       writes out/march.blocks, out/march.prec, out/march.upit, out/march.pcpsp and out/march.cpit,
-      replacing what is there, and prints `rows N`, the number of blocks";
+      replacing what is there, and prints `rows N`, the number of blocks
+
+BASE is a name and no folder: `--out out/` writes out/.blocks and so on. An input whose path is that of
+one of the files is overwritten. `-` is a file of that name. Only status 0 says that the files that stand
+at BASE are those of one run.";
 
 const AFTER_CHECK: &str = "Example:
   pitc check out/march
       reads out/march.blocks, out/march.prec and out/march.pcpsp, and out/march.cpit where it is there,
-      and prints `blocks N arcs M coefficients C limits L`, and ` cpit P` behind it where there is a cpit file";
+      and prints `blocks N arcs M coefficients C limits L`, and ` cpit P` behind it where there is a cpit file
+
+It cannot tell whether the files are those of one run: only the status 0 of that run says so.";
 
 /// The program's command line. With no words at all the program reads a model from standard input.
 pub fn command_line<'a>(alloc: Global) -> Result<Command<'a>, AllocError>
@@ -49,7 +58,7 @@ pub fn command_line<'a>(alloc: Global) -> Result<Command<'a>, AllocError>
     Command::new(alloc, "pitc")
         .about(ABOUT)
         .after_help(AFTER)
-        .version("0.1.0")
+        .version(VERSION)
         .override_usage("pitc\n       pitc <COMMAND>")
         .subcommand_required(true)
         .subcommand(compile)?
@@ -89,7 +98,7 @@ fn out_option<'a>(alloc: Global) -> Arg<'a>
         .long("out")
         .value_name("BASE")
         .required(true)
-        .help("What the paths of the files that are written begin with")
+        .help("What the paths of the files begin with, as out/march: a name and no folder")
 }
 
 fn valuers_option<'a>(alloc: Global) -> Arg<'a>
@@ -134,7 +143,7 @@ fn check_command<'a>(alloc: Global) -> Result<Command<'a>, AllocError>
     let base = Arg::new(alloc, "base")
         .value_name("BASE")
         .required(true)
-        .help("What the paths of the files begin with");
+        .help("What the paths of the files begin with, as out/march");
     Command::new(alloc, "check")
         .about("Reads the files of an instance and prints its counts")
         .after_help(AFTER_CHECK)

@@ -122,7 +122,7 @@ const HELPS: [(&str, &str); 9] = [
         "and ` cpit P` behind it where there is a cpit file",
     ),
     ("help compile", "[default: 4]"),
-    ("--version", "pitc 0.1.0"),
+    ("--version", "pitc "),
 ];
 
 #[test]
