@@ -1,10 +1,10 @@
 //! A file as a sink.
 
-ghost use Rattle.std.specs.Prelude.{◌≡◌, ◌+◌, ◌<◌, ◌≤◌, None, false, length, take, IfOk, OnOk, OnErr};
+ghost use Rattle.std.specs.Prelude.{◌≡◌, ◌+◌, ◌<◌, ◌≤◌, [], None, false, length, take, IsErr, IfOk, OnOk, OnErr};
 ghost use Rattle.std.specs.Io.KnownBytes.{WriteAppends};
 ghost use Rattle.minelib_text.specs.Device.{added};
 ghost use Rattle.minelib_text.specs.FileSinkView.{told};
-ghost use Rattle.minelib_text.specs.SinkState.{IsStill};
+ghost use Rattle.minelib_text.specs.SinkState.{IsCutOff, IsStill, IsWritten};
 
 use crate::sink::{Sink, SinkFault};
 use pit_model::count::{Count, raised};
@@ -63,8 +63,12 @@ impl<'a, R: Files> Sink for FileSink<'a, R> {
     ///
     /// # Errors
     ///
-    /// The file cannot be created. The sink is as it was.
-    fn begin(&mut self) -> Result<(), SinkFault> {
+    /// The file cannot be created. The sink is as it was, with one more refusal.
+    fn begin(&mut self) -> Result<(), SinkFault>
+        ensures begins { OnOk result (IsWritten [] (told self.old) (told self.new)) }
+        ensures refused { OnErr result (IsCutOff 1 [] (told self.old) (told self.new)) }
+        ensures kept { OnErr result (self.new ≡ record self.old { failures = self.old.failures + 1 }) }
+    {
         match File::create(self.rt, self.path.as_str()) {
             Ok(file) => {
                 self.file = Some(file);
@@ -83,6 +87,7 @@ impl<'a, R: Files> Sink for FileSink<'a, R> {
     ///
     /// The sink was not begun, or the file takes no byte.
     fn put(&mut self, bytes: &[u8]) -> Result<usize, SinkFault>
+        ensures unbegun { self.old.begun ≡ false → IsErr result }
         ensures within { IfOk result (λ n. n ≤ length bytes.now) }
         ensures some { IfOk result (λ n. 0 < length bytes.now → 0 < n) }
         ensures bytes { WriteAppends self.old.held self.new.held result bytes.now }
