@@ -1,5 +1,6 @@
 //! Tests of the commands, and of all crates together.
 
+mod input;
 mod instance;
 mod job;
 pub mod models;

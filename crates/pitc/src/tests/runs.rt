@@ -5,9 +5,9 @@ ghost use Rattle.std.specs.Prelude.{◌≡◌, IfOk};
 use crate::tests::models::destinations_of;
 use minelib_text::mem_sink::MemSink;
 use pit_compile::refusal::Refusal;
-use pit_compile::run_limited;
 use pit_compile::settings::Settings;
 use pit_compile::sinks::Sinks;
+use pit_compile::{run, run_limited};
 use pit_model::plan::Plan;
 use pit_model::read_plan;
 use std::alloc::Global;
@@ -22,6 +22,7 @@ mod devices;
 mod examples;
 mod random_runs;
 mod schedules;
+mod written_and_read;
 
 // The first record of each zone file.
 const HEADER: &str = "x,y,z,tonnes,grade\n";
@@ -119,7 +120,7 @@ fn answer<R: Threads + Wait + Sync, G: Gate + Sync>(
     }
 }
 
-// The same with an open gate and enough starts.
+// The same with an open gate, and with as many starts as `run` has.
 fn open_answer<R: Threads + Wait + Sync>(
     rt: &R,
     alloc: Global,
@@ -128,7 +129,21 @@ fn open_answer<R: Threads + Wait + Sync>(
     settings: Settings,
     sinks: &mut Sinks<MemSink>,
 ) -> Result<Result<u64, Refusal>, Fail> {
-    answer(rt, alloc, plan, feeds, settings, ENOUGH, &OpenGate, sinks)
+    let destinations = destinations_of(alloc, plan)?;
+    let answered = run(
+        rt,
+        alloc,
+        feeds,
+        plan,
+        destinations.as_slice(),
+        settings,
+        &OpenGate,
+        sinks,
+    );
+    match answered {
+        Ok(gathered) => Ok(Ok(gathered.rows())),
+        Err(refusal) => Ok(Err(refusal)),
+    }
 }
 
 fn put_section(text: &mut Vec<u8>, name: &str, sink: &MemSink) -> Result<(), Fail> {

@@ -149,16 +149,17 @@ fn failing_sinks_stop_the_run(rt: HostRuntime) -> Result<(), Fail> {
     Ok(())
 }
 
-// The numbers of feeds, valuers and places of the lane, on a plan of one zone, and the fault of the settings.
-const SETTINGS: [(usize, usize, usize, Option<SettingsFault>); 8] = [
-    (1, 1, 1, None),
-    (1, 64, 4096, None),
-    (2, 1, 1, Some(SettingsFault::Files)),
-    (0, 0, 0, Some(SettingsFault::Files)),
-    (1, 0, 0, Some(SettingsFault::Valuers)),
-    (1, 65, 1, Some(SettingsFault::Valuers)),
-    (1, 1, 0, Some(SettingsFault::Capacity)),
-    (1, 1, 4097, Some(SettingsFault::Capacity)),
+// The numbers of the plan's zones, of feeds, of valuers and of places of the lane, and the fault of the settings.
+const SETTINGS: [(u8, usize, usize, usize, Option<SettingsFault>); 9] = [
+    (1, 1, 1, 1, None),
+    (1, 1, 64, 4096, None),
+    (2, 1, 1, 1, Some(SettingsFault::Files)),
+    (1, 2, 1, 1, Some(SettingsFault::Files)),
+    (1, 0, 0, 0, Some(SettingsFault::Files)),
+    (1, 1, 0, 0, Some(SettingsFault::Valuers)),
+    (1, 1, 65, 1, Some(SettingsFault::Valuers)),
+    (1, 1, 1, 0, Some(SettingsFault::Capacity)),
+    (1, 1, 1, 4097, Some(SettingsFault::Capacity)),
 ];
 
 fn good_feeds(alloc: Global, files: usize) -> Result<Vec<MemFeed>, Fail> {
@@ -172,8 +173,8 @@ fn good_feeds(alloc: Global, files: usize) -> Result<Vec<MemFeed>, Fail> {
 #[test]
 fn settings_of_a_run(rt: HostRuntime) -> Result<(), Fail> {
     let alloc = rt.alloc();
-    let plan = mill_plan(alloc, 1)?;
-    for (files, valuers, capacity, fault) in SETTINGS {
+    for (zones, files, valuers, capacity, fault) in SETTINGS {
+        let plan = mill_plan(alloc, zones)?;
         let mut sinks = new_sinks(alloc);
         let feeds = good_feeds(alloc, files)?;
         let answered = open_answer(
@@ -188,11 +189,14 @@ fn settings_of_a_run(rt: HostRuntime) -> Result<(), Fail> {
             Some(kind) => Err(Refusal::Settings(kind)),
             None => Ok(1),
         };
-        assert!(rt; answered == expected, "{files} {valuers} {capacity}");
+        assert!(rt;
+            answered == expected,
+            "{zones} {files} {valuers} {capacity}"
+        );
         assert_eq!(rt;
             is_untouched(&sinks),
             fault.is_some(),
-            "{files} {valuers} {capacity}"
+            "{zones} {files} {valuers} {capacity}"
         );
     }
     Ok(())

@@ -1,12 +1,15 @@
 ghost use Rattle.std.specs.Prelude.{◌≤◌};
 
 use super::{
-    MemFeed, MemSink, Sinks, compiled_text, feeds_of, mill_plan, read_plan, settings, text_into,
-    zone_text,
+    MemFeed, MemSink, Settings, Sinks, compiled_text, feeds_of, joined, mill_plan, new_sinks,
+    open_answer, read_plan, settings, text_into, zone_text,
 };
 use crate::tests::models::{HEADER_ALONE, LIMITED, LIMITED_PLAN, ONE_ORE_BLOCK};
 use std::alloc::Global;
+use std::process::Abort;
+use std::sync::Wait;
 use std::test::Fail;
+use std::thread::Threads;
 
 // The rows of each zone file, and the texts or the refusal of a run on the mill plan with as many zones.
 const RUNS: [(&str, &[&str], &str); 5] = [
@@ -144,24 +147,26 @@ fn files_of_one_row(alloc: Global, files: u8) -> Result<Vec<MemFeed>, Fail> {
     Ok(feeds)
 }
 
+// The five texts of a run on 64 files of one row each, all of whose rows passed the lane.
+fn crowded_text<R: Threads + Wait + Sync + Abort>(
+    rt: &R,
+    alloc: Global,
+    settings: Settings,
+) -> Result<Vec<u8>, Fail> {
+    let plan = mill_plan(alloc, 64)?;
+    let feeds = files_of_one_row(alloc, 64)?;
+    let mut sinks = new_sinks(alloc);
+    let answered = open_answer(rt, alloc, &plan, feeds, settings, &mut sinks)?;
+    assert!(rt; answered == Ok(64));
+    joined(alloc, &sinks)
+}
+
+// The most threads that a run may start, and one valuer with the widest lane.
 #[test]
 fn sixty_four_files(rt: HostRuntime) -> Result<(), Fail> {
     let alloc = rt.alloc();
-    let plan = mill_plan(alloc, 64)?;
-    let narrow = compiled_text(
-        &rt,
-        alloc,
-        &plan,
-        files_of_one_row(alloc, 64)?,
-        settings(64, 1),
-    )?;
-    let wide = compiled_text(
-        &rt,
-        alloc,
-        &plan,
-        files_of_one_row(alloc, 64)?,
-        settings(1, 4096),
-    )?;
+    let narrow = crowded_text(&rt, alloc, settings(64, 1))?;
+    let wide = crowded_text(&rt, alloc, settings(1, 4096))?;
     assert!(rt; narrow.as_slice() == wide.as_slice());
     let front: &[u8] = b"== blocks\n0 0 0 0 1 0 0\n1 1 0 0 1 1 1\n";
     assert!(rt; narrow.as_slice().starts_with(front));

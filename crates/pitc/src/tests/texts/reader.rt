@@ -28,7 +28,7 @@ const PCPSP: [&[u8]; 16] = [
     b"0 1 I 0 900",
 ];
 
-const CPIT: [&[u8]; 13] = [
+const CPIT: [&[u8]; 14] = [
     b"NAME: one",
     b"TYPE: CPIT",
     b"NBLOCKS: 2",
@@ -41,6 +41,7 @@ const CPIT: [&[u8]; 13] = [
     b"RESOURCE_CONSTRAINT_COEFFICIENTS:",
     b"0 0 1000",
     b"RESOURCE_CONSTRAINT_LIMITS:",
+    b"0 0 L 500.5",
     b"0 1 I 0 900",
 ];
 
@@ -427,7 +428,7 @@ fn hostile_minelib_texts(rt: HostRuntime) -> Result<(), Fail> {
         let found = cpit_fault(rt.alloc(), 2, text.as_slice())?;
         assert!(&rt; is_fault(found, TextFile::Cpit, *line, *kind));
     }
-    let whole = changed(rt.alloc(), &CPIT, Change::Front(13))?;
+    let whole = changed(rt.alloc(), &CPIT, Change::Front(14))?;
     let end = ends_after(whole.as_slice(), b"\n0 1")?;
     let found = cpit_fault(rt.alloc(), 2, end)?;
     assert!(&rt; is_fault(found, TextFile::Cpit, 9, TextKind::Missing));
@@ -552,7 +553,7 @@ fn cpit_fault(alloc: Global, n: usize, text: &[u8]) -> Result<Option<TextFault>,
     }
 }
 
-const CPIT_FAULTS: [(Change, u64, TextKind); 8] = [
+const CPIT_FAULTS: [(Change, u64, TextKind); 12] = [
     (Change::Before(5, b"NDESTINATIONS: 2"), 5, TextKind::Key),
     (
         Change::Before(5, b"NGENERAL_SIDE_CONSTRAINTS: 0"),
@@ -565,27 +566,91 @@ const CPIT_FAULTS: [(Change, u64, TextKind); 8] = [
     (Change::Put(11, b"0 0 0 1000"), 11, TextKind::Fields),
     (Change::Put(11, b"2 0 1000"), 11, TextKind::Range),
     (Change::Before(11, b"0 0 7"), 12, TextKind::Order),
+    (Change::Put(13, b"0 0 G"), 13, TextKind::Fields),
+    (Change::Put(13, b"0 0 E 1"), 13, TextKind::Name),
+    (Change::Put(13, b"1 0 L 1"), 13, TextKind::Range),
+    (Change::Put(14, b"0 0 G 1"), 14, TextKind::Order),
 ];
+
+// The texts of a CPIT that are read and written again: with limits of all kinds, and with none.
+const CPIT_TEXTS: [Change; 3] = [
+    Change::Front(14),
+    Change::Put(13, b"0 0 G -500.5"),
+    Change::Front(12),
+];
+
+// Whether the text of what is read of a CPIT's text, written again, is that text.
+fn cpit_comes_back(alloc: Global, n: usize, text: &[u8]) -> Result<bool, Fail> {
+    if n > 64_000_000 {
+        return Err("too many blocks")?;
+    }
+    match read_cpit(alloc, n, text) {
+        Ok(cpit) => {
+            let mut sink = MemSink::new(alloc);
+            write_cpit(alloc, &cpit, &mut sink)?;
+            Ok(sink.bytes() == text)
+        }
+        Err(_) => Err("a text that is refused")?,
+    }
+}
 
 #[test]
 fn cpit_destinations(rt: HostRuntime) -> Result<(), Fail> {
-    let text = changed(rt.alloc(), &CPIT, Change::Front(13))?;
-    match read_cpit(rt.alloc(), 2, text.as_slice()) {
-        Ok(cpit) => {
-            let mut sink = MemSink::new(rt.alloc());
-            write_cpit(rt.alloc(), &cpit, &mut sink)?;
-            assert_eq!(&rt; sink.bytes(), text.as_slice());
-        }
-        Err(_) => return Err("a text that is refused")?,
+    for change in &CPIT_TEXTS {
+        let text = changed(rt.alloc(), &CPIT, *change)?;
+        assert!(&rt; cpit_comes_back(rt.alloc(), 2, text.as_slice())?);
     }
+    let text = changed(rt.alloc(), &CPIT, Change::Front(14))?;
     let found = cpit_fault(rt.alloc(), 1, text.as_slice())?;
     assert!(&rt; is_fault(found, TextFile::Cpit, 3, TextKind::Count));
-    let unlimited = changed(rt.alloc(), &CPIT, Change::Front(12))?;
-    assert!(&rt; cpit_fault(rt.alloc(), 2, unlimited.as_slice())?.is_none());
     for (change, line, kind) in &CPIT_FAULTS {
         let text = changed(rt.alloc(), &CPIT, *change)?;
         let found = cpit_fault(rt.alloc(), 2, text.as_slice())?;
         assert!(&rt; is_fault(found, TextFile::Cpit, *line, *kind));
+    }
+    Ok(())
+}
+
+// The texts of no block.
+const NO_PCPSP: &[u8] =
+    b"NAME: one\nTYPE: PCPSP\nNBLOCKS: 0\nNPERIODS: 1\nNDESTINATIONS: 1\nNRESOURCE_SIDE_CONSTRAINTS: 0\nNGENERAL_SIDE_CONSTRAINTS: 0\nDISCOUNT_RATE: 0.1\nOBJECTIVE_FUNCTION:\nRESOURCE_CONSTRAINT_COEFFICIENTS:\nRESOURCE_CONSTRAINT_LIMITS:\n";
+
+const NO_CPIT: &[u8] =
+    b"NAME: one\nTYPE: CPIT\nNBLOCKS: 0\nNPERIODS: 1\nNRESOURCE_SIDE_CONSTRAINTS: 0\nDISCOUNT_RATE: 0.1\nOBJECTIVE_FUNCTION:\nRESOURCE_CONSTRAINT_COEFFICIENTS:\nRESOURCE_CONSTRAINT_LIMITS:\n";
+
+const MARK: &[u8] = b"\xEF\xBB\xBF";
+
+// Precedences and a model file that no block has. A text that is a byte order mark alone has no lines.
+const NO_BLOCK_FAULTS: [(&[u8], &[u8], TextFile, u64, TextKind); 5] = [
+    (b"0 0\n", NO_PCPSP, TextFile::Prec, 1, TextKind::Range),
+    (b"", b"", TextFile::Pcpsp, 1, TextKind::Missing),
+    (MARK, MARK, TextFile::Pcpsp, 1, TextKind::Missing),
+    (
+        b"",
+        b"\xEF\xBB\xBF\n",
+        TextFile::Pcpsp,
+        2,
+        TextKind::Missing,
+    ),
+    (
+        b"",
+        b"\xEF\xBB\xBF\xEF\xBB\xBF",
+        TextFile::Pcpsp,
+        1,
+        TextKind::Key,
+    ),
+];
+
+#[test]
+fn texts_of_no_block(rt: HostRuntime) -> Result<(), Fail> {
+    let wanted: [&[u8]; 3] = [b"", b"", NO_PCPSP];
+    for front in [b"".as_slice(), MARK, b"% none\n \t\n"] {
+        assert!(&rt; comes_back(rt.alloc(), [front, front, NO_PCPSP], wanted)?);
+    }
+    assert!(&rt; cpit_comes_back(rt.alloc(), 0, NO_CPIT)?);
+    for (prec, pcpsp, file, line, kind) in &NO_BLOCK_FAULTS {
+        let found = fault_of(rt.alloc(), MARK, prec, pcpsp)?;
+        assert!(&rt; is_fault(found, *file, *line, *kind));
     }
     Ok(())
 }

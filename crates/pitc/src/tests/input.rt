@@ -1,0 +1,78 @@
+//! An input that is interrupted, ends or fails.
+
+use pit_commands::input::{InputFault, read_whole};
+use pit_commands::model::read_model_from;
+use std::alloc::Global;
+use std::io;
+use std::io::{ErrorKind, Read};
+use std::test::Fail;
+
+const INPUT: &[u8] =
+    b"name,one\ngrid,0,0,0,10,10,10\nzone,1,1,1\ndump,dump,200\nperiods,1\nrate,0.1\n--\nx,y,z\n";
+
+// Gives a byte a read, each behind a read that is interrupted, and then ends or fails.
+#[derive(Drop)]
+struct Interrupted {
+    left: &'static [u8],
+    interrupts: bool,
+    fails: bool,
+}
+
+impl Read for Interrupted {
+    fn read(&mut self, buffer: &mut [u8]) -> io::Result<usize> {
+        self.interrupts = !self.interrupts;
+        if self.interrupts {
+            return Err(io::Error::from(ErrorKind::Interrupted));
+        }
+        match (self.left.first(), buffer.first_mut()) {
+            (Some(byte), Some(place)) => {
+                *place = *byte;
+                self.left = &self.left[1..];
+                Ok(1)
+            }
+            _ if self.fails => Err(io::Error::from(ErrorKind::BrokenPipe)),
+            _ => Ok(0),
+        }
+    }
+}
+
+fn input_that(fails: bool) -> Interrupted {
+    Interrupted {
+        left: INPUT,
+        interrupts: false,
+        fails,
+    }
+}
+
+#[test]
+fn an_interrupted_input_comes_whole(rt: HostRuntime) {
+    match read_whole(&mut input_that(false), rt.alloc()) {
+        Ok(bytes) => assert!(rt; bytes.as_slice() == INPUT),
+        Err(fault) => assert!(rt; false, "{fault}"),
+    }
+    match read_whole(&mut input_that(true), rt.alloc()) {
+        Ok(_) => assert!(rt; false),
+        Err(fault) => assert!(rt; fault == InputFault::FeedFailed),
+    }
+}
+
+// The status of the input's refusal, or 0, and the line.
+fn refusal_of(alloc: Global, fails: bool) -> (u8, Vec<u8>) {
+    let mut lines = Vec::new(alloc);
+    match read_model_from(&mut input_that(fails), alloc, &mut lines) {
+        Ok(_) => (0, lines),
+        Err(status) => (status, lines),
+    }
+}
+
+#[test]
+fn a_failed_input_is_no_model(rt: HostRuntime) {
+    for (fails, wanted, line) in [
+        (false, 0, b"".as_slice()),
+        (true, 3, b"pitc: input: FeedFailed\n"),
+    ] {
+        let (status, lines) = refusal_of(rt.alloc(), fails);
+        assert_eq!(rt; status, wanted);
+        assert!(rt; lines.as_slice() == line);
+    }
+}
