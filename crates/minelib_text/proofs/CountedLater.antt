@@ -1,18 +1,24 @@
 -- A line of which all fields are read, and none is left, has as many fields as it has to have.
-use Rattle.std.specs.Prelude.{◌≡◌, ℕ, suc, ◌*◌, ◌==◌, nat_lt, not, Bool, true, false, List, [], ◌∷◌, length, Result, Ok, Err, if◌then◌else◌}
+use Rattle.std.specs.Prelude.{◌≡◌, ℕ, suc, ◌*◌, ◌/◌, ◌==◌, nat_lt, not, Bool, true, false, List, [], ◌∷◌, length, pos, Result, Ok, Err, if◌then◌else◌}
 use Rattle.std.proofs.Common.{refl, sym, ◌∙◌, ap, arith}
 use Rattle.std.proofs.lemmas.Bool.{eqb-true, le-ltb, not-false}
 use Rattle.mine_instance.specs.declared.coef.Coef.{Coef}
-use Rattle.pit_model.specs.Steps.{◌>>=◌}
+use Rattle.forms.proofs.FormFacts.{counted_later, fault_later}
+use Rattle.forms.proofs.NumberFields.{quotient}
+use Rattle.forms.specs.Form.{Millionths, below, read_fields, up_to, whole}
+use Rattle.forms.specs.Steps.{◌>>=◌}
 use Rattle.pit_model.specs.declared.block.Block.{Block}
-use Rattle.minelib_text.specs.BlockLines.{block_of}
+use Rattle.minelib_text.specs.BlockLines.{block_of, block_said, block_with, in_range}
 use Rattle.minelib_text.specs.FieldValues.{first_by, decimal_in, size_in, whole_in}
+use Rattle.minelib_text.specs.LineKinds.{text_kind}
 use Rattle.minelib_text.specs.ModelLines.{coef_of, coef_width}
+use Rattle.minelib_text.specs.SpelledBlocks.{block_form}
 use Rattle.minelib_text.specs.Uncounted.{block_alone, coef_alone, kind_by}
 use Rattle.minelib_text.specs.declared.model_key.Problem.{Problem}
 use Rattle.minelib_text.specs.declared.model_key.Problem.TheVariants.{Pcpsp, Cpit}
 use Rattle.minelib_text.specs.declared.text_fault.TextKind.{TextKind}
-use Rattle.minelib_text.specs.declared.text_fault.TextKind.TheVariants.{Fields}
+use Rattle.minelib_text.specs.declared.text_fault.TextKind.TheVariants.{Fields, Order}
+use Rattle.minelib_text.proofs.FieldSteps.{last_step, said_of, size_reads, step, whole_reads}
 use Rattle.minelib_text.proofs.ReadSteps.{first_ok, first_then, guard_ok}
 use Rattle.pit_model.specs.declared.ranges.TheConstants.{GRID_CELLS, MAX_BLOCKS, MAX_GRADE, MAX_KG, MAX_ZONES}
 
@@ -82,36 +88,36 @@ coef_kind problem n destinations resources fields kind e =
     by_count (coef_width problem) fields _ _ kind (length fields == coef_width problem) refl (λ no. rw no refl) (coef_same problem n destinations resources fields) e
 
 -- blocks
-block_same : (before : ℕ) (fields : List (List ℕ)) → length fields ≡ 7 → block_of before fields ≡ block_alone before fields
-unfolding block_of block_alone
-block_same before fields count = rw count (
-    agree (whole_in MAX_BLOCKS) 6 fields _ _ count (λ id rest1 count1.
-    agree (whole_in GRID_CELLS) 5 rest1 _ _ count1 (λ x rest2 count2.
-    agree (whole_in GRID_CELLS) 4 rest2 _ _ count2 (λ y rest3 count3.
-    agree (whole_in GRID_CELLS) 3 rest3 _ _ count3 (λ z rest4 count4.
-    agree (size_in 3 (MAX_KG * 1000)) 2 rest4 _ _ count4 (λ tonnes rest5 count5.
-    agree (size_in 6 MAX_GRADE) 1 rest5 _ _ count5 (λ grade rest6 count6.
-    agree (whole_in MAX_ZONES) 0 rest6 _ _ count6 (λ zone rest7 count7. rw count7 refl))))))))
+seven_end : (before id x y z tonnes grade zone : ℕ)
+    → (if not (id == before) then Err Order else in_range (block_with x y z (tonnes / 1000) grade zone))
+    ≡ block_said before (whole id ∷ whole x ∷ whole y ∷ whole z ∷ Millionths (pos tonnes) ∷ Millionths (pos grade) ∷ whole zone ∷ [])
+unfolding block_said
+seven_end before id x y z tonnes grade zone = rw (quotient id, quotient x, quotient y, quotient z, quotient zone) refl
 
-block_width_met : (before : ℕ) (fields : List (List ℕ)) (block : Block) → block_alone before fields ≡ Ok block → length fields ≡ 7
+alone_said : (before : ℕ) (fields : List (List ℕ)) → block_alone before fields ≡ said_of block_form fields (block_said before)
 unfolding block_alone
-block_width_met before fields block e =
-    one_more (whole_in MAX_BLOCKS) 6 fields _ block e (λ id rest1 e1.
-    one_more (whole_in GRID_CELLS) 5 rest1 _ block e1 (λ x rest2 e2.
-    one_more (whole_in GRID_CELLS) 4 rest2 _ block e2 (λ y rest3 e3.
-    one_more (whole_in GRID_CELLS) 3 rest3 _ block e3 (λ z rest4 e4.
-    one_more (size_in 3 (MAX_KG * 1000)) 2 rest4 _ block e4 (λ tonnes rest5 e5.
-    one_more (size_in 6 MAX_GRADE) 1 rest5 _ block e5 (λ grade rest6 e6.
-    one_more (whole_in MAX_ZONES) 0 rest6 _ block e6 (λ zone rest7 e7. none_left rest7 _ block e7)))))))
+alone_said before fields =
+    step (below MAX_BLOCKS) _ (whole_in MAX_BLOCKS) whole fields _ _ (whole_reads MAX_BLOCKS) (λ id rest1.
+    step (below GRID_CELLS) _ (whole_in GRID_CELLS) whole rest1 _ _ (whole_reads GRID_CELLS) (λ x rest2.
+    step (below GRID_CELLS) _ (whole_in GRID_CELLS) whole rest2 _ _ (whole_reads GRID_CELLS) (λ y rest3.
+    step (below GRID_CELLS) _ (whole_in GRID_CELLS) whole rest3 _ _ (whole_reads GRID_CELLS) (λ z rest4.
+    step (up_to 3 (MAX_KG * 1000)) _ (size_in 3 (MAX_KG * 1000)) (λ m. Millionths (pos m)) rest4 _ _ (size_reads 3 (MAX_KG * 1000)) (λ tonnes rest5.
+    step (up_to 6 MAX_GRADE) _ (size_in 6 MAX_GRADE) (λ m. Millionths (pos m)) rest5 _ _ (size_reads 6 MAX_GRADE) (λ grade rest6.
+    step (below MAX_ZONES) _ (whole_in MAX_ZONES) whole rest6 _ _ (whole_reads MAX_ZONES) (λ zone rest7.
+    last_step rest7 _ _ (seven_end before id x y z tonnes grade zone))))))))
+
+pub alone_read : (before : ℕ) (fields : List (List ℕ)) → block_alone before fields ≡ (read_fields text_kind block_form fields >>= block_said before)
+unfolding said_of
+alone_read before fields = alone_said before fields
 
 pub block_counted : (before : ℕ) (fields : List (List ℕ)) (block : Block) → block_alone before fields ≡ Ok block → block_of before fields ≡ Ok block
-block_counted before fields block e = block_same before fields (block_width_met before fields block e) ∙ e
+unfolding block_of
+block_counted before fields block e = counted_later text_kind block_form fields (block_said before) block (sym (alone_read before fields) ∙ e)
 
 pub block_kind : (before : ℕ) (fields : List (List ℕ)) (kind : TextKind) → block_alone before fields ≡ Err kind
     → block_of before fields ≡ Err (kind_by (length fields == 7) kind)
 unfolding block_of
-block_kind before fields kind e =
-    by_count 7 fields (block_of before fields) (block_alone before fields) kind (length fields == 7) refl (λ no. rw no refl) (block_same before fields) e
+block_kind before fields kind e = fault_later text_kind block_form fields (block_said before) kind (sym (alone_read before fields) ∙ e)
 
 -- predecessors: two fields or more
 pub two_taken : (n : ℕ) (fields : List (List ℕ)) (x y : ℕ) (behind rest : List (List ℕ)) → first_by (whole_in n) fields ≡ Ok (x, behind)

@@ -1,16 +1,16 @@
 -- A faulty line is the first that spells nothing behind those before it.
 use Rattle.std.specs.Prelude.{◌≡◌, ℕ, ◌+◌, ◌==◌, Bool, true, false, List, [], ◌∷◌, ◌++◌, length, Result, Ok, Err, ◌⊎◌, if◌then◌else◌}
 use Rattle.std.proofs.Common.{refl, sym, ◌∙◌, ap, subst, arith, inl, inr, append_assoc, append-nil, eq-eqb}
-use Rattle.pit_model.proofs.DemandFacts.{Follows}
-use Rattle.pit_model.specs.Demands.{Demand}
-use Rattle.pit_model.specs.Steps.{◌>>=◌}
+use Rattle.forms.proofs.DemandFacts.{Follows}
+use Rattle.forms.specs.Demands.{Demand}
+use Rattle.forms.specs.Steps.{◌>>=◌}
 use Rattle.pit_model.specs.declared.block.Block.{Block}
 use Rattle.minelib_text.specs.BlockLines.{block_of, admit_block, blocks_in}
 use Rattle.minelib_text.specs.FirstBad.{IsFirstBad, LacksLines}
-use Rattle.minelib_text.specs.LineDemands.{asked_of_block, asked_of_preds}
+use Rattle.minelib_text.specs.LineDemands.{asked_of_preds}
 use Rattle.minelib_text.specs.PrecLines.{PrecDraftView, no_lists, preds_of, admit_preds, finish_preds, preds_in}
 use Rattle.minelib_text.specs.Reading.{at_line, read_lines}
-use Rattle.minelib_text.specs.SpelledBlocks.{IsBlockLine}
+use Rattle.minelib_text.specs.SpelledBlocks.{IsBlockLine, asked_of_block}
 use Rattle.minelib_text.specs.SpelledLines.{AreLines}
 use Rattle.minelib_text.specs.SpelledPrec.{IsPredsLine}
 use Rattle.minelib_text.specs.TextLines.{Line, fields_of, lines_in, end_of}
@@ -18,9 +18,9 @@ use Rattle.minelib_text.specs.declared.text_fault.LineFault.{LineFault}
 use Rattle.minelib_text.specs.declared.text_fault.TextKind.{TextKind}
 use Rattle.minelib_text.specs.declared.text_fault.TextKind.TheVariants.{Missing}
 use Rattle.minelib_text.proofs.ItemLines.{line_more}
-use Rattle.minelib_text.proofs.LineTold.{block_told, preds_told}
-use Rattle.minelib_text.proofs.SpelledBack.{block_back, preds_back}
-use Rattle.minelib_text.proofs.ValidBlocks.{block_line}
+use Rattle.minelib_text.proofs.BlockLineFacts.{block_back, block_line, block_told}
+use Rattle.minelib_text.proofs.LineTold.{preds_told}
+use Rattle.minelib_text.proofs.SpelledBack.{preds_back}
 use Rattle.minelib_text.proofs.ValidPreds.{preds_line}
 use Rattle.minelib_text.proofs.PrecBack.{draft_of}
 

@@ -1,9 +1,9 @@
 -- A faulty line of a model file is the first behind which nothing makes it a model.
 use Rattle.std.specs.Prelude.{◌≡◌, ℕ, ◌≤◌, ◌==◌, ◌&&◌, Bool, true, false, List, [], ◌∷◌, ◌++◌, length, Result, Ok, Err, ◌⊎◌, if◌then◌else◌}
 use Rattle.std.proofs.Common.{refl, sym, ◌∙◌, ap, subst, inl, inr, append_assoc}
-use Rattle.pit_model.proofs.DemandFacts.{Follows}
-use Rattle.pit_model.specs.Demands.{FailsFirst}
-use Rattle.pit_model.specs.Steps.{◌>>=◌}
+use Rattle.forms.proofs.DemandFacts.{Follows}
+use Rattle.forms.specs.Demands.{FailsFirst}
+use Rattle.forms.specs.Steps.{◌>>=◌}
 use Rattle.minelib_text.specs.BegunModel.{BeginModel, IsFirstSpoiled, EndsEarly}
 use Rattle.minelib_text.specs.ModelDemands.{asked_of_model, HasKind}
 use Rattle.minelib_text.specs.HeaderKeys.{is_complete}

@@ -4,7 +4,7 @@ use Rattle.std.specs.List.{AllZip, list_any}
 use Rattle.std.proofs.Common.{refl, arith}
 use Rattle.mine_instance.specs.Order.{comes_before}
 use Rattle.mine_instance.specs.declared.coef.Coef.{Coef}
-use Rattle.pit_model.specs.Steps.{◌>>=◌}
+use Rattle.forms.specs.Steps.{◌>>=◌}
 use Rattle.minelib_text.specs.FieldValues.{all_by, first_by, decimal_in, whole_in}
 use Rattle.minelib_text.specs.HeaderKeys.{count_in}
 use Rattle.minelib_text.specs.ModelLines.{admit_model, is_behind, is_colon, last_of, values_of, ModelDraftView}

@@ -1,3 +1,5 @@
+pub mod BlockLineFacts
+pub mod BlockMade
 pub mod BlocksBack
 pub mod CpitBack
 pub mod CoefFacts
@@ -42,6 +44,7 @@ pub mod ValidModel
 pub mod ValidPreds
 pub mod ValidRead
 pub mod WriteFacts
+pub mod FieldSteps
 pub mod FirstBadFacts
 pub mod FirstSpoiledFacts
 pub mod LinesOfText

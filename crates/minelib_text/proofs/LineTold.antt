@@ -1,5 +1,5 @@
--- The fault of a line of a block or precedence file is the first thing asked of it that does not hold.
-use Rattle.std.specs.Prelude.{◌≡◌, ℕ, ◌/◌, ◌^◌, ◌<◌, ◌≤◌, ◌==◌, ◌||◌, nat_lt, not, Bool, true, false, List, [], ◌∷◌, ◌++◌, length, ℤ, pos, negsuc, Some, Result, Ok, Err, if◌then◌else◌, All}
+-- The fault of a line of a precedence file is the first thing asked of it that does not hold.
+use Rattle.std.specs.Prelude.{◌≡◌, ℕ, ◌/◌, ◌^◌, ◌<◌, ◌≤◌, ◌==◌, ◌||◌, nat_lt, not, Bool, true, false, List, [], ◌∷◌, ◌++◌, length, ℤ, pos, negsuc, Result, Ok, Err, if◌then◌else◌, All}
 use Rattle.std.specs.List.{AllZip}
 use Rattle.std.proofs.Common.{refl, sym, ◌∙◌, subst, arith, inl, inr, append-nil, append_assoc, eq-eqb, ltb-true, ltb-false}
 use Rattle.std.proofs.lemmas.Bool.{eqb-true, or_parts, not-false}
@@ -9,20 +9,17 @@ use Rattle.pit_units.proofs.Standing.{read_stands, spelled_number, spelled_too_f
 use Rattle.pit_units.specs.Decimal.{StandsFor, decimal_of}
 use Rattle.pit_units.specs.declared.fault.DecFault.{DecFault}
 use Rattle.pit_units.specs.declared.fault.DecFault.TheVariants as dec
-use Rattle.pit_model.proofs.DecimalFaults.{too_fine_decimal, out_of_range_fine, fine_decimal, stands_fine}
-use Rattle.pit_model.proofs.DemandFacts.{Follows, behind, bound, weaker, guarded, fails_before}
-use Rattle.pit_model.specs.Demands.{Demand, demand}
-use Rattle.pit_model.specs.Steps.{◌>>=◌}
-use Rattle.pit_model.specs.declared.block.Block.{Block}
+use Rattle.forms.proofs.DecimalFaults.{too_fine_decimal, out_of_range_fine, fine_decimal, stands_fine}
+use Rattle.forms.proofs.DemandFacts.{Follows, behind, bound, weaker, guarded, fails_before}
+use Rattle.forms.specs.Demands.{Demand, demand}
+use Rattle.forms.specs.Steps.{◌>>=◌}
 use Rattle.mine_instance.specs.Valid.{ArePredsOf}
-use Rattle.minelib_text.specs.BlockLines.{block_of, block_with, in_range}
 use Rattle.minelib_text.specs.FieldValues.{stated, at_most, whole_below, size_in, whole_in, first_by, all_by}
-use Rattle.minelib_text.specs.LineDemands.{number, whole, size, wholes, asked_of_block, asked_of_preds}
+use Rattle.minelib_text.specs.LineDemands.{number, whole, size, wholes, asked_of_preds}
 use Rattle.minelib_text.specs.PrecLines.{stands_in, all_differ, preds_of, preds_with}
 use Rattle.minelib_text.specs.SpelledFields.{StatesWhole, StatesSize}
 use Rattle.minelib_text.specs.declared.text_fault.TextKind.{TextKind}
 use Rattle.minelib_text.specs.declared.text_fault.TextKind.TheVariants.{Fields, Range, Order, Count, Twice}
-use Rattle.minelib_text.proofs.BlocksBack.{with_again}
 use Rattle.minelib_text.proofs.PrecBack.{stands_not, differ_again}
 use Rattle.minelib_text.proofs.ReadSteps.{size_in_ok, whole_in_ok}
 use Rattle.minelib_text.proofs.SpelledBack.{size_back, whole_back}
@@ -129,88 +126,6 @@ test_told limit field n wanted s t h =
 
 pub tested : (limit : ℕ) (field : List ℕ) (n wanted : ℕ) → StatesWhole limit field n → not (n == wanted) ≡ false → StatesWhole limit field wanted
 tested limit field n wanted s t = subst (StatesWhole limit field) (eqb-true n wanted (not-false (n == wanted) t)) s
-
--- the block of numbers that are in range
-made : (x y z tonnes grade zone : ℕ) → x < 10000 → y < 10000 → z < 10000 → tonnes ≤ 10 ^ 12 → grade ≤ 10 ^ 12 → zone < 64
-    → (b : Block) × (block_with x y z (tonnes / 1000) grade zone ≡ Some b)
-made x y z tonnes grade zone low_x low_y low_z few low_grade low_zone =
-    let kg : tonnes / 1000 ≤ 10 ^ 9 = omega arith in
-    let b : Block = record {
-      x = x;
-      y = y;
-      z = z;
-      kg = tonnes / 1000;
-      grade = grade;
-      zone = zone;
-      x_in_grid = low_x;
-      y_in_grid = low_y;
-      z_in_grid = low_z;
-      kg_in_range = kg;
-      grade_in_range = low_grade;
-      zone_in_range = low_zone;
-    } in
-    (b, with_again b)
-
-abbrev Anything : {A : Type 0} → A → Type 0
-Anything x = Unit {0}
-
-seven_told : (before : ℕ) (id x y z tonnes grade zone : List ℕ)
-    → Follows (block_of before (id ∷ x ∷ y ∷ z ∷ tonnes ∷ grade ∷ zone ∷ []))
-    (asked_of_block before (id ∷ x ∷ y ∷ z ∷ tonnes ∷ grade ∷ zone ∷ [])) (λ b. Unit {0})
-unfolding block_of
-seven_told before id x y z tonnes grade zone =
-    behind _ (demand Fields (7 ≡ 7)) _ (λ b. Unit {0}) (refl, tt)
-    (first_told (whole_in 64000000) id (x ∷ y ∷ z ∷ tonnes ∷ grade ∷ zone ∷ []) _ (whole 64000000 id) _ (StatesWhole 64000000 id) _ (whole_told 64000000 id) (λ n is_n.
-    first_told (whole_in 10000) x (y ∷ z ∷ tonnes ∷ grade ∷ zone ∷ []) _ (whole 10000 x) _ (StatesWhole 10000 x) _ (whole_told 10000 x) (λ i is_i.
-    first_told (whole_in 10000) y (z ∷ tonnes ∷ grade ∷ zone ∷ []) _ (whole 10000 y) _ (StatesWhole 10000 y) _ (whole_told 10000 y) (λ j is_j.
-    first_told (whole_in 10000) z (tonnes ∷ grade ∷ zone ∷ []) _ (whole 10000 z) _ (StatesWhole 10000 z) _ (whole_told 10000 z) (λ k is_k.
-    first_told (size_in 3 (10 ^ 12)) tonnes (grade ∷ zone ∷ []) _ (size 3 (10 ^ 12) tonnes) _ (StatesSize 3 (10 ^ 12) tonnes) _
-    (size_told 3 (10 ^ 12) tonnes (omega arith)) (λ t is_t.
-    first_told (size_in 6 (10 ^ 12)) grade (zone ∷ []) _ (size 6 (10 ^ 12) grade) _ (StatesSize 6 (10 ^ 12) grade) _
-    (size_told 6 (10 ^ 12) grade (omega arith)) (λ g is_g.
-    first_told (whole_in 64) zone [] _ (whole 64 zone) _ (StatesWhole 64 zone) _ (whole_told 64 zone) (λ w is_w.
-    guarded (not (n == before)) Order (StatesWhole 64000000 id before) (in_range (block_with i j k (t / 1000) g w)) [] (λ b. Unit {0})
-    (test_told 64000000 id n before is_n) (λ test.
-    let b = made i j k t g w is_i.below is_j.below is_k.below is_t.at_most is_g.at_most is_w.below in
-    (tested 64000000 id n before is_n test, rw (b.1) (tt, tt)))))))))))
-
--- the seven fields of a line that has so many
-record AreSeven (fields : List (List ℕ)) : Type 0 where
-  pub a : List ℕ
-  pub b : List ℕ
-  pub c : List ℕ
-  pub d : List ℕ
-  pub e : List ℕ
-  pub f : List ℕ
-  pub g : List ℕ
-  pub are : fields ≡ a ∷ b ∷ c ∷ d ∷ e ∷ f ∷ g ∷ []
-
-seven : (fields : List (List ℕ)) → length fields ≡ 7 → AreSeven fields
-seven (a ∷ b ∷ c ∷ d ∷ e ∷ f ∷ g ∷ []) h = record { a = a; b = b; c = c; d = d; e = e; f = f; g = g; are = refl }
-seven [] h = absurd (omega (arith, h))
-seven (a ∷ []) h = absurd (omega (arith, h))
-seven (a ∷ b ∷ []) h = absurd (omega (arith, h))
-seven (a ∷ b ∷ c ∷ []) h = absurd (omega (arith, h))
-seven (a ∷ b ∷ c ∷ d ∷ []) h = absurd (omega (arith, h))
-seven (a ∷ b ∷ c ∷ d ∷ e ∷ []) h = absurd (omega (arith, h))
-seven (a ∷ b ∷ c ∷ d ∷ e ∷ f ∷ []) h = absurd (omega (arith, h))
-seven (a ∷ b ∷ c ∷ d ∷ e ∷ f ∷ g ∷ x ∷ more) h = absurd (omega (arith, h))
-
-other_width : (before : ℕ) (fields : List (List ℕ)) → (length fields == 7) ≡ false → block_of before fields ≡ Err Fields
-unfolding block_of
-other_width before fields e = rw e refl
-
-pub block_told : (before : ℕ) (fields : List (List ℕ)) → Follows (block_of before fields) (asked_of_block before fields) (λ b. Unit {0})
-block_told before fields = by (length fields == 7) refl
-  where
-    by : (t : Bool) → (length fields == 7) ≡ t → Follows (block_of before fields) (asked_of_block before fields) (λ b. Unit {0})
-    by true e =
-        let s = seven fields (eqb-true (length fields) 7 e) in
-        subst (λ fs. Follows (block_of before fs) (asked_of_block before fs) (λ b. Unit {0})) (sym s.are)
-        (seven_told before s.a s.b s.c s.d s.e s.f s.g)
-    by false e =
-        let never : ¬ (length fields ≡ 7) = λ h. (let same : (length fields == 7) ≡ true = eq-eqb (length fields) 7 h in absurd cc) in
-        rw (other_width before fields e) (inl (never, refl))
 
 -- whole numbers, behind those before them
 wholes_told : (limit : ℕ) (done : List ℕ) (fields : List (List ℕ))

@@ -8,9 +8,9 @@ use Rattle.std.proofs.lemmas.Slice.Eq.{bytes_eq-Decides}
 use Rattle.pit_units.specs.Decimal.{StandsFor, decimal_of}
 use Rattle.pit_model.proofs.PlanFollows.{IsLetter}
 use Rattle.pit_model.proofs.PlanNames.{bytes_same}
-use Rattle.pit_model.proofs.DemandFacts.{Follows, fails_before, behind, bound, guarded}
-use Rattle.pit_model.specs.Demands.{Demand, demand}
-use Rattle.pit_model.specs.Steps.{◌>>=◌}
+use Rattle.forms.proofs.DemandFacts.{Follows, fails_before, behind, bound, guarded}
+use Rattle.forms.specs.Demands.{Demand, demand}
+use Rattle.forms.specs.Steps.{◌>>=◌}
 use Rattle.pit_model.specs.Name.{is_name}
 use Rattle.pit_model.specs.Plan.{stands_before}
 use Rattle.pit_model.specs.Plan.{is_turned}

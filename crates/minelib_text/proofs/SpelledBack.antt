@@ -3,7 +3,7 @@ use Rattle.std.specs.Prelude.{◌≡◌, ℕ, ◌+◌, ◌*◌, ◌/◌, ◌^◌
 use Rattle.std.proofs.Common.{refl, sym, ◌∙◌, ap, subst, arith, append-nil, append_assoc, length-append, eq-eqb, lt-ltb, le-ltb}
 use Rattle.std.specs.List.{AllZip}
 use Rattle.pit_units.proofs.Standing.{stands_read}
-use Rattle.pit_model.specs.Steps.{◌>>=◌}
+use Rattle.forms.specs.Steps.{◌>>=◌}
 use Rattle.pit_model.specs.declared.block.Block.{Block}
 use Rattle.minelib_text.specs.BlockLines.{block_of, admit_block, blocks_in}
 use Rattle.minelib_text.specs.FieldValues.{whole_in, size_in, all_by}
@@ -14,7 +14,7 @@ use Rattle.minelib_text.specs.SpelledFields.{StatesWhole, StatesSize}
 use Rattle.minelib_text.specs.SpelledPrec.{IsPredsLine, ArePredsLines}
 use Rattle.minelib_text.specs.TextLines.{Line, fields_of, lines_in, end_of}
 use Rattle.minelib_text.specs.declared.text_fault.TextKind.{TextKind}
-use Rattle.minelib_text.proofs.BlocksBack.{with_again}
+use Rattle.minelib_text.proofs.BlockLineFacts.{block_back}
 use Rattle.minelib_text.proofs.PrecBack.{stands_not, differ_again, draft_of}
 
 pub whole_back : (limit : ℕ) (field : List ℕ) (n : ℕ) → StatesWhole limit field n → whole_in limit field ≡ Ok n
@@ -26,21 +26,6 @@ whole_back limit field n h =
 pub size_back : (decimals most : ℕ) (field : List ℕ) (m : ℕ) → decimals ≤ 6 → StatesSize decimals most field m → size_in decimals most field ≡ Ok m
 unfolding size_in
 size_back decimals most field m few h = rw (stands_read decimals field (pos m) few h.stands, le-ltb most m h.at_most) refl
-
-seven_back : (before : ℕ) (b : Block) (id x y z tonnes grade zone : List ℕ) → whole_in 64000000 id ≡ Ok before → whole_in 10000 x ≡ Ok b.x → whole_in 10000 y ≡ Ok b.y
-    → whole_in 10000 z ≡ Ok b.z → size_in 3 (10 ^ 12) tonnes ≡ Ok (b.kg * 1000) → size_in 6 (10 ^ 12) grade ≡ Ok b.grade → whole_in 64 zone ≡ Ok b.zone
-    → block_of before (id ∷ x ∷ y ∷ z ∷ tonnes ∷ grade ∷ zone ∷ []) ≡ Ok b
-unfolding block_of
-seven_back before b id x y z tonnes grade zone e1 e2 e3 e4 e5 e6 e7 =
-    let kg : b.kg * 1000 / 1000 ≡ b.kg = omega arith in
-    rw (e1, e2, e3, e4, e5, e6, e7, eq-eqb before before refl, kg, with_again b) refl
-
-pub block_back : (before : ℕ) (fields : List (List ℕ)) (b : Block) → IsBlockLine before fields b → block_of before fields ≡ Ok b
-block_back before fields b h =
-    ap (block_of before) h.here
-    ∙ seven_back before b h.id h.x h.y h.z h.tonnes h.grade h.zone (whole_back 64000000 h.id before h.states_id) (whole_back 10000 h.x b.x h.states_x)
-    (whole_back 10000 h.y b.y h.states_y) (whole_back 10000 h.z b.z h.states_z) (size_back 3 (10 ^ 12) h.tonnes (b.kg * 1000) (omega arith) h.states_tonnes)
-    (size_back 6 (10 ^ 12) h.grade b.grade (omega arith) h.states_grade) (whole_back 64 h.zone b.zone h.states_zone)
 
 -- a line that is admitted, and then the others
 pub next_line : {S : Type 0} (admit : S → List ℕ → Result S TextKind) (s next : S) (line : Line) (lines : List Line) → admit s line.text ≡ Ok next

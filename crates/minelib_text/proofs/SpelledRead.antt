@@ -11,7 +11,7 @@ use Rattle.minelib_text.specs.TextLines.{Line, fields_of, lines_in, end_of}
 use Rattle.minelib_text.specs.declared.text_fault.TextKind.TheVariants.{Missing}
 use Rattle.minelib_text.proofs.ItemLines.{line_more}
 use Rattle.minelib_text.proofs.ReadSteps.{bind_then, then_ok, same_ok, kept_with_lines}
-use Rattle.minelib_text.proofs.ValidBlocks.{block_line}
+use Rattle.minelib_text.proofs.BlockLineFacts.{block_line}
 use Rattle.minelib_text.proofs.ValidPreds.{preds_line}
 
 block_more : (done : List Line) (blocks : List Block) (line : Line) (next : List Block) → admit_block blocks line.text ≡ Ok next

@@ -1,15 +1,17 @@
 -- The blocks that a block file states.
-use Rattle.std.specs.Prelude.{◌≡◌, ℕ, ◌*◌, ◌/◌, ◌^◌, ◌==◌, ◌&&◌, nat_lt, nat_le, not, Bool, true, false, List, [], ◌∷◌, ◌++◌, length, Option, Some, None, Result, Ok, Err, if◌then◌else◌, refl}
+use Rattle.std.specs.Prelude.{◌≡◌, ℕ, ◌/◌, ◌==◌, ◌&&◌, nat_lt, nat_le, not, Bool, true, false, List, [], ◌∷◌, ◌++◌, length, unsigned_abs, Option, Some, None, Result, Ok, Err, if◌then◌else◌, refl}
 use Rattle.std.proofs.lemmas.Bool.{and_parts, ltb-true, leb-true}
-use Rattle.pit_model.specs.Steps.{◌>>=◌}
+use Rattle.forms.specs.Form.{Value, number_at, read, whole_at}
+use Rattle.forms.specs.Steps.{◌>>=◌}
 use Rattle.pit_model.specs.declared.block.Block.{Block}
-use Rattle.minelib_text.specs.FieldValues.{first_by, size_in, whole_in}
+use Rattle.minelib_text.specs.LineKinds.{text_kind}
 use Rattle.minelib_text.specs.Reading.{read_lines}
+use Rattle.minelib_text.specs.SpelledBlocks.{block_form}
 use Rattle.minelib_text.specs.TextLines.{fields_of, lines_in}
 use Rattle.minelib_text.specs.declared.text_fault.LineFault.{LineFault}
 use Rattle.minelib_text.specs.declared.text_fault.TextKind.{TextKind}
-use Rattle.minelib_text.specs.declared.text_fault.TextKind.TheVariants.{Fields, Range, Order}
-use Rattle.pit_model.specs.declared.ranges.TheConstants.{GRID_CELLS, MAX_BLOCKS, MAX_GRADE, MAX_KG, MAX_ZONES}
+use Rattle.minelib_text.specs.declared.text_fault.TextKind.TheVariants.{Range, Order}
+use Rattle.pit_model.specs.declared.ranges.TheConstants.{GRID_CELLS, MAX_GRADE, MAX_KG, MAX_ZONES}
 
 -- indices of the grid, a tonnage and a grade in range, and a zone
 abbrev pub are_in_range : ℕ → ℕ → ℕ → ℕ → ℕ → ℕ → Bool
@@ -47,19 +49,17 @@ abbrev pub in_range : Option Block → Result Block TextKind
 in_range (Some b) = Ok b
 in_range None = Err Range
 
--- `id x y z tonnes grade zone`, where so many blocks stand before: identifiers run 0, 1, 2, .. and are below 64,000,000
+-- the block of the values of a line, where so many blocks stand before: identifiers run 0, 1, 2, ..
+unfoldable pub block_said : ℕ → List Value → Result Block TextKind
+block_said before values =
+    if not (whole_at values 0 == before) then Err Order
+    else in_range (block_with (whole_at values 1) (whole_at values 2) (whole_at values 3)
+    (unsigned_abs (number_at values 4) / 1000) (unsigned_abs (number_at values 5))
+    (whole_at values 6))
+
+-- the block of a line
 unfoldable pub block_of : ℕ → List (List ℕ) → Result Block TextKind
-block_of before fields =
-    if not (length fields == 7) then Err Fields else do
-      id ← first_by (whole_in MAX_BLOCKS) fields
-      x ← first_by (whole_in GRID_CELLS) id.1
-      y ← first_by (whole_in GRID_CELLS) x.1
-      z ← first_by (whole_in GRID_CELLS) y.1
-      tonnes ← first_by (size_in 3 (MAX_KG * 1000)) z.1
-      grade ← first_by (size_in 6 MAX_GRADE) tonnes.1
-      zone ← first_by (whole_in MAX_ZONES) grade.1
-      if not (id.0 == before) then Err Order
-          else in_range (block_with x.0 y.0 z.0 (tonnes.0 / 1000) grade.0 zone.0)
+block_of before fields = read text_kind block_form fields >>= block_said before
 
 -- a line of the file, after those of these blocks
 abbrev pub admit_block : List Block → List ℕ → Result (List Block) TextKind

@@ -1,7 +1,7 @@
 -- The first line that spells nothing behind those before it; and what lines and fields are made of.
 use Rattle.std.specs.Prelude.{◌≡◌, ◌≢◌, ℕ, ◌≤◌, false, true, List, ◌∷◌, ◌++◌, length, All}
 use Rattle.pit_model.specs.Cells.{is_blank}
-use Rattle.pit_model.specs.Demands.{Demand, FailsFirst}
+use Rattle.forms.specs.Demands.{Demand, FailsFirst}
 use Rattle.minelib_text.specs.SpelledLines.{AreLines}
 use Rattle.minelib_text.specs.TextLines.{Line, lines_in, end_of}
 use Rattle.minelib_text.specs.declared.text_fault.LineFault.{LineFault}

@@ -11,6 +11,7 @@ pub mod FirstBad
 pub mod HeaderKeys
 pub mod Kept
 pub mod LineDemands
+pub mod LineKinds
 pub mod Lines
 pub mod Marks
 pub mod MemSinkView

@@ -1,14 +1,13 @@
--- What is asked of a line of a block or precedence file, in the order in which it is looked at,
+-- What is asked of a line of a precedence file, in the order in which it is looked at,
 -- with the kind of fault where it is not so: the table of kinds, in its own words.
-use Rattle.std.specs.Prelude.{◌≡◌, ℕ, ◌*◌, ◌^◌, ◌≤◌, List, [], ◌∷◌, ◌++◌, length, drop, slice_index_or, ◌⊎◌}
+use Rattle.std.specs.Prelude.{ℕ, ◌≤◌, List, [], ◌∷◌, ◌++◌, length, drop, slice_index_or}
 use Rattle.std.specs.List.{AllZip}
-use Rattle.pit_model.specs.Demands.{Demand, demand}
-use Rattle.pit_model.specs.PlanDemands.{IsDecimal, IsFine}
+use Rattle.forms.specs.Demands.{Demand, demand}
+use Rattle.forms.specs.Decimals.{IsDecimal, IsFine}
 use Rattle.mine_instance.specs.Valid.{ArePredsOf}
 use Rattle.minelib_text.specs.SpelledFields.{StatesWhole, StatesSize}
 use Rattle.minelib_text.specs.declared.text_fault.TextKind.{TextKind}
 use Rattle.minelib_text.specs.declared.text_fault.TextKind.TheVariants.{Fields, Number, TooFine, Range, Order, Count, Twice}
-use Rattle.pit_model.specs.declared.ranges.TheConstants.{GRID_CELLS, MAX_BLOCKS, MAX_GRADE, MAX_KG, MAX_ZONES}
 
 -- a decimal with so many decimals, in its range
 abbrev pub number : ℕ → List ℕ → Type 0 → List (Demand TextKind)
@@ -31,15 +30,6 @@ wholes limit (field ∷ fields) = whole limit field ++ wholes limit fields
 -- a field by its place, from 0
 abbrev pub field_at : List (List ℕ) → ℕ → List ℕ
 field_at fields k = slice_index_or fields k []
-
--- `id x y z tonnes grade zone`, behind so many blocks
-abbrev pub asked_of_block : ℕ → List (List ℕ) → List (Demand TextKind)
-asked_of_block before fields =
-    demand Fields (length fields ≡ 7) ++ whole MAX_BLOCKS (field_at fields 0)
-    ++ whole GRID_CELLS (field_at fields 1) ++ whole GRID_CELLS (field_at fields 2)
-    ++ whole GRID_CELLS (field_at fields 3) ++ size 3 (MAX_KG * 1000) (field_at fields 4)
-    ++ size 6 MAX_GRADE (field_at fields 5) ++ whole MAX_ZONES (field_at fields 6)
-    ++ demand Order (StatesWhole MAX_BLOCKS (field_at fields 0) before)
 
 -- `id k p1 .. pk` of n blocks: those of this block
 abbrev pub asked_of_preds : ℕ → ℕ → List (List ℕ) → List (Demand TextKind)

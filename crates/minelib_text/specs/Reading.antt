@@ -1,6 +1,6 @@
 -- Reading the lines of a text one after the other, up to the first faulty one, and what a reader answers of it.
 use Rattle.std.specs.Prelude.{◌≡◌, ℕ, List, [], ◌∷◌, Result, Ok, Err}
-use Rattle.pit_model.specs.Steps.{◌>>=◌}
+use Rattle.forms.specs.Steps.{◌>>=◌}
 use Rattle.minelib_text.specs.TextLines.{Line}
 use Rattle.minelib_text.specs.declared.read_fault.FileError.{FileError}
 use Rattle.minelib_text.specs.declared.read_fault.FileError.TheVariants as file_error

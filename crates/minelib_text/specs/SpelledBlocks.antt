@@ -1,29 +1,38 @@
--- How the lines of a block file spell the blocks.
-use Rattle.std.specs.Prelude.{◌≡◌, ℕ, ◌*◌, ◌^◌, List, [], ◌∷◌}
+-- The lines of a block file: their form, the blocks that they spell, and what is asked of each.
+use Rattle.std.specs.Prelude.{ℕ, ◌*◌, List, [], ◌∷◌, ◌++◌, slice_index_or, pos}
+use Rattle.forms.specs.Demands.{Demand, demand}
+use Rattle.forms.specs.Form.{Field, Value, Millionths, Says, Spell, asked, below, up_to, whole}
 use Rattle.pit_model.specs.declared.block.Block.{Block}
-use Rattle.minelib_text.specs.SpelledFields.{StatesWhole, StatesSize}
+use Rattle.minelib_text.specs.LineKinds.{text_kind}
 use Rattle.minelib_text.specs.SpelledLines.{AreLines}
 use Rattle.minelib_text.specs.TextLines.{Line, fields_of}
+use Rattle.minelib_text.specs.declared.text_fault.TextKind.{TextKind}
+use Rattle.minelib_text.specs.declared.text_fault.TextKind.TheVariants.{Order}
 use Rattle.pit_model.specs.declared.ranges.TheConstants.{GRID_CELLS, MAX_BLOCKS, MAX_GRADE, MAX_KG, MAX_ZONES}
 
--- `id x y z tonnes grade zone`: each field states its part of the block, and the first the block's identifier
-pub record IsBlockLine (n : ℕ) (fields : List (List ℕ)) (b : Block) : Type 0 where
-  pub id : List ℕ
-  pub x : List ℕ
-  pub y : List ℕ
-  pub z : List ℕ
-  pub tonnes : List ℕ
-  pub grade : List ℕ
-  pub zone : List ℕ
-  pub here : fields ≡ id ∷ x ∷ y ∷ z ∷ tonnes ∷ grade ∷ zone ∷ []
-  pub states_id : StatesWhole MAX_BLOCKS id n
-  pub states_x : StatesWhole GRID_CELLS x b.x
-  pub states_y : StatesWhole GRID_CELLS y b.y
-  pub states_z : StatesWhole GRID_CELLS z b.z
-  pub states_tonnes : StatesSize 3 (MAX_KG * 1000) tonnes (b.kg * 1000)
-  pub states_grade : StatesSize 6 MAX_GRADE grade b.grade
-  pub states_zone : StatesWhole MAX_ZONES zone b.zone
+-- `id x y z tonnes grade zone`
+abbrev pub block_form : List Field
+block_form =
+    below MAX_BLOCKS ∷ below GRID_CELLS ∷ below GRID_CELLS ∷ below GRID_CELLS
+    ∷ up_to 3 (MAX_KG * 1000) ∷ up_to 6 MAX_GRADE ∷ below MAX_ZONES ∷ []
+
+-- the values of the block of this identifier
+abbrev pub block_values : ℕ → Block → List Value
+block_values id b =
+    whole id ∷ whole b.x ∷ whole b.y ∷ whole b.z
+    ∷ Millionths (pos (b.kg * 1000)) ∷ Millionths (pos b.grade) ∷ whole b.zone ∷ []
+
+abbrev pub IsBlockLine : ℕ → List (List ℕ) → Block → Type 0
+IsBlockLine id fields b = Spell block_form fields (block_values id b)
 
 -- one line a block, in order, the first of them with this identifier
 abbrev pub AreBlockLines : ℕ → List Line → List Block → Type 0
-AreBlockLines n lines blocks = AreLines (λ id line b. IsBlockLine id (fields_of line) b) n lines blocks
+AreBlockLines id lines blocks =
+    AreLines (λ id line b. IsBlockLine id (fields_of line) b) id lines blocks
+
+-- what is asked of a line behind so many blocks: its form, and then that its identifier is their
+-- number
+abbrev pub asked_of_block : ℕ → List (List ℕ) → List (Demand TextKind)
+asked_of_block before fields =
+    asked text_kind block_form fields
+    ++ demand Order (Says (below MAX_BLOCKS) (slice_index_or fields 0 []) (whole before))

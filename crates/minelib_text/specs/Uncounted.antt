@@ -1,7 +1,7 @@
 -- Lines whose fields are read before they are counted. Only proofs and private contracts need it.
 use Rattle.std.specs.Prelude.{◌≡◌, ℕ, ◌*◌, ◌/◌, ◌==◌, not, Bool, List, ◌∷◌, length, ℤ, Result, Ok, Err, if◌then◌else◌}
 use Rattle.mine_instance.specs.declared.coef.Coef.{Coef}
-use Rattle.pit_model.specs.Steps.{◌>>=◌}
+use Rattle.forms.specs.Steps.{◌>>=◌}
 use Rattle.pit_model.specs.declared.block.Block.{Block}
 use Rattle.pit_units.specs.Decimal.{decimal_of}
 use Rattle.minelib_text.specs.BlockLines.{block_with, in_range}

@@ -1,5 +1,6 @@
 -- The MineLib texts of an instance (Espinoza, Goycoolea, Moreno and Newman 2013, in this project's profile), as lines of fields.
-use Rattle.std.specs.Prelude.{ℕ, ◌*◌, List, [], ◌∷◌, ◌++◌, ℤ, pos, codes, decimal, length, map}
+use Rattle.std.specs.Prelude.{ℕ, List, [], ◌∷◌, ◌++◌, ℤ, codes, decimal, length, map}
+use Rattle.forms.specs.Form.{written}
 use Rattle.pit_units.specs.Decimal.{shortest}
 use Rattle.pit_model.specs.declared.block.Block.{Block}
 use Rattle.pit_model.specs.declared.limit.Limit.{Limit}
@@ -11,11 +12,11 @@ use Rattle.mine_instance.specs.declared.coef.Coef.{Coef}
 use Rattle.mine_instance.specs.declared.cpit.CpitCoef.{CpitCoef}
 use Rattle.mine_instance.specs.declared.instance.Instance.{Instance}
 use Rattle.minelib_text.specs.Lines.{text_of, line_of, lines_from}
+use Rattle.minelib_text.specs.SpelledBlocks.{block_values}
 
 -- `id x y z tonnes grade zone`
 abbrev pub block_fields : ℕ → Block → List (List ℕ)
-block_fields n b =
-    decimal n ∷ decimal b.x ∷ decimal b.y ∷ decimal b.z ∷ shortest (pos (b.kg * 1000)) ∷ shortest (pos b.grade) ∷ decimal b.zone ∷ []
+block_fields n b = written (block_values n b)
 
 -- `id k p1 .. pk`
 abbrev pub prec_fields : ℕ → List ℕ → List (List ℕ)

@@ -2,7 +2,7 @@
 use Rattle.std.specs.Prelude.{◌≡◌, ℕ, List, [], ◌∷◌, ◌++◌, Vec, length, sum_by, codes, Option, None, Some, Result, Ok}
 use Rattle.std.specs.Fmt.{decimal}
 use Rattle.std.specs.declared.alloc.Global.{Global}
-use Rattle.pit_model.specs.Steps.{◌>>=◌}
+use Rattle.forms.specs.Steps.{◌>>=◌}
 use Rattle.minelib_text.specs.Denotes.{cpit_denoted, denoted}
 use Rattle.minelib_text.specs.declared.text_fault.TextFault.{TextFault}
 use Rattle.mine_instance.specs.declared.instance.Instance.{Instance}

@@ -1,6 +1,6 @@
 -- One band more of a leach's record.
 use Rattle.std.proofs.Common.{◌≡◌, ◌<◌, ◌+◌, ◌*◌, ◌++◌, ℕ, suc, List, [], ◌∷◌, Ok, sym, ◌∙◌, ap, arith, length, drop, get_or, drop-cons}
-use Rattle.pit_model.specs.Steps.{◌>>=◌}
+use Rattle.forms.specs.Steps.{◌>>=◌}
 use Rattle.pit_model.specs.Planned.{band_in, bands_in}
 use Rattle.pit_model.specs.declared.band.Band.{Band}
 

@@ -1,8 +1,6 @@
 pub mod BandFacts
 pub mod BandSteps
 pub mod CellFacts
-pub mod DecimalFaults
-pub mod DemandFacts
 pub mod Limits
 pub mod Names
 pub mod PlanDraft

@@ -5,9 +5,9 @@ use Rattle.std.proofs.lemmas.List.{length-append, map-append}
 use Rattle.std.proofs.lemmas.List.Elements.{All-nil, All-push, All-weaker}
 use Rattle.std.proofs.lemmas.List.Sorted.{IsPermutation-refl}
 use Rattle.std.specs.List.Sorted.{IsPermutation}
-use Rattle.pit_model.proofs.DemandFacts.{Follows, behind, bound, mapped, guarded, last_guarded}
-use Rattle.pit_model.specs.Steps.{◌>>=◌}
-use Rattle.pit_model.specs.Demands.{Demand, demand}
+use Rattle.forms.proofs.DemandFacts.{Follows, behind, bound, mapped, guarded, last_guarded}
+use Rattle.forms.specs.Steps.{◌>>=◌}
+use Rattle.forms.specs.Demands.{Demand, demand}
 use Rattle.pit_model.specs.Cells.{cell_at}
 use Rattle.pit_model.specs.Name.{is_name}
 use Rattle.pit_model.specs.Plan.{IsGrid, IsSlope, IsCone, IsRuled, IsBound, AreCovers, RiseStrictly}

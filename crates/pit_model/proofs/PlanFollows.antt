@@ -6,9 +6,9 @@ use Rattle.std.proofs.lemmas.List.Elements.{All-nil, All-cons, All-push, All-wea
 use Rattle.std.proofs.lemmas.Bool.{and_parts, not-false}
 use Rattle.std.specs.List.{AllZip, list_any}
 use Rattle.std.specs.List.Sorted.{IsPermutation}
-use Rattle.pit_model.proofs.DemandFacts.{Follows, behind, bound, mapped, guarded, last_guarded, weaker}
-use Rattle.pit_model.specs.Steps.{◌>>=◌}
-use Rattle.pit_model.specs.Demands.{Demand, demand}
+use Rattle.forms.proofs.DemandFacts.{Follows, behind, bound, mapped, guarded, last_guarded, weaker}
+use Rattle.forms.specs.Steps.{◌>>=◌}
+use Rattle.forms.specs.Demands.{Demand, demand}
 use Rattle.pit_model.specs.Bands.{starts_rise, AreBands, IsBand}
 use Rattle.pit_model.specs.Cells.{cell_at}
 use Rattle.pit_model.specs.Plan.{IsBound, AreCovers, has_repeat}
@@ -36,7 +36,7 @@ use Rattle.std.specs.Str.{bytes_eq}
 use Rattle.std.proofs.lemmas.Slice.Zip.{AllZip-long}
 use Rattle.pit_units.specs.Decimal.{StandsFor}
 use Rattle.pit_model.specs.Plan.{AreTonnes, IsTonnes, is_turned, stands_before}
-use Rattle.pit_model.specs.PlanDemands.{IsWithin, IsDecimal, IsFine}
+use Rattle.forms.specs.Decimals.{IsWithin, IsDecimal, IsFine}
 use Rattle.pit_model.specs.Planned.{known, destination_in, resource_in, covers_in, is_resource, period_in, tonnes_in, bound_in, is_same_place, with_limit, with_bound, limit_width}
 use Rattle.pit_model.specs.declared.band.Band.{Band}
 use Rattle.pit_model.specs.declared.limit.Bound.{Bound}
@@ -45,8 +45,9 @@ use Rattle.pit_model.specs.declared.plan_fault.PlanFaultKind.TheVariants.{Number
 use Rattle.pit_model.proofs.Limits.{inserted, All-with_limit, rises}
 use Rattle.pit_model.proofs.PlanDraft.{listed, stated_of, Keeps, Adds, width_then, named_then, once_told, other, room_told, destination_told, formula_told}
 use Rattle.pit_model.proofs.PlanNames.{bytes_same, same_bytes, bytes_other}
-use Rattle.pit_model.proofs.DecimalFaults.{one_number}
-use Rattle.pit_model.proofs.PlanTold.{one_whole, whole_from, read_number, reworded, le_true, true_le}
+use Rattle.forms.proofs.DecimalFaults.{one_number}
+use Rattle.forms.proofs.FormFacts.{le_true, true_le}
+use Rattle.pit_model.proofs.PlanTold.{one_whole, whole_from, read_number, reworded}
 
 pub periods_follows : (d : DraftView) (ls : List Limit) (cells : List (List ℕ)) → Keeps d ls
     → Follows (admit_periods d cells) (asked (stated_of d ls) key.Periods cells) (Adds (stated_of d ls) key.Periods cells)

@@ -16,7 +16,7 @@ use Rattle.pit_model.specs.declared.plan_key.PlanKey.{PlanKey}
 use Rattle.pit_model.specs.declared.plan_key.PlanKey.TheVariants as key
 use Rattle.pit_model.proofs.PlanFollows.{one_bands, one_covers}
 use Rattle.pit_model.proofs.PlanNames.{Apart, bytes_same, bytes_other}
-use Rattle.pit_model.proofs.DecimalFaults.{one_number}
+use Rattle.forms.proofs.DecimalFaults.{one_number}
 use Rattle.pit_model.proofs.PlanTold.{one_whole}
 
 -- the key by the small letters of a cell

@@ -6,7 +6,7 @@ use Rattle.std.proofs.lemmas.List.Elements.{All-contains}
 use Rattle.std.proofs.lemmas.List.Sorted.{Contains-permutation, IsPermutation-sym}
 use Rattle.std.specs.List.{Contains}
 use Rattle.pit_model.proofs.Limits.{first_rises, rest_rises}
-use Rattle.pit_model.specs.Demands.{FailsFirst}
+use Rattle.forms.specs.Demands.{FailsFirst}
 use Rattle.pit_model.specs.Cells.{cell_at, cells_of}
 use Rattle.pit_model.specs.Plan.{PlanParts, IsPlan, RiseStrictly, stands_before, plan_of}
 use Rattle.pit_model.specs.PlanDemands.{asked}
@@ -23,7 +23,7 @@ use Rattle.pit_model.specs.declared.plan_key.PlanKey.TheVariants as key
 use Rattle.pit_model.proofs.PlanDraft.{listed, stated_of, Keeps, blank_keeps, Adds, name_follows, grid_follows, zone_follows, mill_follows, dump_follows}
 use Rattle.pit_model.proofs.PlanFollows.{periods_follows, rate_follows, leach_follows, resource_follows, limit_follows}
 use Rattle.pit_model.proofs.PlanKeys.{word_key, key_word, one_key, one_part}
-use Rattle.pit_model.proofs.DemandFacts.{one_kind, none_fails, Follows}
+use Rattle.forms.proofs.DemandFacts.{one_kind, none_fails, Follows}
 
 keyed : (d : DraftView) (ls : List Limit) (k : PlanKey) (cells : List (List ℕ)) → Keeps d ls
     → Follows (admit_key d (Some k) cells) (asked (stated_of d ls) k cells) (Adds (stated_of d ls) k cells)

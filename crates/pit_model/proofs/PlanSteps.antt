@@ -1,7 +1,7 @@
 -- One record of a plan after the other: what the records ahead state, after those of the draft.
 use Rattle.std.proofs.Common.{◌≡◌, ◌<◌, ◌≤◌, ℕ, ◌+◌, true, false, List, [], ◌∷◌, Result, Ok, Err, refl, sym, ◌∙◌, ap, arith, nat_lt}
 use Rattle.std.proofs.lemmas.Bool.Decides.{nat_tests}
-use Rattle.pit_model.specs.Steps.{◌>>=◌}
+use Rattle.forms.specs.Steps.{◌>>=◌}
 use Rattle.pit_model.specs.Cells.{cells_of}
 use Rattle.pit_model.specs.Plan.{PlanParts}
 use Rattle.pit_model.specs.Planned.{DraftView, plan_from, admit, finished, at_record}

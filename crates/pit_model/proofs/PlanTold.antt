@@ -8,12 +8,14 @@ use Rattle.pit_units.proofs.Standing.{read_stands, stands_read, spelled_number, 
 use Rattle.pit_units.specs.Decimal.{StandsFor, decimal_of}
 use Rattle.pit_units.specs.declared.fault.DecFault.{DecFault}
 use Rattle.pit_units.specs.declared.fault.DecFault.TheVariants as dec
-use Rattle.pit_model.specs.Steps.{◌>>=◌}
-use Rattle.pit_model.proofs.DecimalFaults.{one_number, too_fine_decimal, out_of_range_fine, fine_decimal, stands_fine}
-use Rattle.pit_model.proofs.DemandFacts.{Follows, behind, mapped}
-use Rattle.pit_model.specs.Demands.{AreMet, Demand, demand, FailsFirst}
+use Rattle.forms.specs.Steps.{◌>>=◌}
+use Rattle.forms.proofs.DecimalFaults.{one_number, too_fine_decimal, out_of_range_fine, fine_decimal, stands_fine}
+use Rattle.forms.proofs.DemandFacts.{Follows, behind, mapped}
+use Rattle.forms.specs.Demands.{AreMet, Demand, demand, FailsFirst}
 use Rattle.pit_model.specs.Planned.{stated, number_in, whole_in, origin_in, size_in}
-use Rattle.pit_model.specs.PlanDemands.{IsDecimal, IsFine, IsWithin, number, whole, metres}
+use Rattle.forms.proofs.FormFacts.{le_true, true_le}
+use Rattle.forms.specs.Decimals.{IsDecimal, IsFine, IsWithin}
+use Rattle.pit_model.specs.PlanDemands.{number, whole, metres}
 use Rattle.pit_model.specs.PlanPart.{StandsWhole, StandsMetres}
 use Rattle.pit_model.specs.declared.plan_fault.PlanFaultKind.{PlanFaultKind}
 use Rattle.pit_model.specs.declared.plan_fault.PlanFaultKind.TheVariants.{Number, TooFine, Range}
@@ -40,15 +42,6 @@ read_number {B} decimals cell f met Q few there next = by (decimal_of decimals c
         let fine = out_of_range_fine decimals cell e in
         let never : ¬ met = λ h. let t = there h in absurd (cc (sym e ∙ stands_read decimals cell t.0 few t.1)) in
         inr (fine_decimal decimals cell fine, inr (fine, inl (never, refl)))
-
-pub le_true : (a b : ℤ) → int_le a b ≡ true → a ≤ℤ b
-le_true a b e = grind (arith, ints)
-
-pub le_false : (a b : ℤ) → int_le a b ≡ false → ¬ (a ≤ℤ b)
-le_false a b e = grind (arith, ints)
-
-pub true_le : (a b : ℤ) → a ≤ℤ b → int_le a b ≡ true
-true_le a b e = grind (arith, ints)
 
 both_true : (a b : Bool) → (a && b) ≡ false → a ≡ true → b ≡ true → ⊥
 both_true true b e a is = absurd cc

@@ -3,7 +3,6 @@ pub mod Bands
 pub mod Block
 pub mod Cells
 pub mod Count
-pub mod Demands
 pub mod Destinations
 pub mod DraftFields
 pub mod Equality
@@ -19,5 +18,4 @@ pub mod Records
 pub mod RecordsAhead
 pub mod Ruled
 pub mod SpelledPlan
-pub mod Steps
 pub mod Worth

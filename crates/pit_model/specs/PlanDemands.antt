@@ -1,12 +1,13 @@
 -- What is asked of a record of a plan, in the order in which it is looked at, with the kind of fault where it is not so: the table of
 -- kinds, in its own words.
-use Rattle.std.specs.Prelude.{◌≡◌, ℕ, ◌*◌, ◌%◌, ◌^◌, ◌<◌, ◌≤◌, ◌==◌, Bool, true, false, List, [], ◌∷◌, ◌++◌, length, drop, All, ℤ, pos, ◌*ℤ◌, ◌≤ℤ◌, IsTrue, codes, ◌⊎◌, if◌then◌else◌}
+use Rattle.std.specs.Prelude.{◌≡◌, ℕ, ◌*◌, ◌%◌, ◌^◌, ◌<◌, ◌≤◌, ◌==◌, Bool, true, false, List, [], ◌∷◌, ◌++◌, length, drop, All, ℤ, pos, ◌*ℤ◌, ◌≤ℤ◌, codes, ◌⊎◌, if◌then◌else◌}
 use Rattle.std.specs.List.{AllZip}
 use Rattle.std.specs.Str.{bytes_eq}
-use Rattle.pit_units.specs.Decimal.{StandsFor, IsSpelled, all_zeros}
+use Rattle.pit_units.specs.Decimal.{StandsFor}
+use Rattle.forms.specs.Decimals.{IsDecimal, IsFine, IsWithin}
 use Rattle.pit_model.specs.Bands.{starts_rise}
 use Rattle.pit_model.specs.Cells.{cell_at}
-use Rattle.pit_model.specs.Demands.{Demand, demand}
+use Rattle.forms.specs.Demands.{Demand, demand}
 use Rattle.pit_model.specs.Name.{is_name}
 use Rattle.pit_model.specs.Plan.{has_repeat}
 use Rattle.pit_model.specs.PlanPart.{Stated, StandsWhole, SpellBands, NamesDestination, NamesResource}
@@ -16,18 +17,6 @@ use Rattle.pit_model.specs.declared.plan_fault.PlanFaultKind.TheVariants.{Width,
 use Rattle.pit_model.specs.declared.plan_key.PlanKey.{PlanKey}
 use Rattle.pit_model.specs.declared.plan_key.PlanKey.TheVariants as key
 use Rattle.pit_model.specs.declared.ranges.TheConstants.{MAX_BANDS, MAX_BENCHES, MAX_COST, MAX_DESTINATIONS, MAX_GRADE, MAX_ORIGIN, MAX_PERIODS, MAX_PRICE, MAX_RATE, MAX_RECOVERY, MAX_RESOURCES, MAX_SIZE, MAX_SLOPE, MAX_TONNES, MAX_ZONES, MIN_ORIGIN}
-
--- the cell is a decimal
-abbrev pub IsDecimal : List ℕ → Type 0
-IsDecimal cell = (sign whole tail fraction : List ℕ) × IsSpelled cell sign whole tail fraction
-
--- its digits past so many decimals are zeros
-abbrev pub IsFine : ℕ → List ℕ → Type 0
-IsFine decimals cell = (sign whole tail fraction : List ℕ) × IsSpelled cell sign whole tail fraction × IsTrue (all_zeros (drop decimals fraction))
-
--- it stands for millionths from the lowest to the highest
-abbrev pub IsWithin : ℕ → ℤ → ℤ → List ℕ → Type 0
-IsWithin decimals low high cell = (m : ℤ) × StandsFor decimals cell m × (low ≤ℤ m) × (m ≤ℤ high)
 
 -- a decimal with so many decimals, from the lowest to the highest millionths
 abbrev pub number : ℕ → ℤ → ℤ → List ℕ → List (Demand PlanFaultKind)

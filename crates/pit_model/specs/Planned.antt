@@ -11,7 +11,7 @@ use Rattle.pit_model.specs.Cells.{cells_of, cell_at, is_word}
 use Rattle.pit_model.specs.Name.{is_name}
 use Rattle.pit_model.specs.Plan.{PlanParts, plan_of, stands_before, has_repeat, is_turned}
 use Rattle.pit_model.specs.Records.{records_of}
-use Rattle.pit_model.specs.Steps.{◌>>=◌}
+use Rattle.forms.specs.Steps.{◌>>=◌}
 use Rattle.pit_model.specs.declared.band.Band.{Band}
 use Rattle.pit_model.specs.declared.cone.Cone.{Cone}
 use Rattle.pit_model.specs.declared.cone.Slope.{Slope}

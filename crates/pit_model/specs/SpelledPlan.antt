@@ -1,7 +1,7 @@
 -- Records spell a plan: each spells one part, in order, and each part is spelled once. Or the first that spells none is named.
 use Rattle.std.specs.Prelude.{◌≡◌, ℕ, ◌+◌, ◌<◌, ◌≤◌, List, [], ◌∷◌, ◌++◌, length, ◌⊎◌}
 use Rattle.std.specs.List.Sorted.{IsPermutation}
-use Rattle.pit_model.specs.Demands.{AreMet, FailsFirst}
+use Rattle.forms.specs.Demands.{AreMet, FailsFirst}
 use Rattle.pit_model.specs.Cells.{cells_of}
 use Rattle.pit_model.specs.Plan.{PlanParts, RiseStrictly}
 use Rattle.pit_model.specs.PlanDemands.{asked}

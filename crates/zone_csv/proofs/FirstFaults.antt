@@ -5,10 +5,10 @@ use Rattle.std.proofs.Math.Nat.{mul-div_left, div-lt_iff_lt-mul}
 use Rattle.std.proofs.lemmas.Int.{ints}
 use Rattle.std.proofs.lemmas.Nat.{div-add-mod'}
 use Rattle.pit_model.specs.Cells.{trimmed, is_word}
-use Rattle.pit_model.proofs.DecimalFaults.{one_number, too_fine_decimal, out_of_range_fine}
-use Rattle.pit_model.proofs.DemandFacts.{fails_before, fails_behind, both_met}
-use Rattle.pit_model.specs.Demands.{Demand, AreMet, FailsFirst}
-use Rattle.pit_model.specs.PlanDemands.{IsWithin}
+use Rattle.forms.proofs.DecimalFaults.{one_number, too_fine_decimal, out_of_range_fine}
+use Rattle.forms.proofs.DemandFacts.{fails_before, fails_behind, both_met}
+use Rattle.forms.specs.Demands.{Demand, AreMet, FailsFirst}
+use Rattle.forms.specs.Decimals.{IsWithin}
 use Rattle.pit_model.specs.Records.{records_of}
 use Rattle.pit_model.specs.declared.block.Block.{Block}
 use Rattle.pit_model.specs.declared.grid.Axis.{Axis}

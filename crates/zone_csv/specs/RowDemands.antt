@@ -3,8 +3,8 @@
 use Rattle.std.specs.Prelude.{◌≡◌, ℕ, ◌+◌, ◌*◌, ◌<◌, true, List, [], ◌∷◌, ◌++◌, length, ℤ, pos, ◌+ℤ◌, ◌*ℤ◌, ◌≤ℤ◌, ◌<ℤ◌, codes, ◌⊎◌}
 use Rattle.pit_units.specs.Decimal.{StandsFor}
 use Rattle.pit_model.specs.Cells.{is_word}
-use Rattle.pit_model.specs.Demands.{Demand, FailsFirst}
-use Rattle.pit_model.specs.PlanDemands.{IsDecimal, IsFine, IsWithin}
+use Rattle.forms.specs.Demands.{Demand, FailsFirst}
+use Rattle.forms.specs.Decimals.{IsDecimal, IsFine, IsWithin}
 use Rattle.pit_model.specs.declared.block.Block.{Block}
 use Rattle.pit_model.specs.declared.grid.Axis.{Axis}
 use Rattle.pit_model.specs.declared.grid.Grid.{Grid}

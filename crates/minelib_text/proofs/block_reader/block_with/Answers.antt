@@ -1,4 +1,4 @@
-use Rattle.minelib_text.proofs.BlocksBack.{with_again}
+use Rattle.minelib_text.proofs.BlockMade.{with_again}
 use Rattle.minelib_text.proofs.block_reader.block_with.Goals as goal
 
 pub returns : goal.returns

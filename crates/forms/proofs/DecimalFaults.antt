@@ -5,7 +5,7 @@ use Rattle.pit_units.proofs.Standing.{number_parts, stands_read}
 use Rattle.pit_units.specs.Decimal.{StandsFor, decimal_of, is_number, all_zeros, fraction_of, whole_of}
 use Rattle.pit_units.specs.declared.fault.DecFault.{DecFault}
 use Rattle.pit_units.specs.declared.fault.DecFault.TheVariants as dec
-use Rattle.pit_model.specs.PlanDemands.{IsDecimal, IsFine}
+use Rattle.forms.specs.Decimals.{IsDecimal, IsFine}
 
 -- a text stands for one number
 pub one_number : (decimals : ℕ) (cell : List ℕ) (m n : ℤ) → decimals ≤ 6 → StandsFor decimals cell m → StandsFor decimals cell n → m ≡ n

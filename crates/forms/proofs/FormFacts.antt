@@ -1,0 +1,233 @@
+-- Reading a form follows what is asked of it, and says what is spelled.
+use Rattle.std.specs.Prelude.{◌≡◌, ℕ, ◌≤◌, ◌==◌, ◌&&◌, not, Bool, true, false, List, [], ◌∷◌, ◌++◌, length, ℤ, ◌≤ℤ◌, int_le, Result, Ok, Err, if◌then◌else◌}
+use Rattle.std.proofs.Common.{refl, sym, ◌∙◌, ap, subst, arith, inl, inr}
+use Rattle.std.proofs.lemmas.Bool.{and_parts, leb-true, eqb-true, eq-eqb, not-false}
+use Rattle.std.proofs.lemmas.Int.{ints}
+use Rattle.pit_units.proofs.Multiples.{stands_multiple}
+use Rattle.pit_units.proofs.Standing.{read_stands, stands_read, spelled_number, spelled_too_fine}
+use Rattle.pit_units.proofs.Written.{shortest_read}
+use Rattle.pit_units.specs.Decimal.{StandsFor, decimal_of, shortest}
+use Rattle.pit_units.specs.declared.fault.DecFault.{DecFault}
+use Rattle.pit_units.specs.declared.fault.DecFault.TheVariants as dec
+use Rattle.forms.proofs.DecimalFaults.{one_number, too_fine_decimal, out_of_range_fine, fine_decimal, stands_fine}
+use Rattle.forms.proofs.DemandFacts.{Follows, behind, bound, mapped, guarded}
+use Rattle.forms.specs.Decimals.{IsDecimal, IsFine, IsWithin}
+use Rattle.forms.specs.Demands.{Demand, demand, FailsFirst}
+use Rattle.forms.specs.FieldFault.{FieldFault}
+use Rattle.forms.specs.FieldFault as fault
+use Rattle.forms.specs.Form.{Field, Decimal, Word, Value, Millionths, Bytes, Says, Spell, FitsField, Fit, asked, asked_of_field, asked_of_fields, number_of, read_field, read_fields, read, written, written_value, has_six_decimals, is_fine}
+use Rattle.forms.specs.Steps.{◌>>=◌}
+
+pub le_true : (a b : ℤ) → int_le a b ≡ true → a ≤ℤ b
+le_true a b e = grind (arith, ints)
+
+pub true_le : (a b : ℤ) → a ≤ℤ b → int_le a b ≡ true
+true_le a b e = grind (arith, ints)
+
+both_true : (a b : Bool) → (a && b) ≡ false → a ≡ true → b ≡ true → ⊥
+both_true true b e a is = absurd cc
+both_true false b e a is = absurd cc
+
+-- a decimal, and then a test of its number
+pub number_told : {B K : Type 0} (kind : FieldFault → K) (decimals : ℕ) (text : List ℕ) (f : ℤ → Result B K) (met : Type 0) (Q : B → Type 0)
+    → decimals ≤ 6 → (met → (m : ℤ) × StandsFor decimals text m)
+    → ((m : ℤ) → StandsFor decimals text m → Follows (f m) (demand (kind fault.Range) met) Q)
+    → Follows (number_of kind (decimal_of decimals text) >>= f)
+    (demand (kind fault.Number) (IsDecimal text) ++ demand (kind fault.TooFine) (IsFine decimals text) ++ demand (kind fault.Range) met) Q
+number_told {B} {K} kind decimals text f met Q few there next = by (decimal_of decimals text) refl
+  where
+    front : List (Demand K)
+    front = demand (kind fault.Number) (IsDecimal text) ++ demand (kind fault.TooFine) (IsFine decimals text)
+
+    by : (r : Result ℤ DecFault) → decimal_of decimals text ≡ r → Follows (number_of kind r >>= f) (front ++ demand (kind fault.Range) met) Q
+    by (Ok m) e =
+        let stands = read_stands decimals text m few e in
+        let fine = stands_fine decimals text m stands in
+        behind (f m) front (demand (kind fault.Range) met) Q (fine_decimal decimals text fine, (fine, tt)) (next m stands)
+    by (Err dec.Number) e = inl ((λ d. spelled_number decimals text d.0 d.1 d.2 d.3 d.4 e), refl)
+    by (Err dec.TooFine) e =
+        inr (too_fine_decimal decimals text e, inl ((λ f. (spelled_too_fine decimals text f.0 f.1 f.2 f.3 f.4).0 e f.5), refl))
+    by (Err dec.Range) e =
+        let fine = out_of_range_fine decimals text e in
+        let never : ¬ met = λ h. let t = there h in absurd (cc (sym e ∙ stands_read decimals text t.0 few t.1)) in
+        inr (fine_decimal decimals text fine, inr (fine, inl (never, refl)))
+
+range_told : {K : Type 0} (kind : FieldFault → K) (decimals : ℕ) (low high : ℤ) (text : List ℕ) → decimals ≤ 6
+    → Follows (read_field kind (Decimal decimals low high) text) (asked_of_field kind (Decimal decimals low high) text) (Says (Decimal decimals low high) text)
+range_told {K} kind decimals low high text few =
+    number_told kind decimals text _ (IsWithin decimals low high text) _ few (λ h. (h.0, h.1)) (λ m stands. by m stands (int_le low m && int_le m high) refl)
+  where
+    by : (m : ℤ) → StandsFor decimals text m → (t : Bool) → (int_le low m && int_le m high) ≡ t
+        → Follows (if t then Ok (Millionths m) else Err (kind fault.Range)) (demand (kind fault.Range) (IsWithin decimals low high text)) (Says (Decimal decimals low high) text)
+    by m stands true e =
+        let parts = and_parts (int_le low m) (int_le m high) e in
+        let from : low ≤ℤ m = le_true low m parts.0 in
+        let to : m ≤ℤ high = le_true m high parts.1 in
+        (((m, stands, from, to), tt), (stands, from, to))
+    by m stands false e =
+        let never : ¬ (IsWithin decimals low high text) = λ h.
+        let same : h.0 ≡ m = one_number decimals text h.0 m few h.1 stands in
+        both_true (int_le low m) (int_le m high) e (true_le low m (subst (λ z. low ≤ℤ z) same h.2)) (true_le m high (subst (λ z. z ≤ℤ high) same h.3)) in
+        inl (never, refl)
+
+word_told : {K : Type 0} (kind : FieldFault → K) (passes : List ℕ → Bool) (text : List ℕ) (t : Bool) → passes text ≡ t
+    → Follows (if t then Ok (Bytes text) else Err (kind fault.Word)) (demand (kind fault.Word) (passes text ≡ true)) (Says (Word passes) text)
+word_told kind passes text true e = ((e, tt), (refl, e))
+word_told kind passes text false e = inl ((λ h. absurd (cc (e, h))), refl)
+
+pub field_told : {K : Type 0} (kind : FieldFault → K) (field : Field) (text : List ℕ) → has_six_decimals field ≡ true
+    → Follows (read_field kind field text) (asked_of_field kind field text) (Says field text)
+field_told kind (Decimal decimals low high) text fine = range_told kind decimals low high text (leb-true decimals 6 fine)
+field_told kind (Word passes) text fine = word_told kind passes text (passes text) refl
+
+-- a form's fields, each by itself
+pub parts : (field : Field) (form : List Field) → is_fine (field ∷ form) ≡ true → (has_six_decimals field ≡ true) × (is_fine form ≡ true)
+parts field form fine = and_parts (has_six_decimals field) (is_fine form) fine
+
+pub fields_told : {K : Type 0} (kind : FieldFault → K) (form : List Field) (texts : List (List ℕ)) → is_fine form ≡ true → length texts ≡ length form
+    → Follows (read_fields kind form texts) (asked_of_fields kind form texts) (Spell form texts)
+fields_told kind [] [] fine count = (tt, tt)
+fields_told kind [] (text ∷ texts) fine count = absurd (omega (arith, count))
+fields_told kind (field ∷ form) [] fine count = absurd (omega (arith, count))
+fields_told kind (field ∷ form) (text ∷ texts) fine count =
+    let p = parts field form fine in
+    bound (read_field kind field text) _ (asked_of_field kind field text) (asked_of_fields kind form texts) (Says field text) _
+    (field_told kind field text p.0) (λ value says.
+    mapped (read_fields kind form texts) (λ values. value ∷ values) (asked_of_fields kind form texts) (Spell form texts) _
+    (fields_told kind form texts p.1 (omega (arith, count))) (λ values spell. (says, spell)))
+
+pub read_told : {K : Type 0} (kind : FieldFault → K) (form : List Field) (texts : List (List ℕ)) → is_fine form ≡ true
+    → Follows (read kind form texts) (asked kind form texts) (Spell form texts)
+read_told kind form texts fine =
+    guarded (not (length texts == length form)) (kind fault.Count) (length texts ≡ length form) (read_fields kind form texts) _ _
+    (λ t h. other (length texts == length form) t (eq-eqb (length texts) (length form) h)) (λ t.
+    let count = eqb-true (length texts) (length form) (not-false (length texts == length form) t) in
+    (count, fields_told kind form texts fine count))
+  where
+    other : (t : Bool) → not t ≡ true → t ≡ true → ⊥
+    other true a b = absurd cc
+    other false a b = absurd cc
+
+-- what is spelled is read
+pub says_read : {K : Type 0} (kind : FieldFault → K) (field : Field) (text : List ℕ) (value : Value) → has_six_decimals field ≡ true → Says field text value
+    → read_field kind field text ≡ Ok value
+says_read kind (Decimal decimals low high) text (Millionths m) fine says =
+    rw (stands_read decimals text m (leb-true decimals 6 fine) says.0, true_le low m says.1, true_le m high says.2) refl
+says_read kind (Decimal decimals low high) text (Bytes word) fine says = absurd says
+says_read kind (Word passes) text (Millionths m) fine says = absurd says
+says_read kind (Word passes) text (Bytes word) fine says = rw says.1 (ap (λ w. Ok (Bytes w)) says.0)
+
+pub spelled_count : (form : List Field) (texts : List (List ℕ)) (values : List Value) → Spell form texts values → length texts ≡ length form
+spelled_count [] [] values spell = refl
+spelled_count [] (text ∷ texts) values spell = absurd spell
+spelled_count (field ∷ form) [] values spell = absurd spell
+spelled_count (field ∷ form) (text ∷ texts) [] spell = absurd spell
+spelled_count (field ∷ form) (text ∷ texts) (value ∷ values) spell = omega (arith, spelled_count form texts values spell.1)
+
+spelled_fields : {K : Type 0} (kind : FieldFault → K) (form : List Field) (texts : List (List ℕ)) (values : List Value) → is_fine form ≡ true
+    → Spell form texts values → read_fields kind form texts ≡ Ok values
+spelled_fields kind [] [] [] fine spell = refl
+spelled_fields kind [] [] (value ∷ values) fine spell = absurd spell
+spelled_fields kind [] (text ∷ texts) values fine spell = absurd spell
+spelled_fields kind (field ∷ form) [] values fine spell = absurd spell
+spelled_fields kind (field ∷ form) (text ∷ texts) [] fine spell = absurd spell
+spelled_fields kind (field ∷ form) (text ∷ texts) (value ∷ values) fine spell =
+    let p = parts field form fine in
+    rw (says_read kind field text value p.0 spell.0, spelled_fields kind form texts values p.1 spell.1) refl
+
+-- as many texts as fields are read field by field
+pub counted : {K : Type 0} (kind : FieldFault → K) (form : List Field) (texts : List (List ℕ)) → length texts ≡ length form
+    → read kind form texts ≡ read_fields kind form texts
+counted kind form texts count = rw (eq-eqb (length texts) (length form) count) refl
+
+pub spelled_read : {K : Type 0} (kind : FieldFault → K) (form : List Field) (texts : List (List ℕ)) (values : List Value) → is_fine form ≡ true
+    → Spell form texts values → read kind form texts ≡ Ok values
+spelled_read kind form texts values fine spell =
+    counted kind form texts (spelled_count form texts values spell) ∙ spelled_fields kind form texts values fine spell
+
+pub read_spelled : {K : Type 0} (kind : FieldFault → K) (form : List Field) (texts : List (List ℕ)) (values : List Value) → is_fine form ≡ true
+    → read kind form texts ≡ Ok values → Spell form texts values
+read_spelled kind form texts values fine e =
+    (subst (λ r. Follows r (asked kind form texts) (Spell form texts)) e (read_told kind form texts fine)).1
+
+pub read_fails : {K : Type 0} (kind : FieldFault → K) (form : List Field) (texts : List (List ℕ)) (found : K) → is_fine form ≡ true
+    → read kind form texts ≡ Err found → FailsFirst (asked kind form texts) found
+read_fails kind form texts found fine e =
+    subst (λ r. Follows r (asked kind form texts) (Spell form texts)) e (read_told kind form texts fine)
+
+-- what fits is spelled by what is written
+says_written : (field : Field) (value : Value) → has_six_decimals field ≡ true → FitsField field value → Says field (written_value value) value
+says_written (Decimal decimals low high) (Millionths m) fine fits =
+    let few = leb-true decimals 6 fine in
+    (read_stands decimals (shortest m) m few (shortest_read decimals m few fits.2 fits.3), fits.0, fits.1)
+says_written (Decimal decimals low high) (Bytes word) fine fits = absurd fits
+says_written (Word passes) (Millionths m) fine fits = absurd fits
+says_written (Word passes) (Bytes word) fine fits = (refl, fits)
+
+pub spell_written : (form : List Field) (values : List Value) → is_fine form ≡ true → Fit form values → Spell form (written values) values
+spell_written [] [] fine fit = tt
+spell_written [] (value ∷ values) fine fit = absurd fit
+spell_written (field ∷ form) [] fine fit = absurd fit
+spell_written (field ∷ form) (value ∷ values) fine fit =
+    let p = parts field form fine in
+    (says_written field value p.0 fit.0, spell_written form values p.1 fit.1)
+
+pub written_read : {K : Type 0} (kind : FieldFault → K) (form : List Field) (values : List Value) → is_fine form ≡ true → Fit form values
+    → read kind form (written values) ≡ Ok values
+written_read kind form values fine fit = spelled_read kind form (written values) values fine (spell_written form values fine fit)
+
+-- what is spelled fits
+says_fits : (field : Field) (text : List ℕ) (value : Value) → has_six_decimals field ≡ true → Says field text value → FitsField field value
+says_fits (Decimal decimals low high) text (Millionths m) fine says =
+    (says.1, says.2, says.0.in_range, stands_multiple decimals text m (leb-true decimals 6 fine) says.0)
+says_fits (Decimal decimals low high) text (Bytes word) fine says = absurd says
+says_fits (Word passes) text (Millionths m) fine says = absurd says
+says_fits (Word passes) text (Bytes word) fine says = subst (λ w. passes w ≡ true) says.0 says.1
+
+pub spelled_fit : (form : List Field) (texts : List (List ℕ)) (values : List Value) → is_fine form ≡ true → Spell form texts values → Fit form values
+spelled_fit [] [] [] fine spell = tt
+spelled_fit [] [] (value ∷ values) fine spell = absurd spell
+spelled_fit [] (text ∷ texts) values fine spell = absurd spell
+spelled_fit (field ∷ form) [] values fine spell = absurd spell
+spelled_fit (field ∷ form) (text ∷ texts) [] fine spell = absurd spell
+spelled_fit (field ∷ form) (text ∷ texts) (value ∷ values) fine spell =
+    let p = parts field form fine in
+    (says_fits field text value p.0 spell.0, spelled_fit form texts values p.1 spell.1)
+
+-- what is read before it is counted has been counted
+pub read_count : {K : Type 0} (kind : FieldFault → K) (form : List Field) (texts : List (List ℕ)) (values : List Value)
+    → read_fields kind form texts ≡ Ok values → length texts ≡ length form
+read_count kind [] [] values e = refl
+read_count kind [] (text ∷ texts) values e = absurd cc
+read_count kind (field ∷ form) [] values e = absurd cc
+read_count {K} kind (field ∷ form) (text ∷ texts) values e = one (λ more is. read_count kind form texts more is) (read_field kind field text) e
+  where
+    rest : ((more : List Value) → read_fields kind form texts ≡ Ok more → length texts ≡ length form) → (value : Value) (r : Result (List Value) K)
+        → read_fields kind form texts ≡ r → (r >>= λ more. Ok (value ∷ more)) ≡ Ok values → length (text ∷ texts) ≡ length (field ∷ form)
+    rest deeper value (Ok more) is e = omega (arith, deeper more is)
+    rest deeper value (Err found) is e = absurd cc
+
+    one : ((more : List Value) → read_fields kind form texts ≡ Ok more → length texts ≡ length form) → (r : Result Value K)
+        → (r >>= λ value. read_fields kind form texts >>= λ more. Ok (value ∷ more)) ≡ Ok values → length (text ∷ texts) ≡ length (field ∷ form)
+    one deeper (Ok value) e = rest deeper value (read_fields kind form texts) refl e
+    one deeper (Err found) e = absurd cc
+
+-- and then a step, which may fail
+pub counted_later : {A K : Type 0} (kind : FieldFault → K) (form : List Field) (texts : List (List ℕ)) (said : List Value → Result A K) (x : A)
+    → (read_fields kind form texts >>= said) ≡ Ok x → (read kind form texts >>= said) ≡ Ok x
+counted_later {A} {K} kind form texts said x e = by (read_fields kind form texts) refl e
+  where
+    by : (r : Result (List Value) K) → read_fields kind form texts ≡ r → (r >>= said) ≡ Ok x → (read kind form texts >>= said) ≡ Ok x
+    by (Ok values) is e = ap (λ r. r >>= said) (counted kind form texts (read_count kind form texts values is) ∙ is) ∙ e
+    by (Err found) is e = absurd cc
+
+-- a fault that is met before they are counted is that of the count where there are too few or too many
+pub fault_later : {A K : Type 0} (kind : FieldFault → K) (form : List Field) (texts : List (List ℕ)) (said : List Value → Result A K) (found : K)
+    → (read_fields kind form texts >>= said) ≡ Err found
+    → (read kind form texts >>= said) ≡ Err (if length texts == length form then found else kind fault.Count)
+fault_later kind form texts said found e = by (length texts == length form) e
+  where
+    by : (t : Bool) → (read_fields kind form texts >>= said) ≡ Err found
+        → ((if not t then Err (kind fault.Count) else read_fields kind form texts) >>= said) ≡ Err (if t then found else kind fault.Count)
+    by true e = e
+    by false e = refl

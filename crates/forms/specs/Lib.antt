@@ -1,0 +1,5 @@
+pub mod Decimals
+pub mod Demands
+pub mod FieldFault
+pub mod Form
+pub mod Steps
