@@ -2,6 +2,7 @@
 
 ghost use Rattle.std.specs.Prelude.{◌≡◌, ◌≤◌, ◌^◌, ◌↔◌, IsSome, IfSome, unsigned_abs};
 
+use std::fmt;
 use std::marker::Model;
 
 // The most millionths that a decimal counts, either side of zero: 10^18 as a number.
@@ -11,7 +12,7 @@ const MOST: u128 = 1_000_000_000_000_000_000_000_000;
 const HALF: u128 = 18_446_744_073_709_551_616;
 
 /// A decimal number, counted in millionths: between -10^24 and 10^24 of them.
-#[derive(Clone, Copy, Debug)]
+#[derive(Clone, Copy)]
 pub struct Dec {
     // The millionths and 10^24 more, as two digits of 64 bits: these may stand at places of 8 bytes, where one number of 128 bits may not.
     high: u64,
@@ -56,6 +57,18 @@ impl Dec {
     {
         let raised = u128::from(self.high) * HALF + u128::from(self.low);
         raised as i128 - MOST as i128
+    }
+}
+
+// The number, and not the halves that keep it.
+impl fmt::Debug for Dec {
+    ghost use Rattle.std.specs.Prelude.{◌++◌, Some, codes};
+    ghost use Rattle.std.specs.Fmt.{signed_decimal};
+
+    ghost debug_output = { λ dec. Some (signed_decimal dec ++ codes " millionths") };
+
+    fn fmt<W: fmt::Write>(&self, f: &mut fmt::Formatter<W>) -> fmt::Result {
+        write!(f, "{} millionths", self.millionths())
     }
 }
 

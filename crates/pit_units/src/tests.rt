@@ -146,3 +146,14 @@ fn further_texts(rt: HostRuntime) -> Result<(), Fail> {
     assert_eq!(rt; Dec::new(i128::MIN), None);
     Ok(())
 }
+
+// What an assertion that fails shows of a decimal.
+#[test]
+fn decimals_in_messages(rt: HostRuntime) -> Result<(), Fail> {
+    let dec = Dec::new(-2_500_000).ok_or("out of range")?;
+    assert_eq!(rt;
+        format!(in rt.alloc(); "{dec:?}")?.as_str(),
+        "-2500000 millionths"
+    );
+    Ok(())
+}
