@@ -8,7 +8,7 @@ use std::marker::Model;
 // The most millionths that a decimal counts, either side of zero: 10^18 as a number.
 const MOST: u128 = 1_000_000_000_000_000_000_000_000;
 
-// 2^64.
+// How many values a half has: 2^64.
 const HALF: u128 = 18_446_744_073_709_551_616;
 
 /// A decimal number, counted in millionths: between -10^24 and 10^24 of them.
