@@ -46,19 +46,19 @@ fn add_lists(collector: &mut Collector, lists: Vec<Items>) -> Result<(), AllocEr
     ensures { OnOk result (collector.new ≡ record collector.old { items = collector.old.items ++ joined lists.items }) }
 {
     for list in lists {
-        add_all(collector, &list)?;
+        add_all(collector, list.as_slice())?;
     }
     Ok(())
 }
 
 // Adds items that, with others after them, make a complete list.
-fn add_all(collector: &mut Collector, items: &Items) -> Result<(), AllocError>
+fn add_all(collector: &mut Collector, items: &[Item]) -> Result<(), AllocError>
     requires { IsFront collector.old.files (collector.old.items ++ items.now) }
     ensures { OnOk result (collector.new ≡ record collector.old { items = collector.old.items ++ items.now }) }
 {
     complete_is_not_refused();
-    for position in 0..items.len() {
-        add_one(collector, items.at(position))?;
+    for item in items {
+        add_one(collector, *item)?;
     }
     Ok(())
 }

@@ -1,15 +1,12 @@
--- Rows and items whose worths stand in one list, when worths are appended to it.
-use Rattle.std.proofs.Common.{◌≡◌, ℕ, zero, suc, ◌+◌, ◌-◌, ◌≤◌, ℤ, List, [], ◌∷◌, ◌++◌, length, map, take, drop, set, replicate, get_or, take_all, refl, sym, ap, subst, ◌∙◌, arith, length-append}
+-- Rows whose worths stand in one list, when worths are appended to it.
+use Rattle.std.proofs.Common.{◌≡◌, ℕ, zero, suc, ◌+◌, ◌-◌, ◌≤◌, ℤ, List, [], ◌∷◌, ◌++◌, length, map, take, drop, set, replicate, take_all, refl, sym, ap, ◌∙◌, arith}
 use Rattle.std.specs.List.{All}
 use Rattle.std.proofs.lemmas.List.{drop-append-le, take-append-le, length-drop, length-map, map-append, map-set}
 use Rattle.std.proofs.lemmas.Simd.{map-map}
-use Rattle.std.proofs.lemmas.List.Elements.{All-nil, All-cons, All-tail, All-append}
+use Rattle.std.proofs.lemmas.List.Elements.{All-tail}
 use Rattle.valuers.specs.declared.head.Head.{Head}
-use Rattle.valuers.specs.declared.item.Item.{Item}
 use Rattle.valuers.specs.declared.item.Valued.{Valued}
-use Rattle.valuers.specs.declared.items.Entry.{Entry}
-use Rattle.valuers.specs.declared.items.Entry.TheVariants.{Row, End}
-use Rattle.valuers.specs.Heads.{row_of, item_of, IsHeld, IsKept}
+use Rattle.valuers.specs.Heads.{row_of, IsHeld}
 
 own_kept : (ws more : List ℤ) (from count : ℕ) → from + count ≤ length ws → take count (drop from (ws ++ more)) ≡ take count (drop from ws)
 own_kept ws more from count within =
@@ -22,11 +19,6 @@ row_with h own = record { file = h.file; place = h.place; block = h.block; worth
 pub row_kept : (ws more : List ℤ) (h : Head) → IsHeld ws h → row_of (ws ++ more) h ≡ row_of ws h
 row_kept ws more h held =
     ap (row_with h) (own_kept ws more h.from h.count held.2)
-
-item_kept : (ws more : List ℤ) (e : Entry) → IsKept ws e → item_of (ws ++ more) e ≡ item_of ws e
-item_kept ws more (Row file count place from block) held =
-    rw (own_kept ws more from count held.2) refl
-item_kept ws more (End file rows) held = refl
 
 seen_alike : {A B : Type 0} (P : A → Type 0) (f g : A → B) → ((x : A) → P x → f x ≡ g x) → (xs : List A) → All P xs → map f xs ≡ map g xs
 seen_alike P f g alike [] all = refl
@@ -53,44 +45,6 @@ pub row_set : (ws more : List ℤ) (hs : List Head) (i : ℕ) (h : Head) → All
 row_set ws more hs i h held =
     map-set (row_of (ws ++ more)) hs i h
     ∙ ap (λ rows. set rows i (row_of (ws ++ more) h)) (rows_kept ws more hs held)
-
-pub items_kept : (ws more : List ℤ) (es : List Entry) → All (IsKept ws) es → map (item_of (ws ++ more)) es ≡ map (item_of ws) es
-items_kept ws more es kept = seen_alike (IsKept ws) (item_of (ws ++ more)) (item_of ws) (item_kept ws more) es kept
-
-pub item_appended : (ws more : List ℤ) (es : List Entry) (e : Entry) → All (IsKept ws) es →
-    map (item_of (ws ++ more)) (es ++ e ∷ []) ≡ map (item_of ws) es ++ item_of (ws ++ more) e ∷ []
-item_appended ws more es e kept =
-    map-append (item_of (ws ++ more)) es (e ∷ [])
-    ∙ ap (λ items. items ++ item_of (ws ++ more) e ∷ []) (items_kept ws more es kept)
-
--- what is kept is kept among more
-kept_more : (ws more : List ℤ) (e : Entry) → IsKept ws e → IsKept (ws ++ more) e
-kept_more ws more (Row file count place from block) held = (held.0, held.1, let both = length-append ws more in omega arith)
-kept_more ws more (End file rows) held = tt
-
--- the items, where some worths were appended and then an entry, or none
-module _ (ws now more : List ℤ) (es : List Entry) (items : List Item) (is_now : now ≡ ws ++ more) (were : map (item_of ws) es ≡ items)
-    (kept : All (IsKept ws) es) where
-  pub pushed : (later : List Entry) (e : Entry) (item : Item) → later ≡ es ++ e ∷ [] → item_of now e ≡ item →
-      map (item_of now) later ≡ items ++ item ∷ []
-  pushed later e item is_later is_item =
-      ap (map (item_of now)) is_later
-      ∙ ap (λ w. map (item_of w) (es ++ e ∷ [])) is_now
-      ∙ item_appended ws more es e kept
-      ∙ ap (λ xs. xs ++ item_of (ws ++ more) e ∷ []) were
-      ∙ ap (λ w. items ++ item_of w e ∷ []) (sym is_now)
-      ∙ ap (λ i. items ++ i ∷ []) is_item
-
-  pub not_pushed : (later : List Entry) → later ≡ es → map (item_of now) later ≡ items
-  not_pushed later is_later =
-      ap (map (item_of now)) is_later ∙ ap (λ w. map (item_of w) es) is_now ∙ items_kept ws more es kept ∙ were
-
-  pub kept_all : (later : List Entry) (e : Entry) → later ≡ es ++ e ∷ [] → IsKept now e → All (IsKept now) later
-  kept_all later e is_later held =
-      let P : List ℤ → Type 0 = λ w. All (IsKept w) es in
-      let Q : List Entry → Type 0 = λ xs. All (IsKept now) xs in
-      let before : All (IsKept now) es = subst P (sym is_now) (λ k d within. kept_more ws more (get_or es k d) (kept k d within)) in
-      subst Q (sym is_later) (All-append (IsKept now) es (e ∷ []) before (All-cons (IsKept now) e [] held (All-nil (IsKept now))))
 
 -- the rows, where some worths were appended, and then a row was set, appended several times, or neither
 module _ (ws now more : List ℤ) (hs : List Head) (rows : List Valued) (is_now : now ≡ ws ++ more) (were : map (row_of ws) hs ≡ rows)

@@ -1,6 +1,8 @@
 //! Room for long lists.
 
-ghost use Rattle.std.specs.Prelude.{◌≡◌};
+ghost use Rattle.std.specs.Prelude.{◌≡◌, ◌<◌, ◌≤◌, OnOk, OnErr, vec_len, vec_capacity};
+
+use std::alloc::{AllocError, Allocator};
 
 // How many rows a list has when it counts as long.
 const FEW: usize = 4_096;
@@ -21,4 +23,17 @@ pub fn make_room<T>(rows: &mut Vec<T>, worths: &mut Vec<i128>, place: usize)
         let _ = rows.reserve(MANY);
         let _ = worths.reserve(MANY_WORTHS);
     }
+}
+
+/// Takes room for one more item, and for many more where a long list is full. It is refused only where no room is left.
+pub fn make_room_for_item<T, A: Allocator>(list: &mut Vec<T, A>) -> Result<(), AllocError>
+    ensures items { list.new.items ≡ list.old.items }
+    ensures room { OnOk result (vec_len list.new < vec_capacity list.new) }
+    ensures full { OnErr result (vec_capacity list.new ≤ vec_len list.new) }
+{
+    let long_and_full = FEW <= list.len() && list.len() == list.capacity();
+    if long_and_full && list.reserve(MANY).is_ok() {
+        return Ok(());
+    }
+    list.reserve(1)
 }

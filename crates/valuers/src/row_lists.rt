@@ -1,6 +1,6 @@
 //! The rows of several files as one list.
 
-ghost use Rattle.std.specs.Prelude.{◌≡◌, ◌<◌, List, Some, length, map, slice_get, IfOk};
+ghost use Rattle.std.specs.Prelude.{◌≡◌, ◌-◌, ◌^◌, ◌<◌, List, Some, length, map, min, slice_get, IfOk};
 ghost use Rattle.std.specs.List.{flat_map};
 
 use crate::item::Valued;
@@ -39,6 +39,13 @@ impl RowLists {
         ensures { IfOk result (λ lists. lists ≡ rows.now) }
     {
         one_list(alloc, rows)
+    }
+
+    /// The number of rows, or `usize::MAX` where there are more of them.
+    pub fn len(&self) -> usize
+        ensures { result ≡ min (length self.now) (2 ^ 64 - 1) }
+    {
+        count_of(self.lists.as_slice())
     }
 
     /// The row at a position, from 0.
@@ -101,8 +108,10 @@ fn blocks_in(alloc: Global, lists: &[Rows]) -> Result<Vec<Block>, AllocError>
     Ok(blocks)
 }
 
-// The number of the files' rows, as far as it can be said.
-fn count_of(lists: &[Rows]) -> usize {
+// The number of the files' rows, or `usize::MAX` where there are more of them.
+fn count_of(lists: &[Rows]) -> usize
+    ensures { result ≡ min (length (flat_map (λ list. list) lists.now)) (2 ^ 64 - 1) }
+{
     let mut count: usize = 0;
     for list in lists {
         count = count.saturating_add(list.len());

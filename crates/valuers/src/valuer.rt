@@ -1,6 +1,6 @@
 //! A valuer, which takes from the lane until it is done and hands on what it took.
 
-ghost use Rattle.std.specs.Prelude.{◌≡◌, ◌≤◌, ◌++◌, true, [], ◌∷◌, length, take, drop, OnOk, OnErr, IsFalse};
+ghost use Rattle.std.specs.Prelude.{◌≡◌, ◌≤◌, ◌++◌, true, [], ◌∷◌, length, take, drop, vec_len, vec_capacity, OnOk, OnErr, IsFalse, IsTrue};
 ghost use Rattle.lane.specs.Message.{is_done};
 ghost use Rattle.pit_model.specs.Destinations.{formulas_of};
 ghost use Rattle.valuers.specs.Valuing.{items_by};
@@ -9,10 +9,11 @@ ghost use Rattle.pit_model.specs.declared.ranges.TheConstants.{MAX_DESTINATIONS}
 use crate::gate::Gate;
 use crate::item::{Item, Valued};
 use crate::items::Items;
+use crate::room::make_room_for_item;
 use crate::valuing::worths_of;
 use lane::{TakeEnd, Taken};
 use pit_model::destination::Destination;
-use std::alloc::{AllocError, Global};
+use std::alloc::{AllocError, Allocator, Global};
 use std::sync::Wait;
 
 /// What a valuer gives back.
@@ -44,25 +45,32 @@ pub fn value_all<R: Wait, G: Gate>(
     ensures items { IsFalse result.memory → result.items ≡ items_by (formulas_of destinations.now) (drop (length take_end.took) result.taker.took) }
     ensures front { result.items ≡ take (length result.items) (items_by (formulas_of destinations.now) (drop (length take_end.took) result.taker.took)) }
 {
-    take_all(rt, take_end, valuer, destinations, gate, Items::new(alloc))
+    let items = Vec::new(alloc);
+    let (taker, items, memory) = take_all(rt, take_end, valuer, destinations, gate, items);
+    ValuerResult {
+        taker,
+        items: Items::new(items),
+        memory,
+    }
 }
 
-// The same, into a list of no items.
-fn take_all<R: Wait, G: Gate>(
+// The same, into a list of no items, whose memory any allocator gives. Memory is refused only where the list has no room left.
+fn take_all<R: Wait, G: Gate, A: Allocator>(
     rt: &R,
     mut take_end: TakeEnd,
     valuer: u8,
     destinations: &[Destination],
     gate: &G,
-    mut items: Items,
-) -> ValuerResult
+    mut items: Vec<Item, A>,
+) -> (TakeEnd, Vec<Item, A>, bool)
     requires some { 1 ≤ length destinations.now }
     requires few { length destinations.now ≤ MAX_DESTINATIONS }
-    requires empty { items ≡ [] }
-    ensures taker { result.taker ≡ record take_end { took = take_end.took ++ drop (length take_end.took) result.taker.took } }
-    ensures done { is_done result.taker.took ≡ true }
-    ensures items { IsFalse result.memory → result.items ≡ items_by (formulas_of destinations.now) (drop (length take_end.took) result.taker.took) }
-    ensures front { result.items ≡ take (length result.items) (items_by (formulas_of destinations.now) (drop (length take_end.took) result.taker.took)) }
+    requires empty { items.items ≡ [] }
+    ensures taker { result.0 ≡ record take_end { took = take_end.took ++ drop (length take_end.took) result.0.took } }
+    ensures done { is_done result.0.took ≡ true }
+    ensures items { IsFalse result.2 → result.1.items ≡ items_by (formulas_of destinations.now) (drop (length take_end.took) result.0.took) }
+    ensures front { result.1.items ≡ take (length result.1.items) (items_by (formulas_of destinations.now) (drop (length take_end.took) result.0.took)) }
+    ensures full { IsTrue result.2 → vec_capacity result.1 ≤ vec_len result.1 }
 {
     let mut memory = false;
     for _ in rt.forever() {
@@ -74,41 +82,49 @@ fn take_all<R: Wait, G: Gate>(
             memory = push_item(rt, message, valuer, destinations, gate, &mut items).is_err();
         }
     }
-    ValuerResult {
-        taker: take_end,
-        items,
-        memory,
-    }
+    (take_end, items, memory)
 }
 
 // Appends what a message is handed on as: a Stop or Quit as nothing.
-fn push_item<R: Wait, G: Gate>(
+fn push_item<R: Wait, G: Gate, A: Allocator>(
     rt: &R,
     message: Taken,
     valuer: u8,
     destinations: &[Destination],
     gate: &G,
-    items: &mut Items,
+    items: &mut Vec<Item, A>,
 ) -> Result<(), AllocError>
     requires some { 1 ≤ length destinations.now }
     requires few { length destinations.now ≤ MAX_DESTINATIONS }
-    ensures pushed { OnOk result (items.new ≡ items.old ++ items_by (formulas_of destinations.now) (message ∷ [])) }
-    ensures kept { OnErr result (items.new ≡ items.old) }
+    ensures pushed { OnOk result (items.new.items ≡ items.old.items ++ items_by (formulas_of destinations.now) (message ∷ [])) }
+    ensures kept { OnErr result (items.new.items ≡ items.old.items) }
+    ensures full { OnErr result (vec_capacity items.new ≤ vec_len items.new) }
 {
     match message {
         Taken::Row { file, place, block } => {
             gate.row(rt, valuer, file, place);
             let worths = worths_of(block, destinations);
-            items.push(Item::Row(Valued {
+            let row = Valued {
                 file,
                 place,
                 block,
                 worths,
-            }))?;
+            };
+            push(items, Item::Row(row))
         }
-        Taken::End { file, rows } => items.push(Item::End { file, rows })?,
-        Taken::Stop | Taken::Quit => {}
+        Taken::End { file, rows } => push(items, Item::End { file, rows }),
+        Taken::Stop | Taken::Quit => Ok(()),
     }
+}
+
+// Appends an item.
+fn push<A: Allocator>(items: &mut Vec<Item, A>, item: Item) -> Result<(), AllocError>
+    ensures pushed { OnOk result (items.new.items ≡ items.old.items ++ item ∷ []) }
+    ensures kept { OnErr result (items.new.items ≡ items.old.items) }
+    ensures full { OnErr result (vec_capacity items.new ≤ vec_len items.new) }
+{
+    make_room_for_item(items)?;
+    items.push(item).unwrap();
     Ok(())
 }
 

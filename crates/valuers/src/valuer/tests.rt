@@ -3,16 +3,19 @@
 ghost use Rattle.std.specs.Prelude.{◌≡◌, ◌≤◌, true, [], IfOk, IfSome, length};
 ghost use Rattle.lane.specs.Message.{is_done};
 ghost use Rattle.lane.specs.Ends.{first_puts, first_takes};
-ghost use Rattle.pit_model.specs.Worth.{mill};
+ghost use Rattle.pit_model.specs.Worth.{dump, mill};
 
 use super::*;
 use crate::gate::OpenGate;
 use crate::worths::Worths;
 use lane::{Closer, Gathered, PutEnd, Stopped, open};
+use linked_list_allocator::LocalHeap;
 use pit_model::block::Block;
 use pit_model::destination::Valuer;
 use pit_model::formula::Formula;
-use pit_model::worth::mill_worth;
+use pit_model::worth::{dump_worth, mill_worth};
+use std::sync::Arc;
+use std::sync::atomic::{AtomicU64, Ordering};
 use std::test::Fail;
 use std::thread;
 use std::thread::Threads;
@@ -58,10 +61,7 @@ fn lane_on_one_thread(rt: HostRuntime) -> Result<(), Fail> {
         worths: Worths::new(&[1_200_000]).expect(&rt, "worths"),
     });
     let handed_on = [row, Item::End { file: 0, rows: 1 }];
-    assert_eq!(rt; result.items.len(), handed_on.len());
-    for (position, item) in handed_on.iter().enumerate() {
-        assert_eq!(rt; result.items.at(position), *item);
-    }
+    assert_eq!(rt; result.items.as_slice(), handed_on.as_slice());
     Ok(())
 }
 
@@ -81,8 +81,8 @@ fn only_take(closer: &Closer, mut takes: Vec<TakeEnd>) -> Option<TakeEnd>
     takes.pop()
 }
 
-// Puts two rows and the end mark of the one file of a lane, and stops the lane.
-fn put_two<R: Wait>(
+// Puts six rows and the end mark of the one file of a lane, and stops the lane.
+fn put_six<R: Wait>(
     rt: &R,
     alloc: Global,
     closer: Closer,
@@ -95,8 +95,9 @@ fn put_two<R: Wait>(
     ensures lane { IfOk result (λ stopped. stopped.lane ≡ closer.lane) }
     ensures takers { IfOk result (λ stopped. stopped.takers ≡ closer.takers) }
 {
-    put.row(rt, block);
-    put.row(rt, block);
+    for _row in 0..6u32 {
+        put.row(rt, block);
+    }
     let ended = Vec::from_array(alloc, [put.end(rt)])?;
     Ok(closer.stop(rt, ended))
 }
@@ -115,23 +116,22 @@ fn gather_one<R: Wait>(
     Ok(stopped.gather(rt, takes))
 }
 
-// The number of rows that are gathered, what the valuer hands on and whether it was refused memory, over a lane of one place whose reader
-// puts two rows while the valuer takes into a list of at most so many items.
+// The number of rows that are gathered, how many items the valuer holds and whether it was refused memory, over a lane of one place whose
+// reader puts six rows while the valuer takes into a list in a heap of so many bytes.
 fn handed_on<R: Threads + Wait + Sync>(
     rt: &R,
     alloc: Global,
     destinations: &[Destination],
     block: Block,
-    most: usize,
-) -> Result<(u64, Items, bool), Fail>
+    bytes: usize,
+) -> Result<(u64, usize, bool), Fail>
     requires some { 1 ≤ length destinations.now }
     requires few { length destinations.now ≤ 8 }
 {
     let (closer, puts, takes) = open(alloc, 1, 1, 1)?;
     let put = only_put(&closer, puts).ok_or("a put end")?;
     let take = only_take(&closer, takes).ok_or("a take end")?;
-    let items = Items::refusing_after(alloc, most);
-    let (stopped, result) = thread::join(
+    let (stopped, taken) = thread::join(
         rt,
         move || -> Result<Stopped, AllocError>
             requires lane { put.lane ≡ closer.lane }
@@ -139,30 +139,106 @@ fn handed_on<R: Threads + Wait + Sync>(
             requires unsent { put.sent ≡ [] }
             ensures lane { IfOk result (λ stopped. stopped.lane ≡ closer.lane) }
             ensures takers { IfOk result (λ stopped. stopped.takers ≡ closer.takers) }
-        { put_two(rt, alloc, closer, put, block) },
-        move || -> ValuerResult
+        { put_six(rt, alloc, closer, put, block) },
+        move || -> Result<(TakeEnd, usize, bool), AllocError>
             requires some { 1 ≤ length destinations.now }
             requires few { length destinations.now ≤ 8 }
-            requires empty { items ≡ [] }
-            ensures lane { result.taker.lane ≡ take.lane }
-            ensures taker { result.taker.taker ≡ take.taker }
-            ensures done { is_done result.taker.took ≡ true }
-        { take_all(rt, take, 0, destinations, &OpenGate, items) },
+            ensures lane { IfOk result (λ taken. taken.0.lane ≡ take.lane) }
+            ensures taker { IfOk result (λ taken. taken.0.taker ≡ take.taker) }
+            ensures done { IfOk result (λ taken. is_done taken.0.took ≡ true) }
+        { take_into_heap(rt, alloc, take, destinations, bytes) },
     );
-    let gathered = gather_one(rt, alloc, stopped?, result.taker)?;
-    Ok((gathered.rows(), result.items, result.memory))
+    let (take, count, memory) = taken?;
+    let gathered = gather_one(rt, alloc, stopped?, take)?;
+    Ok((gathered.rows(), count, memory))
 }
 
-// Memory is refused for the first item, for the second, and so on: the reader ends, all is gathered, and the items are those before.
+// Takes all into a list in a heap of so many bytes, and gives how many items are in it and whether it was refused memory.
+fn take_into_heap<R: Wait>(
+    rt: &R,
+    alloc: Global,
+    take: TakeEnd,
+    destinations: &[Destination],
+    bytes: usize,
+) -> Result<(TakeEnd, usize, bool), AllocError>
+    requires some { 1 ≤ length destinations.now }
+    requires few { length destinations.now ≤ 8 }
+    ensures lane { IfOk result (λ taken. taken.0.lane ≡ take.lane) }
+    ensures taker { IfOk result (λ taken. taken.0.taker ≡ take.taker) }
+    ensures done { IfOk result (λ taken. is_done taken.0.took ≡ true) }
+{
+    let heap = LocalHeap::new(alloc, bytes)?;
+    let (take, items, memory) = take_all(rt, take, 0, destinations, &OpenGate, Vec::new(&heap));
+    Ok((take, items.len(), memory))
+}
+
+// Memory is refused for the first item, or for the fifth, or for none: the reader ends, all is gathered, and the items are those before.
 #[test]
 fn growth_refused(rt: HostRuntime) -> Result<(), Fail> {
     let alloc = rt.alloc();
     let plant = [mill(alloc)?];
-    for most in 0..4usize {
-        let (rows, items, memory) = handed_on(&rt, alloc, &plant, ore()?, most)?;
-        assert_eq!(rt; rows, 2);
-        assert_eq!(rt; memory, most < 3);
-        assert_eq!(rt; items.len(), most.min(3));
+    for (bytes, count) in [(64usize, 0usize), (1_024, 4), (65_536, 7)] {
+        let handed_on = handed_on(&rt, alloc, &plant, ore()?, bytes)?;
+        assert_eq!(rt; handed_on, (6, count, count < 7));
     }
+    Ok(())
+}
+
+// A gate that counts the rows that it is told of.
+#[derive(Drop)]
+struct CountingGate {
+    rows: Arc<AtomicU64>,
+}
+
+impl Gate for CountingGate {
+    fn row<R: Wait>(&self, _rt: &R, _valuer: u8, _file: u8, _place: u32) {
+        self.rows.fetch_add(1, Ordering::SeqCst);
+    }
+
+    fn reader<R: Wait>(&self, _rt: &R, _file: u8) {}
+}
+
+// A dump whose closure adds up how many rows the gate was told of each time that a worth is asked for.
+fn watching_dump(
+    alloc: Global,
+    told: Arc<AtomicU64>,
+    seen: Arc<AtomicU64>,
+) -> Result<Destination, Fail> {
+    let valuer: Valuer = Box::new(
+        alloc,
+        move |block: Block| -> i128
+            ensures { result ≡ dump block 200 }
+        {
+            seen.fetch_add(told.load(Ordering::SeqCst), Ordering::SeqCst);
+            dump_worth(block, 200)
+        },
+    )?;
+    Ok(Destination::new(Formula::Dump { cost: 200 }, valuer))
+}
+
+// The take end of a lane that holds two rows, the end mark and a Quit.
+fn end_of_two_rows<R: Wait>(rt: &R, alloc: Global, block: Block) -> Result<TakeEnd, Fail> {
+    let (closer, puts, takes) = open(alloc, 1, 1, 4)?;
+    let mut put = only_put(&closer, puts).ok_or("a put end")?;
+    let take = only_take(&closer, takes).ok_or("a take end")?;
+    put.row(rt, block);
+    put.row(rt, block);
+    let _ended = put.end(rt);
+    closer.quit(rt, 1);
+    Ok(take)
+}
+
+// The gate is told of each row before its worth is asked for: 1 row at the first, 2 at the second.
+#[test]
+fn gate_before_worth(rt: HostRuntime) -> Result<(), Fail> {
+    let alloc = rt.alloc();
+    let told = Arc::new(alloc, AtomicU64::new(0))?;
+    let seen = Arc::new(alloc, AtomicU64::new(0))?;
+    let dump = watching_dump(alloc, Arc::try_clone(&told)?, Arc::try_clone(&seen)?)?;
+    let take = end_of_two_rows(&rt, alloc, ore()?)?;
+    let gate = CountingGate { rows: told };
+    let result = value_all(&rt, alloc, take, 0, &[dump], &gate);
+    assert_eq!(rt; result.items.as_slice().len(), 3);
+    assert_eq!(rt; seen.load(Ordering::SeqCst), 1 + 2);
     Ok(())
 }
