@@ -1,11 +1,11 @@
-//! Hashes of places that no list can be made for.
+//! Hashes of places, which depend on the whole list.
 
 use crate::code::code;
 use pit_model::block::Block;
 use std::hash::{BuildHasher, DefaultHasher, Hasher};
 
-/// Hashes that begin with the places of a whole list: a block that is changed changes them all, so nobody can choose blocks whose
-/// places have like hashes.
+/// Hashes that begin with the places of a whole list, so that a block which is changed changes all of them. This is meant to make it hard to
+/// choose blocks whose places have like hashes: no proof says so, and only the time of a search rests on it.
 #[derive(Clone, Copy)]
 pub struct PlaceHashes {
     beginning: DefaultHasher,
