@@ -63,7 +63,7 @@ impl Model for Cpit {
 impl Cpit {
     ghost use Rattle.mine_instance.specs.Cpit.{cpit_of};
 
-    /// The CPIT of these parts.
+    /// The CPIT of these parts. `is_cpit` tells whether they are those of one.
     pub fn new(
         name: Name,
         rate: Dec,

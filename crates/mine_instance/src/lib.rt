@@ -16,4 +16,4 @@ pub mod values;
 
 pub use building::{build, build_with, values_by_id};
 pub use cpit_building::build_cpit;
-pub use validity::is_valid;
+pub use validity::{is_cpit, is_valid};

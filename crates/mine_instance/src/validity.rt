@@ -1,10 +1,12 @@
 //! Whether an instance is valid.
 
-ghost use Rattle.std.specs.Prelude.{◌≡◌, ◌≢◌, ◌<◌, ◌≤◌, ◌↔◌, length, All, AllPairs, IsTrue};
+ghost use Rattle.std.specs.Prelude.{◌≡◌, ◌≢◌, ℕ, ◌<◌, ◌≤◌, ◌↔◌, List, length, All, AllPairs, IsTrue};
+ghost use Rattle.mine_instance.specs.Cpit.{AreCpitCoefs, IsCpit, cpit_of};
 ghost use Rattle.mine_instance.specs.Valid.{HasLengths, ArePredsOf, ArePreds, IsHorizon, HasDestinations, AreCoefs, AreLimits, IsValid};
 ghost use Rattle.pit_model.specs.declared.ranges.TheConstants.{MAX_BLOCKS};
 
 use crate::coef::Coef;
+use crate::cpit::CpitCoef;
 use crate::instance::Instance;
 use crate::rising::rises;
 use crate::values::Values;
@@ -43,6 +45,25 @@ pub fn is_valid(instance: &Instance) -> bool
         instance.resources,
         instance.periods,
     )
+}
+
+/// Whether these are the parts of a CPIT, whatever its name: what `Cpit::new` asks of them. There are at most 64,000,000 values, and
+/// all parts keep their ranges and orders.
+pub fn is_cpit(
+    rate: Dec,
+    periods: u8,
+    resources: u8,
+    values: &[Dec],
+    coefs: &[CpitCoef],
+    limits: &[Limit],
+) -> bool
+    ensures { (name : List ℕ) → IsTrue result
+        ↔ IsCpit (cpit_of name rate periods resources values.now coefs.now limits.now) }
+{
+    values.len() <= MAX_BLOCKS
+        && is_horizon(periods, resources, rate)
+        && are_cpit_coefs(coefs, values.len(), resources)
+        && are_limits(limits, resources, periods)
 }
 
 fn has_lengths(instance: &Instance) -> bool
@@ -122,6 +143,15 @@ fn are_coefs(coefs: &[Coef], count: usize, destinations: u8, resources: u8) -> b
     coefs.iter().all(|coef| (coef.b as usize) < count
         && coef.d < destinations
         && coef.r < resources)
+        && rises(coefs)
+}
+
+fn are_cpit_coefs(coefs: &[CpitCoef], count: usize, resources: u8) -> bool
+    ensures { IsTrue result ↔ AreCpitCoefs count resources coefs.now }
+{
+    coefs
+        .iter()
+        .all(|coef| (coef.b as usize) < count && coef.r < resources)
         && rises(coefs)
 }
 
