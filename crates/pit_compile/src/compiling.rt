@@ -1,6 +1,6 @@
 //! The first half of a run: from zone files to the instance.
 
-ghost use Rattle.std.specs.Prelude.{◌≡◌, ◌≢◌, ◌↔◌, Err, length, map, IfErr, IfOk};
+ghost use Rattle.std.specs.Prelude.{◌≡◌, ◌≢◌, ◌↔◌, ◌+◌, ◌≤◌, Err, length, map, IfErr, IfOk};
 ghost use Rattle.mine_instance.specs.Valid.{IsValid};
 ghost use Rattle.pit_compile.specs.Compiled.{IsCompiled, IsNotCompiled};
 ghost use Rattle.pit_compile.specs.Settings.{IsSettingsFault, Suits};
@@ -60,6 +60,7 @@ pub fn compile<R: Threads + Wait + Sync, F: Feed + Send + Drop, G: Gate + Sync>(
     ensures done { IfOk result (IsCompiled plan.now (map F.left feeds.items) settings.valuers) }
     ensures valid { IfOk result (λ compiled. IsValid compiled.instance) }
     ensures refused { IfErr result (IsNotCompiled plan.now (map F.left feeds.items) (map F.is_sure feeds.items)) }
+    ensures budget { IfOk result (λ _. settings.valuers + length feeds.items ≤ starts) }
 {
     require_settings(feeds.len(), plan, destinations, settings)?;
     fitting(rt, alloc, feeds, plan, destinations, settings, starts, gate)
@@ -81,6 +82,7 @@ fn fitting<R: Threads + Wait + Sync, F: Feed + Send + Drop, G: Gate + Sync>(
     ensures done { IfOk result (IsCompiled plan.now (map F.left feeds.items) settings.valuers) }
     ensures valid { IfOk result (λ compiled. IsValid compiled.instance) }
     ensures refused { IfErr result (IsNotCompiled plan.now (map F.left feeds.items) (map F.is_sure feeds.items)) }
+    ensures budget { IfOk result (λ _. settings.valuers + length feeds.items ≤ starts) }
 {
     zone_files();
     let HandedOver {

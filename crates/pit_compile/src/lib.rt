@@ -13,5 +13,5 @@ pub mod sinks;
 mod writing;
 
 pub use compiling::{Compiled, compile};
-pub use running::{run, run_limited};
+pub use running::{MOST_STARTS, run, run_limited};
 pub use writing::write_texts;

@@ -1,6 +1,6 @@
 //! The run: from zone files to the five texts of the instance.
 
-ghost use Rattle.std.specs.Prelude.{◌≡◌, ◌↔◌, Err, length, map, IfErr, IfOk};
+ghost use Rattle.std.specs.Prelude.{◌≡◌, ◌↔◌, ◌+◌, ◌≤◌, Err, length, map, IfErr, IfOk};
 ghost use Rattle.pit_compile.specs.Run.{IsDone, IsRefused};
 ghost use Rattle.pit_compile.specs.Settings.{IsSettingsFault};
 ghost use Rattle.pit_compile.specs.Sinks.{all_told};
@@ -22,8 +22,8 @@ use std::thread::Threads;
 use valuers::Gate;
 use zone_csv::feed::Feed;
 
-// How many threads a run may start: one for each zone file and each valuer, where there are 64 of each.
-const MOST_STARTS: u32 = 128;
+/// How many threads a run may start: one for each zone file and each valuer, where there are 64 of each.
+pub const MOST_STARTS: u32 = 128;
 
 /// Reads and values the zone files over threads, builds the instance of the plan and these files, and writes its five texts to the sinks,
 /// which are begun only when all blocks are known to be different. Answers what went through the lane. The feeds are used up.
@@ -51,6 +51,7 @@ pub fn run<R: Threads + Wait + Sync, F: Feed + Send + Drop, G: Gate + Sync, S: S
         IfOk result (IsDone plan.now (map F.left feeds.items) settings.valuers (told sinks.old) (told sinks.new)) }
     ensures refused { let told = all_told S.state in
         IfErr result (IsRefused plan.now (map F.left feeds.items) (map F.is_sure feeds.items) (told sinks.old) (told sinks.new)) }
+    ensures budget { IfOk result (λ _. settings.valuers + length feeds.items ≤ 128) }
 {
     run_limited(
         rt,
@@ -83,6 +84,7 @@ pub fn run_limited<R: Threads + Wait + Sync, F: Feed + Send + Drop, G: Gate + Sy
         IfOk result (IsDone plan.now (map F.left feeds.items) settings.valuers (told sinks.old) (told sinks.new)) }
     ensures refused { let told = all_told S.state in
         IfErr result (IsRefused plan.now (map F.left feeds.items) (map F.is_sure feeds.items) (told sinks.old) (told sinks.new)) }
+    ensures budget { IfOk result (λ _. settings.valuers + length feeds.items ≤ starts) }
 {
     let Compiled {
         gathered,
