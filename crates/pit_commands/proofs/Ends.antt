@@ -1,15 +1,15 @@
 -- How a refused run ends, in other words.
-use Rattle.std.proofs.Common.{◌≡◌, ◌≤◌, ℕ, List, ◌++◌, arith, length, inl, inr, refl, ap, ◌∙◌, Err, Ok, subst}
+use Rattle.std.proofs.Common.{◌≡◌, ◌<◌, ◌≤◌, ℕ, List, ◌++◌, arith, length, inl, inr, refl, ap, ◌∙◌, Err, Ok, IsErrOf, IfSome, None, Option, subst}
 use Rattle.pit_model.specs.FaultText.{fault_text}
 use Rattle.pit_model.specs.Planned.{planned}
 use Rattle.pit_model.specs.declared.plan.Plan.{Plan}
 use Rattle.pit_model.specs.declared.plan_fault.PlanFault.{PlanFault}
 use Rattle.pit_commands.specs.Compile.{EndsPlanFile, PlanFileRefused}
-use Rattle.pit_commands.specs.FaultLine.{EndsInput, EndsRefused, EndsWith, PlanRefused, line_of}
+use Rattle.pit_commands.specs.FaultLine.{EndsInput, EndsRefused, EndsWith, IsFaultOfInput, PlanRefused, line_of}
 use Rattle.pit_commands.specs.Model.{CutRefused, ModelRefused}
 use Rattle.pit_commands.specs.Pieces.{plan_of}
 use Rattle.pit_commands.specs.declared.input.InputFault.{InputFault}
-use Rattle.pit_commands.specs.declared.input.InputFault.TheVariants.{OutOfMemory}
+use Rattle.pit_commands.specs.declared.input.InputFault.TheVariants.{FeedFailed, OutOfMemory, TooLong}
 use Rattle.zone_csv.specs.declared.slurp.SlurpFault.{SlurpFault}
 
 pub ends_same : (s r : ℕ) (v w old new : List ℕ) (status : ℕ) → s ≡ r → v ≡ w → EndsWith s v old new status → EndsWith r w old new status
@@ -22,19 +22,35 @@ plan_told text words old new status fault short stated e (inl told) =
     inr (inl (short, told.0, (fault, stated, told.1 ∙ ap (λ w. old ++ line_of w) e)))
 plan_told text words old new status fault short stated e (inr refused) = inr (inr refused)
 
-pub input_refused : (fault : InputFault) (old new : List ℕ) (status : ℕ) → EndsInput fault old new status → ModelRefused old new status
-input_refused fault old new status told = inl (fault, told)
+of_input : (left : Option (List ℕ)) (fault : InputFault) → (fault ≡ TooLong → IfSome left (λ bytes. 268435456 < length bytes)) → IsFaultOfInput left fault
+of_input left FeedFailed long = tt
+of_input left TooLong long = long refl
+of_input left OutOfMemory long = tt
 
-pub piece_refused : (input text old new : List ℕ) (status : ℕ) → length input ≤ 268435456 → text ≡ plan_of input → PlanRefused text old new status
-    → ModelRefused old new status
-piece_refused input text old new status small e refused =
-    inr (input, small, inl (subst (λ plan. PlanRefused plan old new status) e refused))
+pub input_refused : {A : Type 0} (left : Option (List ℕ)) (fault : InputFault) (old new : List ℕ) (status : ℕ)
+    → (IsErrOf {T = A} (Err fault) TooLong → IfSome left (λ bytes. 268435456 < length bytes)) → EndsInput fault old new status → ModelRefused left old new status
+input_refused left fault old new status long told = inl (fault, of_input left fault (λ e. long (ap Err e)), told)
 
-pub files_refused : (input text old new : List ℕ) (plan : Plan) (status : ℕ) → length input ≤ 268435456 → text ≡ plan_of input → planned text ≡ Ok plan
-    → CutRefused input plan old new status → ModelRefused old new status
-files_refused input text old new plan status small e stated (inl files) =
-    inr (input, small, inr (plan, subst (λ first. planned first ≡ Ok plan) e stated, files))
-files_refused input text old new plan status small e stated (inr refused) = inl (OutOfMemory, inr refused)
+pub piece_refused : (left : Option (List ℕ)) (input text old new : List ℕ) (status : ℕ) → IfSome left (λ bytes. input ≡ bytes) → length input ≤ 268435456
+    → text ≡ plan_of input → PlanRefused text old new status → ModelRefused left old new status
+piece_refused left input text old new status own small e refused =
+    inr (input, own, small, inl (subst (λ plan. PlanRefused plan old new status) e refused))
+
+pub files_refused : (left : Option (List ℕ)) (input text old new : List ℕ) (plan : Plan) (status : ℕ) → IfSome left (λ bytes. input ≡ bytes) → length input ≤ 268435456
+    → text ≡ plan_of input → planned text ≡ Ok plan → CutRefused input plan old new status → ModelRefused left old new status
+files_refused left input text old new plan status own small e stated (inl files) =
+    inr (input, own, small, inr (plan, subst (λ first. planned first ≡ Ok plan) e stated, files))
+files_refused left input text old new plan status own small e stated (inr refused) = inl (OutOfMemory, tt, inr refused)
+
+untold : (left : Option (List ℕ)) (fault : InputFault) → IsFaultOfInput left fault → IsFaultOfInput None fault
+untold left FeedFailed of = tt
+untold left TooLong of = tt
+untold left OutOfMemory of = tt
+
+-- of an input that tells its bytes it holds what holds of one that does not
+pub untold_refused : (left : Option (List ℕ)) (old new : List ℕ) (status : ℕ) → ModelRefused left old new status → ModelRefused None old new status
+untold_refused left old new status (inl told) = inl (told.0, untold left told.0 told.1, told.2)
+untold_refused left old new status (inr pieces) = inr (pieces.0, tt, pieces.2, pieces.3)
 
 pub plan_file_refused : (fault : SlurpFault) (old new : List ℕ) (status : ℕ) → EndsPlanFile fault old new status → PlanFileRefused old new status
 plan_file_refused fault old new status told = inl (fault, told)

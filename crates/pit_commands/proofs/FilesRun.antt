@@ -1,5 +1,7 @@
 -- What a run on files tells: as many texts as there are feeds.
 use Rattle.std.proofs.Common.{◌≡◌, ℕ, suc, Bool, List, [], ◌∷◌, length, Option, Some, None, refl, ap, ◌∙◌}
+use Rattle.std.specs.List.{sum_by}
+use Rattle.lane.specs.Message.{rows_in}
 use Rattle.minelib_text.specs.SinkState.{SinkState}
 use Rattle.pit_compile.specs.Compiled.{AreGiven, IsVerdict}
 use Rattle.pit_compile.specs.Run.{IsRefused}
@@ -10,13 +12,23 @@ use Rattle.pit_compile.specs.declared.settings.Settings.{Settings}
 use Rattle.pit_compile.specs.declared.settings.SettingsFault.{SettingsFault}
 use Rattle.pit_model.specs.Plan.{PlanParts}
 use Rattle.pit_model.specs.declared.formula.Formula.{Formula}
-use Rattle.pit_commands.specs.Compile.{HasVerdict, NotCompiled}
+use Rattle.pit_commands.specs.Compile.{HasRows, HasVerdict, IsRun, NotCompiled}
 
-pub as_many : (lefts : List (Option (List ℕ))) (texts : List (List ℕ)) → AreGiven lefts texts → length texts ≡ length lefts
+as_many : (lefts : List (Option (List ℕ))) (texts : List (List ℕ)) → AreGiven lefts texts → length texts ≡ length lefts
 as_many [] [] h = refl
 as_many [] (text ∷ texts) h = absurd h
 as_many (left ∷ lefts) [] h = absurd h
 as_many (left ∷ lefts) (text ∷ texts) h = ap suc (as_many lefts texts h.1)
+
+-- the rows of a run that is done are those of as many accepted texts as there are feeds
+pub has_rows : (plan : PlanParts) (lefts : List (Option (List ℕ))) (valuers : ℕ) (old new : List SinkState) (rows count : ℕ) → length lefts ≡ count
+    → IsRun plan lefts valuers old new rows → HasRows plan count rows
+has_rows plan lefts valuers old new rows count all h = record {
+  texts = h.done.texts;
+  counted = as_many lefts h.done.texts h.done.given ∙ all;
+  accepted = h.done.accepted;
+  rows_are = h.rows_are ∙ ap (sum_by rows_in) h.done.passed.sent;
+}
 
 module _ (plan : PlanParts) (formulas : List Formula) (settings : Settings) (lefts : List (Option (List ℕ))) (sures : List Bool) (old new : List SinkState) (count : ℕ) (all : length lefts ≡ count) where
   verdict_on : (r : Refusal) → IsVerdict plan lefts r → HasVerdict plan count r

@@ -10,6 +10,7 @@ mod Joined
 mod Lent
 mod Lines
 pub mod Numbers
+mod Opened
 mod Sections
 mod Uncut
 mod Walk

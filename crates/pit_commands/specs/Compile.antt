@@ -1,9 +1,12 @@
 -- What a compile says of the files that it opens, and of the run on them.
-use Rattle.std.specs.Prelude.{◌≡◌, ℕ, ◌<◌, ◌⊎◌, List, [], ◌∷◌, ◌++◌, codes, length}
+use Rattle.std.specs.Prelude.{◌≡◌, ℕ, ◌<◌, ◌⊎◌, List, [], ◌∷◌, ◌++◌, codes, length, Option}
 use Rattle.std.specs.Fmt.{decimal}
 use Rattle.std.specs.List.{sum_by}
 use Rattle.lane.specs.Message.{rows_in}
+use Rattle.lane.specs.Whole.{GatheredView}
+use Rattle.minelib_text.specs.SinkState.{SinkState}
 use Rattle.pit_compile.specs.Rows.{sents_of}
+use Rattle.pit_compile.specs.Run.{IsDone}
 use Rattle.pit_compile.specs.Settings.{IsSettingsFault}
 use Rattle.pit_compile.specs.Verdict.{IsAccepted, IsRefusedBy}
 use Rattle.pit_compile.specs.declared.refusal.Refusal.{Refusal}
@@ -43,9 +46,19 @@ zone_fault file = codes "file " ++ (decimal file ++ codes ": FeedFailed")
 abbrev pub ZonesRefused : ℕ → List ℕ → List ℕ → ℕ → Type 0
 ZonesRefused count old new status = (file : ℕ) × (file < count) × EndsWith 3 (zone_fault file) old new status
 
+-- the path of a file of the instance: BASE, a point and the file's ending
+abbrev pub path_to : List ℕ → List ℕ → List ℕ
+path_to base ending = base ++ (46 ∷ ending)
+
 -- the line of so many rows
 abbrev pub rows_line : ℕ → List ℕ
 rows_line rows = codes "rows " ++ (decimal rows ++ 10 ∷ [])
+
+-- the run is done, and so many rows went through its lane
+pub record IsRun (plan : PlanParts) (lefts : List (Option (List ℕ))) (valuers : ℕ) (old new : List SinkState) (rows : ℕ) : Type 0 where
+  pub gathered : GatheredView
+  pub done : IsDone plan lefts valuers old new gathered
+  pub rows_are : rows ≡ sum_by rows_in gathered.sent
 
 -- so many zone files are accepted, and so many rows were sent by their readers
 pub record HasRows (plan : PlanParts) (count rows : ℕ) : Type 0 where

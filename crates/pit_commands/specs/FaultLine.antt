@@ -1,5 +1,5 @@
 -- The line that the program writes of a fault, and the status that it ends with.
-use Rattle.std.specs.Prelude.{◌≡◌, ◌≢◌, ℕ, ◌<◌, ◌≤◌, ◌++◌, ◌⊎◌, List, [], ◌∷◌, length, Err, codes}
+use Rattle.std.specs.Prelude.{◌≡◌, ◌≢◌, ℕ, ◌<◌, ◌≤◌, ◌++◌, ◌⊎◌, List, [], ◌∷◌, length, Option, IfSome, Err, codes}
 use Rattle.pit_model.specs.FaultText.{fault_text as plan_fault_text}
 use Rattle.pit_model.specs.Planned.{planned}
 use Rattle.pit_model.specs.declared.plan_fault.PlanFault.{PlanFault}
@@ -8,7 +8,7 @@ use Rattle.pit_commands.specs.declared.input.InputFault.TheVariants as input
 use Rattle.pit_compile.specs.FaultText.{refusal_text}
 use Rattle.pit_compile.specs.declared.refusal.Refusal.{Refusal}
 use Rattle.pit_compile.specs.declared.refusal.Refusal.TheVariants.{Settings, NoThread, FeedFailed, TooLong, Row, Same, SinkFailed, OutOfMemory}
-use Rattle.pit_model.specs.declared.ranges.TheConstants.{MAX_PLAN_BYTES}
+use Rattle.pit_model.specs.declared.ranges.TheConstants.{MAX_FILE_BYTES, MAX_PLAN_BYTES}
 
 -- 1 for a refused model, 2 for settings, 3 for a feed or a sink that failed, 4 where a thread or memory was refused
 abbrev pub status_of : Refusal → ℕ
@@ -49,9 +49,15 @@ EndsWith status words old new answered = ((answered ≡ status) × (new ≡ old 
 abbrev pub EndsRefused : List ℕ → List ℕ → ℕ → Type 0
 EndsRefused old new status = (status ≢ 0) × (status ≢ 4 → AppendsLine old new) × (status ≡ 4 → new ≡ old)
 
--- the run ends with this refusal, its status and its line; or memory was refused, and no line stands
+-- the run ends with this refusal, its status and its line; or memory was refused, to the run or for the line, and no line stands
 abbrev pub EndsRun : Refusal → List ℕ → List ℕ → ℕ → Type 0
-EndsRun refusal old new status = EndsWith (status_of refusal) (refusal_text refusal) old new status
+EndsRun refusal old new status = EndsWith (status_of refusal) (refusal_text refusal) old new status × (refusal ≡ OutOfMemory → new ≡ old)
+
+-- an input that had these bytes left, where it tells them, is too long only where they are more than 256 MiB
+abbrev pub IsFaultOfInput : Option (List ℕ) → InputFault → Type 0
+IsFaultOfInput left input.FeedFailed = Unit {0}
+IsFaultOfInput left input.TooLong = IfSome left (λ bytes. MAX_FILE_BYTES < length bytes)
+IsFaultOfInput left input.OutOfMemory = Unit {0}
 
 -- the run ends with this fault of the input, its status and its line; or memory was refused, and no line stands
 abbrev pub EndsInput : InputFault → List ℕ → List ℕ → ℕ → Type 0

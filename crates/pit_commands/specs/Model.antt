@@ -1,10 +1,10 @@
 -- The model that an input gives, and why one gives none.
-use Rattle.std.specs.Prelude.{◌≡◌, ℕ, ◌<◌, ◌≤◌, ◌⊎◌, List, length, Ok}
+use Rattle.std.specs.Prelude.{◌≡◌, ℕ, ◌<◌, ◌≤◌, ◌⊎◌, List, length, Ok, Option, IfSome}
 use Rattle.pit_compile.specs.declared.refusal.Refusal.TheVariants.{Settings}
 use Rattle.pit_compile.specs.declared.settings.SettingsFault.TheVariants.{Files}
 use Rattle.pit_model.specs.Planned.{planned}
 use Rattle.pit_model.specs.declared.plan.Plan.{Plan}
-use Rattle.pit_commands.specs.FaultLine.{EndsInput, EndsRun, PlanRefused}
+use Rattle.pit_commands.specs.FaultLine.{EndsInput, EndsRun, IsFaultOfInput, PlanRefused}
 use Rattle.pit_commands.specs.Pieces.{PiecesView, plan_of, zones_of}
 use Rattle.pit_commands.specs.declared.input.InputFault.{InputFault}
 use Rattle.pit_model.specs.declared.ranges.TheConstants.{MAX_FILE_BYTES, MAX_PLAN_BYTES}
@@ -29,8 +29,8 @@ abbrev pub PiecesRefused : List ℕ → List ℕ → List ℕ → ℕ → Type 0
 PiecesRefused input old new status =
     PlanRefused (plan_of input) old new status ⊎ ((plan : Plan) × (planned (plan_of input) ≡ Ok plan) × FilesRefused input plan old new status)
 
--- the input was not read; or the pieces of some input of at most 256 MiB give no model
-abbrev pub ModelRefused : List ℕ → List ℕ → ℕ → Type 0
-ModelRefused old new status =
-    ((fault : InputFault) × EndsInput fault old new status)
-    ⊎ ((input : List ℕ) × (length input ≤ MAX_FILE_BYTES) × PiecesRefused input old new status)
+-- an input was not read; or its bytes, at most 256 MiB and those that it had left where it tells them, give no model
+abbrev pub ModelRefused : Option (List ℕ) → List ℕ → List ℕ → ℕ → Type 0
+ModelRefused left old new status =
+    ((fault : InputFault) × IsFaultOfInput left fault × EndsInput fault old new status)
+    ⊎ ((input : List ℕ) × IfSome left (λ bytes. input ≡ bytes) × (length input ≤ MAX_FILE_BYTES) × PiecesRefused input old new status)

@@ -1,9 +1,10 @@
 //! The check of the files of an instance.
 
-ghost use Rattle.std.specs.Prelude.{◌≡◌, ◌≢◌, ◌++◌, ℕ, List, IfErr, IfOk};
+ghost use Rattle.std.specs.Prelude.{◌≡◌, ◌≢◌, ◌+◌, ◌≤◌, ◌++◌, ℕ, List, IfErr, IfOk, IfSome, IsErrOf};
 ghost use Rattle.pit_commands.specs.CheckFault.{EndsCheck, IsCheckStatus, IsFaultOf, IsFound, TellsFault};
 ghost use Rattle.pit_commands.specs.Counts.{IsCountsLine};
 ghost use Rattle.pit_commands.specs.FaultLine.{EndsRefused};
+ghost use Rattle.zone_csv.specs.declared.slurp.TheConstants.{GREATEST_LIMIT};
 
 use crate::check_fault::CheckFault;
 use crate::counts::Texts;
@@ -12,6 +13,7 @@ use crate::status::{DEVICE, REFUSED, RESOURCES};
 use minelib_text::text_fault::TextFile;
 use std::alloc::Global;
 use std::rt::Files;
+use zone_csv::feed::Feed;
 use zone_csv::file_feed::FileFeed;
 use zone_csv::slurp::{GREATEST_LIMIT, SlurpFault, slurp};
 
@@ -104,8 +106,22 @@ fn text_if_there<R: Files>(
     let Ok(mut feed) = FileFeed::open(rt, path.as_str()) else {
         return Ok(None);
     };
-    match slurp(alloc, &mut feed, GREATEST_LIMIT) {
-        Ok(text) => Ok(Some(text)),
+    Ok(Some(text_from(alloc, &mut feed, file)?))
+}
+
+// The text that the feed of a file gives.
+fn text_from<F: Feed>(alloc: Global, feed: &mut F, file: TextFile) -> Result<Vec<u8>, CheckFault>
+    ensures whole { IfOk result (λ text. IfSome (F.left feed.old) (λ bytes. text.items ≡ bytes)) }
+    ensures fault { IfErr result (IsFaultOf file) }
+    ensures failed { IsErrOf result (CheckFault.FeedFailed file)
+        → F.failures feed.new ≡ F.failures feed.old + 1 }
+    ensures long { IsErrOf result (CheckFault.TooLong file)
+        → F.given feed.new ≡ F.given feed.old + (GREATEST_LIMIT + 1) }
+    ensures memory { IsErrOf result CheckFault.OutOfMemory
+        → (F.failures feed.new ≡ F.failures feed.old) × (F.given feed.new ≤ F.given feed.old + GREATEST_LIMIT) }
+{
+    match slurp(alloc, feed, GREATEST_LIMIT) {
+        Ok(text) => Ok(text),
         Err(SlurpFault::FeedFailed) => Err(CheckFault::FeedFailed(file)),
         Err(SlurpFault::TooLong) => Err(CheckFault::TooLong(file)),
         Err(SlurpFault::OutOfMemory) => Err(CheckFault::OutOfMemory),

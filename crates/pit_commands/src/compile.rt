@@ -1,15 +1,19 @@
 //! From the files of a plan and its zones to the files of an instance.
 
-ghost use Rattle.std.specs.Prelude.{◌≡◌, ◌≢◌, ◌≤◌, ◌++◌, ◌∷◌, ℕ, List, [], Ok, codes, length, string_bytes, vec_len, IfOk, IfErr, OnOk};
+ghost use Rattle.std.specs.Prelude.{◌≡◌, ◌≢◌, ◌↔◌, ◌+◌, ◌≤◌, ◌++◌, ℕ, List, Ok, Err, length, map, IfOk, IfErr, IfSome, IsErrOf, OnOk};
+ghost use Rattle.pit_compile.specs.Run.{IsRefused};
+ghost use Rattle.pit_compile.specs.Settings.{IsSettingsFault};
+ghost use Rattle.pit_compile.specs.Sinks.{all_told};
+ghost use Rattle.pit_compile.specs.declared.settings.SettingsFault.{SettingsFault as ASettingsFault};
 ghost use Rattle.pit_model.specs.Destinations.{formulas_of};
 ghost use Rattle.pit_model.specs.Planned.{planned};
-ghost use Rattle.pit_commands.specs.Compile.{EndsPlanFile, EndsRefusedCompile, HasRows, NotCompiled, PlanFileRefused, TellsRows, ZonesRefused, rows_line, zone_fault};
-ghost use Rattle.pit_commands.specs.FaultLine.{EndsRefused, EndsWith};
+ghost use Rattle.pit_commands.specs.Compile.{EndsPlanFile, EndsRefusedCompile, IsRun, PlanFileRefused, TellsRows, rows_line};
+ghost use Rattle.pit_commands.specs.FaultLine.{EndsRefused};
 ghost use Rattle.pit_model.specs.declared.ranges.TheConstants.{MAX_PLAN_BYTES};
 
 use crate::fault_line::{plan_from, refuse_run, refuse_with};
+use crate::opening::{open_all, sinks_of};
 use crate::status::{DEVICE, REFUSED, RESOURCES};
-use minelib_text::file_sink::FileSink;
 use minelib_text::sink::Sink;
 use pit_compile::refusal::Refusal;
 use pit_compile::run;
@@ -18,7 +22,7 @@ use pit_compile::sinks::Sinks;
 use pit_model::destination::Destination;
 use pit_model::plan::Plan;
 use pit_model::ranges::MAX_PLAN_BYTES;
-use std::alloc::{AllocError, Global};
+use std::alloc::Global;
 use std::rt::Files;
 use std::sync::Wait;
 use std::thread::Threads;
@@ -53,7 +57,7 @@ where
     ensures refused { result ≢ 0
         → EndsRefusedCompile plan.now (length zones.now) (formulas_of destinations.now) settings err.old.items err.new.items result }
 {
-    let feeds = match open_zones(rt, alloc, zones, err) {
+    let feeds = match open_all(alloc, zones, |path| FileFeed::open(rt, path), err) {
         Ok(feeds) => feeds,
         Err(status) => return status,
     };
@@ -66,7 +70,7 @@ where
     }
 }
 
-// Runs on open feeds, and answers the number of rows over all files.
+// Runs on open feeds, as `run` does with a gate that is always open, and answers the number of rows over all files.
 fn run_on<R: Threads + Wait + Sync, F: Feed + Send + Drop, S: Sink>(
     rt: &R,
     alloc: Global,
@@ -76,8 +80,12 @@ fn run_on<R: Threads + Wait + Sync, F: Feed + Send + Drop, S: Sink>(
     settings: Settings,
     sinks: &mut Sinks<S>,
 ) -> Result<u64, Refusal>
-    ensures done { IfOk result (HasRows plan.now (length feeds.items)) }
-    ensures refused { IfErr result (NotCompiled plan.now (length feeds.items) (formulas_of destinations.now) settings) }
+    ensures settings { (kind : ASettingsFault) → (result ≡ Err (Refusal.Settings kind))
+        ↔ IsSettingsFault plan.now (length feeds.items) (formulas_of destinations.now) settings kind }
+    ensures done { let told = all_told S.state in
+        IfOk result (IsRun plan.now (map F.left feeds.items) settings.valuers (told sinks.old) (told sinks.new)) }
+    ensures refused { let told = all_told S.state in
+        IfErr result (IsRefused plan.now (map F.left feeds.items) (map F.is_sure feeds.items) (told sinks.old) (told sinks.new)) }
 {
     let gathered = run(
         rt,
@@ -90,21 +98,6 @@ fn run_on<R: Threads + Wait + Sync, F: Feed + Send + Drop, S: Sink>(
         sinks,
     )?;
     Ok(gathered.rows())
-}
-
-// Sinks for the files of the instance. None is begun. Fails only where memory for the paths is refused.
-fn sinks_of<'a, R: Files>(
-    rt: &'a R,
-    alloc: Global,
-    base: &str,
-) -> Result<Sinks<FileSink<'a, R>>, AllocError> {
-    Ok(Sinks {
-        blocks: sink_of(rt, alloc, base, "blocks")?,
-        prec: sink_of(rt, alloc, base, "prec")?,
-        upit: sink_of(rt, alloc, base, "upit")?,
-        pcpsp: sink_of(rt, alloc, base, "pcpsp")?,
-        cpit: sink_of(rt, alloc, base, "cpit")?,
-    })
 }
 
 /// The plan in the file at this path; or the status of its refusal, with its line appended to `lines`.
@@ -146,61 +139,20 @@ fn refuse_plan(alloc: Global, fault: SlurpFault, lines: &mut Vec<u8>) -> u8
 // The text of a plan's file.
 fn text_of<R: Files>(rt: &R, alloc: Global, path: &str) -> Result<Vec<u8>, SlurpFault> {
     let mut feed = FileFeed::open(rt, path)?;
-    slurp(alloc, &mut feed, MAX_PLAN_BYTES as u64)
+    text_from(alloc, &mut feed)
 }
 
-// Opens the zone files, in order; or answers the status of a refusal, with its line appended to `lines`.
-//
-// The first file that cannot be opened is named, by its number from 0, and no further one is opened. Where memory is refused the status
-// is that of memory, and `lines` is as it was.
-fn open_zones<R: Files>(
-    rt: &R,
-    alloc: Global,
-    zones: &[String],
-    lines: &mut Vec<u8>,
-) -> Result<Vec<FileFeed<R::File>>, u8>
-    ensures all { IfOk result (λ feeds. length feeds.items ≡ length zones.now) }
-    ensures quiet { OnOk result (lines.new.items ≡ lines.old.items) }
-    ensures refused { IfErr result (ZonesRefused (length zones.now) lines.old.items lines.new.items) }
+// The text that the feed of a plan's file gives.
+fn text_from<F: Feed>(alloc: Global, feed: &mut F) -> Result<Vec<u8>, SlurpFault>
+    ensures whole { IfOk result (λ text. IfSome (F.left feed.old) (λ bytes. text.items ≡ bytes)) }
+    ensures failed { IsErrOf result SlurpFault.FeedFailed
+        → F.failures feed.new ≡ F.failures feed.old + 1 }
+    ensures long { IsErrOf result SlurpFault.TooLong
+        → F.given feed.new ≡ F.given feed.old + (MAX_PLAN_BYTES + 1) }
+    ensures memory { IsErrOf result SlurpFault.OutOfMemory
+        → (F.failures feed.new ≡ F.failures feed.old) × (F.given feed.new ≤ F.given feed.old + MAX_PLAN_BYTES) }
 {
-    let mut feeds = Vec::new(alloc);
-    for file in 0..zones.len() {
-        let Ok(feed) = FileFeed::open(rt, zones[file].as_str()) else {
-            return Err(refuse_zone(alloc, file, lines));
-        };
-        if feeds.push(feed).is_err() {
-            return Err(RESOURCES);
-        }
-    }
-    Ok(feeds)
-}
-
-// Appends the line of a zone file that cannot be opened, and answers its status.
-fn refuse_zone(alloc: Global, file: usize, lines: &mut Vec<u8>) -> u8
-    ensures { EndsWith 3 (zone_fault file) lines.old.items lines.new.items result }
-{
-    match format!(in alloc; "file {file}: FeedFailed") {
-        Ok(words) => refuse_with(alloc, words.as_str(), DEVICE, lines),
-        Err(_) => RESOURCES,
-    }
-}
-
-// A sink for the file of the instance with this ending. It is not begun. Fails only where memory for the path is refused.
-fn sink_of<'a, R: Files>(
-    rt: &'a R,
-    alloc: Global,
-    base: &str,
-    ending: &str,
-) -> Result<FileSink<'a, R>, AllocError> {
-    let path = path_of(alloc, base, ending)?;
-    FileSink::new(rt, alloc, path.as_str())
-}
-
-// The path of a file of the instance.
-fn path_of(alloc: Global, base: &str, ending: &str) -> Result<String, AllocError>
-    ensures { IfOk result (λ path. string_bytes path ≡ base.now ++ (46 ∷ ending.now)) }
-{
-    Ok(format!(in alloc; "{base}.{ending}")?)
+    slurp(alloc, feed, MAX_PLAN_BYTES as u64)
 }
 
 // Appends the line of so many rows to `out`, and answers 0; or the status of memory, where it is refused, and then `out` is as it was.

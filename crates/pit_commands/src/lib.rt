@@ -13,6 +13,7 @@ pub mod job;
 pub mod jobs;
 pub mod laws;
 pub mod model;
+mod opening;
 pub mod piece;
 pub mod pieces;
 pub mod pipe_form;

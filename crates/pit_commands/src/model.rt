@@ -1,6 +1,6 @@
 //! The model that standard input gives.
 
-ghost use Rattle.std.specs.Prelude.{◌≡◌, ℕ, List, OnOk, IfOk, IfErr, IfSome};
+ghost use Rattle.std.specs.Prelude.{◌≡◌, ℕ, List, None, OnOk, IfOk, IfErr, IfSome};
 ghost use Rattle.pit_commands.specs.FaultLine.{EndsInput, EndsRefused};
 ghost use Rattle.pit_commands.specs.Model.{CutRefused, IsModel, ModelRefused};
 ghost use Rattle.pit_commands.specs.Pieces.{plan_of, zones_of};
@@ -26,11 +26,12 @@ pub struct Model {
 }
 
 /// Reads the model from standard input, as `read_model_from` does.
+#[tactic(auto, using(crate::proofs::Ends::untold_refused))]
 pub fn read_model<R: Input>(rt: &R, alloc: Global, lines: &mut Vec<u8>) -> Result<Model, u8>
     ensures model { IfOk result (λ model. (input : List ℕ) × IsModel input model.pieces model.plan) }
     ensures quiet { OnOk result (lines.new.items ≡ lines.old.items) }
     ensures refused { IfErr result (EndsRefused lines.old.items lines.new.items) }
-    ensures told { IfErr result (ModelRefused lines.old.items lines.new.items) }
+    ensures told { IfErr result (ModelRefused None lines.old.items lines.new.items) }
 {
     read_model_from(&mut rt.reader(), alloc, lines)
 }
@@ -48,7 +49,7 @@ pub fn read_model_from<T: Read>(
         × IfSome (T.remaining reader.old) (λ left. input ≡ left) × IsModel input model.pieces model.plan) }
     ensures quiet { OnOk result (lines.new.items ≡ lines.old.items) }
     ensures refused { IfErr result (EndsRefused lines.old.items lines.new.items) }
-    ensures told { IfErr result (ModelRefused lines.old.items lines.new.items) }
+    ensures told { IfErr result (ModelRefused (T.remaining reader.old) lines.old.items lines.new.items) }
 {
     let input = match read_whole(reader, alloc) {
         Ok(input) => input,

@@ -10,9 +10,9 @@ ghost use Rattle.pit_commands.specs.Printed.{pipe_settings, IsPrinted, PipeRefus
 use crate::piece::Piece;
 use crate::printing::print;
 use lane::Gathered;
-use pit_compile::compile;
 use pit_compile::refusal::Refusal;
 use pit_compile::settings::{Settings, require_settings};
+use pit_compile::{MOST_STARTS, compile};
 use pit_model::destination::Destination;
 use pit_model::plan::Plan;
 use std::alloc::{AllocError, Global};
@@ -27,9 +27,6 @@ pub const SETTINGS: Settings = Settings {
     valuers: 4,
     capacity: 64,
 };
-
-// As many starts of threads as a run may need: one for each valuer and each file.
-const STARTS: u32 = 128;
 
 /// Appends what the pipe form prints of the model of a plan and its zone files, and answers what went through the lane. Any refusal leaves
 /// `out` as it was.
@@ -62,7 +59,7 @@ pub fn pipe<R: Threads + Wait + Sync>(
         plan,
         destinations,
         SETTINGS,
-        STARTS,
+        MOST_STARTS,
         &OpenGate,
     )?;
     print(alloc, &compiled.instance, &compiled.cpit, out)?;

@@ -1,26 +1,21 @@
-use Rattle.std.proofs.Common.{◌≡◌, Err, Ok, length, ap, sym, ◌∙◌, subst, rules}
-use Rattle.std.proofs.lemmas.List.{length-map}
-use Rattle.std.specs.List.{sum_by}
-use Rattle.lane.specs.Message.{rows_in}
-use Rattle.pit_compile.specs.declared.refusal.Refusal.TheVariants.{Settings}
-use Rattle.pit_model.specs.Destinations.{formulas_of}
-use Rattle.pit_commands.specs.Compile.{HasRows, NotCompiled}
-use Rattle.pit_commands.proofs.FilesRun.{as_many, not_compiled}
+use Rattle.std.proofs.lemmas.Result.{err_from_is_err_and}
 use Rattle.pit_commands.proofs.compile.run_on.Goals as goal
 
-pub returns-clause-done : goal.returns-clause-done
-returns-clause-done g c =
-    let done = c.in_ok-gathered.ensures.done in
-    record {
-      texts = done.texts;
-      counted = as_many _ done.texts done.given ∙ length-map c.args.feeds.items _;
-      accepted = done.accepted;
-      rows_are = c.rows.ensures.rows ∙ ap (sum_by rows_in) done.passed.sent;
-    }
+pub returns-clause-settings : goal.returns-clause-settings
+returns-clause-settings g c =
+    λ kind. (λ e. absurd (cc e), λ h. absurd (cc ((c.in_ok-gathered.ensures.settings kind).1 h)))
 
-pub returns-in_err-gathered-clause-refused : goal.returns-in_err-gathered-clause-refused
-returns-in_err-gathered-clause-refused g c =
-    let fact : NotCompiled c.args.plan.now (length c.args.feeds.items) (formulas_of c.args.destinations.now) c.args.settings c.in_err-gathered.field-0.0
-    = not_compiled c.args.plan.now (formulas_of c.args.destinations.now) c.args.settings _ _ _ _ (length c.args.feeds.items) (length-map c.args.feeds.items _) c.in_err-gathered.field-0.0
-    (λ kind e. (c.in_err-gathered.ensures.settings kind).0 (ap Err e)) c.in_err-gathered.ensures.refused in
-    search rules
+pub returns-clause-done : goal.returns-clause-done
+returns-clause-done g c = record {
+  gathered = c.in_ok-gathered.gathered;
+  done = c.in_ok-gathered.ensures.done;
+  rows_are = c.rows.ensures.rows;
+}
+
+pub returns-in_err-gathered-clause-settings : goal.returns-in_err-gathered-clause-settings
+returns-in_err-gathered-clause-settings g c =
+    let p = err_from_is_err_and c.from_residual.result c.from_residual.ensures.1 in
+    λ kind. (
+      λ e. (c.in_err-gathered.ensures.settings kind).0 (cc (p.1, p.2, e)),
+      λ h. cc (p.1, p.2, (c.in_err-gathered.ensures.settings kind).1 h),
+    )
