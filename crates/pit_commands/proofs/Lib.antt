@@ -11,6 +11,7 @@ mod Lent
 mod Lines
 pub mod Numbers
 mod Opened
+pub mod Outputs
 mod Sections
 mod Uncut
 mod Walk

@@ -14,6 +14,7 @@ pub mod jobs;
 pub mod laws;
 pub mod model;
 mod opening;
+pub mod output;
 pub mod piece;
 pub mod pieces;
 pub mod pipe_form;

@@ -1,9 +1,12 @@
 //! The statuses that the program ends with.
 
+ghost use Rattle.std.specs.Io.KnownBytes.{Appends};
 ghost use Rattle.std.specs.Prelude.{◌≡◌, ◌≢◌, ◌⊎◌};
 ghost use Rattle.std.specs.Process.{exit_status};
+ghost use Rattle.pit_commands.specs.Output.{IsCutShort};
 
-use std::io::Print;
+use crate::output::write_whole;
+use std::io::Write;
 use std::process::ExitCode;
 
 /// A plan or a model is refused, or an input is too long.
@@ -21,29 +24,37 @@ pub const RESOURCES: u8 = 4;
 /// Writes what a run left for standard output and standard error, and answers the status that the program ends with.
 ///
 /// A status other than 0 writes nothing to standard output; where no line could be made for want of memory, the line is
-/// `pitc: OutOfMemory`. Where standard output fails, the status is that of a device.
-pub fn finish<O: Print, E: Print>(
-    output: &O,
-    errors: &E,
+/// `pitc: OutOfMemory`. Where standard output does not take the whole text, the status is that of a device. That standard error fails
+/// changes nothing.
+pub fn finish<O: Write, E: Write>(
+    output: &mut O,
+    errors: &mut E,
     status: u8,
     text: &[u8],
     lines: &[u8],
 ) -> ExitCode
     ensures refused { status ≢ 0 → exit_status result ≡ status }
+    ensures quiet { status ≢ 0 → output.new ≡ output.old }
     ensures done { status ≡ 0 → (exit_status result ≡ 0) ⊎ (exit_status result ≡ 3) }
+    ensures whole { status ≡ 0 → exit_status result ≡ 0
+        → Appends (O.contents output.old) (O.contents output.new) text.now }
+    ensures short { status ≡ 0 → exit_status result ≡ 3
+        → IsCutShort (O.contents output.old) (O.contents output.new) text.now }
+    ensures still { exit_status result ≡ 0 → errors.new ≡ errors.old }
 {
     if status != 0 {
-        let _ = if lines.is_empty() {
-            errors.write_all(b"pitc: OutOfMemory\n")
+        let line = if lines.is_empty() {
+            b"pitc: OutOfMemory\n".as_slice()
         } else {
-            errors.write_all(lines)
+            lines
         };
+        let _ = write_whole(errors, line);
         return ExitCode::from(status);
     }
-    match output.write_all(text) {
+    match write_whole(output, text) {
         Ok(()) => ExitCode::from(0),
         Err(_) => {
-            let _ = errors.write_all(b"pitc: output: SinkFailed\n");
+            let _ = write_whole(errors, b"pitc: output: SinkFailed\n");
             ExitCode::from(DEVICE)
         }
     }

@@ -111,7 +111,7 @@ fn end(rt: &HostRuntime, status: u8, text: &[u8], lines: &[u8]) -> ExitCode
     ensures refused { status ≢ 0 → exit_status result ≡ status }
     ensures done { status ≡ 0 → (exit_status result ≡ 0) ⊎ (exit_status result ≡ 3) }
 {
-    finish(&rt.stdout(), &rt.stderr(), status, text, lines)
+    finish(&mut rt.stdout(), &mut rt.stderr(), status, text, lines)
 }
 
 // Ends a run that is refused memory.

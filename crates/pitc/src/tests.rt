@@ -1,5 +1,6 @@
 //! Tests of the commands, and of all crates together.
 
+mod ending;
 mod input;
 mod instance;
 mod job;
