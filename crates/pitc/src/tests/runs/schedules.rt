@@ -3,14 +3,15 @@ ghost use Rattle.pit_model.specs.Plan.{IsRuled};
 ghost use Rattle.pit_model.specs.Worth.{worth};
 
 use super::{
-    ENOUGH, Fail, Gate, Global, OpenGate, Plan, Refusal, Settings, Threads, answer, feeds_of,
-    is_untouched, mill_plan, new_sinks, run_limited, settings,
+    ENOUGH, Fail, Gate, Global, OpenGate, Plan, Refusal, Settings, Threads, answer,
+    destinations_of, feeds_of, is_untouched, mill_plan, new_sinks, run_limited, settings,
 };
 use pit_model::block::Block;
 use pit_model::destination::{Destination, Valuer};
 use pit_model::formula::Formula;
 use std::sync::atomic::{AtomicU64, Ordering};
 use std::sync::{Arc, Wait};
+use zone_csv::feed::{Feed, FeedFault};
 
 // How often a gate or a closure looks before it gives up: a good run never comes to it.
 const TURNS: u64 = 1_000_000_000;
@@ -190,6 +191,80 @@ fn reader_held_by_a_row(rt: HostRuntime) -> Result<(), Fail> {
     let (answered, _) = gated(&rt, rt.alloc(), &files, settings(1, 1), ENOUGH, &gate)?;
     assert!(rt; answered == Ok(2));
     assert_eq!(rt; gate.held.load(Ordering::SeqCst), 1);
+    Ok(())
+}
+
+// Counts the readers that it was called for.
+#[derive(Drop)]
+struct Counting {
+    readers: Calls,
+}
+
+impl Gate for Counting {
+    fn row<R: Wait>(&self, _rt: &R, _valuer: u8, _file: u8, _place: u32) {}
+
+    fn reader<R: Wait>(&self, _rt: &R, _file: u8) {
+        self.readers.fetch_add(1, Ordering::SeqCst);
+    }
+}
+
+// An empty file that counts its pulls, and those of them before which the gate was not called.
+#[derive(Drop)]
+struct Looking {
+    readers: Calls,
+    pulls: Calls,
+    early: Calls,
+}
+
+impl Feed for Looking {
+    ghost use Rattle.std.specs.Prelude.{None, false};
+
+    ghost left = { λ _. None };
+
+    ghost given = { λ _. 0 };
+
+    ghost failures = { λ _. 0 };
+
+    ghost is_sure = { λ _. false };
+
+    fn pull(&mut self, _buffer: &mut [u8]) -> Result<usize, FeedFault> {
+        self.pulls.fetch_add(1, Ordering::SeqCst);
+        if self.readers.load(Ordering::SeqCst) == 0 {
+            self.early.fetch_add(1, Ordering::SeqCst);
+        }
+        Ok(0)
+    }
+}
+
+// The gate is told of a reader before it pulls.
+#[test]
+fn gate_before_reading(rt: HostRuntime) -> Result<(), Fail> {
+    let alloc = rt.alloc();
+    let readers = Arc::new(alloc, AtomicU64::new(0))?;
+    let pulls = Arc::new(alloc, AtomicU64::new(0))?;
+    let early = Arc::new(alloc, AtomicU64::new(0))?;
+    let mut feeds = Vec::new(alloc);
+    feeds.push(Looking {
+        readers: Arc::clone(&readers)?,
+        pulls: Arc::clone(&pulls)?,
+        early: Arc::clone(&early)?,
+    })?;
+    let plan = mill_plan(alloc, 1)?;
+    let destinations = destinations_of(alloc, &plan)?;
+    let answered = run_limited(
+        &rt,
+        alloc,
+        feeds,
+        &plan,
+        destinations.as_slice(),
+        settings(1, 1),
+        ENOUGH,
+        &Counting { readers },
+        &mut new_sinks(alloc),
+    );
+    assert!(rt; answered.is_err());
+    assert!(rt; 0 < pulls.load(Ordering::SeqCst));
+    assert_eq!(rt; early.load(Ordering::SeqCst), 0);
     Ok(())
 }
 
