@@ -9,9 +9,10 @@ use Rattle.forms.proofs.DemandFacts.{Follows, behind, bound, mapped, guarded, la
 use Rattle.forms.specs.Steps.{◌>>=◌}
 use Rattle.forms.specs.Demands.{Demand, demand}
 use Rattle.pit_model.specs.Cells.{cell_at}
+use Rattle.pit_model.specs.PlanCells.{a_cost, a_leg, a_name, a_price, a_recovery, a_size, an_origin, benches}
 use Rattle.pit_model.specs.Name.{is_name}
 use Rattle.pit_model.specs.Plan.{IsGrid, IsSlope, IsCone, IsRuled, IsBound, AreCovers, RiseStrictly}
-use Rattle.pit_model.specs.PlanDemands.{asked, width, a_name, an_origin, a_size, a_slope, zone_cells, whole, new_destination, room_for_destination}
+use Rattle.pit_model.specs.PlanDemands.{asked, asks, width, a_slope, zone_cells, new_destination, room_for_destination}
 use Rattle.pit_model.specs.PlanPart.{Part, TheName, TheGrid, AZone, Stated, with_part, SpellPart, SpellSlope, SpellCone, NamesDestination, destination}
 use Rattle.pit_model.specs.Planned.{DraftView, blank_draft, name_in, is_taken, with_zone, slope_in, with_formula, equal_zone_in, sided_zone_in, axis, admit_name, admit_grid, admit_zone, admit_mill, admit_dump, origin_in, size_in, whole_in}
 use Rattle.pit_model.specs.declared.cone.Cone.{Cone}
@@ -91,18 +92,18 @@ width_then {B} n cells r es Q rest = by (length cells == n) refl
     by true e = let is : length cells ≡ n = eqb-true (length cells) n e in guarded false Width (length cells ≡ n) r es Q (λ h. absurd cc) (λ _. (is, rest is))
     by false e = inl ((λ is. absurd (cc (e, eq-eqb (length cells) n is))), refl)
 
-name_told : (cell : List ℕ) → Follows (name_in cell) (a_name cell) (λ name. name ≡ cell)
+name_told : (cell : List ℕ) → Follows (name_in cell) (asks a_name cell) (λ name. name ≡ cell)
 name_told cell = by (is_name cell) refl
   where
-    by : (t : Bool) → is_name cell ≡ t → Follows (if t then Ok cell else Err Name) (a_name cell) (λ name. name ≡ cell)
+    by : (t : Bool) → is_name cell ≡ t → Follows (if t then Ok cell else Err Name) (asks a_name cell) (λ name. name ≡ cell)
     by true e = ((e, tt), refl)
     by false e = inl ((λ is. absurd (cc (e, is))), refl)
 
 -- a NAME in the first cell behind the key, and then the rest
 pub named_then : {B : Type 0} (cells : List (List ℕ)) (f : List ℕ → Result B PlanFaultKind) (es : List (Demand PlanFaultKind)) (Q : B → Type 0)
-    → Follows (f (cell_at cells 1)) es Q → Follows (name_in (cell_at cells 1) >>= f) (a_name (cell_at cells 1) ++ es) Q
+    → Follows (f (cell_at cells 1)) es Q → Follows (name_in (cell_at cells 1) >>= f) (asks a_name (cell_at cells 1) ++ es) Q
 named_then cells f es Q rest =
-    bound (name_in (cell_at cells 1)) f (a_name (cell_at cells 1)) es _ Q (name_told (cell_at cells 1)) (λ name is. subst (λ n. Follows (f n) es Q) (sym is) rest)
+    bound (name_in (cell_at cells 1)) f (asks a_name (cell_at cells 1)) es _ Q (name_told (cell_at cells 1)) (λ name is. subst (λ n. Follows (f n) es Q) (sym is) rest)
 
 none_listed : {A : Type 0} (o : Option A) → is_some o ≡ false → (listed o ≡ []) × (o ≡ None)
 none_listed None e = (refl, refl)
@@ -122,7 +123,7 @@ pub name_follows : (d : DraftView) (ls : List Limit) (cells : List (List ℕ)) �
     → Follows (admit_name d cells) (asked (stated_of d ls) key.Name cells) (Adds (stated_of d ls) key.Name cells)
 name_follows d ls cells k =
     width_then 2 cells _ _ _ (λ _.
-    bound (name_in (cell_at cells 1)) _ (a_name (cell_at cells 1)) _ _ _ (name_told (cell_at cells 1)) (λ name is.
+    bound (name_in (cell_at cells 1)) _ (asks a_name (cell_at cells 1)) _ _ _ (name_told (cell_at cells 1)) (λ name is.
     once_told d.name (record d { name = Some name }) _ (λ none. record {
       part = TheName (cell_at cells 1);
       spells = refl;
@@ -135,12 +136,12 @@ pub grid_follows : (d : DraftView) (ls : List Limit) (cells : List (List ℕ)) �
     → Follows (admit_grid d cells) (asked (stated_of d ls) key.Grid cells) (Adds (stated_of d ls) key.Grid cells)
 grid_follows d ls cells k =
     width_then 7 cells _ _ _ (λ _.
-    bound (origin_in (cell_at cells 1)) _ (an_origin (cell_at cells 1)) _ _ _ (origin_told (cell_at cells 1)) (λ x is_x.
-    bound (origin_in (cell_at cells 2)) _ (an_origin (cell_at cells 2)) _ _ _ (origin_told (cell_at cells 2)) (λ y is_y.
-    bound (origin_in (cell_at cells 3)) _ (an_origin (cell_at cells 3)) _ _ _ (origin_told (cell_at cells 3)) (λ z is_z.
-    bound (size_in (cell_at cells 4)) _ (a_size (cell_at cells 4)) _ _ _ (size_told (cell_at cells 4)) (λ along_x is_along_x.
-    bound (size_in (cell_at cells 5)) _ (a_size (cell_at cells 5)) _ _ _ (size_told (cell_at cells 5)) (λ along_y is_along_y.
-    bound (size_in (cell_at cells 6)) _ (a_size (cell_at cells 6)) _ _ _ (size_told (cell_at cells 6)) (λ along_z is_along_z.
+    bound (origin_in (cell_at cells 1)) _ (asks an_origin (cell_at cells 1)) _ _ _ (origin_told (cell_at cells 1)) (λ x is_x.
+    bound (origin_in (cell_at cells 2)) _ (asks an_origin (cell_at cells 2)) _ _ _ (origin_told (cell_at cells 2)) (λ y is_y.
+    bound (origin_in (cell_at cells 3)) _ (asks an_origin (cell_at cells 3)) _ _ _ (origin_told (cell_at cells 3)) (λ z is_z.
+    bound (size_in (cell_at cells 4)) _ (asks a_size (cell_at cells 4)) _ _ _ (size_told (cell_at cells 4)) (λ along_x is_along_x.
+    bound (size_in (cell_at cells 5)) _ (asks a_size (cell_at cells 5)) _ _ _ (size_told (cell_at cells 5)) (λ along_y is_along_y.
+    bound (size_in (cell_at cells 6)) _ (asks a_size (cell_at cells 6)) _ _ _ (size_told (cell_at cells 6)) (λ along_z is_along_z.
     let grid : Grid = record { x = axis x along_x; y = axis y along_y; z = axis z along_z } in
     once_told d.grid (record d { grid = Some grid }) _ (λ none. record {
       part = TheGrid grid;
@@ -152,14 +153,14 @@ grid_follows d ls cells k =
 
 slope_told : (rise run : List ℕ) → Follows (slope_in rise run) (a_slope rise run) (λ s. SpellSlope rise run s × IsSlope s)
 slope_told rise run =
-    bound (whole_in 1 1000 rise) _ (whole 1 1000 rise) _ _ _ (whole_told 1 1000 rise) (λ p is_p.
-    mapped (whole_in 1 1000 run) (λ q. record { p = p; q = q }) (whole 1 1000 run) _ _ (whole_told 1 1000 run) (λ q is_q.
+    bound (whole_in a_leg rise) _ (asks a_leg rise) _ _ _ (whole_told 1 1000 rise) (λ p is_p.
+    mapped (whole_in a_leg run) (λ q. record { p = p; q = q }) (asks a_leg run) _ _ (whole_told 1 1000 run) (λ q is_q.
     ((is_p.0, is_q.0), (is_p.1, is_q.1))))
 
 equal_told : (cells : List (List ℕ)) → length cells ≡ 4 → Follows (equal_zone_in cells) (zone_cells true cells) (λ c. SpellCone cells c × IsCone c)
 equal_told cells four =
     bound (slope_in (cell_at cells 1) (cell_at cells 2)) _ (a_slope (cell_at cells 1) (cell_at cells 2)) _ _ _ (slope_told (cell_at cells 1) (cell_at cells 2)) (λ s is_s.
-    mapped (whole_in 1 20 (cell_at cells 3)) (λ k. record { east = s; west = s; north = s; south = s; k = k }) (whole 1 20 (cell_at cells 3)) _ _ (whole_told 1 20 (cell_at cells 3)) (λ k is_k.
+    mapped (whole_in benches (cell_at cells 3)) (λ k. record { east = s; west = s; north = s; south = s; k = k }) (asks benches (cell_at cells 3)) _ _ (whole_told 1 20 (cell_at cells 3)) (λ k is_k.
     (inl (four, refl, refl, refl, is_s.0, is_k.0), ((is_s.1, is_s.1, is_s.1, is_s.1), is_k.1))))
 
 sided_told : (cells : List (List ℕ)) → length cells ≡ 10 → Follows (sided_zone_in cells) (zone_cells false cells) (λ c. SpellCone cells c × IsCone c)
@@ -168,7 +169,7 @@ sided_told cells ten =
     bound (slope_in (cell_at cells 3) (cell_at cells 4)) _ (a_slope (cell_at cells 3) (cell_at cells 4)) _ _ _ (slope_told (cell_at cells 3) (cell_at cells 4)) (λ w is_w.
     bound (slope_in (cell_at cells 5) (cell_at cells 6)) _ (a_slope (cell_at cells 5) (cell_at cells 6)) _ _ _ (slope_told (cell_at cells 5) (cell_at cells 6)) (λ n is_n.
     bound (slope_in (cell_at cells 7) (cell_at cells 8)) _ (a_slope (cell_at cells 7) (cell_at cells 8)) _ _ _ (slope_told (cell_at cells 7) (cell_at cells 8)) (λ s is_s.
-    mapped (whole_in 1 20 (cell_at cells 9)) (λ k. record { east = e; west = w; north = n; south = s; k = k }) (whole 1 20 (cell_at cells 9)) _ _ (whole_told 1 20 (cell_at cells 9)) (λ k is_k.
+    mapped (whole_in benches (cell_at cells 9)) (λ k. record { east = e; west = w; north = n; south = s; k = k }) (asks benches (cell_at cells 9)) _ _ (whole_told 1 20 (cell_at cells 9)) (λ k is_k.
     (inr (ten, is_e.0, is_w.0, is_n.0, is_s.0, is_k.0), ((is_e.1, is_w.1, is_n.1, is_s.1), is_k.1)))))))
 
 pub other : (a b : ℕ) → (a == b) ≡ false → ¬ (a ≡ b)
@@ -266,9 +267,9 @@ pub mill_follows : (d : DraftView) (ls : List Limit) (cells : List (List ℕ)) �
 mill_follows d ls cells k =
     width_then 5 cells _ _ _ (λ _.
     named_then cells _ _ _ (
-    bound (whole_in 0 1000 (cell_at cells 2)) _ (whole 0 1000 (cell_at cells 2)) _ _ _ (whole_told 0 1000 (cell_at cells 2)) (λ recovery is_recovery.
-    bound (whole_in 0 (10 ^ 8) (cell_at cells 3)) _ (whole 0 (10 ^ 8) (cell_at cells 3)) _ _ _ (whole_told 0 (10 ^ 8) (cell_at cells 3)) (λ price is_price.
-    bound (whole_in 0 (10 ^ 7) (cell_at cells 4)) _ (whole 0 (10 ^ 7) (cell_at cells 4)) _ _ _ (whole_told 0 (10 ^ 7) (cell_at cells 4)) (λ cost is_cost.
+    bound (whole_in a_recovery (cell_at cells 2)) _ (asks a_recovery (cell_at cells 2)) _ _ _ (whole_told 0 1000 (cell_at cells 2)) (λ recovery is_recovery.
+    bound (whole_in a_price (cell_at cells 3)) _ (asks a_price (cell_at cells 3)) _ _ _ (whole_told 0 (10 ^ 8) (cell_at cells 3)) (λ price is_price.
+    bound (whole_in a_cost (cell_at cells 4)) _ (asks a_cost (cell_at cells 4)) _ _ _ (whole_told 0 (10 ^ 7) (cell_at cells 4)) (λ cost is_cost.
     destination_told d ls cells key.Mill (room_for_destination (stated_of d ls)) _ (λ free.
     formula_told d ls cells key.Mill (Mill recovery price cost) k (is_recovery.1.1, is_price.1.1, is_cost.1.1)
     (recovery, price, cost, refl, is_recovery.0, is_price.0, is_cost.0) free))))))
@@ -278,6 +279,6 @@ pub dump_follows : (d : DraftView) (ls : List Limit) (cells : List (List ℕ)) �
 dump_follows d ls cells k =
     width_then 3 cells _ _ _ (λ _.
     named_then cells _ _ _ (
-    bound (whole_in 0 (10 ^ 7) (cell_at cells 2)) _ (whole 0 (10 ^ 7) (cell_at cells 2)) _ _ _ (whole_told 0 (10 ^ 7) (cell_at cells 2)) (λ cost is_cost.
+    bound (whole_in a_cost (cell_at cells 2)) _ (asks a_cost (cell_at cells 2)) _ _ _ (whole_told 0 (10 ^ 7) (cell_at cells 2)) (λ cost is_cost.
     destination_told d ls cells key.Dump (room_for_destination (stated_of d ls)) _ (λ free.
     formula_told d ls cells key.Dump (Dump cost) k is_cost.1.1 (cost, refl, is_cost.0) free))))

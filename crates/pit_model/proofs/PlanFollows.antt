@@ -12,7 +12,8 @@ use Rattle.forms.specs.Demands.{Demand, demand}
 use Rattle.pit_model.specs.Bands.{starts_rise, AreBands, IsBand}
 use Rattle.pit_model.specs.Cells.{cell_at}
 use Rattle.pit_model.specs.Plan.{IsBound, AreCovers, has_repeat}
-use Rattle.pit_model.specs.PlanDemands.{asked, band_cells, covered_cells, is_interval, a_period, limit_cells, limit_order, leach_end, resource_end, limit_end, tonnes, whole, number}
+use Rattle.pit_model.specs.PlanDemands.{asked, asks, band_cells, covered_cells, is_interval, a_period, limit_cells, limit_order, leach_end, resource_end, limit_end}
+use Rattle.pit_model.specs.PlanCells.{a_cost, a_period_count, a_price, a_rate, a_recovery, a_start, between, plan_kind, tonnes}
 use Rattle.pit_model.specs.PlanPart.{ThePeriods, TheRate, AResource, ALimit, Stated, SpellBands, SpellBound, StandsWhole, NamesDestination, NamesResource}
 use Rattle.pit_model.specs.Planned.{DraftView, is_taken, band_in, bands_in, with_leach, admit_leach, admit_periods, admit_rate, admit_resource, admit_limit, whole_in, number_in}
 use Rattle.pit_model.specs.declared.formula.Formula.TheVariants.{Leach}
@@ -23,7 +24,7 @@ use Rattle.pit_model.specs.declared.plan_fault.PlanFaultKind.TheVariants.{Width,
 use Rattle.pit_model.specs.declared.plan_key.PlanKey.TheVariants as key
 use Rattle.pit_model.specs.declared.resource.Resource.{Resource}
 use Rattle.pit_model.proofs.PlanNames.{Apart, apart_more, any_named, none_named, found, not_found}
-use Rattle.pit_model.proofs.PlanTold.{number_told, whole_told}
+use Rattle.pit_model.proofs.PlanTold.{cell_told, whole_told}
 use Rattle.std.proofs.Common.{length-drop, append-nil, append_assoc}
 use Rattle.std.proofs.lemmas.Int.{ints}
 use Rattle.std.proofs.lemmas.List.{length-map}
@@ -46,14 +47,14 @@ use Rattle.pit_model.proofs.Limits.{inserted, All-with_limit, rises}
 use Rattle.pit_model.proofs.PlanDraft.{listed, stated_of, Keeps, Adds, width_then, named_then, once_told, other, room_told, destination_told, formula_told}
 use Rattle.pit_model.proofs.PlanNames.{bytes_same, same_bytes, bytes_other}
 use Rattle.forms.proofs.DecimalFaults.{one_number}
-use Rattle.forms.proofs.FormFacts.{le_true, true_le}
-use Rattle.pit_model.proofs.PlanTold.{one_whole, whole_from, read_number, reworded}
+use Rattle.forms.proofs.FormFacts.{le_true, number_told, true_le}
+use Rattle.pit_model.proofs.PlanTold.{one_whole, whole_from, reworded}
 
 pub periods_follows : (d : DraftView) (ls : List Limit) (cells : List (List ℕ)) → Keeps d ls
     → Follows (admit_periods d cells) (asked (stated_of d ls) key.Periods cells) (Adds (stated_of d ls) key.Periods cells)
 periods_follows d ls cells k =
     width_then 2 cells _ _ _ (λ _.
-    bound (whole_in 1 100 (cell_at cells 1)) _ (whole 1 100 (cell_at cells 1)) _ _ _ (whole_told 1 100 (cell_at cells 1)) (λ n is.
+    bound (whole_in a_period_count (cell_at cells 1)) _ (asks a_period_count (cell_at cells 1)) _ _ _ (whole_told 1 100 (cell_at cells 1)) (λ n is.
     once_told d.periods (record d { periods = Some n }) _ (λ none. record {
       part = ThePeriods n;
       spells = (n, refl, is.0);
@@ -80,8 +81,8 @@ pub rate_follows : (d : DraftView) (ls : List Limit) (cells : List (List ℕ)) �
     → Follows (admit_rate d cells) (asked (stated_of d ls) key.Rate cells) (Adds (stated_of d ls) key.Rate cells)
 rate_follows d ls cells k =
     width_then 2 cells _ _ _ (λ _.
-    bound (number_in 6 (pos 0) (pos (10 ^ 6)) (cell_at cells 1)) _ (number 6 (pos 0) (pos (10 ^ 6)) (cell_at cells 1)) _ _ _
-    (number_told 6 (pos 0) (pos (10 ^ 6)) (cell_at cells 1) (omega arith)) (λ rate is.
+    bound (number_in a_rate (cell_at cells 1)) _ (asks a_rate (cell_at cells 1)) _ _ _
+    (cell_told 6 (pos 0) (pos (10 ^ 6)) (cell_at cells 1) refl) (λ rate is.
     once_told d.rate (record d { rate = Some rate }) _ (λ none. record {
       part = TheRate rate;
       spells = (rate, refl, is.0);
@@ -91,11 +92,11 @@ rate_follows d ls cells k =
     })))
 
 band_told : (from recovered : List ℕ)
-    → Follows (band_in from recovered) (number 6 (pos 0) (pos (10 ^ 12)) from ++ whole 0 1000 recovered)
+    → Follows (band_in from recovered) (asks a_start from ++ asks a_recovery recovered)
     (λ b. StandsFor 6 from (pos b.start) × StandsWhole recovered b.recovery × IsBand b)
 band_told from recovered =
-    bound (number_in 6 (pos 0) (pos (10 ^ 12)) from) _ (number 6 (pos 0) (pos (10 ^ 12)) from) _ _ _ (number_told 6 (pos 0) (pos (10 ^ 12)) from (omega arith)) (λ m is_m.
-    mapped (whole_in 0 1000 recovered) (λ recovery. record { start = unsigned_abs m; recovery = recovery }) (whole 0 1000 recovered) _ _ (whole_told 0 1000 recovered) (λ recovery is_recovery.
+    bound (number_in a_start from) _ (asks a_start from) _ _ _ (cell_told 6 (pos 0) (pos (10 ^ 12)) from refl) (λ m is_m.
+    mapped (whole_in a_recovery recovered) (λ recovery. record { start = unsigned_abs m; recovery = recovery }) (asks a_recovery recovered) _ _ (whole_told 0 1000 recovered) (λ recovery is_recovery.
     let is : m ≡ pos (unsigned_abs m) = not_below m is_m.1 in
     let small : unsigned_abs m ≤ 10 ^ 12 = omega (arith, ints, subst (λ z. z ≤ℤ pos (10 ^ 12)) is is_m.2) in
     (subst (StandsFor 6 from) is is_m.0, is_recovery.0, (small, is_recovery.1.1))))
@@ -110,7 +111,7 @@ bands_told : (cells : List (List ℕ)) (done : List Band) → length cells % 2 �
 bands_told [] done even = (tt, ([], sym (append-nil done), tt, All-nil IsBand))
 bands_told (lone ∷ []) done even = absurd (omega arith)
 bands_told (from ∷ recovered ∷ cells) done even =
-    bound (band_in from recovered) _ (number 6 (pos 0) (pos (10 ^ 12)) from ++ whole 0 1000 recovered) (band_cells cells) _ _ (band_told from recovered) (λ b is.
+    bound (band_in from recovered) _ (asks a_start from ++ asks a_recovery recovered) (band_cells cells) _ _ (band_told from recovered) (λ b is.
     let fewer : length cells % 2 ≡ 0 = omega (arith, even) in
     weaker (bands_in cells (done ++ b ∷ [])) (band_cells cells) _ _ (λ bands h.
     (b ∷ h.0, h.1 ∙ append_assoc done (b ∷ []) h.0, (is.0, is.1, h.2), All-cons IsBand b h.0 is.2 h.3))
@@ -174,8 +175,8 @@ leach_follows d ls cells k =
     let w : (6 ≤ length cells) × (length cells % 2 ≡ 0) = right (nat_lt (length cells) 6) refl (length cells % 2 == 0) refl t in (
       w,
       named_then cells _ _ (Adds (stated_of d ls) key.Leach cells) (
-          bound (whole_in 0 (10 ^ 8) (cell_at cells 2)) _ (whole 0 (10 ^ 8) (cell_at cells 2)) _ _ _ (whole_told 0 (10 ^ 8) (cell_at cells 2)) (λ price is_price.
-          bound (whole_in 0 (10 ^ 7) (cell_at cells 3)) _ (whole 0 (10 ^ 7) (cell_at cells 3)) _ _ _ (whole_told 0 (10 ^ 7) (cell_at cells 3)) (λ cost is_cost.
+          bound (whole_in a_price (cell_at cells 2)) _ (asks a_price (cell_at cells 2)) _ _ _ (whole_told 0 (10 ^ 8) (cell_at cells 2)) (λ price is_price.
+          bound (whole_in a_cost (cell_at cells 3)) _ (asks a_cost (cell_at cells 3)) _ _ _ (whole_told 0 (10 ^ 7) (cell_at cells 3)) (λ cost is_cost.
           let pairs : length (drop 4 cells) % 2 ≡ 0 = omega (arith, length-drop 4 cells, w.0, w.1) in
           bound (bands_in (drop 4 cells) []) _ (band_cells (drop 4 cells)) (leach_end (stated_of d ls) cells) _ (Adds (stated_of d ls) key.Leach cells)
           (bands_told (drop 4 cells) [] pairs) (λ bands is.
@@ -311,11 +312,11 @@ period_told : (o : Option ℕ) (cell : List ℕ) → IfSome o (λ n. (1 ≤ n) �
     ++ demand Range ((periods t : ℕ) × (listed o ≡ periods ∷ []) × StandsWhole cell t × (t < periods)))
     (λ t. StandsWhole cell t × (t < unwrap_or o 0))
 period_told None cell kept =
-    read_number 0 cell (λ m. Err Range) _ _ (omega arith) (λ h. (pos (h.1 * 10 ^ 6), h.3)) (λ m stands. inl ((λ h. absurd (cc (h.2))), refl))
+    number_told plan_kind 0 cell (λ m. Err Range) _ _ (omega arith) (λ h. (pos (h.1 * 10 ^ 6), h.3)) (λ m stands. inl ((λ h. absurd (cc (h.2))), refl))
 period_told (Some n) cell kept =
-    reworded (whole_in 0 (n - 1) cell) (demand Number (IsDecimal cell) ++ demand TooFine (IsFine 0 cell)) Range (IsWithin 0 (pos (0 * 10 ^ 6)) (pos ((n - 1) * 10 ^ 6)) cell)
+    reworded (whole_in (between 0 (n - 1)) cell) (demand Number (IsDecimal cell) ++ demand TooFine (IsFine 0 cell)) Range (IsWithin 0 (pos (0 * 10 ^ 6)) (pos ((n - 1) * 10 ^ 6)) cell)
     ((periods t : ℕ) × (n ∷ [] ≡ periods ∷ []) × StandsWhole cell t × (t < periods)) _ to from
-    (weaker (whole_in 0 (n - 1) cell) (whole 0 (n - 1) cell) _ _ (λ t h. (h.0, omega (arith, h.1.1, kept.0))) (whole_told 0 (n - 1) cell))
+    (weaker (whole_in (between 0 (n - 1)) cell) (asks (between 0 (n - 1)) cell) _ _ (λ t h. (h.0, omega (arith, h.1.1, kept.0))) (whole_told 0 (n - 1) cell))
   where
     to : IsWithin 0 (pos (0 * 10 ^ 6)) (pos ((n - 1) * 10 ^ 6)) cell → (periods t : ℕ) × (n ∷ [] ≡ periods ∷ []) × StandsWhole cell t × (t < periods)
     to h = let w = whole_from 0 (n - 1) cell h.0 h.1 h.2 h.3 in (n, unsigned_abs h.0 / 10 ^ 6, refl, w.0, omega (arith, w.1.1, kept.0))
@@ -329,8 +330,8 @@ period_told (Some n) cell kept =
         one_item : (a b : ℕ) → a ∷ [] ≡ b ∷ [] → a ≡ b
         one_item a b e = cc
 
-tonnes_told : (cell : List ℕ) → Follows (tonnes_in cell) (tonnes cell) (λ v. StandsFor 6 cell v × IsTonnes v)
-tonnes_told cell = weaker (tonnes_in cell) (tonnes cell) _ _ (λ v h. (h.0, (h.1, h.2))) (number_told 6 (pos 0) (pos (10 ^ 18)) cell (omega arith))
+tonnes_told : (cell : List ℕ) → Follows (tonnes_in cell) (asks tonnes cell) (λ v. StandsFor 6 cell v × IsTonnes v)
+tonnes_told cell = weaker (tonnes_in cell) (asks tonnes cell) _ _ (λ v h. (h.0, (h.1, h.2))) (cell_told 6 (pos 0) (pos (10 ^ 18)) cell refl)
 
 abbrev pub IsLetter : List ℕ → Type 0
 IsLetter cell = (cell ≡ codes "L") ⊎ ((cell ≡ codes "G") ⊎ (cell ≡ codes "I"))
@@ -350,7 +351,7 @@ bound_told cells = by (bytes_eq (cell_at cells 3) (codes "L")) refl (bytes_eq (c
         → ((v : ℤ) → StandsFor 6 (cell_at cells 4) v × IsTonnes v → Q (f v))
         → Follows (tonnes_in (cell_at cells 4) >>= λ v. Ok (f v)) (limit_cells i cells) Q
     one true test word never is f told = absurd (not_by word never is test)
-    one false test word never is f told = mapped (tonnes_in (cell_at cells 4)) f (tonnes (cell_at cells 4)) _ Q (tonnes_told (cell_at cells 4)) told
+    one false test word never is f told = mapped (tonnes_in (cell_at cells 4)) f (asks tonnes (cell_at cells 4)) _ Q (tonnes_told (cell_at cells 4)) told
 
     by : (l : Bool) → bytes_eq (cell_at cells 3) (codes "L") ≡ l → (g : Bool) → bytes_eq (cell_at cells 3) (codes "G") ≡ g → (i : Bool) → is_interval cells ≡ i
         → Follows (if l then (tonnes_in (cell_at cells 4) >>= λ v. Ok (AtMost v))
@@ -366,8 +367,8 @@ bound_told cells = by (bytes_eq (cell_at cells 3) (codes "L")) refl (bytes_eq (c
     by false e false f true h =
         let is = bytes_same (cell_at cells 3) (codes "I") h in
         behind _ (demand Name (IsLetter (cell_at cells 3))) (limit_cells true cells) Q (inr (inr is), tt) (
-        bound (tonnes_in (cell_at cells 4)) _ (tonnes (cell_at cells 4)) (tonnes (cell_at cells 5)) _ Q (tonnes_told (cell_at cells 4)) (λ v is_v.
-        mapped (tonnes_in (cell_at cells 5)) (Between v) (tonnes (cell_at cells 5)) _ Q (tonnes_told (cell_at cells 5)) (λ w is_w.
+        bound (tonnes_in (cell_at cells 4)) _ (asks tonnes (cell_at cells 4)) (asks tonnes (cell_at cells 5)) _ Q (tonnes_told (cell_at cells 4)) (λ v is_v.
+        mapped (tonnes_in (cell_at cells 5)) (Between v) (asks tonnes (cell_at cells 5)) _ Q (tonnes_told (cell_at cells 5)) (λ w is_w.
         ((is, is_v.0, is_w.0), (is_v.1, is_w.1)))))
     by false e false f false h = inl (none, refl)
       where

@@ -10,6 +10,7 @@ pub mod FaultText
 pub mod Formula
 pub mod Name
 pub mod Plan
+pub mod PlanCells
 pub mod PlanDemands
 pub mod PlanPart
 pub mod PlanFields

@@ -1,16 +1,16 @@
 -- The plan that a text states: its records in turn, each as far as its first fault.
-use Rattle.std.specs.Prelude.{ℕ, ◌+◌, ◌*◌, ◌-◌, ◌/◌, ◌%◌, ◌^◌, Bool, not, ◌&&◌, ◌||◌, ◌==◌, nat_lt, List, [], ◌∷◌, ◌++◌, length, drop, position, ℤ, pos, unsigned_abs, Option, Some, None, is_some, Result, Ok, Err, if◌then◌else◌, codes}
-use Rattle.std.specs.Prelude.{◌*ℤ◌, int_le, int_div}
+use Rattle.std.specs.Prelude.{ℕ, ◌+◌, ◌-◌, ◌/◌, ◌%◌, ◌^◌, Bool, not, ◌&&◌, ◌||◌, ◌==◌, nat_lt, List, [], ◌∷◌, ◌++◌, length, drop, position, ℤ, pos, unsigned_abs, Option, Some, None, is_some, Result, Ok, Err, if◌then◌else◌, codes}
+use Rattle.std.specs.Prelude.{int_div}
 use Rattle.std.specs.List.{list_any}
 use Rattle.std.specs.Str.{bytes_eq}
 use Rattle.pit_units.specs.Decimal.{decimal_of}
-use Rattle.pit_units.specs.declared.fault.DecFault.{DecFault}
-use Rattle.pit_units.specs.declared.fault.DecFault.TheVariants as number_fault
+use Rattle.forms.specs.Form.{Field, millionths, number_of, read_field}
 use Rattle.pit_model.specs.Bands.{starts_rise}
 use Rattle.pit_model.specs.Cells.{cells_of, cell_at, is_word}
 use Rattle.pit_model.specs.Name.{is_name}
 use Rattle.pit_model.specs.Plan.{PlanParts, plan_of, stands_before, has_repeat, is_turned}
 use Rattle.pit_model.specs.Records.{records_of}
+use Rattle.pit_model.specs.PlanCells.{plan_kind, between, a_cost, a_leg, a_period_count, a_price, a_rate, a_recovery, a_size, a_start, an_origin, benches, tonnes}
 use Rattle.forms.specs.Steps.{◌>>=◌}
 use Rattle.pit_model.specs.declared.band.Band.{Band}
 use Rattle.pit_model.specs.declared.cone.Cone.{Cone}
@@ -25,11 +25,11 @@ use Rattle.pit_model.specs.declared.limit.Bound.TheVariants.{AtMost, AtLeast, Be
 use Rattle.pit_model.specs.declared.limit.Limit.{Limit}
 use Rattle.pit_model.specs.declared.plan_fault.PlanFault.{PlanFault}
 use Rattle.pit_model.specs.declared.plan_fault.PlanFaultKind.{PlanFaultKind}
-use Rattle.pit_model.specs.declared.plan_fault.PlanFaultKind.TheVariants.{Key, Width, Number, TooFine, Range, Name, Twice, Order, TooMany, Missing}
+use Rattle.pit_model.specs.declared.plan_fault.PlanFaultKind.TheVariants.{Key, Width, Range, Name, Twice, Order, TooMany, Missing}
 use Rattle.pit_model.specs.declared.plan_key.PlanKey.{PlanKey}
 use Rattle.pit_model.specs.declared.plan_key.PlanKey.TheVariants as key
 use Rattle.pit_model.specs.declared.resource.Resource.{Resource}
-use Rattle.pit_model.specs.declared.ranges.TheConstants.{MAX_BANDS, MAX_BENCHES, MAX_COST, MAX_DESTINATIONS, MAX_GRADE, MAX_ORIGIN, MAX_PERIODS, MAX_PLAN_RECORDS, MAX_PRICE, MAX_RATE, MAX_RECOVERY, MAX_RESOURCES, MAX_SIZE, MAX_SLOPE, MAX_TONNES, MAX_ZONES, MIN_ORIGIN}
+use Rattle.pit_model.specs.declared.ranges.TheConstants.{MAX_BANDS, MAX_DESTINATIONS, MAX_PLAN_RECORDS, MAX_RESOURCES, MAX_ZONES}
 
 -- what the records so far say
 pub record DraftView : Type 0 where
@@ -46,39 +46,21 @@ pub record DraftView : Type 0 where
 abbrev pub blank_draft : DraftView
 blank_draft = record { name = None; grid = None; cones = []; formulas = []; periods = None; rate = None; resources = []; limits = [] }
 
--- the fault of a number, as a plan's
-abbrev pub kind_of : DecFault → PlanFaultKind
-kind_of number_fault.Number = Number
-kind_of number_fault.TooFine = TooFine
-kind_of number_fault.Range = Range
+-- the millionths of a cell
+abbrev pub number_in : Field → List ℕ → Result ℤ PlanFaultKind
+number_in field cell = read_field plan_kind field cell >>= λ value. Ok (millionths value)
 
-abbrev pub stated : Result ℤ DecFault → Result ℤ PlanFaultKind
-stated (Ok m) = Ok m
-stated (Err fault) = Err (kind_of fault)
+-- a whole number
+abbrev pub whole_in : Field → List ℕ → Result ℕ PlanFaultKind
+whole_in field cell = number_in field cell >>= λ m. Ok (unsigned_abs m / 10 ^ 6)
 
--- the millionths of a cell, with so many decimals, from the lowest to the highest
-abbrev pub number_in : ℕ → ℤ → ℤ → List ℕ → Result ℤ PlanFaultKind
-number_in decimals low high cell = do
-  m ← stated (decimal_of decimals cell)
-  if int_le low m && int_le m high then Ok m else Err Range
-
--- a whole number, from the lowest to the highest
-abbrev pub whole_in : ℕ → ℕ → List ℕ → Result ℕ PlanFaultKind
-whole_in low high cell = do
-  m ← number_in 0 (pos (low * 10 ^ 6)) (pos (high * 10 ^ 6)) cell
-  Ok (unsigned_abs m / 10 ^ 6)
-
--- metres with three decimals, in millimetres: an axis's origin, within 10^12 of zero
+-- the millimetres of an axis's origin
 abbrev pub origin_in : List ℕ → Result ℤ PlanFaultKind
-origin_in cell = do
-  m ← number_in 3 (MIN_ORIGIN *ℤ pos 1000) (MAX_ORIGIN *ℤ pos 1000) cell
-  Ok (int_div m (pos 1000))
+origin_in cell = number_in an_origin cell >>= λ m. Ok (int_div m (pos 1000))
 
--- metres with three decimals, in millimetres: the size of a block along an axis, 1 to 100,000
+-- the millimetres of a block along an axis
 abbrev pub size_in : List ℕ → Result ℕ PlanFaultKind
-size_in cell = do
-  m ← number_in 3 (pos 1000) (pos (MAX_SIZE * 1000)) cell
-  Ok (unsigned_abs m / 1000)
+size_in cell = number_in a_size cell >>= λ m. Ok (unsigned_abs m / 1000)
 
 abbrev pub name_in : List ℕ → Result (List ℕ) PlanFaultKind
 name_in cell = if is_name cell then Ok cell else Err Name
@@ -102,8 +84,8 @@ with_zone d cone = if length d.cones == MAX_ZONES then Err TooMany else Ok (reco
 -- a slope by its rise and its run
 abbrev pub slope_in : List ℕ → List ℕ → Result Slope PlanFaultKind
 slope_in rise run = do
-  p ← whole_in 1 MAX_SLOPE rise
-  q ← whole_in 1 MAX_SLOPE run
+  p ← whole_in a_leg rise
+  q ← whole_in a_leg run
   Ok (record { p = p; q = q })
 
 -- `name, NAME`
@@ -130,7 +112,7 @@ admit_grid d cells =
 abbrev pub equal_zone_in : List (List ℕ) → Result Cone PlanFaultKind
 equal_zone_in cells = do
   slope ← slope_in (cell_at cells 1) (cell_at cells 2)
-  k ← whole_in 1 MAX_BENCHES (cell_at cells 3)
+  k ← whole_in benches (cell_at cells 3)
   Ok (record { east = slope; west = slope; north = slope; south = slope; k = k })
 
 -- p and q of +x, of -x, of +y and of -y, K
@@ -140,7 +122,7 @@ sided_zone_in cells = do
   west ← slope_in (cell_at cells 3) (cell_at cells 4)
   north ← slope_in (cell_at cells 5) (cell_at cells 6)
   south ← slope_in (cell_at cells 7) (cell_at cells 8)
-  k ← whole_in 1 MAX_BENCHES (cell_at cells 9)
+  k ← whole_in benches (cell_at cells 9)
   Ok (record { east = east; west = west; north = north; south = south; k = k })
 
 -- the cone of a zone's record, of either form
@@ -164,16 +146,16 @@ abbrev pub admit_mill : DraftView → List (List ℕ) → Result DraftView PlanF
 admit_mill d cells =
     if not (length cells == 5) then Err Width else do
       name ← name_in (cell_at cells 1)
-      recovery ← whole_in 0 MAX_RECOVERY (cell_at cells 2)
-      price ← whole_in 0 MAX_PRICE (cell_at cells 3)
-      cost ← whole_in 0 MAX_COST (cell_at cells 4)
+      recovery ← whole_in a_recovery (cell_at cells 2)
+      price ← whole_in a_price (cell_at cells 3)
+      cost ← whole_in a_cost (cell_at cells 4)
       if is_taken d.formulas name then Err Twice else with_formula d name (Mill recovery price cost)
 
 -- the band of a start in g/t with 6 decimals, and of a recovery
 abbrev pub band_in : List ℕ → List ℕ → Result Band PlanFaultKind
 band_in from recovered = do
-  start ← number_in 6 (pos 0) (pos MAX_GRADE) from
-  recovery ← whole_in 0 MAX_RECOVERY recovered
+  start ← number_in a_start from
+  recovery ← whole_in a_recovery recovered
   Ok (record { start = unsigned_abs start; recovery = recovery })
 
 -- the bands that pairs of cells state, a start and a recovery each, behind those that were read
@@ -194,8 +176,8 @@ abbrev pub admit_leach : DraftView → List (List ℕ) → Result DraftView Plan
 admit_leach d cells =
     if nat_lt (length cells) 6 || not (length cells % 2 == 0) then Err Width else do
       name ← name_in (cell_at cells 1)
-      price ← whole_in 0 MAX_PRICE (cell_at cells 2)
-      cost ← whole_in 0 MAX_COST (cell_at cells 3)
+      price ← whole_in a_price (cell_at cells 2)
+      cost ← whole_in a_cost (cell_at cells 3)
       bands ← bands_in (drop 4 cells) []
       if is_taken d.formulas name then Err Twice else with_leach d name bands price cost
 
@@ -204,7 +186,7 @@ abbrev pub admit_dump : DraftView → List (List ℕ) → Result DraftView PlanF
 admit_dump d cells =
     if not (length cells == 3) then Err Width else do
       name ← name_in (cell_at cells 1)
-      cost ← whole_in 0 MAX_COST (cell_at cells 2)
+      cost ← whole_in a_cost (cell_at cells 2)
       if is_taken d.formulas name then Err Twice else with_formula d name (Dump cost)
 
 -- the number of the destination that a cell names
@@ -236,12 +218,12 @@ admit_resource d cells =
 
 -- the number of a period; without a number of periods there is none
 abbrev pub period_in : Option ℕ → List ℕ → Result ℕ PlanFaultKind
-period_in None cell = stated (decimal_of 0 cell) >>= λ m. Err Range
-period_in (Some periods) cell = whole_in 0 (periods - 1) cell
+period_in None cell = number_of plan_kind (decimal_of 0 cell) >>= λ m. Err Range
+period_in (Some periods) cell = whole_in (between 0 (periods - 1)) cell
 
 -- tonnes of a limit
 abbrev pub tonnes_in : List ℕ → Result ℤ PlanFaultKind
-tonnes_in cell = number_in 6 (pos 0) (MAX_TONNES) cell
+tonnes_in cell = number_in tonnes cell
 
 -- what a limit asks, by its letter
 abbrev pub bound_in : List (List ℕ) → Result Bound PlanFaultKind
@@ -283,14 +265,14 @@ admit_limit d cells =
 abbrev pub admit_periods : DraftView → List (List ℕ) → Result DraftView PlanFaultKind
 admit_periods d cells =
     if not (length cells == 2) then Err Width else do
-      periods ← whole_in 1 MAX_PERIODS (cell_at cells 1)
+      periods ← whole_in a_period_count (cell_at cells 1)
       if is_some d.periods then Err Twice else Ok (record d { periods = Some periods })
 
 -- `rate, number`
 abbrev pub admit_rate : DraftView → List (List ℕ) → Result DraftView PlanFaultKind
 admit_rate d cells =
     if not (length cells == 2) then Err Width else do
-      rate ← number_in 6 (pos 0) MAX_RATE (cell_at cells 1)
+      rate ← number_in a_rate (cell_at cells 1)
       if is_some d.rate then Err Twice else Ok (record d { rate = Some rate })
 
 -- the key that a cell is, its letters in any case

@@ -6,6 +6,7 @@ ghost use Rattle.pit_model.specs.Admits.{Admits};
 ghost use Rattle.pit_model.specs.Bands.{IsBand};
 ghost use Rattle.pit_model.specs.Cells.{cells_of};
 ghost use Rattle.pit_model.specs.Plan.{AreTonnes, IsRuled};
+ghost use Rattle.pit_model.specs.PlanCells.{a_rate};
 ghost use Rattle.pit_model.specs.Planned.{admit, admit_name, admit_grid, admit_zone, admit_mill, admit_leach, admit_dump, admit_periods, admit_rate, admit_resource, admit_limit, blank_draft, finished, number_in, with_bound, with_formula, with_leach};
 ghost use Rattle.pit_model.specs.declared.ranges.TheConstants.{MAX_COST, MAX_PRICE, MAX_RATE};
 
@@ -364,7 +365,7 @@ impl Draft {
 
 // The discount rate that a cell states.
 fn rate_in(cell: &[u8]) -> Result<Dec, PlanFaultKind>
-    ensures value { result ≡ number_in 6 (pos 0) MAX_RATE cell.now }
+    ensures value { result ≡ number_in a_rate cell.now }
     ensures in_range { IfOk result (λ r. (pos 0 ≤ℤ r) × (r ≤ℤ MAX_RATE)) }
 {
     let millionths = number_in(cell, 6, 0, MAX_RATE)?;

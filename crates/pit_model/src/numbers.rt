@@ -1,6 +1,8 @@
 //! The numbers and names in a plan's cells.
 
 ghost use Rattle.std.specs.Prelude.{◌≡◌, ◌≤◌, ◌*◌, ◌^◌, ◌<◌, ◌≤ℤ◌, pos, negsuc, IfOk};
+ghost use Rattle.forms.specs.Form.{Decimal};
+ghost use Rattle.pit_model.specs.PlanCells.{between};
 ghost use Rattle.pit_model.specs.Planned.{number_in, whole_in, origin_in, size_in};
 ghost use Rattle.pit_model.specs.declared.ranges.TheConstants.{MAX_ORIGIN, MAX_SIZE, MIN_ORIGIN};
 
@@ -11,7 +13,7 @@ use pit_units::parse_dec;
 /// The millionths that a cell states, with at most so many decimals and from `low` to `high`.
 pub fn number_in(cell: &[u8], decimals: u8, low: i128, high: i128) -> Result<i128, PlanFaultKind>
     requires { decimals ≤ 6 }
-    ensures value { result ≡ number_in decimals low high cell.now }
+    ensures value { result ≡ number_in (Decimal decimals low high) cell.now }
     ensures in_range { IfOk result (λ m. (low ≤ℤ m) × (m ≤ℤ high)) }
 {
     let millionths = parse_dec(cell, decimals)?.millionths();
@@ -24,7 +26,7 @@ pub fn number_in(cell: &[u8], decimals: u8, low: i128, high: i128) -> Result<i12
 
 /// The whole number that a cell states, from `low` to `high`.
 pub fn whole_in(cell: &[u8], low: u32, high: u32) -> Result<u32, PlanFaultKind>
-    ensures value { result ≡ whole_in low high cell.now }
+    ensures value { result ≡ whole_in (between low high) cell.now }
     ensures in_range { IfOk result (λ n. (low ≤ n) × (n ≤ high)) }
 {
     let millionths = number_in(cell, 0, low as i128 * 1_000_000, high as i128 * 1_000_000)?;
