@@ -1,9 +1,9 @@
 -- A line of which all fields are read, and none is left, has as many fields as it has to have.
-use Rattle.std.specs.Prelude.{◌≡◌, ℕ, suc, ◌*◌, ◌/◌, ◌==◌, nat_lt, not, Bool, true, false, List, [], ◌∷◌, length, pos, Result, Ok, Err, if◌then◌else◌}
+use Rattle.std.specs.Prelude.{◌≡◌, ℕ, suc, ◌*◌, ◌/◌, ◌==◌, nat_lt, not, Bool, true, false, List, [], ◌∷◌, length, map, pos, Result, Ok, Err, if◌then◌else◌}
 use Rattle.std.proofs.Common.{refl, sym, ◌∙◌, ap, arith}
-use Rattle.std.proofs.lemmas.Bool.{eqb-true, le-ltb, not-false}
+use Rattle.std.proofs.lemmas.Bool.{eqb-true, ltb-true, not-false}
 use Rattle.mine_instance.specs.declared.coef.Coef.{Coef}
-use Rattle.forms.proofs.FormFacts.{counted_later, fault_later}
+use Rattle.forms.proofs.FormFacts.{counted, counted_later, fault_later}
 use Rattle.forms.proofs.NumberFields.{quotient}
 use Rattle.forms.specs.Form.{Millionths, below, read_fields, up_to, whole}
 use Rattle.forms.specs.Steps.{◌>>=◌}
@@ -12,14 +12,17 @@ use Rattle.minelib_text.specs.BlockLines.{block_of, block_said, block_with, in_r
 use Rattle.minelib_text.specs.FieldValues.{first_by, decimal_in, size_in, whole_in}
 use Rattle.minelib_text.specs.LineKinds.{text_kind}
 use Rattle.minelib_text.specs.ModelLines.{coef_of, coef_width}
+use Rattle.minelib_text.specs.PrecLines.{preds_of, preds_said}
 use Rattle.minelib_text.specs.SpelledBlocks.{block_form}
-use Rattle.minelib_text.specs.Uncounted.{block_alone, coef_alone, kind_by}
+use Rattle.minelib_text.specs.SpelledPrec.{preds_form}
+use Rattle.minelib_text.specs.Uncounted.{block_alone, coef_alone, kind_by, preds_alone}
 use Rattle.minelib_text.specs.declared.model_key.Problem.{Problem}
 use Rattle.minelib_text.specs.declared.model_key.Problem.TheVariants.{Pcpsp, Cpit}
 use Rattle.minelib_text.specs.declared.text_fault.TextKind.{TextKind}
 use Rattle.minelib_text.specs.declared.text_fault.TextKind.TheVariants.{Fields, Order}
-use Rattle.minelib_text.proofs.FieldSteps.{last_step, said_of, size_reads, step, whole_reads}
-use Rattle.minelib_text.proofs.ReadSteps.{first_ok, first_then, guard_ok}
+use Rattle.minelib_text.proofs.FieldSteps.{first_step, last_step, none_step, said_of, size_reads, step, whole_reads, wholes_step}
+use Rattle.minelib_text.proofs.PrecLineFacts.{said_is}
+use Rattle.minelib_text.proofs.ReadSteps.{first_then, guard_ok}
 use Rattle.pit_model.specs.declared.ranges.TheConstants.{GRID_CELLS, MAX_BLOCKS, MAX_GRADE, MAX_KG, MAX_ZONES}
 
 -- two continuations that agree on what is left of as many fields
@@ -119,10 +122,43 @@ pub block_kind : (before : ℕ) (fields : List (List ℕ)) (kind : TextKind) →
 unfolding block_of
 block_kind before fields kind e = fault_later text_kind block_form fields (block_said before) kind (sym (alone_read before fields) ∙ e)
 
--- predecessors: two fields or more
-pub two_taken : (n : ℕ) (fields : List (List ℕ)) (x y : ℕ) (behind rest : List (List ℕ)) → first_by (whole_in n) fields ≡ Ok (x, behind)
-    → first_by (whole_in n) behind ≡ Ok (y, rest) → nat_lt (length fields) 2 ≡ false
-two_taken n fields x y behind rest first second =
-    let one = first_ok (whole_in n) fields (x, behind) first in
-    let two = first_ok (whole_in n) behind (y, rest) second in
-    le-ltb (length fields) 2 (omega (arith, ap length one.1, ap length two.1))
+-- predecessors
+preds_alone_said : (n before : ℕ) (fields : List (List ℕ)) → preds_alone n before fields ≡ said_of (preds_form n fields) fields (preds_said before)
+unfolding preds_alone
+preds_alone_said n before [] = none_step (below n) _ _
+preds_alone_said n before (lone ∷ []) =
+    first_step (below n) _ (whole_in n) whole lone [] _ _ (whole_reads n) (λ id. none_step (below n) _ _)
+preds_alone_said n before (id ∷ count ∷ others) =
+    first_step (below n) _ (whole_in n) whole id (count ∷ others) _ _ (whole_reads n) (λ own.
+    first_step (below n) _ (whole_in n) whole count others _ _ (whole_reads n) (λ stated.
+    wholes_step n [] others _ _ (λ ids. sym (said_is before own stated ids))))
+
+preds_alone_read : (n before : ℕ) (fields : List (List ℕ))
+    → preds_alone n before fields ≡ (read_fields text_kind (preds_form n fields) fields >>= preds_said before)
+unfolding said_of
+preds_alone_read n before fields = preds_alone_said n before fields
+
+pub preds_counted : (n before : ℕ) (fields : List (List ℕ)) (ids : List ℕ) → preds_alone n before fields ≡ Ok ids → preds_of n before fields ≡ Ok ids
+unfolding preds_of
+preds_counted n before fields ids e =
+    counted_later text_kind (preds_form n fields) fields (preds_said before) ids (sym (preds_alone_read n before fields) ∙ e)
+
+as_many : (n : ℕ) (fields : List (List ℕ)) → length fields ≡ length (map (λ field. below n) fields)
+as_many n [] = refl
+as_many n (field ∷ fields) = omega (arith, as_many n fields)
+
+-- a line of fewer than two fields, and any other
+pub preds_lacking : (n before : ℕ) (fields : List (List ℕ)) → nat_lt (length fields) 2 ≡ true → preds_of n before fields ≡ Err Fields
+unfolding preds_of
+preds_lacking n before [] e = refl
+preds_lacking n before (lone ∷ []) e = refl
+preds_lacking n before (id ∷ count ∷ others) e = absurd (omega (arith, ltb-true (length (id ∷ count ∷ others)) 2 e))
+
+pub preds_same : (n before : ℕ) (fields : List (List ℕ)) → nat_lt (length fields) 2 ≡ false → preds_of n before fields ≡ preds_alone n before fields
+unfolding preds_of
+preds_same n before [] e = absurd cc
+preds_same n before (lone ∷ []) e = absurd cc
+preds_same n before (id ∷ count ∷ others) e =
+    ap (λ r. r >>= preds_said before)
+    (counted text_kind (preds_form n (id ∷ count ∷ others)) (id ∷ count ∷ others) (omega (arith, as_many n others)))
+    ∙ sym (preds_alone_read n before (id ∷ count ∷ others))

@@ -1,6 +1,6 @@
 -- Fields that are read one by one, as the code reads them, are those of a form.
-use Rattle.std.specs.Prelude.{◌≡◌, ℕ, ◌*◌, ◌/◌, ◌%◌, ◌^◌, ◌==◌, ◌&&◌, nat_lt, not, Bool, true, false, List, [], ◌∷◌, length, ℤ, pos, negsuc, ◌+ℤ◌, int_le, Result, Ok, Err, if◌then◌else◌}
-use Rattle.std.proofs.Common.{refl, ◌∙◌, ap, arith}
+use Rattle.std.specs.Prelude.{◌≡◌, ℕ, ◌*◌, ◌/◌, ◌%◌, ◌^◌, ◌==◌, ◌&&◌, nat_lt, not, Bool, true, false, List, [], ◌∷◌, ◌++◌, length, map, ℤ, pos, negsuc, ◌+ℤ◌, int_le, Result, Ok, Err, if◌then◌else◌}
+use Rattle.std.proofs.Common.{refl, sym, ◌∙◌, ap, arith, append-nil, append_assoc}
 use Rattle.std.proofs.lemmas.Bool.{ne_eqb}
 use Rattle.std.proofs.lemmas.Bool.Decides.{nat_tests}
 use Rattle.std.proofs.lemmas.Int.{ints}
@@ -11,7 +11,7 @@ use Rattle.pit_units.specs.declared.fault.DecFault.{DecFault}
 use Rattle.pit_units.specs.declared.fault.DecFault.TheVariants as dec
 use Rattle.forms.specs.Form.{Field, Value, Millionths, below, number_of, read_field, read_fields, up_to, whole}
 use Rattle.forms.specs.Steps.{◌>>=◌}
-use Rattle.minelib_text.specs.FieldValues.{at_most, first_by, size_in, stated, whole_below, whole_in}
+use Rattle.minelib_text.specs.FieldValues.{all_by, at_most, first_by, size_in, stated, whole_below, whole_in}
 use Rattle.minelib_text.specs.LineKinds.{text_kind}
 use Rattle.minelib_text.specs.declared.text_fault.TextKind.{TextKind}
 use Rattle.minelib_text.specs.declared.text_fault.TextKind.TheVariants.{Fields, Range}
@@ -71,23 +71,44 @@ size_reads decimals most text = by (decimal_of decimals text)
 unfoldable pub said_of : {B : Type 0} → List Field → List (List ℕ) → (List Value → Result B TextKind) → Result B TextKind
 said_of form fields said = read_fields text_kind form fields >>= said
 
--- the first field, and then the others
+-- a field and what follows it, as the first of a form
+behind_field : {A B : Type 0} (r : Result A TextKind) (value : A → Value) (form : List Field) (rest : List (List ℕ)) (next : A → Result B TextKind)
+    (said : List Value → Result B TextKind) → ((x : A) → next x ≡ said_of form rest (λ values. said (value x ∷ values)))
+    → (r >>= next) ≡ (((r >>= λ x. Ok (value x)) >>= λ v. read_fields text_kind form rest >>= λ values. Ok (v ∷ values)) >>= said)
+unfolding said_of
+behind_field {A} {B} (Ok x) value form rest next said goes_on = goes_on x ∙ tail (read_fields text_kind form rest)
+  where
+    tail : (r : Result (List Value) TextKind) → (r >>= λ values. said (value x ∷ values)) ≡ ((r >>= λ values. Ok (value x ∷ values)) >>= said)
+    tail (Ok values) = refl
+    tail (Err kind) = refl
+behind_field (Err kind) value form rest next said goes_on = refl
+
+taken_apart : {A B : Type 0} (r : Result A TextKind) (rest : List (List ℕ)) (next : A × List (List ℕ) → Result B TextKind)
+    → ((r >>= λ x. Ok (x, rest)) >>= next) ≡ (r >>= λ x. next (x, rest))
+taken_apart (Ok x) rest next = refl
+taken_apart (Err kind) rest next = refl
+
+-- no field is left
+pub none_step : {B : Type 0} (field : Field) (form : List Field) (said : List Value → Result B TextKind) → Err Fields ≡ said_of (field ∷ form) [] said
+unfolding said_of
+none_step field form said = refl
+
+-- the first field of a line, and then the others
+pub first_step : {A B : Type 0} (field : Field) (form : List Field) (rule : List ℕ → Result A TextKind) (value : A → Value) (text : List ℕ)
+    (rest : List (List ℕ)) (next : A × List (List ℕ) → Result B TextKind) (said : List Value → Result B TextKind) → ReadsField field rule value
+    → ((x : A) → next (x, rest) ≡ said_of form rest (λ values. said (value x ∷ values)))
+    → (first_by rule (text ∷ rest) >>= next) ≡ said_of (field ∷ form) (text ∷ rest) said
+unfolding said_of
+first_step field form rule value text rest next said reads goes_on =
+    rw (reads text) (taken_apart (rule text) rest next ∙ behind_field (rule text) value form rest (λ x. next (x, rest)) said goes_on)
+
 pub step : {A B : Type 0} (field : Field) (form : List Field) (rule : List ℕ → Result A TextKind) (value : A → Value) (fields : List (List ℕ))
     (next : A × List (List ℕ) → Result B TextKind) (said : List Value → Result B TextKind) → ReadsField field rule value
     → ((x : A) (rest : List (List ℕ)) → next (x, rest) ≡ said_of form rest (λ values. said (value x ∷ values)))
     → (first_by rule fields >>= next) ≡ said_of (field ∷ form) fields said
-unfolding said_of
-step field form rule value [] next said reads goes_on = refl
-step {A} {B} field form rule value (text ∷ rest) next said reads goes_on = rw (reads text) (by (rule text))
-  where
-    tail : (x : A) (r : Result (List Value) TextKind) → (r >>= λ values. said (value x ∷ values)) ≡ ((r >>= λ values. Ok (value x ∷ values)) >>= said)
-    tail x (Ok values) = refl
-    tail x (Err kind) = refl
-
-    by : (r : Result A TextKind) → ((r >>= λ x. Ok (x, rest)) >>= next)
-        ≡ (((r >>= λ x. Ok (value x)) >>= λ v. read_fields text_kind form rest >>= λ values. Ok (v ∷ values)) >>= said)
-    by (Ok x) = goes_on x rest ∙ tail x (read_fields text_kind form rest)
-    by (Err kind) = refl
+step field form rule value [] next said reads goes_on = none_step field form said
+step field form rule value (text ∷ rest) next said reads goes_on =
+    first_step field form rule value text rest next said reads (λ x. goes_on x rest)
 
 -- and none behind the last
 pub last_step : {B : Type 0} (rest : List (List ℕ)) (r : Result B TextKind) (said : List Value → Result B TextKind) → r ≡ said []
@@ -97,3 +118,19 @@ last_step [] r said same = same
 last_step (text ∷ rest) r said same =
     let some : (length (text ∷ rest) == 0) ≡ false = ne_eqb (length (text ∷ rest)) 0 (λ e. omega (arith, e)) in
     rw some refl
+
+-- whole numbers below a limit, as many as there are fields
+pub wholes_step : {B : Type 0} (limit : ℕ) (done : List ℕ) (fields : List (List ℕ)) (next : List ℕ → Result B TextKind)
+    (said : List Value → Result B TextKind) → ((ns : List ℕ) → next (done ++ ns) ≡ said (map whole ns))
+    → (all_by (whole_in limit) done fields >>= next) ≡ said_of (map (λ field. below limit) fields) fields said
+unfolding said_of
+wholes_step limit done [] next said same = ap next (sym (append-nil done)) ∙ same []
+wholes_step {B} limit done (text ∷ rest) next said same =
+    rw (whole_reads limit text) (bound (whole_in limit text)
+    ∙ behind_field (whole_in limit text) whole (map (λ field. below limit) rest) rest (λ n. all_by (whole_in limit) (done ++ n ∷ []) rest >>= next) said
+    (λ n. wholes_step limit (done ++ n ∷ []) rest next (λ values. said (whole n ∷ values)) (λ ns. ap next (append_assoc done (n ∷ []) ns) ∙ same (n ∷ ns))))
+  where
+    bound : (r : Result ℕ TextKind)
+        → ((r >>= λ n. all_by (whole_in limit) (done ++ n ∷ []) rest) >>= next) ≡ (r >>= λ n. all_by (whole_in limit) (done ++ n ∷ []) rest >>= next)
+    bound (Ok n) = refl
+    bound (Err kind) = refl

@@ -7,22 +7,19 @@ use Rattle.forms.specs.Steps.{◌>>=◌}
 use Rattle.pit_model.specs.declared.block.Block.{Block}
 use Rattle.minelib_text.specs.BlockLines.{block_of, admit_block, blocks_in}
 use Rattle.minelib_text.specs.FirstBad.{IsFirstBad, LacksLines}
-use Rattle.minelib_text.specs.LineDemands.{asked_of_preds}
 use Rattle.minelib_text.specs.PrecLines.{PrecDraftView, no_lists, preds_of, admit_preds, finish_preds, preds_in}
 use Rattle.minelib_text.specs.Reading.{at_line, read_lines}
 use Rattle.minelib_text.specs.SpelledBlocks.{IsBlockLine, asked_of_block}
 use Rattle.minelib_text.specs.SpelledLines.{AreLines}
-use Rattle.minelib_text.specs.SpelledPrec.{IsPredsLine}
+use Rattle.minelib_text.specs.SpelledPrec.{IsPredsLine, asked_of_preds}
 use Rattle.minelib_text.specs.TextLines.{Line, fields_of, lines_in, end_of}
 use Rattle.minelib_text.specs.declared.text_fault.LineFault.{LineFault}
 use Rattle.minelib_text.specs.declared.text_fault.TextKind.{TextKind}
 use Rattle.minelib_text.specs.declared.text_fault.TextKind.TheVariants.{Missing}
 use Rattle.minelib_text.proofs.ItemLines.{line_more}
 use Rattle.minelib_text.proofs.BlockLineFacts.{block_back, block_line, block_told}
-use Rattle.minelib_text.proofs.LineTold.{preds_told}
-use Rattle.minelib_text.proofs.SpelledBack.{preds_back}
-use Rattle.minelib_text.proofs.ValidPreds.{preds_line}
 use Rattle.minelib_text.proofs.PrecBack.{draft_of}
+use Rattle.minelib_text.proofs.PrecLineFacts.{preds_back, preds_line, preds_told}
 
 pub err_same : {B : Type 0} (f g : LineFault) → ◌≡◌ {A = Result B LineFault} (Err f) (Err g) → f ≡ g
 err_same f g e = cc

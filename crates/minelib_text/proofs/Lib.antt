@@ -33,6 +33,8 @@ pub mod OneDigit
 pub mod Places
 pub mod PlainText
 pub mod PrecBack
+pub mod PrecLineFacts
+pub mod PrecTests
 pub mod ReadSteps
 pub mod Rising
 pub mod SpacedFacts

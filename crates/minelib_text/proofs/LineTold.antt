@@ -1,29 +1,22 @@
--- The fault of a line of a precedence file is the first thing asked of it that does not hold.
-use Rattle.std.specs.Prelude.{◌≡◌, ℕ, ◌/◌, ◌^◌, ◌<◌, ◌≤◌, ◌==◌, ◌||◌, nat_lt, not, Bool, true, false, List, [], ◌∷◌, ◌++◌, length, ℤ, pos, negsuc, Result, Ok, Err, if◌then◌else◌, All}
-use Rattle.std.specs.List.{AllZip}
-use Rattle.std.proofs.Common.{refl, sym, ◌∙◌, subst, arith, inl, inr, append-nil, append_assoc, eq-eqb, ltb-true, ltb-false}
-use Rattle.std.proofs.lemmas.Bool.{eqb-true, or_parts, not-false}
-use Rattle.std.proofs.lemmas.List.Elements.{All-nil, All-cons}
-use Rattle.std.proofs.lemmas.Slice.Zip.{AllZip-long}
+-- The fault of a number of a line is the first thing asked of it that does not hold.
+use Rattle.std.specs.Prelude.{◌≡◌, ℕ, ◌/◌, ◌^◌, ◌≤◌, ◌==◌, nat_lt, not, Bool, true, false, List, ◌∷◌, ◌++◌, ℤ, pos, negsuc, Result, Ok, Err, if◌then◌else◌}
+use Rattle.std.proofs.Common.{refl, sym, ◌∙◌, subst, arith, inl, inr, eq-eqb}
+use Rattle.std.proofs.lemmas.Bool.{eqb-true, not-false}
 use Rattle.pit_units.proofs.Standing.{read_stands, spelled_number, spelled_too_fine}
 use Rattle.pit_units.specs.Decimal.{StandsFor, decimal_of}
 use Rattle.pit_units.specs.declared.fault.DecFault.{DecFault}
 use Rattle.pit_units.specs.declared.fault.DecFault.TheVariants as dec
 use Rattle.forms.proofs.DecimalFaults.{too_fine_decimal, out_of_range_fine, fine_decimal, stands_fine}
-use Rattle.forms.proofs.DemandFacts.{Follows, behind, bound, weaker, guarded, fails_before}
-use Rattle.forms.specs.Demands.{Demand, demand}
+use Rattle.forms.proofs.DemandFacts.{Follows, behind, fails_before}
+use Rattle.forms.specs.Demands.{Demand}
 use Rattle.forms.specs.Steps.{◌>>=◌}
-use Rattle.mine_instance.specs.Valid.{ArePredsOf}
-use Rattle.minelib_text.specs.FieldValues.{stated, at_most, whole_below, size_in, whole_in, first_by, all_by}
-use Rattle.minelib_text.specs.LineDemands.{number, whole, size, wholes, asked_of_preds}
-use Rattle.minelib_text.specs.PrecLines.{stands_in, all_differ, preds_of, preds_with}
+use Rattle.minelib_text.specs.FieldValues.{stated, at_most, whole_below, size_in, whole_in, first_by}
+use Rattle.minelib_text.specs.LineDemands.{number, whole, size}
 use Rattle.minelib_text.specs.SpelledFields.{StatesWhole, StatesSize}
 use Rattle.minelib_text.specs.declared.text_fault.TextKind.{TextKind}
-use Rattle.minelib_text.specs.declared.text_fault.TextKind.TheVariants.{Fields, Range, Order, Count, Twice}
-use Rattle.minelib_text.proofs.PrecBack.{stands_not, differ_again}
+use Rattle.minelib_text.specs.declared.text_fault.TextKind.TheVariants.{Range}
 use Rattle.minelib_text.proofs.ReadSteps.{size_in_ok, whole_in_ok}
 use Rattle.minelib_text.proofs.SpelledBack.{size_back, whole_back}
-use Rattle.minelib_text.proofs.ValidPreds.{others_differ, pairs_differ}
 
 -- a decimal, and then a test of its range
 pub number_told : {B : Type 0} (decimals : ℕ) (field : List ℕ) (f : ℤ → Result B TextKind) (Says : B → Type 0) → decimals ≤ 6
@@ -126,84 +119,3 @@ test_told limit field n wanted s t h =
 
 pub tested : (limit : ℕ) (field : List ℕ) (n wanted : ℕ) → StatesWhole limit field n → not (n == wanted) ≡ false → StatesWhole limit field wanted
 tested limit field n wanted s t = subst (StatesWhole limit field) (eqb-true n wanted (not-false (n == wanted) t)) s
-
--- whole numbers, behind those before them
-wholes_told : (limit : ℕ) (done : List ℕ) (fields : List (List ℕ))
-    → Follows (all_by (whole_in limit) done fields) (wholes limit fields)
-    (λ ids. (more : List ℕ) × (ids ≡ done ++ more) × AllZip (StatesWhole limit) fields more)
-wholes_told limit done [] = (tt, ([], sym (append-nil done), tt))
-wholes_told limit done (field ∷ fields) =
-    bound (whole_in limit field) _ (whole limit field) (wholes limit fields) (StatesWhole limit field) _ (whole_told limit field) (λ n is.
-    weaker (all_by (whole_in limit) (done ++ n ∷ []) fields) (wholes limit fields) _ _ (λ ids h.
-    (n ∷ h.0, h.1 ∙ append_assoc done (n ∷ []) h.0, (is, h.2)))
-    (wholes_told limit (done ++ n ∷ []) fields))
-
--- fields state one list of whole numbers
-one_list : (limit : ℕ) (fields : List (List ℕ)) (a b : List ℕ) → AllZip (StatesWhole limit) fields a → AllZip (StatesWhole limit) fields b → a ≡ b
-one_list limit [] [] [] h k = refl
-one_list limit [] [] (y ∷ b) h k = absurd k
-one_list limit [] (x ∷ a) b h k = absurd h
-one_list limit (field ∷ fields) [] b h k = absurd h
-one_list limit (field ∷ fields) (x ∷ a) [] h k = absurd k
-one_list limit (field ∷ fields) (x ∷ a) (y ∷ b) h k =
-    let first = one_whole limit field x y h.0 k.0 in
-    let rest = one_list limit fields a b h.1 k.1 in
-    cc
-
-all_below : (limit : ℕ) (fields : List (List ℕ)) (ids : List ℕ) → AllZip (StatesWhole limit) fields ids → All (λ id. id < limit) ids
-all_below limit [] [] h = All-nil (λ id. id < limit)
-all_below limit [] (id ∷ ids) h = absurd h
-all_below limit (field ∷ fields) [] h = absurd h
-all_below limit (field ∷ fields) (id ∷ ids) h = All-cons (λ id. id < limit) id ids h.0.below (all_below limit fields ids h.1)
-
-with_told : (n own : ℕ) (id count : List ℕ) (others : List (List ℕ)) (k m : ℕ) (ids : List ℕ) → StatesWhole n id k → StatesWhole n count m
-    → AllZip (StatesWhole n) others ids
-    → Follows (preds_with own k m ids)
-    (demand Order (StatesWhole n id own) ++ demand Count (StatesWhole n count (length others))
-    ++ demand Twice ((ids : List ℕ) → AllZip (StatesWhole n) others ids → ArePredsOf own n ids)) (λ ids. Unit {0})
-with_told n own id count others k m ids is_k is_m are =
-    guarded (not (k == own)) Order (StatesWhole n id own) _ _ (λ ids. Unit {0}) (test_told n id k own is_k) (λ t1. (
-      tested n id k own is_k t1,
-      guarded (not (m == length ids)) Count (StatesWhole n count (length others)) _ _ (λ ids. Unit {0})
-          (λ t h. test_told n count m (length ids) is_m t (subst (StatesWhole n count) same h))
-          (λ t2. (
-            subst (StatesWhole n count) (sym same) (tested n count m (length ids) is_m t2),
-            guarded (stands_in ids own || not (all_differ ids)) Twice ((ids : List ℕ) → AllZip (StatesWhole n) others ids → ArePredsOf own n ids) (Ok ids) []
-                (λ ids. Unit {0}) refuted (λ t3. (kept (or_parts (stands_in ids own) (not (all_differ ids)) t3), (tt, tt))),
-          )),
-    ))
-  where
-    same : length others ≡ length ids
-    same = sym (AllZip-long (StatesWhole n) others ids are)
-
-    refuted : (stands_in ids own || not (all_differ ids)) ≡ true → ¬ ((ids : List ℕ) → AllZip (StatesWhole n) others ids → ArePredsOf own n ids)
-    refuted t h =
-        let p = h ids are in
-        let none = stands_not own ids p.others in
-        let differ = differ_again ids p.distinct in
-        absurd (neither (stands_in ids own) (all_differ ids) none differ t)
-      where
-        neither : (a b : Bool) → a ≡ false → b ≡ true → (a || not b) ≡ true → ⊥
-        neither a b x y z = cc
-
-    kept : (stands_in ids own ≡ false) × (not (all_differ ids) ≡ false) → (others_too : List ℕ) → AllZip (StatesWhole n) others others_too
-        → ArePredsOf own n others_too
-    kept tests too h = subst (ArePredsOf own n) (one_list n others ids too are h) (record {
-      below = all_below n others ids are;
-      others = others_differ own ids tests.0;
-      distinct = pairs_differ ids (not-false (all_differ ids) tests.1);
-    })
-
-pub preds_told : (n own : ℕ) (fields : List (List ℕ)) → Follows (preds_of n own fields) (asked_of_preds n own fields) (λ ids. Unit {0})
-unfolding preds_of
-preds_told n own [] = inl ((λ h. omega (arith, h)), refl)
-preds_told n own (lone ∷ []) = inl ((λ h. omega (arith, h)), refl)
-preds_told n own (id ∷ count ∷ others) =
-    guarded (nat_lt (length (id ∷ count ∷ others)) 2) Fields (2 ≤ length (id ∷ count ∷ others)) _ _ (λ ids. Unit {0})
-    (λ t h. omega (arith, ltb-true (length (id ∷ count ∷ others)) 2 t, h)) (λ t. (
-      ltb-false (length (id ∷ count ∷ others)) 2 t,
-      first_told (whole_in n) id (count ∷ others) _ (whole n id) _ (StatesWhole n id) _ (whole_told n id) (λ k is_k.
-          first_told (whole_in n) count others _ (whole n count) _ (StatesWhole n count) _ (whole_told n count) (λ m is_m.
-          bound (all_by (whole_in n) [] others) _ (wholes n others) _ _ _ (wholes_told n [] others) (λ ids h.
-          with_told n own id count others k m ids is_k is_m (subst (AllZip (StatesWhole n) others) (sym h.1) h.2)))),
-    ))

@@ -1,35 +1,20 @@
 -- Predecessors are read from their text as they are.
-use Rattle.std.proofs.Common.{◌≡◌, ◌≢◌, ℕ, suc, ◌<◌, ◌≤◌, true, false, List, [], ◌∷◌, length, arith, refl, sym, eqb, subst, inl, inr}
-use Rattle.std.specs.Prelude.{nat_lt, decimal, Ok, All, AllPairs}
+use Rattle.std.proofs.Common.{◌≡◌, ◌≢◌, ℕ, ◌<◌, ◌≤◌, true, false, List, [], ◌∷◌, length, arith, refl, sym, eqb, subst, inl, inr}
+use Rattle.std.specs.Prelude.{decimal, Ok, All, AllPairs}
 use Rattle.std.specs.List.{list_any, IsDistinct}
-use Rattle.std.proofs.lemmas.Bool.{eq-eqb, ne_eqb, le-ltb, or_cases, eqb-true}
+use Rattle.std.proofs.lemmas.Bool.{eq-eqb, ne_eqb, or_cases, eqb-true}
 use Rattle.std.proofs.lemmas.List.Elements.{All-cons, All-head, All-tail, recursion_from_All}
 use Rattle.std.proofs.lemmas.Map.Keys.{IsDistinct-from_apart}
 use Rattle.std.proofs.lemmas.Map.Steps.{length-le_from_distinct_below}
 use Rattle.mine_instance.specs.Valid.{ArePredsOf, ArePreds}
-use Rattle.minelib_text.specs.FieldValues.{whole_in}
 use Rattle.minelib_text.specs.Lines.{text_of, lines_from}
-use Rattle.minelib_text.specs.PrecLines.{stands_in, all_differ, PrecDraftView, no_lists, preds_of, admit_preds, preds_in}
+use Rattle.minelib_text.specs.PrecLines.{PrecDraftView, no_lists, preds_of, admit_preds, preds_in}
 use Rattle.minelib_text.specs.Written.{prec_fields}
 use Rattle.minelib_text.proofs.LinesBack.{AdmitsEach, items_admitted, text_read}
-use Rattle.minelib_text.proofs.NumbersBack.{whole_field, whole_again, map_fields, map_again}
+use Rattle.minelib_text.proofs.NumbersBack.{whole_field, map_fields}
 use Rattle.minelib_text.proofs.Places.{is_place, stands_there}
 use Rattle.minelib_text.proofs.PlainText.{AreFields, fields_again, fields_line}
-
-pub stands_not : (own : ℕ) (ids : List ℕ) → All (λ id. id ≢ own) ids → stands_in ids own ≡ false
-stands_not own [] h = refl
-stands_not own (id ∷ ids) h =
-    rw (ne_eqb id own (All-head (λ id. id ≢ own) id ids h), stands_not own ids (All-tail (λ id. id ≢ own) id ids h)) refl
-
-pairs_tail : (id : ℕ) (ids : List ℕ) → AllPairs (λ id other. id ≢ other) (id ∷ ids) → AllPairs (λ id other. id ≢ other) ids
-pairs_tail id ids h = λ i j d before within. h (suc i) (suc j) d (omega arith) (omega arith)
-
-pairs_head : (id : ℕ) (ids : List ℕ) → AllPairs (λ id other. id ≢ other) (id ∷ ids) → All (λ other. other ≢ id) ids
-pairs_head id ids h = λ k d within e. h 0 (suc k) d (omega arith) (omega arith) (sym e)
-
-pub differ_again : (ids : List ℕ) → AllPairs (λ id other. id ≢ other) ids → all_differ ids ≡ true
-differ_again [] h = refl
-differ_again (id ∷ ids) h = rw (stands_not id ids (pairs_head id ids h), differ_again ids (pairs_tail id ids h)) refl
+use Rattle.minelib_text.proofs.PrecLineFacts.{preds_back, preds_written, written_spelled}
 
 distinct_cons : (id : ℕ) (ids : List ℕ) → All (λ other. other ≢ id) ids → IsDistinct eqb ids → IsDistinct eqb (id ∷ ids)
 unfolding IsDistinct
@@ -56,25 +41,14 @@ fewer own n ids below h =
     )
 
 preds_again : (own n : ℕ) (ids : List ℕ) → n ≤ 64000000 → own < n → ArePredsOf own n ids → preds_of n own (prec_fields own ids) ≡ Ok ids
-unfolding preds_of
-preds_again own n ids few below h =
-    let width : nat_lt (length (prec_fields own ids)) 2 ≡ false = le-ltb _ 2 (omega arith) in
-    rw (
-      width,
-      whole_again n own below (omega arith),
-      whole_again n (length ids) (fewer own n ids below h) (omega arith),
-      map_again (λ id. id < n) decimal (whole_in n) (λ id low. whole_again n id low (omega arith)) [] ids h.below,
-      eq-eqb own own refl,
-      eq-eqb (length ids) (length ids) refl,
-      stands_not own ids h.others,
-      differ_again ids h.distinct,
-    ) refl
+preds_again own n ids few low h = preds_back n own (prec_fields own ids) ids (written_spelled n own ids few low (fewer own n ids low h) h)
 
 preds_fields : (own n : ℕ) (ids : List ℕ) → n ≤ 64000000 → own < n → ArePredsOf own n ids → AreFields (prec_fields own ids)
 preds_fields own n ids few below h =
     let id = whole_field own (omega arith) in
     let number = whole_field (length ids) (omega (arith, fewer own n ids below h)) in
-    record { some = omega arith; each = (id, (number, map_fields (λ id. id < n) decimal (λ id low. whole_field id (omega arith)) ids h.below)) }
+    subst AreFields (sym (preds_written own ids))
+    (record { some = omega arith; each = (id, (number, map_fields (λ id. id < n) decimal (λ id low. whole_field id (omega arith)) ids h.below)) })
 
 -- a precedence file of n blocks, of which these lists were read
 abbrev pub draft_of : ℕ → List (List ℕ) → PrecDraftView

@@ -1,12 +1,11 @@
 -- Lines that spell blocks and predecessors are read as these.
-use Rattle.std.specs.Prelude.{◌≡◌, ℕ, ◌+◌, ◌*◌, ◌/◌, ◌^◌, ◌≤◌, ◌==◌, nat_lt, true, false, List, [], ◌∷◌, ◌++◌, length, pos, Result, Ok}
+use Rattle.std.specs.Prelude.{◌≡◌, ℕ, ◌+◌, ◌*◌, ◌/◌, ◌^◌, ◌≤◌, ◌==◌, true, List, [], ◌∷◌, ◌++◌, length, pos, Result, Ok}
 use Rattle.std.proofs.Common.{refl, sym, ◌∙◌, ap, subst, arith, append-nil, append_assoc, length-append, eq-eqb, lt-ltb, le-ltb}
-use Rattle.std.specs.List.{AllZip}
 use Rattle.pit_units.proofs.Standing.{stands_read}
 use Rattle.forms.specs.Steps.{◌>>=◌}
 use Rattle.pit_model.specs.declared.block.Block.{Block}
 use Rattle.minelib_text.specs.BlockLines.{block_of, admit_block, blocks_in}
-use Rattle.minelib_text.specs.FieldValues.{whole_in, size_in, all_by}
+use Rattle.minelib_text.specs.FieldValues.{whole_in, size_in}
 use Rattle.minelib_text.specs.PrecLines.{preds_of, admit_preds, finish_preds, preds_in}
 use Rattle.minelib_text.specs.Reading.{at_line, read_lines}
 use Rattle.minelib_text.specs.SpelledBlocks.{IsBlockLine, AreBlockLines}
@@ -15,7 +14,8 @@ use Rattle.minelib_text.specs.SpelledPrec.{IsPredsLine, ArePredsLines}
 use Rattle.minelib_text.specs.TextLines.{Line, fields_of, lines_in, end_of}
 use Rattle.minelib_text.specs.declared.text_fault.TextKind.{TextKind}
 use Rattle.minelib_text.proofs.BlockLineFacts.{block_back}
-use Rattle.minelib_text.proofs.PrecBack.{stands_not, differ_again, draft_of}
+use Rattle.minelib_text.proofs.PrecBack.{draft_of}
+use Rattle.minelib_text.proofs.PrecLineFacts.{preds_back}
 
 pub whole_back : (limit : ℕ) (field : List ℕ) (n : ℕ) → StatesWhole limit field n → whole_in limit field ≡ Ok n
 unfolding whole_in
@@ -45,27 +45,6 @@ blocks_from n (line ∷ lines) done (b ∷ blocks) e h =
 
 pub blocks_back : (text : List ℕ) (blocks : List Block) → AreBlockLines 0 (lines_in text) blocks → blocks_in text ≡ Ok blocks
 blocks_back text blocks h = blocks_from 0 (lines_in text) [] blocks refl h
-
-all_back : (n : ℕ) (done : List ℕ) (fields : List (List ℕ)) (ids : List ℕ) → AllZip (StatesWhole n) fields ids → all_by (whole_in n) done fields ≡ Ok (done ++ ids)
-all_back n done [] [] h = ap Ok (sym (append-nil done))
-all_back n done [] (id ∷ ids) h = absurd h
-all_back n done (field ∷ fields) [] h = absurd h
-all_back n done (field ∷ fields) (id ∷ ids) h =
-    ap (λ r. r >>= λ x. all_by (whole_in n) (done ++ x ∷ []) fields) (whole_back n field id h.0)
-    ∙ all_back n (done ++ id ∷ []) fields ids h.1 ∙ ap Ok (append_assoc done (id ∷ []) ids)
-
-three_back : (n own : ℕ) (ids : List ℕ) (id count : List ℕ) (others : List (List ℕ)) → whole_in n id ≡ Ok own → whole_in n count ≡ Ok (length ids)
-    → all_by (whole_in n) [] others ≡ Ok ids → IsPredsLine n own (id ∷ count ∷ others) ids → preds_of n own (id ∷ count ∷ others) ≡ Ok ids
-unfolding preds_of
-three_back n own ids id count others e1 e2 e3 h =
-    let width : nat_lt (length (id ∷ count ∷ others)) 2 ≡ false = le-ltb _ 2 (omega arith) in
-    rw (width, e1, e2, e3, eq-eqb own own refl, eq-eqb (length ids) (length ids) refl, stands_not own ids h.are_preds.others, differ_again ids h.are_preds.distinct) refl
-
-pub preds_back : (n own : ℕ) (fields : List (List ℕ)) (ids : List ℕ) → IsPredsLine n own fields ids → preds_of n own fields ≡ Ok ids
-preds_back n own fields ids h =
-    ap (preds_of n own) h.here
-    ∙ three_back n own ids h.id h.count h.others (whole_back n h.id own h.states_id) (whole_back n h.count (length ids) h.states_count)
-    (all_back n [] h.others ids h.states_each) (subst (λ fs. IsPredsLine n own fs ids) h.here h)
 
 preds_from : (n own : ℕ) (lines : List Line) (done lists : List (List ℕ)) → own ≡ length done → ArePredsLines n own lines lists
     → read_lines admit_preds (draft_of n done) lines ≡ Ok (draft_of n (done ++ lists))

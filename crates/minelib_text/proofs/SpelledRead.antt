@@ -12,7 +12,7 @@ use Rattle.minelib_text.specs.declared.text_fault.TextKind.TheVariants.{Missing}
 use Rattle.minelib_text.proofs.ItemLines.{line_more}
 use Rattle.minelib_text.proofs.ReadSteps.{bind_then, then_ok, same_ok, kept_with_lines}
 use Rattle.minelib_text.proofs.BlockLineFacts.{block_line}
-use Rattle.minelib_text.proofs.ValidPreds.{preds_line}
+use Rattle.minelib_text.proofs.PrecLineFacts.{preds_line}
 
 block_more : (done : List Line) (blocks : List Block) (line : Line) (next : List Block) → admit_block blocks line.text ≡ Ok next
     → AreBlockLines 0 done blocks → AreBlockLines 0 (done ++ line ∷ []) next

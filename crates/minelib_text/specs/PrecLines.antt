@@ -1,13 +1,15 @@
 -- The predecessors that a precedence file states.
-use Rattle.std.specs.Prelude.{ℕ, ◌==◌, ◌&&◌, ◌||◌, nat_lt, not, Bool, true, List, [], ◌∷◌, ◌++◌, length, Result, Ok, Err, if◌then◌else◌}
+use Rattle.std.specs.Prelude.{ℕ, ◌/◌, ◌^◌, ◌==◌, ◌&&◌, ◌||◌, not, Bool, true, List, [], ◌∷◌, ◌++◌, length, map, drop, unsigned_abs, Result, Ok, Err, if◌then◌else◌}
 use Rattle.std.specs.List.{list_any}
+use Rattle.forms.specs.Form.{Value, millionths, read, whole_at}
 use Rattle.forms.specs.Steps.{◌>>=◌}
-use Rattle.minelib_text.specs.FieldValues.{first_by, all_by, whole_in}
+use Rattle.minelib_text.specs.LineKinds.{text_kind}
 use Rattle.minelib_text.specs.Reading.{read_lines}
+use Rattle.minelib_text.specs.SpelledPrec.{preds_form}
 use Rattle.minelib_text.specs.TextLines.{fields_of, lines_in, end_of}
 use Rattle.minelib_text.specs.declared.text_fault.LineFault.{LineFault}
 use Rattle.minelib_text.specs.declared.text_fault.TextKind.{TextKind}
-use Rattle.minelib_text.specs.declared.text_fault.TextKind.TheVariants.{Fields, Order, Count, Twice, Missing}
+use Rattle.minelib_text.specs.declared.text_fault.TextKind.TheVariants.{Order, Count, Twice, Missing}
 
 -- the number stands in the list
 abbrev pub stands_in : List ℕ → ℕ → Bool
@@ -35,14 +37,18 @@ preds_with own id stated ids =
     else (if stands_in ids own || not (all_differ ids) then Err Twice
     else Ok ids))
 
--- `id k p1 .. pk` of n blocks, where so many lines stand before: the predecessors in any order, none twice and none the block itself
+-- the whole number of a value
+abbrev pub whole_of : Value → ℕ
+whole_of value = unsigned_abs (millionths value) / 10 ^ 6
+
+-- the predecessors of the values of a line, where so many lines stand before
+unfoldable pub preds_said : ℕ → List Value → Result (List ℕ) TextKind
+preds_said before values =
+    preds_with before (whole_at values 0) (whole_at values 1) (map whole_of (drop 2 values))
+
+-- `id k p1 .. pk` of n blocks: the predecessors in any order, none twice and none the block itself
 unfoldable pub preds_of : ℕ → ℕ → List (List ℕ) → Result (List ℕ) TextKind
-preds_of n before fields =
-    if nat_lt (length fields) 2 then Err Fields else do
-      id ← first_by (whole_in n) fields
-      stated ← first_by (whole_in n) id.1
-      ids ← all_by (whole_in n) [] stated.1
-      preds_with before id.0 stated.0 ids
+preds_of n before fields = read text_kind (preds_form n fields) fields >>= preds_said before
 
 -- a line of the file, after those so far
 abbrev pub admit_preds : PrecDraftView → List ℕ → Result PrecDraftView TextKind

@@ -1,22 +1,39 @@
--- How the lines of a precedence file spell the predecessors.
-use Rattle.std.specs.Prelude.{◌≡◌, ℕ, List, ◌∷◌, length}
-use Rattle.std.specs.List.{AllZip}
+-- The lines of a precedence file: their form, the predecessors that they spell, and what is asked
+-- of each.
+use Rattle.std.specs.Prelude.{ℕ, List, [], ◌∷◌, ◌++◌, length, map, drop, slice_index_or}
+use Rattle.forms.specs.Demands.{Demand, demand}
+use Rattle.forms.specs.Form.{Field, Value, Says, Spell, asked, below, whole}
 use Rattle.mine_instance.specs.Valid.{ArePredsOf}
-use Rattle.minelib_text.specs.SpelledFields.{StatesWhole}
+use Rattle.minelib_text.specs.LineKinds.{text_kind}
 use Rattle.minelib_text.specs.SpelledLines.{AreLines}
 use Rattle.minelib_text.specs.TextLines.{Line, fields_of}
+use Rattle.minelib_text.specs.declared.text_fault.TextKind.{TextKind}
+use Rattle.minelib_text.specs.declared.text_fault.TextKind.TheVariants.{Order, Count, Twice}
 
--- `id k p1 .. pk` of n blocks: the block's identifier, the number of its predecessors, and each of them
-pub record IsPredsLine (n own : ℕ) (fields : List (List ℕ)) (ids : List ℕ) : Type 0 where
-  pub id : List ℕ
-  pub count : List ℕ
-  pub others : List (List ℕ)
-  pub here : fields ≡ id ∷ count ∷ others
-  pub states_id : StatesWhole n id own
-  pub states_count : StatesWhole n count (length ids)
-  pub states_each : AllZip (StatesWhole n) others ids
-  pub are_preds : ArePredsOf own n ids
+-- `id k p1 .. pk` of n blocks: two fields, and as many as stand behind them
+abbrev pub preds_form : ℕ → List (List ℕ) → List Field
+preds_form n fields = below n ∷ below n ∷ map (λ field. below n) (drop 2 fields)
+
+-- the block's identifier, the number of its predecessors, and each of them
+abbrev pub preds_values : ℕ → List ℕ → List Value
+preds_values own ids = whole own ∷ whole (length ids) ∷ map whole ids
+
+abbrev pub SpellsPreds : ℕ → ℕ → List (List ℕ) → List ℕ → Type 0
+SpellsPreds n own fields ids = Spell (preds_form n fields) fields (preds_values own ids)
+
+abbrev pub IsPredsLine : ℕ → ℕ → List (List ℕ) → List ℕ → Type 0
+IsPredsLine n own fields ids = SpellsPreds n own fields ids × ArePredsOf own n ids
 
 -- one line a block of n, in order, the first of them of this block
 abbrev pub ArePredsLines : ℕ → ℕ → List Line → List (List ℕ) → Type 0
-ArePredsLines n own lines lists = AreLines (λ id line ids. IsPredsLine n id (fields_of line) ids) own lines lists
+ArePredsLines n own lines lists =
+    AreLines (λ id line ids. IsPredsLine n id (fields_of line) ids) own lines lists
+
+-- what is asked of the line of this block: its form, then its identifier, how many predecessors it
+-- counts, and that they are predecessors of the block
+abbrev pub asked_of_preds : ℕ → ℕ → List (List ℕ) → List (Demand TextKind)
+asked_of_preds n own fields =
+    asked text_kind (preds_form n fields) fields
+    ++ (demand Order (Says (below n) (slice_index_or fields 0 []) (whole own))
+    ++ demand Count (Says (below n) (slice_index_or fields 1 []) (whole (length (drop 2 fields))))
+    ++ demand Twice ((ids : List ℕ) → SpellsPreds n own fields ids → ArePredsOf own n ids))

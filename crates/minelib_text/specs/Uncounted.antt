@@ -1,12 +1,13 @@
 -- Lines whose fields are read before they are counted. Only proofs and private contracts need it.
-use Rattle.std.specs.Prelude.{◌≡◌, ℕ, ◌*◌, ◌/◌, ◌==◌, not, Bool, List, ◌∷◌, length, ℤ, Result, Ok, Err, if◌then◌else◌}
+use Rattle.std.specs.Prelude.{◌≡◌, ℕ, ◌*◌, ◌/◌, ◌==◌, not, Bool, List, [], ◌∷◌, length, ℤ, Result, Ok, Err, if◌then◌else◌}
 use Rattle.mine_instance.specs.declared.coef.Coef.{Coef}
 use Rattle.forms.specs.Steps.{◌>>=◌}
 use Rattle.pit_model.specs.declared.block.Block.{Block}
 use Rattle.pit_units.specs.Decimal.{decimal_of}
 use Rattle.minelib_text.specs.BlockLines.{block_with, in_range}
-use Rattle.minelib_text.specs.FieldValues.{first_by, decimal_in, size_in, whole_in}
+use Rattle.minelib_text.specs.FieldValues.{all_by, first_by, decimal_in, size_in, whole_in}
 use Rattle.minelib_text.specs.ModelLines.{destination_in}
+use Rattle.minelib_text.specs.PrecLines.{preds_with}
 use Rattle.minelib_text.specs.TextLines.{fields_of}
 use Rattle.minelib_text.specs.declared.model_key.Problem.{Problem}
 use Rattle.minelib_text.specs.declared.read_fault.LineError.{LineError}
@@ -38,6 +39,14 @@ block_alone before fields = do
   if not (length zone.1 == 0) then Err Fields else (
       if not (id.0 == before) then Err Order
       else in_range (block_with x.0 y.0 z.0 (tonnes.0 / 1000) grade.0 zone.0))
+
+-- the predecessors of a line of two fields or more
+unfoldable pub preds_alone : ℕ → ℕ → List (List ℕ) → Result (List ℕ) TextKind
+preds_alone n before fields = do
+  id ← first_by (whole_in n) fields
+  stated ← first_by (whole_in n) id.1
+  ids ← all_by (whole_in n) [] stated.1
+  preds_with before id.0 stated.0 ids
 
 -- the coefficient of a line of as many fields as are read
 unfoldable pub coef_alone : Problem → ℕ → ℕ → ℕ → List (List ℕ) → Result Coef TextKind

@@ -13,6 +13,7 @@ use Rattle.mine_instance.specs.declared.cpit.CpitCoef.{CpitCoef}
 use Rattle.mine_instance.specs.declared.instance.Instance.{Instance}
 use Rattle.minelib_text.specs.Lines.{text_of, line_of, lines_from}
 use Rattle.minelib_text.specs.SpelledBlocks.{block_values}
+use Rattle.minelib_text.specs.SpelledPrec.{preds_values}
 
 -- `id x y z tonnes grade zone`
 abbrev pub block_fields : ℕ → Block → List (List ℕ)
@@ -20,7 +21,7 @@ block_fields n b = written (block_values n b)
 
 -- `id k p1 .. pk`
 abbrev pub prec_fields : ℕ → List ℕ → List (List ℕ)
-prec_fields n ids = decimal n ∷ decimal (length ids) ∷ map decimal ids
+prec_fields n ids = written (preds_values n ids)
 
 -- `b v`, the greatest of the block's values
 abbrev pub greatest_fields : ℕ → List ℤ → List (List ℕ)

@@ -6,7 +6,7 @@ ghost use Rattle.minelib_text.specs.Marks.{AreClear};
 ghost use Rattle.minelib_text.specs.PrecLines.{admit_preds, finish_preds, no_lists, preds_in, preds_of, stands_in};
 ghost use Rattle.minelib_text.specs.Reading.{Admits, Gives};
 ghost use Rattle.minelib_text.specs.TextLines.{fields_of};
-ghost use Rattle.minelib_text.specs.Uncounted.{AdmitsCounted};
+ghost use Rattle.minelib_text.specs.Uncounted.{preds_alone};
 ghost use Rattle.pit_model.specs.declared.ranges.TheConstants.{MAX_BLOCKS};
 
 use crate::marks::all_differ;
@@ -59,7 +59,7 @@ impl Admit for PrecDraft {
 }
 
 // The predecessors of a line, of so many blocks, where so many lines stand before.
-#[tactic(auto, unfolding(crate::specs::PrecLines::preds_of))]
+#[tactic(auto, using(crate::proofs::CountedLater::preds_counted, crate::proofs::CountedLater::preds_lacking, crate::proofs::CountedLater::preds_same))]
 fn preds_of(
     line: &[u8],
     blocks: usize,
@@ -84,7 +84,7 @@ fn preds_of(
 }
 
 // The predecessors of a line of two fields or more.
-#[tactic(auto, unfolding(crate::specs::PrecLines::preds_of), using(crate::proofs::CountedLater::two_taken))]
+#[tactic(auto, unfolding(crate::specs::Uncounted::preds_alone))]
 fn preds_alone(
     line: &[u8],
     blocks: usize,
@@ -95,7 +95,7 @@ fn preds_alone(
     requires few { blocks ≤ MAX_BLOCKS }
     requires places { vec_len marks.old ≡ blocks }
     requires clear { AreClear marks.old.items }
-    ensures value { AdmitsCounted (nat_lt (length (fields_of line.now)) 2 ≡ false) ids.new.items result (preds_of blocks before (fields_of line.now)) }
+    ensures value { Admits ids.new.items result (preds_alone blocks before (fields_of line.now)) }
     ensures places { vec_len marks.new ≡ blocks }
     ensures clear { AreClear marks.new.items }
 {
