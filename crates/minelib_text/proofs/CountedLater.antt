@@ -1,94 +1,24 @@
 -- A line of which all fields are read, and none is left, has as many fields as it has to have.
-use Rattle.std.specs.Prelude.{◌≡◌, ℕ, suc, ◌*◌, ◌/◌, ◌==◌, nat_lt, not, Bool, true, false, List, [], ◌∷◌, length, map, pos, Result, Ok, Err, if◌then◌else◌}
+use Rattle.std.specs.Prelude.{◌≡◌, ℕ, ◌*◌, ◌/◌, ◌==◌, nat_lt, not, true, false, List, [], ◌∷◌, length, map, pos, Ok, Err, if◌then◌else◌}
 use Rattle.std.proofs.Common.{refl, sym, ◌∙◌, ap, arith}
-use Rattle.std.proofs.lemmas.Bool.{eqb-true, ltb-true, not-false}
-use Rattle.mine_instance.specs.declared.coef.Coef.{Coef}
+use Rattle.std.proofs.lemmas.Bool.{ltb-true}
 use Rattle.forms.proofs.FormFacts.{counted, counted_later, fault_later}
 use Rattle.forms.proofs.NumberFields.{quotient}
 use Rattle.forms.specs.Form.{Millionths, below, read_fields, up_to, whole}
 use Rattle.forms.specs.Steps.{◌>>=◌}
 use Rattle.pit_model.specs.declared.block.Block.{Block}
 use Rattle.minelib_text.specs.BlockLines.{block_of, block_said, block_with, in_range}
-use Rattle.minelib_text.specs.FieldValues.{first_by, decimal_in, size_in, whole_in}
+use Rattle.minelib_text.specs.FieldValues.{size_in, whole_in}
 use Rattle.minelib_text.specs.LineKinds.{text_kind}
-use Rattle.minelib_text.specs.ModelLines.{coef_of, coef_width}
 use Rattle.minelib_text.specs.PrecLines.{preds_of, preds_said}
 use Rattle.minelib_text.specs.SpelledBlocks.{block_form}
 use Rattle.minelib_text.specs.SpelledPrec.{preds_form}
-use Rattle.minelib_text.specs.Uncounted.{block_alone, coef_alone, kind_by, preds_alone}
-use Rattle.minelib_text.specs.declared.model_key.Problem.{Problem}
-use Rattle.minelib_text.specs.declared.model_key.Problem.TheVariants.{Pcpsp, Cpit}
+use Rattle.minelib_text.specs.Uncounted.{block_alone, kind_by, preds_alone}
 use Rattle.minelib_text.specs.declared.text_fault.TextKind.{TextKind}
 use Rattle.minelib_text.specs.declared.text_fault.TextKind.TheVariants.{Fields, Order}
 use Rattle.minelib_text.proofs.FieldSteps.{first_step, last_step, none_step, said_of, size_reads, step, whole_reads, wholes_step}
 use Rattle.minelib_text.proofs.PrecLineFacts.{said_is}
-use Rattle.minelib_text.proofs.ReadSteps.{first_then, guard_ok}
 use Rattle.pit_model.specs.declared.ranges.TheConstants.{GRID_CELLS, MAX_BLOCKS, MAX_GRADE, MAX_KG, MAX_ZONES}
-
--- two continuations that agree on what is left of as many fields
-agree_on : {A B : Type 0} (r : Result A TextKind) (fields : List (List ℕ)) (next other : A × List (List ℕ) → Result B TextKind)
-    → ((x : A) → next (x, fields) ≡ other (x, fields)) → ((r >>= λ x. Ok (x, fields)) >>= next) ≡ ((r >>= λ x. Ok (x, fields)) >>= other)
-agree_on (Ok x) fields next other same = same x
-agree_on (Err kind) fields next other same = refl
-
-agree : {A B : Type 0} (rule : List ℕ → Result A TextKind) (n : ℕ) (fields : List (List ℕ)) (next other : A × List (List ℕ) → Result B TextKind)
-    → length fields ≡ suc n → ((x : A) (rest : List (List ℕ)) → length rest ≡ n → next (x, rest) ≡ other (x, rest))
-    → (first_by rule fields >>= next) ≡ (first_by rule fields >>= other)
-agree rule n [] next other count same = absurd (omega (arith, count))
-agree rule n (field ∷ fields) next other count same = agree_on (rule field) fields next other (λ x. same x fields (omega (arith, count)))
-
--- a step takes one field
-one_more : {A B : Type 0} (rule : List ℕ → Result A TextKind) (n : ℕ) (fields : List (List ℕ)) (next : A × List (List ℕ) → Result B TextKind) (y : B)
-    → (first_by rule fields >>= next) ≡ Ok y → ((x : A) (rest : List (List ℕ)) → next (x, rest) ≡ Ok y → length rest ≡ n) → length fields ≡ suc n
-one_more rule n fields next y e count =
-    first_then rule fields next y e (λ field rest x cut _ goes_on. ap length cut ∙ ap suc (count x rest goes_on))
-
-pub none_left : {B : Type 0} (rest : List (List ℕ)) (r : Result B TextKind) (y : B) → (if not (length rest == 0) then Err Fields else r) ≡ Ok y → length rest ≡ 0
-none_left rest r y e = let g = guard_ok (not (length rest == 0)) Fields r y e in eqb-true (length rest) 0 (not-false (length rest == 0) g.0)
-
--- coefficients
-coef_same : (problem : Problem) (n destinations resources : ℕ) (fields : List (List ℕ)) → length fields ≡ coef_width problem
-    → coef_of problem n destinations resources fields ≡ coef_alone problem n destinations resources fields
-unfolding coef_alone
-coef_same Pcpsp n destinations resources fields count = rw count (
-    agree (whole_in n) 3 fields _ _ count (λ b rest1 count1.
-    agree (whole_in destinations) 2 rest1 _ _ count1 (λ d rest2 count2.
-    agree (whole_in resources) 1 rest2 _ _ count2 (λ r rest3 count3.
-    agree decimal_in 0 rest3 _ _ count3 (λ v rest4 count4. rw count4 refl)))))
-coef_same Cpit n destinations resources fields count = rw count (
-    agree (whole_in n) 2 fields _ _ count (λ b rest1 count1.
-    agree (whole_in resources) 1 rest1 _ _ count1 (λ r rest3 count3.
-    agree decimal_in 0 rest3 _ _ count3 (λ v rest4 count4. rw count4 refl))))
-
-coef_width_met : (problem : Problem) (n destinations resources : ℕ) (fields : List (List ℕ)) (coef : Coef)
-    → coef_alone problem n destinations resources fields ≡ Ok coef → length fields ≡ coef_width problem
-unfolding coef_alone
-coef_width_met Pcpsp n destinations resources fields coef e =
-    one_more (whole_in n) 3 fields _ coef e (λ b rest1 e1.
-    one_more (whole_in destinations) 2 rest1 _ coef e1 (λ d rest2 e2.
-    one_more (whole_in resources) 1 rest2 _ coef e2 (λ r rest3 e3.
-    one_more decimal_in 0 rest3 _ coef e3 (λ v rest4 e4. none_left rest4 _ coef e4))))
-coef_width_met Cpit n destinations resources fields coef e =
-    one_more (whole_in n) 2 fields _ coef e (λ b rest1 e1.
-    one_more (whole_in resources) 1 rest1 _ coef e1 (λ r rest3 e3.
-    one_more decimal_in 0 rest3 _ coef e3 (λ v rest4 e4. none_left rest4 _ coef e4)))
-
-pub coef_counted : (problem : Problem) (n destinations resources : ℕ) (fields : List (List ℕ)) (coef : Coef)
-    → coef_alone problem n destinations resources fields ≡ Ok coef → coef_of problem n destinations resources fields ≡ Ok coef
-coef_counted problem n destinations resources fields coef e =
-    coef_same problem n destinations resources fields (coef_width_met problem n destinations resources fields coef e) ∙ e
-
-by_count : {A : Type 0} (n : ℕ) (fields : List (List ℕ)) (of alone : Result A TextKind) (kind : TextKind) (counted : Bool)
-    → counted ≡ (length fields == n) → (counted ≡ false → of ≡ Err Fields) → (length fields ≡ n → of ≡ alone) → alone ≡ Err kind
-    → of ≡ Err (kind_by (length fields == n) kind)
-by_count n fields of alone kind true test other same e = rw (sym test) (same (eqb-true (length fields) n (sym test)) ∙ e)
-by_count n fields of alone kind false test other same e = rw (sym test) (other refl)
-
-pub coef_kind : (problem : Problem) (n destinations resources : ℕ) (fields : List (List ℕ)) (kind : TextKind)
-    → coef_alone problem n destinations resources fields ≡ Err kind
-    → coef_of problem n destinations resources fields ≡ Err (kind_by (length fields == coef_width problem) kind)
-coef_kind problem n destinations resources fields kind e =
-    by_count (coef_width problem) fields _ _ kind (length fields == coef_width problem) refl (λ no. rw no refl) (coef_same problem n destinations resources fields) e
 
 -- blocks
 seven_end : (before id x y z tonnes grade zone : ℕ)

@@ -13,11 +13,10 @@ use Rattle.minelib_text.specs.Kept.{IsDecimal, IsKeptCpit}
 use Rattle.minelib_text.specs.Lines.{line_of, lines_from}
 use Rattle.minelib_text.specs.ModelLines.{model_in}
 use Rattle.minelib_text.specs.StatedModel.{alone, at_only_destination}
-use Rattle.minelib_text.specs.Written.{text_cpit, value_fields}
+use Rattle.minelib_text.specs.Written.{text_cpit, coef_fields, value_fields}
 use Rattle.minelib_text.specs.declared.model_key.Problem.TheVariants.{Cpit}
 use Rattle.minelib_text.specs.declared.model_key.Section.TheVariants.{Limits}
 use Rattle.minelib_text.proofs.NumbersBack.{from_zero}
-use Rattle.minelib_text.proofs.ItemsBack.{coef_text}
 use Rattle.minelib_text.proofs.KeysBack.{draft, full_header, cpit_header}
 use Rattle.minelib_text.proofs.ModelBack.{IsModel, model_again}
 
@@ -72,7 +71,7 @@ unfolding text_cpit
 cpit_again c is kept =
     let header = cpit_header (length c.values) c.name c.periods c.resources c.rate is.few kept.name is.horizon in
     let read = model_again _ _ c.name _ _ _ c.rate _ _ _ (model_of c is kept) _ header in
-    rw (lines_from-map value_fields alone 0 c.values, lines_from-map (coef_text Cpit) at_only_destination 0 c.coefs) at read
+    rw (lines_from-map value_fields alone 0 c.values, lines_from-map (coef_fields Cpit) at_only_destination 0 c.coefs) at read
 
 pub written_cpit_again : (c : CpitParts) (n : ℕ) → IsCpit c → IsKeptCpit c → n ≡ length c.values → cpit_denoted n (text_cpit c) ≡ Ok c
 unfolding cpit_denoted

@@ -12,13 +12,10 @@ use Rattle.pit_model.specs.Plan.{is_turned}
 use Rattle.pit_model.specs.declared.limit.Bound.{Bound}
 use Rattle.pit_model.specs.declared.limit.Bound.TheVariants.{AtMost, AtLeast, Between}
 use Rattle.pit_model.specs.declared.limit.Limit.{Limit}
-use Rattle.mine_instance.specs.declared.coef.Coef.{Coef}
 use Rattle.minelib_text.specs.FieldValues.{first_by, all_by, whole_in, decimal_in}
-use Rattle.minelib_text.specs.ModelLines.{values_of, coef_of, limit_of, limit_width, bound_in, interval_in}
+use Rattle.minelib_text.specs.ModelLines.{values_of, limit_of, limit_width, bound_in, interval_in}
 use Rattle.minelib_text.specs.SpelledFields.{StatesWhole}
-use Rattle.minelib_text.specs.SpelledItems.{IsValuesLine, IsPcpspCoefLine, IsCpitCoefLine, IsCoefLine, StatesBound, IsLimitLine}
-use Rattle.minelib_text.specs.declared.model_key.Problem.{Problem}
-use Rattle.minelib_text.specs.declared.model_key.Problem.TheVariants.{Pcpsp, Cpit}
+use Rattle.minelib_text.specs.SpelledItems.{IsValuesLine, StatesBound, IsLimitLine}
 use Rattle.minelib_text.specs.declared.text_fault.TextKind.{TextKind}
 use Rattle.minelib_text.specs.declared.text_fault.TextKind.TheVariants.{Fields, Order, Name}
 use Rattle.minelib_text.proofs.ReadSteps.{bind_then, guard_then, first_then, same_ok, none_behind, counted, all_ok, whole_in_ok, decimal_in_ok}
@@ -48,43 +45,6 @@ values_line n destinations before fields values e =
       states_each = zip;
       one_each = omega (arith, counted (destinations + 1) fields width, ap length here, AllZip-long (StandsFor 6) rest values zip);
     }))))
-
-pub coef_line : (problem : Problem) (n destinations resources : ℕ) (fields : List (List ℕ)) (c : Coef)
-    → coef_of problem n destinations resources fields ≡ Ok c → IsCoefLine problem n destinations resources fields c
-coef_line Pcpsp n destinations resources fields c e =
-    guard_then (not (length fields == 4)) Fields _ c e (λ four e1.
-    first_then (whole_in n) fields _ c e1 (λ b f1 block h1 s1 e2.
-    first_then (whole_in destinations) f1 _ c e2 (λ d f2 destination h2 s2 e3.
-    first_then (whole_in resources) f2 _ c e3 (λ r f3 resource h3 s3 e4.
-    first_then decimal_in f3 _ c e4 (λ v f4 size h4 s4 e5.
-    let here : fields ≡ b ∷ d ∷ r ∷ v ∷ f4 = cc in
-    subst (IsPcpspCoefLine n destinations resources fields) (same_ok _ c e5) (record {
-      b = b;
-      d = d;
-      r = r;
-      v = v;
-      here = none_behind 4 (b ∷ d ∷ r ∷ v ∷ []) f4 fields (counted 4 fields four) here refl;
-      states_block = whole_in_ok n b block s1;
-      states_destination = whole_in_ok destinations d destination s2;
-      states_resource = whole_in_ok resources r resource s3;
-      states_size = decimal_in_ok v size s4;
-    }))))))
-coef_line Cpit n destinations resources fields c e =
-    guard_then (not (length fields == 3)) Fields _ c e (λ three e1.
-    first_then (whole_in n) fields _ c e1 (λ b f1 block h1 s1 e2.
-    first_then (whole_in resources) f1 _ c e2 (λ r f2 resource h2 s2 e3.
-    first_then decimal_in f2 _ c e3 (λ v f3 size h3 s3 e4.
-    let here : fields ≡ b ∷ r ∷ v ∷ f3 = cc in
-    subst (IsCpitCoefLine n resources fields) (same_ok _ c e4) (record {
-      b = b;
-      r = r;
-      v = v;
-      here = none_behind 3 (b ∷ r ∷ v ∷ []) f3 fields (counted 3 fields three) here refl;
-      states_block = whole_in_ok n b block s1;
-      destination = refl;
-      states_resource = whole_in_ok resources r resource s2;
-      states_size = decimal_in_ok v size s3;
-    })))))
 
 -- the one field behind a letter
 one_value : (letter : List ℕ) (fields : List (List ℕ)) (make : ℤ → Bound) (bound : Bound) → length fields ≡ 1

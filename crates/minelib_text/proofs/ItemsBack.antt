@@ -1,7 +1,9 @@
 -- The items of a model file's sections are read as they are written.
-use Rattle.std.proofs.Common.{◌≡◌, ℕ, ◌+◌, ◌<◌, ◌≤◌, List, [], ◌∷◌, length, ℤ, arith, refl, ap, eq-eqb}
+use Rattle.std.proofs.Common.{◌≡◌, ℕ, ◌+◌, ◌<◌, ◌≤◌, List, [], ◌∷◌, length, ℤ, arith, refl, eq-eqb}
 use Rattle.std.specs.Prelude.{decimal, Ok, All}
 use Rattle.std.proofs.lemmas.List.{length-map}
+use Rattle.forms.proofs.FormFacts.{spell_written}
+use Rattle.forms.specs.Form.{Fit}
 use Rattle.pit_model.specs.declared.limit.Bound.{Bound}
 use Rattle.pit_model.specs.declared.limit.Bound.TheVariants.{AtMost, AtLeast, Between}
 use Rattle.pit_model.specs.declared.limit.Limit.{Limit}
@@ -10,9 +12,12 @@ use Rattle.mine_instance.specs.declared.coef.Coef.{Coef}
 use Rattle.minelib_text.specs.FieldValues.{decimal_in}
 use Rattle.minelib_text.specs.Kept.{IsDecimal, HasDecimals}
 use Rattle.minelib_text.specs.ModelLines.{values_of, coef_of, limit_of}
+use Rattle.minelib_text.specs.SpelledItems.{HasDestination, coef_form, coef_values}
 use Rattle.minelib_text.specs.Written.{value_fields, coef_fields, limit_fields, bound_fields}
 use Rattle.minelib_text.specs.declared.model_key.Problem.{Problem}
 use Rattle.minelib_text.specs.declared.model_key.Problem.TheVariants.{Pcpsp, Cpit}
+use Rattle.minelib_text.proofs.CoefLineFacts.{coef_back, coef_fine, coef_fits, coef_plain}
+use Rattle.minelib_text.proofs.FormFields.{written_fields}
 use Rattle.minelib_text.proofs.KeysBack.{word_field}
 use Rattle.minelib_text.proofs.NumbersBack.{decimal_field, whole_field, whole_again, decimal_again, map_fields, map_again}
 use Rattle.minelib_text.proofs.PlainText.{EachField, AreFields}
@@ -32,41 +37,38 @@ pub values_fields : (before : ℕ) (values : List ℤ) → before < 64000000 →
 values_fields before values few h =
     record { some = omega arith; each = (whole_field before (omega arith), map_fields IsDecimal shortest decimal_field values h) }
 
--- `b d r v`, or `b r v` without a destination
-abbrev pub coef_text : Problem → ℕ → Coef → List (List ℕ)
-coef_text Pcpsp n c = coef_fields n c
-coef_text Cpit n c = decimal c.b ∷ decimal c.r ∷ shortest c.v ∷ []
-
 -- how many destinations there are: 1 to 8, or that which stands for none
 abbrev pub IsCount : Problem → ℕ → Type 0
 IsCount Pcpsp destinations = (1 ≤ destinations) × (destinations ≤ 8)
 IsCount Cpit destinations = destinations ≡ 1
 
+-- a coefficient's values fit: at most eight destinations, and one that is not written
+coef_fit : (p : Problem) (n destinations resources : ℕ) (c : Coef) → n ≤ 64000000 → IsCount p destinations → resources ≤ 8
+    → (c.b < n) × (c.d < destinations) × (c.r < resources) → IsDecimal c.v
+    → Fit (coef_form p n destinations resources) (coef_values p c) × HasDestination p c
+coef_fit Pcpsp n destinations resources c few count small h decimal =
+    (coef_fits Pcpsp n destinations resources c (omega arith) (omega arith) (omega arith) h decimal, tt)
+coef_fit Cpit n destinations resources c few count small h decimal =
+    (coef_fits Cpit n destinations resources c (omega arith) (omega arith) (omega arith) h decimal, omega arith)
+
 pub coef_again : (p : Problem) (n destinations resources k : ℕ) (c : Coef) → n ≤ 64000000 → IsCount p destinations → resources ≤ 8
-    → (c.b < n) × (c.d < destinations) × (c.r < resources) → IsDecimal c.v → coef_of p n destinations resources (coef_text p k c) ≡ Ok c
-coef_again Pcpsp n destinations resources k c few count small h decimal =
-    rw (
-      whole_again n c.b h.0 (omega arith),
-      whole_again destinations c.d h.1 (omega arith),
-      whole_again resources c.r h.2 (omega arith),
-      decimal_again c.v decimal,
-    ) refl
-coef_again Cpit n destinations resources k c few count small h decimal =
-    let none : 0 ≡ c.d = omega arith in
-    rw (whole_again n c.b h.0 (omega arith), whole_again resources c.r h.2 (omega arith), decimal_again c.v decimal)
-    (ap (λ d. Ok (record c { d = d })) none)
+    → (c.b < n) × (c.d < destinations) × (c.r < resources) → IsDecimal c.v → coef_of p n destinations resources (coef_fields p k c) ≡ Ok c
+coef_again p n destinations resources k c few count small h decimal =
+    let fit = coef_fit p n destinations resources c few count small h decimal in
+    coef_back p n destinations resources (coef_fields p k c) c
+    (spell_written (coef_form p n destinations resources) (coef_values p c) (coef_fine p n destinations resources) fit.0, fit.1)
 
 pub coefs_fields : (p : Problem) (n destinations resources k : ℕ) (c : Coef) → n ≤ 64000000 → IsCount p destinations → resources ≤ 8
-    → (c.b < n) × (c.d < destinations) × (c.r < resources) → IsDecimal c.v → AreFields (coef_text p k c)
-coefs_fields Pcpsp n destinations resources k c few count small h decimal =
-    let b = whole_field c.b (omega arith) in
-    let d = whole_field c.d (omega arith) in
-    let r = whole_field c.r (omega arith) in
-    record { some = omega arith; each = (b, (d, (r, (decimal_field c.v decimal, tt)))) }
-coefs_fields Cpit n destinations resources k c few count small h decimal =
-    let b = whole_field c.b (omega arith) in
-    let r = whole_field c.r (omega arith) in
-    record { some = omega arith; each = (b, (r, (decimal_field c.v decimal, tt))) }
+    → (c.b < n) × (c.d < destinations) × (c.r < resources) → IsDecimal c.v → AreFields (coef_fields p k c)
+coefs_fields p n destinations resources k c few count small h decimal = record {
+  some = some p;
+  each = written_fields (coef_form p n destinations resources) (coef_values p c) (coef_plain p n destinations resources)
+      (coef_fit p n destinations resources c few count small h decimal).0;
+}
+  where
+    some : (p : Problem) → 0 < length (coef_fields p k c)
+    some Pcpsp = omega arith
+    some Cpit = omega arith
 
 pub limit_again : (resources periods r t : ℕ) (bound : Bound) → resources ≤ 8 → periods ≤ 100 → r < resources → t < periods
     → HasDecimals bound → limit_of resources periods (decimal r ∷ decimal t ∷ bound_fields bound) ≡ Ok (record { resource = r; period = t; bound = bound })

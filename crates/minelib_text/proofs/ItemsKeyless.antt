@@ -1,7 +1,7 @@
 -- A line that is read as a line of a section has no colon.
 use Rattle.std.specs.Prelude.{◌≡◌, ℕ, ◌+◌, ◌==◌, not, false, List, [], ◌∷◌, ◌++◌, length, ℤ, Result, Ok, Err, if◌then◌else◌}
 use Rattle.std.specs.List.{AllZip, list_any}
-use Rattle.std.proofs.Common.{refl, arith}
+use Rattle.std.proofs.Common.{refl}
 use Rattle.mine_instance.specs.Order.{comes_before}
 use Rattle.mine_instance.specs.declared.coef.Coef.{Coef}
 use Rattle.forms.specs.Steps.{◌>>=◌}
@@ -11,12 +11,10 @@ use Rattle.minelib_text.specs.ModelLines.{admit_model, is_behind, is_colon, last
 use Rattle.minelib_text.specs.TextLines.{fields_of}
 use Rattle.minelib_text.specs.Uncounted.{coef_alone}
 use Rattle.minelib_text.specs.declared.model_key.HeaderKey.TheVariants as key
-use Rattle.minelib_text.specs.declared.model_key.Problem.{Problem}
-use Rattle.minelib_text.specs.declared.model_key.Problem.TheVariants.{Pcpsp, Cpit}
 use Rattle.minelib_text.specs.declared.model_key.Section.TheVariants.{Coefs}
 use Rattle.minelib_text.specs.declared.text_fault.TextKind.{TextKind}
 use Rattle.minelib_text.specs.declared.text_fault.TextKind.TheVariants.{Fields, Order}
-use Rattle.minelib_text.proofs.CountedLater.{coef_counted, none_left}
+use Rattle.minelib_text.proofs.CoefLineFacts.{coef_counted, coef_keyless, coef_line}
 use Rattle.minelib_text.proofs.Keyless.{have_colon, keyless, number_no_colon}
 use Rattle.minelib_text.proofs.ReadSteps.{all_ok, bind_then, decimal_in_ok, first_then, guard_then, whole_in_ok}
 
@@ -32,28 +30,6 @@ step_keyless : {A B : Type 0} (rule : List ℕ → Result A TextKind) → ((fiel
     → ((x : A) (rest : List (List ℕ)) → next (x, rest) ≡ Ok y → have_colon rest ≡ false) → have_colon fields ≡ false
 step_keyless rule none fields next y e behind =
     first_then rule fields next y e (λ field rest x cut here goes_on. rw (cut, none field x here, behind x rest goes_on) refl)
-
-end_keyless : (rest : List (List ℕ)) → length rest ≡ 0 → have_colon rest ≡ false
-end_keyless [] e = refl
-end_keyless (field ∷ rest) e = absurd (omega (arith, e))
-
-fields_keyless : (problem : Problem) (n destinations resources : ℕ) (fields : List (List ℕ)) (coef : Coef)
-    → coef_alone problem n destinations resources fields ≡ Ok coef → have_colon fields ≡ false
-unfolding coef_alone
-fields_keyless Pcpsp n destinations resources fields coef e =
-    step_keyless (whole_in n) (whole_keyless n) fields _ coef e (λ b rest1 e1.
-    step_keyless (whole_in destinations) (whole_keyless destinations) rest1 _ coef e1 (λ d rest2 e2.
-    step_keyless (whole_in resources) (whole_keyless resources) rest2 _ coef e2 (λ r rest3 e3.
-    step_keyless decimal_in decimal_keyless rest3 _ coef e3 (λ v rest4 e4. end_keyless rest4 (none_left rest4 _ coef e4)))))
-fields_keyless Cpit n destinations resources fields coef e =
-    step_keyless (whole_in n) (whole_keyless n) fields _ coef e (λ b rest1 e1.
-    step_keyless (whole_in resources) (whole_keyless resources) rest1 _ coef e1 (λ r rest3 e3.
-    step_keyless decimal_in decimal_keyless rest3 _ coef e3 (λ v rest4 e4. end_keyless rest4 (none_left rest4 _ coef e4))))
-
-pub coef_keyless : (problem : Problem) (n destinations resources : ℕ) (line : List ℕ) (coef : Coef)
-    → coef_alone problem n destinations resources (fields_of line) ≡ Ok coef → list_any is_colon line ≡ false
-coef_keyless problem n destinations resources line coef e =
-    keyless line (fields_keyless problem n destinations resources (fields_of line) coef e)
 
 zip_keyless : (fields : List (List ℕ)) (values : List ℤ) → AllZip (λ field z. decimal_in field ≡ Ok z) fields values → have_colon fields ≡ false
 zip_keyless [] [] h = refl
@@ -79,7 +55,9 @@ coef_admitted d line coef below e =
     let destinations = count_in d.header key.Destinations in
     let resources = count_in d.header key.Resources in
     rw (
-      coef_keyless d.problem d.blocks destinations resources line coef e,
+      keyless line (coef_keyless d.problem d.blocks destinations resources (fields_of line) coef
+          (coef_line d.problem d.blocks destinations resources (fields_of line) coef
+          (coef_counted d.problem d.blocks destinations resources (fields_of line) coef e))),
       below,
       coef_counted d.problem d.blocks destinations resources (fields_of line) coef e,
     ) refl

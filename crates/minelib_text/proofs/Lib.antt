@@ -3,6 +3,7 @@ pub mod BlockMade
 pub mod BlocksBack
 pub mod CpitBack
 pub mod CoefFacts
+pub mod CoefLineFacts
 pub mod Completed
 pub mod CountedLater
 pub mod Cuts
@@ -47,6 +48,7 @@ pub mod ValidPreds
 pub mod ValidRead
 pub mod WriteFacts
 pub mod FieldSteps
+pub mod FormFields
 pub mod FirstBadFacts
 pub mod FirstSpoiledFacts
 pub mod LinesOfText

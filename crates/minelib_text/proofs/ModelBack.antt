@@ -9,10 +9,10 @@ use Rattle.mine_instance.specs.declared.coef.Coef.{Coef}
 use Rattle.minelib_text.specs.Kept.{IsDecimal, HasDecimals}
 use Rattle.minelib_text.specs.Lines.{text_of, line_of, lines_from}
 use Rattle.minelib_text.specs.ModelLines.{ModelDraftView, admit_item, admit_model, blank_model, model_in}
-use Rattle.minelib_text.specs.Written.{value_fields, limit_fields, section_lines}
+use Rattle.minelib_text.specs.Written.{value_fields, coef_fields, limit_fields, section_lines}
 use Rattle.minelib_text.specs.declared.model_key.Problem.{Problem}
 use Rattle.minelib_text.specs.declared.model_key.Section.TheVariants.{Objective, Coefs, Limits}
-use Rattle.minelib_text.proofs.ItemsBack.{values_again, values_fields, coef_text, IsCount, coef_again, coefs_fields, limit_again, limits_fields}
+use Rattle.minelib_text.proofs.ItemsBack.{values_again, values_fields, IsCount, coef_again, coefs_fields, limit_again, limits_fields}
 use Rattle.minelib_text.proofs.KeysBack.{AreSteps, and_lines, then_lines, draft, heading, full_header, in_all, section_step, word_field}
 use Rattle.minelib_text.proofs.LinesBack.{AdmitsEach, items_admitted, text_read}
 use Rattle.minelib_text.proofs.Places.{is_place, item_there, behind_last}
@@ -55,7 +55,7 @@ module _ (p : Problem) (n : ℕ) (name : List ℕ) (periods destinations resourc
       let fields = values_fields (length done) vs (omega arith) kept in
       (fields_line _ fields, item_line _ _ fields ∙ rw (values_again n destinations (length done) vs few place as_many kept) refl)
 
-  each_coef : AdmitsEach admit_model (coef_text p)
+  each_coef : AdmitsEach admit_model (coef_fields p)
       (λ done. draft p n name (full_header periods destinations resources rate) Coefs values done []) coefs
   each_coef done c rest whole =
       let range = item_there coefs done c rest whole (λ c. (c.b < n) × (c.d < destinations) × (c.r < resources)) m.are_coefs.in_range in
@@ -87,7 +87,7 @@ module _ (p : Problem) (n : ℕ) (name : List ℕ) (periods destinations resourc
 
   sections_again :
       AreSteps (heading p n name (full_header periods destinations resources rate))
-      (section_lines (lines_from value_fields 0 values) (lines_from (coef_text p) 0 coefs) (lines_from limit_fields 0 limits))
+      (section_lines (lines_from value_fields 0 values) (lines_from (coef_fields p) 0 coefs) (lines_from limit_fields 0 limits))
       (draft p n name (full_header periods destinations resources rate) Limits values coefs limits)
   sections_again =
       let h = full_header periods destinations resources rate in
@@ -100,14 +100,14 @@ module _ (p : Problem) (n : ℕ) (name : List ℕ) (periods destinations resourc
       and_lines _ _ _ _ _
       (and_lines _ _ _ _ _
       (then_lines _ _ _ _ _ objective (items_read value_fields (λ done. draft p n name h Objective done [] []) values each_values))
-      (then_lines _ _ _ _ _ coefficients (items_read (coef_text p) (λ done. draft p n name h Coefs values done []) coefs each_coef)))
+      (then_lines _ _ _ _ _ coefficients (items_read (coef_fields p) (λ done. draft p n name h Coefs values done []) coefs each_coef)))
       (then_lines _ _ _ _ _ bounds (items_read limit_fields (λ done. draft p n name h Limits values coefs done) limits each_limit))
 
   -- behind header lines that are read
   pub model_again : (keys : List (List ℕ))
       → AreSteps (blank_model p n) keys (heading p n name (full_header periods destinations resources rate))
       → model_in p n (text_of (keys
-      ++ section_lines (lines_from value_fields 0 values) (lines_from (coef_text p) 0 coefs) (lines_from limit_fields 0 limits)))
+      ++ section_lines (lines_from value_fields 0 values) (lines_from (coef_fields p) 0 coefs) (lines_from limit_fields 0 limits)))
       ≡ Ok (draft p n name (full_header periods destinations resources rate) Limits values coefs limits)
   model_again keys header =
       let all = and_lines _ _ _ _ _ header sections_again in

@@ -21,7 +21,8 @@ use Rattle.minelib_text.specs.declared.model_key.ModelKey.TheVariants as model_k
 use Rattle.minelib_text.specs.declared.model_key.Section.{Section}
 use Rattle.minelib_text.specs.declared.model_key.Section.TheVariants.{Heading, Objective, Coefs, Limits}
 use Rattle.minelib_text.specs.declared.text_fault.TextKind.TheVariants.{Fields, Order, Twice, Key, Missing}
-use Rattle.minelib_text.proofs.ItemSteps.{values_line, coef_line, limit_line}
+use Rattle.minelib_text.proofs.CoefLineFacts.{coef_line}
+use Rattle.minelib_text.proofs.ItemSteps.{values_line, limit_line}
 use Rattle.minelib_text.proofs.KeySteps.{key_says}
 use Rattle.minelib_text.proofs.ReadSteps.{bind_then, guard_then, then_ok, same_ok, counted}
 

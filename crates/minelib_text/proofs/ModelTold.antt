@@ -10,7 +10,9 @@ use Rattle.pit_model.proofs.PlanFollows.{IsLetter}
 use Rattle.pit_model.proofs.PlanNames.{bytes_same}
 use Rattle.forms.proofs.DemandFacts.{Follows, fails_before, behind, bound, guarded}
 use Rattle.forms.specs.Demands.{Demand, demand}
+use Rattle.forms.specs.Form.{asked}
 use Rattle.forms.specs.Steps.{◌>>=◌}
+use Rattle.minelib_text.specs.LineKinds.{text_kind}
 use Rattle.pit_model.specs.Name.{is_name}
 use Rattle.pit_model.specs.Plan.{stands_before}
 use Rattle.pit_model.specs.Plan.{is_turned}
@@ -22,27 +24,26 @@ use Rattle.mine_instance.specs.Order.{comes_before}
 use Rattle.mine_instance.specs.declared.coef.Coef.{Coef}
 use Rattle.minelib_text.specs.FieldValues.{stated, whole_below, whole_in, decimal_in, first_by, all_by}
 use Rattle.minelib_text.specs.LineDemands.{whole, size, field_at}
-use Rattle.minelib_text.specs.ModelDemands.{decimal, decimals, counted, asked_of_value, asked_of_key, asked_of_values, coef_fields, asked_of_coef, width_of_limit, limit_fields, asked_of_limit, asked_of_item, asked_by, asked_of_model}
+use Rattle.minelib_text.specs.ModelDemands.{decimal, decimals, counted, asked_of_value, asked_of_key, asked_of_values, asked_of_coef, width_of_limit, limit_fields, asked_of_limit, asked_of_item, asked_by, asked_of_model}
 use Rattle.minelib_text.specs.HeaderKeys.{count_in, is_given}
 use Rattle.minelib_text.specs.ModelLines.{ModelDraftView, counted_in, is_colon, is_heading, is_next, is_ready, is_behind, key_of, last_of, type_text, number_in, only_value, admit_key, values_of, coef_of, limit_width, interval_in, bound_in, limit_of, admit_coef, admit_limit, admit_item, admit_model}
 use Rattle.minelib_text.specs.SpelledFields.{StatesWhole}
-use Rattle.minelib_text.specs.SpelledItems.{IsCoefLine, IsLimitLine}
+use Rattle.minelib_text.specs.SpelledItems.{IsCoefLine, IsLimitLine, coef_form}
 use Rattle.minelib_text.specs.TextLines.{fields_of}
 use Rattle.minelib_text.specs.declared.model_key.HeaderKey.{HeaderKey}
 use Rattle.minelib_text.specs.declared.model_key.HeaderKey.TheVariants as key
 use Rattle.minelib_text.specs.declared.model_key.ModelKey.{ModelKey}
 use Rattle.minelib_text.specs.declared.model_key.ModelKey.TheVariants as model_key
-use Rattle.minelib_text.specs.declared.model_key.Problem.{Problem}
-use Rattle.minelib_text.specs.declared.model_key.Problem.TheVariants.{Pcpsp, Cpit}
 use Rattle.minelib_text.specs.declared.model_key.Section.{Section}
 use Rattle.minelib_text.specs.declared.model_key.Section.TheVariants.{Heading, Objective, Coefs, Limits}
 use Rattle.minelib_text.specs.declared.text_fault.TextKind.{TextKind}
 use Rattle.minelib_text.specs.declared.text_fault.TextKind.TheVariants as fault
-use Rattle.minelib_text.proofs.ItemSteps.{coef_line, limit_line}
+use Rattle.minelib_text.proofs.CoefLineFacts.{coef_back, coef_told}
+use Rattle.minelib_text.proofs.ItemSteps.{limit_line}
 use Rattle.minelib_text.proofs.KeySteps.{counted_ok}
 use Rattle.minelib_text.proofs.LineTold.{number_told, below_ranged, whole_told, size_told, first_told, test_told, tested, one_whole}
 use Rattle.minelib_text.proofs.ReadSteps.{counted as right_width, decimal_in_ok}
-use Rattle.minelib_text.proofs.SpelledItemsBack.{decimal_back, coef_back, limit_back}
+use Rattle.minelib_text.proofs.SpelledItemsBack.{decimal_back, limit_back}
 use Rattle.minelib_text.proofs.SpelledModelBack.{counted_back}
 
 -- an answer changed
@@ -208,76 +209,29 @@ four (a ∷ b ∷ []) h = absurd (omega (arith, h))
 four (a ∷ b ∷ c ∷ []) h = absurd (omega (arith, h))
 four (a ∷ b ∷ c ∷ d ∷ e ∷ more) h = absurd (omega (arith, h))
 
-record AreThree (fields : List (List ℕ)) : Type 0 where
-  pub a : List ℕ
-  pub b : List ℕ
-  pub c : List ℕ
-  pub are : fields ≡ a ∷ b ∷ c ∷ []
-
-three : (fields : List (List ℕ)) → length fields ≡ 3 → AreThree fields
-three (a ∷ b ∷ c ∷ []) h = record { a = a; b = b; c = c; are = refl }
-three [] h = absurd (omega (arith, h))
-three (a ∷ []) h = absurd (omega (arith, h))
-three (a ∷ b ∷ []) h = absurd (omega (arith, h))
-three (a ∷ b ∷ c ∷ d ∷ more) h = absurd (omega (arith, h))
-
-four_told : (m : ModelDraftView) (n destinations resources : ℕ) (b d r v : List ℕ)
-    → Follows (coef_of Pcpsp n destinations resources (b ∷ d ∷ r ∷ v ∷ []))
-    (demand fault.Fields (length (b ∷ d ∷ r ∷ v ∷ []) ≡ 4) ++ whole n b ++ whole destinations d ++ whole resources r ++ decimal v) (λ c. Unit {0})
-four_told m n destinations resources b d r v =
-    behind _ (demand fault.Fields (length (b ∷ d ∷ r ∷ v ∷ []) ≡ 4)) _ (λ c. Unit {0}) (refl, tt)
-    (first_told (whole_in n) b (d ∷ r ∷ v ∷ []) _ (whole n b) _ (StatesWhole n b) _ (whole_told n b) (λ block _.
-    first_told (whole_in destinations) d (r ∷ v ∷ []) _ (whole destinations d) _ (StatesWhole destinations d) _ (whole_told destinations d) (λ destination _.
-    first_told (whole_in resources) r (v ∷ []) _ (whole resources r) _ (StatesWhole resources r) _ (whole_told resources r) (λ resource _.
-    first_told decimal_in v [] _ (decimal v) [] (StandsFor 6 v) _ (decimal_told v) (λ size _. (tt, tt))))))
-
-three_told : (m : ModelDraftView) (n resources : ℕ) (destinations : ℕ) (b r v : List ℕ)
-    → Follows (coef_of Cpit n destinations resources (b ∷ r ∷ v ∷ []))
-    (demand fault.Fields (length (b ∷ r ∷ v ∷ []) ≡ 3) ++ whole n b ++ whole resources r ++ decimal v) (λ c. Unit {0})
-three_told m n resources destinations b r v =
-    behind _ (demand fault.Fields (length (b ∷ r ∷ v ∷ []) ≡ 3)) _ (λ c. Unit {0}) (refl, tt)
-    (first_told (whole_in n) b (r ∷ v ∷ []) _ (whole n b) _ (StatesWhole n b) _ (whole_told n b) (λ block _.
-    first_told (whole_in resources) r (v ∷ []) _ (whole resources r) _ (StatesWhole resources r) _ (whole_told resources r) (λ resource _.
-    first_told decimal_in v [] _ (decimal v) [] (StandsFor 6 v) _ (decimal_told v) (λ size _. (tt, tt)))))
-
-coef_told : (p : Problem) (d : ModelDraftView) (fields : List (List ℕ))
-    → Follows (coef_of p d.blocks (count_in d.header key.Destinations) (count_in d.header key.Resources) fields) (coef_fields p d fields) (λ c. Unit {0})
-coef_told Pcpsp d fields = by (length fields == 4) refl
-  where
-    by : (t : Bool) → (length fields == 4) ≡ t
-        → Follows (coef_of Pcpsp d.blocks (count_in d.header key.Destinations) (count_in d.header key.Resources) fields) (coef_fields Pcpsp d fields) (λ c. Unit {0})
-    by true e =
-        let s = four fields (eqb-true (length fields) 4 e) in
-        subst (λ fs. Follows (coef_of Pcpsp d.blocks (count_in d.header key.Destinations) (count_in d.header key.Resources) fs) (coef_fields Pcpsp d fs) (λ c. Unit {0}))
-        (sym s.are) (four_told d d.blocks (count_in d.header key.Destinations) (count_in d.header key.Resources) s.a s.b s.c s.d)
-    by false e =
-        let never : ¬ (length fields ≡ 4) = λ h. (let same : (length fields == 4) ≡ true = eq-eqb (length fields) 4 h in absurd cc) in
-        rw e (inl (never, refl))
-coef_told Cpit d fields = by (length fields == 3) refl
-  where
-    by : (t : Bool) → (length fields == 3) ≡ t
-        → Follows (coef_of Cpit d.blocks (count_in d.header key.Destinations) (count_in d.header key.Resources) fields) (coef_fields Cpit d fields) (λ c. Unit {0})
-    by true e =
-        let s = three fields (eqb-true (length fields) 3 e) in
-        subst (λ fs. Follows (coef_of Cpit d.blocks (count_in d.header key.Destinations) (count_in d.header key.Resources) fs) (coef_fields Cpit d fs) (λ c. Unit {0}))
-        (sym s.are) (three_told d d.blocks (count_in d.header key.Resources) (count_in d.header key.Destinations) s.a s.b s.c)
-    by false e =
-        let never : ¬ (length fields ≡ 3) = λ h. (let same : (length fields == 3) ≡ true = eq-eqb (length fields) 3 h in absurd cc) in
-        rw e (inl (never, refl))
-
 admit_coef_told : (d : ModelDraftView) (fields : List (List ℕ)) → Follows (admit_coef d fields) (asked_of_coef d fields) (λ y. Unit {0})
 admit_coef_told d fields =
-    bound_is (coef_of d.problem d.blocks (count_in d.header key.Destinations) (count_in d.header key.Resources) fields) _ (coef_fields d.problem d fields) _
-    (λ c. Unit {0}) (λ y. Unit {0}) (coef_told d.problem d fields) (λ c is.
+    bound (coef_of d.problem n destinations resources fields) _ (asked text_kind (coef_form d.problem n destinations resources) fields) _
+    (IsCoefLine d.problem n destinations resources fields) (λ y. Unit {0}) (coef_told d.problem n destinations resources fields) (λ c is.
     passed (is_behind comes_before (last_of d.coefs) c) fault.Order
-    ((c : Coef) × IsCoefLine d.problem d.blocks (count_in d.header key.Destinations) (count_in d.header key.Resources) fields c
-    × (is_behind comes_before (last_of d.coefs) c ≡ true)) (record d { coefs = d.coefs ++ c ∷ [] })
-    (λ t. (c, coef_line d.problem d.blocks (count_in d.header key.Destinations) (count_in d.header key.Resources) fields c is, t))
-    (λ t h. (let back = coef_back d.problem d.blocks (count_in d.header key.Destinations) (count_in d.header key.Resources) fields h.0 h.1 in
-    let same : c ≡ h.0 = one_ok _ c h.0 is back in
+    ((c : Coef) × IsCoefLine d.problem n destinations resources fields c × (is_behind comes_before (last_of d.coefs) c ≡ true))
+    (record d { coefs = d.coefs ++ c ∷ [] }) (λ t. (c, is, t))
+    (λ t h. (let same : c ≡ h.0 = one_ok _ c h.0 (back c is) (back h.0 h.1) in
     let later = h.2 in
     absurd cc)))
   where
+    n : ℕ
+    n = d.blocks
+
+    destinations : ℕ
+    destinations = count_in d.header key.Destinations
+
+    resources : ℕ
+    resources = count_in d.header key.Resources
+
+    back : (c : Coef) → IsCoefLine d.problem n destinations resources fields c → coef_of d.problem n destinations resources fields ≡ Ok c
+    back = coef_back d.problem n destinations resources fields
+
     one_ok : (r : Result Coef TextKind) (x y : Coef) → r ≡ Ok x → r ≡ Ok y → x ≡ y
     one_ok r x y a b = cc
 

@@ -91,7 +91,7 @@ line_all p so space (f ∷ []) h = all_weaker is_plain p so f h.0.bytes
 line_all p so space (f ∷ g ∷ gs) h =
     all_parts p f (32 ∷ line_of (g ∷ gs)) (all_weaker is_plain p so f h.0.bytes) (rw (space, line_all p so space (g ∷ gs) h.1) refl)
 
-none_from_all : (p : ℕ → Bool) (xs : List ℕ) → list_all (λ c. not (p c)) xs ≡ true → list_any p xs ≡ false
+pub none_from_all : (p : ℕ → Bool) (xs : List ℕ) → list_all (λ c. not (p c)) xs ≡ true → list_any p xs ≡ false
 none_from_all p [] h = refl
 none_from_all p (c ∷ cs) h =
     let parts = and_parts (not (p c)) (list_all (λ c. not (p c)) cs) h in

@@ -9,12 +9,9 @@ use Rattle.forms.specs.Steps.{◌>>=◌}
 use Rattle.pit_model.specs.declared.limit.Bound.{Bound}
 use Rattle.pit_model.specs.declared.limit.Bound.TheVariants.{AtMost, AtLeast, Between}
 use Rattle.pit_model.specs.declared.limit.Limit.{Limit}
-use Rattle.mine_instance.specs.declared.coef.Coef.{Coef}
 use Rattle.minelib_text.specs.FieldValues.{all_by, decimal_in, whole_in}
-use Rattle.minelib_text.specs.ModelLines.{values_of, coef_of, limit_of}
-use Rattle.minelib_text.specs.SpelledItems.{IsValuesLine, IsCoefLine, StatesBound, IsLimitLine}
-use Rattle.minelib_text.specs.declared.model_key.Problem.{Problem}
-use Rattle.minelib_text.specs.declared.model_key.Problem.TheVariants.{Pcpsp, Cpit}
+use Rattle.minelib_text.specs.ModelLines.{values_of, limit_of}
+use Rattle.minelib_text.specs.SpelledItems.{IsValuesLine, StatesBound, IsLimitLine}
 use Rattle.minelib_text.proofs.Keyless.{have_colon, number_no_colon, numbers_no_colon}
 use Rattle.minelib_text.proofs.SpelledBack.{whole_back}
 
@@ -48,45 +45,6 @@ pub values_keyless : (n destinations before : ℕ) (fields : List (List ℕ)) (v
     → have_colon fields ≡ false
 values_keyless n destinations before fields vs h =
     rw (h.here, number_no_colon 0 h.b _ h.states_block.stands, numbers_no_colon 6 h.each vs h.states_each) refl
-
-four_back : (n destinations resources : ℕ) (c : Coef) (b d r v : List ℕ) → whole_in n b ≡ Ok c.b → whole_in destinations d ≡ Ok c.d
-    → whole_in resources r ≡ Ok c.r → decimal_in v ≡ Ok c.v → coef_of Pcpsp n destinations resources (b ∷ d ∷ r ∷ v ∷ []) ≡ Ok c
-four_back n destinations resources c b d r v e1 e2 e3 e4 = rw (e1, e2, e3, e4) refl
-
-three_back : (n destinations resources : ℕ) (c : Coef) (b r v : List ℕ) → whole_in n b ≡ Ok c.b → c.d ≡ 0 → whole_in resources r ≡ Ok c.r
-    → decimal_in v ≡ Ok c.v → coef_of Cpit n destinations resources (b ∷ r ∷ v ∷ []) ≡ Ok c
-three_back n destinations resources c b r v e1 none e3 e4 =
-    let zero : 0 ≡ c.d = sym none in
-    rw (e1, e3, e4) (ap (λ d. Ok (record c { d = d })) zero)
-
-pub coef_back : (problem : Problem) (n destinations resources : ℕ) (fields : List (List ℕ)) (c : Coef)
-    → IsCoefLine problem n destinations resources fields c → coef_of problem n destinations resources fields ≡ Ok c
-coef_back Pcpsp n destinations resources fields c h =
-    ap (coef_of Pcpsp n destinations resources) h.here
-    ∙ four_back n destinations resources c h.b h.d h.r h.v (whole_back n h.b c.b h.states_block) (whole_back destinations h.d c.d h.states_destination)
-    (whole_back resources h.r c.r h.states_resource) (decimal_back h.v c.v h.states_size)
-coef_back Cpit n destinations resources fields c h =
-    ap (coef_of Cpit n destinations resources) h.here
-    ∙ three_back n destinations resources c h.b h.r h.v (whole_back n h.b c.b h.states_block) h.destination
-    (whole_back resources h.r c.r h.states_resource) (decimal_back h.v c.v h.states_size)
-
-pub coef_keyless : (problem : Problem) (n destinations resources : ℕ) (fields : List (List ℕ)) (c : Coef)
-    → IsCoefLine problem n destinations resources fields c → have_colon fields ≡ false
-coef_keyless Pcpsp n destinations resources fields c h =
-    rw (
-      h.here,
-      number_no_colon 0 h.b _ h.states_block.stands,
-      number_no_colon 0 h.d _ h.states_destination.stands,
-      number_no_colon 0 h.r _ h.states_resource.stands,
-      number_no_colon 6 h.v _ h.states_size,
-    ) refl
-coef_keyless Cpit n destinations resources fields c h =
-    rw (
-      h.here,
-      number_no_colon 0 h.b _ h.states_block.stands,
-      number_no_colon 0 h.r _ h.states_resource.stands,
-      number_no_colon 6 h.v _ h.states_size,
-    ) refl
 
 -- the bound behind `r t`: so many fields, and what they state
 limit_here : (resources periods : ℕ) (r t : List ℕ) (fields : List (List ℕ)) (resource period : ℕ) (bound : Bound) → whole_in resources r ≡ Ok resource

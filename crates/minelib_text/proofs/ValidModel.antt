@@ -10,7 +10,7 @@ use Rattle.mine_instance.specs.declared.coef.Coef.{Coef}
 use Rattle.minelib_text.specs.HeaderKeys.{count_in, with_key}
 use Rattle.minelib_text.specs.ModelLines.{ModelDraftView, blank_header, blank_model, is_heading, admit_model}
 use Rattle.minelib_text.specs.ModelSoFar.{SaysKey}
-use Rattle.minelib_text.specs.SpelledItems.{IsCoefLine}
+use Rattle.minelib_text.specs.SpelledItems.{IsCoefLine, coef_form, coef_values}
 use Rattle.minelib_text.specs.declared.model_key.Header.{Header}
 use Rattle.minelib_text.specs.declared.model_key.HeaderKey.TheVariants as key
 use Rattle.minelib_text.specs.declared.model_key.Problem.{Problem}
@@ -19,6 +19,8 @@ use Rattle.minelib_text.specs.declared.model_key.Section.{Section}
 use Rattle.minelib_text.specs.declared.model_key.Section.TheVariants.{Objective, Coefs, Limits}
 use Rattle.minelib_text.specs.Reading.{read_lines}
 use Rattle.minelib_text.specs.TextLines.{Line, fields_of}
+use Rattle.forms.proofs.FormFacts.{spelled_fit}
+use Rattle.minelib_text.proofs.FormFields.{whole_low}
 use Rattle.minelib_text.proofs.ValidHeader.{KeepsOwn, KeepsHeader, blank_kept, one_destination, header_kept}
 use Rattle.minelib_text.proofs.ModelSteps.{next_by, SetsKey, BeginsSection, AddsValues, AddsCoef, AddsLimit, Step, model_step, Keyed, Begun, Valued, Spent, Limited}
 use Rattle.minelib_text.proofs.ReadSteps.{kept_by_lines}
@@ -94,11 +96,14 @@ behind_heading section at here other first = let same : is_heading section ≡ i
 
 coef_in_range : (problem : Problem) (n resources : ℕ) (h : Header) (fields : List (List ℕ)) (c : Coef) → KeepsOwn problem h
     → IsCoefLine problem n (count_in h key.Destinations) resources fields c → (c.b < n) × (c.d < count_in h key.Destinations) × (c.r < resources)
-coef_in_range Pcpsp n resources h fields c own l = (l.states_block.below, l.states_destination.below, l.states_resource.below)
+coef_in_range Pcpsp n resources h fields c own l =
+    let fit = spelled_fit (coef_form Pcpsp n (count_in h key.Destinations) resources) fields (coef_values Pcpsp c) refl l.0 in
+    (whole_low n c.b fit.0, whole_low (count_in h key.Destinations) c.d fit.1.0, whole_low resources c.r fit.1.1.0)
 coef_in_range Cpit n resources h fields c own l =
+    let fit = spelled_fit (coef_form Cpit n (count_in h key.Destinations) resources) fields (coef_values Cpit c) refl l.0 in
     let one = one_destination h own in
-    let none : c.d ≡ 0 = l.destination in
-    (l.states_block.below, omega arith, l.states_resource.below)
+    let none : c.d ≡ 0 = l.1 in
+    (whole_low n c.b fit.0, omega arith, whole_low resources c.r fit.1.0)
 
 values_kept : (problem : Problem) (n : ℕ) (d : ModelDraftView) (line : List ℕ) (next : ModelDraftView) → AddsValues d line next → KeepsModel problem n d
     → KeepsModel problem n next

@@ -5,6 +5,7 @@ pub mod Denotes
 pub mod Device
 pub mod FaultText
 pub mod FieldValues
+pub mod Fields
 pub mod FileFault
 pub mod FileSinkView
 pub mod FirstBad

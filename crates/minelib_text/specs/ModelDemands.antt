@@ -5,6 +5,7 @@ use Rattle.std.specs.List.{list_any, before_first, after_first}
 use Rattle.std.specs.Str.{bytes_eq}
 use Rattle.pit_units.specs.Decimal.{StandsFor}
 use Rattle.forms.specs.Demands.{Demand, demand, FailsFirst}
+use Rattle.forms.specs.Form.{asked}
 use Rattle.pit_model.specs.Name.{is_name}
 use Rattle.pit_model.specs.Plan.{stands_before}
 use Rattle.pit_model.specs.declared.limit.Limit.{Limit}
@@ -12,18 +13,18 @@ use Rattle.pit_model.specs.declared.ranges.TheConstants.{MAX_BLOCKS, MAX_DESTINA
 use Rattle.mine_instance.specs.Order.{comes_before}
 use Rattle.mine_instance.specs.declared.coef.Coef.{Coef}
 use Rattle.minelib_text.specs.LineDemands.{number, whole, size, field_at}
+use Rattle.minelib_text.specs.LineKinds.{text_kind}
 use Rattle.minelib_text.specs.HeaderKeys.{count_in, is_given}
 use Rattle.minelib_text.specs.ModelLines.{ModelDraftView, is_colon, is_heading, is_next, is_ready, is_behind, key_of, last_of, type_text}
 use Rattle.minelib_text.specs.ModelSoFar.{SpellSoFar}
 use Rattle.minelib_text.specs.SpelledFields.{StatesWhole}
-use Rattle.minelib_text.specs.SpelledItems.{IsCoefLine, IsLimitLine}
+use Rattle.minelib_text.specs.SpelledItems.{coef_form, IsCoefLine, IsLimitLine}
 use Rattle.minelib_text.specs.TextLines.{Line, fields_of}
 use Rattle.minelib_text.specs.declared.model_key.HeaderKey.{HeaderKey}
 use Rattle.minelib_text.specs.declared.model_key.HeaderKey.TheVariants as key
 use Rattle.minelib_text.specs.declared.model_key.ModelKey.{ModelKey}
 use Rattle.minelib_text.specs.declared.model_key.ModelKey.TheVariants as model_key
 use Rattle.minelib_text.specs.declared.model_key.Problem.{Problem}
-use Rattle.minelib_text.specs.declared.model_key.Problem.TheVariants.{Pcpsp, Cpit}
 use Rattle.minelib_text.specs.declared.model_key.Section.{Section}
 use Rattle.minelib_text.specs.declared.model_key.Section.TheVariants.{Heading, Objective, Coefs, Limits}
 use Rattle.minelib_text.specs.declared.text_fault.LineFault.{LineFault}
@@ -74,21 +75,12 @@ asked_of_values d fields =
     ++ (decimals (drop 1 fields)
     ++ demand fault.Order (StatesWhole d.blocks (field_at fields 0) (length d.values)))
 
--- the fields of a coefficient: `b d r v`, or `b r v`
-abbrev pub coef_fields : Problem → ModelDraftView → List (List ℕ) → List (Demand TextKind)
-coef_fields Pcpsp d fields =
-    demand fault.Fields (length fields ≡ 4) ++ whole d.blocks (field_at fields 0)
-    ++ whole (count_in d.header key.Destinations) (field_at fields 1)
-    ++ whole (count_in d.header key.Resources) (field_at fields 2) ++ decimal (field_at fields 3)
-coef_fields Cpit d fields =
-    demand fault.Fields (length fields ≡ 3) ++ whole d.blocks (field_at fields 0)
-    ++ whole (count_in d.header key.Resources) (field_at fields 1)
-    ++ decimal (field_at fields 2)
-
 -- a coefficient, behind the last one
 abbrev pub asked_of_coef : ModelDraftView → List (List ℕ) → List (Demand TextKind)
 asked_of_coef d fields =
-    coef_fields d.problem d fields
+    asked text_kind
+    (coef_form d.problem d.blocks (count_in d.header key.Destinations) (count_in d.header key.Resources))
+    fields
     ++ demand fault.Order ((c : Coef)
     × IsCoefLine d.problem d.blocks (count_in d.header key.Destinations) (count_in d.header key.Resources)
     fields c × (is_behind comes_before (last_of d.coefs) c ≡ true))

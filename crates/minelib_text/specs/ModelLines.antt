@@ -2,6 +2,7 @@
 use Rattle.std.specs.Prelude.{ℕ, ◌+◌, ◌-◌, ◌==◌, ◌&&◌, ◌||◌, ◌^◌, not, Bool, true, false, List, [], ◌∷◌, ◌++◌, length, ℤ, Option, Some, None, slice_get, slice_index_or, Result, Ok, Err, if◌then◌else◌, codes}
 use Rattle.std.specs.List.{list_any, before_first, after_first}
 use Rattle.std.specs.Str.{bytes_eq}
+use Rattle.forms.specs.Form.{Value, number_at, read, whole_at}
 use Rattle.forms.specs.Steps.{◌>>=◌}
 use Rattle.pit_model.specs.Name.{is_name}
 use Rattle.pit_model.specs.Plan.{is_turned, stands_before}
@@ -13,7 +14,9 @@ use Rattle.mine_instance.specs.Order.{comes_before}
 use Rattle.mine_instance.specs.declared.coef.Coef.{Coef}
 use Rattle.minelib_text.specs.FieldValues.{first_by, all_by, size_in, whole_in, decimal_in}
 use Rattle.minelib_text.specs.HeaderKeys.{no_key, with_key, count_in, is_given, is_complete}
+use Rattle.minelib_text.specs.LineKinds.{text_kind}
 use Rattle.minelib_text.specs.Reading.{read_lines}
+use Rattle.minelib_text.specs.SpelledItems.{coef_form}
 use Rattle.minelib_text.specs.TextLines.{fields_of, lines_in, end_of}
 use Rattle.minelib_text.specs.declared.model_key.Header.{Header}
 use Rattle.minelib_text.specs.declared.model_key.HeaderKey.{HeaderKey}
@@ -182,25 +185,26 @@ values_of n destinations before fields =
       values ← all_by decimal_in [] b.1
       if not (b.0 == before) then Err Order else Ok values
 
--- how many fields a coefficient has
-abbrev pub coef_width : Problem → ℕ
-coef_width Pcpsp = 4
-coef_width Cpit = 3
-
--- the destination of a coefficient, and the fields behind it; that of a CPIT has none, and stands for the only one
-abbrev pub destination_in : Problem → ℕ → List (List ℕ) → Result (ℕ × List (List ℕ)) TextKind
-destination_in Pcpsp destinations fields = first_by (whole_in destinations) fields
-destination_in Cpit destinations fields = Ok (0, fields)
+-- the coefficient of the values of a line; a CPIT has one destination
+abbrev pub coef_said : Problem → List Value → Coef
+coef_said Pcpsp values = record {
+  b = whole_at values 0;
+  d = whole_at values 1;
+  r = whole_at values 2;
+  v = number_at values 3;
+}
+coef_said Cpit values = record {
+  b = whole_at values 0;
+  d = 0;
+  r = whole_at values 1;
+  v = number_at values 2;
+}
 
 -- `b d r v`, or `b r v`
-abbrev pub coef_of : Problem → ℕ → ℕ → ℕ → List (List ℕ) → Result Coef TextKind
-coef_of problem n destinations resources fields =
-    if not (length fields == coef_width problem) then Err Fields else do
-      b ← first_by (whole_in n) fields
-      d ← destination_in problem destinations b.1
-      r ← first_by (whole_in resources) d.1
-      v ← first_by decimal_in r.1
-      Ok (record { b = b.0; d = d.0; r = r.0; v = v.0 })
+unfoldable pub coef_of : Problem → ℕ → ℕ → ℕ → List (List ℕ) → Result Coef TextKind
+coef_of problem n destinations resources fields = do
+  values ← read text_kind (coef_form problem n destinations resources) fields
+  Ok (coef_said problem values)
 
 -- the last item of a list, if there is one
 abbrev pub last_of : {A : Type 0} → List A → Option A

@@ -2,11 +2,13 @@
 use Rattle.std.specs.Prelude.{◌≡◌, ℕ, List, [], ◌∷◌, length, ℤ, codes, false}
 use Rattle.std.specs.List.{AllZip}
 use Rattle.pit_units.specs.Decimal.{StandsFor}
+use Rattle.forms.specs.Form.{Field, Value, Millionths, Spell, below, whole}
 use Rattle.pit_model.specs.Plan.{is_turned}
 use Rattle.pit_model.specs.declared.limit.Bound.{Bound}
 use Rattle.pit_model.specs.declared.limit.Bound.TheVariants.{AtMost, AtLeast, Between}
 use Rattle.pit_model.specs.declared.limit.Limit.{Limit}
 use Rattle.mine_instance.specs.declared.coef.Coef.{Coef}
+use Rattle.minelib_text.specs.Fields.{any}
 use Rattle.minelib_text.specs.SpelledFields.{StatesWhole}
 use Rattle.minelib_text.specs.declared.model_key.Problem.{Problem}
 use Rattle.minelib_text.specs.declared.model_key.Problem.TheVariants.{Pcpsp, Cpit}
@@ -20,33 +22,25 @@ pub record IsValuesLine (n destinations block : ℕ) (fields : List (List ℕ)) 
   pub states_each : AllZip (StandsFor 6) each values
   pub one_each : length values ≡ destinations
 
--- `b d r v` of a coefficient
-pub record IsPcpspCoefLine (n destinations resources : ℕ) (fields : List (List ℕ)) (c : Coef) : Type 0 where
-  pub b : List ℕ
-  pub d : List ℕ
-  pub r : List ℕ
-  pub v : List ℕ
-  pub here : fields ≡ b ∷ d ∷ r ∷ v ∷ []
-  pub states_block : StatesWhole n b c.b
-  pub states_destination : StatesWhole destinations d c.d
-  pub states_resource : StatesWhole resources r c.r
-  pub states_size : StandsFor 6 v c.v
+-- `b d r v` of a coefficient, or `b r v` where there is one destination
+abbrev pub coef_form : Problem → ℕ → ℕ → ℕ → List Field
+coef_form Pcpsp n destinations resources =
+    below n ∷ below destinations ∷ below resources ∷ any ∷ []
+coef_form Cpit n destinations resources = below n ∷ below resources ∷ any ∷ []
 
--- `b r v` of a coefficient at the only destination
-pub record IsCpitCoefLine (n resources : ℕ) (fields : List (List ℕ)) (c : Coef) : Type 0 where
-  pub b : List ℕ
-  pub r : List ℕ
-  pub v : List ℕ
-  pub here : fields ≡ b ∷ r ∷ v ∷ []
-  pub states_block : StatesWhole n b c.b
-  pub destination : c.d ≡ 0
-  pub states_resource : StatesWhole resources r c.r
-  pub states_size : StandsFor 6 v c.v
+abbrev pub coef_values : Problem → Coef → List Value
+coef_values Pcpsp c = whole c.b ∷ whole c.d ∷ whole c.r ∷ Millionths c.v ∷ []
+coef_values Cpit c = whole c.b ∷ whole c.r ∷ Millionths c.v ∷ []
 
--- a coefficient, as the problem's files spell it
+-- the destination that no field states is the only one
+abbrev pub HasDestination : Problem → Coef → Type 0
+HasDestination Pcpsp c = Unit {0}
+HasDestination Cpit c = c.d ≡ 0
+
 abbrev pub IsCoefLine : Problem → ℕ → ℕ → ℕ → List (List ℕ) → Coef → Type 0
-IsCoefLine Pcpsp n destinations resources fields c = IsPcpspCoefLine n destinations resources fields c
-IsCoefLine Cpit n destinations resources fields c = IsCpitCoefLine n resources fields c
+IsCoefLine problem n destinations resources fields c =
+    Spell (coef_form problem n destinations resources) fields (coef_values problem c)
+    × HasDestination problem c
 
 -- `L v`, `G v` or `I v w`
 abbrev pub StatesBound : List (List ℕ) → Bound → Type 0

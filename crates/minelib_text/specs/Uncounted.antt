@@ -6,10 +6,10 @@ use Rattle.pit_model.specs.declared.block.Block.{Block}
 use Rattle.pit_units.specs.Decimal.{decimal_of}
 use Rattle.minelib_text.specs.BlockLines.{block_with, in_range}
 use Rattle.minelib_text.specs.FieldValues.{all_by, first_by, decimal_in, size_in, whole_in}
-use Rattle.minelib_text.specs.ModelLines.{destination_in}
 use Rattle.minelib_text.specs.PrecLines.{preds_with}
 use Rattle.minelib_text.specs.TextLines.{fields_of}
 use Rattle.minelib_text.specs.declared.model_key.Problem.{Problem}
+use Rattle.minelib_text.specs.declared.model_key.Problem.TheVariants.{Pcpsp, Cpit}
 use Rattle.minelib_text.specs.declared.read_fault.LineError.{LineError}
 use Rattle.minelib_text.specs.declared.read_fault.LineError.TheVariants as line_error
 use Rattle.minelib_text.specs.declared.text_fault.TextKind.{TextKind}
@@ -47,6 +47,11 @@ preds_alone n before fields = do
   stated ← first_by (whole_in n) id.1
   ids ← all_by (whole_in n) [] stated.1
   preds_with before id.0 stated.0 ids
+
+-- the destination of a coefficient, and the fields behind it; that of a CPIT has none, and stands for the only one
+abbrev pub destination_in : Problem → ℕ → List (List ℕ) → Result (ℕ × List (List ℕ)) TextKind
+destination_in Pcpsp destinations fields = first_by (whole_in destinations) fields
+destination_in Cpit destinations fields = Ok (0, fields)
 
 -- the coefficient of a line of as many fields as are read
 unfoldable pub coef_alone : Problem → ℕ → ℕ → ℕ → List (List ℕ) → Result Coef TextKind

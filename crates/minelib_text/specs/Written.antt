@@ -14,6 +14,10 @@ use Rattle.mine_instance.specs.declared.instance.Instance.{Instance}
 use Rattle.minelib_text.specs.Lines.{text_of, line_of, lines_from}
 use Rattle.minelib_text.specs.SpelledBlocks.{block_values}
 use Rattle.minelib_text.specs.SpelledPrec.{preds_values}
+use Rattle.minelib_text.specs.SpelledItems.{coef_values}
+use Rattle.minelib_text.specs.StatedModel.{at_only_destination}
+use Rattle.minelib_text.specs.declared.model_key.Problem.{Problem}
+use Rattle.minelib_text.specs.declared.model_key.Problem.TheVariants.{Pcpsp, Cpit}
 
 -- `id x y z tonnes grade zone`
 abbrev pub block_fields : ℕ → Block → List (List ℕ)
@@ -31,9 +35,9 @@ greatest_fields n values = decimal n ∷ shortest (greatest values) ∷ []
 abbrev pub value_fields : ℕ → List ℤ → List (List ℕ)
 value_fields n values = decimal n ∷ map shortest values
 
--- `b d r v`
-abbrev pub coef_fields : ℕ → Coef → List (List ℕ)
-coef_fields n c = decimal c.b ∷ decimal c.d ∷ decimal c.r ∷ shortest c.v ∷ []
+-- `b d r v`, or `b r v`
+abbrev pub coef_fields : Problem → ℕ → Coef → List (List ℕ)
+coef_fields problem n c = written (coef_values problem c)
 
 -- `L v`, `G v` or `I v w`
 abbrev pub bound_fields : Bound → List (List ℕ)
@@ -51,7 +55,7 @@ cpit_value_fields n value = decimal n ∷ shortest value ∷ []
 
 -- `b r v`
 abbrev pub cpit_coef_fields : ℕ → CpitCoef → List (List ℕ)
-cpit_coef_fields n c = decimal c.b ∷ decimal c.r ∷ shortest c.v ∷ []
+cpit_coef_fields n c = coef_fields Cpit n (at_only_destination c)
 
 -- `KEY: value`
 abbrev pub key_line : List ℕ → List ℕ → List ℕ
@@ -115,7 +119,7 @@ unfoldable pub text_pcpsp : Instance → List ℕ
 text_pcpsp i =
     text_of (problem_keys i.name (codes "PCPSP") (length i.blocks)
     ++ pcpsp_keys i.periods i.destinations i.resources i.rate
-    ++ section_lines (lines_from value_fields 0 i.values) (lines_from coef_fields 0 i.coefs) (lines_from limit_fields 0 i.limits))
+    ++ section_lines (lines_from value_fields 0 i.values) (lines_from (coef_fields Pcpsp) 0 i.coefs) (lines_from limit_fields 0 i.limits))
 
 -- the CPIT file
 unfoldable pub text_cpit : CpitParts → List ℕ

@@ -6,6 +6,7 @@ ghost use Rattle.std.specs.List.{flat_map};
 ghost use Rattle.pit_units.specs.Decimal.{shortest};
 ghost use Rattle.minelib_text.specs.Lines.{line_of, lines_from};
 ghost use Rattle.minelib_text.specs.Written.{coef_fields, cpit_coef_fields};
+ghost use Rattle.minelib_text.specs.declared.model_key.Problem.TheVariants.{Pcpsp};
 
 use crate::fields::{put_decimal_to, put_whole_to};
 use crate::lines::item;
@@ -46,7 +47,7 @@ pub trait CoefLine {
 }
 
 impl CoefLine for Coef {
-    ghost fields = { coef_fields 0 };
+    ghost fields = { coef_fields Pcpsp 0 };
 
     ghost block = { λ c. c.b };
 

@@ -1,14 +1,15 @@
 //! The lines of a model file's sections.
 
-ghost use Rattle.std.specs.Prelude.{◌≡◌, ◌≤◌, ◌<◌, ◌+◌, ◌∷◌, [], length, drop, slice_index_or, IfOk, OnOk};
+ghost use Rattle.std.specs.Prelude.{◌≡◌, ◌≤◌, ◌<◌, ◌+◌, ◌∷◌, [], ℕ, length, drop, slice_index_or, IfOk, OnOk};
 ghost use Rattle.pit_model.specs.Plan.{stands_before};
 ghost use Rattle.mine_instance.specs.Order.{comes_before};
 ghost use Rattle.minelib_text.specs.FieldValues.{Takes, all_by, decimal_in, first_by};
-ghost use Rattle.minelib_text.specs.ModelLines.{bound_in, coef_of, coef_width, destination_in, interval_in, is_behind, last_of, limit_of, limit_width, values_of};
+ghost use Rattle.minelib_text.specs.ModelLines.{bound_in, coef_of, interval_in, is_behind, last_of, limit_of, limit_width, values_of};
 ghost use Rattle.minelib_text.specs.ModelParts.{TakesFirst};
 ghost use Rattle.minelib_text.specs.Reading.{Admits};
+ghost use Rattle.minelib_text.specs.SpelledItems.{coef_form};
 ghost use Rattle.minelib_text.specs.TextLines.{fields_of};
-ghost use Rattle.minelib_text.specs.Uncounted.{AdmitsCounted, coef_alone};
+ghost use Rattle.minelib_text.specs.Uncounted.{AdmitsCounted, coef_alone, destination_in};
 ghost use Rattle.pit_model.specs.declared.ranges.TheConstants.{MAX_BLOCKS};
 
 use crate::field_values::decimal_in;
@@ -129,7 +130,7 @@ pub fn coef_alone(
 }
 
 fn coef_width(problem: Problem) -> usize
-    ensures { result ≡ coef_width problem }
+    ensures { (n destinations resources : ℕ) → result ≡ length (coef_form problem n destinations resources) }
 {
     match problem {
         Problem::Pcpsp => 4,

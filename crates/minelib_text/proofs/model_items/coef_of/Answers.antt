@@ -1,6 +1,6 @@
 use Rattle.std.proofs.Common.{sym}
 use Rattle.minelib_text.specs.TextLines.{fields_of}
-use Rattle.minelib_text.proofs.CountedLater.{coef_counted, coef_kind}
+use Rattle.minelib_text.proofs.CoefLineFacts.{coef_counted, coef_kind}
 use Rattle.minelib_text.proofs.model_items.coef_of.Goals as goal
 
 pub returns-in-Ok : goal.returns-in-Ok
@@ -10,4 +10,4 @@ returns-in-Ok c =
 pub returns-in-Err : goal.returns-in-Err
 returns-in-Err c =
     let kind = coef_kind c.args.problem c.args.blocks c.args.destinations c.args.resources (fields_of c.args.line.now) c.in-Err.kind (sym c.in-Err.ensures) in
-    rw (c.kind_by_count.ensures, c.coef_width.ensures) (sym kind)
+    rw (c.kind_by_count.ensures, c.coef_width.ensures c.args.blocks c.args.destinations c.args.resources) (sym kind)

@@ -3,6 +3,7 @@ use Rattle.std.specs.Prelude.{codes}
 use Rattle.std.proofs.lemmas.Result.{on_ok_weaker, IfErr-weaker}
 use Rattle.minelib_text.specs.Lines.{text_of, lines_from}
 use Rattle.minelib_text.specs.Written.{text_pcpsp, problem_keys, pcpsp_keys, section_lines, value_fields, coef_fields, limit_fields}
+use Rattle.minelib_text.specs.declared.model_key.Problem.TheVariants.{Pcpsp}
 use Rattle.minelib_text.proofs.Fronts.{buffered, lines_then, lines_cut_then}
 use Rattle.minelib_text.proofs.files.PcpspFileText.write.Goals as goal
 
@@ -13,7 +14,7 @@ returns g c =
     let keys = problem_keys i.name (codes "PCPSP") (length i.blocks) in
     let more = pcpsp_keys i.periods i.destinations i.resources i.rate in
     let limits = lines_from limit_fields 0 i.limits in
-    let sections = section_lines (lines_from value_fields 0 i.values) (lines_from coef_fields 0 i.coefs) limits in
+    let sections = section_lines (lines_from value_fields 0 i.values) (lines_from (coef_fields Pcpsp) 0 i.coefs) limits in
     let first = buffered (text_of keys) (rw c.blocks_len.ensures at c.in_ok-put_problem.ensures) in
     let both = lines_then keys more first (buffered (text_of more) c.in_ok-put_pcpsp_keys.ensures) in
     record {

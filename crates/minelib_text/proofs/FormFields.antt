@@ -1,0 +1,96 @@
+-- Decimals of any size and fields of words, beside whole numbers: which values fit them, and that a line of them is of plain fields.
+use Rattle.std.specs.Prelude.{◌≡◌, ℕ, ◌*◌, ◌/◌, ◌%◌, ◌-◌, ◌^◌, ◌<◌, true, false, not, ◌&&◌, List, [], ◌∷◌, ℤ, pos, negsuc, ◌≤ℤ◌, int_le, unsigned_abs, Result, Ok, Err, if◌then◌else◌}
+use Rattle.std.specs.List.{list_all, list_any}
+use Rattle.std.proofs.Common.{refl, ap, arith}
+use Rattle.std.proofs.lemmas.Int.{ints}
+use Rattle.pit_units.proofs.Standing.{read_stands}
+use Rattle.pit_units.specs.Decimal.{decimal_of}
+use Rattle.pit_units.specs.declared.fault.DecFault.{DecFault}
+use Rattle.pit_units.specs.declared.fault.DecFault.TheVariants as dec
+use Rattle.forms.proofs.FormFacts.{true_le}
+use Rattle.forms.specs.Form.{Field, Decimal, Word, Value, Millionths, Bytes, FitsField, Fit, Spell, below, millionths, number_of, whole, written}
+use Rattle.forms.specs.Steps.{◌>>=◌}
+use Rattle.minelib_text.specs.FieldValues.{decimal_in, stated}
+use Rattle.minelib_text.specs.Kept.{IsDecimal}
+use Rattle.minelib_text.specs.LineKinds.{text_kind}
+use Rattle.minelib_text.specs.ModelLines.{is_colon}
+use Rattle.minelib_text.specs.declared.text_fault.TextKind.TheVariants.{Range}
+use Rattle.minelib_text.proofs.FieldSteps.{ReadsField}
+use Rattle.minelib_text.proofs.Keyless.{have_colon, number_no_colon}
+use Rattle.minelib_text.proofs.NumbersBack.{decimal_field}
+use Rattle.minelib_text.proofs.PlainText.{EachField, IsField, all_weaker, is_plain, none_from_all, plain_no_colon}
+use Rattle.minelib_text.specs.Fields.{any}
+
+lowest : (z : ℤ) → IsDecimal z → negsuc (10 ^ 24 - 1) ≤ℤ z
+lowest (pos m) small = omega (arith, ints)
+lowest (negsuc m) small = omega (arith, ints, small)
+
+highest : (z : ℤ) → IsDecimal z → z ≤ℤ pos (10 ^ 24)
+highest (pos m) small = omega (arith, ints, small)
+highest (negsuc m) small = omega (arith, ints)
+
+pub any_fits : (z : ℤ) → IsDecimal z → FitsField any (Millionths z)
+any_fits z small = (lowest z small, highest z small, small, omega arith)
+
+-- a value that fits is that of its number
+pub any_there : (value : Value) → FitsField any value → value ≡ Millionths (millionths value)
+any_there (Millionths m) fits = refl
+any_there (Bytes word) fits = absurd fits
+
+pub whole_there : (limit : ℕ) (value : Value) → FitsField (below limit) value → value ≡ whole (unsigned_abs (millionths value) / 10 ^ 6)
+whole_there limit (Millionths (pos m)) fits =
+    let coarse : m % 10 ^ 6 ≡ 0 = fits.3 in
+    let same : m ≡ m / 10 ^ 6 * 10 ^ 6 = omega arith in
+    ap (λ k. Millionths (pos k)) same
+whole_there limit (Millionths (negsuc m)) fits = absurd (omega (arith, ints, fits.0))
+whole_there limit (Bytes word) fits = absurd fits
+
+pub whole_low : (limit n : ℕ) → FitsField (below limit) (whole n) → n < limit
+whole_low limit n fits = omega (arith, ints, fits.1)
+
+pub any_reads : ReadsField any decimal_in Millionths
+unfolding decimal_in
+any_reads text = by (decimal_of 6 text) refl
+  where
+    by : (r : Result ℤ DecFault) → decimal_of 6 text ≡ r
+        → (number_of text_kind r >>= λ m. if int_le (negsuc (10 ^ 24 - 1)) m && int_le m (pos (10 ^ 24)) then Ok (Millionths m) else Err Range)
+        ≡ (stated r >>= λ m. Ok (Millionths m))
+    by (Ok m) e =
+        let small : IsDecimal m = (read_stands 6 text m (omega arith) e).in_range in
+        rw (true_le _ m (lowest m small), true_le m _ (highest m small)) refl
+    by (Err dec.Number) e = refl
+    by (Err dec.TooFine) e = refl
+    by (Err dec.Range) e = refl
+
+-- words that are fields of a line
+abbrev pub ArePlain : List Field → Type 0
+ArePlain [] = Unit {0}
+ArePlain (Decimal decimals low high ∷ form) = ArePlain form
+ArePlain (Word passes ∷ form) = ((word : List ℕ) → passes word ≡ true → IsField word) × ArePlain form
+
+plain_keyless : (bytes : List ℕ) → list_all is_plain bytes ≡ true → list_any is_colon bytes ≡ false
+plain_keyless bytes plain = none_from_all is_colon bytes (all_weaker is_plain (λ c. not (is_colon c)) plain_no_colon bytes plain)
+
+-- what spells such a form has no colon
+pub spelled_keyless : (form : List Field) (fields : List (List ℕ)) (values : List Value) → ArePlain form → Spell form fields values → have_colon fields ≡ false
+spelled_keyless [] [] [] plain spell = refl
+spelled_keyless [] [] (value ∷ values) plain spell = absurd spell
+spelled_keyless [] (text ∷ fields) values plain spell = absurd spell
+spelled_keyless (field ∷ form) [] values plain spell = absurd spell
+spelled_keyless (field ∷ form) (text ∷ fields) [] plain spell = absurd spell
+spelled_keyless (Decimal decimals low high ∷ form) (text ∷ fields) (Millionths m ∷ values) plain spell =
+    rw (number_no_colon decimals text m spell.0.0, spelled_keyless form fields values plain spell.1) refl
+spelled_keyless (Decimal decimals low high ∷ form) (text ∷ fields) (Bytes word ∷ values) plain spell = absurd spell.0
+spelled_keyless (Word passes ∷ form) (text ∷ fields) (Millionths m ∷ values) plain spell = absurd spell.0
+spelled_keyless (Word passes ∷ form) (text ∷ fields) (Bytes word ∷ values) plain spell =
+    rw (plain_keyless text (plain.0 text spell.0.1).bytes, spelled_keyless form fields values plain.1 spell.1) refl
+
+-- and what is written of values that fit it is of fields
+pub written_fields : (form : List Field) (values : List Value) → ArePlain form → Fit form values → EachField (written values)
+written_fields [] [] plain fit = tt
+written_fields [] (value ∷ values) plain fit = absurd fit
+written_fields (field ∷ form) [] plain fit = absurd fit
+written_fields (Decimal decimals low high ∷ form) (Millionths m ∷ values) plain fit = (decimal_field m fit.0.2, written_fields form values plain fit.1)
+written_fields (Decimal decimals low high ∷ form) (Bytes word ∷ values) plain fit = absurd fit.0
+written_fields (Word passes ∷ form) (Millionths m ∷ values) plain fit = absurd fit.0
+written_fields (Word passes ∷ form) (Bytes word ∷ values) plain fit = (plain.0 word fit.0, written_fields form values plain.1 fit.1)
