@@ -91,8 +91,9 @@ pub coef_back : (problem : Problem) (n destinations resources : ℕ) (fields : L
     → IsCoefLine problem n destinations resources fields c → coef_of problem n destinations resources fields ≡ Ok c
 unfolding coef_of
 coef_back problem n destinations resources fields c h =
-    let read_back = spelled_read text_kind (coef_form problem n destinations resources) fields (coef_values problem c) (coef_fine problem n destinations resources) h.0 in
-    ap (λ r. r >>= λ values. Ok (coef_said problem values)) read_back ∙ ap Ok (said_again problem c h.1)
+    ap (λ r. r >>= λ values. Ok (coef_said problem values))
+    (spelled_read text_kind (coef_form problem n destinations resources) fields (coef_values problem c) (coef_fine problem n destinations resources) h.0)
+    ∙ ap Ok (said_again problem c h.1)
 
 pub coef_keyless : (problem : Problem) (n destinations resources : ℕ) (fields : List (List ℕ)) (c : Coef)
     → IsCoefLine problem n destinations resources fields c → have_colon fields ≡ false

@@ -1,50 +1,21 @@
 -- How the lines that are read spell values, coefficients and limits.
-use Rattle.std.specs.Prelude.{◌≡◌, ℕ, ◌+◌, ◌==◌, Bool, true, false, not, List, [], ◌∷◌, length, ℤ, Result, Ok, Err, if◌then◌else◌, codes}
-use Rattle.std.specs.List.{AllZip}
+use Rattle.std.specs.Prelude.{◌≡◌, ℕ, ◌==◌, Bool, true, false, not, List, [], ◌∷◌, length, ℤ, Result, Ok, Err, if◌then◌else◌, codes}
 use Rattle.std.specs.Str.{bytes_eq}
 use Rattle.std.proofs.Common.{refl, sym, ◌∙◌, ap, subst, arith}
-use Rattle.std.proofs.lemmas.Bool.{eqb-true, not-false}
 use Rattle.std.proofs.lemmas.Slice.Eq.{bytes_eq-Decides}
-use Rattle.std.proofs.lemmas.Slice.Zip.{AllZip-long}
 use Rattle.pit_units.specs.Decimal.{StandsFor}
 use Rattle.forms.specs.Steps.{◌>>=◌}
 use Rattle.pit_model.specs.Plan.{is_turned}
 use Rattle.pit_model.specs.declared.limit.Bound.{Bound}
 use Rattle.pit_model.specs.declared.limit.Bound.TheVariants.{AtMost, AtLeast, Between}
 use Rattle.pit_model.specs.declared.limit.Limit.{Limit}
-use Rattle.minelib_text.specs.FieldValues.{first_by, all_by, whole_in, decimal_in}
-use Rattle.minelib_text.specs.ModelLines.{values_of, limit_of, limit_width, bound_in, interval_in}
+use Rattle.minelib_text.specs.FieldValues.{first_by, whole_in, decimal_in}
+use Rattle.minelib_text.specs.ModelLines.{limit_of, limit_width, bound_in, interval_in}
 use Rattle.minelib_text.specs.SpelledFields.{StatesWhole}
-use Rattle.minelib_text.specs.SpelledItems.{IsValuesLine, StatesBound, IsLimitLine}
+use Rattle.minelib_text.specs.SpelledItems.{StatesBound, IsLimitLine}
 use Rattle.minelib_text.specs.declared.text_fault.TextKind.{TextKind}
-use Rattle.minelib_text.specs.declared.text_fault.TextKind.TheVariants.{Fields, Order, Name}
-use Rattle.minelib_text.proofs.ReadSteps.{bind_then, guard_then, first_then, same_ok, none_behind, counted, all_ok, whole_in_ok, decimal_in_ok}
-
-all_stand : (fields : List (List ℕ)) (values : List ℤ) → AllZip (λ field v. decimal_in field ≡ Ok v) fields values
-    → AllZip (StandsFor 6) fields values
-all_stand [] [] zip = tt
-all_stand [] (v ∷ values) zip = absurd zip
-all_stand (field ∷ fields) [] zip = absurd zip
-all_stand (field ∷ fields) (v ∷ values) zip = (decimal_in_ok field v zip.0, all_stand fields values zip.1)
-
-pub values_line : (n destinations before : ℕ) (fields : List (List ℕ)) (values : List ℤ) → values_of n destinations before fields ≡ Ok values
-    → IsValuesLine n destinations before fields values
-values_line n destinations before fields values e =
-    guard_then (not (length fields == destinations + 1)) Fields _ values e (λ width e1.
-    first_then (whole_in n) fields _ values e1 (λ b rest block here s1 e2.
-    bind_then (all_by decimal_in [] rest) _ values e2 (λ given of_fields e3.
-    guard_then (not (block == before)) Order (Ok given) values e3 (λ next e4.
-    let m = all_ok decimal_in [] rest given of_fields in
-    let same : m.0 ≡ values = sym m.1 ∙ same_ok given values e4 in
-    let zip : AllZip (StandsFor 6) rest values = subst (AllZip (StandsFor 6) rest) same (all_stand rest m.0 m.2) in
-    record {
-      b = b;
-      each = rest;
-      here = here;
-      states_block = subst (StatesWhole n b) (eqb-true block before (not-false (block == before) next)) (whole_in_ok n b block s1);
-      states_each = zip;
-      one_each = omega (arith, counted (destinations + 1) fields width, ap length here, AllZip-long (StandsFor 6) rest values zip);
-    }))))
+use Rattle.minelib_text.specs.declared.text_fault.TextKind.TheVariants.{Fields, Name}
+use Rattle.minelib_text.proofs.ReadSteps.{bind_then, guard_then, first_then, same_ok, none_behind, counted, whole_in_ok, decimal_in_ok}
 
 -- the one field behind a letter
 one_value : (letter : List ℕ) (fields : List (List ℕ)) (make : ℤ → Bound) (bound : Bound) → length fields ≡ 1

@@ -1,41 +1,38 @@
 -- The items of a model file's sections are read as they are written.
-use Rattle.std.proofs.Common.{◌≡◌, ℕ, ◌+◌, ◌<◌, ◌≤◌, List, [], ◌∷◌, length, ℤ, arith, refl, eq-eqb}
+use Rattle.std.proofs.Common.{◌≡◌, ℕ, ◌<◌, ◌≤◌, List, [], ◌∷◌, length, ℤ, arith, refl}
 use Rattle.std.specs.Prelude.{decimal, Ok, All}
-use Rattle.std.proofs.lemmas.List.{length-map}
 use Rattle.forms.proofs.FormFacts.{spell_written}
 use Rattle.forms.specs.Form.{Fit}
 use Rattle.pit_model.specs.declared.limit.Bound.{Bound}
 use Rattle.pit_model.specs.declared.limit.Bound.TheVariants.{AtMost, AtLeast, Between}
 use Rattle.pit_model.specs.declared.limit.Limit.{Limit}
-use Rattle.pit_units.specs.Decimal.{shortest}
 use Rattle.mine_instance.specs.declared.coef.Coef.{Coef}
-use Rattle.minelib_text.specs.FieldValues.{decimal_in}
 use Rattle.minelib_text.specs.Kept.{IsDecimal, HasDecimals}
 use Rattle.minelib_text.specs.ModelLines.{values_of, coef_of, limit_of}
-use Rattle.minelib_text.specs.SpelledItems.{HasDestination, coef_form, coef_values}
+use Rattle.minelib_text.specs.SpelledItems.{HasDestination, coef_form, coef_values, values_form, values_values}
 use Rattle.minelib_text.specs.Written.{value_fields, coef_fields, limit_fields, bound_fields}
 use Rattle.minelib_text.specs.declared.model_key.Problem.{Problem}
 use Rattle.minelib_text.specs.declared.model_key.Problem.TheVariants.{Pcpsp, Cpit}
 use Rattle.minelib_text.proofs.CoefLineFacts.{coef_back, coef_fine, coef_fits, coef_plain}
 use Rattle.minelib_text.proofs.FormFields.{written_fields}
 use Rattle.minelib_text.proofs.KeysBack.{word_field}
-use Rattle.minelib_text.proofs.NumbersBack.{decimal_field, whole_field, whole_again, decimal_again, map_fields, map_again}
+use Rattle.minelib_text.proofs.NumbersBack.{decimal_field, whole_field, whole_again, decimal_again}
 use Rattle.minelib_text.proofs.PlainText.{EachField, AreFields}
+use Rattle.minelib_text.proofs.ValuesLineFacts.{many_fine, many_plain, values_back, values_fits}
 
 pub values_again : (n destinations before : ℕ) (values : List ℤ) → n ≤ 64000000 → before < n → length values ≡ destinations → All IsDecimal values
     → values_of n destinations before (value_fields before values) ≡ Ok values
 values_again n destinations before values few below as_many h =
-    let width : length (value_fields before values) ≡ destinations + 1 = omega (arith, length-map values shortest) in
-    rw (
-      eq-eqb _ _ width,
-      whole_again n before below (omega arith),
-      map_again IsDecimal shortest decimal_in decimal_again [] values h,
-      eq-eqb before before refl,
-    ) refl
+    values_back n destinations before (value_fields before values) values
+    (spell_written (values_form n destinations) (values_values before values) (many_fine destinations)
+    (values_fits n destinations before values (omega arith) below as_many h))
 
 pub values_fields : (before : ℕ) (values : List ℤ) → before < 64000000 → All IsDecimal values → AreFields (value_fields before values)
-values_fields before values few h =
-    record { some = omega arith; each = (whole_field before (omega arith), map_fields IsDecimal shortest decimal_field values h) }
+values_fields before values few h = record {
+  some = omega arith;
+  each = written_fields (values_form 64000000 (length values)) (values_values before values) (many_plain (length values))
+      (values_fits 64000000 (length values) before values (omega arith) few refl h);
+}
 
 -- how many destinations there are: 1 to 8, or that which stands for none
 abbrev pub IsCount : Problem → ℕ → Type 0

@@ -1,7 +1,7 @@
 -- A line whose fields have no colon has none.
 use Rattle.std.specs.Prelude.{◌≡◌, ℕ, Bool, true, false, List, [], ◌∷◌, ◌++◌, ℤ, if◌then◌else◌, ◌⊎◌}
 use Rattle.std.specs.Char.{is_ascii_digit}
-use Rattle.std.specs.List.{AllZip, list_any}
+use Rattle.std.specs.List.{list_any}
 use Rattle.std.proofs.Common.{refl, arith, inl, inr}
 use Rattle.std.proofs.lemmas.Bool.{and_parts, or_parts}
 use Rattle.std.proofs.lemmas.Bool.Decides.{nat_tests}
@@ -82,10 +82,3 @@ number_no_colon max field m s =
       digits_no_colon s.whole p.whole_digits,
       tail_no_colon s.tail s.fraction p.point p.fraction_digits,
     ) refl
-
-pub numbers_no_colon : (max : ℕ) (fields : List (List ℕ)) (values : List ℤ) → AllZip (StandsFor max) fields values → have_colon fields ≡ false
-numbers_no_colon max [] [] h = refl
-numbers_no_colon max [] (v ∷ values) h = absurd h
-numbers_no_colon max (field ∷ fields) [] h = absurd h
-numbers_no_colon max (field ∷ fields) (v ∷ values) h =
-    rw (number_no_colon max field v h.0, numbers_no_colon max fields values h.1) refl

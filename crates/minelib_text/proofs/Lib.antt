@@ -46,6 +46,7 @@ pub mod ValidHeader
 pub mod ValidModel
 pub mod ValidPreds
 pub mod ValidRead
+pub mod ValuesLineFacts
 pub mod WriteFacts
 pub mod FieldSteps
 pub mod FormFields

@@ -2,16 +2,18 @@
 use Rattle.std.specs.Prelude.{◌≡◌, ℕ, ◌≤◌, true, List, [], ◌∷◌, ◌++◌, length, Ok}
 use Rattle.std.proofs.Common.{refl, sym, ap, subst, arith, length-append}
 use Rattle.std.proofs.lemmas.Bool.{eqb-true}
-use Rattle.minelib_text.specs.HeaderKeys.{is_complete, with_key}
+use Rattle.minelib_text.specs.declared.model_key.HeaderKey.TheVariants as key
+use Rattle.minelib_text.specs.HeaderKeys.{count_in, is_complete, with_key}
 use Rattle.minelib_text.specs.ModelLines.{ModelDraftView, blank_model, is_ready, name_with, admit_model}
 use Rattle.minelib_text.specs.Reading.{read_lines}
-use Rattle.minelib_text.specs.TextLines.{Line}
+use Rattle.minelib_text.specs.TextLines.{fields_of, Line}
 use Rattle.minelib_text.specs.declared.model_key.Problem.{Problem}
 use Rattle.minelib_text.specs.declared.model_key.Section.{Section}
 use Rattle.minelib_text.specs.declared.model_key.Section.TheVariants.{Heading, Objective, Coefs, Limits}
 use Rattle.minelib_text.proofs.ModelSteps.{next_by, SetsKey, BeginsSection, AddsValues, AddsCoef, AddsLimit, Step, model_step, Keyed, Begun, Valued, Spent, Limited}
 use Rattle.minelib_text.proofs.ReadSteps.{kept_by_lines}
 use Rattle.minelib_text.proofs.SpelledModelRead.{in_heading}
+use Rattle.minelib_text.proofs.ValuesLineFacts.{values_place}
 
 -- in the header no item stands; behind it all keys do, and behind the values all of these
 abbrev pub Ready : Section → ModelDraftView → Type 0
@@ -44,7 +46,7 @@ valued : (d : ModelDraftView) (line : List ℕ) (next : ModelDraftView) → Adds
 valued d line next s was =
     let before = subst (λ section. Ready section d) s.here was in
     let after : ModelDraftView = record d { values = d.values ++ s.values ∷ [] } in
-    let below = s.spelled.states_block.below in
+    let below = (values_place d.blocks (count_in d.header key.Destinations) (length d.values) (fields_of line) s.values s.spelled) in
     let now : Ready Objective after = (before.0, omega (arith, length-append d.values (s.values ∷ []))) in
     subst (λ d. Ready d.section d) s.is (subst (λ section. Ready section after) (sym s.here) now)
 

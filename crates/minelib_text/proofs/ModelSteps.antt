@@ -22,9 +22,10 @@ use Rattle.minelib_text.specs.declared.model_key.Section.{Section}
 use Rattle.minelib_text.specs.declared.model_key.Section.TheVariants.{Heading, Objective, Coefs, Limits}
 use Rattle.minelib_text.specs.declared.text_fault.TextKind.TheVariants.{Fields, Order, Twice, Key, Missing}
 use Rattle.minelib_text.proofs.CoefLineFacts.{coef_line}
-use Rattle.minelib_text.proofs.ItemSteps.{values_line, limit_line}
+use Rattle.minelib_text.proofs.ItemSteps.{limit_line}
 use Rattle.minelib_text.proofs.KeySteps.{key_says}
 use Rattle.minelib_text.proofs.ReadSteps.{bind_then, guard_then, then_ok, same_ok, counted}
+use Rattle.minelib_text.proofs.ValuesLineFacts.{values_line}
 
 -- a line of a header key
 pub record SetsKey (d : ModelDraftView) (line : List ℕ) (next : ModelDraftView) : Type 0 where

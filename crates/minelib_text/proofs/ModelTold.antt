@@ -1,5 +1,5 @@
 -- The fault of a line of a model file is the first thing asked of it that does not hold.
-use Rattle.std.specs.Prelude.{◌≡◌, ℕ, ◌+◌, ◌^◌, ◌≤◌, ◌==◌, ◌||◌, not, Bool, true, false, List, [], ◌∷◌, ◌++◌, length, drop, ℤ, Option, Some, None, Result, Ok, Err, if◌then◌else◌, codes}
+use Rattle.std.specs.Prelude.{◌≡◌, ℕ, ◌+◌, ◌^◌, ◌≤◌, ◌==◌, ◌||◌, not, Bool, true, false, List, [], ◌∷◌, ◌++◌, length, Option, Some, None, Result, Ok, Err, if◌then◌else◌, codes}
 use Rattle.std.specs.List.{list_any, before_first, after_first}
 use Rattle.std.specs.Str.{bytes_eq}
 use Rattle.std.proofs.Common.{refl, sym, ◌∙◌, ap, subst, arith, inl, inr, eq-eqb}
@@ -22,9 +22,9 @@ use Rattle.pit_model.specs.declared.limit.Limit.{Limit}
 use Rattle.pit_model.specs.declared.ranges.TheConstants.{MAX_BLOCKS, MAX_DESTINATIONS, MAX_PERIODS, MAX_RESOURCES}
 use Rattle.mine_instance.specs.Order.{comes_before}
 use Rattle.mine_instance.specs.declared.coef.Coef.{Coef}
-use Rattle.minelib_text.specs.FieldValues.{stated, whole_below, whole_in, decimal_in, first_by, all_by}
+use Rattle.minelib_text.specs.FieldValues.{stated, whole_below, whole_in, decimal_in, first_by}
 use Rattle.minelib_text.specs.LineDemands.{whole, size, field_at}
-use Rattle.minelib_text.specs.ModelDemands.{decimal, decimals, counted, asked_of_value, asked_of_key, asked_of_values, asked_of_coef, width_of_limit, limit_fields, asked_of_limit, asked_of_item, asked_by, asked_of_model}
+use Rattle.minelib_text.specs.ModelDemands.{decimal, counted, asked_of_value, asked_of_key, asked_of_values, asked_of_coef, width_of_limit, limit_fields, asked_of_limit, asked_of_item, asked_by, asked_of_model}
 use Rattle.minelib_text.specs.HeaderKeys.{count_in, is_given}
 use Rattle.minelib_text.specs.ModelLines.{ModelDraftView, counted_in, is_colon, is_heading, is_next, is_ready, is_behind, key_of, last_of, type_text, number_in, only_value, admit_key, values_of, coef_of, limit_width, interval_in, bound_in, limit_of, admit_coef, admit_limit, admit_item, admit_model}
 use Rattle.minelib_text.specs.SpelledFields.{StatesWhole}
@@ -41,10 +41,11 @@ use Rattle.minelib_text.specs.declared.text_fault.TextKind.TheVariants as fault
 use Rattle.minelib_text.proofs.CoefLineFacts.{coef_back, coef_told}
 use Rattle.minelib_text.proofs.ItemSteps.{limit_line}
 use Rattle.minelib_text.proofs.KeySteps.{counted_ok}
-use Rattle.minelib_text.proofs.LineTold.{number_told, below_ranged, whole_told, size_told, first_told, test_told, tested, one_whole}
-use Rattle.minelib_text.proofs.ReadSteps.{counted as right_width, decimal_in_ok}
+use Rattle.minelib_text.proofs.LineTold.{number_told, below_ranged, whole_told, size_told, first_told, one_whole}
+use Rattle.minelib_text.proofs.ReadSteps.{decimal_in_ok}
 use Rattle.minelib_text.proofs.SpelledItemsBack.{decimal_back, limit_back}
 use Rattle.minelib_text.proofs.SpelledModelBack.{counted_back}
+use Rattle.minelib_text.proofs.ValuesLineFacts.{values_told}
 
 -- an answer changed
 mapped : {A B : Type 0} (r : Result A TextKind) (g : A → B) (ds : List (Demand TextKind)) (P : A → Type 0) → Follows r ds P
@@ -82,12 +83,6 @@ decimal_told field =
     (number_told 6 field (λ m. Ok m) (StandsFor 6 field) (omega arith) (λ m kind e. absurd cc)
     (λ m e. decimal_in_ok field m (sym (bind_id (stated (decimal_of 6 field))) ∙ e))
     (λ m h. bind_id (stated (decimal_of 6 field)) ∙ decimal_back field m h))
-
-decimals_told : (done : List ℤ) (fields : List (List ℕ)) → Follows (all_by decimal_in done fields) (decimals fields) (λ vs. Unit {0})
-decimals_told done [] = (tt, tt)
-decimals_told done (field ∷ fields) =
-    bound (decimal_in field) _ (decimal field) (decimals fields) (StandsFor 6 field) (λ vs. Unit {0}) (decimal_told field)
-    (λ m is. decimals_told (done ++ m ∷ []) fields)
 
 some_ranged : (limit : ℕ) (r : Result ℕ TextKind) (kind : TextKind) → ((k : TextKind) → r ≡ Err k → k ≡ fault.Range)
     → (r >>= λ n. if n == 0 then Err fault.Range else Ok n) ≡ Err kind → kind ≡ fault.Range
@@ -175,23 +170,6 @@ key_told d (Some (model_key.Section section)) values =
 
 wrong_width : (n : ℕ) (fields : List (List ℕ)) → not (length fields == n) ≡ true → ¬ (length fields ≡ n)
 wrong_width n fields t h = let same : (length fields == n) ≡ true = eq-eqb (length fields) n h in absurd cc
-
-values_told : (n destinations before : ℕ) (fields : List (List ℕ))
-    → Follows (values_of n destinations before fields)
-    (demand fault.Fields (length fields ≡ destinations + 1) ++ whole n (field_at fields 0)
-    ++ (decimals (drop 1 fields) ++ demand fault.Order (StatesWhole n (field_at fields 0) before))) (λ vs. Unit {0})
-values_told n destinations before [] =
-    guarded (not (length {A = List ℕ} [] == destinations + 1)) fault.Fields (length {A = List ℕ} [] ≡ destinations + 1) _ _ (λ vs. Unit {0})
-    (wrong_width (destinations + 1) []) (λ t. absurd (omega (arith, right_width (destinations + 1) [] t)))
-values_told n destinations before (field ∷ fields) =
-    guarded (not (length (field ∷ fields) == destinations + 1)) fault.Fields (length (field ∷ fields) ≡ destinations + 1) _ _ (λ vs. Unit {0})
-    (wrong_width (destinations + 1) (field ∷ fields)) (λ t. (
-      right_width (destinations + 1) (field ∷ fields) t,
-      first_told (whole_in n) field fields _ (whole n field) _ (StatesWhole n field) _ (whole_told n field) (λ b is.
-          bound (all_by decimal_in [] fields) _ (decimals fields) _ (λ vs. Unit {0}) _ (decimals_told [] fields) (λ vs _.
-          guarded (not (b == before)) fault.Order (StatesWhole n field before) (Ok vs) [] (λ vs. Unit {0}) (test_told n field b before is) (λ t.
-          (tested n field b before is t, (tt, tt))))),
-    ))
 
 -- the fields of a line that has four, or three
 record AreFour (fields : List (List ℕ)) : Type 0 where
@@ -379,7 +357,7 @@ admit_limit_told d fields =
 item_told : (d : ModelDraftView) (section : Section) (fields : List (List ℕ)) → Follows (admit_item d section fields) (asked_of_item d section fields) (λ y. Unit {0})
 item_told d Heading fields = inl ((λ h. h), refl)
 item_told d Objective fields =
-    mapped (values_of d.blocks (count_in d.header key.Destinations) (length d.values) fields) _ (asked_of_values d fields) (λ vs. Unit {0})
+    mapped (values_of d.blocks (count_in d.header key.Destinations) (length d.values) fields) _ (asked_of_values d fields) _
     (values_told d.blocks (count_in d.header key.Destinations) (length d.values) fields)
 item_told d Coefs fields = admit_coef_told d fields
 item_told d Limits fields = admit_limit_told d fields

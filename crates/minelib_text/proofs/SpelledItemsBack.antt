@@ -1,50 +1,20 @@
 -- Lines that spell values, coefficients and limits are read as these, and have no colon.
-use Rattle.std.specs.Prelude.{◌≡◌, ℕ, ◌+◌, false, List, [], ◌∷◌, ◌++◌, length, ℤ, Ok}
-use Rattle.std.specs.List.{AllZip}
-use Rattle.std.proofs.Common.{refl, sym, ◌∙◌, ap, arith, append-nil, append_assoc, eq-eqb}
-use Rattle.std.proofs.lemmas.Slice.Zip.{AllZip-long}
+use Rattle.std.specs.Prelude.{◌≡◌, ℕ, false, List, ◌∷◌, ℤ, Ok}
+use Rattle.std.proofs.Common.{refl, ◌∙◌, ap, arith}
 use Rattle.pit_units.proofs.Standing.{stands_read}
 use Rattle.pit_units.specs.Decimal.{StandsFor}
-use Rattle.forms.specs.Steps.{◌>>=◌}
 use Rattle.pit_model.specs.declared.limit.Bound.{Bound}
 use Rattle.pit_model.specs.declared.limit.Bound.TheVariants.{AtMost, AtLeast, Between}
 use Rattle.pit_model.specs.declared.limit.Limit.{Limit}
-use Rattle.minelib_text.specs.FieldValues.{all_by, decimal_in, whole_in}
-use Rattle.minelib_text.specs.ModelLines.{values_of, limit_of}
-use Rattle.minelib_text.specs.SpelledItems.{IsValuesLine, StatesBound, IsLimitLine}
-use Rattle.minelib_text.proofs.Keyless.{have_colon, number_no_colon, numbers_no_colon}
+use Rattle.minelib_text.specs.FieldValues.{decimal_in, whole_in}
+use Rattle.minelib_text.specs.ModelLines.{limit_of}
+use Rattle.minelib_text.specs.SpelledItems.{StatesBound, IsLimitLine}
+use Rattle.minelib_text.proofs.Keyless.{have_colon, number_no_colon}
 use Rattle.minelib_text.proofs.SpelledBack.{whole_back}
 
 pub decimal_back : (field : List ℕ) (m : ℤ) → StandsFor 6 field m → decimal_in field ≡ Ok m
 unfolding decimal_in
 decimal_back field m h = rw (stands_read 6 field m (omega arith) h) refl
-
-decimals_back : (done : List ℤ) (fields : List (List ℕ)) (values : List ℤ) → AllZip (StandsFor 6) fields values
-    → all_by decimal_in done fields ≡ Ok (done ++ values)
-decimals_back done [] [] h = ap Ok (sym (append-nil done))
-decimals_back done [] (v ∷ values) h = absurd h
-decimals_back done (field ∷ fields) [] h = absurd h
-decimals_back done (field ∷ fields) (v ∷ values) h =
-    ap (λ r. r >>= λ x. all_by decimal_in (done ++ x ∷ []) fields) (decimal_back field v h.0)
-    ∙ decimals_back (done ++ v ∷ []) fields values h.1 ∙ ap Ok (append_assoc done (v ∷ []) values)
-
-values_here : (n destinations before : ℕ) (b : List ℕ) (each : List (List ℕ)) (vs : List ℤ) → whole_in n b ≡ Ok before
-    → all_by decimal_in [] each ≡ Ok vs → length each ≡ destinations → values_of n destinations before (b ∷ each) ≡ Ok vs
-values_here n destinations before b each vs e1 e2 count =
-    let width : length (b ∷ each) ≡ destinations + 1 = omega arith in
-    rw (eq-eqb _ _ width, e1, e2, eq-eqb before before refl) refl
-
-pub values_back : (n destinations before : ℕ) (fields : List (List ℕ)) (vs : List ℤ) → IsValuesLine n destinations before fields vs
-    → values_of n destinations before fields ≡ Ok vs
-values_back n destinations before fields vs h =
-    ap (values_of n destinations before) h.here
-    ∙ values_here n destinations before h.b h.each vs (whole_back n h.b before h.states_block) (decimals_back [] h.each vs h.states_each)
-    (sym (AllZip-long (StandsFor 6) h.each vs h.states_each) ∙ h.one_each)
-
-pub values_keyless : (n destinations before : ℕ) (fields : List (List ℕ)) (vs : List ℤ) → IsValuesLine n destinations before fields vs
-    → have_colon fields ≡ false
-values_keyless n destinations before fields vs h =
-    rw (h.here, number_no_colon 0 h.b _ h.states_block.stands, numbers_no_colon 6 h.each vs h.states_each) refl
 
 -- the bound behind `r t`: so many fields, and what they state
 limit_here : (resources periods : ℕ) (r t : List ℕ) (fields : List (List ℕ)) (resource period : ℕ) (bound : Bound) → whole_in resources r ≡ Ok resource

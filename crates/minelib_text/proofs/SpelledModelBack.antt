@@ -40,7 +40,8 @@ use Rattle.minelib_text.proofs.Places.{behind_last}
 use Rattle.minelib_text.proofs.ReadSteps.{bind_then, same_ok}
 use Rattle.minelib_text.proofs.SpelledBack.{whole_back, size_back, next_line}
 use Rattle.minelib_text.proofs.CoefLineFacts.{coef_back, coef_keyless}
-use Rattle.minelib_text.proofs.SpelledItemsBack.{values_back, values_keyless, limit_back, limit_keyless}
+use Rattle.minelib_text.proofs.SpelledItemsBack.{limit_back, limit_keyless}
+use Rattle.minelib_text.proofs.ValuesLineFacts.{values_back, values_keyless}
 
 -- a header with all that the model states
 abbrev full : StatedModel → Header

@@ -25,6 +25,7 @@ use Rattle.minelib_text.proofs.ValidHeader.{KeepsOwn, KeepsHeader, blank_kept, o
 use Rattle.minelib_text.proofs.ModelSteps.{next_by, SetsKey, BeginsSection, AddsValues, AddsCoef, AddsLimit, Step, model_step, Keyed, Begun, Valued, Spent, Limited}
 use Rattle.minelib_text.proofs.ReadSteps.{kept_by_lines}
 use Rattle.minelib_text.proofs.Rising.{rises_behind}
+use Rattle.minelib_text.proofs.ValuesLineFacts.{one_each}
 
 -- what is read of n blocks
 pub record KeepsModel (problem : Problem) (n : ℕ) (d : ModelDraftView) : Type 0 where
@@ -112,7 +113,8 @@ values_kept problem n d line next s kept = subst (KeepsModel problem n) s.is (re
   of_blocks = kept.of_blocks;
   header = kept.header;
   none_yet = λ first. absurd (behind_heading d.section Objective s.here refl first);
-  values = All-push (λ values. length values ≡ count_in d.header key.Destinations) d.values s.values kept.values s.spelled.one_each;
+  values = All-push (λ values. length values ≡ count_in d.header key.Destinations) d.values s.values kept.values
+      (one_each d.blocks (count_in d.header key.Destinations) (length d.values) (fields_of line) s.values s.spelled);
   coefs = kept.coefs;
   limits = kept.limits;
 })

@@ -16,8 +16,12 @@ in_parts first other others = append_assoc first (32 ∷ line_of (other ∷ othe
 
 pub coef_parts : (c : Coef)
     → line_of (coef_fields Pcpsp 0 c) ++ 10 ∷ [] ≡ decimal c.b ++ 32 ∷ (line_of (decimal c.d ∷ decimal c.r ∷ shortest c.v ∷ []) ++ 10 ∷ [])
-coef_parts c = rw (whole_written c.b, whole_written c.d, whole_written c.r) (in_parts (decimal c.b) (decimal c.d) (decimal c.r ∷ shortest c.v ∷ []))
+coef_parts c =
+    rw (whole_written c.b, whole_written c.d, whole_written c.r)
+    (in_parts (decimal c.b) (decimal c.d) (decimal c.r ∷ shortest c.v ∷ []))
 
 pub cpit_coef_parts : (c : CpitCoef)
     → line_of (cpit_coef_fields 0 c) ++ 10 ∷ [] ≡ decimal c.b ++ 32 ∷ (line_of (decimal c.r ∷ shortest c.v ∷ []) ++ 10 ∷ [])
-cpit_coef_parts c = rw (whole_written c.b, whole_written c.r) (in_parts (decimal c.b) (decimal c.r) (shortest c.v ∷ []))
+cpit_coef_parts c =
+    rw (whole_written c.b, whole_written c.r)
+    (in_parts (decimal c.b) (decimal c.r) (shortest c.v ∷ []))

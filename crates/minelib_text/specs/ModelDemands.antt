@@ -1,11 +1,11 @@
 -- What is asked of a line of a model file behind those so far, in the order in which it is looked
 -- at, with the kind of fault where it is not so: the table of kinds, in its own words.
-use Rattle.std.specs.Prelude.{◌≡◌, ℕ, ◌+◌, ◌^◌, ◌≤◌, Bool, true, false, List, [], ◌∷◌, ◌++◌, length, drop, ℤ, Option, Some, None, ◌⊎◌, codes}
+use Rattle.std.specs.Prelude.{◌≡◌, ℕ, ◌+◌, ◌^◌, ◌≤◌, Bool, true, false, List, [], ◌∷◌, ◌++◌, length, ℤ, Option, Some, None, ◌⊎◌, codes}
 use Rattle.std.specs.List.{list_any, before_first, after_first}
 use Rattle.std.specs.Str.{bytes_eq}
 use Rattle.pit_units.specs.Decimal.{StandsFor}
 use Rattle.forms.specs.Demands.{Demand, demand, FailsFirst}
-use Rattle.forms.specs.Form.{asked}
+use Rattle.forms.specs.Form.{Says, asked, below, whole as whole_value}
 use Rattle.pit_model.specs.Name.{is_name}
 use Rattle.pit_model.specs.Plan.{stands_before}
 use Rattle.pit_model.specs.declared.limit.Limit.{Limit}
@@ -18,7 +18,7 @@ use Rattle.minelib_text.specs.HeaderKeys.{count_in, is_given}
 use Rattle.minelib_text.specs.ModelLines.{ModelDraftView, is_colon, is_heading, is_next, is_ready, is_behind, key_of, last_of, type_text}
 use Rattle.minelib_text.specs.ModelSoFar.{SpellSoFar}
 use Rattle.minelib_text.specs.SpelledFields.{StatesWhole}
-use Rattle.minelib_text.specs.SpelledItems.{coef_form, IsCoefLine, IsLimitLine}
+use Rattle.minelib_text.specs.SpelledItems.{coef_form, values_form, IsCoefLine, IsLimitLine}
 use Rattle.minelib_text.specs.TextLines.{Line, fields_of}
 use Rattle.minelib_text.specs.declared.model_key.HeaderKey.{HeaderKey}
 use Rattle.minelib_text.specs.declared.model_key.HeaderKey.TheVariants as key
@@ -34,10 +34,6 @@ use Rattle.minelib_text.specs.declared.text_fault.TextKind.TheVariants as fault
 -- any decimal
 abbrev pub decimal : List ℕ → List (Demand TextKind)
 decimal field = number 6 field ((m : ℤ) × StandsFor 6 field m)
-
-abbrev pub decimals : List (List ℕ) → List (Demand TextKind)
-decimals [] = []
-decimals (field ∷ fields) = decimal field ++ decimals fields
 
 -- a whole number from 1, below a limit
 abbrev pub counted : ℕ → List ℕ → List (Demand TextKind)
@@ -70,17 +66,14 @@ asked_of_key d (Some (model_key.Section section)) values =
 -- `b v0 v1 ..`: those of the next block
 abbrev pub asked_of_values : ModelDraftView → List (List ℕ) → List (Demand TextKind)
 asked_of_values d fields =
-    demand fault.Fields (length fields ≡ count_in d.header key.Destinations + 1)
-    ++ whole d.blocks (field_at fields 0)
-    ++ (decimals (drop 1 fields)
-    ++ demand fault.Order (StatesWhole d.blocks (field_at fields 0) (length d.values)))
+    asked text_kind (values_form d.blocks (count_in d.header key.Destinations)) fields
+    ++ demand fault.Order (Says (below d.blocks) (field_at fields 0) (whole_value (length d.values)))
 
 -- a coefficient, behind the last one
 abbrev pub asked_of_coef : ModelDraftView → List (List ℕ) → List (Demand TextKind)
 asked_of_coef d fields =
-    asked text_kind
-    (coef_form d.problem d.blocks (count_in d.header key.Destinations) (count_in d.header key.Resources))
-    fields
+    asked text_kind (coef_form d.problem d.blocks (count_in d.header key.Destinations)
+    (count_in d.header key.Resources)) fields
     ++ demand fault.Order ((c : Coef)
     × IsCoefLine d.problem d.blocks (count_in d.header key.Destinations) (count_in d.header key.Resources)
     fields c × (is_behind comes_before (last_of d.coefs) c ≡ true))

@@ -1,8 +1,8 @@
 -- What a model file states: the production scheduling problem, or the constrained pit limit problem.
-use Rattle.std.specs.Prelude.{ℕ, ◌+◌, ◌-◌, ◌==◌, ◌&&◌, ◌||◌, ◌^◌, not, Bool, true, false, List, [], ◌∷◌, ◌++◌, length, ℤ, Option, Some, None, slice_get, slice_index_or, Result, Ok, Err, if◌then◌else◌, codes}
+use Rattle.std.specs.Prelude.{ℕ, ◌+◌, ◌-◌, ◌==◌, ◌&&◌, ◌||◌, ◌^◌, not, Bool, true, false, List, [], ◌∷◌, ◌++◌, drop, length, map, ℤ, Option, Some, None, slice_get, slice_index_or, Result, Ok, Err, if◌then◌else◌, codes}
 use Rattle.std.specs.List.{list_any, before_first, after_first}
 use Rattle.std.specs.Str.{bytes_eq}
-use Rattle.forms.specs.Form.{Value, number_at, read, whole_at}
+use Rattle.forms.specs.Form.{Value, millionths, number_at, read, whole_at}
 use Rattle.forms.specs.Steps.{◌>>=◌}
 use Rattle.pit_model.specs.Name.{is_name}
 use Rattle.pit_model.specs.Plan.{is_turned, stands_before}
@@ -12,11 +12,11 @@ use Rattle.pit_model.specs.declared.limit.Limit.{Limit}
 use Rattle.pit_model.specs.declared.ranges.TheConstants.{MAX_BLOCKS, MAX_DESTINATIONS, MAX_PERIODS, MAX_RESOURCES}
 use Rattle.mine_instance.specs.Order.{comes_before}
 use Rattle.mine_instance.specs.declared.coef.Coef.{Coef}
-use Rattle.minelib_text.specs.FieldValues.{first_by, all_by, size_in, whole_in, decimal_in}
+use Rattle.minelib_text.specs.FieldValues.{first_by, size_in, whole_in, decimal_in}
 use Rattle.minelib_text.specs.HeaderKeys.{no_key, with_key, count_in, is_given, is_complete}
 use Rattle.minelib_text.specs.LineKinds.{text_kind}
 use Rattle.minelib_text.specs.Reading.{read_lines}
-use Rattle.minelib_text.specs.SpelledItems.{coef_form}
+use Rattle.minelib_text.specs.SpelledItems.{coef_form, values_form}
 use Rattle.minelib_text.specs.TextLines.{fields_of, lines_in, end_of}
 use Rattle.minelib_text.specs.declared.model_key.Header.{Header}
 use Rattle.minelib_text.specs.declared.model_key.HeaderKey.{HeaderKey}
@@ -177,13 +177,15 @@ admit_key d None values = Err Key
 admit_key d (Some (model_key.Header k)) values = admit_header d k values
 admit_key d (Some (model_key.Section section)) values = admit_section d section values
 
--- `b v0 v1 ..` of n blocks, one value for each destination, where so many lines stand before
-abbrev pub values_of : ℕ → ℕ → ℕ → List (List ℕ) → Result (List ℤ) TextKind
+-- the values of a line, where so many lines stand before
+abbrev pub values_said : ℕ → List Value → Result (List ℤ) TextKind
+values_said before values =
+    if not (whole_at values 0 == before) then Err Order else Ok (map millionths (drop 1 values))
+
+-- `b v0 v1 ..` of n blocks, one value for each destination
+unfoldable pub values_of : ℕ → ℕ → ℕ → List (List ℕ) → Result (List ℤ) TextKind
 values_of n destinations before fields =
-    if not (length fields == destinations + 1) then Err Fields else do
-      b ← first_by (whole_in n) fields
-      values ← all_by decimal_in [] b.1
-      if not (b.0 == before) then Err Order else Ok values
+    read text_kind (values_form n destinations) fields >>= values_said before
 
 -- the coefficient of the values of a line; a CPIT has one destination
 abbrev pub coef_said : Problem → List Value → Coef

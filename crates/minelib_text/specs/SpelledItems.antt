@@ -1,6 +1,5 @@
 -- How the lines of a model file's sections spell values, coefficients and limits.
-use Rattle.std.specs.Prelude.{◌≡◌, ℕ, List, [], ◌∷◌, length, ℤ, codes, false}
-use Rattle.std.specs.List.{AllZip}
+use Rattle.std.specs.Prelude.{◌≡◌, ℕ, List, [], ◌∷◌, map, replicate, ℤ, codes, false}
 use Rattle.pit_units.specs.Decimal.{StandsFor}
 use Rattle.forms.specs.Form.{Field, Value, Millionths, Spell, below, whole}
 use Rattle.pit_model.specs.Plan.{is_turned}
@@ -14,13 +13,15 @@ use Rattle.minelib_text.specs.declared.model_key.Problem.{Problem}
 use Rattle.minelib_text.specs.declared.model_key.Problem.TheVariants.{Pcpsp, Cpit}
 
 -- `b v0 v1 ..` of n blocks: a value for each destination
-pub record IsValuesLine (n destinations block : ℕ) (fields : List (List ℕ)) (values : List ℤ) : Type 0 where
-  pub b : List ℕ
-  pub each : List (List ℕ)
-  pub here : fields ≡ b ∷ each
-  pub states_block : StatesWhole n b block
-  pub states_each : AllZip (StandsFor 6) each values
-  pub one_each : length values ≡ destinations
+abbrev pub values_form : ℕ → ℕ → List Field
+values_form n destinations = below n ∷ replicate destinations any
+
+abbrev pub values_values : ℕ → List ℤ → List Value
+values_values block values = whole block ∷ map Millionths values
+
+abbrev pub IsValuesLine : ℕ → ℕ → ℕ → List (List ℕ) → List ℤ → Type 0
+IsValuesLine n destinations block fields values =
+    Spell (values_form n destinations) fields (values_values block values)
 
 -- `b d r v` of a coefficient, or `b r v` where there is one destination
 abbrev pub coef_form : Problem → ℕ → ℕ → ℕ → List Field

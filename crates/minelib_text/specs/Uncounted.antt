@@ -48,7 +48,14 @@ preds_alone n before fields = do
   ids ← all_by (whole_in n) [] stated.1
   preds_with before id.0 stated.0 ids
 
--- the destination of a coefficient, and the fields behind it; that of a CPIT has none, and stands for the only one
+-- the values of a line of as many fields as it has to have
+abbrev pub values_alone : ℕ → ℕ → List (List ℕ) → Result (List ℤ) TextKind
+values_alone n before fields = do
+  b ← first_by (whole_in n) fields
+  values ← all_by decimal_in [] b.1
+  if not (b.0 == before) then Err Order else Ok values
+
+-- the destination of a coefficient, and the fields behind it; that of a CPIT stands for the only one
 abbrev pub destination_in : Problem → ℕ → List (List ℕ) → Result (ℕ × List (List ℕ)) TextKind
 destination_in Pcpsp destinations fields = first_by (whole_in destinations) fields
 destination_in Cpit destinations fields = Ok (0, fields)

@@ -14,7 +14,7 @@ use Rattle.mine_instance.specs.declared.instance.Instance.{Instance}
 use Rattle.minelib_text.specs.Lines.{text_of, line_of, lines_from}
 use Rattle.minelib_text.specs.SpelledBlocks.{block_values}
 use Rattle.minelib_text.specs.SpelledPrec.{preds_values}
-use Rattle.minelib_text.specs.SpelledItems.{coef_values}
+use Rattle.minelib_text.specs.SpelledItems.{coef_values, values_values}
 use Rattle.minelib_text.specs.StatedModel.{at_only_destination}
 use Rattle.minelib_text.specs.declared.model_key.Problem.{Problem}
 use Rattle.minelib_text.specs.declared.model_key.Problem.TheVariants.{Pcpsp, Cpit}
@@ -27,13 +27,13 @@ block_fields n b = written (block_values n b)
 abbrev pub prec_fields : ℕ → List ℕ → List (List ℕ)
 prec_fields n ids = written (preds_values n ids)
 
--- `b v`, the greatest of the block's values
-abbrev pub greatest_fields : ℕ → List ℤ → List (List ℕ)
-greatest_fields n values = decimal n ∷ shortest (greatest values) ∷ []
-
 -- `b v0 v1 ..`
 abbrev pub value_fields : ℕ → List ℤ → List (List ℕ)
-value_fields n values = decimal n ∷ map shortest values
+value_fields n values = written (values_values n values)
+
+-- `b v`, the greatest of the block's values
+abbrev pub greatest_fields : ℕ → List ℤ → List (List ℕ)
+greatest_fields n values = value_fields n (greatest values ∷ [])
 
 -- `b d r v`, or `b r v`
 abbrev pub coef_fields : Problem → ℕ → Coef → List (List ℕ)
@@ -51,7 +51,7 @@ limit_fields n l = decimal l.resource ∷ decimal l.period ∷ bound_fields l.bo
 
 -- `b v`, the one value of a block of a CPIT
 abbrev pub cpit_value_fields : ℕ → ℤ → List (List ℕ)
-cpit_value_fields n value = decimal n ∷ shortest value ∷ []
+cpit_value_fields n value = value_fields n (value ∷ [])
 
 -- `b r v`
 abbrev pub cpit_coef_fields : ℕ → CpitCoef → List (List ℕ)

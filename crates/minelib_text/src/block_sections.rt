@@ -1,8 +1,9 @@
 //! The lines of predecessors and values, one for each block.
 
-ghost use Rattle.std.specs.Prelude.{◌≡◌, ◌<◌, ◌≤◌, ◌++◌, ◌∷◌, [], length, All, OnOk, decimal};
+ghost use Rattle.std.specs.Prelude.{◌≡◌, ◌<◌, ◌≤◌, ◌++◌, ◌∷◌, [], length, map, All, OnOk, decimal};
 ghost use Rattle.std.specs.List.{flat_map};
 ghost use Rattle.pit_units.specs.Decimal.{shortest};
+ghost use Rattle.mine_instance.specs.Greatest.{greatest};
 ghost use Rattle.minelib_text.specs.Lines.{line_of, lines_from};
 ghost use Rattle.minelib_text.specs.Written.{prec_fields, greatest_fields, value_fields};
 ghost use Rattle.pit_model.specs.declared.ranges.TheConstants.{MAX_BLOCKS};
@@ -66,7 +67,7 @@ impl<'a> Section for ValueLines<'a> {
 }
 
 fn put_values(alloc: Global, out: &mut Vec<u8>, id: usize, values: &[Dec]) -> Result<(), AllocError>
-    ensures { OnOk result (out.new.items ≡ out.old.items ++ (line_of (value_fields id values.now) ++ 10 ∷ [])) }
+    ensures { OnOk result (out.new.items ≡ out.old.items ++ (line_of (decimal id ∷ map shortest values.now) ++ 10 ∷ [])) }
 {
     put_whole(out, id as u64)?;
     put_decimals(alloc, out, values)?;
@@ -109,7 +110,7 @@ fn put_greatest(
     values: &[Dec],
 ) -> Result<(), AllocError>
     requires { 0 < length values.now }
-    ensures { OnOk result (out.new.items ≡ out.old.items ++ (line_of (greatest_fields id values.now) ++ 10 ∷ [])) }
+    ensures { OnOk result (out.new.items ≡ out.old.items ++ (line_of (decimal id ∷ shortest (greatest values.now) ∷ []) ++ 10 ∷ [])) }
 {
     put_whole(out, id as u64)?;
     put_decimal_behind(alloc, out, b' ', greatest(values))?;

@@ -47,6 +47,7 @@ pub fn values_in(
 }
 
 /// Reads the values of a line of as many fields as it has to have. The fault of another line may be of another kind.
+#[tactic(auto, using(crate::proofs::ValuesLineFacts::values_counted))]
 pub fn values_alone(
     blocks: usize,
     destinations: u8,

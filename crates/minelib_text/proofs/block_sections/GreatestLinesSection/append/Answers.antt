@@ -1,5 +1,6 @@
 use Rattle.std.proofs.Common.{◌<◌, [], length, ◌∙◌}
 use Rattle.std.proofs.lemmas.List.{get_or_default}
+use Rattle.pit_units.proofs.Written.{whole_written}
 use Rattle.minelib_text.specs.Written.{greatest_fields}
 use Rattle.minelib_text.proofs.LineFacts.{length-lines_from, line_at}
 use Rattle.minelib_text.proofs.block_sections.GreatestLinesSection.append.Goals as goal
@@ -15,5 +16,8 @@ put_greatest-requires c =
 pub returns : goal.returns
 returns c =
     let within : c.args.index < length c.args.self.now.values.now = rw length-lines_from at c.requires in
-    rw (line_at greatest_fields c.args.index c.args.self.now.values.now c.of.result.now within
-    (c.of.ensures ∙ get_or_default c.args.self.now.values.now c.args.index [] c.of.result.now within)) c.put_greatest.ensures
+    rw (
+      line_at greatest_fields c.args.index c.args.self.now.values.now c.of.result.now within
+          (c.of.ensures ∙ get_or_default c.args.self.now.values.now c.args.index [] c.of.result.now within),
+      whole_written c.args.index,
+    ) c.put_greatest.ensures

@@ -2,6 +2,7 @@ use Rattle.std.proofs.Common.{◌<◌, [], length, ◌∙◌}
 use Rattle.std.proofs.lemmas.List.{get_or_default}
 use Rattle.minelib_text.specs.Written.{value_fields}
 use Rattle.minelib_text.proofs.LineFacts.{length-lines_from, line_at}
+use Rattle.minelib_text.proofs.ValuesLineFacts.{values_written}
 use Rattle.minelib_text.proofs.block_sections.ValueLinesSection.append.Goals as goal
 
 pub of-requires : goal.of-requires
@@ -10,5 +11,8 @@ of-requires c = rw length-lines_from at c.requires
 pub returns : goal.returns
 returns c =
     let within : c.args.index < length c.args.self.now.values.now = rw length-lines_from at c.requires in
-    rw (line_at value_fields c.args.index c.args.self.now.values.now c.of.result.now within
-    (c.of.ensures ∙ get_or_default c.args.self.now.values.now c.args.index [] c.of.result.now within)) c.put_values.ensures
+    rw (
+      line_at value_fields c.args.index c.args.self.now.values.now c.of.result.now within
+          (c.of.ensures ∙ get_or_default c.args.self.now.values.now c.args.index [] c.of.result.now within),
+      values_written c.args.index c.of.result.now,
+    ) c.put_values.ensures
