@@ -1,10 +1,10 @@
 -- The lines of blocks: what is read of a line is what it spells, and its fault is the first thing asked of it that does not hold.
-use Rattle.std.specs.Prelude.{◌≡◌, ℕ, ◌*◌, ◌/◌, ◌%◌, ◌^◌, ◌<◌, ◌≤◌, ◌==◌, not, Bool, true, false, List, [], ◌∷◌, pos, slice_index_or, Ok}
+use Rattle.std.specs.Prelude.{◌≡◌, ℕ, ◌*◌, ◌/◌, ◌%◌, ◌^◌, ◌<◌, ◌≤◌, ◌==◌, not, List, [], ◌∷◌, pos, slice_index_or, Ok}
 use Rattle.std.proofs.Common.{refl, sym, ◌∙◌, ap, subst, arith, eq-eqb}
 use Rattle.std.proofs.lemmas.Bool.{eqb-true, not-false}
-use Rattle.forms.proofs.DemandFacts.{Follows, bound, guarded}
+use Rattle.forms.proofs.DemandFacts.{Follows, bound}
 use Rattle.forms.proofs.FormFacts.{read_spelled, read_told, spelled_fit, spelled_read}
-use Rattle.forms.proofs.NumberFields.{one_whole, quotient, says_at, size_fits, size_found, whole_fits, whole_found}
+use Rattle.forms.proofs.NumberFields.{quotient, says_at, size_fits, size_found, whole_fits, whole_found}
 use Rattle.forms.specs.Demands.{demand}
 use Rattle.forms.specs.Form.{Value, Millionths, Fit, Says, Spell, asked, below, read, whole}
 use Rattle.forms.specs.Steps.{◌>>=◌}
@@ -15,6 +15,7 @@ use Rattle.minelib_text.specs.SpelledBlocks.{IsBlockLine, asked_of_block, block_
 use Rattle.minelib_text.specs.declared.text_fault.TextKind.TheVariants.{Order}
 use Rattle.minelib_text.proofs.BlockMade.{made, parts_of, with_again}
 use Rattle.minelib_text.proofs.ReadSteps.{bind_then, guard_then}
+use Rattle.minelib_text.proofs.WantedNumber.{wanted_told}
 
 -- the values of a block fit, and say it
 pub block_fits : (n : ℕ) (b : Block) → n < 64000000 → Fit block_form (block_values n b)
@@ -140,15 +141,7 @@ unfolding block_said
 seven_told before id x y z tonnes grade zone first low_x low_y low_z low_tonnes low_grade low_zone says =
     let b = made x y z tonnes grade zone low_x low_y low_z low_tonnes low_grade low_zone in
     rw (quotient id, quotient x, quotient y, quotient z, quotient zone, b.1) (
-    guarded (not (id == before)) Order (Says (below 64000000) first (whole before)) (Ok b.0) [] (λ b. Unit {0})
-    (λ test other. refuted (id == before) test (eq-eqb id before (one_whole 64000000 first id before says other))) (λ test. (
-      subst (λ n. Says (below 64000000) first (whole n)) (eqb-true id before (not-false (id == before) test)) says,
-      (tt, tt),
-    )))
-  where
-    refuted : (t : Bool) → not t ≡ true → t ≡ true → ⊥
-    refuted true a b = absurd cc
-    refuted false a b = absurd cc
+    wanted_told Order 64000000 first id before (Ok b.0) [] (λ b. Unit {0}) says (λ same. (tt, tt)))
 
 pub block_told : (before : ℕ) (fields : List (List ℕ)) → Follows (block_of before fields) (asked_of_block before fields) (λ b. Unit {0})
 unfolding block_of

@@ -1,7 +1,8 @@
 -- A line of which all fields are read, and none is left, has as many fields as it has to have.
-use Rattle.std.specs.Prelude.{◌≡◌, ℕ, ◌*◌, ◌/◌, ◌==◌, nat_lt, not, true, false, List, [], ◌∷◌, length, map, pos, Ok, Err, if◌then◌else◌}
+use Rattle.std.specs.Prelude.{◌≡◌, ℕ, suc, ◌*◌, ◌/◌, ◌==◌, nat_lt, not, Bool, true, false, List, [], ◌∷◌, length, map, pos, Result, Ok, Err, if◌then◌else◌}
 use Rattle.std.proofs.Common.{refl, sym, ◌∙◌, ap, arith}
-use Rattle.std.proofs.lemmas.Bool.{ltb-true}
+use Rattle.std.proofs.lemmas.Bool.{eqb-true, le-ltb, ltb-true, not-false}
+use Rattle.std.proofs.lemmas.List.{length-map}
 use Rattle.forms.proofs.FormFacts.{counted, counted_later, fault_later}
 use Rattle.forms.proofs.NumberFields.{quotient}
 use Rattle.forms.specs.Form.{Millionths, below, read_fields, up_to, whole}
@@ -73,22 +74,15 @@ unfolding preds_of
 preds_counted n before fields ids e =
     counted_later text_kind (preds_form n fields) fields (preds_said before) ids (sym (preds_alone_read n before fields) ∙ e)
 
-as_many : (n : ℕ) (fields : List (List ℕ)) → length fields ≡ length (map (λ field. below n) fields)
-as_many n [] = refl
-as_many n (field ∷ fields) = omega (arith, as_many n fields)
-
--- a line of fewer than two fields, and any other
-pub preds_lacking : (n before : ℕ) (fields : List (List ℕ)) → nat_lt (length fields) 2 ≡ true → preds_of n before fields ≡ Err Fields
+-- a line of fewer than two fields lacks some
+pub preds_by_count : (n before : ℕ) (fields : List (List ℕ))
+    → preds_of n before fields ≡ (if nat_lt (length fields) 2 then Err Fields else preds_alone n before fields)
 unfolding preds_of
-preds_lacking n before [] e = refl
-preds_lacking n before (lone ∷ []) e = refl
-preds_lacking n before (id ∷ count ∷ others) e = absurd (omega (arith, ltb-true (length (id ∷ count ∷ others)) 2 e))
-
-pub preds_same : (n before : ℕ) (fields : List (List ℕ)) → nat_lt (length fields) 2 ≡ false → preds_of n before fields ≡ preds_alone n before fields
-unfolding preds_of
-preds_same n before [] e = absurd cc
-preds_same n before (lone ∷ []) e = absurd cc
-preds_same n before (id ∷ count ∷ others) e =
-    ap (λ r. r >>= preds_said before)
-    (counted text_kind (preds_form n (id ∷ count ∷ others)) (id ∷ count ∷ others) (omega (arith, as_many n others)))
-    ∙ sym (preds_alone_read n before (id ∷ count ∷ others))
+preds_by_count n before [] = refl
+preds_by_count n before (lone ∷ []) = refl
+preds_by_count n before (id ∷ count ∷ others) =
+    let two : nat_lt (length (id ∷ count ∷ others)) 2 ≡ false = le-ltb _ 2 (omega arith) in
+    let form = preds_form n (id ∷ count ∷ others) in
+    let as_many : length (id ∷ count ∷ others) ≡ length form = omega (arith, length-map others (λ field. below n)) in
+    rw two (ap (λ r. r >>= preds_said before) (counted text_kind form (id ∷ count ∷ others) as_many)
+    ∙ sym (preds_alone_read n before (id ∷ count ∷ others)))

@@ -71,23 +71,6 @@ size_reads decimals most text = by (decimal_of decimals text)
 unfoldable pub said_of : {B : Type 0} → List Field → List (List ℕ) → (List Value → Result B TextKind) → Result B TextKind
 said_of form fields said = read_fields text_kind form fields >>= said
 
--- a field and what follows it, as the first of a form
-behind_field : {A B : Type 0} (r : Result A TextKind) (value : A → Value) (form : List Field) (rest : List (List ℕ)) (next : A → Result B TextKind)
-    (said : List Value → Result B TextKind) → ((x : A) → next x ≡ said_of form rest (λ values. said (value x ∷ values)))
-    → (r >>= next) ≡ (((r >>= λ x. Ok (value x)) >>= λ v. read_fields text_kind form rest >>= λ values. Ok (v ∷ values)) >>= said)
-unfolding said_of
-behind_field {A} {B} (Ok x) value form rest next said goes_on = goes_on x ∙ tail (read_fields text_kind form rest)
-  where
-    tail : (r : Result (List Value) TextKind) → (r >>= λ values. said (value x ∷ values)) ≡ ((r >>= λ values. Ok (value x ∷ values)) >>= said)
-    tail (Ok values) = refl
-    tail (Err kind) = refl
-behind_field (Err kind) value form rest next said goes_on = refl
-
-taken_apart : {A B : Type 0} (r : Result A TextKind) (rest : List (List ℕ)) (next : A × List (List ℕ) → Result B TextKind)
-    → ((r >>= λ x. Ok (x, rest)) >>= next) ≡ (r >>= λ x. next (x, rest))
-taken_apart (Ok x) rest next = refl
-taken_apart (Err kind) rest next = refl
-
 -- no field is left
 pub none_step : {B : Type 0} (field : Field) (form : List Field) (said : List Value → Result B TextKind) → Err Fields ≡ said_of (field ∷ form) [] said
 unfolding said_of
@@ -99,8 +82,17 @@ pub first_step : {A B : Type 0} (field : Field) (form : List Field) (rule : List
     → ((x : A) → next (x, rest) ≡ said_of form rest (λ values. said (value x ∷ values)))
     → (first_by rule (text ∷ rest) >>= next) ≡ said_of (field ∷ form) (text ∷ rest) said
 unfolding said_of
-first_step field form rule value text rest next said reads goes_on =
-    rw (reads text) (taken_apart (rule text) rest next ∙ behind_field (rule text) value form rest (λ x. next (x, rest)) said goes_on)
+first_step {A} {B} field form rule value text rest next said reads goes_on =
+    rw (reads text) (by (rule text))
+  where
+    tail : (x : A) (r : Result (List Value) TextKind) → (r >>= λ values. said (value x ∷ values)) ≡ ((r >>= λ values. Ok (value x ∷ values)) >>= said)
+    tail x (Ok values) = refl
+    tail x (Err kind) = refl
+
+    by : (r : Result A TextKind) → ((r >>= λ x. Ok (x, rest)) >>= next)
+        ≡ (((r >>= λ x. Ok (value x)) >>= λ v. read_fields text_kind form rest >>= λ values. Ok (v ∷ values)) >>= said)
+    by (Ok x) = goes_on x ∙ tail x (read_fields text_kind form rest)
+    by (Err kind) = refl
 
 pub step : {A B : Type 0} (field : Field) (form : List Field) (rule : List ℕ → Result A TextKind) (value : A → Value) (fields : List (List ℕ))
     (next : A × List (List ℕ) → Result B TextKind) (said : List Value → Result B TextKind) → ReadsField field rule value
@@ -123,14 +115,15 @@ last_step (text ∷ rest) r said same =
 pub wholes_step : {B : Type 0} (limit : ℕ) (done : List ℕ) (fields : List (List ℕ)) (next : List ℕ → Result B TextKind)
     (said : List Value → Result B TextKind) → ((ns : List ℕ) → next (done ++ ns) ≡ said (map whole ns))
     → (all_by (whole_in limit) done fields >>= next) ≡ said_of (map (λ field. below limit) fields) fields said
-unfolding said_of
-wholes_step limit done [] next said same = ap next (sym (append-nil done)) ∙ same []
+wholes_step limit done [] next said same = last_step [] _ said (ap next (sym (append-nil done)) ∙ same [])
 wholes_step {B} limit done (text ∷ rest) next said same =
-    rw (whole_reads limit text) (bound (whole_in limit text)
-    ∙ behind_field (whole_in limit text) whole (map (λ field. below limit) rest) rest (λ n. all_by (whole_in limit) (done ++ n ∷ []) rest >>= next) said
-    (λ n. wholes_step limit (done ++ n ∷ []) rest next (λ values. said (whole n ∷ values)) (λ ns. ap next (append_assoc done (n ∷ []) ns) ∙ same (n ∷ ns))))
+    by (whole_in limit text)
+    ∙ first_step (below limit) _ (whole_in limit) whole text rest behind said (whole_reads limit) (λ n.
+    wholes_step limit (done ++ n ∷ []) rest next _ (λ ns. ap next (append_assoc done (n ∷ []) ns) ∙ same (n ∷ ns)))
   where
-    bound : (r : Result ℕ TextKind)
-        → ((r >>= λ n. all_by (whole_in limit) (done ++ n ∷ []) rest) >>= next) ≡ (r >>= λ n. all_by (whole_in limit) (done ++ n ∷ []) rest >>= next)
-    bound (Ok n) = refl
-    bound (Err kind) = refl
+    behind : ℕ × List (List ℕ) → Result B TextKind
+    behind x = all_by (whole_in limit) (done ++ x.0 ∷ []) x.1 >>= next
+
+    by : (r : Result ℕ TextKind) → ((r >>= λ n. all_by (whole_in limit) (done ++ n ∷ []) rest) >>= next) ≡ ((r >>= λ n. Ok (n, rest)) >>= behind)
+    by (Ok n) = refl
+    by (Err kind) = refl

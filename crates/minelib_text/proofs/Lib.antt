@@ -47,6 +47,7 @@ pub mod ValidModel
 pub mod ValidPreds
 pub mod ValidRead
 pub mod ValuesLineFacts
+pub mod WantedNumber
 pub mod WriteFacts
 pub mod FieldSteps
 pub mod FormFields

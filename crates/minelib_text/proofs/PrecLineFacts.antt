@@ -1,11 +1,11 @@
 -- The lines of predecessors: what is read of a line is what it spells, and its fault is the first thing asked of it that does not hold.
-use Rattle.std.specs.Prelude.{◌≡◌, ℕ, ◌<◌, ◌≤◌, ◌==◌, ◌||◌, not, Bool, true, false, List, [], ◌∷◌, ◌++◌, length, map, drop, slice_index_or, decimal, Ok, All}
+use Rattle.std.specs.Prelude.{◌≡◌, ℕ, ◌<◌, ◌≤◌, ◌==◌, ◌||◌, not, true, List, [], ◌∷◌, ◌++◌, length, map, drop, slice_index_or, decimal, Ok, All}
 use Rattle.std.proofs.Common.{refl, sym, ◌∙◌, ap, subst, arith, eq-eqb}
 use Rattle.std.proofs.lemmas.Bool.{eqb-true, not-false}
 use Rattle.std.proofs.lemmas.List.Elements.{All-cons, All-head, All-nil, All-tail}
-use Rattle.forms.proofs.DemandFacts.{Follows, bound, guarded, last_guarded}
+use Rattle.forms.proofs.DemandFacts.{Follows, bound, last_guarded}
 use Rattle.forms.proofs.FormFacts.{read_spelled, read_told, spell_written, spelled_fit, spelled_read}
-use Rattle.forms.proofs.NumberFields.{one_whole, quotient, says_at, whole_fits, whole_found}
+use Rattle.forms.proofs.NumberFields.{quotient, says_at, whole_fits, whole_found}
 use Rattle.forms.specs.Demands.{Demand, demand}
 use Rattle.forms.specs.Form.{Value, Fit, Says, Spell, asked, below, is_fine, read, whole, written}
 use Rattle.forms.specs.Steps.{◌>>=◌}
@@ -18,14 +18,15 @@ use Rattle.minelib_text.specs.Written.{prec_fields}
 use Rattle.minelib_text.specs.declared.text_fault.TextKind.{TextKind}
 use Rattle.minelib_text.specs.declared.text_fault.TextKind.TheVariants.{Order, Count, Twice}
 use Rattle.minelib_text.proofs.PrecTests.{passed_preds, preds_pass}
-use Rattle.minelib_text.proofs.ReadSteps.{bind_then, guard_ok, same_ok}
+use Rattle.minelib_text.proofs.ReadSteps.{bind_then, guard_then, same_ok}
+use Rattle.minelib_text.proofs.WantedNumber.{wanted_told}
 
 wholes_fine : (n : ℕ) (fields : List (List ℕ)) → is_fine (map (λ field. below n) fields) ≡ true
 wholes_fine n [] = refl
 wholes_fine n (field ∷ fields) = wholes_fine n fields
 
 fine : (n : ℕ) (fields : List (List ℕ)) → is_fine (preds_form n fields) ≡ true
-fine n fields = wholes_fine n (drop 2 fields)
+fine n fields = wholes_fine n ([] ∷ [] ∷ drop 2 fields)
 
 -- what is written
 wholes_written : (ids : List ℕ) → written (map whole ids) ≡ map decimal ids
@@ -33,7 +34,7 @@ wholes_written [] = refl
 wholes_written (id ∷ ids) = λ i. whole_written id i ∷ wholes_written ids i
 
 pub preds_written : (own : ℕ) (ids : List ℕ) → prec_fields own ids ≡ decimal own ∷ decimal (length ids) ∷ map decimal ids
-preds_written own ids = λ i. whole_written own i ∷ whole_written (length ids) i ∷ wholes_written ids i
+preds_written own ids = wholes_written (own ∷ length ids ∷ ids)
 
 wholes_fit : (n : ℕ) (ids : List ℕ) → n ≤ 64000000 → All (λ id. id < n) ids → Fit (map (λ field. below n) (written (map whole ids))) (map whole ids)
 wholes_fit n [] few low = tt
@@ -43,34 +44,21 @@ wholes_fit n (id ∷ ids) few low =
 -- predecessors, fewer than blocks, are spelled by what is written
 pub written_spelled : (n own : ℕ) (ids : List ℕ) → n ≤ 64000000 → own < n → length ids < n → ArePredsOf own n ids
     → IsPredsLine n own (prec_fields own ids) ids
-written_spelled n own ids few low fewer are = (
-  spell_written (preds_form n (prec_fields own ids)) (preds_values own ids) (fine n (prec_fields own ids)) (
-    whole_fits n own low (omega (arith, few)),
-    (whole_fits n (length ids) fewer (omega (arith, few)), wholes_fit n ids few are.below),
-  ),
-  are,
-)
+written_spelled n own ids few low fewer are =
+    let fields = prec_fields own ids in
+    let each = All-cons (λ id. id < n) own (length ids ∷ ids) low (All-cons (λ id. id < n) (length ids) ids fewer are.below) in
+    (spell_written (preds_form n fields) (preds_values own ids) (fine n fields) (wholes_fit n (own ∷ length ids ∷ ids) few each), are)
 
 -- values that fit are whole numbers below n
-record AreWholes (n : ℕ) (fields : List (List ℕ)) (values : List Value) : Type 0 where
-  pub ids : List ℕ
-  pub are : values ≡ map whole ids
-  pub low : All (λ id. id < n) ids
-  pub count : length fields ≡ length ids
-
-wholes_found : (n : ℕ) (fields : List (List ℕ)) (values : List Value) → Fit (map (λ field. below n) fields) values → AreWholes n fields values
-wholes_found n [] [] fit = record { ids = []; are = refl; low = All-nil (λ id. id < n); count = refl }
+wholes_found : (n : ℕ) (fields : List (List ℕ)) (values : List Value) → Fit (map (λ field. below n) fields) values
+    → (ids : List ℕ) × (values ≡ map whole ids) × All (λ id. id < n) ids × (length fields ≡ length ids)
+wholes_found n [] [] fit = ([], refl, All-nil (λ id. id < n), refl)
 wholes_found n [] (value ∷ values) fit = absurd fit
 wholes_found n (field ∷ fields) [] fit = absurd fit
 wholes_found n (field ∷ fields) (value ∷ values) fit =
     let here = whole_found n value fit.0 in
     let rest = wholes_found n fields values fit.1 in
-    record {
-      ids = here.n ∷ rest.ids;
-      are = λ i. here.is i ∷ rest.are i;
-      low = All-cons (λ id. id < n) here.n rest.ids here.low rest.low;
-      count = omega (arith, rest.count);
-    }
+    (here.n ∷ rest.0, (λ i. here.is i ∷ rest.1 i), All-cons (λ id. id < n) here.n rest.0 here.low rest.2, omega (arith, rest.3))
 
 record AreParts (n : ℕ) (fields : List (List ℕ)) (values : List Value) : Type 0 where
   pub id : ℕ
@@ -87,14 +75,7 @@ parts n fields (v ∷ w ∷ values) fit =
     let id = whole_found n v fit.0 in
     let stated = whole_found n w fit.1.0 in
     let others = wholes_found n (drop 2 fields) values fit.1.1 in
-    record {
-      id = id.n;
-      stated = stated.n;
-      ids = others.ids;
-      are = λ i. id.is i ∷ stated.is i ∷ others.are i;
-      low = others.low;
-      count = others.count;
-    }
+    record { id = id.n; stated = stated.n; ids = others.0; are = λ i. id.is i ∷ stated.is i ∷ others.1 i; low = others.2; count = others.3 }
 
 wholes_again : (ids : List ℕ) → map whole_of (map whole ids) ≡ ids
 wholes_again [] = refl
@@ -107,35 +88,20 @@ said_is own id stated ids = λ i. preds_with own (quotient id i) (quotient state
 with_again : (own n : ℕ) (ids : List ℕ) → ArePredsOf own n ids → preds_with own own (length ids) ids ≡ Ok ids
 with_again own n ids are = rw (eq-eqb own own refl, eq-eqb (length ids) (length ids) refl, preds_pass own n ids are) refl
 
--- what is said shows the identifier, the number and the tests
-record Said (own id stated : ℕ) (given ids : List ℕ) : Type 0 where
-  pub same : given ≡ ids
-  pub of_own : id ≡ own
-  pub counted : stated ≡ length given
-  pub passed : (stands_in given own || not (all_differ given)) ≡ false
-
-with_said : (own id stated : ℕ) (given ids : List ℕ) → preds_with own id stated given ≡ Ok ids → Said own id stated given ids
-with_said own id stated given ids e =
-    let a = guard_ok (not (id == own)) Order _ ids e in
-    let b = guard_ok (not (stated == length given)) Count _ ids a.1 in
-    let c = guard_ok (stands_in given own || not (all_differ given)) Twice (Ok given) ids b.1 in
-    record {
-      same = same_ok given ids c.1;
-      of_own = eqb-true id own (not-false (id == own) a.0);
-      counted = eqb-true stated (length given) (not-false (stated == length given) b.0);
-      passed = c.0;
-    }
-
 pub preds_line : (n own : ℕ) (fields : List (List ℕ)) (ids : List ℕ) → preds_of n own fields ≡ Ok ids → IsPredsLine n own fields ids
 unfolding preds_of
 preds_line n own fields ids e =
     bind_then (read text_kind (preds_form n fields) fields) (preds_said own) ids e (λ values says said.
     let spell = read_spelled text_kind (preds_form n fields) fields values (fine n fields) says in
     let p = parts n fields values (spelled_fit (preds_form n fields) fields values (fine n fields) spell) in
-    let s = with_said own p.id p.stated p.ids ids (sym (said_is own p.id p.stated p.ids) ∙ ap (preds_said own) (sym p.are) ∙ said) in
-    let values_are : values ≡ preds_values own p.ids = p.are ∙ λ i. whole (s.of_own i) ∷ whole (s.counted i) ∷ map whole p.ids in
-    subst (IsPredsLine n own fields) s.same
-    (subst (Spell (preds_form n fields) fields) values_are spell, passed_preds own n p.ids p.low s.passed))
+    guard_then (not (p.id == own)) Order _ ids (sym (said_is own p.id p.stated p.ids) ∙ ap (preds_said own) (sym p.are) ∙ said) (λ t1 e1.
+    guard_then (not (p.stated == length p.ids)) Count _ ids e1 (λ t2 e2.
+    guard_then (stands_in p.ids own || not (all_differ p.ids)) Twice (Ok p.ids) ids e2 (λ t3 e3.
+    let is_own = eqb-true p.id own (not-false (p.id == own) t1) in
+    let is_counted = eqb-true p.stated (length p.ids) (not-false (p.stated == length p.ids) t2) in
+    let values_are : values ≡ preds_values own p.ids = p.are ∙ λ i. whole (is_own i) ∷ whole (is_counted i) ∷ map whole p.ids in
+    subst (IsPredsLine n own fields) (same_ok p.ids ids e3)
+    (subst (Spell (preds_form n fields) fields) values_are spell, passed_preds own n p.ids p.low t3)))))
 
 pub preds_back : (n own : ℕ) (fields : List (List ℕ)) (ids : List ℕ) → IsPredsLine n own fields ids → preds_of n own fields ≡ Ok ids
 unfolding preds_of
@@ -151,12 +117,6 @@ one_list n own fields a b first second =
     sym (wholes_again a) ∙ ap (λ values. map whole_of (drop 2 values)) (same_ok (preds_values own a) (preds_values own b) (sym first_read ∙ second_read))
     ∙ wholes_again b
 
--- a number is the one that is asked for, or another
-number_told : (n : ℕ) (field : List ℕ) (id wanted : ℕ) → Says (below n) field (whole id) → not (id == wanted) ≡ true → ¬ (Says (below n) field (whole wanted))
-number_told n field id wanted says test other =
-    let same : (id == wanted) ≡ true = eq-eqb id wanted (one_whole n field id wanted says other) in
-    absurd cc
-
 -- what is asked behind the form
 abbrev asked_behind : ℕ → ℕ → List (List ℕ) → List (Demand TextKind)
 asked_behind n own fields =
@@ -168,37 +128,13 @@ with_told : (n own : ℕ) (fields : List (List ℕ)) (id stated : ℕ) (ids : Li
     → Spell (preds_form n fields) fields (whole id ∷ whole stated ∷ map whole ids) → All (λ id. id < n) ids → length (drop 2 fields) ≡ length ids
     → Follows (preds_with own id stated ids) (asked_behind n own fields) (λ ids. Unit {0})
 with_told n own fields id stated ids spell low count =
-    guarded (not (id == own)) Order (Says (below n) (slice_index_or fields 0 []) (whole own)) _ _ (λ ids. Unit {0})
-    (number_told n (slice_index_or fields 0 []) id own first) (λ t1. (
-      subst (λ k. Says (below n) (slice_index_or fields 0 []) (whole k)) (is_own t1) first,
-      guarded (not (stated == length ids)) Count (Says (below n) (slice_index_or fields 1 []) (whole (length (drop 2 fields)))) _ _ (λ ids. Unit {0})
-          (λ t h. number_told n (slice_index_or fields 1 []) stated (length ids) second t (subst (λ k. Says (below n) (slice_index_or fields 1 []) (whole k)) count h)) (λ t2. (
-            subst (λ k. Says (below n) (slice_index_or fields 1 []) (whole k)) (is_counted t2 ∙ sym count) second,
-            last_guarded (stands_in ids own || not (all_differ ids)) Twice ((ids : List ℕ) → SpellsPreds n own fields ids → ArePredsOf own n ids) ids
-                (λ ids. Unit {0}) (λ t h. refuted (preds_pass own n ids (h ids (here t1 t2))) t) (λ t. (
-                  (λ others other. subst (ArePredsOf own n) (one_list n own fields ids others (here t1 t2) other) (passed_preds own n ids low t)),
-                  tt,
-                )),
-          )),
-    ))
-  where
-    first : Says (below n) (slice_index_or fields 0 []) (whole id)
-    first = says_at (preds_form n fields) fields (whole id ∷ whole stated ∷ map whole ids) 0 spell
-
-    second : Says (below n) (slice_index_or fields 1 []) (whole stated)
-    second = says_at (preds_form n fields) fields (whole id ∷ whole stated ∷ map whole ids) 1 spell
-
-    is_own : not (id == own) ≡ false → id ≡ own
-    is_own t = eqb-true id own (not-false (id == own) t)
-
-    is_counted : not (stated == length ids) ≡ false → stated ≡ length ids
-    is_counted t = eqb-true stated (length ids) (not-false (stated == length ids) t)
-
-    here : not (id == own) ≡ false → not (stated == length ids) ≡ false → SpellsPreds n own fields ids
-    here t1 t2 = subst (Spell (preds_form n fields) fields) (λ i. whole (is_own t1 i) ∷ whole (is_counted t2 i) ∷ map whole ids) spell
-
-    refuted : {t : Bool} → t ≡ false → t ≡ true → ⊥
-    refuted a b = cc
+    let values = whole id ∷ whole stated ∷ map whole ids in
+    rw count (wanted_told Order n (slice_index_or fields 0 []) id own _ _ (λ ids. Unit {0}) (says_at (preds_form n fields) fields values 0 spell) (λ is_own.
+    wanted_told Count n (slice_index_or fields 1 []) stated (length ids) _ _ (λ ids. Unit {0}) (says_at (preds_form n fields) fields values 1 spell) (λ counted.
+    let here : SpellsPreds n own fields ids = subst (Spell (preds_form n fields) fields) (λ i. whole (is_own i) ∷ whole (counted i) ∷ map whole ids) spell in
+    last_guarded (stands_in ids own || not (all_differ ids)) Twice ((ids : List ℕ) → SpellsPreds n own fields ids → ArePredsOf own n ids) ids
+    (λ ids. Unit {0}) (λ t h. absurd (cc (preds_pass own n ids (h ids here), t)))
+    (λ t. ((λ others other. subst (ArePredsOf own n) (one_list n own fields ids others here other) (passed_preds own n ids low t)), tt)))))
 
 pub preds_told : (n own : ℕ) (fields : List (List ℕ)) → Follows (preds_of n own fields) (asked_of_preds n own fields) (λ ids. Unit {0})
 unfolding preds_of

@@ -59,7 +59,7 @@ impl Admit for PrecDraft {
 }
 
 // The predecessors of a line, of so many blocks, where so many lines stand before.
-#[tactic(auto, using(crate::proofs::CountedLater::preds_counted, crate::proofs::CountedLater::preds_lacking, crate::proofs::CountedLater::preds_same))]
+#[tactic(auto, using(crate::proofs::CountedLater::preds_counted, crate::proofs::CountedLater::preds_by_count))]
 fn preds_of(
     line: &[u8],
     blocks: usize,
