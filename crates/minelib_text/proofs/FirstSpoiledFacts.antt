@@ -23,7 +23,7 @@ use Rattle.minelib_text.proofs.SpelledModelBack.{lines_then, lines_back, model_b
 use Rattle.minelib_text.proofs.SpelledModelRead.{lines_so_far, lines_spelled}
 use Rattle.minelib_text.proofs.ValidHeader.{own}
 use Rattle.minelib_text.proofs.ValidModel.{model_kept}
-use Rattle.minelib_text.proofs.FirstBadFacts.{err_same}
+use Rattle.minelib_text.proofs.ReadSteps.{err_same}
 
 -- where lines are refused
 record Stops (s : ModelDraftView) (lines : List Line) (fault : LineFault) : Type 0 where

@@ -51,7 +51,7 @@ pub mod WantedNumber
 pub mod WriteFacts
 pub mod FieldSteps
 pub mod FormFields
-pub mod FirstBadFacts
+pub mod EachLine
 pub mod FirstSpoiledFacts
 pub mod LinesOfText
 pub mod SpelledBack

@@ -43,6 +43,9 @@ then_ok false fault r y e = absurd cc
 pub same_ok : {A F : Type 0} (x y : A) → ◌≡◌ {A = Result A F} (Ok x) (Ok y) → x ≡ y
 same_ok x y e = cc
 
+pub err_same : {B : Type 0} (f g : LineFault) → ◌≡◌ {A = Result B LineFault} (Err f) (Err g) → f ≡ g
+err_same f g e = cc
+
 pub at_line_ok : {S : Type 0} (n : ℕ) (r : Result S TextKind) (s : S) → at_line n r ≡ Ok s → r ≡ Ok s
 at_line_ok n (Ok x) s e = cc
 at_line_ok n (Err kind) s e = absurd cc

@@ -24,12 +24,10 @@ use Rattle.minelib_text.specs.declared.model_key.Problem.TheVariants as problem
 use Rattle.minelib_text.specs.declared.text_fault.TextFile.TheVariants.{Blocks, Prec, Pcpsp, Cpit}
 use Rattle.minelib_text.proofs.CpitBack.{values_joined, coefs_without}
 use Rattle.minelib_text.proofs.ReadSteps.{bind_then, same_ok, in_file_ok}
-use Rattle.minelib_text.proofs.SpelledBack.{blocks_back, lists_back}
 use Rattle.minelib_text.proofs.SpelledModelBack.{model_back}
 use Rattle.minelib_text.proofs.SpelledModelRead.{model_spelled}
-use Rattle.minelib_text.proofs.SpelledRead.{blocks_spelled, preds_spelled}
+use Rattle.minelib_text.proofs.SpelledRead.{blocks_back, blocks_spelled, lists_back, preds_spelled}
 use Rattle.minelib_text.proofs.ValidHeader.{one_destination}
-use Rattle.minelib_text.proofs.ValidPreds.{preds_are_valid}
 use Rattle.minelib_text.proofs.ValidRead.{model_is_valid}
 
 pub denoted_spelled : (blocks prec pcpsp : List ℕ) (i : Instance) → Denotes blocks prec pcpsp i → SpellInstance blocks prec pcpsp i
@@ -40,8 +38,8 @@ denoted_spelled blocks prec pcpsp i e =
     bind_then (in_file Pcpsp (model_in problem.Pcpsp (length all) pcpsp)) _ i rest2 (λ d e3 rest3.
     subst (SpellInstance blocks prec pcpsp) (same_ok (instance_read all lists d) i rest3) (record {
       of_blocks = blocks_spelled blocks all (in_file_ok Blocks _ all e1);
-      of_preds = preds_spelled (length all) prec lists (in_file_ok Prec _ lists e2);
-      all_preds = (preds_are_valid (length all) prec lists (in_file_ok Prec _ lists e2)).0;
+      of_preds = (preds_spelled (length all) prec lists (in_file_ok Prec _ lists e2)).1;
+      all_preds = (preds_spelled (length all) prec lists (in_file_ok Prec _ lists e2)).0;
       of_model = model_spelled problem.Pcpsp (length all) pcpsp d (in_file_ok Pcpsp _ d e3);
     }))))
 

@@ -1,54 +1,107 @@
--- The lines that are read spell the blocks and the predecessors.
-use Rattle.std.specs.Prelude.{◌≡◌, ℕ, ◌+◌, List, [], ◌∷◌, ◌++◌, length, Ok}
-use Rattle.std.proofs.Common.{refl, subst, arith}
+-- The lines that are read spell the blocks and the predecessors, lines that spell them are read as these, and a faulty line is the first
+-- that spells none.
+use Rattle.std.specs.Prelude.{◌≡◌, ℕ, ◌==◌, Bool, true, false, List, length, Result, Ok, Err, ◌⊎◌, if◌then◌else◌}
+use Rattle.std.proofs.Common.{refl, sym, ◌∙◌, ap, subst, inl, inr, eq-eqb}
+use Rattle.std.proofs.lemmas.Bool.{eqb-true}
+use Rattle.forms.specs.Demands.{Demand}
+use Rattle.forms.specs.Steps.{◌>>=◌}
 use Rattle.pit_model.specs.declared.block.Block.{Block}
 use Rattle.minelib_text.specs.BlockLines.{block_of, admit_block, blocks_in}
+use Rattle.minelib_text.specs.FirstBad.{IsFirstBad, LacksLines}
 use Rattle.minelib_text.specs.PrecLines.{PrecDraftView, no_lists, preds_of, admit_preds, finish_preds, preds_in}
 use Rattle.minelib_text.specs.Reading.{read_lines}
-use Rattle.minelib_text.specs.SpelledBlocks.{IsBlockLine, AreBlockLines}
-use Rattle.minelib_text.specs.SpelledPrec.{IsPredsLine, ArePredsLines}
-use Rattle.minelib_text.specs.TextLines.{Line, fields_of, lines_in, end_of}
+use Rattle.minelib_text.specs.SpelledBlocks.{IsBlockLine, AreBlockLines, asked_of_block}
+use Rattle.minelib_text.specs.SpelledPrec.{IsPredsLine, ArePredsLines, asked_of_preds}
+use Rattle.minelib_text.specs.TextLines.{fields_of, lines_in, end_of}
+use Rattle.minelib_text.specs.declared.text_fault.LineFault.{LineFault}
+use Rattle.minelib_text.specs.declared.text_fault.TextKind.{TextKind}
 use Rattle.minelib_text.specs.declared.text_fault.TextKind.TheVariants.{Missing}
-use Rattle.minelib_text.proofs.ItemLines.{line_more}
-use Rattle.minelib_text.proofs.ReadSteps.{bind_then, then_ok, same_ok, kept_with_lines}
-use Rattle.minelib_text.proofs.BlockLineFacts.{block_line}
-use Rattle.minelib_text.proofs.PrecLineFacts.{preds_line}
+use Rattle.minelib_text.proofs.BlockLineFacts.{block_back, block_line, block_told}
+use Rattle.minelib_text.proofs.EachLine.{Found, StateItems, all_back, found}
+use Rattle.minelib_text.proofs.PrecBack.{draft_of}
+use Rattle.minelib_text.proofs.PrecLineFacts.{preds_back, preds_line, preds_told}
+use Rattle.minelib_text.proofs.ReadSteps.{err_same, same_ok, then_ok}
 
-block_more : (done : List Line) (blocks : List Block) (line : Line) (next : List Block) → admit_block blocks line.text ≡ Ok next
-    → AreBlockLines 0 done blocks → AreBlockLines 0 (done ++ line ∷ []) next
-block_more done blocks line next e are =
-    bind_then (block_of (length blocks) (fields_of line.text)) (λ b. Ok (blocks ++ b ∷ [])) next e (λ b says added.
-    let count : length blocks ≡ 0 + length blocks = omega arith in
-    subst (AreBlockLines 0 (done ++ line ∷ [])) (same_ok (blocks ++ b ∷ []) next added)
-    (line_more (λ id text b. IsBlockLine id (fields_of text) b) 0 done blocks line b are
-    (subst (λ id. IsBlockLine id (fields_of line.text) b) count (block_line (length blocks) (fields_of line.text) b says))))
+abbrev IsBlockOf : ℕ → List ℕ → Block → Type 0
+IsBlockOf id line b = IsBlockLine id (fields_of line) b
+
+abbrev asked_block : ℕ → List ℕ → List (Demand TextKind)
+asked_block id line = asked_of_block id (fields_of line)
+
+block_rules : StateItems IsBlockOf asked_block (λ blocks. blocks) admit_block
+block_rules = record {
+  read = λ n line. block_of n (fields_of line);
+  admits = λ items line. refl;
+  spelled = λ n line b h. block_line n (fields_of line) b h;
+  back = λ n line b h. block_back n (fields_of line) b h;
+  told = λ n line. block_told n (fields_of line);
+}
 
 pub blocks_spelled : (text : List ℕ) (blocks : List Block) → blocks_in text ≡ Ok blocks → AreBlockLines 0 (lines_in text) blocks
-blocks_spelled text blocks e = kept_with_lines (AreBlockLines 0) admit_block block_more [] [] (lines_in text) blocks e tt
+blocks_spelled text blocks e =
+    let all = subst (Found IsBlockOf asked_block (λ blocks. blocks) (lines_in text)) e (found block_rules (lines_in text)) in
+    subst (AreBlockLines 0 (lines_in text)) (sym all.is) all.are
 
--- what the lines of predecessors so far keep
-record KeepsLists (n : ℕ) (done : List Line) (d : PrecDraftView) : Type 0 where
-  pub blocks : d.blocks ≡ n
-  pub spelled : ArePredsLines n 0 done d.lists
+pub blocks_back : (text : List ℕ) (blocks : List Block) → AreBlockLines 0 (lines_in text) blocks → blocks_in text ≡ Ok blocks
+blocks_back text blocks h = all_back block_rules blocks (lines_in text) h
 
-preds_more : (n : ℕ) (done : List Line) (d : PrecDraftView) (line : Line) (next : PrecDraftView) → admit_preds d line.text ≡ Ok next
-    → KeepsLists n done d → KeepsLists n (done ++ line ∷ []) next
-preds_more n done d line next e kept =
-    bind_then (preds_of d.blocks (length d.lists) (fields_of line.text)) _ next e (λ ids says added.
-    let count : length d.lists ≡ 0 + length d.lists = omega arith in
-    let here : IsPredsLine n (length d.lists) (fields_of line.text) ids =
-    subst (λ m. IsPredsLine m (length d.lists) (fields_of line.text) ids) kept.blocks
-    (preds_line d.blocks (length d.lists) (fields_of line.text) ids says) in
-    subst (KeepsLists n (done ++ line ∷ [])) (same_ok _ next added) (record {
-      blocks = kept.blocks;
-      spelled = line_more (λ id text ids. IsPredsLine n id (fields_of text) ids) 0 done d.lists line ids kept.spelled
-          (subst (λ id. IsPredsLine n id (fields_of line.text) ids) count here);
-    }))
+pub bad_block : (text : List ℕ) (fault : LineFault) → blocks_in text ≡ Err fault
+    → IsFirstBad (λ id line b. IsBlockLine id (fields_of line) b) (λ id line. asked_of_block id (fields_of line)) (lines_in text) fault
+bad_block text fault e = subst (Found IsBlockOf asked_block (λ blocks. blocks) (lines_in text)) e (found block_rules (lines_in text))
 
-pub preds_spelled : (n : ℕ) (text : List ℕ) (lists : List (List ℕ)) → preds_in n text ≡ Ok lists → ArePredsLines n 0 (lines_in text) lists
-preds_spelled n text lists e =
-    bind_then (read_lines admit_preds (no_lists n) (lines_in text)) (finish_preds (end_of text)) lists e (λ d of_lines e1.
-    let kept = kept_with_lines (KeepsLists n) admit_preds (preds_more n) [] (no_lists n) (lines_in text) d of_lines
-    (record { blocks = refl; spelled = tt }) in
-    let t = then_ok _ (record { line = end_of text; kind = Missing }) (Ok d.lists) lists e1 in
-    subst (ArePredsLines n 0 (lines_in text)) (same_ok d.lists lists t.1) kept.spelled)
+abbrev ArePredsIn : ℕ → ℕ → List ℕ → List ℕ → Type 0
+ArePredsIn n id line ids = IsPredsLine n id (fields_of line) ids
+
+abbrev asked_preds : ℕ → ℕ → List ℕ → List (Demand TextKind)
+asked_preds n id line = asked_of_preds n id (fields_of line)
+
+pred_rules : (n : ℕ) → StateItems (ArePredsIn n) (asked_preds n) (draft_of n) admit_preds
+pred_rules n = record {
+  read = λ own line. preds_of n own (fields_of line);
+  admits = λ items line. refl;
+  spelled = λ own line ids h. preds_line n own (fields_of line) ids h;
+  back = λ own line ids h. preds_back n own (fields_of line) ids h;
+  told = λ own line. preds_told n own (fields_of line);
+}
+
+pub preds_spelled : (n : ℕ) (text : List ℕ) (lists : List (List ℕ)) → preds_in n text ≡ Ok lists
+    → (length lists ≡ n) × ArePredsLines n 0 (lines_in text) lists
+preds_spelled n text lists e = by (read_lines admit_preds (no_lists n) (lines_in text)) e (found (pred_rules n) (lines_in text))
+  where
+    by : (r : Result PrecDraftView LineFault) → (r >>= finish_preds (end_of text)) ≡ Ok lists
+        → Found (ArePredsIn n) (asked_preds n) (draft_of n) (lines_in text) r → (length lists ≡ n) × ArePredsLines n 0 (lines_in text) lists
+    by (Ok d) e h =
+        let lacking : LineFault = record { line = end_of text; kind = Missing } in
+        let t = then_ok (length h.items == n) lacking (Ok h.items) lists (ap (finish_preds (end_of text)) (sym h.is) ∙ e) in
+        let same : h.items ≡ lists = same_ok h.items lists t.1 in
+        (subst (λ all. length all ≡ n) same (eqb-true (length h.items) n t.0), subst (ArePredsLines n 0 (lines_in text)) same h.are)
+    by (Err fault) e h = absurd cc
+
+pub lists_back : (n : ℕ) (text : List ℕ) (lists : List (List ℕ)) → length lists ≡ n → ArePredsLines n 0 (lines_in text) lists → preds_in n text ≡ Ok lists
+lists_back n text lists count h =
+    let all : (length lists == n) ≡ true = eq-eqb (length lists) n count in
+    ap (λ r. r >>= finish_preds (end_of text)) (all_back (pred_rules n) lists (lines_in text) h) ∙ rw all refl
+
+pub bad_preds : (n : ℕ) (text : List ℕ) (fault : LineFault) → preds_in n text ≡ Err fault
+    → IsFirstBad (λ id line ids. IsPredsLine n id (fields_of line) ids) (λ id line. asked_of_preds n id (fields_of line)) (lines_in text) fault
+    ⊎ LacksLines (λ id line ids. IsPredsLine n id (fields_of line) ids) n text fault
+bad_preds n text fault e = by (read_lines admit_preds (no_lists n) (lines_in text)) e (found (pred_rules n) (lines_in text))
+  where
+    lacks : (items : List (List ℕ)) (t : Bool) → (length items == n) ≡ t → ArePredsLines n 0 (lines_in text) items
+        → (if t then Ok items else Err (record { line = end_of text; kind = Missing })) ≡ Err fault → LacksLines (ArePredsIn n) n text fault
+    lacks items true test are e = absurd cc
+    lacks items false test are e =
+        let same : record { line = end_of text; kind = Missing } ≡ fault = err_same {B = List (List ℕ)} (record { line = end_of text; kind = Missing }) fault e in
+        record {
+          place = sym (ap (λ (f : LineFault). f.line) same);
+          kind = sym (ap (λ (f : LineFault). f.kind) same);
+          items = items;
+          spelled = are;
+          other_count = λ count. absurd (cc (test, eq-eqb (length items) n count));
+        }
+
+    by : (r : Result PrecDraftView LineFault) → (r >>= finish_preds (end_of text)) ≡ Err fault
+        → Found (ArePredsIn n) (asked_preds n) (draft_of n) (lines_in text) r
+        → IsFirstBad (ArePredsIn n) (asked_preds n) (lines_in text) fault ⊎ LacksLines (ArePredsIn n) n text fault
+    by (Ok d) e h = inr (lacks h.items (length h.items == n) refl h.are (ap (finish_preds (end_of text)) (sym h.is) ∙ e))
+    by (Err f) e h = inl (subst (IsFirstBad (ArePredsIn n) (asked_preds n) (lines_in text)) (err_same {B = List (List ℕ)} f fault e) h)

@@ -1,4 +1,4 @@
-use Rattle.minelib_text.proofs.FirstBadFacts.{bad_preds}
+use Rattle.minelib_text.proofs.SpelledRead.{bad_preds}
 use Rattle.minelib_text.proofs.laws.faulty_lines_spell_no_preds.Goals as goal
 
 pub returns : goal.returns

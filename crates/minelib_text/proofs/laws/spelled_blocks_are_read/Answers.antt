@@ -1,4 +1,4 @@
-use Rattle.minelib_text.proofs.SpelledBack.{blocks_back}
+use Rattle.minelib_text.proofs.SpelledRead.{blocks_back}
 use Rattle.minelib_text.proofs.laws.spelled_blocks_are_read.Goals as goal
 
 pub returns : goal.returns

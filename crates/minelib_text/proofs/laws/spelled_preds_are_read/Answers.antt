@@ -1,4 +1,4 @@
-use Rattle.minelib_text.proofs.SpelledBack.{lists_back}
+use Rattle.minelib_text.proofs.SpelledRead.{lists_back}
 use Rattle.minelib_text.proofs.laws.spelled_preds_are_read.Goals as goal
 
 pub returns : goal.returns
