@@ -3,25 +3,21 @@ use Rattle.std.specs.Prelude.{◌≡◌, ◌≢◌, ℕ, suc, ◌<◌, ◌==◌,
 use Rattle.std.proofs.Common.{refl, sym, arith}
 use Rattle.std.proofs.lemmas.Bool.{and_parts, ne_eqb, not-false, not-true, or_parts}
 use Rattle.std.proofs.lemmas.Bool.Decides.{nat_tests}
-use Rattle.std.proofs.lemmas.List.Elements.{All-cons, All-head, All-nil, All-tail}
+use Rattle.std.proofs.lemmas.List.Elements.{All-cons, All-nil}
+use Rattle.std.proofs.lemmas.List.Folds.{list_any_none}
 use Rattle.std.proofs.lemmas.List.Kept.{AllPairs-cons}
 use Rattle.mine_instance.specs.Valid.{ArePredsOf}
 use Rattle.minelib_text.specs.PrecLines.{stands_in, all_differ}
 
 stands_not : (own : ℕ) (ids : List ℕ) → All (λ id. id ≢ own) ids → stands_in ids own ≡ false
-stands_not own [] h = refl
-stands_not own (id ∷ ids) h =
-    rw (ne_eqb id own (All-head (λ id. id ≢ own) id ids h), stands_not own ids (All-tail (λ id. id ≢ own) id ids h)) refl
-
-pairs_tail : (id : ℕ) (ids : List ℕ) → AllPairs (λ id other. id ≢ other) (id ∷ ids) → AllPairs (λ id other. id ≢ other) ids
-pairs_tail id ids h = λ i j d before within. h (suc i) (suc j) d (omega arith) (omega arith)
-
-pairs_head : (id : ℕ) (ids : List ℕ) → AllPairs (λ id other. id ≢ other) (id ∷ ids) → All (λ other. other ≢ id) ids
-pairs_head id ids h = λ k d within e. h 0 (suc k) d (omega arith) (omega arith) (sym e)
+stands_not own ids h = list_any_none (λ id. id == own) ids (λ k d within. ne_eqb _ own (h k d within))
 
 differ_again : (ids : List ℕ) → AllPairs (λ id other. id ≢ other) ids → all_differ ids ≡ true
 differ_again [] h = refl
-differ_again (id ∷ ids) h = rw (stands_not id ids (pairs_head id ids h), differ_again ids (pairs_tail id ids h)) refl
+differ_again (id ∷ ids) h =
+    let none = stands_not id ids (λ k d within same. h 0 (suc k) d (omega arith) (omega arith) (sym same)) in
+    let others = differ_again ids (λ i j d before within. h (suc i) (suc j) d (omega arith) (omega arith)) in
+    rw (none, others) refl
 
 pub preds_pass : (own n : ℕ) (ids : List ℕ) → ArePredsOf own n ids → (stands_in ids own || not (all_differ ids)) ≡ false
 preds_pass own n ids h = rw (stands_not own ids h.others, differ_again ids h.distinct) refl

@@ -40,6 +40,10 @@ pub then_ok : {A F : Type 0} (t : Bool) (fault : F) (r : Result A F) (y : A) →
 then_ok true fault r y e = (refl, e)
 then_ok false fault r y e = absurd cc
 
+pub then_err : {A F : Type 0} (t : Bool) (fault other : F) (x : A) → (if t then Ok x else Err fault) ≡ Err other → (t ≡ false) × (fault ≡ other)
+then_err true fault other x e = absurd cc
+then_err false fault other x e = (refl, cc)
+
 pub same_ok : {A F : Type 0} (x y : A) → ◌≡◌ {A = Result A F} (Ok x) (Ok y) → x ≡ y
 same_ok x y e = cc
 

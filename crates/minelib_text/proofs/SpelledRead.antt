@@ -1,6 +1,6 @@
 -- The lines that are read spell the blocks and the predecessors, lines that spell them are read as these, and a faulty line is the first
 -- that spells none.
-use Rattle.std.specs.Prelude.{◌≡◌, ℕ, ◌==◌, Bool, true, false, List, length, Result, Ok, Err, ◌⊎◌, if◌then◌else◌}
+use Rattle.std.specs.Prelude.{◌≡◌, ℕ, ◌==◌, true, List, length, Result, Ok, Err, ◌⊎◌}
 use Rattle.std.proofs.Common.{refl, sym, ◌∙◌, ap, subst, inl, inr, eq-eqb}
 use Rattle.std.proofs.lemmas.Bool.{eqb-true}
 use Rattle.forms.specs.Demands.{Demand}
@@ -20,7 +20,7 @@ use Rattle.minelib_text.proofs.BlockLineFacts.{block_back, block_line, block_tol
 use Rattle.minelib_text.proofs.EachLine.{Found, StateItems, all_back, found}
 use Rattle.minelib_text.proofs.PrecBack.{draft_of}
 use Rattle.minelib_text.proofs.PrecLineFacts.{preds_back, preds_line, preds_told}
-use Rattle.minelib_text.proofs.ReadSteps.{err_same, same_ok, then_ok}
+use Rattle.minelib_text.proofs.ReadSteps.{err_same, same_ok, then_err, then_ok}
 
 abbrev IsBlockOf : ℕ → List ℕ → Block → Type 0
 IsBlockOf id line b = IsBlockLine id (fields_of line) b
@@ -87,21 +87,17 @@ pub bad_preds : (n : ℕ) (text : List ℕ) (fault : LineFault) → preds_in n t
     ⊎ LacksLines (λ id line ids. IsPredsLine n id (fields_of line) ids) n text fault
 bad_preds n text fault e = by (read_lines admit_preds (no_lists n) (lines_in text)) e (found (pred_rules n) (lines_in text))
   where
-    lacks : (items : List (List ℕ)) (t : Bool) → (length items == n) ≡ t → ArePredsLines n 0 (lines_in text) items
-        → (if t then Ok items else Err (record { line = end_of text; kind = Missing })) ≡ Err fault → LacksLines (ArePredsIn n) n text fault
-    lacks items true test are e = absurd cc
-    lacks items false test are e =
-        let same : record { line = end_of text; kind = Missing } ≡ fault = err_same {B = List (List ℕ)} (record { line = end_of text; kind = Missing }) fault e in
-        record {
-          place = sym (ap (λ (f : LineFault). f.line) same);
-          kind = sym (ap (λ (f : LineFault). f.kind) same);
-          items = items;
-          spelled = are;
-          other_count = λ count. absurd (cc (test, eq-eqb (length items) n count));
-        }
-
     by : (r : Result PrecDraftView LineFault) → (r >>= finish_preds (end_of text)) ≡ Err fault
         → Found (ArePredsIn n) (asked_preds n) (draft_of n) (lines_in text) r
         → IsFirstBad (ArePredsIn n) (asked_preds n) (lines_in text) fault ⊎ LacksLines (ArePredsIn n) n text fault
-    by (Ok d) e h = inr (lacks h.items (length h.items == n) refl h.are (ap (finish_preds (end_of text)) (sym h.is) ∙ e))
+    by (Ok d) e h =
+        let lacking : LineFault = record { line = end_of text; kind = Missing } in
+        let t = then_err (length h.items == n) lacking fault h.items (ap (finish_preds (end_of text)) (sym h.is) ∙ e) in
+        inr (record {
+          place = ap (λ (f : LineFault). f.line) (sym t.1);
+          kind = ap (λ (f : LineFault). f.kind) (sym t.1);
+          items = h.items;
+          spelled = h.are;
+          other_count = λ count. absurd (cc (t.0, eq-eqb (length h.items) n count));
+        })
     by (Err f) e h = inl (subst (IsFirstBad (ArePredsIn n) (asked_preds n) (lines_in text)) (err_same {B = List (List ℕ)} f fault e) h)

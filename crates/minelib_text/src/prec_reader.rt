@@ -1,6 +1,6 @@
 //! Reading a precedence file.
 
-ghost use Rattle.std.specs.Prelude.{◌≡◌, ◌<◌, ◌≤◌, [], false, nat_lt, length, vec_len, All, IfOk, OnOk};
+ghost use Rattle.std.specs.Prelude.{◌≡◌, ◌<◌, ◌≤◌, [], vec_len, All, IfOk, OnOk};
 ghost use Rattle.minelib_text.specs.FieldValues.{all_by, whole_in};
 ghost use Rattle.minelib_text.specs.Marks.{AreClear};
 ghost use Rattle.minelib_text.specs.PrecLines.{admit_preds, finish_preds, no_lists, preds_in, preds_of, stands_in};
