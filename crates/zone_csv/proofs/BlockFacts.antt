@@ -1,60 +1,43 @@
 -- The block of a row, by the numbers of its cells.
-use Rattle.std.proofs.Common.{◌≡◌, ℕ, ◌<◌, ◌≤◌, ◌^◌, Bool, true, false, arith, refl, ◌∙◌, ap, subst, Ok, Err}
-use Rattle.std.specs.Prelude.{Result, nat_lt}
-use Rattle.std.proofs.lemmas.Bool.{ltb-false}
+use Rattle.std.proofs.Common.{◌≡◌, ℕ, ◌<◌, ◌≤◌, ◌^◌, Bool, true, false, refl, ap, sym}
 use Rattle.std.proofs.Math.Bridge.{le_prop}
+use Rattle.std.proofs.lemmas.Bool.{le-leb, lt-ltb}
 use Rattle.pit_model.specs.declared.block.Block.{Block}
-use Rattle.zone_csv.specs.Cell.{Kept, Index, Kilograms, Grade, value_of}
-use Rattle.zone_csv.specs.Faults.{all_five}
-use Rattle.zone_csv.specs.Row.{Zone, zone_if, zone_of, block}
-use Rattle.zone_csv.specs.declared.row_fault.RowFault.{RowFault}
+use Rattle.zone_csv.specs.Row.{Kept, a_grade, a_zone, block, block_with, index, kept, kilograms}
 
--- a number below a limit is kept by its value
-below_is : (limit : ℕ) (kept : Kept (λ n. n < limit)) (n : ℕ) (within : n < limit) → n ≡ kept.value
-    → record { value = n; in_range = within } ≡ kept
-below_is limit kept n within is =
-    let motive : ℕ → Type 0 = λ m. (q : m < limit) → ◌≡◌ {A = Kept (λ n. n < limit)} (record { value = n; in_range = within }) (record { value = m; in_range = q }) in
-    subst motive is (λ q i. record { value = n; in_range = le_prop within q i }) kept.in_range
+-- a number in range is kept, however it is shown to be in range
+kept_same : {InRange : ℕ → Type 0} (other : Kept InRange) (n : ℕ) (within : Bool) (holds : within ≡ true → InRange n) (in_range : InRange n)
+    → ((q : InRange n) → in_range ≡ q) → within ≡ true → record { value = n; in_range = in_range } ≡ kept other n within holds
+kept_same other n true holds in_range one is = λ i. record { value = n; in_range = one (holds refl) i }
+kept_same other n false holds in_range one is = absurd cc
 
--- so is a number at most a limit
-at_most_is : (limit : ℕ) (kept : Kept (λ n. n ≤ limit)) (n : ℕ) (within : n ≤ limit) → n ≡ kept.value
-    → record { value = n; in_range = within } ≡ kept
-at_most_is limit kept n within is =
-    let motive : ℕ → Type 0 = λ m. (q : m ≤ limit) → ◌≡◌ {A = Kept (λ n. n ≤ limit)} (record { value = n; in_range = within }) (record { value = m; in_range = q }) in
-    subst motive is (λ q i. record { value = n; in_range = le_prop within q i }) kept.in_range
+index_same : (n : ℕ) (small : n < 10000) → record { value = n; in_range = small } ≡ index n
+index_same n small = kept_same _ n _ _ small (λ q. le_prop small q) (lt-ltb n 10000 small)
+
+kilograms_same : (n : ℕ) (small : n ≤ 10 ^ 9) → record { value = n; in_range = small } ≡ kilograms n
+kilograms_same n small = kept_same _ n _ _ small (λ q. le_prop small q) (le-leb n (10 ^ 9) small)
+
+grade_same : (n : ℕ) (small : n ≤ 10 ^ 12) → record { value = n; in_range = small } ≡ a_grade n
+grade_same n small = kept_same _ n _ _ small (λ q. le_prop small q) (le-leb n (10 ^ 12) small)
+
+zone_same : (n : ℕ) (small : n < 64) → record { value = n; in_range = small } ≡ a_zone n
+zone_same n small = kept_same _ n _ _ small (λ q. le_prop small q) (lt-ltb n 64 small)
 
 -- the zone of a number that a plan may have is that number
-pub zone_value : (n : ℕ) (there : Bool) (is : nat_lt n 64 ≡ there) → n < 64 → n ≡ (zone_if n there is).value
-zone_value n true is small = refl
-zone_value n false is small = absurd (omega (arith, ltb-false n 64 is))
+pub zone_value : (n : ℕ) → n < 64 → (a_zone n).value ≡ n
+zone_value n small = sym (ap (λ k. k.value) (zone_same n small))
+
+-- the block of numbers in range has them
+pub made_with : (zone x y z kg grade : ℕ) (in_zone : zone < 64) (in_x : x < 10000) (in_y : y < 10000) (in_z : z < 10000)
+    (in_kg : kg ≤ 10 ^ 9) (in_grade : grade ≤ 10 ^ 12)
+    → block (record { value = zone; in_range = in_zone }) (record { value = x; in_range = in_x }) (record { value = y; in_range = in_y })
+    (record { value = z; in_range = in_z }) (record { value = kg; in_range = in_kg }) (record { value = grade; in_range = in_grade })
+    ≡ block_with zone x y z kg grade
+made_with zone x y z kg grade in_zone in_x in_y in_z in_kg in_grade = λ i.
+    block (zone_same zone in_zone i) (index_same x in_x i) (index_same y in_y i) (index_same z in_z i) (kilograms_same kg in_kg i)
+    (grade_same grade in_grade i)
 
 -- a block is that of its fields
-same_block : (b : Block) (zone : Zone) (x y z : Index) (kg : Kilograms) (grade : Grade)
-    → b.zone ≡ zone.value → b.x ≡ x.value → b.y ≡ y.value → b.z ≡ z.value → b.kg ≡ kg.value → b.grade ≡ grade.value
-    → b ≡ block zone x y z kg grade
-same_block b zone x y z kg grade zone_is x_is y_is z_is kg_is grade_is =
-    let in_zone : Zone = record { value = b.zone; in_range = b.zone_in_range } in
-    let at_x : Index = record { value = b.x; in_range = b.x_in_grid } in
-    let at_y : Index = record { value = b.y; in_range = b.y_in_grid } in
-    let at_z : Index = record { value = b.z; in_range = b.z_in_grid } in
-    let of_kg : Kilograms = record { value = b.kg; in_range = b.kg_in_range } in
-    let of_grade : Grade = record { value = b.grade; in_range = b.grade_in_range } in
-    ap (λ k. block k at_x at_y at_z of_kg of_grade) (below_is 64 zone b.zone b.zone_in_range zone_is)
-    ∙ ap (λ k. block zone k at_y at_z of_kg of_grade) (below_is 10000 x b.x b.x_in_grid x_is)
-    ∙ ap (λ k. block zone x k at_z of_kg of_grade) (below_is 10000 y b.y b.y_in_grid y_is)
-    ∙ ap (λ k. block zone x y k of_kg of_grade) (below_is 10000 z b.z b.z_in_grid z_is)
-    ∙ ap (λ k. block zone x y z k of_grade) (at_most_is (10 ^ 9) kg b.kg b.kg_in_range kg_is)
-    ∙ ap (λ k. block zone x y z kg k) (at_most_is (10 ^ 12) grade b.grade b.grade_in_range grade_is)
-
--- the block of the numbers that the five cells of a row state
-pub made_block : (b : Block) (zone : ℕ) (x y z : Result Index RowFault) (kg : Result Kilograms RowFault) (grade : Result Grade RowFault)
-    → zone < 64 → b.zone ≡ zone → Ok b.x ≡ value_of x → Ok b.y ≡ value_of y → Ok b.z ≡ value_of z → Ok b.kg ≡ value_of kg
-    → Ok b.grade ≡ value_of grade → Ok b ≡ all_five (block (zone_of zone)) x y z kg grade
-made_block b zone (Ok x) (Ok y) (Ok z) (Ok kg) (Ok grade) small zone_is x_is y_is z_is kg_is grade_is =
-    ap Ok (same_block b (zone_of zone) x y z kg grade (zone_is ∙ zone_value zone (nat_lt zone 64) refl small)
-    (cc) (cc) (cc) (cc) (cc))
-made_block b zone (Err fault) y z kg grade small zone_is x_is y_is z_is kg_is grade_is = absurd (cc)
-made_block b zone (Ok x) (Err fault) z kg grade small zone_is x_is y_is z_is kg_is grade_is = absurd (cc)
-made_block b zone (Ok x) (Ok y) (Err fault) kg grade small zone_is x_is y_is z_is kg_is grade_is = absurd (cc)
-made_block b zone (Ok x) (Ok y) (Ok z) (Err fault) grade small zone_is x_is y_is z_is kg_is grade_is = absurd (cc)
-made_block b zone (Ok x) (Ok y) (Ok z) (Ok kg) (Err fault) small zone_is x_is y_is z_is kg_is grade_is = absurd (cc)
+pub block_again : (b : Block) → b ≡ block_with b.zone b.x b.y b.z b.kg b.grade
+block_again b =
+    made_with b.zone b.x b.y b.z b.kg b.grade b.zone_in_range b.x_in_grid b.y_in_grid b.z_in_grid b.kg_in_range b.grade_in_range

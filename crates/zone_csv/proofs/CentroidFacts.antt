@@ -1,68 +1,97 @@
 -- An index stands for the coordinate of its blocks.
-use Rattle.std.proofs.Common.{◌≡◌, ℕ, ◌+◌, ◌*◌, ◌/◌, ◌%◌, ◌<◌, ◌==◌, Bool, true, false, refl, arith, ◌∙◌, ap, ℤ, pos, negsuc, Ok, Err}
-use Rattle.std.specs.Prelude.{nat_lt, ◌-ℤ◌, ◌*ℤ◌, if◌then◌else◌}
-use Rattle.std.proofs.lemmas.Bool.{ltb-true, ltb-false, eqb-true}
+use Rattle.std.proofs.Common.{◌≡◌, ℕ, ◌+◌, ◌*◌, ◌/◌, ◌%◌, ◌<◌, ◌==◌, Bool, true, false, refl, arith, ap, ℤ, pos, negsuc, Ok, Err}
+use Rattle.std.specs.Prelude.{◌-ℤ◌, ◌≤ℤ◌, ◌<ℤ◌, ◌&&◌, int_le, int_lt, unsigned_abs, Result, if◌then◌else◌}
+use Rattle.std.proofs.lemmas.Bool.{eqb-true, eq-eqb}
 use Rattle.std.proofs.lemmas.Int.{ints}
 use Rattle.std.proofs.lemmas.Nat.{div-add-mod'}
-use Rattle.std.proofs.Math.Nat.{mul-div_left}
+use Rattle.std.proofs.Math.Nat.{mul-div_left, div-lt_iff_lt-mul}
+use Rattle.forms.proofs.FormFacts.{le_true, true_le}
 use Rattle.pit_model.specs.declared.grid.Axis.{Axis}
-use Rattle.zone_csv.specs.Cell.{value_of, index_if, index_above, index_at, IsCentroid}
+use Rattle.zone_csv.specs.Cell.{IsCentroid, IsInGrid, centroid, greatest, index_above, index_at, least}
 use Rattle.zone_csv.specs.declared.row_fault.RowFaultKind.{RowFaultKind}
-use Rattle.zone_csv.specs.declared.row_fault.RowFaultKind.TheVariants.{OffGrid}
+use Rattle.zone_csv.specs.declared.row_fault.RowFaultKind.TheVariants.{OffGrid, Range}
 
-by_rest : (blocks rest index : ℕ) (is : nat_lt blocks 10000 ≡ true) (none : Bool) → (rest == 0) ≡ none
-    → value_of {InRange = λ n. n < 10000} {E = RowFaultKind} (if none then Ok (record { value = blocks; in_range = ltb-true blocks 10000 is }) else Err OffGrid) ≡ Ok index
-    → (blocks ≡ index) × (rest ≡ 0) × (index < 10000)
-by_rest blocks rest index is true zero answer =
-    let same : blocks ≡ index = cc in
-    let small : blocks < 10000 = ltb-true blocks 10000 is in
-    (same, eqb-true rest 0 zero, omega arith)
-by_rest blocks rest index is false zero answer = absurd (cc)
+lt_true : (a b : ℤ) → int_lt a b ≡ true → a <ℤ b
+lt_true a b e = grind (arith, ints)
 
--- an index is a number of whole blocks, with no rest, below the end of the grid
-whole : (blocks rest index : ℕ) (below : Bool) (is : nat_lt blocks 10000 ≡ below) → value_of (index_if blocks rest below is) ≡ Ok index
-    → (blocks ≡ index) × (rest ≡ 0) × (index < 10000)
-whole blocks rest index false is answer = absurd (cc)
-whole blocks rest index true is answer = by_rest blocks rest index is (rest == 0) refl answer
+true_lt : (a b : ℤ) → a <ℤ b → int_lt a b ≡ true
+true_lt a b e = grind (arith, ints)
 
--- and so is each such number
-index_there : (blocks rest index : ℕ) (below : Bool) (is : nat_lt blocks 10000 ≡ below) → blocks ≡ index → rest ≡ 0 → index < 10000
-    → value_of (index_if blocks rest below is) ≡ Ok index
-index_there blocks rest index true is same none small = rw none (ap Ok same)
-index_there blocks rest index false is same none small = absurd (omega (arith, ltb-false blocks 10000 is))
+module _ (axis : Axis) (some : 0 < axis.size) where
+  abbrev size : ℕ
+  size = 1000 * axis.size
 
--- a place above the origin with an index is that many sizes above it
-above_is : (size : ℕ) (above : ℤ) (index : ℕ) → value_of (index_above size above) ≡ Ok index
-    → (above ≡ pos (index * size)) × (index < 10000)
-above_is size (negsuc below) index answer = absurd (cc)
-above_is size (pos above) index answer =
-    let found : (above / size ≡ index) × (above % size ≡ 0) × (index < 10000) =
-    whole (above / size) (above % size) index (nat_lt (above / size) 10000) refl answer in
-    let sum : above / size * size + above % size ≡ above = div-add-mod' above size in
-    let product : above / size * size ≡ index * size = ap (λ n. n * size) found.0 in
-    let is : above ≡ index * size = omega (arith, found.1) in
-    (ap pos is, found.2)
+  -- an index is a number of whole blocks, with no rest
+  whole : (k index : ℕ) (t : Bool) → (k % size == 0) ≡ t → ◌≡◌ {A = Result ℕ RowFaultKind} (if t then Ok (k / size) else Err OffGrid) (Ok index)
+      → (k ≡ index * size) × (k / size ≡ index)
+  whole k index false is answer = absurd cc
+  whole k index true is answer =
+      let count : k / size ≡ index = cc in
+      let none : k % size ≡ 0 = eqb-true (k % size) 0 is in
+      let sum : k / size * size + k % size ≡ k = div-add-mod' k size in
+      let product : k / size * size ≡ index * size = ap (λ n. n * size) count in
+      (omega (arith, sum, none, product), count)
 
--- so many sizes above the origin there is that index
-above_has : (size index : ℕ) → 0 < size → index < 10000 → value_of (index_above size (pos (index * size))) ≡ Ok index
-above_has size index some small =
-    let whole_blocks : index * size / size ≡ index = mul-div_left index some in
-    let sum : index * size / size * size + index * size % size ≡ index * size = div-add-mod' (index * size) size in
-    let product : index * size / size * size ≡ index * size = ap (λ n. n * size) whole_blocks in
-    index_there (index * size / size) (index * size % size) index (nat_lt (index * size / size) 10000) refl whole_blocks (omega arith) small
+  -- an index is that of a coordinate's blocks
+  pub index_is_centroid : (coordinate : ℤ) (index : ℕ) → IsInGrid axis coordinate → index_at axis coordinate ≡ Ok index
+      → IsCentroid axis coordinate index × (index < 10000)
+  index_is_centroid coordinate index within answer = by (coordinate -ℤ least axis) refl answer
+    where
+      by : (above : ℤ) → (coordinate -ℤ least axis) ≡ above → index_above size (unsigned_abs above) ≡ Ok index
+          → IsCentroid axis coordinate index × (index < 10000)
+      by (negsuc k) e answer = absurd (omega (arith, ints, e, within.0))
+      by (pos k) e answer =
+          let is = whole k index (k % size == 0) refl answer in
+          let all : k ≡ index * size = is.0 in
+          let count : k / size ≡ index = is.1 in
+          let low : k < 10000 * size = omega (arith, ints, e, within.1) in
+          let few : k / size < 10000 = (div-lt_iff_lt-mul {k = size} {x = k} {y = 10000} (omega arith)).1 low in
+          (omega (arith, ints, e, all), omega (arith, count, few))
 
--- an index is that of a coordinate's blocks
-pub index_is_centroid : (axis : Axis) (coordinate : ℤ) (index : ℕ) → value_of (index_at axis coordinate) ≡ Ok index
-    → IsCentroid axis coordinate index × (index < 10000)
-index_is_centroid axis coordinate index answer =
-    let is : ((coordinate -ℤ (pos 1000 *ℤ axis.origin)) ≡ pos (index * (1000 * axis.size))) × (index < 10000) =
-    above_is (1000 * axis.size) (coordinate -ℤ (pos 1000 *ℤ axis.origin)) index answer in
-    let far : (coordinate -ℤ (pos 1000 *ℤ axis.origin)) ≡ pos (index * (1000 * axis.size)) = is.0 in
-    (omega (arith, ints), is.1)
+  whole_blocks : (index : ℕ) → index * size / size ≡ index
+  whole_blocks index = mul-div_left index (omega arith)
 
--- and the coordinate of each block has its index
-pub centroid_has_index : (axis : Axis) (coordinate : ℤ) (index : ℕ) → 0 < axis.size → index < 10000 → IsCentroid axis coordinate index
-    → value_of (index_at axis coordinate) ≡ Ok index
-centroid_has_index axis coordinate index some small is =
-    let far : (coordinate -ℤ (pos 1000 *ℤ axis.origin)) ≡ pos (index * (1000 * axis.size)) = omega (arith, ints, is) in
-    ap (λ z. value_of (index_above (1000 * axis.size) z)) far ∙ above_has (1000 * axis.size) index (omega arith) small
+  -- so many sizes above the origin there is that index
+  pub centroid_index : (index : ℕ) → index_at axis (centroid axis index) ≡ Ok index
+  centroid_index index =
+      let far : (centroid axis index -ℤ least axis) ≡ pos (index * size) = omega (arith, ints) in
+      let sum : index * size / size * size + index * size % size ≡ index * size = div-add-mod' (index * size) size in
+      let product : index * size / size * size ≡ index * size = ap (λ n. n * size) (whole_blocks index) in
+      let none : index * size % size ≡ 0 = omega (arith, sum, product) in
+      rw (far, eq-eqb (index * size % size) 0 none) (ap Ok (whole_blocks index))
+
+  pub centroid_in_grid : (index : ℕ) → index < 10000 → IsInGrid axis (centroid axis index)
+  centroid_in_grid index small =
+      let count : index * size / size ≡ index = whole_blocks index in
+      let few : index * size / size < 10000 = omega (arith, count, small) in
+      let low : index * size < 10000 * size = (div-lt_iff_lt-mul {k = size} {x = index * size} {y = 10000} (omega arith)).0 few in
+      (omega (arith, ints), omega (arith, ints, low))
+
+pub no_index : (size above : ℕ) (kind : RowFaultKind) → index_above size above ≡ Err kind → kind ≡ OffGrid
+no_index size above kind e = by (above % size == 0) e
+  where
+    by : (t : Bool) → ◌≡◌ {A = Result ℕ RowFaultKind} (if t then Ok (above / size) else Err OffGrid) (Err kind) → kind ≡ OffGrid
+    by true e = absurd cc
+    by false e = cc
+
+same_test : (t u : Bool) → (t ≡ true → u ≡ true) → (u ≡ true → t ≡ true) → t ≡ u
+same_test true true to from = refl
+same_test true false to from = absurd (cc (to refl))
+same_test false true to from = absurd (cc (from refl))
+same_test false false to from = refl
+
+-- a place is in the grid as a coordinate, or as so far above the origin
+pub same_place : (axis : Axis) (coordinate above : ℤ) → above ≡ (coordinate -ℤ least axis)
+    → (if int_le (pos 0) above && int_lt above (pos (1000 * axis.size * 10000)) then index_above (1000 * axis.size) (unsigned_abs above) else Err Range)
+    ≡ (if int_le (least axis) coordinate && int_le coordinate (greatest axis) then index_at axis coordinate else Err Range)
+same_place axis coordinate above far =
+    let low : int_le (pos 0) above ≡ int_le (least axis) coordinate =
+    same_test _ _ (λ e. let h : pos 0 ≤ℤ above = le_true (pos 0) above e in true_le (least axis) coordinate (omega (arith, ints, h, far)))
+    (λ e. let h : least axis ≤ℤ coordinate = le_true (least axis) coordinate e in true_le (pos 0) above (omega (arith, ints, h, far))) in
+    let high : int_lt above (pos (1000 * axis.size * 10000)) ≡ int_le coordinate (greatest axis) =
+    same_test _ _ (λ e. let h : above <ℤ pos (1000 * axis.size * 10000) = lt_true above (pos (1000 * axis.size * 10000)) e in
+    true_le coordinate (greatest axis) (omega (arith, ints, h, far)))
+    (λ e. let h : coordinate ≤ℤ greatest axis = le_true coordinate (greatest axis) e in
+    true_lt above (pos (1000 * axis.size * 10000)) (omega (arith, ints, h, far))) in
+    rw (low, high) (ap (λ z. if int_le (least axis) coordinate && int_le coordinate (greatest axis)
+    then index_above (1000 * axis.size) (unsigned_abs z) else Err Range) far)

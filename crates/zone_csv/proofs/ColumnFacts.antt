@@ -1,16 +1,17 @@
 -- A header's columns are those that it names.
-use Rattle.std.proofs.Common.{◌≡◌, ℕ, zero, suc, ◌+◌, Bool, true, false, List, [], ◌∷◌, length, arith, refl, sym, ◌∙◌, ap, subst, Ok, Err}
-use Rattle.std.specs.Prelude.{Result, codes}
+use Rattle.std.proofs.Common.{◌≡◌, ℕ, zero, suc, ◌+◌, Bool, true, false, List, [], ◌∷◌, length, arith, refl, sym, ◌∙◌, ap, subst, inl, inr, Ok}
+use Rattle.std.specs.Prelude.{codes}
 use Rattle.pit_model.specs.Cells.{trimmed, is_word}
 use Rattle.zone_csv.specs.Cell.{cell_at}
-use Rattle.zone_csv.specs.Faults.{at, all_five}
+use Rattle.forms.proofs.DemandFacts.{Follows, bound, mapped}
+use Rattle.zone_csv.specs.Faults.{at}
+use Rattle.zone_csv.specs.RowDemands.{IsNamed, a_column, asked_of_header}
+use Rattle.zone_csv.specs.declared.row_fault.Column.TheVariants as column
 use Rattle.zone_csv.specs.Header.{places_of, only_place, place_of, columns_of}
 use Rattle.zone_csv.specs.SpelledZone.{NamesColumn, NamesColumns}
 use Rattle.zone_csv.specs.declared.columns.Columns.{Columns}
 use Rattle.zone_csv.specs.declared.row_fault.Column.{Column}
 use Rattle.zone_csv.specs.declared.row_fault.Column.TheVariants as column
-use Rattle.zone_csv.specs.declared.row_fault.RowFault.{RowFault}
-use Rattle.zone_csv.specs.declared.row_fault.RowFaultKind.{RowFaultKind}
 
 module _ (name : List ℕ) (no_name : is_word [] name ≡ false) where
   abbrev Is : List (List ℕ) → ℕ → Type 0
@@ -88,50 +89,54 @@ module _ (name : List ℕ) (no_name : is_word [] name ≡ false) where
   pub named_place : (header : List (List ℕ)) (p : ℕ) → NamesColumn header name p → place_of name header ≡ Ok p
   named_place header p h = let place : 0 + p ≡ p = omega arith in ap only_place (one_place header 0 p h) ∙ ap Ok place
 
--- five answers that make one
-pub five_parts : {A B C D E F : Type 0} (make : A → B → C → D → E → F)
-    (a : Result A RowFault) (b : Result B RowFault) (c : Result C RowFault) (d : Result D RowFault) (e : Result E RowFault) (made : F)
-    → all_five make a b c d e ≡ Ok made
-    → (v : A) × (w : B) × (x : C) × (y : D) × (z : E) × (a ≡ Ok v) × (b ≡ Ok w) × (c ≡ Ok x) × (d ≡ Ok y) × (e ≡ Ok z) × (make v w x y z ≡ made)
-five_parts make (Ok v) (Ok w) (Ok x) (Ok y) (Ok z) made is = (v, w, x, y, z, refl, refl, refl, refl, refl, one _ _ is)
+-- where a name was found, a cell is the name
+some_there : (name : List ℕ) (cells : List (List ℕ)) (n p : ℕ) (rest : List ℕ) → places_of name cells n ≡ p ∷ rest → (q : ℕ) × IsNamed cells name q
+some_there name [] n p rest e = absurd cc
+some_there name (cell ∷ cells) n p rest e = by (is_word (trimmed cell) name) refl (λ more. some_there name cells (n + 1) p rest more)
   where
-    one : {F : Type 0} (x y : F) → ◌≡◌ {A = Result F RowFault} (Ok x) (Ok y) → x ≡ y
-    one x y e = cc
-five_parts make (Err fault) b c d e made is = absurd cc
-five_parts make (Ok v) (Err fault) c d e made is = absurd cc
-five_parts make (Ok v) (Ok w) (Err fault) d e made is = absurd cc
-five_parts make (Ok v) (Ok w) (Ok x) (Err fault) e made is = absurd cc
-five_parts make (Ok v) (Ok w) (Ok x) (Ok y) (Err fault) made is = absurd cc
+    by : (t : Bool) → is_word (trimmed cell) name ≡ t → (places_of name cells (n + 1) ≡ p ∷ rest → (q : ℕ) × IsNamed cells name q)
+        → (q : ℕ) × IsNamed (cell ∷ cells) name q
+    by true is later = (0, is)
+    by false is later = let there = later (rw is at e) in (suc there.0, there.1)
 
-pub at_ok : {A : Type 0} (row : ℕ) (place : Column) (answer : Result A RowFaultKind) (x : A) → at row place answer ≡ Ok x → answer ≡ Ok x
-at_ok row place (Ok y) x e = cc
-at_ok row place (Err kind) x e = absurd cc
+column_told : (place : Column) (name : List ℕ) (no_name : is_word [] name ≡ false) (header : List (List ℕ))
+    → Follows (at 1 place (place_of name header)) (a_column place name header) (NamesColumn header name)
+column_told place name no_name header = by (places_of name header 0) refl
+  where
+    by : (places : List ℕ) → places_of name header 0 ≡ places
+        → Follows (at 1 place (only_place places)) (a_column place name header) (NamesColumn header name)
+    by [] e = inl ((λ h. none_at name no_name header 0 e h.0 h.1), refl)
+    by (p ∷ []) e =
+        let named = place_named name no_name header p (ap only_place e) in
+        (((p, named.0), ((λ q r is_q is_r. named.1 q is_q ∙ sym (named.1 r is_r)), tt)), named)
+    by (p ∷ second ∷ more) e =
+        let there = some_there name header 0 p (second ∷ more) e in
+        let never : ¬ ((q r : ℕ) → IsNamed header name q → IsNamed header name r → q ≡ r) = λ only.
+        absurd (cc (e, one_place name no_name header 0 there.0 (there.1, λ r is. only r there.0 is there.1))) in
+        inr (there, inl (never, refl))
+
+-- a header follows what is asked of it and gives the columns that it names
+pub header_told : (header : List (List ℕ)) → Follows (columns_of header) (asked_of_header header) (NamesColumns header)
+unfolding columns_of
+header_told header =
+    bound _ _ _ _ _ _ (column_told column.X (codes "x") refl header) (λ x of_x.
+    bound _ _ _ _ _ _ (column_told column.Y (codes "y") refl header) (λ y of_y.
+    bound _ _ _ _ _ _ (column_told column.Z (codes "z") refl header) (λ z of_z.
+    bound _ _ _ _ _ _ (column_told column.Tonnes (codes "tonnes") refl header) (λ tonnes of_tonnes.
+    mapped _ (λ grade. record { width = length header; x = x; y = y; z = z; tonnes = tonnes; grade = grade }) _ _ _
+    (column_told column.Grade (codes "grade") refl header) (λ grade of_grade.
+    record { width = refl; x = of_x; y = of_y; z = of_z; tonnes = of_tonnes; grade = of_grade })))))
 
 pub columns_named : (header : List (List ℕ)) (columns : Columns) → columns_of header ≡ Ok columns → NamesColumns header columns
-unfolding columns_of
-columns_named header columns e =
-    let f = five_parts _ _ _ _ _ _ columns e in
-    let x : NamesColumn header (codes "x") f.0 = place_named (codes "x") refl header f.0 (at_ok 1 column.X _ f.0 f.5) in
-    let y : NamesColumn header (codes "y") f.1 = place_named (codes "y") refl header f.1 (at_ok 1 column.Y _ f.1 f.6) in
-    let z : NamesColumn header (codes "z") f.2 = place_named (codes "z") refl header f.2 (at_ok 1 column.Z _ f.2 f.7) in
-    let tonnes : NamesColumn header (codes "tonnes") f.3 = place_named (codes "tonnes") refl header f.3 (at_ok 1 column.Tonnes _ f.3 f.8) in
-    let grade : NamesColumn header (codes "grade") f.4 = place_named (codes "grade") refl header f.4 (at_ok 1 column.Grade _ f.4 f.9) in
-    subst (NamesColumns header) f.10 (record { width = refl; x = x; y = y; z = z; tonnes = tonnes; grade = grade })
+columns_named header columns e = (subst (λ r. Follows r (asked_of_header header) (NamesColumns header)) e (header_told header)).1
 
 pub named_columns : (header : List (List ℕ)) (columns : Columns) → NamesColumns header columns → columns_of header ≡ Ok columns
 unfolding columns_of
 named_columns header columns h =
-    let x : place_of (codes "x") header ≡ Ok columns.x = named_place (codes "x") refl header columns.x h.x in
-    let y : place_of (codes "y") header ≡ Ok columns.y = named_place (codes "y") refl header columns.y h.y in
-    let z : place_of (codes "z") header ≡ Ok columns.z = named_place (codes "z") refl header columns.z h.z in
-    let tonnes : place_of (codes "tonnes") header ≡ Ok columns.tonnes = named_place (codes "tonnes") refl header columns.tonnes h.tonnes in
-    let grade : place_of (codes "grade") header ≡ Ok columns.grade = named_place (codes "grade") refl header columns.grade h.grade in
-    five (length header) (place_of (codes "x") header) (place_of (codes "y") header) (place_of (codes "z") header) (place_of (codes "tonnes") header)
-    (place_of (codes "grade") header) columns (sym h.width) x y z tonnes grade
-  where
-    five : (width : ℕ) (x y z tonnes grade : Result ℕ RowFaultKind) (columns : Columns) → width ≡ columns.width → x ≡ Ok columns.x → y ≡ Ok columns.y → z ≡ Ok columns.z
-        → tonnes ≡ Ok columns.tonnes → grade ≡ Ok columns.grade
-        → all_five (λ x y z tonnes grade. record { width = width; x = x; y = y; z = z; tonnes = tonnes; grade = grade })
-        (at 1 column.X x) (at 1 column.Y y) (at 1 column.Z z) (at 1 column.Tonnes tonnes) (at 1 column.Grade grade) ≡ Ok columns
-    five width x y z tonnes grade columns w ex ey ez et eg =
-        rw (ex, ey, ez, et, eg) (λ i. Ok (record { width = w i; x = columns.x; y = columns.y; z = columns.z; tonnes = columns.tonnes; grade = columns.grade }))
+    rw (
+      named_place (codes "x") refl header columns.x h.x,
+      named_place (codes "y") refl header columns.y h.y,
+      named_place (codes "z") refl header columns.z h.z,
+      named_place (codes "tonnes") refl header columns.tonnes h.tonnes,
+      named_place (codes "grade") refl header columns.grade h.grade,
+    ) (λ i. Ok (record { width = sym h.width i; x = columns.x; y = columns.y; z = columns.z; tonnes = columns.tonnes; grade = columns.grade }))

@@ -4,7 +4,7 @@ pub mod CentroidFacts
 pub mod FaultFacts
 pub mod FirstFaults
 pub mod Giving
-pub mod GridFacts
+pub mod RowFacts
 pub mod ZoneFacts
 pub mod ColumnFacts
 pub mod SpelledRows

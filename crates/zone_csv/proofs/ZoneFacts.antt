@@ -1,56 +1,22 @@
 -- The blocks of a zone file are few, and of its zone.
-use Rattle.std.proofs.Common.{◌≡◌, ℕ, ◌+◌, ◌<◌, ◌≤◌, ◌==◌, Bool, true, false, not, List, [], ◌∷◌, length, arith, refl, sym, ◌∙◌, ap, Ok, Err}
-use Rattle.std.specs.Prelude.{Result, nat_lt, All, if◌then◌else◌}
-use Rattle.std.proofs.lemmas.Bool.{ltb-false}
+use Rattle.std.proofs.Common.{◌≡◌, ℕ, ◌+◌, ◌<◌, ◌≤◌, List, [], ◌∷◌, length, arith, refl, ◌∙◌, subst, Ok, Err}
+use Rattle.std.specs.Prelude.{Result, All}
 use Rattle.std.proofs.lemmas.List.Elements.{All-nil, All-cons}
 use Rattle.pit_model.specs.Records.{records_of}
 use Rattle.pit_model.specs.declared.block.Block.{Block}
 use Rattle.pit_model.specs.declared.grid.Grid.{Grid}
 use Rattle.zone_csv.proofs.BlockFacts.{zone_value}
-use Rattle.zone_csv.specs.Cell.{Index, Kilograms, Grade}
-use Rattle.zone_csv.specs.Faults.{at, all_five}
+use Rattle.zone_csv.proofs.FaultFacts.{IsOfRow, IsOfZone, row_of_row}
 use Rattle.zone_csv.specs.Header.{columns_of}
-use Rattle.zone_csv.specs.Row.{Zone, zone_of, block, block_of, row_of}
+use Rattle.zone_csv.specs.Row.{row_of}
 use Rattle.zone_csv.specs.Zone.{rows_say, below_header, records_say, before_fault, blocks_of, HasFewBlocks, HasOwnBlocks}
 use Rattle.zone_csv.specs.declared.columns.Columns.{Columns}
-use Rattle.zone_csv.specs.declared.row_fault.Column.TheVariants as column
 use Rattle.zone_csv.specs.declared.row_fault.RowFault.{RowFault}
-use Rattle.zone_csv.specs.declared.row_fault.RowFaultKind.TheVariants.{Width, TooManyRows}
 
--- the block of five cells is of its zone
-five_of_zone : (zone : Zone) (x y z : Result Index RowFault) (kg : Result Kilograms RowFault) (grade : Result Grade RowFault) (b : Block)
-    → all_five (block zone) x y z kg grade ≡ Ok b → b.zone ≡ zone.value
-five_of_zone zone (Ok x) (Ok y) (Ok z) (Ok kg) (Ok grade) b is =
-    let same : block zone x y z kg grade ≡ b = cc in ap (λ (c : Block). c.zone) (sym same)
-five_of_zone zone (Err fault) y z kg grade b is = absurd (cc)
-five_of_zone zone (Ok x) (Err fault) z kg grade b is = absurd (cc)
-five_of_zone zone (Ok x) (Ok y) (Err fault) kg grade b is = absurd (cc)
-five_of_zone zone (Ok x) (Ok y) (Ok z) (Err fault) grade b is = absurd (cc)
-five_of_zone zone (Ok x) (Ok y) (Ok z) (Ok kg) (Err fault) b is = absurd (cc)
-
--- a row with a block is no further than the last one that is allowed, and has the width of the header
-counted_row : (many wide : Bool) (number : ℕ) (of_cells : Result Block RowFault) (b : Block)
-    → (if many then at number column.Whole (Err TooManyRows) else (if wide then at number column.Whole (Err Width) else of_cells)) ≡ Ok b
-    → (many ≡ false) × (of_cells ≡ Ok b)
-counted_row true wide number of_cells b is = absurd (cc)
-counted_row false true number of_cells b is = absurd (cc)
-counted_row false false number of_cells b is = (refl, is)
-
--- a row with a block is within the first 1,000,001 records
+-- a row with a block is within the first 1,000,001 records, and its block is of the zone
 row_within : (grid : Grid) (zone : ℕ) (columns : Columns) (number : ℕ) (cells : List (List ℕ)) (b : Block)
-    → row_of grid zone columns number cells ≡ Ok b → number ≤ 1000001
-unfolding row_of
-row_within grid zone columns number cells b is =
-    ltb-false 1000001 number (counted_row (nat_lt 1000001 number) (not (length cells == columns.width)) number (block_of grid zone columns number cells) b is).0
-
--- and its block is of the zone
-row_of_zone : (grid : Grid) (zone : ℕ) (columns : Columns) (number : ℕ) (cells : List (List ℕ)) (b : Block) → zone < 64
-    → row_of grid zone columns number cells ≡ Ok b → b.zone ≡ zone
-unfolding row_of
-row_of_zone grid zone columns number cells b small is =
-    five_of_zone (zone_of zone) _ _ _ _ _ b
-    (counted_row (nat_lt 1000001 number) (not (length cells == columns.width)) number (block_of grid zone columns number cells) b is).1
-    ∙ sym (zone_value zone (nat_lt zone 64) refl small)
+    → row_of grid zone columns number cells ≡ Ok b → IsOfZone zone number b
+row_within grid zone columns number cells b is = subst (IsOfRow number (IsOfZone zone number)) is (row_of_row grid zone columns number cells)
 
 -- one more block, if the row has one
 one_more : (answer : Result Block RowFault) (said : List (Result Block RowFault)) (number : ℕ) → number ≤ 1000002
@@ -68,7 +34,7 @@ few_rows : (grid : Grid) (zone : ℕ) (columns : Columns) (rows : List (List (Li
 few_rows grid zone columns [] number counted = omega arith
 few_rows grid zone columns (row ∷ rows) number counted =
     one_more (row_of grid zone columns number row) (rows_say grid zone columns rows (number + 1)) number counted
-    (λ b is. row_within grid zone columns number row b is) (λ next. few_rows grid zone columns rows (number + 1) next)
+    (λ b is. (row_within grid zone columns number row b is).1) (λ next. few_rows grid zone columns rows (number + 1) next)
 
 few_below : (grid : Grid) (zone : ℕ) (columns : Result Columns RowFault) (rows : List (List (List ℕ)))
     → length (before_fault (below_header grid zone columns rows)) ≤ 1000000
@@ -96,7 +62,7 @@ own_rows : (grid : Grid) (zone : ℕ) (columns : Columns) (rows : List (List (Li
 own_rows grid zone columns [] number small = All-nil (λ (b : Block). b.zone ≡ zone)
 own_rows grid zone columns (row ∷ rows) number small =
     own_more zone (row_of grid zone columns number row) (rows_say grid zone columns rows (number + 1))
-    (λ b is. row_of_zone grid zone columns number row b small is) (own_rows grid zone columns rows (number + 1) small)
+    (λ b is. (row_within grid zone columns number row b is).0 ∙ zone_value zone small) (own_rows grid zone columns rows (number + 1) small)
 
 own_below : (grid : Grid) (zone : ℕ) (columns : Result Columns RowFault) (rows : List (List (List ℕ))) → zone < 64
     → All (λ (b : Block). b.zone ≡ zone) (before_fault (below_header grid zone columns rows))

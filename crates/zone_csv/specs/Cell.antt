@@ -1,98 +1,88 @@
--- What a cell of a row states: an index of the grid, a tonnage or a grade, or the cell's first fault.
-use Rattle.std.specs.Prelude.{◌≡◌, ℕ, ◌*◌, ◌/◌, ◌%◌, ◌<◌, ◌≤◌, ◌==◌, nat_lt, nat_le, Bool, true, false, List, [], ℤ, pos, negsuc, ◌+ℤ◌, ◌-ℤ◌, ◌*ℤ◌, Result, Ok, Err, if◌then◌else◌, refl, slice_index_or}
-use Rattle.std.proofs.lemmas.Bool.{ltb-true, leb-true}
+-- What a cell of a row states, by the field of its column: an index of the grid, a tonnage or a grade; or the cell's first fault.
+use Rattle.std.specs.Prelude.{◌≡◌, ℕ, ◌*◌, ◌/◌, ◌%◌, ◌==◌, List, [], ℤ, pos, negsuc, ◌+ℤ◌, ◌-ℤ◌, ◌*ℤ◌, ◌≤ℤ◌, unsigned_abs, Result, Ok, Err, if◌then◌else◌, slice_index_or}
+use Rattle.forms.specs.FieldFault.{FieldFault}
+use Rattle.forms.specs.FieldFault as fault
+use Rattle.forms.specs.Form.{Field, Decimal, Millionths, Says, millionths, read_field, up_to}
+use Rattle.forms.specs.Steps.{◌>>=◌}
 use Rattle.pit_model.specs.Cells.{trimmed}
 use Rattle.pit_model.specs.declared.grid.Axis.{Axis}
-use Rattle.pit_units.specs.Decimal.{decimal_of}
-use Rattle.pit_units.specs.declared.fault.DecFault.{DecFault}
-use Rattle.pit_units.specs.declared.fault.DecFault.TheVariants as decimal
+use Rattle.zone_csv.specs.Faults.{a_fault, at}
+use Rattle.zone_csv.specs.declared.row_fault.Column.{Column}
+use Rattle.zone_csv.specs.declared.row_fault.Column.TheVariants as column
+use Rattle.zone_csv.specs.declared.row_fault.RowFault.{RowFault}
 use Rattle.zone_csv.specs.declared.row_fault.RowFaultKind.{RowFaultKind}
-use Rattle.zone_csv.specs.declared.row_fault.RowFaultKind.TheVariants.{Number, TooFine, Range, OffGrid}
+use Rattle.zone_csv.specs.declared.row_fault.RowFaultKind.TheVariants.{Width, Number, TooFine, Range, OffGrid}
 use Rattle.pit_model.specs.declared.ranges.TheConstants.{GRID_CELLS, MAX_GRADE, MAX_KG}
-
--- a number that keeps a range
-pub record Kept (InRange : ℕ → Type 0) : Type 0 where
-  pub value : ℕ
-  pub in_range : InRange value
-
--- the number alone of an answer that keeps a range
-abbrev pub value_of : {InRange : ℕ → Type 0} {E : Type 0} → Result (Kept InRange) E → Result ℕ E
-value_of (Ok kept) = Ok kept.value
-value_of (Err fault) = Err fault
-
--- an index of the grid
-abbrev pub Index : Type 0
-Index = Kept (λ n. n < GRID_CELLS)
-
--- the kilograms of a block
-abbrev pub Kilograms : Type 0
-Kilograms = Kept (λ n. n ≤ MAX_KG)
-
--- the grade of a block, in millionths of a gram per tonne
-abbrev pub Grade : Type 0
-Grade = Kept (λ n. n ≤ MAX_GRADE)
 
 -- the cell of a record at a place, without the blanks at both ends
 abbrev pub cell_at : List (List ℕ) → ℕ → List ℕ
 cell_at cells place = trimmed (slice_index_or cells place [])
 
--- the fault of a cell that states no decimal
-abbrev pub kind_of : DecFault → RowFaultKind
-kind_of decimal.Number = Number
-kind_of decimal.TooFine = TooFine
-kind_of decimal.Range = Range
+-- the kind of fault for what is wrong with a field
+abbrev pub row_kind : FieldFault → RowFaultKind
+row_kind fault.Count = Width
+row_kind fault.Number = Number
+row_kind fault.TooFine = TooFine
+row_kind fault.Range = Range
+row_kind fault.Word = Number
 
--- what the decimal means that was read, in millionths
-abbrev pub meaning_of : {A : Type 0} → (ℤ → Result A RowFaultKind) → Result ℤ DecFault → Result A RowFaultKind
-meaning_of meaning (Ok millionths) = meaning millionths
-meaning_of meaning (Err fault) = Err (kind_of fault)
+-- the fault of this row and column for what is wrong with its field
+abbrev pub of_cell : ℕ → Column → FieldFault → RowFault
+of_cell row column found = a_fault row column (row_kind found)
 
--- the index of so many whole blocks above the origin, where that is a place of the grid, and a rest
-abbrev pub index_if : (blocks rest : ℕ) (below : Bool) → nat_lt blocks GRID_CELLS ≡ below → Result Index RowFaultKind
-index_if blocks rest false is = Err Range
-index_if blocks rest true is =
-    if rest == 0 then Ok (record { value = blocks; in_range = ltb-true blocks GRID_CELLS is }) else Err OffGrid
+-- the least and the greatest coordinate of the grid along an axis, in millionths of a metre: from the origin to less than 10,000 sizes
+-- above it; the axis counts thousandths
+abbrev pub least : Axis → ℤ
+least axis = pos 1000 *ℤ axis.origin
 
--- the index of a place so far above the origin, where each block is so long
-abbrev pub index_above : (size : ℕ) → ℤ → Result Index RowFaultKind
-index_above size (negsuc below) = Err Range
-index_above size (pos above) = index_if (above / size) (above % size) (nat_lt (above / size) GRID_CELLS) refl
+abbrev pub greatest : Axis → ℤ
+greatest axis = (pos 1000 *ℤ (axis.origin +ℤ pos (GRID_CELLS * axis.size))) +ℤ negsuc 0
 
--- the index along an axis of a coordinate in millionths of a metre; the axis counts thousandths
-abbrev pub index_at : Axis → ℤ → Result Index RowFaultKind
-index_at axis coordinate = index_above (1000 * axis.size) (coordinate -ℤ (pos 1000 *ℤ axis.origin))
+abbrev pub IsInGrid : Axis → ℤ → Type 0
+IsInGrid axis coordinate = (least axis ≤ℤ coordinate) × (coordinate ≤ℤ greatest axis)
 
--- a coordinate in millionths of a metre is that of the blocks of this index along an axis
+-- the fields of a row: metres with three decimals in the grid; tonnes with three decimals, 0 to 10^9 kg; grams per tonne with six
+abbrev pub coordinate : Axis → Field
+coordinate axis = Decimal 3 (least axis) (greatest axis)
+
+abbrev pub tonnes : Field
+tonnes = up_to 3 (MAX_KG * 1000)
+
+abbrev pub grade : Field
+grade = up_to 6 MAX_GRADE
+
+-- the coordinate of the centroids of the blocks of an index
+abbrev pub centroid : Axis → ℕ → ℤ
+centroid axis index = pos 1000 *ℤ (axis.origin +ℤ pos (index * axis.size))
+
 abbrev pub IsCentroid : Axis → ℤ → ℕ → Type 0
-IsCentroid axis coordinate index = coordinate ≡ pos 1000 *ℤ (axis.origin +ℤ pos (index * axis.size))
+IsCentroid axis coordinate index = coordinate ≡ centroid axis index
 
--- the index that a coordinate's cell states: metres with 3 decimals
-unfoldable pub index_of : Axis → List ℕ → Result Index RowFaultKind
-index_of axis cell = meaning_of (index_at axis) (decimal_of 3 cell)
+-- the cell states the centroid of the blocks of this index
+abbrev pub SpellIndex : Axis → List ℕ → ℕ → Type 0
+SpellIndex axis cell index = Says (coordinate axis) cell (Millionths (centroid axis index))
 
--- so many kilograms, where that is in range
-abbrev pub kilograms_if : (n : ℕ) (within : Bool) → nat_le n MAX_KG ≡ within → Result Kilograms RowFaultKind
-kilograms_if n false is = Err Range
-kilograms_if n true is = Ok (record { value = n; in_range = leb-true n MAX_KG is })
+-- the index of the blocks so far above the origin, where each is so long
+abbrev pub index_above : (size above : ℕ) → Result ℕ RowFaultKind
+index_above size above = if above % size == 0 then Ok (above / size) else Err OffGrid
 
--- the kilograms of so many millionths of a tonne, which are thousands of them since the cell has 3 decimals
-abbrev pub kilograms_at : ℤ → Result Kilograms RowFaultKind
-kilograms_at (negsuc below) = Err Range
-kilograms_at (pos tonnes) = kilograms_if (tonnes / 1000) (nat_le (tonnes / 1000) MAX_KG) refl
+-- the index along an axis of a coordinate in the grid
+abbrev pub index_at : Axis → ℤ → Result ℕ RowFaultKind
+index_at axis coordinate = index_above (1000 * axis.size) (unsigned_abs (coordinate -ℤ least axis))
 
--- the kilograms that a tonnage's cell states: tonnes with 3 decimals
-unfoldable pub kilograms_of : List ℕ → Result Kilograms RowFaultKind
-kilograms_of cell = meaning_of kilograms_at (decimal_of 3 cell)
+-- the index that a coordinate's cell states
+unfoldable pub index_of : ℕ → Column → Axis → List ℕ → Result ℕ RowFault
+index_of row column axis cell =
+    read_field (of_cell row column) (coordinate axis) cell >>= λ value.
+    at row column (index_at axis (millionths value))
 
--- so many millionths of a gram per tonne, where that is in range
-abbrev pub grade_if : (n : ℕ) (within : Bool) → nat_le n MAX_GRADE ≡ within → Result Grade RowFaultKind
-grade_if n false is = Err Range
-grade_if n true is = Ok (record { value = n; in_range = leb-true n MAX_GRADE is })
+-- the kilograms that a tonnage's cell states: a thousandth of a tonne each
+unfoldable pub kilograms_of : ℕ → List ℕ → Result ℕ RowFault
+kilograms_of row cell =
+    read_field (of_cell row column.Tonnes) tonnes cell >>= λ value.
+    Ok (unsigned_abs (millionths value) / 1000)
 
-abbrev pub grade_at : ℤ → Result Grade RowFaultKind
-grade_at (negsuc below) = Err Range
-grade_at (pos grade) = grade_if grade (nat_le grade MAX_GRADE) refl
-
--- the grade that a grade's cell states: grams per tonne with 6 decimals
-unfoldable pub grade_of : List ℕ → Result Grade RowFaultKind
-grade_of cell = meaning_of grade_at (decimal_of 6 cell)
+-- the millionths of a gram per tonne that a grade's cell states
+unfoldable pub grade_of : ℕ → List ℕ → Result ℕ RowFault
+grade_of row cell =
+    read_field (of_cell row column.Grade) grade cell >>= λ value. Ok (unsigned_abs (millionths value))

@@ -1,7 +1,8 @@
 -- The header of a zone file: where its columns stand.
 use Rattle.std.specs.Prelude.{ℕ, ◌+◌, List, [], ◌∷◌, length, Result, Ok, Err, codes, if◌then◌else◌}
 use Rattle.pit_model.specs.Cells.{trimmed, is_word}
-use Rattle.zone_csv.specs.Faults.{at, all_five}
+use Rattle.forms.specs.Steps.{◌>>=◌}
+use Rattle.zone_csv.specs.Faults.{at}
 use Rattle.zone_csv.specs.declared.columns.Columns.{Columns}
 use Rattle.zone_csv.specs.declared.row_fault.Column.TheVariants as column
 use Rattle.zone_csv.specs.declared.row_fault.RowFault.{RowFault}
@@ -27,7 +28,9 @@ place_of name header = only_place (places_of name header 0)
 -- the columns that a header names, or the first of them that it lacks or has twice
 unfoldable pub columns_of : List (List ℕ) → Result Columns RowFault
 columns_of header =
-    all_five (λ x y z tonnes grade. record { width = length header; x = x; y = y; z = z; tonnes = tonnes; grade = grade })
-    (at 1 column.X (place_of (codes "x") header)) (at 1 column.Y (place_of (codes "y") header))
-    (at 1 column.Z (place_of (codes "z") header)) (at 1 column.Tonnes (place_of (codes "tonnes") header))
-    (at 1 column.Grade (place_of (codes "grade") header))
+    at 1 column.X (place_of (codes "x") header) >>= λ x.
+    at 1 column.Y (place_of (codes "y") header) >>= λ y.
+    at 1 column.Z (place_of (codes "z") header) >>= λ z.
+    at 1 column.Tonnes (place_of (codes "tonnes") header) >>= λ tonnes.
+    at 1 column.Grade (place_of (codes "grade") header) >>= λ grade.
+    Ok (record { width = length header; x = x; y = y; z = z; tonnes = tonnes; grade = grade })

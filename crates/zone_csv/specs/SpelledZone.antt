@@ -1,12 +1,11 @@
 -- How the records of a zone file spell its blocks: the header names the columns, and each record behind it spells a block.
-use Rattle.std.specs.Prelude.{◌≡◌, ℕ, ◌+◌, ◌*◌, ◌≤◌, true, List, [], ◌∷◌, ◌++◌, length, ℤ, pos, codes, ◌⊎◌}
+use Rattle.std.specs.Prelude.{◌≡◌, ℕ, ◌+◌, ◌*◌, ◌≤◌, true, List, [], ◌∷◌, ◌++◌, length, pos, codes, ◌⊎◌}
 use Rattle.std.specs.List.{AllZip}
-use Rattle.pit_units.specs.Decimal.{StandsFor}
+use Rattle.forms.specs.Form.{Millionths, Says}
 use Rattle.pit_model.specs.Cells.{is_word}
 use Rattle.pit_model.specs.declared.block.Block.{Block}
-use Rattle.pit_model.specs.declared.grid.Axis.{Axis}
 use Rattle.pit_model.specs.declared.grid.Grid.{Grid}
-use Rattle.zone_csv.specs.Cell.{cell_at, IsCentroid}
+use Rattle.zone_csv.specs.Cell.{cell_at, SpellIndex, grade, tonnes}
 use Rattle.zone_csv.specs.declared.columns.Columns.{Columns}
 use Rattle.zone_csv.specs.declared.row_fault.RowFault.{RowFault}
 use Rattle.zone_csv.specs.declared.row_fault.RowFaultKind.TheVariants.{TooManyRows}
@@ -26,18 +25,14 @@ pub record NamesColumns (header : List (List ℕ)) (columns : Columns) : Type 0 
   pub tonnes : NamesColumn header (codes "tonnes") columns.tonnes
   pub grade : NamesColumn header (codes "grade") columns.grade
 
--- the cell stands for metres with three decimals: the centroid of the blocks of this index
-abbrev pub SpellIndex : Axis → List ℕ → ℕ → Type 0
-SpellIndex axis cell index = (coordinate : ℤ) × StandsFor 3 cell coordinate × IsCentroid axis coordinate index
-
--- a record as wide as the header spells a block of this zone: its centroid, its tonnes with three decimals, and its grade with six
+-- a record as wide as the header spells a block of this zone: each column's field its centroid, its tonnes or its grade
 pub record SpellBlock (grid : Grid) (zone : ℕ) (columns : Columns) (row : List (List ℕ)) (b : Block) : Type 0 where
   pub wide : length row ≡ columns.width
   pub x : SpellIndex grid.x (cell_at row columns.x) b.x
   pub y : SpellIndex grid.y (cell_at row columns.y) b.y
   pub z : SpellIndex grid.z (cell_at row columns.z) b.z
-  pub tonnes : StandsFor 3 (cell_at row columns.tonnes) (pos (b.kg * 1000))
-  pub grade : StandsFor 6 (cell_at row columns.grade) (pos b.grade)
+  pub tonnes : Says tonnes (cell_at row columns.tonnes) (Millionths (pos (b.kg * 1000)))
+  pub grade : Says grade (cell_at row columns.grade) (Millionths (pos b.grade))
   pub zone_is : b.zone ≡ zone
 
 -- each of the records spells the block at its place

@@ -1,12 +1,15 @@
 //! What a cell of a row states.
 
-ghost use Rattle.std.specs.Prelude.{◌≡◌, ◌<◌, ◌≤◌, ◌^◌, IfOk};
+ghost use Rattle.std.specs.Prelude.{◌≡◌, ◌*◌, ◌<◌, ◌≤◌, ◌-ℤ◌, ◌&&◌, pos, int_le, int_lt, unsigned_abs, Err, IfOk, if◌then◌else◌};
 ghost use Rattle.csv.specs.Records.{fields_of};
 ghost use Rattle.pit_model.specs.Plan.{IsAxis};
-ghost use Rattle.zone_csv.specs.Cell.{cell_at, value_of, kind_of, index_of, index_at, index_above, kilograms_of, kilograms_at, grade_of, grade_at};
+ghost use Rattle.zone_csv.specs.Cell.{cell_at, grade_of, greatest, index_above, index_at, index_of, kilograms_of, least, of_cell};
+ghost use Rattle.forms.specs.Form.{number_of};
+ghost use Rattle.zone_csv.specs.declared.row_fault.RowFaultKind.TheVariants.{Range};
+ghost use Rattle.zone_csv.specs.Faults.{a_fault};
 ghost use Rattle.pit_model.specs.declared.ranges.TheConstants.{GRID_CELLS, MAX_GRADE, MAX_KG};
 
-use crate::row_fault::RowFaultKind;
+use crate::row_fault::{Column, RowFault, RowFaultKind};
 use csv::ByteRecord;
 use pit_model::cells::trimmed;
 use pit_model::grid::Axis;
@@ -24,47 +27,71 @@ pub(crate) fn cell_at(row: &ByteRecord, place: usize) -> &[u8]
     }
 }
 
-fn kind_of(fault: DecFault) -> RowFaultKind
-    ensures { result ≡ kind_of fault }
+#[inline(always)]
+pub(crate) fn a_fault(row: u32, column: Column, kind: RowFaultKind) -> RowFault
+    ensures { result ≡ a_fault row column kind }
+{
+    RowFault { row, column, kind }
+}
+
+// The fault of a cell that states no decimal.
+fn no_decimal(row: u32, column: Column, fault: DecFault) -> RowFault
+    ensures { number_of (of_cell row column) (Err fault) ≡ Err result }
 {
     match fault {
-        DecFault::Number => RowFaultKind::Number,
-        DecFault::TooFine => RowFaultKind::TooFine,
-        DecFault::Range => RowFaultKind::Range,
+        DecFault::Number => a_fault(row, column, RowFaultKind::Number),
+        DecFault::TooFine => a_fault(row, column, RowFaultKind::TooFine),
+        DecFault::Range => a_fault(row, column, RowFaultKind::Range),
     }
 }
 
 // The index along an axis that a coordinate's cell states.
 #[tactic(auto, unfolding(crate::specs::Cell::index_of))]
 #[inline(always)]
-pub(crate) fn index_of(axis: Axis, cell: &[u8]) -> Result<u16, RowFaultKind>
+pub(crate) fn index_of(row: u32, column: Column, axis: Axis, cell: &[u8]) -> Result<u16, RowFault>
     requires { IsAxis axis }
-    ensures value { result ≡ value_of (index_of axis cell.now) }
+    ensures value { result ≡ index_of row column axis cell.now }
     ensures in_grid { IfOk result (λ index. index < GRID_CELLS) }
 {
     match parse_dec(cell, 3) {
-        Ok(coordinate) => index_at(axis, coordinate),
-        Err(fault) => Err(kind_of(fault)),
+        Ok(coordinate) => match index_at(axis, coordinate) {
+            Ok(index) => Ok(index),
+            Err(kind) => Err(a_fault(row, column, kind)),
+        },
+        Err(fault) => Err(no_decimal(row, column, fault)),
     }
 }
 
 #[inline(always)]
 fn index_at(axis: Axis, coordinate: Dec) -> Result<u16, RowFaultKind>
     requires { IsAxis axis }
-    ensures value { result ≡ value_of (index_at axis coordinate) }
+    ensures value { result
+        ≡ (if int_le (least axis) coordinate && int_le coordinate (greatest axis)
+        then index_at axis coordinate else Err Range) }
     ensures in_grid { IfOk result (λ index. index < GRID_CELLS) }
 {
-    let above = coordinate.millionths() - i128::from(axis.origin) * 1000;
-    index_above(u64::from(axis.size) * 1000, above)
+    index_above(axis, above_origin(axis, coordinate))
 }
 
-// The index of a place so far above the origin, where each block is so long, both in millionths of a metre.
+// How far a coordinate stands above the origin, in millionths of a metre.
 #[inline(always)]
-fn index_above(size: u64, above: i128) -> Result<u16, RowFaultKind>
-    requires { (0 < size) × (size ≤ 10 ^ 8) }
-    ensures value { result ≡ value_of (index_above size above) }
+fn above_origin(axis: Axis, coordinate: Dec) -> i128
+    requires { IsAxis axis }
+    ensures { result ≡ coordinate -ℤ least axis }
+{
+    coordinate.millionths() - i128::from(axis.origin) * 1000
+}
+
+// The index of a place so far above the origin.
+#[inline(always)]
+fn index_above(axis: Axis, above: i128) -> Result<u16, RowFaultKind>
+    requires { IsAxis axis }
+    ensures value { result
+        ≡ (if int_le (pos 0) above && int_lt above (pos (1000 * axis.size * GRID_CELLS))
+        then index_above (1000 * axis.size) (unsigned_abs above) else Err Range) }
     ensures in_grid { IfOk result (λ index. index < GRID_CELLS) }
 {
+    let size = u64::from(axis.size) * 1000;
     if above < 0 {
         return Err(RowFaultKind::Range);
     }
@@ -81,55 +108,37 @@ fn index_above(size: u64, above: i128) -> Result<u16, RowFaultKind>
 // The kilograms that a tonnage's cell states.
 #[tactic(auto, unfolding(crate::specs::Cell::kilograms_of))]
 #[inline(always)]
-pub(crate) fn kilograms_of(cell: &[u8]) -> Result<u64, RowFaultKind>
-    ensures value { result ≡ value_of (kilograms_of cell.now) }
+pub(crate) fn kilograms_of(row: u32, cell: &[u8]) -> Result<u64, RowFault>
+    ensures value { result ≡ kilograms_of row cell.now }
     ensures in_range { IfOk result (λ kilograms. kilograms ≤ MAX_KG) }
 {
     match parse_dec(cell, 3) {
-        Ok(tonnes) => kilograms_at(tonnes),
-        Err(fault) => Err(kind_of(fault)),
+        Ok(tonnes) => {
+            let millionths = tonnes.millionths();
+            if millionths < 0 || millionths > i128::from(MAX_KG * 1000) {
+                return Err(a_fault(row, Column::Tonnes, RowFaultKind::Range));
+            }
+            Ok(millionths as u64 / 1000)
+        }
+        Err(fault) => Err(no_decimal(row, Column::Tonnes, fault)),
     }
-}
-
-#[inline(always)]
-fn kilograms_at(tonnes: Dec) -> Result<u64, RowFaultKind>
-    ensures value { result ≡ value_of (kilograms_at tonnes) }
-    ensures in_range { IfOk result (λ kilograms. kilograms ≤ MAX_KG) }
-{
-    let millionths = tonnes.millionths();
-    if millionths < 0 {
-        return Err(RowFaultKind::Range);
-    }
-    if millionths >= i128::from((MAX_KG + 1) * 1000) {
-        return Err(RowFaultKind::Range);
-    }
-    Ok(millionths as u64 / 1000)
 }
 
 // The millionths of a gram per tonne that a grade's cell states.
 #[tactic(auto, unfolding(crate::specs::Cell::grade_of))]
 #[inline(always)]
-pub(crate) fn grade_of(cell: &[u8]) -> Result<u64, RowFaultKind>
-    ensures value { result ≡ value_of (grade_of cell.now) }
+pub(crate) fn grade_of(row: u32, cell: &[u8]) -> Result<u64, RowFault>
+    ensures value { result ≡ grade_of row cell.now }
     ensures in_range { IfOk result (λ grade. grade ≤ MAX_GRADE) }
 {
     match parse_dec(cell, 6) {
-        Ok(grade) => grade_at(grade),
-        Err(fault) => Err(kind_of(fault)),
+        Ok(grade) => {
+            let millionths = grade.millionths();
+            if millionths < 0 || millionths > i128::from(MAX_GRADE) {
+                return Err(a_fault(row, Column::Grade, RowFaultKind::Range));
+            }
+            Ok(millionths as u64)
+        }
+        Err(fault) => Err(no_decimal(row, Column::Grade, fault)),
     }
-}
-
-#[inline(always)]
-fn grade_at(grade: Dec) -> Result<u64, RowFaultKind>
-    ensures value { result ≡ value_of (grade_at grade) }
-    ensures in_range { IfOk result (λ grade. grade ≤ MAX_GRADE) }
-{
-    let millionths = grade.millionths();
-    if millionths < 0 {
-        return Err(RowFaultKind::Range);
-    }
-    if millionths > i128::from(MAX_GRADE) {
-        return Err(RowFaultKind::Range);
-    }
-    Ok(millionths as u64)
 }

@@ -5,7 +5,7 @@ ghost use Rattle.pit_model.specs.declared.grid.Axis.{Axis as AnAxis};
 ghost use Rattle.pit_model.specs.declared.grid.Grid.{Grid as AGrid};
 ghost use Rattle.pit_model.specs.Records.{records_of};
 ghost use Rattle.pit_model.specs.declared.block.Block.{Block};
-ghost use Rattle.zone_csv.specs.Cell.{value_of, index_at, IsCentroid};
+ghost use Rattle.zone_csv.specs.Cell.{IsCentroid, IsInGrid, index_at};
 ghost use Rattle.zone_csv.specs.Header.{columns_of};
 ghost use Rattle.zone_csv.specs.RowDemands.{IsFaultOfHeader, IsFaultOfRow};
 ghost use Rattle.zone_csv.specs.SpelledZone.{IsFirstFaulty, IsNoHeader, NamesColumns, SpellZone};
@@ -22,10 +22,10 @@ pub fn zone_files()
     ensures accounts { (grid : AGrid) (zone : ℕ) (text : List ℕ) → AccountsForRecords grid zone text }
 {}
 
-/// A coordinate has an index of the grid exactly where it is the centroid of the blocks of that index.
+/// A coordinate lies in the grid and has an index exactly where it is the centroid of the blocks of that index.
 pub fn coordinates()
     ensures { (axis : AnAxis) (coordinate : ℤ) (index : ℕ) → 0 < axis.size
-        → (value_of (index_at axis coordinate) ≡ Ok index)
+        → (IsInGrid axis coordinate × (index_at axis coordinate ≡ Ok index))
         ↔ (IsCentroid axis coordinate index × (index < GRID_CELLS)) }
 {}
 
