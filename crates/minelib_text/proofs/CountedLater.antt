@@ -1,7 +1,7 @@
 -- A line of which all fields are read, and none is left, has as many fields as it has to have.
-use Rattle.std.specs.Prelude.{◌≡◌, ℕ, suc, ◌*◌, ◌/◌, ◌==◌, nat_lt, not, Bool, true, false, List, [], ◌∷◌, length, map, pos, Result, Ok, Err, if◌then◌else◌}
+use Rattle.std.specs.Prelude.{◌≡◌, ℕ, ◌*◌, ◌/◌, ◌==◌, nat_lt, not, false, List, [], ◌∷◌, length, pos, Ok, Err, if◌then◌else◌}
 use Rattle.std.proofs.Common.{refl, sym, ◌∙◌, ap, arith}
-use Rattle.std.proofs.lemmas.Bool.{eqb-true, le-ltb, ltb-true, not-false}
+use Rattle.std.proofs.lemmas.Bool.{le-ltb}
 use Rattle.std.proofs.lemmas.List.{length-map}
 use Rattle.forms.proofs.FormFacts.{counted, counted_later, fault_later}
 use Rattle.forms.proofs.NumberFields.{quotient}

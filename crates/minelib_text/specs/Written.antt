@@ -1,5 +1,5 @@
 -- The MineLib texts of an instance (Espinoza, Goycoolea, Moreno and Newman 2013, in this project's profile), as lines of fields.
-use Rattle.std.specs.Prelude.{ℕ, List, [], ◌∷◌, ◌++◌, ℤ, codes, decimal, length, map}
+use Rattle.std.specs.Prelude.{ℕ, List, [], ◌∷◌, ◌++◌, ℤ, codes, decimal, length}
 use Rattle.forms.specs.Form.{written}
 use Rattle.pit_units.specs.Decimal.{shortest}
 use Rattle.pit_model.specs.declared.block.Block.{Block}

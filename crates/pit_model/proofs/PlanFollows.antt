@@ -314,8 +314,7 @@ period_told : (o : Option ℕ) (cell : List ℕ) → IfSome o (λ n. (1 ≤ n) �
 period_told None cell kept =
     number_told plan_kind 0 cell (λ m. Err Range) _ _ (omega arith) (λ h. (pos (h.1 * 10 ^ 6), h.3)) (λ m stands. inl ((λ h. absurd (cc (h.2))), refl))
 period_told (Some n) cell kept =
-    reworded (whole_in (between 0 (n - 1)) cell) (demand Number (IsDecimal cell) ++ demand TooFine (IsFine 0 cell)) Range (IsWithin 0 (pos (0 * 10 ^ 6)) (pos ((n - 1) * 10 ^ 6)) cell)
-    ((periods t : ℕ) × (n ∷ [] ≡ periods ∷ []) × StandsWhole cell t × (t < periods)) _ to from
+    reworded (whole_in (between 0 (n - 1)) cell) 0 (pos (0 * 10 ^ 6)) (pos ((n - 1) * 10 ^ 6)) cell _ _ to from
     (weaker (whole_in (between 0 (n - 1)) cell) (asks (between 0 (n - 1)) cell) _ _ (λ t h. (h.0, omega (arith, h.1.1, kept.0))) (whole_told 0 (n - 1) cell))
   where
     to : IsWithin 0 (pos (0 * 10 ^ 6)) (pos ((n - 1) * 10 ^ 6)) cell → (periods t : ℕ) × (n ∷ [] ≡ periods ∷ []) × StandsWhole cell t × (t < periods)

@@ -1,12 +1,13 @@
 -- Reading step by step follows what is asked: where it answers, all of it holds, and a fault is the first that does not.
-use Rattle.std.specs.Prelude.{◌≡◌, nat_le, ℕ, ◌*◌, ◌/◌, ◌%◌, ◌^◌, ◌≤◌, true, List, [], ◌∷◌, ◌++◌, ℤ, pos, negsuc, unsigned_abs, neg_ℤ, suc, ◌*ℤ◌, ◌≤ℤ◌, int_div, Result, Ok, Err}
+use Rattle.std.specs.Prelude.{◌≡◌, nat_le, ℕ, ◌*◌, ◌/◌, ◌%◌, ◌^◌, ◌≤◌, true, List, ◌++◌, ℤ, pos, negsuc, unsigned_abs, neg_ℤ, suc, ◌*ℤ◌, ◌≤ℤ◌, int_div, Result, Ok, Err}
 use Rattle.std.proofs.Common.{refl, ◌∙◌, ap, subst, arith, inl, inr}
 use Rattle.std.proofs.lemmas.Int.{ints}
 use Rattle.pit_units.proofs.Multiples.{stands_multiple}
 use Rattle.pit_units.specs.Decimal.{StandsFor}
 use Rattle.forms.proofs.DecimalFaults.{one_number}
 use Rattle.forms.proofs.DemandFacts.{Follows, mapped}
-use Rattle.forms.specs.Demands.{AreMet, Demand, demand, FailsFirst}
+use Rattle.forms.specs.Decimals.{IsDecimal, IsFine, IsWithin}
+use Rattle.forms.specs.Demands.{demand}
 use Rattle.forms.specs.Form.{Decimal, Value, Millionths, Bytes, Says, millionths, read_field}
 use Rattle.pit_model.specs.Planned.{number_in, whole_in, origin_in, size_in}
 use Rattle.forms.proofs.FormFacts.{field_told}
@@ -14,6 +15,7 @@ use Rattle.pit_model.specs.PlanCells.{a_size, an_origin, between, plan_kind}
 use Rattle.pit_model.specs.PlanDemands.{asks}
 use Rattle.pit_model.specs.PlanPart.{StandsWhole, StandsMetres}
 use Rattle.pit_model.specs.declared.plan_fault.PlanFaultKind.{PlanFaultKind}
+use Rattle.pit_model.specs.declared.plan_fault.PlanFaultKind.TheVariants.{Number, TooFine, Range}
 
 -- a number in a range
 pub cell_told : (decimals : ℕ) (low high : ℤ) (cell : List ℕ) → nat_le decimals 6 ≡ true
@@ -55,24 +57,15 @@ one_whole cell a b first second =
     let same : pos (a * 10 ^ 6) ≡ pos (b * 10 ^ 6) = one_number 0 cell (pos (a * 10 ^ 6)) (pos (b * 10 ^ 6)) (omega arith) first second in
     omega (arith, ints)
 
--- the last thing that is asked, in other words
-pub reworded : {B : Type 0} (r : Result B PlanFaultKind) (ds : List (Demand PlanFaultKind)) (kind : PlanFaultKind) (met other : Type 0) (Q : B → Type 0)
-    → (met → other) → (other → met) → Follows r (ds ++ demand kind met) Q → Follows r (ds ++ demand kind other) Q
-reworded {B} r ds kind met other Q to from h = by r h
-  where
-    are : (ds : List (Demand PlanFaultKind)) → AreMet (ds ++ demand kind met) → AreMet (ds ++ demand kind other)
-    are [] h = (to h.0, tt)
-    are (d ∷ ds) h = (h.0, are ds h.1)
-
-    fail : (ds : List (Demand PlanFaultKind)) (found : PlanFaultKind) → FailsFirst (ds ++ demand kind met) found → FailsFirst (ds ++ demand kind other) found
-    fail [] found (inl h) = inl ((λ o. h.0 (from o)), h.1)
-    fail [] found (inr h) = absurd h.1
-    fail (d ∷ ds) found (inl h) = inl h
-    fail (d ∷ ds) found (inr h) = inr (h.0, fail ds found h.1)
-
-    by : (r : Result B PlanFaultKind) → Follows r (ds ++ demand kind met) Q → Follows r (ds ++ demand kind other) Q
-    by (Ok x) h = (are ds h.0, h.1)
-    by (Err found) h = fail ds found h
+-- a number in a range that is asked in other words
+pub reworded : {B : Type 0} (r : Result B PlanFaultKind) (decimals : ℕ) (low high : ℤ) (cell : List ℕ) (other : Type 0) (Q : B → Type 0)
+    → (IsWithin decimals low high cell → other) → (other → IsWithin decimals low high cell) → Follows r (asks (Decimal decimals low high) cell) Q
+    → Follows r (demand Number (IsDecimal cell) ++ demand TooFine (IsFine decimals cell) ++ demand Range other) Q
+reworded (Ok x) decimals low high cell other Q to from h = ((h.0.0, (h.0.1.0, (to h.0.1.1.0, tt))), h.1)
+reworded (Err kind) decimals low high cell other Q to from (inl h) = inl h
+reworded (Err kind) decimals low high cell other Q to from (inr (decimal, inl h)) = inr (decimal, inl h)
+reworded (Err kind) decimals low high cell other Q to from (inr (decimal, inr (fine, inl h))) = inr (decimal, inr (fine, inl ((λ o. h.0 (from o)), h.1)))
+reworded (Err kind) decimals low high cell other Q to from (inr (decimal, inr (fine, inr h))) = absurd h.1
 
 below : (k n : ℕ) → suc k ≡ n * 1000 → negsuc k ≡ neg_ℤ (pos n) *ℤ pos 1000
 below k n h = omega (arith, ints)
