@@ -165,6 +165,3 @@ fn rows_of(alloc: Global, shelves: Vec<Shelf>) -> Result<Vec<Rows>, AllocError>
 {
     shelves.into_iter().map(|shelf| shelf.rows).collect(alloc)
 }
-
-#[cfg(test)]
-mod tests;

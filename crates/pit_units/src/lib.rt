@@ -6,8 +6,6 @@ mod fault;
 mod front;
 pub mod laws;
 mod reading;
-#[cfg(test)]
-mod tests;
 mod writing;
 
 pub use decimal::Dec;

@@ -1,5 +1,9 @@
-//! Tests of the commands, and of all crates together.
+//! Tests of the commands, of all crates together, and of single crates by their public calls: a crate with tests of its own is proved
+//! once more for them.
 
+mod collecting;
+mod cones;
+mod decimals;
 mod ending;
 mod input;
 mod instance;

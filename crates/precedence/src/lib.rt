@@ -18,8 +18,6 @@ mod predecessors;
 mod rows;
 mod runs;
 mod table;
-#[cfg(test)]
-mod tests;
 mod zone_tables;
 
 pub use all_predecessors::preds;

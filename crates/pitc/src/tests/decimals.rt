@@ -1,7 +1,7 @@
 // What no clause says: that the definitions are the decimals of worked examples, and that calls succeed where memory is ample.
 ghost use Rattle.std.specs.Prelude.{◌≤◌};
 
-use crate::{Dec, DecFault, front_dec, front_whole, parse_dec, put_dec};
+use pit_units::{Dec, DecFault, front_dec, front_whole, parse_dec, put_dec};
 use std::test::Fail;
 
 fn read(text: &[u8], decimals: u8) -> Result<i128, DecFault>

@@ -1,6 +1,4 @@
-use super::Collector;
-use crate::add_fault::AddFault;
-use crate::finish_fault::FinishFault;
+use collector::{AddFault, Collector, FinishFault};
 use pit_model::block::Block;
 use std::test::Fail;
 use valuers::{Item, Valued, Worths};

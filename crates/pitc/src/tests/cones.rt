@@ -1,12 +1,12 @@
 ghost use Rattle.std.specs.Prelude.{◌<◌, IsTrue, length};
 ghost use Rattle.precedence.specs.Cone.{HasZones};
 
-use super::{NumberError, Numbering, Preds, number, preds};
 use pit_model::block::Block;
 use pit_model::cone::{Cone, Slope};
 use pit_model::grid::Grid;
 use pit_model::plan::Plan;
 use pit_model::read_plan;
+use precedence::{NumberError, Numbering, Preds, number, preds};
 use std::alloc::Global;
 use std::process::Abort;
 use std::test::Fail;
