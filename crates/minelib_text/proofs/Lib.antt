@@ -44,7 +44,6 @@ pub mod SpelledRead
 pub mod ValidBlocks
 pub mod ValidHeader
 pub mod ValidModel
-pub mod ValidPreds
 pub mod ValidRead
 pub mod ValuesLineFacts
 pub mod WantedNumber

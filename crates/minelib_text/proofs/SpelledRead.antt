@@ -1,11 +1,12 @@
 -- The lines that are read spell the blocks and the predecessors, lines that spell them are read as these, and a faulty line is the first
 -- that spells none.
-use Rattle.std.specs.Prelude.{◌≡◌, ℕ, ◌==◌, true, List, length, Result, Ok, Err, ◌⊎◌}
-use Rattle.std.proofs.Common.{refl, sym, ◌∙◌, ap, subst, inl, inr, eq-eqb}
+use Rattle.std.specs.Prelude.{◌≡◌, ℕ, ◌==◌, true, List, [], length, Result, Ok, Err, ◌⊎◌}
+use Rattle.std.proofs.Common.{refl, sym, ◌∙◌, ap, subst, inl, inr, eq-eqb, arith}
 use Rattle.std.proofs.lemmas.Bool.{eqb-true}
 use Rattle.forms.specs.Demands.{Demand}
 use Rattle.forms.specs.Steps.{◌>>=◌}
 use Rattle.pit_model.specs.declared.block.Block.{Block}
+use Rattle.mine_instance.specs.Valid.{ArePreds, ArePredsOf}
 use Rattle.minelib_text.specs.BlockLines.{block_of, admit_block, blocks_in}
 use Rattle.minelib_text.specs.FirstBad.{IsFirstBad, LacksLines}
 use Rattle.minelib_text.specs.PrecLines.{PrecDraftView, no_lists, preds_of, admit_preds, finish_preds, preds_in}
@@ -18,6 +19,7 @@ use Rattle.minelib_text.specs.declared.text_fault.TextKind.{TextKind}
 use Rattle.minelib_text.specs.declared.text_fault.TextKind.TheVariants.{Missing}
 use Rattle.minelib_text.proofs.BlockLineFacts.{block_back, block_line, block_told}
 use Rattle.minelib_text.proofs.EachLine.{Found, StateItems, all_back, found}
+use Rattle.minelib_text.proofs.ItemLines.{item_at}
 use Rattle.minelib_text.proofs.PrecBack.{draft_of}
 use Rattle.minelib_text.proofs.PrecLineFacts.{preds_back, preds_line, preds_told}
 use Rattle.minelib_text.proofs.ReadSteps.{err_same, same_ok, then_err, then_ok}
@@ -76,6 +78,15 @@ preds_spelled n text lists e = by (read_lines admit_preds (no_lists n) (lines_in
         let same : h.items ≡ lists = same_ok h.items lists t.1 in
         (subst (λ all. length all ≡ n) same (eqb-true (length h.items) n t.0), subst (ArePredsLines n 0 (lines_in text)) same h.are)
     by (Err fault) e h = absurd cc
+
+-- and each block's are predecessors of an instance
+pub preds_are_valid : (n : ℕ) (text : List ℕ) (lists : List (List ℕ)) → preds_in n text ≡ Ok lists → (length lists ≡ n) × ArePreds n lists
+preds_are_valid n text lists e =
+    let s = preds_spelled n text lists e in (
+      s.0,
+      λ id within. item_at (λ own line ids. IsPredsLine n own (fields_of line) ids) (λ own ids. ArePredsOf own n ids) (λ own line ids h. h.1)
+          0 (lines_in text) lists s.1 id id [] within (omega arith),
+    )
 
 pub lists_back : (n : ℕ) (text : List ℕ) (lists : List (List ℕ)) → length lists ≡ n → ArePredsLines n 0 (lines_in text) lists → preds_in n text ≡ Ok lists
 lists_back n text lists count h =

@@ -33,7 +33,7 @@ use Rattle.minelib_text.proofs.ReadSteps.{bind_then, same_ok, in_file_ok}
 use Rattle.minelib_text.proofs.ValidBlocks.{few_blocks}
 use Rattle.minelib_text.proofs.ValidHeader.{KeepsOwn, IsInRange, one_destination}
 use Rattle.minelib_text.proofs.ValidModel.{KeepsModel, model_kept}
-use Rattle.minelib_text.proofs.ValidPreds.{preds_are_valid}
+use Rattle.minelib_text.proofs.SpelledRead.{preds_are_valid}
 
 -- what a model file states, of n blocks, is as an instance has it
 pub record IsModel (problem : Problem) (n : ℕ) (d : ModelDraftView) : Type 0 where
