@@ -54,7 +54,8 @@ unfolding block_of
 block_kind before fields kind e = fault_later text_kind block_form fields (block_said before) kind (sym (alone_read before fields) ∙ e)
 
 -- predecessors
-preds_alone_said : (n before : ℕ) (fields : List (List ℕ)) → preds_alone n before fields ≡ said_of (preds_form n fields) fields (preds_said before)
+preds_alone_said : (n before : ℕ) (fields : List (List ℕ))
+    → preds_alone n before fields ≡ said_of (preds_form n fields) fields (preds_said before)
 unfolding preds_alone
 preds_alone_said n before [] = none_step (below n) _ _
 preds_alone_said n before (lone ∷ []) =
@@ -69,7 +70,8 @@ preds_alone_read : (n before : ℕ) (fields : List (List ℕ))
 unfolding said_of
 preds_alone_read n before fields = preds_alone_said n before fields
 
-pub preds_counted : (n before : ℕ) (fields : List (List ℕ)) (ids : List ℕ) → preds_alone n before fields ≡ Ok ids → preds_of n before fields ≡ Ok ids
+pub preds_counted : (n before : ℕ) (fields : List (List ℕ)) (ids : List ℕ)
+    → preds_alone n before fields ≡ Ok ids → preds_of n before fields ≡ Ok ids
 unfolding preds_of
 preds_counted n before fields ids e =
     counted_later text_kind (preds_form n fields) fields (preds_said before) ids (sym (preds_alone_read n before fields) ∙ e)

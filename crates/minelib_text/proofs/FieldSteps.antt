@@ -72,7 +72,8 @@ unfoldable pub said_of : {B : Type 0} → List Field → List (List ℕ) → (Li
 said_of form fields said = read_fields text_kind form fields >>= said
 
 -- no field is left
-pub none_step : {B : Type 0} (field : Field) (form : List Field) (said : List Value → Result B TextKind) → Err Fields ≡ said_of (field ∷ form) [] said
+pub none_step : {B : Type 0} (field : Field) (form : List Field) (said : List Value → Result B TextKind)
+    → Err Fields ≡ said_of (field ∷ form) [] said
 unfolding said_of
 none_step field form said = refl
 
@@ -82,8 +83,7 @@ pub first_step : {A B : Type 0} (field : Field) (form : List Field) (rule : List
     → ((x : A) → next (x, rest) ≡ said_of form rest (λ values. said (value x ∷ values)))
     → (first_by rule (text ∷ rest) >>= next) ≡ said_of (field ∷ form) (text ∷ rest) said
 unfolding said_of
-first_step {A} {B} field form rule value text rest next said reads goes_on =
-    rw (reads text) (by (rule text))
+first_step {A} {B} field form rule value text rest next said reads goes_on = rw (reads text) (by (rule text))
   where
     tail : (x : A) (r : Result (List Value) TextKind) → (r >>= λ values. said (value x ∷ values)) ≡ ((r >>= λ values. Ok (value x ∷ values)) >>= said)
     tail x (Ok values) = refl
@@ -124,6 +124,7 @@ wholes_step {B} limit done (text ∷ rest) next said same =
     behind : ℕ × List (List ℕ) → Result B TextKind
     behind x = all_by (whole_in limit) (done ++ x.0 ∷ []) x.1 >>= next
 
-    by : (r : Result ℕ TextKind) → ((r >>= λ n. all_by (whole_in limit) (done ++ n ∷ []) rest) >>= next) ≡ ((r >>= λ n. Ok (n, rest)) >>= behind)
+    by : (r : Result ℕ TextKind) → ((r >>= λ n. all_by (whole_in limit) (done ++ n ∷ []) rest) >>= next)
+        ≡ ((r >>= λ n. Ok (n, rest)) >>= behind)
     by (Ok n) = refl
     by (Err kind) = refl

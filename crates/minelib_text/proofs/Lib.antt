@@ -41,7 +41,6 @@ pub mod Rising
 pub mod SpacedFacts
 pub mod SpelledModelRead
 pub mod SpelledRead
-pub mod ValidBlocks
 pub mod ValidHeader
 pub mod ValidModel
 pub mod ValidRead

@@ -36,7 +36,8 @@ wholes_written (id ∷ ids) = λ i. whole_written id i ∷ wholes_written ids i
 pub preds_written : (own : ℕ) (ids : List ℕ) → prec_fields own ids ≡ decimal own ∷ decimal (length ids) ∷ map decimal ids
 preds_written own ids = wholes_written (own ∷ length ids ∷ ids)
 
-wholes_fit : (n : ℕ) (ids : List ℕ) → n ≤ 64000000 → All (λ id. id < n) ids → Fit (map (λ field. below n) (written (map whole ids))) (map whole ids)
+wholes_fit : (n : ℕ) (ids : List ℕ) → n ≤ 64000000 → All (λ id. id < n) ids
+    → Fit (map (λ field. below n) (written (map whole ids))) (map whole ids)
 wholes_fit n [] few low = tt
 wholes_fit n (id ∷ ids) few low =
     (whole_fits n id (All-head (λ id. id < n) id ids low) (omega (arith, few)), wholes_fit n ids few (All-tail (λ id. id < n) id ids low))
@@ -114,7 +115,8 @@ one_list : (n own : ℕ) (fields : List (List ℕ)) (a b : List ℕ) → SpellsP
 one_list n own fields a b first second =
     let first_read = spelled_read text_kind (preds_form n fields) fields (preds_values own a) (fine n fields) first in
     let second_read = spelled_read text_kind (preds_form n fields) fields (preds_values own b) (fine n fields) second in
-    sym (wholes_again a) ∙ ap (λ values. map whole_of (drop 2 values)) (same_ok (preds_values own a) (preds_values own b) (sym first_read ∙ second_read))
+    let same = same_ok (preds_values own a) (preds_values own b) (sym first_read ∙ second_read) in
+    sym (wholes_again a) ∙ ap (λ values. map whole_of (drop 2 values)) same
     ∙ wholes_again b
 
 -- what is asked behind the form
@@ -125,24 +127,31 @@ asked_behind n own fields =
     ++ demand Twice ((ids : List ℕ) → SpellsPreds n own fields ids → ArePredsOf own n ids)
 
 with_told : (n own : ℕ) (fields : List (List ℕ)) (id stated : ℕ) (ids : List ℕ)
-    → Spell (preds_form n fields) fields (whole id ∷ whole stated ∷ map whole ids) → All (λ id. id < n) ids → length (drop 2 fields) ≡ length ids
+    → Spell (preds_form n fields) fields (whole id ∷ whole stated ∷ map whole ids) → All (λ id. id < n) ids
+    → length (drop 2 fields) ≡ length ids
     → Follows (preds_with own id stated ids) (asked_behind n own fields) (λ ids. Unit {0})
 with_told n own fields id stated ids spell low count =
     let values = whole id ∷ whole stated ∷ map whole ids in
-    rw count (wanted_told Order n (slice_index_or fields 0 []) id own _ _ (λ ids. Unit {0}) (says_at (preds_form n fields) fields values 0 spell) (λ is_own.
-    wanted_told Count n (slice_index_or fields 1 []) stated (length ids) _ _ (λ ids. Unit {0}) (says_at (preds_form n fields) fields values 1 spell) (λ counted.
-    let here : SpellsPreds n own fields ids = subst (Spell (preds_form n fields) fields) (λ i. whole (is_own i) ∷ whole (counted i) ∷ map whole ids) spell in
-    last_guarded (stands_in ids own || not (all_differ ids)) Twice ((ids : List ℕ) → SpellsPreds n own fields ids → ArePredsOf own n ids) ids
-    (λ ids. Unit {0}) (λ t h. absurd (cc (preds_pass own n ids (h ids here), t)))
-    (λ t. ((λ others other. subst (ArePredsOf own n) (one_list n own fields ids others here other) (passed_preds own n ids low t)), tt)))))
+    let first = says_at (preds_form n fields) fields values 0 spell in
+    let second = says_at (preds_form n fields) fields values 1 spell in
+    rw count (wanted_told Order n (slice_index_or fields 0 []) id own _ _ (λ ids. Unit {0}) first (λ is_own.
+    wanted_told Count n (slice_index_or fields 1 []) stated (length ids) _ _ (λ ids. Unit {0}) second (λ counted.
+    let values_are : values ≡ preds_values own ids = λ i. whole (is_own i) ∷ whole (counted i) ∷ map whole ids in
+    let here : SpellsPreds n own fields ids = subst (Spell (preds_form n fields) fields) values_are spell in
+    last_guarded (stands_in ids own || not (all_differ ids)) Twice ((ids : List ℕ) → SpellsPreds n own fields ids → ArePredsOf own n ids)
+    ids (λ ids. Unit {0}) (λ t h. absurd (cc (preds_pass own n ids (h ids here), t))) (λ t. (
+      (λ others other. subst (ArePredsOf own n) (one_list n own fields ids others here other) (passed_preds own n ids low t)),
+      tt,
+    )))))
 
 pub preds_told : (n own : ℕ) (fields : List (List ℕ)) → Follows (preds_of n own fields) (asked_of_preds n own fields) (λ ids. Unit {0})
 unfolding preds_of
 preds_told n own fields =
-    bound (read text_kind (preds_form n fields) fields) (preds_said own) (asked text_kind (preds_form n fields) fields) (asked_behind n own fields)
-    (Spell (preds_form n fields) fields)
-    (λ ids. Unit {0}) (read_told text_kind (preds_form n fields) fields (fine n fields)) (λ values spell.
+    bound (read text_kind (preds_form n fields) fields) (preds_said own) (asked text_kind (preds_form n fields) fields)
+    (asked_behind n own fields) (Spell (preds_form n fields) fields) (λ ids. Unit {0})
+    (read_told text_kind (preds_form n fields) fields (fine n fields)) (λ values spell.
     let p = parts n fields values (spelled_fit (preds_form n fields) fields values (fine n fields) spell) in
-    let said : preds_with own p.id p.stated p.ids ≡ preds_said own values = sym (said_is own p.id p.stated p.ids) ∙ ap (preds_said own) (sym p.are) in
+    let said : preds_with own p.id p.stated p.ids ≡ preds_said own values =
+    sym (said_is own p.id p.stated p.ids) ∙ ap (preds_said own) (sym p.are) in
     subst (λ r. Follows r (asked_behind n own fields) (λ ids. Unit {0})) said
     (with_told n own fields p.id p.stated p.ids (subst (Spell (preds_form n fields) fields) p.are spell) p.low p.count))

@@ -1,8 +1,10 @@
 -- The lines that are read spell the blocks and the predecessors, lines that spell them are read as these, and a faulty line is the first
 -- that spells none.
-use Rattle.std.specs.Prelude.{◌≡◌, ℕ, ◌==◌, true, List, [], length, Result, Ok, Err, ◌⊎◌}
+use Rattle.std.specs.Prelude.{◌≡◌, ℕ, ◌<◌, ◌≤◌, ◌==◌, true, List, [], ◌∷◌, length, Result, Ok, Err, ◌⊎◌}
 use Rattle.std.proofs.Common.{refl, sym, ◌∙◌, ap, subst, inl, inr, eq-eqb, arith}
 use Rattle.std.proofs.lemmas.Bool.{eqb-true}
+use Rattle.std.proofs.lemmas.Int.{ints}
+use Rattle.forms.proofs.FormFacts.{spelled_fit}
 use Rattle.forms.specs.Demands.{Demand}
 use Rattle.forms.specs.Steps.{◌>>=◌}
 use Rattle.pit_model.specs.declared.block.Block.{Block}
@@ -11,7 +13,7 @@ use Rattle.minelib_text.specs.BlockLines.{block_of, admit_block, blocks_in}
 use Rattle.minelib_text.specs.FirstBad.{IsFirstBad, LacksLines}
 use Rattle.minelib_text.specs.PrecLines.{PrecDraftView, no_lists, preds_of, admit_preds, finish_preds, preds_in}
 use Rattle.minelib_text.specs.Reading.{read_lines}
-use Rattle.minelib_text.specs.SpelledBlocks.{IsBlockLine, AreBlockLines, asked_of_block}
+use Rattle.minelib_text.specs.SpelledBlocks.{IsBlockLine, AreBlockLines, asked_of_block, block_form, block_values}
 use Rattle.minelib_text.specs.SpelledPrec.{IsPredsLine, ArePredsLines, asked_of_preds}
 use Rattle.minelib_text.specs.TextLines.{fields_of, lines_in, end_of}
 use Rattle.minelib_text.specs.declared.text_fault.LineFault.{LineFault}
@@ -43,6 +45,18 @@ pub blocks_spelled : (text : List ℕ) (blocks : List Block) → blocks_in text 
 blocks_spelled text blocks e =
     let all = subst (Found IsBlockOf asked_block (λ blocks. blocks) (lines_in text)) e (found block_rules (lines_in text)) in
     subst (AreBlockLines 0 (lines_in text)) (sym all.is) all.are
+
+-- there are at most 64,000,000 blocks, since the last has an identifier
+pub few_blocks : (text : List ℕ) (blocks : List Block) → blocks_in text ≡ Ok blocks → length blocks ≤ 64000000
+few_blocks text [] e = omega arith
+few_blocks text (b ∷ blocks) e =
+    let last : length blocks < 64000000 =
+    item_at IsBlockOf (λ id b. id < 64000000) low 0 (lines_in text) (b ∷ blocks) (blocks_spelled text (b ∷ blocks) e)
+    (length blocks) (length blocks) b (omega arith) (omega arith) in
+    omega arith
+  where
+    low : (id : ℕ) (line : List ℕ) (b : Block) → IsBlockOf id line b → id < 64000000
+    low id line b h = let fit = spelled_fit block_form (fields_of line) (block_values id b) refl h in omega (arith, ints, fit.0.1)
 
 pub blocks_back : (text : List ℕ) (blocks : List Block) → AreBlockLines 0 (lines_in text) blocks → blocks_in text ≡ Ok blocks
 blocks_back text blocks h = all_back block_rules blocks (lines_in text) h
@@ -84,11 +98,12 @@ pub preds_are_valid : (n : ℕ) (text : List ℕ) (lists : List (List ℕ)) → 
 preds_are_valid n text lists e =
     let s = preds_spelled n text lists e in (
       s.0,
-      λ id within. item_at (λ own line ids. IsPredsLine n own (fields_of line) ids) (λ own ids. ArePredsOf own n ids) (λ own line ids h. h.1)
+      λ id within. item_at (ArePredsIn n) (λ own ids. ArePredsOf own n ids) (λ own line ids h. h.1)
           0 (lines_in text) lists s.1 id id [] within (omega arith),
     )
 
-pub lists_back : (n : ℕ) (text : List ℕ) (lists : List (List ℕ)) → length lists ≡ n → ArePredsLines n 0 (lines_in text) lists → preds_in n text ≡ Ok lists
+pub lists_back : (n : ℕ) (text : List ℕ) (lists : List (List ℕ)) → length lists ≡ n → ArePredsLines n 0 (lines_in text) lists
+    → preds_in n text ≡ Ok lists
 lists_back n text lists count h =
     let all : (length lists == n) ≡ true = eq-eqb (length lists) n count in
     ap (λ r. r >>= finish_preds (end_of text)) (all_back (pred_rules n) lists (lines_in text) h) ∙ rw all refl

@@ -30,10 +30,9 @@ use Rattle.minelib_text.specs.declared.text_fault.TextFile.TheVariants.{Blocks, 
 use Rattle.minelib_text.proofs.HeaderFacts.{each_given}
 use Rattle.minelib_text.proofs.ModelEnd.{model_finished}
 use Rattle.minelib_text.proofs.ReadSteps.{bind_then, same_ok, in_file_ok}
-use Rattle.minelib_text.proofs.ValidBlocks.{few_blocks}
 use Rattle.minelib_text.proofs.ValidHeader.{KeepsOwn, IsInRange, one_destination}
 use Rattle.minelib_text.proofs.ValidModel.{KeepsModel, model_kept}
-use Rattle.minelib_text.proofs.SpelledRead.{preds_are_valid}
+use Rattle.minelib_text.proofs.SpelledRead.{few_blocks, preds_are_valid}
 
 -- what a model file states, of n blocks, is as an instance has it
 pub record IsModel (problem : Problem) (n : ℕ) (d : ModelDraftView) : Type 0 where

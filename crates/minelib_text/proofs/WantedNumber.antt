@@ -7,8 +7,8 @@ use Rattle.forms.proofs.NumberFields.{one_whole}
 use Rattle.forms.specs.Demands.{Demand, demand}
 use Rattle.forms.specs.Form.{Says, below, whole}
 
-pub wanted_told : {A K : Type 0} (kind : K) (limit : ℕ) (field : List ℕ) (n wanted : ℕ) (r : Result A K) (es : List (Demand K)) (Q : A → Type 0)
-    → Says (below limit) field (whole n) → (n ≡ wanted → Follows r es Q)
+pub wanted_told : {A K : Type 0} (kind : K) (limit : ℕ) (field : List ℕ) (n wanted : ℕ) (r : Result A K) (es : List (Demand K))
+    (Q : A → Type 0) → Says (below limit) field (whole n) → (n ≡ wanted → Follows r es Q)
     → Follows (if not (n == wanted) then Err kind else r) (demand kind (Says (below limit) field (whole wanted)) ++ es) Q
 wanted_told kind limit field n wanted r es Q says next =
     guarded (not (n == wanted)) kind (Says (below limit) field (whole wanted)) r es Q

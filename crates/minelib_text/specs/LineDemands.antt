@@ -1,5 +1,5 @@
--- What is asked of a number of a line, in the order in which it is looked at, with the kind of fault
--- where it is not so.
+-- What is asked of a number of a line, in the order in which it is looked at, with the kind of
+-- fault where it is not so.
 use Rattle.std.specs.Prelude.{ℕ, List, [], ◌++◌, slice_index_or}
 use Rattle.forms.specs.Demands.{Demand, demand}
 use Rattle.forms.specs.Decimals.{IsDecimal, IsFine}

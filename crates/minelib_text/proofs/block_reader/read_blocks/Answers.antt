@@ -1,4 +1,4 @@
-use Rattle.minelib_text.proofs.ValidBlocks.{few_blocks}
+use Rattle.minelib_text.proofs.SpelledRead.{few_blocks}
 use Rattle.minelib_text.proofs.block_reader.read_blocks.Goals as goal
 
 pub returns-clause-few : goal.returns-clause-few
