@@ -25,7 +25,7 @@ pub record NamesColumns (header : List (List ℕ)) (columns : Columns) : Type 0 
   pub tonnes : NamesColumn header (codes "tonnes") columns.tonnes
   pub grade : NamesColumn header (codes "grade") columns.grade
 
--- a record as wide as the header spells a block of this zone: each column's field its centroid, its tonnes or its grade
+-- a record as wide as the header spells a block of this zone: the cells of the columns say its centroid, its tonnes and its grade
 pub record SpellBlock (grid : Grid) (zone : ℕ) (columns : Columns) (row : List (List ℕ)) (b : Block) : Type 0 where
   pub wide : length row ≡ columns.width
   pub x : SpellIndex grid.x (cell_at row columns.x) b.x
