@@ -1,24 +1,23 @@
 -- The items of a model file's sections are read as they are written.
-use Rattle.std.proofs.Common.{◌≡◌, ℕ, ◌<◌, ◌≤◌, List, [], ◌∷◌, length, ℤ, arith, refl}
-use Rattle.std.specs.Prelude.{decimal, Ok, All}
+use Rattle.std.proofs.Common.{◌≡◌, ℕ, ◌<◌, ◌≤◌, List, [], length, ℤ, arith, refl}
+use Rattle.std.specs.Prelude.{decimal, Ok, All, false, slice_index_or, codes}
+use Rattle.std.specs.Str.{bytes_eq}
+use Rattle.pit_model.specs.Plan.{is_turned}
 use Rattle.forms.proofs.FormFacts.{spell_written}
 use Rattle.forms.specs.Form.{Fit}
-use Rattle.pit_model.specs.declared.limit.Bound.{Bound}
-use Rattle.pit_model.specs.declared.limit.Bound.TheVariants.{AtMost, AtLeast, Between}
 use Rattle.pit_model.specs.declared.limit.Limit.{Limit}
 use Rattle.mine_instance.specs.declared.coef.Coef.{Coef}
 use Rattle.minelib_text.specs.Kept.{IsDecimal, HasDecimals}
 use Rattle.minelib_text.specs.ModelLines.{values_of, coef_of, limit_of}
-use Rattle.minelib_text.specs.SpelledItems.{HasDestination, coef_form, coef_values, values_form, values_values}
-use Rattle.minelib_text.specs.Written.{value_fields, coef_fields, limit_fields, bound_fields}
+use Rattle.minelib_text.specs.SpelledItems.{HasDestination, coef_form, coef_values, limit_form, limit_values, values_form, values_values}
+use Rattle.minelib_text.specs.Written.{value_fields, coef_fields, limit_fields}
 use Rattle.minelib_text.specs.declared.model_key.Problem.{Problem}
 use Rattle.minelib_text.specs.declared.model_key.Problem.TheVariants.{Pcpsp, Cpit}
 use Rattle.minelib_text.proofs.CoefLineFacts.{coef_back, coef_fine, coef_fits, coef_plain}
 use Rattle.minelib_text.proofs.FormFields.{written_fields}
-use Rattle.minelib_text.proofs.KeysBack.{word_field}
-use Rattle.minelib_text.proofs.NumbersBack.{decimal_field, whole_field, whole_again, decimal_again}
-use Rattle.minelib_text.proofs.PlainText.{EachField, AreFields}
+use Rattle.minelib_text.proofs.PlainText.{AreFields}
 use Rattle.minelib_text.proofs.ValuesLineFacts.{many_fine, many_plain, values_back, values_fits}
+use Rattle.minelib_text.proofs.LimitLineFacts.{bound_plain, limit_back, limit_fine, limit_fits}
 
 pub values_again : (n destinations before : ℕ) (values : List ℤ) → n ≤ 64000000 → before < n → length values ≡ destinations → All IsDecimal values
     → values_of n destinations before (value_fields before values) ≡ Ok values
@@ -67,26 +66,20 @@ coefs_fields p n destinations resources k c few count small h decimal = record {
     some Pcpsp = omega arith
     some Cpit = omega arith
 
-pub limit_again : (resources periods r t : ℕ) (bound : Bound) → resources ≤ 8 → periods ≤ 100 → r < resources → t < periods
-    → HasDecimals bound → limit_of resources periods (decimal r ∷ decimal t ∷ bound_fields bound) ≡ Ok (record { resource = r; period = t; bound = bound })
-limit_again resources periods r t (AtMost v) few short in_resources in_periods h =
-    rw (whole_again resources r in_resources (omega arith), whole_again periods t in_periods (omega arith), decimal_again v h) refl
-limit_again resources periods r t (AtLeast v) few short in_resources in_periods h =
-    rw (whole_again resources r in_resources (omega arith), whole_again periods t in_periods (omega arith), decimal_again v h) refl
-limit_again resources periods r t (Between v w) few short in_resources in_periods h =
-    rw (
-      whole_again resources r in_resources (omega arith),
-      whole_again periods t in_periods (omega arith),
-      decimal_again v h.0,
-      decimal_again w h.1,
-    ) refl
-
-bounds_fields : (bound : Bound) → HasDecimals bound → EachField (bound_fields bound)
-bounds_fields (AtMost v) h = (word_field 76 [] refl, (decimal_field v h, tt))
-bounds_fields (AtLeast v) h = (word_field 71 [] refl, (decimal_field v h, tt))
-bounds_fields (Between v w) h = (word_field 73 [] refl, (decimal_field v h.0, (decimal_field w h.1, tt)))
+pub limit_again : (resources periods : ℕ) (l : Limit) (n : ℕ) → resources ≤ 8 → periods ≤ 100 → l.resource < resources → l.period < periods
+    → is_turned l.bound ≡ false → HasDecimals l.bound → limit_of resources periods (limit_fields n l) ≡ Ok l
+limit_again resources periods l n few short low_r low_t straight h =
+    limit_back resources periods (limit_fields n l) l (
+      spell_written (limit_form resources periods (limit_fields n l)) (limit_values l) (limit_fine resources periods (limit_fields n l))
+          (limit_fits n resources periods l (omega arith) (omega arith) low_r low_t h),
+      straight,
+    )
 
 pub limits_fields : (n resources periods : ℕ) (l : Limit) → resources ≤ 8 → periods ≤ 100 → l.resource < resources → l.period < periods
     → HasDecimals l.bound → AreFields (limit_fields n l)
-limits_fields n resources periods l few short in_resources in_periods h =
-    record { some = omega arith; each = (whole_field l.resource (omega arith), (whole_field l.period (omega arith), bounds_fields l.bound h)) }
+limits_fields n resources periods l few short low_r low_t h = record {
+  some = omega arith;
+  each = written_fields (limit_form resources periods (limit_fields n l)) (limit_values l)
+      (bound_plain (bytes_eq (slice_index_or (limit_fields n l) 2 []) (codes "I")))
+      (limit_fits n resources periods l (omega arith) (omega arith) low_r low_t h);
+}

@@ -13,12 +13,12 @@ pub mod HeaderFacts
 pub mod HeaderLines
 pub mod InstanceBack
 pub mod ItemLines
-pub mod ItemSteps
 pub mod ItemsBack
 pub mod ItemsKeyless
 pub mod KeepFacts
 pub mod KeySteps
 pub mod KeysBack
+pub mod LimitLineFacts
 pub mod LineFacts
 pub mod LineTold
 pub mod LinesBack
@@ -55,5 +55,4 @@ pub mod LinesOfText
 pub mod SpelledBack
 pub mod SpelledDenotes
 pub mod Keyless
-pub mod SpelledItemsBack
 pub mod SpelledModelBack

@@ -79,7 +79,7 @@ module _ (p : Problem) (n : ℕ) (name : List ℕ) (periods destinations resourc
         fields_line _ fields,
         item_line _ _ fields
             ∙ rw (
-              limit_again resources periods l.resource l.period l.bound m.small m.short range.0 range.1 kept,
+              limit_again resources periods l (length done) m.small m.short range.0 range.1 range.2 kept,
               range.2,
               behind_last stands_before limits done l rest whole m.are_limits.rising,
             ) refl,

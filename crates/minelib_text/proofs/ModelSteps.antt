@@ -22,7 +22,7 @@ use Rattle.minelib_text.specs.declared.model_key.Section.{Section}
 use Rattle.minelib_text.specs.declared.model_key.Section.TheVariants.{Heading, Objective, Coefs, Limits}
 use Rattle.minelib_text.specs.declared.text_fault.TextKind.TheVariants.{Fields, Order, Twice, Key, Missing}
 use Rattle.minelib_text.proofs.CoefLineFacts.{coef_line}
-use Rattle.minelib_text.proofs.ItemSteps.{limit_line}
+use Rattle.minelib_text.proofs.LimitLineFacts.{limit_line}
 use Rattle.minelib_text.proofs.KeySteps.{key_says}
 use Rattle.minelib_text.proofs.ReadSteps.{bind_then, guard_then, then_ok, same_ok, counted}
 use Rattle.minelib_text.proofs.ValuesLineFacts.{values_line}

@@ -40,7 +40,7 @@ use Rattle.minelib_text.proofs.Places.{behind_last}
 use Rattle.minelib_text.proofs.ReadSteps.{bind_then, same_ok}
 use Rattle.minelib_text.proofs.SpelledBack.{whole_back, size_back, next_line}
 use Rattle.minelib_text.proofs.CoefLineFacts.{coef_back, coef_keyless}
-use Rattle.minelib_text.proofs.SpelledItemsBack.{limit_back, limit_keyless}
+use Rattle.minelib_text.proofs.LimitLineFacts.{limit_back, limit_keyless}
 use Rattle.minelib_text.proofs.ValuesLineFacts.{values_back, values_keyless}
 
 -- a header with all that the model states
@@ -267,7 +267,7 @@ module _ (problem : Problem) (n : ℕ) (m : StatedModel) where
       item_back (within problem n m Limits m.values m.coefs done) line (limit_keyless m.resources m.periods (fields_of line) x h)
       ∙ rw (
         limit_back m.resources m.periods (fields_of line) x h,
-        h.straight,
+        h.1,
         behind_last stands_before m.limits done x rest whole rising,
       ) refl
 

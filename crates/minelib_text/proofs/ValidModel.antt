@@ -26,6 +26,7 @@ use Rattle.minelib_text.proofs.ModelSteps.{next_by, SetsKey, BeginsSection, Adds
 use Rattle.minelib_text.proofs.ReadSteps.{kept_by_lines}
 use Rattle.minelib_text.proofs.Rising.{rises_behind}
 use Rattle.minelib_text.proofs.ValuesLineFacts.{one_each}
+use Rattle.minelib_text.proofs.LimitLineFacts.{limit_low}
 
 -- what is read of n blocks
 pub record KeepsModel (problem : Problem) (n : ℕ) (d : ModelDraftView) : Type 0 where
@@ -151,7 +152,7 @@ limit_kept problem n d line next s kept = subst (KeepsModel problem n) s.is (rec
   coefs = kept.coefs;
   limits = record {
     in_range = All-push (λ l. (l.resource < count_in d.header key.Resources) × (l.period < count_in d.header key.Periods) × (is_turned l.bound ≡ false)) d.limits
-        s.limit kept.limits.in_range (s.spelled.states_resource.below, s.spelled.states_period.below, s.spelled.straight);
+        s.limit kept.limits.in_range (limit_low (count_in d.header key.Resources) (count_in d.header key.Periods) (fields_of line) s.limit s.spelled);
     rising = rises_behind stands_before stands_before_through d.limits s.limit kept.limits.rising s.behind;
   };
 })

@@ -1,7 +1,13 @@
 -- Fields of lines, beside whole numbers and sizes.
-use Rattle.std.specs.Prelude.{◌-◌, ◌^◌, pos, negsuc}
-use Rattle.forms.specs.Form.{Field, Decimal}
+use Rattle.std.specs.Prelude.{ℕ, ◌-◌, ◌^◌, List, pos, negsuc}
+use Rattle.std.specs.List.{list_any}
+use Rattle.std.specs.Str.{bytes_eq}
+use Rattle.forms.specs.Form.{Field, Decimal, Word}
 
 -- any decimal: of at most 10^24 millionths either side of zero
 abbrev pub any : Field
 any = Decimal 6 (negsuc (10 ^ 24 - 1)) (pos (10 ^ 24))
+
+-- one of some words
+abbrev pub one_of : List (List ℕ) → Field
+one_of words = Word (λ word. list_any (bytes_eq word) words)

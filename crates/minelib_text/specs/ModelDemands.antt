@@ -1,9 +1,7 @@
 -- What is asked of a line of a model file behind those so far, in the order in which it is looked
 -- at, with the kind of fault where it is not so: the table of kinds, in its own words.
-use Rattle.std.specs.Prelude.{◌≡◌, ℕ, ◌+◌, ◌^◌, ◌≤◌, Bool, true, false, List, [], ◌∷◌, ◌++◌, length, ℤ, Option, Some, None, ◌⊎◌, codes}
+use Rattle.std.specs.Prelude.{◌≡◌, ℕ, ◌+◌, ◌^◌, ◌≤◌, Bool, true, false, List, [], ◌∷◌, ◌++◌, length, Option, Some, None}
 use Rattle.std.specs.List.{list_any, before_first, after_first}
-use Rattle.std.specs.Str.{bytes_eq}
-use Rattle.pit_units.specs.Decimal.{StandsFor}
 use Rattle.forms.specs.Demands.{Demand, demand, FailsFirst}
 use Rattle.forms.specs.Form.{Says, asked, below, whole as whole_value}
 use Rattle.pit_model.specs.Name.{is_name}
@@ -18,7 +16,7 @@ use Rattle.minelib_text.specs.HeaderKeys.{count_in, is_given}
 use Rattle.minelib_text.specs.ModelLines.{ModelDraftView, is_colon, is_heading, is_next, is_ready, is_behind, key_of, last_of, type_text}
 use Rattle.minelib_text.specs.ModelSoFar.{SpellSoFar}
 use Rattle.minelib_text.specs.SpelledFields.{StatesWhole}
-use Rattle.minelib_text.specs.SpelledItems.{coef_form, values_form, IsCoefLine, IsLimitLine}
+use Rattle.minelib_text.specs.SpelledItems.{coef_form, limit_form, values_form, IsCoefLine, IsLimitLine}
 use Rattle.minelib_text.specs.TextLines.{Line, fields_of}
 use Rattle.minelib_text.specs.declared.model_key.HeaderKey.{HeaderKey}
 use Rattle.minelib_text.specs.declared.model_key.HeaderKey.TheVariants as key
@@ -30,10 +28,6 @@ use Rattle.minelib_text.specs.declared.model_key.Section.TheVariants.{Heading, O
 use Rattle.minelib_text.specs.declared.text_fault.LineFault.{LineFault}
 use Rattle.minelib_text.specs.declared.text_fault.TextKind.{TextKind}
 use Rattle.minelib_text.specs.declared.text_fault.TextKind.TheVariants as fault
-
--- any decimal
-abbrev pub decimal : List ℕ → List (Demand TextKind)
-decimal field = number 6 field ((m : ℤ) × StandsFor 6 field m)
 
 -- a whole number from 1, below a limit
 abbrev pub counted : ℕ → List ℕ → List (Demand TextKind)
@@ -78,30 +72,11 @@ asked_of_coef d fields =
     × IsCoefLine d.problem d.blocks (count_in d.header key.Destinations) (count_in d.header key.Resources)
     fields c × (is_behind comes_before (last_of d.coefs) c ≡ true))
 
--- the numbers of a bound: one, or those of an interval
-abbrev pub bound_fields : Bool → List (List ℕ) → List (Demand TextKind)
-bound_fields false fields = decimal (field_at fields 3)
-bound_fields true fields = decimal (field_at fields 3) ++ decimal (field_at fields 4)
-
--- how many fields a limit has: an interval has one more
-abbrev pub width_of_limit : Bool → ℕ
-width_of_limit false = 4
-width_of_limit true = 5
-
--- the fields of a limit, whose third is `I` or not
-abbrev pub limit_fields : Bool → ModelDraftView → List (List ℕ) → List (Demand TextKind)
-limit_fields is_interval d fields =
-    demand fault.Fields (length fields ≡ width_of_limit is_interval)
-    ++ whole (count_in d.header key.Resources) (field_at fields 0)
-    ++ whole (count_in d.header key.Periods) (field_at fields 1)
-    ++ demand fault.Name ((field_at fields 2 ≡ codes "L") ⊎ ((field_at fields 2 ≡ codes "G")
-    ⊎ (field_at fields 2 ≡ codes "I")))
-    ++ bound_fields is_interval fields
-
 -- a limit, the right way round and behind the last one
 abbrev pub asked_of_limit : ModelDraftView → List (List ℕ) → List (Demand TextKind)
 asked_of_limit d fields =
-    limit_fields (bytes_eq (field_at fields 2) (codes "I")) d fields
+    asked text_kind
+    (limit_form (count_in d.header key.Resources) (count_in d.header key.Periods) fields) fields
     ++ demand fault.Order ((l : Limit)
     × IsLimitLine (count_in d.header key.Resources) (count_in d.header key.Periods) fields l
     × (is_behind stands_before (last_of d.limits) l ≡ true))

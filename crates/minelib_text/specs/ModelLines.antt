@@ -2,7 +2,7 @@
 use Rattle.std.specs.Prelude.{ℕ, ◌+◌, ◌-◌, ◌==◌, ◌&&◌, ◌||◌, ◌^◌, not, Bool, true, false, List, [], ◌∷◌, ◌++◌, drop, length, map, ℤ, Option, Some, None, slice_get, slice_index_or, Result, Ok, Err, if◌then◌else◌, codes}
 use Rattle.std.specs.List.{list_any, before_first, after_first}
 use Rattle.std.specs.Str.{bytes_eq}
-use Rattle.forms.specs.Form.{Value, millionths, number_at, read, whole_at}
+use Rattle.forms.specs.Form.{Value, Bytes, Millionths, millionths, number_at, read, whole_at}
 use Rattle.forms.specs.Steps.{◌>>=◌}
 use Rattle.pit_model.specs.Name.{is_name}
 use Rattle.pit_model.specs.Plan.{is_turned, stands_before}
@@ -12,11 +12,11 @@ use Rattle.pit_model.specs.declared.limit.Limit.{Limit}
 use Rattle.pit_model.specs.declared.ranges.TheConstants.{MAX_BLOCKS, MAX_DESTINATIONS, MAX_PERIODS, MAX_RESOURCES}
 use Rattle.mine_instance.specs.Order.{comes_before}
 use Rattle.mine_instance.specs.declared.coef.Coef.{Coef}
-use Rattle.minelib_text.specs.FieldValues.{first_by, size_in, whole_in, decimal_in}
+use Rattle.minelib_text.specs.FieldValues.{size_in, whole_in}
 use Rattle.minelib_text.specs.HeaderKeys.{no_key, with_key, count_in, is_given, is_complete}
 use Rattle.minelib_text.specs.LineKinds.{text_kind}
 use Rattle.minelib_text.specs.Reading.{read_lines}
-use Rattle.minelib_text.specs.SpelledItems.{coef_form, values_form}
+use Rattle.minelib_text.specs.SpelledItems.{coef_form, limit_form, values_form}
 use Rattle.minelib_text.specs.TextLines.{fields_of, lines_in, end_of}
 use Rattle.minelib_text.specs.declared.model_key.Header.{Header}
 use Rattle.minelib_text.specs.declared.model_key.HeaderKey.{HeaderKey}
@@ -217,33 +217,30 @@ abbrev pub is_behind : {A : Type 0} → (A → A → Bool) → Option A → A �
 is_behind before None x = true
 is_behind before (Some last) x = before last x
 
--- an interval has a field more
-abbrev pub limit_width : List (List ℕ) → ℕ
-limit_width fields = if bytes_eq (slice_index_or fields 2 []) (codes "I") then 5 else 4
+-- the bound of a letter, L, G or I, and one number or two
+abbrev pub bound_said : List ℕ → ℤ → ℤ → Bound
+bound_said letter v w =
+    if bytes_eq letter (codes "L") then AtMost v
+    else (if bytes_eq letter (codes "G") then AtLeast v else Between v w)
 
--- an interval's two ends
-abbrev pub interval_in : List (List ℕ) → Result Bound TextKind
-interval_in fields = do
-  v ← first_by decimal_in fields
-  w ← first_by decimal_in v.1
-  Ok (Between v.0 w.0)
+-- the word of a value
+abbrev pub bytes_in : Value → List ℕ
+bytes_in (Bytes word) = word
+bytes_in (Millionths m) = []
 
--- `L v`, `G v` or `I v w`
-abbrev pub bound_in : List (List ℕ) → Result Bound TextKind
-bound_in [] = Err Fields
-bound_in (letter ∷ fields) =
-    if bytes_eq letter (codes "L") then (first_by decimal_in fields >>= λ v. Ok (AtMost v.0))
-    else (if bytes_eq letter (codes "G") then (first_by decimal_in fields >>= λ v. Ok (AtLeast v.0))
-    else (if bytes_eq letter (codes "I") then interval_in fields else Err Name))
+-- the limit of the values of a line
+abbrev pub limit_said : List Value → Limit
+limit_said values = record {
+  resource = whole_at values 0;
+  period = whole_at values 1;
+  bound = bound_said (bytes_in (slice_index_or values 2 (Bytes []))) (number_at values 3) (number_at values 4);
+}
 
 -- `r t` and a bound
-abbrev pub limit_of : ℕ → ℕ → List (List ℕ) → Result Limit TextKind
-limit_of resources periods fields =
-    if not (length fields == limit_width fields) then Err Fields else do
-      r ← first_by (whole_in resources) fields
-      t ← first_by (whole_in periods) r.1
-      bound ← bound_in t.1
-      Ok (record { resource = r.0; period = t.0; bound = bound })
+unfoldable pub limit_of : ℕ → ℕ → List (List ℕ) → Result Limit TextKind
+limit_of resources periods fields = do
+  values ← read text_kind (limit_form resources periods fields) fields
+  Ok (limit_said values)
 
 -- a line of the objective
 abbrev pub admit_values : ModelDraftView → List (List ℕ) → Result ModelDraftView TextKind

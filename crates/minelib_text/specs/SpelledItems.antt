@@ -1,14 +1,13 @@
 -- How the lines of a model file's sections spell values, coefficients and limits.
-use Rattle.std.specs.Prelude.{◌≡◌, ℕ, List, [], ◌∷◌, map, replicate, ℤ, codes, false}
-use Rattle.pit_units.specs.Decimal.{StandsFor}
-use Rattle.forms.specs.Form.{Field, Value, Millionths, Spell, below, whole}
+use Rattle.std.specs.Prelude.{◌≡◌, ℕ, Bool, true, false, List, [], ◌∷◌, map, replicate, slice_index_or, ℤ, codes}
+use Rattle.std.specs.Str.{bytes_eq}
+use Rattle.forms.specs.Form.{Field, Value, Millionths, Bytes, Spell, below, whole}
 use Rattle.pit_model.specs.Plan.{is_turned}
 use Rattle.pit_model.specs.declared.limit.Bound.{Bound}
 use Rattle.pit_model.specs.declared.limit.Bound.TheVariants.{AtMost, AtLeast, Between}
 use Rattle.pit_model.specs.declared.limit.Limit.{Limit}
 use Rattle.mine_instance.specs.declared.coef.Coef.{Coef}
-use Rattle.minelib_text.specs.Fields.{any}
-use Rattle.minelib_text.specs.SpelledFields.{StatesWhole}
+use Rattle.minelib_text.specs.Fields.{any, one_of}
 use Rattle.minelib_text.specs.declared.model_key.Problem.{Problem}
 use Rattle.minelib_text.specs.declared.model_key.Problem.TheVariants.{Pcpsp, Cpit}
 
@@ -44,19 +43,26 @@ IsCoefLine problem n destinations resources fields c =
     × HasDestination problem c
 
 -- `L v`, `G v` or `I v w`
-abbrev pub StatesBound : List (List ℕ) → Bound → Type 0
-StatesBound fields (AtMost v) = (most : List ℕ) × (fields ≡ codes "L" ∷ most ∷ []) × StandsFor 6 most v
-StatesBound fields (AtLeast v) = (least : List ℕ) × (fields ≡ codes "G" ∷ least ∷ []) × StandsFor 6 least v
-StatesBound fields (Between v w) =
-    (least : List ℕ) × (most : List ℕ) × (fields ≡ codes "I" ∷ least ∷ most ∷ []) × StandsFor 6 least v × StandsFor 6 most w
+abbrev pub bound_form : Bool → List Field
+bound_form true = one_of (codes "I" ∷ []) ∷ any ∷ any ∷ []
+bound_form false = one_of (codes "L" ∷ codes "G" ∷ []) ∷ any ∷ []
 
--- `r t` of a limit, and its bound, the right way round
-pub record IsLimitLine (resources periods : ℕ) (fields : List (List ℕ)) (l : Limit) : Type 0 where
-  pub r : List ℕ
-  pub t : List ℕ
-  pub bound : List (List ℕ)
-  pub here : fields ≡ r ∷ t ∷ bound
-  pub states_resource : StatesWhole resources r l.resource
-  pub states_period : StatesWhole periods t l.period
-  pub states_bound : StatesBound bound l.bound
-  pub straight : is_turned l.bound ≡ false
+abbrev pub bound_values : Bound → List Value
+bound_values (AtMost v) = Bytes (codes "L") ∷ Millionths v ∷ []
+bound_values (AtLeast v) = Bytes (codes "G") ∷ Millionths v ∷ []
+bound_values (Between v w) = Bytes (codes "I") ∷ Millionths v ∷ Millionths w ∷ []
+
+-- `r t` of a limit, and its bound: an interval where the third field is `I`
+abbrev pub limit_form : ℕ → ℕ → List (List ℕ) → List Field
+limit_form resources periods fields =
+    below resources ∷ below periods
+    ∷ bound_form (bytes_eq (slice_index_or fields 2 []) (codes "I"))
+
+abbrev pub limit_values : Limit → List Value
+limit_values l = whole l.resource ∷ whole l.period ∷ bound_values l.bound
+
+-- the right way round
+abbrev pub IsLimitLine : ℕ → ℕ → List (List ℕ) → Limit → Type 0
+IsLimitLine resources periods fields l =
+    Spell (limit_form resources periods fields) fields (limit_values l)
+    × (is_turned l.bound ≡ false)

@@ -1,8 +1,12 @@
--- Lines whose fields are read before they are counted. Only proofs and private contracts need it.
-use Rattle.std.specs.Prelude.{◌≡◌, ℕ, ◌*◌, ◌/◌, ◌==◌, not, Bool, List, [], ◌∷◌, length, ℤ, Result, Ok, Err, if◌then◌else◌}
+-- Lines as the code reads them, field by field. Only proofs and private contracts need it.
+use Rattle.std.specs.Prelude.{◌≡◌, ℕ, ◌*◌, ◌/◌, ◌==◌, not, Bool, List, [], ◌∷◌, length, ℤ, Result, Ok, Err, if◌then◌else◌, codes, slice_index_or}
+use Rattle.std.specs.Str.{bytes_eq}
 use Rattle.mine_instance.specs.declared.coef.Coef.{Coef}
 use Rattle.forms.specs.Steps.{◌>>=◌}
 use Rattle.pit_model.specs.declared.block.Block.{Block}
+use Rattle.pit_model.specs.declared.limit.Bound.{Bound}
+use Rattle.pit_model.specs.declared.limit.Bound.TheVariants.{AtMost, AtLeast, Between}
+use Rattle.pit_model.specs.declared.limit.Limit.{Limit}
 use Rattle.pit_units.specs.Decimal.{decimal_of}
 use Rattle.minelib_text.specs.BlockLines.{block_with, in_range}
 use Rattle.minelib_text.specs.FieldValues.{all_by, first_by, decimal_in, size_in, whole_in}
@@ -13,7 +17,7 @@ use Rattle.minelib_text.specs.declared.model_key.Problem.TheVariants.{Pcpsp, Cpi
 use Rattle.minelib_text.specs.declared.read_fault.LineError.{LineError}
 use Rattle.minelib_text.specs.declared.read_fault.LineError.TheVariants as line_error
 use Rattle.minelib_text.specs.declared.text_fault.TextKind.{TextKind}
-use Rattle.minelib_text.specs.declared.text_fault.TextKind.TheVariants.{Fields, Order}
+use Rattle.minelib_text.specs.declared.text_fault.TextKind.TheVariants.{Fields, Name, Order}
 use Rattle.pit_model.specs.declared.ranges.TheConstants.{GRID_CELLS, MAX_BLOCKS, MAX_GRADE, MAX_KG, MAX_ZONES}
 
 -- the first field of a line states so many millionths, and the others stand in the rest of it
@@ -68,6 +72,34 @@ coef_alone problem n destinations resources fields = do
   r ← first_by (whole_in resources) d.1
   v ← first_by decimal_in r.1
   if not (length v.1 == 0) then Err Fields else Ok (record { b = b.0; d = d.0; r = r.0; v = v.0 })
+
+-- an interval has a field more
+abbrev pub limit_width : List (List ℕ) → ℕ
+limit_width fields = if bytes_eq (slice_index_or fields 2 []) (codes "I") then 5 else 4
+
+-- an interval's two ends
+abbrev pub interval_in : List (List ℕ) → Result Bound TextKind
+interval_in fields = do
+  v ← first_by decimal_in fields
+  w ← first_by decimal_in v.1
+  Ok (Between v.0 w.0)
+
+-- `L v`, `G v` or `I v w`
+abbrev pub bound_in : List (List ℕ) → Result Bound TextKind
+bound_in [] = Err Fields
+bound_in (letter ∷ fields) =
+    if bytes_eq letter (codes "L") then (first_by decimal_in fields >>= λ v. Ok (AtMost v.0))
+    else (if bytes_eq letter (codes "G") then (first_by decimal_in fields >>= λ v. Ok (AtLeast v.0))
+    else (if bytes_eq letter (codes "I") then interval_in fields else Err Name))
+
+-- the limit of a line, field by field
+abbrev pub limit_alone : ℕ → ℕ → List (List ℕ) → Result Limit TextKind
+limit_alone resources periods fields =
+    if not (length fields == limit_width fields) then Err Fields else do
+      r ← first_by (whole_in resources) fields
+      t ← first_by (whole_in periods) r.1
+      bound ← bound_in t.1
+      Ok (record { resource = r.0; period = t.0; bound = bound })
 
 -- what a line states that has as many fields as it has to have; a fault that was met in another line may be of another kind
 abbrev pub AdmitsCounted : {S A : Type 0} → Type 0 → S → Result A LineError → Result S TextKind → Type 0

@@ -4,8 +4,6 @@ use Rattle.forms.specs.Form.{written}
 use Rattle.pit_units.specs.Decimal.{shortest}
 use Rattle.pit_model.specs.declared.block.Block.{Block}
 use Rattle.pit_model.specs.declared.limit.Limit.{Limit}
-use Rattle.pit_model.specs.declared.limit.Bound.{Bound}
-use Rattle.pit_model.specs.declared.limit.Bound.TheVariants.{AtMost, AtLeast, Between}
 use Rattle.mine_instance.specs.Cpit.{CpitParts}
 use Rattle.mine_instance.specs.Greatest.{greatest}
 use Rattle.mine_instance.specs.declared.coef.Coef.{Coef}
@@ -14,7 +12,7 @@ use Rattle.mine_instance.specs.declared.instance.Instance.{Instance}
 use Rattle.minelib_text.specs.Lines.{text_of, line_of, lines_from}
 use Rattle.minelib_text.specs.SpelledBlocks.{block_values}
 use Rattle.minelib_text.specs.SpelledPrec.{preds_values}
-use Rattle.minelib_text.specs.SpelledItems.{coef_values, values_values}
+use Rattle.minelib_text.specs.SpelledItems.{coef_values, limit_values, values_values}
 use Rattle.minelib_text.specs.StatedModel.{at_only_destination}
 use Rattle.minelib_text.specs.declared.model_key.Problem.{Problem}
 use Rattle.minelib_text.specs.declared.model_key.Problem.TheVariants.{Pcpsp, Cpit}
@@ -39,15 +37,9 @@ greatest_fields n values = value_fields n (greatest values ∷ [])
 abbrev pub coef_fields : Problem → ℕ → Coef → List (List ℕ)
 coef_fields problem n c = written (coef_values problem c)
 
--- `L v`, `G v` or `I v w`
-abbrev pub bound_fields : Bound → List (List ℕ)
-bound_fields (AtMost v) = codes "L" ∷ shortest v ∷ []
-bound_fields (AtLeast v) = codes "G" ∷ shortest v ∷ []
-bound_fields (Between v w) = codes "I" ∷ shortest v ∷ shortest w ∷ []
-
--- `r t` and the bound
+-- `r t` and the bound: `L v`, `G v` or `I v w`
 abbrev pub limit_fields : ℕ → Limit → List (List ℕ)
-limit_fields n l = decimal l.resource ∷ decimal l.period ∷ bound_fields l.bound
+limit_fields n l = written (limit_values l)
 
 -- `b v`, the one value of a block of a CPIT
 abbrev pub cpit_value_fields : ℕ → ℤ → List (List ℕ)

@@ -3,7 +3,9 @@
 ghost use Rattle.std.specs.Prelude.{◌≡◌, ◌++◌, ◌∷◌, [], ◌*◌, pos, OnOk, decimal};
 ghost use Rattle.pit_units.specs.Decimal.{shortest};
 ghost use Rattle.minelib_text.specs.Lines.{line_of};
-ghost use Rattle.minelib_text.specs.Written.{block_fields, limit_fields, bound_fields, cpit_value_fields};
+ghost use Rattle.forms.specs.Form.{written};
+ghost use Rattle.minelib_text.specs.SpelledItems.{bound_values};
+ghost use Rattle.minelib_text.specs.Written.{block_fields, limit_fields, cpit_value_fields};
 
 use crate::fields::{put_decimal_to, put_text, put_whole_to};
 use crate::lines::Line;
@@ -55,7 +57,7 @@ impl Line for Limit {
 }
 
 fn put_bound(alloc: Global, out: &mut Vec<u8>, bound: &Bound) -> Result<(), AllocError>
-    ensures { OnOk result (out.new.items ≡ out.old.items ++ (line_of (bound_fields bound.now) ++ 10 ∷ [])) }
+    ensures { OnOk result (out.new.items ≡ out.old.items ++ (line_of (written (bound_values bound.now)) ++ 10 ∷ [])) }
 {
     match bound {
         Bound::AtMost(v) => {

@@ -4,12 +4,12 @@ ghost use Rattle.std.specs.Prelude.{◌≡◌, ◌≤◌, ◌<◌, ◌+◌, ◌�
 ghost use Rattle.pit_model.specs.Plan.{stands_before};
 ghost use Rattle.mine_instance.specs.Order.{comes_before};
 ghost use Rattle.minelib_text.specs.FieldValues.{Takes, all_by, decimal_in, first_by};
-ghost use Rattle.minelib_text.specs.ModelLines.{bound_in, coef_of, interval_in, is_behind, last_of, limit_of, limit_width, values_of};
+ghost use Rattle.minelib_text.specs.ModelLines.{coef_of, is_behind, last_of, limit_of, values_of};
 ghost use Rattle.minelib_text.specs.ModelParts.{TakesFirst};
 ghost use Rattle.minelib_text.specs.Reading.{Admits};
 ghost use Rattle.minelib_text.specs.SpelledItems.{coef_form};
 ghost use Rattle.minelib_text.specs.TextLines.{fields_of};
-ghost use Rattle.minelib_text.specs.Uncounted.{AdmitsCounted, coef_alone, destination_in};
+ghost use Rattle.minelib_text.specs.Uncounted.{AdmitsCounted, bound_in, coef_alone, destination_in, interval_in, limit_width};
 ghost use Rattle.pit_model.specs.declared.ranges.TheConstants.{MAX_BLOCKS};
 
 use crate::field_values::decimal_in;
@@ -162,6 +162,7 @@ pub fn is_coef_behind(coefs: &[Coef], coef: &Coef) -> bool
 }
 
 /// The limit of a line, of so many resources and periods.
+#[tactic(auto, using(crate::proofs::LimitLineFacts::limit_same))]
 pub fn limit_of(resources: u8, periods: u8, line: &[u8]) -> Result<Limit, TextKind>
     ensures { result ≡ limit_of resources periods (fields_of line.now) }
 {
