@@ -6,7 +6,7 @@ use Rattle.std.proofs.Common.{refl, sym, ◌∙◌, ap, subst, arith, inl, eq-eq
 use Rattle.std.proofs.lemmas.Bool.{eqb-true, or_parts, not-false}
 use Rattle.std.proofs.lemmas.Slice.Eq.{bytes_eq-Decides}
 use Rattle.pit_units.specs.Decimal.{decimal_of}
-use Rattle.forms.proofs.DemandFacts.{Follows, fails_before, behind, bound, guarded}
+use Rattle.forms.proofs.DemandFacts.{Follows, behind, bound, guarded}
 use Rattle.forms.specs.Demands.{Demand, demand}
 use Rattle.forms.specs.Form.{Spell, asked}
 use Rattle.forms.specs.Steps.{◌>>=◌}
@@ -47,24 +47,11 @@ mapped : {A B : Type 0} (r : Result A TextKind) (g : A → B) (ds : List (Demand
 mapped (Ok x) g ds P h = (h.0, tt)
 mapped (Err kind) g ds P h = h
 
--- one step and then the next, which knows the first
-bound_is : {A B : Type 0} (r : Result A TextKind) (f : A → Result B TextKind) (ds es : List (Demand TextKind)) (P : A → Type 0) (Q : B → Type 0)
-    → Follows r ds P → ((x : A) → r ≡ Ok x → Follows (f x) es Q) → Follows (r >>= f) (ds ++ es) Q
-bound_is {A} {B} r f ds es P Q here next = by r refl here
-  where
-    by : (s : Result A TextKind) → r ≡ s → Follows s ds P → Follows (s >>= f) (ds ++ es) Q
-    by (Ok x) e h = behind (f x) ds es Q h.0 (next x e)
-    by (Err kind) e h = fails_before ds es kind h
-
 -- a test that has to pass
 passed : {B : Type 0} (t : Bool) (kind : TextKind) (met : Type 0) (x : B) → (t ≡ true → met) → (t ≡ false → ¬ met)
     → Follows (if t then Ok x else Err kind) (demand kind met) (λ y. Unit {0})
 passed true kind met x holds fails = ((holds refl, tt), tt)
 passed false kind met x holds fails = inl (fails refl, refl)
-
-bind_id : {A F : Type 0} (r : Result A F) → (r >>= λ x. Ok x) ≡ r
-bind_id (Ok x) = refl
-bind_id (Err kind) = refl
 
 bind_twice : {A B C F : Type 0} (r : Result A F) (f : A → Result B F) (g : B → Result C F) → (r >>= λ x. f x >>= g) ≡ ((r >>= f) >>= g)
 bind_twice (Ok x) f g = refl

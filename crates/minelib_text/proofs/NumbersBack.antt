@@ -10,7 +10,7 @@ use Rattle.std.proofs.lemmas.List.Sums.{list_all-from_AllPass}
 use Rattle.pit_model.specs.Name.{is_name, is_name_byte}
 use Rattle.pit_units.proofs.Written.{shortest_read, shortest_plain, whole_read, whole_written}
 use Rattle.pit_units.specs.Decimal.{shortest, IsPlainByte}
-use Rattle.minelib_text.specs.FieldValues.{all_by, size_in, whole_in, decimal_in}
+use Rattle.minelib_text.specs.FieldValues.{all_by, size_in, whole_in}
 use Rattle.minelib_text.specs.Kept.{IsDecimal}
 use Rattle.minelib_text.specs.declared.text_fault.TextKind.{TextKind}
 use Rattle.minelib_text.proofs.PlainText.{is_plain, all_weaker, IsField, EachField}
@@ -51,10 +51,6 @@ pub size_again : (decimals most n : ℕ) → decimals ≤ 6 → n % 10 ^ (6 - de
 unfolding size_in
 size_again decimals most n few coarse within small =
     rw (shortest_read decimals (pos n) few (omega arith) coarse, le-ltb most n within) refl
-
-pub decimal_again : (z : ℤ) → IsDecimal z → decimal_in (shortest z) ≡ Ok z
-unfolding decimal_in
-decimal_again z most = rw (shortest_read 6 z (omega arith) most (omega arith)) refl
 
 -- texts of items are fields where each is
 pub map_fields : {A : Type 0} (P : A → Type 0) (text : A → List ℕ) → ((x : A) → P x → IsField (text x)) → (xs : List A) → All P xs

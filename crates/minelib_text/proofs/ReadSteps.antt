@@ -1,11 +1,11 @@
 -- What a step of reading shows where it found no fault, and what is kept from line to line.
 use Rattle.std.specs.Prelude.{◌≡◌, ℕ, ◌<◌, ◌≤◌, ◌*◌, ◌/◌, ◌%◌, ◌^◌, ◌==◌, nat_lt, Bool, true, false, not, List, [], ◌∷◌, ◌++◌, length, ℤ, pos, negsuc, Result, Ok, Err, if◌then◌else◌}
 use Rattle.std.specs.List.{AllZip}
-use Rattle.std.proofs.Common.{refl, sym, ◌∙◌, ap, subst, arith, append-nil, append_assoc, length-append}
+use Rattle.std.proofs.Common.{refl, sym, ◌∙◌, ap, subst, arith, append-nil, append_assoc}
 use Rattle.std.proofs.lemmas.Bool.{eqb-true, not-false}
 use Rattle.std.proofs.lemmas.Bool.Decides.{nat_tests}
 use Rattle.forms.specs.Steps.{◌>>=◌}
-use Rattle.minelib_text.specs.FieldValues.{at_most, whole_below, stated, size_in, whole_in, decimal_in, first_by, all_by}
+use Rattle.minelib_text.specs.FieldValues.{at_most, whole_below, stated, size_in, whole_in, first_by, all_by}
 use Rattle.minelib_text.specs.Reading.{at_line, read_lines, in_file}
 use Rattle.minelib_text.specs.TextLines.{Line}
 use Rattle.minelib_text.specs.declared.text_fault.LineFault.{LineFault}
@@ -95,10 +95,6 @@ stated_ok : (r : Result ℤ DecFault) (z : ℤ) → stated r ≡ Ok z → r ≡ 
 stated_ok (Ok y) z e = cc
 stated_ok (Err fault) z e = absurd cc
 
-pub decimal_in_ok : (field : List ℕ) (z : ℤ) → decimal_in field ≡ Ok z → StandsFor 6 field z
-unfolding decimal_in
-decimal_in_ok field z e = read_stands 6 field z (omega arith) (stated_ok (decimal_of 6 field) z e)
-
 pub size_in_ok : (decimals most : ℕ) (field : List ℕ) (m : ℕ) → decimals ≤ 6 → size_in decimals most field ≡ Ok m → StatesSize decimals most field m
 unfolding size_in
 size_in_ok decimals most field m few e =
@@ -120,11 +116,6 @@ whole_in_ok limit field n e =
     let quotient : p.0 / 10 ^ 6 ≡ n = p.2 in
     let whole : p.0 ≡ n * 10 ^ 6 = omega arith in
     record { stands = subst (λ m. StandsFor 0 field (pos m)) whole stands; below = p.3 }
-
--- nothing stands behind as many fields as there are
-pub none_behind : (n : ℕ) (front rest fields : List (List ℕ)) → length fields ≡ n → fields ≡ front ++ rest → length front ≡ n → fields ≡ front
-none_behind n front [] fields all here count = here ∙ append-nil front
-none_behind n front (field ∷ rest) fields all here count = absurd (omega (arith, ap length here, length-append front (field ∷ rest)))
 
 -- the number of fields, where a test found no other
 pub counted : (n : ℕ) (fields : List (List ℕ)) → not (length fields == n) ≡ false → length fields ≡ n
