@@ -11,7 +11,8 @@ use Rattle.forms.specs.Steps.{◌>>=◌}
 use Rattle.pit_model.specs.declared.block.Block.{Block}
 use Rattle.minelib_text.specs.BlockLines.{block_of, block_said}
 use Rattle.minelib_text.specs.LineKinds.{text_kind}
-use Rattle.minelib_text.specs.SpelledBlocks.{IsBlockLine, asked_of_block, block_form, block_values}
+use Rattle.minelib_text.specs.SpelledBlocks.{IsBlockLine, asked_of_block, block_form}
+use Rattle.minelib_text.specs.LineValues.{block_values}
 use Rattle.minelib_text.specs.declared.text_fault.TextKind.TheVariants.{Order}
 use Rattle.minelib_text.proofs.BlockMade.{made, parts_of, with_again}
 use Rattle.minelib_text.proofs.ReadSteps.{bind_then, guard_then}

@@ -5,7 +5,8 @@ use Rattle.forms.proofs.FormFacts.{spell_written}
 use Rattle.pit_model.specs.declared.block.Block.{Block}
 use Rattle.minelib_text.specs.BlockLines.{block_of, admit_block, blocks_in}
 use Rattle.minelib_text.specs.Lines.{text_of, lines_from}
-use Rattle.minelib_text.specs.SpelledBlocks.{block_form, block_values}
+use Rattle.minelib_text.specs.SpelledBlocks.{block_form}
+use Rattle.minelib_text.specs.LineValues.{block_values}
 use Rattle.minelib_text.specs.Written.{block_fields}
 use Rattle.minelib_text.proofs.BlockLineFacts.{block_back, block_fits}
 use Rattle.minelib_text.proofs.LinesBack.{AdmitsEach, items_admitted, text_read}

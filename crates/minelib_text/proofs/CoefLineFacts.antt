@@ -18,7 +18,8 @@ use Rattle.minelib_text.proofs.FieldSteps.{last_step, said_of, step, whole_reads
 use Rattle.minelib_text.proofs.Keyless.{have_colon}
 use Rattle.minelib_text.specs.Fields.{any}
 use Rattle.minelib_text.specs.ModelLines.{coef_of, coef_said}
-use Rattle.minelib_text.specs.SpelledItems.{HasDestination, IsCoefLine, coef_form, coef_values}
+use Rattle.minelib_text.specs.SpelledItems.{HasDestination, IsCoefLine, coef_form}
+use Rattle.minelib_text.specs.LineValues.{coef_values}
 use Rattle.minelib_text.proofs.FormFields.{ArePlain, any_fits, any_reads, any_there, spelled_keyless, whole_there}
 
 pub coef_fine : (problem : Problem) (n destinations resources : ℕ) → is_fine (coef_form problem n destinations resources) ≡ true

@@ -12,7 +12,8 @@ use Rattle.minelib_text.specs.Denotes.{cpit_denoted}
 use Rattle.minelib_text.specs.Kept.{IsDecimal, IsKeptCpit}
 use Rattle.minelib_text.specs.Lines.{line_of, lines_from}
 use Rattle.minelib_text.specs.ModelLines.{model_in}
-use Rattle.minelib_text.specs.StatedModel.{alone, at_only_destination}
+use Rattle.minelib_text.specs.StatedModel.{alone}
+use Rattle.minelib_text.specs.LineValues.{at_only_destination}
 use Rattle.minelib_text.specs.Written.{text_cpit, coef_fields, value_fields}
 use Rattle.minelib_text.specs.declared.model_key.Problem.TheVariants.{Cpit}
 use Rattle.minelib_text.specs.declared.model_key.Section.TheVariants.{Limits}

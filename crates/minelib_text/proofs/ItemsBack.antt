@@ -9,7 +9,8 @@ use Rattle.pit_model.specs.declared.limit.Limit.{Limit}
 use Rattle.mine_instance.specs.declared.coef.Coef.{Coef}
 use Rattle.minelib_text.specs.Kept.{IsDecimal, HasDecimals}
 use Rattle.minelib_text.specs.ModelLines.{values_of, coef_of, limit_of}
-use Rattle.minelib_text.specs.SpelledItems.{HasDestination, coef_form, coef_values, limit_form, limit_values, values_form, values_values}
+use Rattle.minelib_text.specs.SpelledItems.{HasDestination, coef_form, limit_form, values_form}
+use Rattle.minelib_text.specs.LineValues.{coef_values, limit_values, values_values}
 use Rattle.minelib_text.specs.Written.{value_fields, coef_fields, limit_fields}
 use Rattle.minelib_text.specs.declared.model_key.Problem.{Problem}
 use Rattle.minelib_text.specs.declared.model_key.Problem.TheVariants.{Pcpsp, Cpit}

@@ -24,7 +24,8 @@ use Rattle.minelib_text.proofs.FieldSteps.{whole_reads}
 use Rattle.minelib_text.proofs.FormFields.{ArePlain, any_fits, any_reads, any_there, spelled_keyless, whole_low, whole_there}
 use Rattle.minelib_text.proofs.Keyless.{have_colon}
 use Rattle.minelib_text.proofs.PlainText.{IsField}
-use Rattle.minelib_text.specs.SpelledItems.{IsLimitLine, bound_form, bound_values, limit_form, limit_values}
+use Rattle.minelib_text.specs.SpelledItems.{IsLimitLine, bound_form, limit_form}
+use Rattle.minelib_text.specs.LineValues.{bound_values, limit_values}
 use Rattle.pit_units.proofs.Written.{whole_written}
 use Rattle.minelib_text.specs.Lines.{line_of}
 use Rattle.minelib_text.specs.Written.{limit_fields}

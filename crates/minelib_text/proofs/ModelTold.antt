@@ -24,7 +24,8 @@ use Rattle.minelib_text.specs.ModelDemands.{counted, asked_of_value, asked_of_ke
 use Rattle.minelib_text.specs.HeaderKeys.{count_in, is_given}
 use Rattle.minelib_text.specs.ModelLines.{ModelDraftView, counted_in, is_colon, is_heading, is_next, is_ready, is_behind, key_of, last_of, type_text, number_in, only_value, admit_key, values_of, coef_of, limit_of, admit_coef, admit_limit, admit_item, admit_model}
 use Rattle.minelib_text.specs.SpelledFields.{StatesWhole}
-use Rattle.minelib_text.specs.SpelledItems.{IsCoefLine, IsLimitLine, coef_form, limit_form, limit_values}
+use Rattle.minelib_text.specs.SpelledItems.{IsCoefLine, IsLimitLine, coef_form, limit_form}
+use Rattle.minelib_text.specs.LineValues.{limit_values}
 use Rattle.minelib_text.specs.TextLines.{fields_of}
 use Rattle.minelib_text.specs.declared.model_key.HeaderKey.{HeaderKey}
 use Rattle.minelib_text.specs.declared.model_key.HeaderKey.TheVariants as key

@@ -13,7 +13,8 @@ use Rattle.mine_instance.specs.Valid.{ArePredsOf}
 use Rattle.pit_units.proofs.Written.{whole_written}
 use Rattle.minelib_text.specs.LineKinds.{text_kind}
 use Rattle.minelib_text.specs.PrecLines.{stands_in, all_differ, preds_of, preds_said, preds_with, whole_of}
-use Rattle.minelib_text.specs.SpelledPrec.{IsPredsLine, SpellsPreds, asked_of_preds, preds_form, preds_values}
+use Rattle.minelib_text.specs.SpelledPrec.{IsPredsLine, SpellsPreds, asked_of_preds, preds_form}
+use Rattle.minelib_text.specs.LineValues.{preds_values}
 use Rattle.minelib_text.specs.Written.{prec_fields}
 use Rattle.minelib_text.specs.declared.text_fault.TextKind.{TextKind}
 use Rattle.minelib_text.specs.declared.text_fault.TextKind.TheVariants.{Order, Count, Twice}

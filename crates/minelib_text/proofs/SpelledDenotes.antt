@@ -17,7 +17,8 @@ use Rattle.minelib_text.specs.PrecLines.{preds_in}
 use Rattle.minelib_text.specs.Reading.{in_file}
 use Rattle.minelib_text.specs.SpelledModel.{AreModelLines}
 use Rattle.minelib_text.specs.SpelledTexts.{SpellInstance, SpellCpit}
-use Rattle.minelib_text.specs.StatedModel.{StatedModel, stated_by, model_of, alone, at_only_destination, model_of_cpit}
+use Rattle.minelib_text.specs.StatedModel.{StatedModel, stated_by, model_of, alone, model_of_cpit}
+use Rattle.minelib_text.specs.LineValues.{at_only_destination}
 use Rattle.minelib_text.specs.TextLines.{lines_in}
 use Rattle.minelib_text.specs.declared.model_key.HeaderKey.TheVariants as key
 use Rattle.minelib_text.specs.declared.model_key.Problem.TheVariants as problem

@@ -13,7 +13,8 @@ use Rattle.minelib_text.specs.BlockLines.{block_of, admit_block, blocks_in}
 use Rattle.minelib_text.specs.FirstBad.{IsFirstBad, LacksLines}
 use Rattle.minelib_text.specs.PrecLines.{PrecDraftView, no_lists, preds_of, admit_preds, finish_preds, preds_in}
 use Rattle.minelib_text.specs.Reading.{read_lines}
-use Rattle.minelib_text.specs.SpelledBlocks.{IsBlockLine, AreBlockLines, asked_of_block, block_form, block_values}
+use Rattle.minelib_text.specs.SpelledBlocks.{IsBlockLine, AreBlockLines, asked_of_block, block_form}
+use Rattle.minelib_text.specs.LineValues.{block_values}
 use Rattle.minelib_text.specs.SpelledPrec.{IsPredsLine, ArePredsLines, asked_of_preds}
 use Rattle.minelib_text.specs.TextLines.{fields_of, lines_in, end_of}
 use Rattle.minelib_text.specs.declared.text_fault.LineFault.{LineFault}

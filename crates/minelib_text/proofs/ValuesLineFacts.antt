@@ -24,7 +24,8 @@ use Rattle.minelib_text.proofs.FieldSteps.{whole_reads}
 use Rattle.minelib_text.proofs.Keyless.{have_colon}
 use Rattle.minelib_text.specs.Fields.{any}
 use Rattle.minelib_text.specs.ModelLines.{values_of, values_said}
-use Rattle.minelib_text.specs.SpelledItems.{IsValuesLine, values_form, values_values}
+use Rattle.minelib_text.specs.SpelledItems.{IsValuesLine, values_form}
+use Rattle.minelib_text.specs.LineValues.{values_values}
 use Rattle.minelib_text.specs.Written.{value_fields}
 use Rattle.minelib_text.proofs.FormFields.{ArePlain, any_fits, any_reads, any_there, spelled_keyless, whole_low, whole_there}
 

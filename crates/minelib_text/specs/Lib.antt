@@ -13,6 +13,7 @@ pub mod HeaderKeys
 pub mod Kept
 pub mod LineDemands
 pub mod LineKinds
+pub mod LineValues
 pub mod Lines
 pub mod Marks
 pub mod MemSinkView

@@ -1,7 +1,7 @@
 -- The lines of a block file: their form, the blocks that they spell, and what is asked of each.
-use Rattle.std.specs.Prelude.{ℕ, ◌*◌, List, [], ◌∷◌, ◌++◌, slice_index_or, pos}
+use Rattle.std.specs.Prelude.{ℕ, ◌*◌, List, [], ◌∷◌, ◌++◌, slice_index_or}
 use Rattle.forms.specs.Demands.{Demand, demand}
-use Rattle.forms.specs.Form.{Field, Value, Millionths, Says, Spell, asked, below, up_to, whole}
+use Rattle.forms.specs.Form.{Field, Says, Spell, asked, below, up_to, whole}
 use Rattle.pit_model.specs.declared.block.Block.{Block}
 use Rattle.minelib_text.specs.LineKinds.{text_kind}
 use Rattle.minelib_text.specs.SpelledLines.{AreLines}
@@ -9,18 +9,13 @@ use Rattle.minelib_text.specs.TextLines.{Line, fields_of}
 use Rattle.minelib_text.specs.declared.text_fault.TextKind.{TextKind}
 use Rattle.minelib_text.specs.declared.text_fault.TextKind.TheVariants.{Order}
 use Rattle.pit_model.specs.declared.ranges.TheConstants.{GRID_CELLS, MAX_BLOCKS, MAX_GRADE, MAX_KG, MAX_ZONES}
+use Rattle.minelib_text.specs.LineValues.{block_values}
 
 -- `id x y z tonnes grade zone`
 abbrev pub block_form : List Field
 block_form =
     below MAX_BLOCKS ∷ below GRID_CELLS ∷ below GRID_CELLS ∷ below GRID_CELLS
     ∷ up_to 3 (MAX_KG * 1000) ∷ up_to 6 MAX_GRADE ∷ below MAX_ZONES ∷ []
-
--- the values of the block of this identifier
-abbrev pub block_values : ℕ → Block → List Value
-block_values id b =
-    whole id ∷ whole b.x ∷ whole b.y ∷ whole b.z
-    ∷ Millionths (pos (b.kg * 1000)) ∷ Millionths (pos b.grade) ∷ whole b.zone ∷ []
 
 abbrev pub IsBlockLine : ℕ → List (List ℕ) → Block → Type 0
 IsBlockLine id fields b = Spell block_form fields (block_values id b)

@@ -2,21 +2,18 @@
 -- of each.
 use Rattle.std.specs.Prelude.{ℕ, List, [], ◌∷◌, ◌++◌, length, map, drop, slice_index_or}
 use Rattle.forms.specs.Demands.{Demand, demand}
-use Rattle.forms.specs.Form.{Field, Value, Says, Spell, asked, below, whole}
+use Rattle.forms.specs.Form.{Field, Says, Spell, asked, below, whole}
 use Rattle.mine_instance.specs.Valid.{ArePredsOf}
 use Rattle.minelib_text.specs.LineKinds.{text_kind}
 use Rattle.minelib_text.specs.SpelledLines.{AreLines}
 use Rattle.minelib_text.specs.TextLines.{Line, fields_of}
 use Rattle.minelib_text.specs.declared.text_fault.TextKind.{TextKind}
 use Rattle.minelib_text.specs.declared.text_fault.TextKind.TheVariants.{Order, Count, Twice}
+use Rattle.minelib_text.specs.LineValues.{preds_values}
 
 -- `id k p1 .. pk` of n blocks: two fields, and as many as stand behind them
 abbrev pub preds_form : ℕ → List (List ℕ) → List Field
 preds_form n fields = below n ∷ below n ∷ map (λ field. below n) (drop 2 fields)
-
--- the block's identifier, the number of its predecessors, and each of them
-abbrev pub preds_values : ℕ → List ℕ → List Value
-preds_values own ids = whole own ∷ whole (length ids) ∷ map whole ids
 
 abbrev pub SpellsPreds : ℕ → ℕ → List (List ℕ) → List ℕ → Type 0
 SpellsPreds n own fields ids = Spell (preds_form n fields) fields (preds_values own ids)

@@ -3,11 +3,11 @@ use Rattle.std.specs.Prelude.{ℕ, List, [], ◌∷◌, map, ℤ, pos}
 use Rattle.pit_model.specs.declared.limit.Limit.{Limit}
 use Rattle.mine_instance.specs.Cpit.{CpitParts}
 use Rattle.mine_instance.specs.declared.coef.Coef.{Coef}
-use Rattle.mine_instance.specs.declared.cpit.CpitCoef.{CpitCoef}
 use Rattle.mine_instance.specs.declared.instance.Instance.{Instance}
 use Rattle.minelib_text.specs.HeaderKeys.{count_in}
 use Rattle.minelib_text.specs.ModelLines.{ModelDraftView}
 use Rattle.minelib_text.specs.declared.model_key.HeaderKey.TheVariants as key
+use Rattle.minelib_text.specs.LineValues.{at_only_destination}
 
 pub record StatedModel : Type 0 where
   pub name : List ℕ
@@ -50,10 +50,6 @@ model_of i = record {
 -- a value as those of the only destination
 abbrev pub alone : ℤ → List ℤ
 alone v = v ∷ []
-
--- a coefficient as one of the only destination
-abbrev pub at_only_destination : CpitCoef → Coef
-at_only_destination c = record { b = c.b; d = 0; r = c.r; v = c.v }
 
 -- a CPIT as its model file states it: of one destination
 abbrev pub model_of_cpit : CpitParts → StatedModel

@@ -10,10 +10,7 @@ use Rattle.mine_instance.specs.declared.coef.Coef.{Coef}
 use Rattle.mine_instance.specs.declared.cpit.CpitCoef.{CpitCoef}
 use Rattle.mine_instance.specs.declared.instance.Instance.{Instance}
 use Rattle.minelib_text.specs.Lines.{text_of, line_of, lines_from}
-use Rattle.minelib_text.specs.SpelledBlocks.{block_values}
-use Rattle.minelib_text.specs.SpelledPrec.{preds_values}
-use Rattle.minelib_text.specs.SpelledItems.{coef_values, limit_values, values_values}
-use Rattle.minelib_text.specs.StatedModel.{at_only_destination}
+use Rattle.minelib_text.specs.LineValues.{block_values, preds_values, coef_values, limit_values, values_values, at_only_destination}
 use Rattle.minelib_text.specs.declared.model_key.Problem.{Problem}
 use Rattle.minelib_text.specs.declared.model_key.Problem.TheVariants.{Pcpsp, Cpit}
 

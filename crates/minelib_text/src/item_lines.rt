@@ -4,7 +4,7 @@ ghost use Rattle.std.specs.Prelude.{◌≡◌, ◌++◌, ◌∷◌, [], ◌*◌,
 ghost use Rattle.pit_units.specs.Decimal.{shortest};
 ghost use Rattle.minelib_text.specs.Lines.{line_of};
 ghost use Rattle.forms.specs.Form.{written};
-ghost use Rattle.minelib_text.specs.SpelledItems.{bound_values};
+ghost use Rattle.minelib_text.specs.LineValues.{bound_values};
 ghost use Rattle.minelib_text.specs.Written.{block_fields, limit_fields, cpit_value_fields};
 
 use crate::fields::{put_decimal_to, put_text, put_whole_to};
