@@ -50,9 +50,9 @@ said_again Cpit c of_it =
 coef_there : (problem : Problem) (n destinations resources : ℕ) (values : List Value) → Fit (coef_form problem n destinations resources) values
     → (values ≡ coef_values problem (coef_said problem values)) × HasDestination problem (coef_said problem values)
 coef_there Pcpsp n destinations resources (b ∷ d ∷ r ∷ v ∷ []) fit =
-    let of_b = whole_there n b fit.0 in
-    let of_d = whole_there destinations d fit.1.0 in
-    let of_r = whole_there resources r fit.1.1.0 in
+    let of_b = whole_there 0 _ b fit.0 in
+    let of_d = whole_there 0 _ d fit.1.0 in
+    let of_r = whole_there 0 _ r fit.1.1.0 in
     let of_v = any_there v fit.1.1.1.0 in
     ((λ i. of_b i ∷ of_d i ∷ of_r i ∷ of_v i ∷ []), tt)
 coef_there Pcpsp n destinations resources [] fit = absurd fit
@@ -61,8 +61,8 @@ coef_there Pcpsp n destinations resources (b ∷ d ∷ []) fit = absurd fit.1.1
 coef_there Pcpsp n destinations resources (b ∷ d ∷ r ∷ []) fit = absurd fit.1.1.1
 coef_there Pcpsp n destinations resources (b ∷ d ∷ r ∷ v ∷ x ∷ more) fit = absurd fit.1.1.1.1
 coef_there Cpit n destinations resources (b ∷ r ∷ v ∷ []) fit =
-    let of_b = whole_there n b fit.0 in
-    let of_r = whole_there resources r fit.1.0 in
+    let of_b = whole_there 0 _ b fit.0 in
+    let of_r = whole_there 0 _ r fit.1.0 in
     let of_v = any_there v fit.1.1.0 in
     ((λ i. of_b i ∷ of_r i ∷ of_v i ∷ []), refl)
 coef_there Cpit n destinations resources [] fit = absurd fit

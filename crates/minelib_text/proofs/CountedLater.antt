@@ -1,7 +1,6 @@
 -- A line of which all fields are read, and none is left, has as many fields as it has to have.
 use Rattle.std.specs.Prelude.{◌≡◌, ℕ, ◌*◌, ◌/◌, ◌==◌, nat_lt, not, false, List, [], ◌∷◌, length, pos, Ok, Err, if◌then◌else◌}
-use Rattle.std.proofs.Common.{refl, sym, ◌∙◌, ap, arith}
-use Rattle.std.proofs.lemmas.Bool.{le-ltb}
+use Rattle.std.proofs.Common.{refl, sym, ◌∙◌, ap, arith, le-ltb}
 use Rattle.std.proofs.lemmas.List.{length-map}
 use Rattle.forms.proofs.FormFacts.{counted, counted_later, fault_later}
 use Rattle.forms.proofs.NumberFields.{quotient}

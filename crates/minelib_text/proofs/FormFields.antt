@@ -37,13 +37,14 @@ pub any_there : (value : Value) → FitsField any value → value ≡ Millionths
 any_there (Millionths m) fits = refl
 any_there (Bytes word) fits = absurd fits
 
-pub whole_there : (limit : ℕ) (value : Value) → FitsField (below limit) value → value ≡ whole (unsigned_abs (millionths value) / 10 ^ 6)
-whole_there limit (Millionths (pos m)) fits =
+pub whole_there : (low : ℕ) (high : ℤ) (value : Value) → FitsField (Decimal 0 (pos low) high) value
+    → value ≡ whole (unsigned_abs (millionths value) / 10 ^ 6)
+whole_there low high (Millionths (pos m)) fits =
     let coarse : m % 10 ^ 6 ≡ 0 = fits.3 in
     let same : m ≡ m / 10 ^ 6 * 10 ^ 6 = omega arith in
     ap (λ k. Millionths (pos k)) same
-whole_there limit (Millionths (negsuc m)) fits = absurd (omega (arith, ints, fits.0))
-whole_there limit (Bytes word) fits = absurd fits
+whole_there low high (Millionths (negsuc m)) fits = absurd (omega (arith, ints, fits.0))
+whole_there low high (Bytes word) fits = absurd fits
 
 pub whole_low : (limit n : ℕ) → FitsField (below limit) (whole n) → n < limit
 whole_low limit n fits = omega (arith, ints, fits.1)

@@ -6,7 +6,8 @@ use Rattle.std.proofs.lemmas.List.Elements.{Contains-push, Contains-append_left}
 use Rattle.std.proofs.lemmas.List.Quantifiers.{all_pairs_push}
 use Rattle.minelib_text.specs.HeaderKeys.{is_complete, is_given, number_of, with_key}
 use Rattle.minelib_text.specs.ModelLines.{ModelDraftView, blank_header, name_with}
-use Rattle.minelib_text.specs.ModelSoFar.{SaysKey, IsNameOf, KeyLine, Heads}
+use Rattle.minelib_text.specs.KeyFields.{SaysKey}
+use Rattle.minelib_text.specs.ModelSoFar.{IsNameOf, KeyLine, Heads}
 use Rattle.minelib_text.specs.SpelledKeys.{IsKeyLine, StatesKey}
 use Rattle.minelib_text.specs.SpelledModel.{IsHeaderLine, AreHeaderLines}
 use Rattle.minelib_text.specs.StatedModel.{stated_by}
@@ -91,14 +92,11 @@ heads_more problem n k value name h number lines line says new is_key heads = re
 -- what a key says of a draft its model states
 model_stated : (problem : Problem) (n : ℕ) (k : HeaderKey) (value : List ℕ) (d : ModelDraftView) (number : ℕ) → SaysKey problem n k value number
     → number_of d.header k ≡ Some number → IsNameOf k value d.name → StatesKey problem n k value (stated_by d)
-model_stated problem n key.Name value d number s kept is = (is, s)
+model_stated problem n key.Name value d number s kept is = (sym is, s.1)
 model_stated problem n key.Type value d number s kept is = s
 model_stated problem n key.Blocks value d number s kept is = s
 model_stated problem n key.General value d number s kept is = s
-model_stated problem n key.Periods value d number s kept is = rw kept s
-model_stated problem n key.Destinations value d number s kept is = rw kept s
-model_stated problem n key.Resources value d number s kept is = rw kept s
-model_stated problem n key.Rate value d number s kept is = (number, rw kept refl, s)
+model_stated problem n k value d number s kept is = rw kept s
 
 -- the lines of a header that lacks no key
 pub heads_whole : (problem : Problem) (n : ℕ) (d : ModelDraftView) (lines : List Line) → is_complete d.header ≡ true

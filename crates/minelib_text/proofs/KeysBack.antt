@@ -1,5 +1,5 @@
 -- The key lines of a model file are read as they are written.
-use Rattle.std.proofs.Common.{◌≡◌, ℕ, ◌+◌, ◌^◌, ◌≤◌, true, false, List, [], ◌∷◌, ◌++◌, length, drop, ℤ, pos, negsuc, ◌≤ℤ◌, arith, refl, ◌∙◌, ap, sym, subst, eq-eqb, ne_eqb}
+use Rattle.std.proofs.Common.{◌≡◌, ℕ, ◌+◌, ◌^◌, ◌≤◌, true, false, List, [], ◌∷◌, ◌++◌, length, drop, ℤ, pos, negsuc, ◌≤ℤ◌, arith, refl, ◌∙◌, ap, sym, subst, eq-eqb}
 use Rattle.std.specs.Prelude.{unsigned_abs, decimal, Some, Ok, codes}
 use Rattle.std.specs.List.{list_all, list_any, position_or_len}
 use Rattle.std.proofs.lemmas.Bool.{and_parts, or_right}
@@ -12,9 +12,9 @@ use Rattle.mine_instance.specs.Valid.{IsHorizon}
 use Rattle.mine_instance.specs.declared.coef.Coef.{Coef}
 use Rattle.pit_model.specs.declared.limit.Limit.{Limit}
 use Rattle.pit_model.specs.declared.ranges.TheConstants.{MAX_BLOCKS, MAX_DESTINATIONS, MAX_PERIODS, MAX_RESOURCES}
-use Rattle.minelib_text.specs.FieldValues.{whole_in}
 use Rattle.minelib_text.specs.HeaderKeys.{is_given, with_key}
-use Rattle.minelib_text.specs.ModelLines.{ModelDraftView, is_colon, key_in, type_text, is_next, is_ready, number_in, name_with, admit_key, admit_model, blank_model}
+use Rattle.minelib_text.specs.KeyFields.{number_in, type_text}
+use Rattle.minelib_text.specs.ModelLines.{ModelDraftView, is_colon, key_in, is_next, is_ready, name_with, admit_key, admit_model, blank_model}
 use Rattle.minelib_text.specs.TextLines.{fields_of}
 use Rattle.minelib_text.specs.Written.{key_line, problem_keys, pcpsp_keys, cpit_keys}
 use Rattle.minelib_text.specs.declared.model_key.Header.{Header}
@@ -26,8 +26,11 @@ use Rattle.minelib_text.specs.declared.model_key.Problem.{Problem}
 use Rattle.minelib_text.specs.declared.model_key.Problem.TheVariants.{Pcpsp, Cpit}
 use Rattle.minelib_text.specs.declared.model_key.Section.{Section}
 use Rattle.minelib_text.specs.declared.model_key.Section.TheVariants.{Heading}
+use Rattle.forms.proofs.NumberFields.{quotient, size_fits, whole_fits}
+use Rattle.forms.specs.Form.{Millionths}
+use Rattle.minelib_text.proofs.KeyFacts.{count_again, counted_fits, key_again}
 use Rattle.minelib_text.proofs.LinesBack.{AdmitsAll, admits_both}
-use Rattle.minelib_text.proofs.NumbersBack.{decimal_field, whole_field, name_field, whole_again, size_again}
+use Rattle.minelib_text.proofs.NumbersBack.{decimal_field, whole_field, name_field}
 use Rattle.minelib_text.proofs.PlainText.{is_plain, is_inner, plain_inner, plain_no_colon, all_weaker, all_parts, first_read, IsField, IsLine, fields_again}
 
 -- a model line takes what was read before it to what was read with it
@@ -132,14 +135,16 @@ pub blocks_step : (p : Problem) (n : ℕ) (h : Header) (name : List ℕ) → n �
     → IsStep (heading p n name h) (key_line (codes "NBLOCKS:") (decimal n)) (heading p n name (with_key h key.Blocks 0))
 blocks_step p n h name few fresh =
     header_step p n name (codes "NBLOCKS") (decimal n) key.Blocks h 0 (word_field _ _ refl) (whole_field n (omega arith))
-    (in_all p _ _ refl refl) fresh (rw (whole_again (MAX_BLOCKS + 1) n (omega arith) (omega arith), eq-eqb n n refl) refl)
+    (in_all p _ _ refl refl) fresh
+    (count_again p n key.Blocks n 0 (whole_fits (MAX_BLOCKS + 1) n (omega arith) (omega arith)) (rw (quotient n, eq-eqb n n refl) refl))
 
 pub periods_step : (p : Problem) (n : ℕ) (h : Header) (name : List ℕ) (periods : ℕ) → (1 ≤ periods) × (periods ≤ 100)
     → is_given key.Periods h ≡ false
     → IsStep (heading p n name h) (key_line (codes "NPERIODS:") (decimal periods)) (heading p n name (with_key h key.Periods periods))
 periods_step p n h name periods within fresh =
     header_step p n name (codes "NPERIODS") (decimal periods) key.Periods h periods (word_field _ _ refl) (whole_field periods (omega arith))
-    (in_all p _ _ refl refl) fresh (rw (whole_again (MAX_PERIODS + 1) periods (omega arith) (omega arith), ne_eqb periods 0 (λ e. omega arith)) refl)
+    (in_all p _ _ refl refl) fresh
+    (count_again p n key.Periods periods periods (counted_fits 1 MAX_PERIODS periods within.0 within.1 (omega arith)) (ap Ok (quotient periods)))
 
 pub destinations_step : (n : ℕ) (h : Header) (name : List ℕ) (destinations : ℕ) → (1 ≤ destinations) × (destinations ≤ 8)
     → is_given key.Destinations h ≡ false → IsStep (heading Pcpsp n name h) (key_line (codes "NDESTINATIONS:") (decimal destinations))
@@ -147,24 +152,28 @@ pub destinations_step : (n : ℕ) (h : Header) (name : List ℕ) (destinations :
 destinations_step n h name destinations within fresh =
     header_step Pcpsp n name (codes "NDESTINATIONS") (decimal destinations) key.Destinations h destinations (word_field _ _ refl)
     (whole_field destinations (omega arith)) refl fresh
-    (rw (whole_again (MAX_DESTINATIONS + 1) destinations (omega arith) (omega arith), ne_eqb destinations 0 (λ e. omega arith)) refl)
+    (count_again Pcpsp n key.Destinations destinations destinations
+    (counted_fits 1 MAX_DESTINATIONS destinations within.0 within.1 (omega arith)) (ap Ok (quotient destinations)))
 
 pub resources_step : (p : Problem) (n : ℕ) (h : Header) (name : List ℕ) (resources : ℕ) → resources ≤ 8 → is_given key.Resources h ≡ false
     → IsStep (heading p n name h) (key_line (codes "NRESOURCE_SIDE_CONSTRAINTS:") (decimal resources))
     (heading p n name (with_key h key.Resources resources))
 resources_step p n h name resources few fresh =
     header_step p n name (codes "NRESOURCE_SIDE_CONSTRAINTS") (decimal resources) key.Resources h resources (word_field _ _ refl)
-    (whole_field resources (omega arith)) (in_all p _ _ refl refl) fresh (whole_again (MAX_RESOURCES + 1) resources (omega arith) (omega arith))
+    (whole_field resources (omega arith)) (in_all p _ _ refl refl) fresh
+    (count_again p n key.Resources resources resources (whole_fits (MAX_RESOURCES + 1) resources (omega arith) (omega arith)) (ap Ok (quotient resources)))
 
-zero_read : whole_in 1 (codes "0") ≡ Ok 0
-zero_read = subst (λ text. whole_in 1 text ≡ Ok 0) (decimal_digit 0 (omega arith)) (whole_again 1 0 (omega arith) (omega arith))
+zero_read : (n : ℕ) → number_in Pcpsp n key.General (codes "0") ≡ Ok 0
+zero_read n =
+    subst (λ text. number_in Pcpsp n key.General text ≡ Ok 0) (decimal_digit 0 (omega arith))
+    (count_again Pcpsp n key.General 0 0 (whole_fits 1 0 (omega arith) (omega arith)) refl)
 
 pub general_step : (n : ℕ) (h : Header) (name : List ℕ) → is_given key.General h ≡ false
     → IsStep (heading Pcpsp n name h) (key_line (codes "NGENERAL_SIDE_CONSTRAINTS:") (codes "0"))
     (heading Pcpsp n name (with_key h key.General 0))
 general_step n h name fresh =
     header_step Pcpsp n name (codes "NGENERAL_SIDE_CONSTRAINTS") (codes "0") key.General h 0 (word_field _ _ refl) (word_field _ _ refl) refl fresh
-    zero_read
+    (zero_read n)
 
 pub rate_step : (p : Problem) (n : ℕ) (h : Header) (name : List ℕ) (rate : ℤ) → (pos 0 ≤ℤ rate) × (rate ≤ℤ pos (10 ^ 6)) → is_given key.Rate h ≡ false
     → IsStep (heading p n name h) (key_line (codes "DISCOUNT_RATE:") (shortest rate))
@@ -173,7 +182,8 @@ rate_step p n h name (negsuc k) within fresh = absurd (omega (arith, ints))
 rate_step p n h name (pos k) within fresh =
     let most : k ≤ 10 ^ 6 = omega (arith, ints) in
     header_step p n name (codes "DISCOUNT_RATE") (shortest (pos k)) key.Rate h k (word_field _ _ refl) (decimal_field (pos k) (omega arith))
-    (in_all p _ _ refl refl) fresh (size_again 6 (10 ^ 6) k (omega arith) (omega arith) most (omega arith))
+    (in_all p _ _ refl refl) fresh
+    (key_again p n key.Rate (Millionths (pos k)) k (size_fits 6 (10 ^ 6) k most (omega arith) (omega arith)) refl)
 
 -- model lines take what was read before them to what was read with them
 pub record AreSteps (before : ModelDraftView) (lines : List (List ℕ)) (after : ModelDraftView) : Type 0 where

@@ -16,7 +16,7 @@ pub mod ItemLines
 pub mod ItemsBack
 pub mod ItemsKeyless
 pub mod KeepFacts
-pub mod KeySteps
+pub mod KeyFacts
 pub mod KeysBack
 pub mod LimitLineFacts
 pub mod LineFacts

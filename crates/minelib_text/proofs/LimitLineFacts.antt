@@ -82,8 +82,8 @@ shown r t bound = ap limit_values (sym (said_again r t bound))
 limit_there : (resources periods : ℕ) (interval : Bool) (values : List Value) → Fit (below resources ∷ below periods ∷ bound_form interval) values
     → Shows values
 limit_there resources periods true (r ∷ t ∷ Bytes word ∷ v ∷ w ∷ []) fit =
-    let is_r = whole_there resources r fit.0 in
-    let is_t = whole_there periods t fit.1.0 in
+    let is_r = whole_there 0 _ r fit.0 in
+    let is_t = whole_there 0 _ t fit.1.0 in
     let letter = the_letter word (codes "I") fit.1.1.0 in
     let is_v = any_there v fit.1.1.1.0 in
     let is_w = any_there w fit.1.1.1.1.0 in
@@ -92,10 +92,10 @@ limit_there resources periods true (r ∷ t ∷ Bytes word ∷ v ∷ w ∷ []) f
 limit_there resources periods false (r ∷ t ∷ Bytes word ∷ v ∷ []) fit = by (either word (codes "L") (codes "G") fit.1.1.0)
   where
     is_r : r ≡ whole (unsigned_abs (millionths r) / 10 ^ 6)
-    is_r = whole_there resources r fit.0
+    is_r = whole_there 0 _ r fit.0
 
     is_t : t ≡ whole (unsigned_abs (millionths t) / 10 ^ 6)
-    is_t = whole_there periods t fit.1.0
+    is_t = whole_there 0 _ t fit.1.0
 
     is_v : v ≡ Millionths (millionths v)
     is_v = any_there v fit.1.1.1.0

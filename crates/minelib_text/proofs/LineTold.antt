@@ -10,13 +10,13 @@ use Rattle.forms.proofs.DecimalFaults.{too_fine_decimal, out_of_range_fine, fine
 use Rattle.forms.proofs.DemandFacts.{Follows, behind, fails_before}
 use Rattle.forms.specs.Demands.{Demand}
 use Rattle.forms.specs.Steps.{◌>>=◌}
-use Rattle.minelib_text.specs.FieldValues.{stated, at_most, whole_below, size_in, whole_in, first_by}
-use Rattle.minelib_text.specs.LineDemands.{number, whole, size}
-use Rattle.minelib_text.specs.SpelledFields.{StatesWhole, StatesSize}
+use Rattle.minelib_text.specs.FieldValues.{stated, whole_below, whole_in, first_by}
+use Rattle.minelib_text.specs.LineDemands.{number, whole}
+use Rattle.minelib_text.specs.SpelledFields.{StatesWhole}
 use Rattle.minelib_text.specs.declared.text_fault.TextKind.{TextKind}
 use Rattle.minelib_text.specs.declared.text_fault.TextKind.TheVariants.{Range}
-use Rattle.minelib_text.proofs.ReadSteps.{size_in_ok, whole_in_ok}
-use Rattle.minelib_text.proofs.SpelledBack.{size_back, whole_back}
+use Rattle.minelib_text.proofs.ReadSteps.{whole_in_ok}
+use Rattle.minelib_text.proofs.SpelledBack.{whole_back}
 
 -- a decimal, and then a test of its range
 pub number_told : {B : Type 0} (decimals : ℕ) (field : List ℕ) (f : ℤ → Result B TextKind) (Says : B → Type 0) → decimals ≤ 6
@@ -49,21 +49,13 @@ number_told {B} decimals field f Says few ranged says back = by (decimal_of deci
         let fine = out_of_range_fine decimals field e in
         inr (fine_decimal decimals field fine, inr (fine, inl ((λ h. not_both (Err Range) h.0 Range (back h.0 h.1) refl), refl)))
 
-pub below_ranged : (limit : ℕ) (m : ℤ) (kind : TextKind) → whole_below limit m ≡ Err kind → kind ≡ Range
+below_ranged : (limit : ℕ) (m : ℤ) (kind : TextKind) → whole_below limit m ≡ Err kind → kind ≡ Range
 below_ranged limit (pos m) kind e = by (nat_lt (m / 10 ^ 6) limit) e
   where
     by : (t : Bool) → (if t then Ok (m / 10 ^ 6) else Err Range) ≡ Err kind → kind ≡ Range
     by true e = absurd cc
     by false e = cc
 below_ranged limit (negsuc m) kind e = cc
-
-most_ranged : (most : ℕ) (m : ℤ) (kind : TextKind) → at_most most m ≡ Err kind → kind ≡ Range
-most_ranged most (pos m) kind e = by (nat_lt most m) e
-  where
-    by : (t : Bool) → (if t then Err Range else Ok m) ≡ Err kind → kind ≡ Range
-    by true e = cc
-    by false e = absurd cc
-most_ranged most (negsuc m) kind e = cc
 
 whole_says : (limit : ℕ) (field : List ℕ) (n : ℕ) → (stated (decimal_of 0 field) >>= whole_below limit) ≡ Ok n → StatesWhole limit field n
 unfolding whole_in
@@ -78,23 +70,6 @@ unfolding whole_in
 whole_told limit field =
     number_told 0 field (whole_below limit) (StatesWhole limit field) (omega arith) (below_ranged limit) (whole_says limit field) (whole_is limit field)
 
-size_says : (decimals most : ℕ) (field : List ℕ) (m : ℕ) → decimals ≤ 6 → (stated (decimal_of decimals field) >>= at_most most) ≡ Ok m
-    → StatesSize decimals most field m
-unfolding size_in
-size_says decimals most field m few e = size_in_ok decimals most field m few e
-
-size_is : (decimals most : ℕ) (field : List ℕ) (m : ℕ) → decimals ≤ 6 → StatesSize decimals most field m
-    → (stated (decimal_of decimals field) >>= at_most most) ≡ Ok m
-unfolding size_in
-size_is decimals most field m few h = size_back decimals most field m few h
-
-pub size_told : (decimals most : ℕ) (field : List ℕ) → decimals ≤ 6
-    → Follows (size_in decimals most field) (size decimals most field) (StatesSize decimals most field)
-unfolding size_in
-size_told decimals most field few =
-    number_told decimals field (at_most most) (StatesSize decimals most field) few (most_ranged most)
-    (λ m e. size_says decimals most field m few e) (λ m h. size_is decimals most field m few h)
-
 -- a field, and then those behind it
 pub first_told : {A B : Type 0} (rule : List ℕ → Result A TextKind) (field : List ℕ) (rest : List (List ℕ))
     (next : A × List (List ℕ) → Result B TextKind) (ds es : List (Demand TextKind)) (P : A → Type 0) (Q : B → Type 0)
@@ -106,7 +81,7 @@ first_told {A} {B} rule field rest next ds es P Q here more = by (rule field) he
     by (Err kind) h = fails_before ds es kind h
 
 -- a text states one whole number
-pub one_whole : (limit : ℕ) (field : List ℕ) (m n : ℕ) → StatesWhole limit field m → StatesWhole limit field n → m ≡ n
+one_whole : (limit : ℕ) (field : List ℕ) (m n : ℕ) → StatesWhole limit field m → StatesWhole limit field n → m ≡ n
 one_whole limit field m n a b =
     let same : ◌≡◌ {A = Result ℕ TextKind} (Ok m) (Ok n) = sym (whole_back limit field m a) ∙ whole_back limit field n b in
     cc

@@ -9,8 +9,8 @@ use Rattle.pit_model.specs.declared.limit.Limit.{Limit}
 use Rattle.mine_instance.specs.Order.{comes_before}
 use Rattle.mine_instance.specs.declared.coef.Coef.{Coef}
 use Rattle.minelib_text.specs.HeaderKeys.{count_in, is_given, with_key}
-use Rattle.minelib_text.specs.ModelLines.{ModelDraftView, is_heading, is_next, is_ready, number_in, name_with, only_value, admit_key, key_of, values_of, coef_of, limit_of, last_of, is_behind, admit_item, is_colon, admit_model}
-use Rattle.minelib_text.specs.ModelSoFar.{SaysKey}
+use Rattle.minelib_text.specs.ModelLines.{ModelDraftView, is_heading, is_next, is_ready, name_with, only_value, admit_key, key_of, values_of, coef_of, limit_of, last_of, is_behind, admit_item, is_colon, admit_model}
+use Rattle.minelib_text.specs.KeyFields.{SaysKey, number_in}
 use Rattle.minelib_text.specs.SpelledItems.{IsValuesLine, IsCoefLine, IsLimitLine}
 use Rattle.minelib_text.specs.SpelledKeys.{IsKeyLine}
 use Rattle.minelib_text.specs.TextLines.{fields_of}
@@ -23,7 +23,7 @@ use Rattle.minelib_text.specs.declared.model_key.Section.TheVariants.{Heading, O
 use Rattle.minelib_text.specs.declared.text_fault.TextKind.TheVariants.{Fields, Order, Twice, Key, Missing}
 use Rattle.minelib_text.proofs.CoefLineFacts.{coef_line}
 use Rattle.minelib_text.proofs.LimitLineFacts.{limit_line}
-use Rattle.minelib_text.proofs.KeySteps.{key_says}
+use Rattle.minelib_text.proofs.KeyFacts.{key_says}
 use Rattle.minelib_text.proofs.ReadSteps.{bind_then, guard_then, then_ok, same_ok, counted}
 use Rattle.minelib_text.proofs.ValuesLineFacts.{values_line}
 

@@ -1,29 +1,25 @@
 -- The fault of a line of a model file is the first thing asked of it that does not hold.
-use Rattle.std.specs.Prelude.{◌≡◌, ℕ, ◌+◌, ◌^◌, ◌≤◌, ◌==◌, ◌||◌, not, Bool, true, false, List, [], ◌∷◌, ◌++◌, length, Option, Some, None, Result, Ok, Err, if◌then◌else◌}
+use Rattle.std.specs.Prelude.{◌≡◌, ℕ, ◌+◌, ◌^◌, ◌==◌, ◌||◌, not, Bool, true, false, List, [], ◌∷◌, ◌++◌, length, Option, Some, None, Result, Ok, Err, if◌then◌else◌, ◌/◌, unsigned_abs}
 use Rattle.std.specs.List.{list_any, before_first, after_first}
-use Rattle.std.specs.Str.{bytes_eq}
-use Rattle.std.proofs.Common.{refl, sym, ◌∙◌, ap, subst, arith, inl, eq-eqb}
+use Rattle.std.proofs.Common.{refl, ◌∙◌, ap, subst, arith, inl, eq-eqb}
 use Rattle.std.proofs.lemmas.Bool.{eqb-true, or_parts, not-false}
-use Rattle.std.proofs.lemmas.Slice.Eq.{bytes_eq-Decides}
-use Rattle.pit_units.specs.Decimal.{decimal_of}
-use Rattle.forms.proofs.DemandFacts.{Follows, behind, bound, guarded}
+use Rattle.forms.proofs.DemandFacts.{Follows, behind, bound, guarded, mapped as mapped_to}
 use Rattle.forms.specs.Demands.{Demand, demand}
-use Rattle.forms.specs.Form.{Spell, asked}
+use Rattle.forms.specs.Form.{Spell, asked, Field, Says, asked_of_field, millionths, read_field, whole as whole_value}
+use Rattle.forms.proofs.NumberFields.{one_whole}
 use Rattle.forms.specs.Steps.{◌>>=◌}
 use Rattle.minelib_text.specs.LineKinds.{text_kind}
-use Rattle.pit_model.specs.Name.{is_name}
 use Rattle.pit_model.specs.Plan.{stands_before}
 use Rattle.pit_model.specs.Plan.{is_turned}
 use Rattle.pit_model.specs.declared.limit.Limit.{Limit}
-use Rattle.pit_model.specs.declared.ranges.TheConstants.{MAX_BLOCKS, MAX_DESTINATIONS, MAX_PERIODS, MAX_RESOURCES}
+use Rattle.pit_model.specs.declared.ranges.TheConstants.{MAX_BLOCKS}
 use Rattle.mine_instance.specs.Order.{comes_before}
 use Rattle.mine_instance.specs.declared.coef.Coef.{Coef}
-use Rattle.minelib_text.specs.FieldValues.{stated, whole_below, whole_in}
-use Rattle.minelib_text.specs.LineDemands.{whole, size, field_at}
-use Rattle.minelib_text.specs.ModelDemands.{counted, asked_of_value, asked_of_key, asked_of_values, asked_of_coef, asked_of_limit, asked_of_item, asked_by, asked_of_model}
+use Rattle.minelib_text.specs.LineDemands.{field_at}
+use Rattle.minelib_text.specs.ModelDemands.{asked_of_value, asked_of_key, asked_of_values, asked_of_coef, asked_of_limit, asked_of_item, asked_by, asked_of_model}
 use Rattle.minelib_text.specs.HeaderKeys.{count_in, is_given}
-use Rattle.minelib_text.specs.ModelLines.{ModelDraftView, counted_in, is_colon, is_heading, is_next, is_ready, is_behind, key_of, last_of, type_text, number_in, only_value, admit_key, values_of, coef_of, limit_of, admit_coef, admit_limit, admit_item, admit_model}
-use Rattle.minelib_text.specs.SpelledFields.{StatesWhole}
+use Rattle.minelib_text.specs.ModelLines.{ModelDraftView, is_colon, is_heading, is_next, is_ready, is_behind, key_of, last_of, only_value, admit_key, values_of, coef_of, limit_of, admit_coef, admit_limit, admit_item, admit_model}
+use Rattle.minelib_text.specs.KeyFields.{field_of, millionths_in, number_in, number_said}
 use Rattle.minelib_text.specs.SpelledItems.{IsCoefLine, IsLimitLine, coef_form, limit_form}
 use Rattle.minelib_text.specs.LineValues.{limit_values}
 use Rattle.minelib_text.specs.TextLines.{fields_of}
@@ -36,11 +32,9 @@ use Rattle.minelib_text.specs.declared.model_key.Section.TheVariants.{Heading, O
 use Rattle.minelib_text.specs.declared.text_fault.TextKind.{TextKind}
 use Rattle.minelib_text.specs.declared.text_fault.TextKind.TheVariants as fault
 use Rattle.minelib_text.proofs.CoefLineFacts.{coef_back, coef_told}
-use Rattle.minelib_text.proofs.KeySteps.{counted_ok}
-use Rattle.minelib_text.proofs.LineTold.{number_told, below_ranged, whole_told, size_told, one_whole}
-use Rattle.minelib_text.proofs.SpelledModelBack.{counted_back}
 use Rattle.minelib_text.proofs.ValuesLineFacts.{values_told}
 use Rattle.minelib_text.proofs.LimitLineFacts.{limit_told, one_limit}
+use Rattle.minelib_text.proofs.KeyFacts.{key_told as key_field_told, whole_said}
 
 -- an answer changed
 mapped : {A B : Type 0} (r : Result A TextKind) (g : A → B) (ds : List (Demand TextKind)) (P : A → Type 0) → Follows r ds P
@@ -54,55 +48,23 @@ passed : {B : Type 0} (t : Bool) (kind : TextKind) (met : Type 0) (x : B) → (t
 passed true kind met x holds fails = ((holds refl, tt), tt)
 passed false kind met x holds fails = inl (fails refl, refl)
 
-bind_twice : {A B C F : Type 0} (r : Result A F) (f : A → Result B F) (g : B → Result C F) → (r >>= λ x. f x >>= g) ≡ ((r >>= f) >>= g)
-bind_twice (Ok x) f g = refl
-bind_twice (Err kind) f g = refl
-
-some_ranged : (limit : ℕ) (r : Result ℕ TextKind) (kind : TextKind) → ((k : TextKind) → r ≡ Err k → k ≡ fault.Range)
-    → (r >>= λ n. if n == 0 then Err fault.Range else Ok n) ≡ Err kind → kind ≡ fault.Range
-some_ranged limit (Ok n) kind ranged e = by (n == 0) e
-  where
-    by : (t : Bool) → (if t then Err fault.Range else Ok n) ≡ Err kind → kind ≡ fault.Range
-    by true e = cc
-    by false e = absurd cc
-some_ranged limit (Err k) kind ranged e = cc (ranged k refl)
-
-counted_told : (limit : ℕ) (field : List ℕ)
-    → Follows (counted_in limit field) (counted limit field) (λ n. StatesWhole limit field n × (1 ≤ n))
-unfolding whole_in
-counted_told limit field =
-    subst (λ r. Follows r (counted limit field) (λ n. StatesWhole limit field n × (1 ≤ n))) same
-    (number_told 0 field (λ m. whole_below limit m >>= λ n. if n == 0 then Err fault.Range else Ok n)
-    (λ n. StatesWhole limit field n × (1 ≤ n)) (omega arith)
-    (λ m kind e. some_ranged limit (whole_below limit m) kind (below_ranged limit m) e)
-    (λ n e. counted_ok limit field n (sym same ∙ e))
-    (λ n h. same ∙ counted_back limit field n h.0 h.1))
-  where
-    same : (stated (decimal_of 0 field) >>= λ m. whole_below limit m >>= λ n. if n == 0 then Err fault.Range else Ok n) ≡ counted_in limit field
-    same = bind_twice (stated (decimal_of 0 field)) (whole_below limit) (λ n. if n == 0 then Err fault.Range else Ok n)
-
--- what a step shows is not told
-untold : {A : Type 0} (r : Result A TextKind) (ds : List (Demand TextKind)) (P : A → Type 0) → Follows r ds P → Follows r ds (λ x. Unit {0})
-untold (Ok x) ds P h = (h.0, tt)
-untold (Err kind) ds P h = h
-
 value_told : (d : ModelDraftView) (k : HeaderKey) (value : List ℕ)
     → Follows (number_in d.problem d.blocks k value) (asked_of_value d k value) (λ number. Unit {0})
-value_told d key.Name value = passed (is_name value) fault.Name (is_name value ≡ true) 0 (λ t. t) (λ t h. absurd cc)
-value_told d key.Type value =
-    passed (bytes_eq value (type_text d.problem)) fault.Name (value ≡ type_text d.problem) 0
-    (λ t. (bytes_eq-Decides value (type_text d.problem)).0 t)
-    (λ t h. (let is = (bytes_eq-Decides value (type_text d.problem)).1 h in absurd cc))
 value_told d key.Blocks value =
-    bound (whole_in (MAX_BLOCKS + 1) value) _ (whole (MAX_BLOCKS + 1) value) _ (StatesWhole (MAX_BLOCKS + 1) value) (λ h. Unit {0}) (whole_told (MAX_BLOCKS + 1) value) (λ n is.
-    passed (n == d.blocks) fault.Count (StatesWhole (MAX_BLOCKS + 1) value d.blocks) 0
-    (λ t. subst (StatesWhole (MAX_BLOCKS + 1) value) (eqb-true n d.blocks t) is)
-    (λ t h. (let same : (n == d.blocks) ≡ true = eq-eqb n d.blocks (one_whole (MAX_BLOCKS + 1) value n d.blocks is h) in absurd cc)))
-value_told d key.Periods value = untold _ (counted (MAX_PERIODS + 1) value) _ (counted_told (MAX_PERIODS + 1) value)
-value_told d key.Destinations value = untold _ (counted (MAX_DESTINATIONS + 1) value) _ (counted_told (MAX_DESTINATIONS + 1) value)
-value_told d key.Resources value = untold _ (whole (MAX_RESOURCES + 1) value) _ (whole_told (MAX_RESOURCES + 1) value)
-value_told d key.General value = untold _ (whole 1 value) _ (whole_told 1 value)
-value_told d key.Rate value = untold _ (size 6 (10 ^ 6) value) _ (size_told 6 (10 ^ 6) value (omega arith))
+    bound (millionths_in blocks value) (number_said d.blocks key.Blocks) (asked_of_field text_kind blocks value) _
+    (λ m. Says blocks value (whole_value (m / 10 ^ 6))) (λ h. Unit {0})
+    (mapped_to (read_field text_kind blocks value) (λ stated. unsigned_abs (millionths stated)) (asked_of_field text_kind blocks value) (Says blocks value) _
+    (key_field_told d.problem key.Blocks value) (λ stated says. whole_said 0 _ value stated says)) (λ m said.
+    passed (m / 10 ^ 6 == d.blocks) fault.Count (Says blocks value (whole_value d.blocks)) 0
+    (λ t. subst (λ n. Says blocks value (whole_value n)) (eqb-true (m / 10 ^ 6) d.blocks t) said)
+    (λ t h. (let same : (m / 10 ^ 6 == d.blocks) ≡ true =
+    eq-eqb (m / 10 ^ 6) d.blocks (one_whole (MAX_BLOCKS + 1) value (m / 10 ^ 6) d.blocks said h) in absurd cc)))
+  where
+    blocks : Field
+    blocks = field_of d.problem key.Blocks
+value_told d k value =
+    mapped _ _ (asked_of_field text_kind (field_of d.problem k) value) (λ m. Unit {0})
+    (mapped _ _ (asked_of_field text_kind (field_of d.problem k) value) (Says (field_of d.problem k) value) (key_field_told d.problem k value))
 
 -- the one value of a header key
 only_told : {B : Type 0} (d : ModelDraftView) (k : HeaderKey) (values : List (List ℕ)) (next : List ℕ → ℕ → B)

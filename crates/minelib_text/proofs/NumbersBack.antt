@@ -1,16 +1,16 @@
 -- Written numbers and NAMEs are fields, and are read as what they are.
-use Rattle.std.proofs.Common.{◌≡◌, ℕ, ◌*◌, ◌/◌, ◌%◌, ◌^◌, ◌-◌, ◌<◌, ◌≤◌, true, List, [], ◌∷◌, ◌++◌, map, length, ℤ, pos, negsuc, ◌≤ℤ◌, arith, refl, ap, sym, append_assoc, append-nil, subst}
+use Rattle.std.proofs.Common.{◌≡◌, ℕ, ◌*◌, ◌/◌, ◌^◌, ◌<◌, ◌≤◌, true, List, [], ◌∷◌, ◌++◌, map, length, ℤ, pos, negsuc, ◌≤ℤ◌, arith, refl, ap, sym, append_assoc, append-nil, subst}
 use Rattle.std.specs.Prelude.{unsigned_abs, decimal, nat_le, ◌&&◌, Result, Ok, All}
 use Rattle.std.specs.List.{list_all}
-use Rattle.std.proofs.lemmas.Bool.{and_parts, leb-true, lt-ltb, le-ltb}
+use Rattle.std.proofs.lemmas.Bool.{and_parts, leb-true, lt-ltb}
 use Rattle.std.proofs.lemmas.Bool.Decides.{nat_tests}
 use Rattle.std.proofs.lemmas.Int.{ints}
 use Rattle.std.proofs.lemmas.List.Elements.{All-head, All-tail}
 use Rattle.std.proofs.lemmas.List.Sums.{list_all-from_AllPass}
 use Rattle.pit_model.specs.Name.{is_name, is_name_byte}
-use Rattle.pit_units.proofs.Written.{shortest_read, shortest_plain, whole_read, whole_written}
+use Rattle.pit_units.proofs.Written.{shortest_plain, whole_read, whole_written}
 use Rattle.pit_units.specs.Decimal.{shortest, IsPlainByte}
-use Rattle.minelib_text.specs.FieldValues.{all_by, size_in, whole_in}
+use Rattle.minelib_text.specs.FieldValues.{all_by, whole_in}
 use Rattle.minelib_text.specs.Kept.{IsDecimal}
 use Rattle.minelib_text.specs.declared.text_fault.TextKind.{TextKind}
 use Rattle.minelib_text.proofs.PlainText.{is_plain, all_weaker, IsField, EachField}
@@ -45,12 +45,6 @@ unfolding whole_in
 whole_again limit k below small =
     let same : k * 10 ^ 6 / 10 ^ 6 ≡ k = omega arith in
     rw (whole_read k (omega arith), same, lt-ltb k limit below) refl
-
-pub size_again : (decimals most n : ℕ) → decimals ≤ 6 → n % 10 ^ (6 - decimals) ≡ 0 → n ≤ most → most ≤ 10 ^ 24
-    → size_in decimals most (shortest (pos n)) ≡ Ok n
-unfolding size_in
-size_again decimals most n few coarse within small =
-    rw (shortest_read decimals (pos n) few (omega arith) coarse, le-ltb most n within) refl
 
 -- texts of items are fields where each is
 pub map_fields : {A : Type 0} (P : A → Type 0) (text : A → List ℕ) → ((x : A) → P x → IsField (text x)) → (xs : List A) → All P xs

@@ -1,11 +1,11 @@
 -- What a step of reading shows where it found no fault, and what is kept from line to line.
-use Rattle.std.specs.Prelude.{◌≡◌, ℕ, ◌<◌, ◌≤◌, ◌*◌, ◌/◌, ◌%◌, ◌^◌, ◌==◌, nat_lt, Bool, true, false, not, List, [], ◌∷◌, ◌++◌, length, ℤ, pos, negsuc, Result, Ok, Err, if◌then◌else◌}
+use Rattle.std.specs.Prelude.{◌≡◌, ℕ, ◌<◌, ◌*◌, ◌/◌, ◌%◌, ◌^◌, ◌==◌, nat_lt, Bool, true, false, not, List, [], ◌∷◌, ◌++◌, length, ℤ, pos, negsuc, Result, Ok, Err, if◌then◌else◌}
 use Rattle.std.specs.List.{AllZip}
 use Rattle.std.proofs.Common.{refl, sym, ◌∙◌, ap, subst, arith, append-nil, append_assoc}
 use Rattle.std.proofs.lemmas.Bool.{eqb-true, not-false}
 use Rattle.std.proofs.lemmas.Bool.Decides.{nat_tests}
 use Rattle.forms.specs.Steps.{◌>>=◌}
-use Rattle.minelib_text.specs.FieldValues.{at_most, whole_below, stated, size_in, whole_in, first_by, all_by}
+use Rattle.minelib_text.specs.FieldValues.{whole_below, stated, whole_in, first_by, all_by}
 use Rattle.minelib_text.specs.Reading.{at_line, read_lines, in_file}
 use Rattle.minelib_text.specs.TextLines.{Line}
 use Rattle.minelib_text.specs.declared.text_fault.LineFault.{LineFault}
@@ -16,7 +16,7 @@ use Rattle.pit_units.proofs.Multiples.{stands_multiple}
 use Rattle.pit_units.proofs.Standing.{read_stands}
 use Rattle.pit_units.specs.Decimal.{StandsFor, decimal_of}
 use Rattle.pit_units.specs.declared.fault.DecFault.{DecFault}
-use Rattle.minelib_text.specs.SpelledFields.{StatesWhole, StatesSize}
+use Rattle.minelib_text.specs.SpelledFields.{StatesWhole}
 
 -- a step behind another one; the part is told what both found, since a `let` would write them out at each place
 pub bind_ok : {A B F : Type 0} (r : Result A F) (next : A → Result B F) (y : B) → (r >>= next) ≡ Ok y → (x : A) × (r ≡ Ok x) × (next x ≡ Ok y)
@@ -77,13 +77,6 @@ pub kept_by_lines : {S : Type 0} (Keeps : S → Type 0) (admit : S → List ℕ 
 kept_by_lines Keeps admit step s lines last e kept =
     kept_with_lines (λ _ s. Keeps s) admit (λ done s line next says kept. step s line.text next says kept) [] s lines last e kept
 
-pub at_most_ok : (most : ℕ) (z : ℤ) (m : ℕ) → at_most most z ≡ Ok m → (z ≡ pos m) × (m ≤ most)
-at_most_ok most (pos k) m e =
-    let g = guard_ok (nat_lt most k) Range (Ok k) m e in
-    let same : k ≡ m = same_ok k m g.1 in
-    (ap pos same, grind (arith, nat_tests))
-at_most_ok most (negsuc k) m e = absurd cc
-
 pub whole_below_ok : (limit : ℕ) (z : ℤ) (n : ℕ) → whole_below limit z ≡ Ok n → (m : ℕ) × (z ≡ pos m) × (m / 10 ^ 6 ≡ n) × (n < limit)
 whole_below_ok limit (pos k) n e =
     let g = then_ok (nat_lt (k / 10 ^ 6) limit) Range (Ok (k / 10 ^ 6)) n e in
@@ -94,16 +87,6 @@ whole_below_ok limit (negsuc k) n e = absurd cc
 stated_ok : (r : Result ℤ DecFault) (z : ℤ) → stated r ≡ Ok z → r ≡ Ok z
 stated_ok (Ok y) z e = cc
 stated_ok (Err fault) z e = absurd cc
-
-pub size_in_ok : (decimals most : ℕ) (field : List ℕ) (m : ℕ) → decimals ≤ 6 → size_in decimals most field ≡ Ok m → StatesSize decimals most field m
-unfolding size_in
-size_in_ok decimals most field m few e =
-    let b = bind_ok (stated (decimal_of decimals field)) (at_most most) m e in
-    let p = at_most_ok most b.0 m b.2 in
-    record {
-      stands = subst (StandsFor decimals field) p.0 (read_stands decimals field b.0 few (stated_ok (decimal_of decimals field) b.0 b.1));
-      at_most = p.1;
-    }
 
 pub whole_in_ok : (limit : ℕ) (field : List ℕ) (n : ℕ) → whole_in limit field ≡ Ok n → StatesWhole limit field n
 unfolding whole_in

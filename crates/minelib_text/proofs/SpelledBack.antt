@@ -1,11 +1,11 @@
 -- Fields that state a number are read as it, and lines that are admitted one after the other.
-use Rattle.std.specs.Prelude.{◌≡◌, ℕ, ◌*◌, ◌/◌, ◌^◌, ◌≤◌, List, ◌∷◌, pos, Result, Ok}
-use Rattle.std.proofs.Common.{refl, ap, arith, lt-ltb, le-ltb}
+use Rattle.std.specs.Prelude.{◌≡◌, ℕ, ◌*◌, ◌/◌, ◌^◌, List, ◌∷◌, pos, Result, Ok}
+use Rattle.std.proofs.Common.{refl, ap, arith, lt-ltb}
 use Rattle.pit_units.proofs.Standing.{stands_read}
 use Rattle.forms.specs.Steps.{◌>>=◌}
-use Rattle.minelib_text.specs.FieldValues.{whole_in, size_in}
+use Rattle.minelib_text.specs.FieldValues.{whole_in}
 use Rattle.minelib_text.specs.Reading.{at_line, read_lines}
-use Rattle.minelib_text.specs.SpelledFields.{StatesWhole, StatesSize}
+use Rattle.minelib_text.specs.SpelledFields.{StatesWhole}
 use Rattle.minelib_text.specs.TextLines.{Line}
 use Rattle.minelib_text.specs.declared.text_fault.TextKind.{TextKind}
 
@@ -14,10 +14,6 @@ unfolding whole_in
 whole_back limit field n h =
     let same : n * 10 ^ 6 / 10 ^ 6 ≡ n = omega arith in
     rw (stands_read 0 field (pos (n * 10 ^ 6)) (omega arith) h.stands, same, lt-ltb n limit h.below) refl
-
-pub size_back : (decimals most : ℕ) (field : List ℕ) (m : ℕ) → decimals ≤ 6 → StatesSize decimals most field m → size_in decimals most field ≡ Ok m
-unfolding size_in
-size_back decimals most field m few h = rw (stands_read decimals field (pos m) few h.stands, le-ltb most m h.at_most) refl
 
 -- a line that is admitted, and then the others
 pub next_line : {S : Type 0} (admit : S → List ℕ → Result S TextKind) (s next : S) (line : Line) (lines : List Line) → admit s line.text ≡ Ok next

@@ -1,23 +1,22 @@
 -- Lines that spell a model are read as it.
-use Rattle.std.specs.Prelude.{◌≡◌, ◌≢◌, ℕ, suc, ◌+◌, ◌^◌, ◌≤◌, Bool, true, false, not, List, [], ◌∷◌, ◌++◌, length, ℤ, pos, unsigned_abs, Option, Some, None, is_some, Ok, AllPairs, IsTrue, if◌then◌else◌, codes}
+use Rattle.std.specs.Prelude.{◌≡◌, ◌≢◌, ℕ, suc, ◌+◌, Bool, true, false, not, List, [], ◌∷◌, ◌++◌, length, ℤ, pos, unsigned_abs, Option, Some, None, is_some, Ok, AllPairs, IsTrue, if◌then◌else◌, codes}
 use Rattle.std.specs.List.{Contains, before_first}
 use Rattle.std.specs.Str.{bytes_eq}
-use Rattle.std.proofs.Common.{refl, sym, ◌∙◌, ap, subst, arith, inl, inr, append_assoc, append-nil, length-append, eq-eqb, ne_eqb}
+use Rattle.std.proofs.Common.{refl, sym, ◌∙◌, ap, subst, arith, inl, inr, append_assoc, append-nil, length-append, eq-eqb}
 use Rattle.std.proofs.lemmas.Bool.{cases_Bool}
-use Rattle.std.proofs.lemmas.Slice.Eq.{bytes_eq-Decides}
+use Rattle.forms.specs.Form.{millionths}
 use Rattle.forms.specs.Steps.{◌>>=◌}
 use Rattle.pit_model.specs.Plan.{stands_before}
 use Rattle.pit_model.specs.declared.limit.Limit.{Limit}
-use Rattle.pit_model.specs.declared.ranges.TheConstants.{MAX_BLOCKS, MAX_DESTINATIONS, MAX_PERIODS, MAX_RESOURCES}
 use Rattle.mine_instance.specs.Order.{comes_before}
 use Rattle.mine_instance.specs.declared.coef.Coef.{Coef}
 use Rattle.minelib_text.specs.HeaderKeys.{number_of, with_key, count_in, is_given}
-use Rattle.minelib_text.specs.ModelLines.{ModelDraftView, blank_header, blank_model, shared_key, key_of, is_next, is_ready, counted_in, number_in, name_with, type_text, admit_key, admit_item, is_colon, admit_model, finish_model, model_in}
+use Rattle.minelib_text.specs.KeyFields.{number_in, number_said}
+use Rattle.minelib_text.specs.ModelLines.{ModelDraftView, blank_header, blank_model, shared_key, key_of, is_next, is_ready, name_with, admit_key, admit_item, is_colon, admit_model, finish_model, model_in}
 use Rattle.minelib_text.specs.ModelSoFar.{IsNameOf}
 use Rattle.minelib_text.specs.Reading.{at_line, read_lines}
-use Rattle.minelib_text.specs.SpelledFields.{StatesWhole}
 use Rattle.minelib_text.specs.SpelledItems.{IsValuesLine, IsCoefLine, IsLimitLine}
-use Rattle.minelib_text.specs.SpelledKeys.{IsKeyLine, StatesKey}
+use Rattle.minelib_text.specs.SpelledKeys.{IsKeyLine, StatesKey, value_of}
 use Rattle.minelib_text.specs.SpelledLines.{AreLines}
 use Rattle.minelib_text.specs.SpelledModel.{has_key, IsSingle, IsHeaderLine, AreHeaderLines, AreModelLines}
 use Rattle.minelib_text.specs.StatedModel.{StatedModel, stated_by}
@@ -34,11 +33,14 @@ use Rattle.minelib_text.specs.declared.model_key.Section.TheVariants.{Heading, O
 use Rattle.minelib_text.proofs.HeaderFacts.{IsWhole, contains_cases, each_with, first_given, of_keys, same_header, whole_blank, whole_with, with_same}
 use Rattle.minelib_text.proofs.HeaderLines.{name_stands}
 use Rattle.minelib_text.proofs.ItemLines.{items_keep}
+use Rattle.forms.proofs.NumberFields.{quotient}
+use Rattle.minelib_text.proofs.KeyFacts.{key_read}
 use Rattle.minelib_text.proofs.KeysBack.{draft, heading, full_header}
 use Rattle.minelib_text.proofs.Keyless.{have_colon, keyless}
+use Rattle.minelib_text.proofs.NumbersBack.{from_zero}
 use Rattle.minelib_text.proofs.Places.{behind_last}
 use Rattle.minelib_text.proofs.ReadSteps.{bind_then, same_ok}
-use Rattle.minelib_text.proofs.SpelledBack.{whole_back, size_back, next_line}
+use Rattle.minelib_text.proofs.SpelledBack.{next_line}
 use Rattle.minelib_text.proofs.CoefLineFacts.{coef_back, coef_keyless}
 use Rattle.minelib_text.proofs.LimitLineFacts.{limit_back, limit_keyless}
 use Rattle.minelib_text.proofs.ValuesLineFacts.{values_back, values_keyless}
@@ -58,24 +60,21 @@ Has m k name h = (number_of h k ≡ number_of (full m) k) × IsNameOf k m.name n
 abbrev within : Problem → ℕ → StatedModel → Section → List (List ℤ) → List Coef → List Limit → ModelDraftView
 within problem n m section values coefs limits = draft problem n m.name (full m) section values coefs limits
 
-pub counted_back : (limit : ℕ) (field : List ℕ) (n : ℕ) → StatesWhole limit field n → 1 ≤ n → counted_in limit field ≡ Ok n
-counted_back limit field n h some = rw (whole_back limit field n h, ne_eqb n 0 (λ e. omega arith)) refl
-
 -- the number that the key's line states
 key_back : (problem : Problem) (n : ℕ) (m : StatedModel) (k : HeaderKey) (value : List ℕ) → StatesKey problem n k value m
     → number_in problem n k value ≡ Ok (count_in (full m) k)
-key_back problem n m key.Name value s = rw (s.1) refl
-key_back problem n m key.Type value s = rw ((bytes_eq-Decides value (type_text problem)).1 s) refl
-key_back problem n m key.Blocks value s = rw (whole_back (MAX_BLOCKS + 1) value n s, eq-eqb n n refl) refl
-key_back problem n m key.Periods value s = counted_back (MAX_PERIODS + 1) value m.periods s.0 s.1
-key_back problem n m key.Destinations value s = counted_back (MAX_DESTINATIONS + 1) value m.destinations s.0 s.1
-key_back problem n m key.Resources value s = whole_back (MAX_RESOURCES + 1) value m.resources s
-key_back problem n m key.General value s = whole_back 1 value 0 s
-key_back problem n m key.Rate value (rate, is, s) = rw is (size_back 6 (10 ^ 6) value rate (omega arith) s)
+key_back problem n m k value s = key_read problem n k value (value_of problem n m k) (count_in (full m) k) s (said k)
+  where
+    said : (k : HeaderKey) → number_said n k (unsigned_abs (millionths (value_of problem n m k))) ≡ Ok (count_in (full m) k)
+    said key.Blocks = rw (quotient n, eq-eqb n n refl) refl
+    said key.Periods = ap Ok (quotient m.periods)
+    said key.Destinations = ap Ok (quotient m.destinations)
+    said key.Resources = ap Ok (quotient m.resources)
+    said k = refl
 
 name_back : (problem : Problem) (n : ℕ) (m : StatedModel) (k : HeaderKey) (value name : List ℕ) → StatesKey problem n k value m
     → name_with k value name ≡ name_with k m.name name
-name_back problem n m key.Name value name s = sym s.0
+name_back problem n m key.Name value name s = s.0
 name_back problem n m k value name s = refl
 
 -- a key line is that of its key
@@ -299,8 +298,7 @@ module _ (problem : Problem) (n : ℕ) (m : StatedModel) where
 rate_line : (problem : Problem) (n : ℕ) (m : StatedModel) (line : List ℕ) (k : HeaderKey) → IsHeaderLine problem n m line k → k ≡ key.Rate
     → pos (unsigned_abs m.rate) ≡ m.rate
 rate_line problem n m line k h is =
-    let stated = (subst (λ k. IsHeaderLine problem n m line k) is h).states in
-    rw (stated.1) refl
+    from_zero m.rate (subst (λ k. IsHeaderLine problem n m line k) is h).states.1
 
 has_rate : (problem : Problem) → has_key problem key.Rate ≡ true
 has_rate Pcpsp = refl

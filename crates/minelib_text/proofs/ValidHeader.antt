@@ -1,10 +1,12 @@
 -- What the header keys of a model file keep of the NAME and the header.
 use Rattle.std.specs.Prelude.{◌≡◌, ℕ, ◌≤◌, ◌^◌, true, false, not, List, [], Option, is_some, IfSome}
 use Rattle.std.proofs.Common.{refl, ◌∙◌, ap, arith}
+use Rattle.std.proofs.lemmas.Int.{ints}
 use Rattle.pit_model.specs.Name.{is_name}
 use Rattle.minelib_text.specs.HeaderKeys.{count_in, is_given, number_of, with_key}
 use Rattle.minelib_text.specs.ModelLines.{blank_header, name_with}
-use Rattle.minelib_text.specs.ModelSoFar.{SaysKey, HasOwn}
+use Rattle.minelib_text.specs.KeyFields.{SaysKey}
+use Rattle.minelib_text.specs.ModelSoFar.{HasOwn}
 use Rattle.minelib_text.specs.SpelledModel.{has_key}
 use Rattle.minelib_text.specs.declared.model_key.Header.{Header}
 use Rattle.minelib_text.specs.declared.model_key.HeaderKey.{HeaderKey}
@@ -16,13 +18,11 @@ use Rattle.minelib_text.proofs.HeaderFacts.{each_with, first_given}
 -- the number of a key is in range, and a NAME is one
 abbrev pub IsInRange : HeaderKey → List ℕ → ℕ → Type 0
 IsInRange key.Name name n = is_name name ≡ true
-IsInRange key.Type name n = Unit {0}
-IsInRange key.Blocks name n = Unit {0}
 IsInRange key.Periods name n = (1 ≤ n) × (n ≤ 100)
 IsInRange key.Destinations name n = (1 ≤ n) × (n ≤ 8)
 IsInRange key.Resources name n = n ≤ 8
-IsInRange key.General name n = Unit {0}
 IsInRange key.Rate name n = n ≤ 10 ^ 6
+IsInRange k name n = Unit {0}
 
 -- what has no key in the files of a problem is as before the first
 abbrev pub KeepsOwn : Problem → Header → Type 0
@@ -50,14 +50,12 @@ blank_kept problem = record { in_range = of_blank problem; own = λ k none. refl
 
 says_range : (problem : Problem) (n : ℕ) (k : HeaderKey) (value name : List ℕ) (number : ℕ) → SaysKey problem n k value number
     → IsInRange k (name_with k value name) number
-says_range problem n key.Name value name number s = s
-says_range problem n key.Type value name number s = tt
-says_range problem n key.Blocks value name number s = tt
-says_range problem n key.Periods value name number s = let below = s.0.below in (s.1, omega arith)
-says_range problem n key.Destinations value name number s = let below = s.0.below in (s.1, omega arith)
-says_range problem n key.Resources value name number s = let below = s.below in omega arith
-says_range problem n key.General value name number s = tt
-says_range problem n key.Rate value name number s = s.at_most
+says_range problem n key.Name value name number s = s.1
+says_range problem n key.Periods value name number s = (omega (arith, ints, s.1), omega (arith, ints, s.2))
+says_range problem n key.Destinations value name number s = (omega (arith, ints, s.1), omega (arith, ints, s.2))
+says_range problem n key.Resources value name number s = omega (arith, ints, s.2)
+says_range problem n key.Rate value name number s = omega (arith, ints, s.2)
+says_range problem n k value name number s = tt
 
 -- another key leaves the NAME
 still_in_range : (k j : HeaderKey) (value name : List ℕ) (found : Option ℕ) → (k ≡ j → ⊥) → IfSome found (IsInRange j name)

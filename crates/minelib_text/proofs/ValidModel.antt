@@ -9,9 +9,9 @@ use Rattle.mine_instance.specs.Valid.{AreCoefs, AreLimits}
 use Rattle.mine_instance.specs.declared.coef.Coef.{Coef}
 use Rattle.minelib_text.specs.HeaderKeys.{count_in, with_key}
 use Rattle.minelib_text.specs.ModelLines.{ModelDraftView, blank_header, blank_model, is_heading, admit_model}
-use Rattle.minelib_text.specs.ModelSoFar.{SaysKey}
 use Rattle.minelib_text.specs.SpelledItems.{IsCoefLine, coef_form}
 use Rattle.minelib_text.specs.LineValues.{coef_values}
+use Rattle.minelib_text.specs.KeyFields.{SaysKey}
 use Rattle.minelib_text.specs.declared.model_key.Header.{Header}
 use Rattle.minelib_text.specs.declared.model_key.HeaderKey.TheVariants as key
 use Rattle.minelib_text.specs.declared.model_key.Problem.{Problem}

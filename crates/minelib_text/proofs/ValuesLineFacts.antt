@@ -91,7 +91,7 @@ values_told n destinations before fields =
     of_them [] spell fit says = absurd fit
     of_them (value ∷ values) spell fit says =
         let block : ℕ = unsigned_abs (millionths value) / 10 ^ 6 in
-        let is : value ≡ whole block = whole_there n value fit.0 in
+        let is : value ≡ whole block = whole_there 0 _ value fit.0 in
         let more = many_there destinations values fit.1 in
         let here : Says (below n) first (whole block) = subst (Says (below n) first) is says in
         last_guarded (not (block == before)) Order (Says (below n) first (whole before)) (map millionths values) (IsValuesLine n destinations before fields)

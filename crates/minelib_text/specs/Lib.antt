@@ -11,6 +11,7 @@ pub mod FileSinkView
 pub mod FirstBad
 pub mod HeaderKeys
 pub mod Kept
+pub mod KeyFields
 pub mod LineDemands
 pub mod LineKinds
 pub mod LineValues

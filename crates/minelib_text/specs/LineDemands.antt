@@ -3,7 +3,7 @@
 use Rattle.std.specs.Prelude.{ℕ, List, [], ◌++◌, slice_index_or}
 use Rattle.forms.specs.Demands.{Demand, demand}
 use Rattle.forms.specs.Decimals.{IsDecimal, IsFine}
-use Rattle.minelib_text.specs.SpelledFields.{StatesWhole, StatesSize}
+use Rattle.minelib_text.specs.SpelledFields.{StatesWhole}
 use Rattle.minelib_text.specs.declared.text_fault.TextKind.{TextKind}
 use Rattle.minelib_text.specs.declared.text_fault.TextKind.TheVariants.{Number, TooFine, Range}
 
@@ -15,10 +15,6 @@ number decimals field within = demand Number (IsDecimal field)
 -- a whole number below a limit
 abbrev pub whole : ℕ → List ℕ → List (Demand TextKind)
 whole limit field = number 0 field ((n : ℕ) × StatesWhole limit field n)
-
--- so many millionths, from 0 to the most, with so many decimals
-abbrev pub size : ℕ → ℕ → List ℕ → List (Demand TextKind)
-size decimals most field = number decimals field ((m : ℕ) × StatesSize decimals most field m)
 
 -- a field by its place, from 0
 abbrev pub field_at : List (List ℕ) → ℕ → List ℕ

@@ -1,21 +1,19 @@
 -- What is asked of a line of a model file behind those so far, in the order in which it is looked
 -- at, with the kind of fault where it is not so: the table of kinds, in its own words.
-use Rattle.std.specs.Prelude.{◌≡◌, ℕ, ◌+◌, ◌^◌, ◌≤◌, Bool, true, false, List, [], ◌∷◌, ◌++◌, length, Option, Some, None}
+use Rattle.std.specs.Prelude.{◌≡◌, ℕ, Bool, true, false, List, [], ◌∷◌, ◌++◌, length, Option, Some, None}
 use Rattle.std.specs.List.{list_any, before_first, after_first}
 use Rattle.forms.specs.Demands.{Demand, demand, FailsFirst}
-use Rattle.forms.specs.Form.{Says, asked, below, whole as whole_value}
-use Rattle.pit_model.specs.Name.{is_name}
+use Rattle.forms.specs.Form.{Says, asked, below, whole as whole_value, asked_of_field}
 use Rattle.pit_model.specs.Plan.{stands_before}
 use Rattle.pit_model.specs.declared.limit.Limit.{Limit}
-use Rattle.pit_model.specs.declared.ranges.TheConstants.{MAX_BLOCKS, MAX_DESTINATIONS, MAX_PERIODS, MAX_RESOURCES}
 use Rattle.mine_instance.specs.Order.{comes_before}
 use Rattle.mine_instance.specs.declared.coef.Coef.{Coef}
-use Rattle.minelib_text.specs.LineDemands.{number, whole, size, field_at}
+use Rattle.minelib_text.specs.LineDemands.{field_at}
+use Rattle.minelib_text.specs.KeyFields.{field_of}
 use Rattle.minelib_text.specs.LineKinds.{text_kind}
 use Rattle.minelib_text.specs.HeaderKeys.{count_in, is_given}
-use Rattle.minelib_text.specs.ModelLines.{ModelDraftView, is_colon, is_heading, is_next, is_ready, is_behind, key_of, last_of, type_text}
+use Rattle.minelib_text.specs.ModelLines.{ModelDraftView, is_colon, is_heading, is_next, is_ready, is_behind, key_of, last_of}
 use Rattle.minelib_text.specs.ModelSoFar.{SpellSoFar}
-use Rattle.minelib_text.specs.SpelledFields.{StatesWhole}
 use Rattle.minelib_text.specs.SpelledItems.{coef_form, limit_form, values_form, IsCoefLine, IsLimitLine}
 use Rattle.minelib_text.specs.TextLines.{Line, fields_of}
 use Rattle.minelib_text.specs.declared.model_key.HeaderKey.{HeaderKey}
@@ -29,21 +27,11 @@ use Rattle.minelib_text.specs.declared.text_fault.LineFault.{LineFault}
 use Rattle.minelib_text.specs.declared.text_fault.TextKind.{TextKind}
 use Rattle.minelib_text.specs.declared.text_fault.TextKind.TheVariants as fault
 
--- a whole number from 1, below a limit
-abbrev pub counted : ℕ → List ℕ → List (Demand TextKind)
-counted limit field = number 0 field ((n : ℕ) × (StatesWhole limit field n × (1 ≤ n)))
-
 -- the value of a header key
 abbrev pub asked_of_value : ModelDraftView → HeaderKey → List ℕ → List (Demand TextKind)
-asked_of_value d key.Name value = demand fault.Name (is_name value ≡ true)
-asked_of_value d key.Type value = demand fault.Name (value ≡ type_text d.problem)
-asked_of_value d key.Blocks value = whole (MAX_BLOCKS + 1) value
-    ++ demand fault.Count (StatesWhole (MAX_BLOCKS + 1) value d.blocks)
-asked_of_value d key.Periods value = counted (MAX_PERIODS + 1) value
-asked_of_value d key.Destinations value = counted (MAX_DESTINATIONS + 1) value
-asked_of_value d key.Resources value = whole (MAX_RESOURCES + 1) value
-asked_of_value d key.General value = whole 1 value
-asked_of_value d key.Rate value = size 6 (10 ^ 6) value
+asked_of_value d key.Blocks text = asked_of_field text_kind (field_of d.problem key.Blocks) text
+    ++ demand fault.Count (Says (field_of d.problem key.Blocks) text (whole_value d.blocks))
+asked_of_value d k text = asked_of_field text_kind (field_of d.problem k) text
 
 -- a key line, by its key: of the header, before the first section and once; of the next section,
 -- where all before it stands

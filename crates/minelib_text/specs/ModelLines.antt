@@ -1,19 +1,17 @@
 -- What a model file states: the production scheduling problem, or the constrained pit limit problem.
-use Rattle.std.specs.Prelude.{ℕ, ◌+◌, ◌-◌, ◌==◌, ◌&&◌, ◌||◌, ◌^◌, not, Bool, true, false, List, [], ◌∷◌, ◌++◌, drop, length, map, ℤ, Option, Some, None, slice_get, slice_index_or, Result, Ok, Err, if◌then◌else◌, codes}
+use Rattle.std.specs.Prelude.{ℕ, ◌-◌, ◌==◌, ◌&&◌, ◌||◌, not, Bool, true, false, List, [], ◌∷◌, ◌++◌, drop, length, map, ℤ, Option, Some, None, slice_get, slice_index_or, Result, Ok, Err, if◌then◌else◌, codes}
 use Rattle.std.specs.List.{list_any, before_first, after_first}
 use Rattle.std.specs.Str.{bytes_eq}
 use Rattle.forms.specs.Form.{Value, Bytes, Millionths, millionths, number_at, read, whole_at}
 use Rattle.forms.specs.Steps.{◌>>=◌}
-use Rattle.pit_model.specs.Name.{is_name}
 use Rattle.pit_model.specs.Plan.{is_turned, stands_before}
 use Rattle.pit_model.specs.declared.limit.Bound.{Bound}
 use Rattle.pit_model.specs.declared.limit.Bound.TheVariants.{AtMost, AtLeast, Between}
 use Rattle.pit_model.specs.declared.limit.Limit.{Limit}
-use Rattle.pit_model.specs.declared.ranges.TheConstants.{MAX_BLOCKS, MAX_DESTINATIONS, MAX_PERIODS, MAX_RESOURCES}
 use Rattle.mine_instance.specs.Order.{comes_before}
 use Rattle.mine_instance.specs.declared.coef.Coef.{Coef}
-use Rattle.minelib_text.specs.FieldValues.{size_in, whole_in}
 use Rattle.minelib_text.specs.HeaderKeys.{no_key, with_key, count_in, is_given, is_complete}
+use Rattle.minelib_text.specs.KeyFields.{number_in}
 use Rattle.minelib_text.specs.LineKinds.{text_kind}
 use Rattle.minelib_text.specs.Reading.{read_lines}
 use Rattle.minelib_text.specs.SpelledItems.{coef_form, limit_form, values_form}
@@ -29,7 +27,7 @@ use Rattle.minelib_text.specs.declared.model_key.Section.{Section}
 use Rattle.minelib_text.specs.declared.model_key.Section.TheVariants.{Heading, Objective, Coefs, Limits}
 use Rattle.minelib_text.specs.declared.text_fault.LineFault.{LineFault}
 use Rattle.minelib_text.specs.declared.text_fault.TextKind.{TextKind}
-use Rattle.minelib_text.specs.declared.text_fault.TextKind.TheVariants.{Fields, Range, Order, Count, Twice, Key, Missing, Name}
+use Rattle.minelib_text.specs.declared.text_fault.TextKind.TheVariants.{Fields, Order, Twice, Key, Missing}
 
 -- what the lines so far state, of so many blocks
 pub record ModelDraftView : Type 0 where
@@ -60,11 +58,6 @@ blank_model problem n = record {
   coefs = [];
   limits = [];
 }
-
--- how a TYPE names the problem
-abbrev pub type_text : Problem → List ℕ
-type_text Pcpsp = codes "PCPSP"
-type_text Cpit = codes "CPIT"
 
 -- the keys of all problems
 abbrev pub shared_key : List ℕ → Option ModelKey
@@ -121,21 +114,6 @@ is_next Coefs Heading = false
 is_next Coefs Objective = false
 is_next Coefs Coefs = false
 is_next Limits section = false
-
--- a number that is not 0, below a limit
-abbrev pub counted_in : ℕ → List ℕ → Result ℕ TextKind
-counted_in limit field = whole_in limit field >>= λ n. if n == 0 then Err Range else Ok n
-
--- the number that a header key with this value states, of n blocks: 0 where it states no more than that it stands
-abbrev pub number_in : Problem → ℕ → HeaderKey → List ℕ → Result ℕ TextKind
-number_in problem n key.Name field = if is_name field then Ok 0 else Err Name
-number_in problem n key.Type field = if bytes_eq field (type_text problem) then Ok 0 else Err Name
-number_in problem n key.Blocks field = whole_in (MAX_BLOCKS + 1) field >>= λ blocks. if blocks == n then Ok 0 else Err Count
-number_in problem n key.Periods field = counted_in (MAX_PERIODS + 1) field
-number_in problem n key.Destinations field = counted_in (MAX_DESTINATIONS + 1) field
-number_in problem n key.Resources field = whole_in (MAX_RESOURCES + 1) field
-number_in problem n key.General field = whole_in 1 field
-number_in problem n key.Rate field = size_in 6 (10 ^ 6) field
 
 -- the NAME after a header key with this value
 abbrev pub name_with : HeaderKey → List ℕ → List ℕ → List ℕ

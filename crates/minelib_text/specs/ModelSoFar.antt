@@ -1,14 +1,12 @@
 -- How lines spell what a model file states so far: in its header, and in each section behind the
 -- line that begins it.
-use Rattle.std.specs.Prelude.{◌≡◌, ◌≢◌, ℕ, ◌+◌, ◌≤◌, ◌^◌, true, List, [], ◌∷◌, ◌++◌, ℤ, Some, AllPairs}
+use Rattle.std.specs.Prelude.{◌≡◌, ◌≢◌, ℕ, true, List, [], ◌∷◌, ◌++◌, ℤ, Some, AllPairs}
 use Rattle.std.specs.List.{Contains}
-use Rattle.pit_model.specs.Name.{is_name}
 use Rattle.pit_model.specs.declared.limit.Limit.{Limit}
-use Rattle.pit_model.specs.declared.ranges.TheConstants.{MAX_BLOCKS, MAX_DESTINATIONS, MAX_PERIODS, MAX_RESOURCES}
 use Rattle.mine_instance.specs.declared.coef.Coef.{Coef}
 use Rattle.minelib_text.specs.HeaderKeys.{count_in, is_given, number_of}
-use Rattle.minelib_text.specs.ModelLines.{ModelDraftView, type_text}
-use Rattle.minelib_text.specs.SpelledFields.{StatesWhole, StatesSize}
+use Rattle.minelib_text.specs.KeyFields.{SaysKey}
+use Rattle.minelib_text.specs.ModelLines.{ModelDraftView}
 use Rattle.minelib_text.specs.SpelledItems.{IsValuesLine, IsCoefLine, IsLimitLine}
 use Rattle.minelib_text.specs.SpelledKeys.{IsKeyLine}
 use Rattle.minelib_text.specs.SpelledLines.{AreLines}
@@ -22,17 +20,6 @@ use Rattle.minelib_text.specs.declared.model_key.Problem.{Problem}
 use Rattle.minelib_text.specs.declared.model_key.Problem.TheVariants.{Pcpsp, Cpit}
 use Rattle.minelib_text.specs.declared.model_key.Section.{Section}
 use Rattle.minelib_text.specs.declared.model_key.Section.TheVariants.{Heading, Objective, Coefs, Limits}
-
--- a header key with this value states this number, of n blocks
-abbrev pub SaysKey : Problem → ℕ → HeaderKey → List ℕ → ℕ → Type 0
-SaysKey problem n key.Name value number = is_name value ≡ true
-SaysKey problem n key.Type value number = value ≡ type_text problem
-SaysKey problem n key.Blocks value number = StatesWhole (MAX_BLOCKS + 1) value n
-SaysKey problem n key.Periods value number = StatesWhole (MAX_PERIODS + 1) value number × (1 ≤ number)
-SaysKey problem n key.Destinations value number = StatesWhole (MAX_DESTINATIONS + 1) value number × (1 ≤ number)
-SaysKey problem n key.Resources value number = StatesWhole (MAX_RESOURCES + 1) value number
-SaysKey problem n key.General value number = StatesWhole 1 value 0
-SaysKey problem n key.Rate value number = StatesSize 6 (10 ^ 6) value number
 
 -- the NAME is the value of its key
 abbrev pub IsNameOf : HeaderKey → List ℕ → List ℕ → Type 0

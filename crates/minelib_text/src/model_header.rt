@@ -1,15 +1,20 @@
 //! The header of a model file that is read.
 
-ghost use Rattle.std.specs.Prelude.{◌≡◌, ◌<◌, if◌then◌else◌, Ok, Err, true, IfOk};
-ghost use Rattle.minelib_text.specs.ModelLines.{blank_header, counted_in, number_in, type_text};
+ghost use Rattle.std.specs.Prelude.{◌≡◌, ◌<◌, ◌≤◌, pos, true, IfOk};
+ghost use Rattle.forms.specs.Form.{Decimal};
+ghost use Rattle.minelib_text.specs.KeyFields.{millionths_in, number_in, type_text};
+ghost use Rattle.minelib_text.specs.ModelLines.{blank_header};
 ghost use Rattle.minelib_text.specs.ModelParts.{is_name_for, number_limit};
 
-use crate::field_values::{size_in, whole_in};
 use crate::model_key::{Header, HeaderKey, Problem};
 use crate::model_keys::is_word;
 use crate::text_fault::TextKind;
 use pit_model::name::is_name;
 use pit_model::ranges::{MAX_BLOCKS, MAX_DESTINATIONS, MAX_PERIODS, MAX_RATE, MAX_RESOURCES};
+use pit_units::parse_dec;
+
+// The millionths of 1.
+const WHOLE: u64 = 1_000_000;
 
 /// The header before its first key.
 pub fn blank_header(problem: Problem) -> Header
@@ -37,25 +42,42 @@ pub fn number_in(
     ensures below { IfOk result (λ n. n < number_limit key) }
 {
     match key {
-        HeaderKey::Name => stands_if(is_name(value), TextKind::Name),
-        HeaderKey::Type => stands_if(is_word(value, type_text(problem)), TextKind::Name),
+        HeaderKey::Name if is_name(value) => Ok(0),
+        HeaderKey::Type if is_word(value, type_text(problem)) => Ok(0),
+        HeaderKey::Name | HeaderKey::Type => Err(TextKind::Name),
         HeaderKey::Blocks => {
-            let stated = whole_in(value, MAX_BLOCKS as u64 + 1)?;
-            stands_if(stated == blocks as u64, TextKind::Count)
+            let stated = millionths_in(value, 0, 0, (MAX_BLOCKS as u64 + 1) * WHOLE - 1)? / WHOLE;
+            if stated != blocks as u64 {
+                return Err(TextKind::Count);
+            }
+            Ok(0)
         }
-        HeaderKey::Periods => counted_in(value, u64::from(MAX_PERIODS) + 1),
-        HeaderKey::Destinations => counted_in(value, u64::from(MAX_DESTINATIONS) + 1),
-        HeaderKey::Resources => whole_in(value, u64::from(MAX_RESOURCES) + 1),
-        HeaderKey::General => whole_in(value, 1),
-        HeaderKey::Rate => size_in(value, 6, MAX_RATE as u64),
+        HeaderKey::Periods => {
+            Ok(millionths_in(value, 0, WHOLE, u64::from(MAX_PERIODS) * WHOLE)? / WHOLE)
+        }
+        HeaderKey::Destinations => {
+            Ok(millionths_in(value, 0, WHOLE, u64::from(MAX_DESTINATIONS) * WHOLE)? / WHOLE)
+        }
+        HeaderKey::Resources => {
+            Ok(millionths_in(value, 0, 0, (u64::from(MAX_RESOURCES) + 1) * WHOLE - 1)? / WHOLE)
+        }
+        HeaderKey::General => Ok(millionths_in(value, 0, 0, WHOLE - 1)? / WHOLE),
+        HeaderKey::Rate => millionths_in(value, 6, 0, MAX_RATE as u64),
     }
 }
 
-// The number of a key whose value only has to pass a test.
-fn stands_if(passes: bool, kind: TextKind) -> Result<u64, TextKind>
-    ensures { result ≡ (if passes then Ok 0 else Err kind) }
+// The millionths that a field states with at most so many decimals, from `low` to `high`.
+fn millionths_in(field: &[u8], decimals: u8, low: u64, high: u64) -> Result<u64, TextKind>
+    requires { decimals ≤ 6 }
+    ensures value { result ≡ millionths_in (Decimal decimals (pos low) (pos high)) field.now }
+    ensures in_range { IfOk result (λ m. m ≤ high) }
 {
-    if passes { Ok(0) } else { Err(kind) }
+    let millionths = parse_dec(field, decimals)?.millionths();
+    if i128::from(low) <= millionths && millionths <= i128::from(high) {
+        Ok(millionths as u64)
+    } else {
+        Err(TextKind::Range)
+    }
 }
 
 // How a TYPE names the problem.
@@ -66,16 +88,4 @@ fn type_text(problem: Problem) -> &'static [u8]
         Problem::Pcpsp => b"PCPSP",
         Problem::Cpit => b"CPIT",
     }
-}
-
-// A number that is not 0, below a limit.
-fn counted_in(field: &[u8], limit: u64) -> Result<u64, TextKind>
-    ensures value { result ≡ counted_in limit field.now }
-    ensures below { IfOk result (λ n. n < limit) }
-{
-    let n = whole_in(field, limit)?;
-    if n == 0 {
-        return Err(TextKind::Range);
-    }
-    Ok(n)
 }
