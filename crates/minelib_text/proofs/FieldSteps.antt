@@ -20,9 +20,6 @@ use Rattle.minelib_text.specs.declared.text_fault.TextKind.TheVariants.{Fields, 
 whole_tests : (limit m : ℕ) → m % 10 ^ 6 ≡ 0 → (int_le (pos 0) (pos m) && int_le (pos m) (pos (limit * 10 ^ 6) +ℤ negsuc 0)) ≡ nat_lt (m / 10 ^ 6) limit
 whole_tests limit m whole = grind (arith, ints, nat_tests)
 
-negative_test : (k : ℕ) (high : ℤ) → (int_le (pos 0) (negsuc k) && int_le (negsuc k) high) ≡ false
-negative_test k high = refl
-
 size_tests : (most m : ℕ) → (int_le (pos 0) (pos m) && int_le (pos m) (pos most)) ≡ not (nat_lt most m)
 size_tests most m = grind (arith, ints, nat_tests)
 

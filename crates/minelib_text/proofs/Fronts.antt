@@ -1,6 +1,6 @@
 -- What writing on does to a sink and a buffer, and what a sink holds that was cut short.
-use Rattle.std.proofs.Common.{◌≡◌, ℕ, ◌+◌, ◌<◌, List, [], ◌∷◌, ◌++◌, length, take, drop, get_or, subst, Option, Some, None, refl, sym, ◌∙◌, ap, append_assoc, append-nil, inl, inr, arith}
-use Rattle.std.proofs.lemmas.List.{drop_more, take-append-drop}
+use Rattle.std.proofs.Common.{◌≡◌, ℕ, ◌+◌, List, [], ◌∷◌, ◌++◌, take, drop, subst, Option, Some, None, refl, sym, ◌∙◌, ap, append_assoc, append-nil, inl, inr, arith}
+use Rattle.std.proofs.lemmas.List.{take-append-drop}
 use Rattle.std.proofs.Math.Seq.{take-add}
 use Rattle.minelib_text.specs.Device.{added, holding}
 use Rattle.minelib_text.specs.Lines.{text_of}
@@ -75,10 +75,6 @@ text_of-append (x ∷ xs) ys = ap (λ rest. (x ++ 10 ∷ []) ++ rest) (text_of-a
 -- one line behind the others
 text_of-line : (lines : List (List ℕ)) (line : List ℕ) → text_of (lines ++ line ∷ []) ≡ text_of lines ++ (line ++ 10 ∷ [])
 text_of-line lines line = text_of-append lines (line ∷ []) ∙ ap (λ last. text_of lines ++ last) (append-nil (line ++ 10 ∷ []))
-
--- the first of the rest
-pub text_of-one : (lines : List (List ℕ)) (i : ℕ) → i < length lines → text_of (take 1 (drop i lines)) ≡ get_or lines i [] ++ 10 ∷ []
-text_of-one lines i h = rw (drop_more lines i [] h) (append-nil (get_or lines i [] ++ 10 ∷ []))
 
 -- lines were cut short, and more were to come
 pub lines_cut_before : {n : ℕ} {before : List ℕ} {old new : SinkState} (xs ys : List (List ℕ))

@@ -1,16 +1,15 @@
 -- The fault of a number of a line is the first thing asked of it that does not hold.
-use Rattle.std.specs.Prelude.{◌≡◌, ℕ, ◌/◌, ◌^◌, ◌≤◌, ◌==◌, nat_lt, not, Bool, true, false, List, ◌∷◌, ◌++◌, ℤ, pos, negsuc, Result, Ok, Err, if◌then◌else◌}
-use Rattle.std.proofs.Common.{refl, sym, ◌∙◌, subst, arith, inl, inr, eq-eqb}
+use Rattle.std.specs.Prelude.{◌≡◌, ℕ, ◌/◌, ◌^◌, ◌≤◌, ◌==◌, nat_lt, not, Bool, true, false, List, ℤ, pos, negsuc, Result, Ok, Err, if◌then◌else◌}
+use Rattle.std.proofs.Common.{refl, sym, ◌∙◌, subst, arith, inl, inr}
 use Rattle.std.proofs.lemmas.Bool.{eqb-true, not-false}
 use Rattle.pit_units.proofs.Standing.{read_stands, spelled_number, spelled_too_fine}
 use Rattle.pit_units.specs.Decimal.{StandsFor, decimal_of}
 use Rattle.pit_units.specs.declared.fault.DecFault.{DecFault}
 use Rattle.pit_units.specs.declared.fault.DecFault.TheVariants as dec
 use Rattle.forms.proofs.DecimalFaults.{too_fine_decimal, out_of_range_fine, fine_decimal, stands_fine}
-use Rattle.forms.proofs.DemandFacts.{Follows, behind, fails_before}
-use Rattle.forms.specs.Demands.{Demand}
+use Rattle.forms.proofs.DemandFacts.{Follows}
 use Rattle.forms.specs.Steps.{◌>>=◌}
-use Rattle.minelib_text.specs.FieldValues.{stated, whole_below, whole_in, first_by}
+use Rattle.minelib_text.specs.FieldValues.{stated, whole_below, whole_in}
 use Rattle.minelib_text.specs.LineDemands.{number, whole}
 use Rattle.minelib_text.specs.SpelledFields.{StatesWhole}
 use Rattle.minelib_text.specs.declared.text_fault.TextKind.{TextKind}
@@ -70,27 +69,11 @@ unfolding whole_in
 whole_told limit field =
     number_told 0 field (whole_below limit) (StatesWhole limit field) (omega arith) (below_ranged limit) (whole_says limit field) (whole_is limit field)
 
--- a field, and then those behind it
-pub first_told : {A B : Type 0} (rule : List ℕ → Result A TextKind) (field : List ℕ) (rest : List (List ℕ))
-    (next : A × List (List ℕ) → Result B TextKind) (ds es : List (Demand TextKind)) (P : A → Type 0) (Q : B → Type 0)
-    → Follows (rule field) ds P → ((x : A) → P x → Follows (next (x, rest)) es Q) → Follows (first_by rule (field ∷ rest) >>= next) (ds ++ es) Q
-first_told {A} {B} rule field rest next ds es P Q here more = by (rule field) here
-  where
-    by : (r : Result A TextKind) → Follows r ds P → Follows ((r >>= λ x. Ok (x, rest)) >>= next) (ds ++ es) Q
-    by (Ok x) h = behind (next (x, rest)) ds es Q h.0 (more x h.1)
-    by (Err kind) h = fails_before ds es kind h
-
 -- a text states one whole number
 one_whole : (limit : ℕ) (field : List ℕ) (m n : ℕ) → StatesWhole limit field m → StatesWhole limit field n → m ≡ n
 one_whole limit field m n a b =
     let same : ◌≡◌ {A = Result ℕ TextKind} (Ok m) (Ok n) = sym (whole_back limit field m a) ∙ whole_back limit field n b in
     cc
-
--- a number is the one that is asked for, or another
-pub test_told : (limit : ℕ) (field : List ℕ) (n wanted : ℕ) → StatesWhole limit field n → not (n == wanted) ≡ true → ¬ (StatesWhole limit field wanted)
-test_told limit field n wanted s t h =
-    let same : (n == wanted) ≡ true = eq-eqb n wanted (one_whole limit field n wanted s h) in
-    absurd (cc)
 
 pub tested : (limit : ℕ) (field : List ℕ) (n wanted : ℕ) → StatesWhole limit field n → not (n == wanted) ≡ false → StatesWhole limit field wanted
 tested limit field n wanted s t = subst (StatesWhole limit field) (eqb-true n wanted (not-false (n == wanted) t)) s

@@ -8,7 +8,7 @@ use Rattle.std.proofs.lemmas.List.{get_or-set_other}
 use Rattle.std.proofs.lemmas.List.Folds.{list_any-append}
 use Rattle.std.proofs.lemmas.Grind.{get_or-set_at}
 use Rattle.std.proofs.Math.Bool.{or-true, or-false, and-false}
-use Rattle.minelib_text.specs.Marks.{AreClear, AreMarked}
+use Rattle.minelib_text.specs.Marks.{AreMarked}
 use Rattle.minelib_text.specs.PrecLines.{stands_in, all_differ}
 
 one_more : (ids : List ℕ) (id place : ℕ) → stands_in (ids ++ id ∷ []) place ≡ (stands_in ids place || ((id == place) || false))
@@ -49,23 +49,6 @@ marked_more ids marks id within just place = at (id == place) refl where
   at : (t : Bool) → (id == place) ≡ t → slice_index_or (slice_set marks id true) place false ≡ stands_in (ids ++ id ∷ []) place
   at true e = get_or-set_at marks id place true false (grind (arith, nat_tests, e)) within ∙ sym (one_more ids id place ∙ rw e (or-true (stands_in ids place)))
   at false e = get_or-set_other marks id place true false (grind (arith, nat_tests, e)) ∙ just place ∙ sym (one_more ids id place ∙ rw e (or-false (stands_in ids place)))
-
--- a mark that is taken away leaves those of the numbers behind it
-pub unmarked_one : (id : ℕ) (rest : List ℕ) (marks : List Bool) → id < length marks → AreMarked (id ∷ rest) marks
-    → AreMarked rest (slice_set marks id false)
-unmarked_one id rest marks within marked place h = at (id == place) refl where
-  at : (t : Bool) → (id == place) ≡ t → IsTrue (stands_in rest place)
-  at true e = absurd (true≢false (sym h ∙ get_or-set_at marks id place false false (grind (arith, nat_tests, e)) within))
-  at false e =
-      let stood = marked place (sym (get_or-set_other marks id place false false (grind (arith, nat_tests, e))) ∙ h) in
-      rw e at stood
-
--- marks of no number are none
-pub none_marked : (marks : List Bool) → AreMarked [] marks → AreClear marks
-none_marked marks marked place = at (slice_index_or marks place false) refl where
-  at : (t : Bool) → slice_index_or marks place false ≡ t → t ≡ false
-  at true e = absurd (true≢false (sym (marked place e)))
-  at false e = refl
 
 -- numbers up to a place, the one there, and those behind it
 pub parts_at : (ids : List ℕ) (place : ℕ) → place < length ids → ids ≡ take place ids ++ get_or ids place 0 ∷ drop (suc place) ids

@@ -1,18 +1,16 @@
 -- Written numbers and NAMEs are fields, and are read as what they are.
-use Rattle.std.proofs.Common.{◌≡◌, ℕ, ◌*◌, ◌/◌, ◌^◌, ◌<◌, ◌≤◌, true, List, [], ◌∷◌, ◌++◌, map, length, ℤ, pos, negsuc, ◌≤ℤ◌, arith, refl, ap, sym, append_assoc, append-nil, subst}
-use Rattle.std.specs.Prelude.{unsigned_abs, decimal, nat_le, ◌&&◌, Result, Ok, All}
+use Rattle.std.proofs.Common.{◌≡◌, ℕ, ◌*◌, ◌^◌, ◌≤◌, true, List, [], ◌∷◌, map, length, ℤ, pos, negsuc, ◌≤ℤ◌, arith, refl, subst}
+use Rattle.std.specs.Prelude.{unsigned_abs, decimal, nat_le, ◌&&◌, All}
 use Rattle.std.specs.List.{list_all}
-use Rattle.std.proofs.lemmas.Bool.{and_parts, leb-true, lt-ltb}
+use Rattle.std.proofs.lemmas.Bool.{and_parts, leb-true}
 use Rattle.std.proofs.lemmas.Bool.Decides.{nat_tests}
 use Rattle.std.proofs.lemmas.Int.{ints}
 use Rattle.std.proofs.lemmas.List.Elements.{All-head, All-tail}
 use Rattle.std.proofs.lemmas.List.Sums.{list_all-from_AllPass}
 use Rattle.pit_model.specs.Name.{is_name, is_name_byte}
-use Rattle.pit_units.proofs.Written.{shortest_plain, whole_read, whole_written}
+use Rattle.pit_units.proofs.Written.{shortest_plain, whole_written}
 use Rattle.pit_units.specs.Decimal.{shortest, IsPlainByte}
-use Rattle.minelib_text.specs.FieldValues.{all_by, whole_in}
 use Rattle.minelib_text.specs.Kept.{IsDecimal}
-use Rattle.minelib_text.specs.declared.text_fault.TextKind.{TextKind}
 use Rattle.minelib_text.proofs.PlainText.{is_plain, all_weaker, IsField, EachField}
 
 pub number_byte : (c : ℕ) → IsPlainByte c → is_plain c ≡ true
@@ -40,21 +38,8 @@ name_field name is =
     let sizes = and_parts (nat_le 1 (length name)) (nat_le (length name) 64) parts.0 in
     record { some = omega (arith, leb-true 1 (length name) sizes.0); bytes = all_weaker is_name_byte is_plain name_byte name parts.1 }
 
-pub whole_again : (limit k : ℕ) → k < limit → limit ≤ 10 ^ 18 → whole_in limit (decimal k) ≡ Ok k
-unfolding whole_in
-whole_again limit k below small =
-    let same : k * 10 ^ 6 / 10 ^ 6 ≡ k = omega arith in
-    rw (whole_read k (omega arith), same, lt-ltb k limit below) refl
-
 -- texts of items are fields where each is
 pub map_fields : {A : Type 0} (P : A → Type 0) (text : A → List ℕ) → ((x : A) → P x → IsField (text x)) → (xs : List A) → All P xs
     → EachField (map text xs)
 map_fields P text field [] h = tt
 map_fields P text field (x ∷ xs) h = (field x (All-head P x xs h), map_fields P text field xs (All-tail P x xs h))
-
--- a rule that reads each of them again reads them all
-pub map_again : {A : Type 0} (P : A → Type 0) (text : A → List ℕ) (rule : List ℕ → Result A TextKind) → ((x : A) → P x → rule (text x) ≡ Ok x)
-    → (done xs : List A) → All P xs → all_by rule done (map text xs) ≡ Ok (done ++ xs)
-map_again P text rule again done [] h = ap Ok (sym (append-nil done))
-map_again P text rule again done (x ∷ xs) h =
-    rw (again x (All-head P x xs h), map_again P text rule again (done ++ x ∷ []) xs (All-tail P x xs h)) (ap Ok (append_assoc done (x ∷ []) xs))

@@ -1,11 +1,10 @@
 -- What a step of reading shows where it found no fault, and what is kept from line to line.
 use Rattle.std.specs.Prelude.{◌≡◌, ℕ, ◌<◌, ◌*◌, ◌/◌, ◌%◌, ◌^◌, ◌==◌, nat_lt, Bool, true, false, not, List, [], ◌∷◌, ◌++◌, length, ℤ, pos, negsuc, Result, Ok, Err, if◌then◌else◌}
-use Rattle.std.specs.List.{AllZip}
-use Rattle.std.proofs.Common.{refl, sym, ◌∙◌, ap, subst, arith, append-nil, append_assoc}
+use Rattle.std.proofs.Common.{refl, sym, subst, arith, append-nil, append_assoc}
 use Rattle.std.proofs.lemmas.Bool.{eqb-true, not-false}
 use Rattle.std.proofs.lemmas.Bool.Decides.{nat_tests}
 use Rattle.forms.specs.Steps.{◌>>=◌}
-use Rattle.minelib_text.specs.FieldValues.{whole_below, stated, whole_in, first_by, all_by}
+use Rattle.minelib_text.specs.FieldValues.{whole_below, stated, whole_in}
 use Rattle.minelib_text.specs.Reading.{at_line, read_lines, in_file}
 use Rattle.minelib_text.specs.TextLines.{Line}
 use Rattle.minelib_text.specs.declared.text_fault.LineFault.{LineFault}
@@ -103,29 +102,3 @@ whole_in_ok limit field n e =
 -- the number of fields, where a test found no other
 pub counted : (n : ℕ) (fields : List (List ℕ)) → not (length fields == n) ≡ false → length fields ≡ n
 counted n fields test = eqb-true (length fields) n (not-false (length fields == n) test)
-
-pub first_ok : {A : Type 0} (rule : List ℕ → Result A TextKind) (fields : List (List ℕ)) (x : A × List (List ℕ)) → first_by rule fields ≡ Ok x
-    → (field : List ℕ) × (fields ≡ field ∷ x.1) × (rule field ≡ Ok x.0)
-first_ok rule [] x e = absurd cc
-first_ok rule (field ∷ fields) x e =
-    let b = bind_ok (rule field) _ x e in
-    let same : (b.0, fields) ≡ x = same_ok (b.0, fields) x b.2 in
-    (field, ap (λ p. field ∷ p.1) same, b.1 ∙ ap (λ p. Ok p.0) same)
-
--- a step behind the first field
-pub first_then : {A B P : Type 0} (rule : List ℕ → Result A TextKind) (fields : List (List ℕ)) (next : A × List (List ℕ) → Result B TextKind) (y : B)
-    → (first_by rule fields >>= next) ≡ Ok y
-    → ((field : List ℕ) (rest : List (List ℕ)) (x : A) → fields ≡ field ∷ rest → rule field ≡ Ok x → next (x, rest) ≡ Ok y → P) → P
-first_then rule fields next y e part =
-    let b = bind_ok (first_by rule fields) next y e in
-    let f = first_ok rule fields b.0 b.1 in
-    part f.0 b.0.1 b.0.0 f.1 f.2 b.2
-
--- all fields, behind what was read before
-pub all_ok : {A : Type 0} (rule : List ℕ → Result A TextKind) (done : List A) (fields : List (List ℕ)) (xs : List A)
-    → all_by rule done fields ≡ Ok xs → (more : List A) × (xs ≡ done ++ more) × AllZip (λ field x. rule field ≡ Ok x) fields more
-all_ok rule done [] xs e = ([], sym (same_ok done xs e) ∙ sym (append-nil done), tt)
-all_ok rule done (field ∷ fields) xs e =
-    let b = bind_ok (rule field) (λ x. all_by rule (done ++ x ∷ []) fields) xs e in
-    let m = all_ok rule (done ++ b.0 ∷ []) fields xs b.2 in
-    (b.0 ∷ m.0, m.1 ∙ append_assoc done (b.0 ∷ []) m.0, (b.1, m.2))
