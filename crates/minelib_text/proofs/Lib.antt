@@ -20,7 +20,6 @@ pub mod KeyFacts
 pub mod KeysBack
 pub mod LimitLineFacts
 pub mod LineFacts
-pub mod LineTold
 pub mod LinesBack
 pub mod MarkFacts
 pub mod ModelBack

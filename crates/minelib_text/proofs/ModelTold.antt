@@ -15,8 +15,7 @@ use Rattle.pit_model.specs.declared.limit.Limit.{Limit}
 use Rattle.pit_model.specs.declared.ranges.TheConstants.{MAX_BLOCKS}
 use Rattle.mine_instance.specs.Order.{comes_before}
 use Rattle.mine_instance.specs.declared.coef.Coef.{Coef}
-use Rattle.minelib_text.specs.LineDemands.{field_at}
-use Rattle.minelib_text.specs.ModelDemands.{asked_of_value, asked_of_key, asked_of_values, asked_of_coef, asked_of_limit, asked_of_item, asked_by, asked_of_model}
+use Rattle.minelib_text.specs.ModelDemands.{field_at, asked_of_value, asked_of_key, asked_of_values, asked_of_coef, asked_of_limit, asked_of_item, asked_by, asked_of_model}
 use Rattle.minelib_text.specs.HeaderKeys.{count_in, is_given}
 use Rattle.minelib_text.specs.ModelLines.{ModelDraftView, is_colon, is_heading, is_next, is_ready, is_behind, key_of, last_of, only_value, admit_key, values_of, coef_of, limit_of, admit_coef, admit_limit, admit_item, admit_model}
 use Rattle.minelib_text.specs.KeyFields.{field_of, millionths_in, number_in, number_said}

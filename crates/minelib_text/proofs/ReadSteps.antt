@@ -1,21 +1,13 @@
 -- What a step of reading shows where it found no fault, and what is kept from line to line.
-use Rattle.std.specs.Prelude.{◌≡◌, ℕ, ◌<◌, ◌*◌, ◌/◌, ◌%◌, ◌^◌, ◌==◌, nat_lt, Bool, true, false, not, List, [], ◌∷◌, ◌++◌, length, ℤ, pos, negsuc, Result, Ok, Err, if◌then◌else◌}
-use Rattle.std.proofs.Common.{refl, sym, subst, arith, append-nil, append_assoc}
+use Rattle.std.specs.Prelude.{◌≡◌, ℕ, ◌==◌, Bool, true, false, not, List, [], ◌∷◌, ◌++◌, length, Result, Ok, Err, if◌then◌else◌}
+use Rattle.std.proofs.Common.{refl, sym, subst, append-nil, append_assoc}
 use Rattle.std.proofs.lemmas.Bool.{eqb-true, not-false}
-use Rattle.std.proofs.lemmas.Bool.Decides.{nat_tests}
 use Rattle.forms.specs.Steps.{◌>>=◌}
-use Rattle.minelib_text.specs.FieldValues.{whole_below, stated, whole_in}
 use Rattle.minelib_text.specs.Reading.{at_line, read_lines, in_file}
 use Rattle.minelib_text.specs.TextLines.{Line}
 use Rattle.minelib_text.specs.declared.text_fault.LineFault.{LineFault}
 use Rattle.minelib_text.specs.declared.text_fault.TextFile.{TextFile}
 use Rattle.minelib_text.specs.declared.text_fault.TextKind.{TextKind}
-use Rattle.minelib_text.specs.declared.text_fault.TextKind.TheVariants.{Range}
-use Rattle.pit_units.proofs.Multiples.{stands_multiple}
-use Rattle.pit_units.proofs.Standing.{read_stands}
-use Rattle.pit_units.specs.Decimal.{StandsFor, decimal_of}
-use Rattle.pit_units.specs.declared.fault.DecFault.{DecFault}
-use Rattle.minelib_text.specs.SpelledFields.{StatesWhole}
 
 -- a step behind another one; the part is told what both found, since a `let` would write them out at each place
 pub bind_ok : {A B F : Type 0} (r : Result A F) (next : A → Result B F) (y : B) → (r >>= next) ≡ Ok y → (x : A) × (r ≡ Ok x) × (next x ≡ Ok y)
@@ -75,29 +67,6 @@ pub kept_by_lines : {S : Type 0} (Keeps : S → Type 0) (admit : S → List ℕ 
     → (s : S) (lines : List Line) (last : S) → read_lines admit s lines ≡ Ok last → Keeps s → Keeps last
 kept_by_lines Keeps admit step s lines last e kept =
     kept_with_lines (λ _ s. Keeps s) admit (λ done s line next says kept. step s line.text next says kept) [] s lines last e kept
-
-pub whole_below_ok : (limit : ℕ) (z : ℤ) (n : ℕ) → whole_below limit z ≡ Ok n → (m : ℕ) × (z ≡ pos m) × (m / 10 ^ 6 ≡ n) × (n < limit)
-whole_below_ok limit (pos k) n e =
-    let g = then_ok (nat_lt (k / 10 ^ 6) limit) Range (Ok (k / 10 ^ 6)) n e in
-    let same : k / 10 ^ 6 ≡ n = same_ok (k / 10 ^ 6) n g.1 in
-    (k, refl, same, grind (arith, nat_tests))
-whole_below_ok limit (negsuc k) n e = absurd cc
-
-stated_ok : (r : Result ℤ DecFault) (z : ℤ) → stated r ≡ Ok z → r ≡ Ok z
-stated_ok (Ok y) z e = cc
-stated_ok (Err fault) z e = absurd cc
-
-pub whole_in_ok : (limit : ℕ) (field : List ℕ) (n : ℕ) → whole_in limit field ≡ Ok n → StatesWhole limit field n
-unfolding whole_in
-whole_in_ok limit field n e =
-    let b = bind_ok (stated (decimal_of 0 field)) (whole_below limit) n e in
-    let p = whole_below_ok limit b.0 n b.2 in
-    let stands : StandsFor 0 field (pos p.0) =
-    subst (StandsFor 0 field) p.1 (read_stands 0 field b.0 (omega arith) (stated_ok (decimal_of 0 field) b.0 b.1)) in
-    let multiple : p.0 % 10 ^ 6 ≡ 0 = stands_multiple 0 field (pos p.0) (omega arith) stands in
-    let quotient : p.0 / 10 ^ 6 ≡ n = p.2 in
-    let whole : p.0 ≡ n * 10 ^ 6 = omega arith in
-    record { stands = subst (λ m. StandsFor 0 field (pos m)) whole stands; below = p.3 }
 
 -- the number of fields, where a test found no other
 pub counted : (n : ℕ) (fields : List (List ℕ)) → not (length fields == n) ≡ false → length fields ≡ n

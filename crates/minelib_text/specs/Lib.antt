@@ -12,7 +12,6 @@ pub mod FirstBad
 pub mod HeaderKeys
 pub mod Kept
 pub mod KeyFields
-pub mod LineDemands
 pub mod LineKinds
 pub mod LineValues
 pub mod Lines
@@ -30,7 +29,6 @@ pub mod SectionSinkView
 pub mod SinkState
 pub mod Spaced
 pub mod SpelledBlocks
-pub mod SpelledFields
 pub mod SpelledItems
 pub mod SpelledKeys
 pub mod SpelledLines

@@ -1,6 +1,6 @@
 -- What is asked of a line of a model file behind those so far, in the order in which it is looked
 -- at, with the kind of fault where it is not so: the table of kinds, in its own words.
-use Rattle.std.specs.Prelude.{◌≡◌, ℕ, Bool, true, false, List, [], ◌∷◌, ◌++◌, length, Option, Some, None}
+use Rattle.std.specs.Prelude.{slice_index_or, ◌≡◌, ℕ, Bool, true, false, List, [], ◌∷◌, ◌++◌, length, Option, Some, None}
 use Rattle.std.specs.List.{list_any, before_first, after_first}
 use Rattle.forms.specs.Demands.{Demand, demand, FailsFirst}
 use Rattle.forms.specs.Form.{Says, asked, below, whole as whole_value, asked_of_field}
@@ -8,7 +8,6 @@ use Rattle.pit_model.specs.Plan.{stands_before}
 use Rattle.pit_model.specs.declared.limit.Limit.{Limit}
 use Rattle.mine_instance.specs.Order.{comes_before}
 use Rattle.mine_instance.specs.declared.coef.Coef.{Coef}
-use Rattle.minelib_text.specs.LineDemands.{field_at}
 use Rattle.minelib_text.specs.KeyFields.{field_of}
 use Rattle.minelib_text.specs.LineKinds.{text_kind}
 use Rattle.minelib_text.specs.HeaderKeys.{count_in, is_given}
@@ -26,6 +25,10 @@ use Rattle.minelib_text.specs.declared.model_key.Section.TheVariants.{Heading, O
 use Rattle.minelib_text.specs.declared.text_fault.LineFault.{LineFault}
 use Rattle.minelib_text.specs.declared.text_fault.TextKind.{TextKind}
 use Rattle.minelib_text.specs.declared.text_fault.TextKind.TheVariants as fault
+
+-- a field by its place, from 0
+abbrev pub field_at : List (List ℕ) → ℕ → List ℕ
+field_at fields k = slice_index_or fields k []
 
 -- the value of a header key
 abbrev pub asked_of_value : ModelDraftView → HeaderKey → List ℕ → List (Demand TextKind)
