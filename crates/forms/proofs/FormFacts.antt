@@ -15,7 +15,7 @@ use Rattle.forms.specs.Decimals.{IsDecimal, IsFine, IsWithin}
 use Rattle.forms.specs.Demands.{Demand, demand, FailsFirst}
 use Rattle.forms.specs.FieldFault.{FieldFault}
 use Rattle.forms.specs.FieldFault as fault
-use Rattle.forms.specs.Form.{Field, Decimal, Word, Value, Millionths, Bytes, Says, Spell, FitsField, Fit, asked, asked_of_field, asked_of_fields, number_of, read_field, read_fields, read, written, written_value, has_six_decimals, is_fine}
+use Rattle.forms.specs.Form.{Field, Decimal, Word, Value, Millionths, Bytes, Says, Spell, FitsField, Fit, asked, asked_of_field, asked_of_fields, number_of, read_field, read_fields, read, written, written_value, has_six_decimals, is_fine, Stepped, next_kinds, read_decimal, asked_of_decimal, is_on_step, millionths}
 use Rattle.forms.specs.Steps.{◌>>=◌}
 
 pub le_true : (a b : ℤ) → int_le a b ≡ true → a ≤ℤ b
@@ -53,7 +53,7 @@ number_told {B} {K} kind decimals text f met Q few there next = by (decimal_of d
         inr (fine_decimal decimals text fine, inr (fine, inl (never, refl)))
 
 range_told : {K : Type 0} (kind : FieldFault → K) (decimals : ℕ) (low high : ℤ) (text : List ℕ) → decimals ≤ 6
-    → Follows (read_field kind (Decimal decimals low high) text) (asked_of_field kind (Decimal decimals low high) text) (Says (Decimal decimals low high) text)
+    → Follows (read_decimal kind decimals low high text) (asked_of_decimal kind decimals low high text) (Says (Decimal decimals low high) text)
 range_told {K} kind decimals low high text few =
     number_told kind decimals text _ (IsWithin decimals low high text) _ few (λ h. (h.0, h.1)) (λ m stands. by m stands (int_le low m && int_le m high) refl)
   where
@@ -70,6 +70,33 @@ range_told {K} kind decimals low high text few =
         both_true (int_le low m) (int_le m high) e (true_le low m (subst (λ z. low ≤ℤ z) same h.2)) (true_le m high (subst (λ z. z ≤ℤ high) same h.3)) in
         inl (never, refl)
 
+-- a decimal in its range, and then whether it is on a step
+stepped_told : {K : Type 0} (kind : FieldFault → K) (decimals step : ℕ) (low high : ℤ) (text : List ℕ) → decimals ≤ 6
+    → Follows (read_field kind (Stepped decimals step low high) text) (asked_of_field kind (Stepped decimals step low high) text)
+    (Says (Stepped decimals step low high) text)
+stepped_told {K} kind decimals step low high text few =
+    bound (read_decimal kind decimals low high text) _ (asked_of_decimal kind decimals low high text) (demand (kind fault.OffStep) Met)
+    (Says (Decimal decimals low high) text) _ (range_told kind decimals low high text few) by
+  where
+    Met : Type 0
+    Met = (m : ℤ) × Says (Stepped decimals step low high) text (Millionths m)
+
+    here : (m : ℤ) → Says (Decimal decimals low high) text (Millionths m) → (t : Bool) → is_on_step step low m ≡ t
+        → Follows (if t then Ok (Millionths m) else Err (kind fault.OffStep)) (demand (kind fault.OffStep) Met)
+        (Says (Stepped decimals step low high) text)
+    here m says true e = (((m, (says.0, says.1, says.2, e)), tt), (says.0, says.1, says.2, e))
+    here m says false e =
+        let never : ¬ Met = λ h.
+        let same : h.0 ≡ m = one_number decimals text h.0 m few h.1.0 says.0 in
+        absurd (cc (subst (λ z. is_on_step step low z ≡ true) same h.1.3, e)) in
+        inl (never, refl)
+
+    by : (value : Value) → Says (Decimal decimals low high) text value
+        → Follows (if is_on_step step low (millionths value) then Ok value else Err (kind fault.OffStep)) (demand (kind fault.OffStep) Met)
+        (Says (Stepped decimals step low high) text)
+    by (Millionths m) says = here m says (is_on_step step low m) refl
+    by (Bytes word) says = absurd says
+
 word_told : {K : Type 0} (kind : FieldFault → K) (passes : List ℕ → Bool) (text : List ℕ) (t : Bool) → passes text ≡ t
     → Follows (if t then Ok (Bytes text) else Err (kind fault.Word)) (demand (kind fault.Word) (passes text ≡ true)) (Says (Word passes) text)
 word_told kind passes text true e = ((e, tt), (refl, e))
@@ -78,31 +105,32 @@ word_told kind passes text false e = inl ((λ h. absurd (cc (e, h))), refl)
 pub field_told : {K : Type 0} (kind : FieldFault → K) (field : Field) (text : List ℕ) → has_six_decimals field ≡ true
     → Follows (read_field kind field text) (asked_of_field kind field text) (Says field text)
 field_told kind (Decimal decimals low high) text fine = range_told kind decimals low high text (leb-true decimals 6 fine)
+field_told kind (Stepped decimals step low high) text fine = stepped_told kind decimals step low high text (leb-true decimals 6 fine)
 field_told kind (Word passes) text fine = word_told kind passes text (passes text) refl
 
 -- a form's fields, each by itself
 pub parts : (field : Field) (form : List Field) → is_fine (field ∷ form) ≡ true → (has_six_decimals field ≡ true) × (is_fine form ≡ true)
 parts field form fine = and_parts (has_six_decimals field) (is_fine form) fine
 
-pub fields_told : {K : Type 0} (kind : FieldFault → K) (form : List Field) (texts : List (List ℕ)) → is_fine form ≡ true → length texts ≡ length form
-    → Follows (read_fields kind form texts) (asked_of_fields kind form texts) (Spell form texts)
-fields_told kind [] [] fine count = (tt, tt)
-fields_told kind [] (text ∷ texts) fine count = absurd (omega (arith, count))
-fields_told kind (field ∷ form) [] fine count = absurd (omega (arith, count))
-fields_told kind (field ∷ form) (text ∷ texts) fine count =
+pub fields_told : {K : Type 0} (kinds : ℕ → FieldFault → K) (form : List Field) (texts : List (List ℕ)) → is_fine form ≡ true → length texts ≡ length form
+    → Follows (read_fields kinds form texts) (asked_of_fields kinds form texts) (Spell form texts)
+fields_told kinds [] [] fine count = (tt, tt)
+fields_told kinds [] (text ∷ texts) fine count = absurd (omega (arith, count))
+fields_told kinds (field ∷ form) [] fine count = absurd (omega (arith, count))
+fields_told kinds (field ∷ form) (text ∷ texts) fine count =
     let p = parts field form fine in
-    bound (read_field kind field text) _ (asked_of_field kind field text) (asked_of_fields kind form texts) (Says field text) _
-    (field_told kind field text p.0) (λ value says.
-    mapped (read_fields kind form texts) (λ values. value ∷ values) (asked_of_fields kind form texts) (Spell form texts) _
-    (fields_told kind form texts p.1 (omega (arith, count))) (λ values spell. (says, spell)))
+    bound (read_field (kinds 0) field text) _ (asked_of_field (kinds 0) field text) (asked_of_fields (next_kinds kinds) form texts) (Says field text) _
+    (field_told (kinds 0) field text p.0) (λ value says.
+    mapped (read_fields (next_kinds kinds) form texts) (λ values. value ∷ values) (asked_of_fields (next_kinds kinds) form texts) (Spell form texts) _
+    (fields_told (next_kinds kinds) form texts p.1 (omega (arith, count))) (λ values spell. (says, spell)))
 
-pub read_told : {K : Type 0} (kind : FieldFault → K) (form : List Field) (texts : List (List ℕ)) → is_fine form ≡ true
-    → Follows (read kind form texts) (asked kind form texts) (Spell form texts)
-read_told kind form texts fine =
-    guarded (not (length texts == length form)) (kind fault.Count) (length texts ≡ length form) (read_fields kind form texts) _ _
+pub read_told : {K : Type 0} (kinds : ℕ → FieldFault → K) (form : List Field) (texts : List (List ℕ)) → is_fine form ≡ true
+    → Follows (read kinds form texts) (asked kinds form texts) (Spell form texts)
+read_told kinds form texts fine =
+    guarded (not (length texts == length form)) (kinds 0 fault.Count) (length texts ≡ length form) (read_fields kinds form texts) _ _
     (λ t h. other (length texts == length form) t (eq-eqb (length texts) (length form) h)) (λ t.
     let count = eqb-true (length texts) (length form) (not-false (length texts == length form) t) in
-    (count, fields_told kind form texts fine count))
+    (count, fields_told kinds form texts fine count))
   where
     other : (t : Bool) → not t ≡ true → t ≡ true → ⊥
     other true a b = absurd cc
@@ -114,6 +142,9 @@ pub says_read : {K : Type 0} (kind : FieldFault → K) (field : Field) (text : L
 says_read kind (Decimal decimals low high) text (Millionths m) fine says =
     rw (stands_read decimals text m (leb-true decimals 6 fine) says.0, true_le low m says.1, true_le m high says.2) refl
 says_read kind (Decimal decimals low high) text (Bytes word) fine says = absurd says
+says_read kind (Stepped decimals step low high) text (Millionths m) fine says =
+    rw (stands_read decimals text m (leb-true decimals 6 fine) says.0, true_le low m says.1, true_le m high says.2, says.3) refl
+says_read kind (Stepped decimals step low high) text (Bytes word) fine says = absurd says
 says_read kind (Word passes) text (Millionths m) fine says = absurd says
 says_read kind (Word passes) text (Bytes word) fine says = rw says.1 (ap (λ w. Ok (Bytes w)) says.0)
 
@@ -124,36 +155,36 @@ spelled_count (field ∷ form) [] values spell = absurd spell
 spelled_count (field ∷ form) (text ∷ texts) [] spell = absurd spell
 spelled_count (field ∷ form) (text ∷ texts) (value ∷ values) spell = omega (arith, spelled_count form texts values spell.1)
 
-spelled_fields : {K : Type 0} (kind : FieldFault → K) (form : List Field) (texts : List (List ℕ)) (values : List Value) → is_fine form ≡ true
-    → Spell form texts values → read_fields kind form texts ≡ Ok values
-spelled_fields kind [] [] [] fine spell = refl
-spelled_fields kind [] [] (value ∷ values) fine spell = absurd spell
-spelled_fields kind [] (text ∷ texts) values fine spell = absurd spell
-spelled_fields kind (field ∷ form) [] values fine spell = absurd spell
-spelled_fields kind (field ∷ form) (text ∷ texts) [] fine spell = absurd spell
-spelled_fields kind (field ∷ form) (text ∷ texts) (value ∷ values) fine spell =
+spelled_fields : {K : Type 0} (kinds : ℕ → FieldFault → K) (form : List Field) (texts : List (List ℕ)) (values : List Value) → is_fine form ≡ true
+    → Spell form texts values → read_fields kinds form texts ≡ Ok values
+spelled_fields kinds [] [] [] fine spell = refl
+spelled_fields kinds [] [] (value ∷ values) fine spell = absurd spell
+spelled_fields kinds [] (text ∷ texts) values fine spell = absurd spell
+spelled_fields kinds (field ∷ form) [] values fine spell = absurd spell
+spelled_fields kinds (field ∷ form) (text ∷ texts) [] fine spell = absurd spell
+spelled_fields kinds (field ∷ form) (text ∷ texts) (value ∷ values) fine spell =
     let p = parts field form fine in
-    rw (says_read kind field text value p.0 spell.0, spelled_fields kind form texts values p.1 spell.1) refl
+    rw (says_read (kinds 0) field text value p.0 spell.0, spelled_fields (next_kinds kinds) form texts values p.1 spell.1) refl
 
 -- as many texts as fields are read field by field
-pub counted : {K : Type 0} (kind : FieldFault → K) (form : List Field) (texts : List (List ℕ)) → length texts ≡ length form
-    → read kind form texts ≡ read_fields kind form texts
-counted kind form texts count = rw (eq-eqb (length texts) (length form) count) refl
+pub counted : {K : Type 0} (kinds : ℕ → FieldFault → K) (form : List Field) (texts : List (List ℕ)) → length texts ≡ length form
+    → read kinds form texts ≡ read_fields kinds form texts
+counted kinds form texts count = rw (eq-eqb (length texts) (length form) count) refl
 
-pub spelled_read : {K : Type 0} (kind : FieldFault → K) (form : List Field) (texts : List (List ℕ)) (values : List Value) → is_fine form ≡ true
-    → Spell form texts values → read kind form texts ≡ Ok values
-spelled_read kind form texts values fine spell =
-    counted kind form texts (spelled_count form texts values spell) ∙ spelled_fields kind form texts values fine spell
+pub spelled_read : {K : Type 0} (kinds : ℕ → FieldFault → K) (form : List Field) (texts : List (List ℕ)) (values : List Value) → is_fine form ≡ true
+    → Spell form texts values → read kinds form texts ≡ Ok values
+spelled_read kinds form texts values fine spell =
+    counted kinds form texts (spelled_count form texts values spell) ∙ spelled_fields kinds form texts values fine spell
 
-pub read_spelled : {K : Type 0} (kind : FieldFault → K) (form : List Field) (texts : List (List ℕ)) (values : List Value) → is_fine form ≡ true
-    → read kind form texts ≡ Ok values → Spell form texts values
-read_spelled kind form texts values fine e =
-    (subst (λ r. Follows r (asked kind form texts) (Spell form texts)) e (read_told kind form texts fine)).1
+pub read_spelled : {K : Type 0} (kinds : ℕ → FieldFault → K) (form : List Field) (texts : List (List ℕ)) (values : List Value) → is_fine form ≡ true
+    → read kinds form texts ≡ Ok values → Spell form texts values
+read_spelled kinds form texts values fine e =
+    (subst (λ r. Follows r (asked kinds form texts) (Spell form texts)) e (read_told kinds form texts fine)).1
 
-pub read_fails : {K : Type 0} (kind : FieldFault → K) (form : List Field) (texts : List (List ℕ)) (found : K) → is_fine form ≡ true
-    → read kind form texts ≡ Err found → FailsFirst (asked kind form texts) found
-read_fails kind form texts found fine e =
-    subst (λ r. Follows r (asked kind form texts) (Spell form texts)) e (read_told kind form texts fine)
+pub read_fails : {K : Type 0} (kinds : ℕ → FieldFault → K) (form : List Field) (texts : List (List ℕ)) (found : K) → is_fine form ≡ true
+    → read kinds form texts ≡ Err found → FailsFirst (asked kinds form texts) found
+read_fails kinds form texts found fine e =
+    subst (λ r. Follows r (asked kinds form texts) (Spell form texts)) e (read_told kinds form texts fine)
 
 -- what fits is spelled by what is written
 says_written : (field : Field) (value : Value) → has_six_decimals field ≡ true → FitsField field value → Says field (written_value value) value
@@ -161,6 +192,11 @@ says_written (Decimal decimals low high) (Millionths m) fine fits =
     let few = leb-true decimals 6 fine in
     (read_stands decimals (shortest m) m few (shortest_read decimals m few fits.2 fits.3), fits.0, fits.1)
 says_written (Decimal decimals low high) (Bytes word) fine fits = absurd fits
+says_written (Stepped decimals step low high) (Millionths m) fine fits =
+    let few = leb-true decimals 6 fine in
+    let at = fits.0 in
+    (read_stands decimals (shortest m) m few (shortest_read decimals m few at.2 at.3), at.0, at.1, fits.1)
+says_written (Stepped decimals step low high) (Bytes word) fine fits = absurd fits
 says_written (Word passes) (Millionths m) fine fits = absurd fits
 says_written (Word passes) (Bytes word) fine fits = (refl, fits)
 
@@ -172,15 +208,18 @@ spell_written (field ∷ form) (value ∷ values) fine fit =
     let p = parts field form fine in
     (says_written field value p.0 fit.0, spell_written form values p.1 fit.1)
 
-pub written_read : {K : Type 0} (kind : FieldFault → K) (form : List Field) (values : List Value) → is_fine form ≡ true → Fit form values
-    → read kind form (written values) ≡ Ok values
-written_read kind form values fine fit = spelled_read kind form (written values) values fine (spell_written form values fine fit)
+pub written_read : {K : Type 0} (kinds : ℕ → FieldFault → K) (form : List Field) (values : List Value) → is_fine form ≡ true → Fit form values
+    → read kinds form (written values) ≡ Ok values
+written_read kinds form values fine fit = spelled_read kinds form (written values) values fine (spell_written form values fine fit)
 
 -- what is spelled fits
 says_fits : (field : Field) (text : List ℕ) (value : Value) → has_six_decimals field ≡ true → Says field text value → FitsField field value
 says_fits (Decimal decimals low high) text (Millionths m) fine says =
     (says.1, says.2, says.0.in_range, stands_multiple decimals text m (leb-true decimals 6 fine) says.0)
 says_fits (Decimal decimals low high) text (Bytes word) fine says = absurd says
+says_fits (Stepped decimals step low high) text (Millionths m) fine says =
+    ((says.1, says.2, says.0.in_range, stands_multiple decimals text m (leb-true decimals 6 fine) says.0), says.3)
+says_fits (Stepped decimals step low high) text (Bytes word) fine says = absurd says
 says_fits (Word passes) text (Millionths m) fine says = absurd says
 says_fits (Word passes) text (Bytes word) fine says = subst (λ w. passes w ≡ true) says.0 says.1
 
@@ -195,39 +234,39 @@ spelled_fit (field ∷ form) (text ∷ texts) (value ∷ values) fine spell =
     (says_fits field text value p.0 spell.0, spelled_fit form texts values p.1 spell.1)
 
 -- what is read before it is counted has been counted
-pub read_count : {K : Type 0} (kind : FieldFault → K) (form : List Field) (texts : List (List ℕ)) (values : List Value)
-    → read_fields kind form texts ≡ Ok values → length texts ≡ length form
-read_count kind [] [] values e = refl
-read_count kind [] (text ∷ texts) values e = absurd cc
-read_count kind (field ∷ form) [] values e = absurd cc
-read_count {K} kind (field ∷ form) (text ∷ texts) values e = one (λ more is. read_count kind form texts more is) (read_field kind field text) e
+pub read_count : {K : Type 0} (kinds : ℕ → FieldFault → K) (form : List Field) (texts : List (List ℕ)) (values : List Value)
+    → read_fields kinds form texts ≡ Ok values → length texts ≡ length form
+read_count kinds [] [] values e = refl
+read_count kinds [] (text ∷ texts) values e = absurd cc
+read_count kinds (field ∷ form) [] values e = absurd cc
+read_count {K} kinds (field ∷ form) (text ∷ texts) values e = one (λ more is. read_count (next_kinds kinds) form texts more is) (read_field (kinds 0) field text) e
   where
-    rest : ((more : List Value) → read_fields kind form texts ≡ Ok more → length texts ≡ length form) → (value : Value) (r : Result (List Value) K)
-        → read_fields kind form texts ≡ r → (r >>= λ more. Ok (value ∷ more)) ≡ Ok values → length (text ∷ texts) ≡ length (field ∷ form)
+    rest : ((more : List Value) → read_fields (next_kinds kinds) form texts ≡ Ok more → length texts ≡ length form) → (value : Value) (r : Result (List Value) K)
+        → read_fields (next_kinds kinds) form texts ≡ r → (r >>= λ more. Ok (value ∷ more)) ≡ Ok values → length (text ∷ texts) ≡ length (field ∷ form)
     rest deeper value (Ok more) is e = omega (arith, deeper more is)
     rest deeper value (Err found) is e = absurd cc
 
-    one : ((more : List Value) → read_fields kind form texts ≡ Ok more → length texts ≡ length form) → (r : Result Value K)
-        → (r >>= λ value. read_fields kind form texts >>= λ more. Ok (value ∷ more)) ≡ Ok values → length (text ∷ texts) ≡ length (field ∷ form)
-    one deeper (Ok value) e = rest deeper value (read_fields kind form texts) refl e
+    one : ((more : List Value) → read_fields (next_kinds kinds) form texts ≡ Ok more → length texts ≡ length form) → (r : Result Value K)
+        → (r >>= λ value. read_fields (next_kinds kinds) form texts >>= λ more. Ok (value ∷ more)) ≡ Ok values → length (text ∷ texts) ≡ length (field ∷ form)
+    one deeper (Ok value) e = rest deeper value (read_fields (next_kinds kinds) form texts) refl e
     one deeper (Err found) e = absurd cc
 
 -- and then a step, which may fail
-pub counted_later : {A K : Type 0} (kind : FieldFault → K) (form : List Field) (texts : List (List ℕ)) (said : List Value → Result A K) (x : A)
-    → (read_fields kind form texts >>= said) ≡ Ok x → (read kind form texts >>= said) ≡ Ok x
-counted_later {A} {K} kind form texts said x e = by (read_fields kind form texts) refl e
+pub counted_later : {A K : Type 0} (kinds : ℕ → FieldFault → K) (form : List Field) (texts : List (List ℕ)) (said : List Value → Result A K) (x : A)
+    → (read_fields kinds form texts >>= said) ≡ Ok x → (read kinds form texts >>= said) ≡ Ok x
+counted_later {A} {K} kinds form texts said x e = by (read_fields kinds form texts) refl e
   where
-    by : (r : Result (List Value) K) → read_fields kind form texts ≡ r → (r >>= said) ≡ Ok x → (read kind form texts >>= said) ≡ Ok x
-    by (Ok values) is e = ap (λ r. r >>= said) (counted kind form texts (read_count kind form texts values is) ∙ is) ∙ e
+    by : (r : Result (List Value) K) → read_fields kinds form texts ≡ r → (r >>= said) ≡ Ok x → (read kinds form texts >>= said) ≡ Ok x
+    by (Ok values) is e = ap (λ r. r >>= said) (counted kinds form texts (read_count kinds form texts values is) ∙ is) ∙ e
     by (Err found) is e = absurd cc
 
 -- a fault that is met before they are counted is that of the count where there are too few or too many
-pub fault_later : {A K : Type 0} (kind : FieldFault → K) (form : List Field) (texts : List (List ℕ)) (said : List Value → Result A K) (found : K)
-    → (read_fields kind form texts >>= said) ≡ Err found
-    → (read kind form texts >>= said) ≡ Err (if length texts == length form then found else kind fault.Count)
-fault_later kind form texts said found e = by (length texts == length form) e
+pub fault_later : {A K : Type 0} (kinds : ℕ → FieldFault → K) (form : List Field) (texts : List (List ℕ)) (said : List Value → Result A K) (found : K)
+    → (read_fields kinds form texts >>= said) ≡ Err found
+    → (read kinds form texts >>= said) ≡ Err (if length texts == length form then found else kinds 0 fault.Count)
+fault_later kinds form texts said found e = by (length texts == length form) e
   where
-    by : (t : Bool) → (read_fields kind form texts >>= said) ≡ Err found
-        → ((if not t then Err (kind fault.Count) else read_fields kind form texts) >>= said) ≡ Err (if t then found else kind fault.Count)
+    by : (t : Bool) → (read_fields kinds form texts >>= said) ≡ Err found
+        → ((if not t then Err (kinds 0 fault.Count) else read_fields kinds form texts) >>= said) ≡ Err (if t then found else kinds 0 fault.Count)
     by true e = e
     by false e = refl

@@ -1,5 +1,7 @@
 pub mod DecimalFaults
 pub mod DemandFacts
 pub mod FormFacts
+pub mod GrammarFacts
 pub mod NumberFields
+pub mod ShapeFacts
 pub mod Worked

@@ -11,13 +11,13 @@ abbrev form : List Field
 form = below 10 ∷ up_to 3 2500000 ∷ Word (λ word. bytes_eq word (codes "L")) ∷ []
 
 abbrev answer : List ℕ → List ℕ → List ℕ → Result (List Value) FieldFault
-answer number size letter = read (λ f. f) form (number ∷ size ∷ letter ∷ [])
+answer number size letter = read (λ place f. f) form (number ∷ size ∷ letter ∷ [])
 
 taken : answer (codes "+09") (codes "2.5000") (codes "L") ≡ Ok (whole 9 ∷ Millionths (pos 2500000) ∷ Bytes (codes "L") ∷ [])
 unfolding decimal_of
 taken = refl
 
-lacking : read (λ f. f) form (codes "x" ∷ codes "2.5" ∷ []) ≡ Err fault.Count
+lacking : read (λ place f. f) form (codes "x" ∷ codes "2.5" ∷ []) ≡ Err fault.Count
 lacking = refl
 
 number : answer (codes "9-") (codes "2.5") (codes "L") ≡ Err fault.Number

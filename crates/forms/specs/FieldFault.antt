@@ -5,4 +5,5 @@ pub data FieldFault : Type 0 where
   Number : FieldFault
   TooFine : FieldFault
   Range : FieldFault
+  OffStep : FieldFault
   Word : FieldFault

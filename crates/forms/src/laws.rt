@@ -1,32 +1,56 @@
 //! What holds of every form, whatever the texts: each contract is a law, and a call of it does nothing. `K` is the kind of fault
-//! of a caller, who says by `kind` which of them each fault of a field is.
+//! of a caller, who says by `kinds` which of them each fault of the field at a place is.
 ghost use Rattle.std.specs.Prelude.{◌≡◌, ◌↔◌, ℕ, true, List, Ok, Err};
 ghost use Rattle.forms.specs.Demands.{FailsFirst};
 ghost use Rattle.forms.specs.FieldFault.{FieldFault};
 ghost use Rattle.forms.specs.Form.{Field, Value, Fit, Spell, asked, is_fine, read, written};
+ghost use Rattle.forms.specs.Grammar.{Grammar, AllState, HasFineForms, IsFirstFault, read_all};
+ghost use Rattle.forms.specs.Shape.{Shape, Fails, States, said};
 
 /// Texts are read as the values that they spell, and as no others.
 pub fn read_is_spelled<K>()
-    ensures { (kind : FieldFault → K) (form : List Field) (texts : List (List ℕ))
+    ensures { (kinds : ℕ → FieldFault → K) (form : List Field) (texts : List (List ℕ))
         (values : List Value) → is_fine form ≡ true
-        → (read kind form texts ≡ Ok values) ↔ Spell form texts values }
+        → (read kinds form texts ≡ Ok values) ↔ Spell form texts values }
 {}
 
 /// The fault of texts is of the kind of the first thing asked of them that does not hold.
 pub fn faults_are_first<K>()
-    ensures { (kind : FieldFault → K) (form : List Field) (texts : List (List ℕ)) (fault : K)
-        → is_fine form ≡ true → read kind form texts ≡ Err fault
-        → FailsFirst (asked kind form texts) fault }
+    ensures { (kinds : ℕ → FieldFault → K) (form : List Field) (texts : List (List ℕ)) (fault : K)
+        → is_fine form ≡ true → read kinds form texts ≡ Err fault
+        → FailsFirst (asked kinds form texts) fault }
 {}
 
 /// What is written is read again as the same values, wherever they fit.
 pub fn written_is_read<K>()
-    ensures { (kind : FieldFault → K) (form : List Field) (values : List Value)
-        → is_fine form ≡ true → Fit form values → read kind form (written values) ≡ Ok values }
+    ensures { (kinds : ℕ → FieldFault → K) (form : List Field) (values : List Value)
+        → is_fine form ≡ true → Fit form values → read kinds form (written values) ≡ Ok values }
 {}
 
 /// What is spelled fits.
 pub fn spelled_fits()
     ensures { (form : List Field) (texts : List (List ℕ)) (values : List Value)
         → is_fine form ≡ true → Spell form texts values → Fit form values }
+{}
+
+/// A shape is read as what its texts state, and as nothing else.
+pub fn texts_are_read<K, S>()
+    ensures { (shape : Shape K S) (next : S) → is_fine shape.form ≡ true → (said shape ≡ Ok next) ↔ States shape next }
+{}
+
+/// It is refused with the kind of what fails first, and only then.
+pub fn texts_fail_first<K, S>()
+    ensures { (shape : Shape K S) (kind : K) → is_fine shape.form ≡ true → (said shape ≡ Err kind) ↔ Fails shape kind }
+{}
+
+/// The records of a grammar are read as what they state, one behind the other, and as nothing else.
+pub fn records_are_read<R, S, K, F>()
+    ensures { (grammar : Grammar R S K F) (number : ℕ) (state : S) (rows : List R) (last : S) → HasFineForms grammar
+        → (read_all grammar number state rows ≡ Ok last) ↔ AllState grammar number state rows last }
+{}
+
+/// They are refused with the fault of the first that states nothing, and only then.
+pub fn records_fail_first<R, S, K, F>()
+    ensures { (grammar : Grammar R S K F) (number : ℕ) (state : S) (rows : List R) (fault : F) → HasFineForms grammar
+        → (read_all grammar number state rows ≡ Err fault) ↔ IsFirstFault grammar number state rows fault }
 {}

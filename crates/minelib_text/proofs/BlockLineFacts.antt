@@ -10,7 +10,7 @@ use Rattle.forms.specs.Form.{Value, Millionths, Fit, Says, Spell, asked, below, 
 use Rattle.forms.specs.Steps.{◌>>=◌}
 use Rattle.pit_model.specs.declared.block.Block.{Block}
 use Rattle.minelib_text.specs.BlockLines.{block_of, block_said}
-use Rattle.minelib_text.specs.LineKinds.{text_kind}
+use Rattle.minelib_text.specs.LineKinds.{text_kinds}
 use Rattle.minelib_text.specs.SpelledBlocks.{IsBlockLine, asked_of_block, block_form}
 use Rattle.minelib_text.specs.LineValues.{block_values}
 use Rattle.minelib_text.specs.declared.text_fault.TextKind.TheVariants.{Order}
@@ -124,14 +124,14 @@ values_said before values b fit e =
 pub block_line : (before : ℕ) (fields : List (List ℕ)) (b : Block) → block_of before fields ≡ Ok b → IsBlockLine before fields b
 unfolding block_of
 block_line before fields b e =
-    bind_then (read text_kind block_form fields) (block_said before) b e (λ values says said.
-    let spell = read_spelled text_kind block_form fields values refl says in
+    bind_then (read text_kinds block_form fields) (block_said before) b e (λ values says said.
+    let spell = read_spelled text_kinds block_form fields values refl says in
     subst (Spell block_form fields) (values_said before values b (spelled_fit block_form fields values refl spell) said) spell)
 
 pub block_back : (before : ℕ) (fields : List (List ℕ)) (b : Block) → IsBlockLine before fields b → block_of before fields ≡ Ok b
 unfolding block_of
 block_back before fields b spell =
-    ap (λ r. r >>= block_said before) (spelled_read text_kind block_form fields (block_values before b) refl spell) ∙ said_again before b
+    ap (λ r. r >>= block_said before) (spelled_read text_kinds block_form fields (block_values before b) refl spell) ∙ said_again before b
 
 -- the identifier is asked of a line last
 seven_told : (before id x y z tonnes grade zone : ℕ) (first : List ℕ) → x < 10000 → y < 10000 → z < 10000 → tonnes ≤ 10 ^ 12 → grade ≤ 10 ^ 12 → zone < 64
@@ -147,9 +147,9 @@ seven_told before id x y z tonnes grade zone first low_x low_y low_z low_tonnes 
 pub block_told : (before : ℕ) (fields : List (List ℕ)) → Follows (block_of before fields) (asked_of_block before fields) (λ b. Unit {0})
 unfolding block_of
 block_told before fields =
-    bound (read text_kind block_form fields) (block_said before) (asked text_kind block_form fields)
+    bound (read text_kinds block_form fields) (block_said before) (asked text_kinds block_form fields)
     (demand Order (Says (below 64000000) (slice_index_or fields 0 []) (whole before))) (Spell block_form fields) (λ b. Unit {0})
-    (read_told text_kind block_form fields refl) (λ values spell.
+    (read_told text_kinds block_form fields refl) (λ values spell.
     let s = seven values (spelled_fit block_form fields values refl spell) in
     let first = says_at block_form fields _ 0 (subst (Spell block_form fields) s.are spell) in
     subst (λ vs. Follows (block_said before vs) (demand Order (Says (below 64000000) (slice_index_or fields 0 []) (whole before))) (λ b. Unit {0})) (sym s.are)

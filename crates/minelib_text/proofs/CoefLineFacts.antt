@@ -9,7 +9,7 @@ use Rattle.forms.specs.Steps.{◌>>=◌}
 use Rattle.mine_instance.specs.declared.coef.Coef.{Coef}
 use Rattle.minelib_text.specs.Kept.{IsDecimal}
 use Rattle.minelib_text.specs.FieldValues.{decimal_in, whole_in}
-use Rattle.minelib_text.specs.LineKinds.{text_kind}
+use Rattle.minelib_text.specs.LineKinds.{text_kinds}
 use Rattle.minelib_text.specs.Uncounted.{coef_alone, kind_by}
 use Rattle.minelib_text.specs.declared.model_key.Problem.{Problem}
 use Rattle.minelib_text.specs.declared.model_key.Problem.TheVariants.{Pcpsp, Cpit}
@@ -71,21 +71,21 @@ coef_there Cpit n destinations resources (b ∷ r ∷ []) fit = absurd fit.1.1
 coef_there Cpit n destinations resources (b ∷ r ∷ v ∷ x ∷ more) fit = absurd fit.1.1.1
 
 pub coef_told : (problem : Problem) (n destinations resources : ℕ) (fields : List (List ℕ))
-    → Follows (coef_of problem n destinations resources fields) (asked text_kind (coef_form problem n destinations resources) fields)
+    → Follows (coef_of problem n destinations resources fields) (asked text_kinds (coef_form problem n destinations resources) fields)
     (IsCoefLine problem n destinations resources fields)
 unfolding coef_of
 coef_told problem n destinations resources fields =
     let form = coef_form problem n destinations resources in
     let fine = coef_fine problem n destinations resources in
-    mapped (read text_kind form fields) (coef_said problem) (asked text_kind form fields) (Spell form fields)
-    (IsCoefLine problem n destinations resources fields) (read_told text_kind form fields fine) (λ values spell.
+    mapped (read text_kinds form fields) (coef_said problem) (asked text_kinds form fields) (Spell form fields)
+    (IsCoefLine problem n destinations resources fields) (read_told text_kinds form fields fine) (λ values spell.
     let said = coef_there problem n destinations resources values (spelled_fit form fields values fine spell) in
     (subst (Spell form fields) said.0 spell, said.1))
 
 pub coef_line : (problem : Problem) (n destinations resources : ℕ) (fields : List (List ℕ)) (c : Coef)
     → coef_of problem n destinations resources fields ≡ Ok c → IsCoefLine problem n destinations resources fields c
 coef_line problem n destinations resources fields c e =
-    (subst (λ r. Follows r (asked text_kind (coef_form problem n destinations resources) fields) (IsCoefLine problem n destinations resources fields)) e
+    (subst (λ r. Follows r (asked text_kinds (coef_form problem n destinations resources) fields) (IsCoefLine problem n destinations resources fields)) e
     (coef_told problem n destinations resources fields)).1
 
 pub coef_back : (problem : Problem) (n destinations resources : ℕ) (fields : List (List ℕ)) (c : Coef)
@@ -93,7 +93,7 @@ pub coef_back : (problem : Problem) (n destinations resources : ℕ) (fields : L
 unfolding coef_of
 coef_back problem n destinations resources fields c h =
     ap (λ r. r >>= λ values. Ok (coef_said problem values))
-    (spelled_read text_kind (coef_form problem n destinations resources) fields (coef_values problem c) (coef_fine problem n destinations resources) h.0)
+    (spelled_read text_kinds (coef_form problem n destinations resources) fields (coef_values problem c) (coef_fine problem n destinations resources) h.0)
     ∙ ap Ok (said_again problem c h.1)
 
 pub coef_keyless : (problem : Problem) (n destinations resources : ℕ) (fields : List (List ℕ)) (c : Coef)
@@ -120,7 +120,7 @@ alone_said Cpit n destinations resources fields =
 
 alone_read : (problem : Problem) (n destinations resources : ℕ) (fields : List (List ℕ))
     → coef_alone problem n destinations resources fields
-    ≡ (read_fields text_kind (coef_form problem n destinations resources) fields >>= λ values. Ok (coef_said problem values))
+    ≡ (read_fields text_kinds (coef_form problem n destinations resources) fields >>= λ values. Ok (coef_said problem values))
 unfolding said_of
 alone_read problem n destinations resources fields = alone_said problem n destinations resources fields
 
@@ -128,11 +128,11 @@ pub coef_counted : (problem : Problem) (n destinations resources : ℕ) (fields 
     → coef_alone problem n destinations resources fields ≡ Ok coef → coef_of problem n destinations resources fields ≡ Ok coef
 unfolding coef_of
 coef_counted problem n destinations resources fields coef e =
-    counted_later text_kind (coef_form problem n destinations resources) fields _ coef (sym (alone_read problem n destinations resources fields) ∙ e)
+    counted_later text_kinds (coef_form problem n destinations resources) fields _ coef (sym (alone_read problem n destinations resources fields) ∙ e)
 
 pub coef_kind : (problem : Problem) (n destinations resources : ℕ) (fields : List (List ℕ)) (kind : TextKind)
     → coef_alone problem n destinations resources fields ≡ Err kind
     → coef_of problem n destinations resources fields ≡ Err (kind_by (length fields == length (coef_form problem n destinations resources)) kind)
 unfolding coef_of
 coef_kind problem n destinations resources fields kind e =
-    fault_later text_kind (coef_form problem n destinations resources) fields _ kind (sym (alone_read problem n destinations resources fields) ∙ e)
+    fault_later text_kinds (coef_form problem n destinations resources) fields _ kind (sym (alone_read problem n destinations resources fields) ∙ e)

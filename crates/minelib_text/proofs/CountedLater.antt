@@ -9,7 +9,7 @@ use Rattle.forms.specs.Steps.{◌>>=◌}
 use Rattle.pit_model.specs.declared.block.Block.{Block}
 use Rattle.minelib_text.specs.BlockLines.{block_of, block_said, block_with, in_range}
 use Rattle.minelib_text.specs.FieldValues.{size_in, whole_in}
-use Rattle.minelib_text.specs.LineKinds.{text_kind}
+use Rattle.minelib_text.specs.LineKinds.{text_kinds}
 use Rattle.minelib_text.specs.PrecLines.{preds_of, preds_said}
 use Rattle.minelib_text.specs.SpelledBlocks.{block_form}
 use Rattle.minelib_text.specs.SpelledPrec.{preds_form}
@@ -39,18 +39,18 @@ alone_said before fields =
     step (below MAX_ZONES) _ (whole_in MAX_ZONES) whole rest6 _ _ (whole_reads MAX_ZONES) (λ zone rest7.
     last_step rest7 _ _ (seven_end before id x y z tonnes grade zone))))))))
 
-pub alone_read : (before : ℕ) (fields : List (List ℕ)) → block_alone before fields ≡ (read_fields text_kind block_form fields >>= block_said before)
+pub alone_read : (before : ℕ) (fields : List (List ℕ)) → block_alone before fields ≡ (read_fields text_kinds block_form fields >>= block_said before)
 unfolding said_of
 alone_read before fields = alone_said before fields
 
 pub block_counted : (before : ℕ) (fields : List (List ℕ)) (block : Block) → block_alone before fields ≡ Ok block → block_of before fields ≡ Ok block
 unfolding block_of
-block_counted before fields block e = counted_later text_kind block_form fields (block_said before) block (sym (alone_read before fields) ∙ e)
+block_counted before fields block e = counted_later text_kinds block_form fields (block_said before) block (sym (alone_read before fields) ∙ e)
 
 pub block_kind : (before : ℕ) (fields : List (List ℕ)) (kind : TextKind) → block_alone before fields ≡ Err kind
     → block_of before fields ≡ Err (kind_by (length fields == 7) kind)
 unfolding block_of
-block_kind before fields kind e = fault_later text_kind block_form fields (block_said before) kind (sym (alone_read before fields) ∙ e)
+block_kind before fields kind e = fault_later text_kinds block_form fields (block_said before) kind (sym (alone_read before fields) ∙ e)
 
 -- predecessors
 preds_alone_said : (n before : ℕ) (fields : List (List ℕ))
@@ -65,7 +65,7 @@ preds_alone_said n before (id ∷ count ∷ others) =
     wholes_step n [] others _ _ (λ ids. sym (said_is before own stated ids))))
 
 preds_alone_read : (n before : ℕ) (fields : List (List ℕ))
-    → preds_alone n before fields ≡ (read_fields text_kind (preds_form n fields) fields >>= preds_said before)
+    → preds_alone n before fields ≡ (read_fields text_kinds (preds_form n fields) fields >>= preds_said before)
 unfolding said_of
 preds_alone_read n before fields = preds_alone_said n before fields
 
@@ -73,7 +73,7 @@ pub preds_counted : (n before : ℕ) (fields : List (List ℕ)) (ids : List ℕ)
     → preds_alone n before fields ≡ Ok ids → preds_of n before fields ≡ Ok ids
 unfolding preds_of
 preds_counted n before fields ids e =
-    counted_later text_kind (preds_form n fields) fields (preds_said before) ids (sym (preds_alone_read n before fields) ∙ e)
+    counted_later text_kinds (preds_form n fields) fields (preds_said before) ids (sym (preds_alone_read n before fields) ∙ e)
 
 -- a line of fewer than two fields lacks some
 pub preds_by_count : (n before : ℕ) (fields : List (List ℕ))
@@ -85,5 +85,5 @@ preds_by_count n before (id ∷ count ∷ others) =
     let two : nat_lt (length (id ∷ count ∷ others)) 2 ≡ false = le-ltb _ 2 (omega arith) in
     let form = preds_form n (id ∷ count ∷ others) in
     let as_many : length (id ∷ count ∷ others) ≡ length form = omega (arith, length-map others (λ field. below n)) in
-    rw two (ap (λ r. r >>= preds_said before) (counted text_kind form (id ∷ count ∷ others) as_many)
+    rw two (ap (λ r. r >>= preds_said before) (counted text_kinds form (id ∷ count ∷ others) as_many)
     ∙ sym (preds_alone_read n before (id ∷ count ∷ others)))

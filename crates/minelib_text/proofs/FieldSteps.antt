@@ -12,7 +12,7 @@ use Rattle.pit_units.specs.declared.fault.DecFault.TheVariants as dec
 use Rattle.forms.specs.Form.{Field, Value, Millionths, below, number_of, read_field, read_fields, up_to, whole}
 use Rattle.forms.specs.Steps.{◌>>=◌}
 use Rattle.minelib_text.specs.FieldValues.{all_by, at_most, first_by, size_in, stated, whole_below, whole_in}
-use Rattle.minelib_text.specs.LineKinds.{text_kind}
+use Rattle.minelib_text.specs.LineKinds.{text_kind, text_kinds}
 use Rattle.minelib_text.specs.declared.text_fault.TextKind.{TextKind}
 use Rattle.minelib_text.specs.declared.text_fault.TextKind.TheVariants.{Fields, Range}
 
@@ -66,7 +66,7 @@ size_reads decimals most text = by (decimal_of decimals text)
 
 -- what is read of the fields of a form says something
 unfoldable pub said_of : {B : Type 0} → List Field → List (List ℕ) → (List Value → Result B TextKind) → Result B TextKind
-said_of form fields said = read_fields text_kind form fields >>= said
+said_of form fields said = read_fields text_kinds form fields >>= said
 
 -- no field is left
 pub none_step : {B : Type 0} (field : Field) (form : List Field) (said : List Value → Result B TextKind)
@@ -87,8 +87,8 @@ first_step {A} {B} field form rule value text rest next said reads goes_on = rw 
     tail x (Err kind) = refl
 
     by : (r : Result A TextKind) → ((r >>= λ x. Ok (x, rest)) >>= next)
-        ≡ (((r >>= λ x. Ok (value x)) >>= λ v. read_fields text_kind form rest >>= λ values. Ok (v ∷ values)) >>= said)
-    by (Ok x) = goes_on x ∙ tail x (read_fields text_kind form rest)
+        ≡ (((r >>= λ x. Ok (value x)) >>= λ v. read_fields text_kinds form rest >>= λ values. Ok (v ∷ values)) >>= said)
+    by (Ok x) = goes_on x ∙ tail x (read_fields text_kinds form rest)
     by (Err kind) = refl
 
 pub step : {A B : Type 0} (field : Field) (form : List Field) (rule : List ℕ → Result A TextKind) (value : A → Value) (fields : List (List ℕ))

@@ -8,7 +8,7 @@ use Rattle.pit_units.specs.Decimal.{decimal_of}
 use Rattle.pit_units.specs.declared.fault.DecFault.{DecFault}
 use Rattle.pit_units.specs.declared.fault.DecFault.TheVariants as dec
 use Rattle.forms.proofs.FormFacts.{true_le}
-use Rattle.forms.specs.Form.{Field, Decimal, Word, Value, Millionths, Bytes, FitsField, Fit, Spell, below, millionths, number_of, whole, written}
+use Rattle.forms.specs.Form.{Field, Decimal, Stepped, Word, Value, Millionths, Bytes, FitsField, Fit, Spell, below, millionths, number_of, whole, written}
 use Rattle.forms.specs.Steps.{◌>>=◌}
 use Rattle.minelib_text.specs.FieldValues.{decimal_in, stated}
 use Rattle.minelib_text.specs.Kept.{IsDecimal}
@@ -67,6 +67,7 @@ any_reads text = by (decimal_of 6 text) refl
 abbrev pub ArePlain : List Field → Type 0
 ArePlain [] = Unit {0}
 ArePlain (Decimal decimals low high ∷ form) = ArePlain form
+ArePlain (Stepped decimals step low high ∷ form) = ArePlain form
 ArePlain (Word passes ∷ form) = ((word : List ℕ) → passes word ≡ true → IsField word) × ArePlain form
 
 plain_keyless : (bytes : List ℕ) → list_all is_plain bytes ≡ true → list_any is_colon bytes ≡ false
@@ -82,6 +83,9 @@ spelled_keyless (field ∷ form) (text ∷ fields) [] plain spell = absurd spell
 spelled_keyless (Decimal decimals low high ∷ form) (text ∷ fields) (Millionths m ∷ values) plain spell =
     rw (number_no_colon decimals text m spell.0.0, spelled_keyless form fields values plain spell.1) refl
 spelled_keyless (Decimal decimals low high ∷ form) (text ∷ fields) (Bytes word ∷ values) plain spell = absurd spell.0
+spelled_keyless (Stepped decimals step low high ∷ form) (text ∷ fields) (Millionths m ∷ values) plain spell =
+    rw (number_no_colon decimals text m spell.0.0, spelled_keyless form fields values plain spell.1) refl
+spelled_keyless (Stepped decimals step low high ∷ form) (text ∷ fields) (Bytes word ∷ values) plain spell = absurd spell.0
 spelled_keyless (Word passes ∷ form) (text ∷ fields) (Millionths m ∷ values) plain spell = absurd spell.0
 spelled_keyless (Word passes ∷ form) (text ∷ fields) (Bytes word ∷ values) plain spell =
     rw (plain_keyless text (plain.0 text spell.0.1).bytes, spelled_keyless form fields values plain.1 spell.1) refl
@@ -93,5 +97,8 @@ written_fields [] (value ∷ values) plain fit = absurd fit
 written_fields (field ∷ form) [] plain fit = absurd fit
 written_fields (Decimal decimals low high ∷ form) (Millionths m ∷ values) plain fit = (decimal_field m fit.0.2, written_fields form values plain fit.1)
 written_fields (Decimal decimals low high ∷ form) (Bytes word ∷ values) plain fit = absurd fit.0
+written_fields (Stepped decimals step low high ∷ form) (Millionths m ∷ values) plain fit =
+    (decimal_field m fit.0.0.2, written_fields form values plain fit.1)
+written_fields (Stepped decimals step low high ∷ form) (Bytes word ∷ values) plain fit = absurd fit.0
 written_fields (Word passes ∷ form) (Millionths m ∷ values) plain fit = absurd fit.0
 written_fields (Word passes ∷ form) (Bytes word ∷ values) plain fit = (plain.0 word fit.0, written_fields form values plain.1 fit.1)

@@ -16,7 +16,7 @@ use Rattle.pit_model.specs.declared.limit.Bound.TheVariants.{AtMost, AtLeast, Be
 use Rattle.pit_model.specs.declared.limit.Limit.{Limit}
 use Rattle.minelib_text.specs.FieldValues.{decimal_in, whole_in}
 use Rattle.minelib_text.specs.Kept.{HasDecimals}
-use Rattle.minelib_text.specs.LineKinds.{text_kind}
+use Rattle.minelib_text.specs.LineKinds.{text_kinds}
 use Rattle.minelib_text.specs.ModelLines.{limit_of, limit_said}
 use Rattle.minelib_text.specs.Uncounted.{limit_alone}
 use Rattle.minelib_text.specs.declared.text_fault.TextKind.{TextKind}
@@ -120,20 +120,20 @@ limit_there resources periods true (r ∷ t ∷ Bytes word ∷ v ∷ w ∷ x ∷
 limit_there resources periods false (r ∷ t ∷ Bytes word ∷ v ∷ w ∷ more) fit = absurd fit.1.1.1.1
 
 pub limit_told : (resources periods : ℕ) (fields : List (List ℕ))
-    → Follows (limit_of resources periods fields) (asked text_kind (limit_form resources periods fields) fields)
+    → Follows (limit_of resources periods fields) (asked text_kinds (limit_form resources periods fields) fields)
     (λ l. Spell (limit_form resources periods fields) fields (limit_values l))
 unfolding limit_of Shows
 limit_told resources periods fields =
     let form = limit_form resources periods fields in
-    mapped (read text_kind form fields) limit_said (asked text_kind form fields) (Spell form fields) _
-    (read_told text_kind form fields (limit_fine resources periods fields)) (λ values spell.
+    mapped (read text_kinds form fields) limit_said (asked text_kinds form fields) (Spell form fields) _
+    (read_told text_kinds form fields (limit_fine resources periods fields)) (λ values spell.
     subst (Spell form fields) (limit_there resources periods (bytes_eq (slice_index_or fields 2 []) (codes "I")) values
     (spelled_fit form fields values (limit_fine resources periods fields) spell)) spell)
 
 pub limit_line : (resources periods : ℕ) (fields : List (List ℕ)) (l : Limit) → limit_of resources periods fields ≡ Ok l → is_turned l.bound ≡ false
     → IsLimitLine resources periods fields l
 limit_line resources periods fields l e straight = (
-  (subst (λ r. Follows r (asked text_kind (limit_form resources periods fields) fields) (λ l. Spell (limit_form resources periods fields) fields (limit_values l)))
+  (subst (λ r. Follows r (asked text_kinds (limit_form resources periods fields) fields) (λ l. Spell (limit_form resources periods fields) fields (limit_values l)))
       e (limit_told resources periods fields)).1,
   straight,
 )
@@ -143,7 +143,7 @@ pub limit_back : (resources periods : ℕ) (fields : List (List ℕ)) (l : Limit
 unfolding limit_of
 limit_back resources periods fields l h =
     ap (λ r. r >>= λ values. Ok (limit_said values))
-    (spelled_read text_kind (limit_form resources periods fields) fields (limit_values l) (limit_fine resources periods fields) h.0)
+    (spelled_read text_kinds (limit_form resources periods fields) fields (limit_values l) (limit_fine resources periods fields) h.0)
     ∙ ap Ok (said_again l.resource l.period l.bound)
 
 -- a line spells one limit
@@ -158,7 +158,7 @@ one_limit resources periods fields l m first second = same _ _ _ (back l first) 
     back : (l : Limit) → Spell (limit_form resources periods fields) fields (limit_values l) → limit_of resources periods fields ≡ Ok l
     back l spell =
         ap (λ r. r >>= λ values. Ok (limit_said values))
-        (spelled_read text_kind (limit_form resources periods fields) fields (limit_values l) (limit_fine resources periods fields) spell)
+        (spelled_read text_kinds (limit_form resources periods fields) fields (limit_values l) (limit_fine resources periods fields) spell)
         ∙ ap Ok (said_again l.resource l.period l.bound)
 
 pub limit_keyless : (resources periods : ℕ) (fields : List (List ℕ)) (l : Limit) → IsLimitLine resources periods fields l → have_colon fields ≡ false

@@ -8,7 +8,7 @@ use Rattle.forms.specs.Demands.{Demand, demand}
 use Rattle.forms.specs.Form.{Spell, asked, Field, Says, asked_of_field, millionths, read_field, whole as whole_value}
 use Rattle.forms.proofs.NumberFields.{one_whole}
 use Rattle.forms.specs.Steps.{◌>>=◌}
-use Rattle.minelib_text.specs.LineKinds.{text_kind}
+use Rattle.minelib_text.specs.LineKinds.{text_kind, text_kinds}
 use Rattle.pit_model.specs.Plan.{stands_before}
 use Rattle.pit_model.specs.Plan.{is_turned}
 use Rattle.pit_model.specs.declared.limit.Limit.{Limit}
@@ -105,7 +105,7 @@ key_told d (Some (model_key.Section section)) values =
 
 admit_coef_told : (d : ModelDraftView) (fields : List (List ℕ)) → Follows (admit_coef d fields) (asked_of_coef d fields) (λ y. Unit {0})
 admit_coef_told d fields =
-    bound (coef_of d.problem n destinations resources fields) _ (asked text_kind (coef_form d.problem n destinations resources) fields) _
+    bound (coef_of d.problem n destinations resources fields) _ (asked text_kinds (coef_form d.problem n destinations resources) fields) _
     (IsCoefLine d.problem n destinations resources fields) (λ y. Unit {0}) (coef_told d.problem n destinations resources fields) (λ c is.
     passed (is_behind comes_before (last_of d.coefs) c) fault.Order
     ((c : Coef) × IsCoefLine d.problem n destinations resources fields c × (is_behind comes_before (last_of d.coefs) c ≡ true))
@@ -131,7 +131,7 @@ admit_coef_told d fields =
 
 admit_limit_told : (d : ModelDraftView) (fields : List (List ℕ)) → Follows (admit_limit d fields) (asked_of_limit d fields) (λ y. Unit {0})
 admit_limit_told d fields =
-    bound (limit_of resources periods fields) _ (asked text_kind (limit_form resources periods fields) fields) _
+    bound (limit_of resources periods fields) _ (asked text_kinds (limit_form resources periods fields) fields) _
     (λ l. Spell (limit_form resources periods fields) fields (limit_values l)) (λ y. Unit {0}) (limit_told resources periods fields) (λ l is.
     guarded (is_turned l.bound || not (is_behind stands_before (last_of d.limits) l)) fault.Order
     ((l : Limit) × IsLimitLine resources periods fields l × (is_behind stands_before (last_of d.limits) l ≡ true))

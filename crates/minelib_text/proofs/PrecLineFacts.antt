@@ -11,7 +11,7 @@ use Rattle.forms.specs.Form.{Value, Fit, Says, Spell, asked, below, is_fine, rea
 use Rattle.forms.specs.Steps.{◌>>=◌}
 use Rattle.mine_instance.specs.Valid.{ArePredsOf}
 use Rattle.pit_units.proofs.Written.{whole_written}
-use Rattle.minelib_text.specs.LineKinds.{text_kind}
+use Rattle.minelib_text.specs.LineKinds.{text_kinds}
 use Rattle.minelib_text.specs.PrecLines.{stands_in, all_differ, preds_of, preds_said, preds_with, whole_of}
 use Rattle.minelib_text.specs.SpelledPrec.{IsPredsLine, SpellsPreds, asked_of_preds, preds_form}
 use Rattle.minelib_text.specs.LineValues.{preds_values}
@@ -93,8 +93,8 @@ with_again own n ids are = rw (eq-eqb own own refl, eq-eqb (length ids) (length 
 pub preds_line : (n own : ℕ) (fields : List (List ℕ)) (ids : List ℕ) → preds_of n own fields ≡ Ok ids → IsPredsLine n own fields ids
 unfolding preds_of
 preds_line n own fields ids e =
-    bind_then (read text_kind (preds_form n fields) fields) (preds_said own) ids e (λ values says said.
-    let spell = read_spelled text_kind (preds_form n fields) fields values (fine n fields) says in
+    bind_then (read text_kinds (preds_form n fields) fields) (preds_said own) ids e (λ values says said.
+    let spell = read_spelled text_kinds (preds_form n fields) fields values (fine n fields) says in
     let p = parts n fields values (spelled_fit (preds_form n fields) fields values (fine n fields) spell) in
     guard_then (not (p.id == own)) Order _ ids (sym (said_is own p.id p.stated p.ids) ∙ ap (preds_said own) (sym p.are) ∙ said) (λ t1 e1.
     guard_then (not (p.stated == length p.ids)) Count _ ids e1 (λ t2 e2.
@@ -108,14 +108,14 @@ preds_line n own fields ids e =
 pub preds_back : (n own : ℕ) (fields : List (List ℕ)) (ids : List ℕ) → IsPredsLine n own fields ids → preds_of n own fields ≡ Ok ids
 unfolding preds_of
 preds_back n own fields ids h =
-    ap (λ r. r >>= preds_said own) (spelled_read text_kind (preds_form n fields) fields (preds_values own ids) (fine n fields) h.0)
+    ap (λ r. r >>= preds_said own) (spelled_read text_kinds (preds_form n fields) fields (preds_values own ids) (fine n fields) h.0)
     ∙ said_is own own (length ids) ids ∙ with_again own n ids h.1
 
 -- a line spells one list
 one_list : (n own : ℕ) (fields : List (List ℕ)) (a b : List ℕ) → SpellsPreds n own fields a → SpellsPreds n own fields b → a ≡ b
 one_list n own fields a b first second =
-    let first_read = spelled_read text_kind (preds_form n fields) fields (preds_values own a) (fine n fields) first in
-    let second_read = spelled_read text_kind (preds_form n fields) fields (preds_values own b) (fine n fields) second in
+    let first_read = spelled_read text_kinds (preds_form n fields) fields (preds_values own a) (fine n fields) first in
+    let second_read = spelled_read text_kinds (preds_form n fields) fields (preds_values own b) (fine n fields) second in
     let same = same_ok (preds_values own a) (preds_values own b) (sym first_read ∙ second_read) in
     sym (wholes_again a) ∙ ap (λ values. map whole_of (drop 2 values)) same
     ∙ wholes_again b
@@ -148,9 +148,9 @@ with_told n own fields id stated ids spell low count =
 pub preds_told : (n own : ℕ) (fields : List (List ℕ)) → Follows (preds_of n own fields) (asked_of_preds n own fields) (λ ids. Unit {0})
 unfolding preds_of
 preds_told n own fields =
-    bound (read text_kind (preds_form n fields) fields) (preds_said own) (asked text_kind (preds_form n fields) fields)
+    bound (read text_kinds (preds_form n fields) fields) (preds_said own) (asked text_kinds (preds_form n fields) fields)
     (asked_behind n own fields) (Spell (preds_form n fields) fields) (λ ids. Unit {0})
-    (read_told text_kind (preds_form n fields) fields (fine n fields)) (λ values spell.
+    (read_told text_kinds (preds_form n fields) fields (fine n fields)) (λ values spell.
     let p = parts n fields values (spelled_fit (preds_form n fields) fields values (fine n fields) spell) in
     let said : preds_with own p.id p.stated p.ids ≡ preds_said own values =
     sym (said_is own p.id p.stated p.ids) ∙ ap (preds_said own) (sym p.are) in

@@ -14,7 +14,7 @@ use Rattle.pit_units.proofs.Written.{whole_written}
 use Rattle.pit_units.specs.Decimal.{shortest}
 use Rattle.minelib_text.specs.Kept.{IsDecimal}
 use Rattle.minelib_text.specs.FieldValues.{all_by, decimal_in, whole_in}
-use Rattle.minelib_text.specs.LineKinds.{text_kind}
+use Rattle.minelib_text.specs.LineKinds.{text_kinds}
 use Rattle.minelib_text.specs.Uncounted.{AdmitsCounted, kind_by, values_alone}
 use Rattle.minelib_text.specs.declared.read_fault.LineError.{LineError}
 use Rattle.minelib_text.specs.declared.read_fault.LineError.TheVariants as line_error
@@ -68,12 +68,12 @@ values_fits n destinations block values few low count decimals = (whole_fits n b
 
 pub values_told : (n destinations before : ℕ) (fields : List (List ℕ))
     → Follows (values_of n destinations before fields)
-    (asked text_kind (values_form n destinations) fields ++ demand Order (Says (below n) (slice_index_or fields 0 []) (whole before)))
+    (asked text_kinds (values_form n destinations) fields ++ demand Order (Says (below n) (slice_index_or fields 0 []) (whole before)))
     (IsValuesLine n destinations before fields)
 unfolding values_of
 values_told n destinations before fields =
-    bound (read text_kind form fields) (values_said before) (asked text_kind form fields) _ (Spell form fields) _
-    (read_told text_kind form fields (many_fine destinations)) (λ values spell.
+    bound (read text_kinds form fields) (values_said before) (asked text_kinds form fields) _ (Spell form fields) _
+    (read_told text_kinds form fields (many_fine destinations)) (λ values spell.
     of_them values spell (spelled_fit form fields values (many_fine destinations) spell) (says_at form fields values 0 spell))
   where
     form : List Field
@@ -104,14 +104,14 @@ values_told n destinations before fields =
 pub values_line : (n destinations before : ℕ) (fields : List (List ℕ)) (values : List ℤ) → values_of n destinations before fields ≡ Ok values
     → IsValuesLine n destinations before fields values
 values_line n destinations before fields values e =
-    (subst (λ r. Follows r (asked text_kind (values_form n destinations) fields ++ demand Order (Says (below n) (slice_index_or fields 0 []) (whole before)))
+    (subst (λ r. Follows r (asked text_kinds (values_form n destinations) fields ++ demand Order (Says (below n) (slice_index_or fields 0 []) (whole before)))
     (IsValuesLine n destinations before fields)) e (values_told n destinations before fields)).1
 
 pub values_back : (n destinations before : ℕ) (fields : List (List ℕ)) (values : List ℤ) → IsValuesLine n destinations before fields values
     → values_of n destinations before fields ≡ Ok values
 unfolding values_of
 values_back n destinations before fields values spell =
-    ap (λ r. r >>= values_said before) (spelled_read text_kind (values_form n destinations) fields (values_values before values) (many_fine destinations) spell)
+    ap (λ r. r >>= values_said before) (spelled_read text_kinds (values_form n destinations) fields (values_values before values) (many_fine destinations) spell)
     ∙ rw (quotient before, eq-eqb before before refl, many_again values) refl
 
 pub values_keyless : (n destinations before : ℕ) (fields : List (List ℕ)) (values : List ℤ) → IsValuesLine n destinations before fields values
@@ -133,7 +133,7 @@ values_width n destinations = omega (arith, length-replicate destinations any)
 
 -- decimals one by one, as the code reads them
 many_read : (k : ℕ) (done : List ℤ) (fields : List (List ℕ)) → length fields ≡ k
-    → all_by decimal_in done fields ≡ (read_fields text_kind (replicate k any) fields >>= λ values. Ok (done ++ map millionths values))
+    → all_by decimal_in done fields ≡ (read_fields text_kinds (replicate k any) fields >>= λ values. Ok (done ++ map millionths values))
 many_read zero done [] count = ap Ok (sym (append-nil done))
 many_read zero done (field ∷ fields) count = absurd (omega (arith, count))
 many_read (suc k) done [] count = absurd (omega (arith, count))
@@ -145,11 +145,11 @@ many_read (suc k) done (field ∷ fields) count = rw (any_reads field) (by (λ m
     tail m (Err found) = refl
 
     by : ((m : ℤ) → all_by decimal_in (done ++ m ∷ []) fields
-        ≡ (read_fields text_kind (replicate k any) fields >>= λ values. Ok ((done ++ m ∷ []) ++ map millionths values)))
+        ≡ (read_fields text_kinds (replicate k any) fields >>= λ values. Ok ((done ++ m ∷ []) ++ map millionths values)))
         → (r : Result ℤ TextKind) → (r >>= λ x. all_by decimal_in (done ++ x ∷ []) fields)
-        ≡ (((r >>= λ m. Ok (Millionths m)) >>= λ v. read_fields text_kind (replicate k any) fields >>= λ values. Ok (v ∷ values))
+        ≡ (((r >>= λ m. Ok (Millionths m)) >>= λ v. read_fields text_kinds (replicate k any) fields >>= λ values. Ok (v ∷ values))
         >>= λ values. Ok (done ++ map millionths values))
-    by deeper (Ok m) = deeper m ∙ tail m (read_fields text_kind (replicate k any) fields)
+    by deeper (Ok m) = deeper m ∙ tail m (read_fields text_kinds (replicate k any) fields)
     by deeper (Err found) = refl
 
 pub values_counted : (n destinations before : ℕ) (fields : List (List ℕ)) → length fields ≡ destinations + 1
@@ -157,7 +157,7 @@ pub values_counted : (n destinations before : ℕ) (fields : List (List ℕ)) �
 unfolding values_of
 values_counted n destinations before [] count = absurd (omega (arith, count))
 values_counted n destinations before (field ∷ fields) count =
-    ap (λ r. r >>= values_said before) (counted text_kind (values_form n destinations) (field ∷ fields) (count ∙ sym (values_width n destinations)))
+    ap (λ r. r >>= values_said before) (counted text_kinds (values_form n destinations) (field ∷ fields) (count ∙ sym (values_width n destinations)))
     ∙ rw (whole_reads n field) (by (whole_in n field))
   where
     tail : (block : ℕ) (r : Result (List Value) TextKind) → ((r >>= λ values. Ok (whole block ∷ values)) >>= values_said before)
@@ -166,10 +166,10 @@ values_counted n destinations before (field ∷ fields) count =
     tail block (Err found) = refl
 
     by : (r : Result ℕ TextKind)
-        → (((r >>= λ x. Ok (whole x)) >>= λ v. read_fields text_kind (replicate destinations any) fields >>= λ values. Ok (v ∷ values)) >>= values_said before)
+        → (((r >>= λ x. Ok (whole x)) >>= λ v. read_fields text_kinds (replicate destinations any) fields >>= λ values. Ok (v ∷ values)) >>= values_said before)
         ≡ ◌>>=◌ {A = ℕ × List (List ℕ)} (r >>= λ x. Ok (x, fields)) (λ b.
         all_by decimal_in [] b.1 >>= λ values. if not (b.0 == before) then Err Order else Ok values)
-    by (Ok block) = rw (many_read destinations [] fields (omega (arith, count))) (tail block (read_fields text_kind (replicate destinations any) fields))
+    by (Ok block) = rw (many_read destinations [] fields (omega (arith, count))) (tail block (read_fields text_kinds (replicate destinations any) fields))
     by (Err found) = refl
 
 pub values_admitted : {A : Type 0} (n destinations before : ℕ) (fields : List (List ℕ)) (row : List ℤ) (r : Result A LineError)

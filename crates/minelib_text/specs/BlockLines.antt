@@ -4,7 +4,7 @@ use Rattle.std.proofs.lemmas.Bool.{and_parts, ltb-true, leb-true}
 use Rattle.forms.specs.Form.{Value, number_at, read, whole_at}
 use Rattle.forms.specs.Steps.{◌>>=◌}
 use Rattle.pit_model.specs.declared.block.Block.{Block}
-use Rattle.minelib_text.specs.LineKinds.{text_kind}
+use Rattle.minelib_text.specs.LineKinds.{text_kinds}
 use Rattle.minelib_text.specs.Reading.{read_lines}
 use Rattle.minelib_text.specs.SpelledBlocks.{block_form}
 use Rattle.minelib_text.specs.TextLines.{fields_of, lines_in}
@@ -59,7 +59,7 @@ block_said before values =
 
 -- the block of a line
 unfoldable pub block_of : ℕ → List (List ℕ) → Result Block TextKind
-block_of before fields = read text_kind block_form fields >>= block_said before
+block_of before fields = read text_kinds block_form fields >>= block_said before
 
 -- a line of the file, after those of these blocks
 abbrev pub admit_block : List Block → List ℕ → Result (List Block) TextKind

@@ -9,7 +9,7 @@ use Rattle.pit_model.specs.declared.limit.Limit.{Limit}
 use Rattle.mine_instance.specs.Order.{comes_before}
 use Rattle.mine_instance.specs.declared.coef.Coef.{Coef}
 use Rattle.minelib_text.specs.KeyFields.{field_of}
-use Rattle.minelib_text.specs.LineKinds.{text_kind}
+use Rattle.minelib_text.specs.LineKinds.{text_kind, text_kinds}
 use Rattle.minelib_text.specs.HeaderKeys.{count_in, is_given}
 use Rattle.minelib_text.specs.ModelLines.{ModelDraftView, is_colon, is_heading, is_next, is_ready, is_behind, key_of, last_of}
 use Rattle.minelib_text.specs.ModelSoFar.{SpellSoFar}
@@ -51,13 +51,13 @@ asked_of_key d (Some (model_key.Section section)) values =
 -- `b v0 v1 ..`: those of the next block
 abbrev pub asked_of_values : ModelDraftView → List (List ℕ) → List (Demand TextKind)
 asked_of_values d fields =
-    asked text_kind (values_form d.blocks (count_in d.header key.Destinations)) fields
+    asked text_kinds (values_form d.blocks (count_in d.header key.Destinations)) fields
     ++ demand fault.Order (Says (below d.blocks) (field_at fields 0) (whole_value (length d.values)))
 
 -- a coefficient, behind the last one
 abbrev pub asked_of_coef : ModelDraftView → List (List ℕ) → List (Demand TextKind)
 asked_of_coef d fields =
-    asked text_kind (coef_form d.problem d.blocks (count_in d.header key.Destinations)
+    asked text_kinds (coef_form d.problem d.blocks (count_in d.header key.Destinations)
     (count_in d.header key.Resources)) fields
     ++ demand fault.Order ((c : Coef)
     × IsCoefLine d.problem d.blocks (count_in d.header key.Destinations) (count_in d.header key.Resources)
@@ -66,7 +66,7 @@ asked_of_coef d fields =
 -- a limit, the right way round and behind the last one
 abbrev pub asked_of_limit : ModelDraftView → List (List ℕ) → List (Demand TextKind)
 asked_of_limit d fields =
-    asked text_kind
+    asked text_kinds
     (limit_form (count_in d.header key.Resources) (count_in d.header key.Periods) fields) fields
     ++ demand fault.Order ((l : Limit)
     × IsLimitLine (count_in d.header key.Resources) (count_in d.header key.Periods) fields l

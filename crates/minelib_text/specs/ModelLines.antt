@@ -12,7 +12,7 @@ use Rattle.mine_instance.specs.Order.{comes_before}
 use Rattle.mine_instance.specs.declared.coef.Coef.{Coef}
 use Rattle.minelib_text.specs.HeaderKeys.{no_key, with_key, count_in, is_given, is_complete}
 use Rattle.minelib_text.specs.KeyFields.{number_in}
-use Rattle.minelib_text.specs.LineKinds.{text_kind}
+use Rattle.minelib_text.specs.LineKinds.{text_kinds}
 use Rattle.minelib_text.specs.Reading.{read_lines}
 use Rattle.minelib_text.specs.SpelledItems.{coef_form, limit_form, values_form}
 use Rattle.minelib_text.specs.TextLines.{fields_of, lines_in, end_of}
@@ -163,7 +163,7 @@ values_said before values =
 -- `b v0 v1 ..` of n blocks, one value for each destination
 unfoldable pub values_of : ℕ → ℕ → ℕ → List (List ℕ) → Result (List ℤ) TextKind
 values_of n destinations before fields =
-    read text_kind (values_form n destinations) fields >>= values_said before
+    read text_kinds (values_form n destinations) fields >>= values_said before
 
 -- the coefficient of the values of a line; a CPIT has one destination
 abbrev pub coef_said : Problem → List Value → Coef
@@ -183,7 +183,7 @@ coef_said Cpit values = record {
 -- `b d r v`, or `b r v`
 unfoldable pub coef_of : Problem → ℕ → ℕ → ℕ → List (List ℕ) → Result Coef TextKind
 coef_of problem n destinations resources fields = do
-  values ← read text_kind (coef_form problem n destinations resources) fields
+  values ← read text_kinds (coef_form problem n destinations resources) fields
   Ok (coef_said problem values)
 
 -- the last item of a list, if there is one
@@ -217,7 +217,7 @@ limit_said values = record {
 -- `r t` and a bound
 unfoldable pub limit_of : ℕ → ℕ → List (List ℕ) → Result Limit TextKind
 limit_of resources periods fields = do
-  values ← read text_kind (limit_form resources periods fields) fields
+  values ← read text_kinds (limit_form resources periods fields) fields
   Ok (limit_said values)
 
 -- a line of the objective

@@ -3,7 +3,7 @@ use Rattle.std.specs.Prelude.{ℕ, ◌/◌, ◌^◌, ◌==◌, ◌&&◌, ◌||�
 use Rattle.std.specs.List.{list_any}
 use Rattle.forms.specs.Form.{Value, millionths, read, whole_at}
 use Rattle.forms.specs.Steps.{◌>>=◌}
-use Rattle.minelib_text.specs.LineKinds.{text_kind}
+use Rattle.minelib_text.specs.LineKinds.{text_kinds}
 use Rattle.minelib_text.specs.Reading.{read_lines}
 use Rattle.minelib_text.specs.SpelledPrec.{preds_form}
 use Rattle.minelib_text.specs.TextLines.{fields_of, lines_in, end_of}
@@ -48,7 +48,7 @@ preds_said before values =
 
 -- `id k p1 .. pk` of n blocks: the predecessors in any order, none twice and none the block itself
 unfoldable pub preds_of : ℕ → ℕ → List (List ℕ) → Result (List ℕ) TextKind
-preds_of n before fields = read text_kind (preds_form n fields) fields >>= preds_said before
+preds_of n before fields = read text_kinds (preds_form n fields) fields >>= preds_said before
 
 -- a line of the file, after those so far
 abbrev pub admit_preds : PrecDraftView → List ℕ → Result PrecDraftView TextKind

@@ -3,7 +3,7 @@ use Rattle.std.specs.Prelude.{ℕ, ◌*◌, List, [], ◌∷◌, ◌++◌, slice
 use Rattle.forms.specs.Demands.{Demand, demand}
 use Rattle.forms.specs.Form.{Field, Says, Spell, asked, below, up_to, whole}
 use Rattle.pit_model.specs.declared.block.Block.{Block}
-use Rattle.minelib_text.specs.LineKinds.{text_kind}
+use Rattle.minelib_text.specs.LineKinds.{text_kinds}
 use Rattle.minelib_text.specs.SpelledLines.{AreLines}
 use Rattle.minelib_text.specs.TextLines.{Line, fields_of}
 use Rattle.minelib_text.specs.declared.text_fault.TextKind.{TextKind}
@@ -29,5 +29,5 @@ AreBlockLines id lines blocks =
 -- number
 abbrev pub asked_of_block : ℕ → List (List ℕ) → List (Demand TextKind)
 asked_of_block before fields =
-    asked text_kind block_form fields
+    asked text_kinds block_form fields
     ++ demand Order (Says (below MAX_BLOCKS) (slice_index_or fields 0 []) (whole before))

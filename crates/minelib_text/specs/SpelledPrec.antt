@@ -4,7 +4,7 @@ use Rattle.std.specs.Prelude.{ℕ, List, [], ◌∷◌, ◌++◌, length, map, d
 use Rattle.forms.specs.Demands.{Demand, demand}
 use Rattle.forms.specs.Form.{Field, Says, Spell, asked, below, whole}
 use Rattle.mine_instance.specs.Valid.{ArePredsOf}
-use Rattle.minelib_text.specs.LineKinds.{text_kind}
+use Rattle.minelib_text.specs.LineKinds.{text_kinds}
 use Rattle.minelib_text.specs.SpelledLines.{AreLines}
 use Rattle.minelib_text.specs.TextLines.{Line, fields_of}
 use Rattle.minelib_text.specs.declared.text_fault.TextKind.{TextKind}
@@ -30,7 +30,7 @@ ArePredsLines n own lines lists =
 -- counts, and that they are predecessors of the block
 abbrev pub asked_of_preds : ℕ → ℕ → List (List ℕ) → List (Demand TextKind)
 asked_of_preds n own fields =
-    asked text_kind (preds_form n fields) fields
+    asked text_kinds (preds_form n fields) fields
     ++ (demand Order (Says (below n) (slice_index_or fields 0 []) (whole own))
     ++ demand Count (Says (below n) (slice_index_or fields 1 []) (whole (length (drop 2 fields))))
     ++ demand Twice ((ids : List ℕ) → SpellsPreds n own fields ids → ArePredsOf own n ids))

@@ -14,6 +14,7 @@ plan_kind fault.Count = Width
 plan_kind fault.Number = Number
 plan_kind fault.TooFine = TooFine
 plan_kind fault.Range = Range
+plan_kind fault.OffStep = Range
 plan_kind fault.Word = Name
 
 -- a whole number from the lowest to the highest

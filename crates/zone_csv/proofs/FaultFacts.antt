@@ -7,7 +7,7 @@ use Rattle.pit_model.specs.declared.block.Block.{Block}
 use Rattle.pit_model.specs.declared.grid.Grid.{Grid}
 use Rattle.forms.specs.FieldFault.{FieldFault}
 use Rattle.forms.specs.FieldFault as fault
-use Rattle.forms.specs.Form.{Field, Decimal, Word, Value, Millionths, Bytes, millionths, number_of, read_field}
+use Rattle.forms.specs.Form.{Field, Decimal, Stepped, Word, Value, Millionths, Bytes, is_on_step, millionths, number_of, read_decimal, read_field}
 use Rattle.forms.specs.Steps.{◌>>=◌}
 use Rattle.pit_model.specs.declared.grid.Axis.{Axis}
 use Rattle.pit_units.specs.Decimal.{decimal_of}
@@ -64,10 +64,16 @@ field_of_row row place field cell = by field
     number (Err dec.TooFine) = refl
     number (Err dec.Range) = refl
 
-    by : (field : Field) → IsOfRow row Any (read_field (of_cell row place) field cell)
-    by (Decimal decimals low high) =
+    ranged : (decimals : ℕ) (low high : ℤ) → IsOfRow row Any (read_decimal (of_cell row place) decimals low high cell)
+    ranged decimals low high =
         next_of_row row Any (number_of (of_cell row place) (decimal_of decimals cell)) _ (number (decimal_of decimals cell))
         (λ m. tested (Millionths m) (int_le low m && int_le m high) fault.Range)
+
+    by : (field : Field) → IsOfRow row Any (read_field (of_cell row place) field cell)
+    by (Decimal decimals low high) = ranged decimals low high
+    by (Stepped decimals step low high) =
+        next_of_row row Any (read_decimal (of_cell row place) decimals low high cell) _ (ranged decimals low high)
+        (λ value. tested value (is_on_step step low (millionths value)) fault.OffStep)
     by (Word passes) = tested (Bytes cell) (passes cell) fault.Word
 
 index_of_row : (row : ℕ) (place : Column) (axis : Axis) (cell : List ℕ) → IsOfRow row Any (index_of row place axis cell)

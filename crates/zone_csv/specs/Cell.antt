@@ -24,6 +24,7 @@ row_kind fault.Count = Width
 row_kind fault.Number = Number
 row_kind fault.TooFine = TooFine
 row_kind fault.Range = Range
+row_kind fault.OffStep = OffGrid
 row_kind fault.Word = Number
 
 -- the fault of this row and column for what is wrong with its field
