@@ -1,6 +1,6 @@
 -- Lines that spell the items of a list.
-use Rattle.std.specs.Prelude.{◌≡◌, ℕ, zero, suc, ◌+◌, ◌<◌, List, [], ◌∷◌, ◌++◌, length, All}
-use Rattle.std.proofs.Common.{subst, arith, get_or}
+use Rattle.std.specs.Prelude.{◌≡◌, ℕ, ◌+◌, List, [], ◌∷◌, ◌++◌, length, All}
+use Rattle.std.proofs.Common.{subst, arith}
 use Rattle.std.proofs.lemmas.List.Elements.{All-nil, All-cons}
 use Rattle.minelib_text.specs.SpelledLines.{AreLines}
 use Rattle.minelib_text.specs.TextLines.{Line}
@@ -34,17 +34,3 @@ lines_weaker Spells Shows less n [] (item ∷ items) are = absurd are
 lines_weaker Spells Shows less n (line ∷ lines) [] are = absurd are
 lines_weaker Spells Shows less n (line ∷ lines) (item ∷ items) are =
     (less n line.text item are.0, lines_weaker Spells Shows less (n + 1) lines items are.1)
-
--- and of an item by its place
-pub item_at : {A : Type 0} (Spells : ℕ → List ℕ → A → Type 0) (P : ℕ → A → Type 0)
-    → ((n : ℕ) (text : List ℕ) (item : A) → Spells n text item → P n item)
-    → (n : ℕ) (lines : List Line) (items : List A) → AreLines Spells n lines items
-    → (place id : ℕ) (none : A) → place < length items → id ≡ n + place → P id (get_or items place none)
-item_at Spells P shows n [] [] are place id none within is = absurd (omega arith)
-item_at Spells P shows n [] (item ∷ items) are place id none within is = absurd are
-item_at Spells P shows n (line ∷ lines) [] are place id none within is = absurd are
-item_at Spells P shows n (line ∷ lines) (item ∷ items) are zero id none within is =
-    let same : n ≡ id = omega arith in
-    subst (λ k. P k item) same (shows n line.text item are.0)
-item_at Spells P shows n (line ∷ lines) (item ∷ items) are (suc place) id none within is =
-    item_at Spells P shows (n + 1) lines items are.1 place id none (omega arith) (omega arith)

@@ -1,5 +1,4 @@
 pub mod BlockLineFacts
-pub mod BlockMade
 pub mod BlocksBack
 pub mod CpitBack
 pub mod CoefFacts
@@ -12,6 +11,7 @@ pub mod FrontFields
 pub mod HeaderFacts
 pub mod HeaderLines
 pub mod InstanceBack
+pub mod ItemGrammarFacts
 pub mod ItemLines
 pub mod ItemsBack
 pub mod ItemsKeyless
@@ -37,6 +37,7 @@ pub mod PrecLineFacts
 pub mod PrecTests
 pub mod ReadSteps
 pub mod Rising
+pub mod ShapeSteps
 pub mod SpacedFacts
 pub mod SpelledModelRead
 pub mod SpelledRead
@@ -44,11 +45,9 @@ pub mod ValidHeader
 pub mod ValidModel
 pub mod ValidRead
 pub mod ValuesLineFacts
-pub mod WantedNumber
 pub mod WriteFacts
 pub mod FieldSteps
 pub mod FormFields
-pub mod EachLine
 pub mod FirstSpoiledFacts
 pub mod LinesOfText
 pub mod SpelledBack

@@ -1,20 +1,25 @@
 -- Predecessors are read from their text as they are.
-use Rattle.std.proofs.Common.{◌≡◌, ◌≢◌, ℕ, ◌<◌, ◌≤◌, true, false, List, [], ◌∷◌, length, arith, refl, sym, eqb, subst, inl, inr}
+use Rattle.std.proofs.Common.{◌≡◌, ◌≢◌, ℕ, ◌<◌, ◌≤◌, ◌==◌, true, false, List, [], ◌∷◌, ◌++◌, length, arith, refl, sym, ◌∙◌, ap, eqb, subst, inl, inr}
 use Rattle.std.specs.Prelude.{decimal, Ok, All, AllPairs}
 use Rattle.std.specs.List.{list_any, IsDistinct}
 use Rattle.std.proofs.lemmas.Bool.{eq-eqb, ne_eqb, or_cases, eqb-true}
 use Rattle.std.proofs.lemmas.List.Elements.{All-cons, All-head, All-tail, recursion_from_All}
 use Rattle.std.proofs.lemmas.Map.Keys.{IsDistinct-from_apart}
 use Rattle.std.proofs.lemmas.Map.Steps.{length-le_from_distinct_below}
+use Rattle.forms.proofs.ShapeFacts.{states_said}
+use Rattle.forms.specs.Steps.{◌>>=◌}
 use Rattle.mine_instance.specs.Valid.{ArePredsOf, ArePreds}
-use Rattle.minelib_text.specs.Lines.{text_of, lines_from}
-use Rattle.minelib_text.specs.PrecLines.{PrecDraftView, no_lists, preds_of, admit_preds, preds_in}
+use Rattle.minelib_text.specs.Lines.{line_of, lines_from, text_of}
+use Rattle.minelib_text.specs.LinesTaken.{admit_preds, no_lists, preds_said}
+use Rattle.minelib_text.specs.PrecLines.{finish_preds, preds_in, preds_shape}
+use Rattle.minelib_text.specs.TextLines.{end_of, fields_of}
 use Rattle.minelib_text.specs.Written.{prec_fields}
 use Rattle.minelib_text.proofs.LinesBack.{AdmitsEach, items_admitted, text_read}
 use Rattle.minelib_text.proofs.NumbersBack.{whole_field, map_fields}
 use Rattle.minelib_text.proofs.Places.{is_place, stands_there}
 use Rattle.minelib_text.proofs.PlainText.{AreFields, fields_again, fields_line}
-use Rattle.minelib_text.proofs.PrecLineFacts.{preds_back, preds_written, written_spelled}
+use Rattle.minelib_text.proofs.PrecLineFacts.{fine, preds_state, preds_written}
+use Rattle.minelib_text.proofs.SpelledRead.{draft_of, preds_read}
 
 distinct_cons : (id : ℕ) (ids : List ℕ) → All (λ other. other ≢ id) ids → IsDistinct eqb ids → IsDistinct eqb (id ∷ ids)
 unfolding IsDistinct
@@ -40,9 +45,6 @@ fewer own n ids below h =
           (λ q. member_below n q (own ∷ ids) (All-cons (λ id. id < n) own ids below h.below)),
     )
 
-preds_again : (own n : ℕ) (ids : List ℕ) → n ≤ 64000000 → own < n → ArePredsOf own n ids → preds_of n own (prec_fields own ids) ≡ Ok ids
-preds_again own n ids few low h = preds_back n own (prec_fields own ids) ids (written_spelled n own ids few low (fewer own n ids low h) h)
-
 preds_fields : (own n : ℕ) (ids : List ℕ) → n ≤ 64000000 → own < n → ArePredsOf own n ids → AreFields (prec_fields own ids)
 preds_fields own n ids few below h =
     let id = whole_field own (omega arith) in
@@ -50,24 +52,25 @@ preds_fields own n ids few below h =
     subst AreFields (sym (preds_written own ids))
     (record { some = omega arith; each = (id, (number, map_fields (λ id. id < n) decimal (λ id low. whole_field id (omega arith)) ids h.below)) })
 
--- a precedence file of n blocks, of which these lists were read
-abbrev pub draft_of : ℕ → List (List ℕ) → PrecDraftView
-draft_of n lists = record { blocks = n; lists = lists }
-
 each_preds : (n : ℕ) (lists : List (List ℕ)) → n ≤ 64000000 → length lists ≡ n → ArePreds n lists
     → AdmitsEach admit_preds prec_fields (draft_of n) lists
+unfolding preds_said
 each_preds n lists few as_many h done ids rest whole =
     let within = is_place lists done ids rest whole in
     let place : length done < n = omega arith in
     let own = subst (ArePredsOf (length done) n) (stands_there lists done ids rest whole []) (h (length done) within) in
     let fields = preds_fields (length done) n ids few place own in
-    (fields_line _ fields, rw (fields_again _ fields, preds_again (length done) n ids few place own) refl)
+    let line = line_of (prec_fields (length done) ids) in
+    let states = preds_state n (length done) ids line few place (fewer (length done) n ids place own) own (fields_again _ fields) in
+    let said = states_said (preds_shape n (length done) line) ids (fine n (fields_of line)) states in
+    (fields_line _ fields, ap (λ r. r >>= λ ids. Ok (draft_of n (done ++ ids ∷ []))) said)
 
 pub lists_again : (n : ℕ) (lists : List (List ℕ)) → n ≤ 64000000 → length lists ≡ n → ArePreds n lists
     → preds_in n (text_of (lines_from prec_fields 0 lists)) ≡ Ok lists
 lists_again n lists few as_many h =
-    rw (
-      text_read admit_preds (no_lists n) (draft_of n lists) (lines_from prec_fields 0 lists)
-          (items_admitted admit_preds prec_fields (draft_of n) lists (each_preds n lists few as_many h) 0 [] lists refl refl),
-      eq-eqb (length lists) n as_many,
-    ) refl
+    let text = text_of (lines_from prec_fields 0 lists) in
+    let whole : (length lists == n) ≡ true = eq-eqb (length lists) n as_many in
+    sym (preds_read n text)
+    ∙ ap (λ r. r >>= λ d. finish_preds d.blocks (end_of text) d.lists) (text_read admit_preds (no_lists n) (draft_of n lists) (lines_from prec_fields 0 lists)
+    (items_admitted admit_preds prec_fields (draft_of n) lists (each_preds n lists few as_many h) 0 [] lists refl refl))
+    ∙ rw whole refl

@@ -1,7 +1,7 @@
 -- Lists of identifiers that are tested are predecessors, and predecessors pass the tests.
-use Rattle.std.specs.Prelude.{◌≡◌, ◌≢◌, ℕ, suc, ◌<◌, ◌==◌, ◌||◌, true, false, not, List, [], ◌∷◌, All, AllPairs}
+use Rattle.std.specs.Prelude.{◌≡◌, ◌≢◌, ℕ, suc, ◌<◌, ◌==◌, true, false, not, List, [], ◌∷◌, All, AllPairs}
 use Rattle.std.proofs.Common.{refl, sym, arith}
-use Rattle.std.proofs.lemmas.Bool.{and_parts, ne_eqb, not-false, not-true, or_parts}
+use Rattle.std.proofs.lemmas.Bool.{and_parts, ne_eqb, not-true, or_parts}
 use Rattle.std.proofs.lemmas.Bool.Decides.{nat_tests}
 use Rattle.std.proofs.lemmas.List.Elements.{All-cons, All-nil}
 use Rattle.std.proofs.lemmas.List.Folds.{list_any_none}
@@ -19,8 +19,8 @@ differ_again (id ∷ ids) h =
     let others = differ_again ids (λ i j d before within. h (suc i) (suc j) d (omega arith) (omega arith)) in
     rw (none, others) refl
 
-pub preds_pass : (own n : ℕ) (ids : List ℕ) → ArePredsOf own n ids → (stands_in ids own || not (all_differ ids)) ≡ false
-preds_pass own n ids h = rw (stands_not own ids h.others, differ_again ids h.distinct) refl
+pub preds_pass : (own n : ℕ) (ids : List ℕ) → ArePredsOf own n ids → (stands_in ids own ≡ false) × (all_differ ids ≡ true)
+preds_pass own n ids h = (stands_not own ids h.others, differ_again ids h.distinct)
 
 -- a number that does not stand in a list differs from each one there
 others_differ : (own : ℕ) (ids : List ℕ) → stands_in ids own ≡ false → All (λ id. id ≢ own) ids
@@ -37,11 +37,5 @@ pairs_differ (id ∷ ids) e =
     let others = others_differ id ids (not-true (stands_in ids id) parts.0) in
     AllPairs-cons (λ id other. id ≢ other) id ids (λ k d within same. others k d within (sym same)) (pairs_differ ids parts.1)
 
-pub passed_preds : (own n : ℕ) (ids : List ℕ) → All (λ id. id < n) ids → (stands_in ids own || not (all_differ ids)) ≡ false → ArePredsOf own n ids
-passed_preds own n ids low test =
-    let tests = or_parts (stands_in ids own) (not (all_differ ids)) test in
-    record {
-      below = low;
-      others = others_differ own ids tests.0;
-      distinct = pairs_differ ids (not-false (all_differ ids) tests.1);
-    }
+pub passed_preds : (own n : ℕ) (ids : List ℕ) → All (λ id. id < n) ids → stands_in ids own ≡ false → all_differ ids ≡ true → ArePredsOf own n ids
+passed_preds own n ids low other differ = record { below = low; others = others_differ own ids other; distinct = pairs_differ ids differ }

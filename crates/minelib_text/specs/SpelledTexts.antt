@@ -1,19 +1,20 @@
 -- Three texts spell an instance, and one spells a constrained pit limit problem: by their lines, in
 -- order.
-use Rattle.std.specs.Prelude.{◌≡◌, ℕ, List, length}
+use Rattle.std.specs.Prelude.{◌≡◌, ℕ, List, [], length}
+use Rattle.forms.specs.Grammar.{AllState}
 use Rattle.mine_instance.specs.Cpit.{CpitParts}
 use Rattle.mine_instance.specs.declared.instance.Instance.{Instance}
-use Rattle.minelib_text.specs.SpelledBlocks.{AreBlockLines}
+use Rattle.minelib_text.specs.BlockLines.{block_grammar}
+use Rattle.minelib_text.specs.PrecLines.{prec_grammar}
 use Rattle.minelib_text.specs.SpelledModel.{AreModelLines}
-use Rattle.minelib_text.specs.SpelledPrec.{ArePredsLines}
 use Rattle.minelib_text.specs.StatedModel.{model_of, model_of_cpit}
 use Rattle.minelib_text.specs.TextLines.{lines_in}
 use Rattle.minelib_text.specs.declared.model_key.Problem.TheVariants.{Pcpsp, Cpit}
 
 -- the lines of the three files spell the blocks, their predecessors and the model of the instance
 pub record SpellInstance (blocks prec pcpsp : List ℕ) (i : Instance) : Type 0 where
-  pub of_blocks : AreBlockLines 0 (lines_in blocks) i.blocks
-  pub of_preds : ArePredsLines (length i.blocks) 0 (lines_in prec) i.preds
+  pub of_blocks : AllState block_grammar 1 [] (lines_in blocks) i.blocks
+  pub of_preds : AllState (prec_grammar (length i.blocks)) 1 [] (lines_in prec) i.preds
   pub all_preds : length i.preds ≡ length i.blocks
   pub of_model : AreModelLines Pcpsp (length i.blocks) (lines_in pcpsp) (model_of i)
 

@@ -1,16 +1,13 @@
 -- Lines as the code reads them, field by field. Only proofs and private contracts need it.
-use Rattle.std.specs.Prelude.{◌≡◌, ℕ, ◌*◌, ◌/◌, ◌==◌, not, Bool, List, [], ◌∷◌, length, ℤ, Result, Ok, Err, if◌then◌else◌, codes, slice_index_or}
+use Rattle.std.specs.Prelude.{◌≡◌, ℕ, ◌==◌, not, Bool, List, [], ◌∷◌, length, ℤ, Result, Ok, Err, if◌then◌else◌, codes, slice_index_or}
 use Rattle.std.specs.Str.{bytes_eq}
 use Rattle.mine_instance.specs.declared.coef.Coef.{Coef}
 use Rattle.forms.specs.Steps.{◌>>=◌}
-use Rattle.pit_model.specs.declared.block.Block.{Block}
 use Rattle.pit_model.specs.declared.limit.Bound.{Bound}
 use Rattle.pit_model.specs.declared.limit.Bound.TheVariants.{AtMost, AtLeast, Between}
 use Rattle.pit_model.specs.declared.limit.Limit.{Limit}
 use Rattle.pit_units.specs.Decimal.{decimal_of}
-use Rattle.minelib_text.specs.BlockLines.{block_with, in_range}
-use Rattle.minelib_text.specs.FieldValues.{all_by, first_by, decimal_in, size_in, whole_in}
-use Rattle.minelib_text.specs.PrecLines.{preds_with}
+use Rattle.minelib_text.specs.FieldValues.{all_by, first_by, decimal_in, whole_in}
 use Rattle.minelib_text.specs.TextLines.{fields_of}
 use Rattle.minelib_text.specs.declared.model_key.Problem.{Problem}
 use Rattle.minelib_text.specs.declared.model_key.Problem.TheVariants.{Pcpsp, Cpit}
@@ -18,7 +15,6 @@ use Rattle.minelib_text.specs.declared.read_fault.LineError.{LineError}
 use Rattle.minelib_text.specs.declared.read_fault.LineError.TheVariants as line_error
 use Rattle.minelib_text.specs.declared.text_fault.TextKind.{TextKind}
 use Rattle.minelib_text.specs.declared.text_fault.TextKind.TheVariants.{Fields, Name, Order}
-use Rattle.pit_model.specs.declared.ranges.TheConstants.{GRID_CELLS, MAX_BLOCKS, MAX_GRADE, MAX_KG, MAX_ZONES}
 
 -- the first field of a line states so many millionths, and the others stand in the rest of it
 pub record TakesDecimal (decimals : ℕ) (line : List ℕ) (m : ℤ) (rest : List ℕ) : Type 0 where
@@ -29,28 +25,6 @@ pub record TakesDecimal (decimals : ℕ) (line : List ℕ) (m : ℤ) (rest : Lis
 -- the kind of fault that a line has by its number of fields, or else by what was met in reading them
 abbrev pub kind_by : Bool → TextKind → TextKind
 kind_by counted kind = if counted then kind else Fields
-
--- the block of a line of as many fields as are read
-unfoldable pub block_alone : ℕ → List (List ℕ) → Result Block TextKind
-block_alone before fields = do
-  id ← first_by (whole_in MAX_BLOCKS) fields
-  x ← first_by (whole_in GRID_CELLS) id.1
-  y ← first_by (whole_in GRID_CELLS) x.1
-  z ← first_by (whole_in GRID_CELLS) y.1
-  tonnes ← first_by (size_in 3 (MAX_KG * 1000)) z.1
-  grade ← first_by (size_in 6 MAX_GRADE) tonnes.1
-  zone ← first_by (whole_in MAX_ZONES) grade.1
-  if not (length zone.1 == 0) then Err Fields else (
-      if not (id.0 == before) then Err Order
-      else in_range (block_with x.0 y.0 z.0 (tonnes.0 / 1000) grade.0 zone.0))
-
--- the predecessors of a line of two fields or more
-unfoldable pub preds_alone : ℕ → ℕ → List (List ℕ) → Result (List ℕ) TextKind
-preds_alone n before fields = do
-  id ← first_by (whole_in n) fields
-  stated ← first_by (whole_in n) id.1
-  ids ← all_by (whole_in n) [] stated.1
-  preds_with before id.0 stated.0 ids
 
 -- the values of a line of as many fields as it has to have
 abbrev pub values_alone : ℕ → ℕ → List (List ℕ) → Result (List ℤ) TextKind

@@ -1,11 +1,10 @@
 //! Reading a block file.
 
-ghost use Rattle.std.specs.Prelude.{◌≡◌, ◌≤◌, Some, length, IfOk};
-ghost use Rattle.pit_model.specs.Block.{AreInRange};
-ghost use Rattle.minelib_text.specs.BlockLines.{admit_block, block_of, block_with, blocks_in};
+ghost use Rattle.std.specs.Prelude.{◌≡◌, ◌≤◌, length, IfOk};
+ghost use Rattle.pit_model.specs.Block.{AreInRange, block_with};
+ghost use Rattle.minelib_text.specs.BlockLines.{blocks_in};
+ghost use Rattle.minelib_text.specs.LinesTaken.{admit_block, block_alone, block_said};
 ghost use Rattle.minelib_text.specs.Reading.{Gives};
-ghost use Rattle.minelib_text.specs.TextLines.{fields_of};
-ghost use Rattle.minelib_text.specs.Uncounted.{block_alone};
 ghost use Rattle.pit_model.specs.declared.ranges.TheConstants.{MAX_BLOCKS};
 
 use crate::read_fault::{FileError, LineError};
@@ -48,7 +47,7 @@ impl Admit for BlockDraft {
 
 // The block of a line, where so many blocks stand before.
 fn block_of(line: &[u8], before: usize) -> Result<Block, TextKind>
-    ensures { result ≡ block_of before (fields_of line.now) }
+    ensures { result ≡ block_said before line.now }
 {
     match block_alone(line, before) {
         Ok(block) => Ok(block),
@@ -57,9 +56,9 @@ fn block_of(line: &[u8], before: usize) -> Result<Block, TextKind>
 }
 
 #[inline(always)]
-#[tactic(auto, unfolding(crate::specs::Uncounted::block_alone))]
+#[tactic(auto, using(crate::proofs::CountedLater::block_read))]
 fn block_alone(line: &[u8], before: usize) -> Result<Block, TextKind>
-    ensures { result ≡ block_alone before (fields_of line.now) }
+    ensures { result ≡ block_alone before line.now }
 {
     let (id, behind_id) = first_whole(line, MAX_BLOCKS as u64)?;
     let (x, behind_x) = first_whole(behind_id, u64::from(GRID_CELLS))?;
@@ -86,7 +85,7 @@ fn block_alone(line: &[u8], before: usize) -> Result<Block, TextKind>
 
 fn block_with(x: u16, y: u16, z: u16, kg: u64, grade: u64, zone: u8) -> Block
     requires { AreInRange x y z kg grade zone }
-    ensures { block_with x y z kg grade zone ≡ Some result }
+    ensures { result ≡ block_with x y z kg grade zone }
 {
     Block {
         x,
@@ -107,6 +106,7 @@ pub fn read_blocks(alloc: Global, text: &[u8]) -> Result<Blocks, FileError>
     Ok(blocks)
 }
 
+#[tactic(auto, using(crate::proofs::SpelledRead::blocks_read))]
 fn drafted(alloc: Global, text: &[u8]) -> Result<Blocks, FileError>
     ensures { Gives result (blocks_in text.now) }
 {

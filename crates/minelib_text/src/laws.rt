@@ -1,26 +1,25 @@
 //! What holds of texts, whatever they say: each contract is a law, and a call of it changes nothing.
 ghost use Rattle.std.specs.Prelude.{◌≡◌, ◌↔◌, ◌⊎◌, ℕ, ◌≤◌, ◌++◌, ◌∷◌, [], All, true, List, length, Ok, Err};
+ghost use Rattle.forms.specs.Grammar.{AllState, IsFirstFault};
 ghost use Rattle.mine_instance.specs.Cpit.{CpitParts, IsCpit};
 ghost use Rattle.mine_instance.specs.OfModel.{instance as instance_of};
 ghost use Rattle.mine_instance.specs.OneSlope.{instance_by};
 ghost use Rattle.mine_instance.specs.Valid.{IsValid};
 ghost use Rattle.mine_instance.specs.declared.instance.Instance.{Instance as OneInstance};
 ghost use Rattle.minelib_text.specs.BegunModel.{EndsEarly, IsFirstSpoiled};
-ghost use Rattle.minelib_text.specs.BlockLines.{blocks_in};
+ghost use Rattle.minelib_text.specs.BlockLines.{block_grammar, blocks_in};
 ghost use Rattle.minelib_text.specs.Denotes.{Denotes, DenotesCpit};
-ghost use Rattle.minelib_text.specs.FirstBad.{AreBlanks, IsFirstBad, IsFieldText, IsLineText, LacksLines};
 ghost use Rattle.minelib_text.specs.Kept.{IsKept, IsKeptCpit};
 ghost use Rattle.minelib_text.specs.ModelDemands.{HasKind};
 ghost use Rattle.minelib_text.specs.ModelLines.{ModelDraftView, model_in};
-ghost use Rattle.minelib_text.specs.PrecLines.{preds_in};
+ghost use Rattle.minelib_text.specs.PrecLines.{LacksLines, prec_grammar, preds_in};
 ghost use Rattle.minelib_text.specs.SameTexts.{HaveSameTexts};
 ghost use Rattle.minelib_text.specs.Lines.{text_of};
-ghost use Rattle.minelib_text.specs.SpelledBlocks.{AreBlockLines, IsBlockLine, asked_of_block};
 ghost use Rattle.minelib_text.specs.SpelledModel.{AreModelLines};
 ghost use Rattle.minelib_text.specs.SpelledTexts.{SpellCpit, SpellInstance};
 ghost use Rattle.minelib_text.specs.StatedModel.{StatedModel, stated_by};
-ghost use Rattle.minelib_text.specs.SpelledPrec.{ArePredsLines, IsPredsLine, asked_of_preds};
 ghost use Rattle.minelib_text.specs.TextLines.{fields_of, is_ended, lines_in, lines_of};
+ghost use Rattle.minelib_text.specs.TextParts.{AreBlanks, IsFieldText, IsLineText};
 ghost use Rattle.minelib_text.specs.Written.{text_blocks, text_prec, text_pcpsp, text_cpit};
 ghost use Rattle.minelib_text.specs.declared.model_key.Problem.{Problem};
 ghost use Rattle.pit_model.specs.Plan.{IsCone, PlanParts};
@@ -77,14 +76,16 @@ pub fn cpit_read_is_valid()
     ensures { (n : ℕ) (text : List ℕ) (c : CpitParts) → n ≤ MAX_BLOCKS → DenotesCpit n text c → IsCpit c × (length c.values ≡ n) }
 {}
 
-/// Where blocks are read, each line that is read spells one of them, in order.
+/// Where blocks are read, each line that is read states one of them, in order.
 pub fn block_lines_are_spelled()
-    ensures { (text : List ℕ) (blocks : List Block) → blocks_in text ≡ Ok blocks → AreBlockLines 0 (lines_in text) blocks }
+    ensures { (text : List ℕ) (blocks : List Block) → blocks_in text ≡ Ok blocks
+        → AllState block_grammar 1 [] (lines_in text) blocks }
 {}
 
-/// Where predecessors of n blocks are read, each line that is read spells those of one block, in order.
+/// Where predecessors of n blocks are read, each line that is read states those of one block, in order.
 pub fn prec_lines_are_spelled()
-    ensures { (n : ℕ) (text : List ℕ) (lists : List (List ℕ)) → preds_in n text ≡ Ok lists → ArePredsLines n 0 (lines_in text) lists }
+    ensures { (n : ℕ) (text : List ℕ) (lists : List (List ℕ)) → preds_in n text ≡ Ok lists
+        → AllState (prec_grammar n) 1 [] (lines_in text) lists }
 {}
 
 /// Where a model file of n blocks is read, its lines that are read are one for each header key, in any order, and then those of the
@@ -113,32 +114,31 @@ pub fn cpits_are_spelled()
     ensures { (n : ℕ) (text : List ℕ) (c : CpitParts) → DenotesCpit n text c ↔ SpellCpit n text c }
 {}
 
-/// Lines that spell blocks are read as these blocks, whatever their spelling.
+/// Lines that state blocks are read as these blocks, whatever their spelling.
 pub fn spelled_blocks_are_read()
-    ensures { (text : List ℕ) (blocks : List Block) → AreBlockLines 0 (lines_in text) blocks → blocks_in text ≡ Ok blocks }
+    ensures { (text : List ℕ) (blocks : List Block) → AllState block_grammar 1 [] (lines_in text) blocks
+        → blocks_in text ≡ Ok blocks }
 {}
 
-/// Lines that spell the predecessors of n blocks, one a block, are read as these.
+/// Lines that state the predecessors of n blocks, one a block, are read as these.
 pub fn spelled_preds_are_read()
-    ensures { (n : ℕ) (text : List ℕ) (lists : List (List ℕ)) → length lists ≡ n → ArePredsLines n 0 (lines_in text) lists → preds_in n text ≡ Ok lists }
+    ensures { (n : ℕ) (text : List ℕ) (lists : List (List ℕ)) → length lists ≡ n
+        → AllState (prec_grammar n) 1 [] (lines_in text) lists → preds_in n text ≡ Ok lists }
 {}
 
-/// A faulty line of a block file is the first that spells no block behind those before it, and its
+/// A faulty line of a block file is the first that states no block behind those before it, and its
 /// kind that of the first thing asked of it that does not hold.
 pub fn faulty_lines_spell_no_block()
     ensures { (text : List ℕ) (fault : LineFault) → blocks_in text ≡ Err fault
-        → IsFirstBad (λ id line b. IsBlockLine id (fields_of line) b)
-        (λ id line. asked_of_block id (fields_of line)) (lines_in text) fault }
+        → IsFirstFault block_grammar 1 [] (lines_in text) fault }
 {}
 
-/// A faulty line of a precedence file is the first that spells no predecessors behind those before
-/// it, and its kind that of the first thing asked of it that does not hold; or all lines spell
+/// A faulty line of a precedence file is the first that states no predecessors behind those before
+/// it, and its kind that of the first thing asked of it that does not hold; or all lines state
 /// some, and lines are lacking at the end.
 pub fn faulty_lines_spell_no_preds()
     ensures { (n : ℕ) (text : List ℕ) (fault : LineFault) → preds_in n text ≡ Err fault
-        → IsFirstBad (λ id line ids. IsPredsLine n id (fields_of line) ids)
-        (λ id line. asked_of_preds n id (fields_of line)) (lines_in text) fault
-        ⊎ LacksLines (λ id line ids. IsPredsLine n id (fields_of line) ids) n text fault }
+        → IsFirstFault (prec_grammar n) 1 [] (lines_in text) fault ⊎ LacksLines n text fault }
 {}
 
 /// A faulty line of a model file of n blocks is the first behind which nothing makes it a model,

@@ -3,10 +3,10 @@
 ghost use Rattle.std.specs.Prelude.{◌≡◌, ◌<◌, ◌≤◌, [], vec_len, All, IfOk, OnOk};
 ghost use Rattle.minelib_text.specs.FieldValues.{all_by, whole_in};
 ghost use Rattle.minelib_text.specs.Marks.{AreClear};
-ghost use Rattle.minelib_text.specs.PrecLines.{admit_preds, finish_preds, no_lists, preds_in, preds_of, stands_in};
+ghost use Rattle.minelib_text.specs.LinesTaken.{admit_preds, no_lists, preds_alone, preds_said};
+ghost use Rattle.minelib_text.specs.PrecLines.{finish_preds, preds_in, stands_in};
 ghost use Rattle.minelib_text.specs.Reading.{Admits, Gives};
 ghost use Rattle.minelib_text.specs.TextLines.{fields_of};
-ghost use Rattle.minelib_text.specs.Uncounted.{preds_alone};
 ghost use Rattle.pit_model.specs.declared.ranges.TheConstants.{MAX_BLOCKS};
 
 use crate::marks::all_differ;
@@ -32,7 +32,7 @@ struct PrecDraft {
 impl Model for PrecDraft {
     ghost use Rattle.std.specs.Prelude.{◌≡◌, ◌≤◌, vec_len};
     ghost use Rattle.minelib_text.specs.Marks.{AreClear};
-    ghost use Rattle.minelib_text.specs.PrecLines.{PrecDraftView};
+    ghost use Rattle.minelib_text.specs.LinesTaken.{PrecDraftView};
     ghost use Rattle.pit_model.specs.declared.ranges.TheConstants.{MAX_BLOCKS};
 
     ghost Value = { PrecDraftView };
@@ -70,7 +70,7 @@ fn preds_of(
     requires few { blocks ≤ MAX_BLOCKS }
     requires places { vec_len marks.old ≡ blocks }
     requires clear { AreClear marks.old.items }
-    ensures value { Admits ids.new.items result (preds_of blocks before (fields_of line.now)) }
+    ensures value { Admits ids.new.items result (preds_said blocks before line.now) }
     ensures places { vec_len marks.new ≡ blocks }
     ensures clear { AreClear marks.new.items }
 {
@@ -84,7 +84,7 @@ fn preds_of(
 }
 
 // The predecessors of a line of two fields or more.
-#[tactic(auto, unfolding(crate::specs::Uncounted::preds_alone))]
+#[tactic(auto, using(crate::proofs::CountedLater::preds_read_alone))]
 fn preds_alone(
     line: &[u8],
     blocks: usize,
@@ -95,7 +95,7 @@ fn preds_alone(
     requires few { blocks ≤ MAX_BLOCKS }
     requires places { vec_len marks.old ≡ blocks }
     requires clear { AreClear marks.old.items }
-    ensures value { Admits ids.new.items result (preds_alone blocks before (fields_of line.now)) }
+    ensures value { Admits ids.new.items result (preds_alone blocks before line.now) }
     ensures places { vec_len marks.new ≡ blocks }
     ensures clear { AreClear marks.new.items }
 {
@@ -151,7 +151,7 @@ impl PrecDraft {
 
     // The lists, once all lines are read and `end` is the number of the line after the last.
     fn finish(self, end: u64) -> Result<Preds, FileError>
-        ensures { Gives result (finish_preds end self) }
+        ensures { Gives result (finish_preds self.blocks end self.lists) }
     {
         if self.preds.len() == self.blocks {
             Ok(self.preds)
@@ -165,6 +165,7 @@ impl PrecDraft {
 }
 
 /// The predecessors that a text states, of so many blocks.
+#[tactic(auto, using(crate::proofs::SpelledRead::preds_read))]
 pub fn read_preds(alloc: Global, blocks: usize, text: &[u8]) -> Result<Preds, FileError>
     requires { blocks ≤ MAX_BLOCKS }
     ensures { Gives result (preds_in blocks text.now) }

@@ -1,3 +1,4 @@
+pub mod BlockFacts
 pub mod BandFacts
 pub mod BandSteps
 pub mod CellFacts

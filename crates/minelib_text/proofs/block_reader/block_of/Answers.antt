@@ -1,12 +1,11 @@
 use Rattle.std.proofs.Common.{sym}
-use Rattle.minelib_text.specs.TextLines.{fields_of}
 use Rattle.minelib_text.proofs.CountedLater.{block_counted, block_kind}
 use Rattle.minelib_text.proofs.block_reader.block_of.Goals as goal
 
 pub returns-in-Ok : goal.returns-in-Ok
-returns-in-Ok c = sym (block_counted c.args.before (fields_of c.args.line.now) c.in-Ok.block (sym c.in-Ok.ensures))
+returns-in-Ok c = sym (block_counted c.args.before c.args.line.now c.in-Ok.block (sym c.in-Ok.ensures))
 
 pub returns-in-Err : goal.returns-in-Err
 returns-in-Err c =
-    let kind = block_kind c.args.before (fields_of c.args.line.now) c.in-Err.kind (sym c.in-Err.ensures) in
+    let kind = block_kind c.args.before c.args.line.now c.in-Err.kind (sym c.in-Err.ensures) in
     rw c.kind_by_count.ensures (sym kind)

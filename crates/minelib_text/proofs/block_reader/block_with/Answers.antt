@@ -1,5 +1,6 @@
-use Rattle.minelib_text.proofs.BlockMade.{with_again}
+use Rattle.std.proofs.Common.{sym}
+use Rattle.pit_model.proofs.BlockFacts.{block_again}
 use Rattle.minelib_text.proofs.block_reader.block_with.Goals as goal
 
 pub returns : goal.returns
-returns c = with_again _
+returns c = sym (block_again _)
