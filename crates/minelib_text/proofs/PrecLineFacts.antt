@@ -1,7 +1,7 @@
--- The lines of predecessors: what is written of a block's predecessors states them, and what a line states are predecessors.
+-- The lines of predecessors: a line states a block's predecessors where it spells them, and not otherwise.
 use Rattle.std.specs.Prelude.{◌≡◌, ℕ, ◌<◌, ◌≤◌, ◌==◌, not, true, List, [], ◌∷◌, ◌++◌, length, map, drop, decimal, All}
 use Rattle.std.proofs.Common.{refl, sym, ◌∙◌, ap, subst, arith, eq-eqb}
-use Rattle.std.proofs.lemmas.Bool.{not-true}
+use Rattle.std.proofs.lemmas.Bool.{eqb-true, not-true}
 use Rattle.std.proofs.lemmas.List.Elements.{All-cons, All-head, All-nil, All-tail}
 use Rattle.forms.proofs.FormFacts.{spell_written, spelled_fit}
 use Rattle.forms.proofs.NumberFields.{quotient, whole_fits, whole_found}
@@ -42,18 +42,15 @@ pub wholes_again : (ids : List ℕ) → map whole_of (map whole ids) ≡ ids
 wholes_again [] = refl
 wholes_again (id ∷ ids) = λ i. quotient id i ∷ wholes_again ids i
 
--- a line of the fields that are written of a block's predecessors, fewer than blocks, states them
-pub preds_state : (n own : ℕ) (ids line : List ℕ) → n ≤ 64000000 → own < n → length ids < n → ArePredsOf own n ids → fields_of line ≡ prec_fields own ids
+-- a line that spells a block's predecessors states them
+pub preds_back : (n own : ℕ) (line ids : List ℕ) → Spell (preds_form n (fields_of line)) (fields_of line) (preds_values own ids) → ArePredsOf own n ids
     → States (preds_shape n own line) ids
-preds_state n own ids line few low fewer are same =
-    let fields = prec_fields own ids in
-    let each = All-cons (λ id. id < n) own (length ids ∷ ids) low (All-cons (λ id. id < n) (length ids) ids fewer are.below) in
+preds_back n own line ids spelled are =
     let tests = preds_pass own n ids are in
     record {
       first = refl;
       values = preds_values own ids;
-      spelled = subst (λ fields. Spell (preds_form n fields) fields (preds_values own ids)) (sym same)
-          (spell_written (preds_form n fields) (preds_values own ids) (fine n fields) (wholes_fit n (own ∷ length ids ∷ ids) few each));
+      spelled = spelled;
       last = rw (
         quotient own,
         quotient (length ids),
@@ -66,31 +63,52 @@ preds_state n own ids line few low fewer are same =
       is = sym (wholes_again ids);
     }
 
-wholes_below : (n : ℕ) (fields : List (List ℕ)) (values : List Value) → Fit (map (λ field. below n) fields) values
-    → All (λ id. id < n) (map whole_of values)
-wholes_below n [] [] fit = All-nil (λ id. id < n)
-wholes_below n [] (value ∷ values) fit = absurd fit
-wholes_below n (field ∷ fields) [] fit = absurd fit
-wholes_below n (field ∷ fields) (value ∷ values) fit =
+-- and so one of the fields that are written of them, which are fewer than blocks
+pub preds_state : (n own : ℕ) (ids line : List ℕ) → n ≤ 64000000 → own < n → length ids < n → ArePredsOf own n ids → fields_of line ≡ prec_fields own ids
+    → States (preds_shape n own line) ids
+preds_state n own ids line few low fewer are same =
+    let fields = prec_fields own ids in
+    let each = All-cons (λ id. id < n) own (length ids ∷ ids) low (All-cons (λ id. id < n) (length ids) ids fewer are.below) in
+    let spelled = spell_written (preds_form n fields) (preds_values own ids) (fine n fields) (wholes_fit n (own ∷ length ids ∷ ids) few each) in
+    preds_back n own line ids (subst (λ fields. Spell (preds_form n fields) fields (preds_values own ids)) (sym same) spelled) are
+
+-- values that fit are whole numbers below n
+wholes_found : (n : ℕ) (fields : List (List ℕ)) (values : List Value) → Fit (map (λ field. below n) fields) values
+    → All (λ id. id < n) (map whole_of values) × (values ≡ map whole (map whole_of values))
+wholes_found n [] [] fit = (All-nil (λ id. id < n), refl)
+wholes_found n [] (value ∷ values) fit = absurd fit
+wholes_found n (field ∷ fields) [] fit = absurd fit
+wholes_found n (field ∷ fields) (value ∷ values) fit =
     let here = whole_found n value fit.0 in
     let is : whole_of value ≡ here.n = ap whole_of here.is ∙ quotient here.n in
-    All-cons (λ id. id < n) (whole_of value) (map whole_of values) (omega (arith, here.low, is)) (wholes_below n fields values fit.1)
+    let same : value ≡ whole (whole_of value) = here.is ∙ ap whole (sym is) in
+    let rest = wholes_found n fields values fit.1 in
+    (All-cons (λ id. id < n) (whole_of value) (map whole_of values) (omega (arith, here.low, is)) rest.0, λ i. same i ∷ rest.1 i)
 
-preds_below : (n : ℕ) (fields : List (List ℕ)) (values : List Value) → Fit (preds_form n fields) values → All (λ id. id < n) (preds_of values)
-preds_below n fields [] fit = absurd fit
-preds_below n fields (lone ∷ []) fit = absurd fit.1
-preds_below n fields (id ∷ count ∷ values) fit = wholes_below n (drop 2 fields) values fit.1.1
+parts : (n own : ℕ) (fields : List (List ℕ)) (values : List Value) → Fit (preds_form n fields) values → whole_at values 0 ≡ own
+    → whole_at values 1 ≡ length (preds_of values) → All (λ id. id < n) (preds_of values) × (values ≡ preds_values own (preds_of values))
+parts n own fields [] fit is_own counted = absurd fit
+parts n own fields (lone ∷ []) fit is_own counted = absurd fit.1
+parts n own fields (v ∷ w ∷ values) fit is_own counted =
+    let all = wholes_found n ([] ∷ [] ∷ drop 2 fields) (v ∷ w ∷ values) fit in
+    let behind_own = All-tail (λ id. id < n) (whole_of v) (whole_of w ∷ map whole_of values) all.0 in
+    let low = All-tail (λ id. id < n) (whole_of w) (map whole_of values) behind_own in
+    (low, all.1 ∙ (λ i. whole (is_own i) ∷ whole (counted i) ∷ map whole (map whole_of values)))
 
--- what a line states are predecessors of its block
-pub preds_are : (n own : ℕ) (line ids : List ℕ) → States (preds_shape n own line) ids → ArePredsOf own n ids
-preds_are n own line ids states =
+-- a line that states predecessors of a block spells them
+pub preds_line : (n own : ℕ) (line ids : List ℕ) → States (preds_shape n own line) ids
+    → Spell (preds_form n (fields_of line)) (fields_of line) (preds_values own ids) × ArePredsOf own n ids
+preds_line n own line ids states =
     let fields = fields_of line in
     let values = states.values in
     let stated = preds_of values in
-    let low = preds_below n fields values (spelled_fit (preds_form n fields) fields values (fine n fields) states.spelled) in
+    let fit = spelled_fit (preds_form n fields) fields values (fine n fields) states.spelled in
     let behind_count = check Twice (not (stands_in stated own)) ++ check Twice (all_differ stated) in
     let order = passed Order (whole_at values 0 == own) (check Count (whole_at values 1 == length stated) ++ behind_count) states.last in
     let count = passed Count (whole_at values 1 == length stated) behind_count order.1 in
     let other = passed Twice (not (stands_in stated own)) (check Twice (all_differ stated)) count.1 in
     let differ = passed Twice (all_differ stated) [] other.1 in
-    subst (ArePredsOf own n) (sym states.is) (passed_preds own n stated low (not-true (stands_in stated own) other.0) differ.0)
+    let p = parts n own fields values fit (eqb-true (whole_at values 0) own order.0) (eqb-true (whole_at values 1) (length stated) count.0) in (
+      subst (Spell (preds_form n fields) fields) (p.1 ∙ ap (preds_values own) (sym states.is)) states.spelled,
+      subst (ArePredsOf own n) (sym states.is) (passed_preds own n stated p.0 (not-true (stands_in stated own) other.0) differ.0),
+    )

@@ -15,9 +15,9 @@ use Rattle.minelib_text.specs.PrecLines.{LacksLines, finish_preds, lines_missing
 use Rattle.minelib_text.specs.Reading.{read_lines}
 use Rattle.minelib_text.specs.TextLines.{end_of, fields_of, lines_in}
 use Rattle.minelib_text.specs.declared.text_fault.LineFault.{LineFault}
-use Rattle.minelib_text.proofs.BlockLineFacts.{few_before}
+use Rattle.minelib_text.proofs.BlockLineFacts.{block_line}
 use Rattle.minelib_text.proofs.ItemGrammarFacts.{kept_by_items, lines_read}
-use Rattle.minelib_text.proofs.PrecLineFacts.{fine, preds_are}
+use Rattle.minelib_text.proofs.PrecLineFacts.{fine, preds_line}
 use Rattle.minelib_text.proofs.ReadSteps.{bind_then, err_same, same_ok, then_err, then_ok}
 
 fine_blocks : HasFineForms block_grammar
@@ -44,7 +44,7 @@ bad_block text fault e = read_first_fault block_grammar 1 [] (lines_in text) fau
 pub few_blocks : (text : List ℕ) (blocks : List Block) → blocks_in text ≡ Ok blocks → length blocks ≤ 64000000
 few_blocks text blocks e =
     kept_by_items block_shape (λ blocks. length blocks ≤ 64000000)
-    (λ before line b states few. omega (arith, few_before (length before) line b states, length-append before (b ∷ [])))
+    (λ before line b states few. omega (arith, (block_line (length before) line b states).0, length-append before (b ∷ [])))
     1 [] (lines_in text) blocks (blocks_spelled text blocks e) (omega arith)
 
 fine_preds : (n : ℕ) → HasFineForms (prec_grammar n)
@@ -121,4 +121,4 @@ preds_are_valid n text lists e =
         by false high =
             let last : length lists ≡ id = omega (arith, length-append lists (ids ∷ []), within, ltb-false id (length lists) high) in
             subst (λ id. ArePredsOf id n (get_or (lists ++ ids ∷ []) id [])) last
-            (subst (ArePredsOf (length lists) n) (sym (get_or_at lists ids [] [] (length lists) refl)) (preds_are n (length lists) line ids states))
+            (subst (ArePredsOf (length lists) n) (sym (get_or_at lists ids [] [] (length lists) refl)) (preds_line n (length lists) line ids states).1)

@@ -1,18 +1,21 @@
 //! What holds of texts, whatever they say: each contract is a law, and a call of it changes nothing.
 ghost use Rattle.std.specs.Prelude.{◌≡◌, ◌↔◌, ◌⊎◌, ℕ, ◌≤◌, ◌++◌, ◌∷◌, [], All, true, List, length, Ok, Err};
+ghost use Rattle.forms.specs.Form.{Spell};
 ghost use Rattle.forms.specs.Grammar.{AllState, IsFirstFault};
+ghost use Rattle.forms.specs.Shape.{States};
 ghost use Rattle.mine_instance.specs.Cpit.{CpitParts, IsCpit};
 ghost use Rattle.mine_instance.specs.OfModel.{instance as instance_of};
 ghost use Rattle.mine_instance.specs.OneSlope.{instance_by};
-ghost use Rattle.mine_instance.specs.Valid.{IsValid};
+ghost use Rattle.mine_instance.specs.Valid.{ArePredsOf, IsValid};
 ghost use Rattle.mine_instance.specs.declared.instance.Instance.{Instance as OneInstance};
 ghost use Rattle.minelib_text.specs.BegunModel.{EndsEarly, IsFirstSpoiled};
-ghost use Rattle.minelib_text.specs.BlockLines.{block_grammar, blocks_in};
+ghost use Rattle.minelib_text.specs.BlockLines.{block_form, block_grammar, block_shape, blocks_in};
 ghost use Rattle.minelib_text.specs.Denotes.{Denotes, DenotesCpit};
 ghost use Rattle.minelib_text.specs.Kept.{IsKept, IsKeptCpit};
+ghost use Rattle.minelib_text.specs.LineValues.{block_values, preds_values};
 ghost use Rattle.minelib_text.specs.ModelDemands.{HasKind};
 ghost use Rattle.minelib_text.specs.ModelLines.{ModelDraftView, model_in};
-ghost use Rattle.minelib_text.specs.PrecLines.{LacksLines, prec_grammar, preds_in};
+ghost use Rattle.minelib_text.specs.PrecLines.{LacksLines, prec_grammar, preds_form, preds_in, preds_shape};
 ghost use Rattle.minelib_text.specs.SameTexts.{HaveSameTexts};
 ghost use Rattle.minelib_text.specs.Lines.{text_of};
 ghost use Rattle.minelib_text.specs.SpelledModel.{AreModelLines};
@@ -74,6 +77,15 @@ pub fn read_is_valid()
 /// The constrained pit limit problem that a text denotes is one, with a value for each block.
 pub fn cpit_read_is_valid()
     ensures { (n : ℕ) (text : List ℕ) (c : CpitParts) → n ≤ MAX_BLOCKS → DenotesCpit n text c → IsCpit c × (length c.values ≡ n) }
+{}
+
+/// A line behind so many blocks states a block exactly where its fields spell that number and the block; and the line of a block its
+/// predecessors exactly where its fields spell the block, how many they are and each of them, and they are predecessors of it.
+pub fn lines_state_what_they_spell()
+    ensures blocks { (before : ℕ) (line : List ℕ) (b : Block) → States (block_shape before line) b
+        ↔ Spell block_form (fields_of line) (block_values before b) }
+    ensures preds { (n own : ℕ) (line ids : List ℕ) → States (preds_shape n own line) ids
+        ↔ (Spell (preds_form n (fields_of line)) (fields_of line) (preds_values own ids) × ArePredsOf own n ids) }
 {}
 
 /// Where blocks are read, each line that is read states one of them, in order.

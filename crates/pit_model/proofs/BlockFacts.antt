@@ -1,8 +1,8 @@
--- A block is that of its fields.
+-- A block is that of its fields, and has them where they are in range.
 use Rattle.std.specs.Prelude.{◌≡◌, ℕ, ◌<◌, ◌≤◌, ◌^◌, min}
 use Rattle.std.proofs.Common.{subst, arith}
 use Rattle.std.proofs.Math.Bridge.{le_prop}
-use Rattle.pit_model.specs.Block.{block_with}
+use Rattle.pit_model.specs.Block.{AreInRange, HasParts, block_with}
 use Rattle.pit_model.specs.declared.block.Block.{Block}
 
 -- a number and that it is in range, however that is shown
@@ -39,3 +39,8 @@ block_again b =
       grade_in_range = (grade i).1;
       zone_in_range = (zone i).1;
     }
+
+pub block_parts : (x y z kg grade zone : ℕ) → AreInRange x y z kg grade zone → HasParts x y z kg grade zone (block_with x y z kg grade zone)
+unfolding block_with
+block_parts x y z kg grade zone (in_x, in_y, in_z, in_kg, in_grade, in_zone) =
+    (omega (arith, in_x), omega (arith, in_y), omega (arith, in_z), omega (arith, in_kg), omega (arith, in_grade), omega (arith, in_zone))
