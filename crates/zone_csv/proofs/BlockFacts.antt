@@ -1,43 +1,41 @@
--- The block of a row, by the numbers of its cells.
-use Rattle.std.proofs.Common.{◌≡◌, ℕ, ◌<◌, ◌≤◌, ◌^◌, Bool, true, false, refl, ap, sym}
+-- A block is that of its numbers.
+use Rattle.std.proofs.Common.{◌≡◌, ℕ, suc, ◌<◌, ◌≤◌, ◌^◌, min, arith, sym, subst}
 use Rattle.std.proofs.Math.Bridge.{le_prop}
-use Rattle.std.proofs.lemmas.Bool.{le-leb, lt-ltb}
+use Rattle.std.proofs.Math.Nat.{min-eq_left, min-le_right}
 use Rattle.pit_model.specs.declared.block.Block.{Block}
-use Rattle.zone_csv.specs.Row.{Kept, a_grade, a_zone, block, block_with, index, kept, kilograms}
+use Rattle.zone_csv.specs.Row.{block_with}
 
--- a number in range is kept, however it is shown to be in range
-kept_same : {InRange : ℕ → Type 0} (other : Kept InRange) (n : ℕ) (within : Bool) (holds : within ≡ true → InRange n) (in_range : InRange n)
-    → ((q : InRange n) → in_range ≡ q) → within ≡ true → record { value = n; in_range = in_range } ≡ kept other n within holds
-kept_same other n true holds in_range one is = λ i. record { value = n; in_range = one (holds refl) i }
-kept_same other n false holds in_range one is = absurd cc
+-- a number in its range, however that is shown
+in_range : (P : ℕ → Type 0) (n m : ℕ) (p : P n) (q : P m) → n ≡ m → ((r : P n) → p ≡ r) → ◌≡◌ {A = (k : ℕ) × P k} (n, p) (m, q)
+in_range P n m p q same one = subst (λ k. (r : P k) → ◌≡◌ {A = (k : ℕ) × P k} (n, p) (k, r)) same (λ r i. (n, one r i)) q
 
-index_same : (n : ℕ) (small : n < 10000) → record { value = n; in_range = small } ≡ index n
-index_same n small = kept_same _ n _ _ small (λ q. le_prop small q) (lt-ltb n 10000 small)
+up_to_last : (n last : ℕ) (small : n < suc last) (q : min n last < suc last) → ◌≡◌ {A = (k : ℕ) × (k < suc last)} (n, small) (min n last, q)
+up_to_last n last small q =
+    in_range (λ k. k < suc last) n (min n last) small q (sym (min-eq_left (omega (arith, small)))) (λ r. le_prop small r)
 
-kilograms_same : (n : ℕ) (small : n ≤ 10 ^ 9) → record { value = n; in_range = small } ≡ kilograms n
-kilograms_same n small = kept_same _ n _ _ small (λ q. le_prop small q) (le-leb n (10 ^ 9) small)
+up_to_most : (n most : ℕ) (small : n ≤ most) → ◌≡◌ {A = (k : ℕ) × (k ≤ most)} (n, small) (min n most, min-le_right n most)
+up_to_most n most small = in_range (λ k. k ≤ most) n (min n most) small (min-le_right n most) (sym (min-eq_left small)) (λ r. le_prop small r)
 
-grade_same : (n : ℕ) (small : n ≤ 10 ^ 12) → record { value = n; in_range = small } ≡ a_grade n
-grade_same n small = kept_same _ n _ _ small (λ q. le_prop small q) (le-leb n (10 ^ 12) small)
-
-zone_same : (n : ℕ) (small : n < 64) → record { value = n; in_range = small } ≡ a_zone n
-zone_same n small = kept_same _ n _ _ small (λ q. le_prop small q) (lt-ltb n 64 small)
-
--- the zone of a number that a plan may have is that number
-pub zone_value : (n : ℕ) → n < 64 → (a_zone n).value ≡ n
-zone_value n small = sym (ap (λ k. k.value) (zone_same n small))
-
--- the block of numbers in range has them
-pub made_with : (zone x y z kg grade : ℕ) (in_zone : zone < 64) (in_x : x < 10000) (in_y : y < 10000) (in_z : z < 10000)
-    (in_kg : kg ≤ 10 ^ 9) (in_grade : grade ≤ 10 ^ 12)
-    → block (record { value = zone; in_range = in_zone }) (record { value = x; in_range = in_x }) (record { value = y; in_range = in_y })
-    (record { value = z; in_range = in_z }) (record { value = kg; in_range = in_kg }) (record { value = grade; in_range = in_grade })
-    ≡ block_with zone x y z kg grade
-made_with zone x y z kg grade in_zone in_x in_y in_z in_kg in_grade = λ i.
-    block (zone_same zone in_zone i) (index_same x in_x i) (index_same y in_y i) (index_same z in_z i) (kilograms_same kg in_kg i)
-    (grade_same grade in_grade i)
-
--- a block is that of its fields
 pub block_again : (b : Block) → b ≡ block_with b.zone b.x b.y b.z b.kg b.grade
 block_again b =
-    made_with b.zone b.x b.y b.z b.kg b.grade b.zone_in_range b.x_in_grid b.y_in_grid b.z_in_grid b.kg_in_range b.grade_in_range
+    let made = block_with b.zone b.x b.y b.z b.kg b.grade in
+    let x = up_to_last b.x 9999 b.x_in_grid made.x_in_grid in
+    let y = up_to_last b.y 9999 b.y_in_grid made.y_in_grid in
+    let z = up_to_last b.z 9999 b.z_in_grid made.z_in_grid in
+    let kg = up_to_most b.kg (10 ^ 9) b.kg_in_range in
+    let grade = up_to_most b.grade (10 ^ 12) b.grade_in_range in
+    let zone = up_to_last b.zone 63 b.zone_in_range made.zone_in_range in
+    λ i. record {
+      x = (x i).0;
+      y = (y i).0;
+      z = (z i).0;
+      kg = (kg i).0;
+      grade = (grade i).0;
+      zone = (zone i).0;
+      x_in_grid = (x i).1;
+      y_in_grid = (y i).1;
+      z_in_grid = (z i).1;
+      kg_in_range = (kg i).1;
+      grade_in_range = (grade i).1;
+      zone_in_range = (zone i).1;
+    }

@@ -1,10 +1,7 @@
 pub mod BlockFacts
 pub mod CellFacts
 pub mod CentroidFacts
-pub mod FaultFacts
-pub mod FirstFaults
 pub mod Giving
 pub mod RowFacts
 pub mod ZoneFacts
 pub mod ColumnFacts
-pub mod SpelledRows

@@ -1,174 +1,148 @@
--- A row follows what is asked of it and says the block that it spells; a block that is spelled is said.
-use Rattle.std.proofs.Common.{◌≡◌, ℕ, ◌*◌, ◌/◌, ◌%◌, ◌^◌, ◌<◌, ◌≤◌, ◌==◌, Bool, true, false, not, List, ◌++◌, length, arith, refl, sym, ◌∙◌, ap, subst, eqb-true, eq-eqb, inl, ℤ, pos, negsuc, Ok, Err}
-use Rattle.std.specs.Prelude.{Result, nat_lt, unsigned_abs}
-use Rattle.std.proofs.Math.Nat.{mul-div_left}
-use Rattle.std.proofs.lemmas.Bool.{not-false}
-use Rattle.std.proofs.lemmas.Bool.Decides.{nat_tests}
+-- What a row's answer tells of its number, and that a row states a block exactly where its cells spell the block's values.
+use Rattle.std.proofs.Common.{◌≡◌, ℕ, ◌*◌, ◌/◌, ◌%◌, ◌^◌, ◌<◌, ◌≤◌, Bool, true, false, List, [], ◌∷◌, arith, refl, sym, ◌∙◌, ap, subst, leb-true, inl, inr, pos, negsuc, Some, None, Ok, Err, min}
+use Rattle.std.specs.Prelude.{Option, nat_le, unsigned_abs, ◌↔◌, if◌then◌else◌}
+use Rattle.std.proofs.Math.Nat.{min-eq_left, mul-div_left}
 use Rattle.std.proofs.lemmas.Int.{ints}
-use Rattle.forms.proofs.DecimalFaults.{one_number}
-use Rattle.forms.proofs.DemandFacts.{Follows, bound, guarded, mapped}
-use Rattle.forms.proofs.FormFacts.{field_told, says_read}
-use Rattle.forms.specs.Demands.{demand}
-use Rattle.forms.specs.Form.{Value, Millionths, Bytes, Says, asked_of_field, millionths, read_field}
-use Rattle.forms.specs.Steps.{◌>>=◌}
+use Rattle.forms.proofs.ShapeFacts.{IsAnswer, said_answers, states_said, fails_said}
+use Rattle.forms.specs.Demands.{Demand, FailsFirst}
+use Rattle.forms.specs.Form.{Value, Millionths, Bytes, Says, Spell, asked, millionths}
+use Rattle.forms.specs.Shape.{Check, Fails, Shape, States, failing}
 use Rattle.pit_model.specs.declared.block.Block.{Block}
 use Rattle.pit_model.specs.declared.grid.Axis.{Axis}
 use Rattle.pit_model.specs.declared.grid.Grid.{Grid}
 use Rattle.pit_units.proofs.Multiples.{stands_multiple}
-use Rattle.zone_csv.proofs.BlockFacts.{block_again, made_with}
-use Rattle.zone_csv.proofs.CentroidFacts.{centroid_index, index_is_centroid, no_index}
-use Rattle.zone_csv.proofs.FaultFacts.{IsOfRow, IsOfZone, row_of_row}
-use Rattle.zone_csv.specs.Cell.{SpellIndex, cell_at, centroid, coordinate, grade, grade_of, index_at, index_of, kilograms_of, of_cell, tonnes}
-use Rattle.zone_csv.specs.Faults.{a_fault, at}
-use Rattle.zone_csv.specs.Row.{block_of, block_with, row_of}
-use Rattle.zone_csv.specs.RowDemands.{a_coordinate, asked_of_row}
-use Rattle.zone_csv.specs.SpelledZone.{SpellBlock}
+use Rattle.zone_csv.proofs.BlockFacts.{block_again}
+use Rattle.zone_csv.proofs.CentroidFacts.{centroid_index, index_is_centroid}
+use Rattle.zone_csv.specs.Cell.{centroid, coordinate, grade, index_at, tonnes}
+use Rattle.zone_csv.specs.Row.{block_of, row_of, row_shape, values_of}
 use Rattle.zone_csv.specs.declared.columns.Columns.{Columns}
-use Rattle.zone_csv.specs.declared.row_fault.Column.{Column}
-use Rattle.zone_csv.specs.declared.row_fault.Column.TheVariants as column
-use Rattle.zone_csv.specs.declared.row_fault.RowFaultKind.{RowFaultKind}
-use Rattle.zone_csv.specs.declared.row_fault.RowFaultKind.TheVariants.{OffGrid, TooManyRows, Width}
+use Rattle.zone_csv.specs.declared.row_fault.RowFault.{RowFault}
 
-index_told : (row : ℕ) (place : Column) (axis : Axis) (cell : List ℕ) → 0 < axis.size
-    → Follows (index_of row place axis cell) (a_coordinate row place axis cell) (λ index. (index < 10000) × SpellIndex axis cell index)
-unfolding index_of
-index_told row place axis cell some =
-    bound (read_field (of_cell row place) (coordinate axis) cell) _ (asked_of_field (of_cell row place) (coordinate axis) cell)
-    (demand (a_fault row place OffGrid) OnGrid) (Says (coordinate axis) cell) Kept (field_told (of_cell row place) (coordinate axis) cell refl) placed
+-- the fault of the first test that fails, and of the first thing asked that does not hold, is of the row that all of them are of
+abbrev pub AreOfRow : ℕ → List (Check RowFault) → Type 0
+AreOfRow row [] = Unit {0}
+AreOfRow row (c ∷ checks) = (c.kind.row ≡ row) × AreOfRow row checks
+
+pub failing_of_row : (row : ℕ) (checks : List (Check RowFault)) (fault : RowFault) → AreOfRow row checks → failing checks ≡ Some fault
+    → fault.row ≡ row
+failing_of_row row [] fault all e = absurd cc
+failing_of_row row (c ∷ checks) fault all e = by c.holds e (λ rest. failing_of_row row checks fault all.1 rest)
   where
-    OnGrid : Type 0
-    OnGrid = (index : ℕ) × SpellIndex axis cell index
+    by : (holds : Bool) → (if holds then failing checks else Some c.kind) ≡ Some fault → (failing checks ≡ Some fault → fault.row ≡ row)
+        → fault.row ≡ row
+    by true e rest = rest e
+    by false e rest = let same : c.kind ≡ fault = cc in ap (λ (f : RowFault). f.row) (sym same) ∙ all.0
 
-    Kept : ℕ → Type 0
-    Kept index = (index < 10000) × SpellIndex axis cell index
+abbrev pub AreAskedOfRow : ℕ → List (Demand RowFault) → Type 0
+AreAskedOfRow row [] = Unit {0}
+AreAskedOfRow row (d ∷ demands) = (d.kind.row ≡ row) × AreAskedOfRow row demands
 
-    by : (m : ℤ) → Says (coordinate axis) cell (Millionths m) → (r : Result ℕ RowFaultKind) → index_at axis m ≡ r
-        → Follows (at row place r) (demand (a_fault row place OffGrid) OnGrid) Kept
-    by m says (Ok index) e =
-        let is = index_is_centroid axis some m index (says.1, says.2) e in
-        let spelled : SpellIndex axis cell index = subst (λ z. Says (coordinate axis) cell (Millionths z)) is.0 says in
-        (((index, spelled), tt), (is.1, spelled))
-    by m says (Err kind) e =
-        let never : ¬ OnGrid = λ h.
-        let same : m ≡ centroid axis h.0 = one_number 3 cell m (centroid axis h.0) (omega arith) says.0 h.1.0 in
-        absurd (cc (e, ap (index_at axis) same, centroid_index axis some h.0)) in
-        inl (never, ap (a_fault row place) (no_index _ _ kind e))
+asked_of_row : (row : ℕ) (demands : List (Demand RowFault)) (fault : RowFault) → AreAskedOfRow row demands → FailsFirst demands fault
+    → fault.row ≡ row
+asked_of_row row [] fault all fails = absurd fails
+asked_of_row row (d ∷ demands) fault all (inl here) = ap (λ (f : RowFault). f.row) here.1 ∙ all.0
+asked_of_row row (d ∷ demands) fault all (inr later) = asked_of_row row demands fault all.1 later.1
 
-    placed : (value : Value) → Says (coordinate axis) cell value
-        → Follows (at row place (index_at axis (millionths value))) (demand (a_fault row place OffGrid) OnGrid) Kept
-    placed (Millionths m) says = by m says (index_at axis m) refl
-    placed (Bytes word) says = absurd says
+module _ (grid : Grid) (zone : ℕ) (columns : Columns) (number : ℕ) (cells : List (List ℕ)) where
+  abbrev shape : Shape RowFault Block
+  shape = row_shape grid zone columns number cells
 
-kilograms_told : (row : ℕ) (cell : List ℕ) → Follows (kilograms_of row cell) (asked_of_field (of_cell row column.Tonnes) tonnes cell)
-    (λ kg. (kg ≤ 10 ^ 9) × Says tonnes cell (Millionths (pos (kg * 1000))))
-unfolding kilograms_of
-kilograms_told row cell =
-    mapped (read_field (of_cell row column.Tonnes) tonnes cell) (λ value. unsigned_abs (millionths value) / 1000) _ (Says tonnes cell) _
-    (field_told (of_cell row column.Tonnes) tonnes cell refl) weighed
-  where
-    weighed : (value : Value) → Says tonnes cell value
-        → (unsigned_abs (millionths value) / 1000 ≤ 10 ^ 9) × Says tonnes cell (Millionths (pos (unsigned_abs (millionths value) / 1000 * 1000)))
-    weighed (Millionths (pos n)) says =
-        let rest : n % 10 ^ 3 ≡ 0 = stands_multiple 3 cell (pos n) (omega arith) says.0 in
-        let whole : n ≡ n / 1000 * 1000 = omega (arith, rest) in
-        (omega (arith, ints, says.2), subst (λ k. Says tonnes cell (Millionths (pos k))) whole says)
-    weighed (Millionths (negsuc n)) says = absurd (omega (arith, ints, says.1))
-    weighed (Bytes word) says = absurd says
+  pub row_answers : IsAnswer shape (row_of grid zone columns number cells)
+  unfolding row_of
+  row_answers = said_answers shape refl
 
-grade_told : (row : ℕ) (cell : List ℕ) → Follows (grade_of row cell) (asked_of_field (of_cell row column.Grade) grade cell)
-    (λ g. (g ≤ 10 ^ 12) × Says grade cell (Millionths (pos g)))
-unfolding grade_of
-grade_told row cell =
-    mapped (read_field (of_cell row column.Grade) grade cell) (λ value. unsigned_abs (millionths value)) _ (Says grade cell) _
-    (field_told (of_cell row column.Grade) grade cell refl) graded
-  where
-    graded : (value : Value) → Says grade cell value
-        → (unsigned_abs (millionths value) ≤ 10 ^ 12) × Says grade cell (Millionths (pos (unsigned_abs (millionths value))))
-    graded (Millionths (pos n)) says = (omega (arith, ints, says.2), says)
-    graded (Millionths (negsuc n)) says = absurd (omega (arith, ints, says.1))
-    graded (Bytes word) says = absurd says
+  pub states_row : (b : Block) → States shape b → row_of grid zone columns number cells ≡ Ok b
+  unfolding row_of
+  states_row b states = states_said shape b refl states
 
-spelled_index : (row : ℕ) (place : Column) (axis : Axis) (cell : List ℕ) (index : ℕ) → 0 < axis.size → SpellIndex axis cell index
-    → index_of row place axis cell ≡ Ok index
-unfolding index_of
-spelled_index row place axis cell index some h =
-    ap (λ r. r >>= λ value. at row place (index_at axis (millionths value)))
-    (says_read (of_cell row place) (coordinate axis) cell (Millionths (centroid axis index)) refl h)
-    ∙ ap (at row place) (centroid_index axis some index)
+  pub fails_row : (fault : RowFault) → Fails shape fault → row_of grid zone columns number cells ≡ Err fault
+  unfolding row_of
+  fails_row fault fails = fails_said shape fault refl fails
 
-spelled_kilograms : (row : ℕ) (cell : List ℕ) (kg : ℕ) → Says tonnes cell (Millionths (pos (kg * 1000))) → kilograms_of row cell ≡ Ok kg
-unfolding kilograms_of
-spelled_kilograms row cell kg h =
-    ap (λ r. r >>= λ value. Ok (unsigned_abs (millionths value) / 1000))
-    (says_read (of_cell row column.Tonnes) tonnes cell (Millionths (pos (kg * 1000))) refl h)
-    ∙ ap Ok (mul-div_left kg (omega arith))
+  -- a row with a block is within the first 1,000,001 records, and its block is of the zone
+  pub row_within : (b : Block) → States shape b → number ≤ 1000001
+  row_within b states = by (nat_le number 1000001) _ _ refl states.first
+    where
+      by : (few : Bool) (rest : Option RowFault) (fault : RowFault) → nat_le number 1000001 ≡ few
+          → (if few then rest else Some fault) ≡ None
+          → number ≤ 1000001
+      by true rest fault few e = leb-true number 1000001 few
+      by false rest fault few e = absurd cc
 
-spelled_grade : (row : ℕ) (cell : List ℕ) (g : ℕ) → Says grade cell (Millionths (pos g)) → grade_of row cell ≡ Ok g
-unfolding grade_of
-spelled_grade row cell g h =
-    ap (λ r. r >>= λ value. Ok (unsigned_abs (millionths value))) (says_read (of_cell row column.Grade) grade cell (Millionths (pos g)) refl h)
+  pub zone_of_row : (b : Block) → States shape b → b.zone ≡ min zone 63
+  zone_of_row b states = ap (λ (c : Block). c.zone) states.is
 
-module _ (grid : Grid) (zone : ℕ) (sx : 0 < grid.x.size) (sy : 0 < grid.y.size) (sz : 0 < grid.z.size) (small : zone < 64) where
-  module _ (columns : Columns) (number : ℕ) (cells : List (List ℕ)) where
-    made_spelled : length cells ≡ columns.width → (x y z kg g : ℕ)
-        → (x < 10000) × SpellIndex grid.x (cell_at cells columns.x) x → (y < 10000) × SpellIndex grid.y (cell_at cells columns.y) y
-        → (z < 10000) × SpellIndex grid.z (cell_at cells columns.z) z
-        → (kg ≤ 10 ^ 9) × Says tonnes (cell_at cells columns.tonnes) (Millionths (pos (kg * 1000)))
-        → (g ≤ 10 ^ 12) × Says grade (cell_at cells columns.grade) (Millionths (pos g))
-        → SpellBlock grid zone columns cells (block_with zone x y z kg g)
-    made_spelled wide x y z kg g of_x of_y of_z of_kg of_g =
-        subst (SpellBlock grid zone columns cells) (made_with zone x y z kg g small of_x.0 of_y.0 of_z.0 of_kg.0 of_g.0)
-        (record { wide = wide; x = of_x.1; y = of_y.1; z = of_z.1; tonnes = of_kg.1; grade = of_g.1; zone_is = refl })
+  pub fault_of_row : (fault : RowFault) → Fails shape fault → fault.row ≡ number
+  fault_of_row fault (inl e) = failing_of_row number shape.first fault (refl, (refl, tt)) e
+  fault_of_row fault (inr (e, inl first)) =
+      asked_of_row number (asked shape.kinds shape.form shape.texts) fault
+      (refl, (refl, (refl, (refl, (refl, (refl, (refl, (refl, (refl, (refl, (refl, (refl, (refl, (refl, (refl, (refl, (refl, (refl, (refl, tt))))))))))))))))))) first
+  fault_of_row fault (inr (e, inr last)) = absurd (none last.fails)
+    where
+      none : None ≡ Some fault → ⊥
+      none e = absurd cc
 
-    block_told : length cells ≡ columns.width → Follows (block_of grid zone columns number cells)
-        (a_coordinate number column.X grid.x (cell_at cells columns.x) ++ (a_coordinate number column.Y grid.y (cell_at cells columns.y)
-        ++ (a_coordinate number column.Z grid.z (cell_at cells columns.z)
-        ++ (asked_of_field (of_cell number column.Tonnes) tonnes (cell_at cells columns.tonnes)
-        ++ asked_of_field (of_cell number column.Grade) grade (cell_at cells columns.grade)))))
-        (SpellBlock grid zone columns cells)
-    block_told wide =
-        bound _ _ _ _ _ _ (index_told number column.X grid.x (cell_at cells columns.x) sx) (λ x of_x.
-        bound _ _ _ _ _ _ (index_told number column.Y grid.y (cell_at cells columns.y) sy) (λ y of_y.
-        bound _ _ _ _ _ _ (index_told number column.Z grid.z (cell_at cells columns.z) sz) (λ z of_z.
-        bound _ _ _ _ _ _ (kilograms_told number (cell_at cells columns.tonnes)) (λ kg of_kg.
-        mapped _ (λ g. block_with zone x y z kg g) _ _ _ (grade_told number (cell_at cells columns.grade)) (λ g of_g.
-        made_spelled wide x y z kg g of_x of_y of_z of_kg of_g)))))
+-- the value of a coordinate, of a tonnage or of a grade is that of the number that it states
+index_back : (axis : Axis) (cell : List ℕ) (value : Value) → 0 < axis.size → Says (coordinate axis) cell value
+    → value ≡ Millionths (centroid axis (min (index_at axis (millionths value)) 9999))
+index_back axis cell (Millionths m) some says =
+    let is = index_is_centroid axis some m (index_at axis m) (says.1, says.2) says.3 refl in
+    ap Millionths (is.0 ∙ ap (centroid axis) (sym (min-eq_left (omega (arith, is.1)))))
+index_back axis cell (Bytes word) some says = absurd says
 
-    pub row_told : nat_lt 1000001 number ≡ false
-        → Follows (row_of grid zone columns number cells) (asked_of_row grid columns number cells) (SpellBlock grid zone columns cells)
-    unfolding row_of
-    row_told few = rw few
-        (guarded (not (length cells == columns.width)) (a_fault number column.Whole Width) (length cells ≡ columns.width)
-        (block_of grid zone columns number cells) _ _
-        (λ t h. other (length cells == columns.width) t (eq-eqb (length cells) columns.width h)) (λ t.
-        let wide = eqb-true (length cells) columns.width (not-false (length cells == columns.width) t) in
-        (wide, block_told wide)))
-      where
-        other : (t : Bool) → not t ≡ true → t ≡ true → ⊥
-        other true a b = absurd cc
-        other false a b = absurd cc
+kilograms_back : (cell : List ℕ) (value : Value) → Says tonnes cell value
+    → value ≡ Millionths (pos (min (unsigned_abs (millionths value) / 1000) (10 ^ 9) * 1000))
+kilograms_back cell (Millionths (pos n)) says =
+    let rest : n % 10 ^ 3 ≡ 0 = stands_multiple 3 cell (pos n) (omega arith) says.0 in
+    let few : n / 1000 ≤ 10 ^ 9 = omega (arith, ints, says.2) in
+    let whole : n ≡ n / 1000 * 1000 = omega (arith, rest) in
+    ap (λ k. Millionths (pos k)) (whole ∙ ap (λ k. k * 1000) (sym (min-eq_left few)))
+kilograms_back cell (Millionths (negsuc n)) says = absurd (omega (arith, ints, says.1))
+kilograms_back cell (Bytes word) says = absurd says
 
-    pub row_spelled : (b : Block) → row_of grid zone columns number cells ≡ Ok b → (number ≤ 1000001) × SpellBlock grid zone columns cells b
-    row_spelled b is =
-        let few : number ≤ 1000001 = (subst (IsOfRow number (IsOfZone zone number)) is (row_of_row grid zone columns number cells)).1 in
-        let many : nat_lt 1000001 number ≡ false = grind (arith, nat_tests) in
-        (few, (subst (λ r. Follows r (asked_of_row grid columns number cells) (SpellBlock grid zone columns cells)) is (row_told many)).1)
+grade_back : (cell : List ℕ) (value : Value) → Says grade cell value
+    → value ≡ Millionths (pos (min (unsigned_abs (millionths value)) (10 ^ 12)))
+grade_back cell (Millionths (pos n)) says =
+    let few : n ≤ 10 ^ 12 = omega (arith, ints, says.2) in
+    ap (λ k. Millionths (pos k)) (sym (min-eq_left few))
+grade_back cell (Millionths (negsuc n)) says = absurd (omega (arith, ints, says.1))
+grade_back cell (Bytes word) says = absurd says
 
-    pub spelled_row : (b : Block) → number ≤ 1000001 → SpellBlock grid zone columns cells b → row_of grid zone columns number cells ≡ Ok b
-    unfolding row_of
-    spelled_row b few h =
-        let many : nat_lt 1000001 number ≡ false = grind (arith, nat_tests) in
-        rw (
-          many,
-          eq-eqb (length cells) columns.width h.wide,
-          spelled_index number column.X grid.x (cell_at cells columns.x) b.x sx h.x,
-          spelled_index number column.Y grid.y (cell_at cells columns.y) b.y sy h.y,
-          spelled_index number column.Z grid.z (cell_at cells columns.z) b.z sz h.z,
-          spelled_kilograms number (cell_at cells columns.tonnes) b.kg h.tonnes,
-          spelled_grade number (cell_at cells columns.grade) b.grade h.grade,
-        ) (ap Ok (ap (λ n. block_with n b.x b.y b.z b.kg b.grade) (sym h.zone_is) ∙ sym (block_again b)))
+module _ (grid : Grid) (zone : ℕ) (sx : 0 < grid.x.size) (sy : 0 < grid.y.size) (sz : 0 < grid.z.size) where
+  -- a block is stated by its values
+  block_back : (b : Block) → b.zone ≡ zone → b ≡ block_of grid zone (values_of grid b)
+  block_back b own =
+      let kg : b.kg * 1000 / 1000 ≡ b.kg = mul-div_left b.kg (omega arith) in
+      block_again b ∙ rw (own, centroid_index grid.x sx b.x, centroid_index grid.y sy b.y, centroid_index grid.z sz b.z, kg) refl
 
-pub too_many : (grid : Grid) (zone : ℕ) (columns : Columns) (number : ℕ) (cells : List (List ℕ)) → nat_lt 1000001 number ≡ true
-    → row_of grid zone columns number cells ≡ Err (a_fault number column.Whole TooManyRows)
-unfolding row_of
-too_many grid zone columns number cells test = rw test refl
+  -- values that are spelled are those of the block that they state
+  values_back : (cx cy cz ct cg : List ℕ) (values : List Value)
+      → Spell (coordinate grid.x ∷ coordinate grid.y ∷ coordinate grid.z ∷ tonnes ∷ grade ∷ []) (cx ∷ cy ∷ cz ∷ ct ∷ cg ∷ []) values
+      → values ≡ values_of grid (block_of grid zone values)
+  values_back cx cy cz ct cg [] spelled = absurd spelled
+  values_back cx cy cz ct cg (x ∷ []) spelled = absurd spelled.1
+  values_back cx cy cz ct cg (x ∷ y ∷ []) spelled = absurd spelled.1.1
+  values_back cx cy cz ct cg (x ∷ y ∷ z ∷ []) spelled = absurd spelled.1.1.1
+  values_back cx cy cz ct cg (x ∷ y ∷ z ∷ t ∷ []) spelled = absurd spelled.1.1.1.1
+  values_back cx cy cz ct cg (x ∷ y ∷ z ∷ t ∷ g ∷ v ∷ values) spelled = absurd spelled.1.1.1.1.1
+  values_back cx cy cz ct cg (x ∷ y ∷ z ∷ t ∷ g ∷ []) (of_x, (of_y, (of_z, (of_t, (of_g, end))))) = λ i.
+      index_back grid.x cx x sx of_x i ∷ index_back grid.y cy y sy of_y i ∷ index_back grid.z cz z sz of_z i
+      ∷ kilograms_back ct t of_t i ∷ grade_back cg g of_g i ∷ []
+
+  pub row_spells_block : zone < 64 → (columns : Columns) (number : ℕ) (cells : List (List ℕ)) (b : Block)
+      → let shape = row_shape grid zone columns number cells in
+      States shape b ↔ ((failing shape.first ≡ None) × Spell shape.form shape.texts (values_of grid b) × (b.zone ≡ zone))
+  row_spells_block small columns number cells b = (to, from)
+    where
+      here : Shape RowFault Block
+      here = row_shape grid zone columns number cells
+
+      to : States here b → (failing here.first ≡ None) × Spell here.form here.texts (values_of grid b) × (b.zone ≡ zone)
+      to states = (
+        states.first,
+        subst (Spell here.form here.texts) (values_back _ _ _ _ _ states.values states.spelled ∙ ap (values_of grid) (sym states.is)) states.spelled,
+        zone_of_row grid zone columns number cells b states ∙ min-eq_left (omega (arith, small)),
+      )
+
+      from : (failing here.first ≡ None) × Spell here.form here.texts (values_of grid b) × (b.zone ≡ zone) → States here b
+      from h = record { first = h.0; values = values_of grid b; spelled = h.1; last = refl; is = block_back b h.2 }

@@ -1,80 +1,180 @@
--- The blocks of a zone file are few, and of its zone.
-use Rattle.std.proofs.Common.{◌≡◌, ℕ, ◌+◌, ◌<◌, ◌≤◌, List, [], ◌∷◌, length, arith, refl, ◌∙◌, subst, Ok, Err}
-use Rattle.std.specs.Prelude.{Result, All}
+-- A zone file has the blocks and the fault that its records state, and no others; its blocks are few, and of its zone.
+use Rattle.std.proofs.Common.{◌≡◌, ℕ, ◌+◌, ◌<◌, ◌≤◌, List, [], ◌∷◌, length, arith, refl, sym, ap, subst, inl, inr, Ok, Err, Some, None, min}
+use Rattle.std.specs.Prelude.{Result, Option, All, MatchOption, ◌⊎◌, ◌↔◌}
+use Rattle.std.proofs.Math.Nat.{min-eq_left}
 use Rattle.std.proofs.lemmas.List.Elements.{All-nil, All-cons}
+use Rattle.forms.proofs.ShapeFacts.{IsAnswer}
 use Rattle.pit_model.specs.Records.{records_of}
 use Rattle.pit_model.specs.declared.block.Block.{Block}
 use Rattle.pit_model.specs.declared.grid.Grid.{Grid}
-use Rattle.zone_csv.proofs.BlockFacts.{zone_value}
-use Rattle.zone_csv.proofs.FaultFacts.{IsOfRow, IsOfZone, row_of_row}
-use Rattle.zone_csv.specs.Header.{columns_of}
-use Rattle.zone_csv.specs.Row.{row_of}
-use Rattle.zone_csv.specs.Zone.{rows_say, below_header, records_say, before_fault, blocks_of, HasFewBlocks, HasOwnBlocks}
+use Rattle.zone_csv.proofs.ColumnFacts.{columns_named, fault_of_header, header_fails, named_columns, refused_header}
+use Rattle.zone_csv.proofs.RowFacts.{fails_row, fault_of_row, row_answers, row_within, states_row, zone_of_row}
+use Rattle.zone_csv.specs.Header.{NamesColumns, columns_of}
+use Rattle.zone_csv.specs.Row.{row_of, row_shape}
+use Rattle.zone_csv.specs.Zone.{AccountsForRecords, HasFewBlocks, HasOwnBlocks, HeaderFails, RowsState, ZoneStates, before_fault, below_header, blocks_of, fault_of, first_fault, header_of, records_say, rows_say}
 use Rattle.zone_csv.specs.declared.columns.Columns.{Columns}
 use Rattle.zone_csv.specs.declared.row_fault.RowFault.{RowFault}
 
--- a row with a block is within the first 1,000,001 records, and its block is of the zone
-row_within : (grid : Grid) (zone : ℕ) (columns : Columns) (number : ℕ) (cells : List (List ℕ)) (b : Block)
-    → row_of grid zone columns number cells ≡ Ok b → IsOfZone zone number b
-row_within grid zone columns number cells b is = subst (IsOfRow number (IsOfZone zone number)) is (row_of_row grid zone columns number cells)
+-- what records tell: where there is a fault, it may be the header's
+abbrev pub Tell : Grid → ℕ → List (List (List ℕ)) → List Block → Option RowFault → Type 0
+Tell grid zone records blocks None = ZoneStates grid zone records blocks None
+Tell grid zone records blocks (Some fault) = HeaderFails records blocks fault ⊎ ZoneStates grid zone records blocks (Some fault)
 
--- one more block, if the row has one
-one_more : (answer : Result Block RowFault) (said : List (Result Block RowFault)) (number : ℕ) → number ≤ 1000002
-    → ((b : Block) → answer ≡ Ok b → number ≤ 1000001)
-    → (number + 1 ≤ 1000002 → length (before_fault said) + (number + 1) ≤ 1000002)
-    → length (before_fault (answer ∷ said)) + number ≤ 1000002
-one_more (Err fault) said number counted within rest = omega arith
-one_more (Ok b) said number counted within rest =
-    let here : number ≤ 1000001 = within b refl in
-    let more : length (before_fault said) + (number + 1) ≤ 1000002 = rest (omega arith) in
-    omega arith
+-- of so many rows from this number on, each has a block, or the fault is of the row behind the blocks
+abbrev Accounts : ℕ → ℕ → Option RowFault → ℕ → Type 0
+Accounts rows number None blocks = rows ≡ blocks
+Accounts rows number (Some fault) blocks = fault.row ≡ blocks + number
 
-few_rows : (grid : Grid) (zone : ℕ) (columns : Columns) (rows : List (List (List ℕ))) (number : ℕ) → number ≤ 1000002
-    → length (before_fault (rows_say grid zone columns rows number)) + number ≤ 1000002
-few_rows grid zone columns [] number counted = omega arith
-few_rows grid zone columns (row ∷ rows) number counted =
-    one_more (row_of grid zone columns number row) (rows_say grid zone columns rows (number + 1)) number counted
-    (λ b is. (row_within grid zone columns number row b is).1) (λ next. few_rows grid zone columns rows (number + 1) next)
+-- the same of a whole file, whose header is the first record
+abbrev IsWhole : ℕ → Option RowFault → List Block → Type 0
+IsWhole records fault blocks =
+    MatchOption fault (records ≡ length blocks + 1) (λ f. (f.row ≡ length blocks + 2) ⊎ ((f.row ≡ 1) × (blocks ≡ [])))
 
-few_below : (grid : Grid) (zone : ℕ) (columns : Result Columns RowFault) (rows : List (List (List ℕ)))
-    → length (before_fault (below_header grid zone columns rows)) ≤ 1000000
-few_below grid zone (Err fault) rows = omega arith
-few_below grid zone (Ok columns) rows =
-    let all : length (before_fault (rows_say grid zone columns rows 2)) + 2 ≤ 1000002 = few_rows grid zone columns rows 2 (omega arith) in
-    omega arith
+-- no cells name columns
+no_columns : (columns : Columns) → NamesColumns [] columns → ⊥
+no_columns columns named = absurd (cc (header_fails [] _ refl, named_columns [] columns named))
 
-few_records : (grid : Grid) (zone : ℕ) (records : List (List (List ℕ))) → length (before_fault (records_say grid zone records)) ≤ 1000000
-few_records grid zone [] = omega arith
-few_records grid zone (header ∷ rows) = few_below grid zone (columns_of header) rows
+module _ (grid : Grid) (zone : ℕ) where
+  module _ (columns : Columns) where
+    -- rows state what they say
+    rows_told : (rows : List (List (List ℕ))) (number : ℕ)
+        → RowsState grid zone columns number rows (before_fault (rows_say grid zone columns rows number)) (first_fault (rows_say grid zone columns rows number))
+    rows_told [] number = tt
+    rows_told (row ∷ rows) number = by (row_of grid zone columns number row) (row_answers grid zone columns number row) (rows_told rows (number + 1))
+      where
+        by : (r : Result Block RowFault) → IsAnswer (row_shape grid zone columns number row) r
+            → RowsState grid zone columns (number + 1) rows (before_fault (rows_say grid zone columns rows (number + 1))) (first_fault (rows_say grid zone columns rows (number + 1)))
+            → RowsState grid zone columns number (row ∷ rows) (before_fault (r ∷ rows_say grid zone columns rows (number + 1))) (first_fault (r ∷ rows_say grid zone columns rows (number + 1)))
+        by (Ok b) states rest = (states, rest)
+        by (Err fault) fails rest = fails
 
--- a zone file has at most a million blocks
+    -- and say what they state
+    told_rows : (rows : List (List (List ℕ))) (number : ℕ) (blocks : List Block) (fault : Option RowFault)
+        → RowsState grid zone columns number rows blocks fault
+        → (first_fault (rows_say grid zone columns rows number) ≡ fault) × (before_fault (rows_say grid zone columns rows number) ≡ blocks)
+    told_rows [] number [] None h = (refl, refl)
+    told_rows [] number [] (Some fault) h = absurd h
+    told_rows [] number (b ∷ blocks) fault h = absurd h
+    told_rows (row ∷ rows) number [] None h = absurd h
+    told_rows (row ∷ rows) number [] (Some fault) fails =
+        let here = fails_row grid zone columns number row fault fails in
+        (rw here refl, rw here refl)
+    told_rows (row ∷ rows) number (b ∷ blocks) fault (states, rest) =
+        let here = states_row grid zone columns number row b states in
+        let more = told_rows rows (number + 1) blocks fault rest in
+        (rw here more.0, rw here (ap (λ bs. b ∷ bs) more.1))
+
+    -- rows that state blocks are few, the blocks are of the zone, and each row has one, up to that of the fault
+    rows_kept : (rows : List (List (List ℕ))) (number : ℕ) (blocks : List Block) (fault : Option RowFault) → number ≤ 1000002
+        → RowsState grid zone columns number rows blocks fault
+        → (length blocks + number ≤ 1000002) × All (λ (b : Block). b.zone ≡ min zone 63) blocks
+        × Accounts (length rows) number fault (length blocks)
+    rows_kept [] number [] None counted h = (omega (arith, counted), All-nil (λ (b : Block). b.zone ≡ min zone 63), refl)
+    rows_kept [] number [] (Some fault) counted h = absurd h
+    rows_kept [] number (b ∷ blocks) fault counted h = absurd h
+    rows_kept (row ∷ rows) number [] None counted h = absurd h
+    rows_kept (row ∷ rows) number [] (Some fault) counted fails =
+        let here : fault.row ≡ number = fault_of_row grid zone columns number row fault fails in
+        (omega (arith, counted), All-nil (λ (b : Block). b.zone ≡ min zone 63), omega (arith, here))
+    rows_kept (row ∷ rows) number (b ∷ blocks) fault counted (states, rest) =
+        let here : number ≤ 1000001 = row_within grid zone columns number row b states in
+        let more = rows_kept rows (number + 1) blocks fault (omega (arith, here)) rest in (
+          omega (arith, more.0),
+          All-cons (λ (b : Block). b.zone ≡ min zone 63) b blocks (zone_of_row grid zone columns number row b states) more.1,
+          accounts fault more.2,
+        )
+      where
+        accounts : (fault : Option RowFault) → Accounts (length rows) (number + 1) fault (length blocks)
+            → Accounts (length (row ∷ rows)) number fault (length (b ∷ blocks))
+        accounts None h = omega (arith, h)
+        accounts (Some fault) h = omega (arith, h)
+
+  -- records tell what they say
+  pub told : (records : List (List (List ℕ)))
+      → Tell grid zone records (before_fault (records_say grid zone records)) (first_fault (records_say grid zone records))
+  told [] = inl (refl, refl)
+  told (header ∷ rows) = by (columns_of header) refl
+    where
+      below : (columns : Columns) (blocks : List Block) (fault : Option RowFault) → NamesColumns header columns
+          → RowsState grid zone columns 2 rows blocks fault
+          → Tell grid zone (header ∷ rows) blocks fault
+      below columns blocks None named states = (columns, named, states)
+      below columns blocks (Some fault) named states = inr (columns, named, states)
+
+      by : (r : Result Columns RowFault) → columns_of header ≡ r
+          → Tell grid zone (header ∷ rows) (before_fault (below_header grid zone r rows)) (first_fault (below_header grid zone r rows))
+      by (Ok columns) e = below columns _ _ (columns_named header columns e) (rows_told columns rows 2)
+      by (Err fault) e = inl (refl, refused_header header fault e)
+
+  -- and say what they tell
+  stated_records : (records : List (List (List ℕ))) (blocks : List Block) (fault : Option RowFault)
+      → ZoneStates grid zone records blocks fault
+      → (first_fault (records_say grid zone records) ≡ fault) × (before_fault (records_say grid zone records) ≡ blocks)
+  stated_records [] blocks fault (columns, named, states) = absurd (no_columns columns named)
+  stated_records (header ∷ rows) blocks fault (columns, named, states) =
+      let above = named_columns header columns named in
+      let below = told_rows columns rows 2 blocks fault states in
+      (rw above below.0, rw above below.1)
+
+  pub tell_back : (records : List (List (List ℕ))) (blocks : List Block) (fault : Option RowFault) → Tell grid zone records blocks fault
+      → (first_fault (records_say grid zone records) ≡ fault) × (before_fault (records_say grid zone records) ≡ blocks)
+  tell_back records blocks None states = stated_records records blocks None states
+  tell_back records blocks (Some fault) (inr states) = stated_records records blocks (Some fault) states
+  tell_back [] blocks (Some fault) (inl (none, fails)) = (fails, sym none)
+  tell_back (header ∷ rows) blocks (Some fault) (inl (none, fails)) =
+      let above = header_fails header fault fails in
+      (rw above refl, rw above (sym none))
+
+  behind : (records : List (List (List ℕ))) (blocks : List Block) (fault : Option RowFault) → ZoneStates grid zone records blocks fault
+      → (length blocks ≤ 1000000) × All (λ (b : Block). b.zone ≡ min zone 63) blocks × IsWhole (length records) fault blocks
+  behind [] blocks fault (columns, named, states) = absurd (no_columns columns named)
+  behind (header ∷ rows) blocks fault (columns, named, states) =
+      let all = rows_kept columns rows 2 blocks fault (omega arith) states in
+      (omega (arith, all.0), all.1, whole fault all.2)
+    where
+      whole : (fault : Option RowFault) → Accounts (length rows) 2 fault (length blocks) → IsWhole (length (header ∷ rows)) fault blocks
+      whole None h = omega (arith, h)
+      whole (Some fault) h = inl h
+
+  kept : (records : List (List (List ℕ))) (blocks : List Block) (fault : Option RowFault) → Tell grid zone records blocks fault
+      → (length blocks ≤ 1000000) × All (λ (b : Block). b.zone ≡ min zone 63) blocks × IsWhole (length records) fault blocks
+  kept records blocks None states = behind records blocks None states
+  kept records blocks (Some fault) (inr states) = behind records blocks (Some fault) states
+  kept records blocks (Some fault) (inl (none, fails)) =
+      let few : length blocks ≤ 1000000 = omega (arith, ap length none) in (
+        few,
+        subst (All (λ (b : Block). b.zone ≡ min zone 63)) (sym none) (All-nil (λ (b : Block). b.zone ≡ min zone 63)),
+        inr (fault_of_header (header_of records) fault fails, none),
+      )
+
+pub zone_told : (grid : Grid) (zone : ℕ) (text : List ℕ)
+    → Tell grid zone (records_of text) (blocks_of grid zone text) (fault_of grid zone text)
+unfolding blocks_of fault_of
+zone_told grid zone text = told grid zone (records_of text)
+
+-- a zone file has these blocks and this fault, or none, exactly where its records tell them
+pub zone_tells : (grid : Grid) (zone : ℕ) (text : List ℕ) (blocks : List Block) (fault : Option RowFault)
+    → ((fault_of grid zone text ≡ fault) × (blocks_of grid zone text ≡ blocks)) ↔ Tell grid zone (records_of text) blocks fault
+unfolding blocks_of fault_of
+zone_tells grid zone text blocks fault = (to, tell_back grid zone (records_of text) blocks fault)
+  where
+    to : (fault_of grid zone text ≡ fault) × (blocks_of grid zone text ≡ blocks) → Tell grid zone (records_of text) blocks fault
+    to h =
+        subst (λ bs. Tell grid zone (records_of text) bs fault) h.1
+        (subst (Tell grid zone (records_of text) (blocks_of grid zone text)) h.0 (zone_told grid zone text))
+
+pub zone_kept : (grid : Grid) (zone : ℕ) (text : List ℕ)
+    → (length (blocks_of grid zone text) ≤ 1000000) × All (λ (b : Block). b.zone ≡ min zone 63) (blocks_of grid zone text)
+    × IsWhole (length (records_of text)) (fault_of grid zone text) (blocks_of grid zone text)
+zone_kept grid zone text = kept grid zone (records_of text) _ _ (zone_told grid zone text)
+
 pub few_blocks : (grid : Grid) (zone : ℕ) (text : List ℕ) → HasFewBlocks grid zone text
-unfolding blocks_of
-few_blocks grid zone text = few_records grid zone (records_of text)
+few_blocks grid zone text = (zone_kept grid zone text).0
 
-own_more : (zone : ℕ) (answer : Result Block RowFault) (said : List (Result Block RowFault)) → ((b : Block) → answer ≡ Ok b → b.zone ≡ zone)
-    → All (λ (b : Block). b.zone ≡ zone) (before_fault said) → All (λ (b : Block). b.zone ≡ zone) (before_fault (answer ∷ said))
-own_more zone (Err fault) said own rest = All-nil (λ (b : Block). b.zone ≡ zone)
-own_more zone (Ok b) said own rest = All-cons (λ (b : Block). b.zone ≡ zone) b (before_fault said) (own b refl) rest
-
-own_rows : (grid : Grid) (zone : ℕ) (columns : Columns) (rows : List (List (List ℕ))) (number : ℕ) → zone < 64
-    → All (λ (b : Block). b.zone ≡ zone) (before_fault (rows_say grid zone columns rows number))
-own_rows grid zone columns [] number small = All-nil (λ (b : Block). b.zone ≡ zone)
-own_rows grid zone columns (row ∷ rows) number small =
-    own_more zone (row_of grid zone columns number row) (rows_say grid zone columns rows (number + 1))
-    (λ b is. (row_within grid zone columns number row b is).0 ∙ zone_value zone small) (own_rows grid zone columns rows (number + 1) small)
-
-own_below : (grid : Grid) (zone : ℕ) (columns : Result Columns RowFault) (rows : List (List (List ℕ))) → zone < 64
-    → All (λ (b : Block). b.zone ≡ zone) (before_fault (below_header grid zone columns rows))
-own_below grid zone (Err fault) rows small = All-nil (λ (b : Block). b.zone ≡ zone)
-own_below grid zone (Ok columns) rows small = own_rows grid zone columns rows 2 small
-
-own_records : (grid : Grid) (zone : ℕ) (records : List (List (List ℕ))) → zone < 64
-    → All (λ (b : Block). b.zone ≡ zone) (before_fault (records_say grid zone records))
-own_records grid zone [] small = All-nil (λ (b : Block). b.zone ≡ zone)
-own_records grid zone (header ∷ rows) small = own_below grid zone (columns_of header) rows small
-
--- the blocks of a zone file are of its zone
 pub own_blocks : (grid : Grid) (zone : ℕ) (text : List ℕ) → zone < 64 → HasOwnBlocks grid zone text
-unfolding blocks_of
-own_blocks grid zone text small = own_records grid zone (records_of text) small
+own_blocks grid zone text small =
+    let same : min zone 63 ≡ zone = min-eq_left (omega (arith, small)) in
+    subst (λ n. All (λ (b : Block). b.zone ≡ n) (blocks_of grid zone text)) same (zone_kept grid zone text).1
+
+pub accounts_for_records : (grid : Grid) (zone : ℕ) (text : List ℕ) → AccountsForRecords grid zone text
+accounts_for_records grid zone text = (zone_kept grid zone text).2

@@ -1,12 +1,12 @@
 -- The header of a zone file: where its columns stand.
-use Rattle.std.specs.Prelude.{ℕ, ◌+◌, List, [], ◌∷◌, length, Result, Ok, Err, codes, if◌then◌else◌}
+use Rattle.std.specs.Prelude.{◌≡◌, ℕ, ◌+◌, ◌==◌, nat_le, not, true, List, [], ◌∷◌, ◌++◌, length, slice_index_or, Result, Ok, codes, if◌then◌else◌}
+use Rattle.forms.specs.Shape.{Check, check, failing, unless}
 use Rattle.pit_model.specs.Cells.{trimmed, is_word}
-use Rattle.forms.specs.Steps.{◌>>=◌}
-use Rattle.zone_csv.specs.Faults.{at}
+use Rattle.zone_csv.specs.Cell.{a_fault, cell_at}
 use Rattle.zone_csv.specs.declared.columns.Columns.{Columns}
+use Rattle.zone_csv.specs.declared.row_fault.Column.{Column}
 use Rattle.zone_csv.specs.declared.row_fault.Column.TheVariants as column
 use Rattle.zone_csv.specs.declared.row_fault.RowFault.{RowFault}
-use Rattle.zone_csv.specs.declared.row_fault.RowFaultKind.{RowFaultKind}
 use Rattle.zone_csv.specs.declared.row_fault.RowFaultKind.TheVariants.{MissingColumn, TwiceColumn}
 
 -- the places of the cells that are this name, the first cell standing at place n
@@ -15,22 +15,43 @@ places_of name [] n = []
 places_of name (cell ∷ cells) n =
     if is_word (trimmed cell) name then n ∷ places_of name cells (n + 1) else places_of name cells (n + 1)
 
--- the one place of a column
-abbrev pub only_place : List ℕ → Result ℕ RowFaultKind
-only_place [] = Err MissingColumn
-only_place (place ∷ []) = Ok place
-only_place (place ∷ second ∷ more) = Err TwiceColumn
+-- a column stands at a place, and at no second one
+abbrev pub a_column : Column → List ℕ → List (Check RowFault)
+a_column column places =
+    check (a_fault 1 column MissingColumn) (not (length places == 0)) ++ check (a_fault 1 column TwiceColumn) (nat_le (length places) 1)
 
--- the place of the column of this name
-abbrev pub place_of : List ℕ → List (List ℕ) → Result ℕ RowFaultKind
-place_of name header = only_place (places_of name header 0)
+-- what is asked of a header, in order
+abbrev pub asked_of_header : List (List ℕ) → List (Check RowFault)
+asked_of_header header =
+    a_column column.X (places_of (codes "x") header 0) ++ a_column column.Y (places_of (codes "y") header 0)
+    ++ a_column column.Z (places_of (codes "z") header 0) ++ a_column column.Tonnes (places_of (codes "tonnes") header 0)
+    ++ a_column column.Grade (places_of (codes "grade") header 0)
+
+-- the first place of a column
+abbrev pub place_of : List ℕ → List (List ℕ) → ℕ
+place_of name header = slice_index_or (places_of name header 0) 0 0
 
 -- the columns that a header names, or the first of them that it lacks or has twice
 unfoldable pub columns_of : List (List ℕ) → Result Columns RowFault
-columns_of header =
-    at 1 column.X (place_of (codes "x") header) >>= λ x.
-    at 1 column.Y (place_of (codes "y") header) >>= λ y.
-    at 1 column.Z (place_of (codes "z") header) >>= λ z.
-    at 1 column.Tonnes (place_of (codes "tonnes") header) >>= λ tonnes.
-    at 1 column.Grade (place_of (codes "grade") header) >>= λ grade.
-    Ok (record { width = length header; x = x; y = y; z = z; tonnes = tonnes; grade = grade })
+columns_of header = unless (failing (asked_of_header header)) (Ok (record {
+  width = length header;
+  x = place_of (codes "x") header;
+  y = place_of (codes "y") header;
+  z = place_of (codes "z") header;
+  tonnes = place_of (codes "tonnes") header;
+  grade = place_of (codes "grade") header;
+}))
+
+-- the cell at this place is the column's name, in any case, and no other cell is
+abbrev pub NamesColumn : List (List ℕ) → List ℕ → ℕ → Type 0
+NamesColumn header name place =
+    (is_word (cell_at header place) name ≡ true) × ((other : ℕ) → is_word (cell_at header other) name ≡ true → other ≡ place)
+
+-- the header names the five columns, wherever they stand, and has so many cells
+pub record NamesColumns (header : List (List ℕ)) (columns : Columns) : Type 0 where
+  pub width : columns.width ≡ length header
+  pub x : NamesColumn header (codes "x") columns.x
+  pub y : NamesColumn header (codes "y") columns.y
+  pub z : NamesColumn header (codes "z") columns.z
+  pub tonnes : NamesColumn header (codes "tonnes") columns.tonnes
+  pub grade : NamesColumn header (codes "grade") columns.grade

@@ -1,13 +1,10 @@
 pub mod Cell
 pub mod FaultText
-pub mod Faults
 pub mod Feed
 pub mod Header
 pub mod ZoneReaderView
 pub mod Row
 pub mod FileFeedView
-pub mod RowDemands
-pub mod SpelledZone
 pub mod MemFeedView
 pub mod Zone
 pub mod ZoneStages

@@ -1,74 +1,64 @@
--- What a row of a zone file says: a block, or its first fault.
-use Rattle.std.specs.Prelude.{◌≡◌, ℕ, ◌+◌, ◌-◌, ◌<◌, ◌≤◌, ◌==◌, nat_lt, nat_le, not, Bool, true, false, refl, List, length, Result, Ok, Err, if◌then◌else◌}
-use Rattle.std.proofs.Common.{lit<, lit≤}
-use Rattle.std.proofs.lemmas.Bool.{leb-true, ltb-true}
-use Rattle.forms.specs.Steps.{◌>>=◌}
+-- What a row of a zone file looks like, and what it then says: a block, or its first fault.
+use Rattle.std.specs.Prelude.{ℕ, ◌*◌, ◌/◌, ◌+◌, ◌-◌, ◌==◌, min, nat_le, List, [], ◌∷◌, ◌++◌, length, map, slice_index_or, pos, unsigned_abs, Result}
+use Rattle.std.proofs.Common.{lit<}
+use Rattle.std.proofs.Math.Nat.{lt_of_le_of_lt, min-le_right}
+use Rattle.forms.specs.Form.{Value, Millionths, number_at}
+use Rattle.forms.specs.Shape.{Shape, check, said}
 use Rattle.pit_model.specs.declared.block.Block.{Block}
 use Rattle.pit_model.specs.declared.grid.Grid.{Grid}
-use Rattle.zone_csv.specs.Cell.{cell_at, index_of, kilograms_of, grade_of}
-use Rattle.zone_csv.specs.Faults.{a_fault}
+use Rattle.zone_csv.specs.Cell.{a_fault, cell_at, centroid, coordinate, grade, index_at, of_cell, tonnes}
 use Rattle.zone_csv.specs.declared.columns.Columns.{Columns}
+use Rattle.zone_csv.specs.declared.row_fault.Column.{Column}
 use Rattle.zone_csv.specs.declared.row_fault.Column.TheVariants as column
 use Rattle.zone_csv.specs.declared.row_fault.RowFault.{RowFault}
 use Rattle.zone_csv.specs.declared.row_fault.RowFaultKind.TheVariants.{Width, TooManyRows}
 use Rattle.pit_model.specs.declared.ranges.TheConstants.{GRID_CELLS, MAX_GRADE, MAX_KG, MAX_ROWS, MAX_ZONES}
 
--- a number that keeps a range
-pub record Kept (InRange : ℕ → Type 0) : Type 0 where
-  pub value : ℕ
-  pub in_range : InRange value
-
--- the number, or where it is out of range, which no number of a row of a plan is, the other
-abbrev pub kept : {InRange : ℕ → Type 0} → Kept InRange → (n : ℕ) (within : Bool) → (within ≡ true → InRange n) → Kept InRange
-kept other n true holds = record { value = n; in_range = holds refl }
-kept other n false holds = other
-
--- an index of the grid, the kilograms of a block, its grade in millionths of a gram per tonne, and the number of its zone
-abbrev pub index : ℕ → Kept (λ n. n < GRID_CELLS)
-index n = kept (record { value = 0; in_range = lit< tt }) n (nat_lt n GRID_CELLS) (ltb-true n GRID_CELLS)
-
-abbrev pub kilograms : ℕ → Kept (λ n. n ≤ MAX_KG)
-kilograms n = kept (record { value = 0; in_range = lit≤ tt }) n (nat_le n MAX_KG) (leb-true n MAX_KG)
-
-abbrev pub a_grade : ℕ → Kept (λ n. n ≤ MAX_GRADE)
-a_grade n = kept (record { value = 0; in_range = lit≤ tt }) n (nat_le n MAX_GRADE) (leb-true n MAX_GRADE)
-
-abbrev pub a_zone : ℕ → Kept (λ n. n < MAX_ZONES)
-a_zone n = kept (record { value = MAX_ZONES - 1; in_range = lit< tt }) n (nat_lt n MAX_ZONES) (ltb-true n MAX_ZONES)
-
--- the block of these fields
-abbrev pub block : Kept (λ n. n < MAX_ZONES) → (x y z : Kept (λ n. n < GRID_CELLS)) → Kept (λ n. n ≤ MAX_KG) → Kept (λ n. n ≤ MAX_GRADE) → Block
-block zone x y z kg grade = record {
-  x = x.value;
-  y = y.value;
-  z = z.value;
-  kg = kg.value;
-  grade = grade.value;
-  zone = zone.value;
-  x_in_grid = x.in_range;
-  y_in_grid = y.in_range;
-  z_in_grid = z.in_range;
-  kg_in_range = kg.in_range;
-  grade_in_range = grade.in_range;
-  zone_in_range = zone.in_range;
+-- the block of these numbers; one above its range, which no row of a plan states, counts as the greatest
+abbrev pub block_with : (zone x y z kg grade : ℕ) → Block
+block_with zone x y z kg grade = record {
+  x = min x (GRID_CELLS - 1);
+  y = min y (GRID_CELLS - 1);
+  z = min z (GRID_CELLS - 1);
+  kg = min kg MAX_KG;
+  grade = min grade MAX_GRADE;
+  zone = min zone (MAX_ZONES - 1);
+  x_in_grid = lt_of_le_of_lt (min-le_right x (GRID_CELLS - 1)) (lit< tt);
+  y_in_grid = lt_of_le_of_lt (min-le_right y (GRID_CELLS - 1)) (lit< tt);
+  z_in_grid = lt_of_le_of_lt (min-le_right z (GRID_CELLS - 1)) (lit< tt);
+  kg_in_range = min-le_right kg MAX_KG;
+  grade_in_range = min-le_right grade MAX_GRADE;
+  zone_in_range = lt_of_le_of_lt (min-le_right zone (MAX_ZONES - 1)) (lit< tt);
 }
 
--- the block of these numbers
-abbrev pub block_with : (zone x y z kg grade : ℕ) → Block
-block_with zone x y z kg grade = block (a_zone zone) (index x) (index y) (index z) (kilograms kg) (a_grade grade)
+-- the block that the values of a row state: kilograms are thousandths of a tonne
+abbrev pub block_of : Grid → ℕ → List Value → Block
+block_of grid zone values =
+    block_with zone (index_at grid.x (number_at values 0)) (index_at grid.y (number_at values 1)) (index_at grid.z (number_at values 2))
+    (unsigned_abs (number_at values 3) / 1000) (unsigned_abs (number_at values 4))
 
--- the block that these cells of a row say
-abbrev pub block_of : Grid → ℕ → Columns → ℕ → List (List ℕ) → Result Block RowFault
-block_of grid zone columns number cells =
-    index_of number column.X grid.x (cell_at cells columns.x) >>= λ x.
-    index_of number column.Y grid.y (cell_at cells columns.y) >>= λ y.
-    index_of number column.Z grid.z (cell_at cells columns.z) >>= λ z.
-    kilograms_of number (cell_at cells columns.tonnes) >>= λ kg.
-    grade_of number (cell_at cells columns.grade) >>= λ grade. Ok (block_with zone x y z kg grade)
+-- the values that state a block
+abbrev pub values_of : Grid → Block → List Value
+values_of grid b =
+    map Millionths (centroid grid.x b.x ∷ centroid grid.y b.y ∷ centroid grid.z b.z ∷ pos (b.kg * 1000) ∷ pos b.grade ∷ [])
 
--- what the record of this number says, under a header with these columns: too many rows; another width than the header's; the cells
+-- the column of the field at a place
+abbrev pub column_at : ℕ → Column
+column_at place = slice_index_or (column.X ∷ column.Y ∷ column.Z ∷ column.Tonnes ∷ column.Grade ∷ []) place column.Whole
+
+-- the record of this number under these columns: no row too many, as wide as the header, and a field in each column
+abbrev pub row_shape : Grid → ℕ → Columns → ℕ → List (List ℕ) → Shape RowFault Block
+row_shape grid zone columns number cells = record {
+  first =
+      check (a_fault number column.Whole TooManyRows) (nat_le number (MAX_ROWS + 1))
+      ++ check (a_fault number column.Whole Width) (length cells == columns.width);
+  texts = map (cell_at cells) (columns.x ∷ columns.y ∷ columns.z ∷ columns.tonnes ∷ columns.grade ∷ []);
+  form = coordinate grid.x ∷ coordinate grid.y ∷ coordinate grid.z ∷ tonnes ∷ grade ∷ [];
+  kinds = λ place. of_cell number (column_at place);
+  last = λ values. [];
+  next = block_of grid zone;
+}
+
+-- what the record says
 unfoldable pub row_of : Grid → ℕ → Columns → ℕ → List (List ℕ) → Result Block RowFault
-row_of grid zone columns number cells =
-    if nat_lt (MAX_ROWS + 1) number then Err (a_fault number column.Whole TooManyRows)
-    else (if not (length cells == columns.width) then Err (a_fault number column.Whole Width)
-    else block_of grid zone columns number cells)
+row_of grid zone columns number cells = said (row_shape grid zone columns number cells)

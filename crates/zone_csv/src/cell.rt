@@ -1,19 +1,17 @@
 //! What a cell of a row states.
 
-ghost use Rattle.std.specs.Prelude.{◌≡◌, ◌*◌, ◌<◌, ◌≤◌, ◌-ℤ◌, ◌&&◌, pos, int_le, int_lt, unsigned_abs, Err, IfOk, if◌then◌else◌};
+ghost use Rattle.std.specs.Prelude.{◌≡◌, ◌*◌, ◌<◌, ◌≤◌, ◌≤ℤ◌, ◌-ℤ◌, pos, unsigned_abs, Err, IfOk};
 ghost use Rattle.csv.specs.Records.{fields_of};
 ghost use Rattle.pit_model.specs.Plan.{IsAxis};
-ghost use Rattle.zone_csv.specs.Cell.{cell_at, grade_of, greatest, index_above, index_at, index_of, kilograms_of, least, of_cell};
-ghost use Rattle.forms.specs.Form.{number_of};
-ghost use Rattle.zone_csv.specs.declared.row_fault.RowFaultKind.TheVariants.{Range};
-ghost use Rattle.zone_csv.specs.Faults.{a_fault};
-ghost use Rattle.pit_model.specs.declared.ranges.TheConstants.{GRID_CELLS, MAX_GRADE, MAX_KG};
+ghost use Rattle.zone_csv.specs.Cell.{IsInGrid, a_fault, cell_at, coordinate, greatest, index_at, least, of_cell, stated};
+ghost use Rattle.forms.specs.Form.{number_of, read_decimal, read_field, up_to};
+ghost use Rattle.pit_model.specs.declared.ranges.TheConstants.{GRID_CELLS};
 
 use crate::row_fault::{Column, RowFault, RowFaultKind};
 use csv::ByteRecord;
 use pit_model::cells::trimmed;
 use pit_model::grid::Axis;
-use pit_model::ranges::{GRID_CELLS, MAX_GRADE, MAX_KG};
+use pit_model::ranges::GRID_CELLS;
 use pit_units::{Dec, DecFault, parse_dec};
 
 // The cell of a record at a place, without the blanks at both ends; it is empty where the record has no such cell.
@@ -45,100 +43,108 @@ fn no_decimal(row: u32, column: Column, fault: DecFault) -> RowFault
     }
 }
 
-// The index along an axis that a coordinate's cell states.
-#[tactic(auto, unfolding(crate::specs::Cell::index_of))]
+// The number that a cell states, with so many decimals, from the lowest to the highest millionths.
 #[inline(always)]
-pub(crate) fn index_of(row: u32, column: Column, axis: Axis, cell: &[u8]) -> Result<u16, RowFault>
-    requires { IsAxis axis }
-    ensures value { result ≡ index_of row column axis cell.now }
-    ensures in_grid { IfOk result (λ index. index < GRID_CELLS) }
+fn number_of(
+    row: u32,
+    column: Column,
+    decimals: u8,
+    low: i128,
+    high: i128,
+    cell: &[u8],
+) -> Result<Dec, RowFault>
+    requires { decimals ≤ 6 }
+    ensures value { stated (λ m. m) result ≡ read_decimal (of_cell row column) decimals low high cell.now }
+    ensures in_range { IfOk result (λ number. (low ≤ℤ number) × (number ≤ℤ high)) }
 {
-    match parse_dec(cell, 3) {
-        Ok(coordinate) => match index_at(axis, coordinate) {
-            Ok(index) => Ok(index),
-            Err(kind) => Err(a_fault(row, column, kind)),
-        },
+    match parse_dec(cell, decimals) {
+        Ok(number) => {
+            let millionths = number.millionths();
+            if millionths < low || millionths > high {
+                return Err(a_fault(row, column, RowFaultKind::Range));
+            }
+            Ok(number)
+        }
         Err(fault) => Err(no_decimal(row, column, fault)),
     }
 }
 
+// The millionths that a cell states, with so many decimals, from 0 to the most.
 #[inline(always)]
-fn index_at(axis: Axis, coordinate: Dec) -> Result<u16, RowFaultKind>
-    requires { IsAxis axis }
-    ensures value { result
-        ≡ (if int_le (least axis) coordinate && int_le coordinate (greatest axis)
-        then index_at axis coordinate else Err Range) }
-    ensures in_grid { IfOk result (λ index. index < GRID_CELLS) }
+pub(crate) fn size_of(
+    row: u32,
+    column: Column,
+    decimals: u8,
+    most: u64,
+    cell: &[u8],
+) -> Result<u64, RowFault>
+    requires { decimals ≤ 6 }
+    ensures value { stated pos result ≡ read_field (of_cell row column) (up_to decimals most) cell.now }
+    ensures in_range { IfOk result (λ size. size ≤ most) }
 {
-    index_above(axis, above_origin(axis, coordinate))
+    let number = number_of(row, column, decimals, 0, i128::from(most), cell)?;
+    Ok(number.millionths() as u64)
+}
+
+// The coordinate that a cell states.
+#[inline(always)]
+pub(crate) fn coordinate_of(
+    row: u32,
+    column: Column,
+    axis: Axis,
+    cell: &[u8],
+) -> Result<Dec, RowFault>
+    requires { IsAxis axis }
+    ensures value { stated (λ m. m) result ≡ read_field (of_cell row column) (coordinate axis) cell.now }
+    ensures in_grid { IfOk result (IsInGrid axis) }
+{
+    let coordinate = number_of(row, column, 3, least(axis), greatest(axis), cell)?;
+    if above_origin(axis, coordinate) % size(axis) != 0 {
+        return Err(a_fault(row, column, RowFaultKind::OffGrid));
+    }
+    Ok(coordinate)
+}
+
+// The index of the blocks at a coordinate.
+#[inline(always)]
+pub(crate) fn index_at(axis: Axis, coordinate: Dec) -> u16
+    requires axis { IsAxis axis }
+    requires in_grid { IsInGrid axis coordinate }
+    ensures value { result ≡ index_at axis coordinate }
+    ensures in_grid { result < GRID_CELLS }
+{
+    (above_origin(axis, coordinate) / size(axis)) as u16
 }
 
 // How far a coordinate stands above the origin, in millionths of a metre.
 #[inline(always)]
-fn above_origin(axis: Axis, coordinate: Dec) -> i128
+fn above_origin(axis: Axis, coordinate: Dec) -> u64
+    requires axis { IsAxis axis }
+    requires in_grid { IsInGrid axis coordinate }
+    ensures value { result ≡ unsigned_abs (coordinate -ℤ least axis) }
+    ensures low { result < GRID_CELLS * (1000 * axis.size) }
+{
+    (coordinate.millionths() - least(axis)) as u64
+}
+
+#[inline(always)]
+fn size(axis: Axis) -> u64
+    ensures { result ≡ 1000 * axis.size }
+{
+    1000 * u64::from(axis.size)
+}
+
+#[inline(always)]
+fn least(axis: Axis) -> i128
+    ensures { result ≡ least axis }
+{
+    1000 * i128::from(axis.origin)
+}
+
+#[inline(always)]
+fn greatest(axis: Axis) -> i128
     requires { IsAxis axis }
-    ensures { result ≡ coordinate -ℤ least axis }
+    ensures { result ≡ greatest axis }
 {
-    coordinate.millionths() - i128::from(axis.origin) * 1000
-}
-
-// The index of a place so far above the origin.
-#[inline(always)]
-fn index_above(axis: Axis, above: i128) -> Result<u16, RowFaultKind>
-    requires { IsAxis axis }
-    ensures value { result
-        ≡ (if int_le (pos 0) above && int_lt above (pos (1000 * axis.size * GRID_CELLS))
-        then index_above (1000 * axis.size) (unsigned_abs above) else Err Range) }
-    ensures in_grid { IfOk result (λ index. index < GRID_CELLS) }
-{
-    let size = u64::from(axis.size) * 1000;
-    if above < 0 {
-        return Err(RowFaultKind::Range);
-    }
-    if above >= i128::from(size * u64::from(GRID_CELLS)) {
-        return Err(RowFaultKind::Range);
-    }
-    let above = above as u64;
-    if above % size != 0 {
-        return Err(RowFaultKind::OffGrid);
-    }
-    Ok((above / size) as u16)
-}
-
-// The kilograms that a tonnage's cell states.
-#[tactic(auto, unfolding(crate::specs::Cell::kilograms_of))]
-#[inline(always)]
-pub(crate) fn kilograms_of(row: u32, cell: &[u8]) -> Result<u64, RowFault>
-    ensures value { result ≡ kilograms_of row cell.now }
-    ensures in_range { IfOk result (λ kilograms. kilograms ≤ MAX_KG) }
-{
-    match parse_dec(cell, 3) {
-        Ok(tonnes) => {
-            let millionths = tonnes.millionths();
-            if millionths < 0 || millionths > i128::from(MAX_KG * 1000) {
-                return Err(a_fault(row, Column::Tonnes, RowFaultKind::Range));
-            }
-            Ok(millionths as u64 / 1000)
-        }
-        Err(fault) => Err(no_decimal(row, Column::Tonnes, fault)),
-    }
-}
-
-// The millionths of a gram per tonne that a grade's cell states.
-#[tactic(auto, unfolding(crate::specs::Cell::grade_of))]
-#[inline(always)]
-pub(crate) fn grade_of(row: u32, cell: &[u8]) -> Result<u64, RowFault>
-    ensures value { result ≡ grade_of row cell.now }
-    ensures in_range { IfOk result (λ grade. grade ≤ MAX_GRADE) }
-{
-    match parse_dec(cell, 6) {
-        Ok(grade) => {
-            let millionths = grade.millionths();
-            if millionths < 0 || millionths > i128::from(MAX_GRADE) {
-                return Err(a_fault(row, Column::Grade, RowFaultKind::Range));
-            }
-            Ok(millionths as u64)
-        }
-        Err(fault) => Err(no_decimal(row, Column::Grade, fault)),
-    }
+    least(axis) + i128::from(u64::from(GRID_CELLS) * size(axis)) - 1
 }

@@ -1,11 +1,11 @@
 //! Where the header of a zone file puts its columns.
 
-ghost use Rattle.std.specs.Prelude.{◌≡◌};
+ghost use Rattle.std.specs.Prelude.{◌≡◌, Ok, slice_index_or};
 ghost use Rattle.csv.specs.Records.{fields_of};
-ghost use Rattle.zone_csv.specs.Faults.{at};
-ghost use Rattle.zone_csv.specs.Header.{columns_of, place_of};
+ghost use Rattle.forms.specs.Shape.{failing, unless};
+ghost use Rattle.zone_csv.specs.Header.{a_column, columns_of, places_of};
 
-use crate::cell::cell_at;
+use crate::cell::{a_fault, cell_at};
 use crate::row_fault::{Column, RowFault, RowFaultKind};
 use csv::ByteRecord;
 use pit_model::cells::is_word;
@@ -43,29 +43,17 @@ pub(crate) fn columns_of(header: &ByteRecord) -> Result<Columns, RowFault>
 
 // The place of a column, or the header's fault.
 fn place_in(header: &ByteRecord, column: Column, name: &[u8]) -> Result<usize, RowFault>
-    ensures { result ≡ at 1 column (place_of name.now (fields_of header.now)) }
-{
-    match place_of(header, name) {
-        Ok(place) => Ok(place),
-        Err(kind) => Err(RowFault {
-            row: 1,
-            column,
-            kind,
-        }),
-    }
-}
-
-fn place_of(header: &ByteRecord, name: &[u8]) -> Result<usize, RowFaultKind>
-    ensures { result ≡ place_of name.now (fields_of header.now) }
+    ensures { let places = places_of name.now (fields_of header.now) 0 in
+        result ≡ unless (failing (a_column column places)) (Ok (slice_index_or places 0 0)) }
 {
     let mut found = None;
     for place in 0..header.len() {
         if is_word(cell_at(header, place), name) {
             if found.is_some() {
-                return Err(RowFaultKind::TwiceColumn);
+                return Err(a_fault(1, column, RowFaultKind::TwiceColumn));
             }
             found = Some(place);
         }
     }
-    found.ok_or(RowFaultKind::MissingColumn)
+    found.ok_or(a_fault(1, column, RowFaultKind::MissingColumn))
 }

@@ -1,15 +1,16 @@
 //! What holds of every zone file and of every coordinate, for whoever speaks of them in a contract. The calls do nothing.
 
-ghost use Rattle.std.specs.Prelude.{◌≡◌, ◌<◌, ◌⊎◌, ◌↔◌, ℕ, ℤ, List, Ok, None, Some};
+ghost use Rattle.std.specs.Prelude.{◌≡◌, ◌*◌, ◌<◌, ◌⊎◌, ◌↔◌, ℕ, ℤ, true, List, Ok, None, Some};
+ghost use Rattle.forms.specs.Form.{Spell, is_on_step};
+ghost use Rattle.forms.specs.Shape.{Fails, States, failing};
 ghost use Rattle.pit_model.specs.declared.grid.Axis.{Axis as AnAxis};
 ghost use Rattle.pit_model.specs.declared.grid.Grid.{Grid as AGrid};
 ghost use Rattle.pit_model.specs.Records.{records_of};
 ghost use Rattle.pit_model.specs.declared.block.Block.{Block};
-ghost use Rattle.zone_csv.specs.Cell.{IsCentroid, IsInGrid, index_at};
-ghost use Rattle.zone_csv.specs.Header.{columns_of};
-ghost use Rattle.zone_csv.specs.RowDemands.{IsFaultOfHeader, IsFaultOfRow};
-ghost use Rattle.zone_csv.specs.SpelledZone.{IsFirstFaulty, IsNoHeader, NamesColumns, SpellZone};
-ghost use Rattle.zone_csv.specs.Zone.{HasFewBlocks, HasOwnBlocks, AccountsForRecords, blocks_of, fault_of};
+ghost use Rattle.zone_csv.specs.Cell.{IsInGrid, centroid, index_at, least};
+ghost use Rattle.zone_csv.specs.Header.{NamesColumns, asked_of_header, columns_of};
+ghost use Rattle.zone_csv.specs.Row.{row_shape, values_of};
+ghost use Rattle.zone_csv.specs.Zone.{HasFewBlocks, HasOwnBlocks, AccountsForRecords, HeaderFails, ZoneStates, blocks_of, fault_of};
 ghost use Rattle.zone_csv.specs.declared.columns.Columns.{Columns as FiveColumns};
 ghost use Rattle.zone_csv.specs.declared.row_fault.RowFault.{RowFault};
 ghost use Rattle.pit_model.specs.declared.ranges.TheConstants.{GRID_CELLS, MAX_ZONES};
@@ -18,42 +19,62 @@ ghost use Rattle.pit_model.specs.declared.ranges.TheConstants.{GRID_CELLS, MAX_Z
 /// the fault, if there is one.
 pub fn zone_files()
     ensures few { (grid : AGrid) (zone : ℕ) (text : List ℕ) → HasFewBlocks grid zone text }
-    ensures own { (grid : AGrid) (zone : ℕ) (text : List ℕ) → zone < MAX_ZONES → HasOwnBlocks grid zone text }
-    ensures accounts { (grid : AGrid) (zone : ℕ) (text : List ℕ) → AccountsForRecords grid zone text }
+    ensures own { (grid : AGrid) (zone : ℕ) (text : List ℕ) → zone < MAX_ZONES
+        → HasOwnBlocks grid zone text }
+    ensures accounts { (grid : AGrid) (zone : ℕ) (text : List ℕ)
+        → AccountsForRecords grid zone text }
 {}
 
-/// A coordinate lies in the grid and has an index exactly where it is the centroid of the blocks of that index.
+/// A coordinate lies in the grid, whole sizes above the origin, and has an index exactly where it is the centroid of the blocks of that
+/// index.
 pub fn coordinates()
     ensures { (axis : AnAxis) (coordinate : ℤ) (index : ℕ) → 0 < axis.size
-        → (IsInGrid axis coordinate × (index_at axis coordinate ≡ Ok index))
-        ↔ (IsCentroid axis coordinate index × (index < GRID_CELLS)) }
+        → (IsInGrid axis coordinate
+        × (is_on_step (1000 * axis.size) (least axis) coordinate ≡ true)
+        × (index_at axis coordinate ≡ index))
+        ↔ ((coordinate ≡ centroid axis index) × (index < GRID_CELLS)) }
 {}
 
 /// A header has the columns that it names, in any order and in upper or lower case.
 pub fn columns_are_named()
-    ensures { (header : List (List ℕ)) (columns : FiveColumns) → (columns_of header ≡ Ok columns) ↔ NamesColumns header columns }
+    ensures { (header : List (List ℕ)) (columns : FiveColumns)
+        → (columns_of header ≡ Ok columns) ↔ NamesColumns header columns }
 {}
 
-/// A zone file has no fault and these blocks exactly where its header names the columns and each record behind it spells the block at
+/// A row states a block of this zone exactly where its cells spell the block's centroid, its tonnes and its grade.
+pub fn rows_spell_blocks()
+    ensures { (grid : AGrid) (zone : ℕ) (columns : FiveColumns) (number : ℕ)
+        (row : List (List ℕ)) (block : Block)
+        → 0 < grid.x.size → 0 < grid.y.size → 0 < grid.z.size → zone < MAX_ZONES
+        → let shape = row_shape grid zone columns number row in
+        States shape block
+        ↔ ((failing shape.first ≡ None) × Spell shape.form shape.texts (values_of grid block)
+        × (block.zone ≡ zone)) }
+{}
+
+/// A zone file has no fault and these blocks exactly where its header names the columns and each record behind it states the block at
 /// its place.
 pub fn zone_files_are_spelled()
     ensures { (grid : AGrid) (zone : ℕ) (text : List ℕ) (blocks : List Block)
-        → 0 < grid.x.size → 0 < grid.y.size → 0 < grid.z.size → zone < MAX_ZONES
-        → ((fault_of grid zone text ≡ None) × (blocks_of grid zone text ≡ blocks)) ↔ SpellZone grid zone (records_of text) blocks }
+        → ((fault_of grid zone text ≡ None) × (blocks_of grid zone text ≡ blocks))
+        ↔ ZoneStates grid zone (records_of text) blocks None }
 {}
 
-/// Where a zone file has a fault, it is the header's, or the records before it spell the blocks and the fault's is the first that spells none.
-pub fn faulty_rows_spell_no_block()
-    ensures { (grid : AGrid) (zone : ℕ) (text : List ℕ) (fault : RowFault)
-        → 0 < grid.x.size → 0 < grid.y.size → 0 < grid.z.size → zone < MAX_ZONES → fault_of grid zone text ≡ Some fault
-        → IsNoHeader (records_of text) (blocks_of grid zone text) fault
-        ⊎ IsFirstFaulty grid zone (records_of text) (blocks_of grid zone text) fault }
-{}
-
-/// Where a zone file has a fault, its column and kind are those of the first thing asked of the header that does not hold; or of the first
-/// record behind it that spells no block.
+/// A zone file has these blocks and this fault exactly where its header fails as that, or names the columns, and the records behind it
+/// state the blocks, up to one that fails as that.
 pub fn zone_faults_are_first()
-    ensures { (grid : AGrid) (zone : ℕ) (text : List ℕ) (fault : RowFault)
-        → 0 < grid.x.size → 0 < grid.y.size → 0 < grid.z.size → zone < MAX_ZONES → fault_of grid zone text ≡ Some fault
-        → IsFaultOfHeader (records_of text) fault ⊎ IsFaultOfRow grid zone (records_of text) fault }
+    ensures { (grid : AGrid) (zone : ℕ) (text : List ℕ) (blocks : List Block) (fault : RowFault)
+        → ((fault_of grid zone text ≡ Some fault) × (blocks_of grid zone text ≡ blocks))
+        ↔ (HeaderFails (records_of text) blocks fault
+        ⊎ ZoneStates grid zone (records_of text) blocks (Some fault)) }
+{}
+
+/// A record that fails states no block, and a header that fails names no columns.
+pub fn faulty_rows_spell_no_block()
+    ensures rows { (grid : AGrid) (zone : ℕ) (columns : FiveColumns) (number : ℕ)
+        (row : List (List ℕ)) (block : Block) (fault : RowFault)
+        → Fails (row_shape grid zone columns number row) fault
+        → ¬ (States (row_shape grid zone columns number row) block) }
+    ensures headers { (header : List (List ℕ)) (columns : FiveColumns) (fault : RowFault)
+        → failing (asked_of_header header) ≡ Some fault → ¬ (NamesColumns header columns) }
 {}

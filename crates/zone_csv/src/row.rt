@@ -3,16 +3,16 @@
 ghost use Rattle.std.specs.Prelude.{◌≡◌, ◌+◌, ◌<◌, ◌≤◌, OnOk};
 ghost use Rattle.csv.specs.Records.{fields_of};
 ghost use Rattle.pit_model.specs.Plan.{IsGrid};
-ghost use Rattle.zone_csv.specs.Row.{row_of, block_of};
+ghost use Rattle.zone_csv.specs.Row.{row_of};
 ghost use Rattle.pit_model.specs.declared.ranges.TheConstants.{MAX_ROWS, MAX_ZONES};
 
-use crate::cell::{a_fault, cell_at, grade_of, index_of, kilograms_of};
+use crate::cell::{a_fault, cell_at, coordinate_of, index_at, size_of};
 use crate::columns::Columns;
 use crate::row_fault::{Column, RowFault, RowFaultKind};
 use csv::ByteRecord;
 use pit_model::block::Block;
 use pit_model::grid::Grid;
-use pit_model::ranges::MAX_ROWS;
+use pit_model::ranges::{MAX_GRADE, MAX_KG, MAX_ROWS};
 
 // The number of the last record that may hold a block: the header is record 1, and a file has at most 1,000,000 blocks.
 const LAST_ROW: u32 = MAX_ROWS + 1;
@@ -38,31 +38,18 @@ pub(crate) fn row_of(
     if row.len() != columns.width {
         return Err(a_fault(number, Column::Whole, RowFaultKind::Width));
     }
-    block_of(row, number, columns, grid, zone)
-}
-
-#[inline(always)]
-fn block_of(
-    row: &ByteRecord,
-    number: u32,
-    columns: Columns,
-    grid: Grid,
-    zone: u8,
-) -> Result<Block, RowFault>
-    requires grid { IsGrid grid }
-    requires zone { zone < MAX_ZONES }
-    ensures { result ≡ block_of grid zone columns number (fields_of row.now) }
-{
-    let x = index_of(number, Column::X, grid.x, cell_at(row, columns.x))?;
-    let y = index_of(number, Column::Y, grid.y, cell_at(row, columns.y))?;
-    let z = index_of(number, Column::Z, grid.z, cell_at(row, columns.z))?;
-    let kg = kilograms_of(number, cell_at(row, columns.tonnes))?;
-    let grade = grade_of(number, cell_at(row, columns.grade))?;
+    let x = coordinate_of(number, Column::X, grid.x, cell_at(row, columns.x))?;
+    let y = coordinate_of(number, Column::Y, grid.y, cell_at(row, columns.y))?;
+    let z = coordinate_of(number, Column::Z, grid.z, cell_at(row, columns.z))?;
+    let tonnes = cell_at(row, columns.tonnes);
+    let millionths = size_of(number, Column::Tonnes, 3, MAX_KG * 1000, tonnes)?;
+    let grade = cell_at(row, columns.grade);
+    let grade = size_of(number, Column::Grade, 6, MAX_GRADE, grade)?;
     Ok(Block {
-        x,
-        y,
-        z,
-        kg,
+        x: index_at(grid.x, x),
+        y: index_at(grid.y, y),
+        z: index_at(grid.z, z),
+        kg: millionths / 1000,
         grade,
         zone,
     })

@@ -7,9 +7,10 @@ ghost use Rattle.zone_csv.specs.Zone.{blocks_of, fault_of, HasFewBlocks, HasOwnB
 ghost use Rattle.zone_csv.specs.ZoneStages.{reader_view, IsCounted};
 ghost use Rattle.pit_model.specs.declared.ranges.TheConstants.{MAX_ROWS, MAX_ZONES};
 
+use crate::cell::a_fault;
 use crate::columns::{Columns, columns_of};
 use crate::row::row_of;
-use crate::row_fault::{Column, RowFault, RowFaultKind};
+use crate::row_fault::{Column, RowFaultKind};
 use crate::zone_fault::ZoneFault;
 use csv::ByteRecord;
 use pit_model::block::Block;
@@ -147,11 +148,10 @@ fn first_row(
             Ok(columns) => next_row(columns, 2, records, row, grid, zone),
             Err(fault) => failed(ZoneFault::Row(fault)),
         },
-        Ok(false) => failed(ZoneFault::Row(RowFault {
-            row: 1,
-            column: Column::X,
-            kind: RowFaultKind::MissingColumn,
-        })),
+        Ok(false) => {
+            let fault = a_fault(1, Column::X, RowFaultKind::MissingColumn);
+            failed(ZoneFault::Row(fault))
+        }
         Err(_) => failed(ZoneFault::OutOfMemory),
     }
 }

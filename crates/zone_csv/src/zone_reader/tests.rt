@@ -1,4 +1,5 @@
 use super::*;
+use crate::row_fault::RowFault;
 use pit_model::read_plan;
 use std::process::Abort;
 use std::test::Fail;

@@ -1,5 +1,4 @@
-use Rattle.zone_csv.proofs.FaultFacts.{accounts_for_records}
-use Rattle.zone_csv.proofs.ZoneFacts.{few_blocks, own_blocks}
+use Rattle.zone_csv.proofs.ZoneFacts.{accounts_for_records, few_blocks, own_blocks}
 use Rattle.zone_csv.proofs.laws.zone_files.Goals as goal
 
 pub returns : goal.returns

@@ -2,7 +2,7 @@ use Rattle.std.proofs.Common.{◌≡◌, ◌++◌, drop}
 use Rattle.std.specs.Option.{option_to_list}
 use Rattle.csv.specs.Records.{fields_of}
 use Rattle.zone_csv.specs.Header.{places_of}
-use Rattle.zone_csv.proofs.columns.place_of.Given as goal
+use Rattle.zone_csv.proofs.columns.place_in.Given as goal
 
 -- The place that was found, with those further on, are all the places of the name.
 abbrev pub invariant-loop-place : goal.invariant-loop-place

@@ -1,0 +1,29 @@
+use Rattle.std.proofs.Common.{rules, ◌≡◌, true, nat_le, length, Ok, ap, sym, ◌∙◌}
+use Rattle.std.proofs.lemmas.Bool.{eq-eqb}
+use Rattle.csv.specs.Records.{fields_of}
+use Rattle.zone_csv.proofs.BlockFacts.{block_again}
+use Rattle.zone_csv.specs.Row.{row_of}
+use Rattle.zone_csv.proofs.row.row_of.Goals as goal
+
+pub returns-clause-value : goal.returns-clause-value
+unfolding row_of
+returns-clause-value c =
+    let few : nat_le c.args.number 1000001 ≡ true = search rules in
+    let wide = eq-eqb (length (fields_of c.args.row.now)) c.args.columns.width (sym c.len.ensures ∙ c.if-len-columns.false) in
+    rw (
+      few,
+      wide,
+      sym c.cell_at.ensures,
+      sym c.cell_at-2.ensures,
+      sym c.cell_at-3.ensures,
+      sym c.cell_at-tonnes.ensures,
+      sym c.cell_at-grade.ensures,
+      sym c.in_ok-x.ensures.value,
+      sym c.in_ok-y.ensures.value,
+      sym c.in_ok-z.ensures.value,
+      sym c.in_ok-millionths.ensures.value,
+      sym c.in_ok-grade.ensures.value,
+      sym c.index_at.ensures.value,
+      sym c.index_at-2.ensures.value,
+      sym c.index_at-3.ensures.value,
+    ) (ap Ok (block_again _))
