@@ -12,14 +12,15 @@ use Rattle.valuers.specs.Valuing.{items_by}
 use Rattle.valuers.specs.declared.valuer.ValuerResult.{ValuerResult}
 use Rattle.run_threads.specs.Promises.{KeepsRead, KeepsValued, AreUnsentFrom, IsPartly}
 use Rattle.run_threads.specs.Reading.{AreRead}
-use Rattle.run_threads.specs.declared.reading.FileRead.{FileRead}
+use Rattle.run_threads.specs.declared.file_reading.FileRead.{FileRead}
 
 map_twice : {X Y Z : Type 0} (f : X → Y) (g : Y → Z) (xs : List X) → map (λ x. g (f x)) xs ≡ map g (map f xs)
 map_twice f g [] = refl
 map_twice f g (x ∷ xs) = ap (λ w. g (f x) ∷ w) (map_twice f g xs)
 
 -- one more item joins those before it, and leaves the rest
-pub map_step : {X Y : Type 0} (f : X → Y) (old : List X) (x : X) (y : Y) (l rest all : List Y) → l ≡ y ∷ rest → f x ≡ y → map f old ++ l ≡ all
+pub map_step : {X Y : Type 0} (f : X → Y) (old : List X) (x : X) (y : Y) (l rest all : List Y) → l ≡ y ∷ rest → f x ≡ y
+    → map f old ++ l ≡ all
     → map f (old ++ x ∷ []) ++ rest ≡ all
 map_step f old x y l rest all is same h =
     ap (λ w. w ++ rest) (map-append f old (x ∷ []))
@@ -34,7 +35,8 @@ map_through f g xs ys same = map_twice f g xs ∙ ap (map g) same
 pub same_lengths : {X Y Z : Type 0} (f : X → Z) (g : Y → Z) (xs : List X) (ys : List Y) → map f xs ≡ map g ys → length xs ≡ length ys
 same_lengths f g xs ys same = sym (length-map xs f) ∙ ap length same ∙ length-map ys g
 
-pub partly_none : {A B : Type 0} (R : A → B → Type 0) (all rest : List A) (done : List B) → done ≡ [] → all ≡ rest → IsPartly R all done rest
+pub partly_none : {A B : Type 0} (R : A → B → Type 0) (all rest : List A) (done : List B) → done ≡ [] → all ≡ rest
+    → IsPartly R all done rest
 partly_none R all rest [] none same = same
 partly_none R all rest (y ∷ ys) none same = absurd (let n = ap length none in let z : ⊥ = omega arith in z)
 
@@ -62,7 +64,8 @@ pub unsent_rest : (k : ℕ) (e : PutEndView) (l rest : List PutEndView) → l �
 unsent_rest k e l rest is h = subst (AreUnsentFrom k) is h
 
 -- the readers of one plan, whatever their handles are
-module _ {H : Type 0} (left : H → Option (List ℕ)) (sure : H → Bool) (plan : H → PlanParts) (end : H → PutEndView) (p : PlanParts) (lane : Lane) (files : ℕ) where
+module _ {H : Type 0} (left : H → Option (List ℕ)) (sure : H → Bool) (plan : H → PlanParts) (end : H → PutEndView) (p : PlanParts)
+    (lane : Lane) (files : ℕ) where
   abbrev Kept : H → FileRead → Type 0
   Kept h r = KeepsRead (plan h).grid (left h) (sure h) (end h) r.ended r.answer
 
@@ -77,7 +80,8 @@ module _ {H : Type 0} (left : H → Option (List ℕ)) (sure : H → Bool) (plan
       let here = ap (λ l. get_or l 0 (end h)) ends in
       (kept.0.0 ∙ ap (λ e. e.lane) here, kept.0.1 ∙ ap (λ e. e.file) here, puts_of (k + 1) n (omega arith) hs rs kept.1 (ap (drop 1) ends))
 
-  pub read_of : (k n : ℕ) (hs : List H) (rs : List FileRead) → AllZip Kept hs rs → All (λ h. plan h ≡ p) hs → map end hs ≡ first_puts lane k n
+  pub read_of : (k n : ℕ) (hs : List H) (rs : List FileRead) → AllZip Kept hs rs → All (λ h. plan h ≡ p) hs
+      → map end hs ≡ first_puts lane k n
       → AreRead p.grid k (map left hs) (map sure hs) (map (λ r. r.answer) rs) (map (λ (e : PutEndView). e.sent) (map (λ r. r.ended) rs))
   read_of k n [] [] kept plans ends = tt
   read_of k n [] (r ∷ rs) kept plans ends = absurd kept
@@ -85,15 +89,19 @@ module _ {H : Type 0} (left : H → Option (List ℕ)) (sure : H → Bool) (plan
   read_of k zero (h ∷ hs) (r ∷ rs) kept plans ends = absurd (let l = ap length ends in let z : ⊥ = omega arith in z)
   read_of k (suc n) (h ∷ hs) (r ∷ rs) kept plans ends =
       let Same : H → Type 0 = λ w. plan w ≡ p in
-      let number : (end h).file ≡ k = ap (λ l. (get_or l 0 (end h)).file) ends in
-      (rw (number, All-head Same h hs plans) at kept.0.2, read_of (k + 1) n hs rs kept.1 (All-rest Same h hs (h ∷ hs) refl plans) (ap (drop 1) ends))
+      let number : (end h).file ≡ k = ap (λ l. (get_or l 0 (end h)).file) ends in (
+        rw (number, All-head Same h hs plans) at kept.0.2,
+        read_of (k + 1) n hs rs kept.1 (All-rest Same h hs (h ∷ hs) refl plans)
+            (ap (drop 1) ends),
+      )
 
 -- the valuers of one plan
 module _ {H : Type 0} (plan : H → PlanParts) (end : H → TakeEndView) (p : PlanParts) (lane : Lane) (takers : ℕ) where
   abbrev KeptValues : H → ValuerResult → Type 0
   KeptValues h r = KeepsValued (formulas_of_plan (plan h)) (end h) r.taker r.items r.memory
 
-  pub takes_of : (k n : ℕ) → k + n ≡ takers → (hs : List H) (rs : List ValuerResult) → AllZip KeptValues hs rs → map end hs ≡ first_takes lane k n
+  pub takes_of : (k n : ℕ) → k + n ≡ takers → (hs : List H) (rs : List ValuerResult) → AllZip KeptValues hs rs
+      → map end hs ≡ first_takes lane k n
       → AreTakesFrom lane takers k (map (λ r. r.taker) rs)
   takes_of k zero sum [] [] kept ends = omega arith
   takes_of k (suc n) sum [] [] kept ends = absurd (let l = ap length ends in let z : ⊥ = omega arith in z)
@@ -101,18 +109,25 @@ module _ {H : Type 0} (plan : H → PlanParts) (end : H → TakeEndView) (p : Pl
   takes_of k n sum (h ∷ hs) [] kept ends = absurd kept
   takes_of k zero sum (h ∷ hs) (r ∷ rs) kept ends = absurd (let l = ap length ends in let z : ⊥ = omega arith in z)
   takes_of k (suc n) sum (h ∷ hs) (r ∷ rs) kept ends =
-      let here = ap (λ l. get_or l 0 (end h)) ends in
-      (ap (λ t. t.lane) kept.0.0 ∙ ap (λ e. e.lane) here, ap (λ t. t.taker) kept.0.0 ∙ ap (λ e. e.taker) here, takes_of (k + 1) n (omega arith) hs rs kept.1 (ap (drop 1) ends))
+      let here = ap (λ l. get_or l 0 (end h)) ends in (
+        ap (λ t. t.lane) kept.0.0 ∙ ap (λ e. e.lane) here,
+        ap (λ t. t.taker) kept.0.0
+            ∙ ap (λ e. e.taker) here,
+        takes_of (k + 1) n (omega arith) hs rs kept.1 (ap (drop 1) ends),
+      )
 
-  pub done_of : (hs : List H) (rs : List ValuerResult) → AllZip KeptValues hs rs → All (λ (t : TakeEndView). is_done t.took ≡ true) (map (λ r. r.taker) rs)
+  pub done_of : (hs : List H) (rs : List ValuerResult) → AllZip KeptValues hs rs
+      → All (λ (t : TakeEndView). is_done t.took ≡ true) (map (λ r. r.taker) rs)
   done_of [] [] kept = All-nil (λ (t : TakeEndView). is_done t.took ≡ true)
   done_of [] (r ∷ rs) kept = absurd kept
   done_of (h ∷ hs) [] kept = absurd kept
   done_of (h ∷ hs) (r ∷ rs) kept =
       All-cons (λ (t : TakeEndView). is_done t.took ≡ true) r.taker (map (λ r. r.taker) rs) kept.0.1 (done_of hs rs kept.1)
 
-  pub valued_of : (k n : ℕ) (hs : List H) (rs : List ValuerResult) → AllZip KeptValues hs rs → All (λ h. plan h ≡ p) hs → map end hs ≡ first_takes lane k n
-      → list_any (λ r. r.memory) rs ≡ false → map (λ r. r.items) rs ≡ map (items_by (formulas_of_plan p)) (map (λ (t : TakeEndView). t.took) (map (λ r. r.taker) rs))
+  pub valued_of : (k n : ℕ) (hs : List H) (rs : List ValuerResult) → AllZip KeptValues hs rs → All (λ h. plan h ≡ p) hs
+      → map end hs ≡ first_takes lane k n
+      → list_any (λ r. r.memory) rs ≡ false → map (λ r. r.items) rs ≡ map (items_by (formulas_of_plan p))
+      (map (λ (t : TakeEndView). t.took) (map (λ r. r.taker) rs))
   valued_of k n [] [] kept plans ends fine = refl
   valued_of k n [] (r ∷ rs) kept plans ends fine = absurd kept
   valued_of k n (h ∷ hs) [] kept plans ends fine = absurd kept
@@ -120,6 +135,8 @@ module _ {H : Type 0} (plan : H → PlanParts) (end : H → TakeEndView) (p : Pl
   valued_of k (suc n) (h ∷ hs) (r ∷ rs) kept plans ends fine =
       let Same : H → Type 0 = λ w. plan w ≡ p in
       let fresh : (end h).took ≡ [] = ap (λ l. (get_or l 0 (end h)).took) ends in
-      let here : r.items ≡ items_by (formulas_of_plan p) r.taker.took = rw (fresh, All-head Same h hs plans) at kept.0.2 (or_parts r.memory _ fine).0 in
-      let rest : map (λ r. r.items) rs ≡ map (items_by (formulas_of_plan p)) (map (λ (t : TakeEndView). t.took) (map (λ r. r.taker) rs)) = valued_of (k + 1) n hs rs kept.1 (All-rest Same h hs (h ∷ hs) refl plans) (ap (drop 1) ends) (or_parts r.memory _ fine).1 in
+      let here : r.items ≡ items_by (formulas_of_plan p) r.taker.took =
+      rw (fresh, All-head Same h hs plans) at kept.0.2 (or_parts r.memory _ fine).0 in
+      let rest : map (λ r. r.items) rs ≡ map (items_by (formulas_of_plan p)) (map (λ (t : TakeEndView). t.took) (map (λ r. r.taker) rs)) =
+      valued_of (k + 1) n hs rs kept.1 (All-rest Same h hs (h ∷ hs) refl plans) (ap (drop 1) ends) (or_parts r.memory _ fine).1 in
       ap (λ w. w ∷ map (λ r. r.items) rs) here ∙ ap (λ w. items_by (formulas_of_plan p) r.taker.took ∷ w) rest

@@ -1,3 +1,4 @@
+pub mod HandingOver
 pub mod Reading
 pub mod Sending
 pub mod Promises

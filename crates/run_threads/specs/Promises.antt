@@ -1,8 +1,9 @@
 -- What the threads of a run promise of what they give back, and what is made ready for them.
-use Rattle.std.specs.Prelude.{◌≡◌, ℕ, ◌+◌, Bool, true, List, [], ◌∷◌, ◌++◌, length, drop, Option, Result, IsFalse}
+use Rattle.std.specs.Prelude.{◌≡◌, ℕ, ◌+◌, ◌<◌, Bool, true, List, [], ◌∷◌, ◌++◌, length, drop, Option, Result, IsFalse}
 use Rattle.lane.specs.Ends.{PutEndView, TakeEndView}
 use Rattle.lane.specs.Message.{is_done}
 use Rattle.pit_model.specs.declared.formula.Formula.{Formula}
+use Rattle.pit_model.specs.Plan.{PlanParts}
 use Rattle.pit_model.specs.declared.grid.Grid.{Grid}
 use Rattle.valuers.specs.Valuing.{items_by}
 use Rattle.valuers.specs.declared.item.Item.{Item}
@@ -20,6 +21,12 @@ KeepsValued formulas given taker items memory =
     (taker ≡ record given { took = given.took ++ drop (length given.took) taker.took })
     × (is_done taker.took ≡ true)
     × (IsFalse memory → items ≡ items_by formulas (drop (length given.took) taker.took))
+
+-- the put end of a file that has a zone of the plan, which sent nothing
+pub record IsUnsent (plan : PlanParts) (file : ℕ) (end : PutEndView) : Type 0 where
+  pub zone : file < length plan.cones
+  pub file_is : end.file ≡ file
+  pub unsent : end.sent ≡ []
 
 -- put ends of the files from number k on, in order, that sent nothing
 abbrev pub AreUnsentFrom : ℕ → List PutEndView → Type 0

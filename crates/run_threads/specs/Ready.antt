@@ -1,20 +1,9 @@
 -- What is made ready before the first thread starts.
-use Rattle.std.specs.Prelude.{◌≡◌, ℕ, ◌≤◌, [], vec_len, vec_capacity}
-use Rattle.lane.specs.Ends.{first_puts, first_takes}
-use Rattle.run_threads.specs.declared.opened.Opened.{Opened}
-use Rattle.run_threads.specs.declared.room.Room.{Room}
-
--- a lane of so many files and takers, with all its ends, which sent and took nothing
-pub record IsOpened (files takers : ℕ) (lane : Opened) : Type 0 where
-  pub files_are : lane.closer.files ≡ files
-  pub takers_are : lane.closer.takers ≡ takers
-  pub puts_are : lane.puts.items ≡ first_puts lane.closer.lane 0 files
-  pub takes_are : lane.takes.items ≡ first_takes lane.closer.lane 0 takers
-  pub put_count : vec_len lane.puts ≡ files
-  pub take_count : vec_len lane.takes ≡ takers
+use Rattle.std.specs.Prelude.{◌≡◌, ℕ, ◌≤◌, [], vec_capacity}
+use Rattle.run_threads.specs.declared.result_room.ResultRoom.{ResultRoom}
 
 -- empty lists with room for what the readers of so many files and so many takers give back
-pub record IsRoomFor (files takers : ℕ) (room : Room) : Type 0 where
+pub record IsRoomFor (files takers : ℕ) (room : ResultRoom) : Type 0 where
   pub no_reads : room.reads.items ≡ []
   pub no_ended : room.ended.items ≡ []
   pub no_answers : room.answers.items ≡ []

@@ -1,22 +1,26 @@
 //! The threads of a run, from the first start to the last join.
 
-ghost use Rattle.std.specs.Prelude.{◌≡◌, ◌+◌, ◌≤◌, length, map, IfOk, IsFalse};
+ghost use Rattle.std.specs.Prelude.{◌≡◌, ◌+◌, ◌≤◌, length, map, vec_len, IfOk, IsFalse};
 ghost use Rattle.lane.specs.Whole.{IsWhole};
 ghost use Rattle.pit_model.specs.Destinations.{formulas_of_plan, AreOfPlan};
+ghost use Rattle.run_threads.specs.HandingOver.{IsHandedOver};
 ghost use Rattle.run_threads.specs.Reading.{AreRead};
 ghost use Rattle.run_threads.specs.declared.handing_over.HandOverFault.TheVariants.{OutOfMemory};
 ghost use Rattle.valuers.specs.Valuing.{items_by};
 ghost use Rattle.pit_model.specs.declared.ranges.TheConstants.{MAX_CAPACITY, MAX_VALUERS};
 
+use crate::in_scope::hand_over_in;
 use crate::opened::open_lane;
 use crate::read_fault::ReadFault;
-use crate::room::room_for;
-use crate::running::in_scope;
+use crate::ready::Ready;
+use crate::result_room::room_for;
+use crate::shared::Shared;
 use lane::Gathered;
 use pit_model::destination::Destination;
 use pit_model::plan::Plan;
 use std::alloc::{AllocError, Global};
 use std::sync::Wait;
+use std::thread;
 use std::thread::Threads;
 use thiserror::Error;
 use valuers::{Gate, Items};
@@ -78,28 +82,39 @@ pub fn hand_over<R: Threads + Wait + Sync, F: Feed + Send + Drop, G: Gate + Sync
     requires capacity { (1 ≤ capacity) × (capacity ≤ MAX_CAPACITY) }
     requires destinations { AreOfPlan destinations.now plan.now }
     ensures whole { IfOk result (λ handed. IsWhole handed.gathered) }
-    ensures read { IfOk result (λ handed. AreRead plan.now.grid 0 (map F.left feeds.items) (map F.is_sure feeds.items) handed.answers.items handed.gathered.sent) }
+    ensures read { IfOk result (λ handed.
+        AreRead plan.now.grid 0 (map F.left feeds.items) (map F.is_sure feeds.items)
+        handed.answers.items handed.gathered.sent) }
     ensures valued { IfOk result (λ handed. IsFalse handed.memory
         → handed.items.items ≡ map (items_by (formulas_of_plan plan.now)) handed.gathered.took) }
     ensures takers { IfOk result (λ handed. length handed.gathered.took ≡ valuers) }
     ensures budget { IfOk result (λ _. valuers + length feeds.items ≤ starts) }
 {
-    let files = plan.cones().len() as u8;
-    let lane = open_lane(alloc, files, valuers, capacity)?;
-    let room = room_for(alloc, files, valuers)?;
-    let for_valuers = Vec::with_capacity(alloc, usize::from(valuers))?;
-    let for_readers = Vec::with_capacity(alloc, usize::from(files))?;
-    in_scope(
-        rt,
-        alloc,
-        lane,
-        feeds,
-        room,
-        for_valuers,
-        for_readers,
-        plan,
-        destinations,
-        gate,
+    let lane = open_lane(alloc, plan.cones().len() as u8, valuers, capacity)?;
+    let ready = Ready {
+        shared: Shared {
+            rt,
+            alloc,
+            plan,
+            destinations,
+            gate,
+        },
         starts,
+        room: room_for(alloc, lane.puts.len(), lane.takes.len())?,
+        valuers: Vec::with_capacity(alloc, lane.takes.len())?,
+        readers: Vec::with_capacity(alloc, lane.puts.len())?,
+        feeds,
+        lane,
+    };
+    thread::scope(
+        thread::scope_env(),
+        rt,
+        move |scope| -> Result<HandedOver, HandOverFault>
+            ensures handed { IfOk result (IsHandedOver ready.entry.shared.plan.now
+                (map F.left ready.entry.feeds.items) (map F.is_sure ready.entry.feeds.items)
+                ready.entry.lane.closer.takers) }
+            ensures budget { IfOk result (λ _.
+                ready.entry.lane.closer.takers + vec_len ready.entry.feeds ≤ ready.entry.starts) }
+        { hand_over_in(scope, ready) },
     )
 }

@@ -3,8 +3,8 @@
 ghost use Rattle.std.specs.Prelude.{◌≡◌, ◌≤◌, [], map, vec_len, vec_capacity};
 ghost use Rattle.std.specs.List.{AllZip, list_any};
 
+use crate::file_reading::FileRead;
 use crate::read_fault::ReadFault;
-use crate::reading::FileRead;
 use lane::{EndedPut, TakeEnd};
 use std::thread::{Promise, PromisedHandle, Threads};
 use valuers::{Items, ValuerResult};

@@ -1,15 +1,17 @@
 //! The threads of a run: one that reads each zone file into the lane, and valuers that take from it.
 #![tactic(auto)]
 
+mod file_reading;
 mod handing_over;
+mod in_scope;
 mod joining;
 mod opened;
 mod promises;
 mod read_fault;
-mod reading;
-mod room;
-mod running;
+mod ready;
+mod result_room;
 mod settling;
+mod shared;
 mod starting;
 
 pub use handing_over::{HandOverFault, HandedOver, hand_over};

@@ -1,6 +1,6 @@
 //! What the threads of a run promise of what they give back.
 
-use crate::reading::FileRead;
+use crate::file_reading::FileRead;
 use lane::{PutEnd, TakeEnd};
 use pit_model::plan::Plan;
 use std::snapshot::Snapshot;
@@ -19,7 +19,8 @@ pub struct ReadBy<F> {
 impl<F: Feed> Promise<FileRead> for ReadBy<F> {
     ghost use Rattle.run_threads.specs.Promises.{KeepsRead};
 
-    ghost kept_by = { λ p r. KeepsRead p.plan.value.grid (F.left p.feed.value) (F.is_sure p.feed.value) p.end.value r.ended r.answer };
+    ghost kept_by = { λ p r. KeepsRead p.plan.value.grid (F.left p.feed.value)
+        (F.is_sure p.feed.value) p.end.value r.ended r.answer };
 }
 
 /// A valuer takes from this end, and values by the formulas of this plan.
@@ -33,7 +34,8 @@ impl Promise<ValuerResult> for ValuedBy {
     ghost use Rattle.pit_model.specs.Destinations.{formulas_of_plan};
     ghost use Rattle.run_threads.specs.Promises.{KeepsValued};
 
-    ghost kept_by = { λ p r. KeepsValued (formulas_of_plan p.plan.value) p.end.value r.taker r.items r.memory };
+    ghost kept_by = { λ p r. KeepsValued (formulas_of_plan p.plan.value) p.end.value
+        r.taker r.items r.memory };
 }
 
 /// The thread of a file's reader.

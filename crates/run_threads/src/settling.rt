@@ -1,18 +1,15 @@
 //! The end of a run's threads: all joined, with what they hand over or without.
 
-ghost use Rattle.std.specs.Prelude.{◌≡◌, ◌≤◌, length, map, vec_len, IsFalse};
+ghost use Rattle.std.specs.Prelude.{◌≡◌, ◌≤◌, map, vec_len};
 ghost use Rattle.std.specs.List.{All};
 ghost use Rattle.lane.specs.Ends.{first_puts, first_takes};
-ghost use Rattle.lane.specs.Whole.{IsWhole};
-ghost use Rattle.pit_model.specs.Destinations.{formulas_of_plan};
-ghost use Rattle.run_threads.specs.Reading.{AreRead};
+ghost use Rattle.run_threads.specs.HandingOver.{IsHandedOver};
 ghost use Rattle.run_threads.specs.Ready.{IsRoomFor};
-ghost use Rattle.valuers.specs.Valuing.{items_by};
 
 use crate::handing_over::HandedOver;
 use crate::joining::{join_all, split_reads, split_values};
 use crate::promises::{ReaderHandle, ValuerHandle};
-use crate::room::Room;
+use crate::result_room::ResultRoom;
 use lane::{Closer, GivenUp};
 use pit_model::plan::Plan;
 use std::sync::Wait;
@@ -26,22 +23,22 @@ pub fn settle<R: Threads + Wait, F: Feed>(
     closer: Closer,
     readers: Vec<ReaderHandle<F>>,
     valuers: Vec<ValuerHandle>,
-    room: Room,
+    room: ResultRoom,
     _plan: &Plan,
 ) -> HandedOver
-    requires ends { map (λ h. h.promise.end.value) readers.items ≡ first_puts closer.lane 0 closer.files }
-    requires takes { map (λ h. h.promise.end.value) valuers.items ≡ first_takes closer.lane 0 closer.takers }
+    requires ends { map (λ h. h.promise.end.value) readers.items
+        ≡ first_puts closer.lane 0 closer.files }
+    requires takes { map (λ h. h.promise.end.value) valuers.items
+        ≡ first_takes closer.lane 0 closer.takers }
     requires read_plans { All (λ h. h.promise.plan.value ≡ _plan.now) readers.items }
     requires valuer_plans { All (λ h. h.promise.plan.value ≡ _plan.now) valuers.items }
     requires readers { vec_len readers ≡ closer.files }
     requires valuers { vec_len valuers ≡ closer.takers }
     requires room { IsRoomFor closer.files closer.takers room }
-    ensures whole { IsWhole result.gathered }
-    ensures read { AreRead _plan.now.grid 0 (map (λ h. F.left h.promise.feed.value) readers.items) (map (λ h. F.is_sure h.promise.feed.value) readers.items) result.answers.items result.gathered.sent }
-    ensures valued { IsFalse result.memory → result.items.items ≡ map (items_by (formulas_of_plan _plan.now)) result.gathered.took }
-    ensures takers { length result.gathered.took ≡ closer.takers }
+    ensures { IsHandedOver _plan.now (map (λ h. F.left h.promise.feed.value) readers.items)
+        (map (λ h. F.is_sure h.promise.feed.value) readers.items) closer.takers result }
 {
-    let Room {
+    let ResultRoom {
         reads,
         ended,
         answers,

@@ -4,18 +4,16 @@ ghost use Rattle.std.specs.Prelude.{◌≡◌, ◌+◌, ◌<◌, ◌≤◌, [], 
 ghost use Rattle.std.specs.List.{All};
 ghost use Rattle.std.specs.Prelude.{◌++◌, true, drop};
 ghost use Rattle.lane.specs.Message.{is_done};
-ghost use Rattle.pit_model.specs.Destinations.{formulas_of, AreOfPlan};
-ghost use Rattle.run_threads.specs.Promises.{AreUnsentFrom};
+ghost use Rattle.pit_model.specs.Destinations.{formulas_of};
 ghost use Rattle.run_threads.specs.Reading.{IsRead};
+ghost use Rattle.run_threads.specs.Promises.{AreUnsentFrom, IsUnsent};
 ghost use Rattle.valuers.specs.Valuing.{items_by};
 ghost use Rattle.pit_model.specs.declared.ranges.TheConstants.{MAX_DESTINATIONS, MAX_VALUERS, MAX_ZONES};
 
+use crate::file_reading::{FileRead, read_file};
 use crate::promises::{ReadBy, ReaderHandle, ValuedBy, ValuerHandle};
-use crate::reading::{FileRead, read_file};
+use crate::shared::Shared;
 use lane::{PutEnd, TakeEnd};
-use pit_model::destination::Destination;
-use pit_model::plan::Plan;
-use std::alloc::Global;
 use std::snapshot::Snapshot;
 use std::sync::Wait;
 use std::thread::{Scope, Threads};
@@ -31,24 +29,18 @@ pub struct Started<H> {
 
 /// Starts a valuer for each take end, until a start is refused. A start beyond `starts` of them is.
 pub fn start_valuers<'s, E, R: Threads + Wait + Sync, G: Gate + Sync>(
-    rt: &'s R,
-    alloc: Global,
+    shared: &Shared<'s, R, G>,
     scope: &Scope<'s, E>,
     takes: Vec<TakeEnd>,
-    plan: &Plan,
-    destinations: &'s [Destination],
-    gate: &'s G,
     starts: u32,
     mut handles: Vec<ValuerHandle>,
 ) -> Started<ValuerHandle>
-    requires some { 1 ≤ length destinations.now }
-    requires few { length destinations.now ≤ MAX_DESTINATIONS }
-    requires destinations { AreOfPlan destinations.now plan.now }
     requires takers { vec_len takes ≤ MAX_VALUERS }
     requires empty { handles.items ≡ [] }
     requires room { vec_len takes ≤ vec_capacity handles }
-    ensures ends { IsFalse result.refused → map (λ h. h.promise.end.value) result.handles.items ≡ takes.items }
-    ensures plans { All (λ h. h.promise.plan.value ≡ plan.now) result.handles.items }
+    ensures ends { IsFalse result.refused
+        → map (λ h. h.promise.end.value) result.handles.items ≡ takes.items }
+    ensures plans { All (λ h. h.promise.plan.value ≡ shared.now.plan.now) result.handles.items }
     ensures count { vec_len result.handles ≤ vec_len takes }
     ensures whole { IsFalse result.refused → vec_len result.handles ≡ vec_len takes }
     ensures budget { vec_len result.handles ≤ starts }
@@ -61,8 +53,7 @@ pub fn start_valuers<'s, E, R: Threads + Wait + Sync, G: Gate + Sync>(
                 refused: true,
             };
         }
-        let Some(handle) = start_valuer(rt, alloc, scope, take, valuer, plan, destinations, gate)
-        else {
+        let Some(handle) = start_valuer(shared, scope, take, valuer) else {
             return Started {
                 handles,
                 refused: true,
@@ -79,25 +70,24 @@ pub fn start_valuers<'s, E, R: Threads + Wait + Sync, G: Gate + Sync>(
 
 /// Starts a reader for each file, until a start is refused. A start beyond `starts` of them is.
 pub fn start_readers<'s, E, R: Threads + Wait + Sync, F: Feed + Send + Drop + 's, G: Gate + Sync>(
-    rt: &'s R,
-    alloc: Global,
+    shared: &Shared<'s, R, G>,
     scope: &Scope<'s, E>,
     feeds: Vec<F>,
     ends: Vec<PutEnd>,
-    plan: &'s Plan,
-    gate: &'s G,
     starts: u32,
     mut handles: Vec<ReaderHandle<F>>,
 ) -> Started<ReaderHandle<F>>
-    requires files { length plan.now.cones ≡ vec_len ends }
+    requires files { length shared.now.plan.now.cones ≡ vec_len ends }
     requires few { vec_len ends ≤ MAX_ZONES }
     requires feeds { vec_len feeds ≡ vec_len ends }
     requires unsent { AreUnsentFrom 0 ends.items }
     requires empty { handles.items ≡ [] }
     requires room { vec_len ends ≤ vec_capacity handles }
-    ensures ends { IsFalse result.refused → map (λ h. h.promise.end.value) result.handles.items ≡ ends.items }
-    ensures feeds { IsFalse result.refused → map (λ h. h.promise.feed.value) result.handles.items ≡ feeds.items }
-    ensures plans { All (λ h. h.promise.plan.value ≡ plan.now) result.handles.items }
+    ensures ends { IsFalse result.refused
+        → map (λ h. h.promise.end.value) result.handles.items ≡ ends.items }
+    ensures feeds { IsFalse result.refused
+        → map (λ h. h.promise.feed.value) result.handles.items ≡ feeds.items }
+    ensures plans { All (λ h. h.promise.plan.value ≡ shared.now.plan.now) result.handles.items }
     ensures count { vec_len result.handles ≤ vec_len ends }
     ensures whole { IsFalse result.refused → vec_len result.handles ≡ vec_len ends }
     ensures budget { vec_len result.handles ≤ starts }
@@ -114,7 +104,7 @@ pub fn start_readers<'s, E, R: Threads + Wait + Sync, F: Feed + Send + Drop + 's
                 refused: true,
             };
         }
-        let Some(handle) = start_reader(rt, alloc, scope, feed, plan, file, end, gate) else {
+        let Some(handle) = start_reader(shared, scope, feed, file, end) else {
             return Started {
                 handles,
                 refused: true,
@@ -130,22 +120,20 @@ pub fn start_readers<'s, E, R: Threads + Wait + Sync, F: Feed + Send + Drop + 's
 }
 
 fn start_valuer<'s, E, R: Threads + Wait + Sync, G: Gate + Sync>(
-    rt: &'s R,
-    alloc: Global,
+    shared: &Shared<'s, R, G>,
     scope: &Scope<'s, E>,
     end: TakeEnd,
     valuer: u8,
-    plan: &Plan,
-    destinations: &'s [Destination],
-    gate: &'s G,
 ) -> Option<ValuerHandle>
-    requires some { 1 ≤ length destinations.now }
-    requires few { length destinations.now ≤ MAX_DESTINATIONS }
-    requires destinations { AreOfPlan destinations.now plan.now }
-    ensures { IfSome result (λ h. (h.promise.plan.value ≡ plan.now) × (h.promise.end.value ≡ end)) }
+    ensures { IfSome result (λ h.
+        (h.promise.plan.value ≡ shared.now.plan.now) × (h.promise.end.value ≡ end)) }
 {
+    let rt = shared.rt;
+    let alloc = shared.alloc;
+    let destinations = shared.destinations;
+    let gate = shared.gate;
     let promise = ValuedBy {
-        plan: Snapshot::of(plan),
+        plan: Snapshot::of(shared.plan),
         end: Snapshot::of(&end),
     };
     scope
@@ -154,29 +142,32 @@ fn start_valuer<'s, E, R: Threads + Wait + Sync, G: Gate + Sync>(
             move || -> ValuerResult
                 requires some { 1 ≤ length destinations.now }
                 requires few { length destinations.now ≤ MAX_DESTINATIONS }
-                ensures taker { result.taker ≡ record end { took = end.took ++ drop (length end.took) result.taker.took } }
+                ensures taker { result.taker
+                    ≡ record end { took = end.took ++ drop (length end.took) result.taker.took } }
                 ensures done { is_done result.taker.took ≡ true }
-                ensures items { IsFalse result.memory → result.items ≡ items_by (formulas_of destinations.entry.now) (drop (length end.took) result.taker.took) }
+                ensures items { let took = drop (length end.took) result.taker.took in
+                    IsFalse result.memory
+                    → result.items ≡ items_by (formulas_of destinations.entry.now) took }
             { value_all(rt, alloc, end, valuer, destinations, gate) },
         )
         .ok()
 }
 
 fn start_reader<'s, E, R: Threads + Wait + Sync, F: Feed + Send + Drop + 's, G: Gate + Sync>(
-    rt: &'s R,
-    alloc: Global,
+    shared: &Shared<'s, R, G>,
     scope: &Scope<'s, E>,
     feed: F,
-    plan: &'s Plan,
     file: u8,
     end: PutEnd,
-    gate: &'s G,
 ) -> Option<ReaderHandle<F>>
-    requires zone { file < length plan.now.cones }
-    requires file { end.file ≡ file }
-    requires unsent { end.sent ≡ [] }
-    ensures { IfSome result (λ h. (h.promise.feed.value ≡ feed) × (h.promise.plan.value ≡ plan.now) × (h.promise.end.value ≡ end)) }
+    requires { IsUnsent shared.now.plan.now file end }
+    ensures { IfSome result (λ h. (h.promise.feed.value ≡ feed)
+        × (h.promise.plan.value ≡ shared.now.plan.now) × (h.promise.end.value ≡ end)) }
 {
+    let rt = shared.rt;
+    let alloc = shared.alloc;
+    let plan = shared.plan;
+    let gate = shared.gate;
     let promise = ReadBy {
         feed: Snapshot::of(&feed),
         plan: Snapshot::of(plan),
@@ -186,11 +177,10 @@ fn start_reader<'s, E, R: Threads + Wait + Sync, F: Feed + Send + Drop + 's, G: 
         .spawn_with(
             promise,
             move || -> FileRead
-                requires zone { file < length plan.now.cones }
-                requires file { end.file ≡ file }
-                requires unsent { end.sent ≡ [] }
+                requires { IsUnsent plan.now file end }
                 ensures end { (result.ended.lane ≡ end.lane) × (result.ended.file ≡ file) }
-                ensures read { IsRead plan.entry.now.grid file (F.left feed) (F.is_sure feed) result.answer result.ended.sent }
+                ensures read { IsRead plan.entry.now.grid file (F.left feed) (F.is_sure feed)
+                    result.answer result.ended.sent }
             { read_file(rt, alloc, feed, plan, file, end, gate) },
         )
         .ok()

@@ -10,7 +10,8 @@ loop-handle-preserved g c =
     let grown : c.push.new.self.items ≡ c.loop-handle.results.items ++ c.join.result ∷ [] = search rules in
     let rest : into_iter_items c.loop-handle.handle-iterator ≡ c.in-Some.handle ∷ into_iter_items c.next.new.self = search rules in
     record {
-      kept = rw grown (partly_more (λ h r. g.P.Promise.kept_by h.promise r) c.args.handles.items c.loop-handle.results.items c.in-Some.handle (into_iter_items c.next.new.self) c.join.result (rw rest at was.kept) c.join.ensures);
+      kept = rw grown (partly_more (λ h r. g.P.Promise.kept_by h.promise r) c.args.handles.items c.loop-handle.results.items
+          c.in-Some.handle (into_iter_items c.next.new.self) c.join.result (rw rest at was.kept) c.join.ensures);
       left = search rules;
       count = search rules;
       room = search rules;
@@ -20,4 +21,5 @@ pub returns-clause-kept : goal.returns-clause-kept
 returns-clause-kept g c =
     let none : into_iter_len c.loop-handle.handle-iterator ≡ 0 = search rules in
     let over = nil_from_length (into_iter_items c.loop-handle.handle-iterator) (sym c.loop-handle.invariant.left ∙ none) in
-    partly_all (λ h r. g.P.Promise.kept_by h.promise r) c.args.handles.items c.loop-handle.results.items (rw over at c.loop-handle.invariant.kept)
+    partly_all (λ h r. g.P.Promise.kept_by h.promise r) c.args.handles.items c.loop-handle.results.items
+    (rw over at c.loop-handle.invariant.kept)

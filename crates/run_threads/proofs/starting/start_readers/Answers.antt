@@ -14,13 +14,18 @@ loop-end-preserved g c =
     let feeds : into_iter_items c.loop-end.rest ≡ c.in-Some-next.feed ∷ into_iter_items c.next-in-loop-end.new.self = search rules in
     let more : vec_len c.loop-end.handles + 1 ≡ vec_len c.push.new.self = search rules in
     record {
-      ends = rw grown (map_step (λ h. h.promise.end.value) c.loop-end.handles.items c.in-Some-start_reader.handle c.in-Some.end (into_iter_items c.loop-end.end-iterator) (into_iter_items c.next.new.self) c.args.ends.items ends kept.2 was.ends);
-      feeds = rw grown (map_step (λ h. h.promise.feed.value) c.loop-end.handles.items c.in-Some-start_reader.handle c.in-Some-next.feed (into_iter_items c.loop-end.rest) (into_iter_items c.next-in-loop-end.new.self) c.args.feeds.items feeds kept.0 was.feeds);
-      plans = rw grown (All-push (λ h. h.promise.plan.value ≡ c.args.plan.now) c.loop-end.handles.items c.in-Some-start_reader.handle was.plans kept.1);
+      ends = rw grown (map_step (λ h. h.promise.end.value) c.loop-end.handles.items c.in-Some-start_reader.handle c.in-Some.end
+          (into_iter_items c.loop-end.end-iterator) (into_iter_items c.next.new.self) c.args.ends.items ends kept.2 was.ends);
+      feeds = rw grown (map_step (λ h. h.promise.feed.value) c.loop-end.handles.items c.in-Some-start_reader.handle c.in-Some-next.feed
+          (into_iter_items c.loop-end.rest) (into_iter_items c.next-in-loop-end.new.self) c.args.feeds.items feeds kept.0 was.feeds);
+      plans = rw grown (All-push (λ h. h.promise.plan.value ≡ c.args.shared.now.plan.now) c.loop-end.handles.items
+          c.in-Some-start_reader.handle was.plans kept.1);
       count = search rules;
       left = search rules;
       fed = search rules;
       room = search rules;
-      unsent = subst (λ n. AreUnsentFrom n (into_iter_items c.next.new.self)) more (unsent_rest (vec_len c.loop-end.handles) c.in-Some.end (into_iter_items c.loop-end.end-iterator) (into_iter_items c.next.new.self) ends was.unsent).2;
+      unsent = subst (λ n. AreUnsentFrom n (into_iter_items c.next.new.self)) more
+          (unsent_rest (vec_len c.loop-end.handles) c.in-Some.end (into_iter_items c.loop-end.end-iterator)
+          (into_iter_items c.next.new.self) ends was.unsent).2;
       budget = search rules;
     }

@@ -9,7 +9,7 @@ invariant-loop-end g l =
     record {
       ends : map (λ h. h.promise.end.value) l.handles.items ++ into_iter_items l.end-iterator ≡ l.fn.ends.items;
       feeds : map (λ h. h.promise.feed.value) l.handles.items ++ into_iter_items l.rest ≡ l.fn.feeds.items;
-      plans : All (λ h. h.promise.plan.value ≡ l.plan) l.handles.items;
+      plans : All (λ h. h.promise.plan.value ≡ l.shared.plan.now) l.handles.items;
       count : l.file ≡ vec_len l.handles;
       left : vec_len l.handles + into_iter_len l.end-iterator ≡ vec_len l.fn.ends;
       fed : into_iter_len l.rest ≡ into_iter_len l.end-iterator;

@@ -7,7 +7,7 @@ abbrev pub invariant-loop-take : goal.invariant-loop-take
 invariant-loop-take g l =
     record {
       ends : map (λ h. h.promise.end.value) l.handles.items ++ into_iter_items l.take-iterator ≡ l.fn.takes.items;
-      plans : All (λ h. h.promise.plan.value ≡ l.plan) l.handles.items;
+      plans : All (λ h. h.promise.plan.value ≡ l.shared.plan.now) l.handles.items;
       count : l.valuer ≡ vec_len l.handles;
       rest : vec_len l.handles + into_iter_len l.take-iterator ≡ vec_len l.fn.takes;
       room : vec_len l.fn.takes ≤ vec_capacity l.handles;

@@ -3,15 +3,15 @@
 ghost use Rattle.std.specs.Prelude.{IfOk};
 ghost use Rattle.run_threads.specs.Ready.{IsRoomFor};
 
+use crate::file_reading::FileRead;
 use crate::read_fault::ReadFault;
-use crate::reading::FileRead;
 use lane::{EndedPut, TakeEnd};
 use std::alloc::{AllocError, Global};
 use valuers::{Items, ValuerResult};
 
 /// Empty lists with room for what the readers and the valuers give back.
 #[derive(Drop)]
-pub struct Room {
+pub struct ResultRoom {
     pub reads: Vec<FileRead>,
     pub ended: Vec<EndedPut>,
     pub answers: Vec<Result<(), ReadFault>>,
@@ -20,13 +20,11 @@ pub struct Room {
     pub items: Vec<Items>,
 }
 
-/// Room for so many files and valuers.
-pub fn room_for(alloc: Global, files: u8, valuers: u8) -> Result<Room, AllocError>
+/// Room for what so many files and valuers give back.
+pub fn room_for(alloc: Global, files: usize, valuers: usize) -> Result<ResultRoom, AllocError>
     ensures { IfOk result (λ room. IsRoomFor files valuers room) }
 {
-    let files = usize::from(files);
-    let valuers = usize::from(valuers);
-    Ok(Room {
+    Ok(ResultRoom {
         reads: Vec::with_capacity(alloc, files)?,
         ended: Vec::with_capacity(alloc, files)?,
         answers: Vec::with_capacity(alloc, files)?,

@@ -2,6 +2,7 @@
 
 ghost use Rattle.std.specs.Prelude.{◌≡◌, ◌+◌, ◌<◌, ◌≤◌, ◌++◌, [], ◌∷◌, length, vec_len, IfOk, IfErr, IfSome};
 ghost use Rattle.run_threads.specs.Reading.{most_bytes, IsRead};
+ghost use Rattle.run_threads.specs.Promises.{IsUnsent};
 ghost use Rattle.run_threads.specs.Sending.{IsUnread, HasPut, TellsNext};
 ghost use Rattle.zone_csv.specs.ZoneReaderView.{blocks_left};
 ghost use Rattle.zone_csv.specs.Zone.{blocks_of, fault_of};
@@ -40,11 +41,10 @@ pub fn read_file<R: Wait, F: Feed + Drop, G: Gate>(
     mut put_end: PutEnd,
     gate: &G,
 ) -> FileRead
-    requires zone { file < length plan.now.cones }
-    requires file { put_end.file ≡ file }
-    requires unsent { put_end.sent ≡ [] }
+    requires { IsUnsent plan.now file put_end }
     ensures end { (result.ended.lane ≡ put_end.lane) × (result.ended.file ≡ file) }
-    ensures read { IsRead plan.now.grid file (F.left feed) (F.is_sure feed) result.answer result.ended.sent }
+    ensures read { IsRead plan.now.grid file (F.left feed) (F.is_sure feed)
+        result.answer result.ended.sent }
 {
     let answer = put_file(rt, alloc, &mut feed, plan, file, &mut put_end, gate);
     FileRead {
@@ -63,9 +63,7 @@ fn put_file<R: Wait, F: Feed, G: Gate>(
     put_end: &mut PutEnd,
     gate: &G,
 ) -> Result<(), ReadFault>
-    requires zone { file < length plan.now.cones }
-    requires file { put_end.old.file ≡ file }
-    requires unsent { put_end.old.sent ≡ [] }
+    requires { IsUnsent plan.now file put_end.old }
     ensures end { (put_end.new.lane ≡ put_end.old.lane) × (put_end.new.file ≡ file) }
     ensures read { IsRead plan.now.grid file (F.left feed.old) (F.is_sure feed.old) result
         (put_end.new.sent ++ Taken.End file (length put_end.new.sent) ∷ []) }
@@ -98,11 +96,11 @@ fn put_blocks<R: Wait>(
     file: u8,
     put_end: &mut PutEnd,
 ) -> Result<(), ReadFault>
-    requires zone { file < length plan.now.cones }
-    requires file { put_end.old.file ≡ file }
-    requires unsent { put_end.old.sent ≡ [] }
+    requires { IsUnsent plan.now file put_end.old }
     ensures end { (put_end.new.lane ≡ put_end.old.lane) × (put_end.new.file ≡ file) }
-    ensures put { HasPut file (blocks_of plan.now.grid file text.items) (fault_of plan.now.grid file text.items) result put_end.new.sent }
+    ensures put { let grid = plan.now.grid in
+        HasPut file (blocks_of grid file text.items) (fault_of grid file text.items)
+        result put_end.new.sent }
 {
     let mut reader = ZoneReader::new(alloc, text, plan, file);
     while let Some(block) = next_block(&mut reader)? {
@@ -113,7 +111,8 @@ fn put_blocks<R: Wait>(
 
 fn next_block(reader: &mut ZoneReader) -> Result<Option<Block>, ReadFault>
     ensures tells { TellsNext reader.old result reader.new }
-    ensures fewer { IfOk result (λ found. IfSome found (λ _. blocks_left reader.new + 1 ≡ blocks_left reader.old)) }
+    ensures fewer { IfOk result (λ found. IfSome found (λ _.
+        blocks_left reader.new + 1 ≡ blocks_left reader.old)) }
 {
     match reader.next() {
         Ok(found) => Ok(found),

@@ -5,7 +5,7 @@ use Rattle.lane.specs.declared.message.Taken.TheVariants.{Row}
 use Rattle.zone_csv.specs.Zone.{blocks_of, fault_of}
 use Rattle.run_threads.specs.Sending.{IsSending}
 use Rattle.run_threads.proofs.Sending.{puts_row, puts_all, stops}
-use Rattle.run_threads.proofs.reading.put_blocks.Goals as goal
+use Rattle.run_threads.proofs.file_reading.put_blocks.Goals as goal
 
 pub returns-in_err-block-clause-put : goal.returns-in_err-block-clause-put
 returns-in_err-block-clause-put g c =
@@ -13,7 +13,8 @@ returns-in_err-block-clause-put g c =
     let file = c.args.file in
     let whole = blocks_of c.args.plan.now.grid file c.args.text.items in
     let fault = fault_of c.args.plan.now.grid file c.args.text.items in
-    rw (p.1, p.2) (stops file whole fault c.loop-reader.put_end.sent c.loop-reader.reader c.next_block.new.reader c.in_err-block.field-0.0 c.loop-reader.invariant.2 c.in_err-block.ensures.tells)
+    rw (p.1, p.2) (stops file whole fault c.loop-reader.put_end.sent c.loop-reader.reader c.next_block.new.reader c.in_err-block.field-0.0
+    c.loop-reader.invariant.2 c.in_err-block.ensures.tells)
 
 pub loop-reader-preserved : goal.loop-reader-preserved
 loop-reader-preserved g c =
@@ -23,7 +24,8 @@ loop-reader-preserved g c =
     let sent = c.loop-reader.put_end.sent in
     let block = c.in-Some.block in
     let next = rw c.in-Some.is at c.in_ok-block.ensures.tells in
-    let more : c.row.new.self.sent ≡ sent ++ Row file (length sent) block ∷ [] = ap (λ (v : PutEndView). v.sent) c.row.ensures.sent ∙ ap (λ f. sent ++ Row f (length sent) block ∷ []) c.loop-reader.invariant.1 in (
+    let more : c.row.new.self.sent ≡ sent ++ Row file (length sent) block ∷ [] = ap (λ (v : PutEndView). v.sent) c.row.ensures.sent
+    ∙ ap (λ f. sent ++ Row f (length sent) block ∷ []) c.loop-reader.invariant.1 in (
       ap (λ (v : PutEndView). v.lane) c.row.ensures.sent ∙ c.loop-reader.invariant.0,
       ap (λ (v : PutEndView). v.file) c.row.ensures.sent ∙ c.loop-reader.invariant.1,
       subst (λ s. IsSending file whole fault s c.next_block.new.reader) (sym more)

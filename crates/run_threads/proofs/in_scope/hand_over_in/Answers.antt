@@ -1,0 +1,19 @@
+use Rattle.std.proofs.Common.{rules, ◌≡◌, map, sym}
+use Rattle.run_threads.proofs.Joined.{first_unsent, map_through}
+use Rattle.run_threads.proofs.in_scope.hand_over_in.Goals as goal
+
+pub start_readers-readers-requires-clause-unsent :
+    goal.start_readers-readers-requires-clause-unsent
+start_readers-readers-requires-clause-unsent g c κs within =
+    let lane = c.args.ready.lane in
+    rw lane.puts_are (first_unsent lane.closer.lane 0 lane.closer.files)
+
+pub returns-clause-handed : goal.returns-clause-handed
+returns-clause-handed g c =
+    let handles = c.start_readers-readers.result.handles.items in
+    let feeds = c.args.ready.feeds.items in
+    let fed : map (λ h. h.promise.feed.value) handles ≡ feeds = c.start_readers-readers.ensures.feeds (search rules) in
+    rw (
+      sym (map_through (λ h. h.promise.feed.value) g.F.Feed.left handles feeds fed),
+      sym (map_through (λ h. h.promise.feed.value) g.F.Feed.is_sure handles feeds fed),
+    ) c.settle.ensures

@@ -1,0 +1,30 @@
+//! A run that is ready to start.
+
+ghost use Rattle.std.specs.Prelude.{◌≡◌, ◌≤◌, [], length, vec_len, vec_capacity};
+ghost use Rattle.run_threads.specs.Ready.{IsRoomFor};
+
+use crate::opened::Opened;
+use crate::promises::{ReaderHandle, ValuerHandle};
+use crate::result_room::ResultRoom;
+use crate::shared::Shared;
+use zone_csv::feed::Feed;
+
+/// A run that is ready to start: all memory that it needs besides that of its threads is taken.
+#[derive(Drop)]
+pub struct Ready<'s, R, F: Feed, G> {
+    pub shared: Shared<'s, R, G>,
+    /// How many threads may be started: one more counts as refused.
+    pub starts: u32,
+    pub feeds: Vec<F>,
+    pub lane: Opened,
+    pub valuers: Vec<ValuerHandle>,
+    pub readers: Vec<ReaderHandle<F>>,
+    pub room: ResultRoom,
+    pub ghost files: { lane.closer.files ≡ length shared.plan.now.cones },
+    pub ghost fed: { vec_len feeds ≡ lane.closer.files },
+    pub ghost no_valuers: { valuers.items ≡ [] },
+    pub ghost no_readers: { readers.items ≡ [] },
+    pub ghost for_valuers: { lane.closer.takers ≤ vec_capacity valuers },
+    pub ghost for_readers: { lane.closer.files ≤ vec_capacity readers },
+    pub ghost room_for: { IsRoomFor lane.closer.files lane.closer.takers room },
+}

@@ -1,0 +1,22 @@
+//! What the threads of a run share.
+
+ghost use Rattle.std.specs.Prelude.{◌≤◌, length};
+ghost use Rattle.pit_model.specs.Destinations.{AreOfPlan};
+ghost use Rattle.pit_model.specs.declared.ranges.TheConstants.{MAX_DESTINATIONS};
+
+use pit_model::destination::Destination;
+use pit_model::plan::Plan;
+use std::alloc::Global;
+
+/// What the threads of a run share: what they run on, and what they work by. The destinations are the plan's.
+#[derive(Drop)]
+pub struct Shared<'s, R, G> {
+    pub rt: &'s R,
+    pub alloc: Global,
+    pub plan: &'s Plan,
+    pub destinations: &'s [Destination],
+    pub gate: &'s G,
+    pub ghost some: { 1 ≤ length destinations.now },
+    pub ghost few: { length destinations.now ≤ MAX_DESTINATIONS },
+    pub ghost of_plan: { AreOfPlan destinations.now plan.now },
+}
