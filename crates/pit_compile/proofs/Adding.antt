@@ -28,7 +28,8 @@ cut-at before xs rest i d within =
     ∙ append_assoc (before ++ take i xs) (get_or xs i d ∷ drop (suc i) xs) rest
 
 -- the next item has no fault
-pub next-sound : (law : IsNeverRefused) (old now : CollectorView) (items : List Item) (i : ℕ) (item : Item) → IsFront old.files (old.items ++ items) →
+pub next-sound : (law : IsNeverRefused) (old now : CollectorView) (items : List Item) (i : ℕ) (item : Item)
+    → IsFront old.files (old.items ++ items) →
     now ≡ record old { items = old.items ++ take i items } → i < length items → item ≡ get_or items i item →
     fault now.files now.items item ≡ None
 next-sound law old now items i item front is_now within read =
@@ -52,10 +53,12 @@ next-front old now lists all rest list items whole same come cut is_list =
     )
 
 -- one item more was added of those to add
-pub added-next : (old now next : CollectorView) (items : List Item) (i : ℕ) (item : Item) → now ≡ record old { items = old.items ++ take i items } →
+pub added-next : (old now next : CollectorView) (items : List Item) (i : ℕ) (item : Item)
+    → now ≡ record old { items = old.items ++ take i items } →
     slice_get items i ≡ Some item → next ≡ record now { items = now.items ++ item ∷ [] } →
     next ≡ record old { items = old.items ++ take (i + 1) items }
 added-next old now next items i item is_now read is_next =
     is_next
     ∙ ap (λ (view : CollectorView). record view { items = view.items ++ item ∷ [] }) is_now
-    ∙ ap (λ xs. record old { items = xs }) (append_assoc old.items (take i items) (item ∷ []) ∙ ap (λ xs. old.items ++ xs) (sym (take_next items i item read)))
+    ∙ ap (λ xs. record old { items = xs }) (append_assoc old.items (take i items) (item ∷ [])
+    ∙ ap (λ xs. old.items ++ xs) (sym (take_next items i item read)))

@@ -30,7 +30,8 @@ apart listed n h i j d before within = by_test (is_same_place (slice_index_or li
     by_test false e = refl
     by_test true e =
         let same : i ≡ j =
-        sym (h.found i d first) ∙ ap (λ k. get_or n.positions k 0) (same_id listed (slice_index_or listed i d) (slice_index_or listed j d) e) ∙ h.found j d within in
+        sym (h.found i d first) ∙ ap (λ k. get_or n.positions k 0)
+        (same_id listed (slice_index_or listed i d) (slice_index_or listed j d) e) ∙ h.found j d within in
         absurd (omega arith)
 
 -- a fact of the blocks of a list holds of the numbered ones

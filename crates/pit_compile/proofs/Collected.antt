@@ -74,7 +74,8 @@ pub is-added : (items : List (List Item)) (new added : CollectorView) → IsComp
 is-added items new added whole more = rw more whole
 
 -- the rows of the lists, where all was added
-pub collected : (found : FoundIsHeld) (fs : List Formula) (g : GatheredView) (items : List (List Item)) (files : ℕ) (new added : CollectorView)
+pub collected : (found : FoundIsHeld) (fs : List Formula) (g : GatheredView) (items : List (List Item)) (files : ℕ)
+    (new added : CollectorView)
     (lists : List (List Valued)) → IsWhole g → items ≡ map (items_by fs) g.took → length g.sent ≡ files →
     new ≡ record { files = files; items = [] } → added ≡ record new { items = new.items ++ joined items } →
     AreLists added.files added.items lists → joined lists ≡ flat_map (rows_by fs) g.sent

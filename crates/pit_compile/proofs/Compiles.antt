@@ -52,7 +52,8 @@ compiles plan lefts sures answers sents rows files count most h e collected =
     }
 
 -- a refusal of numbering is the verdict's
-pub repeat_refused : (plan : PlanParts) (lefts : List (Option (List ℕ))) (sures : List Bool) (sents : List (List Taken)) (rows : List Valued) (r : Refusal)
+pub repeat_refused : (plan : PlanParts) (lefts : List (Option (List ℕ))) (sures : List Bool) (sents : List (List Taken))
+    (rows : List Valued) (r : Refusal)
     → Compiles plan lefts sents rows → IsRepeat rows r → IsNotCompiled plan lefts sures r
 repeat_refused plan lefts sures sents rows (Same first again) m h =
     record { texts = m.texts; given = m.given; refused = (m.no_fault, subst (λ rs. IsRepeat rs (Same first again)) m.rows_are h) }

@@ -21,7 +21,8 @@ IsCut which text old new (Row file fault) = ⊥
 IsCut which text old new (Same first again) = ⊥
 
 pub cut : (which : SinkName) (text : List ℕ) (old new : SinkState) (written : Result (Unit {0}) WriteFault) (refusal : Refusal)
-    → IfErr written (λ fault. IsCutOff (refusals fault) text old new) → Err refusal ≡ in_sink which written → IsCut which text old new refusal
+    → IfErr written (λ fault. IsCutOff (refusals fault) text old new) → Err refusal ≡ in_sink which written
+    → IsCut which text old new refusal
 cut which text old new (Ok done) refusal h e = absurd (cc)
 cut which text old new (Err write.SinkFailed) refusal h e = let is : refusal ≡ SinkFailed which = cc in rw is (refl, h)
 cut which text old new (Err write.OutOfMemory) refusal h e = let is : refusal ≡ OutOfMemory = cc in rw is h
@@ -33,7 +34,8 @@ wrote which (Err write.SinkFailed) done h e = absurd (cc)
 wrote which (Err write.OutOfMemory) done h e = absurd (cc)
 
 -- the sinks were cut off at the place of that one
-pub cut_there : (which : SinkName) (texts : List (List ℕ)) (olds news : List SinkState) (text : List ℕ) (old new : SinkState) (refusal : Refusal)
+pub cut_there : (which : SinkName) (texts : List (List ℕ)) (olds news : List SinkState) (text : List ℕ) (old new : SinkState)
+    (refusal : Refusal)
     → IsCut which text old new refusal
     → ((more : ℕ) → IsCutOff more text old new → AreCutOffAt (place_of which) more texts olds news) → AreCutOff texts olds news refusal
 cut_there which texts olds news text old new (SinkFailed failed) h put =
@@ -46,6 +48,7 @@ cut_there which texts olds news text old new (TooLong file) h put = absurd h
 cut_there which texts olds news text old new (Row file fault) h put = absurd h
 cut_there which texts olds news text old new (Same first again) h put = absurd h
 
-pub at_end : (answer : Result (Unit {0}) Refusal) (P : Refusal → Type 0) → ((refusal : Refusal) → Err refusal ≡ answer → P refusal) → IfErr answer P
+pub at_end : (answer : Result (Unit {0}) Refusal) (P : Refusal → Type 0) → ((refusal : Refusal) → Err refusal ≡ answer → P refusal)
+    → IfErr answer P
 at_end (Ok done) P f = tt
 at_end (Err refusal) P f = f refusal refl

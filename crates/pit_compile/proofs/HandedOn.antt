@@ -60,7 +60,8 @@ are-handed fs sent ended [] all = tt
 are-handed fs sent ended (took ∷ tooks) all =
     (are-of fs sent ended took (recursion_from_All (IsSent sent) took all.0), are-handed fs sent ended tooks all.1)
 
-all-joined : (fs : List Formula) (sent tooks : List (List Taken)) → AreHanded fs sent tooks → All (IsOf fs sent) (joined (map (items_by fs) tooks))
+all-joined : (fs : List Formula) (sent tooks : List (List Taken)) → AreHanded fs sent tooks
+    → All (IsOf fs sent) (joined (map (items_by fs) tooks))
 all-joined fs sent [] all = All-nil (IsOf fs sent)
 all-joined fs sent (took ∷ tooks) all =
     All-append (IsOf fs sent) (items_by fs took) (joined (map (items_by fs) tooks))
@@ -95,7 +96,8 @@ ends-taken fs sent file list got [] all = refl
 ends-taken fs sent file list got (Row f p b ∷ ms) all =
     counted-same (is_end file) (is_at file (length (rows_by fs list))) (item.Row (row_by fs f p b)) (Row f p b) (items_by fs ms) ms
     (sym (not-both f file p (length (rows_by fs list)) (λ same at_end.
-    let within = slice_get_within (rows_by fs list) p (row_by fs f p b) (row-of fs sent file list (row_by fs f p b) got same all.0) in omega arith)))
+    let within = slice_get_within (rows_by fs list) p (row_by fs f p b) (row-of fs sent file list (row_by fs f p b) got same all.0) in
+    omega arith)))
     (ends-taken fs sent file list got ms all.1)
 ends-taken fs sent file list got (End f n ∷ ms) all =
     counted-same (is_end file) (is_at file (length (rows_by fs list))) (item.End f n) (End f n) (items_by fs ms) ms

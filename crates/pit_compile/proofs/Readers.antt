@@ -32,7 +32,8 @@ pub record AreAllRead (grid : Grid) (n : ℕ) (lefts : List (Option (List ℕ)))
   pub no_fault : fault_in texts grid n ≡ None
   pub sent : sents ≡ sents_from n grid texts
 
-all_read_from : (grid : Grid) (n : ℕ) (lefts : List (Option (List ℕ))) (sures : List Bool) (answers : List (Result (Unit {0}) ReadFault)) (sents : List (List Taken))
+all_read_from : (grid : Grid) (n : ℕ) (lefts : List (Option (List ℕ))) (sures : List Bool) (answers : List (Result (Unit {0}) ReadFault))
+    (sents : List (List Taken))
     → AreRead grid n lefts sures answers sents → refusal_in n answers ≡ None → AreAllRead grid n lefts sents
 all_read_from grid n [] [] [] [] h e = record { texts = []; given = tt; no_fault = refl; sent = refl }
 all_read_from grid n (l ∷ ls) (u ∷ us) (Ok done ∷ answers) (s ∷ ss) h e =
@@ -52,7 +53,8 @@ all_read_from grid n (l ∷ ls) [] others ss h e = absurd h
 all_read_from grid n (l ∷ ls) (u ∷ us) [] ss h e = absurd h
 all_read_from grid n (l ∷ ls) (u ∷ us) (a ∷ others) [] h e = absurd h
 
-pub all_read : (grid : Grid) (lefts : List (Option (List ℕ))) (sures : List Bool) (answers : List (Result (Unit {0}) ReadFault)) (sents : List (List Taken))
+pub all_read : (grid : Grid) (lefts : List (Option (List ℕ))) (sures : List Bool) (answers : List (Result (Unit {0}) ReadFault))
+    (sents : List (List Taken))
     → AreRead grid 0 lefts sures answers sents → refusal_in 0 answers ≡ None → AreAllRead grid 0 lefts sents
 all_read grid lefts sures answers sents h e = all_read_from grid 0 lefts sures answers sents h e
 
@@ -110,11 +112,13 @@ Tells grid n lefts sures (SinkFailed which) = ⊥
 
 -- one file before them that has no fault
 fault_behind : (grid : Grid) (n : ℕ) (left : Option (List ℕ)) (lefts : List (Option (List ℕ))) (text : List ℕ) (refusal : Refusal)
-    → IfSome left (λ bytes. text ≡ bytes) → file_fault grid n text ≡ None → HasFault grid (n + 1) lefts refusal → HasFault grid n (left ∷ lefts) refusal
+    → IfSome left (λ bytes. text ≡ bytes) → file_fault grid n text ≡ None → HasFault grid (n + 1) lefts refusal
+    → HasFault grid n (left ∷ lefts) refusal
 fault_behind grid n left lefts text refusal given none h =
     record { texts = text ∷ h.texts; given = (given, h.given); fault = rw none h.fault }
 
-tells_behind : (grid : Grid) (n : ℕ) (left : Option (List ℕ)) (lefts : List (Option (List ℕ))) (sure : Bool) (sures : List Bool) (text : List ℕ)
+tells_behind : (grid : Grid) (n : ℕ) (left : Option (List ℕ)) (lefts : List (Option (List ℕ))) (sure : Bool) (sures : List Bool)
+    (text : List ℕ)
     → IfSome left (λ bytes. text ≡ bytes) → file_fault grid n text ≡ None → (refusal : Refusal)
     → Tells grid (n + 1) lefts sures refusal → Tells grid n (left ∷ lefts) (sure ∷ sures) refusal
 tells_behind grid n left lefts sure sures text given none (FeedFailed file) h =
@@ -127,7 +131,8 @@ tells_behind grid n left lefts sure sures text given none (FeedFailed file) h =
       unsure = h.unsure;
     }
 tells_behind grid n left lefts sure sures text given none (TooLong file) h = fault_behind grid n left lefts text (TooLong file) given none h
-tells_behind grid n left lefts sure sures text given none (Row file fault) h = fault_behind grid n left lefts text (Row file fault) given none h
+tells_behind grid n left lefts sure sures text given none (Row file fault) h =
+    fault_behind grid n left lefts text (Row file fault) given none h
 tells_behind grid n left lefts sure sures text given none OutOfMemory h = tt
 tells_behind grid n left lefts sure sures text given none (Settings kind) h = absurd h
 tells_behind grid n left lefts sure sures text given none NoThread h = absurd h
@@ -144,7 +149,8 @@ fault_here : (grid : Grid) (n : ℕ) (left : Option (List ℕ)) (lefts : List (O
 fault_here grid n left lefts text refusal given fault =
     record { texts = text ∷ told_texts lefts; given = (given, are_told lefts); fault = rw fault refl }
 
-refused_from : (grid : Grid) (n : ℕ) (lefts : List (Option (List ℕ))) (sures : List Bool) (answers : List (Result (Unit {0}) ReadFault)) (sents : List (List Taken))
+refused_from : (grid : Grid) (n : ℕ) (lefts : List (Option (List ℕ))) (sures : List Bool) (answers : List (Result (Unit {0}) ReadFault))
+    (sents : List (List Taken))
     → AreRead grid n lefts sures answers sents → IfSome (refusal_in n answers) (Tells grid n lefts sures)
 refused_from grid n [] [] [] [] h = tt
 refused_from grid n (l ∷ ls) (u ∷ us) (Ok done ∷ answers) (s ∷ ss) h =
@@ -191,17 +197,22 @@ tells_why plan lefts sures NoThread h = absurd h
 tells_why plan lefts sures (Same first again) h = absurd h
 tells_why plan lefts sures (SinkFailed which) h = absurd h
 
-told : (plan : PlanParts) (lefts : List (Option (List ℕ))) (sures : List Bool) (answers : List (Result (Unit {0}) ReadFault)) (sents : List (List Taken))
-    (refusal : Refusal) → AreRead plan.grid 0 lefts sures answers sents → refusal_in 0 answers ≡ Some refusal → Tells plan.grid 0 lefts sures refusal
+told : (plan : PlanParts) (lefts : List (Option (List ℕ))) (sures : List Bool) (answers : List (Result (Unit {0}) ReadFault))
+    (sents : List (List Taken))
+    (refusal : Refusal) → AreRead plan.grid 0 lefts sures answers sents → refusal_in 0 answers ≡ Some refusal
+    → Tells plan.grid 0 lefts sures refusal
 told plan lefts sures answers sents refusal h e = rw e at (refused_from plan.grid 0 lefts sures answers sents h)
 
-pub not_read : (plan : PlanParts) (lefts : List (Option (List ℕ))) (sures : List Bool) (answers : List (Result (Unit {0}) ReadFault)) (sents : List (List Taken))
-    (refusal : Refusal) → AreRead plan.grid 0 lefts sures answers sents → refusal_in 0 answers ≡ Some refusal → IsNotCompiled plan lefts sures refusal
+pub not_read : (plan : PlanParts) (lefts : List (Option (List ℕ))) (sures : List Bool) (answers : List (Result (Unit {0}) ReadFault))
+    (sents : List (List Taken))
+    (refusal : Refusal) → AreRead plan.grid 0 lefts sures answers sents → refusal_in 0 answers ≡ Some refusal
+    → IsNotCompiled plan lefts sures refusal
 not_read plan lefts sures answers sents refusal h e =
     tells_why plan lefts sures refusal (told plan lefts sures answers sents refusal h e)
 
 -- such a refusal is none of the settings
-pub never_settings : (n : ℕ) (answers : List (Result (Unit {0}) ReadFault)) (kind : SettingsFault) → refusal_in n answers ≡ Some (Settings kind) → ⊥
+pub never_settings : (n : ℕ) (answers : List (Result (Unit {0}) ReadFault)) (kind : SettingsFault)
+    → refusal_in n answers ≡ Some (Settings kind) → ⊥
 never_settings n [] kind e = cc
 never_settings n (Ok done ∷ answers) kind e = never_settings (n + 1) answers kind e
 never_settings n (Err read.FeedFailed ∷ answers) kind e = cc
@@ -210,7 +221,8 @@ never_settings n (Err (read.Row fault) ∷ answers) kind e = cc
 never_settings n (Err read.OutOfMemory ∷ answers) kind e = cc
 
 -- there are as many answers and lists as files
-pub as_many : (grid : Grid) (n : ℕ) (lefts : List (Option (List ℕ))) (sures : List Bool) (answers : List (Result (Unit {0}) ReadFault)) (sents : List (List Taken))
+pub as_many : (grid : Grid) (n : ℕ) (lefts : List (Option (List ℕ))) (sures : List Bool) (answers : List (Result (Unit {0}) ReadFault))
+    (sents : List (List Taken))
     → AreRead grid n lefts sures answers sents → (length answers ≡ length lefts) × (length sents ≡ length lefts)
 as_many grid n [] [] [] [] h = (refl, refl)
 as_many grid n (l ∷ ls) (u ∷ us) (Ok done ∷ answers) (s ∷ ss) h =

@@ -69,7 +69,8 @@ count_there grid formulas few (text ∷ texts) n =
     omega arith
 
 -- the places of the rows of a file are below its number of blocks
-placed_from : (formulas : List Formula) (file n : ℕ) (blocks : List Block) → n + length blocks ≤ 1000000 → All HasPlace (rows_from blocks formulas file n)
+placed_from : (formulas : List Formula) (file n : ℕ) (blocks : List Block) → n + length blocks ≤ 1000000
+    → All HasPlace (rows_from blocks formulas file n)
 placed_from formulas file n [] h = All-nil HasPlace
 placed_from formulas file n (b ∷ blocks) h =
     All-cons HasPlace _ (rows_from blocks formulas file (n + 1)) (omega arith) (placed_from formulas file (n + 1) blocks (omega arith))
@@ -102,7 +103,8 @@ model_rows plan texts files count most =
     }
 
 -- the rows of what a file sends are the rows of its blocks
-rows_sent : (formulas : List Formula) (file n : ℕ) (blocks : List Block) → rows_by formulas (sent_from file n blocks) ≡ rows_from blocks formulas file n
+rows_sent : (formulas : List Formula) (file n : ℕ) (blocks : List Block)
+    → rows_by formulas (sent_from file n blocks) ≡ rows_from blocks formulas file n
 rows_sent formulas file n [] = refl
 rows_sent formulas file n (b ∷ blocks) = ap (λ rows. row_by formulas file n b ∷ rows) (rows_sent formulas file (n + 1) blocks)
 
@@ -110,7 +112,8 @@ pub sent_rows : (grid : Grid) (formulas : List Formula) (n : ℕ) (texts : List 
     → flat_map (rows_by formulas) (sents_from n grid texts) ≡ rows_in texts grid formulas n
 sent_rows grid formulas n [] = refl
 sent_rows grid formulas n (text ∷ texts) =
-    rw (rows_sent formulas n 0 (blocks_of grid n text)) (ap (λ rows. rows_from (blocks_of grid n text) formulas n 0 ++ rows) (sent_rows grid formulas (n + 1) texts))
+    rw (rows_sent formulas n 0 (blocks_of grid n text))
+    (ap (λ rows. rows_from (blocks_of grid n text) formulas n 0 ++ rows) (sent_rows grid formulas (n + 1) texts))
 
 -- each file sends few rows
 few_sent : (file n : ℕ) (blocks : List Block) → message.rows_in (sent_from file n blocks) ≡ length blocks
@@ -121,7 +124,8 @@ few_sent file n (b ∷ blocks) =
     = sum_by-cons (λ m. cond (message.is_row m) 1 0) (Row file n b) (sent_from file (n + 1) blocks) in
     omega (arith, rest, more)
 
-pub few_sents : (grid : Grid) → AreZoneFiles → (n : ℕ) (texts : List (List ℕ)) → All (λ sent. message.rows_in sent ≤ 1000000) (sents_from n grid texts)
+pub few_sents : (grid : Grid) → AreZoneFiles → (n : ℕ) (texts : List (List ℕ))
+    → All (λ sent. message.rows_in sent ≤ 1000000) (sents_from n grid texts)
 few_sents grid files n [] = All-nil (λ sent. message.rows_in sent ≤ 1000000)
 few_sents grid files n (text ∷ texts) =
     let mine = files.few grid n text in

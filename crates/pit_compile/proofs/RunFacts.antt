@@ -12,12 +12,15 @@ use Rattle.pit_compile.specs.declared.refusal.Refusal.TheVariants.{Settings, NoT
 use Rattle.pit_compile.specs.declared.settings.SettingsFault.{SettingsFault}
 
 -- a run that is refused in writing
-pub cut_off : (plan : PlanParts) (lefts : List (Option (List ℕ))) (sures : List Bool) (valuers : ℕ) (old new : List SinkState) (c : Compiled) (refusal : Refusal)
+pub cut_off : (plan : PlanParts) (lefts : List (Option (List ℕ))) (sures : List Bool) (valuers : ℕ) (old new : List SinkState)
+    (c : Compiled) (refusal : Refusal)
     → IsCompiled plan lefts valuers c → AreCutOff (minelib_texts c.instance) old new refusal → IsRefused plan lefts sures old new refusal
 cut_off plan lefts sures valuers old new c (SinkFailed which) h k =
-    record { texts = h.texts; given = h.given; accepted = h.accepted; cut = subst (λ (i : Instance). AreCutOffAt (place_of which) 1 (minelib_texts i) old new) h.instance_is k }
+    let cut_is = subst (λ (i : Instance). AreCutOffAt (place_of which) 1 (minelib_texts i) old new) h.instance_is k in
+    record { texts = h.texts; given = h.given; accepted = h.accepted; cut = cut_is }
 cut_off plan lefts sures valuers old new c OutOfMemory h k =
-    inr (k.0, record { texts = h.texts; given = h.given; accepted = h.accepted; cut = subst (λ (i : Instance). AreCutOffAt (k.0) 0 (minelib_texts i) old new) h.instance_is (k.1) })
+    let cut_is = subst (λ (i : Instance). AreCutOffAt (k.0) 0 (minelib_texts i) old new) h.instance_is (k.1) in
+    inr (k.0, record { texts = h.texts; given = h.given; accepted = h.accepted; cut = cut_is })
 cut_off plan lefts sures valuers old new c (Settings kind) h k = absurd k
 cut_off plan lefts sures valuers old new c NoThread h k = absurd k
 cut_off plan lefts sures valuers old new c (FeedFailed file) h k = absurd k

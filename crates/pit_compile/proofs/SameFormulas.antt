@@ -17,4 +17,5 @@ one_more_same f g xs ys i a b in_xs in_ys at_xs at_ys same before =
 pub same_at : {A B C : Type 0} (f : A → C) (g : B → C) (xs : List A) (ys : List B) (i : ℕ) (a : A) (b : B)
     → i < length xs → i < length ys → a ≡ get_or xs i a → b ≡ get_or ys i b → map f xs ≡ map g ys → f a ≡ g b
 same_at f g xs ys i a b in_xs in_ys at_xs at_ys same =
-    ap f at_xs ∙ sym (get_or-map f xs i a (f a) in_xs) ∙ ap (λ zs. get_or zs i (f a)) same ∙ get_or-map g ys i b (f a) in_ys ∙ sym (ap g at_ys)
+    ap f at_xs ∙ sym (get_or-map f xs i a (f a) in_xs) ∙ ap (λ zs. get_or zs i (f a)) same ∙ get_or-map g ys i b (f a) in_ys
+    ∙ sym (ap g at_ys)

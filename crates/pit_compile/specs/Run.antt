@@ -10,7 +10,8 @@ use Rattle.pit_compile.specs.declared.refusal.Refusal.{Refusal}
 use Rattle.pit_compile.specs.declared.refusal.Refusal.TheVariants.{Settings, NoThread, FeedFailed, TooLong, Row, Same, SinkFailed, OutOfMemory}
 
 -- the zone files are accepted, every row of every file passed the lane whole, and each sink holds its text of their instance
-pub record IsDone (plan : PlanParts) (lefts : List (Option (List ℕ))) (valuers : ℕ) (old new : List SinkState) (g : GatheredView) : Type 0 where
+pub record IsDone (plan : PlanParts) (lefts : List (Option (List ℕ))) (valuers : ℕ) (old new : List SinkState)
+    (g : GatheredView) : Type 0 where
   pub texts : List (List ℕ)
   pub given : AreGiven lefts texts
   pub accepted : IsAccepted plan texts

@@ -27,4 +27,5 @@ IsSettingsFault plan files formulas settings Valuers = (files ≡ length plan.co
 IsSettingsFault plan files formulas settings Capacity =
     (files ≡ length plan.cones) × IsFrom1To MAX_VALUERS settings.valuers × ¬ IsFrom1To MAX_CAPACITY settings.capacity
 IsSettingsFault plan files formulas settings Destinations =
-    (files ≡ length plan.cones) × IsFrom1To MAX_VALUERS settings.valuers × IsFrom1To MAX_CAPACITY settings.capacity × (formulas ≢ formulas_of_plan plan)
+    (files ≡ length plan.cones) × IsFrom1To MAX_VALUERS settings.valuers × IsFrom1To MAX_CAPACITY settings.capacity
+    × (formulas ≢ formulas_of_plan plan)

@@ -11,7 +11,8 @@ use Rattle.pit_compile.specs.declared.refusal.RowAt.{RowAt}
 
 -- no two blocks of the list stand at one place of the grid
 abbrev pub AreApart : List Block → Type 0
-AreApart blocks = (i j : ℕ) (d : Block) → i < j → j < length blocks → is_same_place (slice_index_or blocks i d) (slice_index_or blocks j d) ≡ false
+AreApart blocks = (i j : ℕ) (d : Block) → i < j → j < length blocks
+    → is_same_place (slice_index_or blocks i d) (slice_index_or blocks j d) ≡ false
 
 -- accepted: no file has a fault, and no block stands twice
 pub record IsAccepted (plan : PlanParts) (texts : List (List ℕ)) : Type 0 where
@@ -20,7 +21,8 @@ pub record IsAccepted (plan : PlanParts) (texts : List (List ℕ)) : Type 0 wher
 
 -- this is the row at a position of the list: its file, and its place with the header and the count from 1
 abbrev pub IsRowAt : List Valued → ℕ → RowAt → Type 0
-IsRowAt rows i at = (d : Valued) → i < length rows → (at.file ≡ (slice_index_or rows i d).file) × (at.row ≡ (slice_index_or rows i d).place + 2)
+IsRowAt rows i at = (d : Valued) → i < length rows → (at.file ≡ (slice_index_or rows i d).file)
+    × (at.row ≡ (slice_index_or rows i d).place + 2)
 
 -- the first row that repeats an earlier one, and that one
 pub record IsFirstRepeat (rows : List Valued) (first again : RowAt) : Type 0 where

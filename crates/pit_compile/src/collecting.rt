@@ -31,7 +31,8 @@ pub(crate) fn collect(
     requires files { length _gathered.now.sent ≡ length plan.now.cones }
     requires few { All (λ sent. rows_in sent ≤ MAX_ROWS) _gathered.now.sent }
     requires handed { items.items ≡ map (items_by (formulas_of_plan plan.now)) _gathered.now.took }
-    ensures { IfOk result (λ rows. rows ≡ flat_map (rows_by (formulas_of_plan plan.now)) _gathered.now.sent) }
+    ensures { IfOk result (λ rows.
+        rows ≡ flat_map (rows_by (formulas_of_plan plan.now)) _gathered.now.sent) }
 {
     found_is_held();
     let mut collector = Collector::new(alloc, plan.cones().len() as u8)?;
@@ -43,7 +44,8 @@ pub(crate) fn collect(
 // Adds what all valuers hand on, and frees each list once it is added.
 fn add_lists(collector: &mut Collector, lists: Vec<Items>) -> Result<(), AllocError>
     requires { IsComplete collector.old.files (collector.old.items ++ joined lists.items) }
-    ensures { OnOk result (collector.new ≡ record collector.old { items = collector.old.items ++ joined lists.items }) }
+    ensures { OnOk result (collector.new
+        ≡ record collector.old { items = collector.old.items ++ joined lists.items }) }
 {
     for list in lists {
         add_all(collector, list.as_slice())?;
@@ -54,7 +56,8 @@ fn add_lists(collector: &mut Collector, lists: Vec<Items>) -> Result<(), AllocEr
 // Adds items that, with others after them, make a complete list.
 fn add_all(collector: &mut Collector, items: &[Item]) -> Result<(), AllocError>
     requires { IsFront collector.old.files (collector.old.items ++ items.now) }
-    ensures { OnOk result (collector.new ≡ record collector.old { items = collector.old.items ++ items.now }) }
+    ensures { OnOk result
+        (collector.new ≡ record collector.old { items = collector.old.items ++ items.now }) }
 {
     complete_is_not_refused();
     for item in items {
@@ -66,7 +69,8 @@ fn add_all(collector: &mut Collector, items: &[Item]) -> Result<(), AllocError>
 // Adds an item that has no fault.
 fn add_one(collector: &mut Collector, item: Item) -> Result<(), AllocError>
     requires { fault collector.old.files collector.old.items item ≡ None }
-    ensures { OnOk result (collector.new ≡ record collector.old { items = collector.old.items ++ item ∷ [] }) }
+    ensures { OnOk result
+        (collector.new ≡ record collector.old { items = collector.old.items ++ item ∷ [] }) }
 {
     match collector.add(item) {
         Ok(()) => Ok(()),

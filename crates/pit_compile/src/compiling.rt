@@ -1,15 +1,19 @@
 //! The first half of a run: from zone files to the instance.
 
-ghost use Rattle.std.specs.Prelude.{◌≡◌, ◌≢◌, ◌↔◌, ◌+◌, ◌≤◌, Err, length, map, IfErr, IfOk};
+ghost use Rattle.std.specs.Prelude.{◌≡◌, ◌≢◌, ◌↔◌, ◌+◌, ◌≤◌, Err, length, map, IfErr, IfOk, IsFalse};
 ghost use Rattle.mine_instance.specs.Valid.{IsValid};
 ghost use Rattle.pit_compile.specs.Compiled.{IsCompiled, IsNotCompiled};
-ghost use Rattle.pit_compile.specs.Settings.{IsSettingsFault, Suits};
+ghost use Rattle.pit_compile.specs.Settings.{IsSettingsFault};
 ghost use Rattle.pit_compile.specs.declared.settings.SettingsFault.{SettingsFault as ASettingsFault};
-ghost use Rattle.pit_model.specs.Destinations.{formulas_of};
+ghost use Rattle.lane.specs.Whole.{IsWhole};
+ghost use Rattle.pit_model.specs.Destinations.{formulas_of, formulas_of_plan};
+ghost use Rattle.pit_model.specs.declared.ranges.TheConstants.{MAX_ZONES};
+ghost use Rattle.run_threads.specs.Reading.{AreRead};
+ghost use Rattle.valuers.specs.Valuing.{items_by};
 
 use crate::collecting::collect;
 use crate::instance_building::instance_of;
-use crate::reading::require_read;
+use crate::read_answers::require_read;
 use crate::refusal::Refusal;
 use crate::settings::{Settings, require_settings};
 use lane::Gathered;
@@ -20,6 +24,7 @@ use pit_model::destination::Destination;
 use pit_model::plan::Plan;
 use run_threads::{HandedOver, hand_over};
 use std::alloc::Global;
+use std::snapshot::Snapshot;
 use std::sync::Wait;
 use std::thread::Threads;
 use valuers::Gate;
@@ -56,41 +61,17 @@ pub fn compile<R: Threads + Wait + Sync, F: Feed + Send + Drop, G: Gate + Sync>(
     gate: &G,
 ) -> Result<Compiled, Refusal>
     ensures settings { (kind : ASettingsFault) → (result ≡ Err (Refusal.Settings kind))
-        ↔ IsSettingsFault plan.now (length feeds.items) (formulas_of destinations.now) settings kind }
+        ↔ IsSettingsFault plan.now (length feeds.items) (formulas_of destinations.now)
+        settings kind }
     ensures done { IfOk result (IsCompiled plan.now (map F.left feeds.items) settings.valuers) }
     ensures valid { IfOk result (λ compiled. IsValid compiled.instance) }
-    ensures refused { IfErr result (IsNotCompiled plan.now (map F.left feeds.items) (map F.is_sure feeds.items)) }
+    ensures refused { IfErr result
+        (IsNotCompiled plan.now (map F.left feeds.items) (map F.is_sure feeds.items)) }
     ensures budget { IfOk result (λ _. settings.valuers + length feeds.items ≤ starts) }
 {
     require_settings(feeds.len(), plan, destinations, settings)?;
-    fitting(rt, alloc, feeds, plan, destinations, settings, starts, gate)
-}
-
-// The same where the settings fit the plan.
-fn fitting<R: Threads + Wait + Sync, F: Feed + Send + Drop, G: Gate + Sync>(
-    rt: &R,
-    alloc: Global,
-    feeds: Vec<F>,
-    plan: &Plan,
-    destinations: &[Destination],
-    settings: Settings,
-    starts: u32,
-    gate: &G,
-) -> Result<Compiled, Refusal>
-    requires { Suits plan.now (length feeds.items) (formulas_of destinations.now) settings }
-    ensures settings { (kind : ASettingsFault) → result ≢ Err (Refusal.Settings kind) }
-    ensures done { IfOk result (IsCompiled plan.now (map F.left feeds.items) settings.valuers) }
-    ensures valid { IfOk result (λ compiled. IsValid compiled.instance) }
-    ensures refused { IfErr result (IsNotCompiled plan.now (map F.left feeds.items) (map F.is_sure feeds.items)) }
-    ensures budget { IfOk result (λ _. settings.valuers + length feeds.items ≤ starts) }
-{
-    zone_files();
-    let HandedOver {
-        gathered,
-        items,
-        memory,
-        answers,
-    } = hand_over(
+    let given = Snapshot::of(&feeds);
+    let handed = hand_over(
         rt,
         alloc,
         feeds,
@@ -101,6 +82,39 @@ fn fitting<R: Threads + Wait + Sync, F: Feed + Send + Drop, G: Gate + Sync>(
         starts,
         gate,
     )?;
+    compiled_of(alloc, plan, given, handed)
+}
+
+// What is compiled of what the threads handed over. Of `_feeds`, which the readers were given, only the contract speaks.
+fn compiled_of<F: Feed>(
+    alloc: Global,
+    plan: &Plan,
+    _feeds: Snapshot<Vec<F>>,
+    handed: HandedOver,
+) -> Result<Compiled, Refusal>
+    requires files { length _feeds.value.items ≡ length plan.now.cones }
+    requires few { length plan.now.cones ≤ MAX_ZONES }
+    requires whole { IsWhole handed.gathered }
+    requires read { AreRead plan.now.grid 0
+        (map F.left _feeds.value.items) (map F.is_sure _feeds.value.items)
+        handed.answers.items handed.gathered.sent }
+    requires valued { IsFalse handed.memory
+        → handed.items.items ≡ map (items_by (formulas_of_plan plan.now)) handed.gathered.took }
+    ensures settings { (kind : ASettingsFault) → result ≢ Err (Refusal.Settings kind) }
+    ensures done { IfOk result
+        (IsCompiled plan.now (map F.left _feeds.value.items) (length handed.gathered.took)) }
+    ensures valid { IfOk result (λ made. IsValid made.instance) }
+    ensures refused { IfErr result
+        (IsNotCompiled plan.now (map F.left _feeds.value.items)
+        (map F.is_sure _feeds.value.items)) }
+{
+    zone_files();
+    let HandedOver {
+        gathered,
+        items,
+        memory,
+        answers,
+    } = handed;
     require_read(answers.as_slice())?;
     if memory {
         return Err(Refusal::OutOfMemory);

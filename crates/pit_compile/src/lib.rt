@@ -5,13 +5,13 @@ mod collecting;
 mod compiling;
 mod instance_building;
 mod numbered;
-mod reading;
+mod read_answers;
 pub mod refusal;
 mod running;
 pub mod settings;
+mod sink_writing;
 pub mod sinks;
-mod writing;
 
 pub use compiling::{Compiled, compile};
 pub use running::{MOST_STARTS, run, run_limited};
-pub use writing::write_texts;
+pub use sink_writing::write_texts;

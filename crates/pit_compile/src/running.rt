@@ -10,8 +10,8 @@ ghost use Rattle.pit_model.specs.Destinations.{formulas_of};
 use crate::compiling::{Compiled, compile};
 use crate::refusal::Refusal;
 use crate::settings::Settings;
+use crate::sink_writing::write_texts;
 use crate::sinks::Sinks;
-use crate::writing::write_texts;
 use lane::Gathered;
 use minelib_text::sink::Sink;
 use pit_model::destination::Destination;
@@ -46,11 +46,14 @@ pub fn run<R: Threads + Wait + Sync, F: Feed + Send + Drop, G: Gate + Sync, S: S
     sinks: &mut Sinks<S>,
 ) -> Result<Gathered, Refusal>
     ensures settings { (kind : ASettingsFault) → (result ≡ Err (Refusal.Settings kind))
-        ↔ IsSettingsFault plan.now (length feeds.items) (formulas_of destinations.now) settings kind }
+        ↔ IsSettingsFault plan.now (length feeds.items) (formulas_of destinations.now)
+        settings kind }
     ensures done { let told = all_told S.state in
-        IfOk result (IsDone plan.now (map F.left feeds.items) settings.valuers (told sinks.old) (told sinks.new)) }
+        IfOk result (IsDone plan.now (map F.left feeds.items) settings.valuers
+        (told sinks.old) (told sinks.new)) }
     ensures refused { let told = all_told S.state in
-        IfErr result (IsRefused plan.now (map F.left feeds.items) (map F.is_sure feeds.items) (told sinks.old) (told sinks.new)) }
+        IfErr result (IsRefused plan.now (map F.left feeds.items) (map F.is_sure feeds.items)
+        (told sinks.old) (told sinks.new)) }
     ensures budget { IfOk result (λ _. settings.valuers + length feeds.items ≤ 128) }
 {
     run_limited(
@@ -79,11 +82,14 @@ pub fn run_limited<R: Threads + Wait + Sync, F: Feed + Send + Drop, G: Gate + Sy
     sinks: &mut Sinks<S>,
 ) -> Result<Gathered, Refusal>
     ensures settings { (kind : ASettingsFault) → (result ≡ Err (Refusal.Settings kind))
-        ↔ IsSettingsFault plan.now (length feeds.items) (formulas_of destinations.now) settings kind }
+        ↔ IsSettingsFault plan.now (length feeds.items) (formulas_of destinations.now)
+        settings kind }
     ensures done { let told = all_told S.state in
-        IfOk result (IsDone plan.now (map F.left feeds.items) settings.valuers (told sinks.old) (told sinks.new)) }
+        IfOk result (IsDone plan.now (map F.left feeds.items) settings.valuers
+        (told sinks.old) (told sinks.new)) }
     ensures refused { let told = all_told S.state in
-        IfErr result (IsRefused plan.now (map F.left feeds.items) (map F.is_sure feeds.items) (told sinks.old) (told sinks.new)) }
+        IfErr result (IsRefused plan.now (map F.left feeds.items) (map F.is_sure feeds.items)
+        (told sinks.old) (told sinks.new)) }
     ensures budget { IfOk result (λ _. settings.valuers + length feeds.items ≤ starts) }
 {
     let Compiled {

@@ -58,8 +58,10 @@ pub fn require_settings(
     settings: Settings,
 ) -> Result<(), SettingsFault>
     ensures fit { OnOk result (Suits plan.now files (formulas_of destinations.now) settings) }
-    ensures refused { IfErr result (IsSettingsFault plan.now files (formulas_of destinations.now) settings) }
-    ensures exact { (kind : ASettingsFault) → (result ≡ Err kind) ↔ IsSettingsFault plan.now files (formulas_of destinations.now) settings kind }
+    ensures refused { IfErr result
+        (IsSettingsFault plan.now files (formulas_of destinations.now) settings) }
+    ensures exact { (kind : ASettingsFault) → (result ≡ Err kind)
+        ↔ IsSettingsFault plan.now files (formulas_of destinations.now) settings kind }
 {
     suits(files, plan, destinations, settings)
 }
@@ -72,7 +74,8 @@ fn suits(
     settings: Settings,
 ) -> Result<(), SettingsFault>
     ensures fit { OnOk result (Suits plan.now files (formulas_of destinations.now) settings) }
-    ensures refused { IfErr result (IsSettingsFault plan.now files (formulas_of destinations.now) settings) }
+    ensures refused { IfErr result
+        (IsSettingsFault plan.now files (formulas_of destinations.now) settings) }
 {
     if files != plan.cones().len() {
         return Err(SettingsFault::Files);

@@ -1,8 +1,7 @@
-use Rattle.std.proofs.Common.{◌≡◌, ◌∙◌, sym, ap, subst, length, List, IfOk}
+use Rattle.std.proofs.Common.{◌∙◌, sym, ap, length}
 use Rattle.pit_compile.proofs.Collected.{FoundIsHeld, to-add, is-added, collected}
 use Rattle.pit_compile.proofs.collecting.collect.Goals as goal
 use Rattle.pit_model.specs.Destinations.{formulas_of_plan}
-use Rattle.valuers.specs.declared.item.Valued.{Valued}
 
 pub add_lists-requires : goal.add_lists-requires
 add_lists-requires c =
@@ -22,6 +21,7 @@ pub returns : goal.returns
 returns c =
     let given = c.requires in
     let found : FoundIsHeld = record { row = c.found_is_held.ensures.row; end = c.found_is_held.ensures.end } in
-    c.new-2.ensures ∙ collected found (formulas_of_plan c.args.plan.now) c.args._gathered.now c.args.items.items _ c.in_ok-collector.collector
+    c.new-2.ensures ∙ collected found (formulas_of_plan c.args.plan.now) c.args._gathered.now c.args.items.items _
+    c.in_ok-collector.collector
     c.add_lists.new.collector c.in_ok-lists.lists.items given.whole given.handed
     (given.files ∙ ap length (sym c.cones.ensures.value)) c.in_ok-collector.ensures c.in_ok-add_lists.ensures c.in_ok-lists.ensures

@@ -21,7 +21,8 @@ returns-in_err-write_texts-clause-settings g c =
     λ kind. (
       λ e.
           let is : c.in_err-write_texts.field-0.0 ≡ Settings kind = cc (p.1, p.2, e) in
-          absurd (cut_is_not_settings (minelib_texts c.in_ok-gathered.field-0.instance) (all_told state c.args.sinks.now) (all_told state c.write_texts.new.sinks)
+          absurd (cut_is_not_settings (minelib_texts c.in_ok-gathered.field-0.instance) (all_told state c.args.sinks.now)
+          (all_told state c.write_texts.new.sinks)
           c.in_err-write_texts.field-0.0 kind c.in_err-write_texts.ensures.refused is),
       λ h. absurd (cc ((c.in_ok-gathered.ensures.settings kind).1 h)),
     )
@@ -32,7 +33,8 @@ returns-in_err-write_texts-clause-refused g c =
     let state = g.S.Sink.state in
     let lefts = map g.F.Feed.left c.args.feeds.items in
     let sures = map g.F.Feed.is_sure c.args.feeds.items in
-    rw (p.1, p.2) (cut_off c.args.plan.now lefts sures c.args.settings.valuers (all_told state c.args.sinks.now) (all_told state c.write_texts.new.sinks)
+    rw (p.1, p.2) (cut_off c.args.plan.now lefts sures c.args.settings.valuers (all_told state c.args.sinks.now)
+    (all_told state c.write_texts.new.sinks)
     c.in_ok-gathered.field-0 c.in_err-write_texts.field-0.0 c.in_ok-gathered.ensures.done c.in_err-write_texts.ensures.refused)
 
 pub returns-clause-settings : goal.returns-clause-settings
@@ -48,6 +50,7 @@ returns-clause-done g c =
       given = done.given;
       accepted = done.accepted;
       passed = done.passed;
-      written = subst (λ (i : Instance). AreWritten (minelib_texts i) (all_told state c.args.sinks.now) (all_told state c.write_texts.new.sinks)) done.instance_is
+      written = subst (λ (i : Instance). AreWritten (minelib_texts i) (all_told state c.args.sinks.now)
+          (all_told state c.write_texts.new.sinks)) done.instance_is
           c.in_ok-write_texts.ensures.written;
     }
