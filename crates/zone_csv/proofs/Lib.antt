@@ -1,4 +1,3 @@
-pub mod BlockFacts
 pub mod CellFacts
 pub mod CentroidFacts
 pub mod Giving

@@ -7,11 +7,12 @@ use Rattle.forms.proofs.ShapeFacts.{IsAnswer, said_answers, states_said, fails_s
 use Rattle.forms.specs.Demands.{Demand, FailsFirst}
 use Rattle.forms.specs.Form.{Value, Millionths, Bytes, Says, Spell, asked, millionths}
 use Rattle.forms.specs.Shape.{Check, Fails, Shape, States, failing}
+use Rattle.pit_model.specs.Block.{block_with}
 use Rattle.pit_model.specs.declared.block.Block.{Block}
 use Rattle.pit_model.specs.declared.grid.Axis.{Axis}
 use Rattle.pit_model.specs.declared.grid.Grid.{Grid}
 use Rattle.pit_units.proofs.Multiples.{stands_multiple}
-use Rattle.zone_csv.proofs.BlockFacts.{block_again}
+use Rattle.pit_model.proofs.BlockFacts.{block_again}
 use Rattle.zone_csv.proofs.CentroidFacts.{centroid_index, index_is_centroid}
 use Rattle.zone_csv.specs.Cell.{centroid, coordinate, grade, index_at, tonnes}
 use Rattle.zone_csv.specs.Row.{block_of, row_of, row_shape, values_of}
@@ -70,6 +71,7 @@ module _ (grid : Grid) (zone : ℕ) (columns : Columns) (number : ℕ) (cells : 
       by false rest fault few e = absurd cc
 
   pub zone_of_row : (b : Block) → States shape b → b.zone ≡ min zone 63
+  unfolding block_with
   zone_of_row b states = ap (λ (c : Block). c.zone) states.is
 
   pub fault_of_row : (fault : RowFault) → Fails shape fault → fault.row ≡ number
@@ -113,12 +115,13 @@ module _ (grid : Grid) (zone : ℕ) (sx : 0 < grid.x.size) (sy : 0 < grid.y.size
   block_back : (b : Block) → b.zone ≡ zone → b ≡ block_of grid zone (values_of grid b)
   block_back b own =
       let kg : b.kg * 1000 / 1000 ≡ b.kg = mul-div_left b.kg (omega arith) in
-      block_again b ∙ rw (own, centroid_index grid.x sx b.x, centroid_index grid.y sy b.y, centroid_index grid.z sz b.z, kg) refl
+      sym (block_again b) ∙ rw (own, centroid_index grid.x sx b.x, centroid_index grid.y sy b.y, centroid_index grid.z sz b.z, kg) refl
 
   -- values that are spelled are those of the block that they state
   values_back : (cx cy cz ct cg : List ℕ) (values : List Value)
       → Spell (coordinate grid.x ∷ coordinate grid.y ∷ coordinate grid.z ∷ tonnes ∷ grade ∷ []) (cx ∷ cy ∷ cz ∷ ct ∷ cg ∷ []) values
       → values ≡ values_of grid (block_of grid zone values)
+  unfolding block_with
   values_back cx cy cz ct cg [] spelled = absurd spelled
   values_back cx cy cz ct cg (x ∷ []) spelled = absurd spelled.1
   values_back cx cy cz ct cg (x ∷ y ∷ []) spelled = absurd spelled.1.1

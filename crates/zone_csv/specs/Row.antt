@@ -1,9 +1,8 @@
 -- What a row of a zone file looks like, and what it then says: a block, or its first fault.
-use Rattle.std.specs.Prelude.{ℕ, ◌*◌, ◌/◌, ◌+◌, ◌-◌, ◌==◌, min, nat_le, List, [], ◌∷◌, ◌++◌, length, map, slice_index_or, pos, unsigned_abs, Result}
-use Rattle.std.proofs.Common.{lit<}
-use Rattle.std.proofs.Math.Nat.{lt_of_le_of_lt, min-le_right}
+use Rattle.std.specs.Prelude.{ℕ, ◌*◌, ◌/◌, ◌+◌, ◌==◌, nat_le, List, [], ◌∷◌, ◌++◌, length, map, slice_index_or, pos, unsigned_abs, Result}
 use Rattle.forms.specs.Form.{Value, Millionths, number_at}
 use Rattle.forms.specs.Shape.{Shape, check, said}
+use Rattle.pit_model.specs.Block.{block_with}
 use Rattle.pit_model.specs.declared.block.Block.{Block}
 use Rattle.pit_model.specs.declared.grid.Grid.{Grid}
 use Rattle.zone_csv.specs.Cell.{a_fault, cell_at, centroid, coordinate, grade, index_at, of_cell, tonnes}
@@ -12,30 +11,13 @@ use Rattle.zone_csv.specs.declared.row_fault.Column.{Column}
 use Rattle.zone_csv.specs.declared.row_fault.Column.TheVariants as column
 use Rattle.zone_csv.specs.declared.row_fault.RowFault.{RowFault}
 use Rattle.zone_csv.specs.declared.row_fault.RowFaultKind.TheVariants.{Width, TooManyRows}
-use Rattle.pit_model.specs.declared.ranges.TheConstants.{GRID_CELLS, MAX_GRADE, MAX_KG, MAX_ROWS, MAX_ZONES}
-
--- the block of these numbers; one above its range, which no row of a plan states, counts as the greatest
-abbrev pub block_with : (zone x y z kg grade : ℕ) → Block
-block_with zone x y z kg grade = record {
-  x = min x (GRID_CELLS - 1);
-  y = min y (GRID_CELLS - 1);
-  z = min z (GRID_CELLS - 1);
-  kg = min kg MAX_KG;
-  grade = min grade MAX_GRADE;
-  zone = min zone (MAX_ZONES - 1);
-  x_in_grid = lt_of_le_of_lt (min-le_right x (GRID_CELLS - 1)) (lit< tt);
-  y_in_grid = lt_of_le_of_lt (min-le_right y (GRID_CELLS - 1)) (lit< tt);
-  z_in_grid = lt_of_le_of_lt (min-le_right z (GRID_CELLS - 1)) (lit< tt);
-  kg_in_range = min-le_right kg MAX_KG;
-  grade_in_range = min-le_right grade MAX_GRADE;
-  zone_in_range = lt_of_le_of_lt (min-le_right zone (MAX_ZONES - 1)) (lit< tt);
-}
+use Rattle.pit_model.specs.declared.ranges.TheConstants.{MAX_ROWS}
 
 -- the block that the values of a row state: kilograms are thousandths of a tonne
 abbrev pub block_of : Grid → ℕ → List Value → Block
 block_of grid zone values =
-    block_with zone (index_at grid.x (number_at values 0)) (index_at grid.y (number_at values 1)) (index_at grid.z (number_at values 2))
-    (unsigned_abs (number_at values 3) / 1000) (unsigned_abs (number_at values 4))
+    block_with (index_at grid.x (number_at values 0)) (index_at grid.y (number_at values 1)) (index_at grid.z (number_at values 2))
+    (unsigned_abs (number_at values 3) / 1000) (unsigned_abs (number_at values 4)) zone
 
 -- the values that state a block
 abbrev pub values_of : Grid → Block → List Value

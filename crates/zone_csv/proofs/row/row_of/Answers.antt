@@ -1,7 +1,7 @@
 use Rattle.std.proofs.Common.{rules, ◌≡◌, true, nat_le, length, Ok, ap, sym, ◌∙◌}
 use Rattle.std.proofs.lemmas.Bool.{eq-eqb}
 use Rattle.csv.specs.Records.{fields_of}
-use Rattle.zone_csv.proofs.BlockFacts.{block_again}
+use Rattle.pit_model.proofs.BlockFacts.{block_again}
 use Rattle.zone_csv.specs.Row.{row_of}
 use Rattle.zone_csv.proofs.row.row_of.Goals as goal
 
@@ -26,4 +26,4 @@ returns-clause-value c =
       sym c.index_at.ensures.value,
       sym c.index_at-2.ensures.value,
       sym c.index_at-3.ensures.value,
-    ) (ap Ok (block_again _))
+    ) (ap Ok (sym (block_again _)))
