@@ -1,5 +1,5 @@
 -- Whatever is read of a model file, some lines behind it complete it.
-use Rattle.std.specs.Prelude.{◌≡◌, ◌≢◌, ℕ, zero, suc, ◌+◌, ◌<◌, ◌≤◌, ◌-◌, true, false, not, List, [], ◌∷◌, ◌++◌, length, ℤ, pos, is_some, Ok, All, codes}
+use Rattle.std.specs.Prelude.{◌≡◌, ◌≢◌, ℕ, zero, suc, ◌+◌, ◌<◌, ◌≤◌, ◌-◌, true, false, List, [], ◌∷◌, ◌++◌, length, ℤ, pos, is_some, Ok, All, codes}
 use Rattle.std.specs.List.{Contains}
 use Rattle.std.proofs.Common.{refl, sym, ◌∙◌, ap, subst, arith, length-append, eq-eqb, inl, inr}
 use Rattle.std.proofs.lemmas.Bool.{cases_Bool}
@@ -8,9 +8,9 @@ use Rattle.std.proofs.lemmas.List.Elements.{All-nil, All-cons}
 use Rattle.minelib_text.specs.Kept.{IsDecimal}
 use Rattle.minelib_text.specs.Lines.{line_of}
 use Rattle.minelib_text.specs.HeaderKeys.{header_keys, with_key, count_in, is_given, is_complete}
-use Rattle.minelib_text.specs.ModelLines.{ModelDraftView, blank_model, is_limits, admit_model}
-use Rattle.minelib_text.specs.Reading.{read_lines}
-use Rattle.minelib_text.specs.SpelledModel.{has_key}
+use Rattle.minelib_text.specs.ModelLines.{ModelDraftView, blank_header, is_whole, model_grammar}
+use Rattle.minelib_text.specs.ModelParts.{admit_model}
+use Rattle.forms.specs.Grammar.{AllState}
 use Rattle.minelib_text.specs.TextLines.{Line}
 use Rattle.minelib_text.specs.Written.{value_fields}
 use Rattle.minelib_text.specs.declared.model_key.Header.{Header}
@@ -20,42 +20,35 @@ use Rattle.minelib_text.specs.declared.model_key.Problem.{Problem}
 use Rattle.minelib_text.specs.declared.model_key.Problem.TheVariants.{Pcpsp, Cpit}
 use Rattle.minelib_text.specs.declared.model_key.Section.{Section}
 use Rattle.minelib_text.specs.declared.model_key.Section.TheVariants.{Heading, Objective, Coefs, Limits}
-use Rattle.minelib_text.proofs.HeaderFacts.{each_with, each_key, all_given, contains_cases, first_given}
+use Rattle.minelib_text.proofs.HeaderFacts.{each_with, each_key, all_given, contains_cases}
 use Rattle.minelib_text.proofs.ItemsBack.{values_again, values_fields}
 use Rattle.minelib_text.proofs.KeysBack.{IsStep, heading, in_all, section_step, word_field, name_step, type_step, blocks_step, periods_step, destinations_step, resources_step, general_step, rate_step}
-use Rattle.minelib_text.proofs.ModelBack.{item_line}
-use Rattle.minelib_text.proofs.ModelReady.{Ready, model_ready}
-use Rattle.minelib_text.proofs.SpelledBack.{next_line}
+use Rattle.minelib_text.proofs.ModelBack.{item_admitted}
+use Rattle.minelib_text.proofs.ModelShapes.{admitted_states, values_takes}
 use Rattle.minelib_text.proofs.ValidHeader.{KeepsOwn}
-use Rattle.minelib_text.proofs.ValidModel.{model_kept}
+use Rattle.minelib_text.proofs.ValidModel.{KeepsModel, Ready}
 
 -- some lines behind what was read make it whole
 pub record Completes (d : ModelDraftView) : Type 0 where
   pub rest : List Line
   pub last : ModelDraftView
-  pub read : read_lines admit_model d rest ≡ Ok last
-  pub complete : is_complete last.header ≡ true
-  pub all_values : length last.values ≡ last.blocks
-  pub end : is_limits last.section ≡ true
+  pub states : (number : ℕ) → AllState model_grammar number d rest last
+  pub whole : is_whole last ≡ true
 
 then_complete : (s t : ModelDraftView) (line : List ℕ) → admit_model s line ≡ Ok t → Completes t → Completes s
-then_complete s t line e c =
-    let first : Line = record { number = 0; text = line } in
-    record {
-      rest = first ∷ c.rest;
-      last = c.last;
-      read = next_line admit_model s t first c.rest e ∙ c.read;
-      complete = c.complete;
-      all_values = c.all_values;
-      end = c.end;
-    }
+then_complete s t line e c = record {
+  rest = record { number = 0; text = line } ∷ c.rest;
+  last = c.last;
+  states = λ number. (t, admitted_states s line t e, c.states (suc number));
+  whole = c.whole;
+}
 
 abbrev in_section : Section → ModelDraftView → ModelDraftView
 in_section section d = record d { section = section }
 
 from_limits : (d : ModelDraftView) → is_complete d.header ≡ true → length d.values ≡ d.blocks → Completes (in_section Limits d)
 from_limits d complete all =
-    record { rest = []; last = in_section Limits d; read = refl; complete = complete; all_values = all; end = refl }
+    record { rest = []; last = in_section Limits d; states = λ number. refl; whole = rw (complete, eq-eqb (length d.values) d.blocks all) refl }
 
 from_coefs : (d : ModelDraftView) → is_complete d.header ≡ true → length d.values ≡ d.blocks → Completes (in_section Coefs d)
 from_coefs d complete all =
@@ -94,7 +87,8 @@ values_left (suc k) d complete count few =
     let fields = values_fields (length d.values) vs (omega arith) (zeros_kept destinations) in
     let next : ModelDraftView = record d { values = d.values ++ vs ∷ [] } in
     then_complete (in_section Objective d) (in_section Objective next) (line_of (value_fields (length d.values) vs))
-    (item_line (in_section Objective d) (value_fields (length d.values) vs) fields
+    (item_admitted (in_section Objective d) (value_fields (length d.values) vs) fields
+    ∙ values_takes (in_section Objective d) (value_fields (length d.values) vs)
     ∙ rw (values_again d.blocks destinations (length d.values) vs few place (zeros_count destinations) (zeros_kept destinations)) refl)
     (values_left k next complete (omega (arith, length-append d.values (vs ∷ []))) few)
 
@@ -113,8 +107,9 @@ by_step : (p : Problem) (n : ℕ) (k : HeaderKey) (name after : List ℕ) (h : H
     → IsStep (heading p n name h) line (heading p n after (with_key h k number)) → Gives p n k name h
 by_step p n k name after h line number s = record { line = line; after = after; number = number; step = s.admitted }
 
-gives : (p : Problem) (n : ℕ) (k : HeaderKey) (name : List ℕ) (h : Header) → n ≤ 64000000 → has_key p k ≡ true → is_given k h ≡ false
+gives : (p : Problem) (n : ℕ) (k : HeaderKey) (name : List ℕ) (h : Header) → n ≤ 64000000 → is_given k (blank_header p) ≡ false → is_given k h ≡ false
     → Gives p n k name h
+unfolding with_key
 gives p n key.Name name h few has new = by_step p n key.Name name _ h _ _ (name_step p n h name (codes "X") refl new)
 gives p n key.Type name h few has new = by_step p n key.Type name _ h _ _ (type_step p n h name new)
 gives p n key.Blocks name h few has new = by_step p n key.Blocks name _ h _ _ (blocks_step p n h name few new)
@@ -139,7 +134,7 @@ from_header p n name h few complete =
 
 -- what a header lacks are keys of the problem, and among these
 abbrev Lacks : Problem → List HeaderKey → Header → Type 0
-Lacks p keys h = (k : HeaderKey) → is_given k h ≡ false → (has_key p k ≡ true) × Contains keys k
+Lacks p keys h = (k : HeaderKey) → is_given k h ≡ false → (is_given k (blank_header p) ≡ false) × Contains keys k
 
 fill : (p : Problem) (n : ℕ) (keys : List HeaderKey) (name : List ℕ) (h : Header) → n ≤ 64000000 → Lacks p keys h → Completes (heading p n name h)
 fill p n [] name h few lacks = from_header p n name h few (all_given h (λ k. elim (cases_Bool (is_given k h)) [
@@ -152,10 +147,10 @@ fill p n (k ∷ keys) name h few lacks = elim (cases_Bool (is_given k h)) [
   | inr new ↦
       let g = gives p n k name h few (lacks k new).0 new in
       then_complete _ _ _ g.step (fill p n keys g.after (with_key h k g.number) few
-      (each_with (λ j found. is_some found ≡ false → (has_key p j ≡ true) × Contains keys j) h k g.number (λ given. absurd cc) later))
+      (each_with (λ j found. is_some found ≡ false → (is_given j (blank_header p) ≡ false) × Contains keys j) h k g.number (λ given. absurd cc) later))
 ]
   where
-    later : (j : HeaderKey) → k ≢ j → is_given j h ≡ false → (has_key p j ≡ true) × Contains keys j
+    later : (j : HeaderKey) → k ≢ j → is_given j h ≡ false → (is_given j (blank_header p) ≡ false) × Contains keys j
     later j differ new =
         let lack = lacks j new in
         let c = lack.1 in
@@ -163,9 +158,9 @@ fill p n (k ∷ keys) name h few lacks = elim (cases_Bool (is_given k h)) [
 
 from_heading : (p : Problem) (n : ℕ) (name : List ℕ) (h : Header) → n ≤ 64000000 → KeepsOwn p h → Completes (heading p n name h)
 from_heading p n name h few own = fill p n header_keys name h few (λ k new. (
-  elim (cases_Bool (has_key p k)) [
-    | inl has ↦ has
-    | inr none ↦ let given = first_given p k ∙ ap not none in let same = own k none in absurd cc
+  elim (cases_Bool (is_given k (blank_header p))) [
+    | inl given ↦ (let was : is_given k h ≡ true = ap is_some (own k given) ∙ given in absurd cc)
+    | inr none ↦ none
   ],
   each_key k,
 ))
@@ -179,9 +174,7 @@ from_section Objective d ready few own = from_objective d ready.0 ready.1 few
 from_section Coefs d ready few own = from_coefs d ready.0 ready.1
 from_section Limits d ready few own = from_limits d ready.0 ready.1
 
-pub completed : (problem : Problem) (n : ℕ) (lines : List Line) (d : ModelDraftView) → n ≤ 64000000
-    → read_lines admit_model (blank_model problem n) lines ≡ Ok d → Completes d
-completed problem n lines d few e =
-    let kept = model_kept problem n lines d e in
-    from_section d.section d (model_ready problem n lines d e) (subst (λ k. k ≤ 64000000) (sym kept.of_blocks) few)
+pub completed : (problem : Problem) (n : ℕ) (d : ModelDraftView) → n ≤ 64000000 → KeepsModel problem n d → Completes d
+completed problem n d few kept =
+    from_section d.section d kept.ready (subst (λ k. k ≤ 64000000) (sym kept.of_blocks) few)
     (subst (λ p. KeepsOwn p d.header) (sym kept.of_problem) kept.header.own)

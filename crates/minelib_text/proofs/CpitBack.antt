@@ -12,7 +12,6 @@ use Rattle.minelib_text.specs.Denotes.{cpit_denoted}
 use Rattle.minelib_text.specs.Kept.{IsDecimal, IsKeptCpit}
 use Rattle.minelib_text.specs.Lines.{line_of, lines_from}
 use Rattle.minelib_text.specs.ModelLines.{model_in}
-use Rattle.minelib_text.specs.StatedModel.{alone}
 use Rattle.minelib_text.specs.LineValues.{at_only_destination}
 use Rattle.minelib_text.specs.Written.{text_cpit, coef_fields, value_fields}
 use Rattle.minelib_text.specs.declared.model_key.Problem.TheVariants.{Cpit}
@@ -26,11 +25,15 @@ lines_from-map : {A B : Type 0} (fields : ℕ → B → List (List ℕ)) (f : A 
 lines_from-map fields f n [] = refl
 lines_from-map fields f n (x ∷ xs) = ap (λ lines. line_of (fields n (f x)) ∷ lines) (lines_from-map fields f (n + 1) xs)
 
-pub values_joined : (vs : List ℤ) → flat_map (λ values. values) (map alone vs) ≡ vs
+-- a value as those of the only destination
+abbrev alone : ℤ → List ℤ
+alone v = v ∷ []
+
+values_joined : (vs : List ℤ) → flat_map (λ values. values) (map alone vs) ≡ vs
 values_joined [] = refl
 values_joined (v ∷ vs) = ap (λ rest. v ∷ rest) (values_joined vs)
 
-pub coefs_without : (cs : List CpitCoef) → map without_destination (map at_only_destination cs) ≡ cs
+coefs_without : (cs : List CpitCoef) → map without_destination (map at_only_destination cs) ≡ cs
 coefs_without [] = refl
 coefs_without (c ∷ cs) = ap (λ rest. c ∷ rest) (coefs_without cs)
 

@@ -1,31 +1,23 @@
 -- A faulty line of a model file is the first behind which nothing makes it a model.
-use Rattle.std.specs.Prelude.{◌≡◌, ℕ, ◌≤◌, ◌==◌, ◌&&◌, Bool, true, false, List, [], ◌∷◌, ◌++◌, length, Result, Ok, Err, ◌⊎◌, if◌then◌else◌}
+use Rattle.std.specs.Prelude.{◌≡◌, ℕ, suc, ◌≤◌, Bool, true, false, List, [], ◌∷◌, ◌++◌, Result, Ok, Err, ◌⊎◌, if◌then◌else◌}
 use Rattle.std.proofs.Common.{refl, sym, ◌∙◌, ap, subst, inl, inr, append_assoc}
-use Rattle.forms.proofs.DemandFacts.{Follows}
-use Rattle.forms.specs.Demands.{FailsFirst}
+use Rattle.forms.proofs.GrammarFacts.{all_read, fault_read, read_all_states, read_first_fault}
+use Rattle.forms.specs.Grammar.{AllState, IsFirstFault, read_all}
+use Rattle.forms.specs.Shape.{Fails}
 use Rattle.forms.specs.Steps.{◌>>=◌}
-use Rattle.minelib_text.specs.BegunModel.{BeginModel, IsFirstSpoiled, EndsEarly}
-use Rattle.minelib_text.specs.ModelDemands.{asked_of_model, HasKind}
-use Rattle.minelib_text.specs.HeaderKeys.{is_complete}
-use Rattle.minelib_text.specs.ModelLines.{ModelDraftView, blank_model, is_limits, admit_model, finish_model, model_in}
-use Rattle.minelib_text.specs.Reading.{at_line, read_lines}
-use Rattle.minelib_text.specs.SpelledModel.{AreModelLines}
-use Rattle.minelib_text.specs.StatedModel.{StatedModel, stated_by}
+use Rattle.minelib_text.specs.ModelLines.{ModelDraftView, blank_model, finish_model, is_whole, model_grammar, model_in, model_line}
+use Rattle.minelib_text.specs.SpelledModel.{BeginModel, EndsEarly, IsFirstSpoiled}
 use Rattle.minelib_text.specs.TextLines.{Line, lines_in, end_of}
 use Rattle.minelib_text.specs.declared.model_key.Problem.{Problem}
 use Rattle.minelib_text.specs.declared.text_fault.LineFault.{LineFault}
 use Rattle.minelib_text.specs.declared.text_fault.TextKind.{TextKind}
 use Rattle.minelib_text.specs.declared.text_fault.TextKind.TheVariants.{Missing}
 use Rattle.minelib_text.proofs.Completed.{completed}
-use Rattle.minelib_text.proofs.ModelTold.{model_told}
-use Rattle.minelib_text.proofs.SpelledBack.{next_line}
-use Rattle.minelib_text.proofs.SpelledModelBack.{lines_then, lines_back, model_back}
-use Rattle.minelib_text.proofs.SpelledModelRead.{lines_so_far, lines_spelled}
-use Rattle.minelib_text.proofs.ValidHeader.{own}
-use Rattle.minelib_text.proofs.ValidModel.{model_kept}
+use Rattle.minelib_text.proofs.ModelShapes.{all_fine}
 use Rattle.minelib_text.proofs.ReadSteps.{err_same}
+use Rattle.minelib_text.proofs.ValidModel.{model_kept}
 
--- where lines are refused
+-- where lines fail
 record Stops (s : ModelDraftView) (lines : List Line) (fault : LineFault) : Type 0 where
   pub before : List Line
   pub bad : Line
@@ -33,125 +25,117 @@ record Stops (s : ModelDraftView) (lines : List Line) (fault : LineFault) : Type
   pub cut : lines ≡ before ++ bad ∷ behind
   pub place : fault.line ≡ bad.number
   pub state : ModelDraftView
-  pub read : read_lines admit_model s before ≡ Ok state
+  pub states : (number : ℕ) → AllState model_grammar number s before state
   pub kind : TextKind
-  pub refused : admit_model state bad.text ≡ Err kind
-  pub same_kind : fault.kind ≡ kind
+  pub fails : Fails (model_line state bad.text) kind
 
-stops : (s : ModelDraftView) (lines : List Line) (fault : LineFault) → read_lines admit_model s lines ≡ Err fault → Stops s lines fault
-stops s [] fault e = absurd cc
-stops s (line ∷ lines) fault e = by (λ next h. stops next lines fault h) (admit_model s line.text) refl e
-  where
-    by : ((next : ModelDraftView) → read_lines admit_model next lines ≡ Err fault → Stops next lines fault)
-        → (r : Result ModelDraftView TextKind) → admit_model s line.text ≡ r
-        → (at_line line.number r >>= λ next. read_lines admit_model next lines) ≡ Err fault → Stops s (line ∷ lines) fault
-    by deeper (Ok next) is h =
-        let more = deeper next h in
-        record {
-          before = line ∷ more.before;
-          bad = more.bad;
-          behind = more.behind;
-          cut = ap (λ l. line ∷ l) more.cut;
-          place = more.place;
-          state = more.state;
-          read = next_line admit_model s next line more.before is ∙ more.read;
-          kind = more.kind;
-          refused = more.refused;
-          same_kind = more.same_kind;
-        }
-    by deeper (Err kind) is h =
-        let same : record { line = line.number; kind = kind } ≡ fault = err_same {B = ModelDraftView} (record { line = line.number; kind = kind }) fault h in
-        record {
-          before = [];
-          bad = line;
-          behind = lines;
-          cut = refl;
-          place = sym (ap (λ (f : LineFault). f.line) same);
-          state = s;
-          read = refl;
-          kind = kind;
-          refused = is;
-          same_kind = sym (ap (λ (f : LineFault). f.kind) same);
-        }
+stops : (number : ℕ) (s : ModelDraftView) (lines : List Line) (fault : LineFault) → IsFirstFault model_grammar number s lines fault → Stops s lines fault
+stops number s [] fault first = absurd first
+stops number s (line ∷ lines) fault (inl (kind, fails, is)) = record {
+  before = [];
+  bad = line;
+  behind = lines;
+  cut = refl;
+  place = ap (λ (f : LineFault). f.line) is;
+  state = s;
+  states = λ number. refl;
+  kind = kind;
+  fails = fails;
+}
+stops number s (line ∷ lines) fault (inr (next, states, more)) =
+    let deeper = stops (suc number) next lines fault more in
+    record {
+      before = line ∷ deeper.before;
+      bad = deeper.bad;
+      behind = deeper.behind;
+      cut = ap (λ l. line ∷ l) deeper.cut;
+      place = deeper.place;
+      state = deeper.state;
+      states = λ number. (next, states, deeper.states (suc number));
+      kind = deeper.kind;
+      fails = deeper.fails;
+    }
 
--- lines that are read begin a model
-begins : (problem : Problem) (n : ℕ) (lines : List Line) (d : ModelDraftView) → n ≤ 64000000 → read_lines admit_model (blank_model problem n) lines ≡ Ok d
-    → BeginModel problem n lines
-begins problem n lines d few e =
-    let c = completed problem n lines d few e in (
-      c.rest,
-      stated_by c.last,
-      lines_spelled problem n (lines ++ c.rest) c.last (lines_then (blank_model problem n) d lines c.rest e ∙ c.read)
-          c.complete c.all_values c.end,
-    )
+-- lines, and then more
+joined : (number : ℕ) (s t u : ModelDraftView) (lines more : List Line) → AllState model_grammar number s lines t
+    → ((number : ℕ) → AllState model_grammar number t more u) → AllState model_grammar number s (lines ++ more) u
+joined number s t u [] more all behind = subst (λ state. AllState model_grammar number state more u) all (behind number)
+joined number s t u (line ∷ lines) more (next, states, all) behind = (next, states, joined (suc number) next t u lines more all behind)
 
--- a line that is refused begins none
+-- and then one that fails
+failing_behind : (number : ℕ) (s t : ModelDraftView) (lines : List Line) (bad : Line) (more : List Line) (kind : TextKind)
+    → AllState model_grammar number s lines t → Fails (model_line t bad.text) kind
+    → IsFirstFault model_grammar number s (lines ++ bad ∷ more) (record { line = bad.number; kind = kind })
+failing_behind number s t [] bad more kind all fails = inl (kind, subst (λ state. Fails (model_line state bad.text) kind) all fails, refl)
+failing_behind number s t (line ∷ lines) bad more kind (next, states, all) fails =
+    inr (next, states, failing_behind (suc number) next t lines bad more kind all fails)
+
+-- lines that state something begin a model
+begins : (problem : Problem) (n : ℕ) (lines : List Line) (d : ModelDraftView) → n ≤ 64000000
+    → AllState model_grammar 1 (blank_model problem n) lines d → BeginModel problem n lines
+begins problem n lines d few all =
+    let c = completed problem n d few (model_kept problem n 1 lines d all) in
+    (c.rest, c.last, (joined 1 (blank_model problem n) d c.last lines c.rest all c.states, c.whole))
+
+-- a line that fails begins none
 spoils : (problem : Problem) (n : ℕ) (before : List Line) (bad : Line) (d : ModelDraftView) (kind : TextKind)
-    → read_lines admit_model (blank_model problem n) before ≡ Ok d → admit_model d bad.text ≡ Err kind → ¬ (BeginModel problem n (before ++ bad ∷ []))
-spoils problem n before bad d kind e refused (rest, m, are) =
-    let whole = lines_back problem n m ((before ++ bad ∷ []) ++ rest) are in
-    let cut = ap (read_lines admit_model (blank_model problem n)) (append_assoc before (bad ∷ []) rest) in
-    let fails = lines_then (blank_model problem n) d before (bad ∷ rest) e
-    ∙ ap (λ r. at_line bad.number r >>= λ next. read_lines admit_model next rest) refused in
-    absurd (not_both _ _ _ whole (cut ∙ fails))
+    → AllState model_grammar 1 (blank_model problem n) before d → Fails (model_line d bad.text) kind → ¬ (BeginModel problem n (before ++ bad ∷ []))
+spoils problem n before bad d kind all fails (rest, last, (states, whole)) =
+    let lines = append_assoc before (bad ∷ []) rest in
+    let read = all_read model_grammar 1 (blank_model problem n) ((before ++ bad ∷ []) ++ rest) last all_fine states in
+    let fault = fault_read model_grammar 1 (blank_model problem n) (before ++ bad ∷ rest) _ all_fine
+    (failing_behind 1 (blank_model problem n) d before bad rest kind all fails) in
+    absurd (not_both _ last _ read (ap (read_all model_grammar 1 (blank_model problem n)) lines ∙ fault))
   where
     not_both : (r : Result ModelDraftView LineFault) (last : ModelDraftView) (fault : LineFault) → r ≡ Ok last → r ≡ Err fault → ⊥
     not_both r last fault a b = cc
 
--- the kind of a line that is refused
-kinds : (problem : Problem) (n : ℕ) (lines : List Line) (fault : LineFault) → Stops (blank_model problem n) lines fault → HasKind problem n lines fault
-kinds problem n lines fault stop =
-    let kept = model_kept problem n stop.before stop.state stop.read in
-    let told = subst (λ r. Follows r (asked_of_model stop.state stop.bad.text) (λ d. Unit {0})) stop.refused (model_told stop.state stop.bad.text) in
-    record {
-      before = stop.before;
-      bad = stop.bad;
-      behind = stop.behind;
-      cut = stop.cut;
-      place = stop.place;
-      so_far = stop.state;
-      spelled = (kept.of_problem, kept.of_blocks, own problem stop.state.header kept.header.own, lines_so_far problem n stop.before stop.state stop.read);
-      fails = subst (FailsFirst (asked_of_model stop.state stop.bad.text)) (sym stop.same_kind) told;
-    }
+one_ok : (r : Result ModelDraftView LineFault) (x y : ModelDraftView) → r ≡ Ok x → r ≡ Ok y → x ≡ y
+one_ok r x y a b = cc
 
 pub bad_model : (problem : Problem) (n : ℕ) (text : List ℕ) (fault : LineFault) → n ≤ 64000000 → model_in problem n text ≡ Err fault
-    → (IsFirstSpoiled problem n (lines_in text) fault.line × HasKind problem n (lines_in text) fault) ⊎ EndsEarly problem n text fault
-bad_model problem n text fault few e = by (read_lines admit_model (blank_model problem n) (lines_in text)) refl e
+    → (IsFirstFault model_grammar 1 (blank_model problem n) (lines_in text) fault × IsFirstSpoiled problem n (lines_in text) fault.line)
+    ⊎ EndsEarly problem n text fault
+bad_model problem n text fault few e = by (read_all model_grammar 1 (blank_model problem n) (lines_in text)) refl e
   where
-    no_model : (m : StatedModel) → ¬ (AreModelLines problem n (lines_in text) m)
-    no_model m are = let back = model_back problem n text m are in let read = back.1 in absurd cc
-
-    ends : (t : Bool) (d : ModelDraftView) → (if t then Ok d else Err (record { line = end_of text; kind = Missing })) ≡ Err fault
-        → BeginModel problem n (lines_in text) → EndsEarly problem n text fault
-    ends true d e begun = absurd cc
-    ends false d e begun =
+    ends : (t : Bool) (d : ModelDraftView) → is_whole d ≡ t → read_all model_grammar 1 (blank_model problem n) (lines_in text) ≡ Ok d
+        → (if t then Ok d else Err (record { line = end_of text; kind = Missing })) ≡ Err fault → EndsEarly problem n text fault
+    ends true d lacks read e = absurd cc
+    ends false d lacks read e =
         let same : record { line = end_of text; kind = Missing } ≡ fault =
         err_same {B = ModelDraftView} (record { line = end_of text; kind = Missing }) fault e in
         record {
           place = sym (ap (λ (f : LineFault). f.line) same);
           kind = sym (ap (λ (f : LineFault). f.kind) same);
-          begun = begun;
-          no_model = no_model;
+          begun = begins problem n (lines_in text) d few
+              (read_all_states model_grammar 1 (blank_model problem n) (lines_in text) d all_fine read);
+          no_model = λ last are. other last (all_read model_grammar 1 (blank_model problem n) (lines_in text) last all_fine are.0) are.1;
         }
+      where
+        other : (last : ModelDraftView) → read_all model_grammar 1 (blank_model problem n) (lines_in text) ≡ Ok last → is_whole last ≡ true → ⊥
+        other last again whole =
+            let same : last ≡ d = one_ok _ last d again read in
+            let lacks_too : is_whole last ≡ false = ap (λ d. is_whole d) same ∙ lacks in
+            cc
 
-    by : (r : Result ModelDraftView LineFault) → read_lines admit_model (blank_model problem n) (lines_in text) ≡ r
+    by : (r : Result ModelDraftView LineFault) → read_all model_grammar 1 (blank_model problem n) (lines_in text) ≡ r
         → (r >>= finish_model (end_of text)) ≡ Err fault
-        → (IsFirstSpoiled problem n (lines_in text) fault.line × HasKind problem n (lines_in text) fault) ⊎ EndsEarly problem n text fault
-    by (Ok d) is h =
-        inr (ends (is_complete d.header && (length d.values == d.blocks) && is_limits d.section) d h (begins problem n (lines_in text) d few is))
+        → (IsFirstFault model_grammar 1 (blank_model problem n) (lines_in text) fault × IsFirstSpoiled problem n (lines_in text) fault.line)
+        ⊎ EndsEarly problem n text fault
+    by (Ok d) is h = inr (ends (is_whole d) d refl is h)
     by (Err f) is h =
         let same = err_same {B = ModelDraftView} f fault h in
-        let stop : Stops (blank_model problem n) (lines_in text) fault =
-        subst (Stops (blank_model problem n) (lines_in text)) same (stops (blank_model problem n) (lines_in text) f is) in
+        let first = read_first_fault model_grammar 1 (blank_model problem n) (lines_in text) fault all_fine (is ∙ ap Err same) in
+        let stop = stops 1 (blank_model problem n) (lines_in text) fault first in
         inl (
+          first,
           record {
             before = stop.before;
             bad = stop.bad;
             behind = stop.behind;
             cut = stop.cut;
             place = stop.place;
-            begun = begins problem n stop.before stop.state few stop.read;
-            spoiled = spoils problem n stop.before stop.bad stop.state stop.kind stop.read stop.refused;
+            begun = begins problem n stop.before stop.state few (stop.states 1);
+            spoiled = spoils problem n stop.before stop.bad stop.state stop.kind (stop.states 1) stop.fails;
           },
-          kinds problem n (lines_in text) fault stop,
         )

@@ -1,18 +1,19 @@
 -- Decimals of any size and fields of words, beside whole numbers: which values fit them, and that a line of them is of plain fields.
-use Rattle.std.specs.Prelude.{◌≡◌, ℕ, ◌*◌, ◌/◌, ◌%◌, ◌-◌, ◌^◌, ◌<◌, true, false, not, ◌&&◌, List, [], ◌∷◌, ℤ, pos, negsuc, ◌≤ℤ◌, int_le, unsigned_abs, Result, Ok, Err, if◌then◌else◌}
+use Rattle.std.specs.Prelude.{◌≡◌, ℕ, zero, suc, ◌/◌, ◌-◌, ◌^◌, ◌<◌, ◌≤◌, length, slice_index_or, true, false, not, ◌&&◌, List, [], ◌∷◌, ℤ, pos, negsuc, ◌≤ℤ◌, int_le, unsigned_abs, Result, Ok, Err, if◌then◌else◌}
 use Rattle.std.specs.List.{list_all, list_any}
-use Rattle.std.proofs.Common.{refl, ap, arith}
+use Rattle.std.proofs.Common.{refl, sym, subst, arith}
 use Rattle.std.proofs.lemmas.Int.{ints}
 use Rattle.pit_units.proofs.Standing.{read_stands}
 use Rattle.pit_units.specs.Decimal.{decimal_of}
 use Rattle.pit_units.specs.declared.fault.DecFault.{DecFault}
 use Rattle.pit_units.specs.declared.fault.DecFault.TheVariants as dec
-use Rattle.forms.proofs.FormFacts.{true_le}
-use Rattle.forms.specs.Form.{Field, Decimal, Stepped, Word, Value, Millionths, Bytes, FitsField, Fit, Spell, below, millionths, number_of, whole, written}
+use Rattle.forms.proofs.FormFacts.{read_spelled, true_le}
+use Rattle.forms.proofs.NumberFields.{quotient, whole_found}
+use Rattle.forms.specs.Form.{Field, Decimal, Stepped, Word, Value, Millionths, Bytes, FitsField, Fit, Spell, below, millionths, number_of, is_fine, read, whole, written}
 use Rattle.forms.specs.Steps.{◌>>=◌}
 use Rattle.minelib_text.specs.FieldValues.{decimal_in, stated}
 use Rattle.minelib_text.specs.Kept.{IsDecimal}
-use Rattle.minelib_text.specs.LineKinds.{text_kind}
+use Rattle.minelib_text.specs.LineKinds.{text_kind, text_kinds}
 use Rattle.minelib_text.specs.ModelLines.{is_colon}
 use Rattle.minelib_text.specs.declared.text_fault.TextKind.TheVariants.{Range}
 use Rattle.minelib_text.proofs.FieldSteps.{ReadsField}
@@ -32,22 +33,26 @@ highest (negsuc m) small = omega (arith, ints)
 pub any_fits : (z : ℤ) → IsDecimal z → FitsField any (Millionths z)
 any_fits z small = (lowest z small, highest z small, small, omega arith)
 
--- a value that fits is that of its number
-pub any_there : (value : Value) → FitsField any value → value ≡ Millionths (millionths value)
-any_there (Millionths m) fits = refl
-any_there (Bytes word) fits = absurd fits
+-- the number of a value that fits
+pub number_there : (decimals low high : ℕ) (value : Value) → FitsField (Decimal decimals (pos low) (pos high)) value
+    → (low ≤ unsigned_abs (millionths value)) × (unsigned_abs (millionths value) ≤ high)
+number_there decimals low high (Millionths (pos m)) fits = (omega (arith, ints, fits.0), omega (arith, ints, fits.1))
+number_there decimals low high (Millionths (negsuc m)) fits = absurd (omega (arith, ints, fits.0))
+number_there decimals low high (Bytes word) fits = absurd fits
 
-pub whole_there : (low : ℕ) (high : ℤ) (value : Value) → FitsField (Decimal 0 (pos low) high) value
-    → value ≡ whole (unsigned_abs (millionths value) / 10 ^ 6)
-whole_there low high (Millionths (pos m)) fits =
-    let coarse : m % 10 ^ 6 ≡ 0 = fits.3 in
-    let same : m ≡ m / 10 ^ 6 * 10 ^ 6 = omega arith in
-    ap (λ k. Millionths (pos k)) same
-whole_there low high (Millionths (negsuc m)) fits = absurd (omega (arith, ints, fits.0))
-whole_there low high (Bytes word) fits = absurd fits
+pub below_there : (limit : ℕ) (value : Value) → FitsField (below limit) value → unsigned_abs (millionths value) / 10 ^ 6 < limit
+below_there limit value fits =
+    let found = whole_found limit value fits in
+    let low : unsigned_abs (millionths (whole found.n)) / 10 ^ 6 < limit = rw (quotient found.n) found.low in
+    subst (λ v. unsigned_abs (millionths v) / 10 ^ 6 < limit) (sym found.is) low
 
-pub whole_low : (limit n : ℕ) → FitsField (below limit) (whole n) → n < limit
-whole_low limit n fits = omega (arith, ints, fits.1)
+-- the value at a place fits the field there
+pub fit_at : (form : List Field) (values : List Value) (place : ℕ) (none : Field) → place < length form → Fit form values
+    → FitsField (slice_index_or form place none) (slice_index_or values place (Bytes []))
+fit_at [] values place none inside fit = absurd (omega (arith, inside))
+fit_at (field ∷ form) [] place none inside fit = absurd fit
+fit_at (field ∷ form) (value ∷ values) zero none inside fit = fit.0
+fit_at (field ∷ form) (value ∷ values) (suc place) none inside fit = fit_at form values place none (omega (arith, inside)) fit.1
 
 pub any_reads : ReadsField any decimal_in Millionths
 unfolding decimal_in
@@ -89,6 +94,10 @@ spelled_keyless (Stepped decimals step low high ∷ form) (text ∷ fields) (Byt
 spelled_keyless (Word passes ∷ form) (text ∷ fields) (Millionths m ∷ values) plain spell = absurd spell.0
 spelled_keyless (Word passes ∷ form) (text ∷ fields) (Bytes word ∷ values) plain spell =
     rw (plain_keyless text (plain.0 text spell.0.1).bytes, spelled_keyless form fields values plain.1 spell.1) refl
+
+pub read_keyless : (form : List Field) (fields : List (List ℕ)) (values : List Value) → is_fine form ≡ true → ArePlain form
+    → read text_kinds form fields ≡ Ok values → have_colon fields ≡ false
+read_keyless form fields values fine plain e = spelled_keyless form fields values plain (read_spelled text_kinds form fields values fine e)
 
 -- and what is written of values that fit it is of fields
 pub written_fields : (form : List Field) (values : List Value) → ArePlain form → Fit form values → EachField (written values)

@@ -1,8 +1,7 @@
 -- What a header has once a key with a number was added to it, key by key.
-use Rattle.std.specs.Prelude.{◌≡◌, ◌≢◌, ℕ, zero, suc, ◌<◌, ◌==◌, ◌⊎◌, Bool, true, false, not, List, ◌∷◌, length, map, Option, Some, None, is_some, unwrap_or, slice_index_or, if◌then◌else◌}
+use Rattle.std.specs.Prelude.{◌≡◌, ◌≢◌, ℕ, zero, suc, ◌<◌, ◌==◌, ◌⊎◌, Bool, true, false, List, ◌∷◌, length, map, Option, Some, None, is_some, unwrap_or, slice_index_or, if◌then◌else◌}
 use Rattle.std.specs.List.{Contains, list_all, range_with_len}
 use Rattle.std.proofs.Common.{refl, sym, ◌∙◌, ap, subst, arith, inl, inr, eq-eqb, set, get_or}
-use Rattle.std.proofs.Math.Path.{fun_ext}
 use Rattle.std.proofs.lemmas.Bool.{eqb-true}
 use Rattle.std.proofs.lemmas.List.Elements.{All-contains}
 use Rattle.std.proofs.lemmas.List.FromFn.{fill_by_all}
@@ -10,7 +9,6 @@ use Rattle.std.proofs.lemmas.List.Sums.{AllPass-from_list_all, list_all-from_All
 use Rattle.minelib_text.specs.HeaderKeys.{header_keys, place, number_of, with_key, count_in, is_given, is_complete}
 use Rattle.minelib_text.specs.ModelLines.{blank_header}
 use Rattle.minelib_text.specs.ModelParts.{number_limit}
-use Rattle.minelib_text.specs.SpelledModel.{has_key}
 use Rattle.minelib_text.specs.declared.model_key.Header.{Header}
 use Rattle.minelib_text.specs.declared.model_key.HeaderKey.{HeaderKey}
 use Rattle.minelib_text.specs.declared.model_key.HeaderKey.TheVariants as key
@@ -56,10 +54,6 @@ each_with P h k n here others j = subst (P j) (sym (entry h k n j)) (by (place j
     by false e = others j (λ same.
         (let there : (place j == place k) ≡ true = eq-eqb (place j) (place k) (ap (λ i. place i) (sym same)) in absurd cc))
 
--- the number that was added
-pub with_same : (h : Header) (k : HeaderKey) (n : ℕ) → number_of (with_key h k n) k ≡ Some n
-with_same h k n = each_with (λ j number. k ≡ j → number ≡ Some n) h k n (λ _. refl) (λ j other same. absurd (other same)) k refl
-
 -- numbers below the limits of their keys
 pub numbers_below : (h : Header) (k : HeaderKey) (n : ℕ) → n < number_limit k → ((j : HeaderKey) → count_in h j < number_limit j)
     → (j : HeaderKey) → count_in (with_key h k n) j < number_limit j
@@ -102,29 +96,6 @@ each_given h all k =
 
 pub all_given : (h : Header) → ((k : HeaderKey) → is_given k h ≡ true) → is_complete h ≡ true
 all_given h all = list_all-from_AllPass (λ k. is_given k h) header_keys (λ i d inside. all (get_or header_keys i d))
-
--- a header that keeps a number for each key is the same as another that keeps the same
-abbrev pub IsWhole : Header → Type 0
-IsWhole h = record { numbers = map (number_of h) header_keys } ≡ h
-
-pub whole_with : (h : Header) (k : HeaderKey) (n : ℕ) → IsWhole (with_key h k n)
-unfolding with_key
-whole_with h k n = refl
-
-pub whole_blank : (problem : Problem) → IsWhole (blank_header problem)
-unfolding with_key
-whole_blank Pcpsp = refl
-whole_blank Cpit = refl
-
-pub same_header : (h g : Header) → IsWhole h → IsWhole g → ((k : HeaderKey) → number_of h k ≡ number_of g k) → h ≡ g
-same_header h g whole_h whole_g same =
-    sym whole_h ∙ ap (λ (f : HeaderKey → Option ℕ). record { numbers = map f header_keys }) (fun_ext same) ∙ whole_g
-
--- before the first line just the keys that the problem's files do not have are given
-pub first_given : (problem : Problem) (k : HeaderKey) → is_given k (blank_header problem) ≡ not (has_key problem k)
-unfolding with_key
-first_given Pcpsp = of_keys (λ k. is_given k (blank_header Pcpsp) ≡ not (has_key Pcpsp k)) refl refl refl refl refl refl refl refl
-first_given Cpit = of_keys (λ k. is_given k (blank_header Cpit) ≡ not (has_key Cpit k)) refl refl refl refl refl refl refl refl
 
 pub contains_cases : (k : HeaderKey) (keys : List HeaderKey) (j : HeaderKey) (i : ℕ) → i < length (k ∷ keys) → slice_index_or (k ∷ keys) i j ≡ j
     → (k ≡ j) ⊎ Contains keys j

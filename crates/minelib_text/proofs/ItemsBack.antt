@@ -1,31 +1,35 @@
 -- The items of a model file's sections are read as they are written.
-use Rattle.std.proofs.Common.{◌≡◌, ℕ, ◌<◌, ◌≤◌, List, [], length, ℤ, arith, refl}
-use Rattle.std.specs.Prelude.{decimal, Ok, All, false, slice_index_or, codes}
+use Rattle.std.proofs.Common.{◌≡◌, ℕ, ◌<◌, ◌≤◌, List, [], length, ℤ, arith, refl, ◌∙◌, ap, eq-eqb}
+use Rattle.std.specs.Prelude.{decimal, Ok, All, slice_index_or, codes}
 use Rattle.std.specs.Str.{bytes_eq}
-use Rattle.pit_model.specs.Plan.{is_turned}
-use Rattle.forms.proofs.FormFacts.{spell_written}
+use Rattle.forms.proofs.FormFacts.{written_read}
+use Rattle.forms.proofs.NumberFields.{quotient}
 use Rattle.forms.specs.Form.{Fit}
+use Rattle.forms.specs.Steps.{◌>>=◌}
 use Rattle.pit_model.specs.declared.limit.Limit.{Limit}
 use Rattle.mine_instance.specs.declared.coef.Coef.{Coef}
 use Rattle.minelib_text.specs.Kept.{IsDecimal, HasDecimals}
-use Rattle.minelib_text.specs.ModelLines.{values_of, coef_of, limit_of}
-use Rattle.minelib_text.specs.SpelledItems.{HasDestination, coef_form, limit_form, values_form}
+use Rattle.minelib_text.specs.ItemForms.{coef_form, coef_said, limit_form, limit_said, values_form}
+use Rattle.minelib_text.specs.LineKinds.{text_kinds}
+use Rattle.minelib_text.specs.ModelParts.{values_of, values_said, coef_of, limit_of}
 use Rattle.minelib_text.specs.LineValues.{coef_values, limit_values, values_values}
 use Rattle.minelib_text.specs.Written.{value_fields, coef_fields, limit_fields}
 use Rattle.minelib_text.specs.declared.model_key.Problem.{Problem}
 use Rattle.minelib_text.specs.declared.model_key.Problem.TheVariants.{Pcpsp, Cpit}
-use Rattle.minelib_text.proofs.CoefLineFacts.{coef_back, coef_fine, coef_fits, coef_plain}
+use Rattle.minelib_text.proofs.CoefLineFacts.{HasDestination, coef_fine, coef_fits, coef_plain, said_again as coef_said_again}
 use Rattle.minelib_text.proofs.FormFields.{written_fields}
 use Rattle.minelib_text.proofs.PlainText.{AreFields}
-use Rattle.minelib_text.proofs.ValuesLineFacts.{many_fine, many_plain, values_back, values_fits}
-use Rattle.minelib_text.proofs.LimitLineFacts.{bound_plain, limit_back, limit_fine, limit_fits}
+use Rattle.minelib_text.proofs.ValuesLineFacts.{many_again, many_fine, many_plain, values_fits}
+use Rattle.minelib_text.proofs.LimitLineFacts.{bound_plain, limit_fine, limit_fits, said_again as limit_said_again}
 
 pub values_again : (n destinations before : ℕ) (values : List ℤ) → n ≤ 64000000 → before < n → length values ≡ destinations → All IsDecimal values
     → values_of n destinations before (value_fields before values) ≡ Ok values
+unfolding values_of
 values_again n destinations before values few below as_many h =
-    values_back n destinations before (value_fields before values) values
-    (spell_written (values_form n destinations) (values_values before values) (many_fine destinations)
+    ap (λ r. r >>= values_said before)
+    (written_read text_kinds (values_form n destinations) (values_values before values) (many_fine destinations)
     (values_fits n destinations before values (omega arith) below as_many h))
+    ∙ rw (quotient before, eq-eqb before before refl, many_again values) refl
 
 pub values_fields : (before : ℕ) (values : List ℤ) → before < 64000000 → All IsDecimal values → AreFields (value_fields before values)
 values_fields before values few h = record {
@@ -50,10 +54,12 @@ coef_fit Cpit n destinations resources c few count small h decimal =
 
 pub coef_again : (p : Problem) (n destinations resources k : ℕ) (c : Coef) → n ≤ 64000000 → IsCount p destinations → resources ≤ 8
     → (c.b < n) × (c.d < destinations) × (c.r < resources) → IsDecimal c.v → coef_of p n destinations resources (coef_fields p k c) ≡ Ok c
+unfolding coef_of
 coef_again p n destinations resources k c few count small h decimal =
     let fit = coef_fit p n destinations resources c few count small h decimal in
-    coef_back p n destinations resources (coef_fields p k c) c
-    (spell_written (coef_form p n destinations resources) (coef_values p c) (coef_fine p n destinations resources) fit.0, fit.1)
+    ap (λ r. r >>= λ values. Ok (coef_said p values))
+    (written_read text_kinds (coef_form p n destinations resources) (coef_values p c) (coef_fine p n destinations resources) fit.0)
+    ∙ ap Ok (coef_said_again p c fit.1)
 
 pub coefs_fields : (p : Problem) (n destinations resources k : ℕ) (c : Coef) → n ≤ 64000000 → IsCount p destinations → resources ≤ 8
     → (c.b < n) × (c.d < destinations) × (c.r < resources) → IsDecimal c.v → AreFields (coef_fields p k c)
@@ -68,13 +74,13 @@ coefs_fields p n destinations resources k c few count small h decimal = record {
     some Cpit = omega arith
 
 pub limit_again : (resources periods : ℕ) (l : Limit) (n : ℕ) → resources ≤ 8 → periods ≤ 100 → l.resource < resources → l.period < periods
-    → is_turned l.bound ≡ false → HasDecimals l.bound → limit_of resources periods (limit_fields n l) ≡ Ok l
-limit_again resources periods l n few short low_r low_t straight h =
-    limit_back resources periods (limit_fields n l) l (
-      spell_written (limit_form resources periods (limit_fields n l)) (limit_values l) (limit_fine resources periods (limit_fields n l))
-          (limit_fits n resources periods l (omega arith) (omega arith) low_r low_t h),
-      straight,
-    )
+    → HasDecimals l.bound → limit_of resources periods (limit_fields n l) ≡ Ok l
+unfolding limit_of
+limit_again resources periods l n few short low_r low_t h =
+    ap (λ r. r >>= λ values. Ok (limit_said values))
+    (written_read text_kinds (limit_form resources periods (limit_fields n l)) (limit_values l) (limit_fine resources periods (limit_fields n l))
+    (limit_fits n resources periods l (omega arith) (omega arith) low_r low_t h))
+    ∙ ap Ok (limit_said_again l.resource l.period l.bound)
 
 pub limits_fields : (n resources periods : ℕ) (l : Limit) → resources ≤ 8 → periods ≤ 100 → l.resource < resources → l.period < periods
     → HasDecimals l.bound → AreFields (limit_fields n l)

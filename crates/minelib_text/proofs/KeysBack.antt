@@ -1,6 +1,6 @@
 -- The key lines of a model file are read as they are written.
 use Rattle.std.proofs.Common.{◌≡◌, ℕ, ◌+◌, ◌^◌, ◌≤◌, true, false, List, [], ◌∷◌, ◌++◌, length, drop, ℤ, pos, negsuc, ◌≤ℤ◌, arith, refl, ◌∙◌, ap, sym, subst, eq-eqb}
-use Rattle.std.specs.Prelude.{unsigned_abs, decimal, Some, Ok, codes}
+use Rattle.std.specs.Prelude.{◌*◌, unsigned_abs, decimal, Some, None, Ok, codes}
 use Rattle.std.specs.List.{list_all, list_any, position_or_len}
 use Rattle.std.proofs.lemmas.Bool.{and_parts, or_right}
 use Rattle.std.proofs.lemmas.Fmt.{decimal_digit}
@@ -13,8 +13,11 @@ use Rattle.mine_instance.specs.declared.coef.Coef.{Coef}
 use Rattle.pit_model.specs.declared.limit.Limit.{Limit}
 use Rattle.pit_model.specs.declared.ranges.TheConstants.{MAX_BLOCKS, MAX_DESTINATIONS, MAX_PERIODS, MAX_RESOURCES}
 use Rattle.minelib_text.specs.HeaderKeys.{is_given, with_key}
-use Rattle.minelib_text.specs.KeyFields.{number_in, type_text}
-use Rattle.minelib_text.specs.ModelLines.{ModelDraftView, is_colon, key_in, is_next, is_ready, name_with, admit_key, admit_model, blank_model}
+use Rattle.minelib_text.specs.ItemForms.{bytes_in}
+use Rattle.minelib_text.specs.KeyFields.{field_of, number_said, type_text}
+use Rattle.minelib_text.specs.LineKinds.{text_kinds}
+use Rattle.minelib_text.specs.ModelLines.{ModelDraftView, blank_model, header_line, is_colon, is_counted, is_next, is_ready, key_in, keyed_line, name_with}
+use Rattle.minelib_text.specs.ModelParts.{admit_model, takes}
 use Rattle.minelib_text.specs.TextLines.{fields_of}
 use Rattle.minelib_text.specs.Written.{key_line, problem_keys, pcpsp_keys, cpit_keys}
 use Rattle.minelib_text.specs.declared.model_key.Header.{Header}
@@ -27,8 +30,12 @@ use Rattle.minelib_text.specs.declared.model_key.Problem.TheVariants.{Pcpsp, Cpi
 use Rattle.minelib_text.specs.declared.model_key.Section.{Section}
 use Rattle.minelib_text.specs.declared.model_key.Section.TheVariants.{Heading}
 use Rattle.forms.proofs.NumberFields.{quotient, size_fits, whole_fits}
-use Rattle.forms.specs.Form.{Millionths}
-use Rattle.minelib_text.proofs.KeyFacts.{count_again, counted_fits, key_again}
+use Rattle.forms.proofs.FormFacts.{written_read}
+use Rattle.forms.specs.Form.{Value, Bytes, Millionths, FitsField, whole, written_value}
+use Rattle.forms.specs.Shape.{failing}
+use Rattle.pit_model.specs.PlanCells.{between}
+use Rattle.pit_units.proofs.Written.{whole_written}
+use Rattle.minelib_text.proofs.ModelShapes.{field_fine, section_takes}
 use Rattle.minelib_text.proofs.LinesBack.{AdmitsAll, admits_both}
 use Rattle.minelib_text.proofs.NumbersBack.{decimal_field, whole_field, name_field}
 use Rattle.minelib_text.proofs.PlainText.{is_plain, is_inner, plain_inner, plain_no_colon, all_weaker, all_parts, first_read, IsField, IsLine, fields_again}
@@ -59,7 +66,7 @@ only_field word h = fields_again (word ∷ []) (record { some = omega arith; eac
 
 -- a key line is that of its word, and says what is behind the colon
 key_admitted : (d : ModelDraftView) (word rest : List ℕ) → IsField word
-    → admit_model d (word ++ 58 ∷ rest) ≡ admit_key d (key_in d.problem word) (fields_of rest)
+    → admit_model d (word ++ 58 ∷ rest) ≡ takes (keyed_line d (key_in d.problem word) (fields_of rest))
 unfolding admit_model
 key_admitted d word rest h =
     rw (
@@ -97,21 +104,46 @@ draft p n name h section values coefs limits = record {
 abbrev pub heading : Problem → ℕ → List ℕ → Header → ModelDraftView
 heading p n name h = draft p n name h Heading [] [] []
 
--- a header line is read where its key is new and its value states a number
-header_step : (p : Problem) (n : ℕ) (name word value : List ℕ) (k : HeaderKey) (h : Header) (number : ℕ) → IsField word → IsField value
-    → key_in p word ≡ Some (model_key.Header k) → is_given k h ≡ false → number_in p n k value ≡ Ok number
-    → IsStep (heading p n name h) (word ++ 58 ∷ 32 ∷ value) (heading p n (name_with k value name) (with_key h k number))
-header_step p n name word value k h number is_word is_value is_key fresh states = record {
-  is_line = key_is_line word (32 ∷ value) is_word (all_weaker is_plain is_inner plain_inner value is_value.bytes);
-  admitted = rw (key_admitted (heading p n name h) word (32 ∷ value) is_word, is_key, only_field value is_value, fresh, states) refl;
+-- a header line is read where its key is new and the field has room for its value
+header_step : (p : Problem) (n : ℕ) (name word : List ℕ) (value : Value) (k : HeaderKey) (h : Header) → IsField word → IsField (written_value value)
+    → key_in p word ≡ Some (model_key.Header k) → is_given k h ≡ false → FitsField (field_of p k) value → failing (is_counted k n value) ≡ None
+    → IsStep (heading p n name h) (word ++ 58 ∷ 32 ∷ written_value value)
+    (heading p n (name_with k (bytes_in value) name) (with_key h k (number_said k value)))
+unfolding takes header_line
+header_step p n name word value k h is_word is_value is_key fresh fits counted = record {
+  is_line = key_is_line word (32 ∷ written_value value) is_word (all_weaker is_plain is_inner plain_inner (written_value value) is_value.bytes);
+  admitted = rw (
+    key_admitted (heading p n name h) word (32 ∷ written_value value) is_word,
+    is_key,
+    only_field (written_value value) is_value,
+    fresh,
+    written_read text_kinds (field_of p k ∷ []) (value ∷ []) (field_fine p k) (fits, tt),
+    counted,
+  ) refl;
 }
+
+-- of a whole number
+counted_step : (p : Problem) (n : ℕ) (name word : List ℕ) (count number : ℕ) (k : HeaderKey) (h : Header) → IsField word → count ≤ 10 ^ 18
+    → key_in p word ≡ Some (model_key.Header k) → is_given k h ≡ false → FitsField (field_of p k) (whole count)
+    → failing (is_counted k n (whole count)) ≡ None → number_said k (whole count) ≡ number
+    → IsStep (heading p n name h) (word ++ 58 ∷ 32 ∷ decimal count) (heading p n (name_with k [] name) (with_key h k number))
+counted_step p n name word count number k h is_word few is_key fresh fits counted is =
+    subst (λ text. IsStep (heading p n name h) (word ++ 58 ∷ 32 ∷ text) (heading p n (name_with k [] name) (with_key h k number))) (whole_written count)
+    (subst (λ m. IsStep (heading p n name h) (word ++ 58 ∷ 32 ∷ shortest (pos (count * 10 ^ 6))) (heading p n (name_with k [] name) (with_key h k m))) is
+    (header_step p n name word (whole count) k h is_word (subst IsField (sym (whole_written count)) (whole_field count few)) is_key fresh fits counted))
+
+counted_fits : (low high n : ℕ) → low ≤ n → n ≤ high → high ≤ 10 ^ 18 → FitsField (between low high) (whole n)
+counted_fits low high n from to small =
+    let least : pos (low * 10 ^ 6) ≤ℤ pos (n * 10 ^ 6) = omega (arith, ints, from) in
+    let most : pos (n * 10 ^ 6) ≤ℤ pos (high * 10 ^ 6) = omega (arith, ints, to) in
+    (least, most, omega (arith, to, small), omega arith)
 
 -- a line of a section's key is read where the section is the next and what has to stand before it does
 pub section_step : (d : ModelDraftView) (word : List ℕ) (section : Section) → IsField word → key_in d.problem word ≡ Some (model_key.Section section)
     → is_next d.section section ≡ true → is_ready d d.section ≡ true → IsStep d (word ++ 58 ∷ []) (record d { section = section })
 section_step d word section is_word is_key next ready = record {
   is_line = key_is_line word [] is_word refl;
-  admitted = rw (key_admitted d word [] is_word, is_key, next, ready) refl;
+  admitted = rw (key_admitted d word [] is_word, is_key, section_takes d section [], next, ready) refl;
 }
 
 -- a key of all problems
@@ -122,58 +154,50 @@ in_all Cpit word k h i = i
 pub name_step : (p : Problem) (n : ℕ) (h : Header) (old name : List ℕ) → is_name name ≡ true → is_given key.Name h ≡ false
     → IsStep (heading p n old h) (key_line (codes "NAME:") name) (heading p n name (with_key h key.Name 0))
 name_step p n h old name is fresh =
-    header_step p n old (codes "NAME") name key.Name h 0 (word_field _ _ refl) (name_field name is) (in_all p _ _ refl refl) fresh (rw is refl)
+    header_step p n old (codes "NAME") (Bytes name) key.Name h (word_field _ _ refl) (name_field name is) (in_all p _ _ refl refl) fresh is refl
 
 pub type_step : (p : Problem) (n : ℕ) (h : Header) (name : List ℕ) → is_given key.Type h ≡ false
     → IsStep (heading p n name h) (key_line (codes "TYPE:") (type_text p)) (heading p n name (with_key h key.Type 0))
 type_step Pcpsp n h name fresh =
-    header_step Pcpsp n name (codes "TYPE") (codes "PCPSP") key.Type h 0 (word_field _ _ refl) (word_field _ _ refl) refl fresh refl
+    header_step Pcpsp n name (codes "TYPE") (Bytes (codes "PCPSP")) key.Type h (word_field _ _ refl) (word_field _ _ refl) refl fresh refl refl
 type_step Cpit n h name fresh =
-    header_step Cpit n name (codes "TYPE") (codes "CPIT") key.Type h 0 (word_field _ _ refl) (word_field _ _ refl) refl fresh refl
+    header_step Cpit n name (codes "TYPE") (Bytes (codes "CPIT")) key.Type h (word_field _ _ refl) (word_field _ _ refl) refl fresh refl refl
 
 pub blocks_step : (p : Problem) (n : ℕ) (h : Header) (name : List ℕ) → n ≤ 64000000 → is_given key.Blocks h ≡ false
     → IsStep (heading p n name h) (key_line (codes "NBLOCKS:") (decimal n)) (heading p n name (with_key h key.Blocks 0))
 blocks_step p n h name few fresh =
-    header_step p n name (codes "NBLOCKS") (decimal n) key.Blocks h 0 (word_field _ _ refl) (whole_field n (omega arith))
-    (in_all p _ _ refl refl) fresh
-    (count_again p n key.Blocks n 0 (whole_fits (MAX_BLOCKS + 1) n (omega arith) (omega arith)) (rw (quotient n, eq-eqb n n refl) refl))
+    counted_step p n name (codes "NBLOCKS") n 0 key.Blocks h (word_field _ _ refl) (omega arith) (in_all p _ _ refl refl) fresh
+    (whole_fits (MAX_BLOCKS + 1) n (omega arith) (omega arith)) (rw (quotient n, eq-eqb n n refl) refl) refl
 
 pub periods_step : (p : Problem) (n : ℕ) (h : Header) (name : List ℕ) (periods : ℕ) → (1 ≤ periods) × (periods ≤ 100)
     → is_given key.Periods h ≡ false
     → IsStep (heading p n name h) (key_line (codes "NPERIODS:") (decimal periods)) (heading p n name (with_key h key.Periods periods))
 periods_step p n h name periods within fresh =
-    header_step p n name (codes "NPERIODS") (decimal periods) key.Periods h periods (word_field _ _ refl) (whole_field periods (omega arith))
-    (in_all p _ _ refl refl) fresh
-    (count_again p n key.Periods periods periods (counted_fits 1 MAX_PERIODS periods within.0 within.1 (omega arith)) (ap Ok (quotient periods)))
+    counted_step p n name (codes "NPERIODS") periods periods key.Periods h (word_field _ _ refl) (omega arith) (in_all p _ _ refl refl) fresh
+    (counted_fits 1 MAX_PERIODS periods within.0 within.1 (omega arith)) refl (quotient periods)
 
 pub destinations_step : (n : ℕ) (h : Header) (name : List ℕ) (destinations : ℕ) → (1 ≤ destinations) × (destinations ≤ 8)
     → is_given key.Destinations h ≡ false → IsStep (heading Pcpsp n name h) (key_line (codes "NDESTINATIONS:") (decimal destinations))
     (heading Pcpsp n name (with_key h key.Destinations destinations))
 destinations_step n h name destinations within fresh =
-    header_step Pcpsp n name (codes "NDESTINATIONS") (decimal destinations) key.Destinations h destinations (word_field _ _ refl)
-    (whole_field destinations (omega arith)) refl fresh
-    (count_again Pcpsp n key.Destinations destinations destinations
-    (counted_fits 1 MAX_DESTINATIONS destinations within.0 within.1 (omega arith)) (ap Ok (quotient destinations)))
+    counted_step Pcpsp n name (codes "NDESTINATIONS") destinations destinations key.Destinations h (word_field _ _ refl) (omega arith) refl fresh
+    (counted_fits 1 MAX_DESTINATIONS destinations within.0 within.1 (omega arith)) refl (quotient destinations)
 
 pub resources_step : (p : Problem) (n : ℕ) (h : Header) (name : List ℕ) (resources : ℕ) → resources ≤ 8 → is_given key.Resources h ≡ false
     → IsStep (heading p n name h) (key_line (codes "NRESOURCE_SIDE_CONSTRAINTS:") (decimal resources))
     (heading p n name (with_key h key.Resources resources))
 resources_step p n h name resources few fresh =
-    header_step p n name (codes "NRESOURCE_SIDE_CONSTRAINTS") (decimal resources) key.Resources h resources (word_field _ _ refl)
-    (whole_field resources (omega arith)) (in_all p _ _ refl refl) fresh
-    (count_again p n key.Resources resources resources (whole_fits (MAX_RESOURCES + 1) resources (omega arith) (omega arith)) (ap Ok (quotient resources)))
-
-zero_read : (n : ℕ) → number_in Pcpsp n key.General (codes "0") ≡ Ok 0
-zero_read n =
-    subst (λ text. number_in Pcpsp n key.General text ≡ Ok 0) (decimal_digit 0 (omega arith))
-    (count_again Pcpsp n key.General 0 0 (whole_fits 1 0 (omega arith) (omega arith)) refl)
+    counted_step p n name (codes "NRESOURCE_SIDE_CONSTRAINTS") resources resources key.Resources h (word_field _ _ refl) (omega arith)
+    (in_all p _ _ refl refl) fresh (whole_fits (MAX_RESOURCES + 1) resources (omega arith) (omega arith)) refl (quotient resources)
 
 pub general_step : (n : ℕ) (h : Header) (name : List ℕ) → is_given key.General h ≡ false
     → IsStep (heading Pcpsp n name h) (key_line (codes "NGENERAL_SIDE_CONSTRAINTS:") (codes "0"))
     (heading Pcpsp n name (with_key h key.General 0))
 general_step n h name fresh =
-    header_step Pcpsp n name (codes "NGENERAL_SIDE_CONSTRAINTS") (codes "0") key.General h 0 (word_field _ _ refl) (word_field _ _ refl) refl fresh
-    (zero_read n)
+    subst (λ text. IsStep (heading Pcpsp n name h) (key_line (codes "NGENERAL_SIDE_CONSTRAINTS:") text) (heading Pcpsp n name (with_key h key.General 0)))
+    (decimal_digit 0 (omega arith))
+    (counted_step Pcpsp n name (codes "NGENERAL_SIDE_CONSTRAINTS") 0 0 key.General h (word_field _ _ refl) (omega arith) refl fresh
+    (whole_fits 1 0 (omega arith) (omega arith)) refl refl)
 
 pub rate_step : (p : Problem) (n : ℕ) (h : Header) (name : List ℕ) (rate : ℤ) → (pos 0 ≤ℤ rate) × (rate ≤ℤ pos (10 ^ 6)) → is_given key.Rate h ≡ false
     → IsStep (heading p n name h) (key_line (codes "DISCOUNT_RATE:") (shortest rate))
@@ -181,9 +205,8 @@ pub rate_step : (p : Problem) (n : ℕ) (h : Header) (name : List ℕ) (rate : �
 rate_step p n h name (negsuc k) within fresh = absurd (omega (arith, ints))
 rate_step p n h name (pos k) within fresh =
     let most : k ≤ 10 ^ 6 = omega (arith, ints) in
-    header_step p n name (codes "DISCOUNT_RATE") (shortest (pos k)) key.Rate h k (word_field _ _ refl) (decimal_field (pos k) (omega arith))
-    (in_all p _ _ refl refl) fresh
-    (key_again p n key.Rate (Millionths (pos k)) k (size_fits 6 (10 ^ 6) k most (omega arith) (omega arith)) refl)
+    header_step p n name (codes "DISCOUNT_RATE") (Millionths (pos k)) key.Rate h (word_field _ _ refl) (decimal_field (pos k) (omega arith))
+    (in_all p _ _ refl refl) fresh (size_fits 6 (10 ^ 6) k most (omega arith) (omega arith)) refl
 
 -- model lines take what was read before them to what was read with them
 pub record AreSteps (before : ModelDraftView) (lines : List (List ℕ)) (after : ModelDraftView) : Type 0 where

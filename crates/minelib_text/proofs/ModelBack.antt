@@ -1,5 +1,5 @@
 -- A model file is read as it is written.
-use Rattle.std.proofs.Common.{◌≡◌, ℕ, ◌<◌, ◌≤◌, false, List, [], ◌++◌, length, ℤ, arith, refl, ◌∙◌, eq-eqb}
+use Rattle.std.proofs.Common.{◌≡◌, ℕ, ◌<◌, ◌≤◌, false, List, [], ◌++◌, length, ℤ, arith, refl, sym, ap, ◌∙◌, eq-eqb}
 use Rattle.std.specs.Prelude.{Ok, codes, All}
 use Rattle.pit_model.specs.Plan.{stands_before, is_turned}
 use Rattle.pit_model.specs.declared.limit.Limit.{Limit}
@@ -8,13 +8,17 @@ use Rattle.mine_instance.specs.Valid.{AreCoefs, AreLimits}
 use Rattle.mine_instance.specs.declared.coef.Coef.{Coef}
 use Rattle.minelib_text.specs.Kept.{IsDecimal, HasDecimals}
 use Rattle.minelib_text.specs.Lines.{text_of, line_of, lines_from}
-use Rattle.minelib_text.specs.ModelLines.{ModelDraftView, admit_item, admit_model, blank_model, model_in}
+use Rattle.minelib_text.specs.ModelLines.{ModelDraftView, blank_model, finish_model, item_line, model_in}
+use Rattle.forms.specs.Steps.{◌>>=◌}
+use Rattle.minelib_text.specs.TextLines.{end_of, lines_in}
+use Rattle.minelib_text.specs.ModelParts.{admit_model, takes}
 use Rattle.minelib_text.specs.Written.{value_fields, coef_fields, limit_fields, section_lines}
 use Rattle.minelib_text.specs.declared.model_key.Problem.{Problem}
 use Rattle.minelib_text.specs.declared.model_key.Section.TheVariants.{Objective, Coefs, Limits}
 use Rattle.minelib_text.proofs.ItemsBack.{values_again, values_fields, IsCount, coef_again, coefs_fields, limit_again, limits_fields}
 use Rattle.minelib_text.proofs.KeysBack.{AreSteps, and_lines, then_lines, draft, heading, full_header, in_all, section_step, word_field}
 use Rattle.minelib_text.proofs.LinesBack.{AdmitsEach, items_admitted, text_read}
+use Rattle.minelib_text.proofs.ModelShapes.{coef_takes, limit_takes, lines_are_all, values_takes}
 use Rattle.minelib_text.proofs.Places.{is_place, item_there, behind_last}
 use Rattle.minelib_text.proofs.PlainText.{AreFields, no_colon, fields_again, fields_line}
 
@@ -34,9 +38,9 @@ pub record IsModel (p : Problem) (n periods destinations resources : ℕ) (value
   pub limits_kept : All (λ l. HasDecimals l.bound) limits
 
 -- a line of fields is an item of its section
-pub item_line : (d : ModelDraftView) (fields : List (List ℕ)) → AreFields fields → admit_model d (line_of fields) ≡ admit_item d d.section fields
+pub item_admitted : (d : ModelDraftView) (fields : List (List ℕ)) → AreFields fields → admit_model d (line_of fields) ≡ takes (item_line d d.section fields)
 unfolding admit_model
-item_line d fields h = rw (no_colon fields h, fields_again fields h) refl
+item_admitted d fields h = rw (no_colon fields h, fields_again fields h) refl
 
 -- items that are admitted one after the other are read
 items_read : {A : Type 0} (fields : ℕ → A → List (List ℕ)) (after : List A → ModelDraftView) (all : List A) → AdmitsEach admit_model fields after all
@@ -53,7 +57,7 @@ module _ (p : Problem) (n : ℕ) (name : List ℕ) (periods destinations resourc
       let kept = item_there values done vs rest whole (λ vs. All IsDecimal vs) m.values_kept in
       let as_many = item_there values done vs rest whole (λ vs. length vs ≡ destinations) m.one_each in
       let fields = values_fields (length done) vs (omega arith) kept in
-      (fields_line _ fields, item_line _ _ fields ∙ rw (values_again n destinations (length done) vs few place as_many kept) refl)
+      (fields_line _ fields, item_admitted _ _ fields ∙ values_takes _ _ ∙ rw (values_again n destinations (length done) vs few place as_many kept) refl)
 
   each_coef : AdmitsEach admit_model (coef_fields p)
       (λ done. draft p n name (full_header periods destinations resources rate) Coefs values done []) coefs
@@ -62,7 +66,7 @@ module _ (p : Problem) (n : ℕ) (name : List ℕ) (periods destinations resourc
       let kept = item_there coefs done c rest whole (λ c. IsDecimal c.v) m.coefs_kept in
       let fields = coefs_fields p n destinations resources (length done) c m.few m.count m.small range kept in (
         fields_line _ fields,
-        item_line _ _ fields
+        item_admitted _ _ fields ∙ coef_takes _ _
             ∙ rw (
               coef_again p n destinations resources (length done) c m.few m.count m.small range kept,
               behind_last comes_before coefs done c rest whole m.are_coefs.rising,
@@ -77,9 +81,9 @@ module _ (p : Problem) (n : ℕ) (name : List ℕ) (periods destinations resourc
       let kept = item_there limits done l rest whole (λ l. HasDecimals l.bound) m.limits_kept in
       let fields = limits_fields (length done) resources periods l m.small m.short range.0 range.1 kept in (
         fields_line _ fields,
-        item_line _ _ fields
+        item_admitted _ _ fields ∙ limit_takes _ _
             ∙ rw (
-              limit_again resources periods l (length done) m.small m.short range.0 range.1 range.2 kept,
+              limit_again resources periods l (length done) m.small m.short range.0 range.1 kept,
               range.2,
               behind_last stands_before limits done l rest whole m.are_limits.rising,
             ) refl,
@@ -111,4 +115,8 @@ module _ (p : Problem) (n : ℕ) (name : List ℕ) (periods destinations resourc
       ≡ Ok (draft p n name (full_header periods destinations resources rate) Limits values coefs limits)
   model_again keys header =
       let all = and_lines _ _ _ _ _ header sections_again in
-      rw (text_read admit_model _ _ _ all.admitted, eq-eqb (length values) n m.as_many) refl
+      let lines = keys
+      ++ section_lines (lines_from value_fields 0 values) (lines_from (coef_fields p) 0 coefs) (lines_from limit_fields 0 limits) in
+      ap (λ r. r >>= finish_model (end_of (text_of lines))) (sym (lines_are_all 1 (blank_model p n) (lines_in (text_of lines)))
+      ∙ text_read admit_model (blank_model p n) _ lines all.admitted)
+      ∙ rw (eq-eqb (length values) n m.as_many) refl

@@ -6,7 +6,8 @@ use Rattle.std.proofs.lemmas.List.Elements.{All-from_get_or}
 use Rattle.std.proofs.lemmas.List.Folds.{list_any_at, list_any_none}
 use Rattle.std.proofs.lemmas.List.Quantifiers.{position-Some}
 use Rattle.std.proofs.lemmas.List.Sums.{fails_before_first}
-use Rattle.minelib_text.specs.ModelLines.{key_in, key_of, only_value}
+use Rattle.minelib_text.specs.ModelLines.{key_in, key_of}
+use Rattle.minelib_text.specs.ModelParts.{only_value}
 use Rattle.minelib_text.specs.declared.model_key.Problem.{Problem}
 use Rattle.minelib_text.specs.declared.text_fault.TextKind.{TextKind}
 

@@ -1,19 +1,20 @@
 -- What the header keys of a model file keep of the NAME and the header.
-use Rattle.std.specs.Prelude.{◌≡◌, ℕ, ◌≤◌, ◌^◌, true, false, not, List, [], Option, is_some, IfSome}
+use Rattle.std.specs.Prelude.{◌≡◌, ℕ, ◌+◌, ◌*◌, ◌≤◌, ◌^◌, true, false, List, [], Option, is_some, IfSome}
 use Rattle.std.proofs.Common.{refl, ◌∙◌, ap, arith}
-use Rattle.std.proofs.lemmas.Int.{ints}
 use Rattle.pit_model.specs.Name.{is_name}
 use Rattle.minelib_text.specs.HeaderKeys.{count_in, is_given, number_of, with_key}
 use Rattle.minelib_text.specs.ModelLines.{blank_header, name_with}
-use Rattle.minelib_text.specs.KeyFields.{SaysKey}
-use Rattle.minelib_text.specs.ModelSoFar.{HasOwn}
-use Rattle.minelib_text.specs.SpelledModel.{has_key}
+use Rattle.minelib_text.specs.ItemForms.{bytes_in}
+use Rattle.minelib_text.specs.KeyFields.{field_of, number_said}
+use Rattle.forms.specs.Form.{Value, Bytes, Millionths, FitsField}
+use Rattle.minelib_text.proofs.FormFields.{below_there, number_there}
+use Rattle.pit_model.specs.declared.ranges.TheConstants.{MAX_DESTINATIONS, MAX_PERIODS, MAX_RESOURCES}
 use Rattle.minelib_text.specs.declared.model_key.Header.{Header}
 use Rattle.minelib_text.specs.declared.model_key.HeaderKey.{HeaderKey}
 use Rattle.minelib_text.specs.declared.model_key.HeaderKey.TheVariants as key
 use Rattle.minelib_text.specs.declared.model_key.Problem.{Problem}
 use Rattle.minelib_text.specs.declared.model_key.Problem.TheVariants.{Pcpsp, Cpit}
-use Rattle.minelib_text.proofs.HeaderFacts.{each_with, first_given}
+use Rattle.minelib_text.proofs.HeaderFacts.{each_with}
 
 -- the number of a key is in range, and a NAME is one
 abbrev pub IsInRange : HeaderKey → List ℕ → ℕ → Type 0
@@ -26,12 +27,7 @@ IsInRange k name n = Unit {0}
 
 -- what has no key in the files of a problem is as before the first
 abbrev pub KeepsOwn : Problem → Header → Type 0
-KeepsOwn problem h = (k : HeaderKey) → has_key problem k ≡ false → number_of h k ≡ number_of (blank_header problem) k
-
-pub own : (problem : Problem) (h : Header) → KeepsOwn problem h → HasOwn problem h
-unfolding with_key
-own Pcpsp h kept = tt
-own Cpit h kept = (kept key.Destinations refl, ap is_some (kept key.General refl))
+KeepsOwn problem h = (k : HeaderKey) → is_given k (blank_header problem) ≡ true → number_of h k ≡ number_of (blank_header problem) k
 
 -- what is given is in range
 pub record KeepsHeader (problem : Problem) (name : List ℕ) (h : Header) : Type 0 where
@@ -48,14 +44,19 @@ blank_kept problem = record { in_range = of_blank problem; own = λ k none. refl
     of_blank Cpit key.Destinations = (omega arith, omega arith)
     of_blank Cpit k = tt
 
-says_range : (problem : Problem) (n : ℕ) (k : HeaderKey) (value name : List ℕ) (number : ℕ) → SaysKey problem n k value number
-    → IsInRange k (name_with k value name) number
-says_range problem n key.Name value name number s = s.1
-says_range problem n key.Periods value name number s = (omega (arith, ints, s.1), omega (arith, ints, s.2))
-says_range problem n key.Destinations value name number s = (omega (arith, ints, s.1), omega (arith, ints, s.2))
-says_range problem n key.Resources value name number s = omega (arith, ints, s.2)
-says_range problem n key.Rate value name number s = omega (arith, ints, s.2)
-says_range problem n k value name number s = tt
+pub fits_range : (problem : Problem) (k : HeaderKey) (value : Value) (name : List ℕ) → FitsField (field_of problem k) value
+    → IsInRange k (name_with k (bytes_in value) name) (number_said k value)
+fits_range problem key.Name (Bytes word) name fits = fits
+fits_range problem key.Name (Millionths m) name fits = absurd fits
+fits_range problem key.Periods value name fits =
+    let within = number_there 0 (1 * 10 ^ 6) (MAX_PERIODS * 10 ^ 6) value fits in (omega (arith, within.0), omega (arith, within.1))
+fits_range problem key.Destinations value name fits =
+    let within = number_there 0 (1 * 10 ^ 6) (MAX_DESTINATIONS * 10 ^ 6) value fits in (omega (arith, within.0), omega (arith, within.1))
+fits_range problem key.Resources value name fits = let low = below_there (MAX_RESOURCES + 1) value fits in omega (arith, low)
+fits_range problem key.Rate value name fits = (number_there 6 0 (10 ^ 6) value fits).1
+fits_range problem key.Type value name fits = tt
+fits_range problem key.Blocks value name fits = tt
+fits_range problem key.General value name fits = tt
 
 -- another key leaves the NAME
 still_in_range : (k j : HeaderKey) (value name : List ℕ) (found : Option ℕ) → (k ≡ j → ⊥) → IfSome found (IsInRange j name)
@@ -69,11 +70,11 @@ pub one_destination : (h : Header) → KeepsOwn Cpit h → count_in h key.Destin
 unfolding with_key
 one_destination h own = rw (own key.Destinations refl) refl
 
-pub header_kept : (problem : Problem) (n : ℕ) (k : HeaderKey) (value name : List ℕ) (h : Header) (number : ℕ) → SaysKey problem n k value number
+pub header_kept : (problem : Problem) (k : HeaderKey) (value name : List ℕ) (h : Header) (number : ℕ) → IsInRange k (name_with k value name) number
     → is_given k h ≡ false → KeepsHeader problem name h → KeepsHeader problem (name_with k value name) (with_key h k number)
-header_kept problem n k value name h number says new kept = record {
-  in_range = each_with (λ j found. IfSome found (IsInRange j (name_with k value name))) h k number (says_range problem n k value name number says)
+header_kept problem k value name h number here new kept = record {
+  in_range = each_with (λ j found. IfSome found (IsInRange j (name_with k value name))) h k number here
       (λ j differ. still_in_range k j value name (number_of h j) differ (kept.in_range j));
-  own = each_with (λ j found. has_key problem j ≡ false → found ≡ number_of (blank_header problem) j) h k number
-      (λ none. (let given = first_given problem k ∙ ap not none in let same = kept.own k none in absurd cc)) (λ j _. kept.own j);
+  own = each_with (λ j found. is_given j (blank_header problem) ≡ true → found ≡ number_of (blank_header problem) j) h k number
+      (λ given. (let same = kept.own k given in let was : is_given k h ≡ true = ap is_some same ∙ given in absurd cc)) (λ j _. kept.own j);
 }

@@ -1,7 +1,8 @@
 -- What is read is valid.
-use Rattle.std.specs.Prelude.{◌≡◌, ℕ, ◌<◌, ◌≤◌, ◌^◌, ◌≤ℤ◌, true, List, [], ◌∷◌, length, ℤ, pos, Option, Some, None, is_some, unwrap_or, Ok, map, All, AllPairs, IfSome, IsTrue}
+use Rattle.std.specs.Prelude.{◌≡◌, ℕ, ◌<◌, ◌≤◌, ◌^◌, ◌≤ℤ◌, ◌==◌, ◌&&◌, true, List, [], ◌∷◌, length, ℤ, pos, Option, Some, None, is_some, unwrap_or, Ok, map, All, AllPairs, IfSome, IsTrue}
 use Rattle.std.specs.List.{flat_map}
 use Rattle.std.proofs.Common.{refl, sym, ◌∙◌, subst, arith, get_or, length-append}
+use Rattle.std.proofs.lemmas.Bool.{and_parts, eqb-true}
 use Rattle.std.proofs.lemmas.Bool.Decides.{nat_tests}
 use Rattle.std.proofs.lemmas.Int.{ints}
 use Rattle.std.proofs.lemmas.List.{get_or-map, length-map}
@@ -17,7 +18,7 @@ use Rattle.mine_instance.specs.declared.instance.Instance.{Instance}
 use Rattle.minelib_text.specs.BlockLines.{blocks_in}
 use Rattle.minelib_text.specs.Denotes.{instance_read, denoted, Denotes, cpit_read, cpit_denoted, DenotesCpit}
 use Rattle.minelib_text.specs.HeaderKeys.{count_in, is_complete, is_given, number_of}
-use Rattle.minelib_text.specs.ModelLines.{ModelDraftView, model_in}
+use Rattle.minelib_text.specs.ModelLines.{ModelDraftView, is_limits, model_in}
 use Rattle.minelib_text.specs.PrecLines.{preds_in}
 use Rattle.minelib_text.specs.Reading.{in_file}
 use Rattle.minelib_text.specs.TextLines.{lines_in}
@@ -28,7 +29,7 @@ use Rattle.minelib_text.specs.declared.model_key.Problem.{Problem}
 use Rattle.minelib_text.specs.declared.model_key.Problem.TheVariants as problem
 use Rattle.minelib_text.specs.declared.text_fault.TextFile.TheVariants.{Blocks, Prec, Pcpsp, Cpit}
 use Rattle.minelib_text.proofs.HeaderFacts.{each_given}
-use Rattle.minelib_text.proofs.ModelEnd.{model_finished}
+use Rattle.minelib_text.proofs.SpelledDenotes.{model_spelled}
 use Rattle.minelib_text.proofs.ReadSteps.{bind_then, same_ok, in_file_ok}
 use Rattle.minelib_text.proofs.ValidHeader.{KeepsOwn, IsInRange, one_destination}
 use Rattle.minelib_text.proofs.ValidModel.{KeepsModel, model_kept}
@@ -58,8 +59,10 @@ in_millionths rate most = (omega (arith, ints), omega (arith, ints))
 
 pub model_is_valid : (problem : Problem) (n : ℕ) (text : List ℕ) (d : ModelDraftView) → model_in problem n text ≡ Ok d → IsModel problem n d
 model_is_valid problem n text d e =
-    let f = model_finished problem n text d e in
-    whole problem n d (model_kept problem n (lines_in text) d f.of_lines) f.complete f.all_values
+    let are = model_spelled problem n text d e in
+    let parts = and_parts (is_complete d.header && (length d.values == d.blocks)) (is_limits d.section) are.1 in
+    let inner = and_parts (is_complete d.header) (length d.values == d.blocks) parts.0 in
+    whole problem n d (model_kept problem n 1 (lines_in text) d are.0) inner.0 (eqb-true (length d.values) d.blocks inner.1)
   where
     whole : (problem : Problem) (n : ℕ) (last : ModelDraftView) → KeepsModel problem n last → is_complete last.header ≡ true
         → length last.values ≡ last.blocks → IsModel problem n last

@@ -1,4 +1,3 @@
-pub mod BegunModel
 pub mod BlockLines
 pub mod CoefParts
 pub mod Denotes
@@ -10,6 +9,7 @@ pub mod FileFault
 pub mod FileSinkView
 pub mod HeaderKeys
 pub mod ItemGrammar
+pub mod ItemForms
 pub mod Kept
 pub mod KeyFields
 pub mod LineKinds
@@ -18,10 +18,8 @@ pub mod Lines
 pub mod LinesTaken
 pub mod Marks
 pub mod MemSinkView
-pub mod ModelDemands
 pub mod ModelLines
 pub mod ModelParts
-pub mod ModelSoFar
 pub mod ModelFields
 pub mod PrecLines
 pub mod Reading
@@ -29,12 +27,8 @@ pub mod SameTexts
 pub mod SectionSinkView
 pub mod SinkState
 pub mod Spaced
-pub mod SpelledItems
-pub mod SpelledKeys
-pub mod SpelledLines
 pub mod SpelledModel
 pub mod SpelledTexts
-pub mod StatedModel
 pub mod TextLines
 pub mod TextParts
 pub mod Uncounted

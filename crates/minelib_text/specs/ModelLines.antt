@@ -1,21 +1,21 @@
--- What a model file states: the production scheduling problem, or the constrained pit limit problem.
-use Rattle.std.specs.Prelude.{ℕ, ◌-◌, ◌==◌, ◌&&◌, ◌||◌, not, Bool, true, false, List, [], ◌∷◌, ◌++◌, drop, length, map, ℤ, Option, Some, None, slice_get, slice_index_or, Result, Ok, Err, if◌then◌else◌, codes}
+-- What a model file states, of the production scheduling problem or the constrained pit limit
+-- problem: the shape of each line, by what the lines before it state.
+use Rattle.std.specs.Prelude.{ℕ, ◌+◌, ◌-◌, ◌==◌, ◌&&◌, not, Bool, true, false, List, [], ◌∷◌, ◌++◌, length, ℤ, Option, Some, None, slice_get, slice_index_or, Result, Ok, Err, if◌then◌else◌, codes}
 use Rattle.std.specs.List.{list_any, before_first, after_first}
 use Rattle.std.specs.Str.{bytes_eq}
-use Rattle.forms.specs.Form.{Value, Bytes, Millionths, millionths, number_at, read, whole_at}
+use Rattle.forms.specs.Form.{Value, Bytes, whole_at}
+use Rattle.forms.specs.Grammar.{Grammar, read_all}
+use Rattle.forms.specs.Shape.{Check, Shape, check}
 use Rattle.forms.specs.Steps.{◌>>=◌}
 use Rattle.pit_model.specs.Plan.{is_turned, stands_before}
-use Rattle.pit_model.specs.declared.limit.Bound.{Bound}
-use Rattle.pit_model.specs.declared.limit.Bound.TheVariants.{AtMost, AtLeast, Between}
 use Rattle.pit_model.specs.declared.limit.Limit.{Limit}
 use Rattle.mine_instance.specs.Order.{comes_before}
 use Rattle.mine_instance.specs.declared.coef.Coef.{Coef}
 use Rattle.minelib_text.specs.HeaderKeys.{no_key, with_key, count_in, is_given, is_complete}
-use Rattle.minelib_text.specs.KeyFields.{number_in}
+use Rattle.minelib_text.specs.ItemForms.{bytes_in, coef_form, coef_said, limit_form, limit_said, row_said, values_form}
+use Rattle.minelib_text.specs.KeyFields.{field_of, number_said, whole_of}
 use Rattle.minelib_text.specs.LineKinds.{text_kinds}
-use Rattle.minelib_text.specs.Reading.{read_lines}
-use Rattle.minelib_text.specs.SpelledItems.{coef_form, limit_form, values_form}
-use Rattle.minelib_text.specs.TextLines.{fields_of, lines_in, end_of}
+use Rattle.minelib_text.specs.TextLines.{Line, fields_of, lines_in, end_of}
 use Rattle.minelib_text.specs.declared.model_key.Header.{Header}
 use Rattle.minelib_text.specs.declared.model_key.HeaderKey.{HeaderKey}
 use Rattle.minelib_text.specs.declared.model_key.HeaderKey.TheVariants as key
@@ -27,7 +27,7 @@ use Rattle.minelib_text.specs.declared.model_key.Section.{Section}
 use Rattle.minelib_text.specs.declared.model_key.Section.TheVariants.{Heading, Objective, Coefs, Limits}
 use Rattle.minelib_text.specs.declared.text_fault.LineFault.{LineFault}
 use Rattle.minelib_text.specs.declared.text_fault.TextKind.{TextKind}
-use Rattle.minelib_text.specs.declared.text_fault.TextKind.TheVariants.{Fields, Order, Twice, Key, Missing}
+use Rattle.minelib_text.specs.declared.text_fault.TextKind.TheVariants.{Order, Count, Twice, Key, Missing}
 
 -- what the lines so far state, of so many blocks
 pub record ModelDraftView : Type 0 where
@@ -87,52 +87,22 @@ key_of problem [] = None
 key_of problem (word ∷ []) = key_in problem word
 key_of problem (word ∷ other ∷ more) = None
 
+-- the sections in their order, behind the header
+abbrev pub rank : Section → ℕ
+rank Heading = 0
+rank Objective = 1
+rank Coefs = 2
+rank Limits = 3
+
 abbrev pub is_heading : Section → Bool
-is_heading Heading = true
-is_heading Objective = false
-is_heading Coefs = false
-is_heading Limits = false
+is_heading section = rank section == 0
 
 abbrev pub is_limits : Section → Bool
-is_limits Heading = false
-is_limits Objective = false
-is_limits Coefs = false
-is_limits Limits = true
+is_limits section = rank section == 3
 
 -- the second section follows the first
 abbrev pub is_next : Section → Section → Bool
-is_next Heading Objective = true
-is_next Objective Coefs = true
-is_next Coefs Limits = true
-is_next Heading Heading = false
-is_next Heading Coefs = false
-is_next Heading Limits = false
-is_next Objective Heading = false
-is_next Objective Objective = false
-is_next Objective Limits = false
-is_next Coefs Heading = false
-is_next Coefs Objective = false
-is_next Coefs Coefs = false
-is_next Limits section = false
-
--- the NAME after a header key with this value
-abbrev pub name_with : HeaderKey → List ℕ → List ℕ → List ℕ
-name_with key.Name field name = field
-name_with k field name = name
-
--- the one value of a header key
-abbrev pub only_value : List (List ℕ) → Result (List ℕ) TextKind
-only_value [] = Err Fields
-only_value (value ∷ []) = Ok value
-only_value (value ∷ other ∷ more) = Err Fields
-
--- a line of a header key, which stands before the first section, and once
-abbrev pub admit_header : ModelDraftView → HeaderKey → List (List ℕ) → Result ModelDraftView TextKind
-admit_header d k values =
-    if not (is_heading d.section) then Err Key
-    else (if is_given k d.header then Err Twice
-    else (only_value values >>= λ value. number_in d.problem d.blocks k value
-    >>= λ number. Ok (record d { header = with_key d.header k number; name = name_with k value d.name })))
+is_next section next = rank next == rank section + 1
 
 -- all that has to stand before the next section does
 abbrev pub is_ready : ModelDraftView → Section → Bool
@@ -141,50 +111,71 @@ is_ready d Objective = length d.values == d.blocks
 is_ready d Coefs = true
 is_ready d Limits = true
 
--- the line that begins a section
-abbrev pub admit_section : ModelDraftView → Section → List (List ℕ) → Result ModelDraftView TextKind
-admit_section d section values =
-    if not (is_next d.section section) then Err Key
-    else (if not (length values == 0) then Err Fields
-    else (if not (is_ready d d.section) then Err Missing
-    else Ok (record d { section = section })))
-
--- a key line: its key, and the values after the colon
-abbrev pub admit_key : ModelDraftView → Option ModelKey → List (List ℕ) → Result ModelDraftView TextKind
-admit_key d None values = Err Key
-admit_key d (Some (model_key.Header k)) values = admit_header d k values
-admit_key d (Some (model_key.Section section)) values = admit_section d section values
-
--- the values of a line, where so many lines stand before
-abbrev pub values_said : ℕ → List Value → Result (List ℤ) TextKind
-values_said before values =
-    if not (whole_at values 0 == before) then Err Order else Ok (map millionths (drop 1 values))
-
--- `b v0 v1 ..` of n blocks, one value for each destination
-unfoldable pub values_of : ℕ → ℕ → ℕ → List (List ℕ) → Result (List ℤ) TextKind
-values_of n destinations before fields =
-    read text_kinds (values_form n destinations) fields >>= values_said before
-
--- the coefficient of the values of a line; a CPIT has one destination
-abbrev pub coef_said : Problem → List Value → Coef
-coef_said Pcpsp values = record {
-  b = whole_at values 0;
-  d = whole_at values 1;
-  r = whole_at values 2;
-  v = number_at values 3;
-}
-coef_said Cpit values = record {
-  b = whole_at values 0;
-  d = 0;
-  r = whole_at values 1;
-  v = number_at values 2;
+-- a line that has no place here
+unfoldable pub stray_line : ModelDraftView → Shape TextKind ModelDraftView
+stray_line d = record {
+  first = check Key false;
+  texts = [];
+  form = [];
+  kinds = text_kinds;
+  last = λ values. [];
+  next = λ values. d;
 }
 
--- `b d r v`, or `b r v`
-unfoldable pub coef_of : Problem → ℕ → ℕ → ℕ → List (List ℕ) → Result Coef TextKind
-coef_of problem n destinations resources fields = do
-  values ← read text_kinds (coef_form problem n destinations resources) fields
-  Ok (coef_said problem values)
+-- how many blocks there are is stated again
+abbrev pub is_counted : HeaderKey → ℕ → Value → List (Check TextKind)
+is_counted key.Blocks n value = check Count (whole_of value == n)
+is_counted k n value = []
+
+-- the NAME behind a header key with this value
+abbrev pub name_with : HeaderKey → List ℕ → List ℕ → List ℕ
+name_with key.Name field name = field
+name_with k field name = name
+
+abbrev pub first_of : List Value → Value
+first_of values = slice_index_or values 0 (Bytes [])
+
+-- `KEY: value`, before the first section, each key once
+unfoldable pub header_line : ModelDraftView → HeaderKey → List (List ℕ) → Shape TextKind ModelDraftView
+header_line d k fields = record {
+  first = check Key (is_heading d.section) ++ check Twice (not (is_given k d.header));
+  texts = fields;
+  form = field_of d.problem k ∷ [];
+  kinds = text_kinds;
+  last = λ values. is_counted k d.blocks (first_of values);
+  next = λ values. record d {
+    header = with_key d.header k (number_said k (first_of values));
+    name = name_with k (bytes_in (first_of values)) d.name;
+  };
+}
+
+-- `KEY:` of the next section
+unfoldable pub section_line : ModelDraftView → Section → List (List ℕ) → Shape TextKind ModelDraftView
+section_line d section fields = record {
+  first = check Key (is_next d.section section);
+  texts = fields;
+  form = [];
+  kinds = text_kinds;
+  last = λ values. check Missing (is_ready d d.section);
+  next = λ values. record d { section = section };
+}
+
+-- a line with a colon: its key, and the fields behind the colon
+abbrev pub keyed_line : ModelDraftView → Option ModelKey → List (List ℕ) → Shape TextKind ModelDraftView
+keyed_line d None fields = stray_line d
+keyed_line d (Some (model_key.Header k)) fields = header_line d k fields
+keyed_line d (Some (model_key.Section section)) fields = section_line d section fields
+
+-- the values of the next block
+unfoldable pub values_line : ModelDraftView → List (List ℕ) → Shape TextKind ModelDraftView
+values_line d fields = record {
+  first = [];
+  texts = fields;
+  form = values_form d.blocks (count_in d.header key.Destinations);
+  kinds = text_kinds;
+  last = λ values. check Order (whole_at values 0 == length d.values);
+  next = λ values. record d { values = d.values ++ row_said values ∷ [] };
+}
 
 -- the last item of a list, if there is one
 abbrev pub last_of : {A : Type 0} → List A → Option A
@@ -195,73 +186,60 @@ abbrev pub is_behind : {A : Type 0} → (A → A → Bool) → Option A → A �
 is_behind before None x = true
 is_behind before (Some last) x = before last x
 
--- the bound of a letter, L, G or I, and one number or two
-abbrev pub bound_said : List ℕ → ℤ → ℤ → Bound
-bound_said letter v w =
-    if bytes_eq letter (codes "L") then AtMost v
-    else (if bytes_eq letter (codes "G") then AtLeast v else Between v w)
-
--- the word of a value
-abbrev pub bytes_in : Value → List ℕ
-bytes_in (Bytes word) = word
-bytes_in (Millionths m) = []
-
--- the limit of the values of a line
-abbrev pub limit_said : List Value → Limit
-limit_said values = record {
-  resource = whole_at values 0;
-  period = whole_at values 1;
-  bound = bound_said (bytes_in (slice_index_or values 2 (Bytes []))) (number_at values 3) (number_at values 4);
+-- a coefficient, behind the last one
+unfoldable pub coef_line : ModelDraftView → List (List ℕ) → Shape TextKind ModelDraftView
+coef_line d fields = record {
+  first = [];
+  texts = fields;
+  form = coef_form d.problem d.blocks (count_in d.header key.Destinations) (count_in d.header key.Resources);
+  kinds = text_kinds;
+  last = λ values. check Order (is_behind comes_before (last_of d.coefs) (coef_said d.problem values));
+  next = λ values. record d { coefs = d.coefs ++ coef_said d.problem values ∷ [] };
 }
 
--- `r t` and a bound
-unfoldable pub limit_of : ℕ → ℕ → List (List ℕ) → Result Limit TextKind
-limit_of resources periods fields = do
-  values ← read text_kinds (limit_form resources periods fields) fields
-  Ok (limit_said values)
+-- a limit, the right way round and behind the last one
+unfoldable pub limit_line : ModelDraftView → List (List ℕ) → Shape TextKind ModelDraftView
+limit_line d fields = record {
+  first = [];
+  texts = fields;
+  form = limit_form (count_in d.header key.Resources) (count_in d.header key.Periods) fields;
+  kinds = text_kinds;
+  last = λ values. check Order
+      (not (is_turned (limit_said values).bound) && is_behind stands_before (last_of d.limits) (limit_said values));
+  next = λ values. record d { limits = d.limits ++ limit_said values ∷ [] };
+}
 
--- a line of the objective
-abbrev pub admit_values : ModelDraftView → List (List ℕ) → Result ModelDraftView TextKind
-admit_values d fields = do
-  values ← values_of d.blocks (count_in d.header key.Destinations) (length d.values) fields
-  Ok (record d { values = d.values ++ values ∷ [] })
-
--- a line of a coefficient, which comes after those before it
-abbrev pub admit_coef : ModelDraftView → List (List ℕ) → Result ModelDraftView TextKind
-admit_coef d fields = do
-  c ← coef_of d.problem d.blocks (count_in d.header key.Destinations) (count_in d.header key.Resources) fields
-  if is_behind comes_before (last_of d.coefs) c then Ok (record d { coefs = d.coefs ++ c ∷ [] }) else Err Order
-
--- a line of a limit, which comes after those before it
-abbrev pub admit_limit : ModelDraftView → List (List ℕ) → Result ModelDraftView TextKind
-admit_limit d fields = do
-  l ← limit_of (count_in d.header key.Resources) (count_in d.header key.Periods) fields
-  if is_turned l.bound || not (is_behind stands_before (last_of d.limits) l) then Err Order
-      else Ok (record d { limits = d.limits ++ l ∷ [] })
-
--- a line without a key, in a section
-abbrev pub admit_item : ModelDraftView → Section → List (List ℕ) → Result ModelDraftView TextKind
-admit_item d Heading fields = Err Key
-admit_item d Objective fields = admit_values d fields
-admit_item d Coefs fields = admit_coef d fields
-admit_item d Limits fields = admit_limit d fields
+-- a line without a colon, in a section
+abbrev pub item_line : ModelDraftView → Section → List (List ℕ) → Shape TextKind ModelDraftView
+item_line d Heading fields = stray_line d
+item_line d Objective fields = values_line d fields
+item_line d Coefs fields = coef_line d fields
+item_line d Limits fields = limit_line d fields
 
 abbrev pub is_colon : ℕ → Bool
 is_colon b = b == 58
 
--- a line of the file, after those so far: one with a colon is a key line
-unfoldable pub admit_model : ModelDraftView → List ℕ → Result ModelDraftView TextKind
-admit_model d line =
+-- a line of the file
+abbrev pub model_line : ModelDraftView → List ℕ → Shape TextKind ModelDraftView
+model_line d line =
     if list_any is_colon line
-    then admit_key d (key_of d.problem (fields_of (before_first is_colon line))) (fields_of (after_first is_colon line))
-    else admit_item d d.section (fields_of line)
+    then keyed_line d (key_of d.problem (fields_of (before_first is_colon line))) (fields_of (after_first is_colon line))
+    else item_line d d.section (fields_of line)
 
--- the file once all lines are read: nothing of it is lacking
+abbrev pub model_grammar : Grammar Line ModelDraftView TextKind LineFault
+model_grammar = record {
+  shape = λ number d line. model_line d line.text;
+  fault = λ number line kind. record { line = line.number; kind = kind };
+}
+
+-- nothing of the file is lacking
+abbrev pub is_whole : ModelDraftView → Bool
+is_whole d = is_complete d.header && (length d.values == d.blocks) && is_limits d.section
+
+-- the file once all lines are read
 abbrev pub finish_model : ℕ → ModelDraftView → Result ModelDraftView LineFault
-finish_model end d =
-    if is_complete d.header && (length d.values == d.blocks) && is_limits d.section then Ok d
-    else Err (record { line = end; kind = Missing })
+finish_model end d = if is_whole d then Ok d else Err (record { line = end; kind = Missing })
 
 -- what the model file of a problem states, of n blocks, or its first faulty line
 abbrev pub model_in : Problem → ℕ → List ℕ → Result ModelDraftView LineFault
-model_in problem n text = read_lines admit_model (blank_model problem n) (lines_in text) >>= finish_model (end_of text)
+model_in problem n text = read_all model_grammar 1 (blank_model problem n) (lines_in text) >>= finish_model (end_of text)

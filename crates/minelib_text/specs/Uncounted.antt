@@ -1,11 +1,9 @@
 -- Lines as the code reads them, field by field. Only proofs and private contracts need it.
 use Rattle.std.specs.Prelude.{◌≡◌, ℕ, ◌==◌, not, Bool, List, [], ◌∷◌, length, ℤ, Result, Ok, Err, if◌then◌else◌, codes, slice_index_or}
 use Rattle.std.specs.Str.{bytes_eq}
-use Rattle.mine_instance.specs.declared.coef.Coef.{Coef}
 use Rattle.forms.specs.Steps.{◌>>=◌}
 use Rattle.pit_model.specs.declared.limit.Bound.{Bound}
 use Rattle.pit_model.specs.declared.limit.Bound.TheVariants.{AtMost, AtLeast, Between}
-use Rattle.pit_model.specs.declared.limit.Limit.{Limit}
 use Rattle.pit_units.specs.Decimal.{decimal_of}
 use Rattle.minelib_text.specs.FieldValues.{all_by, first_by, decimal_in, whole_in}
 use Rattle.minelib_text.specs.TextLines.{fields_of}
@@ -26,26 +24,11 @@ pub record TakesDecimal (decimals : ℕ) (line : List ℕ) (m : ℤ) (rest : Lis
 abbrev pub kind_by : Bool → TextKind → TextKind
 kind_by counted kind = if counted then kind else Fields
 
--- the values of a line of as many fields as it has to have
-abbrev pub values_alone : ℕ → ℕ → List (List ℕ) → Result (List ℤ) TextKind
-values_alone n before fields = do
-  b ← first_by (whole_in n) fields
-  values ← all_by decimal_in [] b.1
-  if not (b.0 == before) then Err Order else Ok values
 
 -- the destination of a coefficient, and the fields behind it; that of a CPIT stands for the only one
 abbrev pub destination_in : Problem → ℕ → List (List ℕ) → Result (ℕ × List (List ℕ)) TextKind
 destination_in Pcpsp destinations fields = first_by (whole_in destinations) fields
 destination_in Cpit destinations fields = Ok (0, fields)
-
--- the coefficient of a line of as many fields as are read
-unfoldable pub coef_alone : Problem → ℕ → ℕ → ℕ → List (List ℕ) → Result Coef TextKind
-coef_alone problem n destinations resources fields = do
-  b ← first_by (whole_in n) fields
-  d ← destination_in problem destinations b.1
-  r ← first_by (whole_in resources) d.1
-  v ← first_by decimal_in r.1
-  if not (length v.1 == 0) then Err Fields else Ok (record { b = b.0; d = d.0; r = r.0; v = v.0 })
 
 -- an interval has a field more
 abbrev pub limit_width : List (List ℕ) → ℕ
@@ -65,15 +48,6 @@ bound_in (letter ∷ fields) =
     if bytes_eq letter (codes "L") then (first_by decimal_in fields >>= λ v. Ok (AtMost v.0))
     else (if bytes_eq letter (codes "G") then (first_by decimal_in fields >>= λ v. Ok (AtLeast v.0))
     else (if bytes_eq letter (codes "I") then interval_in fields else Err Name))
-
--- the limit of a line, field by field
-abbrev pub limit_alone : ℕ → ℕ → List (List ℕ) → Result Limit TextKind
-limit_alone resources periods fields =
-    if not (length fields == limit_width fields) then Err Fields else do
-      r ← first_by (whole_in resources) fields
-      t ← first_by (whole_in periods) r.1
-      bound ← bound_in t.1
-      Ok (record { resource = r.0; period = t.0; bound = bound })
 
 -- what a line states that has as many fields as it has to have; a fault that was met in another line may be of another kind
 abbrev pub AdmitsCounted : {S A : Type 0} → Type 0 → S → Result A LineError → Result S TextKind → Type 0

@@ -8,19 +8,16 @@ ghost use Rattle.mine_instance.specs.OfModel.{instance as instance_of};
 ghost use Rattle.mine_instance.specs.OneSlope.{instance_by};
 ghost use Rattle.mine_instance.specs.Valid.{ArePredsOf, IsValid};
 ghost use Rattle.mine_instance.specs.declared.instance.Instance.{Instance as OneInstance};
-ghost use Rattle.minelib_text.specs.BegunModel.{EndsEarly, IsFirstSpoiled};
 ghost use Rattle.minelib_text.specs.BlockLines.{block_form, block_grammar, block_shape, blocks_in};
 ghost use Rattle.minelib_text.specs.Denotes.{Denotes, DenotesCpit};
 ghost use Rattle.minelib_text.specs.Kept.{IsKept, IsKeptCpit};
 ghost use Rattle.minelib_text.specs.LineValues.{block_values, preds_values};
-ghost use Rattle.minelib_text.specs.ModelDemands.{HasKind};
-ghost use Rattle.minelib_text.specs.ModelLines.{ModelDraftView, model_in};
+ghost use Rattle.minelib_text.specs.ModelLines.{ModelDraftView, blank_model, model_grammar, model_in};
 ghost use Rattle.minelib_text.specs.PrecLines.{LacksLines, prec_grammar, preds_form, preds_in, preds_shape};
 ghost use Rattle.minelib_text.specs.SameTexts.{HaveSameTexts};
 ghost use Rattle.minelib_text.specs.Lines.{text_of};
-ghost use Rattle.minelib_text.specs.SpelledModel.{AreModelLines};
+ghost use Rattle.minelib_text.specs.SpelledModel.{AreModelLines, EndsEarly, IsFirstSpoiled};
 ghost use Rattle.minelib_text.specs.SpelledTexts.{SpellCpit, SpellInstance};
-ghost use Rattle.minelib_text.specs.StatedModel.{StatedModel, stated_by};
 ghost use Rattle.minelib_text.specs.TextLines.{fields_of, is_ended, lines_in, lines_of};
 ghost use Rattle.minelib_text.specs.TextParts.{AreBlanks, IsFieldText, IsLineText};
 ghost use Rattle.minelib_text.specs.Written.{text_blocks, text_prec, text_pcpsp, text_cpit};
@@ -100,19 +97,16 @@ pub fn prec_lines_are_spelled()
         → AllState (prec_grammar n) 1 [] (lines_in text) lists }
 {}
 
-/// Where a model file of n blocks is read, its lines that are read are one for each header key, in any order, and then those of the
-/// sections: each section's key line, and one line for each block's values, each coefficient and each limit, in order.
+/// Where a model file of n blocks is read, its lines that are read state it by the grammar, one behind the other, and nothing is lacking.
 pub fn model_lines_are_spelled()
     ensures { (problem : Problem) (n : ℕ) (text : List ℕ) (d : ModelDraftView) → model_in problem n text ≡ Ok d
-        → AreModelLines problem n (lines_in text) (stated_by d) }
+        → AreModelLines problem n (lines_in text) d }
 {}
 
-/// Lines that spell what a model file states are read as it, header keys in any order and numbers
-/// in any spelling.
+/// Lines that state a model by the grammar are read as it, header keys in any order and numbers in any spelling.
 pub fn spelled_models_are_read()
-    ensures { (problem : Problem) (n : ℕ) (text : List ℕ) (m : StatedModel)
-        → AreModelLines problem n (lines_in text) m
-        → (d : ModelDraftView) × (model_in problem n text ≡ Ok d) × (stated_by d ≡ m) }
+    ensures { (problem : Problem) (n : ℕ) (text : List ℕ) (d : ModelDraftView)
+        → AreModelLines problem n (lines_in text) d → model_in problem n text ≡ Ok d }
 {}
 
 /// Three texts denote an instance exactly where their lines spell it.
@@ -153,14 +147,13 @@ pub fn faulty_lines_spell_no_preds()
         → IsFirstFault (prec_grammar n) 1 [] (lines_in text) fault ⊎ LacksLines n text fault }
 {}
 
-/// A faulty line of a model file of n blocks is the first behind which nothing makes it a model,
-/// and its kind that of the first thing asked of it that does not hold; or all lines begin a model,
-/// and lines are lacking at the end.
+/// A faulty line of a model file of n blocks is the first that states nothing behind those before it, of the kind of what fails first
+/// there, and the first behind which nothing makes it a model; or all lines begin a model, and lines are lacking at the end.
 pub fn faulty_lines_begin_no_model()
     ensures { (problem : Problem) (n : ℕ) (text : List ℕ) (fault : LineFault) → n ≤ MAX_BLOCKS
         → model_in problem n text ≡ Err fault
-        → (IsFirstSpoiled problem n (lines_in text) fault.line
-        × HasKind problem n (lines_in text) fault) ⊎ EndsEarly problem n text fault }
+        → (IsFirstFault model_grammar 1 (blank_model problem n) (lines_in text) fault
+        × IsFirstSpoiled problem n (lines_in text) fault.line) ⊎ EndsEarly problem n text fault }
 {}
 
 /// Lines are what stands between LFs, a last one without LF as well; fields are what stands between runs of blanks.

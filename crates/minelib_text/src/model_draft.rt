@@ -5,8 +5,8 @@ ghost use Rattle.mine_instance.specs.Cpit.{IsCpit};
 ghost use Rattle.mine_instance.specs.OfCpit.{without_destination};
 ghost use Rattle.minelib_text.specs.Denotes.{cpit_read, instance_read};
 ghost use Rattle.minelib_text.specs.HeaderKeys.{count_in, is_complete};
-ghost use Rattle.minelib_text.specs.ModelLines.{admit_coef, admit_header, admit_item, admit_key, admit_limit, admit_model, admit_section, admit_values, blank_model, finish_model, is_heading, is_behind, is_limits, is_ready, last_of, name_with};
-ghost use Rattle.minelib_text.specs.ModelParts.{is_name_for};
+ghost use Rattle.minelib_text.specs.ModelLines.{blank_model, coef_line, finish_model, header_line, is_behind, is_heading, is_ready, is_whole, item_line, keyed_line, last_of, limit_line, name_with, section_line, values_line};
+ghost use Rattle.minelib_text.specs.ModelParts.{admit_model, is_name_for, takes};
 ghost use Rattle.mine_instance.specs.Order.{comes_before};
 ghost use Rattle.minelib_text.specs.declared.model_key.HeaderKey.TheVariants as key;
 ghost use Rattle.minelib_text.specs.declared.model_key.Section.TheVariants as Section;
@@ -158,13 +158,13 @@ impl ModelDraft {
     }
 
     fn is_whole(&self) -> bool
-        ensures { result ≡ (is_complete self.now.header && (length self.now.values == self.now.blocks) && is_limits self.now.section) }
+        ensures { result ≡ is_whole self.now }
     {
         self.header.is_complete() && self.values.len() == self.blocks && is_limits(self.section)
     }
 
     #[inline(never)]
-    #[tactic(auto, unfolding(crate::specs::ModelLines::admit_model))]
+    #[tactic(auto, unfolding(crate::specs::ModelParts::admit_model))]
     fn admit_any(&mut self, line: &[u8]) -> Result<(), LineError>
         ensures { Admits self.new result (admit_model self.old line.now) }
     {
@@ -175,7 +175,7 @@ impl ModelDraft {
     }
 
     // A line below the key of the objective. One that is read as values has no colon, so it is not searched for one.
-    #[tactic(auto, unfolding(crate::specs::ModelLines::admit_model), using(crate::proofs::ItemsKeyless::values_keyless))]
+    #[tactic(auto, unfolding(crate::specs::ModelParts::admit_model), using(crate::proofs::ItemsKeyless::values_keyless, crate::proofs::ModelShapes::values_takes))]
     fn admit_in_objective(&mut self, line: &[u8]) -> Result<(), LineError>
         requires { self.old.section ≡ Section.Objective }
         ensures { Admits self.new result (admit_model self.old line.now) }
@@ -217,8 +217,9 @@ impl ModelDraft {
         Ok(())
     }
 
+    #[tactic(auto, using(crate::proofs::ModelShapes::stray_takes))]
     fn admit_key(&mut self, key: Option<ModelKey>, values: &[u8]) -> Result<(), LineError>
-        ensures { Admits self.new result (admit_key self.old key (fields_of values.now)) }
+        ensures { Admits self.new result (takes (keyed_line self.old key (fields_of values.now))) }
     {
         match key {
             None => Err(LineError::Faulty(TextKind::Key)),
@@ -227,8 +228,9 @@ impl ModelDraft {
         }
     }
 
+    #[tactic(auto, using(crate::proofs::ModelShapes::header_takes))]
     fn admit_header(&mut self, key: HeaderKey, values: &[u8]) -> Result<(), LineError>
-        ensures { Admits self.new result (admit_header self.old key (fields_of values.now)) }
+        ensures { Admits self.new result (takes (header_line self.old key (fields_of values.now))) }
     {
         if !is_heading(self.section) {
             return Err(LineError::Faulty(TextKind::Key));
@@ -243,8 +245,9 @@ impl ModelDraft {
         Ok(())
     }
 
+    #[tactic(auto, using(crate::proofs::ModelShapes::section_takes))]
     fn admit_section(&mut self, section: Section, values: &[u8]) -> Result<(), LineError>
-        ensures { Admits self.new result (admit_section self.old section (fields_of values.now)) }
+        ensures { Admits self.new result (takes (section_line self.old section (fields_of values.now))) }
     {
         if !is_next(self.section, section) {
             return Err(LineError::Faulty(TextKind::Key));
@@ -259,8 +262,9 @@ impl ModelDraft {
         Ok(())
     }
 
+    #[tactic(auto, using(crate::proofs::ModelShapes::stray_takes))]
     fn admit_item(&mut self, line: &[u8]) -> Result<(), LineError>
-        ensures { Admits self.new result (admit_item self.old self.old.section (fields_of line.now)) }
+        ensures { Admits self.new result (takes (item_line self.old self.old.section (fields_of line.now))) }
     {
         match self.section {
             Section::Heading => Err(LineError::Faulty(TextKind::Key)),
@@ -270,9 +274,10 @@ impl ModelDraft {
         }
     }
 
+    #[tactic(auto, using(crate::proofs::ModelShapes::values_takes))]
     fn admit_values(&mut self, line: &[u8]) -> Result<(), LineError>
         requires { is_heading self.old.section ≡ false }
-        ensures { Admits self.new result (admit_values self.old (fields_of line.now)) }
+        ensures { Admits self.new result (takes (values_line self.old (fields_of line.now))) }
     {
         let destinations = self.destinations();
         let before = self.values.len();
@@ -281,9 +286,10 @@ impl ModelDraft {
         Ok(())
     }
 
+    #[tactic(auto, using(crate::proofs::ModelShapes::coef_takes))]
     fn admit_coef(&mut self, line: &[u8]) -> Result<(), LineError>
         requires { is_heading self.old.section ≡ false }
-        ensures { Admits self.new result (admit_coef self.old (fields_of line.now)) }
+        ensures { Admits self.new result (takes (coef_line self.old (fields_of line.now))) }
     {
         let destinations = self.destinations();
         let resources = self.resources();
@@ -291,8 +297,9 @@ impl ModelDraft {
         self.add_coef(coef)
     }
 
+    #[tactic(auto, using(crate::proofs::ModelShapes::limit_takes))]
     fn admit_limit(&mut self, line: &[u8]) -> Result<(), LineError>
-        ensures { Admits self.new result (admit_limit self.old (fields_of line.now)) }
+        ensures { Admits self.new result (takes (limit_line self.old (fields_of line.now))) }
     {
         let resources = self.resources();
         let periods = self.periods();

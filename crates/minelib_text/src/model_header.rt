@@ -2,9 +2,9 @@
 
 ghost use Rattle.std.specs.Prelude.{◌≡◌, ◌<◌, ◌≤◌, pos, true, IfOk};
 ghost use Rattle.forms.specs.Form.{Decimal};
-ghost use Rattle.minelib_text.specs.KeyFields.{millionths_in, number_in, type_text};
+ghost use Rattle.minelib_text.specs.KeyFields.{type_text};
 ghost use Rattle.minelib_text.specs.ModelLines.{blank_header};
-ghost use Rattle.minelib_text.specs.ModelParts.{is_name_for, number_limit};
+ghost use Rattle.minelib_text.specs.ModelParts.{is_name_for, millionths_in, number_in, number_limit};
 
 use crate::model_key::{Header, HeaderKey, Problem};
 use crate::model_keys::is_word;

@@ -4,12 +4,12 @@ ghost use Rattle.std.specs.Prelude.{◌≡◌, ◌≤◌, ◌<◌, ◌+◌, ◌�
 ghost use Rattle.pit_model.specs.Plan.{stands_before};
 ghost use Rattle.mine_instance.specs.Order.{comes_before};
 ghost use Rattle.minelib_text.specs.FieldValues.{Takes, all_by, decimal_in, first_by};
-ghost use Rattle.minelib_text.specs.ModelLines.{coef_of, is_behind, last_of, limit_of, values_of};
-ghost use Rattle.minelib_text.specs.ModelParts.{TakesFirst};
+ghost use Rattle.minelib_text.specs.ModelLines.{is_behind, last_of};
+ghost use Rattle.minelib_text.specs.ModelParts.{TakesFirst, coef_alone, coef_of, limit_of, values_of};
 ghost use Rattle.minelib_text.specs.Reading.{Admits};
-ghost use Rattle.minelib_text.specs.SpelledItems.{coef_form};
+ghost use Rattle.minelib_text.specs.ItemForms.{coef_form};
 ghost use Rattle.minelib_text.specs.TextLines.{fields_of};
-ghost use Rattle.minelib_text.specs.Uncounted.{AdmitsCounted, bound_in, coef_alone, destination_in, interval_in, limit_width};
+ghost use Rattle.minelib_text.specs.Uncounted.{AdmitsCounted, bound_in, destination_in, interval_in, limit_width};
 ghost use Rattle.pit_model.specs.declared.ranges.TheConstants.{MAX_BLOCKS};
 
 use crate::field_values::decimal_in;
@@ -104,7 +104,7 @@ pub fn coef_of(
 
 /// The coefficient of a line of as many fields as it has to have. The fault of another line may be of another kind.
 #[inline(always)]
-#[tactic(auto, unfolding(crate::specs::Uncounted::coef_alone))]
+#[tactic(auto, using(crate::proofs::CoefLineFacts::coef_steps))]
 pub fn coef_alone(
     problem: Problem,
     blocks: usize,

@@ -3,8 +3,8 @@
 ghost use Rattle.std.specs.Prelude.{◌≡◌, ◌+◌, ◌<◌, true, false, length, position, MatchOption};
 ghost use Rattle.std.specs.List.{list_any, before_first, after_first};
 ghost use Rattle.std.specs.Str.{bytes_eq};
-ghost use Rattle.minelib_text.specs.ModelLines.{is_colon, is_heading, is_limits, is_next, key_in, key_of, only_value, shared_key};
-ghost use Rattle.minelib_text.specs.ModelParts.{States};
+ghost use Rattle.minelib_text.specs.ModelLines.{is_colon, is_heading, is_limits, is_next, key_in, key_of, shared_key};
+ghost use Rattle.minelib_text.specs.ModelParts.{States, only_value};
 ghost use Rattle.minelib_text.specs.TextLines.{fields_of};
 
 use crate::model_key::{HeaderKey, ModelKey, Problem, Section};

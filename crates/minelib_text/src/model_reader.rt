@@ -12,6 +12,7 @@ use crate::reading::read_lines;
 use std::alloc::Global;
 
 /// What the model file of a problem states, of so many blocks.
+#[tactic(auto, using(crate::proofs::ModelShapes::lines_are_all))]
 pub fn read_model(
     alloc: Global,
     problem: Problem,

@@ -1,4 +1,4 @@
-use Rattle.minelib_text.proofs.SpelledModelRead.{model_spelled}
+use Rattle.minelib_text.proofs.SpelledDenotes.{model_spelled}
 use Rattle.minelib_text.proofs.laws.model_lines_are_spelled.Goals as goal
 
 pub returns : goal.returns

@@ -1,4 +1,4 @@
-use Rattle.minelib_text.proofs.SpelledModelBack.{model_back}
+use Rattle.minelib_text.proofs.SpelledDenotes.{model_back}
 use Rattle.minelib_text.proofs.laws.spelled_models_are_read.Goals as goal
 
 pub returns : goal.returns

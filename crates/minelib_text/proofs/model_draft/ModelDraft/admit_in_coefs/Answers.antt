@@ -1,7 +1,7 @@
 use Rattle.std.proofs.Common.{◌≡◌, sym, Ok}
 use Rattle.minelib_text.specs.HeaderKeys.{count_in}
 use Rattle.minelib_text.specs.TextLines.{fields_of}
-use Rattle.minelib_text.specs.Uncounted.{coef_alone}
+use Rattle.minelib_text.specs.ModelParts.{coef_alone}
 use Rattle.minelib_text.specs.declared.model_key.HeaderKey.TheVariants as key
 use Rattle.minelib_text.proofs.ItemsKeyless.{coef_admitted}
 use Rattle.minelib_text.proofs.model_draft.ModelDraft.admit_in_coefs.Goals as goal
