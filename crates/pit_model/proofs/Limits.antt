@@ -1,15 +1,17 @@
 -- One limit more, in its place, keeps what a list of limits keeps.
-use Rattle.std.proofs.Common.{◌≡◌, ◌≤◌, List, [], ◌∷◌, Bool, true, false, not, suc, arith, refl, ap, length, nat_lt, All, unwrap_or}
+use Rattle.std.proofs.Common.{◌≡◌, ◌≤◌, List, [], ◌∷◌, Bool, true, false, not, suc, arith, refl, ap, subst, length, nat_lt, All, unwrap_or}
 use Rattle.std.specs.Prelude.{IsTrue}
 use Rattle.std.specs.List.{list_any, insert, position, position_or_len}
 use Rattle.std.proofs.lemmas.Bool.Decides.{nat_tests}
 use Rattle.std.proofs.Math.Numerals.{one-add}
 use Rattle.std.proofs.lemmas.List.Elements.{All-nil, All-cons, All-head, All-tail, All-weaker}
 use Rattle.std.proofs.lemmas.List.Kept.{AllPairs-cons}
+use Rattle.std.proofs.lemmas.List.Sorted.{IsPermutation-insert}
+use Rattle.std.specs.List.Sorted.{IsPermutation}
 use Rattle.std.proofs.lemmas.List.Sums.{prefix_len-le-length}
 use Rattle.std.proofs.lemmas.Bool.{or_parts}
 use Rattle.pit_model.specs.Plan.{stands_before, RiseStrictly}
-use Rattle.pit_model.specs.Planned.{with_limit, is_same_place}
+use Rattle.pit_model.specs.Stated.{with_limit, is_same_place}
 use Rattle.pit_model.specs.declared.limit.Limit.{Limit}
 
 pub placed : {X : Type 0} (p : X → Bool) (xs : List X) → unwrap_or (position p xs) (length xs) ≡ position_or_len p xs
@@ -74,3 +76,6 @@ rises l (m ∷ ms) up none =
     by_test more false e =
         rw e (AllPairs-cons before m (with_limit l ms)
         (All-with_limit (λ k. stands_before m k ≡ true) l ms (after l m e others.0) (first_rises m ms up)) more)
+
+pub with_limit_keeps : (l : Limit) (ms : List Limit) → IsPermutation (l ∷ ms) (with_limit l ms)
+with_limit_keeps l ms = subst (IsPermutation (l ∷ ms)) (inserted l ms) (IsPermutation-insert ms (position_or_len (λ m. stands_before l m) ms) l)

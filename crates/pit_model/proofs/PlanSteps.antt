@@ -1,59 +1,86 @@
--- One record of a plan after the other: what the records ahead state, after those of the draft.
-use Rattle.std.proofs.Common.{◌≡◌, ◌<◌, ◌≤◌, ℕ, ◌+◌, true, false, List, [], ◌∷◌, Result, Ok, Err, refl, sym, ◌∙◌, ap, arith, nat_lt}
+-- One record of a plan after the other: what the records ahead state, behind those before them.
+use Rattle.std.proofs.Common.{◌≡◌, ◌<◌, ◌≤◌, ℕ, suc, ◌+◌, true, false, List, [], ◌∷◌, Result, Ok, Err, refl, sym, ◌∙◌, ap, arith, length, nat_le}
 use Rattle.std.proofs.lemmas.Bool.Decides.{nat_tests}
+use Rattle.forms.specs.Grammar.{placed, read_all}
+use Rattle.forms.specs.Shape.{said}
 use Rattle.forms.specs.Steps.{◌>>=◌}
 use Rattle.pit_model.specs.Cells.{cells_of}
 use Rattle.pit_model.specs.Plan.{PlanParts}
-use Rattle.pit_model.specs.Planned.{DraftView, plan_from, admit, finished, at_record}
-use Rattle.pit_model.specs.Records.{RecordReaderView, Rows, Over, GaveUp, TakesRow}
+use Rattle.pit_model.specs.PlanShapes.{record_shape}
+use Rattle.pit_model.specs.Planned.{finished, finished_at, plan_grammar, planned}
+use Rattle.pit_model.specs.Records.{RecordReaderView, Rows, Over, GaveUp, TakesRow, records_of}
+use Rattle.pit_model.specs.Stated.{Stated, nothing_stated}
 use Rattle.pit_model.specs.declared.plan_fault.PlanFault.{PlanFault}
 use Rattle.pit_model.specs.declared.plan_fault.PlanFaultKind.{PlanFaultKind}
 use Rattle.pit_model.specs.declared.plan_fault.PlanFaultKind.TheVariants.{TooMany}
 
--- the records ahead, after those of the draft, state this plan
-abbrev pub Leads : RecordReaderView → ℕ → DraftView → Result PlanParts PlanFault → Type 0
-Leads (Rows rows) n d stated = plan_from rows n d ≡ stated
-Leads Over n d stated = ⊥
-Leads GaveUp n d stated = ⊥
+-- the plan of these records, the first of them of this number
+abbrev pub plan_from : List (List (List ℕ)) → ℕ → Stated → Result PlanParts PlanFault
+plan_from rows n s = read_all plan_grammar n s rows >>= λ last. finished_at (n + length rows) (finished last)
+
+pub all_planned : (text : List ℕ) → plan_from (records_of text) 1 nothing_stated ≡ planned text
+all_planned text =
+    let same : 1 + length (records_of text) ≡ length (records_of text) + 1 = omega arith in
+    ap (λ n. read_all plan_grammar 1 nothing_stated (records_of text) >>= λ last. finished_at n (finished last)) same
+
+-- the records ahead state this plan
+abbrev pub Leads : RecordReaderView → ℕ → Stated → Result PlanParts PlanFault → Type 0
+Leads (Rows rows) n s stated = plan_from rows n s ≡ stated
+Leads Over n s stated = ⊥
+Leads GaveUp n s stated = ⊥
+
+-- the first of them
+one : (row : List (List ℕ)) (rows : List (List (List ℕ))) (n : ℕ) (s : Stated) → n ≤ 10000
+    → plan_from (row ∷ rows) n s ≡ (placed plan_grammar n row (said (record_shape s (cells_of row))) >>= λ next. plan_from rows (n + 1) next)
+one row rows n s few =
+    let test : nat_le n 10000 ≡ true = grind (arith, nat_tests) in
+    let last : n + length (row ∷ rows) ≡ n + 1 + length rows = omega arith in
+    let next : suc n ≡ n + 1 = omega arith in
+    rw test (
+    ap (λ k. (placed plan_grammar n row (said (record_shape s (cells_of row))) >>= λ x. read_all plan_grammar (suc n) x rows) >>= λ last. finished_at k (finished last)) last
+    ∙ ap (λ k. (placed plan_grammar n row (said (record_shape s (cells_of row))) >>= λ x. read_all plan_grammar k x rows) >>= λ last. finished_at (n + 1 + length rows) (finished last)) next
+    ∙ by (placed plan_grammar n row (said (record_shape s (cells_of row))))
+    )
+  where
+    by : (r : Result Stated PlanFault)
+        → ((r >>= λ x. read_all plan_grammar (n + 1) x rows) >>= λ last. finished_at (n + 1 + length rows) (finished last)) ≡ (r >>= λ x. plan_from rows (n + 1) x)
+    by (Ok next) = refl
+    by (Err fault) = refl
 
 -- a record was taken: it and those ahead now are those that were ahead
-took : (E : Type 0) (old : RecordReaderView) (fields : List (List ℕ)) (after : RecordReaderView) (n : ℕ) (d : DraftView) (stated : Result PlanParts PlanFault)
-    → TakesRow {E = E} old (Ok true) fields after → Leads old n d stated
-    → (rest : List (List (List ℕ))) × ((after ≡ Rows rest) × (plan_from (fields ∷ rest) n d ≡ stated))
-took E (Rows []) fields after n d stated t h = absurd (cc (t.0))
-took E (Rows (row ∷ rows)) fields after n d stated t h = (rows, (t.2, ap (λ f. plan_from (f ∷ rows) n d) t.1 ∙ h))
-took E Over fields after n d stated t h = absurd h
-took E GaveUp fields after n d stated t h = absurd t
+took : (E : Type 0) (old : RecordReaderView) (fields : List (List ℕ)) (after : RecordReaderView) (n : ℕ) (s : Stated) (stated : Result PlanParts PlanFault)
+    → TakesRow {E = E} old (Ok true) fields after → Leads old n s stated
+    → (rest : List (List (List ℕ))) × ((after ≡ Rows rest) × (plan_from (fields ∷ rest) n s ≡ stated))
+took E (Rows []) fields after n s stated t h = absurd (cc (t.0))
+took E (Rows (row ∷ rows)) fields after n s stated t h = (rows, (t.2, ap (λ f. plan_from (f ∷ rows) n s) t.1 ∙ h))
+took E Over fields after n s stated t h = absurd h
+took E GaveUp fields after n s stated t h = absurd t
 
-pub ended : (E : Type 0) (old : RecordReaderView) (fields : List (List ℕ)) (after : RecordReaderView) (n : ℕ) (d : DraftView) (stated : Result PlanParts PlanFault)
-    → TakesRow {E = E} old (Ok false) fields after → Leads old n d stated → at_record n (finished d) ≡ stated
-ended E (Rows []) fields after n d stated t h = h
-ended E (Rows (row ∷ rows)) fields after n d stated t h = absurd (cc (t.0))
-ended E Over fields after n d stated t h = absurd h
-ended E GaveUp fields after n d stated t h = absurd t
+pub ended : (E : Type 0) (old : RecordReaderView) (fields : List (List ℕ)) (after : RecordReaderView) (n : ℕ) (s : Stated) (stated : Result PlanParts PlanFault)
+    → TakesRow {E = E} old (Ok false) fields after → Leads old n s stated → finished_at n (finished s) ≡ stated
+ended E (Rows []) fields after n s stated t h = let same : n ≡ n + 0 = omega arith in ap (λ k. finished_at k (finished s)) same ∙ h
+ended E (Rows (row ∷ rows)) fields after n s stated t h = absurd (cc (t.0))
+ended E Over fields after n s stated t h = absurd h
+ended E GaveUp fields after n s stated t h = absurd t
 
-pub too_many : (E : Type 0) (old : RecordReaderView) (fields : List (List ℕ)) (after : RecordReaderView) (n : ℕ) (d : DraftView) (stated : Result PlanParts PlanFault)
-    → TakesRow {E = E} old (Ok true) fields after → Leads old n d stated → 10000 < n → stated ≡ Err (record { row = n; kind = TooMany })
-too_many E old fields after n d stated t h past =
-    let test : nat_lt 10000 n ≡ true = grind (arith, nat_tests) in
-    sym (took E old fields after n d stated t h).1.1 ∙ rw test refl
+pub too_many : (E : Type 0) (old : RecordReaderView) (fields : List (List ℕ)) (after : RecordReaderView) (n : ℕ) (s : Stated) (stated : Result PlanParts PlanFault)
+    → TakesRow {E = E} old (Ok true) fields after → Leads old n s stated → 10000 < n → stated ≡ Err (record { row = n; kind = TooMany })
+too_many E old fields after n s stated t h past =
+    let test : nat_le n 10000 ≡ false = grind (arith, nat_tests) in
+    sym (took E old fields after n s stated t h).1.1 ∙ rw test refl
 
--- the record says what the draft becomes, or its fault
-within : (fields : List (List ℕ)) (rest : List (List (List ℕ))) (n : ℕ) (d : DraftView) → n ≤ 10000
-    → plan_from (fields ∷ rest) n d ≡ (at_record n (admit d (cells_of fields)) >>= λ next. plan_from rest (n + 1) next)
-within fields rest n d few = let test : nat_lt 10000 n ≡ false = grind (arith, nat_tests) in rw test refl
-
-pub admitted : (E : Type 0) (old : RecordReaderView) (fields : List (List ℕ)) (after : RecordReaderView) (n : ℕ) (d next : DraftView) (stated : Result PlanParts PlanFault)
-    → TakesRow {E = E} old (Ok true) fields after → Leads old n d stated → n ≤ 10000 → admit d (cells_of fields) ≡ Ok next
+-- the record states what is next, or has a fault
+pub admitted : (E : Type 0) (old : RecordReaderView) (fields : List (List ℕ)) (after : RecordReaderView) (n : ℕ) (s next : Stated) (stated : Result PlanParts PlanFault)
+    → TakesRow {E = E} old (Ok true) fields after → Leads old n s stated → n ≤ 10000 → said (record_shape s (cells_of fields)) ≡ Ok next
     → Leads after (n + 1) next stated
-admitted E old fields after n d next stated t h few said =
-    let p = took E old fields after n d stated t h in
-    rw p.1.0 (sym (within fields p.0 n d few ∙ ap (λ r. at_record n r >>= λ x. plan_from p.0 (n + 1) x) said) ∙ p.1.1)
+admitted E old fields after n s next stated t h few states =
+    let p = took E old fields after n s stated t h in
+    rw p.1.0 (sym (one fields p.0 n s few ∙ ap (λ r. placed plan_grammar n fields r >>= λ x. plan_from p.0 (n + 1) x) states) ∙ p.1.1)
 
-pub refused : (E : Type 0) (old : RecordReaderView) (fields : List (List ℕ)) (after : RecordReaderView) (n : ℕ) (d : DraftView) (kind : PlanFaultKind)
+pub refused : (E : Type 0) (old : RecordReaderView) (fields : List (List ℕ)) (after : RecordReaderView) (n : ℕ) (s : Stated) (kind : PlanFaultKind)
     (stated : Result PlanParts PlanFault)
-    → TakesRow {E = E} old (Ok true) fields after → Leads old n d stated → n ≤ 10000 → admit d (cells_of fields) ≡ Err kind
+    → TakesRow {E = E} old (Ok true) fields after → Leads old n s stated → n ≤ 10000 → said (record_shape s (cells_of fields)) ≡ Err kind
     → stated ≡ Err (record { row = n; kind = kind })
-refused E old fields after n d kind stated t h few said =
-    let p = took E old fields after n d stated t h in
-    sym p.1.1 ∙ within fields p.0 n d few ∙ ap (λ r. at_record n r >>= λ x. plan_from p.0 (n + 1) x) said
+refused E old fields after n s kind stated t h few fails =
+    let p = took E old fields after n s stated t h in
+    sym p.1.1 ∙ one fields p.0 n s few ∙ ap (λ r. placed plan_grammar n fields r >>= λ x. plan_from p.0 (n + 1) x) fails

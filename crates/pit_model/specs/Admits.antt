@@ -1,5 +1,6 @@
 -- What a reader of records answers, beside what the records say: the answer agrees, unless memory was refused.
 use Rattle.std.specs.Prelude.{◌≡◌, ℕ, List, Result, Ok, Err}
+use Rattle.forms.specs.Form.{Value, Bytes}
 use Rattle.pit_model.specs.Plan.{PlanParts}
 use Rattle.pit_model.specs.declared.plan_fault.PlanFault.{PlanFault}
 use Rattle.pit_model.specs.declared.plan_fault.PlanFaultKind.{PlanFaultKind}
@@ -21,11 +22,13 @@ Reads (Err (plan_error.Fault fault)) stated = stated ≡ Err fault
 Reads (Err plan_error.OutOfMemory) stated = Unit {0}
 
 -- the NAME of a cell, or its fault
-abbrev pub Names : Result (List ℕ) RecordError → Result (List ℕ) PlanFaultKind → Type 0
-Names (Ok name) stated = stated ≡ Ok name
+abbrev pub Names : Result (List ℕ) RecordError → Result Value PlanFaultKind → Type 0
+Names (Ok name) stated = stated ≡ Ok (Bytes name)
 Names (Err (record_error.Fault kind)) stated = stated ≡ Err kind
 Names (Err record_error.OutOfMemory) stated = Unit {0}
 
 -- the destinations that a record covers, or its fault
 abbrev pub Covered : Result (List ℕ) RecordError → Result (List ℕ) PlanFaultKind → Type 0
-Covered = Names
+Covered (Ok name) stated = stated ≡ Ok name
+Covered (Err (record_error.Fault kind)) stated = stated ≡ Err kind
+Covered (Err record_error.OutOfMemory) stated = Unit {0}

@@ -2,11 +2,11 @@
 use Rattle.std.specs.Prelude.{◌<◌, ◌≤◌, length, ◌≤ℤ◌, pos, All, IfSome, unwrap_or}
 use Rattle.pit_model.specs.declared.draft.Draft.TheInside.{Inside}
 use Rattle.pit_model.specs.Plan.{IsGrid, IsCone, IsRuled, IsBound, AreCovers, RiseStrictly}
-use Rattle.pit_model.specs.Planned.{DraftView}
+use Rattle.pit_model.specs.Stated.{Stated}
 use Rattle.pit_model.specs.declared.ranges.TheConstants.{MAX_DESTINATIONS, MAX_PERIODS, MAX_RATE, MAX_RESOURCES, MAX_ZONES}
 
-abbrev pub draft_of : Inside → DraftView
-draft_of d = record {
+abbrev pub stated_of : Inside → Stated
+stated_of d = record {
   name = d.name;
   grid = d.grid;
   cones = d.cones.items;
@@ -18,16 +18,19 @@ draft_of d = record {
 }
 
 -- each part that was read is in range
-pub record KeepsDraft (d : Inside) : Type 0 where
-  pub grid : IfSome d.grid IsGrid
-  pub zones : length d.cones.items ≤ MAX_ZONES
-  pub cones : All IsCone d.cones.items
-  pub destinations : length d.formulas.items ≤ MAX_DESTINATIONS
-  pub formulas : All (λ f. IsRuled f.formula) d.formulas.items
-  pub periods : IfSome d.periods (λ n. (1 ≤ n) × (n ≤ MAX_PERIODS))
-  pub rate : IfSome d.rate (λ r. (pos 0 ≤ℤ r) × (r ≤ℤ MAX_RATE))
-  pub resources : length d.resources.items ≤ MAX_RESOURCES
-  pub covers : All (λ r. All (λ n. n < length d.formulas.items) r.covers) d.resources.items
-  pub covers_once : All (λ r. AreCovers r.covers) d.resources.items
-  pub limits : All (λ l. (l.resource < length d.resources.items) × (l.period < unwrap_or d.periods 0) × IsBound l.bound) d.limits.items
-  pub rising : RiseStrictly d.limits.items
+pub record KeepsStated (s : Stated) : Type 0 where
+  pub grid : IfSome s.grid IsGrid
+  pub zones : length s.cones ≤ MAX_ZONES
+  pub cones : All IsCone s.cones
+  pub destinations : length s.formulas ≤ MAX_DESTINATIONS
+  pub formulas : All (λ f. IsRuled f.formula) s.formulas
+  pub periods : IfSome s.periods (λ n. (1 ≤ n) × (n ≤ MAX_PERIODS))
+  pub rate : IfSome s.rate (λ r. (pos 0 ≤ℤ r) × (r ≤ℤ MAX_RATE))
+  pub resources : length s.resources ≤ MAX_RESOURCES
+  pub covers : All (λ r. All (λ n. n < length s.formulas) r.covers) s.resources
+  pub covers_once : All (λ r. AreCovers r.covers) s.resources
+  pub limits : All (λ l. (l.resource < length s.resources) × (l.period < unwrap_or s.periods 0) × IsBound l.bound) s.limits
+  pub rising : RiseStrictly s.limits
+
+abbrev pub KeepsDraft : Inside → Type 0
+KeepsDraft d = KeepsStated (stated_of d)

@@ -1,6 +1,7 @@
 pub mod Admits
 pub mod Bands
 pub mod Block
+pub mod ByPlace
 pub mod Cells
 pub mod Count
 pub mod Destinations
@@ -11,12 +12,11 @@ pub mod Formula
 pub mod Name
 pub mod Plan
 pub mod PlanCells
-pub mod PlanDemands
-pub mod PlanPart
 pub mod PlanFields
+pub mod PlanShapes
 pub mod Planned
 pub mod Records
 pub mod RecordsAhead
 pub mod Ruled
-pub mod SpelledPlan
+pub mod Stated
 pub mod Worth

@@ -1,8 +1,8 @@
 -- The cells of a plan's records: what a cell of each kind takes, and the kind of fault where it does not.
-use Rattle.std.specs.Prelude.{ℕ, ◌*◌, ◌^◌, ℤ, pos, ◌*ℤ◌}
+use Rattle.std.specs.Prelude.{ℕ, ◌*◌, ◌^◌, List, [], slice_index_or, ℤ, pos, ◌*ℤ◌}
 use Rattle.forms.specs.FieldFault.{FieldFault}
 use Rattle.forms.specs.FieldFault as fault
-use Rattle.forms.specs.Form.{Field, Decimal, Word, up_to}
+use Rattle.forms.specs.Form.{Field, Decimal, Word, Value, Millionths, Bytes, up_to}
 use Rattle.pit_model.specs.Name.{is_name}
 use Rattle.pit_model.specs.declared.plan_fault.PlanFaultKind.{PlanFaultKind}
 use Rattle.pit_model.specs.declared.plan_fault.PlanFaultKind.TheVariants.{Width, Number, TooFine, Range, Name}
@@ -16,6 +16,14 @@ plan_kind fault.TooFine = TooFine
 plan_kind fault.Range = Range
 plan_kind fault.OffStep = Range
 plan_kind fault.Word = Name
+
+-- the word of a value, and of that at a place
+abbrev pub word_of : Value → List ℕ
+word_of (Bytes word) = word
+word_of (Millionths m) = []
+
+abbrev pub word_at : List Value → ℕ → List ℕ
+word_at values place = word_of (slice_index_or values place (Bytes []))
 
 -- a whole number from the lowest to the highest
 abbrev pub between : ℕ → ℕ → Field

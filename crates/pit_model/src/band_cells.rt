@@ -1,11 +1,11 @@
 //! The bands in the cells of a `leach` record.
 
-ghost use Rattle.std.specs.Prelude.{◌≡◌, ◌+◌, ◌-◌, ◌/◌, ◌%◌, ◌≤◌, drop, length, pos, unsigned_abs, All, OnOk, IfOk};
+ghost use Rattle.std.specs.Prelude.{◌≡◌, ◌+◌, ◌-◌, ◌/◌, ◌%◌, ◌≤◌, suc, length, pos, unsigned_abs, All, OnOk, IfOk};
 ghost use Rattle.csv.specs.Records.{fields_of};
 ghost use Rattle.pit_model.specs.Admits.{Admits};
 ghost use Rattle.pit_model.specs.Bands.{IsBand};
+ghost use Rattle.pit_model.specs.ByPlace.{band_by, bands_in};
 ghost use Rattle.pit_model.specs.Cells.{cells_of};
-ghost use Rattle.pit_model.specs.Planned.{band_in, bands_in};
 
 use crate::band::Band;
 use crate::cells::cell_at;
@@ -15,8 +15,9 @@ use crate::ranges::MAX_RECOVERY;
 use csv::ByteRecord;
 
 // The band of two cells, its start and its recovery.
+#[tactic(auto, using(crate::proofs::CellsByPlace::quotient))]
 fn band_in(start: &[u8], recovery: &[u8]) -> Result<Band, PlanFaultKind>
-    ensures value { result ≡ band_in start.now recovery.now }
+    ensures value { result ≡ band_by start.now recovery.now }
     ensures in_range { IfOk result IsBand }
 {
     let start = number_in(start, 6, 0, 1_000_000_000_000)?;
@@ -28,12 +29,13 @@ fn band_in(start: &[u8], recovery: &[u8]) -> Result<Band, PlanFaultKind>
 }
 
 /// Adds the bands of a record of so many cells, an even number, from its fifth cell on.
+#[tactic(auto, using(crate::proofs::BandSteps::bands_end))]
 pub fn read_bands(row: &ByteRecord, count: usize, bands: &mut Vec<Band>) -> Result<(), RecordError>
     requires whole { count ≡ length (cells_of (fields_of row.now)) }
     requires pairs { count % 2 ≡ 0 }
-    requires some { 4 ≤ count }
+    requires some { 6 ≤ count }
     requires in_range { All IsBand bands.old.items }
-    ensures reads { Admits bands.new.items result (bands_in (drop 4 (cells_of (fields_of row.now))) bands.old.items) }
+    ensures reads { Admits bands.new.items result (bands_in 4 (suc ((count - 6) / 2)) (cells_of (fields_of row.now)) bands.old.items) }
     ensures in_range { All IsBand bands.new.items }
     ensures counted { OnOk result (length bands.new.items ≡ length bands.old.items + (count / 2 - 2)) }
 {

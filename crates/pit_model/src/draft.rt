@@ -1,13 +1,19 @@
 //! A plan while its records are read.
 
-ghost use Rattle.std.specs.Prelude.{◌≡◌, ◌≤ℤ◌, ◌^◌, ◌<◌, ◌≤◌, pos, length, unwrap_or, All, IfOk};
+ghost use Rattle.std.specs.Prelude.{◌≡◌, ◌≤ℤ◌, ◌^◌, ◌<◌, ◌≤◌, pos, length, unwrap_or, All, IfOk, ◌++◌, Ok};
 ghost use Rattle.csv.specs.Records.{fields_of};
 ghost use Rattle.pit_model.specs.Admits.{Admits};
 ghost use Rattle.pit_model.specs.Bands.{IsBand};
 ghost use Rattle.pit_model.specs.Cells.{cells_of};
 ghost use Rattle.pit_model.specs.Plan.{AreTonnes, IsRuled};
-ghost use Rattle.pit_model.specs.PlanCells.{a_rate};
-ghost use Rattle.pit_model.specs.Planned.{admit, admit_name, admit_grid, admit_zone, admit_mill, admit_leach, admit_dump, admit_periods, admit_rate, admit_resource, admit_limit, blank_draft, finished, number_in, with_bound, with_formula, with_leach};
+ghost use Rattle.forms.specs.Form.{Millionths, read_field};
+ghost use Rattle.forms.specs.Shape.{failing, said, unless};
+ghost use Rattle.pit_model.specs.ByPlace.{Gives, key_by_place, leach_in, limit_in, limited, resource_in, said_by_place, zone_in};
+ghost use Rattle.pit_model.specs.PlanCells.{a_rate, plan_kind};
+ghost use Rattle.pit_model.specs.PlanShapes.{bands_asked, dump_shape, grid_shape, mill_shape, name_shape, periods_shape, rate_shape, record_shape, room_for_destination};
+ghost use Rattle.pit_model.specs.Planned.{finished};
+ghost use Rattle.pit_model.specs.Stated.{nothing_stated, with_destination};
+ghost use Rattle.pit_model.specs.declared.formula.Formula.TheVariants.{Leach};
 ghost use Rattle.pit_model.specs.declared.ranges.TheConstants.{MAX_COST, MAX_PRICE, MAX_RATE};
 
 use crate::band::{Band, Bands, starts_rise};
@@ -50,13 +56,13 @@ pub struct Draft {
 }
 
 impl Model for Draft {
-    ghost use Rattle.pit_model.specs.Planned.{DraftView};
+    ghost use Rattle.pit_model.specs.Stated.{Stated};
 
-    ghost Value = { DraftView };
+    ghost Value = { Stated };
 
-    ghost use Rattle.pit_model.specs.DraftFields.{draft_of, KeepsDraft};
+    ghost use Rattle.pit_model.specs.DraftFields.{stated_of, KeepsDraft};
 
-    ghost view = { draft_of };
+    ghost view = { stated_of };
 
     ghost invariant = { KeepsDraft };
 }
@@ -64,7 +70,7 @@ impl Model for Draft {
 impl Draft {
     /// Before the first record.
     pub fn new(alloc: Global) -> Draft
-        ensures { result ≡ blank_draft }
+        ensures { result ≡ nothing_stated }
     {
         Draft {
             alloc,
@@ -80,8 +86,9 @@ impl Draft {
     }
 
     /// Adds what the next record says. Where it has a fault, or memory is refused, the draft is of no use.
+    #[tactic(auto, using(crate::proofs::CellsByPlace::recorded))]
     pub fn admit(&mut self, row: &ByteRecord) -> Result<(), RecordError>
-        ensures { Admits self.new result (admit self.old (cells_of (fields_of row.now))) }
+        ensures { Admits self.new result (said (record_shape self.old (cells_of (fields_of row.now)))) }
     {
         let count = cell_count(row);
         if count == 0 {
@@ -89,16 +96,25 @@ impl Draft {
         }
         match key_of(cell_at(row, 0)) {
             None => Err(RecordError::Fault(PlanFaultKind::Key)),
-            Some(PlanKey::Name) => self.admit_name(row, count),
-            Some(PlanKey::Grid) => self.admit_grid(row, count),
-            Some(PlanKey::Zone) => self.admit_zone(row, count),
-            Some(PlanKey::Mill) => self.admit_mill(row, count),
-            Some(PlanKey::Leach) => self.admit_leach(row, count),
-            Some(PlanKey::Dump) => self.admit_dump(row, count),
-            Some(PlanKey::Periods) => self.admit_periods(row, count),
-            Some(PlanKey::Rate) => self.admit_rate(row, count),
-            Some(PlanKey::Resource) => self.admit_resource(row, count),
-            Some(PlanKey::Limit) => self.admit_limit(row, count),
+            Some(key) => self.admit_key(key, row, count),
+        }
+    }
+
+    fn admit_key(&mut self, key: PlanKey, row: &ByteRecord, count: usize) -> Result<(), RecordError>
+        requires { count ≡ length (cells_of (fields_of row.now)) }
+        ensures { Admits self.new result (key_by_place self.old key (cells_of (fields_of row.now))) }
+    {
+        match key {
+            PlanKey::Name => self.admit_name(row, count),
+            PlanKey::Grid => self.admit_grid(row, count),
+            PlanKey::Zone => self.admit_zone(row, count),
+            PlanKey::Mill => self.admit_mill(row, count),
+            PlanKey::Leach => self.admit_leach(row, count),
+            PlanKey::Dump => self.admit_dump(row, count),
+            PlanKey::Periods => self.admit_periods(row, count),
+            PlanKey::Rate => self.admit_rate(row, count),
+            PlanKey::Resource => self.admit_resource(row, count),
+            PlanKey::Limit => self.admit_limit(row, count),
         }
     }
 
@@ -131,7 +147,7 @@ impl Draft {
 
     fn admit_name(&mut self, row: &ByteRecord, count: usize) -> Result<(), RecordError>
         requires { count ≡ length (cells_of (fields_of row.now)) }
-        ensures { Admits self.new result (admit_name self.old (cells_of (fields_of row.now))) }
+        ensures { Admits self.new result (said_by_place (cells_of (fields_of row.now)) (name_shape self.old (cells_of (fields_of row.now)))) }
     {
         if count != 2 {
             return Err(RecordError::Fault(PlanFaultKind::Width));
@@ -144,9 +160,10 @@ impl Draft {
         Ok(())
     }
 
+    #[tactic(auto, using(crate::proofs::CellsByPlace::grid_said))]
     fn admit_grid(&mut self, row: &ByteRecord, count: usize) -> Result<(), RecordError>
         requires { count ≡ length (cells_of (fields_of row.now)) }
-        ensures { Admits self.new result (admit_grid self.old (cells_of (fields_of row.now))) }
+        ensures { Admits self.new result (said_by_place (cells_of (fields_of row.now)) (grid_shape self.old (cells_of (fields_of row.now)))) }
     {
         if count != 7 {
             return Err(RecordError::Fault(PlanFaultKind::Width));
@@ -179,7 +196,7 @@ impl Draft {
 
     fn admit_zone(&mut self, row: &ByteRecord, count: usize) -> Result<(), RecordError>
         requires { count ≡ length (cells_of (fields_of row.now)) }
-        ensures { Admits self.new result (admit_zone self.old (cells_of (fields_of row.now))) }
+        ensures { Admits self.new result (zone_in self.old (cells_of (fields_of row.now))) }
     {
         let cone = cone_in(row, count)?;
         if self.cones.len() == MAX_ZONES as usize {
@@ -191,7 +208,7 @@ impl Draft {
 
     fn admit_resource(&mut self, row: &ByteRecord, count: usize) -> Result<(), RecordError>
         requires { count ≡ length (cells_of (fields_of row.now)) }
-        ensures { Admits self.new result (admit_resource self.old (cells_of (fields_of row.now))) }
+        ensures { Admits self.new result (resource_in self.old (cells_of (fields_of row.now))) }
     {
         if count < 3 {
             return Err(RecordError::Fault(PlanFaultKind::Width));
@@ -210,15 +227,16 @@ impl Draft {
         Ok(())
     }
 
+    #[tactic(auto, using(crate::proofs::CellsByPlace::limit_said))]
     fn admit_limit(&mut self, row: &ByteRecord, count: usize) -> Result<(), RecordError>
         requires { count ≡ length (cells_of (fields_of row.now)) }
-        ensures { Admits self.new result (admit_limit self.old (cells_of (fields_of row.now))) }
+        ensures { Admits self.new result (limit_in self.old (cells_of (fields_of row.now))) }
     {
         if count != limit_width(row) {
             return Err(RecordError::Fault(PlanFaultKind::Width));
         }
         let resource = resource_in(self.resources.as_slice(), cell_at(row, 1))?;
-        let period = period_in(self.periods, cell_at(row, 2))?;
+        let period = period_in(self.periods.unwrap_or(0), cell_at(row, 2))?;
         let bound = bound_in(row)?;
         self.add_limit(Limit {
             resource,
@@ -231,7 +249,7 @@ impl Draft {
         requires resource { limit.resource < length self.old.resources }
         requires period { limit.period < unwrap_or self.old.periods 0 }
         requires tonnes { AreTonnes limit.bound }
-        ensures { Admits self.new result (with_bound self.old limit) }
+        ensures { Admits self.new result (limited self.old limit) }
     {
         if is_limited(self.limits.as_slice(), &limit) {
             return Err(RecordError::Fault(PlanFaultKind::Twice));
@@ -243,9 +261,10 @@ impl Draft {
         Ok(())
     }
 
+    #[tactic(auto, using(crate::proofs::CellsByPlace::quotient))]
     fn admit_mill(&mut self, row: &ByteRecord, count: usize) -> Result<(), RecordError>
         requires { count ≡ length (cells_of (fields_of row.now)) }
-        ensures { Admits self.new result (admit_mill self.old (cells_of (fields_of row.now))) }
+        ensures { Admits self.new result (said_by_place (cells_of (fields_of row.now)) (mill_shape self.old (cells_of (fields_of row.now)))) }
     {
         if count != 5 {
             return Err(RecordError::Fault(PlanFaultKind::Width));
@@ -265,9 +284,10 @@ impl Draft {
         self.add_formula(name, formula)
     }
 
+    #[tactic(auto, using(crate::proofs::CellsByPlace::quotient))]
     fn admit_leach(&mut self, row: &ByteRecord, count: usize) -> Result<(), RecordError>
         requires { count ≡ length (cells_of (fields_of row.now)) }
-        ensures { Admits self.new result (admit_leach self.old (cells_of (fields_of row.now))) }
+        ensures { Admits self.new result (leach_in self.old (cells_of (fields_of row.now))) }
     {
         if count < 6 || count % 2 != 0 {
             return Err(RecordError::Fault(PlanFaultKind::Width));
@@ -294,7 +314,7 @@ impl Draft {
         requires in_range { All IsBand bands.items }
         requires price { price ≤ MAX_PRICE }
         requires cost { cost ≤ MAX_COST }
-        ensures { Admits self.new result (with_leach self.old name bands.items price cost) }
+        ensures { Admits self.new result (unless (failing (bands_asked bands.items ++ room_for_destination self.old)) (Ok (with_destination self.old name (Leach bands.items price cost)))) }
     {
         if !starts_rise(bands.as_slice()) {
             return Err(RecordError::Fault(PlanFaultKind::Order));
@@ -306,9 +326,10 @@ impl Draft {
         self.add_formula(name, Formula::Leach { bands, price, cost })
     }
 
+    #[tactic(auto, using(crate::proofs::CellsByPlace::quotient))]
     fn admit_dump(&mut self, row: &ByteRecord, count: usize) -> Result<(), RecordError>
         requires { count ≡ length (cells_of (fields_of row.now)) }
-        ensures { Admits self.new result (admit_dump self.old (cells_of (fields_of row.now))) }
+        ensures { Admits self.new result (said_by_place (cells_of (fields_of row.now)) (dump_shape self.old (cells_of (fields_of row.now)))) }
     {
         if count != 3 {
             return Err(RecordError::Fault(PlanFaultKind::Width));
@@ -323,7 +344,7 @@ impl Draft {
 
     fn add_formula(&mut self, name: Name, formula: Formula) -> Result<(), RecordError>
         requires { IsRuled formula }
-        ensures { Admits self.new result (with_formula self.old name formula) }
+        ensures { Admits self.new result (unless (failing (room_for_destination self.old)) (Ok (with_destination self.old name formula))) }
     {
         if self.formulas.len() == MAX_DESTINATIONS as usize {
             return Err(RecordError::Fault(PlanFaultKind::TooMany));
@@ -332,9 +353,10 @@ impl Draft {
         Ok(())
     }
 
+    #[tactic(auto, using(crate::proofs::CellsByPlace::quotient))]
     fn admit_periods(&mut self, row: &ByteRecord, count: usize) -> Result<(), RecordError>
         requires { count ≡ length (cells_of (fields_of row.now)) }
-        ensures { Admits self.new result (admit_periods self.old (cells_of (fields_of row.now))) }
+        ensures { Admits self.new result (said_by_place (cells_of (fields_of row.now)) (periods_shape self.old (cells_of (fields_of row.now)))) }
     {
         if count != 2 {
             return Err(RecordError::Fault(PlanFaultKind::Width));
@@ -349,7 +371,7 @@ impl Draft {
 
     fn admit_rate(&mut self, row: &ByteRecord, count: usize) -> Result<(), RecordError>
         requires { count ≡ length (cells_of (fields_of row.now)) }
-        ensures { Admits self.new result (admit_rate self.old (cells_of (fields_of row.now))) }
+        ensures { Admits self.new result (said_by_place (cells_of (fields_of row.now)) (rate_shape self.old (cells_of (fields_of row.now)))) }
     {
         if count != 2 {
             return Err(RecordError::Fault(PlanFaultKind::Width));
@@ -365,7 +387,7 @@ impl Draft {
 
 // The discount rate that a cell states.
 fn rate_in(cell: &[u8]) -> Result<Dec, PlanFaultKind>
-    ensures value { result ≡ number_in a_rate cell.now }
+    ensures value { Gives Millionths result (read_field plan_kind a_rate cell.now) }
     ensures in_range { IfOk result (λ r. (pos 0 ≤ℤ r) × (r ≤ℤ MAX_RATE)) }
 {
     let millionths = number_in(cell, 6, 0, MAX_RATE)?;

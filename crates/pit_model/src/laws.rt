@@ -1,13 +1,16 @@
 //! Laws of the definitions that contracts cite: each function here does nothing, and its contract states one.
 
-ghost use Rattle.std.specs.Prelude.{◌≡◌, ◌↔◌, ◌⊎◌, ℕ, ℤ, ◌<◌, List, Ok, Err};
+ghost use Rattle.std.specs.Prelude.{◌≡◌, ◌↔◌, ◌⊎◌, ℕ, ℤ, ◌<◌, List, ◌∷◌, Ok, Err};
+ghost use Rattle.std.specs.List.Sorted.{IsPermutation};
+ghost use Rattle.forms.specs.Grammar.{IsFirstFault};
 ghost use Rattle.pit_model.specs.Plan.{IsPlan, IsRuled, PlanParts};
-ghost use Rattle.pit_model.specs.Planned.{planned};
+ghost use Rattle.pit_model.specs.Planned.{IsLacking, SpellPlan, plan_grammar, planned};
 ghost use Rattle.pit_model.specs.Records.{records_of};
-ghost use Rattle.pit_model.specs.SpelledPlan.{IsLacking, IsRefused, SpellPlan};
+ghost use Rattle.pit_model.specs.Stated.{nothing_stated, with_limit};
 ghost use Rattle.pit_model.specs.Worth.{floor, IsFloor, worth, IsWorth};
 ghost use Rattle.pit_model.specs.declared.block.Block.{Block};
 ghost use Rattle.pit_model.specs.declared.formula.Formula.{Formula};
+ghost use Rattle.pit_model.specs.declared.limit.Limit.{Limit};
 ghost use Rattle.pit_model.specs.declared.plan_fault.PlanFault.{PlanFault};
 
 /// The floor of a division is the whole number `q` with `q * n <= a < q * n + n`, and there is no other.
@@ -23,16 +26,22 @@ pub fn worths_are_in_range()
     ensures { (f : Formula) (b : Block) → IsRuled f → IsWorth (worth f b) }
 {}
 
-/// A text states a plan exactly where its records spell it, one part each.
+/// A text states a plan exactly where its records state it, one behind the other, and each part that must be there is.
 pub fn plans_are_spelled()
     ensures { (text : List ℕ) (p : PlanParts) → (planned text ≡ Ok p) ↔ SpellPlan (records_of text) p }
 {}
 
-/// A text has a fault exactly where that record is the first that spells no part behind those before it, with the kind of the first
-/// thing asked of it that does not hold; or where all its records spell parts and one is missing.
+/// A text has a fault exactly where that record is the first that states nothing behind those before it, with the kind of what fails
+/// first in it; or where all its records state something and a part is missing.
 pub fn faults_are_first()
     ensures { (text : List ℕ) (fault : PlanFault)
-        → (planned text ≡ Err fault) ↔ (IsRefused (records_of text) fault ⊎ IsLacking (records_of text) fault) }
+        → (planned text ≡ Err fault) ↔ (IsFirstFault plan_grammar 1 nothing_stated (records_of text) fault ⊎ IsLacking (records_of text) fault) }
+{}
+
+/// Putting a limit in its place keeps all others.
+#[tactic(auto, using(crate::proofs::Limits::with_limit_keeps))]
+pub fn limits_are_kept()
+    ensures { (l : Limit) (ms : List Limit) → IsPermutation (l ∷ ms) (with_limit l ms) }
 {}
 
 /// What records spell keeps what every plan keeps.

@@ -1,20 +1,24 @@
 //! The cells of a `limit` record, and the limits in order.
 
-ghost use Rattle.std.specs.Prelude.{◌≡◌, ◌<◌, ◌≤◌, ◌^◌, ◌≤ℤ◌, length, pos, unwrap_or, bytes_eq, position, IfErr, IfOk, IfSome, OnErr, OnOk};
+ghost use Rattle.std.specs.Prelude.{◌≡◌, ◌+◌, ◌<◌, ◌≤◌, ◌^◌, ◌≤ℤ◌, length, pos, bytes_eq, position, IfErr, IfOk, IfSome, OnErr, OnOk};
 ghost use Rattle.std.specs.List.{list_any, position_or_len};
 ghost use Rattle.csv.specs.Records.{fields_of};
 ghost use Rattle.pit_model.specs.Cells.{cells_of};
 ghost use Rattle.pit_model.specs.Plan.{AreTonnes, stands_before};
-ghost use Rattle.pit_model.specs.Planned.{bound_in, is_same_place, limit_width, period_in, tonnes_in, with_limit};
+ghost use Rattle.forms.specs.Form.{Millionths, below, read_field, whole};
+ghost use Rattle.pit_model.specs.ByPlace.{Gives, bound_in};
+ghost use Rattle.pit_model.specs.PlanCells.{plan_kind, tonnes};
+ghost use Rattle.pit_model.specs.PlanShapes.{bound_form, is_interval};
+ghost use Rattle.pit_model.specs.Stated.{is_same_place, with_limit};
 ghost use Rattle.pit_model.specs.declared.ranges.TheConstants.{MAX_TONNES};
 
 use crate::cells::cell_at;
 use crate::limit::{Bound, Limit};
-use crate::numbers::{number_in, whole_in};
+use crate::numbers::number_in;
 use crate::plan_fault::{PlanFaultKind, RecordError};
 use crate::ranges::MAX_TONNES;
 use csv::ByteRecord;
-use pit_units::{Dec, parse_dec};
+use pit_units::Dec;
 
 fn is_letter(cell: &[u8], letter: &[u8]) -> bool
     ensures { result ≡ bytes_eq cell.now letter.now }
@@ -24,7 +28,7 @@ fn is_letter(cell: &[u8], letter: &[u8]) -> bool
 
 /// How many cells the record has to have: an interval has one more.
 pub fn limit_width(row: &ByteRecord) -> usize
-    ensures { result ≡ limit_width (cells_of (fields_of row.now)) }
+    ensures { result ≡ 3 + length (bound_form (is_interval (cells_of (fields_of row.now)))) }
 {
     if is_letter(cell_at(row, 3), b"I") {
         6
@@ -34,25 +38,17 @@ pub fn limit_width(row: &ByteRecord) -> usize
 }
 
 /// The number of a period, of which there are so many.
-pub fn period_in(periods: Option<u8>, cell: &[u8]) -> Result<u8, PlanFaultKind>
-    requires { IfSome periods (λ n. 1 ≤ n) }
-    ensures value { result ≡ period_in periods cell.now }
-    ensures there { IfOk result (λ n. n < unwrap_or periods 0) }
+#[tactic(auto, using(crate::proofs::CellsByPlace::below_read))]
+pub fn period_in(periods: u8, cell: &[u8]) -> Result<u8, PlanFaultKind>
+    ensures value { Gives whole result (read_field plan_kind (below periods) cell.now) }
+    ensures there { IfOk result (λ n. n < periods) }
 {
-    match periods {
-        Some(periods) => {
-            let period = whole_in(cell, 0, (periods - 1) as u32)?;
-            Ok(period as u8)
-        }
-        None => {
-            let _ = parse_dec(cell, 0)?;
-            Err(PlanFaultKind::Range)
-        }
-    }
+    let millionths = number_in(cell, 0, 0, periods as i128 * 1_000_000 - 1)?;
+    Ok((millionths.unsigned_abs() / 1_000_000) as u8)
 }
 
 fn tonnes_in(cell: &[u8]) -> Result<Dec, PlanFaultKind>
-    ensures value { result ≡ tonnes_in cell.now }
+    ensures value { Gives Millionths result (read_field plan_kind tonnes cell.now) }
     ensures in_range { IfOk result (λ v. (pos 0 ≤ℤ v) × (v ≤ℤ MAX_TONNES)) }
 {
     let millionths = number_in(cell, 6, 0, MAX_TONNES)?;
@@ -65,14 +61,14 @@ pub fn bound_in(row: &ByteRecord) -> Result<Bound, PlanFaultKind>
     ensures in_range { IfOk result AreTonnes }
 {
     let letter = cell_at(row, 3);
-    if is_letter(letter, b"L") {
-        Ok(Bound::AtMost(tonnes_in(cell_at(row, 4))?))
-    } else if is_letter(letter, b"G") {
-        Ok(Bound::AtLeast(tonnes_in(cell_at(row, 4))?))
-    } else if is_letter(letter, b"I") {
+    if is_letter(letter, b"I") {
         let low = tonnes_in(cell_at(row, 4))?;
         let high = tonnes_in(cell_at(row, 5))?;
         Ok(Bound::Between(low, high))
+    } else if is_letter(letter, b"L") {
+        Ok(Bound::AtMost(tonnes_in(cell_at(row, 4))?))
+    } else if is_letter(letter, b"G") {
+        Ok(Bound::AtLeast(tonnes_in(cell_at(row, 4))?))
     } else {
         Err(PlanFaultKind::Name)
     }

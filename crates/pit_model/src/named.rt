@@ -1,11 +1,14 @@
 //! The NAMEs in a plan's cells.
 
-ghost use Rattle.std.specs.Prelude.{◌≡◌, ◌-◌, ◌<◌, ◌≤◌, [], length, drop, position, bytes_eq, All, IfOk, IfSome};
+ghost use Rattle.std.specs.Prelude.{◌≡◌, ◌-◌, ◌<◌, ◌≤◌, suc, [], length, is_some, All, IfOk, IfSome};
 ghost use Rattle.csv.specs.Records.{fields_of};
 ghost use Rattle.pit_model.specs.Admits.{Covered, Names};
+ghost use Rattle.pit_model.specs.ByPlace.{Finds, covers_in};
 ghost use Rattle.pit_model.specs.Cells.{cells_of};
 ghost use Rattle.pit_model.specs.Plan.{has_repeat};
-ghost use Rattle.pit_model.specs.Planned.{covers_in, destination_in, is_resource, is_taken, name_in, resource_in};
+ghost use Rattle.forms.specs.Form.{read_field};
+ghost use Rattle.pit_model.specs.PlanCells.{a_name, plan_kind};
+ghost use Rattle.pit_model.specs.Stated.{destination_named, resource_named};
 ghost use Rattle.pit_model.specs.declared.ranges.TheConstants.{MAX_DESTINATIONS, MAX_RESOURCES};
 
 use crate::cells::cell_at;
@@ -18,7 +21,7 @@ use std::alloc::Global;
 
 /// The NAME that a cell spells.
 pub fn name_in(alloc: Global, cell: &[u8]) -> Result<Name, RecordError>
-    ensures { Names result (name_in cell.now) }
+    ensures { Names result (read_field plan_kind a_name cell.now) }
 {
     match Name::read(alloc, cell)? {
         Some(name) => Ok(name),
@@ -28,22 +31,22 @@ pub fn name_in(alloc: Global, cell: &[u8]) -> Result<Name, RecordError>
 
 /// Whether a destination has this NAME.
 pub fn is_taken(formulas: &[NamedFormula], name: &[u8]) -> bool
-    ensures { result ≡ is_taken formulas.now name.now }
+    ensures { result ≡ is_some (destination_named formulas.now name.now) }
 {
-    formulas.iter().any(|formula| formula.name.is(name))
+    formula_place(formulas, name).is_some()
 }
 
 /// Whether a resource has this NAME.
 pub fn is_resource(resources: &[Resource], name: &[u8]) -> bool
-    ensures { result ≡ is_resource resources.now name.now }
+    ensures { result ≡ is_some (resource_named resources.now name.now) }
 {
-    resources.iter().any(|resource| resource.name.is(name))
+    resource_place(resources, name).is_some()
 }
 
 /// The number of the destination that a cell names.
 pub fn destination_in(formulas: &[NamedFormula], cell: &[u8]) -> Result<u8, PlanFaultKind>
     requires { length formulas.now ≤ MAX_DESTINATIONS }
-    ensures value { result ≡ destination_in formulas.now cell.now }
+    ensures value { Finds result (destination_named formulas.now cell.now) }
     ensures there { IfOk result (λ n. n < length formulas.now) }
 {
     match formula_place(formulas, cell) {
@@ -53,7 +56,7 @@ pub fn destination_in(formulas: &[NamedFormula], cell: &[u8]) -> Result<u8, Plan
 }
 
 fn formula_place(formulas: &[NamedFormula], name: &[u8]) -> Option<usize>
-    ensures place { result ≡ position (λ f. bytes_eq f.name name.now) formulas.now }
+    ensures place { result ≡ destination_named formulas.now name.now }
     ensures within { IfSome result (λ n. n < length formulas.now) }
 {
     formulas.iter().position(|formula| formula.name.is(name))
@@ -62,7 +65,7 @@ fn formula_place(formulas: &[NamedFormula], name: &[u8]) -> Option<usize>
 /// The number of the resource that a cell names.
 pub fn resource_in(resources: &[Resource], cell: &[u8]) -> Result<u8, PlanFaultKind>
     requires { length resources.now ≤ MAX_RESOURCES }
-    ensures value { result ≡ resource_in resources.now cell.now }
+    ensures value { Finds result (resource_named resources.now cell.now) }
     ensures there { IfOk result (λ n. n < length resources.now) }
 {
     match resource_place(resources, cell) {
@@ -72,13 +75,14 @@ pub fn resource_in(resources: &[Resource], cell: &[u8]) -> Result<u8, PlanFaultK
 }
 
 fn resource_place(resources: &[Resource], name: &[u8]) -> Option<usize>
-    ensures place { result ≡ position (λ r. bytes_eq r.name name.now) resources.now }
+    ensures place { result ≡ resource_named resources.now name.now }
     ensures within { IfSome result (λ n. n < length resources.now) }
 {
     resources.iter().position(|resource| resource.name.is(name))
 }
 
 /// The numbers of the destinations that the cells of a `resource` record name, from its third cell on.
+#[tactic(auto, using(crate::proofs::BandSteps::covers_end, crate::proofs::BandSteps::covers_more, crate::proofs::BandSteps::covers_fail))]
 pub fn covers_in(
     alloc: Global,
     row: &ByteRecord,
@@ -86,8 +90,9 @@ pub fn covers_in(
     formulas: &[NamedFormula],
 ) -> Result<Covers, RecordError>
     requires whole { count ≡ length (cells_of (fields_of row.now)) }
+    requires some { 3 ≤ count }
     requires few { length formulas.now ≤ MAX_DESTINATIONS }
-    ensures value { Covered result (covers_in (drop 2 (cells_of (fields_of row.now))) formulas.now []) }
+    ensures value { Covered result (covers_in 2 (suc (count - 3)) (cells_of (fields_of row.now)) formulas.now []) }
     ensures there { IfOk result (λ covers. All (λ n. n < length formulas.now) covers) }
     ensures each { IfOk result (λ covers. length covers ≡ count - 2) }
 {

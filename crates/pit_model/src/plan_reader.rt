@@ -18,6 +18,7 @@ use std::alloc::Global;
 /// of no cells counted and skipped. A record begins with a key, in upper or lower case: `name`, `grid`, `zone`, `mill`, `leach`, `dump`,
 /// `periods`, `rate`, `resource` or `limit`. The answer is the plan, or the number and kind of the first faulty record; the one other refusal
 /// is that of memory.
+#[tactic(auto, using(crate::proofs::PlanSteps::all_planned))]
 pub fn read_plan(alloc: Global, text: &[u8]) -> Result<Plan, ReadPlanError>
     ensures { Reads result (planned text.now) }
 {

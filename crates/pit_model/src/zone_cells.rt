@@ -1,10 +1,13 @@
 //! The cells of a `zone` record.
 
-ghost use Rattle.std.specs.Prelude.{◌≡◌, length, IfOk};
+ghost use Rattle.std.specs.Prelude.{◌≡◌, ◌≤◌, true, false, length, IfOk};
 ghost use Rattle.csv.specs.Records.{fields_of};
+ghost use Rattle.forms.specs.Form.{read_field, whole};
+ghost use Rattle.pit_model.specs.ByPlace.{Gives, cone_by, cone_in};
 ghost use Rattle.pit_model.specs.Cells.{cells_of};
-ghost use Rattle.pit_model.specs.Plan.{IsCone, IsSlope};
-ghost use Rattle.pit_model.specs.Planned.{cone_in, equal_zone_in, sided_zone_in, slope_in};
+ghost use Rattle.pit_model.specs.Plan.{IsCone};
+ghost use Rattle.pit_model.specs.PlanCells.{a_leg, plan_kind};
+ghost use Rattle.pit_model.specs.declared.ranges.TheConstants.{MAX_SLOPE};
 
 use crate::cells::cell_at;
 use crate::cone::{Cone, Slope};
@@ -13,25 +16,25 @@ use crate::plan_fault::PlanFaultKind;
 use crate::ranges::{MAX_BENCHES, MAX_SLOPE};
 use csv::ByteRecord;
 
-// A slope by the cells of its rise and its run.
-fn slope_in(rise: &[u8], run: &[u8]) -> Result<Slope, PlanFaultKind>
-    ensures value { result ≡ slope_in rise.now run.now }
-    ensures in_range { IfOk result IsSlope }
+// The rise or the run of a slope.
+fn leg_in(cell: &[u8]) -> Result<u16, PlanFaultKind>
+    ensures value { Gives whole result (read_field plan_kind a_leg cell.now) }
+    ensures in_range { IfOk result (λ n. (1 ≤ n) × (n ≤ MAX_SLOPE)) }
 {
-    let p = whole_in(rise, 1, MAX_SLOPE)?;
-    let q = whole_in(run, 1, MAX_SLOPE)?;
-    Ok(Slope {
-        p: p as u16,
-        q: q as u16,
-    })
+    let leg = whole_in(cell, 1, MAX_SLOPE)?;
+    Ok(leg as u16)
 }
 
 // The cone of a record of four cells: one slope on all sides.
+#[tactic(auto, using(crate::proofs::CellsByPlace::quotient))]
 fn equal_zone_in(row: &ByteRecord) -> Result<Cone, PlanFaultKind>
-    ensures value { result ≡ equal_zone_in (cells_of (fields_of row.now)) }
+    ensures value { result ≡ cone_by true (cells_of (fields_of row.now)) }
     ensures in_range { IfOk result IsCone }
 {
-    let slope = slope_in(cell_at(row, 1), cell_at(row, 2))?;
+    let slope = Slope {
+        p: leg_in(cell_at(row, 1))?,
+        q: leg_in(cell_at(row, 2))?,
+    };
     let k = whole_in(cell_at(row, 3), 1, MAX_BENCHES)?;
     Ok(Cone {
         east: slope,
@@ -43,14 +46,27 @@ fn equal_zone_in(row: &ByteRecord) -> Result<Cone, PlanFaultKind>
 }
 
 // The cone of a record of ten cells: a slope for each side.
+#[tactic(auto, using(crate::proofs::CellsByPlace::quotient))]
 fn sided_zone_in(row: &ByteRecord) -> Result<Cone, PlanFaultKind>
-    ensures value { result ≡ sided_zone_in (cells_of (fields_of row.now)) }
+    ensures value { result ≡ cone_by false (cells_of (fields_of row.now)) }
     ensures in_range { IfOk result IsCone }
 {
-    let east = slope_in(cell_at(row, 1), cell_at(row, 2))?;
-    let west = slope_in(cell_at(row, 3), cell_at(row, 4))?;
-    let north = slope_in(cell_at(row, 5), cell_at(row, 6))?;
-    let south = slope_in(cell_at(row, 7), cell_at(row, 8))?;
+    let east = Slope {
+        p: leg_in(cell_at(row, 1))?,
+        q: leg_in(cell_at(row, 2))?,
+    };
+    let west = Slope {
+        p: leg_in(cell_at(row, 3))?,
+        q: leg_in(cell_at(row, 4))?,
+    };
+    let north = Slope {
+        p: leg_in(cell_at(row, 5))?,
+        q: leg_in(cell_at(row, 6))?,
+    };
+    let south = Slope {
+        p: leg_in(cell_at(row, 7))?,
+        q: leg_in(cell_at(row, 8))?,
+    };
     let k = whole_in(cell_at(row, 9), 1, MAX_BENCHES)?;
     Ok(Cone {
         east,

@@ -1,6 +1,6 @@
 use Rattle.std.proofs.Common.{arith, sym, ap, ◌∙◌}
 use Rattle.csv.specs.Records.{fields_of}
-use Rattle.pit_model.specs.Planned.{planned, at_record}
+use Rattle.pit_model.specs.Planned.{planned, finished_at}
 use Rattle.pit_model.proofs.PlanSteps.{ended, too_many, admitted, refused}
 use Rattle.pit_model.proofs.plan_reader.read_plan.Goals as goal
 
@@ -23,10 +23,10 @@ pub returns-in-Ok-finish : goal.returns-in-Ok-finish
 returns-in-Ok-finish c =
     let t = rw c.if-branch.false at c.in_ok-next.ensures.takes in
     let e = ended _ c.loop-draft.reader (fields_of c.next.new.row) c.next.new.self c.loop-draft.number c.loop-draft.draft (planned c.args.text.now) t c.loop-draft.invariant.0 in
-    sym e ∙ ap (at_record c.loop-draft.number) (sym c.in-Ok-finish.ensures)
+    sym e ∙ ap (finished_at c.loop-draft.number) (sym c.in-Ok-finish.ensures)
 
 pub returns : goal.returns
 returns c =
     let t = rw c.if-branch.false at c.in_ok-next.ensures.takes in
     let e = ended _ c.loop-draft.reader (fields_of c.next.new.row) c.next.new.self c.loop-draft.number c.loop-draft.draft (planned c.args.text.now) t c.loop-draft.invariant.0 in
-    rw c.fault-in-Err.ensures (sym e ∙ ap (at_record c.loop-draft.number) (sym c.in-Err.ensures))
+    rw c.fault-in-Err.ensures (sym e ∙ ap (finished_at c.loop-draft.number) (sym c.in-Err.ensures))

@@ -1,7 +1,7 @@
 use Rattle.std.proofs.Common.{◌≡◌, ◌<◌, sym, ◌∙◌, ap, length, unwrap_or, false}
 use Rattle.std.specs.List.{list_any}
 use Rattle.pit_model.specs.Plan.{IsBound}
-use Rattle.pit_model.specs.Planned.{DraftView, is_same_place}
+use Rattle.pit_model.specs.Stated.{Stated, is_same_place}
 use Rattle.pit_model.proofs.Limits.{rises, All-with_limit}
 use Rattle.pit_model.proofs.draft.Draft.add_limit.Goals as goal
 
@@ -11,9 +11,9 @@ invariant_of-self-2 c =
     let old = c.self.inside.limits.items in
     let now = c.in_ok-insert_limit.ensures.ok in
     let resource : c.args.limit.resource < length c.self.inside.resources.items =
-    rw (ap (λ (d : DraftView). length d.resources) c.self.view_is) c.requires.resource in
+    rw (ap (λ (d : Stated). length d.resources) c.self.view_is) c.requires.resource in
     let period : c.args.limit.period < unwrap_or c.self.inside.periods 0 =
-    rw (ap (λ (d : DraftView). unwrap_or d.periods 0) c.self.view_is) c.requires.period in
+    rw (ap (λ (d : Stated). unwrap_or d.periods 0) c.self.view_is) c.requires.period in
     let bound : IsBound c.args.limit.bound =
     record { tonnes = c.requires.tonnes; straight = sym c.is_turned.ensures ∙ c.if-is_turned.false } in
     let none : list_any (λ m. is_same_place c.args.limit m) old ≡ false =

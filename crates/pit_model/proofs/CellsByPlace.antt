@@ -1,0 +1,229 @@
+-- What cells state that are read at their places.
+use Rattle.std.specs.Prelude.{◌≡◌, ℕ, zero, suc, ◌+◌, ◌-◌, ◌*◌, ◌/◌, ◌%◌, ◌^◌, ◌==◌, ◌||◌, nat_lt, not, Bool, true, false, List, [], ◌∷◌, ◌++◌, length, drop, replicate, ℤ, pos, negsuc, neg_ℤ, ◌*ℤ◌, int_div, unsigned_abs, Some, unwrap_or, Result, Ok, Err, if◌then◌else◌}
+use Rattle.std.proofs.Common.{refl, sym, ◌∙◌, ap, subst, arith, drop-cons, length-drop, eqb-true, eq-eqb}
+use Rattle.std.proofs.lemmas.Bool.Decides.{nat_tests}
+use Rattle.std.proofs.lemmas.Int.{ints}
+use Rattle.forms.proofs.DemandFacts.{Follows}
+use Rattle.forms.proofs.FormFacts.{counted, field_told, spelled_fit, parts}
+use Rattle.forms.specs.Form.{Field, Value, Millionths, FitsField, Says, asked_of_field, below, is_fine, read, read_field, read_fields, whole, whole_at}
+use Rattle.forms.specs.Shape.{Check, Shape, failing, said, unless}
+use Rattle.forms.specs.Steps.{◌>>=◌}
+use Rattle.pit_model.specs.Cells.{cell_at}
+use Rattle.pit_model.specs.ByPlace.{key_by_place, bound_in, leach_in, limited, length_of, limit_in, read_from, resource_in, said_by_place, size_of, zone_in}
+use Rattle.pit_model.specs.PlanShapes.{grid_shape, key_of, once, record_shape, a_destination, a_resource, bands_asked, bands_form, bands_of, bound_form, bound_of, cone_of, covers_of, limit_on, new_destination, resource_asked, room_for_destination, room_for_zone, cells_shape, is_interval, key_shape, leach_form, leach_shape, limit_form, limit_shape, resource_form, resource_shape, zone_form, zone_shape}
+use Rattle.pit_model.specs.Stated.{Stated, resource_named, with_destination, with_resource, with_zone}
+use Rattle.pit_model.specs.declared.plan_fault.PlanFaultKind.TheVariants.{Width}
+use Rattle.pit_model.specs.declared.formula.Formula.TheVariants.{Leach}
+use Rattle.pit_model.specs.declared.limit.Bound.{Bound}
+use Rattle.pit_model.specs.declared.plan_key.PlanKey.{PlanKey}
+use Rattle.pit_model.specs.declared.plan_key.PlanKey.TheVariants as key
+use Rattle.pit_model.specs.PlanCells.{a_cost, a_name, a_price, a_size, an_origin, between, plan_kind, word_of}
+use Rattle.pit_model.specs.declared.plan_fault.PlanFaultKind.{PlanFaultKind}
+
+pub quotient : (n : ℕ) → n * 10 ^ 6 / 10 ^ 6 ≡ n
+quotient n = omega arith
+
+-- what is read fits
+read_fits : (field : Field) (cell : List ℕ) (value : Value) → is_fine (field ∷ []) ≡ true → read_field plan_kind field cell ≡ Ok value → FitsField field value
+read_fits field cell value fine e =
+    let told = subst (λ r. Follows r (asked_of_field plan_kind field cell) (Says field cell)) e (field_told plan_kind field cell (parts field [] fine).0) in
+    (spelled_fit (field ∷ []) (cell ∷ []) (value ∷ []) fine (told.1, tt)).0
+
+pub whole_read : (low high : ℕ) (cell : List ℕ) (m : ℤ) → read_field plan_kind (between low high) cell ≡ Ok (Millionths m)
+    → Millionths m ≡ whole (unsigned_abs m / 10 ^ 6)
+whole_read low high cell m e = by m (read_fits (between low high) cell (Millionths m) refl e)
+  where
+    by : (m : ℤ) → FitsField (between low high) (Millionths m) → Millionths m ≡ whole (unsigned_abs m / 10 ^ 6)
+    by (pos k) fits = let same : k ≡ k / 10 ^ 6 * 10 ^ 6 = omega (arith, fits.3) in ap (λ k. Millionths (pos k)) same
+    by (negsuc k) fits = absurd (omega (arith, ints, fits.0))
+
+under : (k n : ℕ) → suc k ≡ n * 1000 → negsuc k ≡ neg_ℤ (pos n) *ℤ pos 1000
+under k n h = omega (arith, ints)
+
+-- thousands, with no rest
+thousands : (m : ℤ) → unsigned_abs m % 10 ^ 3 ≡ 0 → m ≡ int_div m (pos 1000) *ℤ pos 1000
+thousands (pos k) h = let same : k ≡ k / 1000 * 1000 = omega arith in ap pos same
+thousands (negsuc k) h = let same : suc k ≡ suc k / 1000 * 1000 = omega (arith, h) in under k (suc k / 1000) same
+
+pub below_read : (limit : ℕ) (cell : List ℕ) (m : ℤ) → read_field plan_kind (below limit) cell ≡ Ok (Millionths m)
+    → Millionths m ≡ whole (unsigned_abs m / 10 ^ 6)
+below_read limit cell m e = by m (read_fits (below limit) cell (Millionths m) refl e)
+  where
+    by : (m : ℤ) → FitsField (below limit) (Millionths m) → Millionths m ≡ whole (unsigned_abs m / 10 ^ 6)
+    by (pos k) fits = let same : k ≡ k / 10 ^ 6 * 10 ^ 6 = omega (arith, fits.3) in ap (λ k. Millionths (pos k)) same
+    by (negsuc k) fits = absurd (omega (arith, ints, fits.0))
+
+pub origin_read : (cell : List ℕ) (m : ℤ) → read_field plan_kind an_origin cell ≡ Ok (Millionths m) → Millionths m ≡ length_of (int_div m (pos 1000))
+origin_read cell m e = let fits = read_fits an_origin cell (Millionths m) refl e in ap Millionths (thousands m fits.3)
+
+pub size_read : (cell : List ℕ) (m : ℤ) → read_field plan_kind a_size cell ≡ Ok (Millionths m) → Millionths m ≡ size_of (unsigned_abs m / 1000)
+size_read cell m e = by m (read_fits a_size cell (Millionths m) refl e)
+  where
+    by : (m : ℤ) → FitsField a_size (Millionths m) → Millionths m ≡ size_of (unsigned_abs m / 1000)
+    by (pos k) fits = let same : k ≡ k / 1000 * 1000 = omega (arith, fits.3) in ap (λ k. Millionths (pos k)) same
+    by (negsuc k) fits = absurd (omega (arith, ints, fits.0))
+
+pub length_back : (n : ℤ) → int_div (n *ℤ pos 1000) (pos 1000) ≡ n
+length_back n = omega (arith, ints)
+
+pub size_back : (n : ℕ) → unsigned_abs (pos n *ℤ pos 1000) / 1000 ≡ n
+size_back n = omega (arith, ints)
+
+other : (a b : ℕ) → (a == b) ≡ false → ¬ (a ≡ b)
+other a b e is = absurd (cc (e, eq-eqb a b is))
+
+unequal : (a b : ℕ) → ¬ (a ≡ b) → (a == b) ≡ false
+unequal a b never = by (a == b) refl
+  where
+    by : (t : Bool) → (a == b) ≡ t → (a == b) ≡ false
+    by true e = absurd (never (eqb-true a b e))
+    by false e = e
+
+-- read at their places, cells are read from the front
+from_front : (place : ℕ) (form : List Field) (cells : List (List ℕ)) → length cells ≡ place + length form
+    → read_from place form cells ≡ read_fields (λ p. plan_kind) form (drop place cells)
+from_front place [] cells long = by (drop place cells) (omega (arith, long, length-drop place cells))
+  where
+    by : (rest : List (List ℕ)) → length rest ≡ 0 → Ok [] ≡ read_fields (λ p. plan_kind) [] rest
+    by [] none = refl
+    by (cell ∷ rest) none = absurd (omega (arith, none))
+from_front place (field ∷ form) cells long =
+    rw (drop-cons cells place [] (omega (arith, long)), from_front (suc place) form cells (omega (arith, long))) refl
+
+by_place : (cells : List (List ℕ)) (form : List Field) (last : List Value → List (Check PlanFaultKind)) (next : List Value → Stated) → ¬ (length cells ≡ 0)
+    → said (cells_shape cells form last next) ≡ said_by_place cells (cells_shape cells form last next)
+by_place cells form last next some = by (length cells == suc (length form)) refl
+  where
+    Behind : Result (List Value) PlanFaultKind → Result Stated PlanFaultKind
+    Behind r = r >>= λ values. unless (failing (last values)) (Ok (next values))
+
+    by : (t : Bool) → (length cells == suc (length form)) ≡ t
+        → said (cells_shape cells form last next) ≡ (if not t then Err Width else (read_from 1 form cells >>= λ values. unless (failing (last values)) (Ok (next values))))
+    by true e =
+        let long : length cells ≡ suc (length form) = eqb-true _ _ e in
+        let same : read (λ p. plan_kind) form (drop 1 cells) ≡ read_from 1 form cells =
+        counted (λ p. plan_kind) form (drop 1 cells) (omega (arith, long, length-drop 1 cells)) ∙ sym (from_front 1 form cells (omega (arith, long))) in
+        ap (λ r. r >>= λ values. unless (failing (last values)) (Ok (next values))) same
+    by false e =
+        let short : (length (drop 1 cells) == length form) ≡ false =
+        unequal _ _ (λ is. other (length cells) (suc (length form)) e (omega (arith, some, is, length-drop 1 cells))) in
+        rw short refl
+
+zone_placed : (s : Stated) (cells : List (List ℕ)) → said_by_place cells (zone_shape s cells) ≡ zone_in s cells
+zone_placed s cells = by (length cells == suc (length (zone_form (length cells == 4)))) (read_from 1 (zone_form (length cells == 4)) cells)
+  where
+    by : (t : Bool) (r : Result (List Value) PlanFaultKind)
+        → (if not t then Err Width else (r >>= λ values. unless (failing ((zone_shape s cells).last values)) (Ok ((zone_shape s cells).next values))))
+        ≡ ((if not t then Err Width else (r >>= λ values. Ok (cone_of (length cells == 4) values))) >>= λ cone. unless (failing (room_for_zone s)) (Ok (with_zone s cone)))
+    by false r = refl
+    by true (Ok values) = refl
+    by true (Err kind) = refl
+
+bands_long : (n : ℕ) → length (bands_form n) ≡ 2 * n
+bands_long zero = refl
+bands_long (suc n) = omega (arith, bands_long n)
+
+leach_placed : (s : Stated) (cells : List (List ℕ)) → said_by_place cells (leach_shape s cells) ≡ leach_in s cells
+leach_placed s cells =
+    rw width (by (nat_lt (length cells) 6 || not (length cells % 2 == 0)) (read_field plan_kind a_name (cell_at cells 1)) (read_field plan_kind a_price (cell_at cells 2))
+    (read_field plan_kind a_cost (cell_at cells 3)) (read_from 4 (bands_form (suc ((length cells - 6) / 2))) cells))
+  where
+    width : (length cells == suc (length (leach_form cells))) ≡ not (nat_lt (length cells) 6 || not (length cells % 2 == 0))
+    width = grind (arith, nat_tests, bands_long ((length cells - 6) / 2))
+
+    by : (t : Bool) (r1 r2 r3 : Result Value PlanFaultKind) (r4 : Result (List Value) PlanFaultKind)
+        → (if not (not t) then Err Width else ((r1 >>= λ a. (r2 >>= λ b. (r3 >>= λ c. r4 >>= λ ds. Ok (c ∷ ds)) >>= λ cs. Ok (b ∷ cs)) >>= λ bs. Ok (a ∷ bs))
+        >>= λ values. unless (failing ((leach_shape s cells).last values)) (Ok ((leach_shape s cells).next values))))
+        ≡ (if t then Err Width else (r1 >>= λ name. r2 >>= λ price. r3 >>= λ cost. (r4 >>= λ values. Ok ([] ++ bands_of values)) >>= λ bands.
+        unless (failing (new_destination s (word_of name) ++ bands_asked bands ++ room_for_destination s))
+        (Ok (with_destination s (word_of name) (Leach bands (whole_at (price ∷ []) 0) (whole_at (cost ∷ []) 0))))))
+    by true r1 r2 r3 r4 = refl
+    by false (Err kind) r2 r3 r4 = refl
+    by false (Ok a) (Err kind) r3 r4 = refl
+    by false (Ok a) (Ok b) (Err kind) r4 = refl
+    by false (Ok a) (Ok b) (Ok c) (Err kind) = refl
+    by false (Ok a) (Ok b) (Ok c) (Ok ds) = refl
+
+all_long : (n : ℕ) (field : Field) → length (replicate n field) ≡ n
+all_long zero field = refl
+all_long (suc n) field = omega (arith, all_long n field)
+
+resource_placed : (s : Stated) (cells : List (List ℕ)) → said_by_place cells (resource_shape s cells) ≡ resource_in s cells
+resource_placed s cells =
+    rw width (by (nat_lt (length cells) 3) (read_field plan_kind a_name (cell_at cells 1))
+    (read_from 2 (replicate (suc (length cells - 3)) (a_destination s.formulas)) cells))
+  where
+    width : (length cells == suc (length (resource_form s cells))) ≡ not (nat_lt (length cells) 3)
+    width = grind (arith, nat_tests, all_long (length cells - 3) (a_destination s.formulas))
+
+    by : (t : Bool) (r1 : Result Value PlanFaultKind) (r2 : Result (List Value) PlanFaultKind)
+        → (if not (not t) then Err Width else ((r1 >>= λ a. r2 >>= λ bs. Ok (a ∷ bs))
+        >>= λ values. unless (failing ((resource_shape s cells).last values)) (Ok ((resource_shape s cells).next values))))
+        ≡ (if t then Err Width else (r1 >>= λ name. (r2 >>= λ values. Ok ([] ++ covers_of s.formulas values)) >>= λ covers.
+        unless (failing (resource_asked s (word_of name) covers)) (Ok (with_resource s (word_of name) covers))))
+    by true r1 r2 = refl
+    by false (Err kind) r2 = refl
+    by false (Ok a) (Err kind) = refl
+    by false (Ok a) (Ok bs) = refl
+
+limit_placed : (s : Stated) (cells : List (List ℕ)) → said_by_place cells (limit_shape s cells) ≡ limit_in s cells
+limit_placed s cells =
+    by (length cells == suc (length (limit_form s cells))) (read_field plan_kind (a_resource s.resources) (cell_at cells 1))
+    (read_field plan_kind (below (unwrap_or s.periods 0)) (cell_at cells 2)) (read_from 3 (bound_form (is_interval cells)) cells)
+  where
+    by : (t : Bool) (r1 r2 : Result Value PlanFaultKind) (r3 : Result (List Value) PlanFaultKind)
+        → (if not t then Err Width else ((r1 >>= λ a. (r2 >>= λ b. r3 >>= λ cs. Ok (b ∷ cs)) >>= λ bs. Ok (a ∷ bs))
+        >>= λ values. unless (failing ((limit_shape s cells).last values)) (Ok ((limit_shape s cells).next values))))
+        ≡ (if not t then Err Width else (r1 >>= λ resource. r2 >>= λ period. (r3 >>= λ values. Ok (bound_of (is_interval cells) values)) >>= λ bound.
+        limited s (limit_on s (word_of resource) (whole_at (period ∷ []) 0) bound)))
+    by false r1 r2 r3 = refl
+    by true (Err kind) r2 r3 = refl
+    by true (Ok a) (Err kind) r3 = refl
+    by true (Ok a) (Ok b) (Err kind) = refl
+    by true (Ok a) (Ok b) (Ok cs) = refl
+
+keyed : (cells : List (List ℕ)) (shape : Shape PlanFaultKind Stated) → ¬ (length cells ≡ 0)
+    → said (cells_shape cells shape.form shape.last shape.next) ≡ said_by_place cells shape
+keyed cells shape some = by_place cells shape.form shape.last shape.next some
+
+key_placed : (s : Stated) (k : PlanKey) (cells : List (List ℕ)) → ¬ (length cells ≡ 0) → said (key_shape s (Some k) cells) ≡ key_by_place s k cells
+key_placed s key.Zone cells some = keyed cells (key_shape s (Some key.Zone) cells) some ∙ zone_placed s cells
+key_placed s key.Leach cells some = keyed cells (key_shape s (Some key.Leach) cells) some ∙ leach_placed s cells
+key_placed s key.Resource cells some = keyed cells (key_shape s (Some key.Resource) cells) some ∙ resource_placed s cells
+key_placed s key.Limit cells some = keyed cells (key_shape s (Some key.Limit) cells) some ∙ limit_placed s cells
+key_placed s key.Name cells some = keyed cells (key_shape s (Some key.Name) cells) some
+key_placed s key.Grid cells some = keyed cells (key_shape s (Some key.Grid) cells) some
+key_placed s key.Mill cells some = keyed cells (key_shape s (Some key.Mill) cells) some
+key_placed s key.Dump cells some = keyed cells (key_shape s (Some key.Dump) cells) some
+key_placed s key.Periods cells some = keyed cells (key_shape s (Some key.Periods) cells) some
+key_placed s key.Rate cells some = keyed cells (key_shape s (Some key.Rate) cells) some
+
+pub recorded : (s : Stated) (k : PlanKey) (cells : List (List ℕ)) → ¬ (length cells ≡ 0) → key_of (cell_at cells 0) ≡ Some k
+    → said (record_shape s cells) ≡ key_by_place s k cells
+recorded s k cells some is = let test : (length cells == 0) ≡ false = unequal _ _ some in rw (test, is) (key_placed s k cells some)
+
+-- a grid of axes
+pub grid_said : (s : Stated) (cells : List (List ℕ)) (x y z : ℤ) (a b c : ℕ) → length cells ≡ 7
+    → read_field plan_kind an_origin (cell_at cells 1) ≡ Ok (length_of x) → read_field plan_kind an_origin (cell_at cells 2) ≡ Ok (length_of y)
+    → read_field plan_kind an_origin (cell_at cells 3) ≡ Ok (length_of z) → read_field plan_kind a_size (cell_at cells 4) ≡ Ok (size_of a)
+    → read_field plan_kind a_size (cell_at cells 5) ≡ Ok (size_of b) → read_field plan_kind a_size (cell_at cells 6) ≡ Ok (size_of c)
+    → said_by_place cells (grid_shape s cells)
+    ≡ unless (failing (once s.grid)) (Ok (record s { grid = Some (record { x = record { origin = x; size = a }; y = record { origin = y; size = b }; z = record { origin = z; size = c } }) }))
+grid_said s cells x y z a b c long rx ry rz ra rb rc =
+    rw (long, rx, ry, rz, ra, rb, rc) (λ i. unless (failing (once s.grid)) (Ok (record s {
+      grid = Some (record {
+        x = record { origin = length_back x i; size = size_back a i };
+        y = record { origin = length_back y i; size = size_back b i };
+        z = record { origin = length_back z i; size = size_back c i };
+      });
+    })))
+
+-- a limit by its parts
+pub limit_said : (s : Stated) (cells : List (List ℕ)) (resource period : ℕ) (bound : Bound) → length cells ≡ suc (length (limit_form s cells))
+    → resource_named s.resources (cell_at cells 1) ≡ Some resource
+    → read_field plan_kind (below (unwrap_or s.periods 0)) (cell_at cells 2) ≡ Ok (whole period) → bound_in cells ≡ Ok bound
+    → limit_in s cells ≡ limited s (record { resource = resource; period = period; bound = bound })
+limit_said s cells resource period bound long named stated bounded =
+    let test : (length cells == suc (length (limit_form s cells))) ≡ true = eq-eqb _ _ long in
+    let there : unwrap_or (resource_named s.resources (cell_at cells 1)) 0 ≡ resource = rw named refl in
+    rw (test, named, stated, bounded) (λ i. limited s (record { resource = there i; period = quotient period i; bound = bound }))

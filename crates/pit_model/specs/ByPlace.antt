@@ -1,0 +1,116 @@
+-- Cells read one after the other, each at its place, as code reads them.
+use Rattle.std.specs.Prelude.{◌≡◌, ℕ, suc, ◌-◌, ◌/◌, ◌%◌, ◌==◌, ◌||◌, Bool, not, nat_lt, List, [], ◌∷◌, ◌++◌, length, replicate, ℤ, pos, ◌*ℤ◌, Option, Some, None, unwrap_or, Result, Ok, Err, if◌then◌else◌}
+use Rattle.forms.specs.Form.{Field, Value, Millionths, below, read_field, whole_at}
+use Rattle.forms.specs.Shape.{Shape, failing, unless}
+use Rattle.forms.specs.Steps.{◌>>=◌}
+use Rattle.pit_model.specs.Cells.{cell_at}
+use Rattle.pit_model.specs.PlanCells.{a_cost, a_name, a_price, a_recovery, a_start, plan_kind, word_of}
+use Rattle.pit_model.specs.PlanShapes.{a_destination, a_resource, band_at, bands_asked, bands_form, bands_of, bound_form, bound_of, cone_of, covers_of, is_interval, key_shape, limit_asked, limit_form, limit_on, new_destination, resource_asked, room_for_destination, room_for_zone, zone_form}
+use Rattle.pit_model.specs.Stated.{Stated, with_destination, with_limit, with_resource, with_zone}
+use Rattle.pit_model.specs.declared.band.Band.{Band}
+use Rattle.pit_model.specs.declared.cone.Cone.{Cone}
+use Rattle.pit_model.specs.declared.formula.Formula.TheVariants.{Leach}
+use Rattle.pit_model.specs.declared.formula.NamedFormula.{NamedFormula}
+use Rattle.pit_model.specs.declared.limit.Bound.{Bound}
+use Rattle.pit_model.specs.declared.limit.Limit.{Limit}
+use Rattle.pit_model.specs.declared.plan_fault.PlanFaultKind.{PlanFaultKind}
+use Rattle.pit_model.specs.declared.plan_key.PlanKey.{PlanKey}
+use Rattle.pit_model.specs.declared.plan_key.PlanKey.TheVariants as key
+use Rattle.pit_model.specs.declared.plan_fault.PlanFaultKind.TheVariants.{Name, Width}
+
+-- what a reader of one cell answers is this value of it, or its fault
+abbrev pub Gives : {A : Type 0} → (A → Value) → Result A PlanFaultKind → Result Value PlanFaultKind → Type 0
+Gives value (Ok x) stated = stated ≡ Ok (value x)
+Gives value (Err kind) stated = stated ≡ Err kind
+
+-- what a cell names is of this number, or nothing
+abbrev pub Finds : Result ℕ PlanFaultKind → Option ℕ → Type 0
+Finds (Ok n) found = found ≡ Some n
+Finds (Err kind) found = (found ≡ None) × (kind ≡ Name)
+
+-- so many millimetres, as a value
+abbrev pub length_of : ℤ → Value
+length_of n = Millionths (n *ℤ pos 1000)
+
+abbrev pub size_of : ℕ → Value
+size_of n = length_of (pos n)
+
+-- the cells from a place on
+abbrev pub read_from : ℕ → List Field → List (List ℕ) → Result (List Value) PlanFaultKind
+read_from place [] cells = Ok []
+read_from place (field ∷ form) cells =
+    read_field plan_kind field (cell_at cells place) >>= λ value.
+    read_from (suc place) form cells >>= λ values. Ok (value ∷ values)
+
+-- the record of a key
+abbrev pub said_by_place : List (List ℕ) → Shape PlanFaultKind Stated → Result Stated PlanFaultKind
+said_by_place cells shape =
+    if not (length cells == suc (length shape.form)) then Err Width
+    else (read_from 1 shape.form cells >>= λ values. unless (failing (shape.last values)) (Ok (shape.next values)))
+
+-- that of a zone, of a leach, of a resource and of a limit, whose parts are read on their own
+abbrev pub cone_by : Bool → List (List ℕ) → Result Cone PlanFaultKind
+cone_by equal cells = read_from 1 (zone_form equal) cells >>= λ values. Ok (cone_of equal values)
+
+abbrev pub cone_in : List (List ℕ) → Result Cone PlanFaultKind
+cone_in cells = if not (length cells == suc (length (zone_form (length cells == 4)))) then Err Width else cone_by (length cells == 4) cells
+
+abbrev pub zone_in : Stated → List (List ℕ) → Result Stated PlanFaultKind
+zone_in s cells = cone_in cells >>= λ cone. unless (failing (room_for_zone s)) (Ok (with_zone s cone))
+
+abbrev pub band_by : List ℕ → List ℕ → Result Band PlanFaultKind
+band_by start recovery = do
+  from ← read_field plan_kind a_start start
+  part ← read_field plan_kind a_recovery recovery
+  Ok (band_at from part)
+
+abbrev pub bands_in : ℕ → ℕ → List (List ℕ) → List Band → Result (List Band) PlanFaultKind
+bands_in place n cells before = read_from place (bands_form n) cells >>= λ values. Ok (before ++ bands_of values)
+
+abbrev pub leach_in : Stated → List (List ℕ) → Result Stated PlanFaultKind
+leach_in s cells =
+    if nat_lt (length cells) 6 || not (length cells % 2 == 0) then Err Width else do
+      name ← read_field plan_kind a_name (cell_at cells 1)
+      price ← read_field plan_kind a_price (cell_at cells 2)
+      cost ← read_field plan_kind a_cost (cell_at cells 3)
+      bands ← bands_in 4 (suc ((length cells - 6) / 2)) cells []
+      unless (failing (new_destination s (word_of name) ++ bands_asked bands ++ room_for_destination s))
+          (Ok (with_destination s (word_of name) (Leach bands (whole_at (price ∷ []) 0) (whole_at (cost ∷ []) 0))))
+
+abbrev pub covers_in : ℕ → ℕ → List (List ℕ) → List NamedFormula → List ℕ → Result (List ℕ) PlanFaultKind
+covers_in place n cells formulas before =
+    read_from place (replicate n (a_destination formulas)) cells >>= λ values. Ok (before ++ covers_of formulas values)
+
+abbrev pub resource_in : Stated → List (List ℕ) → Result Stated PlanFaultKind
+resource_in s cells =
+    if nat_lt (length cells) 3 then Err Width else do
+      name ← read_field plan_kind a_name (cell_at cells 1)
+      covers ← covers_in 2 (suc (length cells - 3)) cells s.formulas []
+      unless (failing (resource_asked s (word_of name) covers)) (Ok (with_resource s (word_of name) covers))
+
+abbrev pub bound_in : List (List ℕ) → Result Bound PlanFaultKind
+bound_in cells = read_from 3 (bound_form (is_interval cells)) cells >>= λ values. Ok (bound_of (is_interval cells) values)
+
+abbrev pub limited : Stated → Limit → Result Stated PlanFaultKind
+limited s l = unless (failing (limit_asked s l)) (Ok (record s { limits = with_limit l s.limits }))
+
+abbrev pub limit_in : Stated → List (List ℕ) → Result Stated PlanFaultKind
+limit_in s cells =
+    if not (length cells == suc (length (limit_form s cells))) then Err Width else do
+      resource ← read_field plan_kind (a_resource s.resources) (cell_at cells 1)
+      period ← read_field plan_kind (below (unwrap_or s.periods 0)) (cell_at cells 2)
+      bound ← bound_in cells
+      limited s (limit_on s (word_of resource) (whole_at (period ∷ []) 0) bound)
+
+-- the record of this key
+abbrev pub key_by_place : Stated → PlanKey → List (List ℕ) → Result Stated PlanFaultKind
+key_by_place s key.Zone cells = zone_in s cells
+key_by_place s key.Leach cells = leach_in s cells
+key_by_place s key.Resource cells = resource_in s cells
+key_by_place s key.Limit cells = limit_in s cells
+key_by_place s key.Name cells = said_by_place cells (key_shape s (Some key.Name) cells)
+key_by_place s key.Grid cells = said_by_place cells (key_shape s (Some key.Grid) cells)
+key_by_place s key.Mill cells = said_by_place cells (key_shape s (Some key.Mill) cells)
+key_by_place s key.Dump cells = said_by_place cells (key_shape s (Some key.Dump) cells)
+key_by_place s key.Periods cells = said_by_place cells (key_shape s (Some key.Periods) cells)
+key_by_place s key.Rate cells = said_by_place cells (key_shape s (Some key.Rate) cells)

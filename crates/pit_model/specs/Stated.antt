@@ -1,0 +1,51 @@
+-- What the records of a plan state so far.
+use Rattle.std.specs.Prelude.{ℕ, ◌==◌, ◌&&◌, Bool, List, [], ◌∷◌, ◌++◌, position, ℤ, Option, None, if◌then◌else◌}
+use Rattle.std.specs.Str.{bytes_eq}
+use Rattle.pit_model.specs.Plan.{stands_before}
+use Rattle.pit_model.specs.declared.cone.Cone.{Cone}
+use Rattle.pit_model.specs.declared.formula.Formula.{Formula}
+use Rattle.pit_model.specs.declared.formula.NamedFormula.{NamedFormula}
+use Rattle.pit_model.specs.declared.grid.Grid.{Grid}
+use Rattle.pit_model.specs.declared.limit.Limit.{Limit}
+use Rattle.pit_model.specs.declared.resource.Resource.{Resource}
+
+-- the parts that were stated: those that stand once, if they do, and the others in the order of their records, limits in their own
+pub record Stated : Type 0 where
+  pub name : Option (List ℕ)
+  pub grid : Option Grid
+  pub cones : List Cone
+  pub formulas : List NamedFormula
+  pub periods : Option ℕ
+  pub rate : Option ℤ
+  pub resources : List Resource
+  pub limits : List Limit
+
+-- before the first record
+abbrev pub nothing_stated : Stated
+nothing_stated = record { name = None; grid = None; cones = []; formulas = []; periods = None; rate = None; resources = []; limits = [] }
+
+-- the number of the destination, and of the resource, that has this NAME
+abbrev pub destination_named : List NamedFormula → List ℕ → Option ℕ
+destination_named formulas name = position (λ f. bytes_eq f.name name) formulas
+
+abbrev pub resource_named : List Resource → List ℕ → Option ℕ
+resource_named resources name = position (λ r. bytes_eq r.name name) resources
+
+-- and one zone, destination or resource more
+abbrev pub with_zone : Stated → Cone → Stated
+with_zone s cone = record s { cones = s.cones ++ cone ∷ [] }
+
+abbrev pub with_destination : Stated → List ℕ → Formula → Stated
+with_destination s name formula = record s { formulas = s.formulas ++ record { name = name; formula = formula } ∷ [] }
+
+abbrev pub with_resource : Stated → List ℕ → List ℕ → Stated
+with_resource s name covers = record s { resources = s.resources ++ record { name = name; covers = covers } ∷ [] }
+
+-- two limits are of one resource and period
+abbrev pub is_same_place : Limit → Limit → Bool
+is_same_place l m = (l.resource == m.resource) && (l.period == m.period)
+
+-- the limits with one more, in order
+abbrev pub with_limit : Limit → List Limit → List Limit
+with_limit l [] = l ∷ []
+with_limit l (m ∷ ms) = if stands_before l m then l ∷ m ∷ ms else m ∷ with_limit l ms
