@@ -7,9 +7,9 @@ use Rattle.std.proofs.lemmas.List.Elements.{recursion_from_All}
 use Rattle.std.proofs.lemmas.List.Sorted.{All-permutation, sum_by-IsPermutation}
 use Rattle.std.proofs.lemmas.List.Sums.{sum_by-append, sum_by-cons}
 use Rattle.std.proofs.lemmas.Option.{none-some, same_Some}
-use Rattle.valuers.specs.declared.item.Item.{Item}
-use Rattle.valuers.specs.declared.item.Item.TheVariants.{Row, End}
-use Rattle.valuers.specs.declared.item.Valued.{Valued}
+use Rattle.rows.specs.declared.item.Item.{Item}
+use Rattle.rows.specs.declared.item.Item.TheVariants.{Row, End}
+use Rattle.rows.specs.declared.item.Valued.{Valued}
 use Rattle.collector.specs.Complete.{Fits, IsComplete}
 use Rattle.collector.specs.Fault.{fault, is_after}
 use Rattle.collector.specs.Found.{is_row, is_end, row_at, end_at, has_past}

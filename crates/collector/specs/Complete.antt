@@ -1,8 +1,8 @@
 -- Complete lists of items.
 use Rattle.std.specs.Prelude.{◌≡◌, ℕ, ◌<◌, ◌≤◌, List, All}
 use Rattle.std.specs.List.{count_by}
-use Rattle.valuers.specs.declared.item.Item.{Item}
-use Rattle.valuers.specs.declared.item.Item.TheVariants.{Row, End}
+use Rattle.rows.specs.declared.item.Item.{Item}
+use Rattle.rows.specs.declared.item.Item.TheVariants.{Row, End}
 use Rattle.collector.specs.Found.{is_row, is_end}
 use Rattle.pit_model.specs.declared.ranges.TheConstants.{MAX_ROWS}
 

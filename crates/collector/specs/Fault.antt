@@ -1,7 +1,7 @@
 -- Which items are refused where others are held.
 use Rattle.std.specs.Prelude.{ℕ, Bool, false, if◌then◌else◌, ◌||◌, nat_le, nat_lt, is_some, List, Option, Some, None}
-use Rattle.valuers.specs.declared.item.Item.{Item}
-use Rattle.valuers.specs.declared.item.Item.TheVariants.{Row, End}
+use Rattle.rows.specs.declared.item.Item.{Item}
+use Rattle.rows.specs.declared.item.Item.TheVariants.{Row, End}
 use Rattle.collector.specs.declared.add_fault.AddFault.{AddFault}
 use Rattle.collector.specs.declared.add_fault.AddFault.TheVariants.{Double, Stranger, AfterEnd, SecondEnd, BadCount}
 use Rattle.collector.specs.Found.{row_at, end_at, has_past}

@@ -1,8 +1,8 @@
 -- What a list of items holds of a file.
 use Rattle.std.specs.Prelude.{ℕ, Bool, false, if◌then◌else◌, ◌&&◌, ◌||◌, ◌==◌, nat_le, List, [], ◌∷◌, Option, Some, None}
-use Rattle.valuers.specs.declared.item.Item.{Item}
-use Rattle.valuers.specs.declared.item.Item.TheVariants.{Row, End}
-use Rattle.valuers.specs.declared.item.Valued.{Valued}
+use Rattle.rows.specs.declared.item.Item.{Item}
+use Rattle.rows.specs.declared.item.Item.TheVariants.{Row, End}
+use Rattle.rows.specs.declared.item.Valued.{Valued}
 
 -- the item is the row of this file and place
 abbrev pub is_row : ℕ → ℕ → Item → Bool

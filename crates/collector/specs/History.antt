@@ -1,6 +1,6 @@
 -- The items of a history.
 use Rattle.std.specs.Prelude.{List, [], ◌∷◌, ◌++◌}
-use Rattle.valuers.specs.declared.item.Item.{Item}
+use Rattle.rows.specs.declared.item.Item.{Item}
 use Rattle.collector.specs.declared.history.History.{History, Start, More'}
 
 -- in the order in which they were added

@@ -1,7 +1,7 @@
 -- The lists of rows that a list of items gives, or the first row that it lacks.
 use Rattle.std.specs.Prelude.{◌≡◌, ℕ, ◌<◌, true, is_some, List, length, slice_get, Option, Some, None}
-use Rattle.valuers.specs.declared.item.Item.{Item}
-use Rattle.valuers.specs.declared.item.Valued.{Valued}
+use Rattle.rows.specs.declared.item.Item.{Item}
+use Rattle.rows.specs.declared.item.Valued.{Valued}
 use Rattle.collector.specs.declared.finish_fault.FinishFault.{FinishFault}
 use Rattle.collector.specs.declared.finish_fault.FinishFault.TheVariants.{Missing, OutOfMemory}
 use Rattle.collector.specs.Found.{row_at, end_at}

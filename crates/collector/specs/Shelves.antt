@@ -1,9 +1,9 @@
 -- How the shelves of a collector keep the items that it holds.
 use Rattle.std.specs.Prelude.{◌≡◌, ℕ, ◌+◌, ◌-◌, ◌<◌, ◌≤◌, ◌==◌, ◌||◌, if◌then◌else◌, nat_le, nat_lt, is_some, true, List, [], ◌++◌, length, replicate, slice_get, slice_set, Option, Some, None}
 use Rattle.std.specs.Option.{option_and_then, unwrap_or, option_map}
-use Rattle.valuers.specs.declared.item.Item.{Item}
-use Rattle.valuers.specs.declared.item.Item.TheVariants.{Row, End}
-use Rattle.valuers.specs.declared.item.Valued.{Valued}
+use Rattle.rows.specs.declared.item.Item.{Item}
+use Rattle.rows.specs.declared.item.Item.TheVariants.{Row, End}
+use Rattle.rows.specs.declared.item.Valued.{Valued}
 use Rattle.collector.specs.declared.shelf.Shelf.{Shelf}
 use Rattle.collector.specs.declared.add_fault.AddFault.{AddFault}
 use Rattle.collector.specs.declared.add_fault.AddFault.TheVariants.{Double, Stranger, AfterEnd, SecondEnd, BadCount}

@@ -10,9 +10,9 @@ use crate::add_fault::AddFault;
 use crate::finish_fault::FinishFault;
 use crate::history::History;
 use crate::shelf::Shelf;
+use rows::{Item, Rows, Valued};
 use std::alloc::{AllocError, Global};
 use std::marker::Model;
-use valuers::{Item, Rows, Valued};
 
 /// Takes the items of all files in any order, and hands over the rows of each file in order of place. It takes room for the rows of
 /// a file up to the last place that is held, whether or not those before it are. Contracts see the number of files, and the items in

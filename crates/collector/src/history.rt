@@ -3,8 +3,8 @@
 ghost use Rattle.std.specs.Prelude.{◌≡◌, ◌++◌, [], ◌∷◌};
 ghost use Rattle.collector.specs.History.{items_in};
 
+use rows::Item;
 use std::snapshot::Snapshot;
-use valuers::Item;
 
 /// Nothing, or one item after others: a byte, whatever was added.
 #[derive(Drop)]

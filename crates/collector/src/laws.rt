@@ -5,9 +5,9 @@ ghost use Rattle.collector.specs.Complete.{IsComplete};
 ghost use Rattle.collector.specs.Fault.{fault};
 ghost use Rattle.collector.specs.Found.{row_at, end_at};
 ghost use Rattle.collector.specs.Lists.{IsFull, IsMissing};
-ghost use Rattle.valuers.specs.declared.item.Item.{Item};
-ghost use Rattle.valuers.specs.declared.item.Item.TheVariants.{Row, End};
-ghost use Rattle.valuers.specs.declared.item.Valued.{Valued};
+ghost use Rattle.rows.specs.declared.item.Item.{Item};
+ghost use Rattle.rows.specs.declared.item.Item.TheVariants.{Row, End};
+ghost use Rattle.rows.specs.declared.item.Valued.{Valued};
 
 /// Of a complete list of items, added in any order, no item is refused.
 pub fn complete_is_not_refused()

@@ -12,4 +12,4 @@ mod shelf;
 pub use add_fault::AddFault;
 pub use collector::Collector;
 pub use finish_fault::FinishFault;
-pub use valuers::Rows;
+pub use rows::Rows;

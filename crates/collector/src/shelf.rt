@@ -6,8 +6,8 @@ ghost use Rattle.pit_model.specs.declared.ranges.TheConstants.{MAX_ROWS};
 
 use crate::add_fault::AddFault;
 use pit_model::ranges::MAX_ROWS;
+use rows::{Rows, Valued};
 use std::alloc::{AllocError, Global};
-use valuers::{Rows, Valued};
 
 /// The rows and the end mark of one file.
 #[derive(Drop)]

@@ -17,7 +17,7 @@ use Rattle.pit_model.specs.Worth.{worth, IsWorth}
 use Rattle.pit_model.specs.declared.block.Block.{Block}
 use Rattle.pit_model.specs.declared.formula.Formula.{Formula}
 use Rattle.pit_model.specs.declared.formula.NamedFormula.{NamedFormula}
-use Rattle.valuers.specs.Valuing.{worths_by}
+use Rattle.rows.specs.Valued.{worths_by}
 use Rattle.mine_instance.proofs.ValidFacts.{rising_differ}
 use Rattle.mine_instance.specs.Valid.{AreLimits, AreCoefs, ArePreds, ArePredsOf, IsValid}
 use Rattle.mine_instance.specs.OfModel.{values_of, in_hundreds, covers, pair_with, covering, covered, coef_at, block_coefs, coefs_of, instance_of, instance_with}

@@ -9,7 +9,7 @@ use Rattle.pit_model.specs.declared.limit.Limit.{Limit}
 use Rattle.pit_model.specs.declared.resource.Resource.{Resource}
 use Rattle.precedence.specs.Cone.{preds}
 use Rattle.precedence.specs.Identifier.{id}
-use Rattle.valuers.specs.Valuing.{worths_by}
+use Rattle.rows.specs.Valued.{worths_by}
 use Rattle.mine_instance.specs.declared.coef.Coef.{Coef}
 use Rattle.mine_instance.specs.declared.instance.Instance.{Instance}
 

@@ -7,7 +7,7 @@ ghost use Rattle.pit_model.specs.declared.block.Block.{Block};
 ghost use Rattle.pit_model.specs.Worth.{IsWorth};
 ghost use Rattle.precedence.specs.Cone.{preds as cone_lists};
 ghost use Rattle.precedence.specs.Identifier.{IsNumbering, NumberingView, blocks_of_rows};
-ghost use Rattle.valuers.specs.Valuing.{worths_by};
+ghost use Rattle.rows.specs.Valued.{worths_by};
 ghost use Rattle.mine_instance.specs.OfModel.{instance, values_of, in_hundreds, covering, covered, coefs_of, block_coefs};
 ghost use Rattle.mine_instance.specs.Valid.{IsValid};
 ghost use Rattle.pit_model.specs.declared.ranges.TheConstants.{MAX_BLOCKS, MAX_RESOURCES};
@@ -23,8 +23,8 @@ use pit_model::plan::Plan;
 use pit_model::resource::Resource;
 use pit_units::Dec;
 use precedence::{Numbering, Preds};
+use rows::{RowLists, Valued};
 use std::alloc::{AllocError, Global};
-use valuers::{RowLists, Valued};
 
 // A destination and a resource that covers it, by their numbers.
 type Covering = (u8, u8);

@@ -17,9 +17,9 @@ use Rattle.pit_compile.proofs.HandedOn.{IsOf, row-of, end-of, all-of, complete}
 use Rattle.pit_compile.specs.Collecting.{joined}
 use Rattle.pit_model.specs.declared.formula.Formula.{Formula}
 use Rattle.valuers.specs.Valuing.{items_by, rows_by}
-use Rattle.valuers.specs.declared.item.Item.{Item}
-use Rattle.valuers.specs.declared.item.Item.TheVariants as item
-use Rattle.valuers.specs.declared.item.Valued.{Valued}
+use Rattle.rows.specs.declared.item.Item.{Item}
+use Rattle.rows.specs.declared.item.Item.TheVariants as item
+use Rattle.rows.specs.declared.item.Valued.{Valued}
 
 -- what is found of a file is one of the items
 pub record FoundIsHeld : Type 0 where

@@ -7,7 +7,7 @@ use Rattle.pit_model.specs.Plan.{PlanParts}
 use Rattle.run_threads.specs.Reading.{AreRead}
 use Rattle.run_threads.specs.declared.read_fault.ReadFault.{ReadFault}
 use Rattle.valuers.specs.Valuing.{rows_by}
-use Rattle.valuers.specs.declared.item.Valued.{Valued}
+use Rattle.rows.specs.declared.item.Valued.{Valued}
 use Rattle.pit_compile.specs.Answers.{refusal_in}
 use Rattle.pit_compile.specs.Compiled.{AreGiven, IsNotCompiled}
 use Rattle.pit_compile.specs.Rows.{fault_in, rows_of, sents_of, AreModelRows}

@@ -14,10 +14,11 @@ use Rattle.lane.specs.Whole.{GatheredView, IsSent, IsWhole}
 use Rattle.pit_compile.proofs.SentRows.{counted, rows-counted, row-sent, end-sent, ended-length}
 use Rattle.pit_compile.specs.Collecting.{joined}
 use Rattle.pit_model.specs.declared.formula.Formula.{Formula}
-use Rattle.valuers.specs.Valuing.{items_by, row_by, rows_by}
-use Rattle.valuers.specs.declared.item.Item.{Item}
-use Rattle.valuers.specs.declared.item.Item.TheVariants as item
-use Rattle.valuers.specs.declared.item.Valued.{Valued}
+use Rattle.rows.specs.Valued.{row_by}
+use Rattle.valuers.specs.Valuing.{items_by, rows_by}
+use Rattle.rows.specs.declared.item.Item.{Item}
+use Rattle.rows.specs.declared.item.Item.TheVariants as item
+use Rattle.rows.specs.declared.item.Valued.{Valued}
 
 -- the item is a row of what its file sent, or its end mark with the number of these rows
 abbrev pub IsOf : List Formula → List (List Taken) → Item → Type 0

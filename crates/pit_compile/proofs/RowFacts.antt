@@ -11,8 +11,9 @@ use Rattle.pit_model.specs.Plan.{PlanParts}
 use Rattle.pit_model.specs.declared.block.Block.{Block}
 use Rattle.pit_model.specs.declared.formula.Formula.{Formula}
 use Rattle.pit_model.specs.declared.grid.Grid.{Grid}
-use Rattle.valuers.specs.Valuing.{row_by, rows_by, worths_by}
-use Rattle.valuers.specs.declared.item.Valued.{Valued}
+use Rattle.rows.specs.Valued.{row_by, worths_by}
+use Rattle.valuers.specs.Valuing.{rows_by}
+use Rattle.rows.specs.declared.item.Valued.{Valued}
 use Rattle.zone_csv.specs.Zone.{blocks_of}
 use Rattle.pit_compile.specs.Rows.{rows_from, rows_in, rows_of, sents_from, HasPlace, AreModelRows}
 

@@ -9,8 +9,9 @@ use Rattle.pit_model.specs.declared.formula.Formula.{Formula}
 use Rattle.lane.specs.declared.message.Taken.{Taken}
 use Rattle.lane.specs.declared.message.Taken.TheVariants.{Row, End, Stop, Quit}
 use Rattle.lane.specs.Message.{is_row, rows_in, IsEndedFrom}
-use Rattle.valuers.specs.Valuing.{row_by, rows_by}
-use Rattle.valuers.specs.declared.item.Valued.{Valued}
+use Rattle.rows.specs.Valued.{row_by}
+use Rattle.valuers.specs.Valuing.{rows_by}
+use Rattle.rows.specs.declared.item.Valued.{Valued}
 
 -- one more counts once, if it passes
 pub counted : {X : Type 0} (p : X → Bool) (x : X) (xs : List X) → count_by p (x ∷ xs) ≡ cond (p x) 1 0 + count_by p xs

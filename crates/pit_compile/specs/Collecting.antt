@@ -2,7 +2,7 @@
 use Rattle.std.specs.Prelude.{ℕ, List, ◌++◌}
 use Rattle.std.specs.List.{flat_map}
 use Rattle.collector.specs.Complete.{IsComplete}
-use Rattle.valuers.specs.declared.item.Item.{Item}
+use Rattle.rows.specs.declared.item.Item.{Item}
 
 -- the lists, one after the other
 abbrev pub joined : {A : Type 0} → List (List A) → List A

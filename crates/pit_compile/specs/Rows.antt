@@ -8,8 +8,8 @@ use Rattle.pit_model.specs.declared.block.Block.{Block}
 use Rattle.pit_model.specs.declared.formula.Formula.{Formula}
 use Rattle.pit_model.specs.declared.grid.Grid.{Grid}
 use Rattle.run_threads.specs.Reading.{most_bytes}
-use Rattle.valuers.specs.Valuing.{row_by, worths_by}
-use Rattle.valuers.specs.declared.item.Valued.{Valued}
+use Rattle.rows.specs.Valued.{row_by, worths_by}
+use Rattle.rows.specs.declared.item.Valued.{Valued}
 use Rattle.zone_csv.specs.Zone.{blocks_of, fault_of}
 use Rattle.zone_csv.specs.declared.row_fault.RowFault.{RowFault}
 use Rattle.pit_compile.specs.declared.refusal.Refusal.{Refusal}

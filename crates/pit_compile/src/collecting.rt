@@ -16,8 +16,8 @@ use collector::laws::{complete_is_not_refused, complete_lacks_nothing, found_is_
 use collector::{AddFault, Collector, FinishFault};
 use lane::Gathered;
 use pit_model::plan::Plan;
+use rows::{Item, Items, RowLists, Rows};
 use std::alloc::{AllocError, Global};
-use valuers::{Item, Items, RowLists, Rows};
 
 // The rows of all zone files with their worths: file after file, and in each file in order of place. `items` is what each valuer hands
 // on of what it took. Fails only where memory is refused.

@@ -13,8 +13,8 @@ use mine_instance::instance::Instance;
 use mine_instance::{build_with, values_by_id};
 use pit_model::plan::Plan;
 use precedence::preds;
+use rows::RowLists;
 use std::alloc::Global;
-use valuers::RowLists;
 
 /// The instance of these rows, which are given up once their values are taken. Fails with `Same` where a block stands twice, or where memory is
 /// refused.

@@ -8,8 +8,8 @@ ghost use Rattle.pit_model.specs.declared.ranges.TheConstants.{MAX_BLOCKS};
 
 use crate::refusal::{Refusal, RowAt};
 use precedence::{NumberError, Numbering, number_blocks};
+use rows::RowLists;
 use std::alloc::Global;
-use valuers::RowLists;
 
 /// The blocks of the rows by identifier. Fails with `Same` where a block stands twice, naming the first row that repeats another and
 /// that one, or where memory is refused.

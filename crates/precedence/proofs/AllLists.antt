@@ -13,7 +13,7 @@ use Rattle.precedence.specs.Lists.{in_cone}
 use Rattle.precedence.specs.Rows.{is_in_rows, AreInOrder, IsWithin}
 use Rattle.precedence.specs.ZoneTables.{HasTables, IsTold, rows_in}
 use Rattle.precedence.specs.declared.cone_table.ConeTable.{ConeTable}
-use Rattle.precedence.specs.declared.rows.Extent.{Extent}
+use Rattle.precedence.specs.declared.cone_rows.Extent.{Extent}
 
 -- an element that is there meets what all meet
 pub all_at : {X : Type 0} (P : X → Type 0) (xs : List X) (k : ℕ) (x : X) → All P xs → k < length xs → slice_get xs k ≡ Some x → P x

@@ -7,7 +7,7 @@ use Rattle.pit_model.specs.declared.cone.Cone.{Cone}
 use Rattle.pit_model.specs.declared.grid.Grid.{Grid}
 use Rattle.precedence.specs.ZoneTables.{HasTables, IsTold}
 use Rattle.precedence.specs.declared.cone_table.ConeTable.{ConeTable}
-use Rattle.precedence.specs.declared.rows.Extent.{Extent}
+use Rattle.precedence.specs.declared.cone_rows.Extent.{Extent}
 
 module _ (grid : Grid) (cones : List Cone) (extent : Extent) (i place : ℕ) (d : Cone) (old new : List ConeTable) (of_zone : List ℕ)
     (had : HasTables grid (take i cones) extent old of_zone) (within : i < length cones)

@@ -6,8 +6,8 @@ use Rattle.pit_model.specs.declared.grid.Grid.{Grid}
 use Rattle.precedence.specs.Rows.{IsTable}
 use Rattle.precedence.specs.declared.bounds.Bounds.{Bounds}
 use Rattle.precedence.specs.declared.cone_table.ConeTable.{ConeTable}
-use Rattle.precedence.specs.declared.rows.Extent.{Extent}
-use Rattle.precedence.specs.declared.rows.Row.{Row}
+use Rattle.precedence.specs.declared.cone_rows.Extent.{Extent}
+use Rattle.precedence.specs.declared.cone_rows.Row.{Row}
 
 -- the bounds hold the block
 pub record Holds (bounds : Bounds) (b : Block) : Type 0 where

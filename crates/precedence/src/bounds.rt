@@ -6,7 +6,7 @@ ghost use Rattle.precedence.specs.Rows.{IsWithin};
 ghost use Rattle.precedence.specs.ZoneTables.{Holds};
 ghost use Rattle.pit_model.specs.declared.ranges.TheConstants.{GRID_CELLS};
 
-use crate::rows::Extent;
+use crate::cone_rows::Extent;
 use pit_model::block::Block;
 use pit_model::ranges::GRID_CELLS;
 

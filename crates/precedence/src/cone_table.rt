@@ -3,7 +3,7 @@
 ghost use Rattle.std.specs.Prelude.{◌≡◌};
 ghost use Rattle.precedence.specs.Rows.{pasts};
 
-use crate::rows::Row;
+use crate::cone_rows::Row;
 use pit_model::cone::Cone;
 
 /// The rows of a cone.

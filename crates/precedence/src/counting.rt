@@ -7,7 +7,7 @@ ghost use Rattle.precedence.specs.Cone.{square, is_within_slopes};
 ghost use Rattle.precedence.specs.Reach.{takes_in, slope_across, CountsAll, CountsRow, CountsSide};
 ghost use Rattle.pit_model.specs.declared.ranges.TheConstants.{GRID_CELLS, MAX_SIZE, MAX_SLOPE};
 
-use crate::rows::{Counts, Reach};
+use crate::cone_rows::{Counts, Reach};
 use pit_model::cone::{Cone, Slope};
 use pit_model::grid::Grid;
 use pit_model::ranges::GRID_CELLS;

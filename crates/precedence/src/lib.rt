@@ -4,6 +4,7 @@
 mod all_predecessors;
 mod bounds;
 mod code;
+mod cone_rows;
 mod cone_table;
 mod counting;
 mod find;
@@ -15,7 +16,6 @@ mod numbering;
 mod place_hashes;
 mod places;
 mod predecessors;
-mod rows;
 mod runs;
 mod table;
 mod zone_tables;

@@ -9,8 +9,8 @@ use crate::number_by_place::number_blocks;
 use crate::number_error::NumberError;
 use crate::numbering::Numbering;
 use pit_model::block::Block;
+use rows::Valued;
 use std::alloc::{AllocError, Global};
-use valuers::Valued;
 
 /// Numbers the blocks of a list of at most 64,000,000 rows: the identifier of a block is the number of blocks of the list with a
 /// smaller (z, y, x). Fails with `Same` where two blocks have the same indices, or where memory is refused.

@@ -5,11 +5,11 @@ ghost use Rattle.std.specs.List.Sorted.{IsStrictlyIncreasing};
 ghost use Rattle.precedence.specs.Cone.{places_where};
 ghost use Rattle.precedence.specs.Rows.{is_in_rows, pasts, start_of, AreInOrder};
 ghost use Rattle.precedence.specs.Search.{run};
-ghost use Rattle.precedence.specs.declared.rows.Row.{Row};
+ghost use Rattle.precedence.specs.declared.cone_rows.Row.{Row};
 
+use crate::cone_rows::Row;
 use crate::find::find;
 use crate::places::Places;
-use crate::rows::Row;
 use std::alloc::AllocError;
 
 /// The identifiers that a row's run began and ended at, for the block that was looked at last.

@@ -6,8 +6,8 @@ ghost use Rattle.precedence.specs.Rows.{center, edge, IsTable, Tells};
 ghost use Rattle.pit_model.specs.declared.ranges.TheConstants.{GRID_CELLS};
 
 use crate::code::{BENCH, ROW};
+use crate::cone_rows::{Counts, Extent, Row};
 use crate::counting::row_counts;
-use crate::rows::{Counts, Extent, Row};
 use pit_model::cone::Cone;
 use pit_model::grid::Grid;
 use std::alloc::{AllocError, Global};

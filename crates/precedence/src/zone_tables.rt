@@ -7,8 +7,8 @@ ghost use Rattle.precedence.specs.Rows.{pasts};
 ghost use Rattle.precedence.specs.ZoneTables.{HasTables, IsTold};
 ghost use Rattle.precedence.specs.declared.cone_table.ConeTable.{ConeTable};
 
+use crate::cone_rows::{Extent, Row};
 use crate::cone_table::ConeTable;
-use crate::rows::{Extent, Row};
 use crate::table::rows_of;
 use pit_model::cone::Cone;
 use pit_model::grid::Grid;

@@ -6,7 +6,7 @@ use Rattle.pit_model.specs.declared.formula.Formula.{Formula}
 use Rattle.pit_model.specs.Plan.{PlanParts}
 use Rattle.pit_model.specs.declared.grid.Grid.{Grid}
 use Rattle.valuers.specs.Valuing.{items_by}
-use Rattle.valuers.specs.declared.item.Item.{Item}
+use Rattle.rows.specs.declared.item.Item.{Item}
 use Rattle.run_threads.specs.Reading.{IsRead}
 use Rattle.run_threads.specs.declared.read_fault.ReadFault.{ReadFault}
 

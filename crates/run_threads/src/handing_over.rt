@@ -18,12 +18,13 @@ use crate::shared::Shared;
 use lane::Gathered;
 use pit_model::destination::Destination;
 use pit_model::plan::Plan;
+use rows::Items;
 use std::alloc::{AllocError, Global};
 use std::sync::Wait;
 use std::thread;
 use std::thread::Threads;
 use thiserror::Error;
-use valuers::{Gate, Items};
+use valuers::Gate;
 use zone_csv::feed::Feed;
 
 /// What the threads of a run hand over.

@@ -6,8 +6,9 @@ ghost use Rattle.std.specs.List.{AllZip, list_any};
 use crate::file_reading::FileRead;
 use crate::read_fault::ReadFault;
 use lane::{EndedPut, TakeEnd};
+use rows::Items;
 use std::thread::{Promise, PromisedHandle, Threads};
-use valuers::{Items, ValuerResult};
+use valuers::ValuerResult;
 
 /// Joins each thread, and gives what they gave back, in their order.
 pub fn join_all<R: Threads, T: Drop, P: Promise<T>>(

@@ -6,8 +6,9 @@ ghost use Rattle.run_threads.specs.Ready.{IsRoomFor};
 use crate::file_reading::FileRead;
 use crate::read_fault::ReadFault;
 use lane::{EndedPut, TakeEnd};
+use rows::Items;
 use std::alloc::{AllocError, Global};
-use valuers::{Items, ValuerResult};
+use valuers::ValuerResult;
 
 /// Empty lists with room for what the readers and the valuers give back.
 #[derive(Drop)]

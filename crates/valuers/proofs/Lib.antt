@@ -1,3 +1,2 @@
-pub mod Cells
-pub mod Heads
+pub mod Answered
 pub mod Taking

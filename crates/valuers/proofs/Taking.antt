@@ -8,9 +8,10 @@ use Rattle.std.specs.Result.{is_err}
 use Rattle.lane.specs.declared.message.Taken.{Taken}
 use Rattle.lane.specs.declared.message.Taken.TheVariants.{Row, End, Stop, Quit}
 use Rattle.pit_model.specs.declared.formula.Formula.{Formula}
-use Rattle.valuers.specs.declared.item.Item.{Item}
-use Rattle.valuers.specs.declared.item.Item.TheVariants as item
-use Rattle.valuers.specs.Valuing.{row_by, items_by}
+use Rattle.rows.specs.declared.item.Item.{Item}
+use Rattle.rows.specs.declared.item.Item.TheVariants as item
+use Rattle.rows.specs.Valued.{row_by}
+use Rattle.valuers.specs.Valuing.{items_by}
 
 module _ (first later : List Taken) (m : Taken) (h : later ≡ first ++ drop (length first) later) where
   pub behind_more : drop (length first) (later ++ m ∷ []) ≡ drop (length first) later ++ m ∷ []

@@ -1,3 +1,1 @@
-pub mod Heads
 pub mod Valuing
-pub mod WorthsFields

@@ -1,31 +1,23 @@
--- What blocks are worth at the destinations of a plan, and what a valuer makes of the messages that it takes.
-use Rattle.std.specs.Prelude.{ℕ, List, [], ◌∷◌, ℤ, map}
+-- What the destinations of a plan answer for a block, and what a valuer makes of the messages that it takes.
+use Rattle.std.specs.Prelude.{List, [], ◌∷◌, ℤ}
 use Rattle.std.specs.List.{AllZip}
 use Rattle.std.specs.declared.alloc.Global.{Global}
 use Rattle.std.specs.declared.dyn_box.DynBox.{DynBox}
 use Rattle.pit_model.specs.Destinations.{valuer_of}
-use Rattle.pit_model.specs.Worth.{worth}
 use Rattle.pit_model.specs.declared.block.Block.{Block}
 use Rattle.pit_model.specs.declared.destination.Destination.{Destination}
 use Rattle.pit_model.specs.declared.formula.Formula.{Formula}
 use Rattle.lane.specs.declared.message.Taken.{Taken}
 use Rattle.lane.specs.declared.message.Taken.TheVariants.{Row, End, Stop, Quit}
-use Rattle.valuers.specs.declared.item.Item.{Item}
-use Rattle.valuers.specs.declared.item.Item.TheVariants as item
-use Rattle.valuers.specs.declared.item.Valued.{Valued}
-
--- the worths of a block by these formulas, in their order
-abbrev pub worths_by : List Formula → Block → List ℤ
-worths_by formulas b = map (λ f. worth f b) formulas
+use Rattle.rows.specs.Valued.{row_by}
+use Rattle.rows.specs.declared.item.Item.{Item}
+use Rattle.rows.specs.declared.item.Item.TheVariants as item
+use Rattle.rows.specs.declared.item.Valued.{Valued}
 
 -- each worth is what the closure of the destination at its place answered for the block
 abbrev pub AreAnswered : {I : _} {F : _} {g : _}
     → (DynBox I Global F → Block → ℤ → Type 0) → List (Destination I F g) → Block → List ℤ → Type 0
 AreAnswered Answers destinations b worths = AllZip (λ d worth. Answers (valuer_of d) b worth) destinations worths
-
--- a row of a file with its worths
-abbrev pub row_by : List Formula → ℕ → ℕ → Block → Valued
-row_by formulas file place b = record { file = file; place = place; block = b; worths = worths_by formulas b }
 
 -- the rows and end marks of these messages, in order, each row with its worths
 abbrev pub items_by : List Formula → List Taken → List Item

@@ -2,21 +2,10 @@
 #![tactic(auto)]
 
 mod gate;
-mod head;
-mod item;
-mod items;
-mod room;
-mod row_lists;
-mod rows;
 mod valuer;
 mod valuing;
-mod worths;
 
 pub use gate::{Gate, OpenGate};
-pub use item::{Item, Valued};
-pub use items::Items;
-pub use row_lists::RowLists;
-pub use rows::Rows;
+pub use rows::{Item, Items, RowLists, Rows, Valued, Worths};
 pub use valuer::{ValuerResult, value_all};
 pub use valuing::worths_of;
-pub use worths::Worths;

@@ -7,12 +7,10 @@ ghost use Rattle.valuers.specs.Valuing.{items_by};
 ghost use Rattle.pit_model.specs.declared.ranges.TheConstants.{MAX_DESTINATIONS};
 
 use crate::gate::Gate;
-use crate::item::{Item, Valued};
-use crate::items::Items;
-use crate::room::make_room_for_item;
 use crate::valuing::worths_of;
 use lane::{TakeEnd, Taken};
 use pit_model::destination::Destination;
+use rows::{Item, Items, Valued, make_room_for_item};
 use std::alloc::{AllocError, Allocator, Global};
 use std::sync::Wait;
 

@@ -3,11 +3,12 @@
 ghost use Rattle.std.specs.Prelude.{◌≡◌, ◌≤◌, length};
 ghost use Rattle.pit_model.specs.Destinations.{formulas_of};
 ghost use Rattle.pit_model.specs.declared.ranges.TheConstants.{MAX_DESTINATIONS};
-ghost use Rattle.valuers.specs.Valuing.{AreAnswered, worths_by};
+ghost use Rattle.rows.specs.Valued.{worths_by};
+ghost use Rattle.valuers.specs.Valuing.{AreAnswered};
 
-use crate::worths::Worths;
 use pit_model::block::Block;
 use pit_model::destination::{Destination, Valuer};
+use rows::Worths;
 
 /// What a block is worth at each of 1 to 8 destinations, in their order.
 pub fn worths_of(block: Block, destinations: &[Destination]) -> Worths

@@ -3,7 +3,7 @@
 ghost use Rattle.std.specs.Prelude.{◌≡◌, IfOk, IsTrue};
 ghost use Rattle.pit_model.specs.Destinations.{formulas_of_plan};
 ghost use Rattle.precedence.specs.Cone.{HasZones};
-ghost use Rattle.valuers.specs.Valuing.{worths_by};
+ghost use Rattle.rows.specs.Valued.{worths_by};
 
 use crate::tests::models::LIMITED_PLAN;
 use mine_instance::coef::Coef;

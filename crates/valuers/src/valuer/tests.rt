@@ -7,13 +7,13 @@ ghost use Rattle.pit_model.specs.Worth.{dump, mill};
 
 use super::*;
 use crate::gate::OpenGate;
-use crate::worths::Worths;
 use lane::{Closer, Gathered, PutEnd, Stopped, open};
 use linked_list_allocator::LocalHeap;
 use pit_model::block::Block;
 use pit_model::destination::Valuer;
 use pit_model::formula::Formula;
 use pit_model::worth::{dump_worth, mill_worth};
+use rows::Worths;
 use std::sync::Arc;
 use std::sync::atomic::{AtomicU64, Ordering};
 use std::test::Fail;

@@ -1,5 +1,5 @@
 use Rattle.std.proofs.Common.{subst, List}
-use Rattle.valuers.specs.declared.item.Item.{Item}
+use Rattle.rows.specs.declared.item.Item.{Item}
 use Rattle.collector.specs.Complete.{IsComplete}
 use Rattle.collector.proofs.Complete.{any_order, not_refused}
 use Rattle.collector.proofs.laws.complete_is_not_refused.Goals as goal

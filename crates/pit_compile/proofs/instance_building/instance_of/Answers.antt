@@ -1,7 +1,7 @@
 use Rattle.std.proofs.Common.{◌<◌, length}
 use Rattle.pit_model.specs.declared.block.Block.{Block}
 use Rattle.precedence.specs.Identifier.{blocks_of_rows}
-use Rattle.valuers.specs.declared.item.Valued.{Valued}
+use Rattle.rows.specs.declared.item.Valued.{Valued}
 use Rattle.std.proofs.lemmas.List.Elements.{All-map}
 use Rattle.pit_compile.proofs.Apart.{apart, numbered_too}
 use Rattle.pit_compile.proofs.instance_building.instance_of.Goals as goal

@@ -1,6 +1,7 @@
 use Rattle.std.proofs.Common.{◌≡◌, take, length}
 use Rattle.pit_model.specs.Destinations.{formulas_of}
-use Rattle.valuers.specs.Valuing.{AreAnswered, worths_by}
+use Rattle.rows.specs.Valued.{worths_by}
+use Rattle.valuers.specs.Valuing.{AreAnswered}
 use Rattle.valuers.proofs.valuing.worths_of.Given as goal
 
 abbrev pub invariant-loop-place : goal.invariant-loop-place

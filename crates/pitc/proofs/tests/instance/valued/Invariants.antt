@@ -1,5 +1,5 @@
 use Rattle.std.proofs.Common.{◌≡◌, take, length, map}
-use Rattle.valuers.specs.Valuing.{worths_by}
+use Rattle.rows.specs.Valued.{worths_by}
 use Rattle.pitc.proofs.tests.instance.valued.Given as goal
 
 abbrev pub invariant-loop-destination : goal.invariant-loop-destination

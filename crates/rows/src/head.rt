@@ -1,0 +1,57 @@
+//! Rows whose worths stand in one list.
+
+ghost use Rattle.std.specs.Prelude.{◌≡◌, ◌++◌, IfOk, OnOk, OnErr};
+ghost use Rattle.rows.specs.Heads.{row_of, IsHeld};
+
+use crate::item::Valued;
+use crate::worths::Worths;
+use pit_model::block::Block;
+use std::alloc::AllocError;
+
+/// A row whose worths stand in a list of those of many rows.
+#[derive(Clone, Copy, Debug)]
+pub struct Head {
+    pub block: Block,
+    /// The place of its first worth in the list.
+    pub from: usize,
+    pub place: u32,
+    pub file: u8,
+    /// The number of its worths, 1 to 8.
+    pub count: u8,
+}
+
+impl Head {
+    /// The head of a row whose worths are appended to the list. Where memory is refused the list is as it was.
+    pub fn new(worths: &mut Vec<i128>, row: &Valued) -> Result<Head, AllocError>
+        ensures held { IfOk result (IsHeld worths.new.items) }
+        ensures row { IfOk result (λ head. row_of worths.new.items head ≡ row.now) }
+        ensures appended { OnOk result (worths.new.items ≡ worths.old.items ++ row.now.worths) }
+        ensures kept { OnErr result (worths.new.items ≡ worths.old.items) }
+    {
+        let from = worths.len();
+        let own = row.worths.as_slice();
+        worths.extend_from_slice(own)?;
+        Ok(Head {
+            block: row.block,
+            from,
+            place: row.place,
+            file: row.file,
+            count: own.len() as u8,
+        })
+    }
+
+    /// The row.
+    pub fn row(&self, worths: &[i128]) -> Valued
+        requires { IsHeld worths.now self.now }
+        ensures { result ≡ row_of worths.now self.now }
+    {
+        let (_, rest) = worths.split_at(self.from);
+        let (own, _) = rest.split_at(usize::from(self.count));
+        Valued {
+            file: self.file,
+            place: self.place,
+            block: self.block,
+            worths: Worths::new(own).unwrap(),
+        }
+    }
+}

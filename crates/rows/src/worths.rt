@@ -1,0 +1,76 @@
+//! The worths of a block, one a destination.
+
+ghost use Rattle.std.specs.Prelude.{◌≡◌, ◌≤◌, ◌↔◌, length, IsSome, IfSome};
+ghost use Rattle.pit_model.specs.declared.ranges.TheConstants.{MAX_DESTINATIONS};
+
+use pit_model::ranges::MAX_DESTINATIONS;
+use std::marker::Model;
+
+// The most worths of a block.
+const MOST: usize = MAX_DESTINATIONS as usize;
+
+/// 1 to 8 worths in cents, one a destination in the order of the plan, held in place. Contracts see the list of them.
+#[derive(Clone, Copy, Debug, PartialEq, Eq)]
+pub struct Worths {
+    // zeros after the worths
+    cells: [i128; 8],
+    count: usize,
+}
+
+impl Model for Worths {
+    ghost use Rattle.std.specs.Prelude.{ℤ, List};
+
+    ghost Value = { List ℤ };
+
+    ghost use Rattle.rows.specs.WorthsFields.{worths_in, KeepsWorths, cells_of, cells_back, count_back};
+
+    ghost view = { worths_in };
+
+    ghost invariant = { KeepsWorths };
+
+    ghost inverse = { cells_of };
+
+    ghost inverse_ok = { λ w h i. record { cells = cells_back w h i; count = count_back w h i } };
+}
+
+impl Worths {
+    /// These worths, in their order, or `None` where they are not 1 to 8.
+    pub fn new(worths: &[i128]) -> Option<Worths>
+        ensures valid { IsSome result ↔ ((1 ≤ length worths.now) × (length worths.now ≤ MAX_DESTINATIONS)) }
+        ensures value { IfSome result (λ held. held ≡ worths.now) }
+    {
+        let count = worths.len();
+        if count == 0 || count > MOST {
+            return None;
+        }
+        let mut cells = [0; 8];
+        cells[..count].copy_from_slice(worths);
+        Some(Worths { cells, count })
+    }
+
+    /// The worths, in the order of the destinations.
+    pub fn as_slice(&self) -> &[i128]
+        ensures value { result.now ≡ self.now }
+        ensures count { (1 ≤ length self.now) × (length self.now ≤ MAX_DESTINATIONS) }
+    {
+        &self.cells[..self.count]
+    }
+}
+
+#[cfg(test)]
+mod tests {
+    use super::Worths;
+    use std::test::Fail;
+
+    #[test]
+    fn one_to_eight_worths(rt: HostRuntime) -> Result<(), Fail> {
+        let worths: [i128; 9] = [1_200_000, -1, 0, 4, 5, 6, 7, 8, 9];
+        for count in 1..9usize {
+            let held = Worths::new(&worths[..count]).ok_or("worths")?;
+            assert_eq!(rt; held.as_slice(), &worths[..count]);
+        }
+        assert_eq!(rt; Worths::new(&[]), None);
+        assert_eq!(rt; Worths::new(&worths), None);
+        Ok(())
+    }
+}
