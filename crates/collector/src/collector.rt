@@ -35,7 +35,8 @@ impl Model for Collector {
     ghost view = { λ c. record { files = length c.shelves.items; items = items_in c.history } };
 
     ghost invariant = { λ c. (length c.shelves.items ≤ 255)
-        × IsKept (length c.shelves.items) (items_in c.history) (rows_in c.shelves.items) (end_in c.shelves.items) };
+        × IsKept (length c.shelves.items) (items_in c.history) (rows_in c.shelves.items)
+        (end_in c.shelves.items) };
 }
 
 impl Collector {
@@ -56,9 +57,12 @@ impl Collector {
 
     /// Adds one item, or answers the first of its faults and holds what it held before.
     pub fn add(&mut self, item: Item) -> Result<(), AddFault>
-        ensures refused { IfSome (fault self.old.files self.old.items item) (λ why. result ≡ Err why) }
-        ensures memory { IfNone (fault self.old.files self.old.items item) (IfErr result (λ why. why ≡ AddFault.OutOfMemory)) }
-        ensures ok { OnOk result (self.new ≡ record self.old { items = self.old.items ++ item ∷ [] }) }
+        ensures refused { IfSome (fault self.old.files self.old.items item)
+            (λ why. result ≡ Err why) }
+        ensures memory { IfNone (fault self.old.files self.old.items item)
+            (IfErr result (λ why. why ≡ AddFault.OutOfMemory)) }
+        ensures ok { OnOk result (self.new
+            ≡ record self.old { items = self.old.items ++ item ∷ [] }) }
         ensures err { OnErr result (self.new ≡ self.old) }
     {
         if let Some(why) = self.fault_of(&item) {
@@ -88,7 +92,8 @@ impl Collector {
 
 // What is wrong with an item where these shelves are held.
 fn fault_on(shelves: &[Shelf], item: &Item) -> Option<AddFault>
-    ensures { result ≡ fault_in (length shelves.now) (rows_in shelves.now) (end_in shelves.now) item.now }
+    ensures { result ≡ fault_in (length shelves.now) (rows_in shelves.now) (end_in shelves.now)
+        item.now }
 {
     match item {
         Item::Row(row) => match shelves.get(row.file as usize) {
@@ -105,8 +110,10 @@ fn fault_on(shelves: &[Shelf], item: &Item) -> Option<AddFault>
 // Puts an item on the shelf of its file. The shelves stay as they were where memory is refused.
 fn put_item(shelves: &mut [Shelf], item: &Item) -> Result<(), AllocError>
     requires { file_of item.now < length shelves.old }
-    ensures ok { OnOk result (ArePut item.now (rows_in shelves.old) (end_in shelves.old) (rows_in shelves.new) (end_in shelves.new)) }
-    ensures err { OnErr result (AreSame (rows_in shelves.old) (end_in shelves.old) (rows_in shelves.new) (end_in shelves.new)) }
+    ensures ok { OnOk result (ArePut item.now (rows_in shelves.old) (end_in shelves.old)
+        (rows_in shelves.new) (end_in shelves.new)) }
+    ensures err { OnErr result (AreSame (rows_in shelves.old) (end_in shelves.old)
+        (rows_in shelves.new) (end_in shelves.new)) }
     ensures count { length shelves.new ≡ length shelves.old }
 {
     match item {
@@ -122,7 +129,8 @@ fn put_item(shelves: &mut [Shelf], item: &Item) -> Result<(), AllocError>
 fn put_row(shelves: &mut [Shelf], row: &Valued) -> Result<(), AllocError>
     requires { row.now.file < length shelves.old }
     ensures rows { OnOk result ((file : ℕ) → rows_in shelves.new file
-        ≡ (if row.now.file == file then with_row (rows_in shelves.old file) row.now else rows_in shelves.old file)) }
+        ≡ (if row.now.file == file then with_row (rows_in shelves.old file) row.now else rows_in
+        shelves.old file)) }
     ensures err { OnErr result ((file : ℕ) → rows_in shelves.new file ≡ rows_in shelves.old file) }
     ensures ends { (file : ℕ) → end_in shelves.new file ≡ end_in shelves.old file }
     ensures count { length shelves.new ≡ length shelves.old }
@@ -134,7 +142,8 @@ fn put_row(shelves: &mut [Shelf], row: &Valued) -> Result<(), AllocError>
 fn put_end(shelves: &mut [Shelf], file: u8, count: u32)
     requires { file < length shelves.old }
     ensures rows { (other : ℕ) → rows_in shelves.new other ≡ rows_in shelves.old other }
-    ensures ends { (other : ℕ) → end_in shelves.new other ≡ (if file == other then Some count else end_in shelves.old other) }
+    ensures ends { (other : ℕ) → end_in shelves.new other
+        ≡ (if file == other then Some count else end_in shelves.old other) }
     ensures count { length shelves.new ≡ length shelves.old }
 {
     shelves[file as usize].end = Some(count);
@@ -144,8 +153,11 @@ fn put_end(shelves: &mut [Shelf], file: u8, count: u32)
 fn require_filled(shelves: &[Shelf]) -> Result<(), FinishFault>
     requires count { length shelves.now ≤ 255 }
     requires few { (file : ℕ) → length (rows_in shelves.now file) ≤ MAX_ROWS }
-    requires closed { (file count : ℕ) → end_in shelves.now file ≡ Some count → length (rows_in shelves.now file) ≤ count }
-    ensures filled { OnOk result ((file : ℕ) → file < length shelves.now → IsFilled (rows_in shelves.now file) (end_in shelves.now file)) }
+    requires closed { (file count : ℕ) → end_in shelves.now file ≡ Some count
+        → length (rows_in shelves.now file) ≤ count }
+    ensures filled { OnOk result
+        ((file : ℕ) → file < length shelves.now
+        → IsFilled (rows_in shelves.now file) (end_in shelves.now file)) }
     ensures lacking { IfErr result (IsFirstLacking shelves.now) }
 {
     for (file, shelf) in shelves.iter().enumerate() {

@@ -19,18 +19,22 @@ pub fn complete_is_not_refused()
 pub fn complete_lacks_nothing()
     ensures full { (files : ℕ) (items order : List Item) (file : ℕ) → IsComplete files items
         → IsPermutation items order → file < files → IsFull order file }
-    ensures nothing { (files : ℕ) (items order : List Item) (file place : ℕ) → IsComplete files items
+    ensures nothing { (files : ℕ) (items order : List Item) (file place : ℕ)
+        → IsComplete files items
         → IsPermutation items order → ¬ (IsMissing files order file place) }
 {}
 
 /// A complete list of items is complete in any order.
 pub fn complete_in_any_order()
-    ensures { (files : ℕ) (items order : List Item) → IsComplete files items → IsPermutation items order → IsComplete files order }
+    ensures { (files : ℕ) (items order : List Item) → IsComplete files items
+        → IsPermutation items order → IsComplete files order }
 {}
 
 /// What is found of a file is one of the items.
 pub fn found_is_held()
-    ensures row { (items : List Item) (file place : ℕ) (v : Valued) → row_at file place items ≡ Some v
+    ensures row { (items : List Item) (file place : ℕ) (v : Valued)
+        → row_at file place items ≡ Some v
         → (v.file ≡ file) × (v.place ≡ place) × Contains items (Row v) }
-    ensures end { (items : List Item) (file count : ℕ) → end_at file items ≡ Some count → Contains items (End file count) }
+    ensures end { (items : List Item) (file count : ℕ) → end_at file items ≡ Some count
+        → Contains items (End file count) }
 {}

@@ -77,7 +77,8 @@ impl Shelf {
     pub fn lacking(&self) -> Option<u32>
         requires few { length self.now.rows ≤ MAX_ROWS }
         requires closed { (count : ℕ) → self.now.end ≡ Some count → length self.now.rows ≤ count }
-        ensures { MatchOption result (IsFilled self.now.rows self.now.end) (IsLacking self.now.rows self.now.end) }
+        ensures { MatchOption result (IsFilled self.now.rows self.now.end)
+            (IsLacking self.now.rows self.now.end) }
     {
         let place = open_place(&self.rows);
         if self.end == Some(place) {

@@ -15,7 +15,12 @@ use Rattle.forms.specs.Decimals.{IsDecimal, IsFine, IsWithin}
 use Rattle.forms.specs.Demands.{Demand, demand, FailsFirst}
 use Rattle.forms.specs.FieldFault.{FieldFault}
 use Rattle.forms.specs.FieldFault as fault
-use Rattle.forms.specs.Form.{Field, Decimal, Word, Value, Millionths, Bytes, Says, Spell, FitsField, Fit, asked, asked_of_field, asked_of_fields, number_of, read_field, read_fields, read, written, written_value, has_six_decimals, is_fine, Stepped, next_kinds, read_decimal, asked_of_decimal, is_on_step, millionths}
+use Rattle.forms.specs.Asked.{asked, asked_of_field, asked_of_fields, asked_of_decimal}
+use Rattle.forms.specs.Field.{Field, Decimal, Word, Value, Millionths, Bytes, Stepped, is_on_step, millionths}
+use Rattle.forms.specs.Fit.{FitsField, Fit, has_six_decimals, is_fine}
+use Rattle.forms.specs.Read.{number_of, read_field, read_fields, read, next_kinds, read_decimal}
+use Rattle.forms.specs.Spelled.{Says, Spell}
+use Rattle.forms.specs.WrittenValues.{written, written_value}
 use Rattle.forms.specs.Steps.{◌>>=◌}
 
 pub le_true : (a b : ℤ) → int_le a b ≡ true → a ≤ℤ b

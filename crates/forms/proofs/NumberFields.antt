@@ -3,7 +3,9 @@ use Rattle.std.specs.Prelude.{◌≡◌, ℕ, zero, suc, ◌*◌, ◌/◌, ◌%�
 use Rattle.std.proofs.Common.{refl, ap, arith}
 use Rattle.std.proofs.lemmas.Int.{ints}
 use Rattle.forms.proofs.DecimalFaults.{one_number}
-use Rattle.forms.specs.Form.{Field, Value, Millionths, Bytes, Says, Spell, FitsField, below, up_to, whole}
+use Rattle.forms.specs.Field.{Field, Value, Millionths, Bytes, below, up_to, whole}
+use Rattle.forms.specs.Fit.{FitsField}
+use Rattle.forms.specs.Spelled.{Says, Spell}
 
 pub quotient : (n : ℕ) → n * 10 ^ 6 / 10 ^ 6 ≡ n
 quotient n = omega arith

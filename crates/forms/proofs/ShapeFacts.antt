@@ -3,8 +3,13 @@ use Rattle.std.specs.Prelude.{◌≡◌, true, List, Option, Some, None, Result,
 use Rattle.std.proofs.Common.{refl, sym, ap, subst, inl, inr}
 use Rattle.forms.proofs.DemandFacts.{Follows, none_fails, one_kind}
 use Rattle.forms.proofs.FormFacts.{read_told, spelled_read}
-use Rattle.forms.specs.Form.{Value, Spell, asked, is_fine, read}
-use Rattle.forms.specs.Shape.{Shape, States, Fails, failing, said, unless}
+use Rattle.forms.specs.Asked.{asked}
+use Rattle.forms.specs.Field.{Value}
+use Rattle.forms.specs.Fit.{is_fine}
+use Rattle.forms.specs.Read.{read}
+use Rattle.forms.specs.Spelled.{Spell}
+use Rattle.forms.specs.Shape.{Shape, failing, said, unless}
+use Rattle.forms.specs.ShapeStates.{States, Fails}
 use Rattle.forms.specs.Steps.{◌>>=◌}
 
 -- what states something is read

@@ -5,7 +5,8 @@ use Rattle.std.proofs.Common.{refl}
 use Rattle.pit_units.specs.Decimal.{decimal_of}
 use Rattle.forms.specs.FieldFault.{FieldFault}
 use Rattle.forms.specs.FieldFault as fault
-use Rattle.forms.specs.Form.{Field, Word, Value, Millionths, Bytes, below, read, up_to, whole}
+use Rattle.forms.specs.Field.{Field, Word, Value, Millionths, Bytes, below, up_to, whole}
+use Rattle.forms.specs.Read.{read}
 
 abbrev form : List Field
 form = below 10 ∷ up_to 3 2500000 ∷ Word (λ word. bytes_eq word (codes "L")) ∷ []

@@ -1,26 +1,13 @@
 -- Grammars: the shape of each record of a text, by its number and what those before it state.
-use Rattle.std.specs.Prelude.{◌≡◌, ℕ, suc, true, List, [], ◌∷◌, Result, Ok, Err, ◌⊎◌}
-use Rattle.forms.specs.Form.{is_fine}
-use Rattle.forms.specs.Shape.{Shape, States, Fails, said}
+use Rattle.std.specs.Prelude.{◌≡◌, ℕ, suc, true, List, [], ◌∷◌, Result, Ok, Err}
+use Rattle.forms.specs.Fit.{is_fine}
+use Rattle.forms.specs.Shape.{Shape, said}
 use Rattle.forms.specs.Steps.{◌>>=◌}
 
 -- R are the records, S is what they state, K the kinds of fault and F the faults
 pub record Grammar (R S K F : Type 0) : Type 0 where
   pub shape : ℕ → S → R → Shape K S
   pub fault : ℕ → R → K → F
-
--- the records, from this number on and behind what is stated, state this in the end
-abbrev pub AllState : {R S K F : Type 0} → Grammar R S K F → ℕ → S → List R → S → Type 0
-AllState grammar number state [] last = last ≡ state
-AllState {S = S} grammar number state (row ∷ records) last =
-    (next : S) × States (grammar.shape number state row) next × AllState grammar (suc number) next records last
-
--- the fault is that of the first record that states nothing, of the kind of what fails first there
-abbrev pub IsFirstFault : {R S K F : Type 0} → Grammar R S K F → ℕ → S → List R → F → Type 0
-IsFirstFault grammar number state [] fault = ⊥
-IsFirstFault {S = S} {K = K} grammar number state (row ∷ records) fault =
-    ((kind : K) × Fails (grammar.shape number state row) kind × (fault ≡ grammar.fault number row kind))
-    ⊎ ((next : S) × States (grammar.shape number state row) next × IsFirstFault grammar (suc number) next records fault)
 
 -- an answer with the fault of its record
 abbrev pub placed : {R S K F : Type 0} → Grammar R S K F → ℕ → R → Result S K → Result S F

@@ -1,7 +1,14 @@
+pub mod Asked
 pub mod Decimals
 pub mod Demands
+pub mod Field
 pub mod FieldFault
-pub mod Form
+pub mod Fit
 pub mod Grammar
+pub mod GrammarStates
+pub mod Read
 pub mod Shape
+pub mod ShapeStates
+pub mod Spelled
 pub mod Steps
+pub mod WrittenValues

@@ -1,10 +1,10 @@
 -- Shapes: what a line or a record looks like behind those before it, and what all of them then state.
 -- A shape is data: tests of what came before, the form of its texts, tests of what they state, and
 -- what is stated behind it.
-use Rattle.std.specs.Prelude.{◌≡◌, ℕ, Bool, List, [], ◌∷◌, Option, Some, None, Result, Ok, Err, ◌⊎◌, if◌then◌else◌}
-use Rattle.forms.specs.Demands.{FailsFirst}
+use Rattle.std.specs.Prelude.{ℕ, Bool, List, [], ◌∷◌, Option, Some, None, Result, Ok, Err, if◌then◌else◌}
 use Rattle.forms.specs.FieldFault.{FieldFault}
-use Rattle.forms.specs.Form.{Field, Value, Spell, asked, read}
+use Rattle.forms.specs.Field.{Field, Value}
+use Rattle.forms.specs.Read.{read}
 use Rattle.forms.specs.Steps.{◌>>=◌}
 
 -- a test, and the kind of fault where it fails
@@ -28,27 +28,6 @@ pub record Shape (K S : Type 0) : Type 0 where
   pub kinds : ℕ → FieldFault → K
   pub last : List Value → List (Check K)
   pub next : List Value → S
-
--- the texts spell values, no test fails, and this is then stated
-pub record States {K S : Type 0} (shape : Shape K S) (next : S) : Type 0 where
-  pub first : failing shape.first ≡ None
-  pub values : List Value
-  pub spelled : Spell shape.form shape.texts values
-  pub last : failing (shape.last values) ≡ None
-  pub is : next ≡ shape.next values
-
--- a test fails behind texts that spell values
-pub record FailsLast {K S : Type 0} (shape : Shape K S) (kind : K) : Type 0 where
-  pub values : List Value
-  pub spelled : Spell shape.form shape.texts values
-  pub fails : failing (shape.last values) ≡ Some kind
-
--- what fails first, in the order in which it is looked at: the first tests, what is asked of the
--- texts, the last tests
-abbrev pub Fails : {K S : Type 0} → Shape K S → K → Type 0
-Fails shape kind =
-    (failing shape.first ≡ Some kind)
-    ⊎ ((failing shape.first ≡ None) × (FailsFirst (asked shape.kinds shape.form shape.texts) kind ⊎ FailsLast shape kind))
 
 -- an answer, unless something failed
 abbrev pub unless : {K S : Type 0} → Option K → Result S K → Result S K

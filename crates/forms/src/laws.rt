@@ -3,9 +3,16 @@
 ghost use Rattle.std.specs.Prelude.{◌≡◌, ◌↔◌, ℕ, true, List, Ok, Err};
 ghost use Rattle.forms.specs.Demands.{FailsFirst};
 ghost use Rattle.forms.specs.FieldFault.{FieldFault};
-ghost use Rattle.forms.specs.Form.{Field, Value, Fit, Spell, asked, is_fine, read, written};
-ghost use Rattle.forms.specs.Grammar.{Grammar, AllState, HasFineForms, IsFirstFault, read_all};
-ghost use Rattle.forms.specs.Shape.{Shape, Fails, States, said};
+ghost use Rattle.forms.specs.Asked.{asked};
+ghost use Rattle.forms.specs.Field.{Field, Value};
+ghost use Rattle.forms.specs.Fit.{Fit, is_fine};
+ghost use Rattle.forms.specs.Read.{read};
+ghost use Rattle.forms.specs.Spelled.{Spell};
+ghost use Rattle.forms.specs.WrittenValues.{written};
+ghost use Rattle.forms.specs.Grammar.{Grammar, HasFineForms, read_all};
+ghost use Rattle.forms.specs.GrammarStates.{AllState, IsFirstFault};
+ghost use Rattle.forms.specs.Shape.{Shape, said};
+ghost use Rattle.forms.specs.ShapeStates.{Fails, States};
 
 /// Texts are read as the values that they spell, and as no others.
 pub fn read_is_spelled<K>()
@@ -35,22 +42,27 @@ pub fn spelled_fits()
 
 /// A shape is read as what its texts state, and as nothing else.
 pub fn texts_are_read<K, S>()
-    ensures { (shape : Shape K S) (next : S) → is_fine shape.form ≡ true → (said shape ≡ Ok next) ↔ States shape next }
+    ensures { (shape : Shape K S) (next : S) → is_fine shape.form ≡ true
+        → (said shape ≡ Ok next) ↔ States shape next }
 {}
 
 /// It is refused with the kind of what fails first, and only then.
 pub fn texts_fail_first<K, S>()
-    ensures { (shape : Shape K S) (kind : K) → is_fine shape.form ≡ true → (said shape ≡ Err kind) ↔ Fails shape kind }
+    ensures { (shape : Shape K S) (kind : K) → is_fine shape.form ≡ true
+        → (said shape ≡ Err kind) ↔ Fails shape kind }
 {}
 
 /// The records of a grammar are read as what they state, one behind the other, and as nothing else.
 pub fn records_are_read<R, S, K, F>()
-    ensures { (grammar : Grammar R S K F) (number : ℕ) (state : S) (rows : List R) (last : S) → HasFineForms grammar
+    ensures { (grammar : Grammar R S K F) (number : ℕ) (state : S) (rows : List R) (last : S)
+        → HasFineForms grammar
         → (read_all grammar number state rows ≡ Ok last) ↔ AllState grammar number state rows last }
 {}
 
 /// They are refused with the fault of the first that states nothing, and only then.
 pub fn records_fail_first<R, S, K, F>()
-    ensures { (grammar : Grammar R S K F) (number : ℕ) (state : S) (rows : List R) (fault : F) → HasFineForms grammar
-        → (read_all grammar number state rows ≡ Err fault) ↔ IsFirstFault grammar number state rows fault }
+    ensures { (grammar : Grammar R S K F) (number : ℕ) (state : S) (rows : List R) (fault : F)
+        → HasFineForms grammar
+        → (read_all grammar number state rows ≡ Err fault)
+        ↔ IsFirstFault grammar number state rows fault }
 {}

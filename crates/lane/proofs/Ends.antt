@@ -6,7 +6,9 @@ use Rattle.lane.specs.declared.message.Taken.{Taken}
 use Rattle.lane.specs.declared.message.Taken.TheVariants.{Row, End}
 use Rattle.lane.specs.declared.part.Part.{Part}
 use Rattle.lane.specs.declared.part.Part.TheVariants.{Put}
-use Rattle.lane.specs.Message.{is_row, is_end, rows_in, has_end, IsFrom, IsEndedFrom}
+use Rattle.lane.specs.Message.{IsEndedFrom}
+use Rattle.lane.specs.MessageKinds.{is_row, is_end, rows_in, has_end}
+use Rattle.lane.specs.MessageOrders.{IsFrom}
 use Rattle.lane.specs.Steps.{with_message}
 use Rattle.lane.specs.Views.{sent_in, capacity_in}
 use Rattle.lane.specs.Kept.{IsOpenPut, IsEndedPut}

@@ -8,7 +8,7 @@ use Rattle.lane.specs.declared.message.Taken.{Taken}
 use Rattle.lane.specs.declared.message.Taken.TheVariants.{Stop, Quit}
 use Rattle.lane.specs.declared.part.Part.{Part}
 use Rattle.lane.specs.declared.part.Part.TheVariants.{Put, Take, Close}
-use Rattle.lane.specs.Message.{has_end, is_done, rows_in}
+use Rattle.lane.specs.MessageKinds.{has_end, is_done, rows_in}
 use Rattle.lane.specs.Whole.{IsWhole}
 use Rattle.lane.specs.Rule.{IsLane, put_parts, take_parts}
 use Rattle.lane.specs.Steps.{MaySend, full_view}

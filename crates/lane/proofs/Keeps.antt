@@ -7,7 +7,9 @@ use Rattle.std.proofs.lemmas.Bool.Decides.{nat_tests}
 use Rattle.std.proofs.lemmas.List.{drop-append-le, map-append}
 use Rattle.lane.specs.declared.message.Taken.{Taken}
 use Rattle.lane.specs.declared.message.Taken.TheVariants.{Row, End, Stop, Quit}
-use Rattle.lane.specs.Message.{is_of, of, position, is_at, is_stop, is_quit, is_mark, rows_in, has_end, is_done, IsFrom, Rises, MarksLast, AreStops, StopsLast}
+use Rattle.lane.specs.Message.{is_of, of, position, is_at, Rises}
+use Rattle.lane.specs.MessageKinds.{is_stop, is_quit, is_mark, rows_in, has_end, is_done}
+use Rattle.lane.specs.MessageOrders.{IsFrom, MarksLast, AreStops, StopsLast}
 use Rattle.lane.specs.Machine.{Size, State, opening, Event, PutRow, PutEnd, PutStop, PutQuit, TakeNext, HasRoom, Allowed, with_at, put, take_front, take_next, after, after_all, AreAllowed, IsReached}
 use Rattle.lane.specs.Lawful.{over, IsPlaced, IsLawful}
 use Rattle.lane.proofs.Lists.{all_more, all_weaker, get_more, drop_front, count_more, count_front, with_at_all, with_at_here, over_zero, over_le, over_at}

@@ -10,7 +10,9 @@ use Rattle.std.proofs.Math.Bool.{or-false}
 use Rattle.pit_model.specs.declared.block.Block.{Block}
 use Rattle.lane.specs.declared.message.Taken.{Taken}
 use Rattle.lane.specs.declared.message.Taken.TheVariants.{Row, End, Stop, Quit}
-use Rattle.lane.specs.Message.{is_of, of, position, is_row, is_stop, is_quit, is_mark, rows_in, has_end, is_done, ends_in_mark, IsFrom, IsEndedFrom, MarksLast, StopsLast}
+use Rattle.lane.specs.Message.{is_of, of, position, IsEndedFrom}
+use Rattle.lane.specs.MessageKinds.{is_row, is_stop, is_quit, is_mark, rows_in, has_end, is_done, ends_in_mark}
+use Rattle.lane.specs.MessageOrders.{IsFrom, MarksLast, StopsLast}
 use Rattle.lane.specs.Lawful.{IsPlaced}
 use Rattle.lane.proofs.Lists.{all_more, count_front}
 

@@ -7,7 +7,8 @@ use Rattle.std.proofs.lemmas.List.Elements.{recursion_from_All}
 use Rattle.std.proofs.lemmas.List.Kept.{AllPairs-from_increasing}
 use Rattle.lane.specs.declared.message.Taken.{Taken}
 use Rattle.lane.specs.declared.message.Taken.TheVariants.{Row, End, Stop, Quit}
-use Rattle.lane.specs.Message.{is_of, of, position, Rises, EndsClose, IsFrom}
+use Rattle.lane.specs.Message.{is_of, of, position, Rises}
+use Rattle.lane.specs.MessageOrders.{EndsClose, IsFrom}
 use Rattle.lane.specs.Machine.{Size, State}
 use Rattle.lane.specs.Lawful.{IsPlaced, IsLawful}
 use Rattle.lane.specs.Views.{IsOrdered}

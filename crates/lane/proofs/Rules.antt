@@ -10,7 +10,7 @@ use Rattle.lane.specs.declared.message.Taken.{Taken}
 use Rattle.lane.specs.declared.message.Taken.TheVariants.{Row, End, Stop, Quit}
 use Rattle.lane.specs.declared.part.Part.{Part}
 use Rattle.lane.specs.declared.part.Part.TheVariants.{Count, Put, Take, Close}
-use Rattle.lane.specs.Message.{has_end, is_done, rows_in}
+use Rattle.lane.specs.MessageKinds.{has_end, is_done, rows_in}
 use Rattle.lane.specs.Machine.{Size, State, opening, PutRow, PutEnd, PutStop, PutQuit, TakeNext, after}
 use Rattle.lane.specs.Whole.{IsWhole}
 use Rattle.lane.specs.Rule.{Role, Putter, Taker, Closer, part_of, role_of, Has, IsSeated, AreSeated, IsLaneAt, IsCounting, IsLane, put_parts, take_parts, all_parts}

@@ -7,7 +7,7 @@ use Rattle.lane.specs.declared.message.Taken.TheVariants.{Row, End, Stop, Quit}
 use Rattle.lane.specs.declared.part.Part.{Part}
 use Rattle.lane.specs.declared.part.Part.TheVariants.{Count, Put, Take, Close}
 use Rattle.lane.specs.Machine.{Size, State, PutRow, PutEnd, PutStop, PutQuit, TakeNext, Allowed, after}
-use Rattle.lane.specs.Message.{rows_in}
+use Rattle.lane.specs.MessageKinds.{rows_in}
 use Rattle.lane.specs.Rule.{Closer, IsLaneAt}
 use Rattle.lane.specs.Steps.{with_message, IsFree, PutSends, CloseSends}
 use Rattle.lane.specs.Laws.{send_event, SendIsAnEvent, ReceiveIsAnEvent, MakeIsTheOpening, SplitIsNoEvent, JoinIsNoEvent, LookFindsNothing}

@@ -9,7 +9,8 @@ use Rattle.lane.specs.declared.message.Taken.{Taken}
 use Rattle.lane.specs.declared.message.Taken.TheVariants.{Row, End, Stop, Quit}
 use Rattle.lane.specs.declared.part.Part.{Part}
 use Rattle.lane.specs.declared.part.Part.TheVariants.{Put, Take, Close}
-use Rattle.lane.specs.Message.{is_of, of, has_end, is_done, rows_in}
+use Rattle.lane.specs.Message.{is_of, of}
+use Rattle.lane.specs.MessageKinds.{has_end, is_done, rows_in}
 use Rattle.lane.specs.Machine.{Size, State, opening, Event, PutRow, PutEnd, PutStop, PutQuit, TakeNext, Allowed, with_at, put, take_front, take_next, after, after_all}
 use Rattle.lane.specs.Rule.{Role, Putter, Taker, Closer, IsRole, part_of, IsSeated, AreSeated, IsLaneAt}
 use Rattle.lane.specs.Steps.{IsFree, HasEnded}

@@ -7,7 +7,9 @@ use Rattle.std.proofs.lemmas.List.Sums.{sum_by-cons}
 use Rattle.std.proofs.lemmas.Option.{slice_get_within}
 use Rattle.lane.specs.declared.message.Taken.{Taken}
 use Rattle.lane.specs.declared.message.Taken.TheVariants.{Row, End, Stop, Quit}
-use Rattle.lane.specs.Message.{of, is_at, is_stop, is_quit, is_done, IsEndedFrom, Rises, MarksLast, EndsInStop, AreStops}
+use Rattle.lane.specs.Message.{of, is_at, IsEndedFrom, Rises, EndsInStop}
+use Rattle.lane.specs.MessageKinds.{is_stop, is_quit, is_done}
+use Rattle.lane.specs.MessageOrders.{MarksLast, AreStops}
 use Rattle.lane.specs.Machine.{Size, State}
 use Rattle.lane.specs.Lawful.{over, IsPlaced, IsLawful}
 use Rattle.lane.specs.Whole.{IsSent, IsWhole}

@@ -9,7 +9,9 @@ use Rattle.crossbeam_channel.specs.Claims.{Pass, view}
 use Rattle.lane.specs.declared.message.Taken.{Taken}
 use Rattle.lane.specs.declared.part.Part.{Part}
 use Rattle.lane.specs.declared.part.Part.TheVariants.{Count, Put, Take, Close}
-use Rattle.lane.specs.Message.{has_end, is_done, rows_in, IsFrom, IsEndedFrom}
+use Rattle.lane.specs.Message.{IsEndedFrom}
+use Rattle.lane.specs.MessageKinds.{has_end, is_done, rows_in}
+use Rattle.lane.specs.MessageOrders.{IsFrom}
 use Rattle.lane.specs.Whole.{GatheredView, IsWhole}
 use Rattle.lane.specs.Ends.{Lane, PutEndView, TakeEndView, CloserView, StoppedView, ArePutsFrom, AreTakesFrom}
 use Rattle.lane.specs.Rule.{put_parts, take_parts}

@@ -3,7 +3,9 @@ use Rattle.std.specs.Prelude.{◌≡◌, ℕ, zero, suc, ◌+◌, ◌<◌, ◌�
 use Rattle.std.specs.List.{count_by, AllByRecursion}
 use Rattle.lane.specs.declared.message.Taken.{Taken}
 use Rattle.lane.specs.declared.message.Taken.TheVariants.{Row, End, Stop, Quit}
-use Rattle.lane.specs.Message.{of, is_at, is_stop, is_quit, has_end, IsFrom, Rises, MarksLast, AreStops, StopsLast}
+use Rattle.lane.specs.Message.{of, is_at, Rises}
+use Rattle.lane.specs.MessageKinds.{is_stop, is_quit, has_end}
+use Rattle.lane.specs.MessageOrders.{IsFrom, MarksLast, AreStops, StopsLast}
 use Rattle.lane.specs.Machine.{Size, State}
 
 -- g 0 + g 1 + .. + g (n - 1)

@@ -4,7 +4,7 @@ use Rattle.std.specs.Prelude.{◌≡◌, ◌≢◌, ℕ, ◌+◌, ◌<◌, cond,
 use Rattle.pit_model.specs.declared.block.Block.{Block}
 use Rattle.lane.specs.declared.message.Taken.{Taken}
 use Rattle.lane.specs.declared.message.Taken.TheVariants.{Row, End, Stop, Quit}
-use Rattle.lane.specs.Message.{has_end, is_done, rows_in}
+use Rattle.lane.specs.MessageKinds.{has_end, is_done, rows_in}
 use Rattle.pit_model.specs.declared.ranges.TheConstants.{MAX_ROWS}
 
 -- the number of files and of takers, and how many messages the queue has room for

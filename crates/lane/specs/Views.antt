@@ -3,7 +3,8 @@ use Rattle.std.specs.Prelude.{◌≡◌, ℕ, ◌+◌, List, [], ◌∷◌}
 use Rattle.lane.specs.declared.message.Taken.{Taken}
 use Rattle.lane.specs.declared.part.Part.{Part}
 use Rattle.lane.specs.declared.part.Part.TheVariants.{Count, Put, Take, Close}
-use Rattle.lane.specs.Message.{Rises, EndsClose, MarksLast}
+use Rattle.lane.specs.Message.{Rises}
+use Rattle.lane.specs.MessageOrders.{EndsClose, MarksLast}
 use Rattle.lane.specs.Rule.{all_parts}
 use Rattle.lane.specs.Whole.{GatheredView}
 use Rattle.lane.specs.Steps.{with_message}

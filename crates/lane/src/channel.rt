@@ -47,7 +47,8 @@ pub fn take<R: Wait>(rt: &R, receiver: &Receiver, pass: &mut Seat) -> Taken
 pub fn look<R: Wait>(rt: &R, receiver: &Receiver, pass: &mut Seat)
     requires seat { IsSeatAt (receives_on receiver.now) pass.old }
     requires empty { Pops IsLane pass.old.id (view pass.old) (λ message view. ⊥) }
-    requires whole { Learns IsLane pass.old.id (view pass.old) (λ items. IsWhole (gathering_in (view pass.old))) }
+    requires whole { Learns IsLane pass.old.id (view pass.old)
+        (λ items. IsWhole (gathering_in (view pass.old))) }
     ensures view { view pass.new ≡ view pass.old }
     ensures whole { IsWhole (gathering_in (view pass.new)) }
 {

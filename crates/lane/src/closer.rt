@@ -4,7 +4,7 @@ ghost use Rattle.std.specs.Prelude.{◌≡◌, ◌<◌, ◌≤◌, true, [], ◌
 ghost use Rattle.std.specs.List.{All, sum_by};
 ghost use Rattle.crossbeam_channel.specs.Claims.{view as known, IsSeatAt};
 ghost use Rattle.crossbeam_channel.specs.Ends.{sends_on, receives_on, ruled_capacity};
-ghost use Rattle.lane.specs.Message.{is_done, rows_in};
+ghost use Rattle.lane.specs.MessageKinds.{is_done, rows_in};
 ghost use Rattle.lane.specs.Rule.{put_parts};
 ghost use Rattle.lane.specs.Views.{sents_in, tooks_in};
 ghost use Rattle.lane.specs.Ends.{ArePutsFrom, AreTakesFrom};
@@ -42,7 +42,9 @@ impl Model for Closer {
 
     ghost view = { λ e. closer_view e.pass e.files e.takers };
 
-    ghost invariant = { λ e. IsSeatAt (sends_on e.sender) e.pass × (receives_on e.receiver ≡ sends_on e.sender) × IsCloser (known e.pass) e.files e.takers (ruled_capacity (sends_on e.sender)) };
+    ghost invariant = { λ e. IsSeatAt (sends_on e.sender) e.pass
+        × (receives_on e.receiver ≡ sends_on e.sender)
+        × IsCloser (known e.pass) e.files e.takers (ruled_capacity (sends_on e.sender)) };
 }
 
 impl Closer {
@@ -56,9 +58,11 @@ impl Closer {
     ) -> Closer
         requires seat { IsSeatAt (sends_on sender) pass }
         requires channel { receives_on receiver ≡ sends_on sender }
-        requires part { known pass ≡ Part.Close files takers (ruled_capacity (sends_on sender)) 0 0 ∷ [] }
+        requires part { known pass ≡ Part.Close files takers (ruled_capacity (sends_on sender)) 0
+            0 ∷ [] }
         requires some_taker { 0 < takers }
-        ensures value { result ≡ record { lane = lane_at (sends_on sender); files = files; takers = takers } }
+        ensures value { result ≡ record
+            { lane = lane_at (sends_on sender); files = files; takers = takers } }
     {
         Closer {
             sender,
@@ -130,7 +134,8 @@ impl Model for GivenUp {
 // The parts of the ended puts join the closer's. Answers the number of their rows.
 fn join_puts(sender: &Sender, pass: &mut Seat, files: u8, takers: u8, puts: Vec<EndedPut>) -> u64
     requires seat { IsSeatAt (sends_on sender.now) pass.old }
-    requires part { known pass.old ≡ Part.Close files takers (ruled_capacity (sends_on sender.now)) 0 0 ∷ [] }
+    requires part { known pass.old
+        ≡ Part.Close files takers (ruled_capacity (sends_on sender.now)) 0 0 ∷ [] }
     requires puts { ArePutsFrom (lane_at (sends_on sender.now)) files 0 puts.items }
     ensures seat { IsSeatAt (sends_on sender.now) pass.new }
     ensures joined { IsJoined (known pass.new) files takers (ruled_capacity (sends_on sender.now)) }
@@ -147,9 +152,12 @@ fn join_puts(sender: &Sender, pass: &mut Seat, files: u8, takers: u8, puts: Vec<
 // Sends a Stop for each taker.
 fn put_stops<R: Wait>(rt: &R, sender: &Sender, pass: &mut Seat, files: u8, takers: u8)
     requires seat { IsSeatAt (sends_on sender.now) pass.old }
-    requires joined { IsJoined (known pass.old) files takers (ruled_capacity (sends_on sender.now)) }
+    requires joined { IsJoined (known pass.old) files takers
+        (ruled_capacity (sends_on sender.now)) }
     ensures seat { IsSeatAt (sends_on sender.now) pass.new }
-    ensures stopped { known pass.new ≡ Part.Close files takers (ruled_capacity (sends_on sender.now)) takers 0 ∷ put_parts (ruled_capacity (sends_on sender.now)) 0 (sents_in (known pass.old)) }
+    ensures stopped { known pass.new
+        ≡ Part.Close files takers (ruled_capacity (sends_on sender.now)) takers 0
+        ∷ put_parts (ruled_capacity (sends_on sender.now)) 0 (sents_in (known pass.old)) }
 {
     for _stop in 0..takers {
         put(rt, sender, pass, Taken::Stop);
@@ -159,9 +167,11 @@ fn put_stops<R: Wait>(rt: &R, sender: &Sender, pass: &mut Seat, files: u8, taker
 // Sends `n` Quits.
 fn put_quits<R: Wait>(rt: &R, sender: &Sender, pass: &mut Seat, files: u8, takers: u8, n: u8)
     requires seat { IsSeatAt (sends_on sender.now) pass.old }
-    requires part { known pass.old ≡ Part.Close files takers (ruled_capacity (sends_on sender.now)) 0 0 ∷ [] }
+    requires part { known pass.old
+        ≡ Part.Close files takers (ruled_capacity (sends_on sender.now)) 0 0 ∷ [] }
     requires few { n ≤ takers }
-    ensures quits { known pass.new ≡ Part.Close files takers (ruled_capacity (sends_on sender.now)) 0 n ∷ [] }
+    ensures quits { known pass.new
+        ≡ Part.Close files takers (ruled_capacity (sends_on sender.now)) 0 n ∷ [] }
 {
     for _quit in 0..n {
         put(rt, sender, pass, Taken::Quit);
@@ -183,7 +193,7 @@ impl Model for Stopped {
     ghost use Rattle.crossbeam_channel.specs.Claims.{view as known, IsSeatAt};
     ghost use Rattle.crossbeam_channel.specs.Ends.{sends_on, receives_on, ruled_capacity};
     ghost use Rattle.std.specs.List.{sum_by};
-    ghost use Rattle.lane.specs.Message.{rows_in};
+    ghost use Rattle.lane.specs.MessageKinds.{rows_in};
     ghost use Rattle.lane.specs.Views.{sents_in};
     ghost use Rattle.lane.specs.Ends.{StoppedView};
     ghost use Rattle.lane.specs.Kept.{stopped_view, IsStopping};
@@ -192,7 +202,10 @@ impl Model for Stopped {
 
     ghost view = { λ e. stopped_view e.pass e.takers };
 
-    ghost invariant = { λ e. IsSeatAt (sends_on e.sender) e.pass × (receives_on e.receiver ≡ sends_on e.sender) × IsStopping (known e.pass) e.takers (ruled_capacity (sends_on e.sender)) × (e.rows ≡ sum_by rows_in (sents_in (known e.pass))) };
+    ghost invariant = { λ e. IsSeatAt (sends_on e.sender) e.pass
+        × (receives_on e.receiver ≡ sends_on e.sender)
+        × IsStopping (known e.pass) e.takers (ruled_capacity (sends_on e.sender))
+        × (e.rows ≡ sum_by rows_in (sents_in (known e.pass))) };
 }
 
 impl Stopped {

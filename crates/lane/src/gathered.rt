@@ -3,7 +3,7 @@
 ghost use Rattle.std.specs.Prelude.{◌≡◌};
 ghost use Rattle.std.specs.List.{sum_by};
 ghost use Rattle.crossbeam_channel.specs.Claims.{view as known};
-ghost use Rattle.lane.specs.Message.{rows_in};
+ghost use Rattle.lane.specs.MessageKinds.{rows_in};
 ghost use Rattle.lane.specs.Views.{gathering_in, sents_in};
 ghost use Rattle.lane.specs.Whole.{IsWhole};
 

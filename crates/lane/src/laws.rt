@@ -12,7 +12,8 @@ use crossbeam_channel::protocol::Protocol;
 
 /// The rule of the channel that `open` makes: whatever the schedule, what the channel holds and what its passes know is a lawful lane.
 pub fn the_rule_is_kept()
-    ensures { (items : List Taken) (views : List (List Part)) → ⟦<Rule as Protocol<Taken, Parts>>⟧.holds items views → IsLane items views }
+    ensures { (items : List Taken) (views : List (List Part))
+        → ⟦<Rule as Protocol<Taken, Parts>>⟧.holds items views → IsLane items views }
 {}
 
 /// From the opening state every sequence of allowed events leaves a lawful state.

@@ -104,7 +104,8 @@ fn open_parts(sender: &Sender, pass: &mut Seat, files: u8, takers: u8, capacity:
 // The part behind the closer's, in a pass of its own.
 fn next_part(sender: &Sender, pass: &mut Seat) -> Seat
     requires seat { IsSeatAt (sends_on sender.now) pass.old }
-    requires rule { Forks IsLane pass.old.id (view pass.old) (without_second (view pass.old)) (second_alone (view pass.old)) }
+    requires rule { Forks IsLane pass.old.id (view pass.old) (without_second (view pass.old))
+        (second_alone (view pass.old)) }
     ensures seat { IsSeatAt (sends_on sender.now) pass.new }
     ensures left { view pass.new ≡ without_second (view pass.old) }
     ensures given_seat { IsSeatAt (sends_on sender.now) result }
@@ -123,8 +124,10 @@ fn put_ends(
     requires seat { IsSeatAt (sends_on sender.now) pass.old }
     requires parts { view pass.old ≡ all_parts files takers (ruled_capacity (sends_on sender.now)) }
     ensures seat { OnOk result (IsSeatAt (sends_on sender.now) pass.new) }
-    ensures left { OnOk result (view pass.new ≡ takes_left files takers (ruled_capacity (sends_on sender.now)) 0) }
-    ensures ends { IfOk result (λ ends. ends.items ≡ first_puts (lane_at (sends_on sender.now)) 0 files) }
+    ensures left { OnOk result (view pass.new
+        ≡ takes_left files takers (ruled_capacity (sends_on sender.now)) 0) }
+    ensures ends { IfOk result (λ ends. ends.items
+        ≡ first_puts (lane_at (sends_on sender.now)) 0 files) }
 {
     let mut ends = Vec::with_capacity(alloc, usize::from(files))?;
     for file in 0..files {
@@ -145,10 +148,13 @@ fn take_ends(
 ) -> Result<Vec<TakeEnd>, AllocError>
     requires seat { IsSeatAt (sends_on sender.now) pass.old }
     requires channel { receives_on receiver.now ≡ sends_on sender.now }
-    requires parts { view pass.old ≡ takes_left files takers (ruled_capacity (sends_on sender.now)) 0 }
+    requires parts { view pass.old
+        ≡ takes_left files takers (ruled_capacity (sends_on sender.now)) 0 }
     ensures seat { OnOk result (IsSeatAt (sends_on sender.now) pass.new) }
-    ensures left { OnOk result (view pass.new ≡ Part.Close files takers (ruled_capacity (sends_on sender.now)) 0 0 ∷ []) }
-    ensures ends { IfOk result (λ ends. ends.items ≡ first_takes (lane_at (sends_on sender.now)) 0 takers) }
+    ensures left { OnOk result (view pass.new
+        ≡ Part.Close files takers (ruled_capacity (sends_on sender.now)) 0 0 ∷ []) }
+    ensures ends { IfOk result (λ ends. ends.items
+        ≡ first_takes (lane_at (sends_on sender.now)) 0 takers) }
 {
     let mut ends = Vec::with_capacity(alloc, usize::from(takers))?;
     for taker in 0..takers {

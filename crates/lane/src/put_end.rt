@@ -4,7 +4,8 @@ ghost use Rattle.std.specs.Prelude.{◌≡◌, ◌<◌, ◌≤◌, ◌++◌, tru
 ghost use Rattle.crossbeam_channel.specs.Claims.{view as known, IsSeatAt};
 ghost use Rattle.crossbeam_channel.specs.Ends.{sends_on, ruled_capacity};
 ghost use Rattle.lane.specs.Kept.{IsClosers, lane_at};
-ghost use Rattle.lane.specs.Message.{has_end, rows_in, IsEndedFrom};
+ghost use Rattle.lane.specs.Message.{IsEndedFrom};
+ghost use Rattle.lane.specs.MessageKinds.{has_end, rows_in};
 ghost use Rattle.pit_model.specs.declared.ranges.TheConstants.{MAX_ROWS};
 
 use crate::channel::put;
@@ -36,7 +37,9 @@ impl Model for PutEnd {
 
     ghost view = { λ e. put_end_view e.pass e.file };
 
-    ghost invariant = { λ e. IsSeatAt (sends_on e.sender) e.pass × (ruled_capacity (sends_on e.sender) ≡ capacity_in (known e.pass)) × IsOpenPut (known e.pass) e.file e.rows };
+    ghost invariant = { λ e. IsSeatAt (sends_on e.sender) e.pass
+        × (ruled_capacity (sends_on e.sender) ≡ capacity_in (known e.pass))
+        × IsOpenPut (known e.pass) e.file e.rows };
 }
 
 impl PutEnd {
@@ -44,7 +47,8 @@ impl PutEnd {
     pub(crate) fn new(sender: Sender, pass: Seat, file: u8) -> PutEnd
         requires seat { IsSeatAt (sends_on sender) pass }
         requires part { known pass ≡ Part.Put file (ruled_capacity (sends_on sender)) [] ∷ [] }
-        ensures value { result ≡ record { lane = lane_at (sends_on sender); file = file; sent = [] } }
+        ensures value { result ≡ record
+            { lane = lane_at (sends_on sender); file = file; sent = [] } }
     {
         PutEnd {
             sender,
@@ -57,7 +61,8 @@ impl PutEnd {
     /// Sends the block as the file's next row: its place is the number of rows sent before. At most 1,000,000 rows may be sent.
     pub fn row<R: Wait>(&mut self, rt: &R, block: Block)
         requires few { length self.old.sent < MAX_ROWS }
-        ensures sent { self.new ≡ record self.old { sent = self.old.sent ++ Taken.Row self.old.file (length self.old.sent) block ∷ [] } }
+        ensures sent { self.new ≡ record self.old
+            { sent = self.old.sent ++ Taken.Row self.old.file (length self.old.sent) block ∷ [] } }
     {
         let message = Taken::Row {
             file: self.file,
@@ -78,8 +83,10 @@ impl PutEnd {
 
     /// Sends the end mark with the number of rows. Nothing can be sent for the file after it.
     pub fn end<R: Wait>(self, rt: &R) -> EndedPut
-        ensures sent { result ≡ record self { sent = self.sent ++ Taken.End self.file (rows_in self.sent) ∷ [] } }
-        ensures places { result ≡ record self { sent = self.sent ++ Taken.End self.file (length self.sent) ∷ [] } }
+        ensures sent { result ≡ record self
+            { sent = self.sent ++ Taken.End self.file (rows_in self.sent) ∷ [] } }
+        ensures places { result ≡ record self
+            { sent = self.sent ++ Taken.End self.file (length self.sent) ∷ [] } }
         ensures ended { IsEndedFrom result.file 0 result.sent }
     {
         let PutEnd {
@@ -121,7 +128,9 @@ impl EndedPut {
         requires closer { IsClosers (known pass.old) }
         requires lane { self.lane ≡ lane_at (sends_on sender.now) }
         ensures seat { IsSeatAt (sends_on sender.now) pass.new }
-        ensures joined { known pass.new ≡ known pass.old ++ Part.Put self.file (ruled_capacity (sends_on sender.now)) self.sent ∷ [] }
+        ensures joined { known pass.new
+            ≡ known pass.old ++ Part.Put self.file (ruled_capacity (sends_on sender.now))
+            self.sent ∷ [] }
         ensures ended { has_end self.sent ≡ true }
         ensures rows { result ≡ rows_in self.sent }
         ensures few { result ≤ MAX_ROWS }

@@ -4,7 +4,9 @@ ghost use Rattle.std.specs.Prelude.{◌≡◌, false, ◌++◌, [], ◌∷◌};
 ghost use Rattle.crossbeam_channel.specs.Claims.{view as known, IsSeatAt};
 ghost use Rattle.crossbeam_channel.specs.Ends.{sends_on, receives_on, ruled_capacity};
 ghost use Rattle.lane.specs.Kept.{IsClosers, lane_at};
-ghost use Rattle.lane.specs.Message.{is_done, ends_in_mark, Rises, EndsClose, MarksLast};
+ghost use Rattle.lane.specs.Message.{Rises};
+ghost use Rattle.lane.specs.MessageKinds.{is_done, ends_in_mark};
+ghost use Rattle.lane.specs.MessageOrders.{EndsClose, MarksLast};
 
 use crate::channel::take;
 use crate::message::Taken;
@@ -26,7 +28,7 @@ impl Model for TakeEnd {
     ghost use Rattle.std.specs.Prelude.{◌≡◌};
     ghost use Rattle.crossbeam_channel.specs.Claims.{view as known, IsSeatAt};
     ghost use Rattle.crossbeam_channel.specs.Ends.{receives_on};
-    ghost use Rattle.lane.specs.Message.{is_done};
+    ghost use Rattle.lane.specs.MessageKinds.{is_done};
     ghost use Rattle.lane.specs.Views.{took_in};
     ghost use Rattle.lane.specs.Ends.{TakeEndView};
     ghost use Rattle.lane.specs.Kept.{take_end_view, IsTake};
@@ -35,15 +37,18 @@ impl Model for TakeEnd {
 
     ghost view = { λ e. take_end_view e.pass e.taker };
 
-    ghost invariant = { λ e. IsSeatAt (receives_on e.receiver) e.pass × IsTake (known e.pass) e.taker × (e.done ≡ is_done (took_in (known e.pass))) };
+    ghost invariant = { λ e. IsSeatAt (receives_on e.receiver) e.pass
+        × IsTake (known e.pass) e.taker × (e.done ≡ is_done (took_in (known e.pass))) };
 }
 
 impl TakeEnd {
     // A take end that took nothing yet.
     pub(crate) fn new(receiver: Receiver, pass: Seat, taker: u8) -> TakeEnd
         requires seat { IsSeatAt (receives_on receiver) pass }
-        requires part { known pass ≡ Part.Take taker (ruled_capacity (receives_on receiver)) [] ∷ [] }
-        ensures value { result ≡ record { lane = lane_at (receives_on receiver); taker = taker; took = [] } }
+        requires part { known pass ≡ Part.Take taker (ruled_capacity (receives_on receiver))
+            [] ∷ [] }
+        ensures value { result ≡ record
+            { lane = lane_at (receives_on receiver); taker = taker; took = [] } }
     {
         TakeEnd {
             receiver,
@@ -80,7 +85,9 @@ impl TakeEnd {
         requires closer { IsClosers (known pass.old) }
         requires lane { self.lane ≡ lane_at (sends_on sender.now) }
         ensures seat { IsSeatAt (sends_on sender.now) pass.new }
-        ensures joined { known pass.new ≡ known pass.old ++ Part.Take self.taker (ruled_capacity (sends_on sender.now)) self.took ∷ [] }
+        ensures joined { known pass.new
+            ≡ known pass.old ++ Part.Take self.taker (ruled_capacity (sends_on sender.now))
+            self.took ∷ [] }
     {
         let TakeEnd { pass: theirs, .. } = self;
         sender.absorb::<Joins>(pass, theirs);

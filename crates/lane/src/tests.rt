@@ -2,7 +2,7 @@
 
 ghost use Rattle.std.specs.Prelude.{◌≡◌, ℕ, ◌<◌, ◌≤◌, true, [], IfOk, IfSome, length, slice_index_or};
 ghost use Rattle.std.specs.List.{All};
-ghost use Rattle.lane.specs.Message.{is_done};
+ghost use Rattle.lane.specs.MessageKinds.{is_done};
 ghost use Rattle.lane.specs.Ends.{Lane, AreTakesFrom, first_puts, first_takes};
 
 use super::*;
@@ -30,7 +30,8 @@ fn block(row: u32) -> Block {
 // The one put end of a lane.
 fn only_put(closer: &Closer, mut puts: Vec<PutEnd>) -> Option<PutEnd>
     requires { puts.items ≡ first_puts closer.now.lane 0 1 }
-    ensures { IfSome result (λ put. (put.lane ≡ closer.now.lane) × (put.file ≡ 0) × (put.sent ≡ [])) }
+    ensures { IfSome result (λ put. (put.lane ≡ closer.now.lane) × (put.file ≡ 0)
+        × (put.sent ≡ [])) }
 {
     puts.pop()
 }
@@ -38,7 +39,8 @@ fn only_put(closer: &Closer, mut puts: Vec<PutEnd>) -> Option<PutEnd>
 // The one take end of a lane.
 fn only_take(closer: &Closer, mut takes: Vec<TakeEnd>) -> Option<TakeEnd>
     requires { takes.items ≡ first_takes closer.now.lane 0 1 }
-    ensures { IfSome result (λ take. (take.lane ≡ closer.now.lane) × (take.taker ≡ 0) × (take.took ≡ [])) }
+    ensures { IfSome result (λ take. (take.lane ≡ closer.now.lane) × (take.taker ≡ 0)
+        × (take.took ≡ [])) }
 {
     takes.pop()
 }
@@ -196,8 +198,11 @@ fn hand_over<R: Threads + Wait + Abort + Sync>(
             ensures takers { IfOk result (λ stopped. stopped.takers ≡ closer.takers) }
         { put_all(rt, closer, puts, rows) },
         move || -> Result<Vec<TakeEnd>, AllocError>
-            ensures ends { IfOk result (λ taken. (lane : Lane) (takers : ℕ) → AreTakesFrom lane takers 0 takes.items → AreTakesFrom lane takers 0 taken.items) }
-            ensures done { IfOk result (λ taken. All (λ take. is_done take.took ≡ true) taken.items) }
+            ensures ends { IfOk result
+                (λ taken. (lane : Lane) (takers : ℕ) → AreTakesFrom lane takers 0 takes.items
+                → AreTakesFrom lane takers 0 taken.items) }
+            ensures done { IfOk result
+                (λ taken. All (λ take. is_done take.took ≡ true) taken.items) }
         { take_whole(rt, takes, seen, positions) },
     );
     let (stopped, taken) = (stopped?, taken?);
@@ -212,8 +217,10 @@ fn put_each<R: Threads + Wait + Sync>(
     requires unsent { All (λ put. put.sent ≡ []) puts.items }
     requires few { rows ≤ 1000000 }
     ensures len { IfOk result (λ ended. length ended.items ≡ length puts.items) }
-    ensures lanes { IfOk result (λ ended. (i : ℕ) (d e : _) → i < length puts.items → (slice_index_or ended.items i d).lane ≡ (slice_index_or puts.items i e).lane) }
-    ensures files { IfOk result (λ ended. (i : ℕ) (d e : _) → i < length puts.items → (slice_index_or ended.items i d).file ≡ (slice_index_or puts.items i e).file) }
+    ensures lanes { IfOk result (λ ended. (i : ℕ) (d e : _) → i < length puts.items
+        → (slice_index_or ended.items i d).lane ≡ (slice_index_or puts.items i e).lane) }
+    ensures files { IfOk result (λ ended. (i : ℕ) (d e : _) → i < length puts.items
+        → (slice_index_or ended.items i d).file ≡ (slice_index_or puts.items i e).file) }
 {
     thread::map_vec(rt, puts, &|put| put_rows(rt, put, rows))
 }
@@ -240,8 +247,11 @@ fn take_each<R: Threads + Wait + Abort + Sync>(
     positions: usize,
 ) -> Result<Vec<TakeEnd>, AllocError>
     ensures len { IfOk result (λ taken. length taken.items ≡ length takes.items) }
-    ensures lanes { IfOk result (λ taken. (i : ℕ) (d e : _) → i < length takes.items → (slice_index_or taken.items i d).lane ≡ (slice_index_or takes.items i e).lane) }
-    ensures takers { IfOk result (λ taken. (i : ℕ) (d e : _) → i < length takes.items → (slice_index_or taken.items i d).taker ≡ (slice_index_or takes.items i e).taker) }
+    ensures lanes { IfOk result (λ taken. (i : ℕ) (d e : _) → i < length takes.items
+        → (slice_index_or taken.items i d).lane ≡ (slice_index_or takes.items i e).lane) }
+    ensures takers { IfOk result
+        (λ taken. (i : ℕ) (d e : _) → i < length takes.items
+        → (slice_index_or taken.items i d).taker ≡ (slice_index_or takes.items i e).taker) }
     ensures done { IfOk result (λ taken. All (λ take. is_done take.took ≡ true) taken.items) }
 {
     thread::map_vec(rt, takes, &|take| take_all(rt, take, seen, positions))
@@ -254,7 +264,8 @@ fn take_whole<R: Threads + Wait + Abort + Sync>(
     seen: &[AtomicU64],
     positions: usize,
 ) -> Result<Vec<TakeEnd>, AllocError>
-    ensures ends { IfOk result (λ taken. (lane : Lane) (takers : ℕ) → AreTakesFrom lane takers 0 takes.items → AreTakesFrom lane takers 0 taken.items) }
+    ensures ends { IfOk result (λ taken. (lane : Lane) (takers : ℕ)
+        → AreTakesFrom lane takers 0 takes.items → AreTakesFrom lane takers 0 taken.items) }
     ensures done { IfOk result (λ taken. All (λ take. is_done take.took ≡ true) taken.items) }
 {
     let taken = take_each(rt, takes, seen, positions)?;

@@ -13,7 +13,8 @@ use Rattle.std.proofs.lemmas.List.Sums.{position_or_len_is}
 use Rattle.std.proofs.lemmas.Option.{slice_get-get_or}
 use Rattle.pit_model.specs.declared.block.Block.{Block}
 use Rattle.pit_model.specs.declared.resource.Resource.{Resource}
-use Rattle.precedence.specs.Identifier.{id, IsNumbering, NumberingView}
+use Rattle.precedence.specs.Identifier.{id}
+use Rattle.precedence.specs.Numbering.{IsNumbering, NumberingView}
 use Rattle.mine_instance.specs.OfModel.{block_with, by_identifier, covers, pair_with, covering, block_coefs, coefs_of}
 use Rattle.mine_instance.specs.Rows.{rows_of}
 

@@ -6,13 +6,14 @@ use Rattle.std.proofs.lemmas.List.Kept.{AllPairs-cons, AllPairs-filter}
 use Rattle.std.specs.Prelude.{AllPairs, IsTrue, nat_lt, slice_get, filter, ◌==◌}
 use Rattle.std.specs.List.{enumerate_from, range_with_len, flat_map}
 use Rattle.std.proofs.lemmas.Bool.Decides.{nat_tests}
-use Rattle.pit_model.specs.Destinations.{formulas_of_plan}
+use Rattle.pit_model.specs.PlanFormulas.{formulas_of_plan}
 use Rattle.precedence.specs.Cone.{places_where, above, is_above, preds}
 use Rattle.pit_model.specs.declared.cone.Cone.{Cone}
 use Rattle.pit_model.specs.declared.grid.Grid.{Grid}
 use Rattle.pit_model.specs.declared.limit.Limit.{Limit}
 use Rattle.pit_model.specs.declared.resource.Resource.{Resource}
-use Rattle.pit_model.specs.Plan.{PlanParts, IsRuled, IsPlan, IsBound, is_turned}
+use Rattle.pit_model.specs.Plan.{PlanParts}
+use Rattle.pit_model.specs.PlanKept.{IsRuled, IsPlan, IsBound, is_turned}
 use Rattle.pit_model.specs.Worth.{worth, IsWorth}
 use Rattle.pit_model.specs.declared.block.Block.{Block}
 use Rattle.pit_model.specs.declared.formula.Formula.{Formula}

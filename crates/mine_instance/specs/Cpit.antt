@@ -1,10 +1,7 @@
--- What a CPIT is: its parts, and what every one keeps.
-use Rattle.std.specs.Prelude.{ℕ, ◌<◌, ◌≤◌, ℤ, List, length, All, AllPairs, IsTrue}
+-- What a CPIT is: its parts.
+use Rattle.std.specs.Prelude.{ℕ, ℤ, List}
 use Rattle.pit_model.specs.declared.limit.Limit.{Limit}
-use Rattle.mine_instance.specs.CpitOrder.{is_listed_before}
-use Rattle.mine_instance.specs.Valid.{IsHorizon, AreLimits}
 use Rattle.mine_instance.specs.declared.cpit.CpitCoef.{CpitCoef}
-use Rattle.pit_model.specs.declared.ranges.TheConstants.{MAX_BLOCKS}
 
 pub record CpitParts : Type 0 where
   pub name : List ℕ
@@ -16,27 +13,3 @@ pub record CpitParts : Type 0 where
   pub values : List ℤ
   pub coefs : List CpitCoef
   pub limits : List Limit
-
--- a CPIT by its parts
-abbrev pub cpit_of : List ℕ → ℤ → ℕ → ℕ → List ℤ → List CpitCoef → List Limit → CpitParts
-cpit_of name rate periods resources values coefs limits = record {
-  name = name;
-  rate = rate;
-  periods = periods;
-  resources = resources;
-  values = values;
-  coefs = coefs;
-  limits = limits;
-}
-
--- coefficients of blocks and resources that are there, strictly rising
-pub record AreCpitCoefs (n resources : ℕ) (coefs : List CpitCoef) : Type 0 where
-  pub in_range : All (λ c. (c.b < n) × (c.r < resources)) coefs
-  pub rising : AllPairs (λ c e. IsTrue (is_listed_before c e)) coefs
-
--- what every CPIT keeps
-pub record IsCpit (p : CpitParts) : Type 0 where
-  pub few : length p.values ≤ MAX_BLOCKS
-  pub horizon : IsHorizon p.periods p.resources p.rate
-  pub coefs : AreCpitCoefs (length p.values) p.resources p.coefs
-  pub limits : AreLimits p.resources p.periods p.limits

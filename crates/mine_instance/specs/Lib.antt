@@ -1,6 +1,7 @@
 pub mod Cpit
-pub mod CpitOrder
 pub mod CpitFields
+pub mod CpitKept
+pub mod CpitOrder
 pub mod Greatest
 pub mod OfCpit
 pub mod OfModel

@@ -2,7 +2,7 @@
 -- (the parts of a MineLib instance: Espinoza, Goycoolea, Moreno and Newman 2013).
 use Rattle.std.specs.Prelude.{ℕ, ◌*◌, ◌==◌, Bool, List, [], ℤ, pos, ◌*ℤ◌, Option, length, map, filter, find, if◌then◌else◌}
 use Rattle.std.specs.List.{list_any, filter_map, flat_map, range_with_len, enumerate_from}
-use Rattle.pit_model.specs.Destinations.{formulas_of_plan}
+use Rattle.pit_model.specs.PlanFormulas.{formulas_of_plan}
 use Rattle.pit_model.specs.Plan.{PlanParts}
 use Rattle.pit_model.specs.declared.block.Block.{Block}
 use Rattle.pit_model.specs.declared.limit.Limit.{Limit}

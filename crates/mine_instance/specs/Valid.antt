@@ -1,6 +1,6 @@
 -- What a valid instance is.
 use Rattle.std.specs.Prelude.{◌≡◌, ◌≢◌, ℕ, ◌<◌, ◌≤◌, ℤ, pos, ◌≤ℤ◌, List, [], length, slice_index_or, All, AllPairs, EachIndex, IsTrue, false}
-use Rattle.pit_model.specs.Plan.{RiseStrictly, is_turned}
+use Rattle.pit_model.specs.PlanKept.{RiseStrictly, is_turned}
 use Rattle.pit_model.specs.declared.limit.Limit.{Limit}
 use Rattle.mine_instance.specs.Order.{comes_before}
 use Rattle.mine_instance.specs.declared.coef.Coef.{Coef}

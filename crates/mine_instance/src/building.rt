@@ -2,11 +2,12 @@
 
 ghost use Rattle.std.specs.Prelude.{◌≡◌, ◌<◌, ◌≤◌, ◌==◌, ◌++◌, ◌∷◌, [], List, length, map, slice_get, Some, All, Contains, IfOk, OnOk, if◌then◌else◌};
 ghost use Rattle.std.specs.List.{list_any};
-ghost use Rattle.pit_model.specs.Destinations.{formulas_of_plan};
+ghost use Rattle.pit_model.specs.PlanFormulas.{formulas_of_plan};
 ghost use Rattle.pit_model.specs.declared.block.Block.{Block};
 ghost use Rattle.pit_model.specs.Worth.{IsWorth};
 ghost use Rattle.precedence.specs.Cone.{preds as cone_lists};
-ghost use Rattle.precedence.specs.Identifier.{IsNumbering, NumberingView, blocks_of_rows};
+ghost use Rattle.precedence.specs.Identifier.{blocks_of_rows};
+ghost use Rattle.precedence.specs.Numbering.{IsNumbering, NumberingView};
 ghost use Rattle.rows.specs.Valued.{worths_by};
 ghost use Rattle.mine_instance.specs.OfModel.{instance, values_of, in_hundreds, covering, covered, coefs_of, block_coefs};
 ghost use Rattle.mine_instance.specs.Valid.{IsValid};
@@ -39,7 +40,8 @@ pub fn build(
 ) -> Result<Instance, AllocError>
     requires numbering { IsNumbering (blocks_of_rows rows.now) numbering.now }
     requires preds { preds ≡ cone_lists plan.now numbering.now.blocks }
-    requires worths { All (λ row. row.worths ≡ worths_by (formulas_of_plan plan.now) row.block) rows.now }
+    requires worths { All (λ row. row.worths ≡ worths_by (formulas_of_plan plan.now) row.block)
+        rows.now }
     ensures value { IfOk result (λ built. built ≡ instance plan.now (blocks_of_rows rows.now)) }
     ensures valid { IfOk result IsValid }
 {
@@ -60,7 +62,8 @@ pub fn build_with(
     requires few { length blocks.items ≤ MAX_BLOCKS }
     requires preds { preds ≡ cone_lists plan.now blocks.items }
     requires values { values ≡ map (values_of plan.now) blocks.items }
-    ensures value { (listed : List Block) → (n : NumberingView) → IsNumbering listed n → n.blocks ≡ blocks.items
+    ensures value { (listed : List Block) → (n : NumberingView) → IsNumbering listed n
+        → n.blocks ≡ blocks.items
         → IfOk result (λ built. built ≡ instance plan.now listed) }
     ensures valid { IfOk result IsValid }
 {
@@ -90,7 +93,8 @@ pub fn values_by_id(
     plan: &Plan,
 ) -> Result<Values, AllocError>
     requires numbering { IsNumbering (blocks_of_rows rows.now) numbering.now }
-    requires worths { All (λ row. row.worths ≡ worths_by (formulas_of_plan plan.now) row.block) rows.now }
+    requires worths { All (λ row. row.worths ≡ worths_by (formulas_of_plan plan.now) row.block)
+        rows.now }
     ensures { IfOk result (λ values. values ≡ map (values_of plan.now) numbering.now.blocks) }
 {
     let width = plan.formulas().len();
@@ -156,7 +160,8 @@ fn put_covering(
     destination: u8,
 ) -> Result<(), AllocError>
     requires { length resources.now ≤ MAX_RESOURCES }
-    ensures { OnOk result (pairs.new.items ≡ pairs.old.items ++ covering resources.now destination) }
+    ensures { OnOk result (pairs.new.items
+        ≡ pairs.old.items ++ covering resources.now destination) }
 {
     for (number, resource) in resources.iter().enumerate() {
         put_if_covers(pairs, resource, number as u8, destination)?;
@@ -171,7 +176,8 @@ fn put_if_covers(
     destination: u8,
 ) -> Result<(), AllocError>
     ensures { OnOk result (pairs.new.items
-        ≡ pairs.old.items ++ (if list_any (λ e. e == destination) resource.now.covers then (destination, number) ∷ [] else [])) }
+        ≡ pairs.old.items ++ (if list_any (λ e. e == destination) resource.now.covers then
+        (destination, number) ∷ [] else [])) }
 {
     if resource.covers.as_slice().contains(&destination) {
         pairs.push((destination, number))?;
@@ -197,7 +203,8 @@ fn put_coefs(
     id: u32,
     block: &Block,
 ) -> Result<(), AllocError>
-    ensures { OnOk result (coefs.new.items ≡ coefs.old.items ++ block_coefs pairs.now (id, block.now)) }
+    ensures { OnOk result (coefs.new.items
+        ≡ coefs.old.items ++ block_coefs pairs.now (id, block.now)) }
 {
     if block.kg == 0 {
         return Ok(());

@@ -1,7 +1,7 @@
 //! The constrained pit limit problem of an instance.
 
 ghost use Rattle.std.specs.Prelude.{◌≡◌, length};
-ghost use Rattle.mine_instance.specs.Cpit.{IsCpit};
+ghost use Rattle.mine_instance.specs.CpitKept.{IsCpit};
 
 use crate::rising::Ordered;
 use pit_model::limit::Limit;
@@ -61,7 +61,7 @@ impl Model for Cpit {
 }
 
 impl Cpit {
-    ghost use Rattle.mine_instance.specs.Cpit.{cpit_of};
+    ghost use Rattle.mine_instance.specs.CpitKept.{cpit_of};
 
     /// The CPIT of these parts. `is_cpit` tells whether they are those of one.
     pub fn new(
@@ -73,8 +73,10 @@ impl Cpit {
         coefs: Vec<CpitCoef>,
         limits: Vec<Limit>,
     ) -> Cpit
-        requires { IsCpit (cpit_of name rate periods resources values.items coefs.items limits.items) }
-        ensures { result ≡ cpit_of name rate periods resources values.items coefs.items limits.items }
+        requires { IsCpit (cpit_of name rate periods resources values.items coefs.items
+            limits.items) }
+        ensures { result ≡ cpit_of name rate periods resources values.items coefs.items
+            limits.items }
     {
         Cpit {
             name,

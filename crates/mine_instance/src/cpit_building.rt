@@ -54,7 +54,8 @@ struct Chosen {
 
 fn chosen_of(alloc: Global, values: &Values) -> Result<Chosen, AllocError>
     requires { All (λ of_block. 0 < length of_block) values.now }
-    ensures destinations { IfOk result (λ chosen. chosen.destinations.items ≡ map first_greatest values.now) }
+    ensures destinations { IfOk result
+        (λ chosen. chosen.destinations.items ≡ map first_greatest values.now) }
     ensures values { IfOk result (λ chosen. chosen.values.items ≡ map greatest values.now) }
 {
     let mut destinations = Vec::with_capacity(alloc, values.len())?;
@@ -79,7 +80,8 @@ fn coefs_at(
     most: usize,
 ) -> Result<Vec<CpitCoef>, AllocError>
     requires { All (λ coef. coef.b < length destinations.now) coefs.now }
-    ensures { IfOk result (λ chosen. chosen.items ≡ map without_destination (filter (is_at destinations.now) coefs.now)) }
+    ensures { IfOk result (λ chosen. chosen.items
+        ≡ map without_destination (filter (is_at destinations.now) coefs.now)) }
 {
     let mut chosen = Vec::with_capacity(alloc, most.min(coefs.len()))?;
     for coef in coefs {

@@ -1,7 +1,8 @@
 //! What holds of instances, whatever the plan and the blocks: each contract is a law, and a call of it does nothing.
 
 ghost use Rattle.std.specs.Prelude.{◌≡◌, List, All};
-ghost use Rattle.pit_model.specs.Plan.{IsCone, PlanParts};
+ghost use Rattle.pit_model.specs.Plan.{PlanParts};
+ghost use Rattle.pit_model.specs.PlanKept.{IsCone};
 ghost use Rattle.pit_model.specs.declared.block.Block.{Block};
 ghost use Rattle.precedence.specs.ConeLaws.{IsEven};
 ghost use Rattle.mine_instance.specs.OfModel.{instance};
@@ -10,7 +11,8 @@ ghost use Rattle.mine_instance.specs.OneSlope.{instance_by};
 /// Where the cone of each zone has one slope on all sides, the instance is that of the test with one slope. So is each text of it,
 /// since a text tells an instance and nothing else.
 pub fn even_zones()
-    ensures { (plan : PlanParts) (listed : List Block) → All IsCone plan.cones → All IsEven plan.cones
+    ensures { (plan : PlanParts) (listed : List Block) → All IsCone plan.cones
+        → All IsEven plan.cones
         → instance plan listed ≡ instance_by plan listed }
 {
     precedence::laws::even_zones();

@@ -39,7 +39,7 @@ impl Limits {
 
 impl Ordered for Limit {
     ghost use Rattle.std.specs.Prelude.{IsTrue};
-    ghost use Rattle.pit_model.specs.Plan.{stands_before};
+    ghost use Rattle.pit_model.specs.PlanKept.{stands_before};
 
     ghost before = { λ l m. IsTrue (stands_before l m) };
 

@@ -1,7 +1,7 @@
 //! Whether an instance is valid.
 
 ghost use Rattle.std.specs.Prelude.{◌≡◌, ◌≢◌, ℕ, ◌<◌, ◌≤◌, ◌↔◌, List, length, All, AllPairs, IsTrue};
-ghost use Rattle.mine_instance.specs.Cpit.{AreCpitCoefs, IsCpit, cpit_of};
+ghost use Rattle.mine_instance.specs.CpitKept.{AreCpitCoefs, IsCpit, cpit_of};
 ghost use Rattle.mine_instance.specs.Valid.{HasLengths, ArePredsOf, ArePreds, IsHorizon, HasDestinations, AreCoefs, AreLimits, IsValid};
 ghost use Rattle.pit_model.specs.declared.ranges.TheConstants.{MAX_BLOCKS};
 

@@ -4,8 +4,10 @@ use Rattle.std.proofs.Common.{refl, sym, ◌∙◌, ap, subst, arith, eq-eqb}
 use Rattle.std.proofs.lemmas.Bool.{eqb-true}
 use Rattle.forms.proofs.FormFacts.{spell_written, spelled_fit}
 use Rattle.forms.proofs.NumberFields.{quotient, size_fits, size_found, whole_fits, whole_found}
-use Rattle.forms.specs.Form.{Value, Millionths, Fit, Spell, whole, whole_at}
-use Rattle.forms.specs.Shape.{States}
+use Rattle.forms.specs.Field.{Value, Millionths, whole, whole_at}
+use Rattle.forms.specs.Fit.{Fit}
+use Rattle.forms.specs.Spelled.{Spell}
+use Rattle.forms.specs.ShapeStates.{States}
 use Rattle.pit_model.proofs.BlockFacts.{block_again, block_parts}
 use Rattle.pit_model.specs.Block.{block_with}
 use Rattle.pit_model.specs.declared.block.Block.{Block}

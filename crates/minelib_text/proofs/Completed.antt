@@ -10,7 +10,7 @@ use Rattle.minelib_text.specs.Lines.{line_of}
 use Rattle.minelib_text.specs.HeaderKeys.{header_keys, with_key, count_in, is_given, is_complete}
 use Rattle.minelib_text.specs.ModelLines.{ModelDraftView, blank_header, is_whole, model_grammar}
 use Rattle.minelib_text.specs.ModelParts.{admit_model}
-use Rattle.forms.specs.Grammar.{AllState}
+use Rattle.forms.specs.GrammarStates.{AllState}
 use Rattle.minelib_text.specs.TextLines.{Line}
 use Rattle.minelib_text.specs.Written.{value_fields}
 use Rattle.minelib_text.specs.declared.model_key.Header.{Header}

@@ -4,7 +4,8 @@ use Rattle.std.proofs.Common.{refl, sym, ap, arith, le-ltb}
 use Rattle.std.proofs.lemmas.List.{length-map}
 use Rattle.forms.proofs.FormFacts.{counted, counted_later, fault_later}
 use Rattle.forms.proofs.NumberFields.{quotient}
-use Rattle.forms.specs.Form.{Value, Millionths, below, read, read_fields, up_to, whole}
+use Rattle.forms.specs.Field.{Value, Millionths, below, up_to, whole}
+use Rattle.forms.specs.Read.{read, read_fields}
 use Rattle.forms.specs.Shape.{check, failing, unless}
 use Rattle.forms.specs.Steps.{◌>>=◌}
 use Rattle.pit_model.specs.Block.{block_with}

@@ -4,7 +4,8 @@ use Rattle.std.specs.Prelude.{Ok, All}
 use Rattle.std.specs.List.{flat_map}
 use Rattle.std.proofs.lemmas.List.{get_or-map, length-map}
 use Rattle.std.proofs.lemmas.List.Elements.{All-map, All-nil, All-cons}
-use Rattle.mine_instance.specs.Cpit.{CpitParts, IsCpit}
+use Rattle.mine_instance.specs.Cpit.{CpitParts}
+use Rattle.mine_instance.specs.CpitKept.{IsCpit}
 use Rattle.mine_instance.specs.OfCpit.{without_destination}
 use Rattle.mine_instance.specs.Valid.{AreCoefs}
 use Rattle.mine_instance.specs.declared.cpit.CpitCoef.{CpitCoef}

@@ -9,7 +9,8 @@ use Rattle.pit_units.proofs.Standing.{read_stands}
 use Rattle.pit_units.specs.Decimal.{decimal_of}
 use Rattle.pit_units.specs.declared.fault.DecFault.{DecFault}
 use Rattle.pit_units.specs.declared.fault.DecFault.TheVariants as dec
-use Rattle.forms.specs.Form.{Field, Value, Millionths, below, number_of, read_field, read_fields, up_to, whole}
+use Rattle.forms.specs.Field.{Field, Value, Millionths, below, up_to, whole}
+use Rattle.forms.specs.Read.{number_of, read_field, read_fields}
 use Rattle.forms.specs.Steps.{◌>>=◌}
 use Rattle.minelib_text.specs.FieldValues.{all_by, at_most, first_by, size_in, stated, whole_below, whole_in}
 use Rattle.minelib_text.specs.LineKinds.{text_kind, text_kinds}

@@ -9,7 +9,11 @@ use Rattle.pit_units.specs.declared.fault.DecFault.{DecFault}
 use Rattle.pit_units.specs.declared.fault.DecFault.TheVariants as dec
 use Rattle.forms.proofs.FormFacts.{read_spelled, true_le}
 use Rattle.forms.proofs.NumberFields.{quotient, whole_found}
-use Rattle.forms.specs.Form.{Field, Decimal, Stepped, Word, Value, Millionths, Bytes, FitsField, Fit, Spell, below, millionths, number_of, is_fine, read, whole, written}
+use Rattle.forms.specs.Field.{Field, Decimal, Stepped, Word, Value, Millionths, Bytes, below, millionths, whole}
+use Rattle.forms.specs.Fit.{FitsField, Fit, is_fine}
+use Rattle.forms.specs.Read.{number_of, read}
+use Rattle.forms.specs.Spelled.{Spell}
+use Rattle.forms.specs.WrittenValues.{written}
 use Rattle.forms.specs.Steps.{◌>>=◌}
 use Rattle.minelib_text.specs.FieldValues.{decimal_in, stated}
 use Rattle.minelib_text.specs.Kept.{IsDecimal}

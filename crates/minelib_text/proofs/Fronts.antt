@@ -4,22 +4,23 @@ use Rattle.std.proofs.lemmas.List.{take-append-drop}
 use Rattle.std.proofs.Math.Seq.{take-add}
 use Rattle.minelib_text.specs.Device.{added, holding}
 use Rattle.minelib_text.specs.Lines.{text_of}
-use Rattle.minelib_text.specs.SinkState.{SinkState, IsStill, IsCutOff, IsWrittenOn, IsCutShort}
+use Rattle.minelib_text.specs.SinkState.{SinkState, IsCutOff}
+use Rattle.minelib_text.specs.SinkSteps.{IsBegunAsBefore, IsAppended, IsAppendCut}
 
 -- added in two steps
 pub added-added : (a b : List ℕ) (t : Option (List ℕ)) → added b (added a t) ≡ added (a ++ b) t
 added-added a b None = refl
 added-added a b (Some bytes) = ap Some (append_assoc bytes a b)
 
-still_self : (s : SinkState) → IsStill s s
+still_self : (s : SinkState) → IsBegunAsBefore s s
 still_self s = record { begun = refl; before = refl }
 
-still_after : (old between new : SinkState) → IsStill old between → IsStill between new → IsStill old new
+still_after : (old between new : SinkState) → IsBegunAsBefore old between → IsBegunAsBefore between new → IsBegunAsBefore old new
 still_after old between new first then = record { begun = then.begun ∙ first.begun; before = then.before ∙ first.before }
 
 -- the buffer took the text, and the sink is as it was
 pub buffered : {before after : List ℕ} {s : SinkState} (text : List ℕ) → after ≡ before ++ text
-    → IsWrittenOn text before after s s
+    → IsAppended text before after s s
 buffered {before} {s = s} text e = record {
   taken = ap (λ bytes. added bytes s.taken) e ∙ sym (added-added before text s.taken);
   works = refl;
@@ -27,7 +28,7 @@ buffered {before} {s = s} text e = record {
 }
 
 -- no call was made: the sink is as it was
-pub nothing_put : (text before : List ℕ) (s : SinkState) → IsCutShort 0 text before s s
+pub nothing_put : (text before : List ℕ) (s : SinkState) → IsAppendCut 0 text before s s
 nothing_put text before s = record {
   front = record { rest = before ++ text; joined = added-added before text s.taken };
   fails = omega arith;
@@ -35,8 +36,8 @@ nothing_put text before s = record {
 }
 
 -- more was to come behind the text
-cut_before : {n : ℕ} {a before : List ℕ} {old new : SinkState} (b : List ℕ) → IsCutShort n a before old new
-    → IsCutShort n (a ++ b) before old new
+cut_before : {n : ℕ} {a before : List ℕ} {old new : SinkState} (b : List ℕ) → IsAppendCut n a before old new
+    → IsAppendCut n (a ++ b) before old new
 cut_before {a = a} {new = new} b cut = record {
   front = record {
     rest = cut.front.rest ++ b;
@@ -48,8 +49,8 @@ cut_before {a = a} {new = new} b cut = record {
 
 module _ {a b before mid : List ℕ} {old between new : SinkState} where
   -- one text was written on, and then another
-  written_then : {after : List ℕ} → IsWrittenOn a before mid old between → IsWrittenOn b mid after between new
-      → IsWrittenOn (a ++ b) before after old new
+  written_then : {after : List ℕ} → IsAppended a before mid old between → IsAppended b mid after between new
+      → IsAppended (a ++ b) before after old new
   written_then first then = record {
     taken = then.taken ∙ ap (added b) first.taken ∙ added-added a b _;
     works = then.works ∙ first.works;
@@ -57,8 +58,8 @@ module _ {a b before mid : List ℕ} {old between new : SinkState} where
   }
 
   -- one text was written on, and the next was cut short
-  cut_then : {n : ℕ} → IsWrittenOn a before mid old between → IsCutShort n b mid between new
-      → IsCutShort n (a ++ b) before old new
+  cut_then : {n : ℕ} → IsAppended a before mid old between → IsAppendCut n b mid between new
+      → IsAppendCut n (a ++ b) before old new
   cut_then {n = n} first cut = record {
     front = record {
       rest = cut.front.rest;
@@ -78,39 +79,39 @@ text_of-line lines line = text_of-append lines (line ∷ []) ∙ ap (λ last. te
 
 -- lines were cut short, and more were to come
 pub lines_cut_before : {n : ℕ} {before : List ℕ} {old new : SinkState} (xs ys : List (List ℕ))
-    → IsCutShort n (text_of xs) before old new → IsCutShort n (text_of (xs ++ ys)) before old new
+    → IsAppendCut n (text_of xs) before old new → IsAppendCut n (text_of (xs ++ ys)) before old new
 lines_cut_before xs ys cut = rw text_of-append (cut_before (text_of ys) cut)
 
 module _ {before mid : List ℕ} {old between new : SinkState} where
   -- lines were written on, and then more of them
-  pub lines_then : {after : List ℕ} (xs ys : List (List ℕ)) → IsWrittenOn (text_of xs) before mid old between
-      → IsWrittenOn (text_of ys) mid after between new → IsWrittenOn (text_of (xs ++ ys)) before after old new
+  pub lines_then : {after : List ℕ} (xs ys : List (List ℕ)) → IsAppended (text_of xs) before mid old between
+      → IsAppended (text_of ys) mid after between new → IsAppended (text_of (xs ++ ys)) before after old new
   lines_then xs ys first then = rw text_of-append (written_then first then)
 
   -- lines were written on, and the next were cut short
-  pub lines_cut_then : {n : ℕ} (xs ys : List (List ℕ)) → IsWrittenOn (text_of xs) before mid old between
-      → IsCutShort n (text_of ys) mid between new → IsCutShort n (text_of (xs ++ ys)) before old new
+  pub lines_cut_then : {n : ℕ} (xs ys : List (List ℕ)) → IsAppended (text_of xs) before mid old between
+      → IsAppendCut n (text_of ys) mid between new → IsAppendCut n (text_of (xs ++ ys)) before old new
   lines_cut_then xs ys first cut = rw text_of-append (cut_then first cut)
 
   -- all the lines before a place were written on, and then so many more
-  pub more_then : {after : List ℕ} (lines : List (List ℕ)) (i n : ℕ) → IsWrittenOn (text_of (take i lines)) before mid old between
-      → IsWrittenOn (text_of (take n (drop i lines))) mid after between new → IsWrittenOn (text_of (take (i + n) lines)) before after old new
+  pub more_then : {after : List ℕ} (lines : List (List ℕ)) (i n : ℕ) → IsAppended (text_of (take i lines)) before mid old between
+      → IsAppended (text_of (take n (drop i lines))) mid after between new → IsAppended (text_of (take (i + n) lines)) before after old new
   more_then lines i n first then = rw take-add (lines_then (take i lines) (take n (drop i lines)) first then)
 
   -- all the lines before a place were written on, and the others were cut short
-  pub rest_cut : {n : ℕ} (lines : List (List ℕ)) (i : ℕ) → IsWrittenOn (text_of (take i lines)) before mid old between
-      → IsCutShort n (text_of (drop i lines)) mid between new → IsCutShort n (text_of lines) before old new
+  pub rest_cut : {n : ℕ} (lines : List (List ℕ)) (i : ℕ) → IsAppended (text_of (take i lines)) before mid old between
+      → IsAppendCut n (text_of (drop i lines)) mid between new → IsAppendCut n (text_of lines) before old new
   rest_cut {n} lines i first cut =
-      subst (λ all. IsCutShort n (text_of all) before old new) (take-append-drop i lines)
+      subst (λ all. IsAppendCut n (text_of all) before old new) (take-append-drop i lines)
       (lines_cut_then (take i lines) (drop i lines) first cut)
 
 -- the buffer took the first lines, and what it held was cut short
 pub buffered_cut : {n : ℕ} {before after : List ℕ} {old new : SinkState} (lines : List (List ℕ)) (i : ℕ)
-    → after ≡ before ++ text_of (take i lines) → IsCutShort n [] after old new → IsCutShort n (text_of lines) before old new
+    → after ≡ before ++ text_of (take i lines) → IsAppendCut n [] after old new → IsAppendCut n (text_of lines) before old new
 buffered_cut {n} {before} {after} {old} {new} lines i e cut =
-    subst (λ all. IsCutShort n (text_of all) before old new) (take-append-drop i lines)
+    subst (λ all. IsAppendCut n (text_of all) before old new) (take-append-drop i lines)
     (lines_cut_before (take i lines) (drop i lines)
-    (subst (λ text. IsCutShort n text before old new) (append-nil (text_of (take i lines))) (cut_then (buffered (text_of (take i lines)) e) cut)))
+    (subst (λ text. IsAppendCut n text before old new) (append-nil (text_of (take i lines))) (cut_then (buffered (text_of (take i lines)) e) cut)))
 
 -- a sink that could not begin does not hold the text either
 pub cut_at_begin : (text : List ℕ) (old new : SinkState) → IsCutOff 1 [] old new → IsCutOff 1 text old new

@@ -1,9 +1,12 @@
 -- Files of one line an item: they are read line by line as the code reads them, and what each line shows of its item stands at the end.
 use Rattle.std.specs.Prelude.{◌≡◌, ℕ, suc, List, [], ◌∷◌, ◌++◌, length, Option, Some, None, Result, Ok, Err}
 use Rattle.std.proofs.Common.{refl, sym, ◌∙◌, ap, subst}
-use Rattle.forms.specs.Form.{Value, read}
-use Rattle.forms.specs.Grammar.{AllState, placed, read_all}
-use Rattle.forms.specs.Shape.{Shape, States, failing, said, unless}
+use Rattle.forms.specs.Field.{Value}
+use Rattle.forms.specs.Read.{read}
+use Rattle.forms.specs.Grammar.{placed, read_all}
+use Rattle.forms.specs.GrammarStates.{AllState}
+use Rattle.forms.specs.Shape.{Shape, failing, said, unless}
+use Rattle.forms.specs.ShapeStates.{States}
 use Rattle.forms.specs.Steps.{◌>>=◌}
 use Rattle.minelib_text.specs.ItemGrammar.{items_grammar, with_item}
 use Rattle.minelib_text.specs.Reading.{at_line, read_lines}

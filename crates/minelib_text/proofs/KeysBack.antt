@@ -31,7 +31,9 @@ use Rattle.minelib_text.specs.declared.model_key.Section.{Section}
 use Rattle.minelib_text.specs.declared.model_key.Section.TheVariants.{Heading}
 use Rattle.forms.proofs.NumberFields.{quotient, size_fits, whole_fits}
 use Rattle.forms.proofs.FormFacts.{written_read}
-use Rattle.forms.specs.Form.{Value, Bytes, Millionths, FitsField, whole, written_value}
+use Rattle.forms.specs.Field.{Value, Bytes, Millionths, whole}
+use Rattle.forms.specs.Fit.{FitsField}
+use Rattle.forms.specs.WrittenValues.{written_value}
 use Rattle.forms.specs.Shape.{failing}
 use Rattle.pit_model.specs.PlanCells.{between}
 use Rattle.pit_units.proofs.Written.{whole_written}

@@ -6,7 +6,10 @@ use Rattle.std.proofs.Common.{refl, sym, subst, arith}
 use Rattle.std.proofs.lemmas.Bool.{eqb-true}
 use Rattle.std.proofs.lemmas.Slice.Eq.{bytes_eq-Decides}
 use Rattle.forms.proofs.NumberFields.{quotient, whole_fits}
-use Rattle.forms.specs.Form.{Value, Fit, below, is_fine, read_fields, whole, written}
+use Rattle.forms.specs.Field.{Value, below, whole}
+use Rattle.forms.specs.Fit.{Fit, is_fine}
+use Rattle.forms.specs.Read.{read_fields}
+use Rattle.forms.specs.WrittenValues.{written}
 use Rattle.forms.specs.Steps.{◌>>=◌}
 use Rattle.pit_model.specs.declared.limit.Bound.{Bound}
 use Rattle.pit_model.specs.declared.limit.Bound.TheVariants.{AtMost, AtLeast, Between}

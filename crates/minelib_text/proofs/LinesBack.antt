@@ -7,7 +7,7 @@ use Rattle.std.proofs.lemmas.List.{length_push}
 use Rattle.std.proofs.lemmas.List.Sums.{AllPass-from_list_all}
 use Rattle.minelib_text.specs.Lines.{text_of, line_of, lines_from}
 use Rattle.minelib_text.specs.Reading.{read_lines}
-use Rattle.minelib_text.specs.TextLines.{lines_of, without_cr, without_mark, is_skipped, told, lines_in}
+use Rattle.minelib_text.specs.TextLines.{lines_of, without_cr, without_mark, is_skipped, numbered_lines, lines_in}
 use Rattle.minelib_text.specs.declared.text_fault.TextKind.{TextKind}
 use Rattle.minelib_text.proofs.PlainText.{is_inner, IsLine, not_lf, not_cr, not_mark}
 
@@ -31,7 +31,7 @@ AdmitsAll admit s [] t = s ≡ t
 AdmitsAll {S} admit s (line ∷ lines) t = (next : S) × IsLine line × (admit s line ≡ Ok next) × AdmitsAll admit next lines t
 
 lines_read : {S : Type 0} (admit : S → List ℕ → Result S TextKind) (s t : S) (n : ℕ) (lines : List (List ℕ)) → AdmitsAll admit s lines t
-    → read_lines admit s (told n (lines_of (text_of lines))) ≡ Ok t
+    → read_lines admit s (numbered_lines n (lines_of (text_of lines))) ≡ Ok t
 lines_read admit s t n [] h = ap Ok h
 lines_read admit s t n (line ∷ lines) h =
     rw (first_line line (text_of lines) h.1.inner, no_cr line h.1, h.1.is_read, h.2) (lines_read admit h.0 t (n + 1) lines h.3)

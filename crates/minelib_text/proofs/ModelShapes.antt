@@ -4,12 +4,15 @@ use Rattle.std.specs.List.{list_any, before_first, after_first}
 use Rattle.std.proofs.Common.{refl, arith}
 use Rattle.std.proofs.lemmas.Bool.{ne_eqb}
 use Rattle.forms.proofs.ShapeFacts.{said_states}
-use Rattle.forms.specs.Form.{Value, Bytes, is_fine, millionths, read, read_field, whole_at}
+use Rattle.forms.specs.Field.{Value, Bytes, millionths, whole_at}
+use Rattle.forms.specs.Fit.{is_fine}
+use Rattle.forms.specs.Read.{read, read_field}
 use Rattle.forms.specs.Grammar.{HasFineForms, placed, read_all}
-use Rattle.forms.specs.Shape.{Shape, States, check, failing, unless}
+use Rattle.forms.specs.Shape.{Shape, check, failing, unless}
+use Rattle.forms.specs.ShapeStates.{States}
 use Rattle.forms.specs.Steps.{◌>>=◌}
 use Rattle.pit_model.specs.Name.{is_name}
-use Rattle.pit_model.specs.Plan.{is_turned, stands_before}
+use Rattle.pit_model.specs.PlanKept.{is_turned, stands_before}
 use Rattle.mine_instance.specs.Order.{comes_before}
 use Rattle.minelib_text.specs.HeaderKeys.{count_in, is_given, with_key}
 use Rattle.minelib_text.specs.ItemForms.{bytes_in, coef_form, coef_said, limit_form, limit_said, row_said, values_form}

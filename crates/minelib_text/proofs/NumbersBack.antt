@@ -9,7 +9,8 @@ use Rattle.std.proofs.lemmas.List.Elements.{All-head, All-tail}
 use Rattle.std.proofs.lemmas.List.Sums.{list_all-from_AllPass}
 use Rattle.pit_model.specs.Name.{is_name, is_name_byte}
 use Rattle.pit_units.proofs.Written.{shortest_plain, whole_written}
-use Rattle.pit_units.specs.Decimal.{shortest, IsPlainByte}
+use Rattle.pit_units.specs.Decimal.{shortest}
+use Rattle.pit_units.specs.Shortest.{IsPlainByte}
 use Rattle.minelib_text.specs.Kept.{IsDecimal}
 use Rattle.minelib_text.proofs.PlainText.{is_plain, all_weaker, IsField, EachField}
 

@@ -5,8 +5,12 @@ use Rattle.std.proofs.lemmas.Bool.{eqb-true, not-true}
 use Rattle.std.proofs.lemmas.List.Elements.{All-cons, All-head, All-nil, All-tail}
 use Rattle.forms.proofs.FormFacts.{spell_written, spelled_fit}
 use Rattle.forms.proofs.NumberFields.{quotient, whole_fits, whole_found}
-use Rattle.forms.specs.Form.{Value, Fit, Spell, below, is_fine, whole, whole_at, written}
-use Rattle.forms.specs.Shape.{States, check}
+use Rattle.forms.specs.Field.{Value, below, whole, whole_at}
+use Rattle.forms.specs.Fit.{Fit, is_fine}
+use Rattle.forms.specs.Spelled.{Spell}
+use Rattle.forms.specs.WrittenValues.{written}
+use Rattle.forms.specs.Shape.{check}
+use Rattle.forms.specs.ShapeStates.{States}
 use Rattle.mine_instance.specs.Valid.{ArePredsOf}
 use Rattle.pit_units.proofs.Written.{whole_written}
 use Rattle.minelib_text.specs.LineValues.{preds_values}

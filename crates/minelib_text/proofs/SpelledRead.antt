@@ -4,8 +4,9 @@ use Rattle.std.proofs.Common.{refl, sym, ◌∙◌, ap, subst, inl, inr, arith, 
 use Rattle.std.proofs.lemmas.Bool.{eqb-true, ltb-true, ltb-false}
 use Rattle.std.proofs.lemmas.List.{get_or_at, get_or_append_left}
 use Rattle.forms.proofs.GrammarFacts.{all_read, read_all_states, read_first_fault}
-use Rattle.forms.specs.Grammar.{AllState, HasFineForms, IsFirstFault, read_all}
-use Rattle.forms.specs.Shape.{States}
+use Rattle.forms.specs.Grammar.{HasFineForms, read_all}
+use Rattle.forms.specs.GrammarStates.{AllState, IsFirstFault}
+use Rattle.forms.specs.ShapeStates.{States}
 use Rattle.forms.specs.Steps.{◌>>=◌}
 use Rattle.pit_model.specs.declared.block.Block.{Block}
 use Rattle.mine_instance.specs.Valid.{ArePreds, ArePredsOf}

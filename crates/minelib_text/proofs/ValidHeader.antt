@@ -6,7 +6,8 @@ use Rattle.minelib_text.specs.HeaderKeys.{count_in, is_given, number_of, with_ke
 use Rattle.minelib_text.specs.ModelLines.{blank_header, name_with}
 use Rattle.minelib_text.specs.ItemForms.{bytes_in}
 use Rattle.minelib_text.specs.KeyFields.{field_of, number_said}
-use Rattle.forms.specs.Form.{Value, Bytes, Millionths, FitsField}
+use Rattle.forms.specs.Field.{Value, Bytes, Millionths}
+use Rattle.forms.specs.Fit.{FitsField}
 use Rattle.minelib_text.proofs.FormFields.{below_there, number_there}
 use Rattle.pit_model.specs.declared.ranges.TheConstants.{MAX_DESTINATIONS, MAX_PERIODS, MAX_RESOURCES}
 use Rattle.minelib_text.specs.declared.model_key.Header.{Header}

@@ -4,10 +4,11 @@ use Rattle.std.proofs.Common.{refl, sym, ◌∙◌, ap, subst, arith, length-app
 use Rattle.std.proofs.lemmas.Bool.{and_parts, eqb-true, not-true}
 use Rattle.std.proofs.lemmas.List.Elements.{All-nil, All-push}
 use Rattle.forms.proofs.FormFacts.{spelled_fit}
-use Rattle.forms.specs.Form.{whole_at}
-use Rattle.forms.specs.Grammar.{AllState}
-use Rattle.forms.specs.Shape.{Check, States, check, failing}
-use Rattle.pit_model.specs.Plan.{stands_before, is_turned}
+use Rattle.forms.specs.Field.{whole_at}
+use Rattle.forms.specs.GrammarStates.{AllState}
+use Rattle.forms.specs.Shape.{Check, check, failing}
+use Rattle.forms.specs.ShapeStates.{States}
+use Rattle.pit_model.specs.PlanKept.{stands_before, is_turned}
 use Rattle.mine_instance.specs.Order.{comes_before}
 use Rattle.mine_instance.specs.OrderLaws.{comes_before_through, stands_before_through}
 use Rattle.mine_instance.specs.Valid.{AreCoefs, AreLimits}

@@ -6,7 +6,10 @@ use Rattle.std.proofs.lemmas.Bool.{eqb-true}
 use Rattle.std.proofs.lemmas.List.Elements.{All-head, All-tail}
 use Rattle.forms.proofs.FormFacts.{counted}
 use Rattle.forms.proofs.NumberFields.{quotient, whole_fits}
-use Rattle.forms.specs.Form.{Value, Millionths, millionths, Fit, is_fine, read_fields, whole, written}
+use Rattle.forms.specs.Field.{Value, Millionths, millionths, whole}
+use Rattle.forms.specs.Fit.{Fit, is_fine}
+use Rattle.forms.specs.Read.{read_fields}
+use Rattle.forms.specs.WrittenValues.{written}
 use Rattle.forms.specs.Steps.{◌>>=◌}
 use Rattle.pit_units.proofs.Written.{whole_written}
 use Rattle.pit_units.specs.Decimal.{shortest}

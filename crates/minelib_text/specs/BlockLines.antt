@@ -1,6 +1,6 @@
 -- The blocks that a block file states.
 use Rattle.std.specs.Prelude.{ℕ, ◌*◌, ◌/◌, ◌==◌, List, [], ◌∷◌, unsigned_abs, Result}
-use Rattle.forms.specs.Form.{Field, Value, below, number_at, up_to, whole_at}
+use Rattle.forms.specs.Field.{Field, Value, below, number_at, up_to, whole_at}
 use Rattle.forms.specs.Grammar.{Grammar, read_all}
 use Rattle.forms.specs.Shape.{Shape, check}
 use Rattle.pit_model.specs.Block.{block_with}

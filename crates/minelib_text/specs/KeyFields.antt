@@ -1,7 +1,7 @@
 -- The header keys of a model file: the field of each key's value, and the number that it states.
 use Rattle.std.specs.Prelude.{ℕ, ◌+◌, ◌/◌, ◌^◌, List, unsigned_abs, codes}
 use Rattle.std.specs.Str.{bytes_eq}
-use Rattle.forms.specs.Form.{Field, Word, Value, below, millionths}
+use Rattle.forms.specs.Field.{Field, Word, Value, below, millionths}
 use Rattle.pit_model.specs.PlanCells.{a_name, a_period_count, a_rate, between}
 use Rattle.pit_model.specs.declared.ranges.TheConstants.{MAX_BLOCKS, MAX_DESTINATIONS, MAX_RESOURCES}
 use Rattle.minelib_text.specs.declared.model_key.HeaderKey.{HeaderKey}

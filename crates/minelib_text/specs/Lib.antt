@@ -8,8 +8,8 @@ pub mod Fields
 pub mod FileFault
 pub mod FileSinkView
 pub mod HeaderKeys
-pub mod ItemGrammar
 pub mod ItemForms
+pub mod ItemGrammar
 pub mod Kept
 pub mod KeyFields
 pub mod LineKinds
@@ -18,14 +18,15 @@ pub mod Lines
 pub mod LinesTaken
 pub mod Marks
 pub mod MemSinkView
+pub mod ModelFields
 pub mod ModelLines
 pub mod ModelParts
-pub mod ModelFields
 pub mod PrecLines
 pub mod Reading
 pub mod SameTexts
 pub mod SectionSinkView
 pub mod SinkState
+pub mod SinkSteps
 pub mod Spaced
 pub mod SpelledModel
 pub mod SpelledTexts

@@ -1,6 +1,6 @@
 -- Lines of blocks and of predecessors as the code takes them. Only proofs and private contracts need it.
 use Rattle.std.specs.Prelude.{ℕ, List, [], ◌∷◌, ◌++◌, length, Result, Ok}
-use Rattle.forms.specs.Form.{read_fields}
+use Rattle.forms.specs.Read.{read_fields}
 use Rattle.forms.specs.Shape.{Shape, failing, said, unless}
 use Rattle.forms.specs.Steps.{◌>>=◌}
 use Rattle.pit_model.specs.declared.block.Block.{Block}

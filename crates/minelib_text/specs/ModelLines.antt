@@ -3,11 +3,11 @@
 use Rattle.std.specs.Prelude.{ℕ, ◌+◌, ◌-◌, ◌==◌, ◌&&◌, not, Bool, true, false, List, [], ◌∷◌, ◌++◌, length, ℤ, Option, Some, None, slice_get, slice_index_or, Result, Ok, Err, if◌then◌else◌, codes}
 use Rattle.std.specs.List.{list_any, before_first, after_first}
 use Rattle.std.specs.Str.{bytes_eq}
-use Rattle.forms.specs.Form.{Value, Bytes, whole_at}
+use Rattle.forms.specs.Field.{Value, Bytes, whole_at}
 use Rattle.forms.specs.Grammar.{Grammar, read_all}
 use Rattle.forms.specs.Shape.{Check, Shape, check}
 use Rattle.forms.specs.Steps.{◌>>=◌}
-use Rattle.pit_model.specs.Plan.{is_turned, stands_before}
+use Rattle.pit_model.specs.PlanKept.{is_turned, stands_before}
 use Rattle.pit_model.specs.declared.limit.Limit.{Limit}
 use Rattle.mine_instance.specs.Order.{comes_before}
 use Rattle.mine_instance.specs.declared.coef.Coef.{Coef}

@@ -1,7 +1,8 @@
 -- How the parts of a model file's lines are taken, and how a draft of it is seen. Only proofs and private contracts need it.
 use Rattle.std.specs.Prelude.{◌≡◌, ℕ, ◌/◌, ◌^◌, ◌==◌, not, Bool, true, List, [], ◌∷◌, ℤ, unsigned_abs, Result, Ok, Err, if◌then◌else◌}
 use Rattle.std.specs.Borrow.{Bor}
-use Rattle.forms.specs.Form.{Field, Value, millionths, read, read_field, read_fields, whole_at}
+use Rattle.forms.specs.Field.{Field, Value, millionths, whole_at}
+use Rattle.forms.specs.Read.{read, read_field, read_fields}
 use Rattle.forms.specs.Shape.{Shape, said}
 use Rattle.forms.specs.Steps.{◌>>=◌}
 use Rattle.pit_model.specs.Name.{is_name}

@@ -1,8 +1,9 @@
 -- The predecessors that a precedence file states.
 use Rattle.std.specs.Prelude.{◌≡◌, ◌≢◌, ℕ, ◌/◌, ◌^◌, ◌==◌, ◌&&◌, not, Bool, true, List, [], ◌∷◌, ◌++◌, length, map, drop, unsigned_abs, Result, Ok, Err, if◌then◌else◌}
 use Rattle.std.specs.List.{list_any}
-use Rattle.forms.specs.Form.{Field, Value, below, millionths, whole_at}
-use Rattle.forms.specs.Grammar.{Grammar, AllState, read_all}
+use Rattle.forms.specs.Field.{Field, Value, below, millionths, whole_at}
+use Rattle.forms.specs.Grammar.{Grammar, read_all}
+use Rattle.forms.specs.GrammarStates.{AllState}
 use Rattle.forms.specs.Shape.{Shape, check}
 use Rattle.forms.specs.Steps.{◌>>=◌}
 use Rattle.minelib_text.specs.ItemGrammar.{items_grammar}

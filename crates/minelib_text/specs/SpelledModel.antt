@@ -1,6 +1,6 @@
 -- The lines of a model file that state a model to its end, and the first line behind which nothing makes it one.
 use Rattle.std.specs.Prelude.{◌≡◌, ℕ, true, List, [], ◌∷◌, ◌++◌}
-use Rattle.forms.specs.Grammar.{AllState}
+use Rattle.forms.specs.GrammarStates.{AllState}
 use Rattle.minelib_text.specs.ModelLines.{ModelDraftView, blank_model, is_whole, model_grammar}
 use Rattle.minelib_text.specs.TextLines.{Line, lines_in, end_of}
 use Rattle.minelib_text.specs.declared.model_key.Problem.{Problem}

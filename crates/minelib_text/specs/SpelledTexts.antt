@@ -1,7 +1,7 @@
 -- Three texts spell an instance, and one spells a constrained pit limit problem: by their lines, in
 -- order.
 use Rattle.std.specs.Prelude.{◌≡◌, ℕ, List, [], length}
-use Rattle.forms.specs.Grammar.{AllState}
+use Rattle.forms.specs.GrammarStates.{AllState}
 use Rattle.mine_instance.specs.Cpit.{CpitParts}
 use Rattle.mine_instance.specs.declared.instance.Instance.{Instance}
 use Rattle.minelib_text.specs.BlockLines.{block_grammar}

@@ -48,15 +48,15 @@ pub record Line : Type 0 where
   pub text : List ℕ
 
 -- the lines that are read, the first of all lines having this number; those that are skipped count
-abbrev pub told : ℕ → List (List ℕ) → List Line
-told n [] = []
-told n (line ∷ lines) =
-    if is_skipped (without_cr line) then told (n + 1) lines
-    else record { number = n; text = without_cr line } ∷ told (n + 1) lines
+abbrev pub numbered_lines : ℕ → List (List ℕ) → List Line
+numbered_lines n [] = []
+numbered_lines n (line ∷ lines) =
+    if is_skipped (without_cr line) then numbered_lines (n + 1) lines
+    else record { number = n; text = without_cr line } ∷ numbered_lines (n + 1) lines
 
 -- the lines of a text that are read
 abbrev pub lines_in : List ℕ → List Line
-lines_in text = told 1 (lines_of (without_mark text))
+lines_in text = numbered_lines 1 (lines_of (without_mark text))
 
 -- the number of the line after the last
 abbrev pub end_of : List ℕ → ℕ

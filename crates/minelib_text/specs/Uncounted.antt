@@ -24,7 +24,6 @@ pub record TakesDecimal (decimals : ℕ) (line : List ℕ) (m : ℤ) (rest : Lis
 abbrev pub kind_by : Bool → TextKind → TextKind
 kind_by counted kind = if counted then kind else Fields
 
-
 -- the destination of a coefficient, and the fields behind it; that of a CPIT stands for the only one
 abbrev pub destination_in : Problem → ℕ → List (List ℕ) → Result (ℕ × List (List ℕ)) TextKind
 destination_in Pcpsp destinations fields = first_by (whole_in destinations) fields

@@ -1,6 +1,6 @@
 -- The MineLib texts of an instance (Espinoza, Goycoolea, Moreno and Newman 2013, in this project's profile), as lines of fields.
 use Rattle.std.specs.Prelude.{ℕ, List, [], ◌∷◌, ◌++◌, ℤ, codes, decimal, length}
-use Rattle.forms.specs.Form.{written}
+use Rattle.forms.specs.WrittenValues.{written}
 use Rattle.pit_units.specs.Decimal.{shortest}
 use Rattle.pit_model.specs.declared.block.Block.{Block}
 use Rattle.pit_model.specs.declared.limit.Limit.{Limit}

@@ -1,7 +1,8 @@
 //! Reading a block file.
 
 ghost use Rattle.std.specs.Prelude.{◌≡◌, ◌≤◌, length, IfOk};
-ghost use Rattle.pit_model.specs.Block.{AreInRange, block_with};
+ghost use Rattle.pit_model.specs.Block.{block_with};
+ghost use Rattle.pit_model.specs.BlockParts.{AreInRange};
 ghost use Rattle.minelib_text.specs.BlockLines.{blocks_in};
 ghost use Rattle.minelib_text.specs.LinesTaken.{admit_block, block_alone, block_said};
 ghost use Rattle.minelib_text.specs.Reading.{Gives};

@@ -39,7 +39,8 @@ impl<'a> Section for PrecLines<'a> {
 }
 
 fn put_preds(out: &mut Vec<u8>, id: usize, preds: &[u32], texts: &IdText) -> Result<(), AllocError>
-    ensures { OnOk result (out.new.items ≡ out.old.items ++ (line_of (prec_fields id preds.now) ++ 10 ∷ [])) }
+    ensures { OnOk result (out.new.items
+        ≡ out.old.items ++ (line_of (prec_fields id preds.now) ++ 10 ∷ [])) }
 {
     put_whole(out, id as u64)?;
     put_whole_behind(out, b' ', preds.len() as u64)?;
@@ -67,7 +68,8 @@ impl<'a> Section for ValueLines<'a> {
 }
 
 fn put_values(alloc: Global, out: &mut Vec<u8>, id: usize, values: &[Dec]) -> Result<(), AllocError>
-    ensures { OnOk result (out.new.items ≡ out.old.items ++ (line_of (decimal id ∷ map shortest values.now) ++ 10 ∷ [])) }
+    ensures { OnOk result (out.new.items
+        ≡ out.old.items ++ (line_of (decimal id ∷ map shortest values.now) ++ 10 ∷ [])) }
 {
     put_whole(out, id as u64)?;
     put_decimals(alloc, out, values)?;
@@ -76,7 +78,8 @@ fn put_values(alloc: Global, out: &mut Vec<u8>, id: usize, values: &[Dec]) -> Re
 }
 
 fn put_decimals(alloc: Global, out: &mut Vec<u8>, values: &[Dec]) -> Result<(), AllocError>
-    ensures { OnOk result (out.new.items ≡ out.old.items ++ flat_map (λ value. 32 ∷ shortest value) values.now) }
+    ensures { OnOk result (out.new.items
+        ≡ out.old.items ++ flat_map (λ value. 32 ∷ shortest value) values.now) }
 {
     for value in values {
         put_decimal_behind(alloc, out, b' ', *value)?;
@@ -110,7 +113,9 @@ fn put_greatest(
     values: &[Dec],
 ) -> Result<(), AllocError>
     requires { 0 < length values.now }
-    ensures { OnOk result (out.new.items ≡ out.old.items ++ (line_of (decimal id ∷ shortest (greatest values.now) ∷ []) ++ 10 ∷ [])) }
+    ensures { OnOk result (out.new.items
+        ≡ out.old.items ++ (line_of (decimal id ∷ shortest (greatest values.now) ∷ [])
+        ++ 10 ∷ [])) }
 {
     put_whole(out, id as u64)?;
     put_decimal_behind(alloc, out, b' ', greatest(values))?;

@@ -152,7 +152,8 @@ fn some_from<C>(coefs: &[C], index: usize) -> &[C]
 // stands, and the rest stands behind it.
 fn put_coefs<C: CoefLine>(alloc: Global, out: &mut Vec<u8>, coefs: &[C]) -> Result<(), AllocError>
     requires { 0 < length coefs.now }
-    ensures { OnOk result (out.new.items ≡ out.old.items ++ flat_map (λ c. decimal (C.block c) ++ 32 ∷ C.rest c) coefs.now) }
+    ensures { OnOk result (out.new.items
+        ≡ out.old.items ++ flat_map (λ c. decimal (C.block c) ++ 32 ∷ C.rest c) coefs.now) }
 {
     let mut before = &coefs[0];
     let mut room = new_room(alloc, before)?;

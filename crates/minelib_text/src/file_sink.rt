@@ -4,7 +4,8 @@ ghost use Rattle.std.specs.Prelude.{◌≡◌, ◌+◌, ◌<◌, ◌≤◌, [], 
 ghost use Rattle.std.specs.Io.KnownBytes.{WriteAppends};
 ghost use Rattle.minelib_text.specs.Device.{added};
 ghost use Rattle.minelib_text.specs.FileSinkView.{told};
-ghost use Rattle.minelib_text.specs.SinkState.{IsCutOff, IsStill, IsWritten};
+ghost use Rattle.minelib_text.specs.SinkState.{IsCutOff, IsWritten};
+ghost use Rattle.minelib_text.specs.SinkSteps.{IsBegunAsBefore};
 
 use crate::sink::{Sink, SinkFault};
 use pit_model::count::{Count, raised};
@@ -67,7 +68,8 @@ impl<'a, R: Files> Sink for FileSink<'a, R> {
     fn begin(&mut self) -> Result<(), SinkFault>
         ensures begins { OnOk result (IsWritten [] (told self.old) (told self.new)) }
         ensures refused { OnErr result (IsCutOff 1 [] (told self.old) (told self.new)) }
-        ensures kept { OnErr result (self.new ≡ record self.old { failures = self.old.failures + 1 }) }
+        ensures kept { OnErr result
+            (self.new ≡ record self.old { failures = self.old.failures + 1 }) }
     {
         match File::create(self.rt, self.path.as_str()) {
             Ok(file) => {
@@ -91,11 +93,12 @@ impl<'a, R: Files> Sink for FileSink<'a, R> {
         ensures within { IfOk result (λ n. n ≤ length bytes.now) }
         ensures some { IfOk result (λ n. 0 < length bytes.now → 0 < n) }
         ensures bytes { WriteAppends self.old.held self.new.held result bytes.now }
-        ensures takes { IfOk result (λ n. (told self.new).taken ≡ added (take n bytes.now) (told self.old).taken) }
+        ensures takes { IfOk result
+            (λ n. (told self.new).taken ≡ added (take n bytes.now) (told self.old).taken) }
         ensures works { OnOk result ((told self.new).failures ≡ (told self.old).failures) }
         ensures refused { OnErr result ((told self.new).taken ≡ (told self.old).taken) }
         ensures fails { OnErr result ((told self.new).failures ≡ (told self.old).failures + 1) }
-        ensures still { IsStill (told self.old) (told self.new) }
+        ensures still { IsBegunAsBefore (told self.old) (told self.new) }
     {
         let written = match &mut self.file {
             Some(file) => write_some(file, bytes),

@@ -3,7 +3,7 @@
 ghost use Rattle.std.specs.Prelude.{◌≡◌, ◌++◌, ◌∷◌, [], ◌*◌, pos, OnOk, decimal};
 ghost use Rattle.pit_units.specs.Decimal.{shortest};
 ghost use Rattle.minelib_text.specs.Lines.{line_of};
-ghost use Rattle.forms.specs.Form.{written};
+ghost use Rattle.forms.specs.WrittenValues.{written};
 ghost use Rattle.minelib_text.specs.LineValues.{bound_values};
 ghost use Rattle.minelib_text.specs.Written.{block_fields, limit_fields, cpit_value_fields};
 
@@ -28,7 +28,8 @@ impl Line for Block {
 #[inline(always)]
 fn put_place(out: &mut Vec<u8>, block: &Block) -> Result<(), AllocError>
     ensures { OnOk result (out.new.items ≡ out.old.items
-        ++ ((decimal block.now.x ++ 32 ∷ []) ++ (decimal block.now.y ++ 32 ∷ []) ++ (decimal block.now.z ++ 32 ∷ []))) }
+        ++ ((decimal block.now.x ++ 32 ∷ []) ++ (decimal block.now.y ++ 32 ∷ [])
+        ++ (decimal block.now.z ++ 32 ∷ []))) }
 {
     put_whole_to(out, u64::from(block.x), b' ')?;
     put_whole_to(out, u64::from(block.y), b' ')?;
@@ -38,7 +39,8 @@ fn put_place(out: &mut Vec<u8>, block: &Block) -> Result<(), AllocError>
 #[inline(always)]
 fn put_ore(alloc: Global, out: &mut Vec<u8>, block: &Block) -> Result<(), AllocError>
     ensures { OnOk result (out.new.items ≡ out.old.items
-        ++ ((shortest (pos (block.now.kg * 1000)) ++ 32 ∷ []) ++ (shortest (pos block.now.grade) ++ 32 ∷ []))) }
+        ++ ((shortest (pos (block.now.kg * 1000)) ++ 32 ∷ [])
+        ++ (shortest (pos block.now.grade) ++ 32 ∷ []))) }
 {
     let tonnes = Dec::new(i128::from(block.kg) * 1000).unwrap();
     let grade = Dec::new(i128::from(block.grade)).unwrap();
@@ -57,7 +59,8 @@ impl Line for Limit {
 }
 
 fn put_bound(alloc: Global, out: &mut Vec<u8>, bound: &Bound) -> Result<(), AllocError>
-    ensures { OnOk result (out.new.items ≡ out.old.items ++ (line_of (written (bound_values bound.now)) ++ 10 ∷ [])) }
+    ensures { OnOk result (out.new.items
+        ≡ out.old.items ++ (line_of (written (bound_values bound.now)) ++ 10 ∷ [])) }
 {
     match bound {
         Bound::AtMost(v) => {

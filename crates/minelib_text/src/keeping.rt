@@ -2,7 +2,7 @@
 
 ghost use Rattle.std.specs.Prelude.{◌≡◌, true, All};
 ghost use Rattle.pit_model.specs.Name.{is_name};
-ghost use Rattle.mine_instance.specs.Cpit.{IsCpit};
+ghost use Rattle.mine_instance.specs.CpitKept.{IsCpit};
 ghost use Rattle.minelib_text.specs.Kept.{IsDecimal, HasDecimals, IsKept, IsKeptCpit};
 
 use mine_instance::coef::Coef;

@@ -19,7 +19,8 @@ pub fn put_problem(
     problem: &[u8],
     blocks: usize,
 ) -> Result<(), AllocError>
-    ensures { OnOk result (out.new.items ≡ out.old.items ++ text_of (problem_keys name.now problem.now blocks)) }
+    ensures { OnOk result (out.new.items
+        ≡ out.old.items ++ text_of (problem_keys name.now problem.now blocks)) }
 {
     put_key(out, b"NAME:", name.as_str().as_bytes())?;
     put_key(out, b"TYPE:", problem)?;
@@ -33,7 +34,8 @@ pub fn put_pcpsp_keys(
     instance: &Instance,
 ) -> Result<(), AllocError>
     ensures { OnOk result (out.new.items ≡ out.old.items
-        ++ text_of (pcpsp_keys instance.now.periods instance.now.destinations instance.now.resources instance.now.rate)) }
+        ++ text_of (pcpsp_keys instance.now.periods instance.now.destinations instance.now.resources
+        instance.now.rate)) }
 {
     put_counts(out, instance)?;
     put_key(out, b"NGENERAL_SIDE_CONSTRAINTS:", b"0")?;
@@ -42,7 +44,8 @@ pub fn put_pcpsp_keys(
 
 fn put_counts(out: &mut Vec<u8>, instance: &Instance) -> Result<(), AllocError>
     ensures { OnOk result (out.new.items ≡ out.old.items
-        ++ text_of (count_keys instance.now.periods instance.now.destinations instance.now.resources)) }
+        ++ text_of (count_keys instance.now.periods instance.now.destinations
+        instance.now.resources)) }
 {
     put_small(out, b"NPERIODS:", instance.periods)?;
     put_small(out, b"NDESTINATIONS:", instance.destinations)?;
@@ -60,14 +63,16 @@ pub fn put_cpit_keys(alloc: Global, out: &mut Vec<u8>, cpit: &Cpit) -> Result<()
 }
 
 fn put_key(out: &mut Vec<u8>, key: &[u8], value: &[u8]) -> Result<(), AllocError>
-    ensures { OnOk result (out.new.items ≡ out.old.items ++ (key_line key.now value.now ++ 10 ∷ [])) }
+    ensures { OnOk result (out.new.items
+        ≡ out.old.items ++ (key_line key.now value.now ++ 10 ∷ [])) }
 {
     put_text(out, key, b' ')?;
     put_text(out, value, b'\n')
 }
 
 fn put_count(out: &mut Vec<u8>, key: &[u8], count: u64) -> Result<(), AllocError>
-    ensures { OnOk result (out.new.items ≡ out.old.items ++ (key_line key.now (decimal count) ++ 10 ∷ [])) }
+    ensures { OnOk result (out.new.items
+        ≡ out.old.items ++ (key_line key.now (decimal count) ++ 10 ∷ [])) }
 {
     put_text(out, key, b' ')?;
     put_whole_to(out, count, b'\n')
@@ -79,14 +84,16 @@ fn put_decimal_key(
     key: &[u8],
     number: Dec,
 ) -> Result<(), AllocError>
-    ensures { OnOk result (out.new.items ≡ out.old.items ++ (key_line key.now (shortest number) ++ 10 ∷ [])) }
+    ensures { OnOk result (out.new.items
+        ≡ out.old.items ++ (key_line key.now (shortest number) ++ 10 ∷ [])) }
 {
     put_text(out, key, b' ')?;
     put_decimal_to(alloc, out, number, b'\n')
 }
 
 fn put_small(out: &mut Vec<u8>, key: &[u8], count: u8) -> Result<(), AllocError>
-    ensures { OnOk result (out.new.items ≡ out.old.items ++ (key_line key.now (decimal count) ++ 10 ∷ [])) }
+    ensures { OnOk result (out.new.items
+        ≡ out.old.items ++ (key_line key.now (decimal count) ++ 10 ∷ [])) }
 {
     put_count(out, key, u64::from(count))
 }

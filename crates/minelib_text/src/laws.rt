@@ -1,9 +1,10 @@
 //! What holds of texts, whatever they say: each contract is a law, and a call of it changes nothing.
 ghost use Rattle.std.specs.Prelude.{◌≡◌, ◌↔◌, ◌⊎◌, ℕ, ◌≤◌, ◌++◌, ◌∷◌, [], All, true, List, length, Ok, Err};
-ghost use Rattle.forms.specs.Form.{Spell};
-ghost use Rattle.forms.specs.Grammar.{AllState, IsFirstFault};
-ghost use Rattle.forms.specs.Shape.{States};
-ghost use Rattle.mine_instance.specs.Cpit.{CpitParts, IsCpit};
+ghost use Rattle.forms.specs.Spelled.{Spell};
+ghost use Rattle.forms.specs.GrammarStates.{AllState, IsFirstFault};
+ghost use Rattle.forms.specs.ShapeStates.{States};
+ghost use Rattle.mine_instance.specs.Cpit.{CpitParts};
+ghost use Rattle.mine_instance.specs.CpitKept.{IsCpit};
 ghost use Rattle.mine_instance.specs.OfModel.{instance as instance_of};
 ghost use Rattle.mine_instance.specs.OneSlope.{instance_by};
 ghost use Rattle.mine_instance.specs.Valid.{ArePredsOf, IsValid};
@@ -22,7 +23,8 @@ ghost use Rattle.minelib_text.specs.TextLines.{fields_of, is_ended, lines_in, li
 ghost use Rattle.minelib_text.specs.TextParts.{AreBlanks, IsFieldText, IsLineText};
 ghost use Rattle.minelib_text.specs.Written.{text_blocks, text_prec, text_pcpsp, text_cpit};
 ghost use Rattle.minelib_text.specs.declared.model_key.Problem.{Problem};
-ghost use Rattle.pit_model.specs.Plan.{IsCone, PlanParts};
+ghost use Rattle.pit_model.specs.Plan.{PlanParts};
+ghost use Rattle.pit_model.specs.PlanKept.{IsCone};
 ghost use Rattle.minelib_text.specs.declared.text_fault.LineFault.{LineFault};
 ghost use Rattle.pit_model.specs.declared.block.Block.{Block};
 ghost use Rattle.precedence.specs.ConeLaws.{IsEven};
@@ -34,18 +36,21 @@ use mine_instance::instance::Instance;
 
 /// The texts of a valid instance denote that instance.
 pub fn written_is_read()
-    ensures { (i : OneInstance) → IsValid i → IsKept i → Denotes (text_blocks i) (text_prec i) (text_pcpsp i) i }
+    ensures { (i : OneInstance) → IsValid i → IsKept i
+        → Denotes (text_blocks i) (text_prec i) (text_pcpsp i) i }
 {}
 
 /// The text of a CPIT denotes that CPIT.
 pub fn written_cpit_is_read()
-    ensures { (c : CpitParts) → IsCpit c → IsKeptCpit c → DenotesCpit (length c.values) (text_cpit c) c }
+    ensures { (c : CpitParts) → IsCpit c → IsKeptCpit c
+        → DenotesCpit (length c.values) (text_cpit c) c }
 {}
 
 /// The texts of this instance denote it. A call looks at each of its numbers once.
 pub fn texts_denote(instance: &Instance)
     requires { IsValid instance.now }
-    ensures { Denotes (text_blocks instance.now) (text_prec instance.now) (text_pcpsp instance.now) instance.now }
+    ensures { Denotes (text_blocks instance.now) (text_prec instance.now) (text_pcpsp instance.now)
+        instance.now }
 {
     keep_instance(instance);
 }
@@ -60,7 +65,8 @@ pub fn cpit_text_denotes(cpit: &Cpit)
 /// Where the cone of each zone has one slope on all sides, the texts of a model's instance are those of the instance with predecessors by the
 /// test with one slope.
 pub fn even_zones()
-    ensures { (plan : PlanParts) (listed : List Block) → All IsCone plan.cones → All IsEven plan.cones
+    ensures { (plan : PlanParts) (listed : List Block) → All IsCone plan.cones
+        → All IsEven plan.cones
         → HaveSameTexts (instance_of plan listed) (instance_by plan listed) }
 {
     mine_instance::laws::even_zones();
@@ -68,12 +74,14 @@ pub fn even_zones()
 
 /// The instance that three texts denote is valid.
 pub fn read_is_valid()
-    ensures { (blocks prec pcpsp : List ℕ) (i : OneInstance) → Denotes blocks prec pcpsp i → IsValid i }
+    ensures { (blocks prec pcpsp : List ℕ) (i : OneInstance) → Denotes blocks prec pcpsp i
+        → IsValid i }
 {}
 
 /// The constrained pit limit problem that a text denotes is one, with a value for each block.
 pub fn cpit_read_is_valid()
-    ensures { (n : ℕ) (text : List ℕ) (c : CpitParts) → n ≤ MAX_BLOCKS → DenotesCpit n text c → IsCpit c × (length c.values ≡ n) }
+    ensures { (n : ℕ) (text : List ℕ) (c : CpitParts) → n ≤ MAX_BLOCKS → DenotesCpit n text c
+        → IsCpit c × (length c.values ≡ n) }
 {}
 
 /// A line behind so many blocks states a block exactly where its fields spell that number and the block; and the line of a block its
@@ -82,7 +90,8 @@ pub fn lines_state_what_they_spell()
     ensures blocks { (before : ℕ) (line : List ℕ) (b : Block) → States (block_shape before line) b
         ↔ Spell block_form (fields_of line) (block_values before b) }
     ensures preds { (n own : ℕ) (line ids : List ℕ) → States (preds_shape n own line) ids
-        ↔ (Spell (preds_form n (fields_of line)) (fields_of line) (preds_values own ids) × ArePredsOf own n ids) }
+        ↔ (Spell (preds_form n (fields_of line)) (fields_of line) (preds_values own ids)
+        × ArePredsOf own n ids) }
 {}
 
 /// Where blocks are read, each line that is read states one of them, in order.
@@ -99,7 +108,8 @@ pub fn prec_lines_are_spelled()
 
 /// Where a model file of n blocks is read, its lines that are read state it by the grammar, one behind the other, and nothing is lacking.
 pub fn model_lines_are_spelled()
-    ensures { (problem : Problem) (n : ℕ) (text : List ℕ) (d : ModelDraftView) → model_in problem n text ≡ Ok d
+    ensures { (problem : Problem) (n : ℕ) (text : List ℕ) (d : ModelDraftView)
+        → model_in problem n text ≡ Ok d
         → AreModelLines problem n (lines_in text) d }
 {}
 
@@ -122,7 +132,8 @@ pub fn cpits_are_spelled()
 
 /// Lines that state blocks are read as these blocks, whatever their spelling.
 pub fn spelled_blocks_are_read()
-    ensures { (text : List ℕ) (blocks : List Block) → AllState block_grammar 1 [] (lines_in text) blocks
+    ensures { (text : List ℕ) (blocks : List Block)
+        → AllState block_grammar 1 [] (lines_in text) blocks
         → blocks_in text ≡ Ok blocks }
 {}
 
@@ -158,9 +169,13 @@ pub fn faulty_lines_begin_no_model()
 
 /// Lines are what stands between LFs, a last one without LF as well; fields are what stands between runs of blanks.
 pub fn lines_and_fields()
-    ensures lines { (lines : List (List ℕ)) → All IsLineText lines → lines_of (text_of lines) ≡ lines }
-    ensures last_line { (lines : List (List ℕ)) (last : List ℕ) → All IsLineText lines → IsLineText last → 1 ≤ length last
+    ensures lines { (lines : List (List ℕ)) → All IsLineText lines
+        → lines_of (text_of lines) ≡ lines }
+    ensures last_line { (lines : List (List ℕ)) (last : List ℕ) → All IsLineText lines
+        → IsLineText last → 1 ≤ length last
         → lines_of (text_of lines ++ last) ≡ lines ++ last ∷ [] }
-    ensures blanks { (blanks rest : List ℕ) → AreBlanks blanks → fields_of (blanks ++ rest) ≡ fields_of rest }
-    ensures field { (field rest : List ℕ) → IsFieldText field → is_ended rest ≡ true → fields_of (field ++ rest) ≡ field ∷ fields_of rest }
+    ensures blanks { (blanks rest : List ℕ) → AreBlanks blanks
+        → fields_of (blanks ++ rest) ≡ fields_of rest }
+    ensures field { (field rest : List ℕ) → IsFieldText field → is_ended rest ≡ true
+        → fields_of (field ++ rest) ≡ field ∷ fields_of rest }
 {}

@@ -13,7 +13,8 @@ pub trait Line {
     /// Appends the line of the item, whose place in its list is `index`, with its LF. Where memory is refused a part of it may be
     /// appended.
     fn put(&self, alloc: Global, index: usize, out: &mut Vec<u8>) -> Result<(), AllocError>
-        ensures { OnOk result (out.new.items ≡ out.old.items ++ (line_of (fields index self.now) ++ 10 ∷ [])) };
+        ensures { OnOk result (out.new.items
+            ≡ out.old.items ++ (line_of (fields index self.now) ++ 10 ∷ [])) };
 }
 
 /// A line for each item.

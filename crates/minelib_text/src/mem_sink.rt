@@ -96,7 +96,8 @@ impl MemSink {
     // Counts a call, and answers whether it is the one that fails.
     fn fails(&mut self) -> bool
         ensures answer { IsTrue result ↔ FailsNext self.old }
-        ensures called { IsCalled self.old.begun self.old.bytes self.old.failures self.old self.new }
+        ensures called { IsCalled self.old.begun self.old.bytes self.old.failures self.old
+            self.new }
     {
         if self.calls < self.failing {
             self.calls += 1;
@@ -125,7 +126,8 @@ impl Sink for MemSink {
     fn begin(&mut self) -> Result<(), SinkFault>
         ensures fails { IsErr result ↔ FailsNext self.old }
         ensures begins { OnOk result (IsCalled true [] self.old.failures self.old self.new) }
-        ensures refused { OnErr result (IsCalled self.old.begun self.old.bytes (self.old.failures + 1) self.old self.new) }
+        ensures refused { OnErr result
+            (IsCalled self.old.begun self.old.bytes (self.old.failures + 1) self.old self.new) }
     {
         if self.fails() {
             return Err(self.refuse());
@@ -143,12 +145,15 @@ impl Sink for MemSink {
     fn put(&mut self, bytes: &[u8]) -> Result<usize, SinkFault>
         ensures fails { FailsNext self.old → IsErr result }
         ensures fails_only { OnErr result
-            (FailsNext self.old ⊎ (self.old.room < length self.old.bytes + min (length bytes.now) self.old.step)) }
+            (FailsNext self.old ⊎ (self.old.room
+            < length self.old.bytes + min (length bytes.now) self.old.step)) }
         ensures count { IfOk result (λ n. n ≡ min (length bytes.now) self.old.step) }
         ensures some { IfOk result (λ n. 0 < length bytes.now → 0 < n) }
         ensures takes { IfOk result
-            (λ n. IsCalled self.old.begun (self.old.bytes ++ take n bytes.now) self.old.failures self.old self.new) }
-        ensures refused { OnErr result (IsCalled self.old.begun self.old.bytes (self.old.failures + 1) self.old self.new) }
+            (λ n. IsCalled self.old.begun (self.old.bytes ++ take n bytes.now) self.old.failures
+            self.old self.new) }
+        ensures refused { OnErr result
+            (IsCalled self.old.begun self.old.bytes (self.old.failures + 1) self.old self.new) }
     {
         if self.fails() {
             return Err(self.refuse());

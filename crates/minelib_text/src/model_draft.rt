@@ -1,7 +1,7 @@
 //! A model file while its lines are read.
 
 ghost use Rattle.std.specs.Prelude.{◌≡◌, ◌≤◌, ◌==◌, ◌&&◌, ◌++◌, ◌∷◌, if◌then◌else◌, Ok, Err, [], true, false, length, map, unwrap_or, IfOk};
-ghost use Rattle.mine_instance.specs.Cpit.{IsCpit};
+ghost use Rattle.mine_instance.specs.CpitKept.{IsCpit};
 ghost use Rattle.mine_instance.specs.OfCpit.{without_destination};
 ghost use Rattle.minelib_text.specs.Denotes.{cpit_read, instance_read};
 ghost use Rattle.minelib_text.specs.HeaderKeys.{count_in, is_complete};
@@ -208,7 +208,9 @@ impl ModelDraft {
     #[inline(always)]
     fn add_coef(&mut self, coef: Coef) -> Result<(), LineError>
         requires { is_heading self.old.section ≡ false }
-        ensures { Admits self.new result (if is_behind comes_before (last_of self.old.coefs) coef then Ok (record self.old { coefs = self.old.coefs ++ coef ∷ [] }) else Err TextKind.Order) }
+        ensures { Admits self.new result
+            (if is_behind comes_before (last_of self.old.coefs) coef then Ok
+            (record self.old { coefs = self.old.coefs ++ coef ∷ [] }) else Err TextKind.Order) }
     {
         if !is_coef_behind(self.coefs.as_slice(), &coef) {
             return Err(LineError::Faulty(TextKind::Order));
@@ -247,7 +249,8 @@ impl ModelDraft {
 
     #[tactic(auto, using(crate::proofs::ModelShapes::section_takes))]
     fn admit_section(&mut self, section: Section, values: &[u8]) -> Result<(), LineError>
-        ensures { Admits self.new result (takes (section_line self.old section (fields_of values.now))) }
+        ensures { Admits self.new result
+            (takes (section_line self.old section (fields_of values.now))) }
     {
         if !is_next(self.section, section) {
             return Err(LineError::Faulty(TextKind::Key));
@@ -264,7 +267,8 @@ impl ModelDraft {
 
     #[tactic(auto, using(crate::proofs::ModelShapes::stray_takes))]
     fn admit_item(&mut self, line: &[u8]) -> Result<(), LineError>
-        ensures { Admits self.new result (takes (item_line self.old self.old.section (fields_of line.now))) }
+        ensures { Admits self.new result
+            (takes (item_line self.old self.old.section (fields_of line.now))) }
     {
         match self.section {
             Section::Heading => Err(LineError::Faulty(TextKind::Key)),
@@ -365,7 +369,8 @@ fn name_with(
     name: Option<Name>,
 ) -> Result<Option<Name>, AllocError>
     requires { is_name_for key value.now ≡ true }
-    ensures { IfOk result (λ named. unwrap_or named [] ≡ name_with key value.now (unwrap_or name [])) }
+    ensures { IfOk result (λ named. unwrap_or named []
+        ≡ name_with key value.now (unwrap_or name [])) }
 {
     match key {
         HeaderKey::Name => Name::read(alloc, value),

@@ -1,7 +1,7 @@
 //! The lines of a model file's sections.
 
 ghost use Rattle.std.specs.Prelude.{◌≡◌, ◌≤◌, ◌<◌, ◌+◌, ◌∷◌, [], ℕ, length, drop, slice_index_or, IfOk, OnOk};
-ghost use Rattle.pit_model.specs.Plan.{stands_before};
+ghost use Rattle.pit_model.specs.PlanKept.{stands_before};
 ghost use Rattle.mine_instance.specs.Order.{comes_before};
 ghost use Rattle.minelib_text.specs.FieldValues.{Takes, all_by, decimal_in, first_by};
 ghost use Rattle.minelib_text.specs.ModelLines.{is_behind, last_of};
@@ -32,7 +32,8 @@ pub fn values_in(
     line: &[u8],
     row: &mut Vec<Dec>,
 ) -> Result<(), LineError>
-    ensures value { Admits row.new.items result (values_of blocks destinations before (fields_of line.now)) }
+    ensures value { Admits row.new.items result
+        (values_of blocks destinations before (fields_of line.now)) }
     ensures width { OnOk result (length row.new.items ≡ destinations) }
     ensures room { OnOk result (before < blocks) }
 {
@@ -55,7 +56,8 @@ pub fn values_alone(
     line: &[u8],
     row: &mut Vec<Dec>,
 ) -> Result<(), LineError>
-    ensures value { AdmitsCounted (length (fields_of line.now) ≡ destinations + 1) row.new.items result (values_of blocks destinations before (fields_of line.now)) }
+    ensures value { AdmitsCounted (length (fields_of line.now) ≡ destinations + 1) row.new.items
+        result (values_of blocks destinations before (fields_of line.now)) }
     ensures width { OnOk result (length row.new.items ≡ destinations) }
     ensures room { OnOk result (before < blocks) }
 {
@@ -69,7 +71,8 @@ pub fn values_alone(
 
 // All decimals of a line of so many fields.
 fn read_decimals(line: &[u8], count: usize, row: &mut Vec<Dec>) -> Result<(), LineError>
-    ensures value { AdmitsCounted (length (fields_of line.now) ≡ count) row.new.items result (all_by decimal_in [] (fields_of line.now)) }
+    ensures value { AdmitsCounted (length (fields_of line.now) ≡ count) row.new.items result
+        (all_by decimal_in [] (fields_of line.now)) }
     ensures width { OnOk result (length row.new.items ≡ count) }
 {
     row.clear();
@@ -131,7 +134,8 @@ pub fn coef_alone(
 }
 
 fn coef_width(problem: Problem) -> usize
-    ensures { (n destinations resources : ℕ) → result ≡ length (coef_form problem n destinations resources) }
+    ensures { (n destinations resources : ℕ)
+        → result ≡ length (coef_form problem n destinations resources) }
 {
     match problem {
         Problem::Pcpsp => 4,
@@ -216,7 +220,8 @@ fn behind_first(line: &[u8]) -> &[u8]
 }
 
 fn first_decimal(line: &[u8]) -> Result<Dec, TextKind>
-    ensures { TakesFirst result (drop 1 (fields_of line.now)) (first_by decimal_in (fields_of line.now)) }
+    ensures { TakesFirst result (drop 1 (fields_of line.now))
+        (first_by decimal_in (fields_of line.now)) }
 {
     match next_field(line) {
         Some((field, _)) => decimal_in(field),

@@ -102,7 +102,8 @@ impl Header {
 
 // Keeps the number of a key at its place.
 fn put(numbers: &mut [Option<u32>; 8], key: HeaderKey, number: u32)
-    ensures { record { numbers = numbers.new } ≡ with_key (record { numbers = numbers.old }) key number }
+    ensures { record { numbers = numbers.new }
+        ≡ with_key (record { numbers = numbers.old }) key number }
 {
     numbers[place(key)] = Some(number);
 }

@@ -16,7 +16,8 @@ use memchr::memchr;
 /// The bytes before the first colon of a line and those behind it, or `None` where it has no colon.
 pub fn cut_at_colon(line: &[u8]) -> Option<(&[u8], &[u8])>
     ensures { MatchOption result (list_any is_colon line.now ≡ false)
-        (λ x. (list_any is_colon line.now ≡ true) × (x.0.now ≡ before_first is_colon line.now) × (x.1.now ≡ after_first is_colon line.now)) }
+        (λ x. (list_any is_colon line.now ≡ true) × (x.0.now ≡ before_first is_colon line.now)
+        × (x.1.now ≡ after_first is_colon line.now)) }
 {
     match colon_place(line) {
         Some(place) => Some((&line[..place], behind(line, place + 1))),

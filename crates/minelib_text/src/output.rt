@@ -2,7 +2,7 @@
 
 ghost use Rattle.std.specs.Prelude.{◌≡◌, ◌+◌, ◌<◌, ◌≤◌, ℕ, List, [], ◌∷◌, ◌++◌, length, take, drop, slice_index_or, IfOk, IfErr, OnOk, OnErr};
 ghost use Rattle.minelib_text.specs.Lines.{text_of};
-ghost use Rattle.minelib_text.specs.SinkState.{refusals, IsWrittenOn, IsCutShort};
+ghost use Rattle.minelib_text.specs.SinkSteps.{refusals, IsAppended, IsAppendCut};
 
 use crate::fields::put_text;
 use crate::sink::{Sink, SinkFault};
@@ -14,8 +14,10 @@ pub const LARGE: usize = 65_536;
 
 /// Puts all the bytes, in as many calls as the sink wants.
 pub fn put_all<S: Sink>(sink: &mut S, bytes: &[u8]) -> Result<(), SinkFault>
-    ensures written { OnOk result (IsWrittenOn bytes.now [] [] (S.state sink.old) (S.state sink.new)) }
-    ensures refused { OnErr result (IsCutShort 1 bytes.now [] (S.state sink.old) (S.state sink.new)) }
+    ensures written { OnOk result
+        (IsAppended bytes.now [] [] (S.state sink.old) (S.state sink.new)) }
+    ensures refused { OnErr result
+        (IsAppendCut 1 bytes.now [] (S.state sink.old) (S.state sink.new)) }
 {
     let mut rest = bytes;
     while !rest.is_empty() {
@@ -27,9 +29,11 @@ pub fn put_all<S: Sink>(sink: &mut S, bytes: &[u8]) -> Result<(), SinkFault>
 
 /// Puts the buffer and empties it.
 pub fn flush<S: Sink>(sink: &mut S, buffer: &mut Vec<u8>) -> Result<(), SinkFault>
-    ensures written { OnOk result (IsWrittenOn [] buffer.old.items buffer.new.items (S.state sink.old) (S.state sink.new)) }
+    ensures written { OnOk result
+        (IsAppended [] buffer.old.items buffer.new.items (S.state sink.old) (S.state sink.new)) }
     ensures empty { OnOk result (buffer.new.items ≡ []) }
-    ensures refused { OnErr result (IsCutShort 1 [] buffer.old.items (S.state sink.old) (S.state sink.new)) }
+    ensures refused { OnErr result
+        (IsAppendCut 1 [] buffer.old.items (S.state sink.old) (S.state sink.new)) }
 {
     put_all(sink, buffer.as_slice())?;
     buffer.clear();
@@ -75,9 +79,10 @@ pub fn write_section<S: Sink, L: Section>(
     buffer: &mut Vec<u8>,
     section: &L,
 ) -> Result<(), WriteFault>
-    ensures written { OnOk result (IsWrittenOn (text_of (L.lines section.now))
+    ensures written { OnOk result (IsAppended (text_of (L.lines section.now))
         buffer.old.items buffer.new.items (S.state sink.old) (S.state sink.new)) }
-    ensures refused { IfErr result (λ fault. IsCutShort (refusals fault) (text_of (L.lines section.now))
+    ensures refused { IfErr result
+        (λ fault. IsAppendCut (refusals fault) (text_of (L.lines section.now))
         buffer.old.items (S.state sink.old) (S.state sink.new)) }
 {
     let mut index = 0;
@@ -100,9 +105,11 @@ fn write_some<S: Sink, L: Section>(
     requires { index < length (L.lines section.now) }
     ensures some { IfOk result (λ n. 0 < n) }
     ensures within { IfOk result (λ n. index + n ≤ length (L.lines section.now)) }
-    ensures written { IfOk result (λ n. IsWrittenOn (text_of (take n (drop index (L.lines section.now))))
+    ensures written { IfOk result
+        (λ n. IsAppended (text_of (take n (drop index (L.lines section.now))))
         buffer.old.items buffer.new.items (S.state sink.old) (S.state sink.new)) }
-    ensures refused { IfErr result (λ fault. IsCutShort (refusals fault) (text_of (drop index (L.lines section.now)))
+    ensures refused { IfErr result
+        (λ fault. IsAppendCut (refusals fault) (text_of (drop index (L.lines section.now)))
         buffer.old.items (S.state sink.old) (S.state sink.new)) }
 {
     let count = section.append_some(alloc, index, buffer)?;
@@ -113,8 +120,10 @@ fn write_some<S: Sink, L: Section>(
 // Puts a full buffer and empties it.
 #[tactic(auto, using(crate::proofs::Fronts::buffered))]
 fn flush_full<S: Sink>(sink: &mut S, buffer: &mut Vec<u8>) -> Result<(), SinkFault>
-    ensures written { OnOk result (IsWrittenOn [] buffer.old.items buffer.new.items (S.state sink.old) (S.state sink.new)) }
-    ensures refused { OnErr result (IsCutShort 1 [] buffer.old.items (S.state sink.old) (S.state sink.new)) }
+    ensures written { OnOk result
+        (IsAppended [] buffer.old.items buffer.new.items (S.state sink.old) (S.state sink.new)) }
+    ensures refused { OnErr result
+        (IsAppendCut 1 [] buffer.old.items (S.state sink.old) (S.state sink.new)) }
 {
     if buffer.len() >= LARGE {
         flush(sink, buffer)?;
@@ -131,9 +140,10 @@ pub fn write_titled<S: Sink, L: Section>(
     title: &[u8],
     section: &L,
 ) -> Result<(), WriteFault>
-    ensures written { OnOk result (IsWrittenOn (text_of (title.now ∷ L.lines section.now))
+    ensures written { OnOk result (IsAppended (text_of (title.now ∷ L.lines section.now))
         buffer.old.items buffer.new.items (S.state sink.old) (S.state sink.new)) }
-    ensures refused { IfErr result (λ fault. IsCutShort (refusals fault) (text_of (title.now ∷ L.lines section.now))
+    ensures refused { IfErr result
+        (λ fault. IsAppendCut (refusals fault) (text_of (title.now ∷ L.lines section.now))
         buffer.old.items (S.state sink.old) (S.state sink.new)) }
 {
     put_text(buffer, title, b'\n')?;

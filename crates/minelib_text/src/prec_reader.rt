@@ -39,7 +39,8 @@ impl Model for PrecDraft {
 
     ghost view = { λ d. record { blocks = d.blocks; lists = d.preds } };
 
-    ghost invariant = { λ d. (d.blocks ≤ MAX_BLOCKS) × (vec_len d.marks ≡ d.blocks) × AreClear d.marks.items };
+    ghost invariant = { λ d. (d.blocks ≤ MAX_BLOCKS) × (vec_len d.marks ≡ d.blocks)
+        × AreClear d.marks.items };
 }
 
 impl Admit for PrecDraft {

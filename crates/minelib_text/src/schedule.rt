@@ -2,7 +2,7 @@
 
 ghost use Rattle.std.specs.Prelude.{IfErr, OnOk};
 ghost use Rattle.minelib_text.specs.Lines.{text_of};
-ghost use Rattle.minelib_text.specs.SinkState.{refusals, IsWrittenOn, IsCutShort};
+ghost use Rattle.minelib_text.specs.SinkSteps.{refusals, IsAppended, IsAppendCut};
 ghost use Rattle.minelib_text.specs.Written.{section_lines};
 
 use crate::output::{Section, write_titled};
@@ -19,10 +19,10 @@ pub fn write_sections<S: Sink, V: Section, C: Section, L: Section>(
     coefs: &C,
     limits: &L,
 ) -> Result<(), WriteFault>
-    ensures written { OnOk result (IsWrittenOn
+    ensures written { OnOk result (IsAppended
         (text_of (section_lines (V.lines values.now) (C.lines coefs.now) (L.lines limits.now)))
         buffer.old.items buffer.new.items (S.state sink.old) (S.state sink.new)) }
-    ensures refused { IfErr result (λ fault. IsCutShort (refusals fault)
+    ensures refused { IfErr result (λ fault. IsAppendCut (refusals fault)
         (text_of (section_lines (V.lines values.now) (C.lines coefs.now) (L.lines limits.now)))
         buffer.old.items (S.state sink.old) (S.state sink.new)) }
 {

@@ -39,7 +39,8 @@ impl Model for SectionSink {
 impl SectionSink {
     /// A sink behind these bytes. It is not begun.
     pub fn new(bytes: Vec<u8>) -> SectionSink
-        ensures { told result ≡ record { begun = false; before = bytes.items; taken = Some []; failures = 0 } }
+        ensures { told result ≡ record
+            { begun = false; before = bytes.items; taken = Some []; failures = 0 } }
     {
         let start = bytes.len();
         SectionSink {
@@ -100,8 +101,11 @@ impl Sink for SectionSink {
     /// Memory for them was refused. None was taken.
     fn put(&mut self, bytes: &[u8]) -> Result<usize, SinkFault>
         ensures all { IfOk result (λ n. n ≡ length bytes.now) }
-        ensures takes { OnOk result (told self.new ≡ record (told self.old) { taken = Some (self.old.taken ++ bytes.now) }) }
-        ensures refused { OnErr result (told self.new ≡ record (told self.old) { failures = self.old.failures + 1 }) }
+        ensures takes { OnOk result
+            (told self.new ≡ record (told self.old)
+            { taken = Some (self.old.taken ++ bytes.now) }) }
+        ensures refused { OnErr result
+            (told self.new ≡ record (told self.old) { failures = self.old.failures + 1 }) }
         ensures fails_only { OnErr result
             (self.old.room < length self.old.before + length self.old.taken + length bytes.now) }
     {

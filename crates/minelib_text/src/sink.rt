@@ -2,7 +2,8 @@
 
 ghost use Rattle.std.specs.Prelude.{◌≡◌, ◌+◌, ◌<◌, ◌≤◌, [], length, take, IfOk, OnOk, OnErr};
 ghost use Rattle.minelib_text.specs.Device.{added};
-ghost use Rattle.minelib_text.specs.SinkState.{SinkState, IsStill, IsWritten, IsCutOff};
+ghost use Rattle.minelib_text.specs.SinkState.{SinkState, IsWritten, IsCutOff};
+ghost use Rattle.minelib_text.specs.SinkSteps.{IsBegunAsBefore};
 
 use thiserror::Error;
 
@@ -33,9 +34,10 @@ pub trait Sink {
     fn put(&mut self, bytes: &[u8]) -> Result<usize, SinkFault>
         ensures within { IfOk result (λ n. n ≤ length bytes.now) }
         ensures some { IfOk result (λ n. 0 < length bytes.now → 0 < n) }
-        ensures takes { IfOk result (λ n. (state self.new).taken ≡ added (take n bytes.now) (state self.old).taken) }
+        ensures takes { IfOk result
+            (λ n. (state self.new).taken ≡ added (take n bytes.now) (state self.old).taken) }
         ensures works { OnOk result ((state self.new).failures ≡ (state self.old).failures) }
         ensures refused { OnErr result ((state self.new).taken ≡ (state self.old).taken) }
         ensures fails { OnErr result ((state self.new).failures ≡ (state self.old).failures + 1) }
-        ensures still { IsStill (state self.old) (state self.new) };
+        ensures still { IsBegunAsBefore (state self.old) (state self.new) };
 }

@@ -1,7 +1,8 @@
 //! A whole text to a sink.
 
 ghost use Rattle.std.specs.Prelude.{ℕ, List, IfErr, OnOk};
-ghost use Rattle.minelib_text.specs.SinkState.{refusals, IsWritten, IsCutOff, IsWrittenOn, IsCutShort};
+ghost use Rattle.minelib_text.specs.SinkState.{IsWritten, IsCutOff};
+ghost use Rattle.minelib_text.specs.SinkSteps.{refusals, IsAppended, IsAppendCut};
 
 use crate::output::{LARGE, flush};
 use crate::sink::Sink;
@@ -19,17 +20,20 @@ pub trait Text {
         sink: &mut S,
         buffer: &mut Vec<u8>,
     ) -> Result<(), WriteFault>
-        ensures written { OnOk result (IsWrittenOn (text self.now)
+        ensures written { OnOk result (IsAppended (text self.now)
             buffer.old.items buffer.new.items (S.state sink.old) (S.state sink.new)) }
-        ensures refused { IfErr result (λ fault. IsCutShort (refusals fault) (text self.now)
+        ensures refused { IfErr result (λ fault. IsAppendCut (refusals fault) (text self.now)
             buffer.old.items (S.state sink.old) (S.state sink.new)) };
 }
 
 /// Begins the sink and writes the text.
 #[tactic(auto, using(crate::proofs::Fronts::cut_at_begin))]
 pub fn write_text<S: Sink, T: Text>(alloc: Global, text: &T, sink: &mut S) -> Result<(), WriteFault>
-    ensures written { OnOk result (IsWritten (T.text text.now) (S.state sink.old) (S.state sink.new)) }
-    ensures refused { IfErr result (λ fault. IsCutOff (refusals fault) (T.text text.now) (S.state sink.old) (S.state sink.new)) }
+    ensures written { OnOk result
+        (IsWritten (T.text text.now) (S.state sink.old) (S.state sink.new)) }
+    ensures refused { IfErr result
+        (λ fault. IsCutOff (refusals fault) (T.text text.now) (S.state sink.old)
+        (S.state sink.new)) }
 {
     let mut buffer = Vec::with_capacity(alloc, 2 * LARGE)?;
     sink.begin()?;

@@ -16,7 +16,8 @@ use pit_units::{front_dec, front_whole};
 /// The first field of a line and what stands behind it, or `None` where the line has no field.
 #[inline(always)]
 pub fn next_field(line: &[u8]) -> Option<(&[u8], &[u8])>
-    ensures cut { MatchOption result (fields_of line.now ≡ []) (λ x. fields_of line.now ≡ x.0.now ∷ fields_of x.1.now) }
+    ensures cut { MatchOption result (fields_of line.now ≡ [])
+        (λ x. fields_of line.now ≡ x.0.now ∷ fields_of x.1.now) }
     ensures less { IfSome result (λ x. length x.1.now < length line.now) }
 {
     let text = without_leading_blanks(line);

@@ -2,7 +2,8 @@
 //! and holds the front of the text; after `SinkFailed` it refused one call, and after `OutOfMemory` none.
 
 ghost use Rattle.std.specs.Prelude.{IfErr, OnOk};
-ghost use Rattle.minelib_text.specs.SinkState.{refusals, IsWritten, IsCutOff};
+ghost use Rattle.minelib_text.specs.SinkState.{IsWritten, IsCutOff};
+ghost use Rattle.minelib_text.specs.SinkSteps.{refusals};
 ghost use Rattle.minelib_text.specs.Written.{text_blocks, text_prec, text_upit, text_pcpsp, text_cpit};
 ghost use Rattle.mine_instance.specs.Valid.{IsValid};
 
@@ -21,8 +22,11 @@ pub fn write_blocks<S: Sink>(
     sink: &mut S,
 ) -> Result<(), WriteFault>
     requires { IsValid instance.now }
-    ensures written { OnOk result (IsWritten (text_blocks instance.now) (S.state sink.old) (S.state sink.new)) }
-    ensures refused { IfErr result (λ fault. IsCutOff (refusals fault) (text_blocks instance.now) (S.state sink.old) (S.state sink.new)) }
+    ensures written { OnOk result
+        (IsWritten (text_blocks instance.now) (S.state sink.old) (S.state sink.new)) }
+    ensures refused { IfErr result
+        (λ fault. IsCutOff (refusals fault) (text_blocks instance.now) (S.state sink.old)
+        (S.state sink.new)) }
 {
     write_text(alloc, &BlockFile { instance }, sink)
 }
@@ -34,8 +38,11 @@ pub fn write_prec<S: Sink>(
     sink: &mut S,
 ) -> Result<(), WriteFault>
     requires { IsValid instance.now }
-    ensures written { OnOk result (IsWritten (text_prec instance.now) (S.state sink.old) (S.state sink.new)) }
-    ensures refused { IfErr result (λ fault. IsCutOff (refusals fault) (text_prec instance.now) (S.state sink.old) (S.state sink.new)) }
+    ensures written { OnOk result
+        (IsWritten (text_prec instance.now) (S.state sink.old) (S.state sink.new)) }
+    ensures refused { IfErr result
+        (λ fault. IsCutOff (refusals fault) (text_prec instance.now) (S.state sink.old)
+        (S.state sink.new)) }
 {
     write_text(alloc, &PrecFile { instance }, sink)
 }
@@ -48,8 +55,11 @@ pub fn write_upit<S: Sink>(
     sink: &mut S,
 ) -> Result<(), WriteFault>
     requires { IsValid instance.now }
-    ensures written { OnOk result (IsWritten (text_upit instance.now) (S.state sink.old) (S.state sink.new)) }
-    ensures refused { IfErr result (λ fault. IsCutOff (refusals fault) (text_upit instance.now) (S.state sink.old) (S.state sink.new)) }
+    ensures written { OnOk result
+        (IsWritten (text_upit instance.now) (S.state sink.old) (S.state sink.new)) }
+    ensures refused { IfErr result
+        (λ fault. IsCutOff (refusals fault) (text_upit instance.now) (S.state sink.old)
+        (S.state sink.new)) }
 {
     write_text(alloc, &UpitFile { instance }, sink)
 }
@@ -61,16 +71,22 @@ pub fn write_pcpsp<S: Sink>(
     sink: &mut S,
 ) -> Result<(), WriteFault>
     requires { IsValid instance.now }
-    ensures written { OnOk result (IsWritten (text_pcpsp instance.now) (S.state sink.old) (S.state sink.new)) }
-    ensures refused { IfErr result (λ fault. IsCutOff (refusals fault) (text_pcpsp instance.now) (S.state sink.old) (S.state sink.new)) }
+    ensures written { OnOk result
+        (IsWritten (text_pcpsp instance.now) (S.state sink.old) (S.state sink.new)) }
+    ensures refused { IfErr result
+        (λ fault. IsCutOff (refusals fault) (text_pcpsp instance.now) (S.state sink.old)
+        (S.state sink.new)) }
 {
     write_text(alloc, &PcpspFile { instance }, sink)
 }
 
 /// Begins the sink and writes the file of the constrained pit limit problem.
 pub fn write_cpit<S: Sink>(alloc: Global, cpit: &Cpit, sink: &mut S) -> Result<(), WriteFault>
-    ensures written { OnOk result (IsWritten (text_cpit cpit.now) (S.state sink.old) (S.state sink.new)) }
-    ensures refused { IfErr result (λ fault. IsCutOff (refusals fault) (text_cpit cpit.now) (S.state sink.old) (S.state sink.new)) }
+    ensures written { OnOk result
+        (IsWritten (text_cpit cpit.now) (S.state sink.old) (S.state sink.new)) }
+    ensures refused { IfErr result
+        (λ fault. IsCutOff (refusals fault) (text_cpit cpit.now) (S.state sink.old)
+        (S.state sink.new)) }
 {
     write_text(alloc, &CpitFile { cpit }, sink)
 }

@@ -1,7 +1,7 @@
 -- What a run on files tells: as many texts as there are feeds.
 use Rattle.std.proofs.Common.{◌≡◌, ℕ, suc, Bool, List, [], ◌∷◌, length, Option, Some, None, refl, ap, ◌∙◌}
 use Rattle.std.specs.List.{sum_by}
-use Rattle.lane.specs.Message.{rows_in}
+use Rattle.lane.specs.MessageKinds.{rows_in}
 use Rattle.minelib_text.specs.SinkState.{SinkState}
 use Rattle.pit_compile.specs.Compiled.{AreGiven, IsVerdict}
 use Rattle.pit_compile.specs.Run.{IsRefused}

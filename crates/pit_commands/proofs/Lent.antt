@@ -2,7 +2,8 @@
 use Rattle.std.proofs.Common.{◌≡◌, ℕ, zero, suc, Bool, true, false, List, [], ◌∷◌, length, map, Option, Some, None, IfSome, Result, Ok, Err, refl, ap, ◌∙◌, subst}
 use Rattle.std.specs.List.{AllZip}
 use Rattle.std.specs.Prelude.{slice_get}
-use Rattle.pit_compile.specs.Compiled.{AreGiven, HasPassed, IsVerdict, IsFeedFault, IsNotCompiled}
+use Rattle.pit_compile.specs.Compiled.{AreGiven, HasPassed, IsVerdict, IsFeedFault}
+use Rattle.pit_compile.specs.Compiling.{IsNotCompiled}
 use Rattle.pit_compile.specs.Settings.{IsSettingsFault, Suits}
 use Rattle.pit_compile.specs.Verdict.{IsRefusedBy}
 use Rattle.pit_compile.specs.declared.refusal.Refusal.{Refusal}

@@ -2,7 +2,7 @@
 use Rattle.std.proofs.Common.{◌≡◌, ℕ, ◌+◌, ◌-◌, ◌<◌, ◌≤◌, List, ◌++◌, length, take, drop, Option, Some, None, ap, ◌∙◌, sym, subst, append-nil, arith, length-drop, take-add, take_all}
 use Rattle.std.proofs.KnownBytes.{Appends-kept, Appends-nil, Appends-trans, Keeps-refl, Keeps-trans}
 use Rattle.std.specs.Io.KnownBytes.{Appends, Keeps}
-use Rattle.pit_commands.specs.Output.{IsCutShort}
+use Rattle.pit_commands.specs.Output.{IsAppendCut}
 
 pub took_none : (a : Option (List ℕ)) (bytes : List ℕ) → Appends a a (take 0 bytes)
 took_none a bytes = Appends-nil a
@@ -17,7 +17,7 @@ took_more a b c bytes n m first second =
 pub took_all : (a b : Option (List ℕ)) (bytes : List ℕ) (n : ℕ) → length bytes ≤ n → Appends a b (take n bytes) → Appends a b bytes
 took_all a b bytes n all took = subst (Appends a b) (take_all n bytes all) took
 
-pub cut_short : (a b c : Option (List ℕ)) (bytes : List ℕ) (n : ℕ) → n < length bytes → Appends a b (take n bytes) → Keeps b c → IsCutShort a c bytes
+pub cut_short : (a b c : Option (List ℕ)) (bytes : List ℕ) (n : ℕ) → n < length bytes → Appends a b (take n bytes) → Keeps b c → IsAppendCut a c bytes
 cut_short a b c bytes n few took kept = (n, few, Appends-kept a b c (take n bytes) took kept)
 
 pub keeps_self : (a : Option (List ℕ)) → Keeps a a

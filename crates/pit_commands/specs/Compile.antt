@@ -2,7 +2,7 @@
 use Rattle.std.specs.Prelude.{◌≡◌, ℕ, ◌<◌, ◌⊎◌, List, [], ◌∷◌, ◌++◌, codes, length, Option}
 use Rattle.std.specs.Fmt.{decimal}
 use Rattle.std.specs.List.{sum_by}
-use Rattle.lane.specs.Message.{rows_in}
+use Rattle.lane.specs.MessageKinds.{rows_in}
 use Rattle.lane.specs.Whole.{GatheredView}
 use Rattle.minelib_text.specs.SinkState.{SinkState}
 use Rattle.pit_compile.specs.Rows.{sents_of}

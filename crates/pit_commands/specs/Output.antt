@@ -3,5 +3,5 @@ use Rattle.std.specs.Prelude.{ℕ, ◌<◌, List, length, take, Option}
 use Rattle.std.specs.Io.KnownBytes.{Appends}
 
 -- it took a front of these bytes, and not all of them
-abbrev pub IsCutShort : Option (List ℕ) → Option (List ℕ) → List ℕ → Type 0
-IsCutShort old new bytes = (taken : ℕ) × (taken < length bytes) × Appends old new (take taken bytes)
+abbrev pub IsAppendCut : Option (List ℕ) → Option (List ℕ) → List ℕ → Type 0
+IsAppendCut old new bytes = (taken : ℕ) × (taken < length bytes) × Appends old new (take taken bytes)

@@ -30,7 +30,8 @@ pub fn check_files<R: Files>(
     out: &mut Vec<u8>,
     err: &mut Vec<u8>,
 ) -> u8
-    ensures done { result ≡ 0 → (line : List ℕ) × IsCountsLine line × (out.new.items ≡ out.old.items ++ line) }
+    ensures done { result ≡ 0 → (line : List ℕ) × IsCountsLine line
+        × (out.new.items ≡ out.old.items ++ line) }
     ensures quiet { result ≡ 0 → err.new.items ≡ err.old.items }
     ensures refused { result ≢ 0 → out.new.items ≡ out.old.items }
     ensures status { IsCheckStatus result }
@@ -118,7 +119,8 @@ fn text_from<F: Feed>(alloc: Global, feed: &mut F, file: TextFile) -> Result<Vec
     ensures long { IsErrOf result (CheckFault.TooLong file)
         → F.given feed.new ≡ F.given feed.old + (GREATEST_LIMIT + 1) }
     ensures memory { IsErrOf result CheckFault.OutOfMemory
-        → (F.failures feed.new ≡ F.failures feed.old) × (F.given feed.new ≤ F.given feed.old + GREATEST_LIMIT) }
+        → (F.failures feed.new ≡ F.failures feed.old)
+        × (F.given feed.new ≤ F.given feed.old + GREATEST_LIMIT) }
 {
     match slurp(alloc, feed, GREATEST_LIMIT) {
         Ok(text) => Ok(text),

@@ -55,7 +55,8 @@ where
     ensures quiet { result ≡ 0 → err.new.items ≡ err.old.items }
     ensures kept { result ≢ 0 → out.new.items ≡ out.old.items }
     ensures refused { result ≢ 0
-        → EndsRefusedCompile plan.now (length zones.now) (formulas_of destinations.now) settings err.old.items err.new.items result }
+        → EndsRefusedCompile plan.now (length zones.now) (formulas_of destinations.now) settings
+        err.old.items err.new.items result }
 {
     let feeds = match open_all(alloc, zones, |path| FileFeed::open(rt, path), err) {
         Ok(feeds) => feeds,
@@ -81,11 +82,14 @@ fn run_on<R: Threads + Wait + Sync, F: Feed + Send + Drop, S: Sink>(
     sinks: &mut Sinks<S>,
 ) -> Result<u64, Refusal>
     ensures settings { (kind : ASettingsFault) → (result ≡ Err (Refusal.Settings kind))
-        ↔ IsSettingsFault plan.now (length feeds.items) (formulas_of destinations.now) settings kind }
+        ↔ IsSettingsFault plan.now (length feeds.items) (formulas_of destinations.now) settings
+        kind }
     ensures done { let told = all_told S.state in
-        IfOk result (IsRun plan.now (map F.left feeds.items) settings.valuers (told sinks.old) (told sinks.new)) }
+        IfOk result (IsRun plan.now (map F.left feeds.items) settings.valuers (told sinks.old)
+        (told sinks.new)) }
     ensures refused { let told = all_told S.state in
-        IfErr result (IsRefused plan.now (map F.left feeds.items) (map F.is_sure feeds.items) (told sinks.old) (told sinks.new)) }
+        IfErr result (IsRefused plan.now (map F.left feeds.items) (map F.is_sure feeds.items)
+        (told sinks.old) (told sinks.new)) }
 {
     let gathered = run(
         rt,
@@ -111,7 +115,8 @@ pub fn read_plan_file<R: Files>(
     path: &str,
     lines: &mut Vec<u8>,
 ) -> Result<Plan, u8>
-    ensures plan { IfOk result (λ plan. (text : List ℕ) × (length text ≤ MAX_PLAN_BYTES) × (planned text ≡ Ok plan)) }
+    ensures plan { IfOk result (λ plan. (text : List ℕ) × (length text ≤ MAX_PLAN_BYTES)
+        × (planned text ≡ Ok plan)) }
     ensures quiet { OnOk result (lines.new.items ≡ lines.old.items) }
     ensures refused { IfErr result (EndsRefused lines.old.items lines.new.items) }
     ensures told { IfErr result (PlanFileRefused lines.old.items lines.new.items) }
@@ -150,7 +155,8 @@ fn text_from<F: Feed>(alloc: Global, feed: &mut F) -> Result<Vec<u8>, SlurpFault
     ensures long { IsErrOf result SlurpFault.TooLong
         → F.given feed.new ≡ F.given feed.old + (MAX_PLAN_BYTES + 1) }
     ensures memory { IsErrOf result SlurpFault.OutOfMemory
-        → (F.failures feed.new ≡ F.failures feed.old) × (F.given feed.new ≤ F.given feed.old + MAX_PLAN_BYTES) }
+        → (F.failures feed.new ≡ F.failures feed.old)
+        × (F.given feed.new ≤ F.given feed.old + MAX_PLAN_BYTES) }
 {
     slurp(alloc, feed, MAX_PLAN_BYTES as u64)
 }

@@ -20,7 +20,8 @@ use std::alloc::{AllocError, Global};
 /// memory and `lines` is as it was.
 #[tactic(auto, using(crate::proofs::Ends::plan_told))]
 pub fn plan_from(alloc: Global, text: &[u8], lines: &mut Vec<u8>) -> Result<Plan, u8>
-    ensures plan { IfOk result (λ plan. (length text.now ≤ MAX_PLAN_BYTES) × (planned text.now ≡ Ok plan)) }
+    ensures plan { IfOk result (λ plan. (length text.now ≤ MAX_PLAN_BYTES)
+        × (planned text.now ≡ Ok plan)) }
     ensures quiet { OnOk result (lines.new.items ≡ lines.old.items) }
     ensures refused { IfErr result (PlanRefused text.now lines.old.items lines.new.items) }
     ensures ends { IfErr result (EndsRefused lines.old.items lines.new.items) }
@@ -44,7 +45,8 @@ pub fn plan_from(alloc: Global, text: &[u8], lines: &mut Vec<u8>) -> Result<Plan
 /// `lines` is as it was.
 pub fn refusal_line(alloc: Global, refusal: &Refusal, lines: &mut Vec<u8>) -> Result<u8, AllocError>
     ensures status { IfOk result (λ status. status ≡ status_of refusal.now) }
-    ensures appends { OnOk result (lines.new.items ≡ lines.old.items ++ line_of (refusal_text refusal.now)) }
+    ensures appends { OnOk result
+        (lines.new.items ≡ lines.old.items ++ line_of (refusal_text refusal.now)) }
     ensures err { OnErr result (lines.new.items ≡ lines.old.items) }
 {
     let words = format!(in alloc; "{refusal}")?;

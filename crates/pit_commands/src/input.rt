@@ -41,7 +41,8 @@ impl From<AllocError> for InputFault {
 #[tactic(auto, using(crate::proofs::Consumed::consumed_all, crate::proofs::Consumed::consumed_long, crate::proofs::Consumed::consumed_more))]
 pub fn read_whole<T: Read>(input: &mut T, alloc: Global) -> Result<Vec<u8>, InputFault>
     ensures limit { IfOk result (λ bytes. length bytes.items ≤ MAX_FILE_BYTES) }
-    ensures whole { IfOk result (λ bytes. IfSome (T.remaining input.old) (λ left. bytes.items ≡ left)) }
+    ensures whole { IfOk result (λ bytes. IfSome (T.remaining input.old)
+        (λ left. bytes.items ≡ left)) }
     ensures long { IsErrOf result InputFault.TooLong
         → IfSome (T.remaining input.old) (λ left. MAX_FILE_BYTES < length left) }
 {
@@ -80,7 +81,8 @@ fn read_past<T: Read>(input: &mut T, bytes: &mut [u8], len: usize) -> Result<usi
     ensures within { IfOk result (λ count. len + count ≤ length bytes.new) }
     ensures front { take len bytes.new ≡ take len bytes.old }
     ensures room { length bytes.new ≡ length bytes.old }
-    ensures reads { ReadConsumes (T.remaining input.old) (T.remaining input.new) result (drop len bytes.new) }
+    ensures reads { ReadConsumes (T.remaining input.old) (T.remaining input.new) result
+        (drop len bytes.new) }
     ensures never_long { IsErrOf result InputFault.TooLong → ⊥ }
 {
     let (_, room) = bytes.split_at_mut(len);

@@ -88,7 +88,8 @@ fn compile_job(alloc: Global, found: &ArgMatches<'_>) -> Result<Option<Job>, All
 
 // The words, copied.
 fn copied(alloc: Global, words: &[&str]) -> Result<Vec<String>, AllocError>
-    ensures { IfOk result (λ copies. map string_bytes copies.items ≡ map (λ word. word.now) words.now) }
+    ensures { IfOk result (λ copies. map string_bytes copies.items
+        ≡ map (λ word. word.now) words.now) }
 {
     let mut copies = Vec::new(alloc);
     for word in words {
@@ -99,7 +100,9 @@ fn copied(alloc: Global, words: &[&str]) -> Result<Vec<String>, AllocError>
 
 // The settings that clap found, given or by default.
 fn settings_in(found: &ArgMatches<'_>) -> Option<Settings>
-    ensures { MatchOption result ((settings : ASettings) → FindsSettings (rows_of (found_of found.now)) settings → ⊥) (FindsSettings (rows_of (found_of found.now))) }
+    ensures { MatchOption result
+        ((settings : ASettings) → FindsSettings (rows_of (found_of found.now)) settings → ⊥)
+        (FindsSettings (rows_of (found_of found.now))) }
 {
     let valuers = number_in(found, "valuers", MAX_VALUERS)?;
     let capacity = number_in(found, "capacity", MAX_CAPACITY)?;
@@ -108,7 +111,9 @@ fn settings_in(found: &ArgMatches<'_>) -> Option<Settings>
 
 // The number from 1 to `most` that clap found for an argument.
 fn number_in(found: &ArgMatches<'_>, id: &str, most: usize) -> Option<usize>
-    ensures { MatchOption result ((n : ℕ) → FindsNumber (rows_of (found_of found.now)) id.now most n → ⊥) (FindsNumber (rows_of (found_of found.now)) id.now most) }
+    ensures { MatchOption result
+        ((n : ℕ) → FindsNumber (rows_of (found_of found.now)) id.now most n → ⊥)
+        (FindsNumber (rows_of (found_of found.now)) id.now most) }
 {
     let number = found.get_one::<usize>(id)?;
     if number < 1 || number > most {

@@ -25,7 +25,9 @@ pub fn uncut_text_is_the_plan(text: &[u8])
 pub fn joined_text_comes_back(text: &[u8], rest: &[u8])
     requires uncut { cuts_of text.now ≡ [] }
     requires ended { IsEnded text.now }
-    ensures by_lf { pieces_of (text.now ++ (codes "--" ++ 10 ∷ rest.now)) ≡ text.now ∷ pieces_of rest.now }
-    ensures by_cr_lf { pieces_of (text.now ++ (codes "--" ++ 13 ∷ 10 ∷ rest.now)) ≡ text.now ∷ pieces_of rest.now }
+    ensures by_lf { pieces_of (text.now ++ (codes "--" ++ 10 ∷ rest.now))
+        ≡ text.now ∷ pieces_of rest.now }
+    ensures by_cr_lf { pieces_of (text.now ++ (codes "--" ++ 13 ∷ 10 ∷ rest.now))
+        ≡ text.now ∷ pieces_of rest.now }
     ensures at_the_end { pieces_of (text.now ++ codes "--") ≡ text.now ∷ [] ∷ [] }
 {}

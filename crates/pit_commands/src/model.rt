@@ -28,7 +28,8 @@ pub struct Model {
 /// Reads the model from standard input, as `read_model_from` does.
 #[tactic(auto, using(crate::proofs::Ends::untold_refused))]
 pub fn read_model<R: Input>(rt: &R, alloc: Global, lines: &mut Vec<u8>) -> Result<Model, u8>
-    ensures model { IfOk result (λ model. (input : List ℕ) × IsModel input model.pieces model.plan) }
+    ensures model { IfOk result (λ model. (input : List ℕ)
+        × IsModel input model.pieces model.plan) }
     ensures quiet { OnOk result (lines.new.items ≡ lines.old.items) }
     ensures refused { IfErr result (EndsRefused lines.old.items lines.new.items) }
     ensures told { IfErr result (ModelRefused None lines.old.items lines.new.items) }
@@ -46,10 +47,12 @@ pub fn read_model_from<T: Read>(
     lines: &mut Vec<u8>,
 ) -> Result<Model, u8>
     ensures model { IfOk result (λ model. (input : List ℕ)
-        × IfSome (T.remaining reader.old) (λ left. input ≡ left) × IsModel input model.pieces model.plan) }
+        × IfSome (T.remaining reader.old) (λ left. input ≡ left)
+        × IsModel input model.pieces model.plan) }
     ensures quiet { OnOk result (lines.new.items ≡ lines.old.items) }
     ensures refused { IfErr result (EndsRefused lines.old.items lines.new.items) }
-    ensures told { IfErr result (ModelRefused (T.remaining reader.old) lines.old.items lines.new.items) }
+    ensures told { IfErr result (ModelRefused (T.remaining reader.old) lines.old.items
+        lines.new.items) }
 {
     let input = match read_whole(reader, alloc) {
         Ok(input) => input,
@@ -62,7 +65,8 @@ pub fn read_model_from<T: Read>(
 
 // The pieces of an input, if it has at most as many zone files as the plan has zones; or the status of the refusal.
 fn pieces_for(alloc: Global, input: &[u8], plan: &Plan, lines: &mut Vec<u8>) -> Result<Pieces, u8>
-    ensures pieces { IfOk result (λ pieces. (pieces.plan ≡ plan_of input.now) × (pieces.zones ≡ zones_of input.now)) }
+    ensures pieces { IfOk result
+        (λ pieces. (pieces.plan ≡ plan_of input.now) × (pieces.zones ≡ zones_of input.now)) }
     ensures quiet { OnOk result (lines.new.items ≡ lines.old.items) }
     ensures refused { IfErr result (EndsRefused lines.old.items lines.new.items) }
     ensures told { IfErr result (CutRefused input.now plan.now lines.old.items lines.new.items) }

@@ -26,10 +26,12 @@ pub(crate) fn open_all<F: Drop, O: Fn(&str) -> Result<F, FeedFault>>(
 ) -> Result<Vec<F>, u8>
     requires { O.IsAlwaysCallable opener }
     ensures each { IfOk result (λ feeds.
-        AllZip (λ path feed. FnReturnsAt O.Fn opener (string_bytes path) (Ok feed)) paths.now feeds.items) }
+        AllZip (λ path feed. FnReturnsAt O.Fn opener (string_bytes path) (Ok feed)) paths.now
+        feeds.items) }
     ensures all { IfOk result (λ feeds. length feeds.items ≡ length paths.now) }
     ensures quiet { OnOk result (lines.new.items ≡ lines.old.items) }
-    ensures refused { IfErr result (ZonesRefused (length paths.now) lines.old.items lines.new.items) }
+    ensures refused { IfErr result
+        (ZonesRefused (length paths.now) lines.old.items lines.new.items) }
 {
     let mut feeds = Vec::new(alloc);
     for file in 0..paths.len() {
@@ -71,11 +73,16 @@ pub(crate) fn sinks_of<'a, R: Files>(
 
 // The path of the file of each sink: `BASE.blocks` and so on.
 fn paths_of(alloc: Global, base: &str) -> Result<Sinks<String>, AllocError>
-    ensures blocks { IfOk result (λ paths. string_bytes paths.blocks ≡ path_to base.now (codes "blocks")) }
-    ensures prec { IfOk result (λ paths. string_bytes paths.prec ≡ path_to base.now (codes "prec")) }
-    ensures upit { IfOk result (λ paths. string_bytes paths.upit ≡ path_to base.now (codes "upit")) }
-    ensures pcpsp { IfOk result (λ paths. string_bytes paths.pcpsp ≡ path_to base.now (codes "pcpsp")) }
-    ensures cpit { IfOk result (λ paths. string_bytes paths.cpit ≡ path_to base.now (codes "cpit")) }
+    ensures blocks { IfOk result
+        (λ paths. string_bytes paths.blocks ≡ path_to base.now (codes "blocks")) }
+    ensures prec { IfOk result (λ paths. string_bytes paths.prec
+        ≡ path_to base.now (codes "prec")) }
+    ensures upit { IfOk result (λ paths. string_bytes paths.upit
+        ≡ path_to base.now (codes "upit")) }
+    ensures pcpsp { IfOk result (λ paths. string_bytes paths.pcpsp
+        ≡ path_to base.now (codes "pcpsp")) }
+    ensures cpit { IfOk result (λ paths. string_bytes paths.cpit
+        ≡ path_to base.now (codes "cpit")) }
 {
     Ok(Sinks {
         blocks: path_of(alloc, base, "blocks")?,

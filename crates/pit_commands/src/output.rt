@@ -2,7 +2,7 @@
 
 ghost use Rattle.std.specs.Io.KnownBytes.{Appends, WriteAppends};
 ghost use Rattle.std.specs.Prelude.{◌≤◌, ◌<◌, length, IfOk, OnErr, OnOk};
-ghost use Rattle.pit_commands.specs.Output.{IsCutShort};
+ghost use Rattle.pit_commands.specs.Output.{IsAppendCut};
 
 use minelib_text::sink::SinkFault;
 use std::io::{ErrorKind, Write};
@@ -14,8 +14,10 @@ use std::io::{ErrorKind, Write};
 /// A write failed, whatever the system's reason. The output took the front of the bytes, and not all of them.
 #[tactic(auto, using(crate::proofs::Outputs::took_none, crate::proofs::Outputs::took_more, crate::proofs::Outputs::took_all, crate::proofs::Outputs::cut_short))]
 pub fn write_whole<T: Write>(output: &mut T, bytes: &[u8]) -> Result<(), SinkFault>
-    ensures whole { OnOk result (Appends (T.contents output.old) (T.contents output.new) bytes.now) }
-    ensures short { OnErr result (IsCutShort (T.contents output.old) (T.contents output.new) bytes.now) }
+    ensures whole { OnOk result (Appends (T.contents output.old) (T.contents output.new)
+        bytes.now) }
+    ensures short { OnErr result
+        (IsAppendCut (T.contents output.old) (T.contents output.new) bytes.now) }
 {
     let mut taken = 0;
     while taken < bytes.len() {

@@ -55,7 +55,8 @@ pub fn cut(alloc: Global, input: &[u8]) -> Result<Pieces, AllocError>
 /// more than that. Its only error is want of memory.
 pub fn cut_at_most(alloc: Global, input: &[u8], most: usize) -> Result<Option<Pieces>, AllocError>
     ensures plan { IfOk result (λ found. IfSome found (λ pieces. pieces.plan ≡ plan_of input.now)) }
-    ensures zones { IfOk result (λ found. IfSome found (λ pieces. pieces.zones ≡ zones_of input.now)) }
+    ensures zones { IfOk result (λ found. IfSome found
+        (λ pieces. pieces.zones ≡ zones_of input.now)) }
     ensures few { IfOk result (λ found. IfSome found (λ pieces. length pieces.zones ≤ most)) }
     ensures more { result ≡ Ok None → most < length (zones_of input.now) }
     ensures bytes { result ≡ Ok None → most < length input.now }
@@ -91,7 +92,8 @@ fn copied(alloc: Global, bytes: &[u8]) -> Result<Piece, AllocError>
 // The first piece of a text, and what stands behind the cut that ends it, if there is one.
 fn first_piece(text: &[u8]) -> (&[u8], Option<&[u8]>)
     ensures first { result.0.now ≡ plan_of text.now }
-    ensures further { MatchOption result.1 (zones_of text.now ≡ []) (λ rest. zones_of text.now ≡ pieces_of rest.now) }
+    ensures further { MatchOption result.1 (zones_of text.now ≡ [])
+        (λ rest. zones_of text.now ≡ pieces_of rest.now) }
     ensures shorter { IfSome result.1 (λ rest. length rest.now < length text.now) }
 {
     let mut at = 0;

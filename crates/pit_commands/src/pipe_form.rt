@@ -44,7 +44,8 @@ pub fn pipe<R: Threads + Wait + Sync>(
     out: &mut Vec<u8>,
 ) -> Result<Gathered, Refusal>
     ensures settings { (kind : ASettingsFault) → (result ≡ Err (Refusal.Settings kind))
-        ↔ IsSettingsFault plan.now (length zones.now) (formulas_of destinations.now) pipe_settings kind }
+        ↔ IsSettingsFault plan.now (length zones.now) (formulas_of destinations.now) pipe_settings
+        kind }
     ensures passed { IfOk result (HasPassed plan.now zones.now 4) }
     ensures printed { OnOk result (IsPrinted plan.now zones.now out.old.items out.new.items) }
     ensures refused { IfErr result (PipeRefused plan.now (formulas_of destinations.now) zones.now) }
@@ -69,8 +70,10 @@ pub fn pipe<R: Threads + Wait + Sync>(
 // A feed of each piece, which is lent to it.
 fn lent<'a>(alloc: Global, zones: &'a [Piece]) -> Result<Vec<SliceFeed<'a>>, AllocError>
     ensures count { IfOk result (λ feeds. length feeds.items ≡ length zones.now) }
-    ensures left { IfOk result (λ feeds. map (⟦<SliceFeed<'a> as Feed>⟧.left) feeds.items ≡ map Some zones.now) }
-    ensures sure { IfOk result (λ feeds. map (⟦<SliceFeed<'a> as Feed>⟧.is_sure) feeds.items ≡ map (λ _. true) zones.now) }
+    ensures left { IfOk result (λ feeds. map (⟦<SliceFeed<'a> as Feed>⟧.left) feeds.items
+        ≡ map Some zones.now) }
+    ensures sure { IfOk result (λ feeds. map (⟦<SliceFeed<'a> as Feed>⟧.is_sure) feeds.items
+        ≡ map (λ _. true) zones.now) }
 {
     let mut feeds = Vec::with_capacity(alloc, zones.len())?;
     for zone in zones {

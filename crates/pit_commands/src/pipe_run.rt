@@ -27,10 +27,12 @@ pub fn run_pipe<R: Threads + Wait + Sync>(
     text: &mut Vec<u8>,
     lines: &mut Vec<u8>,
 ) -> u8
-    ensures done { result ≡ 0 → IsPrinted model.now.plan model.now.pieces.zones text.old.items text.new.items }
+    ensures done { result ≡ 0 → IsPrinted model.now.plan model.now.pieces.zones text.old.items
+        text.new.items }
     ensures quiet { result ≡ 0 → lines.new.items ≡ lines.old.items }
     ensures kept { result ≢ 0 → text.new.items ≡ text.old.items }
-    ensures refused { result ≢ 0 → (refusal : ARefusal) × EndsRun refusal lines.old.items lines.new.items result
+    ensures refused { result ≢ 0
+        → (refusal : ARefusal) × EndsRun refusal lines.old.items lines.new.items result
         × PipeRefused model.now.plan (formulas_of destinations.now) model.now.pieces.zones refusal }
 {
     match pipe(

@@ -45,7 +45,8 @@ fn print_sections(
 ) -> Result<(), WriteFault>
     requires valid { IsValid instance.now }
     requires cpit { cpit.now ≡ cpit_of instance.now }
-    ensures ok { OnOk result (sink.new.before ++ sink.new.taken ≡ (sink.old.before ++ sink.old.taken) ++ printed instance.now) }
+    ensures ok { OnOk result (sink.new.before ++ sink.new.taken
+        ≡ (sink.old.before ++ sink.old.taken) ++ printed instance.now) }
     ensures err { OnErr result (take (length sink.old.before) sink.new.before ≡ sink.old.before) }
 {
     sink.section(b"== blocks\n")?;

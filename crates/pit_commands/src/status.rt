@@ -3,7 +3,7 @@
 ghost use Rattle.std.specs.Io.KnownBytes.{Appends};
 ghost use Rattle.std.specs.Prelude.{◌≡◌, ◌≢◌, ◌⊎◌};
 ghost use Rattle.std.specs.Process.{exit_status};
-ghost use Rattle.pit_commands.specs.Output.{IsCutShort};
+ghost use Rattle.pit_commands.specs.Output.{IsAppendCut};
 
 use crate::output::write_whole;
 use std::io::Write;
@@ -39,7 +39,7 @@ pub fn finish<O: Write, E: Write>(
     ensures whole { status ≡ 0 → exit_status result ≡ 0
         → Appends (O.contents output.old) (O.contents output.new) text.now }
     ensures short { status ≡ 0 → exit_status result ≡ 3
-        → IsCutShort (O.contents output.old) (O.contents output.new) text.now }
+        → IsAppendCut (O.contents output.old) (O.contents output.new) text.now }
     ensures still { exit_status result ≡ 0 → errors.new ≡ errors.old }
 {
     if status != 0 {

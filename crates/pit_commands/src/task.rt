@@ -55,7 +55,9 @@ impl Task {
         ensures done { result ≡ 0 → IsTaskDone self.now text.old.items text.new.items }
         ensures quiet { result ≡ 0 → lines.new.items ≡ lines.old.items }
         ensures kept { result ≢ 0 → text.new.items ≡ text.old.items }
-        ensures refused { result ≢ 0 → IsTaskRefused self.now (formulas_of destinations.now) lines.old.items lines.new.items result }
+        ensures refused { result ≢ 0
+            → IsTaskRefused self.now (formulas_of destinations.now) lines.old.items lines.new.items
+            result }
     {
         match self {
             Task::Pipe(model) => run_pipe(rt, alloc, model, destinations, text, lines),

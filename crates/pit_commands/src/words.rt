@@ -20,7 +20,8 @@ pub fn words_of<R: Env + Alloc<A = Global>>(
     lines: &mut Vec<u8>,
 ) -> Result<Vec<String>, u8>
     ensures quiet { OnOk result (lines.new.items ≡ lines.old.items) }
-    ensures refused { IfErr result (EndsWith 2 (codes "command line: NotUtf8") lines.old.items lines.new.items) }
+    ensures refused { IfErr result
+        (EndsWith 2 (codes "command line: NotUtf8") lines.old.items lines.new.items) }
 {
     match env::args(rt) {
         Ok(words) => words.collect(alloc).map_err(|_| RESOURCES),

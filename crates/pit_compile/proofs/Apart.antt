@@ -3,7 +3,8 @@ use Rattle.std.proofs.Common.{◌≡◌, ◌<◌, ◌&&◌, ◌||◌, ◌==◌, 
 use Rattle.std.specs.Prelude.{count_by, slice_index_or, IfOk}
 use Rattle.std.proofs.lemmas.Bool.{and_parts, eqb-true}
 use Rattle.pit_model.specs.declared.block.Block.{Block}
-use Rattle.precedence.specs.Identifier.{NumberingView, IsNumbering, id, is_same_place}
+use Rattle.precedence.specs.Identifier.{id, is_same_place}
+use Rattle.precedence.specs.Numbering.{NumberingView, IsNumbering}
 use Rattle.pit_compile.specs.Verdict.{AreApart}
 
 -- the identifier of a block that would stand at this place

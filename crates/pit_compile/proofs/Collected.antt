@@ -11,7 +11,7 @@ use Rattle.collector.specs.Found.{row_at, end_at}
 use Rattle.collector.specs.CollectorView.{CollectorView}
 use Rattle.collector.specs.Lists.{AreLists}
 use Rattle.lane.specs.declared.message.Taken.{Taken}
-use Rattle.lane.specs.Message.{rows_in}
+use Rattle.lane.specs.MessageKinds.{rows_in}
 use Rattle.lane.specs.Whole.{GatheredView, IsWhole}
 use Rattle.pit_compile.proofs.HandedOn.{IsOf, row-of, end-of, all-of, complete}
 use Rattle.pit_compile.specs.Collecting.{joined}

@@ -2,16 +2,18 @@
 use Rattle.std.proofs.Common.{◌≡◌, ◌≤◌, ℕ, List, [], ◌∷◌, Bool, Option, None, Result, refl, sym, ◌∙◌, ap, subst, arith, length}
 use Rattle.std.specs.List.{flat_map}
 use Rattle.lane.specs.declared.message.Taken.{Taken}
-use Rattle.pit_model.specs.Destinations.{formulas_of_plan}
+use Rattle.pit_model.specs.PlanFormulas.{formulas_of_plan}
 use Rattle.pit_model.specs.Plan.{PlanParts}
 use Rattle.run_threads.specs.Reading.{AreRead}
 use Rattle.run_threads.specs.declared.read_fault.ReadFault.{ReadFault}
 use Rattle.valuers.specs.Valuing.{rows_by}
 use Rattle.rows.specs.declared.item.Valued.{Valued}
 use Rattle.pit_compile.specs.Answers.{refusal_in}
-use Rattle.pit_compile.specs.Compiled.{AreGiven, IsNotCompiled}
-use Rattle.pit_compile.specs.Rows.{fault_in, rows_of, sents_of, AreModelRows}
-use Rattle.pit_compile.specs.Verdict.{IsRepeat}
+use Rattle.pit_compile.specs.Compiled.{AreGiven}
+use Rattle.pit_compile.specs.Compiling.{IsNotCompiled}
+use Rattle.pit_compile.specs.ModelRows.{AreModelRows}
+use Rattle.pit_compile.specs.Rows.{fault_in, rows_of, sents_of}
+use Rattle.pit_compile.specs.Repeats.{IsRepeat}
 use Rattle.pit_compile.specs.declared.refusal.Refusal.{Refusal}
 use Rattle.pit_compile.specs.declared.refusal.Refusal.TheVariants.{Settings, NoThread, FeedFailed, TooLong, Row, Same, SinkFailed, OutOfMemory}
 use Rattle.pit_compile.proofs.Readers.{all_read}

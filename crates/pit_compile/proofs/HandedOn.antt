@@ -9,7 +9,8 @@ use Rattle.collector.specs.Complete.{Fits, IsComplete}
 use Rattle.collector.specs.Found.{is_row, is_end}
 use Rattle.lane.specs.declared.message.Taken.{Taken}
 use Rattle.lane.specs.declared.message.Taken.TheVariants.{Row, End, Stop, Quit}
-use Rattle.lane.specs.Message.{is_at, rows_in, IsEndedFrom}
+use Rattle.lane.specs.Message.{is_at, IsEndedFrom}
+use Rattle.lane.specs.MessageKinds.{rows_in}
 use Rattle.lane.specs.Whole.{GatheredView, IsSent, IsWhole}
 use Rattle.pit_compile.proofs.SentRows.{counted, rows-counted, row-sent, end-sent, ended-length}
 use Rattle.pit_compile.specs.Collecting.{joined}

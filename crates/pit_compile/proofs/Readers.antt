@@ -7,12 +7,14 @@ use Rattle.lane.specs.Message.{sent_from}
 use Rattle.lane.specs.declared.message.Taken.{Taken}
 use Rattle.pit_model.specs.declared.grid.Grid.{Grid}
 use Rattle.pit_model.specs.Plan.{PlanParts}
-use Rattle.run_threads.specs.Reading.{most_bytes, AreRead}
+use Rattle.run_threads.specs.MostBytes.{most_bytes}
+use Rattle.run_threads.specs.Reading.{AreRead}
 use Rattle.run_threads.specs.declared.read_fault.ReadFault.{ReadFault}
 use Rattle.run_threads.specs.declared.read_fault.ReadFault.TheVariants as read
 use Rattle.zone_csv.specs.Zone.{blocks_of, fault_of}
 use Rattle.pit_compile.specs.Answers.{refusal_in}
-use Rattle.pit_compile.specs.Compiled.{AreGiven, IsNotCompiled}
+use Rattle.pit_compile.specs.Compiled.{AreGiven}
+use Rattle.pit_compile.specs.Compiling.{IsNotCompiled}
 use Rattle.pit_compile.specs.Rows.{fault_in, file_fault, of_row, sents_from}
 use Rattle.pit_compile.specs.declared.settings.SettingsFault.{SettingsFault}
 use Rattle.pit_compile.specs.declared.refusal.Refusal.{Refusal}

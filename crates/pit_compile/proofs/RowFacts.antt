@@ -3,10 +3,10 @@ use Rattle.std.proofs.Common.{◌≡◌, ◌<◌, ◌≤◌, ◌+◌, ◌*◌, �
 use Rattle.std.specs.List.{flat_map}
 use Rattle.std.proofs.lemmas.List.Elements.{All-nil, All-cons, All-append, All-head, All-tail, All-weaker}
 use Rattle.lane.specs.Message.{sent_from}
-use Rattle.lane.specs.Message as message
+use Rattle.lane.specs.MessageKinds as message
 use Rattle.lane.specs.declared.message.Taken.TheVariants.{Row}
 use Rattle.std.proofs.lemmas.List.Sums.{sum_by-cons}
-use Rattle.pit_model.specs.Destinations.{formulas_of_plan}
+use Rattle.pit_model.specs.PlanFormulas.{formulas_of_plan}
 use Rattle.pit_model.specs.Plan.{PlanParts}
 use Rattle.pit_model.specs.declared.block.Block.{Block}
 use Rattle.pit_model.specs.declared.formula.Formula.{Formula}
@@ -15,7 +15,8 @@ use Rattle.rows.specs.Valued.{row_by, worths_by}
 use Rattle.valuers.specs.Valuing.{rows_by}
 use Rattle.rows.specs.declared.item.Valued.{Valued}
 use Rattle.zone_csv.specs.Zone.{blocks_of}
-use Rattle.pit_compile.specs.Rows.{rows_from, rows_in, rows_of, sents_from, HasPlace, AreModelRows}
+use Rattle.pit_compile.specs.ModelRows.{HasPlace, AreModelRows}
+use Rattle.pit_compile.specs.Rows.{rows_from, rows_in, rows_of, sents_from}
 
 -- the rows of a file have its blocks, in its order
 rows_keep : (P : Valued → Type 0) (formulas : List Formula) (file : ℕ) (Q : Block → Type 0)

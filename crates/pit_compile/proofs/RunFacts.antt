@@ -1,9 +1,10 @@
 -- What the two halves of a run say of it.
 use Rattle.std.proofs.Common.{◌≡◌, ℕ, inr, Bool, List, Option, subst}
 use Rattle.pit_model.specs.Plan.{PlanParts}
-use Rattle.pit_compile.specs.Compiled.{IsCompiled}
+use Rattle.pit_compile.specs.Compiling.{IsCompiled}
 use Rattle.pit_compile.specs.Run.{IsRefused}
-use Rattle.pit_compile.specs.Sinks.{AreCutOff, AreCutOffAt, place_of, minelib_texts}
+use Rattle.pit_compile.specs.SinkAnswers.{AreCutOff}
+use Rattle.pit_compile.specs.Sinks.{AreCutOffAt, place_of, minelib_texts}
 use Rattle.minelib_text.specs.SinkState.{SinkState}
 use Rattle.mine_instance.specs.declared.instance.Instance.{Instance}
 use Rattle.pit_compile.specs.declared.compiling.Compiled.{Compiled}

@@ -8,7 +8,8 @@ use Rattle.pit_model.specs.declared.block.Block.{Block}
 use Rattle.pit_model.specs.declared.formula.Formula.{Formula}
 use Rattle.lane.specs.declared.message.Taken.{Taken}
 use Rattle.lane.specs.declared.message.Taken.TheVariants.{Row, End, Stop, Quit}
-use Rattle.lane.specs.Message.{is_row, rows_in, IsEndedFrom}
+use Rattle.lane.specs.Message.{IsEndedFrom}
+use Rattle.lane.specs.MessageKinds.{is_row, rows_in}
 use Rattle.rows.specs.Valued.{row_by}
 use Rattle.valuers.specs.Valuing.{rows_by}
 use Rattle.rows.specs.declared.item.Valued.{Valued}

@@ -1,9 +1,13 @@
 pub mod Answers
 pub mod Collecting
 pub mod Compiled
+pub mod Compiling
 pub mod FaultText
+pub mod ModelRows
+pub mod Repeats
 pub mod Rows
 pub mod Run
 pub mod Settings
+pub mod SinkAnswers
 pub mod Sinks
 pub mod Verdict

@@ -1,20 +1,19 @@
 -- The rows of the zone files, valued, what their readers send, and the first fault among the files.
-use Rattle.std.specs.Prelude.{◌≡◌, ℕ, ◌+◌, ◌<◌, ◌≤◌, List, [], ◌∷◌, ◌++◌, length, nat_lt, Option, Some, None, if◌then◌else◌, All}
+use Rattle.std.specs.Prelude.{ℕ, ◌+◌, List, [], ◌∷◌, ◌++◌, length, nat_lt, Option, Some, None, if◌then◌else◌}
 use Rattle.lane.specs.Message.{sent_from}
 use Rattle.lane.specs.declared.message.Taken.{Taken}
-use Rattle.pit_model.specs.Destinations.{formulas_of_plan}
+use Rattle.pit_model.specs.PlanFormulas.{formulas_of_plan}
 use Rattle.pit_model.specs.Plan.{PlanParts}
 use Rattle.pit_model.specs.declared.block.Block.{Block}
 use Rattle.pit_model.specs.declared.formula.Formula.{Formula}
 use Rattle.pit_model.specs.declared.grid.Grid.{Grid}
-use Rattle.run_threads.specs.Reading.{most_bytes}
-use Rattle.rows.specs.Valued.{row_by, worths_by}
+use Rattle.run_threads.specs.MostBytes.{most_bytes}
+use Rattle.rows.specs.Valued.{row_by}
 use Rattle.rows.specs.declared.item.Valued.{Valued}
 use Rattle.zone_csv.specs.Zone.{blocks_of, fault_of}
 use Rattle.zone_csv.specs.declared.row_fault.RowFault.{RowFault}
 use Rattle.pit_compile.specs.declared.refusal.Refusal.{Refusal}
 use Rattle.pit_compile.specs.declared.refusal.Refusal.TheVariants.{TooLong, Row}
-use Rattle.pit_model.specs.declared.ranges.TheConstants.{MAX_BLOCKS, MAX_ROWS}
 
 -- the rows of these blocks of a file, the first of them at place n, each with its worth by each formula
 abbrev pub rows_from : List Block → List Formula → ℕ → ℕ → List Valued
@@ -38,17 +37,6 @@ sents_from n grid (text ∷ texts) = sent_from n 0 (blocks_of grid n text) ∷ s
 -- what each zone file of a model sends
 abbrev pub sents_of : PlanParts → List (List ℕ) → List (List Taken)
 sents_of plan texts = sents_from 0 plan.grid texts
-
--- the place of a row is one of its file's
-abbrev pub HasPlace : Valued → Type 0
-HasPlace row = row.place < MAX_ROWS
-
--- these are rows as the zone files of a plan can have them
-pub record AreModelRows (plan : PlanParts) (rows : List Valued) : Type 0 where
-  pub few : length rows ≤ MAX_BLOCKS
-  pub placed : All HasPlace rows
-  pub zones : All (λ row. row.block.zone < length plan.cones) rows
-  pub valued : All (λ row. row.worths ≡ worths_by (formulas_of_plan plan) row.block) rows
 
 -- a row's fault as the file's
 abbrev pub of_row : ℕ → Option RowFault → Option Refusal

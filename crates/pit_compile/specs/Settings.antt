@@ -1,6 +1,6 @@
 -- Whether the settings of a run fit its plan, for so many zone files and these formulas of the destinations.
 use Rattle.std.specs.Prelude.{◌≡◌, ◌≢◌, ℕ, ◌≤◌, List, length}
-use Rattle.pit_model.specs.Destinations.{formulas_of_plan}
+use Rattle.pit_model.specs.PlanFormulas.{formulas_of_plan}
 use Rattle.pit_model.specs.Plan.{PlanParts}
 use Rattle.pit_model.specs.declared.formula.Formula.{Formula}
 use Rattle.pit_compile.specs.declared.settings.Settings.{Settings}

@@ -32,17 +32,6 @@ pub record IsFirstRepeat (rows : List Valued) (first again : RowAt) : Type 0 whe
   pub first_row : IsRowAt rows earlier first
   pub again_row : IsRowAt rows later again
 
--- the refusal names the first repetition; of memory nothing is known
-abbrev pub IsRepeat : List Valued → Refusal → Type 0
-IsRepeat rows (Same first again) = IsFirstRepeat rows first again
-IsRepeat rows OutOfMemory = Unit {0}
-IsRepeat rows (Settings kind) = ⊥
-IsRepeat rows NoThread = ⊥
-IsRepeat rows (FeedFailed file) = ⊥
-IsRepeat rows (TooLong file) = ⊥
-IsRepeat rows (Row file fault) = ⊥
-IsRepeat rows (SinkFailed which) = ⊥
-
 -- refused: the fault of the least file that has one; or, where none has, the first repetition
 abbrev pub IsRefusedBy : PlanParts → List (List ℕ) → Refusal → Type 0
 IsRefusedBy plan texts (TooLong file) = fault_in texts plan.grid 0 ≡ Some (TooLong file)

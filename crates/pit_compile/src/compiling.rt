@@ -2,11 +2,12 @@
 
 ghost use Rattle.std.specs.Prelude.{◌≡◌, ◌≢◌, ◌↔◌, ◌+◌, ◌≤◌, Err, length, map, IfErr, IfOk, IsFalse};
 ghost use Rattle.mine_instance.specs.Valid.{IsValid};
-ghost use Rattle.pit_compile.specs.Compiled.{IsCompiled, IsNotCompiled};
+ghost use Rattle.pit_compile.specs.Compiling.{IsCompiled, IsNotCompiled};
 ghost use Rattle.pit_compile.specs.Settings.{IsSettingsFault};
 ghost use Rattle.pit_compile.specs.declared.settings.SettingsFault.{SettingsFault as ASettingsFault};
 ghost use Rattle.lane.specs.Whole.{IsWhole};
-ghost use Rattle.pit_model.specs.Destinations.{formulas_of, formulas_of_plan};
+ghost use Rattle.pit_model.specs.Destinations.{formulas_of};
+ghost use Rattle.pit_model.specs.PlanFormulas.{formulas_of_plan};
 ghost use Rattle.pit_model.specs.declared.ranges.TheConstants.{MAX_ZONES};
 ghost use Rattle.run_threads.specs.Reading.{AreRead};
 ghost use Rattle.valuers.specs.Valuing.{items_by};

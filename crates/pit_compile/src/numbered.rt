@@ -1,9 +1,11 @@
 //! The numbering of the rows of a model.
 
 ghost use Rattle.std.specs.Prelude.{◌<◌, ◌≤◌, length, All, IfErr, IfOk};
-ghost use Rattle.precedence.specs.Identifier.{blocks_of_rows, IsNumbering};
-ghost use Rattle.pit_compile.specs.Rows.{HasPlace};
-ghost use Rattle.pit_compile.specs.Verdict.{IsRepeat, IsRowAt};
+ghost use Rattle.precedence.specs.Identifier.{blocks_of_rows};
+ghost use Rattle.precedence.specs.Numbering.{IsNumbering};
+ghost use Rattle.pit_compile.specs.ModelRows.{HasPlace};
+ghost use Rattle.pit_compile.specs.Repeats.{IsRepeat};
+ghost use Rattle.pit_compile.specs.Verdict.{IsRowAt};
 ghost use Rattle.pit_model.specs.declared.ranges.TheConstants.{MAX_BLOCKS};
 
 use crate::refusal::{Refusal, RowAt};

@@ -3,7 +3,8 @@
 ghost use Rattle.std.specs.Prelude.{◌≡◌, ◌↔◌, Err, IsTrue, IfErr, OnOk, length, map};
 ghost use Rattle.pit_compile.specs.Settings.{IsSettingsFault, Suits};
 ghost use Rattle.pit_compile.specs.declared.settings.SettingsFault.{SettingsFault as ASettingsFault};
-ghost use Rattle.pit_model.specs.Destinations.{formulas_of, formulas_of_plan};
+ghost use Rattle.pit_model.specs.Destinations.{formulas_of};
+ghost use Rattle.pit_model.specs.PlanFormulas.{formulas_of_plan};
 
 use pit_model::destination::Destination;
 use pit_model::formula::{Formula, NamedFormula};

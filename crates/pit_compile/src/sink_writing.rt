@@ -3,7 +3,8 @@
 ghost use Rattle.std.specs.Prelude.{◌≡◌, IfErr, OnOk};
 ghost use Rattle.mine_instance.specs.OfCpit.{cpit};
 ghost use Rattle.mine_instance.specs.Valid.{IsValid};
-ghost use Rattle.pit_compile.specs.Sinks.{all_told, in_sink, minelib_texts, AreCutOff, AreWritten};
+ghost use Rattle.pit_compile.specs.SinkAnswers.{in_sink, AreCutOff};
+ghost use Rattle.pit_compile.specs.Sinks.{all_told, minelib_texts, AreWritten};
 
 use crate::refusal::{Refusal, SinkName};
 use crate::sinks::Sinks;

@@ -8,7 +8,8 @@ use Rattle.std.specs.List.{filter, last_or, slice_get, AllAdjacentBelow, AllWith
 use Rattle.std.specs.List.Sorted.{IsPartitionPoint, IsPartitionedBy}
 use Rattle.std.specs.Option.{option_map_or}
 use Rattle.std.proofs.Math.Bool.{and-false}
-use Rattle.pit_model.specs.Bands.{starts_rise, recovery_at}
+use Rattle.pit_model.specs.Bands.{recovery_at}
+use Rattle.pit_model.specs.BandsKept.{starts_rise}
 use Rattle.pit_model.specs.declared.band.Band.{Band}
 
 -- neighbours that rise are bands that rise

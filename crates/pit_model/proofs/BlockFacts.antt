@@ -2,7 +2,8 @@
 use Rattle.std.specs.Prelude.{◌≡◌, ℕ, ◌<◌, ◌≤◌, ◌^◌, min}
 use Rattle.std.proofs.Common.{subst, arith}
 use Rattle.std.proofs.Math.Bridge.{le_prop}
-use Rattle.pit_model.specs.Block.{AreInRange, HasParts, block_with}
+use Rattle.pit_model.specs.Block.{block_with}
+use Rattle.pit_model.specs.BlockParts.{AreInRange, HasParts}
 use Rattle.pit_model.specs.declared.block.Block.{Block}
 
 -- a number and that it is in range, however that is shown

@@ -6,7 +6,8 @@ use Rattle.std.proofs.lemmas.List.{take_more, take_all, length-map, length-take-
 use Rattle.std.proofs.Math.ListN.{get_or-map}
 use Rattle.csv.proofs.RecordFacts.{field-get}
 use Rattle.csv.specs.Records.{field_at}
-use Rattle.pit_model.specs.Cells.{is_blank, without_trailing_blanks, without_empty_end, trimmed, cells_of, cell_at}
+use Rattle.pit_model.specs.Cells.{is_blank, without_trailing_blanks, trimmed}
+use Rattle.pit_model.specs.RecordCells.{without_empty_end, cells_of, cell_at}
 
 -- a list is what stands before its last element, and that
 pub split_last : {A : Type 0} (xs : List A) (d : A) → 0 < length xs → take (length xs - 1) xs ++ get_or xs (length xs - 1) d ∷ [] ≡ xs

@@ -10,7 +10,7 @@ use Rattle.std.proofs.lemmas.List.Sorted.{IsPermutation-insert}
 use Rattle.std.specs.List.Sorted.{IsPermutation}
 use Rattle.std.proofs.lemmas.List.Sums.{prefix_len-le-length}
 use Rattle.std.proofs.lemmas.Bool.{or_parts}
-use Rattle.pit_model.specs.Plan.{stands_before, RiseStrictly}
+use Rattle.pit_model.specs.PlanKept.{stands_before, RiseStrictly}
 use Rattle.pit_model.specs.Stated.{with_limit, is_same_place}
 use Rattle.pit_model.specs.declared.limit.Limit.{Limit}
 

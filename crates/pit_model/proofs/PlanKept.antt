@@ -6,13 +6,16 @@ use Rattle.std.proofs.lemmas.List.Quantifiers.{position-Some}
 use Rattle.std.specs.List.{list_any}
 use Rattle.std.specs.Str.{bytes_eq}
 use Rattle.forms.proofs.FormFacts.{spelled_fit}
-use Rattle.forms.specs.Form.{Field, Word, Value, is_fine, Millionths, Bytes, Fit, FitsField, millionths, number_at, whole_at}
-use Rattle.forms.specs.Grammar.{AllState}
-use Rattle.forms.specs.Shape.{Check, Shape, States, check, failing}
-use Rattle.pit_model.specs.Bands.{AreBands, IsBand, starts_rise}
-use Rattle.pit_model.specs.Cells.{cell_at, cells_of}
+use Rattle.forms.specs.Field.{Field, Word, Value, Millionths, Bytes, millionths, number_at, whole_at}
+use Rattle.forms.specs.Fit.{is_fine, Fit, FitsField}
+use Rattle.forms.specs.GrammarStates.{AllState}
+use Rattle.forms.specs.Shape.{Check, Shape, check, failing}
+use Rattle.forms.specs.ShapeStates.{States}
+use Rattle.pit_model.specs.BandsKept.{AreBands, IsBand, starts_rise}
+use Rattle.pit_model.specs.RecordCells.{cell_at, cells_of}
 use Rattle.pit_model.specs.DraftFields.{KeepsStated}
-use Rattle.pit_model.specs.Plan.{plan_of, AreCovers, AreTonnes, IsBound, IsCone, IsGrid, IsPlan, IsRuled, IsSlope, IsTonnes, PlanParts, RiseStrictly, has_repeat, is_turned}
+use Rattle.pit_model.specs.Plan.{PlanParts}
+use Rattle.pit_model.specs.PlanKept.{plan_of, AreCovers, AreTonnes, IsBound, IsCone, IsGrid, IsPlan, IsRuled, IsSlope, IsTonnes, RiseStrictly, has_repeat, is_turned}
 use Rattle.pit_model.specs.PlanCells.{a_cost, a_name, a_period_count, a_price, a_rate, a_recovery, a_start, tonnes, word_at, word_of}
 use Rattle.pit_model.specs.PlanShapes.{a_destination, bands_asked, bands_form, bands_of, blank_shape, bound_form, bound_of, cone_of, covers_of, grid_form, grid_of, is_interval, key_of, key_shape, leach_form, limit_form, limit_of, record_shape, resource_form, room_for_destination, slope_at, zone_form}
 use Rattle.pit_model.specs.Planned.{SpellPlan, numbered_shape, plan_grammar, whole_plan}

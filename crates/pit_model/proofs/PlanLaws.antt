@@ -2,7 +2,8 @@
 use Rattle.std.specs.Prelude.{◌≡◌, ℕ, ◌+◌, List, length, Result, Ok, Err, ◌⊎◌}
 use Rattle.std.proofs.Common.{refl, sym, ◌∙◌, ap, inl, inr}
 use Rattle.forms.proofs.GrammarFacts.{all_read, fault_read, read_all_states, read_first_fault}
-use Rattle.forms.specs.Grammar.{AllState, IsFirstFault, read_all}
+use Rattle.forms.specs.Grammar.{read_all}
+use Rattle.forms.specs.GrammarStates.{AllState, IsFirstFault}
 use Rattle.forms.specs.Steps.{◌>>=◌}
 use Rattle.pit_model.specs.Plan.{PlanParts}
 use Rattle.pit_model.specs.Planned.{IsLacking, SpellPlan, finished, finished_at, plan_grammar, planned}

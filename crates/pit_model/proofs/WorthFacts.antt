@@ -6,8 +6,8 @@ use Rattle.std.proofs.lemmas.Nat.{mul-le, div-add-mod', mod_below}
 use Rattle.std.specs.Prelude.{ℤ, pos, negsuc, ◌-ℤ◌, neg_ℤ, unsigned_abs}
 use Rattle.std.specs.List.{filter, last_or}
 use Rattle.std.specs.Option.{option_map_or}
-use Rattle.pit_model.specs.Bands.{IsBand}
-use Rattle.pit_model.specs.Plan.{IsRuled}
+use Rattle.pit_model.specs.BandsKept.{IsBand}
+use Rattle.pit_model.specs.PlanKept.{IsRuled}
 use Rattle.pit_model.specs.Worth.{floor, IsFloor, worth, IsWorth}
 use Rattle.pit_model.specs.declared.band.Band.{Band}
 use Rattle.pit_model.specs.declared.block.Block.{Block}

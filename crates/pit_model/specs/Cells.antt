@@ -1,5 +1,5 @@
 -- The cells of a record as plans and zone files see them: without the blanks at both ends.
-use Rattle.std.specs.Prelude.{ℕ, Bool, List, [], ◌∷◌, ◌==◌, ◌&&◌, ◌||◌, length, map, if◌then◌else◌, slice_index_or}
+use Rattle.std.specs.Prelude.{ℕ, Bool, List, [], ◌∷◌, ◌==◌, ◌&&◌, ◌||◌, length, if◌then◌else◌}
 use Rattle.std.specs.Str.{str_eq_ignore_ascii_case}
 
 -- a space or a tab
@@ -20,20 +20,6 @@ without_trailing_blanks (b ∷ bytes) =
 -- a cell without the blanks at both ends
 abbrev pub trimmed : List ℕ → List ℕ
 trimmed cell = without_trailing_blanks (without_leading_blanks cell)
-
--- the cells without the empty ones at the end of the record, since spreadsheets pad records
-abbrev pub without_empty_end : List (List ℕ) → List (List ℕ)
-without_empty_end [] = []
-without_empty_end (c ∷ cells) =
-    if (length (without_empty_end cells) == 0) && (length c == 0) then [] else c ∷ without_empty_end cells
-
--- the cells of a record of a plan
-abbrev pub cells_of : List (List ℕ) → List (List ℕ)
-cells_of record_cells = without_empty_end (map trimmed record_cells)
-
--- the cell at a place
-abbrev pub cell_at : List (List ℕ) → ℕ → List ℕ
-cell_at cells i = slice_index_or cells i []
 
 -- a cell that is this word, its letters in any case
 abbrev pub is_word : List ℕ → List ℕ → Bool

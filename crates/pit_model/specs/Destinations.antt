@@ -5,6 +5,7 @@ use Rattle.std.specs.declared.dyn_box.DynBox.{DynBox}
 use Rattle.pit_model.specs.Plan.{PlanParts}
 use Rattle.pit_model.specs.declared.destination.Destination.{Destination}
 use Rattle.pit_model.specs.declared.formula.Formula.{Formula}
+use Rattle.pit_model.specs.PlanFormulas.{formulas_of_plan}
 
 -- the formula by which a destination values blocks
 abbrev pub formula_of : {I : _} {F : _} {g : _} → Destination I F g → Formula
@@ -17,10 +18,6 @@ valuer_of d = d.valuer
 -- the formulas of a list of destinations, in its order
 abbrev pub formulas_of : {I : _} {F : _} {g : _} → List (Destination I F g) → List Formula
 formulas_of destinations = map formula_of destinations
-
--- the formulas of a plan's destinations, in its order
-abbrev pub formulas_of_plan : PlanParts → List Formula
-formulas_of_plan plan = map (λ f. f.formula) plan.formulas
 
 -- the destinations are the plan's: their formulas are, in order
 abbrev pub AreOfPlan : {I : _} {F : _} {g : _} → List (Destination I F g) → PlanParts → Type 0

@@ -4,7 +4,7 @@ use Rattle.std.proofs.lemmas.Bool.{and_parts, eqb-true}
 use Rattle.std.specs.Bool.{Decides, one_answer, IsTrue}
 use Rattle.std.specs.Cmp.{IsEquivalence}
 use Rattle.std.specs.Cmp.Lexicographic.{pointwise_decides}
-use Rattle.pit_model.specs.Bands.{band_eq, bands_eq}
+use Rattle.pit_model.specs.BandsKept.{band_eq, bands_eq}
 use Rattle.pit_model.specs.Formula.{formula_eq}
 use Rattle.pit_model.specs.declared.band.Band.{Band}
 use Rattle.pit_model.specs.declared.formula.Formula.{Formula}

@@ -1,6 +1,6 @@
 -- Formulas beside one another.
 use Rattle.std.specs.Prelude.{Bool, false, ◌&&◌, ◌==◌}
-use Rattle.pit_model.specs.Bands.{bands_eq}
+use Rattle.pit_model.specs.BandsKept.{bands_eq}
 use Rattle.pit_model.specs.declared.formula.Formula.{Formula}
 use Rattle.pit_model.specs.declared.formula.Formula.TheVariants.{Mill, Leach, Dump}
 

@@ -1,6 +1,8 @@
 pub mod Admits
 pub mod Bands
+pub mod BandsKept
 pub mod Block
+pub mod BlockParts
 pub mod ByPlace
 pub mod Cells
 pub mod Count
@@ -13,8 +15,12 @@ pub mod Name
 pub mod Plan
 pub mod PlanCells
 pub mod PlanFields
+pub mod PlanFormulas
+pub mod PlanKept
 pub mod PlanShapes
 pub mod Planned
+pub mod RecordCells
+pub mod RecordReader
 pub mod Records
 pub mod RecordsAhead
 pub mod Ruled

@@ -2,7 +2,7 @@
 use Rattle.std.specs.Prelude.{ℕ, ◌*◌, ◌^◌, List, [], slice_index_or, ℤ, pos, ◌*ℤ◌}
 use Rattle.forms.specs.FieldFault.{FieldFault}
 use Rattle.forms.specs.FieldFault as fault
-use Rattle.forms.specs.Form.{Field, Decimal, Word, Value, Millionths, Bytes, up_to}
+use Rattle.forms.specs.Field.{Field, Decimal, Word, Value, Millionths, Bytes, up_to}
 use Rattle.pit_model.specs.Name.{is_name}
 use Rattle.pit_model.specs.declared.plan_fault.PlanFaultKind.{PlanFaultKind}
 use Rattle.pit_model.specs.declared.plan_fault.PlanFaultKind.TheVariants.{Width, Number, TooFine, Range, Name}

@@ -1,6 +1,7 @@
 -- How a plan's fields are seen as its parts.
 use Rattle.pit_model.specs.declared.plan.Plan.TheInside.{Inside}
-use Rattle.pit_model.specs.Plan.{PlanParts, IsPlan}
+use Rattle.pit_model.specs.Plan.{PlanParts}
+use Rattle.pit_model.specs.PlanKept.{IsPlan}
 
 abbrev pub parts_of : Inside → PlanParts
 parts_of p = record {

@@ -2,11 +2,12 @@
 use Rattle.std.specs.Prelude.{ℕ, zero, suc, ◌+◌, ◌-◌, ◌/◌, ◌^◌, ◌==◌, ◌||◌, Bool, true, false, not, nat_le, List, [], ◌∷◌, ◌++◌, length, drop, map, replicate, pos, unsigned_abs, int_div, Option, Some, None, is_some, unwrap_or, codes, if◌then◌else◌}
 use Rattle.std.specs.List.{list_any}
 use Rattle.std.specs.Str.{bytes_eq}
-use Rattle.forms.specs.Form.{Field, Word, Value, below, millionths, number_at, whole_at}
+use Rattle.forms.specs.Field.{Field, Word, Value, below, millionths, number_at, whole_at}
 use Rattle.forms.specs.Shape.{Check, Shape, check}
-use Rattle.pit_model.specs.Bands.{starts_rise}
-use Rattle.pit_model.specs.Cells.{cell_at, is_word}
-use Rattle.pit_model.specs.Plan.{has_repeat, is_turned}
+use Rattle.pit_model.specs.BandsKept.{starts_rise}
+use Rattle.pit_model.specs.Cells.{is_word}
+use Rattle.pit_model.specs.RecordCells.{cell_at}
+use Rattle.pit_model.specs.PlanKept.{has_repeat, is_turned}
 use Rattle.pit_model.specs.PlanCells.{plan_kind, word_at, word_of, a_cost, a_leg, a_name, a_period_count, a_price, a_rate, a_recovery, a_size, a_start, an_origin, benches, tonnes}
 use Rattle.pit_model.specs.Stated.{Stated, destination_named, resource_named, with_destination, with_zone, with_resource, is_same_place, with_limit}
 use Rattle.pit_model.specs.declared.band.Band.{Band}

@@ -1,10 +1,12 @@
 -- The plan that a text states: what its records state in turn, once each part that must be there is.
 use Rattle.std.specs.Prelude.{◌≡◌, ℕ, ◌+◌, ◌==◌, ◌||◌, nat_le, List, ◌++◌, length, ℤ, Option, Some, Result, Ok, Err, if◌then◌else◌}
-use Rattle.forms.specs.Grammar.{Grammar, AllState, read_all}
+use Rattle.forms.specs.Grammar.{Grammar, read_all}
+use Rattle.forms.specs.GrammarStates.{AllState}
 use Rattle.forms.specs.Shape.{Shape, check}
 use Rattle.forms.specs.Steps.{◌>>=◌}
-use Rattle.pit_model.specs.Cells.{cells_of}
-use Rattle.pit_model.specs.Plan.{PlanParts, plan_of}
+use Rattle.pit_model.specs.RecordCells.{cells_of}
+use Rattle.pit_model.specs.Plan.{PlanParts}
+use Rattle.pit_model.specs.PlanKept.{plan_of}
 use Rattle.pit_model.specs.PlanShapes.{record_shape}
 use Rattle.pit_model.specs.Records.{records_of}
 use Rattle.pit_model.specs.Stated.{Stated, nothing_stated}

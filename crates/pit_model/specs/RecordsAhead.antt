@@ -5,7 +5,7 @@ use Rattle.csv.specs.Reading.{Ready, default_config, is_flexible, names_headers,
 use Rattle.csv.specs.declared.parser.State.{State}
 use Rattle.csv.specs.declared.reader.Reader.{Reader}
 use Rattle.csv.specs.declared.reader.Trim.TheVariants as trim
-use Rattle.pit_model.specs.Records.{RecordReaderView, Rows, Over, GaveUp}
+use Rattle.pit_model.specs.RecordReader.{RecordReaderView, Rows, Over, GaveUp}
 use Rattle.pit_model.specs.declared.records.Stage.{Stage}
 use Rattle.pit_model.specs.declared.records.Stage.TheVariants as stage
 

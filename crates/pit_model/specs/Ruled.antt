@@ -1,6 +1,6 @@
 -- There is one proof at most that a formula's numbers are in range, so a destination may keep it.
 use Rattle.std.proofs.Props.{props}
-use Rattle.pit_model.specs.Plan.{IsRuled}
+use Rattle.pit_model.specs.PlanKept.{IsRuled}
 use Rattle.pit_model.specs.declared.formula.Formula.{Formula}
 use Rattle.pit_model.specs.declared.formula.Formula.TheVariants.{Mill, Leach, Dump}
 

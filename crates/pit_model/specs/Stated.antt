@@ -1,7 +1,7 @@
 -- What the records of a plan state so far.
 use Rattle.std.specs.Prelude.{ℕ, ◌==◌, ◌&&◌, Bool, List, [], ◌∷◌, ◌++◌, position, ℤ, Option, None, if◌then◌else◌}
 use Rattle.std.specs.Str.{bytes_eq}
-use Rattle.pit_model.specs.Plan.{stands_before}
+use Rattle.pit_model.specs.PlanKept.{stands_before}
 use Rattle.pit_model.specs.declared.cone.Cone.{Cone}
 use Rattle.pit_model.specs.declared.formula.Formula.{Formula}
 use Rattle.pit_model.specs.declared.formula.NamedFormula.{NamedFormula}

@@ -1,7 +1,8 @@
 //! The bands of a heap leach: how much of the metal is recovered at which grade.
 
 ghost use Rattle.std.specs.Prelude.{◌≡◌, ◌≤◌, ◌↔◌, IsTrue, IsSome, IfSome, IfOk, All, true, length, take, nat_le, filter};
-ghost use Rattle.pit_model.specs.Bands.{IsBand, AreBands, starts_rise, recovery_at};
+ghost use Rattle.pit_model.specs.Bands.{recovery_at};
+ghost use Rattle.pit_model.specs.BandsKept.{IsBand, AreBands, starts_rise};
 ghost use Rattle.pit_model.specs.declared.ranges.TheConstants.{MAX_RECOVERY};
 
 use crate::ranges::{MAX_BANDS, MAX_GRADE, MAX_RECOVERY};
@@ -29,7 +30,7 @@ impl Model for Bands {
 
     ghost Value = { List Band };
 
-    ghost use Rattle.pit_model.specs.Bands.{AreBands};
+    ghost use Rattle.pit_model.specs.BandsKept.{AreBands};
 
     ghost view = { λ b. b.bands.items };
 
@@ -95,7 +96,7 @@ pub fn starts_rise(bands: &[Band]) -> bool
 impl PartialEq for Bands {
     ghost use Rattle.std.specs.Prelude.{◌≡◌, ◌↔◌, IsTrue};
     ghost use Rattle.std.specs.Cmp.{partial_equiv_from_equiv};
-    ghost use Rattle.pit_model.specs.Bands.{bands_eq};
+    ghost use Rattle.pit_model.specs.BandsKept.{bands_eq};
     ghost use Rattle.pit_model.specs.Equality.{bands_equivalence};
 
     ghost eq = { bands_eq };

@@ -3,9 +3,9 @@
 ghost use Rattle.std.specs.Prelude.{◌≡◌, ◌+◌, ◌-◌, ◌/◌, ◌%◌, ◌≤◌, suc, length, pos, unsigned_abs, All, OnOk, IfOk};
 ghost use Rattle.csv.specs.Records.{fields_of};
 ghost use Rattle.pit_model.specs.Admits.{Admits};
-ghost use Rattle.pit_model.specs.Bands.{IsBand};
+ghost use Rattle.pit_model.specs.BandsKept.{IsBand};
 ghost use Rattle.pit_model.specs.ByPlace.{band_by, bands_in};
-ghost use Rattle.pit_model.specs.Cells.{cells_of};
+ghost use Rattle.pit_model.specs.RecordCells.{cells_of};
 
 use crate::band::Band;
 use crate::cells::cell_at;
@@ -35,9 +35,11 @@ pub fn read_bands(row: &ByteRecord, count: usize, bands: &mut Vec<Band>) -> Resu
     requires pairs { count % 2 ≡ 0 }
     requires some { 6 ≤ count }
     requires in_range { All IsBand bands.old.items }
-    ensures reads { Admits bands.new.items result (bands_in 4 (suc ((count - 6) / 2)) (cells_of (fields_of row.now)) bands.old.items) }
+    ensures reads { Admits bands.new.items result
+        (bands_in 4 (suc ((count - 6) / 2)) (cells_of (fields_of row.now)) bands.old.items) }
     ensures in_range { All IsBand bands.new.items }
-    ensures counted { OnOk result (length bands.new.items ≡ length bands.old.items + (count / 2 - 2)) }
+    ensures counted { OnOk result
+        (length bands.new.items ≡ length bands.old.items + (count / 2 - 2)) }
 {
     for pair in 2..count / 2 {
         let band = band_in(cell_at(row, 2 * pair), cell_at(row, 2 * pair + 1))?;

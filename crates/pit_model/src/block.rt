@@ -30,7 +30,7 @@ pub struct Block {
 }
 
 impl Block {
-    ghost use Rattle.pit_model.specs.Block.{AreInRange, HasParts};
+    ghost use Rattle.pit_model.specs.BlockParts.{AreInRange, HasParts};
 
     /// The block of these fields, or `None` where one is out of its range.
     pub fn new(x: u16, y: u16, z: u16, kg: u64, grade: u64, zone: u8) -> Option<Block>

@@ -2,7 +2,8 @@
 
 ghost use Rattle.std.specs.Prelude.{◌≡◌, ◌+◌, ◌<◌, ◌==◌, length};
 ghost use Rattle.csv.specs.Records.{fields_of};
-ghost use Rattle.pit_model.specs.Cells.{is_blank, without_leading_blanks, without_trailing_blanks, trimmed, cells_of, cell_at, is_word};
+ghost use Rattle.pit_model.specs.Cells.{is_blank, without_leading_blanks, without_trailing_blanks, trimmed, is_word};
+ghost use Rattle.pit_model.specs.RecordCells.{cells_of, cell_at};
 
 use csv::ByteRecord;
 

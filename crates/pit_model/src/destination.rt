@@ -1,7 +1,7 @@
 //! A destination: a formula, and the stored closure that values blocks by it.
 
 ghost use Rattle.std.specs.Prelude.{◌≡◌, ℤ};
-ghost use Rattle.pit_model.specs.Plan.{IsRuled};
+ghost use Rattle.pit_model.specs.PlanKept.{IsRuled};
 ghost use Rattle.pit_model.specs.Ruled.{IsRuled-prop};
 ghost use Rattle.pit_model.specs.Worth.{worth, IsWorth};
 ghost use Rattle.pit_model.specs.declared.block.Block.{Block as ABlock};

@@ -3,10 +3,11 @@
 ghost use Rattle.std.specs.Prelude.{◌≡◌, ◌≤ℤ◌, ◌^◌, ◌<◌, ◌≤◌, pos, length, unwrap_or, All, IfOk, ◌++◌, Ok};
 ghost use Rattle.csv.specs.Records.{fields_of};
 ghost use Rattle.pit_model.specs.Admits.{Admits};
-ghost use Rattle.pit_model.specs.Bands.{IsBand};
-ghost use Rattle.pit_model.specs.Cells.{cells_of};
-ghost use Rattle.pit_model.specs.Plan.{AreTonnes, IsRuled};
-ghost use Rattle.forms.specs.Form.{Millionths, read_field};
+ghost use Rattle.pit_model.specs.BandsKept.{IsBand};
+ghost use Rattle.pit_model.specs.RecordCells.{cells_of};
+ghost use Rattle.pit_model.specs.PlanKept.{AreTonnes, IsRuled};
+ghost use Rattle.forms.specs.Field.{Millionths};
+ghost use Rattle.forms.specs.Read.{read_field};
 ghost use Rattle.forms.specs.Shape.{failing, said, unless};
 ghost use Rattle.pit_model.specs.ByPlace.{Gives, key_by_place, leach_in, limit_in, limited, resource_in, said_by_place, zone_in};
 ghost use Rattle.pit_model.specs.PlanCells.{a_rate, plan_kind};
@@ -88,7 +89,8 @@ impl Draft {
     /// Adds what the next record says. Where it has a fault, or memory is refused, the draft is of no use.
     #[tactic(auto, using(crate::proofs::CellsByPlace::recorded))]
     pub fn admit(&mut self, row: &ByteRecord) -> Result<(), RecordError>
-        ensures { Admits self.new result (said (record_shape self.old (cells_of (fields_of row.now)))) }
+        ensures { Admits self.new result
+            (said (record_shape self.old (cells_of (fields_of row.now)))) }
     {
         let count = cell_count(row);
         if count == 0 {
@@ -102,7 +104,8 @@ impl Draft {
 
     fn admit_key(&mut self, key: PlanKey, row: &ByteRecord, count: usize) -> Result<(), RecordError>
         requires { count ≡ length (cells_of (fields_of row.now)) }
-        ensures { Admits self.new result (key_by_place self.old key (cells_of (fields_of row.now))) }
+        ensures { Admits self.new result
+            (key_by_place self.old key (cells_of (fields_of row.now))) }
     {
         match key {
             PlanKey::Name => self.admit_name(row, count),
@@ -147,7 +150,9 @@ impl Draft {
 
     fn admit_name(&mut self, row: &ByteRecord, count: usize) -> Result<(), RecordError>
         requires { count ≡ length (cells_of (fields_of row.now)) }
-        ensures { Admits self.new result (said_by_place (cells_of (fields_of row.now)) (name_shape self.old (cells_of (fields_of row.now)))) }
+        ensures { Admits self.new result
+            (said_by_place (cells_of (fields_of row.now))
+            (name_shape self.old (cells_of (fields_of row.now)))) }
     {
         if count != 2 {
             return Err(RecordError::Fault(PlanFaultKind::Width));
@@ -163,7 +168,9 @@ impl Draft {
     #[tactic(auto, using(crate::proofs::CellsByPlace::grid_said))]
     fn admit_grid(&mut self, row: &ByteRecord, count: usize) -> Result<(), RecordError>
         requires { count ≡ length (cells_of (fields_of row.now)) }
-        ensures { Admits self.new result (said_by_place (cells_of (fields_of row.now)) (grid_shape self.old (cells_of (fields_of row.now)))) }
+        ensures { Admits self.new result
+            (said_by_place (cells_of (fields_of row.now))
+            (grid_shape self.old (cells_of (fields_of row.now)))) }
     {
         if count != 7 {
             return Err(RecordError::Fault(PlanFaultKind::Width));
@@ -264,7 +271,9 @@ impl Draft {
     #[tactic(auto, using(crate::proofs::CellsByPlace::quotient))]
     fn admit_mill(&mut self, row: &ByteRecord, count: usize) -> Result<(), RecordError>
         requires { count ≡ length (cells_of (fields_of row.now)) }
-        ensures { Admits self.new result (said_by_place (cells_of (fields_of row.now)) (mill_shape self.old (cells_of (fields_of row.now)))) }
+        ensures { Admits self.new result
+            (said_by_place (cells_of (fields_of row.now))
+            (mill_shape self.old (cells_of (fields_of row.now)))) }
     {
         if count != 5 {
             return Err(RecordError::Fault(PlanFaultKind::Width));
@@ -314,7 +323,9 @@ impl Draft {
         requires in_range { All IsBand bands.items }
         requires price { price ≤ MAX_PRICE }
         requires cost { cost ≤ MAX_COST }
-        ensures { Admits self.new result (unless (failing (bands_asked bands.items ++ room_for_destination self.old)) (Ok (with_destination self.old name (Leach bands.items price cost)))) }
+        ensures { Admits self.new result
+            (unless (failing (bands_asked bands.items ++ room_for_destination self.old))
+            (Ok (with_destination self.old name (Leach bands.items price cost)))) }
     {
         if !starts_rise(bands.as_slice()) {
             return Err(RecordError::Fault(PlanFaultKind::Order));
@@ -329,7 +340,9 @@ impl Draft {
     #[tactic(auto, using(crate::proofs::CellsByPlace::quotient))]
     fn admit_dump(&mut self, row: &ByteRecord, count: usize) -> Result<(), RecordError>
         requires { count ≡ length (cells_of (fields_of row.now)) }
-        ensures { Admits self.new result (said_by_place (cells_of (fields_of row.now)) (dump_shape self.old (cells_of (fields_of row.now)))) }
+        ensures { Admits self.new result
+            (said_by_place (cells_of (fields_of row.now))
+            (dump_shape self.old (cells_of (fields_of row.now)))) }
     {
         if count != 3 {
             return Err(RecordError::Fault(PlanFaultKind::Width));
@@ -344,7 +357,9 @@ impl Draft {
 
     fn add_formula(&mut self, name: Name, formula: Formula) -> Result<(), RecordError>
         requires { IsRuled formula }
-        ensures { Admits self.new result (unless (failing (room_for_destination self.old)) (Ok (with_destination self.old name formula))) }
+        ensures { Admits self.new result
+            (unless (failing (room_for_destination self.old))
+            (Ok (with_destination self.old name formula))) }
     {
         if self.formulas.len() == MAX_DESTINATIONS as usize {
             return Err(RecordError::Fault(PlanFaultKind::TooMany));
@@ -356,7 +371,9 @@ impl Draft {
     #[tactic(auto, using(crate::proofs::CellsByPlace::quotient))]
     fn admit_periods(&mut self, row: &ByteRecord, count: usize) -> Result<(), RecordError>
         requires { count ≡ length (cells_of (fields_of row.now)) }
-        ensures { Admits self.new result (said_by_place (cells_of (fields_of row.now)) (periods_shape self.old (cells_of (fields_of row.now)))) }
+        ensures { Admits self.new result
+            (said_by_place (cells_of (fields_of row.now))
+            (periods_shape self.old (cells_of (fields_of row.now)))) }
     {
         if count != 2 {
             return Err(RecordError::Fault(PlanFaultKind::Width));
@@ -371,7 +388,9 @@ impl Draft {
 
     fn admit_rate(&mut self, row: &ByteRecord, count: usize) -> Result<(), RecordError>
         requires { count ≡ length (cells_of (fields_of row.now)) }
-        ensures { Admits self.new result (said_by_place (cells_of (fields_of row.now)) (rate_shape self.old (cells_of (fields_of row.now)))) }
+        ensures { Admits self.new result
+            (said_by_place (cells_of (fields_of row.now))
+            (rate_shape self.old (cells_of (fields_of row.now)))) }
     {
         if count != 2 {
             return Err(RecordError::Fault(PlanFaultKind::Width));

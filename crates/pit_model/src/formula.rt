@@ -2,7 +2,7 @@
 
 ghost use Rattle.std.specs.Prelude.{◌≡◌, IfOk, OnErr};
 ghost use Rattle.pit_model.specs.Formula.{HasBands};
-ghost use Rattle.pit_model.specs.Plan.{IsRuled};
+ghost use Rattle.pit_model.specs.PlanKept.{IsRuled};
 ghost use Rattle.pit_model.specs.Worth.{worth, IsWorth};
 
 use crate::band::Bands;

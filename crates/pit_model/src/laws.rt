@@ -2,8 +2,9 @@
 
 ghost use Rattle.std.specs.Prelude.{◌≡◌, ◌↔◌, ◌⊎◌, ℕ, ℤ, ◌<◌, List, ◌∷◌, Ok, Err};
 ghost use Rattle.std.specs.List.Sorted.{IsPermutation};
-ghost use Rattle.forms.specs.Grammar.{IsFirstFault};
-ghost use Rattle.pit_model.specs.Plan.{IsPlan, IsRuled, PlanParts};
+ghost use Rattle.forms.specs.GrammarStates.{IsFirstFault};
+ghost use Rattle.pit_model.specs.Plan.{PlanParts};
+ghost use Rattle.pit_model.specs.PlanKept.{IsPlan, IsRuled};
 ghost use Rattle.pit_model.specs.Planned.{IsLacking, SpellPlan, plan_grammar, planned};
 ghost use Rattle.pit_model.specs.Records.{records_of};
 ghost use Rattle.pit_model.specs.Stated.{nothing_stated, with_limit};
@@ -28,14 +29,17 @@ pub fn worths_are_in_range()
 
 /// A text states a plan exactly where its records state it, one behind the other, and each part that must be there is.
 pub fn plans_are_spelled()
-    ensures { (text : List ℕ) (p : PlanParts) → (planned text ≡ Ok p) ↔ SpellPlan (records_of text) p }
+    ensures { (text : List ℕ) (p : PlanParts)
+        → (planned text ≡ Ok p) ↔ SpellPlan (records_of text) p }
 {}
 
 /// A text has a fault exactly where that record is the first that states nothing behind those before it, with the kind of what fails
 /// first in it; or where all its records state something and a part is missing.
 pub fn faults_are_first()
     ensures { (text : List ℕ) (fault : PlanFault)
-        → (planned text ≡ Err fault) ↔ (IsFirstFault plan_grammar 1 nothing_stated (records_of text) fault ⊎ IsLacking (records_of text) fault) }
+        → (planned text ≡ Err fault)
+        ↔ (IsFirstFault plan_grammar 1 nothing_stated (records_of text) fault
+        ⊎ IsLacking (records_of text) fault) }
 {}
 
 /// Putting a limit in its place keeps all others.

@@ -1,7 +1,7 @@
 //! The limits that a plan sets on its resources.
 
 ghost use Rattle.std.specs.Prelude.{◌≡◌};
-ghost use Rattle.pit_model.specs.Plan.{is_turned, stands_before};
+ghost use Rattle.pit_model.specs.PlanKept.{is_turned, stands_before};
 
 use pit_units::Dec;
 

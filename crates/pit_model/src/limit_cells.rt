@@ -3,9 +3,10 @@
 ghost use Rattle.std.specs.Prelude.{◌≡◌, ◌+◌, ◌<◌, ◌≤◌, ◌^◌, ◌≤ℤ◌, length, pos, bytes_eq, position, IfErr, IfOk, IfSome, OnErr, OnOk};
 ghost use Rattle.std.specs.List.{list_any, position_or_len};
 ghost use Rattle.csv.specs.Records.{fields_of};
-ghost use Rattle.pit_model.specs.Cells.{cells_of};
-ghost use Rattle.pit_model.specs.Plan.{AreTonnes, stands_before};
-ghost use Rattle.forms.specs.Form.{Millionths, below, read_field, whole};
+ghost use Rattle.pit_model.specs.RecordCells.{cells_of};
+ghost use Rattle.pit_model.specs.PlanKept.{AreTonnes, stands_before};
+ghost use Rattle.forms.specs.Field.{Millionths, below, whole};
+ghost use Rattle.forms.specs.Read.{read_field};
 ghost use Rattle.pit_model.specs.ByPlace.{Gives, bound_in};
 ghost use Rattle.pit_model.specs.PlanCells.{plan_kind, tonnes};
 ghost use Rattle.pit_model.specs.PlanShapes.{bound_form, is_interval};

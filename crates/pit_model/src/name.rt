@@ -30,7 +30,8 @@ impl Model for Name {
 impl Name {
     /// The NAME that `bytes` spell, or `None` where they spell none. Fails only where memory is refused.
     pub fn read(alloc: Global, bytes: &[u8]) -> Result<Option<Name>, AllocError>
-        ensures { IfOk result (λ name. MatchOption name (is_name bytes.now ≡ false) (λ n. n ≡ bytes.now)) }
+        ensures { IfOk result (λ name. MatchOption name (is_name bytes.now ≡ false)
+            (λ n. n ≡ bytes.now)) }
     {
         let Ok(text) = str::from_utf8(bytes) else {
             return Ok(None);

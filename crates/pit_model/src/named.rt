@@ -4,9 +4,9 @@ ghost use Rattle.std.specs.Prelude.{◌≡◌, ◌-◌, ◌<◌, ◌≤◌, suc,
 ghost use Rattle.csv.specs.Records.{fields_of};
 ghost use Rattle.pit_model.specs.Admits.{Covered, Names};
 ghost use Rattle.pit_model.specs.ByPlace.{Finds, covers_in};
-ghost use Rattle.pit_model.specs.Cells.{cells_of};
-ghost use Rattle.pit_model.specs.Plan.{has_repeat};
-ghost use Rattle.forms.specs.Form.{read_field};
+ghost use Rattle.pit_model.specs.RecordCells.{cells_of};
+ghost use Rattle.pit_model.specs.PlanKept.{has_repeat};
+ghost use Rattle.forms.specs.Read.{read_field};
 ghost use Rattle.pit_model.specs.PlanCells.{a_name, plan_kind};
 ghost use Rattle.pit_model.specs.Stated.{destination_named, resource_named};
 ghost use Rattle.pit_model.specs.declared.ranges.TheConstants.{MAX_DESTINATIONS, MAX_RESOURCES};
@@ -92,7 +92,8 @@ pub fn covers_in(
     requires whole { count ≡ length (cells_of (fields_of row.now)) }
     requires some { 3 ≤ count }
     requires few { length formulas.now ≤ MAX_DESTINATIONS }
-    ensures value { Covered result (covers_in 2 (suc (count - 3)) (cells_of (fields_of row.now)) formulas.now []) }
+    ensures value { Covered result
+        (covers_in 2 (suc (count - 3)) (cells_of (fields_of row.now)) formulas.now []) }
     ensures there { IfOk result (λ covers. All (λ n. n < length formulas.now) covers) }
     ensures each { IfOk result (λ covers. length covers ≡ count - 2) }
 {

@@ -1,7 +1,8 @@
 //! The numbers in a plan's cells.
 
 ghost use Rattle.std.specs.Prelude.{◌≡◌, ◌≤◌, ◌*◌, ◌^◌, ◌<◌, ◌≤ℤ◌, pos, IfOk};
-ghost use Rattle.forms.specs.Form.{Decimal, Millionths, read_field, whole};
+ghost use Rattle.forms.specs.Field.{Decimal, Millionths, whole};
+ghost use Rattle.forms.specs.Read.{read_field};
 ghost use Rattle.pit_model.specs.ByPlace.{Gives, length_of, size_of};
 ghost use Rattle.pit_model.specs.PlanCells.{a_size, an_origin, between, plan_kind};
 ghost use Rattle.pit_model.specs.declared.ranges.TheConstants.{MAX_ORIGIN, MAX_SIZE, MIN_ORIGIN};
@@ -13,7 +14,8 @@ use pit_units::parse_dec;
 /// The millionths that a cell states, with at most so many decimals and from `low` to `high`.
 pub fn number_in(cell: &[u8], decimals: u8, low: i128, high: i128) -> Result<i128, PlanFaultKind>
     requires { decimals ≤ 6 }
-    ensures value { Gives Millionths result (read_field plan_kind (Decimal decimals low high) cell.now) }
+    ensures value { Gives Millionths result
+        (read_field plan_kind (Decimal decimals low high) cell.now) }
     ensures in_range { IfOk result (λ m. (low ≤ℤ m) × (m ≤ℤ high)) }
 {
     let millionths = parse_dec(cell, decimals)?.millionths();

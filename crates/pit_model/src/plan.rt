@@ -1,7 +1,7 @@
 //! The plan of a mine.
 
 ghost use Rattle.std.specs.Prelude.{◌≡◌};
-ghost use Rattle.pit_model.specs.Plan.{IsPlan, plan_of};
+ghost use Rattle.pit_model.specs.PlanKept.{IsPlan, plan_of};
 
 use crate::cone::Cone;
 use crate::formula::NamedFormula;
@@ -50,8 +50,10 @@ impl Plan {
         resources: Vec<Resource>,
         limits: Vec<Limit>,
     ) -> Plan
-        requires { IsPlan (plan_of name grid cones.items formulas.items periods rate resources.items limits.items) }
-        ensures { result ≡ plan_of name grid cones.items formulas.items periods rate resources.items limits.items }
+        requires { IsPlan (plan_of name grid cones.items formulas.items periods rate resources.items
+            limits.items) }
+        ensures { result ≡ plan_of name grid cones.items formulas.items periods rate resources.items
+            limits.items }
     {
         Plan {
             name,

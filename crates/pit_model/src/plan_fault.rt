@@ -59,7 +59,7 @@ impl fmt::Display for PlanFaultKind {
 
 impl From<DecFault> for PlanFaultKind {
     ghost use Rattle.std.specs.Prelude.{◌≡◌, Ok, Err, ℤ};
-    ghost use Rattle.forms.specs.Form.{number_of};
+    ghost use Rattle.forms.specs.Read.{number_of};
     ghost use Rattle.pit_model.specs.PlanCells.{plan_kind};
 
     ghost from_gives = { λ fault kind. Err kind ≡ number_of plan_kind (Err fault) };

@@ -10,7 +10,8 @@
 ghost use Rattle.std.specs.Prelude.{◌≡◌, ◌+◌, ◌<◌, ◌≤◌, true, IfOk, IfSome, OnOk, Ok, length};
 ghost use Rattle.std.specs.List.{All};
 ghost use Rattle.csv.specs.Records.{fields_of};
-ghost use Rattle.pit_model.specs.Records.{TakesRow, Rows, records_of, rows_ahead};
+ghost use Rattle.pit_model.specs.RecordReader.{TakesRow, Rows, rows_ahead};
+ghost use Rattle.pit_model.specs.Records.{records_of};
 ghost use Rattle.pit_model.specs.RecordsAhead.{IsBetweenRecords, IsUnread, TakesNext, rows_left};
 
 use csv::{ByteRecord, Reader, ReaderBuilder};
@@ -42,7 +43,7 @@ pub struct RecordReader<R: Read> {
 }
 
 impl<R: Read> Model for RecordReader<R> {
-    ghost use Rattle.pit_model.specs.Records.{RecordReaderView};
+    ghost use Rattle.pit_model.specs.RecordReader.{RecordReaderView};
     ghost use Rattle.pit_model.specs.RecordsAhead.{ahead_of, IsSetUp};
 
     ghost Value = { RecordReaderView };
@@ -124,7 +125,9 @@ fn take_first<R: Read>(
     reader: &mut Reader<R>,
     row: &mut ByteRecord,
 ) -> Result<bool, AllocError>
-    ensures { IsUnread R.remaining reader.old → IfOk result (λ found. TakesNext R.remaining reader.old reader.new found (fields_of row.new)) }
+    ensures { IsUnread R.remaining reader.old
+        → IfOk result (λ found. TakesNext R.remaining reader.old reader.new found
+        (fields_of row.new)) }
 {
     name_no_columns(alloc, reader)?;
     take_record(reader, row)
@@ -132,7 +135,9 @@ fn take_first<R: Read>(
 
 // Gives the reader a header of no cells. Without one it would keep two copies of the first record, however long that is, as its own header.
 fn name_no_columns<R: Read>(alloc: Global, reader: &mut Reader<R>) -> Result<(), AllocError>
-    ensures { IsUnread R.remaining reader.old → OnOk result (IsBetweenRecords R.remaining reader.new × (rows_left R.remaining reader.new ≡ rows_left R.remaining reader.old)) }
+    ensures { IsUnread R.remaining reader.old
+        → OnOk result (IsBetweenRecords R.remaining reader.new
+        × (rows_left R.remaining reader.new ≡ rows_left R.remaining reader.old)) }
 {
     match reader.set_byte_headers(ByteRecord::new(alloc)) {
         Ok(()) => Ok(()),
@@ -143,7 +148,9 @@ fn name_no_columns<R: Read>(alloc: Global, reader: &mut Reader<R>) -> Result<(),
 // Takes the next record. The crate's contract leaves open whether an error is one of memory or of the reader underneath, which here is
 // bytes in memory and has none: so each is one of memory.
 fn take_record<R: Read>(reader: &mut Reader<R>, row: &mut ByteRecord) -> Result<bool, AllocError>
-    ensures { IsBetweenRecords R.remaining reader.old → IfOk result (λ found. TakesNext R.remaining reader.old reader.new found (fields_of row.new)) }
+    ensures { IsBetweenRecords R.remaining reader.old
+        → IfOk result (λ found. TakesNext R.remaining reader.old reader.new found
+        (fields_of row.new)) }
 {
     match reader.read_byte_record(row) {
         Ok(found) => Ok(found),
@@ -153,7 +160,8 @@ fn take_record<R: Read>(reader: &mut Reader<R>, row: &mut ByteRecord) -> Result<
 
 // A reader with the crate's defaults, but with records of any length. It is still to be given a header, so that the first record is none.
 fn reader_of<R: Read>(alloc: Global, source: R) -> Reader<R>
-    ensures { IfSome (R.remaining source) (λ text. IsUnread R.remaining result × (rows_left R.remaining result ≡ records_of text)) }
+    ensures { IfSome (R.remaining source)
+        (λ text. IsUnread R.remaining result × (rows_left R.remaining result ≡ records_of text)) }
 {
     ReaderBuilder::new()
         .flexible(true)

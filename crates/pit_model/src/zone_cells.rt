@@ -2,10 +2,11 @@
 
 ghost use Rattle.std.specs.Prelude.{◌≡◌, ◌≤◌, true, false, length, IfOk};
 ghost use Rattle.csv.specs.Records.{fields_of};
-ghost use Rattle.forms.specs.Form.{read_field, whole};
+ghost use Rattle.forms.specs.Field.{whole};
+ghost use Rattle.forms.specs.Read.{read_field};
 ghost use Rattle.pit_model.specs.ByPlace.{Gives, cone_by, cone_in};
-ghost use Rattle.pit_model.specs.Cells.{cells_of};
-ghost use Rattle.pit_model.specs.Plan.{IsCone};
+ghost use Rattle.pit_model.specs.RecordCells.{cells_of};
+ghost use Rattle.pit_model.specs.PlanKept.{IsCone};
 ghost use Rattle.pit_model.specs.PlanCells.{a_leg, plan_kind};
 ghost use Rattle.pit_model.specs.declared.ranges.TheConstants.{MAX_SLOPE};
 

@@ -3,7 +3,8 @@ use Rattle.std.specs.Prelude.{◌≡◌, ◌⊎◌, ℕ, ◌*◌, ◌^◌, ◌<�
 use Rattle.std.specs.Char.{is_ascii_digit}
 use Rattle.std.specs.List.{All, prefix_len}
 use Rattle.std.specs.Str.Parse.{digits_value, starts_with_minus}
-use Rattle.pit_units.specs.Decimal.{all_digits, decimal_of, IsPlainByte}
+use Rattle.pit_units.specs.Decimal.{all_digits, decimal_of}
+use Rattle.pit_units.specs.Shortest.{IsPlainByte}
 
 -- the text begins with a decimal of m millionths, `max` decimals allowed, of digits, a point and a minus alone, and goes on with the rest
 pub record BeginsWith (max : ℕ) (text : List ℕ) (m : ℤ) (rest : List ℕ) : Type 0 where

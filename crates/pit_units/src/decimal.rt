@@ -31,7 +31,8 @@ impl Model for Dec {
 
     ghost inverse = { halves_of };
 
-    ghost inverse_ok = { λ dec kept i. record { high = high_back dec kept i; low = low_back dec kept i } };
+    ghost inverse_ok = { λ dec kept i. record
+        { high = high_back dec kept i; low = low_back dec kept i } };
 }
 
 impl Dec {

@@ -30,7 +30,8 @@ pub fn front_whole(text: &[u8]) -> Option<(u64, &[u8])>
 pub fn front_dec(text: &[u8], max_decimals: u8) -> Option<(i64, &[u8])>
     requires { max_decimals ≤ 6 }
     ensures decimal { IfSome result (λ x. BeginsWith max_decimals text.now x.0 x.1.now) }
-    ensures rest { IfSome result (λ x. x.1.now ≡ past_fraction (past_digits (past_minus text.now))) }
+    ensures rest { IfSome result
+        (λ x. x.1.now ≡ past_fraction (past_digits (past_minus text.now))) }
     ensures taken { IsUsual max_decimals (past_minus text.now) → IsSome result }
 {
     let (negative, unsigned) = without_minus(text);
@@ -84,7 +85,8 @@ fn front_size(text: &[u8], max_decimals: u8) -> Option<(u64, &[u8])>
 // The text past the point that it begins with.
 #[inline(always)]
 fn behind_point(text: &[u8]) -> Option<&[u8]>
-    ensures { MatchOption result (past_fraction text.now ≡ text.now) (λ tail. text.now ≡ 46 ∷ tail.now) }
+    ensures { MatchOption result (past_fraction text.now ≡ text.now)
+        (λ tail. text.now ≡ 46 ∷ tail.now) }
 {
     match text {
         [b'.', tail @ ..] => Some(tail),

@@ -3,7 +3,8 @@ ghost use Rattle.std.specs.Prelude.{◌≡◌, ◌↔◌, ℕ, ◌++◌, ◌-◌
 ghost use Rattle.std.specs.Fmt.{decimal};
 ghost use Rattle.std.specs.Str.Parse.{digits_value};
 ghost use Rattle.pit_units.specs.declared.fault.DecFault.TheVariants as DecFault;
-ghost use Rattle.pit_units.specs.Decimal.{all_zeros, decimal_of, shortest, IsPlain, IsShortest, IsSpelled, StandsFor};
+ghost use Rattle.pit_units.specs.Decimal.{all_zeros, decimal_of, shortest, IsSpelled, StandsFor};
+ghost use Rattle.pit_units.specs.Shortest.{IsPlain, IsShortest};
 
 /// What is written is read again as the same number.
 pub fn written_is_read()
@@ -25,7 +26,8 @@ pub fn whole_is_digits()
 /// What is written has nothing needless, and no other text of the number has nothing needless.
 pub fn written_is_shortest()
     ensures shortest_text { (z : ℤ) → unsigned_abs z ≤ 10 ^ 24 → IsShortest z (shortest z) }
-    ensures only { (z : ℤ) (text : List ℕ) → StandsFor 6 text z → IsShortest z text → text ≡ shortest z }
+    ensures only { (z : ℤ) (text : List ℕ) → StandsFor 6 text z → IsShortest z text
+        → text ≡ shortest z }
 {}
 
 /// What is written has digits, a minus and a point alone.
@@ -47,9 +49,12 @@ pub fn number_is_spelled()
 
 /// Of a text that is spelled: it is too fine where a decimal past `max` is not zero, and else out of range where the number is.
 pub fn spelled_faults()
-    ensures too_fine { (max : ℕ) (text sign whole tail fraction : List ℕ) → IsSpelled text sign whole tail fraction
-        → ((decimal_of max text ≡ Err DecFault.TooFine) ↔ ¬ (IsTrue (all_zeros (drop max fraction)))) }
-    ensures range { (max : ℕ) (text sign whole tail fraction : List ℕ) → max ≤ 6 → IsSpelled text sign whole tail fraction
+    ensures too_fine { (max : ℕ) (text sign whole tail fraction : List ℕ)
+        → IsSpelled text sign whole tail fraction
+        → ((decimal_of max text ≡ Err DecFault.TooFine)
+        ↔ ¬ (IsTrue (all_zeros (drop max fraction)))) }
+    ensures range { (max : ℕ) (text sign whole tail fraction : List ℕ) → max ≤ 6
+        → IsSpelled text sign whole tail fraction
         → IsTrue (all_zeros (drop max fraction))
         → ((decimal_of max text ≡ Err DecFault.Range)
         ↔ (10 ^ 24 * 10 ^ length fraction < digits_value 10 (whole ++ fraction) * 10 ^ 6)) }

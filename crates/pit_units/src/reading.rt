@@ -100,7 +100,8 @@ fn only_zeros(bytes: &[u8]) -> bool
 }
 
 fn is_number(whole: &[u8], fraction: &[u8]) -> bool
-    ensures { result ≡ (all_digits whole.now && all_digits fraction.now && not (length whole.now + length fraction.now == 0)) }
+    ensures { result ≡ (all_digits whole.now && all_digits fraction.now
+        && not (length whole.now + length fraction.now == 0)) }
 {
     only_digits(whole) && only_digits(fraction) && !(whole.is_empty() && fraction.is_empty())
 }
@@ -147,7 +148,8 @@ fn decimals(fraction: &[u8]) -> u32
 fn size_capped(whole: &[u8], fraction: &[u8]) -> u128
     requires whole_digits { IsTrue (all_digits whole.now) }
     requires fraction_digits { IsTrue (all_digits fraction.now) }
-    ensures value { result ≡ min (10 ^ 18 + 1) (digits_value 10 whole.now) * 10 ^ 6 + digits_value 10 (six_decimals fraction.now) }
+    ensures value { result ≡ min (10 ^ 18 + 1) (digits_value 10 whole.now) * 10 ^ 6 + digits_value
+        10 (six_decimals fraction.now) }
     ensures small { result ≤ 2 * 10 ^ 24 }
 {
     u128::from(whole_capped(whole)) * 1_000_000 + u128::from(decimals(fraction))
@@ -155,7 +157,8 @@ fn size_capped(whole: &[u8], fraction: &[u8]) -> u128
 
 fn within_range(negative: bool, size: u128) -> Result<Dec, DecFault>
     requires { size ≤ 2 * 10 ^ 24 }
-    ensures { result ≡ (if nat_lt (10 ^ 24) size then Err DecFault.Range else Ok (signed negative size)) }
+    ensures { result ≡ (if nat_lt (10 ^ 24) size then Err DecFault.Range else Ok
+        (signed negative size)) }
 {
     let above = size as i128;
     Dec::new(if negative { -above } else { above }).ok_or(DecFault::Range)

@@ -121,7 +121,8 @@ fn write_decimals(room: &mut [u8], millionths: u32) -> usize
 #[inline(always)]
 fn write_thousandths(room: &mut [u8], thousandths: u32)
     requires { (thousandths < 1000) × (length room.old ≡ 47) }
-    ensures { drop 20 room.new ≡ 46 ∷ (48 + thousandths / 100) ∷ (48 + thousandths / 10 % 10) ∷ (48 + thousandths % 10) ∷ drop 24 room.old }
+    ensures { drop 20 room.new ≡ 46 ∷ (48 + thousandths / 100) ∷ (48 + thousandths / 10 % 10)
+        ∷ (48 + thousandths % 10) ∷ drop 24 room.old }
 {
     write_three(room, POINT + 1, thousandths);
     room[POINT] = b'.';
@@ -131,7 +132,8 @@ fn write_thousandths(room: &mut [u8], thousandths: u32)
 #[inline(always)]
 fn write_three(room: &mut [u8], at: usize, number: u32)
     requires { (number < 1000) × (at + 3 ≤ length room.old) }
-    ensures { drop at room.new ≡ (48 + number / 100) ∷ (48 + number / 10 % 10) ∷ (48 + number % 10) ∷ drop (at + 3) room.old }
+    ensures { drop at room.new ≡ (48 + number / 100) ∷ (48 + number / 10 % 10) ∷ (48 + number % 10)
+        ∷ drop (at + 3) room.old }
 {
     room[at + 2] = digit(number);
     room[at + 1] = digit(number / 10);

@@ -37,8 +37,10 @@ pub fn count_arcs(
     prec: &[u8],
     pcpsp: &[u8],
 ) -> Result<usize, ReadTextError>
-    ensures arcs { IfOk result (λ arcs. (i : AnInstance) × Denotes blocks.now prec.now pcpsp.now i × (arcs ≡ sum_by length i.preds)) }
-    ensures refused { IfErr result (λ error. Reads (Err error) (denoted blocks.now prec.now pcpsp.now)) }
+    ensures arcs { IfOk result (λ arcs. (i : AnInstance) × Denotes blocks.now prec.now pcpsp.now i
+        × (arcs ≡ sum_by length i.preds)) }
+    ensures refused { IfErr result
+        (λ error. Reads (Err error) (denoted blocks.now prec.now pcpsp.now)) }
 {
     let instance = read_instance(alloc, blocks, prec, pcpsp)?;
     Ok(instance.arcs())
@@ -57,7 +59,8 @@ pub fn block_file<R: Threads + Wait + Sync>(
     zone: &[u8],
 ) -> Result<Vec<u8>, Refusal>
     ensures accepted { OnOk result (IsAccepted plan.now (zone.now ∷ [])) }
-    ensures text { IfOk result (λ text. text.items ≡ text_blocks (instance_from plan.now (zone.now ∷ []))) }
+    ensures text { IfOk result (λ text. text.items
+        ≡ text_blocks (instance_from plan.now (zone.now ∷ []))) }
 {
     let Ok(feeds) = Vec::from_array(alloc, [SliceFeed::new(zone)]) else {
         return Err(Refusal::OutOfMemory);

@@ -11,7 +11,8 @@ use Rattle.std.proofs.lemmas.List.Sums.{sum_by-cons}
 use Rattle.std.proofs.lemmas.Map.Keys.{IsDistinct-IsPermutation, IsStrictlyIncreasing-from_distinct}
 use Rattle.pit_model.specs.declared.block.Block.{Block}
 use Rattle.precedence.specs.Codes.{code, codes}
-use Rattle.precedence.specs.Identifier.{comes_before, id, IsNumbering}
+use Rattle.precedence.specs.Identifier.{comes_before, id}
+use Rattle.precedence.specs.Numbering.{IsNumbering}
 use Rattle.precedence.specs.Seen.{placed, IsPlaced, IsSortedTable}
 use Rattle.precedence.proofs.Counts.{count_below, count_keys}
 use Rattle.precedence.proofs.Order.{before_is}

@@ -4,7 +4,8 @@ use Rattle.std.proofs.lemmas.Bool.{cases_lt, lt-ltb, ltb-true}
 use Rattle.std.proofs.lemmas.List.Sums.{sum_by-cons}
 use Rattle.pit_model.specs.declared.block.Block.{Block}
 use Rattle.precedence.specs.Codes.{code}
-use Rattle.precedence.specs.Identifier.{comes_before, id, IsNumbering, NumberingView}
+use Rattle.precedence.specs.Identifier.{comes_before, id}
+use Rattle.precedence.specs.Numbering.{IsNumbering, NumberingView}
 use Rattle.precedence.proofs.Order.{before_is}
 
 ones : (s t : Bool) → (s ≡ true → t ≡ true) → cond s 1 0 ≤ cond t 1 0

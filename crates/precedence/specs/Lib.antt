@@ -3,6 +3,7 @@ pub mod Cone
 pub mod ConeLaws
 pub mod Identifier
 pub mod Lists
+pub mod Numbering
 pub mod NumberingFields
 pub mod PredsFields
 pub mod Reach

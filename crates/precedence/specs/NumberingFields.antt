@@ -2,7 +2,7 @@
 use Rattle.std.specs.Prelude.{◌≡◌, ◌≤◌, length}
 use Rattle.std.specs.List.Sorted.{IsStrictlyIncreasing}
 use Rattle.precedence.specs.Codes.{codes}
-use Rattle.precedence.specs.Identifier.{NumberingView}
+use Rattle.precedence.specs.Numbering.{NumberingView}
 use Rattle.precedence.specs.declared.numbering.Numbering.TheInside.{Inside}
 use Rattle.pit_model.specs.declared.ranges.TheConstants.{MAX_BLOCKS}
 

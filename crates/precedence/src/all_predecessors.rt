@@ -51,7 +51,9 @@ fn lists_of(
     requires zones { All (λ b. b.zone < length tables.now.of_zone.items) blocks.now }
     requires below { All (λ t. t < length tables.now.tables.items) tables.now.of_zone.items }
     requires in_order { All (λ t. AreInOrder t.rows.items) tables.now.tables.items }
-    ensures { IfOk result (λ lists. lists ≡ map (in_cone tables.now.tables.items tables.now.of_zone.items (codes blocks.now)) blocks.now) }
+    ensures { IfOk result (λ lists. lists
+        ≡ map (in_cone tables.now.tables.items tables.now.of_zone.items (codes blocks.now))
+        blocks.now) }
 {
     let mut flat = Vec::with_capacity(alloc, blocks.len().saturating_mul(USUAL))?;
     let mut ends = Vec::with_capacity(alloc, blocks.len())?;
@@ -74,7 +76,9 @@ fn add_list(
     requires zone { block.now.zone < length tables.now.of_zone.items }
     requires below { All (λ t. t < length tables.now.tables.items) tables.now.of_zone.items }
     requires in_order { All (λ t. AreInOrder t.rows.items) tables.now.tables.items }
-    ensures { OnOk result (list.new.items ≡ list.old.items ++ in_cone tables.now.tables.items tables.now.of_zone.items places.now.codes.items block.now) }
+    ensures { OnOk result (list.new.items
+        ≡ list.old.items ++ in_cone tables.now.tables.items tables.now.of_zone.items
+        places.now.codes.items block.now) }
 {
     let table = tables.of(block.zone);
     let start = table.start.min(hints.len());

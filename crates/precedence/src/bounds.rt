@@ -21,7 +21,8 @@ pub struct Bounds {
 
 /// The greatest distances between two of the blocks.
 pub fn extent_of(blocks: &[Block]) -> Extent
-    ensures { (i j : ℕ) (d : Block) → i < length blocks.now → j < length blocks.now → IsWithin result (slice_index_or blocks.now i d) (slice_index_or blocks.now j d) }
+    ensures { (i j : ℕ) (d : Block) → i < length blocks.now → j < length blocks.now
+        → IsWithin result (slice_index_or blocks.now i d) (slice_index_or blocks.now j d) }
 {
     let mut bounds = Bounds {
         south: GRID_CELLS - 1,

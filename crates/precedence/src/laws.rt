@@ -3,17 +3,20 @@
 ghost use Rattle.std.specs.Prelude.{◌≡◌, true, ℕ, ◌<◌, ◌≤◌, List, [], All, Contains, filter, length, slice_index_or};
 ghost use Rattle.std.specs.List.{range_with_len};
 ghost use Rattle.std.specs.List.Sorted.{IsStrictlyIncreasing};
-ghost use Rattle.pit_model.specs.Plan.{IsCone, PlanParts};
+ghost use Rattle.pit_model.specs.Plan.{PlanParts};
+ghost use Rattle.pit_model.specs.PlanKept.{IsCone};
 ghost use Rattle.pit_model.specs.declared.block.Block.{Block};
 ghost use Rattle.pit_model.specs.declared.cone.Slope.{Slope};
 ghost use Rattle.pit_model.specs.declared.grid.Grid.{Grid};
 ghost use Rattle.precedence.specs.Cone.{is_above, preds};
 ghost use Rattle.precedence.specs.ConeLaws.{even_cone, has_pred, is_above_by, preds_by, IsEven};
-ghost use Rattle.precedence.specs.Identifier.{IsNumbering, NumberingView, comes_before};
+ghost use Rattle.precedence.specs.Identifier.{comes_before};
+ghost use Rattle.precedence.specs.Numbering.{IsNumbering, NumberingView};
 
 /// The identifiers 0, 1, 2, .. go by z, then y, then x: of two blocks by identifier the first comes before the second.
 pub fn identifiers_rise()
-    ensures { (listed : List Block) (n : NumberingView) (i k : ℕ) (d : Block) → IsNumbering listed n → i < k → k < length listed
+    ensures { (listed : List Block) (n : NumberingView) (i k : ℕ) (d : Block) → IsNumbering listed n
+        → i < k → k < length listed
         → comes_before (slice_index_or n.blocks i d) (slice_index_or n.blocks k d) ≡ true }
 {}
 
@@ -25,7 +28,8 @@ pub fn one_slope()
 
 /// Where the cone of each zone has one slope on all sides, the lists of predecessors are those of the test with one slope.
 pub fn even_zones()
-    ensures { (plan : PlanParts) (blocks : List Block) → All IsCone plan.cones → All IsEven plan.cones
+    ensures { (plan : PlanParts) (blocks : List Block) → All IsCone plan.cones
+        → All IsEven plan.cones
         → preds plan blocks ≡ preds_by plan blocks }
 {}
 
@@ -44,7 +48,9 @@ pub fn preds_rise()
 
 /// Of a list in whatever order, the predecessors of a block are the identifiers of all blocks of that list that lie in its cone.
 pub fn preds_are_of_the_list()
-    ensures { (plan : PlanParts) (listed : List Block) (n : NumberingView) (i : ℕ) (d : Block) → IsNumbering listed n → i < length listed
+    ensures { (plan : PlanParts) (listed : List Block) (n : NumberingView) (i : ℕ) (d : Block)
+        → IsNumbering listed n → i < length listed
         → slice_index_or (preds plan n.blocks) i []
-        ≡ filter (has_pred plan listed (slice_index_or n.blocks i d)) (range_with_len 0 (length listed)) }
+        ≡ filter (has_pred plan listed (slice_index_or n.blocks i d))
+        (range_with_len 0 (length listed)) }
 {}

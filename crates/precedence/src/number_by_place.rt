@@ -7,7 +7,7 @@ ghost use Rattle.std.specs.Map.{keys_of, values_of};
 ghost use Rattle.indexmap.specs.IndexMap.{get, IsUnique};
 ghost use Rattle.pit_model.specs.declared.block.Block.{Block};
 ghost use Rattle.precedence.specs.Codes.{codes};
-ghost use Rattle.precedence.specs.Identifier.{IsNumbering};
+ghost use Rattle.precedence.specs.Numbering.{IsNumbering};
 ghost use Rattle.precedence.specs.SameBlock.{IsReason};
 ghost use Rattle.precedence.specs.Seen.{placed, IsSortedTable};
 ghost use Rattle.pit_model.specs.declared.ranges.TheConstants.{MAX_BLOCKS};
@@ -99,7 +99,8 @@ fn differ(alloc: Global, blocks: &[Block]) -> Result<(), NumberError>
 // Notes a place, and tells where it was seen before.
 fn note(seen: &mut Seen, place: u64, position: u32) -> Result<Option<u32>, AllocError>
     ensures before { IfOk result (λ before. before ≡ get nat_eq seen.old place) }
-    ensures noted { OnOk result (get nat_eq seen.old place ≡ None → seen.new.entries ≡ seen.old.entries ++ (place, position) ∷ []) }
+    ensures noted { OnOk result (get nat_eq seen.old place ≡ None
+        → seen.new.entries ≡ seen.old.entries ++ (place, position) ∷ []) }
     ensures unique { IsUnique nat_eq seen.new }
 {
     match seen.insert(place, position) {
@@ -119,7 +120,9 @@ fn positions_of(alloc: Global, places: Vec<Place>) -> Result<Vec<u32>, AllocErro
 fn blocks_at(alloc: Global, blocks: &[Block], positions: &[u32]) -> Result<Vec<Block>, AllocError>
     requires { All (λ p. p < length blocks.now) positions.now }
     ensures len { IfOk result (λ ordered. length ordered.items ≡ length positions.now) }
-    ensures blocks { IfOk result (λ ordered. (d : Block) → ordered.items ≡ map (λ p. slice_index_or blocks.now p d) positions.now) }
+    ensures blocks { IfOk result
+        (λ ordered. (d : Block) → ordered.items
+        ≡ map (λ p. slice_index_or blocks.now p d) positions.now) }
 {
     let mut ordered = Vec::with_capacity(alloc, positions.len())?;
     for position in positions {

@@ -1,7 +1,8 @@
 //! Numbering the blocks of rows.
 
 ghost use Rattle.std.specs.Prelude.{◌≡◌, ◌≤◌, IfOk, IfErr, length};
-ghost use Rattle.precedence.specs.Identifier.{blocks_of_rows, IsNumbering};
+ghost use Rattle.precedence.specs.Identifier.{blocks_of_rows};
+ghost use Rattle.precedence.specs.Numbering.{IsNumbering};
 ghost use Rattle.precedence.specs.SameBlock.{IsReason};
 ghost use Rattle.pit_model.specs.declared.ranges.TheConstants.{MAX_BLOCKS};
 

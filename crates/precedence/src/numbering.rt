@@ -17,7 +17,7 @@ pub struct Numbering {
 }
 
 impl Model for Numbering {
-    ghost use Rattle.precedence.specs.Identifier.{NumberingView};
+    ghost use Rattle.precedence.specs.Numbering.{NumberingView};
 
     ghost Value = { NumberingView };
 

@@ -35,7 +35,8 @@ pub fn add_above(
     requires in_order { AreInOrder rows.now }
     requires past { past.now ≡ pasts rows.now }
     requires from { from < 10 ^ 14 }
-    ensures { OnOk result (list.new.items ≡ list.old.items ++ places_where (is_in_rows from rows.now) 0 places.now.codes.items) }
+    ensures { OnOk result (list.new.items
+        ≡ list.old.items ++ places_where (is_in_rows from rows.now) 0 places.now.codes.items) }
 {
     let mut i = 0;
     let mut behind = 0;
@@ -75,8 +76,10 @@ fn add_run(
     from: u64,
 ) -> Result<Hint, AllocError>
     requires { from < 10 ^ 14 }
-    ensures run { OnOk result (list.new.items ≡ list.old.items ++ run from row places.now.codes.items) }
-    ensures past { IfOk result (λ found. found.past ≡ start_of (from + row.past) places.now.codes.items) }
+    ensures run { OnOk result (list.new.items
+        ≡ list.old.items ++ run from row places.now.codes.items) }
+    ensures past { IfOk result (λ found. found.past
+        ≡ start_of (from + row.past) places.now.codes.items) }
 {
     let codes = places.codes.as_slice();
     let first = find(codes, hint.first as usize, from + row.first);
@@ -111,7 +114,8 @@ fn next_row(places: &Places, pasts: &[u64], i: usize, past: usize, from: u64) ->
     requires i { i < length pasts.now }
     ensures later { i < result }
     ensures within { result ≤ length pasts.now }
-    ensures skipped { (k : ℕ) → i < k → k < result → past < length places.now.codes.items → slice_index pasts.now k ≤ slice_index places.now.codes.items past - from }
+    ensures skipped { (k : ℕ) → i < k → k < result → past < length places.now.codes.items
+        → slice_index pasts.now k ≤ slice_index places.now.codes.items past - from }
 {
     if past < places.codes.len() {
         let gap = places.codes[past].saturating_sub(from);

@@ -1,7 +1,7 @@
 //! The table of a cone's rows.
 
 ghost use Rattle.std.specs.Prelude.{◌≡◌, ◌+◌, ◌-◌, ◌*◌, ◌<◌, ◌≤◌, ◌++◌, [], ◌∷◌, OnOk, IfOk, max};
-ghost use Rattle.pit_model.specs.Plan.{IsCone, IsGrid};
+ghost use Rattle.pit_model.specs.PlanKept.{IsCone, IsGrid};
 ghost use Rattle.precedence.specs.Rows.{center, edge, IsTable, Tells};
 ghost use Rattle.pit_model.specs.declared.ranges.TheConstants.{GRID_CELLS};
 

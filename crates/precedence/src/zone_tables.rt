@@ -1,7 +1,7 @@
 //! The tables of the cones of all zones.
 
 ghost use Rattle.std.specs.Prelude.{◌≡◌, ℕ, ◌<◌, ◌≤◌, ◌++◌, [], ◌∷◌, IfOk, OnOk, Some, All, length, map, slice_get, slice_index, slice_index_or};
-ghost use Rattle.pit_model.specs.Plan.{IsCone, IsGrid};
+ghost use Rattle.pit_model.specs.PlanKept.{IsCone, IsGrid};
 ghost use Rattle.pit_model.specs.declared.cone.Cone.{Cone};
 ghost use Rattle.precedence.specs.Rows.{pasts};
 ghost use Rattle.precedence.specs.ZoneTables.{HasTables, IsTold};
@@ -26,7 +26,8 @@ impl ZoneTables {
     pub fn of(&self, zone: u8) -> &ConeTable
         requires zone { zone < length self.now.of_zone.items }
         requires below { All (λ t. t < length self.now.tables.items) self.now.of_zone.items }
-        ensures { slice_get self.now.tables.items (slice_index self.now.of_zone.items zone) ≡ Some result.now }
+        ensures { slice_get self.now.tables.items (slice_index self.now.of_zone.items zone)
+            ≡ Some result.now }
     {
         &self.tables[self.of_zone[zone as usize]]
     }
@@ -70,9 +71,11 @@ fn place_of(
     requires told { All (IsTold grid extent) tables.old.items }
     ensures told { OnOk result (All (IsTold grid extent) tables.new.items) }
     ensures within { IfOk result (λ place. place < length tables.new.items) }
-    ensures cone { IfOk result (λ place. (t : ConeTable) → (slice_index_or tables.new.items place t).cone ≡ cone) }
+    ensures cone { IfOk result (λ place. (t : ConeTable)
+        → (slice_index_or tables.new.items place t).cone ≡ cone) }
     ensures more { OnOk result (length tables.old.items ≤ length tables.new.items) }
-    ensures kept { OnOk result ((k : ℕ) (t : ConeTable) → k < length tables.old.items → slice_index_or tables.new.items k t ≡ slice_index_or tables.old.items k t) }
+    ensures kept { OnOk result ((k : ℕ) (t : ConeTable) → k < length tables.old.items
+        → slice_index_or tables.new.items k t ≡ slice_index_or tables.old.items k t) }
 {
     let place = find_cone(tables.as_slice(), cone);
     if place < tables.len() {
@@ -86,7 +89,8 @@ fn place_of(
 // The place of the first table of a cone, or their number where there is none.
 fn find_cone(tables: &[ConeTable], cone: Cone) -> usize
     ensures within { result ≤ length tables.now }
-    ensures same { result < length tables.now → (t : ConeTable) → (slice_index_or tables.now result t).cone ≡ cone }
+    ensures same { result < length tables.now → (t : ConeTable)
+        → (slice_index_or tables.now result t).cone ≡ cone }
 {
     for (place, table) in tables.iter().enumerate() {
         if table.cone == cone {

@@ -99,7 +99,8 @@ fn row_at(lists: &[Rows], position: usize) -> Valued
 
 // The blocks of the files' rows, one file's behind those of the file before it.
 fn blocks_in(alloc: Global, lists: &[Rows]) -> Result<Vec<Block>, AllocError>
-    ensures { IfOk result (λ blocks. blocks.items ≡ map (λ row. row.block) (flat_map (λ list. list) lists.now)) }
+    ensures { IfOk result (λ blocks. blocks.items
+        ≡ map (λ row. row.block) (flat_map (λ list. list) lists.now)) }
 {
     let mut blocks = Vec::with_capacity(alloc, count_of(lists))?;
     for list in lists {

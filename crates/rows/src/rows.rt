@@ -79,7 +79,8 @@ impl Rows {
     /// Appends a row as often as it takes to make so many rows. Where memory is refused the rows are as they were.
     pub fn resize(&mut self, count: usize, row: &Valued) -> Result<(), AllocError>
         requires { length self.old ≤ count }
-        ensures ok { OnOk result (self.new ≡ self.old ++ replicate (count - length self.old) row.now) }
+        ensures ok { OnOk result (self.new
+            ≡ self.old ++ replicate (count - length self.old) row.now) }
         ensures err { OnErr result (self.new ≡ self.old) }
     {
         make_room(&mut self.heads, &mut self.worths, count.saturating_sub(1));
@@ -90,14 +91,16 @@ impl Rows {
 
     /// Appends the blocks of the rows, in their order. On failure some of them may have been appended.
     pub fn put_blocks(&self, blocks: &mut Vec<Block>) -> Result<(), AllocError>
-        ensures { OnOk result (blocks.new.items ≡ blocks.old.items ++ map (λ row. row.block) self.now) }
+        ensures { OnOk result (blocks.new.items
+            ≡ blocks.old.items ++ map (λ row. row.block) self.now) }
     {
         put_blocks(blocks, &self.heads)
     }
 }
 
 fn put_blocks(blocks: &mut Vec<Block>, heads: &[Head]) -> Result<(), AllocError>
-    ensures { OnOk result (blocks.new.items ≡ blocks.old.items ++ map (λ head. head.block) heads.now) }
+    ensures { OnOk result (blocks.new.items
+        ≡ blocks.old.items ++ map (λ head. head.block) heads.now) }
 {
     for head in heads {
         blocks.push(head.block)?;

@@ -36,7 +36,8 @@ impl Model for Worths {
 impl Worths {
     /// These worths, in their order, or `None` where they are not 1 to 8.
     pub fn new(worths: &[i128]) -> Option<Worths>
-        ensures valid { IsSome result ↔ ((1 ≤ length worths.now) × (length worths.now ≤ MAX_DESTINATIONS)) }
+        ensures valid { IsSome result
+            ↔ ((1 ≤ length worths.now) × (length worths.now ≤ MAX_DESTINATIONS)) }
         ensures value { IfSome result (λ held. held ≡ worths.now) }
     {
         let count = worths.len();

@@ -1,5 +1,6 @@
 pub mod HandingOver
-pub mod Reading
-pub mod Sending
+pub mod MostBytes
 pub mod Promises
+pub mod Reading
 pub mod Ready
+pub mod Sending

@@ -1,7 +1,7 @@
 -- What the threads of a run promise of what they give back, and what is made ready for them.
 use Rattle.std.specs.Prelude.{◌≡◌, ℕ, ◌+◌, ◌<◌, Bool, true, List, [], ◌∷◌, ◌++◌, length, drop, Option, Result, IsFalse}
 use Rattle.lane.specs.Ends.{PutEndView, TakeEndView}
-use Rattle.lane.specs.Message.{is_done}
+use Rattle.lane.specs.MessageKinds.{is_done}
 use Rattle.pit_model.specs.declared.formula.Formula.{Formula}
 use Rattle.pit_model.specs.Plan.{PlanParts}
 use Rattle.pit_model.specs.declared.grid.Grid.{Grid}

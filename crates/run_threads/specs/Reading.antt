@@ -7,11 +7,7 @@ use Rattle.zone_csv.specs.Zone.{blocks_of, fault_of}
 use Rattle.zone_csv.specs.declared.row_fault.RowFault.{RowFault}
 use Rattle.run_threads.specs.declared.read_fault.ReadFault.{ReadFault}
 use Rattle.run_threads.specs.declared.read_fault.ReadFault.TheVariants.{FeedFailed, TooLong, Row, OutOfMemory}
-use Rattle.pit_model.specs.declared.ranges.TheConstants.{MAX_FILE_BYTES}
-
--- the most bytes of a zone file
-abbrev pub most_bytes : ℕ
-most_bytes = MAX_FILE_BYTES
+use Rattle.run_threads.specs.MostBytes.{most_bytes}
 
 -- the reader read a text, the feed's where the feed tells its bytes, up to this fault of it, and sent the blocks before the fault
 pub record IsReadTo (grid : Grid) (file : ℕ) (left : Option (List ℕ)) (fault : Option RowFault) (sent : List Taken) : Type 0 where

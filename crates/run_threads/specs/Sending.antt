@@ -6,7 +6,7 @@ use Rattle.lane.specs.declared.message.Taken.TheVariants.{End}
 use Rattle.pit_model.specs.declared.block.Block.{Block}
 use Rattle.zone_csv.specs.ZoneReaderView.{ZoneReaderView, Says}
 use Rattle.zone_csv.specs.declared.row_fault.RowFault.{RowFault}
-use Rattle.run_threads.specs.Reading.{most_bytes}
+use Rattle.run_threads.specs.MostBytes.{most_bytes}
 use Rattle.run_threads.specs.declared.read_fault.ReadFault.{ReadFault}
 use Rattle.run_threads.specs.declared.read_fault.ReadFault.TheVariants.{FeedFailed, TooLong, Row, OutOfMemory}
 use Rattle.pit_model.specs.declared.ranges.TheConstants.{MAX_ROWS}

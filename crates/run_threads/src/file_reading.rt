@@ -1,7 +1,8 @@
 //! A zone file's reader, which puts the file's rows into the lane.
 
 ghost use Rattle.std.specs.Prelude.{◌≡◌, ◌+◌, ◌<◌, ◌≤◌, ◌++◌, [], ◌∷◌, length, vec_len, IfOk, IfErr, IfSome};
-ghost use Rattle.run_threads.specs.Reading.{most_bytes, IsRead};
+ghost use Rattle.run_threads.specs.MostBytes.{most_bytes};
+ghost use Rattle.run_threads.specs.Reading.{IsRead};
 ghost use Rattle.run_threads.specs.Promises.{IsUnsent};
 ghost use Rattle.run_threads.specs.Sending.{IsUnread, HasPut, TellsNext};
 ghost use Rattle.zone_csv.specs.ZoneReaderView.{blocks_left};

@@ -31,7 +31,7 @@ pub struct ValuedBy {
 }
 
 impl Promise<ValuerResult> for ValuedBy {
-    ghost use Rattle.pit_model.specs.Destinations.{formulas_of_plan};
+    ghost use Rattle.pit_model.specs.PlanFormulas.{formulas_of_plan};
     ghost use Rattle.run_threads.specs.Promises.{KeepsValued};
 
     ghost kept_by = { λ p r. KeepsValued (formulas_of_plan p.plan.value) p.end.value

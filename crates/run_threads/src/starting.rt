@@ -3,7 +3,7 @@
 ghost use Rattle.std.specs.Prelude.{◌≡◌, ◌+◌, ◌<◌, ◌≤◌, [], length, map, vec_len, vec_capacity, IsFalse, IfSome};
 ghost use Rattle.std.specs.List.{All};
 ghost use Rattle.std.specs.Prelude.{◌++◌, true, drop};
-ghost use Rattle.lane.specs.Message.{is_done};
+ghost use Rattle.lane.specs.MessageKinds.{is_done};
 ghost use Rattle.pit_model.specs.Destinations.{formulas_of};
 ghost use Rattle.run_threads.specs.Reading.{IsRead};
 ghost use Rattle.run_threads.specs.Promises.{AreUnsentFrom, IsUnsent};

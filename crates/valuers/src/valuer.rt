@@ -1,7 +1,7 @@
 //! A valuer, which takes from the lane until it is done and hands on what it took.
 
 ghost use Rattle.std.specs.Prelude.{◌≡◌, ◌≤◌, ◌++◌, true, [], ◌∷◌, length, take, drop, vec_len, vec_capacity, OnOk, OnErr, IsFalse, IsTrue};
-ghost use Rattle.lane.specs.Message.{is_done};
+ghost use Rattle.lane.specs.MessageKinds.{is_done};
 ghost use Rattle.pit_model.specs.Destinations.{formulas_of};
 ghost use Rattle.valuers.specs.Valuing.{items_by};
 ghost use Rattle.pit_model.specs.declared.ranges.TheConstants.{MAX_DESTINATIONS};
@@ -38,10 +38,18 @@ pub fn value_all<R: Wait, G: Gate>(
 ) -> ValuerResult
     requires some { 1 ≤ length destinations.now }
     requires few { length destinations.now ≤ MAX_DESTINATIONS }
-    ensures taker { result.taker ≡ record take_end { took = take_end.took ++ drop (length take_end.took) result.taker.took } }
+    ensures taker { result.taker
+        ≡ record take_end {
+          took = take_end.took
+              ++ drop (length take_end.took) result.taker.took;
+        } }
     ensures done { is_done result.taker.took ≡ true }
-    ensures items { IsFalse result.memory → result.items ≡ items_by (formulas_of destinations.now) (drop (length take_end.took) result.taker.took) }
-    ensures front { result.items ≡ take (length result.items) (items_by (formulas_of destinations.now) (drop (length take_end.took) result.taker.took)) }
+    ensures items { IsFalse result.memory
+        → result.items ≡ items_by (formulas_of destinations.now)
+        (drop (length take_end.took) result.taker.took) }
+    ensures front { result.items
+        ≡ take (length result.items)
+        (items_by (formulas_of destinations.now) (drop (length take_end.took) result.taker.took)) }
 {
     let items = Vec::new(alloc);
     let (taker, items, memory) = take_all(rt, take_end, valuer, destinations, gate, items);
@@ -64,10 +72,15 @@ fn take_all<R: Wait, G: Gate, A: Allocator>(
     requires some { 1 ≤ length destinations.now }
     requires few { length destinations.now ≤ MAX_DESTINATIONS }
     requires empty { items.items ≡ [] }
-    ensures taker { result.0 ≡ record take_end { took = take_end.took ++ drop (length take_end.took) result.0.took } }
+    ensures taker { result.0 ≡ record take_end
+        { took = take_end.took ++ drop (length take_end.took) result.0.took } }
     ensures done { is_done result.0.took ≡ true }
-    ensures items { IsFalse result.2 → result.1.items ≡ items_by (formulas_of destinations.now) (drop (length take_end.took) result.0.took) }
-    ensures front { result.1.items ≡ take (length result.1.items) (items_by (formulas_of destinations.now) (drop (length take_end.took) result.0.took)) }
+    ensures items { IsFalse result.2
+        → result.1.items ≡ items_by (formulas_of destinations.now)
+        (drop (length take_end.took) result.0.took) }
+    ensures front { result.1.items
+        ≡ take (length result.1.items)
+        (items_by (formulas_of destinations.now) (drop (length take_end.took) result.0.took)) }
     ensures full { IsTrue result.2 → vec_capacity result.1 ≤ vec_len result.1 }
 {
     let mut memory = false;
@@ -94,7 +107,9 @@ fn push_item<R: Wait, G: Gate, A: Allocator>(
 ) -> Result<(), AllocError>
     requires some { 1 ≤ length destinations.now }
     requires few { length destinations.now ≤ MAX_DESTINATIONS }
-    ensures pushed { OnOk result (items.new.items ≡ items.old.items ++ items_by (formulas_of destinations.now) (message ∷ [])) }
+    ensures pushed { OnOk result
+        (items.new.items ≡ items.old.items
+        ++ items_by (formulas_of destinations.now) (message ∷ [])) }
     ensures kept { OnErr result (items.new.items ≡ items.old.items) }
     ensures full { OnErr result (vec_capacity items.new ≤ vec_len items.new) }
 {

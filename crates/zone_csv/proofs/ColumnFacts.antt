@@ -6,7 +6,8 @@ use Rattle.pit_model.specs.Cells.{trimmed, is_word}
 use Rattle.forms.specs.Shape.{Check, failing, unless}
 use Rattle.zone_csv.proofs.RowFacts.{failing_of_row}
 use Rattle.zone_csv.specs.Cell.{a_fault, cell_at}
-use Rattle.zone_csv.specs.Header.{NamesColumn, NamesColumns, a_column, asked_of_header, columns_of, places_of}
+use Rattle.zone_csv.specs.Header.{a_column, asked_of_header, columns_of, places_of}
+use Rattle.zone_csv.specs.NamedColumns.{NamesColumn, NamesColumns}
 use Rattle.zone_csv.specs.declared.columns.Columns.{Columns}
 use Rattle.zone_csv.specs.declared.row_fault.Column.{Column}
 use Rattle.zone_csv.specs.declared.row_fault.Column.TheVariants as column

@@ -5,8 +5,11 @@ use Rattle.std.proofs.Math.Nat.{min-eq_left, mul-div_left}
 use Rattle.std.proofs.lemmas.Int.{ints}
 use Rattle.forms.proofs.ShapeFacts.{IsAnswer, said_answers, states_said, fails_said}
 use Rattle.forms.specs.Demands.{Demand, FailsFirst}
-use Rattle.forms.specs.Form.{Value, Millionths, Bytes, Says, Spell, asked, millionths}
-use Rattle.forms.specs.Shape.{Check, Fails, Shape, States, failing}
+use Rattle.forms.specs.Asked.{asked}
+use Rattle.forms.specs.Field.{Value, Millionths, Bytes, millionths}
+use Rattle.forms.specs.Spelled.{Says, Spell}
+use Rattle.forms.specs.Shape.{Check, Shape, failing}
+use Rattle.forms.specs.ShapeStates.{Fails, States}
 use Rattle.pit_model.specs.Block.{block_with}
 use Rattle.pit_model.specs.declared.block.Block.{Block}
 use Rattle.pit_model.specs.declared.grid.Axis.{Axis}

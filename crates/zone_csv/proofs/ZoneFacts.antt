@@ -9,9 +9,12 @@ use Rattle.pit_model.specs.declared.block.Block.{Block}
 use Rattle.pit_model.specs.declared.grid.Grid.{Grid}
 use Rattle.zone_csv.proofs.ColumnFacts.{columns_named, fault_of_header, header_fails, named_columns, refused_header}
 use Rattle.zone_csv.proofs.RowFacts.{fails_row, fault_of_row, row_answers, row_within, states_row, zone_of_row}
-use Rattle.zone_csv.specs.Header.{NamesColumns, columns_of}
+use Rattle.zone_csv.specs.Header.{columns_of}
+use Rattle.zone_csv.specs.NamedColumns.{NamesColumns}
 use Rattle.zone_csv.specs.Row.{row_of, row_shape}
-use Rattle.zone_csv.specs.Zone.{AccountsForRecords, HasFewBlocks, HasOwnBlocks, HeaderFails, RowsState, ZoneStates, before_fault, below_header, blocks_of, fault_of, first_fault, header_of, records_say, rows_say}
+use Rattle.zone_csv.specs.Zone.{before_fault, below_header, blocks_of, fault_of, first_fault, records_say, rows_say}
+use Rattle.zone_csv.specs.ZoneKept.{AccountsForRecords, HasFewBlocks, HasOwnBlocks}
+use Rattle.zone_csv.specs.ZoneStates.{HeaderFails, RowsState, ZoneStates, header_of}
 use Rattle.zone_csv.specs.declared.columns.Columns.{Columns}
 use Rattle.zone_csv.specs.declared.row_fault.RowFault.{RowFault}
 

@@ -2,7 +2,7 @@
 use Rattle.std.specs.Prelude.{ℕ, ◌*◌, ◌/◌, List, [], ℤ, pos, negsuc, ◌+ℤ◌, ◌-ℤ◌, ◌*ℤ◌, ◌≤ℤ◌, unsigned_abs, Result, Ok, slice_index_or}
 use Rattle.forms.specs.FieldFault.{FieldFault}
 use Rattle.forms.specs.FieldFault as fault
-use Rattle.forms.specs.Form.{Field, Stepped, Value, Millionths, up_to}
+use Rattle.forms.specs.Field.{Field, Stepped, Value, Millionths, up_to}
 use Rattle.forms.specs.Steps.{◌>>=◌}
 use Rattle.pit_model.specs.Cells.{trimmed}
 use Rattle.pit_model.specs.declared.grid.Axis.{Axis}

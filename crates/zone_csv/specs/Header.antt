@@ -1,8 +1,8 @@
 -- The header of a zone file: where its columns stand.
-use Rattle.std.specs.Prelude.{◌≡◌, ℕ, ◌+◌, ◌==◌, nat_le, not, true, List, [], ◌∷◌, ◌++◌, length, slice_index_or, Result, Ok, codes, if◌then◌else◌}
+use Rattle.std.specs.Prelude.{ℕ, ◌+◌, ◌==◌, nat_le, not, List, [], ◌∷◌, ◌++◌, length, slice_index_or, Result, Ok, codes, if◌then◌else◌}
 use Rattle.forms.specs.Shape.{Check, check, failing, unless}
 use Rattle.pit_model.specs.Cells.{trimmed, is_word}
-use Rattle.zone_csv.specs.Cell.{a_fault, cell_at}
+use Rattle.zone_csv.specs.Cell.{a_fault}
 use Rattle.zone_csv.specs.declared.columns.Columns.{Columns}
 use Rattle.zone_csv.specs.declared.row_fault.Column.{Column}
 use Rattle.zone_csv.specs.declared.row_fault.Column.TheVariants as column
@@ -41,17 +41,3 @@ columns_of header = unless (failing (asked_of_header header)) (Ok (record {
   tonnes = place_of (codes "tonnes") header;
   grade = place_of (codes "grade") header;
 }))
-
--- the cell at this place is the column's name, in any case, and no other cell is
-abbrev pub NamesColumn : List (List ℕ) → List ℕ → ℕ → Type 0
-NamesColumn header name place =
-    (is_word (cell_at header place) name ≡ true) × ((other : ℕ) → is_word (cell_at header other) name ≡ true → other ≡ place)
-
--- the header names the five columns, wherever they stand, and has so many cells
-pub record NamesColumns (header : List (List ℕ)) (columns : Columns) : Type 0 where
-  pub width : columns.width ≡ length header
-  pub x : NamesColumn header (codes "x") columns.x
-  pub y : NamesColumn header (codes "y") columns.y
-  pub z : NamesColumn header (codes "z") columns.z
-  pub tonnes : NamesColumn header (codes "tonnes") columns.tonnes
-  pub grade : NamesColumn header (codes "grade") columns.grade

@@ -1,10 +1,13 @@
 pub mod Cell
 pub mod FaultText
 pub mod Feed
-pub mod Header
-pub mod ZoneReaderView
-pub mod Row
 pub mod FileFeedView
+pub mod Header
 pub mod MemFeedView
+pub mod NamedColumns
+pub mod Row
 pub mod Zone
+pub mod ZoneKept
+pub mod ZoneReaderView
 pub mod ZoneStages
+pub mod ZoneStates

@@ -1,17 +1,15 @@
 -- Reading a zone file: the blocks before its first fault, and that fault.
-use Rattle.std.specs.Prelude.{◌≡◌, ℕ, ◌+◌, ◌≤◌, List, [], ◌∷◌, drop, length, slice_index_or, All, ◌⊎◌, MatchOption, Option, Some, None, Result, Ok, Err}
-use Rattle.forms.specs.Shape.{Fails, States, failing}
+use Rattle.std.specs.Prelude.{ℕ, ◌+◌, List, [], ◌∷◌, Option, Some, None, Result, Ok, Err}
 use Rattle.pit_model.specs.Records.{records_of}
 use Rattle.pit_model.specs.declared.block.Block.{Block}
 use Rattle.pit_model.specs.declared.grid.Grid.{Grid}
 use Rattle.zone_csv.specs.Cell.{a_fault}
-use Rattle.zone_csv.specs.Header.{NamesColumns, asked_of_header, columns_of}
-use Rattle.zone_csv.specs.Row.{row_of, row_shape}
+use Rattle.zone_csv.specs.Header.{columns_of}
+use Rattle.zone_csv.specs.Row.{row_of}
 use Rattle.zone_csv.specs.declared.columns.Columns.{Columns}
 use Rattle.zone_csv.specs.declared.row_fault.Column.TheVariants as column
 use Rattle.zone_csv.specs.declared.row_fault.RowFault.{RowFault}
 use Rattle.zone_csv.specs.declared.row_fault.RowFaultKind.TheVariants.{MissingColumn}
-use Rattle.pit_model.specs.declared.ranges.TheConstants.{MAX_ROWS}
 
 -- what each of these rows says, the first one being record `number`
 abbrev pub rows_say : Grid → ℕ → Columns → List (List (List ℕ)) → ℕ → List (Result Block RowFault)
@@ -48,40 +46,3 @@ blocks_of grid zone text = before_fault (records_say grid zone (records_of text)
 -- the first fault of a zone file
 unfoldable pub fault_of : Grid → ℕ → List ℕ → Option RowFault
 fault_of grid zone text = first_fault (records_say grid zone (records_of text))
-
--- these rows, from record `number` on, state these blocks; behind them stands no row, or one that fails with this fault
-abbrev pub RowsState : Grid → ℕ → Columns → ℕ → List (List (List ℕ)) → List Block → Option RowFault → Type 0
-RowsState grid zone columns number [] [] None = Unit {0}
-RowsState grid zone columns number [] [] (Some fault) = ⊥
-RowsState grid zone columns number [] (block ∷ blocks) fault = ⊥
-RowsState grid zone columns number (row ∷ rows) [] None = ⊥
-RowsState grid zone columns number (row ∷ rows) [] (Some fault) = Fails (row_shape grid zone columns number row) fault
-RowsState grid zone columns number (row ∷ rows) (block ∷ blocks) fault =
-    States (row_shape grid zone columns number row) block × RowsState grid zone columns (number + 1) rows blocks fault
-
--- the header of these records, which has no cells where there are none
-abbrev pub header_of : List (List (List ℕ)) → List (List ℕ)
-header_of records = slice_index_or records 0 []
-
--- the header names columns, and the rows behind it state these blocks, up to the end or this fault
-abbrev pub ZoneStates : Grid → ℕ → List (List (List ℕ)) → List Block → Option RowFault → Type 0
-ZoneStates grid zone records blocks fault =
-    (columns : Columns) × NamesColumns (header_of records) columns × RowsState grid zone columns 2 (drop 1 records) blocks fault
-
--- the fault is what fails first in the header, and then there are no blocks
-abbrev pub HeaderFails : List (List (List ℕ)) → List Block → RowFault → Type 0
-HeaderFails records blocks fault = (blocks ≡ []) × (failing (asked_of_header (header_of records)) ≡ Some fault)
-
--- a zone file has at most a million blocks
-abbrev pub HasFewBlocks : Grid → ℕ → List ℕ → Type 0
-HasFewBlocks grid zone text = length (blocks_of grid zone text) ≤ MAX_ROWS
-
--- its blocks are of its zone
-abbrev pub HasOwnBlocks : Grid → ℕ → List ℕ → Type 0
-HasOwnBlocks grid zone text = All (λ block. block.zone ≡ zone) (blocks_of grid zone text)
-
--- its records are the header and a block each, or its fault is that of the record behind its blocks, or of the header
-abbrev pub AccountsForRecords : Grid → ℕ → List ℕ → Type 0
-AccountsForRecords grid zone text =
-    MatchOption (fault_of grid zone text) (length (records_of text) ≡ length (blocks_of grid zone text) + 1)
-    (λ fault. (fault.row ≡ length (blocks_of grid zone text) + 2) ⊎ ((fault.row ≡ 1) × (blocks_of grid zone text ≡ [])))

@@ -2,9 +2,10 @@
 
 ghost use Rattle.std.specs.Prelude.{◌≡◌, ◌*◌, ◌<◌, ◌≤◌, ◌≤ℤ◌, ◌-ℤ◌, pos, unsigned_abs, Err, IfOk};
 ghost use Rattle.csv.specs.Records.{fields_of};
-ghost use Rattle.pit_model.specs.Plan.{IsAxis};
+ghost use Rattle.pit_model.specs.PlanKept.{IsAxis};
 ghost use Rattle.zone_csv.specs.Cell.{IsInGrid, a_fault, cell_at, coordinate, greatest, index_at, least, of_cell, stated};
-ghost use Rattle.forms.specs.Form.{number_of, read_decimal, read_field, up_to};
+ghost use Rattle.forms.specs.Field.{up_to};
+ghost use Rattle.forms.specs.Read.{number_of, read_decimal, read_field};
 ghost use Rattle.pit_model.specs.declared.ranges.TheConstants.{GRID_CELLS};
 
 use crate::row_fault::{Column, RowFault, RowFaultKind};
@@ -54,7 +55,8 @@ fn number_of(
     cell: &[u8],
 ) -> Result<Dec, RowFault>
     requires { decimals ≤ 6 }
-    ensures value { stated (λ m. m) result ≡ read_decimal (of_cell row column) decimals low high cell.now }
+    ensures value { stated (λ m. m) result
+        ≡ read_decimal (of_cell row column) decimals low high cell.now }
     ensures in_range { IfOk result (λ number. (low ≤ℤ number) × (number ≤ℤ high)) }
 {
     match parse_dec(cell, decimals) {
@@ -79,7 +81,8 @@ pub(crate) fn size_of(
     cell: &[u8],
 ) -> Result<u64, RowFault>
     requires { decimals ≤ 6 }
-    ensures value { stated pos result ≡ read_field (of_cell row column) (up_to decimals most) cell.now }
+    ensures value { stated pos result
+        ≡ read_field (of_cell row column) (up_to decimals most) cell.now }
     ensures in_range { IfOk result (λ size. size ≤ most) }
 {
     let number = number_of(row, column, decimals, 0, i128::from(most), cell)?;
@@ -95,7 +98,8 @@ pub(crate) fn coordinate_of(
     cell: &[u8],
 ) -> Result<Dec, RowFault>
     requires { IsAxis axis }
-    ensures value { stated (λ m. m) result ≡ read_field (of_cell row column) (coordinate axis) cell.now }
+    ensures value { stated (λ m. m) result
+        ≡ read_field (of_cell row column) (coordinate axis) cell.now }
     ensures in_grid { IfOk result (IsInGrid axis) }
 {
     let coordinate = number_of(row, column, 3, least(axis), greatest(axis), cell)?;

@@ -30,7 +30,8 @@ pub trait Feed {
     /// The device failed. No byte was given, and a later pull goes on where this one would have.
     fn pull(&mut self, buffer: &mut [u8]) -> Result<usize, FeedFault>
         ensures within { IfOk result (λ n. n ≤ length buffer.old) }
-        ensures gives { IfOk result (λ n. left self.old ≡ put_back (take n buffer.new) (left self.new)) }
+        ensures gives { IfOk result
+            (λ n. left self.old ≡ put_back (take n buffer.new) (left self.new)) }
         ensures end { IfOk result
             (λ n. n ≡ 0 → 0 < length buffer.old → IfSome (left self.old) (λ bytes. bytes ≡ [])) }
         ensures counts { IfOk result (λ n. given self.new ≡ given self.old + n) }

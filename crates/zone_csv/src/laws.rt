@@ -1,16 +1,21 @@
 //! What holds of every zone file and of every coordinate, for whoever speaks of them in a contract. The calls do nothing.
 
 ghost use Rattle.std.specs.Prelude.{◌≡◌, ◌*◌, ◌<◌, ◌⊎◌, ◌↔◌, ℕ, ℤ, true, List, Ok, None, Some};
-ghost use Rattle.forms.specs.Form.{Spell, is_on_step};
-ghost use Rattle.forms.specs.Shape.{Fails, States, failing};
+ghost use Rattle.forms.specs.Field.{is_on_step};
+ghost use Rattle.forms.specs.Spelled.{Spell};
+ghost use Rattle.forms.specs.Shape.{failing};
+ghost use Rattle.forms.specs.ShapeStates.{Fails, States};
 ghost use Rattle.pit_model.specs.declared.grid.Axis.{Axis as AnAxis};
 ghost use Rattle.pit_model.specs.declared.grid.Grid.{Grid as AGrid};
 ghost use Rattle.pit_model.specs.Records.{records_of};
 ghost use Rattle.pit_model.specs.declared.block.Block.{Block};
 ghost use Rattle.zone_csv.specs.Cell.{IsInGrid, centroid, index_at, least};
-ghost use Rattle.zone_csv.specs.Header.{NamesColumns, asked_of_header, columns_of};
+ghost use Rattle.zone_csv.specs.Header.{asked_of_header, columns_of};
+ghost use Rattle.zone_csv.specs.NamedColumns.{NamesColumns};
 ghost use Rattle.zone_csv.specs.Row.{row_shape, values_of};
-ghost use Rattle.zone_csv.specs.Zone.{HasFewBlocks, HasOwnBlocks, AccountsForRecords, HeaderFails, ZoneStates, blocks_of, fault_of};
+ghost use Rattle.zone_csv.specs.Zone.{blocks_of, fault_of};
+ghost use Rattle.zone_csv.specs.ZoneKept.{HasFewBlocks, HasOwnBlocks, AccountsForRecords};
+ghost use Rattle.zone_csv.specs.ZoneStates.{HeaderFails, ZoneStates};
 ghost use Rattle.zone_csv.specs.declared.columns.Columns.{Columns as FiveColumns};
 ghost use Rattle.zone_csv.specs.declared.row_fault.RowFault.{RowFault};
 ghost use Rattle.pit_model.specs.declared.ranges.TheConstants.{GRID_CELLS, MAX_ZONES};

@@ -2,7 +2,7 @@
 
 ghost use Rattle.std.specs.Prelude.{◌≡◌, ◌+◌, ◌<◌, ◌≤◌, OnOk};
 ghost use Rattle.csv.specs.Records.{fields_of};
-ghost use Rattle.pit_model.specs.Plan.{IsGrid};
+ghost use Rattle.pit_model.specs.PlanKept.{IsGrid};
 ghost use Rattle.zone_csv.specs.Row.{row_of};
 ghost use Rattle.pit_model.specs.declared.ranges.TheConstants.{MAX_ROWS, MAX_ZONES};
 

@@ -83,7 +83,8 @@ pub fn slurp<F: Feed>(alloc: Global, feed: &mut F, limit: u64) -> Result<Vec<u8>
     // How much was read, and where the feed stands, whatever was answered.
     ensures onward { F.given feed.old ≤ F.given feed.new }
     ensures reads { F.given feed.new ≤ F.given feed.old + (limit + 1) }
-    ensures stands { F.left feed.new ≡ left_after (F.given feed.new - F.given feed.old) (F.left feed.old) }
+    ensures stands { F.left feed.new
+        ≡ left_after (F.given feed.new - F.given feed.old) (F.left feed.old) }
     ensures stays_sure { IsTrue (F.is_sure feed.old) → IsTrue (F.is_sure feed.new) }
 {
     let most = limit as usize + 1;
@@ -126,7 +127,8 @@ fn pull_behind<F: Feed>(feed: &mut F, text: &mut [u8], filled: usize) -> Result<
     ensures gives { IfOk result (λ count. put_back (take filled text.old) (F.left feed.old)
         ≡ put_back (take (filled + count) text.new) (F.left feed.new)) }
     ensures front { take filled text.new ≡ take filled text.old }
-    ensures end { IfOk result (λ count. count ≡ 0 → IfSome (F.left feed.old) (λ bytes. bytes ≡ [])) }
+    ensures end { IfOk result (λ count. count ≡ 0
+        → IfSome (F.left feed.old) (λ bytes. bytes ≡ [])) }
     ensures counts { IfOk result (λ count. F.given feed.new ≡ F.given feed.old + count) }
     ensures works { OnOk result (F.failures feed.new ≡ F.failures feed.old) }
     ensures refused_left { OnErr result (F.left feed.new ≡ F.left feed.old) }

@@ -1,9 +1,10 @@
 //! The reader of a zone file.
 
 ghost use Rattle.std.specs.Prelude.{◌≡◌, ◌+◌, ◌<◌, ◌≤◌, length, Err, IfOk, IfSome};
-ghost use Rattle.pit_model.specs.Plan.{IsGrid};
+ghost use Rattle.pit_model.specs.PlanKept.{IsGrid};
 ghost use Rattle.zone_csv.specs.ZoneReaderView.{Says, Answers, blocks_left};
-ghost use Rattle.zone_csv.specs.Zone.{blocks_of, fault_of, HasFewBlocks, HasOwnBlocks};
+ghost use Rattle.zone_csv.specs.Zone.{blocks_of, fault_of};
+ghost use Rattle.zone_csv.specs.ZoneKept.{HasFewBlocks, HasOwnBlocks};
 ghost use Rattle.zone_csv.specs.ZoneStages.{reader_view, IsCounted};
 ghost use Rattle.pit_model.specs.declared.ranges.TheConstants.{MAX_ROWS, MAX_ZONES};
 
@@ -47,7 +48,7 @@ pub struct ZoneReader {
 
 impl Model for ZoneReader {
     ghost use Rattle.std.specs.Prelude.{◌<◌};
-    ghost use Rattle.pit_model.specs.Plan.{IsGrid};
+    ghost use Rattle.pit_model.specs.PlanKept.{IsGrid};
     ghost use Rattle.zone_csv.specs.ZoneReaderView.{ZoneReaderView};
     ghost use Rattle.zone_csv.specs.ZoneStages.{reader_view, IsCounted};
     ghost use Rattle.pit_model.specs.declared.ranges.TheConstants.{MAX_ZONES};
@@ -64,7 +65,8 @@ impl ZoneReader {
     pub fn new(alloc: Global, text: Vec<u8>, plan: &Plan, zone: u8) -> ZoneReader
         requires { zone < length plan.now.cones }
         ensures says { result
-            ≡ Says (blocks_of plan.now.grid zone text.items) (fault_of plan.now.grid zone text.items) }
+            ≡ Says (blocks_of plan.now.grid zone text.items)
+            (fault_of plan.now.grid zone text.items) }
         ensures few { HasFewBlocks plan.now.grid zone text.items }
         ensures own { HasOwnBlocks plan.now.grid zone text.items }
     {
@@ -169,7 +171,8 @@ fn next_row(
     requires grid { IsGrid grid }
     requires zone { zone < MAX_ZONES }
     requires counted { number ≤ MAX_ROWS + 2 }
-    ensures answers { Answers (reader_view grid zone (Stage.Body columns number) records.old) result.1
+    ensures answers { Answers (reader_view grid zone (Stage.Body columns number) records.old)
+        result.1
         (reader_view grid zone result.0 records.new) }
     ensures counted { IsCounted result.0 }
 {

@@ -1,7 +1,7 @@
 //! A valuer on one thread, and one beside a reader.
 
 ghost use Rattle.std.specs.Prelude.{◌≡◌, ◌≤◌, true, [], IfOk, IfSome, length};
-ghost use Rattle.lane.specs.Message.{is_done};
+ghost use Rattle.lane.specs.MessageKinds.{is_done};
 ghost use Rattle.lane.specs.Ends.{first_puts, first_takes};
 ghost use Rattle.pit_model.specs.Worth.{dump, mill};
 
@@ -68,7 +68,8 @@ fn lane_on_one_thread(rt: HostRuntime) -> Result<(), Fail> {
 // The one put end of a lane.
 fn only_put(closer: &Closer, mut puts: Vec<PutEnd>) -> Option<PutEnd>
     requires { puts.items ≡ first_puts closer.now.lane 0 1 }
-    ensures { IfSome result (λ put. (put.lane ≡ closer.now.lane) × (put.file ≡ 0) × (put.sent ≡ [])) }
+    ensures { IfSome result (λ put. (put.lane ≡ closer.now.lane) × (put.file ≡ 0)
+        × (put.sent ≡ [])) }
 {
     puts.pop()
 }
@@ -76,7 +77,8 @@ fn only_put(closer: &Closer, mut puts: Vec<PutEnd>) -> Option<PutEnd>
 // The one take end of a lane.
 fn only_take(closer: &Closer, mut takes: Vec<TakeEnd>) -> Option<TakeEnd>
     requires { takes.items ≡ first_takes closer.now.lane 0 1 }
-    ensures { IfSome result (λ take. (take.lane ≡ closer.now.lane) × (take.taker ≡ 0) × (take.took ≡ [])) }
+    ensures { IfSome result (λ take. (take.lane ≡ closer.now.lane) × (take.taker ≡ 0)
+        × (take.took ≡ [])) }
 {
     takes.pop()
 }

@@ -1,6 +1,6 @@
 use Rattle.std.proofs.Common.{◌≡◌, ◌∙◌, ap, length}
 use Rattle.std.proofs.lemmas.List.{length-map}
-use Rattle.mine_instance.specs.Cpit.{cpit_of}
+use Rattle.mine_instance.specs.CpitKept.{cpit_of}
 use Rattle.mine_instance.specs.Greatest.{first_greatest}
 use Rattle.mine_instance.proofs.CpitFacts.{coefs_are_chosen, coefs_there, cpit_is_one}
 use Rattle.mine_instance.proofs.cpit_building.build_cpit.Goals as goal

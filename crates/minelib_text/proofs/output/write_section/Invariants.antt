@@ -1,13 +1,13 @@
 use Rattle.std.proofs.Common.{◌-◌, ◌≤◌, length, take}
 use Rattle.minelib_text.specs.Lines.{text_of}
-use Rattle.minelib_text.specs.SinkState.{IsWrittenOn}
+use Rattle.minelib_text.specs.SinkSteps.{IsAppended}
 use Rattle.minelib_text.proofs.output.write_section.Given as goal
 
 -- The lines so far are written on.
 abbrev pub invariant-loop-index : goal.invariant-loop-index
 invariant-loop-index g l = record {
   within : l.index ≤ length (g.L.Section.lines l.section);
-  written : IsWrittenOn (text_of (take l.index (g.L.Section.lines l.section))) l.initial.buffer.items l.buffer.items
+  written : IsAppended (text_of (take l.index (g.L.Section.lines l.section))) l.initial.buffer.items l.buffer.items
       (g.S.Sink.state l.initial.sink) (g.S.Sink.state l.sink);
 }
 

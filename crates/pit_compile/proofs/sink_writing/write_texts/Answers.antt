@@ -3,9 +3,11 @@ use Rattle.std.specs.Prelude.{IfErr}
 use Rattle.mine_instance.specs.Cpit.{CpitParts}
 use Rattle.std.proofs.lemmas.Result.{err_from_is_err_and}
 use Rattle.minelib_text.specs.Written.{text_blocks, text_prec, text_upit, text_pcpsp, text_cpit}
-use Rattle.minelib_text.specs.SinkState.{IsCutOff, IsWritten, refusals}
+use Rattle.minelib_text.specs.SinkState.{IsCutOff, IsWritten}
+use Rattle.minelib_text.specs.SinkSteps.{refusals}
 use Rattle.mine_instance.specs.OfCpit.{cpit}
-use Rattle.pit_compile.specs.Sinks.{all_told, minelib_texts, AreCutOff}
+use Rattle.pit_compile.specs.SinkAnswers.{AreCutOff}
+use Rattle.pit_compile.specs.Sinks.{all_told, minelib_texts}
 use Rattle.pit_compile.specs.declared.refusal.SinkName.TheVariants.{Blocks, Prec, Upit, Pcpsp, Cpit}
 use Rattle.pit_compile.proofs.CutOff.{at_end, cut, cut_there, wrote}
 use Rattle.pit_compile.proofs.sink_writing.write_texts.Goals as goal

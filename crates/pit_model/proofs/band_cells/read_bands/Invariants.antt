@@ -1,8 +1,8 @@
 use Rattle.std.proofs.Common.{◌≡◌, ◌+◌, ◌-◌, ◌*◌, ◌/◌, suc, length, All}
 use Rattle.csv.specs.Records.{fields_of}
-use Rattle.pit_model.specs.Bands.{IsBand}
+use Rattle.pit_model.specs.BandsKept.{IsBand}
 use Rattle.pit_model.specs.ByPlace.{bands_in}
-use Rattle.pit_model.specs.Cells.{cells_of}
+use Rattle.pit_model.specs.RecordCells.{cells_of}
 use Rattle.pit_model.proofs.band_cells.read_bands.Given as goal
 
 abbrev pub invariant-loop-pair : goal.invariant-loop-pair

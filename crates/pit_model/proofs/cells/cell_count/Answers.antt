@@ -1,6 +1,6 @@
 use Rattle.std.proofs.Common.{◌≡◌, ◌<◌, ◌==◌, sym, ◌∙◌, ap, length, arith}
 use Rattle.csv.specs.Records.{fields_of}
-use Rattle.pit_model.specs.Cells.{cell_at, cells_of}
+use Rattle.pit_model.specs.RecordCells.{cell_at, cells_of}
 use Rattle.pit_model.proofs.CellFacts.{one_empty, one_full}
 use Rattle.pit_model.proofs.cells.cell_count.Goals as goal
 use Rattle.pit_model.proofs.cells.cell_count.Goals.{then-not-is_empty, else-not-is_empty}

@@ -1,7 +1,7 @@
 use Rattle.std.proofs.Common.{◌≡◌, ℕ, ◌∙◌, ap, subst, sym, map, get_or, length, arith}
 use Rattle.std.specs.Map.{values_of}
 use Rattle.std.proofs.lemmas.List.{length-map}
-use Rattle.precedence.specs.Identifier.{NumberingView, IsNumbering}
+use Rattle.precedence.specs.Numbering.{NumberingView, IsNumbering}
 use Rattle.precedence.proofs.Identifiers.{all_inside, as_many_positions, blocks_rise, numbering_is}
 use Rattle.precedence.proofs.number_by_place.number_blocks.Goals as goal
 

@@ -2,7 +2,8 @@ use Rattle.std.proofs.Common.{◌≡◌, List, ◌∙◌, ap, length, arith, sub
 use Rattle.std.proofs.lemmas.List.{length-map}
 use Rattle.pit_model.specs.declared.block.Block.{Block}
 use Rattle.rows.specs.declared.item.Valued.{Valued}
-use Rattle.precedence.specs.Identifier.{blocks_of_rows, IsNumbering}
+use Rattle.precedence.specs.Identifier.{blocks_of_rows}
+use Rattle.precedence.specs.Numbering.{IsNumbering}
 use Rattle.precedence.specs.SameBlock.{IsReason}
 use Rattle.precedence.proofs.number_rows.number.Goals as goal
 

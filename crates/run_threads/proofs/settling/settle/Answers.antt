@@ -1,6 +1,6 @@
 use Rattle.std.proofs.Common.{arith, rules, ◌≡◌, ◌∙◌, All, true, sym, subst}
 use Rattle.lane.specs.Ends.{TakeEndView}
-use Rattle.lane.specs.Message.{is_done}
+use Rattle.lane.specs.MessageKinds.{is_done}
 use Rattle.run_threads.proofs.Joined.{puts_of, read_of, takes_of, done_of, valued_of}
 use Rattle.run_threads.proofs.settling.settle.Goals as goal
 

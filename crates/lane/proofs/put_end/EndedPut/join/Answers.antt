@@ -1,5 +1,5 @@
 use Rattle.std.proofs.Common.{◌≡◌, true, subst}
-use Rattle.lane.specs.Message.{has_end}
+use Rattle.lane.specs.MessageKinds.{has_end}
 use Rattle.lane.proofs.Messages.{ended_has_end}
 use Rattle.lane.proofs.Rules.{joins}
 use Rattle.lane.proofs.put_end.EndedPut.join.Goals as goal

@@ -1,5 +1,5 @@
 use Rattle.std.proofs.Common.{◌≡◌, ◌∙◌, subst}
-use Rattle.lane.specs.Message.{ends_in_mark}
+use Rattle.lane.specs.MessageKinds.{ends_in_mark}
 use Rattle.lane.proofs.Messages.{done_is_last}
 use Rattle.lane.proofs.take_end.TakeEnd.is_done.Goals as goal
 

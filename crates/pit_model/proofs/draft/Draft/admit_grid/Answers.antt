@@ -1,8 +1,9 @@
 use Rattle.std.proofs.Common.{rules, ◌≡◌, sym, ◌∙◌, ap, subst, Ok, List, ℕ, length, w64, to_z, of_z}
 use Rattle.csv.specs.Records.{fields_of}
-use Rattle.forms.specs.Form.{Field, Value, read_field}
+use Rattle.forms.specs.Field.{Field, Value}
+use Rattle.forms.specs.Read.{read_field}
 use Rattle.pit_model.specs.ByPlace.{length_of}
-use Rattle.pit_model.specs.Cells.{cells_of}
+use Rattle.pit_model.specs.RecordCells.{cells_of}
 use Rattle.pit_model.specs.PlanCells.{a_size, an_origin, plan_kind}
 use Rattle.pit_model.proofs.CellsByPlace.{grid_said}
 use Rattle.pit_model.proofs.draft.Draft.admit_grid.Goals as goal

@@ -1,0 +1,42 @@
+-- Forms: what a line of fields, or a record of cells, looks like. A form is data: a field for each place.
+-- And the values that they state.
+use Rattle.std.specs.Prelude.{ℕ, ◌*◌, ◌/◌, ◌%◌, ◌-◌, ◌^◌, ◌==◌, Bool, List, [], slice_index_or, ℤ, pos, negsuc, ◌+ℤ◌, ◌-ℤ◌, unsigned_abs}
+
+-- a decimal with so many decimals, from the lowest to the highest millionths; one that is also whole
+-- steps of so many millionths above the lowest; or a word that passes a test
+pub data Field : Type 0 where
+  Decimal : (decimals : ℕ) (low high : ℤ) → Field
+  Stepped : (decimals step : ℕ) (low high : ℤ) → Field
+  Word : (passes : List ℕ → Bool) → Field
+
+-- what a field states: so many millionths, or a word
+pub data Value : Type 0 where
+  Millionths : (m : ℤ) → Value
+  Bytes : (word : List ℕ) → Value
+
+-- a whole number below a limit
+abbrev pub below : ℕ → Field
+below limit = Decimal 0 (pos 0) (pos (limit * 10 ^ 6) +ℤ negsuc 0)
+
+-- so many millionths, from 0 to the most, with so many decimals
+abbrev pub up_to : ℕ → ℕ → Field
+up_to decimals most = Decimal decimals (pos 0) (pos most)
+
+-- a whole number as a value
+abbrev pub whole : ℕ → Value
+whole n = Millionths (pos (n * 10 ^ 6))
+
+-- the millionths at a place, from 0, and the whole number; 0 where no number stands
+abbrev pub millionths : Value → ℤ
+millionths (Millionths m) = m
+millionths (Bytes word) = pos 0
+
+abbrev pub number_at : List Value → ℕ → ℤ
+number_at values place = millionths (slice_index_or values place (Bytes []))
+
+abbrev pub whole_at : List Value → ℕ → ℕ
+whole_at values place = unsigned_abs (number_at values place) / 10 ^ 6
+
+-- so many millionths are whole steps above the lowest
+abbrev pub is_on_step : ℕ → ℤ → ℤ → Bool
+is_on_step step low m = unsigned_abs (m -ℤ low) % step == 0

@@ -1,0 +1,29 @@
+-- What `compile` answers.
+use Rattle.std.specs.Prelude.{◌≡◌, ℕ, Bool, List, Option}
+use Rattle.mine_instance.specs.OfCpit.{cpit}
+use Rattle.pit_model.specs.Plan.{PlanParts}
+use Rattle.pit_compile.specs.Verdict.{IsAccepted}
+use Rattle.pit_compile.specs.declared.compiling.Compiled.{Compiled}
+use Rattle.pit_compile.specs.declared.refusal.Refusal.{Refusal}
+use Rattle.pit_compile.specs.declared.refusal.Refusal.TheVariants.{Settings, NoThread, FeedFailed, TooLong, Row, Same, SinkFailed, OutOfMemory}
+use Rattle.pit_compile.specs.Compiled.{AreGiven, instance_from, HasPassed, IsVerdict, IsFeedFault}
+
+-- the zone files are accepted, they went through the lane, and this is their instance
+pub record IsCompiled (plan : PlanParts) (lefts : List (Option (List ℕ))) (valuers : ℕ) (c : Compiled) : Type 0 where
+  pub texts : List (List ℕ)
+  pub given : AreGiven lefts texts
+  pub accepted : IsAccepted plan texts
+  pub passed : HasPassed plan texts valuers c.gathered
+  pub instance_is : c.instance ≡ instance_from plan texts
+  pub cpit_is : c.cpit ≡ cpit (instance_from plan texts)
+
+-- why nothing was compiled, by the bytes that the feeds had left and by which of them were sure
+abbrev pub IsNotCompiled : PlanParts → List (Option (List ℕ)) → List Bool → Refusal → Type 0
+IsNotCompiled plan lefts sures (Settings kind) = Unit {0}
+IsNotCompiled plan lefts sures NoThread = Unit {0}
+IsNotCompiled plan lefts sures (FeedFailed file) = IsFeedFault plan lefts sures file
+IsNotCompiled plan lefts sures (TooLong file) = IsVerdict plan lefts (TooLong file)
+IsNotCompiled plan lefts sures (Row file fault) = IsVerdict plan lefts (Row file fault)
+IsNotCompiled plan lefts sures (Same first again) = IsVerdict plan lefts (Same first again)
+IsNotCompiled plan lefts sures (SinkFailed which) = ⊥
+IsNotCompiled plan lefts sures OutOfMemory = Unit {0}

@@ -1,0 +1,18 @@
+-- Rows as the zone files of a plan can have them. Contracts within the crate and proofs alone need this page.
+use Rattle.std.specs.Prelude.{◌≡◌, ◌<◌, ◌≤◌, List, length, All}
+use Rattle.pit_model.specs.PlanFormulas.{formulas_of_plan}
+use Rattle.pit_model.specs.Plan.{PlanParts}
+use Rattle.rows.specs.Valued.{worths_by}
+use Rattle.rows.specs.declared.item.Valued.{Valued}
+use Rattle.pit_model.specs.declared.ranges.TheConstants.{MAX_BLOCKS, MAX_ROWS}
+
+-- the place of a row is one of its file's
+abbrev pub HasPlace : Valued → Type 0
+HasPlace row = row.place < MAX_ROWS
+
+-- these are rows as the zone files of a plan can have them
+pub record AreModelRows (plan : PlanParts) (rows : List Valued) : Type 0 where
+  pub few : length rows ≤ MAX_BLOCKS
+  pub placed : All HasPlace rows
+  pub zones : All (λ row. row.block.zone < length plan.cones) rows
+  pub valued : All (λ row. row.worths ≡ worths_by (formulas_of_plan plan) row.block) rows

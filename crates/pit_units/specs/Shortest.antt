@@ -1,0 +1,29 @@
+-- What the shortest text of a number is, and texts of plain bytes.
+use Rattle.std.specs.Prelude.{◌≡◌, ◌≢◌, ◌↔◌, ◌<ℤ◌, slice_index, ℕ, ◌-◌, ◌<◌, ◌≤◌, List, [], ◌∷◌, length, ℤ, pos}
+use Rattle.std.specs.List.{All}
+use Rattle.pit_units.specs.Decimal.{IsSpelled}
+
+-- the shortest text of z: a minus only below zero and no plus, a digit before the point and no leading zero beside others,
+-- a fraction only where it is not zero, and no zero at its end
+pub record IsShortest (z : ℤ) (text : List ℕ) : Type 0 where
+  pub sign : List ℕ
+  pub whole : List ℕ
+  pub tail : List ℕ
+  pub fraction : List ℕ
+  pub spelled : IsSpelled text sign whole tail fraction
+  pub no_plus : sign ≢ 43 ∷ []
+  pub minus : (sign ≡ 45 ∷ []) ↔ (z <ℤ pos 0)
+  pub digit_before : 0 < length whole
+  pub no_leading_zero : slice_index whole 0 ≡ 48 → length whole ≡ 1
+  pub no_end_zero : 0 < length fraction → slice_index fraction (length fraction - 1) ≢ 48
+  pub no_bare_point : fraction ≡ [] → tail ≡ []
+
+-- a minus, a point or a digit: 47 alone of these codes is none of them
+abbrev pub IsPlainByte : ℕ → Type 0
+IsPlainByte c = (45 ≤ c) × (c ≤ 57) × (c ≢ 47)
+
+-- a text of such bytes, of one to 27
+pub record IsPlain (text : List ℕ) : Type 0 where
+  pub some : 0 < length text
+  pub short : length text ≤ 27
+  pub bytes : All IsPlainByte text

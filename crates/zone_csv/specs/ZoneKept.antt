@@ -1,0 +1,20 @@
+-- What the blocks and the fault of every zone file keep.
+use Rattle.std.specs.Prelude.{◌≡◌, ℕ, ◌+◌, ◌≤◌, List, [], length, All, ◌⊎◌, MatchOption}
+use Rattle.pit_model.specs.Records.{records_of}
+use Rattle.pit_model.specs.declared.grid.Grid.{Grid}
+use Rattle.pit_model.specs.declared.ranges.TheConstants.{MAX_ROWS}
+use Rattle.zone_csv.specs.Zone.{blocks_of, fault_of}
+
+-- a zone file has at most a million blocks
+abbrev pub HasFewBlocks : Grid → ℕ → List ℕ → Type 0
+HasFewBlocks grid zone text = length (blocks_of grid zone text) ≤ MAX_ROWS
+
+-- its blocks are of its zone
+abbrev pub HasOwnBlocks : Grid → ℕ → List ℕ → Type 0
+HasOwnBlocks grid zone text = All (λ block. block.zone ≡ zone) (blocks_of grid zone text)
+
+-- its records are the header and a block each, or its fault is that of the record behind its blocks, or of the header
+abbrev pub AccountsForRecords : Grid → ℕ → List ℕ → Type 0
+AccountsForRecords grid zone text =
+    MatchOption (fault_of grid zone text) (length (records_of text) ≡ length (blocks_of grid zone text) + 1)
+    (λ fault. (fault.row ≡ length (blocks_of grid zone text) + 2) ⊎ ((fault.row ≡ 1) × (blocks_of grid zone text ≡ [])))
