@@ -1,12 +1,14 @@
--- Worked examples of a form: a number below 10, one of up to 2.5 with three decimals, and the letter L.
-use Rattle.std.specs.Prelude.{◌≡◌, ℕ, List, [], ◌∷◌, pos, codes, Result, Ok, Err}
+-- Worked examples of forms: a number below 10, one of up to 2.5 with three decimals, and the letter L;
+-- steps of 2.5 from 1 to 9. And of a shape: one number below 10, with a test before it and one behind it.
+use Rattle.std.specs.Prelude.{◌≡◌, ℕ, Bool, true, false, List, [], ◌∷◌, ◌++◌, Some, None, pos, codes, Result, Ok, Err}
 use Rattle.std.specs.Str.{bytes_eq}
 use Rattle.std.proofs.Common.{refl}
 use Rattle.pit_units.specs.Decimal.{decimal_of}
 use Rattle.forms.specs.FieldFault.{FieldFault}
 use Rattle.forms.specs.FieldFault as fault
-use Rattle.forms.specs.Field.{Field, Word, Value, Millionths, Bytes, below, up_to, whole}
+use Rattle.forms.specs.Field.{Field, Stepped, Word, Value, Millionths, Bytes, below, up_to, whole}
 use Rattle.forms.specs.Read.{read}
+use Rattle.forms.specs.Shape.{Shape, check, failing, said}
 
 abbrev form : List Field
 form = below 10 ∷ up_to 3 2500000 ∷ Word (λ word. bytes_eq word (codes "L")) ∷ []
@@ -44,3 +46,50 @@ below_zero = refl
 word : answer (codes "9") (codes "2.5") (codes "LL") ≡ Err fault.Word
 unfolding decimal_of
 word = refl
+
+-- 6 is two steps above 1; 5, two steps above 0, is on none
+abbrev steps : List ℕ → Result (List Value) FieldFault
+steps text = read (λ place f. f) (Stepped 1 2500000 (pos 1000000) (pos 9000000) ∷ []) (text ∷ [])
+
+on_step : steps (codes "6.0") ≡ Ok (whole 6 ∷ [])
+unfolding decimal_of
+on_step = refl
+
+off_step : steps (codes "5") ≡ Err fault.OffStep
+unfolding decimal_of
+off_step = refl
+
+outside_before_off_step : steps (codes "10") ≡ Err fault.Range
+unfolding decimal_of
+outside_before_off_step = refl
+
+none_fails : failing (check fault.Count true ++ check fault.Range true) ≡ None
+none_fails = refl
+
+first_that_fails : failing (check fault.Count true ++ check fault.Range false ++ check fault.Word false) ≡ Some fault.Range
+first_that_fails = refl
+
+abbrev shape : Bool → List ℕ → Bool → Shape FieldFault (List Value)
+shape before text behind = record {
+  first = check fault.OffStep before;
+  texts = text ∷ [];
+  form = below 10 ∷ [];
+  kinds = λ place f. f;
+  last = λ values. check fault.TooFine behind;
+  next = λ values. values;
+}
+
+states : said (shape true (codes "9") true) ≡ Ok (whole 9 ∷ [])
+unfolding decimal_of
+states = refl
+
+fails_before : said (shape false (codes "x") false) ≡ Err fault.OffStep
+fails_before = refl
+
+fails_within : said (shape true (codes "x") false) ≡ Err fault.Number
+unfolding decimal_of
+fails_within = refl
+
+fails_behind : said (shape true (codes "9") false) ≡ Err fault.TooFine
+unfolding decimal_of
+fails_behind = refl
