@@ -6,7 +6,7 @@ use Rattle.std.proofs.lemmas.Bool.{le-ltb, lt-ltb, ltb-false}
 use Rattle.std.proofs.lemmas.List.Sums.{position_or_len_is}
 use borrow.Author.Tests.{eq-eqb, ne_eqb}
 use Rattle.memchr.specs.Find.{IsFirstByte, is_byte}
-use Rattle.pit_model.specs.Cells.{is_blank, without_leading_blanks}
+use Rattle.records.specs.Cells.{is_blank, without_leading_blanks}
 use Rattle.minelib_text.specs.TextLines.{lines_of, fields_of, onto_first}
 
 pub place_within : {A : Type 0} (p : A → Bool) (xs : List A) → position_or_len p xs ≤ length xs

@@ -5,7 +5,7 @@ use Rattle.std.specs.List.{list_all}
 use Rattle.std.proofs.lemmas.Bool.{le-ltb, lt-ltb}
 use Rattle.std.proofs.lemmas.List.Sums.{list_all-from_AllPass}
 use borrow.Author.Tests.{ne_eqb}
-use Rattle.pit_model.specs.Cells.{without_leading_blanks}
+use Rattle.records.specs.Cells.{without_leading_blanks}
 use Rattle.pit_units.specs.Front.{BeginsWith}
 use Rattle.minelib_text.specs.FieldValues.{at_most, first_by, decimal_in, size_in, whole_in}
 use Rattle.minelib_text.specs.TextLines.{fields_of, is_ended}

@@ -7,7 +7,7 @@ use Rattle.std.proofs.lemmas.Bool.{and_parts, or_parts}
 use Rattle.std.proofs.lemmas.Bool.Decides.{nat_tests}
 use Rattle.std.proofs.lemmas.List.Folds.{list_any-append}
 use Rattle.pit_units.specs.Decimal.{all_digits, StandsFor}
-use Rattle.pit_model.specs.Cells.{is_blank}
+use Rattle.records.specs.Cells.{is_blank}
 use Rattle.minelib_text.specs.ModelLines.{is_colon}
 use Rattle.minelib_text.specs.TextLines.{fields_of, is_ended, onto_first}
 

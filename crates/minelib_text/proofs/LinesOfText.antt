@@ -2,7 +2,7 @@
 use Rattle.std.specs.Prelude.{◌≡◌, ◌≢◌, ℕ, ◌≤◌, true, false, List, [], ◌∷◌, ◌++◌, length, All, ◌==◌}
 use Rattle.std.proofs.Common.{refl, ◌∙◌, ap, arith, ne_eqb, append_assoc}
 use Rattle.std.proofs.lemmas.List.Elements.{All-head, All-tail}
-use Rattle.pit_model.specs.Cells.{is_blank}
+use Rattle.records.specs.Cells.{is_blank}
 use Rattle.minelib_text.specs.TextParts.{IsLineText, AreBlanks, IsFieldText}
 use Rattle.minelib_text.specs.Lines.{text_of}
 use Rattle.minelib_text.specs.TextLines.{lines_of, is_ended, fields_of}

@@ -1,7 +1,7 @@
 -- The lines of a text that is read, and the fields of a line.
 use Rattle.std.specs.Prelude.{ℕ, Bool, true, List, [], ◌∷◌, ◌+◌, ◌-◌, ◌==◌, length, take, drop, slice_index, if◌then◌else◌}
 use Rattle.std.specs.Str.{bytes_eq}
-use Rattle.pit_model.specs.Cells.{is_blank, without_leading_blanks}
+use Rattle.records.specs.Cells.{is_blank, without_leading_blanks}
 
 -- a byte in front of the first line
 abbrev pub onto_first : ℕ → List (List ℕ) → List (List ℕ)

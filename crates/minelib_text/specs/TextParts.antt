@@ -1,6 +1,6 @@
 -- What the lines of a text and the fields of a line are made of.
 use Rattle.std.specs.Prelude.{◌≡◌, ◌≢◌, ℕ, ◌≤◌, false, true, List, length, All}
-use Rattle.pit_model.specs.Cells.{is_blank}
+use Rattle.records.specs.Cells.{is_blank}
 
 -- bytes without LF
 abbrev pub IsLineText : List ℕ → Type 0

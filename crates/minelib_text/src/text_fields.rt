@@ -2,7 +2,7 @@
 
 ghost use Rattle.std.specs.Prelude.{◌≡◌, ◌<◌, ◌≤◌, ◌∷◌, ◌*◌, ◌^◌, ◌==◌, [], not, pos, length, nat_lt, position, unsigned_abs, IfOk, IfSome, MatchOption};
 ghost use Rattle.std.specs.List.{position_or_len};
-ghost use Rattle.pit_model.specs.Cells.{is_blank};
+ghost use Rattle.records.specs.Cells.{is_blank};
 ghost use Rattle.minelib_text.specs.FieldValues.{Takes, at_most, decimal_in, first_by, size_in, whole_in};
 ghost use Rattle.minelib_text.specs.TextLines.{fields_of, is_ended};
 ghost use Rattle.minelib_text.specs.Uncounted.{TakesDecimal, kind_by};
@@ -10,8 +10,8 @@ ghost use Rattle.minelib_text.specs.Uncounted.{TakesDecimal, kind_by};
 use crate::field_values::{decimal_in, size_in, whole_in};
 use crate::text_fault::TextKind;
 use crate::text_lines::behind;
-use pit_model::cells::{is_blank, without_leading_blanks};
 use pit_units::{front_dec, front_whole};
+use records::cells::{is_blank, without_leading_blanks};
 
 /// The first field of a line and what stands behind it, or `None` where the line has no field.
 #[inline(always)]

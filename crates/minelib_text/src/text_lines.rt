@@ -5,7 +5,7 @@ ghost use Rattle.std.specs.List.{position_or_len};
 ghost use Rattle.minelib_text.specs.TextLines.{is_skipped, lines_of, without_cr, without_mark};
 
 use memchr::memchr;
-use pit_model::cells::without_leading_blanks;
+use records::cells::without_leading_blanks;
 
 /// The text without one byte order mark at its front.
 pub fn without_mark(text: &[u8]) -> &[u8]

@@ -1,7 +1,6 @@
 pub mod BlockFacts
 pub mod BandFacts
 pub mod BandSteps
-pub mod CellFacts
 pub mod CellsByPlace
 pub mod Limits
 pub mod Names
@@ -9,5 +8,4 @@ pub mod PlanFits
 pub mod PlanKept
 pub mod PlanLaws
 pub mod PlanSteps
-pub mod RecordSteps
 pub mod WorthFacts

@@ -5,7 +5,7 @@ use Rattle.std.proofs.lemmas.Int.{ints}
 use Rattle.forms.specs.Field.{Field, Decimal, Value, Millionths, Bytes, below, millionths, up_to}
 use Rattle.forms.specs.Fit.{FitsField, Fit, is_fine}
 use Rattle.forms.specs.Grammar.{HasFineForms}
-use Rattle.pit_model.specs.RecordCells.{cell_at, cells_of}
+use Rattle.records.specs.RecordCells.{cell_at, cells_of}
 use Rattle.pit_model.specs.PlanCells.{between, metres}
 use Rattle.pit_model.specs.PlanShapes.{blank_shape, bands_form, bound_form, key_of, key_shape, record_shape, zone_form, a_destination}
 use Rattle.pit_model.specs.Planned.{plan_grammar}

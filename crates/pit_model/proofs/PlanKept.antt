@@ -12,7 +12,7 @@ use Rattle.forms.specs.GrammarStates.{AllState}
 use Rattle.forms.specs.Shape.{Check, Shape, check, failing}
 use Rattle.forms.specs.ShapeStates.{States}
 use Rattle.pit_model.specs.BandsKept.{AreBands, IsBand, starts_rise}
-use Rattle.pit_model.specs.RecordCells.{cell_at, cells_of}
+use Rattle.records.specs.RecordCells.{cell_at, cells_of}
 use Rattle.pit_model.specs.DraftFields.{KeepsStated}
 use Rattle.pit_model.specs.Plan.{PlanParts}
 use Rattle.pit_model.specs.PlanKept.{plan_of, AreCovers, AreTonnes, IsBound, IsCone, IsGrid, IsPlan, IsRuled, IsSlope, IsTonnes, RiseStrictly, has_repeat, is_turned}

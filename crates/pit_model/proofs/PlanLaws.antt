@@ -7,7 +7,7 @@ use Rattle.forms.specs.GrammarStates.{AllState, IsFirstFault}
 use Rattle.forms.specs.Steps.{◌>>=◌}
 use Rattle.pit_model.specs.Plan.{PlanParts}
 use Rattle.pit_model.specs.Planned.{IsLacking, SpellPlan, finished, finished_at, plan_grammar, planned}
-use Rattle.pit_model.specs.Records.{records_of}
+use Rattle.records.specs.Records.{records_of}
 use Rattle.pit_model.specs.Stated.{Stated, nothing_stated}
 use Rattle.pit_model.specs.declared.plan_fault.PlanFault.{PlanFault}
 use Rattle.pit_model.specs.declared.plan_fault.PlanFaultKind.{PlanFaultKind}

@@ -4,12 +4,12 @@ use Rattle.std.proofs.lemmas.Bool.Decides.{nat_tests}
 use Rattle.forms.specs.Grammar.{placed, read_all}
 use Rattle.forms.specs.Shape.{said}
 use Rattle.forms.specs.Steps.{◌>>=◌}
-use Rattle.pit_model.specs.RecordCells.{cells_of}
+use Rattle.records.specs.RecordCells.{cells_of}
 use Rattle.pit_model.specs.Plan.{PlanParts}
 use Rattle.pit_model.specs.PlanShapes.{record_shape}
 use Rattle.pit_model.specs.Planned.{finished, finished_at, plan_grammar, planned}
-use Rattle.pit_model.specs.RecordReader.{RecordReaderView, Rows, Over, GaveUp, TakesRow}
-use Rattle.pit_model.specs.Records.{records_of}
+use Rattle.records.specs.RecordReader.{RecordReaderView, Rows, Over, GaveUp, TakesRow}
+use Rattle.records.specs.Records.{records_of}
 use Rattle.pit_model.specs.Stated.{Stated, nothing_stated}
 use Rattle.pit_model.specs.declared.plan_fault.PlanFault.{PlanFault}
 use Rattle.pit_model.specs.declared.plan_fault.PlanFaultKind.{PlanFaultKind}

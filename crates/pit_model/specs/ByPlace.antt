@@ -4,7 +4,7 @@ use Rattle.forms.specs.Field.{Field, Value, Millionths, below, whole_at}
 use Rattle.forms.specs.Read.{read_field}
 use Rattle.forms.specs.Shape.{Shape, failing, unless}
 use Rattle.forms.specs.Steps.{◌>>=◌}
-use Rattle.pit_model.specs.RecordCells.{cell_at}
+use Rattle.records.specs.RecordCells.{cell_at}
 use Rattle.pit_model.specs.PlanCells.{a_cost, a_name, a_price, a_recovery, a_start, plan_kind, word_of}
 use Rattle.pit_model.specs.PlanShapes.{a_destination, a_resource, band_at, bands_asked, bands_form, bands_of, bound_form, bound_of, cone_of, covers_of, is_interval, key_shape, limit_asked, limit_form, limit_on, new_destination, resource_asked, room_for_destination, room_for_zone, zone_form}
 use Rattle.pit_model.specs.Stated.{Stated, with_destination, with_limit, with_resource, with_zone}

@@ -4,7 +4,6 @@ pub mod BandsKept
 pub mod Block
 pub mod BlockParts
 pub mod ByPlace
-pub mod Cells
 pub mod Count
 pub mod Destinations
 pub mod DraftFields
@@ -19,10 +18,6 @@ pub mod PlanFormulas
 pub mod PlanKept
 pub mod PlanShapes
 pub mod Planned
-pub mod RecordCells
-pub mod RecordReader
-pub mod Records
-pub mod RecordsAhead
 pub mod Ruled
 pub mod Stated
 pub mod Worth

@@ -5,8 +5,8 @@ use Rattle.std.specs.Str.{bytes_eq}
 use Rattle.forms.specs.Field.{Field, Word, Value, below, millionths, number_at, whole_at}
 use Rattle.forms.specs.Shape.{Check, Shape, check}
 use Rattle.pit_model.specs.BandsKept.{starts_rise}
-use Rattle.pit_model.specs.Cells.{is_word}
-use Rattle.pit_model.specs.RecordCells.{cell_at}
+use Rattle.records.specs.Cells.{is_word}
+use Rattle.records.specs.RecordCells.{cell_at}
 use Rattle.pit_model.specs.PlanKept.{has_repeat, is_turned}
 use Rattle.pit_model.specs.PlanCells.{plan_kind, word_at, word_of, a_cost, a_leg, a_name, a_period_count, a_price, a_rate, a_recovery, a_size, a_start, an_origin, benches, tonnes}
 use Rattle.pit_model.specs.Stated.{Stated, destination_named, resource_named, with_destination, with_zone, with_resource, is_same_place, with_limit}

@@ -4,11 +4,11 @@ use Rattle.forms.specs.Grammar.{Grammar, read_all}
 use Rattle.forms.specs.GrammarStates.{AllState}
 use Rattle.forms.specs.Shape.{Shape, check}
 use Rattle.forms.specs.Steps.{◌>>=◌}
-use Rattle.pit_model.specs.RecordCells.{cells_of}
+use Rattle.records.specs.RecordCells.{cells_of}
 use Rattle.pit_model.specs.Plan.{PlanParts}
 use Rattle.pit_model.specs.PlanKept.{plan_of}
 use Rattle.pit_model.specs.PlanShapes.{record_shape}
-use Rattle.pit_model.specs.Records.{records_of}
+use Rattle.records.specs.Records.{records_of}
 use Rattle.pit_model.specs.Stated.{Stated, nothing_stated}
 use Rattle.pit_model.specs.declared.grid.Grid.{Grid}
 use Rattle.pit_model.specs.declared.plan_fault.PlanFault.{PlanFault}

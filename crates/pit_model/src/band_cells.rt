@@ -5,14 +5,14 @@ ghost use Rattle.csv.specs.Records.{fields_of};
 ghost use Rattle.pit_model.specs.Admits.{Admits};
 ghost use Rattle.pit_model.specs.BandsKept.{IsBand};
 ghost use Rattle.pit_model.specs.ByPlace.{band_by, bands_in};
-ghost use Rattle.pit_model.specs.RecordCells.{cells_of};
+ghost use Rattle.records.specs.RecordCells.{cells_of};
 
 use crate::band::Band;
-use crate::cells::cell_at;
 use crate::numbers::{number_in, whole_in};
 use crate::plan_fault::{PlanFaultKind, RecordError};
 use crate::ranges::MAX_RECOVERY;
 use csv::ByteRecord;
+use records::cells::cell_at;
 
 // The band of two cells, its start and its recovery.
 #[tactic(auto, using(crate::proofs::CellsByPlace::quotient))]

@@ -4,7 +4,7 @@ ghost use Rattle.std.specs.Prelude.{◌≡◌, ◌≤ℤ◌, ◌^◌, ◌<◌, �
 ghost use Rattle.csv.specs.Records.{fields_of};
 ghost use Rattle.pit_model.specs.Admits.{Admits};
 ghost use Rattle.pit_model.specs.BandsKept.{IsBand};
-ghost use Rattle.pit_model.specs.RecordCells.{cells_of};
+ghost use Rattle.records.specs.RecordCells.{cells_of};
 ghost use Rattle.pit_model.specs.PlanKept.{AreTonnes, IsRuled};
 ghost use Rattle.forms.specs.Field.{Millionths};
 ghost use Rattle.forms.specs.Read.{read_field};
@@ -19,7 +19,6 @@ ghost use Rattle.pit_model.specs.declared.ranges.TheConstants.{MAX_COST, MAX_PRI
 
 use crate::band::{Band, Bands, starts_rise};
 use crate::band_cells::read_bands;
-use crate::cells::{cell_at, cell_count};
 use crate::cone::Cone;
 use crate::formula::{Formula, NamedFormula};
 use crate::grid::{Axis, Grid};
@@ -39,6 +38,7 @@ use crate::resource::Resource;
 use crate::zone_cells::cone_in;
 use csv::ByteRecord;
 use pit_units::Dec;
+use records::cells::{cell_at, cell_count};
 use std::alloc::Global;
 use std::marker::Model;
 

@@ -6,7 +6,7 @@ ghost use Rattle.forms.specs.GrammarStates.{IsFirstFault};
 ghost use Rattle.pit_model.specs.Plan.{PlanParts};
 ghost use Rattle.pit_model.specs.PlanKept.{IsPlan, IsRuled};
 ghost use Rattle.pit_model.specs.Planned.{IsLacking, SpellPlan, plan_grammar, planned};
-ghost use Rattle.pit_model.specs.Records.{records_of};
+ghost use Rattle.records.specs.Records.{records_of};
 ghost use Rattle.pit_model.specs.Stated.{nothing_stated, with_limit};
 ghost use Rattle.pit_model.specs.Worth.{floor, IsFloor, worth, IsWorth};
 ghost use Rattle.pit_model.specs.declared.block.Block.{Block};

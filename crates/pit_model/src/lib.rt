@@ -4,7 +4,6 @@
 pub mod band;
 mod band_cells;
 pub mod block;
-pub mod cells;
 pub mod cone;
 pub mod count;
 pub mod destination;
@@ -22,7 +21,6 @@ pub mod plan_fault;
 pub mod plan_key;
 mod plan_reader;
 pub mod ranges;
-pub mod records;
 pub mod resource;
 pub mod worth;
 mod zone_cells;

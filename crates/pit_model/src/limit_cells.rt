@@ -3,7 +3,7 @@
 ghost use Rattle.std.specs.Prelude.{◌≡◌, ◌+◌, ◌<◌, ◌≤◌, ◌^◌, ◌≤ℤ◌, length, pos, bytes_eq, position, IfErr, IfOk, IfSome, OnErr, OnOk};
 ghost use Rattle.std.specs.List.{list_any, position_or_len};
 ghost use Rattle.csv.specs.Records.{fields_of};
-ghost use Rattle.pit_model.specs.RecordCells.{cells_of};
+ghost use Rattle.records.specs.RecordCells.{cells_of};
 ghost use Rattle.pit_model.specs.PlanKept.{AreTonnes, stands_before};
 ghost use Rattle.forms.specs.Field.{Millionths, below, whole};
 ghost use Rattle.forms.specs.Read.{read_field};
@@ -13,13 +13,13 @@ ghost use Rattle.pit_model.specs.PlanShapes.{bound_form, is_interval};
 ghost use Rattle.pit_model.specs.Stated.{is_same_place, with_limit};
 ghost use Rattle.pit_model.specs.declared.ranges.TheConstants.{MAX_TONNES};
 
-use crate::cells::cell_at;
 use crate::limit::{Bound, Limit};
 use crate::numbers::number_in;
 use crate::plan_fault::{PlanFaultKind, RecordError};
 use crate::ranges::MAX_TONNES;
 use csv::ByteRecord;
 use pit_units::Dec;
+use records::cells::cell_at;
 
 fn is_letter(cell: &[u8], letter: &[u8]) -> bool
     ensures { result ≡ bytes_eq cell.now letter.now }

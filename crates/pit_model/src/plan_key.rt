@@ -3,7 +3,7 @@
 ghost use Rattle.std.specs.Prelude.{◌≡◌};
 ghost use Rattle.pit_model.specs.PlanShapes.{key_of};
 
-use crate::cells::is_word;
+use records::cells::is_word;
 
 /// What a record of a plan is about: its first cell.
 #[derive(Clone, Copy, Debug, PartialEq, Eq)]

@@ -8,8 +8,8 @@ use crate::draft::Draft;
 use crate::plan::Plan;
 use crate::plan_fault::{PlanFault, PlanFaultKind, ReadPlanError, RecordError};
 use crate::ranges::MAX_PLAN_RECORDS;
-use crate::records::RecordReader;
 use csv::ByteRecord;
+use records::RecordReader;
 use std::alloc::Global;
 
 /// The plan that a text states.

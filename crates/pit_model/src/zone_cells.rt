@@ -5,17 +5,17 @@ ghost use Rattle.csv.specs.Records.{fields_of};
 ghost use Rattle.forms.specs.Field.{whole};
 ghost use Rattle.forms.specs.Read.{read_field};
 ghost use Rattle.pit_model.specs.ByPlace.{Gives, cone_by, cone_in};
-ghost use Rattle.pit_model.specs.RecordCells.{cells_of};
+ghost use Rattle.records.specs.RecordCells.{cells_of};
 ghost use Rattle.pit_model.specs.PlanKept.{IsCone};
 ghost use Rattle.pit_model.specs.PlanCells.{a_leg, plan_kind};
 ghost use Rattle.pit_model.specs.declared.ranges.TheConstants.{MAX_SLOPE};
 
-use crate::cells::cell_at;
 use crate::cone::{Cone, Slope};
 use crate::numbers::whole_in;
 use crate::plan_fault::PlanFaultKind;
 use crate::ranges::{MAX_BENCHES, MAX_SLOPE};
 use csv::ByteRecord;
+use records::cells::cell_at;
 
 // The rise or the run of a slope.
 fn leg_in(cell: &[u8]) -> Result<u16, PlanFaultKind>

@@ -2,7 +2,7 @@
 use Rattle.std.proofs.Common.{◌≡◌, ℕ, zero, suc, ◌+◌, Bool, true, false, List, [], ◌∷◌, ◌++◌, length, arith, refl, sym, ◌∙◌, ap, subst, Ok, Err, Some, None}
 use Rattle.std.specs.Prelude.{Result, Option, ◌==◌, codes, nat_le, slice_index_or}
 use Rattle.std.proofs.lemmas.Bool.Decides.{nat_tests}
-use Rattle.pit_model.specs.Cells.{trimmed, is_word}
+use Rattle.records.specs.Cells.{trimmed, is_word}
 use Rattle.forms.specs.Shape.{Check, failing, unless}
 use Rattle.zone_csv.proofs.RowFacts.{failing_of_row}
 use Rattle.zone_csv.specs.Cell.{a_fault, cell_at}

@@ -1,4 +1,3 @@
-pub mod CellFacts
 pub mod CentroidFacts
 pub mod Giving
 pub mod RowFacts

@@ -4,7 +4,7 @@ use Rattle.std.specs.Prelude.{Result, Option, All, MatchOption, ◌⊎◌, ◌�
 use Rattle.std.proofs.Math.Nat.{min-eq_left}
 use Rattle.std.proofs.lemmas.List.Elements.{All-nil, All-cons}
 use Rattle.forms.proofs.ShapeFacts.{IsAnswer}
-use Rattle.pit_model.specs.Records.{records_of}
+use Rattle.records.specs.Records.{records_of}
 use Rattle.pit_model.specs.declared.block.Block.{Block}
 use Rattle.pit_model.specs.declared.grid.Grid.{Grid}
 use Rattle.zone_csv.proofs.ColumnFacts.{columns_named, fault_of_header, header_fails, named_columns, refused_header}

@@ -4,7 +4,7 @@ use Rattle.forms.specs.FieldFault.{FieldFault}
 use Rattle.forms.specs.FieldFault as fault
 use Rattle.forms.specs.Field.{Field, Stepped, Value, Millionths, up_to}
 use Rattle.forms.specs.Steps.{◌>>=◌}
-use Rattle.pit_model.specs.Cells.{trimmed}
+use Rattle.records.specs.Cells.{trimmed}
 use Rattle.pit_model.specs.declared.grid.Axis.{Axis}
 use Rattle.zone_csv.specs.declared.row_fault.Column.{Column}
 use Rattle.zone_csv.specs.declared.row_fault.RowFault.{RowFault}

@@ -1,7 +1,7 @@
 -- The header of a zone file: where its columns stand.
 use Rattle.std.specs.Prelude.{ℕ, ◌+◌, ◌==◌, nat_le, not, List, [], ◌∷◌, ◌++◌, length, slice_index_or, Result, Ok, codes, if◌then◌else◌}
 use Rattle.forms.specs.Shape.{Check, check, failing, unless}
-use Rattle.pit_model.specs.Cells.{trimmed, is_word}
+use Rattle.records.specs.Cells.{trimmed, is_word}
 use Rattle.zone_csv.specs.Cell.{a_fault}
 use Rattle.zone_csv.specs.declared.columns.Columns.{Columns}
 use Rattle.zone_csv.specs.declared.row_fault.Column.{Column}

@@ -1,6 +1,6 @@
 -- Columns as a header names them.
 use Rattle.std.specs.Prelude.{◌≡◌, ℕ, true, List, length, codes}
-use Rattle.pit_model.specs.Cells.{is_word}
+use Rattle.records.specs.Cells.{is_word}
 use Rattle.zone_csv.specs.Cell.{cell_at}
 use Rattle.zone_csv.specs.declared.columns.Columns.{Columns}
 

@@ -1,6 +1,6 @@
 -- Reading a zone file: the blocks before its first fault, and that fault.
 use Rattle.std.specs.Prelude.{ℕ, ◌+◌, List, [], ◌∷◌, Option, Some, None, Result, Ok, Err}
-use Rattle.pit_model.specs.Records.{records_of}
+use Rattle.records.specs.Records.{records_of}
 use Rattle.pit_model.specs.declared.block.Block.{Block}
 use Rattle.pit_model.specs.declared.grid.Grid.{Grid}
 use Rattle.zone_csv.specs.Cell.{a_fault}

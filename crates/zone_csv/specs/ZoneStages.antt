@@ -1,7 +1,7 @@
 -- How the parts of a reader of a zone file are seen as what it has still to say. Only proofs and private contracts need it.
 use Rattle.std.specs.Prelude.{ℕ, ◌+◌, ◌≤◌, List, [], Some, None, Result}
 use Rattle.pit_model.specs.declared.ranges.TheConstants.{MAX_ROWS}
-use Rattle.pit_model.specs.RecordReader.{RecordReaderView, Rows, Over, GaveUp}
+use Rattle.records.specs.RecordReader.{RecordReaderView, Rows, Over, GaveUp}
 use Rattle.pit_model.specs.declared.block.Block.{Block}
 use Rattle.pit_model.specs.declared.grid.Grid.{Grid}
 use Rattle.zone_csv.specs.ZoneReaderView.{ZoneReaderView, Says, Told, NoMemory}

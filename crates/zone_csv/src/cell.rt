@@ -1,30 +1,16 @@
 //! What a cell of a row states.
 
 ghost use Rattle.std.specs.Prelude.{◌≡◌, ◌*◌, ◌<◌, ◌≤◌, ◌≤ℤ◌, ◌-ℤ◌, pos, unsigned_abs, Err, IfOk};
-ghost use Rattle.csv.specs.Records.{fields_of};
 ghost use Rattle.pit_model.specs.PlanKept.{IsAxis};
-ghost use Rattle.zone_csv.specs.Cell.{IsInGrid, a_fault, cell_at, coordinate, greatest, index_at, least, of_cell, stated};
+ghost use Rattle.zone_csv.specs.Cell.{IsInGrid, a_fault, coordinate, greatest, index_at, least, of_cell, stated};
 ghost use Rattle.forms.specs.Field.{up_to};
 ghost use Rattle.forms.specs.Read.{number_of, read_decimal, read_field};
 ghost use Rattle.pit_model.specs.declared.ranges.TheConstants.{GRID_CELLS};
 
 use crate::row_fault::{Column, RowFault, RowFaultKind};
-use csv::ByteRecord;
-use pit_model::cells::trimmed;
 use pit_model::grid::Axis;
 use pit_model::ranges::GRID_CELLS;
 use pit_units::{Dec, DecFault, parse_dec};
-
-// The cell of a record at a place, without the blanks at both ends; it is empty where the record has no such cell.
-#[inline(always)]
-pub(crate) fn cell_at(row: &ByteRecord, place: usize) -> &[u8]
-    ensures { result.now ≡ cell_at (fields_of row.now) place }
-{
-    match row.get(place) {
-        Some(cell) => trimmed(cell),
-        None => &[],
-    }
-}
 
 #[inline(always)]
 pub(crate) fn a_fault(row: u32, column: Column, kind: RowFaultKind) -> RowFault

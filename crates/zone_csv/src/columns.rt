@@ -5,10 +5,10 @@ ghost use Rattle.csv.specs.Records.{fields_of};
 ghost use Rattle.forms.specs.Shape.{failing, unless};
 ghost use Rattle.zone_csv.specs.Header.{a_column, columns_of, places_of};
 
-use crate::cell::{a_fault, cell_at};
+use crate::cell::a_fault;
 use crate::row_fault::{Column, RowFault, RowFaultKind};
 use csv::ByteRecord;
-use pit_model::cells::is_word;
+use records::cells::{cell_at, is_word};
 
 /// The places of the five columns in a record, from 0, and the number of cells of each record.
 #[derive(Clone, Copy, Debug, PartialEq, Eq)]

@@ -7,7 +7,7 @@ ghost use Rattle.forms.specs.Shape.{failing};
 ghost use Rattle.forms.specs.ShapeStates.{Fails, States};
 ghost use Rattle.pit_model.specs.declared.grid.Axis.{Axis as AnAxis};
 ghost use Rattle.pit_model.specs.declared.grid.Grid.{Grid as AGrid};
-ghost use Rattle.pit_model.specs.Records.{records_of};
+ghost use Rattle.records.specs.Records.{records_of};
 ghost use Rattle.pit_model.specs.declared.block.Block.{Block};
 ghost use Rattle.zone_csv.specs.Cell.{IsInGrid, centroid, index_at, least};
 ghost use Rattle.zone_csv.specs.Header.{asked_of_header, columns_of};

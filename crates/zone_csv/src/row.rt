@@ -6,13 +6,14 @@ ghost use Rattle.pit_model.specs.PlanKept.{IsGrid};
 ghost use Rattle.zone_csv.specs.Row.{row_of};
 ghost use Rattle.pit_model.specs.declared.ranges.TheConstants.{MAX_ROWS, MAX_ZONES};
 
-use crate::cell::{a_fault, cell_at, coordinate_of, index_at, size_of};
+use crate::cell::{a_fault, coordinate_of, index_at, size_of};
 use crate::columns::Columns;
 use crate::row_fault::{Column, RowFault, RowFaultKind};
 use csv::ByteRecord;
 use pit_model::block::Block;
 use pit_model::grid::Grid;
 use pit_model::ranges::{MAX_GRADE, MAX_KG, MAX_ROWS};
+use records::cells::cell_at;
 
 // The number of the last record that may hold a block: the header is record 1, and a file has at most 1,000,000 blocks.
 const LAST_ROW: u32 = MAX_ROWS + 1;

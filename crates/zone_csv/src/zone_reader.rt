@@ -17,7 +17,7 @@ use csv::ByteRecord;
 use pit_model::block::Block;
 use pit_model::grid::Grid;
 use pit_model::plan::Plan;
-use pit_model::records::RecordReader;
+use records::RecordReader;
 use std::alloc::Global;
 use std::io::Cursor;
 use std::marker::Model;

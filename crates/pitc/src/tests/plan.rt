@@ -3,4 +3,4 @@
 mod bands;
 mod destination;
 mod reader;
-mod records;
+mod record_reading;

@@ -1,6 +1,6 @@
 use Rattle.std.proofs.Common.{◌∙◌, ap}
 use Rattle.std.specs.Prelude.{unwrap_or, length}
-use Rattle.pit_model.specs.Cells.{is_blank}
+use Rattle.records.specs.Cells.{is_blank}
 use Rattle.minelib_text.proofs.Cuts.{place_or_length, place_within}
 use Rattle.minelib_text.proofs.text_fields.field_end.Goals as goal
 

@@ -1,6 +1,6 @@
 use Rattle.std.proofs.Common.{◌≤◌}
 use Rattle.pit_model.specs.Planned.{planned}
-use Rattle.pit_model.specs.RecordReader.{rows_ahead}
+use Rattle.records.specs.RecordReader.{rows_ahead}
 use Rattle.pit_model.proofs.PlanSteps.{Leads}
 use Rattle.pit_model.proofs.plan_reader.read_plan.Given as goal
 

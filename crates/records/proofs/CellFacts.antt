@@ -6,8 +6,8 @@ use Rattle.std.proofs.lemmas.List.{take_more, take_all, length-map, length-take-
 use Rattle.std.proofs.Math.ListN.{get_or-map}
 use Rattle.csv.proofs.RecordFacts.{field-get}
 use Rattle.csv.specs.Records.{field_at}
-use Rattle.pit_model.specs.Cells.{is_blank, without_trailing_blanks, trimmed}
-use Rattle.pit_model.specs.RecordCells.{without_empty_end, cells_of, cell_at}
+use Rattle.records.specs.Cells.{is_blank, without_trailing_blanks, trimmed}
+use Rattle.records.specs.RecordCells.{without_empty_end, cells_of, cell_at}
 
 -- a list is what stands before its last element, and that
 pub split_last : {A : Type 0} (xs : List A) (d : A) → 0 < length xs → take (length xs - 1) xs ++ get_or xs (length xs - 1) d ∷ [] ≡ xs
@@ -75,17 +75,18 @@ full_stays (x ∷ cells) c h =
 pub at_cell : (fields : List (List ℕ)) (i : ℕ) → cell_at (cells_of fields) i ≡ trimmed (get_or fields i [])
 at_cell fields i = cell_stays (map trimmed fields) i ∙ get_or-map trimmed fields i []
 
-pub field_is : (fields : List (List ℕ)) (i : ℕ) (field : List ℕ) → field_at fields i ≡ Some field → trimmed field ≡ cell_at (cells_of fields) i
-field_is fields i field h = sym (at_cell fields i ∙ ap trimmed (field-get fields i field h))
+-- the field there, by what csv answers for the place
+pub cell_there : (fields : List (List ℕ)) (i : ℕ) (field : List ℕ) → field_at fields i ≡ Some field → trimmed field ≡ trimmed (get_or fields i [])
+cell_there fields i field h = sym (ap trimmed (field-get fields i field h))
 
-pub none_there : (fields : List (List ℕ)) (i : ℕ) → field_at fields i ≡ None → get_or fields i [] ≡ []
+none_there : (fields : List (List ℕ)) (i : ℕ) → field_at fields i ≡ None → get_or fields i [] ≡ []
 unfolding field_at
 none_there [] i h = refl
 none_there (f ∷ fields) zero h = absurd (cc)
 none_there (f ∷ fields) (suc i) h = none_there fields i h
 
-pub no_field_is : (fields : List (List ℕ)) (i : ℕ) → field_at fields i ≡ None → [] ≡ cell_at (cells_of fields) i
-no_field_is fields i h = sym (at_cell fields i ∙ ap trimmed (none_there fields i h))
+pub no_cell_there : (fields : List (List ℕ)) (i : ℕ) → field_at fields i ≡ None → [] ≡ trimmed (get_or fields i [])
+no_cell_there fields i h = sym (ap trimmed (none_there fields i h))
 
 -- counting cells in turn: after one more, the count is the place past it where it is not empty
 pub one_empty : (fields : List (List ℕ)) (i n : ℕ) → i < length fields → (length (cell_at (cells_of fields) i) == 0) ≡ true

@@ -1,6 +1,6 @@
 use Rattle.std.proofs.Common.{◌≡◌, length}
-use Rattle.pit_model.specs.Cells.{without_leading_blanks}
-use Rattle.pit_model.proofs.cells.without_leading_blanks.Given as goal
+use Rattle.records.specs.Cells.{without_leading_blanks}
+use Rattle.records.proofs.cells.without_leading_blanks.Given as goal
 
 abbrev pub invariant-loop-rest : goal.invariant-loop-rest
 invariant-loop-rest l = without_leading_blanks l.rest ≡ without_leading_blanks l.fn.cell

@@ -1,5 +1,5 @@
 use csv::ByteRecord;
-use pit_model::records::RecordReader;
+use records::RecordReader;
 use std::alloc::Global;
 use std::io::Read;
 use std::process::Abort;

@@ -5,9 +5,9 @@ use Rattle.csv.specs.Reading.{Ready, default_config, is_flexible, names_headers,
 use Rattle.csv.specs.declared.parser.State.{State}
 use Rattle.csv.specs.declared.reader.Reader.{Reader}
 use Rattle.csv.specs.declared.reader.Trim.TheVariants as trim
-use Rattle.pit_model.specs.RecordReader.{RecordReaderView, Rows, Over, GaveUp}
-use Rattle.pit_model.specs.declared.records.Stage.{Stage}
-use Rattle.pit_model.specs.declared.records.Stage.TheVariants as stage
+use Rattle.records.specs.RecordReader.{RecordReaderView, Rows, Over, GaveUp}
+use Rattle.records.specs.declared.record_reader.Stage.{Stage}
+use Rattle.records.specs.declared.record_reader.Stage.TheVariants as stage
 
 -- the records of the bytes that are left, read on from a state
 abbrev pub rows_from : State → List ℕ → List (List (List ℕ))

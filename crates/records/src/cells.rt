@@ -1,9 +1,9 @@
 //! The cells of a record, as plans and zone files see them.
 
-ghost use Rattle.std.specs.Prelude.{◌≡◌, ◌+◌, ◌<◌, ◌==◌, length};
+ghost use Rattle.std.specs.Prelude.{◌≡◌, ◌+◌, ◌<◌, ◌==◌, [], length, slice_index_or};
 ghost use Rattle.csv.specs.Records.{fields_of};
-ghost use Rattle.pit_model.specs.Cells.{is_blank, without_leading_blanks, without_trailing_blanks, trimmed, is_word};
-ghost use Rattle.pit_model.specs.RecordCells.{cells_of, cell_at};
+ghost use Rattle.records.specs.Cells.{is_blank, without_leading_blanks, without_trailing_blanks, trimmed, is_word};
+ghost use Rattle.records.specs.RecordCells.{cells_of, cell_at};
 
 use csv::ByteRecord;
 
@@ -68,7 +68,8 @@ pub fn cell_count(row: &ByteRecord) -> usize
 /// The cell of a record at a place, trimmed; it is empty where the record has no such cell.
 #[inline(always)]
 pub fn cell_at(row: &ByteRecord, place: usize) -> &[u8]
-    ensures { result.now ≡ cell_at (cells_of (fields_of row.now)) place }
+    ensures value { result.now ≡ cell_at (cells_of (fields_of row.now)) place }
+    ensures field { result.now ≡ trimmed (slice_index_or (fields_of row.now) place []) }
 {
     match row.get(place) {
         Some(field) => trimmed(field),

@@ -1,6 +1,6 @@
 use Rattle.std.proofs.Common.{◌∙◌, sym, arith}
-use Rattle.pit_model.proofs.CellFacts.{blank_at_end, other_at_end}
-use Rattle.pit_model.proofs.cells.without_trailing_blanks.Goals as goal
+use Rattle.records.proofs.CellFacts.{blank_at_end, other_at_end}
+use Rattle.records.proofs.cells.without_trailing_blanks.Goals as goal
 
 pub loop-rest-preserved : goal.loop-rest-preserved
 loop-rest-preserved c =

@@ -10,9 +10,9 @@
 ghost use Rattle.std.specs.Prelude.{◌≡◌, ◌+◌, ◌<◌, ◌≤◌, true, IfOk, IfSome, OnOk, Ok, length};
 ghost use Rattle.std.specs.List.{All};
 ghost use Rattle.csv.specs.Records.{fields_of};
-ghost use Rattle.pit_model.specs.RecordReader.{TakesRow, Rows, rows_ahead};
-ghost use Rattle.pit_model.specs.Records.{records_of};
-ghost use Rattle.pit_model.specs.RecordsAhead.{IsBetweenRecords, IsUnread, TakesNext, rows_left};
+ghost use Rattle.records.specs.RecordReader.{TakesRow, Rows, rows_ahead};
+ghost use Rattle.records.specs.Records.{records_of};
+ghost use Rattle.records.specs.RecordsAhead.{IsBetweenRecords, IsUnread, TakesNext, rows_left};
 
 use csv::{ByteRecord, Reader, ReaderBuilder};
 use std::alloc::{AllocError, Global};
@@ -43,8 +43,8 @@ pub struct RecordReader<R: Read> {
 }
 
 impl<R: Read> Model for RecordReader<R> {
-    ghost use Rattle.pit_model.specs.RecordReader.{RecordReaderView};
-    ghost use Rattle.pit_model.specs.RecordsAhead.{ahead_of, IsSetUp};
+    ghost use Rattle.records.specs.RecordReader.{RecordReaderView};
+    ghost use Rattle.records.specs.RecordsAhead.{ahead_of, IsSetUp};
 
     ghost Value = { RecordReaderView };
 

@@ -1,7 +1,7 @@
 use Rattle.csv.specs.Records.{fields_of}
-use Rattle.pit_model.proofs.RecordSteps.{reader-takes}
-use Rattle.pit_model.proofs.records.take_record.Goals as goal
-use Rattle.pit_model.proofs.records.take_record.Goals.{in-Ok, in-Err}
+use Rattle.records.proofs.RecordSteps.{reader-takes}
+use Rattle.records.proofs.record_reader.take_record.Goals as goal
+use Rattle.records.proofs.record_reader.take_record.Goals.{in-Ok, in-Err}
 
 pub returns : goal.returns
 returns g c =

@@ -1,6 +1,6 @@
 -- The cells of a plan's record.
 use Rattle.std.specs.Prelude.{ℕ, List, [], ◌∷◌, ◌==◌, ◌&&◌, length, map, if◌then◌else◌, slice_index_or}
-use Rattle.pit_model.specs.Cells.{trimmed}
+use Rattle.records.specs.Cells.{trimmed}
 
 -- the cells without the empty ones at the end of the record, since spreadsheets pad records
 abbrev pub without_empty_end : List (List ℕ) → List (List ℕ)

@@ -1,0 +1,2 @@
+pub mod CellFacts
+pub mod RecordSteps

@@ -1,0 +1,5 @@
+pub mod Cells
+pub mod RecordCells
+pub mod RecordReader
+pub mod Records
+pub mod RecordsAhead
