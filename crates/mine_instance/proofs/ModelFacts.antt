@@ -13,7 +13,8 @@ use Rattle.pit_model.specs.declared.grid.Grid.{Grid}
 use Rattle.pit_model.specs.declared.limit.Limit.{Limit}
 use Rattle.pit_model.specs.declared.resource.Resource.{Resource}
 use Rattle.pit_model.specs.Plan.{PlanParts}
-use Rattle.pit_model.specs.PlanKept.{IsRuled, IsPlan, IsBound, is_turned}
+use Rattle.pit_model.specs.Formula.{IsRuled}
+use Rattle.pit_model.specs.PlanKept.{IsPlan, IsBound, is_turned}
 use Rattle.pit_model.specs.Worth.{worth, IsWorth}
 use Rattle.pit_model.specs.declared.block.Block.{Block}
 use Rattle.pit_model.specs.declared.formula.Formula.{Formula}

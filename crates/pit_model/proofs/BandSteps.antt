@@ -7,7 +7,8 @@ use Rattle.forms.specs.Steps.{◌>>=◌}
 use Rattle.pit_model.specs.ByPlace.{band_by, bands_in, covers_in, read_from}
 use Rattle.records.specs.RecordCells.{cell_at}
 use Rattle.pit_model.specs.PlanCells.{a_recovery, a_start, plan_kind}
-use Rattle.pit_model.specs.PlanShapes.{a_destination, band_at, bands_form, bands_of, covers_of}
+use Rattle.pit_model.specs.FormulaShapes.{band_at, bands_form, bands_of}
+use Rattle.pit_model.specs.PlanShapes.{a_destination, covers_of}
 use Rattle.pit_model.specs.Stated.{destination_named}
 use Rattle.pit_model.specs.declared.band.Band.{Band}
 use Rattle.pit_model.specs.declared.formula.NamedFormula.{NamedFormula}

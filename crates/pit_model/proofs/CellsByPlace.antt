@@ -14,9 +14,11 @@ use Rattle.forms.specs.Shape.{Check, Shape, failing, said, unless}
 use Rattle.forms.specs.Steps.{◌>>=◌}
 use Rattle.records.specs.RecordCells.{cell_at}
 use Rattle.pit_model.specs.ByPlace.{key_by_place, bound_in, leach_in, limited, length_of, limit_in, read_from, resource_in, said_by_place, size_of, zone_in}
-use Rattle.pit_model.specs.PlanShapes.{grid_shape, key_of, once, record_shape, a_destination, a_resource, bands_asked, bands_form, bands_of, bound_form, bound_of, cone_of, covers_of, limit_on, new_destination, resource_asked, room_for_destination, room_for_zone, cells_shape, is_interval, key_shape, leach_form, leach_shape, limit_form, limit_shape, resource_form, resource_shape, zone_form, zone_shape}
+use Rattle.pit_model.specs.FormulaShapes.{bands_asked, bands_form, bands_of}
+use Rattle.pit_model.specs.PlanShapes.{grid_shape, key_of, once, record_shape, a_destination, a_resource, bound_form, bound_of, cone_of, covers_of, limit_on, new_destination, resource_asked, room_for_destination, room_for_zone, cells_shape, destination_shape, is_interval, key_shape, limit_form, limit_shape, resource_form, resource_shape, zone_form, zone_shape}
 use Rattle.pit_model.specs.Stated.{Stated, resource_named, with_destination, with_resource, with_zone}
 use Rattle.pit_model.specs.declared.plan_fault.PlanFaultKind.TheVariants.{Width}
+use Rattle.pit_model.specs.declared.draft.formulas.FormulaKey.TheVariants as formula_key
 use Rattle.pit_model.specs.declared.formula.Formula.TheVariants.{Leach}
 use Rattle.pit_model.specs.declared.limit.Bound.{Bound}
 use Rattle.pit_model.specs.declared.plan_key.PlanKey.{PlanKey}
@@ -127,17 +129,17 @@ bands_long : (n : ℕ) → length (bands_form n) ≡ 2 * n
 bands_long zero = refl
 bands_long (suc n) = omega (arith, bands_long n)
 
-leach_placed : (s : Stated) (cells : List (List ℕ)) → said_by_place cells (leach_shape s cells) ≡ leach_in s cells
+pub leach_placed : (s : Stated) (cells : List (List ℕ)) → said_by_place cells (destination_shape s formula_key.Leach cells) ≡ leach_in s cells
 leach_placed s cells =
     rw width (by (nat_lt (length cells) 6 || not (length cells % 2 == 0)) (read_field plan_kind a_name (cell_at cells 1)) (read_field plan_kind a_price (cell_at cells 2))
     (read_field plan_kind a_cost (cell_at cells 3)) (read_from 4 (bands_form (suc ((length cells - 6) / 2))) cells))
   where
-    width : (length cells == suc (length (leach_form cells))) ≡ not (nat_lt (length cells) 6 || not (length cells % 2 == 0))
+    width : (length cells == suc (length (destination_shape s formula_key.Leach cells).form)) ≡ not (nat_lt (length cells) 6 || not (length cells % 2 == 0))
     width = grind (arith, nat_tests, bands_long ((length cells - 6) / 2))
 
     by : (t : Bool) (r1 r2 r3 : Result Value PlanFaultKind) (r4 : Result (List Value) PlanFaultKind)
         → (if not (not t) then Err Width else ((r1 >>= λ a. (r2 >>= λ b. (r3 >>= λ c. r4 >>= λ ds. Ok (c ∷ ds)) >>= λ cs. Ok (b ∷ cs)) >>= λ bs. Ok (a ∷ bs))
-        >>= λ values. unless (failing ((leach_shape s cells).last values)) (Ok ((leach_shape s cells).next values))))
+        >>= λ values. unless (failing ((destination_shape s formula_key.Leach cells).last values)) (Ok ((destination_shape s formula_key.Leach cells).next values))))
         ≡ (if t then Err Width else (r1 >>= λ name. r2 >>= λ price. r3 >>= λ cost. (r4 >>= λ values. Ok ([] ++ bands_of values)) >>= λ bands.
         unless (failing (new_destination s (word_of name) ++ bands_asked bands ++ room_for_destination s))
         (Ok (with_destination s (word_of name) (Leach bands (whole_at (price ∷ []) 0) (whole_at (cost ∷ []) 0))))))
@@ -192,13 +194,11 @@ keyed cells shape some = by_place cells shape.form shape.last shape.next some
 
 key_placed : (s : Stated) (k : PlanKey) (cells : List (List ℕ)) → ¬ (length cells ≡ 0) → said (key_shape s (Some k) cells) ≡ key_by_place s k cells
 key_placed s key.Zone cells some = keyed cells (key_shape s (Some key.Zone) cells) some ∙ zone_placed s cells
-key_placed s key.Leach cells some = keyed cells (key_shape s (Some key.Leach) cells) some ∙ leach_placed s cells
 key_placed s key.Resource cells some = keyed cells (key_shape s (Some key.Resource) cells) some ∙ resource_placed s cells
 key_placed s key.Limit cells some = keyed cells (key_shape s (Some key.Limit) cells) some ∙ limit_placed s cells
 key_placed s key.Name cells some = keyed cells (key_shape s (Some key.Name) cells) some
 key_placed s key.Grid cells some = keyed cells (key_shape s (Some key.Grid) cells) some
-key_placed s key.Mill cells some = keyed cells (key_shape s (Some key.Mill) cells) some
-key_placed s key.Dump cells some = keyed cells (key_shape s (Some key.Dump) cells) some
+key_placed s (key.Destination k) cells some = keyed cells (key_shape s (Some (key.Destination k)) cells) some
 key_placed s key.Periods cells some = keyed cells (key_shape s (Some key.Periods) cells) some
 key_placed s key.Rate cells some = keyed cells (key_shape s (Some key.Rate) cells) some
 

@@ -2,6 +2,8 @@ pub mod BlockFacts
 pub mod BandFacts
 pub mod BandSteps
 pub mod CellsByPlace
+pub mod FieldFits
+pub mod FormulaFacts
 pub mod Limits
 pub mod Names
 pub mod PlanFits

@@ -1,6 +1,6 @@
 -- What the records of a plan state is in range.
-use Rattle.std.specs.Prelude.{◌≡◌, ℕ, suc, ◌+◌, ◌/◌, ◌^◌, ◌<◌, ◌≤◌, ◌==◌, Bool, true, false, not, nat_le, List, [], ◌∷◌, ◌++◌, length, drop, replicate, zero, ◌-◌, position, All, pos, Option, Some, None, is_some, unwrap_or, if◌then◌else◌, Result, Ok, Err, ℤ, codes, ◌||◌}
-use Rattle.std.proofs.Common.{refl, sym, subst, arith, eq-eqb, leb-true, length-append}
+use Rattle.std.specs.Prelude.{◌≡◌, ℕ, suc, ◌+◌, ◌^◌, ◌<◌, ◌≤◌, ◌==◌, Bool, true, false, not, nat_le, List, [], ◌∷◌, ◌++◌, length, drop, replicate, zero, ◌-◌, position, All, pos, Option, Some, None, is_some, unwrap_or, if◌then◌else◌, Result, Ok, Err, ℤ, codes, ◌||◌}
+use Rattle.std.proofs.Common.{refl, sym, subst, arith, eq-eqb, length-append}
 use Rattle.std.proofs.lemmas.List.Elements.{All-nil, All-cons, All-push, All-weaker}
 use Rattle.std.proofs.lemmas.List.Quantifiers.{position-Some}
 use Rattle.std.specs.List.{list_any}
@@ -9,15 +9,16 @@ use Rattle.forms.proofs.FormFacts.{spelled_fit}
 use Rattle.forms.specs.Field.{Field, Word, Value, Millionths, Bytes, millionths, number_at, whole_at}
 use Rattle.forms.specs.Fit.{is_fine, Fit, FitsField}
 use Rattle.forms.specs.GrammarStates.{AllState}
-use Rattle.forms.specs.Shape.{Check, Shape, check, failing}
+use Rattle.forms.specs.Shape.{Shape, check, failing}
 use Rattle.forms.specs.ShapeStates.{States}
-use Rattle.pit_model.specs.BandsKept.{AreBands, IsBand, starts_rise}
 use Rattle.records.specs.RecordCells.{cell_at, cells_of}
 use Rattle.pit_model.specs.DraftFields.{KeepsStated}
 use Rattle.pit_model.specs.Plan.{PlanParts}
-use Rattle.pit_model.specs.PlanKept.{plan_of, AreCovers, AreTonnes, IsBound, IsCone, IsGrid, IsPlan, IsRuled, IsSlope, IsTonnes, RiseStrictly, has_repeat, is_turned}
-use Rattle.pit_model.specs.PlanCells.{a_cost, a_name, a_period_count, a_price, a_rate, a_recovery, a_start, tonnes, word_at, word_of}
-use Rattle.pit_model.specs.PlanShapes.{a_destination, bands_asked, bands_form, bands_of, blank_shape, bound_form, bound_of, cone_of, covers_of, grid_form, grid_of, is_interval, key_of, key_shape, leach_form, limit_form, limit_of, record_shape, resource_form, room_for_destination, slope_at, zone_form}
+use Rattle.pit_model.specs.Formula.{IsRuled}
+use Rattle.pit_model.specs.PlanKept.{plan_of, AreCovers, AreTonnes, IsBound, IsCone, IsGrid, IsPlan, IsSlope, IsTonnes, RiseStrictly, has_repeat, is_turned}
+use Rattle.pit_model.specs.PlanCells.{a_period_count, a_rate, tonnes, word_at, word_of}
+use Rattle.pit_model.specs.FormulaShapes.{formula_shape}
+use Rattle.pit_model.specs.PlanShapes.{a_destination, blank_shape, bound_form, bound_of, cone_of, covers_of, grid_form, grid_of, is_interval, key_of, key_shape, limit_form, limit_of, record_shape, resource_form, room_for_destination, slope_at, zone_form}
 use Rattle.pit_model.specs.Planned.{SpellPlan, numbered_shape, plan_grammar, whole_plan}
 use Rattle.pit_model.specs.Stated.{Stated, is_same_place, nothing_stated, resource_named, with_destination}
 use Rattle.pit_model.specs.declared.formula.Formula.{Formula}
@@ -29,9 +30,11 @@ use Rattle.pit_model.specs.declared.plan_fault.PlanFaultKind.TheVariants.{Missin
 use Rattle.pit_model.specs.declared.plan_key.PlanKey.{PlanKey}
 use Rattle.pit_model.specs.declared.plan_key.PlanKey.TheVariants as key
 use Rattle.pit_model.specs.declared.resource.Resource.{Resource}
-use Rattle.pit_model.specs.declared.ranges.TheConstants.{MAX_BANDS, MAX_DESTINATIONS, MAX_PLAN_RECORDS, MAX_RESOURCES, MAX_ZONES}
+use Rattle.pit_model.specs.declared.ranges.TheConstants.{MAX_DESTINATIONS, MAX_PLAN_RECORDS, MAX_RESOURCES, MAX_ZONES}
 use Rattle.pit_model.proofs.Limits.{All-with_limit, rises}
-use Rattle.pit_model.proofs.PlanFits.{below_fits, between_fits, fits_at, fits_behind, origin_fits, range_fits, record_fine, size_fits, start_fits}
+use Rattle.pit_model.proofs.FieldFits.{below_fits, between_fits, fits_at, fits_behind, origin_fits, range_fits, size_fits}
+use Rattle.pit_model.proofs.FormulaFacts.{apart, formula_kept, held}
+use Rattle.pit_model.proofs.PlanFits.{record_fine}
 
 no_limits : RiseStrictly []
 no_limits i j d before within = absurd (omega arith)
@@ -51,11 +54,6 @@ nothing_kept = record {
   limits = All-nil _;
   rising = no_limits;
 }
-
--- the first of some tests holds, and so do the others
-held : (kind : PlanFaultKind) (t : Bool) (more : List (Check PlanFaultKind)) → failing (check kind t ++ more) ≡ None → (t ≡ true) × (failing more ≡ None)
-held kind true more e = (refl, e)
-held kind false more e = absurd cc
 
 -- there is room for one more
 room : {A : Type 0} (xs : List A) (x : A) (most : ℕ) → length xs ≤ most → not (length xs == most) ≡ true → length (xs ++ x ∷ []) ≤ most
@@ -113,19 +111,6 @@ destination_kept s name formula kept ruled free =
       limits = kept.limits;
       rising = kept.rising;
     }
-
-bands_kept : (n : ℕ) (values : List Value) → Fit (bands_form n) values → All IsBand (bands_of values)
-bands_kept zero [] fit = All-nil IsBand
-bands_kept zero (value ∷ values) fit = absurd fit
-bands_kept (suc n) [] fit = absurd fit
-bands_kept (suc n) (value ∷ []) fit = absurd fit.1
-bands_kept (suc n) (from ∷ part ∷ values) fit =
-    All-cons IsBand _ (bands_of values) (start_fits 6 (10 ^ 12) from fit.0, (between_fits 0 1000 part fit.1.0).1) (bands_kept n values fit.1.1)
-
-some_bands : (form : List Field) (values : List Value) → Fit (a_start ∷ a_recovery ∷ form) values → 1 ≤ length (bands_of values)
-some_bands form [] fit = absurd fit
-some_bands form (value ∷ []) fit = absurd fit.1
-some_bands form (from ∷ part ∷ values) fit = omega arith
 
 -- the number of what is named is that of one there
 number_there : {A : Type 0} (test : A → Bool) (xs : List A) → is_some (position test xs) ≡ true → unwrap_or (position test xs) 0 < length xs
@@ -222,29 +207,11 @@ key_kept s (Some key.Zone) cells kept values fit holds =
       limits = kept.limits;
       rising = kept.rising;
     }
-key_kept s (Some key.Mill) cells kept values fit holds =
-    let form = a_name ∷ a_recovery ∷ a_price ∷ a_cost ∷ [] in
-    destination_kept s (word_at values 0) _ kept
-    ((between_fits 0 1000 _ (fits_at form values 1 fit)).1, (between_fits 0 (10 ^ 8) _ (fits_at form values 2 fit)).1, (between_fits 0 (10 ^ 7) _ (fits_at form values 3 fit)).1)
-    (held TooMany (not (length s.formulas == MAX_DESTINATIONS)) [] (held Twice _ (room_for_destination s) holds).1).0
-key_kept s (Some key.Leach) cells kept values fit holds =
-    let form = leach_form cells in
-    let bands = bands_of (drop 3 values) in
-    let behind = fits_behind 3 form values fit in
-    let new = held Twice _ (bands_asked bands ++ room_for_destination s) holds in
-    let rises = held Order (starts_rise bands) (check TooMany (nat_le (length bands) MAX_BANDS) ++ room_for_destination s) new.1 in
-    let few = held TooMany (nat_le (length bands) MAX_BANDS) (room_for_destination s) rises.1 in
-    let ruled : AreBands bands = record {
-      count = (some_bands (bands_form ((length cells - 6) / 2)) (drop 3 values) behind, leb-true (length bands) 16 few.0);
-      in_range = bands_kept (suc ((length cells - 6) / 2)) (drop 3 values) behind;
-      rising = rises.0;
-    } in
-    destination_kept s (word_at values 0) _ kept
-    (ruled, (between_fits 0 (10 ^ 8) _ (fits_at form values 1 fit)).1, (between_fits 0 (10 ^ 7) _ (fits_at form values 2 fit)).1)
-    (held TooMany (not (length s.formulas == MAX_DESTINATIONS)) [] few.1).0
-key_kept s (Some key.Dump) cells kept values fit holds =
-    destination_kept s (word_at values 0) _ kept (between_fits 0 (10 ^ 7) _ (fits_at (a_name ∷ a_cost ∷ []) values 1 fit)).1
-    (held TooMany (not (length s.formulas == MAX_DESTINATIONS)) [] (held Twice _ (room_for_destination s) holds).1).0
+key_kept s (Some (key.Destination k)) cells kept values fit holds =
+    let new = held Twice _ ((formula_shape k cells).asked values ++ room_for_destination s) holds in
+    let both = apart ((formula_shape k cells).asked values) (room_for_destination s) new.1 in
+    destination_kept s (word_at values 0) ((formula_shape k cells).made values) kept (formula_kept k cells values fit both.0)
+    (held TooMany (not (length s.formulas == MAX_DESTINATIONS)) [] both.1).0
 key_kept s (Some key.Periods) cells kept values fit holds =
     let none : s.periods ≡ None = not_some s.periods (held Twice (not (is_some s.periods)) [] holds).0 in
     let n = whole_at values 0 in

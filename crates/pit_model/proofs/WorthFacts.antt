@@ -1,5 +1,5 @@
 -- Floors, and the ranges of worths.
-use Rattle.std.proofs.Common.{◌≡◌, ◌<◌, ◌≤◌, ℕ, zero, suc, add-one, ◌+◌, ◌*◌, ◌/◌, ◌^◌, List, [], ◌∷◌, Bool, true, false, cond, Option, Some, None, arith, sym, ap, nat_le, All}
+use Rattle.std.proofs.Common.{◌≡◌, ◌<◌, ◌≤◌, ℕ, zero, suc, add-one, ◌+◌, ◌*◌, ◌/◌, ◌^◌, List, [], ◌∷◌, Bool, true, false, cond, Option, Some, arith, sym, ap, nat_le, All}
 use Rattle.std.proofs.Math.Nat.{div-div-eq-div-mul, div-eq_of_lt-le, suc-mul}
 use Rattle.std.proofs.lemmas.Int.{ints}
 use Rattle.std.proofs.lemmas.Nat.{mul-le, div-add-mod', mod_below}
@@ -7,12 +7,8 @@ use Rattle.std.specs.Prelude.{ℤ, pos, negsuc, ◌-ℤ◌, neg_ℤ, unsigned_ab
 use Rattle.std.specs.List.{filter, last_or}
 use Rattle.std.specs.Option.{option_map_or}
 use Rattle.pit_model.specs.BandsKept.{IsBand}
-use Rattle.pit_model.specs.PlanKept.{IsRuled}
-use Rattle.pit_model.specs.Worth.{floor, IsFloor, worth, IsWorth}
+use Rattle.pit_model.specs.Worth.{floor, IsFloor, IsWorth}
 use Rattle.pit_model.specs.declared.band.Band.{Band}
-use Rattle.pit_model.specs.declared.block.Block.{Block}
-use Rattle.pit_model.specs.declared.formula.Formula.{Formula}
-use Rattle.pit_model.specs.declared.formula.Formula.TheVariants.{Mill, Leach, Dump}
 
 pub metal_bound : (kg grade recovery price : ℕ) → kg ≤ 10 ^ 9 → grade ≤ 10 ^ 12 → recovery ≤ 1000 → price ≤ 10 ^ 8
     → kg * grade * recovery * price ≤ 10 ^ 32
@@ -42,7 +38,7 @@ floor_twice (pos a) m n = ap pos (div-div-eq-div-mul a m n)
 floor_twice (negsuc a) m n = ap negsuc (div-div-eq-div-mul a m n)
 
 -- a recovery is in range where each band is
-recovery_bound : (o : Option Band) (bands : List Band) (grade : ℕ) → option_map_or (λ b. b.recovery) o 0 ≤ 1000 → All IsBand bands
+pub recovery_bound : (o : Option Band) (bands : List Band) (grade : ℕ) → option_map_or (λ b. b.recovery) o 0 ≤ 1000 → All IsBand bands
     → option_map_or (λ b. b.recovery) (last_or o (filter (λ b. nat_le b.start grade) bands)) 0 ≤ 1000
 recovery_bound o [] grade first rest = first
 recovery_bound o (b ∷ bands) grade first rest =
@@ -62,23 +58,16 @@ floor_bound : (z : ℤ) → unsigned_abs z ≤ 10 ^ 32 → IsWorth (floor z (10 
 floor_bound (pos a) h = omega arith
 floor_bound (negsuc a) h = omega arith
 
-mill_bound : (kg grade recovery price cost : ℕ) → kg ≤ 10 ^ 9 → grade ≤ 10 ^ 12 → recovery ≤ 1000 → price ≤ 10 ^ 8 → cost ≤ 10 ^ 7
+pub mill_bound : (kg grade recovery price cost : ℕ) → kg ≤ 10 ^ 9 → grade ≤ 10 ^ 12 → recovery ≤ 1000 → price ≤ 10 ^ 8 → cost ≤ 10 ^ 7
     → IsWorth (floor (pos (kg * grade * recovery * price) -ℤ pos (kg * cost * 10 ^ 12)) (10 ^ 15))
 mill_bound kg grade recovery price cost k g r p c = near _ _ (metal_bound kg grade recovery price k g r p) (mul-le kg cost (10 ^ 9) (10 ^ 7) k c)
   where
     near : (earned spent : ℕ) → earned ≤ 10 ^ 32 → spent ≤ 10 ^ 16 → IsWorth (floor (pos earned -ℤ pos (spent * 10 ^ 12)) (10 ^ 15))
     near earned spent e s = floor_bound (pos earned -ℤ pos (spent * 10 ^ 12)) (omega (arith, ints))
 
-dump_bound : (kg cost : ℕ) → kg ≤ 10 ^ 9 → cost ≤ 10 ^ 7 → IsWorth (floor (neg_ℤ (pos (kg * cost))) 1000)
+pub dump_bound : (kg cost : ℕ) → kg ≤ 10 ^ 9 → cost ≤ 10 ^ 7 → IsWorth (floor (neg_ℤ (pos (kg * cost))) 1000)
 dump_bound kg cost k c = near _ (mul-le kg cost (10 ^ 9) (10 ^ 7) k c)
   where
     near : (spent : ℕ) → spent ≤ 10 ^ 16 → IsWorth (floor (neg_ℤ (pos spent)) 1000)
     near zero s = omega arith
     near (suc spent) s = omega arith
-
-pub worth_bound : (f : Formula) (b : Block) → IsRuled f → IsWorth (worth f b)
-worth_bound (Mill recovery price cost) b ruled =
-    mill_bound b.kg b.grade recovery price cost b.kg_in_range b.grade_in_range ruled.0 ruled.1 ruled.2
-worth_bound (Leach bands price cost) b ruled =
-    mill_bound b.kg b.grade _ price cost b.kg_in_range b.grade_in_range (recovery_bound None bands b.grade (omega arith) ruled.0.in_range) ruled.1 ruled.2
-worth_bound (Dump cost) b ruled = dump_bound b.kg cost b.kg_in_range ruled

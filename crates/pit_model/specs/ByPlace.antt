@@ -6,7 +6,8 @@ use Rattle.forms.specs.Shape.{Shape, failing, unless}
 use Rattle.forms.specs.Steps.{◌>>=◌}
 use Rattle.records.specs.RecordCells.{cell_at}
 use Rattle.pit_model.specs.PlanCells.{a_cost, a_name, a_price, a_recovery, a_start, plan_kind, word_of}
-use Rattle.pit_model.specs.PlanShapes.{a_destination, a_resource, band_at, bands_asked, bands_form, bands_of, bound_form, bound_of, cone_of, covers_of, is_interval, key_shape, limit_asked, limit_form, limit_on, new_destination, resource_asked, room_for_destination, room_for_zone, zone_form}
+use Rattle.pit_model.specs.FormulaShapes.{band_at, bands_asked, bands_form, bands_of}
+use Rattle.pit_model.specs.PlanShapes.{a_destination, a_resource, bound_form, bound_of, cone_of, covers_of, is_interval, key_shape, limit_asked, limit_form, limit_on, new_destination, resource_asked, room_for_destination, room_for_zone, zone_form}
 use Rattle.pit_model.specs.Stated.{Stated, with_destination, with_limit, with_resource, with_zone}
 use Rattle.pit_model.specs.declared.band.Band.{Band}
 use Rattle.pit_model.specs.declared.cone.Cone.{Cone}
@@ -106,12 +107,10 @@ limit_in s cells =
 -- the record of this key
 abbrev pub key_by_place : Stated → PlanKey → List (List ℕ) → Result Stated PlanFaultKind
 key_by_place s key.Zone cells = zone_in s cells
-key_by_place s key.Leach cells = leach_in s cells
 key_by_place s key.Resource cells = resource_in s cells
 key_by_place s key.Limit cells = limit_in s cells
 key_by_place s key.Name cells = said_by_place cells (key_shape s (Some key.Name) cells)
 key_by_place s key.Grid cells = said_by_place cells (key_shape s (Some key.Grid) cells)
-key_by_place s key.Mill cells = said_by_place cells (key_shape s (Some key.Mill) cells)
-key_by_place s key.Dump cells = said_by_place cells (key_shape s (Some key.Dump) cells)
+key_by_place s (key.Destination k) cells = said_by_place cells (key_shape s (Some (key.Destination k)) cells)
 key_by_place s key.Periods cells = said_by_place cells (key_shape s (Some key.Periods) cells)
 key_by_place s key.Rate cells = said_by_place cells (key_shape s (Some key.Rate) cells)

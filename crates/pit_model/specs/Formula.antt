@@ -1,18 +1,13 @@
--- Formulas beside one another.
-use Rattle.std.specs.Prelude.{Bool, false, ◌&&◌, ◌==◌}
-use Rattle.pit_model.specs.BandsKept.{bands_eq}
+-- The ranges of a formula's numbers.
+use Rattle.std.specs.Prelude.{◌≤◌}
+use Rattle.pit_model.specs.BandsKept.{AreBands}
 use Rattle.pit_model.specs.declared.formula.Formula.{Formula}
-use Rattle.pit_model.specs.declared.formula.Formula.TheVariants.{Mill, Leach, Dump}
+use Rattle.pit_model.specs.declared.formula.Formula.TheVariants as formula
+use Rattle.pit_model.specs.declared.ranges.TheConstants.{MAX_COST, MAX_PRICE, MAX_RECOVERY}
 
--- a formula with a list in it, whose copy takes memory
-abbrev pub HasBands : Formula → Type 0
-HasBands (Mill recovery price cost) = ⊥
-HasBands (Leach bands price cost) = Unit {0}
-HasBands (Dump cost) = ⊥
-
--- whether two formulas are of one kind, with the same numbers
-abbrev pub formula_eq : Formula → Formula → Bool
-formula_eq (Mill r p c) (Mill s q d) = (r == s) && (p == q) && (c == d)
-formula_eq (Leach a p c) (Leach b q d) = bands_eq a b && (p == q) && (c == d)
-formula_eq (Dump c) (Dump d) = c == d
-formula_eq f g = false
+-- the numbers of a formula are in range
+abbrev pub IsRuled : Formula → Type 0
+IsRuled (formula.Mill recovery price cost) =
+    (recovery ≤ MAX_RECOVERY) × (price ≤ MAX_PRICE) × (cost ≤ MAX_COST)
+IsRuled (formula.Leach bands price cost) = AreBands bands × (price ≤ MAX_PRICE) × (cost ≤ MAX_COST)
+IsRuled (formula.Dump cost) = cost ≤ MAX_COST

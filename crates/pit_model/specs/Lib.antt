@@ -10,6 +10,8 @@ pub mod DraftFields
 pub mod Equality
 pub mod FaultText
 pub mod Formula
+pub mod FormulaEquality
+pub mod FormulaShapes
 pub mod Name
 pub mod Plan
 pub mod PlanCells
@@ -18,6 +20,5 @@ pub mod PlanFormulas
 pub mod PlanKept
 pub mod PlanShapes
 pub mod Planned
-pub mod Ruled
 pub mod Stated
 pub mod Worth

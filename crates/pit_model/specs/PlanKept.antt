@@ -1,19 +1,17 @@
 -- What every plan keeps: the ranges of its parts, and their order.
 use Rattle.std.specs.Prelude.{◌≡◌, ℕ, ◌<◌, ◌≤◌, List, [], ◌∷◌, length, ℤ, pos, ◌≤ℤ◌, All, Bool, false, ◌==◌, ◌&&◌, ◌||◌, nat_lt, AllPairs, IsTrue, int_le, not}
 use Rattle.std.specs.List.{list_any}
-use Rattle.pit_model.specs.BandsKept.{AreBands}
+use Rattle.pit_model.specs.Formula.{IsRuled}
 use Rattle.pit_model.specs.declared.grid.Axis.{Axis}
 use Rattle.pit_model.specs.declared.grid.Grid.{Grid}
 use Rattle.pit_model.specs.declared.cone.Slope.{Slope}
 use Rattle.pit_model.specs.declared.cone.Cone.{Cone}
-use Rattle.pit_model.specs.declared.formula.Formula.{Formula}
-use Rattle.pit_model.specs.declared.formula.Formula.TheVariants.{Mill, Leach, Dump}
 use Rattle.pit_model.specs.declared.formula.NamedFormula.{NamedFormula}
 use Rattle.pit_model.specs.declared.resource.Resource.{Resource}
 use Rattle.pit_model.specs.declared.limit.Bound.{Bound}
 use Rattle.pit_model.specs.declared.limit.Bound.TheVariants.{AtMost, AtLeast, Between}
 use Rattle.pit_model.specs.declared.limit.Limit.{Limit}
-use Rattle.pit_model.specs.declared.ranges.TheConstants.{MAX_BENCHES, MAX_COST, MAX_DESTINATIONS, MAX_ORIGIN, MAX_PERIODS, MAX_PRICE, MAX_RATE, MAX_RECOVERY, MAX_RESOURCES, MAX_SIZE, MAX_SLOPE, MAX_TONNES, MAX_ZONES, MIN_ORIGIN}
+use Rattle.pit_model.specs.declared.ranges.TheConstants.{MAX_BENCHES, MAX_DESTINATIONS, MAX_ORIGIN, MAX_PERIODS, MAX_RATE, MAX_RESOURCES, MAX_SIZE, MAX_SLOPE, MAX_TONNES, MAX_ZONES, MIN_ORIGIN}
 use Rattle.pit_model.specs.Plan.{PlanParts}
 
 -- a plan by its parts
@@ -43,12 +41,6 @@ IsSlope s = ((1 ≤ s.p) × (s.p ≤ MAX_SLOPE)) × ((1 ≤ s.q) × (s.q ≤ MAX
 -- a cone looks at 1 to 20 benches
 abbrev pub IsCone : Cone → Type 0
 IsCone c = (IsSlope c.east × IsSlope c.west × IsSlope c.north × IsSlope c.south) × ((1 ≤ c.k) × (c.k ≤ MAX_BENCHES))
-
--- the numbers of a formula are in range
-abbrev pub IsRuled : Formula → Type 0
-IsRuled (Mill recovery price cost) = (recovery ≤ MAX_RECOVERY) × (price ≤ MAX_PRICE) × (cost ≤ MAX_COST)
-IsRuled (Leach bands price cost) = AreBands bands × (price ≤ MAX_PRICE) × (cost ≤ MAX_COST)
-IsRuled (Dump cost) = cost ≤ MAX_COST
 
 -- tonnes of a limit: 0 to 10^12, in millionths
 abbrev pub IsTonnes : ℤ → Type 0

@@ -1,19 +1,19 @@
 -- The table of keys: for each the form of the cells behind it, what is asked of what they state, in order, and what is then stated.
-use Rattle.std.specs.Prelude.{ℕ, zero, suc, ◌+◌, ◌-◌, ◌/◌, ◌^◌, ◌==◌, ◌||◌, Bool, true, false, not, nat_le, List, [], ◌∷◌, ◌++◌, length, drop, map, replicate, pos, unsigned_abs, int_div, Option, Some, None, is_some, unwrap_or, codes, if◌then◌else◌}
+use Rattle.std.specs.Prelude.{ℕ, suc, ◌+◌, ◌-◌, ◌/◌, ◌==◌, ◌||◌, Bool, true, false, not, List, [], ◌∷◌, ◌++◌, length, drop, map, replicate, pos, unsigned_abs, int_div, Option, Some, None, is_some, unwrap_or, codes, if◌then◌else◌}
 use Rattle.std.specs.List.{list_any}
+use Rattle.std.specs.Option.{option_map}
 use Rattle.std.specs.Str.{bytes_eq}
-use Rattle.forms.specs.Field.{Field, Word, Value, below, millionths, number_at, whole_at}
+use Rattle.forms.specs.Field.{Field, Word, Value, below, number_at, whole_at}
 use Rattle.forms.specs.Shape.{Check, Shape, check}
-use Rattle.pit_model.specs.BandsKept.{starts_rise}
 use Rattle.records.specs.Cells.{is_word}
 use Rattle.records.specs.RecordCells.{cell_at}
+use Rattle.pit_model.specs.FormulaShapes.{formula_key_of, formula_shape}
 use Rattle.pit_model.specs.PlanKept.{has_repeat, is_turned}
-use Rattle.pit_model.specs.PlanCells.{plan_kind, word_at, word_of, a_cost, a_leg, a_name, a_period_count, a_price, a_rate, a_recovery, a_size, a_start, an_origin, benches, tonnes}
+use Rattle.pit_model.specs.PlanCells.{plan_kind, word_at, word_of, a_leg, a_name, a_period_count, a_rate, a_size, an_origin, benches, tonnes}
 use Rattle.pit_model.specs.Stated.{Stated, destination_named, resource_named, with_destination, with_zone, with_resource, is_same_place, with_limit}
-use Rattle.pit_model.specs.declared.band.Band.{Band}
 use Rattle.pit_model.specs.declared.cone.Cone.{Cone}
 use Rattle.pit_model.specs.declared.cone.Slope.{Slope}
-use Rattle.pit_model.specs.declared.formula.Formula.TheVariants.{Mill, Leach, Dump}
+use Rattle.pit_model.specs.declared.draft.formulas.FormulaKey.{FormulaKey}
 use Rattle.pit_model.specs.declared.formula.NamedFormula.{NamedFormula}
 use Rattle.pit_model.specs.declared.grid.Axis.{Axis}
 use Rattle.pit_model.specs.declared.grid.Grid.{Grid}
@@ -25,7 +25,7 @@ use Rattle.pit_model.specs.declared.plan_fault.PlanFaultKind.TheVariants.{Key, T
 use Rattle.pit_model.specs.declared.plan_key.PlanKey.{PlanKey}
 use Rattle.pit_model.specs.declared.plan_key.PlanKey.TheVariants as key
 use Rattle.pit_model.specs.declared.resource.Resource.{Resource}
-use Rattle.pit_model.specs.declared.ranges.TheConstants.{MAX_BANDS, MAX_DESTINATIONS, MAX_RESOURCES, MAX_ZONES}
+use Rattle.pit_model.specs.declared.ranges.TheConstants.{MAX_DESTINATIONS, MAX_RESOURCES, MAX_ZONES}
 
 -- the form of the cells behind the key, what is asked of their values, and what is stated behind them
 abbrev pub cells_shape : List (List ℕ) → List Field → (List Value → List (Check PlanFaultKind)) → (List Value → Stated) → Shape PlanFaultKind Stated
@@ -84,45 +84,12 @@ new_destination s name = check Twice (not (is_some (destination_named s.formulas
 abbrev pub room_for_destination : Stated → List (Check PlanFaultKind)
 room_for_destination s = check TooMany (not (length s.formulas == MAX_DESTINATIONS))
 
--- `mill, NAME, recovery, price, cost`
-abbrev pub mill_shape : Stated → List (List ℕ) → Shape PlanFaultKind Stated
-mill_shape s cells =
-    cells_shape cells (a_name ∷ a_recovery ∷ a_price ∷ a_cost ∷ [])
-    (λ values. new_destination s (word_at values 0) ++ room_for_destination s)
-    (λ values. with_destination s (word_at values 0) (Mill (whole_at values 1) (whole_at values 2) (whole_at values 3)))
-
--- a start and a recovery for each of so many bands
-abbrev pub bands_form : ℕ → List Field
-bands_form zero = []
-bands_form (suc n) = a_start ∷ a_recovery ∷ bands_form n
-
-abbrev pub band_at : Value → Value → Band
-band_at start recovery = record { start = unsigned_abs (millionths start); recovery = unsigned_abs (millionths recovery) / 10 ^ 6 }
-
-abbrev pub bands_of : List Value → List Band
-bands_of [] = []
-bands_of (lone ∷ []) = []
-bands_of (start ∷ recovery ∷ values) = band_at start recovery ∷ bands_of values
-
--- `leach, NAME, price, cost`, and at least one band; the bands rise, and are at most 16
-abbrev pub leach_form : List (List ℕ) → List Field
-leach_form cells = a_name ∷ a_price ∷ a_cost ∷ bands_form (suc ((length cells - 6) / 2))
-
-abbrev pub bands_asked : List Band → List (Check PlanFaultKind)
-bands_asked bands = check Order (starts_rise bands) ++ check TooMany (nat_le (length bands) MAX_BANDS)
-
-abbrev pub leach_shape : Stated → List (List ℕ) → Shape PlanFaultKind Stated
-leach_shape s cells =
-    cells_shape cells (leach_form cells)
-    (λ values. new_destination s (word_at values 0) ++ bands_asked (bands_of (drop 3 values)) ++ room_for_destination s)
-    (λ values. with_destination s (word_at values 0) (Leach (bands_of (drop 3 values)) (whole_at values 1) (whole_at values 2)))
-
--- `dump, NAME, cost`
-abbrev pub dump_shape : Stated → List (List ℕ) → Shape PlanFaultKind Stated
-dump_shape s cells =
-    cells_shape cells (a_name ∷ a_cost ∷ [])
-    (λ values. new_destination s (word_at values 0) ++ room_for_destination s)
-    (λ values. with_destination s (word_at values 0) (Dump (whole_at values 1)))
+-- a formula's key, the NAME of a destination, and the formula's cells
+abbrev pub destination_shape : Stated → FormulaKey → List (List ℕ) → Shape PlanFaultKind Stated
+destination_shape s k cells =
+    cells_shape cells (formula_shape k cells).form
+    (λ values. new_destination s (word_at values 0) ++ (formula_shape k cells).asked values ++ room_for_destination s)
+    (λ values. with_destination s (word_at values 0) ((formula_shape k cells).made values))
 
 -- `periods, number`
 abbrev pub periods_shape : Stated → List (List ℕ) → Shape PlanFaultKind Stated
@@ -201,9 +168,7 @@ key_shape s None cells = record (blank_shape s) { first = check Key false }
 key_shape s (Some key.Name) cells = name_shape s cells
 key_shape s (Some key.Grid) cells = grid_shape s cells
 key_shape s (Some key.Zone) cells = zone_shape s cells
-key_shape s (Some key.Mill) cells = mill_shape s cells
-key_shape s (Some key.Leach) cells = leach_shape s cells
-key_shape s (Some key.Dump) cells = dump_shape s cells
+key_shape s (Some (key.Destination k)) cells = destination_shape s k cells
 key_shape s (Some key.Periods) cells = periods_shape s cells
 key_shape s (Some key.Rate) cells = rate_shape s cells
 key_shape s (Some key.Resource) cells = resource_shape s cells
@@ -215,14 +180,11 @@ key_of cell =
     if is_word cell (codes "name") then Some key.Name
     else (if is_word cell (codes "grid") then Some key.Grid
     else (if is_word cell (codes "zone") then Some key.Zone
-    else (if is_word cell (codes "mill") then Some key.Mill
-    else (if is_word cell (codes "leach") then Some key.Leach
-    else (if is_word cell (codes "dump") then Some key.Dump
     else (if is_word cell (codes "periods") then Some key.Periods
     else (if is_word cell (codes "rate") then Some key.Rate
     else (if is_word cell (codes "resource") then Some key.Resource
     else (if is_word cell (codes "limit") then Some key.Limit
-    else None)))))))))
+    else option_map key.Destination (formula_key_of cell)))))))
 
 -- a record of these cells; one without cells states nothing
 abbrev pub record_shape : Stated → List (List ℕ) → Shape PlanFaultKind Stated

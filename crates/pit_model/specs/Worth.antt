@@ -4,7 +4,7 @@ use Rattle.pit_model.specs.Bands.{recovery_at}
 use Rattle.pit_model.specs.declared.band.Band.{Band}
 use Rattle.pit_model.specs.declared.block.Block.{Block}
 use Rattle.pit_model.specs.declared.formula.Formula.{Formula}
-use Rattle.pit_model.specs.declared.formula.Formula.TheVariants.{Mill, Leach, Dump}
+use Rattle.pit_model.specs.declared.formula.Formula.TheVariants as formula
 
 -- a by n as a whole number, rounded down, also below zero
 abbrev pub floor : ℤ → ℕ → ℤ
@@ -30,9 +30,9 @@ dump b cost = floor (neg_ℤ (pos (b.kg * cost))) 1000
 
 -- what a block is worth by a formula
 abbrev pub worth : Formula → Block → ℤ
-worth (Mill recovery price cost) b = mill b recovery price cost
-worth (Leach bands price cost) b = leach b bands price cost
-worth (Dump cost) b = dump b cost
+worth (formula.Mill recovery price cost) b = mill b recovery price cost
+worth (formula.Leach bands price cost) b = leach b bands price cost
+worth (formula.Dump cost) b = dump b cost
 
 -- within 10^17 cents of zero
 abbrev pub IsWorth : ℤ → Type 0

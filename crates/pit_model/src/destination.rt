@@ -1,8 +1,8 @@
 //! A destination: a formula, and the stored closure that values blocks by it.
 
 ghost use Rattle.std.specs.Prelude.{◌≡◌, ℤ};
-ghost use Rattle.pit_model.specs.PlanKept.{IsRuled};
-ghost use Rattle.pit_model.specs.Ruled.{IsRuled-prop};
+ghost use Rattle.pit_model.specs.Formula.{IsRuled};
+ghost use Rattle.pit_model.specs.FormulaEquality.{IsRuled-prop};
 ghost use Rattle.pit_model.specs.Worth.{worth, IsWorth};
 ghost use Rattle.pit_model.specs.declared.block.Block.{Block as ABlock};
 
@@ -37,7 +37,7 @@ impl Destination {
     }
 
     /// What a block is worth here, in cents: the answer of the closure.
-    #[tactic(auto, using(crate::proofs::WorthFacts::worth_bound))]
+    #[tactic(auto, using(crate::proofs::FormulaFacts::worth_bound))]
     pub fn value(&self, block: Block) -> i128
         ensures asked { Valuer.post (valuer_of self.now) block result }
         ensures value { result ≡ worth (formula_of self.now) block }

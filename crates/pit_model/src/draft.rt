@@ -1,39 +1,32 @@
 //! A plan while its records are read.
 
-ghost use Rattle.std.specs.Prelude.{◌≡◌, ◌≤ℤ◌, ◌^◌, ◌<◌, ◌≤◌, pos, length, unwrap_or, All, IfOk, ◌++◌, Ok};
+ghost use Rattle.std.specs.Prelude.{◌≡◌, ◌≤ℤ◌, ◌<◌, pos, length, unwrap_or, IfOk};
 ghost use Rattle.csv.specs.Records.{fields_of};
 ghost use Rattle.pit_model.specs.Admits.{Admits};
-ghost use Rattle.pit_model.specs.BandsKept.{IsBand};
 ghost use Rattle.records.specs.RecordCells.{cells_of};
-ghost use Rattle.pit_model.specs.PlanKept.{AreTonnes, IsRuled};
+ghost use Rattle.pit_model.specs.PlanKept.{AreTonnes};
 ghost use Rattle.forms.specs.Field.{Millionths};
 ghost use Rattle.forms.specs.Read.{read_field};
-ghost use Rattle.forms.specs.Shape.{failing, said, unless};
-ghost use Rattle.pit_model.specs.ByPlace.{Gives, key_by_place, leach_in, limit_in, limited, resource_in, said_by_place, zone_in};
+ghost use Rattle.forms.specs.Shape.{said};
+ghost use Rattle.pit_model.specs.ByPlace.{Gives, key_by_place, limit_in, limited, resource_in, said_by_place, zone_in};
 ghost use Rattle.pit_model.specs.PlanCells.{a_rate, plan_kind};
-ghost use Rattle.pit_model.specs.PlanShapes.{bands_asked, dump_shape, grid_shape, mill_shape, name_shape, periods_shape, rate_shape, record_shape, room_for_destination};
+ghost use Rattle.pit_model.specs.PlanShapes.{grid_shape, name_shape, periods_shape, rate_shape, record_shape};
 ghost use Rattle.pit_model.specs.Planned.{finished};
-ghost use Rattle.pit_model.specs.Stated.{nothing_stated, with_destination};
-ghost use Rattle.pit_model.specs.declared.formula.Formula.TheVariants.{Leach};
-ghost use Rattle.pit_model.specs.declared.ranges.TheConstants.{MAX_COST, MAX_PRICE, MAX_RATE};
+ghost use Rattle.pit_model.specs.Stated.{nothing_stated};
+ghost use Rattle.pit_model.specs.declared.ranges.TheConstants.{MAX_RATE};
 
-use crate::band::{Band, Bands, starts_rise};
-use crate::band_cells::read_bands;
 use crate::cone::Cone;
-use crate::formula::{Formula, NamedFormula};
+use crate::formula::NamedFormula;
 use crate::grid::{Axis, Grid};
 use crate::limit::Limit;
 use crate::limit_cells::{bound_in, insert_limit, is_limited, limit_width, period_in};
 use crate::name::Name;
-use crate::named::{covers_in, has_repeat, is_resource, is_taken, name_in, resource_in};
+use crate::named::{covers_in, has_repeat, is_resource, name_in, resource_in};
 use crate::numbers::{number_in, origin_in, size_in, whole_in};
 use crate::plan::Plan;
 use crate::plan_fault::{PlanFaultKind, RecordError};
 use crate::plan_key::{PlanKey, key_of};
-use crate::ranges::{
-    MAX_BANDS, MAX_COST, MAX_DESTINATIONS, MAX_PERIODS, MAX_PRICE, MAX_RATE, MAX_RECOVERY,
-    MAX_RESOURCES, MAX_ZONES,
-};
+use crate::ranges::{MAX_PERIODS, MAX_RATE, MAX_RESOURCES, MAX_ZONES};
 use crate::resource::Resource;
 use crate::zone_cells::cone_in;
 use csv::ByteRecord;
@@ -41,6 +34,10 @@ use pit_units::Dec;
 use records::cells::{cell_at, cell_count};
 use std::alloc::Global;
 use std::marker::Model;
+
+mod formulas;
+
+pub use formulas::{FormulaKey, formula_key_of};
 
 /// What the records of a plan have said so far.
 #[derive(Drop)]
@@ -111,9 +108,7 @@ impl Draft {
             PlanKey::Name => self.admit_name(row, count),
             PlanKey::Grid => self.admit_grid(row, count),
             PlanKey::Zone => self.admit_zone(row, count),
-            PlanKey::Mill => self.admit_mill(row, count),
-            PlanKey::Leach => self.admit_leach(row, count),
-            PlanKey::Dump => self.admit_dump(row, count),
+            PlanKey::Destination(key) => self.admit_destination(key, row, count),
             PlanKey::Periods => self.admit_periods(row, count),
             PlanKey::Rate => self.admit_rate(row, count),
             PlanKey::Resource => self.admit_resource(row, count),
@@ -265,106 +260,6 @@ impl Draft {
             return Err(RecordError::Fault(PlanFaultKind::Order));
         }
         insert_limit(&mut self.limits, limit)?;
-        Ok(())
-    }
-
-    #[tactic(auto, using(crate::proofs::CellsByPlace::quotient))]
-    fn admit_mill(&mut self, row: &ByteRecord, count: usize) -> Result<(), RecordError>
-        requires { count ≡ length (cells_of (fields_of row.now)) }
-        ensures { Admits self.new result
-            (said_by_place (cells_of (fields_of row.now))
-            (mill_shape self.old (cells_of (fields_of row.now)))) }
-    {
-        if count != 5 {
-            return Err(RecordError::Fault(PlanFaultKind::Width));
-        }
-        let name = name_in(self.alloc, cell_at(row, 1))?;
-        let recovery = whole_in(cell_at(row, 2), 0, u32::from(MAX_RECOVERY))?;
-        let price = whole_in(cell_at(row, 3), 0, MAX_PRICE)?;
-        let cost = whole_in(cell_at(row, 4), 0, MAX_COST)?;
-        if is_taken(self.formulas.as_slice(), cell_at(row, 1)) {
-            return Err(RecordError::Fault(PlanFaultKind::Twice));
-        }
-        let formula = Formula::Mill {
-            recovery: recovery as u16,
-            price: price as u64,
-            cost: cost as u64,
-        };
-        self.add_formula(name, formula)
-    }
-
-    #[tactic(auto, using(crate::proofs::CellsByPlace::quotient))]
-    fn admit_leach(&mut self, row: &ByteRecord, count: usize) -> Result<(), RecordError>
-        requires { count ≡ length (cells_of (fields_of row.now)) }
-        ensures { Admits self.new result (leach_in self.old (cells_of (fields_of row.now))) }
-    {
-        if count < 6 || count % 2 != 0 {
-            return Err(RecordError::Fault(PlanFaultKind::Width));
-        }
-        let name = name_in(self.alloc, cell_at(row, 1))?;
-        let price = whole_in(cell_at(row, 2), 0, MAX_PRICE)?;
-        let cost = whole_in(cell_at(row, 3), 0, MAX_COST)?;
-        let mut bands = Vec::new(self.alloc);
-        read_bands(row, count, &mut bands)?;
-        if is_taken(self.formulas.as_slice(), cell_at(row, 1)) {
-            return Err(RecordError::Fault(PlanFaultKind::Twice));
-        }
-        self.add_leach(name, bands, price as u64, cost as u64)
-    }
-
-    fn add_leach(
-        &mut self,
-        name: Name,
-        bands: Vec<Band>,
-        price: u64,
-        cost: u64,
-    ) -> Result<(), RecordError>
-        requires some { 1 ≤ length bands.items }
-        requires in_range { All IsBand bands.items }
-        requires price { price ≤ MAX_PRICE }
-        requires cost { cost ≤ MAX_COST }
-        ensures { Admits self.new result
-            (unless (failing (bands_asked bands.items ++ room_for_destination self.old))
-            (Ok (with_destination self.old name (Leach bands.items price cost)))) }
-    {
-        if !starts_rise(bands.as_slice()) {
-            return Err(RecordError::Fault(PlanFaultKind::Order));
-        }
-        if bands.len() > MAX_BANDS {
-            return Err(RecordError::Fault(PlanFaultKind::TooMany));
-        }
-        let bands = Bands::new(bands).unwrap();
-        self.add_formula(name, Formula::Leach { bands, price, cost })
-    }
-
-    #[tactic(auto, using(crate::proofs::CellsByPlace::quotient))]
-    fn admit_dump(&mut self, row: &ByteRecord, count: usize) -> Result<(), RecordError>
-        requires { count ≡ length (cells_of (fields_of row.now)) }
-        ensures { Admits self.new result
-            (said_by_place (cells_of (fields_of row.now))
-            (dump_shape self.old (cells_of (fields_of row.now)))) }
-    {
-        if count != 3 {
-            return Err(RecordError::Fault(PlanFaultKind::Width));
-        }
-        let name = name_in(self.alloc, cell_at(row, 1))?;
-        let cost = whole_in(cell_at(row, 2), 0, MAX_COST)?;
-        if is_taken(self.formulas.as_slice(), cell_at(row, 1)) {
-            return Err(RecordError::Fault(PlanFaultKind::Twice));
-        }
-        self.add_formula(name, Formula::Dump { cost: cost as u64 })
-    }
-
-    fn add_formula(&mut self, name: Name, formula: Formula) -> Result<(), RecordError>
-        requires { IsRuled formula }
-        ensures { Admits self.new result
-            (unless (failing (room_for_destination self.old))
-            (Ok (with_destination self.old name formula))) }
-    {
-        if self.formulas.len() == MAX_DESTINATIONS as usize {
-            return Err(RecordError::Fault(PlanFaultKind::TooMany));
-        }
-        self.formulas.push(NamedFormula { name, formula })?;
         Ok(())
     }
 

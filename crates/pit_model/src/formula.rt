@@ -1,8 +1,8 @@
 //! How a destination values a block.
 
 ghost use Rattle.std.specs.Prelude.{◌≡◌, IfOk, OnErr};
-ghost use Rattle.pit_model.specs.Formula.{HasBands};
-ghost use Rattle.pit_model.specs.PlanKept.{IsRuled};
+ghost use Rattle.pit_model.specs.Formula.{IsRuled};
+ghost use Rattle.pit_model.specs.FormulaEquality.{HasBands};
 ghost use Rattle.pit_model.specs.Worth.{worth, IsWorth};
 
 use crate::band::Bands;
@@ -80,8 +80,7 @@ impl Formula {
 impl PartialEq for Formula {
     ghost use Rattle.std.specs.Prelude.{◌≡◌, ◌↔◌, IsTrue};
     ghost use Rattle.std.specs.Cmp.{partial_equiv_from_equiv};
-    ghost use Rattle.pit_model.specs.Formula.{formula_eq};
-    ghost use Rattle.pit_model.specs.Equality.{formula_equivalence};
+    ghost use Rattle.pit_model.specs.FormulaEquality.{formula_eq, formula_equivalence};
 
     ghost eq = { formula_eq };
 
@@ -119,7 +118,7 @@ impl PartialEq for Formula {
 }
 
 impl Eq for Formula {
-    ghost use Rattle.pit_model.specs.Equality.{formula_equivalence};
+    ghost use Rattle.pit_model.specs.FormulaEquality.{formula_equivalence};
 
     ghost laws = { formula_equivalence };
 }

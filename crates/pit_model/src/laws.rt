@@ -4,7 +4,8 @@ ghost use Rattle.std.specs.Prelude.{◌≡◌, ◌↔◌, ◌⊎◌, ℕ, ℤ, �
 ghost use Rattle.std.specs.List.Sorted.{IsPermutation};
 ghost use Rattle.forms.specs.GrammarStates.{IsFirstFault};
 ghost use Rattle.pit_model.specs.Plan.{PlanParts};
-ghost use Rattle.pit_model.specs.PlanKept.{IsPlan, IsRuled};
+ghost use Rattle.pit_model.specs.Formula.{IsRuled};
+ghost use Rattle.pit_model.specs.PlanKept.{IsPlan};
 ghost use Rattle.pit_model.specs.Planned.{IsLacking, SpellPlan, plan_grammar, planned};
 ghost use Rattle.records.specs.Records.{records_of};
 ghost use Rattle.pit_model.specs.Stated.{nothing_stated, with_limit};
@@ -22,7 +23,7 @@ pub fn floors_go_down()
 {}
 
 /// By a formula in range each block is worth at most 10^17 cents above or below zero.
-#[tactic(auto, using(crate::proofs::WorthFacts::worth_bound))]
+#[tactic(auto, using(crate::proofs::FormulaFacts::worth_bound))]
 pub fn worths_are_in_range()
     ensures { (f : Formula) (b : Block) → IsRuled f → IsWorth (worth f b) }
 {}

@@ -18,7 +18,7 @@ mod named;
 mod numbers;
 pub mod plan;
 pub mod plan_fault;
-pub mod plan_key;
+mod plan_key;
 mod plan_reader;
 pub mod ranges;
 pub mod resource;

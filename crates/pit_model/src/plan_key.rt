@@ -3,6 +3,7 @@
 ghost use Rattle.std.specs.Prelude.{◌≡◌};
 ghost use Rattle.pit_model.specs.PlanShapes.{key_of};
 
+use crate::draft::{FormulaKey, formula_key_of};
 use records::cells::is_word;
 
 /// What a record of a plan is about: its first cell.
@@ -11,9 +12,7 @@ pub enum PlanKey {
     Name,
     Grid,
     Zone,
-    Mill,
-    Leach,
-    Dump,
+    Destination(FormulaKey),
     Periods,
     Rate,
     Resource,
@@ -30,12 +29,6 @@ pub fn key_of(cell: &[u8]) -> Option<PlanKey>
         Some(PlanKey::Grid)
     } else if is_word(cell, b"zone") {
         Some(PlanKey::Zone)
-    } else if is_word(cell, b"mill") {
-        Some(PlanKey::Mill)
-    } else if is_word(cell, b"leach") {
-        Some(PlanKey::Leach)
-    } else if is_word(cell, b"dump") {
-        Some(PlanKey::Dump)
     } else if is_word(cell, b"periods") {
         Some(PlanKey::Periods)
     } else if is_word(cell, b"rate") {
@@ -45,6 +38,6 @@ pub fn key_of(cell: &[u8]) -> Option<PlanKey>
     } else if is_word(cell, b"limit") {
         Some(PlanKey::Limit)
     } else {
-        None
+        Some(PlanKey::Destination(formula_key_of(cell)?))
     }
 }

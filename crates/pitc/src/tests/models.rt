@@ -1,7 +1,7 @@
 //! What tests of whole models share.
 
 ghost use Rattle.std.specs.Prelude.{◌≡◌};
-ghost use Rattle.pit_model.specs.PlanKept.{IsRuled};
+ghost use Rattle.pit_model.specs.Formula.{IsRuled};
 ghost use Rattle.pit_model.specs.Worth.{worth};
 
 use pit_model::block::Block;

@@ -1,5 +1,5 @@
 ghost use Rattle.std.specs.Prelude.{◌≡◌, ◌≤◌, ◌^◌};
-ghost use Rattle.pit_model.specs.PlanKept.{IsRuled};
+ghost use Rattle.pit_model.specs.Formula.{IsRuled};
 ghost use Rattle.pit_model.specs.Worth.{worth, mill, dump};
 
 use pit_model::band::{Band, Bands};

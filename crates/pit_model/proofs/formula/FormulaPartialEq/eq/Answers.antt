@@ -1,5 +1,6 @@
 use Rattle.std.proofs.Common.{rules}
-use Rattle.pit_model.specs.Equality.{formulas_told, answered}
+use Rattle.pit_model.specs.Equality.{answered}
+use Rattle.pit_model.specs.FormulaEquality.{formulas_told}
 use Rattle.pit_model.proofs.formula.FormulaPartialEq.eq.Goals as goal
 
 pub returns-then-price-other_price-2-clause-equal : goal.returns-then-price-other_price-2-clause-equal
