@@ -6,7 +6,7 @@ pub mod CoefLineFacts
 pub mod Completed
 pub mod CountedLater
 pub mod Cuts
-pub mod Fronts
+pub mod SectionsWritten
 pub mod FrontFields
 pub mod HeaderFacts
 pub mod InstanceBack
@@ -38,7 +38,6 @@ pub mod ValidHeader
 pub mod ValidModel
 pub mod ValidRead
 pub mod ValuesLineFacts
-pub mod WriteFacts
 pub mod FieldSteps
 pub mod FormFields
 pub mod FirstSpoiledFacts

@@ -10,7 +10,7 @@ ghost use Rattle.pit_model.specs.declared.ranges.TheConstants.{MAX_BLOCKS};
 
 use crate::fields::{put_decimal_behind, put_whole, put_whole_behind};
 use crate::id_text::IdText;
-use crate::output::Section;
+use crate::sections::Section;
 use mine_instance::greatest::greatest;
 use mine_instance::values::Values;
 use pit_units::Dec;

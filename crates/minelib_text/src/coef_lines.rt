@@ -10,7 +10,7 @@ ghost use Rattle.minelib_text.specs.declared.model_key.Problem.TheVariants.{Pcps
 
 use crate::fields::{put_decimal_to, put_whole_to};
 use crate::lines::item;
-use crate::output::Section;
+use crate::sections::Section;
 use itoa::write_digits;
 use mine_instance::coef::Coef;
 use mine_instance::cpit::CpitCoef;

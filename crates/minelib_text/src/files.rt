@@ -9,14 +9,14 @@ use crate::coef_lines::CoefLines;
 use crate::id_text::IdText;
 use crate::keys::{put_cpit_keys, put_pcpsp_keys, put_problem};
 use crate::lines::Lines;
-use crate::output::{write_section, write_titled};
 use crate::schedule::write_sections;
-use crate::sink::Sink;
-use crate::text::Text;
-use crate::write_fault::WriteFault;
+use crate::sections::{write_section, write_titled};
 use mine_instance::cpit::Cpit;
 use mine_instance::instance::Instance;
 use std::alloc::Global;
+use text_sinks::sink::Sink;
+use text_sinks::whole_text::Text;
+use text_sinks::write_fault::WriteFault;
 
 #[derive(Drop)]
 pub struct BlockFile<'a> {
@@ -47,7 +47,7 @@ pub struct PrecFile<'a> {
 impl<'a> Text for PrecFile<'a> {
     ghost text = { λ t. text_prec t.instance.now };
 
-    #[tactic(auto, using(crate::proofs::Fronts::nothing_put), unfolding(crate::specs::Written::text_prec))]
+    #[tactic(auto, using(crate::proofs::SectionsWritten::nothing_put), unfolding(crate::specs::Written::text_prec))]
     fn write<S: Sink>(
         &self,
         alloc: Global,
@@ -71,7 +71,7 @@ pub struct UpitFile<'a> {
 impl<'a> Text for UpitFile<'a> {
     ghost text = { λ t. text_upit t.instance.now };
 
-    #[tactic(auto, using(crate::proofs::Fronts::nothing_put))]
+    #[tactic(auto, using(crate::proofs::SectionsWritten::nothing_put))]
     fn write<S: Sink>(
         &self,
         alloc: Global,
@@ -103,7 +103,7 @@ pub struct PcpspFile<'a> {
 impl<'a> Text for PcpspFile<'a> {
     ghost text = { λ t. text_pcpsp t.instance.now };
 
-    #[tactic(auto, using(crate::proofs::Fronts::nothing_put))]
+    #[tactic(auto, using(crate::proofs::SectionsWritten::nothing_put))]
     fn write<S: Sink>(
         &self,
         alloc: Global,
@@ -138,7 +138,7 @@ pub struct CpitFile<'a> {
 impl<'a> Text for CpitFile<'a> {
     ghost text = { λ t. text_cpit t.cpit.now };
 
-    #[tactic(auto, using(crate::proofs::Fronts::nothing_put))]
+    #[tactic(auto, using(crate::proofs::SectionsWritten::nothing_put))]
     fn write<S: Sink>(
         &self,
         alloc: Global,

@@ -3,7 +3,7 @@
 ghost use Rattle.std.specs.Prelude.{◌≡◌, ◌<◌, ◌++◌, ◌∷◌, [], ℕ, List, length, slice_index_or, OnOk};
 ghost use Rattle.minelib_text.specs.Lines.{line_of, lines_from};
 
-use crate::output::Section;
+use crate::sections::Section;
 use std::alloc::{AllocError, Global};
 
 /// An item that is written as a line.

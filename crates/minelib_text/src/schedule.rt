@@ -2,13 +2,13 @@
 
 ghost use Rattle.std.specs.Prelude.{IfErr, OnOk};
 ghost use Rattle.minelib_text.specs.Lines.{text_of};
-ghost use Rattle.minelib_text.specs.SinkSteps.{refusals, IsAppended, IsAppendCut};
+ghost use Rattle.text_sinks.specs.SinkSteps.{refusals, IsAppended, IsAppendCut};
 ghost use Rattle.minelib_text.specs.Written.{section_lines};
 
-use crate::output::{Section, write_titled};
-use crate::sink::Sink;
-use crate::write_fault::WriteFault;
+use crate::sections::{Section, write_titled};
 use std::alloc::Global;
+use text_sinks::sink::Sink;
+use text_sinks::write_fault::WriteFault;
 
 /// Writes the three sections behind what the buffer holds.
 pub fn write_sections<S: Sink, V: Section, C: Section, L: Section>(

@@ -2,18 +2,18 @@
 //! and holds the front of the text; after `SinkFailed` it refused one call, and after `OutOfMemory` none.
 
 ghost use Rattle.std.specs.Prelude.{IfErr, OnOk};
-ghost use Rattle.minelib_text.specs.SinkState.{IsWritten, IsCutOff};
-ghost use Rattle.minelib_text.specs.SinkSteps.{refusals};
+ghost use Rattle.text_sinks.specs.SinkState.{IsWritten, IsCutOff};
+ghost use Rattle.text_sinks.specs.SinkSteps.{refusals};
 ghost use Rattle.minelib_text.specs.Written.{text_blocks, text_prec, text_upit, text_pcpsp, text_cpit};
 ghost use Rattle.mine_instance.specs.Valid.{IsValid};
 
 use crate::files::{BlockFile, CpitFile, PcpspFile, PrecFile, UpitFile};
-use crate::sink::Sink;
-use crate::text::write_text;
-use crate::write_fault::WriteFault;
 use mine_instance::cpit::Cpit;
 use mine_instance::instance::Instance;
 use std::alloc::Global;
+use text_sinks::sink::Sink;
+use text_sinks::whole_text::write_text;
+use text_sinks::write_fault::WriteFault;
 
 /// Begins the sink and writes the block file: a line for each block, by identifier.
 pub fn write_blocks<S: Sink>(

@@ -2,7 +2,7 @@
 use Rattle.std.proofs.Common.{◌≡◌, ℕ, suc, Bool, List, [], ◌∷◌, length, Option, Some, None, refl, ap, ◌∙◌}
 use Rattle.std.specs.List.{sum_by}
 use Rattle.lane.specs.MessageKinds.{rows_in}
-use Rattle.minelib_text.specs.SinkState.{SinkState}
+use Rattle.text_sinks.specs.SinkState.{SinkState}
 use Rattle.pit_compile.specs.Compiled.{AreGiven, IsVerdict}
 use Rattle.pit_compile.specs.Run.{IsRefused}
 use Rattle.pit_compile.specs.Settings.{IsSettingsFault}

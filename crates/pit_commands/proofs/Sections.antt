@@ -1,7 +1,7 @@
 -- One section more behind what a sink holds.
 use Rattle.std.proofs.Common.{◌≡◌, ℕ, List, [], ◌∷◌, ◌++◌, Option, None, Some, Result, Ok, Err, OnOk, false, ap, ◌∙◌, append_assoc}
-use Rattle.minelib_text.specs.SectionSinkView.{SectionSinkView, told}
-use Rattle.minelib_text.specs.SinkState.{IsWritten}
+use Rattle.text_sinks.specs.SectionSinkView.{SectionSinkView, told}
+use Rattle.text_sinks.specs.SinkState.{IsWritten}
 
 abbrev held : Option (List ℕ) → List ℕ
 held None = []

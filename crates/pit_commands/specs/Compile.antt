@@ -4,7 +4,7 @@ use Rattle.std.specs.Fmt.{decimal}
 use Rattle.std.specs.List.{sum_by}
 use Rattle.lane.specs.MessageKinds.{rows_in}
 use Rattle.lane.specs.Whole.{GatheredView}
-use Rattle.minelib_text.specs.SinkState.{SinkState}
+use Rattle.text_sinks.specs.SinkState.{SinkState}
 use Rattle.pit_compile.specs.Rows.{sents_of}
 use Rattle.pit_compile.specs.Run.{IsDone}
 use Rattle.pit_compile.specs.Settings.{IsSettingsFault}

@@ -1,10 +1,10 @@
 -- A sink that was cut off, by what its writer promises and by what the run answers.
 use Rattle.std.proofs.Common.{◌≡◌, ℕ, List, Result, Ok, Err, refl, sym, subst}
 use Rattle.std.specs.Prelude.{IfErr, OnOk}
-use Rattle.minelib_text.specs.SinkState.{SinkState, IsCutOff}
-use Rattle.minelib_text.specs.SinkSteps.{refusals}
-use Rattle.minelib_text.specs.declared.write_fault.WriteFault.{WriteFault}
-use Rattle.minelib_text.specs.declared.write_fault.WriteFault.TheVariants as write
+use Rattle.text_sinks.specs.SinkState.{SinkState, IsCutOff}
+use Rattle.text_sinks.specs.SinkSteps.{refusals}
+use Rattle.text_sinks.specs.declared.write_fault.WriteFault.{WriteFault}
+use Rattle.text_sinks.specs.declared.write_fault.WriteFault.TheVariants as write
 use Rattle.pit_compile.specs.SinkAnswers.{AreCutOff, in_sink}
 use Rattle.pit_compile.specs.Sinks.{AreCutOffAt, place_of}
 use Rattle.pit_compile.specs.declared.refusal.Refusal.{Refusal}

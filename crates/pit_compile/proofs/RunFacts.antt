@@ -5,7 +5,7 @@ use Rattle.pit_compile.specs.Compiling.{IsCompiled}
 use Rattle.pit_compile.specs.Run.{IsRefused}
 use Rattle.pit_compile.specs.SinkAnswers.{AreCutOff}
 use Rattle.pit_compile.specs.Sinks.{AreCutOffAt, place_of, minelib_texts}
-use Rattle.minelib_text.specs.SinkState.{SinkState}
+use Rattle.text_sinks.specs.SinkState.{SinkState}
 use Rattle.mine_instance.specs.declared.instance.Instance.{Instance}
 use Rattle.pit_compile.specs.declared.compiling.Compiled.{Compiled}
 use Rattle.pit_compile.specs.declared.refusal.Refusal.{Refusal}

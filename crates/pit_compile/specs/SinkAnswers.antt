@@ -1,8 +1,8 @@
 -- The answer of a run by the sinks that it wrote to. Contracts within the crate and proofs alone need this page.
 use Rattle.std.specs.Prelude.{ℕ, List, Result, Ok, Err}
-use Rattle.minelib_text.specs.SinkState.{SinkState}
-use Rattle.minelib_text.specs.declared.write_fault.WriteFault.{WriteFault}
-use Rattle.minelib_text.specs.declared.write_fault.WriteFault.TheVariants as write
+use Rattle.text_sinks.specs.SinkState.{SinkState}
+use Rattle.text_sinks.specs.declared.write_fault.WriteFault.{WriteFault}
+use Rattle.text_sinks.specs.declared.write_fault.WriteFault.TheVariants as write
 use Rattle.pit_compile.specs.declared.refusal.Refusal.{Refusal}
 use Rattle.pit_compile.specs.declared.refusal.Refusal.TheVariants.{Settings, NoThread, FeedFailed, TooLong, Row, Same, SinkFailed, OutOfMemory}
 use Rattle.pit_compile.specs.declared.refusal.SinkName.{SinkName}

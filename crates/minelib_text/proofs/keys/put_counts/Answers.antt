@@ -2,7 +2,7 @@ use Rattle.std.proofs.Common.{◌∷◌, []}
 use Rattle.std.specs.Prelude.{codes, decimal}
 use Rattle.std.proofs.lemmas.Result.{on_ok_weaker}
 use Rattle.minelib_text.specs.Written.{key_line}
-use Rattle.minelib_text.proofs.Fronts.{first_line, line_more}
+use Rattle.minelib_text.proofs.SectionsWritten.{first_line, line_more}
 use Rattle.minelib_text.proofs.keys.put_counts.Goals as goal
 
 pub returns : goal.returns

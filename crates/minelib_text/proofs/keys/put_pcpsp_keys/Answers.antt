@@ -3,7 +3,7 @@ use Rattle.std.specs.Prelude.{codes}
 use Rattle.std.proofs.lemmas.Result.{on_ok_weaker}
 use Rattle.pit_units.specs.Decimal.{shortest}
 use Rattle.minelib_text.specs.Written.{key_line, count_keys}
-use Rattle.minelib_text.proofs.Fronts.{line_more}
+use Rattle.minelib_text.proofs.SectionsWritten.{line_more}
 use Rattle.minelib_text.proofs.keys.put_pcpsp_keys.Goals as goal
 
 pub returns : goal.returns

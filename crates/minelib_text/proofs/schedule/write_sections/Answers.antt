@@ -1,7 +1,7 @@
 use Rattle.std.proofs.Common.{rules, ◌++◌, ◌∷◌}
 use Rattle.std.specs.Prelude.{codes}
 use Rattle.std.proofs.lemmas.Result.{on_ok_weaker, IfErr-weaker}
-use Rattle.minelib_text.proofs.Fronts.{lines_then, lines_cut_then, lines_cut_before}
+use Rattle.minelib_text.proofs.SectionsWritten.{lines_then, lines_cut_then, lines_cut_before}
 use Rattle.minelib_text.proofs.schedule.write_sections.Goals as goal
 
 pub returns-in_err-write_titled-clause-refused : goal.returns-in_err-write_titled-clause-refused

@@ -3,8 +3,8 @@ use Rattle.std.specs.Prelude.{IfErr}
 use Rattle.mine_instance.specs.Cpit.{CpitParts}
 use Rattle.std.proofs.lemmas.Result.{err_from_is_err_and}
 use Rattle.minelib_text.specs.Written.{text_blocks, text_prec, text_upit, text_pcpsp, text_cpit}
-use Rattle.minelib_text.specs.SinkState.{IsCutOff, IsWritten}
-use Rattle.minelib_text.specs.SinkSteps.{refusals}
+use Rattle.text_sinks.specs.SinkState.{IsCutOff, IsWritten}
+use Rattle.text_sinks.specs.SinkSteps.{refusals}
 use Rattle.mine_instance.specs.OfCpit.{cpit}
 use Rattle.pit_compile.specs.SinkAnswers.{AreCutOff}
 use Rattle.pit_compile.specs.Sinks.{all_told, minelib_texts}

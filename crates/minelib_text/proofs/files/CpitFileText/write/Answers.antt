@@ -3,7 +3,7 @@ use Rattle.std.specs.Prelude.{codes}
 use Rattle.std.proofs.lemmas.Result.{on_ok_weaker, IfErr-weaker}
 use Rattle.minelib_text.specs.Lines.{text_of, lines_from}
 use Rattle.minelib_text.specs.Written.{text_cpit, problem_keys, cpit_keys, section_lines, cpit_value_fields, cpit_coef_fields, limit_fields}
-use Rattle.minelib_text.proofs.Fronts.{buffered, lines_then, lines_cut_then}
+use Rattle.minelib_text.proofs.SectionsWritten.{buffered, lines_then, lines_cut_then}
 use Rattle.minelib_text.proofs.files.CpitFileText.write.Goals as goal
 
 pub returns : goal.returns

@@ -4,7 +4,7 @@ use Rattle.std.proofs.lemmas.Result.{on_ok_weaker, IfErr-weaker}
 use Rattle.minelib_text.specs.Lines.{text_of, lines_from}
 use Rattle.minelib_text.specs.Written.{text_pcpsp, problem_keys, pcpsp_keys, section_lines, value_fields, coef_fields, limit_fields}
 use Rattle.minelib_text.specs.declared.model_key.Problem.TheVariants.{Pcpsp}
-use Rattle.minelib_text.proofs.Fronts.{buffered, lines_then, lines_cut_then}
+use Rattle.minelib_text.proofs.SectionsWritten.{buffered, lines_then, lines_cut_then}
 use Rattle.minelib_text.proofs.files.PcpspFileText.write.Goals as goal
 
 pub returns : goal.returns

@@ -1,6 +1,6 @@
 -- What a vector holds that texts are appended to.
 use Rattle.std.specs.Prelude.{ℕ, List, Bool, Some}
-use Rattle.minelib_text.specs.SinkState.{SinkState}
+use Rattle.text_sinks.specs.SinkState.{SinkState}
 
 pub record SectionSinkView : Type 0 where
   -- whether a text was begun

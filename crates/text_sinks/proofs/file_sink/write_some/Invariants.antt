@@ -1,5 +1,5 @@
 use Rattle.std.specs.Io.KnownBytes.{Keeps}
-use Rattle.minelib_text.proofs.file_sink.write_some.Given as goal
+use Rattle.text_sinks.proofs.file_sink.write_some.Given as goal
 
 -- Interrupted writes left the file as it was.
 abbrev pub invariant-loop : goal.invariant-loop

@@ -1,7 +1,7 @@
 //! A sink over a vector that already holds something.
 
 ghost use Rattle.std.specs.Prelude.{◌≡◌, ◌+◌, ◌<◌, [], ◌++◌, Some, length, true, false, IsOk, IfOk, OnOk, OnErr};
-ghost use Rattle.minelib_text.specs.SectionSinkView.{told};
+ghost use Rattle.text_sinks.specs.SectionSinkView.{told};
 
 use crate::sink::{Sink, SinkFault};
 use pit_model::count::{Count, raised};
@@ -21,7 +21,7 @@ pub struct SectionSink {
 impl Model for SectionSink {
     ghost use Rattle.std.specs.Prelude.{◌≤◌, take, drop, length, vec_capacity};
     ghost use Rattle.pit_model.specs.Count.{count_of};
-    ghost use Rattle.minelib_text.specs.SectionSinkView.{SectionSinkView};
+    ghost use Rattle.text_sinks.specs.SectionSinkView.{SectionSinkView};
 
     ghost Value = { SectionSinkView };
 

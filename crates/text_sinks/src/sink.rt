@@ -1,9 +1,9 @@
 //! A device that takes bytes.
 
 ghost use Rattle.std.specs.Prelude.{◌≡◌, ◌+◌, ◌<◌, ◌≤◌, [], length, take, IfOk, OnOk, OnErr};
-ghost use Rattle.minelib_text.specs.Device.{added};
-ghost use Rattle.minelib_text.specs.SinkState.{SinkState, IsWritten, IsCutOff};
-ghost use Rattle.minelib_text.specs.SinkSteps.{IsBegunAsBefore};
+ghost use Rattle.text_sinks.specs.Device.{added};
+ghost use Rattle.text_sinks.specs.SinkState.{SinkState, IsWritten, IsCutOff};
+ghost use Rattle.text_sinks.specs.SinkSteps.{IsBegunAsBefore};
 
 use thiserror::Error;
 

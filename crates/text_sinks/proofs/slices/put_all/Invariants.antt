@@ -1,6 +1,6 @@
 use Rattle.std.proofs.Common.{[], length}
-use Rattle.minelib_text.specs.SinkSteps.{IsAppended}
-use Rattle.minelib_text.proofs.output.put_all.Given as goal
+use Rattle.text_sinks.specs.SinkSteps.{IsAppended}
+use Rattle.text_sinks.proofs.slices.put_all.Given as goal
 
 -- The bytes are written on, where the rest of them counts as held in a buffer.
 abbrev pub invariant-loop-rest : goal.invariant-loop-rest

@@ -1,6 +1,6 @@
 use Rattle.std.proofs.Common.{rules}
-use Rattle.minelib_text.proofs.Fronts.{rest_cut}
-use Rattle.minelib_text.proofs.output.write_section.Goals as goal
+use Rattle.minelib_text.proofs.SectionsWritten.{rest_cut}
+use Rattle.minelib_text.proofs.sections.write_section.Goals as goal
 
 -- the lines so far were written on, the rest was cut short, and so are they all
 pub returns-in_err-count-clause-refused : goal.returns-in_err-count-clause-refused

@@ -1,11 +1,11 @@
 //! A whole text to a sink.
 
 ghost use Rattle.std.specs.Prelude.{ℕ, List, IfErr, OnOk};
-ghost use Rattle.minelib_text.specs.SinkState.{IsWritten, IsCutOff};
-ghost use Rattle.minelib_text.specs.SinkSteps.{refusals, IsAppended, IsAppendCut};
+ghost use Rattle.text_sinks.specs.SinkState.{IsWritten, IsCutOff};
+ghost use Rattle.text_sinks.specs.SinkSteps.{refusals, IsAppended, IsAppendCut};
 
-use crate::output::{LARGE, flush};
 use crate::sink::Sink;
+use crate::slices::{LARGE, flush};
 use crate::write_fault::WriteFault;
 use std::alloc::Global;
 

@@ -1,6 +1,6 @@
 -- What a sink over a file tells.
 use Rattle.std.specs.Prelude.{ℕ, List, [], Bool, Option, Some, None}
-use Rattle.minelib_text.specs.SinkState.{SinkState}
+use Rattle.text_sinks.specs.SinkState.{SinkState}
 
 pub record FileSinkView : Type 0 where
   -- whether its file was created

@@ -1,7 +1,7 @@
 use Rattle.std.proofs.Common.{◌-◌, ◌≤◌, length, take}
 use Rattle.minelib_text.specs.Lines.{text_of}
-use Rattle.minelib_text.specs.SinkSteps.{IsAppended}
-use Rattle.minelib_text.proofs.output.write_section.Given as goal
+use Rattle.text_sinks.specs.SinkSteps.{IsAppended}
+use Rattle.minelib_text.proofs.sections.write_section.Given as goal
 
 -- The lines so far are written on.
 abbrev pub invariant-loop-index : goal.invariant-loop-index

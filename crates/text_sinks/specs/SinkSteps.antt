@@ -1,10 +1,10 @@
 -- What a sink tells before and after one step of a writer, which may hold back bytes in a buffer. Contracts within the crate and proofs
 -- alone need this page.
 use Rattle.std.specs.Prelude.{◌≡◌, ◌+◌, ℕ, List}
-use Rattle.minelib_text.specs.Device.{added, IsFront}
-use Rattle.minelib_text.specs.declared.write_fault.WriteFault.{WriteFault}
-use Rattle.minelib_text.specs.declared.write_fault.WriteFault.TheVariants.{SinkFailed, OutOfMemory}
-use Rattle.minelib_text.specs.SinkState.{SinkState}
+use Rattle.text_sinks.specs.Device.{added, IsFront}
+use Rattle.text_sinks.specs.declared.write_fault.WriteFault.{WriteFault}
+use Rattle.text_sinks.specs.declared.write_fault.WriteFault.TheVariants.{SinkFailed, OutOfMemory}
+use Rattle.text_sinks.specs.SinkState.{SinkState}
 
 -- as much begun as it was, behind the same bytes
 pub record IsBegunAsBefore (old new : SinkState) : Type 0 where

@@ -1,7 +1,7 @@
 //! Why a text was not written.
 
 ghost use Rattle.std.specs.Prelude.{◌≡◌};
-ghost use Rattle.minelib_text.specs.declared.write_fault.WriteFault.TheVariants.{SinkFailed, OutOfMemory};
+ghost use Rattle.text_sinks.specs.declared.write_fault.WriteFault.TheVariants.{SinkFailed, OutOfMemory};
 
 use crate::sink::SinkFault;
 use std::alloc::AllocError;

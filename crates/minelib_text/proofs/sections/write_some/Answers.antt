@@ -1,6 +1,6 @@
 use Rattle.std.proofs.Common.{rules, drop}
-use Rattle.minelib_text.proofs.Fronts.{buffered_cut}
-use Rattle.minelib_text.proofs.output.write_some.Goals as goal
+use Rattle.minelib_text.proofs.SectionsWritten.{buffered_cut}
+use Rattle.minelib_text.proofs.sections.write_some.Goals as goal
 
 -- the lines that were appended were cut short, and so are all
 pub returns-in_err-flush_full-clause-refused : goal.returns-in_err-flush_full-clause-refused

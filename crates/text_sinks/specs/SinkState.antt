@@ -1,6 +1,6 @@
 -- What a sink tells, before and after a text was written to it.
 use Rattle.std.specs.Prelude.{◌≡◌, ◌+◌, ◌⊎◌, ℕ, List, Option, Bool, IsTrue}
-use Rattle.minelib_text.specs.Device.{holding, IsFront}
+use Rattle.text_sinks.specs.Device.{holding, IsFront}
 
 pub record SinkState : Type 0 where
   -- whether it was begun

@@ -1,7 +1,7 @@
 //! A sink of bytes in memory.
 
 ghost use Rattle.std.specs.Prelude.{◌≡◌, ◌+◌, ◌<◌, ◌≤◌, ◌↔◌, ◌⊎◌, [], ◌++◌, take, length, min, Some, true, IsTrue, IsErr, IfOk, OnOk, OnErr};
-ghost use Rattle.minelib_text.specs.MemSinkView.{IsFresh, IsCalled, FailsNext};
+ghost use Rattle.text_sinks.specs.MemSinkView.{IsFresh, IsCalled, FailsNext};
 
 use crate::sink::{Sink, SinkFault};
 use pit_model::count::{Count, raised};
@@ -21,7 +21,7 @@ pub struct MemSink {
 
 impl Model for MemSink {
     ghost use Rattle.std.specs.Prelude.{◌≤◌, vec_capacity};
-    ghost use Rattle.minelib_text.specs.MemSinkView.{MemSinkView};
+    ghost use Rattle.text_sinks.specs.MemSinkView.{MemSinkView};
     ghost use Rattle.pit_model.specs.Count.{count_of};
 
     ghost Value = { MemSinkView };

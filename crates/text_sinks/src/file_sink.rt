@@ -2,10 +2,10 @@
 
 ghost use Rattle.std.specs.Prelude.{◌≡◌, ◌+◌, ◌<◌, ◌≤◌, [], None, false, length, take, IsErr, IfOk, OnOk, OnErr};
 ghost use Rattle.std.specs.Io.KnownBytes.{WriteAppends};
-ghost use Rattle.minelib_text.specs.Device.{added};
-ghost use Rattle.minelib_text.specs.FileSinkView.{told};
-ghost use Rattle.minelib_text.specs.SinkState.{IsCutOff, IsWritten};
-ghost use Rattle.minelib_text.specs.SinkSteps.{IsBegunAsBefore};
+ghost use Rattle.text_sinks.specs.Device.{added};
+ghost use Rattle.text_sinks.specs.FileSinkView.{told};
+ghost use Rattle.text_sinks.specs.SinkState.{IsCutOff, IsWritten};
+ghost use Rattle.text_sinks.specs.SinkSteps.{IsBegunAsBefore};
 
 use crate::sink::{Sink, SinkFault};
 use pit_model::count::{Count, raised};
@@ -28,7 +28,7 @@ pub struct FileSink<'a, R: Files> {
 impl<'a, R: Files> Model for FileSink<'a, R> {
     ghost use Rattle.std.specs.Prelude.{is_some};
     ghost use Rattle.pit_model.specs.Count.{count_of};
-    ghost use Rattle.minelib_text.specs.FileSinkView.{FileSinkView, held_by};
+    ghost use Rattle.text_sinks.specs.FileSinkView.{FileSinkView, held_by};
 
     ghost Value = { FileSinkView };
 

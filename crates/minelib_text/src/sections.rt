@@ -1,44 +1,14 @@
-//! Large slices to a sink, and the lines that they are made of.
+//! Lines that are written one by one, in large slices to a sink.
 
 ghost use Rattle.std.specs.Prelude.{◌≡◌, ◌+◌, ◌<◌, ◌≤◌, ℕ, List, [], ◌∷◌, ◌++◌, length, take, drop, slice_index_or, IfOk, IfErr, OnOk, OnErr};
 ghost use Rattle.minelib_text.specs.Lines.{text_of};
-ghost use Rattle.minelib_text.specs.SinkSteps.{refusals, IsAppended, IsAppendCut};
+ghost use Rattle.text_sinks.specs.SinkSteps.{refusals, IsAppended, IsAppendCut};
 
 use crate::fields::put_text;
-use crate::sink::{Sink, SinkFault};
-use crate::write_fault::WriteFault;
 use std::alloc::{AllocError, Global};
-
-/// How many bytes are collected before they are put.
-pub const LARGE: usize = 65_536;
-
-/// Puts all the bytes, in as many calls as the sink wants.
-pub fn put_all<S: Sink>(sink: &mut S, bytes: &[u8]) -> Result<(), SinkFault>
-    ensures written { OnOk result
-        (IsAppended bytes.now [] [] (S.state sink.old) (S.state sink.new)) }
-    ensures refused { OnErr result
-        (IsAppendCut 1 bytes.now [] (S.state sink.old) (S.state sink.new)) }
-{
-    let mut rest = bytes;
-    while !rest.is_empty() {
-        let (_, left) = rest.split_at(sink.put(rest)?);
-        rest = left;
-    }
-    Ok(())
-}
-
-/// Puts the buffer and empties it.
-pub fn flush<S: Sink>(sink: &mut S, buffer: &mut Vec<u8>) -> Result<(), SinkFault>
-    ensures written { OnOk result
-        (IsAppended [] buffer.old.items buffer.new.items (S.state sink.old) (S.state sink.new)) }
-    ensures empty { OnOk result (buffer.new.items ≡ []) }
-    ensures refused { OnErr result
-        (IsAppendCut 1 [] buffer.old.items (S.state sink.old) (S.state sink.new)) }
-{
-    put_all(sink, buffer.as_slice())?;
-    buffer.clear();
-    Ok(())
-}
+use text_sinks::sink::Sink;
+use text_sinks::slices::flush_full;
+use text_sinks::write_fault::WriteFault;
 
 /// Lines that are written one by one.
 pub trait Section {
@@ -72,7 +42,7 @@ pub trait Section {
 }
 
 /// Writes the lines of a section behind what the buffer holds.
-#[tactic(auto, using(crate::proofs::Fronts::more_then))]
+#[tactic(auto, using(crate::proofs::SectionsWritten::more_then))]
 pub fn write_section<S: Sink, L: Section>(
     alloc: Global,
     sink: &mut S,
@@ -94,7 +64,7 @@ pub fn write_section<S: Sink, L: Section>(
 }
 
 // Writes one line or more, and answers how many.
-#[tactic(auto, using(crate::proofs::Fronts::nothing_put))]
+#[tactic(auto, using(crate::proofs::SectionsWritten::nothing_put))]
 fn write_some<S: Sink, L: Section>(
     alloc: Global,
     sink: &mut S,
@@ -117,22 +87,8 @@ fn write_some<S: Sink, L: Section>(
     Ok(count)
 }
 
-// Puts a full buffer and empties it.
-#[tactic(auto, using(crate::proofs::Fronts::buffered))]
-fn flush_full<S: Sink>(sink: &mut S, buffer: &mut Vec<u8>) -> Result<(), SinkFault>
-    ensures written { OnOk result
-        (IsAppended [] buffer.old.items buffer.new.items (S.state sink.old) (S.state sink.new)) }
-    ensures refused { OnErr result
-        (IsAppendCut 1 [] buffer.old.items (S.state sink.old) (S.state sink.new)) }
-{
-    if buffer.len() >= LARGE {
-        flush(sink, buffer)?;
-    }
-    Ok(())
-}
-
 /// Writes a section line and the lines under it behind what the buffer holds.
-#[tactic(auto, using(crate::proofs::Fronts::nothing_put))]
+#[tactic(auto, using(crate::proofs::SectionsWritten::nothing_put))]
 pub fn write_titled<S: Sink, L: Section>(
     alloc: Global,
     sink: &mut S,
