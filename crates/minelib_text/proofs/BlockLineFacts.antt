@@ -12,9 +12,9 @@ use Rattle.pit_model.proofs.BlockFacts.{block_again, block_parts}
 use Rattle.pit_model.specs.Block.{block_with}
 use Rattle.pit_model.specs.declared.block.Block.{Block}
 use Rattle.minelib_text.specs.BlockLines.{block_form, block_of, block_shape}
-use Rattle.minelib_text.specs.LineValues.{block_values}
+use Rattle.minelib_lines.specs.LineValues.{block_values}
 use Rattle.minelib_text.specs.TextLines.{fields_of}
-use Rattle.minelib_text.specs.Written.{block_fields}
+use Rattle.minelib_writing.specs.Written.{block_fields}
 use Rattle.minelib_text.specs.declared.text_fault.TextKind.TheVariants.{Order}
 use Rattle.minelib_text.proofs.ShapeSteps.{met, passed}
 

@@ -5,9 +5,9 @@ use Rattle.forms.proofs.ShapeFacts.{states_said}
 use Rattle.forms.specs.Steps.{◌>>=◌}
 use Rattle.pit_model.specs.declared.block.Block.{Block}
 use Rattle.minelib_text.specs.BlockLines.{block_shape, blocks_in}
-use Rattle.minelib_text.specs.Lines.{line_of, lines_from, text_of}
+use Rattle.minelib_lines.specs.Lines.{line_of, lines_from, text_of}
 use Rattle.minelib_text.specs.LinesTaken.{admit_block, block_said}
-use Rattle.minelib_text.specs.Written.{block_fields}
+use Rattle.minelib_writing.specs.Written.{block_fields}
 use Rattle.minelib_text.proofs.BlockLineFacts.{block_states}
 use Rattle.minelib_text.proofs.SpelledRead.{blocks_read}
 use Rattle.minelib_text.proofs.LinesBack.{AdmitsEach, items_admitted, text_read}

@@ -11,15 +11,15 @@ use Rattle.minelib_text.specs.Kept.{IsDecimal}
 use Rattle.minelib_text.specs.FieldValues.{decimal_in, first_by, whole_in}
 use Rattle.minelib_text.specs.LineKinds.{text_kinds}
 use Rattle.minelib_text.specs.Uncounted.{destination_in, kind_by}
-use Rattle.minelib_text.specs.declared.model_key.Problem.{Problem}
-use Rattle.minelib_text.specs.declared.model_key.Problem.TheVariants.{Pcpsp, Cpit}
+use Rattle.minelib_lines.specs.declared.problem.Problem.{Problem}
+use Rattle.minelib_lines.specs.declared.problem.Problem.TheVariants.{Pcpsp, Cpit}
 use Rattle.minelib_text.specs.declared.text_fault.TextKind.{TextKind}
 use Rattle.minelib_text.specs.declared.text_fault.TextKind.TheVariants.{Fields}
 use Rattle.minelib_text.proofs.FieldSteps.{last_step, said_of, step, whole_reads}
 use Rattle.minelib_text.specs.Fields.{any}
 use Rattle.minelib_text.specs.ItemForms.{coef_form, coef_said}
 use Rattle.minelib_text.specs.ModelParts.{coef_alone, coef_of}
-use Rattle.minelib_text.specs.LineValues.{coef_values}
+use Rattle.minelib_lines.specs.LineValues.{coef_values}
 use Rattle.minelib_text.proofs.FormFields.{ArePlain, any_fits, any_reads, below_there, fit_at}
 
 pub coef_fine : (problem : Problem) (n destinations resources : ℕ) → is_fine (coef_form problem n destinations resources) ≡ true

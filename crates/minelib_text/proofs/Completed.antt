@@ -6,18 +6,18 @@ use Rattle.std.proofs.lemmas.Bool.{cases_Bool}
 use Rattle.std.proofs.lemmas.Int.{ints}
 use Rattle.std.proofs.lemmas.List.Elements.{All-nil, All-cons}
 use Rattle.minelib_text.specs.Kept.{IsDecimal}
-use Rattle.minelib_text.specs.Lines.{line_of}
+use Rattle.minelib_lines.specs.Lines.{line_of}
 use Rattle.minelib_text.specs.HeaderKeys.{header_keys, with_key, count_in, is_given, is_complete}
 use Rattle.minelib_text.specs.ModelLines.{ModelDraftView, blank_header, is_whole, model_grammar}
 use Rattle.minelib_text.specs.ModelParts.{admit_model}
 use Rattle.forms.specs.GrammarStates.{AllState}
 use Rattle.minelib_text.specs.TextLines.{Line}
-use Rattle.minelib_text.specs.Written.{value_fields}
+use Rattle.minelib_writing.specs.Written.{value_fields}
 use Rattle.minelib_text.specs.declared.model_key.Header.{Header}
 use Rattle.minelib_text.specs.declared.model_key.HeaderKey.{HeaderKey}
 use Rattle.minelib_text.specs.declared.model_key.HeaderKey.TheVariants as key
-use Rattle.minelib_text.specs.declared.model_key.Problem.{Problem}
-use Rattle.minelib_text.specs.declared.model_key.Problem.TheVariants.{Pcpsp, Cpit}
+use Rattle.minelib_lines.specs.declared.problem.Problem.{Problem}
+use Rattle.minelib_lines.specs.declared.problem.Problem.TheVariants.{Pcpsp, Cpit}
 use Rattle.minelib_text.specs.declared.model_key.Section.{Section}
 use Rattle.minelib_text.specs.declared.model_key.Section.TheVariants.{Heading, Objective, Coefs, Limits}
 use Rattle.minelib_text.proofs.HeaderFacts.{each_with, each_key, all_given, contains_cases}

@@ -9,7 +9,7 @@ use Rattle.forms.specs.Steps.{◌>>=◌}
 use Rattle.minelib_text.specs.ModelLines.{ModelDraftView, blank_model, finish_model, is_whole, model_grammar, model_in, model_line}
 use Rattle.minelib_text.specs.SpelledModel.{BeginModel, EndsEarly, IsFirstSpoiled}
 use Rattle.minelib_text.specs.TextLines.{Line, lines_in, end_of}
-use Rattle.minelib_text.specs.declared.model_key.Problem.{Problem}
+use Rattle.minelib_lines.specs.declared.problem.Problem.{Problem}
 use Rattle.minelib_text.specs.declared.text_fault.LineFault.{LineFault}
 use Rattle.minelib_text.specs.declared.text_fault.TextKind.{TextKind}
 use Rattle.minelib_text.specs.declared.text_fault.TextKind.TheVariants.{Missing}

@@ -12,8 +12,8 @@ use Rattle.minelib_text.specs.ModelParts.{number_limit}
 use Rattle.minelib_text.specs.declared.model_key.Header.{Header}
 use Rattle.minelib_text.specs.declared.model_key.HeaderKey.{HeaderKey}
 use Rattle.minelib_text.specs.declared.model_key.HeaderKey.TheVariants as key
-use Rattle.minelib_text.specs.declared.model_key.Problem.{Problem}
-use Rattle.minelib_text.specs.declared.model_key.Problem.TheVariants.{Pcpsp, Cpit}
+use Rattle.minelib_lines.specs.declared.problem.Problem.{Problem}
+use Rattle.minelib_lines.specs.declared.problem.Problem.TheVariants.{Pcpsp, Cpit}
 
 -- what holds of each key
 pub of_keys : (P : HeaderKey → Type 0) → P key.Name → P key.Type → P key.Blocks → P key.Periods → P key.Destinations → P key.Resources

@@ -6,8 +6,8 @@ use Rattle.mine_instance.specs.declared.instance.Instance.{Instance}
 use Rattle.minelib_text.specs.Denotes.{denoted}
 use Rattle.minelib_text.specs.Kept.{IsKept}
 use Rattle.minelib_text.specs.ModelLines.{model_in}
-use Rattle.minelib_text.specs.Written.{text_blocks, text_prec, text_pcpsp}
-use Rattle.minelib_text.specs.declared.model_key.Problem.TheVariants.{Pcpsp}
+use Rattle.minelib_writing.specs.Written.{text_blocks, text_prec, text_pcpsp}
+use Rattle.minelib_lines.specs.declared.problem.Problem.TheVariants.{Pcpsp}
 use Rattle.minelib_text.specs.declared.model_key.Section.TheVariants.{Limits}
 use Rattle.minelib_text.proofs.BlocksBack.{blocks_again}
 use Rattle.minelib_text.proofs.KeysBack.{draft, full_header, pcpsp_header}

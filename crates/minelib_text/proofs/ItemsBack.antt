@@ -12,10 +12,10 @@ use Rattle.minelib_text.specs.Kept.{IsDecimal, HasDecimals}
 use Rattle.minelib_text.specs.ItemForms.{coef_form, coef_said, limit_form, limit_said, values_form}
 use Rattle.minelib_text.specs.LineKinds.{text_kinds}
 use Rattle.minelib_text.specs.ModelParts.{values_of, values_said, coef_of, limit_of}
-use Rattle.minelib_text.specs.LineValues.{coef_values, limit_values, values_values}
-use Rattle.minelib_text.specs.Written.{value_fields, coef_fields, limit_fields}
-use Rattle.minelib_text.specs.declared.model_key.Problem.{Problem}
-use Rattle.minelib_text.specs.declared.model_key.Problem.TheVariants.{Pcpsp, Cpit}
+use Rattle.minelib_lines.specs.LineValues.{coef_values, limit_values, values_values}
+use Rattle.minelib_writing.specs.Written.{value_fields, coef_fields, limit_fields}
+use Rattle.minelib_lines.specs.declared.problem.Problem.{Problem}
+use Rattle.minelib_lines.specs.declared.problem.Problem.TheVariants.{Pcpsp, Cpit}
 use Rattle.minelib_text.proofs.CoefLineFacts.{HasDestination, coef_fine, coef_fits, coef_plain, said_again as coef_said_again}
 use Rattle.minelib_text.proofs.FormFields.{written_fields}
 use Rattle.minelib_text.proofs.PlainText.{AreFields}

@@ -12,7 +12,7 @@ use Rattle.minelib_text.specs.ModelLines.{ModelDraftView, coef_line, is_behind, 
 use Rattle.minelib_text.specs.ModelParts.{admit_model, coef_alone, coef_of, takes, values_of, values_said}
 use Rattle.minelib_text.specs.TextLines.{fields_of}
 use Rattle.minelib_text.specs.declared.model_key.HeaderKey.TheVariants as key
-use Rattle.minelib_text.specs.declared.model_key.Problem.{Problem}
+use Rattle.minelib_lines.specs.declared.problem.Problem.{Problem}
 use Rattle.minelib_text.specs.declared.model_key.Section.TheVariants.{Coefs}
 use Rattle.minelib_text.specs.declared.text_fault.TextKind.TheVariants.{Order}
 use Rattle.minelib_text.proofs.CoefLineFacts.{coef_counted, coef_fine, coef_plain}

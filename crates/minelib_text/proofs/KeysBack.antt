@@ -19,14 +19,14 @@ use Rattle.minelib_text.specs.LineKinds.{text_kinds}
 use Rattle.minelib_text.specs.ModelLines.{ModelDraftView, blank_model, header_line, is_colon, is_counted, is_next, is_ready, key_in, keyed_line, name_with}
 use Rattle.minelib_text.specs.ModelParts.{admit_model, takes}
 use Rattle.minelib_text.specs.TextLines.{fields_of}
-use Rattle.minelib_text.specs.Written.{key_line, problem_keys, pcpsp_keys, cpit_keys}
+use Rattle.minelib_writing.specs.Written.{key_line, problem_keys, pcpsp_keys, cpit_keys}
 use Rattle.minelib_text.specs.declared.model_key.Header.{Header}
 use Rattle.minelib_text.specs.declared.model_key.HeaderKey.{HeaderKey}
 use Rattle.minelib_text.specs.declared.model_key.HeaderKey.TheVariants as key
 use Rattle.minelib_text.specs.declared.model_key.ModelKey.{ModelKey}
 use Rattle.minelib_text.specs.declared.model_key.ModelKey.TheVariants as model_key
-use Rattle.minelib_text.specs.declared.model_key.Problem.{Problem}
-use Rattle.minelib_text.specs.declared.model_key.Problem.TheVariants.{Pcpsp, Cpit}
+use Rattle.minelib_lines.specs.declared.problem.Problem.{Problem}
+use Rattle.minelib_lines.specs.declared.problem.Problem.TheVariants.{Pcpsp, Cpit}
 use Rattle.minelib_text.specs.declared.model_key.Section.{Section}
 use Rattle.minelib_text.specs.declared.model_key.Section.TheVariants.{Heading}
 use Rattle.forms.proofs.NumberFields.{quotient, size_fits, whole_fits}

@@ -1,12 +1,10 @@
 pub mod BlockLineFacts
 pub mod BlocksBack
 pub mod CpitBack
-pub mod CoefFacts
 pub mod CoefLineFacts
 pub mod Completed
 pub mod CountedLater
 pub mod Cuts
-pub mod SectionsWritten
 pub mod FrontFields
 pub mod HeaderFacts
 pub mod InstanceBack
@@ -16,14 +14,12 @@ pub mod ItemsKeyless
 pub mod KeepFacts
 pub mod KeysBack
 pub mod LimitLineFacts
-pub mod LineFacts
 pub mod LinesBack
 pub mod MarkFacts
 pub mod ModelBack
 pub mod ModelFacts
 pub mod ModelShapes
 pub mod NumbersBack
-pub mod OneDigit
 pub mod Places
 pub mod PlainText
 pub mod PrecBack
@@ -32,7 +28,6 @@ pub mod PrecTests
 pub mod ReadSteps
 pub mod Rising
 pub mod ShapeSteps
-pub mod SpacedFacts
 pub mod SpelledRead
 pub mod ValidHeader
 pub mod ValidModel

@@ -26,10 +26,10 @@ use Rattle.minelib_text.proofs.FieldSteps.{first_step, said_of, whole_reads}
 use Rattle.minelib_text.proofs.FormFields.{ArePlain, any_fits, any_reads, below_there, fit_at}
 use Rattle.minelib_text.proofs.PlainText.{IsField}
 use Rattle.minelib_text.specs.ItemForms.{bound_form, limit_form, limit_said}
-use Rattle.minelib_text.specs.LineValues.{bound_values, limit_values}
+use Rattle.minelib_lines.specs.LineValues.{bound_values, limit_values}
 use Rattle.pit_units.proofs.Written.{whole_written}
-use Rattle.minelib_text.specs.Lines.{line_of}
-use Rattle.minelib_text.specs.Written.{limit_fields}
+use Rattle.minelib_lines.specs.Lines.{line_of}
+use Rattle.minelib_writing.specs.Written.{limit_fields}
 
 pub bound_fine : (t : Bool) → is_fine (bound_form t) ≡ true
 bound_fine true = refl
@@ -158,14 +158,3 @@ limit_same resources periods (r ∷ t ∷ rest) = by (bytes_eq (slice_index_or r
         rw e (tested true e (length (r ∷ t ∷ rest) == 5) (λ c. (let all = eqb-true (length (r ∷ t ∷ rest)) 5 c in omega (arith, all))))
     by false e =
         rw e (tested false e (length (r ∷ t ∷ rest) == 4) (λ c. (let all = eqb-true (length (r ∷ t ∷ rest)) 4 c in omega (arith, all))))
-
--- a line as it is written
-pub limit_text : (n : ℕ) (l : Limit)
-    → line_of (limit_fields n l) ≡ decimal l.resource ++ 32 ∷ (decimal l.period ++ 32 ∷ line_of (written (bound_values l.bound)))
-limit_text n l = of l.bound
-  where
-    of : (bound : Bound) → line_of (written (whole l.resource ∷ whole l.period ∷ bound_values bound))
-        ≡ decimal l.resource ++ 32 ∷ (decimal l.period ++ 32 ∷ line_of (written (bound_values bound)))
-    of (AtMost v) = rw (whole_written l.resource, whole_written l.period) refl
-    of (AtLeast v) = rw (whole_written l.resource, whole_written l.period) refl
-    of (Between v w) = rw (whole_written l.resource, whole_written l.period) refl

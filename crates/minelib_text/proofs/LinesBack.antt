@@ -5,7 +5,7 @@ use Rattle.std.specs.List.{list_all}
 use Rattle.std.proofs.lemmas.Bool.{and_parts}
 use Rattle.std.proofs.lemmas.List.{length_push}
 use Rattle.std.proofs.lemmas.List.Sums.{AllPass-from_list_all}
-use Rattle.minelib_text.specs.Lines.{text_of, line_of, lines_from}
+use Rattle.minelib_lines.specs.Lines.{text_of, line_of, lines_from}
 use Rattle.minelib_text.specs.Reading.{read_lines}
 use Rattle.minelib_text.specs.TextLines.{lines_of, without_cr, without_mark, is_skipped, numbered_lines, lines_in}
 use Rattle.minelib_text.specs.declared.text_fault.TextKind.{TextKind}

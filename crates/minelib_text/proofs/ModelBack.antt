@@ -7,13 +7,13 @@ use Rattle.mine_instance.specs.Order.{comes_before}
 use Rattle.mine_instance.specs.Valid.{AreCoefs, AreLimits}
 use Rattle.mine_instance.specs.declared.coef.Coef.{Coef}
 use Rattle.minelib_text.specs.Kept.{IsDecimal, HasDecimals}
-use Rattle.minelib_text.specs.Lines.{text_of, line_of, lines_from}
+use Rattle.minelib_lines.specs.Lines.{text_of, line_of, lines_from}
 use Rattle.minelib_text.specs.ModelLines.{ModelDraftView, blank_model, finish_model, item_line, model_in}
 use Rattle.forms.specs.Steps.{◌>>=◌}
 use Rattle.minelib_text.specs.TextLines.{end_of, lines_in}
 use Rattle.minelib_text.specs.ModelParts.{admit_model, takes}
-use Rattle.minelib_text.specs.Written.{value_fields, coef_fields, limit_fields, section_lines}
-use Rattle.minelib_text.specs.declared.model_key.Problem.{Problem}
+use Rattle.minelib_writing.specs.Written.{value_fields, coef_fields, limit_fields, section_lines}
+use Rattle.minelib_lines.specs.declared.problem.Problem.{Problem}
 use Rattle.minelib_text.specs.declared.model_key.Section.TheVariants.{Objective, Coefs, Limits}
 use Rattle.minelib_text.proofs.ItemsBack.{values_again, values_fields, IsCount, coef_again, coefs_fields, limit_again, limits_fields}
 use Rattle.minelib_text.proofs.KeysBack.{AreSteps, and_lines, then_lines, draft, heading, full_header, in_all, section_step, word_field}

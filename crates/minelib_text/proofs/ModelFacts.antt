@@ -8,7 +8,7 @@ use Rattle.std.proofs.lemmas.List.Quantifiers.{position-Some}
 use Rattle.std.proofs.lemmas.List.Sums.{fails_before_first}
 use Rattle.minelib_text.specs.ModelLines.{key_in, key_of}
 use Rattle.minelib_text.specs.ModelParts.{only_value}
-use Rattle.minelib_text.specs.declared.model_key.Problem.{Problem}
+use Rattle.minelib_lines.specs.declared.problem.Problem.{Problem}
 use Rattle.minelib_text.specs.declared.text_fault.TextKind.{TextKind}
 
 pub key_of_one : (problem : Problem) (fields : List (List ℕ)) (word : List ℕ) → only_value fields ≡ Ok word → key_of problem fields ≡ key_in problem word

@@ -6,7 +6,7 @@ use Rattle.std.proofs.lemmas.Bool.{and_parts, not-true}
 use Rattle.std.proofs.lemmas.Bool.Decides.{nat_tests}
 use Rattle.std.proofs.lemmas.List.Folds.{list_all-append}
 use Rattle.records.specs.Cells.{is_blank}
-use Rattle.minelib_text.specs.Lines.{line_of}
+use Rattle.minelib_lines.specs.Lines.{line_of}
 use Rattle.minelib_text.specs.ModelLines.{is_colon}
 use Rattle.minelib_text.specs.TextLines.{is_skipped, is_ended, fields_of}
 

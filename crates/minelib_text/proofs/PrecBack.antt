@@ -9,16 +9,17 @@ use Rattle.std.proofs.lemmas.Map.Steps.{length-le_from_distinct_below}
 use Rattle.forms.proofs.ShapeFacts.{states_said}
 use Rattle.forms.specs.Steps.{◌>>=◌}
 use Rattle.mine_instance.specs.Valid.{ArePredsOf, ArePreds}
-use Rattle.minelib_text.specs.Lines.{line_of, lines_from, text_of}
+use Rattle.minelib_lines.specs.Lines.{line_of, lines_from, text_of}
 use Rattle.minelib_text.specs.LinesTaken.{admit_preds, no_lists, preds_said}
 use Rattle.minelib_text.specs.PrecLines.{finish_preds, preds_in, preds_shape}
 use Rattle.minelib_text.specs.TextLines.{end_of, fields_of}
-use Rattle.minelib_text.specs.Written.{prec_fields}
+use Rattle.minelib_writing.specs.Written.{prec_fields}
 use Rattle.minelib_text.proofs.LinesBack.{AdmitsEach, items_admitted, text_read}
 use Rattle.minelib_text.proofs.NumbersBack.{whole_field, map_fields}
 use Rattle.minelib_text.proofs.Places.{is_place, stands_there}
 use Rattle.minelib_text.proofs.PlainText.{AreFields, fields_again, fields_line}
-use Rattle.minelib_text.proofs.PrecLineFacts.{fine, preds_state, preds_written}
+use Rattle.minelib_text.proofs.PrecLineFacts.{fine, preds_state}
+use Rattle.minelib_writing.proofs.FieldsWritten.{preds_written}
 use Rattle.minelib_text.proofs.SpelledRead.{draft_of, preds_read}
 
 distinct_cons : (id : ℕ) (ids : List ℕ) → All (λ other. other ≢ id) ids → IsDistinct eqb ids → IsDistinct eqb (id ∷ ids)

@@ -13,10 +13,10 @@ use Rattle.forms.specs.Shape.{check}
 use Rattle.forms.specs.ShapeStates.{States}
 use Rattle.mine_instance.specs.Valid.{ArePredsOf}
 use Rattle.pit_units.proofs.Written.{whole_written}
-use Rattle.minelib_text.specs.LineValues.{preds_values}
+use Rattle.minelib_lines.specs.LineValues.{preds_values}
 use Rattle.minelib_text.specs.PrecLines.{all_differ, preds_form, preds_of, preds_shape, stands_in, whole_of}
 use Rattle.minelib_text.specs.TextLines.{fields_of}
-use Rattle.minelib_text.specs.Written.{prec_fields}
+use Rattle.minelib_writing.specs.Written.{prec_fields}
 use Rattle.minelib_text.specs.declared.text_fault.TextKind.TheVariants.{Order, Count, Twice}
 use Rattle.minelib_text.proofs.PrecTests.{passed_preds, preds_pass}
 use Rattle.minelib_text.proofs.ShapeSteps.{passed}
@@ -27,14 +27,6 @@ wholes_fine n (field ∷ fields) = wholes_fine n fields
 
 pub fine : (n : ℕ) (fields : List (List ℕ)) → is_fine (preds_form n fields) ≡ true
 fine n fields = wholes_fine n ([] ∷ [] ∷ drop 2 fields)
-
--- what is written
-wholes_written : (ids : List ℕ) → written (map whole ids) ≡ map decimal ids
-wholes_written [] = refl
-wholes_written (id ∷ ids) = λ i. whole_written id i ∷ wholes_written ids i
-
-pub preds_written : (own : ℕ) (ids : List ℕ) → prec_fields own ids ≡ decimal own ∷ decimal (length ids) ∷ map decimal ids
-preds_written own ids = wholes_written (own ∷ length ids ∷ ids)
 
 wholes_fit : (n : ℕ) (ids : List ℕ) → n ≤ 64000000 → All (λ id. id < n) ids
     → Fit (map (λ field. below n) (written (map whole ids))) (map whole ids)

@@ -14,8 +14,8 @@ use Rattle.minelib_text.specs.Reading.{in_file}
 use Rattle.minelib_text.specs.SpelledModel.{AreModelLines}
 use Rattle.minelib_text.specs.SpelledTexts.{SpellInstance, SpellCpit}
 use Rattle.minelib_text.specs.TextLines.{end_of, lines_in}
-use Rattle.minelib_text.specs.declared.model_key.Problem.{Problem}
-use Rattle.minelib_text.specs.declared.model_key.Problem.TheVariants as problem
+use Rattle.minelib_lines.specs.declared.problem.Problem.{Problem}
+use Rattle.minelib_lines.specs.declared.problem.Problem.TheVariants as problem
 use Rattle.minelib_text.specs.declared.text_fault.TextFile.TheVariants.{Blocks, Prec, Pcpsp, Cpit}
 use Rattle.minelib_text.specs.declared.text_fault.TextKind.TheVariants.{Missing}
 use Rattle.minelib_text.proofs.ModelShapes.{all_fine}

@@ -25,8 +25,8 @@ use Rattle.minelib_text.proofs.FieldSteps.{whole_reads}
 use Rattle.minelib_text.specs.Fields.{any}
 use Rattle.minelib_text.specs.ItemForms.{row_said, values_form}
 use Rattle.minelib_text.specs.ModelParts.{values_of, values_said}
-use Rattle.minelib_text.specs.LineValues.{values_values}
-use Rattle.minelib_text.specs.Written.{value_fields}
+use Rattle.minelib_lines.specs.LineValues.{values_values}
+use Rattle.minelib_writing.specs.Written.{value_fields}
 use Rattle.minelib_text.proofs.FormFields.{ArePlain, any_fits, any_reads}
 
 -- a decimal for each destination
@@ -129,11 +129,3 @@ values_kind n destinations before fields found counted = by (length fields == de
     by : (t : Bool) → (length fields == destinations + 1) ≡ t → values_of n destinations before fields ≡ Err (kind_by t found)
     by true e = counted (eqb-true (length fields) (destinations + 1) e)
     by false e = rw (values_width n destinations, e) refl
-
--- as they are written
-pub values_written : (n : ℕ) (values : List ℤ) → value_fields n values ≡ decimal n ∷ map shortest values
-values_written n values = rw (whole_written n) (ap (λ texts. decimal n ∷ texts) (each values))
-  where
-    each : (values : List ℤ) → written (map Millionths values) ≡ map shortest values
-    each [] = refl
-    each (v ∷ values) = ap (λ texts. shortest v ∷ texts) (each values)

@@ -14,7 +14,7 @@ use Rattle.minelib_text.specs.ModelLines.{ModelDraftView, model_in}
 use Rattle.minelib_text.specs.PrecLines.{preds_in}
 use Rattle.minelib_text.specs.Reading.{in_file}
 use Rattle.minelib_text.specs.declared.model_key.HeaderKey.TheVariants as key
-use Rattle.minelib_text.specs.declared.model_key.Problem.TheVariants as problem
+use Rattle.minelib_lines.specs.declared.problem.Problem.TheVariants as problem
 use Rattle.minelib_text.specs.declared.text_fault.TextFault.{TextFault}
 use Rattle.minelib_text.specs.declared.text_fault.TextFile.TheVariants.{Blocks, Prec, Pcpsp, Cpit}
 

@@ -1,5 +1,4 @@
 pub mod BlockLines
-pub mod CoefParts
 pub mod Denotes
 pub mod FaultText
 pub mod FieldValues
@@ -11,8 +10,6 @@ pub mod ItemGrammar
 pub mod Kept
 pub mod KeyFields
 pub mod LineKinds
-pub mod LineValues
-pub mod Lines
 pub mod LinesTaken
 pub mod Marks
 pub mod ModelFields
@@ -21,10 +18,8 @@ pub mod ModelParts
 pub mod PrecLines
 pub mod Reading
 pub mod SameTexts
-pub mod Spaced
 pub mod SpelledModel
 pub mod SpelledTexts
 pub mod TextLines
 pub mod TextParts
 pub mod Uncounted
-pub mod Written

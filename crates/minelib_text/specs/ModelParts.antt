@@ -14,7 +14,7 @@ use Rattle.minelib_text.specs.LineKinds.{text_kind, text_kinds}
 use Rattle.minelib_text.specs.ModelLines.{ModelDraftView, model_line}
 use Rattle.minelib_text.specs.declared.model_key.HeaderKey.{HeaderKey}
 use Rattle.minelib_text.specs.declared.model_key.HeaderKey.TheVariants as key
-use Rattle.minelib_text.specs.declared.model_key.Problem.{Problem}
+use Rattle.minelib_lines.specs.declared.problem.Problem.{Problem}
 use Rattle.minelib_text.specs.declared.text_fault.TextKind.{TextKind}
 use Rattle.minelib_text.specs.declared.text_fault.TextKind.TheVariants.{Fields, Order, Count}
 

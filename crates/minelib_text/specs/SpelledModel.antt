@@ -3,7 +3,7 @@ use Rattle.std.specs.Prelude.{◌≡◌, ℕ, true, List, [], ◌∷◌, ◌++�
 use Rattle.forms.specs.GrammarStates.{AllState}
 use Rattle.minelib_text.specs.ModelLines.{ModelDraftView, blank_model, is_whole, model_grammar}
 use Rattle.minelib_text.specs.TextLines.{Line, lines_in, end_of}
-use Rattle.minelib_text.specs.declared.model_key.Problem.{Problem}
+use Rattle.minelib_lines.specs.declared.problem.Problem.{Problem}
 use Rattle.minelib_text.specs.declared.text_fault.LineFault.{LineFault}
 use Rattle.minelib_text.specs.declared.text_fault.TextKind.TheVariants.{Missing}
 

@@ -10,7 +10,7 @@ use Rattle.minelib_text.specs.ModelLines.{ModelDraftView}
 use Rattle.minelib_text.specs.PrecLines.{prec_grammar}
 use Rattle.minelib_text.specs.SpelledModel.{AreModelLines}
 use Rattle.minelib_text.specs.TextLines.{lines_in}
-use Rattle.minelib_text.specs.declared.model_key.Problem.TheVariants.{Pcpsp, Cpit}
+use Rattle.minelib_lines.specs.declared.problem.Problem.TheVariants.{Pcpsp, Cpit}
 
 -- the lines of the three files spell the blocks, their predecessors and the model of the instance
 pub record SpellInstance (blocks prec pcpsp : List ℕ) (i : Instance) : Type 0 where

@@ -7,8 +7,8 @@ use Rattle.pit_model.specs.declared.limit.Bound.TheVariants.{AtMost, AtLeast, Be
 use Rattle.pit_units.specs.Decimal.{decimal_of}
 use Rattle.minelib_text.specs.FieldValues.{all_by, first_by, decimal_in, whole_in}
 use Rattle.minelib_text.specs.TextLines.{fields_of}
-use Rattle.minelib_text.specs.declared.model_key.Problem.{Problem}
-use Rattle.minelib_text.specs.declared.model_key.Problem.TheVariants.{Pcpsp, Cpit}
+use Rattle.minelib_lines.specs.declared.problem.Problem.{Problem}
+use Rattle.minelib_lines.specs.declared.problem.Problem.TheVariants.{Pcpsp, Cpit}
 use Rattle.minelib_text.specs.declared.read_fault.LineError.{LineError}
 use Rattle.minelib_text.specs.declared.read_fault.LineError.TheVariants as line_error
 use Rattle.minelib_text.specs.declared.text_fault.TextKind.{TextKind}

@@ -7,12 +7,12 @@ ghost use Rattle.minelib_text.specs.Reading.{Reads};
 ghost use Rattle.pit_model.specs.declared.ranges.TheConstants.{MAX_BLOCKS};
 
 use crate::block_reader::read_blocks;
-use crate::model_key::Problem;
 use crate::model_reader::read_model;
 use crate::prec_reader::read_preds;
 use crate::text_fault::{ReadTextError, TextFile};
 use mine_instance::cpit::Cpit;
 use mine_instance::instance::Instance;
+use minelib_lines::problem::Problem;
 use std::alloc::Global;
 
 /// The instance that a block file, a precedence file and a production scheduling model file denote, in the lenient grammar of docs/formats.md.

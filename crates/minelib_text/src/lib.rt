@@ -2,18 +2,10 @@
 #![tactic(auto)]
 
 mod block_reader;
-mod block_sections;
-mod coef_lines;
 mod field_values;
-mod fields;
-mod files;
-mod id_text;
 mod instance_reader;
-mod item_lines;
 mod keeping;
-mod keys;
 pub mod laws;
-mod lines;
 mod marks;
 mod model_draft;
 mod model_header;
@@ -24,13 +16,10 @@ mod model_reader;
 mod prec_reader;
 pub mod read_fault;
 mod reading;
-mod schedule;
-mod sections;
 pub mod text_fault;
 mod text_fields;
 mod text_lines;
-mod writers;
 
 pub use instance_reader::{read_cpit, read_instance};
+pub use minelib_writing::{write_blocks, write_cpit, write_pcpsp, write_prec, write_upit};
 pub use text_sinks::{file_sink, mem_sink, section_sink, sink, write_fault};
-pub use writers::{write_blocks, write_cpit, write_pcpsp, write_prec, write_upit};

@@ -20,7 +20,7 @@ use crate::model_header::{blank_header, number_in};
 use crate::model_items::{
     coef_alone, coef_of, is_coef_behind, is_limit_behind, limit_of, values_alone, values_in,
 };
-use crate::model_key::{Header, HeaderKey, ModelKey, Problem, Section};
+use crate::model_key::{Header, HeaderKey, ModelKey, Section};
 use crate::model_keys::{cut_at_colon, is_heading, is_limits, is_next, key_of, only_value};
 use crate::read_fault::{FileError, LineError};
 use crate::reading::Admit;
@@ -32,6 +32,7 @@ use mine_instance::cpit::{Cpit, CpitCoef};
 use mine_instance::instance::Instance;
 use mine_instance::limits::Limits;
 use mine_instance::values::Values;
+use minelib_lines::problem::Problem;
 use pit_model::limit::Limit;
 use pit_model::name::Name;
 use pit_units::Dec;

@@ -6,9 +6,10 @@ ghost use Rattle.minelib_text.specs.KeyFields.{type_text};
 ghost use Rattle.minelib_text.specs.ModelLines.{blank_header};
 ghost use Rattle.minelib_text.specs.ModelParts.{is_name_for, millionths_in, number_in, number_limit};
 
-use crate::model_key::{Header, HeaderKey, Problem};
+use crate::model_key::{Header, HeaderKey};
 use crate::model_keys::is_word;
 use crate::text_fault::TextKind;
+use minelib_lines::problem::Problem;
 use pit_model::name::is_name;
 use pit_model::ranges::{MAX_BLOCKS, MAX_DESTINATIONS, MAX_PERIODS, MAX_RATE, MAX_RESOURCES};
 use pit_units::parse_dec;

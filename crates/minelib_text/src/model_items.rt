@@ -13,7 +13,6 @@ ghost use Rattle.minelib_text.specs.Uncounted.{AdmitsCounted, bound_in, destinat
 ghost use Rattle.pit_model.specs.declared.ranges.TheConstants.{MAX_BLOCKS};
 
 use crate::field_values::decimal_in;
-use crate::model_key::Problem;
 use crate::model_keys::is_word;
 use crate::read_fault::LineError;
 use crate::text_fault::TextKind;
@@ -21,6 +20,7 @@ use crate::text_fields::{
     count_fields, first_millionths, first_whole, has_field, kind_by_count, next_field,
 };
 use mine_instance::coef::Coef;
+use minelib_lines::problem::Problem;
 use pit_model::limit::{Bound, Limit};
 use pit_units::Dec;
 

@@ -3,15 +3,6 @@
 ghost use Rattle.std.specs.Prelude.{◌≡◌, ◌<◌};
 ghost use Rattle.minelib_text.specs.HeaderKeys.{count_in, is_complete, is_given, no_key, number_of, place, with_key};
 
-/// The problem that a model file states.
-#[derive(Clone, Copy, Debug, PartialEq, Eq)]
-pub enum Problem {
-    /// Production scheduling: a block has a value and coefficients at each destination.
-    Pcpsp,
-    /// The constrained pit limit: a block has one value, and coefficients of its own.
-    Cpit,
-}
-
 /// The part of a model file that a line stands in.
 #[derive(Clone, Copy, Debug, PartialEq, Eq)]
 pub enum Section {

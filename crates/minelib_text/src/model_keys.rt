@@ -7,11 +7,12 @@ ghost use Rattle.minelib_text.specs.ModelLines.{is_colon, is_heading, is_limits,
 ghost use Rattle.minelib_text.specs.ModelParts.{States, only_value};
 ghost use Rattle.minelib_text.specs.TextLines.{fields_of};
 
-use crate::model_key::{HeaderKey, ModelKey, Problem, Section};
+use crate::model_key::{HeaderKey, ModelKey, Section};
 use crate::text_fault::TextKind;
 use crate::text_fields::next_field;
 use crate::text_lines::behind;
 use memchr::memchr;
+use minelib_lines::problem::Problem;
 
 /// The bytes before the first colon of a line and those behind it, or `None` where it has no colon.
 pub fn cut_at_colon(line: &[u8]) -> Option<(&[u8], &[u8])>

@@ -6,9 +6,9 @@ ghost use Rattle.minelib_text.specs.Reading.{Gives};
 ghost use Rattle.pit_model.specs.declared.ranges.TheConstants.{MAX_BLOCKS};
 
 use crate::model_draft::ModelDraft;
-use crate::model_key::Problem;
 use crate::read_fault::FileError;
 use crate::reading::read_lines;
+use minelib_lines::problem::Problem;
 use std::alloc::Global;
 
 /// What the model file of a problem states, of so many blocks.

@@ -1,7 +1,7 @@
 -- What the five sinks of a run tell, before and after the texts of an instance are written to them in turn.
 use Rattle.std.specs.Prelude.{◌≡◌, ℕ, zero, suc, List, [], ◌∷◌}
 use Rattle.text_sinks.specs.SinkState.{SinkState, IsWritten, IsCutOff}
-use Rattle.minelib_text.specs.Written.{text_blocks, text_prec, text_upit, text_pcpsp, text_cpit}
+use Rattle.minelib_writing.specs.Written.{text_blocks, text_prec, text_upit, text_pcpsp, text_cpit}
 use Rattle.mine_instance.specs.OfCpit.{cpit}
 use Rattle.mine_instance.specs.declared.instance.Instance.{Instance}
 use Rattle.pit_compile.specs.declared.refusal.SinkName.{SinkName}

@@ -1,4 +1,4 @@
-use Rattle.minelib_text.specs.declared.model_key.Problem.TheVariants.{Pcpsp}
+use Rattle.minelib_lines.specs.declared.problem.Problem.TheVariants.{Pcpsp}
 use Rattle.minelib_text.proofs.ValidRead.{model_is_valid}
 use Rattle.minelib_text.proofs.instance_reader.joined.Goals as goal
 

@@ -1,4 +1,4 @@
-use Rattle.minelib_text.specs.declared.model_key.Problem.TheVariants.{Cpit}
+use Rattle.minelib_lines.specs.declared.problem.Problem.TheVariants.{Cpit}
 use Rattle.minelib_text.proofs.ValidRead.{cpit_is_valid, model_is_valid}
 use Rattle.minelib_text.proofs.instance_reader.read_cpit.Goals as goal
 

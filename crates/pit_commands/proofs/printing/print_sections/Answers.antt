@@ -1,6 +1,6 @@
 use Rattle.std.proofs.Common.{◌≡◌, ℕ, List, [], ◌∷◌, ◌++◌, codes, ap, sym, subst, ◌∙◌}
 use Rattle.mine_instance.specs.OfCpit.{cpit}
-use Rattle.minelib_text.specs.Written.{text_blocks, text_prec, text_upit, text_pcpsp, text_cpit}
+use Rattle.minelib_writing.specs.Written.{text_blocks, text_prec, text_upit, text_pcpsp, text_cpit}
 use Rattle.pit_commands.specs.Printed.{printed, section}
 use Rattle.pit_commands.proofs.Sections.{section_more, five_more, where_ok}
 use Rattle.pit_commands.proofs.printing.print_sections.Goals as goal

@@ -2,7 +2,7 @@ use Rattle.std.proofs.Common.{[], ◌∷◌, refl, ◌∙◌, subst}
 use Rattle.std.specs.Prelude.{IfErr}
 use Rattle.mine_instance.specs.Cpit.{CpitParts}
 use Rattle.std.proofs.lemmas.Result.{err_from_is_err_and}
-use Rattle.minelib_text.specs.Written.{text_blocks, text_prec, text_upit, text_pcpsp, text_cpit}
+use Rattle.minelib_writing.specs.Written.{text_blocks, text_prec, text_upit, text_pcpsp, text_cpit}
 use Rattle.text_sinks.specs.SinkState.{IsCutOff, IsWritten}
 use Rattle.text_sinks.specs.SinkSteps.{refusals}
 use Rattle.mine_instance.specs.OfCpit.{cpit}

@@ -1,0 +1,2 @@
+pub mod LineValues
+pub mod Lines

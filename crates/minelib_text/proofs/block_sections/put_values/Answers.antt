@@ -1,7 +1,0 @@
-use Rattle.std.proofs.Common.{rules, append_assoc}
-use Rattle.pit_units.specs.Decimal.{shortest}
-use Rattle.minelib_text.proofs.LineFacts.{line_of-map}
-use Rattle.minelib_text.proofs.block_sections.put_values.Goals as goal
-
-pub returns : goal.returns
-returns c = rw (line_of-map _ shortest c.args.values.now) (search (rules, append_assoc))

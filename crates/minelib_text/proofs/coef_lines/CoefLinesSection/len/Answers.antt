@@ -1,6 +1,0 @@
-use Rattle.std.proofs.Common.{sym}
-use Rattle.minelib_text.proofs.LineFacts.{length-lines_from}
-use Rattle.minelib_text.proofs.coef_lines.CoefLinesSection.len.Goals as goal
-
-pub returns : goal.returns
-returns g c = sym (length-lines_from (λ n. g.C.CoefLine.fields) 0 c.args.self.now.coefs.now)

@@ -1,6 +1,0 @@
-use Rattle.std.proofs.Common.{◌≡◌, ◌++◌, take}
-use Rattle.minelib_text.specs.Spaced.{spaced}
-use Rattle.minelib_text.proofs.id_text.put_each.Given as goal
-
-abbrev pub invariant-loop-id : goal.invariant-loop-id
-invariant-loop-id l = l.out.items ≡ l.initial.out.items ++ spaced (take l.id-index l.ids)

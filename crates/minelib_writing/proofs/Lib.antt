@@ -1,0 +1,6 @@
+pub mod CoefFacts
+pub mod FieldsWritten
+pub mod LineFacts
+pub mod OneDigit
+pub mod SectionsWritten
+pub mod SpacedFacts

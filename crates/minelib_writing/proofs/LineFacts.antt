@@ -1,0 +1,43 @@
+-- The lines of a list, one an item.
+use Rattle.std.proofs.Common.{◌≡◌, ℕ, suc, zero, ◌+◌, ◌<◌, List, [], ◌∷◌, ◌++◌, length, map, take, drop, append-nil, get_or, refl, ◌∙◌, ap, sym, arith}
+use Rattle.std.specs.List.{drop-map, flat_map, take-map}
+use Rattle.minelib_lines.specs.Lines.{line_of, lines_from, text_of}
+
+pub length-lines_from : {A : Type 0} (fields : ℕ → A → List (List ℕ)) (n : ℕ) (xs : List A) → length (lines_from fields n xs) ≡ length xs
+length-lines_from fields n [] = refl
+length-lines_from fields n (x ∷ xs) = ap suc (length-lines_from fields (n + 1) xs)
+
+-- the line at a place is that of the item there
+pub get_or-lines_from : {A : Type 0} (fields : ℕ → A → List (List ℕ)) (n i j : ℕ) (xs : List A) (d : A) → i < length xs → n + i ≡ j
+    → get_or (lines_from fields n xs) i [] ≡ line_of (fields j (get_or xs i d))
+get_or-lines_from fields n i j [] d h e = absurd (omega arith)
+get_or-lines_from fields n zero j (x ∷ xs) d h e = ap (λ k. line_of (fields k x)) (omega arith)
+get_or-lines_from fields n (suc i) j (x ∷ xs) d h e = get_or-lines_from fields (n + 1) i j xs d (omega arith) (omega arith)
+
+-- that of an item which stands at the place
+pub line_at : {A : Type 0} (fields : ℕ → A → List (List ℕ)) (i : ℕ) (xs : List A) (x : A) → i < length xs → x ≡ get_or xs i x
+    → get_or (lines_from fields 0 xs) i [] ≡ line_of (fields i x)
+line_at fields i xs x h e = get_or-lines_from fields 0 i i xs x h (omega arith) ∙ ap (λ y. line_of (fields i y)) (sym e)
+
+-- a field, and then one for each item
+pub line_of-map : {A : Type 0} (first : List ℕ) (field : A → List ℕ) (xs : List A)
+    → line_of (first ∷ map field xs) ≡ first ++ flat_map (λ x. 32 ∷ field x) xs
+line_of-map first field [] = sym (append-nil first)
+line_of-map first field (x ∷ xs) = ap (λ rest. first ++ 32 ∷ rest) (line_of-map (field x) field xs)
+
+-- where the numbers do not count
+numberless : {A : Type 0} (fields : A → List (List ℕ)) (n : ℕ) (xs : List A)
+    → lines_from (λ k. fields) n xs ≡ map (λ x. line_of (fields x)) xs
+numberless fields n [] = refl
+numberless fields n (x ∷ xs) = ap (λ rest. line_of (fields x) ∷ rest) (numberless fields (n + 1) xs)
+
+texts_of : {A : Type 0} (fields : A → List (List ℕ)) (text : A → List ℕ) → ((x : A) → line_of (fields x) ++ 10 ∷ [] ≡ text x)
+    → (xs : List A) → text_of (map (λ x. line_of (fields x)) xs) ≡ flat_map text xs
+texts_of fields text each [] = refl
+texts_of fields text each (x ∷ xs) = rw (each x, texts_of fields text each xs) refl
+
+-- the lines from a place on are the texts of the items there
+pub some_texts : {A : Type 0} (fields : A → List (List ℕ)) (text : A → List ℕ) → ((x : A) → line_of (fields x) ++ 10 ∷ [] ≡ text x)
+    → (i n : ℕ) (xs : List A) → text_of (take n (drop i (lines_from (λ k. fields) 0 xs))) ≡ flat_map text (take n (drop i xs))
+some_texts fields text each i n xs =
+    rw (numberless fields 0 xs, drop-map, take-map) (texts_of fields text each (take n (drop i xs)))

@@ -1,0 +1,63 @@
+-- What writing lines on does to a sink and a buffer, and what a sink holds of lines that were cut short.
+use Rattle.std.proofs.Common.{◌≡◌, ℕ, ◌+◌, List, [], ◌∷◌, ◌++◌, take, drop, subst, refl, sym, ◌∙◌, ap, append_assoc, append-nil}
+use Rattle.std.proofs.lemmas.List.{take-append-drop}
+use Rattle.std.proofs.Math.Seq.{take-add}
+use Rattle.minelib_lines.specs.Lines.{text_of}
+use Rattle.text_sinks.specs.SinkState.{SinkState}
+use Rattle.text_sinks.specs.SinkSteps.{IsAppended, IsAppendCut}
+use Rattle.text_sinks.proofs.Fronts.{cut_before, cut_then, written_then}
+pub use Rattle.text_sinks.proofs.Fronts.{buffered, nothing_put}
+
+pub text_of-append : (xs ys : List (List ℕ)) → text_of (xs ++ ys) ≡ text_of xs ++ text_of ys
+text_of-append [] ys = refl
+text_of-append (x ∷ xs) ys = ap (λ rest. (x ++ 10 ∷ []) ++ rest) (text_of-append xs ys) ∙ sym (append_assoc (x ++ 10 ∷ []) (text_of xs) (text_of ys))
+
+-- one line behind the others
+text_of-line : (lines : List (List ℕ)) (line : List ℕ) → text_of (lines ++ line ∷ []) ≡ text_of lines ++ (line ++ 10 ∷ [])
+text_of-line lines line = text_of-append lines (line ∷ []) ∙ ap (λ last. text_of lines ++ last) (append-nil (line ++ 10 ∷ []))
+
+-- lines were cut short, and more were to come
+pub lines_cut_before : {n : ℕ} {before : List ℕ} {old new : SinkState} (xs ys : List (List ℕ))
+    → IsAppendCut n (text_of xs) before old new → IsAppendCut n (text_of (xs ++ ys)) before old new
+lines_cut_before xs ys cut = rw text_of-append (cut_before (text_of ys) cut)
+
+module _ {before mid : List ℕ} {old between new : SinkState} where
+  -- lines were written on, and then more of them
+  pub lines_then : {after : List ℕ} (xs ys : List (List ℕ)) → IsAppended (text_of xs) before mid old between
+      → IsAppended (text_of ys) mid after between new → IsAppended (text_of (xs ++ ys)) before after old new
+  lines_then xs ys first then = rw text_of-append (written_then first then)
+
+  -- lines were written on, and the next were cut short
+  pub lines_cut_then : {n : ℕ} (xs ys : List (List ℕ)) → IsAppended (text_of xs) before mid old between
+      → IsAppendCut n (text_of ys) mid between new → IsAppendCut n (text_of (xs ++ ys)) before old new
+  lines_cut_then xs ys first cut = rw text_of-append (cut_then first cut)
+
+  -- all the lines before a place were written on, and then so many more
+  pub more_then : {after : List ℕ} (lines : List (List ℕ)) (i n : ℕ) → IsAppended (text_of (take i lines)) before mid old between
+      → IsAppended (text_of (take n (drop i lines))) mid after between new → IsAppended (text_of (take (i + n) lines)) before after old new
+  more_then lines i n first then = rw take-add (lines_then (take i lines) (take n (drop i lines)) first then)
+
+  -- all the lines before a place were written on, and the others were cut short
+  pub rest_cut : {n : ℕ} (lines : List (List ℕ)) (i : ℕ) → IsAppended (text_of (take i lines)) before mid old between
+      → IsAppendCut n (text_of (drop i lines)) mid between new → IsAppendCut n (text_of lines) before old new
+  rest_cut {n} lines i first cut =
+      subst (λ all. IsAppendCut n (text_of all) before old new) (take-append-drop i lines)
+      (lines_cut_then (take i lines) (drop i lines) first cut)
+
+-- the buffer took the first lines, and what it held was cut short
+pub buffered_cut : {n : ℕ} {before after : List ℕ} {old new : SinkState} (lines : List (List ℕ)) (i : ℕ)
+    → after ≡ before ++ text_of (take i lines) → IsAppendCut n [] after old new → IsAppendCut n (text_of lines) before old new
+buffered_cut {n} {before} {after} {old} {new} lines i e cut =
+    subst (λ all. IsAppendCut n (text_of all) before old new) (take-append-drop i lines)
+    (lines_cut_before (take i lines) (drop i lines)
+    (subst (λ text. IsAppendCut n text before old new) (append-nil (text_of (take i lines))) (cut_then (buffered (text_of (take i lines)) e) cut)))
+
+-- the first line of an empty buffer's text, and one line more
+pub first_line : (line before after : List ℕ) → after ≡ before ++ (line ++ 10 ∷ []) → after ≡ before ++ text_of (line ∷ [])
+first_line line before after e = e ∙ ap (λ rest. before ++ rest) (sym (append-nil (line ++ 10 ∷ [])))
+
+pub line_more : (lines : List (List ℕ)) (line before between after : List ℕ) → between ≡ before ++ text_of lines
+    → after ≡ between ++ (line ++ 10 ∷ []) → after ≡ before ++ text_of (lines ++ line ∷ [])
+line_more lines line before between after d e =
+    e ∙ ap (λ front. front ++ (line ++ 10 ∷ [])) d ∙ append_assoc before (text_of lines) (line ++ 10 ∷ [])
+    ∙ ap (λ rest. before ++ rest) (sym (text_of-line lines line))

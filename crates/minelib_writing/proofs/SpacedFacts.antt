@@ -1,0 +1,93 @@
+-- A run of identifiers is a part of the text of 0, 1, 2, ..
+use Rattle.std.proofs.Common.{◌≡◌, ℕ, zero, suc, ◌+◌, ◌-◌, ◌<◌, ◌≤◌, List, [], ◌∷◌, ◌++◌, length, take, drop, get_or, ap, sym, ⊎_elim, ◌∙◌, arith, append_assoc, append-nil, length-append}
+use Rattle.std.specs.Prelude.{decimal}
+use Rattle.std.specs.List.{range_with_len}
+use Rattle.std.proofs.Math.Seq.{drop-append_seam, get_or-append_seam, take-append_seam}
+use Rattle.std.proofs.lemmas.List.{get_or_append_left, get_or_default}
+use Rattle.std.proofs.lemmas.Bool.{cases_lt}
+use Rattle.std.proofs.lemmas.Grind.{flat_map-append}
+use Rattle.minelib_writing.specs.Spaced.{spaced, start_in, AreStarts}
+
+pub range_parts : (a m n : ℕ) → range_with_len a (m + n) ≡ range_with_len a m ++ range_with_len (a + m) n
+range_parts a zero n =
+    let long : 0 + n ≡ n = omega arith in
+    let from : a ≡ a + 0 = omega arith in
+    λ j. range_with_len (from j) (long j)
+range_parts a (suc m) n =
+    let long : suc m + n ≡ suc (m + n) = omega arith in
+    let from : (a + 1) + m ≡ a + suc m = omega arith in
+    ap (range_with_len a) long ∙ ap (λ xs. a ∷ xs) (range_parts (a + 1) m n ∙ ap (λ f. range_with_len (a + 1) m ++ range_with_len f n) from)
+
+-- all below n are those below m, and the others
+below_parts : (m n : ℕ) → m ≤ n → range_with_len 0 n ≡ range_with_len 0 m ++ range_with_len m (n - m)
+below_parts m n le =
+    let long : n ≡ m + (n - m) = omega arith in
+    let from : 0 + m ≡ m = omega arith in
+    ap (range_with_len 0) long ∙ range_parts 0 m (n - m) ∙ ap (λ f. range_with_len 0 m ++ range_with_len f (n - m)) from
+
+spaced-append : (xs ys : List ℕ) → spaced (xs ++ ys) ≡ spaced xs ++ spaced ys
+spaced-append xs ys = flat_map-append (λ id. 32 ∷ decimal id) xs ys
+
+pub spaced_push : (xs : List ℕ) (x : ℕ) → spaced (xs ++ x ∷ []) ≡ spaced xs ++ 32 ∷ decimal x
+spaced_push xs x = spaced-append xs (x ∷ []) ∙ ap (λ t. spaced xs ++ t) (append-nil (32 ∷ decimal x))
+
+-- one more identifier
+pub spaced_next : (n : ℕ) → spaced (range_with_len 0 (n + 1)) ≡ spaced (range_with_len 0 n) ++ 32 ∷ decimal n
+spaced_next n =
+    let last : 0 + n ≡ n = omega arith in
+    ap spaced (range_parts 0 n 1 ∙ ap (λ k. range_with_len 0 n ++ k ∷ []) last) ∙ spaced_push (range_with_len 0 n) n
+
+-- one more start
+pub starts_push : (starts : List ℕ) (start : ℕ) → AreStarts starts → start ≡ start_in (length starts) → AreStarts (starts ++ start ∷ [])
+starts_push starts start are is id lt = ⊎_elim
+    (λ before. get_or_append_left starts (start ∷ []) 0 id before ∙ are id before)
+    (λ last.
+    let here : id ≡ length starts = omega (arith, length-append starts (start ∷ [])) in
+    ap (λ k. get_or (starts ++ start ∷ []) k 0) here ∙ get_or-append_seam starts start [] 0 ∙ is ∙ ap start_in (sym here))
+    (cases_lt id (length starts))
+
+-- a text of three parts, cut to the one in the middle
+middle : (a b c : List ℕ) → take (length (a ++ b) - length a) (drop (length a) (a ++ (b ++ c))) ≡ b
+middle a b c =
+    let long : length (a ++ b) - length a ≡ length b = omega (arith, length-append a b) in
+    ap (take (length (a ++ b) - length a)) (drop-append_seam a (b ++ c)) ∙ ap (λ k. take k (b ++ c)) long ∙ take-append_seam b c
+
+-- up to `past` there are those before `first`, and the run
+run_behind : (first past : ℕ) → first ≤ past → spaced (range_with_len 0 past) ≡ spaced (range_with_len 0 first) ++ spaced (range_with_len first (past - first))
+run_behind first past le = ap spaced (below_parts first past le) ∙ spaced-append (range_with_len 0 first) (range_with_len first (past - first))
+
+pub starts_rise : (first past : ℕ) → first ≤ past → start_in first ≤ start_in past
+starts_rise first past le =
+    let a = spaced (range_with_len 0 first) in
+    let b = spaced (range_with_len first (past - first)) in
+    omega (arith, ap length (run_behind first past le), length-append a b)
+
+pub part_of_text : (n first past : ℕ) → first ≤ past → past ≤ n
+    → take (start_in past - start_in first) (drop (start_in first) (spaced (range_with_len 0 n))) ≡ spaced (range_with_len first (past - first))
+part_of_text n first past le within =
+    let a = spaced (range_with_len 0 first) in
+    let b = spaced (range_with_len first (past - first)) in
+    let c = spaced (range_with_len past (n - past)) in
+    let to_past : spaced (range_with_len 0 past) ≡ a ++ b = run_behind first past le in
+    let whole : spaced (range_with_len 0 n) ≡ a ++ (b ++ c) = run_behind past n within ∙ ap (λ t. t ++ c) to_past ∙ append_assoc a b c in
+    ap (λ t. take (start_in past - start_in first) (drop (start_in first) t)) whole
+    ∙ ap (λ t. take (length t - length a) (drop (length a) (a ++ (b ++ c)))) to_past
+    ∙ middle a b c
+
+-- what starts say of a run's text
+pub run_within : (starts text : List ℕ) (first past a b : ℕ) → AreStarts starts → text ≡ spaced (range_with_len 0 (length starts))
+    → first ≤ past → past < length starts → a ≡ get_or starts first a → b ≡ get_or starts past b → (a ≤ b) × (b ≤ length text)
+run_within starts text first past a b are is le lt low high =
+    let at_first = get_or_default starts first a 0 (omega arith) in
+    let at_past = get_or_default starts past b 0 lt in
+    let rises = starts_rise first past le in
+    let inside = starts_rise past (length starts) (omega arith) in
+    (omega (arith, are first (omega arith), are past lt), omega (arith, are past lt, ap length is))
+
+pub run_is : (starts text : List ℕ) (first past a b : ℕ) → AreStarts starts → text ≡ spaced (range_with_len 0 (length starts))
+    → first ≤ past → past < length starts → a ≡ get_or starts first a → b ≡ get_or starts past b
+    → take (b - a) (drop a text) ≡ spaced (range_with_len first (past - first))
+run_is starts text first past a b are is le lt low high =
+    let at_first : a ≡ start_in first = low ∙ get_or_default starts first a 0 (omega arith) ∙ are first (omega arith) in
+    let at_past : b ≡ start_in past = high ∙ get_or_default starts past b 0 lt ∙ are past lt in
+    (λ j. take (at_past j - at_first j) (drop (at_first j) (is j))) ∙ part_of_text (length starts) first past le (omega arith)

@@ -1,0 +1,14 @@
+use Rattle.std.proofs.Common.{rules, ◌<◌, length, append_assoc}
+use Rattle.minelib_writing.proofs.LineFacts.{length-lines_from, line_at}
+use Rattle.minelib_writing.proofs.coef_lines.CoefLinesSection.append.Goals as goal
+
+pub item-coef-requires : goal.item-coef-requires
+item-coef-requires g c = rw length-lines_from at c.requires
+
+pub returns : goal.returns
+returns g c =
+    let coefs = c.args.self.now.coefs.now in
+    let coef = c.item-coef.result.now in
+    let within : c.args.index < length coefs = rw length-lines_from at c.requires in
+    rw (line_at (λ n. g.C.CoefLine.fields) c.args.index coefs coef within c.item-coef.ensures, g.met.C.CoefLine.parts coef)
+    (search (rules, append_assoc))

@@ -1,0 +1,24 @@
+use Rattle.std.proofs.Common.{◌++◌, length}
+use Rattle.std.specs.Prelude.{codes}
+use Rattle.std.proofs.lemmas.Result.{on_ok_weaker, IfErr-weaker}
+use Rattle.minelib_lines.specs.Lines.{text_of, lines_from}
+use Rattle.minelib_writing.specs.Written.{text_cpit, problem_keys, cpit_keys, section_lines, cpit_value_fields, cpit_coef_fields, limit_fields}
+use Rattle.minelib_writing.proofs.SectionsWritten.{buffered, lines_then, lines_cut_then}
+use Rattle.minelib_writing.proofs.files.CpitFileText.write.Goals as goal
+
+pub returns : goal.returns
+unfolding text_cpit
+returns g c =
+    let i = c.args.self.now.cpit.now in
+    let keys = problem_keys i.name (codes "CPIT") (length i.values) in
+    let more = cpit_keys i.periods i.resources i.rate in
+    let limits = lines_from limit_fields 0 i.limits in
+    let sections = section_lines (lines_from cpit_value_fields 0 i.values) (lines_from cpit_coef_fields 0 i.coefs) limits in
+    let first = buffered (text_of keys) (rw (c.name.ensures, c.values.ensures.value) at c.in_ok-put_problem.ensures) in
+    let both = lines_then keys more first (buffered (text_of more) c.in_ok-put_cpit_keys.ensures) in
+    record {
+      written = on_ok_weaker c.write_sections.result (lines_then (keys ++ more) sections both)
+          (rw (c.values-2.ensures.value, c.coefs.ensures.value, c.limits.ensures.value) at c.write_sections.ensures.written);
+      refused = IfErr-weaker c.write_sections.result _ _ (λ _. lines_cut_then (keys ++ more) sections both)
+          (rw (c.values-2.ensures.value, c.coefs.ensures.value, c.limits.ensures.value) at c.write_sections.ensures.refused);
+    }

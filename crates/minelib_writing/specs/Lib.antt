@@ -1,0 +1,3 @@
+pub mod CoefParts
+pub mod Spaced
+pub mod Written

@@ -1,0 +1,118 @@
+-- The MineLib texts of an instance (Espinoza, Goycoolea, Moreno and Newman 2013, in this project's profile), as lines of fields.
+use Rattle.std.specs.Prelude.{ℕ, List, [], ◌∷◌, ◌++◌, ℤ, codes, decimal, length}
+use Rattle.forms.specs.WrittenValues.{written}
+use Rattle.pit_units.specs.Decimal.{shortest}
+use Rattle.pit_model.specs.declared.block.Block.{Block}
+use Rattle.pit_model.specs.declared.limit.Limit.{Limit}
+use Rattle.mine_instance.specs.Cpit.{CpitParts}
+use Rattle.mine_instance.specs.Greatest.{greatest}
+use Rattle.mine_instance.specs.declared.coef.Coef.{Coef}
+use Rattle.mine_instance.specs.declared.cpit.CpitCoef.{CpitCoef}
+use Rattle.mine_instance.specs.declared.instance.Instance.{Instance}
+use Rattle.minelib_lines.specs.Lines.{text_of, line_of, lines_from}
+use Rattle.minelib_lines.specs.LineValues.{block_values, preds_values, coef_values, limit_values, values_values, at_only_destination}
+use Rattle.minelib_lines.specs.declared.problem.Problem.{Problem}
+use Rattle.minelib_lines.specs.declared.problem.Problem.TheVariants.{Pcpsp, Cpit}
+
+-- `id x y z tonnes grade zone`
+abbrev pub block_fields : ℕ → Block → List (List ℕ)
+block_fields n b = written (block_values n b)
+
+-- `id k p1 .. pk`
+abbrev pub prec_fields : ℕ → List ℕ → List (List ℕ)
+prec_fields n ids = written (preds_values n ids)
+
+-- `b v0 v1 ..`
+abbrev pub value_fields : ℕ → List ℤ → List (List ℕ)
+value_fields n values = written (values_values n values)
+
+-- `b v`, the greatest of the block's values
+abbrev pub greatest_fields : ℕ → List ℤ → List (List ℕ)
+greatest_fields n values = value_fields n (greatest values ∷ [])
+
+-- `b d r v`, or `b r v`
+abbrev pub coef_fields : Problem → ℕ → Coef → List (List ℕ)
+coef_fields problem n c = written (coef_values problem c)
+
+-- `r t` and the bound: `L v`, `G v` or `I v w`
+abbrev pub limit_fields : ℕ → Limit → List (List ℕ)
+limit_fields n l = written (limit_values l)
+
+-- `b v`, the one value of a block of a CPIT
+abbrev pub cpit_value_fields : ℕ → ℤ → List (List ℕ)
+cpit_value_fields n value = value_fields n (value ∷ [])
+
+-- `b r v`
+abbrev pub cpit_coef_fields : ℕ → CpitCoef → List (List ℕ)
+cpit_coef_fields n c = coef_fields Cpit n (at_only_destination c)
+
+-- `KEY: value`
+abbrev pub key_line : List ℕ → List ℕ → List ℕ
+key_line key value = line_of (key ∷ value ∷ [])
+
+-- the key lines that all problems begin with
+abbrev pub problem_keys : List ℕ → List ℕ → ℕ → List (List ℕ)
+problem_keys name problem n =
+    key_line (codes "NAME:") name
+    ∷ key_line (codes "TYPE:") problem
+    ∷ key_line (codes "NBLOCKS:") (decimal n)
+    ∷ []
+
+-- how many periods, destinations and resources there are
+abbrev pub count_keys : ℕ → ℕ → ℕ → List (List ℕ)
+count_keys periods destinations resources =
+    key_line (codes "NPERIODS:") (decimal periods)
+    ∷ key_line (codes "NDESTINATIONS:") (decimal destinations)
+    ∷ key_line (codes "NRESOURCE_SIDE_CONSTRAINTS:") (decimal resources)
+    ∷ []
+
+-- the further key lines of the production scheduling problem
+abbrev pub pcpsp_keys : ℕ → ℕ → ℕ → ℤ → List (List ℕ)
+pcpsp_keys periods destinations resources rate =
+    count_keys periods destinations resources
+    ++ (key_line (codes "NGENERAL_SIDE_CONSTRAINTS:") (codes "0")
+    ∷ key_line (codes "DISCOUNT_RATE:") (shortest rate)
+    ∷ [])
+
+-- the further key lines of the constrained pit limit problem
+abbrev pub cpit_keys : ℕ → ℕ → ℤ → List (List ℕ)
+cpit_keys periods resources rate =
+    key_line (codes "NPERIODS:") (decimal periods)
+    ∷ key_line (codes "NRESOURCE_SIDE_CONSTRAINTS:") (decimal resources)
+    ∷ key_line (codes "DISCOUNT_RATE:") (shortest rate)
+    ∷ []
+
+-- the objective, the coefficients and the limits, each under its section line
+abbrev pub section_lines : List (List ℕ) → List (List ℕ) → List (List ℕ) → List (List ℕ)
+section_lines values coefs limits =
+    (codes "OBJECTIVE_FUNCTION:" ∷ values)
+    ++ (codes "RESOURCE_CONSTRAINT_COEFFICIENTS:" ∷ coefs)
+    ++ (codes "RESOURCE_CONSTRAINT_LIMITS:" ∷ limits)
+
+-- the block file
+unfoldable pub text_blocks : Instance → List ℕ
+text_blocks i = text_of (lines_from block_fields 0 i.blocks)
+
+-- the precedence file
+unfoldable pub text_prec : Instance → List ℕ
+text_prec i = text_of (lines_from prec_fields 0 i.preds)
+
+-- the UPIT file
+unfoldable pub text_upit : Instance → List ℕ
+text_upit i =
+    text_of (problem_keys i.name (codes "UPIT") (length i.blocks)
+    ++ (codes "OBJECTIVE_FUNCTION:" ∷ lines_from greatest_fields 0 i.values))
+
+-- the PCPSP file
+unfoldable pub text_pcpsp : Instance → List ℕ
+text_pcpsp i =
+    text_of (problem_keys i.name (codes "PCPSP") (length i.blocks)
+    ++ pcpsp_keys i.periods i.destinations i.resources i.rate
+    ++ section_lines (lines_from value_fields 0 i.values) (lines_from (coef_fields Pcpsp) 0 i.coefs) (lines_from limit_fields 0 i.limits))
+
+-- the CPIT file
+unfoldable pub text_cpit : CpitParts → List ℕ
+text_cpit c =
+    text_of (problem_keys c.name (codes "CPIT") (length c.values)
+    ++ cpit_keys c.periods c.resources c.rate
+    ++ section_lines (lines_from cpit_value_fields 0 c.values) (lines_from cpit_coef_fields 0 c.coefs) (lines_from limit_fields 0 c.limits))

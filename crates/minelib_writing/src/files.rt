@@ -1,0 +1,166 @@
+//! The five texts by their parts.
+
+ghost use Rattle.std.specs.Prelude.{◌≤◌, ◌<◌, length, All};
+ghost use Rattle.minelib_writing.specs.Written.{text_blocks, text_prec, text_upit, text_pcpsp, text_cpit};
+ghost use Rattle.pit_model.specs.declared.ranges.TheConstants.{MAX_BLOCKS};
+
+use crate::block_sections::{GreatestLines, PrecLines, ValueLines};
+use crate::coef_lines::CoefLines;
+use crate::id_text::IdText;
+use crate::keys::{put_cpit_keys, put_pcpsp_keys, put_problem};
+use crate::lines::Lines;
+use crate::schedule::write_sections;
+use crate::sections::{write_section, write_titled};
+use mine_instance::cpit::Cpit;
+use mine_instance::instance::Instance;
+use std::alloc::Global;
+use text_sinks::sink::Sink;
+use text_sinks::whole_text::Text;
+use text_sinks::write_fault::WriteFault;
+
+#[derive(Drop)]
+pub struct BlockFile<'a> {
+    pub instance: &'a Instance,
+}
+
+impl<'a> Text for BlockFile<'a> {
+    ghost text = { λ t. text_blocks t.instance.now };
+
+    #[tactic(auto, unfolding(crate::specs::Written::text_blocks))]
+    fn write<S: Sink>(
+        &self,
+        alloc: Global,
+        sink: &mut S,
+        buffer: &mut Vec<u8>,
+    ) -> Result<(), WriteFault> {
+        let items = self.instance.blocks.as_slice();
+        write_section(alloc, sink, buffer, &Lines { items })
+    }
+}
+
+#[derive(Drop)]
+pub struct PrecFile<'a> {
+    pub instance: &'a Instance,
+    pub ghost few: { length instance.now.preds ≤ MAX_BLOCKS },
+}
+
+impl<'a> Text for PrecFile<'a> {
+    ghost text = { λ t. text_prec t.instance.now };
+
+    #[tactic(auto, using(crate::proofs::SectionsWritten::nothing_put), unfolding(crate::specs::Written::text_prec))]
+    fn write<S: Sink>(
+        &self,
+        alloc: Global,
+        sink: &mut S,
+        buffer: &mut Vec<u8>,
+    ) -> Result<(), WriteFault> {
+        let preds = &self.instance.preds;
+        // One more than there are blocks: where the last block's text ends.
+        let texts = IdText::below(alloc, preds.len() + 1)?;
+        let texts = &texts;
+        write_section(alloc, sink, buffer, &PrecLines { preds, texts })
+    }
+}
+
+#[derive(Drop)]
+pub struct UpitFile<'a> {
+    pub instance: &'a Instance,
+    pub ghost some: { All (λ of_block. 0 < length of_block) instance.now.values },
+}
+
+impl<'a> Text for UpitFile<'a> {
+    ghost text = { λ t. text_upit t.instance.now };
+
+    #[tactic(auto, using(crate::proofs::SectionsWritten::nothing_put))]
+    fn write<S: Sink>(
+        &self,
+        alloc: Global,
+        sink: &mut S,
+        buffer: &mut Vec<u8>,
+    ) -> Result<(), WriteFault> {
+        let values = &self.instance.values;
+        put_problem(
+            buffer,
+            &self.instance.name,
+            b"UPIT",
+            self.instance.blocks_len(),
+        )?;
+        write_titled(
+            alloc,
+            sink,
+            buffer,
+            b"OBJECTIVE_FUNCTION:",
+            &GreatestLines { values },
+        )
+    }
+}
+
+#[derive(Drop)]
+pub struct PcpspFile<'a> {
+    pub instance: &'a Instance,
+}
+
+impl<'a> Text for PcpspFile<'a> {
+    ghost text = { λ t. text_pcpsp t.instance.now };
+
+    #[tactic(auto, using(crate::proofs::SectionsWritten::nothing_put))]
+    fn write<S: Sink>(
+        &self,
+        alloc: Global,
+        sink: &mut S,
+        buffer: &mut Vec<u8>,
+    ) -> Result<(), WriteFault> {
+        let instance = self.instance;
+        put_problem(buffer, &instance.name, b"PCPSP", instance.blocks_len())?;
+        put_pcpsp_keys(alloc, buffer, instance)?;
+        write_sections(
+            alloc,
+            sink,
+            buffer,
+            &ValueLines {
+                values: &instance.values,
+            },
+            &CoefLines {
+                coefs: instance.coefs.as_slice(),
+            },
+            &Lines {
+                items: instance.limits.as_slice(),
+            },
+        )
+    }
+}
+
+#[derive(Drop)]
+pub struct CpitFile<'a> {
+    pub cpit: &'a Cpit,
+}
+
+impl<'a> Text for CpitFile<'a> {
+    ghost text = { λ t. text_cpit t.cpit.now };
+
+    #[tactic(auto, using(crate::proofs::SectionsWritten::nothing_put))]
+    fn write<S: Sink>(
+        &self,
+        alloc: Global,
+        sink: &mut S,
+        buffer: &mut Vec<u8>,
+    ) -> Result<(), WriteFault> {
+        let cpit = self.cpit;
+        put_problem(buffer, cpit.name(), b"CPIT", cpit.values().len())?;
+        put_cpit_keys(alloc, buffer, cpit)?;
+        write_sections(
+            alloc,
+            sink,
+            buffer,
+            &Lines {
+                items: cpit.values(),
+            },
+            &CoefLines {
+                coefs: cpit.coefs(),
+            },
+            &Lines {
+                items: cpit.limits(),
+            },
+        )
+    }
+}

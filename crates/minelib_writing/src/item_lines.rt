@@ -1,0 +1,90 @@
+//! The lines of blocks and limits, and of a CPIT's values.
+
+ghost use Rattle.std.specs.Prelude.{◌≡◌, ◌++◌, ◌∷◌, [], ◌*◌, pos, OnOk, decimal};
+ghost use Rattle.pit_units.specs.Decimal.{shortest};
+ghost use Rattle.minelib_lines.specs.Lines.{line_of};
+ghost use Rattle.forms.specs.WrittenValues.{written};
+ghost use Rattle.minelib_lines.specs.LineValues.{bound_values};
+ghost use Rattle.minelib_writing.specs.Written.{block_fields, limit_fields, cpit_value_fields};
+
+use crate::fields::{put_decimal_to, put_text, put_whole_to};
+use crate::lines::Line;
+use pit_model::block::Block;
+use pit_model::limit::{Bound, Limit};
+use pit_units::Dec;
+use std::alloc::{AllocError, Global};
+
+impl Line for Block {
+    ghost fields = { block_fields };
+
+    fn put(&self, alloc: Global, index: usize, out: &mut Vec<u8>) -> Result<(), AllocError> {
+        put_whole_to(out, index as u64, b' ')?;
+        put_place(out, self)?;
+        put_ore(alloc, out, self)?;
+        put_whole_to(out, u64::from(self.zone), b'\n')
+    }
+}
+
+#[inline(always)]
+fn put_place(out: &mut Vec<u8>, block: &Block) -> Result<(), AllocError>
+    ensures { OnOk result (out.new.items ≡ out.old.items
+        ++ ((decimal block.now.x ++ 32 ∷ []) ++ (decimal block.now.y ++ 32 ∷ [])
+        ++ (decimal block.now.z ++ 32 ∷ []))) }
+{
+    put_whole_to(out, u64::from(block.x), b' ')?;
+    put_whole_to(out, u64::from(block.y), b' ')?;
+    put_whole_to(out, u64::from(block.z), b' ')
+}
+
+#[inline(always)]
+fn put_ore(alloc: Global, out: &mut Vec<u8>, block: &Block) -> Result<(), AllocError>
+    ensures { OnOk result (out.new.items ≡ out.old.items
+        ++ ((shortest (pos (block.now.kg * 1000)) ++ 32 ∷ [])
+        ++ (shortest (pos block.now.grade) ++ 32 ∷ []))) }
+{
+    let tonnes = Dec::new(i128::from(block.kg) * 1000).unwrap();
+    let grade = Dec::new(i128::from(block.grade)).unwrap();
+    put_decimal_to(alloc, out, tonnes, b' ')?;
+    put_decimal_to(alloc, out, grade, b' ')
+}
+
+impl Line for Limit {
+    ghost fields = { limit_fields };
+
+    fn put(&self, alloc: Global, _index: usize, out: &mut Vec<u8>) -> Result<(), AllocError> {
+        put_whole_to(out, u64::from(self.resource), b' ')?;
+        put_whole_to(out, u64::from(self.period), b' ')?;
+        put_bound(alloc, out, &self.bound)
+    }
+}
+
+fn put_bound(alloc: Global, out: &mut Vec<u8>, bound: &Bound) -> Result<(), AllocError>
+    ensures { OnOk result (out.new.items
+        ≡ out.old.items ++ (line_of (written (bound_values bound.now)) ++ 10 ∷ [])) }
+{
+    match bound {
+        Bound::AtMost(v) => {
+            put_text(out, b"L", b' ')?;
+            put_decimal_to(alloc, out, *v, b'\n')
+        }
+        Bound::AtLeast(v) => {
+            put_text(out, b"G", b' ')?;
+            put_decimal_to(alloc, out, *v, b'\n')
+        }
+        Bound::Between(v, w) => {
+            put_text(out, b"I", b' ')?;
+            put_decimal_to(alloc, out, *v, b' ')?;
+            put_decimal_to(alloc, out, *w, b'\n')
+        }
+    }
+}
+
+// The one value of a block.
+impl Line for Dec {
+    ghost fields = { cpit_value_fields };
+
+    fn put(&self, alloc: Global, index: usize, out: &mut Vec<u8>) -> Result<(), AllocError> {
+        put_whole_to(out, index as u64, b' ')?;
+        put_decimal_to(alloc, out, *self, b'\n')
+    }
+}

@@ -1,0 +1,16 @@
+//! The five MineLib texts of an instance, written to sinks.
+#![tactic(auto)]
+
+mod block_sections;
+mod coef_lines;
+mod fields;
+mod files;
+mod id_text;
+mod item_lines;
+mod keys;
+mod lines;
+mod schedule;
+mod sections;
+mod writers;
+
+pub use writers::{write_blocks, write_cpit, write_pcpsp, write_prec, write_upit};

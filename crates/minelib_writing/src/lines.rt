@@ -1,0 +1,44 @@
+//! A line for each item of a list.
+
+ghost use Rattle.std.specs.Prelude.{◌≡◌, ◌<◌, ◌++◌, ◌∷◌, [], ℕ, List, length, slice_index_or, OnOk};
+ghost use Rattle.minelib_lines.specs.Lines.{line_of, lines_from};
+
+use crate::sections::Section;
+use std::alloc::{AllocError, Global};
+
+/// An item that is written as a line.
+pub trait Line {
+    ghost fields: { ℕ → Self → List (List ℕ) };
+
+    /// Appends the line of the item, whose place in its list is `index`, with its LF. Where memory is refused a part of it may be
+    /// appended.
+    fn put(&self, alloc: Global, index: usize, out: &mut Vec<u8>) -> Result<(), AllocError>
+        ensures { OnOk result (out.new.items
+            ≡ out.old.items ++ (line_of (fields index self.now) ++ 10 ∷ [])) };
+}
+
+/// A line for each item.
+#[derive(Drop)]
+pub struct Lines<'a, T> {
+    pub items: &'a [T],
+}
+
+impl<'a, T: Line> Section for Lines<'a, T> {
+    ghost lines = { λ s. lines_from T.fields 0 s.items.now };
+
+    fn len(&self) -> usize {
+        self.items.len()
+    }
+
+    fn append(&self, alloc: Global, index: usize, out: &mut Vec<u8>) -> Result<(), AllocError> {
+        item(self.items, index).put(alloc, index, out)
+    }
+}
+
+/// The item at a place.
+pub fn item<T>(items: &[T], index: usize) -> &T
+    requires { index < length items.now }
+    ensures { result.now ≡ slice_index_or items.now index result.now }
+{
+    &items[index]
+}

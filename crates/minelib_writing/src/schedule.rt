@@ -1,0 +1,38 @@
+//! The objective, the coefficients and the limits, each under its section line.
+
+ghost use Rattle.std.specs.Prelude.{IfErr, OnOk};
+ghost use Rattle.minelib_lines.specs.Lines.{text_of};
+ghost use Rattle.text_sinks.specs.SinkSteps.{refusals, IsAppended, IsAppendCut};
+ghost use Rattle.minelib_writing.specs.Written.{section_lines};
+
+use crate::sections::{Section, write_titled};
+use std::alloc::Global;
+use text_sinks::sink::Sink;
+use text_sinks::write_fault::WriteFault;
+
+/// Writes the three sections behind what the buffer holds.
+pub fn write_sections<S: Sink, V: Section, C: Section, L: Section>(
+    alloc: Global,
+    sink: &mut S,
+    buffer: &mut Vec<u8>,
+    values: &V,
+    coefs: &C,
+    limits: &L,
+) -> Result<(), WriteFault>
+    ensures written { OnOk result (IsAppended
+        (text_of (section_lines (V.lines values.now) (C.lines coefs.now) (L.lines limits.now)))
+        buffer.old.items buffer.new.items (S.state sink.old) (S.state sink.new)) }
+    ensures refused { IfErr result (λ fault. IsAppendCut (refusals fault)
+        (text_of (section_lines (V.lines values.now) (C.lines coefs.now) (L.lines limits.now)))
+        buffer.old.items (S.state sink.old) (S.state sink.new)) }
+{
+    write_titled(alloc, sink, buffer, b"OBJECTIVE_FUNCTION:", values)?;
+    write_titled(
+        alloc,
+        sink,
+        buffer,
+        b"RESOURCE_CONSTRAINT_COEFFICIENTS:",
+        coefs,
+    )?;
+    write_titled(alloc, sink, buffer, b"RESOURCE_CONSTRAINT_LIMITS:", limits)
+}

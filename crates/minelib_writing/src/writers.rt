@@ -1,0 +1,92 @@
+//! The writers of the five texts. Each begins the sink and writes one text. Where it is refused, the sink is as it was, or it was begun
+//! and holds the front of the text; after `SinkFailed` it refused one call, and after `OutOfMemory` none.
+
+ghost use Rattle.std.specs.Prelude.{IfErr, OnOk};
+ghost use Rattle.text_sinks.specs.SinkState.{IsWritten, IsCutOff};
+ghost use Rattle.text_sinks.specs.SinkSteps.{refusals};
+ghost use Rattle.minelib_writing.specs.Written.{text_blocks, text_prec, text_upit, text_pcpsp, text_cpit};
+ghost use Rattle.mine_instance.specs.Valid.{IsValid};
+
+use crate::files::{BlockFile, CpitFile, PcpspFile, PrecFile, UpitFile};
+use mine_instance::cpit::Cpit;
+use mine_instance::instance::Instance;
+use std::alloc::Global;
+use text_sinks::sink::Sink;
+use text_sinks::whole_text::write_text;
+use text_sinks::write_fault::WriteFault;
+
+/// Begins the sink and writes the block file: a line for each block, by identifier.
+pub fn write_blocks<S: Sink>(
+    alloc: Global,
+    instance: &Instance,
+    sink: &mut S,
+) -> Result<(), WriteFault>
+    requires { IsValid instance.now }
+    ensures written { OnOk result
+        (IsWritten (text_blocks instance.now) (S.state sink.old) (S.state sink.new)) }
+    ensures refused { IfErr result
+        (λ fault. IsCutOff (refusals fault) (text_blocks instance.now) (S.state sink.old)
+        (S.state sink.new)) }
+{
+    write_text(alloc, &BlockFile { instance }, sink)
+}
+
+/// Begins the sink and writes the precedence file: the predecessors of each block, by identifier.
+pub fn write_prec<S: Sink>(
+    alloc: Global,
+    instance: &Instance,
+    sink: &mut S,
+) -> Result<(), WriteFault>
+    requires { IsValid instance.now }
+    ensures written { OnOk result
+        (IsWritten (text_prec instance.now) (S.state sink.old) (S.state sink.new)) }
+    ensures refused { IfErr result
+        (λ fault. IsCutOff (refusals fault) (text_prec instance.now) (S.state sink.old)
+        (S.state sink.new)) }
+{
+    write_text(alloc, &PrecFile { instance }, sink)
+}
+
+/// Begins the sink and writes the file of the ultimate pit limit problem: the greatest value of each block, in units of 100
+/// cents.
+pub fn write_upit<S: Sink>(
+    alloc: Global,
+    instance: &Instance,
+    sink: &mut S,
+) -> Result<(), WriteFault>
+    requires { IsValid instance.now }
+    ensures written { OnOk result
+        (IsWritten (text_upit instance.now) (S.state sink.old) (S.state sink.new)) }
+    ensures refused { IfErr result
+        (λ fault. IsCutOff (refusals fault) (text_upit instance.now) (S.state sink.old)
+        (S.state sink.new)) }
+{
+    write_text(alloc, &UpitFile { instance }, sink)
+}
+
+/// Begins the sink and writes the file of the production scheduling problem.
+pub fn write_pcpsp<S: Sink>(
+    alloc: Global,
+    instance: &Instance,
+    sink: &mut S,
+) -> Result<(), WriteFault>
+    requires { IsValid instance.now }
+    ensures written { OnOk result
+        (IsWritten (text_pcpsp instance.now) (S.state sink.old) (S.state sink.new)) }
+    ensures refused { IfErr result
+        (λ fault. IsCutOff (refusals fault) (text_pcpsp instance.now) (S.state sink.old)
+        (S.state sink.new)) }
+{
+    write_text(alloc, &PcpspFile { instance }, sink)
+}
+
+/// Begins the sink and writes the file of the constrained pit limit problem.
+pub fn write_cpit<S: Sink>(alloc: Global, cpit: &Cpit, sink: &mut S) -> Result<(), WriteFault>
+    ensures written { OnOk result
+        (IsWritten (text_cpit cpit.now) (S.state sink.old) (S.state sink.new)) }
+    ensures refused { IfErr result
+        (λ fault. IsCutOff (refusals fault) (text_cpit cpit.now) (S.state sink.old)
+        (S.state sink.new)) }
+{
+    write_text(alloc, &CpitFile { cpit }, sink)
+}
