@@ -1,19 +1,31 @@
 -- Blocks are read from their text as they are.
-use Rattle.std.proofs.Common.{◌≡◌, ℕ, ◌*◌, ◌^◌, ◌<◌, ◌≤◌, List, [], ◌∷◌, ◌++◌, length, pos, arith, refl, sym, ◌∙◌, ap}
+use Rattle.std.proofs.Common.{subst, ◌≡◌, ℕ, ◌*◌, ◌^◌, ◌<◌, ◌≤◌, List, [], ◌∷◌, ◌++◌, length, pos, arith, refl, sym, ◌∙◌, ap}
 use Rattle.std.specs.Prelude.{Ok}
+use Rattle.forms.proofs.FormFacts.{spell_written}
 use Rattle.forms.proofs.ShapeFacts.{states_said}
+use Rattle.forms.specs.ShapeStates.{States}
+use Rattle.forms.specs.Spelled.{Spell}
 use Rattle.forms.specs.Steps.{◌>>=◌}
 use Rattle.pit_model.specs.declared.block.Block.{Block}
-use Rattle.minelib_text.specs.BlockLines.{block_shape, blocks_in}
+use Rattle.minelib_reading.specs.BlockLines.{block_form, block_shape, blocks_in}
+use Rattle.minelib_lines.specs.LineValues.{block_values}
+use Rattle.text_lines.specs.TextLines.{fields_of}
 use Rattle.minelib_lines.specs.Lines.{line_of, lines_from, text_of}
-use Rattle.minelib_text.specs.LinesTaken.{admit_block, block_said}
+use Rattle.minelib_reading.specs.LinesTaken.{admit_block, block_said}
 use Rattle.minelib_writing.specs.Written.{block_fields}
-use Rattle.minelib_text.proofs.BlockLineFacts.{block_states}
-use Rattle.minelib_text.proofs.SpelledRead.{blocks_read}
+use Rattle.minelib_reading.proofs.BlockLineFacts.{block_back, block_fits}
+use Rattle.minelib_reading.proofs.SpelledRead.{blocks_read}
 use Rattle.minelib_text.proofs.LinesBack.{AdmitsEach, items_admitted, text_read}
-use Rattle.minelib_text.proofs.NumbersBack.{decimal_field}
+use Rattle.minelib_reading.proofs.FormFields.{decimal_field}
 use Rattle.minelib_text.proofs.Places.{is_place}
-use Rattle.minelib_text.proofs.PlainText.{AreFields, fields_again, fields_line}
+use Rattle.text_lines.proofs.PlainText.{AreFields}
+use Rattle.minelib_text.proofs.PlainLines.{fields_again, fields_line}
+
+-- a line of the fields that are written of a block states it
+block_states : (n : ℕ) (b : Block) (line : List ℕ) → n < 64000000 → fields_of line ≡ block_fields n b → States (block_shape n line) b
+block_states n b line few same =
+    let spelled = spell_written block_form (block_values n b) refl (block_fits n b few) in
+    block_back n b line (subst (λ fields. Spell block_form fields (block_values n b)) (sym same) spelled)
 
 block_line : (n : ℕ) (b : Block) → n < 64000000 → AreFields (block_fields n b)
 block_line n b few =

@@ -5,28 +5,28 @@ use Rattle.std.proofs.Common.{refl, sym, ◌∙◌, ap, subst, arith, length-app
 use Rattle.std.proofs.lemmas.Bool.{cases_Bool}
 use Rattle.std.proofs.lemmas.Int.{ints}
 use Rattle.std.proofs.lemmas.List.Elements.{All-nil, All-cons}
-use Rattle.minelib_text.specs.Kept.{IsDecimal}
+use Rattle.minelib_lines.specs.Kept.{IsDecimal}
 use Rattle.minelib_lines.specs.Lines.{line_of}
-use Rattle.minelib_text.specs.HeaderKeys.{header_keys, with_key, count_in, is_given, is_complete}
-use Rattle.minelib_text.specs.ModelLines.{ModelDraftView, blank_header, is_whole, model_grammar}
-use Rattle.minelib_text.specs.ModelParts.{admit_model}
+use Rattle.minelib_reading.specs.HeaderKeys.{header_keys, with_key, count_in, is_given, is_complete}
+use Rattle.minelib_reading.specs.ModelLines.{ModelDraftView, blank_header, is_whole, model_grammar}
+use Rattle.minelib_reading.specs.ModelParts.{admit_model}
 use Rattle.forms.specs.GrammarStates.{AllState}
-use Rattle.minelib_text.specs.TextLines.{Line}
+use Rattle.text_lines.specs.TextLines.{Line}
 use Rattle.minelib_writing.specs.Written.{value_fields}
-use Rattle.minelib_text.specs.declared.model_key.Header.{Header}
-use Rattle.minelib_text.specs.declared.model_key.HeaderKey.{HeaderKey}
-use Rattle.minelib_text.specs.declared.model_key.HeaderKey.TheVariants as key
+use Rattle.minelib_reading.specs.declared.model_key.Header.{Header}
+use Rattle.minelib_reading.specs.declared.model_key.HeaderKey.{HeaderKey}
+use Rattle.minelib_reading.specs.declared.model_key.HeaderKey.TheVariants as key
 use Rattle.minelib_lines.specs.declared.problem.Problem.{Problem}
 use Rattle.minelib_lines.specs.declared.problem.Problem.TheVariants.{Pcpsp, Cpit}
-use Rattle.minelib_text.specs.declared.model_key.Section.{Section}
-use Rattle.minelib_text.specs.declared.model_key.Section.TheVariants.{Heading, Objective, Coefs, Limits}
-use Rattle.minelib_text.proofs.HeaderFacts.{each_with, each_key, all_given, contains_cases}
+use Rattle.minelib_reading.specs.declared.model_key.Section.{Section}
+use Rattle.minelib_reading.specs.declared.model_key.Section.TheVariants.{Heading, Objective, Coefs, Limits}
+use Rattle.minelib_reading.proofs.HeaderFacts.{each_with, each_key, all_given, contains_cases}
 use Rattle.minelib_text.proofs.ItemsBack.{values_again, values_fields}
 use Rattle.minelib_text.proofs.KeysBack.{IsStep, heading, in_all, section_step, word_field, name_step, type_step, blocks_step, periods_step, destinations_step, resources_step, general_step, rate_step}
 use Rattle.minelib_text.proofs.ModelBack.{item_admitted}
-use Rattle.minelib_text.proofs.ModelShapes.{admitted_states, values_takes}
-use Rattle.minelib_text.proofs.ValidHeader.{KeepsOwn}
-use Rattle.minelib_text.proofs.ValidModel.{KeepsModel, Ready}
+use Rattle.minelib_reading.proofs.ModelShapes.{admitted_states, values_takes}
+use Rattle.minelib_reading.proofs.ValidHeader.{KeepsOwn}
+use Rattle.minelib_reading.proofs.ValidModel.{KeepsModel, Ready}
 
 -- some lines behind what was read make it whole
 pub record Completes (d : ModelDraftView) : Type 0 where

@@ -9,14 +9,14 @@ use Rattle.mine_instance.specs.CpitKept.{IsCpit}
 use Rattle.mine_instance.specs.OfCpit.{without_destination}
 use Rattle.mine_instance.specs.Valid.{AreCoefs}
 use Rattle.mine_instance.specs.declared.cpit.CpitCoef.{CpitCoef}
-use Rattle.minelib_text.specs.Denotes.{cpit_denoted}
-use Rattle.minelib_text.specs.Kept.{IsDecimal, IsKeptCpit}
+use Rattle.minelib_reading.specs.Denotes.{cpit_denoted}
+use Rattle.minelib_lines.specs.Kept.{IsDecimal, IsKeptCpit}
 use Rattle.minelib_lines.specs.Lines.{line_of, lines_from}
-use Rattle.minelib_text.specs.ModelLines.{model_in}
+use Rattle.minelib_reading.specs.ModelLines.{model_in}
 use Rattle.minelib_lines.specs.LineValues.{at_only_destination}
 use Rattle.minelib_writing.specs.Written.{text_cpit, coef_fields, value_fields}
 use Rattle.minelib_lines.specs.declared.problem.Problem.TheVariants.{Cpit}
-use Rattle.minelib_text.specs.declared.model_key.Section.TheVariants.{Limits}
+use Rattle.minelib_reading.specs.declared.model_key.Section.TheVariants.{Limits}
 use Rattle.minelib_text.proofs.NumbersBack.{from_zero}
 use Rattle.minelib_text.proofs.KeysBack.{draft, full_header, cpit_header}
 use Rattle.minelib_text.proofs.ModelBack.{IsModel, model_again}

@@ -6,17 +6,17 @@ use Rattle.forms.specs.Grammar.{read_all}
 use Rattle.forms.specs.GrammarStates.{AllState, IsFirstFault}
 use Rattle.forms.specs.ShapeStates.{Fails}
 use Rattle.forms.specs.Steps.{◌>>=◌}
-use Rattle.minelib_text.specs.ModelLines.{ModelDraftView, blank_model, finish_model, is_whole, model_grammar, model_in, model_line}
-use Rattle.minelib_text.specs.SpelledModel.{BeginModel, EndsEarly, IsFirstSpoiled}
-use Rattle.minelib_text.specs.TextLines.{Line, lines_in, end_of}
+use Rattle.minelib_reading.specs.ModelLines.{ModelDraftView, blank_model, finish_model, is_whole, model_grammar, model_in, model_line}
+use Rattle.minelib_reading.specs.SpelledModel.{BeginModel, EndsEarly, IsFirstSpoiled}
+use Rattle.text_lines.specs.TextLines.{Line, lines_in, end_of}
 use Rattle.minelib_lines.specs.declared.problem.Problem.{Problem}
-use Rattle.minelib_text.specs.declared.text_fault.LineFault.{LineFault}
-use Rattle.minelib_text.specs.declared.text_fault.TextKind.{TextKind}
-use Rattle.minelib_text.specs.declared.text_fault.TextKind.TheVariants.{Missing}
+use Rattle.text_lines.specs.declared.text_fault.LineFault.{LineFault}
+use Rattle.text_lines.specs.declared.text_fault.TextKind.{TextKind}
+use Rattle.text_lines.specs.declared.text_fault.TextKind.TheVariants.{Missing}
 use Rattle.minelib_text.proofs.Completed.{completed}
-use Rattle.minelib_text.proofs.ModelShapes.{all_fine}
-use Rattle.minelib_text.proofs.ReadSteps.{err_same}
-use Rattle.minelib_text.proofs.ValidModel.{model_kept}
+use Rattle.minelib_reading.proofs.ModelShapes.{all_fine}
+use Rattle.text_lines.proofs.ReadSteps.{err_same}
+use Rattle.minelib_reading.proofs.ValidModel.{model_kept}
 
 -- where lines fail
 record Stops (s : ModelDraftView) (lines : List Line) (fault : LineFault) : Type 0 where

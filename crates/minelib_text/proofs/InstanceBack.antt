@@ -3,12 +3,12 @@ use Rattle.std.proofs.Common.{◌≡◌, length, refl}
 use Rattle.std.specs.Prelude.{Ok}
 use Rattle.mine_instance.specs.Valid.{IsValid}
 use Rattle.mine_instance.specs.declared.instance.Instance.{Instance}
-use Rattle.minelib_text.specs.Denotes.{denoted}
-use Rattle.minelib_text.specs.Kept.{IsKept}
-use Rattle.minelib_text.specs.ModelLines.{model_in}
+use Rattle.minelib_reading.specs.Denotes.{denoted}
+use Rattle.minelib_lines.specs.Kept.{IsKept}
+use Rattle.minelib_reading.specs.ModelLines.{model_in}
 use Rattle.minelib_writing.specs.Written.{text_blocks, text_prec, text_pcpsp}
 use Rattle.minelib_lines.specs.declared.problem.Problem.TheVariants.{Pcpsp}
-use Rattle.minelib_text.specs.declared.model_key.Section.TheVariants.{Limits}
+use Rattle.minelib_reading.specs.declared.model_key.Section.TheVariants.{Limits}
 use Rattle.minelib_text.proofs.BlocksBack.{blocks_again}
 use Rattle.minelib_text.proofs.KeysBack.{draft, full_header, pcpsp_header}
 use Rattle.minelib_text.proofs.ModelBack.{IsModel, model_again}

@@ -8,19 +8,19 @@ use Rattle.forms.specs.Fit.{Fit}
 use Rattle.forms.specs.Steps.{◌>>=◌}
 use Rattle.pit_model.specs.declared.limit.Limit.{Limit}
 use Rattle.mine_instance.specs.declared.coef.Coef.{Coef}
-use Rattle.minelib_text.specs.Kept.{IsDecimal, HasDecimals}
-use Rattle.minelib_text.specs.ItemForms.{coef_form, coef_said, limit_form, limit_said, values_form}
-use Rattle.minelib_text.specs.LineKinds.{text_kinds}
-use Rattle.minelib_text.specs.ModelParts.{values_of, values_said, coef_of, limit_of}
+use Rattle.minelib_lines.specs.Kept.{IsDecimal, HasDecimals}
+use Rattle.minelib_reading.specs.ItemForms.{coef_form, coef_said, limit_form, limit_said, values_form}
+use Rattle.text_lines.specs.LineKinds.{text_kinds}
+use Rattle.minelib_reading.specs.ModelParts.{values_of, values_said, coef_of, limit_of}
 use Rattle.minelib_lines.specs.LineValues.{coef_values, limit_values, values_values}
 use Rattle.minelib_writing.specs.Written.{value_fields, coef_fields, limit_fields}
 use Rattle.minelib_lines.specs.declared.problem.Problem.{Problem}
 use Rattle.minelib_lines.specs.declared.problem.Problem.TheVariants.{Pcpsp, Cpit}
-use Rattle.minelib_text.proofs.CoefLineFacts.{HasDestination, coef_fine, coef_fits, coef_plain, said_again as coef_said_again}
-use Rattle.minelib_text.proofs.FormFields.{written_fields}
-use Rattle.minelib_text.proofs.PlainText.{AreFields}
-use Rattle.minelib_text.proofs.ValuesLineFacts.{many_again, many_fine, many_plain, values_fits}
-use Rattle.minelib_text.proofs.LimitLineFacts.{bound_plain, limit_fine, limit_fits, said_again as limit_said_again}
+use Rattle.minelib_reading.proofs.CoefLineFacts.{HasDestination, coef_fine, coef_fits, coef_plain, said_again as coef_said_again}
+use Rattle.minelib_reading.proofs.FormFields.{written_fields}
+use Rattle.text_lines.proofs.PlainText.{AreFields}
+use Rattle.minelib_reading.proofs.ValuesLineFacts.{many_again, many_fine, many_plain, values_fits}
+use Rattle.minelib_reading.proofs.LimitLineFacts.{bound_plain, limit_fine, limit_fits, said_again as limit_said_again}
 
 pub values_again : (n destinations before : ℕ) (values : List ℤ) → n ≤ 64000000 → before < n → length values ≡ destinations → All IsDecimal values
     → values_of n destinations before (value_fields before values) ≡ Ok values

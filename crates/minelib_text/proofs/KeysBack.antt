@@ -12,23 +12,23 @@ use Rattle.mine_instance.specs.Valid.{IsHorizon}
 use Rattle.mine_instance.specs.declared.coef.Coef.{Coef}
 use Rattle.pit_model.specs.declared.limit.Limit.{Limit}
 use Rattle.pit_model.specs.declared.ranges.TheConstants.{MAX_BLOCKS, MAX_DESTINATIONS, MAX_PERIODS, MAX_RESOURCES}
-use Rattle.minelib_text.specs.HeaderKeys.{is_given, with_key}
-use Rattle.minelib_text.specs.ItemForms.{bytes_in}
-use Rattle.minelib_text.specs.KeyFields.{field_of, number_said, type_text}
-use Rattle.minelib_text.specs.LineKinds.{text_kinds}
-use Rattle.minelib_text.specs.ModelLines.{ModelDraftView, blank_model, header_line, is_colon, is_counted, is_next, is_ready, key_in, keyed_line, name_with}
-use Rattle.minelib_text.specs.ModelParts.{admit_model, takes}
-use Rattle.minelib_text.specs.TextLines.{fields_of}
+use Rattle.minelib_reading.specs.HeaderKeys.{is_given, with_key}
+use Rattle.minelib_reading.specs.ItemForms.{bytes_in}
+use Rattle.minelib_reading.specs.KeyFields.{field_of, number_said, type_text}
+use Rattle.text_lines.specs.LineKinds.{text_kinds}
+use Rattle.minelib_reading.specs.ModelLines.{ModelDraftView, blank_model, header_line, is_colon, is_counted, is_next, is_ready, key_in, keyed_line, name_with}
+use Rattle.minelib_reading.specs.ModelParts.{admit_model, takes}
+use Rattle.text_lines.specs.TextLines.{fields_of}
 use Rattle.minelib_writing.specs.Written.{key_line, problem_keys, pcpsp_keys, cpit_keys}
-use Rattle.minelib_text.specs.declared.model_key.Header.{Header}
-use Rattle.minelib_text.specs.declared.model_key.HeaderKey.{HeaderKey}
-use Rattle.minelib_text.specs.declared.model_key.HeaderKey.TheVariants as key
-use Rattle.minelib_text.specs.declared.model_key.ModelKey.{ModelKey}
-use Rattle.minelib_text.specs.declared.model_key.ModelKey.TheVariants as model_key
+use Rattle.minelib_reading.specs.declared.model_key.Header.{Header}
+use Rattle.minelib_reading.specs.declared.model_key.HeaderKey.{HeaderKey}
+use Rattle.minelib_reading.specs.declared.model_key.HeaderKey.TheVariants as key
+use Rattle.minelib_reading.specs.declared.model_key.ModelKey.{ModelKey}
+use Rattle.minelib_reading.specs.declared.model_key.ModelKey.TheVariants as model_key
 use Rattle.minelib_lines.specs.declared.problem.Problem.{Problem}
 use Rattle.minelib_lines.specs.declared.problem.Problem.TheVariants.{Pcpsp, Cpit}
-use Rattle.minelib_text.specs.declared.model_key.Section.{Section}
-use Rattle.minelib_text.specs.declared.model_key.Section.TheVariants.{Heading}
+use Rattle.minelib_reading.specs.declared.model_key.Section.{Section}
+use Rattle.minelib_reading.specs.declared.model_key.Section.TheVariants.{Heading}
 use Rattle.forms.proofs.NumberFields.{quotient, size_fits, whole_fits}
 use Rattle.forms.proofs.FormFacts.{written_read}
 use Rattle.forms.specs.Field.{Value, Bytes, Millionths, whole}
@@ -37,10 +37,13 @@ use Rattle.forms.specs.WrittenValues.{written_value}
 use Rattle.forms.specs.Shape.{failing}
 use Rattle.pit_model.specs.PlanCells.{between}
 use Rattle.pit_units.proofs.Written.{whole_written}
-use Rattle.minelib_text.proofs.ModelShapes.{field_fine, section_takes}
+use Rattle.minelib_reading.proofs.ModelShapes.{field_fine, section_takes}
 use Rattle.minelib_text.proofs.LinesBack.{AdmitsAll, admits_both}
-use Rattle.minelib_text.proofs.NumbersBack.{decimal_field, whole_field, name_field}
-use Rattle.minelib_text.proofs.PlainText.{is_plain, is_inner, plain_inner, plain_no_colon, all_weaker, all_parts, first_read, IsField, IsLine, fields_again}
+use Rattle.minelib_text.proofs.NumbersBack.{whole_field, name_field}
+use Rattle.minelib_reading.proofs.FormFields.{decimal_field}
+use Rattle.text_lines.proofs.PlainText.{is_plain, is_inner, plain_inner, all_weaker, all_parts, first_read, IsField, IsLine}
+use Rattle.minelib_text.proofs.PlainLines.{fields_again}
+use Rattle.minelib_reading.proofs.Keyless.{plain_no_colon}
 
 -- a model line takes what was read before it to what was read with it
 pub record IsStep (before : ModelDraftView) (line : List ℕ) (after : ModelDraftView) : Type 0 where

@@ -6,10 +6,10 @@ use Rattle.std.proofs.lemmas.Bool.{and_parts}
 use Rattle.std.proofs.lemmas.List.{length_push}
 use Rattle.std.proofs.lemmas.List.Sums.{AllPass-from_list_all}
 use Rattle.minelib_lines.specs.Lines.{text_of, line_of, lines_from}
-use Rattle.minelib_text.specs.Reading.{read_lines}
-use Rattle.minelib_text.specs.TextLines.{lines_of, without_cr, without_mark, is_skipped, numbered_lines, lines_in}
-use Rattle.minelib_text.specs.declared.text_fault.TextKind.{TextKind}
-use Rattle.minelib_text.proofs.PlainText.{is_inner, IsLine, not_lf, not_cr, not_mark}
+use Rattle.text_lines.specs.Reading.{read_lines}
+use Rattle.text_lines.specs.TextLines.{lines_of, without_cr, without_mark, is_skipped, numbered_lines, lines_in}
+use Rattle.text_lines.specs.declared.text_fault.TextKind.{TextKind}
+use Rattle.text_lines.proofs.PlainText.{is_inner, IsLine, not_lf, not_cr, not_mark}
 
 first_line : (line rest : List ℕ) → list_all is_inner line ≡ true → lines_of ((line ++ 10 ∷ []) ++ rest) ≡ line ∷ lines_of rest
 first_line [] rest h = refl

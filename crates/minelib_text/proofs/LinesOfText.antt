@@ -3,9 +3,9 @@ use Rattle.std.specs.Prelude.{◌≡◌, ◌≢◌, ℕ, ◌≤◌, true, false,
 use Rattle.std.proofs.Common.{refl, ◌∙◌, ap, arith, ne_eqb, append_assoc}
 use Rattle.std.proofs.lemmas.List.Elements.{All-head, All-tail}
 use Rattle.records.specs.Cells.{is_blank}
-use Rattle.minelib_text.specs.TextParts.{IsLineText, AreBlanks, IsFieldText}
+use Rattle.text_lines.specs.TextParts.{IsLineText, AreBlanks, IsFieldText}
 use Rattle.minelib_lines.specs.Lines.{text_of}
-use Rattle.minelib_text.specs.TextLines.{lines_of, is_ended, fields_of}
+use Rattle.text_lines.specs.TextLines.{lines_of, is_ended, fields_of}
 
 one_line : (line rest : List ℕ) → IsLineText line → lines_of ((line ++ 10 ∷ []) ++ rest) ≡ line ∷ lines_of rest
 one_line [] rest h = refl

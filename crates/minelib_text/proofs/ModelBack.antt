@@ -6,21 +6,22 @@ use Rattle.pit_model.specs.declared.limit.Limit.{Limit}
 use Rattle.mine_instance.specs.Order.{comes_before}
 use Rattle.mine_instance.specs.Valid.{AreCoefs, AreLimits}
 use Rattle.mine_instance.specs.declared.coef.Coef.{Coef}
-use Rattle.minelib_text.specs.Kept.{IsDecimal, HasDecimals}
+use Rattle.minelib_lines.specs.Kept.{IsDecimal, HasDecimals}
 use Rattle.minelib_lines.specs.Lines.{text_of, line_of, lines_from}
-use Rattle.minelib_text.specs.ModelLines.{ModelDraftView, blank_model, finish_model, item_line, model_in}
+use Rattle.minelib_reading.specs.ModelLines.{ModelDraftView, blank_model, finish_model, item_line, model_in}
 use Rattle.forms.specs.Steps.{◌>>=◌}
-use Rattle.minelib_text.specs.TextLines.{end_of, lines_in}
-use Rattle.minelib_text.specs.ModelParts.{admit_model, takes}
+use Rattle.text_lines.specs.TextLines.{end_of, lines_in}
+use Rattle.minelib_reading.specs.ModelParts.{admit_model, takes}
 use Rattle.minelib_writing.specs.Written.{value_fields, coef_fields, limit_fields, section_lines}
 use Rattle.minelib_lines.specs.declared.problem.Problem.{Problem}
-use Rattle.minelib_text.specs.declared.model_key.Section.TheVariants.{Objective, Coefs, Limits}
+use Rattle.minelib_reading.specs.declared.model_key.Section.TheVariants.{Objective, Coefs, Limits}
 use Rattle.minelib_text.proofs.ItemsBack.{values_again, values_fields, IsCount, coef_again, coefs_fields, limit_again, limits_fields}
 use Rattle.minelib_text.proofs.KeysBack.{AreSteps, and_lines, then_lines, draft, heading, full_header, in_all, section_step, word_field}
 use Rattle.minelib_text.proofs.LinesBack.{AdmitsEach, items_admitted, text_read}
-use Rattle.minelib_text.proofs.ModelShapes.{coef_takes, limit_takes, lines_are_all, values_takes}
+use Rattle.minelib_reading.proofs.ModelShapes.{coef_takes, limit_takes, lines_are_all, values_takes}
 use Rattle.minelib_text.proofs.Places.{is_place, item_there, behind_last}
-use Rattle.minelib_text.proofs.PlainText.{AreFields, no_colon, fields_again, fields_line}
+use Rattle.text_lines.proofs.PlainText.{AreFields}
+use Rattle.minelib_text.proofs.PlainLines.{no_colon, fields_again, fields_line}
 
 -- what a model file states is of n blocks, and in order and range
 pub record IsModel (p : Problem) (n periods destinations resources : ℕ) (values : List (List ℤ)) (coefs : List Coef)

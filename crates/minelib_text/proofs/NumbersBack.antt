@@ -6,21 +6,10 @@ use Rattle.std.proofs.lemmas.Bool.{and_parts, leb-true}
 use Rattle.std.proofs.lemmas.Bool.Decides.{nat_tests}
 use Rattle.std.proofs.lemmas.Int.{ints}
 use Rattle.std.proofs.lemmas.List.Elements.{All-head, All-tail}
-use Rattle.std.proofs.lemmas.List.Sums.{list_all-from_AllPass}
 use Rattle.pit_model.specs.Name.{is_name, is_name_byte}
-use Rattle.pit_units.proofs.Written.{shortest_plain, whole_written}
-use Rattle.pit_units.specs.Decimal.{shortest}
-use Rattle.pit_units.specs.Shortest.{IsPlainByte}
-use Rattle.minelib_text.specs.Kept.{IsDecimal}
-use Rattle.minelib_text.proofs.PlainText.{is_plain, all_weaker, IsField, EachField}
-
-pub number_byte : (c : ℕ) → IsPlainByte c → is_plain c ≡ true
-number_byte c h = grind (arith, nat_tests)
-
-pub decimal_field : (z : ℤ) → IsDecimal z → IsField (shortest z)
-decimal_field z most =
-    let plain = shortest_plain z most in
-    record { some = plain.some; bytes = list_all-from_AllPass is_plain (shortest z) (λ k d h. number_byte _ (plain.bytes k d h)) }
+use Rattle.pit_units.proofs.Written.{whole_written}
+use Rattle.minelib_reading.proofs.FormFields.{decimal_field}
+use Rattle.text_lines.proofs.PlainText.{is_plain, all_weaker, IsField, EachField}
 
 pub whole_field : (k : ℕ) → k ≤ 10 ^ 18 → IsField (decimal k)
 whole_field k most = subst IsField (whole_written k) (decimal_field (pos (k * 10 ^ 6)) (omega arith))

@@ -3,7 +3,7 @@ use Rattle.std.proofs.Common.{◌≡◌, ◌-◌, ◌<◌, Bool, true, List, [],
 use Rattle.std.specs.Prelude.{All, AllPairs, IsTrue}
 use Rattle.std.proofs.lemmas.List.{get_or_at, get_or_append_left}
 use Rattle.std.proofs.lemmas.Option.{slice_get-get_or}
-use Rattle.minelib_text.specs.ModelLines.{last_of, is_behind}
+use Rattle.minelib_reading.specs.ModelLines.{last_of, is_behind}
 
 module _ {A : Type 0} (all done : List A) (x : A) (rest : List A) (whole : all ≡ done ++ x ∷ rest) where
   -- its place is the number of those before it

@@ -6,21 +6,36 @@ use Rattle.std.proofs.lemmas.Bool.{eq-eqb, ne_eqb, or_cases, eqb-true}
 use Rattle.std.proofs.lemmas.List.Elements.{All-cons, All-head, All-tail, recursion_from_All}
 use Rattle.std.proofs.lemmas.Map.Keys.{IsDistinct-from_apart}
 use Rattle.std.proofs.lemmas.Map.Steps.{length-le_from_distinct_below}
+use Rattle.forms.proofs.FormFacts.{spell_written}
 use Rattle.forms.proofs.ShapeFacts.{states_said}
+use Rattle.forms.specs.ShapeStates.{States}
+use Rattle.forms.specs.Spelled.{Spell}
 use Rattle.forms.specs.Steps.{◌>>=◌}
 use Rattle.mine_instance.specs.Valid.{ArePredsOf, ArePreds}
 use Rattle.minelib_lines.specs.Lines.{line_of, lines_from, text_of}
-use Rattle.minelib_text.specs.LinesTaken.{admit_preds, no_lists, preds_said}
-use Rattle.minelib_text.specs.PrecLines.{finish_preds, preds_in, preds_shape}
-use Rattle.minelib_text.specs.TextLines.{end_of, fields_of}
+use Rattle.minelib_reading.specs.LinesTaken.{admit_preds, no_lists, preds_said}
+use Rattle.minelib_reading.specs.PrecLines.{finish_preds, preds_form, preds_in, preds_shape}
+use Rattle.minelib_lines.specs.LineValues.{preds_values}
+use Rattle.text_lines.specs.TextLines.{end_of, fields_of}
 use Rattle.minelib_writing.specs.Written.{prec_fields}
 use Rattle.minelib_text.proofs.LinesBack.{AdmitsEach, items_admitted, text_read}
 use Rattle.minelib_text.proofs.NumbersBack.{whole_field, map_fields}
 use Rattle.minelib_text.proofs.Places.{is_place, stands_there}
-use Rattle.minelib_text.proofs.PlainText.{AreFields, fields_again, fields_line}
-use Rattle.minelib_text.proofs.PrecLineFacts.{fine, preds_state}
+use Rattle.text_lines.proofs.PlainText.{AreFields}
+use Rattle.minelib_text.proofs.PlainLines.{fields_again, fields_line}
+use Rattle.minelib_reading.proofs.PrecLineFacts.{fine, preds_back, wholes_fit}
 use Rattle.minelib_writing.proofs.FieldsWritten.{preds_written}
-use Rattle.minelib_text.proofs.SpelledRead.{draft_of, preds_read}
+use Rattle.minelib_reading.proofs.SpelledRead.{draft_of, preds_read}
+
+-- a line of the fields that are written of a block's predecessors states them; they are fewer than blocks
+preds_state : (n own : ℕ) (ids line : List ℕ) → n ≤ 64000000 → own < n → length ids < n → ArePredsOf own n ids
+    → fields_of line ≡ prec_fields own ids → States (preds_shape n own line) ids
+preds_state n own ids line few low fewer are same =
+    let fields = prec_fields own ids in
+    let each = All-cons (λ id. id < n) own (length ids ∷ ids) low (All-cons (λ id. id < n) (length ids) ids fewer are.below) in
+    let fit = wholes_fit n (own ∷ length ids ∷ ids) few each in
+    let spelled = spell_written (preds_form n fields) (preds_values own ids) (fine n fields) fit in
+    preds_back n own line ids (subst (λ fields. Spell (preds_form n fields) fields (preds_values own ids)) (sym same) spelled) are
 
 distinct_cons : (id : ℕ) (ids : List ℕ) → All (λ other. other ≢ id) ids → IsDistinct eqb ids → IsDistinct eqb (id ∷ ids)
 unfolding IsDistinct

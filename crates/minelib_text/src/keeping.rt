@@ -3,7 +3,7 @@
 ghost use Rattle.std.specs.Prelude.{◌≡◌, true, All};
 ghost use Rattle.pit_model.specs.Name.{is_name};
 ghost use Rattle.mine_instance.specs.CpitKept.{IsCpit};
-ghost use Rattle.minelib_text.specs.Kept.{IsDecimal, HasDecimals, IsKept, IsKeptCpit};
+ghost use Rattle.minelib_lines.specs.Kept.{IsDecimal, HasDecimals, IsKept, IsKeptCpit};
 
 use mine_instance::coef::Coef;
 use mine_instance::cpit::{Cpit, CpitCoef};

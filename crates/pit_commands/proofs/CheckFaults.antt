@@ -1,9 +1,9 @@
 -- The faults of a check: which were found, and how they end it.
 use Rattle.std.proofs.Common.{◌≡◌, ◌≢◌, ℕ, List, inl, inr, sym, subst, Err}
-use Rattle.minelib_text.specs.Reading.{Reads}
-use Rattle.minelib_text.specs.declared.text_fault.ReadTextError.{ReadTextError}
-use Rattle.minelib_text.specs.declared.text_fault.ReadTextError.TheVariants as text_error
-use Rattle.minelib_text.specs.declared.text_fault.TextFile.{TextFile}
+use Rattle.text_lines.specs.Reading.{Reads}
+use Rattle.text_lines.specs.declared.text_fault.ReadTextError.{ReadTextError}
+use Rattle.text_lines.specs.declared.text_fault.ReadTextError.TheVariants as text_error
+use Rattle.text_lines.specs.declared.text_fault.TextFile.{TextFile}
 use Rattle.pit_commands.specs.CheckFault.{EndsCheck, IsCheckStatus, IsFaultOf, IsFound, TellsFault, fault_of_text, status_of_fault}
 use Rattle.pit_commands.specs.Counts.{counted}
 use Rattle.pit_commands.specs.declared.check_fault.CheckFault.{CheckFault}

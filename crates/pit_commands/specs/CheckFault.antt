@@ -1,9 +1,9 @@
 -- The faults of a check: the status that a fault ends the program with, and the words that show it.
 use Rattle.std.specs.Prelude.{◌≡◌, ℕ, ◌⊎◌, ◌++◌, List, codes, Err}
-use Rattle.minelib_text.specs.FaultText.{fault_text, file_name}
-use Rattle.minelib_text.specs.declared.text_fault.ReadTextError.{ReadTextError}
-use Rattle.minelib_text.specs.declared.text_fault.ReadTextError.TheVariants as text_error
-use Rattle.minelib_text.specs.declared.text_fault.TextFile.{TextFile}
+use Rattle.text_lines.specs.FaultText.{fault_text, file_name}
+use Rattle.text_lines.specs.declared.text_fault.ReadTextError.{ReadTextError}
+use Rattle.text_lines.specs.declared.text_fault.ReadTextError.TheVariants as text_error
+use Rattle.text_lines.specs.declared.text_fault.TextFile.{TextFile}
 use Rattle.pit_commands.specs.Counts.{counted}
 use Rattle.pit_commands.specs.FaultLine.{EndsWith, line_of}
 use Rattle.pit_commands.specs.declared.check_fault.CheckFault.{CheckFault}

@@ -3,8 +3,8 @@ use Rattle.std.specs.Prelude.{◌≡◌, ℕ, List, [], ◌∷◌, ◌++◌, Vec
 use Rattle.std.specs.Fmt.{decimal}
 use Rattle.std.specs.declared.alloc.Global.{Global}
 use Rattle.forms.specs.Steps.{◌>>=◌}
-use Rattle.minelib_text.specs.Denotes.{cpit_denoted, denoted}
-use Rattle.minelib_text.specs.declared.text_fault.TextFault.{TextFault}
+use Rattle.minelib_reading.specs.Denotes.{cpit_denoted, denoted}
+use Rattle.text_lines.specs.declared.text_fault.TextFault.{TextFault}
 use Rattle.mine_instance.specs.declared.instance.Instance.{Instance}
 use Rattle.pit_commands.specs.declared.counts.Counts.{Counts}
 use Rattle.pit_commands.specs.declared.counts.Texts.{Texts}

@@ -1,7 +1,7 @@
 //! The counts of the texts of an instance.
 
 ghost use Rattle.std.specs.Prelude.{◌≤◌};
-ghost use Rattle.minelib_text.specs.Reading.{Reads};
+ghost use Rattle.text_lines.specs.Reading.{Reads};
 ghost use Rattle.pit_commands.specs.Counts.{counted, cpit_counted};
 ghost use Rattle.pit_model.specs.declared.ranges.TheConstants.{MAX_BLOCKS};
 

@@ -2,8 +2,8 @@
 
 ghost use Rattle.std.specs.Prelude.{◌≡◌, [], ◌∷◌, length, sum_by, Err, IfErr, IfOk, OnOk};
 ghost use Rattle.mine_instance.specs.declared.instance.Instance.{Instance as AnInstance};
-ghost use Rattle.minelib_text.specs.Denotes.{Denotes, denoted};
-ghost use Rattle.minelib_text.specs.Reading.{Reads};
+ghost use Rattle.minelib_reading.specs.Denotes.{Denotes, denoted};
+ghost use Rattle.text_lines.specs.Reading.{Reads};
 ghost use Rattle.minelib_writing.specs.Written.{text_blocks};
 ghost use Rattle.pit_compile.specs.Compiled.{instance_from};
 ghost use Rattle.pit_compile.specs.Verdict.{IsAccepted};

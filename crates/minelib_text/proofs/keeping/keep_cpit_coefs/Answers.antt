@@ -1,5 +1,5 @@
 use Rattle.std.proofs.Common.{rules, arith}
-use Rattle.minelib_text.specs.Kept.{IsDecimal}
+use Rattle.minelib_lines.specs.Kept.{IsDecimal}
 use Rattle.minelib_text.proofs.KeepFacts.{all_next, all_seen}
 use Rattle.minelib_text.proofs.keeping.keep_cpit_coefs.Goals as goal
 

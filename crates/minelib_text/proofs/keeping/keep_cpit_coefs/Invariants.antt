@@ -1,5 +1,5 @@
 use Rattle.std.proofs.Common.{All, take}
-use Rattle.minelib_text.specs.Kept.{IsDecimal}
+use Rattle.minelib_lines.specs.Kept.{IsDecimal}
 use Rattle.minelib_text.proofs.keeping.keep_cpit_coefs.Given as goal
 
 abbrev pub invariant-loop-coef : goal.invariant-loop-coef

@@ -1,5 +1,5 @@
 use Rattle.std.proofs.Common.{All, take}
-use Rattle.minelib_text.specs.Kept.{IsDecimal}
+use Rattle.minelib_lines.specs.Kept.{IsDecimal}
 use Rattle.minelib_text.proofs.keeping.keep_decimals.Given as goal
 
 abbrev pub invariant-loop-number : goal.invariant-loop-number

@@ -1,5 +1,5 @@
 use Rattle.std.proofs.Common.{All, take}
-use Rattle.minelib_text.specs.Kept.{HasDecimals}
+use Rattle.minelib_lines.specs.Kept.{HasDecimals}
 use Rattle.minelib_text.proofs.keeping.keep_limits.Given as goal
 
 abbrev pub invariant-loop-limit : goal.invariant-loop-limit

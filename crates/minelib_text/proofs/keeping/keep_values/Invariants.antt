@@ -1,5 +1,5 @@
 use Rattle.std.proofs.Common.{All, take}
-use Rattle.minelib_text.specs.Kept.{IsDecimal}
+use Rattle.minelib_lines.specs.Kept.{IsDecimal}
 use Rattle.minelib_text.proofs.keeping.keep_values.Given as goal
 
 abbrev pub invariant-loop-block : goal.invariant-loop-block

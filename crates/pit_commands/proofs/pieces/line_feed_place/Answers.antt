@@ -1,5 +1,5 @@
 use Rattle.std.proofs.Common.{sym}
-use Rattle.minelib_text.proofs.Cuts.{byte_placed}
+use Rattle.text_lines.proofs.Cuts.{byte_placed}
 use Rattle.pit_commands.proofs.pieces.line_feed_place.Goals as goal
 
 pub returns : goal.returns

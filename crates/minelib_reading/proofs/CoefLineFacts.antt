@@ -1,0 +1,111 @@
+-- The lines of coefficients: their forms, what their values say, and their fields one by one.
+use Rattle.std.specs.Prelude.{◌≡◌, ℕ, ◌<◌, ◌≤◌, ◌^◌, ◌==◌, not, true, List, length, Result, Ok, Err, if◌then◌else◌}
+use Rattle.std.proofs.Common.{refl, sym, ap, arith}
+use Rattle.forms.proofs.FormFacts.{counted_later, fault_later}
+use Rattle.forms.proofs.NumberFields.{quotient, whole_fits}
+use Rattle.forms.specs.Field.{Value, Millionths, below, whole}
+use Rattle.forms.specs.Fit.{Fit, is_fine}
+use Rattle.forms.specs.Steps.{◌>>=◌}
+use Rattle.mine_instance.specs.declared.coef.Coef.{Coef}
+use Rattle.minelib_lines.specs.Kept.{IsDecimal}
+use Rattle.text_lines.specs.FieldValues.{decimal_in, first_by, whole_in}
+use Rattle.text_lines.specs.LineKinds.{text_kinds}
+use Rattle.text_lines.specs.Uncounted.{kind_by}
+use Rattle.minelib_reading.specs.UncountedItems.{destination_in}
+use Rattle.minelib_lines.specs.declared.problem.Problem.{Problem}
+use Rattle.minelib_lines.specs.declared.problem.Problem.TheVariants.{Pcpsp, Cpit}
+use Rattle.text_lines.specs.declared.text_fault.TextKind.{TextKind}
+use Rattle.text_lines.specs.declared.text_fault.TextKind.TheVariants.{Fields}
+use Rattle.text_lines.proofs.FieldSteps.{last_step, said_of, step, whole_reads}
+use Rattle.minelib_reading.specs.Fields.{any}
+use Rattle.minelib_reading.specs.ItemForms.{coef_form, coef_said}
+use Rattle.minelib_reading.specs.ModelParts.{coef_alone, coef_of}
+use Rattle.minelib_lines.specs.LineValues.{coef_values}
+use Rattle.minelib_reading.proofs.FormFields.{ArePlain, any_fits, any_reads, below_there, fit_at}
+
+pub coef_fine : (problem : Problem) (n destinations resources : ℕ) → is_fine (coef_form problem n destinations resources) ≡ true
+coef_fine Pcpsp n destinations resources = refl
+coef_fine Cpit n destinations resources = refl
+
+pub coef_plain : (problem : Problem) (n destinations resources : ℕ) → ArePlain (coef_form problem n destinations resources)
+coef_plain Pcpsp n destinations resources = tt
+coef_plain Cpit n destinations resources = tt
+
+-- the values of a coefficient in range fit
+pub coef_fits : (problem : Problem) (n destinations resources : ℕ) (c : Coef) → n ≤ 10 ^ 18 → destinations ≤ 10 ^ 18 → resources ≤ 10 ^ 18
+    → (c.b < n) × (c.d < destinations) × (c.r < resources) → IsDecimal c.v → Fit (coef_form problem n destinations resources) (coef_values problem c)
+coef_fits Pcpsp n destinations resources c few some small range decimal = (
+  whole_fits n c.b range.0 few,
+  (whole_fits destinations c.d range.1 some, (whole_fits resources c.r range.2 small, (any_fits c.v decimal, tt))),
+)
+coef_fits Cpit n destinations resources c few some small range decimal =
+    (whole_fits n c.b range.0 few, (whole_fits resources c.r range.2 small, (any_fits c.v decimal, tt)))
+
+-- the destination that no field states is the only one
+abbrev pub HasDestination : Problem → Coef → Type 0
+HasDestination Pcpsp c = Unit {0}
+HasDestination Cpit c = c.d ≡ 0
+
+-- they say the coefficient
+pub said_again : (problem : Problem) (c : Coef) → HasDestination problem c → coef_said problem (coef_values problem c) ≡ c
+said_again Pcpsp c of_it = rw (quotient c.b, quotient c.d, quotient c.r) refl
+said_again Cpit c of_it =
+    let only : 0 ≡ c.d = sym of_it in
+    rw (quotient c.b, quotient c.r) (ap (λ d. record c { d = d }) only)
+
+-- values that fit say a coefficient in range
+pub coef_low : (problem : Problem) (n destinations resources : ℕ) (values : List Value) → (problem ≡ Cpit → destinations ≡ 1)
+    → Fit (coef_form problem n destinations resources) values
+    → ((coef_said problem values).b < n) × ((coef_said problem values).d < destinations) × ((coef_said problem values).r < resources)
+coef_low Pcpsp n destinations resources values one fit =
+    let form = coef_form Pcpsp n destinations resources in (
+      below_there n _ (fit_at form values 0 any (omega arith) fit),
+      below_there destinations _ (fit_at form values 1 any (omega arith) fit),
+      below_there resources _ (fit_at form values 2 any (omega arith) fit),
+    )
+coef_low Cpit n destinations resources values one fit =
+    let form = coef_form Cpit n destinations resources in
+    let single : destinations ≡ 1 = one refl in
+    let first : 0 < destinations = omega arith in (
+      below_there n _ (fit_at form values 0 any (omega arith) fit),
+      first,
+      below_there resources _ (fit_at form values 1 any (omega arith) fit),
+    )
+
+-- the fields one by one, as the code reads them before they are counted
+abbrev pub steps_of : Problem → ℕ → ℕ → ℕ → List (List ℕ) → Result Coef TextKind
+steps_of problem n destinations resources fields =
+    first_by (whole_in n) fields >>= λ b. destination_in problem destinations b.1 >>= λ d. first_by (whole_in resources) d.1
+    >>= λ r. first_by decimal_in r.1
+    >>= λ v. if not (length v.1 == 0) then Err Fields else Ok (record { b = b.0; d = d.0; r = r.0; v = v.0 })
+
+steps_said : (problem : Problem) (n destinations resources : ℕ) (fields : List (List ℕ))
+    → steps_of problem n destinations resources fields
+    ≡ said_of (coef_form problem n destinations resources) fields (λ values. Ok (coef_said problem values))
+steps_said Pcpsp n destinations resources fields =
+    step (below n) _ (whole_in n) whole fields _ _ (whole_reads n) (λ b rest1.
+    step (below destinations) _ (whole_in destinations) whole rest1 _ _ (whole_reads destinations) (λ d rest2.
+    step (below resources) _ (whole_in resources) whole rest2 _ _ (whole_reads resources) (λ r rest3.
+    step any _ decimal_in Millionths rest3 _ _ any_reads (λ v rest4.
+    last_step rest4 _ _ (ap Ok (sym (said_again Pcpsp (record { b = b; d = d; r = r; v = v }) tt)))))))
+steps_said Cpit n destinations resources fields =
+    step (below n) _ (whole_in n) whole fields _ _ (whole_reads n) (λ b rest1.
+    step (below resources) _ (whole_in resources) whole rest1 _ _ (whole_reads resources) (λ r rest2.
+    step any _ decimal_in Millionths rest2 _ _ any_reads (λ v rest3.
+    last_step rest3 _ _ (ap Ok (sym (said_again Cpit (record { b = b; d = 0; r = r; v = v }) refl))))))
+
+pub coef_steps : (problem : Problem) (n destinations resources : ℕ) (fields : List (List ℕ))
+    → coef_alone problem n destinations resources fields ≡ steps_of problem n destinations resources fields
+unfolding coef_alone said_of
+coef_steps problem n destinations resources fields = sym (steps_said problem n destinations resources fields)
+
+pub coef_counted : (problem : Problem) (n destinations resources : ℕ) (fields : List (List ℕ)) (coef : Coef)
+    → coef_alone problem n destinations resources fields ≡ Ok coef → coef_of problem n destinations resources fields ≡ Ok coef
+unfolding coef_alone coef_of
+coef_counted problem n destinations resources fields coef e = counted_later text_kinds (coef_form problem n destinations resources) fields _ coef e
+
+pub coef_kind : (problem : Problem) (n destinations resources : ℕ) (fields : List (List ℕ)) (kind : TextKind)
+    → coef_alone problem n destinations resources fields ≡ Err kind
+    → coef_of problem n destinations resources fields ≡ Err (kind_by (length fields == length (coef_form problem n destinations resources)) kind)
+unfolding coef_alone coef_of
+coef_kind problem n destinations resources fields kind e = fault_later text_kinds (coef_form problem n destinations resources) fields _ kind e

@@ -1,0 +1,124 @@
+-- Decimals of any size and fields of words, beside whole numbers: which values fit them, and that a line of them is of plain fields.
+use Rattle.std.specs.Prelude.{◌≡◌, ℕ, zero, suc, ◌/◌, ◌-◌, ◌^◌, ◌<◌, ◌≤◌, length, slice_index_or, true, false, not, ◌&&◌, List, [], ◌∷◌, ℤ, pos, negsuc, ◌≤ℤ◌, int_le, unsigned_abs, Result, Ok, Err, if◌then◌else◌}
+use Rattle.std.specs.List.{list_all, list_any}
+use Rattle.std.proofs.Common.{refl, sym, subst, arith}
+use Rattle.std.proofs.lemmas.Int.{ints}
+use Rattle.std.proofs.lemmas.List.Sums.{list_all-from_AllPass}
+use Rattle.pit_units.proofs.Standing.{read_stands}
+use Rattle.pit_units.proofs.Written.{shortest_plain}
+use Rattle.pit_units.specs.Decimal.{decimal_of, shortest}
+use Rattle.pit_units.specs.declared.fault.DecFault.{DecFault}
+use Rattle.pit_units.specs.declared.fault.DecFault.TheVariants as dec
+use Rattle.forms.proofs.FormFacts.{read_spelled, true_le}
+use Rattle.forms.proofs.NumberFields.{quotient, whole_found}
+use Rattle.forms.specs.Field.{Field, Decimal, Stepped, Word, Value, Millionths, Bytes, below, millionths, whole}
+use Rattle.forms.specs.Fit.{FitsField, Fit, is_fine}
+use Rattle.forms.specs.Read.{number_of, read}
+use Rattle.forms.specs.Spelled.{Spell}
+use Rattle.forms.specs.WrittenValues.{written}
+use Rattle.forms.specs.Steps.{◌>>=◌}
+use Rattle.text_lines.specs.FieldValues.{decimal_in, stated}
+use Rattle.minelib_lines.specs.Kept.{IsDecimal}
+use Rattle.text_lines.specs.LineKinds.{text_kind, text_kinds}
+use Rattle.minelib_reading.specs.ModelLines.{is_colon}
+use Rattle.text_lines.specs.declared.text_fault.TextKind.TheVariants.{Range}
+use Rattle.text_lines.proofs.FieldSteps.{ReadsField}
+use Rattle.minelib_reading.proofs.Keyless.{have_colon, number_no_colon, plain_no_colon}
+use Rattle.text_lines.proofs.PlainText.{EachField, IsField, all_weaker, is_plain, none_from_all, number_byte}
+use Rattle.minelib_reading.specs.Fields.{any}
+
+-- a written decimal is a field
+pub decimal_field : (z : ℤ) → IsDecimal z → IsField (shortest z)
+decimal_field z most =
+    let plain = shortest_plain z most in
+    record { some = plain.some; bytes = list_all-from_AllPass is_plain (shortest z) (λ k d h. number_byte _ (plain.bytes k d h)) }
+
+lowest : (z : ℤ) → IsDecimal z → negsuc (10 ^ 24 - 1) ≤ℤ z
+lowest (pos m) small = omega (arith, ints)
+lowest (negsuc m) small = omega (arith, ints, small)
+
+highest : (z : ℤ) → IsDecimal z → z ≤ℤ pos (10 ^ 24)
+highest (pos m) small = omega (arith, ints, small)
+highest (negsuc m) small = omega (arith, ints)
+
+pub any_fits : (z : ℤ) → IsDecimal z → FitsField any (Millionths z)
+any_fits z small = (lowest z small, highest z small, small, omega arith)
+
+-- the number of a value that fits
+pub number_there : (decimals low high : ℕ) (value : Value) → FitsField (Decimal decimals (pos low) (pos high)) value
+    → (low ≤ unsigned_abs (millionths value)) × (unsigned_abs (millionths value) ≤ high)
+number_there decimals low high (Millionths (pos m)) fits = (omega (arith, ints, fits.0), omega (arith, ints, fits.1))
+number_there decimals low high (Millionths (negsuc m)) fits = absurd (omega (arith, ints, fits.0))
+number_there decimals low high (Bytes word) fits = absurd fits
+
+pub below_there : (limit : ℕ) (value : Value) → FitsField (below limit) value → unsigned_abs (millionths value) / 10 ^ 6 < limit
+below_there limit value fits =
+    let found = whole_found limit value fits in
+    let low : unsigned_abs (millionths (whole found.n)) / 10 ^ 6 < limit = rw (quotient found.n) found.low in
+    subst (λ v. unsigned_abs (millionths v) / 10 ^ 6 < limit) (sym found.is) low
+
+-- the value at a place fits the field there
+pub fit_at : (form : List Field) (values : List Value) (place : ℕ) (none : Field) → place < length form → Fit form values
+    → FitsField (slice_index_or form place none) (slice_index_or values place (Bytes []))
+fit_at [] values place none inside fit = absurd (omega (arith, inside))
+fit_at (field ∷ form) [] place none inside fit = absurd fit
+fit_at (field ∷ form) (value ∷ values) zero none inside fit = fit.0
+fit_at (field ∷ form) (value ∷ values) (suc place) none inside fit = fit_at form values place none (omega (arith, inside)) fit.1
+
+pub any_reads : ReadsField any decimal_in Millionths
+unfolding decimal_in
+any_reads text = by (decimal_of 6 text) refl
+  where
+    by : (r : Result ℤ DecFault) → decimal_of 6 text ≡ r
+        → (number_of text_kind r >>= λ m. if int_le (negsuc (10 ^ 24 - 1)) m && int_le m (pos (10 ^ 24)) then Ok (Millionths m) else Err Range)
+        ≡ (stated r >>= λ m. Ok (Millionths m))
+    by (Ok m) e =
+        let small : IsDecimal m = (read_stands 6 text m (omega arith) e).in_range in
+        rw (true_le _ m (lowest m small), true_le m _ (highest m small)) refl
+    by (Err dec.Number) e = refl
+    by (Err dec.TooFine) e = refl
+    by (Err dec.Range) e = refl
+
+-- words that are fields of a line
+abbrev pub ArePlain : List Field → Type 0
+ArePlain [] = Unit {0}
+ArePlain (Decimal decimals low high ∷ form) = ArePlain form
+ArePlain (Stepped decimals step low high ∷ form) = ArePlain form
+ArePlain (Word passes ∷ form) = ((word : List ℕ) → passes word ≡ true → IsField word) × ArePlain form
+
+plain_keyless : (bytes : List ℕ) → list_all is_plain bytes ≡ true → list_any is_colon bytes ≡ false
+plain_keyless bytes plain = none_from_all is_colon bytes (all_weaker is_plain (λ c. not (is_colon c)) plain_no_colon bytes plain)
+
+-- what spells such a form has no colon
+pub spelled_keyless : (form : List Field) (fields : List (List ℕ)) (values : List Value) → ArePlain form → Spell form fields values → have_colon fields ≡ false
+spelled_keyless [] [] [] plain spell = refl
+spelled_keyless [] [] (value ∷ values) plain spell = absurd spell
+spelled_keyless [] (text ∷ fields) values plain spell = absurd spell
+spelled_keyless (field ∷ form) [] values plain spell = absurd spell
+spelled_keyless (field ∷ form) (text ∷ fields) [] plain spell = absurd spell
+spelled_keyless (Decimal decimals low high ∷ form) (text ∷ fields) (Millionths m ∷ values) plain spell =
+    rw (number_no_colon decimals text m spell.0.0, spelled_keyless form fields values plain spell.1) refl
+spelled_keyless (Decimal decimals low high ∷ form) (text ∷ fields) (Bytes word ∷ values) plain spell = absurd spell.0
+spelled_keyless (Stepped decimals step low high ∷ form) (text ∷ fields) (Millionths m ∷ values) plain spell =
+    rw (number_no_colon decimals text m spell.0.0, spelled_keyless form fields values plain spell.1) refl
+spelled_keyless (Stepped decimals step low high ∷ form) (text ∷ fields) (Bytes word ∷ values) plain spell = absurd spell.0
+spelled_keyless (Word passes ∷ form) (text ∷ fields) (Millionths m ∷ values) plain spell = absurd spell.0
+spelled_keyless (Word passes ∷ form) (text ∷ fields) (Bytes word ∷ values) plain spell =
+    rw (plain_keyless text (plain.0 text spell.0.1).bytes, spelled_keyless form fields values plain.1 spell.1) refl
+
+pub read_keyless : (form : List Field) (fields : List (List ℕ)) (values : List Value) → is_fine form ≡ true → ArePlain form
+    → read text_kinds form fields ≡ Ok values → have_colon fields ≡ false
+read_keyless form fields values fine plain e = spelled_keyless form fields values plain (read_spelled text_kinds form fields values fine e)
+
+-- and what is written of values that fit it is of fields
+pub written_fields : (form : List Field) (values : List Value) → ArePlain form → Fit form values → EachField (written values)
+written_fields [] [] plain fit = tt
+written_fields [] (value ∷ values) plain fit = absurd fit
+written_fields (field ∷ form) [] plain fit = absurd fit
+written_fields (Decimal decimals low high ∷ form) (Millionths m ∷ values) plain fit = (decimal_field m fit.0.2, written_fields form values plain fit.1)
+written_fields (Decimal decimals low high ∷ form) (Bytes word ∷ values) plain fit = absurd fit.0
+written_fields (Stepped decimals step low high ∷ form) (Millionths m ∷ values) plain fit =
+    (decimal_field m fit.0.0.2, written_fields form values plain fit.1)
+written_fields (Stepped decimals step low high ∷ form) (Bytes word ∷ values) plain fit = absurd fit.0
+written_fields (Word passes ∷ form) (Millionths m ∷ values) plain fit = absurd fit.0
+written_fields (Word passes ∷ form) (Bytes word ∷ values) plain fit = (plain.0 word fit.0, written_fields form values plain.1 fit.1)

@@ -1,0 +1,103 @@
+-- What a header has once a key with a number was added to it, key by key.
+use Rattle.std.specs.Prelude.{◌≡◌, ◌≢◌, ℕ, zero, suc, ◌<◌, ◌==◌, ◌⊎◌, Bool, true, false, List, ◌∷◌, length, map, Option, Some, None, is_some, unwrap_or, slice_index_or, if◌then◌else◌}
+use Rattle.std.specs.List.{Contains, list_all, range_with_len}
+use Rattle.std.proofs.Common.{refl, sym, ◌∙◌, ap, subst, arith, inl, inr, eq-eqb, set, get_or}
+use Rattle.std.proofs.lemmas.Bool.{eqb-true}
+use Rattle.std.proofs.lemmas.List.Elements.{All-contains}
+use Rattle.std.proofs.lemmas.List.FromFn.{fill_by_all}
+use Rattle.std.proofs.lemmas.List.Sums.{AllPass-from_list_all, list_all-from_AllPass}
+use Rattle.minelib_reading.specs.HeaderKeys.{header_keys, place, number_of, with_key, count_in, is_given, is_complete}
+use Rattle.minelib_reading.specs.ModelLines.{blank_header}
+use Rattle.minelib_reading.specs.ModelParts.{number_limit}
+use Rattle.minelib_reading.specs.declared.model_key.Header.{Header}
+use Rattle.minelib_reading.specs.declared.model_key.HeaderKey.{HeaderKey}
+use Rattle.minelib_reading.specs.declared.model_key.HeaderKey.TheVariants as key
+use Rattle.minelib_lines.specs.declared.problem.Problem.{Problem}
+use Rattle.minelib_lines.specs.declared.problem.Problem.TheVariants.{Pcpsp, Cpit}
+
+-- what holds of each key
+pub of_keys : (P : HeaderKey → Type 0) → P key.Name → P key.Type → P key.Blocks → P key.Periods → P key.Destinations → P key.Resources
+    → P key.General → P key.Rate → (k : HeaderKey) → P k
+of_keys P name type blocks periods destinations resources general rate key.Name = name
+of_keys P name type blocks periods destinations resources general rate key.Type = type
+of_keys P name type blocks periods destinations resources general rate key.Blocks = blocks
+of_keys P name type blocks periods destinations resources general rate key.Periods = periods
+of_keys P name type blocks periods destinations resources general rate key.Destinations = destinations
+of_keys P name type blocks periods destinations resources general rate key.Resources = resources
+of_keys P name type blocks periods destinations resources general rate key.General = general
+of_keys P name type blocks periods destinations resources general rate key.Rate = rate
+
+-- the key at a place
+abbrev key_at : ℕ → HeaderKey
+key_at i = slice_index_or header_keys i key.Name
+
+key_there : (k : HeaderKey) → key_at (place k) ≡ k
+key_there = of_keys (λ k. key_at (place k) ≡ k) refl refl refl refl refl refl refl refl
+
+one_place : (j k : HeaderKey) → place j ≡ place k → j ≡ k
+one_place j k same = sym (key_there j) ∙ ap key_at same ∙ key_there k
+
+-- the number of each key behind another
+entry : (h : Header) (k : HeaderKey) (n : ℕ) (j : HeaderKey)
+    → number_of (with_key h k n) j ≡ (if place j == place k then Some n else number_of h j)
+unfolding with_key
+entry h k n =
+    of_keys (λ j. number_of (with_key h k n) j ≡ (if place j == place k then Some n else number_of h j)) refl refl refl refl refl refl refl refl
+
+-- what holds of a new number and of what was there for each other key holds of each key
+pub each_with : (P : HeaderKey → Option ℕ → Type 0) (h : Header) (k : HeaderKey) (n : ℕ) → P k (Some n)
+    → ((j : HeaderKey) → k ≢ j → P j (number_of h j)) → (j : HeaderKey) → P j (number_of (with_key h k n) j)
+each_with P h k n here others j = subst (P j) (sym (entry h k n j)) (by (place j == place k) refl)
+  where
+    by : (t : Bool) → (place j == place k) ≡ t → P j (if t then Some n else number_of h j)
+    by true e = subst (λ i. P i (Some n)) (one_place k j (sym (eqb-true (place j) (place k) e))) here
+    by false e = others j (λ same.
+        (let there : (place j == place k) ≡ true = eq-eqb (place j) (place k) (ap (λ i. place i) (sym same)) in absurd cc))
+
+-- numbers below the limits of their keys
+pub numbers_below : (h : Header) (k : HeaderKey) (n : ℕ) → n < number_limit k → ((j : HeaderKey) → count_in h j < number_limit j)
+    → (j : HeaderKey) → count_in (with_key h k n) j < number_limit j
+numbers_below h k n here were = each_with (λ j number. unwrap_or number 0 < number_limit j) h k n here (λ j _. were j)
+
+pub blank_below : (problem : Problem) (k : HeaderKey) → count_in (blank_header problem) k < number_limit k
+unfolding with_key
+blank_below Pcpsp key.Name = omega arith
+blank_below Pcpsp k = omega arith
+blank_below Cpit key.Name = omega arith
+blank_below Cpit k = omega arith
+
+-- an array with another number at the place of a key
+pub key_set : (xs : List (Option ℕ)) (k : HeaderKey) (n : ℕ) → length xs ≡ 8
+    → record { numbers = set xs (place k) (Some n) } ≡ with_key (record { numbers = xs }) k n
+unfolding with_key
+key_set xs k n count =
+    ap (λ numbers. record { numbers = numbers })
+    (ap (λ ys. set ys (place k) (Some n)) (fill_by_all at xs 8 None count (λ i h. refl))
+    ∙ of_keys (λ k. set (map at (range_with_len 0 8)) (place k) (Some n) ≡ (with_key (record { numbers = xs }) k n).numbers)
+    refl refl refl refl refl refl refl refl k)
+  where
+    at : ℕ → Option ℕ
+    at i = get_or xs i None
+
+-- all keys stood where all of their numbers are there
+pub all_numbers : (xs : List (Option ℕ)) → length xs ≡ 8
+    → list_all (λ number. is_some number) xs ≡ is_complete (record { numbers = xs })
+all_numbers xs count = ap (λ ys. list_all (λ number. is_some number) ys) (fill_by_all (λ i. get_or xs i None) xs 8 None count (λ i h. refl))
+
+-- each key is among all
+pub each_key : (k : HeaderKey) → Contains header_keys k
+each_key = of_keys (Contains header_keys) (0, omega arith, refl) (1, omega arith, refl) (2, omega arith, refl) (3, omega arith, refl)
+    (4, omega arith, refl) (5, omega arith, refl) (6, omega arith, refl) (7, omega arith, refl)
+
+-- a header with all keys has each
+pub each_given : (h : Header) → is_complete h ≡ true → (k : HeaderKey) → is_given k h ≡ true
+each_given h all k =
+    All-contains (λ j. is_given j h ≡ true) header_keys k (AllPass-from_list_all (λ j. is_given j h) header_keys all) (each_key k)
+
+pub all_given : (h : Header) → ((k : HeaderKey) → is_given k h ≡ true) → is_complete h ≡ true
+all_given h all = list_all-from_AllPass (λ k. is_given k h) header_keys (λ i d inside. all (get_or header_keys i d))
+
+pub contains_cases : (k : HeaderKey) (keys : List HeaderKey) (j : HeaderKey) (i : ℕ) → i < length (k ∷ keys) → slice_index_or (k ∷ keys) i j ≡ j
+    → (k ≡ j) ⊎ Contains keys j
+contains_cases k keys j zero inside is = inl is
+contains_cases k keys j (suc i) inside is = inr (i, omega arith, is)

@@ -1,0 +1,89 @@
+-- A line whose fields have no colon has none.
+use Rattle.std.specs.Prelude.{◌≡◌, ℕ, Bool, true, false, not, List, [], ◌∷◌, ◌++◌, ℤ, if◌then◌else◌, ◌⊎◌}
+use Rattle.std.specs.Char.{is_ascii_digit}
+use Rattle.std.specs.List.{list_any}
+use Rattle.std.proofs.Common.{refl, arith, inl, inr}
+use Rattle.std.proofs.lemmas.Bool.{and_parts, or_parts}
+use Rattle.std.proofs.lemmas.Bool.Decides.{nat_tests}
+use Rattle.std.proofs.lemmas.List.Folds.{list_any-append}
+use Rattle.pit_units.specs.Decimal.{all_digits, StandsFor}
+use Rattle.records.specs.Cells.{is_blank}
+use Rattle.minelib_reading.specs.ModelLines.{is_colon}
+use Rattle.text_lines.specs.TextLines.{fields_of, is_ended, onto_first}
+use Rattle.text_lines.proofs.PlainText.{is_plain}
+
+-- a colon stands in some field
+abbrev pub have_colon : List (List ℕ) → Bool
+have_colon fields = list_any (list_any is_colon) fields
+
+-- no plain byte is one
+pub plain_no_colon : (c : ℕ) → is_plain c ≡ true → not (is_colon c) ≡ true
+plain_no_colon c h = grind (arith, nat_tests)
+
+blank_no_colon : (b : ℕ) → is_blank b ≡ true → is_colon b ≡ false
+blank_no_colon b h = grind (arith, nat_tests)
+
+digit_no_colon : (b : ℕ) → is_ascii_digit b ≡ true → is_colon b ≡ false
+digit_no_colon b h = grind (arith, nat_tests)
+
+onto_none : (b : ℕ) (fields : List (List ℕ)) → have_colon (onto_first b fields) ≡ false → (is_colon b ≡ false) × (have_colon fields ≡ false)
+onto_none b [] h =
+    let parts = or_parts (list_any is_colon (b ∷ [])) false h in
+    ((or_parts (is_colon b) false parts.0).0, refl)
+onto_none b (field ∷ fields) h =
+    let parts = or_parts (list_any is_colon (b ∷ field)) (have_colon fields) h in
+    let inner = or_parts (is_colon b) (list_any is_colon field) parts.0 in
+    (inner.0, rw (inner.1, parts.1) refl)
+
+pub keyless : (line : List ℕ) → have_colon (fields_of line) ≡ false → list_any is_colon line ≡ false
+keyless [] h = refl
+keyless (b ∷ bytes) h = by (λ none. keyless bytes none) (is_blank b) refl h
+  where
+    rest : Bool → List (List ℕ)
+    rest ended = if ended then (b ∷ []) ∷ fields_of bytes else onto_first b (fields_of bytes)
+
+    by_end : (ended : Bool) → have_colon (rest ended) ≡ false → (is_colon b ≡ false) × (have_colon (fields_of bytes) ≡ false)
+    by_end true none =
+        let parts = or_parts (list_any is_colon (b ∷ [])) (have_colon (fields_of bytes)) none in
+        ((or_parts (is_colon b) false parts.0).0, parts.1)
+    by_end false none = onto_none b (fields_of bytes) none
+
+    by : (have_colon (fields_of bytes) ≡ false → list_any is_colon bytes ≡ false) → (t : Bool) → is_blank b ≡ t
+        → have_colon (if t then fields_of bytes else rest (is_ended bytes)) ≡ false → list_any is_colon (b ∷ bytes) ≡ false
+    by deeper true blank none = rw (blank_no_colon b blank, deeper none) refl
+    by deeper false blank none = let parts = by_end (is_ended bytes) none in rw (parts.0, deeper parts.1) refl
+
+digits_no_colon : (bytes : List ℕ) → all_digits bytes ≡ true → list_any is_colon bytes ≡ false
+digits_no_colon [] h = refl
+digits_no_colon (b ∷ bytes) h =
+    let parts = and_parts (is_ascii_digit b) (all_digits bytes) h in
+    rw (digit_no_colon b parts.0, digits_no_colon bytes parts.1) refl
+
+sign_no_colon : (sign : List ℕ) → (sign ≡ []) ⊎ ((sign ≡ 43 ∷ []) ⊎ (sign ≡ 45 ∷ [])) → list_any is_colon sign ≡ false
+sign_no_colon sign s = elim s [
+  | inl none ↦ rw none refl
+  | inr some ↦ elim some [
+    | inl plus ↦ rw plus refl
+    | inr minus ↦ rw minus refl
+  ]
+]
+
+tail_no_colon : (tail fraction : List ℕ) → ((tail ≡ []) × (fraction ≡ [])) ⊎ (tail ≡ 46 ∷ fraction) → all_digits fraction ≡ true
+    → list_any is_colon tail ≡ false
+tail_no_colon tail fraction point digits = elim point [
+  | inl none ↦ rw (none.0) refl
+  | inr some ↦ rw some (digits_no_colon fraction digits)
+]
+
+-- a decimal text has no colon
+pub number_no_colon : (max : ℕ) (field : List ℕ) (m : ℤ) → StandsFor max field m → list_any is_colon field ≡ false
+number_no_colon max field m s =
+    let p = s.spelled in
+    rw (
+      p.joined,
+      list_any-append is_colon s.sign (s.whole ++ s.tail),
+      list_any-append is_colon s.whole s.tail,
+      sign_no_colon s.sign p.signs,
+      digits_no_colon s.whole p.whole_digits,
+      tail_no_colon s.tail s.fraction p.point p.fraction_digits,
+    ) refl

@@ -1,0 +1,157 @@
+-- The lines of limits: their forms, what their values say, and their fields one by one.
+use Rattle.std.specs.Prelude.{◌≡◌, ℕ, ◌<◌, ◌≤◌, ◌^◌, ◌==◌, ◌||◌, not, Bool, true, false, List, [], ◌∷◌, length, ℤ, slice_index_or, codes, Result, Ok, Err, if◌then◌else◌}
+use Rattle.std.specs.List.{list_any}
+use Rattle.std.specs.Str.{bytes_eq}
+use Rattle.std.proofs.Common.{refl, sym, subst, arith}
+use Rattle.std.proofs.lemmas.Bool.{eqb-true}
+use Rattle.std.proofs.lemmas.Slice.Eq.{bytes_eq-Decides}
+use Rattle.forms.proofs.NumberFields.{quotient, whole_fits}
+use Rattle.forms.specs.Field.{Value, below, whole}
+use Rattle.forms.specs.Fit.{Fit, is_fine}
+use Rattle.forms.specs.Read.{read_fields}
+use Rattle.forms.specs.WrittenValues.{written}
+use Rattle.forms.specs.Steps.{◌>>=◌}
+use Rattle.pit_model.specs.declared.limit.Bound.{Bound}
+use Rattle.pit_model.specs.declared.limit.Bound.TheVariants.{AtMost, AtLeast, Between}
+use Rattle.pit_model.specs.declared.limit.Limit.{Limit}
+use Rattle.text_lines.specs.FieldValues.{decimal_in, first_by, whole_in}
+use Rattle.minelib_lines.specs.Kept.{HasDecimals}
+use Rattle.text_lines.specs.LineKinds.{text_kinds}
+use Rattle.minelib_reading.specs.Fields.{any}
+use Rattle.minelib_reading.specs.ModelParts.{limit_of}
+use Rattle.minelib_reading.specs.UncountedItems.{bound_in, limit_width}
+use Rattle.text_lines.specs.declared.text_fault.TextKind.{TextKind}
+use Rattle.text_lines.specs.declared.text_fault.TextKind.TheVariants.{Fields}
+use Rattle.text_lines.proofs.FieldSteps.{first_step, said_of, whole_reads}
+use Rattle.minelib_reading.proofs.FormFields.{ArePlain, any_fits, any_reads, below_there, fit_at}
+use Rattle.text_lines.proofs.PlainText.{IsField}
+use Rattle.minelib_reading.specs.ItemForms.{bound_form, limit_form, limit_said}
+use Rattle.minelib_lines.specs.LineValues.{bound_values, limit_values}
+
+pub bound_fine : (t : Bool) → is_fine (bound_form t) ≡ true
+bound_fine true = refl
+bound_fine false = refl
+
+pub limit_fine : (resources periods : ℕ) (fields : List (List ℕ)) → is_fine (limit_form resources periods fields) ≡ true
+limit_fine resources periods fields = bound_fine (bytes_eq (slice_index_or fields 2 []) (codes "I"))
+
+-- a letter that is one of one, or of two
+the_letter : (word letter : List ℕ) → list_any (bytes_eq word) (letter ∷ []) ≡ true → word ≡ letter
+the_letter word letter passes = by (bytes_eq word letter) refl passes
+  where
+    by : (t : Bool) → bytes_eq word letter ≡ t → (t || false) ≡ true → word ≡ letter
+    by true e is = (bytes_eq-Decides word letter).0 e
+    by false e is = absurd cc
+
+data Either (word one other : List ℕ) : Type 0 where
+  First : (is : word ≡ one) → Either word one other
+  Second : (is : word ≡ other) → Either word one other
+
+either : (word one other : List ℕ) → list_any (bytes_eq word) (one ∷ other ∷ []) ≡ true → Either word one other
+either word one other passes = by (bytes_eq word one) refl passes
+  where
+    by : (t : Bool) → bytes_eq word one ≡ t → (t || list_any (bytes_eq word) (other ∷ [])) ≡ true → Either word one other
+    by true e is = First ((bytes_eq-Decides word one).0 e)
+    by false e is = Second (the_letter word other is)
+
+pub bound_plain : (t : Bool) → ArePlain (bound_form t)
+bound_plain true = ((λ word passes. subst IsField (sym (the_letter word (codes "I") passes)) (record { some = omega arith; bytes = refl })), tt)
+bound_plain false = ((λ word passes. of (either word (codes "L") (codes "G") passes)), tt)
+  where
+    of : {word : List ℕ} → Either word (codes "L") (codes "G") → IsField word
+    of (First is) = subst IsField (sym is) (record { some = omega arith; bytes = refl })
+    of (Second is) = subst IsField (sym is) (record { some = omega arith; bytes = refl })
+
+-- the values say the limit again
+pub said_again : (resource period : ℕ) (bound : Bound)
+    → limit_said (limit_values (record { resource = resource; period = period; bound = bound })) ≡ record { resource = resource; period = period; bound = bound }
+said_again resource period (AtMost v) = rw (quotient resource, quotient period) refl
+said_again resource period (AtLeast v) = rw (quotient resource, quotient period) refl
+said_again resource period (Between v w) = rw (quotient resource, quotient period) refl
+
+-- the values of a limit in range fit, and are in range where they fit
+pub limit_fits : (n resources periods : ℕ) (l : Limit) → resources ≤ 10 ^ 18 → periods ≤ 10 ^ 18 → l.resource < resources → l.period < periods
+    → HasDecimals l.bound → Fit (limit_form resources periods (written (limit_values l))) (limit_values l)
+limit_fits n resources periods l few short low_r low_t decimals =
+    (whole_fits resources l.resource low_r few, (whole_fits periods l.period low_t short, of l.bound decimals))
+  where
+    of : (bound : Bound) → HasDecimals bound
+        → Fit (bound_form (bytes_eq (slice_index_or (written (bound_values bound)) 0 []) (codes "I"))) (bound_values bound)
+    of (AtMost v) decimals = (refl, (any_fits v decimals, tt))
+    of (AtLeast v) decimals = (refl, (any_fits v decimals, tt))
+    of (Between v w) decimals = (refl, (any_fits v decimals.0, (any_fits w decimals.1, tt)))
+
+pub limit_low : (resources periods : ℕ) (fields : List (List ℕ)) (values : List Value) → Fit (limit_form resources periods fields) values
+    → ((limit_said values).resource < resources) × ((limit_said values).period < periods)
+limit_low resources periods fields values fit =
+    let form = limit_form resources periods fields in
+    (below_there resources _ (fit_at form values 0 any (omega arith) fit), below_there periods _ (fit_at form values 1 any (omega arith) fit))
+
+-- the bound's fields one by one, where there are as many as there have to be
+abbrev BoundMet : Bool → ℕ → ℕ → List (List ℕ) → Type 0
+BoundMet interval r t rest =
+    (bound_in rest >>= λ bound. Ok (record { resource = r; period = t; bound = bound }))
+    ≡ said_of (bound_form interval) rest (λ values. Ok (limit_said (whole r ∷ whole t ∷ values)))
+
+bound_met : (interval : Bool) (r t : ℕ) (rest : List (List ℕ)) → bytes_eq (slice_index_or rest 0 []) (codes "I") ≡ interval
+    → length rest ≡ length (bound_form interval) → BoundMet interval r t rest
+unfolding said_of
+bound_met true r t (letter ∷ v ∷ w ∷ []) is count =
+    let same : codes "I" ≡ letter = sym ((bytes_eq-Decides letter (codes "I")).0 is) in
+    subst (λ l. BoundMet true r t (l ∷ v ∷ w ∷ [])) same (by (decimal_in v) (decimal_in w) refl refl)
+  where
+    by : (y z : Result ℤ TextKind) → decimal_in v ≡ y → decimal_in w ≡ z → BoundMet true r t (codes "I" ∷ v ∷ w ∷ [])
+    by (Ok y) (Ok z) e f = rw (any_reads v, e, any_reads w, f, quotient r, quotient t) refl
+    by (Ok y) (Err kind) e f = rw (any_reads v, e, any_reads w, f) refl
+    by (Err kind) z e f = rw (any_reads v, e) refl
+bound_met false r t (letter ∷ v ∷ []) is count =
+    by (decimal_in v) (bytes_eq letter (codes "L")) (bytes_eq letter (codes "G")) refl refl refl
+  where
+    by : (z : Result ℤ TextKind) (l g : Bool) → decimal_in v ≡ z → bytes_eq letter (codes "L") ≡ l → bytes_eq letter (codes "G") ≡ g
+        → BoundMet false r t (letter ∷ v ∷ [])
+    by (Ok z) true g e is_l is_g = rw (is_l, any_reads v, e, quotient r, quotient t, is_l) refl
+    by (Err kind) true g e is_l is_g = rw (is_l, any_reads v, e) refl
+    by (Ok z) false true e is_l is_g = rw (is_l, is_g, any_reads v, e, quotient r, quotient t, is_l, is_g) refl
+    by (Err kind) false true e is_l is_g = rw (is_l, is_g, any_reads v, e) refl
+    by z false false e is_l is_g = rw (is_l, is_g, is) refl
+bound_met true r t [] is count = absurd (omega (arith, count))
+bound_met true r t (a ∷ []) is count = absurd (omega (arith, count))
+bound_met true r t (a ∷ b ∷ []) is count = absurd (omega (arith, count))
+bound_met true r t (a ∷ b ∷ c ∷ d ∷ more) is count = absurd (omega (arith, count))
+bound_met false r t [] is count = absurd (omega (arith, count))
+bound_met false r t (a ∷ []) is count = absurd (omega (arith, count))
+bound_met false r t (a ∷ b ∷ c ∷ more) is count = absurd (omega (arith, count))
+
+-- the fields are read one by one once they are counted
+pub limit_same : (resources periods : ℕ) (fields : List (List ℕ))
+    → limit_of resources periods fields
+    ≡ (if not (length fields == limit_width fields) then Err Fields
+    else (first_by (whole_in resources) fields >>= λ r. first_by (whole_in periods) r.1 >>= λ t. bound_in t.1
+    >>= λ bound. Ok (record { resource = r.0; period = t.0; bound = bound })))
+unfolding limit_of said_of
+limit_same resources periods [] = refl
+limit_same resources periods (r ∷ []) = refl
+limit_same resources periods (r ∷ t ∷ rest) = by (bytes_eq (slice_index_or rest 0 []) (codes "I")) refl
+  where
+    tested : (interval : Bool) → bytes_eq (slice_index_or rest 0 []) (codes "I") ≡ interval → (counted : Bool)
+        → (counted ≡ true → length rest ≡ length (bound_form interval))
+        → ((if not counted then Err Fields else read_fields text_kinds (below resources ∷ below periods ∷ bound_form interval) (r ∷ t ∷ rest))
+        >>= λ values. Ok (limit_said values))
+        ≡ (if not counted then Err Fields
+        else (first_by (whole_in resources) (r ∷ t ∷ rest) >>= λ r. first_by (whole_in periods) r.1 >>= λ t. bound_in t.1
+        >>= λ bound. Ok (record { resource = r.0; period = t.0; bound = bound })))
+    tested interval e false count = refl
+    tested interval e true count =
+        sym (first_step (below resources) (below periods ∷ bound_form interval) (whole_in resources) whole r (t ∷ rest) _ _ (whole_reads resources) (λ a.
+        first_step (below periods) (bound_form interval) (whole_in periods) whole t rest _ _ (whole_reads periods) (λ b.
+        bound_met interval a b rest e (count refl))))
+
+    by : (interval : Bool) → bytes_eq (slice_index_or rest 0 []) (codes "I") ≡ interval
+        → limit_of resources periods (r ∷ t ∷ rest)
+        ≡ (if not (length (r ∷ t ∷ rest) == limit_width (r ∷ t ∷ rest)) then Err Fields
+        else (first_by (whole_in resources) (r ∷ t ∷ rest) >>= λ r. first_by (whole_in periods) r.1 >>= λ t. bound_in t.1
+        >>= λ bound. Ok (record { resource = r.0; period = t.0; bound = bound })))
+    by true e =
+        rw e (tested true e (length (r ∷ t ∷ rest) == 5) (λ c. (let all = eqb-true (length (r ∷ t ∷ rest)) 5 c in omega (arith, all))))
+    by false e =
+        rw e (tested false e (length (r ∷ t ∷ rest) == 4) (λ c. (let all = eqb-true (length (r ∷ t ∷ rest)) 4 c in omega (arith, all))))

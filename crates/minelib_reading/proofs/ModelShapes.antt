@@ -1,0 +1,265 @@
+-- The shapes of a model file's lines: each is what its parts are, read one by one, and no number of a form has more than six decimals.
+use Rattle.std.specs.Prelude.{◌≡◌, ℕ, suc, ◌==◌, ◌&&◌, ◌||◌, not, Bool, true, false, List, [], ◌∷◌, ◌++◌, length, Option, Some, None, unsigned_abs, Result, Ok, Err, if◌then◌else◌}
+use Rattle.std.specs.List.{list_any, before_first, after_first}
+use Rattle.std.proofs.Common.{refl, arith}
+use Rattle.std.proofs.lemmas.Bool.{ne_eqb}
+use Rattle.forms.proofs.ShapeFacts.{said_states}
+use Rattle.forms.specs.Field.{Value, Bytes, millionths, whole_at}
+use Rattle.forms.specs.Fit.{is_fine}
+use Rattle.forms.specs.Read.{read, read_field}
+use Rattle.forms.specs.Grammar.{HasFineForms, placed, read_all}
+use Rattle.forms.specs.Shape.{Shape, check, failing, unless}
+use Rattle.forms.specs.ShapeStates.{States}
+use Rattle.forms.specs.Steps.{◌>>=◌}
+use Rattle.pit_model.specs.Name.{is_name}
+use Rattle.pit_model.specs.PlanKept.{is_turned, stands_before}
+use Rattle.mine_instance.specs.Order.{comes_before}
+use Rattle.minelib_reading.specs.HeaderKeys.{count_in, is_given, with_key}
+use Rattle.minelib_reading.specs.ItemForms.{bytes_in, coef_form, coef_said, limit_form, limit_said, row_said, values_form}
+use Rattle.minelib_reading.specs.KeyFields.{field_of, number_said, whole_of}
+use Rattle.text_lines.specs.LineKinds.{text_kind, text_kinds}
+use Rattle.minelib_reading.specs.ModelLines.{ModelDraftView, coef_line, first_of, header_line, is_behind, is_colon, is_counted, is_heading, is_next, is_ready, item_line, key_of, keyed_line, last_of, limit_line, model_grammar, model_line, name_with, section_line, stray_line, values_line}
+use Rattle.minelib_reading.specs.ModelParts.{admit_model, coef_of, limit_of, number_in, number_with, only_value, takes, values_of, values_said}
+use Rattle.text_lines.specs.Reading.{at_line, read_lines}
+use Rattle.text_lines.specs.TextLines.{Line, fields_of}
+use Rattle.minelib_reading.specs.declared.model_key.HeaderKey.{HeaderKey}
+use Rattle.minelib_reading.specs.declared.model_key.HeaderKey.TheVariants as key
+use Rattle.minelib_reading.specs.declared.model_key.ModelKey.{ModelKey}
+use Rattle.minelib_reading.specs.declared.model_key.ModelKey.TheVariants as model_key
+use Rattle.minelib_lines.specs.declared.problem.Problem.{Problem}
+use Rattle.minelib_reading.specs.declared.model_key.Section.{Section}
+use Rattle.minelib_reading.specs.declared.model_key.Section.TheVariants.{Heading, Objective, Coefs, Limits}
+use Rattle.text_lines.specs.declared.text_fault.TextKind.{TextKind}
+use Rattle.text_lines.specs.declared.text_fault.TextKind.TheVariants.{Fields, Order, Count, Name, Twice, Key, Missing}
+use Rattle.minelib_reading.proofs.CoefLineFacts.{coef_fine}
+use Rattle.minelib_reading.proofs.LimitLineFacts.{limit_fine}
+use Rattle.minelib_reading.proofs.ValuesLineFacts.{many_fine}
+
+-- what holds of each shape holds of a line's
+pub each_line : (P : Shape TextKind ModelDraftView → Type 0) (d : ModelDraftView) → P (stray_line d)
+    → ((k : HeaderKey) (fields : List (List ℕ)) → P (header_line d k fields))
+    → ((section : Section) (fields : List (List ℕ)) → P (section_line d section fields))
+    → (d.section ≡ Objective → (fields : List (List ℕ)) → P (values_line d fields))
+    → (d.section ≡ Coefs → (fields : List (List ℕ)) → P (coef_line d fields))
+    → (d.section ≡ Limits → (fields : List (List ℕ)) → P (limit_line d fields))
+    → (line : List ℕ) → P (model_line d line)
+each_line P d stray header section values coef limit line = by (list_any is_colon line)
+  where
+    keyed : (found : Option ModelKey) (fields : List (List ℕ)) → P (keyed_line d found fields)
+    keyed None fields = stray
+    keyed (Some (model_key.Header k)) fields = header k fields
+    keyed (Some (model_key.Section s)) fields = section s fields
+
+    item : (s : Section) → d.section ≡ s → P (item_line d s (fields_of line))
+    item Heading here = stray
+    item Objective here = values here (fields_of line)
+    item Coefs here = coef here (fields_of line)
+    item Limits here = limit here (fields_of line)
+
+    by : (t : Bool)
+        → P (if t then keyed_line d (key_of d.problem (fields_of (before_first is_colon line))) (fields_of (after_first is_colon line))
+        else item_line d d.section (fields_of line))
+    by true = keyed (key_of d.problem (fields_of (before_first is_colon line))) (fields_of (after_first is_colon line))
+    by false = item d.section refl
+
+pub field_fine : (problem : Problem) (k : HeaderKey) → is_fine (field_of problem k ∷ []) ≡ true
+field_fine problem key.Name = refl
+field_fine problem k = refl
+
+pub line_fine : (d : ModelDraftView) (line : List ℕ) → is_fine (model_line d line).form ≡ true
+unfolding stray_line header_line section_line values_line coef_line limit_line
+line_fine d line =
+    each_line (λ shape. is_fine shape.form ≡ true) d refl (λ k fields. field_fine d.problem k) (λ section fields. refl)
+    (λ _ fields. many_fine (count_in d.header key.Destinations))
+    (λ _ fields. coef_fine d.problem d.blocks (count_in d.header key.Destinations) (count_in d.header key.Resources))
+    (λ _ fields. limit_fine (count_in d.header key.Resources) (count_in d.header key.Periods) fields) line
+
+pub all_fine : HasFineForms model_grammar
+all_fine = λ number d line. line_fine d line.text
+
+-- a line that is admitted states what it leaves
+pub admitted_states : (d : ModelDraftView) (line : List ℕ) (next : ModelDraftView) → admit_model d line ≡ Ok next → States (model_line d line) next
+unfolding admit_model takes
+admitted_states d line next e = said_states (model_line d line) next (line_fine d line) e
+
+-- lines that are read one after the other are those of the grammar
+pub lines_are_all : (number : ℕ) (d : ModelDraftView) (lines : List Line) → read_lines admit_model d lines ≡ read_all model_grammar number d lines
+unfolding admit_model takes
+lines_are_all number d [] = refl
+lines_are_all number d (line ∷ lines) = by (λ next. lines_are_all (suc number) next lines) (admit_model d line.text)
+  where
+    by : ((next : ModelDraftView) → read_lines admit_model next lines ≡ read_all model_grammar (suc number) next lines)
+        → (r : Result ModelDraftView TextKind)
+        → (at_line line.number r >>= λ next. read_lines admit_model next lines)
+        ≡ (placed model_grammar number line r >>= λ next. read_all model_grammar (suc number) next lines)
+    by more (Ok next) = more next
+    by more (Err kind) = refl
+
+pub stray_takes : (d : ModelDraftView) → takes (stray_line d) ≡ Err Key
+unfolding takes stray_line
+stray_takes d = refl
+
+-- behind a header key with this value, that states this number
+abbrev after : ModelDraftView → HeaderKey → List ℕ → ℕ → ModelDraftView
+after d k value number = record d { header = with_key d.header k number; name = name_with k value d.name }
+
+abbrev found_of : ModelDraftView → HeaderKey → Value → Result ModelDraftView TextKind
+found_of d k value = unless (failing (is_counted k d.blocks value)) (Ok (after d k (bytes_in value) (number_said k value)))
+
+pub header_takes : (d : ModelDraftView) (k : HeaderKey) (fields : List (List ℕ))
+    → takes (header_line d k fields)
+    ≡ (if not (is_heading d.section) then Err Key
+    else (if is_given k d.header then Err Twice
+    else (only_value fields >>= λ value. number_in d.problem d.blocks k value
+    >>= λ number. Ok (record d { header = with_key d.header k number; name = name_with k value d.name }))))
+unfolding takes header_line
+header_takes d k fields = tests (is_heading d.section) (is_given k d.header)
+  where
+    blocks : (t : Bool) (value : List ℕ) → unless (failing (check Count t)) (Ok (after d key.Blocks value 0))
+        ≡ ((if t then Ok 0 else Err Count) >>= λ number. Ok (after d key.Blocks value number))
+    blocks true value = refl
+    blocks false value = refl
+
+    name : (t : Bool) (text : List ℕ)
+        → ((if t then Ok (Bytes text) else Err Name) >>= found_of d key.Name)
+        ≡ (((if t then Ok (Bytes text) else Err Name)
+        >>= λ value. Ok (unsigned_abs (millionths value))) >>= number_with d.blocks key.Name >>= λ number. Ok (after d key.Name text number))
+    name true text = refl
+    name false text = refl
+
+    one : (k : HeaderKey) (text : List ℕ) (r : Result Value TextKind) → r ≡ read_field text_kind (field_of d.problem k) text
+        → (r >>= found_of d k) ≡ ((r >>= λ value. Ok (unsigned_abs (millionths value))) >>= number_with d.blocks k >>= λ number. Ok (after d k text number))
+    one key.Name text r e = rw e (name (is_name text) text)
+    one key.Blocks text (Ok value) e = blocks (whole_of value == d.blocks) (bytes_in value)
+    one k text (Ok value) e = refl
+    one k text (Err kind) e = refl
+
+    values : (fields : List (List ℕ)) → (read text_kinds (field_of d.problem k ∷ []) fields >>= λ values. found_of d k (first_of values))
+        ≡ (only_value fields >>= λ value. number_in d.problem d.blocks k value >>= λ number. Ok (after d k value number))
+    values [] = refl
+    values (text ∷ []) = alone (read_field text_kind (field_of d.problem k) text) (one k text (read_field text_kind (field_of d.problem k) text) refl)
+      where
+        alone : (r : Result Value TextKind) {B : Result ModelDraftView TextKind} → (r >>= found_of d k) ≡ B
+            → ((r >>= λ value. Ok (value ∷ [])) >>= λ values. found_of d k (first_of values)) ≡ B
+        alone (Ok value) e = e
+        alone (Err kind) e = e
+    values (text ∷ other ∷ more) =
+        let many : (length (text ∷ other ∷ more) == 1) ≡ false = ne_eqb (length (text ∷ other ∷ more)) 1 (λ e. omega (arith, e)) in
+        rw many refl
+
+    tests : (heading given : Bool)
+        → unless (failing (check Key heading ++ check Twice (not given)))
+        (read text_kinds (field_of d.problem k ∷ []) fields >>= λ values. found_of d k (first_of values))
+        ≡ (if not heading then Err Key
+        else (if given then Err Twice
+        else (only_value fields >>= λ value. number_in d.problem d.blocks k value >>= λ number. Ok (after d k value number))))
+    tests true true = refl
+    tests true false = values fields
+    tests false given = refl
+
+pub section_takes : (d : ModelDraftView) (section : Section) (fields : List (List ℕ))
+    → takes (section_line d section fields)
+    ≡ (if not (is_next d.section section) then Err Key
+    else (if not (length fields == 0) then Err Fields
+    else (if not (is_ready d d.section) then Err Missing
+    else Ok (record d { section = section }))))
+unfolding takes section_line
+section_takes d section fields = by (is_next d.section section) (is_ready d d.section) fields
+  where
+    by : (next ready : Bool) (fields : List (List ℕ))
+        → unless (failing (check Key next))
+        (read text_kinds [] fields >>= λ values. unless (failing (check Missing ready)) (Ok (record d { section = section })))
+        ≡ (if not next then Err Key
+        else (if not (length fields == 0) then Err Fields
+        else (if not ready then Err Missing else Ok (record d { section = section }))))
+    by false ready fields = refl
+    by true true [] = refl
+    by true false [] = refl
+    by true ready (field ∷ fields) =
+        let some : (length (field ∷ fields) == 0) ≡ false = ne_eqb (length (field ∷ fields)) 0 (λ e. omega (arith, e)) in
+        rw some refl
+
+pub values_takes : (d : ModelDraftView) (fields : List (List ℕ))
+    → takes (values_line d fields)
+    ≡ (values_of d.blocks (count_in d.header key.Destinations) (length d.values) fields >>= λ row. Ok (record d { values = d.values ++ row ∷ [] }))
+unfolding takes values_line values_of
+values_takes d fields = by (read text_kinds (values_form d.blocks (count_in d.header key.Destinations)) fields)
+  where
+    in_place : (t : Bool) (row : List Value)
+        → unless (failing (check Order t)) (Ok (record d { values = d.values ++ row_said row ∷ [] }))
+        ≡ ((if not t then Err Order else Ok (row_said row)) >>= λ row. Ok (record d { values = d.values ++ row ∷ [] }))
+    in_place true row = refl
+    in_place false row = refl
+
+    by : (r : Result (List Value) TextKind)
+        → (r >>= λ values. unless (failing (check Order (whole_at values 0 == length d.values)))
+        (Ok (record d { values = d.values ++ row_said values ∷ [] })))
+        ≡ ((r >>= values_said (length d.values)) >>= λ row. Ok (record d { values = d.values ++ row ∷ [] }))
+    by (Ok values) = in_place (whole_at values 0 == length d.values) values
+    by (Err kind) = refl
+
+pub coef_takes : (d : ModelDraftView) (fields : List (List ℕ))
+    → takes (coef_line d fields)
+    ≡ (coef_of d.problem d.blocks (count_in d.header key.Destinations) (count_in d.header key.Resources) fields
+    >>= λ c. if is_behind comes_before (last_of d.coefs) c then Ok (record d { coefs = d.coefs ++ c ∷ [] }) else Err Order)
+unfolding takes coef_line coef_of
+coef_takes d fields =
+    by (read text_kinds (coef_form d.problem d.blocks (count_in d.header key.Destinations) (count_in d.header key.Resources)) fields)
+  where
+    in_place : (t : Bool) (next : ModelDraftView) → unless (failing (check Order t)) (Ok next) ≡ (if t then Ok next else Err Order)
+    in_place true next = refl
+    in_place false next = refl
+
+    by : (r : Result (List Value) TextKind)
+        → (r >>= λ values. unless (failing (check Order (is_behind comes_before (last_of d.coefs) (coef_said d.problem values))))
+        (Ok (record d { coefs = d.coefs ++ coef_said d.problem values ∷ [] })))
+        ≡ ((r >>= λ values. Ok (coef_said d.problem values))
+        >>= λ c. if is_behind comes_before (last_of d.coefs) c then Ok (record d { coefs = d.coefs ++ c ∷ [] }) else Err Order)
+    by (Ok values) = in_place (is_behind comes_before (last_of d.coefs) (coef_said d.problem values)) _
+    by (Err kind) = refl
+
+pub limit_takes : (d : ModelDraftView) (fields : List (List ℕ))
+    → takes (limit_line d fields)
+    ≡ (limit_of (count_in d.header key.Resources) (count_in d.header key.Periods) fields
+    >>= λ l. if is_turned l.bound || not (is_behind stands_before (last_of d.limits) l) then Err Order
+    else Ok (record d { limits = d.limits ++ l ∷ [] }))
+unfolding takes limit_line limit_of
+limit_takes d fields = by (read text_kinds (limit_form (count_in d.header key.Resources) (count_in d.header key.Periods) fields) fields)
+  where
+    in_place : (turned after : Bool) (next : ModelDraftView) → unless (failing (check Order (not turned && after))) (Ok next)
+        ≡ (if turned || not after then Err Order else Ok next)
+    in_place true after next = refl
+    in_place false true next = refl
+    in_place false false next = refl
+
+    by : (r : Result (List Value) TextKind)
+        → (r >>= λ values. unless (failing (check Order
+        (not (is_turned (limit_said values).bound) && is_behind stands_before (last_of d.limits) (limit_said values))))
+        (Ok (record d { limits = d.limits ++ limit_said values ∷ [] })))
+        ≡ ((r >>= λ values. Ok (limit_said values))
+        >>= λ l. if is_turned l.bound || not (is_behind stands_before (last_of d.limits) l) then Err Order
+        else Ok (record d { limits = d.limits ++ l ∷ [] }))
+    by (Ok values) =
+        in_place (is_turned (limit_said values).bound) (is_behind stands_before (last_of d.limits) (limit_said values))
+        _
+    by (Err kind) = refl
+
+-- what holds of each section and the next
+pub next_by : (P : Section → Section → Type 0) → P Heading Objective → P Objective Coefs → P Coefs Limits
+    → (now next : Section) → is_next now next ≡ true → P now next
+next_by P objective coefs limits Heading Objective e = objective
+next_by P objective coefs limits Objective Coefs e = coefs
+next_by P objective coefs limits Coefs Limits e = limits
+next_by P objective coefs limits Heading Heading e = absurd cc
+next_by P objective coefs limits Heading Coefs e = absurd cc
+next_by P objective coefs limits Heading Limits e = absurd cc
+next_by P objective coefs limits Objective Heading e = absurd cc
+next_by P objective coefs limits Objective Objective e = absurd cc
+next_by P objective coefs limits Objective Limits e = absurd cc
+next_by P objective coefs limits Coefs Heading e = absurd cc
+next_by P objective coefs limits Coefs Objective e = absurd cc
+next_by P objective coefs limits Coefs Coefs e = absurd cc
+next_by P objective coefs limits Limits Heading e = absurd cc
+next_by P objective coefs limits Limits Objective e = absurd cc
+next_by P objective coefs limits Limits Coefs e = absurd cc
+next_by P objective coefs limits Limits Limits e = absurd cc

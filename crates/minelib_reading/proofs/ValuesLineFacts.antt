@@ -1,0 +1,127 @@
+-- The lines of values: their forms, what their values say, and their fields one by one.
+use Rattle.std.specs.Prelude.{◌≡◌, ℕ, zero, suc, ◌<◌, ◌≤◌, ◌^◌, ◌==◌, not, Bool, true, false, List, [], ◌∷◌, ◌++◌, ◌+◌, length, map, All, ℤ, replicate, Result, Ok, Err, if◌then◌else◌}
+use Rattle.std.proofs.Common.{refl, sym, ◌∙◌, ap, arith, append-nil, append_assoc}
+use Rattle.std.proofs.lemmas.List.{length-replicate}
+use Rattle.std.proofs.lemmas.Bool.{eqb-true}
+use Rattle.std.proofs.lemmas.List.Elements.{All-head, All-tail}
+use Rattle.forms.proofs.FormFacts.{counted}
+use Rattle.forms.proofs.NumberFields.{quotient, whole_fits}
+use Rattle.forms.specs.Field.{Value, Millionths, millionths, whole}
+use Rattle.forms.specs.Fit.{Fit, is_fine}
+use Rattle.forms.specs.Read.{read_fields}
+use Rattle.forms.specs.Steps.{◌>>=◌}
+use Rattle.minelib_lines.specs.Kept.{IsDecimal}
+use Rattle.text_lines.specs.FieldValues.{all_by, decimal_in, first_by, whole_in}
+use Rattle.text_lines.specs.LineKinds.{text_kinds}
+use Rattle.text_lines.specs.Uncounted.{AdmitsCounted, kind_by}
+use Rattle.text_lines.specs.declared.read_errors.LineError.{LineError}
+use Rattle.text_lines.specs.declared.read_errors.LineError.TheVariants as line_error
+use Rattle.text_lines.specs.declared.text_fault.TextKind.{TextKind}
+use Rattle.text_lines.specs.declared.text_fault.TextKind.TheVariants.{Order}
+use Rattle.text_lines.proofs.FieldSteps.{whole_reads}
+use Rattle.minelib_reading.specs.Fields.{any}
+use Rattle.minelib_reading.specs.ItemForms.{row_said, values_form}
+use Rattle.minelib_reading.specs.ModelParts.{values_of, values_said}
+use Rattle.minelib_lines.specs.LineValues.{values_values}
+use Rattle.minelib_reading.proofs.FormFields.{ArePlain, any_fits, any_reads}
+
+-- a decimal for each destination
+pub many_fine : (k : ℕ) → is_fine (replicate k any) ≡ true
+many_fine zero = refl
+many_fine (suc k) = many_fine k
+
+pub many_plain : (k : ℕ) → ArePlain (replicate k any)
+many_plain zero = tt
+many_plain (suc k) = many_plain k
+
+many_fit : (k : ℕ) (values : List ℤ) → length values ≡ k → All IsDecimal values → Fit (replicate k any) (map Millionths values)
+many_fit zero [] count decimals = tt
+many_fit zero (v ∷ values) count decimals = absurd (omega (arith, count))
+many_fit (suc k) [] count decimals = absurd (omega (arith, count))
+many_fit (suc k) (v ∷ values) count decimals =
+    (any_fits v (All-head IsDecimal v values decimals), many_fit k values (omega (arith, count)) (All-tail IsDecimal v values decimals))
+
+pub many_again : (values : List ℤ) → map millionths (map Millionths values) ≡ values
+many_again [] = refl
+many_again (v ∷ values) = ap (λ more. v ∷ more) (many_again values)
+
+pub values_fits : (n destinations block : ℕ) (values : List ℤ) → n ≤ 10 ^ 18 → block < n → length values ≡ destinations → All IsDecimal values
+    → Fit (values_form n destinations) (values_values block values)
+values_fits n destinations block values few low count decimals = (whole_fits n block low few, many_fit destinations values count decimals)
+
+-- values that fit have one for each destination
+pub row_width : (n destinations : ℕ) (values : List Value) → Fit (values_form n destinations) values → length (row_said values) ≡ destinations
+row_width n destinations [] fit = absurd fit
+row_width n destinations (block ∷ values) fit = many_count destinations values fit.1
+  where
+    many_count : (k : ℕ) (values : List Value) → Fit (replicate k any) values → length (map millionths values) ≡ k
+    many_count zero [] fit = refl
+    many_count zero (v ∷ values) fit = absurd fit
+    many_count (suc k) [] fit = absurd fit
+    many_count (suc k) (v ∷ values) fit = ap suc (many_count k values fit.1)
+
+values_width : (n destinations : ℕ) → length (values_form n destinations) ≡ destinations + 1
+values_width n destinations = omega (arith, length-replicate destinations any)
+
+-- decimals one by one, as the code reads them
+many_read : (k : ℕ) (done : List ℤ) (fields : List (List ℕ)) → length fields ≡ k
+    → all_by decimal_in done fields ≡ (read_fields text_kinds (replicate k any) fields >>= λ values. Ok (done ++ map millionths values))
+many_read zero done [] count = ap Ok (sym (append-nil done))
+many_read zero done (field ∷ fields) count = absurd (omega (arith, count))
+many_read (suc k) done [] count = absurd (omega (arith, count))
+many_read (suc k) done (field ∷ fields) count = rw (any_reads field) (by (λ m. many_read k (done ++ m ∷ []) fields (omega (arith, count))) (decimal_in field))
+  where
+    tail : (m : ℤ) (r : Result (List Value) TextKind) → (r >>= λ values. Ok ((done ++ m ∷ []) ++ map millionths values))
+        ≡ ((r >>= λ values. Ok (Millionths m ∷ values)) >>= λ values. Ok (done ++ map millionths values))
+    tail m (Ok values) = ap Ok (append_assoc done (m ∷ []) (map millionths values))
+    tail m (Err found) = refl
+
+    by : ((m : ℤ) → all_by decimal_in (done ++ m ∷ []) fields
+        ≡ (read_fields text_kinds (replicate k any) fields >>= λ values. Ok ((done ++ m ∷ []) ++ map millionths values)))
+        → (r : Result ℤ TextKind) → (r >>= λ x. all_by decimal_in (done ++ x ∷ []) fields)
+        ≡ (((r >>= λ m. Ok (Millionths m)) >>= λ v. read_fields text_kinds (replicate k any) fields >>= λ values. Ok (v ∷ values))
+        >>= λ values. Ok (done ++ map millionths values))
+    by deeper (Ok m) = deeper m ∙ tail m (read_fields text_kinds (replicate k any) fields)
+    by deeper (Err found) = refl
+
+-- the fields one by one, as the code reads them
+abbrev pub values_alone : ℕ → ℕ → List (List ℕ) → Result (List ℤ) TextKind
+values_alone n before fields =
+    first_by (whole_in n) fields >>= λ b. all_by decimal_in [] b.1 >>= λ values. if not (b.0 == before) then Err Order else Ok values
+
+pub values_counted : (n destinations before : ℕ) (fields : List (List ℕ)) → length fields ≡ destinations + 1
+    → values_of n destinations before fields ≡ values_alone n before fields
+unfolding values_of
+values_counted n destinations before [] count = absurd (omega (arith, count))
+values_counted n destinations before (field ∷ fields) count =
+    ap (λ r. r >>= values_said before) (counted text_kinds (values_form n destinations) (field ∷ fields) (count ∙ sym (values_width n destinations)))
+    ∙ rw (whole_reads n field) (by (whole_in n field))
+  where
+    tail : (block : ℕ) (r : Result (List Value) TextKind) → ((r >>= λ values. Ok (whole block ∷ values)) >>= values_said before)
+        ≡ ((r >>= λ values. Ok (map millionths values)) >>= λ values. if not (block == before) then Err Order else Ok values)
+    tail block (Ok values) = rw (quotient block) refl
+    tail block (Err found) = refl
+
+    by : (r : Result ℕ TextKind)
+        → (((r >>= λ x. Ok (whole x)) >>= λ v. read_fields text_kinds (replicate destinations any) fields >>= λ values. Ok (v ∷ values)) >>= values_said before)
+        ≡ ◌>>=◌ {A = ℕ × List (List ℕ)} (r >>= λ x. Ok (x, fields)) (λ b.
+        all_by decimal_in [] b.1 >>= λ values. if not (b.0 == before) then Err Order else Ok values)
+    by (Ok block) = rw (many_read destinations [] fields (omega (arith, count))) (tail block (read_fields text_kinds (replicate destinations any) fields))
+    by (Err found) = refl
+
+pub values_admitted : {A : Type 0} (n destinations before : ℕ) (fields : List (List ℕ)) (row : List ℤ) (r : Result A LineError)
+    → AdmitsCounted (length fields ≡ destinations + 1) row r (values_alone n before fields)
+    → AdmitsCounted (length fields ≡ destinations + 1) row r (values_of n destinations before fields)
+values_admitted n destinations before fields row (Ok x) h = (h.0, values_counted n destinations before fields h.0 ∙ h.1)
+values_admitted n destinations before fields row (Err (line_error.Faulty found)) h = λ count. values_counted n destinations before fields count ∙ h count
+values_admitted n destinations before fields row (Err line_error.OutOfMemory) h = tt
+
+pub values_kind : (n destinations before : ℕ) (fields : List (List ℕ)) (found : TextKind)
+    → (length fields ≡ destinations + 1 → values_of n destinations before fields ≡ Err found)
+    → values_of n destinations before fields ≡ Err (kind_by (length fields == destinations + 1) found)
+unfolding values_of
+values_kind n destinations before fields found counted = by (length fields == destinations + 1) refl
+  where
+    by : (t : Bool) → (length fields == destinations + 1) ≡ t → values_of n destinations before fields ≡ Err (kind_by t found)
+    by true e = counted (eqb-true (length fields) (destinations + 1) e)
+    by false e = rw (values_width n destinations, e) refl

@@ -1,0 +1,5 @@
+use Rattle.minelib_reading.proofs.SpelledDenotes.{model_back}
+use Rattle.minelib_reading.proofs.laws.spelled_models_are_read.Goals as goal
+
+pub returns : goal.returns
+returns c = model_back

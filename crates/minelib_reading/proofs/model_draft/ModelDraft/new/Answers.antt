@@ -1,0 +1,15 @@
+use Rattle.std.proofs.Common.{◌≡◌, length, rules}
+use Rattle.std.proofs.lemmas.List.Elements.{All-nil}
+use Rattle.minelib_reading.specs.HeaderKeys.{count_in}
+use Rattle.minelib_reading.specs.ModelLines.{blank_header}
+use Rattle.minelib_reading.specs.declared.model_key.HeaderKey.TheVariants as key
+use Rattle.minelib_reading.proofs.HeaderFacts.{blank_below}
+use Rattle.minelib_reading.proofs.model_draft.ModelDraft.new.Goals as goal
+
+pub invariant_of-result : goal.invariant_of-result
+invariant_of-result c = rw (c.blank_header.ensures, c.new-2.ensures) (record {
+  few = c.requires;
+  numbers = blank_below c.args.problem;
+  heading = search rules;
+  width = All-nil (λ of_block. length of_block ≡ count_in (blank_header c.args.problem) key.Destinations);
+})

@@ -1,0 +1,53 @@
+-- Which instance MineLib texts denote, and which constrained pit limit problem its text.
+use Rattle.std.specs.Prelude.{◌≡◌, ℕ, List, length, map, pos, Result, Ok}
+use Rattle.std.specs.List.{flat_map}
+use Rattle.forms.specs.Steps.{◌>>=◌}
+use Rattle.pit_model.specs.declared.block.Block.{Block}
+use Rattle.mine_instance.specs.Cpit.{CpitParts}
+use Rattle.mine_instance.specs.CpitKept.{cpit_of}
+use Rattle.mine_instance.specs.OfCpit.{without_destination}
+use Rattle.mine_instance.specs.OfModel.{instance_with}
+use Rattle.mine_instance.specs.declared.instance.Instance.{Instance}
+use Rattle.minelib_reading.specs.BlockLines.{blocks_in}
+use Rattle.minelib_reading.specs.HeaderKeys.{count_in}
+use Rattle.minelib_reading.specs.ModelLines.{ModelDraftView, model_in}
+use Rattle.minelib_reading.specs.PrecLines.{preds_in}
+use Rattle.text_lines.specs.Reading.{in_file}
+use Rattle.minelib_reading.specs.declared.model_key.HeaderKey.TheVariants as key
+use Rattle.minelib_lines.specs.declared.problem.Problem.TheVariants as problem
+use Rattle.text_lines.specs.declared.text_fault.TextFault.{TextFault}
+use Rattle.text_lines.specs.declared.text_fault.TextFile.TheVariants.{Blocks, Prec, Pcpsp, Cpit}
+
+-- the instance of what its three files state
+abbrev pub instance_read : List Block → List (List ℕ) → ModelDraftView → Instance
+instance_read blocks lists d =
+    instance_with d.name (pos (count_in d.header key.Rate)) (count_in d.header key.Periods) (count_in d.header key.Destinations)
+    (count_in d.header key.Resources) blocks lists d.values d.coefs d.limits
+
+-- the instance that three texts denote, or the first faulty line: the blocks' first, then the precedences', then the model's
+unfoldable pub denoted : List ℕ → List ℕ → List ℕ → Result Instance TextFault
+denoted blocks prec pcpsp = do
+  all ← in_file Blocks (blocks_in blocks)
+  lists ← in_file Prec (preds_in (length all) prec)
+  model ← in_file Pcpsp (model_in problem.Pcpsp (length all) pcpsp)
+  Ok (instance_read all lists model)
+
+-- the texts denote the instance
+abbrev pub Denotes : List ℕ → List ℕ → List ℕ → Instance → Type 0
+Denotes blocks prec pcpsp i = denoted blocks prec pcpsp ≡ Ok i
+
+-- the constrained pit limit problem of what its file states: one value a block
+abbrev pub cpit_read : ModelDraftView → CpitParts
+cpit_read d =
+    cpit_of d.name (pos (count_in d.header key.Rate)) (count_in d.header key.Periods) (count_in d.header key.Resources)
+    (flat_map (λ values. values) d.values) (map without_destination d.coefs) d.limits
+
+-- the constrained pit limit problem of n blocks that a text denotes, or its first faulty line
+unfoldable pub cpit_denoted : ℕ → List ℕ → Result CpitParts TextFault
+cpit_denoted n text = do
+  model ← in_file Cpit (model_in problem.Cpit n text)
+  Ok (cpit_read model)
+
+-- the text denotes the constrained pit limit problem, of n blocks
+abbrev pub DenotesCpit : ℕ → List ℕ → CpitParts → Type 0
+DenotesCpit n text c = cpit_denoted n text ≡ Ok c

@@ -1,0 +1,46 @@
+-- What the header keys of a model file state: a number each, once the key stood.
+use Rattle.std.specs.Prelude.{ℕ, ◌==◌, Bool, List, [], ◌∷◌, map, Option, Some, None, is_some, unwrap_or, slice_index_or, if◌then◌else◌}
+use Rattle.std.specs.List.{list_all}
+use Rattle.minelib_reading.specs.declared.model_key.Header.{Header}
+use Rattle.minelib_reading.specs.declared.model_key.HeaderKey.{HeaderKey}
+use Rattle.minelib_reading.specs.declared.model_key.HeaderKey.TheVariants as key
+
+-- all keys, in the order in which their numbers are kept
+abbrev pub header_keys : List HeaderKey
+header_keys =
+    key.Name ∷ key.Type ∷ key.Blocks ∷ key.Periods ∷ key.Destinations ∷ key.Resources ∷ key.General ∷ key.Rate ∷ []
+
+-- the place of a key among all
+abbrev pub place : HeaderKey → ℕ
+place key.Name = 0
+place key.Type = 1
+place key.Blocks = 2
+place key.Periods = 3
+place key.Destinations = 4
+place key.Resources = 5
+place key.General = 6
+place key.Rate = 7
+
+-- where no key stood
+abbrev pub no_key : Header
+no_key = record { numbers = map (λ _. None) header_keys }
+
+-- the number of a key that stood
+abbrev pub number_of : Header → HeaderKey → Option ℕ
+number_of h k = slice_index_or h.numbers (place k) None
+
+-- and a key with this number
+unfoldable pub with_key : Header → HeaderKey → ℕ → Header
+with_key h k n = record { numbers = map (λ j. if place j == place k then Some n else number_of h j) header_keys }
+
+-- the number of a key, 0 before it stood: how many of a kind there are
+abbrev pub count_in : Header → HeaderKey → ℕ
+count_in h k = unwrap_or (number_of h k) 0
+
+-- a key stood before
+abbrev pub is_given : HeaderKey → Header → Bool
+is_given k h = is_some (number_of h k)
+
+-- all keys stood
+abbrev pub is_complete : Header → Bool
+is_complete h = list_all (λ k. is_given k h) header_keys

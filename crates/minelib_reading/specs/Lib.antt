@@ -1,0 +1,15 @@
+pub mod BlockLines
+pub mod Denotes
+pub mod Fields
+pub mod HeaderKeys
+pub mod ItemForms
+pub mod KeyFields
+pub mod LinesTaken
+pub mod Marks
+pub mod ModelFields
+pub mod ModelLines
+pub mod ModelParts
+pub mod PrecLines
+pub mod SpelledModel
+pub mod SpelledTexts
+pub mod UncountedItems

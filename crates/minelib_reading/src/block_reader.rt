@@ -1,0 +1,119 @@
+//! Reading a block file.
+
+ghost use Rattle.std.specs.Prelude.{◌≡◌, ◌≤◌, length, IfOk};
+ghost use Rattle.pit_model.specs.Block.{block_with};
+ghost use Rattle.pit_model.specs.BlockParts.{AreInRange};
+ghost use Rattle.minelib_reading.specs.BlockLines.{blocks_in};
+ghost use Rattle.minelib_reading.specs.LinesTaken.{admit_block, block_alone, block_said};
+ghost use Rattle.text_lines.specs.Reading.{Gives};
+ghost use Rattle.pit_model.specs.declared.ranges.TheConstants.{MAX_BLOCKS};
+
+use mine_instance::blocks::Blocks;
+use pit_model::block::Block;
+use pit_model::ranges::{GRID_CELLS, MAX_BLOCKS, MAX_GRADE, MAX_KG, MAX_ZONES};
+use std::alloc::Global;
+use std::marker::Model;
+use text_lines::line_by_line::{Admit, read_lines};
+use text_lines::read_errors::{FileError, LineError};
+use text_lines::text_fault::TextKind;
+use text_lines::text_fields::{first_size, first_whole, has_field, kind_by_count};
+
+// The fields of a line: the identifier, three indices, tonnes, grade and zone.
+const FIELDS: usize = 7;
+
+// The blocks of the lines so far, by identifier.
+#[derive(Drop)]
+struct BlockDraft {
+    blocks: Vec<Block>,
+}
+
+impl Model for BlockDraft {
+    ghost use Rattle.std.specs.Prelude.{List};
+    ghost use Rattle.pit_model.specs.declared.block.Block.{Block as OneBlock};
+
+    ghost Value = { List OneBlock };
+
+    ghost view = { λ d. d.blocks.items };
+}
+
+impl Admit for BlockDraft {
+    ghost admit_line = { admit_block };
+
+    fn admit(&mut self, line: &[u8]) -> Result<(), LineError> {
+        let block = block_of(line, self.blocks.len())?;
+        self.blocks.push(block)?;
+        Ok(())
+    }
+}
+
+// The block of a line, where so many blocks stand before.
+fn block_of(line: &[u8], before: usize) -> Result<Block, TextKind>
+    ensures { result ≡ block_said before line.now }
+{
+    match block_alone(line, before) {
+        Ok(block) => Ok(block),
+        Err(kind) => Err(kind_by_count(line, FIELDS, kind)),
+    }
+}
+
+#[inline(always)]
+#[tactic(auto, using(crate::proofs::CountedLater::block_read))]
+fn block_alone(line: &[u8], before: usize) -> Result<Block, TextKind>
+    ensures { result ≡ block_alone before line.now }
+{
+    let (id, behind_id) = first_whole(line, MAX_BLOCKS as u64)?;
+    let (x, behind_x) = first_whole(behind_id, u64::from(GRID_CELLS))?;
+    let (y, behind_y) = first_whole(behind_x, u64::from(GRID_CELLS))?;
+    let (z, behind_z) = first_whole(behind_y, u64::from(GRID_CELLS))?;
+    let (tonnes, behind_tonnes) = first_size(behind_z, 3, MAX_KG * 1000)?;
+    let (grade, behind_grade) = first_size(behind_tonnes, 6, MAX_GRADE)?;
+    let (zone, behind_zone) = first_whole(behind_grade, u64::from(MAX_ZONES))?;
+    if has_field(behind_zone) {
+        return Err(TextKind::Fields);
+    }
+    if id != before as u64 {
+        return Err(TextKind::Order);
+    }
+    Ok(block_with(
+        x as u16,
+        y as u16,
+        z as u16,
+        tonnes / 1000,
+        grade,
+        zone as u8,
+    ))
+}
+
+fn block_with(x: u16, y: u16, z: u16, kg: u64, grade: u64, zone: u8) -> Block
+    requires { AreInRange x y z kg grade zone }
+    ensures { result ≡ block_with x y z kg grade zone }
+{
+    Block {
+        x,
+        y,
+        z,
+        kg,
+        grade,
+        zone,
+    }
+}
+
+/// The blocks that a text states, by identifier.
+pub fn read_blocks(alloc: Global, text: &[u8]) -> Result<Blocks, FileError>
+    ensures stated { Gives result (blocks_in text.now) }
+    ensures few { IfOk result (λ blocks. length blocks ≤ MAX_BLOCKS) }
+{
+    let blocks = drafted(alloc, text)?;
+    Ok(blocks)
+}
+
+#[tactic(auto, using(crate::proofs::SpelledRead::blocks_read))]
+fn drafted(alloc: Global, text: &[u8]) -> Result<Blocks, FileError>
+    ensures { Gives result (blocks_in text.now) }
+{
+    let mut draft = BlockDraft {
+        blocks: Vec::new(alloc),
+    };
+    read_lines(&mut draft, text)?;
+    Ok(Blocks::new(draft.blocks))
+}

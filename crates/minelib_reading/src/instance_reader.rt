@@ -1,0 +1,77 @@
+//! Reading an instance, and a constrained pit limit problem, from texts.
+
+ghost use Rattle.std.specs.Prelude.{◌≡◌, ◌≤◌, length, IfOk};
+ghost use Rattle.mine_instance.specs.Valid.{IsValid};
+ghost use Rattle.minelib_reading.specs.Denotes.{cpit_denoted, denoted};
+ghost use Rattle.text_lines.specs.Reading.{Reads};
+ghost use Rattle.pit_model.specs.declared.ranges.TheConstants.{MAX_BLOCKS};
+
+use crate::block_reader::read_blocks;
+use crate::model_reader::read_model;
+use crate::prec_reader::read_preds;
+use mine_instance::cpit::Cpit;
+use mine_instance::instance::Instance;
+use minelib_lines::problem::Problem;
+use std::alloc::Global;
+use text_lines::text_fault::{ReadTextError, TextFile};
+
+/// The instance that a block file, a precedence file and a production scheduling model file denote, in the lenient grammar of docs/formats.md.
+///
+/// # Errors
+///
+/// The texts denote no instance, and the answer names the first faulty line: of the blocks, then of the precedences, then of the model. Or memory
+/// was refused.
+pub fn read_instance(
+    alloc: Global,
+    blocks: &[u8],
+    prec: &[u8],
+    pcpsp: &[u8],
+) -> Result<Instance, ReadTextError>
+    ensures denoted { Reads result (denoted blocks.now prec.now pcpsp.now) }
+    ensures valid { IfOk result IsValid }
+{
+    let instance = joined(alloc, blocks, prec, pcpsp)?;
+    Ok(instance)
+}
+
+#[tactic(auto, unfolding(crate::specs::Denotes::denoted))]
+fn joined(
+    alloc: Global,
+    blocks: &[u8],
+    prec: &[u8],
+    pcpsp: &[u8],
+) -> Result<Instance, ReadTextError>
+    ensures { Reads result (denoted blocks.now prec.now pcpsp.now) }
+{
+    let blocks = match read_blocks(alloc, blocks) {
+        Ok(blocks) => blocks,
+        Err(error) => return Err(error.in_file(TextFile::Blocks)),
+    };
+    let count = blocks.as_slice().len();
+    let preds = match read_preds(alloc, count, prec) {
+        Ok(preds) => preds,
+        Err(error) => return Err(error.in_file(TextFile::Prec)),
+    };
+    match read_model(alloc, Problem::Pcpsp, count, pcpsp) {
+        Ok(model) => Ok(model.into_instance(blocks, preds)),
+        Err(error) => Err(error.in_file(TextFile::Pcpsp)),
+    }
+}
+
+/// The constrained pit limit problem, of so many blocks, that its model file denotes, in the lenient grammar of docs/formats.md.
+///
+/// # Errors
+///
+/// The text denotes none, and the answer names its first faulty line; or memory was refused.
+#[tactic(auto, unfolding(crate::specs::Denotes::cpit_denoted))]
+pub fn read_cpit(alloc: Global, n: usize, text: &[u8]) -> Result<Cpit, ReadTextError>
+    requires { n ≤ MAX_BLOCKS }
+    ensures denoted { Reads result (cpit_denoted n text.now) }
+    ensures blocks { IfOk result (λ cpit. length cpit.values ≡ n) }
+{
+    let model = match read_model(alloc, Problem::Cpit, n, text) {
+        Ok(model) => model,
+        Err(error) => return Err(error.in_file(TextFile::Cpit)),
+    };
+    Ok(model.into_cpit()?)
+}

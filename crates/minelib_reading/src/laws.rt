@@ -1,0 +1,108 @@
+//! What holds of reading, whatever the texts say: each contract is a law, and a call of it changes nothing.
+
+ghost use Rattle.std.specs.Prelude.{◌≡◌, ◌↔◌, ◌⊎◌, ℕ, ◌≤◌, [], List, length, Ok, Err};
+ghost use Rattle.forms.specs.Spelled.{Spell};
+ghost use Rattle.forms.specs.GrammarStates.{AllState, IsFirstFault};
+ghost use Rattle.forms.specs.ShapeStates.{States};
+ghost use Rattle.mine_instance.specs.Cpit.{CpitParts};
+ghost use Rattle.mine_instance.specs.CpitKept.{IsCpit};
+ghost use Rattle.mine_instance.specs.Valid.{ArePredsOf, IsValid};
+ghost use Rattle.mine_instance.specs.declared.instance.Instance.{Instance as OneInstance};
+ghost use Rattle.minelib_reading.specs.BlockLines.{block_form, block_grammar, block_shape, blocks_in};
+ghost use Rattle.minelib_reading.specs.Denotes.{Denotes, DenotesCpit};
+ghost use Rattle.minelib_lines.specs.LineValues.{block_values, preds_values};
+ghost use Rattle.minelib_reading.specs.ModelLines.{ModelDraftView, model_in};
+ghost use Rattle.minelib_reading.specs.PrecLines.{LacksLines, prec_grammar, preds_form, preds_in, preds_shape};
+ghost use Rattle.minelib_reading.specs.SpelledModel.{AreModelLines};
+ghost use Rattle.minelib_reading.specs.SpelledTexts.{SpellCpit, SpellInstance};
+ghost use Rattle.text_lines.specs.TextLines.{fields_of, lines_in};
+ghost use Rattle.minelib_lines.specs.declared.problem.Problem.{Problem};
+ghost use Rattle.text_lines.specs.declared.text_fault.LineFault.{LineFault};
+ghost use Rattle.pit_model.specs.declared.block.Block.{Block};
+ghost use Rattle.pit_model.specs.declared.ranges.TheConstants.{MAX_BLOCKS};
+
+/// The instance that three texts denote is valid.
+pub fn read_is_valid()
+    ensures { (blocks prec pcpsp : List ℕ) (i : OneInstance) → Denotes blocks prec pcpsp i
+        → IsValid i }
+{}
+
+/// The constrained pit limit problem that a text denotes is one, with a value for each block.
+pub fn cpit_read_is_valid()
+    ensures { (n : ℕ) (text : List ℕ) (c : CpitParts) → n ≤ MAX_BLOCKS → DenotesCpit n text c
+        → IsCpit c × (length c.values ≡ n) }
+{}
+
+/// A line behind so many blocks states a block exactly where its fields spell that number and the block; and the line of a block its
+/// predecessors exactly where its fields spell the block, how many they are and each of them, and they are predecessors of it.
+pub fn lines_state_what_they_spell()
+    ensures blocks { (before : ℕ) (line : List ℕ) (b : Block) → States (block_shape before line) b
+        ↔ Spell block_form (fields_of line) (block_values before b) }
+    ensures preds { (n own : ℕ) (line ids : List ℕ) → States (preds_shape n own line) ids
+        ↔ (Spell (preds_form n (fields_of line)) (fields_of line) (preds_values own ids)
+        × ArePredsOf own n ids) }
+{}
+
+/// Where blocks are read, each line that is read states one of them, in order.
+pub fn block_lines_are_spelled()
+    ensures { (text : List ℕ) (blocks : List Block) → blocks_in text ≡ Ok blocks
+        → AllState block_grammar 1 [] (lines_in text) blocks }
+{}
+
+/// Where predecessors of n blocks are read, each line that is read states those of one block, in order.
+pub fn prec_lines_are_spelled()
+    ensures { (n : ℕ) (text : List ℕ) (lists : List (List ℕ)) → preds_in n text ≡ Ok lists
+        → AllState (prec_grammar n) 1 [] (lines_in text) lists }
+{}
+
+/// Where a model file of n blocks is read, its lines that are read state it by the grammar, one behind the other, and nothing is lacking.
+pub fn model_lines_are_spelled()
+    ensures { (problem : Problem) (n : ℕ) (text : List ℕ) (d : ModelDraftView)
+        → model_in problem n text ≡ Ok d
+        → AreModelLines problem n (lines_in text) d }
+{}
+
+/// Lines that state a model by the grammar are read as it, header keys in any order and numbers in any spelling.
+pub fn spelled_models_are_read()
+    ensures { (problem : Problem) (n : ℕ) (text : List ℕ) (d : ModelDraftView)
+        → AreModelLines problem n (lines_in text) d → model_in problem n text ≡ Ok d }
+{}
+
+/// Three texts denote an instance exactly where their lines spell it.
+pub fn instances_are_spelled()
+    ensures { (blocks prec pcpsp : List ℕ) (i : OneInstance)
+        → Denotes blocks prec pcpsp i ↔ SpellInstance blocks prec pcpsp i }
+{}
+
+/// A text denotes a constrained pit limit problem of n blocks exactly where its lines spell it.
+pub fn cpits_are_spelled()
+    ensures { (n : ℕ) (text : List ℕ) (c : CpitParts) → DenotesCpit n text c ↔ SpellCpit n text c }
+{}
+
+/// Lines that state blocks are read as these blocks, whatever their spelling.
+pub fn spelled_blocks_are_read()
+    ensures { (text : List ℕ) (blocks : List Block)
+        → AllState block_grammar 1 [] (lines_in text) blocks
+        → blocks_in text ≡ Ok blocks }
+{}
+
+/// Lines that state the predecessors of n blocks, one a block, are read as these.
+pub fn spelled_preds_are_read()
+    ensures { (n : ℕ) (text : List ℕ) (lists : List (List ℕ)) → length lists ≡ n
+        → AllState (prec_grammar n) 1 [] (lines_in text) lists → preds_in n text ≡ Ok lists }
+{}
+
+/// A faulty line of a block file is the first that states no block behind those before it, and its
+/// kind that of the first thing asked of it that does not hold.
+pub fn faulty_lines_spell_no_block()
+    ensures { (text : List ℕ) (fault : LineFault) → blocks_in text ≡ Err fault
+        → IsFirstFault block_grammar 1 [] (lines_in text) fault }
+{}
+
+/// A faulty line of a precedence file is the first that states no predecessors behind those before
+/// it, and its kind that of the first thing asked of it that does not hold; or all lines state
+/// some, and lines are lacking at the end.
+pub fn faulty_lines_spell_no_preds()
+    ensures { (n : ℕ) (text : List ℕ) (fault : LineFault) → preds_in n text ≡ Err fault
+        → IsFirstFault (prec_grammar n) 1 [] (lines_in text) fault ⊎ LacksLines n text fault }
+{}

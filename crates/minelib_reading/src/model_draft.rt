@@ -1,0 +1,380 @@
+//! A model file while its lines are read.
+
+ghost use Rattle.std.specs.Prelude.{◌≡◌, ◌≤◌, ◌==◌, ◌&&◌, ◌++◌, ◌∷◌, if◌then◌else◌, Ok, Err, [], true, false, length, map, unwrap_or, IfOk};
+ghost use Rattle.mine_instance.specs.CpitKept.{IsCpit};
+ghost use Rattle.mine_instance.specs.OfCpit.{without_destination};
+ghost use Rattle.minelib_reading.specs.Denotes.{cpit_read, instance_read};
+ghost use Rattle.minelib_reading.specs.HeaderKeys.{count_in, is_complete};
+ghost use Rattle.minelib_reading.specs.ModelLines.{blank_model, coef_line, finish_model, header_line, is_behind, is_heading, is_ready, is_whole, item_line, keyed_line, last_of, limit_line, name_with, section_line, values_line};
+ghost use Rattle.minelib_reading.specs.ModelParts.{admit_model, is_name_for, takes};
+ghost use Rattle.mine_instance.specs.Order.{comes_before};
+ghost use Rattle.minelib_reading.specs.declared.model_key.HeaderKey.TheVariants as key;
+ghost use Rattle.minelib_reading.specs.declared.model_key.Section.TheVariants as Section;
+ghost use Rattle.text_lines.specs.declared.text_fault.TextKind.TheVariants as TextKind;
+ghost use Rattle.text_lines.specs.Reading.{Admits, Gives};
+ghost use Rattle.text_lines.specs.TextLines.{fields_of};
+ghost use Rattle.pit_model.specs.Name.{is_name};
+ghost use Rattle.pit_model.specs.declared.ranges.TheConstants.{MAX_BLOCKS};
+
+use crate::model_header::{blank_header, number_in};
+use crate::model_items::{
+    coef_alone, coef_of, is_coef_behind, is_limit_behind, limit_of, values_alone, values_in,
+};
+use crate::model_key::{Header, HeaderKey, ModelKey, Section};
+use crate::model_keys::{cut_at_colon, is_heading, is_limits, is_next, key_of, only_value};
+use mine_instance::blocks::Blocks;
+use mine_instance::coef::{Coef, Coefs};
+use mine_instance::cpit::{Cpit, CpitCoef};
+use mine_instance::instance::Instance;
+use mine_instance::limits::Limits;
+use mine_instance::values::Values;
+use minelib_lines::problem::Problem;
+use pit_model::limit::Limit;
+use pit_model::name::Name;
+use pit_units::Dec;
+use precedence::Preds;
+use std::alloc::{AllocError, Global};
+use std::marker::Model;
+use text_lines::line_by_line::Admit;
+use text_lines::read_errors::{FileError, LineError};
+use text_lines::text_fault::{LineFault, TextKind};
+use text_lines::text_fields::count_fields;
+
+/// What the lines of a model file so far state, of so many blocks.
+#[derive(Drop)]
+pub struct ModelDraft {
+    alloc: Global,
+    problem: Problem,
+    blocks: usize,
+    name: Option<Name>,
+    header: Header,
+    section: Section,
+    values: Values,
+    coefs: Vec<Coef>,
+    limits: Vec<Limit>,
+    // the values of the last line of the objective
+    row: Vec<Dec>,
+}
+
+impl Model for ModelDraft {
+    ghost use Rattle.minelib_reading.specs.ModelLines.{ModelDraftView};
+
+    ghost Value = { ModelDraftView };
+
+    ghost use Rattle.minelib_reading.specs.ModelFields.{draft_of, KeepsModel};
+
+    ghost view = { draft_of };
+
+    ghost invariant = { KeepsModel };
+}
+
+impl Admit for ModelDraft {
+    ghost admit_line = { admit_model };
+
+    fn admit(&mut self, line: &[u8]) -> Result<(), LineError> {
+        match self.section {
+            Section::Objective => self.admit_in_objective(line),
+            Section::Coefs => self.admit_in_coefs(line),
+            Section::Heading | Section::Limits => self.admit_any(line),
+        }
+    }
+}
+
+impl ModelDraft {
+    /// Before the first line.
+    pub fn new(alloc: Global, problem: Problem, blocks: usize) -> ModelDraft
+        requires { blocks ≤ MAX_BLOCKS }
+        ensures { result ≡ blank_model problem blocks }
+    {
+        ModelDraft {
+            alloc,
+            problem,
+            blocks,
+            name: None,
+            header: blank_header(problem),
+            section: Section::Heading,
+            values: Values::new(Vec::new(alloc), 0, 0),
+            coefs: Vec::new(alloc),
+            limits: Vec::new(alloc),
+            row: Vec::new(alloc),
+        }
+    }
+
+    /// The draft, once all lines are read and `end` is the number of the line after the last.
+    pub fn finish(self, end: u64) -> Result<ModelDraft, FileError>
+        ensures { Gives result (finish_model end self) }
+    {
+        if self.is_whole() {
+            Ok(self)
+        } else {
+            Err(FileError::Faulty(LineFault {
+                line: end,
+                kind: TextKind::Missing,
+            }))
+        }
+    }
+
+    /// The instance of this file, and of blocks and predecessors.
+    pub fn into_instance(self, blocks: Blocks, preds: Preds) -> Instance
+        requires { is_name self.name ≡ true }
+        ensures { result ≡ instance_read blocks preds self }
+    {
+        let rate = self.header.count(HeaderKey::Rate);
+        let periods = self.periods();
+        let destinations = self.destinations();
+        let resources = self.resources();
+        Instance {
+            name: self.name.unwrap(),
+            rate: Dec::new(i128::from(rate)).unwrap(),
+            periods,
+            destinations,
+            resources,
+            blocks,
+            preds,
+            values: self.values,
+            coefs: Coefs::new(self.coefs),
+            limits: Limits::new(self.limits),
+        }
+    }
+
+    /// The CPIT of this file. Fails only where memory is refused.
+    pub fn into_cpit(self) -> Result<Cpit, AllocError>
+        requires name { is_name self.name ≡ true }
+        requires cpit { IsCpit (cpit_read self) }
+        ensures { IfOk result (λ cpit. cpit ≡ cpit_read self) }
+    {
+        let coefs = without_destinations(self.alloc, self.coefs.as_slice())?;
+        let rate = self.header.count(HeaderKey::Rate);
+        let periods = self.periods();
+        let resources = self.resources();
+        Ok(Cpit::new(
+            self.name.unwrap(),
+            Dec::new(i128::from(rate)).unwrap(),
+            periods,
+            resources,
+            self.values.into_flat(),
+            coefs,
+            self.limits,
+        ))
+    }
+
+    fn is_whole(&self) -> bool
+        ensures { result ≡ is_whole self.now }
+    {
+        self.header.is_complete() && self.values.len() == self.blocks && is_limits(self.section)
+    }
+
+    #[inline(never)]
+    #[tactic(auto, unfolding(crate::specs::ModelParts::admit_model))]
+    fn admit_any(&mut self, line: &[u8]) -> Result<(), LineError>
+        ensures { Admits self.new result (admit_model self.old line.now) }
+    {
+        match cut_at_colon(line) {
+            Some((word, values)) => self.admit_key(key_of(self.problem, word), values),
+            None => self.admit_item(line),
+        }
+    }
+
+    // A line below the key of the objective. One that is read as values has no colon, so it is not searched for one.
+    #[tactic(auto, unfolding(crate::specs::ModelParts::admit_model), using(crate::proofs::ItemsKeyless::values_keyless, crate::proofs::ModelShapes::values_takes))]
+    fn admit_in_objective(&mut self, line: &[u8]) -> Result<(), LineError>
+        requires { self.old.section ≡ Section.Objective }
+        ensures { Admits self.new result (admit_model self.old line.now) }
+    {
+        let destinations = self.destinations();
+        let before = self.values.len();
+        match values_alone(self.blocks, destinations, before, line, &mut self.row) {
+            Ok(()) => {
+                self.values.push(self.row.as_slice())?;
+                Ok(())
+            }
+            Err(LineError::Faulty(_)) => self.admit_any(line),
+            Err(LineError::OutOfMemory) => Err(LineError::OutOfMemory),
+        }
+    }
+
+    // A line below the key of the coefficients. One that is read as a coefficient has no colon, so it is not searched for one.
+    fn admit_in_coefs(&mut self, line: &[u8]) -> Result<(), LineError>
+        requires { self.old.section ≡ Section.Coefs }
+        ensures { Admits self.new result (admit_model self.old line.now) }
+    {
+        let destinations = self.destinations();
+        let resources = self.resources();
+        match coef_alone(self.problem, self.blocks, destinations, resources, line) {
+            Ok(coef) => self.add_coef(coef),
+            Err(_) => self.admit_any(line),
+        }
+    }
+
+    #[inline(always)]
+    fn add_coef(&mut self, coef: Coef) -> Result<(), LineError>
+        requires { is_heading self.old.section ≡ false }
+        ensures { Admits self.new result
+            (if is_behind comes_before (last_of self.old.coefs) coef then Ok
+            (record self.old { coefs = self.old.coefs ++ coef ∷ [] }) else Err TextKind.Order) }
+    {
+        if !is_coef_behind(self.coefs.as_slice(), &coef) {
+            return Err(LineError::Faulty(TextKind::Order));
+        }
+        self.coefs.push(coef)?;
+        Ok(())
+    }
+
+    #[tactic(auto, using(crate::proofs::ModelShapes::stray_takes))]
+    fn admit_key(&mut self, key: Option<ModelKey>, values: &[u8]) -> Result<(), LineError>
+        ensures { Admits self.new result (takes (keyed_line self.old key (fields_of values.now))) }
+    {
+        match key {
+            None => Err(LineError::Faulty(TextKind::Key)),
+            Some(ModelKey::Header(key)) => self.admit_header(key, values),
+            Some(ModelKey::Section(section)) => self.admit_section(section, values),
+        }
+    }
+
+    #[tactic(auto, using(crate::proofs::ModelShapes::header_takes))]
+    fn admit_header(&mut self, key: HeaderKey, values: &[u8]) -> Result<(), LineError>
+        ensures { Admits self.new result (takes (header_line self.old key (fields_of values.now))) }
+    {
+        if !is_heading(self.section) {
+            return Err(LineError::Faulty(TextKind::Key));
+        }
+        if self.header.is_given(key) {
+            return Err(LineError::Faulty(TextKind::Twice));
+        }
+        let value = only_value(values)?;
+        let number = number_in(self.problem, self.blocks, key, value)?;
+        self.name = name_with(self.alloc, key, value, self.name.take())?;
+        self.header = self.header.with(key, number as u32);
+        Ok(())
+    }
+
+    #[tactic(auto, using(crate::proofs::ModelShapes::section_takes))]
+    fn admit_section(&mut self, section: Section, values: &[u8]) -> Result<(), LineError>
+        ensures { Admits self.new result
+            (takes (section_line self.old section (fields_of values.now))) }
+    {
+        if !is_next(self.section, section) {
+            return Err(LineError::Faulty(TextKind::Key));
+        }
+        if count_fields(values) != 0 {
+            return Err(LineError::Faulty(TextKind::Fields));
+        }
+        if !self.is_ready() {
+            return Err(LineError::Faulty(TextKind::Missing));
+        }
+        self.section = section;
+        Ok(())
+    }
+
+    #[tactic(auto, using(crate::proofs::ModelShapes::stray_takes))]
+    fn admit_item(&mut self, line: &[u8]) -> Result<(), LineError>
+        ensures { Admits self.new result
+            (takes (item_line self.old self.old.section (fields_of line.now))) }
+    {
+        match self.section {
+            Section::Heading => Err(LineError::Faulty(TextKind::Key)),
+            Section::Objective => self.admit_values(line),
+            Section::Coefs => self.admit_coef(line),
+            Section::Limits => self.admit_limit(line),
+        }
+    }
+
+    #[tactic(auto, using(crate::proofs::ModelShapes::values_takes))]
+    fn admit_values(&mut self, line: &[u8]) -> Result<(), LineError>
+        requires { is_heading self.old.section ≡ false }
+        ensures { Admits self.new result (takes (values_line self.old (fields_of line.now))) }
+    {
+        let destinations = self.destinations();
+        let before = self.values.len();
+        values_in(self.blocks, destinations, before, line, &mut self.row)?;
+        self.values.push(self.row.as_slice())?;
+        Ok(())
+    }
+
+    #[tactic(auto, using(crate::proofs::ModelShapes::coef_takes))]
+    fn admit_coef(&mut self, line: &[u8]) -> Result<(), LineError>
+        requires { is_heading self.old.section ≡ false }
+        ensures { Admits self.new result (takes (coef_line self.old (fields_of line.now))) }
+    {
+        let destinations = self.destinations();
+        let resources = self.resources();
+        let coef = coef_of(self.problem, self.blocks, destinations, resources, line)?;
+        self.add_coef(coef)
+    }
+
+    #[tactic(auto, using(crate::proofs::ModelShapes::limit_takes))]
+    fn admit_limit(&mut self, line: &[u8]) -> Result<(), LineError>
+        ensures { Admits self.new result (takes (limit_line self.old (fields_of line.now))) }
+    {
+        let resources = self.resources();
+        let periods = self.periods();
+        let limit = limit_of(resources, periods, line)?;
+        if limit.bound.is_turned() || !is_limit_behind(self.limits.as_slice(), &limit) {
+            return Err(LineError::Faulty(TextKind::Order));
+        }
+        self.limits.push(limit)?;
+        Ok(())
+    }
+
+    #[inline]
+    fn periods(&self) -> u8
+        ensures { result ≡ count_in self.now.header key.Periods }
+    {
+        self.header.count(HeaderKey::Periods) as u8
+    }
+
+    #[inline]
+    fn destinations(&self) -> u8
+        ensures { result ≡ count_in self.now.header key.Destinations }
+    {
+        self.header.count(HeaderKey::Destinations) as u8
+    }
+
+    #[inline]
+    fn resources(&self) -> u8
+        ensures { result ≡ count_in self.now.header key.Resources }
+    {
+        self.header.count(HeaderKey::Resources) as u8
+    }
+
+    // Whether all that has to stand before the next section does.
+    fn is_ready(&self) -> bool
+        ensures { result ≡ is_ready self.now self.now.section }
+    {
+        match self.section {
+            Section::Heading => self.header.is_complete(),
+            Section::Objective => self.values.len() == self.blocks,
+            Section::Coefs => true,
+            Section::Limits => true,
+        }
+    }
+}
+
+// The coefficients of a CPIT, whose one destination is not named.
+fn without_destinations(alloc: Global, coefs: &[Coef]) -> Result<Vec<CpitCoef>, AllocError>
+    ensures { IfOk result (λ of_cpit. of_cpit.items ≡ map without_destination coefs.now) }
+{
+    let mut of_cpit = Vec::with_capacity(alloc, coefs.len())?;
+    for coef in coefs {
+        let (b, r, v) = (coef.b, coef.r, coef.v);
+        of_cpit.push(CpitCoef { b, r, v })?;
+    }
+    Ok(of_cpit)
+}
+
+// The NAME after a header key with this value.
+fn name_with(
+    alloc: Global,
+    key: HeaderKey,
+    value: &[u8],
+    name: Option<Name>,
+) -> Result<Option<Name>, AllocError>
+    requires { is_name_for key value.now ≡ true }
+    ensures { IfOk result (λ named. unwrap_or named []
+        ≡ name_with key value.now (unwrap_or name [])) }
+{
+    match key {
+        HeaderKey::Name => Name::read(alloc, value),
+        _ => Ok(name),
+    }
+}

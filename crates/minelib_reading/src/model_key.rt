@@ -1,0 +1,109 @@
+//! The key lines of a model file.
+
+ghost use Rattle.std.specs.Prelude.{◌≡◌, ◌<◌};
+ghost use Rattle.minelib_reading.specs.HeaderKeys.{count_in, is_complete, is_given, no_key, number_of, place, with_key};
+
+/// The part of a model file that a line stands in.
+#[derive(Clone, Copy, Debug, PartialEq, Eq)]
+pub enum Section {
+    /// The header keys, before the first section.
+    Heading,
+    /// The values of each block.
+    Objective,
+    /// The coefficients of the resources.
+    Coefs,
+    /// The limits of the resources.
+    Limits,
+}
+
+/// A key of the header. A header keeps the numbers of its keys in this order.
+#[derive(Clone, Copy, Debug, PartialEq, Eq)]
+pub enum HeaderKey {
+    Name,
+    Type,
+    Blocks,
+    Periods,
+    Destinations,
+    Resources,
+    General,
+    Rate,
+}
+
+/// The key of a key line.
+#[derive(Clone, Copy, Debug, PartialEq, Eq)]
+pub enum ModelKey {
+    Header(HeaderKey),
+    Section(Section),
+}
+
+/// The number that each header key so far states: 0 where it states no more than that it stands.
+#[derive(Clone, Copy, Debug, PartialEq, Eq)]
+pub struct Header {
+    // by the place of the key
+    numbers: [Option<u32>; 8],
+}
+
+impl Header {
+    /// Where no key stood.
+    pub fn blank() -> Header
+        ensures { result ≡ no_key }
+    {
+        Header { numbers: [None; 8] }
+    }
+
+    /// This header, and a key with this number.
+    pub fn with(mut self, key: HeaderKey, number: u32) -> Header
+        ensures { result ≡ with_key self key number }
+    {
+        put(&mut self.numbers, key, number);
+        self
+    }
+
+    // The number of a key that stood.
+    #[inline]
+    fn number(&self, key: HeaderKey) -> Option<u32>
+        ensures { result ≡ number_of self.now key }
+    {
+        self.numbers[place(key)]
+    }
+
+    /// The number of a key, or 0 before it stood.
+    #[inline]
+    pub fn count(&self, key: HeaderKey) -> u32
+        ensures { result ≡ count_in self.now key }
+    {
+        self.number(key).unwrap_or(0)
+    }
+
+    /// Whether a key stood before.
+    pub fn is_given(&self, key: HeaderKey) -> bool
+        ensures { result ≡ is_given key self.now }
+    {
+        self.number(key).is_some()
+    }
+
+    /// Whether all keys stood.
+    #[tactic(auto, using(crate::proofs::HeaderFacts::all_numbers))]
+    pub fn is_complete(&self) -> bool
+        ensures { result ≡ is_complete self.now }
+    {
+        self.numbers.iter().all(|number| number.is_some())
+    }
+}
+
+// Keeps the number of a key at its place.
+fn put(numbers: &mut [Option<u32>; 8], key: HeaderKey, number: u32)
+    ensures { record { numbers = numbers.new }
+        ≡ with_key (record { numbers = numbers.old }) key number }
+{
+    numbers[place(key)] = Some(number);
+}
+
+// The place of a key among all.
+#[inline]
+fn place(key: HeaderKey) -> usize
+    ensures value { result ≡ place key }
+    ensures below { result < 8 }
+{
+    key as usize
+}

@@ -1,6 +1,0 @@
-use Rattle.std.proofs.Common.{sym}
-use Rattle.pit_model.proofs.BlockFacts.{block_again}
-use Rattle.minelib_text.proofs.block_reader.block_with.Goals as goal
-
-pub returns : goal.returns
-returns c = sym (block_again _)

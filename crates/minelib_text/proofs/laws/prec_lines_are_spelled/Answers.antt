@@ -1,5 +1,0 @@
-use Rattle.minelib_text.proofs.SpelledRead.{preds_spelled}
-use Rattle.minelib_text.proofs.laws.prec_lines_are_spelled.Goals as goal
-
-pub returns : goal.returns
-returns c n text lists e = (preds_spelled n text lists e).1

@@ -1,9 +1,0 @@
-use Rattle.std.proofs.Common.{◌≡◌, true, take}
-use Rattle.minelib_text.specs.PrecLines.{all_differ}
-use Rattle.minelib_text.proofs.MarkFacts.{AreJustMarked}
-use Rattle.minelib_text.proofs.marks.mark_new.Given as goal
-
--- the numbers so far differ, and are what is marked
-abbrev pub invariant-loop-id : goal.invariant-loop-id
-invariant-loop-id l =
-    (all_differ (take l.id-index l.ids) ≡ true) × AreJustMarked (take l.id-index l.ids) l.marks

@@ -1,7 +1,0 @@
-use Rattle.std.proofs.Common.{rules}
-use Rattle.minelib_text.specs.TextLines.{fields_of}
-use Rattle.minelib_text.proofs.ModelShapes.{section_takes}
-use Rattle.minelib_text.proofs.model_draft.ModelDraft.admit_section.Goals as goal
-
-pub returns-then-count_fields-ne0 : goal.returns-then-count_fields-ne0
-returns-then-count_fields-ne0 c = rw (section_takes c.args.self.now c.args.section (fields_of c.args.values.now)) (search rules)

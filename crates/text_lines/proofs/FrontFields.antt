@@ -1,0 +1,71 @@
+-- A number that a line begins with is its first field, if a blank or nothing stands behind it.
+use Rattle.std.proofs.Common.{◌≡◌, ℕ, ◌*◌, ◌/◌, ◌^◌, ◌<◌, ◌≤◌, ◌==◌, true, List, [], ◌∷◌, ◌++◌, length, ℤ, pos, arith, refl, sym, ap, ◌∙◌}
+use Rattle.std.specs.Prelude.{Ok, Err}
+use Rattle.std.specs.List.{list_all}
+use Rattle.std.proofs.lemmas.Bool.{le-ltb, lt-ltb}
+use Rattle.std.proofs.lemmas.List.Sums.{list_all-from_AllPass}
+use borrow.Author.Tests.{ne_eqb}
+use Rattle.records.specs.Cells.{without_leading_blanks}
+use Rattle.pit_units.specs.Front.{BeginsWith}
+use Rattle.text_lines.specs.FieldValues.{at_most, first_by, decimal_in, size_in, whole_in}
+use Rattle.text_lines.specs.TextLines.{fields_of, is_ended}
+use Rattle.text_lines.specs.Uncounted.{TakesDecimal}
+use Rattle.text_lines.specs.declared.text_fault.TextKind.{TextKind}
+use Rattle.text_lines.specs.declared.text_fault.TextKind.TheVariants.{Range}
+use Rattle.text_lines.proofs.Cuts.{fields_past_blanks, past_blanks, StartsWithField}
+use Rattle.text_lines.proofs.PlainText.{first_field, is_plain, number_byte}
+
+front_cut : (front rest : List ℕ) → 0 < length front → list_all is_plain front ≡ true → is_ended rest ≡ true
+    → fields_of (front ++ rest) ≡ front ∷ fields_of rest
+front_cut [] rest some plain ended = absurd (omega (arith, some))
+front_cut (c ∷ cs) rest some plain ended = first_field c cs rest plain ended
+
+pub field_in_front : (max : ℕ) (line : List ℕ) (m : ℤ) (rest : List ℕ) → BeginsWith max (without_leading_blanks line) m rest → is_ended rest ≡ true
+    → TakesDecimal max line m rest
+field_in_front max line m rest b ended =
+    let plain = list_all-from_AllPass is_plain b.front (λ k d h. number_byte _ (b.bytes k d h)) in
+    record {
+      field = b.front;
+      cut = sym (fields_past_blanks line) ∙ ap fields_of b.joined ∙ front_cut b.front rest b.some plain ended;
+      stated = b.stated;
+    }
+
+pub whole_taken : (limit : ℕ) (line : List ℕ) (n : ℕ) (rest : List ℕ) → TakesDecimal 0 line (pos (n * 10 ^ 6)) rest → n < limit
+    → first_by (whole_in limit) (fields_of line) ≡ Ok (n, fields_of rest)
+unfolding whole_in
+whole_taken limit line n rest t below =
+    let quotient : n * 10 ^ 6 / 10 ^ 6 ≡ n = omega arith in
+    rw (t.cut, t.stated, quotient, lt-ltb n limit below) refl
+
+pub whole_refused : (limit : ℕ) (line : List ℕ) (n : ℕ) (rest : List ℕ) → TakesDecimal 0 line (pos (n * 10 ^ 6)) rest → (n < limit → ⊥)
+    → first_by (whole_in limit) (fields_of line) ≡ Err Range
+unfolding whole_in
+whole_refused limit line n rest t above =
+    let quotient : n * 10 ^ 6 / 10 ^ 6 ≡ n = omega arith in
+    let past : limit ≤ n = omega (arith, above) in
+    rw (t.cut, t.stated, quotient, le-ltb n limit past) refl
+
+pub size_taken : (decimals most : ℕ) (line : List ℕ) (m : ℤ) (rest : List ℕ) (size : ℕ) → TakesDecimal decimals line m rest → at_most most m ≡ Ok size
+    → first_by (size_in decimals most) (fields_of line) ≡ Ok (size, fields_of rest)
+unfolding size_in
+size_taken decimals most line m rest size t within = rw (t.cut, t.stated, within) refl
+
+pub size_refused : (decimals most : ℕ) (line : List ℕ) (m : ℤ) (rest : List ℕ) (kind : TextKind) → TakesDecimal decimals line m rest
+    → at_most most m ≡ Err kind → first_by (size_in decimals most) (fields_of line) ≡ Err kind
+unfolding size_in
+size_refused decimals most line m rest kind t out = rw (t.cut, t.stated, out) refl
+
+pub decimal_taken : (line : List ℕ) (m : ℤ) (rest : List ℕ) → TakesDecimal 6 line m rest
+    → first_by decimal_in (fields_of line) ≡ Ok (m, fields_of rest)
+unfolding decimal_in
+decimal_taken line m rest t = rw (t.cut, t.stated) refl
+
+-- a line has no field where it has no byte but blanks
+pub none_past_blanks : (line : List ℕ) → (length (without_leading_blanks line) == 0) ≡ (length (fields_of line) == 0)
+none_past_blanks line = by (without_leading_blanks line) (past_blanks line) (fields_past_blanks line)
+  where
+    by : (text : List ℕ) → StartsWithField text → fields_of text ≡ fields_of line → (length text == 0) ≡ (length (fields_of line) == 0)
+    by [] starts same = rw (sym same) refl
+    by (c ∷ cs) starts same =
+        let some : 0 < length (fields_of line) = rw (sym same, (starts (omega arith)).0) (omega arith) in
+        ne_eqb (length (c ∷ cs)) 0 (λ e. omega (arith, e)) ∙ sym (ne_eqb (length (fields_of line)) 0 (λ e. omega (arith, e, some)))

@@ -1,0 +1,43 @@
+-- What a step of reading shows where it found no fault.
+use Rattle.std.specs.Prelude.{◌≡◌, Bool, true, false, Result, Ok, Err, if◌then◌else◌}
+use Rattle.std.proofs.Common.{refl}
+use Rattle.forms.specs.Steps.{◌>>=◌}
+use Rattle.text_lines.specs.Reading.{in_file}
+use Rattle.text_lines.specs.declared.text_fault.LineFault.{LineFault}
+use Rattle.text_lines.specs.declared.text_fault.TextFile.{TextFile}
+
+-- a step behind another one; the part is told what both found, since a `let` would write them out at each place
+pub bind_ok : {A B F : Type 0} (r : Result A F) (next : A → Result B F) (y : B) → (r >>= next) ≡ Ok y → (x : A) × (r ≡ Ok x) × (next x ≡ Ok y)
+bind_ok (Ok x) next y e = (x, refl, e)
+bind_ok (Err fault) next y e = absurd cc
+
+pub bind_then : {A B F P : Type 0} (r : Result A F) (next : A → Result B F) (y : B) → (r >>= next) ≡ Ok y
+    → ((x : A) → r ≡ Ok x → next x ≡ Ok y → P) → P
+bind_then r next y e part = let b = bind_ok r next y e in part b.0 b.1 b.2
+
+-- a step behind a test that may fail
+pub guard_ok : {A F : Type 0} (t : Bool) (fault : F) (r : Result A F) (y : A) → (if t then Err fault else r) ≡ Ok y → (t ≡ false) × (r ≡ Ok y)
+guard_ok true fault r y e = absurd cc
+guard_ok false fault r y e = (refl, e)
+
+pub guard_then : {A F P : Type 0} (t : Bool) (fault : F) (r : Result A F) (y : A) → (if t then Err fault else r) ≡ Ok y
+    → (t ≡ false → r ≡ Ok y → P) → P
+guard_then t fault r y e part = let g = guard_ok t fault r y e in part g.0 g.1
+
+pub then_ok : {A F : Type 0} (t : Bool) (fault : F) (r : Result A F) (y : A) → (if t then r else Err fault) ≡ Ok y → (t ≡ true) × (r ≡ Ok y)
+then_ok true fault r y e = (refl, e)
+then_ok false fault r y e = absurd cc
+
+pub then_err : {A F : Type 0} (t : Bool) (fault other : F) (x : A) → (if t then Ok x else Err fault) ≡ Err other → (t ≡ false) × (fault ≡ other)
+then_err true fault other x e = absurd cc
+then_err false fault other x e = (refl, cc)
+
+pub same_ok : {A F : Type 0} (x y : A) → ◌≡◌ {A = Result A F} (Ok x) (Ok y) → x ≡ y
+same_ok x y e = cc
+
+pub err_same : {B : Type 0} (f g : LineFault) → ◌≡◌ {A = Result B LineFault} (Err f) (Err g) → f ≡ g
+err_same f g e = cc
+
+pub in_file_ok : {A : Type 0} (file : TextFile) (r : Result A LineFault) (x : A) → in_file file r ≡ Ok x → r ≡ Ok x
+in_file_ok file (Ok y) x e = cc
+in_file_ok file (Err fault) x e = absurd cc

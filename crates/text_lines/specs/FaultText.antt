@@ -1,0 +1,30 @@
+-- The words that show a faulty line of the texts of an instance.
+use Rattle.std.specs.Prelude.{ℕ, List, ◌++◌, codes, decimal}
+use Rattle.text_lines.specs.declared.text_fault.TextFault.{TextFault}
+use Rattle.text_lines.specs.declared.text_fault.TextFile.{TextFile}
+use Rattle.text_lines.specs.declared.text_fault.TextFile.TheVariants as file
+use Rattle.text_lines.specs.declared.text_fault.TextKind.{TextKind}
+use Rattle.text_lines.specs.declared.text_fault.TextKind.TheVariants as kind
+
+-- a file by the ending of its name
+abbrev pub file_name : TextFile → List ℕ
+file_name file.Blocks = codes "blocks"
+file_name file.Prec = codes "prec"
+file_name file.Pcpsp = codes "pcpsp"
+file_name file.Cpit = codes "cpit"
+
+abbrev pub kind_name : TextKind → List ℕ
+kind_name kind.Fields = codes "Fields"
+kind_name kind.Number = codes "Number"
+kind_name kind.TooFine = codes "TooFine"
+kind_name kind.Range = codes "Range"
+kind_name kind.Order = codes "Order"
+kind_name kind.Count = codes "Count"
+kind_name kind.Twice = codes "Twice"
+kind_name kind.Key = codes "Key"
+kind_name kind.Missing = codes "Missing"
+kind_name kind.Name = codes "Name"
+
+-- `FILE line N: K`
+abbrev pub fault_text : TextFault → List ℕ
+fault_text fault = file_name fault.file ++ (codes " line " ++ (decimal fault.line ++ (codes ": " ++ kind_name fault.kind)))

@@ -1,0 +1,9 @@
+pub mod FaultText
+pub mod FieldValues
+pub mod FileFault
+pub mod ItemGrammar
+pub mod LineKinds
+pub mod Reading
+pub mod TextLines
+pub mod TextParts
+pub mod Uncounted

@@ -1,0 +1,17 @@
+-- The kind of fault of a line for what is wrong with its fields, whichever place a field has.
+use Rattle.std.specs.Prelude.{ℕ}
+use Rattle.forms.specs.FieldFault.{FieldFault}
+use Rattle.forms.specs.FieldFault as fault
+use Rattle.text_lines.specs.declared.text_fault.TextKind.{TextKind}
+use Rattle.text_lines.specs.declared.text_fault.TextKind.TheVariants as kind
+
+abbrev pub text_kind : FieldFault → TextKind
+text_kind fault.Count = kind.Fields
+text_kind fault.Number = kind.Number
+text_kind fault.TooFine = kind.TooFine
+text_kind fault.Range = kind.Range
+text_kind fault.OffStep = kind.Range
+text_kind fault.Word = kind.Name
+
+abbrev pub text_kinds : ℕ → FieldFault → TextKind
+text_kinds place = text_kind

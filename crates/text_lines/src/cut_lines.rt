@@ -1,0 +1,62 @@
+//! The lines of a text that is read.
+
+ghost use Rattle.std.specs.Prelude.{◌≡◌, ◌<◌, ◌≤◌, ◌==◌, ◌∷◌, drop, length};
+ghost use Rattle.std.specs.List.{position_or_len};
+ghost use Rattle.text_lines.specs.TextLines.{is_skipped, lines_of, without_cr, without_mark};
+
+use memchr::memchr;
+use records::cells::without_leading_blanks;
+
+/// The text without one byte order mark at its front.
+pub fn without_mark(text: &[u8]) -> &[u8]
+    ensures { result.now ≡ without_mark text.now }
+{
+    match text {
+        [0xEF, 0xBB, 0xBF, rest @ ..] => rest,
+        _ => text,
+    }
+}
+
+/// The first line of a text, without its LF, and the text behind it.
+pub fn cut_line(text: &[u8]) -> (&[u8], &[u8])
+    requires { 0 < length text.now }
+    ensures cut { lines_of text.now ≡ result.0.now ∷ lines_of result.1.now }
+    ensures less { length result.1.now < length text.now }
+{
+    let end = line_end(text);
+    (&text[..end], behind(text, end + 1))
+}
+
+/// The bytes from a place on, if there are any.
+pub fn behind(text: &[u8], place: usize) -> &[u8]
+    ensures { result.now ≡ drop place text.now }
+{
+    text.get(place..).unwrap_or(&[])
+}
+
+fn line_end(text: &[u8]) -> usize
+    ensures value { result ≡ position_or_len (λ b. b == 10) text.now }
+    ensures within { result ≤ length text.now }
+{
+    memchr(b'\n', text).unwrap_or(text.len())
+}
+
+/// The line without one CR at its end.
+pub fn without_cr(line: &[u8]) -> &[u8]
+    ensures { result.now ≡ without_cr line.now }
+{
+    match line {
+        [front @ .., b'\r'] => front,
+        _ => line,
+    }
+}
+
+/// Whether a line is left out: blanks alone, or blanks and then `%`.
+pub fn is_skipped(line: &[u8]) -> bool
+    ensures { result ≡ is_skipped line.now }
+{
+    match without_leading_blanks(line).first() {
+        Some(byte) => *byte == b'%',
+        None => true,
+    }
+}

@@ -1,0 +1,52 @@
+//! Reading the lines of a text one after the other.
+
+ghost use Rattle.std.specs.Prelude.{◌≡◌, ℕ, List, Result, IfOk};
+ghost use Rattle.text_lines.specs.Reading.{Admits, Leaves, at_line, read_lines};
+ghost use Rattle.text_lines.specs.TextLines.{end_of, lines_in};
+ghost use Rattle.text_lines.specs.declared.text_fault.TextKind.{TextKind as Kind};
+
+use crate::cut_lines::{cut_line, is_skipped, without_cr, without_mark};
+use crate::read_errors::{FileError, LineError};
+use crate::text_fault::LineFault;
+
+/// What the lines of a text so far state.
+pub trait Admit {
+    ghost admit_line: { Self → List ℕ → Result Self Kind };
+
+    /// Takes one more line, which is none that is skipped.
+    ///
+    /// # Errors
+    ///
+    /// The line is faulty after those before it, or memory was refused. What the lines state is then of no use.
+    fn admit(&mut self, line: &[u8]) -> Result<(), LineError>
+        ensures { Admits self.new result (admit_line self.old line.now) };
+}
+
+/// Takes the lines of a text that are not skipped, and answers the number of the line after the last.
+pub fn read_lines<S: Admit>(state: &mut S, text: &[u8]) -> Result<u64, FileError>
+    ensures read { Leaves state.new result (read_lines S.admit_line state.old (lines_in text.now)) }
+    ensures number { IfOk result (λ n. n ≡ end_of text.now) }
+{
+    let mut number = 1;
+    let mut rest = without_mark(text);
+    while !rest.is_empty() {
+        let (whole, behind) = cut_line(rest);
+        let line = without_cr(whole);
+        if !is_skipped(line) {
+            admit_at(state, number, line)?;
+        }
+        number += 1;
+        rest = behind;
+    }
+    Ok(number)
+}
+
+fn admit_at<S: Admit>(state: &mut S, number: u64, line: &[u8]) -> Result<(), FileError>
+    ensures { Leaves state.new result (at_line number (S.admit_line state.old line.now)) }
+{
+    match state.admit(line) {
+        Ok(()) => Ok(()),
+        Err(LineError::Faulty(kind)) => Err(FileError::Faulty(LineFault { line: number, kind })),
+        Err(LineError::OutOfMemory) => Err(FileError::OutOfMemory),
+    }
+}

@@ -1,0 +1,151 @@
+//! What is wrong with a MineLib text.
+
+ghost use Rattle.std.specs.Prelude.{◌≡◌};
+
+use pit_units::DecFault;
+use std::alloc::AllocError;
+use std::fmt;
+use thiserror::Error;
+
+/// A file of an instance.
+#[derive(Clone, Copy, Debug, Error, PartialEq, Eq)]
+pub enum TextFile {
+    /// The blocks.
+    Blocks,
+    /// The predecessors of each block.
+    Prec,
+    /// The production scheduling problem.
+    Pcpsp,
+    /// The constrained pit limit problem.
+    Cpit,
+}
+
+impl fmt::Display for TextFile {
+    ghost use Rattle.std.specs.Prelude.{Some};
+    ghost use Rattle.text_lines.specs.FaultText.{file_name};
+
+    ghost output = { λ file. Some (file_name file) };
+
+    fn fmt<W: fmt::Write>(&self, f: &mut fmt::Formatter<W>) -> fmt::Result {
+        match self {
+            TextFile::Blocks => f.write_str("blocks"),
+            TextFile::Prec => f.write_str("prec"),
+            TextFile::Pcpsp => f.write_str("pcpsp"),
+            TextFile::Cpit => f.write_str("cpit"),
+        }
+    }
+}
+
+/// What is wrong with a line of a MineLib text. Where several kinds apply to a line, an unknown key, a key that stands twice and the number of
+/// fields come first; then the fields left to right, each by `Number`, `TooFine`, `Range` and `Name`; then `Order`, `Count`, predecessors that
+/// stand twice, and `Missing`.
+#[derive(Clone, Copy, Debug, Error, PartialEq, Eq)]
+pub enum TextKind {
+    /// The line has too few or too many fields.
+    Fields,
+    /// A field is no decimal number.
+    Number,
+    /// A number has more decimals than its field allows.
+    TooFine,
+    /// A number is out of range.
+    Range,
+    /// An identifier is not the next one, coefficients or limits do not rise, or an interval's ends are the wrong way round.
+    Order,
+    /// The stated number of predecessors is not the number of those that stand, or NBLOCKS is not the number of blocks.
+    Count,
+    /// A header key stands before, or a predecessor stands twice or is the block itself.
+    Twice,
+    /// The key is unknown, a header key stands behind a section's, a section is not the next one, or a line without a key stands before the first
+    /// section.
+    Key,
+    /// A section begins while header keys or objective lines are lacking, or the text ends while lines, keys or sections are lacking.
+    Missing,
+    /// NAME is no NAME, TYPE is not that of the file, or a limit letter is not `L`, `G` or `I`.
+    Name,
+}
+
+impl fmt::Display for TextKind {
+    ghost use Rattle.std.specs.Prelude.{Some};
+    ghost use Rattle.text_lines.specs.FaultText.{kind_name};
+
+    ghost output = { λ kind. Some (kind_name kind) };
+
+    fn fmt<W: fmt::Write>(&self, f: &mut fmt::Formatter<W>) -> fmt::Result {
+        match self {
+            TextKind::Fields => f.write_str("Fields"),
+            TextKind::Number => f.write_str("Number"),
+            TextKind::TooFine => f.write_str("TooFine"),
+            TextKind::Range => f.write_str("Range"),
+            TextKind::Order => f.write_str("Order"),
+            TextKind::Count => f.write_str("Count"),
+            TextKind::Twice => f.write_str("Twice"),
+            TextKind::Key => f.write_str("Key"),
+            TextKind::Missing => f.write_str("Missing"),
+            TextKind::Name => f.write_str("Name"),
+        }
+    }
+}
+
+impl From<DecFault> for TextKind {
+    ghost use Rattle.text_lines.specs.FieldValues.{kind_of};
+
+    ghost from_gives = { λ fault kind. kind ≡ kind_of fault };
+
+    fn from(fault: DecFault) -> TextKind {
+        match fault {
+            DecFault::Number => TextKind::Number,
+            DecFault::TooFine => TextKind::TooFine,
+            DecFault::Range => TextKind::Range,
+        }
+    }
+}
+
+/// A faulty line of a text: its number, from 1, and what is wrong with it. Where something is missing at the end of the text, the number is that of
+/// its lines and one more.
+#[derive(Clone, Copy, Debug, PartialEq, Eq)]
+pub struct LineFault {
+    pub line: u64,
+    pub kind: TextKind,
+}
+
+/// The first faulty line of the texts of an instance.
+#[derive(Clone, Copy, Debug, Error, PartialEq, Eq)]
+pub struct TextFault {
+    pub file: TextFile,
+    /// The number of the line, from 1; where something is missing at the end, the number of lines and one more.
+    pub line: u64,
+    pub kind: TextKind,
+}
+
+impl fmt::Display for TextFault {
+    ghost use Rattle.std.specs.Prelude.{Some};
+    ghost use Rattle.text_lines.specs.FaultText.{fault_text};
+
+    ghost output = { λ fault. Some (fault_text fault) };
+
+    fn fmt<W: fmt::Write>(&self, f: &mut fmt::Formatter<W>) -> fmt::Result {
+        let TextFault { file, line, kind } = self;
+        write!(f, "{file} line {line}: {kind}")
+    }
+}
+
+/// Why texts were not read.
+#[derive(Debug, Drop, Error, PartialEq, Eq)]
+pub enum ReadTextError {
+    /// The texts denote nothing.
+    #[error("{0}")]
+    Fault(TextFault),
+    /// Memory was refused.
+    #[error("OutOfMemory")]
+    OutOfMemory,
+}
+
+impl From<AllocError> for ReadTextError {
+    ghost use Rattle.text_lines.specs.declared.text_fault.ReadTextError.TheVariants.{OutOfMemory};
+
+    ghost from_gives = { λ _ error. error ≡ OutOfMemory };
+
+    fn from(_refusal: AllocError) -> ReadTextError {
+        ReadTextError::OutOfMemory
+    }
+}
