@@ -1,0 +1,77 @@
+"""What the scripts of tools/ that are written in Python share."""
+import argparse
+import os
+import subprocess
+import time
+from typing import NamedTuple
+
+TOP = os.path.dirname(os.path.dirname(os.path.abspath(__file__)))
+
+# The texts of an instance, by the endings of their files, in the order in which they are written.
+ENDINGS = ["blocks", "prec", "upit", "pcpsp", "cpit"]
+
+
+def parser_of(doc):
+    """A parser for the words of a script that is described so."""
+    return argparse.ArgumentParser(description=doc.split("\n")[0])
+
+
+def read(path):
+    with open(path) as file:
+        return file.read()
+
+
+def write(path, text):
+    with open(path, "w") as file:
+        file.write(text)
+
+
+def model(path):
+    """The plan and the zone files of an input of the pipe form, at this path from the top of the repository."""
+    plan, *zones = read(os.path.join(TOP, path)).split("--\n")
+    return plan, zones
+
+
+def pipe_input(plan, zones):
+    """A plan and its zone files as one input of the pipe form."""
+    return "--\n".join([plan, *zones])
+
+
+def compile_words(plan, base, zones, valuers=None, capacity=None):
+    """The words of `pitc compile` for these paths."""
+    words = ["compile", "--plan", plan, "--out", base]
+    if valuers is not None:
+        words += ["--valuers", str(valuers)]
+    if capacity is not None:
+        words += ["--capacity", str(capacity)]
+    return words + list(zones)
+
+
+def texts_at(base):
+    """The texts of the files at a base, by their endings."""
+    return {ending: read(base + "." + ending) for ending in ENDINGS}
+
+
+def write_texts(base, texts):
+    """Writes the files at a base, by their endings."""
+    for ending, text in texts.items():
+        write(base + "." + ending, text)
+
+
+class Used(NamedTuple):
+    """How a run ended, and what it took: seconds of wall time and of processor time, and the bytes of its peak memory."""
+
+    status: int
+    wall: float
+    processor: float
+    peak: int
+
+
+def measured(command, **streams):
+    """Runs a command in a process of its own, which `subprocess.Popen` starts with these streams."""
+    begun = time.monotonic()
+    child = subprocess.Popen(command, **streams)
+    _, ended, used = os.wait4(child.pid, 0)
+    wall = time.monotonic() - begun
+    child.returncode = os.WEXITSTATUS(ended) if os.WIFEXITED(ended) else -os.WTERMSIG(ended)
+    return Used(child.returncode, wall, used.ru_utime + used.ru_stime, used.ru_maxrss * 1024)

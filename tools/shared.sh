@@ -1,0 +1,70 @@
+# shellcheck shell=sh
+# What the shell scripts of tools/ share. Each of them begins with
+#
+#     . "$(dirname "$0")/shared.sh"
+
+# The texts of an instance, by the endings of their files, in the order in which they are written.
+# shellcheck disable=SC2034
+endings="blocks prec upit pcpsp cpit"
+
+# Ends with a message. `case_name` is what is being tried, where a script tries several things.
+fail() {
+    echo "tools/${0##*/}: ${case_name:+$case_name: }$1" >&2
+    exit 1
+}
+
+# Ends where one of these programs is lacking.
+need() {
+    for needed in "$@"; do
+        command -v "$needed" > /dev/null || fail "no $needed here, so nothing is compared"
+    done
+}
+
+# Takes the words of the call, which have to name a built pitc, and goes into a new folder, which is removed at the end.
+# `program` is then the program's whole path, and `top` that of the repository.
+begin() {
+    need basename dirname mktemp rm
+    if [ $# -ne 1 ] || [ ! -x "$1" ]; then
+        echo "tools/${0##*/}: give a built pitc, as crates/pitc/out/pitc, which rt run leaves there" >&2
+        exit 2
+    fi
+    program=$(cd "$(dirname "$1")" && pwd)/$(basename "$1")
+    # shellcheck disable=SC2034
+    top=$(cd "$(dirname "$0")/.." && pwd) || exit 2
+    folder=$(mktemp -d) || exit 2
+    trap 'rm -rf "$folder"' EXIT
+    cd "$folder" || exit 2
+}
+
+# Runs a command, for so many seconds at most where this machine has `timeout`.
+at_most() {
+    seconds=$1
+    shift
+    if command -v timeout > /dev/null; then
+        timeout "$seconds" "$@"
+    else
+        "$@"
+    fi
+}
+
+# Runs the program.
+pitc() {
+    at_most 120 "$program" "$@"
+}
+
+# The texts of the files at a base, each behind its section line, as the pipe form prints them.
+sections() {
+    for ending in $endings; do
+        echo "== $ending"
+        cat "$1.$ending"
+    done
+}
+
+# Cuts an input of the pipe form into the files NAME.plan, NAME.0.csv, NAME.1.csv and so on.
+cut_input() {
+    awk -v name="$2" '
+        BEGIN { file = name ".plan" }
+        $0 == "--" { file = name "." zone++ ".csv"; next }
+        { print > file }
+    ' "$1"
+}
