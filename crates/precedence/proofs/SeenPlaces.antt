@@ -77,11 +77,22 @@ apart bs i j d distinct lt within =
     ∙ sym (ap (λ k. nat_eq (get_or (codes bs) i 0) k) (get_or-map code bs j d 0 within)) ∙ differ
 
 -- one block more
-pub placed_more : (listed : List Block) (i : ℕ) (d : Block) → i < length listed → placed 0 (take (i + 1) listed) ≡ placed 0 (take i listed) ++ (code (get_or listed i d), i) ∷ []
+placed_more : (listed : List Block) (i : ℕ) (d : Block) → i < length listed → placed 0 (take (i + 1) listed) ≡ placed 0 (take i listed) ++ (code (get_or listed i d), i) ∷ []
 placed_more listed i d lt =
     let long : 0 + length (take i listed) ≡ i = omega (arith, length-take i listed) in
     ap (placed 0) (take_more listed i d lt) ∙ placed_push 0 (take i listed) (get_or listed i d)
     ∙ ap (λ n. placed 0 (take i listed) ++ (code (get_or listed i d), n) ∷ []) long
+
+-- a table of the blocks before this one, with this one's place behind it, is that of one block more
+pub placed_on : (listed : List Block) (position place : ℕ) (block : Block) (table more : List (ℕ × ℕ)) → position < length listed
+    → block ≡ get_or listed position block → place ≡ code block → table ≡ placed 0 (take position listed) → more ≡ table ++ (place, position) ∷ []
+    → more ≡ placed 0 (take (position + 1) listed)
+placed_on listed position place block table more lt is at before push =
+    let here : place ≡ code (get_or listed position block) = at ∙ ap code is in
+    push
+    ∙ ap (λ es. es ++ (place, position) ∷ []) before
+    ∙ ap (λ k. placed 0 (take position listed) ++ (k, position) ∷ []) here
+    ∙ sym (placed_more listed position block lt)
 
 -- the refusal at a place that the table has
 pub first_again : (listed : List Block) (first again c : ℕ) (a : Block) → again < length listed

@@ -1,11 +1,10 @@
-use Rattle.std.proofs.Common.{◌≡◌, ◌++◌, [], ◌∷◌, take, get_or, nat_eq, sym, ap, subst, ◌∙◌}
+use Rattle.std.proofs.Common.{◌≡◌, take, get_or, nat_eq, sym, ap, subst, ◌∙◌}
 use Rattle.std.specs.List.{IsDistinct}
 use Rattle.std.specs.Map.{keys_of}
 use Rattle.std.proofs.lemmas.List.{get_or_default, take_all}
 use Rattle.pit_model.specs.declared.block.Block.{Block}
 use Rattle.precedence.specs.Codes.{code, codes}
-use Rattle.precedence.specs.Seen.{placed}
-use Rattle.precedence.proofs.SeenPlaces.{first_again, keys-placed, placed_more}
+use Rattle.precedence.proofs.SeenPlaces.{first_again, keys-placed, placed_on}
 use Rattle.precedence.proofs.number_by_place.differ.Goals as goal
 
 pub returns-in-Some-clause-same : goal.returns-in-Some-clause-same
@@ -20,15 +19,10 @@ returns-in-Some-clause-same c =
 
 pub loop-position-preserved : goal.loop-position-preserved
 loop-position-preserved c =
-    let block = c.index-blocks-position.result in
-    let listed = c.args.blocks.now in
-    let place : c.code.result ≡ code (get_or listed c.loop-position.position block) = c.code.ensures.value ∙ ap code c.index-blocks-position.is in
+    let pushed = c.in_ok-first.ensures.noted (sym c.in_ok-first.ensures.before ∙ c.in_default.is) in
     record {
-      entries =
-          c.in_ok-first.ensures.noted (sym c.in_ok-first.ensures.before ∙ c.in_default.is)
-          ∙ ap (λ es. es ++ (c.code.result, c.loop-position.position) ∷ []) c.loop-position.invariant.entries
-          ∙ ap (λ k. placed 0 (take c.loop-position.position listed) ++ (k, c.loop-position.position) ∷ []) place
-          ∙ sym (placed_more listed c.loop-position.position block c.loop-position-test.true);
+      entries = placed_on c.args.blocks.now c.loop-position.position c.code.result c.index-blocks-position.result c.loop-position.seen.entries _
+          c.loop-position-test.true c.index-blocks-position.is c.code.ensures.value c.loop-position.invariant.entries pushed;
       unique = c.in_ok-first.ensures.unique;
     }
 
