@@ -11,6 +11,7 @@ mod keys;
 mod lines;
 mod schedule;
 mod sections;
+pub mod text_name;
 mod writers;
 
-pub use writers::{write_blocks, write_cpit, write_pcpsp, write_prec, write_upit};
+pub use writers::{write_blocks, write_cpit, write_named, write_pcpsp, write_prec, write_upit};

@@ -1,13 +1,16 @@
 //! The writers of the five texts. Each begins the sink and writes one text. Where it is refused, the sink is as it was, or it was begun
 //! and holds the front of the text; after `SinkFailed` it refused one call, and after `OutOfMemory` none.
 
-ghost use Rattle.std.specs.Prelude.{IfErr, OnOk};
+ghost use Rattle.std.specs.Prelude.{◌≡◌, IfErr, OnOk};
 ghost use Rattle.text_sinks.specs.SinkState.{IsWritten, IsCutOff};
 ghost use Rattle.text_sinks.specs.SinkSteps.{refusals};
 ghost use Rattle.minelib_writing.specs.Written.{text_blocks, text_prec, text_upit, text_pcpsp, text_cpit};
+ghost use Rattle.minelib_writing.specs.Texts.{text_named};
+ghost use Rattle.mine_instance.specs.OfCpit.{cpit as cpit_of};
 ghost use Rattle.mine_instance.specs.Valid.{IsValid};
 
 use crate::files::{BlockFile, CpitFile, PcpspFile, PrecFile, UpitFile};
+use crate::text_name::TextName;
 use mine_instance::cpit::Cpit;
 use mine_instance::instance::Instance;
 use std::alloc::Global;
@@ -89,4 +92,29 @@ pub fn write_cpit<S: Sink>(alloc: Global, cpit: &Cpit, sink: &mut S) -> Result<(
         (S.state sink.new)) }
 {
     write_text(alloc, &CpitFile { cpit }, sink)
+}
+
+/// Begins the sink and writes the text of this name, of an instance and its CPIT.
+pub fn write_named<S: Sink>(
+    alloc: Global,
+    name: TextName,
+    instance: &Instance,
+    cpit: &Cpit,
+    sink: &mut S,
+) -> Result<(), WriteFault>
+    requires valid { IsValid instance.now }
+    requires cpit { cpit.now ≡ cpit_of instance.now }
+    ensures written { OnOk result
+        (IsWritten (text_named name instance.now) (S.state sink.old) (S.state sink.new)) }
+    ensures refused { IfErr result
+        (λ fault. IsCutOff (refusals fault) (text_named name instance.now) (S.state sink.old)
+        (S.state sink.new)) }
+{
+    match name {
+        TextName::Blocks => write_blocks(alloc, instance, sink),
+        TextName::Prec => write_prec(alloc, instance, sink),
+        TextName::Upit => write_upit(alloc, instance, sink),
+        TextName::Pcpsp => write_pcpsp(alloc, instance, sink),
+        TextName::Cpit => write_cpit(alloc, cpit, sink),
+    }
 }

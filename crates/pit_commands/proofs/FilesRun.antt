@@ -3,6 +3,7 @@ use Rattle.std.proofs.Common.{◌≡◌, ℕ, suc, Bool, List, [], ◌∷◌, le
 use Rattle.std.specs.List.{sum_by}
 use Rattle.lane.specs.MessageKinds.{rows_in}
 use Rattle.text_sinks.specs.SinkState.{SinkState}
+use Rattle.minelib_writing.specs.declared.text_name.TextName.{TextName}
 use Rattle.pit_compile.specs.Compiled.{AreGiven, IsVerdict}
 use Rattle.pit_compile.specs.Run.{IsRefused}
 use Rattle.pit_compile.specs.Settings.{IsSettingsFault}
@@ -21,7 +22,8 @@ as_many (left ∷ lefts) [] h = absurd h
 as_many (left ∷ lefts) (text ∷ texts) h = ap suc (as_many lefts texts h.1)
 
 -- the rows of a run that is done are those of as many accepted texts as there are feeds
-pub has_rows : (plan : PlanParts) (lefts : List (Option (List ℕ))) (valuers : ℕ) (old new : List SinkState) (rows count : ℕ) → length lefts ≡ count
+pub has_rows : (plan : PlanParts) (lefts : List (Option (List ℕ))) (valuers : ℕ) (old new : TextName → SinkState) (rows count : ℕ)
+    → length lefts ≡ count
     → IsRun plan lefts valuers old new rows → HasRows plan count rows
 has_rows plan lefts valuers old new rows count all h = record {
   texts = h.done.texts;
@@ -30,7 +32,8 @@ has_rows plan lefts valuers old new rows count all h = record {
   rows_are = h.rows_are ∙ ap (sum_by rows_in) h.done.passed.sent;
 }
 
-module _ (plan : PlanParts) (formulas : List Formula) (settings : Settings) (lefts : List (Option (List ℕ))) (sures : List Bool) (old new : List SinkState) (count : ℕ) (all : length lefts ≡ count) where
+module _ (plan : PlanParts) (formulas : List Formula) (settings : Settings) (lefts : List (Option (List ℕ))) (sures : List Bool)
+    (old new : TextName → SinkState) (count : ℕ) (all : length lefts ≡ count) where
   verdict_on : (r : Refusal) → IsVerdict plan lefts r → HasVerdict plan count r
   verdict_on r h = record { texts = h.texts; counted = as_many lefts h.texts h.given ∙ all; refused = h.refused }
 

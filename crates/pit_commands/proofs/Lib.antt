@@ -12,6 +12,5 @@ mod Lines
 pub mod Numbers
 mod Opened
 pub mod Outputs
-mod Sections
 mod Uncut
 mod Walk

@@ -5,6 +5,7 @@ use Rattle.std.specs.List.{sum_by}
 use Rattle.lane.specs.MessageKinds.{rows_in}
 use Rattle.lane.specs.Whole.{GatheredView}
 use Rattle.text_sinks.specs.SinkState.{SinkState}
+use Rattle.minelib_writing.specs.declared.text_name.TextName.{TextName}
 use Rattle.pit_compile.specs.Rows.{sents_of}
 use Rattle.pit_compile.specs.Run.{IsDone}
 use Rattle.pit_compile.specs.Settings.{IsSettingsFault}
@@ -55,7 +56,8 @@ abbrev pub rows_line : ℕ → List ℕ
 rows_line rows = codes "rows " ++ (decimal rows ++ 10 ∷ [])
 
 -- the run is done, and so many rows went through its lane
-pub record IsRun (plan : PlanParts) (lefts : List (Option (List ℕ))) (valuers : ℕ) (old new : List SinkState) (rows : ℕ) : Type 0 where
+pub record IsRun (plan : PlanParts) (lefts : List (Option (List ℕ))) (valuers : ℕ)
+    (old new : TextName → SinkState) (rows : ℕ) : Type 0 where
   pub gathered : GatheredView
   pub done : IsDone plan lefts valuers old new gathered
   pub rows_are : rows ≡ sum_by rows_in gathered.sent

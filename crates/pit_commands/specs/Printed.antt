@@ -1,8 +1,8 @@
 -- What the pipe form prints of a model: the five texts of its instance, each under its section line.
-use Rattle.std.specs.Prelude.{◌≡◌, ℕ, List, ◌∷◌, [], ◌++◌, codes}
-use Rattle.mine_instance.specs.OfCpit.{cpit}
+use Rattle.std.specs.Prelude.{◌≡◌, ℕ, List, ◌∷◌, ◌++◌, codes, flat_map}
 use Rattle.mine_instance.specs.declared.instance.Instance.{Instance}
-use Rattle.minelib_writing.specs.Written.{text_blocks, text_prec, text_upit, text_pcpsp, text_cpit}
+use Rattle.minelib_writing.specs.TextNames.{ending_of}
+use Rattle.minelib_writing.specs.Texts.{all_texts, text_named}
 use Rattle.pit_compile.specs.Compiled.{instance_from}
 use Rattle.pit_compile.specs.Settings.{IsSettingsFault}
 use Rattle.pit_compile.specs.Verdict.{IsAccepted, IsRefusedBy}
@@ -19,12 +19,7 @@ section name text = codes "== " ++ (name ++ (10 ∷ text))
 
 -- the five sections
 abbrev pub printed : Instance → List ℕ
-printed i =
-    section (codes "blocks") (text_blocks i)
-    ++ section (codes "prec") (text_prec i)
-    ++ section (codes "upit") (text_upit i)
-    ++ section (codes "pcpsp") (text_pcpsp i)
-    ++ section (codes "cpit") (text_cpit (cpit i))
+printed i = flat_map (λ name. section (ending_of name) (text_named name i)) all_texts
 
 -- the verdict accepts the zone files, and what is printed of their instance is appended
 pub record IsPrinted (plan : PlanParts) (zones : List (List ℕ)) (old new : List ℕ) : Type 0 where

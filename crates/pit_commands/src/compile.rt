@@ -31,9 +31,9 @@ use zone_csv::feed::Feed;
 use zone_csv::file_feed::FileFeed;
 use zone_csv::slurp::{SlurpFault, slurp};
 
-/// Compiles the zone files, which are opened in order, and writes the instance to the files `BASE.blocks`, `BASE.prec`, `BASE.upit`,
-/// `BASE.pcpsp` and `BASE.cpit`, each of which replaces what is there. Appends the line `rows N` to `out`, N being the number of rows over all
-/// zone files, or the line of the refusal to `err`, and answers the status that the program ends with.
+/// Compiles the zone files, which are opened in order, and writes the texts of the instance to their files, `BASE.blocks` and so on, each of
+/// which replaces what is there. Appends the line `rows N` to `out`, N being the number of rows over all zone files, or the line of the
+/// refusal to `err`, and answers the status that the program ends with.
 ///
 /// The first zone file that cannot be opened is refused before anything else. No file is begun before all blocks are known to be different;
 /// where a file then fails, those before it are whole. Only one of the two vectors grows. For want of memory the status is that of memory, and

@@ -2,13 +2,17 @@
 
 ghost use Rattle.std.specs.Fn.{FnReturnsAt};
 ghost use Rattle.std.specs.List.{AllZip};
-ghost use Rattle.std.specs.Prelude.{◌≡◌, Ok, codes, length, string_bytes, IfOk, IfErr, OnOk};
+ghost use Rattle.std.specs.Prelude.{◌≡◌, Ok, length, string_bytes, IfOk, IfErr, OnOk};
+ghost use Rattle.minelib_writing.specs.TextNames.{ending_of};
+ghost use Rattle.minelib_writing.specs.declared.text_name.TextName.{TextName as AName};
+ghost use Rattle.pit_compile.specs.Sinks.{sink_of};
 ghost use Rattle.pit_commands.specs.Compile.{ZonesRefused, path_to, zone_fault};
 ghost use Rattle.pit_commands.specs.FaultLine.{EndsWith};
 
 use crate::fault_line::refuse_with;
 use crate::status::{DEVICE, RESOURCES};
 use minelib_text::file_sink::FileSink;
+use minelib_text::text_name::TextName;
 use pit_compile::sinks::Sinks;
 use std::alloc::{AllocError, Global};
 use std::rt::Files;
@@ -73,29 +77,15 @@ pub(crate) fn sinks_of<'a, R: Files>(
 
 // The path of the file of each sink: `BASE.blocks` and so on.
 fn paths_of(alloc: Global, base: &str) -> Result<Sinks<String>, AllocError>
-    ensures blocks { IfOk result
-        (λ paths. string_bytes paths.blocks ≡ path_to base.now (codes "blocks")) }
-    ensures prec { IfOk result (λ paths. string_bytes paths.prec
-        ≡ path_to base.now (codes "prec")) }
-    ensures upit { IfOk result (λ paths. string_bytes paths.upit
-        ≡ path_to base.now (codes "upit")) }
-    ensures pcpsp { IfOk result (λ paths. string_bytes paths.pcpsp
-        ≡ path_to base.now (codes "pcpsp")) }
-    ensures cpit { IfOk result (λ paths. string_bytes paths.cpit
-        ≡ path_to base.now (codes "cpit")) }
+    ensures { IfOk result (λ paths. (name : AName)
+        → string_bytes (sink_of paths name) ≡ path_to base.now (ending_of name)) }
 {
-    Ok(Sinks {
-        blocks: path_of(alloc, base, "blocks")?,
-        prec: path_of(alloc, base, "prec")?,
-        upit: path_of(alloc, base, "upit")?,
-        pcpsp: path_of(alloc, base, "pcpsp")?,
-        cpit: path_of(alloc, base, "cpit")?,
-    })
+    Sinks::each(|name| path_of(alloc, base, name))
 }
 
 // The path of a file of the instance.
-fn path_of(alloc: Global, base: &str, ending: &str) -> Result<String, AllocError>
-    ensures { IfOk result (λ path. string_bytes path ≡ path_to base.now ending.now) }
+fn path_of(alloc: Global, base: &str, name: TextName) -> Result<String, AllocError>
+    ensures { IfOk result (λ path. string_bytes path ≡ path_to base.now (ending_of name)) }
 {
-    Ok(format!(in alloc; "{base}.{ending}")?)
+    Ok(format!(in alloc; "{base}.{name}")?)
 }

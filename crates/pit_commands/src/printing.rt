@@ -8,8 +8,9 @@ ghost use Rattle.pit_commands.specs.Printed.{printed};
 use mine_instance::cpit::Cpit;
 use mine_instance::instance::Instance;
 use minelib_text::section_sink::SectionSink;
+use minelib_text::text_name::TextName;
 use minelib_text::write_fault::WriteFault;
-use minelib_text::{write_blocks, write_cpit, write_pcpsp, write_prec, write_upit};
+use minelib_text::write_named;
 use std::alloc::{AllocError, Global};
 use std::mem::replace;
 
@@ -49,14 +50,10 @@ fn print_sections(
         ≡ (sink.old.before ++ sink.old.taken) ++ printed instance.now) }
     ensures err { OnErr result (take (length sink.old.before) sink.new.before ≡ sink.old.before) }
 {
-    sink.section(b"== blocks\n")?;
-    write_blocks(alloc, instance, sink)?;
-    sink.section(b"== prec\n")?;
-    write_prec(alloc, instance, sink)?;
-    sink.section(b"== upit\n")?;
-    write_upit(alloc, instance, sink)?;
-    sink.section(b"== pcpsp\n")?;
-    write_pcpsp(alloc, instance, sink)?;
-    sink.section(b"== cpit\n")?;
-    write_cpit(alloc, cpit, sink)
+    for name in TextName::all() {
+        let line = format!(in alloc; "== {name}\n")?;
+        sink.section(line.as_bytes())?;
+        write_named(alloc, name, instance, cpit, sink)?;
+    }
+    Ok(())
 }

@@ -2,8 +2,8 @@ pub mod Adding
 pub mod Apart
 pub mod Collected
 pub mod Compiles
-pub mod CutOff
 pub mod HandedOn
+pub mod OneMoreSink
 pub mod Readers
 pub mod RowFacts
 pub mod RunFacts

@@ -4,8 +4,9 @@ use Rattle.pit_model.specs.Plan.{PlanParts}
 use Rattle.pit_compile.specs.Compiling.{IsCompiled}
 use Rattle.pit_compile.specs.Run.{IsRefused}
 use Rattle.pit_compile.specs.SinkAnswers.{AreCutOff}
-use Rattle.pit_compile.specs.Sinks.{AreCutOffAt, place_of, minelib_texts}
+use Rattle.pit_compile.specs.Sinks.{AreCutOffAt}
 use Rattle.text_sinks.specs.SinkState.{SinkState}
+use Rattle.minelib_writing.specs.declared.text_name.TextName.{TextName}
 use Rattle.mine_instance.specs.declared.instance.Instance.{Instance}
 use Rattle.pit_compile.specs.declared.compiling.Compiled.{Compiled}
 use Rattle.pit_compile.specs.declared.refusal.Refusal.{Refusal}
@@ -13,14 +14,14 @@ use Rattle.pit_compile.specs.declared.refusal.Refusal.TheVariants.{Settings, NoT
 use Rattle.pit_compile.specs.declared.settings.SettingsFault.{SettingsFault}
 
 -- a run that is refused in writing
-pub cut_off : (plan : PlanParts) (lefts : List (Option (List ℕ))) (sures : List Bool) (valuers : ℕ) (old new : List SinkState)
+pub cut_off : (plan : PlanParts) (lefts : List (Option (List ℕ))) (sures : List Bool) (valuers : ℕ) (old new : TextName → SinkState)
     (c : Compiled) (refusal : Refusal)
-    → IsCompiled plan lefts valuers c → AreCutOff (minelib_texts c.instance) old new refusal → IsRefused plan lefts sures old new refusal
+    → IsCompiled plan lefts valuers c → AreCutOff c.instance old new refusal → IsRefused plan lefts sures old new refusal
 cut_off plan lefts sures valuers old new c (SinkFailed which) h k =
-    let cut_is = subst (λ (i : Instance). AreCutOffAt (place_of which) 1 (minelib_texts i) old new) h.instance_is k in
+    let cut_is = subst (λ (i : Instance). AreCutOffAt which 1 i old new) h.instance_is k in
     record { texts = h.texts; given = h.given; accepted = h.accepted; cut = cut_is }
 cut_off plan lefts sures valuers old new c OutOfMemory h k =
-    let cut_is = subst (λ (i : Instance). AreCutOffAt (k.0) 0 (minelib_texts i) old new) h.instance_is (k.1) in
+    let cut_is = subst (λ (i : Instance). AreCutOffAt (k.0) 0 i old new) h.instance_is (k.1) in
     inr (k.0, record { texts = h.texts; given = h.given; accepted = h.accepted; cut = cut_is })
 cut_off plan lefts sures valuers old new c (Settings kind) h k = absurd k
 cut_off plan lefts sures valuers old new c NoThread h k = absurd k
@@ -30,13 +31,13 @@ cut_off plan lefts sures valuers old new c (Row file fault) h k = absurd k
 cut_off plan lefts sures valuers old new c (Same first again) h k = absurd k
 
 -- and it is not refused for its settings
-pub cut_is_not_settings : (texts : List (List ℕ)) (old new : List SinkState) (refusal : Refusal) (kind : SettingsFault)
-    → AreCutOff texts old new refusal → refusal ≡ Settings kind → ⊥
-cut_is_not_settings texts old new (SinkFailed which) kind k e = cc
-cut_is_not_settings texts old new OutOfMemory kind k e = cc
-cut_is_not_settings texts old new (Settings other) kind k e = absurd k
-cut_is_not_settings texts old new NoThread kind k e = cc
-cut_is_not_settings texts old new (FeedFailed file) kind k e = cc
-cut_is_not_settings texts old new (TooLong file) kind k e = cc
-cut_is_not_settings texts old new (Row file fault) kind k e = cc
-cut_is_not_settings texts old new (Same first again) kind k e = cc
+pub cut_is_not_settings : (i : Instance) (old new : TextName → SinkState) (refusal : Refusal) (kind : SettingsFault)
+    → AreCutOff i old new refusal → refusal ≡ Settings kind → ⊥
+cut_is_not_settings i old new (SinkFailed which) kind k e = cc
+cut_is_not_settings i old new OutOfMemory kind k e = cc
+cut_is_not_settings i old new (Settings other) kind k e = absurd k
+cut_is_not_settings i old new NoThread kind k e = cc
+cut_is_not_settings i old new (FeedFailed file) kind k e = cc
+cut_is_not_settings i old new (TooLong file) kind k e = cc
+cut_is_not_settings i old new (Row file fault) kind k e = cc
+cut_is_not_settings i old new (Same first again) kind k e = cc

@@ -1,11 +1,10 @@
 -- The words that show why a run is refused.
 use Rattle.std.specs.Prelude.{ℕ, List, ◌++◌, codes, decimal}
+use Rattle.minelib_writing.specs.TextNames.{ending_of}
 use Rattle.zone_csv.specs.FaultText.{fault_text}
 use Rattle.pit_compile.specs.declared.refusal.Refusal.{Refusal}
 use Rattle.pit_compile.specs.declared.refusal.Refusal.TheVariants as refusal
 use Rattle.pit_compile.specs.declared.refusal.RowAt.{RowAt}
-use Rattle.pit_compile.specs.declared.refusal.SinkName.{SinkName}
-use Rattle.pit_compile.specs.declared.refusal.SinkName.TheVariants as sink
 use Rattle.pit_compile.specs.declared.settings.SettingsFault.{SettingsFault}
 use Rattle.pit_compile.specs.declared.settings.SettingsFault.TheVariants as settings
 
@@ -15,19 +14,11 @@ settings_name settings.Valuers = codes "Valuers"
 settings_name settings.Capacity = codes "Capacity"
 settings_name settings.Destinations = codes "Destinations"
 
--- a sink by the ending of its file
-abbrev pub sink_name : SinkName → List ℕ
-sink_name sink.Blocks = codes "blocks"
-sink_name sink.Prec = codes "prec"
-sink_name sink.Upit = codes "upit"
-sink_name sink.Pcpsp = codes "pcpsp"
-sink_name sink.Cpit = codes "cpit"
-
 -- `file F row N`
 abbrev pub row_text : RowAt → List ℕ
 row_text at = codes "file " ++ (decimal at.file ++ (codes " row " ++ decimal at.row))
 
--- a faulty row by its file and its own words; a repeated block by its second row and then its first
+-- a faulty row by its file and its own words; a repeated block by its second row and then its first; a sink by the ending of its file
 abbrev pub refusal_text : Refusal → List ℕ
 refusal_text (refusal.Settings kind) = codes "settings: " ++ settings_name kind
 refusal_text refusal.NoThread = codes "NoThread"
@@ -35,5 +26,5 @@ refusal_text (refusal.FeedFailed file) = codes "file " ++ (decimal file ++ codes
 refusal_text (refusal.TooLong file) = codes "file " ++ (decimal file ++ codes ": TooLong")
 refusal_text (refusal.Row file fault) = codes "file " ++ (decimal file ++ (codes " " ++ fault_text fault))
 refusal_text (refusal.Same first again) = row_text again ++ (codes " repeats " ++ row_text first)
-refusal_text (refusal.SinkFailed which) = codes "sink " ++ (sink_name which ++ codes ": SinkFailed")
+refusal_text (refusal.SinkFailed which) = codes "sink " ++ (ending_of which ++ codes ": SinkFailed")
 refusal_text refusal.OutOfMemory = codes "OutOfMemory"

@@ -9,5 +9,6 @@ pub mod Rows
 pub mod Run
 pub mod Settings
 pub mod SinkAnswers
+pub mod SinkLent
 pub mod Sinks
 pub mod Verdict

@@ -4,34 +4,38 @@ use Rattle.lane.specs.Whole.{GatheredView}
 use Rattle.pit_model.specs.Plan.{PlanParts}
 use Rattle.pit_compile.specs.Compiled.{AreGiven, HasPassed, IsFeedFault, IsVerdict, instance_from}
 use Rattle.text_sinks.specs.SinkState.{SinkState}
-use Rattle.pit_compile.specs.Sinks.{minelib_texts, place_of, AreWritten, AreCutOffAt}
+use Rattle.minelib_writing.specs.declared.text_name.TextName.{TextName}
+use Rattle.pit_compile.specs.Sinks.{AreWritten, AreCutOffAt}
 use Rattle.pit_compile.specs.Verdict.{IsAccepted}
 use Rattle.pit_compile.specs.declared.refusal.Refusal.{Refusal}
 use Rattle.pit_compile.specs.declared.refusal.Refusal.TheVariants.{Settings, NoThread, FeedFailed, TooLong, Row, Same, SinkFailed, OutOfMemory}
 
 -- the zone files are accepted, every row of every file passed the lane whole, and each sink holds its text of their instance
-pub record IsDone (plan : PlanParts) (lefts : List (Option (List ℕ))) (valuers : ℕ) (old new : List SinkState)
-    (g : GatheredView) : Type 0 where
+pub record IsDone (plan : PlanParts) (lefts : List (Option (List ℕ))) (valuers : ℕ)
+    (old new : TextName → SinkState) (g : GatheredView) : Type 0 where
   pub texts : List (List ℕ)
   pub given : AreGiven lefts texts
   pub accepted : IsAccepted plan texts
   pub passed : HasPassed plan texts valuers g
-  pub written : AreWritten (minelib_texts (instance_from plan texts)) old new
+  pub written : AreWritten (instance_from plan texts) old new
 
--- the zone files are accepted, and the sinks were cut off at this place
-pub record IsStopped (plan : PlanParts) (lefts : List (Option (List ℕ))) (place more : ℕ) (old new : List SinkState) : Type 0 where
+-- the zone files are accepted, and the sinks were cut off at this one
+pub record IsStopped (plan : PlanParts) (lefts : List (Option (List ℕ))) (which : TextName)
+    (more : ℕ) (old new : TextName → SinkState) : Type 0 where
   pub texts : List (List ℕ)
   pub given : AreGiven lefts texts
   pub accepted : IsAccepted plan texts
-  pub cut : AreCutOffAt place more (minelib_texts (instance_from plan texts)) old new
+  pub cut : AreCutOffAt which more (instance_from plan texts) old new
 
 -- why a run is refused, and how it leaves the sinks
-abbrev pub IsRefused : PlanParts → List (Option (List ℕ)) → List Bool → List SinkState → List SinkState → Refusal → Type 0
+abbrev pub IsRefused : PlanParts → List (Option (List ℕ)) → List Bool
+    → (TextName → SinkState) → (TextName → SinkState) → Refusal → Type 0
 IsRefused plan lefts sures old new (Settings kind) = new ≡ old
 IsRefused plan lefts sures old new NoThread = new ≡ old
 IsRefused plan lefts sures old new (FeedFailed file) = IsFeedFault plan lefts sures file × (new ≡ old)
 IsRefused plan lefts sures old new (TooLong file) = IsVerdict plan lefts (TooLong file) × (new ≡ old)
 IsRefused plan lefts sures old new (Row file fault) = IsVerdict plan lefts (Row file fault) × (new ≡ old)
 IsRefused plan lefts sures old new (Same first again) = IsVerdict plan lefts (Same first again) × (new ≡ old)
-IsRefused plan lefts sures old new (SinkFailed which) = IsStopped plan lefts (place_of which) 1 old new
-IsRefused plan lefts sures old new OutOfMemory = (new ≡ old) ⊎ ((place : ℕ) × IsStopped plan lefts place 0 old new)
+IsRefused plan lefts sures old new (SinkFailed which) = IsStopped plan lefts which 1 old new
+IsRefused plan lefts sures old new OutOfMemory =
+    (new ≡ old) ⊎ ((which : TextName) × IsStopped plan lefts which 0 old new)

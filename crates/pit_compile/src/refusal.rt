@@ -5,38 +5,12 @@ ghost use Rattle.pit_compile.specs.declared.refusal.Refusal.TheVariants.{Setting
 ghost use Rattle.pit_compile.specs.Answers.{refused_start};
 
 use crate::settings::SettingsFault;
+use minelib_text::text_name::TextName;
 use run_threads::HandOverFault;
 use std::alloc::AllocError;
 use std::fmt;
 use thiserror::Error;
 use zone_csv::row_fault::RowFault;
-
-/// One of the five sinks of a run, in the order of writing.
-#[derive(Clone, Copy, Debug, Error, PartialEq, Eq)]
-pub enum SinkName {
-    Blocks,
-    Prec,
-    Upit,
-    Pcpsp,
-    Cpit,
-}
-
-impl fmt::Display for SinkName {
-    ghost use Rattle.std.specs.Prelude.{Some};
-    ghost use Rattle.pit_compile.specs.FaultText.{sink_name};
-
-    ghost output = { λ which. Some (sink_name which) };
-
-    fn fmt<W: fmt::Write>(&self, f: &mut fmt::Formatter<W>) -> fmt::Result {
-        match self {
-            SinkName::Blocks => f.write_str("blocks"),
-            SinkName::Prec => f.write_str("prec"),
-            SinkName::Upit => f.write_str("upit"),
-            SinkName::Pcpsp => f.write_str("pcpsp"),
-            SinkName::Cpit => f.write_str("cpit"),
-        }
-    }
-}
 
 /// A row of a zone file.
 #[derive(Clone, Copy, Debug, Error, PartialEq, Eq)]
@@ -74,8 +48,8 @@ pub enum Refusal {
     Row { file: u8, fault: RowFault },
     /// A block stands a second time: its first row, and the first row of all that repeats another one.
     Same { first: RowAt, again: RowAt },
-    /// A sink refused a call.
-    SinkFailed { which: SinkName },
+    /// The sink of this text refused a call.
+    SinkFailed { which: TextName },
     /// Memory was refused.
     OutOfMemory,
 }

@@ -4,15 +4,16 @@ ghost use Rattle.std.specs.Prelude.{◌≡◌, IfErr, OnOk};
 ghost use Rattle.mine_instance.specs.OfCpit.{cpit};
 ghost use Rattle.mine_instance.specs.Valid.{IsValid};
 ghost use Rattle.pit_compile.specs.SinkAnswers.{in_sink, AreCutOff};
-ghost use Rattle.pit_compile.specs.Sinks.{all_told, minelib_texts, AreWritten};
+ghost use Rattle.pit_compile.specs.Sinks.{all_told, AreWritten};
 
-use crate::refusal::{Refusal, SinkName};
+use crate::refusal::Refusal;
 use crate::sinks::Sinks;
 use mine_instance::cpit::Cpit;
 use mine_instance::instance::Instance;
 use minelib_text::sink::Sink;
+use minelib_text::text_name::TextName;
 use minelib_text::write_fault::WriteFault;
-use minelib_text::{write_blocks, write_cpit, write_pcpsp, write_prec, write_upit};
+use minelib_text::write_named;
 use std::alloc::Global;
 
 /// Begins the sinks and writes the texts of an instance and its CPIT, one after the other.
@@ -30,25 +31,21 @@ pub fn write_texts<S: Sink>(
     requires valid { IsValid instance.now }
     requires problem { problem.now ≡ cpit instance.now }
     ensures written { let told = all_told S.state in
-        OnOk result (AreWritten (minelib_texts instance.now) (told sinks.old) (told sinks.new)) }
+        OnOk result (AreWritten instance.now (told sinks.old) (told sinks.new)) }
     ensures refused { let told = all_told S.state in
-        IfErr result (AreCutOff (minelib_texts instance.now) (told sinks.old) (told sinks.new)) }
+        IfErr result (AreCutOff instance.now (told sinks.old) (told sinks.new)) }
 {
-    in_sink(
-        SinkName::Blocks,
-        write_blocks(alloc, instance, &mut sinks.blocks),
-    )?;
-    in_sink(SinkName::Prec, write_prec(alloc, instance, &mut sinks.prec))?;
-    in_sink(SinkName::Upit, write_upit(alloc, instance, &mut sinks.upit))?;
-    in_sink(
-        SinkName::Pcpsp,
-        write_pcpsp(alloc, instance, &mut sinks.pcpsp),
-    )?;
-    in_sink(SinkName::Cpit, write_cpit(alloc, problem, &mut sinks.cpit))
+    for name in TextName::all() {
+        in_sink(
+            name,
+            write_named(alloc, name, instance, problem, sinks.of_mut(name)),
+        )?;
+    }
+    Ok(())
 }
 
 // What came of writing, as the answer of a run.
-fn in_sink(which: SinkName, written: Result<(), WriteFault>) -> Result<(), Refusal>
+fn in_sink(which: TextName, written: Result<(), WriteFault>) -> Result<(), Refusal>
     ensures { result ≡ in_sink which written }
 {
     match written {

@@ -1,5 +1,13 @@
 //! The five sinks of a run.
 
+ghost use Rattle.std.specs.Borrow.{sem};
+ghost use Rattle.std.specs.Prelude.{◌≡◌, IfOk, Ok};
+ghost use Rattle.minelib_writing.specs.declared.text_name.TextName.{TextName as AName};
+ghost use Rattle.pit_compile.specs.SinkLent.{LendsSink};
+ghost use Rattle.pit_compile.specs.Sinks.{sink_of};
+
+use minelib_text::text_name::TextName;
+
 /// A sink for each of the five texts of an instance, in the order of writing.
 #[derive(Debug, Drop)]
 pub struct Sinks<S> {
@@ -8,4 +16,50 @@ pub struct Sinks<S> {
     pub upit: S,
     pub pcpsp: S,
     pub cpit: S,
+}
+
+impl<S> Sinks<S> {
+    /// What `make` gives for each text, in the order of writing, or its first fault.
+    pub fn each<E, F: Fn(TextName) -> Result<S, E>>(make: F) -> Result<Sinks<S>, E>
+    where
+        S: Drop,
+        requires { F.IsAlwaysCallable make }
+        ensures { IfOk result
+            (λ sinks. (name : AName) → F.post make name (Ok (sink_of sinks name))) }
+    {
+        Ok(Sinks {
+            blocks: make(TextName::Blocks)?,
+            prec: make(TextName::Prec)?,
+            upit: make(TextName::Upit)?,
+            pcpsp: make(TextName::Pcpsp)?,
+            cpit: make(TextName::Cpit)?,
+        })
+    }
+
+    /// The sink of this text.
+    pub fn of(&self, name: TextName) -> &S
+        ensures { result.now ≡ sink_of self.now name }
+    {
+        match name {
+            TextName::Blocks => &self.blocks,
+            TextName::Prec => &self.prec,
+            TextName::Upit => &self.upit,
+            TextName::Pcpsp => &self.pcpsp,
+            TextName::Cpit => &self.cpit,
+        }
+    }
+
+    /// The sink of this text, to be written to or replaced.
+    pub fn of_mut(&mut self, name: TextName) -> &mut S
+        ensures* writes_back { sem 𝓛 (LendsSink S.row self.entry name result) }
+        ensures value { result.now ≡ sink_of self.old name }
+    {
+        match name {
+            TextName::Blocks => &mut self.blocks,
+            TextName::Prec => &mut self.prec,
+            TextName::Upit => &mut self.upit,
+            TextName::Pcpsp => &mut self.pcpsp,
+            TextName::Cpit => &mut self.cpit,
+        }
+    }
 }

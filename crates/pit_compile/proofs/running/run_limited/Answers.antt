@@ -1,7 +1,7 @@
 use Rattle.std.proofs.Common.{◌≡◌, map, subst}
 use Rattle.std.proofs.lemmas.Result.{err_from_is_err_and}
 use Rattle.mine_instance.specs.declared.instance.Instance.{Instance}
-use Rattle.pit_compile.specs.Sinks.{all_told, minelib_texts, AreWritten}
+use Rattle.pit_compile.specs.Sinks.{all_told, AreWritten}
 use Rattle.pit_compile.specs.declared.refusal.Refusal.TheVariants.{Settings}
 use Rattle.pit_compile.proofs.RunFacts.{cut_off, cut_is_not_settings}
 use Rattle.pit_compile.proofs.running.run_limited.Goals as goal
@@ -21,7 +21,7 @@ returns-in_err-write_texts-clause-settings g c =
     λ kind. (
       λ e.
           let is : c.in_err-write_texts.field-0.0 ≡ Settings kind = cc (p.1, p.2, e) in
-          absurd (cut_is_not_settings (minelib_texts c.in_ok-gathered.field-0.instance) (all_told state c.args.sinks.now)
+          absurd (cut_is_not_settings c.in_ok-gathered.field-0.instance (all_told state c.args.sinks.now)
           (all_told state c.write_texts.new.sinks)
           c.in_err-write_texts.field-0.0 kind c.in_err-write_texts.ensures.refused is),
       λ h. absurd (cc ((c.in_ok-gathered.ensures.settings kind).1 h)),
@@ -50,7 +50,7 @@ returns-clause-done g c =
       given = done.given;
       accepted = done.accepted;
       passed = done.passed;
-      written = subst (λ (i : Instance). AreWritten (minelib_texts i) (all_told state c.args.sinks.now)
+      written = subst (λ (i : Instance). AreWritten i (all_told state c.args.sinks.now)
           (all_told state c.write_texts.new.sinks)) done.instance_is
           c.in_ok-write_texts.ensures.written;
     }

@@ -5,7 +5,7 @@ use super::{
     destinations_of, feeds_of, is_untouched, mill_plan, new_sinks, open_answer, read_plan,
     run_limited, settings, zone_text,
 };
-use pit_compile::refusal::SinkName;
+use minelib_text::text_name::TextName;
 use pit_compile::settings::SettingsFault;
 
 fn good_feed(alloc: Global) -> Result<MemFeed, Fail> {
@@ -71,39 +71,39 @@ fn the_least_file_answers(rt: HostRuntime) -> Result<(), Fail> {
 }
 
 // Sinks of which this one fails at this call.
-fn failing_sinks(alloc: Global, which: SinkName, nth: u64) -> Sinks<MemSink>
+fn failing_sinks(alloc: Global, which: TextName, nth: u64) -> Sinks<MemSink>
     requires { 1 ≤ nth }
 {
     let mut sinks = new_sinks(alloc);
     let failing = MemSink::failing(alloc, nth);
     match which {
-        SinkName::Blocks => sinks.blocks = failing,
-        SinkName::Prec => sinks.prec = failing,
-        SinkName::Upit => sinks.upit = failing,
-        SinkName::Pcpsp => sinks.pcpsp = failing,
-        SinkName::Cpit => sinks.cpit = failing,
+        TextName::Blocks => sinks.blocks = failing,
+        TextName::Prec => sinks.prec = failing,
+        TextName::Upit => sinks.upit = failing,
+        TextName::Pcpsp => sinks.pcpsp = failing,
+        TextName::Cpit => sinks.cpit = failing,
     }
     sinks
 }
 
 // A sink, which of its calls fails, which sinks are begun then, and how many texts are whole. Each text is begun and then put at once, so
 // its third call does not come.
-const SINKS: [(SinkName, u64, [bool; 5], usize); 15] = [
-    (SinkName::Blocks, 1, [false, false, false, false, false], 0),
-    (SinkName::Blocks, 2, [true, false, false, false, false], 0),
-    (SinkName::Blocks, 3, [true, true, true, true, true], 5),
-    (SinkName::Prec, 1, [true, false, false, false, false], 1),
-    (SinkName::Prec, 2, [true, true, false, false, false], 1),
-    (SinkName::Prec, 3, [true, true, true, true, true], 5),
-    (SinkName::Upit, 1, [true, true, false, false, false], 2),
-    (SinkName::Upit, 2, [true, true, true, false, false], 2),
-    (SinkName::Upit, 3, [true, true, true, true, true], 5),
-    (SinkName::Pcpsp, 1, [true, true, true, false, false], 3),
-    (SinkName::Pcpsp, 2, [true, true, true, true, false], 3),
-    (SinkName::Pcpsp, 3, [true, true, true, true, true], 5),
-    (SinkName::Cpit, 1, [true, true, true, true, false], 4),
-    (SinkName::Cpit, 2, [true, true, true, true, true], 4),
-    (SinkName::Cpit, 3, [true, true, true, true, true], 5),
+const SINKS: [(TextName, u64, [bool; 5], usize); 15] = [
+    (TextName::Blocks, 1, [false, false, false, false, false], 0),
+    (TextName::Blocks, 2, [true, false, false, false, false], 0),
+    (TextName::Blocks, 3, [true, true, true, true, true], 5),
+    (TextName::Prec, 1, [true, false, false, false, false], 1),
+    (TextName::Prec, 2, [true, true, false, false, false], 1),
+    (TextName::Prec, 3, [true, true, true, true, true], 5),
+    (TextName::Upit, 1, [true, true, false, false, false], 2),
+    (TextName::Upit, 2, [true, true, true, false, false], 2),
+    (TextName::Upit, 3, [true, true, true, true, true], 5),
+    (TextName::Pcpsp, 1, [true, true, true, false, false], 3),
+    (TextName::Pcpsp, 2, [true, true, true, true, false], 3),
+    (TextName::Pcpsp, 3, [true, true, true, true, true], 5),
+    (TextName::Cpit, 1, [true, true, true, true, false], 4),
+    (TextName::Cpit, 2, [true, true, true, true, true], 4),
+    (TextName::Cpit, 3, [true, true, true, true, true], 5),
 ];
 
 // A sink holds the bytes of the other, or none.

@@ -9,7 +9,8 @@ use super::{
     ENOUGH, Fail, Global, HEADER, MemFeed, MemSink, Refusal, Sinks, Threads, Wait, answer, begun,
     is_untouched, mill_plan, new_sinks, settings,
 };
-use pit_compile::refusal::{RowAt, SinkName};
+use minelib_text::text_name::TextName;
+use pit_compile::refusal::RowAt;
 use std::env;
 use std::process::Abort;
 use std::sync::atomic::{AtomicU64, Ordering};
@@ -268,12 +269,12 @@ fn random_sinks(alloc: Global, dice: &mut Dice, failing: Option<Failing>) -> Sin
     sinks
 }
 
-const NAMES: [SinkName; 5] = [
-    SinkName::Blocks,
-    SinkName::Prec,
-    SinkName::Upit,
-    SinkName::Pcpsp,
-    SinkName::Cpit,
+const NAMES: [TextName; 5] = [
+    TextName::Blocks,
+    TextName::Prec,
+    TextName::Upit,
+    TextName::Pcpsp,
+    TextName::Cpit,
 ];
 
 // The sink that stops the run, if any. A text is begun and then put at once, where it is not empty, and what was not taken is put again.
@@ -326,11 +327,11 @@ fn texts_whole(answer: Result<u64, Refusal>) -> u64 {
     match answer {
         Ok(_) => 5,
         Err(Refusal::SinkFailed { which }) => match which {
-            SinkName::Blocks => 0,
-            SinkName::Prec => 1,
-            SinkName::Upit => 2,
-            SinkName::Pcpsp => 3,
-            SinkName::Cpit => 4,
+            TextName::Blocks => 0,
+            TextName::Prec => 1,
+            TextName::Upit => 2,
+            TextName::Pcpsp => 3,
+            TextName::Cpit => 4,
         },
         Err(_) => 0,
     }
@@ -421,11 +422,11 @@ fn are_left(sinks: &Sinks<MemSink>, answer: Result<u64, Refusal>) -> bool {
     match answer {
         Ok(_) => blocks && prec && upit && pcpsp && cpit,
         Err(Refusal::SinkFailed { which }) => match which {
-            SinkName::Blocks => !(prec || upit || pcpsp || cpit),
-            SinkName::Prec => !(upit || pcpsp || cpit),
-            SinkName::Upit => !(pcpsp || cpit),
-            SinkName::Pcpsp => !cpit,
-            SinkName::Cpit => true,
+            TextName::Blocks => !(prec || upit || pcpsp || cpit),
+            TextName::Prec => !(upit || pcpsp || cpit),
+            TextName::Upit => !(pcpsp || cpit),
+            TextName::Pcpsp => !cpit,
+            TextName::Cpit => true,
         },
         Err(_) => is_untouched(sinks),
     }

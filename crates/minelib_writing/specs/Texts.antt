@@ -1,0 +1,19 @@
+-- The five texts of an instance by their names.
+use Rattle.std.specs.Prelude.{ℕ, List, [], ◌∷◌}
+use Rattle.mine_instance.specs.OfCpit.{cpit}
+use Rattle.mine_instance.specs.declared.instance.Instance.{Instance}
+use Rattle.minelib_writing.specs.Written.{text_blocks, text_prec, text_upit, text_pcpsp, text_cpit}
+use Rattle.minelib_writing.specs.declared.text_name.TextName.{TextName}
+use Rattle.minelib_writing.specs.declared.text_name.TextName.TheVariants.{Blocks, Prec, Upit, Pcpsp, Cpit}
+
+-- in the order of writing
+abbrev pub all_texts : List TextName
+all_texts = Blocks ∷ Prec ∷ Upit ∷ Pcpsp ∷ Cpit ∷ []
+
+-- the text of this name, the last one that of the instance's CPIT
+abbrev pub text_named : TextName → Instance → List ℕ
+text_named Blocks i = text_blocks i
+text_named Prec i = text_prec i
+text_named Upit i = text_upit i
+text_named Pcpsp i = text_pcpsp i
+text_named Cpit i = text_cpit (cpit i)
