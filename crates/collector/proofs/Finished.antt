@@ -10,7 +10,7 @@ use Rattle.rows.specs.declared.item.Valued.{Valued}
 use Rattle.collector.specs.declared.finish_fault.FinishFault.{FinishFault}
 use Rattle.collector.specs.declared.finish_fault.FinishFault.TheVariants.{Missing, OutOfMemory}
 use Rattle.collector.specs.declared.shelf.Shelf.{Shelf}
-use Rattle.collector.specs.Shelves.{if_at, slot, rows_in, end_in, IsKept, IsShelved, IsFilled, IsFirstLacking}
+use Rattle.collector.specs.inner.Shelves.{if_at, slot, rows_in, end_in, IsKept, IsShelved, IsFilled, IsFirstLacking}
 use Rattle.collector.specs.CollectorView.{CollectorView}
 use Rattle.collector.specs.Lists.{AreLists, IsFull, IsOpen, IsMissing, IsFinishFault}
 use Rattle.collector.proofs.Slots.{slot-past}

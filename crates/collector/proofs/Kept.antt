@@ -8,7 +8,7 @@ use Rattle.std.proofs.Math.Bool.{or-false}
 use Rattle.rows.specs.declared.item.Item.{Item}
 use Rattle.rows.specs.declared.item.Item.TheVariants.{Row, End}
 use Rattle.rows.specs.declared.item.Valued.{Valued}
-use Rattle.collector.specs.Shelves.{slot, with_row, fault_in, file_of, ArePut, IsShelved, IsKept}
+use Rattle.collector.specs.inner.Shelves.{slot, with_row, fault_in, file_of, ArePut, IsShelved, IsKept}
 use Rattle.collector.specs.Fault.{is_after, fault}
 use Rattle.collector.specs.Found.{row_at, end_at, has_past}
 use Rattle.collector.proofs.Slots.{eqb-other, slot-put, slot-kept, length-with_row}

@@ -8,7 +8,7 @@ use Rattle.std.specs.Option.{option_and_then, unwrap_or, option_map}
 use Rattle.std.proofs.lemmas.Option.{slice_get_past, slice_get_read}
 use Rattle.rows.specs.declared.item.Valued.{Valued}
 use Rattle.collector.specs.declared.shelf.Shelf.{Shelf}
-use Rattle.collector.specs.Shelves.{rows_in, end_in, row_fault, end_fault, fault_in, ArePut, IsKept}
+use Rattle.collector.specs.inner.Shelves.{rows_in, end_in, row_fault, end_fault, fault_in, ArePut, IsKept}
 use Rattle.collector.specs.Fault.{fault}
 use Rattle.collector.specs.CollectorView.{CollectorView}
 use Rattle.collector.proofs.Kept.{kept_more}

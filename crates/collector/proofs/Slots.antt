@@ -6,7 +6,7 @@ use Rattle.std.proofs.lemmas.Bool.{cond-true, cond-false, lt-ltb, le-ltb, cases_
 use Rattle.std.proofs.lemmas.Option.{slice_get_past}
 use Rattle.std.proofs.lemmas.List.{length-replicate}
 use Rattle.rows.specs.declared.item.Valued.{Valued}
-use Rattle.collector.specs.Shelves.{if_at, slot, with_row}
+use Rattle.collector.specs.inner.Shelves.{if_at, slot, with_row}
 
 pub get-set_same : {A : Type 0} (xs : List A) (i : ℕ) (y : A) → i < length xs → slice_get (set xs i y) i ≡ Some y
 get-set_same [] i y within = absurd (omega arith)

@@ -1,7 +1,7 @@
 //! What is held of all files.
 
 ghost use Rattle.std.specs.Prelude.{◌≡◌, ℕ, ◌<◌, ◌≤◌, ◌++◌, [], ◌∷◌, length, map, if◌then◌else◌, ◌==◌, Some, Err, IfOk, IfErr, IfSome, IfNone, OnOk, OnErr};
-ghost use Rattle.collector.specs.Shelves.{rows_in, end_in, with_row, fault_in, file_of, ArePut, AreSame, IsFilled, IsFirstLacking};
+ghost use Rattle.collector.specs.inner.Shelves.{rows_in, end_in, with_row, fault_in, file_of, ArePut, AreSame, IsFilled, IsFirstLacking};
 ghost use Rattle.collector.specs.Fault.{fault};
 ghost use Rattle.collector.specs.Lists.{AreLists, IsFinishFault};
 ghost use Rattle.pit_model.specs.declared.ranges.TheConstants.{MAX_ROWS};
@@ -27,8 +27,8 @@ pub struct Collector {
 impl Model for Collector {
     ghost use Rattle.std.specs.Prelude.{ℕ, ◌≤◌, length};
     ghost use Rattle.collector.specs.CollectorView.{CollectorView};
-    ghost use Rattle.collector.specs.History.{items_in};
-    ghost use Rattle.collector.specs.Shelves.{IsKept, rows_in, end_in};
+    ghost use Rattle.collector.specs.inner.History.{items_in};
+    ghost use Rattle.collector.specs.inner.Shelves.{IsKept, rows_in, end_in};
 
     ghost Value = { CollectorView };
 

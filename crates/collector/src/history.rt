@@ -1,7 +1,7 @@
 //! The order in which items were added. Only contracts see it.
 
 ghost use Rattle.std.specs.Prelude.{◌≡◌, ◌++◌, [], ◌∷◌};
-ghost use Rattle.collector.specs.History.{items_in};
+ghost use Rattle.collector.specs.inner.History.{items_in};
 
 use rows::Item;
 use std::snapshot::Snapshot;

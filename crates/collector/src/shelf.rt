@@ -1,7 +1,7 @@
 //! What is held of one file.
 
 ghost use Rattle.std.specs.Prelude.{◌≡◌, ℕ, ◌<◌, ◌≤◌, [], length, is_some, true, Some, None, MatchOption, OnOk, OnErr};
-ghost use Rattle.collector.specs.Shelves.{slot, with_row, row_fault, end_fault, IsFilled, IsLacking};
+ghost use Rattle.collector.specs.inner.Shelves.{slot, with_row, row_fault, end_fault, IsFilled, IsLacking};
 ghost use Rattle.pit_model.specs.declared.ranges.TheConstants.{MAX_ROWS};
 
 use crate::add_fault::AddFault;

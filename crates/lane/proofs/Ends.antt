@@ -10,8 +10,8 @@ use Rattle.lane.specs.Message.{IsEndedFrom}
 use Rattle.lane.specs.MessageKinds.{is_row, is_end, rows_in, has_end}
 use Rattle.lane.specs.MessageOrders.{IsFrom}
 use Rattle.lane.specs.Steps.{with_message}
-use Rattle.lane.specs.Views.{sent_in, capacity_in}
-use Rattle.lane.specs.Kept.{IsOpenPut, IsEndedPut}
+use Rattle.lane.specs.inner.Views.{sent_in, capacity_in}
+use Rattle.lane.specs.inner.Kept.{IsOpenPut, IsEndedPut}
 use Rattle.lane.proofs.Lists.{count_more}
 use Rattle.lane.proofs.Messages.{from_row, from_end, ended_from}
 

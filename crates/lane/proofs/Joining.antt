@@ -12,9 +12,9 @@ use Rattle.lane.specs.MessageKinds.{has_end, is_done, rows_in}
 use Rattle.lane.specs.Whole.{IsWhole}
 use Rattle.lane.specs.Rule.{IsLane, put_parts, take_parts}
 use Rattle.lane.specs.Steps.{MaySend, full_view}
-use Rattle.lane.specs.Views.{sents_in, tooks_in, gathering_in}
+use Rattle.lane.specs.inner.Views.{sents_in, tooks_in, gathering_in}
 use Rattle.lane.specs.Ends.{Lane, PutEndView, TakeEndView, ArePutsFrom, AreTakesFrom}
-use Rattle.lane.specs.Kept.{IsClosers, IsJoining, IsJoined, IsStopping, IsGathering, IsAllIn}
+use Rattle.lane.specs.inner.Kept.{IsClosers, IsJoining, IsJoined, IsStopping, IsGathering, IsAllIn}
 use Rattle.lane.proofs.Lists.{all_more}
 use Rattle.lane.proofs.Rules.{put_joins, take_joins, sents_all, tooks_all, free_puts, ended_view, finds_nothing, tells}
 

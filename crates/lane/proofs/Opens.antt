@@ -4,9 +4,9 @@ use Rattle.crossbeam_channel.specs.Fifo.{Forks}
 use Rattle.lane.specs.declared.part.Part.{Part}
 use Rattle.lane.specs.declared.part.Part.TheVariants.{Count, Put, Take, Close}
 use Rattle.lane.specs.Rule.{IsLane, put_parts, take_parts, all_parts}
-use Rattle.lane.specs.Views.{more_files, more_takers, more_places, opened_view, without_second, second_alone}
+use Rattle.lane.specs.inner.Views.{more_files, more_takers, more_places, opened_view, without_second, second_alone}
 use Rattle.lane.specs.Ends.{Lane, ArePutsFrom, AreTakesFrom, first_puts, first_takes}
-use Rattle.lane.specs.Kept.{puts_left, takes_left}
+use Rattle.lane.specs.inner.Kept.{puts_left, takes_left}
 use Rattle.lane.proofs.Rules.{counts, opens, gives_put, gives_take}
 
 pub counts_file : (pass : ℕ) (v : List Part) (f w c : ℕ) → v ≡ Count f w c ∷ [] → Forks IsLane pass v (more_files v) []

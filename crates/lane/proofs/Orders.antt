@@ -11,7 +11,7 @@ use Rattle.lane.specs.Message.{is_of, of, position, Rises}
 use Rattle.lane.specs.MessageOrders.{EndsClose, IsFrom}
 use Rattle.lane.specs.Machine.{Size, State}
 use Rattle.lane.specs.Lawful.{IsPlaced, IsLawful}
-use Rattle.lane.specs.Views.{IsOrdered}
+use Rattle.lane.specs.inner.Views.{IsOrdered}
 use Rattle.lane.proofs.Messages.{front_yes, placed_below, end_is_last}
 
 rising_tail : (m : Taken) (rest : List Taken) (b : Bool) → IsStrictlyIncreasing (map position (cond b (m ∷ rest) rest))

@@ -15,8 +15,8 @@ use Rattle.lane.specs.Machine.{Size, State, opening, PutRow, PutEnd, PutStop, Pu
 use Rattle.lane.specs.Whole.{IsWhole}
 use Rattle.lane.specs.Rule.{Role, Putter, Taker, Closer, part_of, role_of, Has, IsSeated, AreSeated, IsLaneAt, IsCounting, IsLane, put_parts, take_parts, all_parts}
 use Rattle.lane.specs.Steps.{with_message, IsFree, HasEnded, PutSends, CloseSends, MaySend, MayTake, IsFull, full_view}
-use Rattle.lane.specs.Views.{IsOrdered, Takes, sents_in, tooks_in, gathering_in}
-use Rattle.lane.specs.Kept.{IsClosers}
+use Rattle.lane.specs.inner.Views.{IsOrdered, Takes, sents_in, tooks_in, gathering_in}
+use Rattle.lane.specs.inner.Kept.{IsClosers}
 use Rattle.lane.proofs.Seats.{at_part, has_left, has_right, at_within, at_end, given, joined, opened}
 use Rattle.lane.proofs.Keeps.{begins}
 use Rattle.lane.proofs.Steps.{put_is, take_is, close_is, row_is, end_is, stop_is, quit_is, take_event}

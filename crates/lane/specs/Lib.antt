@@ -1,5 +1,4 @@
 pub mod Ends
-pub mod Kept
 pub mod Lawful
 pub mod Laws
 pub mod Machine
@@ -8,5 +7,5 @@ pub mod MessageKinds
 pub mod MessageOrders
 pub mod Rule
 pub mod Steps
-pub mod Views
 pub mod Whole
+pub mod inner

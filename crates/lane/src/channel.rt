@@ -7,7 +7,7 @@ ghost use Rattle.crossbeam_channel.specs.Fifo.{Pops, Learns};
 ghost use Rattle.lane.specs.Rule.{IsLane};
 ghost use Rattle.lane.specs.Whole.{IsWhole};
 ghost use Rattle.lane.specs.Steps.{with_message, MaySend, MayTake};
-ghost use Rattle.lane.specs.Views.{gathering_in, IsOrdered, took_in};
+ghost use Rattle.lane.specs.inner.Views.{gathering_in, IsOrdered, took_in};
 
 use crate::message::Taken;
 use crate::rule::{Looks, Receiver, Receives, Seat, Sender, Sends};

@@ -6,9 +6,9 @@ ghost use Rattle.crossbeam_channel.specs.Claims.{view as known, IsSeatAt};
 ghost use Rattle.crossbeam_channel.specs.Ends.{sends_on, receives_on, ruled_capacity};
 ghost use Rattle.lane.specs.MessageKinds.{is_done, rows_in};
 ghost use Rattle.lane.specs.Rule.{put_parts};
-ghost use Rattle.lane.specs.Views.{sents_in, tooks_in};
+ghost use Rattle.lane.specs.inner.Views.{sents_in, tooks_in};
 ghost use Rattle.lane.specs.Ends.{ArePutsFrom, AreTakesFrom};
-ghost use Rattle.lane.specs.Kept.{IsJoined, IsStopping, IsAllIn, lane_at};
+ghost use Rattle.lane.specs.inner.Kept.{IsJoined, IsStopping, IsAllIn, lane_at};
 ghost use Rattle.lane.specs.Whole.{IsWhole};
 
 use crate::channel::{look, put};
@@ -36,7 +36,7 @@ impl Model for Closer {
     ghost use Rattle.crossbeam_channel.specs.Claims.{view as known, IsSeatAt};
     ghost use Rattle.crossbeam_channel.specs.Ends.{sends_on, receives_on, ruled_capacity};
     ghost use Rattle.lane.specs.Ends.{CloserView};
-    ghost use Rattle.lane.specs.Kept.{closer_view, IsCloser};
+    ghost use Rattle.lane.specs.inner.Kept.{closer_view, IsCloser};
 
     ghost Value = { CloserView };
 
@@ -124,7 +124,7 @@ pub struct GivenUp {
 
 impl Model for GivenUp {
     ghost use Rattle.std.specs.Prelude.{ℕ};
-    ghost use Rattle.lane.specs.Kept.{quits_of};
+    ghost use Rattle.lane.specs.inner.Kept.{quits_of};
 
     ghost Value = { ℕ };
 
@@ -194,9 +194,9 @@ impl Model for Stopped {
     ghost use Rattle.crossbeam_channel.specs.Ends.{sends_on, receives_on, ruled_capacity};
     ghost use Rattle.std.specs.List.{sum_by};
     ghost use Rattle.lane.specs.MessageKinds.{rows_in};
-    ghost use Rattle.lane.specs.Views.{sents_in};
+    ghost use Rattle.lane.specs.inner.Views.{sents_in};
     ghost use Rattle.lane.specs.Ends.{StoppedView};
-    ghost use Rattle.lane.specs.Kept.{stopped_view, IsStopping};
+    ghost use Rattle.lane.specs.inner.Kept.{stopped_view, IsStopping};
 
     ghost Value = { StoppedView };
 

@@ -4,7 +4,7 @@ ghost use Rattle.std.specs.Prelude.{◌≡◌};
 ghost use Rattle.std.specs.List.{sum_by};
 ghost use Rattle.crossbeam_channel.specs.Claims.{view as known};
 ghost use Rattle.lane.specs.MessageKinds.{rows_in};
-ghost use Rattle.lane.specs.Views.{gathering_in, sents_in};
+ghost use Rattle.lane.specs.inner.Views.{gathering_in, sents_in};
 ghost use Rattle.lane.specs.Whole.{IsWhole};
 
 use crate::rule::Seat;
@@ -20,7 +20,7 @@ pub struct Gathered {
 impl Model for Gathered {
     ghost use Rattle.crossbeam_channel.specs.Claims.{view as known};
     ghost use Rattle.lane.specs.Whole.{GatheredView};
-    ghost use Rattle.lane.specs.Kept.{gathered_view, IsGathered};
+    ghost use Rattle.lane.specs.inner.Kept.{gathered_view, IsGathered};
 
     ghost Value = { GatheredView };
 

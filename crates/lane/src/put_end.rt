@@ -3,7 +3,7 @@
 ghost use Rattle.std.specs.Prelude.{◌≡◌, ◌<◌, ◌≤◌, ◌++◌, true, [], ◌∷◌, length};
 ghost use Rattle.crossbeam_channel.specs.Claims.{view as known, IsSeatAt};
 ghost use Rattle.crossbeam_channel.specs.Ends.{sends_on, ruled_capacity};
-ghost use Rattle.lane.specs.Kept.{IsClosers, lane_at};
+ghost use Rattle.lane.specs.inner.Kept.{IsClosers, lane_at};
 ghost use Rattle.lane.specs.Message.{IsEndedFrom};
 ghost use Rattle.lane.specs.MessageKinds.{has_end, rows_in};
 ghost use Rattle.pit_model.specs.declared.ranges.TheConstants.{MAX_ROWS};
@@ -29,9 +29,9 @@ impl Model for PutEnd {
     ghost use Rattle.std.specs.Prelude.{◌≡◌};
     ghost use Rattle.crossbeam_channel.specs.Claims.{view as known, IsSeatAt};
     ghost use Rattle.crossbeam_channel.specs.Ends.{sends_on, ruled_capacity};
-    ghost use Rattle.lane.specs.Views.{capacity_in};
+    ghost use Rattle.lane.specs.inner.Views.{capacity_in};
     ghost use Rattle.lane.specs.Ends.{PutEndView};
-    ghost use Rattle.lane.specs.Kept.{put_end_view, IsOpenPut};
+    ghost use Rattle.lane.specs.inner.Kept.{put_end_view, IsOpenPut};
 
     ghost Value = { PutEndView };
 
@@ -112,7 +112,7 @@ impl Model for EndedPut {
     ghost use Rattle.std.specs.Prelude.{◌≡◌, []};
     ghost use Rattle.crossbeam_channel.specs.Claims.{view as known};
     ghost use Rattle.lane.specs.Ends.{PutEndView};
-    ghost use Rattle.lane.specs.Kept.{put_end_view, IsEndedPut};
+    ghost use Rattle.lane.specs.inner.Kept.{put_end_view, IsEndedPut};
 
     ghost Value = { PutEndView };
 

@@ -49,7 +49,7 @@ impl Lesson<Taken, Parts> for Sends {
 pub struct Receives;
 
 impl Outcome<Taken, Parts> for Receives {
-    ghost use Rattle.lane.specs.Views.{Takes};
+    ghost use Rattle.lane.specs.inner.Views.{Takes};
 
     ghost then = { Takes };
 }
@@ -68,7 +68,7 @@ impl Outcome<Taken, Parts> for Looks {
 }
 
 impl Lesson<Taken, Parts> for Looks {
-    ghost use Rattle.lane.specs.Views.{gathering_in};
+    ghost use Rattle.lane.specs.inner.Views.{gathering_in};
     ghost use Rattle.lane.specs.Whole.{IsWhole};
 
     ghost fact = { λ v items. IsWhole (gathering_in v) };
@@ -79,7 +79,7 @@ pub struct CountsFile;
 
 impl Split<Parts> for CountsFile {
     ghost use Rattle.std.specs.Prelude.{[]};
-    ghost use Rattle.lane.specs.Views.{more_files};
+    ghost use Rattle.lane.specs.inner.Views.{more_files};
 
     ghost left = { more_files };
 
@@ -90,7 +90,7 @@ pub struct CountsTaker;
 
 impl Split<Parts> for CountsTaker {
     ghost use Rattle.std.specs.Prelude.{[]};
-    ghost use Rattle.lane.specs.Views.{more_takers};
+    ghost use Rattle.lane.specs.inner.Views.{more_takers};
 
     ghost left = { more_takers };
 
@@ -101,7 +101,7 @@ pub struct CountsPlace;
 
 impl Split<Parts> for CountsPlace {
     ghost use Rattle.std.specs.Prelude.{[]};
-    ghost use Rattle.lane.specs.Views.{more_places};
+    ghost use Rattle.lane.specs.inner.Views.{more_places};
 
     ghost left = { more_places };
 
@@ -113,7 +113,7 @@ pub struct Opens;
 
 impl Split<Parts> for Opens {
     ghost use Rattle.std.specs.Prelude.{[]};
-    ghost use Rattle.lane.specs.Views.{opened_view};
+    ghost use Rattle.lane.specs.inner.Views.{opened_view};
 
     ghost left = { opened_view };
 
@@ -124,7 +124,7 @@ impl Split<Parts> for Opens {
 pub struct Gives;
 
 impl Split<Parts> for Gives {
-    ghost use Rattle.lane.specs.Views.{without_second, second_alone};
+    ghost use Rattle.lane.specs.inner.Views.{without_second, second_alone};
 
     ghost left = { without_second };
 

@@ -3,7 +3,7 @@
 ghost use Rattle.std.specs.Prelude.{◌≡◌, false, ◌++◌, [], ◌∷◌};
 ghost use Rattle.crossbeam_channel.specs.Claims.{view as known, IsSeatAt};
 ghost use Rattle.crossbeam_channel.specs.Ends.{sends_on, receives_on, ruled_capacity};
-ghost use Rattle.lane.specs.Kept.{IsClosers, lane_at};
+ghost use Rattle.lane.specs.inner.Kept.{IsClosers, lane_at};
 ghost use Rattle.lane.specs.Message.{Rises};
 ghost use Rattle.lane.specs.MessageKinds.{is_done, ends_in_mark};
 ghost use Rattle.lane.specs.MessageOrders.{EndsClose, MarksLast};
@@ -29,9 +29,9 @@ impl Model for TakeEnd {
     ghost use Rattle.crossbeam_channel.specs.Claims.{view as known, IsSeatAt};
     ghost use Rattle.crossbeam_channel.specs.Ends.{receives_on};
     ghost use Rattle.lane.specs.MessageKinds.{is_done};
-    ghost use Rattle.lane.specs.Views.{took_in};
+    ghost use Rattle.lane.specs.inner.Views.{took_in};
     ghost use Rattle.lane.specs.Ends.{TakeEndView};
-    ghost use Rattle.lane.specs.Kept.{take_end_view, IsTake};
+    ghost use Rattle.lane.specs.inner.Kept.{take_end_view, IsTake};
 
     ghost Value = { TakeEndView };
 

@@ -1,5 +1,4 @@
 pub mod Cpit
-pub mod CpitFields
 pub mod CpitKept
 pub mod CpitOrder
 pub mod Greatest
@@ -10,3 +9,4 @@ pub mod Order
 pub mod OrderLaws
 pub mod Rows
 pub mod Valid
+pub mod inner

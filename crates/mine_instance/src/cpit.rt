@@ -53,7 +53,7 @@ impl Model for Cpit {
 
     ghost Value = { CpitParts };
 
-    ghost use Rattle.mine_instance.specs.CpitFields.{parts_of, KeepsCpit};
+    ghost use Rattle.mine_instance.specs.inner.CpitFields.{parts_of, KeepsCpit};
 
     ghost view = { parts_of };
 

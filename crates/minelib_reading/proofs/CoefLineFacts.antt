@@ -11,7 +11,7 @@ use Rattle.minelib_lines.specs.Kept.{IsDecimal}
 use Rattle.text_lines.specs.FieldValues.{decimal_in, first_by, whole_in}
 use Rattle.text_lines.specs.LineKinds.{text_kinds}
 use Rattle.text_lines.specs.Uncounted.{kind_by}
-use Rattle.minelib_reading.specs.UncountedItems.{destination_in}
+use Rattle.minelib_reading.specs.inner.UncountedItems.{destination_in}
 use Rattle.minelib_lines.specs.declared.problem.Problem.{Problem}
 use Rattle.minelib_lines.specs.declared.problem.Problem.TheVariants.{Pcpsp, Cpit}
 use Rattle.text_lines.specs.declared.text_fault.TextKind.{TextKind}
@@ -19,7 +19,7 @@ use Rattle.text_lines.specs.declared.text_fault.TextKind.TheVariants.{Fields}
 use Rattle.text_lines.proofs.FieldSteps.{last_step, said_of, step, whole_reads}
 use Rattle.minelib_reading.specs.Fields.{any}
 use Rattle.minelib_reading.specs.ItemForms.{coef_form, coef_said}
-use Rattle.minelib_reading.specs.ModelParts.{coef_alone, coef_of}
+use Rattle.minelib_reading.specs.inner.ModelParts.{coef_alone, coef_of}
 use Rattle.minelib_lines.specs.LineValues.{coef_values}
 use Rattle.minelib_reading.proofs.FormFields.{ArePlain, any_fits, any_reads, below_there, fit_at}
 

@@ -13,7 +13,7 @@ use Rattle.pit_model.specs.declared.block.Block.{Block}
 use Rattle.minelib_reading.specs.BlockLines.{block_form, block_shape}
 use Rattle.text_lines.specs.FieldValues.{all_by, first_by, size_in, whole_in}
 use Rattle.text_lines.specs.LineKinds.{text_kinds}
-use Rattle.minelib_reading.specs.LinesTaken.{block_alone, block_said, preds_alone, preds_said}
+use Rattle.minelib_reading.specs.inner.LinesTaken.{block_alone, block_said, preds_alone, preds_said}
 use Rattle.minelib_reading.specs.PrecLines.{all_differ, preds_form, preds_shape, stands_in}
 use Rattle.text_lines.specs.TextLines.{fields_of}
 use Rattle.text_lines.specs.Uncounted.{kind_by}

@@ -8,7 +8,7 @@ use Rattle.std.proofs.lemmas.List.FromFn.{fill_by_all}
 use Rattle.std.proofs.lemmas.List.Sums.{AllPass-from_list_all, list_all-from_AllPass}
 use Rattle.minelib_reading.specs.HeaderKeys.{header_keys, place, number_of, with_key, count_in, is_given, is_complete}
 use Rattle.minelib_reading.specs.ModelLines.{blank_header}
-use Rattle.minelib_reading.specs.ModelParts.{number_limit}
+use Rattle.minelib_reading.specs.inner.ModelParts.{number_limit}
 use Rattle.minelib_reading.specs.declared.model_key.Header.{Header}
 use Rattle.minelib_reading.specs.declared.model_key.HeaderKey.{HeaderKey}
 use Rattle.minelib_reading.specs.declared.model_key.HeaderKey.TheVariants as key

@@ -9,7 +9,7 @@ use Rattle.minelib_reading.specs.HeaderKeys.{count_in}
 use Rattle.minelib_reading.specs.ItemForms.{coef_form, values_form}
 use Rattle.text_lines.specs.LineKinds.{text_kinds}
 use Rattle.minelib_reading.specs.ModelLines.{ModelDraftView, coef_line, is_behind, is_colon, item_line, last_of, model_line}
-use Rattle.minelib_reading.specs.ModelParts.{admit_model, coef_alone, coef_of, takes, values_of, values_said}
+use Rattle.minelib_reading.specs.inner.ModelParts.{admit_model, coef_alone, coef_of, takes, values_of, values_said}
 use Rattle.text_lines.specs.TextLines.{fields_of}
 use Rattle.minelib_reading.specs.declared.model_key.HeaderKey.TheVariants as key
 use Rattle.minelib_lines.specs.declared.problem.Problem.{Problem}

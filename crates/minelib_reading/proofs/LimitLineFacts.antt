@@ -18,8 +18,8 @@ use Rattle.text_lines.specs.FieldValues.{decimal_in, first_by, whole_in}
 use Rattle.minelib_lines.specs.Kept.{HasDecimals}
 use Rattle.text_lines.specs.LineKinds.{text_kinds}
 use Rattle.minelib_reading.specs.Fields.{any}
-use Rattle.minelib_reading.specs.ModelParts.{limit_of}
-use Rattle.minelib_reading.specs.UncountedItems.{bound_in, limit_width}
+use Rattle.minelib_reading.specs.inner.ModelParts.{limit_of}
+use Rattle.minelib_reading.specs.inner.UncountedItems.{bound_in, limit_width}
 use Rattle.text_lines.specs.declared.text_fault.TextKind.{TextKind}
 use Rattle.text_lines.specs.declared.text_fault.TextKind.TheVariants.{Fields}
 use Rattle.text_lines.proofs.FieldSteps.{first_step, said_of, whole_reads}

@@ -8,7 +8,7 @@ use Rattle.std.proofs.lemmas.List.{get_or-set_other}
 use Rattle.std.proofs.lemmas.List.Folds.{list_any-append}
 use Rattle.std.proofs.lemmas.Grind.{get_or-set_at}
 use Rattle.std.proofs.Math.Bool.{or-true, or-false, and-false}
-use Rattle.minelib_reading.specs.Marks.{AreMarked}
+use Rattle.minelib_reading.specs.inner.Marks.{AreMarked}
 use Rattle.minelib_reading.specs.PrecLines.{stands_in, all_differ}
 
 one_more : (ids : List ℕ) (id place : ℕ) → stands_in (ids ++ id ∷ []) place ≡ (stands_in ids place || ((id == place) || false))

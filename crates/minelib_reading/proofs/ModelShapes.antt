@@ -19,7 +19,7 @@ use Rattle.minelib_reading.specs.ItemForms.{bytes_in, coef_form, coef_said, limi
 use Rattle.minelib_reading.specs.KeyFields.{field_of, number_said, whole_of}
 use Rattle.text_lines.specs.LineKinds.{text_kind, text_kinds}
 use Rattle.minelib_reading.specs.ModelLines.{ModelDraftView, coef_line, first_of, header_line, is_behind, is_colon, is_counted, is_heading, is_next, is_ready, item_line, key_of, keyed_line, last_of, limit_line, model_grammar, model_line, name_with, section_line, stray_line, values_line}
-use Rattle.minelib_reading.specs.ModelParts.{admit_model, coef_of, limit_of, number_in, number_with, only_value, takes, values_of, values_said}
+use Rattle.minelib_reading.specs.inner.ModelParts.{admit_model, coef_of, limit_of, number_in, number_with, only_value, takes, values_of, values_said}
 use Rattle.text_lines.specs.Reading.{at_line, read_lines}
 use Rattle.text_lines.specs.TextLines.{Line, fields_of}
 use Rattle.minelib_reading.specs.declared.model_key.HeaderKey.{HeaderKey}

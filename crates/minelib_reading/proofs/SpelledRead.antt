@@ -11,7 +11,7 @@ use Rattle.forms.specs.Steps.{◌>>=◌}
 use Rattle.pit_model.specs.declared.block.Block.{Block}
 use Rattle.mine_instance.specs.Valid.{ArePreds, ArePredsOf}
 use Rattle.minelib_reading.specs.BlockLines.{block_grammar, block_shape, blocks_in}
-use Rattle.minelib_reading.specs.LinesTaken.{PrecDraftView, admit_block, admit_preds, block_said, no_lists, preds_said}
+use Rattle.minelib_reading.specs.inner.LinesTaken.{PrecDraftView, admit_block, admit_preds, block_said, no_lists, preds_said}
 use Rattle.minelib_reading.specs.PrecLines.{LacksLines, finish_preds, lines_missing, prec_grammar, preds_in, preds_shape}
 use Rattle.text_lines.specs.Reading.{read_lines}
 use Rattle.text_lines.specs.TextLines.{end_of, fields_of, lines_in}

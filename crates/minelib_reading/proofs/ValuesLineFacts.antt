@@ -21,7 +21,7 @@ use Rattle.text_lines.specs.declared.text_fault.TextKind.TheVariants.{Order}
 use Rattle.text_lines.proofs.FieldSteps.{whole_reads}
 use Rattle.minelib_reading.specs.Fields.{any}
 use Rattle.minelib_reading.specs.ItemForms.{row_said, values_form}
-use Rattle.minelib_reading.specs.ModelParts.{values_of, values_said}
+use Rattle.minelib_reading.specs.inner.ModelParts.{values_of, values_said}
 use Rattle.minelib_lines.specs.LineValues.{values_values}
 use Rattle.minelib_reading.proofs.FormFields.{ArePlain, any_fits, any_reads}
 

@@ -4,12 +4,8 @@ pub mod Fields
 pub mod HeaderKeys
 pub mod ItemForms
 pub mod KeyFields
-pub mod LinesTaken
-pub mod Marks
-pub mod ModelFields
 pub mod ModelLines
-pub mod ModelParts
 pub mod PrecLines
 pub mod SpelledModel
 pub mod SpelledTexts
-pub mod UncountedItems
+pub mod inner

@@ -4,7 +4,7 @@ ghost use Rattle.std.specs.Prelude.{◌≡◌, ◌≤◌, length, IfOk};
 ghost use Rattle.pit_model.specs.Block.{block_with};
 ghost use Rattle.pit_model.specs.BlockParts.{AreInRange};
 ghost use Rattle.minelib_reading.specs.BlockLines.{blocks_in};
-ghost use Rattle.minelib_reading.specs.LinesTaken.{admit_block, block_alone, block_said};
+ghost use Rattle.minelib_reading.specs.inner.LinesTaken.{admit_block, block_alone, block_said};
 ghost use Rattle.text_lines.specs.Reading.{Gives};
 ghost use Rattle.pit_model.specs.declared.ranges.TheConstants.{MAX_BLOCKS};
 

@@ -1,7 +1,7 @@
 //! Whether numbers differ, in time that is linear in how many they are.
 
 ghost use Rattle.std.specs.Prelude.{◌≡◌, ◌<◌, length, vec_len, All};
-ghost use Rattle.minelib_reading.specs.Marks.{AreClear, AreMarked};
+ghost use Rattle.minelib_reading.specs.inner.Marks.{AreClear, AreMarked};
 ghost use Rattle.minelib_reading.specs.PrecLines.{all_differ};
 
 /// Whether no number stands twice. `marks` is a table with a place for each number, with no place marked before the call or after it.

@@ -6,7 +6,7 @@ ghost use Rattle.mine_instance.specs.OfCpit.{without_destination};
 ghost use Rattle.minelib_reading.specs.Denotes.{cpit_read, instance_read};
 ghost use Rattle.minelib_reading.specs.HeaderKeys.{count_in, is_complete};
 ghost use Rattle.minelib_reading.specs.ModelLines.{blank_model, coef_line, finish_model, header_line, is_behind, is_heading, is_ready, is_whole, item_line, keyed_line, last_of, limit_line, name_with, section_line, values_line};
-ghost use Rattle.minelib_reading.specs.ModelParts.{admit_model, is_name_for, takes};
+ghost use Rattle.minelib_reading.specs.inner.ModelParts.{admit_model, is_name_for, takes};
 ghost use Rattle.mine_instance.specs.Order.{comes_before};
 ghost use Rattle.minelib_reading.specs.declared.model_key.HeaderKey.TheVariants as key;
 ghost use Rattle.minelib_reading.specs.declared.model_key.Section.TheVariants as Section;
@@ -61,7 +61,7 @@ impl Model for ModelDraft {
 
     ghost Value = { ModelDraftView };
 
-    ghost use Rattle.minelib_reading.specs.ModelFields.{draft_of, KeepsModel};
+    ghost use Rattle.minelib_reading.specs.inner.ModelFields.{draft_of, KeepsModel};
 
     ghost view = { draft_of };
 
@@ -165,7 +165,7 @@ impl ModelDraft {
     }
 
     #[inline(never)]
-    #[tactic(auto, unfolding(crate::specs::ModelParts::admit_model))]
+    #[tactic(auto, unfolding(crate::specs::inner::ModelParts::admit_model))]
     fn admit_any(&mut self, line: &[u8]) -> Result<(), LineError>
         ensures { Admits self.new result (admit_model self.old line.now) }
     {
@@ -176,7 +176,7 @@ impl ModelDraft {
     }
 
     // A line below the key of the objective. One that is read as values has no colon, so it is not searched for one.
-    #[tactic(auto, unfolding(crate::specs::ModelParts::admit_model), using(crate::proofs::ItemsKeyless::values_keyless, crate::proofs::ModelShapes::values_takes))]
+    #[tactic(auto, unfolding(crate::specs::inner::ModelParts::admit_model), using(crate::proofs::ItemsKeyless::values_keyless, crate::proofs::ModelShapes::values_takes))]
     fn admit_in_objective(&mut self, line: &[u8]) -> Result<(), LineError>
         requires { self.old.section ≡ Section.Objective }
         ensures { Admits self.new result (admit_model self.old line.now) }

@@ -4,7 +4,7 @@ ghost use Rattle.std.specs.Prelude.{◌≡◌, ◌<◌, ◌≤◌, pos, true, If
 ghost use Rattle.forms.specs.Field.{Decimal};
 ghost use Rattle.minelib_reading.specs.KeyFields.{type_text};
 ghost use Rattle.minelib_reading.specs.ModelLines.{blank_header};
-ghost use Rattle.minelib_reading.specs.ModelParts.{is_name_for, millionths_in, number_in, number_limit};
+ghost use Rattle.minelib_reading.specs.inner.ModelParts.{is_name_for, millionths_in, number_in, number_limit};
 
 use crate::model_key::{Header, HeaderKey};
 use crate::model_keys::is_word;

@@ -5,12 +5,12 @@ ghost use Rattle.pit_model.specs.PlanKept.{stands_before};
 ghost use Rattle.mine_instance.specs.Order.{comes_before};
 ghost use Rattle.text_lines.specs.FieldValues.{Takes, all_by, decimal_in, first_by};
 ghost use Rattle.minelib_reading.specs.ModelLines.{is_behind, last_of};
-ghost use Rattle.minelib_reading.specs.ModelParts.{TakesFirst, coef_alone, coef_of, limit_of, values_of};
+ghost use Rattle.minelib_reading.specs.inner.ModelParts.{TakesFirst, coef_alone, coef_of, limit_of, values_of};
 ghost use Rattle.text_lines.specs.Reading.{Admits};
 ghost use Rattle.minelib_reading.specs.ItemForms.{coef_form};
 ghost use Rattle.text_lines.specs.TextLines.{fields_of};
 ghost use Rattle.text_lines.specs.Uncounted.{AdmitsCounted};
-ghost use Rattle.minelib_reading.specs.UncountedItems.{bound_in, destination_in, interval_in, limit_width};
+ghost use Rattle.minelib_reading.specs.inner.UncountedItems.{bound_in, destination_in, interval_in, limit_width};
 ghost use Rattle.pit_model.specs.declared.ranges.TheConstants.{MAX_BLOCKS};
 
 use crate::model_keys::is_word;

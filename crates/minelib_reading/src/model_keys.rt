@@ -4,7 +4,7 @@ ghost use Rattle.std.specs.Prelude.{◌≡◌, ◌+◌, ◌<◌, true, false, le
 ghost use Rattle.std.specs.List.{list_any, before_first, after_first};
 ghost use Rattle.std.specs.Str.{bytes_eq};
 ghost use Rattle.minelib_reading.specs.ModelLines.{is_colon, is_heading, is_limits, is_next, key_in, key_of, shared_key};
-ghost use Rattle.minelib_reading.specs.ModelParts.{States, only_value};
+ghost use Rattle.minelib_reading.specs.inner.ModelParts.{States, only_value};
 ghost use Rattle.text_lines.specs.TextLines.{fields_of};
 
 use crate::model_key::{HeaderKey, ModelKey, Section};

@@ -2,8 +2,8 @@
 
 ghost use Rattle.std.specs.Prelude.{◌≡◌, ◌<◌, ◌≤◌, [], vec_len, All, IfOk, OnOk};
 ghost use Rattle.text_lines.specs.FieldValues.{all_by, whole_in};
-ghost use Rattle.minelib_reading.specs.Marks.{AreClear};
-ghost use Rattle.minelib_reading.specs.LinesTaken.{admit_preds, no_lists, preds_alone, preds_said};
+ghost use Rattle.minelib_reading.specs.inner.Marks.{AreClear};
+ghost use Rattle.minelib_reading.specs.inner.LinesTaken.{admit_preds, no_lists, preds_alone, preds_said};
 ghost use Rattle.minelib_reading.specs.PrecLines.{finish_preds, preds_in, stands_in};
 ghost use Rattle.text_lines.specs.Reading.{Admits, Gives};
 ghost use Rattle.text_lines.specs.TextLines.{fields_of};
@@ -31,8 +31,8 @@ struct PrecDraft {
 
 impl Model for PrecDraft {
     ghost use Rattle.std.specs.Prelude.{◌≡◌, ◌≤◌, vec_len};
-    ghost use Rattle.minelib_reading.specs.Marks.{AreClear};
-    ghost use Rattle.minelib_reading.specs.LinesTaken.{PrecDraftView};
+    ghost use Rattle.minelib_reading.specs.inner.Marks.{AreClear};
+    ghost use Rattle.minelib_reading.specs.inner.LinesTaken.{PrecDraftView};
     ghost use Rattle.pit_model.specs.declared.ranges.TheConstants.{MAX_BLOCKS};
 
     ghost Value = { PrecDraftView };

@@ -11,7 +11,7 @@ use Rattle.minelib_reading.specs.BlockLines.{block_form, block_shape, blocks_in}
 use Rattle.minelib_lines.specs.LineValues.{block_values}
 use Rattle.text_lines.specs.TextLines.{fields_of}
 use Rattle.minelib_lines.specs.Lines.{line_of, lines_from, text_of}
-use Rattle.minelib_reading.specs.LinesTaken.{admit_block, block_said}
+use Rattle.minelib_reading.specs.inner.LinesTaken.{admit_block, block_said}
 use Rattle.minelib_writing.specs.Written.{block_fields}
 use Rattle.minelib_reading.proofs.BlockLineFacts.{block_back, block_fits}
 use Rattle.minelib_reading.proofs.SpelledRead.{blocks_read}

@@ -9,7 +9,7 @@ use Rattle.minelib_lines.specs.Kept.{IsDecimal}
 use Rattle.minelib_lines.specs.Lines.{line_of}
 use Rattle.minelib_reading.specs.HeaderKeys.{header_keys, with_key, count_in, is_given, is_complete}
 use Rattle.minelib_reading.specs.ModelLines.{ModelDraftView, blank_header, is_whole, model_grammar}
-use Rattle.minelib_reading.specs.ModelParts.{admit_model}
+use Rattle.minelib_reading.specs.inner.ModelParts.{admit_model}
 use Rattle.forms.specs.GrammarStates.{AllState}
 use Rattle.text_lines.specs.TextLines.{Line}
 use Rattle.minelib_writing.specs.Written.{value_fields}

@@ -11,7 +11,7 @@ use Rattle.mine_instance.specs.declared.coef.Coef.{Coef}
 use Rattle.minelib_lines.specs.Kept.{IsDecimal, HasDecimals}
 use Rattle.minelib_reading.specs.ItemForms.{coef_form, coef_said, limit_form, limit_said, values_form}
 use Rattle.text_lines.specs.LineKinds.{text_kinds}
-use Rattle.minelib_reading.specs.ModelParts.{values_of, values_said, coef_of, limit_of}
+use Rattle.minelib_reading.specs.inner.ModelParts.{values_of, values_said, coef_of, limit_of}
 use Rattle.minelib_lines.specs.LineValues.{coef_values, limit_values, values_values}
 use Rattle.minelib_writing.specs.Written.{value_fields, coef_fields, limit_fields}
 use Rattle.minelib_lines.specs.declared.problem.Problem.{Problem}

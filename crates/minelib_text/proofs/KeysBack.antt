@@ -17,7 +17,7 @@ use Rattle.minelib_reading.specs.ItemForms.{bytes_in}
 use Rattle.minelib_reading.specs.KeyFields.{field_of, number_said, type_text}
 use Rattle.text_lines.specs.LineKinds.{text_kinds}
 use Rattle.minelib_reading.specs.ModelLines.{ModelDraftView, blank_model, header_line, is_colon, is_counted, is_next, is_ready, key_in, keyed_line, name_with}
-use Rattle.minelib_reading.specs.ModelParts.{admit_model, takes}
+use Rattle.minelib_reading.specs.inner.ModelParts.{admit_model, takes}
 use Rattle.text_lines.specs.TextLines.{fields_of}
 use Rattle.minelib_writing.specs.Written.{key_line, problem_keys, pcpsp_keys, cpit_keys}
 use Rattle.minelib_reading.specs.declared.model_key.Header.{Header}

@@ -13,7 +13,7 @@ use Rattle.forms.specs.Spelled.{Spell}
 use Rattle.forms.specs.Steps.{◌>>=◌}
 use Rattle.mine_instance.specs.Valid.{ArePredsOf, ArePreds}
 use Rattle.minelib_lines.specs.Lines.{line_of, lines_from, text_of}
-use Rattle.minelib_reading.specs.LinesTaken.{admit_preds, no_lists, preds_said}
+use Rattle.minelib_reading.specs.inner.LinesTaken.{admit_preds, no_lists, preds_said}
 use Rattle.minelib_reading.specs.PrecLines.{finish_preds, preds_form, preds_in, preds_shape}
 use Rattle.minelib_lines.specs.LineValues.{preds_values}
 use Rattle.text_lines.specs.TextLines.{end_of, fields_of}

@@ -1,5 +1,4 @@
-pub mod CoefParts
-pub mod Spaced
 pub mod TextNames
 pub mod Texts
 pub mod Written
+pub mod inner

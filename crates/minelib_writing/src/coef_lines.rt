@@ -72,7 +72,7 @@ impl CoefLine for Coef {
         true
     }
 
-    ghost use Rattle.minelib_writing.specs.CoefParts.{coef_parts};
+    ghost use Rattle.minelib_writing.specs.inner.CoefParts.{coef_parts};
 
     ghost parts = { coef_parts };
 }
@@ -101,7 +101,7 @@ impl CoefLine for CpitCoef {
         true
     }
 
-    ghost use Rattle.minelib_writing.specs.CoefParts.{cpit_coef_parts};
+    ghost use Rattle.minelib_writing.specs.inner.CoefParts.{cpit_coef_parts};
 
     ghost parts = { cpit_coef_parts };
 }

@@ -2,7 +2,7 @@
 
 ghost use Rattle.std.specs.Prelude.{◌≡◌, ◌-◌, ◌<◌, ◌≤◌, ◌++◌, OnOk, IfOk, length, take, drop, slice_index};
 ghost use Rattle.std.specs.List.{range_with_len};
-ghost use Rattle.minelib_writing.specs.Spaced.{spaced, start_in, AreStarts};
+ghost use Rattle.minelib_writing.specs.inner.Spaced.{spaced, start_in, AreStarts};
 
 use crate::fields::put_whole_behind;
 use std::alloc::{AllocError, Global};

@@ -9,7 +9,7 @@ use Rattle.collector.specs.Complete.{IsComplete}
 use Rattle.collector.specs.Fault.{fault}
 use Rattle.collector.specs.CollectorView.{CollectorView}
 use Rattle.mine_instance.proofs.BuildFacts.{take_next}
-use Rattle.pit_compile.specs.Collecting.{joined, IsFront}
+use Rattle.pit_compile.specs.inner.Collecting.{joined, IsFront}
 use Rattle.rows.specs.declared.item.Item.{Item}
 
 -- of a complete list of items, added in any order, no item is refused

@@ -11,9 +11,9 @@ use Rattle.rows.specs.declared.item.Valued.{Valued}
 use Rattle.pit_compile.specs.Answers.{refusal_in}
 use Rattle.pit_compile.specs.Compiled.{AreGiven}
 use Rattle.pit_compile.specs.Compiling.{IsNotCompiled}
-use Rattle.pit_compile.specs.ModelRows.{AreModelRows}
+use Rattle.pit_compile.specs.inner.ModelRows.{AreModelRows}
 use Rattle.pit_compile.specs.Rows.{fault_in, rows_of, sents_of}
-use Rattle.pit_compile.specs.Repeats.{IsRepeat}
+use Rattle.pit_compile.specs.inner.Repeats.{IsRepeat}
 use Rattle.pit_compile.specs.declared.refusal.Refusal.{Refusal}
 use Rattle.pit_compile.specs.declared.refusal.Refusal.TheVariants.{Settings, NoThread, FeedFailed, TooLong, Row, Same, SinkFailed, OutOfMemory}
 use Rattle.pit_compile.proofs.Readers.{all_read}

@@ -15,7 +15,7 @@ use Rattle.rows.specs.Valued.{row_by, worths_by}
 use Rattle.valuers.specs.Valuing.{rows_by}
 use Rattle.rows.specs.declared.item.Valued.{Valued}
 use Rattle.zone_csv.specs.Zone.{blocks_of}
-use Rattle.pit_compile.specs.ModelRows.{HasPlace, AreModelRows}
+use Rattle.pit_compile.specs.inner.ModelRows.{HasPlace, AreModelRows}
 use Rattle.pit_compile.specs.Rows.{rows_from, rows_in, rows_of, sents_from}
 
 -- the rows of a file have its blocks, in its order

@@ -1,10 +1,7 @@
 pub mod Answers
-pub mod Collecting
 pub mod Compiled
 pub mod Compiling
 pub mod FaultText
-pub mod ModelRows
-pub mod Repeats
 pub mod Rows
 pub mod Run
 pub mod Settings
@@ -12,3 +9,4 @@ pub mod SinkAnswers
 pub mod SinkLent
 pub mod Sinks
 pub mod Verdict
+pub mod inner

@@ -7,7 +7,7 @@ ghost use Rattle.collector.specs.Fault.{fault};
 ghost use Rattle.collector.specs.Lists.{AreLists};
 ghost use Rattle.lane.specs.MessageKinds.{rows_in};
 ghost use Rattle.lane.specs.Whole.{IsWhole};
-ghost use Rattle.pit_compile.specs.Collecting.{joined, IsFront};
+ghost use Rattle.pit_compile.specs.inner.Collecting.{joined, IsFront};
 ghost use Rattle.pit_model.specs.PlanFormulas.{formulas_of_plan};
 ghost use Rattle.valuers.specs.Valuing.{items_by, rows_by};
 ghost use Rattle.pit_model.specs.declared.ranges.TheConstants.{MAX_ROWS};

@@ -4,8 +4,8 @@ ghost use Rattle.std.specs.Prelude.{◌≡◌, IfErr, IfOk};
 ghost use Rattle.mine_instance.specs.OfModel.{instance};
 ghost use Rattle.mine_instance.specs.Valid.{IsValid};
 ghost use Rattle.precedence.specs.Identifier.{blocks_of_rows};
-ghost use Rattle.pit_compile.specs.ModelRows.{AreModelRows};
-ghost use Rattle.pit_compile.specs.Repeats.{IsRepeat};
+ghost use Rattle.pit_compile.specs.inner.ModelRows.{AreModelRows};
+ghost use Rattle.pit_compile.specs.inner.Repeats.{IsRepeat};
 ghost use Rattle.pit_compile.specs.Verdict.{AreApart};
 
 use crate::numbered::numbered;

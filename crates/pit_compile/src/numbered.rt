@@ -3,8 +3,8 @@
 ghost use Rattle.std.specs.Prelude.{◌<◌, ◌≤◌, length, All, IfErr, IfOk};
 ghost use Rattle.precedence.specs.Identifier.{blocks_of_rows};
 ghost use Rattle.precedence.specs.Numbering.{IsNumbering};
-ghost use Rattle.pit_compile.specs.ModelRows.{HasPlace};
-ghost use Rattle.pit_compile.specs.Repeats.{IsRepeat};
+ghost use Rattle.pit_compile.specs.inner.ModelRows.{HasPlace};
+ghost use Rattle.pit_compile.specs.inner.Repeats.{IsRepeat};
 ghost use Rattle.pit_compile.specs.Verdict.{IsRowAt};
 ghost use Rattle.pit_model.specs.declared.ranges.TheConstants.{MAX_BLOCKS};
 

@@ -4,7 +4,7 @@ use Rattle.std.specs.Prelude.{replicate, ◌/◌}
 use Rattle.forms.specs.Field.{Value, Bytes}
 use Rattle.forms.specs.Read.{read_field}
 use Rattle.forms.specs.Steps.{◌>>=◌}
-use Rattle.pit_model.specs.ByPlace.{band_by, bands_in, covers_in, read_from}
+use Rattle.pit_model.specs.inner.ByPlace.{band_by, bands_in, covers_in, read_from}
 use Rattle.records.specs.RecordCells.{cell_at}
 use Rattle.pit_model.specs.PlanCells.{a_recovery, a_start, plan_kind}
 use Rattle.pit_model.specs.FormulaShapes.{band_at, bands_form, bands_of}

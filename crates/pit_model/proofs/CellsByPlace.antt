@@ -13,7 +13,7 @@ use Rattle.forms.specs.Spelled.{Says}
 use Rattle.forms.specs.Shape.{Check, Shape, failing, said, unless}
 use Rattle.forms.specs.Steps.{◌>>=◌}
 use Rattle.records.specs.RecordCells.{cell_at}
-use Rattle.pit_model.specs.ByPlace.{key_by_place, bound_in, leach_in, limited, length_of, limit_in, read_from, resource_in, said_by_place, size_of, zone_in}
+use Rattle.pit_model.specs.inner.ByPlace.{key_by_place, bound_in, leach_in, limited, length_of, limit_in, read_from, resource_in, said_by_place, size_of, zone_in}
 use Rattle.pit_model.specs.FormulaShapes.{bands_asked, bands_form, bands_of}
 use Rattle.pit_model.specs.PlanShapes.{grid_shape, key_of, once, record_shape, a_destination, a_resource, bound_form, bound_of, cone_of, covers_of, limit_on, new_destination, resource_asked, room_for_destination, room_for_zone, cells_shape, destination_shape, is_interval, key_shape, limit_form, limit_shape, resource_form, resource_shape, zone_form, zone_shape}
 use Rattle.pit_model.specs.Stated.{Stated, resource_named, with_destination, with_resource, with_zone}

@@ -12,7 +12,7 @@ use Rattle.forms.specs.GrammarStates.{AllState}
 use Rattle.forms.specs.Shape.{Shape, check, failing}
 use Rattle.forms.specs.ShapeStates.{States}
 use Rattle.records.specs.RecordCells.{cell_at, cells_of}
-use Rattle.pit_model.specs.DraftFields.{KeepsStated}
+use Rattle.pit_model.specs.inner.DraftFields.{KeepsStated}
 use Rattle.pit_model.specs.Plan.{PlanParts}
 use Rattle.pit_model.specs.Formula.{IsRuled}
 use Rattle.pit_model.specs.PlanKept.{plan_of, AreCovers, AreTonnes, IsBound, IsCone, IsGrid, IsPlan, IsSlope, IsTonnes, RiseStrictly, has_repeat, is_turned}

@@ -3,10 +3,8 @@ pub mod Bands
 pub mod BandsKept
 pub mod Block
 pub mod BlockParts
-pub mod ByPlace
 pub mod Count
 pub mod Destinations
-pub mod DraftFields
 pub mod Equality
 pub mod FaultText
 pub mod Formula
@@ -15,10 +13,10 @@ pub mod FormulaShapes
 pub mod Name
 pub mod Plan
 pub mod PlanCells
-pub mod PlanFields
 pub mod PlanFormulas
 pub mod PlanKept
 pub mod PlanShapes
 pub mod Planned
 pub mod Stated
 pub mod Worth
+pub mod inner

@@ -4,7 +4,7 @@ ghost use Rattle.std.specs.Prelude.{◌≡◌, ◌+◌, ◌-◌, ◌/◌, ◌%�
 ghost use Rattle.csv.specs.Records.{fields_of};
 ghost use Rattle.pit_model.specs.Admits.{Admits};
 ghost use Rattle.pit_model.specs.BandsKept.{IsBand};
-ghost use Rattle.pit_model.specs.ByPlace.{band_by, bands_in};
+ghost use Rattle.pit_model.specs.inner.ByPlace.{band_by, bands_in};
 ghost use Rattle.records.specs.RecordCells.{cells_of};
 
 use crate::band::Band;

@@ -8,7 +8,7 @@ ghost use Rattle.pit_model.specs.PlanKept.{AreTonnes};
 ghost use Rattle.forms.specs.Field.{Millionths};
 ghost use Rattle.forms.specs.Read.{read_field};
 ghost use Rattle.forms.specs.Shape.{said};
-ghost use Rattle.pit_model.specs.ByPlace.{Gives, key_by_place, limit_in, limited, resource_in, said_by_place, zone_in};
+ghost use Rattle.pit_model.specs.inner.ByPlace.{Gives, key_by_place, limit_in, limited, resource_in, said_by_place, zone_in};
 ghost use Rattle.pit_model.specs.PlanCells.{a_rate, plan_kind};
 ghost use Rattle.pit_model.specs.PlanShapes.{grid_shape, name_shape, periods_shape, rate_shape, record_shape};
 ghost use Rattle.pit_model.specs.Planned.{finished};
@@ -58,7 +58,7 @@ impl Model for Draft {
 
     ghost Value = { Stated };
 
-    ghost use Rattle.pit_model.specs.DraftFields.{stated_of, KeepsDraft};
+    ghost use Rattle.pit_model.specs.inner.DraftFields.{stated_of, KeepsDraft};
 
     ghost view = { stated_of };
 

@@ -7,7 +7,7 @@ ghost use Rattle.records.specs.RecordCells.{cells_of};
 ghost use Rattle.pit_model.specs.PlanKept.{AreTonnes, stands_before};
 ghost use Rattle.forms.specs.Field.{Millionths, below, whole};
 ghost use Rattle.forms.specs.Read.{read_field};
-ghost use Rattle.pit_model.specs.ByPlace.{Gives, bound_in};
+ghost use Rattle.pit_model.specs.inner.ByPlace.{Gives, bound_in};
 ghost use Rattle.pit_model.specs.PlanCells.{plan_kind, tonnes};
 ghost use Rattle.pit_model.specs.PlanShapes.{bound_form, is_interval};
 ghost use Rattle.pit_model.specs.Stated.{is_same_place, with_limit};

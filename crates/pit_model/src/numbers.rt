@@ -3,7 +3,7 @@
 ghost use Rattle.std.specs.Prelude.{◌≡◌, ◌≤◌, ◌*◌, ◌^◌, ◌<◌, ◌≤ℤ◌, pos, IfOk};
 ghost use Rattle.forms.specs.Field.{Decimal, Millionths, whole};
 ghost use Rattle.forms.specs.Read.{read_field};
-ghost use Rattle.pit_model.specs.ByPlace.{Gives, length_of, size_of};
+ghost use Rattle.pit_model.specs.inner.ByPlace.{Gives, length_of, size_of};
 ghost use Rattle.pit_model.specs.PlanCells.{a_size, an_origin, between, plan_kind};
 ghost use Rattle.pit_model.specs.declared.ranges.TheConstants.{MAX_ORIGIN, MAX_SIZE, MIN_ORIGIN};
 

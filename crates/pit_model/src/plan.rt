@@ -31,7 +31,7 @@ impl Model for Plan {
 
     ghost Value = { PlanParts };
 
-    ghost use Rattle.pit_model.specs.PlanFields.{parts_of, KeepsPlan};
+    ghost use Rattle.pit_model.specs.inner.PlanFields.{parts_of, KeepsPlan};
 
     ghost view = { parts_of };
 

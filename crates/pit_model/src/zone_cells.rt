@@ -4,7 +4,7 @@ ghost use Rattle.std.specs.Prelude.{◌≡◌, ◌≤◌, true, false, length, I
 ghost use Rattle.csv.specs.Records.{fields_of};
 ghost use Rattle.forms.specs.Field.{whole};
 ghost use Rattle.forms.specs.Read.{read_field};
-ghost use Rattle.pit_model.specs.ByPlace.{Gives, cone_by, cone_in};
+ghost use Rattle.pit_model.specs.inner.ByPlace.{Gives, cone_by, cone_in};
 ghost use Rattle.records.specs.RecordCells.{cells_of};
 ghost use Rattle.pit_model.specs.PlanKept.{IsCone};
 ghost use Rattle.pit_model.specs.PlanCells.{a_leg, plan_kind};

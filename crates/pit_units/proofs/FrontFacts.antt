@@ -16,7 +16,8 @@ use Rattle.pit_units.proofs.Value.{size_product, value_append}
 use Rattle.pit_units.proofs.Written.{all_cons, digits_plain}
 use Rattle.pit_units.specs.Decimal.{all_digits, signed, IsSpelled, StandsFor}
 use Rattle.pit_units.specs.Shortest.{IsPlainByte}
-use Rattle.pit_units.specs.Front.{digits_ahead, past_point, BeginsWith, BeginsWithDecimals, BeginsWithDigits, BeginsWithSize, IsUsual}
+use Rattle.pit_units.specs.Front.{digits_ahead, past_point, BeginsWith, IsUsual}
+use Rattle.pit_units.specs.inner.FrontParts.{BeginsWithDecimals, BeginsWithDigits, BeginsWithSize}
 
 -- the digits before a place
 pub digits_up_to : (text : List ℕ) (i n : ℕ) → i ≤ length text

@@ -21,7 +21,7 @@ pub struct Dec {
 
 impl Model for Dec {
     ghost use Rattle.std.specs.Prelude.{ℤ};
-    ghost use Rattle.pit_units.specs.DecFields.{millionths_of, KeepsRange, halves_of, high_back, low_back};
+    ghost use Rattle.pit_units.specs.inner.DecFields.{millionths_of, KeepsRange, halves_of, high_back, low_back};
 
     ghost Value = { ℤ };
 

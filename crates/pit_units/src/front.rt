@@ -1,6 +1,7 @@
 ghost use Rattle.std.specs.Prelude.{◌≡◌, [], ◌∷◌, ◌++◌, ◌*◌, ◌^◌, ◌<◌, ◌≤◌, if◌then◌else◌, IfSome, IsSome, MatchOption, pos};
 ghost use Rattle.pit_units.specs.Decimal.{signed};
-ghost use Rattle.pit_units.specs.Front.{digits_ahead, past_digits, past_fraction, past_minus, BeginsWith, BeginsWithDecimals, BeginsWithDigits, BeginsWithSize, IsUsual};
+ghost use Rattle.pit_units.specs.Front.{digits_ahead, past_digits, past_fraction, past_minus, BeginsWith, IsUsual};
+ghost use Rattle.pit_units.specs.inner.FrontParts.{BeginsWithDecimals, BeginsWithDigits, BeginsWithSize};
 
 // The most digits that are read at a text's front: their number is one of 64 bits.
 const MOST_DIGITS: usize = 18;

@@ -9,9 +9,9 @@ use Rattle.pit_model.specs.declared.cone.Cone.{Cone}
 use Rattle.pit_model.specs.declared.grid.Grid.{Grid}
 use Rattle.precedence.specs.Codes.{code, codes}
 use Rattle.precedence.specs.Cone.{above, is_above, places_where, preds, HasZones}
-use Rattle.precedence.specs.Lists.{in_cone}
-use Rattle.precedence.specs.Rows.{is_in_rows, AreInOrder, IsWithin}
-use Rattle.precedence.specs.ZoneTables.{HasTables, IsTold, rows_in}
+use Rattle.precedence.specs.inner.Lists.{in_cone}
+use Rattle.precedence.specs.inner.Rows.{is_in_rows, AreInOrder, IsWithin}
+use Rattle.precedence.specs.inner.ZoneTables.{HasTables, IsTold, rows_in}
 use Rattle.precedence.specs.declared.cone_table.ConeTable.{ConeTable}
 use Rattle.precedence.specs.declared.cone_rows.Extent.{Extent}
 

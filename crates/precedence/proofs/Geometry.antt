@@ -9,8 +9,8 @@ use Rattle.pit_model.specs.declared.cone.Slope.{Slope}
 use Rattle.pit_model.specs.declared.grid.Grid.{Grid}
 use Rattle.precedence.specs.Codes.{code}
 use Rattle.precedence.specs.Cone.{is_above, is_within_slopes, slope_along_x, slope_along_y}
-use Rattle.precedence.specs.Reach.{CountsRow, slope_across}
-use Rattle.precedence.specs.Rows.{center, is_in_row}
+use Rattle.precedence.specs.inner.Reach.{CountsRow, slope_across}
+use Rattle.precedence.specs.inner.Rows.{center, is_in_row}
 use Rattle.precedence.specs.declared.cone_rows.Counts.{Counts}
 use Rattle.precedence.specs.declared.cone_rows.Row.{Row}
 

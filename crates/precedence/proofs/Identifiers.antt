@@ -13,7 +13,7 @@ use Rattle.pit_model.specs.declared.block.Block.{Block}
 use Rattle.precedence.specs.Codes.{code, codes}
 use Rattle.precedence.specs.Identifier.{comes_before, id}
 use Rattle.precedence.specs.Numbering.{IsNumbering}
-use Rattle.precedence.specs.Seen.{placed, IsPlaced, IsSortedTable}
+use Rattle.precedence.specs.inner.Seen.{placed, IsPlaced, IsSortedTable}
 use Rattle.precedence.proofs.Counts.{count_below, count_keys}
 use Rattle.precedence.proofs.Order.{before_is}
 use Rattle.precedence.proofs.SeenPlaces.{keys-placed, length-placed, placed_at, all_placed}

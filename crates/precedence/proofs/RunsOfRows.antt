@@ -9,8 +9,8 @@ use Rattle.std.proofs.lemmas.List.Kept.{AllPairs-from_increasing}
 use Rattle.std.proofs.lemmas.List.Elements.{All-head, All-tail}
 use Rattle.std.proofs.lemmas.Bool.{cases_lt, lt-ltb, le-ltb, le-leb, lt-leb}
 use Rattle.precedence.specs.Cone.{places_where}
-use Rattle.precedence.specs.Rows.{is_in_row, is_in_rows, pasts, start_of, AreApart}
-use Rattle.precedence.specs.Search.{run}
+use Rattle.precedence.specs.inner.Rows.{is_in_row, is_in_rows, pasts, start_of, AreApart}
+use Rattle.precedence.specs.inner.Search.{run}
 use Rattle.precedence.specs.declared.cone_rows.Row.{Row}
 use Rattle.precedence.proofs.Starts.{Rises, rises, at_start, start_before_in, start_yes, start_no, start_none}
 

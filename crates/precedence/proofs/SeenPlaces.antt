@@ -8,7 +8,7 @@ use Rattle.std.proofs.lemmas.Map.Keys.{apart_from_distinct}
 use Rattle.pit_model.specs.declared.block.Block.{Block}
 use Rattle.precedence.specs.Codes.{code, codes}
 use Rattle.precedence.specs.Identifier.{IsFirstAgain, is_same_place}
-use Rattle.precedence.specs.Seen.{placed, IsPlaced}
+use Rattle.precedence.specs.inner.Seen.{placed, IsPlaced}
 use Rattle.precedence.proofs.Order.{same_is}
 
 pub placed_push : (n : ℕ) (bs : List Block) (b : Block) → placed n (bs ++ b ∷ []) ≡ placed n bs ++ (code b, n + length bs) ∷ []

@@ -3,7 +3,7 @@ use Rattle.std.proofs.Common.{◌≡◌, ℕ, zero, suc, ◌+◌, ◌<◌, ◌�
 use native.Mathlib.Numerals.{unary_clauses}
 use Rattle.std.specs.List.Sorted.{IsStrictlyIncreasing}
 use Rattle.std.proofs.lemmas.Bool.{cases_lt, lt-ltb, le-ltb}
-use Rattle.precedence.specs.Rows.{start_of}
+use Rattle.precedence.specs.inner.Rows.{start_of}
 
 -- each number is above those before it, and the first is not below `low`
 abbrev pub Rises : ℕ → List ℕ → Type 0

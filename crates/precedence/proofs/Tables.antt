@@ -8,8 +8,8 @@ use Rattle.pit_model.specs.declared.cone.Cone.{Cone}
 use Rattle.pit_model.specs.declared.grid.Grid.{Grid}
 use Rattle.precedence.specs.Codes.{code}
 use Rattle.precedence.specs.Cone.{is_above}
-use Rattle.precedence.specs.Reach.{CountsRow}
-use Rattle.precedence.specs.Rows.{center, edge, is_in_row, is_in_rows, AreApart, IsWithin, Tells, IsTable}
+use Rattle.precedence.specs.inner.Reach.{CountsRow}
+use Rattle.precedence.specs.inner.Rows.{center, edge, is_in_row, is_in_rows, AreApart, IsWithin, Tells, IsTable}
 use Rattle.precedence.specs.declared.cone_rows.Extent.{Extent}
 use Rattle.precedence.specs.declared.cone_rows.Counts.{Counts}
 use Rattle.precedence.specs.declared.cone_rows.Row.{Row}

@@ -2,13 +2,6 @@ pub mod Codes
 pub mod Cone
 pub mod ConeLaws
 pub mod Identifier
-pub mod Lists
 pub mod Numbering
-pub mod NumberingFields
-pub mod PredsFields
-pub mod Reach
-pub mod Rows
 pub mod SameBlock
-pub mod Search
-pub mod Seen
-pub mod ZoneTables
+pub mod inner

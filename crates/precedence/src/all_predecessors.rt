@@ -3,8 +3,8 @@
 ghost use Rattle.std.specs.Prelude.{◌≡◌, ◌<◌, ◌++◌, IfOk, OnOk, All, length, map};
 ghost use Rattle.precedence.specs.Codes.{codes};
 ghost use Rattle.precedence.specs.Cone.{preds, HasZones};
-ghost use Rattle.precedence.specs.Lists.{in_cone};
-ghost use Rattle.precedence.specs.Rows.{AreInOrder};
+ghost use Rattle.precedence.specs.inner.Lists.{in_cone};
+ghost use Rattle.precedence.specs.inner.Rows.{AreInOrder};
 
 use crate::bounds::extent_of;
 use crate::code::code;

@@ -2,8 +2,8 @@
 
 ghost use Rattle.std.specs.Prelude.{ℕ, ◌<◌, ◌≤◌, length, slice_index_or};
 ghost use Rattle.pit_model.specs.declared.block.Block.{Block};
-ghost use Rattle.precedence.specs.Rows.{IsWithin};
-ghost use Rattle.precedence.specs.ZoneTables.{Holds};
+ghost use Rattle.precedence.specs.inner.Rows.{IsWithin};
+ghost use Rattle.precedence.specs.inner.ZoneTables.{Holds};
 ghost use Rattle.pit_model.specs.declared.ranges.TheConstants.{GRID_CELLS};
 
 use crate::cone_rows::Extent;

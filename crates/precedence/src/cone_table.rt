@@ -1,7 +1,7 @@
 //! The table of a cone.
 
 ghost use Rattle.std.specs.Prelude.{◌≡◌};
-ghost use Rattle.precedence.specs.Rows.{pasts};
+ghost use Rattle.precedence.specs.inner.Rows.{pasts};
 
 use crate::cone_rows::Row;
 use pit_model::cone::Cone;

@@ -4,7 +4,7 @@ ghost use Rattle.std.specs.Prelude.{◌≡◌, ◌*◌, ◌<◌, ◌≤◌, ◌^
 ghost use Rattle.std.specs.Int.{abs_diff};
 ghost use Rattle.pit_model.specs.PlanKept.{IsCone, IsGrid, IsSlope};
 ghost use Rattle.precedence.specs.Cone.{square, is_within_slopes};
-ghost use Rattle.precedence.specs.Reach.{takes_in, slope_across, CountsAll, CountsRow, CountsSide};
+ghost use Rattle.precedence.specs.inner.Reach.{takes_in, slope_across, CountsAll, CountsRow, CountsSide};
 ghost use Rattle.pit_model.specs.declared.ranges.TheConstants.{GRID_CELLS, MAX_SIZE, MAX_SLOPE};
 
 use crate::cone_rows::{Counts, Reach};

@@ -2,7 +2,7 @@
 
 ghost use Rattle.std.specs.Prelude.{◌≡◌, ◌+◌, ◌<◌, ◌≤◌, IsTrue, length};
 ghost use Rattle.std.specs.List.Sorted.{IsStrictlyIncreasing};
-ghost use Rattle.precedence.specs.Rows.{start_of};
+ghost use Rattle.precedence.specs.inner.Rows.{start_of};
 
 /// How many of the numbers are below `target`. It is fast where `hint` is somewhat less than that, and fastest where it is one
 /// less; any other hint does.

@@ -9,7 +9,7 @@ ghost use Rattle.pit_model.specs.declared.block.Block.{Block};
 ghost use Rattle.precedence.specs.Codes.{codes};
 ghost use Rattle.precedence.specs.Numbering.{IsNumbering};
 ghost use Rattle.precedence.specs.SameBlock.{IsReason};
-ghost use Rattle.precedence.specs.Seen.{placed, IsSortedTable};
+ghost use Rattle.precedence.specs.inner.Seen.{placed, IsSortedTable};
 ghost use Rattle.pit_model.specs.declared.ranges.TheConstants.{MAX_BLOCKS};
 
 use crate::code::code;

@@ -21,7 +21,7 @@ impl Model for Numbering {
 
     ghost Value = { NumberingView };
 
-    ghost use Rattle.precedence.specs.NumberingFields.{numbered_of, KeepsNumbering};
+    ghost use Rattle.precedence.specs.inner.NumberingFields.{numbered_of, KeepsNumbering};
 
     ghost view = { numbered_of };
 

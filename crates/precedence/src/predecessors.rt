@@ -1,7 +1,7 @@
 //! The predecessors of each block of a model.
 
 ghost use Rattle.std.specs.Prelude.{◌≡◌, ◌-◌, ◌<◌, ◌≤◌, ◌++◌, [], ◌∷◌, OnOk, OnErr, Some, drop, length, slice_get, slice_index, sum_by, take};
-ghost use Rattle.precedence.specs.PredsFields.{pieces, start_at, AreEnds};
+ghost use Rattle.precedence.specs.inner.PredsFields.{pieces, start_at, AreEnds};
 
 use std::alloc::{AllocError, Global};
 use std::marker::Model;
@@ -20,7 +20,7 @@ impl Model for Preds {
 
     ghost Value = { List (List ℕ) };
 
-    ghost use Rattle.precedence.specs.PredsFields.{lists_of, KeepsPreds};
+    ghost use Rattle.precedence.specs.inner.PredsFields.{lists_of, KeepsPreds};
 
     ghost view = { lists_of };
 

@@ -3,8 +3,8 @@
 ghost use Rattle.std.specs.Prelude.{◌≡◌, ℕ, ◌+◌, ◌-◌, ◌<◌, ◌≤◌, ◌^◌, ◌++◌, OnOk, IfOk, length, drop, slice_index};
 ghost use Rattle.std.specs.List.Sorted.{IsStrictlyIncreasing};
 ghost use Rattle.precedence.specs.Cone.{places_where};
-ghost use Rattle.precedence.specs.Rows.{is_in_rows, pasts, start_of, AreInOrder};
-ghost use Rattle.precedence.specs.Search.{run};
+ghost use Rattle.precedence.specs.inner.Rows.{is_in_rows, pasts, start_of, AreInOrder};
+ghost use Rattle.precedence.specs.inner.Search.{run};
 ghost use Rattle.precedence.specs.declared.cone_rows.Row.{Row};
 
 use crate::cone_rows::Row;

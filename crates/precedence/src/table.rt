@@ -2,7 +2,7 @@
 
 ghost use Rattle.std.specs.Prelude.{◌≡◌, ◌+◌, ◌-◌, ◌*◌, ◌<◌, ◌≤◌, ◌++◌, [], ◌∷◌, OnOk, IfOk, max};
 ghost use Rattle.pit_model.specs.PlanKept.{IsCone, IsGrid};
-ghost use Rattle.precedence.specs.Rows.{center, edge, IsTable, Tells};
+ghost use Rattle.precedence.specs.inner.Rows.{center, edge, IsTable, Tells};
 ghost use Rattle.pit_model.specs.declared.ranges.TheConstants.{GRID_CELLS};
 
 use crate::code::{BENCH, ROW};

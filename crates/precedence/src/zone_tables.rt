@@ -3,8 +3,8 @@
 ghost use Rattle.std.specs.Prelude.{◌≡◌, ℕ, ◌<◌, ◌≤◌, ◌++◌, [], ◌∷◌, IfOk, OnOk, Some, All, length, map, slice_get, slice_index, slice_index_or};
 ghost use Rattle.pit_model.specs.PlanKept.{IsCone, IsGrid};
 ghost use Rattle.pit_model.specs.declared.cone.Cone.{Cone};
-ghost use Rattle.precedence.specs.Rows.{pasts};
-ghost use Rattle.precedence.specs.ZoneTables.{HasTables, IsTold};
+ghost use Rattle.precedence.specs.inner.Rows.{pasts};
+ghost use Rattle.precedence.specs.inner.ZoneTables.{HasTables, IsTold};
 ghost use Rattle.precedence.specs.declared.cone_table.ConeTable.{ConeTable};
 
 use crate::cone_rows::{Extent, Row};

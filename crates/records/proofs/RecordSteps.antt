@@ -10,7 +10,7 @@ use Rattle.csv.specs.declared.parser.Action.TheVariants as act
 use Rattle.csv.specs.declared.reader.Reader.{Reader}
 use Rattle.csv.specs.declared.reader.Trim.TheVariants as trim
 use Rattle.records.specs.Records.{records_of}
-use Rattle.records.specs.RecordsAhead.{IsBetweenRecords, TakesNext, rows_from}
+use Rattle.records.specs.inner.RecordsAhead.{IsBetweenRecords, TakesNext, rows_from}
 
 -- a byte that ends a record leaves the machine where the end of the text ends none
 ends-between : (s : State) (c : ℕ) → is_end (step default_config s c).1 ≡ true → ends_at_end (step default_config s c).0 ≡ false

@@ -2,4 +2,4 @@ pub mod Cells
 pub mod RecordCells
 pub mod RecordReader
 pub mod Records
-pub mod RecordsAhead
+pub mod inner

@@ -12,7 +12,7 @@ ghost use Rattle.std.specs.List.{All};
 ghost use Rattle.csv.specs.Records.{fields_of};
 ghost use Rattle.records.specs.RecordReader.{TakesRow, Rows, rows_ahead};
 ghost use Rattle.records.specs.Records.{records_of};
-ghost use Rattle.records.specs.RecordsAhead.{IsBetweenRecords, IsUnread, TakesNext, rows_left};
+ghost use Rattle.records.specs.inner.RecordsAhead.{IsBetweenRecords, IsUnread, TakesNext, rows_left};
 
 use csv::{ByteRecord, Reader, ReaderBuilder};
 use std::alloc::{AllocError, Global};
@@ -44,7 +44,7 @@ pub struct RecordReader<R: Read> {
 
 impl<R: Read> Model for RecordReader<R> {
     ghost use Rattle.records.specs.RecordReader.{RecordReaderView};
-    ghost use Rattle.records.specs.RecordsAhead.{ahead_of, IsSetUp};
+    ghost use Rattle.records.specs.inner.RecordsAhead.{ahead_of, IsSetUp};
 
     ghost Value = { RecordReaderView };
 

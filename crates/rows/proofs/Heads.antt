@@ -6,7 +6,7 @@ use Rattle.std.proofs.lemmas.Simd.{map-map}
 use Rattle.std.proofs.lemmas.List.Elements.{All-tail}
 use Rattle.rows.specs.declared.head.Head.{Head}
 use Rattle.rows.specs.declared.item.Valued.{Valued}
-use Rattle.rows.specs.Heads.{row_of, IsHeld}
+use Rattle.rows.specs.inner.Heads.{row_of, IsHeld}
 
 own_kept : (ws more : List ℤ) (from count : ℕ) → from + count ≤ length ws → take count (drop from (ws ++ more)) ≡ take count (drop from ws)
 own_kept ws more from count within =

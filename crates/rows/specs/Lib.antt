@@ -1,3 +1,2 @@
-pub mod Heads
 pub mod Valued
-pub mod WorthsFields
+pub mod inner

@@ -1,7 +1,7 @@
 //! Rows whose worths stand in one list.
 
 ghost use Rattle.std.specs.Prelude.{◌≡◌, ◌++◌, IfOk, OnOk, OnErr};
-ghost use Rattle.rows.specs.Heads.{row_of, IsHeld};
+ghost use Rattle.rows.specs.inner.Heads.{row_of, IsHeld};
 
 use crate::item::Valued;
 use crate::worths::Worths;

@@ -23,7 +23,7 @@ impl Model for Rows {
     ghost use Rattle.std.specs.Prelude.{List, map};
     ghost use Rattle.std.specs.List.{All};
     ghost use Rattle.rows.specs.declared.item.Valued.{Valued};
-    ghost use Rattle.rows.specs.Heads.{row_of, IsHeld};
+    ghost use Rattle.rows.specs.inner.Heads.{row_of, IsHeld};
 
     ghost Value = { List Valued };
 

@@ -22,7 +22,7 @@ impl Model for Worths {
 
     ghost Value = { List ℤ };
 
-    ghost use Rattle.rows.specs.WorthsFields.{worths_in, KeepsWorths, cells_of, cells_back, count_back};
+    ghost use Rattle.rows.specs.inner.WorthsFields.{worths_in, KeepsWorths, cells_of, cells_back, count_back};
 
     ghost view = { worths_in };
 

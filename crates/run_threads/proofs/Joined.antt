@@ -10,7 +10,7 @@ use Rattle.pit_model.specs.PlanFormulas.{formulas_of_plan}
 use Rattle.pit_model.specs.Plan.{PlanParts}
 use Rattle.valuers.specs.Valuing.{items_by}
 use Rattle.valuers.specs.declared.valuer.ValuerResult.{ValuerResult}
-use Rattle.run_threads.specs.Promises.{KeepsRead, KeepsValued, AreUnsentFrom, IsPartly}
+use Rattle.run_threads.specs.inner.Promises.{KeepsRead, KeepsValued, AreUnsentFrom, IsPartly}
 use Rattle.run_threads.specs.Reading.{AreRead}
 use Rattle.run_threads.specs.declared.file_reading.FileRead.{FileRead}
 

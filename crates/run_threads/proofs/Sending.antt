@@ -6,7 +6,7 @@ use Rattle.lane.specs.declared.message.Taken.TheVariants as message
 use Rattle.pit_model.specs.declared.block.Block.{Block}
 use Rattle.zone_csv.specs.ZoneReaderView.{ZoneReaderView}
 use Rattle.zone_csv.specs.declared.row_fault.RowFault.{RowFault}
-use Rattle.run_threads.specs.Sending.{IsNext, TellsNext, IsSending, IsAllBut, HasPut}
+use Rattle.run_threads.specs.inner.Sending.{IsNext, TellsNext, IsSending, IsAllBut, HasPut}
 use Rattle.run_threads.specs.declared.read_fault.ReadFault.{ReadFault}
 use Rattle.run_threads.specs.declared.read_fault.ReadFault.TheVariants.{FeedFailed, TooLong, Row, OutOfMemory}
 

@@ -1,6 +1,3 @@
-pub mod HandingOver
 pub mod MostBytes
-pub mod Promises
 pub mod Reading
-pub mod Ready
-pub mod Sending
+pub mod inner

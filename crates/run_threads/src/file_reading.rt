@@ -3,8 +3,8 @@
 ghost use Rattle.std.specs.Prelude.{◌≡◌, ◌+◌, ◌<◌, ◌≤◌, ◌++◌, [], ◌∷◌, length, vec_len, IfOk, IfErr, IfSome};
 ghost use Rattle.run_threads.specs.MostBytes.{most_bytes};
 ghost use Rattle.run_threads.specs.Reading.{IsRead};
-ghost use Rattle.run_threads.specs.Promises.{IsUnsent};
-ghost use Rattle.run_threads.specs.Sending.{IsUnread, HasPut, TellsNext};
+ghost use Rattle.run_threads.specs.inner.Promises.{IsUnsent};
+ghost use Rattle.run_threads.specs.inner.Sending.{IsUnread, HasPut, TellsNext};
 ghost use Rattle.zone_csv.specs.ZoneReaderView.{blocks_left};
 ghost use Rattle.zone_csv.specs.Zone.{blocks_of, fault_of};
 

@@ -4,7 +4,7 @@ ghost use Rattle.std.specs.Prelude.{◌≡◌, ◌+◌, ◌≤◌, length, map, 
 ghost use Rattle.lane.specs.Whole.{IsWhole};
 ghost use Rattle.pit_model.specs.Destinations.{AreOfPlan};
 ghost use Rattle.pit_model.specs.PlanFormulas.{formulas_of_plan};
-ghost use Rattle.run_threads.specs.HandingOver.{IsHandedOver};
+ghost use Rattle.run_threads.specs.inner.HandingOver.{IsHandedOver};
 ghost use Rattle.run_threads.specs.Reading.{AreRead};
 ghost use Rattle.run_threads.specs.declared.handing_over.HandOverFault.TheVariants.{OutOfMemory};
 ghost use Rattle.valuers.specs.Valuing.{items_by};

@@ -1,7 +1,7 @@
 //! The threads of a run within a scope, from the first start to the last join.
 
 ghost use Rattle.std.specs.Prelude.{◌+◌, ◌≤◌, map, vec_len, IfOk};
-ghost use Rattle.run_threads.specs.HandingOver.{IsHandedOver};
+ghost use Rattle.run_threads.specs.inner.HandingOver.{IsHandedOver};
 
 use crate::handing_over::{HandOverFault, HandedOver};
 use crate::opened::Opened;

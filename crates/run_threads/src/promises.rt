@@ -17,7 +17,7 @@ pub struct ReadBy<F> {
 }
 
 impl<F: Feed> Promise<FileRead> for ReadBy<F> {
-    ghost use Rattle.run_threads.specs.Promises.{KeepsRead};
+    ghost use Rattle.run_threads.specs.inner.Promises.{KeepsRead};
 
     ghost kept_by = { λ p r. KeepsRead p.plan.value.grid (F.left p.feed.value)
         (F.is_sure p.feed.value) p.end.value r.ended r.answer };
@@ -32,7 +32,7 @@ pub struct ValuedBy {
 
 impl Promise<ValuerResult> for ValuedBy {
     ghost use Rattle.pit_model.specs.PlanFormulas.{formulas_of_plan};
-    ghost use Rattle.run_threads.specs.Promises.{KeepsValued};
+    ghost use Rattle.run_threads.specs.inner.Promises.{KeepsValued};
 
     ghost kept_by = { λ p r. KeepsValued (formulas_of_plan p.plan.value) p.end.value
         r.taker r.items r.memory };

@@ -1,7 +1,7 @@
 //! A run that is ready to start.
 
 ghost use Rattle.std.specs.Prelude.{◌≡◌, ◌≤◌, [], length, vec_len, vec_capacity};
-ghost use Rattle.run_threads.specs.Ready.{IsRoomFor};
+ghost use Rattle.run_threads.specs.inner.Ready.{IsRoomFor};
 
 use crate::opened::Opened;
 use crate::promises::{ReaderHandle, ValuerHandle};

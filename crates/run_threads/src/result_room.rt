@@ -1,7 +1,7 @@
 //! Memory for what the threads of a run give back, which is taken before the first start.
 
 ghost use Rattle.std.specs.Prelude.{IfOk};
-ghost use Rattle.run_threads.specs.Ready.{IsRoomFor};
+ghost use Rattle.run_threads.specs.inner.Ready.{IsRoomFor};
 
 use crate::file_reading::FileRead;
 use crate::read_fault::ReadFault;

@@ -3,8 +3,8 @@
 ghost use Rattle.std.specs.Prelude.{◌≡◌, ◌≤◌, map, vec_len};
 ghost use Rattle.std.specs.List.{All};
 ghost use Rattle.lane.specs.Ends.{first_puts, first_takes};
-ghost use Rattle.run_threads.specs.HandingOver.{IsHandedOver};
-ghost use Rattle.run_threads.specs.Ready.{IsRoomFor};
+ghost use Rattle.run_threads.specs.inner.HandingOver.{IsHandedOver};
+ghost use Rattle.run_threads.specs.inner.Ready.{IsRoomFor};
 
 use crate::handing_over::HandedOver;
 use crate::joining::{join_all, split_reads, split_values};

@@ -6,7 +6,7 @@ ghost use Rattle.std.specs.Prelude.{◌++◌, true, drop};
 ghost use Rattle.lane.specs.MessageKinds.{is_done};
 ghost use Rattle.pit_model.specs.Destinations.{formulas_of};
 ghost use Rattle.run_threads.specs.Reading.{IsRead};
-ghost use Rattle.run_threads.specs.Promises.{AreUnsentFrom, IsUnsent};
+ghost use Rattle.run_threads.specs.inner.Promises.{AreUnsentFrom, IsUnsent};
 ghost use Rattle.valuers.specs.Valuing.{items_by};
 ghost use Rattle.pit_model.specs.declared.ranges.TheConstants.{MAX_DESTINATIONS, MAX_VALUERS, MAX_ZONES};
 

@@ -9,5 +9,5 @@ pub mod Row
 pub mod Zone
 pub mod ZoneKept
 pub mod ZoneReaderView
-pub mod ZoneStages
 pub mod ZoneStates
+pub mod inner

@@ -5,7 +5,7 @@ ghost use Rattle.pit_model.specs.PlanKept.{IsGrid};
 ghost use Rattle.zone_csv.specs.ZoneReaderView.{Says, Answers, blocks_left};
 ghost use Rattle.zone_csv.specs.Zone.{blocks_of, fault_of};
 ghost use Rattle.zone_csv.specs.ZoneKept.{HasFewBlocks, HasOwnBlocks};
-ghost use Rattle.zone_csv.specs.ZoneStages.{reader_view, IsCounted};
+ghost use Rattle.zone_csv.specs.inner.ZoneStages.{reader_view, IsCounted};
 ghost use Rattle.pit_model.specs.declared.ranges.TheConstants.{MAX_ROWS, MAX_ZONES};
 
 use crate::cell::a_fault;
@@ -50,7 +50,7 @@ impl Model for ZoneReader {
     ghost use Rattle.std.specs.Prelude.{◌<◌};
     ghost use Rattle.pit_model.specs.PlanKept.{IsGrid};
     ghost use Rattle.zone_csv.specs.ZoneReaderView.{ZoneReaderView};
-    ghost use Rattle.zone_csv.specs.ZoneStages.{reader_view, IsCounted};
+    ghost use Rattle.zone_csv.specs.inner.ZoneStages.{reader_view, IsCounted};
     ghost use Rattle.pit_model.specs.declared.ranges.TheConstants.{MAX_ZONES};
 
     ghost Value = { ZoneReaderView };

@@ -5,7 +5,7 @@ ghost use Rattle.csv.specs.Records.{fields_of};
 ghost use Rattle.forms.specs.Shape.{failing, unless};
 ghost use Rattle.pit_model.specs.Admits.{Admits};
 ghost use Rattle.pit_model.specs.BandsKept.{IsBand};
-ghost use Rattle.pit_model.specs.ByPlace.{leach_in, said_by_place};
+ghost use Rattle.pit_model.specs.inner.ByPlace.{leach_in, said_by_place};
 ghost use Rattle.pit_model.specs.FormulaShapes.{bands_asked, formula_key_of};
 ghost use Rattle.pit_model.specs.Formula.{IsRuled};
 ghost use Rattle.pit_model.specs.PlanShapes.{destination_shape, room_for_destination};

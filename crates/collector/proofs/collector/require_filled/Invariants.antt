@@ -1,5 +1,5 @@
 use Rattle.std.proofs.Common.{ℕ, ◌<◌}
-use Rattle.collector.specs.Shelves.{rows_in, end_in, IsFilled}
+use Rattle.collector.specs.inner.Shelves.{rows_in, end_in, IsFilled}
 use Rattle.collector.proofs.collector.require_filled.Given as goal
 
 abbrev pub invariant-loop-file : goal.invariant-loop-file

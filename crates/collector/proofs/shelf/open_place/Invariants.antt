@@ -1,5 +1,5 @@
 use Rattle.std.proofs.Common.{◌≡◌, ℕ, ◌<◌, is_some, true}
-use Rattle.collector.specs.Shelves.{slot}
+use Rattle.collector.specs.inner.Shelves.{slot}
 use Rattle.collector.proofs.shelf.open_place.Given as goal
 
 abbrev pub invariant-loop-place : goal.invariant-loop-place

@@ -3,7 +3,7 @@ use Rattle.std.specs.Vec.Iter.{into_iter_items}
 use Rattle.crossbeam_channel.specs.Claims.{view}
 use Rattle.crossbeam_channel.specs.Ends.{sends_on, ruled_capacity}
 use Rattle.lane.specs.Ends.{PutEndView}
-use Rattle.lane.specs.Kept.{IsJoining, lane_at}
+use Rattle.lane.specs.inner.Kept.{IsJoining, lane_at}
 use Rattle.lane.proofs.Joining.{join_more, one_less}
 use Rattle.lane.proofs.closer.join_puts.Goals as goal
 

@@ -2,7 +2,7 @@ use Rattle.std.proofs.Common.{◌≡◌, length}
 use Rattle.std.specs.Vec.Iter.{into_iter_items, into_iter_len}
 use Rattle.crossbeam_channel.specs.Claims.{view, IsSeatAt}
 use Rattle.crossbeam_channel.specs.Ends.{sends_on, ruled_capacity}
-use Rattle.lane.specs.Kept.{IsJoining, lane_at}
+use Rattle.lane.specs.inner.Kept.{IsJoining, lane_at}
 use Rattle.lane.proofs.closer.join_puts.Given as goal
 
 abbrev pub invariant-loop-put : goal.invariant-loop-put

@@ -2,9 +2,9 @@ use Rattle.std.proofs.Common.{List, ◌≡◌, subst, sym, ◌∙◌, refl, leng
 use Rattle.std.specs.Vec.Iter.{into_iter_items}
 use Rattle.crossbeam_channel.specs.Claims.{view}
 use Rattle.crossbeam_channel.specs.Ends.{sends_on, ruled_capacity}
-use Rattle.lane.specs.Views.{sents_in, tooks_in}
+use Rattle.lane.specs.inner.Views.{sents_in, tooks_in}
 use Rattle.lane.specs.Ends.{TakeEndView}
-use Rattle.lane.specs.Kept.{IsAllIn, IsGathering, lane_at}
+use Rattle.lane.specs.inner.Kept.{IsAllIn, IsGathering, lane_at}
 use Rattle.lane.proofs.Joining.{gather_begin, gather_more, gather_done, nothing_left, one_less}
 use Rattle.lane.proofs.closer.join_takes.Goals as goal
 

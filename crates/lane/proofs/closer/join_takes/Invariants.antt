@@ -2,8 +2,8 @@ use Rattle.std.proofs.Common.{◌≡◌, length}
 use Rattle.std.specs.Vec.Iter.{into_iter_items, into_iter_len}
 use Rattle.crossbeam_channel.specs.Claims.{view, IsSeatAt}
 use Rattle.crossbeam_channel.specs.Ends.{sends_on, ruled_capacity}
-use Rattle.lane.specs.Views.{sents_in}
-use Rattle.lane.specs.Kept.{IsGathering, lane_at}
+use Rattle.lane.specs.inner.Views.{sents_in}
+use Rattle.lane.specs.inner.Kept.{IsGathering, lane_at}
 use Rattle.lane.proofs.closer.join_takes.Given as goal
 
 abbrev pub invariant-loop-take : goal.invariant-loop-take

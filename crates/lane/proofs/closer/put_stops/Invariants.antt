@@ -3,7 +3,7 @@ use Rattle.crossbeam_channel.specs.Claims.{view, IsSeatAt}
 use Rattle.crossbeam_channel.specs.Ends.{sends_on, ruled_capacity}
 use Rattle.lane.specs.declared.part.Part.TheVariants.{Close}
 use Rattle.lane.specs.Rule.{put_parts}
-use Rattle.lane.specs.Views.{sents_in}
+use Rattle.lane.specs.inner.Views.{sents_in}
 use Rattle.lane.proofs.closer.put_stops.Given as goal
 
 abbrev pub invariant-loop-stop : goal.invariant-loop-stop

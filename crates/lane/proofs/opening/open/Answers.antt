@@ -1,7 +1,7 @@
 use Rattle.std.proofs.Common.{◌∙◌, sym, ap, subst, arith, length, List}
 use Rattle.crossbeam_channel.specs.Ends.{sends_on}
 use Rattle.lane.specs.Ends.{PutEndView, TakeEndView, CloserView, ArePutsFrom, AreTakesFrom, first_puts, first_takes}
-use Rattle.lane.specs.Kept.{lane_at}
+use Rattle.lane.specs.inner.Kept.{lane_at}
 use Rattle.lane.proofs.Rules.{starts}
 use Rattle.lane.proofs.Opens.{first_puts_are, first_takes_are, first_puts_count, first_takes_count}
 use Rattle.lane.proofs.opening.open.Goals as goal

@@ -2,7 +2,7 @@ use Rattle.std.proofs.Common.{[], ◌∷◌, ◌++◌, sym, ap, ◌∙◌}
 use Rattle.crossbeam_channel.specs.Ends.{sends_on, ruled_capacity}
 use Rattle.lane.specs.declared.part.Part.TheVariants.{Put}
 use Rattle.lane.specs.Ends.{PutEndView, first_puts}
-use Rattle.lane.specs.Kept.{lane_at}
+use Rattle.lane.specs.inner.Kept.{lane_at}
 use Rattle.lane.proofs.Opens.{put_given, first_puts_next}
 use Rattle.lane.proofs.opening.put_ends.Goals as goal
 

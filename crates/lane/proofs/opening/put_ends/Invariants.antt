@@ -2,7 +2,7 @@ use Rattle.std.proofs.Common.{◌≡◌}
 use Rattle.crossbeam_channel.specs.Claims.{view, IsSeatAt}
 use Rattle.crossbeam_channel.specs.Ends.{sends_on, ruled_capacity}
 use Rattle.lane.specs.Ends.{first_puts}
-use Rattle.lane.specs.Kept.{lane_at, puts_left}
+use Rattle.lane.specs.inner.Kept.{lane_at, puts_left}
 use Rattle.lane.proofs.opening.put_ends.Given as goal
 
 abbrev pub invariant-loop-file : goal.invariant-loop-file

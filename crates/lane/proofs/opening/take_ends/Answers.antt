@@ -2,7 +2,7 @@ use Rattle.std.proofs.Common.{[], ◌∷◌, ◌++◌, sym, ap, ◌∙◌}
 use Rattle.crossbeam_channel.specs.Ends.{sends_on, ruled_capacity}
 use Rattle.lane.specs.declared.part.Part.TheVariants.{Take}
 use Rattle.lane.specs.Ends.{TakeEndView, first_takes}
-use Rattle.lane.specs.Kept.{lane_at}
+use Rattle.lane.specs.inner.Kept.{lane_at}
 use Rattle.lane.proofs.Opens.{take_given, first_takes_next}
 use Rattle.lane.proofs.opening.take_ends.Goals as goal
 

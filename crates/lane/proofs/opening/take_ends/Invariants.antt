@@ -2,7 +2,7 @@ use Rattle.std.proofs.Common.{◌≡◌}
 use Rattle.crossbeam_channel.specs.Claims.{view, IsSeatAt}
 use Rattle.crossbeam_channel.specs.Ends.{sends_on, ruled_capacity}
 use Rattle.lane.specs.Ends.{first_takes}
-use Rattle.lane.specs.Kept.{lane_at, takes_left}
+use Rattle.lane.specs.inner.Kept.{lane_at, takes_left}
 use Rattle.lane.proofs.opening.take_ends.Given as goal
 
 abbrev pub invariant-loop-taker : goal.invariant-loop-taker

@@ -1,5 +1,5 @@
 use Rattle.std.proofs.Common.{drop}
-use Rattle.minelib_reading.specs.Marks.{AreMarked}
+use Rattle.minelib_reading.specs.inner.Marks.{AreMarked}
 use Rattle.minelib_reading.proofs.marks.unmark.Given as goal
 
 -- what is still marked are numbers to come

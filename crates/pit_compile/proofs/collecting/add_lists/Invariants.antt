@@ -1,6 +1,6 @@
 use Rattle.std.proofs.Common.{◌≡◌, ◌++◌, length}
 use Rattle.std.specs.Vec.Iter.{into_iter_items, into_iter_len}
-use Rattle.pit_compile.specs.Collecting.{joined}
+use Rattle.pit_compile.specs.inner.Collecting.{joined}
 use Rattle.pit_compile.proofs.collecting.add_lists.Given as goal
 
 abbrev pub invariant-loop-list : goal.invariant-loop-list

@@ -2,7 +2,7 @@ use Rattle.std.proofs.Common.{rules, ◌≡◌, ◌+◌, ◌*◌, ◌∙◌, Ok,
 use Rattle.std.proofs.lemmas.List.Elements.{All-push}
 use Rattle.csv.specs.Records.{fields_of}
 use Rattle.pit_model.specs.BandsKept.{IsBand}
-use Rattle.pit_model.specs.ByPlace.{band_by}
+use Rattle.pit_model.specs.inner.ByPlace.{band_by}
 use Rattle.records.specs.RecordCells.{cells_of, cell_at}
 use Rattle.pit_model.proofs.BandSteps.{bands_fail, bands_more}
 use Rattle.pit_model.proofs.band_cells.read_bands.Goals as goal

@@ -1,6 +1,6 @@
 use Rattle.std.proofs.Common.{◌≡◌, ◌+◌, ◌-◌, ◌<◌, suc, [], length, All}
 use Rattle.csv.specs.Records.{fields_of}
-use Rattle.pit_model.specs.ByPlace.{covers_in}
+use Rattle.pit_model.specs.inner.ByPlace.{covers_in}
 use Rattle.records.specs.RecordCells.{cells_of}
 use Rattle.pit_model.proofs.named.covers_in.Given as goal
 

@@ -1,6 +1,6 @@
 use Rattle.std.proofs.Common.{List, sym, subst, get_or}
 use Rattle.std.proofs.lemmas.Option.{slice_get_within}
-use Rattle.precedence.specs.Rows.{AreInOrder}
+use Rattle.precedence.specs.inner.Rows.{AreInOrder}
 use Rattle.precedence.specs.declared.cone_table.ConeTable.{ConeTable}
 use Rattle.precedence.specs.declared.cone_rows.Row.{Row}
 use Rattle.precedence.proofs.AllLists.{all_at}

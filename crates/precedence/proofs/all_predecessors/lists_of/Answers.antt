@@ -2,7 +2,7 @@ use Rattle.std.proofs.Common.{◌≡◌, ℕ, ◌+◌, ◌∙◌, ◌++◌, ◌�
 use Rattle.std.proofs.lemmas.List.{take_more, take_all, map-append}
 use Rattle.pit_model.specs.declared.block.Block.{Block}
 use Rattle.precedence.specs.Codes.{codes}
-use Rattle.precedence.specs.Lists.{in_cone}
+use Rattle.precedence.specs.inner.Lists.{in_cone}
 use Rattle.precedence.proofs.Pieces.{ends_push, pieces_push}
 use Rattle.precedence.proofs.all_predecessors.lists_of.Goals as goal
 

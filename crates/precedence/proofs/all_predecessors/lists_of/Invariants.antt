@@ -1,7 +1,7 @@
 use Rattle.std.proofs.Common.{◌≡◌, length, map, take}
 use Rattle.precedence.specs.Codes.{codes}
-use Rattle.precedence.specs.Lists.{in_cone}
-use Rattle.precedence.specs.PredsFields.{pieces, AreEnds}
+use Rattle.precedence.specs.inner.Lists.{in_cone}
+use Rattle.precedence.specs.inner.PredsFields.{pieces, AreEnds}
 use Rattle.precedence.proofs.all_predecessors.lists_of.Given as goal
 
 abbrev pub invariant-loop-block : goal.invariant-loop-block

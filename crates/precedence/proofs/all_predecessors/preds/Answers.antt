@@ -2,7 +2,7 @@ use Rattle.std.proofs.Common.{◌≡◌, ◌∙◌, map}
 use Rattle.std.proofs.lemmas.Result.{IfOk-weaker}
 use Rattle.precedence.specs.Codes.{codes}
 use Rattle.precedence.specs.Cone.{preds}
-use Rattle.precedence.specs.Lists.{in_cone}
+use Rattle.precedence.specs.inner.Lists.{in_cone}
 use Rattle.precedence.proofs.AllLists.{preds_are, tables_in_order}
 use Rattle.precedence.proofs.all_predecessors.preds.Goals as goal
 

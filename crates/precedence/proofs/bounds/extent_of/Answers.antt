@@ -2,7 +2,7 @@ use Rattle.std.proofs.Common.{◌≡◌, ◌+◌, ◌++◌, ◌∷◌, [], take,
 use Rattle.std.proofs.lemmas.List.{take_more, take_all}
 use Rattle.std.proofs.lemmas.List.Elements.{All-same, All-push}
 use Rattle.pit_model.specs.declared.block.Block.{Block}
-use Rattle.precedence.specs.ZoneTables.{Holds}
+use Rattle.precedence.specs.inner.ZoneTables.{Holds}
 use Rattle.precedence.proofs.bounds.extent_of.Goals as goal
 
 pub loop-block-preserved : goal.loop-block-preserved

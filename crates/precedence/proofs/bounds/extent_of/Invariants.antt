@@ -1,5 +1,5 @@
 use Rattle.std.proofs.Common.{◌<◌, All, take}
-use Rattle.precedence.specs.ZoneTables.{Holds}
+use Rattle.precedence.specs.inner.ZoneTables.{Holds}
 use Rattle.precedence.proofs.bounds.extent_of.Given as goal
 
 abbrev pub invariant-loop-block : goal.invariant-loop-block

@@ -1,5 +1,5 @@
 use Rattle.std.proofs.Common.{◌≡◌, ◌<◌, ◌≤◌, false}
-use Rattle.precedence.specs.Reach.{takes_in}
+use Rattle.precedence.specs.inner.Reach.{takes_in}
 use Rattle.precedence.proofs.counting.lowered.Given as goal
 
 abbrev pub invariant-loop-count : goal.invariant-loop-count

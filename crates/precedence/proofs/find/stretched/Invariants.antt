@@ -1,5 +1,5 @@
 use Rattle.std.proofs.Common.{◌≤◌, ◌-◌, length}
-use Rattle.precedence.specs.Rows.{start_of}
+use Rattle.precedence.specs.inner.Rows.{start_of}
 use Rattle.precedence.proofs.find.stretched.Given as goal
 
 abbrev pub invariant-loop-step : goal.invariant-loop-step

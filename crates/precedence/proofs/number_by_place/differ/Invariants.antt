@@ -1,6 +1,6 @@
 use Rattle.std.proofs.Common.{◌≡◌, take, nat_eq}
 use Rattle.indexmap.specs.IndexMap.{IsUnique}
-use Rattle.precedence.specs.Seen.{placed}
+use Rattle.precedence.specs.inner.Seen.{placed}
 use Rattle.precedence.proofs.number_by_place.differ.Given as goal
 
 abbrev pub invariant-loop-position : goal.invariant-loop-position

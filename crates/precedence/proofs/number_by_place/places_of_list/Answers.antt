@@ -1,6 +1,6 @@
 use Rattle.std.proofs.Common.{ap, ◌∙◌}
 use Rattle.std.proofs.lemmas.List.{take_all}
-use Rattle.precedence.specs.Seen.{placed}
+use Rattle.precedence.specs.inner.Seen.{placed}
 use Rattle.precedence.proofs.SeenPlaces.{placed_on}
 use Rattle.precedence.proofs.number_by_place.places_of_list.Goals as goal
 

@@ -1,7 +1,7 @@
 use Rattle.std.proofs.Common.{List, ℕ, refl, subst, rules}
 use Rattle.std.specs.List.Sorted.{IsPermutation}
 use Rattle.std.proofs.lemmas.List.Sorted.{IsNonDecreasingBy-from_sort_by_key}
-use Rattle.precedence.specs.Seen.{placed}
+use Rattle.precedence.specs.inner.Seen.{placed}
 use Rattle.precedence.proofs.Identifiers.{keys_rise}
 use Rattle.precedence.proofs.number_by_place.sorted_places.Goals as goal
 

@@ -1,5 +1,5 @@
 use Rattle.std.proofs.Common.{◌≡◌, ◌+◌, ◌-◌, ◌∙◌, sym, ap, arith}
-use Rattle.precedence.specs.PredsFields.{start_at}
+use Rattle.precedence.specs.inner.PredsFields.{start_at}
 use Rattle.precedence.proofs.Pieces.{start_is}
 use Rattle.precedence.proofs.predecessors.start_of_piece.Goals as goal
 

@@ -2,8 +2,8 @@ use Rattle.std.proofs.Common.{◌≡◌, ℕ, List, [], ◌-◌, ◌≤◌, ◌<
 use Rattle.std.specs.List.Sorted.{IsStrictlyIncreasing}
 use Rattle.std.proofs.lemmas.List.{drop_all, length-map}
 use Rattle.precedence.specs.Cone.{places_where}
-use Rattle.precedence.specs.Rows.{is_in_rows, pasts}
-use Rattle.precedence.specs.Search.{run}
+use Rattle.precedence.specs.inner.Rows.{is_in_rows, pasts}
+use Rattle.precedence.specs.inner.Search.{run}
 use Rattle.precedence.specs.declared.cone_rows.Row.{Row}
 use Rattle.precedence.proofs.RunsOfRows.{adds_run, no_rows, pasts_rise}
 use Rattle.precedence.proofs.runs.add_above.Goals as goal

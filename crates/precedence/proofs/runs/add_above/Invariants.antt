@@ -1,6 +1,6 @@
 use Rattle.std.proofs.Common.{◌≡◌, ◌≤◌, ◌-◌, ◌++◌, length, drop}
 use Rattle.precedence.specs.Cone.{places_where}
-use Rattle.precedence.specs.Rows.{is_in_rows}
+use Rattle.precedence.specs.inner.Rows.{is_in_rows}
 use Rattle.precedence.proofs.runs.add_above.Given as goal
 
 abbrev pub invariant-loop-i : goal.invariant-loop-i

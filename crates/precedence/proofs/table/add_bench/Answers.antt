@@ -1,6 +1,6 @@
 use Rattle.std.proofs.Common.{◌≡◌, ℕ, List, ◌+◌, ◌*◌, ◌≤◌, ⊎_elim, arith, sym, subst}
 use Rattle.std.proofs.lemmas.Bool.{cases_lt}
-use Rattle.precedence.specs.Rows.{edge, Tells}
+use Rattle.precedence.specs.inner.Rows.{edge, Tells}
 use Rattle.precedence.specs.declared.cone_rows.Row.{Row}
 use Rattle.precedence.proofs.Tables.{tells_row, tells_no_row, tells_bench}
 use Rattle.precedence.proofs.table.add_bench.Goals as goal

@@ -1,4 +1,4 @@
-use Rattle.precedence.specs.Rows.{edge, Tells}
+use Rattle.precedence.specs.inner.Rows.{edge, Tells}
 use Rattle.precedence.proofs.table.add_bench.Given as goal
 
 abbrev pub invariant-loop-i : goal.invariant-loop-i

@@ -1,5 +1,5 @@
 use Rattle.std.proofs.Common.{◌≡◌, ℕ, List, ◌+◌, ◌∙◌, min, sym, ap, subst, arith}
-use Rattle.precedence.specs.Rows.{edge, Tells}
+use Rattle.precedence.specs.inner.Rows.{edge, Tells}
 use Rattle.precedence.specs.declared.cone_rows.Row.{Row}
 use Rattle.precedence.proofs.Tables.{tells_none, is_table}
 use Rattle.precedence.proofs.table.rows_of.Goals as goal

@@ -1,4 +1,4 @@
-use Rattle.precedence.specs.Rows.{edge, Tells}
+use Rattle.precedence.specs.inner.Rows.{edge, Tells}
 use Rattle.precedence.proofs.table.rows_of.Given as goal
 
 abbrev pub invariant-loop-dz : goal.invariant-loop-dz

@@ -1,5 +1,5 @@
 use Rattle.std.proofs.Common.{take}
-use Rattle.precedence.specs.ZoneTables.{HasTables}
+use Rattle.precedence.specs.inner.ZoneTables.{HasTables}
 use Rattle.precedence.proofs.zone_tables.tables_of.Given as goal
 
 abbrev pub invariant-loop-cone : goal.invariant-loop-cone

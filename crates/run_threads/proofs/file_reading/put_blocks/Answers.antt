@@ -3,7 +3,7 @@ use Rattle.std.proofs.lemmas.Result.{err_from_is_err_and}
 use Rattle.lane.specs.Ends.{PutEndView}
 use Rattle.lane.specs.declared.message.Taken.TheVariants.{Row}
 use Rattle.zone_csv.specs.Zone.{blocks_of, fault_of}
-use Rattle.run_threads.specs.Sending.{IsSending}
+use Rattle.run_threads.specs.inner.Sending.{IsSending}
 use Rattle.run_threads.proofs.Sending.{puts_row, puts_all, stops}
 use Rattle.run_threads.proofs.file_reading.put_blocks.Goals as goal
 

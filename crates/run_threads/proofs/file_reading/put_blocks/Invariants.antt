@@ -1,7 +1,7 @@
 use Rattle.std.proofs.Common.{◌≡◌}
 use Rattle.zone_csv.specs.ZoneReaderView.{blocks_left}
 use Rattle.zone_csv.specs.Zone.{blocks_of, fault_of}
-use Rattle.run_threads.specs.Sending.{IsSending}
+use Rattle.run_threads.specs.inner.Sending.{IsSending}
 use Rattle.run_threads.proofs.file_reading.put_blocks.Given as goal
 
 abbrev pub invariant-loop-reader : goal.invariant-loop-reader

@@ -1,7 +1,7 @@
 use Rattle.std.proofs.Common.{◌≡◌, ◌+◌, ◌≤◌, length, vec_len}
 use Rattle.std.specs.Prelude.{vec_capacity}
 use Rattle.std.specs.Vec.Iter.{into_iter_items, into_iter_len}
-use Rattle.run_threads.specs.Promises.{IsPartly}
+use Rattle.run_threads.specs.inner.Promises.{IsPartly}
 use Rattle.run_threads.proofs.joining.join_all.Given as goal
 
 abbrev pub invariant-loop-handle : goal.invariant-loop-handle

@@ -1,7 +1,7 @@
 use Rattle.std.proofs.Common.{rules, ◌≡◌, ◌+◌, ◌∷◌, ◌++◌, [], subst, vec_len}
 use Rattle.std.proofs.lemmas.List.Elements.{All-push}
 use Rattle.std.specs.Vec.Iter.{into_iter_items}
-use Rattle.run_threads.specs.Promises.{AreUnsentFrom}
+use Rattle.run_threads.specs.inner.Promises.{AreUnsentFrom}
 use Rattle.run_threads.proofs.Joined.{map_step, unsent_rest}
 use Rattle.run_threads.proofs.starting.start_readers.Goals as goal
 

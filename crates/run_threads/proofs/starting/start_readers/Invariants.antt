@@ -1,7 +1,7 @@
 use Rattle.std.proofs.Common.{◌≡◌, ◌+◌, ◌≤◌, ◌++◌, map, vec_len, All}
 use Rattle.std.specs.Prelude.{vec_capacity}
 use Rattle.std.specs.Vec.Iter.{into_iter_items, into_iter_len}
-use Rattle.run_threads.specs.Promises.{AreUnsentFrom}
+use Rattle.run_threads.specs.inner.Promises.{AreUnsentFrom}
 use Rattle.run_threads.proofs.starting.start_readers.Given as goal
 
 abbrev pub invariant-loop-end : goal.invariant-loop-end

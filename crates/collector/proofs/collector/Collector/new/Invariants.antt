@@ -1,6 +1,6 @@
 use Rattle.std.proofs.Common.{◌≡◌, vec_len}
 use Rattle.std.specs.Prelude.{All}
-use Rattle.collector.specs.Shelves.{IsBare}
+use Rattle.collector.specs.inner.Shelves.{IsBare}
 use Rattle.collector.proofs.collector.Collector.new.Given as goal
 
 abbrev pub invariant-loop : goal.invariant-loop

@@ -1,5 +1,5 @@
 use Rattle.std.proofs.Common.{◌∙◌, sym, subst, arith, ◌<◌, length}
-use Rattle.lane.specs.Views.{sent_in}
+use Rattle.lane.specs.inner.Views.{sent_in}
 use Rattle.crossbeam_channel.specs.Claims.{view}
 use Rattle.lane.proofs.Ends.{row_put}
 use Rattle.lane.proofs.put_end.PutEnd.row.Goals as goal

@@ -1,7 +1,7 @@
 use Rattle.std.proofs.Common.{◌≡◌, sym, Ok}
 use Rattle.minelib_reading.specs.HeaderKeys.{count_in}
 use Rattle.text_lines.specs.TextLines.{fields_of}
-use Rattle.minelib_reading.specs.ModelParts.{coef_alone}
+use Rattle.minelib_reading.specs.inner.ModelParts.{coef_alone}
 use Rattle.minelib_reading.specs.declared.model_key.HeaderKey.TheVariants as key
 use Rattle.minelib_reading.proofs.ItemsKeyless.{coef_admitted}
 use Rattle.minelib_reading.proofs.model_draft.ModelDraft.admit_in_coefs.Goals as goal

@@ -1,6 +1,6 @@
 use Rattle.std.proofs.Common.{◌≡◌, ◌++◌, ◌∷◌, [], ◌∙◌, length, ap, sym, arith, length-append}
 use Rattle.std.specs.Prelude.{decimal}
-use Rattle.minelib_writing.specs.Spaced.{start_in}
+use Rattle.minelib_writing.specs.inner.Spaced.{start_in}
 use Rattle.minelib_writing.proofs.SpacedFacts.{spaced_next, starts_push}
 use Rattle.minelib_writing.proofs.id_text.IdText.below.Goals as goal
 

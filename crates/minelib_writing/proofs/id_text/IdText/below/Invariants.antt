@@ -1,6 +1,6 @@
 use Rattle.std.proofs.Common.{◌≡◌, length}
 use Rattle.std.specs.List.{range_with_len}
-use Rattle.minelib_writing.specs.Spaced.{spaced, AreStarts}
+use Rattle.minelib_writing.specs.inner.Spaced.{spaced, AreStarts}
 use Rattle.minelib_writing.proofs.id_text.IdText.below.Given as goal
 
 abbrev pub invariant-loop-id : goal.invariant-loop-id

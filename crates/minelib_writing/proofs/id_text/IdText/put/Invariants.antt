@@ -1,5 +1,5 @@
 use Rattle.std.proofs.Common.{◌≡◌, ◌++◌, length}
-use Rattle.minelib_writing.specs.Spaced.{spaced}
+use Rattle.minelib_writing.specs.inner.Spaced.{spaced}
 use Rattle.minelib_writing.proofs.id_text.IdText.put.Given as goal
 
 abbrev pub invariant-loop-rest : goal.invariant-loop-rest

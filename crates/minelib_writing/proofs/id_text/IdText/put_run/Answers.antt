@@ -1,6 +1,6 @@
 use Rattle.std.proofs.Common.{◌≡◌, ◌-◌, ◌<◌, ◌≤◌, ◌∙◌, get_or, length, ap, sym, arith, rules}
 use Rattle.std.specs.List.{range_with_len}
-use Rattle.minelib_writing.specs.Spaced.{spaced}
+use Rattle.minelib_writing.specs.inner.Spaced.{spaced}
 use Rattle.minelib_writing.proofs.SpacedFacts.{run_is, run_within}
 use Rattle.minelib_writing.proofs.id_text.IdText.put_run.Goals as goal
 

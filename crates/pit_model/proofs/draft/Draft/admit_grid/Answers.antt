@@ -2,7 +2,7 @@ use Rattle.std.proofs.Common.{rules, ◌≡◌, sym, ◌∙◌, ap, subst, Ok, L
 use Rattle.csv.specs.Records.{fields_of}
 use Rattle.forms.specs.Field.{Field, Value}
 use Rattle.forms.specs.Read.{read_field}
-use Rattle.pit_model.specs.ByPlace.{length_of}
+use Rattle.pit_model.specs.inner.ByPlace.{length_of}
 use Rattle.records.specs.RecordCells.{cells_of}
 use Rattle.pit_model.specs.PlanCells.{a_size, an_origin, plan_kind}
 use Rattle.pit_model.proofs.CellsByPlace.{grid_said}

@@ -1,9 +1,9 @@
--- How the fields of a model file that is being read are seen, and what they keep. Only proofs and private contracts need it.
+-- How the fields of a model file that is being read are seen, and what they keep.
 use Rattle.std.specs.Prelude.{◌≡◌, ◌<◌, ◌≤◌, true, [], length, unwrap_or, All}
 use Rattle.minelib_reading.specs.HeaderKeys.{count_in}
 use Rattle.minelib_reading.specs.ModelLines.{ModelDraftView, is_heading}
 use Rattle.minelib_reading.specs.declared.model_draft.ModelDraft.TheInside.{Inside}
-use Rattle.minelib_reading.specs.ModelParts.{number_limit}
+use Rattle.minelib_reading.specs.inner.ModelParts.{number_limit}
 use Rattle.minelib_reading.specs.declared.model_key.HeaderKey.{HeaderKey}
 use Rattle.minelib_reading.specs.declared.model_key.HeaderKey.TheVariants as key
 use Rattle.pit_model.specs.declared.ranges.TheConstants.{MAX_BLOCKS}

@@ -1,4 +1,4 @@
--- How the parts of a reader of a zone file are seen as what it has still to say. Only proofs and private contracts need it.
+-- How the parts of a reader of a zone file are seen as what it has still to say.
 use Rattle.std.specs.Prelude.{ℕ, ◌+◌, ◌≤◌, List, [], Some, None, Result}
 use Rattle.pit_model.specs.declared.ranges.TheConstants.{MAX_ROWS}
 use Rattle.records.specs.RecordReader.{RecordReaderView, Rows, Over, GaveUp}

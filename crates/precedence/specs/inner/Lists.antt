@@ -3,8 +3,8 @@ use Rattle.std.specs.Prelude.{ℕ, List}
 use Rattle.pit_model.specs.declared.block.Block.{Block}
 use Rattle.precedence.specs.Codes.{code}
 use Rattle.precedence.specs.Cone.{places_where}
-use Rattle.precedence.specs.Rows.{is_in_rows}
-use Rattle.precedence.specs.ZoneTables.{zone_rows}
+use Rattle.precedence.specs.inner.Rows.{is_in_rows}
+use Rattle.precedence.specs.inner.ZoneTables.{zone_rows}
 use Rattle.precedence.specs.declared.cone_table.ConeTable.{ConeTable}
 
 -- the identifiers of the blocks in the rows of a block's cone

@@ -1,4 +1,4 @@
--- How the parts of a model file's lines are taken, and how a draft of it is seen. Only proofs and private contracts need it.
+-- How the parts of a model file's lines are taken, and how a draft of it is seen.
 use Rattle.std.specs.Prelude.{◌≡◌, ℕ, ◌/◌, ◌^◌, ◌==◌, not, Bool, true, List, [], ◌∷◌, ℤ, unsigned_abs, Result, Ok, Err, if◌then◌else◌}
 use Rattle.std.specs.Borrow.{Bor}
 use Rattle.forms.specs.Field.{Field, Value, millionths, whole_at}

@@ -1,5 +1,4 @@
--- Coefficients and limits as the code reads them, field by field. Only proofs and contracts of
--- steps need it.
+-- Coefficients and limits as the code reads them, field by field.
 use Rattle.std.specs.Prelude.{ℕ, List, [], ◌∷◌, Result, Ok, Err, if◌then◌else◌, codes, slice_index_or}
 use Rattle.std.specs.Str.{bytes_eq}
 use Rattle.forms.specs.Steps.{◌>>=◌}

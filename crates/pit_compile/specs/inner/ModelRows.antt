@@ -1,4 +1,4 @@
--- Rows as the zone files of a plan can have them. Contracts within the crate and proofs alone need this page.
+-- Rows as the zone files of a plan can have them.
 use Rattle.std.specs.Prelude.{◌≡◌, ◌<◌, ◌≤◌, List, length, All}
 use Rattle.pit_model.specs.PlanFormulas.{formulas_of_plan}
 use Rattle.pit_model.specs.Plan.{PlanParts}

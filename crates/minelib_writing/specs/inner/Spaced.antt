@@ -1,5 +1,4 @@
 -- Identifiers in a line, each behind a space, and where each begins in the text of 0, 1, 2, ..
--- Only proofs and private contracts need it.
 use Rattle.std.specs.Prelude.{◌≡◌, ℕ, ◌<◌, List, ◌∷◌, decimal, length, slice_index}
 use Rattle.std.specs.List.{flat_map, range_with_len}
 

@@ -1,7 +1,7 @@
 -- Runs of identifiers, found by the codes of all blocks.
 use Rattle.std.specs.Prelude.{ℕ, ◌+◌, ◌-◌, List}
 use Rattle.std.specs.List.{range_with_len}
-use Rattle.precedence.specs.Rows.{start_of}
+use Rattle.precedence.specs.inner.Rows.{start_of}
 use Rattle.precedence.specs.declared.cone_rows.Row.{Row}
 
 -- the identifiers whose codes lie in the row

@@ -1,4 +1,4 @@
--- Lines of blocks and of predecessors as the code takes them. Only proofs and private contracts need it.
+-- Lines of blocks and of predecessors as the code takes them.
 use Rattle.std.specs.Prelude.{ℕ, List, [], ◌∷◌, ◌++◌, length, Result, Ok}
 use Rattle.forms.specs.Read.{read_fields}
 use Rattle.forms.specs.Shape.{Shape, failing, said, unless}

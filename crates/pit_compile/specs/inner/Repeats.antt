@@ -1,4 +1,4 @@
--- The refusal of a repeated block. Contracts within the crate and proofs alone need this page.
+-- The refusal of a repeated block.
 use Rattle.std.specs.Prelude.{List}
 use Rattle.rows.specs.declared.item.Valued.{Valued}
 use Rattle.pit_compile.specs.declared.refusal.Refusal.{Refusal}

@@ -1,4 +1,4 @@
--- What the ends keep, and what holds while a lane is opened and its parts join again. Private contracts cite it.
+-- What the ends keep, and what holds while a lane is opened and its parts join again.
 use Rattle.std.specs.Prelude.{◌≡◌, ℕ, ◌-◌, ◌*◌, ◌<◌, ◌≤◌, true, false, List, [], ◌∷◌, ◌++◌, length, map, replicate}
 use Rattle.std.specs.List.{AllByRecursion, sum_by}
 use Rattle.atomic_table.specs.declared.badge.Badge.{Badge}
@@ -16,7 +16,7 @@ use Rattle.lane.specs.Whole.{GatheredView, IsWhole}
 use Rattle.lane.specs.Ends.{Lane, PutEndView, TakeEndView, CloserView, StoppedView, ArePutsFrom, AreTakesFrom}
 use Rattle.lane.specs.Rule.{put_parts, take_parts}
 use Rattle.lane.specs.Steps.{full_view, IsFull}
-use Rattle.lane.specs.Views.{IsOrdered, capacity_in, sent_in, took_in, sents_in, tooks_in, quits_in, gathering_in}
+use Rattle.lane.specs.inner.Views.{IsOrdered, capacity_in, sent_in, took_in, sents_in, tooks_in, quits_in, gathering_in}
 use Rattle.pit_model.specs.declared.ranges.TheConstants.{MAX_ROWS}
 
 -- the lane that a pass belongs to

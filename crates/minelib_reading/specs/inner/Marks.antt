@@ -1,4 +1,4 @@
--- A table of marks, one for each number. Only proofs and private contracts need it.
+-- A table of marks, one for each number.
 use Rattle.std.specs.Prelude.{◌≡◌, ℕ, Bool, true, false, List, slice_index_or, IsTrue}
 use Rattle.minelib_reading.specs.PrecLines.{stands_in}
 

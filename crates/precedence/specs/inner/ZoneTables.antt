@@ -3,7 +3,7 @@ use Rattle.std.specs.Prelude.{◌≡◌, ℕ, ◌<◌, ◌≤◌, List, [], Opti
 use Rattle.pit_model.specs.declared.block.Block.{Block}
 use Rattle.pit_model.specs.declared.cone.Cone.{Cone}
 use Rattle.pit_model.specs.declared.grid.Grid.{Grid}
-use Rattle.precedence.specs.Rows.{IsTable}
+use Rattle.precedence.specs.inner.Rows.{IsTable}
 use Rattle.precedence.specs.declared.bounds.Bounds.{Bounds}
 use Rattle.precedence.specs.declared.cone_table.ConeTable.{ConeTable}
 use Rattle.precedence.specs.declared.cone_rows.Extent.{Extent}

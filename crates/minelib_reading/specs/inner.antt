@@ -1,0 +1,5 @@
+pub mod LinesTaken
+pub mod Marks
+pub mod ModelFields
+pub mod ModelParts
+pub mod UncountedItems

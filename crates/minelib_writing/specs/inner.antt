@@ -1,0 +1,2 @@
+pub mod CoefParts
+pub mod Spaced

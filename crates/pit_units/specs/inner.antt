@@ -1,0 +1,2 @@
+pub mod DecFields
+pub mod FrontParts

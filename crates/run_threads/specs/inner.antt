@@ -1,0 +1,4 @@
+pub mod HandingOver
+pub mod Promises
+pub mod Ready
+pub mod Sending
