@@ -134,7 +134,8 @@ is_full files items file whole within =
     )
 
 -- a full file lacks no row
-full-not-open : (items : List Item) (file place : ℕ) → IsFull items file → IsOpen (end_at file items) place → row_at file place items ≡ None → ⊥
+full-not-open : (items : List Item) (file place : ℕ) → IsFull items file → IsOpen (end_at file items) place
+    → row_at file place items ≡ None → ⊥
 full-not-open items file place full open' none =
     let below = subst (λ (o : Option ℕ). IsOpen o place) full.1 open' in
     false≢true (sym (ap is_some none) ∙ full.2 place below)
@@ -148,7 +149,8 @@ any_order files items order whole moved = record {
   counts = whole.counts;
   few = whole.few;
   ends = λ file within. sum_by-IsPermutation (λ x. cond (is_end file x) 1 0) items order moved ∙ whole.ends file within;
-  rows = λ file place within below. sum_by-IsPermutation (λ x. cond (is_row file place x) 1 0) items order moved ∙ whole.rows file place within below;
+  rows = λ file place within below. sum_by-IsPermutation (λ x. cond (is_row file place x) 1 0) items order moved
+      ∙ whole.rows file place within below;
   others = All-permutation (Fits files whole.counts) items order moved whole.others;
 }
 
@@ -183,5 +185,6 @@ end-held (End f n ∷ items) file count e =
       ap (λ g. End g n) (eqb-true f file yes)
           ∙ ap (λ m. End file m) (same_Some n count (sym (cond-true (eqb f file) (Some n) (end_at file items) yes) ∙ e)),
     ))
-    (λ no. later items (End f n) (End file count) (end-held items file count (sym (cond-false (eqb f file) (Some n) (end_at file items) no) ∙ e)))
+    (λ no. later items (End f n) (End file count)
+    (end-held items file count (sym (cond-false (eqb f file) (Some n) (end_at file items) no) ∙ e)))
     (cases_Bool (eqb f file))

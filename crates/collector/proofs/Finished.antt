@@ -53,7 +53,8 @@ are_lists held shelves lists view is_view kept filled is_map =
     }))
 
 -- a filled shelf is a full file
-full-kept : (held : List Item) (file : ℕ) (rows : List Valued) (end : Option ℕ) → IsShelved held file rows end → IsFilled rows end → IsFull held file
+full-kept : (held : List Item) (file : ℕ) (rows : List Valued) (end : Option ℕ) → IsShelved held file rows end → IsFilled rows end
+    → IsFull held file
 full-kept held file rows end shelved filled =
     (length rows, shelved.ended ∙ filled.0, λ place below. ap is_some (shelved.row place) ∙ filled.1 place below)
 
@@ -66,7 +67,8 @@ is_missing held shelves (Missing file place) view is_view kept lacking =
     let here = kept.1.shelved file in
     subst (λ (v : CollectorView). IsMissing v.files v.items file place) is_view (record {
       within = lacking.0;
-      before = λ other below. full-kept held other (rows_in shelves other) (end_in shelves other) (kept.1.shelved other) (lacking.1 other below);
+      before =
+          λ other below. full-kept held other (rows_in shelves other) (end_in shelves other) (kept.1.shelved other) (lacking.1 other below);
       open_at = subst (λ (o : Option ℕ). IsOpen o place) (sym here.ended) lacking.2.2;
       none = here.row place ∙ lacking.2.0;
       least = λ other below. ap is_some (here.row other) ∙ lacking.2.1 other below;

@@ -61,7 +61,8 @@ bare file = record {
   closed = λ count e. absurd (none-some count e);
 }
 
-pub kept_start : (files : ℕ) (rows : ℕ → List Valued) (ends : ℕ → Option ℕ) → ((file : ℕ) → rows file ≡ []) → ((file : ℕ) → ends file ≡ None) →
+pub kept_start : (files : ℕ) (rows : ℕ → List Valued) (ends : ℕ → Option ℕ) → ((file : ℕ) → rows file ≡ [])
+    → ((file : ℕ) → ends file ≡ None) →
     IsKept files [] rows ends
 kept_start files rows ends empty open' = record {
   outside = λ file past. empty file;
@@ -93,10 +94,12 @@ past-more : (rows : List Valued) (v : Valued) (place : ℕ) →
 past-more rows v place =
     ⊎_elim (λ h. rw h.1 (later rows v place h.0)) (λ h. rw h.1 (last rows v place h.0)) (length-with_row rows v)
   where
-    later : (rows : List Valued) (v : Valued) (place : ℕ) → v.place < length rows → (ltb place (length rows) || leb place v.place) ≡ ltb place (length rows)
+    later : (rows : List Valued) (v : Valued) (place : ℕ) → v.place < length rows
+        → (ltb place (length rows) || leb place v.place) ≡ ltb place (length rows)
     later rows v place within = grind (arith, nat_tests)
 
-    last : (rows : List Valued) (v : Valued) (place : ℕ) → length rows ≤ v.place → (ltb place (length rows) || leb place v.place) ≡ ltb place (v.place + 1)
+    last : (rows : List Valued) (v : Valued) (place : ℕ) → length rows ≤ v.place
+        → (ltb place (length rows) || leb place v.place) ≡ ltb place (v.place + 1)
     last rows v place past = grind (arith, nat_tests)
 
 found : (v : Valued) (file place : ℕ) → v.file ≡ file → v.place ≡ place → row_at file place (Row v ∷ []) ≡ Some v
@@ -167,7 +170,8 @@ pub kept_more : (files : ℕ) (held : List Item) (rows rows' : ℕ → List Valu
     IsKept files held rows ends → fault files held item ≡ None → ArePut item rows ends rows' ends' →
     IsKept files (held ++ item ∷ []) rows' ends'
 kept_more files held rows rows' ends ends' (Row v) kept sound put =
-    let clear = no-fault (is_some (row_at v.file v.place held)) (leb files v.file || leb 1000000 v.place) (is_after (end_at v.file held) v.place) _ _ _ sound in
+    let clear = no-fault (is_some (row_at v.file v.place held)) (leb files v.file || leb 1000000 v.place)
+    (is_after (end_at v.file held) v.place) _ _ _ sound in
     let inside = or_parts (leb files v.file) (leb 1000000 v.place) clear.1 in
     let in_files : v.file < files = leb-false files v.file inside.0 in
     let in_places : v.place < 1000000 = leb-false 1000000 v.place inside.1 in

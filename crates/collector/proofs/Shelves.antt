@@ -51,4 +51,7 @@ kept-put held after item old new lent back view is_view kept sound is_old put sa
     let same_old : length new ≡ length old = same ∙ ap length is_old in
     let sound_old : fault (length old) held item ≡ None
     = sym (subst (λ (v : CollectorView). None ≡ fault v.files v.items item) (sym is_view) sound) in
-    rw (is_back, is_after, same_old) (kept.0, kept_more (length old) held (rows_in old) (rows_in new) (end_in old) (end_in new) item kept.1 sound_old put_old)
+    rw (is_back, is_after, same_old) (
+      kept.0,
+      kept_more (length old) held (rows_in old) (rows_in new) (end_in old) (end_in new) item kept.1 sound_old put_old,
+    )

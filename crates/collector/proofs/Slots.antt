@@ -26,7 +26,8 @@ get-append_left (x ∷ xs) ys zero within = refl
 get-append_left (x ∷ xs) ys (suc k) within = get-append_left xs ys k (omega arith)
 
 -- past the first list, one value at each place
-pub get-filled : {A : Type 0} (xs : List A) (y : A) (n k : ℕ) → length xs ≤ k → k < length xs + n → slice_get (xs ++ replicate n y) k ≡ Some y
+pub get-filled : {A : Type 0} (xs : List A) (y : A) (n k : ℕ) → length xs ≤ k → k < length xs + n
+    → slice_get (xs ++ replicate n y) k ≡ Some y
 get-filled [] y zero k past within = absurd (omega arith)
 get-filled [] y (suc n) zero past within = refl
 get-filled [] y (suc n) (suc k) past within = get-filled [] y n k (omega arith) (omega arith)
@@ -52,8 +53,10 @@ slot-past rows place past = ap (option_and_then (if_at place)) (slice_get_past r
 filled : (rows : List Valued) (v : Valued) (n place : ℕ) → (v.place ≡ place → ⊥) → slot (rows ++ replicate n v) place ≡ slot rows place
 filled rows v n place differs =
     ⊎_elim (λ within. ap (option_and_then (if_at place)) (get-append_left rows (replicate n v) place within))
-    (λ past. ⊎_elim (λ here. slot-at _ place v (get-filled rows v n place past here) ∙ if_at-other v place differs ∙ sym (slot-past rows place past))
-    (λ beyond. slot-past (rows ++ replicate n v) place (let filling = length-replicate n v in omega (arith, length-append rows (replicate n v))) ∙ sym (slot-past rows place past))
+    (λ past. ⊎_elim (λ here. slot-at _ place v (get-filled rows v n place past here) ∙ if_at-other v place differs
+    ∙ sym (slot-past rows place past))
+    (λ beyond. slot-past (rows ++ replicate n v) place
+    (let filling = length-replicate n v in omega (arith, length-append rows (replicate n v))) ∙ sym (slot-past rows place past))
     (cases_lt place (length rows + n)))
     (cases_lt place (length rows))
 
@@ -76,12 +79,18 @@ slot-kept rows v place differs =
     (cases_lt v.place (length rows))
 
 pub length-with_row : (rows : List Valued) (v : Valued) →
-    ((v.place < length rows) × (length (with_row rows v) ≡ length rows)) ⊎ ((length rows ≤ v.place) × (length (with_row rows v) ≡ v.place + 1))
+    ((v.place < length rows) × (length (with_row rows v) ≡ length rows))
+    ⊎ ((length rows ≤ v.place) × (length (with_row rows v) ≡ v.place + 1))
 length-with_row rows v =
-    ⊎_elim (λ within. inl (within, ap length (cond-true (ltb v.place (length rows)) _ _ (lt-ltb v.place (length rows) within)) ∙ length-set rows v.place v))
+    ⊎_elim (λ within. inl (
+      within,
+      ap length (cond-true (ltb v.place (length rows)) _ _ (lt-ltb v.place (length rows) within))
+          ∙ length-set rows v.place v,
+    ))
     (λ past. inr (
       past,
       ap length (cond-false (ltb v.place (length rows)) _ _ (le-ltb v.place (length rows) past))
-          ∙ (let filling = length-replicate (v.place + 1 - length rows) v in omega (arith, length-append rows (replicate (v.place + 1 - length rows) v))),
+          ∙ (let filling = length-replicate (v.place + 1 - length rows)
+          v in omega (arith, length-append rows (replicate (v.place + 1 - length rows) v))),
     ))
     (cases_lt v.place (length rows))

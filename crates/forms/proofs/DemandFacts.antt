@@ -36,7 +36,8 @@ abbrev pub Follows : {A K : Type 0} → Result A K → List (Demand K) → (A �
 Follows (Ok x) demands P = AreMet demands × P x
 Follows (Err kind) demands P = FailsFirst demands kind
 
-pub behind : {B K : Type 0} (r : Result B K) (ds es : List (Demand K)) (Q : B → Type 0) → AreMet ds → Follows r es Q → Follows r (ds ++ es) Q
+pub behind : {B K : Type 0} (r : Result B K) (ds es : List (Demand K)) (Q : B → Type 0) → AreMet ds → Follows r es Q
+    → Follows r (ds ++ es) Q
 behind (Ok x) ds es Q met h = (both_met ds es met h.0, h.1)
 behind (Err kind) ds es Q met h = fails_behind ds es kind met h
 
@@ -53,7 +54,8 @@ mapped (Ok x) g ds P Q here next = (here.0, next x here.1)
 mapped (Err kind) g ds P Q here next = here
 
 -- the same answer keeps what follows from what it keeps
-pub weaker : {A K : Type 0} (r : Result A K) (ds : List (Demand K)) (P Q : A → Type 0) → ((x : A) → P x → Q x) → Follows r ds P → Follows r ds Q
+pub weaker : {A K : Type 0} (r : Result A K) (ds : List (Demand K)) (P Q : A → Type 0) → ((x : A) → P x → Q x) → Follows r ds P
+    → Follows r ds Q
 weaker (Ok x) ds P Q to h = (h.0, to x h.1)
 weaker (Err kind) ds P Q to h = h
 

@@ -44,7 +44,8 @@ number_told {B} {K} kind decimals text f met Q few there next = by (decimal_of d
     front : List (Demand K)
     front = demand (kind fault.Number) (IsDecimal text) ++ demand (kind fault.TooFine) (IsFine decimals text)
 
-    by : (r : Result ℤ DecFault) → decimal_of decimals text ≡ r → Follows (number_of kind r >>= f) (front ++ demand (kind fault.Range) met) Q
+    by : (r : Result ℤ DecFault) → decimal_of decimals text ≡ r
+        → Follows (number_of kind r >>= f) (front ++ demand (kind fault.Range) met) Q
     by (Ok m) e =
         let stands = read_stands decimals text m few e in
         let fine = stands_fine decimals text m stands in
@@ -58,12 +59,15 @@ number_told {B} {K} kind decimals text f met Q few there next = by (decimal_of d
         inr (fine_decimal decimals text fine, inr (fine, inl (never, refl)))
 
 range_told : {K : Type 0} (kind : FieldFault → K) (decimals : ℕ) (low high : ℤ) (text : List ℕ) → decimals ≤ 6
-    → Follows (read_decimal kind decimals low high text) (asked_of_decimal kind decimals low high text) (Says (Decimal decimals low high) text)
+    → Follows (read_decimal kind decimals low high text) (asked_of_decimal kind decimals low high text)
+    (Says (Decimal decimals low high) text)
 range_told {K} kind decimals low high text few =
-    number_told kind decimals text _ (IsWithin decimals low high text) _ few (λ h. (h.0, h.1)) (λ m stands. by m stands (int_le low m && int_le m high) refl)
+    number_told kind decimals text _ (IsWithin decimals low high text) _ few (λ h. (h.0, h.1))
+    (λ m stands. by m stands (int_le low m && int_le m high) refl)
   where
     by : (m : ℤ) → StandsFor decimals text m → (t : Bool) → (int_le low m && int_le m high) ≡ t
-        → Follows (if t then Ok (Millionths m) else Err (kind fault.Range)) (demand (kind fault.Range) (IsWithin decimals low high text)) (Says (Decimal decimals low high) text)
+        → Follows (if t then Ok (Millionths m) else Err (kind fault.Range)) (demand (kind fault.Range) (IsWithin decimals low high text))
+        (Says (Decimal decimals low high) text)
     by m stands true e =
         let parts = and_parts (int_le low m) (int_le m high) e in
         let from : low ≤ℤ m = le_true low m parts.0 in
@@ -72,7 +76,8 @@ range_told {K} kind decimals low high text few =
     by m stands false e =
         let never : ¬ (IsWithin decimals low high text) = λ h.
         let same : h.0 ≡ m = one_number decimals text h.0 m few h.1 stands in
-        both_true (int_le low m) (int_le m high) e (true_le low m (subst (λ z. low ≤ℤ z) same h.2)) (true_le m high (subst (λ z. z ≤ℤ high) same h.3)) in
+        both_true (int_le low m) (int_le m high) e (true_le low m (subst (λ z. low ≤ℤ z) same h.2))
+        (true_le m high (subst (λ z. z ≤ℤ high) same h.3)) in
         inl (never, refl)
 
 -- a decimal in its range, and then whether it is on a step
@@ -103,7 +108,8 @@ stepped_told {K} kind decimals step low high text few =
     by (Bytes word) says = absurd says
 
 word_told : {K : Type 0} (kind : FieldFault → K) (passes : List ℕ → Bool) (text : List ℕ) (t : Bool) → passes text ≡ t
-    → Follows (if t then Ok (Bytes text) else Err (kind fault.Word)) (demand (kind fault.Word) (passes text ≡ true)) (Says (Word passes) text)
+    → Follows (if t then Ok (Bytes text) else Err (kind fault.Word))
+    (demand (kind fault.Word) (passes text ≡ true)) (Says (Word passes) text)
 word_told kind passes text true e = ((e, tt), (refl, e))
 word_told kind passes text false e = inl ((λ h. absurd (cc (e, h))), refl)
 
@@ -117,16 +123,19 @@ field_told kind (Word passes) text fine = word_told kind passes text (passes tex
 pub parts : (field : Field) (form : List Field) → is_fine (field ∷ form) ≡ true → (has_six_decimals field ≡ true) × (is_fine form ≡ true)
 parts field form fine = and_parts (has_six_decimals field) (is_fine form) fine
 
-pub fields_told : {K : Type 0} (kinds : ℕ → FieldFault → K) (form : List Field) (texts : List (List ℕ)) → is_fine form ≡ true → length texts ≡ length form
+pub fields_told : {K : Type 0} (kinds : ℕ → FieldFault → K) (form : List Field) (texts : List (List ℕ)) → is_fine form ≡ true
+    → length texts ≡ length form
     → Follows (read_fields kinds form texts) (asked_of_fields kinds form texts) (Spell form texts)
 fields_told kinds [] [] fine count = (tt, tt)
 fields_told kinds [] (text ∷ texts) fine count = absurd (omega (arith, count))
 fields_told kinds (field ∷ form) [] fine count = absurd (omega (arith, count))
 fields_told kinds (field ∷ form) (text ∷ texts) fine count =
     let p = parts field form fine in
-    bound (read_field (kinds 0) field text) _ (asked_of_field (kinds 0) field text) (asked_of_fields (next_kinds kinds) form texts) (Says field text) _
+    bound (read_field (kinds 0) field text) _ (asked_of_field (kinds 0) field text)
+    (asked_of_fields (next_kinds kinds) form texts) (Says field text) _
     (field_told (kinds 0) field text p.0) (λ value says.
-    mapped (read_fields (next_kinds kinds) form texts) (λ values. value ∷ values) (asked_of_fields (next_kinds kinds) form texts) (Spell form texts) _
+    mapped (read_fields (next_kinds kinds) form texts)
+    (λ values. value ∷ values) (asked_of_fields (next_kinds kinds) form texts) (Spell form texts) _
     (fields_told (next_kinds kinds) form texts p.1 (omega (arith, count))) (λ values spell. (says, spell)))
 
 pub read_told : {K : Type 0} (kinds : ℕ → FieldFault → K) (form : List Field) (texts : List (List ℕ)) → is_fine form ≡ true
@@ -142,7 +151,8 @@ read_told kinds form texts fine =
     other false a b = absurd cc
 
 -- what is spelled is read
-pub says_read : {K : Type 0} (kind : FieldFault → K) (field : Field) (text : List ℕ) (value : Value) → has_six_decimals field ≡ true → Says field text value
+pub says_read : {K : Type 0} (kind : FieldFault → K) (field : Field) (text : List ℕ) (value : Value) → has_six_decimals field ≡ true
+    → Says field text value
     → read_field kind field text ≡ Ok value
 says_read kind (Decimal decimals low high) text (Millionths m) fine says =
     rw (stands_read decimals text m (leb-true decimals 6 fine) says.0, true_le low m says.1, true_le m high says.2) refl
@@ -160,7 +170,8 @@ spelled_count (field ∷ form) [] values spell = absurd spell
 spelled_count (field ∷ form) (text ∷ texts) [] spell = absurd spell
 spelled_count (field ∷ form) (text ∷ texts) (value ∷ values) spell = omega (arith, spelled_count form texts values spell.1)
 
-spelled_fields : {K : Type 0} (kinds : ℕ → FieldFault → K) (form : List Field) (texts : List (List ℕ)) (values : List Value) → is_fine form ≡ true
+spelled_fields : {K : Type 0} (kinds : ℕ → FieldFault → K) (form : List Field) (texts : List (List ℕ)) (values : List Value)
+    → is_fine form ≡ true
     → Spell form texts values → read_fields kinds form texts ≡ Ok values
 spelled_fields kinds [] [] [] fine spell = refl
 spelled_fields kinds [] [] (value ∷ values) fine spell = absurd spell
@@ -176,12 +187,14 @@ pub counted : {K : Type 0} (kinds : ℕ → FieldFault → K) (form : List Field
     → read kinds form texts ≡ read_fields kinds form texts
 counted kinds form texts count = rw (eq-eqb (length texts) (length form) count) refl
 
-pub spelled_read : {K : Type 0} (kinds : ℕ → FieldFault → K) (form : List Field) (texts : List (List ℕ)) (values : List Value) → is_fine form ≡ true
+pub spelled_read : {K : Type 0} (kinds : ℕ → FieldFault → K) (form : List Field) (texts : List (List ℕ)) (values : List Value)
+    → is_fine form ≡ true
     → Spell form texts values → read kinds form texts ≡ Ok values
 spelled_read kinds form texts values fine spell =
     counted kinds form texts (spelled_count form texts values spell) ∙ spelled_fields kinds form texts values fine spell
 
-pub read_spelled : {K : Type 0} (kinds : ℕ → FieldFault → K) (form : List Field) (texts : List (List ℕ)) (values : List Value) → is_fine form ≡ true
+pub read_spelled : {K : Type 0} (kinds : ℕ → FieldFault → K) (form : List Field) (texts : List (List ℕ)) (values : List Value)
+    → is_fine form ≡ true
     → read kinds form texts ≡ Ok values → Spell form texts values
 read_spelled kinds form texts values fine e =
     (subst (λ r. Follows r (asked kinds form texts) (Spell form texts)) e (read_told kinds form texts fine)).1
@@ -192,7 +205,8 @@ read_fails kinds form texts found fine e =
     subst (λ r. Follows r (asked kinds form texts) (Spell form texts)) e (read_told kinds form texts fine)
 
 -- what fits is spelled by what is written
-says_written : (field : Field) (value : Value) → has_six_decimals field ≡ true → FitsField field value → Says field (written_value value) value
+says_written : (field : Field) (value : Value) → has_six_decimals field ≡ true → FitsField field value
+    → Says field (written_value value) value
 says_written (Decimal decimals low high) (Millionths m) fine fits =
     let few = leb-true decimals 6 fine in
     (read_stands decimals (shortest m) m few (shortest_read decimals m few fits.2 fits.3), fits.0, fits.1)
@@ -213,7 +227,8 @@ spell_written (field ∷ form) (value ∷ values) fine fit =
     let p = parts field form fine in
     (says_written field value p.0 fit.0, spell_written form values p.1 fit.1)
 
-pub written_read : {K : Type 0} (kinds : ℕ → FieldFault → K) (form : List Field) (values : List Value) → is_fine form ≡ true → Fit form values
+pub written_read : {K : Type 0} (kinds : ℕ → FieldFault → K) (form : List Field) (values : List Value) → is_fine form ≡ true
+    → Fit form values
     → read kinds form (written values) ≡ Ok values
 written_read kinds form values fine fit = spelled_read kinds form (written values) values fine (spell_written form values fine fit)
 
@@ -228,7 +243,8 @@ says_fits (Stepped decimals step low high) text (Bytes word) fine says = absurd 
 says_fits (Word passes) text (Millionths m) fine says = absurd says
 says_fits (Word passes) text (Bytes word) fine says = subst (λ w. passes w ≡ true) says.0 says.1
 
-pub spelled_fit : (form : List Field) (texts : List (List ℕ)) (values : List Value) → is_fine form ≡ true → Spell form texts values → Fit form values
+pub spelled_fit : (form : List Field) (texts : List (List ℕ)) (values : List Value) → is_fine form ≡ true → Spell form texts values
+    → Fit form values
 spelled_fit [] [] [] fine spell = tt
 spelled_fit [] [] (value ∷ values) fine spell = absurd spell
 spelled_fit [] (text ∷ texts) values fine spell = absurd spell
@@ -244,20 +260,25 @@ pub read_count : {K : Type 0} (kinds : ℕ → FieldFault → K) (form : List Fi
 read_count kinds [] [] values e = refl
 read_count kinds [] (text ∷ texts) values e = absurd cc
 read_count kinds (field ∷ form) [] values e = absurd cc
-read_count {K} kinds (field ∷ form) (text ∷ texts) values e = one (λ more is. read_count (next_kinds kinds) form texts more is) (read_field (kinds 0) field text) e
+read_count {K} kinds (field ∷ form) (text ∷ texts) values e =
+    one (λ more is. read_count (next_kinds kinds) form texts more is) (read_field (kinds 0) field text) e
   where
-    rest : ((more : List Value) → read_fields (next_kinds kinds) form texts ≡ Ok more → length texts ≡ length form) → (value : Value) (r : Result (List Value) K)
-        → read_fields (next_kinds kinds) form texts ≡ r → (r >>= λ more. Ok (value ∷ more)) ≡ Ok values → length (text ∷ texts) ≡ length (field ∷ form)
+    rest : ((more : List Value) → read_fields (next_kinds kinds) form texts ≡ Ok more → length texts ≡ length form)
+        → (value : Value) (r : Result (List Value) K)
+        → read_fields (next_kinds kinds) form texts ≡ r → (r >>= λ more. Ok (value ∷ more)) ≡ Ok values
+        → length (text ∷ texts) ≡ length (field ∷ form)
     rest deeper value (Ok more) is e = omega (arith, deeper more is)
     rest deeper value (Err found) is e = absurd cc
 
     one : ((more : List Value) → read_fields (next_kinds kinds) form texts ≡ Ok more → length texts ≡ length form) → (r : Result Value K)
-        → (r >>= λ value. read_fields (next_kinds kinds) form texts >>= λ more. Ok (value ∷ more)) ≡ Ok values → length (text ∷ texts) ≡ length (field ∷ form)
+        → (r >>= λ value. read_fields (next_kinds kinds) form texts >>= λ more. Ok (value ∷ more)) ≡ Ok values
+        → length (text ∷ texts) ≡ length (field ∷ form)
     one deeper (Ok value) e = rest deeper value (read_fields (next_kinds kinds) form texts) refl e
     one deeper (Err found) e = absurd cc
 
 -- and then a step, which may fail
-pub counted_later : {A K : Type 0} (kinds : ℕ → FieldFault → K) (form : List Field) (texts : List (List ℕ)) (said : List Value → Result A K) (x : A)
+pub counted_later : {A K : Type 0} (kinds : ℕ → FieldFault → K) (form : List Field)
+    (texts : List (List ℕ)) (said : List Value → Result A K) (x : A)
     → (read_fields kinds form texts >>= said) ≡ Ok x → (read kinds form texts >>= said) ≡ Ok x
 counted_later {A} {K} kinds form texts said x e = by (read_fields kinds form texts) refl e
   where
@@ -266,12 +287,14 @@ counted_later {A} {K} kinds form texts said x e = by (read_fields kinds form tex
     by (Err found) is e = absurd cc
 
 -- a fault that is met before they are counted is that of the count where there are too few or too many
-pub fault_later : {A K : Type 0} (kinds : ℕ → FieldFault → K) (form : List Field) (texts : List (List ℕ)) (said : List Value → Result A K) (found : K)
+pub fault_later : {A K : Type 0} (kinds : ℕ → FieldFault → K) (form : List Field)
+    (texts : List (List ℕ)) (said : List Value → Result A K) (found : K)
     → (read_fields kinds form texts >>= said) ≡ Err found
     → (read kinds form texts >>= said) ≡ Err (if length texts == length form then found else kinds 0 fault.Count)
 fault_later kinds form texts said found e = by (length texts == length form) e
   where
     by : (t : Bool) → (read_fields kinds form texts >>= said) ≡ Err found
-        → ((if not t then Err (kinds 0 fault.Count) else read_fields kinds form texts) >>= said) ≡ Err (if t then found else kinds 0 fault.Count)
+        → ((if not t then Err (kinds 0 fault.Count) else read_fields kinds form texts) >>= said)
+        ≡ Err (if t then found else kinds 0 fault.Count)
     by true e = e
     by false e = refl

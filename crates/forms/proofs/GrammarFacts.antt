@@ -12,7 +12,8 @@ pub all_read : {R S K F : Type 0} (grammar : Grammar R S K F) (number : ℕ) (st
     → AllState grammar number state rows last → read_all grammar number state rows ≡ Ok last
 all_read grammar number state [] last fine all = ap Ok (sym all)
 all_read grammar number state (row ∷ rows) last fine (next, states, more) =
-    rw (states_said (grammar.shape number state row) next (fine number state row) states) (all_read grammar (suc number) next rows last fine more)
+    rw (states_said (grammar.shape number state row) next (fine number state row) states)
+    (all_read grammar (suc number) next rows last fine more)
 
 pub fault_read : {R S K F : Type 0} (grammar : Grammar R S K F) (number : ℕ) (state : S) (rows : List R) (fault : F) → HasFineForms grammar
     → IsFirstFault grammar number state rows fault → read_all grammar number state rows ≡ Err fault
@@ -20,7 +21,8 @@ fault_read grammar number state [] fault fine first = absurd first
 fault_read grammar number state (row ∷ rows) fault fine (inl (kind, fails, is)) =
     rw (fails_said (grammar.shape number state row) kind (fine number state row) fails) (ap Err (sym is))
 fault_read grammar number state (row ∷ rows) fault fine (inr (next, states, more)) =
-    rw (states_said (grammar.shape number state row) next (fine number state row) states) (fault_read grammar (suc number) next rows fault fine more)
+    rw (states_said (grammar.shape number state row) next (fine number state row) states)
+    (fault_read grammar (suc number) next rows fault fine more)
 
 -- an answer of a grammar is what the records state, or the fault of the first that states nothing
 abbrev pub IsAnswer : {R S K F : Type 0} → Grammar R S K F → ℕ → S → List R → Result S F → Type 0
@@ -48,10 +50,14 @@ all_answer {R} {S} {K} {F} grammar number state (row ∷ rows) fine =
         (more next)
     by more (Err kind) e = inl (kind, said_fails (grammar.shape number state row) kind (fine number state row) e, refl)
 
-pub read_all_states : {R S K F : Type 0} (grammar : Grammar R S K F) (number : ℕ) (state : S) (rows : List R) (last : S) → HasFineForms grammar
+pub read_all_states : {R S K F : Type 0} (grammar : Grammar R S K F) (number : ℕ) (state : S) (rows : List R) (last : S)
+    → HasFineForms grammar
     → read_all grammar number state rows ≡ Ok last → AllState grammar number state rows last
-read_all_states grammar number state rows last fine e = subst (IsAnswer grammar number state rows) e (all_answer grammar number state rows fine)
+read_all_states grammar number state rows last fine e =
+    subst (IsAnswer grammar number state rows) e (all_answer grammar number state rows fine)
 
-pub read_first_fault : {R S K F : Type 0} (grammar : Grammar R S K F) (number : ℕ) (state : S) (rows : List R) (fault : F) → HasFineForms grammar
+pub read_first_fault : {R S K F : Type 0} (grammar : Grammar R S K F) (number : ℕ) (state : S) (rows : List R) (fault : F)
+    → HasFineForms grammar
     → read_all grammar number state rows ≡ Err fault → IsFirstFault grammar number state rows fault
-read_first_fault grammar number state rows fault fine e = subst (IsAnswer grammar number state rows) e (all_answer grammar number state rows fine)
+read_first_fault grammar number state rows fault fine e =
+    subst (IsAnswer grammar number state rows) e (all_answer grammar number state rows fine)

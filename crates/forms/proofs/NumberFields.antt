@@ -16,7 +16,8 @@ whole_fits limit n low small =
     let least : pos 0 ≤ℤ pos (n * 10 ^ 6) = omega (arith, ints) in
     (least, most, omega (arith, low, small), omega arith)
 
-pub size_fits : (decimals most m : ℕ) → m ≤ most → most ≤ 10 ^ 24 → m % 10 ^ (6 - decimals) ≡ 0 → FitsField (up_to decimals most) (Millionths (pos m))
+pub size_fits : (decimals most m : ℕ) → m ≤ most → most ≤ 10 ^ 24 → m % 10 ^ (6 - decimals) ≡ 0
+    → FitsField (up_to decimals most) (Millionths (pos m))
 size_fits decimals most m low small coarse =
     let high : pos m ≤ℤ pos most = omega (arith, ints, low) in
     let least : pos 0 ≤ℤ pos m = omega (arith, ints) in
@@ -51,7 +52,8 @@ size_found decimals most (Bytes word) fits = absurd fits
 -- a text states one whole number
 pub one_whole : (limit : ℕ) (text : List ℕ) (a b : ℕ) → Says (below limit) text (whole a) → Says (below limit) text (whole b) → a ≡ b
 one_whole limit text a b first second =
-    let same : pos (a * 10 ^ 6) ≡ pos (b * 10 ^ 6) = one_number 0 text (pos (a * 10 ^ 6)) (pos (b * 10 ^ 6)) (omega arith) first.0 second.0 in
+    let same : pos (a * 10 ^ 6) ≡ pos (b * 10 ^ 6) =
+    one_number 0 text (pos (a * 10 ^ 6)) (pos (b * 10 ^ 6)) (omega arith) first.0 second.0 in
     omega (arith, ints, same)
 
 -- what the text at a place states

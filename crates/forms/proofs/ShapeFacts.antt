@@ -15,14 +15,16 @@ use Rattle.forms.specs.Steps.{◌>>=◌}
 -- what states something is read
 pub states_said : {K S : Type 0} (shape : Shape K S) (next : S) → is_fine shape.form ≡ true → States shape next → said shape ≡ Ok next
 states_said shape next fine states =
-    rw (states.first, spelled_read shape.kinds shape.form shape.texts states.values fine states.spelled, states.last) (ap Ok (sym states.is))
+    rw (states.first, spelled_read shape.kinds shape.form shape.texts states.values fine states.spelled, states.last)
+    (ap Ok (sym states.is))
 
 -- what fails first refuses
 pub fails_said : {K S : Type 0} (shape : Shape K S) (kind : K) → is_fine shape.form ≡ true → Fails shape kind → said shape ≡ Err kind
 fails_said shape kind fine (inl e) = rw e refl
 fails_said {K} {S} shape kind fine (inr (e, inr fails)) =
     rw (e, spelled_read shape.kinds shape.form shape.texts fails.values fine fails.spelled, fails.fails) refl
-fails_said {K} {S} shape kind fine (inr (e, inl first)) = rw e (by (read shape.kinds shape.form shape.texts) (read_told shape.kinds shape.form shape.texts fine))
+fails_said {K} {S} shape kind fine (inr (e, inl first)) =
+    rw e (by (read shape.kinds shape.form shape.texts) (read_told shape.kinds shape.form shape.texts fine))
   where
     by : (r : Result (List Value) K) → Follows r (asked shape.kinds shape.form shape.texts) (Spell shape.form shape.texts)
         → (r >>= λ values. unless (failing (shape.last values)) (Ok (shape.next values))) ≡ Err kind
@@ -40,7 +42,8 @@ said_answers {K} {S} shape fine = before (failing shape.first) refl
     Read : Type 0
     Read = Result (List Value) K
 
-    behind : failing shape.first ≡ None → (values : List Value) → Spell shape.form shape.texts values → (o : Option K) → failing (shape.last values) ≡ o
+    behind : failing shape.first ≡ None → (values : List Value) → Spell shape.form shape.texts values → (o : Option K)
+        → failing (shape.last values) ≡ o
         → IsAnswer shape (unless o (Ok (shape.next values)))
     behind e values spelled (Some kind) fails = inr (e, inr (record { values = values; spelled = spelled; fails = fails }))
     behind e values spelled None holds = record { first = e; values = values; spelled = spelled; last = holds; is = refl }
@@ -51,7 +54,8 @@ said_answers {K} {S} shape fine = before (failing shape.first) refl
     amid e (Err kind) told = inr (e, inl told)
 
     before : (o : Option K) → failing shape.first ≡ o
-        → IsAnswer shape (unless o (read shape.kinds shape.form shape.texts >>= λ values. unless (failing (shape.last values)) (Ok (shape.next values))))
+        → IsAnswer shape (unless o (read shape.kinds shape.form shape.texts
+        >>= λ values. unless (failing (shape.last values)) (Ok (shape.next values))))
     before (Some kind) e = inl e
     before None e = amid e (read shape.kinds shape.form shape.texts) (read_told shape.kinds shape.form shape.texts fine)
 

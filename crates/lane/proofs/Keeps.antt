@@ -41,18 +41,22 @@ begins n = record {
 module _ (n : Size) (s : State) (h : IsLawful n s) where
   -- a file that may still send: no Stop was put
   no_stops : (f : ℕ) → f < n.files → has_end (s.sent f) ≡ false → s.stops ≡ 0
-  no_stops f l e = ⊎_elim (λ (some : 0 < s.stops). absurd (true≢false (sym (h.ended some f l) ∙ e))) (λ (none : s.stops ≤ 0). let z : s.stops ≡ 0 = omega arith in z) (cases_lt 0 s.stops)
+  no_stops f l e = ⊎_elim (λ (some : 0 < s.stops). absurd (true≢false (sym (h.ended some f l) ∙ e))) (λ (none : s.stops
+      ≤ 0). let z : s.stops ≡ 0 = omega arith in z) (cases_lt 0 s.stops)
 
   none_queued : s.stops ≡ 0 → count_by is_stop s.queue ≡ 0
   none_queued z = omega (arith, h.stops)
 
   none_taken : s.stops ≡ 0 → (w : ℕ) → count_by is_stop (s.took w) ≡ 0
   none_taken z w =
-      ⊎_elim (λ (l : w < n.takers). let c = over_le n.takers (λ v. count_by is_stop (s.took v)) w l in let z' : count_by is_stop (s.took w) ≡ 0 = omega (arith, h.stops) in z')
+      ⊎_elim (λ (l : w < n.takers). let c =
+      over_le n.takers (λ v. count_by is_stop (s.took v)) w l in let z' : count_by is_stop (s.took w) ≡ 0 =
+      omega (arith, h.stops) in z')
       (λ (l : n.takers ≤ w). ap (λ (ms : List Taken). count_by is_stop ms) (h.takers w l))
       (cases_lt w n.takers)
 
-  puts : (f : ℕ) (m : Taken) → HasRoom n s → f < n.files → has_end (s.sent f) ≡ false → is_of f m ≡ true → IsFrom f 0 (s.sent f ++ m ∷ []) → IsLawful n (put f m s)
+  puts : (f : ℕ) (m : Taken) → HasRoom n s → f < n.files → has_end (s.sent f) ≡ false → is_of f m ≡ true → IsFrom f 0 (s.sent f ++ m ∷ [])
+      → IsLawful n (put f m s)
   puts f m room below open' is new =
       let z = no_stops f below open' in
       let data' = unmarked m (of_is_no_mark f m is) in
@@ -61,11 +65,13 @@ module _ (n : Size) (s : State) (h : IsLawful n s) where
         files = with_at_all (λ j l. n.files ≤ j → l ≡ []) s.sent f (s.sent f ++ m ∷ []) (λ l. absurd (omega arith)) (λ j _. h.files j);
         takers = h.takers;
         left = h.left;
-        within = with_at_all (λ j l. h.left j ≤ length l) s.sent f (s.sent f ++ m ∷ []) (omega (arith, h.within f, length-append (s.sent f) (m ∷ []))) (λ j _. h.within j);
+        within = with_at_all (λ j l. h.left j ≤ length l) s.sent f
+            (s.sent f ++ m ∷ []) (omega (arith, h.within f, length-append (s.sent f) (m ∷ []))) (λ j _. h.within j);
         once = h.once;
         placed = λ w. all_weaker (IsPlaced s.sent h.left) (IsPlaced (put f m s).sent h.left)
             (placed_later s.sent (put f m s).sent h.left h.left
-            (λ g p x e. with_at_all (λ j l. slice_get (s.sent j) p ≡ Some x → slice_get l p ≡ Some x) s.sent f (s.sent f ++ m ∷ []) (get_more (s.sent f) (m ∷ []) p x) (λ j _ q. q) g e)
+            (λ g p x e. with_at_all (λ j l. slice_get (s.sent j) p ≡ Some x → slice_get l p ≡ Some x) s.sent f
+            (s.sent f ++ m ∷ []) (get_more (s.sent f) (m ∷ []) p x) (λ j _ q. q) g e)
             (λ g. omega arith))
             (s.took w) (h.placed w);
         rises = h.rises;
@@ -131,19 +137,23 @@ module _ (n : Size) (s : State) (h : IsLawful n s) where
   }
 
   -- the front leaves: left' says how much of each file left then
-  module _ (w : ℕ) (m : Taken) (rest : List Taken) (front : s.queue ≡ m ∷ rest) (below : w < n.takers) (undone : is_done (s.took w) ≡ false) where
+  module _ (w : ℕ) (m : Taken) (rest : List Taken)
+      (front : s.queue ≡ m ∷ rest) (below : w < n.takers) (undone : is_done (s.took w) ≡ false) where
     more : List Taken
     more = s.took w ++ m ∷ []
 
     -- what the queue loses the taker has
-    moved : (p : Taken → Bool) → count_by p rest + over n.takers (λ v. count_by p (with_at s.took w (s.took w ++ m ∷ []) v)) ≡ count_by p s.queue + over n.takers (λ v. count_by p (s.took v))
+    moved : (p : Taken → Bool) → count_by p rest + over n.takers (λ v. count_by p (with_at s.took w (s.took w ++ m ∷ []) v))
+        ≡ count_by p s.queue + over n.takers (λ v. count_by p (s.took v))
     moved p =
         let a = over_at (λ (ms : List Taken). count_by p ms) n.takers s.took w (s.took w ++ m ∷ []) below in
         let b = count_more p (s.took w) m in
-        let c : count_by p s.queue ≡ cond (p m) 1 0 + count_by p rest = ap (λ (ms : List Taken). count_by p ms) front ∙ count_front p m rest in
+        let c : count_by p s.queue ≡ cond (p m) 1 0 + count_by p rest =
+        ap (λ (ms : List Taken). count_by p ms) front ∙ count_front p m rest in
         omega arith
 
-    counted : (p : Taken → Bool) → over n.takers (λ v. count_by p (with_at s.took w (s.took w ++ m ∷ []) v)) ≡ over n.takers (λ v. count_by p (s.took v)) + cond (p m) 1 0
+    counted : (p : Taken → Bool) → over n.takers (λ v. count_by p (with_at s.took w (s.took w ++ m ∷ []) v))
+        ≡ over n.takers (λ v. count_by p (s.took v)) + cond (p m) 1 0
     counted p =
         let a = over_at (λ (ms : List Taken). count_by p ms) n.takers s.took w (s.took w ++ m ∷ []) below in
         let b = count_more p (s.took w) m in
@@ -156,7 +166,9 @@ module _ (n : Size) (s : State) (h : IsLawful n s) where
         let all_stops : (v : ℕ) → 0 < count_by is_stop (s.took v) → AreStops rest = λ v some. (subst AreStops front (h.stopped v some)).1 in
         with_at_all P s.took w (s.took w ++ m ∷ [])
         (λ some. ⊎_elim (λ (t : is_stop m ≡ true). queued.0 t)
-        (λ (t : is_stop m ≡ false). all_stops w (let c = count_more is_stop (s.took w) m in let d = ap (λ (b : Bool). cond {A = ℕ} b 1 0) t in let l : 0 < count_by is_stop (s.took w) = omega arith in l))
+        (λ (t : is_stop m ≡ false). all_stops w
+        (let c = count_more is_stop (s.took w) m in let d =
+        ap (λ (b : Bool). cond {A = ℕ} b 1 0) t in let l : 0 < count_by is_stop (s.took w) = omega arith in l))
         (cases_Bool (is_stop m)))
         (λ v _. all_stops v)
 
@@ -168,11 +180,14 @@ module _ (n : Size) (s : State) (h : IsLawful n s) where
       rises_then j =
           ⊎_elim
           (λ (t : is_of j m ≡ true).
-          let e : map position (of j (s.took w ++ m ∷ [])) ≡ map position (of j (s.took w)) ++ position m ∷ [] = ap (map position) (of_yes j (s.took w) m t) ∙ map-append position (of j (s.took w)) (m ∷ []) in
+          let e : map position (of j (s.took w ++ m ∷ [])) ≡ map position (of j (s.took w)) ++ position m ∷ [] =
+          ap (map position) (of_yes j (s.took w) m t) ∙ map-append position (of j (s.took w)) (m ∷ []) in
           subst IsStrictlyIncreasing (sym e)
           (rising_more (map position (of j (s.took w))) (position m) (h.rises w j)
-          (subst (λ k. AllByRecursion (λ p. p < k) (map position (of j (s.took w)))) (sym (next j t)) (placed_below s.sent h.left j (s.took w) (h.placed w)))))
-          (λ (t : is_of j m ≡ false). subst (λ (l : List Taken). IsStrictlyIncreasing (map position l)) (sym (of_no j (s.took w) m t)) (h.rises w j))
+          (subst (λ k. AllByRecursion (λ p. p < k) (map position (of j (s.took w)))) (sym (next j t))
+          (placed_below s.sent h.left j (s.took w) (h.placed w)))))
+          (λ (t : is_of j m ≡ false). subst (λ (l : List Taken). IsStrictlyIncreasing (map position l))
+          (sym (of_no j (s.took w) m t)) (h.rises w j))
           (cases_Bool (is_of j m))
 
       takes : IsLawful n (take_front w m rest s)
@@ -184,8 +199,11 @@ module _ (n : Size) (s : State) (h : IsLawful n s) where
         within = within';
         once = λ j p. counted (is_at j p) ∙ (ap (λ k. k + cond (is_at j p m) 1 0) (h.once j p) ∙ counts j p);
         placed = with_at_all (λ v l. AllByRecursion (IsPlaced s.sent left') l) s.took w (s.took w ++ m ∷ [])
-            (all_more (IsPlaced s.sent left') (s.took w) m (all_weaker (IsPlaced s.sent h.left) (IsPlaced s.sent left') (placed_later s.sent s.sent h.left left' (λ f p x e. e) grows) (s.took w) (h.placed w)) here)
-            (λ v _. all_weaker (IsPlaced s.sent h.left) (IsPlaced s.sent left') (placed_later s.sent s.sent h.left left' (λ f p x e. e) grows) (s.took v) (h.placed v));
+            (all_more (IsPlaced s.sent left') (s.took w) m
+            (all_weaker (IsPlaced s.sent h.left) (IsPlaced s.sent left') (placed_later s.sent s.sent h.left left' (λ f p x e. e) grows)
+            (s.took w) (h.placed w)) here)
+            (λ v _. all_weaker (IsPlaced s.sent h.left) (IsPlaced s.sent left')
+            (placed_later s.sent s.sent h.left left' (λ f p x e. e) grows) (s.took v) (h.placed v));
         rises = with_at_all (λ v l. Rises l) s.took w (s.took w ++ m ∷ []) rises_then (λ v _. h.rises v);
         rest = rest';
         behind = (subst StopsLast front h.behind).1;
@@ -204,11 +222,13 @@ module _ (n : Size) (s : State) (h : IsLawful n s) where
 one_more : (p k : ℕ) → cond {A = ℕ} (nat_lt p k) 1 0 + cond (k == p) 1 0 ≡ cond (nat_lt p (k + 1)) 1 0
 one_more p k = grind (arith, nat_tests)
 
-module _ (n : Size) (s : State) (h : IsLawful n s) (w : ℕ) (m : Taken) (ms : List Taken) (front : s.queue ≡ m ∷ ms) (below : w < n.takers) (undone : is_done (s.took w) ≡ false) where
+module _ (n : Size) (s : State) (h : IsLawful n s) (w : ℕ) (m : Taken) (ms : List Taken)
+    (front : s.queue ≡ m ∷ ms) (below : w < n.takers) (undone : is_done (s.took w) ≡ false) where
   take_mark : is_mark m ≡ true → IsLawful n (take_front w m ms s)
   take_mark t =
       takes n s h w m ms front below undone h.left (λ j. omega arith) h.within
-      (λ j p. ap (λ (b : Bool). cond {A = ℕ} (nat_lt p (h.left j)) 1 0 + cond (b && (position m == p)) 1 0) (mark_of_none j m t) ∙ (let z : cond {A = ℕ} (nat_lt p (h.left j)) 1 0 + 0 ≡ cond (nat_lt p (h.left j)) 1 0 = omega arith in z))
+      (λ j p. ap (λ (b : Bool). cond {A = ℕ} (nat_lt p (h.left j)) 1 0 + cond (b && (position m == p)) 1 0) (mark_of_none j m t)
+      ∙ (let z : cond {A = ℕ} (nat_lt p (h.left j)) 1 0 + 0 ≡ cond (nat_lt p (h.left j)) 1 0 = omega arith in z))
       (placed_mark m t)
       (λ j e. absurd (true≢false (sym e ∙ mark_of_none j m t)))
       (λ j. sym (front_no j m ms (mark_of_none j m t)) ∙ (sym (ap (of j) front) ∙ h.rest j))
@@ -228,29 +248,39 @@ module _ (n : Size) (s : State) (h : IsLawful n s) (w : ℕ) (m : Taken) (ms : L
       takes n s h w m ms front below undone left'
       (with_at_all (λ j l. h.left j ≤ l) h.left f (h.left f + 1) (omega arith) (λ j _. omega arith))
       (with_at_all (λ j l. l ≤ length (s.sent j)) h.left f (h.left f + 1) (omega (arith, d.2)) (λ j _. h.within j))
-      (λ j p. with_at_all (λ i l. cond {A = ℕ} (nat_lt p (h.left i)) 1 0 + cond (is_at i p m) 1 0 ≡ cond (nat_lt p l) 1 0) h.left f (h.left f + 1)
-      (ap (λ (b : Bool). cond {A = ℕ} (nat_lt p (h.left f)) 1 0 + cond (b && (position m == p)) 1 0) is ∙ (ap (λ (k : ℕ). cond {A = ℕ} (nat_lt p (h.left f)) 1 0 + cond (k == p) 1 0) at' ∙ one_more p (h.left f)))
-      (λ i ne. ap (λ (b : Bool). cond {A = ℕ} (nat_lt p (h.left i)) 1 0 + cond (b && (position m == p)) 1 0) (of_one f i m is ne) ∙ (let z : cond {A = ℕ} (nat_lt p (h.left i)) 1 0 + 0 ≡ cond (nat_lt p (h.left i)) 1 0 = omega arith in z))
+      (λ j p. with_at_all (λ i l. cond {A = ℕ} (nat_lt p (h.left i)) 1 0 + cond (is_at i p m) 1 0 ≡ cond (nat_lt p l) 1 0) h.left f
+      (h.left f + 1)
+      (ap (λ (b : Bool). cond {A = ℕ} (nat_lt p (h.left f)) 1 0 + cond (b && (position m == p)) 1 0) is
+      ∙ (ap (λ (k : ℕ). cond {A = ℕ} (nat_lt p (h.left f)) 1 0 + cond (k == p) 1 0) at' ∙ one_more p (h.left f)))
+      (λ i ne. ap (λ (b : Bool). cond {A = ℕ} (nat_lt p (h.left i)) 1 0 + cond (b && (position m == p)) 1 0) (of_one f i m is ne)
+      ∙ (let z : cond {A = ℕ} (nat_lt p (h.left i)) 1 0 + 0 ≡ cond (nat_lt p (h.left i)) 1 0 = omega arith in z))
       j)
       (placed_new s.sent left' f m is (omega (arith, at', here)) (ap (slice_get (s.sent f)) at' ∙ d.0))
-      (λ j e. ⊎_elim (λ (q : j ≡ f). at' ∙ ap h.left (sym q)) (λ (ne : j ≡ f → ⊥). absurd (true≢false (sym e ∙ of_one f j m is ne))) (cases_eq j f))
+      (λ j e. ⊎_elim (λ (q : j ≡ f). at' ∙ ap h.left (sym q))
+      (λ (ne : j ≡ f → ⊥). absurd (true≢false (sym e ∙ of_one f j m is ne))) (cases_eq j f))
       (with_at_all (λ j l. of j ms ≡ drop l (s.sent j)) h.left f (h.left f + 1)
       (sym d.1 ∙ ap (λ k. drop k (s.sent f)) (let z : suc (h.left f) ≡ h.left f + 1 = omega arith in z))
       (λ j ne. sym (front_no j m ms (of_one f j m is ne)) ∙ (sym (ap (of j) front) ∙ h.rest j)))
 
-take_any : (n : Size) (s : State) (h : IsLawful n s) (w : ℕ) (m : Taken) (ms : List Taken) → s.queue ≡ m ∷ ms → w < n.takers → is_done (s.took w) ≡ false → IsLawful n (take_front w m ms s)
+take_any : (n : Size) (s : State) (h : IsLawful n s) (w : ℕ) (m : Taken) (ms : List Taken) → s.queue ≡ m ∷ ms → w < n.takers
+    → is_done (s.took w) ≡ false → IsLawful n (take_front w m ms s)
 take_any n s h w (Row f p b) ms front below undone = take_of n s h w (Row f p b) ms front below undone f (eq-eqb f f refl)
 take_any n s h w (End f k) ms front below undone = take_of n s h w (End f k) ms front below undone f (eq-eqb f f refl)
 take_any n s h w Stop ms front below undone = take_mark n s h w Stop ms front below undone refl
 take_any n s h w Quit ms front below undone = take_mark n s h w Quit ms front below undone refl
 
-take_queue : (n : Size) (s : State) (h : IsLawful n s) (w : ℕ) (q : List Taken) → s.queue ≡ q → w < n.takers → is_done (s.took w) ≡ false → IsLawful n (take_next w q s)
+take_queue : (n : Size) (s : State) (h : IsLawful n s) (w : ℕ) (q : List Taken) → s.queue ≡ q → w < n.takers → is_done (s.took w) ≡ false
+    → IsLawful n (take_next w q s)
 take_queue n s h w [] e below undone = h
 take_queue n s h w (m ∷ ms) e below undone = take_any n s h w m ms e below undone
 
 pub keeps : (n : Size) (s : State) (e : Event) → IsLawful n s → Allowed n s e → IsLawful n (after s e)
-keeps n s (PutRow f b) h a = puts n s h f (Row f (length (s.sent f)) b) a.1 a.0 a.2 (eq-eqb f f refl) (subst (λ k. IsFrom f 0 (s.sent f ++ Row f k b ∷ [])) (let z : 0 + length (s.sent f) ≡ length (s.sent f) = omega arith in z) (from_row f 0 (s.sent f) b (h.lists f) a.2))
-keeps n s (PutEnd f) h a = puts n s h f (End f (rows_in (s.sent f))) a.1 a.0 a.2 (eq-eqb f f refl) (subst (λ k. IsFrom f 0 (s.sent f ++ End f k ∷ [])) (let z : 0 + length (s.sent f) ≡ rows_in (s.sent f) = omega (arith, rows_all f 0 (s.sent f) (h.lists f) a.2) in z) (from_end f 0 (s.sent f) (h.lists f) a.2))
+keeps n s (PutRow f b) h a = puts n s h f (Row f (length (s.sent f)) b) a.1 a.0 a.2 (eq-eqb f f refl)
+    (subst (λ k. IsFrom f 0 (s.sent f ++ Row f k b ∷ [])) (let z : 0 + length (s.sent f) ≡ length (s.sent f) =
+    omega arith in z) (from_row f 0 (s.sent f) b (h.lists f) a.2))
+keeps n s (PutEnd f) h a = puts n s h f (End f (rows_in (s.sent f))) a.1 a.0 a.2 (eq-eqb f f refl)
+    (subst (λ k. IsFrom f 0 (s.sent f ++ End f k ∷ [])) (let z : 0 + length (s.sent f) ≡ rows_in (s.sent f) =
+    omega (arith, rows_all f 0 (s.sent f) (h.lists f) a.2) in z) (from_end f 0 (s.sent f) (h.lists f) a.2))
 keeps n s PutStop h a = put_stop n s h a
 keeps n s PutQuit h a = put_quit n s h a
 keeps n s (TakeNext w) h a = take_queue n s h w s.queue refl a.0 a.2
@@ -260,7 +290,8 @@ keeps_all n s [] h a = h
 keeps_all n s (e ∷ es) h a = keeps_all n (after s e) es (keeps n s e h a.0) a.1
 
 -- a run goes on by one event
-allowed_more : (n : Size) (s : State) (es : List Event) (e : Event) → AreAllowed n s es → Allowed n (after_all s es) e → AreAllowed n s (es ++ e ∷ [])
+allowed_more : (n : Size) (s : State) (es : List Event) (e : Event) → AreAllowed n s es → Allowed n (after_all s es) e
+    → AreAllowed n s (es ++ e ∷ [])
 allowed_more n s [] e a l = (l, tt)
 allowed_more n s (x ∷ es) e a l = (a.0, allowed_more n (after s x) es e a.1 l)
 
@@ -269,7 +300,12 @@ after_more s [] e = refl
 after_more s (x ∷ es) e = after_more (after s x) es e
 
 pub reaches : (n : Size) (s : State) (e : Event) → IsReached n s → Allowed n s e → IsReached n (after s e)
-reaches n s e r a = (r.0 ++ e ∷ [], allowed_more n opening r.0 e r.1 (subst (λ t. Allowed n t e) (sym r.2) a), after_more opening r.0 e ∙ ap (λ t. after t e) r.2)
+reaches n s e r a = (
+  r.0 ++ e ∷ [],
+  allowed_more n opening r.0 e r.1 (subst (λ t. Allowed n t e) (sym r.2) a),
+  after_more opening r.0 e
+      ∙ ap (λ t. after t e) r.2,
+)
 
 pub lawful : (n : Size) (s : State) → IsReached n s → IsLawful n s
 lawful n s r = subst (IsLawful n) r.2 (keeps_all n opening r.0 (begins n) r.1)

@@ -22,7 +22,8 @@ module _ {A : Type 0} where
   get_more (y ∷ xs) ys (suc i) x e = get_more xs ys i x e
 
   -- what the front of the list without its first k is
-  pub drop_front : (xs : List A) (k : ℕ) (x : A) (rest : List A) → drop k xs ≡ x ∷ rest → (slice_get xs k ≡ Some x) × (drop (suc k) xs ≡ rest) × (k < length xs)
+  pub drop_front : (xs : List A) (k : ℕ) (x : A) (rest : List A) → drop k xs ≡ x ∷ rest → (slice_get xs k ≡ Some x)
+      × (drop (suc k) xs ≡ rest) × (k < length xs)
   drop_front [] zero x rest e = absurd (cc)
   drop_front [] (suc k) x rest e = absurd (cc)
   drop_front (y ∷ xs) zero x rest e = let a : y ≡ x = cc in let b : xs ≡ rest = cc in (ap Some a, b, omega arith)
@@ -34,12 +35,14 @@ module _ {A : Type 0} where
   pub count_front : (p : A → Bool) (x : A) (xs : List A) → count_by p (x ∷ xs) ≡ cond (p x) 1 0 + count_by p xs
   count_front p x xs = sum_by-cons (λ (y : A). cond (p y) 1 0) x xs
 
-with_at_cases : {A : Type 0} (P : ℕ → A → Type 0) (g : ℕ → A) (k : ℕ) (x : A) → P k x → ((j : ℕ) → (j ≡ k → ⊥) → P j (g j)) → (j : ℕ) (b : Bool) → (j == k) ≡ b → P j (cond b x (g j))
+with_at_cases : {A : Type 0} (P : ℕ → A → Type 0) (g : ℕ → A) (k : ℕ) (x : A) → P k x → ((j : ℕ) → (j ≡ k → ⊥) → P j (g j))
+    → (j : ℕ) (b : Bool) → (j == k) ≡ b → P j (cond b x (g j))
 with_at_cases P g k x here else j true e = subst (λ i. P i x) (sym (eqb-true j k e)) here
 with_at_cases P g k x here else j false e = else j (eqb-false j k e)
 
 -- what holds of x at k and of g elsewhere
-pub with_at_all : {A : Type 0} (P : ℕ → A → Type 0) (g : ℕ → A) (k : ℕ) (x : A) → P k x → ((j : ℕ) → (j ≡ k → ⊥) → P j (g j)) → (j : ℕ) → P j (with_at g k x j)
+pub with_at_all : {A : Type 0} (P : ℕ → A → Type 0) (g : ℕ → A) (k : ℕ) (x : A) → P k x → ((j : ℕ) → (j ≡ k → ⊥) → P j (g j)) → (j : ℕ)
+    → P j (with_at g k x j)
 with_at_all P g k x here else j = with_at_cases P g k x here else j (j == k) refl
 
 pub over_zero : (n : ℕ) (g : ℕ → ℕ) → ((k : ℕ) → g k ≡ 0) → over n g ≡ 0
@@ -64,19 +67,23 @@ pub with_at_else : {A : Type 0} (g : ℕ → A) (k : ℕ) (x : A) (j : ℕ) → 
 with_at_else {A} g k x j ne = ap (λ (b : Bool). cond b x (g j)) (ne_eqb j k ne)
 
 -- a sum after a change at one number
-pub over_at : {A : Type 0} (F : A → ℕ) (n : ℕ) (g : ℕ → A) (k : ℕ) (x : A) → k < n → over n (λ j. F (with_at g k x j)) + F (g k) ≡ over n (λ j. F (g j)) + F x
+pub over_at : {A : Type 0} (F : A → ℕ) (n : ℕ) (g : ℕ → A) (k : ℕ) (x : A) → k < n
+    → over n (λ j. F (with_at g k x j)) + F (g k) ≡ over n (λ j. F (g j)) + F x
 over_at F zero g k x l = absurd (omega arith)
 over_at {A} F (suc n) g k x l =
     ⊎_elim
     (λ (e : k ≡ n).
-    let low : over n (λ j. F (with_at g k x j)) ≡ over n (λ j. F (g j)) = over_same n _ _ (λ j below. ap F (with_at_else g k x j (λ q. omega arith))) in
+    let low : over n (λ j. F (with_at g k x j)) ≡ over n (λ j. F (g j)) =
+    over_same n _ _ (λ j below. ap F (with_at_else g k x j (λ q. omega arith))) in
     let last : F (with_at g k x n) ≡ F x = subst (λ i. F (with_at g k x i) ≡ F x) e (ap F (with_at_here g k x)) in
     let old : F (g k) ≡ F (g n) = ap (λ i. F (g i)) e in
-    let goal : (over n (λ j. F (with_at g k x j)) + F (with_at g k x n)) + F (g k) ≡ (over n (λ j. F (g j)) + F (g n)) + F x = omega arith in
+    let goal : (over n (λ j. F (with_at g k x j)) + F (with_at g k x n)) + F (g k) ≡ (over n (λ j. F (g j)) + F (g n))
+    + F x = omega arith in
     goal)
     (λ (ne : k ≡ n → ⊥).
     let low : over n (λ j. F (with_at g k x j)) + F (g k) ≡ over n (λ j. F (g j)) + F x = over_at F n g k x (omega arith) in
     let last : F (with_at g k x n) ≡ F (g n) = ap F (with_at_else g k x n (λ q. ne (sym q))) in
-    let goal : (over n (λ j. F (with_at g k x j)) + F (with_at g k x n)) + F (g k) ≡ (over n (λ j. F (g j)) + F (g n)) + F x = omega arith in
+    let goal : (over n (λ j. F (with_at g k x j)) + F (with_at g k x n)) + F (g k) ≡ (over n (λ j. F (g j)) + F (g n))
+    + F x = omega arith in
     goal)
     (cases_eq k n)

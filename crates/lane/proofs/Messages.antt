@@ -18,7 +18,8 @@ use Rattle.lane.proofs.Lists.{all_more, count_front}
 
 pub rising_more : (xs : List ℕ) (y : ℕ) → IsStrictlyIncreasing xs → AllByRecursion (λ x. x < y) xs → IsStrictlyIncreasing (xs ++ y ∷ [])
 rising_more xs y h b k within =
-    all_pairs_push (λ a c. a < c) xs y (AllPairs-from_increasing xs h) (All-from_recursion (λ x. x < y) xs b) k (k + 1) 0 (omega arith) within
+    all_pairs_push (λ a c. a < c) xs y (AllPairs-from_increasing xs h)
+    (All-from_recursion (λ x. x < y) xs b) k (k + 1) 0 (omega arith) within
 
 pub of_yes : (f : ℕ) (ms : List Taken) (m : Taken) → is_of f m ≡ true → of f (ms ++ m ∷ []) ≡ of f ms ++ m ∷ []
 of_yes f ms m e = filter-append (is_of f) ms (m ∷ []) ∙ ap (λ (b : Bool). of f ms ++ cond b (m ∷ []) []) e
@@ -57,7 +58,8 @@ unmarked (End g n) e = (refl, refl)
 unmarked Stop e = absurd (cc)
 unmarked Quit e = absurd (cc)
 
-pub from_row : (f k : ℕ) (ms : List Taken) (b : Block) → IsFrom f k ms → has_end ms ≡ false → IsFrom f k (ms ++ Row f (k + length ms) b ∷ [])
+pub from_row : (f k : ℕ) (ms : List Taken) (b : Block) → IsFrom f k ms → has_end ms ≡ false
+    → IsFrom f k (ms ++ Row f (k + length ms) b ∷ [])
 from_row f k [] b h e = (refl, omega arith, tt)
 from_row f k (Row g p c ∷ ms) b h e =
     let n : (k + 1) + length ms ≡ k + suc (length ms) = omega arith in
@@ -91,11 +93,14 @@ ended_from f k (Stop ∷ ms) h e = absurd h
 ended_from f k (Quit ∷ ms) h e = absurd h
 
 -- what stands at a place of a file's list
-pub from_place : (f k : ℕ) (ms : List Taken) (i : ℕ) (m : Taken) → IsFrom f k ms → slice_get ms i ≡ Some m → (is_of f m ≡ true) × (position m ≡ k + i)
+pub from_place : (f k : ℕ) (ms : List Taken) (i : ℕ) (m : Taken) → IsFrom f k ms → slice_get ms i ≡ Some m → (is_of f m ≡ true)
+    × (position m ≡ k + i)
 from_place f k [] i m h e = absurd (cc)
-from_place f k (Row g p c ∷ ms) zero m h e = let q : Row g p c ≡ m = cc in subst (λ (x : Taken). (is_of f x ≡ true) × (position x ≡ k + 0)) q (eq-eqb g f h.0, omega (arith, h.1))
+from_place f k (Row g p c ∷ ms) zero m h e = let q : Row g p c ≡ m =
+    cc in subst (λ (x : Taken). (is_of f x ≡ true) × (position x ≡ k + 0)) q (eq-eqb g f h.0, omega (arith, h.1))
 from_place f k (Row g p c ∷ ms) (suc i) m h e = let r = from_place f (k + 1) ms i m h.2 e in (r.0, omega (arith, r.1))
-from_place f k (End g n ∷ ms) zero m h e = let q : End g n ≡ m = cc in subst (λ (x : Taken). (is_of f x ≡ true) × (position x ≡ k + 0)) q (eq-eqb g f h.0, omega (arith, h.1))
+from_place f k (End g n ∷ ms) zero m h e = let q : End g n ≡ m =
+    cc in subst (λ (x : Taken). (is_of f x ≡ true) × (position x ≡ k + 0)) q (eq-eqb g f h.0, omega (arith, h.1))
 from_place f k (End g n ∷ ms) (suc i) m h e = let q : slice_get ms i ≡ None = ap (λ (l : List Taken). slice_get l i) h.2 in absurd (cc)
 from_place f k (Stop ∷ ms) i m h e = absurd h
 from_place f k (Quit ∷ ms) i m h e = absurd h
@@ -110,32 +115,43 @@ end_is_last f k (End g' n' ∷ ms) (suc i) g n h e = let q : slice_get ms i ≡ 
 end_is_last f k (Stop ∷ ms) i g n h e = absurd h
 end_is_last f k (Quit ∷ ms) i g n h e = absurd h
 
-pub placed_pos : (sent : ℕ → List Taken) (left : ℕ → ℕ) (f : ℕ) (m : Taken) → IsPlaced sent left m → is_of f m ≡ true → (position m < left f) × (slice_get (sent f) (position m) ≡ Some m)
-placed_pos sent left f (Row g p b) h e = let q : g ≡ f = eqb-true g f e in (subst (λ k. p < left k) q h.0, subst (λ k. slice_get (sent k) p ≡ Some (Row g p b)) q h.1)
-placed_pos sent left f (End g n) h e = let q : g ≡ f = eqb-true g f e in (subst (λ k. n < left k) q h.0, subst (λ k. slice_get (sent k) n ≡ Some (End g n)) q h.1)
+pub placed_pos : (sent : ℕ → List Taken) (left : ℕ → ℕ) (f : ℕ) (m : Taken) → IsPlaced sent left m → is_of f m ≡ true
+    → (position m < left f) × (slice_get (sent f) (position m) ≡ Some m)
+placed_pos sent left f (Row g p b) h e = let q : g ≡ f =
+    eqb-true g f e in (subst (λ k. p < left k) q h.0, subst (λ k. slice_get (sent k) p ≡ Some (Row g p b)) q h.1)
+placed_pos sent left f (End g n) h e = let q : g ≡ f =
+    eqb-true g f e in (subst (λ k. n < left k) q h.0, subst (λ k. slice_get (sent k) n ≡ Some (End g n)) q h.1)
 placed_pos sent left f Stop h e = absurd (cc)
 placed_pos sent left f Quit h e = absurd (cc)
 
-pub placed_new : (sent : ℕ → List Taken) (left : ℕ → ℕ) (f : ℕ) (m : Taken) → is_of f m ≡ true → position m < left f → slice_get (sent f) (position m) ≡ Some m → IsPlaced sent left m
-placed_new sent left f (Row g p b) e l s = let q : f ≡ g = sym (eqb-true g f e) in (subst (λ k. p < left k) q l, subst (λ k. slice_get (sent k) p ≡ Some (Row g p b)) q s)
-placed_new sent left f (End g n) e l s = let q : f ≡ g = sym (eqb-true g f e) in (subst (λ k. n < left k) q l, subst (λ k. slice_get (sent k) n ≡ Some (End g n)) q s)
+pub placed_new : (sent : ℕ → List Taken) (left : ℕ → ℕ) (f : ℕ) (m : Taken) → is_of f m ≡ true → position m < left f
+    → slice_get (sent f) (position m) ≡ Some m → IsPlaced sent left m
+placed_new sent left f (Row g p b) e l s = let q : f ≡ g =
+    sym (eqb-true g f e) in (subst (λ k. p < left k) q l, subst (λ k. slice_get (sent k) p ≡ Some (Row g p b)) q s)
+placed_new sent left f (End g n) e l s = let q : f ≡ g =
+    sym (eqb-true g f e) in (subst (λ k. n < left k) q l, subst (λ k. slice_get (sent k) n ≡ Some (End g n)) q s)
 placed_new sent left f Stop e l s = tt
 placed_new sent left f Quit e l s = tt
 
-pub placed_later : (sent sent' : ℕ → List Taken) (left left' : ℕ → ℕ) → ((f p : ℕ) (m : Taken) → slice_get (sent f) p ≡ Some m → slice_get (sent' f) p ≡ Some m) → ((f : ℕ) → left f ≤ left' f) → (m : Taken) → IsPlaced sent left m → IsPlaced sent' left' m
+pub placed_later : (sent sent' : ℕ → List Taken) (left left' : ℕ → ℕ)
+    → ((f p : ℕ) (m : Taken) → slice_get (sent f) p ≡ Some m → slice_get (sent' f) p ≡ Some m) → ((f : ℕ) → left f ≤ left' f) → (m : Taken)
+    → IsPlaced sent left m → IsPlaced sent' left' m
 placed_later sent sent' left left' keeps grows (Row g p b) h = (omega (arith, h.0, grows g), keeps g p _ h.1)
 placed_later sent sent' left left' keeps grows (End g n) h = (omega (arith, h.0, grows g), keeps g n _ h.1)
 placed_later sent sent' left left' keeps grows Stop h = tt
 placed_later sent sent' left left' keeps grows Quit h = tt
 
-below_cases : (P : ℕ → Type 0) (m : Taken) (rest : List Taken) (b : Bool) → (b ≡ true → P (position m)) → AllByRecursion P (map position rest) → AllByRecursion P (map position (cond b (m ∷ rest) rest))
+below_cases : (P : ℕ → Type 0) (m : Taken) (rest : List Taken) (b : Bool) → (b ≡ true → P (position m))
+    → AllByRecursion P (map position rest) → AllByRecursion P (map position (cond b (m ∷ rest) rest))
 below_cases P m rest true h r = (h refl, r)
 below_cases P m rest false h r = r
 
 -- the positions taken of a file are among those that left
-pub placed_below : (sent : ℕ → List Taken) (left : ℕ → ℕ) (f : ℕ) (ms : List Taken) → AllByRecursion (IsPlaced sent left) ms → AllByRecursion (λ p. p < left f) (map position (of f ms))
+pub placed_below : (sent : ℕ → List Taken) (left : ℕ → ℕ) (f : ℕ) (ms : List Taken) → AllByRecursion (IsPlaced sent left) ms
+    → AllByRecursion (λ p. p < left f) (map position (of f ms))
 placed_below sent left f [] h = tt
-placed_below sent left f (m ∷ ms) h = below_cases (λ p. p < left f) m (of f ms) (is_of f m) (λ e. (placed_pos sent left f m h.0 e).0) (placed_below sent left f ms h.1)
+placed_below sent left f (m ∷ ms) h =
+    below_cases (λ p. p < left f) m (of f ms) (is_of f m) (λ e. (placed_pos sent left f m h.0 e).0) (placed_below sent left f ms h.1)
 
 pub marks_more : (ms : List Taken) (m : Taken) → is_done ms ≡ false → MarksLast (ms ++ m ∷ [])
 marks_more [] m e = ((λ _. refl), tt)
@@ -148,7 +164,8 @@ counted_none false n e = (refl, omega arith)
 -- where no Stop stands, whatever comes behind is fine
 pub stops_none : (ms : List Taken) (m : Taken) → count_by is_stop ms ≡ 0 → StopsLast (ms ++ m ∷ [])
 stops_none [] m e = ((λ _. tt), tt)
-stops_none (x ∷ ms) m e = let c = counted_none (is_stop x) (count_by is_stop ms) (sym (count_front is_stop x ms) ∙ e) in ((λ t. absurd (true≢false (sym t ∙ c.0))), stops_none ms m c.1)
+stops_none (x ∷ ms) m e = let c = counted_none (is_stop x) (count_by is_stop ms)
+    (sym (count_front is_stop x ms) ∙ e) in ((λ t. absurd (true≢false (sym t ∙ c.0))), stops_none ms m c.1)
 
 pub stops_more : (ms : List Taken) → StopsLast ms → StopsLast (ms ++ Stop ∷ [])
 stops_more [] h = ((λ _. tt), tt)

@@ -25,24 +25,36 @@ opens_all pass v f w c e = subst (λ u. Forks IsLane pass u (opened_view u) []) 
 one_left : (f k : ℕ) → k < f → f - k ≡ suc (f - (k + 1))
 one_left f k l = omega arith
 
-puts_front : (f w c k : ℕ) → k < f → puts_left f w c k ≡ Close f w c 0 0 ∷ (put_parts c k (replicate (suc (f - (k + 1))) []) ++ take_parts c 0 (replicate w []))
+puts_front : (f w c k : ℕ) → k < f → puts_left f w c k ≡ Close f w c 0 0
+    ∷ (put_parts c k (replicate (suc (f - (k + 1))) []) ++ take_parts c 0 (replicate w []))
 puts_front f w c k l = ap (λ n. Close f w c 0 0 ∷ (put_parts c k (replicate n []) ++ take_parts c 0 (replicate w []))) (one_left f k l)
 
-pub put_given : (pass : ℕ) (v : List Part) (f w c k : ℕ) → v ≡ puts_left f w c k → k < f → Forks IsLane pass v (without_second v) (second_alone v) × (without_second v ≡ puts_left f w c (k + 1)) × (second_alone v ≡ Put k c [] ∷ [])
+pub put_given : (pass : ℕ) (v : List Part) (f w c k : ℕ) → v ≡ puts_left f w c k → k < f
+    → Forks IsLane pass v (without_second v) (second_alone v) × (without_second v ≡ puts_left f w c (k + 1))
+    × (second_alone v ≡ Put k c [] ∷ [])
 put_given pass v f w c k e l =
-    let front = e ∙ puts_front f w c k l in
-    (subst (λ u. Forks IsLane pass u (without_second u) (second_alone u)) (sym front) (gives_put pass f w c k (f - (k + 1)) w), ap without_second front, ap second_alone front)
+    let front = e ∙ puts_front f w c k l in (
+      subst (λ u. Forks IsLane pass u (without_second u) (second_alone u)) (sym front) (gives_put pass f w c k (f - (k + 1)) w),
+      ap without_second front,
+      ap second_alone front,
+    )
 
 takes_front : (f w c k : ℕ) → k < w → takes_left f w c k ≡ Close f w c 0 0 ∷ take_parts c k (replicate (suc (w - (k + 1))) [])
 takes_front f w c k l = ap (λ n. Close f w c 0 0 ∷ take_parts c k (replicate n [])) (one_left w k l)
 
-pub take_given : (pass : ℕ) (v : List Part) (f w c k : ℕ) → v ≡ takes_left f w c k → k < w → Forks IsLane pass v (without_second v) (second_alone v) × (without_second v ≡ takes_left f w c (k + 1)) × (second_alone v ≡ Take k c [] ∷ [])
+pub take_given : (pass : ℕ) (v : List Part) (f w c k : ℕ) → v ≡ takes_left f w c k → k < w
+    → Forks IsLane pass v (without_second v) (second_alone v) × (without_second v ≡ takes_left f w c (k + 1))
+    × (second_alone v ≡ Take k c [] ∷ [])
 take_given pass v f w c k e l =
-    let front = e ∙ takes_front f w c k l in
-    (subst (λ u. Forks IsLane pass u (without_second u) (second_alone u)) (sym front) (gives_take pass f w c k (w - (k + 1))), ap without_second front, ap second_alone front)
+    let front = e ∙ takes_front f w c k l in (
+      subst (λ u. Forks IsLane pass u (without_second u) (second_alone u)) (sym front) (gives_take pass f w c k (w - (k + 1))),
+      ap without_second front,
+      ap second_alone front,
+    )
 
 pub puts_begin : (f w c : ℕ) → all_parts f w c ≡ puts_left f w c 0
-puts_begin f w c = ap (λ n. Close f w c 0 0 ∷ (put_parts c 0 (replicate n []) ++ take_parts c 0 (replicate w []))) (let z : f ≡ f - 0 = omega arith in z)
+puts_begin f w c =
+    ap (λ n. Close f w c 0 0 ∷ (put_parts c 0 (replicate n []) ++ take_parts c 0 (replicate w []))) (let z : f ≡ f - 0 = omega arith in z)
 
 pub puts_done : (f w c k : ℕ) → f ≤ k → puts_left f w c k ≡ takes_left f w c 0
 puts_done f w c k l =
@@ -52,17 +64,21 @@ puts_done f w c k l =
 pub takes_done : (f w c k : ℕ) → w ≤ k → takes_left f w c k ≡ Close f w c 0 0 ∷ []
 takes_done f w c k l = ap (λ n. Close f w c 0 0 ∷ take_parts c k (replicate n [])) (let z : w - k ≡ 0 = omega arith in z)
 
-first_puts_more : (lane : Lane) (k n : ℕ) → first_puts lane k (suc n) ≡ first_puts lane k n ++ record { lane = lane; file = k + n; sent = [] } ∷ []
+first_puts_more : (lane : Lane) (k n : ℕ)
+    → first_puts lane k (suc n) ≡ first_puts lane k n ++ record { lane = lane; file = k + n; sent = [] } ∷ []
 first_puts_more lane k zero = ap (λ (i : ℕ). record { lane = lane; file = i; sent = [] } ∷ []) (let z : k ≡ k + 0 = omega arith in z)
 first_puts_more lane k (suc n) =
     ap (λ i. record { lane = lane; file = k; sent = [] } ∷ i)
-    (first_puts_more lane (k + 1) n ∙ ap (λ (i : ℕ). first_puts lane (k + 1) n ++ record { lane = lane; file = i; sent = [] } ∷ []) (let z : (k + 1) + n ≡ k + suc n = omega arith in z))
+    (first_puts_more lane (k + 1) n ∙ ap (λ (i : ℕ). first_puts lane (k + 1) n ++ record { lane = lane; file = i; sent = [] }
+    ∷ []) (let z : (k + 1) + n ≡ k + suc n = omega arith in z))
 
-first_takes_more : (lane : Lane) (k n : ℕ) → first_takes lane k (suc n) ≡ first_takes lane k n ++ record { lane = lane; taker = k + n; took = [] } ∷ []
+first_takes_more : (lane : Lane) (k n : ℕ)
+    → first_takes lane k (suc n) ≡ first_takes lane k n ++ record { lane = lane; taker = k + n; took = [] } ∷ []
 first_takes_more lane k zero = ap (λ (i : ℕ). record { lane = lane; taker = i; took = [] } ∷ []) (let z : k ≡ k + 0 = omega arith in z)
 first_takes_more lane k (suc n) =
     ap (λ i. record { lane = lane; taker = k; took = [] } ∷ i)
-    (first_takes_more lane (k + 1) n ∙ ap (λ (i : ℕ). first_takes lane (k + 1) n ++ record { lane = lane; taker = i; took = [] } ∷ []) (let z : (k + 1) + n ≡ k + suc n = omega arith in z))
+    (first_takes_more lane (k + 1) n ∙ ap (λ (i : ℕ). first_takes lane (k + 1) n ++ record { lane = lane; taker = i; took = [] }
+    ∷ []) (let z : (k + 1) + n ≡ k + suc n = omega arith in z))
 
 pub first_puts_are : (lane : Lane) (k n f : ℕ) → k + n ≡ f → ArePutsFrom lane f k (first_puts lane k n)
 first_puts_are lane k zero f e = omega arith
@@ -80,8 +96,14 @@ pub first_takes_count : (lane : Lane) (k n : ℕ) → length (first_takes lane k
 first_takes_count lane k zero = refl
 first_takes_count lane k (suc n) = ap suc (first_takes_count lane (k + 1) n)
 
-pub first_puts_next : (lane : Lane) (n : ℕ) → first_puts lane 0 (n + 1) ≡ first_puts lane 0 n ++ record { lane = lane; file = n; sent = [] } ∷ []
-first_puts_next lane n = ap (first_puts lane 0) (let z : n + 1 ≡ suc n = omega arith in z) ∙ (first_puts_more lane 0 n ∙ ap (λ (i : ℕ). first_puts lane 0 n ++ record { lane = lane; file = i; sent = [] } ∷ []) (let z : 0 + n ≡ n = omega arith in z))
+pub first_puts_next : (lane : Lane) (n : ℕ)
+    → first_puts lane 0 (n + 1) ≡ first_puts lane 0 n ++ record { lane = lane; file = n; sent = [] } ∷ []
+first_puts_next lane n = ap (first_puts lane 0) (let z : n + 1 ≡ suc n = omega arith in z)
+    ∙ (first_puts_more lane 0 n ∙ ap (λ (i : ℕ). first_puts lane 0 n ++ record { lane = lane; file = i; sent = [] } ∷ []) (let z : 0 + n
+    ≡ n = omega arith in z))
 
-pub first_takes_next : (lane : Lane) (n : ℕ) → first_takes lane 0 (n + 1) ≡ first_takes lane 0 n ++ record { lane = lane; taker = n; took = [] } ∷ []
-first_takes_next lane n = ap (first_takes lane 0) (let z : n + 1 ≡ suc n = omega arith in z) ∙ (first_takes_more lane 0 n ∙ ap (λ (i : ℕ). first_takes lane 0 n ++ record { lane = lane; taker = i; took = [] } ∷ []) (let z : 0 + n ≡ n = omega arith in z))
+pub first_takes_next : (lane : Lane) (n : ℕ)
+    → first_takes lane 0 (n + 1) ≡ first_takes lane 0 n ++ record { lane = lane; taker = n; took = [] } ∷ []
+first_takes_next lane n = ap (first_takes lane 0) (let z : n + 1 ≡ suc n = omega arith in z)
+    ∙ (first_takes_more lane 0 n ∙ ap (λ (i : ℕ). first_takes lane 0 n ++ record { lane = lane; taker = i; took = [] } ∷ []) (let z : 0 + n
+    ≡ n = omega arith in z))

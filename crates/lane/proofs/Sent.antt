@@ -21,36 +21,48 @@ put_event : (n : Size) (s : State) (items : List Taken) (views : List (List Part
 put_event n s items views pass f c ms (Row g p b) h at room q =
     let r = row_is n s items views pass f c ms b h at room q.2 q.3 in
     let same : Row f (length ms) b ≡ Row g p b = λ i. Row (sym q.0 i) (sym q.1 i) b in
-    subst (λ k. Allowed n s (PutRow k b) × IsLaneAt n (after s (PutRow k b)) (items ++ Row g p b ∷ []) (set views pass (Put f c (ms ++ Row g p b ∷ []) ∷ []))) (sym q.0)
+    subst (λ k. Allowed n s (PutRow k b)
+    × IsLaneAt n (after s (PutRow k b)) (items ++ Row g p b ∷ []) (set views pass (Put f c (ms ++ Row g p b ∷ []) ∷ []))) (sym q.0)
     (r.0, subst (λ m. IsLaneAt n (after s (PutRow f b)) (items ++ m ∷ []) (set views pass (Put f c (ms ++ m ∷ []) ∷ []))) same r.1)
 put_event n s items views pass f c ms (End g k) h at room q =
     let r = end_is n s items views pass f c ms h at room q.2 in
     let same : End f (rows_in ms) ≡ End g k = λ i. End (sym q.0 i) (sym q.1 i) in
-    subst (λ j. Allowed n s (PutEnd j) × IsLaneAt n (after s (PutEnd j)) (items ++ End g k ∷ []) (set views pass (Put f c (ms ++ End g k ∷ []) ∷ []))) (sym q.0)
+    subst (λ j. Allowed n s (PutEnd j)
+    × IsLaneAt n (after s (PutEnd j)) (items ++ End g k ∷ []) (set views pass (Put f c (ms ++ End g k ∷ []) ∷ []))) (sym q.0)
     (r.0, subst (λ m. IsLaneAt n (after s (PutEnd f)) (items ++ m ∷ []) (set views pass (Put f c (ms ++ m ∷ []) ∷ []))) same r.1)
 put_event n s items views pass f c ms Stop h at room q = absurd q
 put_event n s items views pass f c ms Quit h at room q = absurd q
 
 close_event : (n : Size) (s : State) (items : List Taken) (views : List (List Part)) (pass f w c x y : ℕ) (v : List Part) (m : Taken)
-    → IsLaneAt n s items views → get_elem? views pass ≡ some (Close f w c x y ∷ v) → length items < c → IsFree Closer v → CloseSends f w x y v m
-    → Allowed n s (send_event m) × IsLaneAt n (after s (send_event m)) (items ++ m ∷ []) (set views pass (with_message (Close f w c x y ∷ v) m))
+    → IsLaneAt n s items views → get_elem? views pass ≡ some (Close f w c x y ∷ v) → length items < c → IsFree Closer v
+    → CloseSends f w x y v m
+    → Allowed n s (send_event m) × IsLaneAt n (after s (send_event m))
+    (items ++ m ∷ []) (set views pass (with_message (Close f w c x y ∷ v) m))
 close_event n s items views pass f w c x y v (Row g p b) h at room free q = absurd q
 close_event n s items views pass f w c x y v (End g k) h at room free q = absurd q
 close_event n s items views pass f w c x y v Stop h at room free q =
-    let r = stop_is n s items views pass f w c x y v h at free room q.0 q.1 q.2 in
-    (r.0, subst (λ k. IsLaneAt n (after s PutStop) (items ++ Stop ∷ []) (set views pass (Close f w c (x + 1) k ∷ v))) (let z : y ≡ y + 0 = omega arith in z) r.1)
+    let r = stop_is n s items views pass f w c x y v h at free room q.0 q.1 q.2 in (
+      r.0,
+      subst (λ k. IsLaneAt n (after s PutStop) (items ++ Stop ∷ []) (set views pass (Close f w c (x + 1) k ∷ v))) (let z : y ≡ y + 0 =
+          omega arith in z) r.1,
+    )
 close_event n s items views pass f w c x y v Quit h at room free q =
-    let r = quit_is n s items views pass f w c x y v h at free room q.0 q.1 in
-    (r.0, subst (λ k. IsLaneAt n (after s PutQuit) (items ++ Quit ∷ []) (set views pass (Close f w c k (y + 1) ∷ v))) (let z : x ≡ x + 0 = omega arith in z) r.1)
+    let r = quit_is n s items views pass f w c x y v h at free room q.0 q.1 in (
+      r.0,
+      subst (λ k. IsLaneAt n (after s PutQuit) (items ++ Quit ∷ []) (set views pass (Close f w c k (y + 1) ∷ v))) (let z : x ≡ x + 0 =
+          omega arith in z) r.1,
+    )
 
 pub send_is_an_event : SendIsAnEvent
 send_is_an_event n s items views pass capacity [] m h at room q = absurd q
 send_is_an_event n s items views pass capacity (Count f w c ∷ v) m h at room q = absurd q
 send_is_an_event n s items views pass capacity (Take w c ms ∷ v) m h at room q = absurd q
 send_is_an_event n s items views pass capacity (Put f c ms ∷ v) m h at room q =
-    subst (λ u. Allowed n s (send_event m) × IsLaneAt n (after s (send_event m)) (items ++ m ∷ []) (set views pass (with_message (Put f c ms ∷ u) m))) (sym q.0)
+    subst (λ u. Allowed n s (send_event m)
+    × IsLaneAt n (after s (send_event m)) (items ++ m ∷ []) (set views pass (with_message (Put f c ms ∷ u) m))) (sym q.0)
     (put_event n s items views pass f c ms m h (at ∙ ap (λ u. some (Put f c ms ∷ u)) q.0) (let cap = q.1 in omega arith) q.2)
-send_is_an_event n s items views pass capacity (Close f w c x y ∷ v) m h at room q = close_event n s items views pass f w c x y v m h at (let cap = q.1 in omega arith) q.0 q.2
+send_is_an_event n s items views pass capacity (Close f w c x y ∷ v) m h at room q =
+    close_event n s items views pass f w c x y v m h at (let cap = q.1 in omega arith) q.0 q.2
 
 pub receive_is_an_event : ReceiveIsAnEvent
 receive_is_an_event n s m items views pass [] h at q = absurd q

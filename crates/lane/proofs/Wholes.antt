@@ -18,7 +18,8 @@ use Rattle.lane.proofs.Messages.{ended_from, counted_none}
 
 over_least : (n : ℕ) (g : ℕ → ℕ) → ((k : ℕ) → k < n → 1 ≤ g k) → n ≤ over n g
 over_least zero g h = omega arith
-over_least (suc n) g h = let r = over_least n g (λ k l. h k (omega arith)) in let l = h n (omega arith) in let goal : suc n ≤ over n g + g n = omega arith in goal
+over_least (suc n) g h = let r = over_least n g (λ k l. h k (omega arith)) in let l =
+    h n (omega arith) in let goal : suc n ≤ over n g + g n = omega arith in goal
 
 -- a sum over takers from number k on
 over_from : (n k : ℕ) (g : ℕ → ℕ) → over (suc n) (λ j. g (j + k)) ≡ g k + over n (λ j. g (j + (k + 1)))
@@ -30,7 +31,9 @@ over_from (suc n) k g =
     goal
 
 -- the sum over the lists of takers k, k + 1, .. is the sum over these takers
-sum_over : (F : List Taken → ℕ) (took : ℕ → List Taken) (lists : List (List Taken)) (k : ℕ) → ((i : ℕ) (l : List Taken) → slice_get lists i ≡ Some l → l ≡ took (i + k)) → sum_by F lists ≡ over (length lists) (λ j. F (took (j + k)))
+sum_over : (F : List Taken → ℕ) (took : ℕ → List Taken) (lists : List (List Taken)) (k : ℕ)
+    → ((i : ℕ) (l : List Taken) → slice_get lists i ≡ Some l → l ≡ took (i + k))
+    → sum_by F lists ≡ over (length lists) (λ j. F (took (j + k)))
 sum_over F took [] k h = refl
 sum_over F took (l ∷ ls) k h =
     let first : l ≡ took (0 + k) = h 0 l refl in
@@ -38,10 +41,13 @@ sum_over F took (l ∷ ls) k h =
     let rest = sum_over F took ls (k + 1) (λ i x e. h (suc i) x e ∙ ap took (let z : suc i + k ≡ i + (k + 1) = omega arith in z)) in
     sum_by-cons F l ls ∙ ((λ i. first' i + rest i) ∙ sym (over_from (length ls) k (λ j. F (took j))))
 
-sum_all : (F : List Taken → ℕ) (took : ℕ → List Taken) (lists : List (List Taken)) (n : ℕ) → length lists ≡ n → ((i : ℕ) (l : List Taken) → slice_get lists i ≡ Some l → l ≡ took i) → sum_by F lists ≡ over n (λ j. F (took j))
+sum_all : (F : List Taken → ℕ) (took : ℕ → List Taken) (lists : List (List Taken)) (n : ℕ) → length lists ≡ n
+    → ((i : ℕ) (l : List Taken) → slice_get lists i ≡ Some l → l ≡ took i) → sum_by F lists ≡ over n (λ j. F (took j))
 sum_all F took lists n len h =
     let zero_is : (i : ℕ) → i + 0 ≡ i = λ i. omega arith in
-    sum_over F took lists 0 (λ i l e. h i l e ∙ ap took (sym (zero_is i))) ∙ (over_same (length lists) (λ j. F (took (j + 0))) (λ j. F (took j)) (λ j l. ap (λ i. F (took i)) (zero_is j)) ∙ ap (λ k. over k (λ j. F (took j))) len)
+    sum_over F took lists 0 (λ i l e. h i l e ∙ ap took (sym (zero_is i)))
+    ∙ (over_same (length lists) (λ j. F (took (j + 0))) (λ j. F (took j)) (λ j l. ap (λ i. F (took i)) (zero_is j))
+    ∙ ap (λ k. over k (λ j. F (took j))) len)
 
 -- a done taker that took no Quit took a Stop, and that is its last
 ends_in_stop : (ms : List Taken) → is_done ms ≡ true → count_by is_quit ms ≡ 0 → MarksLast ms → EndsInStop ms
@@ -60,7 +66,8 @@ has_stop (Quit ∷ ms) h = absurd h
 
 no_stops_left : (ms : List Taken) → AreStops ms → count_by is_stop ms ≡ 0 → ms ≡ []
 no_stops_left [] h c = refl
-no_stops_left (m ∷ ms) h c = absurd (true≢false (sym h.0 ∙ (counted_none (is_stop m) (count_by is_stop ms) (sym (count_front is_stop m ms) ∙ c)).0))
+no_stops_left (m ∷ ms) h c =
+    absurd (true≢false (sym h.0 ∙ (counted_none (is_stop m) (count_by is_stop ms) (sym (count_front is_stop m ms) ∙ c)).0))
 
 -- what holds at each index holds of all
 all_at : {A : Type 0} (P : A → Type 0) (xs : List A) → ((i : ℕ) (x : A) → slice_get xs i ≡ Some x → P x) → AllByRecursion P xs
@@ -75,7 +82,8 @@ some_at (x ∷ xs) (suc i) l = some_at xs i (omega arith)
 -- all Stops were put, and the lists are those of the lane's files and takers, who are all done
 module _ (n : Size) (s : State) (h : IsLawful n s) (sent took : List (List Taken))
     (files : length sent ≡ n.files) (takers : length took ≡ n.takers) (some' : 0 < n.takers)
-    (sent_is : (f : ℕ) (l : List Taken) → slice_get sent f ≡ Some l → l ≡ s.sent f) (took_is : (w : ℕ) (l : List Taken) → slice_get took w ≡ Some l → l ≡ s.took w)
+    (sent_is : (f : ℕ) (l : List Taken) → slice_get sent f ≡ Some l → l ≡ s.sent f)
+    (took_is : (w : ℕ) (l : List Taken) → slice_get took w ≡ Some l → l ≡ s.took w)
     (done : AllByRecursion (λ l. is_done l ≡ true) took) (stops : s.stops ≡ n.takers) where
   no_quits : s.quits ≡ 0
   no_quits = ⊎_elim (λ (z : s.stops ≡ 0). absurd (omega arith)) (λ (z : s.quits ≡ 0). z) h.one_kind
@@ -83,7 +91,8 @@ module _ (n : Size) (s : State) (h : IsLawful n s) (sent took : List (List Taken
   taken_quits : (w : ℕ) → w < n.takers → count_by is_quit (s.took w) ≡ 0
   taken_quits w l = let c = over_le n.takers (λ v. count_by is_quit (s.took v)) w l in omega (arith, h.quits, no_quits)
 
-  done_at : (xs : List (List Taken)) (i : ℕ) (x : List Taken) → AllByRecursion (λ l. is_done l ≡ true) xs → slice_get xs i ≡ Some x → is_done x ≡ true
+  done_at : (xs : List (List Taken)) (i : ℕ) (x : List Taken) → AllByRecursion (λ l. is_done l ≡ true) xs → slice_get xs i ≡ Some x
+      → is_done x ≡ true
   done_at [] i x d e = absurd (cc)
   done_at (y ∷ xs) zero x d e = let q : y ≡ x = cc in ap is_done (sym q) ∙ d.0
   done_at (y ∷ xs) (suc i) x d e = done_at xs i x d.1 e
@@ -97,7 +106,9 @@ module _ (n : Size) (s : State) (h : IsLawful n s) (sent took : List (List Taken
   pub queue_empty : s.queue ≡ []
   queue_empty =
       let all = over_least n.takers (λ w. count_by is_stop (s.took w)) (λ w l. has_stop (s.took w) (taker_stops w l)) in
-      no_stops_left s.queue (h.stopped 0 (let c = has_stop (s.took 0) (taker_stops 0 some') in let z : 0 < count_by is_stop (s.took 0) = omega arith in z)) (omega (arith, h.stops, all))
+      no_stops_left s.queue (h.stopped 0
+      (let c = has_stop (s.took 0) (taker_stops 0 some') in let z : 0 < count_by is_stop (s.took 0) =
+      omega arith in z)) (omega (arith, h.stops, all))
 
   all_left : (f : ℕ) → h.left f ≡ length (s.sent f)
   all_left f =
@@ -105,9 +116,11 @@ module _ (n : Size) (s : State) (h : IsLawful n s) (sent took : List (List Taken
       let l = ap (λ (x : List Taken). length x) e in
       omega (arith, length-drop (h.left f) (s.sent f), h.within f)
 
-  sent_here : (f : ℕ) (p : ℕ) (m : Taken) → slice_get (s.sent f) p ≡ Some m → (l : List Taken) × (slice_get sent f ≡ Some l) × (slice_get l p ≡ Some m)
+  sent_here : (f : ℕ) (p : ℕ) (m : Taken) → slice_get (s.sent f) p ≡ Some m → (l : List Taken) × (slice_get sent f ≡ Some l)
+      × (slice_get l p ≡ Some m)
   sent_here f p m e =
-      let below : f < n.files = ⊎_elim (λ (l : f < n.files). l) (λ (l : n.files ≤ f). absurd (let q : slice_get (s.sent f) p ≡ None = ap (λ (x : List Taken). slice_get x p) (h.files f l) in let z : ⊥ = cc in z)) (cases_lt f n.files) in
+      let below : f < n.files = ⊎_elim (λ (l : f < n.files). l) (λ (l : n.files ≤ f). absurd (let q : slice_get (s.sent f) p ≡ None =
+      ap (λ (x : List Taken). slice_get x p) (h.files f l) in let z : ⊥ = cc in z)) (cases_lt f n.files) in
       let x = some_at sent f (omega arith) in
       (x.0, x.1, ap (λ (l : List Taken). slice_get l p) (sent_is f x.0 x.1) ∙ e)
 
@@ -129,9 +142,14 @@ module _ (n : Size) (s : State) (h : IsLawful n s) (sent took : List (List Taken
         subst (IsEndedFrom f 0) (sym same) (ended_from f 0 (s.sent f) (h.lists f) (h.ended (omega arith) f below));
     once = λ f p l e below.
         let same = ap (λ (x : List Taken). length x) (sent_is f l e) in
-        sum_all (λ (x : List Taken). count_by (is_at f p) x) s.took took n.takers takers took_is ∙ (h.once f p ∙ ap (λ (b : Bool). cond {A = ℕ} b 1 0) (lt-ltb p (h.left f) (omega (arith, all_left f))));
+        sum_all (λ (x : List Taken). count_by (is_at f p) x) s.took took n.takers takers took_is
+        ∙ (h.once f p ∙ ap (λ (b : Bool). cond {A = ℕ} b 1 0) (lt-ltb p (h.left f) (omega (arith, all_left f))));
     only = All-from_recursion (λ (x : List Taken). All (IsSent sent) x) took (all_at (λ (x : List Taken). All (IsSent sent) x) took
-        (λ w l e. All-from_recursion (IsSent sent) l (weaker (IsPlaced s.sent h.left) (IsSent sent) was_sent l (subst (AllByRecursion (IsPlaced s.sent h.left)) (sym (took_is w l e)) (h.placed w)))));
-    stops = All-from_recursion EndsInStop took (all_at EndsInStop took (λ w l e. subst EndsInStop (sym (took_is w l e)) (taker_stops w (let z = slice_get_within took w l e in omega arith))));
+        (λ w l e. All-from_recursion (IsSent sent) l
+        (weaker (IsPlaced s.sent h.left) (IsSent sent) was_sent l
+        (subst (AllByRecursion (IsPlaced s.sent h.left)) (sym (took_is w l e)) (h.placed w)))));
+    stops = All-from_recursion EndsInStop took
+        (all_at EndsInStop took (λ w l e. subst EndsInStop (sym (took_is w l e))
+        (taker_stops w (let z = slice_get_within took w l e in omega arith))));
     rises = All-from_recursion Rises took (all_at Rises took (λ w l e. subst Rises (sym (took_is w l e)) (h.rises w)));
   }

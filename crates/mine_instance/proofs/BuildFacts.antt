@@ -39,9 +39,11 @@ pub pairs_next : (resources : List Resource) (d : ℕ)
     → flat_map (covering resources) (range_with_len 0 (d + 1)) ≡ flat_map (covering resources) (range_with_len 0 d) ++ covering resources d
 pairs_next resources d =
     ap (flat_map (covering resources)) (range_more 0 d) ∙ flat_map-append (covering resources) (range_with_len 0 d) ((0 + d) ∷ [])
-    ∙ ap (λ last. flat_map (covering resources) (range_with_len 0 d) ++ last) (append-nil (covering resources (0 + d)) ∙ ap (covering resources) (omega arith))
+    ∙ ap (λ last. flat_map (covering resources) (range_with_len 0 d) ++ last) (append-nil (covering resources (0 + d))
+    ∙ ap (covering resources) (omega arith))
 
-numbered-append : {X : Type 0} (n : ℕ) (xs ys : List X) → enumerate_from n (xs ++ ys) ≡ enumerate_from n xs ++ enumerate_from (n + length xs) ys
+numbered-append : {X : Type 0} (n : ℕ) (xs ys : List X)
+    → enumerate_from n (xs ++ ys) ≡ enumerate_from n xs ++ enumerate_from (n + length xs) ys
 numbered-append n [] ys = ap (λ k. enumerate_from k ys) (omega arith)
 numbered-append n (x ∷ xs) ys =
     ap (λ rest. (n, x) ∷ rest) (numbered-append (n + 1) xs ys ∙ ap (λ k. enumerate_from (n + 1) xs ++ enumerate_from k ys) (omega arith))
@@ -51,7 +53,8 @@ pub coefs_next : (pairs : List (ℕ × ℕ)) (blocks : List Block) (i : ℕ) (b 
     → coefs_of pairs (take (i + 1) blocks) ≡ coefs_of pairs (take i blocks) ++ block_coefs pairs (i, b)
 coefs_next pairs blocks i b h is =
     ap (coefs_of pairs) (take_more blocks i b h ∙ ap (λ x. take i blocks ++ x ∷ []) (sym is))
-    ∙ ap (flat_map (block_coefs pairs)) (numbered-append 0 (take i blocks) (b ∷ []) ∙ ap (λ k. enumerate_from 0 (take i blocks) ++ (k, b) ∷ []) at)
+    ∙ ap (flat_map (block_coefs pairs))
+    (numbered-append 0 (take i blocks) (b ∷ []) ∙ ap (λ k. enumerate_from 0 (take i blocks) ++ (k, b) ∷ []) at)
     ∙ flat_map-append (block_coefs pairs) (enumerate_from 0 (take i blocks)) ((i, b) ∷ [])
     ∙ ap (λ last. coefs_of pairs (take i blocks) ++ last) (append-nil (block_coefs pairs (i, b)))
   where
@@ -153,7 +156,8 @@ all_found f g a (suc m) each =
 pub by_identifier_is : (listed : List Block) (n : NumberingView) → IsNumbering listed n → by_identifier listed ≡ n.blocks
 by_identifier_is listed n is =
     ap (λ m. filter_map (block_with listed) (range_with_len 0 m)) (sym is.blocks)
-    ∙ all_found (block_with listed) (λ k. get_or n.blocks k blank) 0 (length n.blocks) (λ k h. block_found listed n is k blank (omega arith))
+    ∙ all_found (block_with listed) (λ k. get_or n.blocks k blank) 0 (length n.blocks)
+    (λ k h. block_found listed n is k blank (omega arith))
     ∙ sym (fill_by_all (λ k. get_or n.blocks k blank) n.blocks (length n.blocks) blank refl (λ k h. refl))
   where
     blank : Block

@@ -28,7 +28,8 @@ listed : (values : List (List ℤ)) (c e : Coef) → is_chosen values c ≡ true
 listed values c e p q h = in_order (destination_of values) c.b e.b c.d e.d c.r e.r (eqb-true _ _ p) (eqb-true _ _ q) h
   where
     in_order : (f : ℕ → ℕ) (b b' d d' r r' : ℕ) → d ≡ f b → d' ≡ f b'
-        → (nat_lt b b' || ((b == b') && (nat_lt d d' || ((d == d') && nat_lt r r')))) ≡ true → (nat_lt b b' || ((b == b') && nat_lt r r')) ≡ true
+        → (nat_lt b b' || ((b == b') && (nat_lt d d' || ((d == d') && nat_lt r r')))) ≡ true
+        → (nat_lt b b' || ((b == b') && nat_lt r r')) ≡ true
     in_order f b b' d d' r r' p q h = grind (arith, nat_tests)
 
 -- what a filter leaves passes
@@ -36,7 +37,8 @@ kept_pass : (p : Coef → Bool) (coefs : List Coef) → All (λ c. p c ≡ true)
 kept_pass p [] = All-nil (λ c. p c ≡ true)
 kept_pass p (c ∷ coefs) = at (kept_pass p coefs) (p c) refl
   where
-    at : All (λ c. p c ≡ true) (filter p coefs) → (b : Bool) → p c ≡ b → All (λ c. p c ≡ true) (cond b (c ∷ filter p coefs) (filter p coefs))
+    at : All (λ c. p c ≡ true) (filter p coefs) → (b : Bool) → p c ≡ b
+        → All (λ c. p c ≡ true) (cond b (c ∷ filter p coefs) (filter p coefs))
     at rest true e = All-cons (λ c. p c ≡ true) c (filter p coefs) e rest
     at rest false e = rest
 
@@ -92,7 +94,9 @@ coefs_there i v = All-weaker (λ c. (c.b < length i.blocks) × (c.d < i.destinat
     (λ c h. let same : length i.values ≡ length i.blocks = v.lengths.values in omega arith) i.coefs v.coefs.in_range
 
 -- and so are those that were found by the blocks' destinations
-pub coefs_are_chosen : (i : Instance) (destinations : List ℕ) (coefs : List CpitCoef) → IsValid i → destinations ≡ map first_greatest i.values
-    → coefs ≡ map without_destination (filter (is_at destinations) i.coefs) → coefs ≡ map without_destination (filter (is_chosen i.values) i.coefs)
+pub coefs_are_chosen : (i : Instance) (destinations : List ℕ) (coefs : List CpitCoef) → IsValid i
+    → destinations ≡ map first_greatest i.values
+    → coefs ≡ map without_destination (filter (is_at destinations) i.coefs)
+    → coefs ≡ map without_destination (filter (is_chosen i.values) i.coefs)
 coefs_are_chosen i destinations coefs v is of_coefs =
     of_coefs ∙ ap (map without_destination) (same_destinations i.values destinations i.coefs is (coefs_there i v))

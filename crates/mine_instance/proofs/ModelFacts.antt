@@ -79,7 +79,8 @@ places_in t n (x ∷ xs) = at (t x) (All-weaker (λ p. (n + 1 ≤ p) × (p < n +
 places_rise : {X : Type 0} (t : X → Bool) (n : ℕ) (xs : List X) → AllPairs (λ p q. p < q) (places_where t n xs)
 places_rise t n [] = λ i j d h k. absurd (omega arith)
 places_rise t n (x ∷ xs) = at (t x)
-    (All-weaker (λ p. (n + 1 ≤ p) × (p < n + 1 + length xs)) (λ p. n < p) (λ p h. omega arith) (places_where t (n + 1) xs) (places_in t (n + 1) xs))
+    (All-weaker (λ p. (n + 1 ≤ p) × (p < n + 1 + length xs)) (λ p. n < p) (λ p h. omega arith)
+    (places_where t (n + 1) xs) (places_in t (n + 1) xs))
     (places_rise t (n + 1) xs)
   where
     at : (b : Bool) → All (λ p. n < p) (places_where t (n + 1) xs) → AllPairs (λ p q. p < q) (places_where t (n + 1) xs)
@@ -92,7 +93,8 @@ places_without : {X : Type 0} (t : X → Bool) (n : ℕ) (xs : List X) (m : ℕ)
     → All (λ p. p ≢ n + m) (places_where t n xs)
 places_without t n [] m d h e = absurd (omega arith)
 places_without t n (x ∷ xs) zero d h e = at (t x) e
-    (All-weaker (λ p. (n + 1 ≤ p) × (p < n + 1 + length xs)) (λ p. p ≢ n + 0) (λ p g same. omega arith) (places_where t (n + 1) xs) (places_in t (n + 1) xs))
+    (All-weaker (λ p. (n + 1 ≤ p) × (p < n + 1 + length xs)) (λ p. p ≢ n + 0) (λ p g same. omega arith)
+    (places_where t (n + 1) xs) (places_in t (n + 1) xs))
   where
     at : (b : Bool) → b ≡ false → All (λ p. p ≢ n + 0) (places_where t (n + 1) xs)
         → All (λ p. p ≢ n + 0) (cond b (n ∷ places_where t (n + 1) xs) (places_where t (n + 1) xs))
@@ -156,13 +158,15 @@ numbered_in n [] = All-nil (λ e. (n ≤ e.0) × (e.0 < n + 0))
 numbered_in {X} n (x ∷ xs) =
     let P : ℕ × X → Type 0 = λ e. (n ≤ e.0) × (e.0 < n + suc (length xs)) in
     All-cons P (n, x) (enumerate_from (n + 1) xs) (omega arith, omega arith)
-    (All-weaker (λ (e : ℕ × X). (n + 1 ≤ e.0) × (e.0 < n + 1 + length xs)) P (λ e h. (omega arith, omega arith)) (enumerate_from (n + 1) xs) (numbered_in (n + 1) xs))
+    (All-weaker (λ (e : ℕ × X). (n + 1 ≤ e.0) × (e.0 < n + 1 + length xs)) P (λ e h. (omega arith, omega arith))
+    (enumerate_from (n + 1) xs) (numbered_in (n + 1) xs))
 
 numbered_rise : {X : Type 0} (n : ℕ) (xs : List X) → AllPairs (λ e f. e.0 < f.0) (enumerate_from n xs)
 numbered_rise n [] = λ i j d h k. absurd (omega arith)
 numbered_rise {X} n (x ∷ xs) =
     AllPairs-cons (λ (e f : ℕ × X). e.0 < f.0) (n, x) (enumerate_from (n + 1) xs)
-    (All-weaker (λ (e : ℕ × X). (n + 1 ≤ e.0) × (e.0 < n + 1 + length xs)) (λ e. n < e.0) (λ e h. omega arith) (enumerate_from (n + 1) xs) (numbered_in (n + 1) xs))
+    (All-weaker (λ (e : ℕ × X). (n + 1 ≤ e.0) × (e.0 < n + 1 + length xs)) (λ e. n < e.0) (λ e h. omega arith)
+    (enumerate_from (n + 1) xs) (numbered_in (n + 1) xs))
     (numbered_rise (n + 1) xs)
 
 -- by destination, then resource
@@ -174,12 +178,17 @@ covering_in resources d =
     All-map (λ (p : ℕ × ℕ). (p.0 ≡ d) × (p.1 < length resources)) (pair_with d) (filter (covers d) (enumerate_from 0 resources))
     (All-weaker (λ (e : ℕ × Resource). (0 ≤ e.0) × (e.0 < 0 + length resources)) (λ e. (d ≡ d) × (e.0 < length resources))
     (λ e h. (refl, omega arith)) (filter (covers d) (enumerate_from 0 resources))
-    (All-filter (covers d) (λ (e : ℕ × Resource). (0 ≤ e.0) × (e.0 < 0 + length resources)) (enumerate_from 0 resources) (numbered_in 0 resources)))
+    (All-filter (covers d) (λ (e : ℕ × Resource). (0 ≤ e.0) × (e.0 < 0 + length resources))
+    (enumerate_from 0 resources) (numbered_in 0 resources)))
 
 covering_rise : (resources : List Resource) (d : ℕ) → AllPairs PairBefore (covering resources d)
 covering_rise resources d =
     pairs_map PairBefore (pair_with d) (filter (covers d) (enumerate_from 0 resources))
-    (λ i j e h k. inr (refl, AllPairs-filter (λ (e f : ℕ × Resource). e.0 < f.0) (covers d) (enumerate_from 0 resources) (numbered_rise 0 resources) i j e h k))
+    (λ i j e h k. inr (
+      refl,
+      AllPairs-filter (λ (e f : ℕ × Resource). e.0 < f.0) (covers d)
+          (enumerate_from 0 resources) (numbered_rise 0 resources) i j e h k,
+    ))
 
 covered_in : (resources : List Resource) (a m : ℕ)
     → All (λ p. (a ≤ p.0) × (p.0 < a + m) × (p.1 < length resources)) (flat_map (covering resources) (range_with_len a m))
@@ -187,7 +196,8 @@ covered_in resources a zero = All-nil (λ (p : ℕ × ℕ). (a ≤ p.0) × (p.0 
 covered_in resources a (suc m) =
     let P : ℕ × ℕ → Type 0 = λ p. (a ≤ p.0) × (p.0 < a + suc m) × (p.1 < length resources) in
     All-append P (covering resources a) (flat_map (covering resources) (range_with_len (a + 1) m))
-    (All-weaker (λ (p : ℕ × ℕ). (p.0 ≡ a) × (p.1 < length resources)) P (λ p h. (omega arith, omega arith, h.1)) (covering resources a) (covering_in resources a))
+    (All-weaker (λ (p : ℕ × ℕ). (p.0 ≡ a) × (p.1 < length resources)) P (λ p h. (omega arith, omega arith, h.1))
+    (covering resources a) (covering_in resources a))
     (All-weaker (λ (p : ℕ × ℕ). (a + 1 ≤ p.0) × (p.0 < a + 1 + m) × (p.1 < length resources)) P (λ p h. (omega arith, omega arith, h.2))
     (flat_map (covering resources) (range_with_len (a + 1) m)) (covered_in resources (a + 1) m))
 
@@ -196,7 +206,8 @@ covered_rise resources a zero = λ i j d h k. absurd (omega arith)
 covered_rise resources a (suc m) =
     pairs_append PairBefore (covering resources a) (flat_map (covering resources) (range_with_len (a + 1) m))
     (covering_rise resources a) (covered_rise resources (a + 1) m)
-    (across PairBefore (λ (p : ℕ × ℕ). (p.0 ≡ a) × (p.1 < length resources)) (λ (p : ℕ × ℕ). (a + 1 ≤ p.0) × (p.0 < a + 1 + m) × (p.1 < length resources))
+    (across PairBefore (λ (p : ℕ × ℕ). (p.0 ≡ a) × (p.1 < length resources))
+    (λ (p : ℕ × ℕ). (a + 1 ≤ p.0) × (p.0 < a + 1 + m) × (p.1 < length resources))
     (λ p q h k. inl (omega arith)) (covering resources a) (flat_map (covering resources) (range_with_len (a + 1) m))
     (covering_in resources a) (covered_in resources (a + 1) m))
 
@@ -234,7 +245,8 @@ coefs_in nd nr pairs n [] fit = All-nil (λ (c : Coef). (n ≤ c.b) × (c.b < n 
 coefs_in nd nr pairs n (b ∷ bs) fit =
     let P : Coef → Type 0 = λ c. (n ≤ c.b) × (c.b < n + suc (length bs)) × (c.d < nd) × (c.r < nr) in
     All-append P (block_coefs pairs (n, b)) (flat_map (block_coefs pairs) (enumerate_from (n + 1) bs))
-    (All-weaker (λ (c : Coef). (c.b ≡ n) × (c.d < nd) × (c.r < nr)) P (λ c h. (omega arith, omega arith, h.1, h.2)) (block_coefs pairs (n, b))
+    (All-weaker (λ (c : Coef). (c.b ≡ n) × (c.d < nd) × (c.r < nr)) P
+    (λ c h. (omega arith, omega arith, h.1, h.2)) (block_coefs pairs (n, b))
     (block_coefs_in nd nr pairs n b fit))
     (All-weaker (λ (c : Coef). (n + 1 ≤ c.b) × (c.b < n + 1 + length bs) × (c.d < nd) × (c.r < nr)) P
     (λ c h. (omega arith, omega arith, h.2, h.3)) (flat_map (block_coefs pairs) (enumerate_from (n + 1) bs))
@@ -246,7 +258,8 @@ block_order c e h = in_order c.b e.b _ h
     in_order : (m n : ℕ) (q : Bool) → m < n → (nat_lt m n || q) ≡ true
     in_order m n q h = grind (arith, nat_tests)
 
-coefs_rise : (nd nr : ℕ) (pairs : List (ℕ × ℕ)) (n : ℕ) (blocks : List Block) → All (λ p. (p.0 < nd) × (p.1 < nr)) pairs → AllPairs PairBefore pairs
+coefs_rise : (nd nr : ℕ) (pairs : List (ℕ × ℕ)) (n : ℕ) (blocks : List Block) → All (λ p. (p.0 < nd) × (p.1 < nr)) pairs
+    → AllPairs PairBefore pairs
     → AllPairs (λ c e. IsTrue (comes_before c e)) (flat_map (block_coefs pairs) (enumerate_from n blocks))
 coefs_rise nd nr pairs n [] fit rise = λ i j d h k. absurd (omega arith)
 coefs_rise nd nr pairs n (b ∷ bs) fit rise =
@@ -263,16 +276,19 @@ coefs_are plan blocks =
     let nd = length plan.formulas in
     let nr = length plan.resources in
     let fit : All (λ p. (p.0 < nd) × (p.1 < nr)) (covered plan) =
-    All-weaker (λ (p : ℕ × ℕ). (0 ≤ p.0) × (p.0 < 0 + nd) × (p.1 < nr)) (λ p. (p.0 < nd) × (p.1 < nr)) (λ p h. (omega arith, h.2)) (covered plan)
+    All-weaker (λ (p : ℕ × ℕ). (0 ≤ p.0) × (p.0 < 0 + nd) × (p.1 < nr)) (λ p. (p.0 < nd) × (p.1 < nr)) (λ p h. (omega arith, h.2))
+    (covered plan)
     (covered_in plan.resources 0 nd) in
     record {
-      in_range = All-weaker (λ (c : Coef). (0 ≤ c.b) × (c.b < 0 + length blocks) × (c.d < nd) × (c.r < nr)) (λ c. (c.b < length blocks) × (c.d < nd) × (c.r < nr))
+      in_range = All-weaker (λ (c : Coef). (0 ≤ c.b) × (c.b < 0 + length blocks) × (c.d < nd) × (c.r < nr)) (λ c. (c.b < length blocks)
+          × (c.d < nd) × (c.r < nr))
           (λ c h. (omega arith, h.2, h.3)) (coefs_of (covered plan) blocks) (coefs_in nd nr (covered plan) 0 blocks fit);
       rising = coefs_rise nd nr (covered plan) 0 blocks fit (covered_rise plan.resources 0 nd);
     }
 
 -- the instance of a plan and of blocks by identifier is valid
-pub instance_is_valid : (plan : PlanParts) (blocks : List Block) → IsPlan plan → length blocks ≤ 64000000 → IsValid (instance_of plan blocks)
+pub instance_is_valid : (plan : PlanParts) (blocks : List Block) → IsPlan plan → length blocks ≤ 64000000
+    → IsValid (instance_of plan blocks)
 instance_is_valid plan blocks is few = record {
   lengths = record {
     few = few;
@@ -283,7 +299,8 @@ instance_is_valid plan blocks is few = record {
   horizon = record { periods_1_to_100 = is.periods; at_most_8_resources = is.resources; rate_0_to_1 = is.rate };
   destinations = record {
     from_1_to_8 = is.destinations;
-    one_each = All-map (λ vs. length vs ≡ length plan.formulas) (values_of plan) blocks (λ k d h. length-values_of plan (get_or blocks k d));
+    one_each =
+        All-map (λ vs. length vs ≡ length plan.formulas) (values_of plan) blocks (λ k d h. length-values_of plan (get_or blocks k d));
   };
   coefs = coefs_are plan blocks;
   limits = limits_are plan is;
@@ -293,7 +310,8 @@ instance_is_valid plan blocks is few = record {
 pub built_is : (plan : PlanParts) (blocks : List Block) (name : List ℕ) (rate : ℤ) (periods destinations resources : ℕ) (own : List Block)
     (lists : List (List ℕ)) (values : List (List ℤ)) (coefs : List Coef) (limits : List Limit)
     → name ≡ plan.name → rate ≡ plan.rate → periods ≡ plan.periods → destinations ≡ length plan.formulas → resources ≡ length plan.resources
-    → own ≡ blocks → lists ≡ preds plan blocks → values ≡ map (values_of plan) blocks → coefs ≡ coefs_of (covered plan) blocks → limits ≡ plan.limits
+    → own ≡ blocks → lists ≡ preds plan blocks → values ≡ map (values_of plan) blocks → coefs ≡ coefs_of (covered plan) blocks
+    → limits ≡ plan.limits
     → instance_with name rate periods destinations resources own lists values coefs limits ≡ instance_of plan blocks
 built_is plan blocks name rate periods destinations resources own lists values coefs limits a b c d e f g h i j =
     rw (a, b, c, d, e, f, g, h, i, j) refl

@@ -50,7 +50,8 @@ rows_of-push (suc n) width items row whole wide =
     (ap (λ rows. take width items ∷ rows) (rows_of-push n width (drop width items) row (rest_whole n width items whole) wide))
 
 -- the rows join to the items
-pub rows_of-flat : {A : Type 0} (n width : ℕ) (items : List A) → length items ≡ n * width → flat_map (λ row. row) (rows_of n width items) ≡ items
+pub rows_of-flat : {A : Type 0} (n width : ℕ) (items : List A) → length items ≡ n * width
+    → flat_map (λ row. row) (rows_of n width items) ≡ items
 rows_of-flat zero width [] whole = refl
 rows_of-flat zero width (x ∷ items) whole = absurd (grind arith)
 rows_of-flat (suc n) width items whole =
@@ -59,7 +60,8 @@ rows_of-flat (suc n) width items whole =
     ∙ take-append-drop width items
 
 -- one more row behind rows that are as long, where the width of no rows is any
-pub row_pushed : {A : Type 0} (n width : ℕ) (items row : List A) → length items ≡ n * width → All (λ r. length r ≡ length row) (rows_of n width items)
+pub row_pushed : {A : Type 0} (n width : ℕ) (items row : List A) → length items ≡ n * width
+    → All (λ r. length r ≡ length row) (rows_of n width items)
     → (length items ≡ n * length row) × (rows_of (n + 1) (length row) (items ++ row) ≡ rows_of n width items ++ row ∷ [])
 row_pushed zero width items row whole all =
     let none : length items ≡ 0 * length row = grind arith in

@@ -55,9 +55,11 @@ block_back n b line spelled = record {
 }
 
 -- numbers in range are those of their block
-seven_again : (id x y z tonnes grade zone : ℕ) → x < 10000 → y < 10000 → z < 10000 → tonnes ≤ 10 ^ 12 → grade ≤ 10 ^ 12 → zone < 64 → tonnes % 10 ^ 3 ≡ 0
+seven_again : (id x y z tonnes grade zone : ℕ) → x < 10000 → y < 10000 → z < 10000 → tonnes ≤ 10 ^ 12 → grade ≤ 10 ^ 12 → zone < 64
+    → tonnes % 10 ^ 3 ≡ 0
     → whole id ∷ whole x ∷ whole y ∷ whole z ∷ Millionths (pos tonnes) ∷ Millionths (pos grade) ∷ whole zone ∷ []
-    ≡ block_values id (block_of (whole id ∷ whole x ∷ whole y ∷ whole z ∷ Millionths (pos tonnes) ∷ Millionths (pos grade) ∷ whole zone ∷ []))
+    ≡ block_values id (block_of (whole id ∷ whole x ∷ whole y ∷ whole z ∷ Millionths (pos tonnes) ∷ Millionths (pos grade)
+    ∷ whole zone ∷ []))
 seven_again id x y z tonnes grade zone in_x in_y in_z few in_grade in_zone coarse =
     let kg : tonnes / 1000 ≤ 10 ^ 9 = omega arith in
     let p = block_parts x y z (tonnes / 1000) grade zone (in_x, in_y, in_z, kg, in_grade, in_zone) in
@@ -76,7 +78,8 @@ values_again before (v0 ∷ v1 ∷ v2 ∷ v3 ∷ v4 ∷ v5 ∷ v6 ∷ []) fit ow
     let grade = size_found 6 (10 ^ 12) v5 fit.1.1.1.1.1.0 in
     let zone = whole_found 64 v6 fit.1.1.1.1.1.1.0 in
     let values = v0 ∷ v1 ∷ v2 ∷ v3 ∷ v4 ∷ v5 ∷ v6 ∷ [] in
-    let are : values ≡ whole id.n ∷ whole x.n ∷ whole y.n ∷ whole z.n ∷ Millionths (pos tonnes.m) ∷ Millionths (pos grade.m) ∷ whole zone.n ∷ [] =
+    let are : values ≡ whole id.n ∷ whole x.n ∷ whole y.n ∷ whole z.n ∷ Millionths (pos tonnes.m) ∷ Millionths (pos grade.m)
+    ∷ whole zone.n ∷ [] =
     λ i. id.is i ∷ x.is i ∷ y.is i ∷ z.is i ∷ tonnes.is i ∷ grade.is i ∷ zone.is i ∷ [] in
     let first : id.n ≡ before = sym (quotient id.n) ∙ eqb-true _ before (subst (λ vs. (whole_at vs 0 == before) ≡ true) are own) in
     let again = seven_again id.n x.n y.n z.n tonnes.m grade.m zone.n x.low y.low z.low tonnes.low grade.low zone.low tonnes.coarse in (

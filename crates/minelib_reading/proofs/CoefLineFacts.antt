@@ -33,7 +33,8 @@ coef_plain Cpit n destinations resources = tt
 
 -- the values of a coefficient in range fit
 pub coef_fits : (problem : Problem) (n destinations resources : ℕ) (c : Coef) → n ≤ 10 ^ 18 → destinations ≤ 10 ^ 18 → resources ≤ 10 ^ 18
-    → (c.b < n) × (c.d < destinations) × (c.r < resources) → IsDecimal c.v → Fit (coef_form problem n destinations resources) (coef_values problem c)
+    → (c.b < n) × (c.d < destinations) × (c.r < resources) → IsDecimal c.v
+    → Fit (coef_form problem n destinations resources) (coef_values problem c)
 coef_fits Pcpsp n destinations resources c few some small range decimal = (
   whole_fits n c.b range.0 few,
   (whole_fits destinations c.d range.1 some, (whole_fits resources c.r range.2 small, (any_fits c.v decimal, tt))),
@@ -102,10 +103,13 @@ coef_steps problem n destinations resources fields = sym (steps_said problem n d
 pub coef_counted : (problem : Problem) (n destinations resources : ℕ) (fields : List (List ℕ)) (coef : Coef)
     → coef_alone problem n destinations resources fields ≡ Ok coef → coef_of problem n destinations resources fields ≡ Ok coef
 unfolding coef_alone coef_of
-coef_counted problem n destinations resources fields coef e = counted_later text_kinds (coef_form problem n destinations resources) fields _ coef e
+coef_counted problem n destinations resources fields coef e =
+    counted_later text_kinds (coef_form problem n destinations resources) fields _ coef e
 
 pub coef_kind : (problem : Problem) (n destinations resources : ℕ) (fields : List (List ℕ)) (kind : TextKind)
     → coef_alone problem n destinations resources fields ≡ Err kind
-    → coef_of problem n destinations resources fields ≡ Err (kind_by (length fields == length (coef_form problem n destinations resources)) kind)
+    → coef_of problem n destinations resources fields
+    ≡ Err (kind_by (length fields == length (coef_form problem n destinations resources)) kind)
 unfolding coef_alone coef_of
-coef_kind problem n destinations resources fields kind e = fault_later text_kinds (coef_form problem n destinations resources) fields _ kind e
+coef_kind problem n destinations resources fields kind e =
+    fault_later text_kinds (coef_form problem n destinations resources) fields _ kind e

@@ -34,7 +34,8 @@ preds_then own values = unless (failing ((preds_shape 0 own []).last values)) (O
 seven_end : (before id x y z tonnes grade zone : ℕ)
     → (if not (id == before) then Err Order else Ok (block_with x y z (tonnes / 1000) grade zone))
     ≡ block_then before (whole id ∷ whole x ∷ whole y ∷ whole z ∷ Millionths (pos tonnes) ∷ Millionths (pos grade) ∷ whole zone ∷ [])
-seven_end before id x y z tonnes grade zone = rw (quotient id, quotient x, quotient y, quotient z, quotient zone) (by (id == before) (block_with x y z (tonnes / 1000) grade zone))
+seven_end before id x y z tonnes grade zone =
+    rw (quotient id, quotient x, quotient y, quotient z, quotient zone) (by (id == before) (block_with x y z (tonnes / 1000) grade zone))
   where
     by : (t : Bool) (b : Block) → (if not t then Err Order else Ok b) ≡ unless (failing (check Order t)) (Ok b)
     by true b = refl
@@ -60,7 +61,8 @@ steps_said before fields =
     step (below GRID_CELLS) _ (whole_in GRID_CELLS) whole rest1 _ _ (whole_reads GRID_CELLS) (λ x rest2.
     step (below GRID_CELLS) _ (whole_in GRID_CELLS) whole rest2 _ _ (whole_reads GRID_CELLS) (λ y rest3.
     step (below GRID_CELLS) _ (whole_in GRID_CELLS) whole rest3 _ _ (whole_reads GRID_CELLS) (λ z rest4.
-    step (up_to 3 (MAX_KG * 1000)) _ (size_in 3 (MAX_KG * 1000)) (λ m. Millionths (pos m)) rest4 _ _ (size_reads 3 (MAX_KG * 1000)) (λ tonnes rest5.
+    step (up_to 3 (MAX_KG * 1000)) _ (size_in 3 (MAX_KG * 1000)) (λ m. Millionths (pos m)) rest4 _ _
+    (size_reads 3 (MAX_KG * 1000)) (λ tonnes rest5.
     step (up_to 6 MAX_GRADE) _ (size_in 6 MAX_GRADE) (λ m. Millionths (pos m)) rest5 _ _ (size_reads 6 MAX_GRADE) (λ grade rest6.
     step (below MAX_ZONES) _ (whole_in MAX_ZONES) whole rest6 _ _ (whole_reads MAX_ZONES) (λ zone rest7.
     last_step rest7 _ _ (seven_end before id x y z tonnes grade zone))))))))

@@ -70,7 +70,8 @@ unfolding decimal_in
 any_reads text = by (decimal_of 6 text) refl
   where
     by : (r : Result ℤ DecFault) → decimal_of 6 text ≡ r
-        → (number_of text_kind r >>= λ m. if int_le (negsuc (10 ^ 24 - 1)) m && int_le m (pos (10 ^ 24)) then Ok (Millionths m) else Err Range)
+        → (number_of text_kind r >>= λ m. if int_le (negsuc (10 ^ 24 - 1)) m
+        && int_le m (pos (10 ^ 24)) then Ok (Millionths m) else Err Range)
         ≡ (stated r >>= λ m. Ok (Millionths m))
     by (Ok m) e =
         let small : IsDecimal m = (read_stands 6 text m (omega arith) e).in_range in
@@ -90,7 +91,8 @@ plain_keyless : (bytes : List ℕ) → list_all is_plain bytes ≡ true → list
 plain_keyless bytes plain = none_from_all is_colon bytes (all_weaker is_plain (λ c. not (is_colon c)) plain_no_colon bytes plain)
 
 -- what spells such a form has no colon
-pub spelled_keyless : (form : List Field) (fields : List (List ℕ)) (values : List Value) → ArePlain form → Spell form fields values → have_colon fields ≡ false
+pub spelled_keyless : (form : List Field) (fields : List (List ℕ)) (values : List Value) → ArePlain form → Spell form fields values
+    → have_colon fields ≡ false
 spelled_keyless [] [] [] plain spell = refl
 spelled_keyless [] [] (value ∷ values) plain spell = absurd spell
 spelled_keyless [] (text ∷ fields) values plain spell = absurd spell
@@ -115,7 +117,8 @@ pub written_fields : (form : List Field) (values : List Value) → ArePlain form
 written_fields [] [] plain fit = tt
 written_fields [] (value ∷ values) plain fit = absurd fit
 written_fields (field ∷ form) [] plain fit = absurd fit
-written_fields (Decimal decimals low high ∷ form) (Millionths m ∷ values) plain fit = (decimal_field m fit.0.2, written_fields form values plain fit.1)
+written_fields (Decimal decimals low high ∷ form) (Millionths m ∷ values) plain fit =
+    (decimal_field m fit.0.2, written_fields form values plain fit.1)
 written_fields (Decimal decimals low high ∷ form) (Bytes word ∷ values) plain fit = absurd fit.0
 written_fields (Stepped decimals step low high ∷ form) (Millionths m ∷ values) plain fit =
     (decimal_field m fit.0.0.2, written_fields form values plain fit.1)

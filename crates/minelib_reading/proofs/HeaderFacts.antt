@@ -42,7 +42,8 @@ entry : (h : Header) (k : HeaderKey) (n : ℕ) (j : HeaderKey)
     → number_of (with_key h k n) j ≡ (if place j == place k then Some n else number_of h j)
 unfolding with_key
 entry h k n =
-    of_keys (λ j. number_of (with_key h k n) j ≡ (if place j == place k then Some n else number_of h j)) refl refl refl refl refl refl refl refl
+    of_keys (λ j. number_of (with_key h k n) j ≡ (if place j == place k then Some n else number_of h j))
+    refl refl refl refl refl refl refl refl
 
 -- what holds of a new number and of what was there for each other key holds of each key
 pub each_with : (P : HeaderKey → Option ℕ → Type 0) (h : Header) (k : HeaderKey) (n : ℕ) → P k (Some n)
@@ -97,7 +98,8 @@ each_given h all k =
 pub all_given : (h : Header) → ((k : HeaderKey) → is_given k h ≡ true) → is_complete h ≡ true
 all_given h all = list_all-from_AllPass (λ k. is_given k h) header_keys (λ i d inside. all (get_or header_keys i d))
 
-pub contains_cases : (k : HeaderKey) (keys : List HeaderKey) (j : HeaderKey) (i : ℕ) → i < length (k ∷ keys) → slice_index_or (k ∷ keys) i j ≡ j
+pub contains_cases : (k : HeaderKey) (keys : List HeaderKey) (j : HeaderKey) (i : ℕ) → i < length (k ∷ keys)
+    → slice_index_or (k ∷ keys) i j ≡ j
     → (k ≡ j) ⊎ Contains keys j
 contains_cases k keys j zero inside is = inl is
 contains_cases k keys j (suc i) inside is = inr (i, omega arith, is)

@@ -27,14 +27,16 @@ pub values_keyless : (n destinations before : ℕ) (line : List ℕ) (row : List
 unfolding values_of
 values_keyless n destinations before line row e =
     bind_then (read text_kinds (values_form n destinations) (fields_of line)) (values_said before) row e (λ values read _.
-    keyless line (read_keyless (values_form n destinations) (fields_of line) values (many_fine destinations) (many_plain destinations) read))
+    keyless line (read_keyless (values_form n destinations) (fields_of line) values
+    (many_fine destinations) (many_plain destinations) read))
 
 coef_keyless : (problem : Problem) (n destinations resources : ℕ) (line : List ℕ) (coef : Coef)
     → coef_of problem n destinations resources (fields_of line) ≡ Ok coef → list_any is_colon line ≡ false
 unfolding coef_of
 coef_keyless problem n destinations resources line coef e =
     bind_then (read text_kinds (coef_form problem n destinations resources) (fields_of line)) _ coef e (λ values read _.
-    keyless line (read_keyless (coef_form problem n destinations resources) (fields_of line) values (coef_fine problem n destinations resources)
+    keyless line (read_keyless (coef_form problem n destinations resources) (fields_of line) values
+    (coef_fine problem n destinations resources)
     (coef_plain problem n destinations resources) read))
 
 -- a line below the key of the coefficients that is read as one

@@ -55,7 +55,8 @@ either word one other passes = by (bytes_eq word one) refl passes
     by false e is = Second (the_letter word other is)
 
 pub bound_plain : (t : Bool) → ArePlain (bound_form t)
-bound_plain true = ((λ word passes. subst IsField (sym (the_letter word (codes "I") passes)) (record { some = omega arith; bytes = refl })), tt)
+bound_plain true =
+    ((λ word passes. subst IsField (sym (the_letter word (codes "I") passes)) (record { some = omega arith; bytes = refl })), tt)
 bound_plain false = ((λ word passes. of (either word (codes "L") (codes "G") passes)), tt)
   where
     of : {word : List ℕ} → Either word (codes "L") (codes "G") → IsField word
@@ -64,13 +65,15 @@ bound_plain false = ((λ word passes. of (either word (codes "L") (codes "G") pa
 
 -- the values say the limit again
 pub said_again : (resource period : ℕ) (bound : Bound)
-    → limit_said (limit_values (record { resource = resource; period = period; bound = bound })) ≡ record { resource = resource; period = period; bound = bound }
+    → limit_said (limit_values (record { resource = resource; period = period; bound = bound }))
+    ≡ record { resource = resource; period = period; bound = bound }
 said_again resource period (AtMost v) = rw (quotient resource, quotient period) refl
 said_again resource period (AtLeast v) = rw (quotient resource, quotient period) refl
 said_again resource period (Between v w) = rw (quotient resource, quotient period) refl
 
 -- the values of a limit in range fit, and are in range where they fit
-pub limit_fits : (n resources periods : ℕ) (l : Limit) → resources ≤ 10 ^ 18 → periods ≤ 10 ^ 18 → l.resource < resources → l.period < periods
+pub limit_fits : (n resources periods : ℕ) (l : Limit) → resources ≤ 10 ^ 18 → periods ≤ 10 ^ 18 → l.resource < resources
+    → l.period < periods
     → HasDecimals l.bound → Fit (limit_form resources periods (written (limit_values l))) (limit_values l)
 limit_fits n resources periods l few short low_r low_t decimals =
     (whole_fits resources l.resource low_r few, (whole_fits periods l.period low_t short, of l.bound decimals))
@@ -84,8 +87,10 @@ limit_fits n resources periods l few short low_r low_t decimals =
 pub limit_low : (resources periods : ℕ) (fields : List (List ℕ)) (values : List Value) → Fit (limit_form resources periods fields) values
     → ((limit_said values).resource < resources) × ((limit_said values).period < periods)
 limit_low resources periods fields values fit =
-    let form = limit_form resources periods fields in
-    (below_there resources _ (fit_at form values 0 any (omega arith) fit), below_there periods _ (fit_at form values 1 any (omega arith) fit))
+    let form = limit_form resources periods fields in (
+      below_there resources _ (fit_at form values 0 any (omega arith) fit),
+      below_there periods _ (fit_at form values 1 any (omega arith) fit),
+    )
 
 -- the bound's fields one by one, where there are as many as there have to be
 abbrev BoundMet : Bool → ℕ → ℕ → List (List ℕ) → Type 0
@@ -135,14 +140,16 @@ limit_same resources periods (r ∷ t ∷ rest) = by (bytes_eq (slice_index_or r
   where
     tested : (interval : Bool) → bytes_eq (slice_index_or rest 0 []) (codes "I") ≡ interval → (counted : Bool)
         → (counted ≡ true → length rest ≡ length (bound_form interval))
-        → ((if not counted then Err Fields else read_fields text_kinds (below resources ∷ below periods ∷ bound_form interval) (r ∷ t ∷ rest))
+        → ((if not counted then Err Fields else read_fields text_kinds
+        (below resources ∷ below periods ∷ bound_form interval) (r ∷ t ∷ rest))
         >>= λ values. Ok (limit_said values))
         ≡ (if not counted then Err Fields
         else (first_by (whole_in resources) (r ∷ t ∷ rest) >>= λ r. first_by (whole_in periods) r.1 >>= λ t. bound_in t.1
         >>= λ bound. Ok (record { resource = r.0; period = t.0; bound = bound })))
     tested interval e false count = refl
     tested interval e true count =
-        sym (first_step (below resources) (below periods ∷ bound_form interval) (whole_in resources) whole r (t ∷ rest) _ _ (whole_reads resources) (λ a.
+        sym (first_step (below resources) (below periods ∷ bound_form interval) (whole_in resources) whole r
+        (t ∷ rest) _ _ (whole_reads resources) (λ a.
         first_step (below periods) (bound_form interval) (whole_in periods) whole t rest _ _ (whole_reads periods) (λ b.
         bound_met interval a b rest e (count refl))))
 

@@ -22,7 +22,8 @@ stands_twice (x ∷ xs) id rest e = at (x == id) refl (stands_in xs id) refl (st
       → (stands_in xs id ≡ true → all_differ (xs ++ id ∷ rest) ≡ false) → all_differ ((x ∷ xs) ++ id ∷ rest) ≡ false
   at true is found f twice =
       let back : (id == x) ≡ true = grind (arith, nat_tests, is) in
-      let again : stands_in (xs ++ id ∷ rest) x ≡ true = list_any-append (λ other. other == x) xs (id ∷ rest) ∙ rw back (or-true (stands_in xs x)) in
+      let again : stands_in (xs ++ id ∷ rest) x ≡ true =
+      list_any-append (λ other. other == x) xs (id ∷ rest) ∙ rw back (or-true (stands_in xs x)) in
       rw again refl
   at false is true f twice = rw (twice f) (and-false (not (stands_in (xs ++ id ∷ rest) x)))
   at false is false f twice = absurd (true≢false (sym e ∙ rw (is, f) refl))
@@ -47,8 +48,10 @@ pub marked_more : (ids : List ℕ) (marks : List Bool) (id : ℕ) → id < lengt
     → AreJustMarked (ids ++ id ∷ []) (slice_set marks id true)
 marked_more ids marks id within just place = at (id == place) refl where
   at : (t : Bool) → (id == place) ≡ t → slice_index_or (slice_set marks id true) place false ≡ stands_in (ids ++ id ∷ []) place
-  at true e = get_or-set_at marks id place true false (grind (arith, nat_tests, e)) within ∙ sym (one_more ids id place ∙ rw e (or-true (stands_in ids place)))
-  at false e = get_or-set_other marks id place true false (grind (arith, nat_tests, e)) ∙ just place ∙ sym (one_more ids id place ∙ rw e (or-false (stands_in ids place)))
+  at true e = get_or-set_at marks id place true false (grind (arith, nat_tests, e)) within
+      ∙ sym (one_more ids id place ∙ rw e (or-true (stands_in ids place)))
+  at false e = get_or-set_other marks id place true false (grind (arith, nat_tests, e)) ∙ just place
+      ∙ sym (one_more ids id place ∙ rw e (or-false (stands_in ids place)))
 
 -- numbers up to a place, the one there, and those behind it
 pub parts_at : (ids : List ℕ) (place : ℕ) → place < length ids → ids ≡ take place ids ++ get_or ids place 0 ∷ drop (suc place) ids
@@ -64,11 +67,13 @@ repeated ids marks place within just stands =
     (stands_twice (take place ids) (get_or ids place 0) (drop (suc place) ids) (sym (just (get_or ids place 0)) ∙ stands))
 
 -- marks of the first numbers are of the list
-pub marked_of_all : (ids : List ℕ) (marks : List Bool) (place : ℕ) → place < length ids → AreJustMarked (take place ids) marks → AreMarked ids marks
+pub marked_of_all : (ids : List ℕ) (marks : List Bool) (place : ℕ) → place < length ids → AreJustMarked (take place ids) marks
+    → AreMarked ids marks
 marked_of_all ids marks place within just at h =
     let behind = get_or ids place 0 ∷ drop (suc place) ids in
     let first : stands_in (take place ids) at ≡ true = sym (just at) ∙ h in
-    let whole : stands_in (take place ids ++ behind) at ≡ true = list_any-append (λ other. other == at) (take place ids) behind ∙ rw first refl in
+    let whole : stands_in (take place ids ++ behind) at ≡ true =
+    list_any-append (λ other. other == at) (take place ids) behind ∙ rw first refl in
     subst (λ all. IsTrue (stands_in all at)) (sym (parts_at ids place within)) whole
 
 -- the number at a place is marked where it is not yet

@@ -78,12 +78,14 @@ pub all_fine : HasFineForms model_grammar
 all_fine = λ number d line. line_fine d line.text
 
 -- a line that is admitted states what it leaves
-pub admitted_states : (d : ModelDraftView) (line : List ℕ) (next : ModelDraftView) → admit_model d line ≡ Ok next → States (model_line d line) next
+pub admitted_states : (d : ModelDraftView) (line : List ℕ) (next : ModelDraftView) → admit_model d line ≡ Ok next
+    → States (model_line d line) next
 unfolding admit_model takes
 admitted_states d line next e = said_states (model_line d line) next (line_fine d line) e
 
 -- lines that are read one after the other are those of the grammar
-pub lines_are_all : (number : ℕ) (d : ModelDraftView) (lines : List Line) → read_lines admit_model d lines ≡ read_all model_grammar number d lines
+pub lines_are_all : (number : ℕ) (d : ModelDraftView) (lines : List Line)
+    → read_lines admit_model d lines ≡ read_all model_grammar number d lines
 unfolding admit_model takes
 lines_are_all number d [] = refl
 lines_are_all number d (line ∷ lines) = by (λ next. lines_are_all (suc number) next lines) (admit_model d line.text)
@@ -123,12 +125,14 @@ header_takes d k fields = tests (is_heading d.section) (is_given k d.header)
     name : (t : Bool) (text : List ℕ)
         → ((if t then Ok (Bytes text) else Err Name) >>= found_of d key.Name)
         ≡ (((if t then Ok (Bytes text) else Err Name)
-        >>= λ value. Ok (unsigned_abs (millionths value))) >>= number_with d.blocks key.Name >>= λ number. Ok (after d key.Name text number))
+        >>= λ value. Ok (unsigned_abs (millionths value))) >>= number_with d.blocks key.Name
+        >>= λ number. Ok (after d key.Name text number))
     name true text = refl
     name false text = refl
 
     one : (k : HeaderKey) (text : List ℕ) (r : Result Value TextKind) → r ≡ read_field text_kind (field_of d.problem k) text
-        → (r >>= found_of d k) ≡ ((r >>= λ value. Ok (unsigned_abs (millionths value))) >>= number_with d.blocks k >>= λ number. Ok (after d k text number))
+        → (r >>= found_of d k) ≡ ((r >>= λ value. Ok (unsigned_abs (millionths value))) >>= number_with d.blocks k
+        >>= λ number. Ok (after d k text number))
     one key.Name text r e = rw e (name (is_name text) text)
     one key.Blocks text (Ok value) e = blocks (whole_of value == d.blocks) (bytes_in value)
     one k text (Ok value) e = refl
@@ -137,7 +141,8 @@ header_takes d k fields = tests (is_heading d.section) (is_given k d.header)
     values : (fields : List (List ℕ)) → (read text_kinds (field_of d.problem k ∷ []) fields >>= λ values. found_of d k (first_of values))
         ≡ (only_value fields >>= λ value. number_in d.problem d.blocks k value >>= λ number. Ok (after d k value number))
     values [] = refl
-    values (text ∷ []) = alone (read_field text_kind (field_of d.problem k) text) (one k text (read_field text_kind (field_of d.problem k) text) refl)
+    values (text ∷ []) =
+        alone (read_field text_kind (field_of d.problem k) text) (one k text (read_field text_kind (field_of d.problem k) text) refl)
       where
         alone : (r : Result Value TextKind) {B : Result ModelDraftView TextKind} → (r >>= found_of d k) ≡ B
             → ((r >>= λ value. Ok (value ∷ [])) >>= λ values. found_of d k (first_of values)) ≡ B
@@ -181,7 +186,8 @@ section_takes d section fields = by (is_next d.section section) (is_ready d d.se
 
 pub values_takes : (d : ModelDraftView) (fields : List (List ℕ))
     → takes (values_line d fields)
-    ≡ (values_of d.blocks (count_in d.header key.Destinations) (length d.values) fields >>= λ row. Ok (record d { values = d.values ++ row ∷ [] }))
+    ≡ (values_of d.blocks (count_in d.header key.Destinations) (length d.values) fields
+    >>= λ row. Ok (record d { values = d.values ++ row ∷ [] }))
 unfolding takes values_line values_of
 values_takes d fields = by (read text_kinds (values_form d.blocks (count_in d.header key.Destinations)) fields)
   where

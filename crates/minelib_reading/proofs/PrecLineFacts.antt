@@ -37,7 +37,8 @@ wholes_again [] = refl
 wholes_again (id ∷ ids) = λ i. quotient id i ∷ wholes_again ids i
 
 -- a line that spells a block's predecessors states them
-pub preds_back : (n own : ℕ) (line ids : List ℕ) → Spell (preds_form n (fields_of line)) (fields_of line) (preds_values own ids) → ArePredsOf own n ids
+pub preds_back : (n own : ℕ) (line ids : List ℕ) → Spell (preds_form n (fields_of line)) (fields_of line) (preds_values own ids)
+    → ArePredsOf own n ids
     → States (preds_shape n own line) ids
 preds_back n own line ids spelled are =
     let tests = preds_pass own n ids are in
@@ -93,7 +94,8 @@ preds_line n own line ids states =
     let count = passed Count (whole_at values 1 == length stated) behind_count order.1 in
     let other = passed Twice (not (stands_in stated own)) (check Twice (all_differ stated)) count.1 in
     let differ = passed Twice (all_differ stated) [] other.1 in
-    let p = parts n own fields values fit (eqb-true (whole_at values 0) own order.0) (eqb-true (whole_at values 1) (length stated) count.0) in (
+    let p = parts n own fields values fit (eqb-true (whole_at values 0) own order.0)
+    (eqb-true (whole_at values 1) (length stated) count.0) in (
       subst (Spell (preds_form n fields) fields) (p.1 ∙ ap (preds_values own) (sym states.is)) states.spelled,
       subst (ArePredsOf own n) (sym states.is) (passed_preds own n stated p.0 (not-true (stands_in stated own) other.0) differ.0),
     )

@@ -37,5 +37,6 @@ pairs_differ (id ∷ ids) e =
     let others = others_differ id ids (not-true (stands_in ids id) parts.0) in
     AllPairs-cons (λ id other. id ≢ other) id ids (λ k d within same. others k d within (sym same)) (pairs_differ ids parts.1)
 
-pub passed_preds : (own n : ℕ) (ids : List ℕ) → All (λ id. id < n) ids → stands_in ids own ≡ false → all_differ ids ≡ true → ArePredsOf own n ids
+pub passed_preds : (own n : ℕ) (ids : List ℕ) → All (λ id. id < n) ids → stands_in ids own ≡ false → all_differ ids ≡ true
+    → ArePredsOf own n ids
 passed_preds own n ids low other differ = record { below = low; others = others_differ own ids other; distinct = pairs_differ ids differ }

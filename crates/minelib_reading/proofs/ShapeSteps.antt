@@ -4,7 +4,8 @@ use Rattle.std.proofs.Common.{refl}
 use Rattle.forms.specs.Shape.{Check, check, failing}
 
 -- no test fails where each holds
-pub met : {K : Type 0} (kind : K) (t : Bool) (checks : List (Check K)) → t ≡ true → failing checks ≡ None → failing (check kind t ++ checks) ≡ None
+pub met : {K : Type 0} (kind : K) (t : Bool) (checks : List (Check K)) → t ≡ true → failing checks ≡ None
+    → failing (check kind t ++ checks) ≡ None
 met kind true checks holds more = more
 met kind false checks holds more = absurd cc
 

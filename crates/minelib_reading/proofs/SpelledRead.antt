@@ -30,7 +30,8 @@ same_again (Err fault) = refl
 
 pub blocks_read : (text : List ℕ) → read_lines admit_block [] (lines_in text) ≡ blocks_in text
 unfolding block_said
-blocks_read text = lines_read block_shape (λ blocks. blocks) admit_block (λ blocks line. refl) 1 [] (lines_in text) ∙ same_again (blocks_in text)
+blocks_read text =
+    lines_read block_shape (λ blocks. blocks) admit_block (λ blocks line. refl) 1 [] (lines_in text) ∙ same_again (blocks_in text)
 
 pub blocks_spelled : (text : List ℕ) (blocks : List Block) → blocks_in text ≡ Ok blocks → AllState block_grammar 1 [] (lines_in text) blocks
 blocks_spelled text blocks e = read_all_states block_grammar 1 [] (lines_in text) blocks fine_blocks e
@@ -64,7 +65,8 @@ preds_read n text =
     ∙ by (read_all (prec_grammar n) 1 [] (lines_in text))
   where
     by : (r : Result (List (List ℕ)) LineFault)
-        → ((r >>= λ lists. Ok (draft_of n lists)) >>= λ d. finish_preds d.blocks (end_of text) d.lists) ≡ (r >>= finish_preds n (end_of text))
+        → ((r >>= λ lists. Ok (draft_of n lists)) >>= λ d. finish_preds d.blocks (end_of text) d.lists)
+        ≡ (r >>= finish_preds n (end_of text))
     by (Ok lists) = refl
     by (Err fault) = refl
 
@@ -80,7 +82,8 @@ preds_spelled n text lists e =
     let t = then_ok (length all == n) (lines_missing (end_of text)) (Ok all) lists finished in
     let same : all ≡ lists = same_ok all lists t.1 in (
       subst (λ all. length all ≡ n) same (eqb-true (length all) n t.0),
-      subst (AllState (prec_grammar n) 1 [] (lines_in text)) same (read_all_states (prec_grammar n) 1 [] (lines_in text) all (fine_preds n) read),
+      subst (AllState (prec_grammar n) 1 [] (lines_in text)) same
+          (read_all_states (prec_grammar n) 1 [] (lines_in text) all (fine_preds n) read),
     ))
 
 pub lists_back : (n : ℕ) (text : List ℕ) (lists : List (List ℕ)) → length lists ≡ n → AllState (prec_grammar n) 1 [] (lines_in text) lists
@@ -93,7 +96,8 @@ pub bad_preds : (n : ℕ) (text : List ℕ) (fault : LineFault) → preds_in n t
     → IsFirstFault (prec_grammar n) 1 [] (lines_in text) fault ⊎ LacksLines n text fault
 bad_preds n text fault e = by (read_all (prec_grammar n) 1 [] (lines_in text)) refl e
   where
-    by : (r : Result (List (List ℕ)) LineFault) → read_all (prec_grammar n) 1 [] (lines_in text) ≡ r → (r >>= finish_preds n (end_of text)) ≡ Err fault
+    by : (r : Result (List (List ℕ)) LineFault) → read_all (prec_grammar n) 1 [] (lines_in text) ≡ r
+        → (r >>= finish_preds n (end_of text)) ≡ Err fault
         → IsFirstFault (prec_grammar n) 1 [] (lines_in text) fault ⊎ LacksLines n text fault
     by (Ok lists) read e =
         let t = then_err (length lists == n) (lines_missing (end_of text)) fault lists e in
@@ -118,8 +122,10 @@ preds_are_valid n text lists e =
     step lists line ids states kept id within = by (nat_lt id (length lists)) refl
       where
         by : (t : Bool) → nat_lt id (length lists) ≡ t → ArePredsOf id n (get_or (lists ++ ids ∷ []) id [])
-        by true low = subst (ArePredsOf id n) (sym (get_or_append_left lists (ids ∷ []) [] id (ltb-true id (length lists) low))) (kept id (ltb-true id (length lists) low))
+        by true low = subst (ArePredsOf id n) (sym (get_or_append_left lists (ids ∷ []) [] id (ltb-true id (length lists) low)))
+            (kept id (ltb-true id (length lists) low))
         by false high =
             let last : length lists ≡ id = omega (arith, length-append lists (ids ∷ []), within, ltb-false id (length lists) high) in
             subst (λ id. ArePredsOf id n (get_or (lists ++ ids ∷ []) id [])) last
-            (subst (ArePredsOf (length lists) n) (sym (get_or_at lists ids [] [] (length lists) refl)) (preds_line n (length lists) line ids states).1)
+            (subst (ArePredsOf (length lists) n) (sym (get_or_at lists ids [] [] (length lists) refl))
+            (preds_line n (length lists) line ids states).1)

@@ -71,7 +71,8 @@ pub one_destination : (h : Header) → KeepsOwn Cpit h → count_in h key.Destin
 unfolding with_key
 one_destination h own = rw (own key.Destinations refl) refl
 
-pub header_kept : (problem : Problem) (k : HeaderKey) (value name : List ℕ) (h : Header) (number : ℕ) → IsInRange k (name_with k value name) number
+pub header_kept : (problem : Problem) (k : HeaderKey) (value name : List ℕ) (h : Header) (number : ℕ)
+    → IsInRange k (name_with k value name) number
     → is_given k h ≡ false → KeepsHeader problem name h → KeepsHeader problem (name_with k value name) (with_key h k number)
 header_kept problem k value name h number here new kept = record {
   in_range = each_with (λ j found. IfSome found (IsInRange j (name_with k value name))) h k number here

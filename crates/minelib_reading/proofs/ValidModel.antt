@@ -74,7 +74,8 @@ kept_at_first problem n = record {
 }
 
 -- a test that did not fail holds
-passes : (kind : TextKind) (t : Bool) (more : List (Check TextKind)) → failing (check kind t ++ more) ≡ None → (t ≡ true) × (failing more ≡ None)
+passes : (kind : TextKind) (t : Bool) (more : List (Check TextKind)) → failing (check kind t ++ more) ≡ None → (t ≡ true)
+    × (failing more ≡ None)
 passes kind true more e = (refl, e)
 passes kind false more e = absurd cc
 
@@ -106,7 +107,8 @@ header_line_kept problem n d next k fields kept s =
     subst (KeepsModel problem n) (sym s.is) (record {
       of_problem = kept.of_problem;
       of_blocks = kept.of_blocks;
-      header = header_kept problem k (bytes_in (first_of s.values)) d.name d.header (number_said k (first_of s.values)) here new kept.header;
+      header =
+          header_kept problem k (bytes_in (first_of s.values)) d.name d.header (number_said k (first_of s.values)) here new kept.header;
       ready = still_none d.section _ heading.0 none;
       values = subst (All (λ values. length values ≡ count_in header key.Destinations)) (sym none.0)
           (All-nil (λ values. length values ≡ count_in header key.Destinations));
@@ -116,7 +118,8 @@ header_line_kept problem n d next k fields kept s =
           (no_limits (count_in header key.Resources) (count_in header key.Periods));
     })
 
-section_line_kept : (problem : Problem) (n : ℕ) (d next : ModelDraftView) (section : Section) (fields : List (List ℕ)) → KeepsModel problem n d
+section_line_kept : (problem : Problem) (n : ℕ) (d next : ModelDraftView) (section : Section) (fields : List (List ℕ))
+    → KeepsModel problem n d
     → States (section_line d section fields) next → KeepsModel problem n next
 unfolding section_line
 section_line_kept problem n d next section fields kept s =
@@ -139,7 +142,8 @@ section_line_kept problem n d next section fields kept s =
     few : d.values ≡ [] → length d.values ≤ d.blocks
     few e = omega (arith, ap length e)
 
-values_line_kept : (problem : Problem) (n : ℕ) (d next : ModelDraftView) (fields : List (List ℕ)) → d.section ≡ Objective → KeepsModel problem n d
+values_line_kept : (problem : Problem) (n : ℕ) (d next : ModelDraftView) (fields : List (List ℕ)) → d.section ≡ Objective
+    → KeepsModel problem n d
     → States (values_line d fields) next → KeepsModel problem n next
 unfolding values_line
 values_line_kept problem n d next fields here kept s =
@@ -169,7 +173,8 @@ coef_line_kept problem n d next fields here kept s =
     let destinations = count_in d.header key.Destinations in
     let resources = count_in d.header key.Resources in
     let coef = coef_said d.problem s.values in
-    let fit = spelled_fit (coef_form d.problem d.blocks destinations resources) fields s.values (coef_fine d.problem d.blocks destinations resources)
+    let fit = spelled_fit (coef_form d.problem d.blocks destinations resources) fields s.values
+    (coef_fine d.problem d.blocks destinations resources)
     s.spelled in
     let low = coef_low d.problem d.blocks destinations resources s.values
     (λ cpit. one_destination d.header (subst (λ p. KeepsOwn p d.header) (sym kept.of_problem ∙ cpit) kept.header.own)) fit in
@@ -183,14 +188,16 @@ coef_line_kept problem n d next fields here kept s =
       ready = subst (λ section. Ready section after) (sym here) was;
       values = kept.values;
       coefs = record {
-        in_range = All-push (λ c. (c.b < n) × (c.d < count_in d.header key.Destinations) × (c.r < count_in d.header key.Resources)) d.coefs coef
+        in_range =
+            All-push (λ c. (c.b < n) × (c.d < count_in d.header key.Destinations) × (c.r < count_in d.header key.Resources)) d.coefs coef
             kept.coefs.in_range (subst (λ k. coef.b < k) kept.of_blocks low.0, low.1, low.2);
         rising = rises_behind comes_before comes_before_through d.coefs coef kept.coefs.rising in_order;
       };
       limits = kept.limits;
     })
 
-limit_line_kept : (problem : Problem) (n : ℕ) (d next : ModelDraftView) (fields : List (List ℕ)) → d.section ≡ Limits → KeepsModel problem n d
+limit_line_kept : (problem : Problem) (n : ℕ) (d next : ModelDraftView) (fields : List (List ℕ)) → d.section ≡ Limits
+    → KeepsModel problem n d
     → States (limit_line d fields) next → KeepsModel problem n next
 unfolding limit_line
 limit_line_kept problem n d next fields here kept s =

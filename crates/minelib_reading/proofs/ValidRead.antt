@@ -111,14 +111,17 @@ one_each (values ∷ rows) each =
     let rest = one_each rows (All-tail (λ values. length values ≡ 1) values rows each) in
     omega (arith, length-append values (flat_map (λ values. values) rows))
 
-listed : (c e : Coef) → c.d < 1 → e.d < 1 → IsTrue (comes_before c e) → IsTrue (is_listed_before (without_destination c) (without_destination e))
+listed : (c e : Coef) → c.d < 1 → e.d < 1 → IsTrue (comes_before c e)
+    → IsTrue (is_listed_before (without_destination c) (without_destination e))
 listed c e low high h = grind (arith, nat_tests)
 
 -- coefficients at the only destination
-pub cpit_coefs : (n resources : ℕ) (coefs : List Coef) → AreCoefs n 1 resources coefs → AreCpitCoefs n resources (map without_destination coefs)
+pub cpit_coefs : (n resources : ℕ) (coefs : List Coef) → AreCoefs n 1 resources coefs
+    → AreCpitCoefs n resources (map without_destination coefs)
 cpit_coefs n resources coefs are = record {
   in_range = All-map (λ c. (c.b < n) × (c.r < resources)) without_destination coefs
-      (All-weaker (λ c. (c.b < n) × (c.d < 1) × (c.r < resources)) (λ c. (c.b < n) × (c.r < resources)) (λ c h. (h.0, h.2)) coefs are.in_range);
+      (All-weaker (λ c. (c.b < n) × (c.d < 1) × (c.r < resources)) (λ c. (c.b < n) × (c.r < resources)) (λ c h. (h.0, h.2))
+      coefs are.in_range);
   rising = rise;
 }
   where
@@ -137,7 +140,8 @@ pub cpit_is_valid : (n : ℕ) (text : List ℕ) (d : ModelDraftView) → n ≤ 6
 cpit_is_valid n text d few e =
     let m = model_is_valid problem.Cpit n text d e in
     let one : count_in d.header key.Destinations ≡ 1 = one_destination d.header m.own in
-    let each : All (λ values. length values ≡ 1) d.values = subst (λ k. All (λ values. length values ≡ k) d.values) one m.destinations.one_each in
+    let each : All (λ values. length values ≡ 1) d.values =
+    subst (λ k. All (λ values. length values ≡ k) d.values) one m.destinations.one_each in
     let count : length (flat_map (λ values. values) d.values) ≡ n = one_each d.values each ∙ m.count in
     let coefs : AreCoefs n 1 (count_in d.header key.Resources) d.coefs =
     subst (λ k. AreCoefs n k (count_in d.header key.Resources) d.coefs) one m.coefs in (

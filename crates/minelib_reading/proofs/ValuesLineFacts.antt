@@ -45,12 +45,14 @@ pub many_again : (values : List ℤ) → map millionths (map Millionths values) 
 many_again [] = refl
 many_again (v ∷ values) = ap (λ more. v ∷ more) (many_again values)
 
-pub values_fits : (n destinations block : ℕ) (values : List ℤ) → n ≤ 10 ^ 18 → block < n → length values ≡ destinations → All IsDecimal values
+pub values_fits : (n destinations block : ℕ) (values : List ℤ) → n ≤ 10 ^ 18 → block < n → length values ≡ destinations
+    → All IsDecimal values
     → Fit (values_form n destinations) (values_values block values)
 values_fits n destinations block values few low count decimals = (whole_fits n block low few, many_fit destinations values count decimals)
 
 -- values that fit have one for each destination
-pub row_width : (n destinations : ℕ) (values : List Value) → Fit (values_form n destinations) values → length (row_said values) ≡ destinations
+pub row_width : (n destinations : ℕ) (values : List Value) → Fit (values_form n destinations) values
+    → length (row_said values) ≡ destinations
 row_width n destinations [] fit = absurd fit
 row_width n destinations (block ∷ values) fit = many_count destinations values fit.1
   where
@@ -69,7 +71,8 @@ many_read : (k : ℕ) (done : List ℤ) (fields : List (List ℕ)) → length fi
 many_read zero done [] count = ap Ok (sym (append-nil done))
 many_read zero done (field ∷ fields) count = absurd (omega (arith, count))
 many_read (suc k) done [] count = absurd (omega (arith, count))
-many_read (suc k) done (field ∷ fields) count = rw (any_reads field) (by (λ m. many_read k (done ++ m ∷ []) fields (omega (arith, count))) (decimal_in field))
+many_read (suc k) done (field ∷ fields) count =
+    rw (any_reads field) (by (λ m. many_read k (done ++ m ∷ []) fields (omega (arith, count))) (decimal_in field))
   where
     tail : (m : ℤ) (r : Result (List Value) TextKind) → (r >>= λ values. Ok ((done ++ m ∷ []) ++ map millionths values))
         ≡ ((r >>= λ values. Ok (Millionths m ∷ values)) >>= λ values. Ok (done ++ map millionths values))
@@ -94,7 +97,8 @@ pub values_counted : (n destinations before : ℕ) (fields : List (List ℕ)) �
 unfolding values_of
 values_counted n destinations before [] count = absurd (omega (arith, count))
 values_counted n destinations before (field ∷ fields) count =
-    ap (λ r. r >>= values_said before) (counted text_kinds (values_form n destinations) (field ∷ fields) (count ∙ sym (values_width n destinations)))
+    ap (λ r. r >>= values_said before)
+    (counted text_kinds (values_form n destinations) (field ∷ fields) (count ∙ sym (values_width n destinations)))
     ∙ rw (whole_reads n field) (by (whole_in n field))
   where
     tail : (block : ℕ) (r : Result (List Value) TextKind) → ((r >>= λ values. Ok (whole block ∷ values)) >>= values_said before)
@@ -103,17 +107,20 @@ values_counted n destinations before (field ∷ fields) count =
     tail block (Err found) = refl
 
     by : (r : Result ℕ TextKind)
-        → (((r >>= λ x. Ok (whole x)) >>= λ v. read_fields text_kinds (replicate destinations any) fields >>= λ values. Ok (v ∷ values)) >>= values_said before)
+        → (((r >>= λ x. Ok (whole x)) >>= λ v. read_fields text_kinds (replicate destinations any) fields >>= λ values. Ok (v ∷ values))
+        >>= values_said before)
         ≡ ◌>>=◌ {A = ℕ × List (List ℕ)} (r >>= λ x. Ok (x, fields)) (λ b.
         all_by decimal_in [] b.1 >>= λ values. if not (b.0 == before) then Err Order else Ok values)
-    by (Ok block) = rw (many_read destinations [] fields (omega (arith, count))) (tail block (read_fields text_kinds (replicate destinations any) fields))
+    by (Ok block) = rw (many_read destinations [] fields (omega (arith, count)))
+        (tail block (read_fields text_kinds (replicate destinations any) fields))
     by (Err found) = refl
 
 pub values_admitted : {A : Type 0} (n destinations before : ℕ) (fields : List (List ℕ)) (row : List ℤ) (r : Result A LineError)
     → AdmitsCounted (length fields ≡ destinations + 1) row r (values_alone n before fields)
     → AdmitsCounted (length fields ≡ destinations + 1) row r (values_of n destinations before fields)
 values_admitted n destinations before fields row (Ok x) h = (h.0, values_counted n destinations before fields h.0 ∙ h.1)
-values_admitted n destinations before fields row (Err (line_error.Faulty found)) h = λ count. values_counted n destinations before fields count ∙ h count
+values_admitted n destinations before fields row (Err (line_error.Faulty found)) h =
+    λ count. values_counted n destinations before fields count ∙ h count
 values_admitted n destinations before fields row (Err line_error.OutOfMemory) h = tt
 
 pub values_kind : (n destinations before : ℕ) (fields : List (List ℕ)) (found : TextKind)

@@ -52,4 +52,5 @@ each_block blocks few done b rest whole =
 pub blocks_again : (blocks : List Block) → length blocks ≤ 64000000 → blocks_in (text_of (lines_from block_fields 0 blocks)) ≡ Ok blocks
 blocks_again blocks few =
     sym (blocks_read (text_of (lines_from block_fields 0 blocks)))
-    ∙ text_read admit_block [] blocks _ (items_admitted admit_block block_fields (λ done. done) blocks (each_block blocks few) 0 [] blocks refl refl)
+    ∙ text_read admit_block [] blocks _
+    (items_admitted admit_block block_fields (λ done. done) blocks (each_block blocks few) 0 [] blocks refl refl)

@@ -48,12 +48,19 @@ in_section section d = record d { section = section }
 
 from_limits : (d : ModelDraftView) → is_complete d.header ≡ true → length d.values ≡ d.blocks → Completes (in_section Limits d)
 from_limits d complete all =
-    record { rest = []; last = in_section Limits d; states = λ number. refl; whole = rw (complete, eq-eqb (length d.values) d.blocks all) refl }
+    record {
+      rest = [];
+      last = in_section Limits d;
+      states = λ number. refl;
+      whole =
+          rw (complete, eq-eqb (length d.values) d.blocks all) refl;
+    }
 
 from_coefs : (d : ModelDraftView) → is_complete d.header ≡ true → length d.values ≡ d.blocks → Completes (in_section Coefs d)
 from_coefs d complete all =
     then_complete (in_section Coefs d) (in_section Limits d) _
-    (section_step (in_section Coefs d) (codes "RESOURCE_CONSTRAINT_LIMITS") Limits (word_field _ _ refl) (in_all d.problem _ _ refl refl) refl
+    (section_step (in_section Coefs d) (codes "RESOURCE_CONSTRAINT_LIMITS") Limits
+    (word_field _ _ refl) (in_all d.problem _ _ refl refl) refl
     refl).admitted
     (from_limits d complete all)
 
@@ -77,7 +84,8 @@ values_left : (k : ℕ) (d : ModelDraftView) → is_complete d.header ≡ true �
 values_left zero d complete count few =
     let all : length d.values ≡ d.blocks = omega arith in
     then_complete (in_section Objective d) (in_section Coefs d) _
-    (section_step (in_section Objective d) (codes "RESOURCE_CONSTRAINT_COEFFICIENTS") Coefs (word_field _ _ refl) (in_all d.problem _ _ refl refl)
+    (section_step (in_section Objective d) (codes "RESOURCE_CONSTRAINT_COEFFICIENTS") Coefs
+    (word_field _ _ refl) (in_all d.problem _ _ refl refl)
     refl (eq-eqb (length d.values) d.blocks all)).admitted
     (from_coefs d complete all)
 values_left (suc k) d complete count few =
@@ -107,7 +115,8 @@ by_step : (p : Problem) (n : ℕ) (k : HeaderKey) (name after : List ℕ) (h : H
     → IsStep (heading p n name h) line (heading p n after (with_key h k number)) → Gives p n k name h
 by_step p n k name after h line number s = record { line = line; after = after; number = number; step = s.admitted }
 
-gives : (p : Problem) (n : ℕ) (k : HeaderKey) (name : List ℕ) (h : Header) → n ≤ 64000000 → is_given k (blank_header p) ≡ false → is_given k h ≡ false
+gives : (p : Problem) (n : ℕ) (k : HeaderKey) (name : List ℕ) (h : Header) → n ≤ 64000000 → is_given k (blank_header p) ≡ false
+    → is_given k h ≡ false
     → Gives p n k name h
 unfolding with_key
 gives p n key.Name name h few has new = by_step p n key.Name name _ h _ _ (name_step p n h name (codes "X") refl new)
@@ -136,7 +145,8 @@ from_header p n name h few complete =
 abbrev Lacks : Problem → List HeaderKey → Header → Type 0
 Lacks p keys h = (k : HeaderKey) → is_given k h ≡ false → (is_given k (blank_header p) ≡ false) × Contains keys k
 
-fill : (p : Problem) (n : ℕ) (keys : List HeaderKey) (name : List ℕ) (h : Header) → n ≤ 64000000 → Lacks p keys h → Completes (heading p n name h)
+fill : (p : Problem) (n : ℕ) (keys : List HeaderKey) (name : List ℕ) (h : Header) → n ≤ 64000000 → Lacks p keys h
+    → Completes (heading p n name h)
 fill p n [] name h few lacks = from_header p n name h few (all_given h (λ k. elim (cases_Bool (is_given k h)) [
   | inl given ↦ given
   | inr new ↦ let c = (lacks k new).1 in absurd (omega (arith, c.1))
@@ -147,7 +157,8 @@ fill p n (k ∷ keys) name h few lacks = elim (cases_Bool (is_given k h)) [
   | inr new ↦
       let g = gives p n k name h few (lacks k new).0 new in
       then_complete _ _ _ g.step (fill p n keys g.after (with_key h k g.number) few
-      (each_with (λ j found. is_some found ≡ false → (is_given j (blank_header p) ≡ false) × Contains keys j) h k g.number (λ given. absurd cc) later))
+      (each_with (λ j found. is_some found ≡ false → (is_given j (blank_header p) ≡ false) × Contains keys j) h k g.number
+      (λ given. absurd cc) later))
 ]
   where
     later : (j : HeaderKey) → k ≢ j → is_given j h ≡ false → (is_given j (blank_header p) ≡ false) × Contains keys j

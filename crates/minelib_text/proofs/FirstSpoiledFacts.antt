@@ -30,7 +30,8 @@ record Stops (s : ModelDraftView) (lines : List Line) (fault : LineFault) : Type
   pub kind : TextKind
   pub fails : Fails (model_line state bad.text) kind
 
-stops : (number : ℕ) (s : ModelDraftView) (lines : List Line) (fault : LineFault) → IsFirstFault model_grammar number s lines fault → Stops s lines fault
+stops : (number : ℕ) (s : ModelDraftView) (lines : List Line) (fault : LineFault) → IsFirstFault model_grammar number s lines fault
+    → Stops s lines fault
 stops number s [] fault first = absurd first
 stops number s (line ∷ lines) fault (inl (kind, fails, is)) = record {
   before = [];
@@ -80,7 +81,8 @@ begins problem n lines d few all =
 
 -- a line that fails begins none
 spoils : (problem : Problem) (n : ℕ) (before : List Line) (bad : Line) (d : ModelDraftView) (kind : TextKind)
-    → AllState model_grammar 1 (blank_model problem n) before d → Fails (model_line d bad.text) kind → ¬ (BeginModel problem n (before ++ bad ∷ []))
+    → AllState model_grammar 1 (blank_model problem n) before d → Fails (model_line d bad.text) kind
+    → ¬ (BeginModel problem n (before ++ bad ∷ []))
 spoils problem n before bad d kind all fails (rest, last, (states, whole)) =
     let lines = append_assoc before (bad ∷ []) rest in
     let read = all_read model_grammar 1 (blank_model problem n) ((before ++ bad ∷ []) ++ rest) last all_fine states in
@@ -113,7 +115,8 @@ bad_model problem n text fault few e = by (read_all model_grammar 1 (blank_model
           no_model = λ last are. other last (all_read model_grammar 1 (blank_model problem n) (lines_in text) last all_fine are.0) are.1;
         }
       where
-        other : (last : ModelDraftView) → read_all model_grammar 1 (blank_model problem n) (lines_in text) ≡ Ok last → is_whole last ≡ true → ⊥
+        other : (last : ModelDraftView) → read_all model_grammar 1 (blank_model problem n) (lines_in text) ≡ Ok last
+            → is_whole last ≡ true → ⊥
         other last again whole =
             let same : last ≡ d = one_ok _ last d again read in
             let lacks_too : is_whole last ≡ false = ap (λ d. is_whole d) same ∙ lacks in

@@ -22,7 +22,8 @@ use Rattle.text_lines.proofs.PlainText.{AreFields}
 use Rattle.minelib_reading.proofs.ValuesLineFacts.{many_again, many_fine, many_plain, values_fits}
 use Rattle.minelib_reading.proofs.LimitLineFacts.{bound_plain, limit_fine, limit_fits, said_again as limit_said_again}
 
-pub values_again : (n destinations before : ℕ) (values : List ℤ) → n ≤ 64000000 → before < n → length values ≡ destinations → All IsDecimal values
+pub values_again : (n destinations before : ℕ) (values : List ℤ) → n ≤ 64000000 → before < n → length values ≡ destinations
+    → All IsDecimal values
     → values_of n destinations before (value_fields before values) ≡ Ok values
 unfolding values_of
 values_again n destinations before values few below as_many h =
@@ -78,7 +79,8 @@ pub limit_again : (resources periods : ℕ) (l : Limit) (n : ℕ) → resources 
 unfolding limit_of
 limit_again resources periods l n few short low_r low_t h =
     ap (λ r. r >>= λ values. Ok (limit_said values))
-    (written_read text_kinds (limit_form resources periods (limit_fields n l)) (limit_values l) (limit_fine resources periods (limit_fields n l))
+    (written_read text_kinds (limit_form resources periods (limit_fields n l)) (limit_values l)
+    (limit_fine resources periods (limit_fields n l))
     (limit_fits n resources periods l (omega arith) (omega arith) low_r low_t h))
     ∙ ap Ok (limit_said_again l.resource l.period l.bound)
 

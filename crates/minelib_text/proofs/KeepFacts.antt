@@ -7,7 +7,8 @@ use Rattle.std.proofs.lemmas.List.Elements.{All-same, All-push}
 pub all_next : {X : Type 0} (P : X → Type 0) (xs : List X) (i : ℕ) (d : X) → i < length xs → All P (take i xs) → P (get_or xs i d)
     → All P (take (i + 1) xs)
 all_next P xs i d inside before one =
-    All-same P (take (i + 1) xs) (take i xs ++ get_or xs i d ∷ []) (take_more xs i d inside) (All-push P (take i xs) (get_or xs i d) before one)
+    All-same P (take (i + 1) xs) (take i xs ++ get_or xs i d ∷ []) (take_more xs i d inside)
+    (All-push P (take i xs) (get_or xs i d) before one)
 
 -- what holds of so many items, where there are no more
 pub all_seen : {X : Type 0} (P : X → Type 0) (xs : List X) (i : ℕ) → length xs ≤ i → All P (take i xs) → All P xs

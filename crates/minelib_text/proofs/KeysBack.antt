@@ -110,13 +110,16 @@ abbrev pub heading : Problem → ℕ → List ℕ → Header → ModelDraftView
 heading p n name h = draft p n name h Heading [] [] []
 
 -- a header line is read where its key is new and the field has room for its value
-header_step : (p : Problem) (n : ℕ) (name word : List ℕ) (value : Value) (k : HeaderKey) (h : Header) → IsField word → IsField (written_value value)
-    → key_in p word ≡ Some (model_key.Header k) → is_given k h ≡ false → FitsField (field_of p k) value → failing (is_counted k n value) ≡ None
+header_step : (p : Problem) (n : ℕ) (name word : List ℕ) (value : Value) (k : HeaderKey) (h : Header) → IsField word
+    → IsField (written_value value)
+    → key_in p word ≡ Some (model_key.Header k) → is_given k h ≡ false → FitsField (field_of p k) value
+    → failing (is_counted k n value) ≡ None
     → IsStep (heading p n name h) (word ++ 58 ∷ 32 ∷ written_value value)
     (heading p n (name_with k (bytes_in value) name) (with_key h k (number_said k value)))
 unfolding takes header_line
 header_step p n name word value k h is_word is_value is_key fresh fits counted = record {
-  is_line = key_is_line word (32 ∷ written_value value) is_word (all_weaker is_plain is_inner plain_inner (written_value value) is_value.bytes);
+  is_line =
+      key_is_line word (32 ∷ written_value value) is_word (all_weaker is_plain is_inner plain_inner (written_value value) is_value.bytes);
   admitted = rw (
     key_admitted (heading p n name h) word (32 ∷ written_value value) is_word,
     is_key,
@@ -133,9 +136,12 @@ counted_step : (p : Problem) (n : ℕ) (name word : List ℕ) (count number : �
     → failing (is_counted k n (whole count)) ≡ None → number_said k (whole count) ≡ number
     → IsStep (heading p n name h) (word ++ 58 ∷ 32 ∷ decimal count) (heading p n (name_with k [] name) (with_key h k number))
 counted_step p n name word count number k h is_word few is_key fresh fits counted is =
-    subst (λ text. IsStep (heading p n name h) (word ++ 58 ∷ 32 ∷ text) (heading p n (name_with k [] name) (with_key h k number))) (whole_written count)
-    (subst (λ m. IsStep (heading p n name h) (word ++ 58 ∷ 32 ∷ shortest (pos (count * 10 ^ 6))) (heading p n (name_with k [] name) (with_key h k m))) is
-    (header_step p n name word (whole count) k h is_word (subst IsField (sym (whole_written count)) (whole_field count few)) is_key fresh fits counted))
+    subst (λ text. IsStep (heading p n name h) (word ++ 58 ∷ 32 ∷ text) (heading p n (name_with k [] name) (with_key h k number)))
+    (whole_written count)
+    (subst (λ m. IsStep (heading p n name h) (word ++ 58 ∷ 32 ∷ shortest (pos (count * 10 ^ 6)))
+    (heading p n (name_with k [] name) (with_key h k m))) is
+    (header_step p n name word (whole count) k h is_word
+    (subst IsField (sym (whole_written count)) (whole_field count few)) is_key fresh fits counted))
 
 counted_fits : (low high n : ℕ) → low ≤ n → n ≤ high → high ≤ 10 ^ 18 → FitsField (between low high) (whole n)
 counted_fits low high n from to small =
@@ -144,7 +150,8 @@ counted_fits low high n from to small =
     (least, most, omega (arith, to, small), omega arith)
 
 -- a line of a section's key is read where the section is the next and what has to stand before it does
-pub section_step : (d : ModelDraftView) (word : List ℕ) (section : Section) → IsField word → key_in d.problem word ≡ Some (model_key.Section section)
+pub section_step : (d : ModelDraftView) (word : List ℕ) (section : Section) → IsField word
+    → key_in d.problem word ≡ Some (model_key.Section section)
     → is_next d.section section ≡ true → is_ready d d.section ≡ true → IsStep d (word ++ 58 ∷ []) (record d { section = section })
 section_step d word section is_word is_key next ready = record {
   is_line = key_is_line word [] is_word refl;
@@ -159,14 +166,17 @@ in_all Cpit word k h i = i
 pub name_step : (p : Problem) (n : ℕ) (h : Header) (old name : List ℕ) → is_name name ≡ true → is_given key.Name h ≡ false
     → IsStep (heading p n old h) (key_line (codes "NAME:") name) (heading p n name (with_key h key.Name 0))
 name_step p n h old name is fresh =
-    header_step p n old (codes "NAME") (Bytes name) key.Name h (word_field _ _ refl) (name_field name is) (in_all p _ _ refl refl) fresh is refl
+    header_step p n old (codes "NAME") (Bytes name) key.Name h (word_field _ _ refl)
+    (name_field name is) (in_all p _ _ refl refl) fresh is refl
 
 pub type_step : (p : Problem) (n : ℕ) (h : Header) (name : List ℕ) → is_given key.Type h ≡ false
     → IsStep (heading p n name h) (key_line (codes "TYPE:") (type_text p)) (heading p n name (with_key h key.Type 0))
 type_step Pcpsp n h name fresh =
-    header_step Pcpsp n name (codes "TYPE") (Bytes (codes "PCPSP")) key.Type h (word_field _ _ refl) (word_field _ _ refl) refl fresh refl refl
+    header_step Pcpsp n name (codes "TYPE") (Bytes (codes "PCPSP")) key.Type h
+    (word_field _ _ refl) (word_field _ _ refl) refl fresh refl refl
 type_step Cpit n h name fresh =
-    header_step Cpit n name (codes "TYPE") (Bytes (codes "CPIT")) key.Type h (word_field _ _ refl) (word_field _ _ refl) refl fresh refl refl
+    header_step Cpit n name (codes "TYPE") (Bytes (codes "CPIT")) key.Type h
+    (word_field _ _ refl) (word_field _ _ refl) refl fresh refl refl
 
 pub blocks_step : (p : Problem) (n : ℕ) (h : Header) (name : List ℕ) → n ≤ 64000000 → is_given key.Blocks h ≡ false
     → IsStep (heading p n name h) (key_line (codes "NBLOCKS:") (decimal n)) (heading p n name (with_key h key.Blocks 0))
@@ -178,14 +188,16 @@ pub periods_step : (p : Problem) (n : ℕ) (h : Header) (name : List ℕ) (perio
     → is_given key.Periods h ≡ false
     → IsStep (heading p n name h) (key_line (codes "NPERIODS:") (decimal periods)) (heading p n name (with_key h key.Periods periods))
 periods_step p n h name periods within fresh =
-    counted_step p n name (codes "NPERIODS") periods periods key.Periods h (word_field _ _ refl) (omega arith) (in_all p _ _ refl refl) fresh
+    counted_step p n name (codes "NPERIODS") periods periods key.Periods h (word_field _ _ refl)
+    (omega arith) (in_all p _ _ refl refl) fresh
     (counted_fits 1 MAX_PERIODS periods within.0 within.1 (omega arith)) refl (quotient periods)
 
 pub destinations_step : (n : ℕ) (h : Header) (name : List ℕ) (destinations : ℕ) → (1 ≤ destinations) × (destinations ≤ 8)
     → is_given key.Destinations h ≡ false → IsStep (heading Pcpsp n name h) (key_line (codes "NDESTINATIONS:") (decimal destinations))
     (heading Pcpsp n name (with_key h key.Destinations destinations))
 destinations_step n h name destinations within fresh =
-    counted_step Pcpsp n name (codes "NDESTINATIONS") destinations destinations key.Destinations h (word_field _ _ refl) (omega arith) refl fresh
+    counted_step Pcpsp n name (codes "NDESTINATIONS") destinations destinations key.Destinations h
+    (word_field _ _ refl) (omega arith) refl fresh
     (counted_fits 1 MAX_DESTINATIONS destinations within.0 within.1 (omega arith)) refl (quotient destinations)
 
 pub resources_step : (p : Problem) (n : ℕ) (h : Header) (name : List ℕ) (resources : ℕ) → resources ≤ 8 → is_given key.Resources h ≡ false
@@ -199,12 +211,14 @@ pub general_step : (n : ℕ) (h : Header) (name : List ℕ) → is_given key.Gen
     → IsStep (heading Pcpsp n name h) (key_line (codes "NGENERAL_SIDE_CONSTRAINTS:") (codes "0"))
     (heading Pcpsp n name (with_key h key.General 0))
 general_step n h name fresh =
-    subst (λ text. IsStep (heading Pcpsp n name h) (key_line (codes "NGENERAL_SIDE_CONSTRAINTS:") text) (heading Pcpsp n name (with_key h key.General 0)))
+    subst (λ text. IsStep (heading Pcpsp n name h) (key_line (codes "NGENERAL_SIDE_CONSTRAINTS:") text)
+    (heading Pcpsp n name (with_key h key.General 0)))
     (decimal_digit 0 (omega arith))
     (counted_step Pcpsp n name (codes "NGENERAL_SIDE_CONSTRAINTS") 0 0 key.General h (word_field _ _ refl) (omega arith) refl fresh
     (whole_fits 1 0 (omega arith) (omega arith)) refl refl)
 
-pub rate_step : (p : Problem) (n : ℕ) (h : Header) (name : List ℕ) (rate : ℤ) → (pos 0 ≤ℤ rate) × (rate ≤ℤ pos (10 ^ 6)) → is_given key.Rate h ≡ false
+pub rate_step : (p : Problem) (n : ℕ) (h : Header) (name : List ℕ) (rate : ℤ) → (pos 0 ≤ℤ rate) × (rate ≤ℤ pos (10 ^ 6))
+    → is_given key.Rate h ≡ false
     → IsStep (heading p n name h) (key_line (codes "DISCOUNT_RATE:") (shortest rate))
     (heading p n name (with_key h key.Rate (unsigned_abs rate)))
 rate_step p n h name (negsuc k) within fresh = absurd (omega (arith, ints))
@@ -250,7 +264,8 @@ pcpsp_header n name periods destinations resources rate few is_name horizon coun
     (then_lines _ _ _ _ _ (rate_step Pcpsp n _ name rate horizon.rate_0_to_1 refl) (no_lines _))))))))
 
 pub cpit_header : (n : ℕ) (name : List ℕ) (periods resources : ℕ) (rate : ℤ) → n ≤ 64000000 → is_name name ≡ true
-    → IsHorizon periods resources rate → AreSteps (blank_model Cpit n) (problem_keys name (codes "CPIT") n ++ cpit_keys periods resources rate)
+    → IsHorizon periods resources rate
+    → AreSteps (blank_model Cpit n) (problem_keys name (codes "CPIT") n ++ cpit_keys periods resources rate)
     (heading Cpit n name (full_header periods 1 resources rate))
 unfolding with_key
 cpit_header n name periods resources rate few is_name horizon =

@@ -47,7 +47,8 @@ pub text_read : {S : Type 0} (admit : S → List ℕ → Result S TextKind) (s t
 text_read admit s t lines h = rw (no_mark admit s t lines h) (lines_read admit s t 1 lines h)
 
 -- lines, and then more
-pub admits_both : {S : Type 0} (admit : S → List ℕ → Result S TextKind) (s t u : S) (xs ys : List (List ℕ)) → AdmitsAll admit s xs t → AdmitsAll admit t ys u
+pub admits_both : {S : Type 0} (admit : S → List ℕ → Result S TextKind) (s t u : S) (xs ys : List (List ℕ)) → AdmitsAll admit s xs t
+    → AdmitsAll admit t ys u
     → AdmitsAll admit s (xs ++ ys) u
 admits_both admit s t u [] ys h k = rw h k
 admits_both admit s t u (x ∷ xs) ys h k = (h.0, h.1, h.2, admits_both admit h.0 t u xs ys h.3 k)
@@ -59,7 +60,8 @@ AdmitsEach {S} {A} admit fields after all =
     → IsLine (line_of (fields (length done) x)) × (admit (after done) (line_of (fields (length done) x)) ≡ Ok (after (done ++ x ∷ [])))
 
 -- so all are
-pub items_admitted : {S A : Type 0} (admit : S → List ℕ → Result S TextKind) (fields : ℕ → A → List (List ℕ)) (after : List A → S) (all : List A)
+pub items_admitted : {S A : Type 0} (admit : S → List ℕ → Result S TextKind)
+    (fields : ℕ → A → List (List ℕ)) (after : List A → S) (all : List A)
     → AdmitsEach admit fields after all → (n : ℕ) (done rest : List A) → n ≡ length done → all ≡ done ++ rest
     → AdmitsAll admit (after done) (lines_from fields n rest) (after all)
 items_admitted admit fields after all each n done [] e whole = ap after (sym (whole ∙ append-nil done))

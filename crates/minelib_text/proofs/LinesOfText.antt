@@ -16,7 +16,8 @@ one_line (b ∷ bytes) rest h =
 pub lines_again : (lines : List (List ℕ)) → All IsLineText lines → lines_of (text_of lines) ≡ lines
 lines_again [] h = refl
 lines_again (line ∷ lines) h =
-    one_line line (text_of lines) (All-head IsLineText line lines h) ∙ ap (λ rest. line ∷ rest) (lines_again lines (All-tail IsLineText line lines h))
+    one_line line (text_of lines) (All-head IsLineText line lines h)
+    ∙ ap (λ rest. line ∷ rest) (lines_again lines (All-tail IsLineText line lines h))
 
 lone_line : (b : ℕ) (bytes : List ℕ) → IsLineText (b ∷ bytes) → lines_of (b ∷ bytes) ≡ (b ∷ bytes) ∷ []
 lone_line b [] h =

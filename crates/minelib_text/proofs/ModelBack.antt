@@ -39,12 +39,14 @@ pub record IsModel (p : Problem) (n periods destinations resources : ℕ) (value
   pub limits_kept : All (λ l. HasDecimals l.bound) limits
 
 -- a line of fields is an item of its section
-pub item_admitted : (d : ModelDraftView) (fields : List (List ℕ)) → AreFields fields → admit_model d (line_of fields) ≡ takes (item_line d d.section fields)
+pub item_admitted : (d : ModelDraftView) (fields : List (List ℕ)) → AreFields fields
+    → admit_model d (line_of fields) ≡ takes (item_line d d.section fields)
 unfolding admit_model
 item_admitted d fields h = rw (no_colon fields h, fields_again fields h) refl
 
 -- items that are admitted one after the other are read
-items_read : {A : Type 0} (fields : ℕ → A → List (List ℕ)) (after : List A → ModelDraftView) (all : List A) → AdmitsEach admit_model fields after all
+items_read : {A : Type 0} (fields : ℕ → A → List (List ℕ)) (after : List A → ModelDraftView) (all : List A)
+    → AdmitsEach admit_model fields after all
     → AreSteps (after []) (lines_from fields 0 all) (after all)
 items_read fields after all each = record { admitted = items_admitted admit_model fields after all each 0 [] all refl refl }
 
@@ -57,8 +59,11 @@ module _ (p : Problem) (n : ℕ) (name : List ℕ) (periods destinations resourc
       let place : length done < n = omega (arith, m.as_many, is_place values done vs rest whole) in
       let kept = item_there values done vs rest whole (λ vs. All IsDecimal vs) m.values_kept in
       let as_many = item_there values done vs rest whole (λ vs. length vs ≡ destinations) m.one_each in
-      let fields = values_fields (length done) vs (omega arith) kept in
-      (fields_line _ fields, item_admitted _ _ fields ∙ values_takes _ _ ∙ rw (values_again n destinations (length done) vs few place as_many kept) refl)
+      let fields = values_fields (length done) vs (omega arith) kept in (
+        fields_line _ fields,
+        item_admitted _ _ fields ∙ values_takes _ _
+            ∙ rw (values_again n destinations (length done) vs few place as_many kept) refl,
+      )
 
   each_coef : AdmitsEach admit_model (coef_fields p)
       (λ done. draft p n name (full_header periods destinations resources rate) Coefs values done []) coefs
@@ -96,7 +101,8 @@ module _ (p : Problem) (n : ℕ) (name : List ℕ) (periods destinations resourc
       (draft p n name (full_header periods destinations resources rate) Limits values coefs limits)
   sections_again =
       let h = full_header periods destinations resources rate in
-      let objective = section_step (heading p n name h) (codes "OBJECTIVE_FUNCTION") Objective (word_field _ _ refl) (in_all p _ _ refl refl) refl
+      let objective =
+      section_step (heading p n name h) (codes "OBJECTIVE_FUNCTION") Objective (word_field _ _ refl) (in_all p _ _ refl refl) refl
       refl in
       let coefficients = section_step (draft p n name h Objective values [] []) (codes "RESOURCE_CONSTRAINT_COEFFICIENTS") Coefs
       (word_field _ _ refl) (in_all p _ _ refl refl) refl (eq-eqb (length values) n m.as_many) in

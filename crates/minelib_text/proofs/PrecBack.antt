@@ -39,7 +39,8 @@ preds_state n own ids line few low fewer are same =
 
 distinct_cons : (id : ℕ) (ids : List ℕ) → All (λ other. other ≢ id) ids → IsDistinct eqb ids → IsDistinct eqb (id ∷ ids)
 unfolding IsDistinct
-distinct_cons id ids h k = (recursion_from_All (λ other. eqb id other ≡ false) ids (λ k d within. ne_eqb id _ (λ e. h k d within (sym e))), k)
+distinct_cons id ids h k =
+    (recursion_from_All (λ other. eqb id other ≡ false) ids (λ k d within. ne_eqb id _ (λ e. h k d within (sym e))), k)
 
 distinct_ids : (ids : List ℕ) → AllPairs (λ id other. id ≢ other) ids → IsDistinct eqb ids
 distinct_ids ids h = IsDistinct-from_apart eqb ids (λ i j d before within. ne_eqb _ _ (h i j d before within))
@@ -66,7 +67,11 @@ preds_fields own n ids few below h =
     let id = whole_field own (omega arith) in
     let number = whole_field (length ids) (omega (arith, fewer own n ids below h)) in
     subst AreFields (sym (preds_written own ids))
-    (record { some = omega arith; each = (id, (number, map_fields (λ id. id < n) decimal (λ id low. whole_field id (omega arith)) ids h.below)) })
+    (record {
+      some = omega arith;
+      each =
+          (id, (number, map_fields (λ id. id < n) decimal (λ id low. whole_field id (omega arith)) ids h.below));
+    })
 
 each_preds : (n : ℕ) (lists : List (List ℕ)) → n ≤ 64000000 → length lists ≡ n → ArePreds n lists
     → AdmitsEach admit_preds prec_fields (draft_of n) lists
@@ -87,6 +92,7 @@ lists_again n lists few as_many h =
     let text = text_of (lines_from prec_fields 0 lists) in
     let whole : (length lists == n) ≡ true = eq-eqb (length lists) n as_many in
     sym (preds_read n text)
-    ∙ ap (λ r. r >>= λ d. finish_preds d.blocks (end_of text) d.lists) (text_read admit_preds (no_lists n) (draft_of n lists) (lines_from prec_fields 0 lists)
+    ∙ ap (λ r. r >>= λ d. finish_preds d.blocks (end_of text) d.lists)
+    (text_read admit_preds (no_lists n) (draft_of n lists) (lines_from prec_fields 0 lists)
     (items_admitted admit_preds prec_fields (draft_of n) lists (each_preds n lists few as_many h) 0 [] lists refl refl))
     ∙ rw whole refl

@@ -10,7 +10,8 @@ pub use Rattle.text_sinks.proofs.Fronts.{buffered, nothing_put}
 
 pub text_of-append : (xs ys : List (List ℕ)) → text_of (xs ++ ys) ≡ text_of xs ++ text_of ys
 text_of-append [] ys = refl
-text_of-append (x ∷ xs) ys = ap (λ rest. (x ++ 10 ∷ []) ++ rest) (text_of-append xs ys) ∙ sym (append_assoc (x ++ 10 ∷ []) (text_of xs) (text_of ys))
+text_of-append (x ∷ xs) ys =
+    ap (λ rest. (x ++ 10 ∷ []) ++ rest) (text_of-append xs ys) ∙ sym (append_assoc (x ++ 10 ∷ []) (text_of xs) (text_of ys))
 
 -- one line behind the others
 text_of-line : (lines : List (List ℕ)) (line : List ℕ) → text_of (lines ++ line ∷ []) ≡ text_of lines ++ (line ++ 10 ∷ [])
@@ -50,7 +51,8 @@ pub buffered_cut : {n : ℕ} {before after : List ℕ} {old new : SinkState} (li
 buffered_cut {n} {before} {after} {old} {new} lines i e cut =
     subst (λ all. IsAppendCut n (text_of all) before old new) (take-append-drop i lines)
     (lines_cut_before (take i lines) (drop i lines)
-    (subst (λ text. IsAppendCut n text before old new) (append-nil (text_of (take i lines))) (cut_then (buffered (text_of (take i lines)) e) cut)))
+    (subst (λ text. IsAppendCut n text before old new) (append-nil (text_of (take i lines)))
+    (cut_then (buffered (text_of (take i lines)) e) cut)))
 
 -- the first line of an empty buffer's text, and one line more
 pub first_line : (line before after : List ℕ) → after ≡ before ++ (line ++ 10 ∷ []) → after ≡ before ++ text_of (line ∷ [])

@@ -53,8 +53,10 @@ middle a b c =
     ap (take (length (a ++ b) - length a)) (drop-append_seam a (b ++ c)) ∙ ap (λ k. take k (b ++ c)) long ∙ take-append_seam b c
 
 -- up to `past` there are those before `first`, and the run
-run_behind : (first past : ℕ) → first ≤ past → spaced (range_with_len 0 past) ≡ spaced (range_with_len 0 first) ++ spaced (range_with_len first (past - first))
-run_behind first past le = ap spaced (below_parts first past le) ∙ spaced-append (range_with_len 0 first) (range_with_len first (past - first))
+run_behind : (first past : ℕ) → first ≤ past
+    → spaced (range_with_len 0 past) ≡ spaced (range_with_len 0 first) ++ spaced (range_with_len first (past - first))
+run_behind first past le =
+    ap spaced (below_parts first past le) ∙ spaced-append (range_with_len 0 first) (range_with_len first (past - first))
 
 pub starts_rise : (first past : ℕ) → first ≤ past → start_in first ≤ start_in past
 starts_rise first past le =
@@ -63,7 +65,8 @@ starts_rise first past le =
     omega (arith, ap length (run_behind first past le), length-append a b)
 
 pub part_of_text : (n first past : ℕ) → first ≤ past → past ≤ n
-    → take (start_in past - start_in first) (drop (start_in first) (spaced (range_with_len 0 n))) ≡ spaced (range_with_len first (past - first))
+    → take (start_in past - start_in first) (drop (start_in first) (spaced (range_with_len 0 n)))
+    ≡ spaced (range_with_len first (past - first))
 part_of_text n first past le within =
     let a = spaced (range_with_len 0 first) in
     let b = spaced (range_with_len first (past - first)) in

@@ -22,13 +22,15 @@ pub no_fault : {T : Type 0} (kinds : Kinds) (r : Result T Error) (m : T) → Fai
 no_fault kinds r m fails is = subst (FailsBy kinds) is fails
 
 -- an error that is handed on is one of the words'
-pub handed_on : (words : List Text) (error : Error) (fault : JobFault) → HasKind (fault_of program words) error → HandsOn error fault → RefusesWords words fault
+pub handed_on : (words : List Text) (error : Error) (fault : JobFault) → HasKind (fault_of program words) error → HandsOn error fault
+    → RefusesWords words fault
 handed_on words error OutOfMemory has on = tt
 handed_on words error (Line same) (inl memory) on = absurd (on.1 memory)
 handed_on words error (Line same) (inr among) on = inl (subst (λ e. IsAmong (kind_of e) (fault_of program words)) (sym on.0) among)
 
 -- and so is any where no job was found
-pub no_job_found : (words : List Text) (found : Option (Text × List Row)) (answer : Option Job) (fault : JobFault) → FindsIfAny found answer → answer ≡ None
+pub no_job_found : (words : List Text) (found : Option (Text × List Row)) (answer : Option Job) (fault : JobFault) → FindsIfAny found answer
+    → answer ≡ None
     → found ≡ subcommand_of program words → RefusesWords words fault
 no_job_found words found answer OutOfMemory finds none same = tt
 no_job_found words found answer (Line error) finds none same =

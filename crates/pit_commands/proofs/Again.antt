@@ -21,7 +21,8 @@ lines_of-append (b ∷ []) rest ended = let feed : b ≡ 10 = ended (omega arith
 lines_of-append (b ∷ c ∷ cs) rest ended =
     let last : length (b ∷ c ∷ cs) - 1 ≡ suc (length (c ∷ cs) - 1) = omega arith in
     let behind : slice_index (b ∷ c ∷ cs) (length (b ∷ c ∷ cs) - 1) ≡ 10 = ended (omega arith) in
-    onto (b == 10) (lines_of (c ∷ cs ++ rest)) (lines_of (c ∷ cs)) (some_line c cs) (lines_of-append (c ∷ cs) rest (λ _. rw last at behind)) where
+    onto (b == 10) (lines_of (c ∷ cs ++ rest)) (lines_of (c ∷ cs)) (some_line c cs)
+    (lines_of-append (c ∷ cs) rest (λ _. rw last at behind)) where
       onto : (t : Bool) (all lines : List (List ℕ)) → 0 < length lines → all ≡ lines ++ lines_of rest
           → (if t then (b ∷ []) ∷ all else onto_first b all) ≡ (if t then (b ∷ []) ∷ lines else onto_first b lines) ++ lines_of rest
       onto true all lines some same = ap (λ ls. (b ∷ []) ∷ ls) same
@@ -29,14 +30,17 @@ lines_of-append (b ∷ c ∷ cs) rest ended =
       onto false all (line ∷ lines) some same = ap (onto_first b) same
 
 -- where none of the first elements passes, they are the first part
-split_off : (p : List ℕ → Bool) (lines : List (List ℕ)) (cut : List ℕ) (more : List (List ℕ)) → filter p lines ≡ [] → p cut ≡ true → slice_split p (lines ++ cut ∷ more) ≡ lines ∷ slice_split p more
+split_off : (p : List ℕ → Bool) (lines : List (List ℕ)) (cut : List ℕ) (more : List (List ℕ)) → filter p lines ≡ [] → p cut ≡ true
+    → slice_split p (lines ++ cut ∷ more) ≡ lines ∷ slice_split p more
 split_off p [] cut more none e = rw e
 split_off p (line ∷ lines) cut more none e = by_test (p line) refl (λ rest. split_off p lines cut more rest e) where
-  by_test : (t : Bool) → p line ≡ t → (filter p lines ≡ [] → slice_split p (lines ++ cut ∷ more) ≡ lines ∷ slice_split p more) → slice_split p (line ∷ lines ++ cut ∷ more) ≡ (line ∷ lines) ∷ slice_split p more
+  by_test : (t : Bool) → p line ≡ t → (filter p lines ≡ [] → slice_split p (lines ++ cut ∷ more) ≡ lines ∷ slice_split p more)
+      → slice_split p (line ∷ lines ++ cut ∷ more) ≡ (line ∷ lines) ∷ slice_split p more
   by_test true e same = let no = rw e at none in absurd cc
   by_test false e same = let rest = rw e at none in rw (e, same rest)
 
-pub pieces_again : (text cut rest : List ℕ) → IsEnded text → cuts_of text ≡ [] → lines_of (cut ++ rest) ≡ cut ∷ lines_of rest → is_cut cut ≡ true → pieces_of (text ++ (cut ++ rest)) ≡ text ∷ pieces_of rest
+pub pieces_again : (text cut rest : List ℕ) → IsEnded text → cuts_of text ≡ [] → lines_of (cut ++ rest) ≡ cut ∷ lines_of rest
+    → is_cut cut ≡ true → pieces_of (text ++ (cut ++ rest)) ≡ text ∷ pieces_of rest
 pieces_again text cut rest ended uncut line e =
     let lines : lines_of (text ++ (cut ++ rest)) ≡ lines_of text ++ cut ∷ lines_of rest
     = lines_of-append text (cut ++ rest) ended ∙ ap (λ ls. lines_of text ++ ls) line in
@@ -47,7 +51,8 @@ pieces_again text cut rest ended uncut line e =
 none_off : (p : List ℕ → Bool) (lines : List (List ℕ)) → filter p lines ≡ [] → slice_split p lines ≡ lines ∷ []
 none_off p [] none = refl
 none_off p (line ∷ lines) none = by_test (p line) refl (none_off p lines) where
-  by_test : (t : Bool) → p line ≡ t → (filter p lines ≡ [] → slice_split p lines ≡ lines ∷ []) → slice_split p (line ∷ lines) ≡ (line ∷ lines) ∷ []
+  by_test : (t : Bool) → p line ≡ t → (filter p lines ≡ [] → slice_split p lines ≡ lines ∷ [])
+      → slice_split p (line ∷ lines) ≡ (line ∷ lines) ∷ []
   by_test true e same = let no = rw e at none in absurd cc
   by_test false e same = let rest = rw e at none in rw (e, same rest)
 

@@ -17,7 +17,8 @@ found_in_file file (check_fault.TooLong other) h = _
 found_in_file file (check_fault.Text fault) h = absurd h
 found_in_file file check_fault.OutOfMemory h = _
 
-pub found_in_texts : (texts : Texts) (error : ReadTextError) (fault : CheckFault) → fault ≡ fault_of_text error → Reads {A = Counts} (Err error) (counted texts) → IsFound fault
+pub found_in_texts : (texts : Texts) (error : ReadTextError) (fault : CheckFault) → fault ≡ fault_of_text error
+    → Reads {A = Counts} (Err error) (counted texts) → IsFound fault
 found_in_texts texts (text_error.Fault found) fault e reads = subst IsFound (sym e) (texts, reads)
 found_in_texts texts text_error.OutOfMemory fault e reads = subst IsFound (sym e) _
 
@@ -34,6 +35,7 @@ pub status_listed : (fault : CheckFault) (old new : List ℕ) (status : ℕ) →
 status_listed fault old new status (inl told) = listed fault status told.0
 status_listed fault old new status (inr refused) = inr (inr (inr refused.0))
 
-pub fault_told : (fault : CheckFault) (old new : List ℕ) (status : ℕ) → IsFound fault → EndsCheck fault old new status → status ≢ 4 → TellsFault old new status
+pub fault_told : (fault : CheckFault) (old new : List ℕ) (status : ℕ) → IsFound fault → EndsCheck fault old new status → status ≢ 4
+    → TellsFault old new status
 fault_told fault old new status found (inl told) other = (fault, found, told.0, told.1)
 fault_told fault old new status found (inr refused) other = absurd (other refused.0)

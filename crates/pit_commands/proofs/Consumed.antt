@@ -11,7 +11,8 @@ both_reads (Some x) None c first second p q = absurd p
 both_reads (Some x) (Some y) None first second p q = absurd q
 both_reads (Some x) (Some y) (Some z) first second p q = p ∙ ap (λ l. first ++ l) q ∙ sym (append_assoc first second z)
 
-pub consumed_more : (a b c : Option (List ℕ)) (old new : List ℕ) (n : ℕ) → n ≡ length old → Consumes a b old → take n new ≡ old → Consumes b c (drop n new) → Consumes a c new
+pub consumed_more : (a b c : Option (List ℕ)) (old new : List ℕ) (n : ℕ) → n ≡ length old → Consumes a b old → take n new ≡ old
+    → Consumes b c (drop n new) → Consumes a c new
 consumed_more a b c old new n len first kept second =
     let joined : old ++ drop n new ≡ new = ap (λ l. l ++ drop n new) (sym kept) ∙ take-append-drop n new in
     subst (Consumes a c) joined (both_reads a b c old (drop n new) first second)
@@ -21,7 +22,8 @@ consumed_all None b bytes p q = tt
 consumed_all (Some x) None bytes p q = absurd p
 consumed_all (Some x) (Some y) bytes p q = sym (p ∙ ap (λ l. bytes ++ l) q ∙ append-nil bytes)
 
-pub consumed_long : (a b : Option (List ℕ)) (bytes : List ℕ) → Consumes a b bytes → 268435456 < length bytes → IfSome a (λ left. 268435456 < length left)
+pub consumed_long : (a b : Option (List ℕ)) (bytes : List ℕ) → Consumes a b bytes → 268435456 < length bytes
+    → IfSome a (λ left. 268435456 < length left)
 consumed_long None b bytes p long = tt
 consumed_long (Some x) None bytes p long = absurd p
 consumed_long (Some x) (Some y) bytes p long = omega (arith, long, ap length p, length-append bytes y)

@@ -16,27 +16,32 @@ pub ends_same : (s r : ℕ) (v w old new : List ℕ) (status : ℕ) → s ≡ r 
 ends_same s r v w old new status e f (inl told) = inl (told.0 ∙ e, told.1 ∙ ap (λ words. old ++ line_of words) f)
 ends_same s r v w old new status e f (inr refused) = inr refused
 
-pub plan_told : (text words old new : List ℕ) (status : ℕ) (fault : PlanFault) → length text ≤ 1048576 → planned text ≡ Err fault → words ≡ fault_text fault
+pub plan_told : (text words old new : List ℕ) (status : ℕ) (fault : PlanFault) → length text ≤ 1048576 → planned text ≡ Err fault
+    → words ≡ fault_text fault
     → EndsWith 1 words old new status → PlanRefused text old new status
 plan_told text words old new status fault short stated e (inl told) =
     inr (inl (short, told.0, (fault, stated, told.1 ∙ ap (λ w. old ++ line_of w) e)))
 plan_told text words old new status fault short stated e (inr refused) = inr (inr refused)
 
-of_input : (left : Option (List ℕ)) (fault : InputFault) → (fault ≡ TooLong → IfSome left (λ bytes. 268435456 < length bytes)) → IsFaultOfInput left fault
+of_input : (left : Option (List ℕ)) (fault : InputFault) → (fault ≡ TooLong → IfSome left (λ bytes. 268435456 < length bytes))
+    → IsFaultOfInput left fault
 of_input left FeedFailed long = tt
 of_input left TooLong long = long refl
 of_input left OutOfMemory long = tt
 
 pub input_refused : {A : Type 0} (left : Option (List ℕ)) (fault : InputFault) (old new : List ℕ) (status : ℕ)
-    → (IsErrOf {T = A} (Err fault) TooLong → IfSome left (λ bytes. 268435456 < length bytes)) → EndsInput fault old new status → ModelRefused left old new status
+    → (IsErrOf {T = A} (Err fault) TooLong → IfSome left (λ bytes. 268435456 < length bytes)) → EndsInput fault old new status
+    → ModelRefused left old new status
 input_refused left fault old new status long told = inl (fault, of_input left fault (λ e. long (ap Err e)), told)
 
-pub piece_refused : (left : Option (List ℕ)) (input text old new : List ℕ) (status : ℕ) → IfSome left (λ bytes. input ≡ bytes) → length input ≤ 268435456
+pub piece_refused : (left : Option (List ℕ)) (input text old new : List ℕ) (status : ℕ) → IfSome left (λ bytes. input ≡ bytes)
+    → length input ≤ 268435456
     → text ≡ plan_of input → PlanRefused text old new status → ModelRefused left old new status
 piece_refused left input text old new status own small e refused =
     inr (input, own, small, inl (subst (λ plan. PlanRefused plan old new status) e refused))
 
-pub files_refused : (left : Option (List ℕ)) (input text old new : List ℕ) (plan : Plan) (status : ℕ) → IfSome left (λ bytes. input ≡ bytes) → length input ≤ 268435456
+pub files_refused : (left : Option (List ℕ)) (input text old new : List ℕ) (plan : Plan) (status : ℕ) → IfSome left (λ bytes. input ≡ bytes)
+    → length input ≤ 268435456
     → text ≡ plan_of input → planned text ≡ Ok plan → CutRefused input plan old new status → ModelRefused left old new status
 files_refused left input text old new plan status own small e stated (inl files) =
     inr (input, own, small, inr (plan, subst (λ first. planned first ≡ Ok plan) e stated, files))
@@ -48,11 +53,13 @@ untold left TooLong of = tt
 untold left OutOfMemory of = tt
 
 -- of an input that tells its bytes it holds what holds of one that does not
-pub untold_refused : (left : Option (List ℕ)) (old new : List ℕ) (status : ℕ) → ModelRefused left old new status → ModelRefused None old new status
+pub untold_refused : (left : Option (List ℕ)) (old new : List ℕ) (status : ℕ) → ModelRefused left old new status
+    → ModelRefused None old new status
 untold_refused left old new status (inl told) = inl (told.0, untold left told.0 told.1, told.2)
 untold_refused left old new status (inr pieces) = inr (pieces.0, tt, pieces.2, pieces.3)
 
-pub plan_file_refused : (fault : SlurpFault) (old new : List ℕ) (status : ℕ) → EndsPlanFile fault old new status → PlanFileRefused old new status
+pub plan_file_refused : (fault : SlurpFault) (old new : List ℕ) (status : ℕ) → EndsPlanFile fault old new status
+    → PlanFileRefused old new status
 plan_file_refused fault old new status told = inl (fault, told)
 
 pub plan_text_refused : (text old new : List ℕ) (status : ℕ) → PlanRefused text old new status → PlanFileRefused old new status

@@ -19,7 +19,8 @@ lines_join (b ∷ bs) = by_test (b == 10) refl (lines_join bs) where
   by_test false e rest = rw e (onto b (lines_of bs) ∙ ap (λ xs. b ∷ xs) rest)
 
 -- a line that begins the first part begins the woven list
-woven_onto : (line : List ℕ) (parts : List (List (List ℕ))) (cuts : List (List ℕ)) → woven (map concat (onto_first line parts)) cuts ≡ line ++ woven (map concat parts) cuts
+woven_onto : (line : List ℕ) (parts : List (List (List ℕ))) (cuts : List (List ℕ))
+    → woven (map concat (onto_first line parts)) cuts ≡ line ++ woven (map concat parts) cuts
 woven_onto line [] [] = append_assoc line [] []
 woven_onto line [] (cut ∷ cuts) = append_assoc line [] (cut ++ concat cuts)
 woven_onto line (part ∷ parts) [] = append_assoc line (concat part) (concat (map concat parts))
@@ -29,7 +30,8 @@ woven_onto line (part ∷ parts) (cut ∷ cuts) = append_assoc line (concat part
 split_woven : (p : List ℕ → Bool) (lines : List (List ℕ)) → woven (map concat (slice_split p lines)) (filter p lines) ≡ concat lines
 split_woven p [] = refl
 split_woven p (line ∷ lines) = by_test (p line) refl (split_woven p lines) where
-  by_test : (t : Bool) → p line ≡ t → woven (map concat (slice_split p lines)) (filter p lines) ≡ concat lines → woven (map concat (slice_split p (line ∷ lines))) (filter p (line ∷ lines)) ≡ line ++ concat lines
+  by_test : (t : Bool) → p line ≡ t → woven (map concat (slice_split p lines)) (filter p lines) ≡ concat lines
+      → woven (map concat (slice_split p (line ∷ lines))) (filter p (line ∷ lines)) ≡ line ++ concat lines
   by_test true e rest = rw e (ap (λ xs. line ++ xs) rest)
   by_test false e rest = rw e (woven_onto line (slice_split p lines) (filter p lines) ∙ ap (λ xs. line ++ xs) rest)
 

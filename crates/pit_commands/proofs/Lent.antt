@@ -21,7 +21,8 @@ same_texts [] (text ∷ texts) h = absurd h
 same_texts (zone ∷ zones) [] h = absurd h
 same_texts (zone ∷ zones) (text ∷ texts) h = ap (λ t. t ∷ texts) h.0 ∙ ap (λ ts. zone ∷ ts) (same_texts zones texts h.1)
 
-pub given_texts : (lefts : List (Option (List ℕ))) (zones texts : List (List ℕ)) → lefts ≡ map Some zones → AreGiven lefts texts → texts ≡ zones
+pub given_texts : (lefts : List (Option (List ℕ))) (zones texts : List (List ℕ)) → lefts ≡ map Some zones → AreGiven lefts texts
+    → texts ≡ zones
 given_texts lefts zones texts e given = same_texts zones texts (subst (λ ls. AreGiven ls texts) e given)
 
 none_unsure : (zones : List (List ℕ)) (k : ℕ) → slice_get (map (λ _. true) zones) k ≡ Some false → ⊥
@@ -29,7 +30,8 @@ none_unsure [] k h = absurd cc
 none_unsure (zone ∷ zones) zero h = absurd cc
 none_unsure (zone ∷ zones) (suc k) h = none_unsure zones k h
 
-module _ (plan : PlanParts) (formulas : List Formula) (zones : List (List ℕ)) (lefts : List (Option (List ℕ))) (sures : List Bool) (left : lefts ≡ map Some zones) (sure : sures ≡ map (λ _. true) zones) where
+module _ (plan : PlanParts) (formulas : List Formula) (zones : List (List ℕ)) (lefts : List (Option (List ℕ))) (sures : List Bool)
+    (left : lefts ≡ map Some zones) (sure : sures ≡ map (λ _. true) zones) where
   by_verdict : (refusal : Refusal) → IsVerdict plan lefts refusal → IsRefusedBy plan zones refusal
   by_verdict refusal h = subst (λ texts. IsRefusedBy plan texts refusal) (given_texts lefts zones h.texts left h.given) h.refused
 

@@ -21,7 +21,8 @@ first_line b [] = alone (b == 10) refl where
   alone true e = rw e
   alone false e = rw e
 first_line b (c ∷ cs) = before (b == 10) (first_line c cs) refl where
-  before : (t : Bool) → BeginsWithLine (c ∷ cs) (suc (position_or_len is_feed (c ∷ cs))) → (b == 10) ≡ t → BeginsWithLine (b ∷ c ∷ cs) (suc (position_or_len is_feed (b ∷ c ∷ cs)))
+  before : (t : Bool) → BeginsWithLine (c ∷ cs) (suc (position_or_len is_feed (c ∷ cs))) → (b == 10) ≡ t
+      → BeginsWithLine (b ∷ c ∷ cs) (suc (position_or_len is_feed (b ∷ c ∷ cs)))
   before true line e = rw e
   before false line e =
       let n = position_or_len is_feed (c ∷ cs) in

@@ -44,7 +44,8 @@ reads_number {E} G f id most r fits only none value = go (one_text f id) refl r 
         absurd (only t (Err h.0) h.1 (numeral, small))
 
 -- an argument with a number out of range has none in range
-pub out_of_range : (rows : List Row) (id : Text) (most n : ℕ) → HasNumber rows id n → (n < 1) ⊎ ((1 ≤ n) × (most < n)) → (m : ℕ) → FindsNumber rows id most m → ⊥
+pub out_of_range : (rows : List Row) (id : Text) (most n : ℕ) → HasNumber rows id n → (n < 1) ⊎ ((1 ≤ n) × (most < n)) → (m : ℕ)
+    → FindsNumber rows id most m → ⊥
 out_of_range rows id most n has out m found =
     let text : found.0 ≡ has.0 = one_text_is (one_of id rows) found.0 has.0 found.1 has.1 in
     let same : m ≡ n = found.2.1 ∙ ap (λ u. digits_value 10 (without_leading_plus u)) text ∙ sym has.2.1 in

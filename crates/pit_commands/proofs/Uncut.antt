@@ -48,18 +48,22 @@ parts_are p (line ∷ next ∷ lines) are = by_test (p line) refl (parts_are p (
   alone : lines_of line ≡ line ∷ []
   alone = let ended : lines_of (line ++ []) ≡ line ∷ [] = are.0 [] in rw (append-nil line) at ended
 
-  onto : p line ≡ false → (parts : List (List (List ℕ))) → AllByRecursion (IsPart p) parts → AllByRecursion (IsPart p) (onto_first line parts)
+  onto : p line ≡ false → (parts : List (List (List ℕ))) → AllByRecursion (IsPart p) parts
+      → AllByRecursion (IsPart p) (onto_first line parts)
   onto e [] all = (record { lines = alone; uncut = rw e }, tt)
   onto e ([] ∷ parts) all = (record { lines = alone; uncut = rw e }, all.1)
   onto e ((first ∷ part) ∷ parts) all = (record { lines = (are.0, all.0.lines); uncut = rw e all.0.uncut }, all.1)
 
-  by_test : (t : Bool) → p line ≡ t → AllByRecursion (IsPart p) (slice_split p (next ∷ lines)) → AllByRecursion (IsPart p) (slice_split p (line ∷ next ∷ lines))
+  by_test : (t : Bool) → p line ≡ t → AllByRecursion (IsPart p) (slice_split p (next ∷ lines))
+      → AllByRecursion (IsPart p) (slice_split p (line ∷ next ∷ lines))
   by_test true e all = rw e (record { lines = tt; uncut = refl }, all)
   by_test false e all = rw e (onto e (slice_split p (next ∷ lines)) all)
 
 pub pieces_uncut : (input : List ℕ) → All (λ piece. cuts_of piece ≡ []) (pieces_of input)
 pieces_uncut input =
-    All-from_recursion _ (pieces_of input) (joined (slice_split is_cut (lines_of input)) (parts_are is_cut (lines_of input) (lines_are input))) where
-      joined : (parts : List (List (List ℕ))) → AllByRecursion (IsPart is_cut) parts → AllByRecursion (λ piece. cuts_of piece ≡ []) (map concat parts)
+    All-from_recursion _ (pieces_of input)
+    (joined (slice_split is_cut (lines_of input)) (parts_are is_cut (lines_of input) (lines_are input))) where
+      joined : (parts : List (List (List ℕ))) → AllByRecursion (IsPart is_cut) parts
+          → AllByRecursion (λ piece. cuts_of piece ≡ []) (map concat parts)
       joined [] all = tt
       joined (part ∷ parts) all = (ap (filter is_cut) (lines_again part all.0.lines) ∙ all.0.uncut, joined parts all.1)

@@ -88,7 +88,8 @@ module _ {S : Type 0} (state : S → SinkState) (i : Instance) (old : TextName �
     parts = stands k lt (each_all (Held sinks) (take k all_texts) before) (each_all (Same sinks) (drop k all_texts) behind)
 
     -- what holds of the step from what it told to what this one tells, holds from the old state to the new one
-    moved : (P : TextName → SinkState → SinkState → Type 0) → P name was (state sink) → P (name_at k) (old (name_at k)) (all_told state now (name_at k))
+    moved : (P : TextName → SinkState → SinkState → Type 0) → P name was (state sink)
+        → P (name_at k) (old (name_at k)) (all_told state now (name_at k))
     moved P h =
         let started : was ≡ old (name_at k) = is ∙ ap (all_told state sinks) at ∙ was_old k lt behind in
         subst (P (name_at k) (old (name_at k))) (sym parts.told)

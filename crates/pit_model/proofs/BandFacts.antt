@@ -20,7 +20,8 @@ rise_yes (b ∷ (c ∷ bands)) h =
     let more : starts_rise (c ∷ bands) ≡ true = rise_yes (c ∷ bands) (λ k d below. rw suc-add at (h (suc k) d (omega arith))) in
     rw (sym (h 0 b (omega arith)), more) refl
 
-rise_no : (bands : List Band) (k : ℕ) → k + 1 < length bands → ((d : Band) → false ≡ nat_lt (get_or bands k d).start (get_or bands (k + 1) d).start)
+rise_no : (bands : List Band) (k : ℕ) → k + 1 < length bands
+    → ((d : Band) → false ≡ nat_lt (get_or bands k d).start (get_or bands (k + 1) d).start)
     → starts_rise bands ≡ false
 rise_no [] k below h = absurd (omega arith)
 rise_no (b ∷ []) k below h = absurd (omega arith)
@@ -37,7 +38,8 @@ rise_told bands false h = sym (rise_no bands h.0 h.1 h.2)
 rise_adjacent : (bands : List Band) → starts_rise bands ≡ true → AllAdjacentBelow (λ b c. b.start ≤ c.start) bands (length bands)
 rise_adjacent [] h k d below = absurd (omega arith)
 rise_adjacent (b ∷ []) h k d below = absurd (omega arith)
-rise_adjacent (b ∷ (c ∷ bands)) h zero d below = let parts = and_parts (nat_lt b.start c.start) (starts_rise (c ∷ bands)) h in grind (arith, nat_tests)
+rise_adjacent (b ∷ (c ∷ bands)) h zero d below = let parts =
+    and_parts (nat_lt b.start c.start) (starts_rise (c ∷ bands)) h in grind (arith, nat_tests)
 rise_adjacent (b ∷ (c ∷ bands)) h (suc k) d below =
     let parts = and_parts (nat_lt b.start c.start) (starts_rise (c ∷ bands)) h in
     rw suc-add (rise_adjacent (c ∷ bands) parts.1 k d (omega arith))
@@ -49,15 +51,19 @@ parted bands grade h =
 -- where the elements up to a place pass and those after it fail, those that pass are those up to it
 none_pass : {X : Type 0} (p : X → Bool) (xs : List X) → AllWithin (λ x. p x ≡ false) xs 0 (length xs) → filter p xs ≡ []
 none_pass p [] fail = refl
-none_pass p (x ∷ xs) fail = rw (fail 0 x (omega arith) (omega arith)) (none_pass p xs (λ k d low high. fail (suc k) d (omega arith) (omega arith)))
+none_pass p (x ∷ xs) fail =
+    rw (fail 0 x (omega arith) (omega arith)) (none_pass p xs (λ k d low high. fail (suc k) d (omega arith) (omega arith)))
 
-pub first_pass : {X : Type 0} (p : X → Bool) (xs : List X) (i : ℕ) → IsPartitionPoint (λ x. p x ≡ true) (λ x. p x ≡ false) xs i → i ≤ length xs
+pub first_pass : {X : Type 0} (p : X → Bool) (xs : List X) (i : ℕ) → IsPartitionPoint (λ x. p x ≡ true) (λ x. p x ≡ false) xs i
+    → i ≤ length xs
     → filter p xs ≡ take i xs
 first_pass p xs zero point within = none_pass p xs point.1
 first_pass p [] (suc i) point within = refl
 first_pass p (x ∷ xs) (suc i) point within =
     rw (point.0 0 x (omega arith) (omega arith))
-    (ap (λ ys. x ∷ ys) (first_pass p xs i ((λ k d low high. point.0 (suc k) d (omega arith) (omega arith)), (λ k d low high. point.1 (suc k) d (omega arith) (omega arith))) (omega arith)))
+    (ap (λ ys. x ∷ ys) (first_pass p xs i
+    ((λ k d low high. point.0 (suc k) d (omega arith) (omega arith)), (λ k d low high. point.1 (suc k) d (omega arith) (omega arith)))
+    (omega arith)))
 
 -- the last element is the one at the last place
 last_after : {X : Type 0} (o : Option X) (x : X) (xs : List X) → last_or o (x ∷ xs) ≡ slice_get (x ∷ xs) (length xs)

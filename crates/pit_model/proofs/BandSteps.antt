@@ -21,9 +21,11 @@ bands_end place cells done = ap Ok (append-nil done)
 
 -- a pair of cells, and those behind it
 pub bands_step : (place n : ℕ) (cells : List (List ℕ)) (done : List Band)
-    → bands_in place (suc n) cells done ≡ (band_by (cell_at cells place) (cell_at cells (suc place)) >>= λ band. bands_in (suc (suc place)) n cells (done ++ band ∷ []))
+    → bands_in place (suc n) cells done
+    ≡ (band_by (cell_at cells place) (cell_at cells (suc place)) >>= λ band. bands_in (suc (suc place)) n cells (done ++ band ∷ []))
 bands_step place n cells done =
-    by (read_field plan_kind a_start (cell_at cells place)) (read_field plan_kind a_recovery (cell_at cells (suc place))) (read_from (suc (suc place)) (bands_form n) cells)
+    by (read_field plan_kind a_start (cell_at cells place)) (read_field plan_kind a_recovery (cell_at cells (suc place)))
+    (read_from (suc (suc place)) (bands_form n) cells)
   where
     by : (r1 r2 : Result Value PlanFaultKind) (r3 : Result (List Value) PlanFaultKind)
         → ((r1 >>= λ a. (r2 >>= λ b. r3 >>= λ cs. Ok (b ∷ cs)) >>= λ bs. Ok (a ∷ bs)) >>= λ values. Ok (done ++ bands_of values))
@@ -35,14 +37,16 @@ bands_step place n cells done =
 
 pair_step : (cells : List (List ℕ)) (count pair : ℕ) (done : List Band) → pair < count / 2
     → bands_in (2 * pair) (count / 2 - pair) cells done
-    ≡ (band_by (cell_at cells (2 * pair)) (cell_at cells (2 * pair + 1)) >>= λ band. bands_in (2 * (pair + 1)) (count / 2 - (pair + 1)) cells (done ++ band ∷ []))
+    ≡ (band_by (cell_at cells (2 * pair)) (cell_at cells (2 * pair + 1))
+    >>= λ band. bands_in (2 * (pair + 1)) (count / 2 - (pair + 1)) cells (done ++ band ∷ []))
 pair_step cells count pair done within =
     let n = count / 2 - (pair + 1) in
     let more : count / 2 - pair ≡ suc n = omega (arith, within) in
     let next : suc (2 * pair) ≡ 2 * pair + 1 = omega arith in
     let after : suc (suc (2 * pair)) ≡ 2 * (pair + 1) = omega arith in
     ap (λ k. bands_in (2 * pair) k cells done) more ∙ bands_step (2 * pair) n cells done
-    ∙ ap (λ i. band_by (cell_at cells (2 * pair)) (cell_at cells i) >>= λ band. bands_in (suc (suc (2 * pair))) n cells (done ++ band ∷ [])) next
+    ∙ ap (λ i. band_by (cell_at cells (2 * pair)) (cell_at cells i)
+    >>= λ band. bands_in (suc (suc (2 * pair))) n cells (done ++ band ∷ [])) next
     ∙ ap (λ i. band_by (cell_at cells (2 * pair)) (cell_at cells (2 * pair + 1)) >>= λ band. bands_in i n cells (done ++ band ∷ [])) after
 
 -- where a pair of cells states a band, and where it states none
@@ -50,15 +54,19 @@ pub bands_more : (cells : List (List ℕ)) (count pair : ℕ) (done : List Band)
     → band_by (cell_at cells (2 * pair)) (cell_at cells (2 * pair + 1)) ≡ Ok band
     → bands_in (2 * (pair + 1)) (count / 2 - (pair + 1)) cells (done ++ band ∷ []) ≡ bands_in (2 * pair) (count / 2 - pair) cells done
 bands_more cells count pair done band within said =
-    sym (pair_step cells count pair done within ∙ ap (λ r. r >>= λ b. bands_in (2 * (pair + 1)) (count / 2 - (pair + 1)) cells (done ++ b ∷ [])) said)
+    sym (pair_step cells count pair done within
+    ∙ ap (λ r. r >>= λ b. bands_in (2 * (pair + 1)) (count / 2 - (pair + 1)) cells (done ++ b ∷ [])) said)
 
 pub bands_fail : (cells : List (List ℕ)) (count pair : ℕ) (done : List Band) (kind : PlanFaultKind) → pair < count / 2
-    → band_by (cell_at cells (2 * pair)) (cell_at cells (2 * pair + 1)) ≡ Err kind → bands_in (2 * pair) (count / 2 - pair) cells done ≡ Err kind
+    → band_by (cell_at cells (2 * pair)) (cell_at cells (2 * pair + 1)) ≡ Err kind
+    → bands_in (2 * pair) (count / 2 - pair) cells done ≡ Err kind
 bands_fail cells count pair done kind within said =
-    pair_step cells count pair done within ∙ ap (λ r. r >>= λ b. bands_in (2 * (pair + 1)) (count / 2 - (pair + 1)) cells (done ++ b ∷ [])) said
+    pair_step cells count pair done within
+    ∙ ap (λ r. r >>= λ b. bands_in (2 * (pair + 1)) (count / 2 - (pair + 1)) cells (done ++ b ∷ [])) said
 
 -- no destination more
-pub covers_end : (place : ℕ) (cells : List (List ℕ)) (formulas : List NamedFormula) (done : List ℕ) → covers_in place 0 cells formulas done ≡ Ok done
+pub covers_end : (place : ℕ) (cells : List (List ℕ)) (formulas : List NamedFormula) (done : List ℕ)
+    → covers_in place 0 cells formulas done ≡ Ok done
 covers_end place cells formulas done = ap Ok (append-nil done)
 
 -- where a cell names a destination, and where it names none

@@ -9,7 +9,8 @@ use Rattle.pit_model.specs.declared.block.Block.{Block}
 -- a number and that it is in range, however that is shown
 kept_same : (InRange : ℕ → Type 0) → ((k : ℕ) (p q : InRange k) → p ≡ q) → (m n : ℕ) → m ≡ n → (p : InRange m) (q : InRange n)
     → ◌≡◌ {A = (k : ℕ) × InRange k} (m, p) (n, q)
-kept_same InRange one m n same p q = subst (λ k. (q : InRange k) → ◌≡◌ {A = (k : ℕ) × InRange k} (m, p) (k, q)) same (λ q i. (m, one m p q i)) q
+kept_same InRange one m n same p q =
+    subst (λ k. (q : InRange k) → ◌≡◌ {A = (k : ℕ) × InRange k} (m, p) (k, q)) same (λ q i. (m, one m p q i)) q
 
 below_same : (limit m n : ℕ) → m ≡ n → (p : m < limit) (q : n < limit) → ◌≡◌ {A = (k : ℕ) × (k < limit)} (m, p) (n, q)
 below_same limit = kept_same (λ k. k < limit) (λ k p q. le_prop p q)

@@ -30,9 +30,11 @@ pub quotient : (n : ℕ) → n * 10 ^ 6 / 10 ^ 6 ≡ n
 quotient n = omega arith
 
 -- what is read fits
-read_fits : (field : Field) (cell : List ℕ) (value : Value) → is_fine (field ∷ []) ≡ true → read_field plan_kind field cell ≡ Ok value → FitsField field value
+read_fits : (field : Field) (cell : List ℕ) (value : Value) → is_fine (field ∷ []) ≡ true → read_field plan_kind field cell ≡ Ok value
+    → FitsField field value
 read_fits field cell value fine e =
-    let told = subst (λ r. Follows r (asked_of_field plan_kind field cell) (Says field cell)) e (field_told plan_kind field cell (parts field [] fine).0) in
+    let told = subst (λ r. Follows r (asked_of_field plan_kind field cell) (Says field cell)) e
+    (field_told plan_kind field cell (parts field [] fine).0) in
     (spelled_fit (field ∷ []) (cell ∷ []) (value ∷ []) fine (told.1, tt)).0
 
 pub whole_read : (low high : ℕ) (cell : List ℕ) (m : ℤ) → read_field plan_kind (between low high) cell ≡ Ok (Millionths m)
@@ -59,10 +61,12 @@ below_read limit cell m e = by m (read_fits (below limit) cell (Millionths m) re
     by (pos k) fits = let same : k ≡ k / 10 ^ 6 * 10 ^ 6 = omega (arith, fits.3) in ap (λ k. Millionths (pos k)) same
     by (negsuc k) fits = absurd (omega (arith, ints, fits.0))
 
-pub origin_read : (cell : List ℕ) (m : ℤ) → read_field plan_kind an_origin cell ≡ Ok (Millionths m) → Millionths m ≡ length_of (int_div m (pos 1000))
+pub origin_read : (cell : List ℕ) (m : ℤ) → read_field plan_kind an_origin cell ≡ Ok (Millionths m)
+    → Millionths m ≡ length_of (int_div m (pos 1000))
 origin_read cell m e = let fits = read_fits an_origin cell (Millionths m) refl e in ap Millionths (thousands m fits.3)
 
-pub size_read : (cell : List ℕ) (m : ℤ) → read_field plan_kind a_size cell ≡ Ok (Millionths m) → Millionths m ≡ size_of (unsigned_abs m / 1000)
+pub size_read : (cell : List ℕ) (m : ℤ) → read_field plan_kind a_size cell ≡ Ok (Millionths m)
+    → Millionths m ≡ size_of (unsigned_abs m / 1000)
 size_read cell m e = by m (read_fits a_size cell (Millionths m) refl e)
   where
     by : (m : ℤ) → FitsField a_size (Millionths m) → Millionths m ≡ size_of (unsigned_abs m / 1000)
@@ -96,7 +100,8 @@ from_front place [] cells long = by (drop place cells) (omega (arith, long, leng
 from_front place (field ∷ form) cells long =
     rw (drop-cons cells place [] (omega (arith, long)), from_front (suc place) form cells (omega (arith, long))) refl
 
-by_place : (cells : List (List ℕ)) (form : List Field) (last : List Value → List (Check PlanFaultKind)) (next : List Value → Stated) → ¬ (length cells ≡ 0)
+by_place : (cells : List (List ℕ)) (form : List Field) (last : List Value → List (Check PlanFaultKind)) (next : List Value → Stated)
+    → ¬ (length cells ≡ 0)
     → said (cells_shape cells form last next) ≡ said_by_place cells (cells_shape cells form last next)
 by_place cells form last next some = by (length cells == suc (length form)) refl
   where
@@ -104,11 +109,13 @@ by_place cells form last next some = by (length cells == suc (length form)) refl
     Behind r = r >>= λ values. unless (failing (last values)) (Ok (next values))
 
     by : (t : Bool) → (length cells == suc (length form)) ≡ t
-        → said (cells_shape cells form last next) ≡ (if not t then Err Width else (read_from 1 form cells >>= λ values. unless (failing (last values)) (Ok (next values))))
+        → said (cells_shape cells form last next)
+        ≡ (if not t then Err Width else (read_from 1 form cells >>= λ values. unless (failing (last values)) (Ok (next values))))
     by true e =
         let long : length cells ≡ suc (length form) = eqb-true _ _ e in
         let same : read (λ p. plan_kind) form (drop 1 cells) ≡ read_from 1 form cells =
-        counted (λ p. plan_kind) form (drop 1 cells) (omega (arith, long, length-drop 1 cells)) ∙ sym (from_front 1 form cells (omega (arith, long))) in
+        counted (λ p. plan_kind) form (drop 1 cells) (omega (arith, long, length-drop 1 cells))
+        ∙ sym (from_front 1 form cells (omega (arith, long))) in
         ap (λ r. r >>= λ values. unless (failing (last values)) (Ok (next values))) same
     by false e =
         let short : (length (drop 1 cells) == length form) ≡ false =
@@ -119,8 +126,10 @@ zone_placed : (s : Stated) (cells : List (List ℕ)) → said_by_place cells (zo
 zone_placed s cells = by (length cells == suc (length (zone_form (length cells == 4)))) (read_from 1 (zone_form (length cells == 4)) cells)
   where
     by : (t : Bool) (r : Result (List Value) PlanFaultKind)
-        → (if not t then Err Width else (r >>= λ values. unless (failing ((zone_shape s cells).last values)) (Ok ((zone_shape s cells).next values))))
-        ≡ ((if not t then Err Width else (r >>= λ values. Ok (cone_of (length cells == 4) values))) >>= λ cone. unless (failing (room_for_zone s)) (Ok (with_zone s cone)))
+        → (if not t then Err Width else (r
+        >>= λ values. unless (failing ((zone_shape s cells).last values)) (Ok ((zone_shape s cells).next values))))
+        ≡ ((if not t then Err Width else (r >>= λ values. Ok (cone_of (length cells == 4) values)))
+        >>= λ cone. unless (failing (room_for_zone s)) (Ok (with_zone s cone)))
     by false r = refl
     by true (Ok values) = refl
     by true (Err kind) = refl
@@ -129,18 +138,24 @@ bands_long : (n : ℕ) → length (bands_form n) ≡ 2 * n
 bands_long zero = refl
 bands_long (suc n) = omega (arith, bands_long n)
 
-pub leach_placed : (s : Stated) (cells : List (List ℕ)) → said_by_place cells (destination_shape s formula_key.Leach cells) ≡ leach_in s cells
+pub leach_placed : (s : Stated) (cells : List (List ℕ))
+    → said_by_place cells (destination_shape s formula_key.Leach cells) ≡ leach_in s cells
 leach_placed s cells =
-    rw width (by (nat_lt (length cells) 6 || not (length cells % 2 == 0)) (read_field plan_kind a_name (cell_at cells 1)) (read_field plan_kind a_price (cell_at cells 2))
+    rw width (by (nat_lt (length cells) 6 || not (length cells % 2 == 0)) (read_field plan_kind a_name (cell_at cells 1))
+    (read_field plan_kind a_price (cell_at cells 2))
     (read_field plan_kind a_cost (cell_at cells 3)) (read_from 4 (bands_form (suc ((length cells - 6) / 2))) cells))
   where
-    width : (length cells == suc (length (destination_shape s formula_key.Leach cells).form)) ≡ not (nat_lt (length cells) 6 || not (length cells % 2 == 0))
+    width : (length cells == suc (length (destination_shape s formula_key.Leach cells).form))
+        ≡ not (nat_lt (length cells) 6 || not (length cells % 2 == 0))
     width = grind (arith, nat_tests, bands_long ((length cells - 6) / 2))
 
     by : (t : Bool) (r1 r2 r3 : Result Value PlanFaultKind) (r4 : Result (List Value) PlanFaultKind)
-        → (if not (not t) then Err Width else ((r1 >>= λ a. (r2 >>= λ b. (r3 >>= λ c. r4 >>= λ ds. Ok (c ∷ ds)) >>= λ cs. Ok (b ∷ cs)) >>= λ bs. Ok (a ∷ bs))
-        >>= λ values. unless (failing ((destination_shape s formula_key.Leach cells).last values)) (Ok ((destination_shape s formula_key.Leach cells).next values))))
-        ≡ (if t then Err Width else (r1 >>= λ name. r2 >>= λ price. r3 >>= λ cost. (r4 >>= λ values. Ok ([] ++ bands_of values)) >>= λ bands.
+        → (if not (not t) then Err Width else
+        ((r1 >>= λ a. (r2 >>= λ b. (r3 >>= λ c. r4 >>= λ ds. Ok (c ∷ ds)) >>= λ cs. Ok (b ∷ cs)) >>= λ bs. Ok (a ∷ bs))
+        >>= λ values. unless (failing ((destination_shape s formula_key.Leach cells).last values))
+        (Ok ((destination_shape s formula_key.Leach cells).next values))))
+        ≡ (if t then Err Width else (r1 >>= λ name. r2 >>= λ price. r3
+        >>= λ cost. (r4 >>= λ values. Ok ([] ++ bands_of values)) >>= λ bands.
         unless (failing (new_destination s (word_of name) ++ bands_asked bands ++ room_for_destination s))
         (Ok (with_destination s (word_of name) (Leach bands (whole_at (price ∷ []) 0) (whole_at (cost ∷ []) 0))))))
     by true r1 r2 r3 r4 = refl
@@ -180,7 +195,8 @@ limit_placed s cells =
     by : (t : Bool) (r1 r2 : Result Value PlanFaultKind) (r3 : Result (List Value) PlanFaultKind)
         → (if not t then Err Width else ((r1 >>= λ a. (r2 >>= λ b. r3 >>= λ cs. Ok (b ∷ cs)) >>= λ bs. Ok (a ∷ bs))
         >>= λ values. unless (failing ((limit_shape s cells).last values)) (Ok ((limit_shape s cells).next values))))
-        ≡ (if not t then Err Width else (r1 >>= λ resource. r2 >>= λ period. (r3 >>= λ values. Ok (bound_of (is_interval cells) values)) >>= λ bound.
+        ≡ (if not t then Err Width else (r1 >>= λ resource. r2
+        >>= λ period. (r3 >>= λ values. Ok (bound_of (is_interval cells) values)) >>= λ bound.
         limited s (limit_on s (word_of resource) (whole_at (period ∷ []) 0) bound)))
     by false r1 r2 r3 = refl
     by true (Err kind) r2 r3 = refl
@@ -192,7 +208,8 @@ keyed : (cells : List (List ℕ)) (shape : Shape PlanFaultKind Stated) → ¬ (l
     → said (cells_shape cells shape.form shape.last shape.next) ≡ said_by_place cells shape
 keyed cells shape some = by_place cells shape.form shape.last shape.next some
 
-key_placed : (s : Stated) (k : PlanKey) (cells : List (List ℕ)) → ¬ (length cells ≡ 0) → said (key_shape s (Some k) cells) ≡ key_by_place s k cells
+key_placed : (s : Stated) (k : PlanKey) (cells : List (List ℕ)) → ¬ (length cells ≡ 0)
+    → said (key_shape s (Some k) cells) ≡ key_by_place s k cells
 key_placed s key.Zone cells some = keyed cells (key_shape s (Some key.Zone) cells) some ∙ zone_placed s cells
 key_placed s key.Resource cells some = keyed cells (key_shape s (Some key.Resource) cells) some ∙ resource_placed s cells
 key_placed s key.Limit cells some = keyed cells (key_shape s (Some key.Limit) cells) some ∙ limit_placed s cells
@@ -208,11 +225,19 @@ recorded s k cells some is = let test : (length cells == 0) ≡ false = unequal 
 
 -- a grid of axes
 pub grid_said : (s : Stated) (cells : List (List ℕ)) (x y z : ℤ) (a b c : ℕ) → length cells ≡ 7
-    → read_field plan_kind an_origin (cell_at cells 1) ≡ Ok (length_of x) → read_field plan_kind an_origin (cell_at cells 2) ≡ Ok (length_of y)
+    → read_field plan_kind an_origin (cell_at cells 1) ≡ Ok (length_of x)
+    → read_field plan_kind an_origin (cell_at cells 2) ≡ Ok (length_of y)
     → read_field plan_kind an_origin (cell_at cells 3) ≡ Ok (length_of z) → read_field plan_kind a_size (cell_at cells 4) ≡ Ok (size_of a)
     → read_field plan_kind a_size (cell_at cells 5) ≡ Ok (size_of b) → read_field plan_kind a_size (cell_at cells 6) ≡ Ok (size_of c)
     → said_by_place cells (grid_shape s cells)
-    ≡ unless (failing (once s.grid)) (Ok (record s { grid = Some (record { x = record { origin = x; size = a }; y = record { origin = y; size = b }; z = record { origin = z; size = c } }) }))
+    ≡ unless (failing (once s.grid)) (Ok (record s {
+      grid = Some (record {
+        x = record { origin = x; size = a };
+        y = record { origin = y; size = b };
+        z =
+            record { origin = z; size = c };
+      });
+    }))
 grid_said s cells x y z a b c long rx ry rz ra rb rc =
     rw (long, rx, ry, rz, ra, rb, rc) (λ i. unless (failing (once s.grid)) (Ok (record s {
       grid = Some (record {
@@ -223,7 +248,8 @@ grid_said s cells x y z a b c long rx ry rz ra rb rc =
     })))
 
 -- a limit by its parts
-pub limit_said : (s : Stated) (cells : List (List ℕ)) (resource period : ℕ) (bound : Bound) → length cells ≡ suc (length (limit_form s cells))
+pub limit_said : (s : Stated) (cells : List (List ℕ)) (resource period : ℕ) (bound : Bound)
+    → length cells ≡ suc (length (limit_form s cells))
     → resource_named s.resources (cell_at cells 1) ≡ Some resource
     → read_field plan_kind (below (unwrap_or s.periods 0)) (cell_at cells 2) ≡ Ok (whole period) → bound_in cells ≡ Ok bound
     → limit_in s cells ≡ limited s (record { resource = resource; period = period; bound = bound })

@@ -12,7 +12,8 @@ FitsAt [] value place = Unit {0}
 FitsAt (field ∷ form) value zero = FitsField field value
 FitsAt (field ∷ form) value (suc place) = FitsAt form value place
 
-pub fits_at : (form : List Field) (values : List Value) (place : ℕ) → Fit form values → FitsAt form (slice_index_or values place (Bytes [])) place
+pub fits_at : (form : List Field) (values : List Value) (place : ℕ) → Fit form values
+    → FitsAt form (slice_index_or values place (Bytes [])) place
 fits_at [] values place fit = tt
 fits_at (field ∷ form) [] place fit = absurd fit
 fits_at (field ∷ form) (value ∷ values) zero fit = fit.0
@@ -40,7 +41,8 @@ below_fits limit (Millionths (pos m)) fits = omega (arith, ints, fits.1)
 below_fits limit (Millionths (negsuc m)) fits = absurd (omega (arith, ints, fits.0))
 below_fits limit (Bytes word) fits = absurd fits
 
-pub range_fits : (decimals : ℕ) (low high : ℤ) (value : Value) → FitsField (Decimal decimals low high) value → (low ≤ℤ millionths value) × (millionths value ≤ℤ high)
+pub range_fits : (decimals : ℕ) (low high : ℤ) (value : Value) → FitsField (Decimal decimals low high) value → (low ≤ℤ millionths value)
+    × (millionths value ≤ℤ high)
 range_fits decimals low high (Millionths m) fits = (fits.0, fits.1)
 range_fits decimals low high (Bytes word) fits = absurd fits
 

@@ -78,4 +78,5 @@ rises l (m ∷ ms) up none =
         (All-with_limit (λ k. stands_before m k ≡ true) l ms (after l m e others.0) (first_rises m ms up)) more)
 
 pub with_limit_keeps : (l : Limit) (ms : List Limit) → IsPermutation (l ∷ ms) (with_limit l ms)
-with_limit_keeps l ms = subst (IsPermutation (l ∷ ms)) (inserted l ms) (IsPermutation-insert ms (position_or_len (λ m. stands_before l m) ms) l)
+with_limit_keeps l ms =
+    subst (IsPermutation (l ∷ ms)) (inserted l ms) (IsPermutation-insert ms (position_or_len (λ m. stands_before l m) ms) l)

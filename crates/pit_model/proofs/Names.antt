@@ -19,7 +19,8 @@ all_below (b ∷ bytes) h =
     All-cons (λ c. c < 128) b bytes (name_byte_below b parts.0) (all_below bytes parts.1)
 
 pub not_text : (bytes : List ℕ) → (IsUtf8 bytes → ⊥) → is_name bytes ≡ false
-not_text bytes never = decided (is_name bytes) (λ h. never (IsUtf8-from_ascii bytes (IsAscii-from_all bytes (all_below bytes (and_parts _ _ h).1))))
+not_text bytes never =
+    decided (is_name bytes) (λ h. never (IsUtf8-from_ascii bytes (IsAscii-from_all bytes (all_below bytes (and_parts _ _ h).1))))
   where
     decided : (b : Bool) → (b ≡ true → ⊥) → b ≡ false
     decided true never = absurd (never refl)

@@ -71,8 +71,11 @@ not_true false e = refl
 
 grid_kept : (values : List Value) → Fit grid_form values → IsGrid (grid_of values)
 grid_kept values fit =
-    let at = λ (n : ℕ). fits_at grid_form values n fit in
-    ((origin_fits _ (at 0), size_fits 1 100000 _ (at 3)), (origin_fits _ (at 1), size_fits 1 100000 _ (at 4)), (origin_fits _ (at 2), size_fits 1 100000 _ (at 5)))
+    let at = λ (n : ℕ). fits_at grid_form values n fit in (
+      (origin_fits _ (at 0), size_fits 1 100000 _ (at 3)),
+      (origin_fits _ (at 1), size_fits 1 100000 _ (at 4)),
+      (origin_fits _ (at 2), size_fits 1 100000 _ (at 5)),
+    )
 
 cone_kept : (equal : Bool) (values : List Value) → Fit (zone_form equal) values → IsCone (cone_of equal values)
 cone_kept true values fit =
@@ -90,7 +93,8 @@ cone_kept false values fit = (
 )
 
 -- one destination more, its numbers in range
-destination_kept : (s : Stated) (name : List ℕ) (formula : Formula) → KeepsStated s → IsRuled formula → not (length s.formulas == MAX_DESTINATIONS) ≡ true
+destination_kept : (s : Stated) (name : List ℕ) (formula : Formula) → KeepsStated s → IsRuled formula
+    → not (length s.formulas == MAX_DESTINATIONS) ≡ true
     → KeepsStated (with_destination s name formula)
 destination_kept s name formula kept ruled free =
     let new : NamedFormula = record { name = name; formula = formula } in
@@ -105,7 +109,8 @@ destination_kept s name formula kept ruled free =
       rate = kept.rate;
       resources = kept.resources;
       covers = All-weaker (λ r. All (λ n. n < length s.formulas) r.covers) (λ r. All (λ n. n < length (s.formulas ++ new ∷ [])) r.covers)
-          (λ r all. All-weaker (λ n. n < length s.formulas) (λ n. n < length (s.formulas ++ new ∷ [])) (λ n small. omega (arith, more)) r.covers all)
+          (λ r all. All-weaker (λ n. n < length s.formulas)
+          (λ n. n < length (s.formulas ++ new ∷ [])) (λ n small. omega (arith, more)) r.covers all)
           s.resources kept.covers;
       covers_once = kept.covers_once;
       limits = kept.limits;
@@ -131,10 +136,12 @@ covers_kept s zero (value ∷ values) fit = absurd fit
 covers_kept s (suc n) [] fit = absurd fit
 covers_kept s (suc n) (Millionths m ∷ values) fit = absurd fit.0
 covers_kept s (suc n) (Bytes word ∷ values) fit =
-    All-cons (λ n. n < length s.formulas) _ (covers_of s.formulas values) (number_there (λ (f : NamedFormula). bytes_eq f.name word) s.formulas fit.0)
+    All-cons (λ n. n < length s.formulas) _ (covers_of s.formulas values)
+    (number_there (λ (f : NamedFormula). bytes_eq f.name word) s.formulas fit.0)
     (covers_kept s n values fit.1)
 
-some_covers : (s : Stated) (field : Field) (form : List Field) (values : List Value) → Fit (field ∷ form) values → 1 ≤ length (covers_of s.formulas values)
+some_covers : (s : Stated) (field : Field) (form : List Field) (values : List Value) → Fit (field ∷ form) values
+    → 1 ≤ length (covers_of s.formulas values)
 some_covers s field form [] fit = absurd fit
 some_covers s field form (value ∷ values) fit = omega arith
 
@@ -148,7 +155,8 @@ tonnes_kept value fits = range_fits 6 (pos 0) (pos (10 ^ 18)) value fits
 
 -- the numbers of a bound, by its letter
 bound_kept : (interval : Bool) (values : List Value) → Fit (bound_form interval) values → AreTonnes (bound_of interval values)
-bound_kept true values fit = (tonnes_kept _ (fits_at (bound_form true) values 1 fit), tonnes_kept _ (fits_at (bound_form true) values 2 fit))
+bound_kept true values fit =
+    (tonnes_kept _ (fits_at (bound_form true) values 1 fit), tonnes_kept _ (fits_at (bound_form true) values 2 fit))
 bound_kept false values fit = letter (bytes_eq (word_at values 0) (codes "L"))
   where
     letter : (l : Bool) → AreTonnes (if l then AtMost (number_at values 1) else AtLeast (number_at values 1))
@@ -252,7 +260,8 @@ key_kept s (Some key.Rate) cells kept values fit holds = record {
 key_kept s (Some key.Resource) cells kept values fit holds =
     let new : Resource = record { name = word_at values 0; covers = covers_of s.formulas (drop 1 values) } in
     let behind = fits_behind 1 (resource_form s cells) values fit in
-    let apart = held Twice _ (check Twice (not (has_repeat new.covers)) ++ check TooMany (not (length s.resources == MAX_RESOURCES))) holds in
+    let apart =
+    held Twice _ (check Twice (not (has_repeat new.covers)) ++ check TooMany (not (length s.resources == MAX_RESOURCES))) holds in
     let once = held Twice (not (has_repeat new.covers)) (check TooMany (not (length s.resources == MAX_RESOURCES))) apart.1 in
     let more : length (s.resources ++ new ∷ []) ≡ length s.resources + 1 = length-append s.resources (new ∷ []) in
     record {
@@ -264,9 +273,12 @@ key_kept s (Some key.Resource) cells kept values fit holds =
       periods = kept.periods;
       rate = kept.rate;
       resources = room s.resources new MAX_RESOURCES kept.resources (held TooMany (not (length s.resources == MAX_RESOURCES)) [] once.1).0;
-      covers = All-push (λ r. All (λ n. n < length s.formulas) r.covers) s.resources new kept.covers (covers_kept s (suc (length cells - 3)) (drop 1 values) behind);
-      covers_once = All-push (λ r. AreCovers r.covers) s.resources new kept.covers_once
-          (some_covers s (a_destination s.formulas) (replicate (length cells - 3) (a_destination s.formulas)) (drop 1 values) behind, not_true (has_repeat new.covers) once.0);
+      covers = All-push (λ r. All (λ n. n < length s.formulas) r.covers) s.resources new kept.covers
+          (covers_kept s (suc (length cells - 3)) (drop 1 values) behind);
+      covers_once = All-push (λ r. AreCovers r.covers) s.resources new kept.covers_once (
+        some_covers s (a_destination s.formulas) (replicate (length cells - 3) (a_destination s.formulas)) (drop 1 values) behind,
+        not_true (has_repeat new.covers) once.0,
+      );
       limits = All-weaker (λ l. (l.resource < length s.resources) × (l.period < unwrap_or s.periods 0) × IsBound l.bound)
           (λ l. (l.resource < length (s.resources ++ new ∷ [])) × (l.period < unwrap_or s.periods 0) × IsBound l.bound)
           (λ l h. (omega (arith, more, h.0), h.1, h.2)) s.limits kept.limits;
@@ -295,7 +307,8 @@ key_kept s (Some key.Limit) cells kept values fit holds =
       resources = kept.resources;
       covers = kept.covers;
       covers_once = kept.covers_once;
-      limits = All-with_limit (λ l. (l.resource < length s.resources) × (l.period < unwrap_or s.periods 0) × IsBound l.bound) new s.limits (there, early, bound) kept.limits;
+      limits = All-with_limit (λ l. (l.resource < length s.resources) × (l.period < unwrap_or s.periods 0) × IsBound l.bound) new s.limits
+          (there, early, bound) kept.limits;
       rising = rises new s.limits kept.rising (not_true (list_any (λ m. is_same_place new m) s.limits) alone.0);
     }
 
@@ -311,10 +324,12 @@ record_kept s next cells kept states = by (length cells == 0) (record_fine s cel
     by false fine states =
         let k = key_of (cell_at cells 0) in
         subst KeepsStated (sym states.is)
-        (key_kept s k cells kept states.values (spelled_fit (key_shape s k cells).form (key_shape s k cells).texts states.values fine states.spelled) states.last)
+        (key_kept s k cells kept states.values
+        (spelled_fit (key_shape s k cells).form (key_shape s k cells).texts states.values fine states.spelled) states.last)
 
 -- the records, one behind the other
-records_kept : (number : ℕ) (s last : Stated) (rows : List (List (List ℕ))) → KeepsStated s → AllState plan_grammar number s rows last → KeepsStated last
+records_kept : (number : ℕ) (s last : Stated) (rows : List (List (List ℕ))) → KeepsStated s → AllState plan_grammar number s rows last
+    → KeepsStated last
 records_kept number s last [] kept all = subst KeepsStated (sym all) kept
 records_kept number s last (row ∷ rows) kept (next, states, more) =
     records_kept (suc number) next last rows (record_kept s next (cells_of row) kept (numbered states)) more
@@ -329,9 +344,11 @@ records_kept number s last (row ∷ rows) kept (next, states, more) =
     }
 
 -- what is whole behind parts in range is a plan
-whole_kept : (s : Stated) (name : Option (List ℕ)) (grid : Option Grid) (periods : Option ℕ) (rate : Option ℤ) (p : PlanParts) → KeepsStated s
+whole_kept : (s : Stated) (name : Option (List ℕ)) (grid : Option Grid) (periods : Option ℕ) (rate : Option ℤ) (p : PlanParts)
+    → KeepsStated s
     → s.grid ≡ grid → s.periods ≡ periods → s.rate ≡ rate → whole_plan name grid periods rate s ≡ Ok p → IsPlan p
-whole_kept s (Some name) (Some grid) (Some periods) (Some rate) p kept g n r e = by (length s.cones == 0) refl (length s.formulas == 0) refl e
+whole_kept s (Some name) (Some grid) (Some periods) (Some rate) p kept g n r e =
+    by (length s.cones == 0) refl (length s.formulas == 0) refl e
   where
     P : Type 0
     P = Result PlanParts PlanFaultKind

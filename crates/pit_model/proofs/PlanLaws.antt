@@ -27,7 +27,8 @@ planned_spelled text p e = by (read_all plan_grammar 1 nothing_stated (records_o
     same (Ok q) e = let is : q ≡ p = cc in ap Ok is
     same (Err kind) e = absurd cc
 
-    by : (r : Result Stated PlanFault) → read_all plan_grammar 1 nothing_stated (records_of text) ≡ r → Ended number r ≡ Ok p → SpellPlan (records_of text) p
+    by : (r : Result Stated PlanFault) → read_all plan_grammar 1 nothing_stated (records_of text) ≡ r → Ended number r ≡ Ok p
+        → SpellPlan (records_of text) p
     by (Ok s) is e = (s, read_all_states plan_grammar 1 nothing_stated (records_of text) s plan_fine is, same (finished s) e)
     by (Err fault) is e = absurd cc
 
@@ -45,14 +46,16 @@ planned_fails text fault e = by (read_all plan_grammar 1 nothing_stated (records
     number : ℕ
     number = length (records_of text) + 1
 
-    lacking : (s : Stated) → AllState plan_grammar 1 nothing_stated (records_of text) s → (r : Result PlanParts PlanFaultKind) → finished s ≡ r
+    lacking : (s : Stated) → AllState plan_grammar 1 nothing_stated (records_of text) s → (r : Result PlanParts PlanFaultKind)
+        → finished s ≡ r
         → finished_at number r ≡ Err fault → IsLacking (records_of text) fault
     lacking s all (Ok q) is e = absurd cc
     lacking s all (Err kind) is e =
         let same : record { row = number; kind = kind } ≡ fault = cc in
         (s, all, is ∙ ap (λ (f : PlanFault). Err f.kind) same, ap (λ (f : PlanFault). f.row) (sym same))
 
-    by : (r : Result Stated PlanFault) → read_all plan_grammar 1 nothing_stated (records_of text) ≡ r → Ended number r ≡ Err fault → IsFault text fault
+    by : (r : Result Stated PlanFault) → read_all plan_grammar 1 nothing_stated (records_of text) ≡ r → Ended number r ≡ Err fault
+        → IsFault text fault
     by (Ok s) is e = inr (lacking s (read_all_states plan_grammar 1 nothing_stated (records_of text) s plan_fine is) (finished s) refl e)
     by (Err other) is e =
         let same : other ≡ fault = cc in

@@ -32,24 +32,29 @@ Leads GaveUp n s stated = ⊥
 
 -- the first of them
 one : (row : List (List ℕ)) (rows : List (List (List ℕ))) (n : ℕ) (s : Stated) → n ≤ 10000
-    → plan_from (row ∷ rows) n s ≡ (placed plan_grammar n row (said (record_shape s (cells_of row))) >>= λ next. plan_from rows (n + 1) next)
+    → plan_from (row ∷ rows) n s ≡ (placed plan_grammar n row (said (record_shape s (cells_of row)))
+    >>= λ next. plan_from rows (n + 1) next)
 one row rows n s few =
     let test : nat_le n 10000 ≡ true = grind (arith, nat_tests) in
     let last : n + length (row ∷ rows) ≡ n + 1 + length rows = omega arith in
     let next : suc n ≡ n + 1 = omega arith in
     rw test (
-    ap (λ k. (placed plan_grammar n row (said (record_shape s (cells_of row))) >>= λ x. read_all plan_grammar (suc n) x rows) >>= λ last. finished_at k (finished last)) last
-    ∙ ap (λ k. (placed plan_grammar n row (said (record_shape s (cells_of row))) >>= λ x. read_all plan_grammar k x rows) >>= λ last. finished_at (n + 1 + length rows) (finished last)) next
+    ap (λ k. (placed plan_grammar n row (said (record_shape s (cells_of row))) >>= λ x. read_all plan_grammar (suc n) x rows)
+    >>= λ last. finished_at k (finished last)) last
+    ∙ ap (λ k. (placed plan_grammar n row (said (record_shape s (cells_of row))) >>= λ x. read_all plan_grammar k x rows)
+    >>= λ last. finished_at (n + 1 + length rows) (finished last)) next
     ∙ by (placed plan_grammar n row (said (record_shape s (cells_of row))))
     )
   where
     by : (r : Result Stated PlanFault)
-        → ((r >>= λ x. read_all plan_grammar (n + 1) x rows) >>= λ last. finished_at (n + 1 + length rows) (finished last)) ≡ (r >>= λ x. plan_from rows (n + 1) x)
+        → ((r >>= λ x. read_all plan_grammar (n + 1) x rows) >>= λ last. finished_at (n + 1 + length rows) (finished last))
+        ≡ (r >>= λ x. plan_from rows (n + 1) x)
     by (Ok next) = refl
     by (Err fault) = refl
 
 -- a record was taken: it and those ahead now are those that were ahead
-took : (E : Type 0) (old : RecordReaderView) (fields : List (List ℕ)) (after : RecordReaderView) (n : ℕ) (s : Stated) (stated : Result PlanParts PlanFault)
+took : (E : Type 0) (old : RecordReaderView) (fields : List (List ℕ))
+    (after : RecordReaderView) (n : ℕ) (s : Stated) (stated : Result PlanParts PlanFault)
     → TakesRow {E = E} old (Ok true) fields after → Leads old n s stated
     → (rest : List (List (List ℕ))) × ((after ≡ Rows rest) × (plan_from (fields ∷ rest) n s ≡ stated))
 took E (Rows []) fields after n s stated t h = absurd (cc (t.0))
@@ -57,28 +62,32 @@ took E (Rows (row ∷ rows)) fields after n s stated t h = (rows, (t.2, ap (λ f
 took E Over fields after n s stated t h = absurd h
 took E GaveUp fields after n s stated t h = absurd t
 
-pub ended : (E : Type 0) (old : RecordReaderView) (fields : List (List ℕ)) (after : RecordReaderView) (n : ℕ) (s : Stated) (stated : Result PlanParts PlanFault)
+pub ended : (E : Type 0) (old : RecordReaderView) (fields : List (List ℕ))
+    (after : RecordReaderView) (n : ℕ) (s : Stated) (stated : Result PlanParts PlanFault)
     → TakesRow {E = E} old (Ok false) fields after → Leads old n s stated → finished_at n (finished s) ≡ stated
 ended E (Rows []) fields after n s stated t h = let same : n ≡ n + 0 = omega arith in ap (λ k. finished_at k (finished s)) same ∙ h
 ended E (Rows (row ∷ rows)) fields after n s stated t h = absurd (cc (t.0))
 ended E Over fields after n s stated t h = absurd h
 ended E GaveUp fields after n s stated t h = absurd t
 
-pub too_many : (E : Type 0) (old : RecordReaderView) (fields : List (List ℕ)) (after : RecordReaderView) (n : ℕ) (s : Stated) (stated : Result PlanParts PlanFault)
+pub too_many : (E : Type 0) (old : RecordReaderView) (fields : List (List ℕ))
+    (after : RecordReaderView) (n : ℕ) (s : Stated) (stated : Result PlanParts PlanFault)
     → TakesRow {E = E} old (Ok true) fields after → Leads old n s stated → 10000 < n → stated ≡ Err (record { row = n; kind = TooMany })
 too_many E old fields after n s stated t h past =
     let test : nat_le n 10000 ≡ false = grind (arith, nat_tests) in
     sym (took E old fields after n s stated t h).1.1 ∙ rw test refl
 
 -- the record states what is next, or has a fault
-pub admitted : (E : Type 0) (old : RecordReaderView) (fields : List (List ℕ)) (after : RecordReaderView) (n : ℕ) (s next : Stated) (stated : Result PlanParts PlanFault)
+pub admitted : (E : Type 0) (old : RecordReaderView) (fields : List (List ℕ))
+    (after : RecordReaderView) (n : ℕ) (s next : Stated) (stated : Result PlanParts PlanFault)
     → TakesRow {E = E} old (Ok true) fields after → Leads old n s stated → n ≤ 10000 → said (record_shape s (cells_of fields)) ≡ Ok next
     → Leads after (n + 1) next stated
 admitted E old fields after n s next stated t h few states =
     let p = took E old fields after n s stated t h in
     rw p.1.0 (sym (one fields p.0 n s few ∙ ap (λ r. placed plan_grammar n fields r >>= λ x. plan_from p.0 (n + 1) x) states) ∙ p.1.1)
 
-pub refused : (E : Type 0) (old : RecordReaderView) (fields : List (List ℕ)) (after : RecordReaderView) (n : ℕ) (s : Stated) (kind : PlanFaultKind)
+pub refused : (E : Type 0) (old : RecordReaderView) (fields : List (List ℕ))
+    (after : RecordReaderView) (n : ℕ) (s : Stated) (kind : PlanFaultKind)
     (stated : Result PlanParts PlanFault)
     → TakesRow {E = E} old (Ok true) fields after → Leads old n s stated → n ≤ 10000 → said (record_shape s (cells_of fields)) ≡ Err kind
     → stated ≡ Err (record { row = n; kind = kind })

@@ -13,10 +13,12 @@ use Rattle.pit_model.specs.declared.band.Band.{Band}
 pub metal_bound : (kg grade recovery price : ℕ) → kg ≤ 10 ^ 9 → grade ≤ 10 ^ 12 → recovery ≤ 1000 → price ≤ 10 ^ 8
     → kg * grade * recovery * price ≤ 10 ^ 32
 metal_bound kg grade recovery price k g r p =
-    mul-le (kg * grade * recovery) price (10 ^ 24) (10 ^ 8) (mul-le (kg * grade) recovery (10 ^ 21) 1000 (mul-le kg grade (10 ^ 9) (10 ^ 12) k g) r) p
+    mul-le (kg * grade * recovery) price (10 ^ 24) (10 ^ 8)
+    (mul-le (kg * grade) recovery (10 ^ 21) 1000 (mul-le kg grade (10 ^ 9) (10 ^ 12) k g) r) p
 
 pub floor_is : (a : ℤ) (n : ℕ) → 0 < n → IsFloor (floor a n) a n
-floor_is (pos a) n some = (omega (arith, ints, div-add-mod' a n, mod_below a n some), omega (arith, ints, div-add-mod' a n, mod_below a n some))
+floor_is (pos a) n some =
+    (omega (arith, ints, div-add-mod' a n, mod_below a n some), omega (arith, ints, div-add-mod' a n, mod_below a n some))
 floor_is (negsuc a) n some =
     let more : suc (a / n) * n ≡ a / n * n + n = suc-mul (a / n) n in
     (omega (arith, ints, div-add-mod' a n, mod_below a n some), omega (arith, ints, div-add-mod' a n, mod_below a n some))
@@ -42,14 +44,16 @@ pub recovery_bound : (o : Option Band) (bands : List Band) (grade : ℕ) → opt
     → option_map_or (λ b. b.recovery) (last_or o (filter (λ b. nat_le b.start grade) bands)) 0 ≤ 1000
 recovery_bound o [] grade first rest = first
 recovery_bound o (b ∷ bands) grade first rest =
-    by_test (nat_le b.start grade) (recovery_bound (Some b) bands grade (rest 0 b (omega arith)).1 after) (recovery_bound o bands grade first after)
+    by_test (nat_le b.start grade) (recovery_bound (Some b) bands grade (rest 0 b (omega arith)).1 after)
+    (recovery_bound o bands grade first after)
   where
     after : All IsBand bands
     after k d below = rest (suc k) d (omega arith)
 
     by_test : (t : Bool) → option_map_or (λ (c : Band). c.recovery) (last_or (Some b) (filter (λ c. nat_le c.start grade) bands)) 0 ≤ 1000
         → option_map_or (λ (c : Band). c.recovery) (last_or o (filter (λ c. nat_le c.start grade) bands)) 0 ≤ 1000
-        → option_map_or (λ (c : Band). c.recovery) (last_or o (cond t (b ∷ filter (λ c. nat_le c.start grade) bands) (filter (λ c. nat_le c.start grade) bands))) 0 ≤ 1000
+        → option_map_or (λ (c : Band). c.recovery) (last_or o
+        (cond t (b ∷ filter (λ c. nat_le c.start grade) bands) (filter (λ c. nat_le c.start grade) bands))) 0 ≤ 1000
     by_test true with_b without = with_b
     by_test false with_b without = without
 
@@ -60,7 +64,8 @@ floor_bound (negsuc a) h = omega arith
 
 pub mill_bound : (kg grade recovery price cost : ℕ) → kg ≤ 10 ^ 9 → grade ≤ 10 ^ 12 → recovery ≤ 1000 → price ≤ 10 ^ 8 → cost ≤ 10 ^ 7
     → IsWorth (floor (pos (kg * grade * recovery * price) -ℤ pos (kg * cost * 10 ^ 12)) (10 ^ 15))
-mill_bound kg grade recovery price cost k g r p c = near _ _ (metal_bound kg grade recovery price k g r p) (mul-le kg cost (10 ^ 9) (10 ^ 7) k c)
+mill_bound kg grade recovery price cost k g r p c =
+    near _ _ (metal_bound kg grade recovery price k g r p) (mul-le kg cost (10 ^ 9) (10 ^ 7) k c)
   where
     near : (earned spent : ℕ) → earned ≤ 10 ^ 32 → spent ≤ 10 ^ 16 → IsWorth (floor (pos earned -ℤ pos (spent * 10 ^ 12)) (10 ^ 15))
     near earned spent e s = floor_bound (pos earned -ℤ pos (spent * 10 ^ 12)) (omega (arith, ints))

@@ -20,14 +20,18 @@ digit_in_range xs i all within =
     grind (arith, nat_tests)
 
 -- one more digit of a number that is cut off at a limit
-pub capped_more : (xs : List ℕ) (i value : ℕ) → list_all is_ascii_digit xs ≡ true → i < length xs → value ≡ min (10 ^ 18 + 1) (digits_value 10 (take i xs)) → min (10 ^ 18 + 1) (value * 10 + (get_or xs i 0 - 48)) ≡ min (10 ^ 18 + 1) (digits_value 10 (take (i + 1) xs))
+pub capped_more : (xs : List ℕ) (i value : ℕ) → list_all is_ascii_digit xs ≡ true → i < length xs
+    → value ≡ min (10 ^ 18 + 1) (digits_value 10 (take i xs))
+    → min (10 ^ 18 + 1) (value * 10 + (get_or xs i 0 - 48)) ≡ min (10 ^ 18 + 1) (digits_value 10 (take (i + 1) xs))
 capped_more xs i value all within so_far =
     let range = digit_in_range xs i all within in
     omega (arith, range, digit_value_digit (get_or xs i 0) range, digits_value_more 10 xs i within)
 
 -- the first place that has a byte
-pub first_place : (xs : List ℕ) (i byte : ℕ) → i ≤ length xs → ((k : ℕ) → k < i → get_or xs k 0 ≡ byte → ⊥) → (i < length xs → get_or xs i 0 ≡ byte) → i ≡ position_or_len (λ c. c == byte) xs
-first_place xs i byte within before at = sym (position_or_len_is (λ c. c == byte) xs i 0 within (λ k h. ne_eqb _ _ (before k h)) (λ h. eq-eqb _ _ (at h)))
+pub first_place : (xs : List ℕ) (i byte : ℕ) → i ≤ length xs → ((k : ℕ) → k < i → get_or xs k 0 ≡ byte → ⊥)
+    → (i < length xs → get_or xs i 0 ≡ byte) → i ≡ position_or_len (λ c. c == byte) xs
+first_place xs i byte within before at =
+    sym (position_or_len_is (λ c. c == byte) xs i 0 within (λ k h. ne_eqb _ _ (before k h)) (λ h. eq-eqb _ _ (at h)))
 
 -- a place of a text with zeros behind it
 pub padded_at : (xs : List ℕ) (n i : ℕ) → i < n → get_or (xs ++ replicate n 48) i 0 ≡ get_or xs i 48
@@ -36,9 +40,13 @@ padded_at (x ∷ xs) n zero within = refl
 padded_at (x ∷ xs) n (suc i) within = padded_at xs n i (omega arith)
 
 -- one more of the six decimals
-pub decimals_more : (xs : List ℕ) (i value digit : ℕ) → i < 6 → digit ≤ 9 → digit + 48 ≡ get_or xs i 48 → value < 10 ^ i → value ≡ digits_value 10 (take i (xs ++ replicate 6 48)) → (value * 10 + digit < 10 ^ (i + 1)) × (value * 10 + digit ≡ digits_value 10 (take (i + 1) (xs ++ replicate 6 48)))
+pub decimals_more : (xs : List ℕ) (i value digit : ℕ) → i < 6 → digit ≤ 9 → digit + 48 ≡ get_or xs i 48 → value < 10 ^ i
+    → value ≡ digits_value 10 (take i (xs ++ replicate 6 48)) → (value * 10 + digit < 10 ^ (i + 1))
+    × (value * 10 + digit ≡ digits_value 10 (take (i + 1) (xs ++ replicate 6 48)))
 decimals_more xs i value digit within small is bound so_far =
     let padded = padded_at xs 6 i within in
     let range : IsInRange 48 57 (get_or (xs ++ replicate 6 48) i 0) = omega arith in
-    let long : i < length (xs ++ replicate 6 48) = omega (arith, length-append xs (replicate 6 48)) in
-    (omega (arith, pow-succ' 10 i, ap (λ n. 10 ^ n) (add-one i)), omega (arith, digit_value_digit _ range, digits_value_more 10 (xs ++ replicate 6 48) i long))
+    let long : i < length (xs ++ replicate 6 48) = omega (arith, length-append xs (replicate 6 48)) in (
+      omega (arith, pow-succ' 10 i, ap (λ n. 10 ^ n) (add-one i)),
+      omega (arith, digit_value_digit _ range, digits_value_more 10 (xs ++ replicate 6 48) i long),
+    )

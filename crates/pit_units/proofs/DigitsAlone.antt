@@ -13,7 +13,8 @@ use Rattle.pit_units.proofs.Spelling.{digit_range, reads}
 use Rattle.pit_units.specs.Decimal.{all_digits, size_of, decimal_of, IsSpelled}
 
 -- digits alone are read as their number
-pub digits_alone : (max : ℕ) (text : List ℕ) → all_digits text ≡ true → 0 < length text → digits_value 10 text ≤ 10 ^ 18 → decimal_of max text ≡ Ok (pos (digits_value 10 text * 10 ^ 6))
+pub digits_alone : (max : ℕ) (text : List ℕ) → all_digits text ≡ true → 0 < length text → digits_value 10 text ≤ 10 ^ 18
+    → decimal_of max text ≡ Ok (pos (digits_value 10 text * 10 ^ 6))
 digits_alone max text digits some few =
     let spelled : IsSpelled text [] text [] [] = record {
       joined = sym (append-nil text);
@@ -34,7 +35,8 @@ small_value i most value few small = omega (arith, small, pow-le-pow_right {n = 
 -- one more digit
 pub more_digits : (xs : List ℕ) (i value : ℕ) → i < length xs → is_ascii_digit (get_or xs i 0) ≡ true
     → (value < 10 ^ i) × ((value ≡ digits_value 10 (take i xs)) × (all_digits (take i xs) ≡ true))
-    → (value * 10 + (get_or xs i 0 - 48) < 10 ^ (i + 1)) × ((value * 10 + (get_or xs i 0 - 48) ≡ digits_value 10 (take (i + 1) xs)) × (all_digits (take (i + 1) xs) ≡ true))
+    → (value * 10 + (get_or xs i 0 - 48) < 10 ^ (i + 1))
+    × ((value * 10 + (get_or xs i 0 - 48) ≡ digits_value 10 (take (i + 1) xs)) × (all_digits (take (i + 1) xs) ≡ true))
 more_digits xs i value within digit so_far =
     let range = digit_range (get_or xs i 0) digit in (
       omega (arith, range, so_far.0, pow-succ' 10 i, ap (λ n. 10 ^ n) (add-one i)),

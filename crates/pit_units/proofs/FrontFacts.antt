@@ -25,7 +25,8 @@ pub digits_up_to : (text : List ℕ) (i n : ℕ) → i ≤ length text
     → BeginsWithDigits text n (take (length text - i) (drop i text))
 digits_up_to text i n within so_far =
     let long : length (take i text) ≡ i = omega (arith, length-take i text, within) in
-    let rest : take (length text - i) (drop i text) ≡ drop i text = take_all (length text - i) (drop i text) (omega (arith, length-drop i text)) in
+    let rest : take (length text - i) (drop i text) ≡ drop i text =
+    take_all (length text - i) (drop i text) (omega (arith, length-drop i text)) in
     record {
       digits = take i text;
       joined = sym (take-append-drop i text) ∙ ap (λ xs. take i text ++ xs) (sym rest);
@@ -67,8 +68,10 @@ most_digits text i within few digits (inr end) =
     let same : digits_ahead text ≡ i = omega (arith, end, all_ahead i text within digits) in
     rw same (sym (min-eq_right few))
 
-stops : (text : List ℕ) (i : ℕ) → is_ascii_digit (get_or text i 0) ≡ false → (i < digits_ahead text) ⊎ (digits_ahead text ≤ i) → digits_ahead text ≤ i
-stops text i other (inl less) = let passes : is_ascii_digit (get_or text i 0) ≡ true = prefix_len_passes is_ascii_digit text i 0 less in cc (passes, other)
+stops : (text : List ℕ) (i : ℕ) → is_ascii_digit (get_or text i 0) ≡ false → (i < digits_ahead text) ⊎ (digits_ahead text ≤ i)
+    → digits_ahead text ≤ i
+stops text i other (inl less) = let passes : is_ascii_digit (get_or text i 0) ≡ true =
+    prefix_len_passes is_ascii_digit text i 0 less in cc (passes, other)
 stops text i other (inr there) = there
 
 -- no digit is ahead of another character
@@ -85,7 +88,8 @@ pub behind_digits : (text : List ℕ) (i : ℕ) → i ≤ length text → i ≡ 
 behind_digits text i within most = take_all (length text - i) (drop i text) (omega (arith, length-drop i text)) ∙ ap (λ n. drop n text) most
 
 -- nothing stands behind digits that reach the end
-pub behind_all_digits : (text : List ℕ) (i : ℕ) → length text ≡ i → i ≡ min 18 (digits_ahead text) → [] ≡ drop (min 18 (digits_ahead text)) text
+pub behind_all_digits : (text : List ℕ) (i : ℕ) → length text ≡ i → i ≡ min 18 (digits_ahead text)
+    → [] ≡ drop (min 18 (digits_ahead text)) text
 behind_all_digits text i end most = sym (drop_all (min 18 (digits_ahead text)) text (omega (arith, end, most)))
 
 -- what stands behind the digits of a usual number
@@ -98,12 +102,14 @@ pub usual_is_taken : (max : ℕ) (text : List ℕ) (units : ℕ) (behind : List 
     → behind ≡ drop (min 18 (digits_ahead text)) text → IsUsual max text → (length behind < length text) × (units < 10 ^ 12)
 usual_is_taken max text units behind d most usual =
     let ahead = prefix_len-le-length is_ascii_digit text in
-    let long : length behind ≡ length text - digits_ahead text = ap length (behind_usual max text behind most usual) ∙ length-drop (digits_ahead text) text in
+    let long : length behind ≡ length text - digits_ahead text =
+    ap length (behind_usual max text behind most usual) ∙ length-drop (digits_ahead text) text in
     let count = digits_count text units behind d in
     (omega (arith, long, ahead, usual.some), small_value (length d.digits) 12 units (omega (arith, long, ahead, count, usual.few)) d.small)
 
 -- few digits stand behind the point of a usual number
-pub usual_is_coarse : (max : ℕ) (text behind tail : List ℕ) → behind ≡ drop (min 18 (digits_ahead text)) text → behind ≡ 46 ∷ tail → IsUsual max text
+pub usual_is_coarse : (max : ℕ) (text behind tail : List ℕ) → behind ≡ drop (min 18 (digits_ahead text)) text → behind ≡ 46 ∷ tail
+    → IsUsual max text
     → digits_ahead tail ≤ max
 usual_is_coarse max text behind tail most point usual =
     let past : past_point (drop (digits_ahead text) text) ≡ tail = ap past_point (sym (behind_usual max text behind most usual) ∙ point) in
@@ -149,7 +155,8 @@ decimals_in_front max text n rest scale few count d scaled =
     }
 
 -- a number with a point
-pub size_with_point : (max : ℕ) (text : List ℕ) (units : ℕ) (behind tail : List ℕ) (size : ℕ) (rest : List ℕ) → BeginsWithDigits text units behind
+pub size_with_point : (max : ℕ) (text : List ℕ) (units : ℕ) (behind tail : List ℕ) (size : ℕ) (rest : List ℕ)
+    → BeginsWithDigits text units behind
     → (length behind ≡ length text → ⊥) → behind ≡ 46 ∷ tail → BeginsWithDecimals max tail size rest
     → BeginsWithSize max text (units * 10 ^ 6 + size) rest
 size_with_point max text units behind tail size rest d other point e =
@@ -204,9 +211,11 @@ side_of : (below : Bool) → starts_with_minus (minus_if below) ≡ below
 side_of true = refl
 side_of false = refl
 
-tail_plain : (tail fraction : List ℕ) → all_digits fraction ≡ true → ((tail ≡ []) × (fraction ≡ [])) ⊎ (tail ≡ 46 ∷ fraction) → All IsPlainByte tail
+tail_plain : (tail fraction : List ℕ) → all_digits fraction ≡ true → ((tail ≡ []) × (fraction ≡ [])) ⊎ (tail ≡ 46 ∷ fraction)
+    → All IsPlainByte tail
 tail_plain tail fraction digits (inl none) = rw none.0 (digits_plain [] refl)
-tail_plain tail fraction digits (inr is) = rw is (all_cons 46 fraction (omega arith, omega arith, λ e. omega (arith, e)) (digits_plain fraction digits))
+tail_plain tail fraction digits (inr is) =
+    rw is (all_cons 46 fraction (omega arith, omega arith, λ e. omega (arith, e)) (digits_plain fraction digits))
 
 -- a decimal with its sign in front
 pub dec_in_front : (max : ℕ) (text : List ℕ) (below : Bool) (unsigned : List ℕ) (size : ℕ) (rest : List ℕ) → max ≤ 6 → size < 2 * 10 ^ 18
@@ -235,8 +244,10 @@ dec_in_front max text below unsigned size rest few small joined s =
     } in
     record {
       front = front;
-      joined = joined ∙ ap (λ xs. minus_if below ++ xs) (s.joined ∙ sym (append_assoc s.whole s.tail rest)) ∙ sym (append_assoc (minus_if below) (s.whole ++ s.tail) rest);
+      joined = joined ∙ ap (λ xs. minus_if below ++ xs) (s.joined ∙ sym (append_assoc s.whole s.tail rest))
+          ∙ sym (append_assoc (minus_if below) (s.whole ++ s.tail) rest);
       some = omega (arith, s.some, length-append (minus_if below) (s.whole ++ s.tail), length-append s.whole s.tail);
-      bytes = All-append IsPlainByte _ _ (minus_plain below) (All-append IsPlainByte _ _ (digits_plain s.whole s.whole_digits) (tail_plain s.tail s.fraction s.fraction_digits s.point));
+      bytes = All-append IsPlainByte _ _ (minus_plain below)
+          (All-append IsPlainByte _ _ (digits_plain s.whole s.whole_digits) (tail_plain s.tail s.fraction s.fraction_digits s.point));
       stated = stands_read max front (signed below size) few stands;
     }

@@ -40,17 +40,20 @@ point_nowhere (c ∷ cs) h =
     rw (not_point c parts.0) (omega (arith, point_nowhere cs parts.1))
 
 -- a text that begins with no sign is left whole
-unsigned_stays : (body : List ℕ) → get_or body 0 0 ≢ 45 → get_or body 0 0 ≢ 43 → (without_leading_sign body ≡ body) × (starts_with_minus body ≡ false)
+unsigned_stays : (body : List ℕ) → get_or body 0 0 ≢ 45 → get_or body 0 0 ≢ 43 → (without_leading_sign body ≡ body)
+    × (starts_with_minus body ≡ false)
 unsigned_stays body minus plus = (rw (ne_eqb (get_or body 0 0) 45 minus, ne_eqb (get_or body 0 0) 43 plus), ne_eqb _ _ minus)
 
 -- the sign falls off
-sign_falls : (sign body : List ℕ) → (sign ≡ []) ⊎ ((sign ≡ 43 ∷ []) ⊎ (sign ≡ 45 ∷ [])) → get_or body 0 0 ≢ 45 → get_or body 0 0 ≢ 43 → (without_leading_sign (sign ++ body) ≡ body) × (starts_with_minus (sign ++ body) ≡ starts_with_minus sign)
+sign_falls : (sign body : List ℕ) → (sign ≡ []) ⊎ ((sign ≡ 43 ∷ []) ⊎ (sign ≡ 45 ∷ [])) → get_or body 0 0 ≢ 45 → get_or body 0 0 ≢ 43
+    → (without_leading_sign (sign ++ body) ≡ body) × (starts_with_minus (sign ++ body) ≡ starts_with_minus sign)
 sign_falls sign body (inl e) minus plus = rw e (unsigned_stays body minus plus)
 sign_falls sign body (inr (inl e)) minus plus = rw e (refl, refl)
 sign_falls sign body (inr (inr e)) minus plus = rw e (refl, refl)
 
 -- digits, or else a point, are no sign
-first_byte : (whole tail fraction : List ℕ) → all_digits whole ≡ true → ((tail ≡ []) × (fraction ≡ [])) ⊎ (tail ≡ 46 ∷ fraction) → 0 < length whole + length fraction → (b : ℕ) → b < 46 → get_or (whole ++ tail) 0 0 ≢ b
+first_byte : (whole tail fraction : List ℕ) → all_digits whole ≡ true → ((tail ≡ []) × (fraction ≡ [])) ⊎ (tail ≡ 46 ∷ fraction)
+    → 0 < length whole + length fraction → (b : ℕ) → b < 46 → get_or (whole ++ tail) 0 0 ≢ b
 first_byte (c ∷ cs) tail fraction digits point some b small e =
     let range = digit_range c (both (is_ascii_digit c) (all_digits cs) digits).0 in
     omega arith
@@ -103,8 +106,16 @@ reading max below whole fraction =
     else (if nat_lt (10 ^ 24) (size_of whole fraction) then Err Range
     else Ok (signed below (size_of whole fraction)))
 
-pub reads : (max : ℕ) (text sign whole tail fraction : List ℕ) → IsSpelled text sign whole tail fraction → decimal_of max text ≡ reading max (starts_with_minus sign) whole fraction
+pub reads : (max : ℕ) (text sign whole tail fraction : List ℕ) → IsSpelled text sign whole tail fraction
+    → decimal_of max text ≡ reading max (starts_with_minus sign) whole fraction
 unfolding decimal_of
 reads max text sign whole tail fraction s =
     let f = falls text sign whole tail fraction s in
-    rw (f.whole_is, f.fraction_is, f.side_is, s.whole_digits, s.fraction_digits, ne_eqb (length whole + length fraction) 0 (λ e. omega (arith, s.some_digit, e)))
+    rw (
+      f.whole_is,
+      f.fraction_is,
+      f.side_is,
+      s.whole_digits,
+      s.fraction_digits,
+      ne_eqb (length whole + length fraction) 0 (λ e. omega (arith, s.some_digit, e)),
+    )

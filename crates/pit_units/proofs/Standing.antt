@@ -25,9 +25,11 @@ same_scaled a b scale some e other (inl less) = absurd (omega (arith, e, mul-lt-
 same_scaled a b scale some e (inr above) (inr below) = omega arith
 
 -- the size of what stands for m is that of m
-pub size_stands : (whole fraction : List ℕ) (size : ℕ) → all_zeros (drop 6 fraction) ≡ true → size * 10 ^ length fraction ≡ digits_value 10 (whole ++ fraction) * 10 ^ 6 → size_of whole fraction ≡ size
+pub size_stands : (whole fraction : List ℕ) (size : ℕ) → all_zeros (drop 6 fraction) ≡ true
+    → size * 10 ^ length fraction ≡ digits_value 10 (whole ++ fraction) * 10 ^ 6 → size_of whole fraction ≡ size
 size_stands whole fraction size fine value =
-    same_scaled (size_of whole fraction) size (10 ^ length fraction) (scale_positive (length fraction)) (size_scaled whole fraction fine ∙ sym value) (cases_lt _ _) (cases_lt _ _)
+    same_scaled (size_of whole fraction) size (10 ^ length fraction) (scale_positive (length fraction))
+    (size_scaled whole fraction fine ∙ sym value) (cases_lt _ _) (cases_lt _ _)
 
 -- a text is read as the number that it stands for
 pub stands_read : (max : ℕ) (text : List ℕ) (m : ℤ) → max ≤ 6 → StandsFor max text m → decimal_of max text ≡ Ok m
@@ -40,7 +42,8 @@ stands_read max text m few s =
 abbrev pub pick : Bool → Bool → Bool → ℤ → Result ℤ DecFault
 pick number fine large m = if not number then Err Number else (if not fine then Err TooFine else (if large then Err Range else Ok m))
 
-pub picked : (number fine large : Bool) (found m : ℤ) → pick number fine large found ≡ Ok m → (number ≡ true) × (fine ≡ true) × (large ≡ false) × (found ≡ m)
+pub picked : (number fine large : Bool) (found m : ℤ) → pick number fine large found ≡ Ok m → (number ≡ true) × (fine ≡ true)
+    × (large ≡ false) × (found ≡ m)
 picked true true false found m e = (refl, refl, refl, cc)
 picked true true true found m e = cc
 picked true false large found m e = cc
@@ -58,8 +61,10 @@ sign_off [] = record { sign = []; joined = refl; signs = inl refl; side = refl }
 sign_off (c ∷ cs) = by (c == 45) (c == 43) refl refl
   where
     by : (minus plus : Bool) → minus ≡ (c == 45) → plus ≡ (c == 43) → SignOff (c ∷ cs)
-    by true plus m p = record { sign = 45 ∷ []; joined = rw (← m) (ap (λ b. b ∷ cs) (eqb-true c 45 (sym m))); signs = inr (inr refl); side = m }
-    by false true m p = record { sign = 43 ∷ []; joined = rw (← m, ← p) (ap (λ b. b ∷ cs) (eqb-true c 43 (sym p))); signs = inr (inl refl); side = m }
+    by true plus m p =
+        record { sign = 45 ∷ []; joined = rw (← m) (ap (λ b. b ∷ cs) (eqb-true c 45 (sym m))); signs = inr (inr refl); side = m }
+    by false true m p =
+        record { sign = 43 ∷ []; joined = rw (← m, ← p) (ap (λ b. b ∷ cs) (eqb-true c 43 (sym p))); signs = inr (inl refl); side = m }
     by false false m p = record { sign = []; joined = rw (← m, ← p) refl; signs = inl refl; side = m }
 
 abbrev is_point : ℕ → Bool
@@ -69,12 +74,15 @@ is_point c = c == 46
 record PointOff (bare : List ℕ) : Type 0 where
   pub tail : List ℕ
   pub joined : bare ≡ take (position_or_len is_point bare) bare ++ tail
-  pub point : ((tail ≡ []) × (drop (position_or_len is_point bare + 1) bare ≡ [])) ⊎ (tail ≡ 46 ∷ drop (position_or_len is_point bare + 1) bare)
+  pub point : ((tail ≡ []) × (drop (position_or_len is_point bare + 1) bare ≡ []))
+      ⊎ (tail ≡ 46 ∷ drop (position_or_len is_point bare + 1) bare)
 
 point_off : (bare : List ℕ) → (position_or_len is_point bare < length bare) ⊎ (length bare ≤ position_or_len is_point bare) → PointOff bare
 point_off bare (inl within) = record {
   tail = 46 ∷ drop (position_or_len is_point bare + 1) bare;
-  joined = split_at_first is_point bare 0 within ∙ ap (λ c. take (position_or_len is_point bare) bare ++ c ∷ drop (position_or_len is_point bare + 1) bare) (eqb-true _ 46 (passes_at_first is_point bare 0 within));
+  joined = split_at_first is_point bare 0 within
+      ∙ ap (λ c. take (position_or_len is_point bare) bare ++ c ∷ drop (position_or_len is_point bare + 1) bare)
+      (eqb-true _ 46 (passes_at_first is_point bare 0 within));
   point = inr refl;
 }
 point_off bare (inr none) = record {
@@ -98,7 +106,8 @@ number_parts text number =
     let off = sign_off text in
     let bare = without_leading_sign text in
     let point = point_off bare (cases_lt _ _) in
-    let outer = both (all_digits (whole_of text) && all_digits (fraction_of text)) (not (length (whole_of text) + length (fraction_of text) == 0)) number in
+    let outer = both (all_digits (whole_of text) && all_digits (fraction_of text))
+    (not (length (whole_of text) + length (fraction_of text) == 0)) number in
     let digits = both (all_digits (whole_of text)) (all_digits (fraction_of text)) outer.0 in
     record {
       sign = off.sign;
@@ -124,7 +133,8 @@ pub read_stands : (max : ℕ) (text : List ℕ) (m : ℤ) → max ≤ 6 → deci
 unfolding decimal_of
 read_stands max text m few read =
     let size = size_of (whole_of text) (fraction_of text) in
-    let told = picked (is_number text) (all_zeros (drop max (fraction_of text))) (nat_lt (10 ^ 24) size) (signed (starts_with_minus text) size) m read in
+    let told = picked (is_number text) (all_zeros (drop max (fraction_of text))) (nat_lt (10 ^ 24) size)
+    (signed (starts_with_minus text) size) m read in
     let parts = number_parts text told.0 in
     let away : unsigned_abs m ≡ size = ap unsigned_abs (sym told.3) ∙ size_of_signed (starts_with_minus text) size in
     record {
@@ -145,16 +155,19 @@ reading_number true false m e = cc
 reading_number false large m e = cc
 
 -- a text that is spelled is a number, and a number is spelled
-pub spelled_number : (max : ℕ) (text sign whole tail fraction : List ℕ) → IsSpelled text sign whole tail fraction → decimal_of max text ≢ Err Number
+pub spelled_number : (max : ℕ) (text sign whole tail fraction : List ℕ) → IsSpelled text sign whole tail fraction
+    → decimal_of max text ≢ Err Number
 spelled_number max text sign whole tail fraction s e = reading_number _ _ _ (sym (reads max text sign whole tail fraction s) ∙ e)
 
-pub number_spelled : (max : ℕ) (text : List ℕ) → ((sign whole tail fraction : List ℕ) → ¬ (IsSpelled text sign whole tail fraction)) → decimal_of max text ≡ Err Number
+pub number_spelled : (max : ℕ) (text : List ℕ) → ((sign whole tail fraction : List ℕ) → ¬ (IsSpelled text sign whole tail fraction))
+    → decimal_of max text ≡ Err Number
 unfolding decimal_of
 number_spelled max text none = by (is_number text) refl
   where
     by : (number : Bool) → number ≡ is_number text → decimal_of max text ≡ Err Number
     by false h = rw (← h)
-    by true h = let parts = number_parts text (sym h) in absurd (none parts.sign (whole_of text) parts.tail (fraction_of text) parts.spelled)
+    by true h = let parts =
+        number_parts text (sym h) in absurd (none parts.sign (whole_of text) parts.tail (fraction_of text) parts.spelled)
 
 -- where a spelled text is too fine, and where it is out of range
 reading_fine : (fine large : Bool) (m : ℤ) → (pick true fine large m ≡ Err TooFine) ↔ ¬ (fine ≡ true)
@@ -167,11 +180,16 @@ reading_range true true m h = (λ e. refl, λ e. refl)
 reading_range true false m h = (λ e. cc, λ e. cc)
 reading_range false large m h = cc
 
-pub spelled_too_fine : (max : ℕ) (text sign whole tail fraction : List ℕ) → IsSpelled text sign whole tail fraction → (decimal_of max text ≡ Err TooFine) ↔ ¬ (all_zeros (drop max fraction) ≡ true)
+pub spelled_too_fine : (max : ℕ) (text sign whole tail fraction : List ℕ) → IsSpelled text sign whole tail fraction
+    → (decimal_of max text ≡ Err TooFine) ↔ ¬ (all_zeros (drop max fraction) ≡ true)
 spelled_too_fine max text sign whole tail fraction s =
-    rw (reads max text sign whole tail fraction s) (reading_fine (all_zeros (drop max fraction)) (nat_lt (10 ^ 24) (size_of whole fraction)) (signed (starts_with_minus sign) (size_of whole fraction)))
+    rw (reads max text sign whole tail fraction s)
+    (reading_fine (all_zeros (drop max fraction)) (nat_lt (10 ^ 24) (size_of whole fraction))
+    (signed (starts_with_minus sign) (size_of whole fraction)))
 
-pub spelled_range : (max : ℕ) (text sign whole tail fraction : List ℕ) → max ≤ 6 → IsSpelled text sign whole tail fraction → all_zeros (drop max fraction) ≡ true → (decimal_of max text ≡ Err Range) ↔ (10 ^ 24 * 10 ^ length fraction < digits_value 10 (whole ++ fraction) * 10 ^ 6)
+pub spelled_range : (max : ℕ) (text sign whole tail fraction : List ℕ) → max ≤ 6 → IsSpelled text sign whole tail fraction
+    → all_zeros (drop max fraction) ≡ true → (decimal_of max text ≡ Err Range)
+    ↔ (10 ^ 24 * 10 ^ length fraction < digits_value 10 (whole ++ fraction) * 10 ^ 6)
 spelled_range max text sign whole tail fraction few s fine =
     let size = size_of whole fraction in
     let scaled = size_scaled whole fraction (pass_drop_later (λ c. c == 48) fraction max 6 few fine) in

@@ -15,11 +15,13 @@ sign_and_size (pos n) = rw (not_below n)
 sign_and_size (negsuc n) = refl
 
 -- the sign, and then the size
-pub shortest_is : (z : ℤ) (below : Bool) (size : ℕ) → below ≡ int_lt z (pos 0) → size ≡ unsigned_abs z → shortest z ≡ sign_text below ++ size_text size
+pub shortest_is : (z : ℤ) (below : Bool) (size : ℕ) → below ≡ int_lt z (pos 0) → size ≡ unsigned_abs z
+    → shortest z ≡ sign_text below ++ size_text size
 shortest_is z below size side away = rw (side, away) (sign_and_size z)
 
 -- what is written before a part stands before it
-pub put_before : (front old new : List ℕ) (start at end : ℕ) → start + length front ≡ at → at ≤ end → drop start new ≡ front ++ drop at old → slice_range new start end ≡ front ++ slice_range old at end
+pub put_before : (front old new : List ℕ) (start at end : ℕ) → start + length front ≡ at → at ≤ end → drop start new ≡ front ++ drop at old
+    → slice_range new start end ≡ front ++ slice_range old at end
 put_before front old new start at end long within written =
     let count : end - start ≡ length front + (end - at) = omega arith in
     ap (λ n. take n (drop start new)) count ∙ ap (take (length front + (end - at))) written ∙ take-append-add front (drop at old) (end - at)

@@ -31,15 +31,20 @@ digits_all (c ∷ cs) h =
     (omega (arith, range, digit_value_digit c range), digits_all cs parts.1)
 
 -- digits with no leading zero are what is written of their value
-whole_unique : (ds : List ℕ) → all_digits ds ≡ true → 0 < length ds → (get_or ds 0 0 ≡ 48 → length ds ≡ 1) → digits_value 10 ds < 2 ^ 64 → decimal (digits_value 10 ds) ≡ ds
-whole_unique ds digits some leading small = decimal-digits_value (numerals_by_value (AllDigits 10) tells_digits) ds (digits_all ds digits) some leading small
+whole_unique : (ds : List ℕ) → all_digits ds ≡ true → 0 < length ds → (get_or ds 0 0 ≡ 48 → length ds ≡ 1) → digits_value 10 ds < 2 ^ 64
+    → decimal (digits_value 10 ds) ≡ ds
+whole_unique ds digits some leading small =
+    decimal-digits_value (numerals_by_value (AllDigits 10) tells_digits) ds (digits_all ds digits) some leading small
 
 -- a fraction with no zero at its end has no more decimals than are allowed
-fraction_short : (fraction : List ℕ) → all_zeros (drop 6 fraction) ≡ true → (0 < length fraction → get_or fraction (length fraction - 1) 0 ≢ 48) → (6 < length fraction) ⊎ (length fraction ≤ 6) → length fraction ≤ 6
+fraction_short : (fraction : List ℕ) → all_zeros (drop 6 fraction) ≡ true
+    → (0 < length fraction → get_or fraction (length fraction - 1) 0 ≢ 48) → (6 < length fraction) ⊎ (length fraction ≤ 6)
+    → length fraction ≤ 6
 fraction_short fraction fine ends (inr short) = short
 fraction_short fraction fine ends (inl long) =
     let within : length fraction - 7 < length (drop 6 fraction) = omega (arith, length-drop 6 fraction) in
-    let last : get_or (drop 6 fraction) (length fraction - 7) 0 ≡ 48 = eqb-true _ 48 (AllPass-from_list_all (λ c. c == 48) (drop 6 fraction) fine (length fraction - 7) 0 within) in
+    let last : get_or (drop 6 fraction) (length fraction - 7) 0 ≡ 48 =
+    eqb-true _ 48 (AllPass-from_list_all (λ c. c == 48) (drop 6 fraction) fine (length fraction - 7) 0 within) in
     let place : 6 + (length fraction - 7) ≡ length fraction - 1 = omega arith in
     absurd (ends (omega arith) (ap (λ k. get_or fraction k 0) (sym place) ∙ sym (get_or-drop 6 fraction (length fraction - 7) 0) ∙ last))
 
@@ -55,7 +60,15 @@ record ArePlaces (p q r s t u : ℕ) : Type 0 where
   pub at_1 : made p q r s t u / 1 % 10 ≡ u
 
 are_places : (p q r s t u : ℕ) → p < 10 → q < 10 → r < 10 → s < 10 → t < 10 → u < 10 → ArePlaces p q r s t u
-are_places p q r s t u a b c d e f = record { at_100000 = omega arith; at_10000 = omega arith; at_1000 = omega arith; at_100 = omega arith; at_10 = omega arith; at_1 = omega arith }
+are_places p q r s t u a b c d e f =
+    record {
+      at_100000 = omega arith;
+      at_10000 = omega arith;
+      at_1000 = omega arith;
+      at_100 = omega arith;
+      at_10 = omega arith;
+      at_1 = omega arith;
+    }
 
 digit_again : (c place : ℕ) → digit_value c < 10 → place ≡ digit_value c → 48 + place ≡ c
 digit_again c place low same = omega (arith, digit_value_digit c (digit_from_value c low))
@@ -69,19 +82,26 @@ six_unique (a ∷ b ∷ c ∷ d ∷ e ∷ f ∷ []) six digits =
     let low_d = digits.1.1.1.0 in
     let low_e = digits.1.1.1.1.0 in
     let low_f = digits.1.1.1.1.1.0 in
-    let places = are_places (digit_value a) (digit_value b) (digit_value c) (digit_value d) (digit_value e) (digit_value f) low_a low_b low_c low_d low_e low_f in
-    λ i. digit_again a _ low_a places.at_100000 i ∷ digit_again b _ low_b places.at_10000 i ∷ digit_again c _ low_c places.at_1000 i ∷ digit_again d _ low_d places.at_100 i ∷ digit_again e _ low_e places.at_10 i ∷ digit_again f _ low_f places.at_1 i ∷ []
+    let places = are_places (digit_value a) (digit_value b) (digit_value c) (digit_value d)
+    (digit_value e) (digit_value f) low_a low_b low_c low_d low_e low_f in
+    λ i. digit_again a _ low_a places.at_100000 i ∷ digit_again b _ low_b places.at_10000 i ∷ digit_again c _ low_c places.at_1000 i
+    ∷ digit_again d _ low_d places.at_100 i ∷ digit_again e _ low_e places.at_10 i ∷ digit_again f _ low_f places.at_1 i ∷ []
 six_unique ds six digits = absurd (omega arith)
 
 -- cut off again what was put behind
-cut_again : (fraction : List ℕ) → length fraction ≤ 6 → (0 < length fraction → get_or fraction (length fraction - 1) 0 ≢ 48) → without_end_zeros (fraction ++ replicate (6 - length fraction) 48) ≡ fraction
+cut_again : (fraction : List ℕ) → length fraction ≤ 6 → (0 < length fraction → get_or fraction (length fraction - 1) 0 ≢ 48)
+    → without_end_zeros (fraction ++ replicate (6 - length fraction) 48) ≡ fraction
 cut_again fraction short ends =
     let padded = fraction ++ replicate (6 - length fraction) 48 in
-    let long : length padded ≡ length fraction + (6 - length fraction) = length-append fraction (replicate (6 - length fraction) 48) ∙ ap (λ n. length fraction + n) (length-replicate (6 - length fraction) 48) in
+    let long : length padded ≡ length fraction + (6 - length fraction) =
+    length-append fraction (replicate (6 - length fraction) 48)
+    ∙ ap (λ n. length fraction + n) (length-replicate (6 - length fraction) 48) in
     let zeros : suffix_len (λ c. c == 48) padded ≡ length padded - length fraction =
     suffix_len_is (λ c. c == 48) padded (length fraction) 0 (omega arith)
-    (λ k from within. eq-eqb _ 48 (get_or-append_right fraction (replicate (6 - length fraction) 48) (length fraction) k 0 refl from ∙ get_or-replicate (6 - length fraction) (k - length fraction) 48 0 (omega arith)))
-    (λ some. ne_eqb _ 48 (λ e. ends some (sym (get_or_append_left fraction (replicate (6 - length fraction) 48) 0 (length fraction - 1) (omega arith)) ∙ e))) in
+    (λ k from within. eq-eqb _ 48 (get_or-append_right fraction (replicate (6 - length fraction) 48) (length fraction) k 0 refl from
+    ∙ get_or-replicate (6 - length fraction) (k - length fraction) 48 0 (omega arith)))
+    (λ some. ne_eqb _ 48 (λ e. ends some
+    (sym (get_or_append_left fraction (replicate (6 - length fraction) 48) 0 (length fraction - 1) (omega arith)) ∙ e))) in
     let kept : length padded - suffix_len (λ c. c == 48) padded ≡ length fraction = omega arith in
     rw kept (take_at fraction (replicate (6 - length fraction) 48) (length fraction) refl)
 
@@ -104,11 +124,16 @@ zeros_digits zero = refl
 zeros_digits (suc n) = zeros_digits n
 
 -- the six decimals of a short fraction are six digits
-six_are_digits : (fraction : List ℕ) → all_digits fraction ≡ true → length fraction ≤ 6 → (length (six_decimals fraction) ≡ 6) × AllDigits 10 (six_decimals fraction)
+six_are_digits : (fraction : List ℕ) → all_digits fraction ≡ true → length fraction ≤ 6 → (length (six_decimals fraction) ≡ 6)
+    × AllDigits 10 (six_decimals fraction)
 six_are_digits fraction digits short =
     let padded = six_of_short fraction short in
-    let pass : all_digits (six_decimals fraction) ≡ true = rw padded (digits_pass_append fraction (replicate (6 - length fraction) 48) digits (zeros_digits (6 - length fraction))) in
-    (ap length padded ∙ length-append fraction (replicate (6 - length fraction) 48) ∙ omega (arith, length-replicate {A = ℕ} (6 - length fraction) 48), digits_all (six_decimals fraction) pass)
+    let pass : all_digits (six_decimals fraction) ≡ true =
+    rw padded (digits_pass_append fraction (replicate (6 - length fraction) 48) digits (zeros_digits (6 - length fraction))) in (
+      ap length padded ∙ length-append fraction (replicate (6 - length fraction) 48)
+          ∙ omega (arith, length-replicate {A = ℕ} (6 - length fraction) 48),
+      digits_all (six_decimals fraction) pass,
+    )
 
 six_small : (fraction : List ℕ) → all_digits fraction ≡ true → length fraction ≤ 6 → digits_value 10 (six_decimals fraction) < 10 ^ 6
 six_small fraction digits short =
@@ -117,20 +142,24 @@ six_small fraction digits short =
     rw six.0 at below
 
 -- a fraction with no zero at its end is the one that is written of its value
-fraction_unique : (fraction : List ℕ) → all_digits fraction ≡ true → length fraction ≤ 6 → (0 < length fraction → get_or fraction (length fraction - 1) 0 ≢ 48) → decimals (digits_value 10 (six_decimals fraction)) ≡ fraction
+fraction_unique : (fraction : List ℕ) → all_digits fraction ≡ true → length fraction ≤ 6
+    → (0 < length fraction → get_or fraction (length fraction - 1) 0 ≢ 48) → decimals (digits_value 10 (six_decimals fraction)) ≡ fraction
 fraction_unique fraction digits short ends =
     let six = six_are_digits fraction digits short in
     ap without_end_zeros (six_unique (six_decimals fraction) six.0 six.1 ∙ six_of_short fraction short) ∙ cut_again fraction short ends
 
 -- the sign that is written
-sign_unique : (z : ℤ) (sign : List ℕ) → (sign ≡ []) ⊎ ((sign ≡ 43 ∷ []) ⊎ (sign ≡ 45 ∷ [])) → sign ≢ 43 ∷ [] → (sign ≡ 45 ∷ []) ↔ (z <ℤ pos 0) → sign_text (int_lt z (pos 0)) ≡ sign
+sign_unique : (z : ℤ) (sign : List ℕ) → (sign ≡ []) ⊎ ((sign ≡ 43 ∷ []) ⊎ (sign ≡ 45 ∷ [])) → sign ≢ 43 ∷ [] → (sign ≡ 45 ∷ [])
+    ↔ (z <ℤ pos 0) → sign_text (int_lt z (pos 0)) ≡ sign
 sign_unique (negsuc n) sign signs plus minus = sym (minus.1 (omega (arith, ints)))
 sign_unique (pos n) sign (inl none) plus minus = rw (not_below n) (sym none)
 sign_unique (pos n) sign (inr (inl is_plus)) plus minus = absurd (plus is_plus)
 sign_unique (pos n) sign (inr (inr is_minus)) plus minus = let below = minus.0 is_minus in absurd (omega (arith, ints, below))
 
 -- the point that is written
-tail_unique : (tail fraction : List ℕ) (n : ℕ) → n ≡ digits_value 10 (six_decimals fraction) → decimals n ≡ fraction → ((tail ≡ []) × (fraction ≡ [])) ⊎ (tail ≡ 46 ∷ fraction) → (fraction ≡ [] → tail ≡ []) → ((fraction_text n ≡ []) × (decimals n ≡ [])) ⊎ (fraction_text n ≡ 46 ∷ decimals n) → fraction_text n ≡ tail
+tail_unique : (tail fraction : List ℕ) (n : ℕ) → n ≡ digits_value 10 (six_decimals fraction) → decimals n ≡ fraction
+    → ((tail ≡ []) × (fraction ≡ [])) ⊎ (tail ≡ 46 ∷ fraction) → (fraction ≡ [] → tail ≡ []) → ((fraction_text n ≡ []) × (decimals n ≡ []))
+    ⊎ (fraction_text n ≡ 46 ∷ decimals n) → fraction_text n ≡ tail
 tail_unique tail fraction n value same point bare (inl none) = none.0 ∙ sym (bare (sym same ∙ none.1))
 tail_unique tail fraction n value same (inr is) bare (inr written) = written ∙ ap (λ xs. 46 ∷ xs) same ∙ sym is
 tail_unique tail fraction n value same (inl none) bare (inr written) =
@@ -150,9 +179,11 @@ only_shortest z text stands s =
     let small = six_small s.fraction s.spelled.fraction_digits short in
     let whole_value : unsigned_abs z / 10 ^ 6 ≡ digits_value 10 s.whole = omega arith in
     let rest_value : unsigned_abs z % 10 ^ 6 ≡ rest = omega arith in
-    let whole : decimal (unsigned_abs z / 10 ^ 6) ≡ s.whole = ap decimal whole_value ∙ whole_unique s.whole s.spelled.whole_digits s.digit_before s.no_leading_zero (omega arith) in
+    let whole : decimal (unsigned_abs z / 10 ^ 6) ≡ s.whole =
+    ap decimal whole_value ∙ whole_unique s.whole s.spelled.whole_digits s.digit_before s.no_leading_zero (omega arith) in
     let fraction = fraction_unique s.fraction s.spelled.fraction_digits short s.no_end_zero in
-    let tail : fraction_text (unsigned_abs z % 10 ^ 6) ≡ s.tail = ap fraction_text rest_value ∙ tail_unique s.tail s.fraction rest refl fraction s.spelled.point s.no_bare_point (point_part rest) in
+    let tail : fraction_text (unsigned_abs z % 10 ^ 6) ≡ s.tail =
+    ap fraction_text rest_value ∙ tail_unique s.tail s.fraction rest refl fraction s.spelled.point s.no_bare_point (point_part rest) in
     let sign = sign_unique z s.sign s.spelled.signs s.no_plus s.minus in
     s.spelled.joined
     ∙ ap (λ xs. xs ++ (s.whole ++ s.tail)) (sym sign)

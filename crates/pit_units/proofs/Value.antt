@@ -43,7 +43,8 @@ pass_drop_later p [] (suc n) (suc m) later h = refl
 pass_drop_later p (c ∷ cs) (suc n) (suc m) later h = pass_drop_later p cs n m (omega arith) h
 
 -- what is passed behind a place, in a longer list
-pub pass_drop_append : (p : ℕ → Bool) (xs ys : List ℕ) (n : ℕ) → list_all p (drop n xs) ≡ true → list_all p ys ≡ true → list_all p (drop n (xs ++ ys)) ≡ true
+pub pass_drop_append : (p : ℕ → Bool) (xs ys : List ℕ) (n : ℕ) → list_all p (drop n xs) ≡ true → list_all p ys ≡ true
+    → list_all p (drop n (xs ++ ys)) ≡ true
 pass_drop_append p [] ys zero h g = g
 pass_drop_append p [] ys (suc n) h g = pass_drop_all p ys (suc n) g
 pass_drop_append p (c ∷ cs) ys zero h g =
@@ -55,12 +56,22 @@ pub size_product : (whole decimals scale : ℕ) → (whole * 10 ^ 6 + decimals) 
 size_product whole decimals scale = omega arith
 
 -- digits and the six decimals that count make the number that all digits make
-pub size_scaled : (whole fraction : List ℕ) → all_zeros (drop 6 fraction) ≡ true → size_of whole fraction * 10 ^ length fraction ≡ digits_value 10 (whole ++ fraction) * 10 ^ 6
+pub size_scaled : (whole fraction : List ℕ) → all_zeros (drop 6 fraction) ≡ true
+    → size_of whole fraction * 10 ^ length fraction ≡ digits_value 10 (whole ++ fraction) * 10 ^ 6
 size_scaled whole fraction fine =
     let padded = fraction ++ replicate 6 48 in
     let padded_value = value_append fraction (replicate 6 48) in
     let rest_zeros : all_zeros (drop 6 padded) ≡ true = pass_drop_append (λ c. c == 48) fraction (replicate 6 48) 6 fine refl in
-    let rest_length : length (drop 6 padded) ≡ length fraction = omega (arith, length-drop 6 padded, length-append fraction (replicate 6 48)) in
-    let split : digits_value 10 padded ≡ digits_value 10 (take 6 padded) * 10 ^ length (drop 6 padded) + digits_value 10 (drop 6 padded) = ap (digits_value 10) (sym (take-append-drop 6 padded)) ∙ value_append (take 6 padded) (drop 6 padded) in
-    let cut : digits_value 10 padded ≡ digits_value 10 (six_decimals fraction) * 10 ^ length fraction + 0 = rw (rest_length, value_zeros (drop 6 padded) rest_zeros) at split in
-    omega (arith, cut, padded_value, value_append whole fraction, size_product (digits_value 10 whole) (digits_value 10 (six_decimals fraction)) (10 ^ length fraction))
+    let rest_length : length (drop 6 padded) ≡ length fraction =
+    omega (arith, length-drop 6 padded, length-append fraction (replicate 6 48)) in
+    let split : digits_value 10 padded ≡ digits_value 10 (take 6 padded) * 10 ^ length (drop 6 padded) + digits_value 10 (drop 6 padded) =
+    ap (digits_value 10) (sym (take-append-drop 6 padded)) ∙ value_append (take 6 padded) (drop 6 padded) in
+    let cut : digits_value 10 padded ≡ digits_value 10 (six_decimals fraction) * 10 ^ length fraction + 0 =
+    rw (rest_length, value_zeros (drop 6 padded) rest_zeros) at split in
+    omega (
+      arith,
+      cut,
+      padded_value,
+      value_append whole fraction,
+      size_product (digits_value 10 whole) (digits_value 10 (six_decimals fraction)) (10 ^ length fraction),
+    )

@@ -51,7 +51,8 @@ six_pass n = simp digit_passes
 ends_in_zeros : (xs : List ℕ) (i : ℕ) → i < length xs → length xs ≤ i + suffix_len (λ c. c == 48) xs → get_or xs i 0 ≡ 48
 ends_in_zeros xs i within behind =
     let same = get_or-reverse xs (length xs - 1 - i) 0 (omega arith) in
-    let zero_there : get_or (reverse xs) (length xs - 1 - i) 0 ≡ 48 = eqb-true _ 48 (prefix_len_passes (λ c. c == 48) (reverse xs) (length xs - 1 - i) 0 (omega arith)) in
+    let zero_there : get_or (reverse xs) (length xs - 1 - i) 0 ≡ 48 =
+    eqb-true _ 48 (prefix_len_passes (λ c. c == 48) (reverse xs) (length xs - 1 - i) 0 (omega arith)) in
     let place : length xs - 1 - (length xs - 1 - i) ≡ i = omega arith in
     sym (same ∙ ap (λ k. get_or xs k 0) place) ∙ zero_there
 
@@ -61,7 +62,8 @@ kept_length xs = omega (arith, length-take (length xs - suffix_len (λ c. c == 4
 kept_place : (xs : List ℕ) (i : ℕ) → i < length (without_end_zeros xs) → get_or (without_end_zeros xs) i 0 ≡ get_or xs i 0
 kept_place xs i within = get_or-take (length xs - suffix_len (λ c. c == 48) xs) xs i 0 (omega (arith, kept_length xs))
 
-padded_place : (xs : List ℕ) (i : ℕ) → i < length xs → (i < length (without_end_zeros xs)) ⊎ (length (without_end_zeros xs) ≤ i) → get_or (without_end_zeros xs ++ replicate (length xs) 48) i 0 ≡ get_or xs i 0
+padded_place : (xs : List ℕ) (i : ℕ) → i < length xs → (i < length (without_end_zeros xs)) ⊎ (length (without_end_zeros xs) ≤ i)
+    → get_or (without_end_zeros xs ++ replicate (length xs) 48) i 0 ≡ get_or xs i 0
 padded_place xs i within (inl kept) = get_or_append_left (without_end_zeros xs) (replicate (length xs) 48) 0 i kept ∙ kept_place xs i kept
 padded_place xs i within (inr cut) =
     get_or-append_right (without_end_zeros xs) (replicate (length xs) 48) (length (without_end_zeros xs)) i 0 refl cut
@@ -72,14 +74,17 @@ padded_place xs i within (inr cut) =
 padded_again : (xs : List ℕ) → take (length xs) (without_end_zeros xs ++ replicate (length xs) 48) ≡ xs
 padded_again xs =
     let padded = without_end_zeros xs ++ replicate (length xs) 48 in
-    let long : length padded ≡ length (without_end_zeros xs) + length xs = length-append (without_end_zeros xs) (replicate (length xs) 48) ∙ ap (λ n. length (without_end_zeros xs) + n) (length-replicate (length xs) 48) in
+    let long : length padded ≡ length (without_end_zeros xs) + length xs =
+    length-append (without_end_zeros xs) (replicate (length xs) 48)
+    ∙ ap (λ n. length (without_end_zeros xs) + n) (length-replicate (length xs) 48) in
     let same : length (take (length xs) padded) ≡ length xs = omega (arith, length-take (length xs) padded) in
     ext_get_or 0 (take (length xs) padded) xs same (λ i within.
     let inside : i < length xs = omega arith in
     get_or-take (length xs) padded i 0 inside ∙ padded_place xs i inside (cases_lt i (length (without_end_zeros xs))))
 
 -- the last of what is left is no zero
-last_is_no_zero : (xs : List ℕ) → 0 < length (without_end_zeros xs) → get_or (without_end_zeros xs) (length (without_end_zeros xs) - 1) 0 ≢ 48
+last_is_no_zero : (xs : List ℕ) → 0 < length (without_end_zeros xs)
+    → get_or (without_end_zeros xs) (length (without_end_zeros xs) - 1) 0 ≢ 48
 last_is_no_zero xs some last =
     let zeros = suffix_len (λ c. c == 48) xs in
     let kept = kept_length xs in
@@ -97,11 +102,32 @@ six_value n small = simp digit_is (omega arith)
 
 -- past the decimals that a multiple needs there are zeros
 fine_places : (n max : ℕ) → n % 10 ^ (6 - max) ≡ 0 → all_zeros (drop max (six_digits n)) ≡ true
-fine_places n zero multiple = rw (eq-eqb (48 + n / 100000 % 10) 48 (omega arith), eq-eqb (48 + n / 10000 % 10) 48 (omega arith), eq-eqb (48 + n / 1000 % 10) 48 (omega arith), eq-eqb (48 + n / 100 % 10) 48 (omega arith), eq-eqb (48 + n / 10 % 10) 48 (omega arith), eq-eqb (48 + n / 1 % 10) 48 (omega arith))
-fine_places n (suc zero) multiple = rw (eq-eqb (48 + n / 10000 % 10) 48 (omega arith), eq-eqb (48 + n / 1000 % 10) 48 (omega arith), eq-eqb (48 + n / 100 % 10) 48 (omega arith), eq-eqb (48 + n / 10 % 10) 48 (omega arith), eq-eqb (48 + n / 1 % 10) 48 (omega arith))
-fine_places n (suc (suc zero)) multiple = rw (eq-eqb (48 + n / 1000 % 10) 48 (omega arith), eq-eqb (48 + n / 100 % 10) 48 (omega arith), eq-eqb (48 + n / 10 % 10) 48 (omega arith), eq-eqb (48 + n / 1 % 10) 48 (omega arith))
-fine_places n (suc (suc (suc zero))) multiple = rw (eq-eqb (48 + n / 100 % 10) 48 (omega arith), eq-eqb (48 + n / 10 % 10) 48 (omega arith), eq-eqb (48 + n / 1 % 10) 48 (omega arith))
-fine_places n (suc (suc (suc (suc zero)))) multiple = rw (eq-eqb (48 + n / 10 % 10) 48 (omega arith), eq-eqb (48 + n / 1 % 10) 48 (omega arith))
+fine_places n zero multiple = rw (
+  eq-eqb (48 + n / 100000 % 10) 48 (omega arith),
+  eq-eqb (48 + n / 10000 % 10) 48 (omega arith),
+  eq-eqb (48 + n / 1000 % 10) 48 (omega arith),
+  eq-eqb (48 + n / 100 % 10) 48 (omega arith),
+  eq-eqb (48 + n / 10 % 10) 48 (omega arith),
+  eq-eqb (48 + n / 1 % 10) 48 (omega arith),
+)
+fine_places n (suc zero) multiple = rw (
+  eq-eqb (48 + n / 10000 % 10) 48 (omega arith),
+  eq-eqb (48 + n / 1000 % 10) 48 (omega arith),
+  eq-eqb (48 + n / 100 % 10) 48 (omega arith),
+  eq-eqb (48 + n / 10 % 10) 48 (omega arith),
+  eq-eqb (48 + n / 1 % 10) 48 (omega arith),
+)
+fine_places n (suc (suc zero)) multiple =
+    rw (
+      eq-eqb (48 + n / 1000 % 10) 48 (omega arith),
+      eq-eqb (48 + n / 100 % 10) 48 (omega arith),
+      eq-eqb (48 + n / 10 % 10) 48 (omega arith),
+      eq-eqb (48 + n / 1 % 10) 48 (omega arith),
+    )
+fine_places n (suc (suc (suc zero))) multiple =
+    rw (eq-eqb (48 + n / 100 % 10) 48 (omega arith), eq-eqb (48 + n / 10 % 10) 48 (omega arith), eq-eqb (48 + n / 1 % 10) 48 (omega arith))
+fine_places n (suc (suc (suc (suc zero)))) multiple =
+    rw (eq-eqb (48 + n / 10 % 10) 48 (omega arith), eq-eqb (48 + n / 1 % 10) 48 (omega arith))
 fine_places n (suc (suc (suc (suc (suc zero))))) multiple = rw (eq-eqb (48 + n / 1 % 10) 48 (omega arith))
 fine_places n (suc (suc (suc (suc (suc (suc max)))))) multiple = ap all_zeros (drop_all {X = ℕ} max [] (omega arith))
 
@@ -122,7 +148,9 @@ side_of_sign true = refl
 side_of_sign false = refl
 
 -- how the shortest text is spelled
-pub written_spelled : (below : Bool) (n : ℕ) → n ≤ 10 ^ 24 → IsSpelled (sign_text below ++ size_text n) (sign_text below) (decimal (n / 10 ^ 6)) (fraction_text (n % 10 ^ 6)) (decimals (n % 10 ^ 6))
+pub written_spelled : (below : Bool) (n : ℕ) → n ≤ 10 ^ 24
+    → IsSpelled (sign_text below ++ size_text n) (sign_text below) (decimal (n / 10 ^ 6))
+    (fraction_text (n % 10 ^ 6)) (decimals (n % 10 ^ 6))
 written_spelled below n most =
     let numeral = decimal_is_IsNumeral_wide (n / 10 ^ 6) (omega arith) in
     record {
@@ -139,7 +167,8 @@ size_again : (n : ℕ) → n ≤ 10 ^ 24 → size_of (decimal (n / 10 ^ 6)) (dec
 size_again n most =
     let numeral = decimal_is_IsNumeral_wide (n / 10 ^ 6) (omega arith) in
     let padded : six_decimals (decimals (n % 10 ^ 6)) ≡ six_digits (n % 10 ^ 6) = padded_again (six_digits (n % 10 ^ 6)) in
-    let rest : digits_value 10 (six_decimals (decimals (n % 10 ^ 6))) ≡ n % 10 ^ 6 = ap (digits_value 10) padded ∙ six_value (n % 10 ^ 6) (omega arith) in
+    let rest : digits_value 10 (six_decimals (decimals (n % 10 ^ 6))) ≡ n % 10 ^ 6 =
+    ap (digits_value 10) padded ∙ six_value (n % 10 ^ 6) (omega arith) in
     omega (arith, numeral.1, rest)
 
 low_multiple : (n max : ℕ) → max ≤ 6 → n % 10 ^ (6 - max) ≡ 0 → n % 10 ^ 6 % 10 ^ (6 - max) ≡ 0
@@ -154,10 +183,13 @@ low_multiple n (suc (suc (suc (suc (suc (suc max)))))) few multiple =
     rw none (omega arith)
 
 -- what is read from a written text
-written_read : (max : ℕ) (below : Bool) (n : ℕ) → n ≤ 10 ^ 24 → n % 10 ^ 6 % 10 ^ (6 - max) ≡ 0 → decimal_of max (sign_text below ++ size_text n) ≡ Ok (signed below n)
+written_read : (max : ℕ) (below : Bool) (n : ℕ) → n ≤ 10 ^ 24 → n % 10 ^ 6 % 10 ^ (6 - max) ≡ 0
+    → decimal_of max (sign_text below ++ size_text n) ≡ Ok (signed below n)
 written_read max below n most multiple =
-    let fine : all_zeros (drop max (decimals (n % 10 ^ 6))) ≡ true = pass_drop_take (λ c. c == 48) (six_digits (n % 10 ^ 6)) max _ (fine_places (n % 10 ^ 6) max multiple) in
-    reads max (sign_text below ++ size_text n) (sign_text below) (decimal (n / 10 ^ 6)) (fraction_text (n % 10 ^ 6)) (decimals (n % 10 ^ 6)) (written_spelled below n most)
+    let fine : all_zeros (drop max (decimals (n % 10 ^ 6))) ≡ true =
+    pass_drop_take (λ c. c == 48) (six_digits (n % 10 ^ 6)) max _ (fine_places (n % 10 ^ 6) max multiple) in
+    reads max (sign_text below ++ size_text n) (sign_text below) (decimal (n / 10 ^ 6)) (fraction_text (n % 10 ^ 6))
+    (decimals (n % 10 ^ 6)) (written_spelled below n most)
     ∙ rw (fine, size_again n most, side_of_sign below, le-ltb (10 ^ 24) n most)
 
 signed_again : (z : ℤ) → signed (int_lt z (pos 0)) (unsigned_abs z) ≡ z
@@ -165,7 +197,8 @@ signed_again (pos n) = rw (not_below n)
 signed_again (negsuc n) = refl
 
 -- a number of so few decimals is read again from its shortest text
-pub shortest_read : (max : ℕ) (z : ℤ) → max ≤ 6 → unsigned_abs z ≤ 10 ^ 24 → unsigned_abs z % 10 ^ (6 - max) ≡ 0 → decimal_of max (shortest z) ≡ Ok z
+pub shortest_read : (max : ℕ) (z : ℤ) → max ≤ 6 → unsigned_abs z ≤ 10 ^ 24 → unsigned_abs z % 10 ^ (6 - max) ≡ 0
+    → decimal_of max (shortest z) ≡ Ok z
 shortest_read max z few most multiple =
     ap (decimal_of max) (shortest_is z (int_lt z (pos 0)) (unsigned_abs z) refl refl)
     ∙ written_read max (int_lt z (pos 0)) (unsigned_abs z) most (low_multiple (unsigned_abs z) max few multiple)
@@ -178,8 +211,11 @@ whole_starts (suc n) small zero_first = absurd (omega (arith, first_decimal (suc
 
 -- a minus stands below zero alone
 minus_below : (z : ℤ) → (sign_text (int_lt z (pos 0)) ≡ 45 ∷ []) ↔ (z <ℤ pos 0)
-minus_below (pos n) =
-    (λ e. let none = rw (not_below n) at e in let first : ◌≡◌ {A = ℕ} 0 45 = ap (λ xs. get_or xs 0 0) none in absurd (omega arith), λ h. absurd (omega (arith, ints, h)))
+minus_below (pos n) = (
+  λ e. let none = rw (not_below n) at e in let first : ◌≡◌ {A = ℕ} 0 45 =
+      ap (λ xs. get_or xs 0 0) none in absurd (omega arith),
+  λ h. absurd (omega (arith, ints, h)),
+)
 minus_below (negsuc n) = (λ _. omega (arith, ints), λ _. refl)
 
 no_plus : (below : Bool) → sign_text below ≢ 43 ∷ []
@@ -190,7 +226,8 @@ no_plus false e = let first : ◌≡◌ {A = ℕ} 0 43 = ap (λ xs. get_or xs 0 
 no_bare_point : (n : ℕ) → n < 10 ^ 6 → decimals n ≡ [] → fraction_text n ≡ []
 no_bare_point zero small none = refl
 no_bare_point (suc n) small none =
-    let zeros : replicate 6 48 ≡ six_digits (suc n) = ap (λ xs. take 6 (xs ++ replicate 6 48)) (sym none) ∙ padded_again (six_digits (suc n)) in
+    let zeros : replicate 6 48 ≡ six_digits (suc n) =
+    ap (λ xs. take 6 (xs ++ replicate 6 48)) (sym none) ∙ padded_again (six_digits (suc n)) in
     let value : 0 ≡ suc n = ap (digits_value 10) zeros ∙ six_value (suc n) small in
     absurd (omega arith)
 
@@ -223,7 +260,8 @@ all_cons x xs p h = at
 
 -- digits are plain bytes
 pub digits_plain : (ds : List ℕ) → all_digits ds ≡ true → All IsPlainByte ds
-digits_plain ds h = λ k d within. let range = digit_range (get_or ds k d) (AllPass-from_list_all is_ascii_digit ds h k d within) in (omega arith, omega arith, λ e. omega arith)
+digits_plain ds h = λ k d within. let range =
+    digit_range (get_or ds k d) (AllPass-from_list_all is_ascii_digit ds h k d within) in (omega arith, omega arith, λ e. omega arith)
 
 all_append : (xs ys : List ℕ) → All IsPlainByte xs → All IsPlainByte ys → All IsPlainByte (xs ++ ys)
 all_append [] ys h g = g
@@ -233,11 +271,13 @@ sign_plain : (below : Bool) → All IsPlainByte (sign_text below)
 sign_plain true = all_cons 45 [] (omega arith, omega arith, λ e. omega arith) (λ k d within. absurd (omega arith))
 sign_plain false = λ k d within. absurd (omega arith)
 
-fraction_plain : (n : ℕ) → ((fraction_text n ≡ []) × (decimals n ≡ [])) ⊎ (fraction_text n ≡ 46 ∷ decimals n) → (All IsPlainByte (fraction_text n)) × (length (fraction_text n) ≤ 7)
+fraction_plain : (n : ℕ) → ((fraction_text n ≡ []) × (decimals n ≡ [])) ⊎ (fraction_text n ≡ 46 ∷ decimals n)
+    → (All IsPlainByte (fraction_text n)) × (length (fraction_text n) ≤ 7)
 fraction_plain n (inl none) = rw none.0 (λ k d within. absurd (omega arith), omega arith)
 fraction_plain n (inr is) =
     rw is (
-      all_cons 46 (decimals n) (omega arith, omega arith, λ e. omega arith) (digits_plain (decimals n) (pass_take is_ascii_digit (six_digits n) _ (six_pass n))),
+      all_cons 46 (decimals n) (omega arith, omega arith, λ e. omega arith)
+          (digits_plain (decimals n) (pass_take is_ascii_digit (six_digits n) _ (six_pass n))),
       omega (arith, kept_length (six_digits n)),
     )
 
@@ -258,7 +298,9 @@ shortest_plain z most =
     let plain : IsPlain (sign_text below ++ size_text n) = record {
       some = omega (arith, text_length, size_length, numeral.0.0);
       short = omega (arith, text_length, size_length, long, fraction.1, sign_length below);
-      bytes = all_append (sign_text below) (size_text n) (sign_plain below) (all_append (decimal (n / 10 ^ 6)) (fraction_text (n % 10 ^ 6)) (digits_plain (decimal (n / 10 ^ 6)) (digits_pass (decimal (n / 10 ^ 6)) numeral.0.1)) fraction.0);
+      bytes = all_append (sign_text below) (size_text n) (sign_plain below)
+          (all_append (decimal (n / 10 ^ 6)) (fraction_text (n % 10 ^ 6))
+          (digits_plain (decimal (n / 10 ^ 6)) (digits_pass (decimal (n / 10 ^ 6)) numeral.0.1)) fraction.0);
     } in
     rw (shortest_is z below n refl refl) plain
 

@@ -20,7 +20,8 @@ pub all_at : {X : Type 0} (P : X → Type 0) (xs : List X) (k : ℕ) (x : X) →
 all_at P xs k x all lt is = subst P (get_or_from_slice_get xs k x x is) (all k x lt)
 
 -- a test of codes finds the blocks that pass the same test
-pub blocks_where : (test : ℕ → Bool) (other : Block → Bool) (n : ℕ) (bs : List Block) → All (λ b. test (code b) ≡ other b) bs → places_where test n (codes bs) ≡ places_where other n bs
+pub blocks_where : (test : ℕ → Bool) (other : Block → Bool) (n : ℕ) (bs : List Block) → All (λ b. test (code b) ≡ other b) bs
+    → places_where test n (codes bs) ≡ places_where other n bs
 blocks_where test other n [] h = refl
 blocks_where test other n (b ∷ bs) h =
     let first = All-head (λ b. test (code b) ≡ other b) b bs h in
@@ -49,23 +50,30 @@ module _ (grid : Grid) (cones : List Cone) (extent : Extent) (tables : List Cone
       let table : ConeTable = found.0 in
       let cone : Cone = table.cone in
       let same : slice_get cones low.zone ≡ Some cone =
-      slice_get-get_or cones low.zone cone lt ∙ ap (λ (c : Cone). Some c) (sym (has.same low.zone cone table lt) ∙ ap (λ (t : ConeTable). t.cone) (get_or_from_slice_get tables (place low.zone) table table found.2)) in
+      slice_get-get_or cones low.zone cone lt
+      ∙ ap (λ (c : Cone). Some c) (sym (has.same low.zone cone table lt)
+      ∙ ap (λ (t : ConeTable). t.cone) (get_or_from_slice_get tables (place low.zone) table table found.2)) in
       let told = all_at (IsTold grid extent) tables (place low.zone) table has.told found.1 found.2 in
       ap (λ o. places_where (is_in_rows (code low) (rows_in o)) 0 (codes blocks)) found.2
-      ∙ blocks_where (is_in_rows (code low) table.rows.items) (is_above grid cone low) 0 blocks (λ k d within. told.told low (get_or blocks k d) (close k d within))
+      ∙ blocks_where (is_in_rows (code low) table.rows.items) (is_above grid cone low) 0 blocks
+      (λ k d within. told.told low (get_or blocks k d) (close k d within))
       ∙ ap (λ o. above grid o blocks low) (sym same))
       (λ past. let below = has.below low.zone 0 (omega (arith, has.zones)) in absurd (omega (arith, past.0)))
       ((slice_get_cases tables (place low.zone)).1)
 
   pub lists_are : map (in_cone tables of_zone (codes blocks)) blocks ≡ map (λ low. above grid (slice_get cones low.zone) blocks low) blocks
   lists_are = map_same (in_cone tables of_zone (codes blocks)) (λ low. above grid (slice_get cones low.zone) blocks low) blocks
-      (λ k d lt. list_is (get_or blocks k d) (λ j e within. subst (IsWithin extent (get_or blocks k d)) (get_or_default blocks j d e within) (near k j d lt within)) (zones k d lt))
+      (λ k d lt. list_is (get_or blocks k d)
+      (λ j e within. subst (IsWithin extent (get_or blocks k d)) (get_or_default blocks j d e within) (near k j d lt within))
+      (zones k d lt))
 
-pub tables_in_order : (grid : Grid) (extent : Extent) (tables : List ConeTable) → All (IsTold grid extent) tables → All (λ t. AreInOrder t.rows.items) tables
+pub tables_in_order : (grid : Grid) (extent : Extent) (tables : List ConeTable) → All (IsTold grid extent) tables
+    → All (λ t. AreInOrder t.rows.items) tables
 tables_in_order grid extent tables told k d lt = let h = told k d lt in (h.high, h.apart)
 
 -- of a plan's grid and cones, and of the blocks by identifier
-pub preds_are : (plan : PlanParts) (listed : List Block) (grid : Grid) (cones : List Cone) (extent : Extent) (tables : List ConeTable) (of_zone : List ℕ) (blocks : List Block)
+pub preds_are : (plan : PlanParts) (listed : List Block) (grid : Grid) (cones : List Cone)
+    (extent : Extent) (tables : List ConeTable) (of_zone : List ℕ) (blocks : List Block)
     → blocks ≡ listed → grid ≡ plan.grid → cones ≡ plan.cones
     → HasTables grid cones extent tables of_zone
     → ((i j : ℕ) (d : Block) → i < length blocks → j < length blocks → IsWithin extent (get_or blocks i d) (get_or blocks j d))

@@ -19,7 +19,8 @@ pub record IsAt (rows dz i : ℕ) (low high : Block) : Type 0 where
   pub bench : high.z ≡ low.z + dz
   pub row : high.y + rows ≡ low.y + i
 
-module _ (grid : Grid) (cone : Cone) (rows dz i : ℕ) (low high : Block) (up : 1 ≤ dz) (within : dz ≤ cone.k) (at : IsAt rows dz i low high) where
+module _ (grid : Grid) (cone : Cone) (rows dz i : ℕ) (low high : Block) (up : 1 ≤ dz) (within : dz
+    ≤ cone.k) (at : IsAt rows dz i low high) where
   same_rise : high.z - low.z ≡ dz
   same_rise = omega (arith, at.bench)
 
@@ -30,12 +31,14 @@ module _ (grid : Grid) (cone : Cone) (rows dz i : ℕ) (low high : Block) (up : 
   same_rows = omega (arith, at.row)
 
   -- only the slopes are left
-  pub above_is : is_above grid cone low high ≡ is_within_slopes grid (slope_along_x cone low high) (slope_across cone rows i) (abs_diff low.x high.x) (abs_diff i rows) dz
+  pub above_is : is_above grid cone low high
+      ≡ is_within_slopes grid (slope_along_x cone low high) (slope_across cone rows i) (abs_diff low.x high.x) (abs_diff i rows) dz
   above_is =
       let higher : nat_lt low.z high.z ≡ true = lt-ltb _ _ (omega (arith, at.bench)) in
       let near : nat_le (high.z - low.z) cone.k ≡ true = le-leb _ _ (omega (arith, at.bench)) in
       let slope : slope_along_y cone low high ≡ slope_across cone rows i = ap (λ b. if b then cone.north else cone.south) same_side in
-      λ j. higher j && (near j && is_within_slopes grid (slope_along_x cone low high) (slope j) (abs_diff low.x high.x) (same_rows j) (same_rise j))
+      λ j. higher j && (near j && is_within_slopes grid (slope_along_x cone low high) (slope j)
+      (abs_diff low.x high.x) (same_rows j) (same_rise j))
 
 -- a code beside the middle of a row, on either side
 beside_east : (low high middle x y west east : ℕ) → high + x ≡ (low + middle) + y → x < y → 10000 ≤ middle → west ≤ 10000
@@ -79,12 +82,16 @@ module _ (grid : Grid) (cone : Cone) (rows dz i : ℕ) (counts : Counts) (counte
   far : 10000 ≤ center rows dz i
   far = omega arith
 
-  pub row_told : (row : Row) → row.first ≡ center rows dz i + 1 - counts.west → row.past ≡ center rows dz i + max counts.east 1 → is_in_row (code low) row (code high) ≡ is_above grid cone low high
+  pub row_told : (row : Row) → row.first ≡ center rows dz i + 1 - counts.west → row.past ≡ center rows dz i + max counts.east 1
+      → is_in_row (code low) row (code high) ≡ is_above grid cone low high
   row_told row first past =
       (λ j. nat_le (code low + first j) (code high) && nat_lt (code high) (code low + past j))
       ∙ by (nat_lt low.x high.x) refl ∙ sym side_is
     where
       by : (b : Bool) → nat_lt low.x high.x ≡ b
-          → (nat_le (code low + (center rows dz i + 1 - counts.west)) (code high) && nat_lt (code high) (code low + (center rows dz i + max counts.east 1))) ≡ on_side b
-      by true e = beside_east (code low) (code high) (center rows dz i) low.x high.x counts.west counts.east apart_is (ltb-true low.x high.x e) far counted.few_west
-      by false e = beside_west (code low) (code high) (center rows dz i) low.x high.x counts.west counts.east apart_is (ltb-false low.x high.x e) far counted.few_west
+          → (nat_le (code low + (center rows dz i + 1 - counts.west)) (code high)
+          && nat_lt (code high) (code low + (center rows dz i + max counts.east 1))) ≡ on_side b
+      by true e = beside_east (code low) (code high) (center rows dz i) low.x high.x counts.west counts.east apart_is
+          (ltb-true low.x high.x e) far counted.few_west
+      by false e = beside_west (code low) (code high) (center rows dz i) low.x high.x counts.west counts.east apart_is
+          (ltb-false low.x high.x e) far counted.few_west

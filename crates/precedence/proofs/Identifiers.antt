@@ -73,7 +73,8 @@ module _ (listed : List Block) (entries : List (ℕ × ℕ)) (table : IsSortedTa
       (All-from_get_or (λ p. p < length listed) (values_of entries) 0 (λ k lt. inside k (omega (arith, as_many_positions))))
 
 module _ (listed : List Block) (entries : List (ℕ × ℕ)) (table : IsSortedTable listed entries)
-    (blocks : List Block) (told : (d : Block) → blocks ≡ map (λ p. get_or listed p d) (values_of entries)) (long : length blocks ≡ length entries) where
+    (blocks : List Block) (told : (d : Block) → blocks ≡ map (λ p. get_or listed p d) (values_of entries))
+    (long : length blocks ≡ length entries) where
   -- the block at k
   block_is : (k : ℕ) (d : Block) → k < length listed → get_or blocks k d ≡ get_or listed (get_or (values_of entries) k 0) d
   block_is k d lt =

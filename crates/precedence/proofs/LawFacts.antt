@@ -46,11 +46,13 @@ even_slopes : (grid : Grid) (slope : Slope) (dx dy dz : ℕ) → 1 ≤ slope.q
 even_slopes grid slope dx dy dz some =
     let left : square (dx * (grid.x.size * slope.p * slope.q)) + square (dy * (grid.y.size * slope.p * slope.q))
     ≡ square slope.q * (square slope.p * (square (dx * grid.x.size) + square (dy * grid.y.size))) = omega arith in
-    let right : square (dz * (grid.z.size * slope.q * slope.q)) ≡ square slope.q * (square slope.q * square (dz * grid.z.size)) = omega arith in
+    let right : square (dz * (grid.z.size * slope.q * slope.q))
+    ≡ square slope.q * (square slope.q * square (dz * grid.z.size)) = omega arith in
     let positive : 0 < square slope.q = mul-le-mul some some in
     (λ j. nat_le (left j) (right j)) ∙ factor_out (square slope.q) _ _ positive
 
-pub one_slope_is : (grid : Grid) (slope : Slope) (k : ℕ) (low high : Block) → 1 ≤ slope.q → is_above grid (even_cone slope k) low high ≡ is_above_by grid slope k low high
+pub one_slope_is : (grid : Grid) (slope : Slope) (k : ℕ) (low high : Block) → 1 ≤ slope.q
+    → is_above grid (even_cone slope k) low high ≡ is_above_by grid slope k low high
 one_slope_is grid slope k low high some =
     let along : slope_along_x (even_cone slope k) low high ≡ slope = either (nat_lt low.x high.x) slope in
     let across : slope_along_y (even_cone slope k) low high ≡ slope = either (nat_lt low.y high.y) slope in
@@ -68,8 +70,10 @@ even_above grid (Some cone) blocks low h = λ j. places_where (λ high. same hig
     same : (high : Block) → is_above grid cone low high ≡ is_above_by grid cone.east cone.k low high
     same high = ap (λ (c : Cone). is_above grid c low high) (h cone refl).0 ∙ one_slope_is grid cone.east cone.k low high (h cone refl).1
 
-pub even_zones_are : (plan : PlanParts) (blocks : List Block) → All IsCone plan.cones → All IsEven plan.cones → preds plan blocks ≡ preds_by plan blocks
-even_zones_are plan blocks cones even = λ j. map (λ low. even_above plan.grid (slice_get plan.cones low.zone) blocks low (one_slope_at low) j) blocks
+pub even_zones_are : (plan : PlanParts) (blocks : List Block) → All IsCone plan.cones → All IsEven plan.cones
+    → preds plan blocks ≡ preds_by plan blocks
+even_zones_are plan blocks cones even =
+    λ j. map (λ low. even_above plan.grid (slice_get plan.cones low.zone) blocks low (one_slope_at low) j) blocks
   where
     one_slope_at : (low : Block) (cone : Cone) → slice_get plan.cones low.zone ≡ Some cone → IsEven cone × (1 ≤ cone.east.q)
     one_slope_at low cone is =
@@ -82,14 +86,17 @@ even_zones_are plan blocks cones even = λ j. map (λ low. even_above plan.grid 
 abbrev pub IsFound : {X : Type 0} → (X → Bool) → ℕ → List X → ℕ → Type 0
 IsFound {X} test n xs k = (i : ℕ) × (k ≡ n + i) × (i < length xs) × ((d : X) → test (get_or xs i d) ≡ true)
 
-found_later : {X : Type 0} (test : X → Bool) (n : ℕ) (x : X) (xs : List X) (ks : List ℕ) → All (IsFound test (n + 1) xs) ks → All (IsFound test n (x ∷ xs)) ks
+found_later : {X : Type 0} (test : X → Bool) (n : ℕ) (x : X) (xs : List X) (ks : List ℕ) → All (IsFound test (n + 1) xs) ks
+    → All (IsFound test n (x ∷ xs)) ks
 found_later test n x xs ks rest k d lt =
     let h = rest k d lt in
     (suc h.0, omega (arith, h.1), omega (arith, h.2), h.3)
 
-found_step : {X : Type 0} (test : X → Bool) (n : ℕ) (x : X) (xs : List X) (ks : List ℕ) (b : Bool) → test x ≡ b → All (IsFound test (n + 1) xs) ks
+found_step : {X : Type 0} (test : X → Bool) (n : ℕ) (x : X) (xs : List X) (ks : List ℕ) (b : Bool) → test x ≡ b
+    → All (IsFound test (n + 1) xs) ks
     → All (IsFound test n (x ∷ xs)) (if b then n ∷ ks else ks)
-found_step test n x xs ks true e rest = All-cons (IsFound test n (x ∷ xs)) n ks (0, omega arith, omega arith, λ d. e) (found_later test n x xs ks rest)
+found_step test n x xs ks true e rest =
+    All-cons (IsFound test n (x ∷ xs)) n ks (0, omega arith, omega arith, λ d. e) (found_later test n x xs ks rest)
 found_step test n x xs ks false e rest = found_later test n x xs ks rest
 
 -- each number is such a place
@@ -123,10 +130,13 @@ nowhere n (x ∷ xs) = nowhere (n + 1) xs
 -- the same numbers by a filter of all
 filter_step : (t : ℕ → Bool) (n : ℕ) (b : Bool) (ks : List ℕ) (len : ℕ) → t n ≡ b → ks ≡ filter t (range_with_len (n + 1) len)
     → (if b then n ∷ ks else ks) ≡ filter t (range_with_len n (suc len))
-filter_step t n true ks len e h = ap (λ xs. n ∷ xs) h ∙ ap (λ b. cond b (n ∷ filter t (range_with_len (n + 1) len)) (filter t (range_with_len (n + 1) len))) (sym e)
-filter_step t n false ks len e h = h ∙ ap (λ b. cond b (n ∷ filter t (range_with_len (n + 1) len)) (filter t (range_with_len (n + 1) len))) (sym e)
+filter_step t n true ks len e h =
+    ap (λ xs. n ∷ xs) h ∙ ap (λ b. cond b (n ∷ filter t (range_with_len (n + 1) len)) (filter t (range_with_len (n + 1) len))) (sym e)
+filter_step t n false ks len e h =
+    h ∙ ap (λ b. cond b (n ∷ filter t (range_with_len (n + 1) len)) (filter t (range_with_len (n + 1) len))) (sym e)
 
-where_filter : {X : Type 0} (test : X → Bool) (t : ℕ → Bool) (n : ℕ) (xs : List X) → ((i : ℕ) (d : X) → i < length xs → t (n + i) ≡ test (get_or xs i d))
+where_filter : {X : Type 0} (test : X → Bool) (t : ℕ → Bool) (n : ℕ) (xs : List X)
+    → ((i : ℕ) (d : X) → i < length xs → t (n + i) ≡ test (get_or xs i d))
     → places_where test n xs ≡ filter t (range_with_len n (length xs))
 where_filter test t n [] h = refl
 where_filter test t n (x ∷ xs) h =
@@ -139,7 +149,8 @@ where_filter test t n (x ∷ xs) h =
 -- ---- the lists of all blocks
 
 module _ (plan : PlanParts) (blocks : List Block) where
-  list_at : (i : ℕ) (d : Block) → i < length blocks → get_or (preds plan blocks) i [] ≡ above plan.grid (slice_get plan.cones (get_or blocks i d).zone) blocks (get_or blocks i d)
+  list_at : (i : ℕ) (d : Block) → i < length blocks
+      → get_or (preds plan blocks) i [] ≡ above plan.grid (slice_get plan.cones (get_or blocks i d).zone) blocks (get_or blocks i d)
   list_at i d lt = get_or-map (λ low. above plan.grid (slice_get plan.cones low.zone) blocks low) blocks i d [] lt
 
   above_found : (o : Option Cone) (low : Block) → All (IsFound (is_pred_by plan.grid o low) 0 blocks) (above plan.grid o blocks low)
@@ -150,12 +161,14 @@ module _ (plan : PlanParts) (blocks : List Block) where
   higher None low high h = let no : ⊥ = cc in absurd no
   higher (Some cone) low high h = ltb-true low.z high.z (and_parts (nat_lt low.z high.z) _ h).0
 
-  pub lies_higher : (i k : ℕ) (d : Block) → i < length blocks → Contains (get_or (preds plan blocks) i []) k → (k < length blocks) × ((get_or blocks i d).z < (get_or blocks k d).z)
+  pub lies_higher : (i k : ℕ) (d : Block) → i < length blocks → Contains (get_or (preds plan blocks) i []) k → (k < length blocks)
+      × ((get_or blocks i d).z < (get_or blocks k d).z)
   lies_higher i k d lt has =
       let low = get_or blocks i d in
       let o = slice_get plan.cones low.zone in
       let P : List ℕ → Type 0 = λ ks. Contains ks k in
-      let h = All-contains (IsFound (is_pred_by plan.grid o low) 0 blocks) (above plan.grid o blocks low) k (above_found o low) (subst P (list_at i d lt) has) in
+      let h = All-contains (IsFound (is_pred_by plan.grid o low) 0 blocks) (above plan.grid o blocks low) k
+      (above_found o low) (subst P (list_at i d lt) has) in
       let same : h.0 ≡ k = omega (arith, h.1) in
       (omega (arith, h.2), higher o low (get_or blocks k d) (ap (λ n. is_pred_by plan.grid o low (get_or blocks n d)) (sym same) ∙ h.3 d))
 
@@ -168,7 +181,8 @@ module _ (plan : PlanParts) (blocks : List Block) where
       let P : List ℕ → Type 0 = IsStrictlyIncreasing in
       subst P (sym (list_at i d lt)) (increasing_from 0 _ (above_rises (slice_get plan.cones (get_or blocks i d).zone) (get_or blocks i d)))
 
-pub lists_rise : (plan : PlanParts) (blocks : List Block) (i : ℕ) → i < length blocks → IsStrictlyIncreasing (get_or (preds plan blocks) i [])
+pub lists_rise : (plan : PlanParts) (blocks : List Block) (i : ℕ) → i < length blocks
+    → IsStrictlyIncreasing (get_or (preds plan blocks) i [])
 lists_rise plan [] i lt = absurd (omega arith)
 lists_rise plan (b ∷ bs) i lt = rise_at plan (b ∷ bs) i b lt
 
@@ -176,7 +190,8 @@ lists_rise plan (b ∷ bs) i lt = rise_at plan (b ∷ bs) i b lt
 
 module _ (listed : List Block) (n : NumberingView) (numbering : IsNumbering listed n) (p : Block → Bool) where
   -- some block of the list has the identifier and passes, just where the block by that identifier passes
-  some_passes : (k : ℕ) (d : Block) → k < length listed → list_any (λ high. (id listed high == k) && p high) listed ≡ p (get_or n.blocks k d)
+  some_passes : (k : ℕ) (d : Block) → k < length listed
+      → list_any (λ high. (id listed high == k) && p high) listed ≡ p (get_or n.blocks k d)
   some_passes k d lt = ⊎_elim
       (λ passes.
       let at = get_or n.positions k 0 in
@@ -187,19 +202,24 @@ module _ (listed : List Block) (n : NumberingView) (numbering : IsNumbering list
       (λ fails. list_any_none (λ high. (id listed high == k) && p high) listed (λ i e within. ⊎_elim
       (λ own.
       let there : get_or n.positions k 0 ≡ i = ap (λ m. get_or n.positions m 0) (sym (eqb-true _ _ own)) ∙ numbering.found i e within in
-      let same : get_or listed i e ≡ get_or n.blocks k d = get_or_default listed i e d within ∙ ap (λ m. get_or listed m d) (sym there) ∙ numbering.stands k d lt in
+      let same : get_or listed i e ≡ get_or n.blocks k d =
+      get_or_default listed i e d within ∙ ap (λ m. get_or listed m d) (sym there) ∙ numbering.stands k d lt in
       ap (λ b. (id listed (get_or listed i e) == k) && b) (ap p same ∙ fails) ∙ and-false (id listed (get_or listed i e) == k))
       (λ other. ap (λ b. b && p (get_or listed i e)) other)
       (cases_Bool (id listed (get_or listed i e) == k))) ∙ sym fails)
       (cases_Bool (p (get_or n.blocks k d)))
 
 module _ (plan : PlanParts) (listed : List Block) (n : NumberingView) (numbering : IsNumbering listed n) where
-  by_filter : (o : Option Cone) (low : Block) → above plan.grid o n.blocks low ≡ filter (λ k. list_any (λ high. (id listed high == k) && is_pred_by plan.grid o low high) listed) (range_with_len 0 (length n.blocks))
-  by_filter None low = sym (nowhere 0 n.blocks) ∙ where_filter (λ high. false) (λ k. list_any (λ high. (id listed high == k) && false) listed) 0 n.blocks (λ i d lt. none_at i d lt)
+  by_filter : (o : Option Cone) (low : Block)
+      → above plan.grid o n.blocks low ≡ filter (λ k. list_any (λ high. (id listed high == k) && is_pred_by plan.grid o low high) listed)
+      (range_with_len 0 (length n.blocks))
+  by_filter None low = sym (nowhere 0 n.blocks)
+      ∙ where_filter (λ high. false) (λ k. list_any (λ high. (id listed high == k) && false) listed) 0 n.blocks (λ i d lt. none_at i d lt)
     where
       none_at : (i : ℕ) (d : Block) → i < length n.blocks → list_any (λ high. (id listed high == (0 + i)) && false) listed ≡ false
       none_at i d lt = some_passes listed n numbering (λ high. false) (0 + i) d (omega (arith, numbering.blocks))
-  by_filter (Some cone) low = where_filter (is_above plan.grid cone low) (λ k. list_any (λ high. (id listed high == k) && is_above plan.grid cone low high) listed) 0 n.blocks
+  by_filter (Some cone) low = where_filter (is_above plan.grid cone low)
+      (λ k. list_any (λ high. (id listed high == k) && is_above plan.grid cone low high) listed) 0 n.blocks
       (λ i d lt.
       let same : 0 + i ≡ i = omega arith in
       some_passes listed n numbering (is_above plan.grid cone low) (0 + i) d (omega (arith, numbering.blocks))

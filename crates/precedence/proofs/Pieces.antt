@@ -13,7 +13,8 @@ pub ends_push : (from : ℕ) (ends : List ℕ) (len more : ℕ) → AreEnds from
 ends_push from [] len more h le = (omega arith, refl)
 ends_push from (end ∷ ends) len more h le = (h.0, ends_push end ends len more h.1 le)
 
-pub pieces_push : (flat xs : List ℕ) (from : ℕ) (ends : List ℕ) → AreEnds from ends (length flat) → pieces (flat ++ xs) from (ends ++ length (flat ++ xs) ∷ []) ≡ pieces flat from ends ++ xs ∷ []
+pub pieces_push : (flat xs : List ℕ) (from : ℕ) (ends : List ℕ) → AreEnds from ends (length flat)
+    → pieces (flat ++ xs) from (ends ++ length (flat ++ xs) ∷ []) ≡ pieces flat from ends ++ xs ∷ []
 pieces_push flat xs from [] h =
     let len = length-append flat xs in
     let rest : drop from (flat ++ xs) ≡ xs = ap (λ n. drop n (flat ++ xs)) h ∙ drop-append_seam flat xs in
@@ -26,7 +27,8 @@ pieces_push flat xs from (end ∷ ends) h =
     ∙ take-append-le (end - from) (drop from flat) xs (omega arith) in
     (λ i. first i ∷ pieces_push flat xs end ends h.1 i)
 
-pub arcs_are : (flat : List ℕ) (from : ℕ) (ends : List ℕ) → AreEnds from ends (length flat) → from + sum_by length (pieces flat from ends) ≡ length flat
+pub arcs_are : (flat : List ℕ) (from : ℕ) (ends : List ℕ) → AreEnds from ends (length flat)
+    → from + sum_by length (pieces flat from ends) ≡ length flat
 arcs_are flat from [] h = omega arith
 arcs_are flat from (end ∷ ends) h =
     let within = ends_within end ends (length flat) h.1 in
@@ -44,14 +46,17 @@ length-pieces flat from (end ∷ ends) = ap (λ n. suc n) (length-pieces flat en
 pub start_is : (from : ℕ) (ends : List ℕ) (k : ℕ) → k < length ends → start_at from ends (k + 1) ≡ get_or ends k 0
 start_is from [] k lt = absurd (omega arith)
 start_is from (end ∷ ends) zero lt = refl
-start_is from (end ∷ ends) (suc k) lt = let more : suc k + 1 ≡ suc (k + 1) = omega arith in ap (start_at from (end ∷ ends)) more ∙ start_is end ends k (omega arith)
+start_is from (end ∷ ends) (suc k) lt = let more : suc k + 1 ≡ suc (k + 1) =
+    omega arith in ap (start_at from (end ∷ ends)) more ∙ start_is end ends k (omega arith)
 
-pub piece_within : (from : ℕ) (ends : List ℕ) (len k : ℕ) → AreEnds from ends len → k < length ends → (start_at from ends k ≤ get_or ends k 0) × (get_or ends k 0 ≤ len)
+pub piece_within : (from : ℕ) (ends : List ℕ) (len k : ℕ) → AreEnds from ends len → k < length ends
+    → (start_at from ends k ≤ get_or ends k 0) × (get_or ends k 0 ≤ len)
 piece_within from [] len k h lt = absurd (omega arith)
 piece_within from (end ∷ ends) len zero h lt = (h.0, ends_within end ends len h.1)
 piece_within from (end ∷ ends) len (suc k) h lt = piece_within end ends len k h.1 (omega arith)
 
-pub piece_is : (flat : List ℕ) (from : ℕ) (ends : List ℕ) (k : ℕ) → k < length ends → slice_get (pieces flat from ends) k ≡ Some (take (get_or ends k 0 - start_at from ends k) (drop (start_at from ends k) flat))
+pub piece_is : (flat : List ℕ) (from : ℕ) (ends : List ℕ) (k : ℕ) → k < length ends
+    → slice_get (pieces flat from ends) k ≡ Some (take (get_or ends k 0 - start_at from ends k) (drop (start_at from ends k) flat))
 piece_is flat from [] k lt = absurd (omega arith)
 piece_is flat from (end ∷ ends) zero lt = refl
 piece_is flat from (end ∷ ends) (suc k) lt = piece_is flat end ends k (omega arith)

@@ -31,7 +31,8 @@ takes_smaller r d e le h =
     let whole : square (e * r.weight) + r.used ≤ r.reach = leb-true _ _ h in
     le-leb _ _ (omega arith)
 
-pub counts_all : (r : Reach) (count : ℕ) → (count < 10000 → takes_in count r ≡ false) → (0 < count → takes_in (count - 1) r ≡ true) → CountsAll r count
+pub counts_all : (r : Reach) (count : ℕ) → (count < 10000 → takes_in count r ≡ false) → (0 < count → takes_in (count - 1) r ≡ true)
+    → CountsAll r count
 counts_all r count enough few d lt = ⊎_elim
     (λ below. takes_smaller r d (count - 1) (omega arith) (few (omega arith)) ∙ sym (lt-ltb d count below))
     (λ above. ⊎_elim

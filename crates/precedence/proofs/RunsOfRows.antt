@@ -39,7 +39,8 @@ take-range zero a n le = refl
 take-range (suc k) a zero le = absurd (omega arith)
 take-range (suc k) a (suc n) le = ap (λ xs. a ∷ xs) (take-range k (a + 1) n (omega arith))
 
-pub part_of_range : (n first past : ℕ) → first ≤ past → past ≤ n → take (past - first) (drop first (range_with_len 0 n)) ≡ range_with_len first (past - first)
+pub part_of_range : (n first past : ℕ) → first ≤ past → past ≤ n
+    → take (past - first) (drop first (range_with_len 0 n)) ≡ range_with_len first (past - first)
 part_of_range n first past le within = ap (take (past - first)) (drop-range first 0 n (omega arith))
     ∙ take-range (past - first) (0 + first) (n - first) (omega arith)
     ∙ (let from : 0 + first ≡ first = omega arith in ap (λ a. range_with_len a (past - first)) from)
@@ -63,7 +64,8 @@ where_no : (test : ℕ → Bool) (n c : ℕ) (cs : List ℕ) → test c ≡ fals
 where_no test n c cs e = ap (λ b. if b then n ∷ places_where test (n + 1) cs else places_where test (n + 1) cs) e
 
 -- tests that agree on the codes find the same places
-pub where_same : (test other : ℕ → Bool) (n : ℕ) (cs : List ℕ) → All (λ c. test c ≡ other c) cs → places_where test n cs ≡ places_where other n cs
+pub where_same : (test other : ℕ → Bool) (n : ℕ) (cs : List ℕ) → All (λ c. test c ≡ other c) cs
+    → places_where test n cs ≡ places_where other n cs
 where_same test other n [] h = refl
 where_same test other n (c ∷ cs) h =
     let first = All-head (λ c. test c ≡ other c) c cs h in
@@ -80,7 +82,8 @@ module _ (from : ℕ) (row : Row) (rows : List Row) (high : ℕ) (some : row.fir
   past_of codes = start_of (from + row.past) codes
 
   pub split : (low n : ℕ) (codes : List ℕ) → Rises low codes
-      → places_where (is_in_rows from (row ∷ rows)) n codes ≡ range_with_len (n + first_of codes) (past_of codes - first_of codes) ++ places_where (is_in_rows from rows) n codes
+      → places_where (is_in_rows from (row ∷ rows)) n codes ≡ range_with_len (n + first_of codes) (past_of codes - first_of codes)
+      ++ places_where (is_in_rows from rows) n codes
   split low n [] h = refl
   split low n (c ∷ cs) h = ⊎_elim
       (λ before.
@@ -91,8 +94,10 @@ module _ (from : ℕ) (row : Row) (rows : List Row) (high : ℕ) (some : row.fir
       let two = start_yes (from + row.past) c cs (omega arith) in
       let begin : (n + 1) + first_of cs ≡ n + first_of (c ∷ cs) = omega (arith, one) in
       let len : past_of cs - first_of cs ≡ past_of (c ∷ cs) - first_of (c ∷ cs) = omega (arith, one, two) in
-      let left : places_where (is_in_rows from rows) (n + 1) cs ≡ places_where (is_in_rows from rows) n (c ∷ cs) = sym (where_no (is_in_rows from rows) n c cs rest) in
-      where_no (is_in_rows from (row ∷ rows)) n c cs none ∙ split (c + 1) (n + 1) cs h.1 ∙ (λ j. range_with_len (begin j) (len j) ++ left j))
+      let left : places_where (is_in_rows from rows) (n + 1) cs ≡ places_where (is_in_rows from rows) n (c ∷ cs) =
+      sym (where_no (is_in_rows from rows) n c cs rest) in
+      where_no (is_in_rows from (row ∷ rows)) n c cs none ∙ split (c + 1) (n + 1) cs h.1
+      ∙ (λ j. range_with_len (begin j) (len j) ++ left j))
       (λ after. ⊎_elim
       (λ inside.
       let in_first : nat_le (from + row.first) c ≡ true = le-leb _ _ after in
@@ -105,7 +110,8 @@ module _ (from : ℕ) (row : Row) (rows : List Row) (high : ℕ) (some : row.fir
       let begin : n ≡ n + first_of (c ∷ cs) = omega (arith, one) in
       let len : suc (past_of cs - first_of cs) ≡ past_of (c ∷ cs) - first_of (c ∷ cs) = omega (arith, one, two, none) in
       let next : (n + 1) + first_of cs ≡ n + 1 = omega (arith, none) in
-      let left : places_where (is_in_rows from rows) (n + 1) cs ≡ places_where (is_in_rows from rows) n (c ∷ cs) = sym (where_no (is_in_rows from rows) n c cs rest) in
+      let left : places_where (is_in_rows from rows) (n + 1) cs ≡ places_where (is_in_rows from rows) n (c ∷ cs) =
+      sym (where_no (is_in_rows from rows) n c cs rest) in
       where_yes (is_in_rows from (row ∷ rows)) n c cs yes
       ∙ ap (λ xs. n ∷ xs) (split (c + 1) (n + 1) cs h.1)
       ∙ (λ j. n ∷ (range_with_len (next j) (past_of cs - first_of cs) ++ left j))
@@ -119,7 +125,8 @@ module _ (from : ℕ) (row : Row) (rows : List Row) (high : ℕ) (some : row.fir
       let len_of_rest : past_of cs - first_of cs ≡ 0 = omega (arith, no_past) in
       let len : 0 ≡ past_of (c ∷ cs) - first_of (c ∷ cs) = omega (arith, two) in
       let same : places_where (is_in_rows from (row ∷ rows)) (n + 1) cs ≡ places_where (is_in_rows from rows) (n + 1) cs =
-      split (c + 1) (n + 1) cs h.1 ∙ (λ j. range_with_len ((n + 1) + first_of cs) (len_of_rest j) ++ places_where (is_in_rows from rows) (n + 1) cs) in
+      split (c + 1) (n + 1) cs h.1 ∙ (λ j. range_with_len ((n + 1) + first_of cs) (len_of_rest j)
+      ++ places_where (is_in_rows from rows) (n + 1) cs) in
       (λ j. if none j || is_in_rows from rows c then n ∷ same j else same j)
       ∙ (λ j. range_with_len (n + first_of (c ∷ cs)) (len j) ++ places_where (is_in_rows from rows) n (c ∷ cs)))
       (cases_lt c (from + row.past)))
@@ -137,8 +144,10 @@ skip from low high m (suc n) (row ∷ rows) codes h le out =
     where_same (is_in_rows from (row ∷ rows)) (is_in_rows from rows) m codes (λ i d lt.
     let c = get_or codes i d in
     let none : is_in_row from row c ≡ false = ⊎_elim
-    (λ before. let no : nat_le (from + row.first) c ≡ false = lt-leb _ _ (omega (arith, h.0)) in ap (λ b. b && nat_lt c (from + row.past)) no)
-    (λ beyond. let no : nat_lt c (from + row.past) ≡ false = le-ltb _ _ beyond in ap (λ b. nat_le (from + row.first) c && b) no ∙ and-false (nat_le (from + row.first) c))
+    (λ before. let no : nat_le (from + row.first) c ≡ false =
+    lt-leb _ _ (omega (arith, h.0)) in ap (λ b. b && nat_lt c (from + row.past)) no)
+    (λ beyond. let no : nat_lt c (from + row.past) ≡ false =
+    le-ltb _ _ beyond in ap (λ b. nat_le (from + row.first) c && b) no ∙ and-false (nat_le (from + row.first) c))
     (out i d lt 0 (omega arith)) in
     ap (λ b. b || is_in_rows from rows c) none)
     ∙ skip from row.past high m n rows codes h.2 (omega arith) (λ i d lt k less. ⊎_elim
@@ -200,7 +209,8 @@ module _ (from high : ℕ) (rows : List Row) (codes : List ℕ) (apart : AreApar
           (λ no. let same : a ≡ b = omega arith in omega (arith, ap (λ n. get_or cs n 0) same))
           (cases_lt a b)
 
-  pub adds_run : places_where (is_in_rows from (drop i rows)) 0 codes ≡ run from row codes ++ places_where (is_in_rows from (drop j rows)) 0 codes
+  pub adds_run : places_where (is_in_rows from (drop i rows)) 0 codes ≡ run from row codes
+      ++ places_where (is_in_rows from (drop j rows)) 0 codes
   adds_run =
       let whole : drop i rows ≡ row ∷ drop (suc i) rows = drop-cons rows i row within ∙ ap (λ r. r ∷ drop (suc i) rows) (sym is) in
       let first = split from row (drop (suc i) rows) high here.0 here.1 0 0 codes (rises codes rising) in

@@ -27,7 +27,8 @@ keys-placed n [] = refl
 keys-placed n (b ∷ bs) = ap (λ ks. code b ∷ ks) (keys-placed (n + 1) bs)
 
 -- the entry at i
-pub placed_at : (n : ℕ) (bs : List Block) (i : ℕ) (d : Block) (e : ℕ × ℕ) → i < length bs → get_or (placed n bs) i e ≡ (code (get_or bs i d), n + i)
+pub placed_at : (n : ℕ) (bs : List Block) (i : ℕ) (d : Block) (e : ℕ × ℕ) → i < length bs
+    → get_or (placed n bs) i e ≡ (code (get_or bs i d), n + i)
 placed_at n [] i d e lt = absurd (omega arith)
 placed_at n (b ∷ bs) zero d e lt = ap (λ k. (code b, k)) (omega arith)
 placed_at n (b ∷ bs) (suc i) d e lt =
@@ -54,7 +55,8 @@ all_placed listed k e lt =
     )
 
 -- what a look-up finds is the position of an earlier block at that place
-pub found_at : (c p n : ℕ) (bs : List Block) (d : Block) → lookup (nat_eq c) (placed n bs) ≡ Some p → (k : ℕ) × (p ≡ n + k) × (k < length bs) × (c ≡ code (get_or bs k d))
+pub found_at : (c p n : ℕ) (bs : List Block) (d : Block) → lookup (nat_eq c) (placed n bs) ≡ Some p → (k : ℕ) × (p ≡ n + k)
+    × (k < length bs) × (c ≡ code (get_or bs k d))
 found_at c p n [] d e = let no : ⊥ = cc in absurd no
 found_at c p n (b ∷ bs) d e = ⊎_elim
     (λ y. let here : Some n ≡ Some p = rw y at e in
@@ -67,7 +69,8 @@ found_at c p n (b ∷ bs) d e = ⊎_elim
     (cases_Bool (nat_eq c (code b)))
 
 -- blocks whose table has no place twice stand at different places
-pub apart : (bs : List Block) (i j : ℕ) (d : Block) → IsDistinct nat_eq (keys_of (placed 0 bs)) → i < j → j < length bs → is_same_place (get_or bs i d) (get_or bs j d) ≡ false
+pub apart : (bs : List Block) (i j : ℕ) (d : Block) → IsDistinct nat_eq (keys_of (placed 0 bs)) → i < j → j < length bs
+    → is_same_place (get_or bs i d) (get_or bs j d) ≡ false
 apart bs i j d distinct lt within =
     let keys = keys-placed 0 bs in
     let long = length-map bs code in
@@ -77,7 +80,8 @@ apart bs i j d distinct lt within =
     ∙ sym (ap (λ k. nat_eq (get_or (codes bs) i 0) k) (get_or-map code bs j d 0 within)) ∙ differ
 
 -- one block more
-placed_more : (listed : List Block) (i : ℕ) (d : Block) → i < length listed → placed 0 (take (i + 1) listed) ≡ placed 0 (take i listed) ++ (code (get_or listed i d), i) ∷ []
+placed_more : (listed : List Block) (i : ℕ) (d : Block) → i < length listed
+    → placed 0 (take (i + 1) listed) ≡ placed 0 (take i listed) ++ (code (get_or listed i d), i) ∷ []
 placed_more listed i d lt =
     let long : 0 + length (take i listed) ≡ i = omega (arith, length-take i listed) in
     ap (placed 0) (take_more listed i d lt) ∙ placed_push 0 (take i listed) (get_or listed i d)
@@ -85,7 +89,8 @@ placed_more listed i d lt =
 
 -- a table of the blocks before this one, with this one's place behind it, is that of one block more
 pub placed_on : (listed : List Block) (position place : ℕ) (block : Block) (table more : List (ℕ × ℕ)) → position < length listed
-    → block ≡ get_or listed position block → place ≡ code block → table ≡ placed 0 (take position listed) → more ≡ table ++ (place, position) ∷ []
+    → block ≡ get_or listed position block → place ≡ code block → table ≡ placed 0 (take position listed)
+    → more ≡ table ++ (place, position) ∷ []
     → more ≡ placed 0 (take (position + 1) listed)
 placed_on listed position place block table more lt is at before push =
     let here : place ≡ code (get_or listed position block) = at ∙ ap code is in
@@ -115,7 +120,8 @@ first_again listed first again c a within place found distinct =
           rw (← u, ← v) w;
     }
   where
-    same_at : (e : Block) → (k : ℕ) × (first ≡ 0 + k) × (k < length (take again listed)) × (c ≡ code (get_or (take again listed) k e)) → is_same_place (get_or listed first e) (get_or listed again e) ≡ true
+    same_at : (e : Block) → (k : ℕ) × (first ≡ 0 + k) × (k < length (take again listed)) × (c ≡ code (get_or (take again listed) k e))
+        → is_same_place (get_or listed first e) (get_or listed again e) ≡ true
     same_at e h =
         let long = length-take again listed in
         let k : ℕ = h.0 in

@@ -12,7 +12,10 @@ Rises low (c ∷ cs) = (low ≤ c) × Rises (c + 1) cs
 
 rises_from : (c : ℕ) (cs : List ℕ) → IsStrictlyIncreasing (c ∷ cs) → Rises (c + 1) cs
 rises_from c [] h = tt
-rises_from c (d ∷ cs) h = (omega (arith, h 0 (omega arith)), rises_from d cs (λ k lt. let later = simp unary_clauses at (h (suc k) (omega arith)) in rw add-one later))
+rises_from c (d ∷ cs) h = (
+  omega (arith, h 0 (omega arith)),
+  rises_from d cs (λ k lt. let later = simp unary_clauses at (h (suc k) (omega arith)) in rw add-one later),
+)
 
 pub rises : (cs : List ℕ) → IsStrictlyIncreasing cs → Rises 0 cs
 rises [] h = tt

@@ -17,13 +17,15 @@ use Rattle.precedence.proofs.Geometry.{IsAt, row_told}
 
 -- ---- rows at the end
 
-pub in_rows_push : (from : ℕ) (rows : List Row) (row : Row) (c : ℕ) → is_in_rows from (rows ++ row ∷ []) c ≡ (is_in_rows from rows c || is_in_row from row c)
+pub in_rows_push : (from : ℕ) (rows : List Row) (row : Row) (c : ℕ)
+    → is_in_rows from (rows ++ row ∷ []) c ≡ (is_in_rows from rows c || is_in_row from row c)
 in_rows_push from [] row c = or-false (is_in_row from row c)
 in_rows_push from (r ∷ rows) row c =
     ap (λ b. is_in_row from r c || b) (in_rows_push from rows row c)
     ∙ sym (or_assoc (is_in_row from r c) (is_in_rows from rows c) (is_in_row from row c))
 
-pub apart_push : (low : ℕ) (rows : List Row) (high : ℕ) (row : Row) (up : ℕ) → AreApart low rows high → high ≤ row.first → row.first < row.past → row.past ≤ up → AreApart low (rows ++ row ∷ []) up
+pub apart_push : (low : ℕ) (rows : List Row) (high : ℕ) (row : Row) (up : ℕ) → AreApart low rows high → high ≤ row.first
+    → row.first < row.past → row.past ≤ up → AreApart low (rows ++ row ∷ []) up
 apart_push low [] high row up h le some past = (omega arith, some, past)
 apart_push low (r ∷ rows) high row up h le some past = (h.0, h.1, apart_push r.past rows high row up h.2 le some past)
 
@@ -35,7 +37,8 @@ apart_more low (r ∷ rows) high up h le = (h.0, h.1, apart_more r.past rows hig
 
 module _ (extent : Extent) (low high : Block) (near : IsWithin extent low high) where
   -- between two edges lies just the row
-  at_row : (dz i : ℕ) → 1 ≤ dz → i ≤ 2 * extent.rows → code low + edge extent.rows dz i ≤ code high → code high < code low + edge extent.rows dz (i + 1) → IsAt extent.rows dz i low high
+  at_row : (dz i : ℕ) → 1 ≤ dz → i ≤ 2 * extent.rows → code low + edge extent.rows dz i ≤ code high
+      → code high < code low + edge extent.rows dz (i + 1) → IsAt extent.rows dz i low high
   at_row dz i up within above below =
       let lx = low.x_in_grid in
       let ly = low.y_in_grid in
@@ -47,7 +50,8 @@ module _ (extent : Extent) (low high : Block) (near : IsWithin extent low high) 
       record { bench = bench; row = omega arith }
 
   -- between the last row of a bench and the next bench lies none
-  between_benches : (dz : ℕ) → nat_lt (code high) (code low + edge extent.rows dz (2 * extent.rows + 1)) ≡ nat_lt (code high) (code low + edge extent.rows (dz + 1) 0)
+  between_benches : (dz : ℕ) → nat_lt (code high) (code low + edge extent.rows dz (2 * extent.rows + 1))
+      ≡ nat_lt (code high) (code low + edge extent.rows (dz + 1) 0)
   between_benches dz =
       let lx = low.x_in_grid in
       let ly = low.y_in_grid in
@@ -83,7 +87,8 @@ module _ (extent : Extent) (low high : Block) (near : IsWithin extent low high) 
 
 module _ (grid : Grid) (cone : Cone) (extent : Extent) (dz i : ℕ) (up : 1 ≤ dz) (within : dz ≤ cone.k) (inside : i ≤ 2 * extent.rows)
     (counts : Counts) (counted : CountsRow grid cone extent.rows dz i counts)
-    (row : Row) (first : row.first ≡ center extent.rows dz i + 1 - counts.west) (past : row.past ≡ center extent.rows dz i + max counts.east 1) where
+    (row : Row) (first : row.first ≡ center extent.rows dz i + 1 - counts.west)
+    (past : row.past ≡ center extent.rows dz i + max counts.east 1) where
   after_edge : edge extent.rows dz i ≤ row.first
   after_edge =
       let few = extent.few_rows in
@@ -103,7 +108,8 @@ module _ (grid : Grid) (cone : Cone) (extent : Extent) (dz i : ℕ) (up : 1 ≤ 
   row_adds low high near = ⊎_elim
       (λ before.
       let yes : nat_lt (code high) (code low + edge extent.rows dz i) ≡ true = lt-ltb _ _ before in
-      let yes_too : nat_lt (code high) (code low + edge extent.rows dz (i + 1)) ≡ true = lt-ltb _ _ (omega (arith, after_edge, before_edge, row.in_order)) in
+      let yes_too : nat_lt (code high) (code low + edge extent.rows dz (i + 1)) ≡ true =
+      lt-ltb _ _ (omega (arith, after_edge, before_edge, row.in_order)) in
       let out : nat_le (code low + row.first) (code high) ≡ false = lt-leb _ _ (omega (arith, after_edge)) in
       (λ j. (yes j && is_above grid cone low high) || (out j && nat_lt (code high) (code low + row.past)))
       ∙ or-false (is_above grid cone low high)
@@ -126,7 +132,8 @@ module _ (grid : Grid) (cone : Cone) (extent : Extent) (dz i : ℕ) (up : 1 ≤ 
       (cases_lt (code high) (code low + edge extent.rows dz (i + 1))))
       (cases_lt (code high) (code low + edge extent.rows dz i))
 
-  pub tells_row : row.first < row.past → (rows : List Row) → Tells grid cone extent (edge extent.rows dz i) rows → Tells grid cone extent (edge extent.rows dz (i + 1)) (rows ++ row ∷ [])
+  pub tells_row : row.first < row.past → (rows : List Row) → Tells grid cone extent (edge extent.rows dz i) rows
+      → Tells grid cone extent (edge extent.rows dz (i + 1)) (rows ++ row ∷ [])
   tells_row some rows h = record {
     apart = apart_push 0 rows (edge extent.rows dz i) row (edge extent.rows dz (i + 1)) h.apart after_edge some before_edge;
     told = λ low high near.
@@ -136,9 +143,11 @@ module _ (grid : Grid) (cone : Cone) (extent : Extent) (dz i : ℕ) (up : 1 ≤ 
   }
 
   -- a row with no codes adds nothing
-  pub tells_no_row : row.past ≤ row.first → (rows : List Row) → Tells grid cone extent (edge extent.rows dz i) rows → Tells grid cone extent (edge extent.rows dz (i + 1)) rows
+  pub tells_no_row : row.past ≤ row.first → (rows : List Row) → Tells grid cone extent (edge extent.rows dz i) rows
+      → Tells grid cone extent (edge extent.rows dz (i + 1)) rows
   tells_no_row empty rows h = record {
-    apart = apart_more 0 rows (edge extent.rows dz i) (edge extent.rows dz (i + 1)) h.apart (omega (arith, after_edge, before_edge, row.in_order));
+    apart = apart_more 0 rows (edge extent.rows dz i) (edge extent.rows dz (i + 1)) h.apart
+        (omega (arith, after_edge, before_edge, row.in_order));
     told = λ low high near.
         let none : is_in_row (code low) row (code high) ≡ false = grind (arith, nat_tests, empty) in
         h.told low high near
@@ -160,24 +169,30 @@ module _ (grid : Grid) (cone : Cone) (extent : Extent) where
         (λ lower.
         let no : nat_lt low.z high.z ≡ false = le-ltb low.z high.z lower in
         let none : is_above grid cone low high ≡ false = and_left _ _ no in
-        sym (ap (λ b. nat_lt (code high) (code low + edge extent.rows 1 0) && b) none ∙ and-false (nat_lt (code high) (code low + edge extent.rows 1 0))))
+        sym (ap (λ b. nat_lt (code high) (code low + edge extent.rows 1 0) && b) none
+        ∙ and-false (nat_lt (code high) (code low + edge extent.rows 1 0))))
         (cases_lt low.z high.z);
   }
 
-  pub tells_bench : (dz : ℕ) (rows : List Row) → Tells grid cone extent (edge extent.rows dz (2 * extent.rows + 1)) rows → Tells grid cone extent (edge extent.rows (dz + 1) 0) rows
+  pub tells_bench : (dz : ℕ) (rows : List Row) → Tells grid cone extent (edge extent.rows dz (2 * extent.rows + 1)) rows
+      → Tells grid cone extent (edge extent.rows (dz + 1) 0) rows
   tells_bench dz rows h = record {
-    apart = apart_more 0 rows (edge extent.rows dz (2 * extent.rows + 1)) (edge extent.rows (dz + 1) 0) h.apart (let few = extent.few_rows in omega arith);
+    apart = apart_more 0 rows (edge extent.rows dz (2 * extent.rows + 1)) (edge extent.rows (dz + 1) 0) h.apart
+        (let few = extent.few_rows in omega arith);
     told = λ low high near. h.told low high near ∙ ap (λ b. b && is_above grid cone low high) (between_benches extent low high near dz);
   }
 
   -- a block above is on one of the benches looked at
-  high_enough : (low high : Block) → IsWithin extent low high → is_above grid cone low high ≡ true → high.z ≤ low.z + min cone.k extent.benches
+  high_enough : (low high : Block) → IsWithin extent low high → is_above grid cone low high ≡ true
+      → high.z ≤ low.z + min cone.k extent.benches
   high_enough low high near lies =
       let higher : nat_lt low.z high.z ≡ true = (and_parts (nat_lt low.z high.z) _ lies).0 in
-      let looked : nat_le (high.z - low.z) cone.k ≡ true = (and_parts (nat_le (high.z - low.z) cone.k) _ (and_parts (nat_lt low.z high.z) _ lies).1).0 in
+      let looked : nat_le (high.z - low.z) cone.k ≡ true =
+      (and_parts (nat_le (high.z - low.z) cone.k) _ (and_parts (nat_lt low.z high.z) _ lies).1).0 in
       omega (arith, ltb-true low.z high.z higher, leb-true _ _ looked, near.benches)
 
-  pub is_table : (top : ℕ) (rows : List Row) → top ≡ min cone.k extent.benches → Tells grid cone extent (edge extent.rows (top + 1) 0) rows → IsTable grid cone extent rows
+  pub is_table : (top : ℕ) (rows : List Row) → top ≡ min cone.k extent.benches → Tells grid cone extent (edge extent.rows (top + 1) 0) rows
+      → IsTable grid cone extent rows
   is_table top rows e h = record {
     high = edge extent.rows (top + 1) 0;
     apart = h.apart;

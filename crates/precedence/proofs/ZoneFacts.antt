@@ -11,7 +11,8 @@ use Rattle.precedence.specs.declared.cone_rows.Extent.{Extent}
 
 module _ (grid : Grid) (cones : List Cone) (extent : Extent) (i place : ℕ) (d : Cone) (old new : List ConeTable) (of_zone : List ℕ)
     (had : HasTables grid (take i cones) extent old of_zone) (within : i < length cones)
-    (told : All (IsTold grid extent) new) (inside : place < length new) (its_cone : (t : ConeTable) → (get_or new place t).cone ≡ get_or cones i d)
+    (told : All (IsTold grid extent) new) (inside : place < length new)
+    (its_cone : (t : ConeTable) → (get_or new place t).cone ≡ get_or cones i d)
     (more : length old ≤ length new) (kept : (k : ℕ) (t : ConeTable) → k < length old → get_or new k t ≡ get_or old k t) where
   as_many : length of_zone ≡ i
   as_many = had.zones ∙ (let long = length-take i cones in omega arith)
@@ -32,7 +33,8 @@ module _ (grid : Grid) (cones : List Cone) (extent : Extent) (i place : ℕ) (d 
       (λ last.
       let here : z ≡ i = omega arith in
       let zone = get_or_push of_zone place 0 z (as_many ∙ sym here) in
-      ap (λ k. (get_or new k t).cone) zone ∙ its_cone t ∙ get_or_default cones i d c within ∙ ap (λ k. get_or cones k c) (sym here) ∙ sym read)
+      ap (λ k. (get_or new k t).cone) zone ∙ its_cone t ∙ get_or_default cones i d c within
+      ∙ ap (λ k. get_or cones k c) (sym here) ∙ sym read)
       (cases_lt z i)
 
   pub one_zone_more : HasTables grid (take (i + 1) cones) extent new (of_zone ++ place ∷ [])

@@ -50,17 +50,20 @@ pub cell_stays : (cells : List (List ℕ)) (i : ℕ) → get_or (without_empty_e
 cell_stays [] i = refl
 cell_stays (c ∷ cells) i = by_tests (λ k. cell_stays cells k) (length (without_empty_end cells) == 0) (length c == 0) refl refl i
   where
-    by_tests : ((k : ℕ) → get_or (without_empty_end cells) k [] ≡ get_or cells k []) → (a b : Bool) → (length (without_empty_end cells) == 0) ≡ a → (length c == 0) ≡ b → (i : ℕ)
+    by_tests : ((k : ℕ) → get_or (without_empty_end cells) k [] ≡ get_or cells k []) → (a b : Bool)
+        → (length (without_empty_end cells) == 0) ≡ a → (length c == 0) ≡ b → (i : ℕ)
         → get_or (cond (a && b) [] (c ∷ without_empty_end cells)) i [] ≡ get_or (c ∷ cells) i []
     by_tests more true true e f zero = sym (empty_is c f)
-    by_tests more true true e f (suc i) = let none : without_empty_end cells ≡ [] = no_cells (without_empty_end cells) e in (rw none at (more i))
+    by_tests more true true e f (suc i) = let none : without_empty_end cells ≡ [] =
+        no_cells (without_empty_end cells) e in (rw none at (more i))
     by_tests more true false e f zero = refl
     by_tests more true false e f (suc i) = more i
     by_tests more false b e f zero = refl
     by_tests more false b e f (suc i) = more i
 
 -- an empty cell at the end goes
-pub empty_goes : (cells : List (List ℕ)) (c : List ℕ) → (length c == 0) ≡ true → without_empty_end (cells ++ c ∷ []) ≡ without_empty_end cells
+pub empty_goes : (cells : List (List ℕ)) (c : List ℕ) → (length c == 0) ≡ true
+    → without_empty_end (cells ++ c ∷ []) ≡ without_empty_end cells
 empty_goes [] c h = rw h refl
 empty_goes (x ∷ cells) c h = rw (empty_goes cells c h) refl
 
@@ -76,7 +79,8 @@ pub at_cell : (fields : List (List ℕ)) (i : ℕ) → cell_at (cells_of fields)
 at_cell fields i = cell_stays (map trimmed fields) i ∙ get_or-map trimmed fields i []
 
 -- the field there, by what csv answers for the place
-pub cell_there : (fields : List (List ℕ)) (i : ℕ) (field : List ℕ) → field_at fields i ≡ Some field → trimmed field ≡ trimmed (get_or fields i [])
+pub cell_there : (fields : List (List ℕ)) (i : ℕ) (field : List ℕ) → field_at fields i ≡ Some field
+    → trimmed field ≡ trimmed (get_or fields i [])
 cell_there fields i field h = sym (ap trimmed (field-get fields i field h))
 
 none_there : (fields : List (List ℕ)) (i : ℕ) → field_at fields i ≡ None → get_or fields i [] ≡ []
@@ -95,7 +99,8 @@ one_empty fields i n h e counted =
     let there : i < length (map trimmed fields) = simp length-map h in
     let same : get_or (map trimmed fields) i [] ≡ cell_at (cells_of fields) i = sym (cell_stays (map trimmed fields) i) in
     let none : (length (get_or (map trimmed fields) i []) == 0) ≡ true = ap (λ c. length c == 0) same ∙ e in
-    counted ∙ sym (ap length (ap without_empty_end (take_more (map trimmed fields) i [] there) ∙ empty_goes (take i (map trimmed fields)) _ none))
+    counted ∙ sym (ap length (ap without_empty_end (take_more (map trimmed fields) i [] there)
+    ∙ empty_goes (take i (map trimmed fields)) _ none))
 
 pub one_full : (fields : List (List ℕ)) (i : ℕ) → i < length fields → (length (cell_at (cells_of fields) i) == 0) ≡ false
     → i + 1 ≡ length (without_empty_end (take (i + 1) (map trimmed fields)))

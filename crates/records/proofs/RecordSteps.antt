@@ -50,22 +50,32 @@ leaves state fields field [] = at-end (ends_at_end state)
     at-end false = tt
 leaves state fields field (c ∷ rest) =
     by (is_end (step default_config state c).1) refl
-    (leaves-more _ _ (length (c ∷ rest)) (omega arith) (leaves (step default_config state c).0 (fields_after (step default_config state c).1 fields field) (field_after (step default_config state c).1 c field) rest))
+    (leaves-more _ _ (length (c ∷ rest)) (omega arith)
+    (leaves (step default_config state c).0 (fields_after (step default_config state c).1 fields field)
+    (field_after (step default_config state c).1 c field) rest))
   where
     by : (b : Bool) → is_end (step default_config state c).1 ≡ b
-        → IfSome (next_record default_config (step default_config state c).0 (fields_after (step default_config state c).1 fields field) (field_after (step default_config state c).1 c field) rest)
+        → IfSome (next_record default_config (step default_config state c).0 (fields_after (step default_config state c).1 fields field)
+        (field_after (step default_config state c).1 c field) rest)
         (λ read. Leaves read (length (c ∷ rest)))
         → IfSome (next_record default_config state fields field (c ∷ rest)) (λ read. Leaves read (length (c ∷ rest)))
-    by true h more = rw h (record { between = ends-between state c h; cells = ends-with-cell (step default_config state c).1 fields field h; bytes = omega arith })
+    by true h more = rw h (record {
+      between = ends-between state c h;
+      cells =
+          ends-with-cell (step default_config state c).1 fields field h;
+      bytes = omega arith;
+    })
     by false h more = rw h more
 
 -- a read between two records takes a byte at least
 takes : (state : State) (bytes : List ℕ) → ends_at_end state ≡ false
-    → IfSome (next_record default_config state [] [] bytes) (λ read. (ends_at_end read.1 ≡ false) × (0 < length read.0) × (length read.2 < length bytes))
+    → IfSome (next_record default_config state [] [] bytes)
+    (λ read. (ends_at_end read.1 ≡ false) × (0 < length read.0) × (length read.2 < length bytes))
 unfolding next_record
 takes state [] h = rw h tt
 takes state (c ∷ rest) h = by (is_end (step default_config state c).1) refl
-    (leaves (step default_config state c).0 (fields_after (step default_config state c).1 [] []) (field_after (step default_config state c).1 c []) rest)
+    (leaves (step default_config state c).0
+    (fields_after (step default_config state c).1 [] []) (field_after (step default_config state c).1 c []) rest)
   where
     Taken : Option Read → Type 0
     Taken found = IfSome found (λ read. (ends_at_end read.1 ≡ false) × (0 < length read.0) × (length read.2 < length (c ∷ rest)))
@@ -75,7 +85,8 @@ takes state (c ∷ rest) h = by (is_end (step default_config state c).1) refl
     longer (Some read) l = (l.between, l.cells, omega (arith, l.bytes))
 
     by : (b : Bool) → is_end (step default_config state c).1 ≡ b
-        → IfSome (next_record default_config (step default_config state c).0 (fields_after (step default_config state c).1 [] []) (field_after (step default_config state c).1 c []) rest)
+        → IfSome (next_record default_config (step default_config state c).0
+        (fields_after (step default_config state c).1 [] []) (field_after (step default_config state c).1 c []) rest)
         (λ read. Leaves read (length rest))
         → Taken (next_record default_config state [] [] (c ∷ rest))
     by true h l = rw h (ends-between state c h, ends-with-cell (step default_config state c).1 [] [] h, omega arith)
@@ -95,13 +106,15 @@ enough (suc n) (suc m) state bytes h a b =
     by (next_record default_config state [] [] bytes) (takes state bytes h) (λ s xs between x y. enough n m s xs between x y)
   where
     by : (found : Option Read) → IfSome found (λ read. Taken bytes read)
-        → ((s : State) (xs : List ℕ) → ends_at_end s ≡ false → length xs < n → length xs < m → records_from default_config n s xs ≡ records_from default_config m s xs)
+        → ((s : State) (xs : List ℕ) → ends_at_end s ≡ false → length xs < n → length xs < m
+        → records_from default_config n s xs ≡ records_from default_config m s xs)
         → records_next (records_from default_config n) found ≡ records_next (records_from default_config m) found
     by None t more = refl
     by (Some read) t more = ap (λ rows. read.0 ∷ rows) (more read.1 read.2 t.0 (omega (arith, t.2, a)) (omega (arith, t.2, b)))
 
 -- a text has no more records than bytes
-few : (n : ℕ) (state : State) (bytes : List ℕ) → ends_at_end state ≡ false → length (records_from default_config n state bytes) ≤ length bytes
+few : (n : ℕ) (state : State) (bytes : List ℕ) → ends_at_end state ≡ false
+    → length (records_from default_config n state bytes) ≤ length bytes
 unfolding records_from
 few zero state bytes h = omega arith
 few (suc n) state bytes h = by (next_record default_config state [] [] bytes) (takes state bytes h) (λ s xs between. few n s xs between)
@@ -113,10 +126,12 @@ few (suc n) state bytes h = by (next_record default_config state [] [] bytes) (t
     by (Some read) t more = let rest = more read.1 read.2 t.0 in omega (arith, rest, t.2)
 
 -- each record of a text has a cell
-celled : (n : ℕ) (state : State) (bytes : List ℕ) → ends_at_end state ≡ false → All (λ row. 0 < length row) (records_from default_config n state bytes)
+celled : (n : ℕ) (state : State) (bytes : List ℕ) → ends_at_end state ≡ false
+    → All (λ row. 0 < length row) (records_from default_config n state bytes)
 unfolding records_from
 celled zero state bytes h = All-nil (λ row. 0 < length row)
-celled (suc n) state bytes h = by (next_record default_config state [] [] bytes) (takes state bytes h) (λ s xs between. celled n s xs between)
+celled (suc n) state bytes h =
+    by (next_record default_config state [] [] bytes) (takes state bytes h) (λ s xs between. celled n s xs between)
   where
     by : (found : Option Read) → IfSome found (λ read. Taken bytes read)
         → ((s : State) (xs : List ℕ) → ends_at_end s ≡ false → All (λ row. 0 < length row) (records_from default_config n s xs))
@@ -137,7 +152,8 @@ shorter-text (a ∷ b ∷ c ∷ rest) = by (is_bom a b c)
 
 -- a text has no more records than bytes, and none without a cell
 pub few_records : (text : List ℕ) → length (records_of text) ≤ length text
-few_records text = let a = few (length (strip_bom text) + 1) st.StartRecord (strip_bom text) refl in let b = shorter-text text in omega (arith, a, b)
+few_records text = let a = few (length (strip_bom text) + 1) st.StartRecord (strip_bom text) refl in let b =
+    shorter-text text in omega (arith, a, b)
 
 pub records_have_cells : (text : List ℕ) → All (λ row. 0 < length row) (records_of text)
 records_have_cells text = celled (length (strip_bom text) + 1) st.StartRecord (strip_bom text) refl
@@ -147,7 +163,8 @@ rows-next : (state : State) (bytes : List ℕ) → ends_at_end state ≡ false
     → rows_from state bytes ≡ records_next rows_from (next_record default_config state [] [] bytes)
 unfolding records_from
 rows-next state bytes h =
-    enough (length bytes + 1) (suc (length bytes)) state bytes h (omega arith) (omega arith) ∙ by (next_record default_config state [] [] bytes) (takes state bytes h)
+    enough (length bytes + 1) (suc (length bytes)) state bytes h (omega arith) (omega arith)
+    ∙ by (next_record default_config state [] [] bytes) (takes state bytes h)
   where
     by : (found : Option Read) → IfSome found (λ read. Taken bytes read)
         → records_next (records_from default_config (length bytes)) found ≡ records_next rows_from found
@@ -159,9 +176,11 @@ shows : (state after : State) (bytes rest : List ℕ) (found : Bool) (fields : L
     → NextIs (next_record default_config state [] [] bytes) found fields after rest
     → (found ≡ true → (ends_at_end after ≡ false) × (rows_from state bytes ≡ fields ∷ rows_from after rest) × (0 < length fields))
     × (found ≡ false → rows_from state bytes ≡ [])
-shows state after bytes rest found fields h n = by (next_record default_config state [] [] bytes) (rows-next state bytes h) (takes state bytes h) n
+shows state after bytes rest found fields h n =
+    by (next_record default_config state [] [] bytes) (rows-next state bytes h) (takes state bytes h) n
   where
-    by : (read : Option Read) → rows_from state bytes ≡ records_next rows_from read → IfSome read (λ r. Taken bytes r) → NextIs read found fields after rest
+    by : (read : Option Read) → rows_from state bytes ≡ records_next rows_from read → IfSome read (λ r. Taken bytes r)
+        → NextIs read found fields after rest
         → (found ≡ true → (ends_at_end after ≡ false) × (rows_from state bytes ≡ fields ∷ rows_from after rest) × (0 < length fields))
         × (found ≡ false → rows_from state bytes ≡ [])
     by None e t n = ((λ yes. cc (n, yes)), λ no. e)
@@ -171,11 +190,15 @@ shows state after bytes rest found fields h n = by (next_record default_config s
 takes-by : {R : Type 0} (known : R → Option (List ℕ)) (old new : Reader R) (found : Bool) (fields : List (List ℕ)) (rest : Option (List ℕ))
     → (set : IsBetweenRecords known old) → source_of known new ≡ rest → reader_config new ≡ default_config → reader_trim new ≡ trim.None
     → is_flexible new ≡ true → took_first new ≡ true
-    → ReadsNext default_config (reader_state old) (Some set.bytes) rest found fields (reader_state new) → TakesNext known old new found fields
+    → ReadsNext default_config (reader_state old) (Some set.bytes) rest found fields (reader_state new)
+    → TakesNext known old new found fields
 takes-by known old new found fields None set e config plain flexible first r = absurd r
 takes-by known old new true fields (Some xs) set e config plain flexible first r =
-    let s = (shows (reader_state old) (reader_state new) set.bytes xs true fields set.between r).0 refl in
-    (record { plain = plain; ready = inl first; config = config; flexible = flexible; between = s.0; bytes = xs; source = e }, rw (set.source, e) s.1, s.2)
+    let s = (shows (reader_state old) (reader_state new) set.bytes xs true fields set.between r).0 refl in (
+      record { plain = plain; ready = inl first; config = config; flexible = flexible; between = s.0; bytes = xs; source = e },
+      rw (set.source, e) s.1,
+      s.2,
+    )
 takes-by known old new false fields (Some xs) set e config plain flexible first r =
     rw set.source ((shows (reader_state old) (reader_state new) set.bytes xs false fields set.between r).1 refl)
 
@@ -183,5 +206,6 @@ pub reader-takes : {R : Type 0} (known : R → Option (List ℕ)) (old new : Rea
     → IsBetweenRecords known old → ReadRecord known old new found fields → is_flexible new ≡ is_flexible old → took_first new ≡ true
     → TakesNext known old new found fields
 reader-takes known old new found fields set read flexible first =
-    takes-by known old new found fields (pending_of (known new.rdr) new) set (rw read.1 refl) (read.2 ∙ set.config) (read.3 ∙ set.plain) (flexible ∙ set.flexible) first
+    takes-by known old new found fields (pending_of (known new.rdr) new) set (rw read.1 refl)
+    (read.2 ∙ set.config) (read.3 ∙ set.plain) (flexible ∙ set.flexible) first
     (rw (set.source, set.config) at read.0)

@@ -27,11 +27,14 @@ abbrev pub is_feed : ℕ → Bool
 is_feed b = b == 10
 
 -- what a search for the first of some byte finds, or the length
-pub byte_found : (c : ℕ) (text : List ℕ) (r : Option ℕ) → IsFirstByte (is_byte c) text r → unwrap_or r (length text) ≡ position_or_len (λ b. b == c) text
+pub byte_found : (c : ℕ) (text : List ℕ) (r : Option ℕ) → IsFirstByte (is_byte c) text r
+    → unwrap_or r (length text) ≡ position_or_len (λ b. b == c) text
 byte_found c text None h =
-    sym (position_or_len_is (λ b. b == c) text (length text) 0 (omega arith) (λ k within. ne_eqb (get_or text k 0) c (λ e. h k (omega arith) within (eq-eqb _ _ e))) (λ within. absurd (omega arith)))
+    sym (position_or_len_is (λ b. b == c) text (length text) 0 (omega arith)
+    (λ k within. ne_eqb (get_or text k 0) c (λ e. h k (omega arith) within (eq-eqb _ _ e))) (λ within. absurd (omega arith)))
 byte_found c text (Some k) h =
-    sym (position_or_len_is (λ b. b == c) text k 0 (omega (arith, h.0.high)) (λ i before. ne_eqb (get_or text i 0) c (λ e. h.0.before i (omega arith) before (eq-eqb _ _ e))) (λ _. h.1))
+    sym (position_or_len_is (λ b. b == c) text k 0 (omega (arith, h.0.high))
+    (λ i before. ne_eqb (get_or text i 0) c (λ e. h.0.before i (omega arith) before (eq-eqb _ _ e))) (λ _. h.1))
 
 -- what a search for the first of some byte finds
 pub byte_placed : (c : ℕ) (text : List ℕ) (r : Option ℕ) → IsFirstByte (is_byte c) text r → position (λ b. b == c) text ≡ r
@@ -53,7 +56,8 @@ line_of_some b [] = alone (b == 10) refl where
   alone true e = rw e
   alone false e = rw e
 line_of_some b (c ∷ cs) = before (b == 10) (line_of_some c cs) refl where
-  before : (t : Bool) → BeginsWithLine (c ∷ cs) (position_or_len is_feed (c ∷ cs)) → (b == 10) ≡ t → BeginsWithLine (b ∷ c ∷ cs) (position_or_len is_feed (b ∷ c ∷ cs))
+  before : (t : Bool) → BeginsWithLine (c ∷ cs) (position_or_len is_feed (c ∷ cs)) → (b == 10) ≡ t
+      → BeginsWithLine (b ∷ c ∷ cs) (position_or_len is_feed (b ∷ c ∷ cs))
   before true line e = rw e
   before false line e =
       let n = position_or_len is_feed (c ∷ cs) in
@@ -115,7 +119,8 @@ past_blanks (b ∷ bs) = past (is_blank b) (past_blanks bs) refl where
 pub no_longer : (line : List ℕ) → length (without_leading_blanks line) ≤ length line
 no_longer [] = omega arith
 no_longer (b ∷ bs) = past (is_blank b) (no_longer bs) refl where
-  past : (t : Bool) → length (without_leading_blanks bs) ≤ length bs → is_blank b ≡ t → length (without_leading_blanks (b ∷ bs)) ≤ length (b ∷ bs)
+  past : (t : Bool) → length (without_leading_blanks bs) ≤ length bs → is_blank b ≡ t
+      → length (without_leading_blanks (b ∷ bs)) ≤ length (b ∷ bs)
   past true short e = rw e (omega (arith, short))
   past false short e = rw e (omega arith)
 

@@ -18,7 +18,8 @@ use Rattle.text_lines.specs.declared.text_fault.TextKind.{TextKind}
 use Rattle.text_lines.specs.declared.text_fault.TextKind.TheVariants.{Fields, Range}
 
 -- the test of a whole number by its millionths, and by itself
-whole_tests : (limit m : ℕ) → m % 10 ^ 6 ≡ 0 → (int_le (pos 0) (pos m) && int_le (pos m) (pos (limit * 10 ^ 6) +ℤ negsuc 0)) ≡ nat_lt (m / 10 ^ 6) limit
+whole_tests : (limit m : ℕ) → m % 10 ^ 6 ≡ 0
+    → (int_le (pos 0) (pos m) && int_le (pos m) (pos (limit * 10 ^ 6) +ℤ negsuc 0)) ≡ nat_lt (m / 10 ^ 6) limit
 whole_tests limit m whole = grind (arith, ints, nat_tests)
 
 size_tests : (most m : ℕ) → (int_le (pos 0) (pos m) && int_le (pos m) (pos most)) ≡ not (nat_lt most m)
@@ -38,7 +39,8 @@ whole_reads limit text = by (decimal_of 0 text) refl
     within m coarse false e = refl
 
     by : (r : Result ℤ DecFault) → decimal_of 0 text ≡ r
-        → (number_of text_kind r >>= λ m. if int_le (pos 0) m && int_le m (pos (limit * 10 ^ 6) +ℤ negsuc 0) then Ok (Millionths m) else Err Range)
+        → (number_of text_kind r >>= λ m. if int_le (pos 0) m
+        && int_le m (pos (limit * 10 ^ 6) +ℤ negsuc 0) then Ok (Millionths m) else Err Range)
         ≡ ((stated r >>= whole_below limit) >>= λ n. Ok (whole n))
     by (Ok (pos m)) e =
         let coarse : m % 10 ^ 6 ≡ 0 = stands_multiple 0 text (pos m) (omega arith) (read_stands 0 text (pos m) (omega arith) e) in
@@ -52,7 +54,8 @@ pub size_reads : (decimals most : ℕ) → ReadsField (up_to decimals most) (siz
 unfolding size_in
 size_reads decimals most text = by (decimal_of decimals text)
   where
-    within : (m : ℕ) (t : Bool) → (if not t then Ok (Millionths (pos m)) else Err Range) ≡ ((if t then Err Range else Ok m) >>= λ n. Ok (Millionths (pos n)))
+    within : (m : ℕ) (t : Bool) → (if not t then Ok (Millionths (pos m)) else Err Range)
+        ≡ ((if t then Err Range else Ok m) >>= λ n. Ok (Millionths (pos n)))
     within m true = refl
     within m false = refl
 
@@ -77,13 +80,15 @@ none_step field form said = refl
 
 -- the first field of a line, and then the others
 pub first_step : {A B : Type 0} (field : Field) (form : List Field) (rule : List ℕ → Result A TextKind) (value : A → Value) (text : List ℕ)
-    (rest : List (List ℕ)) (next : A × List (List ℕ) → Result B TextKind) (said : List Value → Result B TextKind) → ReadsField field rule value
+    (rest : List (List ℕ)) (next : A × List (List ℕ) → Result B TextKind) (said : List Value → Result B TextKind)
+    → ReadsField field rule value
     → ((x : A) → next (x, rest) ≡ said_of form rest (λ values. said (value x ∷ values)))
     → (first_by rule (text ∷ rest) >>= next) ≡ said_of (field ∷ form) (text ∷ rest) said
 unfolding said_of
 first_step {A} {B} field form rule value text rest next said reads goes_on = rw (reads text) (by (rule text))
   where
-    tail : (x : A) (r : Result (List Value) TextKind) → (r >>= λ values. said (value x ∷ values)) ≡ ((r >>= λ values. Ok (value x ∷ values)) >>= said)
+    tail : (x : A) (r : Result (List Value) TextKind)
+        → (r >>= λ values. said (value x ∷ values)) ≡ ((r >>= λ values. Ok (value x ∷ values)) >>= said)
     tail x (Ok values) = refl
     tail x (Err kind) = refl
 
@@ -92,7 +97,8 @@ first_step {A} {B} field form rule value text rest next said reads goes_on = rw 
     by (Ok x) = goes_on x ∙ tail x (read_fields text_kinds form rest)
     by (Err kind) = refl
 
-pub step : {A B : Type 0} (field : Field) (form : List Field) (rule : List ℕ → Result A TextKind) (value : A → Value) (fields : List (List ℕ))
+pub step : {A B : Type 0} (field : Field) (form : List Field) (rule : List ℕ → Result A TextKind)
+    (value : A → Value) (fields : List (List ℕ))
     (next : A × List (List ℕ) → Result B TextKind) (said : List Value → Result B TextKind) → ReadsField field rule value
     → ((x : A) (rest : List (List ℕ)) → next (x, rest) ≡ said_of form rest (λ values. said (value x ∷ values)))
     → (first_by rule fields >>= next) ≡ said_of (field ∷ form) fields said

@@ -20,7 +20,8 @@ front_cut : (front rest : List ℕ) → 0 < length front → list_all is_plain f
 front_cut [] rest some plain ended = absurd (omega (arith, some))
 front_cut (c ∷ cs) rest some plain ended = first_field c cs rest plain ended
 
-pub field_in_front : (max : ℕ) (line : List ℕ) (m : ℤ) (rest : List ℕ) → BeginsWith max (without_leading_blanks line) m rest → is_ended rest ≡ true
+pub field_in_front : (max : ℕ) (line : List ℕ) (m : ℤ) (rest : List ℕ) → BeginsWith max (without_leading_blanks line) m rest
+    → is_ended rest ≡ true
     → TakesDecimal max line m rest
 field_in_front max line m rest b ended =
     let plain = list_all-from_AllPass is_plain b.front (λ k d h. number_byte _ (b.bytes k d h)) in
@@ -45,7 +46,8 @@ whole_refused limit line n rest t above =
     let past : limit ≤ n = omega (arith, above) in
     rw (t.cut, t.stated, quotient, le-ltb n limit past) refl
 
-pub size_taken : (decimals most : ℕ) (line : List ℕ) (m : ℤ) (rest : List ℕ) (size : ℕ) → TakesDecimal decimals line m rest → at_most most m ≡ Ok size
+pub size_taken : (decimals most : ℕ) (line : List ℕ) (m : ℤ) (rest : List ℕ) (size : ℕ) → TakesDecimal decimals line m rest
+    → at_most most m ≡ Ok size
     → first_by (size_in decimals most) (fields_of line) ≡ Ok (size, fields_of rest)
 unfolding size_in
 size_taken decimals most line m rest size t within = rw (t.cut, t.stated, within) refl

@@ -30,19 +30,23 @@ said_with {A} items shape = by (failing shape.first) (read shape.kinds shape.for
 
 -- the code takes a line by what it says behind the items before it, whatever it keeps beside them
 pub lines_read : {A S : Type 0} (shape : ℕ → List ℕ → Shape TextKind A) (state : List A → S) (admit : S → List ℕ → Result S TextKind)
-    → ((items : List A) (line : List ℕ) → admit (state items) line ≡ (said (shape (length items) line) >>= λ x. Ok (state (items ++ x ∷ []))))
+    → ((items : List A) (line : List ℕ)
+    → admit (state items) line ≡ (said (shape (length items) line) >>= λ x. Ok (state (items ++ x ∷ []))))
     → (number : ℕ) (items : List A) (lines : List Line)
     → read_lines admit (state items) lines ≡ (read_all (items_grammar shape) number items lines >>= λ all. Ok (state all))
 lines_read shape state admit same number items [] = refl
 lines_read {A} {S} shape state admit same number items (line ∷ lines) =
     ap (λ r. at_line line.number r >>= λ next. read_lines admit next lines) (same items line.text)
     ∙ by (λ more. lines_read shape state admit same (suc number) more lines) (said (shape (length items) line.text))
-    ∙ sym (ap (λ r. (placed (items_grammar shape) number line r >>= λ next. read_all (items_grammar shape) (suc number) next lines) >>= λ all. Ok (state all))
+    ∙ sym (ap (λ r. (placed (items_grammar shape) number line r >>= λ next. read_all (items_grammar shape) (suc number) next lines)
+    >>= λ all. Ok (state all))
     (said_with items (shape (length items) line.text)))
   where
-    by : ((more : List A) → read_lines admit (state more) lines ≡ (read_all (items_grammar shape) (suc number) more lines >>= λ all. Ok (state all)))
+    by : ((more : List A) → read_lines admit (state more) lines
+        ≡ (read_all (items_grammar shape) (suc number) more lines >>= λ all. Ok (state all)))
         → (r : Result A TextKind) → (at_line line.number (r >>= λ x. Ok (state (items ++ x ∷ []))) >>= λ next. read_lines admit next lines)
-        ≡ ((placed (items_grammar shape) number line (r >>= λ x. Ok (items ++ x ∷ [])) >>= λ next. read_all (items_grammar shape) (suc number) next lines)
+        ≡ ((placed (items_grammar shape) number line (r >>= λ x. Ok (items ++ x ∷ []))
+        >>= λ next. read_all (items_grammar shape) (suc number) next lines)
         >>= λ all. Ok (state all))
     by deeper (Ok x) = deeper (items ++ x ∷ [])
     by deeper (Err kind) = refl
@@ -50,10 +54,12 @@ lines_read {A} {S} shape state admit same number items (line ∷ lines) =
 -- what each item keeps, of the items so far, stands at the end of all
 pub kept_by_items : {A : Type 0} (shape : ℕ → List ℕ → Shape TextKind A) (Keeps : List A → Type 0)
     → ((items : List A) (line : List ℕ) (x : A) → States (shape (length items) line) x → Keeps items → Keeps (items ++ x ∷ []))
-    → (number : ℕ) (items : List A) (lines : List Line) (all : List A) → AllState (items_grammar shape) number items lines all → Keeps items → Keeps all
+    → (number : ℕ) (items : List A) (lines : List Line) (all : List A) → AllState (items_grammar shape) number items lines all
+    → Keeps items → Keeps all
 kept_by_items shape Keeps step number items [] all is kept = subst Keeps (sym is) kept
 kept_by_items shape Keeps step number items (line ∷ lines) all (next, states, more) kept =
     let own = shape (length items) line.text in
     let here : States own (own.next states.values) =
     record { first = states.first; values = states.values; spelled = states.spelled; last = states.last; is = refl } in
-    kept_by_items shape Keeps step (suc number) next lines all more (subst Keeps (sym states.is) (step items line.text (own.next states.values) here kept))
+    kept_by_items shape Keeps step (suc number) next lines all more
+    (subst Keeps (sym states.is) (step items line.text (own.next states.values) here kept))

@@ -7,7 +7,8 @@ use Rattle.text_lines.specs.declared.text_fault.LineFault.{LineFault}
 use Rattle.text_lines.specs.declared.text_fault.TextFile.{TextFile}
 
 -- a step behind another one; the part is told what both found, since a `let` would write them out at each place
-pub bind_ok : {A B F : Type 0} (r : Result A F) (next : A → Result B F) (y : B) → (r >>= next) ≡ Ok y → (x : A) × (r ≡ Ok x) × (next x ≡ Ok y)
+pub bind_ok : {A B F : Type 0} (r : Result A F) (next : A → Result B F) (y : B) → (r >>= next) ≡ Ok y → (x : A) × (r ≡ Ok x)
+    × (next x ≡ Ok y)
 bind_ok (Ok x) next y e = (x, refl, e)
 bind_ok (Err fault) next y e = absurd cc
 
@@ -16,7 +17,8 @@ pub bind_then : {A B F P : Type 0} (r : Result A F) (next : A → Result B F) (y
 bind_then r next y e part = let b = bind_ok r next y e in part b.0 b.1 b.2
 
 -- a step behind a test that may fail
-pub guard_ok : {A F : Type 0} (t : Bool) (fault : F) (r : Result A F) (y : A) → (if t then Err fault else r) ≡ Ok y → (t ≡ false) × (r ≡ Ok y)
+pub guard_ok : {A F : Type 0} (t : Bool) (fault : F) (r : Result A F) (y : A) → (if t then Err fault else r) ≡ Ok y
+    → (t ≡ false) × (r ≡ Ok y)
 guard_ok true fault r y e = absurd cc
 guard_ok false fault r y e = (refl, e)
 
@@ -28,7 +30,8 @@ pub then_ok : {A F : Type 0} (t : Bool) (fault : F) (r : Result A F) (y : A) →
 then_ok true fault r y e = (refl, e)
 then_ok false fault r y e = absurd cc
 
-pub then_err : {A F : Type 0} (t : Bool) (fault other : F) (x : A) → (if t then Ok x else Err fault) ≡ Err other → (t ≡ false) × (fault ≡ other)
+pub then_err : {A F : Type 0} (t : Bool) (fault other : F) (x : A) → (if t then Ok x else Err fault) ≡ Err other → (t ≡ false)
+    × (fault ≡ other)
 then_err true fault other x e = absurd cc
 then_err false fault other x e = (refl, cc)
 

@@ -4,7 +4,8 @@ use Rattle.std.specs.List.{AllZip}
 
 -- one more worth, set at the next place, is what the destination there answered
 set_next : {A B : Type 0} (R : A → B → Type 0) (n : ℕ) (xs : List A) (ys : List B) (d : A) (y : B)
-    → n < length xs → n < length ys → R (slice_index_or xs n d) y → AllZip R (take n xs) (take n ys) → AllZip R (take (suc n) xs) (take (suc n) (slice_set ys n y))
+    → n < length xs → n < length ys → R (slice_index_or xs n d) y → AllZip R (take n xs) (take n ys)
+    → AllZip R (take (suc n) xs) (take (suc n) (slice_set ys n y))
 set_next R n [] ys d y few room is so_far = absurd (omega (arith, few))
 set_next R n (x ∷ xs) [] d y few room is so_far = absurd (omega (arith, room))
 set_next R zero (x ∷ xs) (z ∷ ys) d y few room is so_far = (is, tt)
@@ -12,7 +13,8 @@ set_next R (suc n) (x ∷ xs) (z ∷ ys) d y few room is so_far =
     (so_far.0, set_next R n xs ys d y (omega (arith, few)) (omega (arith, room)) is so_far.1)
 
 pub answered_next : {A B : Type 0} (R : A → B → Type 0) (n : ℕ) (xs : List A) (ys : List B) (d : A) (y : B)
-    → n < length xs → n < length ys → R (slice_index_or xs n d) y → AllZip R (take n xs) (take n ys) → AllZip R (take (n + 1) xs) (take (n + 1) (slice_set ys n y))
+    → n < length xs → n < length ys → R (slice_index_or xs n d) y → AllZip R (take n xs) (take n ys)
+    → AllZip R (take (n + 1) xs) (take (n + 1) (slice_set ys n y))
 answered_next R n xs ys d y few room is so_far =
     let next : suc n ≡ n + 1 = omega arith in
     subst (λ m. AllZip R (take m xs) (take m (slice_set ys n y))) next (set_next R n xs ys d y few room is so_far)

@@ -28,7 +28,8 @@ module _ (first later : List Taken) (m : Taken) (h : later ≡ first ++ drop (le
       ∙ append_assoc first (drop (length first) later) (m ∷ [])
       ∙ ap (λ w. first ++ w) (sym behind_more)
 
-pub items_of_both : (formulas : List Formula) (xs ys : List Taken) → items_by formulas (xs ++ ys) ≡ items_by formulas xs ++ items_by formulas ys
+pub items_of_both : (formulas : List Formula) (xs ys : List Taken)
+    → items_by formulas (xs ++ ys) ≡ items_by formulas xs ++ items_by formulas ys
 items_of_both formulas [] ys = refl
 items_of_both formulas (Row file place block ∷ xs) ys =
     ap (λ w. item.Row (row_by formulas file place block) ∷ w) (items_of_both formulas xs ys)

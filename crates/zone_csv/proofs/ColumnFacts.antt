@@ -51,7 +51,8 @@ module _ (name : List ℕ) (no_name : is_word [] name ≡ false) where
       let is : is_word (trimmed cell) name ≡ true = h.0 in
       rw (is, none) (ap (λ m. m ∷ []) place)
   one_place (cell ∷ cells) n (suc q) h =
-      by (is_word (trimmed cell) name) refl (one_place cells (n + 1) q (h.0, λ r there. let same : suc r ≡ suc q = h.1 (suc r) there in omega arith))
+      by (is_word (trimmed cell) name) refl
+      (one_place cells (n + 1) q (h.0, λ r there. let same : suc r ≡ suc q = h.1 (suc r) there in omega arith))
     where
       by : (t : Bool) → is_word (trimmed cell) name ≡ t → places_of name cells (n + 1) ≡ (n + 1 + q) ∷ []
           → places_of name (cell ∷ cells) n ≡ (n + suc q) ∷ []
@@ -139,7 +140,14 @@ named_columns header columns h =
       named_place (codes "z") refl header columns.z h.z,
       named_place (codes "tonnes") refl header columns.tonnes h.tonnes,
       named_place (codes "grade") refl header columns.grade h.grade,
-    ) (λ i. Ok (record { width = sym h.width i; x = columns.x; y = columns.y; z = columns.z; tonnes = columns.tonnes; grade = columns.grade }))
+    ) (λ i. Ok (record {
+      width = sym h.width i;
+      x = columns.x;
+      y = columns.y;
+      z = columns.z;
+      tonnes = columns.tonnes;
+      grade = columns.grade;
+    }))
 
 -- a header is refused with what fails first in it
 pub header_fails : (header : List (List ℕ)) (fault : RowFault) → failing (asked_of_header header) ≡ Some fault

@@ -80,8 +80,22 @@ module _ (grid : Grid) (zone : ℕ) (columns : Columns) (number : ℕ) (cells : 
   pub fault_of_row : (fault : RowFault) → Fails shape fault → fault.row ≡ number
   fault_of_row fault (inl e) = failing_of_row number shape.first fault (refl, (refl, tt)) e
   fault_of_row fault (inr (e, inl first)) =
-      asked_of_row number (asked shape.kinds shape.form shape.texts) fault
-      (refl, (refl, (refl, (refl, (refl, (refl, (refl, (refl, (refl, (refl, (refl, (refl, (refl, (refl, (refl, (refl, (refl, (refl, (refl, tt))))))))))))))))))) first
+      asked_of_row number (asked shape.kinds shape.form shape.texts) fault (
+        refl,
+        (
+          refl,
+          (
+            refl,
+            (
+              refl,
+              (
+                refl,
+                (refl, (refl, (refl, (refl, (refl, (refl, (refl, (refl, (refl, (refl, (refl, (refl, (refl, (refl, tt)))))))))))))),
+              ),
+            ),
+          ),
+        ),
+      ) first
   fault_of_row fault (inr (e, inr last)) = absurd (none last.fails)
     where
       none : None ≡ Some fault → ⊥
@@ -146,7 +160,8 @@ module _ (grid : Grid) (zone : ℕ) (sx : 0 < grid.x.size) (sy : 0 < grid.y.size
       to : States here b → (failing here.first ≡ None) × Spell here.form here.texts (values_of grid b) × (b.zone ≡ zone)
       to states = (
         states.first,
-        subst (Spell here.form here.texts) (values_back _ _ _ _ _ states.values states.spelled ∙ ap (values_of grid) (sym states.is)) states.spelled,
+        subst (Spell here.form here.texts)
+            (values_back _ _ _ _ _ states.values states.spelled ∙ ap (values_of grid) (sym states.is)) states.spelled,
         zone_of_row grid zone columns number cells b states ∙ min-eq_left (omega (arith, small)),
       )
 

@@ -41,13 +41,18 @@ module _ (grid : Grid) (zone : ℕ) where
   module _ (columns : Columns) where
     -- rows state what they say
     rows_told : (rows : List (List (List ℕ))) (number : ℕ)
-        → RowsState grid zone columns number rows (before_fault (rows_say grid zone columns rows number)) (first_fault (rows_say grid zone columns rows number))
+        → RowsState grid zone columns number rows (before_fault (rows_say grid zone columns rows number))
+        (first_fault (rows_say grid zone columns rows number))
     rows_told [] number = tt
-    rows_told (row ∷ rows) number = by (row_of grid zone columns number row) (row_answers grid zone columns number row) (rows_told rows (number + 1))
+    rows_told (row ∷ rows) number =
+        by (row_of grid zone columns number row) (row_answers grid zone columns number row) (rows_told rows (number + 1))
       where
         by : (r : Result Block RowFault) → IsAnswer (row_shape grid zone columns number row) r
-            → RowsState grid zone columns (number + 1) rows (before_fault (rows_say grid zone columns rows (number + 1))) (first_fault (rows_say grid zone columns rows (number + 1)))
-            → RowsState grid zone columns number (row ∷ rows) (before_fault (r ∷ rows_say grid zone columns rows (number + 1))) (first_fault (r ∷ rows_say grid zone columns rows (number + 1)))
+            → RowsState grid zone columns (number + 1) rows
+            (before_fault (rows_say grid zone columns rows (number + 1))) (first_fault (rows_say grid zone columns rows (number + 1)))
+            → RowsState grid zone columns number
+            (row ∷ rows) (before_fault (r ∷ rows_say grid zone columns rows (number + 1))) (first_fault (r
+            ∷ rows_say grid zone columns rows (number + 1)))
         by (Ok b) states rest = (states, rest)
         by (Err fault) fails rest = fails
 

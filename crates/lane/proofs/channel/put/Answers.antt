@@ -5,5 +5,8 @@ use Rattle.lane.proofs.Rules.{sends}
 use Rattle.lane.proofs.channel.put.Goals as goal
 
 pub send_as-requires-clause-rule : goal.send_as-requires-clause-rule
-send_as-requires-clause-rule g c =
-    (sends _ _ _ _ (subst (λ v. MaySend (ruled_capacity (sends_on c.args.sender.now)) v c.args.message) (sym c.loop.invariant.3) c.requires.may), λ items views h e. tt)
+send_as-requires-clause-rule g c = (
+  sends _ _ _ _ (subst (λ v. MaySend (ruled_capacity (sends_on c.args.sender.now)) v c.args.message)
+      (sym c.loop.invariant.3) c.requires.may),
+  λ items views h e. tt,
+)

@@ -5,4 +5,5 @@ use Rattle.lane.proofs.channel.put.Given as goal
 
 abbrev pub invariant-loop : goal.invariant-loop
 invariant-loop g l =
-    (goal.iterator-loop g).can_next l.iterator' × (goal.iterator-loop g).is_finite l.iterator' × IsSeatAt (sends_on l.sender) l.pass × (view l.pass ≡ view l.fn.pass)
+    (goal.iterator-loop g).can_next l.iterator' × (goal.iterator-loop g).is_finite l.iterator' × IsSeatAt (sends_on l.sender) l.pass
+    × (view l.pass ≡ view l.fn.pass)

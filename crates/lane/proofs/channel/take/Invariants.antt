@@ -5,4 +5,5 @@ use Rattle.lane.proofs.channel.take.Given as goal
 
 abbrev pub invariant-loop : goal.invariant-loop
 invariant-loop g l =
-    (goal.iterator-loop g).can_next l.iterator' × (goal.iterator-loop g).is_finite l.iterator' × IsSeatAt (receives_on l.receiver) l.pass × (view l.pass ≡ view l.fn.pass)
+    (goal.iterator-loop g).can_next l.iterator' × (goal.iterator-loop g).is_finite l.iterator' × IsSeatAt (receives_on l.receiver) l.pass
+    × (view l.pass ≡ view l.fn.pass)

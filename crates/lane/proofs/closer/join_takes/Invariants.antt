@@ -9,5 +9,6 @@ use Rattle.lane.proofs.closer.join_takes.Given as goal
 abbrev pub invariant-loop-take : goal.invariant-loop-take
 invariant-loop-take l =
     IsSeatAt (sends_on l.sender) l.pass
-    × IsGathering (length (sents_in (view l.fn.pass))) l.takers (ruled_capacity (sends_on l.sender)) (lane_at (sends_on l.sender)) (sents_in (view l.fn.pass)) (into_iter_items l.initial.take-iterator) (into_iter_items l.take-iterator) (view l.pass)
+    × IsGathering (length (sents_in (view l.fn.pass))) l.takers (ruled_capacity (sends_on l.sender)) (lane_at (sends_on l.sender))
+    (sents_in (view l.fn.pass)) (into_iter_items l.initial.take-iterator) (into_iter_items l.take-iterator) (view l.pass)
     × (into_iter_len l.take-iterator ≡ length (into_iter_items l.take-iterator))

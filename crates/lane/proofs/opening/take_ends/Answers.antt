@@ -12,7 +12,9 @@ next_part-part-requires-clause-rule c = (take_given _ _ _ _ _ _ c.loop-taker.inv
 pub new-requires-clause-part : goal.new-requires-clause-part
 new-requires-clause-part c =
     let given = take_given c.loop-taker.pass.id _ _ _ _ _ c.loop-taker.invariant.1 c.loop-taker-test.true in
-    c.next_part-part.ensures.given ∙ (given.2 ∙ ap (λ channel. Take c.loop-taker.taker (ruled_capacity channel) [] ∷ []) (sym (c.in_ok-receiver_of_taker.ensures ∙ c.requires.channel)))
+    c.next_part-part.ensures.given ∙ (given.2
+    ∙ ap (λ channel. Take c.loop-taker.taker (ruled_capacity channel) []
+    ∷ []) (sym (c.in_ok-receiver_of_taker.ensures ∙ c.requires.channel)))
 
 pub loop-taker-preserved : goal.loop-taker-preserved
 loop-taker-preserved c =
@@ -22,6 +24,8 @@ loop-taker-preserved c =
       c.next_part-part.ensures.left ∙ given.1,
       c.in_ok-push.ensures.items
           ∙ (ap (λ l. l ++ c.new.result ∷ []) c.loop-taker.invariant.2
-          ∙ (ap (λ (p : TakeEndView). first_takes lane 0 c.loop-taker.taker ++ p ∷ []) (c.new.ensures.value ∙ ap (λ channel. record { lane = lane_at channel; taker = c.loop-taker.taker; took = [] }) (c.in_ok-receiver_of_taker.ensures ∙ c.requires.channel))
+          ∙ (ap (λ (p : TakeEndView). first_takes lane 0 c.loop-taker.taker ++ p ∷ []) (c.new.ensures.value
+          ∙ ap (λ channel. record { lane = lane_at channel; taker = c.loop-taker.taker; took = [] })
+          (c.in_ok-receiver_of_taker.ensures ∙ c.requires.channel))
           ∙ sym (first_takes_next lane c.loop-taker.taker))),
     )

@@ -16,13 +16,15 @@ pub new-requires : goal.new-requires
 new-requires c =
     let i = c.args.instance.now in
     cpit_is_one i _ _ _ _ c.requires c.in_ok-destinations.ensures.values
-    (coefs_are_chosen i _ _ c.requires c.in_ok-destinations.ensures.destinations (rw (c.as_slice.ensures, c.as_slice-2.ensures.value) at c.in_ok-coefs.ensures))
+    (coefs_are_chosen i _ _ c.requires c.in_ok-destinations.ensures.destinations
+    (rw (c.as_slice.ensures, c.as_slice-2.ensures.value) at c.in_ok-coefs.ensures))
     (rw c.as_slice-3.ensures at c.in_ok-limits.ensures.items)
 
 pub returns : goal.returns
 returns c =
     let i = c.args.instance.now in
     let values = c.in_ok-destinations.ensures.values in
-    let coefs = coefs_are_chosen i _ _ c.requires c.in_ok-destinations.ensures.destinations (rw (c.as_slice.ensures, c.as_slice-2.ensures.value) at c.in_ok-coefs.ensures) in
+    let coefs = coefs_are_chosen i _ _ c.requires c.in_ok-destinations.ensures.destinations
+    (rw (c.as_slice.ensures, c.as_slice-2.ensures.value) at c.in_ok-coefs.ensures) in
     let limits = rw c.as_slice-3.ensures at c.in_ok-limits.ensures.items in
     c.new.ensures ∙ (λ j. cpit_of (c.in_ok-name.ensures j) i.rate i.periods i.resources (values j) (coefs j) (limits j))

@@ -15,7 +15,8 @@ pub loop-id-preserved : goal.loop-id-preserved
 loop-id-preserved c =
     below_more _ _ c.loop-id.invariant
     (let P : List ℕ → Type 0 = λ ids. ArePredsOf c.loop-id.id c.args.count ids in
-    subst P (sym (get_or_from_slice_get c.args.preds.now c.loop-id.id c.of.result.now [] c.of.ensures)) (c.are_preds_of.ensures.0 c.if-not-are_preds_of.false))
+    subst P (sym (get_or_from_slice_get c.args.preds.now c.loop-id.id c.of.result.now [] c.of.ensures))
+    (c.are_preds_of.ensures.0 c.if-not-are_preds_of.false))
 
 pub returns : goal.returns
 returns c = (λ t i h. c.loop-id.invariant i (omega arith), λ t. refl)

@@ -5,9 +5,11 @@ use Rattle.minelib_reading.proofs.model_items.coef_of.Goals as goal
 
 pub returns-in-Ok : goal.returns-in-Ok
 returns-in-Ok c =
-    sym (coef_counted c.args.problem c.args.blocks c.args.destinations c.args.resources (fields_of c.args.line.now) c.in-Ok.coef (sym c.in-Ok.ensures))
+    sym (coef_counted c.args.problem c.args.blocks c.args.destinations c.args.resources
+    (fields_of c.args.line.now) c.in-Ok.coef (sym c.in-Ok.ensures))
 
 pub returns-in-Err : goal.returns-in-Err
 returns-in-Err c =
-    let kind = coef_kind c.args.problem c.args.blocks c.args.destinations c.args.resources (fields_of c.args.line.now) c.in-Err.kind (sym c.in-Err.ensures) in
+    let kind = coef_kind c.args.problem c.args.blocks c.args.destinations c.args.resources
+    (fields_of c.args.line.now) c.in-Err.kind (sym c.in-Err.ensures) in
     rw (c.kind_by_count.ensures, c.coef_width.ensures c.args.blocks c.args.destinations c.args.resources) (sym kind)

@@ -14,12 +14,14 @@ loop-coef-preserved g c =
     let line : drop start room ≡ decimal (g.C.CoefLine.block coef) ++ 32 ∷ g.C.CoefLine.rest coef
     = line_in room _ _ start c.next_block-start.ensures.start digits rest in
     let appended : c.extend_from_slice.new.self.items ≡ c.loop-coef.out.items ++ drop start room
-    = c.in_ok-extend_from_slice.ensures.items ∙ ap (λ xs. c.loop-coef.out.items ++ xs) (take_rest c.deref.result.now start ∙ ap (drop start) c.deref.ensures.value) in
+    = c.in_ok-extend_from_slice.ensures.items
+    ∙ ap (λ xs. c.loop-coef.out.items ++ xs) (take_rest c.deref.result.now start ∙ ap (drop start) c.deref.ensures.value) in
     record {
       start = c.next_block-start.ensures.start;
       digits = digits;
       rest = rest;
       text = next_line (λ x. decimal (g.C.CoefLine.block x) ++ 32 ∷ g.C.CoefLine.rest x) c.args.out.now.items c.loop-coef.out.items
-          c.extend_from_slice.new.self.items (drop start room) c.args.coefs.now c.loop-coef.coef-index coef c.loop-coef-test.true c.coef-item.is
+          c.extend_from_slice.new.self.items
+          (drop start room) c.args.coefs.now c.loop-coef.coef-index coef c.loop-coef-test.true c.coef-item.is
           c.loop-coef.invariant.text appended line;
     }

@@ -11,9 +11,11 @@ write_digits-requires c =
 
 pub returns-clause-digits : goal.returns-clause-digits
 returns-clause-digits c =
-    digits_end c.args.room.now c.write_digits.new.buf (decimal c.from.result) c.write_digits.result c.write_digits.ensures.start c.write_digits.ensures.written
+    digits_end c.args.room.now c.write_digits.new.buf
+    (decimal c.from.result) c.write_digits.result c.write_digits.ensures.start c.write_digits.ensures.written
     ∙ ap decimal c.from.ensures
 
 pub returns-clause-behind : goal.returns-clause-behind
 returns-clause-behind c =
-    behind_stays c.args.room.now c.write_digits.new.buf (decimal c.from.result) c.write_digits.result c.write_digits.ensures.start c.write_digits.ensures.written
+    behind_stays c.args.room.now c.write_digits.new.buf
+    (decimal c.from.result) c.write_digits.result c.write_digits.ensures.start c.write_digits.ensures.written

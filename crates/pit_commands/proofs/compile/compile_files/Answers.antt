@@ -14,7 +14,8 @@ returns-in_default-clause-refused g c =
 pub returns-in-Ok-run_on-clause-done : goal.returns-in-Ok-run_on-clause-done
 returns-in-Ok-run_on-clause-done g c = λ good. record {
   rows = c.in-Ok-run_on.rows;
-  has = has_rows c.args.plan.now _ _ _ _ c.in-Ok-run_on.rows (length c.args.zones.now) (length-map c.in-Ok.feeds.items _ ∙ c.in-Ok.ensures.all)
+  has = has_rows c.args.plan.now _ _ _ _ c.in-Ok-run_on.rows (length c.args.zones.now)
+      (length-map c.in-Ok.feeds.items _ ∙ c.in-Ok.ensures.all)
       c.in-Ok-run_on.ensures.done;
   appended = c.tell_rows.ensures.told good;
 }
@@ -31,7 +32,8 @@ returns-clause-refused g c =
     λ bad. inr (
       refusal,
       subst (λ old. EndsRun refusal old c.refuse_run.new.lines.items c.refuse_run.result) c.in-Ok.ensures.quiet c.refuse_run.ensures,
-      not_compiled plan formulas c.args.settings _ _ _ _ (length c.args.zones.now) (length-map c.in-Ok.feeds.items _ ∙ c.in-Ok.ensures.all) refusal
+      not_compiled plan formulas c.args.settings _ _ _ _ (length c.args.zones.now)
+          (length-map c.in-Ok.feeds.items _ ∙ c.in-Ok.ensures.all) refusal
           (λ kind e. subst (λ n. IsSettingsFault plan n formulas c.args.settings kind) c.in-Ok.ensures.all
           ((c.in-Err-run_on.ensures.settings kind).0 (ap Err e))) c.in-Err-run_on.ensures.refused,
     )

@@ -22,7 +22,8 @@ pub returns-in_default-settings_in : goal.returns-in_default-settings_in
 returns-in_default-settings_in c =
     let rows = rows_of (found_of c.args.found.now) in
     let none : c.settings_in.result ≡ None = search rules in
-    no_settings rows (subst (λ o. MatchOption o ((settings : Settings) → FindsSettings rows settings → ⊥) (FindsSettings rows)) none c.settings_in.ensures)
+    no_settings rows (subst (λ o. MatchOption o ((settings : Settings) → FindsSettings rows settings → ⊥) (FindsSettings rows))
+    none c.settings_in.ensures)
 
 pub returns-in_default-get_strs : goal.returns-in_default-get_strs
 returns-in_default-get_strs c =
@@ -53,7 +54,9 @@ returns c =
       is_compile = refl;
       has_plan = sym (first_value-rows found (codes "plan")) ∙ has_plan;
       has_out = sym (first_value-rows found (codes "out")) ∙ has_out;
-      has_settings = subst (λ o. MatchOption o ((settings : Settings) → FindsSettings (rows_of found) settings → ⊥) (FindsSettings (rows_of found))) settings c.settings_in.ensures;
+      has_settings = subst (λ o. MatchOption o
+          ((settings : Settings) → FindsSettings (rows_of found) settings → ⊥) (FindsSettings (rows_of found)))
+          settings c.settings_in.ensures;
       has_zones = sym (raw_values-rows found (codes "zone")) ∙ has_zones ∙ ap (λ z. Some z) (sym copied);
       some_zone = some_copied string_bytes (λ v. v.now) c.in_ok-zones.zones.items zones copied some;
     }

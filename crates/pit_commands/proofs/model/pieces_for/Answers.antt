@@ -7,4 +7,5 @@ use Rattle.pit_commands.proofs.model.pieces_for.Goals as goal
 
 pub returns-in-Ok-None-clause-refused : goal.returns-in-Ok-None-clause-refused
 returns-in-Ok-None-clause-refused c =
-    ended_by_two (refusal_text (Settings Files)) c.args.lines.now.items c.refuse_run.new.lines.items c.refuse_run.result c.refuse_run.ensures.0
+    ended_by_two (refusal_text (Settings Files)) c.args.lines.now.items c.refuse_run.new.lines.items
+    c.refuse_run.result c.refuse_run.ensures.0

@@ -14,8 +14,10 @@ loop-file-preserved g c =
     let grown : c.push.new.self.items ≡ c.loop-file.feeds.items ++ c.in-Ok.feed ∷ [] = search rules in
     let is : path ≡ get_or c.args.paths.now c.loop-file.file path = search rules in
     record {
-      each = subst (λ feeds. AllZip (λ path feed. FnReturnsAt g.O.Fn c.args.opener (string_bytes path) (Ok feed)) (take (c.loop-file.file + 1) c.args.paths.now) feeds)
-          (sym grown) (zip_more (λ path feed. FnReturnsAt g.O.Fn c.args.opener (string_bytes path) (Ok feed)) c.args.paths.now c.loop-file.feeds.items
+      each = subst (λ feeds. AllZip (λ path feed. FnReturnsAt g.O.Fn c.args.opener (string_bytes path) (Ok feed))
+          (take (c.loop-file.file + 1) c.args.paths.now) feeds)
+          (sym grown) (zip_more (λ path feed. FnReturnsAt g.O.Fn c.args.opener (string_bytes path) (Ok feed))
+          c.args.paths.now c.loop-file.feeds.items
           c.loop-file.file path c.in-Ok.feed c.loop-file-test.true is c.loop-file.invariant.each opens);
       count = search rules;
       lines = c.loop-file.invariant.lines;
@@ -25,5 +27,6 @@ pub returns-in_default-clause-refused : goal.returns-in_default-clause-refused
 returns-in_default-clause-refused g c = (
   c.loop-file.file,
   c.loop-file-test.true,
-  subst (λ old. EndsWith 3 (zone_fault c.loop-file.file) old c.refuse_zone.new.lines.items c.refuse_zone.result) c.loop-file.invariant.lines c.refuse_zone.ensures,
+  subst (λ old. EndsWith 3 (zone_fault c.loop-file.file) old c.refuse_zone.new.lines.items c.refuse_zone.result)
+      c.loop-file.invariant.lines c.refuse_zone.ensures,
 )

@@ -4,6 +4,7 @@ use Rattle.pit_commands.proofs.output.write_whole.Goals as goal
 
 pub loop-taken-preserved : goal.loop-taken-preserved
 loop-taken-preserved g c = record {
-  front = took_more _ _ _ c.args.bytes.now c.loop-taken.taken c.in_ok-taken.field-0 c.loop-taken.invariant.front c.in_ok-taken.ensures.takes;
+  front = took_more _ _ _ c.args.bytes.now c.loop-taken.taken c.in_ok-taken.field-0
+      c.loop-taken.invariant.front c.in_ok-taken.ensures.takes;
   within = search rules;
 }

@@ -18,12 +18,15 @@ loop-behind-preserved c =
           (c.in_ok-copied.ensures ∙ found.ensures.first)
           found.ensures.further
           c.in_ok-push.ensures.items;
-      held = one_more_fits zones _ _ c.args.most c.len.result c.in_ok-push.ensures.items c.loop-behind.invariant.held (search rules) c.if-len-most.false;
-      short = less_left zones _ _ c.in-Some.rest c.loop-behind.behind found.result.1 _ c.in_ok-push.ensures.items c.in-Some.is found.ensures.shorter c.loop-behind.invariant.short;
+      held = one_more_fits zones _ _ c.args.most c.len.result c.in_ok-push.ensures.items c.loop-behind.invariant.held
+          (search rules) c.if-len-most.false;
+      short = less_left zones _ _ c.in-Some.rest c.loop-behind.behind found.result.1 _ c.in_ok-push.ensures.items
+          c.in-Some.is found.ensures.shorter c.loop-behind.invariant.short;
     }
 
 pub returns-then-len-most-clause-more : goal.returns-then-len-most-clause-more
 returns-then-len-most-clause-more c =
     λ is. let held : length c.loop-behind.zones.items ≡ c.args.most = search rules in
-    let more = more_than_held _ c.loop-behind.zones.items c.in-Some.rest.now (c.loop-behind.invariant.pieces ∙ ap (λ behind. c.loop-behind.zones.items ++ pieces_behind behind) c.in-Some.is) in
+    let more = more_than_held _ c.loop-behind.zones.items c.in-Some.rest.now
+    (c.loop-behind.invariant.pieces ∙ ap (λ behind. c.loop-behind.zones.items ++ pieces_behind behind) c.in-Some.is) in
     omega (arith, held, more)

@@ -5,5 +5,6 @@ use Rattle.pit_model.proofs.band.count_begun.Goals as goal
 
 pub returns-clause-begun : goal.returns-clause-begun
 returns-clause-begun c =
-    let point = IsPartitionPoint-from_clause (λ b. nat_le b.start c.args.grade) _ _ c.partition_point.ensures.partitioned (parted _ c.args.grade c.requires) (λ a r q k. search rules) in
+    let point = IsPartitionPoint-from_clause (λ b. nat_le b.start c.args.grade) _ _ c.partition_point.ensures.partitioned
+    (parted _ c.args.grade c.requires) (λ a r q k. search rules) in
     first_pass (λ b. nat_le b.start c.args.grade) _ _ point c.partition_point.ensures.bound

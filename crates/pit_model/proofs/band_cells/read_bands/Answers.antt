@@ -14,7 +14,8 @@ returns-in_err-band-clause-reads c =
     sym (c.in_err-band.ensures.value
     ∙ ap (λ x. band_by x c.cell_at-in-loop-pair.result.now) c.cell_at.ensures.value
     ∙ ap (λ y. band_by (cell_at cells (2 * c.loop-pair.pair)) y) c.cell_at-in-loop-pair.ensures.value) in
-    let fails = sym c.loop-pair.invariant.0 ∙ bands_fail cells c.args.count c.loop-pair.pair c.loop-pair.bands.items c.in_err-band.field-0.0 (omega arith) said in
+    let fails = sym c.loop-pair.invariant.0
+    ∙ bands_fail cells c.args.count c.loop-pair.pair c.loop-pair.bands.items c.in_err-band.field-0.0 (omega arith) said in
     rw fails (search rules)
 
 pub loop-pair-preserved : goal.loop-pair-preserved

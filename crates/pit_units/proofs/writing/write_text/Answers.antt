@@ -23,8 +23,10 @@ returns-clause-text c =
     let whole = c.parts-whole.result.0 in
     let below = c.is_negative.result in
     let size : slice_range digits start end ≡ size_text c.size.result =
-    put_before (decimal whole) c.write_decimals-end.new.room digits start 20 end c.write_digits-start.ensures.start c.write_decimals-end.ensures.end.0 c.write_digits-start.ensures.written
+    put_before (decimal whole) c.write_decimals-end.new.room digits start 20 end c.write_digits-start.ensures.start
+    c.write_decimals-end.ensures.end.0 c.write_digits-start.ensures.written
     ∙ rw (c.write_decimals-end.ensures.text, c.parts-whole.ensures.whole, c.parts-whole.ensures.decimals) refl in
-    put_before (sign_text below) digits c.write_sign.new.room c.write_sign.result start end c.write_sign.ensures.start (omega arith) c.write_sign.ensures.written
+    put_before (sign_text below) digits c.write_sign.new.room c.write_sign.result start end c.write_sign.ensures.start
+    (omega arith) c.write_sign.ensures.written
     ∙ ap (λ xs. sign_text below ++ xs) size
     ∙ sym (shortest_is c.args.dec below c.size.result c.is_negative.ensures c.size.ensures.value)

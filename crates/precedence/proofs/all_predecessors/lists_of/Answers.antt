@@ -19,11 +19,13 @@ loop-block-preserved c =
     let adds : now.items ≡ flat ++ f b =
     c.in_ok-add_list.ensures ∙ ap (λ all. flat ++ in_cone tables.tables.items tables.of_zone.items all b) c.requires.codes in
     let end_is : c.len.result ≡ length (flat ++ f b) = omega (arith, c.len.ensures, now.ok, ap length adds) in
-    let more : c.push.new.self.items ≡ ends ++ length (flat ++ f b) ∷ [] = c.in_ok-push.ensures.items ∙ ap (λ end. ends ++ end ∷ []) end_is in
+    let more : c.push.new.self.items ≡ ends ++ length (flat ++ f b) ∷ [] =
+    c.in_ok-push.ensures.items ∙ ap (λ end. ends ++ end ∷ []) end_is in
     let whole : take (i + 1) blocks ≡ take i blocks ++ b ∷ [] =
     take_more blocks i b c.loop-block-test.true ∙ ap (λ (x : Block). take i blocks ++ x ∷ []) (sym c.block-item.is) in
     record {
-      ends = rw (adds, more) (ends_push 0 ends (length flat) (length (flat ++ f b)) c.loop-block.invariant.ends (omega (arith, length-append flat (f b))));
+      ends = rw (adds, more) (ends_push 0 ends (length flat) (length (flat ++ f b)) c.loop-block.invariant.ends
+          (omega (arith, length-append flat (f b))));
       lists =
           rw (adds, more) (pieces_push flat (f b) 0 ends c.loop-block.invariant.ends)
           ∙ ap (λ lists. lists ++ f b ∷ []) c.loop-block.invariant.lists
@@ -34,4 +36,5 @@ pub returns : goal.returns
 returns c =
     let tables = c.args.tables.now in
     c.of_parts.ensures ∙ c.loop-block.invariant.lists
-    ∙ ap (map (in_cone tables.tables.items tables.of_zone.items (codes c.args.blocks.now))) (take_all _ c.args.blocks.now c.loop-block-test.false)
+    ∙ ap (map (in_cone tables.tables.items tables.of_zone.items (codes c.args.blocks.now)))
+    (take_all _ c.args.blocks.now c.loop-block-test.false)

@@ -7,5 +7,6 @@ use Rattle.precedence.proofs.all_predecessors.lists_of.Given as goal
 abbrev pub invariant-loop-block : goal.invariant-loop-block
 invariant-loop-block l = record {
   ends : AreEnds 0 l.ends.items (length l.flat.items);
-  lists : pieces l.flat.items 0 l.ends.items ≡ map (in_cone l.tables.tables.items l.tables.of_zone.items (codes l.blocks)) (take l.block-index l.blocks);
+  lists : pieces l.flat.items 0 l.ends.items
+      ≡ map (in_cone l.tables.tables.items l.tables.of_zone.items (codes l.blocks)) (take l.block-index l.blocks);
 }

@@ -12,7 +12,8 @@ loop-position-preserved c = record {
       let positions = c.args.positions.now in
       let p : ℕ = get_or positions i 0 in
       let f = λ (p : ℕ). get_or blocks p d in
-      let there : f p ≡ block = get_or_default blocks p d block (c.requires i 0 c.loop-position-test.true) ∙ sym c.index-blocks-position.is in
+      let there : f p ≡ block =
+      get_or_default blocks p d block (c.requires i 0 c.loop-position-test.true) ∙ sym c.index-blocks-position.is in
       c.in_ok-push.ensures.items
       ∙ ap (λ bs. bs ++ block ∷ []) (c.loop-position.invariant.blocks d)
       ∙ ap (λ b. map f (take i positions) ++ b ∷ []) (sym there)

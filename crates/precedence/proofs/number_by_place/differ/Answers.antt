@@ -12,7 +12,8 @@ returns-in-Some-clause-same c =
     let block = c.index-blocks-position.result in
     let listed = c.args.blocks.now in
     let place : (d : Block) → code (get_or listed c.loop-position.position d) ≡ c.code.result =
-    λ d. ap code (get_or_default listed c.loop-position.position d block c.loop-position-test.true ∙ sym c.index-blocks-position.is) ∙ sym c.code.ensures.value in
+    λ d. ap code (get_or_default listed c.loop-position.position d block c.loop-position-test.true ∙ sym c.index-blocks-position.is)
+    ∙ sym c.code.ensures.value in
     first_again listed _ _ c.code.result block c.loop-position-test.true place
     (rw (← c.loop-position.invariant.entries) (sym c.in_ok-first.ensures.before ∙ c.in-Some.is))
     (rw (← c.loop-position.invariant.entries) c.loop-position.invariant.unique)
@@ -21,7 +22,8 @@ pub loop-position-preserved : goal.loop-position-preserved
 loop-position-preserved c =
     let pushed = c.in_ok-first.ensures.noted (sym c.in_ok-first.ensures.before ∙ c.in_default.is) in
     record {
-      entries = placed_on c.args.blocks.now c.loop-position.position c.code.result c.index-blocks-position.result c.loop-position.seen.entries _
+      entries =
+          placed_on c.args.blocks.now c.loop-position.position c.code.result c.index-blocks-position.result c.loop-position.seen.entries _
           c.loop-position-test.true c.index-blocks-position.is c.code.ensures.value c.loop-position.invariant.entries pushed;
       unique = c.in_ok-first.ensures.unique;
     }

@@ -36,7 +36,8 @@ returns-clause-numbering c =
     let entries = c.in_ok-places.places.items in
     let same : c.as_slice.result.now ≡ values_of entries = c.as_slice.ensures.value ∙ c.in_ok-positions.ensures in
     let P : NumberingView → Type 0 = IsNumbering listed in
-    subst P (ap (λ positions. record { blocks = c.in_ok-ordered.ordered.items; positions = positions }) (sym c.in_ok-positions.ensures) ∙ sym c.new.ensures)
+    subst P (ap (λ positions. record { blocks = c.in_ok-ordered.ordered.items; positions = positions }) (sym c.in_ok-positions.ensures)
+    ∙ sym c.new.ensures)
     (numbering_is listed entries c.in_ok-places.ensures.sorted c.in_ok-ordered.ordered.items
     (λ d. c.in_ok-ordered.ensures.blocks d ∙ ap (map (λ p. get_or listed p d)) same)
     (c.in_ok-ordered.ensures.len ∙ ap length same ∙ length-map entries (λ (e : ℕ × ℕ). e.1)))

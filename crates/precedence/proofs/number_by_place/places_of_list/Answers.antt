@@ -6,7 +6,8 @@ use Rattle.precedence.proofs.number_by_place.places_of_list.Goals as goal
 
 pub loop-position-preserved : goal.loop-position-preserved
 loop-position-preserved c =
-    placed_on c.args.blocks.now c.loop-position.position c.code.result c.index-blocks-position.result c.loop-position.places.items _ c.loop-position-test.true
+    placed_on c.args.blocks.now c.loop-position.position c.code.result c.index-blocks-position.result
+    c.loop-position.places.items _ c.loop-position-test.true
     c.index-blocks-position.is c.code.ensures.value c.loop-position.invariant c.in_ok-push.ensures.items
 
 pub returns : goal.returns

@@ -14,8 +14,10 @@ number_blocks-requires c =
 
 pub returns-clause-numbering : goal.returns-clause-numbering
 returns-clause-numbering c =
-    subst (λ (blocks : List Block). IfOk c.number_blocks.result (IsNumbering blocks)) (c.as_slice.ensures.value ∙ c.in_ok-blocks.ensures) c.number_blocks.ensures.numbering
+    subst (λ (blocks : List Block). IfOk c.number_blocks.result (IsNumbering blocks))
+    (c.as_slice.ensures.value ∙ c.in_ok-blocks.ensures) c.number_blocks.ensures.numbering
 
 pub returns-clause-same : goal.returns-clause-same
 returns-clause-same c =
-    subst (λ (blocks : List Block). IfErr c.number_blocks.result (IsReason blocks)) (c.as_slice.ensures.value ∙ c.in_ok-blocks.ensures) c.number_blocks.ensures.same
+    subst (λ (blocks : List Block). IfErr c.number_blocks.result (IsReason blocks))
+    (c.as_slice.ensures.value ∙ c.in_ok-blocks.ensures) c.number_blocks.ensures.same

@@ -23,9 +23,11 @@ loop-i-preserved c =
     let row = c.index-rows-i.result in
     let as_many : length c.args.past.now ≡ length rows = ap length c.requires.past ∙ length-map rows (λ (row : Row). row.past) in
     let inside : j ≤ length rows = omega (arith, c.next_row-i.ensures.within) in
-    let skipped : (k : ℕ) → i < k → k < j → c.in_ok-run.run'.past < length codes → get_or (pasts rows) k 0 ≤ get_or codes c.in_ok-run.run'.past 0 - from =
+    let skipped : (k : ℕ) → i < k → k < j → c.in_ok-run.run'.past < length codes
+    → get_or (pasts rows) k 0 ≤ get_or codes c.in_ok-run.run'.past 0 - from =
     λ k later before some. omega (arith, c.next_row-i.ensures.skipped k later before some, ap (λ ps. get_or ps k 0) c.requires.past) in
-    let adds = adds_run from c.requires.in_order.0 rows codes c.requires.in_order.1 c.args.places.now.rising i j c.in_ok-run.run'.past row c.index-rows-i.is c.loop-i-test.true c.next_row-i.ensures.later inside c.in_ok-run.ensures.past skipped in
+    let adds = adds_run from c.requires.in_order.0 rows codes c.requires.in_order.1 c.args.places.now.rising i j c.in_ok-run.run'.past row
+    c.index-rows-i.is c.loop-i-test.true c.next_row-i.ensures.later inside c.in_ok-run.ensures.past skipped in
     record {
       within = inside;
       list =
@@ -40,5 +42,6 @@ returns c =
     let rows = c.args.rows.now in
     let codes = c.args.places.now.codes.items in
     let none : places_where (is_in_rows c.args.from (drop c.loop-i.i rows)) 0 codes ≡ [] =
-    ap (λ rs. places_where (is_in_rows c.args.from rs) 0 codes) (drop_all c.loop-i.i rows c.loop-i-test.false) ∙ no_rows c.args.from 0 codes in
+    ap (λ rs. places_where (is_in_rows c.args.from rs) 0 codes) (drop_all c.loop-i.i rows c.loop-i-test.false)
+    ∙ no_rows c.args.from 0 codes in
     sym (append-nil c.loop-i.list.items) ∙ ap (λ xs. c.loop-i.list.items ++ xs) (sym none) ∙ c.loop-i.invariant.list

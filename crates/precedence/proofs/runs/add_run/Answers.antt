@@ -4,7 +4,8 @@ use Rattle.precedence.proofs.runs.add_run.Goals as goal
 
 pub ids-requires-clause-in_order : goal.ids-requires-clause-in_order
 ids-requires-clause-in_order c =
-    let grows = start_grows (c.args.from + c.args.row.first) (c.args.from + c.args.row.past) c.as_slice-codes.result.now (omega (arith, c.args.row.in_order)) in
+    let grows = start_grows (c.args.from + c.args.row.first) (c.args.from + c.args.row.past) c.as_slice-codes.result.now
+    (omega (arith, c.args.row.in_order)) in
     omega (arith, c.find-first.ensures, c.run_end-past.ensures)
 
 pub ids-requires-clause-within : goal.ids-requires-clause-within
@@ -24,5 +25,6 @@ overflow_cast-result-2 c =
 
 pub run_end-past-requires-clause-first : goal.run_end-past-requires-clause-first
 run_end-past-requires-clause-first c =
-    let grows = start_grows (c.args.from + c.args.row.first) (c.args.from + c.args.row.past) c.as_slice-codes.result.now (omega (arith, c.args.row.in_order)) in
+    let grows = start_grows (c.args.from + c.args.row.first) (c.args.from + c.args.row.past) c.as_slice-codes.result.now
+    (omega (arith, c.args.row.in_order)) in
     omega (arith, c.find-first.ensures)

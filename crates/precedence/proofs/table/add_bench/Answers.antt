@@ -15,9 +15,11 @@ loop-i-preserved c =
     let P : List Row → Type 0 = Tells a.grid a.cone a.extent (edge a.extent.rows a.dz (i + 1)) in
     ⊎_elim
     (λ some. subst P (sym (c.in_ok-add_row.ensures.row some))
-    (tells_row a.grid a.cone a.extent a.dz i c.requires.up c.requires.within inside c.row_counts-counts.result c.row_counts-counts.ensures row c.row_at.ensures.first c.row_at.ensures.past some rows c.loop-i.invariant))
+    (tells_row a.grid a.cone a.extent a.dz i c.requires.up c.requires.within inside c.row_counts-counts.result c.row_counts-counts.ensures
+    row c.row_at.ensures.first c.row_at.ensures.past some rows c.loop-i.invariant))
     (λ none. subst P (sym (c.in_ok-add_row.ensures.no_row none))
-    (tells_no_row a.grid a.cone a.extent a.dz i c.requires.up c.requires.within inside c.row_counts-counts.result c.row_counts-counts.ensures row c.row_at.ensures.first c.row_at.ensures.past none rows c.loop-i.invariant))
+    (tells_no_row a.grid a.cone a.extent a.dz i c.requires.up c.requires.within inside c.row_counts-counts.result
+    c.row_counts-counts.ensures row c.row_at.ensures.first c.row_at.ensures.past none rows c.loop-i.invariant))
     (cases_lt row.first row.past)
 
 pub returns : goal.returns

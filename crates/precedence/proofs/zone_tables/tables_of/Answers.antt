@@ -13,5 +13,6 @@ loop-cone-preserved c =
     let none : Cone = record { east = flat; west = flat; north = flat; south = flat; k = 0 } in
     let e = c.in_ok-place.ensures in
     subst P (sym c.in_ok-push.ensures.items)
-    (one_zone_more c.args.grid c.args.cones.now c.args.extent i c.in_ok-place.place none c.loop-cone.tables.items c.place_of.new.tables.items c.loop-cone.of_zone.items
+    (one_zone_more c.args.grid c.args.cones.now c.args.extent i c.in_ok-place.place none c.loop-cone.tables.items
+    c.place_of.new.tables.items c.loop-cone.of_zone.items
     c.loop-cone.invariant c.loop-cone-test.true e.told e.within e.cone e.more e.kept)

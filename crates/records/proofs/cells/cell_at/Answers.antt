@@ -14,7 +14,8 @@ returns-in-Some-clause-field c =
 
 pub returns-in-None-clause-value : goal.returns-in-None-clause-value
 returns-in-None-clause-value c =
-    no_cell_there (fields_of c.args.row.now) c.args.place (sym c.in-None.ensures.value) ∙ sym (at_cell (fields_of c.args.row.now) c.args.place)
+    no_cell_there (fields_of c.args.row.now) c.args.place (sym c.in-None.ensures.value)
+    ∙ sym (at_cell (fields_of c.args.row.now) c.args.place)
 
 pub returns-in-None-clause-field : goal.returns-in-None-clause-field
 returns-in-None-clause-field c = no_cell_there (fields_of c.args.row.now) c.args.place (sym c.in-None.ensures.value)

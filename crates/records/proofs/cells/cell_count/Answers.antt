@@ -13,5 +13,6 @@ loop-i-preserved c =
     sym (c.is_empty.ensures ∙ ap (λ x. length x == 0) c.cell_at.ensures.value) in
     elim c.if-not-is_empty.branch [
       | then-not-is_empty w ↦ w.count-is ∙ one_full fields c.loop-i.i there (size ∙ w.if-not-is_empty.true)
-      | else-not-is_empty w ↦ w.count-is ∙ one_empty fields c.loop-i.i c.loop-i.count there (size ∙ w.if-not-is_empty.false) c.loop-i.invariant
+      | else-not-is_empty w ↦ w.count-is
+          ∙ one_empty fields c.loop-i.i c.loop-i.count there (size ∙ w.if-not-is_empty.false) c.loop-i.invariant
     ]

@@ -11,6 +11,7 @@ invariant-loop g l =
       taker : l.take_end.taker ≡ l.fn.take_end.taker;
       took : l.take_end.took ≡ l.fn.take_end.took ++ drop (length l.fn.take_end.took) l.take_end.took;
       items : IsFalse l.memory → l.items.items ≡ items_by (formulas_of l.destinations) (drop (length l.fn.take_end.took) l.take_end.took);
-      front : l.items.items ≡ take (length l.items.items) (items_by (formulas_of l.destinations) (drop (length l.fn.take_end.took) l.take_end.took));
+      front : l.items.items ≡ take (length l.items.items)
+          (items_by (formulas_of l.destinations) (drop (length l.fn.take_end.took) l.take_end.took));
       full : IsTrue l.memory → vec_capacity l.items ≤ vec_len l.items;
     }

@@ -8,4 +8,5 @@ abbrev pub invariant-loop-place : goal.invariant-loop-place
 invariant-loop-place g l =
     (take l.place l.cells ≡ worths_by (formulas_of (take l.place l.destinations)) l.block)
     × (length l.cells ≡ 8)
-    × AreAnswered (λ v b r. (goal.Fn-dyn g).post (v.vtable, v.value) (b, record {}) r) (take l.place l.destinations) l.block (take l.place l.cells)
+    × AreAnswered (λ v b r. (goal.Fn-dyn g).post (v.vtable, v.value) (b, record {}) r)
+    (take l.place l.destinations) l.block (take l.place l.cells)

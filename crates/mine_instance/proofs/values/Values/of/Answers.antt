@@ -6,19 +6,22 @@ use Rattle.mine_instance.proofs.values.Values.of.Goals as goal
 pub overflow_mul-block : goal.overflow_mul-block
 overflow_mul-block c =
     let count : length c.args.self.now ≡ c.self.inside.count = sym (ap length c.self.view_is) ∙ length-rows_of _ _ _ in
-    let room : c.args.block * c.self.inside.width + c.self.inside.width ≤ c.self.inside.count * c.self.inside.width = row_within _ _ _ (omega arith) in
+    let room : c.args.block * c.self.inside.width + c.self.inside.width ≤ c.self.inside.count * c.self.inside.width =
+    row_within _ _ _ (omega arith) in
     omega arith
 
 pub split_at-requires : goal.split_at-requires
 split_at-requires c =
     let count : length c.args.self.now ≡ c.self.inside.count = sym (ap length c.self.view_is) ∙ length-rows_of _ _ _ in
-    let room : c.args.block * c.self.inside.width + c.self.inside.width ≤ c.self.inside.count * c.self.inside.width = row_within _ _ _ (omega arith) in
+    let room : c.args.block * c.self.inside.width + c.self.inside.width ≤ c.self.inside.count * c.self.inside.width =
+    row_within _ _ _ (omega arith) in
     omega arith
 
 pub split_at-requires-2 : goal.split_at-requires-2
 split_at-requires-2 c =
     let count : length c.args.self.now ≡ c.self.inside.count = sym (ap length c.self.view_is) ∙ length-rows_of _ _ _ in
-    let room : c.args.block * c.self.inside.width + c.self.inside.width ≤ c.self.inside.count * c.self.inside.width = row_within _ _ _ (omega arith) in
+    let room : c.args.block * c.self.inside.width + c.self.inside.width ≤ c.self.inside.count * c.self.inside.width =
+    row_within _ _ _ (omega arith) in
     omega arith
 
 pub returns : goal.returns

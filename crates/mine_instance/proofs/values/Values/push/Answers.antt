@@ -11,7 +11,8 @@ overflow_add-self c =
 pub invariant_of-self-2 : goal.invariant_of-self-2
 invariant_of-self-2 c =
     let P : List (List ℤ) → Type 0 = λ rows. All (λ row. length row ≡ length c.args.values.now) rows in
-    let wide : P (rows_of c.self.inside.count c.self.inside.width c.self.inside.all.items) = subst P (sym c.self.view_is) c.requires.width in
+    let wide : P (rows_of c.self.inside.count c.self.inside.width c.self.inside.all.items) =
+    subst P (sym c.self.view_is) c.requires.width in
     let whole : length c.self.inside.all.items ≡ c.self.inside.count * c.self.inside.width = omega arith in
     let pushed = row_pushed c.self.inside.count c.self.inside.width c.self.inside.all.items c.args.values.now whole wide in
     let before : length c.self.inside.all.items ≡ c.self.inside.count * length c.args.values.now = pushed.0 in
@@ -23,7 +24,8 @@ invariant_of-self-2 c =
 pub returns-clause-ok : goal.returns-clause-ok
 returns-clause-ok c =
     let P : List (List ℤ) → Type 0 = λ rows. All (λ row. length row ≡ length c.args.values.now) rows in
-    let wide : P (rows_of c.self.inside.count c.self.inside.width c.self.inside.all.items) = subst P (sym c.self.view_is) c.requires.width in
+    let wide : P (rows_of c.self.inside.count c.self.inside.width c.self.inside.all.items) =
+    subst P (sym c.self.view_is) c.requires.width in
     let whole : length c.self.inside.all.items ≡ c.self.inside.count * c.self.inside.width = omega arith in
     let pushed = row_pushed c.self.inside.count c.self.inside.width c.self.inside.all.items c.args.values.now whole wide in
     ap (λ (items : List ℤ). rows_of (c.self.inside.count + 1) (length c.args.values.now) items) c.in_ok-extend_from_slice.ensures.items

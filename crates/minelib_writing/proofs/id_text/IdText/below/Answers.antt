@@ -8,7 +8,8 @@ pub loop-id-preserved : goal.loop-id-preserved
 loop-id-preserved c =
     let id = c.loop-id.id in
     let starts = c.loop-id.starts.items in
-    let start : c.len.result ≡ start_in (length starts) = omega (arith, c.len.ensures, c.loop-id.text.ok, ap length c.loop-id.invariant.text, ap start_in c.loop-id.invariant.count) in
+    let start : c.len.result ≡ start_in (length starts) =
+    omega (arith, c.len.ensures, c.loop-id.text.ok, ap length c.loop-id.invariant.text, ap start_in c.loop-id.invariant.count) in
     record {
       text =
           c.in_ok-put_whole_behind.ensures ∙ ap (λ t. t ++ 32 ∷ decimal id) c.loop-id.invariant.text ∙ sym (spaced_next id);

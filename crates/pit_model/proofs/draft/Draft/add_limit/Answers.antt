@@ -17,7 +17,8 @@ invariant_of-self-2 c =
     let bound : IsBound c.args.limit.bound =
     record { tonnes = c.requires.tonnes; straight = sym c.is_turned.ensures ∙ c.if-is_turned.false } in
     let none : list_any (λ m. is_same_place c.args.limit m) old ≡ false =
-    ap (λ xs. list_any (λ m. is_same_place c.args.limit m) xs) (sym c.as_slice.ensures.value) ∙ sym c.is_limited.ensures ∙ c.if-is_limited.false in
+    ap (λ xs. list_any (λ m. is_same_place c.args.limit m) xs) (sym c.as_slice.ensures.value) ∙ sym c.is_limited.ensures
+    ∙ c.if-is_limited.false in
     record {
       grid = kept.grid;
       zones = kept.zones;
@@ -29,6 +30,7 @@ invariant_of-self-2 c =
       resources = kept.resources;
       covers = kept.covers;
       covers_once = kept.covers_once;
-      limits = rw now (All-with_limit (λ l. (l.resource < length c.self.inside.resources.items) × (l.period < unwrap_or c.self.inside.periods 0) × IsBound l.bound) c.args.limit old (resource, period, bound) kept.limits);
+      limits = rw now (All-with_limit (λ l. (l.resource < length c.self.inside.resources.items)
+          × (l.period < unwrap_or c.self.inside.periods 0) × IsBound l.bound) c.args.limit old (resource, period, bound) kept.limits);
       rising = rw now (rises c.args.limit old kept.rising none);
     }

@@ -9,7 +9,8 @@ invariant_of-self-2 c =
     record {
       grid = kept.grid;
       zones = rw c.in_ok-push.ensures.items (simp length-append (omega arith));
-      cones = rw c.in_ok-push.ensures.items (All-push IsCone c.self.inside.cones.items c.in_ok-cone.cone kept.cones c.in_ok-cone.ensures.in_range);
+      cones = rw c.in_ok-push.ensures.items
+          (All-push IsCone c.self.inside.cones.items c.in_ok-cone.cone kept.cones c.in_ok-cone.ensures.in_range);
       destinations = kept.destinations;
       formulas = kept.formulas;
       periods = kept.periods;

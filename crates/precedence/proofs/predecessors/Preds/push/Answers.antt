@@ -18,6 +18,7 @@ returns-in-Ok-clause-ok c =
     let ends = c.self.inside.ends.items in
     let list = c.args.list.now in
     let now = c.extend_from_slice.new.self in
-    let last : c.len.result ≡ length (flat ++ list) = omega (arith, c.len.ensures, now.ok, ap length c.in_ok-extend_from_slice.ensures.items) in
+    let last : c.len.result ≡ length (flat ++ list) =
+    omega (arith, c.len.ensures, now.ok, ap length c.in_ok-extend_from_slice.ensures.items) in
     rw (c.in-Ok.ensures.items, last, c.in_ok-extend_from_slice.ensures.items)
     (pieces_push flat list 0 ends c.self.invariant ∙ ap (λ lists. lists ++ list ∷ []) c.self.view_is)

@@ -8,7 +8,8 @@ returns-clause-ok c =
     let worths = c.in_ok-head.ensures.appended ∙ ap (λ ws. ws ++ c.args.row.now.worths) c.make_room.ensures.worths in
     let room = c.make_room.ensures.rows in
     let count : vec_len c.make_room.new.rows ≡ length c.make_room.new.rows.items = omega arith in
-    resized c.self.inside.worths.items c.new.new.worths.items _ c.self.inside.heads.items c.args.self.now worths c.self.view_is c.self.invariant
+    resized c.self.inside.worths.items c.new.new.worths.items _ c.self.inside.heads.items
+    c.args.self.now worths c.self.view_is c.self.invariant
     c.resize.new.self.items c.args.count c.in_ok-head.head c.args.row.now c.requires
     (c.in_ok-resize.ensures.items
     ∙ ap (λ n. take c.args.count c.make_room.new.rows.items ++ replicate (c.args.count - n) c.in_ok-head.head) count
@@ -17,6 +18,7 @@ returns-clause-ok c =
 pub returns-in_err-resize-clause-err : goal.returns-in_err-resize-clause-err
 returns-in_err-resize-clause-err c =
     let worths = c.in_ok-head.ensures.appended ∙ ap (λ ws. ws ++ c.args.row.now.worths) c.make_room.ensures.worths in
-    let same = not_set c.self.inside.worths.items c.new.new.worths.items _ c.self.inside.heads.items c.args.self.now worths c.self.view_is c.self.invariant
+    let same = not_set c.self.inside.worths.items c.new.new.worths.items _ c.self.inside.heads.items
+    c.args.self.now worths c.self.view_is c.self.invariant
     c.resize.new.self.items (c.in_err-resize.ensures.items ∙ c.make_room.ensures.rows) in
     rw (err_from_is_err_and c.from_residual-in_err-resize.result c.from_residual-in_err-resize.ensures.1).1 same
