@@ -14,9 +14,10 @@ use rows::{Item, Rows, Valued};
 use std::alloc::{AllocError, Global};
 use std::marker::Model;
 
-/// Takes the items of all files in any order, and hands over the rows of each file in order of place. It takes room for the rows of
-/// a file up to the last place that is held, whether or not those before it are. Contracts see the number of files, and the items in
-/// the order in which they were added.
+/// Takes the items of all files in any order, and hands over the rows of each file in order of place. For each file it
+/// takes room up to the greatest place that it holds, even where rows of smaller places are still missing.
+///
+/// Contracts see the number of files, and the items in the order in which they were added.
 #[derive(Drop)]
 pub struct Collector {
     alloc: Global,
@@ -55,7 +56,12 @@ impl Collector {
         })
     }
 
-    /// Adds one item, or answers the first of its faults and holds what it held before.
+    /// Adds one item.
+    ///
+    /// # Errors
+    ///
+    /// The first fault of the item, in the order of `AddFault`; of these, `OutOfMemory` comes only where the item has
+    /// no other. The collector holds what it held before.
     pub fn add(&mut self, item: Item) -> Result<(), AddFault>
         ensures refused { IfSome (fault self.old.files self.old.items item)
             (λ why. result ≡ Err why) }
@@ -73,7 +79,12 @@ impl Collector {
         Ok(())
     }
 
-    /// Hands over the rows of each file in order of place, or names the first row that is missing.
+    /// Hands over the rows of each file, in order of place. The collector is used up.
+    ///
+    /// # Errors
+    ///
+    /// - `Missing` names the first row that is missing, by file and place.
+    /// - `OutOfMemory`: memory was refused.
     pub fn finish(self) -> Result<Vec<Rows>, FinishFault>
         ensures lists { IfOk result (λ lists. AreLists self.files self.items lists.items) }
         ensures missing { IfErr result (IsFinishFault self.files self.items) }

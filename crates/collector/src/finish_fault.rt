@@ -9,7 +9,8 @@ use thiserror::Error;
 /// Why the lists of rows were not handed over. The collector is used up.
 #[derive(Clone, Copy, Debug, Error, PartialEq, Eq)]
 pub enum FinishFault {
-    /// The least file that has no end mark or lacks a row below its count, and its least place of which no row is held.
+    /// The first file that has no end mark, or that lacks a row below the count of its end mark; and the least place of
+    /// that file of which no row is held.
     #[error("file {file} lacks place {place}")]
     Missing { file: u8, place: u32 },
     /// Memory was refused.

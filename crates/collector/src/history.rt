@@ -6,7 +6,7 @@ ghost use Rattle.collector.specs.inner.History.{items_in};
 use rows::Item;
 use std::snapshot::Snapshot;
 
-/// Nothing, or one item after others: a byte, whatever was added.
+/// The items that were added, in order: none, or one item after others. It takes one byte, however many there are.
 #[derive(Drop)]
 pub enum History {
     Start,

@@ -9,7 +9,7 @@ ghost use Rattle.rows.specs.declared.item.Item.{Item};
 ghost use Rattle.rows.specs.declared.item.Item.TheVariants.{Row, End};
 ghost use Rattle.rows.specs.declared.item.Valued.{Valued};
 
-/// Of a complete list of items, added in any order, no item is refused.
+/// Where a list of items is complete, no item of it is refused, in whatever order they are added.
 pub fn complete_is_not_refused()
     ensures { (files : ℕ) (items order held rest : List Item) (item : Item) → IsComplete files items
         → IsPermutation items order → order ≡ held ++ item ∷ rest → fault files held item ≡ None }
@@ -30,7 +30,7 @@ pub fn complete_in_any_order()
         → IsPermutation items order → IsComplete files order }
 {}
 
-/// What is found of a file is one of the items.
+/// A row that is found for a file and a place is one of the items, and so is an end mark that is found for a file.
 pub fn found_is_held()
     ensures row { (items : List Item) (file place : ℕ) (v : Valued)
         → row_at file place items ≡ Some v

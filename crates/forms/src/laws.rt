@@ -21,20 +21,20 @@ pub fn read_is_spelled<K>()
         → (read kinds form texts ≡ Ok values) ↔ Spell form texts values }
 {}
 
-/// The fault of texts is of the kind of the first thing asked of them that does not hold.
+/// Where texts are refused, the kind of their fault is that of the first thing that is asked of them and fails.
 pub fn faults_are_first<K>()
     ensures { (kinds : ℕ → FieldFault → K) (form : List Field) (texts : List (List ℕ)) (fault : K)
         → is_fine form ≡ true → read kinds form texts ≡ Err fault
         → FailsFirst (asked kinds form texts) fault }
 {}
 
-/// What is written is read again as the same values, wherever they fit.
+/// Values that fit a form are read back from what is written of them.
 pub fn written_is_read<K>()
     ensures { (kinds : ℕ → FieldFault → K) (form : List Field) (values : List Value)
         → is_fine form ≡ true → Fit form values → read kinds form (written values) ≡ Ok values }
 {}
 
-/// What is spelled fits.
+/// Values that texts spell by a form fit the form.
 pub fn spelled_fits()
     ensures { (form : List Field) (texts : List (List ℕ)) (values : List Value)
         → is_fine form ≡ true → Spell form texts values → Fit form values }
@@ -46,20 +46,20 @@ pub fn texts_are_read<K, S>()
         → (said shape ≡ Ok next) ↔ States shape next }
 {}
 
-/// It is refused with the kind of what fails first, and only then.
+/// A shape is refused with a kind exactly where what fails first in it has that kind.
 pub fn texts_fail_first<K, S>()
     ensures { (shape : Shape K S) (kind : K) → is_fine shape.form ≡ true
         → (said shape ≡ Err kind) ↔ Fails shape kind }
 {}
 
-/// The records of a grammar are read as what they state, one behind the other, and as nothing else.
+/// The records of a grammar are read as what they state one after the other, and as nothing else.
 pub fn records_are_read<R, S, K, F>()
     ensures { (grammar : Grammar R S K F) (number : ℕ) (state : S) (rows : List R) (last : S)
         → HasFineForms grammar
         → (read_all grammar number state rows ≡ Ok last) ↔ AllState grammar number state rows last }
 {}
 
-/// They are refused with the fault of the first that states nothing, and only then.
+/// The records of a grammar are refused with a fault exactly where it is that of the first record that states nothing.
 pub fn records_fail_first<R, S, K, F>()
     ensures { (grammar : Grammar R S K F) (number : ℕ) (state : S) (rows : List R) (fault : F)
         → HasFineForms grammar

@@ -99,7 +99,8 @@ impl Closer {
         }
     }
 
-    /// Sends `n` Quit marks, and gives the lane up. It serves where a thread could not be started: each Quit ends one valuer.
+    /// Sends `n` Quit marks, each of which ends one valuer, and gives the lane up. It is for a run that was refused a
+    /// thread.
     pub fn quit<R: Wait>(self, rt: &R, n: u8) -> GivenUp
         requires few { n ≤ self.takers }
         ensures quits { result ≡ n }
@@ -178,7 +179,8 @@ fn put_quits<R: Wait>(rt: &R, sender: &Sender, pass: &mut Seat, files: u8, taker
     }
 }
 
-/// A lane to which every file has ended and that was stopped. Contracts see its lane, the number of takers and what each file sent.
+/// A lane that was stopped after every file had ended. Contracts see its lane, the number of takers and what each file
+/// sent.
 #[derive(Drop)]
 pub struct Stopped {
     sender: Sender,
@@ -209,8 +211,10 @@ impl Model for Stopped {
 }
 
 impl Stopped {
-    /// What the lane handed over, which is whole. `takes` are the take ends of all valuers of this lane, in order, each done, so no
-    /// other end of the lane exists. It looks at the channel once, which is empty.
+    /// Gathers what the lane handed over, which is whole.
+    ///
+    /// `takes` are the take ends of all valuers of this lane, in order, and each of them is done. So no other end of
+    /// the lane is left, and the one look that this call takes at the channel finds it empty.
     pub fn gather<R: Wait>(self, rt: &R, takes: Vec<TakeEnd>) -> Gathered
         requires takes { AreTakesFrom self.lane self.takers 0 takes.items }
         requires done { All (λ take. is_done take.took ≡ true) takes.items }

@@ -10,24 +10,29 @@ use crate::message::Taken;
 use crate::rule::{Parts, Rule};
 use crossbeam_channel::protocol::Protocol;
 
-/// The rule of the channel that `open` makes: whatever the schedule, what the channel holds and what its passes know is a lawful lane.
+/// The rule of the channel that `open` makes: at every moment, whatever the schedule, what the channel holds and what
+/// its passes know is a lawful lane.
 pub fn the_rule_is_kept()
     ensures { (items : List Taken) (views : List (List Part))
         → ⟦<Rule as Protocol<Taken, Parts>>⟧.holds items views → IsLane items views }
 {}
 
-/// From the opening state every sequence of allowed events leaves a lawful state.
+/// From the opening state every sequence of allowed events leads to a lawful state.
 pub fn runs_stay_lawful()
     ensures { RunsStayLawful }
 {}
 
-/// What left of a file is a prefix of what the file sent: along every run in the order of leaving, and in every lawful state.
+/// Of the messages that a file sent, the first ones have left the queue, and the queue has the others, in order.
+///
+/// - `runs`: so it is along every run of the machine, the messages that left in the order of leaving.
+/// - `states`: so it is in every lawful state. Each message that left was taken once, as it was sent.
 pub fn what_left_is_a_prefix()
     ensures runs { LeftIsPrefixOfSent }
     ensures states { TakenIsPrefixOfSent }
 {}
 
-/// Each kind of step of the code is one event of the machine, allowed where it comes, or none.
+/// Each kind of step of the code is one event of the machine, allowed in the state in which it comes; or it is no
+/// event, and leaves the state as it is.
 pub fn steps_are_events()
     ensures make { MakeIsTheOpening }
     ensures split { SplitIsNoEvent }

@@ -22,8 +22,8 @@ use crate::take_end::TakeEnd;
 use crossbeam_channel::bounded_with;
 use std::alloc::{AllocError, Global};
 
-/// Opens a lane: its closer, a put end for each file and a take end for each valuer, in order. Its queue has room for `capacity`
-/// messages. No other call of the lane takes memory.
+/// Opens a lane: its closer, a put end for each file and a take end for each valuer, in order. Its queue has room for
+/// `capacity` messages. Fails only where memory is refused; no other call of the lane takes memory.
 pub fn open(
     alloc: Global,
     files: u8,

@@ -3,7 +3,7 @@
 use crate::message::Taken;
 use std::collections::LinkedList;
 
-/// A part of the lane. Each stands in the view of one pass, and in no other pass's.
+/// A part of the lane. Each part stands in the view of exactly one pass.
 pub enum Part {
     /// The lane is still being counted: so many files, takers and places in the queue.
     Count {

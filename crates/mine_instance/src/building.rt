@@ -50,8 +50,8 @@ pub fn build(
     build_with(alloc, blocks, preds, values, plan)
 }
 
-/// The instance of a model whose blocks, in the order of their identifiers, are these, with their predecessors and values. The rows that
-/// the values come from, and their numbering, may be gone. Fails only where memory is refused.
+/// The instance of a model, given its blocks in the order of their identifiers, their predecessors and their values.
+/// The rows that the values come from, and their numbering, are needed no more. Fails only where memory is refused.
 pub fn build_with(
     alloc: Global,
     blocks: Vec<Block>,

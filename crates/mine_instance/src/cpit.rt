@@ -35,8 +35,9 @@ impl Ordered for CpitCoef {
     }
 }
 
-/// An instance of the constrained pit limit problem of MineLib: each block has one destination, so one value. Contracts see it as
-/// the record of its parts, and every value keeps their ranges and orders.
+/// An instance of the constrained pit limit problem of MineLib (Espinoza, Goycoolea, Moreno and Newman 2013): each
+/// block has one destination, and so one value. Contracts see the record of its parts. Every value keeps their ranges
+/// and orders.
 #[derive(Debug, Drop)]
 pub struct Cpit {
     name: Name,
@@ -63,7 +64,8 @@ impl Model for Cpit {
 impl Cpit {
     ghost use Rattle.mine_instance.specs.CpitKept.{cpit_of};
 
-    /// The CPIT of these parts. `is_cpit` tells whether they are those of one.
+    /// The CPIT of these parts, which must fit one another and keep their ranges and orders: `is_cpit` tells whether
+    /// they do.
     pub fn new(
         name: Name,
         rate: Dec,

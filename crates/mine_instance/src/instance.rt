@@ -10,7 +10,8 @@ use pit_model::name::Name;
 use pit_units::Dec;
 use precedence::Preds;
 
-/// An instance of the production scheduling problem of MineLib. Blocks, predecessors and values stand by identifier.
+/// An instance of the production scheduling problem of MineLib (Espinoza, Goycoolea, Moreno and Newman 2013). Blocks,
+/// predecessors and values stand by identifier.
 #[derive(Debug, Drop)]
 pub struct Instance {
     pub name: Name,
@@ -39,7 +40,7 @@ impl Instance {
         self.blocks.as_slice().len()
     }
 
-    /// The number of pairs of a block and one that it has to wait for.
+    /// The number of arcs: pairs of a block and one that it has to wait for.
     pub fn arcs(&self) -> usize
         ensures { result ≡ sum_by length self.now.preds }
     {

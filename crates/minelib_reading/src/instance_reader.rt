@@ -15,12 +15,14 @@ use minelib_lines::problem::Problem;
 use std::alloc::Global;
 use text_lines::text_fault::{ReadTextError, TextFile};
 
-/// The instance that a block file, a precedence file and a production scheduling model file denote, in the lenient grammar of docs/formats.md.
+/// The instance that a block file, a precedence file and a production scheduling model file denote, in the lenient
+/// grammar of docs/formats.md.
 ///
 /// # Errors
 ///
-/// The texts denote no instance, and the answer names the first faulty line: of the blocks, then of the precedences, then of the model. Or memory
-/// was refused.
+/// - `Fault`: the texts denote no instance. It names the first faulty line: of the blocks, then of the precedences,
+///   then of the model.
+/// - `OutOfMemory`: memory was refused.
 pub fn read_instance(
     alloc: Global,
     blocks: &[u8],
@@ -58,11 +60,13 @@ fn joined(
     }
 }
 
-/// The constrained pit limit problem, of so many blocks, that its model file denotes, in the lenient grammar of docs/formats.md.
+/// The constrained pit limit problem of `n` blocks that its model file denotes, in the lenient grammar of
+/// docs/formats.md.
 ///
 /// # Errors
 ///
-/// The text denotes none, and the answer names its first faulty line; or memory was refused.
+/// - `Fault`: the text denotes none. It names the first faulty line.
+/// - `OutOfMemory`: memory was refused.
 #[tactic(auto, unfolding(crate::specs::Denotes::cpit_denoted))]
 pub fn read_cpit(alloc: Global, n: usize, text: &[u8]) -> Result<Cpit, ReadTextError>
     requires { n ≤ MAX_BLOCKS }

@@ -27,14 +27,20 @@ pub fn read_is_valid()
         → IsValid i }
 {}
 
-/// The constrained pit limit problem that a text denotes is one, with a value for each block.
+/// What a text denotes as a constrained pit limit problem of n blocks keeps the ranges and orders of one, and has n
+/// values.
 pub fn cpit_read_is_valid()
     ensures { (n : ℕ) (text : List ℕ) (c : CpitParts) → n ≤ MAX_BLOCKS → DenotesCpit n text c
         → IsCpit c × (length c.values ≡ n) }
 {}
 
-/// A line behind so many blocks states a block exactly where its fields spell that number and the block; and the line of a block its
-/// predecessors exactly where its fields spell the block, how many they are and each of them, and they are predecessors of it.
+/// A line states exactly what its fields spell.
+///
+/// - `blocks`: the line behind `before` others states a block exactly where its fields spell the number `before` and
+///   the block.
+/// - `preds`: the line of the block `own` of n blocks states predecessors exactly where its fields spell `own`, how
+///   many they are and each of them, and where they are identifiers of the n blocks, none twice and none the block's
+///   own.
 pub fn lines_state_what_they_spell()
     ensures blocks { (before : ℕ) (line : List ℕ) (b : Block) → States (block_shape before line) b
         ↔ Spell block_form (fields_of line) (block_values before b) }
@@ -43,26 +49,29 @@ pub fn lines_state_what_they_spell()
         × ArePredsOf own n ids) }
 {}
 
-/// Where blocks are read, each line that is read states one of them, in order.
+/// Where a text is read as blocks, each line that is not skipped states one of them, in order.
 pub fn block_lines_are_spelled()
     ensures { (text : List ℕ) (blocks : List Block) → blocks_in text ≡ Ok blocks
         → AllState block_grammar 1 [] (lines_in text) blocks }
 {}
 
-/// Where predecessors of n blocks are read, each line that is read states those of one block, in order.
+/// Where a text is read as the predecessors of n blocks, each line that is not skipped states those of one block, in
+/// order.
 pub fn prec_lines_are_spelled()
     ensures { (n : ℕ) (text : List ℕ) (lists : List (List ℕ)) → preds_in n text ≡ Ok lists
         → AllState (prec_grammar n) 1 [] (lines_in text) lists }
 {}
 
-/// Where a model file of n blocks is read, its lines that are read state it by the grammar, one behind the other, and nothing is lacking.
+/// Where a model file of n blocks is read, its lines that are not skipped state it by the grammar, one after the other,
+/// and no line is lacking.
 pub fn model_lines_are_spelled()
     ensures { (problem : Problem) (n : ℕ) (text : List ℕ) (d : ModelDraftView)
         → model_in problem n text ≡ Ok d
         → AreModelLines problem n (lines_in text) d }
 {}
 
-/// Lines that state a model by the grammar are read as it, header keys in any order and numbers in any spelling.
+/// Lines that state a model by the grammar are read as that model. Header keys may stand in any order, and numbers in
+/// any spelling.
 pub fn spelled_models_are_read()
     ensures { (problem : Problem) (n : ℕ) (text : List ℕ) (d : ModelDraftView)
         → AreModelLines problem n (lines_in text) d → model_in problem n text ≡ Ok d }
@@ -86,22 +95,22 @@ pub fn spelled_blocks_are_read()
         → blocks_in text ≡ Ok blocks }
 {}
 
-/// Lines that state the predecessors of n blocks, one a block, are read as these.
+/// Lines that state the predecessors of n blocks, one line for each block, are read as these.
 pub fn spelled_preds_are_read()
     ensures { (n : ℕ) (text : List ℕ) (lists : List (List ℕ)) → length lists ≡ n
         → AllState (prec_grammar n) 1 [] (lines_in text) lists → preds_in n text ≡ Ok lists }
 {}
 
-/// A faulty line of a block file is the first that states no block behind those before it, and its
-/// kind that of the first thing asked of it that does not hold.
+/// The faulty line of a block file is the first that states no block behind those before it. Its kind is that of the
+/// first thing that is asked of it and fails.
 pub fn faulty_lines_spell_no_block()
     ensures { (text : List ℕ) (fault : LineFault) → blocks_in text ≡ Err fault
         → IsFirstFault block_grammar 1 [] (lines_in text) fault }
 {}
 
-/// A faulty line of a precedence file is the first that states no predecessors behind those before
-/// it, and its kind that of the first thing asked of it that does not hold; or all lines state
-/// some, and lines are lacking at the end.
+/// The fault of a precedence file is one of two. Either its line is the first that states no predecessors behind those
+/// before it, and its kind is that of the first thing that is asked of the line and fails. Or all lines state
+/// predecessors, and lines are lacking at the end.
 pub fn faulty_lines_spell_no_preds()
     ensures { (n : ℕ) (text : List ℕ) (fault : LineFault) → preds_in n text ≡ Err fault
         → IsFirstFault (prec_grammar n) 1 [] (lines_in text) fault ⊎ LacksLines n text fault }

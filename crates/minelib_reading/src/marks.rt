@@ -4,7 +4,8 @@ ghost use Rattle.std.specs.Prelude.{◌≡◌, ◌<◌, length, vec_len, All};
 ghost use Rattle.minelib_reading.specs.inner.Marks.{AreClear, AreMarked};
 ghost use Rattle.minelib_reading.specs.PrecLines.{all_differ};
 
-/// Whether no number stands twice. `marks` is a table with a place for each number, with no place marked before the call or after it.
+/// Whether no number stands twice. `marks` is a table with a place for each number. No place is marked when the call
+/// begins, and none when it ends.
 pub fn all_differ(marks: &mut Vec<bool>, ids: &[u32]) -> bool
     requires below { All (λ id. id < vec_len marks.old) ids.now }
     requires clear { AreClear marks.old.items }

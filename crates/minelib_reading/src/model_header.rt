@@ -30,8 +30,8 @@ pub fn blank_header(problem: Problem) -> Header
     }
 }
 
-/// The number that a header key with this value states, of so many blocks: 0 where it states no
-/// more than that it stands.
+/// The number that the value of a header key states, in a file of so many blocks: 0 for a key whose value only has to
+/// be right, such as NBLOCKS.
 pub fn number_in(
     problem: Problem,
     blocks: usize,

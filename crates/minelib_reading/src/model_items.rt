@@ -25,7 +25,7 @@ use text_lines::text_fields::{
     count_fields, first_millionths, first_whole, has_field, kind_by_count, next_field,
 };
 
-/// Reads the values of a block into `row`, one for each destination, where so many lines stand before.
+/// Reads the values of a block, one for each destination, into `row`, from a line behind so many others.
 pub fn values_in(
     blocks: usize,
     destinations: u8,

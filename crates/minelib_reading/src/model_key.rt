@@ -36,7 +36,7 @@ pub enum ModelKey {
     Section(Section),
 }
 
-/// The number that each header key so far states: 0 where it states no more than that it stands.
+/// The numbers that the header keys have stated so far. A key whose value only has to be right, such as NBLOCKS, has 0.
 #[derive(Clone, Copy, Debug, PartialEq, Eq)]
 pub struct Header {
     // by the place of the key

@@ -67,8 +67,11 @@ pub fn even_zones()
     mine_instance::laws::even_zones();
 }
 
-/// A faulty line of a model file of n blocks is the first that states nothing behind those before it, of the kind of what fails first
-/// there, and the first behind which nothing makes it a model; or all lines begin a model, and lines are lacking at the end.
+/// The fault of a model file of n blocks is one of two.
+///
+/// - Its line is the first that states nothing behind those before it, and its kind is that of what fails first there.
+///   The lines before it begin a model; with it, whatever stands behind, they begin none.
+/// - Or all lines begin a model, they state none, and something is missing at the end.
 pub fn faulty_lines_begin_no_model()
     ensures { (problem : Problem) (n : ℕ) (text : List ℕ) (fault : LineFault) → n ≤ MAX_BLOCKS
         → model_in problem n text ≡ Err fault
@@ -76,7 +79,7 @@ pub fn faulty_lines_begin_no_model()
         × IsFirstSpoiled problem n (lines_in text) fault.line) ⊎ EndsEarly problem n text fault }
 {}
 
-/// Lines are what stands between LFs, a last one without LF as well; fields are what stands between runs of blanks.
+/// Lines are what stands between LFs; the last one may lack its LF. Fields are what stands between runs of blanks.
 pub fn lines_and_fields()
     ensures lines { (lines : List (List ℕ)) → All IsLineText lines
         → lines_of (text_of lines) ≡ lines }

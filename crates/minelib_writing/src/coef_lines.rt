@@ -38,7 +38,8 @@ pub trait CoefLine {
     fn put_rest(&self, alloc: Global, out: &mut Vec<u8>) -> Result<(), AllocError>
         ensures { OnOk result (out.new.items ≡ out.old.items ++ rest self.now) };
 
-    /// Makes the rest of another coefficient's line that of this one where they differ in digits alone, and answers whether they do.
+    /// Rewrites `text`, which is the rest of another coefficient's line, to the rest of this one's, where the two
+    /// differ in digits alone. Returns whether they do.
     fn rewrite(&self, other: &Self, text: &mut [u8]) -> bool
         requires { text.old ≡ rest other.now }
         ensures { IsTrue result → text.new ≡ rest self.now };

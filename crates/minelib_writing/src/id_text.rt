@@ -7,7 +7,7 @@ ghost use Rattle.minelib_writing.specs.inner.Spaced.{spaced, start_in, AreStarts
 use crate::fields::put_whole_behind;
 use std::alloc::{AllocError, Global};
 
-/// ` 0 1 2 ..`, from which a run of identifiers is one copy.
+/// The text ` 0 1 2 ..` of identifiers. A run of them is written by one copy of a part of it.
 #[derive(Drop)]
 pub struct IdText {
     text: Vec<u8>,

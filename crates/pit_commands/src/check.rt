@@ -17,11 +17,14 @@ use zone_csv::feed::Feed;
 use zone_csv::file_feed::FileFeed;
 use zone_csv::slurp::{GREATEST_LIMIT, SlurpFault, slurp};
 
-/// Reads `BASE.blocks`, `BASE.prec` and `BASE.pcpsp`, then `BASE.cpit` if it can be opened, and then their texts. Appends the line of
-/// their counts to `out`, or the line of the first fault to `err`, and answers the status that the program ends with.
+/// Reads the files of an instance: `BASE.blocks`, `BASE.prec` and `BASE.pcpsp`, then `BASE.cpit` if it can be opened,
+/// and then their texts. Appends the line of their counts to `out`, or the line of the first fault to `err`; only one
+/// of the two grows. Returns the status that the program ends with:
 ///
-/// The status is 0 where the counts were appended, 1 where a text is too long or has a faulty line, and 3 where a file cannot be opened or read.
-/// Only one of the two vectors grows. For want of memory the status is 4, and both are as they were.
+/// - 0: the counts were appended;
+/// - 1: a text is too long, or has a faulty line;
+/// - 3: a file cannot be opened or read;
+/// - 4: memory was refused, and both vectors are as they were.
 #[tactic(auto, using(crate::proofs::CheckFaults::status_listed, crate::proofs::CheckFaults::fault_told))]
 pub fn check_files<R: Files>(
     rt: &R,

@@ -31,13 +31,16 @@ use zone_csv::feed::Feed;
 use zone_csv::file_feed::FileFeed;
 use zone_csv::slurp::{SlurpFault, slurp};
 
-/// Compiles the zone files, which are opened in order, and writes the texts of the instance to their files, `BASE.blocks` and so on, each of
-/// which replaces what is there. Appends the line `rows N` to `out`, N being the number of rows over all zone files, or the line of the
-/// refusal to `err`, and answers the status that the program ends with.
+/// Compiles the zone files, which are opened in order, and writes the texts of the instance to their files:
+/// `BASE.blocks` and so on, each in place of what is there. Returns the status that the program ends with.
 ///
-/// The first zone file that cannot be opened is refused before anything else. No file is begun before all blocks are known to be different;
-/// where a file then fails, those before it are whole. Only one of the two vectors grows. For want of memory the status is that of memory, and
-/// both are as they were.
+/// Where all is written it appends the line `rows N` to `out`, N being the number of rows over all zone files; else the
+/// line of the refusal to `err`. Only one of the two grows. For want of memory the status is that of memory, and both
+/// are as they were.
+///
+/// - The first zone file that cannot be opened is refused before anything else.
+/// - No file is begun before all blocks are known to be different.
+/// - Where a file then fails, those before it are whole.
 pub fn compile_files<R: Files + Threads + Wait + Sync>(
     rt: &R,
     alloc: Global,
@@ -106,8 +109,8 @@ fn run_on<R: Threads + Wait + Sync, F: Feed + Send + Drop, S: Sink>(
 
 /// The plan in the file at this path; or the status of its refusal, with its line appended to `lines`.
 ///
-/// A file that cannot be opened or read is `plan: FeedFailed`. Where memory is refused the status is that of memory, and `lines` is as it
-/// was.
+/// A file that cannot be opened or read is `plan: FeedFailed`. Where memory is refused the status is that of memory,
+/// and `lines` is as it was.
 #[tactic(auto, using(crate::proofs::Ends::plan_file_refused, crate::proofs::Ends::plan_text_refused))]
 pub fn read_plan_file<R: Files>(
     rt: &R,

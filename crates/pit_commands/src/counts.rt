@@ -62,8 +62,9 @@ impl Texts {
     ///
     /// # Errors
     ///
-    /// The texts denote none, and the answer names the first faulty line: of the blocks, the precedences, the model, then of the constrained pit
-    /// limit problem. Or memory was refused.
+    /// - `Fault`: the texts denote none. It names the first faulty line: of the blocks, the precedences, the model,
+    ///   then of the constrained pit limit problem.
+    /// - `OutOfMemory`: memory was refused.
     #[tactic(auto, unfolding(crate::specs::Counts::counted))]
     pub fn counts(&self, alloc: Global) -> Result<Counts, ReadTextError>
         ensures { Reads result (counted self.now) }

@@ -79,7 +79,8 @@ fn status_of(refusal: &Refusal) -> u8
     }
 }
 
-/// Appends a line of these words, and answers this status; or that of memory, where it is refused, and then `lines` is as it was.
+/// Appends a line of these words, and returns this status. Where memory is refused it returns the status of memory, and
+/// `lines` is as it was.
 pub fn refuse_with(alloc: Global, words: &str, status: u8, lines: &mut Vec<u8>) -> u8
     ensures { EndsWith status words.now lines.old.items lines.new.items result }
 {

@@ -13,11 +13,12 @@ use pit_compile::settings::Settings;
 use pit_model::ranges::{MAX_CAPACITY, MAX_VALUERS};
 use std::alloc::{AllocError, Global};
 
-/// The job that these words state, the program's name first.
+/// The job that these words state. The first word is the program's name.
 ///
 /// # Errors
 ///
-/// `Line` where `clap` refuses the words or they ask for help or the version, `OutOfMemory` where memory is refused, to `clap` too.
+/// - `Line`: `clap` refuses the words, or they ask for help or the version.
+/// - `OutOfMemory`: memory was refused, here or within `clap`.
 pub fn job(alloc: Global, words: &[String]) -> Result<Job, JobFault>
     ensures accepted { IfOk result (λ _. fault_of program (map string_bytes words.now) ≡ []) }
     ensures stated { IfOk result (StatesJob (map string_bytes words.now)) }

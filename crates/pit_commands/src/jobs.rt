@@ -9,8 +9,8 @@ use thiserror::Error;
 /// A job of the program.
 #[derive(Debug, Drop, PartialEq, Eq)]
 pub enum Job {
-    /// Compiles the plan in the file `plan` with the zone files `zones`, in order, of which there is at least one, and writes the files of the
-    /// instance, whose paths begin with `out`.
+    /// Compiles the plan in the file `plan` with the zone files `zones`, in order, and writes the files of the
+    /// instance, whose paths begin with `out`. There is at least one zone file.
     Compile {
         plan: String,
         out: String,

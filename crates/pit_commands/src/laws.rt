@@ -2,7 +2,7 @@
 ghost use Rattle.std.specs.Prelude.{◌≡◌, [], ◌∷◌, ◌++◌, length, codes, All};
 ghost use Rattle.pit_commands.specs.Pieces.{cuts_of, pieces_of, plan_of, zones_of, woven, IsEnded};
 
-/// The plan, and then a cut and a zone file in turn, are the input.
+/// The input is its plan, and then each cut with the zone file behind it.
 pub fn pieces_join_to_the_input(input: &[u8])
     ensures first { pieces_of input.now ≡ plan_of input.now ∷ zones_of input.now }
     ensures counted { length (zones_of input.now) ≡ length (cuts_of input.now) }
@@ -20,8 +20,8 @@ pub fn uncut_text_is_the_plan(text: &[u8])
     ensures { pieces_of text.now ≡ text.now ∷ [] }
 {}
 
-/// A text that has no line that cuts and is ended comes back as the first piece, before the pieces of what stands behind
-/// a cut. So texts that are joined by cuts are the pieces of what they are joined to.
+/// A text without a line that cuts, which is ended and stands before a cut, is the first piece; the others are the
+/// pieces of what stands behind the cut. So texts that are joined by cuts come back as the pieces.
 pub fn joined_text_comes_back(text: &[u8], rest: &[u8])
     requires uncut { cuts_of text.now ≡ [] }
     requires ended { IsEnded text.now }

@@ -37,9 +37,11 @@ pub fn read_model<R: Input>(rt: &R, alloc: Global, lines: &mut Vec<u8>) -> Resul
     read_model_from(&mut rt.reader(), alloc, lines)
 }
 
-/// Reads the model from an input: all its bytes; or answers the status of its refusal, with the line of the fault appended to `lines`.
+/// Reads all bytes of an input, and returns the model in them. Where it is refused it returns the status of the
+/// refusal, and appends the line of the fault to `lines`.
 ///
-/// An input of more zone files than its plan has zones is refused here, as the run would refuse it: so no list of them is held.
+/// An input of more zone files than its plan has zones is refused here, as a run would refuse it, so that no list of
+/// them is held.
 #[tactic(auto, using(crate::proofs::Ends::input_refused, crate::proofs::Ends::files_refused, crate::proofs::Ends::piece_refused))]
 pub fn read_model_from<T: Read>(
     reader: &mut T,

@@ -20,8 +20,8 @@ use zone_csv::feed::FeedFault;
 
 /// What `opener` gives at each of these paths, in order; or the status of a refusal, with its line appended to `lines`.
 ///
-/// The first path that cannot be opened is named, by its number from 0, and no further one is opened. Where memory is refused the status
-/// is that of memory, and `lines` is as it was.
+/// The first path that cannot be opened is named by its number, from 0, and no further one is opened. Where memory is
+/// refused the status is that of memory, and `lines` is as it was.
 pub(crate) fn open_all<F: Drop, O: Fn(&str) -> Result<F, FeedFault>>(
     alloc: Global,
     paths: &[String],

@@ -7,11 +7,11 @@ ghost use Rattle.pit_commands.specs.Output.{IsAppendCut};
 use minelib_text::sink::SinkFault;
 use std::io::{ErrorKind, Write};
 
-/// Writes all these bytes. A write that a signal interrupts is tried again, and one that takes no byte has failed.
+/// Writes all these bytes. A write that a signal interrupts is tried again; a write that takes no byte has failed.
 ///
 /// # Errors
 ///
-/// A write failed, whatever the system's reason. The output took the front of the bytes, and not all of them.
+/// A write failed, for whatever reason of the system's. The output took a front of the bytes, and not all of them.
 #[tactic(auto, using(crate::proofs::Outputs::took_none, crate::proofs::Outputs::took_more, crate::proofs::Outputs::took_all, crate::proofs::Outputs::cut_short))]
 pub fn write_whole<T: Write>(output: &mut T, bytes: &[u8]) -> Result<(), SinkFault>
     ensures whole { OnOk result (Appends (T.contents output.old) (T.contents output.new)

@@ -40,7 +40,8 @@ impl Pieces {
 }
 
 /// Cuts an input at each of its lines that is `--`, ended by LF or CR LF, or by the end of the input. What stands
-/// before the first such line is the plan, and behind each of them begins a zone file. Its only error is want of memory.
+/// before the first such line is the plan, and behind each of them begins a zone file. Fails only where memory is
+/// refused.
 pub fn cut(alloc: Global, input: &[u8]) -> Result<Pieces, AllocError>
     ensures plan { IfOk result (λ pieces. pieces.plan ≡ plan_of input.now) }
     ensures zones { IfOk result (λ pieces. pieces.zones ≡ zones_of input.now) }
@@ -51,8 +52,8 @@ pub fn cut(alloc: Global, input: &[u8]) -> Result<Pieces, AllocError>
     }
 }
 
-/// Cuts an input as `cut` does, into at most so many zone files; or answers `None` where it has more of them, and so never holds
-/// more than that. Its only error is want of memory.
+/// Cuts an input as `cut` does, where that makes at most `most` zone files. Where it would make more the answer is
+/// `None`: so no more than `most` are ever held. Fails only where memory is refused.
 pub fn cut_at_most(alloc: Global, input: &[u8], most: usize) -> Result<Option<Pieces>, AllocError>
     ensures plan { IfOk result (λ found. IfSome found (λ pieces. pieces.plan ≡ plan_of input.now)) }
     ensures zones { IfOk result (λ found. IfSome found
@@ -75,7 +76,7 @@ pub fn cut_at_most(alloc: Global, input: &[u8], most: usize) -> Result<Option<Pi
     Ok(Some(Pieces { plan, zones }))
 }
 
-/// The plan of an input, which `cut` copies.
+/// The plan of an input, as a part of the input itself. `cut` copies it.
 pub fn plan_text(input: &[u8]) -> &[u8]
     ensures { result.now ≡ plan_of input.now }
 {

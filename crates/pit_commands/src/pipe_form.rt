@@ -28,13 +28,17 @@ pub const SETTINGS: Settings = Settings {
     capacity: 64,
 };
 
-/// Appends what the pipe form prints of the model of a plan and its zone files, and answers what went through the lane. Any refusal leaves
-/// `out` as it was.
+/// Appends what the pipe form prints of the model of a plan and its zone files. Returns what went through the lane.
 ///
 /// # Errors
 ///
-/// The first that applies of: `Settings` where the zone files or the destinations are not the plan's; `NoThread` where a thread could not
-/// be started; the fault of the least zone file that has one; the first block that stands a second time; or that memory was refused.
+/// `out` is as it was. The error is the first that applies of these; behind `Settings`, `OutOfMemory` may come in place
+/// of any.
+///
+/// - `Settings`: the zone files or the destinations are not the plan's.
+/// - `NoThread`: a thread could not be started.
+/// - `TooLong` or `Row`: the first zone file that has a fault.
+/// - `Same`: a block stands twice.
 pub fn pipe<R: Threads + Wait + Sync>(
     rt: &R,
     alloc: Global,

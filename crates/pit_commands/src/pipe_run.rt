@@ -14,11 +14,11 @@ use std::alloc::Global;
 use std::sync::Wait;
 use std::thread::Threads;
 
-/// Appends what the pipe form prints of the model to `text`, or the line of its refusal to `lines`, and answers the status that the program ends
-/// with.
+/// Appends what the pipe form prints of the model to `text`, or the line of its refusal to `lines`. Returns the status
+/// that the program ends with.
 ///
-/// Only one of the two vectors grows. For want of memory the status is that of memory, and both are as they were; a thread that could not be
-/// started has that status too, and a line.
+/// Only one of the two vectors grows. For want of memory the status is that of memory, and both are as they were. Where
+/// a thread could not be started the status is the same, and there is a line.
 pub fn run_pipe<R: Threads + Wait + Sync>(
     rt: &R,
     alloc: Global,

@@ -21,11 +21,14 @@ pub const DEVICE: u8 = 3;
 /// Memory or a thread was refused.
 pub const RESOURCES: u8 = 4;
 
-/// Writes what a run left for standard output and standard error, and answers the status that the program ends with.
+/// Writes what a run left for standard output and standard error, and returns the status that the program ends with.
 ///
-/// A status other than 0 writes nothing to standard output; where no line could be made for want of memory, the line is
-/// `pitc: OutOfMemory`. Where standard output does not take the whole text, the status is that of a device. That standard error fails
-/// changes nothing.
+/// - With the status 0 it writes `text` to standard output. Where that does not take the whole text, the status
+///   returned is that of a device, and the line of the fault goes to standard error.
+/// - With another status it writes `lines` to standard error and nothing to standard output. Where there is no line,
+///   since there was no memory for one, it writes `pitc: OutOfMemory`.
+///
+/// A failure of standard error changes nothing.
 pub fn finish<O: Write, E: Write>(
     output: &mut O,
     errors: &mut E,

@@ -40,8 +40,8 @@ impl Task {
         }
     }
 
-    /// Compiles the model with these destinations, leaves what is to be printed in one of the two vectors, and answers the status that the
-    /// program ends with.
+    /// Compiles the model with these destinations, and returns the status that the program ends with. Where that is 0
+    /// it appends to `text` what standard output is to have, and else to `lines` what standard error is to have.
     pub fn run<R: Files + Threads + Wait + Sync>(
         &self,
         rt: &R,

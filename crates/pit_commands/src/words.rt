@@ -10,10 +10,11 @@ use std::env;
 use std::io::ErrorKind;
 use std::rt::Env;
 
-/// The words of the command line, the program's name first; or the status that the program ends with, with its line appended to `lines`.
+/// The words of the command line, the program's name first; or the status that the program ends with, with its line
+/// appended to `lines`.
 ///
-/// A word that is not UTF-8 is refused, and so is a program's name that is not. Where memory is refused the status is that of memory, and
-/// `lines` is as it was.
+/// A word that is not UTF-8 is refused, the program's name too. Where memory is refused the status is that of memory,
+/// and `lines` is as it was.
 pub fn words_of<R: Env + Alloc<A = Global>>(
     rt: &R,
     alloc: Global,

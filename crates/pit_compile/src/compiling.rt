@@ -43,14 +43,20 @@ pub struct Compiled {
     pub cpit: Cpit,
 }
 
-/// Reads and values the zone files over threads, and builds the instance of the plan and these files. At most `starts` threads are started:
-/// one more counts as refused. The feeds are used up.
+/// Reads and values the zone files over threads, and builds the instance of the plan and these files. At most `starts`
+/// threads are started: one more counts as refused. The feeds are used up.
 ///
 /// # Errors
 ///
-/// The first that applies of: the least fault of the settings; that memory was refused before the first start; `NoThread`; the answer of
-/// the least file whose reader did not finish; that a valuer was refused memory; the first row that repeats another, or that memory was
-/// refused in collecting or numbering; that memory was refused for the instance.
+/// The first that applies of
+///
+/// - `Settings` with the first fault of the settings, in the order of `SettingsFault`;
+/// - `OutOfMemory`: memory was refused before the first start;
+/// - `NoThread`: the start of a thread was refused;
+/// - `FeedFailed`, `TooLong`, `Row` or `OutOfMemory`: the answer of the first file whose reader did not finish;
+/// - `OutOfMemory`: a valuer was refused memory;
+/// - `Same` with the first row that repeats another one, or `OutOfMemory` in collecting or numbering the rows;
+/// - `OutOfMemory`: memory for the instance was refused.
 pub fn compile<R: Threads + Wait + Sync, F: Feed + Send + Drop, G: Gate + Sync>(
     rt: &R,
     alloc: Global,

@@ -17,8 +17,12 @@ use precedence::preds;
 use rows::RowLists;
 use std::alloc::Global;
 
-/// The instance of these rows, which are given up once their values are taken. Fails with `Same` where a block stands twice, or where memory is
-/// refused.
+/// The instance of these rows. The rows are given up as soon as their values are taken.
+///
+/// # Errors
+///
+/// - `Same`: a block stands twice.
+/// - `OutOfMemory`: memory was refused.
 pub fn instance_of(alloc: Global, rows: RowLists, plan: &Plan) -> Result<Instance, Refusal>
     requires { AreModelRows plan.now rows }
     ensures apart { IfOk result (λ _. AreApart (blocks_of_rows rows)) }

@@ -13,8 +13,12 @@ use precedence::{NumberError, Numbering, number_blocks};
 use rows::RowLists;
 use std::alloc::Global;
 
-/// The blocks of the rows by identifier. Fails with `Same` where a block stands twice, naming the first row that repeats another and
-/// that one, or where memory is refused.
+/// The blocks of the rows by identifier.
+///
+/// # Errors
+///
+/// - `Same`: a block stands twice. It names the first row that repeats another one, and that other.
+/// - `OutOfMemory`: memory was refused.
 pub fn numbered(alloc: Global, rows: &RowLists) -> Result<Numbering, Refusal>
     requires few { length rows.now ≤ MAX_BLOCKS }
     requires placed { All HasPlace rows.now }

@@ -7,7 +7,7 @@ ghost use Rattle.pit_model.specs.declared.ranges.TheConstants.{MAX_ZONES};
 use crate::refusal::Refusal;
 use run_threads::ReadFault;
 
-/// Fails with the answer of the least file whose reader did not finish.
+/// Fails with the answer of the first file whose reader did not finish.
 pub fn require_read(answers: &[Result<(), ReadFault>]) -> Result<(), Refusal>
     requires { length answers.now ≤ MAX_ZONES }
     ensures read { OnOk result (refusal_in 0 answers.now ≡ None) }

@@ -46,7 +46,7 @@ pub enum Refusal {
     TooLong { file: u8 },
     /// A zone file has a faulty row.
     Row { file: u8, fault: RowFault },
-    /// A block stands a second time: its first row, and the first row of all that repeats another one.
+    /// A block stands twice: the first row of all that repeats another one (`again`), and that other (`first`).
     Same { first: RowAt, again: RowAt },
     /// The sink of this text refused a call.
     SinkFailed { which: TextName },

@@ -25,16 +25,17 @@ use zone_csv::feed::Feed;
 /// How many threads a run may start: one for each zone file and each valuer, where there are 64 of each.
 pub const MOST_STARTS: u32 = 128;
 
-/// Reads and values the zone files over threads, builds the instance of the plan and these files, and writes its five texts to the sinks,
-/// which are begun only when all blocks are known to be different. Answers what went through the lane. The feeds are used up.
+/// Reads and values the zone files over threads, builds the instance of the plan and these files, and writes its five
+/// texts to the sinks. It begins the sinks only when all blocks are known to be different. Returns what went through
+/// the lane. The feeds are used up.
 ///
 /// # Errors
 ///
-/// The first that applies of: the least fault of the settings; that memory was refused before the first start; `NoThread`; the answer of
-/// the least file whose reader did not finish; that a valuer was refused memory; the first row that repeats another, or that memory was
-/// refused in collecting or numbering; that memory was refused for the instance; and of each sink in turn, that it failed or that memory
-/// was refused. Up to the instance each sink is as it was. A refusal in writing leaves the sinks before that one with their texts, that one as
-/// it was or begun with the front of its text, and those behind it as they were.
+/// The first that applies of
+///
+/// - those of `compile` with `MOST_STARTS` starts: every sink is as it was;
+/// - `SinkFailed` where a sink refused a call, or `OutOfMemory` in writing. The sinks before that one hold their texts.
+///   That one is as it was, or begun with a front of its text. Those behind it are as they were.
 pub fn run<R: Threads + Wait + Sync, F: Feed + Send + Drop, G: Gate + Sync, S: Sink>(
     rt: &R,
     alloc: Global,
@@ -69,7 +70,7 @@ pub fn run<R: Threads + Wait + Sync, F: Feed + Send + Drop, G: Gate + Sync, S: S
     )
 }
 
-/// The same, where at most `starts` threads are started: one more counts as refused.
+/// The same as `run`, where at most `starts` threads are started: one more counts as refused.
 pub fn run_limited<R: Threads + Wait + Sync, F: Feed + Send + Drop, G: Gate + Sync, S: Sink>(
     rt: &R,
     alloc: Global,

@@ -51,7 +51,7 @@ impl fmt::Display for SettingsFault {
     }
 }
 
-/// Fails with the least kind of fault that the settings have, for so many zone files.
+/// Fails with the first fault of the settings, in the order of `SettingsFault`, for so many zone files.
 pub fn require_settings(
     files: usize,
     plan: &Plan,

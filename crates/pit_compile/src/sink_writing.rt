@@ -20,8 +20,11 @@ use std::alloc::Global;
 ///
 /// # Errors
 ///
-/// `SinkFailed` where a sink refused a call, `OutOfMemory` where memory was refused. The sinks before that one hold their texts, it is as it
-/// was or was begun and holds the front of its text, and those behind it are as they were.
+/// - `SinkFailed`: a sink refused a call.
+/// - `OutOfMemory`: memory was refused.
+///
+/// The sinks before that one hold their texts. That one is as it was, or begun with a front of its text. Those behind
+/// it are as they were.
 pub fn write_texts<S: Sink>(
     alloc: Global,
     instance: &Instance,

@@ -12,7 +12,8 @@ use crate::formula::Formula;
 /// What values a block: a closure on the heap, which may go to another thread and be called from several at once.
 pub type Valuer = Box<dyn Fn(Block) -> i128 + Send + Sync>;
 
-/// A destination: its formula, and a closure beside the fact that it may be called on every block and then answers the formula's worth.
+/// A destination: its formula, and a closure that may be called on every block and answers the formula's worth. Beside
+/// the two it keeps the fact that this is so.
 #[derive(Drop)]
 pub struct Destination {
     formula: Formula,
@@ -25,8 +26,8 @@ pub struct Destination {
 impl Destination {
     ghost use Rattle.pit_model.specs.Destinations.{formula_of, valuer_of};
 
-    /// A destination with this formula, and a closure that may be called on every block and then answers the formula's worth. It takes no
-    /// memory.
+    /// A destination with this formula and this closure, which may be called on every block and answers the formula's
+    /// worth. It takes no memory.
     pub fn new(formula: Formula, valuer: Valuer) -> Destination
         requires ruled { IsRuled formula }
         requires callable { Valuer.IsAlwaysCallable valuer }

@@ -11,8 +11,10 @@ use crate::name::Name;
 use crate::worth::{dump_worth, leach_worth, mill_worth};
 use std::alloc::{AllocError, Global};
 
-/// How a destination values a block. That its numbers are in range is a condition of the functions that use them; those of a plan are. `==`
-/// tells whether two formulas are of one kind, with the same numbers.
+/// How a destination values a block. The numbers of a plan's formulas are in range; functions that use a formula
+/// require it.
+///
+/// `==` tells whether two formulas are of one kind and have the same numbers.
 #[derive(Debug, Drop)]
 pub enum Formula {
     /// A mill: it recovers `recovery` per mille of the metal, 0 to 1000, which sells for `price` cents per kilogram, 0 to 10^8, and it costs

@@ -28,14 +28,16 @@ pub fn worths_are_in_range()
     ensures { (f : Formula) (b : Block) → IsRuled f → IsWorth (worth f b) }
 {}
 
-/// A text states a plan exactly where its records state it, one behind the other, and each part that must be there is.
+/// A text states a plan exactly where its records state it, one after the other, and no part that must be there is
+/// missing.
 pub fn plans_are_spelled()
     ensures { (text : List ℕ) (p : PlanParts)
         → (planned text ≡ Ok p) ↔ SpellPlan (records_of text) p }
 {}
 
-/// A text has a fault exactly where that record is the first that states nothing behind those before it, with the kind of what fails
-/// first in it; or where all its records state something and a part is missing.
+/// A text has a fault exactly in two cases. Either the fault's record is the first that states nothing behind those
+/// before it, and its kind is that of what fails first in that record. Or all records state something, and a part is
+/// missing.
 pub fn faults_are_first()
     ensures { (text : List ℕ) (fault : PlanFault)
         → (planned text ≡ Err fault)
@@ -49,7 +51,7 @@ pub fn limits_are_kept()
     ensures { (l : Limit) (ms : List Limit) → IsPermutation (l ∷ ms) (with_limit l ms) }
 {}
 
-/// What records spell keeps what every plan keeps.
+/// A plan that records spell keeps what every plan keeps.
 pub fn spelled_is_plan()
     ensures { (rows : List (List (List ℕ))) (p : PlanParts) → SpellPlan rows p → IsPlan p }
 {}

@@ -8,8 +8,11 @@ use std::alloc::{AllocError, AllocFailed};
 use std::fmt;
 use thiserror::Error;
 
-/// What is wrong with a record of a plan. Where several kinds apply, the record's cells are looked at in the order of these variants,
-/// its numbers and names left to right.
+/// What is wrong with a record of a plan. Where several kinds apply, the first in this order is meant:
+///
+/// - `Key`, `Width`;
+/// - the numbers and names left to right, each by `Number`, `TooFine`, `Range` and `Name`;
+/// - `Twice`, `Order`, `TooMany`.
 #[derive(Clone, Copy, Debug, Error, PartialEq, Eq)]
 pub enum PlanFaultKind {
     /// The record's first cell is no key.

@@ -14,10 +14,15 @@ use std::alloc::Global;
 
 /// The plan that a text states.
 ///
-/// The text is comma-separated records, cells without the spaces and tabs at both ends, empty cells at a record's end left out, records
-/// of no cells counted and skipped. A record begins with a key, in upper or lower case: `name`, `grid`, `zone`, the word of a formula,
-/// `periods`, `rate`, `resource` or `limit`. The answer is the plan, or the number and kind of the first faulty record; the one other
-/// refusal is that of memory.
+/// The text has records of comma-separated cells. Spaces and tabs at both ends of a cell do not count, nor do empty
+/// cells at the end of a record. A record without cells is counted and skipped. Every other record begins with a key,
+/// in upper or lower case: `name`, `grid`, `zone`, the word of a formula, `periods`, `rate`, `resource` or `limit`.
+///
+/// # Errors
+///
+/// - `Fault`: the text states no plan. It has the number and the kind of the first faulty record; where a part is
+///   missing, the number behind the last record.
+/// - `OutOfMemory`: memory was refused.
 #[tactic(auto, using(crate::proofs::PlanSteps::all_planned))]
 pub fn read_plan(alloc: Global, text: &[u8]) -> Result<Plan, ReadPlanError>
     ensures { Reads result (planned text.now) }

@@ -9,8 +9,10 @@ const MOST_DIGITS: usize = 18;
 // The most whole units whose millionths are surely a number of 64 bits.
 const MOST_UNITS: u64 = 1_000_000_000_000;
 
-/// The whole number that the digits at a text's front make, and what stands behind them: of one to 18 digits. A text with more of
-/// them goes on with a digit, and one that begins with none gives `None`.
+/// Reads the whole number at the front of a text: the digits that the text begins with, 18 of them at most. Returns the
+/// number, and the text behind these digits. Behind 18 digits that text may begin with a further digit.
+///
+/// `None` says that the text does not begin with a digit.
 #[inline(always)]
 pub fn front_whole(text: &[u8]) -> Option<(u64, &[u8])>
     ensures whole { IfSome result (λ x. BeginsWith 0 text.now (pos (x.0 * 10 ^ 6)) x.1.now) }
@@ -24,9 +26,12 @@ pub fn front_whole(text: &[u8]) -> Option<(u64, &[u8])>
     Some((number, rest))
 }
 
-/// The millionths of the decimal that a text begins with, and what stands behind it: as most are written, with a digit before the
-/// point, no plus, no more than `max_decimals` decimals and 10^12 units either side of zero. All with one to 12 digits before the
-/// point are taken; `None` says that the text begins otherwise.
+/// Reads the decimal at the front of a text, where it is written as most are: an optional minus, digits, and optionally
+/// a point with at most `max_decimals` digits behind it. Returns its millionths, and the text behind the decimal. At
+/// most 18 digits are read before the point, and what they make may be at most 10^12.
+///
+/// A decimal with 1 to 12 digits before the point and at most `max_decimals` behind it is always read. `None` says that
+/// the text begins in another way, as with a plus or a point. (`parse_dec` reads a whole text in any spelling.)
 #[inline]
 pub fn front_dec(text: &[u8], max_decimals: u8) -> Option<(i64, &[u8])>
     requires { max_decimals ≤ 6 }

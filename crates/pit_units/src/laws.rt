@@ -11,7 +11,7 @@ pub fn written_is_read()
     ensures { (z : ℤ) → unsigned_abs z ≤ 10 ^ 24 → decimal_of 6 (shortest z) ≡ Ok z }
 {}
 
-/// A number that needs no more than `max` decimals is read again where no more are allowed.
+/// A number that needs no more than `max` decimals is read back where `max` decimals are allowed.
 pub fn coarse_is_read()
     ensures { (max : ℕ) (z : ℤ) → max ≤ 6 → unsigned_abs z ≤ 10 ^ 24
         → unsigned_abs z % 10 ^ (6 - max) ≡ 0 → decimal_of max (shortest z) ≡ Ok z }
@@ -23,14 +23,14 @@ pub fn whole_is_digits()
     ensures read { (k : ℕ) → k ≤ 10 ^ 18 → decimal_of 0 (decimal k) ≡ Ok (pos (k * 10 ^ 6)) }
 {}
 
-/// What is written has nothing needless, and no other text of the number has nothing needless.
+/// What is written of a number has nothing needless in it, and is the only text of that number of which this holds.
 pub fn written_is_shortest()
     ensures shortest_text { (z : ℤ) → unsigned_abs z ≤ 10 ^ 24 → IsShortest z (shortest z) }
     ensures only { (z : ℤ) (text : List ℕ) → StandsFor 6 text z → IsShortest z text
         → text ≡ shortest z }
 {}
 
-/// What is written has digits, a minus and a point alone.
+/// What is written has no other bytes than digits, a minus and a point.
 pub fn written_is_plain()
     ensures { (z : ℤ) → unsigned_abs z ≤ 10 ^ 24 → IsPlain (shortest z) }
 {}
@@ -41,13 +41,14 @@ pub fn read_is_meant()
         → ((decimal_of max text ≡ Ok m) ↔ StandsFor max text m) }
 {}
 
-/// A text is no number where it is spelled in no way.
+/// A text is refused as no number exactly where it is not spelled as one.
 pub fn number_is_spelled()
     ensures { (max : ℕ) (text : List ℕ) → ((decimal_of max text ≡ Err DecFault.Number)
         ↔ ((sign whole tail fraction : List ℕ) → ¬ (IsSpelled text sign whole tail fraction))) }
 {}
 
-/// Of a text that is spelled: it is too fine where a decimal past `max` is not zero, and else out of range where the number is.
+/// A text that is spelled as a number is refused as too fine exactly where a digit behind its first `max` decimals is
+/// not zero. Else it is refused as out of range exactly where its number is out of range.
 pub fn spelled_faults()
     ensures too_fine { (max : ℕ) (text sign whole tail fraction : List ℕ)
         → IsSpelled text sign whole tail fraction

@@ -10,10 +10,17 @@ use crate::front::front_dec;
 // One more than the largest whole part of a decimal: where a longer count of digits stops.
 const PAST_LARGEST: u64 = 1_000_000_000_000_000_001;
 
-/// The decimal that a text states: an optional sign, digits, and optionally a point with digits after it, with a digit in all.
+/// The decimal that a text states: an optional sign, and then digits with at most one point before, among or behind
+/// them. Nothing is trimmed: a text with a blank is no number. At most `max_decimals` decimals count; further ones must
+/// be zeros.
 ///
-/// At most `max_decimals` decimals count, and those past them have to be zeros. Nothing is trimmed: a blank makes the text no
-/// number. Of several faults the answer is the first of `Number`, `TooFine` and `Range`.
+/// # Errors
+///
+/// The first that applies of
+///
+/// - `Number`: the text is no decimal;
+/// - `TooFine`: a decimal behind the first `max_decimals` is not zero;
+/// - `Range`: the number is above 10^18 or below -10^18.
 #[inline(always)]
 pub fn parse_dec(text: &[u8], max_decimals: u8) -> Result<Dec, DecFault>
     requires { max_decimals ≤ 6 }

@@ -14,7 +14,9 @@ pub struct Extent {
     pub ghost few_benches: { benches < GRID_CELLS },
 }
 
-/// What the slopes leave of their reach in one row. All in square units of the sizes times the slopes' numbers.
+/// How far the slopes reach in one row of a cone: a block lies inside at a distance of `d` blocks along x exactly where
+/// `(d * weight)^2 + used <= reach`. Lengths are in millimetres, multiplied by numbers of the slopes so that they are
+/// whole.
 #[derive(Clone, Copy, Debug)]
 pub struct Reach {
     /// The length of one block along x.
@@ -28,7 +30,7 @@ pub struct Reach {
     pub ghost small_reach: { reach ≤ 10 ^ 30 },
 }
 
-/// How many of the distances 0, 1, .. along x a row of a cone takes in on each side, at most 10,000.
+/// How many of the distances 0, 1, .. along x lie inside in a row of a cone, on each side: at most 10,000.
 #[derive(Clone, Copy, Debug)]
 pub struct Counts {
     pub west: u16,

@@ -12,8 +12,8 @@ use pit_model::cone::{Cone, Slope};
 use pit_model::grid::Grid;
 use pit_model::ranges::GRID_CELLS;
 
-/// How many blocks of the row `i` of the bench `dz` above lie inside the slopes, where the block's own row is `rows`. The counts
-/// of a row nearby make it fast; any others do.
+/// How many blocks of the row `i` of the bench `dz` above lie inside the slopes, where the block's own row is `rows`.
+/// `nearby` is a guess, such as the counts of a row nearby: it changes the time and not the answer.
 pub fn row_counts(grid: Grid, cone: Cone, rows: u16, dz: u16, i: u16, nearby: Counts) -> Counts
     requires grid { IsGrid grid }
     requires cone { IsCone cone }

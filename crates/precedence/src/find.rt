@@ -4,8 +4,8 @@ ghost use Rattle.std.specs.Prelude.{◌≡◌, ◌+◌, ◌<◌, ◌≤◌, IsTr
 ghost use Rattle.std.specs.List.Sorted.{IsStrictlyIncreasing};
 ghost use Rattle.precedence.specs.inner.Rows.{start_of};
 
-/// How many of the numbers are below `target`. It is fast where `hint` is somewhat less than that, and fastest where it is one
-/// less; any other hint does.
+/// How many of the rising numbers are below `target`. `hint` is a guess: it changes the time and not the answer. The
+/// search is fastest where the hint is one less than the answer, and fast where it is somewhat less.
 #[inline(always)]
 pub fn find(numbers: &[u64], hint: usize, target: u64) -> usize
     requires { IsStrictlyIncreasing numbers.now }

@@ -33,7 +33,8 @@ pub fn even_zones()
         → preds plan blocks ≡ preds_by plan blocks }
 {}
 
-/// Every predecessor is a block of the model and lies on a higher bench, so no block waits for itself, however far round.
+/// Every predecessor is a block of the model and lies on a higher bench. So no block waits for itself, not even through
+/// others.
 pub fn preds_lie_higher()
     ensures { (plan : PlanParts) (blocks : List Block) (i k : ℕ) (d : Block) → i < length blocks
         → Contains (slice_index_or (preds plan blocks) i []) k
@@ -46,7 +47,8 @@ pub fn preds_rise()
         → IsStrictlyIncreasing (slice_index_or (preds plan blocks) i []) }
 {}
 
-/// Of a list in whatever order, the predecessors of a block are the identifiers of all blocks of that list that lie in its cone.
+/// The predecessors of a block are the identifiers of all blocks of the list that lie in its cone, whatever the order
+/// of the list.
 pub fn preds_are_of_the_list()
     ensures { (plan : PlanParts) (listed : List Block) (n : NumberingView) (i : ℕ) (d : Block)
         → IsNumbering listed n → i < length listed

@@ -26,8 +26,13 @@ type Place = (u64, u32);
 // Where each place was seen first.
 type Seen = IndexMap<u64, u32, PlaceHashes>;
 
-/// Numbers a list of at most 64,000,000 blocks: the identifier of a block is the number of blocks of the list with a smaller
-/// (z, y, x). Fails with `Same` where two blocks have the same indices, or where memory is refused.
+/// Numbers a list of at most 64,000,000 blocks: the identifier of a block is the number of blocks of the list with a
+/// smaller (z, y, x).
+///
+/// # Errors
+///
+/// - `Same`: two blocks have the same indices; it names the first that stands again.
+/// - `OutOfMemory`: memory was refused.
 pub fn number_blocks(alloc: Global, blocks: &[Block]) -> Result<Numbering, NumberError>
     requires { length blocks.now ≤ MAX_BLOCKS }
     ensures numbering { IfOk result (IsNumbering blocks.now) }

@@ -13,8 +13,13 @@ use pit_model::block::Block;
 use rows::Valued;
 use std::alloc::{AllocError, Global};
 
-/// Numbers the blocks of a list of at most 64,000,000 rows: the identifier of a block is the number of blocks of the list with a
-/// smaller (z, y, x). Fails with `Same` where two blocks have the same indices, or where memory is refused.
+/// Numbers the blocks of a list of at most 64,000,000 rows: the identifier of a block is the number of blocks of the
+/// list with a smaller (z, y, x).
+///
+/// # Errors
+///
+/// - `Same`: two blocks have the same indices; it names the first that stands again.
+/// - `OutOfMemory`: memory was refused.
 pub fn number(alloc: Global, rows: &[Valued]) -> Result<Numbering, NumberError>
     requires { length rows.now ≤ MAX_BLOCKS }
     ensures numbering { IfOk result (IsNumbering (blocks_of_rows rows.now)) }

@@ -4,15 +4,16 @@ use crate::code::code;
 use pit_model::block::Block;
 use std::hash::{BuildHasher, DefaultHasher, Hasher};
 
-/// Hashes that begin with the places of a whole list, so that a block which is changed changes all of them. This is meant to make it hard to
-/// choose blocks whose places have like hashes: no proof says so, and only the time of a search rests on it.
+/// Hashes of places that begin with the places of a whole list: where one block of it is changed, all hashes change.
+/// This is meant to make it hard to choose blocks whose places have like hashes. No proof says so, and only the time of
+/// a search rests on it.
 #[derive(Clone, Copy)]
 pub struct PlaceHashes {
     beginning: DefaultHasher,
 }
 
 impl PlaceHashes {
-    /// The hashes for the places of these blocks.
+    /// The hashes of places that begin with those of these blocks.
     pub fn of(blocks: &[Block]) -> PlaceHashes {
         let mut beginning = DefaultHasher::new();
         for block in blocks {

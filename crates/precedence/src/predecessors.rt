@@ -102,7 +102,7 @@ fn start_of_piece(ends: &[usize], index: usize) -> usize
     if index == 0 { 0 } else { ends[index - 1] }
 }
 
-/// The identifiers from the place `start` on and before `end`.
+/// The identifiers from the place `start` up to, and without, the place `end`.
 pub fn part(ids: &[u32], start: usize, end: usize) -> &[u32]
     requires in_order { start ≤ end }
     requires within { end ≤ length ids.now }

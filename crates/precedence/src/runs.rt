@@ -22,8 +22,9 @@ pub struct Hint {
 /// What is known before the first block.
 pub const NOTHING_KNOWN: Hint = Hint { first: 0, past: 0 };
 
-/// Appends the identifiers whose codes lie in the rows, in rising order, seen from the code `from`. `past` has where each row is
-/// past. The hints, one a row, are where the rows' runs were found for a smaller code; any others do.
+/// Appends the identifiers whose codes lie in the rows, seen from the code `from`, in rising order. `past` has the end
+/// of each row. The hints, one for each row, are guesses, such as where the rows' runs were found for a smaller code:
+/// they change the time and not the answer.
 pub fn add_above(
     list: &mut Vec<u32>,
     places: &Places,

@@ -12,8 +12,8 @@ use pit_model::cone::Cone;
 use pit_model::grid::Grid;
 use std::alloc::{AllocError, Global};
 
-/// The rows of a cone, in order, in a model no greater than `extent`: a block lies above another just where its code lies in one
-/// of them.
+/// The rows of a cone, in order, in a model no greater than `extent`: a block lies in the cone exactly where its code
+/// lies in one of these rows.
 pub fn rows_of(
     alloc: Global,
     grid: Grid,

@@ -23,7 +23,7 @@ pub fn trimmed(cell: &[u8]) -> &[u8]
     without_trailing_blanks(without_leading_blanks(cell))
 }
 
-/// The bytes from the first that is no space or tab on.
+/// The cell without the spaces and tabs at its front.
 #[inline(always)]
 pub fn without_leading_blanks(cell: &[u8]) -> &[u8]
     ensures { result.now ≡ without_leading_blanks cell.now }
@@ -52,7 +52,7 @@ fn without_trailing_blanks(cell: &[u8]) -> &[u8]
     rest
 }
 
-/// The number of cells of a record, those at its end left out that are empty or blank.
+/// The number of cells of a record, without the empty and blank ones at its end.
 pub fn cell_count(row: &ByteRecord) -> usize
     ensures { result ≡ length (cells_of (fields_of row.now)) }
 {
@@ -77,7 +77,7 @@ pub fn cell_at(row: &ByteRecord, place: usize) -> &[u8]
     }
 }
 
-/// Whether the cell is the word, the case of ASCII letters left aside.
+/// Whether the cell is the word. Its ASCII letters may be in upper or lower case.
 pub fn is_word(cell: &[u8], word: &[u8]) -> bool
     ensures { result ≡ is_word cell.now word.now }
 {

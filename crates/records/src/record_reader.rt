@@ -32,9 +32,11 @@ enum Stage {
     Refused,
 }
 
-/// A reader of a text's records, over the bytes that it owns or borrows. Contracts see the records that are left, that their end was told, or
-/// that memory was refused.
-/// It holds its buffer and tables in itself, some sixteen kilobytes, and takes memory only for the record that it reads into.
+/// A reader of the records of a text, which it owns or borrows: comma-separated values as RFC 4180 has them and the
+/// crate `csv` reads them. Its buffer and tables stand in the reader itself, some sixteen kilobytes; it takes memory
+/// only for the record that it reads into.
+///
+/// Contracts see the records that are left, or that their end was told, or that memory was refused.
 #[derive(Drop)]
 pub struct RecordReader<R: Read> {
     alloc: Global,
@@ -86,11 +88,13 @@ impl<'a> RecordReader<&'a [u8]> {
 }
 
 impl<R: Read> RecordReader<R> {
-    /// Takes the next record into `row`, in place of what `row` held, and says whether there was one.
+    /// Reads the next record into `row`, in place of what `row` held. Returns `true` where there was one. `false` says
+    /// that the text has ended, then and ever after; what `row` then holds is left open.
     ///
-    /// At the end of the text the answer is `false`, then and ever after, and what `row` holds is left open. The one error is that
-    /// memory was refused for `row`, which does not happen any more once the end was told: the reader gives no record after it, and
-    /// answers it ever after.
+    /// # Errors
+    ///
+    /// Memory was refused for `row`. The reader gives no further record, and returns this error ever after. Once it has
+    /// told the end of the text, it returns no error.
     pub fn next(&mut self, row: &mut ByteRecord) -> Result<bool, AllocError>
         ensures takes { TakesRow self.old result (fields_of row.new) self.new }
         ensures fewer { result ≡ Ok true → rows_ahead self.new + 1 ≡ rows_ahead self.old }

@@ -8,7 +8,7 @@ use crate::worths::Worths;
 use pit_model::block::Block;
 use std::alloc::AllocError;
 
-/// A row whose worths stand in a list of those of many rows.
+/// A row without its worths, which stand in one list with those of many other rows.
 #[derive(Clone, Copy, Debug)]
 pub struct Head {
     pub block: Block,

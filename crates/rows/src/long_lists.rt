@@ -12,8 +12,8 @@ const MANY: usize = 262_144;
 
 const MANY_WORTHS: usize = 1_048_576;
 
-/// Takes room for many more rows and their worths where the row that comes to this place makes a list of rows a long one. Where the room is
-/// refused nothing is lost: the lists grow as they come.
+/// Takes room for many more rows and their worths, where a row at this place makes a list of rows a long one. Where the
+/// room is refused nothing is lost: the lists then grow as rows come.
 #[inline(always)]
 pub fn make_room<T>(rows: &mut Vec<T>, worths: &mut Vec<i128>, place: usize)
     ensures rows { rows.new.items ≡ rows.old.items }
@@ -25,7 +25,7 @@ pub fn make_room<T>(rows: &mut Vec<T>, worths: &mut Vec<i128>, place: usize)
     }
 }
 
-/// Takes room for one more item, and for many more where a long list is full. It is refused only where no room is left.
+/// Takes room for one more item; where a long list is full, for many more. Fails only where the list has no room left.
 pub fn make_room_for_item<T, A: Allocator>(list: &mut Vec<T, A>) -> Result<(), AllocError>
     ensures items { list.new.items ≡ list.old.items }
     ensures room { OnOk result (vec_len list.new < vec_capacity list.new) }

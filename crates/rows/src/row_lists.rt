@@ -9,8 +9,8 @@ use pit_model::block::Block;
 use std::alloc::{AllocError, Global};
 use std::marker::Model;
 
-/// The rows of several files, which are not copied. Contracts see them as one list: the rows of each file behind those of the file
-/// before it.
+/// The rows of several files, which are not copied. Contracts see one list: the rows of each file behind those of the
+/// file before it.
 #[derive(Debug, Drop)]
 pub struct RowLists {
     lists: Vec<Rows>,
@@ -34,7 +34,7 @@ impl RowLists {
         RowLists { lists }
     }
 
-    /// The rows of one list, which are copied. Fails only where memory is refused.
+    /// A copy of these rows, as one list. Fails only where memory is refused.
     pub fn of(alloc: Global, rows: &[Valued]) -> Result<RowLists, AllocError>
         ensures { IfOk result (λ lists. lists ≡ rows.now) }
     {

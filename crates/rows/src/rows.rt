@@ -10,8 +10,8 @@ use pit_model::block::Block;
 use std::alloc::{AllocError, Global};
 use std::marker::Model;
 
-/// The rows of one file, mostly in order of place: the row of place 0, of place 1, and so on. Contracts see the list of them. In memory
-/// a row takes 40 bytes, and 16 for each of its worths.
+/// A list of rows of one file, as a rule in order of place: place 0, place 1, and so on. In memory a row takes 40
+/// bytes, and 16 for each of its worths. Contracts see the list of them.
 #[derive(Debug, Drop)]
 pub struct Rows {
     heads: Vec<Head>,
@@ -65,7 +65,7 @@ impl Rows {
         self.heads[position].row(&self.worths)
     }
 
-    /// Puts a row in the place of the one at a position, from 0. Where memory is refused the rows are as they were.
+    /// Replaces the row at a position, from 0. Where memory is refused the rows are as they were.
     pub fn set(&mut self, position: usize, row: &Valued) -> Result<(), AllocError>
         requires { position < length self.old }
         ensures ok { OnOk result (self.new ≡ slice_set self.old position row.now) }
@@ -76,7 +76,8 @@ impl Rows {
         Ok(())
     }
 
-    /// Appends a row as often as it takes to make so many rows. Where memory is refused the rows are as they were.
+    /// Lengthens the list to `count` rows: appends `row` until there are so many. Where memory is refused the rows are
+    /// as they were.
     pub fn resize(&mut self, count: usize, row: &Valued) -> Result<(), AllocError>
         requires { length self.old ≤ count }
         ensures ok { OnOk result (self.new
@@ -89,7 +90,7 @@ impl Rows {
         Ok(())
     }
 
-    /// Appends the blocks of the rows, in their order. On failure some of them may have been appended.
+    /// Appends the blocks of the rows, in their order. Where memory is refused some of them may have been appended.
     pub fn put_blocks(&self, blocks: &mut Vec<Block>) -> Result<(), AllocError>
         ensures { OnOk result (blocks.new.items
             ≡ blocks.old.items ++ map (λ row. row.block) self.now) }

@@ -30,9 +30,11 @@ pub struct FileRead {
     pub answer: Result<(), ReadFault>,
 }
 
-/// Reads the zone file that `feed` gives whole, tells `gate` before the first pull, and puts a row for each block of the file into the
-/// lane, in their order. After the last one, or after a fault, it always puts the file's end mark. `file` is the number of the file and of
-/// its zone in `plan`, from 0. The answer tells why the file was not read to its end: on `Row` the blocks before the faulty row were put.
+/// Reads the zone file that `feed` gives, whole, and puts a row for each of its blocks into the lane, in their order.
+/// After the last row, or after a fault, it always puts the file's end mark. It tells `gate` before the first pull.
+/// `file` is the number of the file, and of its zone in `plan`, from 0.
+///
+/// The answer tells why the file was not read to its end. Where it is `Row`, the blocks before the faulty row were put.
 pub fn read_file<R: Wait, F: Feed + Drop, G: Gate>(
     rt: &R,
     alloc: Global,

@@ -60,14 +60,14 @@ impl From<AllocError> for HandOverFault {
     }
 }
 
-/// Reads each file in a thread of its own, into a lane from which `valuers` threads take and value the rows. The valuers start first. Every
-/// reader runs to the end of its file or its first fault; nobody is cancelled. At most `starts` threads are started: one more counts as
-/// refused.
+/// Reads each file in a thread of its own, into a lane from which `valuers` threads take and value the rows. The
+/// valuers start first. No thread is cancelled: every reader runs to the end of its file or to its first fault. At most
+/// `starts` threads are started: one more counts as refused. The feeds are used up.
 ///
 /// # Errors
 ///
-/// `NoThread` where a start was refused: no further thread was started, and those that were are joined. `OutOfMemory` where memory was
-/// refused before the first start. The feeds are used up.
+/// - `NoThread`: a start was refused. No further thread was started, and those that were started are joined.
+/// - `OutOfMemory`: memory was refused before the first start.
 pub fn hand_over<R: Threads + Wait + Sync, F: Feed + Send + Drop, G: Gate + Sync>(
     rt: &R,
     alloc: Global,

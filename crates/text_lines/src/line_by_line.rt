@@ -13,11 +13,11 @@ use crate::text_fault::LineFault;
 pub trait Admit {
     ghost admit_line: { Self → List ℕ → Result Self Kind };
 
-    /// Takes one more line, which is none that is skipped.
+    /// Takes one more line, which is not one that is skipped.
     ///
     /// # Errors
     ///
-    /// The line is faulty after those before it, or memory was refused. What the lines state is then of no use.
+    /// The line is faulty behind those before it, or memory was refused. What the lines state is then of no use.
     fn admit(&mut self, line: &[u8]) -> Result<(), LineError>
         ensures { Admits self.new result (admit_line self.old line.now) };
 }

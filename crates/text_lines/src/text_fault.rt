@@ -36,9 +36,11 @@ impl fmt::Display for TextFile {
     }
 }
 
-/// What is wrong with a line of a MineLib text. Where several kinds apply to a line, an unknown key, a key that stands twice and the number of
-/// fields come first; then the fields left to right, each by `Number`, `TooFine`, `Range` and `Name`; then `Order`, `Count`, predecessors that
-/// stand twice, and `Missing`.
+/// What is wrong with a line of a MineLib text. Where several kinds apply to a line, the first in this order is meant:
+///
+/// - an unknown key, a key that stands twice, the number of fields;
+/// - the fields left to right, each by `Number`, `TooFine`, `Range` and `Name`;
+/// - `Order`, `Count`, predecessors that stand twice, `Missing`.
 #[derive(Clone, Copy, Debug, Error, PartialEq, Eq)]
 pub enum TextKind {
     /// The line has too few or too many fields.
@@ -100,8 +102,8 @@ impl From<DecFault> for TextKind {
     }
 }
 
-/// A faulty line of a text: its number, from 1, and what is wrong with it. Where something is missing at the end of the text, the number is that of
-/// its lines and one more.
+/// A faulty line of a text: its number, from 1, and what is wrong with it. Where something is missing at the end of the
+/// text, the number is one more than the text has lines.
 #[derive(Clone, Copy, Debug, PartialEq, Eq)]
 pub struct LineFault {
     pub line: u64,

@@ -56,7 +56,8 @@ pub fn count_fields(line: &[u8]) -> usize
     count
 }
 
-/// The kind of fault of a line that has to have so many fields, where this one was met in reading them.
+/// The kind of the fault of a line in whose fields the fault `met` was met: `met` where the line has `width` fields,
+/// and else `Fields`.
 #[inline(never)]
 pub fn kind_by_count(line: &[u8], width: usize, met: TextKind) -> TextKind
     ensures { result ≡ kind_by (length (fields_of line.now) == width) met }

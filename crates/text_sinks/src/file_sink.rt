@@ -15,8 +15,8 @@ use std::io::{ErrorKind, Write};
 use std::marker::Model;
 use std::rt::Files;
 
-/// A sink whose bytes go to the file at its path. It tells what the file holds as far as the file does, and no file of a system
-/// does. No call but `new` takes memory.
+/// A sink that writes to the file at its path. It tells what the file holds as far as the file itself does, and no file
+/// of a system does. Only `new` takes memory.
 #[derive(Drop)]
 pub struct FileSink<'a, R: Files> {
     rt: &'a R,
@@ -40,7 +40,7 @@ impl<'a, R: Files> Model for FileSink<'a, R> {
 }
 
 impl<'a, R: Files> FileSink<'a, R> {
-    /// A sink for the file at this path. It is not begun: the file is left alone, and need not be there.
+    /// A sink for the file at this path. It is not begun: the file is left alone, and need not exist.
     ///
     /// # Errors
     ///

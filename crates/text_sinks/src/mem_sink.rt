@@ -47,7 +47,8 @@ impl MemSink {
         MemSink::fresh(alloc, usize::MAX, 0)
     }
 
-    /// A sink whose `nth` call of `begin` or `put` alone fails, counted together from 1, beside those that are refused memory.
+    /// A sink whose call number `nth` fails. Its calls of `begin` and `put` are counted together, from 1. Any other
+    /// call fails only where memory is refused.
     pub fn failing(alloc: Global, nth: u64) -> MemSink
         requires { 1 ≤ nth }
         ensures { IsFresh usize.MAX nth result }
@@ -63,8 +64,9 @@ impl MemSink {
         MemSink::fresh(alloc, step, 0)
     }
 
-    /// A sink that does both: it takes at most `step` bytes of each put, and its call of the number `failing` alone fails, or none where
-    /// that is 0.
+    /// A sink that takes at most `step` bytes of each put, and whose call number `failing` fails, counted as by
+    /// `MemSink::failing`. Where `failing` is 0 there is no such call. Any other call fails only where memory is
+    /// refused.
     pub fn fresh(alloc: Global, step: usize, failing: u64) -> MemSink
         requires { 1 ≤ step }
         ensures { IsFresh step failing result }
@@ -122,7 +124,11 @@ impl Sink for MemSink {
       failures = s.failures;
     } };
 
-    /// Gives up the bytes, but for the one call that fails: then all is as it was. Takes no memory.
+    /// Gives up the bytes. Takes no memory.
+    ///
+    /// # Errors
+    ///
+    /// This is the call that fails. The bytes are as they were, and the sink is begun if it was.
     fn begin(&mut self) -> Result<(), SinkFault>
         ensures fails { IsErr result ↔ FailsNext self.old }
         ensures begins { OnOk result (IsCalled true [] self.old.failures self.old self.new) }
@@ -141,7 +147,7 @@ impl Sink for MemSink {
     ///
     /// # Errors
     ///
-    /// It is the one call that fails, or memory for the bytes was refused.
+    /// This is the call that fails, or memory for the bytes was refused. No byte was taken.
     fn put(&mut self, bytes: &[u8]) -> Result<usize, SinkFault>
         ensures fails { FailsNext self.old → IsErr result }
         ensures fails_only { OnErr result

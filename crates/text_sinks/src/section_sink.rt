@@ -8,7 +8,7 @@ use pit_model::count::{Count, raised};
 use std::alloc::AllocError;
 use std::marker::Model;
 
-/// A sink that writes its texts one behind the other into a vector, each behind a line of its own. What stands before a text
+/// A sink that writes texts one after the other into a vector, each under a line of its own. What stands before a text
 /// stays. It fails only where memory is refused.
 #[derive(Drop)]
 pub struct SectionSink {
@@ -51,7 +51,8 @@ impl SectionSink {
         }
     }
 
-    /// Ends the text: from now on it stays, and so does this line behind it, given with its LF. The sink is not begun.
+    /// Ends the text: from now on it stays, with this line behind it, which is given with its LF. The sink is then not
+    /// begun.
     ///
     /// # Errors
     ///

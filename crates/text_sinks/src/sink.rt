@@ -17,7 +17,7 @@ pub trait Sink {
     // What it tells of itself.
     ghost state: { Self → SinkState };
 
-    /// Begins the text: what the sink held is given up, and it holds none.
+    /// Begins the text. The sink gives up the text that it held, and holds none of the new one yet.
     ///
     /// # Errors
     ///

@@ -7,13 +7,14 @@ use crate::sink::SinkFault;
 use std::alloc::AllocError;
 use thiserror::Error;
 
-/// Why a text was not written. The sink is as it was, or it was begun and holds the front of the text.
+/// Why a text was not written. Either the sink was not begun and is as it was; or it was begun and holds a front of the
+/// text, which may be empty.
 #[derive(Clone, Copy, Debug, Error, PartialEq, Eq)]
 pub enum WriteFault {
     /// The sink refused a call.
     #[error("the sink failed")]
     SinkFailed,
-    /// Memory was refused.
+    /// Memory was refused, and the sink refused no call.
     #[error("out of memory")]
     OutOfMemory,
 }

@@ -25,9 +25,11 @@ pub struct ValuerResult {
     pub memory: bool,
 }
 
-/// Takes messages until the take end is done, and values each row at 1 to 8 destinations. `gate` is told of each row before it is valued.
+/// Takes messages until the take end is done, and values each row at each of the 1 to 8 destinations. It tells `gate`
+/// of each row before it values it.
 ///
-/// Where the memory for an item is refused, this item and all behind it are dropped, and the taking goes on: so no reader waits forever.
+/// Where memory for an item is refused, it drops this item and all behind it, and goes on taking messages: so no reader
+/// waits for ever.
 pub fn value_all<R: Wait, G: Gate>(
     rt: &R,
     alloc: Global,

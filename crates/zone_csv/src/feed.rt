@@ -21,9 +21,9 @@ pub trait Feed {
     // Whether it never fails, now or later.
     ghost is_sure: { Self → Bool };
 
-    /// Writes the next bytes to the front of `buffer`, and answers how many: at most the buffer's length, and possibly fewer than
-    /// are left. For a buffer that is not empty, 0 means that no byte is left. What the buffer has behind the bytes given is not
-    /// said.
+    /// Writes the next bytes to the front of `buffer`, and returns how many: at most the buffer's length, and perhaps
+    /// fewer than are left. For a buffer that is not empty, 0 means that no byte is left. What the buffer holds behind
+    /// these bytes is left open.
     ///
     /// # Errors
     ///

@@ -10,8 +10,8 @@ use std::io::{ErrorKind, Read};
 use std::marker::Model;
 use std::rt::Files;
 
-/// A feed of an open file, from the byte where the file stands. It does not tell its bytes in advance, and any pull may fail. It
-/// takes no memory.
+/// A feed of an open file, from the byte where the file stands. It does not tell in advance which bytes it will give,
+/// and any pull may fail. It takes no memory.
 #[derive(Drop)]
 pub struct FileFeed<F: Read> {
     file: F,
@@ -37,7 +37,7 @@ impl<F: Read + Drop> FileFeed<F> {
     ///
     /// # Errors
     ///
-    /// The file cannot be opened. Where a folder can be opened, each pull of it fails.
+    /// The file cannot be opened. Where the system opens a folder as a file, each pull of it fails.
     pub fn open<R: Files<File = F>>(rt: &R, path: &str) -> Result<FileFeed<F>, FeedFault>
         ensures left { IfOk result (λ feed. ⟦<FileFeed<F> as Feed>⟧.left feed ≡ None) }
         ensures given { IfOk result (λ feed. ⟦<FileFeed<F> as Feed>⟧.given feed ≡ 0) }

@@ -30,8 +30,8 @@ pub fn zone_files()
         → AccountsForRecords grid zone text }
 {}
 
-/// A coordinate lies in the grid, whole sizes above the origin, and has an index exactly where it is the centroid of the blocks of that
-/// index.
+/// A coordinate is the centroid of the blocks of an index exactly where it lies in the grid, whole block sizes above
+/// the origin, and has that index.
 pub fn coordinates()
     ensures { (axis : AnAxis) (coordinate : ℤ) (index : ℕ) → 0 < axis.size
         → (IsInGrid axis coordinate
@@ -57,16 +57,17 @@ pub fn rows_spell_blocks()
         × (block.zone ≡ zone)) }
 {}
 
-/// A zone file has no fault and these blocks exactly where its header names the columns and each record behind it states the block at
-/// its place.
+/// A zone file has these blocks and no fault exactly where its header names the columns, and each record behind it
+/// states the block at its place.
 pub fn zone_files_are_spelled()
     ensures { (grid : AGrid) (zone : ℕ) (text : List ℕ) (blocks : List Block)
         → ((fault_of grid zone text ≡ None) × (blocks_of grid zone text ≡ blocks))
         ↔ ZoneStates grid zone (records_of text) blocks None }
 {}
 
-/// A zone file has these blocks and this fault exactly where its header fails as that, or names the columns, and the records behind it
-/// state the blocks, up to one that fails as that.
+/// A zone file has these blocks and this fault exactly in two cases. Either its header fails with this fault, and there
+/// are no blocks. Or its header names the columns, and the records behind it state these blocks, up to a record that
+/// fails with this fault.
 pub fn zone_faults_are_first()
     ensures { (grid : AGrid) (zone : ℕ) (text : List ℕ) (blocks : List Block) (fault : RowFault)
         → ((fault_of grid zone text ≡ Some fault) × (blocks_of grid zone text ≡ blocks))

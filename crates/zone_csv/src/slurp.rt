@@ -44,13 +44,18 @@ impl From<AllocError> for SlurpFault {
     }
 }
 
-/// All the bytes of `feed`, where they are at most `limit`. At most `limit + 1` bytes are read, the last one to tell that there are
-/// too many. After a fault the feed stands behind the bytes that it gave in this call.
+/// All the bytes of `feed`, where they are at most `limit`. At most `limit + 1` bytes are read: the last one tells that
+/// there are too many.
 ///
 /// # Errors
 ///
-/// `FeedFailed` where the feed refused a pull of this call, `TooLong` where it has more than `limit` bytes, `OutOfMemory` where the
-/// list of bytes could not grow. The first that is met is answered.
+/// The first that is met of
+///
+/// - `FeedFailed`: the feed refused a pull of this call;
+/// - `TooLong`: the feed has more than `limit` bytes;
+/// - `OutOfMemory`: the list of bytes could not grow.
+///
+/// The feed then stands behind the bytes that it gave in this call, which are lost.
 pub fn slurp<F: Feed>(alloc: Global, feed: &mut F, limit: u64) -> Result<Vec<u8>, SlurpFault>
     requires { limit ≤ GREATEST_LIMIT }
 

@@ -35,8 +35,10 @@ enum Stage {
     Failed(ZoneFault),
 }
 
-/// A reader of a zone file, which answers the blocks of its rows in order. Contracts see what it has still to say: the blocks before
-/// the file's first fault, and that fault, if there is one; that the fault or the end was told; or that memory was refused.
+/// A reader of a zone file. It returns the blocks of the rows, in order, up to the file's first fault.
+///
+/// Contracts see what it has still to say: the blocks before the first fault, and that fault, if there is one. Or they
+/// see that the fault or the end was told, or that memory was refused.
 #[derive(Drop)]
 pub struct ZoneReader {
     records: RecordReader<Cursor<Vec<u8>>>,
@@ -79,12 +81,14 @@ impl ZoneReader {
         }
     }
 
-    /// The next block, or `None` at the end of the file, then and ever after. The header is read by the first call.
+    /// The next block, or `None` at the end of the file, then and ever after. The first call reads the header too.
     ///
     /// # Errors
     ///
-    /// `Row` with the file's first fault, once the blocks before it were answered, or `OutOfMemory` where memory was refused for a
-    /// record; each ever after. Once the end or the fault was answered, want of memory never comes in its place.
+    /// Each is returned ever after.
+    ///
+    /// - `Row`: the file's first fault, once the blocks before it were returned.
+    /// - `OutOfMemory`: memory was refused for a record. It never comes once the end or the fault was told.
     pub fn next(&mut self) -> Result<Option<Block>, ZoneFault>
         ensures answers { Answers self.old result self.new }
         ensures fewer { IfOk result
