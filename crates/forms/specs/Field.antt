@@ -1,6 +1,6 @@
 -- Forms: what a line of fields, or a record of cells, looks like. A form is data: a field for each place.
 -- And the values that they state.
-use Rattle.std.specs.Prelude.{ℕ, ◌*◌, ◌/◌, ◌%◌, ◌-◌, ◌^◌, ◌==◌, Bool, List, [], slice_index_or, ℤ, pos, negsuc, ◌+ℤ◌, ◌-ℤ◌, unsigned_abs}
+use Rattle.std.specs.Prelude.{ℕ, ◌*◌, ◌/◌, ◌%◌, ◌^◌, ◌==◌, Bool, List, [], slice_index_or, ℤ, pos, negsuc, ◌+ℤ◌, ◌-ℤ◌, unsigned_abs}
 
 -- a decimal with so many decimals, from the lowest to the highest millionths; one that is also whole
 -- steps of so many millionths above the lowest; or a word that passes a test
@@ -26,16 +26,20 @@ up_to decimals most = Decimal decimals (pos 0) (pos most)
 abbrev pub whole : ℕ → Value
 whole n = Millionths (pos (n * 10 ^ 6))
 
--- the millionths at a place, from 0, and the whole number; 0 where no number stands
+-- the millionths that a value is, and the whole number; 0 of a word
 abbrev pub millionths : Value → ℤ
 millionths (Millionths m) = m
 millionths (Bytes word) = pos 0
 
+abbrev pub whole_stated : Value → ℕ
+whole_stated value = unsigned_abs (millionths value) / 10 ^ 6
+
+-- the same of the value at a place, from 0; 0 where none stands
 abbrev pub number_at : List Value → ℕ → ℤ
 number_at values place = millionths (slice_index_or values place (Bytes []))
 
 abbrev pub whole_at : List Value → ℕ → ℕ
-whole_at values place = unsigned_abs (number_at values place) / 10 ^ 6
+whole_at values place = whole_stated (slice_index_or values place (Bytes []))
 
 -- so many millionths are whole steps above the lowest
 abbrev pub is_on_step : ℕ → ℤ → ℤ → Bool

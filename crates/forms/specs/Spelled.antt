@@ -1,5 +1,5 @@
 -- What it is to spell a form.
-use Rattle.std.specs.Prelude.{◌≡◌, ℕ, ◌≤◌, true, List, [], ◌∷◌, ℤ, ◌≤ℤ◌}
+use Rattle.std.specs.Prelude.{◌≡◌, ℕ, true, List, [], ◌∷◌, ◌≤ℤ◌}
 use Rattle.pit_units.specs.Decimal.{StandsFor}
 use Rattle.forms.specs.Field.{Field, Decimal, Stepped, Word, Value, Millionths, Bytes, is_on_step}
 

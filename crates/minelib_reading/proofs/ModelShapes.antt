@@ -4,7 +4,7 @@ use Rattle.std.specs.List.{list_any, before_first, after_first}
 use Rattle.std.proofs.Common.{refl, arith}
 use Rattle.std.proofs.lemmas.Bool.{ne_eqb}
 use Rattle.forms.proofs.ShapeFacts.{said_states}
-use Rattle.forms.specs.Field.{Value, Bytes, millionths, whole_at}
+use Rattle.forms.specs.Field.{Value, Bytes, millionths, whole_at, whole_stated}
 use Rattle.forms.specs.Fit.{is_fine}
 use Rattle.forms.specs.Read.{read, read_field}
 use Rattle.forms.specs.Grammar.{HasFineForms, placed, read_all}
@@ -16,7 +16,7 @@ use Rattle.pit_model.specs.PlanKept.{is_turned, stands_before}
 use Rattle.mine_instance.specs.Order.{comes_before}
 use Rattle.minelib_reading.specs.HeaderKeys.{count_in, is_given, with_key}
 use Rattle.minelib_reading.specs.ItemForms.{bytes_in, coef_form, coef_said, limit_form, limit_said, row_said, values_form}
-use Rattle.minelib_reading.specs.KeyFields.{field_of, number_said, whole_of}
+use Rattle.minelib_reading.specs.KeyFields.{field_of, number_said}
 use Rattle.text_lines.specs.LineKinds.{text_kind, text_kinds}
 use Rattle.minelib_reading.specs.ModelLines.{ModelDraftView, coef_line, first_of, header_line, is_behind, is_colon, is_counted, is_heading, is_next, is_ready, item_line, key_of, keyed_line, last_of, limit_line, model_grammar, model_line, name_with, section_line, stray_line, values_line}
 use Rattle.minelib_reading.specs.inner.ModelParts.{admit_model, coef_of, limit_of, number_in, number_with, only_value, takes, values_of, values_said}
@@ -134,7 +134,7 @@ header_takes d k fields = tests (is_heading d.section) (is_given k d.header)
         → (r >>= found_of d k) ≡ ((r >>= λ value. Ok (unsigned_abs (millionths value))) >>= number_with d.blocks k
         >>= λ number. Ok (after d k text number))
     one key.Name text r e = rw e (name (is_name text) text)
-    one key.Blocks text (Ok value) e = blocks (whole_of value == d.blocks) (bytes_in value)
+    one key.Blocks text (Ok value) e = blocks (whole_stated value == d.blocks) (bytes_in value)
     one k text (Ok value) e = refl
     one k text (Err kind) e = refl
 

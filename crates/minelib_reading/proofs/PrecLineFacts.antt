@@ -5,7 +5,7 @@ use Rattle.std.proofs.lemmas.Bool.{eqb-true, not-true}
 use Rattle.std.proofs.lemmas.List.Elements.{All-cons, All-head, All-nil, All-tail}
 use Rattle.forms.proofs.FormFacts.{spelled_fit}
 use Rattle.forms.proofs.NumberFields.{quotient, whole_fits, whole_found}
-use Rattle.forms.specs.Field.{Value, below, whole, whole_at}
+use Rattle.forms.specs.Field.{Value, below, whole, whole_at, whole_stated}
 use Rattle.forms.specs.Fit.{Fit, is_fine}
 use Rattle.forms.specs.Spelled.{Spell}
 use Rattle.forms.specs.WrittenValues.{written}
@@ -13,7 +13,7 @@ use Rattle.forms.specs.Shape.{check}
 use Rattle.forms.specs.ShapeStates.{States}
 use Rattle.mine_instance.specs.Valid.{ArePredsOf}
 use Rattle.minelib_lines.specs.LineValues.{preds_values}
-use Rattle.minelib_reading.specs.PrecLines.{all_differ, preds_form, preds_of, preds_shape, stands_in, whole_of}
+use Rattle.minelib_reading.specs.PrecLines.{all_differ, preds_form, preds_of, preds_shape, stands_in}
 use Rattle.text_lines.specs.TextLines.{fields_of}
 use Rattle.text_lines.specs.declared.text_fault.TextKind.TheVariants.{Order, Count, Twice}
 use Rattle.minelib_reading.proofs.PrecTests.{passed_preds, preds_pass}
@@ -32,7 +32,7 @@ wholes_fit n [] few low = tt
 wholes_fit n (id ∷ ids) few low =
     (whole_fits n id (All-head (λ id. id < n) id ids low) (omega (arith, few)), wholes_fit n ids few (All-tail (λ id. id < n) id ids low))
 
-pub wholes_again : (ids : List ℕ) → map whole_of (map whole ids) ≡ ids
+pub wholes_again : (ids : List ℕ) → map whole_stated (map whole ids) ≡ ids
 wholes_again [] = refl
 wholes_again (id ∷ ids) = λ i. quotient id i ∷ wholes_again ids i
 
@@ -60,16 +60,16 @@ preds_back n own line ids spelled are =
 
 -- values that fit are whole numbers below n
 wholes_found : (n : ℕ) (fields : List (List ℕ)) (values : List Value) → Fit (map (λ field. below n) fields) values
-    → All (λ id. id < n) (map whole_of values) × (values ≡ map whole (map whole_of values))
+    → All (λ id. id < n) (map whole_stated values) × (values ≡ map whole (map whole_stated values))
 wholes_found n [] [] fit = (All-nil (λ id. id < n), refl)
 wholes_found n [] (value ∷ values) fit = absurd fit
 wholes_found n (field ∷ fields) [] fit = absurd fit
 wholes_found n (field ∷ fields) (value ∷ values) fit =
     let here = whole_found n value fit.0 in
-    let is : whole_of value ≡ here.n = ap whole_of here.is ∙ quotient here.n in
-    let same : value ≡ whole (whole_of value) = here.is ∙ ap whole (sym is) in
+    let is : whole_stated value ≡ here.n = ap whole_stated here.is ∙ quotient here.n in
+    let same : value ≡ whole (whole_stated value) = here.is ∙ ap whole (sym is) in
     let rest = wholes_found n fields values fit.1 in
-    (All-cons (λ id. id < n) (whole_of value) (map whole_of values) (omega (arith, here.low, is)) rest.0, λ i. same i ∷ rest.1 i)
+    (All-cons (λ id. id < n) (whole_stated value) (map whole_stated values) (omega (arith, here.low, is)) rest.0, λ i. same i ∷ rest.1 i)
 
 parts : (n own : ℕ) (fields : List (List ℕ)) (values : List Value) → Fit (preds_form n fields) values → whole_at values 0 ≡ own
     → whole_at values 1 ≡ length (preds_of values) → All (λ id. id < n) (preds_of values) × (values ≡ preds_values own (preds_of values))
@@ -77,9 +77,9 @@ parts n own fields [] fit is_own counted = absurd fit
 parts n own fields (lone ∷ []) fit is_own counted = absurd fit.1
 parts n own fields (v ∷ w ∷ values) fit is_own counted =
     let all = wholes_found n ([] ∷ [] ∷ drop 2 fields) (v ∷ w ∷ values) fit in
-    let behind_own = All-tail (λ id. id < n) (whole_of v) (whole_of w ∷ map whole_of values) all.0 in
-    let low = All-tail (λ id. id < n) (whole_of w) (map whole_of values) behind_own in
-    (low, all.1 ∙ (λ i. whole (is_own i) ∷ whole (counted i) ∷ map whole (map whole_of values)))
+    let behind_own = All-tail (λ id. id < n) (whole_stated v) (whole_stated w ∷ map whole_stated values) all.0 in
+    let low = All-tail (λ id. id < n) (whole_stated w) (map whole_stated values) behind_own in
+    (low, all.1 ∙ (λ i. whole (is_own i) ∷ whole (counted i) ∷ map whole (map whole_stated values)))
 
 -- a line that states predecessors of a block spells them
 pub preds_line : (n own : ℕ) (line ids : List ℕ) → States (preds_shape n own line) ids

@@ -1,7 +1,7 @@
 -- The header keys of a model file: the field of each key's value, and the number that it states.
 use Rattle.std.specs.Prelude.{ℕ, ◌+◌, ◌/◌, ◌^◌, List, unsigned_abs, codes}
 use Rattle.std.specs.Str.{bytes_eq}
-use Rattle.forms.specs.Field.{Field, Word, Value, below, millionths}
+use Rattle.forms.specs.Field.{Field, Word, Value, below, millionths, whole_stated}
 use Rattle.pit_model.specs.PlanCells.{a_name, a_period_count, a_rate, between}
 use Rattle.pit_model.specs.declared.ranges.TheConstants.{MAX_BLOCKS, MAX_DESTINATIONS, MAX_RESOURCES}
 use Rattle.minelib_reading.specs.declared.model_key.HeaderKey.{HeaderKey}
@@ -25,12 +25,8 @@ field_of problem key.Resources = below (MAX_RESOURCES + 1)
 field_of problem key.General = below 1
 field_of problem key.Rate = a_rate
 
--- a value's whole number; 0 of a word
-abbrev pub whole_of : Value → ℕ
-whole_of value = unsigned_abs (millionths value) / 10 ^ 6
-
 -- the number of a key with this value: 0 where it states no more than that it stands
 abbrev pub number_said : HeaderKey → Value → ℕ
 number_said key.Blocks value = 0
 number_said key.Rate value = unsigned_abs (millionths value)
-number_said k value = whole_of value
+number_said k value = whole_stated value

@@ -3,7 +3,7 @@
 use Rattle.std.specs.Prelude.{ℕ, ◌+◌, ◌-◌, ◌==◌, ◌&&◌, not, Bool, true, false, List, [], ◌∷◌, ◌++◌, length, ℤ, Option, Some, None, slice_get, slice_index_or, Result, Ok, Err, if◌then◌else◌, codes}
 use Rattle.std.specs.List.{list_any, before_first, after_first}
 use Rattle.std.specs.Str.{bytes_eq}
-use Rattle.forms.specs.Field.{Value, Bytes, whole_at}
+use Rattle.forms.specs.Field.{Value, Bytes, whole_at, whole_stated}
 use Rattle.forms.specs.Grammar.{Grammar, read_all}
 use Rattle.forms.specs.Shape.{Check, Shape, check}
 use Rattle.forms.specs.Steps.{◌>>=◌}
@@ -13,7 +13,7 @@ use Rattle.mine_instance.specs.Order.{comes_before}
 use Rattle.mine_instance.specs.declared.coef.Coef.{Coef}
 use Rattle.minelib_reading.specs.HeaderKeys.{no_key, with_key, count_in, is_given, is_complete}
 use Rattle.minelib_reading.specs.ItemForms.{bytes_in, coef_form, coef_said, limit_form, limit_said, row_said, values_form}
-use Rattle.minelib_reading.specs.KeyFields.{field_of, number_said, whole_of}
+use Rattle.minelib_reading.specs.KeyFields.{field_of, number_said}
 use Rattle.text_lines.specs.LineKinds.{text_kinds}
 use Rattle.text_lines.specs.TextLines.{Line, fields_of, lines_in, end_of}
 use Rattle.minelib_reading.specs.declared.model_key.Header.{Header}
@@ -124,7 +124,7 @@ stray_line d = record {
 
 -- how many blocks there are is stated again
 abbrev pub is_counted : HeaderKey → ℕ → Value → List (Check TextKind)
-is_counted key.Blocks n value = check Count (whole_of value == n)
+is_counted key.Blocks n value = check Count (whole_stated value == n)
 is_counted k n value = []
 
 -- the NAME behind a header key with this value

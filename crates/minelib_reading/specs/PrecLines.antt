@@ -1,7 +1,7 @@
 -- The predecessors that a precedence file states.
 use Rattle.std.specs.Prelude.{◌≡◌, ◌≢◌, ℕ, ◌/◌, ◌^◌, ◌==◌, ◌&&◌, not, Bool, true, List, [], ◌∷◌, ◌++◌, length, map, drop, unsigned_abs, Result, Ok, Err, if◌then◌else◌}
 use Rattle.std.specs.List.{list_any}
-use Rattle.forms.specs.Field.{Field, Value, below, millionths, whole_at}
+use Rattle.forms.specs.Field.{Field, Value, below, whole_at, whole_stated}
 use Rattle.forms.specs.Grammar.{Grammar, read_all}
 use Rattle.forms.specs.GrammarStates.{AllState}
 use Rattle.forms.specs.Shape.{Shape, check}
@@ -26,13 +26,9 @@ all_differ (id ∷ ids) = not (stands_in ids id) && all_differ ids
 abbrev pub preds_form : ℕ → List (List ℕ) → List Field
 preds_form n fields = below n ∷ below n ∷ map (λ field. below n) (drop 2 fields)
 
--- the whole number of a value
-abbrev pub whole_of : Value → ℕ
-whole_of value = unsigned_abs (millionths value) / 10 ^ 6
-
 -- the predecessors of the values of a line
 abbrev pub preds_of : List Value → List ℕ
-preds_of values = map whole_of (drop 2 values)
+preds_of values = map whole_stated (drop 2 values)
 
 -- the line of this block, of n: as many predecessors as it counts, none twice and none the block
 -- itself

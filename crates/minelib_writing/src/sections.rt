@@ -21,7 +21,8 @@ pub trait Section {
     fn append(&self, alloc: Global, index: usize, out: &mut Vec<u8>) -> Result<(), AllocError>
         requires { index < length (lines self.now) }
         ensures { OnOk result
-            (out.new.items ≡ out.old.items ++ (slice_index_or (lines self.now) index [] ++ 10 ∷ [])) };
+            (out.new.items
+            ≡ out.old.items ++ (slice_index_or (lines self.now) index [] ++ 10 ∷ [])) };
 
     /// Appends one line or more, each with its LF, and answers how many. Where memory is refused a part of them may be appended.
     fn append_some(

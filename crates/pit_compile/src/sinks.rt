@@ -36,19 +36,6 @@ impl<S> Sinks<S> {
         })
     }
 
-    /// The sink of this text.
-    pub fn of(&self, name: TextName) -> &S
-        ensures { result.now ≡ sink_of self.now name }
-    {
-        match name {
-            TextName::Blocks => &self.blocks,
-            TextName::Prec => &self.prec,
-            TextName::Upit => &self.upit,
-            TextName::Pcpsp => &self.pcpsp,
-            TextName::Cpit => &self.cpit,
-        }
-    }
-
     /// The sink of this text, to be written to or replaced.
     pub fn of_mut(&mut self, name: TextName) -> &mut S
         ensures* writes_back { sem 𝓛 (LendsSink S.row self.entry name result) }

@@ -2,7 +2,7 @@
 use Rattle.std.specs.Prelude.{ℕ, zero, suc, ◌/◌, ◌^◌, ◌<◌, ◌≤◌, List, [], ◌∷◌, drop, ℤ, pos, negsuc, ◌≤ℤ◌, unsigned_abs, int_div, slice_index_or}
 use Rattle.std.proofs.Common.{arith}
 use Rattle.std.proofs.lemmas.Int.{ints}
-use Rattle.forms.specs.Field.{Field, Decimal, Value, Millionths, Bytes, below, millionths, up_to}
+use Rattle.forms.specs.Field.{Field, Decimal, Value, Millionths, Bytes, below, millionths, up_to, whole_stated}
 use Rattle.forms.specs.Fit.{FitsField, Fit}
 use Rattle.pit_model.specs.PlanCells.{between, metres}
 
@@ -28,15 +28,12 @@ fits_behind (suc n) (field ∷ form) [] fit = absurd fit
 fits_behind (suc n) (field ∷ form) (value ∷ values) fit = fits_behind n form values fit.1
 
 -- the whole number of a value
-abbrev whole_of : Value → ℕ
-whole_of value = unsigned_abs (millionths value) / 10 ^ 6
-
-pub between_fits : (low high : ℕ) (value : Value) → FitsField (between low high) value → (low ≤ whole_of value) × (whole_of value ≤ high)
+pub between_fits : (low high : ℕ) (value : Value) → FitsField (between low high) value → (low ≤ whole_stated value) × (whole_stated value ≤ high)
 between_fits low high (Millionths (pos m)) fits = (omega (arith, ints, fits.0), omega (arith, ints, fits.1))
 between_fits low high (Millionths (negsuc m)) fits = absurd (omega (arith, ints, fits.0))
 between_fits low high (Bytes word) fits = absurd fits
 
-pub below_fits : (limit : ℕ) (value : Value) → FitsField (below limit) value → whole_of value < limit
+pub below_fits : (limit : ℕ) (value : Value) → FitsField (below limit) value → whole_stated value < limit
 below_fits limit (Millionths (pos m)) fits = omega (arith, ints, fits.1)
 below_fits limit (Millionths (negsuc m)) fits = absurd (omega (arith, ints, fits.0))
 below_fits limit (Bytes word) fits = absurd fits

@@ -16,5 +16,5 @@ held_by contents None = None
 held_by contents (Some file) = contents file
 
 -- what it tells as a sink: the bytes of its text are told by no file of a system
-abbrev pub told : FileSinkView → SinkState
-told s = record { begun = s.begun; before = []; taken = None; failures = s.failures }
+abbrev pub file_told : FileSinkView → SinkState
+file_told s = record { begun = s.begun; before = []; taken = None; failures = s.failures }

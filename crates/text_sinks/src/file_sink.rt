@@ -3,7 +3,7 @@
 ghost use Rattle.std.specs.Prelude.{◌≡◌, ◌+◌, ◌<◌, ◌≤◌, [], None, false, length, take, IsErr, IfOk, OnOk, OnErr};
 ghost use Rattle.std.specs.Io.KnownBytes.{WriteAppends};
 ghost use Rattle.text_sinks.specs.Device.{added};
-ghost use Rattle.text_sinks.specs.FileSinkView.{told};
+ghost use Rattle.text_sinks.specs.FileSinkView.{file_told as told};
 ghost use Rattle.text_sinks.specs.SinkState.{IsCutOff, IsWritten};
 ghost use Rattle.text_sinks.specs.SinkSteps.{IsBegunAsBefore};
 

@@ -1,7 +1,7 @@
 //! A sink over a vector that already holds something.
 
 ghost use Rattle.std.specs.Prelude.{◌≡◌, ◌+◌, ◌<◌, [], ◌++◌, Some, length, true, false, IsOk, IfOk, OnOk, OnErr};
-ghost use Rattle.text_sinks.specs.SectionSinkView.{told};
+ghost use Rattle.text_sinks.specs.SectionSinkView.{section_told as told};
 
 use crate::sink::{Sink, SinkFault};
 use pit_model::count::{Count, raised};
