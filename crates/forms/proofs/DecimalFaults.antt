@@ -2,7 +2,8 @@
 use Rattle.std.specs.Prelude.{◌≡◌, ℕ, ◌≤◌, Bool, true, false, not, List, drop, ℤ, Result, Ok, Err, if◌then◌else◌}
 use Rattle.std.proofs.Common.{refl, sym, ◌∙◌}
 use Rattle.pit_units.proofs.Standing.{number_parts, stands_read}
-use Rattle.pit_units.specs.Decimal.{StandsFor, decimal_of, is_number, all_zeros, fraction_of, whole_of}
+use Rattle.pit_units.specs.Decimal.{decimal_of, is_number, all_zeros, fraction_of, whole_of}
+use Rattle.pit_units.specs.StandsFor.{StandsFor}
 use Rattle.pit_units.specs.declared.fault.DecFault.{DecFault}
 use Rattle.pit_units.specs.declared.fault.DecFault.TheVariants as dec
 use Rattle.forms.specs.Decimals.{IsDecimal, IsFine}

@@ -6,7 +6,8 @@ use Rattle.std.proofs.lemmas.Int.{ints}
 use Rattle.pit_units.proofs.Multiples.{stands_multiple}
 use Rattle.pit_units.proofs.Standing.{read_stands, stands_read, spelled_number, spelled_too_fine}
 use Rattle.pit_units.proofs.Written.{shortest_read}
-use Rattle.pit_units.specs.Decimal.{StandsFor, decimal_of, shortest}
+use Rattle.pit_units.specs.Decimal.{decimal_of, shortest}
+use Rattle.pit_units.specs.StandsFor.{StandsFor}
 use Rattle.pit_units.specs.declared.fault.DecFault.{DecFault}
 use Rattle.pit_units.specs.declared.fault.DecFault.TheVariants as dec
 use Rattle.forms.proofs.DecimalFaults.{one_number, too_fine_decimal, out_of_range_fine, fine_decimal, stands_fine}

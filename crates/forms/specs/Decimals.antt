@@ -1,6 +1,7 @@
 -- What is asked of a text that is to state a decimal in a range.
 use Rattle.std.specs.Prelude.{ℕ, List, drop, ℤ, ◌≤ℤ◌, IsTrue}
-use Rattle.pit_units.specs.Decimal.{StandsFor, IsSpelled, all_zeros}
+use Rattle.pit_units.specs.Decimal.{all_zeros}
+use Rattle.pit_units.specs.StandsFor.{StandsFor, IsSpelled}
 
 -- the text is a decimal
 abbrev pub IsDecimal : List ℕ → Type 0

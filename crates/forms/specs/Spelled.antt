@@ -1,6 +1,6 @@
 -- What it is to spell a form.
 use Rattle.std.specs.Prelude.{◌≡◌, ℕ, true, List, [], ◌∷◌, ◌≤ℤ◌}
-use Rattle.pit_units.specs.Decimal.{StandsFor}
+use Rattle.pit_units.specs.StandsFor.{StandsFor}
 use Rattle.forms.specs.Field.{Field, Decimal, Stepped, Word, Value, Millionths, Bytes, is_on_step}
 
 -- the text states the value, however it is spelled

@@ -6,7 +6,8 @@ use Rattle.std.proofs.Common.{refl, arith, inl, inr}
 use Rattle.std.proofs.lemmas.Bool.{and_parts, or_parts}
 use Rattle.std.proofs.lemmas.Bool.Decides.{nat_tests}
 use Rattle.std.proofs.lemmas.List.Folds.{list_any-append}
-use Rattle.pit_units.specs.Decimal.{all_digits, StandsFor}
+use Rattle.pit_units.specs.Decimal.{all_digits}
+use Rattle.pit_units.specs.StandsFor.{StandsFor}
 use Rattle.records.specs.Cells.{is_blank}
 use Rattle.minelib_reading.specs.ModelLines.{is_colon}
 use Rattle.text_lines.specs.TextLines.{fields_of, is_ended, onto_first}

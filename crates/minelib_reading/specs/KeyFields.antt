@@ -1,5 +1,5 @@
 -- The header keys of a model file: the field of each key's value, and the number that it states.
-use Rattle.std.specs.Prelude.{ℕ, ◌+◌, ◌/◌, ◌^◌, List, unsigned_abs, codes}
+use Rattle.std.specs.Prelude.{ℕ, ◌+◌, List, unsigned_abs, codes}
 use Rattle.std.specs.Str.{bytes_eq}
 use Rattle.forms.specs.Field.{Field, Word, Value, below, millionths, whole_stated}
 use Rattle.pit_model.specs.PlanCells.{a_name, a_period_count, a_rate, between}

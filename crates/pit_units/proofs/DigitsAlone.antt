@@ -10,7 +10,8 @@ use borrow.Author.Tests.{le-ltb}
 use Rattle.std.specs.Char.{is_ascii_digit}
 use Rattle.std.specs.Str.Parse.{digits_value}
 use Rattle.pit_units.proofs.Spelling.{digit_range, reads}
-use Rattle.pit_units.specs.Decimal.{all_digits, size_of, decimal_of, IsSpelled}
+use Rattle.pit_units.specs.Decimal.{all_digits, size_of, decimal_of}
+use Rattle.pit_units.specs.StandsFor.{IsSpelled}
 
 -- digits alone are read as their number
 pub digits_alone : (max : ℕ) (text : List ℕ) → all_digits text ≡ true → 0 < length text → digits_value 10 text ≤ 10 ^ 18

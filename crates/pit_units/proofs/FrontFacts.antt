@@ -14,7 +14,8 @@ use Rattle.pit_units.proofs.Spelling.{both}
 use Rattle.pit_units.proofs.Standing.{stands_read}
 use Rattle.pit_units.proofs.Value.{size_product, value_append}
 use Rattle.pit_units.proofs.Written.{all_cons, digits_plain}
-use Rattle.pit_units.specs.Decimal.{all_digits, signed, IsSpelled, StandsFor}
+use Rattle.pit_units.specs.Decimal.{all_digits, signed}
+use Rattle.pit_units.specs.StandsFor.{IsSpelled, StandsFor}
 use Rattle.pit_units.specs.Shortest.{IsPlainByte}
 use Rattle.pit_units.specs.Front.{digits_ahead, past_point, BeginsWith, IsUsual}
 use Rattle.pit_units.specs.inner.FrontParts.{BeginsWithDecimals, BeginsWithDigits, BeginsWithSize}

@@ -6,7 +6,8 @@ use Rattle.std.proofs.lemmas.List.{length-append, length-drop, length-take-le}
 use Rattle.std.proofs.lemmas.Nat.{pow-add, mod-mul-add}
 use Rattle.std.specs.List.{list_all}
 use Rattle.std.specs.Str.Parse.{digits_value}
-use Rattle.pit_units.specs.Decimal.{all_zeros, six_decimals, StandsFor}
+use Rattle.pit_units.specs.Decimal.{all_zeros, six_decimals}
+use Rattle.pit_units.specs.StandsFor.{StandsFor}
 use Rattle.pit_units.proofs.Spelling.{both}
 use Rattle.pit_units.proofs.Standing.{scale_positive, size_stands}
 use Rattle.pit_units.proofs.Value.{pass_drop_append, pass_drop_later, value_append, value_zeros}

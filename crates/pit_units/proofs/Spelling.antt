@@ -8,7 +8,8 @@ use Rattle.std.specs.Char.{is_ascii_digit}
 use Rattle.std.specs.Int.{IsInRange}
 use Rattle.std.specs.List.{position_or_len}
 use Rattle.std.specs.Str.Parse.{starts_with_minus, without_leading_sign}
-use Rattle.pit_units.specs.Decimal.{all_digits, all_zeros, whole_of, fraction_of, size_of, signed, decimal_of, IsSpelled}
+use Rattle.pit_units.specs.Decimal.{all_digits, all_zeros, whole_of, fraction_of, size_of, signed, decimal_of}
+use Rattle.pit_units.specs.StandsFor.{IsSpelled}
 use Rattle.pit_units.specs.declared.fault.DecFault.{DecFault}
 use Rattle.pit_units.specs.declared.fault.DecFault.TheVariants.{TooFine, Range}
 

@@ -9,7 +9,8 @@ use Rattle.std.proofs.lemmas.List.Sums.{passes_at_first, split_at_first}
 use borrow.Author.Tests.{eqb-true, ltb-true, ltb-false, le-ltb, lt-ltb}
 use Rattle.std.specs.List.{position_or_len}
 use Rattle.std.specs.Str.Parse.{digits_value, starts_with_minus, without_leading_sign}
-use Rattle.pit_units.specs.Decimal.{all_digits, all_zeros, whole_of, fraction_of, is_number, size_of, signed, decimal_of, IsSpelled, StandsFor}
+use Rattle.pit_units.specs.Decimal.{all_digits, all_zeros, whole_of, fraction_of, is_number, size_of, signed, decimal_of}
+use Rattle.pit_units.specs.StandsFor.{IsSpelled, StandsFor}
 use Rattle.pit_units.specs.declared.fault.DecFault.{DecFault}
 use Rattle.pit_units.specs.declared.fault.DecFault.TheVariants.{Number, TooFine, Range}
 use Rattle.pit_units.proofs.Spelling.{both, reads}

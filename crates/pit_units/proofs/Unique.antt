@@ -15,7 +15,8 @@ use Rattle.std.specs.Char.{digit_value, is_ascii_digit}
 use Rattle.std.specs.Fmt.{decimal, sign_text}
 use Rattle.std.specs.List.{suffix_len}
 use Rattle.std.specs.Str.Parse.{AllDigits, digits_value, starts_with_minus}
-use Rattle.pit_units.specs.Decimal.{all_digits, all_zeros, six_decimals, size_of, signed, six_digits, without_end_zeros, fraction_text, shortest, StandsFor}
+use Rattle.pit_units.specs.Decimal.{all_digits, all_zeros, six_decimals, size_of, signed, six_digits, without_end_zeros, fraction_text, shortest}
+use Rattle.pit_units.specs.StandsFor.{StandsFor}
 use Rattle.pit_units.specs.Shortest.{IsShortest}
 use Rattle.pit_units.proofs.Spelling.{both, digit_range, reads}
 use Rattle.pit_units.proofs.Standing.{picked, size_of_signed, stands_read}

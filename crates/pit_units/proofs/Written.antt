@@ -13,7 +13,8 @@ use Rattle.std.specs.Char.{digit_value, is_ascii_digit}
 use Rattle.std.specs.Fmt.{decimal, sign_text}
 use Rattle.std.specs.List.{All, list_all, suffix_len}
 use Rattle.std.specs.Str.Parse.{AllDigits, digits_value, starts_with_minus}
-use Rattle.pit_units.specs.Decimal.{all_digits, all_zeros, six_decimals, size_of, signed, decimal_of, six_digits, without_end_zeros, fraction_text, size_text, shortest, IsSpelled}
+use Rattle.pit_units.specs.Decimal.{all_digits, all_zeros, six_decimals, size_of, signed, decimal_of, six_digits, without_end_zeros, fraction_text, size_text, shortest}
+use Rattle.pit_units.specs.StandsFor.{IsSpelled}
 use Rattle.pit_units.specs.Shortest.{IsPlain, IsPlainByte, IsShortest}
 use Rattle.pit_units.proofs.Spelling.{both, digit_range, reads}
 use Rattle.pit_units.proofs.Text.{not_below, shortest_is}

@@ -1,5 +1,5 @@
 -- Which number a decimal text states, and how a number is written. Numbers are counted in millionths.
-use Rattle.std.specs.Prelude.{◌≡◌, ℕ, suc, ◌+◌, ◌*◌, ◌/◌, ◌%◌, ◌-◌, ◌^◌, ◌<◌, ◌≤◌, Bool, not, ◌&&◌, ◌⊎◌, List, [], ◌∷◌, ◌++◌, length, map, take, drop, replicate, ℤ, pos, negsuc, neg_ℤ, unsigned_abs, IsTrue, if◌then◌else◌, nat_lt, ◌==◌, Ok, Err, Result}
+use Rattle.std.specs.Prelude.{ℕ, suc, ◌+◌, ◌*◌, ◌/◌, ◌%◌, ◌-◌, ◌^◌, Bool, not, ◌&&◌, List, [], ◌∷◌, ◌++◌, length, map, take, drop, replicate, ℤ, pos, negsuc, neg_ℤ, if◌then◌else◌, nat_lt, ◌==◌, Ok, Err, Result}
 use Rattle.std.specs.Char.{is_ascii_digit}
 use Rattle.std.specs.Fmt.{decimal}
 use Rattle.std.specs.List.{list_all, before_first, after_first, suffix_len}
@@ -47,27 +47,6 @@ decimal_of max text =
     else (if not (all_zeros (drop max (fraction_of text))) then Err TooFine
     else (if nat_lt (10 ^ 24) size then Err Range
     else Ok (signed (starts_with_minus text) size)))
-
--- a text is an optional sign, digits, and optionally a point with digits after it; there is a digit
-pub record IsSpelled (text sign whole tail fraction : List ℕ) : Type 0 where
-  pub joined : text ≡ sign ++ (whole ++ tail)
-  pub signs : (sign ≡ []) ⊎ ((sign ≡ 43 ∷ []) ⊎ (sign ≡ 45 ∷ []))
-  pub point : ((tail ≡ []) × (fraction ≡ [])) ⊎ (tail ≡ 46 ∷ fraction)
-  pub whole_digits : IsTrue (all_digits whole)
-  pub fraction_digits : IsTrue (all_digits fraction)
-  pub some_digit : 0 < length whole + length fraction
-
--- the text stands for m millionths, with `max` decimals allowed: what `decimal_of` says, as a relation
-pub record StandsFor (max : ℕ) (text : List ℕ) (m : ℤ) : Type 0 where
-  pub sign : List ℕ
-  pub whole : List ℕ
-  pub tail : List ℕ
-  pub fraction : List ℕ
-  pub spelled : IsSpelled text sign whole tail fraction
-  pub fine : IsTrue (all_zeros (drop max fraction))
-  pub value : unsigned_abs m * 10 ^ length fraction ≡ digits_value 10 (whole ++ fraction) * 10 ^ 6
-  pub side : m ≡ signed (starts_with_minus sign) (unsigned_abs m)
-  pub in_range : unsigned_abs m ≤ 10 ^ 24
 
 -- the six decimals of n millionths
 abbrev pub six_digits : ℕ → List ℕ

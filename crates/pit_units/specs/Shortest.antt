@@ -1,7 +1,7 @@
 -- What the shortest text of a number is, and texts of plain bytes.
 use Rattle.std.specs.Prelude.{◌≡◌, ◌≢◌, ◌↔◌, ◌<ℤ◌, slice_index, ℕ, ◌-◌, ◌<◌, ◌≤◌, List, [], ◌∷◌, length, ℤ, pos}
 use Rattle.std.specs.List.{All}
-use Rattle.pit_units.specs.Decimal.{IsSpelled}
+use Rattle.pit_units.specs.StandsFor.{IsSpelled}
 
 -- the shortest text of z: a minus only below zero and no plus, a digit before the point and no leading zero beside others,
 -- a fraction only where it is not zero, and no zero at its end
