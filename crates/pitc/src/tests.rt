@@ -14,3 +14,4 @@ mod pipe_form;
 mod plan;
 mod runs;
 mod texts;
+mod zone_rows;

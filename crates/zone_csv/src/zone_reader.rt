@@ -195,6 +195,3 @@ fn next_row(
         Err(_) => failed(ZoneFault::OutOfMemory),
     }
 }
-
-#[cfg(test)]
-mod tests;

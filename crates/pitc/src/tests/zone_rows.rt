@@ -1,8 +1,13 @@
-use super::*;
-use crate::row_fault::RowFault;
+//! The rows of a zone file: headers, cells, the edges of the grid, and the most rows.
+
+use pit_model::block::Block;
 use pit_model::read_plan;
+use std::alloc::Global;
 use std::process::Abort;
 use std::test::Fail;
+use zone_csv::row_fault::{Column, RowFault, RowFaultKind};
+use zone_csv::zone_fault::ZoneFault;
+use zone_csv::zone_reader::ZoneReader;
 
 // Blocks are cubes of 10 m, the first of them at the origin.
 const PLAN: &str = "name,waste
