@@ -13,5 +13,6 @@ mod pieces;
 mod pipe_form;
 mod plan;
 mod runs;
+mod stored_rows;
 mod texts;
 mod zone_rows;

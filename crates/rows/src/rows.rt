@@ -108,6 +108,3 @@ fn put_blocks(blocks: &mut Vec<Block>, heads: &[Head]) -> Result<(), AllocError>
     }
     Ok(())
 }
-
-#[cfg(test)]
-mod tests;

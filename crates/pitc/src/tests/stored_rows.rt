@@ -1,7 +1,7 @@
-use super::Rows;
-use crate::item::Valued;
-use crate::worths::Worths;
+//! The rows of a file, as they are kept with their worths.
+
 use pit_model::block::Block;
+use rows::{Rows, Valued, Worths};
 use std::test::Fail;
 
 // A row with so many worths, the first of which says which row it is.
