@@ -13,7 +13,7 @@ use Rattle.text_sinks.specs.declared.write_fault.WriteFault.{WriteFault}
 use Rattle.text_sinks.specs.declared.write_fault.WriteFault.TheVariants as write
 use Rattle.pit_compile.specs.SinkAnswers.{AreCutOff, in_sink}
 use Rattle.pit_compile.specs.SinkLent.{with_sink}
-use Rattle.pit_compile.specs.Sinks.{all_told, AreCutOffAt, AreWritten}
+use Rattle.pit_compile.specs.Sinks.{all_told, AreCutOffAt}
 use Rattle.pit_compile.specs.declared.refusal.Refusal.{Refusal}
 use Rattle.pit_compile.specs.declared.refusal.Refusal.TheVariants.{SinkFailed, OutOfMemory}
 use Rattle.pit_compile.specs.declared.sinks.Sinks.{Sinks}

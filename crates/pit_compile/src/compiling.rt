@@ -23,7 +23,7 @@ use mine_instance::cpit::Cpit;
 use mine_instance::instance::Instance;
 use pit_model::destination::Destination;
 use pit_model::plan::Plan;
-use run_threads::{HandedOver, hand_over};
+use run_threads::{Allowance, HandedOver, hand_over};
 use std::alloc::Global;
 use std::snapshot::Snapshot;
 use std::sync::Wait;
@@ -78,17 +78,12 @@ pub fn compile<R: Threads + Wait + Sync, F: Feed + Send + Drop, G: Gate + Sync>(
 {
     require_settings(feeds.len(), plan, destinations, settings)?;
     let given = Snapshot::of(&feeds);
-    let handed = hand_over(
-        rt,
-        alloc,
-        feeds,
-        plan,
-        destinations,
-        settings.valuers as u8,
-        settings.capacity,
+    let allowance = Allowance {
+        valuers: settings.valuers as u8,
+        capacity: settings.capacity,
         starts,
-        gate,
-    )?;
+    };
+    let handed = hand_over(rt, alloc, feeds, plan, destinations, allowance, gate)?;
     compiled_of(alloc, plan, given, handed)
 }
 

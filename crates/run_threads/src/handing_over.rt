@@ -28,6 +28,17 @@ use thiserror::Error;
 use valuers::Gate;
 use zone_csv::feed::Feed;
 
+/// How many valuers a run has, how long its lane is, and how many threads it may start.
+#[derive(Clone, Copy)]
+pub struct Allowance {
+    /// The number of valuers, 1 to 64.
+    pub valuers: u8,
+    /// For how many messages the queue of the lane has room, 1 to 4,096.
+    pub capacity: usize,
+    /// The number of thread starts: one more counts as refused.
+    pub starts: u32,
+}
+
 /// What the threads of a run hand over.
 #[derive(Drop)]
 pub struct HandedOver {
@@ -60,9 +71,9 @@ impl From<AllocError> for HandOverFault {
     }
 }
 
-/// Reads each file in a thread of its own, into a lane from which `valuers` threads take and value the rows. The
-/// valuers start first. No thread is cancelled: every reader runs to the end of its file or to its first fault. At most
-/// `starts` threads are started: one more counts as refused. The feeds are used up.
+/// Reads each file in a thread of its own, into a lane from which the valuers, each in a thread of its own, take and
+/// value the rows. The valuers start first. No thread is cancelled: every reader runs to the end of its file or to its
+/// first fault. The feeds are used up.
 ///
 /// # Errors
 ///
@@ -74,14 +85,12 @@ pub fn hand_over<R: Threads + Wait + Sync, F: Feed + Send + Drop, G: Gate + Sync
     feeds: Vec<F>,
     plan: &Plan,
     destinations: &[Destination],
-    valuers: u8,
-    capacity: usize,
-    starts: u32,
+    allowance: Allowance,
     gate: &G,
 ) -> Result<HandedOver, HandOverFault>
     requires files { length feeds.items ≡ length plan.now.cones }
-    requires valuers { (1 ≤ valuers) × (valuers ≤ MAX_VALUERS) }
-    requires capacity { (1 ≤ capacity) × (capacity ≤ MAX_CAPACITY) }
+    requires valuers { (1 ≤ allowance.valuers) × (allowance.valuers ≤ MAX_VALUERS) }
+    requires capacity { (1 ≤ allowance.capacity) × (allowance.capacity ≤ MAX_CAPACITY) }
     requires destinations { AreOfPlan destinations.now plan.now }
     ensures whole { IfOk result (λ handed. IsWhole handed.gathered) }
     ensures read { IfOk result (λ handed.
@@ -89,10 +98,16 @@ pub fn hand_over<R: Threads + Wait + Sync, F: Feed + Send + Drop, G: Gate + Sync
         handed.answers.items handed.gathered.sent) }
     ensures valued { IfOk result (λ handed. IsFalse handed.memory
         → handed.items.items ≡ map (items_by (formulas_of_plan plan.now)) handed.gathered.took) }
-    ensures takers { IfOk result (λ handed. length handed.gathered.took ≡ valuers) }
-    ensures budget { IfOk result (λ _. valuers + length feeds.items ≤ starts) }
+    ensures takers { IfOk result (λ handed. length handed.gathered.took ≡ allowance.valuers) }
+    ensures budget { IfOk result (λ _.
+        allowance.valuers + length feeds.items ≤ allowance.starts) }
 {
-    let lane = open_lane(alloc, plan.cones().len() as u8, valuers, capacity)?;
+    let lane = open_lane(
+        alloc,
+        plan.cones().len() as u8,
+        allowance.valuers,
+        allowance.capacity,
+    )?;
     let ready = Ready {
         shared: Shared {
             rt,
@@ -101,7 +116,7 @@ pub fn hand_over<R: Threads + Wait + Sync, F: Feed + Send + Drop, G: Gate + Sync
             destinations,
             gate,
         },
-        starts,
+        starts: allowance.starts,
         room: room_for(alloc, lane.puts.len(), lane.takes.len())?,
         valuers: Vec::with_capacity(alloc, lane.takes.len())?,
         readers: Vec::with_capacity(alloc, lane.puts.len())?,
