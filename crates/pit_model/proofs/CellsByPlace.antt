@@ -6,24 +6,26 @@ use Rattle.std.proofs.lemmas.Int.{ints}
 use Rattle.forms.proofs.DemandFacts.{Follows}
 use Rattle.forms.proofs.FormFacts.{counted, field_told, spelled_fit, parts}
 use Rattle.forms.specs.Asked.{asked_of_field}
-use Rattle.forms.specs.Field.{Field, Value, Millionths, below, whole, whole_at}
+use Rattle.forms.specs.Field.{Field, Value, Bytes, Millionths, below, whole, whole_at}
 use Rattle.forms.specs.Fit.{FitsField, is_fine}
 use Rattle.forms.specs.Read.{read, read_field, read_fields}
 use Rattle.forms.specs.Spelled.{Says}
 use Rattle.forms.specs.Shape.{Check, Shape, failing, said, unless}
 use Rattle.forms.specs.Steps.{◌>>=◌}
 use Rattle.records.specs.RecordCells.{cell_at}
-use Rattle.pit_model.specs.inner.ByPlace.{key_by_place, bound_in, leach_in, limited, length_of, limit_in, read_from, resource_in, said_by_place, size_of, zone_in}
-use Rattle.pit_model.specs.FormulaShapes.{bands_asked, bands_form, bands_of}
-use Rattle.pit_model.specs.PlanShapes.{grid_shape, key_of, once, record_shape, a_destination, a_resource, bound_form, bound_of, cone_of, covers_of, limit_on, new_destination, resource_asked, room_for_destination, room_for_zone, cells_shape, destination_shape, is_interval, key_shape, limit_form, limit_shape, resource_form, resource_shape, zone_form, zone_shape}
-use Rattle.pit_model.specs.Stated.{Stated, resource_named, with_destination, with_resource, with_zone}
+use Rattle.pit_model.specs.inner.ByPlace.{key_by_place, bound_in, destination_in, destined, limited, length_of, limit_in, read_from, resource_in, said_by_place, size_of, zone_in}
+use Rattle.pit_model.specs.FormulaShapes.{bands_asked, bands_form, bands_of, formula_shape}
+use Rattle.pit_model.specs.PlanShapes.{grid_shape, key_of, once, record_shape, a_destination, a_resource, bound_form, bound_of, cone_of, covers_of, limit_on, resource_asked, room_for_zone, cells_shape, destination_shape, is_interval, key_shape, limit_form, limit_shape, resource_form, resource_shape, zone_form, zone_shape}
+use Rattle.pit_model.specs.Stated.{Stated, resource_named, with_resource, with_zone}
 use Rattle.pit_model.specs.declared.plan_fault.PlanFaultKind.TheVariants.{Width}
+use Rattle.pit_model.specs.declared.draft.formulas.FormulaKey.{FormulaKey}
 use Rattle.pit_model.specs.declared.draft.formulas.FormulaKey.TheVariants as formula_key
+use Rattle.pit_model.specs.declared.formula.Formula.{Formula}
 use Rattle.pit_model.specs.declared.formula.Formula.TheVariants.{Leach}
 use Rattle.pit_model.specs.declared.limit.Bound.{Bound}
 use Rattle.pit_model.specs.declared.plan_key.PlanKey.{PlanKey}
 use Rattle.pit_model.specs.declared.plan_key.PlanKey.TheVariants as key
-use Rattle.pit_model.specs.PlanCells.{a_cost, a_name, a_price, a_size, an_origin, between, plan_kind, word_of}
+use Rattle.pit_model.specs.PlanCells.{a_cost, a_name, a_price, a_recovery, a_size, an_origin, between, plan_kind, word_at, word_of}
 use Rattle.pit_model.specs.declared.plan_fault.PlanFaultKind.{PlanFaultKind}
 
 pub quotient : (n : ℕ) → n * 10 ^ 6 / 10 ^ 6 ≡ n
@@ -138,8 +140,11 @@ bands_long : (n : ℕ) → length (bands_form n) ≡ 2 * n
 bands_long zero = refl
 bands_long (suc n) = omega (arith, bands_long n)
 
-pub leach_placed : (s : Stated) (cells : List (List ℕ))
-    → said_by_place cells (destination_shape s formula_key.Leach cells) ≡ leach_in s cells
+-- a destination whose formula is read on its own
+abbrev Placed : Stated → FormulaKey → List (List ℕ) → Type 0
+Placed s k cells = said_by_place cells (destination_shape s k cells) ≡ destination_in s k cells
+
+leach_placed : (s : Stated) (cells : List (List ℕ)) → Placed s formula_key.Leach cells
 leach_placed s cells =
     rw width (by (nat_lt (length cells) 6 || not (length cells % 2 == 0)) (read_field plan_kind a_name (cell_at cells 1))
     (read_field plan_kind a_price (cell_at cells 2))
@@ -149,21 +154,46 @@ leach_placed s cells =
         ≡ not (nat_lt (length cells) 6 || not (length cells % 2 == 0))
     width = grind (arith, nat_tests, bands_long ((length cells - 6) / 2))
 
+    prices : Result Value PlanFaultKind → Result Value PlanFaultKind → Result (ℕ × ℕ) PlanFaultKind
+    prices r q = r >>= λ price. q >>= λ cost. Ok (whole_at (price ∷ []) 0, whole_at (cost ∷ []) 0)
+
     by : (t : Bool) (r1 r2 r3 : Result Value PlanFaultKind) (r4 : Result (List Value) PlanFaultKind)
         → (if not (not t) then Err Width else
         ((r1 >>= λ a. (r2 >>= λ b. (r3 >>= λ c. r4 >>= λ ds. Ok (c ∷ ds)) >>= λ cs. Ok (b ∷ cs)) >>= λ bs. Ok (a ∷ bs))
         >>= λ values. unless (failing ((destination_shape s formula_key.Leach cells).last values))
         (Ok ((destination_shape s formula_key.Leach cells).next values))))
-        ≡ (if t then Err Width else (r1 >>= λ name. r2 >>= λ price. r3
-        >>= λ cost. (r4 >>= λ values. Ok ([] ++ bands_of values)) >>= λ bands.
-        unless (failing (new_destination s (word_of name) ++ bands_asked bands ++ room_for_destination s))
-        (Ok (with_destination s (word_of name) (Leach bands (whole_at (price ∷ []) 0) (whole_at (cost ∷ []) 0))))))
+        ≡ (if t then Err Width else (r1 >>= λ name. prices r2 r3 >>= λ p. (r4 >>= λ values. Ok ([] ++ bands_of values)) >>= λ bands.
+        destined s (word_of name) (bands_asked bands) (Leach bands p.0 p.1)))
     by true r1 r2 r3 r4 = refl
     by false (Err kind) r2 r3 r4 = refl
     by false (Ok a) (Err kind) r3 r4 = refl
     by false (Ok a) (Ok b) (Err kind) r4 = refl
     by false (Ok a) (Ok b) (Ok c) (Err kind) = refl
     by false (Ok a) (Ok b) (Ok c) (Ok ds) = refl
+
+-- a formula that takes nothing of the NAME
+formula_placed : (s : Stated) (made : List Value → Formula)
+    → ((a : Value) (values : List Value) → made (a ∷ values) ≡ made (Bytes [] ∷ values))
+    → (t : Bool) (r : Result Value PlanFaultKind) (rs : Result (List Value) PlanFaultKind)
+    → (if not t then Err Width else ((r >>= λ a. rs >>= λ values. Ok (a ∷ values))
+    >>= λ values. destined s (word_at values 0) [] (made values)))
+    ≡ (if not t then Err Width else (r >>= λ name. (rs >>= λ values. Ok (made (Bytes [] ∷ values)))
+    >>= λ formula. destined s (word_of name) [] formula))
+formula_placed s made alike false r rs = refl
+formula_placed s made alike true (Err kind) rs = refl
+formula_placed s made alike true (Ok a) (Err kind) = refl
+formula_placed s made alike true (Ok a) (Ok values) = ap (λ formula. destined s (word_of a) [] formula) (alike a values)
+
+destination_placed : (s : Stated) (k : FormulaKey) (cells : List (List ℕ)) → Placed s k cells
+destination_placed s formula_key.Mill cells =
+    formula_placed s (formula_shape formula_key.Mill cells).made
+    (λ a values. refl) (length cells == 5) (read_field plan_kind a_name (cell_at cells 1))
+    (read_from 2 (a_recovery ∷ a_price ∷ a_cost ∷ []) cells)
+destination_placed s formula_key.Leach cells = leach_placed s cells
+destination_placed s formula_key.Dump cells =
+    formula_placed s (formula_shape formula_key.Dump cells).made
+    (λ a values. refl) (length cells == 3) (read_field plan_kind a_name (cell_at cells 1))
+    (read_from 2 (a_cost ∷ []) cells)
 
 all_long : (n : ℕ) (field : Field) → length (replicate n field) ≡ n
 all_long zero field = refl
@@ -215,7 +245,7 @@ key_placed s key.Resource cells some = keyed cells (key_shape s (Some key.Resour
 key_placed s key.Limit cells some = keyed cells (key_shape s (Some key.Limit) cells) some ∙ limit_placed s cells
 key_placed s key.Name cells some = keyed cells (key_shape s (Some key.Name) cells) some
 key_placed s key.Grid cells some = keyed cells (key_shape s (Some key.Grid) cells) some
-key_placed s (key.Destination k) cells some = keyed cells (key_shape s (Some (key.Destination k)) cells) some
+key_placed s (key.Destination k) cells some = keyed cells (key_shape s (Some (key.Destination k)) cells) some ∙ destination_placed s k cells
 key_placed s key.Periods cells some = keyed cells (key_shape s (Some key.Periods) cells) some
 key_placed s key.Rate cells some = keyed cells (key_shape s (Some key.Rate) cells) some
 

@@ -1,6 +1,6 @@
 //! A plan while its records are read.
 
-ghost use Rattle.std.specs.Prelude.{◌≡◌, ◌≤ℤ◌, ◌<◌, pos, length, unwrap_or, IfOk};
+ghost use Rattle.std.specs.Prelude.{◌≡◌, ◌≤ℤ◌, ◌<◌, ◌≤◌, pos, length, unwrap_or, All, IfOk};
 ghost use Rattle.csv.specs.Records.{fields_of};
 ghost use Rattle.pit_model.specs.Admits.{Admits};
 ghost use Rattle.records.specs.RecordCells.{cells_of};
@@ -8,7 +8,7 @@ ghost use Rattle.pit_model.specs.PlanKept.{AreTonnes};
 ghost use Rattle.forms.specs.Field.{Millionths};
 ghost use Rattle.forms.specs.Read.{read_field};
 ghost use Rattle.forms.specs.Shape.{said};
-ghost use Rattle.pit_model.specs.inner.ByPlace.{Gives, key_by_place, limit_in, limited, resource_in, said_by_place, zone_in};
+ghost use Rattle.pit_model.specs.inner.ByPlace.{Gives, covered, key_by_place, limit_in, limited, resource_in, said_by_place, zone_in};
 ghost use Rattle.pit_model.specs.PlanCells.{a_rate, plan_kind};
 ghost use Rattle.pit_model.specs.PlanShapes.{grid_shape, name_shape, periods_shape, rate_shape, record_shape};
 ghost use Rattle.pit_model.specs.Planned.{finished};
@@ -217,15 +217,23 @@ impl Draft {
         }
         let name = name_in(self.alloc, cell_at(row, 1))?;
         let covers = covers_in(self.alloc, row, count, self.formulas.as_slice())?;
-        if is_resource(self.resources.as_slice(), cell_at(row, 1))
-            || has_repeat(covers.as_slice())
+        self.add_resource(Resource { name, covers })
+    }
+
+    fn add_resource(&mut self, resource: Resource) -> Result<(), RecordError>
+        requires there { All (λ n. n < length self.old.formulas) resource.covers }
+        requires some { 1 ≤ length resource.covers }
+        ensures { Admits self.new result (covered self.old resource.name resource.covers) }
+    {
+        if is_resource(self.resources.as_slice(), resource.name.as_str().as_bytes())
+            || has_repeat(resource.covers.as_slice())
         {
             return Err(RecordError::Fault(PlanFaultKind::Twice));
         }
         if self.resources.len() == MAX_RESOURCES as usize {
             return Err(RecordError::Fault(PlanFaultKind::TooMany));
         }
-        self.resources.push(Resource { name, covers })?;
+        self.resources.push(resource)?;
         Ok(())
     }
 

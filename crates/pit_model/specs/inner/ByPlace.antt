@@ -1,16 +1,19 @@
 -- Cells read one after the other, each at its place, as code reads them.
-use Rattle.std.specs.Prelude.{◌≡◌, ℕ, suc, ◌-◌, ◌/◌, ◌%◌, ◌==◌, ◌||◌, Bool, not, nat_lt, List, [], ◌∷◌, ◌++◌, length, replicate, ℤ, pos, ◌*ℤ◌, Option, Some, None, unwrap_or, Result, Ok, Err, if◌then◌else◌}
-use Rattle.forms.specs.Field.{Field, Value, Millionths, below, whole_at}
+use Rattle.std.specs.Prelude.{◌≡◌, ℕ, suc, ◌-◌, ◌/◌, ◌%◌, ◌==◌, ◌||◌, Bool, not, nat_lt, List, [], ◌∷◌, ◌++◌, length, drop, replicate, ℤ, pos, ◌*ℤ◌, Option, Some, None, unwrap_or, Result, Ok, Err, if◌then◌else◌}
+use Rattle.forms.specs.Field.{Field, Value, Bytes, Millionths, below, whole_at}
 use Rattle.forms.specs.Read.{read_field}
-use Rattle.forms.specs.Shape.{Shape, failing, unless}
+use Rattle.forms.specs.Shape.{Check, Shape, failing, unless}
 use Rattle.forms.specs.Steps.{◌>>=◌}
 use Rattle.records.specs.RecordCells.{cell_at}
 use Rattle.pit_model.specs.PlanCells.{a_cost, a_name, a_price, a_recovery, a_start, plan_kind, word_of}
-use Rattle.pit_model.specs.FormulaShapes.{band_at, bands_asked, bands_form, bands_of}
+use Rattle.pit_model.specs.FormulaShapes.{band_at, bands_asked, bands_form, bands_of, formula_shape}
 use Rattle.pit_model.specs.PlanShapes.{a_destination, a_resource, bound_form, bound_of, cone_of, covers_of, is_interval, key_shape, limit_asked, limit_form, limit_on, new_destination, resource_asked, room_for_destination, room_for_zone, zone_form}
 use Rattle.pit_model.specs.Stated.{Stated, with_destination, with_limit, with_resource, with_zone}
 use Rattle.pit_model.specs.declared.band.Band.{Band}
 use Rattle.pit_model.specs.declared.cone.Cone.{Cone}
+use Rattle.pit_model.specs.declared.draft.formulas.FormulaKey.{FormulaKey}
+use Rattle.pit_model.specs.declared.draft.formulas.FormulaKey.TheVariants as formula_key
+use Rattle.pit_model.specs.declared.formula.Formula.{Formula}
 use Rattle.pit_model.specs.declared.formula.Formula.TheVariants.{Leach}
 use Rattle.pit_model.specs.declared.formula.NamedFormula.{NamedFormula}
 use Rattle.pit_model.specs.declared.limit.Bound.{Bound}
@@ -50,7 +53,7 @@ said_by_place cells shape =
     if not (length cells == suc (length shape.form)) then Err Width
     else (read_from 1 shape.form cells >>= λ values. unless (failing (shape.last values)) (Ok (shape.next values)))
 
--- that of a zone, of a leach, of a resource and of a limit, whose parts are read on their own
+-- that of a zone, of a destination, of a resource and of a limit, whose parts are read on their own
 abbrev pub cone_by : Bool → List (List ℕ) → Result Cone PlanFaultKind
 cone_by equal cells = read_from 1 (zone_form equal) cells >>= λ values. Ok (cone_of equal values)
 
@@ -69,26 +72,46 @@ band_by start recovery = do
 abbrev pub bands_in : ℕ → ℕ → List (List ℕ) → List Band → Result (List Band) PlanFaultKind
 bands_in place n cells before = read_from place (bands_form n) cells >>= λ values. Ok (before ++ bands_of values)
 
-abbrev pub leach_in : Stated → List (List ℕ) → Result Stated PlanFaultKind
-leach_in s cells =
+abbrev pub prices_in : List ℕ → List ℕ → Result (ℕ × ℕ) PlanFaultKind
+prices_in price cost = do
+  of_metal ← read_field plan_kind a_price price
+  of_rock ← read_field plan_kind a_cost cost
+  Ok (whole_at (of_metal ∷ []) 0, whole_at (of_rock ∷ []) 0)
+
+-- the formula of the cells behind a NAME
+abbrev pub formula_in : FormulaKey → List (List ℕ) → Result Formula PlanFaultKind
+formula_in k cells = read_from 2 (drop 1 (formula_shape k cells).form) cells >>= λ values. Ok ((formula_shape k cells).made (Bytes [] ∷ values))
+
+-- a destination of this NAME and formula, and what is asked of the formula
+abbrev pub destined : Stated → List ℕ → List (Check PlanFaultKind) → Formula → Result Stated PlanFaultKind
+destined s name asked formula = unless (failing (new_destination s name ++ asked ++ room_for_destination s)) (Ok (with_destination s name formula))
+
+abbrev pub destination_in : Stated → FormulaKey → List (List ℕ) → Result Stated PlanFaultKind
+destination_in s formula_key.Leach cells =
     if nat_lt (length cells) 6 || not (length cells % 2 == 0) then Err Width else do
       name ← read_field plan_kind a_name (cell_at cells 1)
-      price ← read_field plan_kind a_price (cell_at cells 2)
-      cost ← read_field plan_kind a_cost (cell_at cells 3)
+      prices ← prices_in (cell_at cells 2) (cell_at cells 3)
       bands ← bands_in 4 (suc ((length cells - 6) / 2)) cells []
-      unless (failing (new_destination s (word_of name) ++ bands_asked bands ++ room_for_destination s))
-          (Ok (with_destination s (word_of name) (Leach bands (whole_at (price ∷ []) 0) (whole_at (cost ∷ []) 0))))
+      destined s (word_of name) (bands_asked bands) (Leach bands prices.0 prices.1)
+destination_in s k cells =
+    if not (length cells == suc (length (formula_shape k cells).form)) then Err Width else do
+      name ← read_field plan_kind a_name (cell_at cells 1)
+      formula ← formula_in k cells
+      destined s (word_of name) [] formula
 
 abbrev pub covers_in : ℕ → ℕ → List (List ℕ) → List NamedFormula → List ℕ → Result (List ℕ) PlanFaultKind
 covers_in place n cells formulas before =
     read_from place (replicate n (a_destination formulas)) cells >>= λ values. Ok (before ++ covers_of formulas values)
+
+abbrev pub covered : Stated → List ℕ → List ℕ → Result Stated PlanFaultKind
+covered s name covers = unless (failing (resource_asked s name covers)) (Ok (with_resource s name covers))
 
 abbrev pub resource_in : Stated → List (List ℕ) → Result Stated PlanFaultKind
 resource_in s cells =
     if nat_lt (length cells) 3 then Err Width else do
       name ← read_field plan_kind a_name (cell_at cells 1)
       covers ← covers_in 2 (suc (length cells - 3)) cells s.formulas []
-      unless (failing (resource_asked s (word_of name) covers)) (Ok (with_resource s (word_of name) covers))
+      covered s (word_of name) covers
 
 abbrev pub bound_in : List (List ℕ) → Result Bound PlanFaultKind
 bound_in cells = read_from 3 (bound_form (is_interval cells)) cells >>= λ values. Ok (bound_of (is_interval cells) values)
@@ -109,8 +132,8 @@ abbrev pub key_by_place : Stated → PlanKey → List (List ℕ) → Result Stat
 key_by_place s key.Zone cells = zone_in s cells
 key_by_place s key.Resource cells = resource_in s cells
 key_by_place s key.Limit cells = limit_in s cells
+key_by_place s (key.Destination k) cells = destination_in s k cells
 key_by_place s key.Name cells = said_by_place cells (key_shape s (Some key.Name) cells)
 key_by_place s key.Grid cells = said_by_place cells (key_shape s (Some key.Grid) cells)
-key_by_place s (key.Destination k) cells = said_by_place cells (key_shape s (Some (key.Destination k)) cells)
 key_by_place s key.Periods cells = said_by_place cells (key_shape s (Some key.Periods) cells)
 key_by_place s key.Rate cells = said_by_place cells (key_shape s (Some key.Rate) cells)

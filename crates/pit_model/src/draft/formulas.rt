@@ -1,14 +1,14 @@
 //! The records of destinations: for each formula its key, and how its cells are read.
 
-ghost use Rattle.std.specs.Prelude.{◌≡◌, ◌≤◌, ◌++◌, length, All, Ok};
+ghost use Rattle.std.specs.Prelude.{◌≡◌, ◌≤◌, [], length, All, IfOk, Ok};
 ghost use Rattle.csv.specs.Records.{fields_of};
 ghost use Rattle.forms.specs.Shape.{failing, unless};
 ghost use Rattle.pit_model.specs.Admits.{Admits};
 ghost use Rattle.pit_model.specs.BandsKept.{IsBand};
-ghost use Rattle.pit_model.specs.inner.ByPlace.{leach_in, said_by_place};
+ghost use Rattle.pit_model.specs.inner.ByPlace.{destination_in, destined, formula_in, prices_in};
 ghost use Rattle.pit_model.specs.FormulaShapes.{bands_asked, formula_key_of};
 ghost use Rattle.pit_model.specs.Formula.{IsRuled};
-ghost use Rattle.pit_model.specs.PlanShapes.{destination_shape, room_for_destination};
+ghost use Rattle.pit_model.specs.PlanShapes.{room_for_destination};
 ghost use Rattle.pit_model.specs.Stated.{with_destination};
 ghost use Rattle.pit_model.specs.declared.draft.formulas.FormulaKey.TheVariants as key;
 ghost use Rattle.pit_model.specs.declared.formula.Formula.TheVariants.{Leach};
@@ -52,7 +52,6 @@ pub fn formula_key_of(cell: &[u8]) -> Option<FormulaKey>
 
 impl Draft {
     /// Adds the destination of a record of so many cells.
-    #[tactic(auto, using(crate::proofs::CellsByPlace::leach_placed))]
     pub(crate) fn admit_destination(
         &mut self,
         key: FormulaKey,
@@ -61,8 +60,7 @@ impl Draft {
     ) -> Result<(), RecordError>
         requires { count ≡ length (cells_of (fields_of row.now)) }
         ensures { Admits self.new result
-            (said_by_place (cells_of (fields_of row.now))
-            (destination_shape self.old key (cells_of (fields_of row.now)))) }
+            (destination_in self.old key (cells_of (fields_of row.now))) }
     {
         match key {
             FormulaKey::Mill => self.admit_mill(row, count),
@@ -71,48 +69,32 @@ impl Draft {
         }
     }
 
-    #[tactic(auto, using(crate::proofs::CellsByPlace::quotient))]
     fn admit_mill(&mut self, row: &ByteRecord, count: usize) -> Result<(), RecordError>
         requires { count ≡ length (cells_of (fields_of row.now)) }
         ensures { Admits self.new result
-            (said_by_place (cells_of (fields_of row.now))
-            (destination_shape self.old key.Mill (cells_of (fields_of row.now)))) }
+            (destination_in self.old key.Mill (cells_of (fields_of row.now))) }
     {
         if count != 5 {
             return Err(RecordError::Fault(PlanFaultKind::Width));
         }
         let name = name_in(self.alloc, cell_at(row, 1))?;
-        let recovery = whole_in(cell_at(row, 2), 0, u32::from(MAX_RECOVERY))?;
-        let price = whole_in(cell_at(row, 3), 0, MAX_PRICE)?;
-        let cost = whole_in(cell_at(row, 4), 0, MAX_COST)?;
-        if is_taken(self.formulas.as_slice(), cell_at(row, 1)) {
-            return Err(RecordError::Fault(PlanFaultKind::Twice));
-        }
-        let formula = Formula::Mill {
-            recovery: recovery as u16,
-            price: price as u64,
-            cost: cost as u64,
-        };
-        self.add_formula(name, formula)
+        let formula = mill_in(row)?;
+        self.add_new(name, formula)
     }
 
-    #[tactic(auto, using(crate::proofs::CellsByPlace::quotient))]
     fn admit_leach(&mut self, row: &ByteRecord, count: usize) -> Result<(), RecordError>
         requires { count ≡ length (cells_of (fields_of row.now)) }
-        ensures { Admits self.new result (leach_in self.old (cells_of (fields_of row.now))) }
+        ensures { Admits self.new result
+            (destination_in self.old key.Leach (cells_of (fields_of row.now))) }
     {
         if count < 6 || count % 2 != 0 {
             return Err(RecordError::Fault(PlanFaultKind::Width));
         }
         let name = name_in(self.alloc, cell_at(row, 1))?;
-        let price = whole_in(cell_at(row, 2), 0, MAX_PRICE)?;
-        let cost = whole_in(cell_at(row, 3), 0, MAX_COST)?;
+        let (price, cost) = prices_in(cell_at(row, 2), cell_at(row, 3))?;
         let mut bands = Vec::new(self.alloc);
         read_bands(row, count, &mut bands)?;
-        if is_taken(self.formulas.as_slice(), cell_at(row, 1)) {
-            return Err(RecordError::Fault(PlanFaultKind::Twice));
-        }
-        self.add_leach(name, bands, price as u64, cost as u64)
+        self.add_leach(name, bands, price, cost)
     }
 
     fn add_leach(
@@ -127,37 +109,40 @@ impl Draft {
         requires price { price ≤ MAX_PRICE }
         requires cost { cost ≤ MAX_COST }
         ensures { Admits self.new result
-            (unless (failing (bands_asked bands.items ++ room_for_destination self.old))
-            (Ok (with_destination self.old name (Leach bands.items price cost)))) }
+            (destined self.old name (bands_asked bands.items) (Leach bands.items price cost)) }
     {
-        if !starts_rise(bands.as_slice()) {
-            return Err(RecordError::Fault(PlanFaultKind::Order));
+        if is_taken(self.formulas.as_slice(), name.as_str().as_bytes()) {
+            return Err(RecordError::Fault(PlanFaultKind::Twice));
         }
-        if bands.len() > MAX_BANDS {
-            return Err(RecordError::Fault(PlanFaultKind::TooMany));
-        }
-        let bands = Bands::new(bands).unwrap();
+        let bands = rising(bands)?;
         self.add_formula(name, Formula::Leach { bands, price, cost })
     }
 
-    #[tactic(auto, using(crate::proofs::CellsByPlace::quotient))]
     fn admit_dump(&mut self, row: &ByteRecord, count: usize) -> Result<(), RecordError>
         requires { count ≡ length (cells_of (fields_of row.now)) }
         ensures { Admits self.new result
-            (said_by_place (cells_of (fields_of row.now))
-            (destination_shape self.old key.Dump (cells_of (fields_of row.now)))) }
+            (destination_in self.old key.Dump (cells_of (fields_of row.now))) }
     {
         if count != 3 {
             return Err(RecordError::Fault(PlanFaultKind::Width));
         }
         let name = name_in(self.alloc, cell_at(row, 1))?;
-        let cost = whole_in(cell_at(row, 2), 0, MAX_COST)?;
-        if is_taken(self.formulas.as_slice(), cell_at(row, 1)) {
-            return Err(RecordError::Fault(PlanFaultKind::Twice));
-        }
-        self.add_formula(name, Formula::Dump { cost: cost as u64 })
+        let formula = dump_in(row)?;
+        self.add_new(name, formula)
     }
 
+    // Where no destination has the NAME yet.
+    fn add_new(&mut self, name: Name, formula: Formula) -> Result<(), RecordError>
+        requires { IsRuled formula }
+        ensures { Admits self.new result (destined self.old name [] formula) }
+    {
+        if is_taken(self.formulas.as_slice(), name.as_str().as_bytes()) {
+            return Err(RecordError::Fault(PlanFaultKind::Twice));
+        }
+        self.add_formula(name, formula)
+    }
+
+    // Where there is room.
     fn add_formula(&mut self, name: Name, formula: Formula) -> Result<(), RecordError>
         requires { IsRuled formula }
         ensures { Admits self.new result
@@ -170,4 +155,56 @@ impl Draft {
         self.formulas.push(NamedFormula { name, formula })?;
         Ok(())
     }
+}
+
+// The numbers of a mill.
+#[tactic(auto, using(crate::proofs::CellsByPlace::quotient))]
+fn mill_in(row: &ByteRecord) -> Result<Formula, PlanFaultKind>
+    ensures value { result ≡ formula_in key.Mill (cells_of (fields_of row.now)) }
+    ensures in_range { IfOk result IsRuled }
+{
+    let recovery = whole_in(cell_at(row, 2), 0, u32::from(MAX_RECOVERY))?;
+    let price = whole_in(cell_at(row, 3), 0, MAX_PRICE)?;
+    let cost = whole_in(cell_at(row, 4), 0, MAX_COST)?;
+    Ok(Formula::Mill {
+        recovery: recovery as u16,
+        price: price as u64,
+        cost: cost as u64,
+    })
+}
+
+// The cost of a dump.
+#[tactic(auto, using(crate::proofs::CellsByPlace::quotient))]
+fn dump_in(row: &ByteRecord) -> Result<Formula, PlanFaultKind>
+    ensures value { result ≡ formula_in key.Dump (cells_of (fields_of row.now)) }
+    ensures in_range { IfOk result IsRuled }
+{
+    let cost = whole_in(cell_at(row, 2), 0, MAX_COST)?;
+    Ok(Formula::Dump { cost: cost as u64 })
+}
+
+// The price and the cost that two cells state.
+#[tactic(auto, using(crate::proofs::CellsByPlace::quotient))]
+fn prices_in(price: &[u8], cost: &[u8]) -> Result<(u64, u64), PlanFaultKind>
+    ensures value { result ≡ prices_in price.now cost.now }
+    ensures in_range { IfOk result (λ prices. (prices.0 ≤ MAX_PRICE) × (prices.1 ≤ MAX_COST)) }
+{
+    let price = whole_in(price, 0, MAX_PRICE)?;
+    let cost = whole_in(cost, 0, MAX_COST)?;
+    Ok((price as u64, cost as u64))
+}
+
+// The bands of a leach, where they rise and are not too many.
+fn rising(bands: Vec<Band>) -> Result<Bands, PlanFaultKind>
+    requires some { 1 ≤ length bands.items }
+    requires in_range { All IsBand bands.items }
+    ensures { result ≡ unless (failing (bands_asked bands.items)) (Ok bands.items) }
+{
+    if !starts_rise(bands.as_slice()) {
+        return Err(PlanFaultKind::Order);
+    }
+    if bands.len() > MAX_BANDS {
+        return Err(PlanFaultKind::TooMany);
+    }
+    Ok(Bands::new(bands).unwrap())
 }
