@@ -82,7 +82,7 @@ fn resource_place(resources: &[Resource], name: &[u8]) -> Option<usize>
 }
 
 /// The numbers of the destinations that the cells of a `resource` record name, from its third cell on.
-#[tactic(auto, using(crate::proofs::BandSteps::covers_end, crate::proofs::BandSteps::covers_more, crate::proofs::BandSteps::covers_fail))]
+#[tactic(auto, using(crate::proofs::BandSteps::covers_end))]
 pub fn covers_in(
     alloc: Global,
     row: &ByteRecord,
