@@ -5,6 +5,8 @@ use Rattle.forms.specs.Grammar.{placed, read_all}
 use Rattle.forms.specs.Shape.{said}
 use Rattle.forms.specs.Steps.{◌>>=◌}
 use Rattle.records.specs.RecordCells.{cells_of}
+use Rattle.pit_model.specs.Admits.{AdmitsRecord, Reads}
+use Rattle.pit_model.specs.inner.ByPlace.{record_said}
 use Rattle.pit_model.specs.Plan.{PlanParts}
 use Rattle.pit_model.specs.PlanShapes.{record_shape}
 use Rattle.pit_model.specs.Planned.{finished, finished_at, plan_grammar, planned}
@@ -12,8 +14,9 @@ use Rattle.records.specs.RecordReader.{RecordReaderView, Rows, Over, GaveUp, Tak
 use Rattle.records.specs.Records.{records_of}
 use Rattle.pit_model.specs.Stated.{Stated, nothing_stated}
 use Rattle.pit_model.specs.declared.plan_fault.PlanFault.{PlanFault}
-use Rattle.pit_model.specs.declared.plan_fault.PlanFaultKind.{PlanFaultKind}
 use Rattle.pit_model.specs.declared.plan_fault.PlanFaultKind.TheVariants.{TooMany}
+use Rattle.pit_model.specs.declared.plan_fault.ReadPlanError.{ReadPlanError}
+use Rattle.pit_model.specs.declared.plan_fault.ReadPlanError.TheVariants as error
 
 -- the plan of these records, the first of them of this number
 abbrev pub plan_from : List (List (List ℕ)) → ℕ → Stated → Result PlanParts PlanFault
@@ -30,21 +33,24 @@ Leads (Rows rows) n s stated = plan_from rows n s ≡ stated
 Leads Over n s stated = ⊥
 Leads GaveUp n s stated = ⊥
 
+-- a record whose number is not too great, and one whose number is
+pub numbered : (n : ℕ) (s : Stated) (row : List (List ℕ)) → n ≤ 10000
+    → record_said n s row ≡ placed plan_grammar n row (said (record_shape s (cells_of row)))
+numbered n s row few = let test : nat_le n 10000 ≡ true = grind (arith, nat_tests) in rw test refl
+
+pub too_many : (n : ℕ) (s : Stated) (row : List (List ℕ)) → 10000 < n → record_said n s row ≡ Err (record { row = n; kind = TooMany })
+too_many n s row past = let test : nat_le n 10000 ≡ false = grind (arith, nat_tests) in rw test refl
+
 -- the first of them
-one : (row : List (List ℕ)) (rows : List (List (List ℕ))) (n : ℕ) (s : Stated) → n ≤ 10000
-    → plan_from (row ∷ rows) n s ≡ (placed plan_grammar n row (said (record_shape s (cells_of row)))
-    >>= λ next. plan_from rows (n + 1) next)
-one row rows n s few =
-    let test : nat_le n 10000 ≡ true = grind (arith, nat_tests) in
+one : (row : List (List ℕ)) (rows : List (List (List ℕ))) (n : ℕ) (s : Stated)
+    → plan_from (row ∷ rows) n s ≡ (record_said n s row >>= λ next. plan_from rows (n + 1) next)
+one row rows n s =
     let last : n + length (row ∷ rows) ≡ n + 1 + length rows = omega arith in
     let next : suc n ≡ n + 1 = omega arith in
-    rw test (
-    ap (λ k. (placed plan_grammar n row (said (record_shape s (cells_of row))) >>= λ x. read_all plan_grammar (suc n) x rows)
-    >>= λ last. finished_at k (finished last)) last
-    ∙ ap (λ k. (placed plan_grammar n row (said (record_shape s (cells_of row))) >>= λ x. read_all plan_grammar k x rows)
+    ap (λ k. (record_said n s row >>= λ x. read_all plan_grammar (suc n) x rows) >>= λ last. finished_at k (finished last)) last
+    ∙ ap (λ k. (record_said n s row >>= λ x. read_all plan_grammar k x rows)
     >>= λ last. finished_at (n + 1 + length rows) (finished last)) next
-    ∙ by (placed plan_grammar n row (said (record_shape s (cells_of row))))
-    )
+    ∙ by (record_said n s row)
   where
     by : (r : Result Stated PlanFault)
         → ((r >>= λ x. read_all plan_grammar (n + 1) x rows) >>= λ last. finished_at (n + 1 + length rows) (finished last))
@@ -70,27 +76,22 @@ ended E (Rows (row ∷ rows)) fields after n s stated t h = absurd (cc (t.0))
 ended E Over fields after n s stated t h = absurd h
 ended E GaveUp fields after n s stated t h = absurd t
 
-pub too_many : (E : Type 0) (old : RecordReaderView) (fields : List (List ℕ))
-    (after : RecordReaderView) (n : ℕ) (s : Stated) (stated : Result PlanParts PlanFault)
-    → TakesRow {E = E} old (Ok true) fields after → Leads old n s stated → 10000 < n → stated ≡ Err (record { row = n; kind = TooMany })
-too_many E old fields after n s stated t h past =
-    let test : nat_le n 10000 ≡ false = grind (arith, nat_tests) in
-    sym (took E old fields after n s stated t h).1.1 ∙ rw test refl
-
 -- the record states what is next, or has a fault
 pub admitted : (E : Type 0) (old : RecordReaderView) (fields : List (List ℕ))
     (after : RecordReaderView) (n : ℕ) (s next : Stated) (stated : Result PlanParts PlanFault)
-    → TakesRow {E = E} old (Ok true) fields after → Leads old n s stated → n ≤ 10000 → said (record_shape s (cells_of fields)) ≡ Ok next
+    → TakesRow {E = E} old (Ok true) fields after → Leads old n s stated → record_said n s fields ≡ Ok next
     → Leads after (n + 1) next stated
-admitted E old fields after n s next stated t h few states =
+admitted E old fields after n s next stated t h states =
     let p = took E old fields after n s stated t h in
-    rw p.1.0 (sym (one fields p.0 n s few ∙ ap (λ r. placed plan_grammar n fields r >>= λ x. plan_from p.0 (n + 1) x) states) ∙ p.1.1)
+    rw p.1.0 (sym (one fields p.0 n s ∙ ap (λ r. r >>= λ x. plan_from p.0 (n + 1) x) states) ∙ p.1.1)
 
 pub refused : (E : Type 0) (old : RecordReaderView) (fields : List (List ℕ))
-    (after : RecordReaderView) (n : ℕ) (s : Stated) (kind : PlanFaultKind)
+    (after : RecordReaderView) (n : ℕ) (s next : Stated) (error : ReadPlanError)
     (stated : Result PlanParts PlanFault)
-    → TakesRow {E = E} old (Ok true) fields after → Leads old n s stated → n ≤ 10000 → said (record_shape s (cells_of fields)) ≡ Err kind
-    → stated ≡ Err (record { row = n; kind = kind })
-refused E old fields after n s kind stated t h few fails =
+    → TakesRow {E = E} old (Ok true) fields after → Leads old n s stated
+    → AdmitsRecord {A = Unit {0}} next (Err error) (record_said n s fields)
+    → Reads (Err error) stated
+refused E old fields after n s next error.OutOfMemory stated t h fails = tt
+refused E old fields after n s next (error.Fault fault) stated t h fails =
     let p = took E old fields after n s stated t h in
-    sym p.1.1 ∙ one fields p.0 n s few ∙ ap (λ r. placed plan_grammar n fields r >>= λ x. plan_from p.0 (n + 1) x) fails
+    sym p.1.1 ∙ one fields p.0 n s ∙ ap (λ r. r >>= λ x. plan_from p.0 (n + 1) x) fails

@@ -15,6 +15,12 @@ Admits after (Ok x) admitted = admitted ≡ Ok after
 Admits after (Err (record_error.Fault kind)) admitted = admitted ≡ Err kind
 Admits after (Err record_error.OutOfMemory) admitted = Unit {0}
 
+-- the same of a record of a plan, whose fault has its number
+abbrev pub AdmitsRecord : {S A : Type 0} → S → Result A ReadPlanError → Result S PlanFault → Type 0
+AdmitsRecord after (Ok x) admitted = admitted ≡ Ok after
+AdmitsRecord after (Err (plan_error.Fault fault)) admitted = admitted ≡ Err fault
+AdmitsRecord after (Err plan_error.OutOfMemory) admitted = Unit {0}
+
 -- reading answers the plan that the text states, or its fault
 abbrev pub Reads : Result PlanParts ReadPlanError → Result PlanParts PlanFault → Type 0
 Reads (Ok plan) stated = stated ≡ Ok plan

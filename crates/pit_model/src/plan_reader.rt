@@ -1,8 +1,11 @@
 //! Reading a plan.
 
-ghost use Rattle.std.specs.Prelude.{◌≡◌};
-ghost use Rattle.pit_model.specs.Admits.{Reads};
-ghost use Rattle.pit_model.specs.Planned.{planned};
+ghost use Rattle.std.specs.Prelude.{◌≡◌, ◌≤◌, OnOk};
+ghost use Rattle.csv.specs.Records.{fields_of};
+ghost use Rattle.pit_model.specs.Admits.{AdmitsRecord, Reads};
+ghost use Rattle.pit_model.specs.inner.ByPlace.{record_said};
+ghost use Rattle.pit_model.specs.Planned.{finished, finished_at, planned};
+ghost use Rattle.pit_model.specs.declared.ranges.TheConstants.{MAX_PLAN_RECORDS};
 
 use crate::draft::Draft;
 use crate::plan::Plan;
@@ -32,15 +35,33 @@ pub fn read_plan(alloc: Global, text: &[u8]) -> Result<Plan, ReadPlanError>
     let mut draft = Draft::new(alloc);
     let mut number = 1;
     while reader.next(&mut row)? {
-        if number > MAX_PLAN_RECORDS {
-            return Err(fault(number, PlanFaultKind::TooMany));
-        }
-        match draft.admit(&row) {
-            Ok(()) => number += 1,
-            Err(RecordError::Fault(kind)) => return Err(fault(number, kind)),
-            Err(RecordError::OutOfMemory) => return Err(ReadPlanError::OutOfMemory),
-        }
+        admit(&mut draft, &row, number)?;
+        number += 1;
     }
+    finish(draft, number)
+}
+
+// Adds what the record of this number says.
+#[tactic(auto, using(crate::proofs::PlanSteps::numbered, crate::proofs::PlanSteps::too_many))]
+fn admit(draft: &mut Draft, row: &ByteRecord, number: u32) -> Result<(), ReadPlanError>
+    ensures admits { AdmitsRecord draft.new result
+        (record_said number draft.old (fields_of row.now)) }
+    ensures few { OnOk result (number ≤ MAX_PLAN_RECORDS) }
+{
+    if number > MAX_PLAN_RECORDS {
+        return Err(fault(number, PlanFaultKind::TooMany));
+    }
+    match draft.admit(row) {
+        Ok(()) => Ok(()),
+        Err(RecordError::Fault(kind)) => Err(fault(number, kind)),
+        Err(RecordError::OutOfMemory) => Err(ReadPlanError::OutOfMemory),
+    }
+}
+
+// The plan, one past whose last record this number is.
+fn finish(draft: Draft, number: u32) -> Result<Plan, ReadPlanError>
+    ensures { Reads result (finished_at number (finished draft)) }
+{
     match draft.finish() {
         Ok(plan) => Ok(plan),
         Err(kind) => Err(fault(number, kind)),

@@ -2,12 +2,14 @@
 use Rattle.std.specs.Prelude.{◌≡◌, ℕ, suc, ◌-◌, ◌/◌, ◌%◌, ◌==◌, ◌||◌, Bool, not, nat_lt, List, [], ◌∷◌, ◌++◌, length, drop, replicate, ℤ, pos, ◌*ℤ◌, Option, Some, None, unwrap_or, Result, Ok, Err, if◌then◌else◌}
 use Rattle.forms.specs.Field.{Field, Value, Bytes, Millionths, below, whole_at}
 use Rattle.forms.specs.Read.{read_field}
-use Rattle.forms.specs.Shape.{Check, Shape, failing, unless}
+use Rattle.forms.specs.Grammar.{placed}
+use Rattle.forms.specs.Shape.{Check, Shape, failing, said, unless}
 use Rattle.forms.specs.Steps.{◌>>=◌}
-use Rattle.records.specs.RecordCells.{cell_at}
+use Rattle.records.specs.RecordCells.{cell_at, cells_of}
 use Rattle.pit_model.specs.PlanCells.{a_cost, a_name, a_price, a_recovery, a_start, plan_kind, word_of}
 use Rattle.pit_model.specs.FormulaShapes.{band_at, bands_asked, bands_form, bands_of, formula_shape}
-use Rattle.pit_model.specs.PlanShapes.{a_destination, a_resource, bound_form, bound_of, cone_of, covers_of, is_interval, key_shape, limit_asked, limit_form, limit_on, new_destination, resource_asked, room_for_destination, room_for_zone, zone_form}
+use Rattle.pit_model.specs.PlanShapes.{a_destination, a_resource, bound_form, bound_of, cone_of, covers_of, is_interval, key_shape, limit_asked, limit_form, limit_on, new_destination, record_shape, resource_asked, room_for_destination, room_for_zone, zone_form}
+use Rattle.pit_model.specs.Planned.{numbered_shape, plan_grammar}
 use Rattle.pit_model.specs.Stated.{Stated, with_destination, with_limit, with_resource, with_zone}
 use Rattle.pit_model.specs.declared.band.Band.{Band}
 use Rattle.pit_model.specs.declared.cone.Cone.{Cone}
@@ -18,6 +20,7 @@ use Rattle.pit_model.specs.declared.formula.Formula.TheVariants.{Leach}
 use Rattle.pit_model.specs.declared.formula.NamedFormula.{NamedFormula}
 use Rattle.pit_model.specs.declared.limit.Bound.{Bound}
 use Rattle.pit_model.specs.declared.limit.Limit.{Limit}
+use Rattle.pit_model.specs.declared.plan_fault.PlanFault.{PlanFault}
 use Rattle.pit_model.specs.declared.plan_fault.PlanFaultKind.{PlanFaultKind}
 use Rattle.pit_model.specs.declared.plan_key.PlanKey.{PlanKey}
 use Rattle.pit_model.specs.declared.plan_key.PlanKey.TheVariants as key
@@ -137,3 +140,7 @@ key_by_place s key.Name cells = said_by_place cells (key_shape s (Some key.Name)
 key_by_place s key.Grid cells = said_by_place cells (key_shape s (Some key.Grid) cells)
 key_by_place s key.Periods cells = said_by_place cells (key_shape s (Some key.Periods) cells)
 key_by_place s key.Rate cells = said_by_place cells (key_shape s (Some key.Rate) cells)
+
+-- the record of this number, behind what was stated before it
+abbrev pub record_said : ℕ → Stated → List (List ℕ) → Result Stated PlanFault
+record_said number s row = placed plan_grammar number row (said (numbered_shape number (record_shape s (cells_of row))))
