@@ -2,6 +2,7 @@
 ghost use Rattle.std.specs.Prelude.{◌≤◌};
 
 use pit_units::{Dec, DecFault, front_dec, front_whole, parse_dec, put_dec};
+use std::alloc::Global;
 use std::test::Fail;
 
 fn read(text: &[u8], decimals: u8) -> Result<i128, DecFault>
@@ -102,47 +103,67 @@ fn front_of_texts(rt: HostRuntime) {
     }
 }
 
+// A byte so often, and what is behind it.
+fn long_text(alloc: Global, byte: u8, times: usize, end: &[u8]) -> Result<Vec<u8>, Fail> {
+    let mut text = vec![in alloc; byte; times]?;
+    text.extend_from_slice(end)?;
+    Ok(text)
+}
+
+// 10^100, and a part of a unit.
+fn great_and_fine(alloc: Global) -> Result<Vec<u8>, Fail> {
+    let zeros = long_text(alloc, b'0', 100, b".0001")?;
+    let mut text = Vec::from_slice(alloc, b"1")?;
+    text.extend_from_slice(zeros.as_slice())?;
+    Ok(text)
+}
+
 #[test]
 fn long_texts(rt: HostRuntime) -> Result<(), Fail> {
-    let mut coarse = vec![in rt.alloc(); b'0'; 1_000_000]?;
-    coarse.extend_from_slice(b"7.5")?;
+    let coarse = long_text(rt.alloc(), b'0', 1_000_000, b"7.5")?;
     assert_eq!(rt; read(coarse.as_slice(), 6), Ok(7_500_000));
 
-    let nines = vec![in rt.alloc(); b'9'; 1_000_000]?;
+    let nines = long_text(rt.alloc(), b'9', 1_000_000, b"")?;
     assert_eq!(rt; read(nines.as_slice(), 6), Err(DecFault::Range));
 
-    let mut fine = vec![in rt.alloc(); b'0'; 101]?;
-    fine[0] = b'1';
-    fine.extend_from_slice(b".0001")?;
+    let fine = great_and_fine(rt.alloc())?;
     assert_eq!(rt; read(fine.as_slice(), 3), Err(DecFault::TooFine));
     assert_eq!(rt; read(fine.as_slice(), 6), Err(DecFault::Range));
     Ok(())
 }
 
-#[test]
-fn further_texts(rt: HostRuntime) -> Result<(), Fail> {
-    let mut out = Vec::new(rt.alloc());
-    let most = 1_000_000_000_000_000_000_000_000;
-    for millionths in [
-        7_000_000,
-        1,
-        -1,
-        100_100,
-        -12_000_340,
-        most,
-        -most,
-        most - 1,
-    ] {
-        let dec = Dec::new(millionths).ok_or("out of range")?;
-        put_dec(rt.alloc(), &mut out, dec)?;
+const MOST: i128 = 1_000_000_000_000_000_000_000_000;
+
+const FURTHER: [i128; 8] = [
+    7_000_000,
+    1,
+    -1,
+    100_100,
+    -12_000_340,
+    MOST,
+    -MOST,
+    MOST - 1,
+];
+
+const FURTHER_TEXTS: &[u8] =
+    b"7 0.000001 -0.000001 0.1001 -12.00034 1000000000000000000 -1000000000000000000 999999999999999999.999999 ";
+
+// Each number's text, with a blank behind it.
+fn written(alloc: Global, numbers: &[i128]) -> Result<Vec<u8>, Fail> {
+    let mut out = Vec::new(alloc);
+    for millionths in numbers {
+        let dec = Dec::new(*millionths).ok_or("out of range")?;
+        put_dec(alloc, &mut out, dec)?;
         out.push(b' ')?;
     }
-    assert_eq!(rt;
-        out.as_slice(),
-        b"7 0.000001 -0.000001 0.1001 -12.00034 1000000000000000000 -1000000000000000000 999999999999999999.999999 ".as_slice()
-    );
-    assert_eq!(rt; Dec::new(most + 1), None);
-    assert_eq!(rt; Dec::new(-most - 1), None);
+    Ok(out)
+}
+
+#[test]
+fn further_texts(rt: HostRuntime) -> Result<(), Fail> {
+    assert_eq!(rt; written(rt.alloc(), &FURTHER)?.as_slice(), FURTHER_TEXTS);
+    assert_eq!(rt; Dec::new(MOST + 1), None);
+    assert_eq!(rt; Dec::new(-MOST - 1), None);
     assert_eq!(rt; Dec::new(i128::MIN), None);
     Ok(())
 }
