@@ -1,6 +1,11 @@
+ghost use Rattle.mine_instance.specs.Valid.{IsValid};
+
+use crate::tests::models::text_of;
+use mine_instance::instance::Instance;
 use minelib_text::mem_sink::MemSink;
 use minelib_text::text_fault::{ReadTextError, TextFault, TextFile, TextKind};
-use minelib_text::{read_cpit, read_instance, write_blocks, write_cpit, write_pcpsp, write_prec};
+use minelib_text::text_name::TextName;
+use minelib_text::{read_cpit, read_instance, write_cpit};
 use std::alloc::Global;
 use std::process::Abort;
 use std::test::Fail;
@@ -180,15 +185,27 @@ const MODEL_FAULTS: [(Change, u64, TextKind); 46] = [
     (Change::Front(13), 14, TextKind::Missing),
 ];
 
+// With each change, these lines of a model file have the fault of this kind in this line.
+fn have_faults(
+    rt: &impl Abort,
+    alloc: Global,
+    blocks: &[u8],
+    prec: &[u8],
+    lines: &[&'static [u8]],
+    faults: &[(Change, u64, TextKind)],
+) -> Result<(), Fail> {
+    for (change, line, kind) in faults {
+        let text = changed(alloc, lines, *change)?;
+        let found = fault_of(alloc, blocks, prec, text.as_slice())?;
+        assert!(rt; is_fault(found, TextFile::Pcpsp, *line, *kind));
+    }
+    Ok(())
+}
+
 // Every kind of fault of a model file, at every place that can have it.
 #[test]
 fn faults_of_model_files(rt: HostRuntime) -> Result<(), Fail> {
-    for (change, line, kind) in &MODEL_FAULTS {
-        let text = changed(rt.alloc(), &PCPSP, *change)?;
-        let found = fault_of(rt.alloc(), BLOCKS, PREC, text.as_slice())?;
-        assert!(&rt; is_fault(found, TextFile::Pcpsp, *line, *kind));
-    }
-    Ok(())
+    have_faults(&rt, rt.alloc(), BLOCKS, PREC, &PCPSP, &MODEL_FAULTS)
 }
 
 const TEXT_FAULTS: [(&[u8], &[u8], TextFile, u64, TextKind); 24] = [
@@ -302,15 +319,25 @@ const TEXT_FAULTS: [(&[u8], &[u8], TextFile, u64, TextKind); 24] = [
     ),
 ];
 
+// Each block file and precedence file has the fault of this kind in this line.
+fn are_faulty(
+    rt: &impl Abort,
+    alloc: Global,
+    pcpsp: &[u8],
+    faults: &[(&[u8], &[u8], TextFile, u64, TextKind)],
+) -> Result<(), Fail> {
+    for (blocks, prec, file, line, kind) in faults {
+        let found = fault_of(alloc, blocks, prec, pcpsp)?;
+        assert!(rt; is_fault(found, *file, *line, *kind));
+    }
+    Ok(())
+}
+
 // Every kind of fault of a block file and of a precedence file.
 #[test]
 fn faults_of_blocks_and_precedences(rt: HostRuntime) -> Result<(), Fail> {
     let pcpsp = changed(rt.alloc(), &PCPSP, Change::Front(16))?;
-    for (blocks, prec, file, line, kind) in &TEXT_FAULTS {
-        let found = fault_of(rt.alloc(), blocks, prec, pcpsp.as_slice())?;
-        assert!(&rt; is_fault(found, *file, *line, *kind));
-    }
-    Ok(())
+    are_faulty(&rt, rt.alloc(), pcpsp.as_slice(), &TEXT_FAULTS)
 }
 
 const ONE_BLOCK: &[u8] = b"0 0 0 0 1000 5000 0\n";
@@ -355,12 +382,14 @@ const ONE_BLOCK_FAULTS: [(Change, u64, TextKind); 10] = [
 
 #[test]
 fn faults_of_one_ore_block(rt: HostRuntime) -> Result<(), Fail> {
-    for (change, line, kind) in &ONE_BLOCK_FAULTS {
-        let text = changed(rt.alloc(), &ONE_PCPSP, *change)?;
-        let found = fault_of(rt.alloc(), ONE_BLOCK, ONE_PREC, text.as_slice())?;
-        assert!(&rt; is_fault(found, TextFile::Pcpsp, *line, *kind));
-    }
-    Ok(())
+    have_faults(
+        &rt,
+        rt.alloc(),
+        ONE_BLOCK,
+        ONE_PREC,
+        &ONE_PCPSP,
+        &ONE_BLOCK_FAULTS,
+    )
 }
 
 const HOSTILE_TEXTS: [(&[u8], &[u8], TextFile, u64, TextKind); 6] = [
@@ -411,28 +440,46 @@ const HOSTILE_CPIT: [(Change, u64, TextKind); 6] = [
     ),
 ];
 
+// A model file that ends within its objective.
+fn cut_model(rt: &impl Abort, alloc: Global) -> Result<(), Fail> {
+    let cut = changed(alloc, &ONE_PCPSP, Change::Put(10, b"0 1"))?;
+    let end = ends_after(cut.as_slice(), b"\n0 1")?;
+    let found = fault_of(alloc, ONE_BLOCK, ONE_PREC, end)?;
+    assert!(rt; is_fault(found, TextFile::Pcpsp, 11, TextKind::Missing));
+    Ok(())
+}
+
+// A CPIT that ends within its objective.
+fn cut_cpit(rt: &impl Abort, alloc: Global) -> Result<(), Fail> {
+    let whole = changed(alloc, &CPIT, Change::Front(14))?;
+    let end = ends_after(whole.as_slice(), b"\n0 1")?;
+    let found = cpit_fault(alloc, 2, end)?;
+    assert!(rt; is_fault(found, TextFile::Cpit, 9, TextKind::Missing));
+    Ok(())
+}
+
+// With each change, the CPIT has the fault of this kind in this line.
+fn have_cpit_faults(
+    rt: &impl Abort,
+    alloc: Global,
+    faults: &[(Change, u64, TextKind)],
+) -> Result<(), Fail> {
+    for (change, line, kind) in faults {
+        let text = changed(alloc, &CPIT, *change)?;
+        let found = cpit_fault(alloc, 2, text.as_slice())?;
+        assert!(rt; is_fault(found, TextFile::Cpit, *line, *kind));
+    }
+    Ok(())
+}
+
 // The texts of the one block and of a CPIT, with something wrong in a hostile way.
 #[test]
 fn hostile_minelib_texts(rt: HostRuntime) -> Result<(), Fail> {
     let pcpsp = changed(rt.alloc(), &ONE_PCPSP, Change::Front(12))?;
-    for (blocks, prec, file, line, kind) in &HOSTILE_TEXTS {
-        let found = fault_of(rt.alloc(), blocks, prec, pcpsp.as_slice())?;
-        assert!(&rt; is_fault(found, *file, *line, *kind));
-    }
-    let cut = changed(rt.alloc(), &ONE_PCPSP, Change::Put(10, b"0 1"))?;
-    let end = ends_after(cut.as_slice(), b"\n0 1")?;
-    let found = fault_of(rt.alloc(), ONE_BLOCK, ONE_PREC, end)?;
-    assert!(&rt; is_fault(found, TextFile::Pcpsp, 11, TextKind::Missing));
-    for (change, line, kind) in &HOSTILE_CPIT {
-        let text = changed(rt.alloc(), &CPIT, *change)?;
-        let found = cpit_fault(rt.alloc(), 2, text.as_slice())?;
-        assert!(&rt; is_fault(found, TextFile::Cpit, *line, *kind));
-    }
-    let whole = changed(rt.alloc(), &CPIT, Change::Front(14))?;
-    let end = ends_after(whole.as_slice(), b"\n0 1")?;
-    let found = cpit_fault(rt.alloc(), 2, end)?;
-    assert!(&rt; is_fault(found, TextFile::Cpit, 9, TextKind::Missing));
-    Ok(())
+    are_faulty(&rt, rt.alloc(), pcpsp.as_slice(), &HOSTILE_TEXTS)?;
+    cut_model(&rt, rt.alloc())?;
+    have_cpit_faults(&rt, rt.alloc(), &HOSTILE_CPIT)?;
+    cut_cpit(&rt, rt.alloc())
 }
 
 // The front of a text up to the first place that these bytes end at.
@@ -469,20 +516,22 @@ fn nine_above(rt: HostRuntime) -> Result<(), Fail> {
     Ok(())
 }
 
+// The blocks, the precedences and the model of an instance, one after the other.
+fn joined_texts(alloc: Global, instance: &Instance) -> Result<Vec<u8>, Fail>
+    requires { IsValid instance.now }
+{
+    let mut text = Vec::new(alloc);
+    for name in [TextName::Blocks, TextName::Prec, TextName::Pcpsp] {
+        let sink = text_of(alloc, name, instance)?;
+        text.extend_from_slice(sink.bytes())?;
+    }
+    Ok(text)
+}
+
 // The texts of what is read, written again: blocks, precedences and model, one after the other.
 fn written_again(alloc: Global, blocks: &[u8], prec: &[u8], pcpsp: &[u8]) -> Result<Vec<u8>, Fail> {
     match read_instance(alloc, blocks, prec, pcpsp) {
-        Ok(instance) => {
-            let mut text = Vec::new(alloc);
-            let mut sink = MemSink::new(alloc);
-            write_blocks(alloc, &instance, &mut sink)?;
-            text.extend_from_slice(sink.bytes())?;
-            write_prec(alloc, &instance, &mut sink)?;
-            text.extend_from_slice(sink.bytes())?;
-            write_pcpsp(alloc, &instance, &mut sink)?;
-            text.extend_from_slice(sink.bytes())?;
-            Ok(text)
-        }
+        Ok(instance) => joined_texts(alloc, &instance),
         Err(_) => Err("texts that are refused")?,
     }
 }
@@ -594,21 +643,22 @@ fn cpit_comes_back(alloc: Global, n: usize, text: &[u8]) -> Result<bool, Fail> {
     }
 }
 
+// The CPIT of two blocks is none of one block.
+fn cpit_of_one_block(rt: &impl Abort, alloc: Global) -> Result<(), Fail> {
+    let text = changed(alloc, &CPIT, Change::Front(14))?;
+    let found = cpit_fault(alloc, 1, text.as_slice())?;
+    assert!(rt; is_fault(found, TextFile::Cpit, 3, TextKind::Count));
+    Ok(())
+}
+
 #[test]
 fn cpit_destinations(rt: HostRuntime) -> Result<(), Fail> {
     for change in &CPIT_TEXTS {
         let text = changed(rt.alloc(), &CPIT, *change)?;
         assert!(&rt; cpit_comes_back(rt.alloc(), 2, text.as_slice())?);
     }
-    let text = changed(rt.alloc(), &CPIT, Change::Front(14))?;
-    let found = cpit_fault(rt.alloc(), 1, text.as_slice())?;
-    assert!(&rt; is_fault(found, TextFile::Cpit, 3, TextKind::Count));
-    for (change, line, kind) in &CPIT_FAULTS {
-        let text = changed(rt.alloc(), &CPIT, *change)?;
-        let found = cpit_fault(rt.alloc(), 2, text.as_slice())?;
-        assert!(&rt; is_fault(found, TextFile::Cpit, *line, *kind));
-    }
-    Ok(())
+    cpit_of_one_block(&rt, rt.alloc())?;
+    have_cpit_faults(&rt, rt.alloc(), &CPIT_FAULTS)
 }
 
 // The texts of no block.
