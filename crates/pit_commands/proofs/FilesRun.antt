@@ -1,5 +1,6 @@
 -- What a run on files tells: as many texts as there are feeds.
-use Rattle.std.proofs.Common.{◌≡◌, ℕ, suc, Bool, List, [], ◌∷◌, length, Option, Some, None, refl, ap, ◌∙◌}
+use Rattle.std.proofs.Common.{◌≡◌, ℕ, suc, Bool, List, [], ◌∷◌, length, Option, Result, Ok, Err, IfOk, IfErr, refl, ap, ◌∙◌, sym, subst}
+use Rattle.std.specs.Prelude.{◌↔◌}
 use Rattle.std.specs.List.{sum_by}
 use Rattle.lane.specs.MessageKinds.{rows_in}
 use Rattle.text_sinks.specs.SinkState.{SinkState}
@@ -48,3 +49,24 @@ module _ (plan : PlanParts) (formulas : List Formula) (settings : Settings) (lef
   not_compiled (refusal.Same first again) fault h = verdict_on (refusal.Same first again) h.0
   not_compiled (refusal.SinkFailed which) fault h = _
   not_compiled refusal.OutOfMemory fault h = _
+
+-- the same of the answer of a run
+pub rows_answered : (plan : PlanParts) (lefts : List (Option (List ℕ))) (valuers : ℕ) (old new : TextName → SinkState) (count : ℕ)
+    → length lefts ≡ count
+    → (answer : Result ℕ Refusal) → IfOk answer (IsRun plan lefts valuers old new) → IfOk answer (HasRows plan count)
+rows_answered plan lefts valuers old new count all (Ok rows) h = has_rows plan lefts valuers old new rows count all h
+rows_answered plan lefts valuers old new count all (Err refusal) h = _
+
+pub refusal_answered : (plan : PlanParts) (formulas : List Formula) (settings : Settings) (lefts : List (Option (List ℕ)))
+    (sures : List Bool) (old new : TextName → SinkState)
+    (count : ℕ) → length lefts ≡ count → (answer : Result ℕ Refusal)
+    → ((kind : SettingsFault) → (answer ≡ Err (refusal.Settings kind)) ↔ IsSettingsFault plan count formulas settings kind)
+    → IfErr answer (IsRefused plan lefts sures old new) → IfErr answer (NotCompiled plan count formulas settings)
+refusal_answered plan formulas settings lefts sures old new count all (Ok rows) faults h = _
+refusal_answered plan formulas settings lefts sures old new count all (Err refusal) faults h =
+    not_compiled plan formulas settings lefts sures old new count all refusal (λ kind e. (faults kind).0 (ap Err e)) h
+
+-- refused memory is no verdict
+pub no_memory : (plan : PlanParts) (count : ℕ) (formulas : List Formula) (settings : Settings) (r : Refusal) → r ≡ refusal.OutOfMemory
+    → NotCompiled plan count formulas settings r
+no_memory plan count formulas settings r e = subst (NotCompiled plan count formulas settings) (sym e) _

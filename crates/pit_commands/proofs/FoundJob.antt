@@ -1,8 +1,8 @@
 -- From what clap found in the words to the job that they state, or to none.
-use Rattle.std.proofs.Common.{◌≡◌, ◌∙◌, ◌<◌, ℕ, List, [], ◌∷◌, Option, Some, None, ap, arith, codes, length, map, option_map, refl, slice_index, string_bytes, subst, sym, unwrap_or}
+use Rattle.std.proofs.Common.{◌≡◌, ◌∙◌, ◌<◌, List, [], ◌∷◌, Option, Some, None, ap, arith, codes, length, map, option_map, refl, slice_index, string_bytes, subst, sym, unwrap_or}
 use Rattle.std.proofs.lemmas.List.{length-map}
 use Rattle.clap.specs.Words.{Row, Text, all_of, first_of}
-use Rattle.pit_commands.specs.CommandLine.{Finds, FindsCheck, FindsCompile, FindsIfAny, FindsSettings}
+use Rattle.pit_commands.specs.CommandLine.{Finds, FindsCompile, FindsSettings}
 use Rattle.pit_commands.specs.declared.jobs.Job.{Job}
 use Rattle.pit_commands.specs.declared.jobs.Job.TheVariants.{Check, Compile}
 use Rattle.pit_compile.specs.declared.settings.Settings.{Settings}

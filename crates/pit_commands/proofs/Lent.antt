@@ -1,8 +1,7 @@
 -- Zone files that are lent to a run: it reads just these, and no feed of them fails.
-use Rattle.std.proofs.Common.{◌≡◌, ℕ, zero, suc, Bool, true, false, List, [], ◌∷◌, length, map, Option, Some, None, IfSome, Result, Ok, Err, refl, ap, ◌∙◌, subst}
-use Rattle.std.specs.List.{AllZip}
+use Rattle.std.proofs.Common.{◌≡◌, ℕ, zero, suc, Bool, true, false, List, [], ◌∷◌, length, map, Option, Some, Result, Ok, Err, refl, ap, ◌∙◌, subst}
 use Rattle.std.specs.Prelude.{slice_get}
-use Rattle.pit_compile.specs.Compiled.{AreGiven, HasPassed, IsVerdict, IsFeedFault}
+use Rattle.pit_compile.specs.Compiled.{AreGiven, IsVerdict}
 use Rattle.pit_compile.specs.Compiling.{IsNotCompiled}
 use Rattle.pit_compile.specs.Settings.{IsSettingsFault, Suits}
 use Rattle.pit_compile.specs.Verdict.{IsRefusedBy}

@@ -1,8 +1,10 @@
 -- The program's command line, and the jobs that its words state.
-use Rattle.std.specs.Prelude.{◌≡◌, ◌≢◌, ◌⊎◌, ℕ, ◌<◌, ◌≤◌, List, [], ◌∷◌, MatchOption, Option, Some, true, codes, length, map, string_bytes}
+use Rattle.std.specs.Prelude.{◌≡◌, ◌≢◌, ◌⊎◌, ℕ, ◌<◌, ◌≤◌, List, [], ◌∷◌, MatchOption, Option, Some, false, true, codes, length, map, string_bytes}
 use Rattle.std.specs.Str.Parse.{IsNumeral, digits_value, without_leading_plus}
 use Rattle.clap.specs.Lexer.{usize_max}
-use Rattle.clap.specs.Words.{App, IsAmong, Row, Rule, Shape, Text, all_of, fault_of, first_of, kind_of, new_app, new_rule, one_of, subcommand_of, with_rule, with_subcommand}
+use Rattle.clap.specs.Words.{App, IsAmong, Row, Rule, Text, all_of, app_of, fault_of, first_of, kind_of, new_app, new_rule, one_of, subcommand_of, with_rule, with_subcommand}
+use Rattle.clap.specs.declared.builder.Command.TheViews.{out-Command as fields_of}
+use Rattle.clap.specs.declared.builder.command.Command.{Command}
 use Rattle.clap.specs.declared.builder.value_parser.ValueParser.TheVariants as parser
 use Rattle.clap.specs.declared.error.Error.{Error}
 use Rattle.clap.specs.declared.error.kind.ErrorKind.TheVariants as kind
@@ -13,20 +15,24 @@ use Rattle.pit_commands.specs.declared.jobs.JobFault.TheVariants.{OutOfMemory, L
 use Rattle.pit_compile.specs.declared.settings.Settings.{Settings}
 use Rattle.pit_model.specs.declared.ranges.TheConstants.{MAX_CAPACITY, MAX_VALUERS}
 
+-- the command takes these words, and has no argument that its subcommands share
+abbrev pub IsCommandOf : App → Command → Type 0
+IsCommandOf words command = (app_of command ≡ words) × ((fields_of command).has_globals ≡ false)
+
 -- BASE, which has to be given
-abbrev pub base_word : Rule
+unfoldable pub base_word : Rule
 base_word = record (new_rule (codes "base")) { required = true; value_names = 1 }
 
 -- `check BASE`
-abbrev pub check_words : App
+unfoldable pub check_words : App
 check_words = with_rule (new_app (codes "check")) base_word
 
 -- `--plan P`, which has to be given
-abbrev pub plan_word : Rule
+unfoldable pub plan_word : Rule
 plan_word = record (new_rule (codes "plan")) { long = Some (codes "plan"); required = true; value_names = 1 }
 
 -- `--out BASE`, which has to be given
-abbrev pub out_word : Rule
+unfoldable pub out_word : Rule
 out_word = record (new_rule (codes "out")) { long = Some (codes "out"); required = true; value_names = 1 }
 
 -- `--name N`, a number from 1 to `most`, and `default` where it is not given
@@ -34,15 +40,15 @@ abbrev pub number_word : Text → Text → ℕ → Rule
 number_word name default most = record (new_rule name) { long = Some name; value_names = 1; defaults = default ∷ []; parser = Some (parser.Unsigned 1 most) }
 
 -- `--valuers N`, from 1 to 64, and 4 where it is not given
-abbrev pub valuers_word : Rule
+unfoldable pub valuers_word : Rule
 valuers_word = number_word (codes "valuers") (codes "4") MAX_VALUERS
 
 -- `--capacity N`, from 1 to 4096, and 64 where it is not given
-abbrev pub capacity_word : Rule
+unfoldable pub capacity_word : Rule
 capacity_word = number_word (codes "capacity") (codes "64") MAX_CAPACITY
 
 -- ZONE.., of which at least one has to be given
-abbrev pub zone_word : Rule
+unfoldable pub zone_word : Rule
 zone_word = record (new_rule (codes "zone")) {
   required = true;
   value_names = 1;
@@ -50,15 +56,15 @@ zone_word = record (new_rule (codes "zone")) {
 }
 
 -- `compile --plan P --out BASE [--valuers N] [--capacity N] ZONE..`
-abbrev pub compile_words : App
+unfoldable pub compile_words : App
 compile_words = with_rule (with_rule (with_rule (with_rule (with_rule (new_app (codes "compile")) plan_word) out_word) valuers_word) capacity_word) zone_word
 
 -- the program itself: a subcommand has to be given, and `--version` is taken
-abbrev pub top_words : App
+unfoldable pub top_words : App
 top_words = record (new_app (codes "pitc")) { top = record (new_app (codes "pitc")).top { subcommand_required = true; has_version = true } }
 
 -- the program with its subcommands
-abbrev pub program : App
+unfoldable pub program : App
 program = with_subcommand (with_subcommand top_words compile_words.top) check_words.top
 
 -- the text is that of a whole number, which may begin with `+`
@@ -99,7 +105,7 @@ abbrev pub FindsIfAny : Option (Text × List Row) → Option Job → Type 0
 FindsIfAny found answer = MatchOption answer ((job : Job) → Finds found job → ⊥) (Finds found)
 
 -- the job has the values that clap finds in these words, the program's name first
-abbrev pub StatesJob : List Text → Job → Type 0
+unfoldable pub StatesJob : List Text → Job → Type 0
 StatesJob words job = Finds (subcommand_of program words) job
 
 -- an error of clap is want of memory, or it is handed on

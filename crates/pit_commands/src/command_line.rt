@@ -1,9 +1,8 @@
 //! The command line that the program takes.
 
 ghost use Rattle.std.specs.Prelude.{◌≡◌, false, IfOk};
-ghost use Rattle.clap.specs.Words.{app_of, rule_of};
-ghost use Rattle.clap.specs.declared.builder.Command.TheViews.{out-Command as fields_of};
-ghost use Rattle.pit_commands.specs.CommandLine.{capacity_word, check_words, compile_words, out_word, plan_word, program, valuers_word, zone_word};
+ghost use Rattle.clap.specs.Words.{app_of, new_app, rule_of};
+ghost use Rattle.pit_commands.specs.CommandLine.{IsCommandOf, base_word, capacity_word, check_words, compile_words, out_word, plan_word, program, top_words, valuers_word, zone_word};
 
 use clap::{Arg, Command, value_parser};
 use std::alloc::{AllocError, Global};
@@ -55,30 +54,39 @@ pub fn command_line<'a>(alloc: Global) -> Result<Command<'a>, AllocError>
 {
     let compile = compile_command(alloc)?;
     let check = check_command(alloc)?;
+    top_command(alloc).subcommand(compile)?.subcommand(check)
+}
+
+// The program itself, without its subcommands.
+#[tactic(auto, unfolding(crate::specs::CommandLine::top_words))]
+fn top_command<'a>(alloc: Global) -> Command<'a>
+    ensures { app_of result ≡ top_words }
+{
     Command::new(alloc, "pitc")
         .about(ABOUT)
         .after_help(AFTER)
         .version(VERSION)
         .override_usage("pitc\n       pitc <COMMAND>")
         .subcommand_required(true)
-        .subcommand(compile)?
-        .subcommand(check)
 }
 
 fn compile_command<'a>(alloc: Global) -> Result<Command<'a>, AllocError>
-    ensures words { IfOk result (λ command. app_of command ≡ compile_words) }
-    ensures own { IfOk result (λ command. (fields_of command).has_globals ≡ false) }
+    ensures { IfOk result (IsCommandOf compile_words) }
 {
-    Command::new(alloc, "compile")
-        .about("Writes the files of the instance of a plan and its zone files")
-        .after_help(AFTER_COMPILE)
-        .arg(plan_option(alloc))?
-        .arg(out_option(alloc))?
-        .arg(valuers_option(alloc))?
-        .arg(capacity_option(alloc))?
-        .arg(zones(alloc))
+    subcommand(
+        alloc,
+        "compile",
+        "Writes the files of the instance of a plan and its zone files",
+        AFTER_COMPILE,
+    )
+    .arg(plan_option(alloc))?
+    .arg(out_option(alloc))?
+    .arg(valuers_option(alloc))?
+    .arg(capacity_option(alloc))?
+    .arg(zones(alloc))
 }
 
+#[tactic(auto, unfolding(crate::specs::CommandLine::plan_word))]
 fn plan_option<'a>(alloc: Global) -> Arg<'a>
     ensures rule { rule_of result ≡ plan_word }
     ensures local { result.global ≡ false }
@@ -90,6 +98,7 @@ fn plan_option<'a>(alloc: Global) -> Arg<'a>
         .help("The file of the plan")
 }
 
+#[tactic(auto, unfolding(crate::specs::CommandLine::out_word))]
 fn out_option<'a>(alloc: Global) -> Arg<'a>
     ensures rule { rule_of result ≡ out_word }
     ensures local { result.global ≡ false }
@@ -101,6 +110,7 @@ fn out_option<'a>(alloc: Global) -> Arg<'a>
         .help("What the paths of the files begin with, as out/march: a name and no folder")
 }
 
+#[tactic(auto, unfolding(crate::specs::CommandLine::valuers_word))]
 fn valuers_option<'a>(alloc: Global) -> Arg<'a>
     ensures rule { rule_of result ≡ valuers_word }
     ensures local { result.global ≡ false }
@@ -113,6 +123,7 @@ fn valuers_option<'a>(alloc: Global) -> Arg<'a>
         .help("How many threads value blocks, from 1 to 64")
 }
 
+#[tactic(auto, unfolding(crate::specs::CommandLine::capacity_word))]
 fn capacity_option<'a>(alloc: Global) -> Arg<'a>
     ensures rule { rule_of result ≡ capacity_word }
     ensures local { result.global ≡ false }
@@ -125,6 +136,7 @@ fn capacity_option<'a>(alloc: Global) -> Arg<'a>
         .help("How many blocks wait between the threads, from 1 to 4096")
 }
 
+#[tactic(auto, unfolding(crate::specs::CommandLine::zone_word))]
 fn zones<'a>(alloc: Global) -> Arg<'a>
     ensures rule { rule_of result ≡ zone_word }
     ensures local { result.global ≡ false }
@@ -137,15 +149,31 @@ fn zones<'a>(alloc: Global) -> Arg<'a>
 }
 
 fn check_command<'a>(alloc: Global) -> Result<Command<'a>, AllocError>
-    ensures words { IfOk result (λ command. app_of command ≡ check_words) }
-    ensures own { IfOk result (λ command. (fields_of command).has_globals ≡ false) }
+    ensures { IfOk result (IsCommandOf check_words) }
 {
-    let base = Arg::new(alloc, "base")
+    subcommand(
+        alloc,
+        "check",
+        "Reads the files of an instance and prints its counts",
+        AFTER_CHECK,
+    )
+    .arg(base(alloc))
+}
+
+#[tactic(auto, unfolding(crate::specs::CommandLine::base_word))]
+fn base<'a>(alloc: Global) -> Arg<'a>
+    ensures rule { rule_of result ≡ base_word }
+    ensures local { result.global ≡ false }
+{
+    Arg::new(alloc, "base")
         .value_name("BASE")
         .required(true)
-        .help("What the paths of the files begin with, as out/march");
-    Command::new(alloc, "check")
-        .about("Reads the files of an instance and prints its counts")
-        .after_help(AFTER_CHECK)
-        .arg(base)
+        .help("What the paths of the files begin with, as out/march")
+}
+
+// A subcommand without its words.
+fn subcommand<'a>(alloc: Global, name: &'a str, about: &'a str, after: &'a str) -> Command<'a>
+    ensures { IsCommandOf (new_app name.now) result }
+{
+    Command::new(alloc, name).about(about).after_help(after)
 }

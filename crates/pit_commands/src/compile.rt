@@ -7,7 +7,7 @@ ghost use Rattle.pit_compile.specs.Sinks.{all_told};
 ghost use Rattle.pit_compile.specs.declared.settings.SettingsFault.{SettingsFault as ASettingsFault};
 ghost use Rattle.pit_model.specs.Destinations.{formulas_of};
 ghost use Rattle.pit_model.specs.Planned.{planned};
-ghost use Rattle.pit_commands.specs.Compile.{EndsPlanFile, EndsRefusedCompile, IsRun, PlanFileRefused, TellsRows, rows_line};
+ghost use Rattle.pit_commands.specs.Compile.{EndsPlanFile, EndsRefusedCompile, HasRows, IsRun, NotCompiled, PlanFileRefused, TellsRows, rows_line};
 ghost use Rattle.pit_commands.specs.FaultLine.{EndsRefused};
 ghost use Rattle.pit_model.specs.declared.ranges.TheConstants.{MAX_PLAN_BYTES};
 
@@ -65,13 +65,46 @@ where
         Ok(feeds) => feeds,
         Err(status) => return status,
     };
-    let Ok(mut sinks) = sinks_of(rt, alloc, base) else {
-        return RESOURCES;
-    };
-    match run_on(rt, alloc, feeds, plan, destinations, settings, &mut sinks) {
+    match run_into_files(rt, alloc, feeds, plan, destinations, settings, base) {
         Ok(rows) => tell_rows(alloc, rows, out),
         Err(refusal) => refuse_run(alloc, &refusal, err),
     }
+}
+
+// Runs on open feeds, writes the texts to the files of the instance, and answers the number of rows over all zone files.
+#[tactic(auto, using(crate::proofs::FilesRun::no_memory))]
+fn run_into_files<R: Files + Threads + Wait + Sync, F: Feed + Send + Drop>(
+    rt: &R,
+    alloc: Global,
+    feeds: Vec<F>,
+    plan: &Plan,
+    destinations: &[Destination],
+    settings: Settings,
+    base: &str,
+) -> Result<u64, Refusal>
+    ensures done { IfOk result (HasRows plan.now (length feeds.items)) }
+    ensures refused { IfErr result
+        (NotCompiled plan.now (length feeds.items) (formulas_of destinations.now) settings) }
+{
+    let sinks = sinks_of(rt, alloc, base)?;
+    run_into(rt, alloc, feeds, plan, destinations, settings, sinks)
+}
+
+// The same, to sinks that are let go of at the end.
+fn run_into<R: Threads + Wait + Sync, F: Feed + Send + Drop, S: Sink + Drop>(
+    rt: &R,
+    alloc: Global,
+    feeds: Vec<F>,
+    plan: &Plan,
+    destinations: &[Destination],
+    settings: Settings,
+    mut sinks: Sinks<S>,
+) -> Result<u64, Refusal>
+    ensures done { IfOk result (HasRows plan.now (length feeds.items)) }
+    ensures refused { IfErr result
+        (NotCompiled plan.now (length feeds.items) (formulas_of destinations.now) settings) }
+{
+    run_on(rt, alloc, feeds, plan, destinations, settings, &mut sinks)
 }
 
 // Runs on open feeds, as `run` does with a gate that is always open, and answers the number of rows over all files.

@@ -1,4 +1,4 @@
-use Rattle.std.proofs.Common.{rules, ◌≡◌, ◌∙◌, ◌<◌, [], None, Some, ap, codes, length, map, option_map, refl, string_bytes, subst, sym, MatchOption}
+use Rattle.std.proofs.Common.{rules, ◌≡◌, ◌∙◌, ◌<◌, None, Some, ap, codes, length, map, option_map, refl, string_bytes, subst, sym, MatchOption}
 use Rattle.clap.proofs.WalkLemmas.{first_value-rows, raw_values-rows}
 use Rattle.clap.specs.Words.{first_value, found_of, matched_of, raw_values, rows_of}
 use Rattle.pit_commands.specs.CommandLine.{FindsSettings}

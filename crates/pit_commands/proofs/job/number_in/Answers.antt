@@ -1,4 +1,4 @@
-use Rattle.std.proofs.Common.{◌≡◌, ℕ, List, None, Result, Some, subst, sym, MatchOption}
+use Rattle.std.proofs.Common.{◌≡◌, ℕ, None, Some, subst, sym, MatchOption}
 use Rattle.std.specs.Str.Parse.{ExplainsUnsignedError, HasUnsignedDigitsIfOk, ParsesUnsigned}
 use Rattle.clap.specs.Words.{found_of, rows_of}
 use Rattle.pit_commands.specs.CommandLine.{FindsNumber}

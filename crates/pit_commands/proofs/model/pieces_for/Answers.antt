@@ -1,4 +1,3 @@
-use Rattle.std.proofs.Common.{◌≡◌}
 use Rattle.pit_compile.specs.FaultText.{refusal_text}
 use Rattle.pit_compile.specs.declared.refusal.Refusal.TheVariants.{Settings}
 use Rattle.pit_compile.specs.declared.settings.SettingsFault.TheVariants.{Files}
