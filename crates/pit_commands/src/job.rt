@@ -1,14 +1,14 @@
 //! The job that the words of a command line state.
 
 ghost use Rattle.std.specs.Prelude.{◌≡◌, ℕ, [], Some, codes, map, string_bytes, IfOk, IfErr, MatchOption};
-ghost use Rattle.clap.specs.Words.{fault_of, found_of, rows_of, subcommand_rows_of};
+ghost use Rattle.clap.specs.Words.{app_of, fault_of, found_of, rows_of, subcommand_of, subcommand_rows_of};
 ghost use Rattle.pit_commands.specs.CommandLine.{FindsIfAny, FindsNumber, FindsSettings, IsNoMemoryLine, RefusesWords, StatesJob, program};
 ghost use Rattle.pit_compile.specs.declared.settings.Settings.{Settings as ASettings};
 
 use crate::command_line::command_line;
 use crate::jobs::{Job, JobFault};
-use clap::ArgMatches;
 use clap::error::ErrorKind;
+use clap::{ArgMatches, Command};
 use pit_compile::settings::Settings;
 use pit_model::ranges::{MAX_CAPACITY, MAX_VALUERS};
 use std::alloc::{AllocError, Global};
@@ -26,12 +26,42 @@ pub fn job(alloc: Global, words: &[String]) -> Result<Job, JobFault>
     ensures memory { IfErr result IsNoMemoryLine }
 {
     let mut command = command_line(alloc)?;
-    let matches = command.try_get_matches_from_mut(words)?;
-    if let Some(job) = found_job(alloc, &matches)? {
+    job_by(alloc, &mut command, words)
+}
+
+// The job that these words state by the program's command line.
+fn job_by<'a>(
+    alloc: Global,
+    command: &mut Command<'a>,
+    words: &'a [String],
+) -> Result<Job, JobFault>
+    requires { app_of command.old ≡ program }
+    ensures accepted { IfOk result (λ _. fault_of program (map string_bytes words.now) ≡ []) }
+    ensures stated { IfOk result (StatesJob (map string_bytes words.now)) }
+    ensures refused { IfErr result (RefusesWords (map string_bytes words.now)) }
+    ensures memory { IfErr result IsNoMemoryLine }
+{
+    if let Some(job) = job_if_any(alloc, command, words)? {
         return Ok(job);
     }
     let fault = command.error(ErrorKind::MissingSubcommand, "a subcommand is required")?;
     Err(JobFault::from(fault))
+}
+
+// The job that clap finds in these words, if it finds one.
+fn job_if_any<'a>(
+    alloc: Global,
+    command: &mut Command<'a>,
+    words: &'a [String],
+) -> Result<Option<Job>, JobFault>
+    requires { app_of command.old ≡ program }
+    ensures accepted { IfOk result (λ _. fault_of program (map string_bytes words.now) ≡ []) }
+    ensures found { IfOk result (FindsIfAny (subcommand_of program (map string_bytes words.now))) }
+    ensures refused { IfErr result (RefusesWords (map string_bytes words.now)) }
+    ensures memory { IfErr result IsNoMemoryLine }
+{
+    let matches = command.try_get_matches_from_mut(words)?;
+    Ok(found_job(alloc, &matches)?)
 }
 
 // The job that clap found in the words.
