@@ -2,7 +2,7 @@
 use Rattle.std.proofs.Common.{◌≡◌, ℕ, ◌+◌, ◌-◌, ◌<◌, ◌≤◌, List, ◌++◌, length, take, drop, Option, Some, None, ap, ◌∙◌, sym, subst, append-nil, arith, length-drop, take-add, take_all}
 use Rattle.std.proofs.KnownBytes.{Appends-kept, Appends-nil, Appends-trans, Keeps-refl, Keeps-trans}
 use Rattle.std.specs.Io.KnownBytes.{Appends, Keeps}
-use Rattle.pit_commands.specs.Output.{IsAppendCut}
+use Rattle.pit_commands.specs.WriteWhole.{IsAppendCut}
 
 pub took_none : (a : Option (List ℕ)) (bytes : List ℕ) → Appends a a (take 0 bytes)
 took_none a bytes = Appends-nil a

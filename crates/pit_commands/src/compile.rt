@@ -12,8 +12,9 @@ ghost use Rattle.pit_commands.specs.FaultLine.{EndsRefused};
 ghost use Rattle.pit_model.specs.declared.ranges.TheConstants.{MAX_PLAN_BYTES};
 
 use crate::fault_line::{plan_from, refuse_run, refuse_with};
-use crate::opening::{open_all, sinks_of};
+use crate::instance_files::sinks_of;
 use crate::status::{DEVICE, REFUSED, RESOURCES};
+use crate::zone_feeds::open_all;
 use minelib_text::sink::Sink;
 use pit_compile::refusal::Refusal;
 use pit_compile::run;

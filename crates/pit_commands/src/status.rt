@@ -3,9 +3,9 @@
 ghost use Rattle.std.specs.Io.KnownBytes.{Appends};
 ghost use Rattle.std.specs.Prelude.{◌≡◌, ◌≢◌, ◌⊎◌};
 ghost use Rattle.std.specs.Process.{exit_status};
-ghost use Rattle.pit_commands.specs.Output.{IsAppendCut};
+ghost use Rattle.pit_commands.specs.WriteWhole.{IsAppendCut};
 
-use crate::output::write_whole;
+use crate::write_whole::write_whole;
 use std::io::Write;
 use std::process::ExitCode;
 

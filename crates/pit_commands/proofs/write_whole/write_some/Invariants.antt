@@ -1,5 +1,5 @@
 use Rattle.std.specs.Io.KnownBytes.{Keeps}
-use Rattle.pit_commands.proofs.output.write_some.Given as goal
+use Rattle.pit_commands.proofs.write_whole.write_some.Given as goal
 
 -- Interrupted writes left the output as it was.
 abbrev pub invariant-loop : goal.invariant-loop

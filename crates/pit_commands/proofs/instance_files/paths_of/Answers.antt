@@ -1,6 +1,6 @@
 use Rattle.std.proofs.Common.{Err, Ok, Result, rules}
 use Rattle.std.specs.Prelude.{IfOk}
-use Rattle.pit_commands.proofs.opening.paths_of.Goals as goal
+use Rattle.pit_commands.proofs.instance_files.paths_of.Goals as goal
 
 where_ok : {A E : Type 0} {P Q : A → Type 0} → ((a : A) → P a → Q a) → (answer : Result A E) → IfOk answer P → IfOk answer Q
 where_ok f (Ok a) h = f a h

@@ -1,7 +1,7 @@
 use Rattle.std.proofs.Common.{rules, ◌≡◌, subst}
 use Rattle.pit_commands.specs.Compile.{zone_fault}
 use Rattle.pit_commands.specs.FaultLine.{EndsWith}
-use Rattle.pit_commands.proofs.opening.refuse_zone.Goals as goal
+use Rattle.pit_commands.proofs.zone_feeds.refuse_zone.Goals as goal
 
 pub returns-in-Ok : goal.returns-in-Ok
 returns-in-Ok c =

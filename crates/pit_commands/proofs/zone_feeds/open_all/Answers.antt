@@ -4,7 +4,7 @@ use Rattle.std.specs.List.{AllZip}
 use Rattle.pit_commands.specs.Compile.{zone_fault}
 use Rattle.pit_commands.specs.FaultLine.{EndsWith}
 use Rattle.pit_commands.proofs.Opened.{zip_more}
-use Rattle.pit_commands.proofs.opening.open_all.Goals as goal
+use Rattle.pit_commands.proofs.zone_feeds.open_all.Goals as goal
 
 pub loop-file-preserved : goal.loop-file-preserved
 loop-file-preserved g c =

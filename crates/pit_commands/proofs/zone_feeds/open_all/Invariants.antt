@@ -1,7 +1,7 @@
 use Rattle.std.proofs.Common.{◌≡◌, Ok, string_bytes, take, vec_len}
 use Rattle.std.specs.Fn.{FnReturnsAt}
 use Rattle.std.specs.List.{AllZip}
-use Rattle.pit_commands.proofs.opening.open_all.Given as goal
+use Rattle.pit_commands.proofs.zone_feeds.open_all.Given as goal
 
 abbrev pub invariant-loop-file : goal.invariant-loop-file
 invariant-loop-file g l = record {

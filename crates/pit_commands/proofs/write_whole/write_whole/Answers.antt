@@ -1,6 +1,6 @@
 use Rattle.std.proofs.Common.{rules}
 use Rattle.pit_commands.proofs.Outputs.{took_more}
-use Rattle.pit_commands.proofs.output.write_whole.Goals as goal
+use Rattle.pit_commands.proofs.write_whole.write_whole.Goals as goal
 
 pub loop-taken-preserved : goal.loop-taken-preserved
 loop-taken-preserved g c = record {

@@ -1,6 +1,6 @@
 use Rattle.std.proofs.Common.{◌-◌, ◌≤◌, length, take}
 use Rattle.std.specs.Io.KnownBytes.{Appends}
-use Rattle.pit_commands.proofs.output.write_whole.Given as goal
+use Rattle.pit_commands.proofs.write_whole.write_whole.Given as goal
 
 -- The output took the front of the bytes.
 abbrev pub invariant-loop-taken : goal.invariant-loop-taken

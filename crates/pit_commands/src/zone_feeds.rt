@@ -1,21 +1,14 @@
-//! What a compile opens: a feed for each zone file, and a sink for each file of the instance.
+//! The feeds of the zone files that a compile opens.
 
 ghost use Rattle.std.specs.Fn.{FnReturnsAt};
 ghost use Rattle.std.specs.List.{AllZip};
 ghost use Rattle.std.specs.Prelude.{◌≡◌, Ok, length, string_bytes, IfOk, IfErr, OnOk};
-ghost use Rattle.minelib_writing.specs.TextNames.{ending_of};
-ghost use Rattle.minelib_writing.specs.declared.text_name.TextName.{TextName as AName};
-ghost use Rattle.pit_compile.specs.Sinks.{sink_of};
-ghost use Rattle.pit_commands.specs.Compile.{ZonesRefused, path_to, zone_fault};
+ghost use Rattle.pit_commands.specs.Compile.{ZonesRefused, zone_fault};
 ghost use Rattle.pit_commands.specs.FaultLine.{EndsWith};
 
 use crate::fault_line::refuse_with;
 use crate::status::{DEVICE, RESOURCES};
-use minelib_text::file_sink::FileSink;
-use minelib_text::text_name::TextName;
-use pit_compile::sinks::Sinks;
-use std::alloc::{AllocError, Global};
-use std::rt::Files;
+use std::alloc::Global;
 use zone_csv::feed::FeedFault;
 
 /// What `opener` gives at each of these paths, in order; or the status of a refusal, with its line appended to `lines`.
@@ -57,35 +50,4 @@ fn refuse_zone(alloc: Global, file: usize, lines: &mut Vec<u8>) -> u8
         Ok(words) => refuse_with(alloc, words.as_str(), DEVICE, lines),
         Err(_) => RESOURCES,
     }
-}
-
-/// Sinks for the files of the instance. None is begun. Fails only where memory for the paths is refused.
-pub(crate) fn sinks_of<'a, R: Files>(
-    rt: &'a R,
-    alloc: Global,
-    base: &str,
-) -> Result<Sinks<FileSink<'a, R>>, AllocError> {
-    let paths = paths_of(alloc, base)?;
-    Ok(Sinks {
-        blocks: FileSink::new(rt, alloc, paths.blocks.as_str())?,
-        prec: FileSink::new(rt, alloc, paths.prec.as_str())?,
-        upit: FileSink::new(rt, alloc, paths.upit.as_str())?,
-        pcpsp: FileSink::new(rt, alloc, paths.pcpsp.as_str())?,
-        cpit: FileSink::new(rt, alloc, paths.cpit.as_str())?,
-    })
-}
-
-// The path of the file of each sink: `BASE.blocks` and so on.
-fn paths_of(alloc: Global, base: &str) -> Result<Sinks<String>, AllocError>
-    ensures { IfOk result (λ paths. (name : AName)
-        → string_bytes (sink_of paths name) ≡ path_to base.now (ending_of name)) }
-{
-    Sinks::each(|name| path_of(alloc, base, name))
-}
-
-// The path of a file of the instance.
-fn path_of(alloc: Global, base: &str, name: TextName) -> Result<String, AllocError>
-    ensures { IfOk result (λ path. string_bytes path ≡ path_to base.now (ending_of name)) }
-{
-    Ok(format!(in alloc; "{base}.{name}")?)
 }

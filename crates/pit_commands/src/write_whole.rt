@@ -1,8 +1,8 @@
-//! An output, whole.
+//! Writing to an output, whole.
 
 ghost use Rattle.std.specs.Io.KnownBytes.{Appends, WriteAppends};
 ghost use Rattle.std.specs.Prelude.{◌≤◌, ◌<◌, length, IfOk, OnErr, OnOk};
-ghost use Rattle.pit_commands.specs.Output.{IsAppendCut};
+ghost use Rattle.pit_commands.specs.WriteWhole.{IsAppendCut};
 
 use minelib_text::sink::SinkFault;
 use std::io::{ErrorKind, Write};
