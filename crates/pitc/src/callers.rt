@@ -8,7 +8,7 @@ ghost use Rattle.minelib_writing.specs.Written.{text_blocks};
 ghost use Rattle.pit_compile.specs.Compiled.{instance_from};
 ghost use Rattle.pit_compile.specs.Verdict.{IsAccepted};
 
-use crate::tests::models::destinations_of;
+use crate::tests::models::{destinations_of, plan_of};
 use minelib_text::mem_sink::MemSink;
 use minelib_text::read_instance;
 use minelib_text::text_fault::ReadTextError;
@@ -18,7 +18,6 @@ use pit_compile::settings::Settings;
 use pit_compile::sinks::Sinks;
 use pit_model::destination::Destination;
 use pit_model::plan::Plan;
-use pit_model::read_plan;
 use std::alloc::Global;
 use std::sync::Wait;
 use std::test::Fail;
@@ -94,12 +93,22 @@ const TWO_BLOCKS: &[u8] = b"0 0 0 0 1 0 0\n1 0 0 1 1 0 0\n";
 const TWO_PCPSP: &[u8] =
     b"NAME: two\nTYPE: PCPSP\nNBLOCKS: 2\nNPERIODS: 1\nNDESTINATIONS: 1\nNRESOURCE_SIDE_CONSTRAINTS: 0\nNGENERAL_SIDE_CONSTRAINTS: 0\nDISCOUNT_RATE: 0.1\nOBJECTIVE_FUNCTION:\n0 -15\n1 -15\nRESOURCE_CONSTRAINT_COEFFICIENTS:\nRESOURCE_CONSTRAINT_LIMITS:\n";
 
+// The number of arcs, or `None` where the texts are refused.
+fn arcs_of(alloc: Global, blocks: &[u8], prec: &[u8], pcpsp: &[u8]) -> Option<usize> {
+    match count_arcs(alloc, blocks, prec, pcpsp) {
+        Ok(arcs) => Some(arcs),
+        Err(_) => None,
+    }
+}
+
 #[test]
 fn arcs_are_counted(rt: HostRuntime) {
-    let one = count_arcs(rt.alloc(), TWO_BLOCKS, b"0 1 1\n1 0\n", TWO_PCPSP);
-    assert!(rt; matches!(one, Ok(1)));
-    let none = count_arcs(rt.alloc(), TWO_BLOCKS, b"0 2 1\n1 0\n", TWO_PCPSP);
-    assert!(rt; none.is_err());
+    for (prec, arcs) in [
+        (b"0 1 1\n1 0\n".as_slice(), Some(1)),
+        (b"0 2 1\n1 0\n", None),
+    ] {
+        assert_eq!(rt; arcs_of(rt.alloc(), TWO_BLOCKS, prec, TWO_PCPSP), arcs);
+    }
 }
 
 const ONE_ZONE: &[u8] =
@@ -107,13 +116,25 @@ const ONE_ZONE: &[u8] =
 
 const ORE: &[u8] = b"x,y,z,tonnes,grade\n0,0,0,1000,5000\n";
 
+// The block file of a zone, or `None` where the run is refused.
+fn blocks_of<R: Threads + Wait + Sync>(
+    rt: &R,
+    alloc: Global,
+    plan: &Plan,
+    destinations: &[Destination],
+    zone: &[u8],
+) -> Option<Vec<u8>> {
+    match block_file(rt, alloc, plan, destinations, zone) {
+        Ok(text) => Some(text),
+        Err(_) => None,
+    }
+}
+
 #[test]
 fn one_ore_block(rt: HostRuntime) -> Result<(), Fail> {
-    let plan = read_plan(rt.alloc(), ONE_ZONE)?;
+    let plan = plan_of(rt.alloc(), ONE_ZONE)?;
     let destinations = destinations_of(rt.alloc(), &plan)?;
-    let Ok(text) = block_file(&rt, rt.alloc(), &plan, destinations.as_slice(), ORE) else {
-        return Err("refused")?;
-    };
+    let text = blocks_of(&rt, rt.alloc(), &plan, destinations.as_slice(), ORE).ok_or("refused")?;
     assert!(rt; text.as_slice() == b"0 0 0 0 1000 5000 0\n".as_slice());
     Ok(())
 }

@@ -1,18 +1,17 @@
 //! An instance that is built of rows in one call.
 
-ghost use Rattle.std.specs.Prelude.{◌≡◌, IfOk, IsTrue};
+ghost use Rattle.std.specs.Prelude.{◌≡◌, ◌≤◌, All, length, IfOk, IsTrue};
 ghost use Rattle.pit_model.specs.PlanFormulas.{formulas_of_plan};
 ghost use Rattle.precedence.specs.Cone.{HasZones};
 ghost use Rattle.rows.specs.Valued.{worths_by};
 
-use crate::tests::models::LIMITED_PLAN;
+use crate::tests::models::{LIMITED_PLAN, plan_of};
 use mine_instance::coef::Coef;
 use mine_instance::instance::Instance;
 use mine_instance::{build, is_valid};
 use pit_model::block::Block;
 use pit_model::limit::Bound;
 use pit_model::plan::Plan;
-use pit_model::read_plan;
 use pit_units::Dec;
 use precedence::{Numbering, number, preds};
 use std::alloc::Global;
@@ -51,14 +50,22 @@ fn has_zones(numbering: &Numbering, plan: &Plan) -> bool
 
 // The instance of two blocks under the plan. The block of the greater identifier arrives first.
 fn built(alloc: Global, ore: Block, waste: Block) -> Result<Instance, Fail> {
-    let plan = read_plan(alloc, LIMITED_PLAN.as_bytes())?;
+    let plan = plan_of(alloc, LIMITED_PLAN.as_bytes())?;
     let rows = [valued(&plan, 0, waste), valued(&plan, 1, ore)];
-    let numbering = number(alloc, &rows)?;
-    if !has_zones(&numbering, &plan) {
+    built_of(alloc, &plan, &rows)
+}
+
+fn built_of(alloc: Global, plan: &Plan, rows: &[Valued]) -> Result<Instance, Fail>
+    requires few { length rows.now ≤ 64000000 }
+    requires worths { All (λ row. row.worths ≡ worths_by (formulas_of_plan plan.now) row.block)
+        rows.now }
+{
+    let numbering = number(alloc, rows)?;
+    if !has_zones(&numbering, plan) {
         return Err("zones")?;
     }
-    let lists = preds(alloc, &numbering, &plan)?;
-    Ok(build(alloc, &numbering, lists, &rows, &plan)?)
+    let lists = preds(alloc, &numbering, plan)?;
+    Ok(build(alloc, &numbering, lists, rows, plan)?)
 }
 
 // The values are so many hundred cents.

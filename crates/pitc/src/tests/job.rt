@@ -14,30 +14,36 @@ fn job_of(alloc: Global, words: &[&str]) -> Result<Result<Job, JobFault>, Fail> 
     Ok(job(alloc, all.as_slice()))
 }
 
-// The values of the job that these words state, one a line; or the status of the fault.
+// The values of the job that these words state, with blanks between; or the status of the fault.
 fn stated(alloc: Global, words: &[&str]) -> Result<String, Fail> {
-    let answered = job_of(alloc, words)?;
-    match &answered {
-        Ok(
-            Job::Compile {
-                plan,
-                out,
-                settings,
-                zones,
-            },
-        ) => {
-            let Settings { valuers, capacity } = *settings;
-            let mut text = format!(in alloc; "{plan} {out} {valuers} {capacity}")?;
-            for zone in zones {
-                text.push_str(" ")?;
-                text.push_str(zone.as_str())?;
-            }
-            Ok(text)
-        }
-        Ok(Job::Check { base }) => Ok(String::from_str(alloc, base.as_str())?),
+    match job_of(alloc, words)? {
+        Ok(job) => values_of(alloc, &job),
         Err(JobFault::Line(error)) => Ok(format!(in alloc; "status {}", error.exit_code())?),
         Err(JobFault::OutOfMemory) => Err("out of memory")?,
     }
+}
+
+fn values_of(alloc: Global, job: &Job) -> Result<String, Fail> {
+    match job {
+        Job::Compile {
+            plan,
+            out,
+            settings: Settings { valuers, capacity },
+            zones,
+        } => {
+            let text = format!(in alloc; "{plan} {out} {valuers} {capacity}")?;
+            with_zones(text, zones.as_slice())
+        }
+        Job::Check { base } => Ok(String::from_str(alloc, base.as_str())?),
+    }
+}
+
+fn with_zones(mut text: String, zones: &[String]) -> Result<String, Fail> {
+    for zone in zones {
+        text.push_str(" ")?;
+        text.push_str(zone.as_str())?;
+    }
+    Ok(text)
 }
 
 // Whether the words ask for a text that shows this.

@@ -14,6 +14,7 @@ use pit_model::block::Block;
 use pit_model::destination::{Destination, Valuer};
 use pit_model::formula::Formula;
 use pit_model::plan::Plan;
+use pit_model::read_plan;
 use std::alloc::Global;
 use std::test::Fail;
 
@@ -32,6 +33,20 @@ pub const LIMITED_PLAN: &str =
 /// The five texts of two blocks under it, one of which has no tonnage.
 pub const LIMITED: &str =
     "== blocks\n0 0 0 0 1000 5000 0\n1 1 0 0 0 7 0\n== prec\n0 0\n1 0\n== upit\nNAME: one\nTYPE: UPIT\nNBLOCKS: 2\nOBJECTIVE_FUNCTION:\n0 12000\n1 0\n== pcpsp\nNAME: one\nTYPE: PCPSP\nNBLOCKS: 2\nNPERIODS: 2\nNDESTINATIONS: 2\nNRESOURCE_SIDE_CONSTRAINTS: 1\nNGENERAL_SIDE_CONSTRAINTS: 0\nDISCOUNT_RATE: 0.1\nOBJECTIVE_FUNCTION:\n0 12000 -2000\n1 0 0\nRESOURCE_CONSTRAINT_COEFFICIENTS:\n0 0 0 1000\nRESOURCE_CONSTRAINT_LIMITS:\n0 0 L 500.5\n0 1 I 0 900\n== cpit\nNAME: one\nTYPE: CPIT\nNBLOCKS: 2\nNPERIODS: 2\nNRESOURCE_SIDE_CONSTRAINTS: 1\nDISCOUNT_RATE: 0.1\nOBJECTIVE_FUNCTION:\n0 12000\n1 0\nRESOURCE_CONSTRAINT_COEFFICIENTS:\n0 0 1000\nRESOURCE_CONSTRAINT_LIMITS:\n0 0 L 500.5\n0 1 I 0 900\n";
+
+/// The plan that a text states.
+pub fn plan_of(alloc: Global, text: &[u8]) -> Result<Plan, Fail> {
+    Ok(read_plan(alloc, text)?)
+}
+
+/// A text whose lines end in bars here.
+pub fn with_lines(alloc: Global, bars: &str) -> Result<Vec<u8>, Fail> {
+    let mut text = Vec::new(alloc);
+    for byte in bars.bytes() {
+        text.push(if byte == b'|' { b'\n' } else { byte })?;
+    }
+    Ok(text)
+}
 
 /// The destination of a formula, whose closure computes it.
 pub fn destination_of(alloc: Global, formula: &Formula) -> Result<Destination, Fail>

@@ -1,7 +1,11 @@
-use crate::tests::models::destinations_of;
+use crate::tests::models::{destinations_of, with_lines};
 use pit_commands::fault_line::{plan_from, refusal_line};
+use pit_commands::piece::Piece;
 use pit_commands::pieces::cut;
 use pit_commands::pipe_form::pipe;
+use pit_compile::refusal::Refusal;
+use pit_model::destination::Destination;
+use pit_model::plan::Plan;
 use std::alloc::Global;
 use std::sync::Wait;
 use std::test::Fail;
@@ -14,35 +18,44 @@ fn answer_to<R: Threads + Wait + Sync>(
     input: &[u8],
 ) -> Result<Vec<u8>, Fail> {
     let pieces = cut(alloc, input)?;
-    let mut text = Vec::new(alloc);
     let mut lines = Vec::new(alloc);
-    let Ok(plan) = plan_from(alloc, pieces.plan(), &mut lines) else {
-        return Ok(lines);
-    };
-    let destinations = destinations_of(alloc, &plan)?;
-    match pipe(
-        rt,
-        alloc,
-        pieces.zones(),
-        &plan,
-        destinations.as_slice(),
-        &mut text,
-    ) {
-        Ok(_) => Ok(text),
-        Err(refusal) => {
-            let _ = refusal_line(alloc, &refusal, &mut lines)?;
-            Ok(lines)
-        }
+    match plan_from(alloc, pieces.plan(), &mut lines) {
+        Ok(plan) => printed(rt, alloc, pieces.zones(), &plan),
+        Err(_) => Ok(lines),
     }
 }
 
-// A text whose lines end in bars here.
-fn with_lines(alloc: Global, bars: &str) -> Result<Vec<u8>, Fail> {
+// What a run of the pipe form prints, or the line of its refusal.
+fn printed<R: Threads + Wait + Sync>(
+    rt: &R,
+    alloc: Global,
+    zones: &[Piece],
+    plan: &Plan,
+) -> Result<Vec<u8>, Fail> {
+    let destinations = destinations_of(alloc, plan)?;
     let mut text = Vec::new(alloc);
-    for byte in bars.bytes() {
-        text.push(if byte == b'|' { b'\n' } else { byte })?;
+    match put_printed(rt, alloc, zones, plan, destinations.as_slice(), &mut text) {
+        Ok(()) => Ok(text),
+        Err(refusal) => line_of(alloc, &refusal),
     }
-    Ok(text)
+}
+
+fn put_printed<R: Threads + Wait + Sync>(
+    rt: &R,
+    alloc: Global,
+    zones: &[Piece],
+    plan: &Plan,
+    destinations: &[Destination],
+    text: &mut Vec<u8>,
+) -> Result<(), Refusal> {
+    let _gathered = pipe(rt, alloc, zones, plan, destinations, text)?;
+    Ok(())
+}
+
+fn line_of(alloc: Global, refusal: &Refusal) -> Result<Vec<u8>, Fail> {
+    let mut lines = Vec::new(alloc);
+    let _ = refusal_line(alloc, refusal, &mut lines)?;
+    Ok(lines)
 }
 
 // The worked examples and the faults of a run: a name, an input and a part of what the pipe form answers, whose lines end in bars here.
@@ -200,18 +213,27 @@ const CASES: [(&str, &str, &str); 31] = [
     ),
 ];
 
+// Whether an input is answered with this part, in both of which lines end in bars.
+fn is_answered<R: Threads + Wait + Sync>(
+    rt: &R,
+    alloc: Global,
+    input: &str,
+    part: &str,
+) -> Result<bool, Fail> {
+    let input = with_lines(alloc, input)?;
+    let text = answer_to(rt, alloc, input.as_slice())?;
+    let part = with_lines(alloc, part)?;
+    Ok(contains(text.as_slice(), part.as_slice()))
+}
+
+fn contains(text: &[u8], part: &[u8]) -> bool {
+    !part.is_empty() && text.windows(part.len()).any(|lines| lines == part)
+}
+
 #[test]
 fn worked_examples(rt: HostRuntime) -> Result<(), Fail> {
     for (name, input, part) in CASES {
-        let input = with_lines(rt.alloc(), input)?;
-        let part = with_lines(rt.alloc(), part)?;
-        let text = answer_to(&rt, rt.alloc(), input.as_slice())?;
-        assert!(rt; !part.is_empty(), "{name}");
-        let found = text
-            .as_slice()
-            .windows(part.len())
-            .any(|lines| lines == part.as_slice());
-        assert!(rt; found, "{name}");
+        assert!(rt; is_answered(&rt, rt.alloc(), input, part)?, "{name}");
     }
     Ok(())
 }

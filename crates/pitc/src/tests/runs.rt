@@ -2,14 +2,15 @@
 
 ghost use Rattle.std.specs.Prelude.{◌≡◌, IfOk};
 
-use crate::tests::models::destinations_of;
+use crate::tests::models::{destinations_of, plan_of};
 use minelib_text::mem_sink::MemSink;
+use minelib_text::text_name::TextName;
 use pit_compile::refusal::Refusal;
 use pit_compile::settings::Settings;
 use pit_compile::sinks::Sinks;
 use pit_compile::{run, run_limited};
+use pit_model::destination::Destination;
 use pit_model::plan::Plan;
-use pit_model::read_plan;
 use std::alloc::Global;
 use std::process::Abort;
 use std::sync::Wait;
@@ -49,7 +50,18 @@ fn mill_text(alloc: Global, zones: u8) -> Result<Vec<u8>, Fail> {
 
 fn mill_plan(alloc: Global, zones: u8) -> Result<Plan, Fail> {
     let text = mill_text(alloc, zones)?;
-    Ok(read_plan(alloc, text.as_slice())?)
+    plan_of(alloc, text.as_slice())
+}
+
+// The sink of a text.
+fn sink_of<S>(sinks: &Sinks<S>, name: TextName) -> &S {
+    match name {
+        TextName::Blocks => &sinks.blocks,
+        TextName::Prec => &sinks.prec,
+        TextName::Upit => &sinks.upit,
+        TextName::Pcpsp => &sinks.pcpsp,
+        TextName::Cpit => &sinks.cpit,
+    }
 }
 
 // Sinks in memory that were not begun.
@@ -130,39 +142,50 @@ fn open_answer<R: Threads + Wait + Sync>(
     sinks: &mut Sinks<MemSink>,
 ) -> Result<Result<u64, Refusal>, Fail> {
     let destinations = destinations_of(alloc, plan)?;
-    let answered = run(
+    let destinations = destinations.as_slice();
+    Ok(rows_of_open_run(rt, alloc, plan, destinations, feeds, settings, sinks))
+}
+
+fn rows_of_open_run<R: Threads + Wait + Sync>(
+    rt: &R,
+    alloc: Global,
+    plan: &Plan,
+    destinations: &[Destination],
+    feeds: Vec<MemFeed>,
+    settings: Settings,
+    sinks: &mut Sinks<MemSink>,
+) -> Result<u64, Refusal> {
+    let gathered = run(
         rt,
         alloc,
         feeds,
         plan,
-        destinations.as_slice(),
+        destinations,
         settings,
         &OpenGate,
         sinks,
-    );
-    match answered {
-        Ok(gathered) => Ok(Ok(gathered.rows())),
-        Err(refusal) => Ok(Err(refusal)),
-    }
+    )?;
+    Ok(gathered.rows())
 }
 
-fn put_section(text: &mut Vec<u8>, name: &str, sink: &MemSink) -> Result<(), Fail> {
-    text.extend_from_slice(b"== ")?;
-    text.extend_from_slice(name.as_bytes())?;
-    text.push(b'\n')?;
-    text.extend_from_slice(sink.bytes())?;
+fn put_section(text: &mut Vec<u8>, name: &str, bytes: &[u8]) -> Result<(), Fail> {
+    for part in [b"== ".as_slice(), name.as_bytes(), b"\n", bytes] {
+        text.extend_from_slice(part)?;
+    }
     Ok(())
 }
 
 // The five texts, each behind the name of its file.
 fn joined(alloc: Global, sinks: &Sinks<MemSink>) -> Result<Vec<u8>, Fail> {
     let mut text = Vec::new(alloc);
-    put_section(&mut text, "blocks", &sinks.blocks)?;
-    put_section(&mut text, "prec", &sinks.prec)?;
-    put_section(&mut text, "upit", &sinks.upit)?;
-    put_section(&mut text, "pcpsp", &sinks.pcpsp)?;
-    put_section(&mut text, "cpit", &sinks.cpit)?;
+    for name in TextName::all() {
+        put_section(&mut text, name.ending(), sink_of(sinks, name).bytes())?;
+    }
     Ok(text)
+}
+
+fn words_of(alloc: Global, refusal: Refusal) -> Result<Vec<u8>, Fail> {
+    Ok(format!(in alloc; "{refusal}")?.into_bytes())
 }
 
 // The five texts of a run into these sinks; or the words of its refusal, where no sink was begun.
@@ -172,13 +195,13 @@ fn text_into<R: Threads + Wait + Sync + Abort>(
     plan: &Plan,
     feeds: Vec<MemFeed>,
     settings: Settings,
-    mut sinks: Sinks<MemSink>,
+    sinks: &mut Sinks<MemSink>,
 ) -> Result<Vec<u8>, Fail> {
-    match open_answer(rt, alloc, plan, feeds, settings, &mut sinks)? {
-        Ok(_rows) => joined(alloc, &sinks),
+    match open_answer(rt, alloc, plan, feeds, settings, sinks)? {
+        Ok(_rows) => joined(alloc, sinks),
         Err(refusal) => {
-            assert!(rt; is_untouched(&sinks), "{refusal}");
-            Ok(format!(in alloc; "{refusal}")?.as_bytes().to_vec(alloc)?)
+            assert!(rt; is_untouched(sinks), "{refusal}");
+            words_of(alloc, refusal)
         }
     }
 }
@@ -190,5 +213,5 @@ fn compiled_text<R: Threads + Wait + Sync + Abort>(
     feeds: Vec<MemFeed>,
     settings: Settings,
 ) -> Result<Vec<u8>, Fail> {
-    text_into(rt, alloc, plan, feeds, settings, new_sinks(alloc))
+    text_into(rt, alloc, plan, feeds, settings, &mut new_sinks(alloc))
 }

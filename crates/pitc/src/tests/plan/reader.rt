@@ -1,3 +1,4 @@
+use crate::tests::models::{plan_of, with_lines};
 use pit_model::band::Band;
 use pit_model::cone::{Cone, Slope};
 use pit_model::formula::{Formula, NamedFormula};
@@ -61,7 +62,7 @@ fn only_formula(plan: &Plan) -> Result<&NamedFormula, Fail> {
 
 #[test]
 fn the_waste_plan(rt: HostRuntime) -> Result<(), Fail> {
-    let plan = read_plan(rt.alloc(), WASTE)?;
+    let plan = plan_of(rt.alloc(), WASTE)?;
     assert_eq!(rt; plan.name().as_str(), "waste");
     assert_eq!(rt; plan.grid(), GRID);
     assert_eq!(rt; plan.cones(), [CONE].as_slice());
@@ -204,10 +205,7 @@ const PLANS: [(&str, Option<(u32, PlanFaultKind)>); 60] = [
 #[test]
 fn plan_table(rt: HostRuntime) -> Result<(), Fail> {
     for (records, answer) in &PLANS {
-        let mut text = Vec::new(rt.alloc());
-        for byte in records.bytes() {
-            text.push(if byte == b'|' { b'\n' } else { byte })?;
-        }
+        let text = with_lines(rt.alloc(), records)?;
         assert_eq!(rt;
             refusal_of(rt.alloc(), text.as_slice())?,
             *answer,
@@ -239,7 +237,7 @@ limit,s,0,G,0.5\nlimit,r,1,I,0,900\nlimit,r,0,L,500.5\n";
 // Limits are kept in order of resource and period, whatever their order in the text.
 #[test]
 fn limits_in_order(rt: HostRuntime) -> Result<(), Fail> {
-    let plan = read_plan(rt.alloc(), LIMITED)?;
+    let plan = plan_of(rt.alloc(), LIMITED)?;
     assert_eq!(rt; plan.limits().len(), LIMITS.len());
     for (limit, want) in plan.limits().iter().zip(&LIMITS) {
         assert_eq!(rt; (limit.resource, limit.period, ends(&limit.bound)), *want);
@@ -252,7 +250,7 @@ const COVERS: [&[u8]; 2] = [&[1, 0], &[0]];
 // A resource covers destinations in the order of its record.
 #[test]
 fn covered_destinations(rt: HostRuntime) -> Result<(), Fail> {
-    let plan = read_plan(rt.alloc(), LIMITED)?;
+    let plan = plan_of(rt.alloc(), LIMITED)?;
     assert_eq!(rt; plan.resources().len(), COVERS.len());
     for (resource, covered) in plan.resources().iter().zip(&COVERS) {
         assert!(rt; resource.covers.as_slice() == *covered);
@@ -260,14 +258,29 @@ fn covered_destinations(rt: HostRuntime) -> Result<(), Fail> {
     Ok(())
 }
 
-// Records past the 10,000th are not looked at, and empty records count.
-#[test]
-fn ten_thousand_records(rt: HostRuntime) -> Result<(), Fail> {
-    let mut text = Vec::new(rt.alloc());
+// The parts of a text one after the other.
+fn joined(alloc: Global, parts: &[&[u8]]) -> Result<Vec<u8>, Fail> {
+    let mut text = Vec::new(alloc);
+    for part in parts {
+        text.extend_from_slice(part)?;
+    }
+    Ok(text)
+}
+
+// Many empty records, with the waste plan behind them.
+fn far_behind(alloc: Global) -> Result<Vec<u8>, Fail> {
+    let mut text = Vec::new(alloc);
     for _ in 0..9_994 {
         text.extend_from_slice(b",\n")?;
     }
     text.extend_from_slice(WASTE)?;
+    Ok(text)
+}
+
+// Records past the 10,000th are not looked at, and empty records count.
+#[test]
+fn ten_thousand_records(rt: HostRuntime) -> Result<(), Fail> {
+    let mut text = far_behind(rt.alloc())?;
     assert_eq!(rt; refusal_of(rt.alloc(), text.as_slice())?, None);
     text.extend_from_slice(b",\n")?;
     assert_eq!(rt;
@@ -277,18 +290,21 @@ fn ten_thousand_records(rt: HostRuntime) -> Result<(), Fail> {
     Ok(())
 }
 
+const MARK: &[u8] = b"\xEF\xBB\xBF";
+
 // One byte order mark is dropped, a second one is part of the first key; an empty plan lacks its name.
+const MARKED: [(&[&[u8]], Option<(u32, PlanFaultKind)>); 3] = [
+    (&[MARK, WASTE], None),
+    (&[MARK, MARK, WASTE], Some((1, Key))),
+    (&[], Some((1, Missing))),
+];
+
 #[test]
 fn marks_and_nothing(rt: HostRuntime) -> Result<(), Fail> {
-    let mut text = Vec::new(rt.alloc());
-    text.extend_from_slice(b"\xEF\xBB\xBF")?;
-    text.extend_from_slice(WASTE)?;
-    assert_eq!(rt; refusal_of(rt.alloc(), text.as_slice())?, None);
-    text.clear();
-    text.extend_from_slice(b"\xEF\xBB\xBF\xEF\xBB\xBF")?;
-    text.extend_from_slice(WASTE)?;
-    assert_eq!(rt; refusal_of(rt.alloc(), text.as_slice())?, Some((1, Key)));
-    assert_eq!(rt; refusal_of(rt.alloc(), b"")?, Some((1, Missing)));
+    for (parts, answer) in &MARKED {
+        let text = joined(rt.alloc(), parts)?;
+        assert_eq!(rt; refusal_of(rt.alloc(), text.as_slice())?, *answer);
+    }
     Ok(())
 }
 
@@ -330,9 +346,7 @@ const LAST_RECORDS: [(&[u8], Option<(u32, PlanFaultKind)>); 22] = [
 #[test]
 fn mills_and_leaches(rt: HostRuntime) -> Result<(), Fail> {
     for (last, answer) in &LAST_RECORDS {
-        let mut text = Vec::new(rt.alloc());
-        text.extend_from_slice(MILL)?;
-        text.extend_from_slice(last)?;
+        let text = joined(rt.alloc(), &[MILL, last])?;
         assert_eq!(rt; refusal_of(rt.alloc(), text.as_slice())?, *answer);
     }
     Ok(())
@@ -355,7 +369,7 @@ const BANDS: [Band; 2] = [
 // A leach keeps its bands in their order, starts in millionths of a gram per tonne.
 #[test]
 fn bands_of_a_plan(rt: HostRuntime) -> Result<(), Fail> {
-    let plan = read_plan(rt.alloc(), LEACH)?;
+    let plan = plan_of(rt.alloc(), LEACH)?;
     let Formula::Leach { bands, price, cost } = &only_formula(&plan)?.formula else {
         return Err("a leach")?;
     };

@@ -2,8 +2,8 @@ ghost use Rattle.std.specs.Prelude.{◌≤◌};
 
 use super::{
     Fail, Global, MemFeed, MemSink, OpenGate, Refusal, Sinks, Threads, Wait, answer, begun,
-    destinations_of, feeds_of, is_untouched, mill_plan, new_sinks, open_answer, read_plan,
-    run_limited, settings, zone_text,
+    destinations_of, feeds_of, is_untouched, mill_plan, new_sinks, open_answer, plan_of,
+    run_limited, settings, sink_of, zone_text,
 };
 use minelib_text::text_name::TextName;
 use pit_compile::settings::SettingsFault;
@@ -75,14 +75,7 @@ fn failing_sinks(alloc: Global, which: TextName, nth: u64) -> Sinks<MemSink>
     requires { 1 ≤ nth }
 {
     let mut sinks = new_sinks(alloc);
-    let failing = MemSink::failing(alloc, nth);
-    match which {
-        TextName::Blocks => sinks.blocks = failing,
-        TextName::Prec => sinks.prec = failing,
-        TextName::Upit => sinks.upit = failing,
-        TextName::Pcpsp => sinks.pcpsp = failing,
-        TextName::Cpit => sinks.cpit = failing,
-    }
+    *sinks.of_mut(which) = MemSink::failing(alloc, nth);
     sinks
 }
 
@@ -117,32 +110,41 @@ fn holds(sink: &MemSink, other: &MemSink, is_whole: bool) -> bool {
 
 // So many of the texts are those of the other sinks, and the others are empty.
 fn hold_texts(sinks: &Sinks<MemSink>, others: &Sinks<MemSink>, texts: usize) -> bool {
-    holds(&sinks.blocks, &others.blocks, texts > 0)
-        && holds(&sinks.prec, &others.prec, texts > 1)
-        && holds(&sinks.upit, &others.upit, texts > 2)
-        && holds(&sinks.pcpsp, &others.pcpsp, texts > 3)
-        && holds(&sinks.cpit, &others.cpit, texts > 4)
+    TextName::all().iter().enumerate().all(|(place, name)| holds(
+        sink_of(sinks, *name),
+        sink_of(others, *name),
+        texts > place,
+    ))
+}
+
+// What a run of one valuer on two rows answers.
+fn run_into<R: Threads + Wait + Sync>(
+    rt: &R,
+    alloc: Global,
+    sinks: &mut Sinks<MemSink>,
+) -> Result<Result<u64, Refusal>, Fail> {
+    let plan = mill_plan(alloc, 1)?;
+    let feeds = feeds_of(alloc, &["0,0,0,1,0\n10,0,0,1,0\n"])?;
+    open_answer(rt, alloc, &plan, feeds, settings(1, 1), sinks)
+}
+
+// What that run answers where so many of its texts are whole.
+fn answer_at(which: TextName, texts: usize) -> Result<u64, Refusal> {
+    if texts == 5 {
+        Ok(2)
+    } else {
+        Err(Refusal::SinkFailed { which })
+    }
 }
 
 #[test]
 fn failing_sinks_stop_the_run(rt: HostRuntime) -> Result<(), Fail> {
-    let alloc = rt.alloc();
-    let plan = mill_plan(alloc, 1)?;
-    let rows = ["0,0,0,1,0\n10,0,0,1,0\n"];
-    let mut whole = new_sinks(alloc);
-    let feeds = feeds_of(alloc, &rows)?;
-    let answered = open_answer(&rt, alloc, &plan, feeds, settings(1, 1), &mut whole)?;
-    assert!(rt; answered == Ok(2));
+    let mut whole = new_sinks(rt.alloc());
+    assert!(rt; run_into(&rt, rt.alloc(), &mut whole)? == Ok(2));
     for (which, nth, expected, texts) in SINKS {
-        let mut sinks = failing_sinks(alloc, which, nth.max(1));
-        let feeds = feeds_of(alloc, &rows)?;
-        let answered = open_answer(&rt, alloc, &plan, feeds, settings(1, 1), &mut sinks)?;
-        let wanted = if texts == 5 {
-            Ok(2)
-        } else {
-            Err(Refusal::SinkFailed { which })
-        };
-        assert!(rt; answered == wanted, "{which} {nth}");
+        let mut sinks = failing_sinks(rt.alloc(), which, nth.max(1));
+        let answered = run_into(&rt, rt.alloc(), &mut sinks)?;
+        assert!(rt; answered == answer_at(which, texts), "{which} {nth}");
         assert!(rt; begun(&sinks) == expected, "{which} {nth}");
         assert!(rt; hold_texts(&sinks, &whole, texts), "{which} {nth}");
     }
@@ -210,7 +212,7 @@ const WASTE_PLAN: &[u8] =
 fn destinations_of_another_plan(rt: HostRuntime) -> Result<(), Fail> {
     let alloc = rt.alloc();
     let plan = mill_plan(alloc, 1)?;
-    let other = read_plan(alloc, WASTE_PLAN)?;
+    let other = plan_of(alloc, WASTE_PLAN)?;
     let destinations = destinations_of(alloc, &other)?;
     for (capacity, kind) in [
         (0, SettingsFault::Capacity),

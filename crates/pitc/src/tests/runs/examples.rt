@@ -1,8 +1,8 @@
 ghost use Rattle.std.specs.Prelude.{◌≤◌};
 
 use super::{
-    MemFeed, MemSink, Settings, Sinks, compiled_text, feeds_of, joined, mill_plan, new_sinks,
-    open_answer, read_plan, settings, text_into, zone_text,
+    MemFeed, MemSink, Refusal, Settings, Sinks, compiled_text, feeds_of, joined, mill_plan,
+    new_sinks, open_answer, plan_of, settings, text_into, zone_text,
 };
 use crate::tests::models::{HEADER_ALONE, LIMITED, LIMITED_PLAN, ONE_ORE_BLOCK};
 use std::alloc::Global;
@@ -91,16 +91,16 @@ fn short_sinks(alloc: Global, step: usize) -> Sinks<MemSink>
 #[test]
 fn limits_and_coefficients(rt: HostRuntime) -> Result<(), Fail> {
     let alloc = rt.alloc();
-    let plan = read_plan(alloc, LIMITED_PLAN.as_bytes())?;
+    let plan = plan_of(alloc, LIMITED_PLAN.as_bytes())?;
     for step in [1, 2, 7, 100_000] {
-        let sinks = short_sinks(alloc, step);
+        let mut sinks = short_sinks(alloc, step);
         let text = text_into(
             &rt,
             alloc,
             &plan,
             cutting_feed(alloc, step)?,
             settings(4, 64),
-            sinks,
+            &mut sinks,
         )?;
         assert!(rt;
             text.as_slice() == LIMITED.as_bytes(),
@@ -153,12 +153,20 @@ fn crowded_text<R: Threads + Wait + Sync + Abort>(
     alloc: Global,
     settings: Settings,
 ) -> Result<Vec<u8>, Fail> {
+    let mut sinks = new_sinks(alloc);
+    assert!(rt; run_crowded(rt, alloc, settings, &mut sinks)? == Ok(64));
+    joined(alloc, &sinks)
+}
+
+fn run_crowded<R: Threads + Wait + Sync>(
+    rt: &R,
+    alloc: Global,
+    settings: Settings,
+    sinks: &mut Sinks<MemSink>,
+) -> Result<Result<u64, Refusal>, Fail> {
     let plan = mill_plan(alloc, 64)?;
     let feeds = files_of_one_row(alloc, 64)?;
-    let mut sinks = new_sinks(alloc);
-    let answered = open_answer(rt, alloc, &plan, feeds, settings, &mut sinks)?;
-    assert!(rt; answered == Ok(64));
-    joined(alloc, &sinks)
+    open_answer(rt, alloc, &plan, feeds, settings, sinks)
 }
 
 // The most threads that a run may start, and one valuer with the widest lane.

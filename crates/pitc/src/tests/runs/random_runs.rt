@@ -7,7 +7,7 @@ ghost use Rattle.std.specs.Prelude.{◌<◌, ◌≤◌, IfSome};
 
 use super::{
     ENOUGH, Fail, Global, HEADER, MemFeed, MemSink, Refusal, Sinks, Threads, Wait, answer, begun,
-    is_untouched, mill_plan, new_sinks, settings,
+    is_untouched, mill_plan, new_sinks, settings, sink_of,
 };
 use minelib_text::text_name::TextName;
 use pit_compile::refusal::RowAt;
@@ -58,19 +58,26 @@ struct Model {
     objective: Vec<u8>,
 }
 
-fn empty_model(alloc: Global, files: u8) -> Result<Model, Fail> {
+fn empty_file(alloc: Global) -> Result<ZoneFile, Fail> {
+    Ok(ZoneFile {
+        text: HEADER.as_bytes().to_vec(alloc)?,
+        rows: 0,
+        is_faulty: false,
+        failing: 0,
+    })
+}
+
+fn empty_files(alloc: Global, files: u8) -> Result<Vec<ZoneFile>, Fail> {
     let mut all = Vec::new(alloc);
     for _file in 0..files {
-        let text = HEADER.as_bytes().to_vec(alloc)?;
-        all.push(ZoneFile {
-            text,
-            rows: 0,
-            is_faulty: false,
-            failing: 0,
-        })?;
+        all.push(empty_file(alloc)?)?;
     }
+    Ok(all)
+}
+
+fn empty_model(alloc: Global, files: u8) -> Result<Model, Fail> {
     Ok(Model {
-        files: all,
+        files: empty_files(alloc, files)?,
         rows: 0,
         same: None,
         blocks: Vec::new(alloc),
@@ -87,20 +94,22 @@ fn put_row(model: &mut Model, file: u8, row: &str) -> Result<u32, Fail> {
     Ok(file.rows.saturating_add(1))
 }
 
+fn put_text(text: &mut Vec<u8>, line: String) -> Result<(), Fail> {
+    text.extend_from_slice(line.as_bytes())?;
+    Ok(())
+}
+
 // A block at x in this file, of one tonne of waste, which costs 15 hundreds of cents in the mill.
 fn put_block(alloc: Global, model: &mut Model, file: u8, x: u64) -> Result<u32, Fail> {
-    let number = put_row(model, file, format!(in alloc; "{x}0,0,0,1,0\n")?.as_str())?;
-    model
-        .blocks
-        .extend_from_slice(format!(in alloc; "{x} {x} 0 0 1 0 {file}\n")?.as_bytes())?;
-    model
-        .prec
-        .extend_from_slice(format!(in alloc; "{x} 0\n")?.as_bytes())?;
-    model
-        .objective
-        .extend_from_slice(format!(in alloc; "{x} -15\n")?.as_bytes())?;
+    put_text(
+        &mut model.blocks,
+        format!(in alloc; "{x} {x} 0 0 1 0 {file}\n")?,
+    )?;
+    put_text(&mut model.prec, format!(in alloc; "{x} 0\n")?)?;
+    put_text(&mut model.objective, format!(in alloc; "{x} -15\n")?)?;
     model.rows = model.rows.saturating_add(1);
-    Ok(number)
+    let row = format!(in alloc; "{x}0,0,0,1,0\n")?;
+    put_row(model, file, row.as_str())
 }
 
 // The block at 0 stands again at the end of a file: the row that comes first in the order of the files is the one that is repeated.
@@ -117,15 +126,20 @@ fn repeat_first(model: &mut Model, first: RowAt, file: u8) -> Result<(), Fail> {
 }
 
 // Sometimes a row without a grade, a pull that fails.
+fn spoil_file(file: &mut ZoneFile, dice: &mut Dice) -> Result<(), Fail> {
+    if dice.roll(16) == 0 {
+        file.text.extend_from_slice(b"0,0,0,1,?\n")?;
+        file.is_faulty = true;
+    }
+    if dice.roll(16) == 0 {
+        file.failing = 1 + dice.roll(3);
+    }
+    Ok(())
+}
+
 fn spoil(model: &mut Model, dice: &mut Dice) -> Result<(), Fail> {
     for file in &mut model.files {
-        if dice.roll(16) == 0 {
-            file.text.extend_from_slice(b"0,0,0,1,?\n")?;
-            file.is_faulty = true;
-        }
-        if dice.roll(16) == 0 {
-            file.failing = 1 + dice.roll(3);
-        }
+        spoil_file(file, dice)?;
     }
     Ok(())
 }
@@ -224,7 +238,7 @@ impl Gate for Delay {
 // Which sink fails, if any; at which call; and how many bytes of a put it takes at most, which may be all.
 #[derive(Clone, Copy, Drop)]
 struct Failing {
-    place: u64,
+    which: TextName,
     nth: u64,
     step: usize,
 }
@@ -235,57 +249,58 @@ fn failing_sink(dice: &mut Dice) -> Option<Failing>
     if dice.roll(4) != 0 {
         return None;
     }
-    let place = dice.roll(5);
+    let which = *TextName::all().get(dice.roll(5) as usize)?;
     let nth = 1 + dice.roll(5);
     let step = if dice.roll(2) == 0 {
         1 + dice.roll(90) as usize
     } else {
         1_000_000
     };
-    Some(Failing { place, nth, step })
+    Some(Failing { which, nth, step })
 }
 
 // A sink that takes few bytes at a time; or the one that fails.
-fn random_sink(alloc: Global, dice: &mut Dice, failing: Option<Failing>, place: u64) -> MemSink {
+fn random_sink(
+    alloc: Global,
+    dice: &mut Dice,
+    failing: Option<Failing>,
+    name: TextName,
+) -> MemSink {
     match failing {
-        Some(
-            Failing {
-                place: at,
-                nth,
-                step,
-            },
-        ) if at == place => MemSink::fresh(alloc, step.max(1), nth),
+        Some(Failing { which, nth, step }) if which == name => {
+            MemSink::fresh(alloc, step.max(1), nth)
+        }
         _ => MemSink::short(alloc, 1 + dice.roll(90) as usize),
     }
 }
 
 fn random_sinks(alloc: Global, dice: &mut Dice, failing: Option<Failing>) -> Sinks<MemSink> {
     let mut sinks = new_sinks(alloc);
-    sinks.blocks = random_sink(alloc, dice, failing, 0);
-    sinks.prec = random_sink(alloc, dice, failing, 1);
-    sinks.upit = random_sink(alloc, dice, failing, 2);
-    sinks.pcpsp = random_sink(alloc, dice, failing, 3);
-    sinks.cpit = random_sink(alloc, dice, failing, 4);
+    for name in TextName::all() {
+        *sinks.of_mut(name) = random_sink(alloc, dice, failing, name);
+    }
     sinks
 }
 
-const NAMES: [TextName; 5] = [
-    TextName::Blocks,
-    TextName::Prec,
-    TextName::Upit,
-    TextName::Pcpsp,
-    TextName::Cpit,
-];
+// The place of a text in the order of writing.
+fn place_of(which: TextName) -> u64 {
+    match which {
+        TextName::Blocks => 0,
+        TextName::Prec => 1,
+        TextName::Upit => 2,
+        TextName::Pcpsp => 3,
+        TextName::Cpit => 4,
+    }
+}
 
 // The sink that stops the run, if any. A text is begun and then put at once, where it is not empty, and what was not taken is put again.
 fn stopped_by(texts: &Texts, failing: Option<Failing>) -> Option<Refusal> {
-    let Failing { place, nth, step } = failing?;
+    let Failing { which, nth, step } = failing?;
     let step = step.max(1);
-    let puts = text_at(texts, place).len().saturating_add(step - 1) / step;
+    let puts = sink_of(texts, which).len().saturating_add(step - 1) / step;
     if nth > (puts as u64).saturating_add(1) {
         return None;
     }
-    let which = *NAMES.get(place as usize)?;
     Some(Refusal::SinkFailed { which })
 }
 
@@ -326,13 +341,7 @@ fn expected_answer(
 fn texts_whole(answer: Result<u64, Refusal>) -> u64 {
     match answer {
         Ok(_) => 5,
-        Err(Refusal::SinkFailed { which }) => match which {
-            TextName::Blocks => 0,
-            TextName::Prec => 1,
-            TextName::Upit => 2,
-            TextName::Pcpsp => 3,
-            TextName::Cpit => 4,
-        },
+        Err(Refusal::SinkFailed { which }) => place_of(which),
         Err(_) => 0,
     }
 }
@@ -361,49 +370,38 @@ const CPIT_KEYS: &[u8] =
 const TAIL: &[u8] = b"RESOURCE_CONSTRAINT_COEFFICIENTS:\nRESOURCE_CONSTRAINT_LIMITS:\n";
 
 // The texts of the instance of a model.
-#[derive(Drop)]
-struct Texts {
-    blocks: Vec<u8>,
-    prec: Vec<u8>,
-    upit: Vec<u8>,
-    pcpsp: Vec<u8>,
-    cpit: Vec<u8>,
+type Texts = Sinks<Vec<u8>>;
+
+const UPIT_KEYS: &[u8] = b"\nOBJECTIVE_FUNCTION:\n";
+
+fn text_of(alloc: Global, model: &Model, name: TextName) -> Result<Vec<u8>, Fail> {
+    let rows = format!(in alloc; "{}", model.rows)?;
+    let (count, objective) = (rows.as_bytes(), model.objective.as_slice());
+    match name {
+        TextName::Blocks => joined(alloc, &[model.blocks.as_slice()]),
+        TextName::Prec => joined(alloc, &[model.prec.as_slice()]),
+        TextName::Upit => joined(alloc, &[UPIT_HEAD, count, UPIT_KEYS, objective]),
+        TextName::Pcpsp => joined(alloc, &[PCPSP_HEAD, count, PCPSP_KEYS, objective, TAIL]),
+        TextName::Cpit => joined(alloc, &[CPIT_HEAD, count, CPIT_KEYS, objective, TAIL]),
+    }
 }
 
 fn texts_of(alloc: Global, model: &Model) -> Result<Texts, Fail> {
-    let rows = format!(in alloc; "{}", model.rows)?;
-    let (count, objective) = (rows.as_bytes(), model.objective.as_slice());
-    let keys: &[u8] = b"\nOBJECTIVE_FUNCTION:\n";
-    Ok(Texts {
-        blocks: model.blocks.as_slice().to_vec(alloc)?,
-        prec: model.prec.as_slice().to_vec(alloc)?,
-        upit: joined(alloc, &[UPIT_HEAD, count, keys, objective])?,
-        pcpsp: joined(alloc, &[PCPSP_HEAD, count, PCPSP_KEYS, objective, TAIL])?,
-        cpit: joined(alloc, &[CPIT_HEAD, count, CPIT_KEYS, objective, TAIL])?,
-    })
-}
-
-fn text_at(texts: &Texts, place: u64) -> &[u8] {
-    match place {
-        0 => texts.blocks.as_slice(),
-        1 => texts.prec.as_slice(),
-        2 => texts.upit.as_slice(),
-        3 => texts.pcpsp.as_slice(),
-        _ => texts.cpit.as_slice(),
-    }
+    Sinks::each(|name| text_of(alloc, model, name))
 }
 
 // So many texts are whole, the next one has so many bytes, and the others are empty.
 fn texts_are(sinks: &Sinks<MemSink>, texts: &Texts, whole: u64, front: usize) -> bool {
-    is_text(&sinks.blocks, texts, 0, whole, front)
-        && is_text(&sinks.prec, texts, 1, whole, front)
-        && is_text(&sinks.upit, texts, 2, whole, front)
-        && is_text(&sinks.pcpsp, texts, 3, whole, front)
-        && is_text(&sinks.cpit, texts, 4, whole, front)
+    TextName::all().iter().all(|name| is_text(
+        sink_of(sinks, *name),
+        sink_of(texts, *name).as_slice(),
+        place_of(*name),
+        whole,
+        front,
+    ))
 }
 
-fn is_text(sink: &MemSink, texts: &Texts, place: u64, whole: u64, front: usize) -> bool {
-    let text = text_at(texts, place);
+fn is_text(sink: &MemSink, text: &[u8], place: u64, whole: u64, front: usize) -> bool {
     if place < whole {
         return sink.begun() && sink.bytes() == text;
     }
@@ -418,18 +416,17 @@ fn is_text(sink: &MemSink, texts: &Texts, place: u64, whole: u64, front: usize) 
 
 // The sinks behind the one that is not whole were not begun; none was, where no sink stopped the run.
 fn are_left(sinks: &Sinks<MemSink>, answer: Result<u64, Refusal>) -> bool {
-    let [blocks, prec, upit, pcpsp, cpit] = begun(sinks);
     match answer {
-        Ok(_) => blocks && prec && upit && pcpsp && cpit,
-        Err(Refusal::SinkFailed { which }) => match which {
-            TextName::Blocks => !(prec || upit || pcpsp || cpit),
-            TextName::Prec => !(upit || pcpsp || cpit),
-            TextName::Upit => !(pcpsp || cpit),
-            TextName::Pcpsp => !cpit,
-            TextName::Cpit => true,
-        },
+        Ok(_) => begun(sinks) == [true; 5],
+        Err(Refusal::SinkFailed { which }) => is_last(sinks, which),
         Err(_) => is_untouched(sinks),
     }
+}
+
+// No sink behind this one was begun.
+fn is_last(sinks: &Sinks<MemSink>, which: TextName) -> bool {
+    TextName::all().iter().all(|name| place_of(*name) <= place_of(which)
+        || !sink_of(sinks, *name).begun())
 }
 
 // How a run is made.
@@ -463,6 +460,46 @@ fn random_making(dice: &mut Dice) -> Making
     }
 }
 
+// What a run of a model answers.
+fn run_of<R: Threads + Wait + Sync>(
+    rt: &R,
+    alloc: Global,
+    dice: &mut Dice,
+    making: &Making,
+    model: &Model,
+    sinks: &mut Sinks<MemSink>,
+) -> Result<Result<u64, Refusal>, Fail> {
+    let plan = mill_plan(alloc, making.files)?;
+    let feeds = feeds_of_model(alloc, model.files.as_slice(), dice)?;
+    let settings = settings(making.valuers as usize, making.capacity as usize);
+    let Making { starts, gate, .. } = making;
+    answer(rt, alloc, &plan, feeds, settings, *starts, gate, sinks)
+}
+
+// The answer of a run is what is known of its model, and its sinks are left so.
+fn is_as_known(
+    rt: &impl Abort,
+    alloc: Global,
+    making: &Making,
+    model: &Model,
+    sinks: &Sinks<MemSink>,
+    answered: Result<u64, Refusal>,
+    seed: u64,
+) -> Result<(), Fail>
+    requires { making.now.valuers < 100 }
+{
+    let needed = making.valuers + u64::from(making.files);
+    let (starts, failing) = (u64::from(making.starts), making.failing);
+    let texts = texts_of(alloc, model)?;
+    let expected = expected_answer(model, &texts, starts, needed, failing);
+    let front = front_taken(expected, failing);
+    let are_texts = texts_are(sinks, &texts, texts_whole(expected), front);
+    assert!(rt; answered == expected, "seed {seed}");
+    assert!(rt; are_texts, "seed {seed}");
+    assert!(rt; are_left(sinks, expected), "seed {seed}");
+    Ok(())
+}
+
 // One run, which has to answer what is known of its model, and leave the sinks so.
 fn random_run<R: Threads + Wait + Sync + Abort>(
     rt: &R,
@@ -473,31 +510,8 @@ fn random_run<R: Threads + Wait + Sync + Abort>(
     let making = random_making(&mut dice);
     let model = random_model(alloc, &mut dice, making.files)?;
     let mut sinks = random_sinks(alloc, &mut dice, making.failing);
-    let answered = answer(
-        rt,
-        alloc,
-        &mill_plan(alloc, making.files)?,
-        feeds_of_model(alloc, model.files.as_slice(), &mut dice)?,
-        settings(making.valuers as usize, making.capacity as usize),
-        making.starts,
-        &making.gate,
-        &mut sinks,
-    )?;
-    let needed = making.valuers + u64::from(making.files);
-    let texts = texts_of(alloc, &model)?;
-    let expected = expected_answer(
-        &model,
-        &texts,
-        u64::from(making.starts),
-        needed,
-        making.failing,
-    );
-    let front = front_taken(expected, making.failing);
-    let are_texts = texts_are(&sinks, &texts, texts_whole(expected), front);
-    assert!(rt; answered == expected, "seed {seed}");
-    assert!(rt; are_texts, "seed {seed}");
-    assert!(rt; are_left(&sinks, expected), "seed {seed}");
-    Ok(())
+    let answered = run_of(rt, alloc, &mut dice, &making, &model, &mut sinks)?;
+    is_as_known(rt, alloc, &making, &model, &sinks, answered, seed)
 }
 
 // The number that an environment variable states, or this one.

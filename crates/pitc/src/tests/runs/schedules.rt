@@ -3,7 +3,7 @@ ghost use Rattle.pit_model.specs.Formula.{IsRuled};
 ghost use Rattle.pit_model.specs.Worth.{worth};
 
 use super::{
-    ENOUGH, Fail, Gate, Global, OpenGate, Plan, Refusal, Settings, Threads, answer,
+    ENOUGH, Fail, Gate, Global, MemSink, OpenGate, Plan, Refusal, Settings, Sinks, Threads, answer,
     destinations_of, feeds_of, is_untouched, mill_plan, new_sinks, run_limited, settings,
 };
 use pit_model::block::Block;
@@ -61,11 +61,23 @@ fn gated<R: Threads + Wait + Sync, G: Gate + Sync>(
     starts: u32,
     gate: &G,
 ) -> Result<(Result<u64, Refusal>, bool), Fail> {
+    let mut sinks = new_sinks(alloc);
+    let answered = gated_into(rt, alloc, files, settings, starts, gate, &mut sinks)?;
+    Ok((answered, is_untouched(&sinks)))
+}
+
+fn gated_into<R: Threads + Wait + Sync, G: Gate + Sync>(
+    rt: &R,
+    alloc: Global,
+    files: &[&str],
+    settings: Settings,
+    starts: u32,
+    gate: &G,
+    sinks: &mut Sinks<MemSink>,
+) -> Result<Result<u64, Refusal>, Fail> {
     let plan = mill_plan(alloc, files.len().min(64) as u8)?;
     let feeds = feeds_of(alloc, files)?;
-    let mut sinks = new_sinks(alloc);
-    let answered = answer(rt, alloc, &plan, feeds, settings, starts, gate, &mut sinks)?;
-    Ok((answered, is_untouched(&sinks)))
+    answer(rt, alloc, &plan, feeds, settings, starts, gate, sinks)
 }
 
 const EIGHT_ROWS: &str =
@@ -133,27 +145,33 @@ fn holding_destinations(
     Ok(destinations)
 }
 
-// The stored closures are asked from eight threads at the same time.
-#[test]
-fn eight_blocks_valued_at_once(rt: HostRuntime) -> Result<(), Fail> {
-    let alloc = rt.alloc();
+// Whether a run of eight rows with holding destinations is done.
+fn holding_run<R: Threads + Wait + Sync>(
+    rt: &R,
+    alloc: Global,
+    calls: &Calls,
+) -> Result<bool, Fail> {
     let plan = mill_plan(alloc, 1)?;
-    let calls = Arc::new(alloc, AtomicU64::new(0))?;
-    let destinations = holding_destinations(alloc, &plan, &calls)?;
-    let feeds = feeds_of(alloc, &[EIGHT_ROWS])?;
-    let mut sinks = new_sinks(alloc);
+    let destinations = holding_destinations(alloc, &plan, calls)?;
     let answered = run_limited(
-        &rt,
+        rt,
         alloc,
-        feeds,
+        feeds_of(alloc, &[EIGHT_ROWS])?,
         &plan,
         destinations.as_slice(),
         settings(8, 64),
         ENOUGH,
         &OpenGate,
-        &mut sinks,
+        &mut new_sinks(alloc),
     );
-    assert!(rt; answered.is_ok());
+    Ok(answered.is_ok())
+}
+
+// The stored closures are asked from eight threads at the same time.
+#[test]
+fn eight_blocks_valued_at_once(rt: HostRuntime) -> Result<(), Fail> {
+    let calls = Arc::new(rt.alloc(), AtomicU64::new(0))?;
+    assert!(rt; holding_run(&rt, rt.alloc(), &calls)?);
     assert_eq!(rt; calls.load(Ordering::SeqCst), 8);
     Ok(())
 }
@@ -194,26 +212,34 @@ fn reader_held_by_a_row(rt: HostRuntime) -> Result<(), Fail> {
     Ok(())
 }
 
+// The readers that a gate was called for, the pulls of a feed, and those of them before which the gate was not called.
+#[derive(Drop)]
+struct Looks {
+    readers: AtomicU64,
+    pulls: AtomicU64,
+    early: AtomicU64,
+}
+
+type Looked = Arc<Looks, Global>;
+
 // Counts the readers that it was called for.
 #[derive(Drop)]
 struct Counting {
-    readers: Calls,
+    looks: Looked,
 }
 
 impl Gate for Counting {
     fn row<R: Wait>(&self, _rt: &R, _valuer: u8, _file: u8, _place: u32) {}
 
     fn reader<R: Wait>(&self, _rt: &R, _file: u8) {
-        self.readers.fetch_add(1, Ordering::SeqCst);
+        self.looks.readers.fetch_add(1, Ordering::SeqCst);
     }
 }
 
-// An empty file that counts its pulls, and those of them before which the gate was not called.
+// An empty file that counts its pulls, and the early ones among them.
 #[derive(Drop)]
 struct Looking {
-    readers: Calls,
-    pulls: Calls,
-    early: Calls,
+    looks: Looked,
 }
 
 impl Feed for Looking {
@@ -228,43 +254,60 @@ impl Feed for Looking {
     ghost is_sure = { λ _. false };
 
     fn pull(&mut self, _buffer: &mut [u8]) -> Result<usize, FeedFault> {
-        self.pulls.fetch_add(1, Ordering::SeqCst);
-        if self.readers.load(Ordering::SeqCst) == 0 {
-            self.early.fetch_add(1, Ordering::SeqCst);
+        self.looks.pulls.fetch_add(1, Ordering::SeqCst);
+        if self.looks.readers.load(Ordering::SeqCst) == 0 {
+            self.looks.early.fetch_add(1, Ordering::SeqCst);
         }
         Ok(0)
     }
 }
 
-// The gate is told of a reader before it pulls.
-#[test]
-fn gate_before_reading(rt: HostRuntime) -> Result<(), Fail> {
-    let alloc = rt.alloc();
-    let readers = Arc::new(alloc, AtomicU64::new(0))?;
-    let pulls = Arc::new(alloc, AtomicU64::new(0))?;
-    let early = Arc::new(alloc, AtomicU64::new(0))?;
-    let mut feeds = Vec::new(alloc);
-    feeds.push(Looking {
-        readers: Arc::clone(&readers)?,
-        pulls: Arc::clone(&pulls)?,
-        early: Arc::clone(&early)?,
-    })?;
+fn no_looks(alloc: Global) -> Result<Looked, Fail> {
+    let looks = Looks {
+        readers: AtomicU64::new(0),
+        pulls: AtomicU64::new(0),
+        early: AtomicU64::new(0),
+    };
+    Ok(Arc::new(alloc, looks)?)
+}
+
+fn looking_feeds(alloc: Global, looks: &Looked) -> Result<Vec<Looking>, Fail> {
+    let looks = Arc::clone(looks)?;
+    Ok(Vec::from_array(alloc, [Looking { looks }])?)
+}
+
+// Whether a run that counts these looks is refused.
+fn is_refused<R: Threads + Wait + Sync>(
+    rt: &R,
+    alloc: Global,
+    looks: &Looked,
+) -> Result<bool, Fail> {
     let plan = mill_plan(alloc, 1)?;
     let destinations = destinations_of(alloc, &plan)?;
+    let gate = Counting {
+        looks: Arc::clone(looks)?,
+    };
     let answered = run_limited(
-        &rt,
+        rt,
         alloc,
-        feeds,
+        looking_feeds(alloc, looks)?,
         &plan,
         destinations.as_slice(),
         settings(1, 1),
         ENOUGH,
-        &Counting { readers },
+        &gate,
         &mut new_sinks(alloc),
     );
-    assert!(rt; answered.is_err());
-    assert!(rt; 0 < pulls.load(Ordering::SeqCst));
-    assert_eq!(rt; early.load(Ordering::SeqCst), 0);
+    Ok(answered.is_err())
+}
+
+// The gate is told of a reader before it pulls.
+#[test]
+fn gate_before_reading(rt: HostRuntime) -> Result<(), Fail> {
+    let looks = no_looks(rt.alloc())?;
+    assert!(rt; is_refused(&rt, rt.alloc(), &looks)?);
+    assert!(rt; 0 < looks.pulls.load(Ordering::SeqCst));
+    assert_eq!(rt; looks.early.load(Ordering::SeqCst), 0);
     Ok(())
 }
 

@@ -1,11 +1,13 @@
 ghost use Rattle.std.specs.Prelude.{IfOk};
 ghost use Rattle.mine_instance.specs.Valid.{IsValid};
 
-use super::{Fail, Global, MemSink, Sinks, feeds_of, new_sinks, open_answer, read_plan, settings};
-use mine_instance::instance::Instance;
-use minelib_text::{
-    read_cpit, read_instance, write_blocks, write_cpit, write_pcpsp, write_prec, write_upit,
+use super::{
+    Fail, Global, MemSink, Refusal, Sinks, TextName, Threads, Wait, feeds_of, new_sinks,
+    open_answer, plan_of, settings, sink_of,
 };
+use crate::tests::models::text_of;
+use mine_instance::instance::Instance;
+use minelib_text::{read_cpit, read_instance, write_cpit};
 
 // A plan with as many destinations and resources as there may be, and a limit of each resource in each period.
 const LARGE_PLAN: &[u8] =
@@ -23,17 +25,12 @@ const LARGE_PREC: &[u8] =
 fn has_texts(alloc: Global, instance: &Instance, sinks: &Sinks<MemSink>) -> Result<bool, Fail>
     requires { IsValid instance.now }
 {
-    let mut again = new_sinks(alloc);
-    write_blocks(alloc, instance, &mut again.blocks)?;
-    write_prec(alloc, instance, &mut again.prec)?;
-    write_upit(alloc, instance, &mut again.upit)?;
-    write_pcpsp(alloc, instance, &mut again.pcpsp)?;
-    Ok(
-        again.blocks.bytes() == sinks.blocks.bytes()
-            && again.prec.bytes() == sinks.prec.bytes()
-            && again.upit.bytes() == sinks.upit.bytes()
-            && again.pcpsp.bytes() == sinks.pcpsp.bytes(),
-    )
+    for name in TextName::all() {
+        if text_of(alloc, name, instance)?.bytes() != sink_of(sinks, name).bytes() {
+            return Ok(false);
+        }
+    }
+    Ok(true)
 }
 
 // The instance that the texts of the sinks denote.
@@ -61,20 +58,27 @@ fn cpit_read_back(alloc: Global, text: &[u8]) -> Result<Option<usize>, Fail> {
     }
 }
 
+// The answer of a run on the large plan.
+fn run_large<R: Threads + Wait + Sync>(
+    rt: &R,
+    alloc: Global,
+    sinks: &mut Sinks<MemSink>,
+) -> Result<Result<u64, Refusal>, Fail> {
+    let plan = plan_of(alloc, LARGE_PLAN)?;
+    let feeds = feeds_of(alloc, &[LARGE_ROWS])?;
+    open_answer(rt, alloc, &plan, feeds, settings(2, 4), sinks)
+}
+
 // Nine blocks with eight destinations and eight resources, each of which covers all: their texts are read, and written again.
 #[test]
 fn nine_blocks_of_many_numbers(rt: HostRuntime) -> Result<(), Fail> {
-    let alloc = rt.alloc();
-    let plan = read_plan(alloc, LARGE_PLAN)?;
-    let mut sinks = new_sinks(alloc);
-    let feeds = feeds_of(alloc, &[LARGE_ROWS])?;
-    let answered = open_answer(&rt, alloc, &plan, feeds, settings(2, 4), &mut sinks)?;
-    assert!(rt; answered == Ok(9));
+    let mut sinks = new_sinks(rt.alloc());
+    assert!(rt; run_large(&rt, rt.alloc(), &mut sinks)? == Ok(9));
     assert!(rt; sinks.prec.bytes() == LARGE_PREC);
-    let instance = read_back(alloc, &sinks)?;
+    let instance = read_back(rt.alloc(), &sinks)?;
     assert_eq!(rt; (instance.blocks_len(), instance.arcs()), (9, 23));
     assert_eq!(rt; (instance.coefs_len(), instance.limits_len()), (576, 16));
-    assert!(rt; has_texts(alloc, &instance, &sinks)?);
-    assert_eq!(rt; cpit_read_back(alloc, sinks.cpit.bytes())?, Some(72));
+    assert!(rt; has_texts(rt.alloc(), &instance, &sinks)?);
+    assert_eq!(rt; cpit_read_back(rt.alloc(), sinks.cpit.bytes())?, Some(72));
     Ok(())
 }

@@ -1,6 +1,7 @@
 ghost use Rattle.std.specs.Prelude.{IfOk};
 ghost use Rattle.mine_instance.specs.Valid.{IsValid};
 
+use crate::tests::models::text_of;
 use mine_instance::blocks::Blocks;
 use mine_instance::coef::{Coef, Coefs};
 use mine_instance::instance::Instance;
@@ -10,8 +11,9 @@ use mine_instance::{build_cpit, is_valid};
 use minelib_text::mem_sink::MemSink;
 use minelib_text::section_sink::SectionSink;
 use minelib_text::sink::Sink;
+use minelib_text::text_name::TextName;
 use minelib_text::write_fault::WriteFault;
-use minelib_text::{write_blocks, write_cpit, write_pcpsp, write_prec, write_upit};
+use minelib_text::{write_blocks, write_named, write_prec, write_upit};
 use pit_model::block::Block;
 use pit_model::limit::{Bound, Limit};
 use pit_model::name::Name;
@@ -122,6 +124,15 @@ const ONE_ORE_BLOCK: Parts = Parts {
     limits: &[],
 };
 
+// Two dumps that cost the same, of which a resource may cover one.
+const TWO_DUMPS: Parts = Parts {
+    destinations: 2,
+    resources: 1,
+    blocks: &[(0, 0, 0, 1_000, 0)],
+    values: &[-2_000_000, -2_000_000],
+    ..ONE_ORE_BLOCK
+};
+
 const LIMITS_AND_COEFFICIENTS: Parts = Parts {
     name: "one",
     periods: 2,
@@ -133,48 +144,26 @@ const LIMITS_AND_COEFFICIENTS: Parts = Parts {
     limits: &[(0, 0, None, 500_500_000), (0, 1, Some(0), 900_000_000)],
 };
 
-#[derive(Clone, Copy, PartialEq, Eq, Debug)]
-enum Which {
-    Blocks,
-    Prec,
-    Upit,
-    Pcpsp,
-    Cpit,
-}
-
-const ALL: [Which; 5] = [
-    Which::Blocks,
-    Which::Prec,
-    Which::Upit,
-    Which::Pcpsp,
-    Which::Cpit,
-];
-
+// Writes the text of this name.
 fn write<S: Sink>(
     alloc: Global,
-    which: Which,
+    name: TextName,
     instance: &Instance,
     sink: &mut S,
 ) -> Result<Result<(), WriteFault>, Fail>
     requires { IsValid instance.now }
 {
-    Ok(match which {
-        Which::Blocks => write_blocks(alloc, instance, sink),
-        Which::Prec => write_prec(alloc, instance, sink),
-        Which::Upit => write_upit(alloc, instance, sink),
-        Which::Pcpsp => write_pcpsp(alloc, instance, sink),
-        Which::Cpit => write_cpit(alloc, &build_cpit(alloc, instance)?, sink),
-    })
+    let cpit = build_cpit(alloc, instance)?;
+    Ok(write_named(alloc, name, instance, &cpit, sink))
 }
 
 // The five texts are these.
 fn has_texts(rt: &impl Abort, alloc: Global, parts: &Parts, want: [&str; 5]) -> Result<(), Fail> {
     let instance = made(alloc, parts)?;
-    for (index, which) in ALL.iter().enumerate() {
-        let mut sink = MemSink::new(alloc);
-        write(alloc, *which, &instance, &mut sink)??;
+    for (name, text) in TextName::all().iter().zip(&want) {
+        let sink = text_of(alloc, *name, &instance)?;
         assert!(rt; sink.begun());
-        assert_eq!(rt; sink.bytes(), want[index].as_bytes(), "{which:?}");
+        assert_eq!(rt; sink.bytes(), text.as_bytes(), "{name}");
     }
     Ok(())
 }
@@ -233,110 +222,152 @@ fn limits_and_coefficients(rt: HostRuntime) -> Result<(), Fail> {
 }
 
 // Two texts behind their lines and behind what stood there. What is begun again gives up its own text alone.
+fn put_sections(alloc: Global, instance: &Instance, sink: &mut SectionSink) -> Result<(), Fail>
+    requires { IsValid instance.now }
+{
+    sink.section(b"== blocks\n")?;
+    write_upit(alloc, instance, sink)?;
+    write_blocks(alloc, instance, sink)?;
+    sink.section(b"== prec\n")?;
+    write_prec(alloc, instance, sink)?;
+    Ok(())
+}
+
+const SECTIONS: &[u8] = b"old\n== blocks\n0 0 0 0 1000 5000 0\n1 1 0 0 0 7 0\n== prec\n0 0\n1 0\n";
+
 #[test]
 fn sections_stay(rt: HostRuntime) -> Result<(), Fail> {
     let alloc = rt.alloc();
     let instance = made(alloc, &LIMITS_AND_COEFFICIENTS)?;
     let mut sink = SectionSink::new(Vec::from_slice(alloc, b"old\n")?);
-    sink.section(b"== blocks\n")?;
-    write_upit(alloc, &instance, &mut sink)?;
-    write_blocks(alloc, &instance, &mut sink)?;
-    sink.section(b"== prec\n")?;
-    write_prec(alloc, &instance, &mut sink)?;
-    assert_eq!(rt;
-        sink.into_vec().as_slice(),
-        "old\n== blocks\n0 0 0 0 1000 5000 0\n1 1 0 0 0 7 0\n== prec\n0 0\n1 0\n".as_bytes()
-    );
+    put_sections(alloc, &instance, &mut sink)?;
+    assert_eq!(rt; sink.into_vec().as_slice(), SECTIONS);
     Ok(())
 }
 
-// The objective and the coefficients of a CPIT, between its section lines.
+// The parts of an instance, and the objective and the coefficients of its CPIT, between their section lines.
+const CPITS: [(Parts, &str); 3] = [
+    // The dump is the better of the mill and the dump, and the plant covers the mill.
+    (
+        Parts {
+            blocks: &[(0, 0, 0, 1_000_000, 0)],
+            values: &[-15_000_000_000, -2_000_000_000],
+            ..LIMITS_AND_COEFFICIENTS
+        },
+        "OBJECTIVE_FUNCTION:\n0 -2000\nRESOURCE_CONSTRAINT_COEFFICIENTS:\nRESOURCE_CONSTRAINT_LIMITS:\n0 0 L 500.5\n0 1 I 0 900\n",
+    ),
+    // Of two dumps that cost the same the first is taken: with the resource of the second there is no coefficient.
+    (
+        Parts {
+            coefs: &[(0, 1, 0, 1_000_000)],
+            ..TWO_DUMPS
+        },
+        "OBJECTIVE_FUNCTION:\n0 -2\nRESOURCE_CONSTRAINT_COEFFICIENTS:\nRESOURCE_CONSTRAINT_LIMITS:\n",
+    ),
+    (
+        Parts {
+            coefs: &[(0, 0, 0, 1_000_000)],
+            ..TWO_DUMPS
+        },
+        "OBJECTIVE_FUNCTION:\n0 -2\nRESOURCE_CONSTRAINT_COEFFICIENTS:\n0 0 1\nRESOURCE_CONSTRAINT_LIMITS:\n",
+    ),
+];
+
 #[test]
 fn cpit_destinations(rt: HostRuntime) -> Result<(), Fail> {
-    let alloc = rt.alloc();
-    let table = [
-        // The dump is the better of the mill and the dump, and the plant covers the mill.
-        (
-            Parts {
-                blocks: &[(0, 0, 0, 1_000_000, 0)],
-                values: &[-15_000_000_000, -2_000_000_000],
-                ..LIMITS_AND_COEFFICIENTS
-            },
-            "OBJECTIVE_FUNCTION:\n0 -2000\nRESOURCE_CONSTRAINT_COEFFICIENTS:\nRESOURCE_CONSTRAINT_LIMITS:\n0 0 L 500.5\n0 1 I 0 900\n",
-        ),
-        // Of two dumps that cost the same the first is taken: with the resource of the second there is no coefficient.
-        (
-            Parts {
-                destinations: 2,
-                resources: 1,
-                blocks: &[(0, 0, 0, 1_000, 0)],
-                values: &[-2_000_000, -2_000_000],
-                coefs: &[(0, 1, 0, 1_000_000)],
-                ..ONE_ORE_BLOCK
-            },
-            "OBJECTIVE_FUNCTION:\n0 -2\nRESOURCE_CONSTRAINT_COEFFICIENTS:\nRESOURCE_CONSTRAINT_LIMITS:\n",
-        ),
-        (
-            Parts {
-                destinations: 2,
-                resources: 1,
-                blocks: &[(0, 0, 0, 1_000, 0)],
-                values: &[-2_000_000, -2_000_000],
-                coefs: &[(0, 0, 0, 1_000_000)],
-                ..ONE_ORE_BLOCK
-            },
-            "OBJECTIVE_FUNCTION:\n0 -2\nRESOURCE_CONSTRAINT_COEFFICIENTS:\n0 0 1\nRESOURCE_CONSTRAINT_LIMITS:\n",
-        ),
-    ];
-    for (parts, end) in &table {
-        let instance = made(alloc, parts)?;
-        let mut sink = MemSink::new(alloc);
-        write(alloc, Which::Cpit, &instance, &mut sink)??;
+    for (parts, end) in &CPITS {
+        let instance = made(rt.alloc(), parts)?;
+        let sink = text_of(rt.alloc(), TextName::Cpit, &instance)?;
         assert!(rt; sink.bytes().ends_with(end.as_bytes()), "{end}");
     }
     Ok(())
 }
 
+// A sink that takes so many bytes at a time takes all of the text.
+fn comes_in_steps(
+    rt: &impl Abort,
+    alloc: Global,
+    name: TextName,
+    instance: &Instance,
+    whole: &[u8],
+) -> Result<(), Fail>
+    requires { IsValid instance.now }
+{
+    for step in [1usize, 2, 7] {
+        let mut short = MemSink::short(alloc, step);
+        write(alloc, name, instance, &mut short)??;
+        assert_eq!(rt; short.bytes(), whole, "{name} {step}");
+    }
+    Ok(())
+}
+
+// A sink that takes seven bytes a call, and fails at this one, where there is one. Whether it failed.
+fn fails_at(
+    rt: &impl Abort,
+    alloc: Global,
+    name: TextName,
+    instance: &Instance,
+    whole: &[u8],
+    nth: u64,
+) -> Result<bool, Fail>
+    requires { IsValid instance.now }
+{
+    let mut sink = MemSink::fresh(alloc, 7, nth);
+    match write(alloc, name, instance, &mut sink)? {
+        Ok(()) => {
+            // One call begins, and the others take seven bytes each.
+            let calls: u64 = 1 + whole.len().div_ceil(7) as u64;
+            assert!(rt; nth == 1 + calls, "{name} {nth}");
+            assert_eq!(rt; sink.bytes(), whole, "{name}");
+            Ok(false)
+        }
+        Err(fault) => {
+            assert_eq!(rt; fault, WriteFault::SinkFailed);
+            assert_eq!(rt; sink.begun(), nth > 1, "{name} {nth}");
+            assert!(rt; whole.starts_with(sink.bytes()), "{name} {nth}");
+            Ok(true)
+        }
+    }
+}
+
+// Whether there is a call, of those in turn, at which the sink no longer fails.
+fn ends(
+    rt: &impl Abort,
+    alloc: Global,
+    name: TextName,
+    instance: &Instance,
+    whole: &[u8],
+) -> Result<bool, Fail>
+    requires { IsValid instance.now }
+{
+    for nth in 1..1000u64 {
+        if !fails_at(rt, alloc, name, instance, whole, nth)? {
+            return Ok(true);
+        }
+    }
+    Ok(false)
+}
+
 // A sink that takes a few bytes at a time, and that fails at each of its calls in turn.
 #[test]
 fn failing_devices(rt: HostRuntime) -> Result<(), Fail> {
-    let alloc = rt.alloc();
-    let instance = made(alloc, &LIMITS_AND_COEFFICIENTS)?;
-    for which in &ALL {
-        let mut whole = MemSink::new(alloc);
-        write(alloc, *which, &instance, &mut whole)??;
-        for step in [1usize, 2, 7] {
-            let mut short = MemSink::short(alloc, step);
-            write(alloc, *which, &instance, &mut short)??;
-            assert_eq!(rt; short.bytes(), whole.bytes(), "{which:?} {step}");
-        }
-        let mut ended = false;
-        for nth in 1..1000u64 {
-            let mut sink = MemSink::fresh(alloc, 7, nth);
-            match write(alloc, *which, &instance, &mut sink)? {
-                Ok(()) => {
-                    // One call begins, and the others take seven bytes each.
-                    let calls: u64 = 1 + whole.bytes().len().div_ceil(7) as u64;
-                    assert!(rt; nth == 1 + calls, "{which:?} {nth}");
-                    assert_eq!(rt; sink.bytes(), whole.bytes(), "{which:?}");
-                    ended = true;
-                    break;
-                }
-                Err(fault) => {
-                    assert_eq!(rt; fault, WriteFault::SinkFailed);
-                    assert_eq!(rt; sink.begun(), nth > 1, "{which:?} {nth}");
-                    assert!(rt; whole.bytes().starts_with(sink.bytes()), "{which:?} {nth}");
-                }
-            }
-        }
-        assert!(rt; ended, "{which:?}");
+    let instance = made(rt.alloc(), &LIMITS_AND_COEFFICIENTS)?;
+    for name in TextName::all() {
+        let whole = text_of(rt.alloc(), name, &instance)?;
+        comes_in_steps(&rt, rt.alloc(), name, &instance, whole.bytes())?;
+        let ended = ends(&rt, rt.alloc(), name, &instance, whole.bytes())?;
+        assert!(rt; ended, "{name}");
     }
-    // The precedence file's second call fails: it was begun and is empty.
-    let mut sink = MemSink::failing(alloc, 2);
-    assert_eq!(rt;
-        write_prec(alloc, &instance, &mut sink),
-        Err(WriteFault::SinkFailed)
-    );
+    Ok(())
+}
+
+// The precedence file's second call fails: it was begun and is empty.
+#[test]
+fn a_begun_file_is_empty(rt: HostRuntime) -> Result<(), Fail> {
+    let instance = made(rt.alloc(), &LIMITS_AND_COEFFICIENTS)?;
+    let mut sink = MemSink::failing(rt.alloc(), 2);
+    let written = write_prec(rt.alloc(), &instance, &mut sink);
+    assert_eq!(rt; written, Err(WriteFault::SinkFailed));
     assert!(rt; sink.begun() && sink.bytes().is_empty());
     Ok(())
 }
