@@ -4,7 +4,7 @@ ghost use Rattle.std.specs.Prelude.{◌≡◌, ℕ, ◌<◌, ◌≤◌, ◌++◌
 ghost use Rattle.collector.specs.inner.Shelves.{rows_in, end_in, with_row, fault_in, file_of, ArePut, AreSame, IsFilled, IsFirstLacking};
 ghost use Rattle.collector.specs.Fault.{fault};
 ghost use Rattle.collector.specs.Lists.{AreLists, IsFinishFault};
-ghost use Rattle.pit_model.specs.declared.ranges.TheConstants.{MAX_ROWS};
+ghost use Rattle.pit_parts.specs.declared.ranges.TheConstants.{MAX_ROWS};
 
 use crate::add_fault::AddFault;
 use crate::finish_fault::FinishFault;

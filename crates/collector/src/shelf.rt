@@ -2,10 +2,10 @@
 
 ghost use Rattle.std.specs.Prelude.{◌≡◌, ℕ, ◌<◌, ◌≤◌, [], length, is_some, true, Some, None, MatchOption, OnOk, OnErr};
 ghost use Rattle.collector.specs.inner.Shelves.{slot, with_row, row_fault, end_fault, IsFilled, IsLacking};
-ghost use Rattle.pit_model.specs.declared.ranges.TheConstants.{MAX_ROWS};
+ghost use Rattle.pit_parts.specs.declared.ranges.TheConstants.{MAX_ROWS};
 
 use crate::add_fault::AddFault;
-use pit_model::ranges::MAX_ROWS;
+use pit_parts::ranges::MAX_ROWS;
 use rows::{Rows, Valued};
 use std::alloc::{AllocError, Global};
 

@@ -18,6 +18,10 @@ pub data Value : Type 0 where
 abbrev pub below : ℕ → Field
 below limit = Decimal 0 (pos 0) (pos (limit * 10 ^ 6) +ℤ negsuc 0)
 
+-- a whole number from the lowest to the highest
+abbrev pub between : ℕ → ℕ → Field
+between low high = Decimal 0 (pos (low * 10 ^ 6)) (pos (high * 10 ^ 6))
+
 -- so many millionths, from 0 to the most, with so many decimals
 abbrev pub up_to : ℕ → ℕ → Field
 up_to decimals most = Decimal decimals (pos 0) (pos most)

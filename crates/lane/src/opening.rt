@@ -9,7 +9,7 @@ ghost use Rattle.lane.specs.Ends.{ArePutsFrom, AreTakesFrom, first_puts, first_t
 ghost use Rattle.lane.specs.inner.Kept.{lane_at, puts_left, takes_left};
 ghost use Rattle.lane.specs.Rule.{IsLane, all_parts};
 ghost use Rattle.lane.specs.inner.Views.{without_second, second_alone};
-ghost use Rattle.pit_model.specs.declared.ranges.TheConstants.{MAX_CAPACITY, MAX_VALUERS, MAX_ZONES};
+ghost use Rattle.pit_parts.specs.declared.ranges.TheConstants.{MAX_CAPACITY, MAX_VALUERS, MAX_ZONES};
 
 use crate::closer::Closer;
 use crate::message::Taken;

@@ -6,13 +6,13 @@ ghost use Rattle.crossbeam_channel.specs.Ends.{sends_on, ruled_capacity};
 ghost use Rattle.lane.specs.inner.Kept.{IsClosers, lane_at};
 ghost use Rattle.lane.specs.Message.{IsEndedFrom};
 ghost use Rattle.lane.specs.MessageKinds.{has_end, rows_in};
-ghost use Rattle.pit_model.specs.declared.ranges.TheConstants.{MAX_ROWS};
+ghost use Rattle.pit_parts.specs.declared.ranges.TheConstants.{MAX_ROWS};
 
 use crate::channel::put;
 use crate::message::Taken;
 use crate::part::Part;
 use crate::rule::{Joins, Seat, Sender};
-use pit_model::block::Block;
+use pit_parts::block::Block;
 use std::marker::Model;
 use std::sync::Wait;
 

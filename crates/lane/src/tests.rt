@@ -6,7 +6,7 @@ ghost use Rattle.lane.specs.MessageKinds.{is_done};
 ghost use Rattle.lane.specs.Ends.{Lane, AreTakesFrom, first_puts, first_takes};
 
 use super::*;
-use pit_model::block::Block;
+use pit_parts::block::Block;
 use std::alloc::{AllocError, Global};
 use std::process::Abort;
 use std::sync::Wait;

@@ -6,7 +6,7 @@ use Rattle.std.proofs.lemmas.Bool.Decides.{nat_tests}
 use Rattle.std.proofs.lemmas.List.{get_or-map, length-map}
 use Rattle.std.proofs.lemmas.List.Elements.{All-weaker, All-map, All-filter, All-nil, All-cons, All-head, All-tail}
 use Rattle.std.proofs.lemmas.List.Kept.{AllPairs-filter}
-use Rattle.pit_model.specs.declared.limit.Limit.{Limit}
+use Rattle.pit_parts.specs.declared.limit.Limit.{Limit}
 use Rattle.mine_instance.specs.CpitKept.{IsCpit, cpit_of}
 use Rattle.mine_instance.specs.CpitOrder.{is_listed_before}
 use Rattle.mine_instance.specs.Greatest.{first_greatest, greatest}

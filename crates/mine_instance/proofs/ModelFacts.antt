@@ -6,19 +6,19 @@ use Rattle.std.proofs.lemmas.List.Kept.{AllPairs-cons, AllPairs-filter}
 use Rattle.std.specs.Prelude.{AllPairs, IsTrue, nat_lt, slice_get, filter, ◌==◌}
 use Rattle.std.specs.List.{enumerate_from, range_with_len, flat_map}
 use Rattle.std.proofs.lemmas.Bool.Decides.{nat_tests}
-use Rattle.pit_model.specs.PlanFormulas.{formulas_of_plan}
+use Rattle.pit_parts.specs.PlanFormulas.{formulas_of_plan}
 use Rattle.precedence.specs.Cone.{places_where, above, is_above, preds}
-use Rattle.pit_model.specs.declared.cone.Cone.{Cone}
-use Rattle.pit_model.specs.declared.grid.Grid.{Grid}
-use Rattle.pit_model.specs.declared.limit.Limit.{Limit}
-use Rattle.pit_model.specs.declared.resource.Resource.{Resource}
-use Rattle.pit_model.specs.Plan.{PlanParts}
-use Rattle.pit_model.specs.Formula.{IsRuled}
-use Rattle.pit_model.specs.PlanKept.{IsPlan, IsBound, is_turned}
-use Rattle.pit_model.specs.Worth.{worth, IsWorth}
-use Rattle.pit_model.specs.declared.block.Block.{Block}
-use Rattle.pit_model.specs.declared.formula.Formula.{Formula}
-use Rattle.pit_model.specs.declared.formula.NamedFormula.{NamedFormula}
+use Rattle.pit_parts.specs.declared.cone.Cone.{Cone}
+use Rattle.pit_parts.specs.declared.grid.Grid.{Grid}
+use Rattle.pit_parts.specs.declared.limit.Limit.{Limit}
+use Rattle.pit_parts.specs.declared.resource.Resource.{Resource}
+use Rattle.pit_parts.specs.Plan.{PlanParts}
+use Rattle.pit_parts.specs.Formula.{IsRuled}
+use Rattle.pit_parts.specs.PlanKept.{IsPlan, IsBound, is_turned}
+use Rattle.pit_parts.specs.Worth.{worth, IsWorth}
+use Rattle.pit_parts.specs.declared.block.Block.{Block}
+use Rattle.pit_parts.specs.declared.formula.Formula.{Formula}
+use Rattle.pit_parts.specs.declared.formula.NamedFormula.{NamedFormula}
 use Rattle.rows.specs.Valued.{worths_by}
 use Rattle.mine_instance.proofs.ValidFacts.{rising_differ}
 use Rattle.mine_instance.specs.Valid.{AreLimits, AreCoefs, ArePreds, ArePredsOf, IsValid}

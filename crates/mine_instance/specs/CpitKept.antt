@@ -1,10 +1,10 @@
 -- What every CPIT keeps.
 use Rattle.std.specs.Prelude.{ℕ, ◌<◌, ◌≤◌, ℤ, List, length, All, AllPairs, IsTrue}
-use Rattle.pit_model.specs.declared.limit.Limit.{Limit}
+use Rattle.pit_parts.specs.declared.limit.Limit.{Limit}
 use Rattle.mine_instance.specs.CpitOrder.{is_listed_before}
 use Rattle.mine_instance.specs.Valid.{IsHorizon, AreLimits}
 use Rattle.mine_instance.specs.declared.cpit.CpitCoef.{CpitCoef}
-use Rattle.pit_model.specs.declared.ranges.TheConstants.{MAX_BLOCKS}
+use Rattle.pit_parts.specs.declared.ranges.TheConstants.{MAX_BLOCKS}
 use Rattle.mine_instance.specs.Cpit.{CpitParts}
 
 -- a CPIT by its parts

@@ -1,7 +1,7 @@
 -- The instance of a model whose zones have one slope each.
 use Rattle.std.specs.Prelude.{List, length, map}
-use Rattle.pit_model.specs.Plan.{PlanParts}
-use Rattle.pit_model.specs.declared.block.Block.{Block}
+use Rattle.pit_parts.specs.Plan.{PlanParts}
+use Rattle.pit_parts.specs.declared.block.Block.{Block}
 use Rattle.precedence.specs.ConeLaws.{preds_by}
 use Rattle.mine_instance.specs.OfModel.{by_identifier, covered, coefs_of, instance_with, values_of}
 use Rattle.mine_instance.specs.declared.instance.Instance.{Instance}

@@ -2,8 +2,8 @@
 use Rattle.std.specs.Prelude.{IsTrue}
 use Rattle.std.proofs.Common.{ℕ, ◌<◌, arith}
 use Rattle.std.proofs.lemmas.Bool.Decides.{nat_tests}
-use Rattle.pit_model.specs.PlanKept.{stands_before}
-use Rattle.pit_model.specs.declared.limit.Limit.{Limit}
+use Rattle.pit_parts.specs.PlanKept.{stands_before}
+use Rattle.pit_parts.specs.declared.limit.Limit.{Limit}
 use Rattle.mine_instance.specs.CpitOrder.{is_listed_before}
 use Rattle.mine_instance.specs.Order.{comes_before}
 use Rattle.mine_instance.specs.declared.coef.Coef.{Coef}

@@ -1,6 +1,6 @@
 //! The blocks of an instance.
 
-use pit_model::block::Block;
+use pit_parts::block::Block;
 use std::marker::Model;
 
 /// Blocks by identifier. Contracts see the list of them.
@@ -11,7 +11,7 @@ pub struct Blocks {
 
 impl Model for Blocks {
     ghost use Rattle.std.specs.Prelude.{List};
-    ghost use Rattle.pit_model.specs.declared.block.Block.{Block as OneBlock};
+    ghost use Rattle.pit_parts.specs.declared.block.Block.{Block as OneBlock};
 
     ghost Value = { List OneBlock };
 

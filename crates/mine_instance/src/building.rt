@@ -2,26 +2,26 @@
 
 ghost use Rattle.std.specs.Prelude.{◌≡◌, ◌<◌, ◌≤◌, ◌==◌, ◌++◌, ◌∷◌, [], List, length, map, slice_get, Some, All, Contains, IfOk, OnOk, if◌then◌else◌};
 ghost use Rattle.std.specs.List.{list_any};
-ghost use Rattle.pit_model.specs.PlanFormulas.{formulas_of_plan};
-ghost use Rattle.pit_model.specs.declared.block.Block.{Block};
-ghost use Rattle.pit_model.specs.Worth.{IsWorth};
+ghost use Rattle.pit_parts.specs.PlanFormulas.{formulas_of_plan};
+ghost use Rattle.pit_parts.specs.declared.block.Block.{Block};
+ghost use Rattle.pit_parts.specs.Worth.{IsWorth};
 ghost use Rattle.precedence.specs.Cone.{preds as cone_lists};
 ghost use Rattle.precedence.specs.Identifier.{blocks_of_rows};
 ghost use Rattle.precedence.specs.Numbering.{IsNumbering, NumberingView};
 ghost use Rattle.rows.specs.Valued.{worths_by};
 ghost use Rattle.mine_instance.specs.OfModel.{instance, values_of, in_hundreds, covering, covered, coefs_of, block_coefs};
 ghost use Rattle.mine_instance.specs.Valid.{IsValid};
-ghost use Rattle.pit_model.specs.declared.ranges.TheConstants.{MAX_BLOCKS, MAX_RESOURCES};
+ghost use Rattle.pit_parts.specs.declared.ranges.TheConstants.{MAX_BLOCKS, MAX_RESOURCES};
 
 use crate::blocks::Blocks;
 use crate::coef::{Coef, Coefs};
 use crate::instance::Instance;
 use crate::limits::Limits;
 use crate::values::Values;
-use pit_model::block::Block;
-use pit_model::laws::worths_are_in_range;
-use pit_model::plan::Plan;
-use pit_model::resource::Resource;
+use pit_parts::block::Block;
+use pit_parts::laws::worths_are_in_range;
+use pit_parts::plan::Plan;
+use pit_parts::resource::Resource;
 use pit_units::Dec;
 use precedence::{Numbering, Preds};
 use rows::{RowLists, Valued};

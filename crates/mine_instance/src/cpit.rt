@@ -4,8 +4,8 @@ ghost use Rattle.std.specs.Prelude.{◌≡◌, length};
 ghost use Rattle.mine_instance.specs.CpitKept.{IsCpit};
 
 use crate::rising::Ordered;
-use pit_model::limit::Limit;
-use pit_model::name::Name;
+use pit_parts::limit::Limit;
+use pit_parts::name::Name;
 use pit_units::Dec;
 use std::marker::Model;
 

@@ -6,7 +6,7 @@ use crate::blocks::Blocks;
 use crate::coef::Coefs;
 use crate::limits::Limits;
 use crate::values::Values;
-use pit_model::name::Name;
+use pit_parts::name::Name;
 use pit_units::Dec;
 use precedence::Preds;
 

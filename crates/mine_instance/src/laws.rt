@@ -1,9 +1,9 @@
 //! What holds of instances, whatever the plan and the blocks: each contract is a law, and a call of it does nothing.
 
 ghost use Rattle.std.specs.Prelude.{◌≡◌, List, All};
-ghost use Rattle.pit_model.specs.Plan.{PlanParts};
-ghost use Rattle.pit_model.specs.PlanKept.{IsCone};
-ghost use Rattle.pit_model.specs.declared.block.Block.{Block};
+ghost use Rattle.pit_parts.specs.Plan.{PlanParts};
+ghost use Rattle.pit_parts.specs.PlanKept.{IsCone};
+ghost use Rattle.pit_parts.specs.declared.block.Block.{Block};
 ghost use Rattle.precedence.specs.ConeLaws.{IsEven};
 ghost use Rattle.mine_instance.specs.OfModel.{instance};
 ghost use Rattle.mine_instance.specs.OneSlope.{instance_by};

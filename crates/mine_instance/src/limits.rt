@@ -1,7 +1,7 @@
 //! The limits of an instance.
 
 use crate::rising::Ordered;
-use pit_model::limit::Limit;
+use pit_parts::limit::Limit;
 use std::marker::Model;
 
 /// Limits, in rising order of resource and period. Contracts see the list of them.
@@ -12,7 +12,7 @@ pub struct Limits {
 
 impl Model for Limits {
     ghost use Rattle.std.specs.Prelude.{List};
-    ghost use Rattle.pit_model.specs.declared.limit.Limit.{Limit as OneLimit};
+    ghost use Rattle.pit_parts.specs.declared.limit.Limit.{Limit as OneLimit};
 
     ghost Value = { List OneLimit };
 
@@ -39,7 +39,7 @@ impl Limits {
 
 impl Ordered for Limit {
     ghost use Rattle.std.specs.Prelude.{IsTrue};
-    ghost use Rattle.pit_model.specs.PlanKept.{stands_before};
+    ghost use Rattle.pit_parts.specs.PlanKept.{stands_before};
 
     ghost before = { λ l m. IsTrue (stands_before l m) };
 

@@ -3,15 +3,15 @@
 ghost use Rattle.std.specs.Prelude.{◌≡◌, ◌≢◌, ℕ, ◌<◌, ◌≤◌, ◌↔◌, List, length, All, AllPairs, IsTrue};
 ghost use Rattle.mine_instance.specs.CpitKept.{AreCpitCoefs, IsCpit, cpit_of};
 ghost use Rattle.mine_instance.specs.Valid.{HasLengths, ArePredsOf, ArePreds, IsHorizon, HasDestinations, AreCoefs, AreLimits, IsValid};
-ghost use Rattle.pit_model.specs.declared.ranges.TheConstants.{MAX_BLOCKS};
+ghost use Rattle.pit_parts.specs.declared.ranges.TheConstants.{MAX_BLOCKS};
 
 use crate::coef::Coef;
 use crate::cpit::CpitCoef;
 use crate::instance::Instance;
 use crate::rising::rises;
 use crate::values::Values;
-use pit_model::limit::Limit;
-use pit_model::ranges::{MAX_BLOCKS, MAX_DESTINATIONS, MAX_PERIODS, MAX_RATE, MAX_RESOURCES};
+use pit_parts::limit::Limit;
+use pit_parts::ranges::{MAX_BLOCKS, MAX_DESTINATIONS, MAX_PERIODS, MAX_RATE, MAX_RESOURCES};
 use pit_units::Dec;
 use precedence::Preds;
 

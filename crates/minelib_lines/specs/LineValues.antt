@@ -1,10 +1,10 @@
 -- The values of each line of a MineLib text: what its fields state, from left to right.
 use Rattle.std.specs.Prelude.{ℕ, List, [], ◌∷◌, ◌*◌, length, map, ℤ, pos, codes}
 use Rattle.forms.specs.Field.{Value, Millionths, Bytes, whole}
-use Rattle.pit_model.specs.declared.block.Block.{Block}
-use Rattle.pit_model.specs.declared.limit.Bound.{Bound}
-use Rattle.pit_model.specs.declared.limit.Bound.TheVariants.{AtMost, AtLeast, Between}
-use Rattle.pit_model.specs.declared.limit.Limit.{Limit}
+use Rattle.pit_parts.specs.declared.block.Block.{Block}
+use Rattle.pit_parts.specs.declared.limit.Bound.{Bound}
+use Rattle.pit_parts.specs.declared.limit.Bound.TheVariants.{AtMost, AtLeast, Between}
+use Rattle.pit_parts.specs.declared.limit.Limit.{Limit}
 use Rattle.mine_instance.specs.declared.coef.Coef.{Coef}
 use Rattle.mine_instance.specs.declared.cpit.CpitCoef.{CpitCoef}
 use Rattle.minelib_lines.specs.declared.problem.Problem.{Problem}

@@ -8,9 +8,9 @@ use Rattle.forms.specs.Field.{Value, Millionths, whole, whole_at}
 use Rattle.forms.specs.Fit.{Fit}
 use Rattle.forms.specs.Spelled.{Spell}
 use Rattle.forms.specs.ShapeStates.{States}
-use Rattle.pit_model.proofs.BlockFacts.{block_again, block_parts}
-use Rattle.pit_model.specs.Block.{block_with}
-use Rattle.pit_model.specs.declared.block.Block.{Block}
+use Rattle.pit_parts.proofs.BlockFacts.{block_again, block_parts}
+use Rattle.pit_parts.specs.Block.{block_with}
+use Rattle.pit_parts.specs.declared.block.Block.{Block}
 use Rattle.minelib_reading.specs.BlockLines.{block_form, block_of, block_shape}
 use Rattle.minelib_lines.specs.LineValues.{block_values}
 use Rattle.text_lines.specs.TextLines.{fields_of}

@@ -8,8 +8,8 @@ use Rattle.forms.specs.Field.{Value, Millionths, below, up_to, whole}
 use Rattle.forms.specs.Read.{read, read_fields}
 use Rattle.forms.specs.Shape.{check, failing, unless}
 use Rattle.forms.specs.Steps.{◌>>=◌}
-use Rattle.pit_model.specs.Block.{block_with}
-use Rattle.pit_model.specs.declared.block.Block.{Block}
+use Rattle.pit_parts.specs.Block.{block_with}
+use Rattle.pit_parts.specs.declared.block.Block.{Block}
 use Rattle.minelib_reading.specs.BlockLines.{block_form, block_shape}
 use Rattle.text_lines.specs.FieldValues.{all_by, first_by, size_in, whole_in}
 use Rattle.text_lines.specs.LineKinds.{text_kinds}
@@ -21,7 +21,7 @@ use Rattle.text_lines.specs.declared.text_fault.TextKind.{TextKind}
 use Rattle.text_lines.specs.declared.text_fault.TextKind.TheVariants.{Fields, Order, Count, Twice}
 use Rattle.text_lines.proofs.FieldSteps.{first_step, last_step, none_step, said_of, size_reads, step, whole_reads, wholes_step}
 use Rattle.minelib_reading.proofs.PrecLineFacts.{wholes_again}
-use Rattle.pit_model.specs.declared.ranges.TheConstants.{GRID_CELLS, MAX_BLOCKS, MAX_GRADE, MAX_KG, MAX_ZONES}
+use Rattle.pit_parts.specs.declared.ranges.TheConstants.{GRID_CELLS, MAX_BLOCKS, MAX_GRADE, MAX_KG, MAX_ZONES}
 
 -- what the values of a line state, where no test fails
 abbrev block_then : ℕ → List Value → Result Block TextKind

@@ -11,9 +11,9 @@ use Rattle.forms.specs.Fit.{Fit, is_fine}
 use Rattle.forms.specs.Read.{read_fields}
 use Rattle.forms.specs.WrittenValues.{written}
 use Rattle.forms.specs.Steps.{◌>>=◌}
-use Rattle.pit_model.specs.declared.limit.Bound.{Bound}
-use Rattle.pit_model.specs.declared.limit.Bound.TheVariants.{AtMost, AtLeast, Between}
-use Rattle.pit_model.specs.declared.limit.Limit.{Limit}
+use Rattle.pit_parts.specs.declared.limit.Bound.{Bound}
+use Rattle.pit_parts.specs.declared.limit.Bound.TheVariants.{AtMost, AtLeast, Between}
+use Rattle.pit_parts.specs.declared.limit.Limit.{Limit}
 use Rattle.text_lines.specs.FieldValues.{decimal_in, first_by, whole_in}
 use Rattle.minelib_lines.specs.Kept.{HasDecimals}
 use Rattle.text_lines.specs.LineKinds.{text_kinds}

@@ -11,8 +11,8 @@ use Rattle.forms.specs.Grammar.{HasFineForms, placed, read_all}
 use Rattle.forms.specs.Shape.{Shape, check, failing, unless}
 use Rattle.forms.specs.ShapeStates.{States}
 use Rattle.forms.specs.Steps.{◌>>=◌}
-use Rattle.pit_model.specs.Name.{is_name}
-use Rattle.pit_model.specs.PlanKept.{is_turned, stands_before}
+use Rattle.pit_parts.specs.Name.{is_name}
+use Rattle.pit_parts.specs.PlanKept.{is_turned, stands_before}
 use Rattle.mine_instance.specs.Order.{comes_before}
 use Rattle.minelib_reading.specs.HeaderKeys.{count_in, is_given, with_key}
 use Rattle.minelib_reading.specs.ItemForms.{bytes_in, coef_form, coef_said, limit_form, limit_said, row_said, values_form}

@@ -8,7 +8,7 @@ use Rattle.forms.specs.Grammar.{HasFineForms, read_all}
 use Rattle.forms.specs.GrammarStates.{AllState, IsFirstFault}
 use Rattle.forms.specs.ShapeStates.{States}
 use Rattle.forms.specs.Steps.{◌>>=◌}
-use Rattle.pit_model.specs.declared.block.Block.{Block}
+use Rattle.pit_parts.specs.declared.block.Block.{Block}
 use Rattle.mine_instance.specs.Valid.{ArePreds, ArePredsOf}
 use Rattle.minelib_reading.specs.BlockLines.{block_grammar, block_shape, blocks_in}
 use Rattle.minelib_reading.specs.inner.LinesTaken.{PrecDraftView, admit_block, admit_preds, block_said, no_lists, preds_said}

@@ -1,7 +1,7 @@
 -- What the header keys of a model file keep of the NAME and the header.
 use Rattle.std.specs.Prelude.{◌≡◌, ℕ, ◌+◌, ◌*◌, ◌≤◌, ◌^◌, true, false, List, [], Option, is_some, IfSome}
 use Rattle.std.proofs.Common.{refl, ◌∙◌, ap, arith}
-use Rattle.pit_model.specs.Name.{is_name}
+use Rattle.pit_parts.specs.Name.{is_name}
 use Rattle.minelib_reading.specs.HeaderKeys.{count_in, is_given, number_of, with_key}
 use Rattle.minelib_reading.specs.ModelLines.{blank_header, name_with}
 use Rattle.minelib_reading.specs.ItemForms.{bytes_in}
@@ -9,7 +9,7 @@ use Rattle.minelib_reading.specs.KeyFields.{field_of, number_said}
 use Rattle.forms.specs.Field.{Value, Bytes, Millionths}
 use Rattle.forms.specs.Fit.{FitsField}
 use Rattle.minelib_reading.proofs.FormFields.{below_there, number_there}
-use Rattle.pit_model.specs.declared.ranges.TheConstants.{MAX_DESTINATIONS, MAX_PERIODS, MAX_RESOURCES}
+use Rattle.pit_parts.specs.declared.ranges.TheConstants.{MAX_DESTINATIONS, MAX_PERIODS, MAX_RESOURCES}
 use Rattle.minelib_reading.specs.declared.model_key.Header.{Header}
 use Rattle.minelib_reading.specs.declared.model_key.HeaderKey.{HeaderKey}
 use Rattle.minelib_reading.specs.declared.model_key.HeaderKey.TheVariants as key

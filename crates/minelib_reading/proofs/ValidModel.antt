@@ -8,7 +8,7 @@ use Rattle.forms.specs.Field.{whole_at}
 use Rattle.forms.specs.GrammarStates.{AllState}
 use Rattle.forms.specs.Shape.{Check, check, failing}
 use Rattle.forms.specs.ShapeStates.{States}
-use Rattle.pit_model.specs.PlanKept.{stands_before, is_turned}
+use Rattle.pit_parts.specs.PlanKept.{stands_before, is_turned}
 use Rattle.mine_instance.specs.Order.{comes_before}
 use Rattle.mine_instance.specs.OrderLaws.{comes_before_through, stands_before_through}
 use Rattle.mine_instance.specs.Valid.{AreCoefs, AreLimits}

@@ -7,7 +7,7 @@ use Rattle.std.proofs.lemmas.Bool.Decides.{nat_tests}
 use Rattle.std.proofs.lemmas.Int.{ints}
 use Rattle.std.proofs.lemmas.List.{get_or-map, length-map}
 use Rattle.std.proofs.lemmas.List.Elements.{All-head, All-tail, All-map, All-weaker}
-use Rattle.pit_model.specs.Name.{is_name}
+use Rattle.pit_parts.specs.Name.{is_name}
 use Rattle.mine_instance.specs.Cpit.{CpitParts}
 use Rattle.mine_instance.specs.CpitKept.{AreCpitCoefs, IsCpit}
 use Rattle.mine_instance.specs.CpitOrder.{is_listed_before}

@@ -3,15 +3,15 @@ use Rattle.std.specs.Prelude.{ℕ, ◌*◌, ◌/◌, ◌==◌, List, [], ◌∷�
 use Rattle.forms.specs.Field.{Field, Value, below, number_at, up_to, whole_at}
 use Rattle.forms.specs.Grammar.{Grammar, read_all}
 use Rattle.forms.specs.Shape.{Shape, check}
-use Rattle.pit_model.specs.Block.{block_with}
-use Rattle.pit_model.specs.declared.block.Block.{Block}
+use Rattle.pit_parts.specs.Block.{block_with}
+use Rattle.pit_parts.specs.declared.block.Block.{Block}
 use Rattle.text_lines.specs.ItemGrammar.{items_grammar}
 use Rattle.text_lines.specs.LineKinds.{text_kinds}
 use Rattle.text_lines.specs.TextLines.{Line, fields_of, lines_in}
 use Rattle.text_lines.specs.declared.text_fault.LineFault.{LineFault}
 use Rattle.text_lines.specs.declared.text_fault.TextKind.{TextKind}
 use Rattle.text_lines.specs.declared.text_fault.TextKind.TheVariants.{Order}
-use Rattle.pit_model.specs.declared.ranges.TheConstants.{GRID_CELLS, MAX_BLOCKS, MAX_GRADE, MAX_KG, MAX_ZONES}
+use Rattle.pit_parts.specs.declared.ranges.TheConstants.{GRID_CELLS, MAX_BLOCKS, MAX_GRADE, MAX_KG, MAX_ZONES}
 
 -- `id x y z tonnes grade zone`
 abbrev pub block_form : List Field

@@ -1,9 +1,9 @@
 -- The header keys of a model file: the field of each key's value, and the number that it states.
-use Rattle.std.specs.Prelude.{ℕ, ◌+◌, List, unsigned_abs, codes}
+use Rattle.std.specs.Prelude.{ℕ, ◌+◌, List, pos, unsigned_abs, codes}
 use Rattle.std.specs.Str.{bytes_eq}
-use Rattle.forms.specs.Field.{Field, Word, Value, below, millionths, whole_stated}
-use Rattle.pit_model.specs.PlanCells.{a_name, a_period_count, a_rate, between}
-use Rattle.pit_model.specs.declared.ranges.TheConstants.{MAX_BLOCKS, MAX_DESTINATIONS, MAX_RESOURCES}
+use Rattle.forms.specs.Field.{Field, Decimal, Word, Value, below, between, millionths, whole_stated}
+use Rattle.pit_parts.specs.Name.{is_name}
+use Rattle.pit_parts.specs.declared.ranges.TheConstants.{MAX_BLOCKS, MAX_DESTINATIONS, MAX_PERIODS, MAX_RATE, MAX_RESOURCES}
 use Rattle.minelib_reading.specs.declared.model_key.HeaderKey.{HeaderKey}
 use Rattle.minelib_reading.specs.declared.model_key.HeaderKey.TheVariants as key
 use Rattle.minelib_lines.specs.declared.problem.Problem.{Problem}
@@ -16,14 +16,14 @@ type_text Cpit = codes "CPIT"
 
 -- the field of each key's value
 abbrev pub field_of : Problem → HeaderKey → Field
-field_of problem key.Name = a_name
+field_of problem key.Name = Word is_name
 field_of problem key.Type = Word (λ text. bytes_eq text (type_text problem))
 field_of problem key.Blocks = below (MAX_BLOCKS + 1)
-field_of problem key.Periods = a_period_count
+field_of problem key.Periods = between 1 MAX_PERIODS
 field_of problem key.Destinations = between 1 MAX_DESTINATIONS
 field_of problem key.Resources = below (MAX_RESOURCES + 1)
 field_of problem key.General = below 1
-field_of problem key.Rate = a_rate
+field_of problem key.Rate = Decimal 6 (pos 0) MAX_RATE
 
 -- the number of a key with this value: 0 where it states no more than that it stands
 abbrev pub number_said : HeaderKey → Value → ℕ

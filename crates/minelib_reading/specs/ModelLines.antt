@@ -7,8 +7,8 @@ use Rattle.forms.specs.Field.{Value, Bytes, whole_at, whole_stated}
 use Rattle.forms.specs.Grammar.{Grammar, read_all}
 use Rattle.forms.specs.Shape.{Check, Shape, check}
 use Rattle.forms.specs.Steps.{◌>>=◌}
-use Rattle.pit_model.specs.PlanKept.{is_turned, stands_before}
-use Rattle.pit_model.specs.declared.limit.Limit.{Limit}
+use Rattle.pit_parts.specs.PlanKept.{is_turned, stands_before}
+use Rattle.pit_parts.specs.declared.limit.Limit.{Limit}
 use Rattle.mine_instance.specs.Order.{comes_before}
 use Rattle.mine_instance.specs.declared.coef.Coef.{Coef}
 use Rattle.minelib_reading.specs.HeaderKeys.{no_key, with_key, count_in, is_given, is_complete}

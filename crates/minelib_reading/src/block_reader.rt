@@ -1,16 +1,16 @@
 //! Reading a block file.
 
 ghost use Rattle.std.specs.Prelude.{◌≡◌, ◌≤◌, length, IfOk};
-ghost use Rattle.pit_model.specs.Block.{block_with};
-ghost use Rattle.pit_model.specs.BlockParts.{AreInRange};
+ghost use Rattle.pit_parts.specs.Block.{block_with};
+ghost use Rattle.pit_parts.specs.BlockParts.{AreInRange};
 ghost use Rattle.minelib_reading.specs.BlockLines.{blocks_in};
 ghost use Rattle.minelib_reading.specs.inner.LinesTaken.{admit_block, block_alone, block_said};
 ghost use Rattle.text_lines.specs.Reading.{Gives};
-ghost use Rattle.pit_model.specs.declared.ranges.TheConstants.{MAX_BLOCKS};
+ghost use Rattle.pit_parts.specs.declared.ranges.TheConstants.{MAX_BLOCKS};
 
 use mine_instance::blocks::Blocks;
-use pit_model::block::Block;
-use pit_model::ranges::{GRID_CELLS, MAX_BLOCKS, MAX_GRADE, MAX_KG, MAX_ZONES};
+use pit_parts::block::Block;
+use pit_parts::ranges::{GRID_CELLS, MAX_BLOCKS, MAX_GRADE, MAX_KG, MAX_ZONES};
 use std::alloc::Global;
 use std::marker::Model;
 use text_lines::line_by_line::{Admit, read_lines};
@@ -29,7 +29,7 @@ struct BlockDraft {
 
 impl Model for BlockDraft {
     ghost use Rattle.std.specs.Prelude.{List};
-    ghost use Rattle.pit_model.specs.declared.block.Block.{Block as OneBlock};
+    ghost use Rattle.pit_parts.specs.declared.block.Block.{Block as OneBlock};
 
     ghost Value = { List OneBlock };
 

@@ -18,8 +18,8 @@ ghost use Rattle.minelib_reading.specs.SpelledTexts.{SpellCpit, SpellInstance};
 ghost use Rattle.text_lines.specs.TextLines.{fields_of, lines_in};
 ghost use Rattle.minelib_lines.specs.declared.problem.Problem.{Problem};
 ghost use Rattle.text_lines.specs.declared.text_fault.LineFault.{LineFault};
-ghost use Rattle.pit_model.specs.declared.block.Block.{Block};
-ghost use Rattle.pit_model.specs.declared.ranges.TheConstants.{MAX_BLOCKS};
+ghost use Rattle.pit_parts.specs.declared.block.Block.{Block};
+ghost use Rattle.pit_parts.specs.declared.ranges.TheConstants.{MAX_BLOCKS};
 
 /// The instance that three texts denote is valid.
 pub fn read_is_valid()

@@ -13,8 +13,8 @@ ghost use Rattle.minelib_reading.specs.declared.model_key.Section.TheVariants as
 ghost use Rattle.text_lines.specs.declared.text_fault.TextKind.TheVariants as TextKind;
 ghost use Rattle.text_lines.specs.Reading.{Admits, Gives};
 ghost use Rattle.text_lines.specs.TextLines.{fields_of};
-ghost use Rattle.pit_model.specs.Name.{is_name};
-ghost use Rattle.pit_model.specs.declared.ranges.TheConstants.{MAX_BLOCKS};
+ghost use Rattle.pit_parts.specs.Name.{is_name};
+ghost use Rattle.pit_parts.specs.declared.ranges.TheConstants.{MAX_BLOCKS};
 
 use crate::model_header::{blank_header, number_in};
 use crate::model_items::{
@@ -29,8 +29,8 @@ use mine_instance::instance::Instance;
 use mine_instance::limits::Limits;
 use mine_instance::values::Values;
 use minelib_lines::problem::Problem;
-use pit_model::limit::Limit;
-use pit_model::name::Name;
+use pit_parts::limit::Limit;
+use pit_parts::name::Name;
 use pit_units::Dec;
 use precedence::Preds;
 use std::alloc::{AllocError, Global};

@@ -9,8 +9,8 @@ ghost use Rattle.minelib_reading.specs.inner.ModelParts.{is_name_for, millionths
 use crate::model_key::{Header, HeaderKey};
 use crate::model_keys::is_word;
 use minelib_lines::problem::Problem;
-use pit_model::name::is_name;
-use pit_model::ranges::{MAX_BLOCKS, MAX_DESTINATIONS, MAX_PERIODS, MAX_RATE, MAX_RESOURCES};
+use pit_parts::name::is_name;
+use pit_parts::ranges::{MAX_BLOCKS, MAX_DESTINATIONS, MAX_PERIODS, MAX_RATE, MAX_RESOURCES};
 use pit_units::parse_dec;
 use text_lines::text_fault::TextKind;
 

@@ -1,7 +1,7 @@
 //! The lines of a model file's sections.
 
 ghost use Rattle.std.specs.Prelude.{◌≡◌, ◌≤◌, ◌<◌, ◌+◌, ◌∷◌, [], ℕ, length, drop, slice_index_or, IfOk, OnOk};
-ghost use Rattle.pit_model.specs.PlanKept.{stands_before};
+ghost use Rattle.pit_parts.specs.PlanKept.{stands_before};
 ghost use Rattle.mine_instance.specs.Order.{comes_before};
 ghost use Rattle.text_lines.specs.FieldValues.{Takes, all_by, decimal_in, first_by};
 ghost use Rattle.minelib_reading.specs.ModelLines.{is_behind, last_of};
@@ -11,12 +11,12 @@ ghost use Rattle.minelib_reading.specs.ItemForms.{coef_form};
 ghost use Rattle.text_lines.specs.TextLines.{fields_of};
 ghost use Rattle.text_lines.specs.Uncounted.{AdmitsCounted};
 ghost use Rattle.minelib_reading.specs.inner.UncountedItems.{bound_in, destination_in, interval_in, limit_width};
-ghost use Rattle.pit_model.specs.declared.ranges.TheConstants.{MAX_BLOCKS};
+ghost use Rattle.pit_parts.specs.declared.ranges.TheConstants.{MAX_BLOCKS};
 
 use crate::model_keys::is_word;
 use mine_instance::coef::Coef;
 use minelib_lines::problem::Problem;
-use pit_model::limit::{Bound, Limit};
+use pit_parts::limit::{Bound, Limit};
 use pit_units::Dec;
 use text_lines::field_values::decimal_in;
 use text_lines::read_errors::LineError;

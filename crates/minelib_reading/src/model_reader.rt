@@ -3,7 +3,7 @@
 ghost use Rattle.std.specs.Prelude.{◌≤◌};
 ghost use Rattle.minelib_reading.specs.ModelLines.{model_in};
 ghost use Rattle.text_lines.specs.Reading.{Gives};
-ghost use Rattle.pit_model.specs.declared.ranges.TheConstants.{MAX_BLOCKS};
+ghost use Rattle.pit_parts.specs.declared.ranges.TheConstants.{MAX_BLOCKS};
 
 use crate::model_draft::ModelDraft;
 use minelib_lines::problem::Problem;

@@ -7,7 +7,7 @@ ghost use Rattle.minelib_reading.specs.inner.LinesTaken.{admit_preds, no_lists, 
 ghost use Rattle.minelib_reading.specs.PrecLines.{finish_preds, preds_in, stands_in};
 ghost use Rattle.text_lines.specs.Reading.{Admits, Gives};
 ghost use Rattle.text_lines.specs.TextLines.{fields_of};
-ghost use Rattle.pit_model.specs.declared.ranges.TheConstants.{MAX_BLOCKS};
+ghost use Rattle.pit_parts.specs.declared.ranges.TheConstants.{MAX_BLOCKS};
 
 use crate::marks::all_differ;
 use precedence::Preds;
@@ -33,7 +33,7 @@ impl Model for PrecDraft {
     ghost use Rattle.std.specs.Prelude.{◌≡◌, ◌≤◌, vec_len};
     ghost use Rattle.minelib_reading.specs.inner.Marks.{AreClear};
     ghost use Rattle.minelib_reading.specs.inner.LinesTaken.{PrecDraftView};
-    ghost use Rattle.pit_model.specs.declared.ranges.TheConstants.{MAX_BLOCKS};
+    ghost use Rattle.pit_parts.specs.declared.ranges.TheConstants.{MAX_BLOCKS};
 
     ghost Value = { PrecDraftView };
 

@@ -6,7 +6,7 @@ use Rattle.forms.proofs.ShapeFacts.{states_said}
 use Rattle.forms.specs.ShapeStates.{States}
 use Rattle.forms.specs.Spelled.{Spell}
 use Rattle.forms.specs.Steps.{◌>>=◌}
-use Rattle.pit_model.specs.declared.block.Block.{Block}
+use Rattle.pit_parts.specs.declared.block.Block.{Block}
 use Rattle.minelib_reading.specs.BlockLines.{block_form, block_shape, blocks_in}
 use Rattle.minelib_lines.specs.LineValues.{block_values}
 use Rattle.text_lines.specs.TextLines.{fields_of}

@@ -6,7 +6,7 @@ use Rattle.forms.proofs.FormFacts.{written_read}
 use Rattle.forms.proofs.NumberFields.{quotient}
 use Rattle.forms.specs.Fit.{Fit}
 use Rattle.forms.specs.Steps.{◌>>=◌}
-use Rattle.pit_model.specs.declared.limit.Limit.{Limit}
+use Rattle.pit_parts.specs.declared.limit.Limit.{Limit}
 use Rattle.mine_instance.specs.declared.coef.Coef.{Coef}
 use Rattle.minelib_lines.specs.Kept.{IsDecimal, HasDecimals}
 use Rattle.minelib_reading.specs.ItemForms.{coef_form, coef_said, limit_form, limit_said, values_form}

@@ -6,12 +6,12 @@ use Rattle.std.proofs.lemmas.Bool.{and_parts, or_right}
 use Rattle.std.proofs.lemmas.Fmt.{decimal_digit}
 use Rattle.std.proofs.lemmas.Int.{ints}
 use Rattle.std.proofs.lemmas.List.{take_at, drop_at, drop-drop}
-use Rattle.pit_model.specs.Name.{is_name}
+use Rattle.pit_parts.specs.Name.{is_name}
 use Rattle.pit_units.specs.Decimal.{shortest}
 use Rattle.mine_instance.specs.Valid.{IsHorizon}
 use Rattle.mine_instance.specs.declared.coef.Coef.{Coef}
-use Rattle.pit_model.specs.declared.limit.Limit.{Limit}
-use Rattle.pit_model.specs.declared.ranges.TheConstants.{MAX_BLOCKS, MAX_DESTINATIONS, MAX_PERIODS, MAX_RESOURCES}
+use Rattle.pit_parts.specs.declared.limit.Limit.{Limit}
+use Rattle.pit_parts.specs.declared.ranges.TheConstants.{MAX_BLOCKS, MAX_DESTINATIONS, MAX_PERIODS, MAX_RESOURCES}
 use Rattle.minelib_reading.specs.HeaderKeys.{is_given, with_key}
 use Rattle.minelib_reading.specs.ItemForms.{bytes_in}
 use Rattle.minelib_reading.specs.KeyFields.{field_of, number_said, type_text}
@@ -31,11 +31,10 @@ use Rattle.minelib_reading.specs.declared.model_key.Section.{Section}
 use Rattle.minelib_reading.specs.declared.model_key.Section.TheVariants.{Heading}
 use Rattle.forms.proofs.NumberFields.{quotient, size_fits, whole_fits}
 use Rattle.forms.proofs.FormFacts.{written_read}
-use Rattle.forms.specs.Field.{Value, Bytes, Millionths, whole}
+use Rattle.forms.specs.Field.{Value, Bytes, Millionths, between, whole}
 use Rattle.forms.specs.Fit.{FitsField}
 use Rattle.forms.specs.WrittenValues.{written_value}
 use Rattle.forms.specs.Shape.{failing}
-use Rattle.pit_model.specs.PlanCells.{between}
 use Rattle.pit_units.proofs.Written.{whole_written}
 use Rattle.minelib_reading.proofs.ModelShapes.{field_fine, section_takes}
 use Rattle.minelib_text.proofs.LinesBack.{AdmitsAll, admits_both}

@@ -6,7 +6,7 @@ use Rattle.std.proofs.lemmas.Bool.{and_parts, leb-true}
 use Rattle.std.proofs.lemmas.Bool.Decides.{nat_tests}
 use Rattle.std.proofs.lemmas.Int.{ints}
 use Rattle.std.proofs.lemmas.List.Elements.{All-head, All-tail}
-use Rattle.pit_model.specs.Name.{is_name, is_name_byte}
+use Rattle.pit_parts.specs.Name.{is_name, is_name_byte}
 use Rattle.pit_units.proofs.Written.{whole_written}
 use Rattle.minelib_reading.proofs.FormFields.{decimal_field}
 use Rattle.text_lines.proofs.PlainText.{is_plain, all_weaker, IsField, EachField}

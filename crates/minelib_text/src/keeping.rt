@@ -1,7 +1,7 @@
 //! What the types of their parts keep of every instance and of every CPIT: each call looks at each part once, so that its contract can tell it.
 
 ghost use Rattle.std.specs.Prelude.{◌≡◌, true, All};
-ghost use Rattle.pit_model.specs.Name.{is_name};
+ghost use Rattle.pit_parts.specs.Name.{is_name};
 ghost use Rattle.mine_instance.specs.CpitKept.{IsCpit};
 ghost use Rattle.minelib_lines.specs.Kept.{IsDecimal, HasDecimals, IsKept, IsKeptCpit};
 
@@ -9,8 +9,8 @@ use mine_instance::coef::Coef;
 use mine_instance::cpit::{Cpit, CpitCoef};
 use mine_instance::instance::Instance;
 use mine_instance::values::Values;
-use pit_model::limit::{Bound, Limit};
-use pit_model::name::Name;
+use pit_parts::limit::{Bound, Limit};
+use pit_parts::name::Name;
 use pit_units::Dec;
 
 /// The NAME of the instance is one, and its numbers are decimals.

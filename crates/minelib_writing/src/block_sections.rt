@@ -6,7 +6,7 @@ ghost use Rattle.pit_units.specs.Decimal.{shortest};
 ghost use Rattle.mine_instance.specs.Greatest.{greatest};
 ghost use Rattle.minelib_lines.specs.Lines.{line_of, lines_from};
 ghost use Rattle.minelib_writing.specs.Written.{prec_fields, greatest_fields, value_fields};
-ghost use Rattle.pit_model.specs.declared.ranges.TheConstants.{MAX_BLOCKS};
+ghost use Rattle.pit_parts.specs.declared.ranges.TheConstants.{MAX_BLOCKS};
 
 use crate::fields::{put_decimal_behind, put_whole, put_whole_behind};
 use crate::id_text::IdText;

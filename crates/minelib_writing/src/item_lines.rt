@@ -9,8 +9,8 @@ ghost use Rattle.minelib_writing.specs.Written.{block_fields, limit_fields, cpit
 
 use crate::fields::{put_decimal_to, put_text, put_whole_to};
 use crate::lines::Line;
-use pit_model::block::Block;
-use pit_model::limit::{Bound, Limit};
+use pit_parts::block::Block;
+use pit_parts::limit::{Bound, Limit};
 use pit_units::Dec;
 use std::alloc::{AllocError, Global};
 

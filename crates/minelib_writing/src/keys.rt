@@ -8,7 +8,7 @@ ghost use Rattle.minelib_writing.specs.Written.{key_line, problem_keys, count_ke
 use crate::fields::{put_decimal_to, put_text, put_whole_to};
 use mine_instance::cpit::Cpit;
 use mine_instance::instance::Instance;
-use pit_model::name::Name;
+use pit_parts::name::Name;
 use pit_units::Dec;
 use std::alloc::{AllocError, Global};
 

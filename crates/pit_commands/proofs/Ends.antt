@@ -2,7 +2,7 @@
 use Rattle.std.proofs.Common.{◌≡◌, ◌<◌, ◌≤◌, ℕ, List, ◌++◌, arith, length, inl, inr, refl, ap, ◌∙◌, Err, Ok, IsErrOf, IfSome, None, Option, subst}
 use Rattle.pit_model.specs.FaultText.{fault_text}
 use Rattle.pit_model.specs.Planned.{planned}
-use Rattle.pit_model.specs.declared.plan.Plan.{Plan}
+use Rattle.pit_parts.specs.declared.plan.Plan.{Plan}
 use Rattle.pit_model.specs.declared.plan_fault.PlanFault.{PlanFault}
 use Rattle.pit_commands.specs.Compile.{EndsPlanFile, PlanFileRefused}
 use Rattle.pit_commands.specs.FaultLine.{EndsInput, EndsRefused, EndsWith, IsFaultOfInput, PlanRefused, line_of}

@@ -10,8 +10,8 @@ use Rattle.pit_compile.specs.declared.refusal.Refusal.TheVariants.{Settings, NoT
 use Rattle.pit_compile.specs.declared.settings.Settings as set
 use Rattle.pit_compile.specs.declared.settings.SettingsFault.{SettingsFault}
 use Rattle.pit_compile.specs.declared.settings.SettingsFault.TheVariants.{Files, Valuers, Capacity, Destinations}
-use Rattle.pit_model.specs.Plan.{PlanParts}
-use Rattle.pit_model.specs.declared.formula.Formula.{Formula}
+use Rattle.pit_parts.specs.Plan.{PlanParts}
+use Rattle.pit_parts.specs.declared.formula.Formula.{Formula}
 use Rattle.pit_commands.specs.Printed.{pipe_settings, PipeRefused}
 
 same_texts : (zones texts : List (List ℕ)) → AreGiven (map Some zones) texts → texts ≡ zones

@@ -13,7 +13,7 @@ use Rattle.pit_commands.specs.declared.jobs.Job.TheVariants.{Check, Compile}
 use Rattle.pit_commands.specs.declared.jobs.JobFault.{JobFault}
 use Rattle.pit_commands.specs.declared.jobs.JobFault.TheVariants.{OutOfMemory, Line}
 use Rattle.pit_compile.specs.declared.settings.Settings.{Settings}
-use Rattle.pit_model.specs.declared.ranges.TheConstants.{MAX_CAPACITY, MAX_VALUERS}
+use Rattle.pit_parts.specs.declared.ranges.TheConstants.{MAX_CAPACITY, MAX_VALUERS}
 
 -- the command takes these words, and has no argument that its subcommands share
 abbrev pub IsCommandOf : App → Command → Type 0

@@ -13,8 +13,8 @@ use Rattle.pit_compile.specs.Verdict.{IsAccepted, IsRefusedBy}
 use Rattle.pit_compile.specs.declared.refusal.Refusal.{Refusal}
 use Rattle.pit_compile.specs.declared.refusal.Refusal.TheVariants as refusal
 use Rattle.pit_compile.specs.declared.settings.Settings.{Settings}
-use Rattle.pit_model.specs.Plan.{PlanParts}
-use Rattle.pit_model.specs.declared.formula.Formula.{Formula}
+use Rattle.pit_parts.specs.Plan.{PlanParts}
+use Rattle.pit_parts.specs.declared.formula.Formula.{Formula}
 use Rattle.pit_commands.specs.FaultLine.{EndsRun, EndsWith, PlanRefused}
 use Rattle.zone_csv.specs.declared.slurp.SlurpFault.{SlurpFault}
 use Rattle.zone_csv.specs.declared.slurp.SlurpFault.TheVariants as slurp

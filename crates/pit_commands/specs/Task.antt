@@ -1,8 +1,8 @@
 -- What a task does.
 use Rattle.std.specs.Prelude.{ℕ, List, length}
 use Rattle.pit_compile.specs.declared.refusal.Refusal.{Refusal}
-use Rattle.pit_model.specs.Plan.{PlanParts}
-use Rattle.pit_model.specs.declared.formula.Formula.{Formula}
+use Rattle.pit_parts.specs.Plan.{PlanParts}
+use Rattle.pit_parts.specs.declared.formula.Formula.{Formula}
 use Rattle.pit_commands.specs.Compile.{EndsRefusedCompile, TellsRows}
 use Rattle.pit_commands.specs.FaultLine.{EndsRun}
 use Rattle.pit_commands.specs.Printed.{IsPrinted, PipeRefused}

@@ -3,7 +3,7 @@
 ghost use Rattle.std.specs.Prelude.{◌≤◌};
 ghost use Rattle.text_lines.specs.Reading.{Reads};
 ghost use Rattle.pit_commands.specs.Counts.{counted, cpit_counted};
-ghost use Rattle.pit_model.specs.declared.ranges.TheConstants.{MAX_BLOCKS};
+ghost use Rattle.pit_parts.specs.declared.ranges.TheConstants.{MAX_BLOCKS};
 
 use minelib_text::text_fault::ReadTextError;
 use minelib_text::{read_cpit, read_instance};

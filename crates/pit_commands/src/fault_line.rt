@@ -4,7 +4,7 @@ ghost use Rattle.std.specs.Prelude.{◌≡◌, ◌≤◌, ◌++◌, length, Ok, 
 ghost use Rattle.pit_model.specs.Planned.{planned};
 ghost use Rattle.pit_commands.specs.FaultLine.{EndsRefused, EndsRun, EndsWith, PlanRefused, line_of, status_of};
 ghost use Rattle.pit_compile.specs.FaultText.{refusal_text};
-ghost use Rattle.pit_model.specs.declared.ranges.TheConstants.{MAX_PLAN_BYTES};
+ghost use Rattle.pit_parts.specs.declared.ranges.TheConstants.{MAX_PLAN_BYTES};
 
 use crate::status::{DEVICE, REFUSED, RESOURCES, USAGE};
 use pit_compile::refusal::Refusal;

@@ -2,7 +2,7 @@
 
 ghost use Rattle.std.specs.Io.KnownBytes.{Consumes, IsAtEnd, ReadConsumes};
 ghost use Rattle.std.specs.Prelude.{◌≡◌, ◌+◌, ◌<◌, ◌≤◌, length, take, drop, vec_len, IfOk, OnOk, IfSome, IsErrOf};
-ghost use Rattle.pit_model.specs.declared.ranges.TheConstants.{MAX_FILE_BYTES};
+ghost use Rattle.pit_parts.specs.declared.ranges.TheConstants.{MAX_FILE_BYTES};
 
 use pit_model::ranges::MAX_FILE_BYTES;
 use std::alloc::{AllocError, Global};

@@ -4,7 +4,7 @@ ghost use Rattle.std.specs.Prelude.{◌≡◌, ◌↔◌, Err, Some, true, lengt
 ghost use Rattle.pit_compile.specs.Compiled.{HasPassed};
 ghost use Rattle.pit_compile.specs.Settings.{IsSettingsFault};
 ghost use Rattle.pit_compile.specs.declared.settings.SettingsFault.{SettingsFault as ASettingsFault};
-ghost use Rattle.pit_model.specs.Destinations.{formulas_of};
+ghost use Rattle.pit_parts.specs.Destinations.{formulas_of};
 ghost use Rattle.pit_commands.specs.Printed.{pipe_settings, IsPrinted, PipeRefused};
 
 use crate::piece::Piece;

@@ -1,7 +1,7 @@
 //! The run of the pipe form on the model of an input.
 
 ghost use Rattle.std.specs.Prelude.{◌≡◌, ◌≢◌};
-ghost use Rattle.pit_model.specs.Destinations.{formulas_of};
+ghost use Rattle.pit_parts.specs.Destinations.{formulas_of};
 ghost use Rattle.pit_commands.specs.FaultLine.{EndsRun};
 ghost use Rattle.pit_compile.specs.declared.refusal.Refusal.{Refusal as ARefusal};
 ghost use Rattle.pit_commands.specs.Printed.{IsPrinted, PipeRefused};

@@ -1,7 +1,7 @@
 //! A model to be compiled, by the pipe form or from files to files.
 
 ghost use Rattle.std.specs.Prelude.{◌≡◌, ◌≢◌};
-ghost use Rattle.pit_model.specs.Destinations.{formulas_of};
+ghost use Rattle.pit_parts.specs.Destinations.{formulas_of};
 ghost use Rattle.pit_commands.specs.Task.{IsTaskDone, IsTaskRefused, plan_in};
 
 use crate::compile::compile_files;

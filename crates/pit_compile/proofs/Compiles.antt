@@ -2,8 +2,8 @@
 use Rattle.std.proofs.Common.{◌≡◌, ◌≤◌, ℕ, List, [], ◌∷◌, Bool, Option, None, Result, refl, sym, ◌∙◌, ap, subst, arith, length}
 use Rattle.std.specs.List.{flat_map}
 use Rattle.lane.specs.declared.message.Taken.{Taken}
-use Rattle.pit_model.specs.PlanFormulas.{formulas_of_plan}
-use Rattle.pit_model.specs.Plan.{PlanParts}
+use Rattle.pit_parts.specs.PlanFormulas.{formulas_of_plan}
+use Rattle.pit_parts.specs.Plan.{PlanParts}
 use Rattle.run_threads.specs.Reading.{AreRead}
 use Rattle.run_threads.specs.declared.read_fault.ReadFault.{ReadFault}
 use Rattle.valuers.specs.Valuing.{rows_by}

@@ -5,8 +5,8 @@ use Rattle.std.proofs.lemmas.Bool.Decides.{nat_tests}
 use Rattle.std.proofs.lemmas.List.{length-replicate}
 use Rattle.lane.specs.Message.{sent_from}
 use Rattle.lane.specs.declared.message.Taken.{Taken}
-use Rattle.pit_model.specs.declared.grid.Grid.{Grid}
-use Rattle.pit_model.specs.Plan.{PlanParts}
+use Rattle.pit_parts.specs.declared.grid.Grid.{Grid}
+use Rattle.pit_parts.specs.Plan.{PlanParts}
 use Rattle.run_threads.specs.MostBytes.{most_bytes}
 use Rattle.run_threads.specs.Reading.{AreRead}
 use Rattle.run_threads.specs.declared.read_fault.ReadFault.{ReadFault}

@@ -6,11 +6,11 @@ use Rattle.lane.specs.Message.{sent_from}
 use Rattle.lane.specs.MessageKinds as message
 use Rattle.lane.specs.declared.message.Taken.TheVariants.{Row}
 use Rattle.std.proofs.lemmas.List.Sums.{sum_by-cons}
-use Rattle.pit_model.specs.PlanFormulas.{formulas_of_plan}
-use Rattle.pit_model.specs.Plan.{PlanParts}
-use Rattle.pit_model.specs.declared.block.Block.{Block}
-use Rattle.pit_model.specs.declared.formula.Formula.{Formula}
-use Rattle.pit_model.specs.declared.grid.Grid.{Grid}
+use Rattle.pit_parts.specs.PlanFormulas.{formulas_of_plan}
+use Rattle.pit_parts.specs.Plan.{PlanParts}
+use Rattle.pit_parts.specs.declared.block.Block.{Block}
+use Rattle.pit_parts.specs.declared.formula.Formula.{Formula}
+use Rattle.pit_parts.specs.declared.grid.Grid.{Grid}
 use Rattle.rows.specs.Valued.{row_by, worths_by}
 use Rattle.valuers.specs.Valuing.{rows_by}
 use Rattle.rows.specs.declared.item.Valued.{Valued}

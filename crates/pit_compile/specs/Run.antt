@@ -1,7 +1,7 @@
 -- What a run does, by what its feeds had left, which of them were sure, and what its five sinks tell before and after.
 use Rattle.std.specs.Prelude.{◌≡◌, ℕ, ◌⊎◌, Bool, List, Option}
 use Rattle.lane.specs.Whole.{GatheredView}
-use Rattle.pit_model.specs.Plan.{PlanParts}
+use Rattle.pit_parts.specs.Plan.{PlanParts}
 use Rattle.pit_compile.specs.Compiled.{AreGiven, HasPassed, IsFeedFault, IsVerdict, instance_from}
 use Rattle.text_sinks.specs.SinkState.{SinkState}
 use Rattle.minelib_writing.specs.declared.text_name.TextName.{TextName}

@@ -1,12 +1,12 @@
 -- Whether the settings of a run fit its plan, for so many zone files and these formulas of the destinations.
 use Rattle.std.specs.Prelude.{◌≡◌, ◌≢◌, ℕ, ◌≤◌, List, length}
-use Rattle.pit_model.specs.PlanFormulas.{formulas_of_plan}
-use Rattle.pit_model.specs.Plan.{PlanParts}
-use Rattle.pit_model.specs.declared.formula.Formula.{Formula}
+use Rattle.pit_parts.specs.PlanFormulas.{formulas_of_plan}
+use Rattle.pit_parts.specs.Plan.{PlanParts}
+use Rattle.pit_parts.specs.declared.formula.Formula.{Formula}
 use Rattle.pit_compile.specs.declared.settings.Settings.{Settings}
 use Rattle.pit_compile.specs.declared.settings.SettingsFault.{SettingsFault}
 use Rattle.pit_compile.specs.declared.settings.SettingsFault.TheVariants.{Files, Valuers, Capacity, Destinations}
-use Rattle.pit_model.specs.declared.ranges.TheConstants.{MAX_CAPACITY, MAX_VALUERS, MAX_ZONES}
+use Rattle.pit_parts.specs.declared.ranges.TheConstants.{MAX_CAPACITY, MAX_VALUERS, MAX_ZONES}
 
 -- a number from 1 on, and not above the most
 abbrev pub IsFrom1To : ℕ → ℕ → Type 0

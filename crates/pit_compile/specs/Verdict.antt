@@ -1,8 +1,8 @@
 -- The verdict on the zone files of a plan.
 use Rattle.std.specs.Prelude.{◌≡◌, ℕ, ◌+◌, ◌<◌, List, length, Some, None, false, slice_index_or}
 use Rattle.precedence.specs.Identifier.{blocks_of_rows, is_same_place, IsFirstAgain}
-use Rattle.pit_model.specs.Plan.{PlanParts}
-use Rattle.pit_model.specs.declared.block.Block.{Block}
+use Rattle.pit_parts.specs.Plan.{PlanParts}
+use Rattle.pit_parts.specs.declared.block.Block.{Block}
 use Rattle.rows.specs.declared.item.Valued.{Valued}
 use Rattle.pit_compile.specs.Rows.{rows_of, fault_in}
 use Rattle.pit_compile.specs.declared.refusal.Refusal.{Refusal}

@@ -8,14 +8,14 @@ ghost use Rattle.collector.specs.Lists.{AreLists};
 ghost use Rattle.lane.specs.MessageKinds.{rows_in};
 ghost use Rattle.lane.specs.Whole.{IsWhole};
 ghost use Rattle.pit_compile.specs.inner.Collecting.{joined, IsFront};
-ghost use Rattle.pit_model.specs.PlanFormulas.{formulas_of_plan};
+ghost use Rattle.pit_parts.specs.PlanFormulas.{formulas_of_plan};
 ghost use Rattle.valuers.specs.Valuing.{items_by, rows_by};
-ghost use Rattle.pit_model.specs.declared.ranges.TheConstants.{MAX_ROWS};
+ghost use Rattle.pit_parts.specs.declared.ranges.TheConstants.{MAX_ROWS};
 
 use collector::laws::{complete_is_not_refused, complete_lacks_nothing, found_is_held};
 use collector::{AddFault, Collector, FinishFault};
 use lane::Gathered;
-use pit_model::plan::Plan;
+use pit_parts::plan::Plan;
 use rows::{Item, Items, RowLists, Rows};
 use std::alloc::{AllocError, Global};
 

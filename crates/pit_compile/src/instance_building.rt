@@ -12,7 +12,7 @@ use crate::numbered::numbered;
 use crate::refusal::Refusal;
 use mine_instance::instance::Instance;
 use mine_instance::{build_with, values_by_id};
-use pit_model::plan::Plan;
+use pit_parts::plan::Plan;
 use precedence::preds;
 use rows::RowLists;
 use std::alloc::Global;

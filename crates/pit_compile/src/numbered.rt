@@ -6,7 +6,7 @@ ghost use Rattle.precedence.specs.Numbering.{IsNumbering};
 ghost use Rattle.pit_compile.specs.inner.ModelRows.{HasPlace};
 ghost use Rattle.pit_compile.specs.inner.Repeats.{IsRepeat};
 ghost use Rattle.pit_compile.specs.Verdict.{IsRowAt};
-ghost use Rattle.pit_model.specs.declared.ranges.TheConstants.{MAX_BLOCKS};
+ghost use Rattle.pit_parts.specs.declared.ranges.TheConstants.{MAX_BLOCKS};
 
 use crate::refusal::{Refusal, RowAt};
 use precedence::{NumberError, Numbering, number_blocks};

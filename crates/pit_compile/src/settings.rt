@@ -3,13 +3,13 @@
 ghost use Rattle.std.specs.Prelude.{◌≡◌, ◌↔◌, Err, IsTrue, IfErr, OnOk, length, map};
 ghost use Rattle.pit_compile.specs.Settings.{IsSettingsFault, Suits};
 ghost use Rattle.pit_compile.specs.declared.settings.SettingsFault.{SettingsFault as ASettingsFault};
-ghost use Rattle.pit_model.specs.Destinations.{formulas_of};
-ghost use Rattle.pit_model.specs.PlanFormulas.{formulas_of_plan};
+ghost use Rattle.pit_parts.specs.Destinations.{formulas_of};
+ghost use Rattle.pit_parts.specs.PlanFormulas.{formulas_of_plan};
 
-use pit_model::destination::Destination;
-use pit_model::formula::{Formula, NamedFormula};
-use pit_model::plan::Plan;
-use pit_model::ranges::{MAX_CAPACITY, MAX_VALUERS};
+use pit_parts::destination::Destination;
+use pit_parts::formula::{Formula, NamedFormula};
+use pit_parts::plan::Plan;
+use pit_parts::ranges::{MAX_CAPACITY, MAX_VALUERS};
 use std::fmt;
 use thiserror::Error;
 

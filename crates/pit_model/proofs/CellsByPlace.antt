@@ -6,7 +6,7 @@ use Rattle.std.proofs.lemmas.Int.{ints}
 use Rattle.forms.proofs.DemandFacts.{Follows}
 use Rattle.forms.proofs.FormFacts.{counted, field_told, spelled_fit, parts}
 use Rattle.forms.specs.Asked.{asked_of_field}
-use Rattle.forms.specs.Field.{Field, Value, Bytes, Millionths, below, whole, whole_at}
+use Rattle.forms.specs.Field.{Field, Value, Bytes, Millionths, below, between, whole, whole_at}
 use Rattle.forms.specs.Fit.{FitsField, is_fine}
 use Rattle.forms.specs.Read.{read, read_field, read_fields}
 use Rattle.forms.specs.Spelled.{Says}
@@ -20,12 +20,12 @@ use Rattle.pit_model.specs.Stated.{Stated, resource_named, with_resource, with_z
 use Rattle.pit_model.specs.declared.plan_fault.PlanFaultKind.TheVariants.{Width}
 use Rattle.pit_model.specs.declared.draft.formulas.FormulaKey.{FormulaKey}
 use Rattle.pit_model.specs.declared.draft.formulas.FormulaKey.TheVariants as formula_key
-use Rattle.pit_model.specs.declared.formula.Formula.{Formula}
-use Rattle.pit_model.specs.declared.formula.Formula.TheVariants.{Leach}
-use Rattle.pit_model.specs.declared.limit.Bound.{Bound}
+use Rattle.pit_parts.specs.declared.formula.Formula.{Formula}
+use Rattle.pit_parts.specs.declared.formula.Formula.TheVariants.{Leach}
+use Rattle.pit_parts.specs.declared.limit.Bound.{Bound}
 use Rattle.pit_model.specs.declared.plan_key.PlanKey.{PlanKey}
 use Rattle.pit_model.specs.declared.plan_key.PlanKey.TheVariants as key
-use Rattle.pit_model.specs.PlanCells.{a_cost, a_name, a_price, a_recovery, a_size, an_origin, between, plan_kind, word_at, word_of}
+use Rattle.pit_model.specs.PlanCells.{a_cost, a_name, a_price, a_recovery, a_size, an_origin, plan_kind, word_at, word_of}
 use Rattle.pit_model.specs.declared.plan_fault.PlanFaultKind.{PlanFaultKind}
 
 pub quotient : (n : ℕ) → n * 10 ^ 6 / 10 ^ 6 ≡ n

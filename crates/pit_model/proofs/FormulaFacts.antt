@@ -1,25 +1,20 @@
--- What holds of each formula: the form of its cells is fine, what they state is in range, and so is its worth.
+-- What holds of each formula: the form of its cells is fine, and what they state is in range.
 use Rattle.std.specs.Prelude.{◌≡◌, ℕ, zero, suc, ◌-◌, ◌/◌, ◌^◌, ◌≤◌, Bool, true, false, nat_le, List, [], ◌∷◌, ◌++◌, length, drop, All, Some, None, if◌then◌else◌}
 use Rattle.std.proofs.Common.{refl, arith, leb-true}
 use Rattle.std.proofs.lemmas.List.Elements.{All-nil, All-cons}
 use Rattle.forms.specs.Field.{Field, Value}
 use Rattle.forms.specs.Fit.{is_fine, Fit}
 use Rattle.forms.specs.Shape.{Check, check, failing}
-use Rattle.pit_model.specs.BandsKept.{AreBands, IsBand, starts_rise}
+use Rattle.pit_parts.specs.BandsKept.{AreBands, IsBand, starts_rise}
 use Rattle.pit_model.specs.FormulaShapes.{bands_form, bands_of, formula_shape}
 use Rattle.pit_model.specs.PlanCells.{a_recovery, a_start}
-use Rattle.pit_model.specs.Formula.{IsRuled}
-use Rattle.pit_model.specs.Worth.{worth, IsWorth}
-use Rattle.pit_model.specs.declared.block.Block.{Block}
+use Rattle.pit_parts.specs.Formula.{IsRuled}
 use Rattle.pit_model.specs.declared.draft.formulas.FormulaKey.{FormulaKey}
 use Rattle.pit_model.specs.declared.draft.formulas.FormulaKey.TheVariants as key
-use Rattle.pit_model.specs.declared.formula.Formula.{Formula}
-use Rattle.pit_model.specs.declared.formula.Formula.TheVariants as formula
 use Rattle.pit_model.specs.declared.plan_fault.PlanFaultKind.{PlanFaultKind}
 use Rattle.pit_model.specs.declared.plan_fault.PlanFaultKind.TheVariants.{Order, TooMany}
-use Rattle.pit_model.specs.declared.ranges.TheConstants.{MAX_BANDS}
+use Rattle.pit_parts.specs.declared.ranges.TheConstants.{MAX_BANDS}
 use Rattle.pit_model.proofs.FieldFits.{between_fits, fits_at, fits_behind, start_fits}
-use Rattle.pit_model.proofs.WorthFacts.{dump_bound, mill_bound, recovery_bound}
 
 -- the first of some tests holds, and so do the others
 pub held : (kind : PlanFaultKind) (t : Bool) (more : List (Check PlanFaultKind)) → failing (check kind t ++ more) ≡ None
@@ -82,12 +77,3 @@ formula_kept key.Leach cells values fit holds =
     } in
     (ruled, (between_fits 0 (10 ^ 8) _ (fits_at form values 1 fit)).1, (between_fits 0 (10 ^ 7) _ (fits_at form values 2 fit)).1)
 formula_kept key.Dump cells values fit holds = (between_fits 0 (10 ^ 7) _ (fits_at (formula_shape key.Dump cells).form values 1 fit)).1
-
--- its worth
-pub worth_bound : (f : Formula) (b : Block) → IsRuled f → IsWorth (worth f b)
-worth_bound (formula.Mill recovery price cost) b ruled =
-    mill_bound b.kg b.grade recovery price cost b.kg_in_range b.grade_in_range ruled.0 ruled.1 ruled.2
-worth_bound (formula.Leach bands price cost) b ruled =
-    mill_bound b.kg b.grade _ price cost b.kg_in_range b.grade_in_range
-    (recovery_bound None bands b.grade (omega arith) ruled.0.in_range) ruled.1 ruled.2
-worth_bound (formula.Dump cost) b ruled = dump_bound b.kg cost b.kg_in_range ruled

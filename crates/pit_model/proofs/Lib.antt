@@ -1,13 +1,9 @@
-pub mod BlockFacts
-pub mod BandFacts
 pub mod BandSteps
 pub mod CellsByPlace
 pub mod FieldFits
 pub mod FormulaFacts
 pub mod Limits
-pub mod Names
 pub mod PlanFits
 pub mod PlanKept
 pub mod PlanLaws
 pub mod PlanSteps
-pub mod WorthFacts

@@ -13,24 +13,24 @@ use Rattle.forms.specs.Shape.{Shape, check, failing}
 use Rattle.forms.specs.ShapeStates.{States}
 use Rattle.records.specs.RecordCells.{cell_at, cells_of}
 use Rattle.pit_model.specs.inner.DraftFields.{KeepsStated}
-use Rattle.pit_model.specs.Plan.{PlanParts}
-use Rattle.pit_model.specs.Formula.{IsRuled}
-use Rattle.pit_model.specs.PlanKept.{plan_of, AreCovers, AreTonnes, IsBound, IsCone, IsGrid, IsPlan, IsSlope, IsTonnes, RiseStrictly, has_repeat, is_turned}
+use Rattle.pit_parts.specs.Plan.{PlanParts}
+use Rattle.pit_parts.specs.Formula.{IsRuled}
+use Rattle.pit_parts.specs.PlanKept.{plan_of, AreCovers, AreTonnes, IsBound, IsCone, IsGrid, IsPlan, IsSlope, IsTonnes, RiseStrictly, has_repeat, is_turned}
 use Rattle.pit_model.specs.PlanCells.{a_period_count, a_rate, tonnes, word_at, word_of}
 use Rattle.pit_model.specs.FormulaShapes.{formula_shape}
 use Rattle.pit_model.specs.PlanShapes.{a_destination, blank_shape, bound_form, bound_of, cone_of, covers_of, grid_form, grid_of, is_interval, key_of, key_shape, limit_form, limit_of, record_shape, resource_form, room_for_destination, slope_at, zone_form}
 use Rattle.pit_model.specs.Planned.{SpellPlan, numbered_shape, plan_grammar, whole_plan}
 use Rattle.pit_model.specs.Stated.{Stated, is_same_place, nothing_stated, resource_named, with_destination}
-use Rattle.pit_model.specs.declared.formula.Formula.{Formula}
-use Rattle.pit_model.specs.declared.formula.NamedFormula.{NamedFormula}
-use Rattle.pit_model.specs.declared.grid.Grid.{Grid}
-use Rattle.pit_model.specs.declared.limit.Bound.TheVariants.{AtMost, AtLeast}
+use Rattle.pit_parts.specs.declared.formula.Formula.{Formula}
+use Rattle.pit_parts.specs.declared.formula.NamedFormula.{NamedFormula}
+use Rattle.pit_parts.specs.declared.grid.Grid.{Grid}
+use Rattle.pit_parts.specs.declared.limit.Bound.TheVariants.{AtMost, AtLeast}
 use Rattle.pit_model.specs.declared.plan_fault.PlanFaultKind.{PlanFaultKind}
 use Rattle.pit_model.specs.declared.plan_fault.PlanFaultKind.TheVariants.{Missing, Twice, Order, TooMany}
 use Rattle.pit_model.specs.declared.plan_key.PlanKey.{PlanKey}
 use Rattle.pit_model.specs.declared.plan_key.PlanKey.TheVariants as key
-use Rattle.pit_model.specs.declared.resource.Resource.{Resource}
-use Rattle.pit_model.specs.declared.ranges.TheConstants.{MAX_DESTINATIONS, MAX_PLAN_RECORDS, MAX_RESOURCES, MAX_ZONES}
+use Rattle.pit_parts.specs.declared.resource.Resource.{Resource}
+use Rattle.pit_parts.specs.declared.ranges.TheConstants.{MAX_DESTINATIONS, MAX_PLAN_RECORDS, MAX_RESOURCES, MAX_ZONES}
 use Rattle.pit_model.proofs.Limits.{All-with_limit, rises}
 use Rattle.pit_model.proofs.FieldFits.{below_fits, between_fits, fits_at, fits_behind, origin_fits, range_fits, size_fits}
 use Rattle.pit_model.proofs.FormulaFacts.{apart, formula_kept, held}

@@ -5,7 +5,7 @@ use Rattle.forms.proofs.GrammarFacts.{all_read, fault_read, read_all_states, rea
 use Rattle.forms.specs.Grammar.{read_all}
 use Rattle.forms.specs.GrammarStates.{AllState, IsFirstFault}
 use Rattle.forms.specs.Steps.{◌>>=◌}
-use Rattle.pit_model.specs.Plan.{PlanParts}
+use Rattle.pit_parts.specs.Plan.{PlanParts}
 use Rattle.pit_model.specs.Planned.{IsLacking, SpellPlan, finished, finished_at, plan_grammar, planned}
 use Rattle.records.specs.Records.{records_of}
 use Rattle.pit_model.specs.Stated.{Stated, nothing_stated}

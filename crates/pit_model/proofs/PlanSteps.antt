@@ -7,7 +7,7 @@ use Rattle.forms.specs.Steps.{◌>>=◌}
 use Rattle.records.specs.RecordCells.{cells_of}
 use Rattle.pit_model.specs.Admits.{AdmitsRecord, Reads}
 use Rattle.pit_model.specs.inner.ByPlace.{record_said}
-use Rattle.pit_model.specs.Plan.{PlanParts}
+use Rattle.pit_parts.specs.Plan.{PlanParts}
 use Rattle.pit_model.specs.PlanShapes.{record_shape}
 use Rattle.pit_model.specs.Planned.{finished, finished_at, plan_grammar, planned}
 use Rattle.records.specs.RecordReader.{RecordReaderView, Rows, Over, GaveUp, TakesRow}

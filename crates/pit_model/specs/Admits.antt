@@ -1,7 +1,7 @@
 -- What a reader of records answers, beside what the records say: the answer agrees, unless memory was refused.
 use Rattle.std.specs.Prelude.{◌≡◌, ℕ, List, Result, Ok, Err}
 use Rattle.forms.specs.Field.{Value, Bytes}
-use Rattle.pit_model.specs.Plan.{PlanParts}
+use Rattle.pit_parts.specs.Plan.{PlanParts}
 use Rattle.pit_model.specs.declared.plan_fault.PlanFault.{PlanFault}
 use Rattle.pit_model.specs.declared.plan_fault.PlanFaultKind.{PlanFaultKind}
 use Rattle.pit_model.specs.declared.plan_fault.RecordError.{RecordError}

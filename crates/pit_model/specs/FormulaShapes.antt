@@ -3,16 +3,16 @@
 use Rattle.std.specs.Prelude.{ℕ, zero, suc, ◌-◌, ◌/◌, ◌^◌, nat_le, List, [], ◌∷◌, ◌++◌, length, drop, unsigned_abs, Option, Some, None, codes, if◌then◌else◌}
 use Rattle.forms.specs.Field.{Field, Value, millionths, whole_at}
 use Rattle.forms.specs.Shape.{Check, check}
-use Rattle.pit_model.specs.BandsKept.{starts_rise}
+use Rattle.pit_parts.specs.BandsKept.{starts_rise}
 use Rattle.pit_model.specs.PlanCells.{a_cost, a_name, a_price, a_recovery, a_start}
-use Rattle.pit_model.specs.declared.band.Band.{Band}
+use Rattle.pit_parts.specs.declared.band.Band.{Band}
 use Rattle.pit_model.specs.declared.draft.formulas.FormulaKey.{FormulaKey}
 use Rattle.pit_model.specs.declared.draft.formulas.FormulaKey.TheVariants as key
-use Rattle.pit_model.specs.declared.formula.Formula.{Formula}
-use Rattle.pit_model.specs.declared.formula.Formula.TheVariants as formula
+use Rattle.pit_parts.specs.declared.formula.Formula.{Formula}
+use Rattle.pit_parts.specs.declared.formula.Formula.TheVariants as formula
 use Rattle.pit_model.specs.declared.plan_fault.PlanFaultKind.{PlanFaultKind}
 use Rattle.pit_model.specs.declared.plan_fault.PlanFaultKind.TheVariants.{Order, TooMany}
-use Rattle.pit_model.specs.declared.ranges.TheConstants.{MAX_BANDS}
+use Rattle.pit_parts.specs.declared.ranges.TheConstants.{MAX_BANDS}
 use Rattle.records.specs.Cells.{is_word}
 
 -- the formula whose key a cell is, its letters in any case

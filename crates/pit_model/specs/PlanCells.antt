@@ -1,12 +1,12 @@
 -- The cells of a plan's records: what a cell of each kind takes, and the kind of fault where it does not.
-use Rattle.std.specs.Prelude.{ℕ, ◌*◌, ◌^◌, List, [], slice_index_or, ℤ, pos, ◌*ℤ◌}
+use Rattle.std.specs.Prelude.{ℕ, List, [], slice_index_or, ℤ, pos, ◌*ℤ◌}
 use Rattle.forms.specs.FieldFault.{FieldFault}
 use Rattle.forms.specs.FieldFault as fault
-use Rattle.forms.specs.Field.{Field, Decimal, Word, Value, Millionths, Bytes, up_to}
-use Rattle.pit_model.specs.Name.{is_name}
+use Rattle.forms.specs.Field.{Field, Decimal, Word, Value, Millionths, Bytes, between, up_to}
+use Rattle.pit_parts.specs.Name.{is_name}
 use Rattle.pit_model.specs.declared.plan_fault.PlanFaultKind.{PlanFaultKind}
 use Rattle.pit_model.specs.declared.plan_fault.PlanFaultKind.TheVariants.{Width, Number, TooFine, Range, Name}
-use Rattle.pit_model.specs.declared.ranges.TheConstants.{MAX_BENCHES, MAX_COST, MAX_GRADE, MAX_ORIGIN, MAX_PERIODS, MAX_PRICE, MAX_RATE, MAX_RECOVERY, MAX_SIZE, MAX_SLOPE, MAX_TONNES, MIN_ORIGIN}
+use Rattle.pit_parts.specs.declared.ranges.TheConstants.{MAX_BENCHES, MAX_COST, MAX_GRADE, MAX_ORIGIN, MAX_PERIODS, MAX_PRICE, MAX_RATE, MAX_RECOVERY, MAX_SIZE, MAX_SLOPE, MAX_TONNES, MIN_ORIGIN}
 
 -- what is wrong with a cell, as a plan's kind of fault
 abbrev pub plan_kind : FieldFault → PlanFaultKind
@@ -24,10 +24,6 @@ word_of (Millionths m) = []
 
 abbrev pub word_at : List Value → ℕ → List ℕ
 word_at values place = word_of (slice_index_or values place (Bytes []))
-
--- a whole number from the lowest to the highest
-abbrev pub between : ℕ → ℕ → Field
-between low high = Decimal 0 (pos (low * 10 ^ 6)) (pos (high * 10 ^ 6))
 
 -- metres with three decimals, from the lowest to the highest millimetres
 abbrev pub metres : ℤ → ℤ → Field

@@ -8,24 +8,24 @@ use Rattle.forms.specs.Shape.{Check, Shape, check}
 use Rattle.records.specs.Cells.{is_word}
 use Rattle.records.specs.RecordCells.{cell_at}
 use Rattle.pit_model.specs.FormulaShapes.{formula_key_of, formula_shape}
-use Rattle.pit_model.specs.PlanKept.{has_repeat, is_turned}
+use Rattle.pit_parts.specs.PlanKept.{has_repeat, is_turned}
 use Rattle.pit_model.specs.PlanCells.{plan_kind, word_at, word_of, a_leg, a_name, a_period_count, a_rate, a_size, an_origin, benches, tonnes}
 use Rattle.pit_model.specs.Stated.{Stated, destination_named, resource_named, with_destination, with_zone, with_resource, is_same_place, with_limit}
-use Rattle.pit_model.specs.declared.cone.Cone.{Cone}
-use Rattle.pit_model.specs.declared.cone.Slope.{Slope}
+use Rattle.pit_parts.specs.declared.cone.Cone.{Cone}
+use Rattle.pit_parts.specs.declared.cone.Slope.{Slope}
 use Rattle.pit_model.specs.declared.draft.formulas.FormulaKey.{FormulaKey}
-use Rattle.pit_model.specs.declared.formula.NamedFormula.{NamedFormula}
-use Rattle.pit_model.specs.declared.grid.Axis.{Axis}
-use Rattle.pit_model.specs.declared.grid.Grid.{Grid}
-use Rattle.pit_model.specs.declared.limit.Bound.{Bound}
-use Rattle.pit_model.specs.declared.limit.Bound.TheVariants.{AtMost, AtLeast, Between}
-use Rattle.pit_model.specs.declared.limit.Limit.{Limit}
+use Rattle.pit_parts.specs.declared.formula.NamedFormula.{NamedFormula}
+use Rattle.pit_parts.specs.declared.grid.Axis.{Axis}
+use Rattle.pit_parts.specs.declared.grid.Grid.{Grid}
+use Rattle.pit_parts.specs.declared.limit.Bound.{Bound}
+use Rattle.pit_parts.specs.declared.limit.Bound.TheVariants.{AtMost, AtLeast, Between}
+use Rattle.pit_parts.specs.declared.limit.Limit.{Limit}
 use Rattle.pit_model.specs.declared.plan_fault.PlanFaultKind.{PlanFaultKind}
 use Rattle.pit_model.specs.declared.plan_fault.PlanFaultKind.TheVariants.{Key, Twice, Order, TooMany}
 use Rattle.pit_model.specs.declared.plan_key.PlanKey.{PlanKey}
 use Rattle.pit_model.specs.declared.plan_key.PlanKey.TheVariants as key
-use Rattle.pit_model.specs.declared.resource.Resource.{Resource}
-use Rattle.pit_model.specs.declared.ranges.TheConstants.{MAX_DESTINATIONS, MAX_RESOURCES, MAX_ZONES}
+use Rattle.pit_parts.specs.declared.resource.Resource.{Resource}
+use Rattle.pit_parts.specs.declared.ranges.TheConstants.{MAX_DESTINATIONS, MAX_RESOURCES, MAX_ZONES}
 
 -- the form of the cells behind the key, what is asked of their values, and what is stated behind them
 abbrev pub cells_shape : List (List ℕ) → List Field → (List Value → List (Check PlanFaultKind)) → (List Value → Stated) → Shape PlanFaultKind Stated

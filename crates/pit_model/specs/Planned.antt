@@ -5,16 +5,16 @@ use Rattle.forms.specs.GrammarStates.{AllState}
 use Rattle.forms.specs.Shape.{Shape, check}
 use Rattle.forms.specs.Steps.{◌>>=◌}
 use Rattle.records.specs.RecordCells.{cells_of}
-use Rattle.pit_model.specs.Plan.{PlanParts}
-use Rattle.pit_model.specs.PlanKept.{plan_of}
+use Rattle.pit_parts.specs.Plan.{PlanParts}
+use Rattle.pit_parts.specs.PlanKept.{plan_of}
 use Rattle.pit_model.specs.PlanShapes.{record_shape}
 use Rattle.records.specs.Records.{records_of}
 use Rattle.pit_model.specs.Stated.{Stated, nothing_stated}
-use Rattle.pit_model.specs.declared.grid.Grid.{Grid}
+use Rattle.pit_parts.specs.declared.grid.Grid.{Grid}
 use Rattle.pit_model.specs.declared.plan_fault.PlanFault.{PlanFault}
 use Rattle.pit_model.specs.declared.plan_fault.PlanFaultKind.{PlanFaultKind}
 use Rattle.pit_model.specs.declared.plan_fault.PlanFaultKind.TheVariants.{Missing, TooMany}
-use Rattle.pit_model.specs.declared.ranges.TheConstants.{MAX_PLAN_RECORDS}
+use Rattle.pit_parts.specs.declared.ranges.TheConstants.{MAX_PLAN_RECORDS}
 
 -- the record of this number, of at most 10,000
 abbrev pub numbered_shape : ℕ → Shape PlanFaultKind Stated → Shape PlanFaultKind Stated

@@ -1,3 +1,2 @@
 pub mod ByPlace
 pub mod DraftFields
-pub mod PlanFields

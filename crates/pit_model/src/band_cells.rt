@@ -3,15 +3,15 @@
 ghost use Rattle.std.specs.Prelude.{◌≡◌, ◌+◌, ◌-◌, ◌/◌, ◌%◌, ◌≤◌, suc, length, pos, unsigned_abs, All, OnOk, IfOk};
 ghost use Rattle.csv.specs.Records.{fields_of};
 ghost use Rattle.pit_model.specs.Admits.{Admits};
-ghost use Rattle.pit_model.specs.BandsKept.{IsBand};
+ghost use Rattle.pit_parts.specs.BandsKept.{IsBand};
 ghost use Rattle.pit_model.specs.inner.ByPlace.{band_by, bands_in};
 ghost use Rattle.records.specs.RecordCells.{cells_of};
 
-use crate::band::Band;
 use crate::numbers::{number_in, whole_in};
 use crate::plan_fault::{PlanFaultKind, RecordError};
-use crate::ranges::MAX_RECOVERY;
 use csv::ByteRecord;
+use pit_parts::band::Band;
+use pit_parts::ranges::MAX_RECOVERY;
 use records::cells::cell_at;
 
 // The band of two cells, its start and its recovery.

@@ -4,7 +4,7 @@ ghost use Rattle.std.specs.Prelude.{◌≡◌, ◌≤ℤ◌, ◌<◌, ◌≤◌,
 ghost use Rattle.csv.specs.Records.{fields_of};
 ghost use Rattle.pit_model.specs.Admits.{Admits};
 ghost use Rattle.records.specs.RecordCells.{cells_of};
-ghost use Rattle.pit_model.specs.PlanKept.{AreTonnes};
+ghost use Rattle.pit_parts.specs.PlanKept.{AreTonnes};
 ghost use Rattle.forms.specs.Field.{Millionths};
 ghost use Rattle.forms.specs.Read.{read_field};
 ghost use Rattle.forms.specs.Shape.{said};
@@ -13,23 +13,23 @@ ghost use Rattle.pit_model.specs.PlanCells.{a_rate, plan_kind};
 ghost use Rattle.pit_model.specs.PlanShapes.{grid_shape, name_shape, periods_shape, rate_shape, record_shape};
 ghost use Rattle.pit_model.specs.Planned.{finished};
 ghost use Rattle.pit_model.specs.Stated.{nothing_stated};
-ghost use Rattle.pit_model.specs.declared.ranges.TheConstants.{MAX_RATE};
+ghost use Rattle.pit_parts.specs.declared.ranges.TheConstants.{MAX_RATE};
 
-use crate::cone::Cone;
-use crate::formula::NamedFormula;
-use crate::grid::{Axis, Grid};
-use crate::limit::Limit;
 use crate::limit_cells::{bound_in, insert_limit, is_limited, limit_width, period_in};
-use crate::name::Name;
 use crate::named::{covers_in, has_repeat, is_resource, name_in, resource_in};
 use crate::numbers::{number_in, origin_in, size_in, whole_in};
-use crate::plan::Plan;
 use crate::plan_fault::{PlanFaultKind, RecordError};
 use crate::plan_key::{PlanKey, key_of};
-use crate::ranges::{MAX_PERIODS, MAX_RATE, MAX_RESOURCES, MAX_ZONES};
-use crate::resource::Resource;
 use crate::zone_cells::cone_in;
 use csv::ByteRecord;
+use pit_parts::cone::Cone;
+use pit_parts::formula::NamedFormula;
+use pit_parts::grid::{Axis, Grid};
+use pit_parts::limit::Limit;
+use pit_parts::name::Name;
+use pit_parts::plan::{Horizon, Plan};
+use pit_parts::ranges::{MAX_PERIODS, MAX_RATE, MAX_RESOURCES, MAX_ZONES};
+use pit_parts::resource::Resource;
 use pit_units::Dec;
 use records::cells::{cell_at, cell_count};
 use std::alloc::Global;
@@ -136,8 +136,7 @@ impl Draft {
             grid,
             self.cones,
             self.formulas,
-            periods,
-            rate,
+            Horizon { periods, rate },
             self.resources,
             self.limits,
         ))

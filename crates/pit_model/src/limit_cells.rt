@@ -4,20 +4,20 @@ ghost use Rattle.std.specs.Prelude.{◌≡◌, ◌+◌, ◌<◌, ◌≤◌, ◌^
 ghost use Rattle.std.specs.List.{list_any, position_or_len};
 ghost use Rattle.csv.specs.Records.{fields_of};
 ghost use Rattle.records.specs.RecordCells.{cells_of};
-ghost use Rattle.pit_model.specs.PlanKept.{AreTonnes, stands_before};
+ghost use Rattle.pit_parts.specs.PlanKept.{AreTonnes, stands_before};
 ghost use Rattle.forms.specs.Field.{Millionths, below, whole};
 ghost use Rattle.forms.specs.Read.{read_field};
 ghost use Rattle.pit_model.specs.inner.ByPlace.{Gives, bound_in};
 ghost use Rattle.pit_model.specs.PlanCells.{plan_kind, tonnes};
 ghost use Rattle.pit_model.specs.PlanShapes.{bound_form, is_interval};
 ghost use Rattle.pit_model.specs.Stated.{is_same_place, with_limit};
-ghost use Rattle.pit_model.specs.declared.ranges.TheConstants.{MAX_TONNES};
+ghost use Rattle.pit_parts.specs.declared.ranges.TheConstants.{MAX_TONNES};
 
-use crate::limit::{Bound, Limit};
 use crate::numbers::number_in;
 use crate::plan_fault::{PlanFaultKind, RecordError};
-use crate::ranges::MAX_TONNES;
 use csv::ByteRecord;
+use pit_parts::limit::{Bound, Limit};
+use pit_parts::ranges::MAX_TONNES;
 use pit_units::Dec;
 use records::cells::cell_at;
 

@@ -5,17 +5,17 @@ ghost use Rattle.csv.specs.Records.{fields_of};
 ghost use Rattle.pit_model.specs.Admits.{Covered, Names};
 ghost use Rattle.pit_model.specs.inner.ByPlace.{Finds, covers_in};
 ghost use Rattle.records.specs.RecordCells.{cells_of};
-ghost use Rattle.pit_model.specs.PlanKept.{has_repeat};
+ghost use Rattle.pit_parts.specs.PlanKept.{has_repeat};
 ghost use Rattle.forms.specs.Read.{read_field};
 ghost use Rattle.pit_model.specs.PlanCells.{a_name, plan_kind};
 ghost use Rattle.pit_model.specs.Stated.{destination_named, resource_named};
-ghost use Rattle.pit_model.specs.declared.ranges.TheConstants.{MAX_DESTINATIONS, MAX_RESOURCES};
+ghost use Rattle.pit_parts.specs.declared.ranges.TheConstants.{MAX_DESTINATIONS, MAX_RESOURCES};
 
-use crate::formula::NamedFormula;
-use crate::name::Name;
 use crate::plan_fault::{PlanFaultKind, RecordError};
-use crate::resource::{Covers, Resource};
 use csv::ByteRecord;
+use pit_parts::formula::NamedFormula;
+use pit_parts::name::Name;
+use pit_parts::resource::{Covers, Resource};
 use records::cells::cell_at;
 use std::alloc::Global;
 

@@ -1,14 +1,14 @@
 //! The numbers in a plan's cells.
 
 ghost use Rattle.std.specs.Prelude.{◌≡◌, ◌≤◌, ◌*◌, ◌^◌, ◌<◌, ◌≤ℤ◌, pos, IfOk};
-ghost use Rattle.forms.specs.Field.{Decimal, Millionths, whole};
+ghost use Rattle.forms.specs.Field.{Decimal, Millionths, between, whole};
 ghost use Rattle.forms.specs.Read.{read_field};
 ghost use Rattle.pit_model.specs.inner.ByPlace.{Gives, length_of, size_of};
-ghost use Rattle.pit_model.specs.PlanCells.{a_size, an_origin, between, plan_kind};
-ghost use Rattle.pit_model.specs.declared.ranges.TheConstants.{MAX_ORIGIN, MAX_SIZE, MIN_ORIGIN};
+ghost use Rattle.pit_model.specs.PlanCells.{a_size, an_origin, plan_kind};
+ghost use Rattle.pit_parts.specs.declared.ranges.TheConstants.{MAX_ORIGIN, MAX_SIZE, MIN_ORIGIN};
 
 use crate::plan_fault::PlanFaultKind;
-use crate::ranges::{MAX_ORIGIN, MAX_SIZE, MIN_ORIGIN};
+use pit_parts::ranges::{MAX_ORIGIN, MAX_SIZE, MIN_ORIGIN};
 use pit_units::parse_dec;
 
 /// The millionths that a cell states, with at most so many decimals and from `low` to `high`.

@@ -5,13 +5,13 @@ ghost use Rattle.csv.specs.Records.{fields_of};
 ghost use Rattle.pit_model.specs.Admits.{AdmitsRecord, Reads};
 ghost use Rattle.pit_model.specs.inner.ByPlace.{record_said};
 ghost use Rattle.pit_model.specs.Planned.{finished, finished_at, planned};
-ghost use Rattle.pit_model.specs.declared.ranges.TheConstants.{MAX_PLAN_RECORDS};
+ghost use Rattle.pit_parts.specs.declared.ranges.TheConstants.{MAX_PLAN_RECORDS};
 
 use crate::draft::Draft;
-use crate::plan::Plan;
 use crate::plan_fault::{PlanFault, PlanFaultKind, ReadPlanError, RecordError};
-use crate::ranges::MAX_PLAN_RECORDS;
 use csv::ByteRecord;
+use pit_parts::plan::Plan;
+use pit_parts::ranges::MAX_PLAN_RECORDS;
 use records::RecordReader;
 use std::alloc::Global;
 

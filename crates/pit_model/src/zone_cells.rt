@@ -6,15 +6,15 @@ ghost use Rattle.forms.specs.Field.{whole};
 ghost use Rattle.forms.specs.Read.{read_field};
 ghost use Rattle.pit_model.specs.inner.ByPlace.{Gives, cone_by, cone_in};
 ghost use Rattle.records.specs.RecordCells.{cells_of};
-ghost use Rattle.pit_model.specs.PlanKept.{IsCone};
+ghost use Rattle.pit_parts.specs.PlanKept.{IsCone};
 ghost use Rattle.pit_model.specs.PlanCells.{a_leg, plan_kind};
-ghost use Rattle.pit_model.specs.declared.ranges.TheConstants.{MAX_SLOPE};
+ghost use Rattle.pit_parts.specs.declared.ranges.TheConstants.{MAX_SLOPE};
 
-use crate::cone::{Cone, Slope};
 use crate::numbers::whole_in;
 use crate::plan_fault::PlanFaultKind;
-use crate::ranges::{MAX_BENCHES, MAX_SLOPE};
 use csv::ByteRecord;
+use pit_parts::cone::{Cone, Slope};
+use pit_parts::ranges::{MAX_BENCHES, MAX_SLOPE};
 use records::cells::cell_at;
 
 // The rise or the run of a slope.

@@ -6,9 +6,9 @@
 
 ghost use Rattle.std.specs.Prelude.{◌≡◌, ◌≢◌, ◌≤◌, ◌^◌, ◌⊎◌};
 ghost use Rattle.std.specs.Process.{exit_status};
-ghost use Rattle.pit_model.specs.Formula.{IsRuled};
-ghost use Rattle.pit_model.specs.Worth.{worth, mill, dump};
-ghost use Rattle.pit_model.specs.declared.ranges.TheConstants.{MAX_COST, MAX_PRICE, MAX_RECOVERY};
+ghost use Rattle.pit_parts.specs.Formula.{IsRuled};
+ghost use Rattle.pit_parts.specs.Worth.{worth, mill, dump};
+ghost use Rattle.pit_parts.specs.declared.ranges.TheConstants.{MAX_COST, MAX_PRICE, MAX_RECOVERY};
 
 #[cfg(test)]
 mod callers;

@@ -3,10 +3,10 @@ use Rattle.std.proofs.Common.{◌≡◌, ℕ, ◌+◌, ◌<◌, Bool, List, [], 
 use Rattle.std.proofs.lemmas.List.{get_or_default}
 use Rattle.std.proofs.lemmas.Option.{slice_get_cases, slice_get-get_or, get_or_from_slice_get}
 use Rattle.std.proofs.lemmas.List.Elements.{All-head, All-tail}
-use Rattle.pit_model.specs.Plan.{PlanParts}
-use Rattle.pit_model.specs.declared.block.Block.{Block}
-use Rattle.pit_model.specs.declared.cone.Cone.{Cone}
-use Rattle.pit_model.specs.declared.grid.Grid.{Grid}
+use Rattle.pit_parts.specs.Plan.{PlanParts}
+use Rattle.pit_parts.specs.declared.block.Block.{Block}
+use Rattle.pit_parts.specs.declared.cone.Cone.{Cone}
+use Rattle.pit_parts.specs.declared.grid.Grid.{Grid}
 use Rattle.precedence.specs.Codes.{code, codes}
 use Rattle.precedence.specs.Cone.{above, is_above, places_where, preds, HasZones}
 use Rattle.precedence.specs.inner.Lists.{in_cone}

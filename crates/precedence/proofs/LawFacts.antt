@@ -10,12 +10,12 @@ use Rattle.std.proofs.lemmas.Bool.{cases_Bool, cases_lt, le-leb, lt-leb, ltb-tru
 use Rattle.std.proofs.lemmas.List.{get_or-map, get_or_default}
 use Rattle.std.proofs.lemmas.List.Elements.{All-cons, All-nil, All-contains}
 use Rattle.std.proofs.lemmas.Option.{slice_get_within}
-use Rattle.pit_model.specs.Plan.{PlanParts}
-use Rattle.pit_model.specs.PlanKept.{IsCone}
-use Rattle.pit_model.specs.declared.block.Block.{Block}
-use Rattle.pit_model.specs.declared.cone.Cone.{Cone}
-use Rattle.pit_model.specs.declared.cone.Slope.{Slope}
-use Rattle.pit_model.specs.declared.grid.Grid.{Grid}
+use Rattle.pit_parts.specs.Plan.{PlanParts}
+use Rattle.pit_parts.specs.PlanKept.{IsCone}
+use Rattle.pit_parts.specs.declared.block.Block.{Block}
+use Rattle.pit_parts.specs.declared.cone.Cone.{Cone}
+use Rattle.pit_parts.specs.declared.cone.Slope.{Slope}
+use Rattle.pit_parts.specs.declared.grid.Grid.{Grid}
 use Rattle.precedence.specs.Cone.{above, is_above, is_within_slopes, places_where, preds, slope_along_x, slope_along_y, square}
 use Rattle.precedence.specs.ConeLaws.{above_by, even_cone, has_pred, is_above_by, is_pred_by, preds_by, IsEven}
 use Rattle.precedence.specs.Identifier.{id}

@@ -1,7 +1,7 @@
 -- The order of identifiers is that of the codes.
 use Rattle.std.proofs.Common.{◌≡◌, nat_eq, nat_lt, arith}
 use Rattle.std.proofs.lemmas.Bool.Decides.{nat_tests}
-use Rattle.pit_model.specs.declared.block.Block.{Block}
+use Rattle.pit_parts.specs.declared.block.Block.{Block}
 use Rattle.precedence.specs.Codes.{code}
 use Rattle.precedence.specs.Identifier.{comes_before, is_same_place}
 

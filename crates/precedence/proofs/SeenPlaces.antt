@@ -5,7 +5,7 @@ use Rattle.std.specs.List.{IsDistinct}
 use Rattle.std.proofs.lemmas.Bool.{cases_Bool, eqb-true, eq-eqb}
 use Rattle.std.proofs.lemmas.List.{get_or-map, get_or-take, length-take, length-map, take_more}
 use Rattle.std.proofs.lemmas.Map.Keys.{apart_from_distinct}
-use Rattle.pit_model.specs.declared.block.Block.{Block}
+use Rattle.pit_parts.specs.declared.block.Block.{Block}
 use Rattle.precedence.specs.Codes.{code, codes}
 use Rattle.precedence.specs.Identifier.{IsFirstAgain, is_same_place}
 use Rattle.precedence.specs.inner.Seen.{placed, IsPlaced}

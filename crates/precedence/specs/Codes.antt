@@ -1,6 +1,6 @@
 -- One number for a block's place, in the order of identifiers.
 use Rattle.std.specs.Prelude.{ℕ, ◌+◌, ◌*◌, ◌^◌, List, map}
-use Rattle.pit_model.specs.declared.block.Block.{Block}
+use Rattle.pit_parts.specs.declared.block.Block.{Block}
 
 -- rows are 10^5 apart and benches 10^10, so a number some thousands beside a block's belongs to no other row
 abbrev pub code : Block → ℕ

@@ -1,6 +1,6 @@
 -- What a refusal to number says.
 use Rattle.std.specs.Prelude.{List}
-use Rattle.pit_model.specs.declared.block.Block.{Block}
+use Rattle.pit_parts.specs.declared.block.Block.{Block}
 use Rattle.precedence.specs.Identifier.{IsFirstAgain}
 use Rattle.precedence.specs.declared.number_error.NumberError.{NumberError}
 use Rattle.precedence.specs.declared.number_error.NumberError.TheVariants.{Same, OutOfMemory}

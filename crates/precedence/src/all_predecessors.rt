@@ -13,8 +13,8 @@ use crate::places::{Places, places_of};
 use crate::predecessors::Preds;
 use crate::runs::{Hint, NOTHING_KNOWN, add_above};
 use crate::zone_tables::{ZoneTables, tables_of};
-use pit_model::block::Block;
-use pit_model::plan::Plan;
+use pit_parts::block::Block;
+use pit_parts::plan::Plan;
 use std::alloc::{AllocError, Global};
 
 // As many blocks lie in a cone of one bench under slopes of 1:1, and a few more.

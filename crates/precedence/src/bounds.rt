@@ -1,14 +1,14 @@
 //! The bounds of a model.
 
 ghost use Rattle.std.specs.Prelude.{ℕ, ◌<◌, ◌≤◌, length, slice_index_or};
-ghost use Rattle.pit_model.specs.declared.block.Block.{Block};
+ghost use Rattle.pit_parts.specs.declared.block.Block.{Block};
 ghost use Rattle.precedence.specs.inner.Rows.{IsWithin};
 ghost use Rattle.precedence.specs.inner.ZoneTables.{Holds};
-ghost use Rattle.pit_model.specs.declared.ranges.TheConstants.{GRID_CELLS};
+ghost use Rattle.pit_parts.specs.declared.ranges.TheConstants.{GRID_CELLS};
 
 use crate::cone_rows::Extent;
-use pit_model::block::Block;
-use pit_model::ranges::GRID_CELLS;
+use pit_parts::block::Block;
+use pit_parts::ranges::GRID_CELLS;
 
 /// The least and greatest indices of blocks along y and z.
 #[derive(Clone, Copy, Debug)]

@@ -3,7 +3,7 @@
 ghost use Rattle.std.specs.Prelude.{◌≡◌, ◌+◌, ◌*◌, ◌^◌, ◌<◌};
 ghost use Rattle.precedence.specs.Codes.{code};
 
-use pit_model::block::Block;
+use pit_parts::block::Block;
 
 /// How far apart the numbers of two rows of a bench are.
 pub const ROW: u64 = 100_000;

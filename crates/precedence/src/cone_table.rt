@@ -4,7 +4,7 @@ ghost use Rattle.std.specs.Prelude.{◌≡◌};
 ghost use Rattle.precedence.specs.inner.Rows.{pasts};
 
 use crate::cone_rows::Row;
-use pit_model::cone::Cone;
+use pit_parts::cone::Cone;
 
 /// The rows of a cone.
 #[derive(Debug, Drop)]

@@ -5,19 +5,19 @@ ghost use Rattle.std.specs.List.{IsDistinct};
 ghost use Rattle.std.specs.List.Sorted.{IsStrictlyIncreasing};
 ghost use Rattle.std.specs.Map.{keys_of, values_of};
 ghost use Rattle.indexmap.specs.IndexMap.{get, IsUnique};
-ghost use Rattle.pit_model.specs.declared.block.Block.{Block};
+ghost use Rattle.pit_parts.specs.declared.block.Block.{Block};
 ghost use Rattle.precedence.specs.Codes.{codes};
 ghost use Rattle.precedence.specs.Numbering.{IsNumbering};
 ghost use Rattle.precedence.specs.SameBlock.{IsReason};
 ghost use Rattle.precedence.specs.inner.Seen.{placed, IsSortedTable};
-ghost use Rattle.pit_model.specs.declared.ranges.TheConstants.{MAX_BLOCKS};
+ghost use Rattle.pit_parts.specs.declared.ranges.TheConstants.{MAX_BLOCKS};
 
 use crate::code::code;
 use crate::number_error::NumberError;
 use crate::numbering::Numbering;
 use crate::place_hashes::PlaceHashes;
 use indexmap::IndexMap;
-use pit_model::block::Block;
+use pit_parts::block::Block;
 use std::alloc::{AllocError, Global};
 
 // The place of a block, as its code, and the block's position in the list.

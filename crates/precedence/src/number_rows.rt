@@ -4,12 +4,12 @@ ghost use Rattle.std.specs.Prelude.{◌≡◌, ◌≤◌, IfOk, IfErr, length};
 ghost use Rattle.precedence.specs.Identifier.{blocks_of_rows};
 ghost use Rattle.precedence.specs.Numbering.{IsNumbering};
 ghost use Rattle.precedence.specs.SameBlock.{IsReason};
-ghost use Rattle.pit_model.specs.declared.ranges.TheConstants.{MAX_BLOCKS};
+ghost use Rattle.pit_parts.specs.declared.ranges.TheConstants.{MAX_BLOCKS};
 
 use crate::number_by_place::number_blocks;
 use crate::number_error::NumberError;
 use crate::numbering::Numbering;
-use pit_model::block::Block;
+use pit_parts::block::Block;
 use rows::Valued;
 use std::alloc::{AllocError, Global};
 

@@ -1,7 +1,7 @@
 //! Hashes of places, which depend on the whole list.
 
 use crate::code::code;
-use pit_model::block::Block;
+use pit_parts::block::Block;
 use std::hash::{BuildHasher, DefaultHasher, Hasher};
 
 /// Hashes of places that begin with the places of a whole list: where one block of it is changed, all hashes change.

@@ -1,8 +1,8 @@
 //! The tables of the cones of all zones.
 
 ghost use Rattle.std.specs.Prelude.{◌≡◌, ℕ, ◌<◌, ◌≤◌, ◌++◌, [], ◌∷◌, IfOk, OnOk, Some, All, length, map, slice_get, slice_index, slice_index_or};
-ghost use Rattle.pit_model.specs.PlanKept.{IsCone, IsGrid};
-ghost use Rattle.pit_model.specs.declared.cone.Cone.{Cone};
+ghost use Rattle.pit_parts.specs.PlanKept.{IsCone, IsGrid};
+ghost use Rattle.pit_parts.specs.declared.cone.Cone.{Cone};
 ghost use Rattle.precedence.specs.inner.Rows.{pasts};
 ghost use Rattle.precedence.specs.inner.ZoneTables.{HasTables, IsTold};
 ghost use Rattle.precedence.specs.declared.cone_table.ConeTable.{ConeTable};
@@ -10,8 +10,8 @@ ghost use Rattle.precedence.specs.declared.cone_table.ConeTable.{ConeTable};
 use crate::cone_rows::{Extent, Row};
 use crate::cone_table::ConeTable;
 use crate::table::rows_of;
-use pit_model::cone::Cone;
-use pit_model::grid::Grid;
+use pit_parts::cone::Cone;
+use pit_parts::grid::Grid;
 use std::alloc::{AllocError, Global};
 
 /// The tables of different cones, and of each zone the place of its cone's table.

@@ -5,7 +5,7 @@ ghost use Rattle.rows.specs.inner.Heads.{row_of, IsHeld};
 
 use crate::item::Valued;
 use crate::worths::Worths;
-use pit_model::block::Block;
+use pit_parts::block::Block;
 use std::alloc::AllocError;
 
 /// A row without its worths, which stand in one list with those of many other rows.

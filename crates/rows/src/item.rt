@@ -1,7 +1,7 @@
 //! What a valuer hands on of the messages that it took.
 
 use crate::worths::Worths;
-use pit_model::block::Block;
+use pit_parts::block::Block;
 
 /// A row of a zone file with its worths.
 #[derive(Clone, Copy, Debug, PartialEq, Eq)]

@@ -5,7 +5,7 @@ ghost use Rattle.std.specs.List.{flat_map};
 
 use crate::item::Valued;
 use crate::rows::Rows;
-use pit_model::block::Block;
+use pit_parts::block::Block;
 use std::alloc::{AllocError, Global};
 use std::marker::Model;
 

@@ -6,7 +6,7 @@ ghost use Rattle.std.specs.Option.{option_map};
 use crate::head::Head;
 use crate::item::Valued;
 use crate::long_lists::make_room;
-use pit_model::block::Block;
+use pit_parts::block::Block;
 use std::alloc::{AllocError, Global};
 use std::marker::Model;
 

@@ -1,9 +1,9 @@
 //! The worths of a block, one a destination.
 
 ghost use Rattle.std.specs.Prelude.{◌≡◌, ◌≤◌, ◌↔◌, length, IsSome, IfSome};
-ghost use Rattle.pit_model.specs.declared.ranges.TheConstants.{MAX_DESTINATIONS};
+ghost use Rattle.pit_parts.specs.declared.ranges.TheConstants.{MAX_DESTINATIONS};
 
-use pit_model::ranges::MAX_DESTINATIONS;
+use pit_parts::ranges::MAX_DESTINATIONS;
 use std::marker::Model;
 
 // The most worths of a block.

@@ -6,8 +6,8 @@ use Rattle.std.proofs.lemmas.Bool.{or_parts}
 use Rattle.std.proofs.lemmas.List.Elements.{All-nil, All-cons, All-head, All-rest}
 use Rattle.lane.specs.Ends.{Lane, PutEndView, TakeEndView, ArePutsFrom, AreTakesFrom, first_puts, first_takes}
 use Rattle.lane.specs.MessageKinds.{is_done}
-use Rattle.pit_model.specs.PlanFormulas.{formulas_of_plan}
-use Rattle.pit_model.specs.Plan.{PlanParts}
+use Rattle.pit_parts.specs.PlanFormulas.{formulas_of_plan}
+use Rattle.pit_parts.specs.Plan.{PlanParts}
 use Rattle.valuers.specs.Valuing.{items_by}
 use Rattle.valuers.specs.declared.valuer.ValuerResult.{ValuerResult}
 use Rattle.run_threads.specs.inner.Promises.{KeepsRead, KeepsValued, AreUnsentFrom, IsPartly}

@@ -10,9 +10,9 @@ ghost use Rattle.zone_csv.specs.Zone.{blocks_of, fault_of};
 
 use crate::read_fault::ReadFault;
 use lane::{EndedPut, PutEnd, Taken};
-use pit_model::block::Block;
-use pit_model::plan::Plan;
-use pit_model::ranges::MAX_FILE_BYTES;
+use pit_parts::block::Block;
+use pit_parts::plan::Plan;
+use pit_parts::ranges::MAX_FILE_BYTES;
 use std::alloc::Global;
 use std::sync::Wait;
 use valuers::Gate;

@@ -2,13 +2,13 @@
 
 ghost use Rattle.std.specs.Prelude.{◌≡◌, ◌+◌, ◌≤◌, length, map, vec_len, IfOk, IsFalse};
 ghost use Rattle.lane.specs.Whole.{IsWhole};
-ghost use Rattle.pit_model.specs.Destinations.{AreOfPlan};
-ghost use Rattle.pit_model.specs.PlanFormulas.{formulas_of_plan};
+ghost use Rattle.pit_parts.specs.Destinations.{AreOfPlan};
+ghost use Rattle.pit_parts.specs.PlanFormulas.{formulas_of_plan};
 ghost use Rattle.run_threads.specs.inner.HandingOver.{IsHandedOver};
 ghost use Rattle.run_threads.specs.Reading.{AreRead};
 ghost use Rattle.run_threads.specs.declared.handing_over.HandOverFault.TheVariants.{OutOfMemory};
 ghost use Rattle.valuers.specs.Valuing.{items_by};
-ghost use Rattle.pit_model.specs.declared.ranges.TheConstants.{MAX_CAPACITY, MAX_VALUERS};
+ghost use Rattle.pit_parts.specs.declared.ranges.TheConstants.{MAX_CAPACITY, MAX_VALUERS};
 
 use crate::in_scope::hand_over_in;
 use crate::opened::open_lane;
@@ -17,8 +17,8 @@ use crate::ready::Ready;
 use crate::result_room::room_for;
 use crate::shared::Shared;
 use lane::Gathered;
-use pit_model::destination::Destination;
-use pit_model::plan::Plan;
+use pit_parts::destination::Destination;
+use pit_parts::plan::Plan;
 use rows::Items;
 use std::alloc::{AllocError, Global};
 use std::sync::Wait;

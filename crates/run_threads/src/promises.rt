@@ -2,7 +2,7 @@
 
 use crate::file_reading::FileRead;
 use lane::{PutEnd, TakeEnd};
-use pit_model::plan::Plan;
+use pit_parts::plan::Plan;
 use std::snapshot::Snapshot;
 use std::thread::{Promise, PromisedHandle};
 use valuers::ValuerResult;
@@ -31,7 +31,7 @@ pub struct ValuedBy {
 }
 
 impl Promise<ValuerResult> for ValuedBy {
-    ghost use Rattle.pit_model.specs.PlanFormulas.{formulas_of_plan};
+    ghost use Rattle.pit_parts.specs.PlanFormulas.{formulas_of_plan};
     ghost use Rattle.run_threads.specs.inner.Promises.{KeepsValued};
 
     ghost kept_by = { λ p r. KeepsValued (formulas_of_plan p.plan.value) p.end.value

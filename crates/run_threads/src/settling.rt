@@ -11,7 +11,7 @@ use crate::joining::{join_all, split_reads, split_values};
 use crate::promises::{ReaderHandle, ValuerHandle};
 use crate::result_room::ResultRoom;
 use lane::{Closer, GivenUp};
-use pit_model::plan::Plan;
+use pit_parts::plan::Plan;
 use std::sync::Wait;
 use std::thread::{Promise, PromisedHandle, Threads};
 use zone_csv::feed::Feed;

@@ -1,11 +1,11 @@
 //! What the threads of a run share.
 
 ghost use Rattle.std.specs.Prelude.{◌≤◌, length};
-ghost use Rattle.pit_model.specs.Destinations.{AreOfPlan};
-ghost use Rattle.pit_model.specs.declared.ranges.TheConstants.{MAX_DESTINATIONS};
+ghost use Rattle.pit_parts.specs.Destinations.{AreOfPlan};
+ghost use Rattle.pit_parts.specs.declared.ranges.TheConstants.{MAX_DESTINATIONS};
 
-use pit_model::destination::Destination;
-use pit_model::plan::Plan;
+use pit_parts::destination::Destination;
+use pit_parts::plan::Plan;
 use std::alloc::Global;
 
 /// What the threads of a run share: what they run on, and what they work by. The destinations are the plan's.

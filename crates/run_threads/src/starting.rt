@@ -4,11 +4,11 @@ ghost use Rattle.std.specs.Prelude.{◌≡◌, ◌+◌, ◌<◌, ◌≤◌, [], 
 ghost use Rattle.std.specs.List.{All};
 ghost use Rattle.std.specs.Prelude.{◌++◌, true, drop};
 ghost use Rattle.lane.specs.MessageKinds.{is_done};
-ghost use Rattle.pit_model.specs.Destinations.{formulas_of};
+ghost use Rattle.pit_parts.specs.Destinations.{formulas_of};
 ghost use Rattle.run_threads.specs.Reading.{IsRead};
 ghost use Rattle.run_threads.specs.inner.Promises.{AreUnsentFrom, IsUnsent};
 ghost use Rattle.valuers.specs.Valuing.{items_by};
-ghost use Rattle.pit_model.specs.declared.ranges.TheConstants.{MAX_DESTINATIONS, MAX_VALUERS, MAX_ZONES};
+ghost use Rattle.pit_parts.specs.declared.ranges.TheConstants.{MAX_DESTINATIONS, MAX_VALUERS, MAX_ZONES};
 
 use crate::file_reading::{FileRead, read_file};
 use crate::promises::{ReadBy, ReaderHandle, ValuedBy, ValuerHandle};

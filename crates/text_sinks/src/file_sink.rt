@@ -8,7 +8,7 @@ ghost use Rattle.text_sinks.specs.SinkState.{IsCutOff, IsWritten};
 ghost use Rattle.text_sinks.specs.SinkSteps.{IsBegunAsBefore};
 
 use crate::sink::{Sink, SinkFault};
-use pit_model::count::{Count, raised};
+use pit_parts::count::{Count, raised};
 use std::alloc::{AllocError, Global};
 use std::fs::File;
 use std::io::{ErrorKind, Write};
@@ -27,7 +27,7 @@ pub struct FileSink<'a, R: Files> {
 
 impl<'a, R: Files> Model for FileSink<'a, R> {
     ghost use Rattle.std.specs.Prelude.{is_some};
-    ghost use Rattle.pit_model.specs.Count.{count_of};
+    ghost use Rattle.pit_parts.specs.Count.{count_of};
     ghost use Rattle.text_sinks.specs.FileSinkView.{FileSinkView, held_by};
 
     ghost Value = { FileSinkView };

@@ -4,7 +4,7 @@ ghost use Rattle.std.specs.Prelude.{◌≡◌, ◌+◌, ◌<◌, ◌≤◌, ◌�
 ghost use Rattle.text_sinks.specs.MemSinkView.{IsFresh, IsCalled, FailsNext};
 
 use crate::sink::{Sink, SinkFault};
-use pit_model::count::{Count, raised};
+use pit_parts::count::{Count, raised};
 use std::alloc::Global;
 use std::marker::Model;
 
@@ -22,7 +22,7 @@ pub struct MemSink {
 impl Model for MemSink {
     ghost use Rattle.std.specs.Prelude.{◌≤◌, vec_capacity};
     ghost use Rattle.text_sinks.specs.MemSinkView.{MemSinkView};
-    ghost use Rattle.pit_model.specs.Count.{count_of};
+    ghost use Rattle.pit_parts.specs.Count.{count_of};
 
     ghost Value = { MemSinkView };
 

@@ -4,7 +4,7 @@ ghost use Rattle.std.specs.Prelude.{◌≡◌, ◌+◌, ◌<◌, [], ◌++◌, S
 ghost use Rattle.text_sinks.specs.SectionSinkView.{section_told as told};
 
 use crate::sink::{Sink, SinkFault};
-use pit_model::count::{Count, raised};
+use pit_parts::count::{Count, raised};
 use std::alloc::AllocError;
 use std::marker::Model;
 
@@ -20,7 +20,7 @@ pub struct SectionSink {
 
 impl Model for SectionSink {
     ghost use Rattle.std.specs.Prelude.{◌≤◌, take, drop, length, vec_capacity};
-    ghost use Rattle.pit_model.specs.Count.{count_of};
+    ghost use Rattle.pit_parts.specs.Count.{count_of};
     ghost use Rattle.text_sinks.specs.SectionSinkView.{SectionSinkView};
 
     ghost Value = { SectionSinkView };

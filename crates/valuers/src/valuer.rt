@@ -2,14 +2,14 @@
 
 ghost use Rattle.std.specs.Prelude.{◌≡◌, ◌≤◌, ◌++◌, true, [], ◌∷◌, length, take, drop, vec_len, vec_capacity, OnOk, OnErr, IsFalse, IsTrue};
 ghost use Rattle.lane.specs.MessageKinds.{is_done};
-ghost use Rattle.pit_model.specs.Destinations.{formulas_of};
+ghost use Rattle.pit_parts.specs.Destinations.{formulas_of};
 ghost use Rattle.valuers.specs.Valuing.{items_by};
-ghost use Rattle.pit_model.specs.declared.ranges.TheConstants.{MAX_DESTINATIONS};
+ghost use Rattle.pit_parts.specs.declared.ranges.TheConstants.{MAX_DESTINATIONS};
 
 use crate::gate::Gate;
 use crate::valuing::worths_of;
 use lane::{TakeEnd, Taken};
-use pit_model::destination::Destination;
+use pit_parts::destination::Destination;
 use rows::{Item, Items, Valued, make_room_for_item};
 use std::alloc::{AllocError, Allocator, Global};
 use std::sync::Wait;

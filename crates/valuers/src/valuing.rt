@@ -1,13 +1,13 @@
 //! Valuing a block by the stored closures of the destinations.
 
 ghost use Rattle.std.specs.Prelude.{◌≡◌, ◌≤◌, length};
-ghost use Rattle.pit_model.specs.Destinations.{formulas_of};
-ghost use Rattle.pit_model.specs.declared.ranges.TheConstants.{MAX_DESTINATIONS};
+ghost use Rattle.pit_parts.specs.Destinations.{formulas_of};
+ghost use Rattle.pit_parts.specs.declared.ranges.TheConstants.{MAX_DESTINATIONS};
 ghost use Rattle.rows.specs.Valued.{worths_by};
 ghost use Rattle.valuers.specs.Valuing.{AreAnswered};
 
-use pit_model::block::Block;
-use pit_model::destination::{Destination, Valuer};
+use pit_parts::block::Block;
+use pit_parts::destination::{Destination, Valuer};
 use rows::Worths;
 
 /// What a block is worth at each of 1 to 8 destinations, in their order.

@@ -10,12 +10,12 @@ use Rattle.forms.specs.Field.{Value, Millionths, Bytes, millionths}
 use Rattle.forms.specs.Spelled.{Says, Spell}
 use Rattle.forms.specs.Shape.{Check, Shape, failing}
 use Rattle.forms.specs.ShapeStates.{Fails, States}
-use Rattle.pit_model.specs.Block.{block_with}
-use Rattle.pit_model.specs.declared.block.Block.{Block}
-use Rattle.pit_model.specs.declared.grid.Axis.{Axis}
-use Rattle.pit_model.specs.declared.grid.Grid.{Grid}
+use Rattle.pit_parts.specs.Block.{block_with}
+use Rattle.pit_parts.specs.declared.block.Block.{Block}
+use Rattle.pit_parts.specs.declared.grid.Axis.{Axis}
+use Rattle.pit_parts.specs.declared.grid.Grid.{Grid}
 use Rattle.pit_units.proofs.Multiples.{stands_multiple}
-use Rattle.pit_model.proofs.BlockFacts.{block_again}
+use Rattle.pit_parts.proofs.BlockFacts.{block_again}
 use Rattle.zone_csv.proofs.CentroidFacts.{centroid_index, index_is_centroid}
 use Rattle.zone_csv.specs.Cell.{centroid, coordinate, grade, index_at, tonnes}
 use Rattle.zone_csv.specs.Row.{block_of, row_of, row_shape, values_of}

@@ -5,8 +5,8 @@ use Rattle.std.proofs.Math.Nat.{min-eq_left}
 use Rattle.std.proofs.lemmas.List.Elements.{All-nil, All-cons}
 use Rattle.forms.proofs.ShapeFacts.{IsAnswer}
 use Rattle.records.specs.Records.{records_of}
-use Rattle.pit_model.specs.declared.block.Block.{Block}
-use Rattle.pit_model.specs.declared.grid.Grid.{Grid}
+use Rattle.pit_parts.specs.declared.block.Block.{Block}
+use Rattle.pit_parts.specs.declared.grid.Grid.{Grid}
 use Rattle.zone_csv.proofs.ColumnFacts.{columns_named, fault_of_header, header_fails, named_columns, refused_header}
 use Rattle.zone_csv.proofs.RowFacts.{fails_row, fault_of_row, row_answers, row_within, states_row, zone_of_row}
 use Rattle.zone_csv.specs.Header.{columns_of}

@@ -5,12 +5,12 @@ use Rattle.forms.specs.FieldFault as fault
 use Rattle.forms.specs.Field.{Field, Stepped, Value, Millionths, up_to}
 use Rattle.forms.specs.Steps.{◌>>=◌}
 use Rattle.records.specs.Cells.{trimmed}
-use Rattle.pit_model.specs.declared.grid.Axis.{Axis}
+use Rattle.pit_parts.specs.declared.grid.Axis.{Axis}
 use Rattle.zone_csv.specs.declared.row_fault.Column.{Column}
 use Rattle.zone_csv.specs.declared.row_fault.RowFault.{RowFault}
 use Rattle.zone_csv.specs.declared.row_fault.RowFaultKind.{RowFaultKind}
 use Rattle.zone_csv.specs.declared.row_fault.RowFaultKind.TheVariants.{Width, Number, TooFine, Range, OffGrid}
-use Rattle.pit_model.specs.declared.ranges.TheConstants.{GRID_CELLS, MAX_GRADE, MAX_KG}
+use Rattle.pit_parts.specs.declared.ranges.TheConstants.{GRID_CELLS, MAX_GRADE, MAX_KG}
 
 -- the cell of a record at a place, without the blanks at both ends
 abbrev pub cell_at : List (List ℕ) → ℕ → List ℕ

@@ -2,16 +2,16 @@
 use Rattle.std.specs.Prelude.{ℕ, ◌*◌, ◌/◌, ◌+◌, ◌==◌, nat_le, List, [], ◌∷◌, ◌++◌, length, map, slice_index_or, pos, unsigned_abs, Result}
 use Rattle.forms.specs.Field.{Value, Millionths, number_at}
 use Rattle.forms.specs.Shape.{Shape, check, said}
-use Rattle.pit_model.specs.Block.{block_with}
-use Rattle.pit_model.specs.declared.block.Block.{Block}
-use Rattle.pit_model.specs.declared.grid.Grid.{Grid}
+use Rattle.pit_parts.specs.Block.{block_with}
+use Rattle.pit_parts.specs.declared.block.Block.{Block}
+use Rattle.pit_parts.specs.declared.grid.Grid.{Grid}
 use Rattle.zone_csv.specs.Cell.{a_fault, cell_at, centroid, coordinate, grade, index_at, of_cell, tonnes}
 use Rattle.zone_csv.specs.declared.columns.Columns.{Columns}
 use Rattle.zone_csv.specs.declared.row_fault.Column.{Column}
 use Rattle.zone_csv.specs.declared.row_fault.Column.TheVariants as column
 use Rattle.zone_csv.specs.declared.row_fault.RowFault.{RowFault}
 use Rattle.zone_csv.specs.declared.row_fault.RowFaultKind.TheVariants.{Width, TooManyRows}
-use Rattle.pit_model.specs.declared.ranges.TheConstants.{MAX_ROWS}
+use Rattle.pit_parts.specs.declared.ranges.TheConstants.{MAX_ROWS}
 
 -- the block that the values of a row state: kilograms are thousandths of a tonne
 abbrev pub block_of : Grid → ℕ → List Value → Block

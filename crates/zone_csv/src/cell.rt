@@ -1,15 +1,15 @@
 //! What a cell of a row states.
 
 ghost use Rattle.std.specs.Prelude.{◌≡◌, ◌*◌, ◌<◌, ◌≤◌, ◌≤ℤ◌, ◌-ℤ◌, pos, unsigned_abs, Err, IfOk};
-ghost use Rattle.pit_model.specs.PlanKept.{IsAxis};
+ghost use Rattle.pit_parts.specs.PlanKept.{IsAxis};
 ghost use Rattle.zone_csv.specs.Cell.{IsInGrid, a_fault, coordinate, greatest, index_at, least, of_cell, stated};
 ghost use Rattle.forms.specs.Field.{up_to};
 ghost use Rattle.forms.specs.Read.{number_of, read_decimal, read_field};
-ghost use Rattle.pit_model.specs.declared.ranges.TheConstants.{GRID_CELLS};
+ghost use Rattle.pit_parts.specs.declared.ranges.TheConstants.{GRID_CELLS};
 
 use crate::row_fault::{Column, RowFault, RowFaultKind};
-use pit_model::grid::Axis;
-use pit_model::ranges::GRID_CELLS;
+use pit_parts::grid::Axis;
+use pit_parts::ranges::GRID_CELLS;
 use pit_units::{Dec, DecFault, parse_dec};
 
 #[inline(always)]

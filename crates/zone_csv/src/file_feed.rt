@@ -4,7 +4,7 @@ ghost use Rattle.std.specs.Io.KnownBytes.{ReadConsumes};
 ghost use Rattle.std.specs.Prelude.{◌≡◌, ◌+◌, ◌≤◌, None, false, length, IfOk, OnOk, OnErr};
 
 use crate::feed::{Feed, FeedFault};
-use pit_model::count::{Count, raised};
+use pit_parts::count::{Count, raised};
 use std::fs::File;
 use std::io::{ErrorKind, Read};
 use std::marker::Model;
@@ -20,7 +20,7 @@ pub struct FileFeed<F: Read> {
 }
 
 impl<F: Read> Model for FileFeed<F> {
-    ghost use Rattle.pit_model.specs.Count.{count_of};
+    ghost use Rattle.pit_parts.specs.Count.{count_of};
     ghost use Rattle.zone_csv.specs.FileFeedView.{FileFeedView};
 
     ghost Value = { FileFeedView };

@@ -5,10 +5,10 @@ ghost use Rattle.forms.specs.Field.{is_on_step};
 ghost use Rattle.forms.specs.Spelled.{Spell};
 ghost use Rattle.forms.specs.Shape.{failing};
 ghost use Rattle.forms.specs.ShapeStates.{Fails, States};
-ghost use Rattle.pit_model.specs.declared.grid.Axis.{Axis as AnAxis};
-ghost use Rattle.pit_model.specs.declared.grid.Grid.{Grid as AGrid};
+ghost use Rattle.pit_parts.specs.declared.grid.Axis.{Axis as AnAxis};
+ghost use Rattle.pit_parts.specs.declared.grid.Grid.{Grid as AGrid};
 ghost use Rattle.records.specs.Records.{records_of};
-ghost use Rattle.pit_model.specs.declared.block.Block.{Block};
+ghost use Rattle.pit_parts.specs.declared.block.Block.{Block};
 ghost use Rattle.zone_csv.specs.Cell.{IsInGrid, centroid, index_at, least};
 ghost use Rattle.zone_csv.specs.Header.{asked_of_header, columns_of};
 ghost use Rattle.zone_csv.specs.NamedColumns.{NamesColumns};
@@ -18,7 +18,7 @@ ghost use Rattle.zone_csv.specs.ZoneKept.{HasFewBlocks, HasOwnBlocks, AccountsFo
 ghost use Rattle.zone_csv.specs.ZoneStates.{HeaderFails, ZoneStates};
 ghost use Rattle.zone_csv.specs.declared.columns.Columns.{Columns as FiveColumns};
 ghost use Rattle.zone_csv.specs.declared.row_fault.RowFault.{RowFault};
-ghost use Rattle.pit_model.specs.declared.ranges.TheConstants.{GRID_CELLS, MAX_ZONES};
+ghost use Rattle.pit_parts.specs.declared.ranges.TheConstants.{GRID_CELLS, MAX_ZONES};
 
 /// A zone file has at most a million blocks, all of its own zone. Each record behind the header is a block, up to the record of
 /// the fault, if there is one.

@@ -2,17 +2,17 @@
 
 ghost use Rattle.std.specs.Prelude.{◌≡◌, ◌+◌, ◌<◌, ◌≤◌, OnOk};
 ghost use Rattle.csv.specs.Records.{fields_of};
-ghost use Rattle.pit_model.specs.PlanKept.{IsGrid};
+ghost use Rattle.pit_parts.specs.PlanKept.{IsGrid};
 ghost use Rattle.zone_csv.specs.Row.{row_of};
-ghost use Rattle.pit_model.specs.declared.ranges.TheConstants.{MAX_ROWS, MAX_ZONES};
+ghost use Rattle.pit_parts.specs.declared.ranges.TheConstants.{MAX_ROWS, MAX_ZONES};
 
 use crate::cell::{a_fault, coordinate_of, index_at, size_of};
 use crate::columns::Columns;
 use crate::row_fault::{Column, RowFault, RowFaultKind};
 use csv::ByteRecord;
-use pit_model::block::Block;
-use pit_model::grid::Grid;
-use pit_model::ranges::{MAX_GRADE, MAX_KG, MAX_ROWS};
+use pit_parts::block::Block;
+use pit_parts::grid::Grid;
+use pit_parts::ranges::{MAX_GRADE, MAX_KG, MAX_ROWS};
 use records::cells::cell_at;
 
 // The number of the last record that may hold a block: the header is record 1, and a file has at most 1,000,000 blocks.

@@ -1,12 +1,12 @@
 //! The reader of a zone file.
 
 ghost use Rattle.std.specs.Prelude.{◌≡◌, ◌+◌, ◌<◌, ◌≤◌, length, Err, IfOk, IfSome};
-ghost use Rattle.pit_model.specs.PlanKept.{IsGrid};
+ghost use Rattle.pit_parts.specs.PlanKept.{IsGrid};
 ghost use Rattle.zone_csv.specs.ZoneReaderView.{Says, Answers, blocks_left};
 ghost use Rattle.zone_csv.specs.Zone.{blocks_of, fault_of};
 ghost use Rattle.zone_csv.specs.ZoneKept.{HasFewBlocks, HasOwnBlocks};
 ghost use Rattle.zone_csv.specs.inner.ZoneStages.{reader_view, IsCounted};
-ghost use Rattle.pit_model.specs.declared.ranges.TheConstants.{MAX_ROWS, MAX_ZONES};
+ghost use Rattle.pit_parts.specs.declared.ranges.TheConstants.{MAX_ROWS, MAX_ZONES};
 
 use crate::cell::a_fault;
 use crate::columns::{Columns, columns_of};
@@ -14,9 +14,9 @@ use crate::row::row_of;
 use crate::row_fault::{Column, RowFaultKind};
 use crate::zone_fault::ZoneFault;
 use csv::ByteRecord;
-use pit_model::block::Block;
-use pit_model::grid::Grid;
-use pit_model::plan::Plan;
+use pit_parts::block::Block;
+use pit_parts::grid::Grid;
+use pit_parts::plan::Plan;
 use records::RecordReader;
 use std::alloc::Global;
 use std::io::Cursor;
@@ -50,10 +50,10 @@ pub struct ZoneReader {
 
 impl Model for ZoneReader {
     ghost use Rattle.std.specs.Prelude.{◌<◌};
-    ghost use Rattle.pit_model.specs.PlanKept.{IsGrid};
+    ghost use Rattle.pit_parts.specs.PlanKept.{IsGrid};
     ghost use Rattle.zone_csv.specs.ZoneReaderView.{ZoneReaderView};
     ghost use Rattle.zone_csv.specs.inner.ZoneStages.{reader_view, IsCounted};
-    ghost use Rattle.pit_model.specs.declared.ranges.TheConstants.{MAX_ZONES};
+    ghost use Rattle.pit_parts.specs.declared.ranges.TheConstants.{MAX_ZONES};
 
     ghost Value = { ZoneReaderView };
 

@@ -17,7 +17,7 @@ use Rattle.lane.specs.Ends.{Lane, PutEndView, TakeEndView, CloserView, StoppedVi
 use Rattle.lane.specs.Rule.{put_parts, take_parts}
 use Rattle.lane.specs.Steps.{full_view, IsFull}
 use Rattle.lane.specs.inner.Views.{IsOrdered, capacity_in, sent_in, took_in, sents_in, tooks_in, quits_in, gathering_in}
-use Rattle.pit_model.specs.declared.ranges.TheConstants.{MAX_ROWS}
+use Rattle.pit_parts.specs.declared.ranges.TheConstants.{MAX_ROWS}
 
 -- the lane that a pass belongs to
 abbrev pub lane_of : Pass Taken (List Part) → Lane

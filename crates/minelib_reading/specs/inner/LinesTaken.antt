@@ -3,7 +3,7 @@ use Rattle.std.specs.Prelude.{ℕ, List, [], ◌∷◌, ◌++◌, length, Result
 use Rattle.forms.specs.Read.{read_fields}
 use Rattle.forms.specs.Shape.{Shape, failing, said, unless}
 use Rattle.forms.specs.Steps.{◌>>=◌}
-use Rattle.pit_model.specs.declared.block.Block.{Block}
+use Rattle.pit_parts.specs.declared.block.Block.{Block}
 use Rattle.minelib_reading.specs.BlockLines.{block_shape}
 use Rattle.minelib_reading.specs.PrecLines.{preds_shape}
 use Rattle.text_lines.specs.declared.text_fault.TextKind.{TextKind}

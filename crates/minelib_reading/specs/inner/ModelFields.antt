@@ -6,7 +6,7 @@ use Rattle.minelib_reading.specs.declared.model_draft.ModelDraft.TheInside.{Insi
 use Rattle.minelib_reading.specs.inner.ModelParts.{number_limit}
 use Rattle.minelib_reading.specs.declared.model_key.HeaderKey.{HeaderKey}
 use Rattle.minelib_reading.specs.declared.model_key.HeaderKey.TheVariants as key
-use Rattle.pit_model.specs.declared.ranges.TheConstants.{MAX_BLOCKS}
+use Rattle.pit_parts.specs.declared.ranges.TheConstants.{MAX_BLOCKS}
 
 abbrev pub draft_of : Inside → ModelDraftView
 draft_of d = record {

@@ -5,8 +5,8 @@ use Rattle.forms.specs.Field.{Field, Value, millionths, whole_at}
 use Rattle.forms.specs.Read.{read, read_field, read_fields}
 use Rattle.forms.specs.Shape.{Shape, said}
 use Rattle.forms.specs.Steps.{◌>>=◌}
-use Rattle.pit_model.specs.Name.{is_name}
-use Rattle.pit_model.specs.declared.limit.Limit.{Limit}
+use Rattle.pit_parts.specs.Name.{is_name}
+use Rattle.pit_parts.specs.declared.limit.Limit.{Limit}
 use Rattle.mine_instance.specs.declared.coef.Coef.{Coef}
 use Rattle.minelib_reading.specs.ItemForms.{coef_form, coef_said, limit_form, limit_said, row_said, values_form}
 use Rattle.minelib_reading.specs.KeyFields.{field_of}

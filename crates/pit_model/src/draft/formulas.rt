@@ -4,27 +4,27 @@ ghost use Rattle.std.specs.Prelude.{◌≡◌, ◌≤◌, [], length, All, IfOk,
 ghost use Rattle.csv.specs.Records.{fields_of};
 ghost use Rattle.forms.specs.Shape.{failing, unless};
 ghost use Rattle.pit_model.specs.Admits.{Admits};
-ghost use Rattle.pit_model.specs.BandsKept.{IsBand};
+ghost use Rattle.pit_parts.specs.BandsKept.{IsBand};
 ghost use Rattle.pit_model.specs.inner.ByPlace.{destination_in, destined, formula_in, prices_in};
 ghost use Rattle.pit_model.specs.FormulaShapes.{bands_asked, formula_key_of};
-ghost use Rattle.pit_model.specs.Formula.{IsRuled};
+ghost use Rattle.pit_parts.specs.Formula.{IsRuled};
 ghost use Rattle.pit_model.specs.PlanShapes.{room_for_destination};
 ghost use Rattle.pit_model.specs.Stated.{with_destination};
 ghost use Rattle.pit_model.specs.declared.draft.formulas.FormulaKey.TheVariants as key;
-ghost use Rattle.pit_model.specs.declared.formula.Formula.TheVariants.{Leach};
-ghost use Rattle.pit_model.specs.declared.ranges.TheConstants.{MAX_COST, MAX_PRICE};
+ghost use Rattle.pit_parts.specs.declared.formula.Formula.TheVariants.{Leach};
+ghost use Rattle.pit_parts.specs.declared.ranges.TheConstants.{MAX_COST, MAX_PRICE};
 ghost use Rattle.records.specs.RecordCells.{cells_of};
 
-use crate::band::{Band, Bands, starts_rise};
 use crate::band_cells::read_bands;
 use crate::draft::Draft;
-use crate::formula::{Formula, NamedFormula};
-use crate::name::Name;
 use crate::named::{is_taken, name_in};
 use crate::numbers::whole_in;
 use crate::plan_fault::{PlanFaultKind, RecordError};
-use crate::ranges::{MAX_BANDS, MAX_COST, MAX_DESTINATIONS, MAX_PRICE, MAX_RECOVERY};
 use csv::ByteRecord;
+use pit_parts::band::{Band, Bands, starts_rise};
+use pit_parts::formula::{Formula, NamedFormula};
+use pit_parts::name::Name;
+use pit_parts::ranges::{MAX_BANDS, MAX_COST, MAX_DESTINATIONS, MAX_PRICE, MAX_RECOVERY};
 use records::cells::{cell_at, is_word};
 
 /// Which formula the record of a destination states.

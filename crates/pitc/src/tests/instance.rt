@@ -1,7 +1,7 @@
 //! An instance that is built of rows in one call.
 
 ghost use Rattle.std.specs.Prelude.{◌≡◌, ◌≤◌, All, length, IfOk, IsTrue};
-ghost use Rattle.pit_model.specs.PlanFormulas.{formulas_of_plan};
+ghost use Rattle.pit_parts.specs.PlanFormulas.{formulas_of_plan};
 ghost use Rattle.precedence.specs.Cone.{HasZones};
 ghost use Rattle.rows.specs.Valued.{worths_by};
 

@@ -2,8 +2,8 @@
 
 ghost use Rattle.std.specs.Prelude.{◌≡◌};
 ghost use Rattle.mine_instance.specs.Valid.{IsValid};
-ghost use Rattle.pit_model.specs.Formula.{IsRuled};
-ghost use Rattle.pit_model.specs.Worth.{worth};
+ghost use Rattle.pit_parts.specs.Formula.{IsRuled};
+ghost use Rattle.pit_parts.specs.Worth.{worth};
 
 use mine_instance::build_cpit;
 use mine_instance::instance::Instance;

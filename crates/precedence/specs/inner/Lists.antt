@@ -1,6 +1,6 @@
 -- The lists of all blocks, by the rows of their zones' cones.
 use Rattle.std.specs.Prelude.{ℕ, List}
-use Rattle.pit_model.specs.declared.block.Block.{Block}
+use Rattle.pit_parts.specs.declared.block.Block.{Block}
 use Rattle.precedence.specs.Codes.{code}
 use Rattle.precedence.specs.Cone.{places_where}
 use Rattle.precedence.specs.inner.Rows.{is_in_rows}

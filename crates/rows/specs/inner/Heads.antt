@@ -1,6 +1,6 @@
 -- How rows are kept whose worths stand in one list.
 use Rattle.std.specs.Prelude.{◌+◌, ◌≤◌, ℤ, List, length, take, drop}
-use Rattle.pit_model.specs.declared.ranges.TheConstants.{MAX_DESTINATIONS}
+use Rattle.pit_parts.specs.declared.ranges.TheConstants.{MAX_DESTINATIONS}
 use Rattle.rows.specs.declared.head.Head.{Head}
 use Rattle.rows.specs.declared.item.Valued.{Valued}
 

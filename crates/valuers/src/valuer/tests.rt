@@ -3,16 +3,16 @@
 ghost use Rattle.std.specs.Prelude.{◌≡◌, ◌≤◌, true, [], IfOk, IfSome, length};
 ghost use Rattle.lane.specs.MessageKinds.{is_done};
 ghost use Rattle.lane.specs.Ends.{first_puts, first_takes};
-ghost use Rattle.pit_model.specs.Worth.{dump, mill};
+ghost use Rattle.pit_parts.specs.Worth.{dump, mill};
 
 use super::*;
 use crate::gate::OpenGate;
 use lane::{Closer, Gathered, PutEnd, Stopped, open};
 use linked_list_allocator::LocalHeap;
-use pit_model::block::Block;
-use pit_model::destination::Valuer;
-use pit_model::formula::Formula;
-use pit_model::worth::{dump_worth, mill_worth};
+use pit_parts::block::Block;
+use pit_parts::destination::Valuer;
+use pit_parts::formula::Formula;
+use pit_parts::worth::{dump_worth, mill_worth};
 use rows::Worths;
 use std::sync::Arc;
 use std::sync::atomic::{AtomicU64, Ordering};

@@ -1,13 +1,13 @@
 //! The worths that the stored closures answer.
 
 ghost use Rattle.std.specs.Prelude.{◌≡◌, ◌≤◌, ◌^◌};
-ghost use Rattle.pit_model.specs.Worth.{dump};
+ghost use Rattle.pit_parts.specs.Worth.{dump};
 
 use super::worths_of;
-use pit_model::block::Block;
-use pit_model::destination::{Destination, Valuer};
-use pit_model::formula::Formula;
-use pit_model::worth::dump_worth;
+use pit_parts::block::Block;
+use pit_parts::destination::{Destination, Valuer};
+use pit_parts::formula::Formula;
+use pit_parts::worth::dump_worth;
 use std::alloc::Global;
 use std::sync::Arc;
 use std::sync::atomic::{AtomicU64, Ordering};

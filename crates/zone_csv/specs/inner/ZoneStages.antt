@@ -1,9 +1,9 @@
 -- How the parts of a reader of a zone file are seen as what it has still to say.
 use Rattle.std.specs.Prelude.{ℕ, ◌+◌, ◌≤◌, List, [], Some, None, Result}
-use Rattle.pit_model.specs.declared.ranges.TheConstants.{MAX_ROWS}
+use Rattle.pit_parts.specs.declared.ranges.TheConstants.{MAX_ROWS}
 use Rattle.records.specs.RecordReader.{RecordReaderView, Rows, Over, GaveUp}
-use Rattle.pit_model.specs.declared.block.Block.{Block}
-use Rattle.pit_model.specs.declared.grid.Grid.{Grid}
+use Rattle.pit_parts.specs.declared.block.Block.{Block}
+use Rattle.pit_parts.specs.declared.grid.Grid.{Grid}
 use Rattle.zone_csv.specs.ZoneReaderView.{ZoneReaderView, Says, Told, NoMemory}
 use Rattle.zone_csv.specs.Zone.{records_say, rows_say, before_fault, first_fault}
 use Rattle.zone_csv.specs.declared.row_fault.RowFault.{RowFault}

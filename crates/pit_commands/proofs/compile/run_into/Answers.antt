@@ -1,6 +1,6 @@
 use Rattle.std.proofs.Common.{length}
 use Rattle.std.proofs.lemmas.List.{length-map}
-use Rattle.pit_model.specs.Destinations.{formulas_of}
+use Rattle.pit_parts.specs.Destinations.{formulas_of}
 use Rattle.pit_commands.proofs.FilesRun.{refusal_answered, rows_answered}
 use Rattle.pit_commands.proofs.compile.run_into.Goals as goal
 

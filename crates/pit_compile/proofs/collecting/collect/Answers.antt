@@ -1,7 +1,7 @@
 use Rattle.std.proofs.Common.{◌∙◌, sym, ap, length}
 use Rattle.pit_compile.proofs.Collected.{FoundIsHeld, to-add, is-added, collected}
 use Rattle.pit_compile.proofs.collecting.collect.Goals as goal
-use Rattle.pit_model.specs.PlanFormulas.{formulas_of_plan}
+use Rattle.pit_parts.specs.PlanFormulas.{formulas_of_plan}
 
 pub add_lists-requires : goal.add_lists-requires
 add_lists-requires c =

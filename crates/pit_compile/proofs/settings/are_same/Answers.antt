@@ -1,6 +1,6 @@
 use Rattle.std.proofs.Common.{◌<◌, ◌∙◌, refl, sym, ap, length, arith}
-use Rattle.pit_model.specs.Destinations.{formula_of}
-use Rattle.pit_model.specs.declared.formula.NamedFormula.{NamedFormula}
+use Rattle.pit_parts.specs.Destinations.{formula_of}
+use Rattle.pit_parts.specs.declared.formula.NamedFormula.{NamedFormula}
 use Rattle.pit_compile.proofs.SameFormulas.{one_more_same, same_at}
 use Rattle.pit_compile.proofs.settings.are_same.Goals as goal
 

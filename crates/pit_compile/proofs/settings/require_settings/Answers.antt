@@ -1,4 +1,4 @@
-use Rattle.pit_model.specs.Destinations.{formulas_of}
+use Rattle.pit_parts.specs.Destinations.{formulas_of}
 use Rattle.pit_compile.proofs.SettingsFacts.{told_exactly}
 use Rattle.pit_compile.proofs.settings.require_settings.Goals as goal
 

@@ -1,7 +1,7 @@
 use Rattle.std.proofs.Common.{rules, ◌≡◌, ◌+◌, ◌*◌, ◌∙◌, Ok, Err, sym, ap, arith, length-append}
 use Rattle.std.proofs.lemmas.List.Elements.{All-push}
 use Rattle.csv.specs.Records.{fields_of}
-use Rattle.pit_model.specs.BandsKept.{IsBand}
+use Rattle.pit_parts.specs.BandsKept.{IsBand}
 use Rattle.pit_model.specs.inner.ByPlace.{band_by}
 use Rattle.records.specs.RecordCells.{cells_of, cell_at}
 use Rattle.pit_model.proofs.BandSteps.{bands_fail, bands_more}

@@ -1,6 +1,6 @@
 use Rattle.std.proofs.Common.{◌≡◌, ◌+◌, ◌-◌, ◌*◌, ◌/◌, suc, length, All}
 use Rattle.csv.specs.Records.{fields_of}
-use Rattle.pit_model.specs.BandsKept.{IsBand}
+use Rattle.pit_parts.specs.BandsKept.{IsBand}
 use Rattle.pit_model.specs.inner.ByPlace.{bands_in}
 use Rattle.records.specs.RecordCells.{cells_of}
 use Rattle.pit_model.proofs.band_cells.read_bands.Given as goal

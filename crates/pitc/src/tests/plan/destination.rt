@@ -1,6 +1,6 @@
 ghost use Rattle.std.specs.Prelude.{◌≡◌, ◌≤◌, ◌^◌, IfOk};
-ghost use Rattle.pit_model.specs.Formula.{IsRuled};
-ghost use Rattle.pit_model.specs.Worth.{mill, dump};
+ghost use Rattle.pit_parts.specs.Formula.{IsRuled};
+ghost use Rattle.pit_parts.specs.Worth.{mill, dump};
 
 use crate::tests::models::destination_of;
 use pit_model::band::{Band, Bands};

@@ -1,6 +1,6 @@
 ghost use Rattle.std.specs.Prelude.{◌≡◌};
-ghost use Rattle.pit_model.specs.Formula.{IsRuled};
-ghost use Rattle.pit_model.specs.Worth.{worth};
+ghost use Rattle.pit_parts.specs.Formula.{IsRuled};
+ghost use Rattle.pit_parts.specs.Worth.{worth};
 
 use super::{
     ENOUGH, Fail, Gate, Global, MemSink, OpenGate, Plan, Refusal, Settings, Sinks, Threads, answer,

@@ -1,6 +1,6 @@
 use Rattle.std.proofs.Common.{◌≡◌, ℕ, ◌+◌, ◌∙◌, ◌++◌, ◌∷◌, [], List, length, map, take, ap, sym, arith, length-append}
 use Rattle.std.proofs.lemmas.List.{take_more, take_all, map-append}
-use Rattle.pit_model.specs.declared.block.Block.{Block}
+use Rattle.pit_parts.specs.declared.block.Block.{Block}
 use Rattle.precedence.specs.Codes.{codes}
 use Rattle.precedence.specs.inner.Lists.{in_cone}
 use Rattle.precedence.proofs.Pieces.{ends_push, pieces_push}

@@ -2,7 +2,7 @@ use Rattle.std.proofs.Common.{◌≡◌, take, get_or, nat_eq, sym, ap, subst, �
 use Rattle.std.specs.List.{IsDistinct}
 use Rattle.std.specs.Map.{keys_of}
 use Rattle.std.proofs.lemmas.List.{get_or_default, take_all}
-use Rattle.pit_model.specs.declared.block.Block.{Block}
+use Rattle.pit_parts.specs.declared.block.Block.{Block}
 use Rattle.precedence.specs.Codes.{code, codes}
 use Rattle.precedence.proofs.SeenPlaces.{first_again, keys-placed, placed_on}
 use Rattle.precedence.proofs.number_by_place.differ.Goals as goal

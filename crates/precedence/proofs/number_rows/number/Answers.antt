@@ -1,6 +1,6 @@
 use Rattle.std.proofs.Common.{◌≡◌, List, ◌∙◌, ap, length, arith, subst, IfOk, IfErr}
 use Rattle.std.proofs.lemmas.List.{length-map}
-use Rattle.pit_model.specs.declared.block.Block.{Block}
+use Rattle.pit_parts.specs.declared.block.Block.{Block}
 use Rattle.rows.specs.declared.item.Valued.{Valued}
 use Rattle.precedence.specs.Identifier.{blocks_of_rows}
 use Rattle.precedence.specs.Numbering.{IsNumbering}

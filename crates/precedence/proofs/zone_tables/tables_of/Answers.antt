@@ -1,6 +1,6 @@
 use Rattle.std.proofs.Common.{List, ℕ, ◌+◌, take, sym, subst}
-use Rattle.pit_model.specs.declared.cone.Cone.{Cone}
-use Rattle.pit_model.specs.declared.cone.Slope.{Slope}
+use Rattle.pit_parts.specs.declared.cone.Cone.{Cone}
+use Rattle.pit_parts.specs.declared.cone.Slope.{Slope}
 use Rattle.precedence.specs.inner.ZoneTables.{HasTables}
 use Rattle.precedence.proofs.ZoneFacts.{one_zone_more}
 use Rattle.precedence.proofs.zone_tables.tables_of.Goals as goal

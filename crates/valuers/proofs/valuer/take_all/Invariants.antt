@@ -1,6 +1,6 @@
 use Rattle.std.proofs.Common.{◌≡◌, ◌≤◌, ◌++◌, take, drop, length, vec_len}
 use Rattle.std.specs.Prelude.{IsFalse, IsTrue, vec_capacity}
-use Rattle.pit_model.specs.Destinations.{formulas_of}
+use Rattle.pit_parts.specs.Destinations.{formulas_of}
 use Rattle.valuers.specs.Valuing.{items_by}
 use Rattle.valuers.proofs.valuer.take_all.Given as goal
 

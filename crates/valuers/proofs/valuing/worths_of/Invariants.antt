@@ -1,5 +1,5 @@
 use Rattle.std.proofs.Common.{◌≡◌, take, length}
-use Rattle.pit_model.specs.Destinations.{formulas_of}
+use Rattle.pit_parts.specs.Destinations.{formulas_of}
 use Rattle.rows.specs.Valued.{worths_by}
 use Rattle.valuers.specs.Valuing.{AreAnswered}
 use Rattle.valuers.proofs.valuing.worths_of.Given as goal

@@ -1,7 +1,7 @@
 use Rattle.std.proofs.Common.{rules, ◌≡◌, true, nat_le, length, Ok, ap, sym, ◌∙◌}
 use Rattle.std.proofs.lemmas.Bool.{eq-eqb}
 use Rattle.csv.specs.Records.{fields_of}
-use Rattle.pit_model.proofs.BlockFacts.{block_again}
+use Rattle.pit_parts.proofs.BlockFacts.{block_again}
 use Rattle.zone_csv.specs.Row.{row_of}
 use Rattle.zone_csv.proofs.row.row_of.Goals as goal
 

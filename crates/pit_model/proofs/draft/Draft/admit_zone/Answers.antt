@@ -1,6 +1,6 @@
 use Rattle.std.proofs.Common.{arith, length-append}
 use Rattle.std.proofs.lemmas.List.Elements.{All-push}
-use Rattle.pit_model.specs.PlanKept.{IsCone}
+use Rattle.pit_parts.specs.PlanKept.{IsCone}
 use Rattle.pit_model.proofs.draft.Draft.admit_zone.Goals as goal
 
 pub invariant_of-self-2 : goal.invariant_of-self-2

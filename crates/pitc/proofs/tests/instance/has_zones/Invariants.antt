@@ -1,5 +1,5 @@
 use Rattle.std.proofs.Common.{ℕ, ◌<◌, get_or, length}
-use Rattle.pit_model.specs.declared.block.Block.{Block}
+use Rattle.pit_parts.specs.declared.block.Block.{Block}
 use Rattle.pitc.proofs.tests.instance.has_zones.Given as goal
 
 abbrev pub invariant-loop-id : goal.invariant-loop-id

@@ -1,0 +1,4 @@
+pub mod BandFacts
+pub mod BlockFacts
+pub mod Names
+pub mod WorthFacts

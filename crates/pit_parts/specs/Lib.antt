@@ -1,0 +1,15 @@
+pub mod Bands
+pub mod BandsKept
+pub mod Block
+pub mod BlockParts
+pub mod Count
+pub mod Destinations
+pub mod Equality
+pub mod Formula
+pub mod FormulaEquality
+pub mod Name
+pub mod Plan
+pub mod PlanFormulas
+pub mod PlanKept
+pub mod Worth
+pub mod inner

@@ -1,0 +1,17 @@
+//! Blocks, the parts of a plan, and what blocks are worth by its formulas.
+#![tactic(auto)]
+
+pub mod band;
+pub mod block;
+pub mod cone;
+pub mod count;
+pub mod destination;
+pub mod formula;
+pub mod grid;
+pub mod laws;
+pub mod limit;
+pub mod name;
+pub mod plan;
+pub mod ranges;
+pub mod resource;
+pub mod worth;
