@@ -9,8 +9,7 @@ use Rattle.forms.specs.Steps.{◌>>=◌}
 use Rattle.mine_instance.specs.declared.coef.Coef.{Coef}
 use Rattle.minelib_lines.specs.Kept.{IsDecimal}
 use Rattle.text_lines.specs.FieldValues.{decimal_in, first_by, whole_in}
-use Rattle.text_lines.specs.LineKinds.{text_kinds}
-use Rattle.text_lines.specs.Uncounted.{kind_by}
+use Rattle.text_lines.specs.LineKinds.{kind_by, text_kinds}
 use Rattle.minelib_reading.specs.inner.UncountedItems.{destination_in}
 use Rattle.minelib_lines.specs.declared.problem.Problem.{Problem}
 use Rattle.minelib_lines.specs.declared.problem.Problem.TheVariants.{Pcpsp, Cpit}

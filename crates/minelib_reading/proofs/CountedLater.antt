@@ -12,11 +12,10 @@ use Rattle.pit_parts.specs.Block.{block_with}
 use Rattle.pit_parts.specs.declared.block.Block.{Block}
 use Rattle.minelib_reading.specs.BlockLines.{block_form, block_shape}
 use Rattle.text_lines.specs.FieldValues.{all_by, first_by, size_in, whole_in}
-use Rattle.text_lines.specs.LineKinds.{text_kinds}
+use Rattle.text_lines.specs.LineKinds.{kind_by, text_kinds}
 use Rattle.minelib_reading.specs.inner.LinesTaken.{block_alone, block_said, preds_alone, preds_said}
 use Rattle.minelib_reading.specs.PrecLines.{all_differ, preds_form, preds_shape, stands_in}
 use Rattle.text_lines.specs.TextLines.{fields_of}
-use Rattle.text_lines.specs.Uncounted.{kind_by}
 use Rattle.text_lines.specs.declared.text_fault.TextKind.{TextKind}
 use Rattle.text_lines.specs.declared.text_fault.TextKind.TheVariants.{Fields, Order, Count, Twice}
 use Rattle.text_lines.proofs.FieldSteps.{first_step, last_step, none_step, said_of, size_reads, step, whole_reads, wholes_step}

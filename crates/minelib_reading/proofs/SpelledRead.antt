@@ -13,8 +13,11 @@ use Rattle.mine_instance.specs.Valid.{ArePreds, ArePredsOf}
 use Rattle.minelib_reading.specs.BlockLines.{block_grammar, block_shape, blocks_in}
 use Rattle.minelib_reading.specs.inner.LinesTaken.{PrecDraftView, admit_block, admit_preds, block_said, no_lists, preds_said}
 use Rattle.minelib_reading.specs.PrecLines.{LacksLines, finish_preds, lines_missing, prec_grammar, preds_in, preds_shape}
-use Rattle.text_lines.specs.Reading.{read_lines}
+use Rattle.text_lines.specs.Reading.{Leaves, read_lines}
+use Rattle.text_lines.specs.inner.Taken.{Gives}
 use Rattle.text_lines.specs.TextLines.{end_of, fields_of, lines_in}
+use Rattle.text_lines.specs.declared.read_errors.FileError.{FileError}
+use Rattle.text_lines.specs.declared.read_errors.FileError.TheVariants.{Faulty, OutOfMemory}
 use Rattle.text_lines.specs.declared.text_fault.LineFault.{LineFault}
 use Rattle.minelib_reading.proofs.BlockLineFacts.{block_line}
 use Rattle.text_lines.proofs.ItemGrammarFacts.{kept_by_items, lines_read}
@@ -74,6 +77,14 @@ preds_read n text =
 pub preds_finished : (n : ℕ) (text : List ℕ) (d : PrecDraftView) → read_lines admit_preds (no_lists n) (lines_in text) ≡ Ok d
     → finish_preds d.blocks (end_of text) d.lists ≡ preds_in n text
 preds_finished n text d read = sym (ap (λ r. r >>= λ d. finish_preds d.blocks (end_of text) d.lists) read) ∙ preds_read n text
+
+-- the answer where a line is faulty, or memory was refused
+pub preds_stopped : (n : ℕ) (text : List ℕ) (after : PrecDraftView) (error : FileError)
+    → Leaves {A = ℕ} after (Err error) (read_lines admit_preds (no_lists n) (lines_in text))
+    → Gives {A = List (List ℕ)} (Err error) (preds_in n text)
+preds_stopped n text after (Faulty fault) read =
+    sym (preds_read n text) ∙ ap (λ r. r >>= λ d. finish_preds d.blocks (end_of text) d.lists) read
+preds_stopped n text after OutOfMemory read = tt
 
 pub preds_spelled : (n : ℕ) (text : List ℕ) (lists : List (List ℕ)) → preds_in n text ≡ Ok lists
     → (length lists ≡ n) × AllState (prec_grammar n) 1 [] (lines_in text) lists

@@ -12,8 +12,8 @@ use Rattle.forms.specs.Read.{read_fields}
 use Rattle.forms.specs.Steps.{◌>>=◌}
 use Rattle.minelib_lines.specs.Kept.{IsDecimal}
 use Rattle.text_lines.specs.FieldValues.{all_by, decimal_in, first_by, whole_in}
-use Rattle.text_lines.specs.LineKinds.{text_kinds}
-use Rattle.text_lines.specs.Uncounted.{AdmitsCounted, kind_by}
+use Rattle.text_lines.specs.LineKinds.{kind_by, text_kinds}
+use Rattle.text_lines.specs.inner.Taken.{AdmitsCounted}
 use Rattle.text_lines.specs.declared.read_errors.LineError.{LineError}
 use Rattle.text_lines.specs.declared.read_errors.LineError.TheVariants as line_error
 use Rattle.text_lines.specs.declared.text_fault.TextKind.{TextKind}

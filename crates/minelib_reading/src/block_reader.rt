@@ -5,7 +5,7 @@ ghost use Rattle.pit_parts.specs.Block.{block_with};
 ghost use Rattle.pit_parts.specs.BlockParts.{AreInRange};
 ghost use Rattle.minelib_reading.specs.BlockLines.{blocks_in};
 ghost use Rattle.minelib_reading.specs.inner.LinesTaken.{admit_block, block_alone, block_said};
-ghost use Rattle.text_lines.specs.Reading.{Gives};
+ghost use Rattle.text_lines.specs.inner.Taken.{Gives};
 ghost use Rattle.pit_parts.specs.declared.ranges.TheConstants.{MAX_BLOCKS};
 
 use mine_instance::blocks::Blocks;

@@ -1,21 +1,60 @@
 //! Whether numbers differ, in time that is linear in how many they are.
 
-ghost use Rattle.std.specs.Prelude.{◌≡◌, ◌<◌, length, vec_len, All};
+ghost use Rattle.std.specs.Prelude.{◌≡◌, ◌<◌, ◌≤◌, length, All, IfOk};
 ghost use Rattle.minelib_reading.specs.inner.Marks.{AreClear, AreMarked};
 ghost use Rattle.minelib_reading.specs.PrecLines.{all_differ};
+ghost use Rattle.pit_parts.specs.declared.ranges.TheConstants.{MAX_BLOCKS};
 
-/// Whether no number stands twice. `marks` is a table with a place for each number. No place is marked when the call
-/// begins, and none when it ends.
-pub fn all_differ(marks: &mut Vec<bool>, ids: &[u32]) -> bool
-    requires below { All (λ id. id < vec_len marks.old) ids.now }
-    requires clear { AreClear marks.old.items }
-    ensures value { result ≡ all_differ ids.now }
-    ensures clear { AreClear marks.new.items }
-    ensures kept { vec_len marks.new ≡ vec_len marks.old }
-{
-    let differ = mark_new(marks.as_mut_slice(), ids);
-    unmark(marks.as_mut_slice(), ids);
-    differ
+use std::alloc::{AllocError, Global};
+use std::marker::Model;
+
+/// A place for each block, none of which is marked between two calls. Contracts see how many blocks there are.
+#[derive(Drop)]
+pub struct Marks {
+    places: Vec<bool>,
+}
+
+impl Model for Marks {
+    ghost use Rattle.std.specs.Prelude.{ℕ, ◌≤◌, vec_len};
+    ghost use Rattle.minelib_reading.specs.inner.Marks.{AreClear};
+    ghost use Rattle.pit_parts.specs.declared.ranges.TheConstants.{MAX_BLOCKS};
+
+    ghost Value = { ℕ };
+
+    ghost view = { λ m. vec_len m.places };
+
+    ghost invariant = { λ m. (vec_len m.places ≤ MAX_BLOCKS) × AreClear m.places.items };
+}
+
+impl Marks {
+    /// A place for each of so many blocks.
+    pub fn new(alloc: Global, blocks: usize) -> Result<Marks, AllocError>
+        requires { blocks ≤ MAX_BLOCKS }
+        ensures { IfOk result (λ marks. marks ≡ blocks) }
+    {
+        Ok(Marks {
+            places: Vec::from_elem(alloc, false, blocks)?,
+        })
+    }
+
+    /// How many blocks there are.
+    pub fn len(&self) -> usize
+        ensures value { result ≡ self.now }
+        ensures few { result ≤ MAX_BLOCKS }
+    {
+        self.places.len()
+    }
+
+    /// Whether no identifier of these blocks stands twice.
+    pub fn all_differ(&mut self, ids: &[u32]) -> bool
+        requires { All (λ id. id < self.old) ids.now }
+        ensures value { result ≡ all_differ ids.now }
+        ensures kept { self.new ≡ self.old }
+    {
+        let differ = mark_new(self.places.as_mut_slice(), ids);
+        unmark(self.places.as_mut_slice(), ids);
+        differ
+    }
 }
 
 // Marks the numbers up to the first that is marked, and answers whether there was none.

@@ -9,7 +9,7 @@ ghost use Rattle.minelib_reading.specs.inner.ModelParts.{TakesFirst, coef_alone,
 ghost use Rattle.text_lines.specs.Reading.{Admits};
 ghost use Rattle.minelib_reading.specs.ItemForms.{coef_form};
 ghost use Rattle.text_lines.specs.TextLines.{fields_of};
-ghost use Rattle.text_lines.specs.Uncounted.{AdmitsCounted};
+ghost use Rattle.text_lines.specs.inner.Taken.{AdmitsCounted};
 ghost use Rattle.minelib_reading.specs.inner.UncountedItems.{bound_in, destination_in, interval_in, limit_width};
 ghost use Rattle.pit_parts.specs.declared.ranges.TheConstants.{MAX_BLOCKS};
 

@@ -2,7 +2,7 @@
 
 ghost use Rattle.std.specs.Prelude.{◌≤◌};
 ghost use Rattle.minelib_reading.specs.ModelLines.{model_in};
-ghost use Rattle.text_lines.specs.Reading.{Gives};
+ghost use Rattle.text_lines.specs.inner.Taken.{Gives};
 ghost use Rattle.pit_parts.specs.declared.ranges.TheConstants.{MAX_BLOCKS};
 
 use crate::model_draft::ModelDraft;

@@ -1,15 +1,15 @@
 //! Reading a precedence file.
 
-ghost use Rattle.std.specs.Prelude.{◌≡◌, ◌<◌, ◌≤◌, [], vec_len, All, IfOk, OnOk};
+ghost use Rattle.std.specs.Prelude.{◌≡◌, ◌<◌, ◌≤◌, [], All, IfOk, OnOk};
 ghost use Rattle.text_lines.specs.FieldValues.{all_by, whole_in};
-ghost use Rattle.minelib_reading.specs.inner.Marks.{AreClear};
 ghost use Rattle.minelib_reading.specs.inner.LinesTaken.{admit_preds, no_lists, preds_alone, preds_said};
 ghost use Rattle.minelib_reading.specs.PrecLines.{finish_preds, preds_in, stands_in};
-ghost use Rattle.text_lines.specs.Reading.{Admits, Gives};
+ghost use Rattle.text_lines.specs.Reading.{Admits};
+ghost use Rattle.text_lines.specs.inner.Taken.{Gives};
 ghost use Rattle.text_lines.specs.TextLines.{fields_of};
 ghost use Rattle.pit_parts.specs.declared.ranges.TheConstants.{MAX_BLOCKS};
 
-use crate::marks::all_differ;
+use crate::marks::Marks;
 use precedence::Preds;
 use std::alloc::{AllocError, Global};
 use std::marker::Model;
@@ -21,61 +21,42 @@ use text_lines::text_fields::{first_whole, has_field, lacks_two_fields};
 // The predecessors of the lines so far, by identifier.
 #[derive(Drop)]
 struct PrecDraft {
-    blocks: usize,
     preds: Preds,
     // the predecessors of the line that is read
     ids: Vec<u32>,
-    // a place for each block
-    marks: Vec<bool>,
+    marks: Marks,
 }
 
 impl Model for PrecDraft {
-    ghost use Rattle.std.specs.Prelude.{◌≡◌, ◌≤◌, vec_len};
-    ghost use Rattle.minelib_reading.specs.inner.Marks.{AreClear};
     ghost use Rattle.minelib_reading.specs.inner.LinesTaken.{PrecDraftView};
-    ghost use Rattle.pit_parts.specs.declared.ranges.TheConstants.{MAX_BLOCKS};
 
     ghost Value = { PrecDraftView };
 
-    ghost view = { λ d. record { blocks = d.blocks; lists = d.preds } };
-
-    ghost invariant = { λ d. (d.blocks ≤ MAX_BLOCKS) × (vec_len d.marks ≡ d.blocks)
-        × AreClear d.marks.items };
+    ghost view = { λ d. record { blocks = d.marks; lists = d.preds } };
 }
 
 impl Admit for PrecDraft {
     ghost admit_line = { admit_preds };
 
     fn admit(&mut self, line: &[u8]) -> Result<(), LineError> {
-        preds_of(
-            line,
-            self.blocks,
-            self.preds.len(),
-            &mut self.ids,
-            &mut self.marks,
-        )?;
+        preds_of(line, self.preds.len(), &mut self.ids, &mut self.marks)?;
         self.preds.push(self.ids.as_slice())?;
         Ok(())
     }
 }
 
-// The predecessors of a line, of so many blocks, where so many lines stand before.
+// The predecessors of a line, where so many lines stand before.
 #[tactic(auto, using(crate::proofs::CountedLater::preds_counted, crate::proofs::CountedLater::preds_by_count))]
 fn preds_of(
     line: &[u8],
-    blocks: usize,
     before: usize,
     ids: &mut Vec<u32>,
-    marks: &mut Vec<bool>,
+    marks: &mut Marks,
 ) -> Result<(), LineError>
-    requires few { blocks ≤ MAX_BLOCKS }
-    requires places { vec_len marks.old ≡ blocks }
-    requires clear { AreClear marks.old.items }
-    ensures value { Admits ids.new.items result (preds_said blocks before line.now) }
-    ensures places { vec_len marks.new ≡ blocks }
-    ensures clear { AreClear marks.new.items }
+    ensures value { Admits ids.new.items result (preds_said marks.old before line.now) }
+    ensures kept { marks.new ≡ marks.old }
 {
-    match preds_alone(line, blocks, before, ids, marks) {
+    match preds_alone(line, before, ids, marks) {
         Ok(()) => Ok(()),
         Err(LineError::Faulty(_)) if lacks_two_fields(line) => {
             Err(LineError::Faulty(TextKind::Fields))
@@ -88,18 +69,14 @@ fn preds_of(
 #[tactic(auto, using(crate::proofs::CountedLater::preds_read_alone))]
 fn preds_alone(
     line: &[u8],
-    blocks: usize,
     before: usize,
     ids: &mut Vec<u32>,
-    marks: &mut Vec<bool>,
+    marks: &mut Marks,
 ) -> Result<(), LineError>
-    requires few { blocks ≤ MAX_BLOCKS }
-    requires places { vec_len marks.old ≡ blocks }
-    requires clear { AreClear marks.old.items }
-    ensures value { Admits ids.new.items result (preds_alone blocks before line.now) }
-    ensures places { vec_len marks.new ≡ blocks }
-    ensures clear { AreClear marks.new.items }
+    ensures value { Admits ids.new.items result (preds_alone marks.old before line.now) }
+    ensures kept { marks.new ≡ marks.old }
 {
+    let blocks = marks.len();
     let (id, behind_id) = first_whole(line, blocks as u64)?;
     let (stated, behind_stated) = first_whole(behind_id, blocks as u64)?;
     read_ids(behind_stated, blocks, ids)?;
@@ -109,7 +86,7 @@ fn preds_alone(
     if stated != ids.len() as u64 {
         return Err(LineError::Faulty(TextKind::Count));
     }
-    if stands_in(ids, before as u32) || !all_differ(marks, ids) {
+    if stands_in(ids, before as u32) || !marks.all_differ(ids) {
         return Err(LineError::Faulty(TextKind::Twice));
     }
     Ok(())
@@ -143,10 +120,9 @@ impl PrecDraft {
         ensures { IfOk result (λ d. d ≡ no_lists blocks) }
     {
         Ok(PrecDraft {
-            blocks,
             preds: Preds::new(alloc),
             ids: Vec::new(alloc),
-            marks: Vec::from_elem(alloc, false, blocks)?,
+            marks: Marks::new(alloc, blocks)?,
         })
     }
 
@@ -154,7 +130,7 @@ impl PrecDraft {
     fn finish(self, end: u64) -> Result<Preds, FileError>
         ensures { Gives result (finish_preds self.blocks end self.lists) }
     {
-        if self.preds.len() == self.blocks {
+        if self.preds.len() == self.marks.len() {
             Ok(self.preds)
         } else {
             Err(FileError::Faulty(LineFault {

@@ -28,7 +28,8 @@ fits_behind (suc n) (field ∷ form) [] fit = absurd fit
 fits_behind (suc n) (field ∷ form) (value ∷ values) fit = fits_behind n form values fit.1
 
 -- the whole number of a value
-pub between_fits : (low high : ℕ) (value : Value) → FitsField (between low high) value → (low ≤ whole_stated value) × (whole_stated value ≤ high)
+pub between_fits : (low high : ℕ) (value : Value) → FitsField (between low high) value
+    → (low ≤ whole_stated value) × (whole_stated value ≤ high)
 between_fits low high (Millionths (pos m)) fits = (omega (arith, ints, fits.0), omega (arith, ints, fits.1))
 between_fits low high (Millionths (negsuc m)) fits = absurd (omega (arith, ints, fits.0))
 between_fits low high (Bytes word) fits = absurd fits

@@ -5,11 +5,11 @@ use Rattle.forms.specs.Grammar.{placed, read_all}
 use Rattle.forms.specs.Shape.{said}
 use Rattle.forms.specs.Steps.{◌>>=◌}
 use Rattle.records.specs.RecordCells.{cells_of}
-use Rattle.pit_model.specs.Admits.{AdmitsRecord, Reads}
+use Rattle.pit_model.specs.inner.Admits.{AdmitsRecord}
 use Rattle.pit_model.specs.inner.ByPlace.{record_said}
 use Rattle.pit_parts.specs.Plan.{PlanParts}
 use Rattle.pit_model.specs.PlanShapes.{record_shape}
-use Rattle.pit_model.specs.Planned.{finished, finished_at, plan_grammar, planned}
+use Rattle.pit_model.specs.Planned.{Reads, finished, finished_at, plan_grammar, planned}
 use Rattle.records.specs.RecordReader.{RecordReaderView, Rows, Over, GaveUp, TakesRow}
 use Rattle.records.specs.Records.{records_of}
 use Rattle.pit_model.specs.Stated.{Stated, nothing_stated}

@@ -1,4 +1,3 @@
-pub mod Admits
 pub mod FaultText
 pub mod FormulaShapes
 pub mod PlanCells

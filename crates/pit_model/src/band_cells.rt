@@ -2,7 +2,7 @@
 
 ghost use Rattle.std.specs.Prelude.{◌≡◌, ◌+◌, ◌-◌, ◌/◌, ◌%◌, ◌≤◌, suc, length, pos, unsigned_abs, All, OnOk, IfOk};
 ghost use Rattle.csv.specs.Records.{fields_of};
-ghost use Rattle.pit_model.specs.Admits.{Admits};
+ghost use Rattle.pit_model.specs.inner.Admits.{Admits};
 ghost use Rattle.pit_parts.specs.BandsKept.{IsBand};
 ghost use Rattle.pit_model.specs.inner.ByPlace.{band_by, bands_in};
 ghost use Rattle.records.specs.RecordCells.{cells_of};

@@ -2,7 +2,7 @@
 
 ghost use Rattle.std.specs.Prelude.{◌≡◌, ◌≤ℤ◌, ◌<◌, ◌≤◌, pos, length, unwrap_or, All, IfOk};
 ghost use Rattle.csv.specs.Records.{fields_of};
-ghost use Rattle.pit_model.specs.Admits.{Admits};
+ghost use Rattle.pit_model.specs.inner.Admits.{Admits};
 ghost use Rattle.records.specs.RecordCells.{cells_of};
 ghost use Rattle.pit_parts.specs.PlanKept.{AreTonnes};
 ghost use Rattle.forms.specs.Field.{Millionths};

@@ -2,7 +2,7 @@
 
 ghost use Rattle.std.specs.Prelude.{◌≡◌, ◌-◌, ◌<◌, ◌≤◌, suc, [], length, is_some, All, IfOk, IfSome};
 ghost use Rattle.csv.specs.Records.{fields_of};
-ghost use Rattle.pit_model.specs.Admits.{Covered, Names};
+ghost use Rattle.pit_model.specs.inner.Admits.{Covered, Names};
 ghost use Rattle.pit_model.specs.inner.ByPlace.{Finds, covers_in};
 ghost use Rattle.records.specs.RecordCells.{cells_of};
 ghost use Rattle.pit_parts.specs.PlanKept.{has_repeat};

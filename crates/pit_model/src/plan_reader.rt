@@ -2,9 +2,9 @@
 
 ghost use Rattle.std.specs.Prelude.{◌≡◌, ◌≤◌, OnOk};
 ghost use Rattle.csv.specs.Records.{fields_of};
-ghost use Rattle.pit_model.specs.Admits.{AdmitsRecord, Reads};
+ghost use Rattle.pit_model.specs.inner.Admits.{AdmitsRecord};
 ghost use Rattle.pit_model.specs.inner.ByPlace.{record_said};
-ghost use Rattle.pit_model.specs.Planned.{finished, finished_at, planned};
+ghost use Rattle.pit_model.specs.Planned.{Reads, finished, finished_at, planned};
 ghost use Rattle.pit_parts.specs.declared.ranges.TheConstants.{MAX_PLAN_RECORDS};
 
 use crate::draft::Draft;

@@ -9,7 +9,7 @@ use Rattle.records.specs.Cells.{without_leading_blanks}
 use Rattle.pit_units.specs.Front.{BeginsWith}
 use Rattle.text_lines.specs.FieldValues.{at_most, first_by, decimal_in, size_in, whole_in}
 use Rattle.text_lines.specs.TextLines.{fields_of, is_ended}
-use Rattle.text_lines.specs.Uncounted.{TakesDecimal}
+use Rattle.text_lines.specs.inner.Taken.{TakesDecimal}
 use Rattle.text_lines.specs.declared.text_fault.TextKind.{TextKind}
 use Rattle.text_lines.specs.declared.text_fault.TextKind.TheVariants.{Range}
 use Rattle.text_lines.proofs.Cuts.{fields_past_blanks, past_blanks, StartsWithField}

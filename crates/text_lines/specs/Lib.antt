@@ -6,4 +6,4 @@ pub mod LineKinds
 pub mod Reading
 pub mod TextLines
 pub mod TextParts
-pub mod Uncounted
+pub mod inner

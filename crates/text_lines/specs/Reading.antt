@@ -45,9 +45,3 @@ abbrev pub Leaves : {S A : Type 0} → S → Result A FileError → Result S Lin
 Leaves after (Ok x) read = read ≡ Ok after
 Leaves after (Err (file_error.Faulty fault)) read = read ≡ Err fault
 Leaves after (Err file_error.OutOfMemory) read = Unit {0}
-
--- reading a file answers what it states, or its first faulty line, unless memory was refused
-abbrev pub Gives : {A : Type 0} → Result A FileError → Result A LineFault → Type 0
-Gives (Ok x) read = read ≡ Ok x
-Gives (Err (file_error.Faulty fault)) read = read ≡ Err fault
-Gives (Err file_error.OutOfMemory) read = Unit {0}

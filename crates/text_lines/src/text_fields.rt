@@ -5,7 +5,8 @@ ghost use Rattle.std.specs.List.{position_or_len};
 ghost use Rattle.records.specs.Cells.{is_blank};
 ghost use Rattle.text_lines.specs.FieldValues.{Takes, at_most, decimal_in, first_by, size_in, whole_in};
 ghost use Rattle.text_lines.specs.TextLines.{fields_of, is_ended};
-ghost use Rattle.text_lines.specs.Uncounted.{TakesDecimal, kind_by};
+ghost use Rattle.text_lines.specs.LineKinds.{kind_by};
+ghost use Rattle.text_lines.specs.inner.Taken.{TakesDecimal};
 
 use crate::cut_lines::behind;
 use crate::field_values::{decimal_in, size_in, whole_in};

@@ -3,7 +3,7 @@
 ghost use Rattle.std.specs.Prelude.{◌≡◌, ◌≤◌, [], length, All, IfOk, Ok};
 ghost use Rattle.csv.specs.Records.{fields_of};
 ghost use Rattle.forms.specs.Shape.{failing, unless};
-ghost use Rattle.pit_model.specs.Admits.{Admits};
+ghost use Rattle.pit_model.specs.inner.Admits.{Admits};
 ghost use Rattle.pit_parts.specs.BandsKept.{IsBand};
 ghost use Rattle.pit_model.specs.inner.ByPlace.{destination_in, destined, formula_in, prices_in};
 ghost use Rattle.pit_model.specs.FormulaShapes.{bands_asked, formula_key_of};

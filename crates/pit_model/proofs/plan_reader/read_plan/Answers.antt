@@ -1,7 +1,6 @@
 use Rattle.std.proofs.Common.{rules, arith, Err}
 use Rattle.csv.specs.Records.{fields_of}
-use Rattle.pit_model.specs.Admits.{Reads}
-use Rattle.pit_model.specs.Planned.{planned}
+use Rattle.pit_model.specs.Planned.{Reads, planned}
 use Rattle.pit_model.proofs.PlanSteps.{ended, admitted, refused}
 use Rattle.pit_model.proofs.plan_reader.read_plan.Goals as goal
 

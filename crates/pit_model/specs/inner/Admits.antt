@@ -1,7 +1,6 @@
 -- What a reader of records answers, beside what the records say: the answer agrees, unless memory was refused.
 use Rattle.std.specs.Prelude.{◌≡◌, ℕ, List, Result, Ok, Err}
 use Rattle.forms.specs.Field.{Value, Bytes}
-use Rattle.pit_parts.specs.Plan.{PlanParts}
 use Rattle.pit_model.specs.declared.plan_fault.PlanFault.{PlanFault}
 use Rattle.pit_model.specs.declared.plan_fault.PlanFaultKind.{PlanFaultKind}
 use Rattle.pit_model.specs.declared.plan_fault.RecordError.{RecordError}
@@ -20,12 +19,6 @@ abbrev pub AdmitsRecord : {S A : Type 0} → S → Result A ReadPlanError → Re
 AdmitsRecord after (Ok x) admitted = admitted ≡ Ok after
 AdmitsRecord after (Err (plan_error.Fault fault)) admitted = admitted ≡ Err fault
 AdmitsRecord after (Err plan_error.OutOfMemory) admitted = Unit {0}
-
--- reading answers the plan that the text states, or its fault
-abbrev pub Reads : Result PlanParts ReadPlanError → Result PlanParts PlanFault → Type 0
-Reads (Ok plan) stated = stated ≡ Ok plan
-Reads (Err (plan_error.Fault fault)) stated = stated ≡ Err fault
-Reads (Err plan_error.OutOfMemory) stated = Unit {0}
 
 -- the NAME of a cell, or its fault
 abbrev pub Names : Result (List ℕ) RecordError → Result Value PlanFaultKind → Type 0
