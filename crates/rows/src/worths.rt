@@ -58,21 +58,3 @@ impl Worths {
         &self.cells[..self.count]
     }
 }
-
-#[cfg(test)]
-mod tests {
-    use super::Worths;
-    use std::test::Fail;
-
-    #[test]
-    fn one_to_eight_worths(rt: HostRuntime) -> Result<(), Fail> {
-        let worths: [i128; 9] = [1_200_000, -1, 0, 4, 5, 6, 7, 8, 9];
-        for count in 1..9usize {
-            let held = Worths::new(&worths[..count]).ok_or("worths")?;
-            assert_eq!(rt; held.as_slice(), &worths[..count]);
-        }
-        assert_eq!(rt; Worths::new(&[]), None);
-        assert_eq!(rt; Worths::new(&worths), None);
-        Ok(())
-    }
-}

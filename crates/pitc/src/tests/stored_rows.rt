@@ -1,4 +1,4 @@
-//! The rows of a file, as they are kept with their worths.
+//! The worths of a block, and the rows of a file as they are kept with them.
 
 use pit_model::block::Block;
 use rows::{Rows, Valued, Worths};
@@ -38,5 +38,20 @@ fn rows_of_any_width(rt: HostRuntime) -> Result<(), Fail> {
     rows.put_blocks(&mut blocks)?;
     assert_eq!(rt; blocks.len(), 10);
     assert_eq!(rt; blocks.get(9).map(|block| block.grade), Some(9));
+    Ok(())
+}
+
+const WORTHS: [i128; 9] = [1_200_000, -1, 0, 4, 5, 6, 7, 8, 9];
+
+// The first so many of nine worths are kept in their order; none of them, and all nine, are refused.
+#[test]
+fn one_to_eight_worths(rt: HostRuntime) -> Result<(), Fail> {
+    for count in 1..9usize {
+        let worths = WORTHS.get(..count).ok_or("count")?;
+        let held = Worths::new(worths).ok_or("worths")?;
+        assert_eq!(rt; held.as_slice(), worths);
+    }
+    assert_eq!(rt; Worths::new(&[]), None);
+    assert_eq!(rt; Worths::new(&WORTHS), None);
     Ok(())
 }
