@@ -5,6 +5,7 @@ mod collecting;
 mod cones;
 mod decimals;
 mod ending;
+mod feeds;
 mod input;
 mod instance;
 mod job;

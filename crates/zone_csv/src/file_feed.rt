@@ -105,8 +105,8 @@ fn read_some<F: Read>(file: &mut F, buffer: &mut [u8]) -> Result<usize, FeedFaul
 mod tests {
     use super::*;
     use crate::slurp::{SlurpFault, slurp};
+    use std::io;
     use std::test::Fail;
-    use std::{fs, io};
 
     // A file that gives a byte a read, behind one read that is interrupted, and then ends or fails.
     #[derive(Drop)]
@@ -131,32 +131,6 @@ mod tests {
                 _ if self.fails => Err(io::Error::from(ErrorKind::BrokenPipe)),
                 _ => Ok(0),
             }
-        }
-    }
-
-    // What is read of the file at this path, up to a hundred bytes.
-    fn read(rt: &HostRuntime, path: &str) -> Result<Result<Vec<u8>, SlurpFault>, FeedFault> {
-        let mut feed = FileFeed::open(rt, path)?;
-        Ok(slurp(rt.alloc(), &mut feed, 100))
-    }
-
-    #[test]
-    fn a_file_comes_whole(rt: HostRuntime) -> Result<(), Fail> {
-        let path = "a_file_comes_whole.txt";
-        fs::write(&rt, path, "x,y,z,tonnes,grade\n")?;
-        let text = read(&rt, path)??;
-        assert!(rt; text.as_slice() == b"x,y,z,tonnes,grade\n".as_slice());
-        fs::remove_file(&rt, path)?;
-        Ok(())
-    }
-
-    #[test]
-    fn what_is_no_file_is_refused(rt: HostRuntime) {
-        assert!(rt; read(&rt, "no/such/file") == Err(FeedFault));
-        // The folder of this test.
-        match read(&rt, ".") {
-            Ok(read) => assert!(rt; read == Err(SlurpFault::FeedFailed)),
-            Err(FeedFault) => {}
         }
     }
 
