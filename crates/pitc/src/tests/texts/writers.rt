@@ -88,25 +88,55 @@ fn limits_of(alloc: Global, parts: &Parts) -> Result<Limits, Fail> {
     Ok(Limits::new(limits))
 }
 
-fn made(alloc: Global, parts: &Parts) -> Result<Instance, Fail>
-    ensures { IfOk result IsValid }
-{
+fn name_of(alloc: Global, parts: &Parts) -> Result<Name, Fail> {
+    Ok(Name::read(alloc, parts.name.as_bytes())?.ok_or("a name")?)
+}
+
+fn no_preds(alloc: Global, parts: &Parts) -> Result<Preds, Fail> {
     let mut preds = Preds::new(alloc);
     for _block in parts.blocks {
         preds.push(&[])?;
     }
-    let instance = Instance {
-        name: Name::read(alloc, parts.name.as_bytes())?.ok_or("a name")?,
-        rate: dec(100_000)?,
+    Ok(preds)
+}
+
+// The instance of these parts, of which some are made.
+fn instance_of(
+    alloc: Global,
+    parts: &Parts,
+    name: Name,
+    blocks: Blocks,
+    values: Values,
+) -> Result<Instance, Fail> {
+    let preds = no_preds(alloc, parts)?;
+    let coefs = coefs_of(alloc, parts)?;
+    let limits = limits_of(alloc, parts)?;
+    let rate = dec(100_000)?;
+    Ok(Instance {
+        name,
+        rate,
         periods: parts.periods,
         destinations: parts.destinations,
         resources: parts.resources,
-        blocks: blocks_of(alloc, parts)?,
+        blocks,
         preds,
-        values: values_of(alloc, parts)?,
-        coefs: coefs_of(alloc, parts)?,
-        limits: limits_of(alloc, parts)?,
-    };
+        values,
+        coefs,
+        limits,
+    })
+}
+
+fn unchecked(alloc: Global, parts: &Parts) -> Result<Instance, Fail> {
+    let name = name_of(alloc, parts)?;
+    let blocks = blocks_of(alloc, parts)?;
+    let values = values_of(alloc, parts)?;
+    instance_of(alloc, parts, name, blocks, values)
+}
+
+fn made(alloc: Global, parts: &Parts) -> Result<Instance, Fail>
+    ensures { IfOk result IsValid }
+{
+    let instance = unchecked(alloc, parts)?;
     if !is_valid(&instance) {
         return Err("an instance that is not valid")?;
     }
