@@ -4,7 +4,6 @@ pub mod CpitBack
 pub mod FirstSpoiledFacts
 pub mod InstanceBack
 pub mod ItemsBack
-pub mod KeepFacts
 pub mod KeysBack
 pub mod LinesBack
 pub mod LinesOfText

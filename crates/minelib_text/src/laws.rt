@@ -25,37 +25,19 @@ ghost use Rattle.pit_parts.specs.declared.block.Block.{Block};
 ghost use Rattle.precedence.specs.ConeLaws.{IsEven};
 ghost use Rattle.pit_parts.specs.declared.ranges.TheConstants.{MAX_BLOCKS};
 
-use crate::keeping::{keep_cpit, keep_instance};
-use mine_instance::cpit::Cpit;
-use mine_instance::instance::Instance;
-
-/// The texts of a valid instance denote that instance.
+/// The texts of a valid instance denote that instance. That it has a NAME and decimals (`IsKept`), `write_pcpsp` says of every
+/// instance that it wrote.
 pub fn written_is_read()
     ensures { (i : OneInstance) → IsValid i → IsKept i
         → Denotes (text_blocks i) (text_prec i) (text_pcpsp i) i }
 {}
 
-/// The text of a CPIT denotes that CPIT.
+/// The text of a CPIT denotes that CPIT. That its parts are in their ranges and orders (`IsCpit`), with a NAME and decimals
+/// (`IsKeptCpit`), `write_cpit` says of every CPIT that it wrote.
 pub fn written_cpit_is_read()
     ensures { (c : CpitParts) → IsCpit c → IsKeptCpit c
         → DenotesCpit (length c.values) (text_cpit c) c }
 {}
-
-/// The texts of this instance denote it. A call looks at each of its numbers once.
-pub fn texts_denote(instance: &Instance)
-    requires { IsValid instance.now }
-    ensures { Denotes (text_blocks instance.now) (text_prec instance.now) (text_pcpsp instance.now)
-        instance.now }
-{
-    keep_instance(instance);
-}
-
-/// The text of this CPIT denotes it. A call looks at each of its numbers once.
-pub fn cpit_text_denotes(cpit: &Cpit)
-    ensures { DenotesCpit (length cpit.now.values) (text_cpit cpit.now) cpit.now }
-{
-    keep_cpit(cpit);
-}
 
 /// Where the cone of each zone has one slope on all sides, the texts of a model's instance are those of the instance with predecessors by the
 /// test with one slope.

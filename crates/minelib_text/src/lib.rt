@@ -1,7 +1,6 @@
 //! The MineLib texts of an instance: their writers and the sinks that take them, their readers, and what holds of both.
 #![tactic(auto)]
 
-mod keeping;
 pub mod laws;
 
 pub use minelib_reading::{read_cpit, read_instance};

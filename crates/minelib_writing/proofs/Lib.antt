@@ -1,5 +1,6 @@
 pub mod CoefFacts
 pub mod FieldsWritten
+pub mod KeptFacts
 pub mod LineFacts
 pub mod OneDigit
 pub mod SectionsWritten

@@ -1,4 +1,5 @@
 pub mod TextNames
 pub mod Texts
+pub mod TextsKept
 pub mod Written
 pub mod inner

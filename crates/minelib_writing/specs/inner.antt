@@ -1,2 +1,3 @@
 pub mod CoefParts
+pub mod KeptParts
 pub mod Spaced

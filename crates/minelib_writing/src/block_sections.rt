@@ -1,9 +1,10 @@
 //! The lines of predecessors and values, one for each block.
 
-ghost use Rattle.std.specs.Prelude.{◌≡◌, ◌<◌, ◌≤◌, ◌++◌, ◌∷◌, [], length, map, All, OnOk, decimal};
+ghost use Rattle.std.specs.Prelude.{◌≡◌, ◌<◌, ◌≤◌, ◌++◌, ◌∷◌, [], length, map, All, HoldsAt, OnOk, decimal, ⊤};
 ghost use Rattle.std.specs.List.{flat_map};
 ghost use Rattle.pit_units.specs.Decimal.{shortest};
 ghost use Rattle.mine_instance.specs.Greatest.{greatest};
+ghost use Rattle.minelib_lines.specs.Kept.{IsDecimal};
 ghost use Rattle.minelib_lines.specs.Lines.{line_of, lines_from};
 ghost use Rattle.minelib_writing.specs.Written.{prec_fields, greatest_fields, value_fields};
 ghost use Rattle.pit_parts.specs.declared.ranges.TheConstants.{MAX_BLOCKS};
@@ -28,6 +29,8 @@ pub struct PrecLines<'a> {
 
 impl<'a> Section for PrecLines<'a> {
     ghost lines = { λ s. lines_from prec_fields 0 s.preds.now };
+
+    ghost kept = { λ s n. ⊤ };
 
     fn len(&self) -> usize {
         self.preds.len()
@@ -58,6 +61,8 @@ pub struct ValueLines<'a> {
 impl<'a> Section for ValueLines<'a> {
     ghost lines = { λ s. lines_from value_fields 0 s.values.now };
 
+    ghost kept = { λ s n. HoldsAt (λ of_block. All IsDecimal of_block) s.values.now n };
+
     fn len(&self) -> usize {
         self.values.len()
     }
@@ -68,8 +73,9 @@ impl<'a> Section for ValueLines<'a> {
 }
 
 fn put_values(alloc: Global, out: &mut Vec<u8>, id: usize, values: &[Dec]) -> Result<(), AllocError>
-    ensures { OnOk result (out.new.items
+    ensures text { OnOk result (out.new.items
         ≡ out.old.items ++ (line_of (decimal id ∷ map shortest values.now) ++ 10 ∷ [])) }
+    ensures kept { OnOk result (All IsDecimal values.now) }
 {
     put_whole(out, id as u64)?;
     put_decimals(alloc, out, values)?;
@@ -78,8 +84,9 @@ fn put_values(alloc: Global, out: &mut Vec<u8>, id: usize, values: &[Dec]) -> Re
 }
 
 fn put_decimals(alloc: Global, out: &mut Vec<u8>, values: &[Dec]) -> Result<(), AllocError>
-    ensures { OnOk result (out.new.items
+    ensures text { OnOk result (out.new.items
         ≡ out.old.items ++ flat_map (λ value. 32 ∷ shortest value) values.now) }
+    ensures kept { OnOk result (All IsDecimal values.now) }
 {
     for value in values {
         put_decimal_behind(alloc, out, b' ', *value)?;
@@ -96,6 +103,8 @@ pub struct GreatestLines<'a> {
 
 impl<'a> Section for GreatestLines<'a> {
     ghost lines = { λ s. lines_from greatest_fields 0 s.values.now };
+
+    ghost kept = { λ s n. ⊤ };
 
     fn len(&self) -> usize {
         self.values.len()

@@ -1,9 +1,10 @@
 //! The lines of coefficients. Those of a block stand together, and most often they and the next block's state the same tonnes: such
 //! a line is the one before it with other digits.
 
-ghost use Rattle.std.specs.Prelude.{◌≡◌, ◌+◌, ◌<◌, ◌≤◌, ◌++◌, ◌∷◌, [], ℕ, List, IsTrue, IfOk, OnOk, decimal, length, take, drop};
+ghost use Rattle.std.specs.Prelude.{◌≡◌, ◌+◌, ◌<◌, ◌≤◌, ◌++◌, ◌∷◌, [], ℕ, List, All, HoldsAt, IsTrue, IfOk, OnOk, decimal, length, take, drop};
 ghost use Rattle.std.specs.List.{flat_map};
 ghost use Rattle.pit_units.specs.Decimal.{shortest};
+ghost use Rattle.minelib_lines.specs.Kept.{IsDecimal};
 ghost use Rattle.minelib_lines.specs.Lines.{line_of, lines_from};
 ghost use Rattle.minelib_writing.specs.Written.{coef_fields, cpit_coef_fields};
 ghost use Rattle.minelib_lines.specs.declared.problem.Problem.TheVariants.{Pcpsp};
@@ -30,19 +31,24 @@ pub trait CoefLine {
 
     ghost rest: { Self → List ℕ };
 
+    /// What its type keeps of the coefficient, as is known once its rest is written.
+    ghost kept: { Self → Type 0 };
+
     /// The identifier of the block.
     fn block(&self) -> u32
         ensures { result ≡ block self.now };
 
     /// Appends the rest.
     fn put_rest(&self, alloc: Global, out: &mut Vec<u8>) -> Result<(), AllocError>
-        ensures { OnOk result (out.new.items ≡ out.old.items ++ rest self.now) };
+        ensures text { OnOk result (out.new.items ≡ out.old.items ++ rest self.now) }
+        ensures kept { OnOk result (kept self.now) };
 
     /// Rewrites `text`, which is the rest of another coefficient's line, to the rest of this one's, where the two
     /// differ in digits alone. Returns whether they do.
     fn rewrite(&self, other: &Self, text: &mut [u8]) -> bool
         requires { text.old ≡ rest other.now }
-        ensures { IsTrue result → text.new ≡ rest self.now };
+        ensures text { IsTrue result → text.new ≡ rest self.now }
+        ensures kept { IsTrue result → kept other.now → kept self.now };
 
     ghost parts: { (c : Self) → line_of (fields c) ++ 10 ∷ [] ≡ decimal (block c) ++ 32 ∷ rest c };
 }
@@ -53,6 +59,8 @@ impl CoefLine for Coef {
     ghost block = { λ c. c.b };
 
     ghost rest = { λ c. line_of (decimal c.d ∷ decimal c.r ∷ shortest c.v ∷ []) ++ 10 ∷ [] };
+
+    ghost kept = { λ c. IsDecimal c.v };
 
     fn block(&self) -> u32 {
         self.b
@@ -85,6 +93,8 @@ impl CoefLine for CpitCoef {
 
     ghost rest = { λ c. line_of (decimal c.r ∷ shortest c.v ∷ []) ++ 10 ∷ [] };
 
+    ghost kept = { λ c. IsDecimal c.v };
+
     fn block(&self) -> u32 {
         self.b
     }
@@ -115,6 +125,8 @@ pub struct CoefLines<'a, C> {
 
 impl<'a, C: CoefLine> Section for CoefLines<'a, C> {
     ghost lines = { λ s. lines_from (λ n. C.fields) 0 s.coefs.now };
+
+    ghost kept = { λ s n. HoldsAt C.kept s.coefs.now n };
 
     fn len(&self) -> usize {
         self.coefs.len()
@@ -153,8 +165,9 @@ fn some_from<C>(coefs: &[C], index: usize) -> &[C]
 // stands, and the rest stands behind it.
 fn put_coefs<C: CoefLine>(alloc: Global, out: &mut Vec<u8>, coefs: &[C]) -> Result<(), AllocError>
     requires { 0 < length coefs.now }
-    ensures { OnOk result (out.new.items
+    ensures text { OnOk result (out.new.items
         ≡ out.old.items ++ flat_map (λ c. decimal (C.block c) ++ 32 ∷ C.rest c) coefs.now) }
+    ensures kept { OnOk result (All C.kept coefs.now) }
 {
     let mut before = &coefs[0];
     let mut room = new_room(alloc, before)?;
@@ -170,7 +183,8 @@ fn put_coefs<C: CoefLine>(alloc: Global, out: &mut Vec<u8>, coefs: &[C]) -> Resu
 
 // A room with the rest of a line behind a space.
 fn new_room<C: CoefLine>(alloc: Global, coef: &C) -> Result<Vec<u8>, AllocError>
-    ensures { IfOk result (λ room. drop 10 room.items ≡ 32 ∷ C.rest coef.now) }
+    ensures text { IfOk result (λ room. drop 10 room.items ≡ 32 ∷ C.rest coef.now) }
+    ensures kept { OnOk result (C.kept coef.now) }
 {
     let mut room = Vec::new(alloc);
     room.resize(SPACE + 1, b' ')?;
@@ -213,9 +227,11 @@ fn next_rest<C: CoefLine>(
     before: &C,
     coef: &C,
 ) -> Result<(), AllocError>
-    requires { drop 10 room.old.items ≡ 32 ∷ C.rest before.now }
+    requires rest { drop 10 room.old.items ≡ 32 ∷ C.rest before.now }
+    requires kept { C.kept before.now }
     ensures rest { OnOk result (drop 10 room.new.items ≡ 32 ∷ C.rest coef.now) }
     ensures digits { OnOk result (take 10 room.new.items ≡ take 10 room.old.items) }
+    ensures kept { OnOk result (C.kept coef.now) }
 {
     if coef.rewrite(before, &mut room[SPACE + 1..]) {
         return Ok(());

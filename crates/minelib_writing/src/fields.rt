@@ -2,6 +2,7 @@
 
 ghost use Rattle.std.specs.Prelude.{◌≡◌, ◌++◌, ◌∷◌, [], OnOk, decimal};
 ghost use Rattle.pit_units.specs.Decimal.{shortest};
+ghost use Rattle.minelib_lines.specs.Kept.{IsDecimal};
 
 use itoa::Buffer;
 use pit_units::{Dec, put_dec};
@@ -58,7 +59,8 @@ pub fn put_decimal_to(
     number: Dec,
     end: u8,
 ) -> Result<(), AllocError>
-    ensures { OnOk result (out.new.items ≡ out.old.items ++ (shortest number ++ end ∷ [])) }
+    ensures text { OnOk result (out.new.items ≡ out.old.items ++ (shortest number ++ end ∷ [])) }
+    ensures kept { OnOk result (IsDecimal number) }
 {
     put_dec(alloc, out, number)?;
     out.push(end)?;
@@ -73,7 +75,8 @@ pub fn put_decimal_behind(
     before: u8,
     number: Dec,
 ) -> Result<(), AllocError>
-    ensures { OnOk result (out.new.items ≡ out.old.items ++ before ∷ shortest number) }
+    ensures text { OnOk result (out.new.items ≡ out.old.items ++ before ∷ shortest number) }
+    ensures kept { OnOk result (IsDecimal number) }
 {
     out.push(before)?;
     put_dec(alloc, out, number)

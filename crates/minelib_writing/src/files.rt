@@ -1,6 +1,8 @@
 //! The five texts by their parts.
 
-ghost use Rattle.std.specs.Prelude.{◌≤◌, ◌<◌, length, All};
+ghost use Rattle.std.specs.Prelude.{◌≤◌, ◌<◌, length, All, ⊤};
+ghost use Rattle.mine_instance.specs.CpitKept.{IsCpit};
+ghost use Rattle.minelib_lines.specs.Kept.{IsKept, IsKeptCpit};
 ghost use Rattle.minelib_writing.specs.Written.{text_blocks, text_prec, text_upit, text_pcpsp, text_cpit};
 ghost use Rattle.pit_parts.specs.declared.ranges.TheConstants.{MAX_BLOCKS};
 
@@ -26,6 +28,8 @@ pub struct BlockFile<'a> {
 impl<'a> Text for BlockFile<'a> {
     ghost text = { λ t. text_blocks t.instance.now };
 
+    ghost kept = { λ t. ⊤ };
+
     #[tactic(auto, unfolding(crate::specs::Written::text_blocks))]
     fn write<S: Sink>(
         &self,
@@ -46,6 +50,8 @@ pub struct PrecFile<'a> {
 
 impl<'a> Text for PrecFile<'a> {
     ghost text = { λ t. text_prec t.instance.now };
+
+    ghost kept = { λ t. ⊤ };
 
     #[tactic(auto, using(crate::proofs::SectionsWritten::nothing_put), unfolding(crate::specs::Written::text_prec))]
     fn write<S: Sink>(
@@ -70,6 +76,8 @@ pub struct UpitFile<'a> {
 
 impl<'a> Text for UpitFile<'a> {
     ghost text = { λ t. text_upit t.instance.now };
+
+    ghost kept = { λ t. ⊤ };
 
     #[tactic(auto, using(crate::proofs::SectionsWritten::nothing_put))]
     fn write<S: Sink>(
@@ -102,6 +110,8 @@ pub struct PcpspFile<'a> {
 
 impl<'a> Text for PcpspFile<'a> {
     ghost text = { λ t. text_pcpsp t.instance.now };
+
+    ghost kept = { λ t. IsKept t.instance.now };
 
     #[tactic(auto, using(crate::proofs::SectionsWritten::nothing_put))]
     fn write<S: Sink>(
@@ -137,6 +147,8 @@ pub struct CpitFile<'a> {
 
 impl<'a> Text for CpitFile<'a> {
     ghost text = { λ t. text_cpit t.cpit.now };
+
+    ghost kept = { λ t. IsKeptCpit t.cpit.now × IsCpit t.cpit.now };
 
     #[tactic(auto, using(crate::proofs::SectionsWritten::nothing_put))]
     fn write<S: Sink>(

@@ -1,7 +1,8 @@
 //! The lines of blocks and limits, and of a CPIT's values.
 
-ghost use Rattle.std.specs.Prelude.{◌≡◌, ◌++◌, ◌∷◌, [], ◌*◌, pos, OnOk, decimal};
+ghost use Rattle.std.specs.Prelude.{◌≡◌, ◌++◌, ◌∷◌, [], ◌*◌, pos, OnOk, decimal, ⊤};
 ghost use Rattle.pit_units.specs.Decimal.{shortest};
+ghost use Rattle.minelib_lines.specs.Kept.{IsDecimal, HasDecimals};
 ghost use Rattle.minelib_lines.specs.Lines.{line_of};
 ghost use Rattle.forms.specs.WrittenValues.{written};
 ghost use Rattle.minelib_lines.specs.LineValues.{bound_values};
@@ -16,6 +17,8 @@ use std::alloc::{AllocError, Global};
 
 impl Line for Block {
     ghost fields = { block_fields };
+
+    ghost kept = { λ b. ⊤ };
 
     fn put(&self, alloc: Global, index: usize, out: &mut Vec<u8>) -> Result<(), AllocError> {
         put_whole_to(out, index as u64, b' ')?;
@@ -51,6 +54,8 @@ fn put_ore(alloc: Global, out: &mut Vec<u8>, block: &Block) -> Result<(), AllocE
 impl Line for Limit {
     ghost fields = { limit_fields };
 
+    ghost kept = { λ l. HasDecimals l.bound };
+
     fn put(&self, alloc: Global, _index: usize, out: &mut Vec<u8>) -> Result<(), AllocError> {
         put_whole_to(out, u64::from(self.resource), b' ')?;
         put_whole_to(out, u64::from(self.period), b' ')?;
@@ -59,8 +64,9 @@ impl Line for Limit {
 }
 
 fn put_bound(alloc: Global, out: &mut Vec<u8>, bound: &Bound) -> Result<(), AllocError>
-    ensures { OnOk result (out.new.items
+    ensures text { OnOk result (out.new.items
         ≡ out.old.items ++ (line_of (written (bound_values bound.now)) ++ 10 ∷ [])) }
+    ensures kept { OnOk result (HasDecimals bound.now) }
 {
     match bound {
         Bound::AtMost(v) => {
@@ -82,6 +88,8 @@ fn put_bound(alloc: Global, out: &mut Vec<u8>, bound: &Bound) -> Result<(), Allo
 // The one value of a block.
 impl Line for Dec {
     ghost fields = { cpit_value_fields };
+
+    ghost kept = { IsDecimal };
 
     fn put(&self, alloc: Global, index: usize, out: &mut Vec<u8>) -> Result<(), AllocError> {
         put_whole_to(out, index as u64, b' ')?;

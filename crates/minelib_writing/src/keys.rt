@@ -1,7 +1,8 @@
 //! The key lines of the model files.
 
-ghost use Rattle.std.specs.Prelude.{◌≡◌, ◌++◌, ◌∷◌, [], OnOk, decimal};
+ghost use Rattle.std.specs.Prelude.{◌≡◌, ◌++◌, ◌∷◌, [], OnOk, decimal, true};
 ghost use Rattle.pit_units.specs.Decimal.{shortest};
+ghost use Rattle.pit_parts.specs.Name.{is_name};
 ghost use Rattle.minelib_lines.specs.Lines.{text_of};
 ghost use Rattle.minelib_writing.specs.Written.{key_line, problem_keys, count_keys, pcpsp_keys, cpit_keys};
 
@@ -19,8 +20,9 @@ pub fn put_problem(
     problem: &[u8],
     blocks: usize,
 ) -> Result<(), AllocError>
-    ensures { OnOk result (out.new.items
+    ensures text { OnOk result (out.new.items
         ≡ out.old.items ++ text_of (problem_keys name.now problem.now blocks)) }
+    ensures kept { is_name name.now ≡ true }
 {
     put_key(out, b"NAME:", name.as_str().as_bytes())?;
     put_key(out, b"TYPE:", problem)?;

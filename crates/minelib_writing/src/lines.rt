@@ -1,6 +1,6 @@
 //! A line for each item of a list.
 
-ghost use Rattle.std.specs.Prelude.{◌≡◌, ◌<◌, ◌++◌, ◌∷◌, [], ℕ, List, length, slice_index_or, OnOk};
+ghost use Rattle.std.specs.Prelude.{◌≡◌, ◌<◌, ◌++◌, ◌∷◌, [], ℕ, List, HoldsAt, length, slice_index_or, OnOk};
 ghost use Rattle.minelib_lines.specs.Lines.{line_of, lines_from};
 
 use crate::sections::Section;
@@ -10,11 +10,15 @@ use std::alloc::{AllocError, Global};
 pub trait Line {
     ghost fields: { ℕ → Self → List (List ℕ) };
 
+    /// What its type keeps of the item, as is known once its line is written.
+    ghost kept: { Self → Type 0 };
+
     /// Appends the line of the item, whose place in its list is `index`, with its LF. Where memory is refused a part of it may be
     /// appended.
     fn put(&self, alloc: Global, index: usize, out: &mut Vec<u8>) -> Result<(), AllocError>
-        ensures { OnOk result (out.new.items
-            ≡ out.old.items ++ (line_of (fields index self.now) ++ 10 ∷ [])) };
+        ensures text { OnOk result (out.new.items
+            ≡ out.old.items ++ (line_of (fields index self.now) ++ 10 ∷ [])) }
+        ensures kept { OnOk result (kept self.now) };
 }
 
 /// A line for each item.
@@ -25,6 +29,8 @@ pub struct Lines<'a, T> {
 
 impl<'a, T: Line> Section for Lines<'a, T> {
     ghost lines = { λ s. lines_from T.fields 0 s.items.now };
+
+    ghost kept = { λ s n. HoldsAt T.kept s.items.now n };
 
     fn len(&self) -> usize {
         self.items.len()

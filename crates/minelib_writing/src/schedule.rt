@@ -1,9 +1,10 @@
 //! The objective, the coefficients and the limits, each under its section line.
 
-ghost use Rattle.std.specs.Prelude.{IfErr, OnOk};
+ghost use Rattle.std.specs.Prelude.{IfErr, OnOk, length};
 ghost use Rattle.minelib_lines.specs.Lines.{text_of};
 ghost use Rattle.text_sinks.specs.SinkSteps.{refusals, IsAppended, IsAppendCut};
 ghost use Rattle.minelib_writing.specs.Written.{section_lines};
+ghost use Rattle.minelib_writing.specs.inner.KeptParts.{HoldsFrom};
 
 use crate::sections::{Section, write_titled};
 use std::alloc::Global;
@@ -25,6 +26,9 @@ pub fn write_sections<S: Sink, V: Section, C: Section, L: Section>(
     ensures refused { IfErr result (λ fault. IsAppendCut (refusals fault)
         (text_of (section_lines (V.lines values.now) (C.lines coefs.now) (L.lines limits.now)))
         buffer.old.items (S.state sink.old) (S.state sink.new)) }
+    ensures values { OnOk result (HoldsFrom (V.kept values.now) 0 (length (V.lines values.now))) }
+    ensures coefs { OnOk result (HoldsFrom (C.kept coefs.now) 0 (length (C.lines coefs.now))) }
+    ensures limits { OnOk result (HoldsFrom (L.kept limits.now) 0 (length (L.lines limits.now))) }
 {
     write_titled(alloc, sink, buffer, b"OBJECTIVE_FUNCTION:", values)?;
     write_titled(

@@ -2,6 +2,7 @@
 
 ghost use Rattle.std.specs.Prelude.{◌≡◌, ◌+◌, ◌<◌, ◌≤◌, ℕ, List, [], ◌∷◌, ◌++◌, length, take, drop, slice_index_or, IfOk, IfErr, OnOk, OnErr};
 ghost use Rattle.minelib_lines.specs.Lines.{text_of};
+ghost use Rattle.minelib_writing.specs.inner.KeptParts.{HoldsFrom};
 ghost use Rattle.text_sinks.specs.SinkSteps.{refusals, IsAppended, IsAppendCut};
 
 use crate::fields::put_text;
@@ -14,15 +15,19 @@ use text_sinks::write_fault::WriteFault;
 pub trait Section {
     ghost lines: { Self → List (List ℕ) };
 
+    /// What its type keeps of the part at a place, as is known once its line is written.
+    ghost kept: { Self → ℕ → Type 0 };
+
     fn len(&self) -> usize
         ensures { result ≡ length (lines self.now) };
 
     /// Appends one line with its LF. Where memory is refused a part of it may be appended.
     fn append(&self, alloc: Global, index: usize, out: &mut Vec<u8>) -> Result<(), AllocError>
         requires { index < length (lines self.now) }
-        ensures { OnOk result
+        ensures text { OnOk result
             (out.new.items
-            ≡ out.old.items ++ (slice_index_or (lines self.now) index [] ++ 10 ∷ [])) };
+            ≡ out.old.items ++ (slice_index_or (lines self.now) index [] ++ 10 ∷ [])) }
+        ensures kept { OnOk result (kept self.now index) };
 
     /// Appends one line or more, each with its LF, and answers how many. Where memory is refused a part of them may be appended.
     fn append_some(
@@ -36,6 +41,7 @@ pub trait Section {
         ensures within { IfOk result (λ n. index + n ≤ length (lines self.now)) }
         ensures appended { IfOk result (λ n.
             out.new.items ≡ out.old.items ++ text_of (take n (drop index (lines self.now)))) }
+        ensures kept { IfOk result (λ n. HoldsFrom (kept self.now) index (index + n)) }
     {
         self.append(alloc, index, out)?;
         Ok(1)
@@ -55,6 +61,8 @@ pub fn write_section<S: Sink, L: Section>(
     ensures refused { IfErr result
         (λ fault. IsAppendCut (refusals fault) (text_of (L.lines section.now))
         buffer.old.items (S.state sink.old) (S.state sink.new)) }
+    ensures kept { OnOk result
+        (HoldsFrom (L.kept section.now) 0 (length (L.lines section.now))) }
 {
     let mut index = 0;
     while index < section.len() {
@@ -82,6 +90,7 @@ fn write_some<S: Sink, L: Section>(
     ensures refused { IfErr result
         (λ fault. IsAppendCut (refusals fault) (text_of (drop index (L.lines section.now)))
         buffer.old.items (S.state sink.old) (S.state sink.new)) }
+    ensures kept { IfOk result (λ n. HoldsFrom (L.kept section.now) index (index + n)) }
 {
     let count = section.append_some(alloc, index, buffer)?;
     flush_full(sink, buffer)?;
@@ -102,6 +111,8 @@ pub fn write_titled<S: Sink, L: Section>(
     ensures refused { IfErr result
         (λ fault. IsAppendCut (refusals fault) (text_of (title.now ∷ L.lines section.now))
         buffer.old.items (S.state sink.old) (S.state sink.new)) }
+    ensures kept { OnOk result
+        (HoldsFrom (L.kept section.now) 0 (length (L.lines section.now))) }
 {
     put_text(buffer, title, b'\n')?;
     write_section(alloc, sink, buffer, section)

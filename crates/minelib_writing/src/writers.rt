@@ -6,8 +6,11 @@ ghost use Rattle.text_sinks.specs.SinkState.{IsWritten, IsCutOff};
 ghost use Rattle.text_sinks.specs.SinkSteps.{refusals};
 ghost use Rattle.minelib_writing.specs.Written.{text_blocks, text_prec, text_upit, text_pcpsp, text_cpit};
 ghost use Rattle.minelib_writing.specs.Texts.{text_named};
+ghost use Rattle.minelib_writing.specs.TextsKept.{kept_named};
 ghost use Rattle.mine_instance.specs.OfCpit.{cpit as cpit_of};
+ghost use Rattle.mine_instance.specs.CpitKept.{IsCpit};
 ghost use Rattle.mine_instance.specs.Valid.{IsValid};
+ghost use Rattle.minelib_lines.specs.Kept.{IsKept, IsKeptCpit};
 
 use crate::files::{BlockFile, CpitFile, PcpspFile, PrecFile, UpitFile};
 use crate::text_name::TextName;
@@ -67,7 +70,8 @@ pub fn write_upit<S: Sink>(
     write_text(alloc, &UpitFile { instance }, sink)
 }
 
-/// Begins the sink and writes the file of the production scheduling problem.
+/// Begins the sink and writes the file of the production scheduling problem. Of an instance that it wrote it says what the types of
+/// the parts keep: a NAME and decimals.
 pub fn write_pcpsp<S: Sink>(
     alloc: Global,
     instance: &Instance,
@@ -79,17 +83,21 @@ pub fn write_pcpsp<S: Sink>(
     ensures refused { IfErr result
         (λ fault. IsCutOff (refusals fault) (text_pcpsp instance.now) (S.state sink.old)
         (S.state sink.new)) }
+    ensures kept { OnOk result (IsKept instance.now) }
 {
     write_text(alloc, &PcpspFile { instance }, sink)
 }
 
-/// Begins the sink and writes the file of the constrained pit limit problem.
+/// Begins the sink and writes the file of the constrained pit limit problem. Of a CPIT that it wrote it says what the types of the
+/// parts keep, and that they are within their ranges and orders.
 pub fn write_cpit<S: Sink>(alloc: Global, cpit: &Cpit, sink: &mut S) -> Result<(), WriteFault>
     ensures written { OnOk result
         (IsWritten (text_cpit cpit.now) (S.state sink.old) (S.state sink.new)) }
     ensures refused { IfErr result
         (λ fault. IsCutOff (refusals fault) (text_cpit cpit.now) (S.state sink.old)
         (S.state sink.new)) }
+    ensures kept { OnOk result (IsKeptCpit cpit.now) }
+    ensures is { OnOk result (IsCpit cpit.now) }
 {
     write_text(alloc, &CpitFile { cpit }, sink)
 }
@@ -109,6 +117,7 @@ pub fn write_named<S: Sink>(
     ensures refused { IfErr result
         (λ fault. IsCutOff (refusals fault) (text_named name instance.now) (S.state sink.old)
         (S.state sink.new)) }
+    ensures kept { OnOk result (kept_named name instance.now) }
 {
     match name {
         TextName::Blocks => write_blocks(alloc, instance, sink),

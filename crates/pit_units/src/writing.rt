@@ -19,6 +19,7 @@ const ROOM: usize = POINT + LONGEST;
 pub fn put_dec(_alloc: Global, out: &mut Vec<u8>, dec: Dec) -> Result<(), AllocError>
     ensures ok { OnOk result (out.new.items ≡ out.old.items ++ shortest dec) }
     ensures err { OnErr result (out.new.items ≡ out.old.items) }
+    ensures in_range { unsigned_abs dec ≤ 10 ^ 24 }
 {
     let mut room = [0; ROOM];
     let (start, end) = write_text(&mut room, dec);
@@ -45,6 +46,7 @@ fn write_text(room: &mut [u8], dec: Dec) -> (usize, usize)
     ensures text { slice_range room.new result.0 result.1 ≡ shortest dec }
     ensures start { result.0 ≤ 20 }
     ensures end { (result.0 ≤ result.1) × (result.1 ≤ 27) }
+    ensures in_range { unsigned_abs dec ≤ 10 ^ 24 }
 {
     let (whole, decimals) = parts(size(dec));
     let end = write_decimals(room, decimals);

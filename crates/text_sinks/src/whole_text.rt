@@ -13,6 +13,9 @@ use std::alloc::Global;
 pub trait Text {
     ghost text: { Self → List ℕ };
 
+    /// What the types of its parts keep of them, as is known once it is written.
+    ghost kept: { Self → Type 0 };
+
     /// Writes the text behind what the buffer holds.
     fn write<S: Sink>(
         &self,
@@ -23,7 +26,8 @@ pub trait Text {
         ensures written { OnOk result (IsAppended (text self.now)
             buffer.old.items buffer.new.items (S.state sink.old) (S.state sink.new)) }
         ensures refused { IfErr result (λ fault. IsAppendCut (refusals fault) (text self.now)
-            buffer.old.items (S.state sink.old) (S.state sink.new)) };
+            buffer.old.items (S.state sink.old) (S.state sink.new)) }
+        ensures kept { OnOk result (kept self.now) };
 }
 
 /// Begins the sink and writes the text.
@@ -34,6 +38,7 @@ pub fn write_text<S: Sink, T: Text>(alloc: Global, text: &T, sink: &mut S) -> Re
     ensures refused { IfErr result
         (λ fault. IsCutOff (refusals fault) (T.text text.now) (S.state sink.old)
         (S.state sink.new)) }
+    ensures kept { OnOk result (T.kept text.now) }
 {
     let mut buffer = Vec::with_capacity(alloc, 2 * LARGE)?;
     sink.begin()?;

@@ -3,5 +3,5 @@ use Rattle.pit_units.specs.Decimal.{shortest}
 use Rattle.minelib_writing.proofs.LineFacts.{line_of-map}
 use Rattle.minelib_writing.proofs.block_sections.put_values.Goals as goal
 
-pub returns : goal.returns
-returns c = rw (line_of-map _ shortest c.args.values.now) (search (rules, append_assoc))
+pub returns-clause-text : goal.returns-clause-text
+returns-clause-text c = rw (line_of-map _ shortest c.args.values.now) (search (rules, append_assoc))

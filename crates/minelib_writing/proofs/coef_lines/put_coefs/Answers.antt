@@ -1,7 +1,8 @@
-use Rattle.std.proofs.Common.{rules, ◌≡◌, ◌∷◌, ◌++◌, take, drop, ap, ◌∙◌}
+use Rattle.std.proofs.Common.{rules, ◌≡◌, ◌∷◌, ◌++◌, take, drop, ap, subst, ◌∙◌, arith}
 use Rattle.std.specs.Prelude.{decimal}
 use Rattle.std.proofs.lemmas.List.{take_rest}
 use Rattle.minelib_writing.proofs.CoefFacts.{line_in, next_line}
+use Rattle.minelib_writing.proofs.KeptFacts.{All-more, all_seen}
 use Rattle.minelib_writing.proofs.coef_lines.put_coefs.Goals as goal
 
 pub loop-coef-preserved : goal.loop-coef-preserved
@@ -24,4 +25,11 @@ loop-coef-preserved g c =
           c.extend_from_slice.new.self.items
           (drop start room) c.args.coefs.now c.loop-coef.coef-index coef c.loop-coef-test.true c.coef-item.is
           c.loop-coef.invariant.text appended line;
+      before = c.in_ok-next_rest.ensures.kept;
+      kept = All-more g.C.CoefLine.kept c.args.coefs.now c.loop-coef.coef-index coef c.loop-coef-test.true c.loop-coef.invariant.kept
+          (subst g.C.CoefLine.kept c.coef-item.is c.in_ok-next_rest.ensures.kept);
     }
+
+pub returns-clause-kept : goal.returns-clause-kept
+returns-clause-kept g c =
+    all_seen g.C.CoefLine.kept c.args.coefs.now c.loop-coef.coef-index (omega arith) c.loop-coef.invariant.kept

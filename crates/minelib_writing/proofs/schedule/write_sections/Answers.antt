@@ -31,4 +31,7 @@ returns g c =
       written = on_ok_weaker c.write_titled-3.result (lines_then (values ++ coefs) limits two) c.write_titled-3.ensures.written;
       refused = IfErr-weaker c.write_titled-3.result _ _ (λ _. lines_cut_then (values ++ coefs) limits two)
           c.write_titled-3.ensures.refused;
+      values = on_ok_weaker c.write_titled-3.result (λ _. c.in_ok-write_titled.ensures.kept) c.write_titled-3.ensures.kept;
+      coefs = on_ok_weaker c.write_titled-3.result (λ _. c.in_ok-write_titled-2.ensures.kept) c.write_titled-3.ensures.kept;
+      limits = c.write_titled-3.ensures.kept;
     }

@@ -1,5 +1,6 @@
-use Rattle.std.proofs.Common.{rules}
-use Rattle.minelib_writing.proofs.SectionsWritten.{rest_cut}
+use Rattle.std.proofs.Common.{rules, ◌+◌, arith}
+use Rattle.minelib_writing.proofs.KeptFacts.{holds_then}
+use Rattle.minelib_writing.proofs.SectionsWritten.{more_then, rest_cut}
 use Rattle.minelib_writing.proofs.sections.write_section.Goals as goal
 
 -- the lines so far were written on, the rest was cut short, and so are they all
@@ -8,3 +9,17 @@ returns-in_err-count-clause-refused g c =
     let lines = g.L.Section.lines c.args.section.now in
     let cut = rest_cut lines _ c.loop-index.invariant.written c.in_err-count.ensures.refused in
     search rules
+
+-- those before the place, and then some more
+pub loop-index-preserved : goal.loop-index-preserved
+loop-index-preserved g c =
+    let lines = g.L.Section.lines c.args.section.now in
+    let index = c.loop-index.index in
+    record {
+      within = c.in_ok-count.ensures.within;
+      written = more_then lines index c.in_ok-count.count c.loop-index.invariant.written c.in_ok-count.ensures.written;
+      kept = holds_then 0 index (index + c.in_ok-count.count) c.loop-index.invariant.kept c.in_ok-count.ensures.kept;
+    }
+
+pub returns-clause-kept : goal.returns-clause-kept
+returns-clause-kept g c place low high = c.loop-index.invariant.kept place low (omega arith)

@@ -1,8 +1,11 @@
 use Rattle.std.proofs.Common.{◌++◌, length}
 use Rattle.std.specs.Prelude.{codes}
 use Rattle.std.proofs.lemmas.Result.{on_ok_weaker, IfErr-weaker}
+use Rattle.minelib_lines.specs.Kept.{IsDecimal, HasDecimals}
 use Rattle.minelib_lines.specs.Lines.{text_of, lines_from}
 use Rattle.minelib_writing.specs.Written.{text_cpit, problem_keys, cpit_keys, section_lines, cpit_value_fields, cpit_coef_fields, limit_fields}
+use Rattle.minelib_writing.proofs.KeptFacts.{kept_all, on_ok_three}
+use Rattle.minelib_writing.proofs.LineFacts.{length-lines_from}
 use Rattle.minelib_writing.proofs.SectionsWritten.{buffered, lines_then, lines_cut_then}
 use Rattle.minelib_writing.proofs.files.CpitFileText.write.Goals as goal
 
@@ -14,11 +17,23 @@ returns g c =
     let more = cpit_keys i.periods i.resources i.rate in
     let limits = lines_from limit_fields 0 i.limits in
     let sections = section_lines (lines_from cpit_value_fields 0 i.values) (lines_from cpit_coef_fields 0 i.coefs) limits in
-    let first = buffered (text_of keys) (rw (c.name.ensures, c.values.ensures.value) at c.in_ok-put_problem.ensures) in
+    let first = buffered (text_of keys) (rw (c.name.ensures, c.values.ensures.value) at c.in_ok-put_problem.ensures.text) in
     let both = lines_then keys more first (buffered (text_of more) c.in_ok-put_cpit_keys.ensures) in
     record {
       written = on_ok_weaker c.write_sections.result (lines_then (keys ++ more) sections both)
           (rw (c.values-2.ensures.value, c.coefs.ensures.value, c.limits.ensures.value) at c.write_sections.ensures.written);
       refused = IfErr-weaker c.write_sections.result _ _ (λ _. lines_cut_then (keys ++ more) sections both)
           (rw (c.values-2.ensures.value, c.coefs.ensures.value, c.limits.ensures.value) at c.write_sections.ensures.refused);
+      kept = on_ok_three c.write_sections.result
+          (λ values coefs limits. (
+            record {
+              name = rw c.name.ensures at c.in_ok-put_problem.ensures.kept;
+              values = kept_all (λ v. IsDecimal v) i.values _ (length-lines_from cpit_value_fields 0 i.values) values;
+              coefs = kept_all (λ c. IsDecimal c.v) i.coefs _ (length-lines_from cpit_coef_fields 0 i.coefs) coefs;
+              limits = kept_all (λ l. HasDecimals l.bound) i.limits _ (length-lines_from limit_fields 0 i.limits) limits;
+            },
+            c.values.ensures.kept,
+          ))
+          (rw c.values-2.ensures.value at c.write_sections.ensures.values) (rw c.coefs.ensures.value at c.write_sections.ensures.coefs)
+          (rw c.limits.ensures.value at c.write_sections.ensures.limits);
     }

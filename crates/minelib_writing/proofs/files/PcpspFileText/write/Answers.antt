@@ -1,9 +1,12 @@
-use Rattle.std.proofs.Common.{◌++◌, length}
+use Rattle.std.proofs.Common.{◌++◌, All, length}
 use Rattle.std.specs.Prelude.{codes}
 use Rattle.std.proofs.lemmas.Result.{on_ok_weaker, IfErr-weaker}
+use Rattle.minelib_lines.specs.Kept.{IsDecimal, HasDecimals}
 use Rattle.minelib_lines.specs.Lines.{text_of, lines_from}
 use Rattle.minelib_writing.specs.Written.{text_pcpsp, problem_keys, pcpsp_keys, section_lines, value_fields, coef_fields, limit_fields}
 use Rattle.minelib_lines.specs.declared.problem.Problem.TheVariants.{Pcpsp}
+use Rattle.minelib_writing.proofs.KeptFacts.{kept_all, on_ok_three}
+use Rattle.minelib_writing.proofs.LineFacts.{length-lines_from}
 use Rattle.minelib_writing.proofs.SectionsWritten.{buffered, lines_then, lines_cut_then}
 use Rattle.minelib_writing.proofs.files.PcpspFileText.write.Goals as goal
 
@@ -15,11 +18,20 @@ returns g c =
     let more = pcpsp_keys i.periods i.destinations i.resources i.rate in
     let limits = lines_from limit_fields 0 i.limits in
     let sections = section_lines (lines_from value_fields 0 i.values) (lines_from (coef_fields Pcpsp) 0 i.coefs) limits in
-    let first = buffered (text_of keys) (rw c.blocks_len.ensures at c.in_ok-put_problem.ensures) in
+    let first = buffered (text_of keys) (rw c.blocks_len.ensures at c.in_ok-put_problem.ensures.text) in
     let both = lines_then keys more first (buffered (text_of more) c.in_ok-put_pcpsp_keys.ensures) in
     record {
       written = on_ok_weaker c.write_sections.result (lines_then (keys ++ more) sections both)
           (rw (c.as_slice.ensures, c.as_slice-2.ensures) at c.write_sections.ensures.written);
       refused = IfErr-weaker c.write_sections.result _ _ (λ _. lines_cut_then (keys ++ more) sections both)
           (rw (c.as_slice.ensures, c.as_slice-2.ensures) at c.write_sections.ensures.refused);
+      kept = on_ok_three c.write_sections.result
+          (λ values coefs limits. record {
+            name = c.in_ok-put_problem.ensures.kept;
+            values = kept_all (λ values. All IsDecimal values) i.values _ (length-lines_from value_fields 0 i.values) values;
+            coefs = kept_all (λ c. IsDecimal c.v) i.coefs _ (length-lines_from (coef_fields Pcpsp) 0 i.coefs) coefs;
+            limits = kept_all (λ l. HasDecimals l.bound) i.limits _ (length-lines_from limit_fields 0 i.limits) limits;
+          })
+          c.write_sections.ensures.values (rw c.as_slice.ensures at c.write_sections.ensures.coefs)
+          (rw c.as_slice-2.ensures at c.write_sections.ensures.limits);
     }

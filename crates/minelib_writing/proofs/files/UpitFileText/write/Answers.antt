@@ -12,8 +12,9 @@ returns g c =
     let i = c.args.self.now.instance.now in
     let keys = problem_keys i.name (codes "UPIT") (length i.blocks) in
     let values = codes "OBJECTIVE_FUNCTION:" ∷ lines_from greatest_fields 0 i.values in
-    let first = buffered (text_of keys) (rw c.blocks_len.ensures at c.in_ok-put_problem.ensures) in
+    let first = buffered (text_of keys) (rw c.blocks_len.ensures at c.in_ok-put_problem.ensures.text) in
     record {
       written = on_ok_weaker c.write_titled.result (lines_then keys values first) c.write_titled.ensures.written;
       refused = IfErr-weaker c.write_titled.result _ _ (λ _. lines_cut_then keys values first) c.write_titled.ensures.refused;
+      kept = on_ok_weaker c.write_titled.result (λ _. tt) c.write_titled.ensures.written;
     }

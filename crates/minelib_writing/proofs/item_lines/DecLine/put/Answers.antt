@@ -2,5 +2,5 @@ use Rattle.std.proofs.Common.{rules, append_assoc}
 use Rattle.pit_units.proofs.Written.{whole_written}
 use Rattle.minelib_writing.proofs.item_lines.DecLine.put.Goals as goal
 
-pub returns : goal.returns
-returns c = rw (whole_written c.args.index) (search (rules, append_assoc))
+pub returns-clause-text : goal.returns-clause-text
+returns-clause-text c = rw (whole_written c.args.index) (search (rules, append_assoc))

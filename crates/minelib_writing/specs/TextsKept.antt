@@ -1,0 +1,16 @@
+-- What is known of an instance once one of its texts is written.
+use Rattle.std.specs.Prelude.{⊤}
+use Rattle.mine_instance.specs.CpitKept.{IsCpit}
+use Rattle.mine_instance.specs.OfCpit.{cpit}
+use Rattle.mine_instance.specs.declared.instance.Instance.{Instance}
+use Rattle.minelib_lines.specs.Kept.{IsKept, IsKeptCpit}
+use Rattle.minelib_writing.specs.declared.text_name.TextName.{TextName}
+use Rattle.minelib_writing.specs.declared.text_name.TextName.TheVariants.{Blocks, Prec, Upit, Pcpsp, Cpit}
+
+-- by the text's name
+abbrev pub kept_named : TextName → Instance → Type 0
+kept_named Blocks i = ⊤
+kept_named Prec i = ⊤
+kept_named Upit i = ⊤
+kept_named Pcpsp i = IsKept i
+kept_named Cpit i = IsKeptCpit (cpit i) × IsCpit (cpit i)
