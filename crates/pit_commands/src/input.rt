@@ -6,8 +6,10 @@ ghost use Rattle.pit_parts.specs.declared.ranges.TheConstants.{MAX_FILE_BYTES};
 
 use pit_model::ranges::MAX_FILE_BYTES;
 use std::alloc::{AllocError, Global};
-use std::io::{ErrorKind, Read};
+use std::io::Read;
 use thiserror::Error;
+use zone_csv::feed::FeedFault;
+use zone_csv::single_read::read_some;
 
 // What is asked of the input at once, in bytes.
 const CHUNK: usize = 65_536;
@@ -24,6 +26,16 @@ pub enum InputFault {
     /// Memory was refused.
     #[error("OutOfMemory")]
     OutOfMemory,
+}
+
+impl From<FeedFault> for InputFault {
+    ghost use Rattle.pit_commands.specs.declared.input.InputFault.TheVariants.{FeedFailed};
+
+    ghost from_gives = { λ _ fault. fault ≡ FeedFailed };
+
+    fn from(_fault: FeedFault) -> InputFault {
+        InputFault::FeedFailed
+    }
 }
 
 impl From<AllocError> for InputFault {
@@ -86,21 +98,5 @@ fn read_past<T: Read>(input: &mut T, bytes: &mut [u8], len: usize) -> Result<usi
     ensures never_long { IsErrOf result InputFault.TooLong → ⊥ }
 {
     let (_, room) = bytes.split_at_mut(len);
-    read_some(input, room)
-}
-
-// One read that no signal interrupts.
-fn read_some<T: Read>(input: &mut T, buffer: &mut [u8]) -> Result<usize, InputFault>
-    ensures within { IfOk result (λ count. count ≤ length buffer.new) }
-    ensures reads { ReadConsumes (T.remaining input.old) (T.remaining input.new) result buffer.new }
-    ensures never_long { IsErrOf result InputFault.TooLong → ⊥ }
-{
-    for _ in 0..u64::MAX {
-        match input.read(buffer) {
-            Ok(count) => return Ok(count),
-            Err(error) if error.kind() == ErrorKind::Interrupted => {}
-            Err(_) => return Err(InputFault::FeedFailed),
-        }
-    }
-    Err(InputFault::FeedFailed)
+    Ok(read_some(input, room)?)
 }

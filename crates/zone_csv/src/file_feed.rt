@@ -4,9 +4,10 @@ ghost use Rattle.std.specs.Io.KnownBytes.{ReadConsumes};
 ghost use Rattle.std.specs.Prelude.{◌≡◌, ◌+◌, ◌≤◌, None, false, length, IfOk, OnOk, OnErr};
 
 use crate::feed::{Feed, FeedFault};
+use crate::single_read::read_some;
 use pit_parts::count::{Count, raised};
 use std::fs::File;
-use std::io::{ErrorKind, Read};
+use std::io::Read;
 use std::marker::Model;
 use std::rt::Files;
 
@@ -86,26 +87,11 @@ impl<F: Read + Drop> Feed for FileFeed<F> {
     }
 }
 
-// One read that no signal interrupts.
-fn read_some<F: Read>(file: &mut F, buffer: &mut [u8]) -> Result<usize, FeedFault>
-    ensures within { IfOk result (λ count. count ≤ length buffer.old) }
-    ensures reads { ReadConsumes (F.remaining file.old) (F.remaining file.new) result buffer.new }
-{
-    for _ in 0..u64::MAX {
-        match file.read(buffer) {
-            Ok(count) => return Ok(count),
-            Err(error) if error.kind() == ErrorKind::Interrupted => {}
-            Err(_) => return Err(FeedFault),
-        }
-    }
-    Err(FeedFault)
-}
-
 #[cfg(test)]
 mod tests {
     use super::*;
     use crate::slurp::{SlurpFault, slurp};
-    use std::io;
+    use std::io::{self, ErrorKind};
     use std::test::Fail;
 
     // A file that gives a byte a read, behind one read that is interrupted, and then ends or fails.

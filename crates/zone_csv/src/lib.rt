@@ -9,6 +9,7 @@ pub mod laws;
 pub mod mem_feed;
 mod row;
 pub mod row_fault;
+pub mod single_read;
 pub mod slice_feed;
 pub mod slurp;
 pub mod zone_fault;
