@@ -11,7 +11,7 @@ use crate::piece::Piece;
 use crate::printing::print;
 use lane::Gathered;
 use pit_compile::refusal::Refusal;
-use pit_compile::settings::{Settings, require_settings};
+use pit_compile::settings::{Budget, Settings, require_settings};
 use pit_compile::{MOST_STARTS, compile};
 use pit_model::destination::Destination;
 use pit_model::plan::Plan;
@@ -63,8 +63,10 @@ pub fn pipe<R: Threads + Wait + Sync>(
         feeds,
         plan,
         destinations,
-        SETTINGS,
-        MOST_STARTS,
+        Budget {
+            settings: SETTINGS,
+            starts: MOST_STARTS,
+        },
         &OpenGate,
     )?;
     print(alloc, &compiled.instance, &compiled.cpit, out)?;

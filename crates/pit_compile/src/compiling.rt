@@ -16,7 +16,7 @@ use crate::collecting::collect;
 use crate::instance_building::instance_of;
 use crate::read_answers::require_read;
 use crate::refusal::Refusal;
-use crate::settings::{Settings, require_settings};
+use crate::settings::{Budget, require_settings};
 use lane::Gathered;
 use mine_instance::build_cpit;
 use mine_instance::cpit::Cpit;
@@ -43,8 +43,8 @@ pub struct Compiled {
     pub cpit: Cpit,
 }
 
-/// Reads and values the zone files over threads, and builds the instance of the plan and these files. At most `starts`
-/// threads are started: one more counts as refused. The feeds are used up.
+/// Reads and values the zone files over threads, and builds the instance of the plan and these files. No more threads are
+/// started than the budget allows. The feeds are used up.
 ///
 /// # Errors
 ///
@@ -63,19 +63,21 @@ pub fn compile<R: Threads + Wait + Sync, F: Feed + Send + Drop, G: Gate + Sync>(
     feeds: Vec<F>,
     plan: &Plan,
     destinations: &[Destination],
-    settings: Settings,
-    starts: u32,
+    budget: Budget,
     gate: &G,
 ) -> Result<Compiled, Refusal>
     ensures settings { (kind : ASettingsFault) → (result ≡ Err (Refusal.Settings kind))
         ↔ IsSettingsFault plan.now (length feeds.items) (formulas_of destinations.now)
-        settings kind }
-    ensures done { IfOk result (IsCompiled plan.now (map F.left feeds.items) settings.valuers) }
+        budget.settings kind }
+    ensures done { IfOk result
+        (IsCompiled plan.now (map F.left feeds.items) budget.settings.valuers) }
     ensures valid { IfOk result (λ compiled. IsValid compiled.instance) }
     ensures refused { IfErr result
         (IsNotCompiled plan.now (map F.left feeds.items) (map F.is_sure feeds.items)) }
-    ensures budget { IfOk result (λ _. settings.valuers + length feeds.items ≤ starts) }
+    ensures budget { IfOk result
+        (λ _. budget.settings.valuers + length feeds.items ≤ budget.starts) }
 {
+    let Budget { settings, starts } = budget;
     require_settings(feeds.len(), plan, destinations, settings)?;
     let given = Snapshot::of(&feeds);
     let allowance = Allowance {

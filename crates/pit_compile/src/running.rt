@@ -9,7 +9,7 @@ ghost use Rattle.pit_parts.specs.Destinations.{formulas_of};
 
 use crate::compiling::{Compiled, compile};
 use crate::refusal::Refusal;
-use crate::settings::Settings;
+use crate::settings::{Budget, Settings};
 use crate::sink_writing::write_texts;
 use crate::sinks::Sinks;
 use lane::Gathered;
@@ -33,7 +33,7 @@ pub const MOST_STARTS: u32 = 128;
 ///
 /// The first that applies of
 ///
-/// - those of `compile` with `MOST_STARTS` starts: every sink is as it was;
+/// - those of `compile` with a budget of `MOST_STARTS` starts: every sink is as it was;
 /// - `SinkFailed` where a sink refused a call, or `OutOfMemory` in writing. The sinks before that one hold their texts.
 ///   That one is as it was, or begun with a front of its text. Those behind it are as they were.
 pub fn run<R: Threads + Wait + Sync, F: Feed + Send + Drop, G: Gate + Sync, S: Sink>(
@@ -97,7 +97,15 @@ pub fn run_limited<R: Threads + Wait + Sync, F: Feed + Send + Drop, G: Gate + Sy
         gathered,
         instance,
         cpit,
-    } = compile(rt, alloc, feeds, plan, destinations, settings, starts, gate)?;
+    } = compile(
+        rt,
+        alloc,
+        feeds,
+        plan,
+        destinations,
+        Budget { settings, starts },
+        gate,
+    )?;
     write_texts(alloc, &instance, &cpit, sinks)?;
     Ok(gathered)
 }

@@ -22,6 +22,15 @@ pub struct Settings {
     pub capacity: usize,
 }
 
+/// What a run may take: how it is to be made, and how many threads it may start.
+#[derive(Clone, Copy, Debug, PartialEq, Eq)]
+pub struct Budget {
+    /// How it is to be made.
+    pub settings: Settings,
+    /// The number of thread starts: one more counts as refused.
+    pub starts: u32,
+}
+
 /// What is wrong with the settings of a run. Of several kinds the first one here is meant.
 #[derive(Clone, Copy, Debug, Error, PartialEq, Eq)]
 pub enum SettingsFault {

@@ -9,8 +9,8 @@ returns-clause-settings g c =
     let plan = c.args.plan.now in
     let formulas = formulas_of c.args.destinations.now in
     let count : c.len.result ≡ length c.args.feeds.items = omega arith in
-    let fit = subst (λ n. Suits plan n formulas c.args.settings) count c.in_ok-require_settings.ensures.fit in
+    let fit = subst (λ n. Suits plan n formulas c.args.budget.settings) count c.in_ok-require_settings.ensures.fit in
     λ kind. (
       λ e. absurd (c.compiled_of.ensures.settings kind e),
-      λ h. absurd (none_where_suits plan (length c.args.feeds.items) formulas c.args.settings kind fit h),
+      λ h. absurd (none_where_suits plan (length c.args.feeds.items) formulas c.args.budget.settings kind fit h),
     )
