@@ -4,7 +4,8 @@ use Rattle.clap.proofs.OnLiterals.{clap_on_literals}
 use Rattle.clap.specs.Words.{App, FailsBy, HasKind, HasMatchesOf, IsAmong, Kinds, Row, Text, fault_of, is_simple, is_simple_and_free, kind_of, subcommand_of, subcommand_rows_of}
 use Rattle.clap.specs.declared.error.Error.{Error}
 use Rattle.clap.specs.declared.parser.matches.ArgMatches.{ArgMatches}
-use Rattle.pit_commands.specs.CommandLine.{Finds, FindsIfAny, HandsOn, RefusesWords, StatesJob, base_word, capacity_word, check_words, compile_words, out_word, plan_word, program, top_words, valuers_word, zone_word}
+use Rattle.pit_commands.specs.CommandLine.{Finds, HandsOn, RefusesWords, StatesJob, base_word, capacity_word, check_words, compile_words, out_word, plan_word, program, top_words, valuers_word, zone_word}
+use Rattle.pit_commands.specs.inner.Commands.{FindsIfAny}
 use Rattle.pit_commands.specs.declared.jobs.Job.{Job}
 use Rattle.pit_commands.specs.declared.jobs.JobFault.{JobFault}
 use Rattle.pit_commands.specs.declared.jobs.JobFault.TheVariants.{OutOfMemory, Line}

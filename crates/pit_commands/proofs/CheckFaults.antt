@@ -4,7 +4,8 @@ use Rattle.text_lines.specs.Reading.{Reads}
 use Rattle.text_lines.specs.declared.text_fault.ReadTextError.{ReadTextError}
 use Rattle.text_lines.specs.declared.text_fault.ReadTextError.TheVariants as text_error
 use Rattle.text_lines.specs.declared.text_fault.TextFile.{TextFile}
-use Rattle.pit_commands.specs.CheckFault.{EndsCheck, IsCheckStatus, IsFaultOf, IsFound, TellsFault, fault_of_text, status_of_fault}
+use Rattle.pit_commands.specs.CheckFault.{IsCheckStatus, IsFound, TellsFault, fault_of_text, status_of_fault}
+use Rattle.pit_commands.specs.inner.CheckSteps.{EndsCheck, IsFaultOf}
 use Rattle.pit_commands.specs.Counts.{counted}
 use Rattle.pit_commands.specs.declared.check_fault.CheckFault.{CheckFault}
 use Rattle.pit_commands.specs.declared.check_fault.CheckFault.TheVariants as check_fault

@@ -3,7 +3,8 @@ use Rattle.std.proofs.Common.{◌≡◌, ◌∙◌, ◌||◌, ap₂, false}
 use Rattle.clap.specs.Words.{AddsArg, AddsSubcommand, App, Rule, app_of, rule_of, with_rule, with_subcommand}
 use Rattle.clap.specs.declared.builder.arg.Arg.{Arg}
 use Rattle.clap.specs.declared.builder.command.Command.{Command}
-use Rattle.pit_commands.specs.CommandLine.{IsCommandOf, check_words, compile_words, program, top_words}
+use Rattle.pit_commands.specs.CommandLine.{check_words, compile_words, program, top_words}
+use Rattle.pit_commands.specs.inner.Commands.{IsCommandOf}
 
 pub grown : (old new : Command) (arg : Arg) (app : App) (rule : Rule) → IsCommandOf app old → rule_of arg ≡ rule → arg.global ≡ false
     → AddsArg old arg new

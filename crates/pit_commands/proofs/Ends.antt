@@ -6,7 +6,8 @@ use Rattle.pit_parts.specs.declared.plan.Plan.{Plan}
 use Rattle.pit_model.specs.declared.plan_fault.PlanFault.{PlanFault}
 use Rattle.pit_commands.specs.Compile.{EndsPlanFile, PlanFileRefused}
 use Rattle.pit_commands.specs.FaultLine.{EndsInput, EndsRefused, EndsWith, IsFaultOfInput, PlanRefused, line_of}
-use Rattle.pit_commands.specs.Model.{CutRefused, ModelRefused}
+use Rattle.pit_commands.specs.Model.{ModelRefused}
+use Rattle.pit_commands.specs.inner.Cutting.{CutRefused}
 use Rattle.pit_commands.specs.Pieces.{plan_of}
 use Rattle.pit_commands.specs.declared.input.InputFault.{InputFault}
 use Rattle.pit_commands.specs.declared.input.InputFault.TheVariants.{FeedFailed, OutOfMemory, TooLong}

@@ -14,7 +14,8 @@ use Rattle.pit_compile.specs.declared.settings.Settings.{Settings}
 use Rattle.pit_compile.specs.declared.settings.SettingsFault.{SettingsFault}
 use Rattle.pit_parts.specs.Plan.{PlanParts}
 use Rattle.pit_parts.specs.declared.formula.Formula.{Formula}
-use Rattle.pit_commands.specs.Compile.{HasRows, HasVerdict, IsRun, NotCompiled}
+use Rattle.pit_commands.specs.Compile.{HasRows, HasVerdict, NotCompiled}
+use Rattle.pit_commands.specs.inner.CompileSteps.{IsRun}
 
 as_many : (lefts : List (Option (List ℕ))) (texts : List (List ℕ)) → AreGiven lefts texts → length texts ≡ length lefts
 as_many [] [] h = refl

@@ -3,9 +3,8 @@ use Rattle.std.specs.Prelude.{◌≡◌, ℕ, ◌⊎◌, ◌++◌, List, codes, 
 use Rattle.text_lines.specs.FaultText.{fault_text, file_name}
 use Rattle.text_lines.specs.declared.text_fault.ReadTextError.{ReadTextError}
 use Rattle.text_lines.specs.declared.text_fault.ReadTextError.TheVariants as text_error
-use Rattle.text_lines.specs.declared.text_fault.TextFile.{TextFile}
 use Rattle.pit_commands.specs.Counts.{counted}
-use Rattle.pit_commands.specs.FaultLine.{EndsWith, line_of}
+use Rattle.pit_commands.specs.FaultLine.{line_of}
 use Rattle.pit_commands.specs.declared.check_fault.CheckFault.{CheckFault}
 use Rattle.pit_commands.specs.declared.check_fault.CheckFault.TheVariants as check_fault
 use Rattle.pit_commands.specs.declared.counts.Texts.{Texts}
@@ -29,13 +28,6 @@ check_text (check_fault.TooLong file) = file_name file ++ codes ": TooLong"
 check_text (check_fault.Text fault) = fault_text fault
 check_text check_fault.OutOfMemory = codes "OutOfMemory"
 
--- reading this file met the fault, or want of memory; what its text says is not looked at
-abbrev pub IsFaultOf : TextFile → CheckFault → Type 0
-IsFaultOf file (check_fault.FeedFailed other) = other ≡ file
-IsFaultOf file (check_fault.TooLong other) = other ≡ file
-IsFaultOf file (check_fault.Text fault) = ⊥
-IsFaultOf file check_fault.OutOfMemory = Unit {0}
-
 -- a faulty line is the first one of some texts
 abbrev pub IsFound : CheckFault → Type 0
 IsFound (check_fault.FeedFailed file) = Unit {0}
@@ -46,10 +38,6 @@ IsFound check_fault.OutOfMemory = Unit {0}
 -- a check ends with 0 where its counts were told; else with 1, 3 or 4
 abbrev pub IsCheckStatus : ℕ → Type 0
 IsCheckStatus status = (status ≡ 0) ⊎ ((status ≡ 1) ⊎ ((status ≡ 3) ⊎ (status ≡ 4)))
-
--- the check ends with this fault, its status and its line; or memory was refused, and no line stands
-abbrev pub EndsCheck : CheckFault → List ℕ → List ℕ → ℕ → Type 0
-EndsCheck fault old new status = EndsWith (status_of_fault fault) (check_text fault) old new status
 
 -- the line of a fault was appended, and the status is that of its kind
 abbrev pub TellsFault : List ℕ → List ℕ → ℕ → Type 0

@@ -1,10 +1,8 @@
 -- The program's command line, and the jobs that its words state.
-use Rattle.std.specs.Prelude.{◌≡◌, ◌≢◌, ◌⊎◌, ℕ, ◌<◌, ◌≤◌, List, [], ◌∷◌, MatchOption, Option, Some, false, true, codes, length, map, string_bytes}
+use Rattle.std.specs.Prelude.{◌≡◌, ◌≢◌, ◌⊎◌, ℕ, ◌<◌, ◌≤◌, List, [], ◌∷◌, Option, Some, true, codes, length, map, string_bytes}
 use Rattle.std.specs.Str.Parse.{IsNumeral, digits_value, without_leading_plus}
 use Rattle.clap.specs.Lexer.{usize_max}
-use Rattle.clap.specs.Words.{App, IsAmong, Row, Rule, Text, all_of, app_of, fault_of, first_of, kind_of, new_app, new_rule, one_of, subcommand_of, with_rule, with_subcommand}
-use Rattle.clap.specs.declared.builder.Command.TheViews.{out-Command as fields_of}
-use Rattle.clap.specs.declared.builder.command.Command.{Command}
+use Rattle.clap.specs.Words.{App, IsAmong, Row, Rule, Text, all_of, fault_of, first_of, kind_of, new_app, new_rule, one_of, subcommand_of, with_rule, with_subcommand}
 use Rattle.clap.specs.declared.builder.value_parser.ValueParser.TheVariants as parser
 use Rattle.clap.specs.declared.error.Error.{Error}
 use Rattle.clap.specs.declared.error.kind.ErrorKind.TheVariants as kind
@@ -14,10 +12,6 @@ use Rattle.pit_commands.specs.declared.jobs.JobFault.{JobFault}
 use Rattle.pit_commands.specs.declared.jobs.JobFault.TheVariants.{OutOfMemory, Line}
 use Rattle.pit_compile.specs.declared.settings.Settings.{Settings}
 use Rattle.pit_parts.specs.declared.ranges.TheConstants.{MAX_CAPACITY, MAX_VALUERS}
-
--- the command takes these words, and has no argument that its subcommands share
-abbrev pub IsCommandOf : App → Command → Type 0
-IsCommandOf words command = (app_of command ≡ words) × ((fields_of command).has_globals ≡ false)
 
 -- BASE, which has to be given
 unfoldable pub base_word : Rule
@@ -99,10 +93,6 @@ pub record FindsCompile (found : Option (Text × List Row)) (plan out : Text) (s
 abbrev pub Finds : Option (Text × List Row) → Job → Type 0
 Finds found (Check base) = FindsCheck found (string_bytes base)
 Finds found (Compile plan out settings zones) = FindsCompile found (string_bytes plan) (string_bytes out) settings (map string_bytes zones.items)
-
--- the answer is a job with the values that clap found, or no job has them
-abbrev pub FindsIfAny : Option (Text × List Row) → Option Job → Type 0
-FindsIfAny found answer = MatchOption answer ((job : Job) → Finds found job → ⊥) (Finds found)
 
 -- the job has the values that clap finds in these words, the program's name first
 unfoldable pub StatesJob : List Text → Job → Type 0

@@ -1,21 +1,17 @@
 -- What a compile says of the files that it opens, and of the run on them.
-use Rattle.std.specs.Prelude.{◌≡◌, ℕ, ◌<◌, ◌⊎◌, List, [], ◌∷◌, ◌++◌, codes, length, Option}
+use Rattle.std.specs.Prelude.{◌≡◌, ℕ, ◌<◌, ◌⊎◌, List, [], ◌∷◌, ◌++◌, codes, length}
 use Rattle.std.specs.Fmt.{decimal}
 use Rattle.std.specs.List.{sum_by}
 use Rattle.lane.specs.MessageKinds.{rows_in}
-use Rattle.lane.specs.Whole.{GatheredView}
-use Rattle.text_sinks.specs.SinkState.{SinkState}
-use Rattle.minelib_writing.specs.declared.text_name.TextName.{TextName}
 use Rattle.pit_compile.specs.Rows.{sents_of}
-use Rattle.pit_compile.specs.Run.{IsDone}
 use Rattle.pit_compile.specs.Settings.{IsSettingsFault}
 use Rattle.pit_compile.specs.Verdict.{IsAccepted, IsRefusedBy}
 use Rattle.pit_compile.specs.declared.refusal.Refusal.{Refusal}
-use Rattle.pit_compile.specs.declared.refusal.Refusal.TheVariants as refusal
 use Rattle.pit_compile.specs.declared.settings.Settings.{Settings}
 use Rattle.pit_parts.specs.Plan.{PlanParts}
 use Rattle.pit_parts.specs.declared.formula.Formula.{Formula}
 use Rattle.pit_commands.specs.FaultLine.{EndsRun, EndsWith, PlanRefused}
+use Rattle.pit_commands.specs.RunRefused.{RunRefused}
 use Rattle.zone_csv.specs.declared.slurp.SlurpFault.{SlurpFault}
 use Rattle.zone_csv.specs.declared.slurp.SlurpFault.TheVariants as slurp
 
@@ -47,20 +43,9 @@ zone_fault file = codes "file " ++ (decimal file ++ codes ": FeedFailed")
 abbrev pub ZonesRefused : ℕ → List ℕ → List ℕ → ℕ → Type 0
 ZonesRefused count old new status = (file : ℕ) × (file < count) × EndsWith 3 (zone_fault file) old new status
 
--- the path of a file of the instance: BASE, a point and the file's ending
-abbrev pub path_to : List ℕ → List ℕ → List ℕ
-path_to base ending = base ++ (46 ∷ ending)
-
 -- the line of so many rows
 abbrev pub rows_line : ℕ → List ℕ
 rows_line rows = codes "rows " ++ (decimal rows ++ 10 ∷ [])
-
--- the run is done, and so many rows went through its lane
-pub record IsRun (plan : PlanParts) (lefts : List (Option (List ℕ))) (valuers : ℕ)
-    (old new : TextName → SinkState) (rows : ℕ) : Type 0 where
-  pub gathered : GatheredView
-  pub done : IsDone plan lefts valuers old new gathered
-  pub rows_are : rows ≡ sum_by rows_in gathered.sent
 
 -- so many zone files are accepted, and so many rows were sent by their readers
 pub record HasRows (plan : PlanParts) (count rows : ℕ) : Type 0 where
@@ -83,14 +68,8 @@ pub record HasVerdict (plan : PlanParts) (count : ℕ) (refusal : Refusal) : Typ
 
 -- why so many zone files were not compiled, as far as files tell: the settings do not fit; or the verdict; or a thread, a device or memory failed
 abbrev pub NotCompiled : PlanParts → ℕ → List Formula → Settings → Refusal → Type 0
-NotCompiled plan count formulas settings (refusal.Settings kind) = IsSettingsFault plan count formulas settings kind
-NotCompiled plan count formulas settings refusal.NoThread = Unit {0}
-NotCompiled plan count formulas settings (refusal.FeedFailed file) = Unit {0}
-NotCompiled plan count formulas settings (refusal.TooLong file) = HasVerdict plan count (refusal.TooLong file)
-NotCompiled plan count formulas settings (refusal.Row file fault) = HasVerdict plan count (refusal.Row file fault)
-NotCompiled plan count formulas settings (refusal.Same first again) = HasVerdict plan count (refusal.Same first again)
-NotCompiled plan count formulas settings (refusal.SinkFailed which) = Unit {0}
-NotCompiled plan count formulas settings refusal.OutOfMemory = Unit {0}
+NotCompiled plan count formulas settings refusal =
+    RunRefused (IsSettingsFault plan count formulas settings) (HasVerdict plan count) (Unit {0}) refusal
 
 -- a zone file cannot be opened; or the run is refused
 abbrev pub EndsRefusedCompile : PlanParts → ℕ → List Formula → Settings → List ℕ → List ℕ → ℕ → Type 0

@@ -20,10 +20,6 @@ IsModel input pieces plan =
 abbrev pub FilesRefused : List ℕ → Plan → List ℕ → List ℕ → ℕ → Type 0
 FilesRefused input plan old new status = (length plan.cones < length (zones_of input)) × EndsRun (Settings Files) old new status
 
--- why an input is not cut for a plan: it has too many zone files; or memory was refused, and no line stands
-abbrev pub CutRefused : List ℕ → Plan → List ℕ → List ℕ → ℕ → Type 0
-CutRefused input plan old new status = FilesRefused input plan old new status ⊎ ((status ≡ 4) × (new ≡ old))
-
 -- the first piece of an input gives no plan; or it states a plan with fewer zones than there are further pieces
 abbrev pub PiecesRefused : List ℕ → List ℕ → List ℕ → ℕ → Type 0
 PiecesRefused input old new status =

@@ -1,5 +1,5 @@
 -- What the pipe form prints of a model: the five texts of its instance, each under its section line.
-use Rattle.std.specs.Prelude.{◌≡◌, ℕ, List, ◌∷◌, ◌++◌, codes, flat_map}
+use Rattle.std.specs.Prelude.{◌≡◌, ℕ, List, ◌∷◌, ◌++◌, codes, flat_map, length}
 use Rattle.mine_instance.specs.declared.instance.Instance.{Instance}
 use Rattle.minelib_writing.specs.TextNames.{ending_of}
 use Rattle.minelib_writing.specs.Texts.{all_texts, text_named}
@@ -7,11 +7,10 @@ use Rattle.pit_compile.specs.Compiled.{instance_from}
 use Rattle.pit_compile.specs.Settings.{IsSettingsFault}
 use Rattle.pit_compile.specs.Verdict.{IsAccepted, IsRefusedBy}
 use Rattle.pit_compile.specs.declared.refusal.Refusal.{Refusal}
-use Rattle.pit_compile.specs.declared.refusal.Refusal.TheVariants.{Settings, NoThread, FeedFailed, TooLong, Row, Same, SinkFailed, OutOfMemory}
 use Rattle.pit_compile.specs.declared.settings.Settings as settings
 use Rattle.pit_parts.specs.Plan.{PlanParts}
 use Rattle.pit_parts.specs.declared.formula.Formula.{Formula}
-use Rattle.std.specs.Prelude.{length}
+use Rattle.pit_commands.specs.RunRefused.{RunRefused}
 
 -- a text under its section line
 abbrev pub section : List ℕ → List ℕ → List ℕ
@@ -30,13 +29,7 @@ pub record IsPrinted (plan : PlanParts) (zones : List (List ℕ)) (old new : Lis
 abbrev pub pipe_settings : settings.Settings
 pipe_settings = record { valuers = 4; capacity = 64 }
 
--- why the pipe form prints nothing: its settings do not fit the plan; or the verdict; or a thread or memory was refused
+-- why the pipe form prints nothing: its settings do not fit the plan; or the verdict; or a thread or memory was refused. It has no device
 abbrev pub PipeRefused : PlanParts → List Formula → List (List ℕ) → Refusal → Type 0
-PipeRefused plan formulas zones (Settings kind) = IsSettingsFault plan (length zones) formulas pipe_settings kind
-PipeRefused plan formulas zones NoThread = Unit {0}
-PipeRefused plan formulas zones (FeedFailed file) = ⊥
-PipeRefused plan formulas zones (TooLong file) = IsRefusedBy plan zones (TooLong file)
-PipeRefused plan formulas zones (Row file fault) = IsRefusedBy plan zones (Row file fault)
-PipeRefused plan formulas zones (Same first again) = IsRefusedBy plan zones (Same first again)
-PipeRefused plan formulas zones (SinkFailed which) = ⊥
-PipeRefused plan formulas zones OutOfMemory = Unit {0}
+PipeRefused plan formulas zones refusal =
+    RunRefused (IsSettingsFault plan (length zones) formulas pipe_settings) (IsRefusedBy plan zones) ⊥ refusal

@@ -1,7 +1,8 @@
 //! The check of the files of an instance.
 
 ghost use Rattle.std.specs.Prelude.{◌≡◌, ◌≢◌, ◌+◌, ◌≤◌, ◌++◌, ℕ, List, IfErr, IfOk, IfSome, IsErrOf};
-ghost use Rattle.pit_commands.specs.CheckFault.{EndsCheck, IsCheckStatus, IsFaultOf, IsFound, TellsFault};
+ghost use Rattle.pit_commands.specs.CheckFault.{IsCheckStatus, IsFound, TellsFault};
+ghost use Rattle.pit_commands.specs.inner.CheckSteps.{EndsCheck, IsFaultOf};
 ghost use Rattle.pit_commands.specs.Counts.{IsCountsLine};
 ghost use Rattle.pit_commands.specs.FaultLine.{EndsRefused};
 ghost use Rattle.zone_csv.specs.declared.slurp.TheConstants.{GREATEST_LIMIT};

@@ -2,7 +2,8 @@
 
 ghost use Rattle.std.specs.Prelude.{◌≡◌, false, IfOk};
 ghost use Rattle.clap.specs.Words.{app_of, new_app, rule_of};
-ghost use Rattle.pit_commands.specs.CommandLine.{IsCommandOf, base_word, capacity_word, check_words, compile_words, out_word, plan_word, program, top_words, valuers_word, zone_word};
+ghost use Rattle.pit_commands.specs.CommandLine.{base_word, capacity_word, check_words, compile_words, out_word, plan_word, program, top_words, valuers_word, zone_word};
+ghost use Rattle.pit_commands.specs.inner.Commands.{IsCommandOf};
 
 use clap::{Arg, Command, value_parser};
 use std::alloc::{AllocError, Global};

@@ -7,7 +7,8 @@ ghost use Rattle.pit_compile.specs.Sinks.{all_told};
 ghost use Rattle.pit_compile.specs.declared.settings.SettingsFault.{SettingsFault as ASettingsFault};
 ghost use Rattle.pit_parts.specs.Destinations.{formulas_of};
 ghost use Rattle.pit_model.specs.Planned.{planned};
-ghost use Rattle.pit_commands.specs.Compile.{EndsPlanFile, EndsRefusedCompile, HasRows, IsRun, NotCompiled, PlanFileRefused, TellsRows, rows_line};
+ghost use Rattle.pit_commands.specs.Compile.{EndsPlanFile, EndsRefusedCompile, HasRows, NotCompiled, PlanFileRefused, TellsRows, rows_line};
+ghost use Rattle.pit_commands.specs.inner.CompileSteps.{IsRun};
 ghost use Rattle.pit_commands.specs.FaultLine.{EndsRefused};
 ghost use Rattle.pit_parts.specs.declared.ranges.TheConstants.{MAX_PLAN_BYTES};
 

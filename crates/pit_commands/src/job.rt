@@ -2,7 +2,8 @@
 
 ghost use Rattle.std.specs.Prelude.{◌≡◌, ℕ, [], Some, codes, map, string_bytes, IfOk, IfErr, MatchOption};
 ghost use Rattle.clap.specs.Words.{app_of, fault_of, found_of, rows_of, subcommand_of, subcommand_rows_of};
-ghost use Rattle.pit_commands.specs.CommandLine.{FindsIfAny, FindsNumber, FindsSettings, IsNoMemoryLine, RefusesWords, StatesJob, program};
+ghost use Rattle.pit_commands.specs.CommandLine.{FindsNumber, FindsSettings, IsNoMemoryLine, RefusesWords, StatesJob, program};
+ghost use Rattle.pit_commands.specs.inner.Commands.{FindsIfAny};
 ghost use Rattle.pit_compile.specs.declared.settings.Settings.{Settings as ASettings};
 
 use crate::command_line::command_line;

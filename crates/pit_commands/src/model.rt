@@ -2,7 +2,8 @@
 
 ghost use Rattle.std.specs.Prelude.{◌≡◌, ℕ, List, None, OnOk, IfOk, IfErr, IfSome};
 ghost use Rattle.pit_commands.specs.FaultLine.{EndsInput, EndsRefused};
-ghost use Rattle.pit_commands.specs.Model.{CutRefused, IsModel, ModelRefused};
+ghost use Rattle.pit_commands.specs.Model.{IsModel, ModelRefused};
+ghost use Rattle.pit_commands.specs.inner.Cutting.{CutRefused};
 ghost use Rattle.pit_commands.specs.Pieces.{plan_of, zones_of};
 
 use crate::fault_line::{plan_from, refuse_run, refuse_with};

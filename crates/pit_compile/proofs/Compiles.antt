@@ -8,7 +8,7 @@ use Rattle.run_threads.specs.Reading.{AreRead}
 use Rattle.run_threads.specs.declared.read_fault.ReadFault.{ReadFault}
 use Rattle.valuers.specs.Valuing.{rows_by}
 use Rattle.rows.specs.declared.item.Valued.{Valued}
-use Rattle.pit_compile.specs.Answers.{refusal_in}
+use Rattle.pit_compile.specs.inner.ReadAnswers.{refusal_in}
 use Rattle.pit_compile.specs.Compiled.{AreGiven}
 use Rattle.pit_compile.specs.Compiling.{IsNotCompiled}
 use Rattle.pit_compile.specs.inner.ModelRows.{AreModelRows}

@@ -11,7 +11,8 @@ use Rattle.minelib_writing.specs.declared.text_name.TextName.{TextName}
 use Rattle.minelib_writing.specs.declared.text_name.TextName.TheVariants.{Blocks, Prec, Upit, Pcpsp, Cpit}
 use Rattle.text_sinks.specs.declared.write_fault.WriteFault.{WriteFault}
 use Rattle.text_sinks.specs.declared.write_fault.WriteFault.TheVariants as write
-use Rattle.pit_compile.specs.SinkAnswers.{AreCutOff, in_sink}
+use Rattle.pit_compile.specs.SinkAnswers.{AreCutOff}
+use Rattle.pit_compile.specs.inner.SinkWriting.{in_sink}
 use Rattle.pit_compile.specs.SinkLent.{with_sink}
 use Rattle.pit_compile.specs.Sinks.{all_told, AreCutOffAt}
 use Rattle.pit_compile.specs.declared.refusal.Refusal.{Refusal}

@@ -12,7 +12,7 @@ use Rattle.run_threads.specs.Reading.{AreRead}
 use Rattle.run_threads.specs.declared.read_fault.ReadFault.{ReadFault}
 use Rattle.run_threads.specs.declared.read_fault.ReadFault.TheVariants as read
 use Rattle.zone_csv.specs.Zone.{blocks_of, fault_of}
-use Rattle.pit_compile.specs.Answers.{refusal_in}
+use Rattle.pit_compile.specs.inner.ReadAnswers.{refusal_in}
 use Rattle.pit_compile.specs.Compiled.{AreGiven}
 use Rattle.pit_compile.specs.Compiling.{IsNotCompiled}
 use Rattle.pit_compile.specs.Rows.{fault_in, file_fault, of_row, sents_from}

@@ -1,10 +1,7 @@
--- The answer of a run by the sinks that it wrote to. Contracts within the crate and proofs alone need this page.
-use Rattle.std.specs.Prelude.{Result, Ok, Err}
+-- The answer of a run by the sinks that it wrote to.
 use Rattle.mine_instance.specs.declared.instance.Instance.{Instance}
 use Rattle.text_sinks.specs.SinkState.{SinkState}
 use Rattle.minelib_writing.specs.declared.text_name.TextName.{TextName}
-use Rattle.text_sinks.specs.declared.write_fault.WriteFault.{WriteFault}
-use Rattle.text_sinks.specs.declared.write_fault.WriteFault.TheVariants as write
 use Rattle.pit_compile.specs.declared.refusal.Refusal.{Refusal}
 use Rattle.pit_compile.specs.declared.refusal.Refusal.TheVariants.{Settings, NoThread, FeedFailed, TooLong, Row, Same, SinkFailed, OutOfMemory}
 use Rattle.pit_compile.specs.Sinks.{AreCutOffAt}
@@ -19,9 +16,3 @@ AreCutOff i old new (FeedFailed file) = ⊥
 AreCutOff i old new (TooLong file) = ⊥
 AreCutOff i old new (Row file fault) = ⊥
 AreCutOff i old new (Same first again) = ⊥
-
--- what came of writing to a sink, as the answer of a run
-abbrev pub in_sink : TextName → Result (Unit {0}) WriteFault → Result (Unit {0}) Refusal
-in_sink which (Ok done) = Ok done
-in_sink which (Err write.SinkFailed) = Err (SinkFailed which)
-in_sink which (Err write.OutOfMemory) = Err OutOfMemory

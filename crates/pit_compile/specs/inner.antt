@@ -1,3 +1,5 @@
 pub mod Collecting
 pub mod ModelRows
+pub mod ReadAnswers
 pub mod Repeats
+pub mod SinkWriting

@@ -1,7 +1,7 @@
 //! What the readers of a run answered, as the refusal of the run.
 
 ghost use Rattle.std.specs.Prelude.{◌≡◌, ◌≤◌, None, Some, length, IfErr, OnOk};
-ghost use Rattle.pit_compile.specs.Answers.{refusal_in, refusal_of};
+ghost use Rattle.pit_compile.specs.inner.ReadAnswers.{refusal_in, refusal_of};
 ghost use Rattle.pit_parts.specs.declared.ranges.TheConstants.{MAX_ZONES};
 
 use crate::refusal::Refusal;

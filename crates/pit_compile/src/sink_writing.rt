@@ -3,7 +3,8 @@
 ghost use Rattle.std.specs.Prelude.{◌≡◌, IfErr, OnOk};
 ghost use Rattle.mine_instance.specs.OfCpit.{cpit};
 ghost use Rattle.mine_instance.specs.Valid.{IsValid};
-ghost use Rattle.pit_compile.specs.SinkAnswers.{in_sink, AreCutOff};
+ghost use Rattle.pit_compile.specs.SinkAnswers.{AreCutOff};
+ghost use Rattle.pit_compile.specs.inner.SinkWriting.{in_sink};
 ghost use Rattle.pit_compile.specs.Sinks.{all_told, AreWritten};
 
 use crate::refusal::Refusal;

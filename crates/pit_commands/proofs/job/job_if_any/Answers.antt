@@ -1,7 +1,8 @@
 use Rattle.std.proofs.Common.{rules, ◌≡◌, Err, IfErr, List, Ok, map, string_bytes, subst}
 use Rattle.std.proofs.lemmas.Result.{IfErr-weaker}
 use Rattle.clap.specs.Words.{FailsBy, HasKind, Text, fault_of}
-use Rattle.pit_commands.specs.CommandLine.{FindsIfAny, HandsOn, program}
+use Rattle.pit_commands.specs.CommandLine.{HandsOn, program}
+use Rattle.pit_commands.specs.inner.Commands.{FindsIfAny}
 use Rattle.pit_commands.proofs.Accepted.{found_by_program, handed_on, no_fault, program_fails}
 use Rattle.pit_commands.proofs.job.job_if_any.Goals as goal
 

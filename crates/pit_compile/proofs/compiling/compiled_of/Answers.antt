@@ -7,7 +7,7 @@ use Rattle.mine_instance.specs.OfCpit.{cpit}
 use Rattle.mine_instance.specs.OfModel.{instance}
 use Rattle.precedence.specs.Identifier.{blocks_of_rows}
 use Rattle.rows.specs.declared.item.Valued.{Valued}
-use Rattle.pit_compile.specs.Answers.{refusal_in}
+use Rattle.pit_compile.specs.inner.ReadAnswers.{refusal_in}
 use Rattle.pit_compile.specs.Verdict.{AreApart}
 use Rattle.pit_compile.specs.declared.refusal.Refusal.TheVariants.{Settings}
 use Rattle.pit_compile.proofs.Compiles.{compiles, repeat_refused}

@@ -1,5 +1,5 @@
 use Rattle.std.proofs.Common.{◌≡◌, drop}
-use Rattle.pit_compile.specs.Answers.{refusal_in}
+use Rattle.pit_compile.specs.inner.ReadAnswers.{refusal_in}
 use Rattle.pit_compile.proofs.read_answers.require_read.Given as goal
 
 abbrev pub invariant-loop-file : goal.invariant-loop-file

@@ -1,0 +1,4 @@
+pub mod CheckSteps
+pub mod Commands
+pub mod CompileSteps
+pub mod Cutting
