@@ -20,11 +20,11 @@ pub(crate) fn sinks_of<'a, R: Files>(
 ) -> Result<Sinks<FileSink<'a, R>>, AllocError> {
     let paths = paths_of(alloc, base)?;
     Ok(Sinks {
-        blocks: FileSink::new(rt, alloc, paths.blocks.as_str())?,
-        prec: FileSink::new(rt, alloc, paths.prec.as_str())?,
-        upit: FileSink::new(rt, alloc, paths.upit.as_str())?,
-        pcpsp: FileSink::new(rt, alloc, paths.pcpsp.as_str())?,
-        cpit: FileSink::new(rt, alloc, paths.cpit.as_str())?,
+        blocks: FileSink::from_path(rt, paths.blocks),
+        prec: FileSink::from_path(rt, paths.prec),
+        upit: FileSink::from_path(rt, paths.upit),
+        pcpsp: FileSink::from_path(rt, paths.pcpsp),
+        cpit: FileSink::from_path(rt, paths.cpit),
     })
 }
 

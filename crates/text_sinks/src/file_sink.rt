@@ -48,12 +48,19 @@ impl<'a, R: Files> FileSink<'a, R> {
     pub fn new(rt: &'a R, alloc: Global, path: &str) -> Result<FileSink<'a, R>, AllocError>
         ensures { IfOk result (λ sink. sink ≡ record { begun = false; held = None; failures = 0 }) }
     {
-        Ok(FileSink {
+        Ok(FileSink::from_path(rt, String::from_str(alloc, path)?))
+    }
+
+    /// The same as `new`, by a path that is handed over. It takes no memory, and is never refused.
+    pub fn from_path(rt: &'a R, path: String) -> FileSink<'a, R>
+        ensures { result ≡ record { begun = false; held = None; failures = 0 } }
+    {
+        FileSink {
             rt,
-            path: String::from_str(alloc, path)?,
+            path,
             file: None,
             failures: Count::Zero,
-        })
+        }
     }
 }
 
