@@ -6,6 +6,8 @@ use std::alloc::Global;
 use std::io;
 use std::io::{ErrorKind, Read};
 use std::test::Fail;
+use zone_csv::feed::FeedFault;
+use zone_csv::single_read::read_some;
 
 const INPUT: &[u8] =
     b"name,one\ngrid,0,0,0,10,10,10\nzone,1,1,1\ndump,dump,200\nperiods,1\nrate,0.1\n--\nx,y,z\n";
@@ -54,6 +56,36 @@ fn an_interrupted_input_comes_whole(rt: HostRuntime) {
         Ok(_) => assert!(rt; false),
         Err(fault) => assert!(rt; fault == InputFault::FeedFailed),
     }
+}
+
+// What single reads of an input give, up to its end or its failure.
+fn read_singly(alloc: Global, input: &mut Interrupted) -> Result<Result<Vec<u8>, FeedFault>, Fail> {
+    let mut bytes = Vec::new(alloc);
+    for _ in 0..100u32 {
+        let mut piece = [0u8; 2];
+        match read_some(input, &mut piece) {
+            Ok(0) => return Ok(Ok(bytes)),
+            Ok(count) => bytes.extend_from_slice(&piece[..count])?,
+            Err(fault) => return Ok(Err(fault)),
+        }
+    }
+    Err("an input without an end")?
+}
+
+#[test]
+fn an_interrupted_read_loses_nothing(rt: HostRuntime) -> Result<(), Fail> {
+    for fails in [false, true] {
+        let mut input = Interrupted {
+            left: b"x,y,z\n",
+            interrupts: false,
+            fails,
+        };
+        match read_singly(rt.alloc(), &mut input)? {
+            Ok(bytes) => assert!(rt; !fails && bytes.as_slice() == b"x,y,z\n".as_slice()),
+            Err(fault) => assert!(rt; fails && fault == FeedFault),
+        }
+    }
+    Ok(())
 }
 
 // The status of the input's refusal, or 0, and the line.
