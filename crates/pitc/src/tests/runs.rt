@@ -6,7 +6,7 @@ use crate::tests::models::{destinations_of, plan_of};
 use minelib_text::mem_sink::MemSink;
 use minelib_text::text_name::TextName;
 use pit_compile::refusal::Refusal;
-use pit_compile::settings::Settings;
+use pit_compile::settings::{Budget, Settings};
 use pit_compile::sinks::Sinks;
 use pit_compile::{run, run_limited};
 use pit_model::destination::Destination;
@@ -109,8 +109,7 @@ fn answer<R: Threads + Wait + Sync, G: Gate + Sync>(
     alloc: Global,
     plan: &Plan,
     feeds: Vec<MemFeed>,
-    settings: Settings,
-    starts: u32,
+    budget: Budget,
     gate: &G,
     sinks: &mut Sinks<MemSink>,
 ) -> Result<Result<u64, Refusal>, Fail> {
@@ -121,8 +120,8 @@ fn answer<R: Threads + Wait + Sync, G: Gate + Sync>(
         feeds,
         plan,
         destinations.as_slice(),
-        settings,
-        starts,
+        budget.settings,
+        budget.starts,
         gate,
         sinks,
     );

@@ -6,8 +6,8 @@
 ghost use Rattle.std.specs.Prelude.{◌<◌, ◌≤◌, IfSome};
 
 use super::{
-    ENOUGH, Fail, Global, HEADER, MemFeed, MemSink, Refusal, Sinks, Threads, Wait, answer, begun,
-    is_untouched, mill_plan, new_sinks, settings, sink_of,
+    Budget, ENOUGH, Fail, Global, HEADER, MemFeed, MemSink, Refusal, Sinks, Threads, Wait, answer,
+    begun, is_untouched, mill_plan, new_sinks, settings, sink_of,
 };
 use minelib_text::text_name::TextName;
 use pit_compile::refusal::RowAt;
@@ -473,7 +473,11 @@ fn run_of<R: Threads + Wait + Sync>(
     let feeds = feeds_of_model(alloc, model.files.as_slice(), dice)?;
     let settings = settings(making.valuers as usize, making.capacity as usize);
     let Making { starts, gate, .. } = making;
-    answer(rt, alloc, &plan, feeds, settings, *starts, gate, sinks)
+    let budget = Budget {
+        settings,
+        starts: *starts,
+    };
+    answer(rt, alloc, &plan, feeds, budget, gate, sinks)
 }
 
 // The answer of a run is what is known of its model, and its sinks are left so.

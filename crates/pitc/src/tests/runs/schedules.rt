@@ -3,8 +3,8 @@ ghost use Rattle.pit_parts.specs.Formula.{IsRuled};
 ghost use Rattle.pit_parts.specs.Worth.{worth};
 
 use super::{
-    ENOUGH, Fail, Gate, Global, MemSink, OpenGate, Plan, Refusal, Settings, Sinks, Threads, answer,
-    destinations_of, feeds_of, is_untouched, mill_plan, new_sinks, run_limited, settings,
+    Budget, ENOUGH, Fail, Gate, Global, MemSink, OpenGate, Plan, Refusal, Settings, Sinks, Threads,
+    answer, destinations_of, feeds_of, is_untouched, mill_plan, new_sinks, run_limited, settings,
 };
 use pit_model::block::Block;
 use pit_model::destination::{Destination, Valuer};
@@ -77,7 +77,15 @@ fn gated_into<R: Threads + Wait + Sync, G: Gate + Sync>(
 ) -> Result<Result<u64, Refusal>, Fail> {
     let plan = mill_plan(alloc, files.len().min(64) as u8)?;
     let feeds = feeds_of(alloc, files)?;
-    answer(rt, alloc, &plan, feeds, settings, starts, gate, sinks)
+    answer(
+        rt,
+        alloc,
+        &plan,
+        feeds,
+        Budget { settings, starts },
+        gate,
+        sinks,
+    )
 }
 
 const EIGHT_ROWS: &str =
