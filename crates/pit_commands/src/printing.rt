@@ -3,7 +3,9 @@
 ghost use Rattle.std.specs.Prelude.{◌≡◌, ◌++◌, length, take, OnErr, OnOk};
 ghost use Rattle.mine_instance.specs.OfCpit.{cpit as cpit_of};
 ghost use Rattle.mine_instance.specs.Valid.{IsValid};
-ghost use Rattle.pit_commands.specs.Printed.{printed};
+ghost use Rattle.minelib_writing.specs.TextNames.{ending_of};
+ghost use Rattle.minelib_writing.specs.Texts.{text_named};
+ghost use Rattle.pit_commands.specs.Printed.{printed, section};
 
 use mine_instance::cpit::Cpit;
 use mine_instance::instance::Instance;
@@ -51,9 +53,26 @@ fn print_sections(
     ensures err { OnErr result (take (length sink.old.before) sink.new.before ≡ sink.old.before) }
 {
     for name in TextName::all() {
-        let line = format!(in alloc; "== {name}\n")?;
-        sink.section(line.as_bytes())?;
-        write_named(alloc, name, instance, cpit, sink)?;
+        print_section(alloc, name, instance, cpit, sink)?;
     }
     Ok(())
+}
+
+// The same of the text of this name alone.
+fn print_section(
+    alloc: Global,
+    name: TextName,
+    instance: &Instance,
+    cpit: &Cpit,
+    sink: &mut SectionSink,
+) -> Result<(), WriteFault>
+    requires valid { IsValid instance.now }
+    requires cpit { cpit.now ≡ cpit_of instance.now }
+    ensures ok { OnOk result (sink.new.before ++ sink.new.taken
+        ≡ (sink.old.before ++ sink.old.taken) ++ section (ending_of name) (text_named name instance.now)) }
+    ensures front { take (length sink.old.before) sink.new.before ≡ sink.old.before }
+{
+    let line = format!(in alloc; "== {name}\n")?;
+    sink.section(line.as_bytes())?;
+    write_named(alloc, name, instance, cpit, sink)
 }
