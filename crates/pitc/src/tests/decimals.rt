@@ -3,6 +3,7 @@ ghost use Rattle.std.specs.Prelude.{◌≤◌};
 
 use pit_units::{Dec, DecFault, front_dec, front_whole, parse_dec, put_dec};
 use std::alloc::Global;
+use std::process::Abort;
 use std::test::Fail;
 
 fn read(text: &[u8], decimals: u8) -> Result<i128, DecFault>
@@ -11,95 +12,119 @@ fn read(text: &[u8], decimals: u8) -> Result<i128, DecFault>
     Ok(parse_dec(text, decimals)?.millionths())
 }
 
+// Texts, and the millionths or the fault that each is read as.
+type Spellings = &'static [(&'static str, Result<i128, DecFault>)];
+
+const SPELLINGS: Spellings = &[
+    (".5", Ok(500_000)),
+    ("5.", Ok(5_000_000)),
+    ("-0", Ok(0)),
+    ("+7", Ok(7_000_000)),
+    ("", Err(DecFault::Number)),
+    (".", Err(DecFault::Number)),
+    ("-", Err(DecFault::Number)),
+    ("0.0000001", Err(DecFault::TooFine)),
+    ("1000000000000000000", Ok(1_000_000_000_000_000_000_000_000)),
+    ("1000000000000000000.000001", Err(DecFault::Range)),
+];
+
+// Millionths, and their text.
+const WRITTEN: &[(i128, &str)] = &[(0, "0"), (-10_000, "-0.01"), (2_500_000, "2.5")];
+
+fn are_read(rt: &impl Abort, texts: Spellings) {
+    for (text, millionths) in texts {
+        assert_eq!(rt; read(text.as_bytes(), 6), *millionths, "at {text:?}");
+    }
+}
+
+fn text_of(alloc: Global, millionths: i128) -> Result<Vec<u8>, Fail> {
+    let mut text = Vec::new(alloc);
+    let dec = Dec::new(millionths).ok_or("out of range")?;
+    put_dec(alloc, &mut text, dec)?;
+    Ok(text)
+}
+
 #[test]
 fn decimal_spellings(rt: HostRuntime) -> Result<(), Fail> {
-    let read_texts = [
-        (".5", Ok(500_000)),
-        ("5.", Ok(5_000_000)),
-        ("-0", Ok(0)),
-        ("+7", Ok(7_000_000)),
-        ("", Err(DecFault::Number)),
-        (".", Err(DecFault::Number)),
-        ("-", Err(DecFault::Number)),
-        ("0.0000001", Err(DecFault::TooFine)),
-        ("1000000000000000000", Ok(1_000_000_000_000_000_000_000_000)),
-        ("1000000000000000000.000001", Err(DecFault::Range)),
-    ];
-    for (text, millionths) in read_texts {
-        assert_eq!(rt; read(text.as_bytes(), 6), millionths, "at {text:?}");
-    }
-
-    let written_texts = [(0, "0"), (-10_000, "-0.01"), (2_500_000, "2.5")];
-    for (millionths, text) in written_texts {
-        let mut out = Vec::new(rt.alloc());
-        let dec = Dec::new(millionths).ok_or("out of range")?;
-        put_dec(rt.alloc(), &mut out, dec)?;
-        assert_eq!(rt; out.as_slice(), text.as_bytes(), "at {text:?}");
+    are_read(&rt, SPELLINGS);
+    for (millionths, text) in WRITTEN {
+        let written = text_of(rt.alloc(), *millionths)?;
+        assert_eq!(rt; written.as_slice(), text.as_bytes(), "at {text:?}");
     }
     Ok(())
 }
 
+const FURTHER_SPELLINGS: Spellings = &[
+    ("007", Ok(7_000_000)),
+    ("+.25", Ok(250_000)),
+    ("-1.5", Ok(-1_500_000)),
+    ("1.2345670", Ok(1_234_567)),
+    ("0.0000000", Ok(0)),
+    (
+        "-1000000000000000000",
+        Ok(-1_000_000_000_000_000_000_000_000),
+    ),
+    ("-1000000000000000001", Err(DecFault::Range)),
+    ("-1000000000000000000.000001", Err(DecFault::Range)),
+    ("+", Err(DecFault::Number)),
+    ("+-5", Err(DecFault::Number)),
+    ("--1", Err(DecFault::Number)),
+    ("1.2.3", Err(DecFault::Number)),
+    (" 1", Err(DecFault::Number)),
+    ("1 ", Err(DecFault::Number)),
+    ("1e3", Err(DecFault::Number)),
+    ("1,5", Err(DecFault::Number)),
+    ("1.0000001x", Err(DecFault::Number)),
+    ("9999999999999999999.0000001", Err(DecFault::TooFine)),
+];
+
+// Texts that are read with so many decimals.
+const WITH_DECIMALS: &[(&str, u8, Result<i128, DecFault>)] = &[
+    ("12.000", 0, Ok(12_000_000)),
+    ("12.001", 0, Err(DecFault::TooFine)),
+    ("0.125", 3, Ok(125_000)),
+    ("0.1250000000000", 3, Ok(125_000)),
+    ("0.0001", 3, Err(DecFault::TooFine)),
+];
+
 #[test]
 fn further_spellings(rt: HostRuntime) {
-    let texts = [
-        ("007", Ok(7_000_000)),
-        ("+.25", Ok(250_000)),
-        ("-1.5", Ok(-1_500_000)),
-        ("1.2345670", Ok(1_234_567)),
-        ("0.0000000", Ok(0)),
-        (
-            "-1000000000000000000",
-            Ok(-1_000_000_000_000_000_000_000_000),
-        ),
-        ("-1000000000000000001", Err(DecFault::Range)),
-        ("-1000000000000000000.000001", Err(DecFault::Range)),
-        ("+", Err(DecFault::Number)),
-        ("+-5", Err(DecFault::Number)),
-        ("--1", Err(DecFault::Number)),
-        ("1.2.3", Err(DecFault::Number)),
-        (" 1", Err(DecFault::Number)),
-        ("1 ", Err(DecFault::Number)),
-        ("1e3", Err(DecFault::Number)),
-        ("1,5", Err(DecFault::Number)),
-        ("1.0000001x", Err(DecFault::Number)),
-        ("9999999999999999999.0000001", Err(DecFault::TooFine)),
-    ];
-    for (text, millionths) in texts {
-        assert_eq!(rt; read(text.as_bytes(), 6), millionths, "at {text:?}");
+    are_read(&rt, FURTHER_SPELLINGS);
+    for (text, decimals, millionths) in WITH_DECIMALS {
+        let found = read(text.as_bytes(), (*decimals).min(6));
+        assert_eq!(rt; found, *millionths, "at {text:?}");
     }
-    assert_eq!(rt; read(b"12.000", 0), Ok(12_000_000));
-    assert_eq!(rt; read(b"12.001", 0), Err(DecFault::TooFine));
-    assert_eq!(rt; read(b"0.125", 3), Ok(125_000));
-    assert_eq!(rt; read(b"0.1250000000000", 3), Ok(125_000));
-    assert_eq!(rt; read(b"0.0001", 3), Err(DecFault::TooFine));
 }
+
+// Whole numbers in front of texts, and what stands behind them.
+const WHOLES: &[(&[u8], Option<(u64, &[u8])>)] = &[
+    (b"12 7", Some((12, b" 7"))),
+    (b"5.5", Some((5, b".5"))),
+    (
+        b"1234567890123456789",
+        Some((123_456_789_012_345_678, b"9")),
+    ),
+    (b"", None),
+    (b"-1", None),
+];
+
+// The same of numbers with at most three decimals.
+const DECIMALS: &[(&[u8], Option<(i64, &[u8])>)] = &[
+    (b"-2000", Some((-2_000_000_000, b""))),
+    (b"500.5\t3", Some((500_500_000, b"\t3"))),
+    (b"5.x", Some((5_000_000, b"x"))),
+    (b"0.1234", None),
+    (b".5", None),
+    (b"+1", None),
+];
 
 #[test]
 fn front_of_texts(rt: HostRuntime) {
-    let wholes: [(&[u8], Option<(u64, &[u8])>); 5] = [
-        (b"12 7", Some((12, b" 7"))),
-        (b"5.5", Some((5, b".5"))),
-        (
-            b"1234567890123456789",
-            Some((123_456_789_012_345_678, b"9")),
-        ),
-        (b"", None),
-        (b"-1", None),
-    ];
-    for (text, front) in wholes {
-        assert_eq!(rt; front_whole(text), front, "at {text:?}");
+    for (text, front) in WHOLES {
+        assert_eq!(rt; front_whole(text), *front, "at {text:?}");
     }
-
-    let decimals: [(&[u8], Option<(i64, &[u8])>); 6] = [
-        (b"-2000", Some((-2_000_000_000, b""))),
-        (b"500.5\t3", Some((500_500_000, b"\t3"))),
-        (b"5.x", Some((5_000_000, b"x"))),
-        (b"0.1234", None),
-        (b".5", None),
-        (b"+1", None),
-    ];
-    for (text, front) in decimals {
-        assert_eq!(rt; front_dec(text, 3), front, "at {text:?}");
+    for (text, front) in DECIMALS {
+        assert_eq!(rt; front_dec(text, 3), *front, "at {text:?}");
     }
 }
 
@@ -148,13 +173,17 @@ const FURTHER: [i128; 8] = [
 const FURTHER_TEXTS: &[u8] =
     b"7 0.000001 -0.000001 0.1001 -12.00034 1000000000000000000 -1000000000000000000 999999999999999999.999999 ";
 
+fn put_text(alloc: Global, out: &mut Vec<u8>, millionths: i128) -> Result<(), Fail> {
+    let dec = Dec::new(millionths).ok_or("out of range")?;
+    put_dec(alloc, out, dec)?;
+    Ok(out.push(b' ')?)
+}
+
 // Each number's text, with a blank behind it.
 fn written(alloc: Global, numbers: &[i128]) -> Result<Vec<u8>, Fail> {
     let mut out = Vec::new(alloc);
     for millionths in numbers {
-        let dec = Dec::new(*millionths).ok_or("out of range")?;
-        put_dec(alloc, &mut out, dec)?;
-        out.push(b' ')?;
+        put_text(alloc, &mut out, *millionths)?;
     }
     Ok(out)
 }

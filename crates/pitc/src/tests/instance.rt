@@ -6,11 +6,12 @@ ghost use Rattle.precedence.specs.Cone.{HasZones};
 ghost use Rattle.rows.specs.Valued.{worths_by};
 
 use crate::tests::models::{LIMITED_PLAN, plan_of};
-use mine_instance::coef::Coef;
+use mine_instance::coef::{Coef, Coefs};
 use mine_instance::instance::Instance;
+use mine_instance::values::Values;
 use mine_instance::{build, is_valid};
 use pit_model::block::Block;
-use pit_model::limit::Bound;
+use pit_model::limit::{Bound, Limit};
 use pit_model::plan::Plan;
 use pit_units::Dec;
 use precedence::{Numbering, number, preds};
@@ -68,6 +69,10 @@ fn built_of(alloc: Global, plan: &Plan, rows: &[Valued]) -> Result<Instance, Fai
     Ok(build(alloc, &numbering, lists, rows, plan)?)
 }
 
+fn has_blocks(instance: &Instance, blocks: &[Block]) -> bool {
+    instance.blocks.as_slice() == blocks && instance.arcs() == 0
+}
+
 // The values are so many hundred cents.
 fn are_hundreds(rt: &impl Abort, values: &[Dec], hundreds: &[i32]) {
     assert_eq!(rt; values.len(), hundreds.len());
@@ -76,24 +81,35 @@ fn are_hundreds(rt: &impl Abort, values: &[Dec], hundreds: &[i32]) {
     }
 }
 
+fn has_values(rt: &impl Abort, values: &Values) {
+    assert!(rt; values.len() == 2);
+    are_hundreds(rt, values.of(0), &[12_000, -2_000]);
+    are_hundreds(rt, values.of(1), &[0, 0]);
+}
+
+fn has_coef(coefs: &Coefs, tonnes: Dec) -> bool {
+    let (b, d, r, v) = (0, 0, 0, tonnes);
+    coefs.as_slice() == [Coef { b, d, r, v }].as_slice()
+}
+
+fn has_limits(limits: &[Limit]) -> bool {
+    match limits {
+        [first, second] => matches!(first.bound, Bound::AtMost(_)) && second.period == 1,
+        _ => false,
+    }
+}
+
 #[test]
 fn limits_and_coefficients(rt: HostRuntime) -> Result<(), Fail> {
     let waste = Block::new(1, 0, 0, 0, 7_000_000, 0).ok_or("a block")?;
     let ore = Block::new(0, 0, 0, 1_000_000, 5_000_000_000, 0).ok_or("a block")?;
+    let tonnes = Dec::new(1_000_000_000).ok_or("tonnes")?;
     let instance = built(rt.alloc(), ore, waste)?;
     assert!(rt; is_valid(&instance));
-    assert_eq!(rt; instance.name.as_str(), "one");
-    assert_eq!(rt; instance.blocks.as_slice(), [ore, waste].as_slice());
-    assert_eq!(rt; (instance.blocks_len(), instance.arcs()), (2, 0));
-    assert!(rt; instance.values.len() == 2);
-    are_hundreds(&rt, instance.values.of(0), &[12_000, -2_000]);
-    are_hundreds(&rt, instance.values.of(1), &[0, 0]);
-    let v = Dec::new(1_000_000_000).ok_or("tonnes")?;
-    let (b, d, r) = (0, 0, 0);
-    assert_eq!(rt; instance.coefs.as_slice(), [Coef { b, d, r, v }].as_slice());
-    let bounds = instance.limits.as_slice();
-    assert_eq!(rt; (instance.coefs_len(), instance.limits_len()), (1, 2));
-    assert!(rt; matches!(bounds.first(), Some(limit) if matches!(limit.bound, Bound::AtMost(_))));
-    assert!(rt; bounds.last().is_some_and(|limit| limit.period == 1));
+    assert!(rt; instance.name.as_str() == "one");
+    assert!(rt; has_blocks(&instance, &[ore, waste]));
+    has_values(&rt, &instance.values);
+    assert!(rt; has_coef(&instance.coefs, tonnes));
+    assert!(rt; has_limits(instance.limits.as_slice()));
     Ok(())
 }

@@ -33,18 +33,31 @@ const ENOUGH: u32 = 128;
 
 // A zone file in memory: the header and these rows.
 fn zone_text(alloc: Global, rows: &str) -> Result<Vec<u8>, Fail> {
-    let mut text = HEADER.as_bytes().to_vec(alloc)?;
-    text.extend_from_slice(rows.as_bytes())?;
+    let mut text = Vec::new(alloc);
+    put(&mut text, HEADER.as_bytes())?;
+    put(&mut text, rows.as_bytes())?;
     Ok(text)
+}
+
+// The mill plan, in front of its zones, a zone of one slope, and what stands behind them.
+const PLAN_FRONT: &[u8] = b"name,one\ngrid,0,0,0,10,10,10\n";
+
+const PLAN_ZONE: &[u8] = b"zone,1,1,1\n";
+
+const PLAN_REST: &[u8] = b"mill,mill,900,600,1500\nperiods,1\nrate,0.1\n";
+
+fn put(text: &mut Vec<u8>, part: &[u8]) -> Result<(), Fail> {
+    Ok(text.extend_from_slice(part)?)
 }
 
 // The text of the mill plan, with so many zones of one slope.
 fn mill_text(alloc: Global, zones: u8) -> Result<Vec<u8>, Fail> {
-    let mut text = b"name,one\ngrid,0,0,0,10,10,10\n".to_vec(alloc)?;
+    let mut text = Vec::new(alloc);
+    put(&mut text, PLAN_FRONT)?;
     for _zone in 0..zones {
-        text.extend_from_slice(b"zone,1,1,1\n")?;
+        put(&mut text, PLAN_ZONE)?;
     }
-    text.extend_from_slice(b"mill,mill,900,600,1500\nperiods,1\nrate,0.1\n")?;
+    put(&mut text, PLAN_REST)?;
     Ok(text)
 }
 
@@ -75,6 +88,11 @@ fn new_sinks(alloc: Global) -> Sinks<MemSink> {
     }
 }
 
+// A sink in memory that takes at most so many bytes a put, and at least one.
+fn short_sink(alloc: Global, step: usize) -> MemSink {
+    MemSink::short(alloc, step.max(1))
+}
+
 // Which sinks were begun, in the order of writing.
 fn begun(sinks: &Sinks<MemSink>) -> [bool; 5] {
     [
@@ -90,11 +108,16 @@ fn is_untouched(sinks: &Sinks<MemSink>) -> bool {
     begun(sinks) == [false; 5]
 }
 
+// A feed of a file that has these rows.
+fn feed_of(alloc: Global, rows: &str) -> Result<MemFeed, Fail> {
+    Ok(MemFeed::new(zone_text(alloc, rows)?))
+}
+
 // A feed for each of the files, which have these rows.
 fn feeds_of(alloc: Global, files: &[&str]) -> Result<Vec<MemFeed>, Fail> {
     let mut feeds = Vec::new(alloc);
     for rows in files {
-        feeds.push(MemFeed::new(zone_text(alloc, rows)?))?;
+        feeds.push(feed_of(alloc, rows)?)?;
     }
     Ok(feeds)
 }
@@ -169,7 +192,7 @@ fn rows_of_open_run<R: Threads + Wait + Sync>(
 
 fn put_section(text: &mut Vec<u8>, name: &str, bytes: &[u8]) -> Result<(), Fail> {
     for part in [b"== ".as_slice(), name.as_bytes(), b"\n", bytes] {
-        text.extend_from_slice(part)?;
+        put(text, part)?;
     }
     Ok(())
 }

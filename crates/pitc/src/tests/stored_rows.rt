@@ -4,14 +4,21 @@ use pit_model::block::Block;
 use rows::{Rows, Valued, Worths};
 use std::test::Fail;
 
-// A row with so many worths, the first of which says which row it is.
-fn valued(place: u32, count: usize) -> Result<Valued, Fail> {
+// So many worths, the first of which says which row it is.
+fn worths_of(place: u32, count: usize) -> Result<Worths, Fail> {
     let worths: [i128; 8] = [i128::from(place), 1, 2, 3, 4, 5, 6, 7];
+    let first = worths.get(..count).ok_or("count")?;
+    Ok(Worths::new(first).ok_or("worths")?)
+}
+
+fn valued(place: u32, count: usize) -> Result<Valued, Fail> {
+    let worths = worths_of(place, count)?;
+    let block = Block::new(7, 0, 0, 1_000, u64::from(place), 3).ok_or("block")?;
     Ok(Valued {
         file: 3,
         place,
-        block: Block::new(7, 0, 0, 1_000, u64::from(place), 3).ok_or("block")?,
-        worths: Worths::new(worths.get(..count).ok_or("count")?).ok_or("worths")?,
+        block,
+        worths,
     })
 }
 

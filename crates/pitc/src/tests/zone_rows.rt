@@ -58,24 +58,52 @@ fn said(
     panic!(rt; "no end")
 }
 
+fn put(text: &mut Vec<u8>, part: &[u8]) -> Result<(), Fail> {
+    Ok(text.extend_from_slice(part)?)
+}
+
+fn with_header(alloc: Global, row: &[u8]) -> Result<Vec<u8>, Fail> {
+    let mut text = Vec::new(alloc);
+    put(&mut text, HEADER.as_bytes())?;
+    put(&mut text, row)?;
+    Ok(text)
+}
+
 // What one row below a header says.
 fn row_says(
     rt: &impl Abort,
     alloc: Global,
     row: &[u8],
 ) -> Result<Result<Option<Block>, RowFault>, Fail> {
-    let mut text = HEADER.as_bytes().to_vec(alloc)?;
-    text.extend_from_slice(row)?;
+    let text = with_header(alloc, row)?;
     let (blocks, last, fault) = said(rt, alloc, text.as_slice())?;
-    assert_eq!(rt; blocks, if fault.is_some() { 0 } else { 1 });
+    assert!(rt; blocks == if fault.is_some() { 0 } else { 1 });
     Ok(fault.map_or(Ok(last), Err))
+}
+
+// A row says a block at the origin of so many kilograms and this grade, or has a fault.
+type Says = Result<(u64, u64), (Column, RowFaultKind)>;
+
+fn is_said(rt: &impl Abort, alloc: Global, row: &[u8], wanted: Says) -> Result<bool, Fail> {
+    let said = row_says(rt, alloc, row)?;
+    Ok(match wanted {
+        Ok((kilograms, grade)) => said == Ok(Block::new(0, 0, 0, kilograms, grade, 0)),
+        Err((column, kind)) => said == Err(fault(2, column, kind)),
+    })
+}
+
+fn are_said(rt: &impl Abort, alloc: Global, rows: &[(&[u8], Says)]) -> Result<(), Fail> {
+    for (row, wanted) in rows {
+        assert!(rt; is_said(rt, alloc, row, *wanted)?, "{row:?}");
+    }
+    Ok(())
 }
 
 // A header and a row more than a file may have.
 fn too_many_rows(alloc: Global) -> Result<Vec<u8>, Fail> {
-    let mut text = HEADER.as_bytes().to_vec(alloc)?;
+    let mut text = with_header(alloc, b"")?;
     for _ in 0..1_000_001u32 {
-        text.extend_from_slice(b"0,0,0,1,0\n")?;
+        put(&mut text, b"0,0,0,1,0\n")?;
     }
     Ok(text)
 }
@@ -131,77 +159,108 @@ fn quoted_and_reordered(rt: HostRuntime) -> Result<(), Fail> {
     Ok(())
 }
 
+const TONNAGES: &[(&[u8], Says)] = &[
+    (b"0,0,0,2500.000000,0", Ok((2_500_000, 0))),
+    (b"0,0,0,-0,0", Ok((0, 0))),
+    (b"0,0,0,1000000,0", Ok((1_000_000_000, 0))),
+    (
+        b"0,0,0,2500.0001,0",
+        Err((Column::Tonnes, RowFaultKind::TooFine)),
+    ),
+    (b"0,0,0,-99,0", Err((Column::Tonnes, RowFaultKind::Range))),
+    (
+        b"0,0,0,1000000.001,0",
+        Err((Column::Tonnes, RowFaultKind::Range)),
+    ),
+    (b"0,0,0,1e3,0", Err((Column::Tonnes, RowFaultKind::Number))),
+    (b"0,0,0,1000", Err((Column::Whole, RowFaultKind::Width))),
+];
+
 #[test]
 fn tonnage_spellings(rt: HostRuntime) -> Result<(), Fail> {
-    for (row, kilograms) in [
-        ("0,0,0,2500.000000,0", 2_500_000),
-        ("0,0,0,-0,0", 0),
-        ("0,0,0,1000000,0", 1_000_000_000),
-    ] {
-        let said = row_says(&rt, rt.alloc(), row.as_bytes())?;
-        assert!(rt; said == Ok(Block::new(0, 0, 0, kilograms, 0, 0)), "{row}");
-    }
-    for (row, column, kind) in [
-        ("0,0,0,2500.0001,0", Column::Tonnes, RowFaultKind::TooFine),
-        ("0,0,0,-99,0", Column::Tonnes, RowFaultKind::Range),
-        ("0,0,0,1000000.001,0", Column::Tonnes, RowFaultKind::Range),
-        ("0,0,0,1e3,0", Column::Tonnes, RowFaultKind::Number),
-        ("0,0,0,1000", Column::Whole, RowFaultKind::Width),
-    ] {
-        let said = row_says(&rt, rt.alloc(), row.as_bytes())?;
-        assert!(rt; said == Err(fault(2, column, kind)), "{row}");
-    }
-    Ok(())
+    are_said(&rt, rt.alloc(), TONNAGES)
 }
+
+const GRID_EDGES: &[(&[u8], Says)] = &[
+    (b"5,0,0,1,0", Err((Column::X, RowFaultKind::OffGrid))),
+    (b"-5,0,0,1,0", Err((Column::X, RowFaultKind::Range))),
+    (b"99995,0,0,1,0", Err((Column::X, RowFaultKind::OffGrid))),
+    (b"100000,0,0,1,0", Err((Column::X, RowFaultKind::Range))),
+];
 
 #[test]
 fn grid_edges(rt: HostRuntime) -> Result<(), Fail> {
-    for (row, kind) in [
-        ("5,0,0,1,0", RowFaultKind::OffGrid),
-        ("-5,0,0,1,0", RowFaultKind::Range),
-        ("99995,0,0,1,0", RowFaultKind::OffGrid),
-        ("100000,0,0,1,0", RowFaultKind::Range),
-    ] {
-        let said = row_says(&rt, rt.alloc(), row.as_bytes())?;
-        assert!(rt; said == Err(fault(2, Column::X, kind)), "{row}");
-    }
+    are_said(&rt, rt.alloc(), GRID_EDGES)?;
     let said = row_says(&rt, rt.alloc(), b"99990,0,0,1,0")?;
     assert!(rt; said == Ok(Block::new(9999, 0, 0, 1000, 0, 0)));
     Ok(())
 }
 
+// An empty grade, a row without a line end, bytes that are no text, and a quote that is not closed.
+const EDGES: &[(&[u8], Says)] = &[
+    (b"0,0,0,1000", Err((Column::Whole, RowFaultKind::Width))),
+    (b"0,0,0,1000,", Err((Column::Grade, RowFaultKind::Number))),
+    (b"0,0,0,1000,5", Ok((1_000_000, 5_000_000))),
+    (b"\xFF,0,0,1,0", Err((Column::X, RowFaultKind::Number))),
+    (
+        b"0,0,0,1,\"0\n0,0,0,1,0\n",
+        Err((Column::Grade, RowFaultKind::Number)),
+    ),
+];
+
+// A cell of so many zeros behind a front, and the other cells of a row.
+fn long_row(alloc: Global, front: &[u8], zeros: usize) -> Result<Vec<u8>, Fail> {
+    let mut row = Vec::from_slice(alloc, front)?;
+    put(&mut row, vec![in alloc; b'0'; zeros]?.as_slice())?;
+    put(&mut row, b",0,0,1,0")?;
+    Ok(row)
+}
+
+fn long_rows(rt: &impl Abort, alloc: Global) -> Result<(), Fail> {
+    let far = long_row(alloc, b"1", 100)?;
+    let is_far = is_said(
+        rt,
+        alloc,
+        far.as_slice(),
+        Err((Column::X, RowFaultKind::Range)),
+    )?;
+    assert!(rt; is_far, "10^100");
+    let zero = long_row(alloc, b"", 1_000_000)?;
+    assert!(rt;
+        is_said(rt, alloc, zero.as_slice(), Ok((1000, 0)))?,
+        "zeros"
+    );
+    Ok(())
+}
+
+// So many blocks stand in a text, and then it has this fault.
+fn ends(
+    rt: &impl Abort,
+    alloc: Global,
+    text: &[u8],
+    blocks: usize,
+    wanted: RowFault,
+) -> Result<bool, Fail> {
+    let (found, _, fault) = said(rt, alloc, text)?;
+    Ok(found == blocks && fault == Some(wanted))
+}
+
+const HEADERS: &[(&str, Column)] = &[("x", Column::Y), ("x,y,z,tonnes,grad", Column::Grade)];
+
 #[test]
 fn zone_texts_at_the_edge(rt: HostRuntime) -> Result<(), Fail> {
     let alloc = rt.alloc();
-    for (header, column) in [("x", Column::Y), ("x,y,z,tonnes,grad", Column::Grade)] {
-        let (blocks, _, found) = said(&rt, alloc, header.as_bytes())?;
-        let missing = fault(1, column, RowFaultKind::MissingColumn);
-        assert!(rt; blocks == 0 && found == Some(missing), "{header}");
+    for (header, column) in HEADERS {
+        let missing = fault(1, *column, RowFaultKind::MissingColumn);
+        assert!(rt;
+            ends(&rt, alloc, header.as_bytes(), 0, missing)?,
+            "{header}"
+        );
     }
-    let no_grade = row_says(&rt, alloc, b"0,0,0,1000")?;
-    assert!(rt; no_grade == Err(fault(2, Column::Whole, RowFaultKind::Width)));
-    let empty_grade = row_says(&rt, alloc, b"0,0,0,1000,")?;
-    assert!(rt; empty_grade == Err(fault(2, Column::Grade, RowFaultKind::Number)));
-    let no_line_end = row_says(&rt, alloc, b"0,0,0,1000,5")?;
-    assert!(rt; no_line_end == Ok(Block::new(0, 0, 0, 1_000_000, 5_000_000, 0)));
-    let not_text = row_says(&rt, alloc, b"\xFF,0,0,1,0")?;
-    assert!(rt; not_text == Err(fault(2, Column::X, RowFaultKind::Number)));
-    let open_quote = row_says(&rt, alloc, b"0,0,0,1,\"0\n0,0,0,1,0\n")?;
-    assert!(rt; open_quote == Err(fault(2, Column::Grade, RowFaultKind::Number)));
-
-    let mut far = b"1".to_vec(alloc)?;
-    far.extend_from_slice(vec![in alloc; b'0'; 100]?.as_slice())?;
-    far.extend_from_slice(b",0,0,1,0")?;
-    let far = row_says(&rt, alloc, far.as_slice())?;
-    assert!(rt; far == Err(fault(2, Column::X, RowFaultKind::Range)));
-    let mut long = vec![in alloc; b'0'; 1_000_000]?;
-    long.extend_from_slice(b",0,0,1,0")?;
-    let long = row_says(&rt, alloc, long.as_slice())?;
-    assert!(rt; long == Ok(Block::new(0, 0, 0, 1000, 0, 0)));
-
+    are_said(&rt, alloc, EDGES)?;
+    long_rows(&rt, alloc)?;
     let rows = too_many_rows(alloc)?;
-    let (blocks, _, found) = said(&rt, alloc, rows.as_slice())?;
-    assert_eq!(rt; blocks, 1_000_000);
-    assert!(rt; found == Some(fault(1_000_002, Column::Whole, RowFaultKind::TooManyRows)));
+    let many = fault(1_000_002, Column::Whole, RowFaultKind::TooManyRows);
+    assert!(rt; ends(&rt, alloc, rows.as_slice(), 1_000_000, many)?);
     Ok(())
 }

@@ -60,18 +60,26 @@ fn only_formula(plan: &Plan) -> Result<&NamedFormula, Fail> {
     }
 }
 
+fn has_waste_zone(plan: &Plan) -> bool {
+    plan.name().as_str() == "waste" && plan.grid() == GRID && plan.cones() == [CONE].as_slice()
+}
+
+fn has_dump_alone(plan: &Plan) -> Result<bool, Fail> {
+    let named = only_formula(plan)?;
+    Ok(named.name.as_str() == "dump" && named.formula == Formula::Dump { cost: 200 })
+}
+
+fn has_one_period(plan: &Plan) -> bool {
+    plan.periods() == 1 && Some(plan.rate()) == Dec::new(100_000)
+}
+
 #[test]
 fn the_waste_plan(rt: HostRuntime) -> Result<(), Fail> {
     let plan = plan_of(rt.alloc(), WASTE)?;
-    assert_eq!(rt; plan.name().as_str(), "waste");
-    assert_eq!(rt; plan.grid(), GRID);
-    assert_eq!(rt; plan.cones(), [CONE].as_slice());
-    let named = only_formula(&plan)?;
-    assert_eq!(rt; named.name.as_str(), "dump");
-    assert_eq!(rt; named.formula, Formula::Dump { cost: 200 });
-    assert_eq!(rt; plan.periods(), 1);
-    assert_eq!(rt; Some(plan.rate()), Dec::new(100_000));
-    assert_eq!(rt; (plan.resources().len(), plan.limits().len()), (0, 0));
+    assert!(rt; has_waste_zone(&plan));
+    assert!(rt; has_dump_alone(&plan)?);
+    assert!(rt; has_one_period(&plan));
+    assert!(rt; plan.resources().is_empty() && plan.limits().is_empty());
     Ok(())
 }
 

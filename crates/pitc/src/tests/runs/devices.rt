@@ -1,19 +1,19 @@
 ghost use Rattle.std.specs.Prelude.{◌≤◌};
 
 use super::{
-    Fail, Global, MemFeed, MemSink, OpenGate, Refusal, Sinks, Threads, Wait, answer, begun,
-    destinations_of, feeds_of, is_untouched, mill_plan, new_sinks, open_answer, plan_of,
-    run_limited, settings, sink_of, zone_text,
+    Fail, Global, MemFeed, MemSink, OpenGate, Refusal, Settings, Sinks, Threads, Wait, answer,
+    begun, destinations_of, feed_of, feeds_of, is_untouched, mill_plan, new_sinks, open_answer,
+    plan_of, run_limited, settings, sink_of, zone_text,
 };
 use minelib_text::text_name::TextName;
 use pit_compile::settings::SettingsFault;
 
 fn good_feed(alloc: Global) -> Result<MemFeed, Fail> {
-    Ok(MemFeed::new(zone_text(alloc, "0,0,0,1,0\n")?))
+    feed_of(alloc, "0,0,0,1,0\n")
 }
 
 fn faulty_feed(alloc: Global) -> Result<MemFeed, Fail> {
-    Ok(MemFeed::new(zone_text(alloc, "0,0,0,1,?\n")?))
+    feed_of(alloc, "0,0,0,1,?\n")
 }
 
 // A feed of one good row that fails at this pull.
@@ -55,18 +55,30 @@ fn failing_feeds(rt: HostRuntime) -> Result<(), Fail> {
     Ok(())
 }
 
+// The refusal of a run on two files, which leaves the sinks untouched.
+fn refusal_of_two<R: Threads + Wait + Sync>(
+    rt: &R,
+    alloc: Global,
+    first: MemFeed,
+    second: MemFeed,
+) -> Result<Option<Refusal>, Fail> {
+    let mut sinks = new_sinks(alloc);
+    let answered = run_of_two(rt, alloc, first, second, &mut sinks)?;
+    Ok(if is_untouched(&sinks) {
+        answered.err()
+    } else {
+        None
+    })
+}
+
 // The least file's answer counts, whatever it is.
 #[test]
 fn the_least_file_answers(rt: HostRuntime) -> Result<(), Fail> {
     let alloc = rt.alloc();
-    let mut sinks = new_sinks(alloc);
-    let failing = failing_feed(alloc, 1)?;
-    let answered = run_of_two(&rt, alloc, faulty_feed(alloc)?, failing, &mut sinks)?;
-    assert!(rt; matches!(answered, Err(Refusal::Row { file: 0, .. })));
-    let failing = failing_feed(alloc, 1)?;
-    let answered = run_of_two(&rt, alloc, failing, faulty_feed(alloc)?, &mut sinks)?;
-    assert!(rt; matches!(answered, Err(Refusal::FeedFailed { file: 0 })));
-    assert!(rt; is_untouched(&sinks));
+    let faulty = refusal_of_two(&rt, alloc, faulty_feed(alloc)?, failing_feed(alloc, 1)?)?;
+    assert!(rt; matches!(faulty, Some(Refusal::Row { file: 0, .. })));
+    let failed = refusal_of_two(&rt, alloc, failing_feed(alloc, 1)?, faulty_feed(alloc)?)?;
+    assert!(rt; matches!(failed, Some(Refusal::FeedFailed { file: 0 })));
     Ok(())
 }
 
@@ -172,34 +184,35 @@ fn good_feeds(alloc: Global, files: usize) -> Result<Vec<MemFeed>, Fail> {
     Ok(feeds)
 }
 
+// How a run goes of so many files on a plan of so many zones.
+fn run_with<R: Threads + Wait + Sync>(
+    rt: &R,
+    alloc: Global,
+    zones: u8,
+    files: usize,
+    settings: Settings,
+    sinks: &mut Sinks<MemSink>,
+) -> Result<Result<u64, Refusal>, Fail> {
+    let plan = mill_plan(alloc, zones)?;
+    let feeds = good_feeds(alloc, files)?;
+    open_answer(rt, alloc, &plan, feeds, settings, sinks)
+}
+
+fn answer_with(fault: Option<SettingsFault>) -> Result<u64, Refusal> {
+    match fault {
+        Some(kind) => Err(Refusal::Settings(kind)),
+        None => Ok(1),
+    }
+}
+
 #[test]
 fn settings_of_a_run(rt: HostRuntime) -> Result<(), Fail> {
-    let alloc = rt.alloc();
     for (zones, files, valuers, capacity, fault) in SETTINGS {
-        let plan = mill_plan(alloc, zones)?;
-        let mut sinks = new_sinks(alloc);
-        let feeds = good_feeds(alloc, files)?;
-        let answered = open_answer(
-            &rt,
-            alloc,
-            &plan,
-            feeds,
-            settings(valuers, capacity),
-            &mut sinks,
-        )?;
-        let expected = match fault {
-            Some(kind) => Err(Refusal::Settings(kind)),
-            None => Ok(1),
-        };
-        assert!(rt;
-            answered == expected,
-            "{zones} {files} {valuers} {capacity}"
-        );
-        assert_eq!(rt;
-            is_untouched(&sinks),
-            fault.is_some(),
-            "{zones} {files} {valuers} {capacity}"
-        );
+        let mut sinks = new_sinks(rt.alloc());
+        let settings = settings(valuers, capacity);
+        let answered = run_with(&rt, rt.alloc(), zones, files, settings, &mut sinks)?;
+        let is_right = answered == answer_with(fault) && is_untouched(&sinks) == fault.is_some();
+        assert!(rt; is_right, "{zones} {files} {valuers} {capacity}");
     }
     Ok(())
 }

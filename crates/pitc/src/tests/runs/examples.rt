@@ -1,8 +1,8 @@
 ghost use Rattle.std.specs.Prelude.{◌≤◌};
 
 use super::{
-    MemFeed, MemSink, Refusal, Settings, Sinks, compiled_text, feeds_of, joined, mill_plan,
-    new_sinks, open_answer, plan_of, settings, text_into, zone_text,
+    MemFeed, MemSink, Refusal, Settings, Sinks, compiled_text, feed_of, feeds_of, joined,
+    mill_plan, new_sinks, open_answer, plan_of, put, settings, short_sink, text_into, zone_text,
 };
 use crate::tests::models::{HEADER_ALONE, LIMITED, LIMITED_PLAN, ONE_ORE_BLOCK};
 use std::alloc::Global;
@@ -32,12 +32,19 @@ const RUNS: [(&str, &[&str], &str); 5] = [
     ),
 ];
 
+fn text_of_rows<R: Threads + Wait + Sync + Abort>(
+    rt: &R,
+    alloc: Global,
+    files: &[&str],
+) -> Result<Vec<u8>, Fail> {
+    let plan = mill_plan(alloc, files.len().min(64) as u8)?;
+    compiled_text(rt, alloc, &plan, feeds_of(alloc, files)?, settings(2, 3))
+}
+
 #[test]
 fn runs_of_worked_examples(rt: HostRuntime) -> Result<(), Fail> {
-    let alloc = rt.alloc();
     for (name, files, expected) in RUNS {
-        let plan = mill_plan(alloc, files.len() as u8)?;
-        let text = compiled_text(&rt, alloc, &plan, feeds_of(alloc, files)?, settings(2, 3))?;
+        let text = text_of_rows(&rt, rt.alloc(), files)?;
         assert!(rt; text.as_slice() == expected.as_bytes(), "{name}");
     }
     Ok(())
@@ -52,13 +59,24 @@ const WHOLE_FILES: [(&str, &[u8], &str); 2] = [
     ("empty_file", b"", "file 0 row 1 column x: MissingColumn"),
 ];
 
+fn whole_feed(alloc: Global, file: &[u8]) -> Result<MemFeed, Fail> {
+    Ok(MemFeed::new(file.to_vec(alloc)?))
+}
+
+fn text_of_file<R: Threads + Wait + Sync + Abort>(
+    rt: &R,
+    alloc: Global,
+    file: &[u8],
+) -> Result<Vec<u8>, Fail> {
+    let plan = mill_plan(alloc, 1)?;
+    let feeds = Vec::from_array(alloc, [whole_feed(alloc, file)?])?;
+    compiled_text(rt, alloc, &plan, feeds, settings(1, 1))
+}
+
 #[test]
 fn runs_of_whole_files(rt: HostRuntime) -> Result<(), Fail> {
-    let alloc = rt.alloc();
-    let plan = mill_plan(alloc, 1)?;
     for (name, file, expected) in WHOLE_FILES {
-        let feeds = Vec::from_array(alloc, [MemFeed::new(file.to_vec(alloc)?)])?;
-        let text = compiled_text(&rt, alloc, &plan, feeds, settings(1, 1))?;
+        let text = text_of_file(&rt, rt.alloc(), file)?;
         assert!(rt; text.as_slice() == expected.as_bytes(), "{name}");
     }
     Ok(())
@@ -75,15 +93,13 @@ fn cutting_feed(alloc: Global, step: usize) -> Result<Vec<MemFeed>, Fail>
 }
 
 // Sinks that take at most so many bytes a put.
-fn short_sinks(alloc: Global, step: usize) -> Sinks<MemSink>
-    requires { 1 ≤ step }
-{
+fn short_sinks(alloc: Global, step: usize) -> Sinks<MemSink> {
     Sinks {
-        blocks: MemSink::short(alloc, step),
-        prec: MemSink::short(alloc, step),
-        upit: MemSink::short(alloc, step),
-        pcpsp: MemSink::short(alloc, step),
-        cpit: MemSink::short(alloc, step),
+        blocks: short_sink(alloc, step),
+        prec: short_sink(alloc, step),
+        upit: short_sink(alloc, step),
+        pcpsp: short_sink(alloc, step),
+        cpit: short_sink(alloc, step),
     }
 }
 
@@ -110,13 +126,18 @@ fn limits_and_coefficients(rt: HostRuntime) -> Result<(), Fail> {
     Ok(())
 }
 
+fn put_row(alloc: Global, text: &mut Vec<u8>, row: u32) -> Result<(), Fail> {
+    let line = format!(in alloc; "{row}0,0,0,1,0\n")?;
+    put(text, line.as_bytes())
+}
+
 // So many good rows, and one more whose grade is no number.
 fn long_file(alloc: Global, rows: u32) -> Result<MemFeed, Fail> {
     let mut text = zone_text(alloc, "")?;
     for row in 0..rows {
-        text.extend_from_slice(format!(in alloc; "{row}0,0,0,1,0\n")?.as_bytes())?;
+        put_row(alloc, &mut text, row)?;
     }
-    text.extend_from_slice(b"0,0,0,1,?\n")?;
+    put(&mut text, b"0,0,0,1,?\n")?;
     Ok(MemFeed::new(text))
 }
 
@@ -136,7 +157,7 @@ fn late_fault_in_file_0(rt: HostRuntime) -> Result<(), Fail> {
 // The file of this number: one row at x = 10 times the number, whose grade is the number.
 fn file_of_one_row(alloc: Global, file: u8) -> Result<MemFeed, Fail> {
     let row = format!(in alloc; "{file}0,0,0,1,{file}\n")?;
-    Ok(MemFeed::new(zone_text(alloc, row.as_str())?))
+    feed_of(alloc, row.as_str())
 }
 
 fn files_of_one_row(alloc: Global, files: u8) -> Result<Vec<MemFeed>, Fail> {

@@ -7,7 +7,7 @@ ghost use Rattle.std.specs.Prelude.{◌<◌, ◌≤◌, IfSome};
 
 use super::{
     Budget, ENOUGH, Fail, Global, HEADER, MemFeed, MemSink, Refusal, Sinks, Threads, Wait, answer,
-    begun, is_untouched, mill_plan, new_sinks, settings, sink_of,
+    begun, is_untouched, mill_plan, new_sinks, settings, short_sink, sink_of,
 };
 use minelib_text::text_name::TextName;
 use pit_compile::refusal::RowAt;
@@ -270,7 +270,7 @@ fn random_sink(
         Some(Failing { which, nth, step }) if which == name => {
             MemSink::fresh(alloc, step.max(1), nth)
         }
-        _ => MemSink::short(alloc, 1 + dice.roll(90) as usize),
+        _ => short_sink(alloc, 1 + dice.roll(90) as usize),
     }
 }
 
