@@ -15,5 +15,4 @@ mod pipe_form;
 mod plan;
 mod runs;
 mod stored_rows;
-mod texts;
 mod zone_rows;

@@ -1,15 +1,9 @@
 //! What tests of whole models share.
 
 ghost use Rattle.std.specs.Prelude.{◌≡◌};
-ghost use Rattle.mine_instance.specs.Valid.{IsValid};
 ghost use Rattle.pit_parts.specs.Formula.{IsRuled};
 ghost use Rattle.pit_parts.specs.Worth.{worth};
 
-use mine_instance::build_cpit;
-use mine_instance::instance::Instance;
-use minelib_text::mem_sink::MemSink;
-use minelib_text::text_name::TextName;
-use minelib_text::write_named;
 use pit_model::block::Block;
 use pit_model::destination::{Destination, Valuer};
 use pit_model::formula::Formula;
@@ -70,14 +64,4 @@ pub fn destinations_of(alloc: Global, plan: &Plan) -> Result<Vec<Destination>, F
         destinations.push(destination_of(alloc, &named.formula)?)?;
     }
     Ok(destinations)
-}
-
-/// The text of this name, of an instance.
-pub fn text_of(alloc: Global, name: TextName, instance: &Instance) -> Result<MemSink, Fail>
-    requires { IsValid instance.now }
-{
-    let cpit = build_cpit(alloc, instance)?;
-    let mut sink = MemSink::new(alloc);
-    write_named(alloc, name, instance, &cpit, &mut sink)?;
-    Ok(sink)
 }

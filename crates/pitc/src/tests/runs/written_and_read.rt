@@ -5,9 +5,9 @@ use super::{
     Fail, Global, MemSink, Refusal, Sinks, TextName, Threads, Wait, feeds_of, new_sinks,
     open_answer, plan_of, settings, sink_of,
 };
-use crate::tests::models::text_of;
+use mine_instance::build_cpit;
 use mine_instance::instance::Instance;
-use minelib_text::{read_cpit, read_instance, write_cpit};
+use minelib_text::{read_cpit, read_instance, write_cpit, write_named};
 
 // A plan with as many destinations and resources as there may be, and a limit of each resource in each period.
 const LARGE_PLAN: &[u8] =
@@ -25,8 +25,11 @@ const LARGE_PREC: &[u8] =
 fn has_texts(alloc: Global, instance: &Instance, sinks: &Sinks<MemSink>) -> Result<bool, Fail>
     requires { IsValid instance.now }
 {
+    let cpit = build_cpit(alloc, instance)?;
     for name in TextName::all() {
-        if text_of(alloc, name, instance)?.bytes() != sink_of(sinks, name).bytes() {
+        let mut again = MemSink::new(alloc);
+        write_named(alloc, name, instance, &cpit, &mut again)?;
+        if again.bytes() != sink_of(sinks, name).bytes() {
             return Ok(false);
         }
     }

@@ -1,11 +1,11 @@
 ghost use Rattle.mine_instance.specs.Valid.{IsValid};
 
-use crate::tests::models::text_of;
+use super::text_of;
+use crate::mem_sink::MemSink;
+use crate::text_fault::{ReadTextError, TextFault, TextFile, TextKind};
+use crate::text_name::TextName;
+use crate::{read_cpit, read_instance, write_cpit};
 use mine_instance::instance::Instance;
-use minelib_text::mem_sink::MemSink;
-use minelib_text::text_fault::{ReadTextError, TextFault, TextFile, TextKind};
-use minelib_text::text_name::TextName;
-use minelib_text::{read_cpit, read_instance, write_cpit};
 use std::alloc::Global;
 use std::process::Abort;
 use std::test::Fail;

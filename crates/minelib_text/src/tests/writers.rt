@@ -1,22 +1,22 @@
 ghost use Rattle.std.specs.Prelude.{IfOk};
 ghost use Rattle.mine_instance.specs.Valid.{IsValid};
 
-use crate::tests::models::text_of;
+use super::text_of;
+use crate::mem_sink::MemSink;
+use crate::section_sink::SectionSink;
+use crate::sink::Sink;
+use crate::text_name::TextName;
+use crate::write_fault::WriteFault;
+use crate::{write_blocks, write_named, write_prec, write_upit};
 use mine_instance::blocks::Blocks;
 use mine_instance::coef::{Coef, Coefs};
 use mine_instance::instance::Instance;
 use mine_instance::limits::Limits;
 use mine_instance::values::Values;
 use mine_instance::{build_cpit, is_valid};
-use minelib_text::mem_sink::MemSink;
-use minelib_text::section_sink::SectionSink;
-use minelib_text::sink::Sink;
-use minelib_text::text_name::TextName;
-use minelib_text::write_fault::WriteFault;
-use minelib_text::{write_blocks, write_named, write_prec, write_upit};
-use pit_model::block::Block;
-use pit_model::limit::{Bound, Limit};
-use pit_model::name::Name;
+use pit_parts::block::Block;
+use pit_parts::limit::{Bound, Limit};
+use pit_parts::name::Name;
 use pit_units::Dec;
 use precedence::Preds;
 use std::alloc::Global;
@@ -187,15 +187,32 @@ fn write<S: Sink>(
     Ok(write_named(alloc, name, instance, &cpit, sink))
 }
 
+// Whether a sink that was begun holds the text of this name, and it is this one.
+fn is_text(alloc: Global, name: TextName, instance: &Instance, want: &str) -> Result<bool, Fail>
+    requires { IsValid instance.now }
+{
+    let sink = text_of(alloc, name, instance)?;
+    Ok(sink.begun() && sink.bytes() == want.as_bytes())
+}
+
+fn are_texts(
+    rt: &impl Abort,
+    alloc: Global,
+    instance: &Instance,
+    want: [&str; 5],
+) -> Result<(), Fail>
+    requires { IsValid instance.now }
+{
+    for (name, text) in TextName::all().iter().zip(&want) {
+        assert!(rt; is_text(alloc, *name, instance, text)?, "{name}");
+    }
+    Ok(())
+}
+
 // The five texts are these.
 fn has_texts(rt: &impl Abort, alloc: Global, parts: &Parts, want: [&str; 5]) -> Result<(), Fail> {
     let instance = made(alloc, parts)?;
-    for (name, text) in TextName::all().iter().zip(&want) {
-        let sink = text_of(alloc, *name, &instance)?;
-        assert!(rt; sink.begun());
-        assert_eq!(rt; sink.bytes(), text.as_bytes(), "{name}");
-    }
-    Ok(())
+    are_texts(rt, alloc, &instance, want)
 }
 
 #[test]
@@ -265,13 +282,20 @@ fn put_sections(alloc: Global, instance: &Instance, sink: &mut SectionSink) -> R
 
 const SECTIONS: &[u8] = b"old\n== blocks\n0 0 0 0 1000 5000 0\n1 1 0 0 0 7 0\n== prec\n0 0\n1 0\n";
 
+// What a sink holds that held this before.
+fn sections(alloc: Global, instance: &Instance, before: &[u8]) -> Result<Vec<u8>, Fail>
+    requires { IsValid instance.now }
+{
+    let mut sink = SectionSink::new(Vec::from_slice(alloc, before)?);
+    put_sections(alloc, instance, &mut sink)?;
+    Ok(sink.into_vec())
+}
+
 #[test]
 fn sections_stay(rt: HostRuntime) -> Result<(), Fail> {
-    let alloc = rt.alloc();
-    let instance = made(alloc, &LIMITS_AND_COEFFICIENTS)?;
-    let mut sink = SectionSink::new(Vec::from_slice(alloc, b"old\n")?);
-    put_sections(alloc, &instance, &mut sink)?;
-    assert_eq!(rt; sink.into_vec().as_slice(), SECTIONS);
+    let instance = made(rt.alloc(), &LIMITS_AND_COEFFICIENTS)?;
+    let text = sections(rt.alloc(), &instance, b"old\n")?;
+    assert_eq!(rt; text.as_slice(), SECTIONS);
     Ok(())
 }
 
@@ -303,12 +327,23 @@ const CPITS: [(Parts, &str); 3] = [
     ),
 ];
 
+// Whether the text of the CPIT ends so.
+fn cpit_ends(alloc: Global, instance: &Instance, end: &str) -> Result<bool, Fail>
+    requires { IsValid instance.now }
+{
+    let sink = text_of(alloc, TextName::Cpit, instance)?;
+    Ok(sink.bytes().ends_with(end.as_bytes()))
+}
+
+fn cpit_of_ends(alloc: Global, parts: &Parts, end: &str) -> Result<bool, Fail> {
+    let instance = made(alloc, parts)?;
+    cpit_ends(alloc, &instance, end)
+}
+
 #[test]
 fn cpit_destinations(rt: HostRuntime) -> Result<(), Fail> {
     for (parts, end) in &CPITS {
-        let instance = made(rt.alloc(), parts)?;
-        let sink = text_of(rt.alloc(), TextName::Cpit, &instance)?;
-        assert!(rt; sink.bytes().ends_with(end.as_bytes()), "{end}");
+        assert!(rt; cpit_of_ends(rt.alloc(), parts, end)?, "{end}");
     }
     Ok(())
 }
@@ -331,6 +366,16 @@ fn comes_in_steps(
     Ok(())
 }
 
+// The sink took all, where its call of this number would have failed and was none: one call begins, and the others take seven bytes each.
+fn took_all(sink: &MemSink, whole: &[u8], nth: u64) -> bool {
+    nth == 2 + whole.len().div_ceil(7) as u64 && sink.bytes() == whole
+}
+
+// The sink failed at its call of this number, and holds a front of the text. The first call begins it.
+fn took_a_front(sink: &MemSink, whole: &[u8], nth: u64) -> bool {
+    sink.begun() == (nth > 1) && whole.starts_with(sink.bytes())
+}
+
 // A sink that takes seven bytes a call, and fails at this one, where there is one. Whether it failed.
 fn fails_at(
     rt: &impl Abort,
@@ -343,21 +388,16 @@ fn fails_at(
     requires { IsValid instance.now }
 {
     let mut sink = MemSink::fresh(alloc, 7, nth);
-    match write(alloc, name, instance, &mut sink)? {
-        Ok(()) => {
-            // One call begins, and the others take seven bytes each.
-            let calls: u64 = 1 + whole.len().div_ceil(7) as u64;
-            assert!(rt; nth == 1 + calls, "{name} {nth}");
-            assert_eq!(rt; sink.bytes(), whole, "{name}");
-            Ok(false)
-        }
-        Err(fault) => {
-            assert_eq!(rt; fault, WriteFault::SinkFailed);
-            assert_eq!(rt; sink.begun(), nth > 1, "{name} {nth}");
-            assert!(rt; whole.starts_with(sink.bytes()), "{name} {nth}");
-            Ok(true)
-        }
+    let written = write(alloc, name, instance, &mut sink)?;
+    if written == Err(WriteFault::SinkFailed) {
+        assert!(rt; took_a_front(&sink, whole, nth), "{name} {nth}");
+        return Ok(true);
     }
+    assert!(rt;
+        written == Ok(()) && took_all(&sink, whole, nth),
+        "{name} {nth}"
+    );
+    Ok(false)
 }
 
 // Whether there is a call, of those in turn, at which the sink no longer fails.
@@ -378,15 +418,26 @@ fn ends(
     Ok(false)
 }
 
+fn fails_well(
+    rt: &impl Abort,
+    alloc: Global,
+    name: TextName,
+    instance: &Instance,
+) -> Result<(), Fail>
+    requires { IsValid instance.now }
+{
+    let whole = text_of(alloc, name, instance)?;
+    comes_in_steps(rt, alloc, name, instance, whole.bytes())?;
+    assert!(rt; ends(rt, alloc, name, instance, whole.bytes())?, "{name}");
+    Ok(())
+}
+
 // A sink that takes a few bytes at a time, and that fails at each of its calls in turn.
 #[test]
 fn failing_devices(rt: HostRuntime) -> Result<(), Fail> {
     let instance = made(rt.alloc(), &LIMITS_AND_COEFFICIENTS)?;
     for name in TextName::all() {
-        let whole = text_of(rt.alloc(), name, &instance)?;
-        comes_in_steps(&rt, rt.alloc(), name, &instance, whole.bytes())?;
-        let ended = ends(&rt, rt.alloc(), name, &instance, whole.bytes())?;
-        assert!(rt; ended, "{name}");
+        fails_well(&rt, rt.alloc(), name, &instance)?;
     }
     Ok(())
 }
