@@ -1,18 +1,10 @@
-//! Tests of the commands, of all crates together, and of single crates by their public calls: a crate with tests of its own is proved
-//! once more for them.
+//! Tests of the commands, of runs, and of the closures of destinations.
 
-mod collecting;
-mod cones;
-mod decimals;
+mod destinations;
 mod ending;
-mod feeds;
 mod input;
-mod instance;
 mod job;
 pub mod models;
 mod pieces;
 mod pipe_form;
-mod plan;
 mod runs;
-mod stored_rows;
-mod zone_rows;

@@ -1,6 +1,6 @@
 use Rattle.std.proofs.Common.{◌≡◌, take, length, map}
 use Rattle.rows.specs.Valued.{worths_by}
-use Rattle.pitc.proofs.tests.instance.valued.Given as goal
+use Rattle.model_tests.proofs.tests.instance.valued.Given as goal
 
 abbrev pub invariant-loop-destination : goal.invariant-loop-destination
 invariant-loop-destination l =

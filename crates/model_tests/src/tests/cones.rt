@@ -7,10 +7,10 @@ use pit_model::grid::Grid;
 use pit_model::plan::Plan;
 use pit_model::read_plan;
 use precedence::{NumberError, Numbering, Preds, number, preds};
+use rows::{Valued, Worths};
 use std::alloc::Global;
 use std::process::Abort;
 use std::test::Fail;
-use valuers::{Valued, Worths};
 
 // The mill plan.
 const MILL: &[u8] =

@@ -5,7 +5,7 @@ ghost use Rattle.pit_parts.specs.PlanFormulas.{formulas_of_plan};
 ghost use Rattle.precedence.specs.Cone.{HasZones};
 ghost use Rattle.rows.specs.Valued.{worths_by};
 
-use crate::tests::models::{LIMITED_PLAN, plan_of};
+use super::plan_of;
 use mine_instance::coef::{Coef, Coefs};
 use mine_instance::instance::Instance;
 use mine_instance::values::Values;
@@ -15,10 +15,14 @@ use pit_model::limit::{Bound, Limit};
 use pit_model::plan::Plan;
 use pit_units::Dec;
 use precedence::{Numbering, number, preds};
+use rows::{Valued, Worths};
 use std::alloc::Global;
 use std::process::Abort;
 use std::test::Fail;
-use valuers::{Valued, Worths};
+
+// A plan of a mill and a dump, with a resource and its limits.
+const LIMITED_PLAN: &[u8] =
+    b"name,one\ngrid,0,0,0,10,10,10\nzone,1,1,1\nmill,mill,900,600,1500\ndump,dump,200\nperiods,2\nrate,0.1\nresource,plant,mill\nlimit,plant,1,I,0,900\nlimit,plant,0,L,500.5\n";
 
 // The row of a block, with its worths by the plan's formulas.
 fn valued(plan: &Plan, place: u32, block: Block) -> Valued
@@ -51,7 +55,7 @@ fn has_zones(numbering: &Numbering, plan: &Plan) -> bool
 
 // The instance of two blocks under the plan. The block of the greater identifier arrives first.
 fn built(alloc: Global, ore: Block, waste: Block) -> Result<Instance, Fail> {
-    let plan = plan_of(alloc, LIMITED_PLAN.as_bytes())?;
+    let plan = plan_of(alloc, LIMITED_PLAN)?;
     let rows = [valued(&plan, 0, waste), valued(&plan, 1, ore)];
     built_of(alloc, &plan, &rows)
 }

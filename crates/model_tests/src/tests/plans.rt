@@ -1,4 +1,4 @@
-use crate::tests::models::{plan_of, with_lines};
+use super::plan_of;
 use pit_model::band::Band;
 use pit_model::cone::{Cone, Slope};
 use pit_model::formula::{Formula, NamedFormula};
@@ -209,6 +209,17 @@ const PLANS: [(&str, Option<(u32, PlanFaultKind)>); 60] = [
         Some((5, Twice)),
     ),
 ];
+
+// A text whose lines end in bars here.
+fn with_lines(alloc: Global, bars: &str) -> Result<Vec<u8>, Fail> {
+    let mut text = Vec::from_slice(alloc, bars.as_bytes())?;
+    for byte in &mut text {
+        if *byte == b'|' {
+            *byte = b'\n';
+        }
+    }
+    Ok(text)
+}
 
 #[test]
 fn plan_table(rt: HostRuntime) -> Result<(), Fail> {

@@ -1,5 +1,5 @@
 use Rattle.std.proofs.Common.{◌≡◌, length}
-use Rattle.pitc.proofs.tests.stored_rows.rows_of_any_width.Given as goal
+use Rattle.model_tests.proofs.tests.stored_rows.rows_of_any_width.Given as goal
 
 abbrev pub invariant-loop-place : goal.invariant-loop-place
 invariant-loop-place g l = length l.rows ≡ l.place

@@ -1,10 +1,9 @@
 use collector::{AddFault, Collector, FinishFault};
 use pit_model::block::Block;
-use rows::Rows;
+use rows::{Item, Rows, Valued, Worths};
 use std::alloc::Global;
 use std::process::Abort;
 use std::test::Fail;
-use valuers::{Item, Valued, Worths};
 
 // A row whose worth says which one it is.
 fn valued(file: u8, place: u32, worth: i128) -> Result<Valued, Fail> {
