@@ -69,7 +69,8 @@ fn print_section(
     requires valid { IsValid instance.now }
     requires cpit { cpit.now ≡ cpit_of instance.now }
     ensures ok { OnOk result (sink.new.before ++ sink.new.taken
-        ≡ (sink.old.before ++ sink.old.taken) ++ section (ending_of name) (text_named name instance.now)) }
+        ≡ (sink.old.before ++ sink.old.taken)
+        ++ section (ending_of name) (text_named name instance.now)) }
     ensures front { take (length sink.old.before) sink.new.before ≡ sink.old.before }
 {
     let line = format!(in alloc; "== {name}\n")?;

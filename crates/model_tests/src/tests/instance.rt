@@ -74,7 +74,7 @@ fn built_of(alloc: Global, plan: &Plan, rows: &[Valued]) -> Result<Instance, Fai
 }
 
 fn has_blocks(instance: &Instance, blocks: &[Block]) -> bool {
-    instance.blocks.as_slice() == blocks && instance.arcs() == 0
+    instance.blocks.as_slice() == blocks && (instance.blocks_len(), instance.arcs()) == (2, 0)
 }
 
 // The values are so many hundred cents.
@@ -115,5 +115,6 @@ fn limits_and_coefficients(rt: HostRuntime) -> Result<(), Fail> {
     has_values(&rt, &instance.values);
     assert!(rt; has_coef(&instance.coefs, tonnes));
     assert!(rt; has_limits(instance.limits.as_slice()));
+    assert!(rt; (instance.coefs_len(), instance.limits_len()) == (1, 2));
     Ok(())
 }
