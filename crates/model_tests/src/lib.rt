@@ -1,5 +1,5 @@
-//! Tests of the crates below the threads by their public calls: decimals, records, plans, zone rows, cones, collecting and instances.
-//! Nothing else stands here, so that no crate is proved once more for them.
+//! Tests of the crates below the threads by calls that the program does not make, or whose answers it does not show. Nothing else stands
+//! here, so that no crate is proved once more for them.
 #![tactic(auto)]
 
 #[cfg(test)]

@@ -1,20 +1,20 @@
-use pit_model::plan::Plan;
-use pit_model::read_plan;
-use std::alloc::Global;
-use std::test::Fail;
+use pit_parts::block::Block;
+use rows::{Valued, Worths};
 
-mod bands;
 mod collecting;
-mod cones;
 mod decimals;
 mod feeds;
 mod instance;
-mod plans;
-mod record_reading;
+mod numbering;
 mod stored_rows;
-mod zone_rows;
+mod zone_reading;
 
-// The plan that a text states.
-fn plan_of(alloc: Global, text: &[u8]) -> Result<Plan, Fail> {
-    Ok(read_plan(alloc, text)?)
+// A row of a file, of the block at this index along x, with these worths.
+fn valued(file: u8, place: u32, x: u16, worths: &[i128]) -> Option<Valued> {
+    Some(Valued {
+        file,
+        place,
+        block: Block::new(x, 0, 0, 1_000, 0, file)?,
+        worths: Worths::new(worths)?,
+    })
 }

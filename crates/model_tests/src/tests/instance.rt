@@ -1,63 +1,54 @@
-//! An instance that is built of rows in one call.
+//! An instance that is built of rows in one call: the program takes its steps one by one.
 
-ghost use Rattle.std.specs.Prelude.{◌≡◌, ◌≤◌, All, length, IfOk, IsTrue};
+ghost use Rattle.std.specs.Prelude.{◌≡◌, ◌≤◌, All, length, IfSome, IsTrue};
 ghost use Rattle.pit_parts.specs.PlanFormulas.{formulas_of_plan};
 ghost use Rattle.precedence.specs.Cone.{HasZones};
 ghost use Rattle.rows.specs.Valued.{worths_by};
 
-use super::plan_of;
-use mine_instance::coef::{Coef, Coefs};
 use mine_instance::instance::Instance;
-use mine_instance::values::Values;
 use mine_instance::{build, is_valid};
-use pit_model::block::Block;
-use pit_model::limit::{Bound, Limit};
 use pit_model::plan::Plan;
-use pit_units::Dec;
+use pit_model::read_plan;
+use pit_parts::block::Block;
 use precedence::{Numbering, number, preds};
 use rows::{Valued, Worths};
 use std::alloc::Global;
-use std::process::Abort;
 use std::test::Fail;
 
 // A plan of a mill and a dump, with a resource and its limits.
-const LIMITED_PLAN: &[u8] =
+const PLAN: &[u8] =
     b"name,one\ngrid,0,0,0,10,10,10\nzone,1,1,1\nmill,mill,900,600,1500\ndump,dump,200\nperiods,2\nrate,0.1\nresource,plant,mill\nlimit,plant,1,I,0,900\nlimit,plant,0,L,500.5\n";
 
-// The row of a block, with its worths by the plan's formulas.
-fn valued(plan: &Plan, place: u32, block: Block) -> Valued
-    ensures { result.worths ≡ worths_by (formulas_of_plan plan.now) result.block }
+// The worths of a block at the two destinations of a plan.
+fn worths_of(plan: &Plan, block: Block) -> Option<Worths>
+    ensures { IfSome result (λ worths. worths ≡ worths_by (formulas_of_plan plan.now) block) }
 {
-    let mut cells = [0i128; 8];
-    let formulas = plan.formulas();
-    for (destination, named) in formulas.iter().enumerate() {
-        cells[destination] = named.formula.worth(block);
+    match plan.formulas() {
+        [mill, dump] => Worths::new(&[mill.formula.worth(block), dump.formula.worth(block)]),
+        _ => None,
     }
-    let worths = Worths::new(&cells[..formulas.len()]).unwrap();
-    Valued {
+}
+
+fn row(plan: &Plan, place: u32, block: Block) -> Option<Valued>
+    ensures { IfSome result
+        (λ row. row.worths ≡ worths_by (formulas_of_plan plan.now) row.block) }
+{
+    let worths = worths_of(plan, block)?;
+    Some(Valued {
         file: 0,
         place,
         block,
         worths,
-    }
+    })
 }
 
 fn has_zones(numbering: &Numbering, plan: &Plan) -> bool
     ensures { IsTrue result → HasZones plan.now numbering.now.blocks }
 {
-    for id in 0..numbering.len() {
-        if usize::from(numbering.block(id).zone) >= plan.cones().len() {
-            return false;
-        }
-    }
-    true
-}
-
-// The instance of two blocks under the plan. The block of the greater identifier arrives first.
-fn built(alloc: Global, ore: Block, waste: Block) -> Result<Instance, Fail> {
-    let plan = plan_of(alloc, LIMITED_PLAN)?;
-    let rows = [valued(&plan, 0, waste), valued(&plan, 1, ore)];
-    built_of(alloc, &plan, &rows)
+    numbering
+        .blocks()
+        .iter()
+        .all(|block| usize::from(block.zone) < plan.cones().len())
 }
 
 fn built_of(alloc: Global, plan: &Plan, rows: &[Valued]) -> Result<Instance, Fail>
@@ -73,48 +64,35 @@ fn built_of(alloc: Global, plan: &Plan, rows: &[Valued]) -> Result<Instance, Fai
     Ok(build(alloc, &numbering, lists, rows, plan)?)
 }
 
-fn has_blocks(instance: &Instance, blocks: &[Block]) -> bool {
-    instance.blocks.as_slice() == blocks && (instance.blocks_len(), instance.arcs()) == (2, 0)
+// Of two blocks, the one of the greater identifier arrives first.
+fn rows_of(plan: &Plan) -> Option<[Valued; 2]>
+    ensures { IfSome result
+        (λ rows. All (λ row. row.worths ≡ worths_by (formulas_of_plan plan.now) row.block) rows) }
+{
+    let waste = Block::new(1, 0, 0, 0, 7_000_000, 0)?;
+    let ore = Block::new(0, 0, 0, 1_000_000, 5_000_000_000, 0)?;
+    Some([row(plan, 0, waste)?, row(plan, 1, ore)?])
 }
 
-// The values are so many hundred cents.
-fn are_hundreds(rt: &impl Abort, values: &[Dec], hundreds: &[i32]) {
-    assert_eq!(rt; values.len(), hundreds.len());
-    for (value, hundreds) in values.iter().zip(hundreds) {
-        assert_eq!(rt; Dec::new(i128::from(*hundreds) * 1_000_000), Some(*value));
-    }
+fn built(alloc: Global) -> Result<Instance, Fail> {
+    let plan = read_plan(alloc, PLAN)?;
+    let rows = rows_of(&plan).ok_or("rows")?;
+    built_of(alloc, &plan, &rows)
 }
 
-fn has_values(rt: &impl Abort, values: &Values) {
-    assert!(rt; values.len() == 2);
-    are_hundreds(rt, values.of(0), &[12_000, -2_000]);
-    are_hundreds(rt, values.of(1), &[0, 0]);
-}
-
-fn has_coef(coefs: &Coefs, tonnes: Dec) -> bool {
-    let (b, d, r, v) = (0, 0, 0, tonnes);
-    coefs.as_slice() == [Coef { b, d, r, v }].as_slice()
-}
-
-fn has_limits(limits: &[Limit]) -> bool {
-    match limits {
-        [first, second] => matches!(first.bound, Bound::AtMost(_)) && second.period == 1,
-        _ => false,
-    }
+fn counts(instance: &Instance) -> (usize, usize, usize, usize) {
+    (
+        instance.blocks_len(),
+        instance.arcs(),
+        instance.coefs_len(),
+        instance.limits_len(),
+    )
 }
 
 #[test]
 fn limits_and_coefficients(rt: HostRuntime) -> Result<(), Fail> {
-    let waste = Block::new(1, 0, 0, 0, 7_000_000, 0).ok_or("a block")?;
-    let ore = Block::new(0, 0, 0, 1_000_000, 5_000_000_000, 0).ok_or("a block")?;
-    let tonnes = Dec::new(1_000_000_000).ok_or("tonnes")?;
-    let instance = built(rt.alloc(), ore, waste)?;
+    let instance = built(rt.alloc())?;
     assert!(rt; is_valid(&instance));
-    assert!(rt; instance.name.as_str() == "one");
-    assert!(rt; has_blocks(&instance, &[ore, waste]));
-    has_values(&rt, &instance.values);
-    assert!(rt; has_coef(&instance.coefs, tonnes));
-    assert!(rt; has_limits(instance.limits.as_slice()));
-    assert!(rt; (instance.coefs_len(), instance.limits_len()) == (1, 2));
+    assert_eq!(rt; counts(&instance), (2, 0, 1, 2));
     Ok(())
 }
