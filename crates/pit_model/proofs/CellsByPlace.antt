@@ -25,7 +25,7 @@ use Rattle.pit_parts.specs.declared.formula.Formula.TheVariants.{Leach}
 use Rattle.pit_parts.specs.declared.limit.Bound.{Bound}
 use Rattle.pit_model.specs.declared.plan_key.PlanKey.{PlanKey}
 use Rattle.pit_model.specs.declared.plan_key.PlanKey.TheVariants as key
-use Rattle.pit_model.specs.PlanCells.{a_cost, a_name, a_price, a_recovery, a_size, an_origin, plan_kind, word_at, word_of}
+use Rattle.pit_model.specs.PlanCells.{a_cost, a_name, a_price, a_size, an_origin, plan_kind, word_at, word_of}
 use Rattle.pit_model.specs.declared.plan_fault.PlanFaultKind.{PlanFaultKind}
 
 pub quotient : (n : ℕ) → n * 10 ^ 6 / 10 ^ 6 ≡ n
@@ -185,15 +185,11 @@ formula_placed s made alike true (Ok a) (Err kind) = refl
 formula_placed s made alike true (Ok a) (Ok values) = ap (λ formula. destined s (word_of a) [] formula) (alike a values)
 
 destination_placed : (s : Stated) (k : FormulaKey) (cells : List (List ℕ)) → Placed s k cells
-destination_placed s formula_key.Mill cells =
-    formula_placed s (formula_shape formula_key.Mill cells).made
-    (λ a values. refl) (length cells == 5) (read_field plan_kind a_name (cell_at cells 1))
-    (read_from 2 (a_recovery ∷ a_price ∷ a_cost ∷ []) cells)
 destination_placed s formula_key.Leach cells = leach_placed s cells
-destination_placed s formula_key.Dump cells =
-    formula_placed s (formula_shape formula_key.Dump cells).made
-    (λ a values. refl) (length cells == 3) (read_field plan_kind a_name (cell_at cells 1))
-    (read_from 2 (a_cost ∷ []) cells)
+destination_placed s k cells =
+    formula_placed s (formula_shape k cells).made
+    (λ a values. refl) (length cells == suc (length (formula_shape k cells).form)) (read_field plan_kind a_name (cell_at cells 1))
+    (read_from 2 (drop 1 (formula_shape k cells).form) cells)
 
 all_long : (n : ℕ) (field : Field) → length (replicate n field) ≡ n
 all_long zero field = refl

@@ -40,9 +40,8 @@ bands_fine (suc n) = bands_fine n
 
 -- the form of its cells
 pub formula_fine : (k : FormulaKey) (cells : List (List ℕ)) → is_fine (formula_shape k cells).form ≡ true
-formula_fine key.Mill cells = refl
 formula_fine key.Leach cells = bands_fine ((length cells - 6) / 2)
-formula_fine key.Dump cells = refl
+formula_fine k cells = refl
 
 bands_kept : (n : ℕ) (values : List Value) → Fit (bands_form n) values → All IsBand (bands_of values)
 bands_kept zero [] fit = All-nil IsBand

@@ -51,19 +51,21 @@ pub record FormulaShape : Type 0 where
   pub asked : List Value → List (Check PlanFaultKind)
   pub made : List Value → Formula
 
--- `mill, NAME, recovery, price, cost`; `leach, NAME, price, cost`, and at least one band;
--- `dump, NAME, cost`
+-- for each key its record
 abbrev pub formula_shape : FormulaKey → List (List ℕ) → FormulaShape
+-- `mill, NAME, recovery, price, cost`
 formula_shape key.Mill cells = record {
   form = a_name ∷ a_recovery ∷ a_price ∷ a_cost ∷ [];
   asked = λ values. [];
   made = λ values. formula.Mill (whole_at values 1) (whole_at values 2) (whole_at values 3);
 }
+-- `leach, NAME, price, cost`, and at least one band
 formula_shape key.Leach cells = record {
   form = a_name ∷ a_price ∷ a_cost ∷ bands_form (suc ((length cells - 6) / 2));
   asked = λ values. bands_asked (bands_of (drop 3 values));
   made = λ values. formula.Leach (bands_of (drop 3 values)) (whole_at values 1) (whole_at values 2);
 }
+-- `dump, NAME, cost`
 formula_shape key.Dump cells = record {
   form = a_name ∷ a_cost ∷ [];
   asked = λ values. [];

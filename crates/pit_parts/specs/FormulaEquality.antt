@@ -55,6 +55,5 @@ formula_equivalence = equivalence formulas_told
 
 -- a destination keeps that its formula is in range
 pub IsRuled-prop : (f : Formula) → IsProp (IsRuled f)
-IsRuled-prop (formula.Mill recovery price cost) = hlevel props
 IsRuled-prop (formula.Leach bands price cost) = hlevel props
-IsRuled-prop (formula.Dump cost) = hlevel props
+IsRuled-prop f = hlevel props
