@@ -8,7 +8,8 @@ ghost use Rattle.minelib_writing.specs.Written.{text_blocks};
 ghost use Rattle.pit_compile.specs.Compiled.{instance_from};
 ghost use Rattle.pit_compile.specs.Verdict.{IsAccepted};
 
-use crate::tests::models::{destinations_of, plan_of};
+use crate::tests::models::destinations_of;
+use crate::tests::watch::{OPEN, Watch};
 use minelib_text::mem_sink::MemSink;
 use minelib_text::read_instance;
 use minelib_text::text_fault::ReadTextError;
@@ -18,6 +19,7 @@ use pit_compile::settings::Settings;
 use pit_compile::sinks::Sinks;
 use pit_model::destination::Destination;
 use pit_model::plan::Plan;
+use pit_model::read_plan;
 use std::alloc::Global;
 use std::sync::Wait;
 use std::test::Fail;
@@ -132,8 +134,9 @@ fn blocks_of<R: Threads + Wait + Sync>(
 
 #[test]
 fn one_ore_block(rt: HostRuntime) -> Result<(), Fail> {
-    let plan = plan_of(rt.alloc(), ONE_ZONE)?;
-    let destinations = destinations_of(rt.alloc(), &plan)?;
+    let plan = read_plan(rt.alloc(), ONE_ZONE)?;
+    let watch = Watch::new(rt.alloc(), OPEN)?;
+    let destinations = destinations_of(rt.alloc(), &plan, &watch)?;
     let text = blocks_of(&rt, rt.alloc(), &plan, destinations.as_slice(), ORE).ok_or("refused")?;
     assert!(rt; text.as_slice() == b"0 0 0 0 1000 5000 0\n".as_slice());
     Ok(())

@@ -1,10 +1,8 @@
-//! Tests of the commands, of runs, and of the closures of destinations.
+//! Tests of what the built program never does, or does not show: of runs, of inputs and outputs that fail, and of the words of a job.
 
-mod destinations;
 mod ending;
 mod input;
 mod job;
 pub mod models;
-mod pieces;
-mod pipe_form;
 mod runs;
+pub mod watch;

@@ -46,9 +46,10 @@ impl Write for Narrow {
     }
 }
 
-// How a run ends: its status, the room of both outputs, and then what is answered and what they hold.
+// How a run ends: its status, the line that it left, the room of both outputs, and then what is answered and what they hold.
 struct End {
     status: u8,
+    line: &'static [u8],
     output_room: usize,
     errors_room: usize,
     answer: u8,
@@ -60,9 +61,10 @@ const TEXT: &[u8] = b"rows 1\n";
 
 const LINE: &[u8] = b"pitc: NoThread\n";
 
-const ENDS: [End; 6] = [
+const ENDS: [End; 7] = [
     End {
         status: 0,
+        line: LINE,
         output_room: 7,
         errors_room: 0,
         answer: 0,
@@ -71,6 +73,7 @@ const ENDS: [End; 6] = [
     },
     End {
         status: 0,
+        line: LINE,
         output_room: 6,
         errors_room: 100,
         answer: DEVICE,
@@ -79,6 +82,7 @@ const ENDS: [End; 6] = [
     },
     End {
         status: 0,
+        line: LINE,
         output_room: 0,
         errors_room: 4,
         answer: DEVICE,
@@ -87,6 +91,7 @@ const ENDS: [End; 6] = [
     },
     End {
         status: RESOURCES,
+        line: LINE,
         output_room: 100,
         errors_room: 100,
         answer: RESOURCES,
@@ -95,6 +100,7 @@ const ENDS: [End; 6] = [
     },
     End {
         status: REFUSED,
+        line: LINE,
         output_room: 100,
         errors_room: 4,
         answer: REFUSED,
@@ -103,11 +109,22 @@ const ENDS: [End; 6] = [
     },
     End {
         status: DEVICE,
+        line: LINE,
         output_room: 0,
         errors_room: 100,
         answer: DEVICE,
         output: b"",
         errors: LINE,
+    },
+    // No line is want of memory.
+    End {
+        status: RESOURCES,
+        line: b"",
+        output_room: 100,
+        errors_room: 100,
+        answer: RESOURCES,
+        output: b"",
+        errors: b"pitc: OutOfMemory\n",
     },
 ];
 
@@ -116,19 +133,9 @@ fn outputs_that_fail(rt: HostRuntime) {
     for end in &ENDS {
         let mut output = Narrow::new(rt.alloc(), end.output_room);
         let mut errors = Narrow::new(rt.alloc(), end.errors_room);
-        let answer = finish(&mut output, &mut errors, end.status, TEXT, LINE);
+        let answer = finish(&mut output, &mut errors, end.status, TEXT, end.line);
         assert!(rt; answer == ExitCode::from(end.answer), "{}", end.status);
         assert!(rt; output.held.as_slice() == end.output);
         assert!(rt; errors.held.as_slice() == end.errors);
     }
-}
-
-#[test]
-fn no_line_is_want_of_memory(rt: HostRuntime) {
-    let mut output = Narrow::new(rt.alloc(), 100);
-    let mut errors = Narrow::new(rt.alloc(), 100);
-    let answer = finish(&mut output, &mut errors, RESOURCES, b"", b"");
-    assert!(rt; answer == ExitCode::from(RESOURCES));
-    assert!(rt; output.held.is_empty());
-    assert!(rt; errors.held.as_slice() == b"pitc: OutOfMemory\n".as_slice());
 }

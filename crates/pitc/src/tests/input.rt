@@ -1,6 +1,5 @@
 //! An input that is interrupted, ends or fails.
 
-use pit_commands::input::{InputFault, read_whole};
 use pit_commands::model::read_model_from;
 use std::alloc::Global;
 use std::io;
@@ -46,18 +45,6 @@ fn input_that(fails: bool) -> Interrupted {
     }
 }
 
-#[test]
-fn an_interrupted_input_comes_whole(rt: HostRuntime) {
-    match read_whole(&mut input_that(false), rt.alloc()) {
-        Ok(bytes) => assert!(rt; bytes.as_slice() == INPUT),
-        Err(fault) => assert!(rt; false, "{fault}"),
-    }
-    match read_whole(&mut input_that(true), rt.alloc()) {
-        Ok(_) => assert!(rt; false),
-        Err(fault) => assert!(rt; fault == InputFault::FeedFailed),
-    }
-}
-
 // What single reads of an input give, up to its end or its failure.
 fn read_singly(alloc: Global, input: &mut Interrupted) -> Result<Result<Vec<u8>, FeedFault>, Fail> {
     let mut bytes = Vec::new(alloc);
@@ -75,13 +62,8 @@ fn read_singly(alloc: Global, input: &mut Interrupted) -> Result<Result<Vec<u8>,
 #[test]
 fn an_interrupted_read_loses_nothing(rt: HostRuntime) -> Result<(), Fail> {
     for fails in [false, true] {
-        let mut input = Interrupted {
-            left: b"x,y,z\n",
-            interrupts: false,
-            fails,
-        };
-        match read_singly(rt.alloc(), &mut input)? {
-            Ok(bytes) => assert!(rt; !fails && bytes.as_slice() == b"x,y,z\n".as_slice()),
+        match read_singly(rt.alloc(), &mut input_that(fails))? {
+            Ok(bytes) => assert!(rt; !fails && bytes.as_slice() == INPUT),
             Err(fault) => assert!(rt; fails && fault == FeedFault),
         }
     }

@@ -1,73 +1,55 @@
 //! Runs on plans and zone files in memory.
 
-ghost use Rattle.std.specs.Prelude.{◌≡◌, IfOk};
-
-use crate::tests::models::{destinations_of, plan_of};
+use crate::tests::models::destinations_of;
+use crate::tests::watch::Watched;
 use minelib_text::mem_sink::MemSink;
 use minelib_text::text_name::TextName;
 use pit_compile::refusal::Refusal;
+use pit_compile::run_limited;
 use pit_compile::settings::{Budget, Settings};
 use pit_compile::sinks::Sinks;
-use pit_compile::{run, run_limited};
 use pit_model::destination::Destination;
 use pit_model::plan::Plan;
+use pit_model::read_plan;
 use std::alloc::Global;
-use std::process::Abort;
 use std::sync::Wait;
 use std::test::Fail;
 use std::thread::Threads;
-use valuers::{Gate, OpenGate};
+use zone_csv::feed::Feed;
 use zone_csv::mem_feed::MemFeed;
 
 mod devices;
-mod examples;
 mod random_runs;
 mod schedules;
-mod written_and_read;
 
 // The first record of each zone file.
-const HEADER: &str = "x,y,z,tonnes,grade\n";
+const HEADER: &[u8] = b"x,y,z,tonnes,grade\n";
 
-// As many starts as a run is given.
+// As many starts as `run` is given.
 const ENOUGH: u32 = 128;
 
-// A zone file in memory: the header and these rows.
-fn zone_text(alloc: Global, rows: &str) -> Result<Vec<u8>, Fail> {
-    let mut text = Vec::new(alloc);
-    put(&mut text, HEADER.as_bytes())?;
-    put(&mut text, rows.as_bytes())?;
-    Ok(text)
-}
-
-// The mill plan, in front of its zones, a zone of one slope, and what stands behind them.
 const PLAN_FRONT: &[u8] = b"name,one\ngrid,0,0,0,10,10,10\n";
 
 const PLAN_ZONE: &[u8] = b"zone,1,1,1\n";
 
-const PLAN_REST: &[u8] = b"mill,mill,900,600,1500\nperiods,1\nrate,0.1\n";
+const PLAN_REST: &[u8] = b"periods,1\nrate,0.1\n";
 
-fn put(text: &mut Vec<u8>, part: &[u8]) -> Result<(), Fail> {
-    Ok(text.extend_from_slice(part)?)
-}
+const MILL: &[u8] = b"mill,mill,900,600,1500\n";
 
-// The text of the mill plan, with so many zones of one slope.
-fn mill_text(alloc: Global, zones: u8) -> Result<Vec<u8>, Fail> {
+// The plan of this destination, with so many zones of one slope.
+fn plan_of(alloc: Global, zones: usize, destination: &[u8]) -> Result<Plan, Fail> {
     let mut text = Vec::new(alloc);
-    put(&mut text, PLAN_FRONT)?;
+    text.extend_from_slice(PLAN_FRONT)?;
     for _zone in 0..zones {
-        put(&mut text, PLAN_ZONE)?;
+        text.extend_from_slice(PLAN_ZONE)?;
     }
-    put(&mut text, PLAN_REST)?;
-    Ok(text)
-}
-
-fn mill_plan(alloc: Global, zones: u8) -> Result<Plan, Fail> {
-    let text = mill_text(alloc, zones)?;
-    plan_of(alloc, text.as_slice())
+    text.extend_from_slice(destination)?;
+    text.extend_from_slice(PLAN_REST)?;
+    Ok(read_plan(alloc, text.as_slice())?)
 }
 
 // The sink of a text.
-fn sink_of<S>(sinks: &Sinks<S>, name: TextName) -> &S {
+fn sink_of(sinks: &Sinks<MemSink>, name: TextName) -> &MemSink {
     match name {
         TextName::Blocks => &sinks.blocks,
         TextName::Prec => &sinks.prec,
@@ -88,11 +70,6 @@ fn new_sinks(alloc: Global) -> Sinks<MemSink> {
     }
 }
 
-// A sink in memory that takes at most so many bytes a put, and at least one.
-fn short_sink(alloc: Global, step: usize) -> MemSink {
-    MemSink::short(alloc, step.max(1))
-}
-
 // Which sinks were begun, in the order of writing.
 fn begun(sinks: &Sinks<MemSink>) -> [bool; 5] {
     [
@@ -104,136 +81,90 @@ fn begun(sinks: &Sinks<MemSink>) -> [bool; 5] {
     ]
 }
 
-fn is_untouched(sinks: &Sinks<MemSink>) -> bool {
-    begun(sinks) == [false; 5]
+// A zone file: its rows, and which pull fails, or 0.
+type ZoneFile = (&'static str, u64);
+
+const ORE: ZoneFile = ("0,0,0,1,0\n", 0);
+
+const EAST: ZoneFile = ("10,0,0,1,0\n", 0);
+
+fn feed_of(alloc: Global, rows: &str, failing: u64) -> Result<MemFeed, Fail> {
+    let mut text = HEADER.to_vec(alloc)?;
+    text.extend_from_slice(rows.as_bytes())?;
+    Ok(if failing == 0 {
+        MemFeed::new(text)
+    } else {
+        MemFeed::failing(text, failing)
+    })
 }
 
-// A feed of a file that has these rows.
-fn feed_of(alloc: Global, rows: &str) -> Result<MemFeed, Fail> {
-    Ok(MemFeed::new(zone_text(alloc, rows)?))
-}
-
-// A feed for each of the files, which have these rows.
-fn feeds_of(alloc: Global, files: &[&str]) -> Result<Vec<MemFeed>, Fail> {
+// A feed of each of these files, so many times over.
+fn feeds_of(alloc: Global, files: &[ZoneFile], times: usize) -> Result<Vec<MemFeed>, Fail> {
     let mut feeds = Vec::new(alloc);
-    for rows in files {
-        feeds.push(feed_of(alloc, rows)?)?;
+    for _time in 0..times {
+        for (rows, failing) in files {
+            feeds.push(feed_of(alloc, rows, *failing)?)?;
+        }
     }
     Ok(feeds)
 }
 
-fn settings(valuers: usize, capacity: usize) -> Settings {
-    Settings { valuers, capacity }
-}
-
 // How a run went: its number of rows or its refusal.
-fn answer<R: Threads + Wait + Sync, G: Gate + Sync>(
+fn rows_of_run<R: Threads + Wait + Sync, F: Feed + Send + Drop>(
     rt: &R,
     alloc: Global,
-    plan: &Plan,
-    feeds: Vec<MemFeed>,
-    budget: Budget,
-    gate: &G,
-    sinks: &mut Sinks<MemSink>,
-) -> Result<Result<u64, Refusal>, Fail> {
-    let destinations = destinations_of(alloc, plan)?;
-    let answered = run_limited(
-        rt,
-        alloc,
-        feeds,
-        plan,
-        destinations.as_slice(),
-        budget.settings,
-        budget.starts,
-        gate,
-        sinks,
-    );
-    match answered {
-        Ok(gathered) => Ok(Ok(gathered.rows())),
-        Err(refusal) => Ok(Err(refusal)),
-    }
-}
-
-// The same with an open gate, and with as many starts as `run` has.
-fn open_answer<R: Threads + Wait + Sync>(
-    rt: &R,
-    alloc: Global,
-    plan: &Plan,
-    feeds: Vec<MemFeed>,
-    settings: Settings,
-    sinks: &mut Sinks<MemSink>,
-) -> Result<Result<u64, Refusal>, Fail> {
-    let destinations = destinations_of(alloc, plan)?;
-    let destinations = destinations.as_slice();
-    Ok(rows_of_open_run(rt, alloc, plan, destinations, feeds, settings, sinks))
-}
-
-fn rows_of_open_run<R: Threads + Wait + Sync>(
-    rt: &R,
-    alloc: Global,
+    feeds: Vec<F>,
     plan: &Plan,
     destinations: &[Destination],
-    feeds: Vec<MemFeed>,
-    settings: Settings,
+    budget: Budget,
+    watch: &Watched,
     sinks: &mut Sinks<MemSink>,
 ) -> Result<u64, Refusal> {
-    let gathered = run(
+    let gathered = run_limited(
         rt,
         alloc,
         feeds,
         plan,
         destinations,
-        settings,
-        &OpenGate,
+        budget.settings,
+        budget.starts,
+        &**watch,
         sinks,
     )?;
     Ok(gathered.rows())
 }
 
-fn put_section(text: &mut Vec<u8>, name: &str, bytes: &[u8]) -> Result<(), Fail> {
-    for part in [b"== ".as_slice(), name.as_bytes(), b"\n", bytes] {
-        put(text, part)?;
-    }
-    Ok(())
-}
-
-// The five texts, each behind the name of its file.
-fn joined(alloc: Global, sinks: &Sinks<MemSink>) -> Result<Vec<u8>, Fail> {
-    let mut text = Vec::new(alloc);
-    for name in TextName::all() {
-        put_section(&mut text, name.ending(), sink_of(sinks, name).bytes())?;
-    }
-    Ok(text)
-}
-
-fn words_of(alloc: Global, refusal: Refusal) -> Result<Vec<u8>, Fail> {
-    Ok(format!(in alloc; "{refusal}")?.into_bytes())
-}
-
-// The five texts of a run into these sinks; or the words of its refusal, where no sink was begun.
-fn text_into<R: Threads + Wait + Sync + Abort>(
+// How a run goes on a plan, with the destinations of another one.
+fn answer<R: Threads + Wait + Sync, F: Feed + Send + Drop>(
     rt: &R,
     alloc: Global,
+    feeds: Vec<F>,
     plan: &Plan,
-    feeds: Vec<MemFeed>,
-    settings: Settings,
+    other: &Plan,
+    budget: Budget,
+    watch: &Watched,
     sinks: &mut Sinks<MemSink>,
-) -> Result<Vec<u8>, Fail> {
-    match open_answer(rt, alloc, plan, feeds, settings, sinks)? {
-        Ok(_rows) => joined(alloc, sinks),
-        Err(refusal) => {
-            assert!(rt; is_untouched(sinks), "{refusal}");
-            words_of(alloc, refusal)
-        }
-    }
+) -> Result<Result<u64, Refusal>, Fail> {
+    let destinations = destinations_of(alloc, other, watch)?;
+    let destinations = destinations.as_slice();
+    Ok(rows_of_run(rt, alloc, feeds, plan, destinations, budget, watch, sinks))
 }
 
-fn compiled_text<R: Threads + Wait + Sync + Abort>(
+// How a run goes on the plan of a mill with so many zones.
+fn mill_answer<R: Threads + Wait + Sync, F: Feed + Send + Drop>(
     rt: &R,
     alloc: Global,
-    plan: &Plan,
-    feeds: Vec<MemFeed>,
-    settings: Settings,
-) -> Result<Vec<u8>, Fail> {
-    text_into(rt, alloc, plan, feeds, settings, &mut new_sinks(alloc))
+    zones: usize,
+    feeds: Vec<F>,
+    budget: Budget,
+    watch: &Watched,
+    sinks: &mut Sinks<MemSink>,
+) -> Result<Result<u64, Refusal>, Fail> {
+    let plan = plan_of(alloc, zones, MILL)?;
+    answer(rt, alloc, feeds, &plan, &plan, budget, watch, sinks)
+}
+
+fn budget(valuers: usize, capacity: usize, starts: u32) -> Budget {
+    let settings = Settings { valuers, capacity };
+    Budget { settings, starts }
 }

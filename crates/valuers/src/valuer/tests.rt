@@ -3,7 +3,7 @@
 ghost use Rattle.std.specs.Prelude.{◌≡◌, ◌≤◌, true, [], IfOk, IfSome, length};
 ghost use Rattle.lane.specs.MessageKinds.{is_done};
 ghost use Rattle.lane.specs.Ends.{first_puts, first_takes};
-ghost use Rattle.pit_parts.specs.Worth.{dump, mill};
+ghost use Rattle.pit_parts.specs.Worth.{mill};
 
 use super::*;
 use crate::gate::OpenGate;
@@ -12,10 +12,8 @@ use linked_list_allocator::LocalHeap;
 use pit_parts::block::Block;
 use pit_parts::destination::Valuer;
 use pit_parts::formula::Formula;
-use pit_parts::worth::{dump_worth, mill_worth};
+use pit_parts::worth::mill_worth;
 use rows::Worths;
-use std::sync::Arc;
-use std::sync::atomic::{AtomicU64, Ordering};
 use std::test::Fail;
 use std::thread;
 use std::thread::Threads;
@@ -183,64 +181,5 @@ fn growth_refused(rt: HostRuntime) -> Result<(), Fail> {
         let handed_on = handed_on(&rt, alloc, &plant, ore()?, bytes)?;
         assert_eq!(rt; handed_on, (6, count, count < 7));
     }
-    Ok(())
-}
-
-// A gate that counts the rows that it is told of.
-#[derive(Drop)]
-struct CountingGate {
-    rows: Arc<AtomicU64>,
-}
-
-impl Gate for CountingGate {
-    fn row<R: Wait>(&self, _rt: &R, _valuer: u8, _file: u8, _place: u32) {
-        self.rows.fetch_add(1, Ordering::SeqCst);
-    }
-
-    fn reader<R: Wait>(&self, _rt: &R, _file: u8) {}
-}
-
-// A dump whose closure adds up how many rows the gate was told of each time that a worth is asked for.
-fn watching_dump(
-    alloc: Global,
-    told: Arc<AtomicU64>,
-    seen: Arc<AtomicU64>,
-) -> Result<Destination, Fail> {
-    let valuer: Valuer = Box::new(
-        alloc,
-        move |block: Block| -> i128
-            ensures { result ≡ dump block 200 }
-        {
-            seen.fetch_add(told.load(Ordering::SeqCst), Ordering::SeqCst);
-            dump_worth(block, 200)
-        },
-    )?;
-    Ok(Destination::new(Formula::Dump { cost: 200 }, valuer))
-}
-
-// The take end of a lane that holds two rows, the end mark and a Quit.
-fn end_of_two_rows<R: Wait>(rt: &R, alloc: Global, block: Block) -> Result<TakeEnd, Fail> {
-    let (closer, puts, takes) = open(alloc, 1, 1, 4)?;
-    let mut put = only_put(&closer, puts).ok_or("a put end")?;
-    let take = only_take(&closer, takes).ok_or("a take end")?;
-    put.row(rt, block);
-    put.row(rt, block);
-    let _ended = put.end(rt);
-    closer.quit(rt, 1);
-    Ok(take)
-}
-
-// The gate is told of each row before its worth is asked for: 1 row at the first, 2 at the second.
-#[test]
-fn gate_before_worth(rt: HostRuntime) -> Result<(), Fail> {
-    let alloc = rt.alloc();
-    let told = Arc::new(alloc, AtomicU64::new(0))?;
-    let seen = Arc::new(alloc, AtomicU64::new(0))?;
-    let dump = watching_dump(alloc, Arc::try_clone(&told)?, Arc::try_clone(&seen)?)?;
-    let take = end_of_two_rows(&rt, alloc, ore()?)?;
-    let gate = CountingGate { rows: told };
-    let result = value_all(&rt, alloc, take, 0, &[dump], &gate);
-    assert_eq!(rt; result.items.as_slice().len(), 3);
-    assert_eq!(rt; seen.load(Ordering::SeqCst), 1 + 2);
     Ok(())
 }

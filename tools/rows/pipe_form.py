@@ -1,0 +1,142 @@
+"""What the pipe form prints of a plan and its zone files, and where it cuts its input.
+
+tools/commands has one_ore_block, header_alone, empty_file, same_block_in_two_files, limits_and_coefficients, late_fault_in_file_0 and
+sixty_four_files; the table cones has the precedence files.
+"""
+from rows.trial import Trial, lines, refused
+
+HEADER = "x,y,z,tonnes,grade|"
+MILL = "mill,mill,900,600,1500|"
+DUMP = "dump,dump,200|"
+LEACH = "leach,heap,10000000,100,1,300,2.5,450|"
+ONE_PERIOD = "periods,1|rate,0.1|"
+LIMITS = "periods,2|rate,0.1|resource,plant,mill|limit,plant,1,I,0,900|limit,plant,0,L,500.5|"
+
+
+def plan(destinations=MILL, name="one", zones=1, rest=ONE_PERIOD):
+    """A plan, whose lines end in bars, as those of all that follows do."""
+    return f"name,{name}|grid,0,0,0,10,10,10|{'zone,1,1,1|' * zones}{destinations}{rest}"
+
+
+ONE = plan()
+TWO = plan(zones=2)
+THREE = plan(zones=3)
+WASTE = plan(DUMP, name="waste")
+
+
+def zone(*rows):
+    """A zone file of these rows."""
+    return HEADER + "".join(row + "|" for row in rows)
+
+
+ORE = zone("0,0,0,1000,5000")
+
+NO_RESOURCE = "RESOURCE_CONSTRAINT_COEFFICIENTS:|RESOURCE_CONSTRAINT_LIMITS:|"
+
+ONE_ORE_BLOCK = (
+    "== blocks|0 0 0 0 1000 5000 0|== prec|0 0|== upit|NAME: one|TYPE: UPIT|NBLOCKS: 1|OBJECTIVE_FUNCTION:|0 12000|"
+    "== pcpsp|NAME: one|TYPE: PCPSP|NBLOCKS: 1|NPERIODS: 1|NDESTINATIONS: 1|NRESOURCE_SIDE_CONSTRAINTS: 0|"
+    f"NGENERAL_SIDE_CONSTRAINTS: 0|DISCOUNT_RATE: 0.1|OBJECTIVE_FUNCTION:|0 12000|{NO_RESOURCE}"
+    "== cpit|NAME: one|TYPE: CPIT|NBLOCKS: 1|NPERIODS: 1|NRESOURCE_SIDE_CONSTRAINTS: 0|"
+    f"DISCOUNT_RATE: 0.1|OBJECTIVE_FUNCTION:|0 12000|{NO_RESOURCE}"
+)
+
+
+def piped(*pieces):
+    """These pieces as one input."""
+    return lines("--|".join(pieces))
+
+
+# A name, the pieces of an input, and a part of what is printed.
+PARTS = [
+    (
+        "waste_of_one_kilogram",
+        (WASTE, zone("0,0,0,0.001,0")),
+        "== blocks|0 0 0 0 0.001 0 0|== prec|0 0|== upit|NAME: waste|TYPE: UPIT|NBLOCKS: 1|OBJECTIVE_FUNCTION:|0 -0.01|",
+    ),
+    ("heap_leach_bands, at 2.5", (plan(LEACH), zone("0,0,0,1000,2.5")), "OBJECTIVE_FUNCTION:|0 111500|"),
+    ("heap_leach_bands, below 2.5", (plan(LEACH), zone("0,0,0,1000,2.499999")), "OBJECTIVE_FUNCTION:|0 73999.97|"),
+    ("heap_leach_bands, below 1", (plan(LEACH), zone("0,0,0,1000,0.999999")), "OBJECTIVE_FUNCTION:|0 -1000|"),
+    (
+        "heap_leach_bands, the richest mill",
+        (plan("mill,m,1000,100000000,0|"), zone("0,0,0,1000000,1000000")),
+        "OBJECTIVE_FUNCTION:|0 1000000000000000|",
+    ),
+    (
+        "two_blocks_out_of_order",
+        (WASTE, zone("10,0,0,1,0", "0,0,0,2,0")),
+        "== blocks|0 0 0 0 2 0 0|1 1 0 0 1 0 0|== prec|",
+    ),
+    (
+        "cpit_destinations, waste",
+        (plan(MILL + DUMP, rest=LIMITS), zone("0,0,0,1000,0")),
+        f"OBJECTIVE_FUNCTION:|0 -2000|{NO_RESOURCE}0 0 L 500.5|",
+    ),
+    (
+        "cpit_destinations, the first of equals",
+        (plan("dump,a,200|dump,b,200|", rest="periods,1|resource,r,b|rate,0.1|"), zone("0,0,0,1,0")),
+        "== cpit|NAME: one|TYPE: CPIT|NBLOCKS: 1|NPERIODS: 1|NRESOURCE_SIDE_CONSTRAINTS: 1|DISCOUNT_RATE: 0.1|"
+        f"OBJECTIVE_FUNCTION:|0 -2|{NO_RESOURCE}",
+    ),
+    (
+        "cpit_destinations, that is covered",
+        (plan("dump,a,200|dump,b,200|", rest="periods,1|resource,r,a|rate,0.1|"), zone("0,0,0,1,0")),
+        "OBJECTIVE_FUNCTION:|0 -2|RESOURCE_CONSTRAINT_COEFFICIENTS:|0 0 1|RESOURCE_CONSTRAINT_LIMITS:|",
+    ),
+]
+
+# A name, the pieces of an input, and the line of the fault.
+FAULTS = [
+    (
+        "two_blocks_out_of_order, repeated",
+        (WASTE, zone("10,0,0,1,0", "0,0,0,2,0", "10,0,0,3,0")),
+        "file 0 row 4 repeats file 0 row 2",
+    ),
+    (
+        "the least file of two with a fault",
+        (TWO, zone("0,0,0,1,0", "5,0,0,1,0"), zone("0,0,0,?,0")),
+        "file 0 row 3 column x: OffGrid",
+    ),
+    (
+        "a fault before a repetition",
+        (TWO, zone("0,0,0,1,0", "0,0,0,1,0"), zone("0,0,0,1,0", "10,0,0,1")),
+        "file 1 row 3 column whole: Width",
+    ),
+]
+
+# A name, an input that is cut at each line `--` and nowhere else, and the line of the fault that shows where it is cut. Files are counted
+# before they are read.
+CUTS = [
+    ("a cut by CR LF, and one without a line's end", f"{TWO}--\r|{HEADER}--", "file 1 row 1 column x: MissingColumn"),
+    ("three cuts in a row", f"{THREE}--|--\r|--|", "file 0 row 1 column x: MissingColumn"),
+    ("a cut at the front", f"--|{ONE}", "plan row 1: Missing"),
+    ("a byte order mark before the hyphens", f"\ufeff--|{ONE}", "plan row 1: Key"),
+    ("CR behind the hyphens at the end", f"{ONE}--\r", "plan row 7: Key"),
+    ("CR CR LF behind the hyphens", f"{ONE}--\r\r|", "plan row 7: Key"),
+    ("hyphens at a line's end", f"{ONE}--|{HEADER}0,0,0,1,0--|", "file 0 row 2 column grade: Number"),
+    ("hyphens at a line's front", f"{ONE}--|{HEADER}--0,0,0,1,0|", "file 0 row 2 column x: Number"),
+    *(
+        (f"the line {line!r}", f"{ONE}--|{HEADER}{line}|", "file 0 row 2 column whole: Width")
+        for line in ["-", "---", "-- ", " --"]
+    ),
+]
+
+
+def trials():
+    quoted = '\ufeff"grade",Z,rock,y,X,tonnes\r|" 5000 ",0,"ox, hard",0,0,1000.000\r|'
+    yield Trial("quoted_and_reordered", given=piped(ONE, quoted), out=lines(ONE_ORE_BLOCK))
+    for name, pieces, part in PARTS:
+        yield Trial(name, given=piped(*pieces), part=lines(part))
+    for name, pieces, line in FAULTS:
+        yield refused(name, line, given=piped(*pieces))
+    for name, text, line in CUTS:
+        yield refused(name, line, given=lines(text))
+    crossed = lines(f"{ONE}|--||{ORE}").replace(b"\n", b"\r\n")
+    yield Trial("lines that end in CR LF, and blank ones about a cut", given=crossed, out=lines(ONE_ORE_BLOCK))
+    yield refused("a cut within quotes", "settings: Files", 2, given=lines(f'{ONE}--|{HEADER}"0|--|",0,0,1,0|'))
+    yield refused("a million cuts", "settings: Files", 2, given=lines(ONE) + b"--\n" * 1_000_000)
+    yield refused(
+        "a million lines without a cut",
+        "file 0 row 3 repeats file 0 row 2",
+        given=piped(ONE, HEADER + "0,0,0,1000,5000|" * 1_000_000),
+    )
