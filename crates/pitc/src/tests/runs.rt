@@ -28,24 +28,29 @@ const HEADER: &[u8] = b"x,y,z,tonnes,grade\n";
 // As many starts as `run` is given.
 const ENOUGH: u32 = 128;
 
-const PLAN_FRONT: &[u8] = b"name,one\ngrid,0,0,0,10,10,10\n";
+// Plans without their zones.
+const MILL: &[u8] = b"name,one\ngrid,0,0,0,10,10,10\nmill,mill,900,600,1500\nperiods,1\nrate,0.1\n";
 
-const PLAN_ZONE: &[u8] = b"zone,1,1,1\n";
+const DUMP: &[u8] = b"name,one\ngrid,0,0,0,10,10,10\ndump,dump,200\nperiods,1\nrate,0.1\n";
 
-const PLAN_REST: &[u8] = b"periods,1\nrate,0.1\n";
-
-const MILL: &[u8] = b"mill,mill,900,600,1500\n";
-
-// The plan of this destination, with so many zones of one slope.
-fn plan_of(alloc: Global, zones: usize, destination: &[u8]) -> Result<Plan, Fail> {
-    let mut text = Vec::new(alloc);
-    text.extend_from_slice(PLAN_FRONT)?;
+// The text of a plan with so many zones of one slope.
+fn plan_text(alloc: Global, plan: &[u8], zones: usize) -> Result<Vec<u8>, Fail> {
+    let mut text = plan.to_vec(alloc)?;
     for _zone in 0..zones {
-        text.extend_from_slice(PLAN_ZONE)?;
+        text.extend_from_slice(b"zone,1,1,1\n")?;
     }
-    text.extend_from_slice(destination)?;
-    text.extend_from_slice(PLAN_REST)?;
+    Ok(text)
+}
+
+fn plan_of(alloc: Global, plan: &[u8], zones: usize) -> Result<Plan, Fail> {
+    let text = plan_text(alloc, plan, zones)?;
     Ok(read_plan(alloc, text.as_slice())?)
+}
+
+// The destinations of a plan.
+fn destinations_by(alloc: Global, plan: &[u8], watch: &Watched) -> Result<Vec<Destination>, Fail> {
+    let plan = plan_of(alloc, plan, 1)?;
+    destinations_of(alloc, &plan, watch)
 }
 
 // The sink of a text.
@@ -134,34 +139,21 @@ fn rows_of_run<R: Threads + Wait + Sync, F: Feed + Send + Drop>(
     Ok(gathered.rows())
 }
 
-// How a run goes on a plan, with the destinations of another one.
+// How a run goes on the plan of a mill with so many zones, with the destinations of this one.
 fn answer<R: Threads + Wait + Sync, F: Feed + Send + Drop>(
     rt: &R,
     alloc: Global,
-    feeds: Vec<F>,
-    plan: &Plan,
-    other: &Plan,
-    budget: Budget,
-    watch: &Watched,
-    sinks: &mut Sinks<MemSink>,
-) -> Result<Result<u64, Refusal>, Fail> {
-    let destinations = destinations_of(alloc, other, watch)?;
-    let destinations = destinations.as_slice();
-    Ok(rows_of_run(rt, alloc, feeds, plan, destinations, budget, watch, sinks))
-}
-
-// How a run goes on the plan of a mill with so many zones.
-fn mill_answer<R: Threads + Wait + Sync, F: Feed + Send + Drop>(
-    rt: &R,
-    alloc: Global,
     zones: usize,
+    valued_by: &[u8],
     feeds: Vec<F>,
     budget: Budget,
     watch: &Watched,
     sinks: &mut Sinks<MemSink>,
 ) -> Result<Result<u64, Refusal>, Fail> {
-    let plan = plan_of(alloc, zones, MILL)?;
-    answer(rt, alloc, feeds, &plan, &plan, budget, watch, sinks)
+    let destinations = destinations_by(alloc, valued_by, watch)?;
+    let destinations = destinations.as_slice();
+    let plan = plan_of(alloc, MILL, zones)?;
+    Ok(rows_of_run(rt, alloc, feeds, &plan, destinations, budget, watch, sinks))
 }
 
 fn budget(valuers: usize, capacity: usize, starts: u32) -> Budget {

@@ -57,7 +57,11 @@ const TURNS: u64 = 1_000_000_000;
 impl Watch {
     /// A watch that was told of nothing.
     pub fn new(alloc: Global, holds: Holds) -> Result<Watched, Fail> {
-        let watch = Watch {
+        Ok(Arc::new(alloc, Watch::told_nothing(holds))?)
+    }
+
+    fn told_nothing(holds: Holds) -> Watch {
+        Watch {
             holds,
             rows: AtomicU64::new(0),
             valuers: AtomicU64::new(0),
@@ -68,8 +72,7 @@ impl Watch {
             early: AtomicU64::new(0),
             late: AtomicU64::new(0),
             turned: AtomicU64::new(0),
-        };
-        Ok(Arc::new(alloc, watch)?)
+        }
     }
 
     /// A worth is asked for.

@@ -1,6 +1,9 @@
+ghost use Rattle.std.specs.Prelude.{◌≤◌};
+
 use super::{
-    EAST, ENOUGH, Fail, Global, MILL, MemSink, ORE, Refusal, Sinks, TextName, Threads, Wait,
-    Watched, ZoneFile, answer, begun, budget, feeds_of, mill_answer, new_sinks, plan_of, sink_of,
+    Budget, DUMP, EAST, ENOUGH, Fail, Global, MILL, MemFeed, MemSink, ORE, Refusal, Sinks,
+    TextName, Threads, Wait, Watched, ZoneFile, answer, begun, budget, destinations_by, feeds_of,
+    new_sinks, plan_of, rows_of_run, sink_of,
 };
 use crate::tests::watch::{OPEN, Watch};
 use pit_compile::refusal::RowAt;
@@ -8,16 +11,22 @@ use pit_compile::settings::SettingsFault;
 use std::sync::atomic::Ordering;
 use zone_csv::row_fault::{Column, RowFault, RowFaultKind};
 
-const DUMP: &[u8] = b"dump,dump,200\n";
-
-// A good file whose feed fails at a pull: the first one gives all, and the second tells the end.
-const FAILS_AT_1: ZoneFile = ("20,0,0,1,0\n", 1);
-
-const FAILS_AT_2: ZoneFile = ("20,0,0,1,0\n", 2);
-
-const FAILS_AT_3: ZoneFile = ("20,0,0,1,0\n", 3);
-
 const FAULTY: ZoneFile = ("0,0,0,1,?\n", 0);
+
+// Good files, of which one fails at a pull: the first one gives all, and the second tells the end.
+const AT_1: &[ZoneFile] = &[ORE, ("20,0,0,1,0\n", 1)];
+
+const AT_2: &[ZoneFile] = &[ORE, ("20,0,0,1,0\n", 2)];
+
+const AT_3: &[ZoneFile] = &[ORE, ("20,0,0,1,0\n", 3)];
+
+const THREE: &[ZoneFile] = &[ORE, EAST, ("20,0,0,1,0\n", 0)];
+
+const FAULT_OF_3: &[ZoneFile] = &[FAULTY, ORE, EAST];
+
+const FAULT_FIRST: &[ZoneFile] = &[FAULTY, ("20,0,0,1,0\n", 1)];
+
+const FAULT_LAST: &[ZoneFile] = &[("20,0,0,1,0\n", 1), FAULTY];
 
 const FAULT: Refusal = Refusal::Row {
     file: 0,
@@ -45,157 +54,93 @@ const CAPACITY: Refusal = Refusal::Settings(SettingsFault::Capacity);
 
 const DESTINATIONS: Refusal = Refusal::Settings(SettingsFault::Destinations);
 
-// A run: how many zones the plan of a mill has, and the destination that is valued by; the files and how often each stands; the numbers of
-// valuers, of places of the lane and of starts of threads; and then the refusal, if any, and the readers that are started.
+const NO_THREAD: Refusal = Refusal::NoThread;
+
+// A run: how many zones the plan of a mill has, and the plan whose destinations it is given; the files, and how often each stands; the
+// numbers of valuers, of places of the lane and of starts of threads; and then the refusal, if any, and the readers that are started.
 type Run = (
-    (usize, &'static [u8]),
-    (&'static [ZoneFile], usize),
-    (usize, usize, u32),
+    usize,
+    &'static [u8],
+    &'static [ZoneFile],
+    usize,
+    usize,
+    usize,
+    u32,
     Option<Refusal>,
     u64,
 );
 
 // The settings come first, the destinations last among them; then a refused start, and then the least file that is refused.
 const RUNS: [Run; 24] = [
-    ((1, MILL), (&[ORE], 1), (1, 1, ENOUGH), None, 1),
-    ((1, MILL), (&[ORE], 1), (64, 4096, ENOUGH), None, 1),
-    ((2, MILL), (&[ORE], 1), (1, 1, ENOUGH), Some(FILES), 0),
-    ((1, MILL), (&[ORE], 2), (1, 1, ENOUGH), Some(FILES), 0),
-    ((1, DUMP), (&[ORE], 0), (0, 0, 0), Some(FILES), 0),
-    ((1, DUMP), (&[ORE], 1), (0, 0, 0), Some(VALUERS), 0),
-    ((1, MILL), (&[ORE], 1), (65, 1, ENOUGH), Some(VALUERS), 0),
-    ((1, DUMP), (&[FAULTY], 1), (1, 0, 0), Some(CAPACITY), 0),
-    ((1, MILL), (&[ORE], 1), (1, 4097, ENOUGH), Some(CAPACITY), 0),
-    ((1, DUMP), (&[FAULTY], 1), (1, 1, 0), Some(DESTINATIONS), 0),
-    (
-        (3, MILL),
-        (&[ORE, EAST, FAILS_AT_3], 1),
-        (2, 1, 0),
-        Some(Refusal::NoThread),
-        0,
-    ),
-    (
-        (3, MILL),
-        (&[ORE, EAST, FAILS_AT_3], 1),
-        (2, 1, 1),
-        Some(Refusal::NoThread),
-        0,
-    ),
-    (
-        (3, MILL),
-        (&[ORE, EAST, FAILS_AT_3], 1),
-        (2, 1, 2),
-        Some(Refusal::NoThread),
-        0,
-    ),
-    (
-        (3, MILL),
-        (&[ORE, EAST, FAILS_AT_3], 1),
-        (2, 1, 3),
-        Some(Refusal::NoThread),
-        1,
-    ),
-    (
-        (3, MILL),
-        (&[ORE, EAST, FAILS_AT_3], 1),
-        (2, 1, 4),
-        Some(Refusal::NoThread),
-        11,
-    ),
-    (
-        (3, MILL),
-        (&[ORE, EAST, FAILS_AT_3], 1),
-        (2, 1, 5),
-        None,
-        111,
-    ),
-    (
-        (3, MILL),
-        (&[FAULTY, ORE, EAST], 1),
-        (2, 1, 3),
-        Some(Refusal::NoThread),
-        1,
-    ),
+    (1, MILL, &[ORE], 1, 1, 1, ENOUGH, None, 1),
+    (1, MILL, &[ORE], 1, 64, 4096, ENOUGH, None, 1),
+    (2, MILL, &[ORE], 1, 1, 1, ENOUGH, Some(FILES), 0),
+    (1, MILL, &[ORE], 2, 1, 1, ENOUGH, Some(FILES), 0),
+    (1, DUMP, &[ORE], 0, 0, 0, 0, Some(FILES), 0),
+    (1, DUMP, &[ORE], 1, 0, 0, 0, Some(VALUERS), 0),
+    (1, MILL, &[ORE], 1, 65, 1, ENOUGH, Some(VALUERS), 0),
+    (1, DUMP, &[FAULTY], 1, 1, 0, 0, Some(CAPACITY), 0),
+    (1, MILL, &[ORE], 1, 1, 4097, ENOUGH, Some(CAPACITY), 0),
+    (1, DUMP, &[FAULTY], 1, 1, 1, 0, Some(DESTINATIONS), 0),
+    (3, MILL, THREE, 1, 2, 1, 0, Some(NO_THREAD), 0),
+    (3, MILL, THREE, 1, 2, 1, 1, Some(NO_THREAD), 0),
+    (3, MILL, THREE, 1, 2, 1, 2, Some(NO_THREAD), 0),
+    (3, MILL, THREE, 1, 2, 1, 3, Some(NO_THREAD), 1),
+    (3, MILL, THREE, 1, 2, 1, 4, Some(NO_THREAD), 11),
+    (3, MILL, THREE, 1, 2, 1, 5, None, 111),
+    (3, MILL, FAULT_OF_3, 1, 2, 1, 3, Some(NO_THREAD), 1),
     // sixty_four_files, with one start too few, and with enough
-    (
-        (64, MILL),
-        (&[ORE], 64),
-        (64, 1, 127),
-        Some(Refusal::NoThread),
-        60_111,
-    ),
-    (
-        (64, MILL),
-        (&[ORE], 64),
-        (64, 1, 128),
-        Some(REPEATED),
-        61_111,
-    ),
+    (64, MILL, &[ORE], 64, 64, 1, 127, Some(NO_THREAD), 60_111),
+    (64, MILL, &[ORE], 64, 64, 1, 128, Some(REPEATED), 61_111),
     // failing_devices
-    (
-        (2, MILL),
-        (&[ORE, FAILS_AT_1], 1),
-        (2, 1, ENOUGH),
-        Some(FAILED_1),
-        11,
-    ),
-    (
-        (2, MILL),
-        (&[ORE, FAILS_AT_2], 1),
-        (2, 1, ENOUGH),
-        Some(FAILED_1),
-        11,
-    ),
-    ((2, MILL), (&[ORE, FAILS_AT_3], 1), (2, 1, ENOUGH), None, 11),
-    (
-        (2, MILL),
-        (&[FAILS_AT_1, FAULTY], 1),
-        (2, 1, ENOUGH),
-        Some(FAILED_0),
-        11,
-    ),
-    (
-        (2, MILL),
-        (&[FAULTY, FAILS_AT_1], 1),
-        (2, 1, ENOUGH),
-        Some(FAULT),
-        11,
-    ),
+    (2, MILL, AT_1, 1, 2, 1, ENOUGH, Some(FAILED_1), 11),
+    (2, MILL, AT_2, 1, 2, 1, ENOUGH, Some(FAILED_1), 11),
+    (2, MILL, AT_3, 1, 2, 1, ENOUGH, None, 11),
+    (2, MILL, FAULT_LAST, 1, 2, 1, ENOUGH, Some(FAILED_0), 11),
+    (2, MILL, FAULT_FIRST, 1, 2, 1, ENOUGH, Some(FAULT), 11),
 ];
 
 // What a run answers, and whether no sink was begun.
-fn answer_of<R: Threads + Wait + Sync>(
+fn untouched_answer<R: Threads + Wait + Sync>(
     rt: &R,
     alloc: Global,
-    run: &Run,
+    zones: usize,
+    valued_by: &[u8],
+    feeds: Vec<MemFeed>,
+    budget: Budget,
     watch: &Watched,
 ) -> Result<(Result<u64, Refusal>, bool), Fail> {
-    let ((zones, destination), (files, times), (valuers, capacity, starts), _, _) = *run;
-    let plan = plan_of(alloc, zones, MILL)?;
-    let other = plan_of(alloc, 1, destination)?;
-    let feeds = feeds_of(alloc, files, times)?;
-    let budget = budget(valuers, capacity, starts);
     let mut sinks = new_sinks(alloc);
-    let answered = answer(rt, alloc, feeds, &plan, &other, budget, watch, &mut sinks)?;
+    let answered = answer(
+        rt, alloc, zones, valued_by, feeds, budget, watch, &mut sinks,
+    )?;
     Ok((answered, begun(&sinks) == [false; 5]))
 }
 
 #[test]
 fn settings_feeds_and_starts(rt: HostRuntime) -> Result<(), Fail> {
-    for (place, run) in RUNS.iter().enumerate() {
+    for (zones, plan, files, times, valuers, capacity, starts, refusal, readers) in RUNS {
         let watch = Watch::new(rt.alloc(), OPEN)?;
-        let (answered, untouched) = answer_of(&rt, rt.alloc(), run, &watch)?;
-        let (_, (files, _), _, refusal, readers) = *run;
-        let expected = match refusal {
+        let feeds = feeds_of(rt.alloc(), files, times)?;
+        let budget = budget(valuers, capacity, starts);
+        let (answered, untouched) = untouched_answer(
+            &rt,
+            rt.alloc(),
+            zones,
+            plan,
+            feeds,
+            budget,
+            &watch,
+        )?;
+        let wanted = match refusal {
             Some(refusal) => Err(refusal),
             None => Ok(files.len() as u64),
         };
-        assert!(rt; answered == expected, "run {place}");
-        assert!(rt; untouched == refusal.is_some(), "run {place}");
-        assert_eq!(rt;
-            watch.readers.load(Ordering::SeqCst),
-            readers,
-            "run {place}"
+        assert!(rt; answered == wanted, "{wanted:?}");
+        assert!(rt; untouched == wanted.is_err(), "{wanted:?}");
+        assert!(rt;
+            watch.readers.load(Ordering::SeqCst) == readers,
+            "{wanted:?}"
         );
     }
     Ok(())
@@ -229,7 +174,16 @@ fn run_into<R: Threads + Wait + Sync>(
 ) -> Result<Result<u64, Refusal>, Fail> {
     let watch = Watch::new(alloc, OPEN)?;
     let feeds = feeds_of(alloc, &[("0,0,0,1,0\n10,0,0,1,0\n", 0)], 1)?;
-    mill_answer(rt, alloc, 1, feeds, budget(1, 1, ENOUGH), &watch, sinks)
+    answer(
+        rt,
+        alloc,
+        1,
+        MILL,
+        feeds,
+        budget(1, 1, ENOUGH),
+        &watch,
+        sinks,
+    )
 }
 
 // So many of the texts are those of the other sinks, and the others are empty.
@@ -264,6 +218,77 @@ fn failing_sinks_stop_the_run(rt: HostRuntime) -> Result<(), Fail> {
         assert!(rt; answered == answer, "{which} {nth}");
         assert!(rt; begun(&sinks) == expected, "{which} {nth}");
         assert!(rt; hold_texts(&sinks, &whole, texts), "{which} {nth}");
+    }
+    Ok(())
+}
+
+// A plan of a mill and a dump, with a resource and its limits; its zone file, one of whose blocks has no tonnage; and the texts.
+const LIMITED_PLAN: &[u8] =
+    b"name,one\ngrid,0,0,0,10,10,10\nmill,mill,900,600,1500\ndump,dump,200\nperiods,2\nrate,0.1\nresource,plant,mill\nlimit,plant,1,I,0,900\nlimit,plant,0,L,500.5\n";
+
+const LIMITED_ZONE: &[u8] = b"x,y,z,tonnes,grade\n0,0,0,1000,5000\n10,0,0,0,7\n";
+
+const LIMITED: [&str; 5] = [
+    "0 0 0 0 1000 5000 0\n1 1 0 0 0 7 0\n",
+    "0 0\n1 0\n",
+    "NAME: one\nTYPE: UPIT\nNBLOCKS: 2\nOBJECTIVE_FUNCTION:\n0 12000\n1 0\n",
+    "NAME: one\nTYPE: PCPSP\nNBLOCKS: 2\nNPERIODS: 2\nNDESTINATIONS: 2\nNRESOURCE_SIDE_CONSTRAINTS: 1\nNGENERAL_SIDE_CONSTRAINTS: 0\nDISCOUNT_RATE: 0.1\nOBJECTIVE_FUNCTION:\n0 12000 -2000\n1 0 0\nRESOURCE_CONSTRAINT_COEFFICIENTS:\n0 0 0 1000\nRESOURCE_CONSTRAINT_LIMITS:\n0 0 L 500.5\n0 1 I 0 900\n",
+    "NAME: one\nTYPE: CPIT\nNBLOCKS: 2\nNPERIODS: 2\nNRESOURCE_SIDE_CONSTRAINTS: 1\nDISCOUNT_RATE: 0.1\nOBJECTIVE_FUNCTION:\n0 12000\n1 0\nRESOURCE_CONSTRAINT_COEFFICIENTS:\n0 0 1000\nRESOURCE_CONSTRAINT_LIMITS:\n0 0 L 500.5\n0 1 I 0 900\n",
+];
+
+// Sinks that take so many bytes a put at most.
+fn short_sinks(alloc: Global, step: usize) -> Sinks<MemSink>
+    requires { 1 ≤ step }
+{
+    Sinks {
+        blocks: MemSink::short(alloc, step),
+        prec: MemSink::short(alloc, step),
+        upit: MemSink::short(alloc, step),
+        pcpsp: MemSink::short(alloc, step),
+        cpit: MemSink::short(alloc, step),
+    }
+}
+
+// A feed of the zone file that gives so many bytes a pull at most.
+fn cut_feed(alloc: Global, step: usize) -> Result<Vec<MemFeed>, Fail>
+    requires { 1 ≤ step }
+{
+    let feed = MemFeed::cutting(LIMITED_ZONE.to_vec(alloc)?, step);
+    Ok(Vec::from_array(alloc, [feed])?)
+}
+
+// What a run on the zone file answers.
+fn run_limits<R: Threads + Wait + Sync>(
+    rt: &R,
+    alloc: Global,
+    feeds: Vec<MemFeed>,
+    sinks: &mut Sinks<MemSink>,
+) -> Result<Result<u64, Refusal>, Fail> {
+    let watch = Watch::new(alloc, OPEN)?;
+    let destinations = destinations_by(alloc, LIMITED_PLAN, &watch)?;
+    let plan = plan_of(alloc, LIMITED_PLAN, 1)?;
+    let (destinations, budget) = (destinations.as_slice(), budget(4, 64, ENOUGH));
+    Ok(rows_of_run(rt, alloc, feeds, &plan, destinations, budget, &watch, sinks))
+}
+
+fn are_limited(sinks: &Sinks<MemSink>) -> bool {
+    for (name, text) in TextName::all().iter().zip(&LIMITED) {
+        if sink_of(sinks, *name).bytes() != text.as_bytes() {
+            return false;
+        }
+    }
+    true
+}
+
+// The texts do not depend on how many bytes a feed gives at once, or a sink takes.
+#[test]
+fn limits_and_coefficients(rt: HostRuntime) -> Result<(), Fail> {
+    for step in [1, 2, 7, 100_000] {
+        let feeds = cut_feed(rt.alloc(), step)?;
+        let mut sinks = short_sinks(rt.alloc(), step);
+        let answered = run_limits(&rt, rt.alloc(), feeds, &mut sinks)?;
+        assert!(rt; answered == Ok(2), "{step} bytes at once");
+        assert!(rt; are_limited(&sinks), "{step} bytes at once");
     }
     Ok(())
 }

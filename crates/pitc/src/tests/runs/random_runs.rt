@@ -6,8 +6,8 @@
 ghost use Rattle.std.specs.Prelude.{◌<◌, ◌≤◌};
 
 use super::{
-    ENOUGH, Fail, Global, HEADER, MemFeed, MemSink, Refusal, Sinks, TextName, Threads, Wait,
-    budget, mill_answer, new_sinks, sink_of,
+    ENOUGH, Fail, Global, HEADER, MILL, MemFeed, MemSink, Refusal, Sinks, TextName, Threads, Wait,
+    answer, budget, sink_of,
 };
 use crate::tests::watch::{Holds, Watch};
 use pit_compile::refusal::RowAt;
@@ -236,16 +236,29 @@ fn random_making(dice: &mut Dice) -> Making {
     }
 }
 
-// Sinks that take few bytes at a time, and the one that fails.
+// A sink that takes few bytes at a time, or the one that fails.
+fn random_sink(
+    alloc: Global,
+    dice: &mut Dice,
+    failing: Option<Failing>,
+    name: TextName,
+) -> MemSink {
+    match failing {
+        Some(Failing { which, nth, step }) if which == name => {
+            MemSink::fresh(alloc, step.max(1), nth)
+        }
+        _ => MemSink::short(alloc, 1 + dice.roll(90) as usize),
+    }
+}
+
 fn random_sinks(alloc: Global, dice: &mut Dice, failing: Option<Failing>) -> Sinks<MemSink> {
-    let mut sinks = new_sinks(alloc);
-    for name in TextName::all() {
-        *sinks.of_mut(name) = MemSink::short(alloc, 1 + dice.roll(90) as usize);
+    Sinks {
+        blocks: random_sink(alloc, dice, failing, TextName::Blocks),
+        prec: random_sink(alloc, dice, failing, TextName::Prec),
+        upit: random_sink(alloc, dice, failing, TextName::Upit),
+        pcpsp: random_sink(alloc, dice, failing, TextName::Pcpsp),
+        cpit: random_sink(alloc, dice, failing, TextName::Cpit),
     }
-    if let Some(Failing { which, nth, step }) = failing {
-        *sinks.of_mut(which) = MemSink::fresh(alloc, step.max(1), nth);
-    }
-    sinks
 }
 
 // What stands before the number of blocks in a text, behind it, and behind the blocks' lines. Where nothing does, the number is left out.
@@ -397,7 +410,16 @@ fn run_of<R: Threads + Wait + Sync>(
     let watch = Watch::new(alloc, holds)?;
     let (valuers, capacity) = (making.valuers as usize, making.capacity as usize);
     let budget = budget(valuers, capacity, making.starts);
-    mill_answer(rt, alloc, model.files.len(), feeds, budget, &watch, sinks)
+    answer(
+        rt,
+        alloc,
+        model.files.len(),
+        MILL,
+        feeds,
+        budget,
+        &watch,
+        sinks,
+    )
 }
 
 // One run, which has to answer what is known of its model, and leave the sinks so.

@@ -1,6 +1,6 @@
 use super::{
-    EAST, ENOUGH, Fail, Feed, Global, ORE, Refusal, Threads, Wait, Watched, budget, feeds_of,
-    mill_answer, new_sinks,
+    EAST, ENOUGH, Fail, Feed, Global, MILL, ORE, Refusal, Threads, Wait, Watched, answer, budget,
+    feeds_of, new_sinks,
 };
 use crate::tests::watch::{Holds, Looking, OPEN, Watch};
 use std::sync::atomic::Ordering;
@@ -13,17 +13,9 @@ fn watched<R: Threads + Wait + Sync, F: Feed + Send + Drop>(
     valuers: usize,
     watch: &Watched,
 ) -> Result<Result<u64, Refusal>, Fail> {
-    let zones = feeds.len();
-    let budget = budget(valuers, 64, ENOUGH);
-    mill_answer(
-        rt,
-        alloc,
-        zones,
-        feeds,
-        budget,
-        watch,
-        &mut new_sinks(alloc),
-    )
+    let (zones, budget) = (feeds.len(), budget(valuers, 64, ENOUGH));
+    let mut sinks = new_sinks(alloc);
+    answer(rt, alloc, zones, MILL, feeds, budget, watch, &mut sinks)
 }
 
 // Each of eight, once.
