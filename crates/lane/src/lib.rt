@@ -12,8 +12,6 @@ mod part;
 mod put_end;
 mod rule;
 mod take_end;
-#[cfg(test)]
-mod tests;
 
 pub use closer::{Closer, GivenUp, Stopped};
 pub use gathered::Gathered;

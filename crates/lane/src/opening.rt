@@ -6,7 +6,7 @@ ghost use Rattle.crossbeam_channel.specs.Ends.{sends_on, receives_on, ruled_capa
 ghost use Rattle.crossbeam_channel.specs.Fifo.{Forks};
 ghost use Rattle.lane.specs.declared.part.Part.TheVariants.{Count};
 ghost use Rattle.lane.specs.Ends.{ArePutsFrom, AreTakesFrom, first_puts, first_takes};
-ghost use Rattle.lane.specs.inner.Kept.{lane_at, puts_left, takes_left};
+ghost use Rattle.lane.specs.inner.Kept.{lane_at, takes_left};
 ghost use Rattle.lane.specs.Rule.{IsLane, all_parts};
 ghost use Rattle.lane.specs.inner.Views.{without_second, second_alone};
 ghost use Rattle.pit_parts.specs.declared.ranges.TheConstants.{MAX_CAPACITY, MAX_VALUERS, MAX_ZONES};

@@ -2,8 +2,6 @@
 #![tactic(auto)]
 
 pub mod laws;
-#[cfg(test)]
-mod tests;
 
 pub use minelib_reading::{read_cpit, read_instance};
 pub use minelib_writing::{

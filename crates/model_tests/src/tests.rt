@@ -7,6 +7,7 @@ mod feeds;
 mod instance;
 mod numbering;
 mod stored_rows;
+mod texts;
 mod zone_reading;
 
 // A row of a file, of the block at this index along x, with these worths.

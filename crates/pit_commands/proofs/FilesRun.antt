@@ -10,7 +10,7 @@ use Rattle.pit_compile.specs.Run.{IsRefused}
 use Rattle.pit_compile.specs.Settings.{IsSettingsFault}
 use Rattle.pit_compile.specs.declared.refusal.Refusal.{Refusal}
 use Rattle.pit_compile.specs.declared.refusal.Refusal.TheVariants as refusal
-use Rattle.pit_compile.specs.declared.settings.Settings.{Settings}
+use Rattle.pit_parts.specs.declared.settings.Settings.{Settings}
 use Rattle.pit_compile.specs.declared.settings.SettingsFault.{SettingsFault}
 use Rattle.pit_parts.specs.Plan.{PlanParts}
 use Rattle.pit_parts.specs.declared.formula.Formula.{Formula}

@@ -1,5 +1,5 @@
 -- What a compile says of the files that it opens, and of the run on them.
-use Rattle.std.specs.Prelude.{◌≡◌, ℕ, ◌<◌, ◌⊎◌, List, [], ◌∷◌, ◌++◌, codes, length}
+use Rattle.std.specs.Prelude.{◌≡◌, ℕ, ◌⊎◌, List, [], ◌∷◌, ◌++◌, codes, length}
 use Rattle.std.specs.Fmt.{decimal}
 use Rattle.std.specs.List.{sum_by}
 use Rattle.lane.specs.MessageKinds.{rows_in}
@@ -7,41 +7,12 @@ use Rattle.pit_compile.specs.Rows.{sents_of}
 use Rattle.pit_compile.specs.Settings.{IsSettingsFault}
 use Rattle.pit_compile.specs.Verdict.{IsAccepted, IsRefusedBy}
 use Rattle.pit_compile.specs.declared.refusal.Refusal.{Refusal}
-use Rattle.pit_compile.specs.declared.settings.Settings.{Settings}
+use Rattle.pit_parts.specs.declared.settings.Settings.{Settings}
 use Rattle.pit_parts.specs.Plan.{PlanParts}
 use Rattle.pit_parts.specs.declared.formula.Formula.{Formula}
-use Rattle.pit_commands.specs.FaultLine.{EndsRun, EndsWith, PlanRefused}
+use Rattle.pit_edge.specs.ZoneFeeds.{ZonesRefused}
+use Rattle.pit_commands.specs.RefusalLine.{EndsRun}
 use Rattle.pit_commands.specs.RunRefused.{RunRefused}
-use Rattle.zone_csv.specs.declared.slurp.SlurpFault.{SlurpFault}
-use Rattle.zone_csv.specs.declared.slurp.SlurpFault.TheVariants as slurp
-
--- 1 for a plan's file that is too long, 3 for one that cannot be read, 4 for want of memory
-abbrev pub status_of_plan_file : SlurpFault → ℕ
-status_of_plan_file slurp.FeedFailed = 3
-status_of_plan_file slurp.TooLong = 1
-status_of_plan_file slurp.OutOfMemory = 4
-
--- the words that show why a plan's file was not read
-abbrev pub plan_file_text : SlurpFault → List ℕ
-plan_file_text slurp.FeedFailed = codes "plan: FeedFailed"
-plan_file_text slurp.TooLong = codes "plan: TooLong"
-plan_file_text slurp.OutOfMemory = codes "OutOfMemory"
-
--- the file of a plan was not read, and a line says why; or memory was refused, and no line stands
-abbrev pub EndsPlanFile : SlurpFault → List ℕ → List ℕ → ℕ → Type 0
-EndsPlanFile fault old new status = EndsWith (status_of_plan_file fault) (plan_file_text fault) old new status
-
--- the file of a plan was not read; or some text gives no plan
-abbrev pub PlanFileRefused : List ℕ → List ℕ → ℕ → Type 0
-PlanFileRefused old new status = ((fault : SlurpFault) × EndsPlanFile fault old new status) ⊎ ((text : List ℕ) × PlanRefused text old new status)
-
--- the fault of a zone file that cannot be opened
-abbrev pub zone_fault : ℕ → List ℕ
-zone_fault file = codes "file " ++ (decimal file ++ codes ": FeedFailed")
-
--- one of so many zone files cannot be opened, and a line says so; or memory was refused, and no line stands
-abbrev pub ZonesRefused : ℕ → List ℕ → List ℕ → ℕ → Type 0
-ZonesRefused count old new status = (file : ℕ) × (file < count) × EndsWith 3 (zone_fault file) old new status
 
 -- the line of so many rows
 abbrev pub rows_line : ℕ → List ℕ

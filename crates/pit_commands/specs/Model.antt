@@ -4,9 +4,10 @@ use Rattle.pit_compile.specs.declared.refusal.Refusal.TheVariants.{Settings}
 use Rattle.pit_compile.specs.declared.settings.SettingsFault.TheVariants.{Files}
 use Rattle.pit_model.specs.Planned.{planned}
 use Rattle.pit_parts.specs.declared.plan.Plan.{Plan}
-use Rattle.pit_commands.specs.FaultLine.{EndsInput, EndsRun, IsFaultOfInput, PlanRefused}
-use Rattle.pit_commands.specs.Pieces.{PiecesView, plan_of, zones_of}
-use Rattle.pit_commands.specs.declared.input.InputFault.{InputFault}
+use Rattle.pit_commands.specs.RefusalLine.{EndsRun}
+use Rattle.pit_edge.specs.FaultLine.{EndsInput, IsFaultOfInput, PlanRefused}
+use Rattle.pit_edge.specs.Pieces.{PiecesView, plan_of, zones_of}
+use Rattle.pit_edge.specs.declared.input.InputFault.{InputFault}
 use Rattle.pit_parts.specs.declared.ranges.TheConstants.{MAX_FILE_BYTES, MAX_PLAN_BYTES}
 
 -- an input of at most 256 MiB is cut into these pieces, of which the first, of at most 1 MiB, states the plan

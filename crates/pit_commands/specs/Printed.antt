@@ -1,24 +1,14 @@
 -- What the pipe form prints of a model: the five texts of its instance, each under its section line.
-use Rattle.std.specs.Prelude.{◌≡◌, ℕ, List, ◌∷◌, ◌++◌, codes, flat_map, length}
-use Rattle.mine_instance.specs.declared.instance.Instance.{Instance}
-use Rattle.minelib_writing.specs.TextNames.{ending_of}
-use Rattle.minelib_writing.specs.Texts.{all_texts, text_named}
+use Rattle.std.specs.Prelude.{◌≡◌, ℕ, List, ◌++◌, length}
+use Rattle.pit_edge.specs.Sections.{printed}
 use Rattle.pit_compile.specs.Compiled.{instance_from}
 use Rattle.pit_compile.specs.Settings.{IsSettingsFault}
 use Rattle.pit_compile.specs.Verdict.{IsAccepted, IsRefusedBy}
 use Rattle.pit_compile.specs.declared.refusal.Refusal.{Refusal}
-use Rattle.pit_compile.specs.declared.settings.Settings as settings
+use Rattle.pit_parts.specs.declared.settings.Settings as settings
 use Rattle.pit_parts.specs.Plan.{PlanParts}
 use Rattle.pit_parts.specs.declared.formula.Formula.{Formula}
 use Rattle.pit_commands.specs.RunRefused.{RunRefused}
-
--- a text under its section line
-abbrev pub section : List ℕ → List ℕ → List ℕ
-section name text = codes "== " ++ (name ++ (10 ∷ text))
-
--- the five sections
-abbrev pub printed : Instance → List ℕ
-printed i = flat_map (λ name. section (ending_of name) (text_named name i)) all_texts
 
 -- the verdict accepts the zone files, and what is printed of their instance is appended
 pub record IsPrinted (plan : PlanParts) (zones : List (List ℕ)) (old new : List ℕ) : Type 0 where

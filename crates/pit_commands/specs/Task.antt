@@ -4,7 +4,7 @@ use Rattle.pit_compile.specs.declared.refusal.Refusal.{Refusal}
 use Rattle.pit_parts.specs.Plan.{PlanParts}
 use Rattle.pit_parts.specs.declared.formula.Formula.{Formula}
 use Rattle.pit_commands.specs.Compile.{EndsRefusedCompile, TellsRows}
-use Rattle.pit_commands.specs.FaultLine.{EndsRun}
+use Rattle.pit_commands.specs.RefusalLine.{EndsRun}
 use Rattle.pit_commands.specs.Printed.{IsPrinted, PipeRefused}
 use Rattle.pit_commands.specs.declared.task.Task.{Task}
 use Rattle.pit_commands.specs.declared.task.Task.TheVariants.{Pipe, Files}

@@ -1,4 +1,2 @@
-pub mod CheckSteps
-pub mod Commands
 pub mod CompileSteps
 pub mod Cutting

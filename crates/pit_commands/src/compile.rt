@@ -1,37 +1,32 @@
 //! From the files of a plan and its zones to the files of an instance.
 
-ghost use Rattle.std.specs.Prelude.{◌≡◌, ◌≢◌, ◌↔◌, ◌+◌, ◌≤◌, ◌++◌, ℕ, List, Ok, Err, length, map, IfOk, IfErr, IfSome, IsErrOf, OnOk};
+ghost use Rattle.std.specs.Prelude.{◌≡◌, ◌≢◌, ◌↔◌, ◌++◌, Err, length, map, IfOk, IfErr};
 ghost use Rattle.pit_compile.specs.Run.{IsRefused};
 ghost use Rattle.pit_compile.specs.Settings.{IsSettingsFault};
 ghost use Rattle.pit_compile.specs.Sinks.{all_told};
 ghost use Rattle.pit_compile.specs.declared.settings.SettingsFault.{SettingsFault as ASettingsFault};
 ghost use Rattle.pit_parts.specs.Destinations.{formulas_of};
-ghost use Rattle.pit_model.specs.Planned.{planned};
-ghost use Rattle.pit_commands.specs.Compile.{EndsPlanFile, EndsRefusedCompile, HasRows, NotCompiled, PlanFileRefused, TellsRows, rows_line};
+ghost use Rattle.pit_commands.specs.Compile.{EndsRefusedCompile, HasRows, NotCompiled, TellsRows, rows_line};
 ghost use Rattle.pit_commands.specs.inner.CompileSteps.{IsRun};
-ghost use Rattle.pit_commands.specs.FaultLine.{EndsRefused};
-ghost use Rattle.pit_parts.specs.declared.ranges.TheConstants.{MAX_PLAN_BYTES};
 
-use crate::fault_line::{plan_from, refuse_run, refuse_with};
 use crate::instance_files::sinks_of;
-use crate::status::{DEVICE, REFUSED, RESOURCES};
-use crate::zone_feeds::open_all;
-use minelib_text::sink::Sink;
+use crate::refusal_line::refuse_run;
 use pit_compile::refusal::Refusal;
 use pit_compile::run;
 use pit_compile::settings::Settings;
 use pit_compile::sinks::Sinks;
+use pit_edge::status::RESOURCES;
+use pit_edge::zone_feeds::open_all;
 use pit_model::destination::Destination;
 use pit_model::plan::Plan;
-use pit_model::ranges::MAX_PLAN_BYTES;
 use std::alloc::Global;
 use std::rt::Files;
 use std::sync::Wait;
 use std::thread::Threads;
+use text_sinks::sink::Sink;
 use valuers::OpenGate;
 use zone_csv::feed::Feed;
 use zone_csv::file_feed::FileFeed;
-use zone_csv::slurp::{SlurpFault, slurp};
 
 /// Compiles the zone files, which are opened in order, and writes the texts of the instance to their files:
 /// `BASE.blocks` and so on, each in place of what is there. Returns the status that the program ends with.
@@ -140,63 +135,6 @@ fn run_on<R: Threads + Wait + Sync, F: Feed + Send + Drop, S: Sink>(
         sinks,
     )?;
     Ok(gathered.rows())
-}
-
-/// The plan in the file at this path; or the status of its refusal, with its line appended to `lines`.
-///
-/// A file that cannot be opened or read is `plan: FeedFailed`. Where memory is refused the status is that of memory,
-/// and `lines` is as it was.
-#[tactic(auto, using(crate::proofs::Ends::plan_file_refused, crate::proofs::Ends::plan_text_refused))]
-pub fn read_plan_file<R: Files>(
-    rt: &R,
-    alloc: Global,
-    path: &str,
-    lines: &mut Vec<u8>,
-) -> Result<Plan, u8>
-    ensures plan { IfOk result (λ plan. (text : List ℕ) × (length text ≤ MAX_PLAN_BYTES)
-        × (planned text ≡ Ok plan)) }
-    ensures quiet { OnOk result (lines.new.items ≡ lines.old.items) }
-    ensures refused { IfErr result (EndsRefused lines.old.items lines.new.items) }
-    ensures told { IfErr result (PlanFileRefused lines.old.items lines.new.items) }
-{
-    match text_of(rt, alloc, path) {
-        Ok(text) => plan_from(alloc, text.as_slice(), lines),
-        Err(fault) => Err(refuse_plan(alloc, fault, lines)),
-    }
-}
-
-// Appends the line of the fault of a plan's file, and answers its status.
-#[tactic(auto, using(crate::proofs::Ends::ends_same))]
-fn refuse_plan(alloc: Global, fault: SlurpFault, lines: &mut Vec<u8>) -> u8
-    ensures refused { EndsRefused lines.old.items lines.new.items result }
-    ensures told { EndsPlanFile fault lines.old.items lines.new.items result }
-{
-    let (words, status) = match fault {
-        SlurpFault::FeedFailed => ("plan: FeedFailed", DEVICE),
-        SlurpFault::TooLong => ("plan: TooLong", REFUSED),
-        SlurpFault::OutOfMemory => return RESOURCES,
-    };
-    refuse_with(alloc, words, status, lines)
-}
-
-// The text of a plan's file.
-fn text_of<R: Files>(rt: &R, alloc: Global, path: &str) -> Result<Vec<u8>, SlurpFault> {
-    let mut feed = FileFeed::open(rt, path)?;
-    text_from(alloc, &mut feed)
-}
-
-// The text that the feed of a plan's file gives.
-fn text_from<F: Feed>(alloc: Global, feed: &mut F) -> Result<Vec<u8>, SlurpFault>
-    ensures whole { IfOk result (λ text. IfSome (F.left feed.old) (λ bytes. text.items ≡ bytes)) }
-    ensures failed { IsErrOf result SlurpFault.FeedFailed
-        → F.failures feed.new ≡ F.failures feed.old + 1 }
-    ensures long { IsErrOf result SlurpFault.TooLong
-        → F.given feed.new ≡ F.given feed.old + (MAX_PLAN_BYTES + 1) }
-    ensures memory { IsErrOf result SlurpFault.OutOfMemory
-        → (F.failures feed.new ≡ F.failures feed.old)
-        × (F.given feed.new ≤ F.given feed.old + MAX_PLAN_BYTES) }
-{
-    slurp(alloc, feed, MAX_PLAN_BYTES as u64)
 }
 
 // Appends the line of so many rows to `out`, and answers 0; or the status of memory, where it is refused, and then `out` is as it was.

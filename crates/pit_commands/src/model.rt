@@ -1,17 +1,18 @@
 //! The model that standard input gives.
 
 ghost use Rattle.std.specs.Prelude.{◌≡◌, ℕ, List, None, OnOk, IfOk, IfErr, IfSome};
-ghost use Rattle.pit_commands.specs.FaultLine.{EndsInput, EndsRefused};
+ghost use Rattle.pit_edge.specs.FaultLine.{EndsRefused};
 ghost use Rattle.pit_commands.specs.Model.{IsModel, ModelRefused};
 ghost use Rattle.pit_commands.specs.inner.Cutting.{CutRefused};
-ghost use Rattle.pit_commands.specs.Pieces.{plan_of, zones_of};
+ghost use Rattle.pit_edge.specs.Pieces.{plan_of, zones_of};
 
-use crate::fault_line::{plan_from, refuse_run, refuse_with};
-use crate::input::{InputFault, read_whole};
-use crate::pieces::{Pieces, cut_at_most, plan_text};
-use crate::status::{DEVICE, REFUSED, RESOURCES};
+use crate::refusal_line::refuse_run;
 use pit_compile::refusal::Refusal;
 use pit_compile::settings::SettingsFault;
+use pit_edge::fault_line::plan_from;
+use pit_edge::input::{read_whole, refuse_input};
+use pit_edge::pieces::{Pieces, cut_at_most, plan_text};
+use pit_edge::status::RESOURCES;
 use pit_model::plan::Plan;
 use std::alloc::Global;
 use std::io::{Input, Read};
@@ -27,7 +28,7 @@ pub struct Model {
 }
 
 /// Reads the model from standard input, as `read_model_from` does.
-#[tactic(auto, using(crate::proofs::Ends::untold_refused))]
+#[tactic(auto, using(crate::proofs::ModelEnds::untold_refused))]
 pub fn read_model<R: Input>(rt: &R, alloc: Global, lines: &mut Vec<u8>) -> Result<Model, u8>
     ensures model { IfOk result (λ model. (input : List ℕ)
         × IsModel input model.pieces model.plan) }
@@ -43,7 +44,7 @@ pub fn read_model<R: Input>(rt: &R, alloc: Global, lines: &mut Vec<u8>) -> Resul
 ///
 /// An input of more zone files than its plan has zones is refused here, as a run would refuse it, so that no list of
 /// them is held.
-#[tactic(auto, using(crate::proofs::Ends::input_refused, crate::proofs::Ends::files_refused, crate::proofs::Ends::piece_refused))]
+#[tactic(auto, using(crate::proofs::ModelEnds::input_refused, crate::proofs::ModelEnds::files_refused, crate::proofs::ModelEnds::piece_refused))]
 pub fn read_model_from<T: Read>(
     reader: &mut T,
     alloc: Global,
@@ -79,18 +80,4 @@ fn pieces_for(alloc: Global, input: &[u8], plan: &Plan, lines: &mut Vec<u8>) -> 
         Ok(None) => Err(refuse_run(alloc, &TOO_MANY_FILES, lines)),
         Err(_) => Err(RESOURCES),
     }
-}
-
-// Appends the line of the input's fault, and answers its status.
-#[tactic(auto, using(crate::proofs::Ends::ends_same))]
-fn refuse_input(alloc: Global, fault: InputFault, lines: &mut Vec<u8>) -> u8
-    ensures refused { EndsRefused lines.old.items lines.new.items result }
-    ensures told { EndsInput fault lines.old.items lines.new.items result }
-{
-    let (words, status) = match fault {
-        InputFault::FeedFailed => ("input: FeedFailed", DEVICE),
-        InputFault::TooLong => ("input: TooLong", REFUSED),
-        InputFault::OutOfMemory => return RESOURCES,
-    };
-    refuse_with(alloc, words, status, lines)
 }

@@ -7,12 +7,12 @@ ghost use Rattle.pit_compile.specs.declared.settings.SettingsFault.{SettingsFaul
 ghost use Rattle.pit_parts.specs.Destinations.{formulas_of};
 ghost use Rattle.pit_commands.specs.Printed.{pipe_settings, IsPrinted, PipeRefused};
 
-use crate::piece::Piece;
-use crate::printing::print;
 use lane::Gathered;
 use pit_compile::refusal::Refusal;
 use pit_compile::settings::{Budget, Settings, require_settings};
 use pit_compile::{MOST_STARTS, compile};
+use pit_edge::piece::Piece;
+use pit_edge::printing::print;
 use pit_model::destination::Destination;
 use pit_model::plan::Plan;
 use std::alloc::{AllocError, Global};

@@ -2,13 +2,13 @@
 
 ghost use Rattle.std.specs.Prelude.{◌≡◌, ◌≢◌};
 ghost use Rattle.pit_parts.specs.Destinations.{formulas_of};
-ghost use Rattle.pit_commands.specs.FaultLine.{EndsRun};
+ghost use Rattle.pit_commands.specs.RefusalLine.{EndsRun};
 ghost use Rattle.pit_compile.specs.declared.refusal.Refusal.{Refusal as ARefusal};
 ghost use Rattle.pit_commands.specs.Printed.{IsPrinted, PipeRefused};
 
-use crate::fault_line::refuse_run;
 use crate::model::Model;
 use crate::pipe_form::pipe;
+use crate::refusal_line::refuse_run;
 use pit_model::destination::Destination;
 use std::alloc::Global;
 use std::sync::Wait;

@@ -1,6 +1,6 @@
 //! The rows of a run, collected from what its valuers hand on.
 
-ghost use Rattle.std.specs.Prelude.{◌≡◌, ◌≤◌, ◌++◌, [], ◌∷◌, length, map, All, Some, None, IfOk, OnOk};
+ghost use Rattle.std.specs.Prelude.{◌≡◌, ◌≤◌, ◌++◌, [], ◌∷◌, length, map, All, None, IfOk, OnOk};
 ghost use Rattle.std.specs.List.{flat_map};
 ghost use Rattle.collector.specs.Complete.{IsComplete};
 ghost use Rattle.collector.specs.Fault.{fault};

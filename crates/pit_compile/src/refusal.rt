@@ -5,7 +5,7 @@ ghost use Rattle.pit_compile.specs.declared.refusal.Refusal.TheVariants.{Setting
 ghost use Rattle.pit_compile.specs.Answers.{refused_start};
 
 use crate::settings::SettingsFault;
-use minelib_text::text_name::TextName;
+use minelib_writing::text_name::TextName;
 use run_threads::HandOverFault;
 use std::alloc::AllocError;
 use std::fmt;

@@ -13,12 +13,12 @@ use crate::settings::{Budget, Settings};
 use crate::sink_writing::write_texts;
 use crate::sinks::Sinks;
 use lane::Gathered;
-use minelib_text::sink::Sink;
 use pit_parts::destination::Destination;
 use pit_parts::plan::Plan;
 use std::alloc::Global;
 use std::sync::Wait;
 use std::thread::Threads;
+use text_sinks::sink::Sink;
 use valuers::Gate;
 use zone_csv::feed::Feed;
 

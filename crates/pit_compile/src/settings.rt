@@ -1,4 +1,4 @@
-//! How a run is to be made, and whether that fits its plan.
+//! What a run may take, and whether its settings fit its plan.
 
 ghost use Rattle.std.specs.Prelude.{◌≡◌, ◌↔◌, Err, IsTrue, IfErr, OnOk, length, map};
 ghost use Rattle.pit_compile.specs.Settings.{IsSettingsFault, Suits};
@@ -10,17 +10,9 @@ use pit_parts::destination::Destination;
 use pit_parts::formula::{Formula, NamedFormula};
 use pit_parts::plan::Plan;
 use pit_parts::ranges::{MAX_CAPACITY, MAX_VALUERS};
+pub use pit_parts::settings::Settings;
 use std::fmt;
 use thiserror::Error;
-
-/// How a run is to be made.
-#[derive(Clone, Copy, Debug, PartialEq, Eq)]
-pub struct Settings {
-    /// The number of threads that value rows, 1 to 64.
-    pub valuers: usize,
-    /// How many messages the lane holds at most, 1 to 4096.
-    pub capacity: usize,
-}
 
 /// What a run may take: how it is to be made, and how many threads it may start.
 #[derive(Clone, Copy, Debug, PartialEq, Eq)]

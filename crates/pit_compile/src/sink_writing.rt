@@ -11,11 +11,11 @@ use crate::refusal::Refusal;
 use crate::sinks::Sinks;
 use mine_instance::cpit::Cpit;
 use mine_instance::instance::Instance;
-use minelib_text::sink::Sink;
-use minelib_text::text_name::TextName;
-use minelib_text::write_fault::WriteFault;
-use minelib_text::write_named;
+use minelib_writing::text_name::TextName;
+use minelib_writing::write_named;
 use std::alloc::Global;
+use text_sinks::sink::Sink;
+use text_sinks::write_fault::WriteFault;
 
 /// Begins the sinks and writes the texts of an instance and its CPIT, one after the other.
 ///

@@ -6,7 +6,7 @@ ghost use Rattle.minelib_writing.specs.declared.text_name.TextName.{TextName as 
 ghost use Rattle.pit_compile.specs.SinkLent.{LendsSink};
 ghost use Rattle.pit_compile.specs.Sinks.{sink_of};
 
-use minelib_text::text_name::TextName;
+use minelib_writing::text_name::TextName;
 
 /// A sink for each of the five texts of an instance, in the order of writing.
 #[derive(Debug, Drop)]

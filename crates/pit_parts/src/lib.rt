@@ -1,4 +1,4 @@
-//! Blocks, the parts of a plan, and what blocks are worth by its formulas.
+//! Blocks, the parts of a plan, what blocks are worth by its formulas, and the settings of a run.
 #![tactic(auto)]
 
 pub mod band;
@@ -14,4 +14,5 @@ pub mod name;
 pub mod plan;
 pub mod ranges;
 pub mod resource;
+pub mod settings;
 pub mod worth;

@@ -4,25 +4,20 @@
 //! output. `pitc compile` does so from files to files. `pitc check BASE` reads the files of an instance and prints its counts.
 #![tactic(auto)]
 
-ghost use Rattle.std.specs.Prelude.{◌≡◌, ◌≢◌, ◌≤◌, ◌^◌, ◌⊎◌};
+ghost use Rattle.std.specs.Prelude.{◌≡◌, ◌≢◌, ◌≤◌, ◌⊎◌};
 ghost use Rattle.std.specs.Process.{exit_status};
 ghost use Rattle.pit_parts.specs.Formula.{IsRuled};
 ghost use Rattle.pit_parts.specs.Worth.{worth, mill, dump};
 ghost use Rattle.pit_parts.specs.declared.ranges.TheConstants.{MAX_COST, MAX_PRICE, MAX_RECOVERY};
 
-#[cfg(test)]
-mod callers;
-#[cfg(test)]
-mod tests;
-
-use pit_commands::check::check_files;
-use pit_commands::compile::read_plan_file;
-use pit_commands::job::job;
-use pit_commands::jobs::{Job, JobFault};
+use pit_check::check::check_files;
 use pit_commands::model::read_model;
-use pit_commands::status::{RESOURCES, USAGE, finish};
 use pit_commands::task::Task;
-use pit_commands::words::words_of;
+use pit_edge::plan_file::read_plan_file;
+use pit_edge::status::{RESOURCES, USAGE, finish};
+use pit_edge::words::words_of;
+use pit_jobs::job::job;
+use pit_jobs::jobs::{Job, JobFault, error_text};
 use pit_model::block::Block;
 use pit_model::destination::{Destination, Valuer};
 use pit_model::formula::Formula;
@@ -154,7 +149,7 @@ fn task_of(
 
 // Leaves help for standard output, and the text of a refused line for standard error.
 fn show(alloc: Global, error: &clap::Error, text: &mut Vec<u8>, lines: &mut Vec<u8>) -> u8 {
-    let Ok(words) = format!(in alloc; "{error}") else {
+    let Ok(words) = error_text(alloc, error) else {
         return RESOURCES;
     };
     let (appended, status) = if error.use_stderr() {

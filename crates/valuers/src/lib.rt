@@ -2,6 +2,8 @@
 #![tactic(auto)]
 
 mod gate;
+#[cfg(test)]
+mod lane_tests;
 mod valuer;
 mod valuing;
 

@@ -1,13 +1,13 @@
 //! A valuer on one thread, and one beside a reader.
 
-ghost use Rattle.std.specs.Prelude.{◌≡◌, ◌≤◌, true, [], IfOk, IfSome, length};
+ghost use Rattle.std.specs.Prelude.{◌≡◌, ◌≤◌, true, [], IfOk, length};
 ghost use Rattle.lane.specs.MessageKinds.{is_done};
-ghost use Rattle.lane.specs.Ends.{first_puts, first_takes};
 ghost use Rattle.pit_parts.specs.Worth.{mill};
 
 use super::*;
 use crate::gate::OpenGate;
-use lane::{Closer, Gathered, PutEnd, Stopped, open};
+use crate::lane_tests::{gather_one, only_put, only_take, stop_one};
+use lane::{Closer, PutEnd, Stopped, open};
 use linked_list_allocator::LocalHeap;
 use pit_parts::block::Block;
 use pit_parts::destination::Valuer;
@@ -63,24 +63,6 @@ fn lane_on_one_thread(rt: HostRuntime) -> Result<(), Fail> {
     Ok(())
 }
 
-// The one put end of a lane.
-fn only_put(closer: &Closer, mut puts: Vec<PutEnd>) -> Option<PutEnd>
-    requires { puts.items ≡ first_puts closer.now.lane 0 1 }
-    ensures { IfSome result (λ put. (put.lane ≡ closer.now.lane) × (put.file ≡ 0)
-        × (put.sent ≡ [])) }
-{
-    puts.pop()
-}
-
-// The one take end of a lane.
-fn only_take(closer: &Closer, mut takes: Vec<TakeEnd>) -> Option<TakeEnd>
-    requires { takes.items ≡ first_takes closer.now.lane 0 1 }
-    ensures { IfSome result (λ take. (take.lane ≡ closer.now.lane) × (take.taker ≡ 0)
-        × (take.took ≡ [])) }
-{
-    takes.pop()
-}
-
 // Puts six rows and the end mark of the one file of a lane, and stops the lane.
 fn put_six<R: Wait>(
     rt: &R,
@@ -98,22 +80,8 @@ fn put_six<R: Wait>(
     for _row in 0..6u32 {
         put.row(rt, block);
     }
-    let ended = Vec::from_array(alloc, [put.end(rt)])?;
-    Ok(closer.stop(rt, ended))
-}
-
-fn gather_one<R: Wait>(
-    rt: &R,
-    alloc: Global,
-    stopped: Stopped,
-    take: TakeEnd,
-) -> Result<Gathered, AllocError>
-    requires lane { take.lane ≡ stopped.lane }
-    requires taker { (take.taker ≡ 0) × (stopped.takers ≡ 1) }
-    requires done { is_done take.took ≡ true }
-{
-    let takes = Vec::from_array(alloc, [take])?;
-    Ok(stopped.gather(rt, takes))
+    let ended = put.end(rt);
+    stop_one(rt, alloc, closer, ended)
 }
 
 // The number of rows that are gathered, how many items the valuer holds and whether it was refused memory, over a lane of one place whose

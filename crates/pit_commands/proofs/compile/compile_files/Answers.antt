@@ -2,7 +2,7 @@ use Rattle.std.proofs.Common.{inr, subst}
 use Rattle.pit_compile.specs.declared.refusal.Refusal.TheVariants.{OutOfMemory}
 use Rattle.pit_parts.specs.Destinations.{formulas_of}
 use Rattle.pit_commands.specs.Compile.{HasRows, NotCompiled}
-use Rattle.pit_commands.specs.FaultLine.{EndsRun}
+use Rattle.pit_commands.specs.RefusalLine.{EndsRun}
 use Rattle.pit_commands.proofs.compile.compile_files.Goals as goal
 
 pub returns-in-Ok-run_into_files-clause-done : goal.returns-in-Ok-run_into_files-clause-done

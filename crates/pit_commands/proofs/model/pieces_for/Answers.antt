@@ -1,7 +1,7 @@
 use Rattle.pit_compile.specs.FaultText.{refusal_text}
 use Rattle.pit_compile.specs.declared.refusal.Refusal.TheVariants.{Settings}
 use Rattle.pit_compile.specs.declared.settings.SettingsFault.TheVariants.{Files}
-use Rattle.pit_commands.proofs.Ends.{ended_by_two}
+use Rattle.pit_commands.proofs.ModelEnds.{ended_by_two}
 use Rattle.pit_commands.proofs.model.pieces_for.Goals as goal
 
 pub returns-in-Ok-None-clause-refused : goal.returns-in-Ok-None-clause-refused

@@ -4,7 +4,8 @@ use Rattle.pit_compile.specs.Settings.{IsSettingsFault}
 use Rattle.pit_compile.specs.Verdict.{IsAccepted}
 use Rattle.pit_compile.specs.declared.refusal.Refusal.TheVariants.{Settings, OutOfMemory}
 use Rattle.pit_parts.specs.Destinations.{formulas_of}
-use Rattle.pit_commands.specs.Printed.{pipe_settings, printed, PipeRefused}
+use Rattle.pit_commands.specs.Printed.{pipe_settings, PipeRefused}
+use Rattle.pit_edge.specs.Sections.{printed}
 use Rattle.pit_commands.proofs.Lent.{given_texts, refused_by, none_where_suits, refusal_in, fault_in, kind_in}
 use Rattle.pit_commands.proofs.pipe_form.pipe.Goals as goal
 

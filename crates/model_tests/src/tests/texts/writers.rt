@@ -1,0 +1,82 @@
+ghost use Rattle.std.specs.Prelude.{◌≤◌};
+ghost use Rattle.mine_instance.specs.Valid.{IsValid};
+
+use super::{BLOCKS, LIMITED, PCPSP, PREC, instance_of, write};
+use mine_instance::instance::Instance;
+use minelib_writing::text_name::TextName;
+use std::alloc::Global;
+use std::process::Abort;
+use std::test::Fail;
+use text_sinks::mem_sink::MemSink;
+use text_sinks::write_fault::WriteFault;
+
+// The texts of the instance.
+const TEXTS: [(TextName, &[u8]); 5] = [
+    (TextName::Blocks, BLOCKS),
+    (TextName::Prec, PREC),
+    (
+        TextName::Upit,
+        b"NAME: one\nTYPE: UPIT\nNBLOCKS: 2\nOBJECTIVE_FUNCTION:\n0 12000\n1 0\n",
+    ),
+    (TextName::Pcpsp, PCPSP),
+    (
+        TextName::Cpit,
+        b"NAME: one\nTYPE: CPIT\nNBLOCKS: 2\nNPERIODS: 2\nNRESOURCE_SIDE_CONSTRAINTS: 1\nDISCOUNT_RATE: 0.1\nOBJECTIVE_FUNCTION:\n0 12000\n1 0\nRESOURCE_CONSTRAINT_COEFFICIENTS:\n0 0 1000\nRESOURCE_CONSTRAINT_LIMITS:\n0 0 L 500.5\n0 1 I 0 900\n",
+    ),
+];
+
+// How many bytes a sink takes at a time, and below which number the call is that fails, where 0 is none.
+const SINKS: [(usize, u64); 3] = [(1, 1), (2, 1), (7, 45)];
+
+// A sink that fails at this call of a writer holds a front of the text: none before it begins, and nothing before its first put.
+fn is_cut_off(sink: &MemSink, text: &[u8], nth: u64) -> bool {
+    match nth {
+        1 => !sink.begun(),
+        2 => sink.begun() && sink.bytes().is_empty(),
+        _ => sink.begun() && text.starts_with(sink.bytes()),
+    }
+}
+
+// Whether a sink fails at this call, or takes all where the text is written with fewer: one begins, and the others take the bytes.
+fn ends_well(
+    alloc: Global,
+    name: TextName,
+    instance: &Instance,
+    text: &[u8],
+    step: usize,
+    nth: u64,
+) -> bool
+    requires valid { IsValid instance.now }
+    requires step { 1 ≤ step }
+{
+    let calls = (text.len().div_ceil(step) as u64).saturating_add(1);
+    let fails = nth != 0 && nth <= calls;
+    let mut sink = MemSink::fresh(alloc, step, nth);
+    match write(alloc, name, instance, &mut sink) {
+        Ok(()) => !fails && sink.bytes() == text,
+        Err(fault) => fails && fault == WriteFault::SinkFailed && is_cut_off(&sink, text, nth),
+    }
+}
+
+fn all_end_well(rt: &impl Abort, alloc: Global, name: TextName, instance: &Instance, text: &[u8])
+    requires { IsValid instance.now }
+{
+    for (step, most) in &SINKS {
+        for nth in 0..*most {
+            assert!(rt;
+                ends_well(alloc, name, instance, text, (*step).max(1), nth),
+                "{name} {step} {nth}"
+            );
+        }
+    }
+}
+
+// A sink that takes a few bytes at a time, and that fails at each of its calls in turn.
+#[test]
+fn failing_devices(rt: HostRuntime) -> Result<(), Fail> {
+    let instance = instance_of(rt.alloc(), LIMITED)?;
+    for (name, text) in &TEXTS {
+        all_end_well(&rt, rt.alloc(), *name, &instance, text);
+    }
+    Ok(())
+}

@@ -1,0 +1,6 @@
+//! The command `check`, which reads the files of an instance and prints its counts.
+#![tactic(auto)]
+
+pub mod check;
+pub mod check_fault;
+pub mod counts;

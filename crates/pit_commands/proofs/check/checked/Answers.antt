@@ -1,4 +1,0 @@
-use Rattle.pit_commands.proofs.check.checked.Goals as goal
-
-pub returns-clause-counts : goal.returns-clause-counts
-returns-clause-counts g c = (_, _, c.in_ok-counts.ensures, c.in_ok-format.ensures.ok)

@@ -1,0 +1,9 @@
+mod Again
+pub mod Consumed
+pub mod Ends
+mod Joined
+mod Lines
+mod Opened
+pub mod Outputs
+mod Uncut
+mod Walk

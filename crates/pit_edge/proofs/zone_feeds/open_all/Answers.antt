@@ -1,0 +1,32 @@
+use Rattle.std.proofs.Common.{◌≡◌, ◌++◌, ◌∷◌, ◌+◌, [], Ok, get_or, rules, string_bytes, subst, sym, take}
+use Rattle.std.specs.Fn.{FnReturnsAt}
+use Rattle.std.specs.List.{AllZip}
+use Rattle.pit_edge.specs.ZoneFeeds.{zone_fault}
+use Rattle.pit_edge.specs.FaultLine.{EndsWith}
+use Rattle.pit_edge.proofs.Opened.{zip_more}
+use Rattle.pit_edge.proofs.zone_feeds.open_all.Goals as goal
+
+pub loop-file-preserved : goal.loop-file-preserved
+loop-file-preserved g c =
+    let path = c.index-paths-file.result in
+    let opens : FnReturnsAt g.O.Fn c.args.opener (string_bytes path) (Ok c.in-Ok.feed) =
+    record { shown = c.as_str.result; shows = c.as_str.ensures.value; says = record { met = c.in-Ok.ensures } } in
+    let grown : c.push.new.self.items ≡ c.loop-file.feeds.items ++ c.in-Ok.feed ∷ [] = search rules in
+    let is : path ≡ get_or c.args.paths.now c.loop-file.file path = search rules in
+    record {
+      each = subst (λ feeds. AllZip (λ path feed. FnReturnsAt g.O.Fn c.args.opener (string_bytes path) (Ok feed))
+          (take (c.loop-file.file + 1) c.args.paths.now) feeds)
+          (sym grown) (zip_more (λ path feed. FnReturnsAt g.O.Fn c.args.opener (string_bytes path) (Ok feed))
+          c.args.paths.now c.loop-file.feeds.items
+          c.loop-file.file path c.in-Ok.feed c.loop-file-test.true is c.loop-file.invariant.each opens);
+      count = search rules;
+      lines = c.loop-file.invariant.lines;
+    }
+
+pub returns-in_default-clause-refused : goal.returns-in_default-clause-refused
+returns-in_default-clause-refused g c = (
+  c.loop-file.file,
+  c.loop-file-test.true,
+  subst (λ old. EndsWith 3 (zone_fault c.loop-file.file) old c.refuse_zone.new.lines.items c.refuse_zone.result)
+      c.loop-file.invariant.lines c.refuse_zone.ensures,
+)

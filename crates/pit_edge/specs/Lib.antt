@@ -1,0 +1,6 @@
+pub mod FaultLine
+pub mod Pieces
+pub mod PlanFile
+pub mod Sections
+pub mod WriteWhole
+pub mod ZoneFeeds

@@ -1,0 +1,13 @@
+-- What is printed of an instance: its five texts, each under its section line.
+use Rattle.std.specs.Prelude.{ℕ, List, ◌∷◌, ◌++◌, codes, flat_map}
+use Rattle.mine_instance.specs.declared.instance.Instance.{Instance}
+use Rattle.minelib_writing.specs.TextNames.{ending_of}
+use Rattle.minelib_writing.specs.Texts.{all_texts, text_named}
+
+-- a text under its section line
+abbrev pub section : List ℕ → List ℕ → List ℕ
+section name text = codes "== " ++ (name ++ (10 ∷ text))
+
+-- the five sections
+abbrev pub printed : Instance → List ℕ
+printed i = flat_map (λ name. section (ending_of name) (text_named name i)) all_texts

@@ -1,0 +1,79 @@
+//! How the five texts of an instance are printed into one vector.
+
+ghost use Rattle.std.specs.Prelude.{◌≡◌, ◌++◌, length, take, OnErr, OnOk};
+ghost use Rattle.mine_instance.specs.OfCpit.{cpit as cpit_of};
+ghost use Rattle.mine_instance.specs.Valid.{IsValid};
+ghost use Rattle.minelib_writing.specs.TextNames.{ending_of};
+ghost use Rattle.minelib_writing.specs.Texts.{text_named};
+ghost use Rattle.pit_edge.specs.Sections.{printed, section};
+
+use mine_instance::cpit::Cpit;
+use mine_instance::instance::Instance;
+use minelib_writing::text_name::TextName;
+use minelib_writing::write_named;
+use std::alloc::{AllocError, Global};
+use std::mem::replace;
+use text_sinks::section_sink::SectionSink;
+use text_sinks::write_fault::WriteFault;
+
+/// Appends the five texts of an instance, each under its section line. Fails only where memory is refused, and then `out` is as it was.
+pub fn print(
+    alloc: Global,
+    instance: &Instance,
+    cpit: &Cpit,
+    out: &mut Vec<u8>,
+) -> Result<(), AllocError>
+    requires valid { IsValid instance.now }
+    requires cpit { cpit.now ≡ cpit_of instance.now }
+    ensures ok { OnOk result (out.new.items ≡ out.old.items ++ printed instance.now) }
+    ensures err { OnErr result (out.new.items ≡ out.old.items) }
+{
+    let kept = out.len();
+    let mut sink = SectionSink::new(replace(out, Vec::new(alloc)));
+    let printed = print_sections(alloc, instance, cpit, &mut sink);
+    *out = sink.into_vec();
+    if printed.is_err() {
+        out.truncate(kept);
+        return Err(AllocError);
+    }
+    Ok(())
+}
+
+// The same behind what a sink holds. Where it is refused, what stood before stands at the front.
+fn print_sections(
+    alloc: Global,
+    instance: &Instance,
+    cpit: &Cpit,
+    sink: &mut SectionSink,
+) -> Result<(), WriteFault>
+    requires valid { IsValid instance.now }
+    requires cpit { cpit.now ≡ cpit_of instance.now }
+    ensures ok { OnOk result (sink.new.before ++ sink.new.taken
+        ≡ (sink.old.before ++ sink.old.taken) ++ printed instance.now) }
+    ensures err { OnErr result (take (length sink.old.before) sink.new.before ≡ sink.old.before) }
+{
+    for name in TextName::all() {
+        print_section(alloc, name, instance, cpit, sink)?;
+    }
+    Ok(())
+}
+
+// The same of the text of this name alone.
+fn print_section(
+    alloc: Global,
+    name: TextName,
+    instance: &Instance,
+    cpit: &Cpit,
+    sink: &mut SectionSink,
+) -> Result<(), WriteFault>
+    requires valid { IsValid instance.now }
+    requires cpit { cpit.now ≡ cpit_of instance.now }
+    ensures ok { OnOk result (sink.new.before ++ sink.new.taken
+        ≡ (sink.old.before ++ sink.old.taken)
+        ++ section (ending_of name) (text_named name instance.now)) }
+    ensures front { take (length sink.old.before) sink.new.before ≡ sink.old.before }
+{
+    let line = format!(in alloc; "== {name}\n")?;
+    sink.section(line.as_bytes())?;
+    write_named(alloc, name, instance, cpit, sink)
+}

@@ -1,0 +1,4 @@
+pub mod Accepted
+pub mod Commands
+pub mod FoundJob
+pub mod Numbers

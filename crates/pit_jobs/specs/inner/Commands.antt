@@ -1,0 +1,15 @@
+-- The program's command line while it is built, and the job that is looked for in what clap found.
+use Rattle.std.specs.Prelude.{◌≡◌, List, MatchOption, Option, false}
+use Rattle.clap.specs.Words.{App, Row, Text, app_of}
+use Rattle.clap.specs.declared.builder.Command.TheViews.{out-Command as fields_of}
+use Rattle.clap.specs.declared.builder.command.Command.{Command}
+use Rattle.pit_jobs.specs.CommandLine.{Finds}
+use Rattle.pit_jobs.specs.declared.jobs.Job.{Job}
+
+-- the command takes these words, and has no argument that its subcommands share
+abbrev pub IsCommandOf : App → Command → Type 0
+IsCommandOf words command = (app_of command ≡ words) × ((fields_of command).has_globals ≡ false)
+
+-- the answer is a job with the values that clap found, or no job has them
+abbrev pub FindsIfAny : Option (Text × List Row) → Option Job → Type 0
+FindsIfAny found answer = MatchOption answer ((job : Job) → Finds found job → ⊥) (Finds found)

@@ -1,0 +1,63 @@
+//! What the words of a command line ask for.
+
+ghost use Rattle.std.specs.Prelude.{◌≡◌};
+
+use pit_parts::settings::Settings;
+use std::alloc::{AllocError, Global};
+use thiserror::Error;
+
+/// A job of the program.
+#[derive(Debug, Drop, PartialEq, Eq)]
+pub enum Job {
+    /// Compiles the plan in the file `plan` with the zone files `zones`, in order, and writes the files of the
+    /// instance, whose paths begin with `out`. There is at least one zone file.
+    Compile {
+        plan: String,
+        out: String,
+        settings: Settings,
+        zones: Vec<String>,
+    },
+    /// Reads the files of an instance, whose paths begin with `base`, and prints its counts.
+    Check {
+        base: String,
+    },
+}
+
+/// Why the words state no job.
+#[derive(Debug, Drop, Error)]
+pub enum JobFault {
+    /// Memory was refused.
+    #[error("OutOfMemory")]
+    OutOfMemory,
+    /// The words are not taken, or ask for help or the version. The error's text is for the user.
+    #[error("{0}")]
+    Line(clap::Error),
+}
+
+impl From<AllocError> for JobFault {
+    ghost use Rattle.pit_jobs.specs.declared.jobs.JobFault.TheVariants.{OutOfMemory};
+
+    ghost from_gives = { λ _ fault. fault ≡ OutOfMemory };
+
+    fn from(_refusal: AllocError) -> JobFault {
+        JobFault::OutOfMemory
+    }
+}
+
+impl From<clap::Error> for JobFault {
+    ghost use Rattle.pit_jobs.specs.CommandLine.{HandsOn};
+
+    ghost from_gives = { HandsOn };
+
+    fn from(error: clap::Error) -> JobFault {
+        if error.kind() == clap::error::ErrorKind::OutOfMemory {
+            return JobFault::OutOfMemory;
+        }
+        JobFault::Line(error)
+    }
+}
+
+/// The text of an error of `clap`: its help, its version, or why the words are refused. Fails only where memory is refused.
+pub fn error_text(alloc: Global, error: &clap::Error) -> Result<String, AllocError> {
+    Ok(format!(in alloc; "{error}")?)
+}

@@ -1,0 +1,6 @@
+//! The command line of `pitc`, and the job that its words state.
+#![tactic(auto)]
+
+pub mod command_line;
+pub mod job;
+pub mod jobs;
