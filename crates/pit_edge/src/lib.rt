@@ -1,4 +1,4 @@
-//! The edge of `pitc`: its words, streams and files, the line of a fault and the statuses. What needs no run is whole here, as `check`.
+//! The edge of `pitc`: its words, streams and files, the texts that it prints, the line of a fault and the statuses. It needs no run.
 #![tactic(auto)]
 
 pub mod fault_line;
