@@ -104,6 +104,37 @@ FAULTS = [
     ),
 ]
 
+# Zone files, of which each letter is a row and each other letter another block, and the rows that are told: the first that repeats
+# another one, and the first of that block.
+REPETITIONS = [
+    ("AA", "file 0 row 3 repeats file 0 row 2"),
+    ("AAA", "file 0 row 3 repeats file 0 row 2"),
+    ("ABBA", "file 0 row 4 repeats file 0 row 3"),
+    ("ABAB", "file 0 row 4 repeats file 0 row 2"),
+    ("ABBAA", "file 0 row 4 repeats file 0 row 3"),
+    ("AABB", "file 0 row 3 repeats file 0 row 2"),
+    ("ABABBA", "file 0 row 4 repeats file 0 row 2"),
+    ("ABCCBA", "file 0 row 5 repeats file 0 row 4"),
+    ("ABCBCA", "file 0 row 5 repeats file 0 row 3"),
+    ("ABCABC", "file 0 row 5 repeats file 0 row 2"),
+    ("ABCACB", "file 0 row 5 repeats file 0 row 2"),
+    ("ABCBAC", "file 0 row 5 repeats file 0 row 3"),
+    ("AB BA", "file 1 row 2 repeats file 0 row 3"),
+    ("AB AB", "file 1 row 2 repeats file 0 row 2"),
+    ("A BB", "file 1 row 3 repeats file 1 row 2"),
+    ("ABB A", "file 0 row 4 repeats file 0 row 3"),
+    ("AB A A", "file 1 row 2 repeats file 0 row 2"),
+    ("AB C CA", "file 2 row 2 repeats file 1 row 2"),
+    ("AB CC A", "file 1 row 3 repeats file 1 row 2"),
+    ("A BC CBA", "file 2 row 2 repeats file 1 row 3"),
+    ("A BC ABC", "file 2 row 2 repeats file 0 row 2"),
+    ("ABCD E EA", "file 2 row 2 repeats file 1 row 2"),
+    ("ABCD EFA EE", "file 1 row 4 repeats file 0 row 2"),
+    ("ABCD EFE A", "file 1 row 4 repeats file 1 row 2"),
+    ("ABC D DCBA", "file 2 row 2 repeats file 1 row 2"),
+    ("A  B BA", "file 3 row 2 repeats file 2 row 2"),
+]
+
 # A name, an input that is cut at each line `--` and nowhere else, and the line of the fault that shows where it is cut. Files are counted
 # before they are read.
 CUTS = [
@@ -122,7 +153,37 @@ CUTS = [
 ]
 
 
+def repetitions():
+    """Each with places that rise and that fall with the letters, and along each axis."""
+    for letters, line in REPETITIONS:
+        files = letters.split(" ")
+        for axis in range(3):
+            for sign in (1, -1):
+                def row(letter):
+                    cells = ["0", "0", "0", "1", "0"]
+                    cells[axis] = str(500 + sign * 10 * ord(letter) - sign * 650)
+                    return ",".join(cells)
+                zones = [zone(*map(row, file)) for file in files]
+                yield refused(f"repetitions: {letters}, axis {axis}, {sign}", line, given=piped(plan(zones=len(files)), *zones))
+
+
+def many_pieces(count):
+    """As many zone files as this, of a block each, from the last place to the first."""
+    zones = [zone(f"{10 * (count - file)},0,0,1,{file}") for file in range(count)]
+    blocks = "".join(f"{number} {number + 1} 0 0 1 {count - number - 1} {count - number - 1}|" for number in range(count))
+    return Trial(f"pieces: {count}", given=piped(plan(zones=count), *zones), part=lines(f"== blocks|{blocks}== prec|"))
+
+
 def trials():
+    yield from repetitions()
+    for count in (4, 5, 8, 9, 16, 32, 63, 64):
+        yield many_pieces(count)
+    sixty_four = [zone(f"{10 * file},0,0,1,0") for file in range(64)]
+    one_more = [*sixty_four, zone("0,10,0,1,0")]
+    yield refused("pieces: 65 for 64 zones", "settings: Files", 2, given=piped(plan(zones=64), *one_more))
+    yield refused("pieces: 65 zones", "plan row 67: TooMany", given=piped(plan(zones=65), *one_more))
+    faulty = [*sixty_four[:63], zone("0,0,0,1,?")]
+    yield refused("pieces: the last of 64 is faulty", "file 63 row 2 column grade: Number", given=piped(plan(zones=64), *faulty))
     quoted = '\ufeff"grade",Z,rock,y,X,tonnes\r|" 5000 ",0,"ox, hard",0,0,1000.000\r|'
     yield Trial("quoted_and_reordered", given=piped(ONE, quoted), out=lines(ONE_ORE_BLOCK))
     for name, pieces, part in PARTS:

@@ -1,6 +1,8 @@
 """MineLib texts by `pitc check`: the counts of those that are taken, and the first faulty line of the others."""
-from typing import NamedTuple, Optional, Sequence
+import itertools
+from typing import Callable, NamedTuple, Optional, Sequence
 
+from rows.cells import BLANKS, EVERY_BYTE, Cell, bytes_about_a_name, pairs_of_faults, with_cell
 from rows.trial import Trial, lines, refused
 
 
@@ -76,6 +78,52 @@ CPIT = [
     "0 0 L 500.5",
     "0 1 I 0 900",
 ]
+
+# The fields of lines, by docs/formats.md: they count kilograms, millionths or whole numbers. Each line is the second of two blocks, or
+# the first of its section.
+INDEX = Cell("0", 0, 0, 9999)
+BLOCK = Cell("1", 0, 0, 1)
+RESOURCE = Cell("0", 0, 0, 0)
+VALUE = Cell("1", 6, -(10**24), 10**24)
+LEAST, GREATEST = VALUE._replace(good="-1000000000000000000"), VALUE._replace(good="1000000000000000000")
+AT_MOST, AT_LEAST, BETWEEN = Cell("L"), Cell("G"), Cell("I", stays=True)
+
+# The fields of a line, and the kinds of those numbers in range that stand in the place of the only one which is asked for.
+BLOCK_LINE = (
+    [Cell("1", 0, 0, 63_999_999), INDEX, INDEX, INDEX, Cell("1", 3, 0, 10**9), Cell("1", 6, 0, 10**12), Cell("0", 0, 0, 63)],
+    ["Order"],
+)
+
+PREC_LINE = [BLOCK, BLOCK, Cell("0", 0, 0, 1)], ["Order", "Count", "Twice"]
+
+LIMIT_LINES = [
+    ([RESOURCE, BLOCK, AT_MOST, VALUE], []),
+    ([RESOURCE, BLOCK, AT_LEAST, VALUE], []),
+    ([RESOURCE, BLOCK, BETWEEN, LEAST, GREATEST], []),
+]
+
+# By the number of the line: the second of the objective, and the only one of each other section.
+LINES_OF_A_PCPSP = [
+    (11, ([BLOCK, VALUE, VALUE], ["Order"])),
+    (13, ([BLOCK, BLOCK, RESOURCE, VALUE], [])),
+    *((15, line) for line in LIMIT_LINES),
+]
+
+LINES_OF_A_CPIT = [
+    (9, ([BLOCK, VALUE], ["Order"])),
+    (11, ([BLOCK, RESOURCE, VALUE], [])),
+    *((13, line) for line in LIMIT_LINES),
+]
+
+# The header keys with a number, where there is no block.
+HEADER_NUMBERS = {
+    "NBLOCKS": Cell("0", 0, 0, 64_000_000),
+    "NPERIODS": Cell("1", 0, 1, 100),
+    "NDESTINATIONS": Cell("1", 0, 1, 8),
+    "NRESOURCE_SIDE_CONSTRAINTS": Cell("0", 0, 0, 8),
+    "NGENERAL_SIDE_CONSTRAINTS": Cell("0", 0, 0, 0),
+    "DISCOUNT_RATE": Cell("0.1", 6, 0, 10**6),
+}
 
 # Every kind of fault of a model file, at every place that can have it.
 FAULTS_OF_MODEL_FILES = [
@@ -281,6 +329,68 @@ TEXTS_OF_NO_BLOCK = [
     (b"", MARK + MARK, "pcpsp line 1: Key"),
 ]
 
+# The first line of a precedence file of ten blocks, with two things that are faulty or one that is easily missed, and its kind. Taken
+# is what only lacks a model file.
+LINES_OF_TEN = [
+    ("1 1 1", "Order"),
+    ("1 2 2", "Order"),
+    ("1 3 1 1", "Order"),
+    ("1 1 10", "Range"),
+    ("1 2 x", "Number"),
+    ("1", "Fields"),
+    ("0 3 1 1", "Count"),
+    ("0 1 1 1", "Count"),
+    ("0 1 0 1", "Count"),
+    ("0 0 0", "Count"),
+    ("0 9 1", "Count"),
+    ("0 2 10", "Range"),
+    ("0 2 -1", "Range"),
+    ("0 2 x", "Number"),
+    ("0 2 1.5", "TooFine"),
+    ("0 2 1 x", "Number"),
+    ("0 10 x", "Range"),
+    ("0 x 10", "Number"),
+    ("10 x", "Range"),
+    ("10 0", "Range"),
+    ("0 10", "Range"),
+    ("0 2 1 10", "Range"),
+    ("0 2 1 0", "Twice"),
+    ("0 2 0 1", "Twice"),
+    ("0 3 1 0 2", "Twice"),
+    ("0 2 1 1", "Twice"),
+    ("0 3 1 2 1", "Twice"),
+    ("0 3 1 1 2", "Twice"),
+    ("0 3 2 1 1", "Twice"),
+    ("0 9 1 2 3 4 5 6 7 8 1", "Twice"),
+    ("0 9 1 2 3 4 5 6 7 8 9", None),
+    ("0 9 9 8 7 6 5 4 3 2 1", None),
+    ("0 3 5 1 3", None),
+    ("-0 +1 09.00", None),
+]
+
+# Lines as they may stand in each text, or not: what is added behind the first line, and whether the text is taken. The others have one
+# field or none of their own, and no colon.
+LINES_BETWEEN = [
+    ("", True),
+    (" ", True),
+    ("\t \t", True),
+    ("\r", True),
+    (" \t\r", True),
+    ("%", True),
+    ("% a: b", True),
+    ("  % x", True),
+    ("\t%x\r", True),
+    ("%%", True),
+    ("\r\r", False),
+    ("\v", False),
+    ("\f", False),
+    ("#", False),
+    ("//%", False),
+    ("\0", False),
+    ("\r%", False),
+    (";", False),
+]
+
 # By hand: remarks, blank lines, runs of blanks, line ends of two bytes, header keys in another order, a last line without its end.
 HAND_BLOCKS = b"% hand\r\n\n0\t0 0  0 1000.000 5000 0\r\n"
 
@@ -339,7 +449,277 @@ def taken(name, texts, counts):
     return Trial(name, words=["check", "b"], files=files_of(texts), out=lines(counts + "|"))
 
 
+TWO_BLOCKS = "blocks 2 arcs 1 coefficients 1 limits 2"
+
+NO_BLOCKS = "blocks 0 arcs 0 coefficients 0 limits 0"
+
+
+def with_pcpsp(text):
+    return BLOCKS, PREC, whole(text)
+
+
+def with_cpit(text):
+    return BLOCKS, PREC, whole(PCPSP), whole(text)
+
+
+def answered(name, texts, place, kind, counts):
+    """Texts that are refused at a place, such as `prec line 2`, or where there is no kind taken, with these counts."""
+    return faulty(name, texts, f"{place}: {kind}") if kind else taken(name, texts, counts)
+
+
+def fields_of(place, line, texts_with, counts):
+    """Each field of a line in turn: numbers at both ends of its range and past them, and what is none; then two fields that are refused."""
+    fields, others = line
+    for at, field in enumerate(fields):
+        for text, number, kind in field.spellings():
+            if kind is None and at < len(others) and number != int(field.good):
+                kind = others[at]
+            texts = texts_with(" ".join(with_cell(fields, at, text)))
+            yield answered(f"numbers_of_a_line: {place}, field {at + 1}: {text}", texts, place, kind, counts)
+        for text, kind in field.faults():
+            texts = texts_with(" ".join(with_cell(fields, at, text)))
+            yield answered(f"faulty_fields: {place}, field {at + 1}: {text}", texts, place, kind, counts)
+    for texts, kind in pairs_of_faults(fields):
+        yield answered(f"two_faulty_fields: {place}: {texts}", texts_with(" ".join(texts)), place, kind, counts)
+
+
+def widths_of(place, front, counts, texts_with):
+    """Lines of this front, and of `?` up to 12 fields: wrong numbers of fields come before fields that are none."""
+    for count in range(max(1, len(front)), 13):
+        kind = "Number" if count in counts else "Fields"
+        text = texts_with(" ".join([*front, *["?"] * (count - len(front))]))
+        yield faulty(f"width_of_a_line: {place}: {front}, {count} fields", text, f"{place}: {kind}")
+
+
+def lines_of_blocks():
+    """The second line of a block file and of a precedence file, and the first of a longer precedence file."""
+    def blocks_with(line):
+        return f"0 0 0 0 1000 5000 0\n{line}\n".encode(), PREC, whole(PCPSP)
+
+    def prec_with(line):
+        return BLOCKS, f"0 1 1\n{line}\n".encode(), whole(PCPSP)
+
+    yield from fields_of("blocks line 2", BLOCK_LINE, blocks_with, TWO_BLOCKS)
+    yield from widths_of("blocks line 2", [], [7], blocks_with)
+    yield from fields_of("prec line 2", PREC_LINE, prec_with, TWO_BLOCKS.replace("arcs 1", "arcs 2"))
+    yield from widths_of("prec line 2", [], range(2, 13), prec_with)
+    for line, kind in LINES_OF_TEN:
+        prec = line.encode() + b"\n1 0\n2 0\n3 0\n4 0\n5 0\n6 0\n7 0\n8 0\n9 0\n"
+        yield faulty(f"lines_of_ten: {line}", (TEN_BLOCKS, prec, b""), f"prec line 1: {kind}" if kind else "pcpsp line 1: Missing")
+
+
+def lines_of_sections(file, good, lines_of, texts_of, counts):
+    """A line of each section, and the letters of limits."""
+    for number, line in lines_of:
+        is_limit = number == len(good) - 1
+        def texts_with(text):
+            return texts_of(Change(number - 1, len(good) if is_limit else number, [text]).of(good))
+        place = f"{file} line {number}"
+        left = counts.replace("limits 2", "limits 1") if is_limit and file == "pcpsp" else counts
+        yield from fields_of(place, line, texts_with, left)
+        yield from widths_of(place, ["?", "?", line[0][2].good] if is_limit else [], [len(line[0])], texts_with)
+        if is_limit and line[0][2] is AT_MOST:
+            yield from letters_of(place, texts_with, left)
+
+
+def letters_of(place, texts_with, counts):
+    """Limits of each letter: those of four fields, and but for an interval those of five."""
+    for letter in [*"ABCDEFGHIJKLMNOPQRSTUVWXYZabcdefghijklmnopqrstuvwxyz", "LL", "<=", "1"]:
+        kind = {"L": None, "G": None, "I": "Fields"}.get(letter, "Name")
+        yield answered(f"letters_of_limits: {place}: {letter}", texts_with(f"0 0 {letter} 1"), place, kind, counts)
+        if letter != "I":
+            yield faulty(f"letters_of_limits: {place}: {letter}, 5 fields", texts_with(f"0 0 {letter} 1 2"), f"{place}: Fields")
+
+
+def orders(file, good, section, ends, tail, texts_of, counts):
+    """Two lines below the line of a section, whose places have these ends: each in front of each. Then a third behind two that rise.
+
+    `counts` has braces where the number of these lines stands.
+    """
+    places = list(itertools.product(*map(range, ends)))
+    def texts_with(*chosen):
+        items = [" ".join(map(str, place)) + tail for place in chosen]
+        rest = good[section:]
+        below = next((at for at, line in enumerate(rest) if ":" in line), len(rest))
+        return texts_of([*good[:section], *items, *rest[below:]])
+    for first, second in itertools.product(places, places):
+        kind = None if first < second else "Order"
+        name = f"order_of_lines: {file}: {first} {second}"
+        yield answered(name, texts_with(first, second), f"{file} line {section + 2}", kind, counts.format(2))
+    for last in places:
+        kind = None if last > places[-2] else "Order"
+        name = f"order_of_lines: {file}: {last} as the third"
+        yield answered(name, texts_with(places[0], places[-2], last), f"{file} line {section + 3}", kind, counts.format(3))
+
+
+class Header(NamedTuple):
+    """A model file of no block, of which nothing but header and sections stands, and what is answered where it is taken."""
+
+    file: str
+    good: Sequence[str]
+    texts: Callable
+    counts: str
+
+    @property
+    def head(self):
+        """The number of header lines."""
+        return len(self.good) - 3
+
+    def taken(self, name, changed):
+        return taken(f"{self.file}: {name}", self.texts(changed), self.counts)
+
+    def faulty(self, name, changed, number, kind):
+        return faulty(f"{self.file}: {name}", self.texts(changed), f"{self.file} line {number}: {kind}")
+
+
+def headers(of):
+    """Each line of a header and of a section in turn, then two sections in turn, and the file cut behind each line."""
+    for number, line in enumerate(of.good, 1):
+        yield from spellings_of_a_key(of, number, line)
+        if number <= of.head:
+            yield from header_key(of, number, line)
+        else:
+            yield from section_line(of, number, line)
+    for first, second in itertools.combinations(range(of.head + 1, of.head + 4), 2):
+        turned = put(second, of.good[first - 1]).of(put(first, of.good[second - 1]).of(of.good))
+        yield of.faulty(f"sections_out_of_turn: {turned[first - 1]}", turned, first, "Key")
+        changed = put(first, turned[first - 1] + " 1").of(turned)
+        yield of.faulty(f"sections_out_of_turn: {turned[first - 1]} and a field", changed, first, "Key")
+    for count in range(len(of.good)):
+        for rest, more in [("", 0), ("% x\n\n \n", 3), ("% x\n ", 2), ("\r", 1)]:
+            text = whole(of.good[:count]) + rest.encode()
+            yield of.faulty(f"texts_that_end: {count} lines and {rest!r}", text, count + more + 1, "Missing")
+
+
+def spellings_of_a_key(of, number, line):
+    """A key in other cases and with letters too many and too few, and with blanks about it."""
+    key, value = line.split(":")
+    others = [key.lower(), key.title(), key[:-1] + key[-1].lower(), key[1:], key[:-1], key + "S", f"x {key}", f"{key} x", f"{key}.", ""]
+    for other in others:
+        yield of.faulty(f"no_keys: {other}", put(number, f"{other}:{value}").of(of.good), number, "Key")
+    for other in [f"{key} \t:{value}", f" \t{line}", f"{line} \t\r", line.replace(" ", ""), line.replace(" ", "\t \t")]:
+        yield of.taken(f"blanks_about_keys: {other!r}", put(number, other).of(of.good))
+
+
+def header_key(of, number, line):
+    """A header key with other values, without one, twice, lacking, behind a section, and as the first and the last."""
+    key, value = line.split(":")
+    for text, stated, kind in HEADER_NUMBERS[key].spellings() if key in HEADER_NUMBERS else []:
+        changed = put(number, f"{key}: {text}").of(of.good)
+        if key == "NBLOCKS" and stated:
+            kind = "Count"
+        name = f"header_numbers: {key}: {text}"
+        yield of.faulty(name, changed, number, kind) if kind else of.taken(name, changed)
+    for other in [f"{line} x", f"{line} {line}", f"{key}::{value} x", f"{key}: ? ?", f"{key}:"]:
+        yield of.faulty(f"values_of_keys: {other}", put(number, other).of(of.good), number, "Fields")
+    yield of.faulty(f"values_of_keys: {key} without a colon", put(number, key + value).of(of.good), number, "Key")
+    others = without(number).of(of.good)
+    yield of.faulty(f"keys_that_lack: {key}", others, of.head, "Missing")
+    changed = put(of.head, others[of.head - 1] + " 1").of(others)
+    yield of.faulty(f"keys_that_lack: {key}, and a field behind the section", changed, of.head, "Fields")
+    for other in [line, f"{key}: ?", f"{key}:", f"{key}: 1 2"]:
+        yield of.faulty(f"keys_twice: {other}", before(of.head + 1, other).of(of.good), of.head + 1, "Twice")
+    for later in range(of.head + 2, of.head + 5):
+        yield of.faulty(f"keys_behind_sections: {key} as line {later}", before(later, line).of(of.good), later, "Key")
+    for at in (1, of.head):
+        yield of.taken(f"keys_in_any_order: {key} as line {at}", before(at, line).of(others))
+
+
+def section_line(of, number, line):
+    """The line of a section with fields behind it, twice, and without its colon."""
+    for other in [f"{line} 0", f"{line}:", f"{line} x:"]:
+        yield of.faulty(f"values_of_keys: {other}", put(number, other).of(of.good), number, "Fields")
+    yield of.faulty(f"sections_twice: {line}", before(number, line).of(of.good), number + 1, "Key")
+    kind = "Key" if number == of.head + 1 else "Fields"
+    yield of.faulty(f"sections_without_colons: {line}", put(number, line[:-1]).of(of.good), number, kind)
+
+
+def words_of_headers(of):
+    """The bytes and lengths of NAME, and what TYPE may be."""
+    for name, is_name in bytes_about_a_name():
+        changed = b"NAME: " + name + b"\n" + whole(of.good[1:])
+        if b"\n" in name:
+            continue
+        if is_name or name == b"a\r":
+            yield of.taken(f"bytes_of_a_name: {name}", changed)
+        else:
+            yield of.faulty(f"bytes_of_a_name: {name}", changed, 1, "Fields" if name[1:2] in BLANKS else "Name")
+    for length in (1, 63, 64):
+        yield of.taken(f"length_of_a_name: {length}", put(1, "NAME: " + "a" * length).of(of.good))
+    for length in (65, 1000):
+        yield of.faulty(f"length_of_a_name: {length}", put(1, "NAME: " + "a" * length).of(of.good), 1, "Name")
+    yield of.taken("a_name_behind_a_million_blanks", put(1, "NAME:" + " " * 1_000_000 + "one").of(of.good))
+    yield of.faulty("a_name_with_a_colon", put(1, "NAME: a:b").of(of.good), 1, "Name")
+    right = of.file.upper()
+    for other in [right.lower(), right.title(), right[:-1], right[1:], right + "S", "UPIT", "PCPSPCPIT".replace(right, ""), "?"]:
+        yield of.faulty(f"types: {other}", put(2, "TYPE: " + other).of(of.good), 2, "Name")
+
+
+def bytes_of_lines():
+    """Each byte between two fields, in front of a line and at its end."""
+    def second(line):
+        return b"0 0 0 0 1000 5000 0\n" + line + b"\n", PREC, whole(PCPSP)
+
+    for byte in EVERY_BYTE:
+        kind = None if byte in BLANKS else "Fields"
+        yield answered(f"bytes_between_fields: {byte}", second(b"1 1 0 0 0 7" + byte + b"0"), "blocks line 2", kind, TWO_BLOCKS)
+        kind = None if byte in BLANKS + b"\n+0" else {b"-": "Range", b".": "TooFine"}.get(byte, "Order" if byte in b"123456789" else "Number")
+        texts = second(byte + b"1 1 0 0 0 7 0")
+        if byte == b"%":
+            yield faulty("bytes_before_fields: a remark", texts, "prec line 1: Range")
+        else:
+            yield answered(f"bytes_before_fields: {byte}", texts, "blocks line 2", kind, TWO_BLOCKS)
+        kind = None if byte in BLANKS + b"\n\r.0123456789" else "Number"
+        yield answered(f"bytes_behind_fields: {byte}", second(b"1 1 0 0 0 7 0" + byte), "blocks line 2", kind, TWO_BLOCKS)
+
+
+def lines_between():
+    """Lines that are skipped and others, behind the first line of each text."""
+    texts = [BLOCKS, PREC, whole(PCPSP), whole(CPIT)]
+    for at, file in enumerate(("blocks", "prec", "pcpsp", "cpit")):
+        for line, is_taken in LINES_BETWEEN:
+            first, rest = texts[at].split(b"\n", 1)
+            changed = [*texts[:at], b"\n".join([first, line.encode(), rest]), *texts[at + 1 :]]
+            kind = None if is_taken else "Fields" if at < 2 else "Key"
+            yield answered(f"lines_between: {file}: {line!r}", changed, f"{file} line 2", kind, TWO_BLOCKS + " cpit 1")
+        for name, text in [
+            ("CR LF", texts[at].replace(b"\n", b"\r\n")),
+            ("no last line end", texts[at][:-1]),
+            ("a last CR", texts[at][:-1] + b"\r"),
+            ("tabs and blanks", b"\t " + texts[at].replace(b" ", b" \t ").replace(b"\n", b"\t \n  ")),
+            ("a mark", MARK + texts[at]),
+        ]:
+            yield taken(f"ends_of_lines: {file}: {name}", [*texts[:at], text, *texts[at + 1 :]], TWO_BLOCKS + " cpit 1")
+        for name, text in [("two CRs", texts[at].replace(b"\n", b"\r\r\n")), ("two marks", MARK + MARK + texts[at])]:
+            kind = "Number" if at < 2 else "Name" if name == "two CRs" else "Key"
+            yield faulty(f"ends_of_lines: {file}: {name}", [*texts[:at], text, *texts[at + 1 :]], f"{file} line 1: {kind}")
+
+
+def model_files():
+    """What is said of both model files."""
+    def text_of(changed):
+        return changed if isinstance(changed, bytes) else whole(changed)
+
+    pcpsp = Header("pcpsp", NO_PCPSP.decode().splitlines(), lambda changed: (b"", b"", text_of(changed)), NO_BLOCKS)
+    cpit = Header("cpit", NO_CPIT.decode().splitlines(), lambda changed: (b"", b"", NO_PCPSP, text_of(changed)), NO_BLOCKS + " cpit 0")
+    for of in (pcpsp, cpit):
+        yield from headers(of)
+        yield from words_of_headers(of)
+    yield from lines_of_sections("pcpsp", PCPSP, LINES_OF_A_PCPSP, with_pcpsp, TWO_BLOCKS)
+    yield from lines_of_sections("cpit", CPIT, LINES_OF_A_CPIT, with_cpit, TWO_BLOCKS + " cpit 1")
+    two_resources = put(6, "NRESOURCE_SIDE_CONSTRAINTS: 2").of(PCPSP)
+    yield from orders("pcpsp", two_resources, 12, (2, 2, 2), " 1", with_pcpsp, "blocks 2 arcs 1 coefficients {} limits 2")
+    yield from orders("pcpsp", two_resources, 14, (2, 2), " L 1", with_pcpsp, "blocks 2 arcs 1 coefficients 1 limits {}")
+    two_resources = put(5, "NRESOURCE_SIDE_CONSTRAINTS: 2").of(CPIT)
+    yield from orders("cpit", two_resources, 10, (2, 2), " 1", with_cpit, TWO_BLOCKS + " cpit {}")
+    yield from orders("cpit", two_resources, 12, (2, 2), " G 1", with_cpit, TWO_BLOCKS + " cpit 1")
+
+
 def trials():
+    yield from lines_of_blocks()
+    yield from model_files()
+    yield from bytes_of_lines()
+    yield from lines_between()
     for change, line in FAULTS_OF_MODEL_FILES:
         yield faulty(f"faults_of_model_files: {change}", (BLOCKS, PREC, whole(change.of(PCPSP))), line)
     for blocks, prec, line in FAULTS_OF_BLOCKS_AND_PRECEDENCES:

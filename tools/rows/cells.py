@@ -1,0 +1,95 @@
+"""What cells and fields may hold: the spellings of a number at both ends of its range and past them, and each byte in a name."""
+import itertools
+from typing import NamedTuple, Optional
+
+NAME_BYTES = b"0123456789ABCDEFGHIJKLMNOPQRSTUVWXYZ_abcdefghijklmnopqrstuvwxyz-."
+
+BLANKS = b" \t"
+
+EVERY_BYTE = [bytes([byte]) for byte in range(256)]
+
+
+class Cell(NamedTuple):
+    """A cell or a field of a record or a line: one that is good, and the decimals, the least and the greatest number that it may hold.
+
+    The two ends count the last of these decimals. A cell without them holds a name, or a word that stays as it is.
+    """
+
+    good: str
+    decimals: Optional[int] = None
+    least: int = 0
+    greatest: int = 0
+    stays: bool = False
+
+    def faults(self):
+        """Texts that are refused, and their kinds: that which is looked for first, and that which is looked for last."""
+        if self.stays:
+            return []
+        if self.decimals is None:
+            return [("?", "Name")]
+        return [("x", "Number"), (spelled(self.greatest + 1, self.decimals), "Range")]
+
+    def spellings(self):
+        """Spellings of numbers, each with its number, or else with None and the kind of its fault; of a name nothing."""
+        least, greatest, decimals = self.least, self.greatest, self.decimals
+        if decimals is None:
+            return
+        point = "" if decimals else "."
+        for number in sorted({least, min(least + 1, greatest), max(greatest - 1, least), greatest}):
+            yield spelled(number, decimals), number, None
+        yield spelled(greatest, decimals) + point + "000", greatest, None
+        yield spelled(least, decimals, "00"), least, None
+        yield ("+" if greatest >= 0 else "") + spelled(greatest, decimals), greatest, None
+        if least <= 0 <= greatest:
+            yield "-0", 0, None
+        for number in [least - 1, greatest + 1, -(10**40), 10**40]:
+            yield spelled(number, decimals), None, "Range"
+        if greatest > 0 and -greatest < least:
+            yield spelled(-greatest, decimals), None, "Range"
+        for number in {least, greatest, max(0, least), least - 1, greatest + 1}:
+            yield spelled(number, decimals) + point + "1", None, "TooFine"
+        yield spelled(greatest, decimals) + point + "0000001", None, "TooFine"
+        for text in ["x", "1e0", "-", spelled(least, decimals) + point + "1x", spelled(greatest + 1, decimals) + "x"]:
+            yield text, None, "Number"
+
+
+def spelled(number, decimals, front=""):
+    """A number that counts the last of so many decimals, with all of them, and with more digits in front."""
+    digits = f"{abs(number):0{decimals + 1}d}"
+    whole, fraction = (digits[:-decimals], "." + digits[-decimals:]) if decimals else (digits, "")
+    return ("-" if number < 0 else "") + front + whole + fraction
+
+
+def shortest(number, decimals):
+    """The shortest text of a number that counts the last of so many decimals."""
+    text = spelled(number, decimals)
+    return text.rstrip("0").rstrip(".") if decimals else text
+
+
+def with_cell(cells, at, text):
+    """The good cells, but for one."""
+    return [text if place == at else cell.good for place, cell in enumerate(cells)]
+
+
+def pairs_of_faults(cells):
+    """Cells of which two are refused, and the kind of the one on the left, where the two kinds tell which it was."""
+    for left, cell in enumerate(cells):
+        for right in range(left + 1, len(cells)):
+            for (text, kind), (other, other_kind) in itertools.product(cell.faults(), cells[right].faults()):
+                if kind != other_kind:
+                    both = with_cell(cells, left, text)
+                    both[right] = other
+                    yield both, kind
+
+
+def bytes_about_a_name():
+    """Names with each byte within, before and behind, and whether the name is one."""
+    for byte in EVERY_BYTE:
+        yield b"a" + byte + b"b", byte in NAME_BYTES
+        yield byte + b"a", byte in NAME_BYTES + BLANKS
+        yield b"a" + byte, byte in NAME_BYTES + BLANKS
+
+
+def quoted(cell):
+    """A cell of any bytes, as a record has it."""
+    return b'"' + cell.replace(b'"', b'""') + b'"'
