@@ -124,6 +124,8 @@ REPETITIONS = [
     ("A BB", "file 1 row 3 repeats file 1 row 2"),
     ("ABB A", "file 0 row 4 repeats file 0 row 3"),
     ("AB A A", "file 1 row 2 repeats file 0 row 2"),
+    ("AB A CC", "file 1 row 2 repeats file 0 row 2"),
+    ("AB CA DD", "file 1 row 3 repeats file 0 row 2"),
     ("AB C CA", "file 2 row 2 repeats file 1 row 2"),
     ("AB CC A", "file 1 row 3 repeats file 1 row 2"),
     ("A BC CBA", "file 2 row 2 repeats file 1 row 3"),

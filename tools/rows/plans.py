@@ -229,8 +229,12 @@ LAST_RECORDS = [
     ("MILL,mill,1,1,1", "row 7: Twice"),
 ]
 
-# Which lists are bands: the ranges and the order of their starts, each at its edge.
+# Which lists are bands: the ranges and the order of their starts, each at its edge and at each place.
 BANDS = [
+    *((",".join(f"{start - (start == at)},0" for start in range(16)), "row 7: Order") for at in range(1, 16)),
+    *((",".join(f"{start - 2 * (start == at)},0" for start in range(2, 18)), "row 7: Order") for at in range(3, 18)),
+    ("0.000003,300,0.000001,400,0.000002,500", "row 7: Order"),
+    ("0.000001,300,0.000001,400,0.000002,500", "row 7: Order"),
     ("0,0", TAKEN),
     ("1000000,1000", TAKEN),
     ("1000000.000001,1000", "row 7: Range"),
@@ -263,6 +267,12 @@ MANY = [
     ("10,001 of which the last is what is missing", b",\n" * 9_995 + WASTE, "row 10001: TooMany"),
     ("10,002", b",\n" * 10_002, "row 10001: TooMany"),
 ]
+
+# The worths of a kilogram at each kind of destination, of waste and with 0.1 g of metal: -1.5, -1.6, -0.25 and 0 cents, then -0.87, -0.835,
+# -0.25 and 0.
+FLOORS = "name,n|grid,0,0,0,1,1,1|zone,1,1,1|mill,m,900,7000,1500|leach,l,9000,1600,0,850|dump,d,250|dump,n,0|periods,1|rate,0|"
+
+ROUNDED_DOWN = "OBJECTIVE_FUNCTION:|0 -0.02 -0.02 -0.01 0|1 -0.01 -0.01 -0.01 0|RESOURCE"
 
 # Limits are written by resource and period, and coefficients by destination and resource, whatever their order in the plan.
 TWO_RESOURCES = (
@@ -425,6 +435,7 @@ def trials():
         plan = lines(f"name,n|grid,{cells}|zone,1,1,1|dump,d,1|periods,1|rate,0|")
         yield shows(f"grids: {cells}", plan, lines(f"{row},1,0|"), f"== blocks|0 {place} 1 0 0|== prec|")
     yield shows("each_number_of_a_plan", lines(EACH_NUMBER), b"0,0,0,1,5000\n", EACH_NUMBER_WRITTEN)
+    yield shows("worths_are_rounded_down", lines(FLOORS), b"0,0,0,0.001,0\n1,0,0,0.001,100\n", ROUNDED_DOWN)
     yield shows("limits_in_order", lines(TWO_RESOURCES), b"0,0,0,1,0\n", LIMITS_IN_ORDER)
     yield shows("covered_destinations", lines(TWO_RESOURCES), b"0,0,0,1,0\n", COVERED_DESTINATIONS)
     yield shows("bands_of_a_plan", lines(LEACH), LEACHED, BANDS_OF_A_PLAN)

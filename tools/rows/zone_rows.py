@@ -137,6 +137,8 @@ RECORDS_OF_TEXTS = [
     # quoted cells with line ends, doubled quotes and commas within
     (b'"x","y","z","ro\r\nck","tonnes","grade"\r\n"0","0","0","b\r\nbb","1","2"\n10,0,0,-,3,4', "0 0 0 0 1 2 0|1 1 0 0 3 4 0|"),
     (b'x,y,z,"b""bb",tonnes,"c,c",grade\n0,0,0,"b""bb",1,"c,c",2', "0 0 0 0 1 2 0|"),
+    (b'x,y,z,tonnes,grade,rock\n0,0,0,1,2,"a"",b"\n10,0,0,3,4,",""\n"""\n', "0 0 0 0 1 2 0|1 1 0 0 3 4 0|"),
+    (b'"a"",b",x,y,z,tonnes,grade\n-,0,0,0,1,2\n', "0 0 0 0 1 2 0|"),
     (b'"x\n",y,z,tonnes,grade\n', "row 1 column x: MissingColumn"),
     (b'"x""",y,z,tonnes,grade\n', "row 1 column x: MissingColumn"),
     (b'x,y,z,tonnes,grade\n0,0,0,"1,",2\n', "row 2 column tonnes: Number"),
