@@ -1,136 +1,109 @@
-# Makes zone files of a mining package's export, a CSV file with a row for each block: one for each value of its column of zones.
+# Makes zone files of a plain table, x,y,z,tonnes,grade,zone, as table.awk makes it: one for each zone.
 #
-#     awk -v x=XC -v y=YC -v z=ZC -v tonnes=TONNAGE -v grade=AU_PPM -v zone=DOMAIN -v base=from -f zone-files.awk export.csv
+#     awk -v base=from -f zone-files.awk table.csv
 #
-# writes from-east.csv for the zone `east`, and so on. The first row has the names of the columns; the second is a row of units
-# where its x is no number. Coordinates and tonnes are rounded to 3 decimals, grades to 6.
+# writes from-east.csv for the zone `east`, and so on; what is no letter, digit, `_`, `-` or `.` in a zone's name is `_` in the file's.
+# Coordinates and tonnes are rounded to 3 decimals, grades to 6.
 #
-# - Rows without tonnes (an empty cell, 0 or less, as -99) are air or holes, and are left out. With -v holes=1 those below rock
-#   stay, with 0 tonnes: they cost nothing, and blocks below them are reached through them.
-# - Rows with tonnes and without a grade (an empty cell, or less than 0) are waste, and stay with grade 0.
-# - -v grade_times=10000 makes g/t of percent, 34.2857 of troy ounces a short ton; -v tonnes=SG -v tonnes_times=4000 makes tonnes
-#   of specific gravity in blocks of 4000 cubic metres.
+# - Rows without tonnes are air or holes, and are left out. With -v holes=1 those below rock stay, with 0 tonnes: they cost nothing,
+#   and blocks below them are reached through them.
+# - Rows with tonnes and without a grade are waste, and stay with grade 0.
+# - With -v size=20,20,10, the size of a block, each row moves to the nearest place of the grid through the first row. A row that is
+#   more than a tenth of a size off is no row of that grid, and is named.
 #
-# It prints the rows of each file, what was left out or changed, and a record `grid` for the plan: the least coordinates, and the
-# least distances of two. At the first row that it cannot read it says which and ends with 1; the files are then not whole.
+# It prints the rows of each file, what was left out or changed, and the record `grid` for the plan. Where no grid fits, or a row
+# cannot be read, it says so and ends with 1; the files are then not whole.
 
 function stop(message) {
-    print "zone-files.awk: row " NR ": " message > "/dev/stderr"
+    print "zone-files.awk: line " NR ": " message > "/dev/stderr"
     failed = 1
     exit 1
 }
 
-# Splits a record into cell[1], cell[2], .. at the commas outside quotes, and answers their number.
-function split_record(record,    parts, count, part, at, open) {
-    if (!index(record, "\"")) return split(record, cell, ",")
-    count = split(record, parts, ",")
-    for (part = 1; part <= count; part++) {
-        if (open) cell[at] = cell[at] "," parts[part]
-        else cell[++at] = parts[part]
-        if (gsub(/"/, "\"", parts[part]) % 2) open = !open
+function divisor(one, other,    rest) {
+    while (other > 0) {
+        rest = one % other
+        one = other
+        other = rest
     }
-    if (open) stop("a quote is not closed on its line")
-    return at
+    return one
 }
 
-# the text of a cell without blanks and quotes at its ends
-function text_at(at,    text) {
-    text = cell[at]
-    gsub(/^[ \t"]+|[ \t"]+$/, "", text)
+function whole(number) {
+    return number < 0 ? -int(0.5 - number) : int(number + 0.5)
+}
+
+# the coordinate of a row, on the grid; in millimetres the least, the greatest and the common divisor of distances are kept
+function coordinate(axis, text,    off, near, apart) {
+    if (!(axis in first)) first[axis] = least[axis] = most[axis] = whole(text * 1000)
+    near = whole(text * 1000)
+    if (size != "") {
+        near = first[axis] + whole((text * 1000 - first[axis]) / step[axis]) * step[axis]
+        off = text * 1000 - near
+        if (off < 0) off = -off
+        if (off * 10 > step[axis]) stop(axis " " text " is " off / 1000 " beside the grid of " step[axis] / 1000 " through the first row")
+    }
+    text = sprintf("%.3f", near / 1000)
+    if ((axis, text) in seen) return text
+    seen[axis, text]
+    many[axis]++
+    apart = near - first[axis]
+    if (size == "") step[axis] = divisor(apart < 0 ? -apart : apart, step[axis] + 0)
+    if (near < least[axis]) least[axis] = near
+    if (near > most[axis]) most[axis] = near
     return text
 }
 
-function is_number(text) {
-    return text ~ /^[-+]?([0-9]+\.?[0-9]*|\.[0-9]+)([eE][-+]?[0-9]+)?$/
+# the file of a zone
+function file_of(zone,    file, other) {
+    if (zone in files) return files[zone]
+    if (zone == "") stop("it has no zone")
+    file = zone
+    gsub(/[^A-Za-z0-9_.-]/, "_", file)
+    file = base "-" file ".csv"
+    for (other in files) if (files[other] == file) stop("the zones `" zone "` and `" other "` would have one file")
+    if (++zones > 64) stop("a 65th zone, `" zone "`, is more than a plan may have")
+    zone_at[zones] = zone
+    files[zone] = file
+    print "x,y,z,tonnes,grade" > file
+    return file
 }
 
-function number_at(at,    text) {
-    text = text_at(at)
-    if (!is_number(text)) stop("column " name[at] " has `" text "`")
-    return text + 0
+function write_row(place, zone, tonnes, grade,    file) {
+    file = file_of(zone)
+    rows[zone]++
+    printf("%s,%.3f,%.6f\n", place, tonnes, grade) > file
 }
 
-# the same, with -1 for an empty cell
-function measure_at(at) {
-    return text_at(at) == "" ? -1 : number_at(at)
-}
-
-function column_of(wanted,    at, found) {
-    if (wanted == "") stop("give x, y, z, tonnes, grade, zone and base, each by -v")
-    for (at = 1; at <= width; at++) {
-        if (name[at] != wanted) continue
-        if (found) stop("two columns `" wanted "`")
-        found = at
+BEGIN {
+    FS = ","
+    if (base == "") stop("give base by -v")
+    if (size != "" && split(size, metres, ",") != 3) stop("size: give three, as -v size=20,20,10")
+    for (at = 1; at <= 3 && size != ""; at++) {
+        if (metres[at] !~ /^[0-9.]+$/ || whole(metres[at] * 1000) < 1) stop("size: `" metres[at] "`")
+        step[substr("xyz", at, 1)] = whole(metres[at] * 1000)
     }
-    if (!found) stop("no column `" wanted "`")
-    return found
 }
-
-# the coordinate in a cell, which is kept among those of its axis
-function coordinate_at(at,    text) {
-    text = sprintf("%.3f", number_at(at))
-    if (!((at, text) in seen)) {
-        seen[at, text]
-        coordinates[at, ++many[at]] = text
-    }
-    return text
-}
-
-function write_row(place, zone_name, mass, share,    file) {
-    if (zone_name !~ /^[A-Za-z0-9_.-]+$/) stop("a zone `" zone_name "` cannot be part of a file name")
-    file = base "-" zone_name ".csv"
-    if (!(zone_name in rows)) {
-        zones[++zone_count] = zone_name
-        print "x,y,z,tonnes,grade" > file
-    }
-    rows[zone_name]++
-    printf("%s,%.3f,%.6f\n", place, mass, share) > file
-}
-
-{ sub(/\r$/, "") }
 
 NR == 1 {
-    sub(/^\357\273\277/, "")
-    width = split_record($0)
-    for (at = 1; at <= width; at++) name[at] = text_at(at)
-    x = column_of(x)
-    y = column_of(y)
-    z = column_of(z)
-    tonnes = column_of(tonnes)
-    grade = column_of(grade)
-    zone = column_of(zone)
-    if (base == "") column_of(base)
-    if (tonnes_times == "") tonnes_times = 1
-    if (grade_times == "") grade_times = 1
+    if ($0 != "x,y,z,tonnes,grade,zone") stop("it is no plain table: make it by table.awk")
     next
 }
 
-/^[ \t]*$/ { next }
-
 {
-    if (split_record($0) != width) stop("it has not " width " cells")
-    if (NR == 2 && !is_number(text_at(x))) {
-        units = 1
-        next
-    }
-    column = coordinate_at(x) "," coordinate_at(y)
-    level = coordinate_at(z)
-    mass = measure_at(tonnes)
-    if (mass <= 0) {
+    column = coordinate("x", $1) "," coordinate("y", $2)
+    level = coordinate("z", $3)
+    if ($4 == "") {
         hollow++
         if (!holes) next
         hole_column[hollow] = column
         hole_level[hollow] = level
-        hole_zone[hollow] = text_at(zone)
+        hole_zone[hollow] = $6
         next
     }
     if (!(column in top) || level + 0 > top[column]) top[column] = level + 0
-    share = measure_at(grade)
-    if (share < 0) {
-        barren++
-        share = 0
-    }
-    write_row(column "," level, text_at(zone), mass * tonnes_times, share * grade_times)
+    if ($5 == "") barren++
+    write_row(column "," level, $6, $4, $5)
 }
 
 # a number without needless zeros
@@ -140,36 +113,33 @@ function plain(number) {
     return number
 }
 
-# Puts the least coordinate of an axis and the least distance of two at the ends of `origin` and `size`.
-function measure_axis(at,    one, other, least, step, apart) {
-    least = coordinates[at, 1]
-    for (one = 2; one <= many[at]; one++) {
-        if (coordinates[at, one] + 0 < least + 0) least = coordinates[at, one]
-        for (other = 1; other < one; other++) {
-            apart = coordinates[at, one] - coordinates[at, other]
-            if (apart < 0) apart = -apart
-            if (!step || apart < step) step = apart
-        }
+# Stops where the distances along an axis tell no size: where a tenth of the places between its ends, or more, is not taken.
+function look_at(axis,    places) {
+    if (!step[axis]) stop("all rows have one " axis ": give -v size")
+    places = (most[axis] - least[axis]) / step[axis] + 1
+    if (size == "" && many[axis] < places * 0.9) {
+        stop(axis " has " many[axis] " values and a grid of " step[axis] / 1000 " would have " places ": give -v size")
     }
-    origin = origin "," plain(least)
-    size = size "," plain(step)
+    box = (box ? box : 1) * places
 }
 
 END {
     if (failed) exit 1
-    if (NR < 2) stop("no blocks")
     for (at = 1; holes && at <= hollow; at++) {
         if (!(hole_column[at] in top) || hole_level[at] + 0 > top[hole_column[at]]) continue
         write_row(hole_column[at] "," hole_level[at], hole_zone[at], 0, 0)
         kept++
     }
-    for (at = 1; at <= zone_count; at++) print base "-" zones[at] ".csv: " rows[zones[at]] " rows"
-    if (units) print "left out: the row of units"
+    for (at = 1; at <= zones; at++) {
+        print files[zone_at[at]] ": " rows[zone_at[at]] " rows"
+        all += rows[zone_at[at]]
+    }
     print "left out: " hollow - kept " rows without tonnes"
     if (holes) print "kept with 0 tonnes: " kept + 0 " rows below rock"
     print "kept with grade 0: " barren + 0 " rows without a grade"
-    measure_axis(x)
-    measure_axis(y)
-    measure_axis(z)
-    print "grid" origin size
+    look_at("x")
+    look_at("y")
+    look_at("z")
+    printf("of the grid's %d places %d have a row (%d %%)\n", box, all, all * 100 / box)
+    print "grid," plain(least["x"] / 1000) "," plain(least["y"] / 1000) "," plain(least["z"] / 1000) "," plain(step["x"] / 1000) "," plain(step["y"] / 1000) "," plain(step["z"] / 1000)
 }
