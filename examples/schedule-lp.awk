@@ -1,26 +1,34 @@
-# Writes the CPIT of an instance as a mixed integer program in the common LP format (that of CPLEX), which glpsol, cbc and
-# others read.
+# Writes the CPIT or the PCPSP of an instance as a mixed integer program in the common LP format (that of CPLEX), which glpsol, cbc
+# and others read.
 #
-#     awk -f cpit-lp.awk small.cpit small.prec > small.lp
+#     awk -f schedule-lp.awk small.cpit small.prec > small.lp
+#     awk -f schedule-lp.awk small.pcpsp small.prec > small.lp
 #
-# x12_3 is 1 where block 12 is mined in period 3. Each block is mined at most once, and no sooner than its predecessors; what is
-# used of a resource in a period is the sum of coefficient times x. A value of period t counts 1 / (1 + rate)^t, so period 0 is
-# not discounted; where it is, the answer is smaller by the factor 1 / (1 + rate), and the best schedule is the same.
+# x12_3 is 1 where block 12 is mined in period 3, and in a PCPSP y12_1_3 is the share of it that goes to destination 1; with -v whole=1 a
+# block goes to one destination. Each block is mined at most once, and no sooner than its predecessors; what is used of a resource in a
+# period is the sum of coefficient times x, or y. A value of period t counts 1 / (1 + rate)^t, so period 0 is not discounted; where it is,
+# the answer is smaller by the factor 1 / (1 + rate), and the best schedule is the same.
 
 FNR == 1 { file++ }
 
 file == 1 && /:/ { section = $1 }
 file == 1 && $1 == "NAME:" { name = $2 }
 file == 1 && $1 == "NPERIODS:" { periods = $2 }
+file == 1 && $1 == "NDESTINATIONS:" { destinations = $2 }
 file == 1 && $1 == "DISCOUNT_RATE:" { rate = $2 }
 file == 1 && /:/ { next }
 
-file == 1 && section == "OBJECTIVE_FUNCTION:" { value[blocks++] = $2 }
+file == 1 && section == "OBJECTIVE_FUNCTION:" {
+    for (at = 2; at <= NF; at++) value[$1, at - 2] = $at
+    blocks++
+}
 
 file == 1 && section == "RESOURCE_CONSTRAINT_COEFFICIENTS:" {
-    at = uses[$2]++
-    use_block[$2, at] = $1
-    use_tonnes[$2, at] = $3
+    resource = $(NF - 1)
+    at = uses[resource]++
+    use_block[resource, at] = $1
+    use_destination[resource, at] = $2
+    use_tonnes[resource, at] = $NF
 }
 
 file == 1 && section == "RESOURCE_CONSTRAINT_LIMITS:" { limit[limits++] = $0 }
@@ -40,20 +48,36 @@ function sum_to(block, period, sign,    one, sum) {
     return sum
 }
 
-function begin(    block, period, share, worth) {
+# what is mined of a block in a period, for a destination where there are several
+function mined(block, destination, period) {
+    return destinations ? "y" block "_" destination "_" period : "x" block "_" period
+}
+
+function put_value(block, destination,    period, share, worth) {
+    share = 1
+    for (period = 0; period < periods; period++) {
+        worth = value[block, destination] * share
+        print (worth < 0 ? " - " : " + ") sprintf("%.6f", worth < 0 ? -worth : worth) " " mined(block, destination, period)
+        share /= 1 + rate
+    }
+}
+
+function begin(    block, destination, period) {
     print "\\ the best schedule of " name
     print "Maximize"
     print " value:"
     for (block = 0; block < blocks; block++) {
-        share = 1
-        for (period = 0; period < periods; period++) {
-            worth = value[block] * share
-            print (worth < 0 ? " - " : " + ") sprintf("%.6f", worth < 0 ? -worth : worth) " x" block "_" period
-            share /= 1 + rate
-        }
+        for (destination = 0; destination < (destinations ? destinations : 1); destination++) put_value(block, destination)
     }
     print "Subject To"
-    for (block = 0; block < blocks; block++) print " once" block ":" sum_to(block, periods - 1, " + ") " <= 1"
+    for (block = 0; block < blocks; block++) {
+        print " once" block ":" sum_to(block, periods - 1, " + ") " <= 1"
+        for (period = 0; destinations && period < periods; period++) {
+            print " goes" block "_" period ":"
+            for (destination = 0; destination < destinations; destination++) print "  + " mined(block, destination, period)
+            print "  - x" block "_" period " = 0"
+        }
+    }
 }
 
 # A limit of a resource that no block uses stands too: it may be one that cannot be met.
@@ -61,7 +85,7 @@ function constrain(label, resource, period, relation, tonnes,    at) {
     print " " label resource "_" period ":"
     if (!uses[resource]) print "  0 x0_" period
     for (at = 0; at < uses[resource]; at++) {
-        print "  + " use_tonnes[resource, at] " x" use_block[resource, at] "_" period
+        print "  + " use_tonnes[resource, at] " " mined(use_block[resource, at], use_destination[resource, at], period)
     }
     print "  " relation " " tonnes
 }
@@ -78,7 +102,10 @@ END {
     }
     print "Binary"
     for (block = 0; block < blocks; block++) {
-        for (period = 0; period < periods; period++) print " x" block "_" period
+        for (period = 0; period < periods; period++) {
+            print " x" block "_" period
+            for (at = 0; whole && at < destinations; at++) print " " mined(block, at, period)
+        }
     }
     print "End"
 }

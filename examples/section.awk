@@ -4,14 +4,24 @@
 #
 # row is the grid index y of the section, which is seen from the south. first and second are the names of the pits; a pit's file has
 # the identifier of a block on each line. Heights are drawn as widths are. Rock of the second pit that the first one leaves is
-# hatched.
+# hatched. -v title='..' is the line above, and -v grades='0 0.3 0.6 0.9 1.2 1.5' are the least grades of the shades, two to six.
+# Where no block is in the row it says so and ends with 1.
+
+function stop(message) {
+    print "section.awk: " message > "/dev/stderr"
+    failed = 1
+    exit 1
+}
 
 BEGIN {
+    if (grades == "") grades = "0 0.3 0.6 0.9 1.2 1.5"
+    if (title == "") title = "The ultimate pits " first " and " second
     left = 78
     top = 84
     plot = 864
-    shades = split("#ece8df #fde3a7 #fdbb63 #f4813f #d1422b #7f1420", shade, " ")
-    split("0 0.3 0.6 0.9 1.2 1.5", from, " ")
+    split("#ece8df #fde3a7 #fdbb63 #f4813f #d1422b #7f1420", shade, " ")
+    shades = split(grades, from, " ")
+    if (shades < 2 || shades > 6) stop("grades: give two to six")
     colour[1] = "#0b3c8c"
     colour[2] = "#111111"
 }
@@ -25,7 +35,9 @@ FILENAME == ARGV[1] {
 FILENAME == ARGV[2] {
     if ($2 > far) far = $2
     if ($4 > high) high = $4
+    if ($3 > back) back = $3
     if ($3 != row) next
+    in_row = 1
     grade[$2, $4] = $6
     place[$1] = $2 SUBSEP $4
     if (!($2 in ground) || $4 > ground[$2]) ground[$2] = $4
@@ -187,6 +199,8 @@ function draw_legend(    y, x, at) {
 }
 
 END {
+    if (failed) exit 1
+    if (!in_row) stop("no block has the index y = " row "; they are 0 to " back)
     wide = plot / (far + 1)
     tall = wide * grid[6] / grid[4]
     style[1] = "stroke=\"" colour[1] "\" stroke-width=\"3\" stroke-dasharray=\"9 5\""
@@ -197,7 +211,7 @@ END {
     print "<defs><pattern id=\"hatch\" width=\"7\" height=\"7\" patternUnits=\"userSpaceOnUse\" patternTransform=\"rotate(45)\">" \
         "<line x1=\"0\" y1=\"0\" x2=\"0\" y2=\"7\" stroke=\"" colour[2] "\" stroke-width=\"1.6\"/></pattern></defs>"
     print "<rect width=\"100%\" height=\"100%\" fill=\"#ffffff\"/>"
-    text(left, 30, "start", 20, "The ultimate pit of the example deposit: " first " is too steep, " second " is enough")
+    text(left, 30, "start", 20, title)
     text(left, 52, "start", 14, "Vertical section at y = " grid[2] + row * grid[5] " m, seen from the south, heights drawn as widths are")
     for (z = high; z >= 0; z--) {
         for (x = 0; x <= far; x++) if ((x, z) in grade) rectangle(x, z, shade[shade_of(grade[x, z])])

@@ -1,4 +1,4 @@
-# Sums up an instance: blocks, tonnes and mean grade by zone and bench, arcs, blocks worth something, and values by destination.
+# Sums up an instance: blocks, tonnes and mean grade by zone and bench, indices, arcs, blocks worth something, and values by destination.
 #
 #     awk -f summary.awk deposit.blocks deposit.prec deposit.pcpsp
 #
@@ -13,6 +13,8 @@ file == 1 {
     add($7, $4)
     add($7, "all")
     add("all", "all")
+    if ($2 > east) east = $2
+    if ($3 > north) north = $3
     if ($4 > highest) highest = $4
     if ($7 > last) last = $7
     blocks++
@@ -63,7 +65,8 @@ END {
         line_of(zone, "all")
     }
     line_of("all", "all")
-    printf("\n%d arcs, %.2f a block; %d blocks have no predecessor\n", arcs, blocks ? arcs / blocks : 0, free)
+    printf("\nindices x 0 to %d, y 0 to %d, z 0 to %d\n", east, north, highest)
+    printf("%d arcs, %.2f a block; %d blocks have no predecessor\n", arcs, blocks ? arcs / blocks : 0, free)
     printf("%d of %d blocks are worth more than 0, %.2f in all\n\n", worth_count, blocks, worth_value)
     print "destination  best for             tonnes       value of them   value of all blocks"
     for (at = 0; at < destinations; at++) {
