@@ -1,7 +1,7 @@
 -- Decimals of any size and fields of words, beside whole numbers: which values fit them, and that a line of them is of plain fields.
 use Rattle.std.specs.Prelude.{◌≡◌, ℕ, zero, suc, ◌/◌, ◌-◌, ◌^◌, ◌<◌, ◌≤◌, length, slice_index_or, true, false, not, ◌&&◌, List, [], ◌∷◌, ℤ, pos, negsuc, ◌≤ℤ◌, int_le, unsigned_abs, Result, Ok, Err, if◌then◌else◌}
 use Rattle.std.specs.List.{list_all, list_any}
-use Rattle.std.proofs.Common.{refl, sym, subst, arith}
+use Rattle.std.proofs.Common.{refl, sym, ap, subst, arith}
 use Rattle.std.proofs.lemmas.Int.{ints}
 use Rattle.std.proofs.lemmas.List.Sums.{list_all-from_AllPass}
 use Rattle.pit_units.proofs.Standing.{read_stands}
@@ -11,7 +11,7 @@ use Rattle.pit_units.specs.declared.fault.DecFault.{DecFault}
 use Rattle.pit_units.specs.declared.fault.DecFault.TheVariants as dec
 use Rattle.forms.proofs.FormFacts.{read_spelled, true_le}
 use Rattle.forms.proofs.NumberFields.{quotient, whole_found}
-use Rattle.forms.specs.Field.{Field, Decimal, Stepped, Word, Value, Millionths, Bytes, below, millionths, whole}
+use Rattle.forms.specs.Field.{Field, Decimal, Stepped, Word, Value, Millionths, Bytes, below, millionths, whole, whole_stated}
 use Rattle.forms.specs.Fit.{FitsField, Fit, is_fine}
 use Rattle.forms.specs.Read.{number_of, read}
 use Rattle.forms.specs.Spelled.{Spell}
@@ -87,7 +87,7 @@ ArePlain (Decimal decimals low high ∷ form) = ArePlain form
 ArePlain (Stepped decimals step low high ∷ form) = ArePlain form
 ArePlain (Word passes ∷ form) = ((word : List ℕ) → passes word ≡ true → IsField word) × ArePlain form
 
-plain_keyless : (bytes : List ℕ) → list_all is_plain bytes ≡ true → list_any is_colon bytes ≡ false
+pub plain_keyless : (bytes : List ℕ) → list_all is_plain bytes ≡ true → list_any is_colon bytes ≡ false
 plain_keyless bytes plain = none_from_all is_colon bytes (all_weaker is_plain (λ c. not (is_colon c)) plain_no_colon bytes plain)
 
 -- what spells such a form has no colon
@@ -125,3 +125,14 @@ written_fields (Stepped decimals step low high ∷ form) (Millionths m ∷ value
 written_fields (Stepped decimals step low high ∷ form) (Bytes word ∷ values) plain fit = absurd fit.0
 written_fields (Word passes ∷ form) (Millionths m ∷ values) plain fit = absurd fit.0
 written_fields (Word passes ∷ form) (Bytes word ∷ values) plain fit = (plain.0 word fit.0, written_fields form values plain.1 fit.1)
+
+-- a number without decimals that fits a range from 0 on is the whole number that it states
+pub whole_itself : (low : ℕ) (high : ℤ) (value : Value) → FitsField (Decimal 0 (pos low) high) value → value ≡ whole (whole_stated value)
+whole_itself low high (Millionths (pos m)) fits = ap (λ m. Millionths (pos m)) (omega (arith, fits.3))
+whole_itself low high (Millionths (negsuc m)) fits = absurd (omega (arith, ints, fits.0))
+whole_itself low high (Bytes word) fits = absurd fits
+
+-- a number that is not negative is its size
+pub from_zero : (z : ℤ) → pos 0 ≤ℤ z → pos (unsigned_abs z) ≡ z
+from_zero (pos k) h = refl
+from_zero (negsuc k) h = absurd (omega (arith, ints))

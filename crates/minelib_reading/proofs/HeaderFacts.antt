@@ -1,5 +1,5 @@
 -- What a header has once a key with a number was added to it, key by key.
-use Rattle.std.specs.Prelude.{◌≡◌, ◌≢◌, ℕ, zero, suc, ◌<◌, ◌==◌, ◌⊎◌, Bool, true, false, List, ◌∷◌, length, map, Option, Some, None, is_some, unwrap_or, slice_index_or, if◌then◌else◌}
+use Rattle.std.specs.Prelude.{◌≡◌, ◌≢◌, ℕ, zero, suc, ◌<◌, ◌==◌, ◌⊎◌, Bool, true, false, List, ◌∷◌, length, map, not, Option, Some, None, is_some, unwrap_or, slice_index_or, if◌then◌else◌}
 use Rattle.std.specs.List.{Contains, list_all, range_with_len}
 use Rattle.std.proofs.Common.{refl, sym, ◌∙◌, ap, subst, arith, inl, inr, eq-eqb, set, get_or}
 use Rattle.std.proofs.lemmas.Bool.{eqb-true}
@@ -8,6 +8,7 @@ use Rattle.std.proofs.lemmas.List.FromFn.{fill_by_all}
 use Rattle.std.proofs.lemmas.List.Sums.{AllPass-from_list_all, list_all-from_AllPass}
 use Rattle.minelib_reading.specs.HeaderKeys.{header_keys, place, number_of, with_key, count_in, is_given, is_complete}
 use Rattle.minelib_reading.specs.ModelLines.{blank_header}
+use Rattle.minelib_reading.specs.SpelledKeys.{has_key}
 use Rattle.minelib_reading.specs.inner.ModelParts.{number_limit}
 use Rattle.minelib_reading.specs.declared.model_key.Header.{Header}
 use Rattle.minelib_reading.specs.declared.model_key.HeaderKey.{HeaderKey}
@@ -54,6 +55,19 @@ each_with P h k n here others j = subst (P j) (sym (entry h k n j)) (by (place j
     by true e = subst (λ i. P i (Some n)) (one_place k j (sym (eqb-true (place j) (place k) e))) here
     by false e = others j (λ same.
         (let there : (place j == place k) ≡ true = eq-eqb (place j) (place k) (ap (λ i. place i) (sym same)) in absurd cc))
+
+-- the number that was added
+pub with_same : (h : Header) (k : HeaderKey) (n : ℕ) → number_of (with_key h k n) k ≡ Some n
+with_same h k n = each_with (λ j number. k ≡ j → number ≡ Some n) h k n (λ _. refl) (λ j other same. absurd (other same)) k refl
+
+pub count_there : (h : Header) (n : ℕ) (k : HeaderKey) → count_in (with_key h k n) k ≡ n
+count_there h n k = ap (λ number. unwrap_or number 0) (with_same h k n)
+
+-- before the first line just the keys that the problem's files do not have are given
+pub first_given : (problem : Problem) (k : HeaderKey) → is_given k (blank_header problem) ≡ not (has_key problem k)
+unfolding with_key
+first_given Pcpsp = of_keys (λ k. is_given k (blank_header Pcpsp) ≡ not (has_key Pcpsp k)) refl refl refl refl refl refl refl refl
+first_given Cpit = of_keys (λ k. is_given k (blank_header Cpit) ≡ not (has_key Cpit k)) refl refl refl refl refl refl refl refl
 
 -- numbers below the limits of their keys
 pub numbers_below : (h : Header) (k : HeaderKey) (n : ℕ) → n < number_limit k → ((j : HeaderKey) → count_in h j < number_limit j)

@@ -1,12 +1,12 @@
 -- The lines of limits: their forms, what their values say, and their fields one by one.
-use Rattle.std.specs.Prelude.{◌≡◌, ℕ, ◌<◌, ◌≤◌, ◌^◌, ◌==◌, ◌||◌, not, Bool, true, false, List, [], ◌∷◌, length, ℤ, slice_index_or, codes, Result, Ok, Err, if◌then◌else◌}
+use Rattle.std.specs.Prelude.{◌≡◌, ℕ, ◌<◌, ◌≤◌, ◌^◌, ◌==◌, ◌||◌, not, Bool, true, false, List, [], ◌∷◌, length, ℤ, pos, slice_index_or, codes, Result, Ok, Err, if◌then◌else◌}
 use Rattle.std.specs.List.{list_any}
 use Rattle.std.specs.Str.{bytes_eq}
 use Rattle.std.proofs.Common.{refl, sym, subst, arith}
 use Rattle.std.proofs.lemmas.Bool.{eqb-true}
 use Rattle.std.proofs.lemmas.Slice.Eq.{bytes_eq-Decides}
 use Rattle.forms.proofs.NumberFields.{quotient, whole_fits}
-use Rattle.forms.specs.Field.{Value, below, whole}
+use Rattle.forms.specs.Field.{Value, Millionths, Bytes, below, number_at, whole}
 use Rattle.forms.specs.Fit.{Fit, is_fine}
 use Rattle.forms.specs.Read.{read_fields}
 use Rattle.forms.specs.WrittenValues.{written}
@@ -23,9 +23,9 @@ use Rattle.minelib_reading.specs.inner.UncountedItems.{bound_in, limit_width}
 use Rattle.text_lines.specs.declared.text_fault.TextKind.{TextKind}
 use Rattle.text_lines.specs.declared.text_fault.TextKind.TheVariants.{Fields}
 use Rattle.text_lines.proofs.FieldSteps.{first_step, said_of, whole_reads}
-use Rattle.minelib_reading.proofs.FormFields.{ArePlain, any_fits, any_reads, below_there, fit_at}
+use Rattle.minelib_reading.proofs.FormFields.{ArePlain, any_fits, any_reads, below_there, fit_at, whole_itself}
 use Rattle.text_lines.proofs.PlainText.{IsField}
-use Rattle.minelib_reading.specs.ItemForms.{bound_form, limit_form, limit_said}
+use Rattle.minelib_reading.specs.ItemForms.{bound_form, bound_said, bytes_in, limit_form, limit_said}
 use Rattle.minelib_lines.specs.LineValues.{bound_values, limit_values}
 
 pub bound_fine : (t : Bool) → is_fine (bound_form t) ≡ true
@@ -162,3 +162,37 @@ limit_same resources periods (r ∷ t ∷ rest) = by (bytes_eq (slice_index_or r
         rw e (tested true e (length (r ∷ t ∷ rest) == 5) (λ c. (let all = eqb-true (length (r ∷ t ∷ rest)) 5 c in omega (arith, all))))
     by false e =
         rw e (tested false e (length (r ∷ t ∷ rest) == 4) (λ c. (let all = eqb-true (length (r ∷ t ∷ rest)) 4 c in omega (arith, all))))
+
+-- values that fit are those of the limit that they say
+bound_are : (interval : Bool) (values : List Value) → Fit (bound_form interval) values
+    → values ≡ bound_values (bound_said (bytes_in (slice_index_or values 0 (Bytes []))) (number_at values 1) (number_at values 2))
+bound_are true (Bytes word ∷ Millionths v ∷ Millionths w ∷ []) fit =
+    subst (λ word. Bytes word ∷ Millionths v ∷ Millionths w ∷ [] ≡ bound_values (bound_said word v w))
+    (sym (the_letter word (codes "I") fit.0)) refl
+bound_are true (Bytes word ∷ Millionths v ∷ Bytes other ∷ []) fit = absurd fit.1.1.0
+bound_are true (Bytes word ∷ Bytes other ∷ more) fit = absurd fit.1.0
+bound_are true (Millionths m ∷ more) fit = absurd fit.0
+bound_are true [] fit = absurd fit
+bound_are true (Bytes word ∷ []) fit = absurd fit.1
+bound_are true (Bytes word ∷ Millionths v ∷ []) fit = absurd fit.1.1
+bound_are true (Bytes word ∷ Millionths v ∷ w ∷ x ∷ more) fit = absurd fit.1.1.1
+bound_are false (Bytes word ∷ Millionths v ∷ []) fit = by (either word (codes "L") (codes "G") fit.0)
+  where
+    by : Either word (codes "L") (codes "G") → Bytes word ∷ Millionths v ∷ [] ≡ bound_values (bound_said word v (pos 0))
+    by (First is) = subst (λ word. Bytes word ∷ Millionths v ∷ [] ≡ bound_values (bound_said word v (pos 0))) (sym is) refl
+    by (Second is) = subst (λ word. Bytes word ∷ Millionths v ∷ [] ≡ bound_values (bound_said word v (pos 0))) (sym is) refl
+bound_are false (Bytes word ∷ Bytes other ∷ more) fit = absurd fit.1.0
+bound_are false (Millionths m ∷ more) fit = absurd fit.0
+bound_are false [] fit = absurd fit
+bound_are false (Bytes word ∷ []) fit = absurd fit.1
+bound_are false (Bytes word ∷ Millionths v ∷ w ∷ more) fit = absurd fit.1.1
+
+pub limit_are : (resources periods : ℕ) (fields : List (List ℕ)) (values : List Value) → Fit (limit_form resources periods fields) values
+    → values ≡ limit_values (limit_said values)
+limit_are resources periods fields (r ∷ t ∷ values) fit =
+    let x = whole_itself 0 _ r fit.0 in
+    let y = whole_itself 0 _ t fit.1.0 in
+    let rest = bound_are (bytes_eq (slice_index_or fields 2 []) (codes "I")) values fit.1.1 in
+    λ i. x i ∷ y i ∷ rest i
+limit_are resources periods fields [] fit = absurd fit
+limit_are resources periods fields (r ∷ []) fit = absurd fit.1

@@ -1,17 +1,30 @@
 -- Texts denote an instance exactly where their lines spell it, and a text a CPIT.
-use Rattle.std.specs.Prelude.{◌≡◌, ℕ, List, length, Ok}
-use Rattle.std.proofs.Common.{refl, ◌∙◌, ap, subst}
+use Rattle.std.specs.Prelude.{◌≡◌, ℕ, List, [], ◌∷◌, length, map, pos, ℤ, All, Ok}
+use Rattle.std.specs.List.{flat_map}
+use Rattle.std.proofs.Common.{refl, sym, ◌∙◌, ap, subst, arith}
+use Rattle.std.proofs.lemmas.List.Elements.{All-head, All-tail}
 use Rattle.forms.proofs.GrammarFacts.{all_read, read_all_states}
 use Rattle.forms.specs.Grammar.{read_all}
 use Rattle.forms.specs.Steps.{◌>>=◌}
 use Rattle.mine_instance.specs.Cpit.{CpitParts}
+use Rattle.mine_instance.specs.CpitKept.{cpit_of}
+use Rattle.mine_instance.specs.OfCpit.{without_destination}
+use Rattle.mine_instance.specs.OfModel.{instance_with}
+use Rattle.mine_instance.specs.declared.coef.Coef.{Coef}
+use Rattle.mine_instance.specs.declared.cpit.CpitCoef.{CpitCoef}
+use Rattle.pit_parts.specs.declared.block.Block.{Block}
+use Rattle.minelib_lines.specs.LineValues.{at_only_destination}
 use Rattle.mine_instance.specs.declared.instance.Instance.{Instance}
 use Rattle.minelib_reading.specs.BlockLines.{blocks_in}
 use Rattle.minelib_reading.specs.Denotes.{instance_read, denoted, Denotes, cpit_read, cpit_denoted, DenotesCpit}
 use Rattle.minelib_reading.specs.ModelLines.{ModelDraftView, blank_model, finish_model, is_whole, model_grammar, model_in}
+use Rattle.minelib_reading.specs.ModelStates.{StateModel, stated_by}
 use Rattle.minelib_reading.specs.PrecLines.{preds_in}
 use Rattle.text_lines.specs.Reading.{in_file}
+use Rattle.minelib_reading.specs.HeaderKeys.{count_in}
 use Rattle.minelib_reading.specs.SpelledModel.{AreModelLines}
+use Rattle.minelib_reading.specs.StatedModel.{StatedModel, alone, model_of, model_of_cpit}
+use Rattle.minelib_reading.specs.declared.model_key.HeaderKey.TheVariants as key
 use Rattle.minelib_reading.specs.SpelledTexts.{SpellInstance, SpellCpit}
 use Rattle.text_lines.specs.TextLines.{end_of, lines_in}
 use Rattle.minelib_lines.specs.declared.problem.Problem.{Problem}
@@ -20,21 +33,37 @@ use Rattle.text_lines.specs.declared.text_fault.TextFile.TheVariants.{Blocks, Pr
 use Rattle.text_lines.specs.declared.text_fault.TextKind.TheVariants.{Missing}
 use Rattle.minelib_reading.proofs.ModelShapes.{all_fine}
 use Rattle.text_lines.proofs.ReadSteps.{bind_then, same_ok, in_file_ok, then_ok}
+use Rattle.minelib_reading.proofs.SpelledModelBack.{spelled_stated}
+use Rattle.minelib_reading.proofs.SpelledModelRead.{stated_spelled}
+use Rattle.minelib_reading.proofs.ValidHeader.{one_destination}
+use Rattle.minelib_reading.proofs.ValidModel.{model_kept}
 use Rattle.minelib_reading.proofs.SpelledRead.{blocks_back, blocks_spelled, lists_back, preds_spelled}
 
-pub model_spelled : (problem : Problem) (n : ℕ) (text : List ℕ) (d : ModelDraftView) → model_in problem n text ≡ Ok d
-    → AreModelLines problem n (lines_in text) d
-model_spelled problem n text d e =
+-- what is read the lines state by the grammar, and what they state is read
+pub model_states : (problem : Problem) (n : ℕ) (text : List ℕ) (d : ModelDraftView) → model_in problem n text ≡ Ok d
+    → StateModel problem n (lines_in text) d
+model_states problem n text d e =
     bind_then (read_all model_grammar 1 (blank_model problem n) (lines_in text)) (finish_model (end_of text)) d e (λ last read rest.
     let t = then_ok (is_whole last) (record { line = end_of text; kind = Missing }) (Ok last) d rest in
-    subst (AreModelLines problem n (lines_in text)) (same_ok last d t.1)
+    subst (StateModel problem n (lines_in text)) (same_ok last d t.1)
     (read_all_states model_grammar 1 (blank_model problem n) (lines_in text) last all_fine read, t.0))
 
-pub model_back : (problem : Problem) (n : ℕ) (text : List ℕ) (d : ModelDraftView) → AreModelLines problem n (lines_in text) d
+pub states_back : (problem : Problem) (n : ℕ) (text : List ℕ) (d : ModelDraftView) → StateModel problem n (lines_in text) d
     → model_in problem n text ≡ Ok d
-model_back problem n text d are =
+states_back problem n text d are =
     ap (λ r. r >>= finish_model (end_of text)) (all_read model_grammar 1 (blank_model problem n) (lines_in text) d all_fine are.0)
     ∙ rw (are.1) refl
+
+-- so they spell what is read, and what they spell is read
+pub model_spelled : (problem : Problem) (n : ℕ) (text : List ℕ) (d : ModelDraftView) → model_in problem n text ≡ Ok d
+    → AreModelLines problem n (lines_in text) (stated_by d)
+model_spelled problem n text d e = stated_spelled problem n (lines_in text) d (model_states problem n text d e)
+
+pub model_back : (problem : Problem) (n : ℕ) (text : List ℕ) (m : StatedModel) → AreModelLines problem n (lines_in text) m
+    → (d : ModelDraftView) × (model_in problem n text ≡ Ok d) × (stated_by d ≡ m)
+model_back problem n text m are =
+    let b = spelled_stated problem n (lines_in text) m are in
+    (b.0, states_back problem n text b.0 b.1, b.2)
 
 pub denoted_spelled : (blocks prec pcpsp : List ℕ) (i : Instance) → Denotes blocks prec pcpsp i → SpellInstance blocks prec pcpsp i
 unfolding denoted
@@ -46,26 +75,81 @@ denoted_spelled blocks prec pcpsp i e =
       of_blocks = blocks_spelled blocks all (in_file_ok Blocks _ all e1);
       of_preds = (preds_spelled (length all) prec lists (in_file_ok Prec _ lists e2)).1;
       all_preds = (preds_spelled (length all) prec lists (in_file_ok Prec _ lists e2)).0;
-      model = d;
       of_model = model_spelled problem.Pcpsp (length all) pcpsp d (in_file_ok Pcpsp _ d e3);
-      is = refl;
     }))))
+
+-- the instance of blocks, their predecessors and a model
+abbrev instance_stated : List Block → List (List ℕ) → StatedModel → Instance
+instance_stated blocks lists m =
+    instance_with m.header.name m.header.rate m.header.periods m.header.destinations m.header.resources blocks lists m.values m.coefs m.limits
 
 pub spelled_denoted : (blocks prec pcpsp : List ℕ) (i : Instance) → SpellInstance blocks prec pcpsp i → Denotes blocks prec pcpsp i
 unfolding denoted
 spelled_denoted blocks prec pcpsp i h =
+    let m = model_back problem.Pcpsp (length i.blocks) pcpsp (model_of i) h.of_model in
     rw (
       blocks_back blocks i.blocks h.of_blocks,
       lists_back (length i.blocks) prec i.preds h.all_preds h.of_preds,
-      model_back problem.Pcpsp (length i.blocks) pcpsp h.model h.of_model,
-    ) (ap Ok h.is)
+      m.1,
+    ) (ap (λ m. Ok (instance_stated i.blocks i.preds m)) m.2)
+
+-- the values of a CPIT are those of its only destination
+each_alone : (rows : List (List ℤ)) → All (λ row. length row ≡ 1) rows → map alone (flat_map (λ values. values) rows) ≡ rows
+each_alone [] one = refl
+each_alone ((v ∷ []) ∷ rows) one = ap (λ more. (v ∷ []) ∷ more) (each_alone rows (All-tail (λ row. length row ≡ 1) (v ∷ []) rows one))
+each_alone ([] ∷ rows) one = absurd (omega (arith, All-head (λ row. length row ≡ 1) [] rows one))
+each_alone ((v ∷ w ∷ row) ∷ rows) one = absurd (omega (arith, All-head (λ row. length row ≡ 1) (v ∷ w ∷ row) rows one))
+
+pub values_joined : (values : List ℤ) → flat_map (λ values. values) (map alone values) ≡ values
+values_joined [] = refl
+values_joined (v ∷ values) = ap (λ more. v ∷ more) (values_joined values)
+
+-- and its coefficients those of it
+all_first : (coefs : List Coef) → All (λ c. c.d ≡ 0) coefs → map at_only_destination (map without_destination coefs) ≡ coefs
+all_first [] of_it = refl
+all_first (c ∷ coefs) of_it =
+    let first : 0 ≡ c.d = sym (All-head (λ (c : Coef). c.d ≡ 0) c coefs of_it) in
+    let rest = all_first coefs (All-tail (λ (c : Coef). c.d ≡ 0) c coefs of_it) in
+    λ i. record c { d = first i } ∷ rest i
+
+pub coefs_without : (coefs : List CpitCoef) → map without_destination (map at_only_destination coefs) ≡ coefs
+coefs_without [] = refl
+coefs_without (c ∷ coefs) = ap (λ more. c ∷ more) (coefs_without coefs)
 
 pub cpit_spelled : (n : ℕ) (text : List ℕ) (c : CpitParts) → DenotesCpit n text c → SpellCpit n text c
 unfolding cpit_denoted
 cpit_spelled n text c e =
     bind_then (in_file Cpit (model_in problem.Cpit n text)) _ c e (λ d e1 rest.
-    (d, model_spelled problem.Cpit n text d (in_file_ok Cpit _ d e1), same_ok (cpit_read d) c rest))
+    let read = in_file_ok Cpit _ d e1 in
+    let are = model_spelled problem.Cpit n text d read in
+    let kept = model_kept problem.Cpit n 1 (lines_in text) d (model_states problem.Cpit n text d read).0 in
+    let one = one_destination d.header kept.header.own in
+    let rows = sym (each_alone d.values (subst (λ k. All (λ values. length values ≡ k) d.values) one kept.values)) in
+    let coefs = sym (all_first d.coefs are.of_problem.1) in
+    let same : stated_by d ≡ model_of_cpit (cpit_read d) =
+    λ i. record {
+      header = record {
+        name = d.name;
+        periods = count_in d.header key.Periods;
+        destinations = one i;
+        resources = count_in d.header key.Resources;
+        rate = pos (count_in d.header key.Rate);
+      };
+      values = rows i;
+      coefs = coefs i;
+      limits = d.limits;
+    } in
+    subst (SpellCpit n text) (same_ok (cpit_read d) c rest) (subst (AreModelLines problem.Cpit n (lines_in text)) same are))
 
 pub spelled_cpit : (n : ℕ) (text : List ℕ) (c : CpitParts) → SpellCpit n text c → DenotesCpit n text c
 unfolding cpit_denoted
-spelled_cpit n text c (d, are, is) = rw (model_back problem.Cpit n text d are) (ap Ok is)
+spelled_cpit n text c are =
+    let m = model_back problem.Cpit n text (model_of_cpit c) are in
+    rw (m.1) (ap Ok (ap cpit_stated m.2 ∙ again))
+  where
+    cpit_stated : StatedModel → CpitParts
+    cpit_stated m = cpit_of m.header.name m.header.rate m.header.periods m.header.resources
+        (flat_map (λ values. values) m.values) (map without_destination m.coefs) m.limits
+
+    again : cpit_stated (model_of_cpit c) ≡ c
+    again = λ i. record c { values = values_joined c.values i; coefs = coefs_without c.coefs i }

@@ -30,7 +30,7 @@ use Rattle.minelib_lines.specs.declared.problem.Problem.{Problem}
 use Rattle.minelib_lines.specs.declared.problem.Problem.TheVariants as problem
 use Rattle.text_lines.specs.declared.text_fault.TextFile.TheVariants.{Blocks, Prec, Pcpsp, Cpit}
 use Rattle.minelib_reading.proofs.HeaderFacts.{each_given}
-use Rattle.minelib_reading.proofs.SpelledDenotes.{model_spelled}
+use Rattle.minelib_reading.proofs.SpelledDenotes.{model_states}
 use Rattle.text_lines.proofs.ReadSteps.{bind_then, same_ok, in_file_ok}
 use Rattle.minelib_reading.proofs.ValidHeader.{KeepsOwn, IsInRange, one_destination}
 use Rattle.minelib_reading.proofs.ValidModel.{KeepsModel, model_kept}
@@ -60,7 +60,7 @@ in_millionths rate most = (omega (arith, ints), omega (arith, ints))
 
 pub model_is_valid : (problem : Problem) (n : ℕ) (text : List ℕ) (d : ModelDraftView) → model_in problem n text ≡ Ok d → IsModel problem n d
 model_is_valid problem n text d e =
-    let are = model_spelled problem n text d e in
+    let are = model_states problem n text d e in
     let parts = and_parts (is_complete d.header && (length d.values == d.blocks)) (is_limits d.section) are.1 in
     let inner = and_parts (is_complete d.header) (length d.values == d.blocks) parts.0 in
     whole problem n d (model_kept problem n 1 (lines_in text) d are.0) inner.0 (eqb-true (length d.values) d.blocks inner.1)

@@ -6,7 +6,7 @@ use Rattle.std.proofs.lemmas.Bool.{eqb-true}
 use Rattle.std.proofs.lemmas.List.Elements.{All-head, All-tail}
 use Rattle.forms.proofs.FormFacts.{counted}
 use Rattle.forms.proofs.NumberFields.{quotient, whole_fits}
-use Rattle.forms.specs.Field.{Value, Millionths, millionths, whole}
+use Rattle.forms.specs.Field.{Value, Millionths, Bytes, millionths, whole, whole_at}
 use Rattle.forms.specs.Fit.{Fit, is_fine}
 use Rattle.forms.specs.Read.{read_fields}
 use Rattle.forms.specs.Steps.{◌>>=◌}
@@ -23,7 +23,7 @@ use Rattle.minelib_reading.specs.Fields.{any}
 use Rattle.minelib_reading.specs.ItemForms.{row_said, values_form}
 use Rattle.minelib_reading.specs.inner.ModelParts.{values_of, values_said}
 use Rattle.minelib_lines.specs.LineValues.{values_values}
-use Rattle.minelib_reading.proofs.FormFields.{ArePlain, any_fits, any_reads}
+use Rattle.minelib_reading.proofs.FormFields.{ArePlain, any_fits, any_reads, whole_itself}
 
 -- a decimal for each destination
 pub many_fine : (k : ℕ) → is_fine (replicate k any) ≡ true
@@ -132,3 +132,19 @@ values_kind n destinations before fields found counted = by (length fields == de
     by : (t : Bool) → (length fields == destinations + 1) ≡ t → values_of n destinations before fields ≡ Err (kind_by t found)
     by true e = counted (eqb-true (length fields) (destinations + 1) e)
     by false e = rw (values_width n destinations, e) refl
+
+-- values that fit are those of the row that they say, of the block that they name
+many_are : (k : ℕ) (values : List Value) → Fit (replicate k any) values → values ≡ map Millionths (map millionths values)
+many_are zero [] fit = refl
+many_are zero (v ∷ values) fit = absurd fit
+many_are (suc k) [] fit = absurd fit
+many_are (suc k) (Millionths m ∷ values) fit = ap (λ more. Millionths m ∷ more) (many_are k values fit.1)
+many_are (suc k) (Bytes word ∷ values) fit = absurd fit.0
+
+pub values_are : (n destinations block : ℕ) (values : List Value) → Fit (values_form n destinations) values → whole_at values 0 ≡ block
+    → values ≡ values_values block (row_said values)
+values_are n destinations block [] fit is = absurd fit
+values_are n destinations block (b ∷ values) fit is =
+    let first = whole_itself 0 _ b fit.0 ∙ ap whole is in
+    let rest = many_are destinations values fit.1 in
+    λ i. first i ∷ rest i

@@ -5,7 +5,11 @@ pub mod HeaderKeys
 pub mod ItemForms
 pub mod KeyFields
 pub mod ModelLines
+pub mod ModelStates
 pub mod PrecLines
+pub mod SpelledKeys
+pub mod SpelledLines
 pub mod SpelledModel
 pub mod SpelledTexts
+pub mod StatedModel
 pub mod inner

@@ -1,21 +1,91 @@
--- The lines of a model file that state a model to its end, and the first line behind which nothing makes it one.
-use Rattle.std.specs.Prelude.{◌≡◌, ℕ, true, List, [], ◌∷◌, ◌++◌}
-use Rattle.forms.specs.GrammarStates.{AllState}
-use Rattle.minelib_reading.specs.ModelLines.{ModelDraftView, blank_model, is_whole, model_grammar}
-use Rattle.text_lines.specs.TextLines.{Line, lines_in, end_of}
-use Rattle.minelib_lines.specs.declared.problem.Problem.{Problem}
+-- How the lines of a model file spell what it states: those of the header, and then the sections, each behind the line of its key.
+-- And the first line with which they can no longer become a model.
+use Rattle.std.specs.Prelude.{◌≡◌, ◌≢◌, ℕ, false, List, [], ◌∷◌, ◌++◌, length, All, AllPairs, IsTrue, ℤ}
+use Rattle.std.specs.List.{Contains}
+use Rattle.forms.specs.Spelled.{Says, Spell}
+use Rattle.pit_parts.specs.PlanKept.{RiseStrictly, is_turned}
+use Rattle.pit_parts.specs.declared.limit.Limit.{Limit}
+use Rattle.mine_instance.specs.Order.{comes_before}
+use Rattle.mine_instance.specs.declared.coef.Coef.{Coef}
+use Rattle.text_lines.specs.TextLines.{Line, fields_of, lines_in, end_of}
 use Rattle.text_lines.specs.declared.text_fault.LineFault.{LineFault}
 use Rattle.text_lines.specs.declared.text_fault.TextKind.TheVariants.{Missing}
+use Rattle.minelib_lines.specs.LineValues.{coef_values, limit_values, values_values}
+use Rattle.minelib_lines.specs.declared.problem.Problem.{Problem}
+use Rattle.minelib_lines.specs.declared.problem.Problem.TheVariants.{Pcpsp, Cpit}
+use Rattle.minelib_reading.specs.ItemForms.{coef_form, limit_form, values_form}
+use Rattle.minelib_reading.specs.KeyFields.{field_of}
+use Rattle.minelib_reading.specs.SpelledKeys.{IsKeyLine, has_key, key_text, section_text, value_of}
+use Rattle.minelib_reading.specs.SpelledLines.{AreLines}
+use Rattle.minelib_reading.specs.StatedModel.{StatedHeader, StatedModel}
+use Rattle.minelib_reading.specs.declared.model_key.HeaderKey.{HeaderKey}
+use Rattle.minelib_reading.specs.declared.model_key.Section.TheVariants.{Objective, Coefs, Limits}
 
--- all lines of a model file, of n blocks: they state this, and nothing of it is lacking
-abbrev pub AreModelLines : Problem → ℕ → List Line → ModelDraftView → Type 0
-AreModelLines problem n lines d =
-    AllState model_grammar 1 (blank_model problem n) lines d × (is_whole d ≡ true)
+-- a CPIT has one destination, and its coefficients are of it
+abbrev pub IsOfProblem : Problem → StatedModel → Type 0
+IsOfProblem Pcpsp m = Unit {0}
+IsOfProblem Cpit m = (m.header.destinations ≡ 1) × All (λ c. c.d ≡ 0) m.coefs
 
--- the lines begin a model of n blocks: with some lines behind them they state one
+-- `KEY: value` of a header key: the value spells what the header states by it
+pub record IsHeaderLine (problem : Problem) (n : ℕ) (h : StatedHeader) (line : List ℕ)
+    (k : HeaderKey) : Type 0 where
+  pub value : List ℕ
+  pub is_key : IsKeyLine (key_text k) line (value ∷ [])
+  pub of_problem : IsTrue (has_key problem k)
+  pub says : Says (field_of problem k) value (value_of problem n h k)
+
+-- one line for each header key of the problem, in any order
+pub record AreHeaderLines (problem : Problem) (n : ℕ) (lines : List Line)
+    (h : StatedHeader) : Type 0 where
+  pub keys : List HeaderKey
+  pub spelled : AreLines (λ _ line k. IsHeaderLine problem n h line k) 0 lines keys
+  pub once : AllPairs (λ k j. k ≢ j) keys
+  pub all : (k : HeaderKey) → IsTrue (has_key problem k) → Contains keys k
+
+-- how the fields of a line spell a block's values, a coefficient and a limit, in a file of n blocks with this header
+abbrev pub SpellValues : ℕ → StatedHeader → ℕ → List (List ℕ) → List ℤ → Type 0
+SpellValues n h block fields values =
+    Spell (values_form n h.destinations) fields (values_values block values)
+
+abbrev pub SpellCoef : Problem → ℕ → StatedHeader → List (List ℕ) → Coef → Type 0
+SpellCoef problem n h fields c =
+    Spell (coef_form problem n h.destinations h.resources) fields (coef_values problem c)
+
+abbrev pub SpellLimit : StatedHeader → List (List ℕ) → Limit → Type 0
+SpellLimit h fields l = Spell (limit_form h.resources h.periods fields) fields (limit_values l)
+
+-- all lines of a model file, of n blocks: those of the header, and then three sections, each behind the line of its key. A line of values
+-- for each block, in order of identifier; the coefficients, which rise; the limits, which rise, with no interval turned
+pub record AreModelLines (problem : Problem) (n : ℕ) (lines : List Line)
+    (m : StatedModel) : Type 0 where
+  pub heading : List Line
+  pub objective : Line
+  pub values : List Line
+  pub coefficients : Line
+  pub coefs : List Line
+  pub resource_limits : Line
+  pub limits : List Line
+  pub cut : lines
+      ≡ heading ++ (objective ∷ values ++ (coefficients ∷ coefs ++ (resource_limits ∷ limits)))
+  pub of_problem : IsOfProblem problem m
+  pub spell_header : AreHeaderLines problem n heading m.header
+  pub begin_values : IsKeyLine (section_text Objective) objective.text []
+  pub spell_values :
+      AreLines (λ block line vs. SpellValues n m.header block (fields_of line) vs) 0 values m.values
+  pub all_values : length m.values ≡ n
+  pub begin_coefs : IsKeyLine (section_text Coefs) coefficients.text []
+  pub spell_coefs :
+      AreLines (λ _ line c. SpellCoef problem n m.header (fields_of line) c) 0 coefs m.coefs
+  pub rising_coefs : AllPairs (λ c e. IsTrue (comes_before c e)) m.coefs
+  pub begin_limits : IsKeyLine (section_text Limits) resource_limits.text []
+  pub spell_limits : AreLines (λ _ line l. SpellLimit m.header (fields_of line) l) 0 limits m.limits
+  pub straight_limits : All (λ l. is_turned l.bound ≡ false) m.limits
+  pub rising_limits : RiseStrictly m.limits
+
+-- the lines begin a model of n blocks: with some lines behind them they spell one
 abbrev pub BeginModel : Problem → ℕ → List Line → Type 0
-BeginModel problem n lines = (behind : List Line) × (d : ModelDraftView)
-    × AreModelLines problem n (lines ++ behind) d
+BeginModel problem n lines = (behind : List Line) × (m : StatedModel)
+    × AreModelLines problem n (lines ++ behind) m
 
 -- the lines before that of this number begin a model, and with it they begin none
 pub record IsFirstSpoiled (problem : Problem) (n : ℕ) (lines : List Line)
@@ -28,9 +98,9 @@ pub record IsFirstSpoiled (problem : Problem) (n : ℕ) (lines : List Line)
   pub begun : BeginModel problem n before
   pub spoiled : ¬ (BeginModel problem n (before ++ bad ∷ []))
 
--- all lines begin a model, and state none
+-- all lines begin a model, and spell none
 pub record EndsEarly (problem : Problem) (n : ℕ) (text : List ℕ) (fault : LineFault) : Type 0 where
   pub place : fault.line ≡ end_of text
   pub kind : fault.kind ≡ Missing
   pub begun : BeginModel problem n (lines_in text)
-  pub no_model : (d : ModelDraftView) → ¬ (AreModelLines problem n (lines_in text) d)
+  pub no_model : (m : StatedModel) → ¬ (AreModelLines problem n (lines_in text) m)

@@ -1,24 +1,31 @@
 //! What holds of reading, whatever the texts say: each contract is a law, and a call of it changes nothing.
 
-ghost use Rattle.std.specs.Prelude.{◌≡◌, ◌↔◌, ◌⊎◌, ℕ, ◌≤◌, [], List, length, Ok, Err};
+ghost use Rattle.std.specs.Prelude.{◌≡◌, ◌↔◌, ◌⊎◌, ℕ, ◌≤◌, [], ◌∷◌, ◌++◌, List, length, ℤ, Ok, Err};
 ghost use Rattle.forms.specs.Spelled.{Spell};
 ghost use Rattle.forms.specs.GrammarStates.{AllState, IsFirstFault};
 ghost use Rattle.forms.specs.ShapeStates.{States};
 ghost use Rattle.mine_instance.specs.Cpit.{CpitParts};
 ghost use Rattle.mine_instance.specs.CpitKept.{IsCpit};
 ghost use Rattle.mine_instance.specs.Valid.{ArePredsOf, IsValid};
+ghost use Rattle.mine_instance.specs.declared.coef.Coef.{Coef};
 ghost use Rattle.mine_instance.specs.declared.instance.Instance.{Instance as OneInstance};
 ghost use Rattle.minelib_reading.specs.BlockLines.{block_form, block_grammar, block_shape, blocks_in};
 ghost use Rattle.minelib_reading.specs.Denotes.{Denotes, DenotesCpit};
 ghost use Rattle.minelib_lines.specs.LineValues.{block_values, preds_values};
-ghost use Rattle.minelib_reading.specs.ModelLines.{ModelDraftView, model_in};
+ghost use Rattle.minelib_reading.specs.KeyFields.{field_of};
+ghost use Rattle.minelib_reading.specs.ModelLines.{ModelDraftView, coef_line, header_line, limit_line, model_in, values_line};
+ghost use Rattle.minelib_reading.specs.ModelStates.{StateModel, stated_by};
 ghost use Rattle.minelib_reading.specs.PrecLines.{LacksLines, prec_grammar, preds_form, preds_in, preds_shape};
-ghost use Rattle.minelib_reading.specs.SpelledModel.{AreModelLines};
+ghost use Rattle.minelib_reading.specs.SpelledKeys.{value_of};
+ghost use Rattle.minelib_reading.specs.SpelledModel.{AreModelLines, SpellCoef, SpellLimit, SpellValues};
 ghost use Rattle.minelib_reading.specs.SpelledTexts.{SpellCpit, SpellInstance};
+ghost use Rattle.minelib_reading.specs.StatedModel.{StatedModel};
+ghost use Rattle.minelib_reading.specs.declared.model_key.HeaderKey.{HeaderKey};
 ghost use Rattle.text_lines.specs.TextLines.{fields_of, lines_in};
 ghost use Rattle.minelib_lines.specs.declared.problem.Problem.{Problem};
 ghost use Rattle.text_lines.specs.declared.text_fault.LineFault.{LineFault};
 ghost use Rattle.pit_parts.specs.declared.block.Block.{Block};
+ghost use Rattle.pit_parts.specs.declared.limit.Limit.{Limit};
 ghost use Rattle.pit_parts.specs.declared.ranges.TheConstants.{MAX_BLOCKS};
 
 /// The instance that three texts denote is valid.
@@ -34,19 +41,38 @@ pub fn cpit_read_is_valid()
         → IsCpit c × (length c.values ≡ n) }
 {}
 
-/// A line states exactly what its fields spell.
+/// A line states what its fields spell.
 ///
 /// - `blocks`: the line behind `before` others states a block exactly where its fields spell the number `before` and
 ///   the block.
 /// - `preds`: the line of the block `own` of n blocks states predecessors exactly where its fields spell `own`, how
 ///   many they are and each of them, and where they are identifiers of the n blocks, none twice and none the block's
 ///   own.
+/// - `header`: the one field behind a header key's colon spells what the model then states by that key.
+/// - `values`, `coefs`, `limits`: a line of a section adds the values, the coefficient or the limit that its fields
+///   spell.
 pub fn lines_state_what_they_spell()
     ensures blocks { (before : ℕ) (line : List ℕ) (b : Block) → States (block_shape before line) b
         ↔ Spell block_form (fields_of line) (block_values before b) }
     ensures preds { (n own : ℕ) (line ids : List ℕ) → States (preds_shape n own line) ids
         ↔ (Spell (preds_form n (fields_of line)) (fields_of line) (preds_values own ids)
         × ArePredsOf own n ids) }
+    ensures header { (d next : ModelDraftView) (k : HeaderKey) (fields : List (List ℕ))
+        → States (header_line d k fields) next
+        → Spell (field_of d.problem k ∷ []) fields
+        (value_of d.problem d.blocks (stated_by next).header k ∷ []) }
+    ensures values { (d next : ModelDraftView) (fields : List (List ℕ))
+        → States (values_line d fields) next
+        → (vs : List ℤ) × (next ≡ record d { values = d.values ++ vs ∷ [] })
+        × SpellValues d.blocks (stated_by d).header (length d.values) fields vs }
+    ensures coefs { (d next : ModelDraftView) (fields : List (List ℕ))
+        → States (coef_line d fields) next
+        → (c : Coef) × (next ≡ record d { coefs = d.coefs ++ c ∷ [] })
+        × SpellCoef d.problem d.blocks (stated_by d).header fields c }
+    ensures limits { (d next : ModelDraftView) (fields : List (List ℕ))
+        → States (limit_line d fields) next
+        → (l : Limit) × (next ≡ record d { limits = d.limits ++ l ∷ [] })
+        × SpellLimit (stated_by d).header fields l }
 {}
 
 /// Where a text is read as blocks, each line that is not skipped states one of them, in order.
@@ -62,19 +88,31 @@ pub fn prec_lines_are_spelled()
         → AllState (prec_grammar n) 1 [] (lines_in text) lists }
 {}
 
-/// Where a model file of n blocks is read, its lines that are not skipped state it by the grammar, one after the other,
-/// and no line is lacking.
+/// Where a model file of n blocks is read, its lines that are not skipped spell what it states.
+///
+/// - `lines`: they are one line for each header key, in any order, and then those of the sections: the key of each
+///   section, alone, and behind it a line for each block's values, for each coefficient and for each limit, in order. The
+///   value of a header key and the fields of a section's line spell the numbers of their part.
+/// - `grammar`: they state it one after the other, and no line is lacking.
 pub fn model_lines_are_spelled()
-    ensures { (problem : Problem) (n : ℕ) (text : List ℕ) (d : ModelDraftView)
+    ensures lines { (problem : Problem) (n : ℕ) (text : List ℕ) (d : ModelDraftView)
         → model_in problem n text ≡ Ok d
-        → AreModelLines problem n (lines_in text) d }
+        → AreModelLines problem n (lines_in text) (stated_by d) }
+    ensures grammar { (problem : Problem) (n : ℕ) (text : List ℕ) (d : ModelDraftView)
+        → model_in problem n text ≡ Ok d
+        → StateModel problem n (lines_in text) d }
 {}
 
-/// Lines that state a model by the grammar are read as that model. Header keys may stand in any order, and numbers in
-/// any spelling.
+/// Lines that spell what a model file states are read as it.
+///
+/// - `lines`: the header keys may stand in any order, and numbers in any spelling.
+/// - `grammar`: lines that state a model one after the other, with none lacking, are read as that model.
 pub fn spelled_models_are_read()
-    ensures { (problem : Problem) (n : ℕ) (text : List ℕ) (d : ModelDraftView)
-        → AreModelLines problem n (lines_in text) d → model_in problem n text ≡ Ok d }
+    ensures lines { (problem : Problem) (n : ℕ) (text : List ℕ) (m : StatedModel)
+        → AreModelLines problem n (lines_in text) m
+        → (d : ModelDraftView) × (model_in problem n text ≡ Ok d) × (stated_by d ≡ m) }
+    ensures grammar { (problem : Problem) (n : ℕ) (text : List ℕ) (d : ModelDraftView)
+        → StateModel problem n (lines_in text) d → model_in problem n text ≡ Ok d }
 {}
 
 /// Three texts denote an instance exactly where their lines spell it.

@@ -17,7 +17,7 @@ use Rattle.minelib_reading.proofs.BlockLineFacts.{block_back, block_fits}
 use Rattle.minelib_reading.proofs.SpelledRead.{blocks_read}
 use Rattle.minelib_text.proofs.LinesBack.{AdmitsEach, items_admitted, text_read}
 use Rattle.minelib_reading.proofs.FormFields.{decimal_field}
-use Rattle.minelib_text.proofs.Places.{is_place}
+use Rattle.minelib_reading.proofs.Places.{is_place}
 use Rattle.text_lines.proofs.PlainText.{AreFields}
 use Rattle.minelib_text.proofs.PlainLines.{fields_again, fields_line}
 

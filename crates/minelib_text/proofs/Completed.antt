@@ -22,7 +22,8 @@ use Rattle.minelib_reading.specs.declared.model_key.Section.{Section}
 use Rattle.minelib_reading.specs.declared.model_key.Section.TheVariants.{Heading, Objective, Coefs, Limits}
 use Rattle.minelib_reading.proofs.HeaderFacts.{each_with, each_key, all_given, contains_cases}
 use Rattle.minelib_text.proofs.ItemsBack.{values_again, values_fields}
-use Rattle.minelib_text.proofs.KeysBack.{IsStep, heading, in_all, section_step, word_field, name_step, type_step, blocks_step, periods_step, destinations_step, resources_step, general_step, rate_step}
+use Rattle.minelib_reading.proofs.LinesThen.{heading}
+use Rattle.minelib_text.proofs.KeysBack.{IsStep, in_all, section_step, word_field, name_step, type_step, blocks_step, periods_step, destinations_step, resources_step, general_step, rate_step}
 use Rattle.minelib_text.proofs.ModelBack.{item_admitted}
 use Rattle.minelib_reading.proofs.ModelShapes.{admitted_states, values_takes}
 use Rattle.minelib_reading.proofs.ValidHeader.{KeepsOwn}

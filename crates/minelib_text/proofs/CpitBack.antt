@@ -1,14 +1,12 @@
 -- The text of a CPIT denotes it.
-use Rattle.std.proofs.Common.{◌≡◌, ℕ, ◌+◌, ◌<◌, List, [], ◌∷◌, map, length, ℤ, arith, refl, ap}
+use Rattle.std.proofs.Common.{◌≡◌, ℕ, ◌+◌, ◌<◌, List, [], ◌∷◌, map, length, arith, refl, ap}
 use Rattle.std.specs.Prelude.{Ok, All}
-use Rattle.std.specs.List.{flat_map}
 use Rattle.std.proofs.lemmas.List.{get_or-map, length-map}
 use Rattle.std.proofs.lemmas.List.Elements.{All-map, All-nil, All-cons}
 use Rattle.mine_instance.specs.Cpit.{CpitParts}
 use Rattle.mine_instance.specs.CpitKept.{IsCpit}
 use Rattle.mine_instance.specs.OfCpit.{without_destination}
 use Rattle.mine_instance.specs.Valid.{AreCoefs}
-use Rattle.mine_instance.specs.declared.cpit.CpitCoef.{CpitCoef}
 use Rattle.minelib_reading.specs.Denotes.{cpit_denoted}
 use Rattle.minelib_lines.specs.Kept.{IsDecimal, IsKeptCpit}
 use Rattle.minelib_lines.specs.Lines.{line_of, lines_from}
@@ -17,26 +15,17 @@ use Rattle.minelib_lines.specs.LineValues.{at_only_destination}
 use Rattle.minelib_writing.specs.Written.{text_cpit, coef_fields, value_fields}
 use Rattle.minelib_lines.specs.declared.problem.Problem.TheVariants.{Cpit}
 use Rattle.minelib_reading.specs.declared.model_key.Section.TheVariants.{Limits}
-use Rattle.minelib_text.proofs.NumbersBack.{from_zero}
-use Rattle.minelib_text.proofs.KeysBack.{draft, full_header, cpit_header}
+use Rattle.minelib_reading.specs.StatedModel.{alone}
+use Rattle.minelib_reading.proofs.FormFields.{from_zero}
+use Rattle.minelib_reading.proofs.SpelledDenotes.{coefs_without, values_joined}
+use Rattle.minelib_reading.proofs.LinesThen.{draft}
+use Rattle.minelib_text.proofs.KeysBack.{full_header, cpit_header}
 use Rattle.minelib_text.proofs.ModelBack.{IsModel, model_again}
 
 lines_from-map : {A B : Type 0} (fields : ℕ → B → List (List ℕ)) (f : A → B) (n : ℕ) (xs : List A)
     → lines_from fields n (map f xs) ≡ lines_from (λ k x. fields k (f x)) n xs
 lines_from-map fields f n [] = refl
 lines_from-map fields f n (x ∷ xs) = ap (λ lines. line_of (fields n (f x)) ∷ lines) (lines_from-map fields f (n + 1) xs)
-
--- a value as those of the only destination
-abbrev alone : ℤ → List ℤ
-alone v = v ∷ []
-
-values_joined : (vs : List ℤ) → flat_map (λ values. values) (map alone vs) ≡ vs
-values_joined [] = refl
-values_joined (v ∷ vs) = ap (λ rest. v ∷ rest) (values_joined vs)
-
-coefs_without : (cs : List CpitCoef) → map without_destination (map at_only_destination cs) ≡ cs
-coefs_without [] = refl
-coefs_without (c ∷ cs) = ap (λ rest. c ∷ rest) (coefs_without cs)
 
 coefs_of : (c : CpitParts) → IsCpit c → AreCoefs (length c.values) 1 c.resources (map at_only_destination c.coefs)
 coefs_of c is = record {

@@ -7,6 +7,7 @@ use Rattle.forms.specs.GrammarStates.{AllState, IsFirstFault}
 use Rattle.forms.specs.ShapeStates.{Fails}
 use Rattle.forms.specs.Steps.{◌>>=◌}
 use Rattle.minelib_reading.specs.ModelLines.{ModelDraftView, blank_model, finish_model, is_whole, model_grammar, model_in, model_line}
+use Rattle.minelib_reading.specs.ModelStates.{stated_by}
 use Rattle.minelib_reading.specs.SpelledModel.{BeginModel, EndsEarly, IsFirstSpoiled}
 use Rattle.text_lines.specs.TextLines.{Line, lines_in, end_of}
 use Rattle.minelib_lines.specs.declared.problem.Problem.{Problem}
@@ -15,6 +16,9 @@ use Rattle.text_lines.specs.declared.text_fault.TextKind.{TextKind}
 use Rattle.text_lines.specs.declared.text_fault.TextKind.TheVariants.{Missing}
 use Rattle.minelib_text.proofs.Completed.{completed}
 use Rattle.minelib_reading.proofs.ModelShapes.{all_fine}
+use Rattle.minelib_reading.proofs.LinesThen.{joined}
+use Rattle.minelib_reading.proofs.SpelledModelBack.{spelled_stated}
+use Rattle.minelib_reading.proofs.SpelledModelRead.{stated_spelled}
 use Rattle.text_lines.proofs.ReadSteps.{err_same}
 use Rattle.minelib_reading.proofs.ValidModel.{model_kept}
 
@@ -58,13 +62,7 @@ stops number s (line ∷ lines) fault (inr (next, states, more)) =
       fails = deeper.fails;
     }
 
--- lines, and then more
-joined : (number : ℕ) (s t u : ModelDraftView) (lines more : List Line) → AllState model_grammar number s lines t
-    → ((number : ℕ) → AllState model_grammar number t more u) → AllState model_grammar number s (lines ++ more) u
-joined number s t u [] more all behind = subst (λ state. AllState model_grammar number state more u) all (behind number)
-joined number s t u (line ∷ lines) more (next, states, all) behind = (next, states, joined (suc number) next t u lines more all behind)
-
--- and then one that fails
+-- lines, and then one that fails
 failing_behind : (number : ℕ) (s t : ModelDraftView) (lines : List Line) (bad : Line) (more : List Line) (kind : TextKind)
     → AllState model_grammar number s lines t → Fails (model_line t bad.text) kind
     → IsFirstFault model_grammar number s (lines ++ bad ∷ more) (record { line = bad.number; kind = kind })
@@ -77,15 +75,18 @@ begins : (problem : Problem) (n : ℕ) (lines : List Line) (d : ModelDraftView) 
     → AllState model_grammar 1 (blank_model problem n) lines d → BeginModel problem n lines
 begins problem n lines d few all =
     let c = completed problem n d few (model_kept problem n 1 lines d all) in
-    (c.rest, c.last, (joined 1 (blank_model problem n) d c.last lines c.rest all c.states, c.whole))
+    let states = joined 1 (blank_model problem n) d c.last lines c.rest all c.states in
+    (c.rest, stated_by c.last, stated_spelled problem n (lines ++ c.rest) c.last (states, c.whole))
 
 -- a line that fails begins none
 spoils : (problem : Problem) (n : ℕ) (before : List Line) (bad : Line) (d : ModelDraftView) (kind : TextKind)
     → AllState model_grammar 1 (blank_model problem n) before d → Fails (model_line d bad.text) kind
     → ¬ (BeginModel problem n (before ++ bad ∷ []))
-spoils problem n before bad d kind all fails (rest, last, (states, whole)) =
+spoils problem n before bad d kind all fails (rest, m, are) =
+    let stated = spelled_stated problem n ((before ++ bad ∷ []) ++ rest) m are in
+    let last = stated.0 in
     let lines = append_assoc before (bad ∷ []) rest in
-    let read = all_read model_grammar 1 (blank_model problem n) ((before ++ bad ∷ []) ++ rest) last all_fine states in
+    let read = all_read model_grammar 1 (blank_model problem n) ((before ++ bad ∷ []) ++ rest) last all_fine stated.1.0 in
     let fault = fault_read model_grammar 1 (blank_model problem n) (before ++ bad ∷ rest) _ all_fine
     (failing_behind 1 (blank_model problem n) d before bad rest kind all fails) in
     absurd (not_both _ last _ read (ap (read_all model_grammar 1 (blank_model problem n)) lines ∙ fault))
@@ -112,7 +113,9 @@ bad_model problem n text fault few e = by (read_all model_grammar 1 (blank_model
           kind = sym (ap (λ (f : LineFault). f.kind) same);
           begun = begins problem n (lines_in text) d few
               (read_all_states model_grammar 1 (blank_model problem n) (lines_in text) d all_fine read);
-          no_model = λ last are. other last (all_read model_grammar 1 (blank_model problem n) (lines_in text) last all_fine are.0) are.1;
+          no_model = λ m are.
+              let stated = spelled_stated problem n (lines_in text) m are in
+              other stated.0 (all_read model_grammar 1 (blank_model problem n) (lines_in text) stated.0 all_fine stated.1.0) stated.1.1;
         }
       where
         other : (last : ModelDraftView) → read_all model_grammar 1 (blank_model problem n) (lines_in text) ≡ Ok last

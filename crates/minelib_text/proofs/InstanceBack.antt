@@ -10,9 +10,10 @@ use Rattle.minelib_writing.specs.Written.{text_blocks, text_prec, text_pcpsp}
 use Rattle.minelib_lines.specs.declared.problem.Problem.TheVariants.{Pcpsp}
 use Rattle.minelib_reading.specs.declared.model_key.Section.TheVariants.{Limits}
 use Rattle.minelib_text.proofs.BlocksBack.{blocks_again}
-use Rattle.minelib_text.proofs.KeysBack.{draft, full_header, pcpsp_header}
+use Rattle.minelib_reading.proofs.LinesThen.{draft}
+use Rattle.minelib_text.proofs.KeysBack.{full_header, pcpsp_header}
 use Rattle.minelib_text.proofs.ModelBack.{IsModel, model_again}
-use Rattle.minelib_text.proofs.NumbersBack.{from_zero}
+use Rattle.minelib_reading.proofs.FormFields.{from_zero}
 use Rattle.minelib_text.proofs.PrecBack.{lists_again}
 
 model_of : (i : Instance) → IsValid i → IsKept i

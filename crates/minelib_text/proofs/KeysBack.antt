@@ -1,22 +1,19 @@
 -- The key lines of a model file are read as they are written.
-use Rattle.std.proofs.Common.{◌≡◌, ℕ, ◌+◌, ◌^◌, ◌≤◌, true, false, List, [], ◌∷◌, ◌++◌, length, drop, ℤ, pos, negsuc, ◌≤ℤ◌, arith, refl, ◌∙◌, ap, sym, subst, eq-eqb}
+use Rattle.std.proofs.Common.{◌≡◌, ℕ, ◌+◌, ◌^◌, ◌≤◌, true, false, List, [], ◌∷◌, ◌++◌, ℤ, pos, negsuc, ◌≤ℤ◌, arith, refl, sym, subst, eq-eqb}
 use Rattle.std.specs.Prelude.{◌*◌, unsigned_abs, decimal, Some, None, Ok, codes}
-use Rattle.std.specs.List.{list_all, list_any, position_or_len}
-use Rattle.std.proofs.lemmas.Bool.{and_parts, or_right}
+use Rattle.std.specs.List.{list_all}
+use Rattle.std.proofs.lemmas.Bool.{and_parts}
 use Rattle.std.proofs.lemmas.Fmt.{decimal_digit}
 use Rattle.std.proofs.lemmas.Int.{ints}
-use Rattle.std.proofs.lemmas.List.{take_at, drop_at, drop-drop}
 use Rattle.pit_parts.specs.Name.{is_name}
 use Rattle.pit_units.specs.Decimal.{shortest}
 use Rattle.mine_instance.specs.Valid.{IsHorizon}
-use Rattle.mine_instance.specs.declared.coef.Coef.{Coef}
-use Rattle.pit_parts.specs.declared.limit.Limit.{Limit}
 use Rattle.pit_parts.specs.declared.ranges.TheConstants.{MAX_BLOCKS, MAX_DESTINATIONS, MAX_PERIODS, MAX_RESOURCES}
 use Rattle.minelib_reading.specs.HeaderKeys.{is_given, with_key}
 use Rattle.minelib_reading.specs.ItemForms.{bytes_in}
 use Rattle.minelib_reading.specs.KeyFields.{field_of, number_said, type_text}
 use Rattle.text_lines.specs.LineKinds.{text_kinds}
-use Rattle.minelib_reading.specs.ModelLines.{ModelDraftView, blank_model, header_line, is_colon, is_counted, is_next, is_ready, key_in, keyed_line, name_with}
+use Rattle.minelib_reading.specs.ModelLines.{ModelDraftView, blank_model, header_line, is_counted, is_next, is_ready, key_in, keyed_line, name_with}
 use Rattle.minelib_reading.specs.inner.ModelParts.{admit_model, takes}
 use Rattle.text_lines.specs.TextLines.{fields_of}
 use Rattle.minelib_writing.specs.Written.{key_line, problem_keys, pcpsp_keys, cpit_keys}
@@ -28,7 +25,6 @@ use Rattle.minelib_reading.specs.declared.model_key.ModelKey.TheVariants as mode
 use Rattle.minelib_lines.specs.declared.problem.Problem.{Problem}
 use Rattle.minelib_lines.specs.declared.problem.Problem.TheVariants.{Pcpsp, Cpit}
 use Rattle.minelib_reading.specs.declared.model_key.Section.{Section}
-use Rattle.minelib_reading.specs.declared.model_key.Section.TheVariants.{Heading}
 use Rattle.forms.proofs.NumberFields.{quotient, size_fits, whole_fits}
 use Rattle.forms.proofs.FormFacts.{written_read}
 use Rattle.forms.specs.Field.{Value, Bytes, Millionths, between, whole}
@@ -39,31 +35,16 @@ use Rattle.pit_units.proofs.Written.{whole_written}
 use Rattle.minelib_reading.proofs.ModelShapes.{field_fine, section_takes}
 use Rattle.minelib_text.proofs.LinesBack.{AdmitsAll, admits_both}
 use Rattle.minelib_text.proofs.NumbersBack.{whole_field, name_field}
-use Rattle.minelib_reading.proofs.FormFields.{decimal_field}
+use Rattle.minelib_reading.proofs.FormFields.{decimal_field, plain_keyless}
 use Rattle.text_lines.proofs.PlainText.{is_plain, is_inner, plain_inner, all_weaker, all_parts, first_read, IsField, IsLine}
 use Rattle.minelib_text.proofs.PlainLines.{fields_again}
-use Rattle.minelib_reading.proofs.Keyless.{plain_no_colon}
+use Rattle.minelib_reading.proofs.KeyLines.{cut_line}
+use Rattle.minelib_reading.proofs.LinesThen.{heading}
 
 -- a model line takes what was read before it to what was read with it
 pub record IsStep (before : ModelDraftView) (line : List ℕ) (after : ModelDraftView) : Type 0 where
   pub is_line : IsLine line
   pub admitted : admit_model before line ≡ Ok after
-
--- the first colon stands behind the word
-colon_place : (word rest : List ℕ) → list_all is_plain word ≡ true → position_or_len is_colon (word ++ 58 ∷ rest) ≡ length word
-colon_place [] rest h = refl
-colon_place (c ∷ cs) rest h =
-    let parts = and_parts (is_plain c) (list_all is_plain cs) h in
-    rw (plain_no_colon c parts.0, colon_place cs rest parts.1) (omega arith)
-
-has_colon : (word rest : List ℕ) → list_all is_plain word ≡ true → list_any is_colon (word ++ 58 ∷ rest) ≡ true
-has_colon [] rest h = refl
-has_colon (c ∷ cs) rest h =
-    let parts = and_parts (is_plain c) (list_all is_plain cs) h in
-    rw (has_colon cs rest parts.1) (or_right (is_colon c) true refl)
-
-behind_word : (word rest : List ℕ) → drop (length word + 1) (word ++ 58 ∷ rest) ≡ rest
-behind_word word rest = sym (drop-drop 1 (length word) (word ++ 58 ∷ rest)) ∙ ap (drop 1) (drop_at word (58 ∷ rest) (length word) refl)
 
 pub only_field : (word : List ℕ) → IsField word → fields_of word ≡ word ∷ []
 only_field word h = fields_again (word ∷ []) (record { some = omega arith; each = (h, tt) })
@@ -73,13 +54,9 @@ key_admitted : (d : ModelDraftView) (word rest : List ℕ) → IsField word
     → admit_model d (word ++ 58 ∷ rest) ≡ takes (keyed_line d (key_in d.problem word) (fields_of rest))
 unfolding admit_model
 key_admitted d word rest h =
-    rw (
-      has_colon word rest h.bytes,
-      colon_place word rest h.bytes,
-      take_at word (58 ∷ rest) (length word) refl,
-      behind_word word rest,
-      only_field word h,
-    ) refl
+    let c = cut_line word (word ++ 58 ∷ rest) (fields_of rest) (plain_keyless word h.bytes)
+    (record { before = word; behind = rest; cut = refl; key_alone = only_field word h; fields_are = refl }) in
+    rw (c.colon, c.key_is, c.fields_are) refl
 
 key_is_line : (word rest : List ℕ) → IsField word → list_all is_inner rest ≡ true → IsLine (word ++ 58 ∷ rest)
 key_is_line [] rest h inner = absurd (omega (arith, h.some))
@@ -90,23 +67,6 @@ key_is_line (c ∷ cs) rest h inner = record {
 
 pub word_field : (c : ℕ) (cs : List ℕ) → list_all is_plain (c ∷ cs) ≡ true → IsField (c ∷ cs)
 word_field c cs h = record { some = omega arith; bytes = h }
-
--- what was read up to a section
-abbrev pub draft : Problem → ℕ → List ℕ → Header → Section → List (List ℤ) → List Coef → List Limit → ModelDraftView
-draft p n name h section values coefs limits = record {
-  problem = p;
-  blocks = n;
-  name = name;
-  header = h;
-  section = section;
-  values = values;
-  coefs = coefs;
-  limits = limits;
-}
-
--- what was read before the first section
-abbrev pub heading : Problem → ℕ → List ℕ → Header → ModelDraftView
-heading p n name h = draft p n name h Heading [] [] []
 
 -- a header line is read where its key is new and the field has room for its value
 header_step : (p : Problem) (n : ℕ) (name word : List ℕ) (value : Value) (k : HeaderKey) (h : Header) → IsField word

@@ -9,6 +9,5 @@ pub mod LinesBack
 pub mod LinesOfText
 pub mod ModelBack
 pub mod NumbersBack
-pub mod Places
 pub mod PlainLines
 pub mod PrecBack

@@ -16,10 +16,11 @@ use Rattle.minelib_writing.specs.Written.{value_fields, coef_fields, limit_field
 use Rattle.minelib_lines.specs.declared.problem.Problem.{Problem}
 use Rattle.minelib_reading.specs.declared.model_key.Section.TheVariants.{Objective, Coefs, Limits}
 use Rattle.minelib_text.proofs.ItemsBack.{values_again, values_fields, IsCount, coef_again, coefs_fields, limit_again, limits_fields}
-use Rattle.minelib_text.proofs.KeysBack.{AreSteps, and_lines, then_lines, draft, heading, full_header, in_all, section_step, word_field}
+use Rattle.minelib_reading.proofs.LinesThen.{draft, heading}
+use Rattle.minelib_text.proofs.KeysBack.{AreSteps, and_lines, then_lines, full_header, in_all, section_step, word_field}
 use Rattle.minelib_text.proofs.LinesBack.{AdmitsEach, items_admitted, text_read}
 use Rattle.minelib_reading.proofs.ModelShapes.{coef_takes, limit_takes, lines_are_all, values_takes}
-use Rattle.minelib_text.proofs.Places.{is_place, item_there, behind_last}
+use Rattle.minelib_reading.proofs.Places.{is_place, item_there, behind_last}
 use Rattle.text_lines.proofs.PlainText.{AreFields}
 use Rattle.minelib_text.proofs.PlainLines.{no_colon, fields_again, fields_line}
 

@@ -1,10 +1,9 @@
 -- Written numbers and NAMEs are fields, and are read as what they are.
-use Rattle.std.proofs.Common.{◌≡◌, ℕ, ◌*◌, ◌^◌, ◌≤◌, true, List, [], ◌∷◌, map, length, ℤ, pos, negsuc, ◌≤ℤ◌, arith, refl, subst}
-use Rattle.std.specs.Prelude.{unsigned_abs, decimal, nat_le, ◌&&◌, All}
+use Rattle.std.proofs.Common.{◌≡◌, ℕ, ◌*◌, ◌^◌, ◌≤◌, true, List, [], ◌∷◌, map, length, pos, arith, subst}
+use Rattle.std.specs.Prelude.{decimal, nat_le, ◌&&◌, All}
 use Rattle.std.specs.List.{list_all}
 use Rattle.std.proofs.lemmas.Bool.{and_parts, leb-true}
 use Rattle.std.proofs.lemmas.Bool.Decides.{nat_tests}
-use Rattle.std.proofs.lemmas.Int.{ints}
 use Rattle.std.proofs.lemmas.List.Elements.{All-head, All-tail}
 use Rattle.pit_parts.specs.Name.{is_name, is_name_byte}
 use Rattle.pit_units.proofs.Written.{whole_written}
@@ -13,11 +12,6 @@ use Rattle.text_lines.proofs.PlainText.{is_plain, all_weaker, IsField, EachField
 
 pub whole_field : (k : ℕ) → k ≤ 10 ^ 18 → IsField (decimal k)
 whole_field k most = subst IsField (whole_written k) (decimal_field (pos (k * 10 ^ 6)) (omega arith))
-
--- a number that is not negative is its size
-pub from_zero : (z : ℤ) → pos 0 ≤ℤ z → pos (unsigned_abs z) ≡ z
-from_zero (pos k) h = refl
-from_zero (negsuc k) h = absurd (omega (arith, ints))
 
 name_byte : (c : ℕ) → is_name_byte c ≡ true → is_plain c ≡ true
 name_byte c h = grind (arith, nat_tests)

@@ -20,7 +20,7 @@ use Rattle.text_lines.specs.TextLines.{end_of, fields_of}
 use Rattle.minelib_writing.specs.Written.{prec_fields}
 use Rattle.minelib_text.proofs.LinesBack.{AdmitsEach, items_admitted, text_read}
 use Rattle.minelib_text.proofs.NumbersBack.{whole_field, map_fields}
-use Rattle.minelib_text.proofs.Places.{is_place, stands_there}
+use Rattle.minelib_reading.proofs.Places.{is_place, stands_there}
 use Rattle.text_lines.proofs.PlainText.{AreFields}
 use Rattle.minelib_text.proofs.PlainLines.{fields_again, fields_line}
 use Rattle.minelib_reading.proofs.PrecLineFacts.{fine, preds_back, wholes_fit}

@@ -53,7 +53,7 @@ pub fn even_zones()
 ///
 /// - Its line is the first that states nothing behind those before it, and its kind is that of what fails first there.
 ///   The lines before it begin a model; with it, whatever stands behind, they begin none.
-/// - Or all lines begin a model, they state none, and something is missing at the end.
+/// - Or all lines begin a model, they spell none, and something is missing at the end.
 pub fn faulty_lines_begin_no_model()
     ensures { (problem : Problem) (n : ℕ) (text : List ℕ) (fault : LineFault) → n ≤ MAX_BLOCKS
         → model_in problem n text ≡ Err fault

@@ -1,0 +1,262 @@
+-- What a line of a model file that states something spells, and what it makes of what stood before.
+use Rattle.std.specs.Prelude.{◌≡◌, ℕ, ◌==◌, not, Bool, true, false, List, [], ◌∷◌, ◌++◌, length, ℤ, Option, Some, None, pos, negsuc, if◌then◌else◌}
+use Rattle.std.specs.List.{list_any, before_first, after_first}
+use Rattle.std.proofs.Common.{refl, sym, ◌∙◌, ap, subst, arith}
+use Rattle.std.proofs.lemmas.Bool.{eqb-true, not-true}
+use Rattle.std.proofs.lemmas.Int.{ints}
+use Rattle.std.proofs.lemmas.Slice.Eq.{bytes_eq-Decides}
+use Rattle.forms.proofs.FormFacts.{spelled_fit}
+use Rattle.forms.specs.Field.{Value, Millionths, Bytes, whole, whole_at, whole_stated}
+use Rattle.forms.specs.Fit.{FitsField}
+use Rattle.forms.specs.Shape.{check, failing}
+use Rattle.forms.specs.ShapeStates.{States}
+use Rattle.forms.specs.Spelled.{Says, Spell}
+use Rattle.pit_parts.specs.declared.limit.Limit.{Limit}
+use Rattle.mine_instance.specs.declared.coef.Coef.{Coef}
+use Rattle.text_lines.specs.TextLines.{fields_of}
+use Rattle.text_lines.specs.declared.text_fault.TextKind.TheVariants.{Order, Count, Twice, Key, Missing}
+use Rattle.minelib_lines.specs.LineValues.{coef_values, limit_values, values_values}
+use Rattle.minelib_lines.specs.declared.problem.Problem.{Problem}
+use Rattle.minelib_reading.specs.HeaderKeys.{count_in, is_given, with_key}
+use Rattle.minelib_reading.specs.ItemForms.{bytes_in, coef_form, coef_said, limit_form, limit_said, row_said, values_form}
+use Rattle.minelib_reading.specs.KeyFields.{field_of, number_said, type_text}
+use Rattle.minelib_reading.specs.ModelLines.{ModelDraftView, coef_line, first_of, header_line, is_colon, is_counted, is_heading, is_next, is_ready, item_line, key_of, keyed_line, limit_line, model_line, name_with, section_line, stray_line, values_line}
+use Rattle.minelib_reading.specs.ModelStates.{header_stated}
+use Rattle.minelib_reading.specs.SpelledKeys.{IsKeyLine, has_key, key_text, section_text, value_of}
+use Rattle.minelib_reading.specs.declared.model_key.Header.{Header}
+use Rattle.minelib_reading.specs.declared.model_key.HeaderKey.{HeaderKey}
+use Rattle.minelib_reading.specs.declared.model_key.HeaderKey.TheVariants as key
+use Rattle.minelib_reading.specs.declared.model_key.ModelKey.{ModelKey}
+use Rattle.minelib_reading.specs.declared.model_key.ModelKey.TheVariants as model_key
+use Rattle.minelib_reading.specs.declared.model_key.Section.{Section}
+use Rattle.minelib_reading.specs.declared.model_key.Section.TheVariants.{Heading, Objective, Coefs, Limits}
+use Rattle.minelib_reading.proofs.CoefLineFacts.{coef_are, coef_fine}
+use Rattle.minelib_reading.proofs.FormFields.{whole_itself}
+use Rattle.minelib_reading.proofs.HeaderFacts.{count_there}
+use Rattle.minelib_reading.proofs.KeyLines.{key_found, key_line}
+use Rattle.minelib_reading.proofs.LimitLineFacts.{limit_are, limit_fine}
+use Rattle.minelib_reading.proofs.ModelShapes.{field_fine}
+use Rattle.minelib_reading.proofs.ShapeSteps.{passed}
+use Rattle.minelib_reading.proofs.ValuesLineFacts.{many_fine, values_are}
+
+-- a header key with these fields behind its colon
+pub record SetsKey (d : ModelDraftView) (k : HeaderKey) (fields : List (List ℕ)) (next : ModelDraftView) : Type 0 where
+  pub heading : is_heading d.section ≡ true
+  pub new : is_given k d.header ≡ false
+  pub value : List ℕ
+  pub one : fields ≡ value ∷ []
+  pub number : ℕ
+  pub says : Says (field_of d.problem k) value (value_of d.problem d.blocks (header_stated next.name next.header) k)
+  pub is : next ≡ record d { header = with_key d.header k number; name = name_with k value d.name }
+
+-- a section's key with these fields behind its colon
+pub record BeginsSection (d : ModelDraftView) (section : Section) (fields : List (List ℕ)) (next : ModelDraftView) : Type 0 where
+  pub follows : is_next d.section section ≡ true
+  pub none : fields ≡ []
+  pub ready : is_ready d d.section ≡ true
+  pub is : next ≡ record d { section = section }
+
+-- the fields of a block's values
+pub record AddsValues (d : ModelDraftView) (fields : List (List ℕ)) (next : ModelDraftView) : Type 0 where
+  pub values : List ℤ
+  pub spelled : Spell (values_form d.blocks (count_in d.header key.Destinations)) fields (values_values (length d.values) values)
+  pub is : next ≡ record d { values = d.values ++ values ∷ [] }
+
+-- of a coefficient
+pub record AddsCoef (d : ModelDraftView) (fields : List (List ℕ)) (next : ModelDraftView) : Type 0 where
+  pub coef : Coef
+  pub spelled : Spell (coef_form d.problem d.blocks (count_in d.header key.Destinations) (count_in d.header key.Resources)) fields
+      (coef_values d.problem coef)
+  pub is : next ≡ record d { coefs = d.coefs ++ coef ∷ [] }
+
+-- of a limit
+pub record AddsLimit (d : ModelDraftView) (fields : List (List ℕ)) (next : ModelDraftView) : Type 0 where
+  pub limit : Limit
+  pub spelled : Spell (limit_form (count_in d.header key.Resources) (count_in d.header key.Periods) fields) fields (limit_values limit)
+  pub is : next ≡ record d { limits = d.limits ++ limit ∷ [] }
+
+-- what a value that fits states is what the header then states by its key
+said : (problem : Problem) (n : ℕ) (k : HeaderKey) (text : List ℕ) (value : Value) (name : List ℕ) (h : Header)
+    → Says (field_of problem k) text value → FitsField (field_of problem k) value → (k ≡ key.Blocks → (whole_stated value == n) ≡ true)
+    → value ≡ value_of problem n (header_stated (name_with k text name) (with_key h k (number_said k value))) k
+said problem n key.Name text (Bytes word) name h says fits counted = ap Bytes (sym says.0)
+said problem n key.Name text (Millionths m) name h says fits counted = absurd fits
+said problem n key.Type text (Bytes word) name h says fits counted = ap Bytes ((bytes_eq-Decides word (type_text problem)).0 fits)
+said problem n key.Type text (Millionths m) name h says fits counted = absurd fits
+said problem n key.Blocks text value name h says fits counted =
+    whole_itself 0 _ value fits ∙ ap whole (eqb-true (whole_stated value) n (counted refl))
+said problem n key.Periods text value name h says fits counted =
+    whole_itself _ _ value fits ∙ ap whole (sym (count_there h (whole_stated value) key.Periods))
+said problem n key.Destinations text value name h says fits counted =
+    whole_itself _ _ value fits ∙ ap whole (sym (count_there h (whole_stated value) key.Destinations))
+said problem n key.Resources text value name h says fits counted =
+    whole_itself 0 _ value fits ∙ ap whole (sym (count_there h (whole_stated value) key.Resources))
+said problem n key.General text (Millionths (pos m)) name h says fits counted =
+    let none : m ≡ 0 = omega (arith, ints, fits.1, fits.3) in ap (λ m. Millionths (pos m)) none
+said problem n key.General text (Millionths (negsuc m)) name h says fits counted = absurd (omega (arith, ints, fits.0))
+said problem n key.General text (Bytes word) name h says fits counted = absurd fits
+said problem n key.Rate text (Millionths (pos m)) name h says fits counted =
+    ap (λ m. Millionths (pos m)) (sym (count_there h m key.Rate))
+said problem n key.Rate text (Millionths (negsuc m)) name h says fits counted = absurd (omega (arith, ints, fits.0))
+said problem n key.Rate text (Bytes word) name h says fits counted = absurd fits
+
+-- the NAME that a value states is its text
+name_said : (problem : Problem) (k : HeaderKey) (text : List ℕ) (value : Value) (name : List ℕ) → Says (field_of problem k) text value
+    → name_with k (bytes_in value) name ≡ name_with k text name
+name_said problem key.Name text (Bytes word) name says = sym says.0
+name_said problem key.Name text (Millionths m) name says = absurd says
+name_said problem k text value name says = refl
+
+counted_in : (n : ℕ) (value : Value) (k : HeaderKey) → failing (is_counted k n value) ≡ None → k ≡ key.Blocks
+    → (whole_stated value == n) ≡ true
+counted_in n value key.Blocks none is = (passed Count (whole_stated value == n) [] none).0
+counted_in n value k none is = absurd cc
+
+pub key_step : (d next : ModelDraftView) (k : HeaderKey) (fields : List (List ℕ)) → States (header_line d k fields) next
+    → SetsKey d k fields next
+unfolding header_line
+key_step d next k fields s = by fields s.values s.spelled s.last s.is
+  where
+    tests : (is_heading d.section ≡ true) × (is_given k d.header ≡ false)
+    tests =
+        let heading = passed Key (is_heading d.section) (check Twice (not (is_given k d.header))) s.first in
+        (heading.0, not-true (is_given k d.header) (passed Twice (not (is_given k d.header)) [] heading.1).0)
+
+    by : (fields : List (List ℕ)) (values : List Value) → Spell (field_of d.problem k ∷ []) fields values
+        → failing (is_counted k d.blocks (first_of values)) ≡ None
+        → next ≡ record d {
+          header = with_key d.header k (number_said k (first_of values));
+          name = name_with k (bytes_in (first_of values)) d.name;
+        }
+        → SetsKey d k fields next
+    by (text ∷ []) (value ∷ []) spelled none is =
+        let fit = spelled_fit (field_of d.problem k ∷ []) (text ∷ []) (value ∷ []) (field_fine d.problem k) spelled in
+        let number = number_said k value in
+        let after : ModelDraftView = record d { header = with_key d.header k number; name = name_with k text d.name } in
+        let same : next ≡ after = is ∙ ap (λ name. record d { header = with_key d.header k number; name = name })
+        (name_said d.problem k text value d.name spelled.0) in
+        let stated = said d.problem d.blocks k text value d.name d.header spelled.0 fit.0 (counted_in d.blocks value k none) in
+        record {
+          heading = tests.0;
+          new = tests.1;
+          value = text;
+          one = refl;
+          number = number;
+          says = subst (λ e. Says (field_of d.problem k) text (value_of d.problem d.blocks (header_stated e.name e.header) k)) (sym same)
+              (subst (Says (field_of d.problem k) text) stated spelled.0);
+          is = same;
+        }
+    by [] values spelled none is = absurd spelled
+    by (text ∷ []) [] spelled none is = absurd spelled
+    by (text ∷ []) (value ∷ other ∷ more) spelled none is = absurd spelled.1
+    by (text ∷ other ∷ more) [] spelled none is = absurd spelled
+    by (text ∷ other ∷ more) (value ∷ values) spelled none is = absurd spelled.1
+
+-- the value spells what is then stated by its key
+pub key_spelled : (d next : ModelDraftView) (k : HeaderKey) (fields : List (List ℕ)) → States (header_line d k fields) next
+    → Spell (field_of d.problem k ∷ []) fields (value_of d.problem d.blocks (header_stated next.name next.header) k ∷ [])
+key_spelled d next k fields states =
+    let s = key_step d next k fields states in
+    subst (λ fields. Spell (field_of d.problem k ∷ []) fields (value_of d.problem d.blocks (header_stated next.name next.header) k ∷ []))
+    (sym s.one) (s.says, tt)
+
+pub section_step : (d next : ModelDraftView) (section : Section) (fields : List (List ℕ)) → States (section_line d section fields) next
+    → BeginsSection d section fields next
+unfolding section_line
+section_step d next section fields s = record {
+  follows = (passed Key (is_next d.section section) [] s.first).0;
+  none = empty fields s.values s.spelled;
+  ready = (passed Missing (is_ready d d.section) [] s.last).0;
+  is = s.is;
+}
+  where
+    empty : (fields : List (List ℕ)) (values : List Value) → Spell [] fields values → fields ≡ []
+    empty [] values spelled = refl
+    empty (field ∷ fields) values spelled = absurd spelled
+
+pub values_step : (d next : ModelDraftView) (fields : List (List ℕ)) → States (values_line d fields) next → AddsValues d fields next
+unfolding values_line
+values_step d next fields s =
+    let destinations = count_in d.header key.Destinations in
+    let form = values_form d.blocks destinations in
+    let fit = spelled_fit form fields s.values (many_fine destinations) s.spelled in
+    let place = eqb-true (whole_at s.values 0) (length d.values) (passed Order (whole_at s.values 0 == length d.values) [] s.last).0 in
+    record {
+      values = row_said s.values;
+      spelled = subst (Spell form fields) (values_are d.blocks destinations (length d.values) s.values fit place) s.spelled;
+      is = s.is;
+    }
+
+pub coef_step : (d next : ModelDraftView) (fields : List (List ℕ)) → States (coef_line d fields) next → AddsCoef d fields next
+unfolding coef_line
+coef_step d next fields s =
+    let destinations = count_in d.header key.Destinations in
+    let resources = count_in d.header key.Resources in
+    let form = coef_form d.problem d.blocks destinations resources in
+    let fit = spelled_fit form fields s.values (coef_fine d.problem d.blocks destinations resources) s.spelled in
+    record {
+      coef = coef_said d.problem s.values;
+      spelled = subst (Spell form fields) (coef_are d.problem d.blocks destinations resources s.values fit) s.spelled;
+      is = s.is;
+    }
+
+pub limit_step : (d next : ModelDraftView) (fields : List (List ℕ)) → States (limit_line d fields) next → AddsLimit d fields next
+unfolding limit_line
+limit_step d next fields s =
+    let resources = count_in d.header key.Resources in
+    let periods = count_in d.header key.Periods in
+    let form = limit_form resources periods fields in
+    let fit = spelled_fit form fields s.values (limit_fine resources periods fields) s.spelled in
+    record {
+      limit = limit_said s.values;
+      spelled = subst (Spell form fields) (limit_are resources periods fields s.values fit) s.spelled;
+      is = s.is;
+    }
+
+-- a line that states something
+pub data Step (d : ModelDraftView) (line : List ℕ) (next : ModelDraftView) : Type 0 where
+  Keyed : (k : HeaderKey) (fields : List (List ℕ)) → IsKeyLine (key_text k) line fields → has_key d.problem k ≡ true
+      → SetsKey d k fields next → Step d line next
+  Begun : (section : Section) (fields : List (List ℕ)) → IsKeyLine (section_text section) line fields
+      → BeginsSection d section fields next → Step d line next
+  Valued : d.section ≡ Objective → AddsValues d (fields_of line) next → Step d line next
+  Spent : d.section ≡ Coefs → AddsCoef d (fields_of line) next → Step d line next
+  Limited : d.section ≡ Limits → AddsLimit d (fields_of line) next → Step d line next
+
+no_stray : (d next : ModelDraftView) → States (stray_line d) next → ⊥
+unfolding stray_line
+no_stray d next s = let never = (passed Key false [] s.first).0 in cc
+
+pub model_step : (d next : ModelDraftView) (line : List ℕ) → States (model_line d line) next → Step d line next
+model_step d next line s = by (list_any is_colon line) refl s
+  where
+    keyed : (found : Option ModelKey) → list_any is_colon line ≡ true → key_of d.problem (fields_of (before_first is_colon line)) ≡ found
+        → States (keyed_line d found (fields_of (after_first is_colon line))) next → Step d line next
+    keyed None colon e s = absurd (no_stray d next s)
+    keyed (Some (model_key.Header k)) colon e s =
+        let found = key_found d.problem (fields_of (before_first is_colon line)) (model_key.Header k) e in
+        let fields = fields_of (after_first is_colon line) in
+        Keyed k fields
+        (key_line (key_text k) line fields
+        (record { colon = colon; key_is = found.alone ∙ ap (λ word. word ∷ []) found.is.0; fields_are = refl }))
+        found.is.1 (key_step d next k fields s)
+    keyed (Some (model_key.Section section)) colon e s =
+        let found = key_found d.problem (fields_of (before_first is_colon line)) (model_key.Section section) e in
+        let fields = fields_of (after_first is_colon line) in
+        Begun section fields
+        (key_line (section_text section) line fields
+        (record { colon = colon; key_is = found.alone ∙ ap (λ word. word ∷ []) found.is; fields_are = refl }))
+        (section_step d next section fields s)
+
+    item : (section : Section) → d.section ≡ section → States (item_line d section (fields_of line)) next → Step d line next
+    item Heading here s = absurd (no_stray d next s)
+    item Objective here s = Valued here (values_step d next (fields_of line) s)
+    item Coefs here s = Spent here (coef_step d next (fields_of line) s)
+    item Limits here s = Limited here (limit_step d next (fields_of line) s)
+
+    by : (t : Bool) → list_any is_colon line ≡ t
+        → States (if t then keyed_line d (key_of d.problem (fields_of (before_first is_colon line))) (fields_of (after_first is_colon line))
+        else item_line d d.section (fields_of line)) next
+        → Step d line next
+    by true colon s = keyed (key_of d.problem (fields_of (before_first is_colon line))) colon refl s
+    by false none s = item d.section refl s

@@ -1,0 +1,366 @@
+-- Lines that spell a model state it.
+use Rattle.std.specs.Prelude.{◌≡◌, ◌≢◌, ℕ, suc, ◌+◌, ◌==◌, ◌&&◌, true, false, not, List, [], ◌∷◌, ◌++◌, length, ℤ, pos, unsigned_abs, Some, None, is_some, unwrap_or, All, AllPairs, codes, slice_index_or}
+use Rattle.std.specs.List.{Contains, list_any}
+use Rattle.std.specs.Str.{bytes_eq}
+use Rattle.std.proofs.Common.{refl, sym, ◌∙◌, ap, subst, arith, inl, inr, append_assoc, append-nil, length-append, eq-eqb}
+use Rattle.std.proofs.lemmas.Bool.{cases_Bool}
+use Rattle.forms.proofs.NumberFields.{quotient}
+use Rattle.forms.specs.Field.{whole, whole_at, whole_stated}
+use Rattle.forms.specs.GrammarStates.{AllState}
+use Rattle.forms.specs.Shape.{check, failing}
+use Rattle.forms.specs.ShapeStates.{States}
+use Rattle.forms.specs.Spelled.{Spell}
+use Rattle.pit_parts.specs.PlanKept.{is_turned, stands_before}
+use Rattle.pit_parts.specs.declared.limit.Limit.{Limit}
+use Rattle.mine_instance.specs.Order.{comes_before}
+use Rattle.mine_instance.specs.declared.coef.Coef.{Coef}
+use Rattle.text_lines.specs.TextLines.{Line, fields_of}
+use Rattle.text_lines.specs.declared.text_fault.TextKind.TheVariants.{Order, Count, Twice, Key, Missing}
+use Rattle.minelib_lines.specs.LineValues.{coef_values, limit_values, values_values}
+use Rattle.minelib_lines.specs.declared.problem.Problem.{Problem}
+use Rattle.minelib_lines.specs.declared.problem.Problem.TheVariants.{Pcpsp, Cpit}
+use Rattle.minelib_reading.specs.HeaderKeys.{count_in, is_complete, is_given, number_of, with_key}
+use Rattle.minelib_reading.specs.ItemForms.{bytes_in, coef_form, coef_said, limit_form, limit_said, values_form}
+use Rattle.minelib_reading.specs.KeyFields.{number_said}
+use Rattle.minelib_reading.specs.ModelLines.{ModelDraftView, blank_header, blank_model, coef_line, header_line, is_behind, is_colon, is_counted, is_heading, is_next, is_ready, item_line, last_of, limit_line, model_grammar, model_line, name_with, section_line, values_line}
+use Rattle.minelib_reading.specs.ModelStates.{StateModel, header_stated, stated_by}
+use Rattle.minelib_reading.specs.SpelledKeys.{IsKeyLine, has_key, key_text, section_text, value_of}
+use Rattle.minelib_reading.specs.SpelledLines.{AreLines}
+use Rattle.minelib_reading.specs.SpelledModel.{AreHeaderLines, AreModelLines, IsHeaderLine, IsOfProblem}
+use Rattle.minelib_reading.specs.StatedModel.{StatedHeader, StatedModel}
+use Rattle.minelib_reading.specs.declared.model_key.Header.{Header}
+use Rattle.minelib_reading.specs.declared.model_key.HeaderKey.{HeaderKey}
+use Rattle.minelib_reading.specs.declared.model_key.HeaderKey.TheVariants as key
+use Rattle.minelib_reading.specs.declared.model_key.Section.{Section}
+use Rattle.minelib_reading.specs.declared.model_key.Section.TheVariants.{Heading, Objective, Coefs, Limits}
+use Rattle.minelib_reading.proofs.CoefLineFacts.{HasDestination, coef_plain, said_again as coef_said_again}
+use Rattle.minelib_reading.proofs.FormFields.{from_zero, spelled_keyless}
+use Rattle.minelib_reading.proofs.HeaderFacts.{all_given, contains_cases, each_with, first_given, with_same}
+use Rattle.minelib_reading.proofs.ItemLines.{items_keep}
+use Rattle.minelib_reading.proofs.KeyLines.{cut_line, header_found, header_plain, section_found, section_plain}
+use Rattle.minelib_reading.proofs.Keyless.{keyless}
+use Rattle.minelib_reading.proofs.LimitLineFacts.{bound_plain, said_again as limit_said_again}
+use Rattle.minelib_reading.proofs.LinesThen.{StateAny, draft, heading, line_then, lines_then}
+use Rattle.minelib_reading.proofs.Places.{behind_last, item_there}
+use Rattle.minelib_reading.proofs.ShapeSteps.{met}
+use Rattle.minelib_reading.proofs.ValuesLineFacts.{many_again, many_plain}
+
+-- the number that a header keeps of what it states by a key
+abbrev told : StatedHeader → HeaderKey → ℕ
+told m key.Periods = m.periods
+told m key.Destinations = m.destinations
+told m key.Resources = m.resources
+told m key.Rate = unsigned_abs m.rate
+told m k = 0
+
+-- a header's value says it
+number_told : (problem : Problem) (n : ℕ) (m : StatedHeader) (k : HeaderKey) → number_said k (value_of problem n m k) ≡ told m k
+number_told problem n m key.Periods = quotient m.periods
+number_told problem n m key.Destinations = quotient m.destinations
+number_told problem n m key.Resources = quotient m.resources
+number_told problem n m k = refl
+
+name_told : (problem : Problem) (n : ℕ) (m : StatedHeader) (k : HeaderKey) (name : List ℕ)
+    → name_with k (bytes_in (value_of problem n m k)) name ≡ name_with k m.name name
+name_told problem n m key.Name name = refl
+name_told problem n m k name = refl
+
+counted : (problem : Problem) (n : ℕ) (m : StatedHeader) (k : HeaderKey) → failing (is_counted k n (value_of problem n m k)) ≡ None
+counted problem n m key.Blocks = met Count (whole_stated (whole n) == n) [] (rw (quotient n) (eq-eqb n n refl)) refl
+counted problem n m k = refl
+
+-- a key's line adds what the header states by it
+key_states : (d : ModelDraftView) (m : StatedHeader) (k : HeaderKey) (line : List ℕ) → is_heading d.section ≡ true
+    → is_given k d.header ≡ false → IsHeaderLine d.problem d.blocks m line k
+    → States (model_line d line) (record d { header = with_key d.header k (told m k); name = name_with k m.name d.name })
+unfolding header_line
+key_states d m k line in_heading new l =
+    let c = cut_line (key_text k) line (l.value ∷ []) (header_plain k) l.is_key in
+    let here : model_line d line ≡ header_line d k (l.value ∷ []) =
+    rw (c.colon, c.key_is, header_found d.problem k l.of_problem, c.fields_are) refl in
+    let number = sym (number_told d.problem d.blocks m k) in
+    let name = sym (name_told d.problem d.blocks m k d.name) in
+    subst (λ shape. States shape (record d { header = with_key d.header k (told m k); name = name_with k m.name d.name })) (sym here)
+    (record {
+      first = met Key (is_heading d.section) (check Twice (not (is_given k d.header))) in_heading
+          (met Twice (not (is_given k d.header)) [] (ap not new) refl);
+      values = value_of d.problem d.blocks m k ∷ [];
+      spelled = (l.says, tt);
+      last = counted d.problem d.blocks m k;
+      is = λ i. record d { header = with_key d.header k (number i); name = name i };
+    })
+
+-- the line that begins a section
+section_states : (d : ModelDraftView) (section : Section) (line : List ℕ) → IsKeyLine (section_text section) line []
+    → is_next d.section section ≡ true → is_ready d d.section ≡ true → States (model_line d line) (record d { section = section })
+unfolding section_line
+section_states d section line l follows ready =
+    let c = cut_line (section_text section) line [] (section_plain section) l in
+    let here : model_line d line ≡ section_line d section [] =
+    rw (c.colon, c.key_is, section_found d.problem d.section section follows, c.fields_are) refl in
+    subst (λ shape. States shape (record d { section = section })) (sym here) (record {
+      first = met Key (is_next d.section section) [] follows refl;
+      values = [];
+      spelled = tt;
+      last = met Missing (is_ready d d.section) [] ready refl;
+      is = refl;
+    })
+
+-- a line without a colon
+item_here : (d : ModelDraftView) (line : List ℕ) → list_any is_colon line ≡ false → model_line d line ≡ item_line d d.section (fields_of line)
+item_here d line none = rw none refl
+
+values_states : (p : Problem) (n : ℕ) (name : List ℕ) (h : Header) (done : List (List ℤ)) (vs : List ℤ) (line : List ℕ)
+    → Spell (values_form n (count_in h key.Destinations)) (fields_of line) (values_values (length done) vs)
+    → States (model_line (draft p n name h Objective done [] []) line) (draft p n name h Objective (done ++ vs ∷ []) [] [])
+unfolding values_line
+values_states p n name h done vs line spelled =
+    let d = draft p n name h Objective done [] [] in
+    let form = values_form n (count_in h key.Destinations) in
+    let values = values_values (length done) vs in
+    let none = keyless line (spelled_keyless form (fields_of line) values (many_plain (count_in h key.Destinations)) spelled) in
+    subst (λ shape. States shape (draft p n name h Objective (done ++ vs ∷ []) [] [])) (sym (item_here d line none)) (record {
+      first = refl;
+      values = values;
+      spelled = spelled;
+      last = met Order (whole_at values 0 == length done) [] (rw (quotient (length done)) (eq-eqb (length done) (length done) refl)) refl;
+      is = ap (λ row. draft p n name h Objective (done ++ row ∷ []) [] []) (sym (many_again vs));
+    })
+
+coef_states : (p : Problem) (n : ℕ) (name : List ℕ) (h : Header) (values : List (List ℤ)) (done : List Coef) (c : Coef) (line : List ℕ)
+    → Spell (coef_form p n (count_in h key.Destinations) (count_in h key.Resources)) (fields_of line) (coef_values p c)
+    → HasDestination p c → is_behind comes_before (last_of done) c ≡ true
+    → States (model_line (draft p n name h Coefs values done []) line) (draft p n name h Coefs values (done ++ c ∷ []) [])
+unfolding coef_line
+coef_states p n name h values done c line spelled of_it behind =
+    let d = draft p n name h Coefs values done [] in
+    let form = coef_form p n (count_in h key.Destinations) (count_in h key.Resources) in
+    let none = keyless line (spelled_keyless form (fields_of line) (coef_values p c)
+    (coef_plain p n (count_in h key.Destinations) (count_in h key.Resources)) spelled) in
+    let same = coef_said_again p c of_it in
+    subst (λ shape. States shape (draft p n name h Coefs values (done ++ c ∷ []) [])) (sym (item_here d line none)) (record {
+      first = refl;
+      values = coef_values p c;
+      spelled = spelled;
+      last = met Order (is_behind comes_before (last_of done) (coef_said p (coef_values p c))) []
+          (ap (is_behind comes_before (last_of done)) same ∙ behind) refl;
+      is = ap (λ c. draft p n name h Coefs values (done ++ c ∷ []) []) (sym same);
+    })
+
+limit_states : (p : Problem) (n : ℕ) (name : List ℕ) (h : Header) (values : List (List ℤ)) (coefs : List Coef) (done : List Limit) (l : Limit)
+    (line : List ℕ)
+    → Spell (limit_form (count_in h key.Resources) (count_in h key.Periods) (fields_of line)) (fields_of line) (limit_values l)
+    → is_turned l.bound ≡ false → is_behind stands_before (last_of done) l ≡ true
+    → States (model_line (draft p n name h Limits values coefs done) line) (draft p n name h Limits values coefs (done ++ l ∷ []))
+unfolding limit_line
+limit_states p n name h values coefs done l line spelled straight behind =
+    let d = draft p n name h Limits values coefs done in
+    let form = limit_form (count_in h key.Resources) (count_in h key.Periods) (fields_of line) in
+    let none = keyless line (spelled_keyless form (fields_of line) (limit_values l)
+    (bound_plain (bytes_eq (slice_index_or (fields_of line) 2 []) (codes "I"))) spelled) in
+    let same : limit_said (limit_values l) ≡ l = limit_said_again l.resource l.period l.bound in
+    subst (λ shape. States shape (draft p n name h Limits values coefs (done ++ l ∷ []))) (sym (item_here d line none)) (record {
+      first = refl;
+      values = limit_values l;
+      spelled = spelled;
+      last = met Order (not (is_turned (limit_said (limit_values l)).bound)
+          && is_behind stands_before (last_of done) (limit_said (limit_values l))) []
+          (ap (λ l. not (is_turned l.bound) && is_behind stands_before (last_of done) l) same ∙ rw (straight, behind) refl) refl;
+      is = ap (λ l. draft p n name h Limits values coefs (done ++ l ∷ [])) (sym same);
+    })
+
+-- lines that spell items, each of which is stated behind those before it
+items_state : {A : Type 0} (Spells : ℕ → List ℕ → A → Type 0) (state : List A → ModelDraftView) (all : List A)
+    → ((done : List A) (x : A) (rest : List A) (line : List ℕ) → all ≡ done ++ x ∷ rest → Spells (length done) line x
+    → States (model_line (state done) line) (state (done ++ x ∷ [])))
+    → (i : ℕ) (done rest : List A) (lines : List Line) → i ≡ length done → all ≡ done ++ rest → AreLines Spells i lines rest
+    → StateAny (state done) lines (state all)
+items_state Spells state all each i done [] [] count cut are = λ number. ap state (cut ∙ append-nil done)
+items_state Spells state all each i done (x ∷ rest) [] count cut are = absurd are
+items_state Spells state all each i done [] (line ∷ lines) count cut are = absurd are
+items_state Spells state all each i done (x ∷ rest) (line ∷ lines) count cut are =
+    line_then (state done) (state (done ++ x ∷ [])) (state all) line lines
+    (each done x rest line.text cut (subst (λ k. Spells k line.text x) count are.0))
+    (items_state Spells state all each (i + 1) (done ++ x ∷ []) rest lines (omega (arith, length-append done (x ∷ []), count))
+    (cut ∙ sym (append_assoc done (x ∷ []) rest)) are.1)
+
+-- the NAME is the value of its key
+abbrev IsNameOf : HeaderKey → List ℕ → List ℕ → Type 0
+IsNameOf key.Name value name = name ≡ value
+IsNameOf k value name = Unit {0}
+
+name_stands : (k : HeaderKey) (value name : List ℕ) → IsNameOf k value (name_with k value name)
+name_stands key.Name value name = refl
+name_stands k value name = tt
+
+name_kept : (k j : HeaderKey) (value name : List ℕ) → IsNameOf j value name → IsNameOf j value (name_with k value name)
+name_kept key.Name key.Name value name was = refl
+name_kept key.Name j value name was = was
+name_kept k j value name was = was
+
+-- a NAME and a header have what the model states by a key
+abbrev Has : StatedHeader → HeaderKey → List ℕ → Header → Type 0
+Has m k name h = (number_of h k ≡ Some (told m k)) × IsNameOf k m.name name
+
+-- behind the lines of these keys
+record Walked (problem : Problem) (n : ℕ) (m : StatedHeader) (keys : List HeaderKey) (lines : List Line) (name : List ℕ)
+    (h : Header) : Type 0 where
+  pub last_name : List ℕ
+  pub last : Header
+  pub states : StateAny (heading problem n name h) lines (heading problem n last_name last)
+  pub kept : (k : HeaderKey) → Has m k name h → Has m k last_name last
+  pub all : (k : HeaderKey) → Contains keys k → Has m k last_name last
+
+walk : (problem : Problem) (n : ℕ) (m : StatedHeader) (i : ℕ) (lines : List Line) (keys : List HeaderKey) (name : List ℕ) (h : Header)
+    → AreLines (λ _ line k. IsHeaderLine problem n m line k) i lines keys → AllPairs (λ k j. k ≢ j) keys
+    → ((k : HeaderKey) → Contains keys k → has_key problem k ≡ true → is_given k h ≡ false) → Walked problem n m keys lines name h
+walk problem n m i [] [] name h are once fresh =
+    record { last_name = name; last = h; states = λ number. refl; kept = λ k was. was; all = λ k c. absurd (omega (arith, c.1)) }
+walk problem n m i [] (k ∷ keys) name h are once fresh = absurd are
+walk problem n m i (line ∷ lines) [] name h are once fresh = absurd are
+walk problem n m i (line ∷ lines) (k ∷ keys) name h are once fresh =
+    let number = told m k in
+    let next_name = name_with k m.name name in
+    let next = with_key h k number in
+    let new = fresh k (0, omega arith, refl) are.0.of_problem in
+    let differs : (j : HeaderKey) → Contains keys j → k ≢ j =
+    λ j c. subst (λ x. k ≢ x) c.2 (once 0 (suc c.0) j (omega arith) (omega (arith, c.1))) in
+    let more = walk problem n m (i + 1) lines keys next_name next are.1
+    (λ a b d less inside. once (suc a) (suc b) d (omega (arith, less)) (omega (arith, inside)))
+    (each_with (λ j found. Contains keys j → has_key problem j ≡ true → is_some found ≡ false) h k number
+    (λ c has. absurd (differs k c refl)) (λ j _ c has. fresh j (suc c.0, omega (arith, c.1), c.2) has)) in
+    record {
+      last_name = more.last_name;
+      last = more.last;
+      states = line_then (heading problem n name h) (heading problem n next_name next) (heading problem n more.last_name more.last) line lines
+          (key_states (heading problem n name h) m k line.text refl new are.0) more.states;
+      kept = λ j was. more.kept j (
+        each_with (λ j found. number_of h j ≡ Some (told m j) → found ≡ Some (told m j)) h k number (λ _. refl) (λ j _ same. same) j was.0,
+        name_kept k j m.name name was.1,
+      );
+      all = λ j c. elim (contains_cases k keys j c.0 c.1 c.2) [
+        | inl same ↦ subst (λ j. Has m j more.last_name more.last) same (more.kept k (with_same h k number, name_stands k m.name name))
+        | inr there ↦ more.all j there
+      ];
+    }
+
+-- what has no key stands before the first
+without : (problem : Problem) (m : StatedHeader) (k : HeaderKey) → has_key problem k ≡ false → (problem ≡ Cpit → m.destinations ≡ 1)
+    → Has m k [] (blank_header problem)
+unfolding with_key
+without Pcpsp m k e single = absurd cc
+without Cpit m key.Destinations e single = (ap Some (sym (single refl)), tt)
+without Cpit m key.General e single = (refl, tt)
+without Cpit m k e single = absurd cc
+
+-- behind the header's lines it stands whole
+record HasHeader (problem : Problem) (n : ℕ) (m : StatedHeader) (lines : List Line) : Type 0 where
+  pub name : List ℕ
+  pub h : Header
+  pub states : StateAny (blank_model problem n) lines (heading problem n name h)
+  pub complete : is_complete h ≡ true
+  pub stated : header_stated name h ≡ m
+
+-- the rate is not negative
+rate_line : (problem : Problem) (n : ℕ) (m : StatedHeader) (line : List ℕ) (k : HeaderKey) → IsHeaderLine problem n m line k → k ≡ key.Rate
+    → pos (unsigned_abs m.rate) ≡ m.rate
+rate_line problem n m line k h is =
+    from_zero m.rate (subst (λ k. IsHeaderLine problem n m line k) is h).says.1
+
+has_rate : (problem : Problem) → has_key problem key.Rate ≡ true
+has_rate Pcpsp = refl
+has_rate Cpit = refl
+
+rated : (problem : Problem) (n : ℕ) (lines : List Line) (m : StatedHeader) → AreHeaderLines problem n lines m → pos (unsigned_abs m.rate) ≡ m.rate
+rated problem n lines m h =
+    let each = items_keep (λ _ line k. IsHeaderLine problem n m line k) (λ k. k ≡ key.Rate → pos (unsigned_abs m.rate) ≡ m.rate)
+    (λ _ line k l is. rate_line problem n m line k l is) 0 lines h.keys h.spelled in
+    let there = h.all key.Rate (has_rate problem) in
+    each there.0 key.Rate there.1 there.2
+
+header_back : (problem : Problem) (n : ℕ) (m : StatedHeader) (lines : List Line) → (problem ≡ Cpit → m.destinations ≡ 1)
+    → AreHeaderLines problem n lines m → HasHeader problem n m lines
+header_back problem n m lines single are =
+    let w = walk problem n m 0 lines are.keys [] (blank_header problem) are.spelled are.once
+    (λ k _ has. first_given problem k ∙ ap not has) in
+    let each : (k : HeaderKey) → Has m k w.last_name w.last =
+    λ k. elim (cases_Bool (has_key problem k)) [
+      | inl has ↦ w.all k (are.all k has)
+      | inr none ↦ w.kept k (without problem m k none single)
+    ] in
+    let count : (k : HeaderKey) → count_in w.last k ≡ told m k = λ k. ap (λ number. unwrap_or number 0) (each k).0 in
+    record {
+      name = w.last_name;
+      h = w.last;
+      states = w.states;
+      complete = all_given w.last (λ k. ap is_some (each k).0);
+      stated = λ i. record {
+        name = (each key.Name).1 i;
+        periods = count key.Periods i;
+        destinations = count key.Destinations i;
+        resources = count key.Resources i;
+        rate = (ap pos (count key.Rate) ∙ rated problem n lines m are) i;
+      };
+    }
+
+-- a CPIT's coefficients are of its only destination
+of_destination : (problem : Problem) (m : StatedModel) → IsOfProblem problem m → All (HasDestination problem) m.coefs
+of_destination Pcpsp m of_it = λ i c within. tt
+of_destination Cpit m of_it = of_it.1
+
+single : (problem : Problem) (m : StatedModel) → IsOfProblem problem m → problem ≡ Cpit → m.header.destinations ≡ 1
+single Pcpsp m of_it is = absurd cc
+single Cpit m of_it is = of_it.0
+
+-- a model with the header that was read
+abbrev with_header : StatedModel → StatedHeader → StatedModel
+with_header m header = record { header = header; values = m.values; coefs = m.coefs; limits = m.limits }
+
+-- lines that spell a model state a draft of it
+abbrev StatedAs : Problem → ℕ → List Line → StatedModel → Type 0
+StatedAs problem n lines m = (d : ModelDraftView) × StateModel problem n lines d × (stated_by d ≡ m)
+
+sections_back : (problem : Problem) (n : ℕ) (m : StatedModel) (lines : List Line) (name : List ℕ) (h : Header) → is_complete h ≡ true
+    → (are : AreModelLines problem n lines (with_header m (header_stated name h)))
+    → StateAny (blank_model problem n) are.heading (heading problem n name h)
+    → StatedAs problem n lines (with_header m (header_stated name h))
+sections_back problem n m lines name h complete are header =
+    let at = draft problem n name h in
+    let values = items_state (λ block line vs. Spell (values_form n (count_in h key.Destinations)) (fields_of line) (values_values block vs))
+    (λ done. at Objective done [] []) m.values
+    (λ done x rest line cut s. values_states problem n name h done x line s) 0 [] m.values are.values refl refl are.spell_values in
+    let destination = of_destination problem (with_header m (header_stated name h)) are.of_problem in
+    let coefs = items_state (λ _ line c. Spell (coef_form problem n (count_in h key.Destinations) (count_in h key.Resources)) (fields_of line)
+    (coef_values problem c)) (λ done. at Coefs m.values done []) m.coefs
+    (λ done x rest line cut s. coef_states problem n name h m.values done x line s
+    (item_there m.coefs done x rest cut (HasDestination problem) destination)
+    (behind_last comes_before m.coefs done x rest cut are.rising_coefs)) 0 [] m.coefs are.coefs refl refl are.spell_coefs in
+    let limits = items_state (λ _ line l. Spell (limit_form (count_in h key.Resources) (count_in h key.Periods) (fields_of line)) (fields_of line)
+    (limit_values l)) (λ done. at Limits m.values m.coefs done) m.limits
+    (λ done x rest line cut s. limit_states problem n name h m.values m.coefs done x line s
+    (item_there m.limits done x rest cut (λ l. is_turned l.bound ≡ false) are.straight_limits)
+    (behind_last stands_before m.limits done x rest cut are.rising_limits)) 0 [] m.limits are.limits refl refl are.spell_limits in
+    let objective = section_states (at Heading [] [] []) Objective are.objective.text are.begin_values refl complete in
+    let coefficients = section_states (at Objective m.values [] []) Coefs are.coefficients.text are.begin_coefs refl
+    (eq-eqb (length m.values) n are.all_values) in
+    let resource_limits = section_states (at Coefs m.values m.coefs []) Limits are.resource_limits.text are.begin_limits refl refl in
+    let last = at Limits m.values m.coefs m.limits in
+    let behind_coefs = line_then _ _ last are.resource_limits are.limits resource_limits limits in
+    let behind_values = line_then _ _ last are.coefficients _ coefficients (lines_then _ _ last are.coefs _ coefs behind_coefs) in
+    let behind_header = line_then _ _ last are.objective _ objective (lines_then _ _ last are.values _ values behind_values) in
+    let all = lines_then _ _ last are.heading _ header behind_header 1 in (
+      last,
+      (
+        subst (λ lines. AllState model_grammar 1 (blank_model problem n) lines last) (sym are.cut) all,
+        rw (complete, eq-eqb (length m.values) n are.all_values) refl,
+      ),
+      refl,
+    )
+
+pub spelled_stated : (problem : Problem) (n : ℕ) (lines : List Line) (m : StatedModel) → AreModelLines problem n lines m
+    → StatedAs problem n lines m
+spelled_stated problem n lines m are =
+    let h = header_back problem n m.header are.heading (single problem m are.of_problem) are.spell_header in
+    subst (λ header. (are : AreModelLines problem n lines (with_header m header))
+    → StateAny (blank_model problem n) are.heading (heading problem n h.name h.h) → StatedAs problem n lines (with_header m header))
+    h.stated (sections_back problem n m lines h.name h.h h.complete) are h.states

@@ -1,0 +1,56 @@
+-- What a model file states, and what that is of an instance and of a constrained pit limit problem.
+use Rattle.std.specs.Prelude.{ℕ, List, [], ◌∷◌, map, ℤ}
+use Rattle.pit_parts.specs.declared.limit.Limit.{Limit}
+use Rattle.mine_instance.specs.Cpit.{CpitParts}
+use Rattle.mine_instance.specs.declared.coef.Coef.{Coef}
+use Rattle.mine_instance.specs.declared.instance.Instance.{Instance}
+use Rattle.minelib_lines.specs.LineValues.{at_only_destination}
+
+-- what the header states, the discount rate in millionths
+pub record StatedHeader : Type 0 where
+  pub name : List ℕ
+  pub periods : ℕ
+  pub destinations : ℕ
+  pub resources : ℕ
+  pub rate : ℤ
+
+-- the header, and what the sections state: of each block a value for each destination, coefficients and limits
+pub record StatedModel : Type 0 where
+  pub header : StatedHeader
+  pub values : List (List ℤ)
+  pub coefs : List Coef
+  pub limits : List Limit
+
+-- the part of an instance that its model file states
+abbrev pub model_of : Instance → StatedModel
+model_of i = record {
+  header = record {
+    name = i.name;
+    periods = i.periods;
+    destinations = i.destinations;
+    resources = i.resources;
+    rate = i.rate;
+  };
+  values = i.values;
+  coefs = i.coefs;
+  limits = i.limits;
+}
+
+-- a value as those of the only destination
+abbrev pub alone : ℤ → List ℤ
+alone v = v ∷ []
+
+-- a constrained pit limit problem as its model file states it: of one destination
+abbrev pub model_of_cpit : CpitParts → StatedModel
+model_of_cpit c = record {
+  header = record {
+    name = c.name;
+    periods = c.periods;
+    destinations = 1;
+    resources = c.resources;
+    rate = c.rate;
+  };
+  values = map alone c.values;
+  coefs = map at_only_destination c.coefs;
+  limits = c.limits;
+}
