@@ -14,7 +14,7 @@ pub data Value : Type 0 where
   Millionths : (m : ℤ) → Value
   Bytes : (word : List ℕ) → Value
 
--- a whole number below a limit
+-- a whole number below a limit: its range ends one millionth below, so that a limit of 0 leaves no number
 abbrev pub below : ℕ → Field
 below limit = Decimal 0 (pos 0) (pos (limit * 10 ^ 6) +ℤ negsuc 0)
 
@@ -30,11 +30,12 @@ up_to decimals most = Decimal decimals (pos 0) (pos most)
 abbrev pub whole : ℕ → Value
 whole n = Millionths (pos (n * 10 ^ 6))
 
--- the millionths that a value is, and the whole number; 0 of a word
+-- the millionths that a value is; 0 of a word
 abbrev pub millionths : Value → ℤ
 millionths (Millionths m) = m
 millionths (Bytes word) = pos 0
 
+-- the whole number that it is, whose sign and fraction are dropped: a field of whole numbers from 0 has neither
 abbrev pub whole_stated : Value → ℕ
 whole_stated value = unsigned_abs (millionths value) / 10 ^ 6
 

@@ -30,7 +30,7 @@ value_fields n values = written (values_values n values)
 abbrev pub greatest_fields : ℕ → List ℤ → List (List ℕ)
 greatest_fields n values = value_fields n (greatest values ∷ [])
 
--- `b d r v`, or `b r v`
+-- `b d r v`, or `b r v`; the place of a line among its kind is given to each, and is no field of a coefficient or of a limit
 abbrev pub coef_fields : Problem → ℕ → Coef → List (List ℕ)
 coef_fields problem n c = written (coef_values problem c)
 

@@ -75,6 +75,7 @@ fn found_job(alloc: Global, matches: &ArgMatches<'_>) -> Result<Option<Job>, All
     match name {
         "compile" => compile_job(alloc, found),
         "check" => check_job(alloc, found),
+        // clap finds no other
         _ => Ok(None),
     }
 }

@@ -59,7 +59,8 @@ formula_shape key.Mill cells = record {
   asked = λ values. [];
   made = λ values. formula.Mill (whole_at values 1) (whole_at values 2) (whole_at values 3);
 }
--- `leach, NAME, price, cost`, and at least one band
+-- `leach, NAME, price, cost`, and at least one band: subtraction stops at 0, so a shorter record is measured against one band, and an odd
+-- one against the bands that are whole; its width refuses each
 formula_shape key.Leach cells = record {
   form = a_name ∷ a_price ∷ a_cost ∷ bands_form (suc ((length cells - 6) / 2));
   asked = λ values. bands_asked (bands_of (drop 3 values));

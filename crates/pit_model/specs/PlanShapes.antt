@@ -53,7 +53,7 @@ grid_of values = record { x = axis_at values 0; y = axis_at values 1; z = axis_a
 abbrev pub grid_shape : Stated → List (List ℕ) → Shape PlanFaultKind Stated
 grid_shape s cells = cells_shape cells grid_form (λ values. once s.grid) (λ values. record s { grid = Some (grid_of values) })
 
--- `zone, p, q, K`, the same slope on all four sides; or p and q of +x, of -x, of +y and of -y, and K
+-- true, one slope for all four sides: `zone, p, q, K`; false: p and q of +x, of -x, of +y and of -y, and K
 abbrev pub zone_form : Bool → List Field
 zone_form true = a_leg ∷ a_leg ∷ benches ∷ []
 zone_form false = a_leg ∷ a_leg ∷ a_leg ∷ a_leg ∷ a_leg ∷ a_leg ∷ a_leg ∷ a_leg ∷ benches ∷ []
@@ -107,7 +107,8 @@ a_destination formulas = Word (λ cell. is_some (destination_named formulas cell
 abbrev pub a_resource : List Resource → Field
 a_resource resources = Word (λ cell. is_some (resource_named resources cell))
 
--- `resource, NAME`, and the NAMEs of one or more earlier destinations, none twice
+-- `resource, NAME`, and the NAMEs of one or more earlier destinations, none twice; subtraction stops at 0, so one NAME is asked of a record
+-- that has none, and its width refuses it
 abbrev pub resource_form : Stated → List (List ℕ) → List Field
 resource_form s cells = a_name ∷ replicate (suc (length cells - 3)) (a_destination s.formulas)
 

@@ -12,7 +12,7 @@ use crate::resource::Resource;
 use pit_units::Dec;
 use std::marker::Model;
 
-/// How many periods a plan has, and the discount rate of each.
+/// How many periods a plan has, and its discount rate, the same for each period.
 #[derive(Clone, Copy)]
 pub struct Horizon {
     /// The number of periods.

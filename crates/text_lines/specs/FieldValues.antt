@@ -1,4 +1,4 @@
--- What the fields of a line state, left to right, each up to its first fault. Only proofs and private contracts need it.
+-- What the fields of a line state, left to right, each up to its first fault.
 use Rattle.std.specs.Prelude.{◌≡◌, ℕ, ◌/◌, ◌^◌, nat_lt, List, [], ◌∷◌, ◌++◌, ℤ, pos, negsuc, Result, Ok, Err, if◌then◌else◌}
 use Rattle.std.specs.Borrow.{Bor}
 use Rattle.pit_units.specs.Decimal.{decimal_of}

@@ -1,5 +1,4 @@
--- What a sink tells before and after one step of a writer, which may hold back bytes in a buffer. Contracts within the crate and proofs
--- alone need this page.
+-- What a sink tells before and after one step of a writer, which may hold back bytes in a buffer.
 use Rattle.std.specs.Prelude.{◌≡◌, ◌+◌, ℕ, List}
 use Rattle.text_sinks.specs.Device.{added, IsFront}
 use Rattle.text_sinks.specs.declared.write_fault.WriteFault.{WriteFault}
