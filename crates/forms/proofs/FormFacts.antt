@@ -19,7 +19,7 @@ use Rattle.forms.specs.FieldFault as fault
 use Rattle.forms.specs.Asked.{asked, asked_of_field, asked_of_fields, asked_of_decimal}
 use Rattle.forms.specs.Field.{Field, Decimal, Word, Value, Millionths, Bytes, Stepped, is_on_step, millionths}
 use Rattle.forms.specs.Fit.{FitsField, Fit, has_six_decimals, is_fine}
-use Rattle.forms.specs.Read.{number_of, read_field, read_fields, read, next_kinds, read_decimal}
+use Rattle.forms.specs.Read.{number_or_kind, read_field, read_fields, read, next_kinds, read_decimal}
 use Rattle.forms.specs.Spelled.{Says, Spell}
 use Rattle.forms.specs.WrittenValues.{written, written_value}
 use Rattle.forms.specs.Steps.{◌>>=◌}
@@ -38,7 +38,7 @@ both_true false b e a is = absurd cc
 pub number_told : {B K : Type 0} (kind : FieldFault → K) (decimals : ℕ) (text : List ℕ) (f : ℤ → Result B K) (met : Type 0) (Q : B → Type 0)
     → decimals ≤ 6 → (met → (m : ℤ) × StandsFor decimals text m)
     → ((m : ℤ) → StandsFor decimals text m → Follows (f m) (demand (kind fault.Range) met) Q)
-    → Follows (number_of kind (decimal_of decimals text) >>= f)
+    → Follows (number_or_kind kind (decimal_of decimals text) >>= f)
     (demand (kind fault.Number) (IsDecimal text) ++ demand (kind fault.TooFine) (IsFine decimals text) ++ demand (kind fault.Range) met) Q
 number_told {B} {K} kind decimals text f met Q few there next = by (decimal_of decimals text) refl
   where
@@ -46,7 +46,7 @@ number_told {B} {K} kind decimals text f met Q few there next = by (decimal_of d
     front = demand (kind fault.Number) (IsDecimal text) ++ demand (kind fault.TooFine) (IsFine decimals text)
 
     by : (r : Result ℤ DecFault) → decimal_of decimals text ≡ r
-        → Follows (number_of kind r >>= f) (front ++ demand (kind fault.Range) met) Q
+        → Follows (number_or_kind kind r >>= f) (front ++ demand (kind fault.Range) met) Q
     by (Ok m) e =
         let stands = read_stands decimals text m few e in
         let fine = stands_fine decimals text m stands in

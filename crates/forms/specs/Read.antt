@@ -13,16 +13,16 @@ abbrev pub next_kinds : {K : Type 0} → (ℕ → FieldFault → K) → ℕ → 
 next_kinds kinds place = kinds (suc place)
 
 -- the millionths of a decimal, or its fault
-abbrev pub number_of : {K : Type 0} → (FieldFault → K) → Result ℤ DecFault → Result ℤ K
-number_of kind (Ok m) = Ok m
-number_of kind (Err dec.Number) = Err (kind fault.Number)
-number_of kind (Err dec.TooFine) = Err (kind fault.TooFine)
-number_of kind (Err dec.Range) = Err (kind fault.Range)
+abbrev pub number_or_kind : {K : Type 0} → (FieldFault → K) → Result ℤ DecFault → Result ℤ K
+number_or_kind kind (Ok m) = Ok m
+number_or_kind kind (Err dec.Number) = Err (kind fault.Number)
+number_or_kind kind (Err dec.TooFine) = Err (kind fault.TooFine)
+number_or_kind kind (Err dec.Range) = Err (kind fault.Range)
 
 -- what a text states as a decimal
 abbrev pub read_decimal : {K : Type 0} → (FieldFault → K) → ℕ → ℤ → ℤ → List ℕ → Result Value K
 read_decimal kind decimals low high text =
-    number_of kind (decimal_of decimals text) >>= λ m.
+    number_or_kind kind (decimal_of decimals text) >>= λ m.
     if int_le low m && int_le m high then Ok (Millionths m) else Err (kind fault.Range)
 
 -- what a text states as this field

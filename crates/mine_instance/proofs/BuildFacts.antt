@@ -15,7 +15,7 @@ use Rattle.pit_parts.specs.declared.block.Block.{Block}
 use Rattle.pit_parts.specs.declared.resource.Resource.{Resource}
 use Rattle.precedence.specs.Identifier.{id}
 use Rattle.precedence.specs.Numbering.{IsNumbering, NumberingView}
-use Rattle.mine_instance.specs.OfModel.{block_with, by_identifier, covers, pair_with, covering, block_coefs, coefs_of}
+use Rattle.mine_instance.specs.OfModel.{block_of_id, by_identifier, covers, pair_with, covering, block_coefs, coefs_of}
 use Rattle.mine_instance.specs.Rows.{rows_of}
 
 next_taken : {X : Type 0} (xs : List X) (i : ℕ) (x : X) → slice_get xs i ≡ Some x → take (suc i) xs ≡ take i xs ++ x ∷ []
@@ -119,7 +119,7 @@ fails false never = refl
 
 -- the block of an identifier is the one of the numbering
 block_found : (listed : List Block) (n : NumberingView) → IsNumbering listed n → (k : ℕ) (d : Block) → k < length n.blocks
-    → block_with listed k ≡ Some (get_or n.blocks k d)
+    → block_of_id listed k ≡ Some (get_or n.blocks k d)
 block_found listed n is k d h =
     find_at (λ b. id listed b == k) listed
     ∙ ap (slice_get listed) (position_or_len_is (λ b. id listed b == k) listed q d (omega arith) before at)
@@ -155,8 +155,8 @@ all_found f g a (suc m) each =
 -- blocks by identifier are those of the numbering
 pub by_identifier_is : (listed : List Block) (n : NumberingView) → IsNumbering listed n → by_identifier listed ≡ n.blocks
 by_identifier_is listed n is =
-    ap (λ m. filter_map (block_with listed) (range_with_len 0 m)) (sym is.blocks)
-    ∙ all_found (block_with listed) (λ k. get_or n.blocks k blank) 0 (length n.blocks)
+    ap (λ m. filter_map (block_of_id listed) (range_with_len 0 m)) (sym is.blocks)
+    ∙ all_found (block_of_id listed) (λ k. get_or n.blocks k blank) 0 (length n.blocks)
     (λ k h. block_found listed n is k blank (omega arith))
     ∙ sym (fill_by_all (λ k. get_or n.blocks k blank) n.blocks (length n.blocks) blank refl (λ k h. refl))
   where

@@ -11,7 +11,7 @@ use Rattle.mine_instance.specs.CpitKept.{IsCpit, cpit_of}
 use Rattle.mine_instance.specs.CpitOrder.{is_listed_before}
 use Rattle.mine_instance.specs.Greatest.{first_greatest, greatest}
 use Rattle.mine_instance.specs.OfCpit.{is_at, is_chosen, without_destination, destination_of}
-use Rattle.mine_instance.specs.Order.{comes_before}
+use Rattle.mine_instance.specs.Order.{coef_comes_before}
 use Rattle.mine_instance.specs.Valid.{IsValid}
 use Rattle.mine_instance.specs.declared.coef.Coef.{Coef}
 use Rattle.mine_instance.specs.declared.cpit.CpitCoef.{CpitCoef}
@@ -23,7 +23,7 @@ some_values i v = All-weaker (λ of_block. length of_block ≡ i.destinations) (
     (λ of_block e. let one : 1 ≤ i.destinations = v.destinations.from_1_to_8.0 in omega arith) i.values v.destinations.one_each
 
 -- of two coefficients at their blocks' destinations, the order is that of blocks and resources
-listed : (values : List (List ℤ)) (c e : Coef) → is_chosen values c ≡ true → is_chosen values e ≡ true → IsTrue (comes_before c e)
+listed : (values : List (List ℤ)) (c e : Coef) → is_chosen values c ≡ true → is_chosen values e ≡ true → IsTrue (coef_comes_before c e)
     → IsTrue (is_listed_before (without_destination c) (without_destination e))
 listed values c e p q h = in_order (destination_of values) c.b e.b c.d e.d c.r e.r (eqb-true _ _ p) (eqb-true _ _ q) h
   where
@@ -42,7 +42,7 @@ kept_pass p (c ∷ coefs) = at (kept_pass p coefs) (p c) refl
     at rest true e = All-cons (λ c. p c ≡ true) c (filter p coefs) e rest
     at rest false e = rest
 
-chosen_rise : (values : List (List ℤ)) (coefs : List Coef) → AllPairs (λ c e. IsTrue (comes_before c e)) coefs
+chosen_rise : (values : List (List ℤ)) (coefs : List Coef) → AllPairs (λ c e. IsTrue (coef_comes_before c e)) coefs
     → AllPairs (λ c e. IsTrue (is_listed_before c e)) (map without_destination (filter (is_chosen values) coefs))
 chosen_rise values coefs rising i j d h k =
     let blank : Coef = record { b = 0; d = 0; r = 0; v = pos 0 } in
@@ -52,7 +52,7 @@ chosen_rise values coefs rising i j d h k =
     rw (get_or-map without_destination chosen i blank d low, get_or-map without_destination chosen j blank d high)
     (listed values (get_or chosen i blank) (get_or chosen j blank) (kept_pass (is_chosen values) coefs i blank low)
     (kept_pass (is_chosen values) coefs j blank high)
-    (AllPairs-filter (λ c e. IsTrue (comes_before c e)) (is_chosen values) coefs rising i j blank h high))
+    (AllPairs-filter (λ c e. IsTrue (coef_comes_before c e)) (is_chosen values) coefs rising i j blank h high))
 
 chosen_in_range : (values : List (List ℤ)) (n destinations resources : ℕ) (coefs : List Coef)
     → All (λ c. (c.b < n) × (c.d < destinations) × (c.r < resources)) coefs

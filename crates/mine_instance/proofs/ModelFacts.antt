@@ -23,7 +23,7 @@ use Rattle.rows.specs.Valued.{worths_by}
 use Rattle.mine_instance.proofs.ValidFacts.{rising_differ}
 use Rattle.mine_instance.specs.Valid.{AreLimits, AreCoefs, ArePreds, ArePredsOf, IsValid}
 use Rattle.mine_instance.specs.OfModel.{values_of, in_hundreds, covers, pair_with, covering, covered, coef_at, block_coefs, coefs_of, instance_of, instance_with}
-use Rattle.mine_instance.specs.Order.{comes_before}
+use Rattle.mine_instance.specs.Order.{coef_comes_before}
 use Rattle.mine_instance.specs.declared.coef.Coef.{Coef}
 
 -- one value per destination
@@ -224,7 +224,7 @@ block_coefs_in nd nr pairs k b fit = at (b.kg == 0)
     at false = All-map P (coef_at k b) pairs
         (All-weaker (λ (p : ℕ × ℕ). (p.0 < nd) × (p.1 < nr)) (λ p. (k ≡ k) × (p.0 < nd) × (p.1 < nr)) (λ p h. (refl, h.0, h.1)) pairs fit)
 
-coef_order : (k : ℕ) (b : Block) (p q : ℕ × ℕ) → PairBefore p q → IsTrue (comes_before (coef_at k b p) (coef_at k b q))
+coef_order : (k : ℕ) (b : Block) (p q : ℕ × ℕ) → PairBefore p q → IsTrue (coef_comes_before (coef_at k b p) (coef_at k b q))
 coef_order k b p q h = in_order k p.0 p.1 q.0 q.1 h
   where
     in_order : (k d r d' r' : ℕ) → (d < d') ⊎ ((d ≡ d') × (r < r'))
@@ -232,12 +232,12 @@ coef_order k b p q h = in_order k p.0 p.1 q.0 q.1 h
     in_order k d r d' r' h = grind (arith, nat_tests)
 
 block_coefs_rise : (pairs : List (ℕ × ℕ)) (k : ℕ) (b : Block) → AllPairs PairBefore pairs
-    → AllPairs (λ c e. IsTrue (comes_before c e)) (block_coefs pairs (k, b))
+    → AllPairs (λ c e. IsTrue (coef_comes_before c e)) (block_coefs pairs (k, b))
 block_coefs_rise pairs k b rise = at (b.kg == 0)
   where
-    at : (none : Bool) → AllPairs (λ c e. IsTrue (comes_before c e)) (cond none [] (map (coef_at k b) pairs))
+    at : (none : Bool) → AllPairs (λ c e. IsTrue (coef_comes_before c e)) (cond none [] (map (coef_at k b) pairs))
     at true = λ i j d h g. absurd (omega arith)
-    at false = pairs_map (λ c e. IsTrue (comes_before c e)) (coef_at k b) pairs (λ i j d h g. coef_order k b _ _ (rise i j d h g))
+    at false = pairs_map (λ c e. IsTrue (coef_comes_before c e)) (coef_at k b) pairs (λ i j d h g. coef_order k b _ _ (rise i j d h g))
 
 coefs_in : (nd nr : ℕ) (pairs : List (ℕ × ℕ)) (n : ℕ) (blocks : List Block) → All (λ p. (p.0 < nd) × (p.1 < nr)) pairs
     → All (λ c. (n ≤ c.b) × (c.b < n + length blocks) × (c.d < nd) × (c.r < nr)) (flat_map (block_coefs pairs) (enumerate_from n blocks))
@@ -252,7 +252,7 @@ coefs_in nd nr pairs n (b ∷ bs) fit =
     (λ c h. (omega arith, omega arith, h.2, h.3)) (flat_map (block_coefs pairs) (enumerate_from (n + 1) bs))
     (coefs_in nd nr pairs (n + 1) bs fit))
 
-block_order : (c e : Coef) → c.b < e.b → IsTrue (comes_before c e)
+block_order : (c e : Coef) → c.b < e.b → IsTrue (coef_comes_before c e)
 block_order c e h = in_order c.b e.b _ h
   where
     in_order : (m n : ℕ) (q : Bool) → m < n → (nat_lt m n || q) ≡ true
@@ -260,12 +260,12 @@ block_order c e h = in_order c.b e.b _ h
 
 coefs_rise : (nd nr : ℕ) (pairs : List (ℕ × ℕ)) (n : ℕ) (blocks : List Block) → All (λ p. (p.0 < nd) × (p.1 < nr)) pairs
     → AllPairs PairBefore pairs
-    → AllPairs (λ c e. IsTrue (comes_before c e)) (flat_map (block_coefs pairs) (enumerate_from n blocks))
+    → AllPairs (λ c e. IsTrue (coef_comes_before c e)) (flat_map (block_coefs pairs) (enumerate_from n blocks))
 coefs_rise nd nr pairs n [] fit rise = λ i j d h k. absurd (omega arith)
 coefs_rise nd nr pairs n (b ∷ bs) fit rise =
-    pairs_append (λ c e. IsTrue (comes_before c e)) (block_coefs pairs (n, b)) (flat_map (block_coefs pairs) (enumerate_from (n + 1) bs))
+    pairs_append (λ c e. IsTrue (coef_comes_before c e)) (block_coefs pairs (n, b)) (flat_map (block_coefs pairs) (enumerate_from (n + 1) bs))
     (block_coefs_rise pairs n b rise) (coefs_rise nd nr pairs (n + 1) bs fit rise)
-    (across (λ c e. IsTrue (comes_before c e)) (λ (c : Coef). (c.b ≡ n) × (c.d < nd) × (c.r < nr))
+    (across (λ c e. IsTrue (coef_comes_before c e)) (λ (c : Coef). (c.b ≡ n) × (c.d < nd) × (c.r < nr))
     (λ (c : Coef). (n + 1 ≤ c.b) × (c.b < n + 1 + length bs) × (c.d < nd) × (c.r < nr))
     (λ c e h k. block_order c e (omega arith)) (block_coefs pairs (n, b)) (flat_map (block_coefs pairs) (enumerate_from (n + 1) bs))
     (block_coefs_in nd nr pairs n b fit) (coefs_in nd nr pairs (n + 1) bs fit))

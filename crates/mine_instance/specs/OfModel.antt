@@ -14,12 +14,12 @@ use Rattle.mine_instance.specs.declared.coef.Coef.{Coef}
 use Rattle.mine_instance.specs.declared.instance.Instance.{Instance}
 
 -- the block of a list that has an identifier
-abbrev pub block_with : List Block → ℕ → Option Block
-block_with listed k = find (λ b. id listed b == k) listed
+abbrev pub block_of_id : List Block → ℕ → Option Block
+block_of_id listed k = find (λ b. id listed b == k) listed
 
 -- the blocks of a list by identifier
 abbrev pub by_identifier : List Block → List Block
-by_identifier listed = filter_map (block_with listed) (range_with_len 0 (length listed))
+by_identifier listed = filter_map (block_of_id listed) (range_with_len 0 (length listed))
 
 -- cents as millionths of 100 cents
 abbrev pub in_hundreds : ℤ → ℤ

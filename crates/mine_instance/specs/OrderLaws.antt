@@ -5,12 +5,12 @@ use Rattle.std.proofs.lemmas.Bool.Decides.{nat_tests}
 use Rattle.pit_parts.specs.PlanKept.{stands_before}
 use Rattle.pit_parts.specs.declared.limit.Limit.{Limit}
 use Rattle.mine_instance.specs.CpitOrder.{is_listed_before}
-use Rattle.mine_instance.specs.Order.{comes_before}
+use Rattle.mine_instance.specs.Order.{coef_comes_before}
 use Rattle.mine_instance.specs.declared.coef.Coef.{Coef}
 use Rattle.mine_instance.specs.declared.cpit.CpitCoef.{CpitCoef}
 
-pub comes_before_through : (x y z : Coef) → IsTrue (comes_before x y) → IsTrue (comes_before y z) → IsTrue (comes_before x z)
-comes_before_through x y z h k = grind (arith, nat_tests)
+pub coef_comes_before_through : (x y z : Coef) → IsTrue (coef_comes_before x y) → IsTrue (coef_comes_before y z) → IsTrue (coef_comes_before x z)
+coef_comes_before_through x y z h k = grind (arith, nat_tests)
 
 pub stands_before_through : (x y z : Limit) → IsTrue (stands_before x y) → IsTrue (stands_before y z) → IsTrue (stands_before x z)
 stands_before_through x y z h k = grind (arith, nat_tests)

@@ -19,11 +19,11 @@ pub struct Coef {
 
 impl Coef {
     ghost use Rattle.std.specs.Prelude.{◌≡◌};
-    ghost use Rattle.mine_instance.specs.Order.{comes_before};
+    ghost use Rattle.mine_instance.specs.Order.{coef_comes_before};
 
     /// Whether the coefficient comes before another: by block, then destination, then resource.
     pub fn comes_before(&self, other: &Coef) -> bool
-        ensures { result ≡ comes_before self.now other.now }
+        ensures { result ≡ coef_comes_before self.now other.now }
     {
         self.b < other.b
             || (self.b == other.b && (self.d < other.d || (self.d == other.d && self.r < other.r)))
@@ -65,13 +65,13 @@ impl Coefs {
 
 impl Ordered for Coef {
     ghost use Rattle.std.specs.Prelude.{IsTrue};
-    ghost use Rattle.mine_instance.specs.Order.{comes_before};
+    ghost use Rattle.mine_instance.specs.Order.{coef_comes_before};
 
-    ghost before = { λ c e. IsTrue (comes_before c e) };
+    ghost before = { λ c e. IsTrue (coef_comes_before c e) };
 
-    ghost use Rattle.mine_instance.specs.OrderLaws.{comes_before_through};
+    ghost use Rattle.mine_instance.specs.OrderLaws.{coef_comes_before_through};
 
-    ghost through = { comes_before_through };
+    ghost through = { coef_comes_before_through };
 
     fn is_before(&self, other: &Coef) -> bool {
         self.comes_before(other)

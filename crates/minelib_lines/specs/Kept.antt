@@ -7,25 +7,25 @@ use Rattle.mine_instance.specs.Cpit.{CpitParts}
 use Rattle.mine_instance.specs.declared.instance.Instance.{Instance}
 
 -- a decimal: at most 10^24 millionths either side of zero
-abbrev pub IsDecimal : ℤ → Type 0
-IsDecimal z = unsigned_abs z ≤ 10 ^ 24
+abbrev pub IsInDecimalRange : ℤ → Type 0
+IsInDecimalRange z = unsigned_abs z ≤ 10 ^ 24
 
 -- a bound of such numbers
 abbrev pub HasDecimals : Bound → Type 0
-HasDecimals (AtMost v) = IsDecimal v
-HasDecimals (AtLeast v) = IsDecimal v
-HasDecimals (Between v w) = IsDecimal v × IsDecimal w
+HasDecimals (AtMost v) = IsInDecimalRange v
+HasDecimals (AtLeast v) = IsInDecimalRange v
+HasDecimals (Between v w) = IsInDecimalRange v × IsInDecimalRange w
 
 -- an instance with a NAME and such numbers
 pub record IsKept (i : Instance) : Type 0 where
   pub name : is_name i.name ≡ true
-  pub values : All (λ values. All IsDecimal values) i.values
-  pub coefs : All (λ c. IsDecimal c.v) i.coefs
+  pub values : All (λ values. All IsInDecimalRange values) i.values
+  pub coefs : All (λ c. IsInDecimalRange c.v) i.coefs
   pub limits : All (λ l. HasDecimals l.bound) i.limits
 
 -- a CPIT with a NAME and such numbers
 pub record IsKeptCpit (c : CpitParts) : Type 0 where
   pub name : is_name c.name ≡ true
-  pub values : All IsDecimal c.values
-  pub coefs : All (λ e. IsDecimal e.v) c.coefs
+  pub values : All IsInDecimalRange c.values
+  pub coefs : All (λ e. IsInDecimalRange e.v) c.coefs
   pub limits : All (λ l. HasDecimals l.bound) c.limits

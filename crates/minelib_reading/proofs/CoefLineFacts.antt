@@ -7,7 +7,7 @@ use Rattle.forms.specs.Field.{Value, Millionths, Bytes, below, whole}
 use Rattle.forms.specs.Fit.{Fit, is_fine}
 use Rattle.forms.specs.Steps.{◌>>=◌}
 use Rattle.mine_instance.specs.declared.coef.Coef.{Coef}
-use Rattle.minelib_lines.specs.Kept.{IsDecimal}
+use Rattle.minelib_lines.specs.Kept.{IsInDecimalRange}
 use Rattle.text_lines.specs.FieldValues.{decimal_in, first_by, whole_in}
 use Rattle.text_lines.specs.LineKinds.{kind_by, text_kinds}
 use Rattle.minelib_reading.specs.inner.UncountedItems.{destination_in}
@@ -32,7 +32,7 @@ coef_plain Cpit n destinations resources = tt
 
 -- the values of a coefficient in range fit
 pub coef_fits : (problem : Problem) (n destinations resources : ℕ) (c : Coef) → n ≤ 10 ^ 18 → destinations ≤ 10 ^ 18 → resources ≤ 10 ^ 18
-    → (c.b < n) × (c.d < destinations) × (c.r < resources) → IsDecimal c.v
+    → (c.b < n) × (c.d < destinations) × (c.r < resources) → IsInDecimalRange c.v
     → Fit (coef_form problem n destinations resources) (coef_values problem c)
 coef_fits Pcpsp n destinations resources c few some small range decimal = (
   whole_fits n c.b range.0 few,

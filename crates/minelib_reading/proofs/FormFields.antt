@@ -13,12 +13,12 @@ use Rattle.forms.proofs.FormFacts.{read_spelled, true_le}
 use Rattle.forms.proofs.NumberFields.{quotient, whole_found}
 use Rattle.forms.specs.Field.{Field, Decimal, Stepped, Word, Value, Millionths, Bytes, below, millionths, whole, whole_stated}
 use Rattle.forms.specs.Fit.{FitsField, Fit, is_fine}
-use Rattle.forms.specs.Read.{number_of, read}
+use Rattle.forms.specs.Read.{number_or_kind, read}
 use Rattle.forms.specs.Spelled.{Spell}
 use Rattle.forms.specs.WrittenValues.{written}
 use Rattle.forms.specs.Steps.{◌>>=◌}
-use Rattle.text_lines.specs.FieldValues.{decimal_in, stated}
-use Rattle.minelib_lines.specs.Kept.{IsDecimal}
+use Rattle.text_lines.specs.FieldValues.{decimal_in, number_told}
+use Rattle.minelib_lines.specs.Kept.{IsInDecimalRange}
 use Rattle.text_lines.specs.LineKinds.{text_kind, text_kinds}
 use Rattle.minelib_reading.specs.ModelLines.{is_colon}
 use Rattle.text_lines.specs.declared.text_fault.TextKind.TheVariants.{Range}
@@ -28,20 +28,20 @@ use Rattle.text_lines.proofs.PlainText.{EachField, IsField, all_weaker, is_plain
 use Rattle.minelib_reading.specs.Fields.{any}
 
 -- a written decimal is a field
-pub decimal_field : (z : ℤ) → IsDecimal z → IsField (shortest z)
+pub decimal_field : (z : ℤ) → IsInDecimalRange z → IsField (shortest z)
 decimal_field z most =
     let plain = shortest_plain z most in
     record { some = plain.some; bytes = list_all-from_AllPass is_plain (shortest z) (λ k d h. number_byte _ (plain.bytes k d h)) }
 
-lowest : (z : ℤ) → IsDecimal z → negsuc (10 ^ 24 - 1) ≤ℤ z
+lowest : (z : ℤ) → IsInDecimalRange z → negsuc (10 ^ 24 - 1) ≤ℤ z
 lowest (pos m) small = omega (arith, ints)
 lowest (negsuc m) small = omega (arith, ints, small)
 
-highest : (z : ℤ) → IsDecimal z → z ≤ℤ pos (10 ^ 24)
+highest : (z : ℤ) → IsInDecimalRange z → z ≤ℤ pos (10 ^ 24)
 highest (pos m) small = omega (arith, ints, small)
 highest (negsuc m) small = omega (arith, ints)
 
-pub any_fits : (z : ℤ) → IsDecimal z → FitsField any (Millionths z)
+pub any_fits : (z : ℤ) → IsInDecimalRange z → FitsField any (Millionths z)
 any_fits z small = (lowest z small, highest z small, small, omega arith)
 
 -- the number of a value that fits
@@ -70,11 +70,11 @@ unfolding decimal_in
 any_reads text = by (decimal_of 6 text) refl
   where
     by : (r : Result ℤ DecFault) → decimal_of 6 text ≡ r
-        → (number_of text_kind r >>= λ m. if int_le (negsuc (10 ^ 24 - 1)) m
+        → (number_or_kind text_kind r >>= λ m. if int_le (negsuc (10 ^ 24 - 1)) m
         && int_le m (pos (10 ^ 24)) then Ok (Millionths m) else Err Range)
-        ≡ (stated r >>= λ m. Ok (Millionths m))
+        ≡ (number_told r >>= λ m. Ok (Millionths m))
     by (Ok m) e =
-        let small : IsDecimal m = (read_stands 6 text m (omega arith) e).in_range in
+        let small : IsInDecimalRange m = (read_stands 6 text m (omega arith) e).in_range in
         rw (true_le _ m (lowest m small), true_le m _ (highest m small)) refl
     by (Err dec.Number) e = refl
     by (Err dec.TooFine) e = refl

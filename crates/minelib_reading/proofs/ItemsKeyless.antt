@@ -3,7 +3,7 @@ use Rattle.std.specs.Prelude.{◌≡◌, ℕ, false, List, [], ◌∷◌, ◌++�
 use Rattle.std.specs.List.{list_any}
 use Rattle.std.proofs.Common.{refl, ◌∙◌, ap}
 use Rattle.forms.specs.Read.{read}
-use Rattle.mine_instance.specs.Order.{comes_before}
+use Rattle.mine_instance.specs.Order.{coef_comes_before}
 use Rattle.mine_instance.specs.declared.coef.Coef.{Coef}
 use Rattle.minelib_reading.specs.HeaderKeys.{count_in}
 use Rattle.minelib_reading.specs.ItemForms.{coef_form, values_form}
@@ -43,7 +43,7 @@ coef_keyless problem n destinations resources line coef e =
 pub coef_admitted : (d : ModelDraftView) (line : List ℕ) (coef : Coef) → d.section ≡ Coefs
     → coef_alone d.problem d.blocks (count_in d.header key.Destinations) (count_in d.header key.Resources) (fields_of line) ≡ Ok coef
     → admit_model d line
-    ≡ (if is_behind comes_before (last_of d.coefs) coef then Ok (record d { coefs = d.coefs ++ coef ∷ [] }) else Err Order)
+    ≡ (if is_behind coef_comes_before (last_of d.coefs) coef then Ok (record d { coefs = d.coefs ++ coef ∷ [] }) else Err Order)
 unfolding admit_model
 coef_admitted d line coef below e =
     let destinations = count_in d.header key.Destinations in

@@ -13,7 +13,7 @@ use Rattle.forms.specs.ShapeStates.{States}
 use Rattle.forms.specs.Steps.{◌>>=◌}
 use Rattle.pit_parts.specs.Name.{is_name}
 use Rattle.pit_parts.specs.PlanKept.{is_turned, stands_before}
-use Rattle.mine_instance.specs.Order.{comes_before}
+use Rattle.mine_instance.specs.Order.{coef_comes_before}
 use Rattle.minelib_reading.specs.HeaderKeys.{count_in, is_given, with_key}
 use Rattle.minelib_reading.specs.ItemForms.{bytes_in, coef_form, coef_said, limit_form, limit_said, row_said, values_form}
 use Rattle.minelib_reading.specs.KeyFields.{field_of, number_said}
@@ -207,7 +207,7 @@ values_takes d fields = by (read text_kinds (values_form d.blocks (count_in d.he
 pub coef_takes : (d : ModelDraftView) (fields : List (List ℕ))
     → takes (coef_line d fields)
     ≡ (coef_of d.problem d.blocks (count_in d.header key.Destinations) (count_in d.header key.Resources) fields
-    >>= λ c. if is_behind comes_before (last_of d.coefs) c then Ok (record d { coefs = d.coefs ++ c ∷ [] }) else Err Order)
+    >>= λ c. if is_behind coef_comes_before (last_of d.coefs) c then Ok (record d { coefs = d.coefs ++ c ∷ [] }) else Err Order)
 unfolding takes coef_line coef_of
 coef_takes d fields =
     by (read text_kinds (coef_form d.problem d.blocks (count_in d.header key.Destinations) (count_in d.header key.Resources)) fields)
@@ -217,11 +217,11 @@ coef_takes d fields =
     in_place false next = refl
 
     by : (r : Result (List Value) TextKind)
-        → (r >>= λ values. unless (failing (check Order (is_behind comes_before (last_of d.coefs) (coef_said d.problem values))))
+        → (r >>= λ values. unless (failing (check Order (is_behind coef_comes_before (last_of d.coefs) (coef_said d.problem values))))
         (Ok (record d { coefs = d.coefs ++ coef_said d.problem values ∷ [] })))
         ≡ ((r >>= λ values. Ok (coef_said d.problem values))
-        >>= λ c. if is_behind comes_before (last_of d.coefs) c then Ok (record d { coefs = d.coefs ++ c ∷ [] }) else Err Order)
-    by (Ok values) = in_place (is_behind comes_before (last_of d.coefs) (coef_said d.problem values)) _
+        >>= λ c. if is_behind coef_comes_before (last_of d.coefs) c then Ok (record d { coefs = d.coefs ++ c ∷ [] }) else Err Order)
+    by (Ok values) = in_place (is_behind coef_comes_before (last_of d.coefs) (coef_said d.problem values)) _
     by (Err kind) = refl
 
 pub limit_takes : (d : ModelDraftView) (fields : List (List ℕ))

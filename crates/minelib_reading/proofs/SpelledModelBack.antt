@@ -12,7 +12,7 @@ use Rattle.forms.specs.ShapeStates.{States}
 use Rattle.forms.specs.Spelled.{Spell}
 use Rattle.pit_parts.specs.PlanKept.{is_turned, stands_before}
 use Rattle.pit_parts.specs.declared.limit.Limit.{Limit}
-use Rattle.mine_instance.specs.Order.{comes_before}
+use Rattle.mine_instance.specs.Order.{coef_comes_before}
 use Rattle.mine_instance.specs.declared.coef.Coef.{Coef}
 use Rattle.text_lines.specs.TextLines.{Line, fields_of}
 use Rattle.text_lines.specs.declared.text_fault.TextKind.TheVariants.{Order, Count, Twice, Key, Missing}
@@ -129,7 +129,7 @@ values_states p n name h done vs line spelled =
 
 coef_states : (p : Problem) (n : ℕ) (name : List ℕ) (h : Header) (values : List (List ℤ)) (done : List Coef) (c : Coef) (line : List ℕ)
     → Spell (coef_form p n (count_in h key.Destinations) (count_in h key.Resources)) (fields_of line) (coef_values p c)
-    → HasDestination p c → is_behind comes_before (last_of done) c ≡ true
+    → HasDestination p c → is_behind coef_comes_before (last_of done) c ≡ true
     → States (model_line (draft p n name h Coefs values done []) line) (draft p n name h Coefs values (done ++ c ∷ []) [])
 unfolding coef_line
 coef_states p n name h values done c line spelled of_it behind =
@@ -142,8 +142,8 @@ coef_states p n name h values done c line spelled of_it behind =
       first = refl;
       values = coef_values p c;
       spelled = spelled;
-      last = met Order (is_behind comes_before (last_of done) (coef_said p (coef_values p c))) []
-          (ap (is_behind comes_before (last_of done)) same ∙ behind) refl;
+      last = met Order (is_behind coef_comes_before (last_of done) (coef_said p (coef_values p c))) []
+          (ap (is_behind coef_comes_before (last_of done)) same ∙ behind) refl;
       is = ap (λ c. draft p n name h Coefs values (done ++ c ∷ []) []) (sym same);
     })
 
@@ -334,7 +334,7 @@ sections_back problem n m lines name h complete are header =
     (coef_values problem c)) (λ done. at Coefs m.values done []) m.coefs
     (λ done x rest line cut s. coef_states problem n name h m.values done x line s
     (item_there m.coefs done x rest cut (HasDestination problem) destination)
-    (behind_last comes_before m.coefs done x rest cut are.rising_coefs)) 0 [] m.coefs are.coefs refl refl are.spell_coefs in
+    (behind_last coef_comes_before m.coefs done x rest cut are.rising_coefs)) 0 [] m.coefs are.coefs refl refl are.spell_coefs in
     let limits = items_state (λ _ line l. Spell (limit_form (count_in h key.Resources) (count_in h key.Periods) (fields_of line)) (fields_of line)
     (limit_values l)) (λ done. at Limits m.values m.coefs done) m.limits
     (λ done x rest line cut s. limit_states problem n name h m.values m.coefs done x line s

@@ -9,8 +9,8 @@ use Rattle.forms.specs.GrammarStates.{AllState}
 use Rattle.forms.specs.Shape.{Check, check, failing}
 use Rattle.forms.specs.ShapeStates.{States}
 use Rattle.pit_parts.specs.PlanKept.{stands_before, is_turned}
-use Rattle.mine_instance.specs.Order.{comes_before}
-use Rattle.mine_instance.specs.OrderLaws.{comes_before_through, stands_before_through}
+use Rattle.mine_instance.specs.Order.{coef_comes_before}
+use Rattle.mine_instance.specs.OrderLaws.{coef_comes_before_through, stands_before_through}
 use Rattle.mine_instance.specs.Valid.{AreCoefs, AreLimits}
 use Rattle.minelib_reading.specs.Fields.{any}
 use Rattle.minelib_reading.specs.HeaderKeys.{count_in, is_complete, is_given, with_key}
@@ -178,7 +178,7 @@ coef_line_kept problem n d next fields here kept s =
     s.spelled in
     let low = coef_low d.problem d.blocks destinations resources s.values
     (λ cpit. one_destination d.header (subst (λ p. KeepsOwn p d.header) (sym kept.of_problem ∙ cpit) kept.header.own)) fit in
-    let in_order = (passes Order (is_behind comes_before (last_of d.coefs) coef) [] s.last).0 in
+    let in_order = (passes Order (is_behind coef_comes_before (last_of d.coefs) coef) [] s.last).0 in
     let after : ModelDraftView = record d { coefs = d.coefs ++ coef ∷ [] } in
     let was : Ready Coefs after = subst (λ section. Ready section d) here kept.ready in
     subst (KeepsModel problem n) (sym s.is) (record {
@@ -191,7 +191,7 @@ coef_line_kept problem n d next fields here kept s =
         in_range =
             All-push (λ c. (c.b < n) × (c.d < count_in d.header key.Destinations) × (c.r < count_in d.header key.Resources)) d.coefs coef
             kept.coefs.in_range (subst (λ k. coef.b < k) kept.of_blocks low.0, low.1, low.2);
-        rising = rises_behind comes_before comes_before_through d.coefs coef kept.coefs.rising in_order;
+        rising = rises_behind coef_comes_before coef_comes_before_through d.coefs coef kept.coefs.rising in_order;
       };
       limits = kept.limits;
     })

@@ -12,7 +12,7 @@ use Rattle.mine_instance.specs.Cpit.{CpitParts}
 use Rattle.mine_instance.specs.CpitKept.{AreCpitCoefs, IsCpit}
 use Rattle.mine_instance.specs.CpitOrder.{is_listed_before}
 use Rattle.mine_instance.specs.OfCpit.{without_destination}
-use Rattle.mine_instance.specs.Order.{comes_before}
+use Rattle.mine_instance.specs.Order.{coef_comes_before}
 use Rattle.mine_instance.specs.Valid.{IsHorizon, HasDestinations, AreCoefs, AreLimits, IsValid}
 use Rattle.mine_instance.specs.declared.coef.Coef.{Coef}
 use Rattle.mine_instance.specs.declared.instance.Instance.{Instance}
@@ -111,7 +111,7 @@ one_each (values ∷ rows) each =
     let rest = one_each rows (All-tail (λ values. length values ≡ 1) values rows each) in
     omega (arith, length-append values (flat_map (λ values. values) rows))
 
-listed : (c e : Coef) → c.d < 1 → e.d < 1 → IsTrue (comes_before c e)
+listed : (c e : Coef) → c.d < 1 → e.d < 1 → IsTrue (coef_comes_before c e)
     → IsTrue (is_listed_before (without_destination c) (without_destination e))
 listed c e low high h = grind (arith, nat_tests)
 

@@ -10,7 +10,7 @@ use Rattle.forms.specs.Field.{Value, Millionths, Bytes, millionths, whole, whole
 use Rattle.forms.specs.Fit.{Fit, is_fine}
 use Rattle.forms.specs.Read.{read_fields}
 use Rattle.forms.specs.Steps.{◌>>=◌}
-use Rattle.minelib_lines.specs.Kept.{IsDecimal}
+use Rattle.minelib_lines.specs.Kept.{IsInDecimalRange}
 use Rattle.text_lines.specs.FieldValues.{all_by, decimal_in, first_by, whole_in}
 use Rattle.text_lines.specs.LineKinds.{kind_by, text_kinds}
 use Rattle.text_lines.specs.inner.Taken.{AdmitsCounted}
@@ -34,19 +34,19 @@ pub many_plain : (k : ℕ) → ArePlain (replicate k any)
 many_plain zero = tt
 many_plain (suc k) = many_plain k
 
-many_fit : (k : ℕ) (values : List ℤ) → length values ≡ k → All IsDecimal values → Fit (replicate k any) (map Millionths values)
+many_fit : (k : ℕ) (values : List ℤ) → length values ≡ k → All IsInDecimalRange values → Fit (replicate k any) (map Millionths values)
 many_fit zero [] count decimals = tt
 many_fit zero (v ∷ values) count decimals = absurd (omega (arith, count))
 many_fit (suc k) [] count decimals = absurd (omega (arith, count))
 many_fit (suc k) (v ∷ values) count decimals =
-    (any_fits v (All-head IsDecimal v values decimals), many_fit k values (omega (arith, count)) (All-tail IsDecimal v values decimals))
+    (any_fits v (All-head IsInDecimalRange v values decimals), many_fit k values (omega (arith, count)) (All-tail IsInDecimalRange v values decimals))
 
 pub many_again : (values : List ℤ) → map millionths (map Millionths values) ≡ values
 many_again [] = refl
 many_again (v ∷ values) = ap (λ more. v ∷ more) (many_again values)
 
 pub values_fits : (n destinations block : ℕ) (values : List ℤ) → n ≤ 10 ^ 18 → block < n → length values ≡ destinations
-    → All IsDecimal values
+    → All IsInDecimalRange values
     → Fit (values_form n destinations) (values_values block values)
 values_fits n destinations block values few low count decimals = (whole_fits n block low few, many_fit destinations values count decimals)
 

@@ -7,7 +7,7 @@ ghost use Rattle.minelib_reading.specs.Denotes.{cpit_read, instance_read};
 ghost use Rattle.minelib_reading.specs.HeaderKeys.{count_in, is_complete};
 ghost use Rattle.minelib_reading.specs.ModelLines.{blank_model, coef_line, finish_model, header_line, is_behind, is_heading, is_ready, is_whole, item_line, keyed_line, last_of, limit_line, name_with, section_line, values_line};
 ghost use Rattle.minelib_reading.specs.inner.ModelParts.{admit_model, is_name_for, takes};
-ghost use Rattle.mine_instance.specs.Order.{comes_before};
+ghost use Rattle.mine_instance.specs.Order.{coef_comes_before};
 ghost use Rattle.minelib_reading.specs.declared.model_key.HeaderKey.TheVariants as key;
 ghost use Rattle.minelib_reading.specs.declared.model_key.Section.TheVariants as Section;
 ghost use Rattle.text_lines.specs.declared.text_fault.TextKind.TheVariants as TextKind;
@@ -211,7 +211,7 @@ impl ModelDraft {
     fn add_coef(&mut self, coef: Coef) -> Result<(), LineError>
         requires { is_heading self.old.section ≡ false }
         ensures { Admits self.new result
-            (if is_behind comes_before (last_of self.old.coefs) coef then Ok
+            (if is_behind coef_comes_before (last_of self.old.coefs) coef then Ok
             (record self.old { coefs = self.old.coefs ++ coef ∷ [] }) else Err TextKind.Order) }
     {
         if !is_coef_behind(self.coefs.as_slice(), &coef) {

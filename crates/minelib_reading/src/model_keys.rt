@@ -4,7 +4,7 @@ ghost use Rattle.std.specs.Prelude.{◌≡◌, ◌+◌, ◌<◌, true, false, le
 ghost use Rattle.std.specs.List.{list_any, before_first, after_first};
 ghost use Rattle.std.specs.Str.{bytes_eq};
 ghost use Rattle.minelib_reading.specs.ModelLines.{is_colon, is_heading, is_limits, is_next, key_in, key_of, shared_key};
-ghost use Rattle.minelib_reading.specs.inner.ModelParts.{States, only_value};
+ghost use Rattle.minelib_reading.specs.inner.ModelParts.{StatesValue, only_value};
 ghost use Rattle.text_lines.specs.TextLines.{fields_of};
 
 use crate::model_key::{HeaderKey, ModelKey, Section};
@@ -41,7 +41,7 @@ pub fn is_word(bytes: &[u8], word: &[u8]) -> bool
 
 /// The one field of a line.
 pub fn only_value(line: &[u8]) -> Result<&[u8], TextKind>
-    ensures { States result (only_value (fields_of line.now)) }
+    ensures { StatesValue result (only_value (fields_of line.now)) }
 {
     let Some((value, behind)) = next_field(line) else {
         return Err(TextKind::Fields);

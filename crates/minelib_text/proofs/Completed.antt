@@ -5,7 +5,7 @@ use Rattle.std.proofs.Common.{refl, sym, ◌∙◌, ap, subst, arith, length-app
 use Rattle.std.proofs.lemmas.Bool.{cases_Bool}
 use Rattle.std.proofs.lemmas.Int.{ints}
 use Rattle.std.proofs.lemmas.List.Elements.{All-nil, All-cons}
-use Rattle.minelib_lines.specs.Kept.{IsDecimal}
+use Rattle.minelib_lines.specs.Kept.{IsInDecimalRange}
 use Rattle.minelib_lines.specs.Lines.{line_of}
 use Rattle.minelib_reading.specs.HeaderKeys.{header_keys, with_key, count_in, is_given, is_complete}
 use Rattle.minelib_reading.specs.ModelLines.{ModelDraftView, blank_header, is_whole, model_grammar}
@@ -74,10 +74,10 @@ unfolding zeros
 zeros_count zero = refl
 zeros_count (suc k) = ap suc (zeros_count k)
 
-zeros_kept : (k : ℕ) → All IsDecimal (zeros k)
+zeros_kept : (k : ℕ) → All IsInDecimalRange (zeros k)
 unfolding zeros
-zeros_kept zero = All-nil IsDecimal
-zeros_kept (suc k) = All-cons IsDecimal (pos 0) (zeros k) (omega arith) (zeros_kept k)
+zeros_kept zero = All-nil IsInDecimalRange
+zeros_kept (suc k) = All-cons IsInDecimalRange (pos 0) (zeros k) (omega arith) (zeros_kept k)
 
 -- so many blocks have no values yet
 values_left : (k : ℕ) (d : ModelDraftView) → is_complete d.header ≡ true → length d.values + k ≡ d.blocks → d.blocks ≤ 64000000

@@ -8,7 +8,7 @@ use Rattle.mine_instance.specs.CpitKept.{IsCpit}
 use Rattle.mine_instance.specs.OfCpit.{without_destination}
 use Rattle.mine_instance.specs.Valid.{AreCoefs}
 use Rattle.minelib_reading.specs.Denotes.{cpit_denoted}
-use Rattle.minelib_lines.specs.Kept.{IsDecimal, IsKeptCpit}
+use Rattle.minelib_lines.specs.Kept.{IsInDecimalRange, IsKeptCpit}
 use Rattle.minelib_lines.specs.Lines.{line_of, lines_from}
 use Rattle.minelib_reading.specs.ModelLines.{model_in}
 use Rattle.minelib_lines.specs.LineValues.{at_only_destination}
@@ -51,9 +51,9 @@ model_of c is kept = record {
   one_each = All-map (λ vs. length vs ≡ 1) alone c.values (λ k d within. refl);
   are_coefs = coefs_of c is;
   are_limits = is.limits;
-  values_kept = All-map (λ vs. All IsDecimal vs) alone c.values
-      (λ k d within. All-cons IsDecimal _ [] (kept.values k d within) (All-nil IsDecimal));
-  coefs_kept = All-map (λ e. IsDecimal e.v) at_only_destination c.coefs kept.coefs;
+  values_kept = All-map (λ vs. All IsInDecimalRange vs) alone c.values
+      (λ k d within. All-cons IsInDecimalRange _ [] (kept.values k d within) (All-nil IsInDecimalRange));
+  coefs_kept = All-map (λ e. IsInDecimalRange e.v) at_only_destination c.coefs kept.coefs;
   limits_kept = kept.limits;
 }
 

@@ -8,7 +8,7 @@ use Rattle.forms.specs.Fit.{Fit}
 use Rattle.forms.specs.Steps.{◌>>=◌}
 use Rattle.pit_parts.specs.declared.limit.Limit.{Limit}
 use Rattle.mine_instance.specs.declared.coef.Coef.{Coef}
-use Rattle.minelib_lines.specs.Kept.{IsDecimal, HasDecimals}
+use Rattle.minelib_lines.specs.Kept.{IsInDecimalRange, HasDecimals}
 use Rattle.minelib_reading.specs.ItemForms.{coef_form, coef_said, limit_form, limit_said, values_form}
 use Rattle.text_lines.specs.LineKinds.{text_kinds}
 use Rattle.minelib_reading.specs.inner.ModelParts.{values_of, values_said, coef_of, limit_of}
@@ -23,7 +23,7 @@ use Rattle.minelib_reading.proofs.ValuesLineFacts.{many_again, many_fine, many_p
 use Rattle.minelib_reading.proofs.LimitLineFacts.{bound_plain, limit_fine, limit_fits, said_again as limit_said_again}
 
 pub values_again : (n destinations before : ℕ) (values : List ℤ) → n ≤ 64000000 → before < n → length values ≡ destinations
-    → All IsDecimal values
+    → All IsInDecimalRange values
     → values_of n destinations before (value_fields before values) ≡ Ok values
 unfolding values_of
 values_again n destinations before values few below as_many h =
@@ -32,7 +32,7 @@ values_again n destinations before values few below as_many h =
     (values_fits n destinations before values (omega arith) below as_many h))
     ∙ rw (quotient before, eq-eqb before before refl, many_again values) refl
 
-pub values_fields : (before : ℕ) (values : List ℤ) → before < 64000000 → All IsDecimal values → AreFields (value_fields before values)
+pub values_fields : (before : ℕ) (values : List ℤ) → before < 64000000 → All IsInDecimalRange values → AreFields (value_fields before values)
 values_fields before values few h = record {
   some = omega arith;
   each = written_fields (values_form 64000000 (length values)) (values_values before values) (many_plain (length values))
@@ -46,7 +46,7 @@ IsCount Cpit destinations = destinations ≡ 1
 
 -- a coefficient's values fit: at most eight destinations, and one that is not written
 coef_fit : (p : Problem) (n destinations resources : ℕ) (c : Coef) → n ≤ 64000000 → IsCount p destinations → resources ≤ 8
-    → (c.b < n) × (c.d < destinations) × (c.r < resources) → IsDecimal c.v
+    → (c.b < n) × (c.d < destinations) × (c.r < resources) → IsInDecimalRange c.v
     → Fit (coef_form p n destinations resources) (coef_values p c) × HasDestination p c
 coef_fit Pcpsp n destinations resources c few count small h decimal =
     (coef_fits Pcpsp n destinations resources c (omega arith) (omega arith) (omega arith) h decimal, tt)
@@ -54,7 +54,7 @@ coef_fit Cpit n destinations resources c few count small h decimal =
     (coef_fits Cpit n destinations resources c (omega arith) (omega arith) (omega arith) h decimal, omega arith)
 
 pub coef_again : (p : Problem) (n destinations resources k : ℕ) (c : Coef) → n ≤ 64000000 → IsCount p destinations → resources ≤ 8
-    → (c.b < n) × (c.d < destinations) × (c.r < resources) → IsDecimal c.v → coef_of p n destinations resources (coef_fields p k c) ≡ Ok c
+    → (c.b < n) × (c.d < destinations) × (c.r < resources) → IsInDecimalRange c.v → coef_of p n destinations resources (coef_fields p k c) ≡ Ok c
 unfolding coef_of
 coef_again p n destinations resources k c few count small h decimal =
     let fit = coef_fit p n destinations resources c few count small h decimal in
@@ -63,7 +63,7 @@ coef_again p n destinations resources k c few count small h decimal =
     ∙ ap Ok (coef_said_again p c fit.1)
 
 pub coefs_fields : (p : Problem) (n destinations resources k : ℕ) (c : Coef) → n ≤ 64000000 → IsCount p destinations → resources ≤ 8
-    → (c.b < n) × (c.d < destinations) × (c.r < resources) → IsDecimal c.v → AreFields (coef_fields p k c)
+    → (c.b < n) × (c.d < destinations) × (c.r < resources) → IsInDecimalRange c.v → AreFields (coef_fields p k c)
 coefs_fields p n destinations resources k c few count small h decimal = record {
   some = some p;
   each = written_fields (coef_form p n destinations resources) (coef_values p c) (coef_plain p n destinations resources)

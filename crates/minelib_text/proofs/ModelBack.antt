@@ -3,10 +3,10 @@ use Rattle.std.proofs.Common.{◌≡◌, ℕ, ◌<◌, ◌≤◌, false, List, [
 use Rattle.std.specs.Prelude.{Ok, codes, All}
 use Rattle.pit_parts.specs.PlanKept.{stands_before, is_turned}
 use Rattle.pit_parts.specs.declared.limit.Limit.{Limit}
-use Rattle.mine_instance.specs.Order.{comes_before}
+use Rattle.mine_instance.specs.Order.{coef_comes_before}
 use Rattle.mine_instance.specs.Valid.{AreCoefs, AreLimits}
 use Rattle.mine_instance.specs.declared.coef.Coef.{Coef}
-use Rattle.minelib_lines.specs.Kept.{IsDecimal, HasDecimals}
+use Rattle.minelib_lines.specs.Kept.{IsInDecimalRange, HasDecimals}
 use Rattle.minelib_lines.specs.Lines.{text_of, line_of, lines_from}
 use Rattle.minelib_reading.specs.ModelLines.{ModelDraftView, blank_model, finish_model, item_line, model_in}
 use Rattle.forms.specs.Steps.{◌>>=◌}
@@ -35,8 +35,8 @@ pub record IsModel (p : Problem) (n periods destinations resources : ℕ) (value
   pub one_each : All (λ vs. length vs ≡ destinations) values
   pub are_coefs : AreCoefs n destinations resources coefs
   pub are_limits : AreLimits resources periods limits
-  pub values_kept : All (λ vs. All IsDecimal vs) values
-  pub coefs_kept : All (λ c. IsDecimal c.v) coefs
+  pub values_kept : All (λ vs. All IsInDecimalRange vs) values
+  pub coefs_kept : All (λ c. IsInDecimalRange c.v) coefs
   pub limits_kept : All (λ l. HasDecimals l.bound) limits
 
 -- a line of fields is an item of its section
@@ -58,7 +58,7 @@ module _ (p : Problem) (n : ℕ) (name : List ℕ) (periods destinations resourc
   each_values done vs rest whole =
       let few = m.few in
       let place : length done < n = omega (arith, m.as_many, is_place values done vs rest whole) in
-      let kept = item_there values done vs rest whole (λ vs. All IsDecimal vs) m.values_kept in
+      let kept = item_there values done vs rest whole (λ vs. All IsInDecimalRange vs) m.values_kept in
       let as_many = item_there values done vs rest whole (λ vs. length vs ≡ destinations) m.one_each in
       let fields = values_fields (length done) vs (omega arith) kept in (
         fields_line _ fields,
@@ -70,13 +70,13 @@ module _ (p : Problem) (n : ℕ) (name : List ℕ) (periods destinations resourc
       (λ done. draft p n name (full_header periods destinations resources rate) Coefs values done []) coefs
   each_coef done c rest whole =
       let range = item_there coefs done c rest whole (λ c. (c.b < n) × (c.d < destinations) × (c.r < resources)) m.are_coefs.in_range in
-      let kept = item_there coefs done c rest whole (λ c. IsDecimal c.v) m.coefs_kept in
+      let kept = item_there coefs done c rest whole (λ c. IsInDecimalRange c.v) m.coefs_kept in
       let fields = coefs_fields p n destinations resources (length done) c m.few m.count m.small range kept in (
         fields_line _ fields,
         item_admitted _ _ fields ∙ coef_takes _ _
             ∙ rw (
               coef_again p n destinations resources (length done) c m.few m.count m.small range kept,
-              behind_last comes_before coefs done c rest whole m.are_coefs.rising,
+              behind_last coef_comes_before coefs done c rest whole m.are_coefs.rising,
             ) refl,
       )
 

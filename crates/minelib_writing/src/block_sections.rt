@@ -4,7 +4,7 @@ ghost use Rattle.std.specs.Prelude.{◌≡◌, ◌<◌, ◌≤◌, ◌++◌, ◌
 ghost use Rattle.std.specs.List.{flat_map};
 ghost use Rattle.pit_units.specs.Decimal.{shortest};
 ghost use Rattle.mine_instance.specs.Greatest.{greatest};
-ghost use Rattle.minelib_lines.specs.Kept.{IsDecimal};
+ghost use Rattle.minelib_lines.specs.Kept.{IsInDecimalRange};
 ghost use Rattle.minelib_lines.specs.Lines.{line_of, lines_from};
 ghost use Rattle.minelib_writing.specs.Written.{prec_fields, greatest_fields, value_fields};
 ghost use Rattle.pit_parts.specs.declared.ranges.TheConstants.{MAX_BLOCKS};
@@ -61,7 +61,7 @@ pub struct ValueLines<'a> {
 impl<'a> Section for ValueLines<'a> {
     ghost lines = { λ s. lines_from value_fields 0 s.values.now };
 
-    ghost kept = { λ s n. HoldsAt (λ of_block. All IsDecimal of_block) s.values.now n };
+    ghost kept = { λ s n. HoldsAt (λ of_block. All IsInDecimalRange of_block) s.values.now n };
 
     fn len(&self) -> usize {
         self.values.len()
@@ -75,7 +75,7 @@ impl<'a> Section for ValueLines<'a> {
 fn put_values(alloc: Global, out: &mut Vec<u8>, id: usize, values: &[Dec]) -> Result<(), AllocError>
     ensures text { OnOk result (out.new.items
         ≡ out.old.items ++ (line_of (decimal id ∷ map shortest values.now) ++ 10 ∷ [])) }
-    ensures kept { OnOk result (All IsDecimal values.now) }
+    ensures kept { OnOk result (All IsInDecimalRange values.now) }
 {
     put_whole(out, id as u64)?;
     put_decimals(alloc, out, values)?;
@@ -86,7 +86,7 @@ fn put_values(alloc: Global, out: &mut Vec<u8>, id: usize, values: &[Dec]) -> Re
 fn put_decimals(alloc: Global, out: &mut Vec<u8>, values: &[Dec]) -> Result<(), AllocError>
     ensures text { OnOk result (out.new.items
         ≡ out.old.items ++ flat_map (λ value. 32 ∷ shortest value) values.now) }
-    ensures kept { OnOk result (All IsDecimal values.now) }
+    ensures kept { OnOk result (All IsInDecimalRange values.now) }
 {
     for value in values {
         put_decimal_behind(alloc, out, b' ', *value)?;

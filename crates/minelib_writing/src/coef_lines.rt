@@ -4,7 +4,7 @@
 ghost use Rattle.std.specs.Prelude.{◌≡◌, ◌+◌, ◌<◌, ◌≤◌, ◌++◌, ◌∷◌, [], ℕ, List, All, HoldsAt, IsTrue, IfOk, OnOk, decimal, length, take, drop};
 ghost use Rattle.std.specs.List.{flat_map};
 ghost use Rattle.pit_units.specs.Decimal.{shortest};
-ghost use Rattle.minelib_lines.specs.Kept.{IsDecimal};
+ghost use Rattle.minelib_lines.specs.Kept.{IsInDecimalRange};
 ghost use Rattle.minelib_lines.specs.Lines.{line_of, lines_from};
 ghost use Rattle.minelib_writing.specs.Written.{coef_fields, cpit_coef_fields};
 ghost use Rattle.minelib_lines.specs.declared.problem.Problem.TheVariants.{Pcpsp};
@@ -60,7 +60,7 @@ impl CoefLine for Coef {
 
     ghost rest = { λ c. line_of (decimal c.d ∷ decimal c.r ∷ shortest c.v ∷ []) ++ 10 ∷ [] };
 
-    ghost kept = { λ c. IsDecimal c.v };
+    ghost kept = { λ c. IsInDecimalRange c.v };
 
     fn block(&self) -> u32 {
         self.b
@@ -93,7 +93,7 @@ impl CoefLine for CpitCoef {
 
     ghost rest = { λ c. line_of (decimal c.r ∷ shortest c.v ∷ []) ++ 10 ∷ [] };
 
-    ghost kept = { λ c. IsDecimal c.v };
+    ghost kept = { λ c. IsInDecimalRange c.v };
 
     fn block(&self) -> u32 {
         self.b

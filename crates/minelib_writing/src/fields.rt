@@ -2,7 +2,7 @@
 
 ghost use Rattle.std.specs.Prelude.{◌≡◌, ◌++◌, ◌∷◌, [], OnOk, decimal};
 ghost use Rattle.pit_units.specs.Decimal.{shortest};
-ghost use Rattle.minelib_lines.specs.Kept.{IsDecimal};
+ghost use Rattle.minelib_lines.specs.Kept.{IsInDecimalRange};
 
 use itoa::Buffer;
 use pit_units::{Dec, put_dec};
@@ -60,7 +60,7 @@ pub fn put_decimal_to(
     end: u8,
 ) -> Result<(), AllocError>
     ensures text { OnOk result (out.new.items ≡ out.old.items ++ (shortest number ++ end ∷ [])) }
-    ensures kept { OnOk result (IsDecimal number) }
+    ensures kept { OnOk result (IsInDecimalRange number) }
 {
     put_dec(alloc, out, number)?;
     out.push(end)?;
@@ -76,7 +76,7 @@ pub fn put_decimal_behind(
     number: Dec,
 ) -> Result<(), AllocError>
     ensures text { OnOk result (out.new.items ≡ out.old.items ++ before ∷ shortest number) }
-    ensures kept { OnOk result (IsDecimal number) }
+    ensures kept { OnOk result (IsInDecimalRange number) }
 {
     out.push(before)?;
     put_dec(alloc, out, number)

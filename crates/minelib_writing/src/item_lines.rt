@@ -2,7 +2,7 @@
 
 ghost use Rattle.std.specs.Prelude.{◌≡◌, ◌++◌, ◌∷◌, [], ◌*◌, pos, OnOk, decimal, ⊤};
 ghost use Rattle.pit_units.specs.Decimal.{shortest};
-ghost use Rattle.minelib_lines.specs.Kept.{IsDecimal, HasDecimals};
+ghost use Rattle.minelib_lines.specs.Kept.{IsInDecimalRange, HasDecimals};
 ghost use Rattle.minelib_lines.specs.Lines.{line_of};
 ghost use Rattle.forms.specs.WrittenValues.{written};
 ghost use Rattle.minelib_lines.specs.LineValues.{bound_values};
@@ -89,7 +89,7 @@ fn put_bound(alloc: Global, out: &mut Vec<u8>, bound: &Bound) -> Result<(), Allo
 impl Line for Dec {
     ghost fields = { cpit_value_fields };
 
-    ghost kept = { IsDecimal };
+    ghost kept = { IsInDecimalRange };
 
     fn put(&self, alloc: Global, index: usize, out: &mut Vec<u8>) -> Result<(), AllocError> {
         put_whole_to(out, index as u64, b' ')?;

@@ -13,7 +13,7 @@ use Rattle.forms.specs.Spelled.{Says}
 use Rattle.forms.specs.Shape.{Check, Shape, failing, said, unless}
 use Rattle.forms.specs.Steps.{◌>>=◌}
 use Rattle.records.specs.RecordCells.{cell_at}
-use Rattle.pit_model.specs.inner.ByPlace.{key_by_place, bound_in, destination_in, destined, limited, length_of, limit_in, read_from, resource_in, said_by_place, size_of, zone_in}
+use Rattle.pit_model.specs.inner.ByPlace.{key_by_place, bound_in, destination_in, destined, limited, length_value, limit_in, read_from, resource_in, said_by_place, size_value, zone_in}
 use Rattle.pit_model.specs.FormulaShapes.{bands_asked, bands_form, bands_of, formula_shape}
 use Rattle.pit_model.specs.PlanShapes.{grid_shape, key_of, once, record_shape, a_destination, a_resource, bound_form, bound_of, cone_of, covers_of, limit_on, resource_asked, room_for_zone, cells_shape, destination_shape, is_interval, key_shape, limit_form, limit_shape, resource_form, resource_shape, zone_form, zone_shape}
 use Rattle.pit_model.specs.Stated.{Stated, resource_named, with_resource, with_zone}
@@ -64,14 +64,14 @@ below_read limit cell m e = by m (read_fits (below limit) cell (Millionths m) re
     by (negsuc k) fits = absurd (omega (arith, ints, fits.0))
 
 pub origin_read : (cell : List ℕ) (m : ℤ) → read_field plan_kind an_origin cell ≡ Ok (Millionths m)
-    → Millionths m ≡ length_of (int_div m (pos 1000))
+    → Millionths m ≡ length_value (int_div m (pos 1000))
 origin_read cell m e = let fits = read_fits an_origin cell (Millionths m) refl e in ap Millionths (thousands m fits.3)
 
 pub size_read : (cell : List ℕ) (m : ℤ) → read_field plan_kind a_size cell ≡ Ok (Millionths m)
-    → Millionths m ≡ size_of (unsigned_abs m / 1000)
+    → Millionths m ≡ size_value (unsigned_abs m / 1000)
 size_read cell m e = by m (read_fits a_size cell (Millionths m) refl e)
   where
-    by : (m : ℤ) → FitsField a_size (Millionths m) → Millionths m ≡ size_of (unsigned_abs m / 1000)
+    by : (m : ℤ) → FitsField a_size (Millionths m) → Millionths m ≡ size_value (unsigned_abs m / 1000)
     by (pos k) fits = let same : k ≡ k / 1000 * 1000 = omega (arith, fits.3) in ap (λ k. Millionths (pos k)) same
     by (negsuc k) fits = absurd (omega (arith, ints, fits.0))
 
@@ -251,10 +251,10 @@ recorded s k cells some is = let test : (length cells == 0) ≡ false = unequal 
 
 -- a grid of axes
 pub grid_said : (s : Stated) (cells : List (List ℕ)) (x y z : ℤ) (a b c : ℕ) → length cells ≡ 7
-    → read_field plan_kind an_origin (cell_at cells 1) ≡ Ok (length_of x)
-    → read_field plan_kind an_origin (cell_at cells 2) ≡ Ok (length_of y)
-    → read_field plan_kind an_origin (cell_at cells 3) ≡ Ok (length_of z) → read_field plan_kind a_size (cell_at cells 4) ≡ Ok (size_of a)
-    → read_field plan_kind a_size (cell_at cells 5) ≡ Ok (size_of b) → read_field plan_kind a_size (cell_at cells 6) ≡ Ok (size_of c)
+    → read_field plan_kind an_origin (cell_at cells 1) ≡ Ok (length_value x)
+    → read_field plan_kind an_origin (cell_at cells 2) ≡ Ok (length_value y)
+    → read_field plan_kind an_origin (cell_at cells 3) ≡ Ok (length_value z) → read_field plan_kind a_size (cell_at cells 4) ≡ Ok (size_value a)
+    → read_field plan_kind a_size (cell_at cells 5) ≡ Ok (size_value b) → read_field plan_kind a_size (cell_at cells 6) ≡ Ok (size_value c)
     → said_by_place cells (grid_shape s cells)
     ≡ unless (failing (once s.grid)) (Ok (record s {
       grid = Some (record {

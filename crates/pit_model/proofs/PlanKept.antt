@@ -16,7 +16,7 @@ use Rattle.pit_model.specs.inner.DraftFields.{KeepsStated}
 use Rattle.pit_parts.specs.Plan.{PlanParts}
 use Rattle.pit_parts.specs.Formula.{IsRuled}
 use Rattle.pit_parts.specs.PlanKept.{plan_of, AreCovers, AreTonnes, IsBound, IsCone, IsGrid, IsPlan, IsSlope, IsTonnes, RiseStrictly, has_repeat, is_turned}
-use Rattle.pit_model.specs.PlanCells.{a_period_count, a_rate, tonnes, word_at, word_of}
+use Rattle.pit_model.specs.PlanCells.{a_bound, a_period_count, a_rate, word_at, word_of}
 use Rattle.pit_model.specs.FormulaShapes.{formula_shape}
 use Rattle.pit_model.specs.PlanShapes.{a_destination, blank_shape, bound_form, bound_of, cone_of, covers_of, grid_form, grid_of, is_interval, key_of, key_shape, limit_form, limit_of, record_shape, resource_form, room_for_destination, slope_at, zone_form}
 use Rattle.pit_model.specs.Planned.{SpellPlan, numbered_shape, plan_grammar, whole_plan}
@@ -150,7 +150,7 @@ passing : (passes : List ℕ → Bool) (value : Value) → FitsField (Word passe
 passing passes (Millionths m) fits = absurd fits
 passing passes (Bytes word) fits = fits
 
-tonnes_kept : (value : Value) → FitsField tonnes value → IsTonnes (millionths value)
+tonnes_kept : (value : Value) → FitsField a_bound value → IsTonnes (millionths value)
 tonnes_kept value fits = range_fits 6 (pos 0) (pos (10 ^ 18)) value fits
 
 -- the numbers of a bound, by its letter

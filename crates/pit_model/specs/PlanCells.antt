@@ -72,5 +72,5 @@ abbrev pub a_rate : Field
 a_rate = Decimal 6 (pos 0) MAX_RATE
 
 -- tonnes with six decimals, 0 to 10^12
-abbrev pub tonnes : Field
-tonnes = Decimal 6 (pos 0) MAX_TONNES
+abbrev pub a_bound : Field
+a_bound = Decimal 6 (pos 0) MAX_TONNES

@@ -9,7 +9,7 @@ use Rattle.records.specs.Cells.{is_word}
 use Rattle.records.specs.RecordCells.{cell_at}
 use Rattle.pit_model.specs.FormulaShapes.{formula_key_of, formula_shape}
 use Rattle.pit_parts.specs.PlanKept.{has_repeat, is_turned}
-use Rattle.pit_model.specs.PlanCells.{plan_kind, word_at, word_of, a_leg, a_name, a_period_count, a_rate, a_size, an_origin, benches, tonnes}
+use Rattle.pit_model.specs.PlanCells.{plan_kind, word_at, word_of, a_leg, a_name, a_period_count, a_rate, a_size, an_origin, benches, a_bound}
 use Rattle.pit_model.specs.Stated.{Stated, destination_named, resource_named, with_destination, with_zone, with_resource, is_same_place, with_limit}
 use Rattle.pit_parts.specs.declared.cone.Cone.{Cone}
 use Rattle.pit_parts.specs.declared.cone.Slope.{Slope}
@@ -129,8 +129,8 @@ resource_shape s cells =
 
 -- the letter I and two numbers of tonnes; or the letter L or G and one
 abbrev pub bound_form : Bool → List Field
-bound_form true = Word (λ cell. bytes_eq cell (codes "I")) ∷ tonnes ∷ tonnes ∷ []
-bound_form false = Word (λ cell. bytes_eq cell (codes "L") || bytes_eq cell (codes "G")) ∷ tonnes ∷ []
+bound_form true = Word (λ cell. bytes_eq cell (codes "I")) ∷ a_bound ∷ a_bound ∷ []
+bound_form false = Word (λ cell. bytes_eq cell (codes "L") || bytes_eq cell (codes "G")) ∷ a_bound ∷ []
 
 -- `limit, NAME of an earlier resource, period, letter, v`, and w for an interval: a record whose letter is exactly I
 abbrev pub is_interval : List (List ℕ) → Bool

@@ -8,7 +8,7 @@ ghost use Rattle.pit_parts.specs.PlanKept.{AreTonnes, stands_before};
 ghost use Rattle.forms.specs.Field.{Millionths, below, whole};
 ghost use Rattle.forms.specs.Read.{read_field};
 ghost use Rattle.pit_model.specs.inner.ByPlace.{Gives, bound_in};
-ghost use Rattle.pit_model.specs.PlanCells.{plan_kind, tonnes};
+ghost use Rattle.pit_model.specs.PlanCells.{a_bound, plan_kind};
 ghost use Rattle.pit_model.specs.PlanShapes.{bound_form, is_interval};
 ghost use Rattle.pit_model.specs.Stated.{is_same_place, with_limit};
 ghost use Rattle.pit_parts.specs.declared.ranges.TheConstants.{MAX_TONNES};
@@ -49,7 +49,7 @@ pub fn period_in(periods: u8, cell: &[u8]) -> Result<u8, PlanFaultKind>
 }
 
 fn tonnes_in(cell: &[u8]) -> Result<Dec, PlanFaultKind>
-    ensures value { Gives Millionths result (read_field plan_kind tonnes cell.now) }
+    ensures value { Gives Millionths result (read_field plan_kind a_bound cell.now) }
     ensures in_range { IfOk result (λ v. (pos 0 ≤ℤ v) × (v ≤ℤ MAX_TONNES)) }
 {
     let millionths = number_in(cell, 6, 0, MAX_TONNES)?;

@@ -40,9 +40,9 @@ pub enum PlanFaultKind {
 
 impl fmt::Display for PlanFaultKind {
     ghost use Rattle.std.specs.Prelude.{Some};
-    ghost use Rattle.pit_model.specs.FaultText.{kind_name};
+    ghost use Rattle.pit_model.specs.FaultText.{plan_kind_name};
 
-    ghost output = { λ kind. Some (kind_name kind) };
+    ghost output = { λ kind. Some (plan_kind_name kind) };
 
     fn fmt<W: fmt::Write>(&self, f: &mut fmt::Formatter<W>) -> fmt::Result {
         match self {
@@ -62,10 +62,10 @@ impl fmt::Display for PlanFaultKind {
 
 impl From<DecFault> for PlanFaultKind {
     ghost use Rattle.std.specs.Prelude.{◌≡◌, Ok, Err, ℤ};
-    ghost use Rattle.forms.specs.Read.{number_of};
+    ghost use Rattle.forms.specs.Read.{number_or_kind};
     ghost use Rattle.pit_model.specs.PlanCells.{plan_kind};
 
-    ghost from_gives = { λ fault kind. Err kind ≡ number_of plan_kind (Err fault) };
+    ghost from_gives = { λ fault kind. Err kind ≡ number_or_kind plan_kind (Err fault) };
 
     fn from(fault: DecFault) -> PlanFaultKind {
         match fault {

@@ -7,7 +7,7 @@ use Rattle.pit_parts.specs.Plan.{PlanParts}
 use Rattle.pit_parts.specs.declared.block.Block.{Block}
 use Rattle.pit_parts.specs.declared.cone.Cone.{Cone}
 use Rattle.pit_parts.specs.declared.grid.Grid.{Grid}
-use Rattle.precedence.specs.Codes.{code, codes}
+use Rattle.precedence.specs.Codes.{place_code, place_codes}
 use Rattle.precedence.specs.Cone.{above, is_above, places_where, preds, HasZones}
 use Rattle.precedence.specs.inner.Lists.{in_cone}
 use Rattle.precedence.specs.inner.Rows.{is_in_rows, AreInOrder, IsWithin}
@@ -20,12 +20,12 @@ pub all_at : {X : Type 0} (P : X → Type 0) (xs : List X) (k : ℕ) (x : X) →
 all_at P xs k x all lt is = subst P (get_or_from_slice_get xs k x x is) (all k x lt)
 
 -- a test of codes finds the blocks that pass the same test
-pub blocks_where : (test : ℕ → Bool) (other : Block → Bool) (n : ℕ) (bs : List Block) → All (λ b. test (code b) ≡ other b) bs
-    → places_where test n (codes bs) ≡ places_where other n bs
+pub blocks_where : (test : ℕ → Bool) (other : Block → Bool) (n : ℕ) (bs : List Block) → All (λ b. test (place_code b) ≡ other b) bs
+    → places_where test n (place_codes bs) ≡ places_where other n bs
 blocks_where test other n [] h = refl
 blocks_where test other n (b ∷ bs) h =
-    let first = All-head (λ b. test (code b) ≡ other b) b bs h in
-    let rest = blocks_where test other (n + 1) bs (All-tail (λ b. test (code b) ≡ other b) b bs h) in
+    let first = All-head (λ b. test (place_code b) ≡ other b) b bs h in
+    let rest = blocks_where test other (n + 1) bs (All-tail (λ b. test (place_code b) ≡ other b) b bs h) in
     λ j. if first j then n ∷ rest j else rest j
 
 map_same : {X Y : Type 0} (f g : X → Y) (xs : List X) → All (λ x. f x ≡ g x) xs → map f xs ≡ map g xs
@@ -44,7 +44,7 @@ module _ (grid : Grid) (cones : List Cone) (extent : Extent) (tables : List Cone
 
   -- one block's list
   list_is : (low : Block) → All (IsWithin extent low) blocks → low.zone < length cones
-      → in_cone tables of_zone (codes blocks) low ≡ above grid (slice_get cones low.zone) blocks low
+      → in_cone tables of_zone (place_codes blocks) low ≡ above grid (slice_get cones low.zone) blocks low
   list_is low close lt = ⊎_elim
       (λ found.
       let table : ConeTable = found.0 in
@@ -54,15 +54,15 @@ module _ (grid : Grid) (cones : List Cone) (extent : Extent) (tables : List Cone
       ∙ ap (λ (c : Cone). Some c) (sym (has.same low.zone cone table lt)
       ∙ ap (λ (t : ConeTable). t.cone) (get_or_from_slice_get tables (place low.zone) table table found.2)) in
       let told = all_at (IsTold grid extent) tables (place low.zone) table has.told found.1 found.2 in
-      ap (λ o. places_where (is_in_rows (code low) (rows_in o)) 0 (codes blocks)) found.2
-      ∙ blocks_where (is_in_rows (code low) table.rows.items) (is_above grid cone low) 0 blocks
+      ap (λ o. places_where (is_in_rows (place_code low) (rows_in o)) 0 (place_codes blocks)) found.2
+      ∙ blocks_where (is_in_rows (place_code low) table.rows.items) (is_above grid cone low) 0 blocks
       (λ k d within. told.told low (get_or blocks k d) (close k d within))
       ∙ ap (λ o. above grid o blocks low) (sym same))
       (λ past. let below = has.below low.zone 0 (omega (arith, has.zones)) in absurd (omega (arith, past.0)))
       ((slice_get_cases tables (place low.zone)).1)
 
-  pub lists_are : map (in_cone tables of_zone (codes blocks)) blocks ≡ map (λ low. above grid (slice_get cones low.zone) blocks low) blocks
-  lists_are = map_same (in_cone tables of_zone (codes blocks)) (λ low. above grid (slice_get cones low.zone) blocks low) blocks
+  pub lists_are : map (in_cone tables of_zone (place_codes blocks)) blocks ≡ map (λ low. above grid (slice_get cones low.zone) blocks low) blocks
+  lists_are = map_same (in_cone tables of_zone (place_codes blocks)) (λ low. above grid (slice_get cones low.zone) blocks low) blocks
       (λ k d lt. list_is (get_or blocks k d)
       (λ j e within. subst (IsWithin extent (get_or blocks k d)) (get_or_default blocks j d e within) (near k j d lt within))
       (zones k d lt))
@@ -78,7 +78,7 @@ pub preds_are : (plan : PlanParts) (listed : List Block) (grid : Grid) (cones : 
     → HasTables grid cones extent tables of_zone
     → ((i j : ℕ) (d : Block) → i < length blocks → j < length blocks → IsWithin extent (get_or blocks i d) (get_or blocks j d))
     → HasZones plan listed
-    → map (in_cone tables of_zone (codes blocks)) blocks ≡ preds plan listed
+    → map (in_cone tables of_zone (place_codes blocks)) blocks ≡ preds plan listed
 preds_are plan listed grid cones extent tables of_zone blocks e g c has near zones =
     lists_are grid cones extent tables of_zone blocks has near
     (λ k d lt. omega (arith, zones k d (omega (arith, ap length e)), ap (λ (bs : List Block). (get_or bs k d).zone) e, ap length c))

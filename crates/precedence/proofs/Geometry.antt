@@ -7,7 +7,7 @@ use Rattle.pit_parts.specs.declared.block.Block.{Block}
 use Rattle.pit_parts.specs.declared.cone.Cone.{Cone}
 use Rattle.pit_parts.specs.declared.cone.Slope.{Slope}
 use Rattle.pit_parts.specs.declared.grid.Grid.{Grid}
-use Rattle.precedence.specs.Codes.{code}
+use Rattle.precedence.specs.Codes.{place_code}
 use Rattle.precedence.specs.Cone.{is_above, is_within_slopes, slope_along_x, slope_along_y}
 use Rattle.precedence.specs.inner.Reach.{CountsRow, slope_across}
 use Rattle.precedence.specs.inner.Rows.{center, is_in_row}
@@ -76,22 +76,22 @@ module _ (grid : Grid) (cone : Cone) (rows dz i : ℕ) (counts : Counts) (counte
           ap (slopes cone.west) d ∙ counted.west (low.x - high.x) (omega arith)
 
   -- the two codes, by the middle of the row
-  apart_is : code high + low.x ≡ (code low + center rows dz i) + high.x
+  apart_is : place_code high + low.x ≡ (place_code low + center rows dz i) + high.x
   apart_is = omega (arith, at.bench, at.row)
 
   far : 10000 ≤ center rows dz i
   far = omega arith
 
   pub row_told : (row : Row) → row.first ≡ center rows dz i + 1 - counts.west → row.past ≡ center rows dz i + max counts.east 1
-      → is_in_row (code low) row (code high) ≡ is_above grid cone low high
+      → is_in_row (place_code low) row (place_code high) ≡ is_above grid cone low high
   row_told row first past =
-      (λ j. nat_le (code low + first j) (code high) && nat_lt (code high) (code low + past j))
+      (λ j. nat_le (place_code low + first j) (place_code high) && nat_lt (place_code high) (place_code low + past j))
       ∙ by (nat_lt low.x high.x) refl ∙ sym side_is
     where
       by : (b : Bool) → nat_lt low.x high.x ≡ b
-          → (nat_le (code low + (center rows dz i + 1 - counts.west)) (code high)
-          && nat_lt (code high) (code low + (center rows dz i + max counts.east 1))) ≡ on_side b
-      by true e = beside_east (code low) (code high) (center rows dz i) low.x high.x counts.west counts.east apart_is
+          → (nat_le (place_code low + (center rows dz i + 1 - counts.west)) (place_code high)
+          && nat_lt (place_code high) (place_code low + (center rows dz i + max counts.east 1))) ≡ on_side b
+      by true e = beside_east (place_code low) (place_code high) (center rows dz i) low.x high.x counts.west counts.east apart_is
           (ltb-true low.x high.x e) far counted.few_west
-      by false e = beside_west (code low) (code high) (center rows dz i) low.x high.x counts.west counts.east apart_is
+      by false e = beside_west (place_code low) (place_code high) (center rows dz i) low.x high.x counts.west counts.east apart_is
           (ltb-false low.x high.x e) far counted.few_west

@@ -10,7 +10,7 @@ use Rattle.std.proofs.lemmas.List.Sorted.{All-permutation, Contains-permutation,
 use Rattle.std.proofs.lemmas.List.Sums.{sum_by-cons}
 use Rattle.std.proofs.lemmas.Map.Keys.{IsDistinct-IsPermutation, IsStrictlyIncreasing-from_distinct}
 use Rattle.pit_parts.specs.declared.block.Block.{Block}
-use Rattle.precedence.specs.Codes.{code, codes}
+use Rattle.precedence.specs.Codes.{place_code, place_codes}
 use Rattle.precedence.specs.Identifier.{comes_before, id}
 use Rattle.precedence.specs.Numbering.{IsNumbering}
 use Rattle.precedence.specs.inner.Seen.{placed, IsPlaced, IsSortedTable}
@@ -20,7 +20,7 @@ use Rattle.precedence.proofs.SeenPlaces.{keys-placed, length-placed, placed_at, 
 
 -- the entries of blocks, sorted by place, rise where no two places of the blocks are the same
 pub keys_rise : (listed : List Block) (entries : List (ℕ × ℕ)) → IsPermutation (placed 0 listed) entries
-    → IsNonDecreasingBy (λ e. e.0) entries → IsDistinct nat_eq (codes listed) → IsStrictlyIncreasing (keys_of entries)
+    → IsNonDecreasingBy (λ e. e.0) entries → IsDistinct nat_eq (place_codes listed) → IsStrictlyIncreasing (keys_of entries)
 keys_rise listed entries moved sorted distinct = IsStrictlyIncreasing-from_distinct (keys_of entries) no_falls apart
   where
     no_falls : IsNonDecreasing (keys_of entries)
@@ -36,18 +36,18 @@ keys_rise listed entries moved sorted distinct = IsStrictlyIncreasing-from_disti
         (subst (IsDistinct nat_eq) (sym (keys-placed 0 listed)) distinct)
 
 -- the blocks before b are the entries below its code
-id_is : (n : ℕ) (bs : List Block) (b : Block) → id bs b ≡ count_by (λ e. nat_lt e.0 (code b)) (placed n bs)
+id_is : (n : ℕ) (bs : List Block) (b : Block) → id bs b ≡ count_by (λ e. nat_lt e.0 (place_code b)) (placed n bs)
 id_is n [] b = refl
 id_is n (a ∷ bs) b =
     sum_by-cons (λ a. cond (comes_before a b) 1 0) a bs
     ∙ ap (λ k. cond (comes_before a b) 1 0 + k) (id_is (n + 1) bs b)
-    ∙ ap (λ t. cond t 1 0 + count_by (λ e. nat_lt e.0 (code b)) (placed (n + 1) bs)) (before_is a b)
-    ∙ sym (sum_by-cons (λ e. cond (nat_lt e.0 (code b)) 1 0) (code a, n) (placed (n + 1) bs))
+    ∙ ap (λ t. cond t 1 0 + count_by (λ e. nat_lt e.0 (place_code b)) (placed (n + 1) bs)) (before_is a b)
+    ∙ sym (sum_by-cons (λ e. cond (nat_lt e.0 (place_code b)) 1 0) (place_code a, n) (placed (n + 1) bs))
 
 -- a block's code, where it is known of every default
-code_at : (bs : List Block) (k c : ℕ) → k < length bs → ((d : Block) → code (get_or bs k d) ≡ c) → get_or (codes bs) k 0 ≡ c
+code_at : (bs : List Block) (k c : ℕ) → k < length bs → ((d : Block) → place_code (get_or bs k d) ≡ c) → get_or (place_codes bs) k 0 ≡ c
 code_at [] k c lt h = absurd (omega arith)
-code_at (b ∷ bs) k c lt h = get_or-map code (b ∷ bs) k b 0 lt ∙ h b
+code_at (b ∷ bs) k c lt h = get_or-map place_code (b ∷ bs) k b 0 lt ∙ h b
 
 module _ (listed : List Block) (entries : List (ℕ × ℕ)) (table : IsSortedTable listed entries) where
   pub as_many : length entries ≡ length listed
@@ -81,16 +81,16 @@ module _ (listed : List Block) (entries : List (ℕ × ℕ)) (table : IsSortedTa
       ap (λ bs. get_or bs k d) (told d)
       ∙ get_or-map (λ p. get_or listed p d) (values_of entries) k 0 d (omega (arith, (as_many_positions listed entries table)))
 
-  code_is : (k : ℕ) (d : Block) → k < length listed → code (get_or blocks k d) ≡ get_or (keys_of entries) k 0
+  code_is : (k : ℕ) (d : Block) → k < length listed → place_code (get_or blocks k d) ≡ get_or (keys_of entries) k 0
   code_is k d lt =
-      ap code (block_is k d lt)
-      ∙ ap (λ p. code (get_or listed p d)) (position_is listed entries table k (0, 0) lt)
+      ap place_code (block_is k d lt)
+      ∙ ap (λ p. place_code (get_or listed p d)) (position_is listed entries table k (0, 0) lt)
       ∙ (each_placed listed entries table k (0, 0) (omega (arith, as_many listed entries table))).1 d
       ∙ sym (key_is listed entries table k (0, 0) lt)
 
   numbers : (k : ℕ) (d : Block) → k < length listed → id listed (get_or blocks k d) ≡ k
   numbers k d lt =
-      let c = code (get_or blocks k d) in
+      let c = place_code (get_or blocks k d) in
       id_is 0 listed (get_or blocks k d)
       ∙ sym (sum_by-IsPermutation (λ e. cond (nat_lt e.0 c) 1 0) (placed 0 listed) entries table.moved)
       ∙ count_keys (λ key. nat_lt key c) entries
@@ -100,10 +100,10 @@ module _ (listed : List Block) (entries : List (ℕ × ℕ)) (table : IsSortedTa
   -- the block at position i of the list has its place among the entries
   place_of : (i : ℕ) (d : Block) → i < length listed → (k : ℕ) × (k < length listed) × (get_or (values_of entries) k 0 ≡ i)
   place_of i d lt =
-      let e : ℕ × ℕ = (code (get_or listed i d), i) in
+      let e : ℕ × ℕ = (place_code (get_or listed i d), i) in
       let own = placed_at 0 listed i d e lt in
       let first : (0 + i) ≡ i = omega arith in
-      let same : get_or (placed 0 listed) i e ≡ e = own ∙ ap (λ p. (code (get_or listed i d), p)) first in
+      let same : get_or (placed 0 listed) i e ≡ e = own ∙ ap (λ p. (place_code (get_or listed i d), p)) first in
       let P : ℕ × ℕ → Type 0 = Contains (placed 0 listed) in
       let there = subst P same (Contains-get_or (placed 0 listed) i e (omega (arith, length-placed 0 listed))) in
       let here = at_from_Contains entries e (Contains-permutation (placed 0 listed) entries e table.moved there) in
@@ -127,13 +127,13 @@ module _ (listed : List Block) (entries : List (ℕ × ℕ)) (table : IsSortedTa
     found = λ i d lt. ap (λ k. get_or (values_of entries) k 0) (id_at i d lt) ∙ (place_of i d lt).2;
   }
 
-  key_at : (k : ℕ) → k < length listed → get_or (codes blocks) k 0 ≡ get_or (keys_of entries) k 0
+  key_at : (k : ℕ) → k < length listed → get_or (place_codes blocks) k 0 ≡ get_or (keys_of entries) k 0
   key_at k lt = code_at blocks k (get_or (keys_of entries) k 0) (omega (arith, as_many listed entries table)) (λ d. code_is k d lt)
 
   -- the blocks rise
-  pub blocks_rise : IsStrictlyIncreasing (codes blocks)
+  pub blocks_rise : IsStrictlyIncreasing (place_codes blocks)
   blocks_rise k lt =
-      let blocks_long = length-map blocks code in
+      let blocks_long = length-map blocks place_code in
       let keys_long = length-map entries (λ (e : ℕ × ℕ). e.0) in
       let one = key_at k (omega (arith, as_many listed entries table)) in
       let two = key_at (k + 1) (omega (arith, as_many listed entries table)) in

@@ -3,7 +3,7 @@ use Rattle.std.proofs.Common.{◌≡◌, ℕ, ◌<◌, ◌≤◌, Bool, true, fa
 use Rattle.std.proofs.lemmas.Bool.{cases_lt, lt-ltb, ltb-true}
 use Rattle.std.proofs.lemmas.List.Sums.{sum_by-cons}
 use Rattle.pit_parts.specs.declared.block.Block.{Block}
-use Rattle.precedence.specs.Codes.{code}
+use Rattle.precedence.specs.Codes.{place_code}
 use Rattle.precedence.specs.Identifier.{comes_before, id}
 use Rattle.precedence.specs.Numbering.{IsNumbering, NumberingView}
 use Rattle.precedence.proofs.Order.{before_is}
@@ -14,12 +14,12 @@ ones true true h = omega arith
 ones true false h = let never = h refl in let no : ⊥ = cc in absurd no
 
 -- what comes before a block comes before each block of no lesser code
-before_goes : (c a b : Block) → code a ≤ code b → comes_before c a ≡ true → comes_before c b ≡ true
+before_goes : (c a b : Block) → place_code a ≤ place_code b → comes_before c a ≡ true → comes_before c b ≡ true
 before_goes c a b le h =
-    let less = ltb-true (code c) (code a) (sym (before_is c a) ∙ h) in
-    before_is c b ∙ lt-ltb (code c) (code b) (omega (arith, le, less))
+    let less = ltb-true (place_code c) (place_code a) (sym (before_is c a) ∙ h) in
+    before_is c b ∙ lt-ltb (place_code c) (place_code b) (omega (arith, le, less))
 
-fewer : (bs : List Block) (a b : Block) → code a ≤ code b → id bs a ≤ id bs b
+fewer : (bs : List Block) (a b : Block) → place_code a ≤ place_code b → id bs a ≤ id bs b
 fewer [] a b le = omega arith
 fewer (c ∷ bs) a b le =
     let rest = fewer bs a b le in
@@ -36,7 +36,7 @@ in_order listed n i k d numbering lt within =
     let a = get_or n.blocks i d in
     let b = get_or n.blocks k d in
     before_is a b
-    ∙ lt-ltb (code a) (code b) (⊎_elim
+    ∙ lt-ltb (place_code a) (place_code b) (⊎_elim
     (λ less. less)
     (λ more. let no_more = fewer listed b a more in absurd (omega (arith, no_more, at_i, at_k, lt)))
-    (cases_lt (code a) (code b)))
+    (cases_lt (place_code a) (place_code b)))

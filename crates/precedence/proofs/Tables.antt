@@ -6,7 +6,7 @@ use Rattle.std.proofs.lemmas.Bool.Decides.{nat_tests}
 use Rattle.pit_parts.specs.declared.block.Block.{Block}
 use Rattle.pit_parts.specs.declared.cone.Cone.{Cone}
 use Rattle.pit_parts.specs.declared.grid.Grid.{Grid}
-use Rattle.precedence.specs.Codes.{code}
+use Rattle.precedence.specs.Codes.{place_code}
 use Rattle.precedence.specs.Cone.{is_above}
 use Rattle.precedence.specs.inner.Reach.{CountsRow}
 use Rattle.precedence.specs.inner.Rows.{center, edge, is_in_row, is_in_rows, AreApart, IsWithin, Tells, IsTable}
@@ -37,8 +37,8 @@ apart_more low (r ∷ rows) high up h le = (h.0, h.1, apart_more r.past rows hig
 
 module _ (extent : Extent) (low high : Block) (near : IsWithin extent low high) where
   -- between two edges lies just the row
-  at_row : (dz i : ℕ) → 1 ≤ dz → i ≤ 2 * extent.rows → code low + edge extent.rows dz i ≤ code high
-      → code high < code low + edge extent.rows dz (i + 1) → IsAt extent.rows dz i low high
+  at_row : (dz i : ℕ) → 1 ≤ dz → i ≤ 2 * extent.rows → place_code low + edge extent.rows dz i ≤ place_code high
+      → place_code high < place_code low + edge extent.rows dz (i + 1) → IsAt extent.rows dz i low high
   at_row dz i up within above below =
       let lx = low.x_in_grid in
       let ly = low.y_in_grid in
@@ -50,8 +50,8 @@ module _ (extent : Extent) (low high : Block) (near : IsWithin extent low high) 
       record { bench = bench; row = omega arith }
 
   -- between the last row of a bench and the next bench lies none
-  between_benches : (dz : ℕ) → nat_lt (code high) (code low + edge extent.rows dz (2 * extent.rows + 1))
-      ≡ nat_lt (code high) (code low + edge extent.rows (dz + 1) 0)
+  between_benches : (dz : ℕ) → nat_lt (place_code high) (place_code low + edge extent.rows dz (2 * extent.rows + 1))
+      ≡ nat_lt (place_code high) (place_code low + edge extent.rows (dz + 1) 0)
   between_benches dz =
       let lx = low.x_in_grid in
       let ly = low.y_in_grid in
@@ -62,7 +62,7 @@ module _ (extent : Extent) (low high : Block) (near : IsWithin extent low high) 
       grind (arith, nat_tests)
 
   -- a block on a higher bench lies past the first edge
-  past_first : low.z < high.z → code low + edge extent.rows 1 0 ≤ code high
+  past_first : low.z < high.z → place_code low + edge extent.rows 1 0 ≤ place_code high
   past_first lt =
       let lx = low.x_in_grid in
       let ly = low.y_in_grid in
@@ -73,7 +73,7 @@ module _ (extent : Extent) (low high : Block) (near : IsWithin extent low high) 
       omega arith
 
   -- a block at most `top` benches higher lies before the edge after them
-  before_last : (top : ℕ) → high.z ≤ low.z + top → code high < code low + edge extent.rows (top + 1) 0
+  before_last : (top : ℕ) → high.z ≤ low.z + top → place_code high < place_code low + edge extent.rows (top + 1) 0
   before_last top le =
       let lx = low.x_in_grid in
       let ly = low.y_in_grid in
@@ -103,42 +103,42 @@ module _ (grid : Grid) (cone : Cone) (extent : Extent) (dz i : ℕ) (up : 1 ≤ 
 
   -- the row tells of the blocks between its edges
   row_adds : (low high : Block) → IsWithin extent low high
-      → ((nat_lt (code high) (code low + edge extent.rows dz i) && is_above grid cone low high) || is_in_row (code low) row (code high))
-      ≡ (nat_lt (code high) (code low + edge extent.rows dz (i + 1)) && is_above grid cone low high)
+      → ((nat_lt (place_code high) (place_code low + edge extent.rows dz i) && is_above grid cone low high) || is_in_row (place_code low) row (place_code high))
+      ≡ (nat_lt (place_code high) (place_code low + edge extent.rows dz (i + 1)) && is_above grid cone low high)
   row_adds low high near = ⊎_elim
       (λ before.
-      let yes : nat_lt (code high) (code low + edge extent.rows dz i) ≡ true = lt-ltb _ _ before in
-      let yes_too : nat_lt (code high) (code low + edge extent.rows dz (i + 1)) ≡ true =
+      let yes : nat_lt (place_code high) (place_code low + edge extent.rows dz i) ≡ true = lt-ltb _ _ before in
+      let yes_too : nat_lt (place_code high) (place_code low + edge extent.rows dz (i + 1)) ≡ true =
       lt-ltb _ _ (omega (arith, after_edge, before_edge, row.in_order)) in
-      let out : nat_le (code low + row.first) (code high) ≡ false = lt-leb _ _ (omega (arith, after_edge)) in
-      (λ j. (yes j && is_above grid cone low high) || (out j && nat_lt (code high) (code low + row.past)))
+      let out : nat_le (place_code low + row.first) (place_code high) ≡ false = lt-leb _ _ (omega (arith, after_edge)) in
+      (λ j. (yes j && is_above grid cone low high) || (out j && nat_lt (place_code high) (place_code low + row.past)))
       ∙ or-false (is_above grid cone low high)
       ∙ (λ j. sym yes_too j && is_above grid cone low high))
       (λ after. ⊎_elim
       (λ before.
-      let no : nat_lt (code high) (code low + edge extent.rows dz i) ≡ false = le-ltb _ _ after in
-      let yes : nat_lt (code high) (code low + edge extent.rows dz (i + 1)) ≡ true = lt-ltb _ _ before in
+      let no : nat_lt (place_code high) (place_code low + edge extent.rows dz i) ≡ false = le-ltb _ _ after in
+      let yes : nat_lt (place_code high) (place_code low + edge extent.rows dz (i + 1)) ≡ true = lt-ltb _ _ before in
       let at = at_row extent low high near dz i up inside after before in
       let told = row_told grid cone extent.rows dz i counts counted low high up within extent.few_rows at row first past in
       (λ j. (no j && is_above grid cone low high) || told j)
       ∙ (λ j. sym yes j && is_above grid cone low high))
       (λ later.
-      let no : nat_lt (code high) (code low + edge extent.rows dz i) ≡ false = le-ltb _ _ after in
-      let no_too : nat_lt (code high) (code low + edge extent.rows dz (i + 1)) ≡ false = le-ltb _ _ later in
-      let out : nat_lt (code high) (code low + row.past) ≡ false = le-ltb _ _ (omega (arith, before_edge)) in
-      (λ j. (no j && is_above grid cone low high) || (nat_le (code low + row.first) (code high) && out j))
-      ∙ and-false (nat_le (code low + row.first) (code high))
+      let no : nat_lt (place_code high) (place_code low + edge extent.rows dz i) ≡ false = le-ltb _ _ after in
+      let no_too : nat_lt (place_code high) (place_code low + edge extent.rows dz (i + 1)) ≡ false = le-ltb _ _ later in
+      let out : nat_lt (place_code high) (place_code low + row.past) ≡ false = le-ltb _ _ (omega (arith, before_edge)) in
+      (λ j. (no j && is_above grid cone low high) || (nat_le (place_code low + row.first) (place_code high) && out j))
+      ∙ and-false (nat_le (place_code low + row.first) (place_code high))
       ∙ (λ j. sym no_too j && is_above grid cone low high))
-      (cases_lt (code high) (code low + edge extent.rows dz (i + 1))))
-      (cases_lt (code high) (code low + edge extent.rows dz i))
+      (cases_lt (place_code high) (place_code low + edge extent.rows dz (i + 1))))
+      (cases_lt (place_code high) (place_code low + edge extent.rows dz i))
 
   pub tells_row : row.first < row.past → (rows : List Row) → Tells grid cone extent (edge extent.rows dz i) rows
       → Tells grid cone extent (edge extent.rows dz (i + 1)) (rows ++ row ∷ [])
   tells_row some rows h = record {
     apart = apart_push 0 rows (edge extent.rows dz i) row (edge extent.rows dz (i + 1)) h.apart after_edge some before_edge;
     told = λ low high near.
-        in_rows_push (code low) rows row (code high)
-        ∙ ap (λ b. b || is_in_row (code low) row (code high)) (h.told low high near)
+        in_rows_push (place_code low) rows row (place_code high)
+        ∙ ap (λ b. b || is_in_row (place_code low) row (place_code high)) (h.told low high near)
         ∙ row_adds low high near;
   }
 
@@ -149,10 +149,10 @@ module _ (grid : Grid) (cone : Cone) (extent : Extent) (dz i : ℕ) (up : 1 ≤ 
     apart = apart_more 0 rows (edge extent.rows dz i) (edge extent.rows dz (i + 1)) h.apart
         (omega (arith, after_edge, before_edge, row.in_order));
     told = λ low high near.
-        let none : is_in_row (code low) row (code high) ≡ false = grind (arith, nat_tests, empty) in
+        let none : is_in_row (place_code low) row (place_code high) ≡ false = grind (arith, nat_tests, empty) in
         h.told low high near
-        ∙ sym (or-false (nat_lt (code high) (code low + edge extent.rows dz i) && is_above grid cone low high))
-        ∙ ap (λ b. (nat_lt (code high) (code low + edge extent.rows dz i) && is_above grid cone low high) || b) (sym none)
+        ∙ sym (or-false (nat_lt (place_code high) (place_code low + edge extent.rows dz i) && is_above grid cone low high))
+        ∙ ap (λ b. (nat_lt (place_code high) (place_code low + edge extent.rows dz i) && is_above grid cone low high) || b) (sym none)
         ∙ row_adds low high near;
   }
 
@@ -164,13 +164,13 @@ module _ (grid : Grid) (cone : Cone) (extent : Extent) where
     apart = omega arith;
     told = λ low high near. ⊎_elim
         (λ higher.
-        let no : nat_lt (code high) (code low + edge extent.rows 1 0) ≡ false = le-ltb _ _ (past_first extent low high near higher) in
+        let no : nat_lt (place_code high) (place_code low + edge extent.rows 1 0) ≡ false = le-ltb _ _ (past_first extent low high near higher) in
         (λ j. sym no j && is_above grid cone low high))
         (λ lower.
         let no : nat_lt low.z high.z ≡ false = le-ltb low.z high.z lower in
         let none : is_above grid cone low high ≡ false = and_left _ _ no in
-        sym (ap (λ b. nat_lt (code high) (code low + edge extent.rows 1 0) && b) none
-        ∙ and-false (nat_lt (code high) (code low + edge extent.rows 1 0))))
+        sym (ap (λ b. nat_lt (place_code high) (place_code low + edge extent.rows 1 0) && b) none
+        ∙ and-false (nat_lt (place_code high) (place_code low + edge extent.rows 1 0))))
         (cases_lt low.z high.z);
   }
 
@@ -198,11 +198,11 @@ module _ (grid : Grid) (cone : Cone) (extent : Extent) where
     apart = h.apart;
     told = λ low high near. h.told low high near ∙ ⊎_elim
         (λ above.
-        let before : nat_lt (code high) (code low + edge extent.rows (top + 1) 0) ≡ true =
+        let before : nat_lt (place_code high) (place_code low + edge extent.rows (top + 1) 0) ≡ true =
         lt-ltb _ _ (before_last extent low high near top (omega (arith, high_enough low high near above))) in
         (λ j. before j && is_above grid cone low high))
         (λ no.
-        ap (λ b. nat_lt (code high) (code low + edge extent.rows (top + 1) 0) && b) no
-        ∙ and-false (nat_lt (code high) (code low + edge extent.rows (top + 1) 0)) ∙ sym no)
+        ap (λ b. nat_lt (place_code high) (place_code low + edge extent.rows (top + 1) 0) && b) no
+        ∙ and-false (nat_lt (place_code high) (place_code low + edge extent.rows (top + 1) 0)) ∙ sym no)
         (cases_Bool (is_above grid cone low high));
   }

@@ -1,7 +1,7 @@
 //! The predecessors of all blocks.
 
 ghost use Rattle.std.specs.Prelude.{◌≡◌, ◌<◌, ◌++◌, IfOk, OnOk, All, length, map};
-ghost use Rattle.precedence.specs.Codes.{codes};
+ghost use Rattle.precedence.specs.Codes.{place_codes};
 ghost use Rattle.precedence.specs.Cone.{preds, HasZones};
 ghost use Rattle.precedence.specs.inner.Lists.{in_cone};
 ghost use Rattle.precedence.specs.inner.Rows.{AreInOrder};
@@ -47,12 +47,12 @@ fn lists_of(
     tables: &ZoneTables,
     hints: &mut [Hint],
 ) -> Result<Preds, AllocError>
-    requires codes { places.now.codes.items ≡ codes blocks.now }
+    requires codes { places.now.codes.items ≡ place_codes blocks.now }
     requires zones { All (λ b. b.zone < length tables.now.of_zone.items) blocks.now }
     requires below { All (λ t. t < length tables.now.tables.items) tables.now.of_zone.items }
     requires in_order { All (λ t. AreInOrder t.rows.items) tables.now.tables.items }
     ensures { IfOk result (λ lists. lists
-        ≡ map (in_cone tables.now.tables.items tables.now.of_zone.items (codes blocks.now))
+        ≡ map (in_cone tables.now.tables.items tables.now.of_zone.items (place_codes blocks.now))
         blocks.now) }
 {
     let mut flat = Vec::with_capacity(alloc, blocks.len().saturating_mul(USUAL))?;

@@ -1,7 +1,7 @@
 //! One number for a block's place, in the order of identifiers.
 
 ghost use Rattle.std.specs.Prelude.{◌≡◌, ◌+◌, ◌*◌, ◌^◌, ◌<◌};
-ghost use Rattle.precedence.specs.Codes.{code};
+ghost use Rattle.precedence.specs.Codes.{place_code};
 
 use pit_parts::block::Block;
 
@@ -14,7 +14,7 @@ pub const BENCH: u64 = 10_000_000_000;
 /// The number of a block's place.
 #[inline(always)]
 pub fn code(block: &Block) -> u64
-    ensures value { result ≡ code block.now }
+    ensures value { result ≡ place_code block.now }
     ensures small { result < 10 ^ 14 }
 {
     u64::from(block.z) * BENCH + u64::from(block.y) * ROW + u64::from(block.x)

@@ -6,7 +6,7 @@ ghost use Rattle.std.specs.List.Sorted.{IsStrictlyIncreasing};
 ghost use Rattle.std.specs.Map.{keys_of, values_of};
 ghost use Rattle.indexmap.specs.IndexMap.{get, IsUnique};
 ghost use Rattle.pit_parts.specs.declared.block.Block.{Block};
-ghost use Rattle.precedence.specs.Codes.{codes};
+ghost use Rattle.precedence.specs.Codes.{place_codes};
 ghost use Rattle.precedence.specs.Numbering.{IsNumbering};
 ghost use Rattle.precedence.specs.SameBlock.{IsReason};
 ghost use Rattle.precedence.specs.inner.Seen.{placed, IsSortedTable};
@@ -88,7 +88,7 @@ fn rise(places: &[Place]) -> bool
 // Finds the first block of a list whose place stood before, and fails there.
 fn differ(alloc: Global, blocks: &[Block]) -> Result<(), NumberError>
     requires { length blocks.now ≤ MAX_BLOCKS }
-    ensures differ { OnOk result (IsDistinct nat_eq (codes blocks.now)) }
+    ensures differ { OnOk result (IsDistinct nat_eq (place_codes blocks.now)) }
     ensures same { IfErr result (IsReason blocks.now) }
 {
     let mut seen = Seen::with_capacity_and_hasher(alloc, blocks.len(), PlaceHashes::of(blocks))?;

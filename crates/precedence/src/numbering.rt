@@ -2,7 +2,7 @@
 
 ghost use Rattle.std.specs.Prelude.{◌≡◌, ◌≤◌, ◌<◌, length, slice_get, slice_index, Some};
 ghost use Rattle.std.specs.List.Sorted.{IsStrictlyIncreasing};
-ghost use Rattle.precedence.specs.Codes.{codes};
+ghost use Rattle.precedence.specs.Codes.{place_codes};
 ghost use Rattle.pit_parts.specs.declared.ranges.TheConstants.{MAX_BLOCKS};
 
 use pit_parts::block::Block;
@@ -31,7 +31,7 @@ impl Model for Numbering {
 impl Numbering {
     // The numbering of these columns.
     pub(crate) fn new(blocks: Vec<Block>, positions: Vec<u32>) -> Numbering
-        requires rising { IsStrictlyIncreasing (codes blocks.items) }
+        requires rising { IsStrictlyIncreasing (place_codes blocks.items) }
         requires placed { length positions.items ≡ length blocks.items }
         requires few { length blocks.items ≤ MAX_BLOCKS }
         ensures { result ≡ record { blocks = blocks.items; positions = positions.items } }
@@ -67,7 +67,7 @@ impl Numbering {
     /// The blocks in the order of their identifiers.
     pub fn blocks(&self) -> &[Block]
         ensures value { result.now ≡ self.now.blocks }
-        ensures rising { IsStrictlyIncreasing (codes self.now.blocks) }
+        ensures rising { IsStrictlyIncreasing (place_codes self.now.blocks) }
         ensures few { length self.now.blocks ≤ MAX_BLOCKS }
     {
         self.blocks.as_slice()

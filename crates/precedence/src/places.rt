@@ -3,7 +3,7 @@
 ghost use Rattle.std.specs.Prelude.{◌≡◌, ◌-◌, ◌≤◌, IfOk, length, map};
 ghost use Rattle.std.specs.List.{range_with_len};
 ghost use Rattle.std.specs.List.Sorted.{IsStrictlyIncreasing};
-ghost use Rattle.precedence.specs.Codes.{code, codes};
+ghost use Rattle.precedence.specs.Codes.{place_code, place_codes};
 ghost use Rattle.pit_parts.specs.declared.ranges.TheConstants.{MAX_BLOCKS};
 
 use crate::code::code;
@@ -35,9 +35,9 @@ impl Places {
 
 /// The places of blocks that stand in the order of their identifiers.
 pub fn places_of(alloc: Global, blocks: &[Block]) -> Result<Places, AllocError>
-    requires rising { IsStrictlyIncreasing (codes blocks.now) }
+    requires rising { IsStrictlyIncreasing (place_codes blocks.now) }
     requires few { length blocks.now ≤ MAX_BLOCKS }
-    ensures { IfOk result (λ places. places.codes.items ≡ codes blocks.now) }
+    ensures { IfOk result (λ places. places.codes.items ≡ place_codes blocks.now) }
 {
     let codes = codes_of(alloc, blocks)?;
     let ids = ids_below(alloc, blocks.len() as u32)?;
@@ -45,7 +45,7 @@ pub fn places_of(alloc: Global, blocks: &[Block]) -> Result<Places, AllocError>
 }
 
 fn codes_of(alloc: Global, blocks: &[Block]) -> Result<Vec<u64>, AllocError>
-    ensures { IfOk result (λ codes. codes.items ≡ map code blocks.now) }
+    ensures { IfOk result (λ codes. codes.items ≡ map place_code blocks.now) }
 {
     blocks.iter().map(|block| code(block)).collect(alloc)
 }

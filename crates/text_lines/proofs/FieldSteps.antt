@@ -10,9 +10,9 @@ use Rattle.pit_units.specs.Decimal.{decimal_of}
 use Rattle.pit_units.specs.declared.fault.DecFault.{DecFault}
 use Rattle.pit_units.specs.declared.fault.DecFault.TheVariants as dec
 use Rattle.forms.specs.Field.{Field, Value, Millionths, below, up_to, whole}
-use Rattle.forms.specs.Read.{number_of, read_field, read_fields}
+use Rattle.forms.specs.Read.{number_or_kind, read_field, read_fields}
 use Rattle.forms.specs.Steps.{◌>>=◌}
-use Rattle.text_lines.specs.FieldValues.{all_by, at_most, first_by, size_in, stated, whole_below, whole_in}
+use Rattle.text_lines.specs.FieldValues.{all_by, at_most, first_by, number_told, size_in, whole_below, whole_in}
 use Rattle.text_lines.specs.LineKinds.{text_kind, text_kinds}
 use Rattle.text_lines.specs.declared.text_fault.TextKind.{TextKind}
 use Rattle.text_lines.specs.declared.text_fault.TextKind.TheVariants.{Fields, Range}
@@ -39,9 +39,9 @@ whole_reads limit text = by (decimal_of 0 text) refl
     within m coarse false e = refl
 
     by : (r : Result ℤ DecFault) → decimal_of 0 text ≡ r
-        → (number_of text_kind r >>= λ m. if int_le (pos 0) m
+        → (number_or_kind text_kind r >>= λ m. if int_le (pos 0) m
         && int_le m (pos (limit * 10 ^ 6) +ℤ negsuc 0) then Ok (Millionths m) else Err Range)
-        ≡ ((stated r >>= whole_below limit) >>= λ n. Ok (whole n))
+        ≡ ((number_told r >>= whole_below limit) >>= λ n. Ok (whole n))
     by (Ok (pos m)) e =
         let coarse : m % 10 ^ 6 ≡ 0 = stands_multiple 0 text (pos m) (omega arith) (read_stands 0 text (pos m) (omega arith) e) in
         rw (whole_tests limit m coarse) (within m coarse (nat_lt (m / 10 ^ 6) limit) refl)
@@ -60,8 +60,8 @@ size_reads decimals most text = by (decimal_of decimals text)
     within m false = refl
 
     by : (r : Result ℤ DecFault)
-        → (number_of text_kind r >>= λ m. if int_le (pos 0) m && int_le m (pos most) then Ok (Millionths m) else Err Range)
-        ≡ ((stated r >>= at_most most) >>= λ n. Ok (Millionths (pos n)))
+        → (number_or_kind text_kind r >>= λ m. if int_le (pos 0) m && int_le m (pos most) then Ok (Millionths m) else Err Range)
+        ≡ ((number_told r >>= at_most most) >>= λ n. Ok (Millionths (pos n)))
     by (Ok (pos m)) = rw (size_tests most m) (within m (nat_lt most m))
     by (Ok (negsuc m)) = refl
     by (Err dec.Number) = refl

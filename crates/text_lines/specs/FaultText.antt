@@ -13,18 +13,18 @@ file_name file.Prec = codes "prec"
 file_name file.Pcpsp = codes "pcpsp"
 file_name file.Cpit = codes "cpit"
 
-abbrev pub kind_name : TextKind → List ℕ
-kind_name kind.Fields = codes "Fields"
-kind_name kind.Number = codes "Number"
-kind_name kind.TooFine = codes "TooFine"
-kind_name kind.Range = codes "Range"
-kind_name kind.Order = codes "Order"
-kind_name kind.Count = codes "Count"
-kind_name kind.Twice = codes "Twice"
-kind_name kind.Key = codes "Key"
-kind_name kind.Missing = codes "Missing"
-kind_name kind.Name = codes "Name"
+abbrev pub text_kind_name : TextKind → List ℕ
+text_kind_name kind.Fields = codes "Fields"
+text_kind_name kind.Number = codes "Number"
+text_kind_name kind.TooFine = codes "TooFine"
+text_kind_name kind.Range = codes "Range"
+text_kind_name kind.Order = codes "Order"
+text_kind_name kind.Count = codes "Count"
+text_kind_name kind.Twice = codes "Twice"
+text_kind_name kind.Key = codes "Key"
+text_kind_name kind.Missing = codes "Missing"
+text_kind_name kind.Name = codes "Name"
 
 -- `FILE line N: K`
 abbrev pub fault_text : TextFault → List ℕ
-fault_text fault = file_name fault.file ++ (codes " line " ++ (decimal fault.line ++ (codes ": " ++ kind_name fault.kind)))
+fault_text fault = file_name fault.file ++ (codes " line " ++ (decimal fault.line ++ (codes ": " ++ text_kind_name fault.kind)))

@@ -15,9 +15,9 @@ kind_of number_fault.Number = Number
 kind_of number_fault.TooFine = TooFine
 kind_of number_fault.Range = Range
 
-abbrev pub stated : Result ℤ DecFault → Result ℤ TextKind
-stated (Ok m) = Ok m
-stated (Err fault) = Err (kind_of fault)
+abbrev pub number_told : Result ℤ DecFault → Result ℤ TextKind
+number_told (Ok m) = Ok m
+number_told (Err fault) = Err (kind_of fault)
 
 -- a number from 0 to the most
 abbrev pub at_most : ℕ → ℤ → Result ℕ TextKind
@@ -31,15 +31,15 @@ whole_below limit (negsuc m) = Err Range
 
 -- the millionths of a field, from 0 to the most, with so many decimals
 unfoldable pub size_in : ℕ → ℕ → List ℕ → Result ℕ TextKind
-size_in decimals most field = stated (decimal_of decimals field) >>= at_most most
+size_in decimals most field = number_told (decimal_of decimals field) >>= at_most most
 
 -- the whole number of a field, below a limit
 unfoldable pub whole_in : ℕ → List ℕ → Result ℕ TextKind
-whole_in limit field = stated (decimal_of 0 field) >>= whole_below limit
+whole_in limit field = number_told (decimal_of 0 field) >>= whole_below limit
 
 -- the millionths of a field, of any decimal
 unfoldable pub decimal_in : List ℕ → Result ℤ TextKind
-decimal_in field = stated (decimal_of 6 field)
+decimal_in field = number_told (decimal_of 6 field)
 
 -- what the first field states by a rule, and the fields behind it
 abbrev pub first_by : {A : Type 0} → (List ℕ → Result A TextKind) → List (List ℕ) → Result (A × List (List ℕ)) TextKind
@@ -53,5 +53,5 @@ all_by rule done (field ∷ fields) = rule field >>= λ x. all_by rule (done ++ 
 
 -- what was taken of a line's fields: a value, and the bytes that the fields behind it stand in
 abbrev pub Takes : {A : Type 0} → Result (A × Bor (List ℕ)) TextKind → Result (A × List (List ℕ)) TextKind → Type 0
-Takes (Ok x) stated = stated ≡ Ok (x.0, fields_of x.1.now)
-Takes (Err kind) stated = stated ≡ Err kind
+Takes (Ok x) number_told = number_told ≡ Ok (x.0, fields_of x.1.now)
+Takes (Err kind) number_told = number_told ≡ Err kind

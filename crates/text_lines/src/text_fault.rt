@@ -68,9 +68,9 @@ pub enum TextKind {
 
 impl fmt::Display for TextKind {
     ghost use Rattle.std.specs.Prelude.{Some};
-    ghost use Rattle.text_lines.specs.FaultText.{kind_name};
+    ghost use Rattle.text_lines.specs.FaultText.{text_kind_name};
 
-    ghost output = { λ kind. Some (kind_name kind) };
+    ghost output = { λ kind. Some (text_kind_name kind) };
 
     fn fmt<W: fmt::Write>(&self, f: &mut fmt::Formatter<W>) -> fmt::Result {
         match self {

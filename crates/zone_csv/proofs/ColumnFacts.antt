@@ -5,7 +5,7 @@ use Rattle.std.proofs.lemmas.Bool.Decides.{nat_tests}
 use Rattle.records.specs.Cells.{trimmed, is_word}
 use Rattle.forms.specs.Shape.{Check, failing, unless}
 use Rattle.zone_csv.proofs.RowFacts.{failing_of_row}
-use Rattle.zone_csv.specs.Cell.{a_fault, cell_at}
+use Rattle.zone_csv.specs.Cell.{a_fault, trimmed_at}
 use Rattle.zone_csv.specs.Header.{a_column, asked_of_header, columns_of, places_of}
 use Rattle.zone_csv.specs.NamedColumns.{NamesColumn, NamesColumns}
 use Rattle.zone_csv.specs.declared.columns.Columns.{Columns}
@@ -16,7 +16,7 @@ use Rattle.zone_csv.specs.declared.row_fault.RowFaultKind.TheVariants.{TwiceColu
 
 module _ (name : List ℕ) (no_name : is_word [] name ≡ false) where
   abbrev Is : List (List ℕ) → ℕ → Type 0
-  Is cells q = is_word (cell_at cells q) name ≡ true
+  Is cells q = is_word (trimmed_at cells q) name ≡ true
 
   none_there : (q : ℕ) → Is [] q → ⊥
   none_there q h = absurd (cc (no_name, h))

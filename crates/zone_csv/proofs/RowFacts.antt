@@ -17,7 +17,7 @@ use Rattle.pit_parts.specs.declared.grid.Grid.{Grid}
 use Rattle.pit_units.proofs.Multiples.{stands_multiple}
 use Rattle.pit_parts.proofs.BlockFacts.{block_again}
 use Rattle.zone_csv.proofs.CentroidFacts.{centroid_index, index_is_centroid}
-use Rattle.zone_csv.specs.Cell.{centroid, coordinate, grade, index_at, tonnes}
+use Rattle.zone_csv.specs.Cell.{a_tonnage, centroid, coordinate, grade, index_at}
 use Rattle.zone_csv.specs.Row.{block_of, row_of, row_shape, values_of}
 use Rattle.zone_csv.specs.declared.columns.Columns.{Columns}
 use Rattle.zone_csv.specs.declared.row_fault.RowFault.{RowFault}
@@ -109,7 +109,7 @@ index_back axis cell (Millionths m) some says =
     ap Millionths (is.0 ∙ ap (centroid axis) (sym (min-eq_left (omega (arith, is.1)))))
 index_back axis cell (Bytes word) some says = absurd says
 
-kilograms_back : (cell : List ℕ) (value : Value) → Says tonnes cell value
+kilograms_back : (cell : List ℕ) (value : Value) → Says a_tonnage cell value
     → value ≡ Millionths (pos (min (unsigned_abs (millionths value) / 1000) (10 ^ 9) * 1000))
 kilograms_back cell (Millionths (pos n)) says =
     let rest : n % 10 ^ 3 ≡ 0 = stands_multiple 3 cell (pos n) (omega arith) says.0 in
@@ -136,7 +136,7 @@ module _ (grid : Grid) (zone : ℕ) (sx : 0 < grid.x.size) (sy : 0 < grid.y.size
 
   -- values that are spelled are those of the block that they state
   values_back : (cx cy cz ct cg : List ℕ) (values : List Value)
-      → Spell (coordinate grid.x ∷ coordinate grid.y ∷ coordinate grid.z ∷ tonnes ∷ grade ∷ []) (cx ∷ cy ∷ cz ∷ ct ∷ cg ∷ []) values
+      → Spell (coordinate grid.x ∷ coordinate grid.y ∷ coordinate grid.z ∷ a_tonnage ∷ grade ∷ []) (cx ∷ cy ∷ cz ∷ ct ∷ cg ∷ []) values
       → values ≡ values_of grid (block_of grid zone values)
   unfolding block_with
   values_back cx cy cz ct cg [] spelled = absurd spelled

@@ -13,8 +13,8 @@ use Rattle.zone_csv.specs.declared.row_fault.RowFaultKind.TheVariants.{Width, Nu
 use Rattle.pit_parts.specs.declared.ranges.TheConstants.{GRID_CELLS, MAX_GRADE, MAX_KG}
 
 -- the cell of a record at a place, without the blanks at both ends
-abbrev pub cell_at : List (List ℕ) → ℕ → List ℕ
-cell_at cells place = trimmed (slice_index_or cells place [])
+abbrev pub trimmed_at : List (List ℕ) → ℕ → List ℕ
+trimmed_at cells place = trimmed (slice_index_or cells place [])
 
 abbrev pub a_fault : ℕ → Column → RowFaultKind → RowFault
 a_fault row column kind = record { row = row; column = column; kind = kind }
@@ -48,8 +48,8 @@ IsInGrid axis coordinate = (least axis ≤ℤ coordinate) × (coordinate ≤ℤ 
 abbrev pub coordinate : Axis → Field
 coordinate axis = Stepped 3 (1000 * axis.size) (least axis) (greatest axis)
 
-abbrev pub tonnes : Field
-tonnes = up_to 3 (MAX_KG * 1000)
+abbrev pub a_tonnage : Field
+a_tonnage = up_to 3 (MAX_KG * 1000)
 
 abbrev pub grade : Field
 grade = up_to 6 MAX_GRADE
@@ -62,5 +62,5 @@ abbrev pub index_at : Axis → ℤ → ℕ
 index_at axis coordinate = unsigned_abs (coordinate -ℤ least axis) / (1000 * axis.size)
 
 -- a number that was read, as the value of its field
-abbrev pub stated : {A : Type 0} → (A → ℤ) → Result A RowFault → Result Value RowFault
-stated number answer = answer >>= λ x. Ok (Millionths (number x))
+abbrev pub as_value : {A : Type 0} → (A → ℤ) → Result A RowFault → Result Value RowFault
+as_value number answer = answer >>= λ x. Ok (Millionths (number x))

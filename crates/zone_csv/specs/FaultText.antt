@@ -15,17 +15,17 @@ column_name column.Tonnes = codes "tonnes"
 column_name column.Grade = codes "grade"
 column_name column.Whole = codes "whole"
 
-abbrev pub kind_name : RowFaultKind → List ℕ
-kind_name kind.MissingColumn = codes "MissingColumn"
-kind_name kind.TwiceColumn = codes "TwiceColumn"
-kind_name kind.Width = codes "Width"
-kind_name kind.Number = codes "Number"
-kind_name kind.TooFine = codes "TooFine"
-kind_name kind.Range = codes "Range"
-kind_name kind.OffGrid = codes "OffGrid"
-kind_name kind.TooManyRows = codes "TooManyRows"
+abbrev pub row_kind_name : RowFaultKind → List ℕ
+row_kind_name kind.MissingColumn = codes "MissingColumn"
+row_kind_name kind.TwiceColumn = codes "TwiceColumn"
+row_kind_name kind.Width = codes "Width"
+row_kind_name kind.Number = codes "Number"
+row_kind_name kind.TooFine = codes "TooFine"
+row_kind_name kind.Range = codes "Range"
+row_kind_name kind.OffGrid = codes "OffGrid"
+row_kind_name kind.TooManyRows = codes "TooManyRows"
 
 -- `row N column C: K`
 abbrev pub fault_text : RowFault → List ℕ
 fault_text fault =
-    codes "row " ++ (decimal fault.row ++ (codes " column " ++ (column_name fault.column ++ (codes ": " ++ kind_name fault.kind))))
+    codes "row " ++ (decimal fault.row ++ (codes " column " ++ (column_name fault.column ++ (codes ": " ++ row_kind_name fault.kind))))

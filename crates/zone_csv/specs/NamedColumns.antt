@@ -1,13 +1,13 @@
 -- Columns as a header names them.
 use Rattle.std.specs.Prelude.{◌≡◌, ℕ, true, List, length, codes}
 use Rattle.records.specs.Cells.{is_word}
-use Rattle.zone_csv.specs.Cell.{cell_at}
+use Rattle.zone_csv.specs.Cell.{trimmed_at}
 use Rattle.zone_csv.specs.declared.columns.Columns.{Columns}
 
 -- the cell at this place is the column's name, in any case, and no other cell is
 abbrev pub NamesColumn : List (List ℕ) → List ℕ → ℕ → Type 0
 NamesColumn header name place =
-    (is_word (cell_at header place) name ≡ true) × ((other : ℕ) → is_word (cell_at header other) name ≡ true → other ≡ place)
+    (is_word (trimmed_at header place) name ≡ true) × ((other : ℕ) → is_word (trimmed_at header other) name ≡ true → other ≡ place)
 
 -- the header names the five columns, wherever they stand, and has so many cells
 pub record NamesColumns (header : List (List ℕ)) (columns : Columns) : Type 0 where

@@ -5,7 +5,7 @@ use Rattle.forms.specs.Shape.{Shape, check, said}
 use Rattle.pit_parts.specs.Block.{block_with}
 use Rattle.pit_parts.specs.declared.block.Block.{Block}
 use Rattle.pit_parts.specs.declared.grid.Grid.{Grid}
-use Rattle.zone_csv.specs.Cell.{a_fault, cell_at, centroid, coordinate, grade, index_at, of_cell, tonnes}
+use Rattle.zone_csv.specs.Cell.{a_fault, a_tonnage, centroid, coordinate, grade, index_at, of_cell, trimmed_at}
 use Rattle.zone_csv.specs.declared.columns.Columns.{Columns}
 use Rattle.zone_csv.specs.declared.row_fault.Column.{Column}
 use Rattle.zone_csv.specs.declared.row_fault.Column.TheVariants as column
@@ -34,8 +34,8 @@ row_shape grid zone columns number cells = record {
   first =
       check (a_fault number column.Whole TooManyRows) (nat_le number (MAX_ROWS + 1))
       ++ check (a_fault number column.Whole Width) (length cells == columns.width);
-  texts = map (cell_at cells) (columns.x ∷ columns.y ∷ columns.z ∷ columns.tonnes ∷ columns.grade ∷ []);
-  form = coordinate grid.x ∷ coordinate grid.y ∷ coordinate grid.z ∷ tonnes ∷ grade ∷ [];
+  texts = map (trimmed_at cells) (columns.x ∷ columns.y ∷ columns.z ∷ columns.tonnes ∷ columns.grade ∷ []);
+  form = coordinate grid.x ∷ coordinate grid.y ∷ coordinate grid.z ∷ a_tonnage ∷ grade ∷ [];
   kinds = λ place. of_cell number (column_at place);
   last = λ values. [];
   next = block_of grid zone;

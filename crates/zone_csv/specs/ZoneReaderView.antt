@@ -7,7 +7,7 @@ use Rattle.zone_csv.specs.declared.zone_fault.ZoneFault.TheVariants.{Row, OutOfM
 
 -- these blocks, and then this fault or the end; or that fault or that end alone, which was told; or, since memory was refused, that alone
 pub data ZoneReaderView : Type 0 where
-  Says : (blocks : List Block) (fault : Option RowFault) → ZoneReaderView
+  Ahead : (blocks : List Block) (fault : Option RowFault) → ZoneReaderView
   Told : (fault : Option RowFault) → ZoneReaderView
   NoMemory : ZoneReaderView
 
@@ -18,21 +18,21 @@ last_answer (Some fault) = Err (Row fault)
 
 -- the next answer
 abbrev pub answer_of : ZoneReaderView → Result (Option Block) ZoneFault
-answer_of (Says (block ∷ blocks) fault) = Ok (Some block)
-answer_of (Says [] fault) = last_answer fault
+answer_of (Ahead (block ∷ blocks) fault) = Ok (Some block)
+answer_of (Ahead [] fault) = last_answer fault
 answer_of (Told fault) = last_answer fault
 answer_of NoMemory = Err OutOfMemory
 
 -- what is to be said after it
 abbrev pub rest_of : ZoneReaderView → ZoneReaderView
-rest_of (Says (block ∷ blocks) fault) = Says blocks fault
-rest_of (Says [] fault) = Told fault
+rest_of (Ahead (block ∷ blocks) fault) = Ahead blocks fault
+rest_of (Ahead [] fault) = Told fault
 rest_of (Told fault) = Told fault
 rest_of NoMemory = NoMemory
 
 -- memory may be refused, which it is not once the fault or the end was told
 abbrev pub MayRunOut : ZoneReaderView → Type 0
-MayRunOut (Says blocks fault) = Unit {0}
+MayRunOut (Ahead blocks fault) = Unit {0}
 MayRunOut (Told fault) = ⊥
 MayRunOut NoMemory = Unit {0}
 
@@ -44,6 +44,6 @@ Answers old (Err OutOfMemory) new = MayRunOut old × (new ≡ NoMemory)
 
 -- how many blocks are still to be said
 abbrev pub blocks_left : ZoneReaderView → ℕ
-blocks_left (Says blocks fault) = length blocks
+blocks_left (Ahead blocks fault) = length blocks
 blocks_left (Told fault) = 0
 blocks_left NoMemory = 0

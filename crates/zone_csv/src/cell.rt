@@ -2,9 +2,9 @@
 
 ghost use Rattle.std.specs.Prelude.{◌≡◌, ◌*◌, ◌<◌, ◌≤◌, ◌≤ℤ◌, ◌-ℤ◌, pos, unsigned_abs, Err, IfOk};
 ghost use Rattle.pit_parts.specs.PlanKept.{IsAxis};
-ghost use Rattle.zone_csv.specs.Cell.{IsInGrid, a_fault, coordinate, greatest, index_at, least, of_cell, stated};
+ghost use Rattle.zone_csv.specs.Cell.{IsInGrid, a_fault, as_value, coordinate, greatest, index_at, least, of_cell};
 ghost use Rattle.forms.specs.Field.{up_to};
-ghost use Rattle.forms.specs.Read.{number_of, read_decimal, read_field};
+ghost use Rattle.forms.specs.Read.{number_or_kind, read_decimal, read_field};
 ghost use Rattle.pit_parts.specs.declared.ranges.TheConstants.{GRID_CELLS};
 
 use crate::row_fault::{Column, RowFault, RowFaultKind};
@@ -21,7 +21,7 @@ pub(crate) fn a_fault(row: u32, column: Column, kind: RowFaultKind) -> RowFault
 
 // The fault of a cell that states no decimal.
 fn no_decimal(row: u32, column: Column, fault: DecFault) -> RowFault
-    ensures { number_of (of_cell row column) (Err fault) ≡ Err result }
+    ensures { number_or_kind (of_cell row column) (Err fault) ≡ Err result }
 {
     match fault {
         DecFault::Number => a_fault(row, column, RowFaultKind::Number),
@@ -41,7 +41,7 @@ fn number_of(
     cell: &[u8],
 ) -> Result<Dec, RowFault>
     requires { decimals ≤ 6 }
-    ensures value { stated (λ m. m) result
+    ensures value { as_value (λ m. m) result
         ≡ read_decimal (of_cell row column) decimals low high cell.now }
     ensures in_range { IfOk result (λ number. (low ≤ℤ number) × (number ≤ℤ high)) }
 {
@@ -67,7 +67,7 @@ pub(crate) fn size_of(
     cell: &[u8],
 ) -> Result<u64, RowFault>
     requires { decimals ≤ 6 }
-    ensures value { stated pos result
+    ensures value { as_value pos result
         ≡ read_field (of_cell row column) (up_to decimals most) cell.now }
     ensures in_range { IfOk result (λ size. size ≤ most) }
 {
@@ -84,7 +84,7 @@ pub(crate) fn coordinate_of(
     cell: &[u8],
 ) -> Result<Dec, RowFault>
     requires { IsAxis axis }
-    ensures value { stated (λ m. m) result
+    ensures value { as_value (λ m. m) result
         ≡ read_field (of_cell row column) (coordinate axis) cell.now }
     ensures in_grid { IfOk result (IsInGrid axis) }
 {

@@ -56,9 +56,9 @@ pub enum RowFaultKind {
 
 impl fmt::Display for RowFaultKind {
     ghost use Rattle.std.specs.Prelude.{Some};
-    ghost use Rattle.zone_csv.specs.FaultText.{kind_name};
+    ghost use Rattle.zone_csv.specs.FaultText.{row_kind_name};
 
-    ghost output = { λ kind. Some (kind_name kind) };
+    ghost output = { λ kind. Some (row_kind_name kind) };
 
     fn fmt<W: fmt::Write>(&self, f: &mut fmt::Formatter<W>) -> fmt::Result {
         match self {

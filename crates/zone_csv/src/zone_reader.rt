@@ -2,7 +2,7 @@
 
 ghost use Rattle.std.specs.Prelude.{◌≡◌, ◌+◌, ◌<◌, ◌≤◌, length, Err, IfOk, IfSome};
 ghost use Rattle.pit_parts.specs.PlanKept.{IsGrid};
-ghost use Rattle.zone_csv.specs.ZoneReaderView.{Says, Answers, blocks_left};
+ghost use Rattle.zone_csv.specs.ZoneReaderView.{Ahead, Answers, blocks_left};
 ghost use Rattle.zone_csv.specs.Zone.{blocks_of, fault_of};
 ghost use Rattle.zone_csv.specs.ZoneKept.{HasFewBlocks, HasOwnBlocks};
 ghost use Rattle.zone_csv.specs.inner.ZoneStages.{reader_view, IsCounted};
@@ -67,7 +67,7 @@ impl ZoneReader {
     pub fn new(alloc: Global, text: Vec<u8>, plan: &Plan, zone: u8) -> ZoneReader
         requires { zone < length plan.now.cones }
         ensures says { result
-            ≡ Says (blocks_of plan.now.grid zone text.items)
+            ≡ Ahead (blocks_of plan.now.grid zone text.items)
             (fault_of plan.now.grid zone text.items) }
         ensures few { HasFewBlocks plan.now.grid zone text.items }
         ensures own { HasOwnBlocks plan.now.grid zone text.items }

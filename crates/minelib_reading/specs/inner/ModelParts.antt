@@ -71,9 +71,9 @@ limit_of resources periods fields = do
   Ok (limit_said values)
 
 -- the value that fields state, or their fault
-abbrev pub States : Result (Bor (List ℕ)) TextKind → Result (List ℕ) TextKind → Type 0
-States (Ok value) stated = stated ≡ Ok value.now
-States (Err kind) stated = stated ≡ Err kind
+abbrev pub StatesValue : Result (Bor (List ℕ)) TextKind → Result (List ℕ) TextKind → Type 0
+StatesValue (Ok value) stated = stated ≡ Ok value.now
+StatesValue (Err kind) stated = stated ≡ Err kind
 
 -- what the first field states, and the fields behind it
 abbrev pub TakesFirst : {A : Type 0} → Result A TextKind → List (List ℕ) → Result (A × List (List ℕ)) TextKind → Type 0

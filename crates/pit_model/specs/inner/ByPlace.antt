@@ -37,11 +37,11 @@ Finds (Ok n) found = found ≡ Some n
 Finds (Err kind) found = (found ≡ None) × (kind ≡ Name)
 
 -- so many millimetres, as a value
-abbrev pub length_of : ℤ → Value
-length_of n = Millionths (n *ℤ pos 1000)
+abbrev pub length_value : ℤ → Value
+length_value n = Millionths (n *ℤ pos 1000)
 
-abbrev pub size_of : ℕ → Value
-size_of n = length_of (pos n)
+abbrev pub size_value : ℕ → Value
+size_value n = length_value (pos n)
 
 -- the cells from a place on
 abbrev pub read_from : ℕ → List Field → List (List ℕ) → Result (List Value) PlanFaultKind

@@ -1,7 +1,7 @@
 -- How a numbering's columns are seen.
 use Rattle.std.specs.Prelude.{◌≡◌, ◌≤◌, length}
 use Rattle.std.specs.List.Sorted.{IsStrictlyIncreasing}
-use Rattle.precedence.specs.Codes.{codes}
+use Rattle.precedence.specs.Codes.{place_codes}
 use Rattle.precedence.specs.Numbering.{NumberingView}
 use Rattle.precedence.specs.declared.numbering.Numbering.TheInside.{Inside}
 use Rattle.pit_parts.specs.declared.ranges.TheConstants.{MAX_BLOCKS}
@@ -11,6 +11,6 @@ numbered_of n = record { blocks = n.blocks.items; positions = n.positions.items 
 
 -- the blocks rise, each has a position, and their number is that of at most 64 zone files
 pub record KeepsNumbering (n : Inside) : Type 0 where
-  pub rising : IsStrictlyIncreasing (codes n.blocks.items)
+  pub rising : IsStrictlyIncreasing (place_codes n.blocks.items)
   pub placed : length n.positions.items ≡ length n.blocks.items
   pub few : length n.blocks.items ≤ MAX_BLOCKS

@@ -4,7 +4,7 @@ use Rattle.std.specs.Int.{abs_diff}
 use Rattle.pit_parts.specs.declared.block.Block.{Block}
 use Rattle.pit_parts.specs.declared.cone.Cone.{Cone}
 use Rattle.pit_parts.specs.declared.grid.Grid.{Grid}
-use Rattle.precedence.specs.Codes.{code}
+use Rattle.precedence.specs.Codes.{place_code}
 use Rattle.precedence.specs.Cone.{is_above}
 use Rattle.precedence.specs.declared.cone_rows.Row.{Row}
 use Rattle.precedence.specs.declared.cone_rows.Extent.{Extent}
@@ -30,13 +30,13 @@ pub record IsWithin (extent : Extent) (low high : Block) : Type 0 where
 -- up to the distance `up` the rows tell which block is above which
 pub record Tells (grid : Grid) (cone : Cone) (extent : Extent) (up : ℕ) (rows : List Row) : Type 0 where
   pub apart : AreApart 0 rows up
-  pub told : (low high : Block) → IsWithin extent low high → is_in_rows (code low) rows (code high) ≡ (nat_lt (code high) (code low + up) && is_above grid cone low high)
+  pub told : (low high : Block) → IsWithin extent low high → is_in_rows (place_code low) rows (place_code high) ≡ (nat_lt (place_code high) (place_code low + up) && is_above grid cone low high)
 
 -- the rows tell of all
 pub record IsTable (grid : Grid) (cone : Cone) (extent : Extent) (rows : List Row) : Type 0 where
   pub high : ℕ
   pub apart : AreApart 0 rows high
-  pub told : (low high : Block) → IsWithin extent low high → is_in_rows (code low) rows (code high) ≡ is_above grid cone low high
+  pub told : (low high : Block) → IsWithin extent low high → is_in_rows (place_code low) rows (place_code high) ≡ is_above grid cone low high
 
 -- the distance from a block to the codes of the row i of the bench dz above, `rows` rows south of it being row 0
 abbrev pub center : ℕ → ℕ → ℕ → ℕ

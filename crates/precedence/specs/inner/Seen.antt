@@ -3,16 +3,16 @@ use Rattle.std.specs.Prelude.{◌≡◌, ℕ, ◌+◌, ◌<◌, List, [], ◌∷
 use Rattle.std.specs.List.Sorted.{IsPermutation, IsStrictlyIncreasing}
 use Rattle.std.specs.Map.{keys_of}
 use Rattle.pit_parts.specs.declared.block.Block.{Block}
-use Rattle.precedence.specs.Codes.{code}
+use Rattle.precedence.specs.Codes.{place_code}
 
 -- the places of blocks, whose positions go on from n
 abbrev pub placed : ℕ → List Block → List (ℕ × ℕ)
 placed n [] = []
-placed n (b ∷ bs) = (code b, n) ∷ placed (n + 1) bs
+placed n (b ∷ bs) = (place_code b, n) ∷ placed (n + 1) bs
 
 -- the entry's position is one of the list's, and its place that of the block there
 abbrev pub IsPlaced : List Block → ℕ × ℕ → Type 0
-IsPlaced listed e = (e.1 < length listed) × ((d : Block) → code (slice_index_or listed e.1 d) ≡ e.0)
+IsPlaced listed e = (e.1 < length listed) × ((d : Block) → place_code (slice_index_or listed e.1 d) ≡ e.0)
 
 -- the places of blocks, in rising order
 pub record IsSortedTable (listed : List Block) (entries : List (ℕ × ℕ)) : Type 0 where

@@ -4,7 +4,7 @@ use Rattle.lane.specs.Message.{sent_from}
 use Rattle.lane.specs.declared.message.Taken.{Taken}
 use Rattle.lane.specs.declared.message.Taken.TheVariants.{End}
 use Rattle.pit_parts.specs.declared.block.Block.{Block}
-use Rattle.zone_csv.specs.ZoneReaderView.{ZoneReaderView, Says}
+use Rattle.zone_csv.specs.ZoneReaderView.{ZoneReaderView, Ahead}
 use Rattle.zone_csv.specs.declared.row_fault.RowFault.{RowFault}
 use Rattle.run_threads.specs.MostBytes.{most_bytes}
 use Rattle.run_threads.specs.declared.read_fault.ReadFault.{ReadFault}
@@ -21,7 +21,7 @@ IsUnread left sure OutOfMemory = Unit {0}
 -- the next answer of a reader that has these blocks and this fault to say
 abbrev pub IsNext : List Block → Option RowFault → Result (Option Block) ReadFault → ZoneReaderView → Type 0
 IsNext [] fault (Ok found) new = (found ≡ None) × (fault ≡ None)
-IsNext (block ∷ blocks) fault (Ok found) new = (found ≡ Some block) × (new ≡ Says blocks fault)
+IsNext (block ∷ blocks) fault (Ok found) new = (found ≡ Some block) × (new ≡ Ahead blocks fault)
 IsNext [] fault (Err (Row x)) new = fault ≡ Some x
 IsNext (block ∷ blocks) fault (Err (Row x)) new = ⊥
 IsNext blocks fault (Err OutOfMemory) new = Unit {0}
@@ -29,12 +29,12 @@ IsNext blocks fault (Err FeedFailed) new = ⊥
 IsNext blocks fault (Err TooLong) new = ⊥
 
 abbrev pub TellsNext : ZoneReaderView → Result (Option Block) ReadFault → ZoneReaderView → Type 0
-TellsNext old answer new = (blocks : List Block) (fault : Option RowFault) → old ≡ Says blocks fault → IsNext blocks fault answer new
+TellsNext old answer new = (blocks : List Block) (fault : Option RowFault) → old ≡ Ahead blocks fault → IsNext blocks fault answer new
 
 -- what was put of a file, which has these blocks and this fault in all, and what the reader has still to say, make up the file
 pub record IsSending (file : ℕ) (whole : List Block) (fault : Option RowFault) (sent : List Taken) (still : ZoneReaderView) : Type 0 where
   pub rest : List Block
-  pub says : still ≡ Says rest fault
+  pub says : still ≡ Ahead rest fault
   pub makes_up : sent ++ sent_from file (length sent) rest ≡ sent_from file 0 whole
   pub few : length sent + length rest ≤ MAX_ROWS
 

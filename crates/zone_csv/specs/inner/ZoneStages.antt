@@ -4,7 +4,7 @@ use Rattle.pit_parts.specs.declared.ranges.TheConstants.{MAX_ROWS}
 use Rattle.records.specs.RecordReader.{RecordReaderView, Rows, Over, GaveUp}
 use Rattle.pit_parts.specs.declared.block.Block.{Block}
 use Rattle.pit_parts.specs.declared.grid.Grid.{Grid}
-use Rattle.zone_csv.specs.ZoneReaderView.{ZoneReaderView, Says, Told, NoMemory}
+use Rattle.zone_csv.specs.ZoneReaderView.{ZoneReaderView, Ahead, Told, NoMemory}
 use Rattle.zone_csv.specs.Zone.{records_say, rows_say, before_fault, first_fault}
 use Rattle.zone_csv.specs.declared.row_fault.RowFault.{RowFault}
 use Rattle.zone_csv.specs.declared.zone_fault.ZoneFault.{ZoneFault}
@@ -13,24 +13,24 @@ use Rattle.zone_csv.specs.declared.zone_reader.Stage.{Stage}
 use Rattle.zone_csv.specs.declared.zone_reader.Stage.TheVariants as stage
 
 -- what these answers of rows say
-abbrev pub says : List (Result Block RowFault) → ZoneReaderView
-says said = Says (before_fault said) (first_fault said)
+abbrev pub ahead : List (Result Block RowFault) → ZoneReaderView
+ahead said = Ahead (before_fault said) (first_fault said)
 
 -- a fault that was told
-abbrev pub says_fault : ZoneFault → ZoneReaderView
-says_fault (Row fault) = Told (Some fault)
-says_fault OutOfMemory = NoMemory
+abbrev pub told_fault : ZoneFault → ZoneReaderView
+told_fault (Row fault) = Told (Some fault)
+told_fault OutOfMemory = NoMemory
 
 -- what is to be said at each stage, with these records ahead
 abbrev pub reader_view : Grid → ℕ → Stage → RecordReaderView → ZoneReaderView
-reader_view grid zone stage.Header (Rows rows) = says (records_say grid zone rows)
-reader_view grid zone stage.Header Over = says (records_say grid zone [])
+reader_view grid zone stage.Header (Rows rows) = ahead (records_say grid zone rows)
+reader_view grid zone stage.Header Over = ahead (records_say grid zone [])
 reader_view grid zone stage.Header GaveUp = NoMemory
-reader_view grid zone (stage.Body columns number) (Rows rows) = says (rows_say grid zone columns rows number)
-reader_view grid zone (stage.Body columns number) Over = says []
+reader_view grid zone (stage.Body columns number) (Rows rows) = ahead (rows_say grid zone columns rows number)
+reader_view grid zone (stage.Body columns number) Over = ahead []
 reader_view grid zone (stage.Body columns number) GaveUp = NoMemory
 reader_view grid zone stage.Ended ahead = Told None
-reader_view grid zone (stage.Failed fault) ahead = says_fault fault
+reader_view grid zone (stage.Failed fault) ahead = told_fault fault
 
 -- the rows are counted up to the first one that is too many
 abbrev pub IsCounted : Stage → Type 0

@@ -1,7 +1,7 @@
 use Rattle.std.proofs.Common.{◌≡◌, ℕ, ◌+◌, ◌∙◌, ◌++◌, ◌∷◌, [], List, length, map, take, ap, sym, arith, length-append}
 use Rattle.std.proofs.lemmas.List.{take_more, take_all, map-append}
 use Rattle.pit_parts.specs.declared.block.Block.{Block}
-use Rattle.precedence.specs.Codes.{codes}
+use Rattle.precedence.specs.Codes.{place_codes}
 use Rattle.precedence.specs.inner.Lists.{in_cone}
 use Rattle.precedence.proofs.Pieces.{ends_push, pieces_push}
 use Rattle.precedence.proofs.all_predecessors.lists_of.Goals as goal
@@ -15,7 +15,7 @@ loop-block-preserved c =
     let flat = c.loop-block.flat.items in
     let ends = c.loop-block.ends.items in
     let now = c.add_list.new.list in
-    let f : Block → List ℕ = in_cone tables.tables.items tables.of_zone.items (codes blocks) in
+    let f : Block → List ℕ = in_cone tables.tables.items tables.of_zone.items (place_codes blocks) in
     let adds : now.items ≡ flat ++ f b =
     c.in_ok-add_list.ensures ∙ ap (λ all. flat ++ in_cone tables.tables.items tables.of_zone.items all b) c.requires.codes in
     let end_is : c.len.result ≡ length (flat ++ f b) = omega (arith, c.len.ensures, now.ok, ap length adds) in
@@ -36,5 +36,5 @@ pub returns : goal.returns
 returns c =
     let tables = c.args.tables.now in
     c.of_parts.ensures ∙ c.loop-block.invariant.lists
-    ∙ ap (map (in_cone tables.tables.items tables.of_zone.items (codes c.args.blocks.now)))
+    ∙ ap (map (in_cone tables.tables.items tables.of_zone.items (place_codes c.args.blocks.now)))
     (take_all _ c.args.blocks.now c.loop-block-test.false)

@@ -1,6 +1,6 @@
 use Rattle.std.proofs.Common.{◌≡◌, ◌∙◌, map}
 use Rattle.std.proofs.lemmas.Result.{IfOk-weaker}
-use Rattle.precedence.specs.Codes.{codes}
+use Rattle.precedence.specs.Codes.{place_codes}
 use Rattle.precedence.specs.Cone.{preds}
 use Rattle.precedence.specs.inner.Lists.{in_cone}
 use Rattle.precedence.proofs.AllLists.{preds_are, tables_in_order}
@@ -18,6 +18,6 @@ returns c =
     tables.tables.items tables.of_zone.items c.blocks-blocks.result.now
     c.blocks-blocks.ensures.value c.grid.ensures.value c.cones.ensures.value c.in_ok-tables.ensures c.extent_of.ensures c.requires in
     IfOk-weaker c.lists_of.result (λ lists. lists
-    ≡ map (in_cone tables.tables.items tables.of_zone.items (codes c.blocks-blocks.result.now)) c.blocks-blocks.result.now)
+    ≡ map (in_cone tables.tables.items tables.of_zone.items (place_codes c.blocks-blocks.result.now)) c.blocks-blocks.result.now)
     (λ lists. lists ≡ preds c.args.plan.now numbering.blocks)
     (λ lists is. is ∙ all) c.lists_of.ensures

@@ -2,7 +2,7 @@ use Rattle.std.proofs.Common.{◌<◌, [], All, length, ◌∙◌}
 use Rattle.std.proofs.lemmas.List.{get_or_default}
 use Rattle.minelib_writing.specs.Written.{value_fields}
 use Rattle.std.proofs.lemmas.Result.{on_ok_weaker}
-use Rattle.minelib_lines.specs.Kept.{IsDecimal}
+use Rattle.minelib_lines.specs.Kept.{IsInDecimalRange}
 use Rattle.minelib_writing.proofs.KeptFacts.{kept_at}
 use Rattle.minelib_writing.proofs.LineFacts.{length-lines_from, line_at}
 use Rattle.minelib_writing.proofs.FieldsWritten.{values_written}
@@ -25,6 +25,6 @@ returns-clause-kept c =
     let values = c.args.self.now.values.now in
     let within : c.args.index < length values = rw length-lines_from at c.requires in
     on_ok_weaker c.put_values.result
-    (kept_at (λ of_block. All IsDecimal of_block) values c.args.index c.of.result.now within
+    (kept_at (λ of_block. All IsInDecimalRange of_block) values c.args.index c.of.result.now within
     (c.of.ensures ∙ get_or_default values c.args.index [] c.of.result.now within))
     c.put_values.ensures.kept

@@ -1,7 +1,7 @@
 use Rattle.std.proofs.Common.{◌≡◌, ◌+◌, ◌∙◌, ap, subst, arith, rules, tests}
 use Rattle.std.specs.Prelude.{slice_set}
 use Rattle.pit_units.specs.Decimal.{shortest}
-use Rattle.minelib_lines.specs.Kept.{IsDecimal}
+use Rattle.minelib_lines.specs.Kept.{IsInDecimalRange}
 use Rattle.minelib_writing.proofs.CoefFacts.{one_digit_set}
 use Rattle.minelib_writing.proofs.coef_lines.CpitCoefCoefLine.rewrite.Goals as goal
 
@@ -16,4 +16,4 @@ returns-clause-text c _ =
 pub returns-clause-kept : goal.returns-clause-kept
 returns-clause-kept c _ before =
     let same : c.args.other.now.v ≡ c.args.self.now.v = search (tests, rules) in
-    subst (λ v. IsDecimal v) same before
+    subst (λ v. IsInDecimalRange v) same before

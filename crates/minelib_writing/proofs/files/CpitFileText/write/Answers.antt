@@ -1,7 +1,7 @@
 use Rattle.std.proofs.Common.{◌++◌, length}
 use Rattle.std.specs.Prelude.{codes}
 use Rattle.std.proofs.lemmas.Result.{on_ok_weaker, IfErr-weaker}
-use Rattle.minelib_lines.specs.Kept.{IsDecimal, HasDecimals}
+use Rattle.minelib_lines.specs.Kept.{IsInDecimalRange, HasDecimals}
 use Rattle.minelib_lines.specs.Lines.{text_of, lines_from}
 use Rattle.minelib_writing.specs.Written.{text_cpit, problem_keys, cpit_keys, section_lines, cpit_value_fields, cpit_coef_fields, limit_fields}
 use Rattle.minelib_writing.proofs.KeptFacts.{kept_all, on_ok_three}
@@ -28,8 +28,8 @@ returns g c =
           (λ values coefs limits. (
             record {
               name = rw c.name.ensures at c.in_ok-put_problem.ensures.kept;
-              values = kept_all (λ v. IsDecimal v) i.values _ (length-lines_from cpit_value_fields 0 i.values) values;
-              coefs = kept_all (λ c. IsDecimal c.v) i.coefs _ (length-lines_from cpit_coef_fields 0 i.coefs) coefs;
+              values = kept_all (λ v. IsInDecimalRange v) i.values _ (length-lines_from cpit_value_fields 0 i.values) values;
+              coefs = kept_all (λ c. IsInDecimalRange c.v) i.coefs _ (length-lines_from cpit_coef_fields 0 i.coefs) coefs;
               limits = kept_all (λ l. HasDecimals l.bound) i.limits _ (length-lines_from limit_fields 0 i.limits) limits;
             },
             c.values.ensures.kept,

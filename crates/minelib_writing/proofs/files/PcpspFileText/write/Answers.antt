@@ -1,7 +1,7 @@
 use Rattle.std.proofs.Common.{◌++◌, All, length}
 use Rattle.std.specs.Prelude.{codes}
 use Rattle.std.proofs.lemmas.Result.{on_ok_weaker, IfErr-weaker}
-use Rattle.minelib_lines.specs.Kept.{IsDecimal, HasDecimals}
+use Rattle.minelib_lines.specs.Kept.{IsInDecimalRange, HasDecimals}
 use Rattle.minelib_lines.specs.Lines.{text_of, lines_from}
 use Rattle.minelib_writing.specs.Written.{text_pcpsp, problem_keys, pcpsp_keys, section_lines, value_fields, coef_fields, limit_fields}
 use Rattle.minelib_lines.specs.declared.problem.Problem.TheVariants.{Pcpsp}
@@ -28,8 +28,8 @@ returns g c =
       kept = on_ok_three c.write_sections.result
           (λ values coefs limits. record {
             name = c.in_ok-put_problem.ensures.kept;
-            values = kept_all (λ values. All IsDecimal values) i.values _ (length-lines_from value_fields 0 i.values) values;
-            coefs = kept_all (λ c. IsDecimal c.v) i.coefs _ (length-lines_from (coef_fields Pcpsp) 0 i.coefs) coefs;
+            values = kept_all (λ values. All IsInDecimalRange values) i.values _ (length-lines_from value_fields 0 i.values) values;
+            coefs = kept_all (λ c. IsInDecimalRange c.v) i.coefs _ (length-lines_from (coef_fields Pcpsp) 0 i.coefs) coefs;
             limits = kept_all (λ l. HasDecimals l.bound) i.limits _ (length-lines_from limit_fields 0 i.limits) limits;
           })
           c.write_sections.ensures.values (rw c.as_slice.ensures at c.write_sections.ensures.coefs)
