@@ -10,7 +10,8 @@ use Rattle.pit_parts.specs.declared.limit.Limit.{Limit}
 use Rattle.mine_instance.specs.CpitKept.{IsCpit, cpit_of}
 use Rattle.mine_instance.specs.CpitOrder.{is_listed_before}
 use Rattle.mine_instance.specs.Greatest.{first_greatest, greatest}
-use Rattle.mine_instance.specs.OfCpit.{is_at, is_chosen, without_destination, destination_of}
+use Rattle.mine_instance.specs.OfCpit.{is_chosen, without_destination, destination_of}
+use Rattle.mine_instance.specs.inner.CpitFields.{is_at}
 use Rattle.mine_instance.specs.Order.{coef_comes_before}
 use Rattle.mine_instance.specs.Valid.{IsValid}
 use Rattle.mine_instance.specs.declared.coef.Coef.{Coef}

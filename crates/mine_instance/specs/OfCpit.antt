@@ -1,5 +1,5 @@
 -- The CPIT of an instance: each block goes to the first destination where it is worth most.
-use Rattle.std.specs.Prelude.{ℕ, ◌==◌, Bool, List, [], ℤ, map, filter, slice_index, slice_index_or}
+use Rattle.std.specs.Prelude.{ℕ, ◌==◌, Bool, List, [], ℤ, map, filter, slice_index_or}
 use Rattle.mine_instance.specs.Greatest.{first_greatest, greatest}
 use Rattle.mine_instance.specs.declared.coef.Coef.{Coef}
 use Rattle.mine_instance.specs.declared.cpit.CpitCoef.{CpitCoef}
@@ -13,10 +13,6 @@ destination_of values block = first_greatest (slice_index_or values block [])
 -- the coefficient is at its block's destination
 abbrev pub is_chosen : List (List ℤ) → Coef → Bool
 is_chosen values c = c.d == destination_of values c.b
-
--- the coefficient is at its block's destination, of the destinations of all blocks
-abbrev pub is_at : List ℕ → Coef → Bool
-is_at destinations c = c.d == slice_index destinations c.b
 
 -- a coefficient without its destination
 abbrev pub without_destination : Coef → CpitCoef

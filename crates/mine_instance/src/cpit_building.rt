@@ -2,7 +2,8 @@
 
 ghost use Rattle.std.specs.Prelude.{◌≡◌, ◌<◌, ℤ, List, length, map, filter, All, IfOk};
 ghost use Rattle.mine_instance.specs.Greatest.{first_greatest, greatest};
-ghost use Rattle.mine_instance.specs.OfCpit.{cpit, is_at, without_destination};
+ghost use Rattle.mine_instance.specs.OfCpit.{cpit, without_destination};
+ghost use Rattle.mine_instance.specs.inner.CpitFields.{is_at};
 ghost use Rattle.mine_instance.specs.Valid.{IsValid};
 
 use crate::coef::Coef;

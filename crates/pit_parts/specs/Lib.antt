@@ -4,7 +4,6 @@ pub mod Block
 pub mod BlockParts
 pub mod Count
 pub mod Destinations
-pub mod Equality
 pub mod Formula
 pub mod FormulaEquality
 pub mod Name

@@ -97,7 +97,7 @@ impl PartialEq for Bands {
     ghost use Rattle.std.specs.Prelude.{◌≡◌, ◌↔◌, IsTrue};
     ghost use Rattle.std.specs.Cmp.{partial_equiv_from_equiv};
     ghost use Rattle.pit_parts.specs.BandsKept.{bands_eq};
-    ghost use Rattle.pit_parts.specs.Equality.{bands_equivalence};
+    ghost use Rattle.pit_parts.specs.inner.Equality.{bands_equivalence};
 
     ghost eq = { bands_eq };
 
@@ -112,7 +112,7 @@ impl PartialEq for Bands {
 }
 
 impl Eq for Bands {
-    ghost use Rattle.pit_parts.specs.Equality.{bands_equivalence};
+    ghost use Rattle.pit_parts.specs.inner.Equality.{bands_equivalence};
 
     ghost laws = { bands_equivalence };
 }

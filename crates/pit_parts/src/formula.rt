@@ -82,7 +82,8 @@ impl Formula {
 impl PartialEq for Formula {
     ghost use Rattle.std.specs.Prelude.{◌≡◌, ◌↔◌, IsTrue};
     ghost use Rattle.std.specs.Cmp.{partial_equiv_from_equiv};
-    ghost use Rattle.pit_parts.specs.FormulaEquality.{formula_eq, formula_equivalence};
+    ghost use Rattle.pit_parts.specs.FormulaEquality.{formula_eq};
+    ghost use Rattle.pit_parts.specs.inner.FormulasTold.{formula_equivalence};
 
     ghost eq = { formula_eq };
 
@@ -120,7 +121,7 @@ impl PartialEq for Formula {
 }
 
 impl Eq for Formula {
-    ghost use Rattle.pit_parts.specs.FormulaEquality.{formula_equivalence};
+    ghost use Rattle.pit_parts.specs.inner.FormulasTold.{formula_equivalence};
 
     ghost laws = { formula_equivalence };
 }

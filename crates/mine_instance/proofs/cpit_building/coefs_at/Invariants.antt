@@ -1,6 +1,7 @@
 use Rattle.std.proofs.Common.{◌≡◌, map, take}
 use Rattle.std.specs.Prelude.{filter}
-use Rattle.mine_instance.specs.OfCpit.{is_at, without_destination}
+use Rattle.mine_instance.specs.OfCpit.{without_destination}
+use Rattle.mine_instance.specs.inner.CpitFields.{is_at}
 use Rattle.mine_instance.proofs.cpit_building.coefs_at.Given as goal
 
 abbrev pub invariant-loop-coef : goal.invariant-loop-coef

@@ -1,4 +1,4 @@
-use Rattle.pit_parts.specs.Equality.{bands_told, answered}
+use Rattle.pit_parts.specs.inner.Equality.{bands_told, answered}
 use Rattle.pit_parts.proofs.band.BandsPartialEq.eq.Goals as goal
 
 pub returns-clause-equal : goal.returns-clause-equal

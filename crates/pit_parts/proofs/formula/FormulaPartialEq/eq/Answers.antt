@@ -1,6 +1,6 @@
 use Rattle.std.proofs.Common.{rules}
-use Rattle.pit_parts.specs.Equality.{answered}
-use Rattle.pit_parts.specs.FormulaEquality.{formulas_told}
+use Rattle.pit_parts.specs.inner.Equality.{answered}
+use Rattle.pit_parts.specs.inner.FormulasTold.{formulas_told}
 use Rattle.pit_parts.proofs.formula.FormulaPartialEq.eq.Goals as goal
 
 pub returns-then-price-other_price-2-clause-equal : goal.returns-then-price-other_price-2-clause-equal
