@@ -20,6 +20,7 @@ pub mod PrecTests
 pub mod Rising
 pub mod ShapeSteps
 pub mod SpelledDenotes
+pub mod SpelledItems
 pub mod SpelledModelBack
 pub mod SpelledModelRead
 pub mod SpelledRead

@@ -5,33 +5,39 @@ use Rattle.std.proofs.Common.{refl, sym, ◌∙◌, ap, subst, arith}
 use Rattle.std.proofs.lemmas.List.Elements.{All-head, All-tail}
 use Rattle.forms.proofs.GrammarFacts.{all_read, read_all_states}
 use Rattle.forms.specs.Grammar.{read_all}
+use Rattle.forms.specs.GrammarStates.{AllState}
+use Rattle.forms.specs.Spelled.{Spell}
 use Rattle.forms.specs.Steps.{◌>>=◌}
 use Rattle.mine_instance.specs.Cpit.{CpitParts}
 use Rattle.mine_instance.specs.CpitKept.{cpit_of}
 use Rattle.mine_instance.specs.OfCpit.{without_destination}
 use Rattle.mine_instance.specs.OfModel.{instance_with}
+use Rattle.mine_instance.specs.Valid.{ArePredsOf}
 use Rattle.mine_instance.specs.declared.coef.Coef.{Coef}
 use Rattle.mine_instance.specs.declared.cpit.CpitCoef.{CpitCoef}
 use Rattle.pit_parts.specs.declared.block.Block.{Block}
-use Rattle.minelib_lines.specs.LineValues.{at_only_destination}
+use Rattle.minelib_lines.specs.LineValues.{at_only_destination, block_values, preds_values}
 use Rattle.mine_instance.specs.declared.instance.Instance.{Instance}
-use Rattle.minelib_reading.specs.BlockLines.{blocks_in}
+use Rattle.minelib_reading.specs.BlockLines.{block_form, block_grammar, block_shape, blocks_in}
 use Rattle.minelib_reading.specs.Denotes.{instance_read, denoted, Denotes, cpit_read, cpit_denoted, DenotesCpit}
 use Rattle.minelib_reading.specs.ModelLines.{ModelDraftView, blank_model, finish_model, is_whole, model_grammar, model_in}
 use Rattle.minelib_reading.specs.ModelStates.{StateModel, stated_by}
-use Rattle.minelib_reading.specs.PrecLines.{preds_in}
+use Rattle.minelib_reading.specs.PrecLines.{prec_grammar, preds_form, preds_in, preds_shape}
 use Rattle.text_lines.specs.Reading.{in_file}
 use Rattle.minelib_reading.specs.HeaderKeys.{count_in}
 use Rattle.minelib_reading.specs.SpelledModel.{AreModelLines}
 use Rattle.minelib_reading.specs.StatedModel.{StatedModel, alone, model_of, model_of_cpit}
 use Rattle.minelib_reading.specs.declared.model_key.HeaderKey.TheVariants as key
-use Rattle.minelib_reading.specs.SpelledTexts.{SpellInstance, SpellCpit}
-use Rattle.text_lines.specs.TextLines.{end_of, lines_in}
+use Rattle.minelib_reading.specs.SpelledTexts.{SpellBlocks, SpellCpit, SpellInstance, SpellPreds}
+use Rattle.text_lines.specs.TextLines.{end_of, fields_of, lines_in}
 use Rattle.minelib_lines.specs.declared.problem.Problem.{Problem}
 use Rattle.minelib_lines.specs.declared.problem.Problem.TheVariants as problem
 use Rattle.text_lines.specs.declared.text_fault.TextFile.TheVariants.{Blocks, Prec, Pcpsp, Cpit}
 use Rattle.text_lines.specs.declared.text_fault.TextKind.TheVariants.{Missing}
+use Rattle.minelib_reading.proofs.BlockLineFacts.{block_back, block_line}
 use Rattle.minelib_reading.proofs.ModelShapes.{all_fine}
+use Rattle.minelib_reading.proofs.PrecLineFacts.{preds_back, preds_line}
+use Rattle.minelib_reading.proofs.SpelledItems.{items_spelled, spelled_items}
 use Rattle.text_lines.proofs.ReadSteps.{bind_then, same_ok, in_file_ok, then_ok}
 use Rattle.minelib_reading.proofs.SpelledModelBack.{spelled_stated}
 use Rattle.minelib_reading.proofs.SpelledModelRead.{stated_spelled}
@@ -65,6 +71,33 @@ model_back problem n text m are =
     let b = spelled_stated problem n (lines_in text) m are in
     (b.0, states_back problem n text b.0 b.1, b.2)
 
+-- the lines of blocks and of predecessors, in the format's words and by the grammar
+blocks_lines : (text : List ℕ) (blocks : List Block) → AllState block_grammar 1 [] (lines_in text) blocks → SpellBlocks text blocks
+blocks_lines text blocks all =
+    items_spelled block_shape (λ id line b. Spell block_form (fields_of line) (block_values id b))
+    (λ id line b states. (block_line id line b states).1) 1 (lines_in text) blocks all
+
+lines_blocks : (text : List ℕ) (blocks : List Block) → SpellBlocks text blocks → AllState block_grammar 1 [] (lines_in text) blocks
+lines_blocks text blocks are =
+    spelled_items block_shape (λ id line b. Spell block_form (fields_of line) (block_values id b))
+    (λ id line b spelled. block_back id b line spelled) 1 (lines_in text) blocks are
+
+preds_lines : (n : ℕ) (text : List ℕ) (lists : List (List ℕ))
+    → (length lists ≡ n) × AllState (prec_grammar n) 1 [] (lines_in text) lists → SpellPreds n text lists
+preds_lines n text lists (count, all) = (
+  count,
+  items_spelled (preds_shape n)
+      (λ own line ids. Spell (preds_form n (fields_of line)) (fields_of line) (preds_values own ids) × ArePredsOf own n ids)
+      (λ own line ids states. preds_line n own line ids states) 1 (lines_in text) lists all,
+)
+
+lines_preds : (n : ℕ) (text : List ℕ) (lists : List (List ℕ)) → SpellPreds n text lists
+    → AllState (prec_grammar n) 1 [] (lines_in text) lists
+lines_preds n text lists are =
+    spelled_items (preds_shape n)
+    (λ own line ids. Spell (preds_form n (fields_of line)) (fields_of line) (preds_values own ids) × ArePredsOf own n ids)
+    (λ own line ids h. preds_back n own line ids h.0 h.1) 1 (lines_in text) lists are.1
+
 pub denoted_spelled : (blocks prec pcpsp : List ℕ) (i : Instance) → Denotes blocks prec pcpsp i → SpellInstance blocks prec pcpsp i
 unfolding denoted
 denoted_spelled blocks prec pcpsp i e =
@@ -72,9 +105,8 @@ denoted_spelled blocks prec pcpsp i e =
     bind_then (in_file Prec (preds_in (length all) prec)) _ i rest1 (λ lists e2 rest2.
     bind_then (in_file Pcpsp (model_in problem.Pcpsp (length all) pcpsp)) _ i rest2 (λ d e3 rest3.
     subst (SpellInstance blocks prec pcpsp) (same_ok (instance_read all lists d) i rest3) (record {
-      of_blocks = blocks_spelled blocks all (in_file_ok Blocks _ all e1);
-      of_preds = (preds_spelled (length all) prec lists (in_file_ok Prec _ lists e2)).1;
-      all_preds = (preds_spelled (length all) prec lists (in_file_ok Prec _ lists e2)).0;
+      of_blocks = blocks_lines blocks all (blocks_spelled blocks all (in_file_ok Blocks _ all e1));
+      of_preds = preds_lines (length all) prec lists (preds_spelled (length all) prec lists (in_file_ok Prec _ lists e2));
       of_model = model_spelled problem.Pcpsp (length all) pcpsp d (in_file_ok Pcpsp _ d e3);
     }))))
 
@@ -88,8 +120,8 @@ unfolding denoted
 spelled_denoted blocks prec pcpsp i h =
     let m = model_back problem.Pcpsp (length i.blocks) pcpsp (model_of i) h.of_model in
     rw (
-      blocks_back blocks i.blocks h.of_blocks,
-      lists_back (length i.blocks) prec i.preds h.all_preds h.of_preds,
+      blocks_back blocks i.blocks (lines_blocks blocks i.blocks h.of_blocks),
+      lists_back (length i.blocks) prec i.preds h.of_preds.0 (lines_preds (length i.blocks) prec i.preds h.of_preds),
       m.1,
     ) (ap (λ m. Ok (instance_stated i.blocks i.preds m)) m.2)
 
