@@ -37,13 +37,19 @@ function split_record(record,    parts, count, part, at, open) {
     return at
 }
 
-# the place of a column among the cells, or 0, which is noted
-function column_of(wanted,    at, found) {
+# the place of a column among the cells, or 0
+function place_of(wanted,    at, found) {
     for (at = 1; at <= cells; at++) {
         if (tolower(trim(cell[at])) != tolower(wanted)) continue
         if (found) stop("two columns `" wanted "`")
         found = at
     }
+    return found
+}
+
+# the same; whether it was found is noted
+function column_of(wanted,    found) {
+    found = place_of(wanted)
     if (found) hits++
     else if (lacking == "") lacking = wanted
     return found
@@ -51,7 +57,8 @@ function column_of(wanted,    at, found) {
 
 # Takes a sum of products apart: factor[kind, product, n] is a column, or 0 with number[kind, product, n].
 function take_formula(kind, formula,    sums, products, part, one, text) {
-    many[kind] = split(formula, sums, "+")
+    many[kind] = place_of(formula) ? 1 : split(formula, sums, "+")
+    if (many[kind] == 1) sums[1] = formula
     for (one = 1; one <= many[kind]; one++) {
         many[kind, one] = split(sums[one], products, "*")
         for (part = 1; part <= many[kind, one]; part++) {
@@ -99,7 +106,7 @@ function number_at(at,    text) {
 # the number in a cell, or -1 where it is missing
 function measure_at(at,    text, found) {
     text = trim(cell[at])
-    if (text == "" || text == missing) return -1
+    if (text == "" || text "" == missing "") return -1
     found = number_at(at)
     return found < 0 ? -1 : found
 }
@@ -150,12 +157,13 @@ NR == 1 { sub(/^\357\273\277/, "") }
     mass = value_of("tonnes")
     zone_name = zone == "" ? "all" : trim(cell[zone_at])
     if (index(zone_name, ",")) stop("a comma in the zone `" zone_name "`")
-    printf("%.6f,%.6f,%.6f,%s,%s,%s\n", number_at(x_at), number_at(y_at), number_at(z_at), mass > 0 ? mass : "", value_of("grade"), zone_name)
+    printf("%.6f,%.6f,%.6f,%s,%s,%s\n", number_at(x_at), number_at(y_at), number_at(z_at), mass + 0 > 0 ? mass : "", value_of("grade"), zone_name)
     rows++
 }
 
 END {
     if (failed) exit 1
+    if (!NR) stop("there is no text")
     if (!width) {
         print "table.awk: no column `" closest_lacks "` in line " closest_line + 0 ", which has" closest_names > "/dev/stderr"
         exit 1
