@@ -18,6 +18,7 @@ use Rattle.text_lines.specs.declared.text_fault.TextKind.TheVariants.{Fields}
 use Rattle.text_lines.proofs.FieldSteps.{last_step, said_of, step, whole_reads}
 use Rattle.minelib_reading.specs.Fields.{any}
 use Rattle.minelib_reading.specs.ItemForms.{coef_form, coef_said}
+use Rattle.minelib_reading.specs.SpelledModel.{HasDestination}
 use Rattle.minelib_reading.specs.inner.ModelParts.{coef_alone, coef_of}
 use Rattle.minelib_lines.specs.LineValues.{coef_values}
 use Rattle.minelib_reading.proofs.FormFields.{ArePlain, any_fits, any_reads, below_there, fit_at, whole_itself}
@@ -40,11 +41,6 @@ coef_fits Pcpsp n destinations resources c few some small range decimal = (
 )
 coef_fits Cpit n destinations resources c few some small range decimal =
     (whole_fits n c.b range.0 few, (whole_fits resources c.r range.2 small, (any_fits c.v decimal, tt)))
-
--- the destination that no field states is the only one
-abbrev pub HasDestination : Problem → Coef → Type 0
-HasDestination Pcpsp c = Unit {0}
-HasDestination Cpit c = c.d ≡ 0
 
 -- they say the coefficient
 pub said_again : (problem : Problem) (c : Coef) → HasDestination problem c → coef_said problem (coef_values problem c) ≡ c
@@ -112,6 +108,11 @@ pub coef_kind : (problem : Problem) (n destinations resources : ℕ) (fields : L
 unfolding coef_alone coef_of
 coef_kind problem n destinations resources fields kind e =
     fault_later text_kinds (coef_form problem n destinations resources) fields _ kind e
+
+-- what values say is of the first destination, where there is one
+pub said_destination : (problem : Problem) (values : List Value) → HasDestination problem (coef_said problem values)
+said_destination Pcpsp values = tt
+said_destination Cpit values = refl
 
 -- values that fit are those of the coefficient that they say
 pub coef_are : (problem : Problem) (n destinations resources : ℕ) (values : List Value)

@@ -1,17 +1,20 @@
 -- What a line of a model file that states something spells, and what it makes of what stood before.
-use Rattle.std.specs.Prelude.{◌≡◌, ℕ, ◌==◌, not, Bool, true, false, List, [], ◌∷◌, ◌++◌, length, ℤ, Option, Some, None, pos, negsuc, if◌then◌else◌}
+use Rattle.std.specs.Prelude.{◌≡◌, ℕ, ◌==◌, ◌&&◌, not, Bool, true, false, List, [], ◌∷◌, ◌++◌, length, ℤ, Option, Some, None, pos, negsuc, if◌then◌else◌}
 use Rattle.std.specs.List.{list_any, before_first, after_first}
-use Rattle.std.proofs.Common.{refl, sym, ◌∙◌, ap, subst, arith}
-use Rattle.std.proofs.lemmas.Bool.{eqb-true, not-true}
+use Rattle.std.proofs.Common.{refl, sym, ◌∙◌, ap, subst, arith, eq-eqb}
+use Rattle.std.proofs.lemmas.Bool.{and_parts, eqb-true, not-true}
 use Rattle.std.proofs.lemmas.Int.{ints}
 use Rattle.std.proofs.lemmas.Slice.Eq.{bytes_eq-Decides}
 use Rattle.forms.proofs.FormFacts.{spelled_fit}
+use Rattle.forms.proofs.NumberFields.{quotient}
 use Rattle.forms.specs.Field.{Value, Millionths, Bytes, whole, whole_at, whole_stated}
 use Rattle.forms.specs.Fit.{FitsField}
 use Rattle.forms.specs.Shape.{check, failing}
 use Rattle.forms.specs.ShapeStates.{States}
 use Rattle.forms.specs.Spelled.{Says, Spell}
 use Rattle.pit_parts.specs.declared.limit.Limit.{Limit}
+use Rattle.pit_parts.specs.PlanKept.{is_turned, stands_before}
+use Rattle.mine_instance.specs.Order.{coef_comes_before}
 use Rattle.mine_instance.specs.declared.coef.Coef.{Coef}
 use Rattle.text_lines.specs.TextLines.{fields_of}
 use Rattle.text_lines.specs.declared.text_fault.TextKind.TheVariants.{Order, Count, Twice, Key, Missing}
@@ -20,8 +23,9 @@ use Rattle.minelib_lines.specs.declared.problem.Problem.{Problem}
 use Rattle.minelib_reading.specs.HeaderKeys.{count_in, is_given, with_key}
 use Rattle.minelib_reading.specs.ItemForms.{bytes_in, coef_form, coef_said, limit_form, limit_said, row_said, values_form}
 use Rattle.minelib_reading.specs.KeyFields.{field_of, number_said, type_text}
-use Rattle.minelib_reading.specs.ModelLines.{ModelDraftView, coef_line, first_of, header_line, is_colon, is_counted, is_heading, is_next, is_ready, item_line, key_of, keyed_line, limit_line, model_line, name_with, section_line, stray_line, values_line}
+use Rattle.minelib_reading.specs.ModelLines.{ModelDraftView, coef_line, first_of, header_line, is_behind, is_colon, is_counted, is_heading, is_next, is_ready, item_line, key_of, keyed_line, last_of, limit_line, model_line, name_with, section_line, stray_line, values_line}
 use Rattle.minelib_reading.specs.ModelStates.{header_stated}
+use Rattle.minelib_reading.specs.SpelledModel.{SpellCoef, SpellLimit, SpellValues}
 use Rattle.minelib_reading.specs.SpelledKeys.{IsKeyLine, has_key, key_text, section_text, value_of}
 use Rattle.minelib_reading.specs.declared.model_key.Header.{Header}
 use Rattle.minelib_reading.specs.declared.model_key.HeaderKey.{HeaderKey}
@@ -30,14 +34,14 @@ use Rattle.minelib_reading.specs.declared.model_key.ModelKey.{ModelKey}
 use Rattle.minelib_reading.specs.declared.model_key.ModelKey.TheVariants as model_key
 use Rattle.minelib_reading.specs.declared.model_key.Section.{Section}
 use Rattle.minelib_reading.specs.declared.model_key.Section.TheVariants.{Heading, Objective, Coefs, Limits}
-use Rattle.minelib_reading.proofs.CoefLineFacts.{coef_are, coef_fine}
+use Rattle.minelib_reading.proofs.CoefLineFacts.{coef_are, coef_fine, said_again as coef_said_again, said_destination}
 use Rattle.minelib_reading.proofs.FormFields.{whole_itself}
 use Rattle.minelib_reading.proofs.HeaderFacts.{count_there}
 use Rattle.minelib_reading.proofs.KeyLines.{key_found, key_line}
-use Rattle.minelib_reading.proofs.LimitLineFacts.{limit_are, limit_fine}
+use Rattle.minelib_reading.proofs.LimitLineFacts.{limit_are, limit_fine, said_again as limit_said_again}
 use Rattle.minelib_reading.proofs.ModelShapes.{field_fine}
-use Rattle.minelib_reading.proofs.ShapeSteps.{passed}
-use Rattle.minelib_reading.proofs.ValuesLineFacts.{many_fine, values_are}
+use Rattle.minelib_reading.proofs.ShapeSteps.{met, passed}
+use Rattle.minelib_reading.proofs.ValuesLineFacts.{many_again, many_fine, values_are}
 
 -- a header key with these fields behind its colon
 pub record SetsKey (d : ModelDraftView) (k : HeaderKey) (fields : List (List ℕ)) (next : ModelDraftView) : Type 0 where
@@ -59,20 +63,21 @@ pub record BeginsSection (d : ModelDraftView) (section : Section) (fields : List
 -- the fields of a block's values
 pub record AddsValues (d : ModelDraftView) (fields : List (List ℕ)) (next : ModelDraftView) : Type 0 where
   pub values : List ℤ
-  pub spelled : Spell (values_form d.blocks (count_in d.header key.Destinations)) fields (values_values (length d.values) values)
+  pub spelled : SpellValues d.blocks (header_stated d.name d.header) (length d.values) fields values
   pub is : next ≡ record d { values = d.values ++ values ∷ [] }
 
 -- of a coefficient
 pub record AddsCoef (d : ModelDraftView) (fields : List (List ℕ)) (next : ModelDraftView) : Type 0 where
   pub coef : Coef
-  pub spelled : Spell (coef_form d.problem d.blocks (count_in d.header key.Destinations) (count_in d.header key.Resources)) fields
-      (coef_values d.problem coef)
+  pub spelled : SpellCoef d.problem d.blocks (header_stated d.name d.header) fields coef
+  pub behind : is_behind coef_comes_before (last_of d.coefs) coef ≡ true
   pub is : next ≡ record d { coefs = d.coefs ++ coef ∷ [] }
 
 -- of a limit
 pub record AddsLimit (d : ModelDraftView) (fields : List (List ℕ)) (next : ModelDraftView) : Type 0 where
   pub limit : Limit
-  pub spelled : Spell (limit_form (count_in d.header key.Resources) (count_in d.header key.Periods) fields) fields (limit_values limit)
+  pub spelled : SpellLimit (header_stated d.name d.header) fields limit
+  pub behind : is_behind stands_before (last_of d.limits) limit ≡ true
   pub is : next ≡ record d { limits = d.limits ++ limit ∷ [] }
 
 -- what a value that fits states is what the header then states by its key
@@ -196,7 +201,11 @@ coef_step d next fields s =
     let fit = spelled_fit form fields s.values (coef_fine d.problem d.blocks destinations resources) s.spelled in
     record {
       coef = coef_said d.problem s.values;
-      spelled = subst (Spell form fields) (coef_are d.problem d.blocks destinations resources s.values fit) s.spelled;
+      spelled = (
+        subst (Spell form fields) (coef_are d.problem d.blocks destinations resources s.values fit) s.spelled,
+        said_destination d.problem s.values,
+      );
+      behind = (passed Order (is_behind coef_comes_before (last_of d.coefs) (coef_said d.problem s.values)) [] s.last).0;
       is = s.is;
     }
 
@@ -207,10 +216,61 @@ limit_step d next fields s =
     let periods = count_in d.header key.Periods in
     let form = limit_form resources periods fields in
     let fit = spelled_fit form fields s.values (limit_fine resources periods fields) s.spelled in
+    let limit = limit_said s.values in
+    let in_order = and_parts (not (is_turned limit.bound)) (is_behind stands_before (last_of d.limits) limit)
+    (passed Order (not (is_turned limit.bound) && is_behind stands_before (last_of d.limits) limit) [] s.last).0 in
     record {
-      limit = limit_said s.values;
-      spelled = subst (Spell form fields) (limit_are resources periods fields s.values fit) s.spelled;
+      limit = limit;
+      spelled = (
+        subst (Spell form fields) (limit_are resources periods fields s.values fit) s.spelled,
+        not-true (is_turned limit.bound) in_order.0,
+      );
+      behind = in_order.1;
       is = s.is;
+    }
+
+-- fields that spell an item behind those before it state it
+pub values_back : (d : ModelDraftView) (fields : List (List ℕ)) (vs : List ℤ)
+    → SpellValues d.blocks (header_stated d.name d.header) (length d.values) fields vs
+    → States (values_line d fields) (record d { values = d.values ++ vs ∷ [] })
+unfolding values_line
+values_back d fields vs spelled = record {
+  first = refl;
+  values = values_values (length d.values) vs;
+  spelled = spelled;
+  last = met Order (whole_at (values_values (length d.values) vs) 0 == length d.values) []
+      (rw (quotient (length d.values)) (eq-eqb (length d.values) (length d.values) refl)) refl;
+  is = ap (λ row. record d { values = d.values ++ row ∷ [] }) (sym (many_again vs));
+}
+
+pub coef_back : (d : ModelDraftView) (fields : List (List ℕ)) (c : Coef)
+    → SpellCoef d.problem d.blocks (header_stated d.name d.header) fields c → is_behind coef_comes_before (last_of d.coefs) c ≡ true
+    → States (coef_line d fields) (record d { coefs = d.coefs ++ c ∷ [] })
+unfolding coef_line
+coef_back d fields c spelled behind =
+    let same = coef_said_again d.problem c spelled.1 in
+    record {
+      first = refl;
+      values = coef_values d.problem c;
+      spelled = spelled.0;
+      last = met Order (is_behind coef_comes_before (last_of d.coefs) (coef_said d.problem (coef_values d.problem c))) []
+          (ap (is_behind coef_comes_before (last_of d.coefs)) same ∙ behind) refl;
+      is = ap (λ c. record d { coefs = d.coefs ++ c ∷ [] }) (sym same);
+    }
+
+pub limit_back : (d : ModelDraftView) (fields : List (List ℕ)) (l : Limit) → SpellLimit (header_stated d.name d.header) fields l
+    → is_behind stands_before (last_of d.limits) l ≡ true → States (limit_line d fields) (record d { limits = d.limits ++ l ∷ [] })
+unfolding limit_line
+limit_back d fields l spelled behind =
+    let same : limit_said (limit_values l) ≡ l = limit_said_again l.resource l.period l.bound in
+    record {
+      first = refl;
+      values = limit_values l;
+      spelled = spelled.0;
+      last = met Order (not (is_turned (limit_said (limit_values l)).bound)
+          && is_behind stands_before (last_of d.limits) (limit_said (limit_values l))) []
+          (ap (λ l. not (is_turned l.bound) && is_behind stands_before (last_of d.limits) l) same ∙ rw (spelled.1, behind) refl) refl;
+      is = ap (λ l. record d { limits = d.limits ++ l ∷ [] }) (sym same);
     }
 
 -- a line that states something

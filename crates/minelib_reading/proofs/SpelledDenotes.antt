@@ -157,7 +157,8 @@ cpit_spelled n text c e =
     let kept = model_kept problem.Cpit n 1 (lines_in text) d (model_states problem.Cpit n text d read).0 in
     let one = one_destination d.header kept.header.own in
     let rows = sym (each_alone d.values (subst (λ k. All (λ values. length values ≡ k) d.values) one kept.values)) in
-    let coefs = sym (all_first d.coefs are.of_problem.1) in
+    let first : All (λ c. c.d ≡ 0) d.coefs = λ i c within. let low = kept.coefs.in_range i c within in omega (arith, low.1, one) in
+    let coefs = sym (all_first d.coefs first) in
     let same : stated_by d ≡ model_of_cpit (cpit_read d) =
     λ i. record {
       header = record {

@@ -1,49 +1,49 @@
 -- Lines that spell a model state it.
-use Rattle.std.specs.Prelude.{◌≡◌, ◌≢◌, ℕ, suc, ◌+◌, ◌==◌, ◌&&◌, true, false, not, List, [], ◌∷◌, ◌++◌, length, ℤ, pos, unsigned_abs, Some, None, is_some, unwrap_or, All, AllPairs, codes, slice_index_or}
+use Rattle.std.specs.Prelude.{◌≡◌, ◌≢◌, ℕ, suc, ◌+◌, ◌==◌, true, false, not, List, [], ◌∷◌, ◌++◌, length, ℤ, pos, unsigned_abs, Some, None, is_some, unwrap_or, AllPairs, codes, slice_index_or}
 use Rattle.std.specs.List.{Contains, list_any}
 use Rattle.std.specs.Str.{bytes_eq}
 use Rattle.std.proofs.Common.{refl, sym, ◌∙◌, ap, subst, arith, inl, inr, append_assoc, append-nil, length-append, eq-eqb}
 use Rattle.std.proofs.lemmas.Bool.{cases_Bool}
 use Rattle.forms.proofs.NumberFields.{quotient}
-use Rattle.forms.specs.Field.{whole, whole_at, whole_stated}
+use Rattle.forms.specs.Field.{whole, whole_stated}
 use Rattle.forms.specs.GrammarStates.{AllState}
 use Rattle.forms.specs.Shape.{check, failing}
 use Rattle.forms.specs.ShapeStates.{States}
-use Rattle.forms.specs.Spelled.{Spell}
-use Rattle.pit_parts.specs.PlanKept.{is_turned, stands_before}
+use Rattle.pit_parts.specs.PlanKept.{stands_before}
 use Rattle.pit_parts.specs.declared.limit.Limit.{Limit}
 use Rattle.mine_instance.specs.Order.{coef_comes_before}
 use Rattle.mine_instance.specs.declared.coef.Coef.{Coef}
 use Rattle.text_lines.specs.TextLines.{Line, fields_of}
-use Rattle.text_lines.specs.declared.text_fault.TextKind.TheVariants.{Order, Count, Twice, Key, Missing}
+use Rattle.text_lines.specs.declared.text_fault.TextKind.TheVariants.{Count, Twice, Key, Missing}
 use Rattle.minelib_lines.specs.LineValues.{coef_values, limit_values, values_values}
 use Rattle.minelib_lines.specs.declared.problem.Problem.{Problem}
 use Rattle.minelib_lines.specs.declared.problem.Problem.TheVariants.{Pcpsp, Cpit}
 use Rattle.minelib_reading.specs.HeaderKeys.{count_in, is_complete, is_given, number_of, with_key}
-use Rattle.minelib_reading.specs.ItemForms.{bytes_in, coef_form, coef_said, limit_form, limit_said, values_form}
+use Rattle.minelib_reading.specs.ItemForms.{bytes_in, coef_form, limit_form, values_form}
 use Rattle.minelib_reading.specs.KeyFields.{number_said}
-use Rattle.minelib_reading.specs.ModelLines.{ModelDraftView, blank_header, blank_model, coef_line, header_line, is_behind, is_colon, is_counted, is_heading, is_next, is_ready, item_line, last_of, limit_line, model_grammar, model_line, name_with, section_line, values_line}
+use Rattle.minelib_reading.specs.ModelLines.{ModelDraftView, blank_header, blank_model, header_line, is_behind, is_colon, is_counted, is_heading, is_next, is_ready, item_line, last_of, model_grammar, model_line, name_with, section_line}
 use Rattle.minelib_reading.specs.ModelStates.{StateModel, header_stated, stated_by}
 use Rattle.minelib_reading.specs.SpelledKeys.{IsKeyLine, has_key, key_text, section_text, value_of}
 use Rattle.minelib_reading.specs.SpelledLines.{AreLines}
-use Rattle.minelib_reading.specs.SpelledModel.{AreHeaderLines, AreModelLines, IsHeaderLine, IsOfProblem}
+use Rattle.minelib_reading.specs.SpelledModel.{AreHeaderLines, AreModelLines, IsHeaderLine, IsSingle, SpellCoef, SpellLimit, SpellValues}
 use Rattle.minelib_reading.specs.StatedModel.{StatedHeader, StatedModel}
 use Rattle.minelib_reading.specs.declared.model_key.Header.{Header}
 use Rattle.minelib_reading.specs.declared.model_key.HeaderKey.{HeaderKey}
 use Rattle.minelib_reading.specs.declared.model_key.HeaderKey.TheVariants as key
 use Rattle.minelib_reading.specs.declared.model_key.Section.{Section}
 use Rattle.minelib_reading.specs.declared.model_key.Section.TheVariants.{Heading, Objective, Coefs, Limits}
-use Rattle.minelib_reading.proofs.CoefLineFacts.{HasDestination, coef_plain, said_again as coef_said_again}
+use Rattle.minelib_reading.proofs.CoefLineFacts.{coef_plain}
 use Rattle.minelib_reading.proofs.FormFields.{from_zero, spelled_keyless}
 use Rattle.minelib_reading.proofs.HeaderFacts.{all_given, contains_cases, each_with, first_given, with_same}
 use Rattle.minelib_reading.proofs.ItemLines.{items_keep}
 use Rattle.minelib_reading.proofs.KeyLines.{cut_line, header_found, header_plain, section_found, section_plain}
 use Rattle.minelib_reading.proofs.Keyless.{keyless}
-use Rattle.minelib_reading.proofs.LimitLineFacts.{bound_plain, said_again as limit_said_again}
+use Rattle.minelib_reading.proofs.LimitLineFacts.{bound_plain}
+use Rattle.minelib_reading.proofs.ModelSteps.{coef_back, limit_back, values_back}
 use Rattle.minelib_reading.proofs.LinesThen.{StateAny, draft, heading, line_then, lines_then}
-use Rattle.minelib_reading.proofs.Places.{behind_last, item_there}
+use Rattle.minelib_reading.proofs.Places.{behind_last}
 use Rattle.minelib_reading.proofs.ShapeSteps.{met}
-use Rattle.minelib_reading.proofs.ValuesLineFacts.{many_again, many_plain}
+use Rattle.minelib_reading.proofs.ValuesLineFacts.{many_plain}
 
 -- the number that a header keeps of what it states by a key
 abbrev told : StatedHeader → HeaderKey → ℕ
@@ -111,63 +111,35 @@ item_here : (d : ModelDraftView) (line : List ℕ) → list_any is_colon line �
 item_here d line none = rw none refl
 
 values_states : (p : Problem) (n : ℕ) (name : List ℕ) (h : Header) (done : List (List ℤ)) (vs : List ℤ) (line : List ℕ)
-    → Spell (values_form n (count_in h key.Destinations)) (fields_of line) (values_values (length done) vs)
+    → SpellValues n (header_stated name h) (length done) (fields_of line) vs
     → States (model_line (draft p n name h Objective done [] []) line) (draft p n name h Objective (done ++ vs ∷ []) [] [])
-unfolding values_line
 values_states p n name h done vs line spelled =
     let d = draft p n name h Objective done [] [] in
-    let form = values_form n (count_in h key.Destinations) in
-    let values = values_values (length done) vs in
-    let none = keyless line (spelled_keyless form (fields_of line) values (many_plain (count_in h key.Destinations)) spelled) in
-    subst (λ shape. States shape (draft p n name h Objective (done ++ vs ∷ []) [] [])) (sym (item_here d line none)) (record {
-      first = refl;
-      values = values;
-      spelled = spelled;
-      last = met Order (whole_at values 0 == length done) [] (rw (quotient (length done)) (eq-eqb (length done) (length done) refl)) refl;
-      is = ap (λ row. draft p n name h Objective (done ++ row ∷ []) [] []) (sym (many_again vs));
-    })
+    let none = keyless line (spelled_keyless (values_form n (count_in h key.Destinations)) (fields_of line) (values_values (length done) vs)
+    (many_plain (count_in h key.Destinations)) spelled) in
+    subst (λ shape. States shape (draft p n name h Objective (done ++ vs ∷ []) [] [])) (sym (item_here d line none))
+    (values_back d (fields_of line) vs spelled)
 
 coef_states : (p : Problem) (n : ℕ) (name : List ℕ) (h : Header) (values : List (List ℤ)) (done : List Coef) (c : Coef) (line : List ℕ)
-    → Spell (coef_form p n (count_in h key.Destinations) (count_in h key.Resources)) (fields_of line) (coef_values p c)
-    → HasDestination p c → is_behind coef_comes_before (last_of done) c ≡ true
+    → SpellCoef p n (header_stated name h) (fields_of line) c → is_behind coef_comes_before (last_of done) c ≡ true
     → States (model_line (draft p n name h Coefs values done []) line) (draft p n name h Coefs values (done ++ c ∷ []) [])
-unfolding coef_line
-coef_states p n name h values done c line spelled of_it behind =
+coef_states p n name h values done c line spelled behind =
     let d = draft p n name h Coefs values done [] in
-    let form = coef_form p n (count_in h key.Destinations) (count_in h key.Resources) in
-    let none = keyless line (spelled_keyless form (fields_of line) (coef_values p c)
-    (coef_plain p n (count_in h key.Destinations) (count_in h key.Resources)) spelled) in
-    let same = coef_said_again p c of_it in
-    subst (λ shape. States shape (draft p n name h Coefs values (done ++ c ∷ []) [])) (sym (item_here d line none)) (record {
-      first = refl;
-      values = coef_values p c;
-      spelled = spelled;
-      last = met Order (is_behind coef_comes_before (last_of done) (coef_said p (coef_values p c))) []
-          (ap (is_behind coef_comes_before (last_of done)) same ∙ behind) refl;
-      is = ap (λ c. draft p n name h Coefs values (done ++ c ∷ []) []) (sym same);
-    })
+    let none = keyless line (spelled_keyless (coef_form p n (count_in h key.Destinations) (count_in h key.Resources)) (fields_of line)
+    (coef_values p c) (coef_plain p n (count_in h key.Destinations) (count_in h key.Resources)) spelled.0) in
+    subst (λ shape. States shape (draft p n name h Coefs values (done ++ c ∷ []) [])) (sym (item_here d line none))
+    (coef_back d (fields_of line) c spelled behind)
 
 limit_states : (p : Problem) (n : ℕ) (name : List ℕ) (h : Header) (values : List (List ℤ)) (coefs : List Coef) (done : List Limit) (l : Limit)
     (line : List ℕ)
-    → Spell (limit_form (count_in h key.Resources) (count_in h key.Periods) (fields_of line)) (fields_of line) (limit_values l)
-    → is_turned l.bound ≡ false → is_behind stands_before (last_of done) l ≡ true
+    → SpellLimit (header_stated name h) (fields_of line) l → is_behind stands_before (last_of done) l ≡ true
     → States (model_line (draft p n name h Limits values coefs done) line) (draft p n name h Limits values coefs (done ++ l ∷ []))
-unfolding limit_line
-limit_states p n name h values coefs done l line spelled straight behind =
+limit_states p n name h values coefs done l line spelled behind =
     let d = draft p n name h Limits values coefs done in
-    let form = limit_form (count_in h key.Resources) (count_in h key.Periods) (fields_of line) in
-    let none = keyless line (spelled_keyless form (fields_of line) (limit_values l)
-    (bound_plain (bytes_eq (slice_index_or (fields_of line) 2 []) (codes "I"))) spelled) in
-    let same : limit_said (limit_values l) ≡ l = limit_said_again l.resource l.period l.bound in
-    subst (λ shape. States shape (draft p n name h Limits values coefs (done ++ l ∷ []))) (sym (item_here d line none)) (record {
-      first = refl;
-      values = limit_values l;
-      spelled = spelled;
-      last = met Order (not (is_turned (limit_said (limit_values l)).bound)
-          && is_behind stands_before (last_of done) (limit_said (limit_values l))) []
-          (ap (λ l. not (is_turned l.bound) && is_behind stands_before (last_of done) l) same ∙ rw (straight, behind) refl) refl;
-      is = ap (λ l. draft p n name h Limits values coefs (done ++ l ∷ [])) (sym same);
-    })
+    let none = keyless line (spelled_keyless (limit_form (count_in h key.Resources) (count_in h key.Periods) (fields_of line))
+    (fields_of line) (limit_values l) (bound_plain (bytes_eq (slice_index_or (fields_of line) 2 []) (codes "I"))) spelled.0) in
+    subst (λ shape. States shape (draft p n name h Limits values coefs (done ++ l ∷ []))) (sym (item_here d line none))
+    (limit_back d (fields_of line) l spelled behind)
 
 -- lines that spell items, each of which is stated behind those before it
 items_state : {A : Type 0} (Spells : ℕ → List ℕ → A → Type 0) (state : List A → ModelDraftView) (all : List A)
@@ -303,14 +275,9 @@ header_back problem n m lines single are =
       };
     }
 
--- a CPIT's coefficients are of its only destination
-of_destination : (problem : Problem) (m : StatedModel) → IsOfProblem problem m → All (HasDestination problem) m.coefs
-of_destination Pcpsp m of_it = λ i c within. tt
-of_destination Cpit m of_it = of_it.1
-
-single : (problem : Problem) (m : StatedModel) → IsOfProblem problem m → problem ≡ Cpit → m.header.destinations ≡ 1
-single Pcpsp m of_it is = absurd cc
-single Cpit m of_it is = of_it.0
+single : (problem : Problem) (destinations : ℕ) → IsSingle problem destinations → problem ≡ Cpit → destinations ≡ 1
+single Pcpsp destinations of_it is = absurd cc
+single Cpit destinations of_it is = of_it
 
 -- a model with the header that was read
 abbrev with_header : StatedModel → StatedHeader → StatedModel
@@ -326,19 +293,16 @@ sections_back : (problem : Problem) (n : ℕ) (m : StatedModel) (lines : List Li
     → StatedAs problem n lines (with_header m (header_stated name h))
 sections_back problem n m lines name h complete are header =
     let at = draft problem n name h in
-    let values = items_state (λ block line vs. Spell (values_form n (count_in h key.Destinations)) (fields_of line) (values_values block vs))
+    let values = items_state (λ block line vs. SpellValues n (header_stated name h) block (fields_of line) vs)
     (λ done. at Objective done [] []) m.values
     (λ done x rest line cut s. values_states problem n name h done x line s) 0 [] m.values are.values refl refl are.spell_values in
-    let destination = of_destination problem (with_header m (header_stated name h)) are.of_problem in
-    let coefs = items_state (λ _ line c. Spell (coef_form problem n (count_in h key.Destinations) (count_in h key.Resources)) (fields_of line)
-    (coef_values problem c)) (λ done. at Coefs m.values done []) m.coefs
+    let coefs = items_state (λ _ line c. SpellCoef problem n (header_stated name h) (fields_of line) c)
+    (λ done. at Coefs m.values done []) m.coefs
     (λ done x rest line cut s. coef_states problem n name h m.values done x line s
-    (item_there m.coefs done x rest cut (HasDestination problem) destination)
     (behind_last coef_comes_before m.coefs done x rest cut are.rising_coefs)) 0 [] m.coefs are.coefs refl refl are.spell_coefs in
-    let limits = items_state (λ _ line l. Spell (limit_form (count_in h key.Resources) (count_in h key.Periods) (fields_of line)) (fields_of line)
-    (limit_values l)) (λ done. at Limits m.values m.coefs done) m.limits
+    let limits = items_state (λ _ line l. SpellLimit (header_stated name h) (fields_of line) l)
+    (λ done. at Limits m.values m.coefs done) m.limits
     (λ done x rest line cut s. limit_states problem n name h m.values m.coefs done x line s
-    (item_there m.limits done x rest cut (λ l. is_turned l.bound ≡ false) are.straight_limits)
     (behind_last stands_before m.limits done x rest cut are.rising_limits)) 0 [] m.limits are.limits refl refl are.spell_limits in
     let objective = section_states (at Heading [] [] []) Objective are.objective.text are.begin_values refl complete in
     let coefficients = section_states (at Objective m.values [] []) Coefs are.coefficients.text are.begin_coefs refl
@@ -360,7 +324,7 @@ sections_back problem n m lines name h complete are header =
 pub spelled_stated : (problem : Problem) (n : ℕ) (lines : List Line) (m : StatedModel) → AreModelLines problem n lines m
     → StatedAs problem n lines m
 spelled_stated problem n lines m are =
-    let h = header_back problem n m.header are.heading (single problem m are.of_problem) are.spell_header in
+    let h = header_back problem n m.header are.heading (single problem m.header.destinations are.destinations) are.spell_header in
     subst (λ header. (are : AreModelLines problem n lines (with_header m header))
     → StateAny (blank_model problem n) are.heading (heading problem n h.name h.h) → StatedAs problem n lines (with_header m header))
     h.stated (sections_back problem n m lines h.name h.h h.complete) are h.states

@@ -3,21 +3,19 @@ use Rattle.std.specs.Prelude.{◌≡◌, ℕ, suc, ◌+◌, ◌==◌, ◌&&◌, 
 use Rattle.std.proofs.Common.{refl, sym, ◌∙◌, ap, subst, arith, append_assoc, append-nil}
 use Rattle.std.proofs.lemmas.Bool.{and_parts, eqb-true}
 use Rattle.forms.specs.GrammarStates.{AllState}
-use Rattle.forms.specs.Spelled.{Says, Spell}
+use Rattle.forms.specs.Spelled.{Says}
 use Rattle.pit_parts.specs.declared.limit.Limit.{Limit}
 use Rattle.mine_instance.specs.declared.coef.Coef.{Coef}
 use Rattle.text_lines.specs.TextLines.{Line, fields_of}
-use Rattle.minelib_lines.specs.LineValues.{coef_values, limit_values, values_values}
 use Rattle.minelib_lines.specs.declared.problem.Problem.{Problem}
 use Rattle.minelib_lines.specs.declared.problem.Problem.TheVariants.{Pcpsp, Cpit}
 use Rattle.minelib_reading.specs.HeaderKeys.{count_in, is_complete, with_key}
-use Rattle.minelib_reading.specs.ItemForms.{coef_form, limit_form, values_form}
 use Rattle.minelib_reading.specs.ModelLines.{ModelDraftView, blank_model, is_heading, is_limits, model_grammar, name_with}
 use Rattle.minelib_reading.specs.ModelStates.{StateModel, header_stated, stated_by}
 use Rattle.minelib_reading.specs.KeyFields.{field_of}
 use Rattle.minelib_reading.specs.SpelledKeys.{IsKeyLine, has_key, key_text, section_text, value_of}
 use Rattle.minelib_reading.specs.SpelledLines.{AreLines}
-use Rattle.minelib_reading.specs.SpelledModel.{AreModelLines, IsOfProblem}
+use Rattle.minelib_reading.specs.SpelledModel.{AreModelLines, IsSingle, SpellCoef, SpellLimit, SpellValues}
 use Rattle.minelib_reading.specs.declared.model_key.HeaderKey.{HeaderKey}
 use Rattle.minelib_reading.specs.declared.model_key.HeaderKey.TheVariants as key
 use Rattle.minelib_reading.specs.declared.model_key.Section.{Section}
@@ -42,16 +40,13 @@ record Part {A : Type 0} (Before : List Line → Type 0) (section : Section) (Sp
 
 -- how a line spells a block's values, a coefficient and a limit
 abbrev SpellsValues : ModelDraftView → ℕ → List ℕ → List ℤ → Type 0
-SpellsValues d block line vs = Spell (values_form d.blocks (count_in d.header key.Destinations)) (fields_of line) (values_values block vs)
+SpellsValues d block line vs = SpellValues d.blocks (header_stated d.name d.header) block (fields_of line) vs
 
 abbrev SpellsCoef : ModelDraftView → ℕ → List ℕ → Coef → Type 0
-SpellsCoef d n line c =
-    Spell (coef_form d.problem d.blocks (count_in d.header key.Destinations) (count_in d.header key.Resources)) (fields_of line)
-    (coef_values d.problem c)
+SpellsCoef d n line c = SpellCoef d.problem d.blocks (header_stated d.name d.header) (fields_of line) c
 
 abbrev SpellsLimit : ModelDraftView → ℕ → List ℕ → Limit → Type 0
-SpellsLimit d n line l =
-    Spell (limit_form (count_in d.header key.Resources) (count_in d.header key.Periods) (fields_of line)) (fields_of line) (limit_values l)
+SpellsLimit d n line l = SpellLimit (header_stated d.name d.header) (fields_of line) l
 
 -- the lines so far, in the header and in each section
 abbrev InHeading : ModelDraftView → List Line → Type 0
@@ -191,12 +186,9 @@ all_at number done d (line ∷ lines) last was (next, states, more) =
     subst (At last.section last) (append_assoc done (line ∷ []) lines)
     (all_at (suc number) (done ++ line ∷ []) next lines last (stepped done d line next (model_step d next line.text states) was) more)
 
--- a CPIT has one destination, and its coefficients are of it
-of_problem : (problem : Problem) (n : ℕ) (d : ModelDraftView) → KeepsModel problem n d → IsOfProblem problem (stated_by d)
-of_problem Pcpsp n d kept = tt
-of_problem Cpit n d kept =
-    let one = one_destination d.header kept.header.own in
-    (one, λ i c within. let low = kept.coefs.in_range i c within in omega (arith, low.1, one))
+single : (problem : Problem) (n : ℕ) (d : ModelDraftView) → KeepsModel problem n d → IsSingle problem (count_in d.header key.Destinations)
+single Pcpsp n d kept = tt
+single Cpit n d kept = one_destination d.header kept.header.own
 
 -- all lines, cut into the header and the three sections
 whole : (d : ModelDraftView) (lines : List Line) → InLimits d lines → is_complete d.header ≡ true → KeepsModel d.problem d.blocks d
@@ -217,7 +209,7 @@ whole d lines l complete kept count =
       cut = l.cut ∙ ap (λ x. x ++ l.first ∷ l.lines) joined
           ∙ append_assoc v.before (v.first ∷ v.lines ++ (c.first ∷ c.lines)) (l.first ∷ l.lines)
           ∙ ap (λ x. v.before ++ v.first ∷ x) (append_assoc v.lines (c.first ∷ c.lines) (l.first ∷ l.lines));
-      of_problem = of_problem d.problem d.blocks d kept;
+      destinations = single d.problem d.blocks d kept;
       spell_header = heads_whole d.problem d.blocks d.name d.header v.before complete v.earlier;
       begin_values = v.begins;
       spell_values = v.spelled;
@@ -227,7 +219,6 @@ whole d lines l complete kept count =
       rising_coefs = kept.coefs.rising;
       begin_limits = l.begins;
       spell_limits = l.spelled;
-      straight_limits = λ i e within. (kept.limits.in_range i e within).2;
       rising_limits = kept.limits.rising;
     }
 

@@ -35,7 +35,7 @@ has_key Cpit key.Destinations = false
 has_key Cpit key.General = false
 has_key problem k = true
 
--- `KEY: fields`: the key alone before a colon, and these fields behind it
+-- `KEY: fields`: the key alone before a colon (58), and these fields behind it
 pub record IsKeyLine (key line : List ℕ) (fields : List (List ℕ)) : Type 0 where
   pub before : List ℕ
   pub behind : List ℕ

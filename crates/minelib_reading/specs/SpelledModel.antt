@@ -1,6 +1,6 @@
 -- How the lines of a model file spell what it states: those of the header, and then the sections, each behind the line of its key.
 -- And the first line with which they can no longer become a model.
-use Rattle.std.specs.Prelude.{◌≡◌, ◌≢◌, ℕ, false, List, [], ◌∷◌, ◌++◌, length, All, AllPairs, IsTrue, ℤ}
+use Rattle.std.specs.Prelude.{◌≡◌, ◌≢◌, ℕ, false, List, [], ◌∷◌, ◌++◌, length, AllPairs, IsTrue, ℤ}
 use Rattle.std.specs.List.{Contains}
 use Rattle.forms.specs.Spelled.{Says, Spell}
 use Rattle.pit_parts.specs.PlanKept.{RiseStrictly, is_turned}
@@ -21,10 +21,15 @@ use Rattle.minelib_reading.specs.StatedModel.{StatedHeader, StatedModel}
 use Rattle.minelib_reading.specs.declared.model_key.HeaderKey.{HeaderKey}
 use Rattle.minelib_reading.specs.declared.model_key.Section.TheVariants.{Objective, Coefs, Limits}
 
--- a CPIT has one destination, and its coefficients are of it
-abbrev pub IsOfProblem : Problem → StatedModel → Type 0
-IsOfProblem Pcpsp m = Unit {0}
-IsOfProblem Cpit m = (m.header.destinations ≡ 1) × All (λ c. c.d ≡ 0) m.coefs
+-- a CPIT has one destination
+abbrev pub IsSingle : Problem → ℕ → Type 0
+IsSingle Pcpsp destinations = Unit {0}
+IsSingle Cpit destinations = destinations ≡ 1
+
+-- and no field for it: a coefficient is of the first
+abbrev pub HasDestination : Problem → Coef → Type 0
+HasDestination Pcpsp c = Unit {0}
+HasDestination Cpit c = c.d ≡ 0
 
 -- `KEY: value` of a header key: the value spells what the header states by it
 pub record IsHeaderLine (problem : Problem) (n : ℕ) (h : StatedHeader) (line : List ℕ)
@@ -42,7 +47,8 @@ pub record AreHeaderLines (problem : Problem) (n : ℕ) (lines : List Line)
   pub once : AllPairs (λ k j. k ≢ j) keys
   pub all : (k : HeaderKey) → IsTrue (has_key problem k) → Contains keys k
 
--- how the fields of a line spell a block's values, a coefficient and a limit, in a file of n blocks with this header
+-- how the fields of a line spell a block's values, a coefficient and a limit, whose interval is not turned, in a file of n blocks with
+-- this header
 abbrev pub SpellValues : ℕ → StatedHeader → ℕ → List (List ℕ) → List ℤ → Type 0
 SpellValues n h block fields values =
     Spell (values_form n h.destinations) fields (values_values block values)
@@ -50,12 +56,15 @@ SpellValues n h block fields values =
 abbrev pub SpellCoef : Problem → ℕ → StatedHeader → List (List ℕ) → Coef → Type 0
 SpellCoef problem n h fields c =
     Spell (coef_form problem n h.destinations h.resources) fields (coef_values problem c)
+    × HasDestination problem c
 
 abbrev pub SpellLimit : StatedHeader → List (List ℕ) → Limit → Type 0
-SpellLimit h fields l = Spell (limit_form h.resources h.periods fields) fields (limit_values l)
+SpellLimit h fields l =
+    Spell (limit_form h.resources h.periods fields) fields (limit_values l)
+    × (is_turned l.bound ≡ false)
 
 -- all lines of a model file, of n blocks: those of the header, and then three sections, each behind the line of its key. A line of values
--- for each block, in order of identifier; the coefficients, which rise; the limits, which rise, with no interval turned
+-- for each block, in order of identifier; the coefficients, which rise; the limits, which rise
 pub record AreModelLines (problem : Problem) (n : ℕ) (lines : List Line)
     (m : StatedModel) : Type 0 where
   pub heading : List Line
@@ -67,7 +76,7 @@ pub record AreModelLines (problem : Problem) (n : ℕ) (lines : List Line)
   pub limits : List Line
   pub cut : lines
       ≡ heading ++ (objective ∷ values ++ (coefficients ∷ coefs ++ (resource_limits ∷ limits)))
-  pub of_problem : IsOfProblem problem m
+  pub destinations : IsSingle problem m.header.destinations
   pub spell_header : AreHeaderLines problem n heading m.header
   pub begin_values : IsKeyLine (section_text Objective) objective.text []
   pub spell_values :
@@ -79,7 +88,6 @@ pub record AreModelLines (problem : Problem) (n : ℕ) (lines : List Line)
   pub rising_coefs : AllPairs (λ c e. IsTrue (coef_comes_before c e)) m.coefs
   pub begin_limits : IsKeyLine (section_text Limits) resource_limits.text []
   pub spell_limits : AreLines (λ _ line l. SpellLimit m.header (fields_of line) l) 0 limits m.limits
-  pub straight_limits : All (λ l. is_turned l.bound ≡ false) m.limits
   pub rising_limits : RiseStrictly m.limits
 
 -- the lines begin a model of n blocks: with some lines behind them they spell one

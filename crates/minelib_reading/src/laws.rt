@@ -1,19 +1,20 @@
 //! What holds of reading, whatever the texts say: each contract is a law, and a call of it changes nothing.
 
-ghost use Rattle.std.specs.Prelude.{◌≡◌, ◌↔◌, ◌⊎◌, ℕ, ◌≤◌, [], ◌∷◌, ◌++◌, List, length, ℤ, Ok, Err};
+ghost use Rattle.std.specs.Prelude.{◌≡◌, ◌↔◌, ◌⊎◌, ℕ, ◌≤◌, [], ◌∷◌, ◌++◌, true, List, length, ℤ, Ok, Err};
 ghost use Rattle.forms.specs.Spelled.{Spell};
 ghost use Rattle.forms.specs.GrammarStates.{AllState, IsFirstFault};
 ghost use Rattle.forms.specs.ShapeStates.{States};
 ghost use Rattle.mine_instance.specs.Cpit.{CpitParts};
 ghost use Rattle.mine_instance.specs.CpitKept.{IsCpit};
 ghost use Rattle.mine_instance.specs.Valid.{ArePredsOf, IsValid};
+ghost use Rattle.mine_instance.specs.Order.{coef_comes_before};
 ghost use Rattle.mine_instance.specs.declared.coef.Coef.{Coef};
 ghost use Rattle.mine_instance.specs.declared.instance.Instance.{Instance as OneInstance};
 ghost use Rattle.minelib_reading.specs.BlockLines.{block_form, block_grammar, block_shape, blocks_in};
 ghost use Rattle.minelib_reading.specs.Denotes.{Denotes, DenotesCpit};
 ghost use Rattle.minelib_lines.specs.LineValues.{block_values, preds_values};
 ghost use Rattle.minelib_reading.specs.KeyFields.{field_of};
-ghost use Rattle.minelib_reading.specs.ModelLines.{ModelDraftView, coef_line, header_line, limit_line, model_in, values_line};
+ghost use Rattle.minelib_reading.specs.ModelLines.{ModelDraftView, coef_line, header_line, is_behind, last_of, limit_line, model_in, values_line};
 ghost use Rattle.minelib_reading.specs.ModelStates.{StateModel, stated_by};
 ghost use Rattle.minelib_reading.specs.PrecLines.{LacksLines, prec_grammar, preds_form, preds_in, preds_shape};
 ghost use Rattle.minelib_reading.specs.SpelledKeys.{value_of};
@@ -25,6 +26,7 @@ ghost use Rattle.text_lines.specs.TextLines.{fields_of, lines_in};
 ghost use Rattle.minelib_lines.specs.declared.problem.Problem.{Problem};
 ghost use Rattle.text_lines.specs.declared.text_fault.LineFault.{LineFault};
 ghost use Rattle.pit_parts.specs.declared.block.Block.{Block};
+ghost use Rattle.pit_parts.specs.PlanKept.{stands_before};
 ghost use Rattle.pit_parts.specs.declared.limit.Limit.{Limit};
 ghost use Rattle.pit_parts.specs.declared.ranges.TheConstants.{MAX_BLOCKS};
 
@@ -49,8 +51,9 @@ pub fn cpit_read_is_valid()
 ///   many they are and each of them, and where they are identifiers of the n blocks, none twice and none the block's
 ///   own.
 /// - `header`: the one field behind a header key's colon spells what the model then states by that key.
-/// - `values`, `coefs`, `limits`: a line of a section adds the values, the coefficient or the limit that its fields
-///   spell.
+/// - `values`: a line of the objective adds the values of the next block exactly where its fields spell them.
+/// - `coefs`, `limits`: a line of the coefficients or the limits adds one exactly where its fields spell it, and where
+///   it comes behind the last one.
 pub fn lines_state_what_they_spell()
     ensures blocks { (before : ℕ) (line : List ℕ) (b : Block) → States (block_shape before line) b
         ↔ Spell block_form (fields_of line) (block_values before b) }
@@ -63,16 +66,18 @@ pub fn lines_state_what_they_spell()
         (value_of d.problem d.blocks (stated_by next).header k ∷ []) }
     ensures values { (d next : ModelDraftView) (fields : List (List ℕ))
         → States (values_line d fields) next
-        → (vs : List ℤ) × (next ≡ record d { values = d.values ++ vs ∷ [] })
+        ↔ (vs : List ℤ) × (next ≡ record d { values = d.values ++ vs ∷ [] })
         × SpellValues d.blocks (stated_by d).header (length d.values) fields vs }
     ensures coefs { (d next : ModelDraftView) (fields : List (List ℕ))
         → States (coef_line d fields) next
-        → (c : Coef) × (next ≡ record d { coefs = d.coefs ++ c ∷ [] })
-        × SpellCoef d.problem d.blocks (stated_by d).header fields c }
+        ↔ (c : Coef) × (next ≡ record d { coefs = d.coefs ++ c ∷ [] })
+        × SpellCoef d.problem d.blocks (stated_by d).header fields c
+        × (is_behind coef_comes_before (last_of d.coefs) c ≡ true) }
     ensures limits { (d next : ModelDraftView) (fields : List (List ℕ))
         → States (limit_line d fields) next
-        → (l : Limit) × (next ≡ record d { limits = d.limits ++ l ∷ [] })
-        × SpellLimit (stated_by d).header fields l }
+        ↔ (l : Limit) × (next ≡ record d { limits = d.limits ++ l ∷ [] })
+        × SpellLimit (stated_by d).header fields l
+        × (is_behind stands_before (last_of d.limits) l ≡ true) }
 {}
 
 /// Where a text is read as blocks, each line that is not skipped states one of them, in order.

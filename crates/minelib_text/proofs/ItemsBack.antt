@@ -16,7 +16,8 @@ use Rattle.minelib_lines.specs.LineValues.{coef_values, limit_values, values_val
 use Rattle.minelib_writing.specs.Written.{value_fields, coef_fields, limit_fields}
 use Rattle.minelib_lines.specs.declared.problem.Problem.{Problem}
 use Rattle.minelib_lines.specs.declared.problem.Problem.TheVariants.{Pcpsp, Cpit}
-use Rattle.minelib_reading.proofs.CoefLineFacts.{HasDestination, coef_fine, coef_fits, coef_plain, said_again as coef_said_again}
+use Rattle.minelib_reading.specs.SpelledModel.{HasDestination}
+use Rattle.minelib_reading.proofs.CoefLineFacts.{coef_fine, coef_fits, coef_plain, said_again as coef_said_again}
 use Rattle.minelib_reading.proofs.FormFields.{written_fields}
 use Rattle.text_lines.proofs.PlainText.{AreFields}
 use Rattle.minelib_reading.proofs.ValuesLineFacts.{many_again, many_fine, many_plain, values_fits}
