@@ -1,2 +1,3 @@
 pub mod CellFacts
 pub mod RecordSteps
+pub mod ToldAgain

@@ -2,6 +2,7 @@
 #![tactic(auto)]
 
 pub mod cells;
+pub mod laws;
 mod record_reader;
 
 pub use record_reader::RecordReader;

@@ -3,3 +3,4 @@ pub mod Giving
 pub mod RowFacts
 pub mod ZoneFacts
 pub mod ColumnFacts
+pub mod AnsweredAgain

@@ -1,6 +1,6 @@
 //! What holds of every zone file and of every coordinate, for whoever speaks of them in a contract. The calls do nothing.
 
-ghost use Rattle.std.specs.Prelude.{◌≡◌, ◌*◌, ◌<◌, ◌⊎◌, ◌↔◌, ℕ, ℤ, true, List, Ok, None, Some};
+ghost use Rattle.std.specs.Prelude.{◌≡◌, ◌*◌, ◌<◌, ◌⊎◌, ◌↔◌, ℕ, ℤ, true, List, Option, Result, Ok, Err, None, Some};
 ghost use Rattle.forms.specs.Field.{is_on_step};
 ghost use Rattle.forms.specs.Spelled.{Spell};
 ghost use Rattle.forms.specs.Shape.{failing};
@@ -15,9 +15,11 @@ ghost use Rattle.zone_csv.specs.NamedColumns.{NamesColumns};
 ghost use Rattle.zone_csv.specs.Row.{row_shape, values_of};
 ghost use Rattle.zone_csv.specs.Zone.{blocks_of, fault_of};
 ghost use Rattle.zone_csv.specs.ZoneKept.{HasFewBlocks, HasOwnBlocks, AccountsForRecords};
+ghost use Rattle.zone_csv.specs.ZoneReaderView.{Answers, ZoneReaderView};
 ghost use Rattle.zone_csv.specs.ZoneStates.{HeaderFails, ZoneStates};
 ghost use Rattle.zone_csv.specs.declared.columns.Columns.{Columns as FiveColumns};
 ghost use Rattle.zone_csv.specs.declared.row_fault.RowFault.{RowFault};
+ghost use Rattle.zone_csv.specs.declared.zone_fault.ZoneFault.{ZoneFault};
 ghost use Rattle.pit_parts.specs.declared.ranges.TheConstants.{GRID_CELLS, MAX_ZONES};
 
 /// A zone file has at most a million blocks, all of its own zone. Each record behind the header is a block, up to the record of
@@ -83,4 +85,13 @@ pub fn faulty_rows_spell_no_block()
         → ¬ (States (row_shape grid zone columns number row) block) }
     ensures headers { (header : List (List ℕ)) (columns : FiveColumns) (fault : RowFault)
         → failing (asked_of_header header) ≡ Some fault → ¬ (NamesColumns header columns) }
+{}
+
+/// A reader that answered the end of its file, its fault or want of memory answers the same when it is asked again.
+pub fn readers_answer_again()
+    ensures ended { (old then after : ZoneReaderView) (again : Result (Option Block) ZoneFault)
+        → Answers old (Ok None) then → Answers then again after → again ≡ Ok None }
+    ensures refused { (old then after : ZoneReaderView) (fault : ZoneFault)
+        (again : Result (Option Block) ZoneFault)
+        → Answers old (Err fault) then → Answers then again after → again ≡ Err fault }
 {}
