@@ -4,6 +4,8 @@ use Rattle.std.proofs.Common.{arith, refl, ap, sym, ◌∙◌, inl, inr, append-
 use Rattle.std.proofs.lemmas.Bool.{cases_lt}
 use Rattle.std.proofs.lemmas.Fmt.{decimal_digit, decimal_is_IsNumeral_wide, first_decimal, length-decimal-le_wide}
 use Rattle.std.proofs.lemmas.Int.{ints}
+use Rattle.std.proofs.lemmas.Int.Digits.{digits_value-lt}
+use Rattle.std.proofs.Math.Nat.{pow-le-pow_right}
 use Rattle.std.proofs.lemmas.List.{length-take, length-append, length-reverse, length-replicate, get_or-take, get_or_append_left, get_or-append_right, get_or-replicate, get_or-reverse, drop_all, ext_get_or}
 use Rattle.std.proofs.lemmas.List.Sums.{AllPass-from_list_all, prefix_len_passes, prefix_len_stops, suffix_len-le-length}
 use Rattle.std.proofs.lemmas.Str.{digit_value_digit}
@@ -15,7 +17,7 @@ use Rattle.std.specs.List.{All, list_all, suffix_len}
 use Rattle.std.specs.Str.Parse.{AllDigits, digits_value, starts_with_minus}
 use Rattle.pit_units.specs.Decimal.{all_digits, all_zeros, six_decimals, size_of, signed, decimal_of, six_digits, without_end_zeros, fraction_text, size_text, shortest}
 use Rattle.pit_units.specs.StandsFor.{IsSpelled}
-use Rattle.pit_units.specs.Shortest.{IsPlain, IsPlainByte, IsShortest}
+use Rattle.pit_units.specs.Shortest.{IsPlain, IsPlainByte, IsShortest, longest}
 use Rattle.pit_units.proofs.Spelling.{both, digit_range, reads}
 use Rattle.pit_units.proofs.Text.{not_below, shortest_is}
 
@@ -27,7 +29,7 @@ digits_pass (c ∷ cs) h =
     rw (le-leb 48 c range.0, le-leb c 57 range.1) (digits_pass cs h.1)
 
 -- a part of a list that passes
-pass_take : (p : ℕ → Bool) (xs : List ℕ) (n : ℕ) → list_all p xs ≡ true → list_all p (take n xs) ≡ true
+pub pass_take : (p : ℕ → Bool) (xs : List ℕ) (n : ℕ) → list_all p xs ≡ true → list_all p (take n xs) ≡ true
 pass_take p xs zero h = refl
 pass_take p [] (suc n) h = refl
 pass_take p (c ∷ cs) (suc n) h =
@@ -57,7 +59,7 @@ ends_in_zeros xs i within behind =
     let place : length xs - 1 - (length xs - 1 - i) ≡ i = omega arith in
     sym (same ∙ ap (λ k. get_or xs k 0) place) ∙ zero_there
 
-kept_length : (xs : List ℕ) → length (without_end_zeros xs) + suffix_len (λ c. c == 48) xs ≡ length xs
+pub kept_length : (xs : List ℕ) → length (without_end_zeros xs) + suffix_len (λ c. c == 48) xs ≡ length xs
 kept_length xs = omega (arith, length-take (length xs - suffix_len (λ c. c == 48) xs) xs, suffix_len-le-length (λ c. c == 48) xs)
 
 kept_place : (xs : List ℕ) (i : ℕ) → i < length (without_end_zeros xs) → get_or (without_end_zeros xs) i 0 ≡ get_or xs i 0
@@ -286,6 +288,20 @@ sign_length : (below : Bool) → length (sign_text below) ≤ 1
 sign_length true = omega arith
 sign_length false = omega arith
 
+-- the whole part has 18 digits, or 19 and no decimals behind it
+size_short : (n : ℕ) → n ≤ 10 ^ 24 → length (fraction_text (n % 10 ^ 6)) ≤ 7 → length (size_text n) ≤ 25
+size_short n most few = by (cases_lt (n / 10 ^ 6) (10 ^ 18))
+  where
+    by : (n / 10 ^ 6 < 10 ^ 18) ⊎ (10 ^ 18 ≤ n / 10 ^ 6) → length (size_text n) ≤ 25
+    by (inl below) =
+        let joined = length-append (decimal (n / 10 ^ 6)) (fraction_text (n % 10 ^ 6)) in
+        omega (arith, joined, few, length-decimal-le_wide 18 (n / 10 ^ 6) (omega arith) (omega arith) (omega arith))
+    by (inr at_most) =
+        let joined = length-append (decimal (n / 10 ^ 6)) (fraction_text (n % 10 ^ 6)) in
+        let none : n % 10 ^ 6 ≡ 0 = omega (arith, at_most, most) in
+        let empty : length (fraction_text (n % 10 ^ 6)) ≡ 0 = rw none refl in
+        omega (arith, joined, empty, length-decimal-le_wide 19 (n / 10 ^ 6) (omega arith) (omega arith) (omega arith))
+
 -- the shortest text is plain
 pub shortest_plain : (z : ℤ) → unsigned_abs z ≤ 10 ^ 24 → IsPlain (shortest z)
 shortest_plain z most =
@@ -293,12 +309,11 @@ shortest_plain z most =
     let below = int_lt z (pos 0) in
     let numeral = decimal_is_IsNumeral_wide (n / 10 ^ 6) (omega arith) in
     let fraction = fraction_plain (n % 10 ^ 6) (point_part (n % 10 ^ 6)) in
-    let long = length-decimal-le_wide 19 (n / 10 ^ 6) (omega arith) (omega arith) (omega arith) in
     let size_length = length-append (decimal (n / 10 ^ 6)) (fraction_text (n % 10 ^ 6)) in
     let text_length = length-append (sign_text below) (size_text n) in
     let plain : IsPlain (sign_text below ++ size_text n) = record {
       some = omega (arith, text_length, size_length, numeral.0.0);
-      short = omega (arith, text_length, size_length, long, fraction.1, sign_length below);
+      short = omega (arith, text_length, size_short n most fraction.1, sign_length below);
       bytes = all_append (sign_text below) (size_text n) (sign_plain below)
           (all_append (decimal (n / 10 ^ 6)) (fraction_text (n % 10 ^ 6))
           (digits_plain (decimal (n / 10 ^ 6)) (digits_pass (decimal (n / 10 ^ 6)) numeral.0.1)) fraction.0);
@@ -314,3 +329,26 @@ whole_written k =
 
 pub whole_read : (k : ℕ) → k ≤ 10 ^ 18 → decimal_of 0 (decimal k) ≡ Ok (pos (k * 10 ^ 6))
 whole_read k most = ap (decimal_of 0) (sym (whole_written k)) ∙ shortest_read 0 (pos (k * 10 ^ 6)) (omega arith) (omega arith) (omega arith)
+
+-- 18 digits are written of this number
+eighteen : length (decimal 999999999999999999) ≡ 18
+eighteen = by (cases_lt (length (decimal 999999999999999999)) 18)
+  where
+    by : (length (decimal 999999999999999999) < 18) ⊎ (18 ≤ length (decimal 999999999999999999)) → length (decimal 999999999999999999) ≡ 18
+    by (inl few) =
+        let numeral = decimal_is_IsNumeral_wide 999999999999999999 (omega arith) in
+        let small = digits_value-lt 10 (decimal 999999999999999999) numeral.0.1 in
+        let fewer : length (decimal 999999999999999999) ≤ 17 = omega (arith, few) in
+        let less : 10 ^ length (decimal 999999999999999999) ≤ 10 ^ 17 = pow-le-pow_right {n = 10} (omega arith) fewer in
+        absurd (omega (arith, numeral.1, small, less))
+    by (inr many) = omega (arith, many, length-decimal-le_wide 18 999999999999999999 (omega arith) (omega arith) (omega arith))
+
+long_text : length (45 ∷ size_text (10 ^ 24 - 1)) ≡ 26
+long_text =
+    let joined = length-append (decimal 999999999999999999) (fraction_text 999999) in
+    let seven : length (fraction_text 999999) ≡ 7 = refl in
+    omega (arith, joined, seven, eighteen)
+
+pub longest_written : length (shortest (negsuc (10 ^ 24 - 2))) ≡ longest
+unfolding shortest
+longest_written = long_text

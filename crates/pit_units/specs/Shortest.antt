@@ -22,8 +22,12 @@ pub record IsShortest (z : ℤ) (text : List ℕ) : Type 0 where
 abbrev pub IsPlainByte : ℕ → Type 0
 IsPlainByte c = (45 ≤ c) × (c ≤ 57) × (c ≢ 47)
 
--- a text of such bytes, of one to 27
+-- the bytes of the longest text: a minus, 18 digits, a point and six decimals
+abbrev pub longest : ℕ
+longest = 26
+
+-- a text of such bytes, no longer than that
 pub record IsPlain (text : List ℕ) : Type 0 where
   pub some : 0 < length text
-  pub short : length text ≤ 27
+  pub short : length text ≤ longest
   pub bytes : All IsPlainByte text

@@ -1,11 +1,12 @@
 //! What holds of decimal texts, whatever the text and the number: each contract is a law, and a call of it does nothing.
-ghost use Rattle.std.specs.Prelude.{◌≡◌, ◌↔◌, ℕ, ◌++◌, ◌-◌, ◌*◌, ◌%◌, ◌^◌, ◌<◌, ◌≤◌, List, length, drop, ℤ, pos, unsigned_abs, IsTrue, Ok, Err};
+ghost use Rattle.std.specs.Prelude.{◌≡◌, ◌↔◌, ℕ, [], ◌++◌, ◌-◌, ◌*◌, ◌%◌, ◌^◌, ◌<◌, ◌≤◌, List, length, drop, ℤ, pos, negsuc, unsigned_abs, IsTrue, Ok, Err};
 ghost use Rattle.std.specs.Fmt.{decimal};
 ghost use Rattle.std.specs.Str.Parse.{digits_value};
 ghost use Rattle.pit_units.specs.declared.fault.DecFault.TheVariants as DecFault;
-ghost use Rattle.pit_units.specs.Decimal.{all_zeros, decimal_of, shortest};
+ghost use Rattle.pit_units.specs.Decimal.{all_zeros, decimal_of, shortest, size_text};
+ghost use Rattle.pit_units.specs.Front.{digits_ahead, past_point, IsUsual};
 ghost use Rattle.pit_units.specs.StandsFor.{IsSpelled, StandsFor};
-ghost use Rattle.pit_units.specs.Shortest.{IsPlain, IsShortest};
+ghost use Rattle.pit_units.specs.Shortest.{IsPlain, IsShortest, longest};
 
 /// What is written is read again as the same number.
 pub fn written_is_read()
@@ -31,9 +32,18 @@ pub fn written_is_shortest()
         → text ≡ shortest z }
 {}
 
-/// What is written has no other bytes than digits, a minus and a point.
+/// What is written has no other bytes than digits, a minus and a point, and there are 26 of them at most, as in the
+/// least number with six decimals.
 pub fn written_is_plain()
-    ensures { (z : ℤ) → unsigned_abs z ≤ 10 ^ 24 → IsPlain (shortest z) }
+    ensures plain { (z : ℤ) → unsigned_abs z ≤ 10 ^ 24 → IsPlain (shortest z) }
+    ensures long { length (shortest (negsuc (10 ^ 24 - 2))) ≡ longest }
+{}
+
+/// What is written of fewer than 10^12 whole units, and not below zero, begins as most decimals do, where what stands
+/// behind it begins with no digit and no point.
+pub fn written_is_usual()
+    ensures { (n : ℕ) (rest : List ℕ) → n < 10 ^ 18 → digits_ahead rest ≡ 0
+        → past_point rest ≡ [] → IsUsual 6 (size_text n ++ rest) }
 {}
 
 /// A text is read as the number that it stands for, and as no other.
