@@ -1,5 +1,5 @@
 -- The faults of a check: which were found, and how they end it.
-use Rattle.std.proofs.Common.{◌≡◌, ◌≢◌, ℕ, List, inl, inr, sym, subst, Err}
+use Rattle.std.proofs.Common.{◌≡◌, ◌≢◌, ℕ, List, Option, Result, inl, inr, sym, subst, Err}
 use Rattle.pit_edge.proofs.Ends.{ends_same}
 use Rattle.pit_edge.specs.FaultLine.{EndsWith}
 use Rattle.text_lines.specs.Reading.{Reads}
@@ -7,26 +7,41 @@ use Rattle.text_lines.specs.declared.text_fault.ReadTextError.{ReadTextError}
 use Rattle.text_lines.specs.declared.text_fault.ReadTextError.TheVariants as text_error
 use Rattle.text_lines.specs.declared.text_fault.TextFile.{TextFile}
 use Rattle.pit_check.specs.CheckFault.{IsCheckStatus, IsFound, TellsFault, fault_of_text, status_of_fault}
-use Rattle.pit_check.specs.inner.CheckSteps.{EndsCheck, IsFaultOf}
+use Rattle.pit_check.specs.inner.CheckSteps.{AreTexts, EndsCheck, IsFaultOf, IsFaultOfTexts, IsFoundIn, IsTooLong}
 use Rattle.pit_check.specs.Counts.{counted}
 use Rattle.pit_check.specs.declared.check_fault.CheckFault.{CheckFault}
 use Rattle.pit_check.specs.declared.check_fault.CheckFault.TheVariants as check_fault
 use Rattle.pit_check.specs.declared.counts.Counts.{Counts}
 use Rattle.pit_check.specs.declared.counts.Texts.{Texts}
+use Rattle.zone_csv.specs.declared.feed.FeedFault.{FeedFault}
 
-pub found_in_file : (file : TextFile) (fault : CheckFault) → IsFaultOf file fault → IsFound fault
-found_in_file file (check_fault.FeedFailed other) h = _
-found_in_file file (check_fault.TooLong other) h = _
-found_in_file file (check_fault.Text fault) h = absurd h
-found_in_file file check_fault.OutOfMemory h = _
+module _ {F : Type 0} (opens : List ℕ → Result F FeedFault → Type 0) (left : F → Option (List ℕ)) (base : List ℕ) where
+  pub found_in_file : (file : TextFile) (fault : CheckFault) → IsFaultOf opens left base file fault → IsFoundIn opens left base fault
+  found_in_file file (check_fault.FeedFailed other) h = _
+  found_in_file file (check_fault.TooLong other) h = subst (IsTooLong opens left base) (sym h.0) h.1
+  found_in_file file (check_fault.Text fault) h = absurd h
+  found_in_file file check_fault.OutOfMemory h = _
 
-pub found_in_texts : (texts : Texts) (error : ReadTextError) (fault : CheckFault) → fault ≡ fault_of_text error
-    → Reads {A = Counts} (Err error) (counted texts) → IsFound fault
-found_in_texts texts (text_error.Fault found) fault e reads = subst IsFound (sym e) (texts, reads)
-found_in_texts texts text_error.OutOfMemory fault e reads = subst IsFound (sym e) _
+  pub found_in_texts : (texts : Texts) (fault : CheckFault) → AreTexts opens left base texts → IsFaultOfTexts texts fault
+      → IsFoundIn opens left base fault
+  found_in_texts texts (check_fault.FeedFailed file) are h = absurd h
+  found_in_texts texts (check_fault.TooLong file) are h = absurd h
+  found_in_texts texts (check_fault.Text fault) are h = (texts, are, h)
+  found_in_texts texts check_fault.OutOfMemory are h = _
 
-pub no_memory_found : (fault : CheckFault) → fault ≡ check_fault.OutOfMemory → IsFound fault
-no_memory_found fault e = subst IsFound (sym e) _
+  pub found : (fault : CheckFault) → IsFoundIn opens left base fault → IsFound fault
+  found (check_fault.FeedFailed file) h = _
+  found (check_fault.TooLong file) h = _
+  found (check_fault.Text fault) h = (h.0, h.2)
+  found check_fault.OutOfMemory h = _
+
+pub told_of_texts : (texts : Texts) (error : ReadTextError) (fault : CheckFault) → fault ≡ fault_of_text error
+    → Reads {A = Counts} (Err error) (counted texts) → IsFaultOfTexts texts fault
+told_of_texts texts (text_error.Fault found) fault e reads = subst (IsFaultOfTexts texts) (sym e) reads
+told_of_texts texts text_error.OutOfMemory fault e reads = subst (IsFaultOfTexts texts) (sym e) _
+
+pub no_memory_told : (texts : Texts) (fault : CheckFault) → fault ≡ check_fault.OutOfMemory → IsFaultOfTexts texts fault
+no_memory_told texts fault e = subst (IsFaultOfTexts texts) (sym e) _
 
 listed : (fault : CheckFault) (status : ℕ) → status ≡ status_of_fault fault → IsCheckStatus status
 listed (check_fault.FeedFailed file) status e = inr (inr (inl e))

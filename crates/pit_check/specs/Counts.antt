@@ -48,6 +48,10 @@ counted texts = do
   coefs ← cpit_counted (length i.blocks) texts.cpit
   Ok (counts_of i coefs)
 
--- the line of the counts of some texts, with its end
+-- the line of the counts of these texts, with its end
+abbrev pub IsLineOf : Texts → List ℕ → Type 0
+IsLineOf texts line = (counts : Counts) × (counted texts ≡ Ok counts) × (line ≡ counts_words counts ++ 10 ∷ [])
+
+-- the line of the counts of some texts
 abbrev pub IsCountsLine : List ℕ → Type 0
-IsCountsLine line = (texts : Texts) × (counts : Counts) × (counted texts ≡ Ok counts) × (line ≡ counts_words counts ++ 10 ∷ [])
+IsCountsLine line = (texts : Texts) × IsLineOf texts line

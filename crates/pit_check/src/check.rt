@@ -1,9 +1,11 @@
 //! The check of the files of an instance.
 
+ghost use Rattle.std.specs.Fn.{FnReturnsAt};
 ghost use Rattle.std.specs.Prelude.{◌≡◌, ◌≢◌, ◌+◌, ◌≤◌, ◌++◌, ℕ, List, IfErr, IfOk, IfSome, IsErrOf};
-ghost use Rattle.pit_check.specs.CheckFault.{IsCheckStatus, IsFound, TellsFault};
-ghost use Rattle.pit_check.specs.inner.CheckSteps.{EndsCheck, IsFaultOf};
-ghost use Rattle.pit_check.specs.Counts.{IsCountsLine};
+ghost use Rattle.pit_check.specs.CheckFault.{IsCheckStatus, TellsFault};
+ghost use Rattle.pit_check.specs.inner.CheckSteps.{AreTexts, EndsCheck, HasText, HasTextIfThere, IsFaultOf, IsFaultOfFeed, IsFaultOfTexts, IsFoundIn};
+ghost use Rattle.pit_check.specs.Counts.{IsCountsLine, IsLineOf};
+ghost use Rattle.pit_check.specs.declared.counts.Texts.{Texts as SomeTexts};
 ghost use Rattle.pit_edge.specs.FaultLine.{EndsRefused};
 ghost use Rattle.zone_csv.specs.declared.slurp.TheConstants.{GREATEST_LIMIT};
 
@@ -14,7 +16,7 @@ use pit_edge::status::{DEVICE, REFUSED, RESOURCES};
 use std::alloc::Global;
 use std::rt::Files;
 use text_lines::text_fault::TextFile;
-use zone_csv::feed::Feed;
+use zone_csv::feed::{Feed, FeedFault};
 use zone_csv::file_feed::FileFeed;
 use zone_csv::slurp::{GREATEST_LIMIT, SlurpFault, slurp};
 
@@ -26,7 +28,7 @@ use zone_csv::slurp::{GREATEST_LIMIT, SlurpFault, slurp};
 /// - 1: a text is too long, or has a faulty line;
 /// - 3: a file cannot be opened or read;
 /// - 4: memory was refused, and both vectors are as they were.
-#[tactic(auto, using(crate::proofs::CheckFaults::status_listed, crate::proofs::CheckFaults::fault_told))]
+#[tactic(auto, using(crate::proofs::CheckFaults::status_listed, crate::proofs::CheckFaults::fault_told, crate::proofs::CheckFaults::found))]
 pub fn check_files<R: Files>(
     rt: &R,
     alloc: Global,
@@ -42,7 +44,7 @@ pub fn check_files<R: Files>(
     ensures told { result ≢ 0 → result ≢ 4 → TellsFault err.old.items err.new.items result }
     ensures memory { result ≡ 4 → err.new.items ≡ err.old.items }
 {
-    match checked(rt, alloc, base) {
+    match checked(alloc, base, &|path: &str| FileFeed::open(rt, path)) {
         Ok(line) => match out.extend_from_slice(line.as_bytes()) {
             Ok(()) => 0,
             Err(_) => RESOURCES,
@@ -68,56 +70,103 @@ fn refuse(alloc: Global, fault: CheckFault, lines: &mut Vec<u8>) -> u8
     refuse_with(alloc, words.as_str(), status, lines)
 }
 
-// The line of the counts of the files.
-#[tactic(auto, using(crate::proofs::CheckFaults::found_in_file, crate::proofs::CheckFaults::found_in_texts, crate::proofs::CheckFaults::no_memory_found))]
-fn checked<R: Files>(rt: &R, alloc: Global, base: &str) -> Result<String, CheckFault>
-    ensures counts { IfOk result (λ line. IsCountsLine line.bytes.items) }
-    ensures fault { IfErr result IsFound }
+// The line of the counts of the files, which `opener` opens by their paths.
+#[tactic(auto, using(crate::proofs::CheckFaults::found_in_texts))]
+fn checked<F: Feed + Drop, O: Fn(&str) -> Result<F, FeedFault>>(
+    alloc: Global,
+    base: &str,
+    opener: &O,
+) -> Result<String, CheckFault>
+    requires { O.IsAlwaysCallable opener.now }
+    ensures counts { let opens = FnReturnsAt O.Fn opener.now in
+        IfOk result (λ line. (texts : SomeTexts) × AreTexts opens F.left base.now texts
+        × IsLineOf texts line.bytes.items) }
+    ensures fault { let opens = FnReturnsAt O.Fn opener.now in
+        IfErr result (IsFoundIn opens F.left base.now) }
 {
-    let texts = Texts {
-        blocks: text_of(rt, alloc, base, TextFile::Blocks)?,
-        prec: text_of(rt, alloc, base, TextFile::Prec)?,
-        pcpsp: text_of(rt, alloc, base, TextFile::Pcpsp)?,
-        cpit: text_if_there(rt, alloc, base, TextFile::Cpit)?,
-    };
+    let texts = texts_of(alloc, base, opener)?;
+    let line = line_of(alloc, &texts)?;
+    Ok(line)
+}
+
+// The line of the counts of these texts.
+#[tactic(auto, using(crate::proofs::CheckFaults::told_of_texts, crate::proofs::CheckFaults::no_memory_told))]
+fn line_of(alloc: Global, texts: &Texts) -> Result<String, CheckFault>
+    ensures counts { IfOk result (λ line. IsLineOf texts.now line.bytes.items) }
+    ensures fault { IfErr result (IsFaultOfTexts texts.now) }
+{
     let counts = texts.counts(alloc)?;
     Ok(format!(in alloc; "{counts}\n")?)
 }
 
-fn text_of<R: Files>(
-    rt: &R,
+// The texts of the files.
+#[tactic(auto, using(crate::proofs::CheckFaults::found_in_file))]
+fn texts_of<F: Feed + Drop, O: Fn(&str) -> Result<F, FeedFault>>(
+    alloc: Global,
+    base: &str,
+    opener: &O,
+) -> Result<Texts, CheckFault>
+    requires { O.IsAlwaysCallable opener.now }
+    ensures texts { let opens = FnReturnsAt O.Fn opener.now in
+        IfOk result (AreTexts opens F.left base.now) }
+    ensures fault { let opens = FnReturnsAt O.Fn opener.now in
+        IfErr result (IsFoundIn opens F.left base.now) }
+{
+    let blocks = text_of(alloc, base, TextFile::Blocks, opener)?;
+    let prec = text_of(alloc, base, TextFile::Prec, opener)?;
+    let pcpsp = text_of(alloc, base, TextFile::Pcpsp, opener)?;
+    let cpit = text_if_there(alloc, base, TextFile::Cpit, opener)?;
+    Ok(Texts {
+        blocks,
+        prec,
+        pcpsp,
+        cpit,
+    })
+}
+
+// The text of a file.
+fn text_of<F: Feed + Drop, O: Fn(&str) -> Result<F, FeedFault>>(
     alloc: Global,
     base: &str,
     file: TextFile,
+    opener: &O,
 ) -> Result<Vec<u8>, CheckFault>
-    ensures { IfErr result (IsFaultOf file) }
+    requires { O.IsAlwaysCallable opener.now }
+    ensures text { let opens = FnReturnsAt O.Fn opener.now in
+        IfOk result (λ text. HasText opens F.left base.now file text.items) }
+    ensures fault { let opens = FnReturnsAt O.Fn opener.now in
+        IfErr result (IsFaultOf opens F.left base.now file) }
 {
-    match text_if_there(rt, alloc, base, file)? {
+    match text_if_there(alloc, base, file, opener)? {
         Some(text) => Ok(text),
         None => Err(CheckFault::FeedFailed(file)),
     }
 }
 
 // The text of a file, or `None` where it cannot be opened.
-fn text_if_there<R: Files>(
-    rt: &R,
+fn text_if_there<F: Feed + Drop, O: Fn(&str) -> Result<F, FeedFault>>(
     alloc: Global,
     base: &str,
     file: TextFile,
+    opener: &O,
 ) -> Result<Option<Vec<u8>>, CheckFault>
-    ensures { IfErr result (IsFaultOf file) }
+    requires { O.IsAlwaysCallable opener.now }
+    ensures text { let opens = FnReturnsAt O.Fn opener.now in
+        IfOk result (HasTextIfThere opens F.left base.now file) }
+    ensures fault { let opens = FnReturnsAt O.Fn opener.now in
+        IfErr result (IsFaultOf opens F.left base.now file) }
 {
     let path = format!(in alloc; "{base}.{file}")?;
-    let Ok(mut feed) = FileFeed::open(rt, path.as_str()) else {
-        return Ok(None);
-    };
-    Ok(Some(text_from(alloc, &mut feed, file)?))
+    match opener(path.as_str()) {
+        Ok(mut feed) => Ok(Some(text_from(alloc, &mut feed, file)?)),
+        Err(_) => Ok(None),
+    }
 }
 
 // The text that the feed of a file gives.
 fn text_from<F: Feed>(alloc: Global, feed: &mut F, file: TextFile) -> Result<Vec<u8>, CheckFault>
     ensures whole { IfOk result (λ text. IfSome (F.left feed.old) (λ bytes. text.items ≡ bytes)) }
-    ensures fault { IfErr result (IsFaultOf file) }
+    ensures fault { IfErr result (IsFaultOfFeed (F.left feed.old) file) }
     ensures failed { IsErrOf result (CheckFault.FeedFailed file)
         → F.failures feed.new ≡ F.failures feed.old + 1 }
     ensures long { IsErrOf result (CheckFault.TooLong file)

@@ -4,3 +4,4 @@ pub mod PlanFile
 pub mod Sections
 pub mod WriteWhole
 pub mod ZoneFeeds
+pub mod inner

@@ -2,8 +2,8 @@
 
 ghost use Rattle.std.specs.Fn.{FnReturnsAt};
 ghost use Rattle.std.specs.List.{AllZip};
-ghost use Rattle.std.specs.Prelude.{◌≡◌, Ok, length, string_bytes, IfOk, IfErr, OnOk};
-ghost use Rattle.pit_edge.specs.ZoneFeeds.{ZonesRefused, zone_fault};
+ghost use Rattle.std.specs.Prelude.{◌≡◌, Ok, Err, length, string_bytes, IfOk, IfErr, OnOk};
+ghost use Rattle.pit_edge.specs.ZoneFeeds.{TellsFirstUnopened, ZonesRefused, zone_fault};
 ghost use Rattle.pit_edge.specs.FaultLine.{EndsWith};
 
 use crate::fault_line::refuse_with;
@@ -29,6 +29,9 @@ pub fn open_all<F: Drop, O: Fn(&str) -> Result<F, FeedFault>>(
     ensures quiet { OnOk result (lines.new.items ≡ lines.old.items) }
     ensures refused { IfErr result
         (ZonesRefused (length paths.now) lines.old.items lines.new.items) }
+    ensures first { result ≡ Err 3
+        → TellsFirstUnopened (λ path. FnReturnsAt O.Fn opener (string_bytes path)) paths.now
+        lines.old.items lines.new.items }
 {
     let mut feeds = Vec::new(alloc);
     for file in 0..paths.len() {

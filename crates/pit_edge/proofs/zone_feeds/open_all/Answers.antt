@@ -1,8 +1,10 @@
-use Rattle.std.proofs.Common.{◌≡◌, ◌++◌, ◌∷◌, ◌+◌, [], Ok, get_or, rules, string_bytes, subst, sym, take}
+use Rattle.std.proofs.Common.{◌≡◌, ◌++◌, ◌∷◌, ◌+◌, [], Ok, get_or, refl, rules, string_bytes, subst, sym, take}
+use Rattle.std.proofs.lemmas.Option.{slice_get_read}
 use Rattle.std.specs.Fn.{FnReturnsAt}
 use Rattle.std.specs.List.{AllZip}
 use Rattle.pit_edge.specs.ZoneFeeds.{zone_fault}
-use Rattle.pit_edge.specs.FaultLine.{EndsWith}
+use Rattle.pit_edge.specs.FaultLine.{EndsWith, line_of}
+use Rattle.pit_edge.proofs.Ends.{line_told}
 use Rattle.pit_edge.proofs.Opened.{zip_more}
 use Rattle.pit_edge.proofs.zone_feeds.open_all.Goals as goal
 
@@ -30,3 +32,20 @@ returns-in_default-clause-refused g c = (
   subst (λ old. EndsWith 3 (zone_fault c.loop-file.file) old c.refuse_zone.new.lines.items c.refuse_zone.result)
       c.loop-file.invariant.lines c.refuse_zone.ensures,
 )
+
+pub returns-in_default-clause-first : goal.returns-in_default-clause-first
+returns-in_default-clause-first g c three =
+    let path = c.index-paths-file.result in
+    let is : path ≡ get_or c.args.paths.now c.loop-file.file path = search rules in (
+      c.loop-file.file,
+      record {
+        feeds = c.loop-file.feeds.items;
+        before = c.loop-file.invariant.each;
+        path = path;
+        stands = slice_get_read c.args.paths.now _ c.loop-file.file path refl c.loop-file-test.true is;
+        fault = _;
+        refused = record { shown = c.as_str.result; shows = c.as_str.ensures.value; says = record { met = c.in_default.ensures } };
+      },
+      subst (λ old. c.refuse_zone.new.lines.items ≡ old ++ line_of (zone_fault c.loop-file.file)) c.loop-file.invariant.lines
+          (line_told 3 c.refuse_zone.result (zone_fault c.loop-file.file) _ _ (λ e. absurd (cc e)) (cc three) c.refuse_zone.ensures),
+    )
