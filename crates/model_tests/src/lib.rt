@@ -1,4 +1,4 @@
-//! Tests of the crates below the threads by calls that the program does not make, or whose answers it does not show. Nothing else stands
+//! Worked examples on the calls of the crates below the threads, and what the program does not show of these calls. Nothing else stands
 //! here, so that no crate is proved once more for them.
 #![tactic(auto)]
 

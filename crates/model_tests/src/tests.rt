@@ -1,13 +1,18 @@
 use pit_parts::block::Block;
+use pit_units::Dec;
 use rows::{Valued, Worths};
 
 mod collecting;
+mod cones;
 mod decimals;
 mod feeds;
 mod instance;
 mod numbering;
+mod plans;
 mod stored_rows;
 mod texts;
+mod validity;
+mod worths;
 mod zone_reading;
 
 // A row of a file, of the block at this index along x, with these worths.
@@ -18,4 +23,13 @@ fn valued(file: u8, place: u32, x: u16, worths: &[i128]) -> Option<Valued> {
         block: Block::new(x, 0, 0, 1_000, 0, file)?,
         worths: Worths::new(worths)?,
     })
+}
+
+// Whether decimals count so many millionths.
+fn are_millionths(decs: &[Dec], millionths: &[i128]) -> bool {
+    decs.len() == millionths.len()
+        && decs
+            .iter()
+            .zip(millionths)
+            .all(|(dec, millionths)| dec.millionths() == *millionths)
 }

@@ -1,7 +1,7 @@
 // What no clause says: that the definitions are the decimals of worked examples, and that calls succeed where memory is ample.
 ghost use Rattle.std.specs.Prelude.{◌≤◌};
 
-use pit_units::{Dec, DecFault, parse_dec, put_dec};
+use pit_units::{Dec, DecFault, front_dec, front_whole, parse_dec, put_dec};
 use std::alloc::Global;
 use std::test::Fail;
 
@@ -87,4 +87,72 @@ fn decimal_spellings(rt: HostRuntime) -> Result<(), Fail> {
         );
     }
     Ok(())
+}
+
+// Texts, and the whole number of up to 18 digits and the rest that each begins with, if it begins with a digit.
+const WHOLE_FRONTS: &[(&str, Option<(u64, &str)>)] = &[
+    ("12 x", Some((12, " x"))),
+    ("007", Some((7, ""))),
+    ("5.25", Some((5, ".25"))),
+    ("123456789012345678", Some((123_456_789_012_345_678, ""))),
+    ("1234567890123456789", Some((123_456_789_012_345_678, "9"))),
+    ("", None),
+    ("x", None),
+    (" 1", None),
+    ("-1", None),
+    ("+1", None),
+];
+
+// Texts, how many decimals they may have, and the millionths and the rest that each begins with. Before the point at most 10^12 may stand.
+const DECIMAL_FRONTS: &[(&str, u8, Option<(i64, &str)>)] = &[
+    ("12.5 x", 3, Some((12_500_000, " x"))),
+    ("-0.01", 6, Some((-10_000, ""))),
+    ("7", 0, Some((7_000_000, ""))),
+    ("7.", 0, Some((7_000_000, ""))),
+    ("1.5x", 1, Some((1_500_000, "x"))),
+    ("0.1250", 3, None),
+    (
+        "1000000000000.999999\n",
+        6,
+        Some((1_000_000_000_000_999_999, "\n")),
+    ),
+    (
+        "-1000000000000.999999",
+        6,
+        Some((-1_000_000_000_000_999_999, "")),
+    ),
+    ("1000000000001", 6, None),
+    ("+7", 6, None),
+    (".5", 6, None),
+    ("-", 6, None),
+    ("", 6, None),
+];
+
+// Whether a number and what stands behind it were found, or neither.
+fn is_front<N: PartialEq + Drop>(found: Option<(N, &[u8])>, wanted: Option<(N, &str)>) -> bool {
+    match (found, wanted) {
+        (Some((number, rest)), Some((wanted, behind))) => {
+            number == wanted && rest == behind.as_bytes()
+        }
+        (None, None) => true,
+        _ => false,
+    }
+}
+
+fn begins_whole(text: &str, wanted: Option<(u64, &str)>) -> bool {
+    is_front(front_whole(text.as_bytes()), wanted)
+}
+
+fn begins_decimal(text: &str, decimals: u8, wanted: Option<(i64, &str)>) -> bool {
+    is_front(front_dec(text.as_bytes(), decimals.min(6)), wanted)
+}
+
+#[test]
+fn fronts_of_texts(rt: HostRuntime) {
+    for (text, wanted) in WHOLE_FRONTS {
+        assert!(rt; begins_whole(text, *wanted), "at {text}");
+    }
+    for (text, decimals, wanted) in DECIMAL_FRONTS {
+        assert!(rt; begins_decimal(text, *decimals, *wanted), "at {text}");
+    }
 }

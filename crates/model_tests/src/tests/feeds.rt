@@ -46,17 +46,42 @@ fn failing_devices(rt: HostRuntime) -> Result<(), Fail> {
 }
 
 // A feed that gives so many bytes a pull at most.
-fn cutting(alloc: Global, step: usize) -> Result<MemFeed, AllocError>
+fn cutting(alloc: Global, text: &str, step: usize) -> Result<MemFeed, AllocError>
     requires { 1 ≤ step }
 {
-    Ok(MemFeed::cutting(b"abcd".to_vec(alloc)?, step))
+    Ok(MemFeed::cutting(text.as_bytes().to_vec(alloc)?, step))
 }
 
+const PIECES: [(&str, Result<(), SlurpFault>); 3] = [
+    ("abcd", Ok(())),
+    ("abcde", Err(SlurpFault::TooLong)),
+    ("abcdefgh", Err(SlurpFault::TooLong)),
+];
+
+// However few bytes a pull gives, a text is read up to the limit and no further.
 #[test]
 fn texts_in_pieces(rt: HostRuntime) -> Result<(), Fail> {
+    for (text, answer) in &PIECES {
+        for step in [1, 2, 7] {
+            let read = read(rt.alloc(), cutting(rt.alloc(), text, step)?);
+            assert!(rt; is_read(read, text, answer), "{text} {step}");
+        }
+    }
+    Ok(())
+}
+
+// The zone file of limits_and_coefficients.
+const ROWS: &str = "x,y,z,tonnes,grade\n0,0,0,1000,5000\n10,0,0,0,7\n";
+
+#[test]
+fn limits_and_coefficients(rt: HostRuntime) -> Result<(), Fail> {
     for step in [1, 2, 7] {
-        let read = read(rt.alloc(), cutting(rt.alloc(), step)?);
-        assert!(rt; is_read(read, "abcd", &Ok(())), "{step}");
+        let read = slurp(
+            rt.alloc(),
+            &mut cutting(rt.alloc(), ROWS, step)?,
+            268_435_456,
+        );
+        assert!(rt; is_read(read, ROWS, &Ok(())), "{step}");
     }
     Ok(())
 }

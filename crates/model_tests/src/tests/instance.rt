@@ -1,12 +1,16 @@
 //! An instance that is built of rows in one call: the program takes its steps one by one.
 
-ghost use Rattle.std.specs.Prelude.{◌≡◌, ◌≤◌, All, length, IfSome, IsTrue};
+ghost use Rattle.std.specs.Prelude.{◌≡◌, ◌≤◌, All, length, IfOk, IfSome, IsTrue};
 ghost use Rattle.pit_parts.specs.PlanFormulas.{formulas_of_plan};
+ghost use Rattle.mine_instance.specs.Valid.{IsValid};
 ghost use Rattle.precedence.specs.Cone.{HasZones};
 ghost use Rattle.rows.specs.Valued.{worths_by};
 
+use super::are_millionths;
+use mine_instance::coef::Coef;
+use mine_instance::cpit::{Cpit, CpitCoef};
 use mine_instance::instance::Instance;
-use mine_instance::{build, is_valid};
+use mine_instance::{build, build_cpit, is_valid};
 use pit_model::plan::Plan;
 use pit_model::read_plan;
 use pit_parts::block::Block;
@@ -55,6 +59,7 @@ fn built_of(alloc: Global, plan: &Plan, rows: &[Valued]) -> Result<Instance, Fai
     requires few { length rows.now ≤ 64000000 }
     requires worths { All (λ row. row.worths ≡ worths_by (formulas_of_plan plan.now) row.block)
         rows.now }
+    ensures { IfOk result IsValid }
 {
     let numbering = number(alloc, rows)?;
     if !has_zones(&numbering, plan) {
@@ -89,10 +94,73 @@ fn counts(instance: &Instance) -> (usize, usize, usize, usize) {
     )
 }
 
+fn has_values(instance: &Instance, id: usize, millionths: &[i128]) -> bool {
+    id < instance.values.len() && are_millionths(instance.values.of(id), millionths)
+}
+
+fn is_coef(coefs: &[Coef], b: u32, d: u8, r: u8, millionths: i128) -> bool {
+    match coefs {
+        [coef] => (coef.b, coef.d, coef.r, coef.v.millionths()) == (b, d, r, millionths),
+        _ => false,
+    }
+}
+
 #[test]
 fn limits_and_coefficients(rt: HostRuntime) -> Result<(), Fail> {
     let instance = built(rt.alloc())?;
     assert!(rt; is_valid(&instance));
     assert_eq!(rt; counts(&instance), (2, 0, 1, 2));
+    assert!(rt; has_values(&instance, 0, &[12_000_000_000, -2_000_000_000]));
+    assert!(rt; has_values(&instance, 1, &[0, 0]));
+    assert!(rt; is_coef(instance.coefs.as_slice(), 0, 0, 0, 1_000_000_000));
+    Ok(())
+}
+
+const FIRST_OF_EQUALS: &[u8] =
+    b"name,one\ngrid,0,0,0,10,10,10\nzone,1,1,1\ndump,a,200\ndump,b,200\nperiods,1\nresource,r,b\nrate,0.1\n";
+
+const COVERED: &[u8] =
+    b"name,one\ngrid,0,0,0,10,10,10\nzone,1,1,1\ndump,a,200\ndump,b,200\nperiods,1\nresource,r,a\nrate,0.1\n";
+
+// A plan, the kilograms of its one block, which has no metal, the millionths of the block's value, and those of its coefficient if it has one.
+const CPITS: [(&[u8], u64, i128, Option<i128>); 3] = [
+    (PLAN, 1_000_000, -2_000_000_000, None),
+    (FIRST_OF_EQUALS, 1_000, -2_000_000, None),
+    (COVERED, 1_000, -2_000_000, Some(1_000_000)),
+];
+
+fn one_row(plan: &Plan, kg: u64) -> Option<[Valued; 1]>
+    ensures { IfSome result
+        (λ rows. All (λ row. row.worths ≡ worths_by (formulas_of_plan plan.now) row.block) rows) }
+{
+    Some([row(plan, 0, Block::new(0, 0, 0, kg, 0, 0)?)?])
+}
+
+fn cpit_of(alloc: Global, text: &[u8], kg: u64) -> Result<Cpit, Fail> {
+    let plan = read_plan(alloc, text)?;
+    let rows = one_row(&plan, kg).ok_or("a row")?;
+    let instance = built_of(alloc, &plan, &rows)?;
+    Ok(build_cpit(alloc, &instance)?)
+}
+
+// Whether the one block takes so many millionths of the one resource, or nothing.
+fn takes(coefs: &[CpitCoef], millionths: Option<i128>) -> bool {
+    match (coefs, millionths) {
+        ([], None) => true,
+        ([coef], Some(millionths)) => {
+            (coef.b, coef.r, coef.v.millionths()) == (0, 0, millionths)
+        }
+        _ => false,
+    }
+}
+
+// A block goes to the first destination of greatest worth.
+#[test]
+fn cpit_destinations(rt: HostRuntime) -> Result<(), Fail> {
+    for (plan, kg, value, coefficient) in CPITS {
+        let cpit = cpit_of(rt.alloc(), plan, kg)?;
+        assert!(rt; are_millionths(cpit.values(), &[value]));
+        assert!(rt; takes(cpit.coefs(), coefficient));
+    }
     Ok(())
 }

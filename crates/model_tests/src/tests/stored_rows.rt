@@ -2,7 +2,7 @@
 
 use super::valued;
 use pit_parts::block::Block;
-use rows::{Rows, Valued};
+use rows::{Rows, Valued, Worths};
 use std::alloc::{AllocError, Global};
 use std::test::Fail;
 
@@ -37,4 +37,18 @@ fn rows_of_any_width(rt: HostRuntime) -> Result<(), Fail> {
         [eight.block, three.block].as_slice()
     );
     Ok(())
+}
+
+fn count_of_worths(worths: &[i128]) -> Option<usize> {
+    Some(Worths::new(worths)?.as_slice().len())
+}
+
+// A block has 1 to 8 worths.
+#[test]
+fn one_to_eight_worths(rt: HostRuntime) {
+    let worths = [7i128; 9];
+    assert_eq!(rt; count_of_worths(&worths[..0]), None);
+    assert_eq!(rt; count_of_worths(&worths[..1]), Some(1));
+    assert_eq!(rt; count_of_worths(&worths[..8]), Some(8));
+    assert_eq!(rt; count_of_worths(&worths), None);
 }

@@ -1,10 +1,16 @@
 ghost use Rattle.mine_instance.specs.Valid.{IsValid};
 
-use super::{LIMITED, PCPSP, PREC, Texts, instance_of, is_text};
+use super::{CPIT, LIMITED, NINE_ABOVE, PCPSP, PREC, Texts, instance_of, is_text};
+use crate::tests::are_millionths;
+use mine_instance::cpit::Cpit;
 use mine_instance::instance::Instance;
+use minelib_reading::read_cpit;
 use minelib_writing::text_name::TextName;
+use minelib_writing::write_cpit;
+use pit_parts::block::Block;
 use std::alloc::Global;
 use std::test::Fail;
+use text_sinks::mem_sink::MemSink;
 use text_sinks::write_fault::WriteFault;
 
 const ONE_ORE_BLOCK: Texts = [
@@ -63,5 +69,83 @@ fn hand_made_instance(rt: HostRuntime) -> Result<(), Fail> {
 fn limits_and_coefficients(rt: HostRuntime) -> Result<(), Fail> {
     assert!(rt; comes_back(rt.alloc(), SPELLED, LIMITED)?);
     assert!(rt; comes_back(rt.alloc(), AT_THE_EDGE, AT_THE_EDGE)?);
+    Ok(())
+}
+
+// The predecessors of the blocks of nine_above, by identifier.
+const LISTS: [&[u32]; 10] = [
+    &[2, 4, 5, 6, 8],
+    &[],
+    &[],
+    &[],
+    &[],
+    &[],
+    &[],
+    &[],
+    &[],
+    &[],
+];
+
+// Whether a block of this identifier is at an index of a bench, weighs a tonne and has no metal.
+fn is_at(blocks: &[Block], id: usize, x: u16, y: u16, z: u16) -> bool {
+    blocks.get(id).copied() == Block::new(x, y, z, 1_000, 0, 0)
+}
+
+// Whether the first block lies below the middle of the others, which stand by y, then x.
+fn are_nine_above(blocks: &[Block]) -> bool {
+    is_at(blocks, 0, 1, 1, 0)
+        && (0..9u16).all(|at| is_at(blocks, usize::from(at).wrapping_add(1), at % 3, at / 3, 1))
+}
+
+// Whether the block of an identifier has its list and the value of a tonne of waste at the mill.
+fn has_parts(instance: &Instance, id: usize, list: &[u32]) -> bool {
+    id < instance.preds.len()
+        && id < instance.values.len()
+        && id < 10
+        && instance.preds.of(id as u32) == list
+        && are_millionths(instance.values.of(id), &[-15_000_000])
+}
+
+#[test]
+fn nine_above(rt: HostRuntime) -> Result<(), Fail> {
+    let instance = instance_of(rt.alloc(), NINE_ABOVE)?;
+    assert!(rt; are_nine_above(instance.blocks.as_slice()));
+    for (id, list) in LISTS.iter().enumerate() {
+        assert!(rt; has_parts(&instance, id, list), "{id}");
+    }
+    assert!(rt; instance.name.as_str() == "one");
+    assert_eq!(rt; (instance.blocks_len(), instance.arcs()), (10, 5));
+    assert!(rt; are_texts(rt.alloc(), &instance, NINE_ABOVE)?);
+    Ok(())
+}
+
+fn cpit_of(alloc: Global) -> Result<Cpit, Fail> {
+    let mut text = Vec::new(alloc);
+    for line in &CPIT {
+        text.extend_from_slice(line.as_bytes())?;
+    }
+    Ok(read_cpit(alloc, 2, text.as_slice())?)
+}
+
+// Whether a CPIT is written as this text, by lines.
+fn is_cpit_text(alloc: Global, cpit: &Cpit, lines: &[&str]) -> Result<bool, WriteFault> {
+    let mut sink = MemSink::new(alloc);
+    write_cpit(alloc, cpit, &mut sink)?;
+    let mut left = sink.bytes();
+    for line in lines {
+        let Some(behind) = left.strip_prefix(line.as_bytes()) else {
+            return Ok(false);
+        };
+        left = behind;
+    }
+    Ok(left.is_empty())
+}
+
+#[test]
+fn cpit_destinations(rt: HostRuntime) -> Result<(), Fail> {
+    let cpit = cpit_of(rt.alloc())?;
+    assert!(rt; are_millionths(cpit.values(), &[12_000_000_000, 0]));
+    assert_eq!(rt; (cpit.coefs_len(), cpit.limits().len()), (1, 2));
+    assert!(rt; is_cpit_text(rt.alloc(), &cpit, &CPIT)?);
     Ok(())
 }
