@@ -9,6 +9,7 @@ pub mod ItemsKeyless
 pub mod KeyLines
 pub mod Keyless
 pub mod LimitLineFacts
+pub mod LineKindsFacts
 pub mod LinesThen
 pub mod MarkFacts
 pub mod ModelFacts

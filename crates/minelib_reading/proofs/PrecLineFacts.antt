@@ -71,7 +71,7 @@ wholes_found n (field ∷ fields) (value ∷ values) fit =
     let rest = wholes_found n fields values fit.1 in
     (All-cons (λ id. id < n) (whole_stated value) (map whole_stated values) (omega (arith, here.low, is)) rest.0, λ i. same i ∷ rest.1 i)
 
-parts : (n own : ℕ) (fields : List (List ℕ)) (values : List Value) → Fit (preds_form n fields) values → whole_at values 0 ≡ own
+pub parts : (n own : ℕ) (fields : List (List ℕ)) (values : List Value) → Fit (preds_form n fields) values → whole_at values 0 ≡ own
     → whole_at values 1 ≡ length (preds_of values) → All (λ id. id < n) (preds_of values) × (values ≡ preds_values own (preds_of values))
 parts n own fields [] fit is_own counted = absurd fit
 parts n own fields (lone ∷ []) fit is_own counted = absurd fit.1

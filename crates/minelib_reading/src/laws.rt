@@ -1,9 +1,10 @@
 //! What holds of reading, whatever the texts say: each contract is a law, and a call of it changes nothing.
 
-ghost use Rattle.std.specs.Prelude.{◌≡◌, ◌↔◌, ◌⊎◌, ℕ, ◌≤◌, [], ◌∷◌, ◌++◌, true, List, length, ℤ, Ok, Err};
+ghost use Rattle.std.specs.Prelude.{◌≡◌, ◌≢◌, ◌↔◌, ◌⊎◌, ℕ, ◌≤◌, [], ◌∷◌, ◌++◌, false, true, List, length, ℤ, Ok, Err};
 ghost use Rattle.forms.specs.Spelled.{Spell};
 ghost use Rattle.forms.specs.GrammarStates.{AllState, IsFirstFault};
-ghost use Rattle.forms.specs.ShapeStates.{States};
+ghost use Rattle.forms.specs.Field.{Value, whole_at};
+ghost use Rattle.forms.specs.ShapeStates.{Fails, States};
 ghost use Rattle.mine_instance.specs.Cpit.{CpitParts};
 ghost use Rattle.mine_instance.specs.CpitKept.{IsCpit};
 ghost use Rattle.mine_instance.specs.Valid.{ArePredsOf, IsValid};
@@ -14,17 +15,19 @@ ghost use Rattle.minelib_reading.specs.BlockLines.{block_form, block_grammar, bl
 ghost use Rattle.minelib_reading.specs.Denotes.{Denotes, DenotesCpit};
 ghost use Rattle.minelib_lines.specs.LineValues.{block_values, preds_values};
 ghost use Rattle.minelib_reading.specs.KeyFields.{field_of};
-ghost use Rattle.minelib_reading.specs.ModelLines.{ModelDraftView, coef_line, header_line, is_behind, last_of, limit_line, model_in, values_line};
+ghost use Rattle.minelib_reading.specs.ModelLines.{ModelDraftView, coef_line, header_line, is_behind, is_next, is_ready, last_of, limit_line, model_in, section_line, values_line};
 ghost use Rattle.minelib_reading.specs.ModelStates.{StateModel, stated_by};
-ghost use Rattle.minelib_reading.specs.PrecLines.{LacksLines, prec_grammar, preds_form, preds_in, preds_shape};
+ghost use Rattle.minelib_reading.specs.PrecLines.{LacksLines, prec_grammar, preds_form, preds_in, preds_of, preds_shape};
 ghost use Rattle.minelib_reading.specs.SpelledKeys.{value_of};
 ghost use Rattle.minelib_reading.specs.SpelledModel.{AreModelLines, SpellCoef, SpellLimit, SpellValues};
 ghost use Rattle.minelib_reading.specs.SpelledTexts.{SpellCpit, SpellInstance};
 ghost use Rattle.minelib_reading.specs.StatedModel.{StatedModel};
 ghost use Rattle.minelib_reading.specs.declared.model_key.HeaderKey.{HeaderKey};
+ghost use Rattle.minelib_reading.specs.declared.model_key.Section.{Section};
 ghost use Rattle.text_lines.specs.TextLines.{fields_of, lines_in};
 ghost use Rattle.minelib_lines.specs.declared.problem.Problem.{Problem};
 ghost use Rattle.text_lines.specs.declared.text_fault.LineFault.{LineFault};
+ghost use Rattle.text_lines.specs.declared.text_fault.TextKind.TheVariants.{Count, Fields, Key, Missing, Order, Twice};
 ghost use Rattle.pit_parts.specs.declared.block.Block.{Block};
 ghost use Rattle.pit_parts.specs.PlanKept.{stands_before};
 ghost use Rattle.pit_parts.specs.declared.limit.Limit.{Limit};
@@ -157,4 +160,32 @@ pub fn faulty_lines_spell_no_block()
 pub fn faulty_lines_spell_no_preds()
     ensures { (n : ℕ) (text : List ℕ) (fault : LineFault) → preds_in n text ≡ Err fault
         → IsFirstFault (prec_grammar n) 1 [] (lines_in text) fault ⊎ LacksLines n text fault }
+{}
+
+/// The kind of a fault is that of the first thing that is wrong with a line.
+///
+/// - `order`, `count`, `twice`: of a precedence line whose fields spell numbers. The first is not the block's own; or it
+///   is, and the second does not count those behind it; or both are right, and one of those stands twice or is the
+///   block's own.
+/// - `key`, `fields`, `missing`: of the line of a section's key. The section is not the next; or it is, and something
+///   stands behind the colon; or nothing does, and something is missing before it.
+pub fn faulty_lines_have_their_kind()
+    ensures order { (n own : ℕ) (line : List ℕ) → Fails (preds_shape n own line) Order
+        ↔ (values : List Value) × Spell (preds_form n (fields_of line)) (fields_of line) values
+        × (whole_at values 0 ≢ own) }
+    ensures count { (n own : ℕ) (line : List ℕ) → Fails (preds_shape n own line) Count
+        ↔ (values : List Value) × Spell (preds_form n (fields_of line)) (fields_of line) values
+        × (whole_at values 0 ≡ own) × (whole_at values 1 ≢ length (preds_of values)) }
+    ensures twice { (n own : ℕ) (line : List ℕ) → Fails (preds_shape n own line) Twice
+        ↔ (values : List Value) × Spell (preds_form n (fields_of line)) (fields_of line) values
+        × (whole_at values 0 ≡ own) × (whole_at values 1 ≡ length (preds_of values))
+        × ¬ (ArePredsOf own n (preds_of values)) }
+    ensures key { (d : ModelDraftView) (section : Section) (fields : List (List ℕ))
+        → Fails (section_line d section fields) Key ↔ (is_next d.section section ≡ false) }
+    ensures fields { (d : ModelDraftView) (section : Section) (fields : List (List ℕ))
+        → Fails (section_line d section fields) Fields
+        ↔ (is_next d.section section ≡ true) × (fields ≢ []) }
+    ensures missing { (d : ModelDraftView) (section : Section) (fields : List (List ℕ))
+        → Fails (section_line d section fields) Missing
+        ↔ (is_next d.section section ≡ true) × (fields ≡ []) × (is_ready d d.section ≡ false) }
 {}
