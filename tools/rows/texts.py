@@ -80,10 +80,10 @@ CPIT = [
 ]
 
 # The fields of lines, by docs/formats.md: they count kilograms, millionths or whole numbers. Each line is the second of two blocks, or
-# the first of its section.
+# the first of its section. There are two resources.
 INDEX = Cell("0", 0, 0, 9999)
 BLOCK = Cell("1", 0, 0, 1)
-RESOURCE = Cell("0", 0, 0, 0)
+RESOURCE = Cell("0", 0, 0, 1)
 VALUE = Cell("1", 6, -(10**24), 10**24)
 LEAST, GREATEST = VALUE._replace(good="-1000000000000000000"), VALUE._replace(good="1000000000000000000")
 AT_MOST, AT_LEAST, BETWEEN = Cell("L"), Cell("G"), Cell("I", stays=True)
@@ -705,12 +705,12 @@ def model_files():
     for of in (pcpsp, cpit):
         yield from headers(of)
         yield from words_of_headers(of)
-    yield from lines_of_sections("pcpsp", PCPSP, LINES_OF_A_PCPSP, with_pcpsp, TWO_BLOCKS)
-    yield from lines_of_sections("cpit", CPIT, LINES_OF_A_CPIT, with_cpit, TWO_BLOCKS + " cpit 1")
     two_resources = put(6, "NRESOURCE_SIDE_CONSTRAINTS: 2").of(PCPSP)
+    yield from lines_of_sections("pcpsp", two_resources, LINES_OF_A_PCPSP, with_pcpsp, TWO_BLOCKS)
     yield from orders("pcpsp", two_resources, 12, (2, 2, 2), " 1", with_pcpsp, "blocks 2 arcs 1 coefficients {} limits 2")
     yield from orders("pcpsp", two_resources, 14, (2, 2), " L 1", with_pcpsp, "blocks 2 arcs 1 coefficients 1 limits {}")
     two_resources = put(5, "NRESOURCE_SIDE_CONSTRAINTS: 2").of(CPIT)
+    yield from lines_of_sections("cpit", two_resources, LINES_OF_A_CPIT, with_cpit, TWO_BLOCKS + " cpit 1")
     yield from orders("cpit", two_resources, 10, (2, 2), " 1", with_cpit, TWO_BLOCKS + " cpit {}")
     yield from orders("cpit", two_resources, 12, (2, 2), " G 1", with_cpit, TWO_BLOCKS + " cpit 1")
 
