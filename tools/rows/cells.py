@@ -46,7 +46,7 @@ class Cell(NamedTuple):
             yield spelled(number, decimals), None, "Range"
         if greatest > 0 and -greatest < least:
             yield spelled(-greatest, decimals), None, "Range"
-        for number in {least, greatest, max(0, least), least - 1, greatest + 1}:
+        for number in sorted({least - 1, least, max(0, least), greatest, greatest + 1}):
             yield spelled(number, decimals) + point + "1", None, "TooFine"
         yield spelled(greatest, decimals) + point + "0000001", None, "TooFine"
         for text in ["x", "1e0", "-", spelled(least, decimals) + point + "1x", spelled(greatest + 1, decimals) + "x"]:
