@@ -30,7 +30,10 @@ Statuses:
   1  a plan, a model or a text is refused, or an input is too long
   2  the words are refused, or there are not as many zone files as the plan has zones
   3  an input cannot be opened or read, or an output cannot be written
-  4  memory or a thread was refused";
+  4  memory or a thread was refused
+
+What stands behind a fault, and mistakes that are none: docs/causes.md. The plan, the zone files and the
+texts: docs/formats.md. From an export to an instance, and to a solver: docs/recipes.md.";
 
 const AFTER_COMPILE: &str = "Example:
   pitc compile --plan march.plan --out out/march north.csv south.csv
