@@ -9,7 +9,7 @@ use Rattle.pit_parts.specs.declared.grid.Axis.{Axis}
 use Rattle.zone_csv.specs.declared.row_fault.Column.{Column}
 use Rattle.zone_csv.specs.declared.row_fault.RowFault.{RowFault}
 use Rattle.zone_csv.specs.declared.row_fault.RowFaultKind.{RowFaultKind}
-use Rattle.zone_csv.specs.declared.row_fault.RowFaultKind.TheVariants.{Width, Number, TooFine, Range, OffGrid}
+use Rattle.zone_csv.specs.declared.row_fault.RowFaultKind.TheVariants.{Number, TooFine, Range, OffGrid}
 use Rattle.pit_parts.specs.declared.ranges.TheConstants.{GRID_CELLS, MAX_GRADE, MAX_KG}
 
 -- the cell of a record at a place, without the blanks at both ends
@@ -19,14 +19,12 @@ trimmed_at cells place = trimmed (slice_index_or cells place [])
 abbrev pub a_fault : ℕ → Column → RowFaultKind → RowFault
 a_fault row column kind = record { row = row; column = column; kind = kind }
 
--- the kind of fault for what is wrong with a field
+-- the kind of fault for what is wrong with a field, which is a number
 abbrev pub row_kind : FieldFault → RowFaultKind
-row_kind fault.Count = Width
-row_kind fault.Number = Number
 row_kind fault.TooFine = TooFine
 row_kind fault.Range = Range
 row_kind fault.OffStep = OffGrid
-row_kind fault.Word = Number
+row_kind other = Number
 
 -- the fault of this row and column for what is wrong with its field
 abbrev pub of_cell : ℕ → Column → FieldFault → RowFault

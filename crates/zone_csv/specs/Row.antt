@@ -26,7 +26,7 @@ values_of grid b =
 
 -- the column of the field at a place
 abbrev pub column_at : ℕ → Column
-column_at place = slice_index_or (column.X ∷ column.Y ∷ column.Z ∷ column.Tonnes ∷ column.Grade ∷ []) place column.Whole
+column_at place = slice_index_or (column.X ∷ column.Y ∷ column.Z ∷ column.Tonnes ∷ []) place column.Grade
 
 -- the record of this number under these columns: no row too many, as wide as the header, and a field in each column
 abbrev pub row_shape : Grid → ℕ → Columns → ℕ → List (List ℕ) → Shape RowFault Block
