@@ -2,11 +2,13 @@ pub mod Cpit
 pub mod CpitKept
 pub mod CpitOrder
 pub mod Greatest
+pub mod Instance
 pub mod OfCpit
 pub mod OfModel
 pub mod OneSlope
 pub mod Order
 pub mod OrderLaws
 pub mod Rows
+pub mod Seen
 pub mod Valid
 pub mod inner

@@ -11,7 +11,7 @@ use Rattle.precedence.specs.Cone.{preds}
 use Rattle.precedence.specs.Identifier.{id}
 use Rattle.rows.specs.Valued.{worths_by}
 use Rattle.mine_instance.specs.declared.coef.Coef.{Coef}
-use Rattle.mine_instance.specs.declared.instance.Instance.{Instance}
+use Rattle.mine_instance.specs.Instance.{Instance}
 
 -- the block of a list that has an identifier
 abbrev pub block_of_id : List Block → ℕ → Option Block

@@ -4,7 +4,7 @@ use Rattle.pit_parts.specs.Plan.{PlanParts}
 use Rattle.pit_parts.specs.declared.block.Block.{Block}
 use Rattle.precedence.specs.ConeLaws.{preds_by}
 use Rattle.mine_instance.specs.OfModel.{by_identifier, covered, coefs_of, instance_with, values_of}
-use Rattle.mine_instance.specs.declared.instance.Instance.{Instance}
+use Rattle.mine_instance.specs.Instance.{Instance}
 
 -- the instance of a plan and of blocks by identifier, with predecessors by the test with one slope
 abbrev pub instance_by_of : PlanParts → List Block → Instance

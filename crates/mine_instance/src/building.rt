@@ -10,6 +10,7 @@ ghost use Rattle.precedence.specs.Identifier.{blocks_of_rows};
 ghost use Rattle.precedence.specs.Numbering.{IsNumbering, NumberingView};
 ghost use Rattle.rows.specs.Valued.{worths_by};
 ghost use Rattle.mine_instance.specs.OfModel.{instance, values_of, in_hundreds, covering, covered, coefs_of, block_coefs};
+ghost use Rattle.mine_instance.specs.Seen.{seen};
 ghost use Rattle.mine_instance.specs.Valid.{IsValid};
 ghost use Rattle.pit_parts.specs.declared.ranges.TheConstants.{MAX_BLOCKS, MAX_RESOURCES};
 
@@ -23,7 +24,7 @@ use pit_parts::laws::worths_are_in_range;
 use pit_parts::plan::Plan;
 use pit_parts::resource::Resource;
 use pit_units::Dec;
-use precedence::{Numbering, Preds};
+use precedence::{Numbering, PredLists, Preds};
 use rows::{RowLists, Valued};
 use std::alloc::{AllocError, Global};
 
@@ -52,20 +53,20 @@ pub fn build(
 
 /// The instance of a model, given its blocks in the order of their identifiers, their predecessors and their values.
 /// The rows that the values come from, and their numbering, are needed no more. Fails only where memory is refused.
-pub fn build_with(
+pub fn build_with<P: PredLists + Drop>(
     alloc: Global,
     blocks: Vec<Block>,
-    preds: Preds,
+    preds: P,
     values: Values,
     plan: &Plan,
-) -> Result<Instance, AllocError>
+) -> Result<Instance<P>, AllocError>
     requires few { length blocks.items ≤ MAX_BLOCKS }
-    requires preds { preds ≡ cone_lists plan.now blocks.items }
+    requires preds { P.lists preds ≡ cone_lists plan.now blocks.items }
     requires values { values ≡ map (values_of plan.now) blocks.items }
     ensures value { (listed : List Block) → (n : NumberingView) → IsNumbering listed n
         → n.blocks ≡ blocks.items
-        → IfOk result (λ built. built ≡ instance plan.now listed) }
-    ensures valid { IfOk result IsValid }
+        → IfOk result (λ built. seen P.lists built ≡ instance plan.now listed) }
+    ensures valid { IfOk result (λ built. IsValid (seen P.lists built)) }
 {
     let name = plan.name().copy(alloc)?;
     let pairs = covered_pairs(alloc, plan)?;

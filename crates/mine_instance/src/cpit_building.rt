@@ -4,6 +4,7 @@ ghost use Rattle.std.specs.Prelude.{◌≡◌, ◌<◌, ℤ, List, length, map, 
 ghost use Rattle.mine_instance.specs.Greatest.{first_greatest, greatest};
 ghost use Rattle.mine_instance.specs.OfCpit.{cpit, without_destination};
 ghost use Rattle.mine_instance.specs.inner.CpitFields.{is_at};
+ghost use Rattle.mine_instance.specs.Seen.{seen};
 ghost use Rattle.mine_instance.specs.Valid.{IsValid};
 
 use crate::coef::Coef;
@@ -12,13 +13,14 @@ use crate::greatest::first_greatest;
 use crate::instance::Instance;
 use crate::values::Values;
 use pit_units::Dec;
+use precedence::PredLists;
 use std::alloc::{AllocError, Global};
 
 /// The CPIT of a valid instance: each block goes to the first destination where it is worth most, and has the value and the
 /// coefficients of that destination. Fails only where memory is refused.
-pub fn build_cpit(alloc: Global, instance: &Instance) -> Result<Cpit, AllocError>
-    requires { IsValid instance.now }
-    ensures { IfOk result (λ built. built ≡ cpit instance.now) }
+pub fn build_cpit<P: PredLists>(alloc: Global, instance: &Instance<P>) -> Result<Cpit, AllocError>
+    requires { IsValid (seen P.lists instance.now) }
+    ensures { IfOk result (λ built. built ≡ cpit (seen P.lists instance.now)) }
 {
     let name = instance.name.copy(alloc)?;
     let Chosen {

@@ -11,9 +11,9 @@ use pit_units::Dec;
 use precedence::Preds;
 
 /// An instance of the production scheduling problem of MineLib (Espinoza, Goycoolea, Moreno and Newman 2013). Blocks,
-/// predecessors and values stand by identifier.
+/// predecessors and values stand by identifier. `P` has the predecessors: `Preds` keeps their lists, and `FoundPreds` finds them.
 #[derive(Debug, Drop)]
-pub struct Instance {
+pub struct Instance<P = Preds> {
     pub name: Name,
     /// The discount rate, 0 to 1 in a valid instance.
     pub rate: Dec,
@@ -25,26 +25,19 @@ pub struct Instance {
     pub resources: u8,
     pub blocks: Blocks,
     /// The blocks that each block has to wait for.
-    pub preds: Preds,
+    pub preds: P,
     /// What each block is worth at each destination, in units of 100 cents.
     pub values: Values,
     pub coefs: Coefs,
     pub limits: Limits,
 }
 
-impl Instance {
+impl<P> Instance<P> {
     /// The number of blocks.
     pub fn blocks_len(&self) -> usize
         ensures { result ≡ length self.now.blocks }
     {
         self.blocks.as_slice().len()
-    }
-
-    /// The number of arcs: pairs of a block and one that it has to wait for.
-    pub fn arcs(&self) -> usize
-        ensures { result ≡ sum_by length self.now.preds }
-    {
-        self.preds.arcs()
     }
 
     /// The number of coefficients.
@@ -59,5 +52,14 @@ impl Instance {
         ensures { result ≡ length self.now.limits }
     {
         self.limits.as_slice().len()
+    }
+}
+
+impl Instance<Preds> {
+    /// The number of arcs: pairs of a block and one that it has to wait for.
+    pub fn arcs(&self) -> usize
+        ensures { result ≡ sum_by length self.now.preds }
+    {
+        self.preds.arcs()
     }
 }

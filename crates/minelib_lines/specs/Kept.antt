@@ -4,7 +4,7 @@ use Rattle.pit_parts.specs.Name.{is_name}
 use Rattle.pit_parts.specs.declared.limit.Bound.{Bound}
 use Rattle.pit_parts.specs.declared.limit.Bound.TheVariants.{AtMost, AtLeast, Between}
 use Rattle.mine_instance.specs.Cpit.{CpitParts}
-use Rattle.mine_instance.specs.declared.instance.Instance.{Instance}
+use Rattle.mine_instance.specs.Instance.{Instance}
 
 -- a decimal: at most 10^24 millionths either side of zero
 abbrev pub IsInDecimalRange : ℤ → Type 0

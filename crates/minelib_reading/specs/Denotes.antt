@@ -7,7 +7,7 @@ use Rattle.mine_instance.specs.Cpit.{CpitParts}
 use Rattle.mine_instance.specs.CpitKept.{cpit_of}
 use Rattle.mine_instance.specs.OfCpit.{without_destination}
 use Rattle.mine_instance.specs.OfModel.{instance_with}
-use Rattle.mine_instance.specs.declared.instance.Instance.{Instance}
+use Rattle.mine_instance.specs.Instance.{Instance}
 use Rattle.minelib_reading.specs.BlockLines.{blocks_in}
 use Rattle.minelib_reading.specs.HeaderKeys.{count_in}
 use Rattle.minelib_reading.specs.ModelLines.{ModelDraftView, model_in}

@@ -5,7 +5,7 @@ use Rattle.forms.specs.Spelled.{Spell}
 use Rattle.pit_parts.specs.declared.block.Block.{Block}
 use Rattle.mine_instance.specs.Cpit.{CpitParts}
 use Rattle.mine_instance.specs.Valid.{ArePredsOf}
-use Rattle.mine_instance.specs.declared.instance.Instance.{Instance}
+use Rattle.mine_instance.specs.Instance.{Instance}
 use Rattle.minelib_lines.specs.LineValues.{block_values, preds_values}
 use Rattle.minelib_reading.specs.BlockLines.{block_form}
 use Rattle.minelib_reading.specs.PrecLines.{preds_form}

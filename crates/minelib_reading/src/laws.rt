@@ -10,7 +10,7 @@ ghost use Rattle.mine_instance.specs.CpitKept.{IsCpit};
 ghost use Rattle.mine_instance.specs.Valid.{ArePredsOf, IsValid};
 ghost use Rattle.mine_instance.specs.Order.{coef_comes_before};
 ghost use Rattle.mine_instance.specs.declared.coef.Coef.{Coef};
-ghost use Rattle.mine_instance.specs.declared.instance.Instance.{Instance as OneInstance};
+ghost use Rattle.mine_instance.specs.Instance.{Instance as OneInstance};
 ghost use Rattle.minelib_reading.specs.BlockLines.{block_form, block_grammar, block_shape, blocks_in};
 ghost use Rattle.minelib_reading.specs.Denotes.{Denotes, DenotesCpit};
 ghost use Rattle.minelib_lines.specs.LineValues.{block_values, preds_values};

@@ -2,7 +2,7 @@
 use Rattle.std.proofs.Common.{◌≡◌, length, refl}
 use Rattle.std.specs.Prelude.{Ok}
 use Rattle.mine_instance.specs.Valid.{IsValid}
-use Rattle.mine_instance.specs.declared.instance.Instance.{Instance}
+use Rattle.mine_instance.specs.Instance.{Instance}
 use Rattle.minelib_reading.specs.Denotes.{denoted}
 use Rattle.minelib_lines.specs.Kept.{IsKept}
 use Rattle.minelib_reading.specs.ModelLines.{model_in}

@@ -1,6 +1,6 @@
 -- Instances that have the same texts.
 use Rattle.std.specs.Prelude.{◌≡◌}
-use Rattle.mine_instance.specs.declared.instance.Instance.{Instance}
+use Rattle.mine_instance.specs.Instance.{Instance}
 use Rattle.minelib_writing.specs.Texts.{text_named}
 use Rattle.minelib_writing.specs.declared.text_name.TextName.{TextName}
 

@@ -7,7 +7,7 @@ ghost use Rattle.mine_instance.specs.CpitKept.{IsCpit};
 ghost use Rattle.mine_instance.specs.OfModel.{instance as instance_of};
 ghost use Rattle.mine_instance.specs.OneSlope.{instance_by};
 ghost use Rattle.mine_instance.specs.Valid.{IsValid};
-ghost use Rattle.mine_instance.specs.declared.instance.Instance.{Instance as OneInstance};
+ghost use Rattle.mine_instance.specs.Instance.{Instance as OneInstance};
 ghost use Rattle.minelib_reading.specs.Denotes.{Denotes, DenotesCpit};
 ghost use Rattle.minelib_lines.specs.Kept.{IsKept, IsKeptCpit};
 ghost use Rattle.minelib_reading.specs.ModelLines.{blank_model, model_grammar, model_in};

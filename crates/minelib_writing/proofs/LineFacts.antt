@@ -1,5 +1,6 @@
 -- The lines of a list, one an item.
 use Rattle.std.proofs.Common.{◌≡◌, ℕ, suc, zero, ◌+◌, ◌<◌, List, [], ◌∷◌, ◌++◌, length, map, take, drop, append-nil, get_or, refl, ◌∙◌, ap, sym, arith}
+use Rattle.std.proofs.Math.Seq.{drop-cons}
 use Rattle.std.specs.List.{drop-map, flat_map, take-map}
 use Rattle.minelib_lines.specs.Lines.{line_of, lines_from, text_of}
 
@@ -18,6 +19,10 @@ get_or-lines_from fields n (suc i) j (x ∷ xs) d h e = get_or-lines_from fields
 pub line_at : {A : Type 0} (fields : ℕ → A → List (List ℕ)) (i : ℕ) (xs : List A) (x : A) → i < length xs → x ≡ get_or xs i x
     → get_or (lines_from fields 0 xs) i [] ≡ line_of (fields i x)
 line_at fields i xs x h e = get_or-lines_from fields 0 i i xs x h (omega arith) ∙ ap (λ y. line_of (fields i y)) (sym e)
+
+-- and its text
+pub text_at : (lines : List (List ℕ)) (i : ℕ) → i < length lines → text_of (take 1 (drop i lines)) ≡ get_or lines i [] ++ 10 ∷ []
+text_at lines i h = ap (λ rest. text_of (take 1 rest)) (drop-cons lines i [] h) ∙ append-nil (get_or lines i [] ++ 10 ∷ [])
 
 -- a field, and then one for each item
 pub line_of-map : {A : Type 0} (first : List ℕ) (field : A → List ℕ) (xs : List A)

@@ -1,56 +1,19 @@
-//! The lines of predecessors and values, one for each block.
+//! The lines of values, one for each block.
 
-ghost use Rattle.std.specs.Prelude.{◌≡◌, ◌<◌, ◌≤◌, ◌++◌, ◌∷◌, [], length, map, All, HoldsAt, OnOk, decimal, ⊤};
+ghost use Rattle.std.specs.Prelude.{◌≡◌, ◌<◌, ◌++◌, ◌∷◌, [], length, map, All, HoldsAt, OnOk, decimal, ⊤};
 ghost use Rattle.std.specs.List.{flat_map};
 ghost use Rattle.pit_units.specs.Decimal.{shortest};
 ghost use Rattle.mine_instance.specs.Greatest.{greatest};
 ghost use Rattle.minelib_lines.specs.Kept.{IsInDecimalRange};
 ghost use Rattle.minelib_lines.specs.Lines.{line_of, lines_from};
-ghost use Rattle.minelib_writing.specs.Written.{prec_fields, greatest_fields, value_fields};
-ghost use Rattle.pit_parts.specs.declared.ranges.TheConstants.{MAX_BLOCKS};
+ghost use Rattle.minelib_writing.specs.Written.{greatest_fields, value_fields};
 
 use crate::fields::{put_decimal_behind, put_whole, put_whole_behind};
-use crate::id_text::IdText;
 use crate::sections::Section;
 use mine_instance::greatest::greatest;
 use mine_instance::values::Values;
 use pit_units::Dec;
-use precedence::Preds;
 use std::alloc::{AllocError, Global};
-
-/// The predecessors of each block.
-#[derive(Drop)]
-pub struct PrecLines<'a> {
-    pub preds: &'a Preds,
-    /// The texts of the blocks' identifiers.
-    pub texts: &'a IdText,
-    pub ghost few: { length preds.now ≤ MAX_BLOCKS },
-}
-
-impl<'a> Section for PrecLines<'a> {
-    ghost lines = { λ s. lines_from prec_fields 0 s.preds.now };
-
-    ghost kept = { λ s n. ⊤ };
-
-    fn len(&self) -> usize {
-        self.preds.len()
-    }
-
-    fn append(&self, _alloc: Global, index: usize, out: &mut Vec<u8>) -> Result<(), AllocError> {
-        put_preds(out, index, self.preds.of(index as u32), self.texts)
-    }
-}
-
-fn put_preds(out: &mut Vec<u8>, id: usize, preds: &[u32], texts: &IdText) -> Result<(), AllocError>
-    ensures { OnOk result (out.new.items
-        ≡ out.old.items ++ (line_of (prec_fields id preds.now) ++ 10 ∷ [])) }
-{
-    put_whole(out, id as u64)?;
-    put_whole_behind(out, b' ', preds.len() as u64)?;
-    texts.put(out, preds)?;
-    out.push(b'\n')?;
-    Ok(())
-}
 
 /// The values of each block.
 #[derive(Drop)]

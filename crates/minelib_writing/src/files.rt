@@ -1,32 +1,35 @@
 //! The five texts by their parts.
 
 ghost use Rattle.std.specs.Prelude.{◌≤◌, ◌<◌, length, All, ⊤};
+ghost use Rattle.mine_instance.specs.Seen.{seen};
 ghost use Rattle.mine_instance.specs.CpitKept.{IsCpit};
 ghost use Rattle.minelib_lines.specs.Kept.{IsKept, IsKeptCpit};
 ghost use Rattle.minelib_writing.specs.Written.{text_blocks, text_prec, text_upit, text_pcpsp, text_cpit};
 ghost use Rattle.pit_parts.specs.declared.ranges.TheConstants.{MAX_BLOCKS};
 
-use crate::block_sections::{GreatestLines, PrecLines, ValueLines};
+use crate::block_sections::{GreatestLines, ValueLines};
 use crate::coef_lines::CoefLines;
 use crate::id_text::IdText;
 use crate::keys::{put_cpit_keys, put_pcpsp_keys, put_problem};
 use crate::lines::Lines;
+use crate::prec_lines::write_preds;
 use crate::schedule::write_sections;
 use crate::sections::{write_section, write_titled};
 use mine_instance::cpit::Cpit;
 use mine_instance::instance::Instance;
+use precedence::PredLists;
 use std::alloc::Global;
 use text_sinks::sink::Sink;
 use text_sinks::whole_text::Text;
 use text_sinks::write_fault::WriteFault;
 
 #[derive(Drop)]
-pub struct BlockFile<'a> {
-    pub instance: &'a Instance,
+pub struct BlockFile<'a, P> {
+    pub instance: &'a Instance<P>,
 }
 
-impl<'a> Text for BlockFile<'a> {
-    ghost text = { λ t. text_blocks t.instance.now };
+impl<'a, P: PredLists> Text for BlockFile<'a, P> {
+    ghost text = { λ t. text_blocks (seen P.lists t.instance.now) };
 
     ghost kept = { λ t. ⊤ };
 
@@ -43,13 +46,13 @@ impl<'a> Text for BlockFile<'a> {
 }
 
 #[derive(Drop)]
-pub struct PrecFile<'a> {
-    pub instance: &'a Instance,
-    pub ghost few: { length instance.now.preds ≤ MAX_BLOCKS },
+pub struct PrecFile<'a, P: PredLists> {
+    pub instance: &'a Instance<P>,
+    pub ghost few: { length (P.lists instance.now.preds) ≤ MAX_BLOCKS },
 }
 
-impl<'a> Text for PrecFile<'a> {
-    ghost text = { λ t. text_prec t.instance.now };
+impl<'a, P: PredLists> Text for PrecFile<'a, P> {
+    ghost text = { λ t. text_prec (seen P.lists t.instance.now) };
 
     ghost kept = { λ t. ⊤ };
 
@@ -62,20 +65,19 @@ impl<'a> Text for PrecFile<'a> {
     ) -> Result<(), WriteFault> {
         let preds = &self.instance.preds;
         // One more than there are blocks: where the last block's text ends.
-        let texts = IdText::below(alloc, preds.len() + 1)?;
-        let texts = &texts;
-        write_section(alloc, sink, buffer, &PrecLines { preds, texts })
+        let texts = IdText::below(alloc, preds.count() + 1)?;
+        write_preds(alloc, sink, buffer, preds, &texts)
     }
 }
 
 #[derive(Drop)]
-pub struct UpitFile<'a> {
-    pub instance: &'a Instance,
+pub struct UpitFile<'a, P> {
+    pub instance: &'a Instance<P>,
     pub ghost some: { All (λ of_block. 0 < length of_block) instance.now.values },
 }
 
-impl<'a> Text for UpitFile<'a> {
-    ghost text = { λ t. text_upit t.instance.now };
+impl<'a, P: PredLists> Text for UpitFile<'a, P> {
+    ghost text = { λ t. text_upit (seen P.lists t.instance.now) };
 
     ghost kept = { λ t. ⊤ };
 
@@ -104,14 +106,14 @@ impl<'a> Text for UpitFile<'a> {
 }
 
 #[derive(Drop)]
-pub struct PcpspFile<'a> {
-    pub instance: &'a Instance,
+pub struct PcpspFile<'a, P> {
+    pub instance: &'a Instance<P>,
 }
 
-impl<'a> Text for PcpspFile<'a> {
-    ghost text = { λ t. text_pcpsp t.instance.now };
+impl<'a, P: PredLists> Text for PcpspFile<'a, P> {
+    ghost text = { λ t. text_pcpsp (seen P.lists t.instance.now) };
 
-    ghost kept = { λ t. IsKept t.instance.now };
+    ghost kept = { λ t. IsKept (seen P.lists t.instance.now) };
 
     #[tactic(auto, using(crate::proofs::SectionsWritten::nothing_put))]
     fn write<S: Sink>(

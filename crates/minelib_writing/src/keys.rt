@@ -30,10 +30,10 @@ pub fn put_problem(
 }
 
 /// Appends the further key lines of the production scheduling problem.
-pub fn put_pcpsp_keys(
+pub fn put_pcpsp_keys<P>(
     alloc: Global,
     out: &mut Vec<u8>,
-    instance: &Instance,
+    instance: &Instance<P>,
 ) -> Result<(), AllocError>
     ensures { OnOk result (out.new.items ≡ out.old.items
         ++ text_of (pcpsp_keys instance.now.periods instance.now.destinations instance.now.resources
@@ -44,7 +44,7 @@ pub fn put_pcpsp_keys(
     put_decimal_key(alloc, out, b"DISCOUNT_RATE:", instance.rate)
 }
 
-fn put_counts(out: &mut Vec<u8>, instance: &Instance) -> Result<(), AllocError>
+fn put_counts<P>(out: &mut Vec<u8>, instance: &Instance<P>) -> Result<(), AllocError>
     ensures { OnOk result (out.new.items ≡ out.old.items
         ++ text_of (count_keys instance.now.periods instance.now.destinations
         instance.now.resources)) }

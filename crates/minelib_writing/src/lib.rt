@@ -9,6 +9,7 @@ mod id_text;
 mod item_lines;
 mod keys;
 mod lines;
+mod prec_lines;
 mod schedule;
 mod sections;
 pub mod text_name;

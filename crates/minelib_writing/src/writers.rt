@@ -9,6 +9,7 @@ ghost use Rattle.minelib_writing.specs.Texts.{text_named};
 ghost use Rattle.minelib_writing.specs.TextsKept.{kept_named};
 ghost use Rattle.mine_instance.specs.OfCpit.{cpit as cpit_of};
 ghost use Rattle.mine_instance.specs.CpitKept.{IsCpit};
+ghost use Rattle.mine_instance.specs.Seen.{seen};
 ghost use Rattle.mine_instance.specs.Valid.{IsValid};
 ghost use Rattle.minelib_lines.specs.Kept.{IsKept, IsKeptCpit};
 
@@ -16,38 +17,39 @@ use crate::files::{BlockFile, CpitFile, PcpspFile, PrecFile, UpitFile};
 use crate::text_name::TextName;
 use mine_instance::cpit::Cpit;
 use mine_instance::instance::Instance;
+use precedence::PredLists;
 use std::alloc::Global;
 use text_sinks::sink::Sink;
 use text_sinks::whole_text::write_text;
 use text_sinks::write_fault::WriteFault;
 
 /// Begins the sink and writes the block file: a line for each block, by identifier.
-pub fn write_blocks<S: Sink>(
+pub fn write_blocks<P: PredLists, S: Sink>(
     alloc: Global,
-    instance: &Instance,
+    instance: &Instance<P>,
     sink: &mut S,
 ) -> Result<(), WriteFault>
-    requires { IsValid instance.now }
+    requires { IsValid (seen P.lists instance.now) }
     ensures written { OnOk result
-        (IsWritten (text_blocks instance.now) (S.state sink.old) (S.state sink.new)) }
+        (IsWritten (text_blocks (seen P.lists instance.now)) (S.state sink.old) (S.state sink.new)) }
     ensures refused { IfErr result
-        (λ fault. IsCutOff (refusals fault) (text_blocks instance.now) (S.state sink.old)
+        (λ fault. IsCutOff (refusals fault) (text_blocks (seen P.lists instance.now)) (S.state sink.old)
         (S.state sink.new)) }
 {
     write_text(alloc, &BlockFile { instance }, sink)
 }
 
 /// Begins the sink and writes the precedence file: the predecessors of each block, by identifier.
-pub fn write_prec<S: Sink>(
+pub fn write_prec<P: PredLists, S: Sink>(
     alloc: Global,
-    instance: &Instance,
+    instance: &Instance<P>,
     sink: &mut S,
 ) -> Result<(), WriteFault>
-    requires { IsValid instance.now }
+    requires { IsValid (seen P.lists instance.now) }
     ensures written { OnOk result
-        (IsWritten (text_prec instance.now) (S.state sink.old) (S.state sink.new)) }
+        (IsWritten (text_prec (seen P.lists instance.now)) (S.state sink.old) (S.state sink.new)) }
     ensures refused { IfErr result
-        (λ fault. IsCutOff (refusals fault) (text_prec instance.now) (S.state sink.old)
+        (λ fault. IsCutOff (refusals fault) (text_prec (seen P.lists instance.now)) (S.state sink.old)
         (S.state sink.new)) }
 {
     write_text(alloc, &PrecFile { instance }, sink)
@@ -55,16 +57,16 @@ pub fn write_prec<S: Sink>(
 
 /// Begins the sink and writes the file of the ultimate pit limit problem: the greatest value of each block, in units of 100
 /// cents.
-pub fn write_upit<S: Sink>(
+pub fn write_upit<P: PredLists, S: Sink>(
     alloc: Global,
-    instance: &Instance,
+    instance: &Instance<P>,
     sink: &mut S,
 ) -> Result<(), WriteFault>
-    requires { IsValid instance.now }
+    requires { IsValid (seen P.lists instance.now) }
     ensures written { OnOk result
-        (IsWritten (text_upit instance.now) (S.state sink.old) (S.state sink.new)) }
+        (IsWritten (text_upit (seen P.lists instance.now)) (S.state sink.old) (S.state sink.new)) }
     ensures refused { IfErr result
-        (λ fault. IsCutOff (refusals fault) (text_upit instance.now) (S.state sink.old)
+        (λ fault. IsCutOff (refusals fault) (text_upit (seen P.lists instance.now)) (S.state sink.old)
         (S.state sink.new)) }
 {
     write_text(alloc, &UpitFile { instance }, sink)
@@ -72,18 +74,18 @@ pub fn write_upit<S: Sink>(
 
 /// Begins the sink and writes the file of the production scheduling problem. Of an instance that it wrote it says what the types of
 /// the parts keep: a NAME and decimals.
-pub fn write_pcpsp<S: Sink>(
+pub fn write_pcpsp<P: PredLists, S: Sink>(
     alloc: Global,
-    instance: &Instance,
+    instance: &Instance<P>,
     sink: &mut S,
 ) -> Result<(), WriteFault>
-    requires { IsValid instance.now }
+    requires { IsValid (seen P.lists instance.now) }
     ensures written { OnOk result
-        (IsWritten (text_pcpsp instance.now) (S.state sink.old) (S.state sink.new)) }
+        (IsWritten (text_pcpsp (seen P.lists instance.now)) (S.state sink.old) (S.state sink.new)) }
     ensures refused { IfErr result
-        (λ fault. IsCutOff (refusals fault) (text_pcpsp instance.now) (S.state sink.old)
+        (λ fault. IsCutOff (refusals fault) (text_pcpsp (seen P.lists instance.now)) (S.state sink.old)
         (S.state sink.new)) }
-    ensures kept { OnOk result (IsKept instance.now) }
+    ensures kept { OnOk result (IsKept (seen P.lists instance.now)) }
 {
     write_text(alloc, &PcpspFile { instance }, sink)
 }
@@ -103,21 +105,21 @@ pub fn write_cpit<S: Sink>(alloc: Global, cpit: &Cpit, sink: &mut S) -> Result<(
 }
 
 /// Begins the sink and writes the text of this name, of an instance and its CPIT.
-pub fn write_named<S: Sink>(
+pub fn write_named<P: PredLists, S: Sink>(
     alloc: Global,
     name: TextName,
-    instance: &Instance,
+    instance: &Instance<P>,
     cpit: &Cpit,
     sink: &mut S,
 ) -> Result<(), WriteFault>
-    requires valid { IsValid instance.now }
-    requires cpit { cpit.now ≡ cpit_of instance.now }
+    requires valid { IsValid (seen P.lists instance.now) }
+    requires cpit { cpit.now ≡ cpit_of (seen P.lists instance.now) }
     ensures written { OnOk result
-        (IsWritten (text_named name instance.now) (S.state sink.old) (S.state sink.new)) }
+        (IsWritten (text_named name (seen P.lists instance.now)) (S.state sink.old) (S.state sink.new)) }
     ensures refused { IfErr result
-        (λ fault. IsCutOff (refusals fault) (text_named name instance.now) (S.state sink.old)
+        (λ fault. IsCutOff (refusals fault) (text_named name (seen P.lists instance.now)) (S.state sink.old)
         (S.state sink.new)) }
-    ensures kept { OnOk result (kept_named name instance.now) }
+    ensures kept { OnOk result (kept_named name (seen P.lists instance.now)) }
 {
     match name {
         TextName::Blocks => write_blocks(alloc, instance, sink),

@@ -5,7 +5,7 @@ use Rattle.std.specs.declared.alloc.Global.{Global}
 use Rattle.forms.specs.Steps.{◌>>=◌}
 use Rattle.minelib_reading.specs.Denotes.{cpit_denoted, denoted}
 use Rattle.text_lines.specs.declared.text_fault.TextFault.{TextFault}
-use Rattle.mine_instance.specs.declared.instance.Instance.{Instance}
+use Rattle.mine_instance.specs.Instance.{Instance}
 use Rattle.pit_check.specs.declared.counts.Counts.{Counts}
 use Rattle.pit_check.specs.declared.counts.Texts.{Texts}
 

@@ -3,7 +3,7 @@ use Rattle.std.proofs.Common.{◌≡◌, ℕ, ◌+◌, ◌<◌, List, [], ◌∷
 use Rattle.std.proofs.lemmas.List.{drop_more}
 use Rattle.std.proofs.lemmas.List.Elements.{All-cons, All-head, All-more, All-nil, All-tail}
 use Rattle.std.specs.Prelude.{IfErr, OnOk}
-use Rattle.mine_instance.specs.declared.instance.Instance.{Instance}
+use Rattle.mine_instance.specs.Instance.{Instance}
 use Rattle.text_sinks.specs.SinkState.{SinkState, IsWritten, IsCutOff}
 use Rattle.text_sinks.specs.SinkSteps.{refusals}
 use Rattle.minelib_writing.specs.Texts.{all_texts, text_named}

@@ -3,7 +3,7 @@ use Rattle.std.specs.Prelude.{◌≡◌, ℕ, Bool, false, List, length, take, s
 use Rattle.std.specs.List.{AllZip}
 use Rattle.lane.specs.Whole.{GatheredView, IsWhole}
 use Rattle.mine_instance.specs.OfModel.{instance}
-use Rattle.mine_instance.specs.declared.instance.Instance.{Instance}
+use Rattle.mine_instance.specs.Instance.{Instance}
 use Rattle.pit_parts.specs.Plan.{PlanParts}
 use Rattle.precedence.specs.Identifier.{blocks_of_rows}
 use Rattle.pit_compile.specs.Rows.{rows_of, sents_of, fault_in}

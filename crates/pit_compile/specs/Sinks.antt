@@ -4,7 +4,7 @@ use Rattle.text_sinks.specs.SinkState.{SinkState, IsWritten, IsCutOff}
 use Rattle.minelib_writing.specs.Texts.{all_texts, text_named}
 use Rattle.minelib_writing.specs.declared.text_name.TextName.{TextName}
 use Rattle.minelib_writing.specs.declared.text_name.TextName.TheVariants.{Blocks, Prec, Upit, Pcpsp, Cpit}
-use Rattle.mine_instance.specs.declared.instance.Instance.{Instance}
+use Rattle.mine_instance.specs.Instance.{Instance}
 use Rattle.pit_compile.specs.declared.sinks.Sinks.{Sinks}
 
 -- the sink of a text

@@ -23,6 +23,7 @@ use mine_instance::cpit::Cpit;
 use mine_instance::instance::Instance;
 use pit_parts::destination::Destination;
 use pit_parts::plan::Plan;
+use precedence::FoundPreds;
 use run_threads::{Allowance, HandedOver, hand_over};
 use std::alloc::Global;
 use std::snapshot::Snapshot;
@@ -37,8 +38,8 @@ use zone_csv::laws::zone_files;
 pub struct Compiled {
     /// What went through the lane.
     pub gathered: Gathered,
-    /// The instance of the model.
-    pub instance: Instance,
+    /// The instance of the model, whose predecessors are found when they are asked for.
+    pub instance: Instance<FoundPreds>,
     /// Its constrained pit limit problem.
     pub cpit: Cpit,
 }

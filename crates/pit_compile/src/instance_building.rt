@@ -13,17 +13,22 @@ use crate::refusal::Refusal;
 use mine_instance::instance::Instance;
 use mine_instance::{build_with, values_by_id};
 use pit_parts::plan::Plan;
-use precedence::preds;
+use precedence::FoundPreds;
 use rows::RowLists;
 use std::alloc::Global;
 
-/// The instance of these rows. The rows are given up as soon as their values are taken.
+/// The instance of these rows, whose predecessors are found when they are asked for. The rows are given up as soon as their values
+/// are taken.
 ///
 /// # Errors
 ///
 /// - `Same`: a block stands twice.
 /// - `OutOfMemory`: memory was refused.
-pub fn instance_of(alloc: Global, rows: RowLists, plan: &Plan) -> Result<Instance, Refusal>
+pub fn instance_of(
+    alloc: Global,
+    rows: RowLists,
+    plan: &Plan,
+) -> Result<Instance<FoundPreds>, Refusal>
     requires { AreModelRows plan.now rows }
     ensures apart { IfOk result (λ _. AreApart (blocks_of_rows rows)) }
     ensures value { IfOk result (λ built. built ≡ instance plan.now (blocks_of_rows rows)) }
@@ -33,6 +38,6 @@ pub fn instance_of(alloc: Global, rows: RowLists, plan: &Plan) -> Result<Instanc
     let numbering = numbered(alloc, &rows)?;
     let values = values_by_id(alloc, &numbering, &rows, plan)?;
     drop(rows);
-    let preds = preds(alloc, &numbering, plan)?;
+    let preds = FoundPreds::new(alloc, &numbering, plan)?;
     Ok(build_with(alloc, numbering.into_blocks(), preds, values, plan)?)
 }

@@ -2,6 +2,7 @@
 
 ghost use Rattle.std.specs.Prelude.{◌≡◌, IfErr, OnOk};
 ghost use Rattle.mine_instance.specs.OfCpit.{cpit};
+ghost use Rattle.mine_instance.specs.Seen.{seen};
 ghost use Rattle.mine_instance.specs.Valid.{IsValid};
 ghost use Rattle.pit_compile.specs.SinkAnswers.{AreCutOff};
 ghost use Rattle.pit_compile.specs.inner.SinkWriting.{in_sink};
@@ -13,6 +14,7 @@ use mine_instance::cpit::Cpit;
 use mine_instance::instance::Instance;
 use minelib_writing::text_name::TextName;
 use minelib_writing::write_named;
+use precedence::PredLists;
 use std::alloc::Global;
 use text_sinks::sink::Sink;
 use text_sinks::write_fault::WriteFault;
@@ -26,18 +28,18 @@ use text_sinks::write_fault::WriteFault;
 ///
 /// The sinks before that one hold their texts. That one is as it was, or begun with a front of its text. Those behind
 /// it are as they were.
-pub fn write_texts<S: Sink>(
+pub fn write_texts<P: PredLists, S: Sink>(
     alloc: Global,
-    instance: &Instance,
+    instance: &Instance<P>,
     problem: &Cpit,
     sinks: &mut Sinks<S>,
 ) -> Result<(), Refusal>
-    requires valid { IsValid instance.now }
-    requires problem { problem.now ≡ cpit instance.now }
+    requires valid { IsValid (seen P.lists instance.now) }
+    requires problem { problem.now ≡ cpit (seen P.lists instance.now) }
     ensures written { let told = all_told S.state in
-        OnOk result (AreWritten instance.now (told sinks.old) (told sinks.new)) }
+        OnOk result (AreWritten (seen P.lists instance.now) (told sinks.old) (told sinks.new)) }
     ensures refused { let told = all_told S.state in
-        IfErr result (AreCutOff instance.now (told sinks.old) (told sinks.new)) }
+        IfErr result (AreCutOff (seen P.lists instance.now) (told sinks.old) (told sinks.new)) }
 {
     for name in TextName::all() {
         in_sink(

@@ -1,6 +1,6 @@
 -- What is printed of an instance: its five texts, each under its section line.
 use Rattle.std.specs.Prelude.{ℕ, List, ◌∷◌, ◌++◌, codes, flat_map}
-use Rattle.mine_instance.specs.declared.instance.Instance.{Instance}
+use Rattle.mine_instance.specs.Instance.{Instance}
 use Rattle.minelib_writing.specs.TextNames.{ending_of}
 use Rattle.minelib_writing.specs.Texts.{all_texts, text_named}
 

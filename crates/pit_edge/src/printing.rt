@@ -2,6 +2,7 @@
 
 ghost use Rattle.std.specs.Prelude.{◌≡◌, ◌++◌, length, take, OnErr, OnOk};
 ghost use Rattle.mine_instance.specs.OfCpit.{cpit as cpit_of};
+ghost use Rattle.mine_instance.specs.Seen.{seen};
 ghost use Rattle.mine_instance.specs.Valid.{IsValid};
 ghost use Rattle.minelib_writing.specs.TextNames.{ending_of};
 ghost use Rattle.minelib_writing.specs.Texts.{text_named};
@@ -11,21 +12,23 @@ use mine_instance::cpit::Cpit;
 use mine_instance::instance::Instance;
 use minelib_writing::text_name::TextName;
 use minelib_writing::write_named;
+use precedence::PredLists;
 use std::alloc::{AllocError, Global};
 use std::mem::replace;
 use text_sinks::section_sink::SectionSink;
 use text_sinks::write_fault::WriteFault;
 
 /// Appends the five texts of an instance, each under its section line. Fails only where memory is refused, and then `out` is as it was.
-pub fn print(
+pub fn print<P: PredLists>(
     alloc: Global,
-    instance: &Instance,
+    instance: &Instance<P>,
     cpit: &Cpit,
     out: &mut Vec<u8>,
 ) -> Result<(), AllocError>
-    requires valid { IsValid instance.now }
-    requires cpit { cpit.now ≡ cpit_of instance.now }
-    ensures ok { OnOk result (out.new.items ≡ out.old.items ++ printed instance.now) }
+    requires valid { IsValid (seen P.lists instance.now) }
+    requires cpit { cpit.now ≡ cpit_of (seen P.lists instance.now) }
+    ensures ok { OnOk result
+        (out.new.items ≡ out.old.items ++ printed (seen P.lists instance.now)) }
     ensures err { OnErr result (out.new.items ≡ out.old.items) }
 {
     let kept = out.len();
@@ -40,16 +43,16 @@ pub fn print(
 }
 
 // The same behind what a sink holds. Where it is refused, what stood before stands at the front.
-fn print_sections(
+fn print_sections<P: PredLists>(
     alloc: Global,
-    instance: &Instance,
+    instance: &Instance<P>,
     cpit: &Cpit,
     sink: &mut SectionSink,
 ) -> Result<(), WriteFault>
-    requires valid { IsValid instance.now }
-    requires cpit { cpit.now ≡ cpit_of instance.now }
+    requires valid { IsValid (seen P.lists instance.now) }
+    requires cpit { cpit.now ≡ cpit_of (seen P.lists instance.now) }
     ensures ok { OnOk result (sink.new.before ++ sink.new.taken
-        ≡ (sink.old.before ++ sink.old.taken) ++ printed instance.now) }
+        ≡ (sink.old.before ++ sink.old.taken) ++ printed (seen P.lists instance.now)) }
     ensures err { OnErr result (take (length sink.old.before) sink.new.before ≡ sink.old.before) }
 {
     for name in TextName::all() {
@@ -59,18 +62,18 @@ fn print_sections(
 }
 
 // The same of the text of this name alone.
-fn print_section(
+fn print_section<P: PredLists>(
     alloc: Global,
     name: TextName,
-    instance: &Instance,
+    instance: &Instance<P>,
     cpit: &Cpit,
     sink: &mut SectionSink,
 ) -> Result<(), WriteFault>
-    requires valid { IsValid instance.now }
-    requires cpit { cpit.now ≡ cpit_of instance.now }
+    requires valid { IsValid (seen P.lists instance.now) }
+    requires cpit { cpit.now ≡ cpit_of (seen P.lists instance.now) }
     ensures ok { OnOk result (sink.new.before ++ sink.new.taken
         ≡ (sink.old.before ++ sink.old.taken)
-        ++ section (ending_of name) (text_named name instance.now)) }
+        ++ section (ending_of name) (text_named name (seen P.lists instance.now))) }
     ensures front { take (length sink.old.before) sink.new.before ≡ sink.old.before }
 {
     let line = format!(in alloc; "== {name}\n")?;

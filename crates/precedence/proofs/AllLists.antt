@@ -1,15 +1,15 @@
 -- What the rows of the zones' cones say of all blocks is what lies above each.
-use Rattle.std.proofs.Common.{◌≡◌, ℕ, ◌+◌, ◌<◌, Bool, List, [], ◌∷◌, Some, All, length, map, get_or, slice_get, refl, sym, ap, subst, ◌∙◌, arith, ⊎_elim, if◌then◌else◌}
+use Rattle.std.proofs.Common.{◌≡◌, ℕ, zero, suc, ◌+◌, ◌^◌, ◌<◌, Bool, List, [], ◌∷◌, Some, All, length, map, get_or, slice_get, refl, sym, ap, subst, ◌∙◌, arith, ⊎_elim, if◌then◌else◌}
 use Rattle.std.proofs.lemmas.List.{get_or_default}
 use Rattle.std.proofs.lemmas.Option.{slice_get_cases, slice_get-get_or, get_or_from_slice_get}
-use Rattle.std.proofs.lemmas.List.Elements.{All-head, All-tail}
+use Rattle.std.proofs.lemmas.List.Elements.{All-head, All-map, All-tail}
 use Rattle.pit_parts.specs.Plan.{PlanParts}
 use Rattle.pit_parts.specs.declared.block.Block.{Block}
 use Rattle.pit_parts.specs.declared.cone.Cone.{Cone}
 use Rattle.pit_parts.specs.declared.grid.Grid.{Grid}
 use Rattle.precedence.specs.Codes.{place_code, place_codes}
 use Rattle.precedence.specs.Cone.{above, is_above, places_where, preds, HasZones}
-use Rattle.precedence.specs.inner.Lists.{in_cone}
+use Rattle.precedence.specs.inner.Lists.{in_cone, in_cones}
 use Rattle.precedence.specs.inner.Rows.{is_in_rows, AreInOrder, IsWithin}
 use Rattle.precedence.specs.inner.ZoneTables.{HasTables, IsTold, rows_in}
 use Rattle.precedence.specs.declared.cone_table.ConeTable.{ConeTable}
@@ -44,7 +44,7 @@ module _ (grid : Grid) (cones : List Cone) (extent : Extent) (tables : List Cone
 
   -- one block's list
   list_is : (low : Block) → All (IsWithin extent low) blocks → low.zone < length cones
-      → in_cone tables of_zone (place_codes blocks) low ≡ above grid (slice_get cones low.zone) blocks low
+      → in_cone tables of_zone (place_codes blocks) low.zone (place_code low) ≡ above grid (slice_get cones low.zone) blocks low
   list_is low close lt = ⊎_elim
       (λ found.
       let table : ConeTable = found.0 in
@@ -61,11 +61,44 @@ module _ (grid : Grid) (cones : List Cone) (extent : Extent) (tables : List Cone
       (λ past. let below = has.below low.zone 0 (omega (arith, has.zones)) in absurd (omega (arith, past.0)))
       ((slice_get_cases tables (place low.zone)).1)
 
-  pub lists_are : map (in_cone tables of_zone (place_codes blocks)) blocks ≡ map (λ low. above grid (slice_get cones low.zone) blocks low) blocks
-  lists_are = map_same (in_cone tables of_zone (place_codes blocks)) (λ low. above grid (slice_get cones low.zone) blocks low) blocks
+  pub lists_are : map (λ low. in_cone tables of_zone (place_codes blocks) low.zone (place_code low)) blocks ≡ map (λ low. above grid (slice_get cones low.zone) blocks low) blocks
+  lists_are = map_same (λ low. in_cone tables of_zone (place_codes blocks) low.zone (place_code low)) (λ low. above grid (slice_get cones low.zone) blocks low) blocks
       (λ k d lt. list_is (get_or blocks k d)
       (λ j e within. subst (IsWithin extent (get_or blocks k d)) (get_or_default blocks j d e within) (near k j d lt within))
       (zones k d lt))
+
+module _ (tables : List ConeTable) (of_zone all : List ℕ) where
+  -- by the zones and codes of blocks
+  pub in_cones_of : (bs : List Block)
+      → in_cones tables of_zone all (map (λ b. b.zone) bs) (place_codes bs) ≡ map (λ low. in_cone tables of_zone all low.zone (place_code low)) bs
+  in_cones_of [] = refl
+  in_cones_of (b ∷ bs) = ap (λ rest. in_cone tables of_zone all b.zone (place_code b) ∷ rest) (in_cones_of bs)
+
+  pub length-in_cones : (zones cs : List ℕ) → length zones ≡ length cs → length (in_cones tables of_zone all zones cs) ≡ length zones
+  length-in_cones [] cs e = refl
+  length-in_cones (z ∷ zones) [] e = absurd (omega arith)
+  length-in_cones (z ∷ zones) (c ∷ cs) e = ap (λ n. suc n) (length-in_cones zones cs (omega arith))
+
+  pub in_cones_at : (zones cs : List ℕ) (k : ℕ) → length zones ≡ length cs → k < length zones
+      → get_or (in_cones tables of_zone all zones cs) k [] ≡ in_cone tables of_zone all (get_or zones k 0) (get_or cs k 0)
+  in_cones_at [] cs k e lt = absurd (omega arith)
+  in_cones_at (z ∷ zones) [] k e lt = absurd (omega arith)
+  in_cones_at (z ∷ zones) (c ∷ cs) zero e lt = refl
+  in_cones_at (z ∷ zones) (c ∷ cs) (suc k) e lt = in_cones_at zones cs k (omega arith) (omega arith)
+
+-- the zones of blocks are below a number where the blocks' zones are
+pub zones_below : (n m : ℕ) (blocks : List Block) (zones : List ℕ) → zones ≡ map (λ b. b.zone) blocks → m ≡ n
+    → All (λ (b : Block). b.zone < n) blocks → All (λ z. z < m) zones
+zones_below n m blocks zones e same below =
+    subst (λ zs. All (λ z. z < m) zs) (sym e)
+    (All-map (λ z. z < m) (λ (b : Block). b.zone) blocks (subst (λ k. All (λ (b : Block). b.zone < k) blocks) (sym same) below))
+
+-- each code of a block is small
+pub codes_small : (blocks : List Block) → All (λ c. c < 10 ^ 14) (place_codes blocks)
+codes_small blocks = All-map (λ c. c < 10 ^ 14) place_code blocks (λ k d lt. small (get_or blocks k d))
+  where
+    small : (b : Block) → place_code b < 10 ^ 14
+    small b = omega (arith, b.x_in_grid, b.y_in_grid, b.z_in_grid)
 
 pub tables_in_order : (grid : Grid) (extent : Extent) (tables : List ConeTable) → All (IsTold grid extent) tables
     → All (λ t. AreInOrder t.rows.items) tables
@@ -78,8 +111,9 @@ pub preds_are : (plan : PlanParts) (listed : List Block) (grid : Grid) (cones : 
     → HasTables grid cones extent tables of_zone
     → ((i j : ℕ) (d : Block) → i < length blocks → j < length blocks → IsWithin extent (get_or blocks i d) (get_or blocks j d))
     → HasZones plan listed
-    → map (in_cone tables of_zone (place_codes blocks)) blocks ≡ preds plan listed
+    → in_cones tables of_zone (place_codes blocks) (map (λ b. b.zone) blocks) (place_codes blocks) ≡ preds plan listed
 preds_are plan listed grid cones extent tables of_zone blocks e g c has near zones =
-    lists_are grid cones extent tables of_zone blocks has near
+    in_cones_of tables of_zone (place_codes blocks) blocks
+    ∙ lists_are grid cones extent tables of_zone blocks has near
     (λ k d lt. omega (arith, zones k d (omega (arith, ap length e)), ap (λ (bs : List Block). (get_or bs k d).zone) e, ap length c))
     ∙ (λ j. map (λ low. above (g j) (slice_get (c j) low.zone) (e j) low) (e j))

@@ -1,5 +1,6 @@
 pub mod AllLists
 pub mod Counts
+pub mod FoundFacts
 pub mod Geometry
 pub mod Identifiers
 pub mod Order

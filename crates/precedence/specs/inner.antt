@@ -1,3 +1,4 @@
+pub mod FoundFields
 pub mod Lists
 pub mod NumberingFields
 pub mod PredsFields

@@ -1,13 +1,13 @@
 //! The identifiers of a model's blocks, and the blocks that each has to wait for.
 #![tactic(auto)]
 
-mod all_predecessors;
 mod bounds;
 mod code;
 mod cone_rows;
 mod cone_table;
 mod counting;
 mod find;
+mod found_preds;
 pub mod laws;
 mod number_by_place;
 mod number_error;
@@ -15,14 +15,16 @@ mod number_rows;
 mod numbering;
 mod place_hashes;
 mod places;
+mod pred_lists;
 mod predecessors;
 mod runs;
 mod table;
 mod zone_tables;
 
-pub use all_predecessors::preds;
+pub use found_preds::{FoundPreds, preds};
 pub use number_by_place::number_blocks;
 pub use number_error::NumberError;
 pub use number_rows::number;
 pub use numbering::Numbering;
+pub use pred_lists::PredLists;
 pub use predecessors::Preds;

@@ -1,6 +1,6 @@
 //! The codes of all blocks, by identifier.
 
-ghost use Rattle.std.specs.Prelude.{◌≡◌, ◌-◌, ◌≤◌, IfOk, length, map};
+ghost use Rattle.std.specs.Prelude.{◌≡◌, ◌-◌, ◌<◌, ◌≤◌, ◌^◌, All, IfOk, length, map};
 ghost use Rattle.std.specs.List.{range_with_len};
 ghost use Rattle.std.specs.List.Sorted.{IsStrictlyIncreasing};
 ghost use Rattle.precedence.specs.Codes.{place_code, place_codes};
@@ -19,6 +19,7 @@ pub struct Places {
     pub ids: Vec<u32>,
     pub ghost rising: { IsStrictlyIncreasing codes.items },
     pub ghost few: { length codes.items ≤ MAX_BLOCKS },
+    pub ghost small: { All (λ c. c < 10 ^ 14) codes.items },
     pub ghost all_ids: { ids.items ≡ range_with_len 0 (length codes.items) },
 }
 

@@ -3,6 +3,7 @@
 ghost use Rattle.std.specs.Prelude.{◌≡◌, ◌-◌, ◌<◌, ◌≤◌, ◌++◌, [], ◌∷◌, OnOk, OnErr, Some, drop, length, slice_get, slice_index, sum_by, take};
 ghost use Rattle.precedence.specs.inner.PredsFields.{pieces, start_at, AreEnds};
 
+use crate::pred_lists::PredLists;
 use std::alloc::{AllocError, Global};
 use std::marker::Model;
 
@@ -82,6 +83,18 @@ impl Preds {
         ensures { slice_get self.now id ≡ Some result.now }
     {
         piece(self.flat.as_slice(), self.ends.as_slice(), id as usize)
+    }
+}
+
+impl PredLists for Preds {
+    ghost lists = { λ preds. preds };
+
+    fn count(&self) -> usize {
+        self.len()
+    }
+
+    fn add_list(&self, list: &mut Vec<u32>, id: u32) -> Result<(), AllocError> {
+        list.extend_from_slice(self.of(id))
     }
 }
 

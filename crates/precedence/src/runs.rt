@@ -11,6 +11,7 @@ use crate::cone_rows::Row;
 use crate::find::find;
 use crate::places::Places;
 use std::alloc::AllocError;
+use std::cell::Cell;
 
 /// The identifiers that a row's run began and ended at, for the block that was looked at last.
 #[derive(Clone, Copy, Debug)]
@@ -30,7 +31,7 @@ pub fn add_above(
     places: &Places,
     rows: &[Row],
     past: &[u64],
-    hints: &mut [Hint],
+    hints: &[Cell<Hint>],
     from: u64,
 ) -> Result<(), AllocError>
     requires in_order { AreInOrder rows.now }
@@ -52,8 +53,11 @@ pub fn add_above(
 
 // A row's hint, but for what is before `behind`, where the row before it ends: a row that was left out for long has an old one.
 #[inline(always)]
-fn hint_at(hints: &[Hint], i: usize, behind: u32) -> Hint {
-    let known = hints.get(i).copied().unwrap_or(NOTHING_KNOWN);
+fn hint_at(hints: &[Cell<Hint>], i: usize, behind: u32) -> Hint {
+    let known = match hints.get(i) {
+        Some(hint) => hint.get(),
+        None => NOTHING_KNOWN,
+    };
     Hint {
         first: known.first.max(behind),
         past: known.past.max(behind),
@@ -61,9 +65,9 @@ fn hint_at(hints: &[Hint], i: usize, behind: u32) -> Hint {
 }
 
 #[inline(always)]
-fn keep_hint(hints: &mut [Hint], i: usize, run: Hint) {
-    if let Some(hint) = hints.get_mut(i) {
-        *hint = run;
+fn keep_hint(hints: &[Cell<Hint>], i: usize, run: Hint) {
+    if let Some(hint) = hints.get(i) {
+        hint.set(run);
     }
 }
 

@@ -1,7 +1,7 @@
 //! Callers of the crates below, as docs/calling.md shows them.
 
 ghost use Rattle.std.specs.Prelude.{◌≡◌, [], ◌∷◌, length, sum_by, Err, IfErr, IfOk, OnOk};
-ghost use Rattle.mine_instance.specs.declared.instance.Instance.{Instance as AnInstance};
+ghost use Rattle.mine_instance.specs.Instance.{Instance as AnInstance};
 ghost use Rattle.minelib_reading.specs.Denotes.{Denotes, denoted};
 ghost use Rattle.text_lines.specs.Reading.{Reads};
 ghost use Rattle.minelib_writing.specs.Written.{text_blocks};

@@ -1,13 +1,13 @@
 use Rattle.std.proofs.Common.{◌≡◌, ◌∙◌, ap, sym, subst, length}
 use Rattle.mine_instance.specs.OfModel.{covered, coefs_of, instance_of}
 use Rattle.mine_instance.specs.Valid.{IsValid}
-use Rattle.mine_instance.specs.declared.instance.Instance.{Instance}
+use Rattle.mine_instance.specs.Instance.{Instance}
 use Rattle.mine_instance.proofs.BuildFacts.{by_identifier_is}
 use Rattle.mine_instance.proofs.ModelFacts.{built_is, instance_is_valid}
 use Rattle.mine_instance.proofs.building.build_with.Goals as goal
 
 pub returns-clause-value : goal.returns-clause-value
-returns-clause-value c = λ listed n numbered same.
+returns-clause-value g c = λ listed n numbered same.
     let plan = c.args.plan.now in
     let blocks = c.args.blocks.items in
     let coefs : c.new-2.result ≡ coefs_of (covered plan) blocks =
@@ -18,7 +18,7 @@ returns-clause-value c = λ listed n numbered same.
     ∙ ap (instance_of plan) (sym (by_identifier_is listed n numbered ∙ same))
 
 pub returns-clause-valid : goal.returns-clause-valid
-returns-clause-valid c =
+returns-clause-valid g c =
     let plan = c.args.plan.now in
     let blocks = c.args.blocks.items in
     let coefs : c.new-2.result ≡ coefs_of (covered plan) blocks =

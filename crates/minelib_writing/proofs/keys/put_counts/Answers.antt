@@ -6,7 +6,7 @@ use Rattle.minelib_writing.proofs.SectionsWritten.{first_line, line_more}
 use Rattle.minelib_writing.proofs.keys.put_counts.Goals as goal
 
 pub returns : goal.returns
-returns c =
+returns g c =
     let periods = key_line (codes "NPERIODS:") (decimal c.args.instance.now.periods) in
     let destinations = key_line (codes "NDESTINATIONS:") (decimal c.args.instance.now.destinations) in
     let resources = key_line (codes "NRESOURCE_SIDE_CONSTRAINTS:") (decimal c.args.instance.now.resources) in

@@ -7,7 +7,7 @@ use Rattle.minelib_writing.proofs.SectionsWritten.{line_more}
 use Rattle.minelib_writing.proofs.keys.put_pcpsp_keys.Goals as goal
 
 pub returns : goal.returns
-returns c =
+returns g c =
     let counts = count_keys c.args.instance.now.periods c.args.instance.now.destinations c.args.instance.now.resources in
     let general = key_line (codes "NGENERAL_SIDE_CONSTRAINTS:") (codes "0") in
     on_ok_weaker c.put_decimal_key.result

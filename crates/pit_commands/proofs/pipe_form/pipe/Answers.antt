@@ -1,3 +1,4 @@
+use Rattle.std.proofs.lemmas.Result.{err_from_is_err_and}
 use Rattle.std.proofs.Common.{◌≡◌, ◌++◌, ◌∙◌, Err, length, subst, sym, ap, rules}
 use Rattle.pit_compile.specs.Compiled.{HasPassed, instance_from}
 use Rattle.pit_compile.specs.Settings.{IsSettingsFault}
@@ -47,7 +48,8 @@ returns-in_err-compiled-clause-settings g c =
 
 pub returns-in_err-print-clause-settings : goal.returns-in_err-print-clause-settings
 returns-in_err-print-clause-settings g c =
-    let told : c.from_residual-in_err-print.result ≡ Err OutOfMemory = search rules in
+    let p = err_from_is_err_and c.from_residual-in_err-print.result c.from_residual-in_err-print.ensures.1 in
+    let told : c.from_residual-in_err-print.result ≡ Err OutOfMemory = cc (p.1, p.2) in
     λ kind. (
       λ e. let clash = sym told ∙ e in absurd cc,
       λ h. absurd (none_where_suits c.args.plan.now (length c.args.zones.now)

@@ -6,8 +6,8 @@ use Rattle.std.proofs.lemmas.List.Elements.{All-map}
 use Rattle.pit_compile.proofs.Apart.{apart, numbered_too}
 use Rattle.pit_compile.proofs.instance_building.instance_of.Goals as goal
 
-pub preds-requires : goal.preds-requires
-preds-requires c =
+pub new-requires : goal.new-requires
+new-requires c =
     let InPlan : Block → Type 0 = λ b. b.zone < length c.args.plan.now.cones in
     let rows = c.args.rows in
     numbered_too InPlan (blocks_of_rows rows) c.in_ok-numbering.numbering c.in_ok-numbering.ensures.numbering

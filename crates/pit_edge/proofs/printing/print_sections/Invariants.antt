@@ -1,14 +1,15 @@
 use Rattle.std.proofs.Common.{◌≡◌, ◌++◌, flat_map, length, take}
+use Rattle.mine_instance.specs.Seen.{seen}
 use Rattle.minelib_writing.specs.TextNames.{ending_of}
 use Rattle.minelib_writing.specs.Texts.{all_texts, text_named}
 use Rattle.pit_edge.specs.Sections.{section}
 use Rattle.pit_edge.proofs.printing.print_sections.Given as goal
 
 abbrev pub invariant-loop-name : goal.invariant-loop-name
-invariant-loop-name l = record {
+invariant-loop-name g l = record {
   names : l.name-items ≡ all_texts;
   printed : l.sink.before ++ l.sink.taken
       ≡ (l.fn.sink.before ++ l.fn.sink.taken)
-      ++ flat_map (λ name. section (ending_of name) (text_named name l.instance)) (take l.name-index all_texts);
+      ++ flat_map (λ name. section (ending_of name) (text_named name (seen g.P.PredLists.lists l.instance))) (take l.name-index all_texts);
   front : take (length l.fn.sink.before) l.sink.before ≡ l.fn.sink.before;
 }

@@ -3,7 +3,7 @@ use Rattle.std.specs.Prelude.{decimal}
 use Rattle.minelib_lines.specs.Lines.{line_of}
 use Rattle.minelib_writing.proofs.LineFacts.{line_of-map}
 use Rattle.minelib_writing.proofs.FieldsWritten.{preds_written}
-use Rattle.minelib_writing.proofs.block_sections.put_preds.Goals as goal
+use Rattle.minelib_writing.proofs.prec_lines.put_preds.Goals as goal
 
 pub returns : goal.returns
 returns c =

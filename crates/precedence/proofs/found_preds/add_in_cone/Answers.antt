@@ -4,12 +4,12 @@ use Rattle.precedence.specs.inner.Rows.{AreInOrder}
 use Rattle.precedence.specs.declared.cone_table.ConeTable.{ConeTable}
 use Rattle.precedence.specs.declared.cone_rows.Row.{Row}
 use Rattle.precedence.proofs.AllLists.{all_at}
-use Rattle.precedence.proofs.all_predecessors.add_list.Goals as goal
+use Rattle.precedence.proofs.found_preds.add_in_cone.Goals as goal
 
 pub add_above-requires-clause-in_order : goal.add_above-requires-clause-in_order
 add_above-requires-clause-in_order c =
     let tables = c.args.tables.now.tables.items in
-    let place = get_or c.args.tables.now.of_zone.items c.args.block.now.zone 0 in
+    let place = get_or c.args.tables.now.of_zone.items c.args.zone 0 in
     let P : List Row → Type 0 = AreInOrder in
     subst P (sym c.as_slice.ensures.value)
     (all_at (λ (t : ConeTable). AreInOrder t.rows.items) tables place c.of-table.result.now c.requires.in_order

@@ -1,0 +1,15 @@
+-- How the places, zones and tables of a search are seen as the lists that it finds.
+use Rattle.std.specs.Prelude.{◌≡◌, ◌<◌, ℕ, List, All, length}
+use Rattle.precedence.specs.inner.Lists.{in_cones}
+use Rattle.precedence.specs.inner.Rows.{AreInOrder}
+use Rattle.precedence.specs.declared.found_preds.FoundPreds.TheInside.{Inside}
+
+abbrev pub found_in : Inside → List (List ℕ)
+found_in f = in_cones f.tables.tables.items f.tables.of_zone.items f.places.codes.items f.zones.items f.places.codes.items
+
+-- each block has a zone, whose table is there, and the rows of the tables lie in order
+pub record KeepsFound (f : Inside) : Type 0 where
+  pub each : length f.zones.items ≡ length f.places.codes.items
+  pub zones : All (λ z. z < length f.tables.of_zone.items) f.zones.items
+  pub below : All (λ t. t < length f.tables.tables.items) f.tables.of_zone.items
+  pub in_order : All (λ t. AreInOrder t.rows.items) f.tables.tables.items
