@@ -1,8 +1,11 @@
-//! Tests of what the built program never does, or does not show: of runs, of inputs and outputs that fail, and of the words of a job.
+//! Runs and commands on worked examples; and inputs, outputs, feeds and sinks that fail, as those of the built program never do.
 
 mod ending;
+mod files;
 mod input;
 mod job;
+mod lines;
 pub mod models;
+mod pieces;
 mod runs;
 pub mod watch;

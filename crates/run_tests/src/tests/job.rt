@@ -46,3 +46,40 @@ fn settings_and_words(rt: HostRuntime) -> Result<(), Fail> {
     }
     Ok(())
 }
+
+// Whether the words state that one zone file is compiled, with the settings that hold where none are given.
+fn compiles_one(alloc: Global, words: &[String]) -> bool {
+    match job(alloc, words) {
+        Ok(
+            Job::Compile {
+                plan,
+                out,
+                settings,
+                zones,
+            },
+        ) => {
+            (settings.valuers, settings.capacity) == (4, 64)
+                && plan.as_str() == "p"
+                && out.as_str() == "b"
+                && zones.iter().all(|zone| zone.as_str() == "z")
+        }
+        _ => false,
+    }
+}
+
+fn checks(alloc: Global, words: &[String]) -> bool {
+    match job(alloc, words) {
+        Ok(Job::Check { base }) => base.as_str() == "b",
+        _ => false,
+    }
+}
+
+// Each word is taken for what it is.
+#[test]
+fn words_of_jobs(rt: HostRuntime) -> Result<(), Fail> {
+    let words = words_of(rt.alloc(), "pitc compile --plan p --out b z")?;
+    assert!(rt; compiles_one(rt.alloc(), words.as_slice()));
+    let words = words_of(rt.alloc(), "pitc check b")?;
+    assert!(rt; checks(rt.alloc(), words.as_slice()));
+    Ok(())
+}

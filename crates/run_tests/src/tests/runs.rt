@@ -19,6 +19,8 @@ use zone_csv::feed::Feed;
 use zone_csv::mem_feed::MemFeed;
 
 mod devices;
+mod examples;
+mod failing_sinks;
 mod random_runs;
 mod schedules;
 

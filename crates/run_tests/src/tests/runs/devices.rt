@@ -70,8 +70,8 @@ type Run = (
     u64,
 );
 
-// The settings come first, the destinations last among them; then a refused start, and then the least file that is refused.
-const RUNS: [Run; 24] = [
+// The settings come first, the destinations last among them.
+const SETTINGS: [Run; 10] = [
     (1, MILL, &[ORE], 1, 1, 1, ENOUGH, None, 1),
     (1, MILL, &[ORE], 1, 64, 4096, ENOUGH, None, 1),
     (2, MILL, &[ORE], 1, 1, 1, ENOUGH, Some(FILES), 0),
@@ -82,6 +82,10 @@ const RUNS: [Run; 24] = [
     (1, DUMP, &[FAULTY], 1, 1, 0, 0, Some(CAPACITY), 0),
     (1, MILL, &[ORE], 1, 1, 4097, ENOUGH, Some(CAPACITY), 0),
     (1, DUMP, &[FAULTY], 1, 1, 1, 0, Some(DESTINATIONS), 0),
+];
+
+// A refused start comes before a faulty file.
+const STARTS: [Run; 9] = [
     (3, MILL, THREE, 1, 2, 1, 0, Some(NO_THREAD), 0),
     (3, MILL, THREE, 1, 2, 1, 1, Some(NO_THREAD), 0),
     (3, MILL, THREE, 1, 2, 1, 2, Some(NO_THREAD), 0),
@@ -89,10 +93,13 @@ const RUNS: [Run; 24] = [
     (3, MILL, THREE, 1, 2, 1, 4, Some(NO_THREAD), 11),
     (3, MILL, THREE, 1, 2, 1, 5, None, 111),
     (3, MILL, FAULT_OF_3, 1, 2, 1, 3, Some(NO_THREAD), 1),
-    // sixty_four_files, with one start too few, and with enough
+    // 64 files, with one start too few, and with enough
     (64, MILL, &[ORE], 64, 64, 1, 127, Some(NO_THREAD), 60_111),
     (64, MILL, &[ORE], 64, 64, 1, 128, Some(REPEATED), 61_111),
-    // failing_devices
+];
+
+// The least file that is refused decides.
+const FEEDS: [Run; 5] = [
     (2, MILL, AT_1, 1, 2, 1, ENOUGH, Some(FAILED_1), 11),
     (2, MILL, AT_2, 1, 2, 1, ENOUGH, Some(FAILED_1), 11),
     (2, MILL, AT_3, 1, 2, 1, ENOUGH, None, 11),
@@ -117,107 +124,44 @@ fn untouched_answer<R: Threads + Wait + Sync>(
     Ok((answered, begun(&sinks) == [false; 5]))
 }
 
+// Whether a run answers so, has begun no sink where it is refused, and has started these readers.
+fn is_answered<R: Threads + Wait + Sync>(rt: &R, alloc: Global, run: &Run) -> Result<bool, Fail> {
+    let (zones, plan, files, times, valuers, capacity, starts, refusal, readers) = *run;
+    let watch = Watch::new(alloc, OPEN)?;
+    let feeds = feeds_of(alloc, files, times)?;
+    let budget = budget(valuers, capacity, starts);
+    let (answered, untouched) = untouched_answer(rt, alloc, zones, plan, feeds, budget, &watch)?;
+    let wanted = match refusal {
+        Some(refusal) => Err(refusal),
+        None => Ok(files.len() as u64),
+    };
+    Ok(
+        answered == wanted
+            && untouched == wanted.is_err()
+            && watch.readers.load(Ordering::SeqCst) == readers,
+    )
+}
+
 #[test]
-fn settings_feeds_and_starts(rt: HostRuntime) -> Result<(), Fail> {
-    for (zones, plan, files, times, valuers, capacity, starts, refusal, readers) in RUNS {
-        let watch = Watch::new(rt.alloc(), OPEN)?;
-        let feeds = feeds_of(rt.alloc(), files, times)?;
-        let budget = budget(valuers, capacity, starts);
-        let (answered, untouched) = untouched_answer(
-            &rt,
-            rt.alloc(),
-            zones,
-            plan,
-            feeds,
-            budget,
-            &watch,
-        )?;
-        let wanted = match refusal {
-            Some(refusal) => Err(refusal),
-            None => Ok(files.len() as u64),
-        };
-        assert!(rt; answered == wanted, "{wanted:?}");
-        assert!(rt; untouched == wanted.is_err(), "{wanted:?}");
-        assert!(rt;
-            watch.readers.load(Ordering::SeqCst) == readers,
-            "{wanted:?}"
-        );
+fn settings_and_words(rt: HostRuntime) -> Result<(), Fail> {
+    for (place, run) in SETTINGS.iter().enumerate() {
+        assert!(rt; is_answered(&rt, rt.alloc(), run)?, "{place}");
     }
     Ok(())
 }
 
-// A sink, which of its calls fails, which sinks are begun then, and how many texts are whole. Each text is begun and then put at once, so
-// its third call does not come.
-const SINKS: [(TextName, u64, [bool; 5], usize); 15] = [
-    (TextName::Blocks, 1, [false, false, false, false, false], 0),
-    (TextName::Blocks, 2, [true, false, false, false, false], 0),
-    (TextName::Blocks, 3, [true, true, true, true, true], 5),
-    (TextName::Prec, 1, [true, false, false, false, false], 1),
-    (TextName::Prec, 2, [true, true, false, false, false], 1),
-    (TextName::Prec, 3, [true, true, true, true, true], 5),
-    (TextName::Upit, 1, [true, true, false, false, false], 2),
-    (TextName::Upit, 2, [true, true, true, false, false], 2),
-    (TextName::Upit, 3, [true, true, true, true, true], 5),
-    (TextName::Pcpsp, 1, [true, true, true, false, false], 3),
-    (TextName::Pcpsp, 2, [true, true, true, true, false], 3),
-    (TextName::Pcpsp, 3, [true, true, true, true, true], 5),
-    (TextName::Cpit, 1, [true, true, true, true, false], 4),
-    (TextName::Cpit, 2, [true, true, true, true, true], 4),
-    (TextName::Cpit, 3, [true, true, true, true, true], 5),
-];
-
-// What a run of one valuer on two rows answers.
-fn run_into<R: Threads + Wait + Sync>(
-    rt: &R,
-    alloc: Global,
-    sinks: &mut Sinks<MemSink>,
-) -> Result<Result<u64, Refusal>, Fail> {
-    let watch = Watch::new(alloc, OPEN)?;
-    let feeds = feeds_of(alloc, &[("0,0,0,1,0\n10,0,0,1,0\n", 0)], 1)?;
-    answer(
-        rt,
-        alloc,
-        1,
-        MILL,
-        feeds,
-        budget(1, 1, ENOUGH),
-        &watch,
-        sinks,
-    )
-}
-
-// So many of the texts are those of the other sinks, and the others are empty.
-fn hold_texts(sinks: &Sinks<MemSink>, others: &Sinks<MemSink>, texts: usize) -> bool {
-    for (place, name) in TextName::all().iter().enumerate() {
-        let bytes = sink_of(sinks, *name).bytes();
-        let is_right = if place < texts {
-            bytes == sink_of(others, *name).bytes()
-        } else {
-            bytes.is_empty()
-        };
-        if !is_right {
-            return false;
-        }
+#[test]
+fn refused_starts(rt: HostRuntime) -> Result<(), Fail> {
+    for (place, run) in STARTS.iter().enumerate() {
+        assert!(rt; is_answered(&rt, rt.alloc(), run)?, "{place}");
     }
-    true
+    Ok(())
 }
 
 #[test]
-fn failing_sinks_stop_the_run(rt: HostRuntime) -> Result<(), Fail> {
-    let mut whole = new_sinks(rt.alloc());
-    assert!(rt; run_into(&rt, rt.alloc(), &mut whole)? == Ok(2));
-    for (which, nth, expected, texts) in SINKS {
-        let mut sinks = new_sinks(rt.alloc());
-        *sinks.of_mut(which) = MemSink::failing(rt.alloc(), nth.max(1));
-        let answered = run_into(&rt, rt.alloc(), &mut sinks)?;
-        let answer = if texts == 5 {
-            Ok(2)
-        } else {
-            Err(Refusal::SinkFailed { which })
-        };
-        assert!(rt; answered == answer, "{which} {nth}");
-        assert!(rt; begun(&sinks) == expected, "{which} {nth}");
-        assert!(rt; hold_texts(&sinks, &whole, texts), "{which} {nth}");
+fn failing_devices(rt: HostRuntime) -> Result<(), Fail> {
+    for (place, run) in FEEDS.iter().enumerate() {
+        assert!(rt; is_answered(&rt, rt.alloc(), run)?, "{place}");
     }
     Ok(())
 }

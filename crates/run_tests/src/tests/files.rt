@@ -1,0 +1,135 @@
+//! The commands on files: what `compile` and `check` append, and their statuses.
+
+use crate::tests::models::destinations_of;
+use crate::tests::watch::{OPEN, Watch};
+use pit_check::check::check_files;
+use pit_commands::compile::compile_files;
+use pit_compile::settings::Settings;
+use pit_model::read_plan;
+use std::alloc::Global;
+use std::fs;
+use std::rt::Files;
+use std::sync::Wait;
+use std::test::Fail;
+use std::thread::Threads;
+use zone_csv::feed::FeedFault;
+use zone_csv::file_feed::FileFeed;
+
+const MILL: &[u8] =
+    b"name,one\ngrid,0,0,0,10,10,10\nzone,1,1,1\nmill,mill,900,600,1500\nperiods,1\nrate,0.1\n";
+
+const ORE: &[u8] = b"x,y,z,tonnes,grade\n0,0,0,1000,5000\n";
+
+// A status, and what was appended to the output and to the errors.
+type Answer = (u8, Vec<u8>, Vec<u8>);
+
+// Compiles the plan of a mill and the zone file at a path, to files at this base.
+fn compiled<R: Files + Threads + Wait + Sync>(
+    rt: &R,
+    alloc: Global,
+    zone: &str,
+    base: &str,
+) -> Result<Answer, Fail>
+where
+    R::File: Send,
+{
+    let plan = read_plan(alloc, MILL)?;
+    let watch = Watch::new(alloc, OPEN)?;
+    let destinations = destinations_of(alloc, &plan, &watch)?;
+    let zones = [String::from_str(alloc, zone)?];
+    let (mut out, mut err) = (Vec::new(alloc), Vec::new(alloc));
+    let settings = Settings {
+        valuers: 4,
+        capacity: 64,
+    };
+    let status = compile_files(
+        rt,
+        alloc,
+        &plan,
+        destinations.as_slice(),
+        settings,
+        base,
+        &zones,
+        &mut out,
+        &mut err,
+    );
+    Ok((status, out, err))
+}
+
+fn checked<R: Files>(rt: &R, alloc: Global, base: &str) -> Answer {
+    let (mut out, mut err) = (Vec::new(alloc), Vec::new(alloc));
+    let status = check_files(rt, alloc, base, &mut out, &mut err);
+    (status, out, err)
+}
+
+fn is_answer((status, out, err): &Answer, wanted: (u8, &str, &str)) -> bool {
+    *status == wanted.0
+        && out.as_slice() == wanted.1.as_bytes()
+        && err.as_slice() == wanted.2.as_bytes()
+}
+
+// A folder of an earlier program has no CPIT file.
+#[test]
+fn failing_devices(rt: HostRuntime) -> Result<(), Fail> {
+    let alloc = rt.alloc();
+    fs::write(&rt, "ore.csv", ORE)?;
+    let done = compiled(&rt, alloc, "ore.csv", "ore")?;
+    assert!(rt; is_answer(&done, (0, "rows 1\n", "")));
+    let counts = "blocks 1 arcs 0 coefficients 0 limits 0 cpit 0\n";
+    assert!(rt; is_answer(&checked(&rt, alloc, "ore"), (0, counts, "")));
+    fs::remove_file(&rt, "ore.cpit")?;
+    let counts = "blocks 1 arcs 0 coefficients 0 limits 0\n";
+    assert!(rt; is_answer(&checked(&rt, alloc, "ore"), (0, counts, "")));
+    for path in ["ore.csv", "ore.blocks", "ore.prec", "ore.upit", "ore.pcpsp"] {
+        fs::remove_file(&rt, path)?;
+    }
+    Ok(())
+}
+
+// Whether the file at a path cannot be opened.
+fn is_closed<R: Files>(rt: &R, path: &str) -> bool {
+    match FileFeed::open(rt, path) {
+        Ok(_) => false,
+        Err(fault) => fault == FeedFault,
+    }
+}
+
+#[test]
+fn files_that_are_not_there(rt: HostRuntime) -> Result<(), Fail> {
+    let alloc = rt.alloc();
+    assert!(rt; is_closed(&rt, "not_there.csv"));
+    let refused = compiled(&rt, alloc, "not_there.csv", "not_there")?;
+    assert!(rt; is_answer(&refused, (3, "", "pitc: file 0: FeedFailed\n")));
+    let refused = checked(&rt, alloc, "not_there");
+    assert!(rt; is_answer(&refused, (3, "", "pitc: blocks: FeedFailed\n")));
+    Ok(())
+}
+
+// The texts of nine_above, in whose precedence file one predecessor is counted that is not there.
+const COUNTED: [(&str, &str); 3] = [
+    (
+        "counted.blocks",
+        "0 1 1 0 1 0 0\n1 0 0 1 1 0 0\n2 1 0 1 1 0 0\n3 2 0 1 1 0 0\n4 0 1 1 1 0 0\n5 1 1 1 1 0 0\n6 2 1 1 1 0 0\n7 0 2 1 1 0 0\n8 1 2 1 1 0 0\n9 2 2 1 1 0 0\n",
+    ),
+    (
+        "counted.prec",
+        "0 6 2 4 5 6 8\n1 0\n2 0\n3 0\n4 0\n5 0\n6 0\n7 0\n8 0\n9 0\n",
+    ),
+    (
+        "counted.pcpsp",
+        "NAME: one\nTYPE: PCPSP\nNBLOCKS: 10\nNPERIODS: 1\nNDESTINATIONS: 1\nNRESOURCE_SIDE_CONSTRAINTS: 0\nNGENERAL_SIDE_CONSTRAINTS: 0\nDISCOUNT_RATE: 0.1\nOBJECTIVE_FUNCTION:\n0 -15\n1 -15\n2 -15\n3 -15\n4 -15\n5 -15\n6 -15\n7 -15\n8 -15\n9 -15\nRESOURCE_CONSTRAINT_COEFFICIENTS:\nRESOURCE_CONSTRAINT_LIMITS:\n",
+    ),
+];
+
+#[test]
+fn hand_made_instance(rt: HostRuntime) -> Result<(), Fail> {
+    for (path, text) in &COUNTED {
+        fs::write(&rt, *path, *text)?;
+    }
+    let refused = checked(&rt, rt.alloc(), "counted");
+    assert!(rt; is_answer(&refused, (1, "", "pitc: prec line 1: Count\n")));
+    for (path, _) in &COUNTED {
+        fs::remove_file(&rt, *path)?;
+    }
+    Ok(())
+}

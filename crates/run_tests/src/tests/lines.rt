@@ -1,0 +1,159 @@
+//! The lines of refused plans and runs, with their statuses, and what the pipe form prints.
+
+use crate::tests::models::destinations_of;
+use crate::tests::watch::{OPEN, Watch};
+use minelib_text::text_name::TextName;
+use pit_commands::pipe_form::pipe;
+use pit_commands::refusal_line::refusal_line;
+use pit_compile::refusal::{Refusal, RowAt};
+use pit_compile::settings::SettingsFault;
+use pit_edge::fault_line::plan_from;
+use pit_edge::piece::Piece;
+use pit_model::read_plan;
+use std::alloc::Global;
+use std::sync::Wait;
+use std::test::Fail;
+use std::thread::Threads;
+use zone_csv::row_fault::{Column, RowFault, RowFaultKind};
+
+const MILL: &[u8] =
+    b"name,one\ngrid,0,0,0,10,10,10\nzone,1,1,1\nmill,mill,900,600,1500\nperiods,1\nrate,0.1\n";
+
+const WASTE: &[u8] =
+    b"name,waste\ngrid,0,0,0,10,10,10\nzone,1,1,1\ndump,dump,200\nperiods,1\nrate,0.1\n";
+
+// What stands in a vector before a call.
+const BEFORE: &[u8] = b"before\n";
+
+// The number of rows or the refusal of the pipe form on a plan and a zone file, and then what the vector holds.
+fn piped<R: Threads + Wait + Sync>(
+    rt: &R,
+    alloc: Global,
+    plan: &[u8],
+    zone: &[u8],
+) -> Result<(Result<u64, Refusal>, Vec<u8>), Fail> {
+    let plan = read_plan(alloc, plan)?;
+    let watch = Watch::new(alloc, OPEN)?;
+    let destinations = destinations_of(alloc, &plan, &watch)?;
+    let zones = [Piece::new(zone.to_vec(alloc)?)];
+    let mut out = BEFORE.to_vec(alloc)?;
+    let answered = match pipe(rt, alloc, &zones, &plan, destinations.as_slice(), &mut out) {
+        Ok(gathered) => Ok(gathered.rows()),
+        Err(refusal) => Err(refusal),
+    };
+    Ok((answered, out))
+}
+
+const PRINTED: &[u8] =
+    b"before\n== blocks\n0 0 0 0 1000 5000 0\n== prec\n0 0\n== upit\nNAME: one\nTYPE: UPIT\nNBLOCKS: 1\nOBJECTIVE_FUNCTION:\n0 12000\n== pcpsp\nNAME: one\nTYPE: PCPSP\nNBLOCKS: 1\nNPERIODS: 1\nNDESTINATIONS: 1\nNRESOURCE_SIDE_CONSTRAINTS: 0\nNGENERAL_SIDE_CONSTRAINTS: 0\nDISCOUNT_RATE: 0.1\nOBJECTIVE_FUNCTION:\n0 12000\nRESOURCE_CONSTRAINT_COEFFICIENTS:\nRESOURCE_CONSTRAINT_LIMITS:\n== cpit\nNAME: one\nTYPE: CPIT\nNBLOCKS: 1\nNPERIODS: 1\nNRESOURCE_SIDE_CONSTRAINTS: 0\nDISCOUNT_RATE: 0.1\nOBJECTIVE_FUNCTION:\n0 12000\nRESOURCE_CONSTRAINT_COEFFICIENTS:\nRESOURCE_CONSTRAINT_LIMITS:\n";
+
+#[test]
+fn one_ore_block(rt: HostRuntime) -> Result<(), Fail> {
+    let zone = b"x,y,z,tonnes,grade\n0,0,0,1000,5000\n";
+    let (answered, out) = piped(&rt, rt.alloc(), MILL, zone)?;
+    assert!(rt; answered == Ok(1) && out.as_slice() == PRINTED);
+    Ok(())
+}
+
+// The status of a refusal, and its line behind what stood before.
+fn line_of(alloc: Global, refusal: &Refusal) -> Result<(u8, Vec<u8>), Fail> {
+    let mut lines = BEFORE.to_vec(alloc)?;
+    let status = refusal_line(alloc, refusal, &mut lines)?;
+    Ok((status, lines))
+}
+
+const REPEATED: Refusal = Refusal::Same {
+    first: RowAt { file: 0, row: 2 },
+    again: RowAt { file: 0, row: 4 },
+};
+
+const LATE: Refusal = Refusal::Row {
+    file: 0,
+    fault: RowFault {
+        row: 900,
+        column: Column::Grade,
+        kind: RowFaultKind::Number,
+    },
+};
+
+// Refusals, their statuses, and their lines.
+const LINES: [(Refusal, u8, &[u8]); 8] = [
+    (
+        REPEATED,
+        1,
+        b"before\npitc: file 0 row 4 repeats file 0 row 2\n",
+    ),
+    (
+        LATE,
+        1,
+        b"before\npitc: file 0 row 900 column grade: Number\n",
+    ),
+    (
+        Refusal::TooLong { file: 0 },
+        1,
+        b"before\npitc: file 0: TooLong\n",
+    ),
+    (
+        Refusal::FeedFailed { file: 0 },
+        3,
+        b"before\npitc: file 0: FeedFailed\n",
+    ),
+    (
+        Refusal::SinkFailed {
+            which: TextName::Prec,
+        },
+        3,
+        b"before\npitc: sink prec: SinkFailed\n",
+    ),
+    (
+        Refusal::Settings(SettingsFault::Files),
+        2,
+        b"before\npitc: settings: Files\n",
+    ),
+    (Refusal::NoThread, 4, b"before\npitc: NoThread\n"),
+    (Refusal::OutOfMemory, 4, b"before\npitc: OutOfMemory\n"),
+];
+
+#[test]
+fn lines_of_refusals(rt: HostRuntime) -> Result<(), Fail> {
+    for (refusal, status, line) in &LINES {
+        let (found, lines) = line_of(rt.alloc(), refusal)?;
+        assert_eq!(rt; found, *status);
+        assert!(rt; lines.as_slice() == *line);
+    }
+    Ok(())
+}
+
+// The table of lines has that of the repetition.
+#[test]
+fn two_blocks_out_of_order(rt: HostRuntime) -> Result<(), Fail> {
+    let zone = b"x,y,z,tonnes,grade\n10,0,0,1,0\n0,0,0,2,0\n10,0,0,3,0\n";
+    let (answered, out) = piped(&rt, rt.alloc(), WASTE, zone)?;
+    assert!(rt; answered == Err(REPEATED) && out.as_slice() == BEFORE);
+    Ok(())
+}
+
+// The status of a refused plan, or 0, and its line behind what stood before.
+fn plan_line(alloc: Global, text: &[u8]) -> Result<(u8, Vec<u8>), Fail> {
+    let mut lines = BEFORE.to_vec(alloc)?;
+    let status = match plan_from(alloc, text, &mut lines) {
+        Ok(_) => 0,
+        Err(status) => status,
+    };
+    Ok((status, lines))
+}
+
+const PLANS: [(&[u8], u8, &[u8]); 2] = [
+    (MILL, 0, BEFORE),
+    (b"", 1, b"before\npitc: plan row 1: Missing\n"),
+];
+
+#[test]
+fn lines_of_plans(rt: HostRuntime) -> Result<(), Fail> {
+    for (text, status, line) in &PLANS {
+        let (found, lines) = plan_line(rt.alloc(), text)?;
+        assert_eq!(rt; found, *status);
+        assert!(rt; lines.as_slice() == *line);
+    }
+    Ok(())
+}
