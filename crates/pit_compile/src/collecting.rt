@@ -16,7 +16,7 @@ use collector::laws::{complete_is_not_refused, complete_lacks_nothing, found_is_
 use collector::{AddFault, Collector, FinishFault};
 use lane::Gathered;
 use pit_parts::plan::Plan;
-use rows::{Item, Items, RowLists, Rows};
+use rows::{Item, PackedItems, RowLists, Rows};
 use std::alloc::{AllocError, Global};
 
 // The rows of all zone files with their worths: file after file, and in each file in order of place. `items` is what each valuer hands
@@ -25,7 +25,7 @@ pub(crate) fn collect(
     alloc: Global,
     _gathered: &Gathered,
     plan: &Plan,
-    items: Vec<Items>,
+    items: Vec<PackedItems>,
 ) -> Result<RowLists, AllocError>
     requires whole { IsWhole _gathered.now }
     requires files { length _gathered.now.sent ≡ length plan.now.cones }
@@ -42,26 +42,26 @@ pub(crate) fn collect(
 }
 
 // Adds what all valuers hand on, and frees each list once it is added.
-fn add_lists(collector: &mut Collector, lists: Vec<Items>) -> Result<(), AllocError>
+fn add_lists(collector: &mut Collector, lists: Vec<PackedItems>) -> Result<(), AllocError>
     requires { IsComplete collector.old.files (collector.old.items ++ joined lists.items) }
     ensures { OnOk result (collector.new
         ≡ record collector.old { items = collector.old.items ++ joined lists.items }) }
 {
     for list in lists {
-        add_all(collector, list.as_slice())?;
+        add_all(collector, &list)?;
     }
     Ok(())
 }
 
 // Adds items that, with others after them, make a complete list.
-fn add_all(collector: &mut Collector, items: &[Item]) -> Result<(), AllocError>
+fn add_all(collector: &mut Collector, items: &PackedItems) -> Result<(), AllocError>
     requires { IsFront collector.old.files (collector.old.items ++ items.now) }
     ensures { OnOk result
         (collector.new ≡ record collector.old { items = collector.old.items ++ items.now }) }
 {
     complete_is_not_refused();
-    for item in items {
-        add_one(collector, *item)?;
+    for position in 0..items.len() {
+        add_one(collector, items.at(position))?;
     }
     Ok(())
 }

@@ -8,7 +8,7 @@ use Rattle.rows.specs.declared.head.Head.{Head}
 use Rattle.rows.specs.declared.item.Valued.{Valued}
 use Rattle.rows.specs.inner.Heads.{row_of, IsHeld}
 
-own_kept : (ws more : List ℤ) (from count : ℕ) → from + count ≤ length ws → take count (drop from (ws ++ more)) ≡ take count (drop from ws)
+pub own_kept : (ws more : List ℤ) (from count : ℕ) → from + count ≤ length ws → take count (drop from (ws ++ more)) ≡ take count (drop from ws)
 own_kept ws more from count within =
     ap (take count) (drop-append-le from ws more (omega arith))
     ∙ take-append-le count (drop from ws) more (let left = length-drop from ws in omega arith)
@@ -20,7 +20,7 @@ pub row_kept : (ws more : List ℤ) (h : Head) → IsHeld ws h → row_of (ws ++
 row_kept ws more h held =
     ap (row_with h) (own_kept ws more h.from h.count held.2)
 
-seen_alike : {A B : Type 0} (P : A → Type 0) (f g : A → B) → ((x : A) → P x → f x ≡ g x) → (xs : List A) → All P xs → map f xs ≡ map g xs
+pub seen_alike : {A B : Type 0} (P : A → Type 0) (f g : A → B) → ((x : A) → P x → f x ≡ g x) → (xs : List A) → All P xs → map f xs ≡ map g xs
 seen_alike P f g alike [] all = refl
 seen_alike P f g alike (x ∷ xs) all =
     ap (λ y. y ∷ map f xs) (alike x (all 0 x (omega arith)))

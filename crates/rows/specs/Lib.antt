@@ -1,2 +1,3 @@
+pub mod PackingView
 pub mod Valued
 pub mod inner

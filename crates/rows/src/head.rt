@@ -1,12 +1,12 @@
 //! Rows whose worths stand in one list.
 
-ghost use Rattle.std.specs.Prelude.{◌≡◌, ◌++◌, IfOk, OnOk, OnErr};
+ghost use Rattle.std.specs.Prelude.{◌≡◌, ◌+◌, ◌<◌, ◌++◌, IfOk, OnOk, OnErr, length, vec_len, vec_capacity};
 ghost use Rattle.rows.specs.inner.Heads.{row_of, IsHeld};
 
 use crate::item::Valued;
 use crate::worths::Worths;
 use pit_parts::block::Block;
-use std::alloc::AllocError;
+use std::alloc::{AllocError, Allocator};
 
 /// A row without its worths, which stand in one list with those of many other rows.
 #[derive(Clone, Copy, Debug)]
@@ -21,12 +21,15 @@ pub struct Head {
 }
 
 impl Head {
-    /// The head of a row whose worths are appended to the list. Where memory is refused the list is as it was.
-    pub fn new(worths: &mut Vec<i128>, row: &Valued) -> Result<Head, AllocError>
+    /// The head of a row whose worths are appended to the list. Memory is refused only where the list has no room for
+    /// them, and then it is as it was.
+    pub fn new<A: Allocator>(worths: &mut Vec<i128, A>, row: &Valued) -> Result<Head, AllocError>
         ensures held { IfOk result (IsHeld worths.new.items) }
         ensures row { IfOk result (λ head. row_of worths.new.items head ≡ row.now) }
         ensures appended { OnOk result (worths.new.items ≡ worths.old.items ++ row.now.worths) }
         ensures kept { OnErr result (worths.new.items ≡ worths.old.items) }
+        ensures full { OnErr result
+            (vec_capacity worths.old < vec_len worths.old + length row.now.worths) }
     {
         let from = worths.len();
         let own = row.worths.as_slice();

@@ -1,6 +1,6 @@
 //! Room for long lists.
 
-ghost use Rattle.std.specs.Prelude.{◌≡◌, ◌<◌, ◌≤◌, OnOk, OnErr, vec_len, vec_capacity};
+ghost use Rattle.std.specs.Prelude.{◌≡◌, ◌+◌, ◌<◌, ◌≤◌, OnOk, OnErr, vec_len, vec_capacity};
 
 use std::alloc::{AllocError, Allocator};
 
@@ -25,15 +25,16 @@ pub fn make_room<T>(rows: &mut Vec<T>, worths: &mut Vec<i128>, place: usize)
     }
 }
 
-/// Takes room for one more item; where a long list is full, for many more. Fails only where the list has no room left.
-pub fn make_room_for_item<T, A: Allocator>(list: &mut Vec<T, A>) -> Result<(), AllocError>
+/// Takes room for so many more items; where a long list lacks it, for many more. Fails only where the list has no room
+/// left for them.
+pub fn make_room_for<T, A: Allocator>(list: &mut Vec<T, A>, count: usize) -> Result<(), AllocError>
     ensures items { list.new.items ≡ list.old.items }
-    ensures room { OnOk result (vec_len list.new < vec_capacity list.new) }
-    ensures full { OnErr result (vec_capacity list.new ≤ vec_len list.new) }
+    ensures room { OnOk result (vec_len list.new + count ≤ vec_capacity list.new) }
+    ensures full { OnErr result (vec_capacity list.new < vec_len list.new + count) }
 {
-    let long_and_full = FEW <= list.len() && list.len() == list.capacity();
-    if long_and_full && list.reserve(MANY).is_ok() {
+    let lacks_room = list.capacity() - list.len() < count;
+    if lacks_room && FEW <= list.len() && list.reserve(count.max(MANY)).is_ok() {
         return Ok(());
     }
-    list.reserve(1)
+    list.reserve(count)
 }

@@ -9,7 +9,8 @@ use Rattle.lane.specs.MessageKinds.{is_done}
 use Rattle.pit_parts.specs.PlanFormulas.{formulas_of_plan}
 use Rattle.pit_parts.specs.Plan.{PlanParts}
 use Rattle.valuers.specs.Valuing.{items_by}
-use Rattle.valuers.specs.declared.valuer.ValuerResult.{ValuerResult}
+use Rattle.rows.specs.declared.item.Item.{Item}
+use Rattle.valuers.specs.declared.valuer.ValuerResult.{ValuerResult as ResultBy}
 use Rattle.run_threads.specs.inner.Promises.{KeepsRead, KeepsValued, AreUnsentFrom, IsPartly}
 use Rattle.run_threads.specs.Reading.{AreRead}
 use Rattle.run_threads.specs.declared.file_reading.FileRead.{FileRead}
@@ -94,6 +95,9 @@ module _ {H : Type 0} (left : H → Option (List ℕ)) (sure : H → Bool) (plan
         read_of (k + 1) n hs rs kept.1 (All-rest Same h hs (h ∷ hs) refl plans)
             (ap (drop 1) ends),
       )
+
+abbrev ValuerResult : Type 0
+ValuerResult = ResultBy (List Item)
 
 -- the valuers of one plan
 module _ {H : Type 0} (plan : H → PlanParts) (end : H → TakeEndView) (p : PlanParts) (lane : Lane) (takers : ℕ) where

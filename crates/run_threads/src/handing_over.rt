@@ -19,7 +19,7 @@ use crate::shared::Shared;
 use lane::Gathered;
 use pit_parts::destination::Destination;
 use pit_parts::plan::Plan;
-use rows::Items;
+use rows::PackedItems;
 use std::alloc::{AllocError, Global};
 use std::sync::Wait;
 use std::thread;
@@ -45,7 +45,7 @@ pub struct HandedOver {
     /// What went through the lane.
     pub gathered: Gathered,
     /// What each valuer hands on, in their order.
-    pub items: Vec<Items>,
+    pub items: Vec<PackedItems>,
     /// Whether some valuer was refused memory. It then dropped what it took from there on.
     pub memory: bool,
     /// The answer of each file's reader, in the order of the files.

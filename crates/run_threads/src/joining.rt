@@ -6,7 +6,7 @@ ghost use Rattle.std.specs.List.{AllZip, list_any};
 use crate::file_reading::FileRead;
 use crate::read_fault::ReadFault;
 use lane::{EndedPut, TakeEnd};
-use rows::Items;
+use rows::PackedItems;
 use std::thread::{Promise, PromisedHandle, Threads};
 use valuers::ValuerResult;
 
@@ -50,10 +50,10 @@ pub fn split_reads(
 
 /// The take ends of valuers and what they hand on, and whether memory was refused to one of them.
 pub fn split_values(
-    values: Vec<ValuerResult>,
+    values: Vec<ValuerResult<PackedItems>>,
     mut takers: Vec<TakeEnd>,
-    mut items: Vec<Items>,
-) -> (Vec<TakeEnd>, Vec<Items>, bool)
+    mut items: Vec<PackedItems>,
+) -> (Vec<TakeEnd>, Vec<PackedItems>, bool)
     requires empty { takers.items ≡ [] }
     requires no_items { items.items ≡ [] }
     requires room { vec_len values ≤ vec_capacity takers }

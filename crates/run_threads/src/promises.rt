@@ -5,7 +5,7 @@ use lane::{PutEnd, TakeEnd};
 use pit_parts::plan::Plan;
 use std::snapshot::Snapshot;
 use std::thread::{Promise, PromisedHandle};
-use valuers::ValuerResult;
+use valuers::{PackedItems, ValuerResult};
 use zone_csv::feed::Feed;
 
 /// A reader reads this feed, as a zone file of this plan, into this put end.
@@ -30,7 +30,7 @@ pub struct ValuedBy {
     pub end: Snapshot<TakeEnd>,
 }
 
-impl Promise<ValuerResult> for ValuedBy {
+impl Promise<ValuerResult<PackedItems>> for ValuedBy {
     ghost use Rattle.pit_parts.specs.PlanFormulas.{formulas_of_plan};
     ghost use Rattle.run_threads.specs.inner.Promises.{KeepsValued};
 
@@ -42,4 +42,4 @@ impl Promise<ValuerResult> for ValuedBy {
 pub type ReaderHandle<F> = PromisedHandle<FileRead, ReadBy<F>>;
 
 /// The thread of a valuer.
-pub type ValuerHandle = PromisedHandle<ValuerResult, ValuedBy>;
+pub type ValuerHandle = PromisedHandle<ValuerResult<PackedItems>, ValuedBy>;

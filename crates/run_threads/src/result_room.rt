@@ -6,7 +6,7 @@ ghost use Rattle.run_threads.specs.inner.Ready.{IsRoomFor};
 use crate::file_reading::FileRead;
 use crate::read_fault::ReadFault;
 use lane::{EndedPut, TakeEnd};
-use rows::Items;
+use rows::PackedItems;
 use std::alloc::{AllocError, Global};
 use valuers::ValuerResult;
 
@@ -16,9 +16,9 @@ pub struct ResultRoom {
     pub reads: Vec<FileRead>,
     pub ended: Vec<EndedPut>,
     pub answers: Vec<Result<(), ReadFault>>,
-    pub values: Vec<ValuerResult>,
+    pub values: Vec<ValuerResult<PackedItems>>,
     pub takers: Vec<TakeEnd>,
-    pub items: Vec<Items>,
+    pub items: Vec<PackedItems>,
 }
 
 /// Room for what so many files and valuers give back.

@@ -17,7 +17,7 @@ use lane::{PutEnd, TakeEnd};
 use std::snapshot::Snapshot;
 use std::sync::Wait;
 use std::thread::{Scope, Threads};
-use valuers::{Gate, ValuerResult, value_all};
+use valuers::{Gate, PackedItems, ValuerResult, value_packed};
 use zone_csv::feed::Feed;
 
 /// The threads that were started, in order, and whether a further start was refused.
@@ -139,7 +139,7 @@ fn start_valuer<'s, E, R: Threads + Wait + Sync, G: Gate + Sync>(
     scope
         .spawn_with(
             promise,
-            move || -> ValuerResult
+            move || -> ValuerResult<PackedItems>
                 requires some { 1 ≤ length destinations.now }
                 requires few { length destinations.now ≤ MAX_DESTINATIONS }
                 ensures taker { result.taker
@@ -148,7 +148,7 @@ fn start_valuer<'s, E, R: Threads + Wait + Sync, G: Gate + Sync>(
                 ensures items { let took = drop (length end.took) result.taker.took in
                     IsFalse result.memory
                     → result.items ≡ items_by (formulas_of destinations.entry.now) took }
-            { value_all(rt, alloc, end, valuer, destinations, gate) },
+            { value_packed(rt, alloc, end, valuer, destinations, gate) },
         )
         .ok()
 }

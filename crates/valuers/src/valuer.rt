@@ -1,6 +1,6 @@
 //! A valuer, which takes from the lane until it is done and hands on what it took.
 
-ghost use Rattle.std.specs.Prelude.{◌≡◌, ◌≤◌, ◌++◌, true, [], ◌∷◌, length, take, drop, vec_len, vec_capacity, OnOk, OnErr, IsFalse, IsTrue};
+ghost use Rattle.std.specs.Prelude.{◌≡◌, ◌≤◌, ◌++◌, true, [], ◌∷◌, length, take, drop, OnOk, OnErr, IsFalse, IsTrue};
 ghost use Rattle.lane.specs.MessageKinds.{is_done};
 ghost use Rattle.pit_parts.specs.Destinations.{formulas_of};
 ghost use Rattle.valuers.specs.Valuing.{items_by};
@@ -10,17 +10,17 @@ use crate::gate::Gate;
 use crate::valuing::worths_of;
 use lane::{TakeEnd, Taken};
 use pit_parts::destination::Destination;
-use rows::{Item, Items, Valued, make_room_for_item};
-use std::alloc::{AllocError, Allocator, Global};
+use rows::{Item, Items, Keeps, PackedItems, Packing, Valued};
+use std::alloc::{AllocError, Global};
 use std::sync::Wait;
 
-/// What a valuer gives back.
+/// What a valuer gives back. `K` keeps its items: as they are, or without the room that a row does not use.
 #[derive(Drop)]
-pub struct ValuerResult {
+pub struct ValuerResult<K = Items> {
     /// Its take end, which is done.
     pub taker: TakeEnd,
     /// The rows and end marks that it took, in order. Where memory was refused, only the first of them.
-    pub items: Items,
+    pub items: K,
     /// Whether memory for an item was refused. From there on the valuer took messages and dropped them.
     pub memory: bool,
 }
@@ -62,28 +62,61 @@ pub fn value_all<R: Wait, G: Gate>(
     }
 }
 
-// The same, into a list of no items, whose memory any allocator gives. Memory is refused only where the list has no room left.
-fn take_all<R: Wait, G: Gate, A: Allocator>(
+/// The same, but each row is kept without the room that it does not use.
+pub fn value_packed<R: Wait, G: Gate>(
+    rt: &R,
+    alloc: Global,
+    take_end: TakeEnd,
+    valuer: u8,
+    destinations: &[Destination],
+    gate: &G,
+) -> ValuerResult<PackedItems>
+    requires some { 1 ≤ length destinations.now }
+    requires few { length destinations.now ≤ MAX_DESTINATIONS }
+    ensures taker { result.taker
+        ≡ record take_end {
+          took = take_end.took
+              ++ drop (length take_end.took) result.taker.took;
+        } }
+    ensures done { is_done result.taker.took ≡ true }
+    ensures items { IsFalse result.memory
+        → result.items ≡ items_by (formulas_of destinations.now)
+        (drop (length take_end.took) result.taker.took) }
+    ensures front { result.items
+        ≡ take (length result.items)
+        (items_by (formulas_of destinations.now) (drop (length take_end.took) result.taker.took)) }
+{
+    let items = Packing::new(alloc);
+    let (taker, items, memory) = take_all(rt, take_end, valuer, destinations, gate, items);
+    ValuerResult {
+        taker,
+        items: PackedItems::new(items),
+        memory,
+    }
+}
+
+// The same, into a list of no items. Memory is refused only where the list has no room left for a row.
+fn take_all<R: Wait, G: Gate, K: Keeps>(
     rt: &R,
     mut take_end: TakeEnd,
     valuer: u8,
     destinations: &[Destination],
     gate: &G,
-    mut items: Vec<Item, A>,
-) -> (TakeEnd, Vec<Item, A>, bool)
+    mut items: K,
+) -> (TakeEnd, K, bool)
     requires some { 1 ≤ length destinations.now }
     requires few { length destinations.now ≤ MAX_DESTINATIONS }
-    requires empty { items.items ≡ [] }
+    requires empty { K.held items ≡ [] }
     ensures taker { result.0 ≡ record take_end
         { took = take_end.took ++ drop (length take_end.took) result.0.took } }
     ensures done { is_done result.0.took ≡ true }
     ensures items { IsFalse result.2
-        → result.1.items ≡ items_by (formulas_of destinations.now)
+        → K.held result.1 ≡ items_by (formulas_of destinations.now)
         (drop (length take_end.took) result.0.took) }
-    ensures front { result.1.items
-        ≡ take (length result.1.items)
+    ensures front { K.held result.1
+        ≡ take (length (K.held result.1))
         (items_by (formulas_of destinations.now) (drop (length take_end.took) result.0.took)) }
-    ensures full { IsTrue result.2 → vec_capacity result.1 ≤ vec_len result.1 }
+    ensures full { IsTrue result.2 → K.is_full result.1 (length destinations.now) }
 {
     let mut memory = false;
     for _ in rt.forever() {
@@ -99,21 +132,21 @@ fn take_all<R: Wait, G: Gate, A: Allocator>(
 }
 
 // Appends what a message is handed on as: a Stop or Quit as nothing.
-fn push_item<R: Wait, G: Gate, A: Allocator>(
+fn push_item<R: Wait, G: Gate, K: Keeps>(
     rt: &R,
     message: Taken,
     valuer: u8,
     destinations: &[Destination],
     gate: &G,
-    items: &mut Vec<Item, A>,
+    items: &mut K,
 ) -> Result<(), AllocError>
     requires some { 1 ≤ length destinations.now }
     requires few { length destinations.now ≤ MAX_DESTINATIONS }
     ensures pushed { OnOk result
-        (items.new.items ≡ items.old.items
+        (K.held items.new ≡ K.held items.old
         ++ items_by (formulas_of destinations.now) (message ∷ [])) }
-    ensures kept { OnErr result (items.new.items ≡ items.old.items) }
-    ensures full { OnErr result (vec_capacity items.new ≤ vec_len items.new) }
+    ensures kept { OnErr result (K.held items.new ≡ K.held items.old) }
+    ensures full { OnErr result (K.is_full items.new (length destinations.now)) }
 {
     match message {
         Taken::Row { file, place, block } => {
@@ -125,22 +158,11 @@ fn push_item<R: Wait, G: Gate, A: Allocator>(
                 block,
                 worths,
             };
-            push(items, Item::Row(row))
+            items.keep(Item::Row(row))
         }
-        Taken::End { file, rows } => push(items, Item::End { file, rows }),
+        Taken::End { file, rows } => items.keep(Item::End { file, rows }),
         Taken::Stop | Taken::Quit => Ok(()),
     }
-}
-
-// Appends an item.
-fn push<A: Allocator>(items: &mut Vec<Item, A>, item: Item) -> Result<(), AllocError>
-    ensures pushed { OnOk result (items.new.items ≡ items.old.items ++ item ∷ []) }
-    ensures kept { OnErr result (items.new.items ≡ items.old.items) }
-    ensures full { OnErr result (vec_capacity items.new ≤ vec_len items.new) }
-{
-    make_room_for_item(items)?;
-    items.push(item).unwrap();
-    Ok(())
 }
 
 #[cfg(test)]

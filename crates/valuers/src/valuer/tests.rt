@@ -1,6 +1,6 @@
 //! A valuer on one thread, and one beside a reader.
 
-ghost use Rattle.std.specs.Prelude.{◌≡◌, ◌≤◌, true, [], IfOk, length};
+ghost use Rattle.std.specs.Prelude.{◌≡◌, ◌≤◌, ◌^◌, true, [], IfOk, length};
 ghost use Rattle.lane.specs.MessageKinds.{is_done};
 ghost use Rattle.pit_parts.specs.Worth.{mill};
 
@@ -18,17 +18,20 @@ use std::test::Fail;
 use std::thread;
 use std::thread::Threads;
 
-fn mill(alloc: Global) -> Result<Destination, Fail> {
+fn mill(alloc: Global, cost: u64) -> Result<Destination, Fail>
+    requires { cost ≤ 10 ^ 7 }
+{
     let valuer: Valuer = Box::new(
         alloc,
-        |block: Block| -> i128
-            ensures { result ≡ mill block 900 600 1500 }
-        { mill_worth(block, 900, 600, 1500) },
+        move |block: Block| -> i128
+            requires { cost ≤ 10 ^ 7 }
+            ensures { result ≡ mill block 900 600 cost }
+        { mill_worth(block, 900, 600, cost) },
     )?;
     let formula = Formula::Mill {
         recovery: 900,
         price: 600,
-        cost: 1500,
+        cost,
     };
     Ok(Destination::new(formula, valuer))
 }
@@ -40,7 +43,7 @@ fn ore() -> Result<Block, Fail> {
 #[test]
 fn lane_on_one_thread(rt: HostRuntime) -> Result<(), Fail> {
     let alloc = rt.alloc();
-    let plant = mill(alloc)?;
+    let plant = mill(alloc, 1500)?;
     let block = ore()?;
     let (closer, mut puts, mut takes) = open(alloc, 1, 1, 3)?;
     let mut put = puts.pop().expect(&rt, "a put end");
@@ -60,6 +63,56 @@ fn lane_on_one_thread(rt: HostRuntime) -> Result<(), Fail> {
     });
     let handed_on = [row, Item::End { file: 0, rows: 1 }];
     assert_eq!(rt; result.items.as_slice(), handed_on.as_slice());
+    Ok(())
+}
+
+// The take end of a lane that holds two rows, the end mark and a Quit.
+fn two_rows<R: Wait>(rt: &R, alloc: Global) -> Result<TakeEnd, Fail> {
+    let (closer, puts, takes) = open(alloc, 1, 1, 4)?;
+    let mut put = only_put(&closer, puts).ok_or("a put end")?;
+    let take = only_take(&closer, takes).ok_or("a take end")?;
+    put.row(rt, ore()?);
+    put.row(rt, Block::new(10, 0, 0, 2_700_000, 0, 0).ok_or("a block")?);
+    let _ended = put.end(rt);
+    closer.quit(rt, 1);
+    Ok(take)
+}
+
+// Whether the items of two rows and an end mark are three and the same, packed and as they are.
+fn packs_the_items<R: Wait>(
+    rt: &R,
+    alloc: Global,
+    destinations: &[Destination],
+) -> Result<bool, Fail>
+    requires some { 1 ≤ length destinations.now }
+    requires few { length destinations.now ≤ 8 }
+{
+    let plain = value_all(rt, alloc, two_rows(rt, alloc)?, 0, destinations, &OpenGate);
+    let packed = value_packed(rt, alloc, two_rows(rt, alloc)?, 0, destinations, &OpenGate);
+    let mut same = plain.items.as_slice().len() == 3 && packed.items.len() == 3;
+    for (position, item) in plain.items.as_slice().iter().enumerate() {
+        same = same && position < packed.items.len() && packed.items.at(position) == *item;
+    }
+    Ok(same)
+}
+
+// Rows of 1, 3 and 8 worths.
+#[test]
+fn packed_items_are_the_items(rt: HostRuntime) -> Result<(), Fail> {
+    let alloc = rt.alloc();
+    let mills = [
+        mill(alloc, 0)?,
+        mill(alloc, 1)?,
+        mill(alloc, 2)?,
+        mill(alloc, 3)?,
+        mill(alloc, 4)?,
+        mill(alloc, 5)?,
+        mill(alloc, 6)?,
+        mill(alloc, 7)?,
+    ];
+    assert!(rt; packs_the_items(&rt, alloc, &mills[..1])?);
+    assert!(rt; packs_the_items(&rt, alloc, &mills[..3])?);
+    assert!(rt; packs_the_items(&rt, alloc, &mills)?);
     Ok(())
 }
 
@@ -85,13 +138,14 @@ fn put_six<R: Wait>(
 }
 
 // The number of rows that are gathered, how many items the valuer holds and whether it was refused memory, over a lane of one place whose
-// reader puts six rows while the valuer takes into a list in a heap of so many bytes.
+// reader puts six rows while the valuer takes into a list in a heap of so many bytes, packed or not.
 fn handed_on<R: Threads + Wait + Sync>(
     rt: &R,
     alloc: Global,
     destinations: &[Destination],
     block: Block,
     bytes: usize,
+    packed: bool,
 ) -> Result<(u64, usize, bool), Fail>
     requires some { 1 ≤ length destinations.now }
     requires few { length destinations.now ≤ 8 }
@@ -114,7 +168,7 @@ fn handed_on<R: Threads + Wait + Sync>(
             ensures lane { IfOk result (λ taken. taken.0.lane ≡ take.lane) }
             ensures taker { IfOk result (λ taken. taken.0.taker ≡ take.taker) }
             ensures done { IfOk result (λ taken. is_done taken.0.took ≡ true) }
-        { take_into_heap(rt, alloc, take, destinations, bytes) },
+        { take_into_heap(rt, alloc, take, destinations, bytes, packed) },
     );
     let (take, count, memory) = taken?;
     let gathered = gather_one(rt, alloc, stopped?, take)?;
@@ -128,6 +182,7 @@ fn take_into_heap<R: Wait>(
     take: TakeEnd,
     destinations: &[Destination],
     bytes: usize,
+    packed: bool,
 ) -> Result<(TakeEnd, usize, bool), AllocError>
     requires some { 1 ≤ length destinations.now }
     requires few { length destinations.now ≤ 8 }
@@ -136,17 +191,32 @@ fn take_into_heap<R: Wait>(
     ensures done { IfOk result (λ taken. is_done taken.0.took ≡ true) }
 {
     let heap = LocalHeap::new(alloc, bytes)?;
+    if packed {
+        let items = Packing::new(&heap);
+        let (take, items, memory) = take_all(rt, take, 0, destinations, &OpenGate, items);
+        return Ok((take, items.len(), memory));
+    }
     let (take, items, memory) = take_all(rt, take, 0, destinations, &OpenGate, Vec::new(&heap));
     Ok((take, items.len(), memory))
 }
 
 // Memory is refused for the first item, or for the fifth, or for none: the reader ends, all is gathered, and the items are those before.
+// A packed list is refused memory for items or, with 192 bytes, for worths.
 #[test]
 fn growth_refused(rt: HostRuntime) -> Result<(), Fail> {
     let alloc = rt.alloc();
-    let plant = [mill(alloc)?];
-    for (bytes, count) in [(64usize, 0usize), (1_024, 4), (65_536, 7)] {
-        let handed_on = handed_on(&rt, alloc, &plant, ore()?, bytes)?;
+    let plant = [mill(alloc, 1500)?];
+    let heaps = [
+        (false, 64usize, 0usize),
+        (false, 1_024, 4),
+        (false, 65_536, 7),
+        (true, 64, 0),
+        (true, 192, 0),
+        (true, 400, 4),
+        (true, 65_536, 7),
+    ];
+    for (packed, bytes, count) in heaps {
+        let handed_on = handed_on(&rt, alloc, &plant, ore()?, bytes, packed)?;
         assert_eq!(rt; handed_on, (6, count, count < 7));
     }
     Ok(())

@@ -1,16 +1,14 @@
-use Rattle.std.proofs.Common.{refl}
-use Rattle.std.proofs.lemmas.Option.{slice_get_read}
+use Rattle.std.proofs.Common.{sym, arith}
+use Rattle.std.proofs.lemmas.Option.{get_or_from_slice_get}
 use Rattle.pit_compile.proofs.Adding.{next-sound, added-next}
 use Rattle.pit_compile.proofs.collecting.add_all.Goals as goal
 
 pub add_one-requires : goal.add_one-requires
 add_one-requires c =
-    next-sound c.complete_is_not_refused.ensures c.args.collector.now _ c.args.items.now _ _ c.requires c.loop-item.invariant
-    c.loop-item-test.true c.item-item.is
+    next-sound c.complete_is_not_refused.ensures c.args.collector.now _ c.args.items.now _ _ c.requires c.loop-position.invariant (omega arith)
+    (sym (get_or_from_slice_get c.args.items.now c.loop-position.position c.at.result c.at.result c.at.ensures))
 
-pub loop-item-preserved : goal.loop-item-preserved
-loop-item-preserved c =
-    let items = c.args.items.now in
-    let read = slice_get_read items _ c.loop-item.item-index c.item-item.result refl c.loop-item-test.true c.item-item.is in
-    added-next c.args.collector.now c.loop-item.collector _ items c.loop-item.item-index c.item-item.result c.loop-item.invariant read
+pub loop-position-preserved : goal.loop-position-preserved
+loop-position-preserved c =
+    added-next c.args.collector.now c.loop-position.collector _ c.args.items.now c.loop-position.position c.at.result c.loop-position.invariant c.at.ensures
     c.in_ok-add_one.ensures

@@ -9,17 +9,17 @@ loop-preserved-then-not-memory g c =
     let was = c.loop.invariant in
     let now = c.take-message.ensures.took in
     let all = items_by (formulas_of c.args.destinations.now) (drop (length c.args.take_end.took) c.take-message.new.self.took) in
-    let is : all ≡ c.loop.items.items ++ items_by (formulas_of c.args.destinations.now) (c.take-message.result ∷ []) =
+    let is : all ≡ g.K.Keeps.held c.loop.items ++ items_by (formulas_of c.args.destinations.now) (c.take-message.result ∷ []) =
     rw (now, was.items (search rules))
     (items_more (formulas_of c.args.destinations.now) c.args.take_end.took c.loop.take_end.took c.take-message.result was.took) in
     record {
       lane = rw now was.lane;
       taker = rw now was.taker;
       took = rw now (took_more c.args.take_end.took c.loop.take_end.took c.take-message.result was.took);
-      items = λ fine. all_where_pushed c.loop.items.items c.push_item.new.items.items
+      items = λ fine. all_where_pushed (g.K.Keeps.held c.loop.items) (g.K.Keeps.held c.push_item.new.items)
           (items_by (formulas_of c.args.destinations.now) (c.take-message.result ∷ [])) all is c.push_item.result c.push_item.ensures.pushed
           (rw c.is_err-memory.ensures.value at fine);
-      front = front_where_pushed c.loop.items.items c.push_item.new.items.items
+      front = front_where_pushed (g.K.Keeps.held c.loop.items) (g.K.Keeps.held c.push_item.new.items)
           (items_by (formulas_of c.args.destinations.now) (c.take-message.result ∷ [])) all is
           c.push_item.result c.push_item.ensures.pushed c.push_item.ensures.kept;
       full = search rules;
@@ -35,6 +35,6 @@ loop-preserved g c =
       took = rw now (took_more c.args.take_end.took c.loop.take_end.took c.take-message.result was.took);
       items = search rules;
       front = rw now (front_stays (formulas_of c.args.destinations.now) c.args.take_end.took c.loop.take_end.took
-          c.take-message.result was.took c.loop.items.items was.front);
+          c.take-message.result was.took (g.K.Keeps.held c.loop.items) was.front);
       full = was.full;
     }
