@@ -176,8 +176,29 @@ def many_pieces(count):
     return Trial(f"pieces: {count}", given=piped(plan(zones=count), *zones), part=lines(f"== blocks|{blocks}== prec|"))
 
 
+def many_coefficients(resources):
+    """1,000 blocks, of which each third one has no tonnage. All resources cover the first destination, and the first one covers both."""
+    covers = "resource,r0,a,b|" + "".join(f"resource,r{number},a|" for number in range(1, resources))
+    heavy = [block for block in range(1000) if block % 3]
+    rows = [f"{10 * block},0,0,{block if block % 3 else 0},0" for block in range(1000)]
+    coefficients = "".join("".join(f"{block} 0 {number} {block}|" for number in range(resources)) + f"{block} 1 0 {block}|" for block in heavy)
+    chosen = "".join(f"{block} {number} {block}|" for block in heavy for number in range(resources))
+    worths = "".join(f"{block} 0|" for block in range(1000))
+    return Trial(
+        f"coefficients of 1,000 blocks, {resources + 1} each",
+        given=piped(plan("dump,a,0|dump,b,0|", rest=f"periods,1|rate,0.1|{covers}"), zone(*rows)),
+        part=lines(
+            f"RESOURCE_CONSTRAINT_COEFFICIENTS:|{coefficients}RESOURCE_CONSTRAINT_LIMITS:|"
+            f"== cpit|NAME: one|TYPE: CPIT|NBLOCKS: 1000|NPERIODS: 1|NRESOURCE_SIDE_CONSTRAINTS: {resources}|DISCOUNT_RATE: 0.1|"
+            f"OBJECTIVE_FUNCTION:|{worths}RESOURCE_CONSTRAINT_COEFFICIENTS:|{chosen}RESOURCE_CONSTRAINT_LIMITS:|"
+        ),
+    )
+
+
 def trials():
     yield from repetitions()
+    for resources in (1, 2, 4):
+        yield many_coefficients(resources)
     for count in (4, 5, 8, 9, 16, 32, 63, 64):
         yield many_pieces(count)
     sixty_four = [zone(f"{10 * file},0,0,1,0") for file in range(64)]

@@ -1,21 +1,21 @@
 -- One step further along the blocks, the resources and the rows of values.
-use Rattle.std.proofs.Common.{◌≡◌, ℕ, zero, suc, ◌+◌, ◌*◌, ◌<◌, Bool, true, false, cond, List, [], ◌∷◌, ◌++◌, length, map, take, drop, get_or, Option, Some, refl, sym, ◌∙◌, ap, arith, append_assoc, append-nil, length-append, eq-eqb, ℤ, length-take-le, zero-mul, add-one}
+use Rattle.std.proofs.Common.{◌≡◌, ℕ, zero, suc, ◌+◌, ◌*◌, ◌<◌, ◌≤◌, Bool, true, false, cond, List, [], ◌∷◌, ◌++◌, length, map, take, drop, get_or, Option, Some, refl, sym, ◌∙◌, ap, arith, append_assoc, append-nil, length-append, eq-eqb, ℤ, length-take-le, zero-mul, add-one}
 use Rattle.std.specs.Prelude.{filter, slice_get, slice_index, ◌==◌}
 use Rattle.std.specs.List.{cons_option, flat_map, filter_map, range_with_len, enumerate_from, list_any}
 use Rattle.std.proofs.lemmas.Bool.{eqb-true}
-use Rattle.std.proofs.lemmas.List.{map-append, take_more}
+use Rattle.std.proofs.lemmas.List.{length-map, map-append, take_more}
 use Rattle.std.proofs.Math.Seq.{take-append_seam, drop-append_seam}
 use Rattle.std.proofs.lemmas.List.Concat.{flat_map-append}
 use Rattle.std.proofs.lemmas.List.Elements.{filter-append}
 use Rattle.std.proofs.lemmas.List.Folds.{find_at}
-use Rattle.std.proofs.lemmas.List.FromFn.{fill_by_all}
+use Rattle.std.proofs.lemmas.List.FromFn.{fill_by_all, length-enumerate_from}
 use Rattle.std.proofs.lemmas.List.Sums.{position_or_len_is}
 use Rattle.std.proofs.lemmas.Option.{slice_get-get_or}
 use Rattle.pit_parts.specs.declared.block.Block.{Block}
 use Rattle.pit_parts.specs.declared.resource.Resource.{Resource}
 use Rattle.precedence.specs.Identifier.{id}
 use Rattle.precedence.specs.Numbering.{IsNumbering, NumberingView}
-use Rattle.mine_instance.specs.OfModel.{block_of_id, by_identifier, covers, pair_with, covering, block_coefs, coefs_of}
+use Rattle.mine_instance.specs.OfModel.{block_of_id, by_identifier, covers, pair_with, covering}
 use Rattle.mine_instance.specs.Rows.{rows_of}
 
 next_taken : {X : Type 0} (xs : List X) (i : ℕ) (x : X) → slice_get xs i ≡ Some x → take (suc i) xs ≡ take i xs ++ x ∷ []
@@ -48,18 +48,17 @@ numbered-append n [] ys = ap (λ k. enumerate_from k ys) (omega arith)
 numbered-append n (x ∷ xs) ys =
     ap (λ rest. (n, x) ∷ rest) (numbered-append (n + 1) xs ys ∙ ap (λ k. enumerate_from (n + 1) xs ++ enumerate_from k ys) (omega arith))
 
--- the coefficients of one block more
-pub coefs_next : (pairs : List (ℕ × ℕ)) (blocks : List Block) (i : ℕ) (b : Block) → i < length blocks → b ≡ get_or blocks i b
-    → coefs_of pairs (take (i + 1) blocks) ≡ coefs_of pairs (take i blocks) ++ block_coefs pairs (i, b)
-coefs_next pairs blocks i b h is =
-    ap (coefs_of pairs) (take_more blocks i b h ∙ ap (λ x. take i blocks ++ x ∷ []) (sym is))
-    ∙ ap (flat_map (block_coefs pairs))
-    (numbered-append 0 (take i blocks) (b ∷ []) ∙ ap (λ k. enumerate_from 0 (take i blocks) ++ (k, b) ∷ []) at)
-    ∙ flat_map-append (block_coefs pairs) (enumerate_from 0 (take i blocks)) ((i, b) ∷ [])
-    ∙ ap (λ last. coefs_of pairs (take i blocks) ++ last) (append-nil (block_coefs pairs (i, b)))
+-- one element more, with its number
+pub numbered_next : {X A : Type 0} (f : ℕ × X → List A) (xs : List X) (i : ℕ) (x : X) → i < length xs → x ≡ get_or xs i x
+    → flat_map f (enumerate_from 0 (take (i + 1) xs)) ≡ flat_map f (enumerate_from 0 (take i xs)) ++ f (i, x)
+numbered_next f xs i x h is =
+    ap (λ front. flat_map f (enumerate_from 0 front)) (take_more xs i x h ∙ ap (λ y. take i xs ++ y ∷ []) (sym is))
+    ∙ ap (flat_map f) (numbered-append 0 (take i xs) (x ∷ []) ∙ ap (λ k. enumerate_from 0 (take i xs) ++ (k, x) ∷ []) at)
+    ∙ flat_map-append f (enumerate_from 0 (take i xs)) ((i, x) ∷ [])
+    ∙ ap (λ last. flat_map f (enumerate_from 0 (take i xs)) ++ last) (append-nil (f (i, x)))
   where
-    at : 0 + length (take i blocks) ≡ i
-    at = omega (arith, length-take-le i blocks (omega arith))
+    at : 0 + length (take i xs) ≡ i
+    at = omega (arith, length-take-le i xs (omega arith))
 
 one_pair : (d i : ℕ) (r : Resource) (b : Bool)
     → map (pair_with d) (cond b ((i, r) ∷ []) []) ≡ cond b ((d, i) ∷ []) []
@@ -79,6 +78,30 @@ covering_next resources d i r h is =
   where
     at : 0 + length (take i resources) ≡ i
     at = omega (arith, length-take-le i resources (omega arith))
+
+covering_few : (resources : List Resource) (d : ℕ) → length (covering resources d) ≤ length resources
+covering_few resources d =
+    let numbered = enumerate_from 0 resources in
+    let pass : length (filter (covers d) numbered) ≤ length numbered = filter_few (covers d) numbered in
+    omega (arith, pass, length-map (filter (covers d) numbered) (pair_with d), length-enumerate_from 0 resources)
+  where
+    filter_few : {X : Type 0} (p : X → Bool) (xs : List X) → length (filter p xs) ≤ length xs
+    filter_few p [] = omega arith
+    filter_few p (x ∷ xs) = at (p x) (filter_few p xs)
+      where
+        at : (b : Bool) → length (filter p xs) ≤ length xs → length (cond b (x ∷ filter p xs) (filter p xs)) ≤ suc (length xs)
+        at true few = omega (arith, few)
+        at false few = omega (arith, few)
+
+-- of each destination no more pairs than there are resources
+pub pairs_few : (resources : List Resource) (a n : ℕ) → length resources ≤ 8
+    → length (flat_map (covering resources) (range_with_len a n)) ≤ n * 8
+pairs_few resources a zero few = omega arith
+pairs_few resources a (suc n) few =
+    let first : length (covering resources a) ≤ length resources = covering_few resources a in
+    let rest : length (flat_map (covering resources) (range_with_len (a + 1) n)) ≤ n * 8 = pairs_few resources (a + 1) n few in
+    let both = length-append (covering resources a) (flat_map (covering resources) (range_with_len (a + 1) n)) in
+    omega (arith, first, rest, both)
 
 -- the values of one block more
 pub values_next : (f : Block → List ℤ) (blocks : List Block) (i : ℕ) (b : Block) → slice_get blocks i ≡ Some b

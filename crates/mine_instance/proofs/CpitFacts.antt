@@ -1,11 +1,12 @@
 -- The CPIT of a valid instance keeps what every CPIT keeps.
-use Rattle.std.proofs.Common.{◌≡◌, ℕ, ◌<◌, ◌≤◌, Bool, true, false, cond, List, [], ◌∷◌, length, get_or, map, refl, ◌∙◌, ap, arith, ℤ, pos, All}
+use Rattle.std.proofs.Common.{◌≡◌, ℕ, ◌+◌, ◌<◌, Bool, true, false, cond, List, [], ◌∷◌, ◌++◌, length, take, drop, get_or, map, refl, sym, ◌∙◌, ap, arith, ℤ, pos, All}
 use Rattle.std.specs.Prelude.{filter, AllPairs, IsTrue, ◌==◌, ◌&&◌, ◌||◌, nat_lt}
 use Rattle.std.proofs.lemmas.Bool.{eqb-true}
 use Rattle.std.proofs.lemmas.Bool.Decides.{nat_tests}
-use Rattle.std.proofs.lemmas.List.{get_or-map, length-map}
-use Rattle.std.proofs.lemmas.List.Elements.{All-weaker, All-map, All-filter, All-nil, All-cons, All-head, All-tail}
+use Rattle.std.proofs.lemmas.List.{get_or-map, length-map, map-append}
+use Rattle.std.proofs.lemmas.List.Elements.{All-weaker, All-map, All-filter, All-nil, All-cons, All-head, All-tail, filter-append}
 use Rattle.std.proofs.lemmas.List.Kept.{AllPairs-filter}
+use Rattle.std.proofs.Math.Seq.{take-add}
 use Rattle.pit_parts.specs.declared.limit.Limit.{Limit}
 use Rattle.mine_instance.specs.CpitKept.{IsCpit, cpit_of}
 use Rattle.mine_instance.specs.CpitOrder.{is_listed_before}
@@ -17,11 +18,7 @@ use Rattle.mine_instance.specs.Valid.{IsValid}
 use Rattle.mine_instance.specs.declared.coef.Coef.{Coef}
 use Rattle.mine_instance.specs.declared.cpit.CpitCoef.{CpitCoef}
 use Rattle.mine_instance.specs.Instance.{Instance}
-
--- each block has a value
-pub some_values : (i : Instance) → IsValid i → All (λ of_block. 0 < length of_block) i.values
-some_values i v = All-weaker (λ of_block. length of_block ≡ i.destinations) (λ of_block. 0 < length of_block)
-    (λ of_block e. let one : 1 ≤ i.destinations = v.destinations.from_1_to_8.0 in omega arith) i.values v.destinations.one_each
+use Rattle.mine_instance.proofs.FoundFacts.{take_length}
 
 -- of two coefficients at their blocks' destinations, the order is that of blocks and resources
 listed : (values : List (List ℤ)) (c e : Coef) → is_chosen values c ≡ true → is_chosen values e ≡ true → IsTrue (coef_comes_before c e)
@@ -101,3 +98,14 @@ pub coefs_are_chosen : (i : Instance) (destinations : List ℕ) (coefs : List Cp
     → coefs ≡ map without_destination (filter (is_chosen i.values) i.coefs)
 coefs_are_chosen i destinations coefs v is of_coefs =
     of_coefs ∙ ap (map without_destination) (same_destinations i.values destinations i.coefs is (coefs_there i v))
+
+-- the chosen ones of a piece more
+pub chosen_more : (p : Coef → Bool) (coefs : List Coef) (from most n : ℕ) → n ≡ length (take most (drop from coefs))
+    → map without_destination (filter p (take from coefs)) ++ map without_destination (filter p (take most (drop from coefs)))
+    ≡ map without_destination (filter p (take (from + n) coefs))
+chosen_more p coefs from most n count =
+    let piece = take most (drop from coefs) in
+    let same : take n (drop from coefs) ≡ piece = ap (λ k. take k (drop from coefs)) count ∙ take_length (drop from coefs) most in
+    sym (ap (λ cs. map without_destination (filter p cs)) (take-add from n coefs ∙ ap (λ more. take from coefs ++ more) same)
+    ∙ ap (map without_destination) (filter-append p (take from coefs) piece)
+    ∙ map-append without_destination (filter p (take from coefs)) (filter p piece))

@@ -4,4 +4,5 @@ pub mod GreatestFacts
 pub mod ValidFacts
 pub mod CpitFacts
 pub mod BuildFacts
+pub mod FoundFacts
 pub mod ModelFacts

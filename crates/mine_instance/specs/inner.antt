@@ -1,1 +1,3 @@
+pub mod CoefFields
 pub mod CpitFields
+pub mod FoundCoefFields

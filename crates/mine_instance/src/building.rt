@@ -1,6 +1,6 @@
 //! From a model's valued blocks to its instance.
 
-ghost use Rattle.std.specs.Prelude.{◌≡◌, ◌<◌, ◌≤◌, ◌==◌, ◌++◌, ◌∷◌, [], List, length, map, slice_get, Some, All, Contains, IfOk, OnOk, if◌then◌else◌};
+ghost use Rattle.std.specs.Prelude.{◌≡◌, ◌*◌, ◌<◌, ◌≤◌, ◌==◌, ◌++◌, ◌∷◌, [], List, length, map, slice_get, Some, All, Contains, IfOk, OnOk, if◌then◌else◌};
 ghost use Rattle.std.specs.List.{list_any};
 ghost use Rattle.pit_parts.specs.PlanFormulas.{formulas_of_plan};
 ghost use Rattle.pit_parts.specs.declared.block.Block.{Block};
@@ -9,13 +9,14 @@ ghost use Rattle.precedence.specs.Cone.{preds as cone_lists};
 ghost use Rattle.precedence.specs.Identifier.{blocks_of_rows};
 ghost use Rattle.precedence.specs.Numbering.{IsNumbering, NumberingView};
 ghost use Rattle.rows.specs.Valued.{worths_by};
-ghost use Rattle.mine_instance.specs.OfModel.{instance, values_of, in_hundreds, covering, covered, coefs_of, block_coefs};
+ghost use Rattle.mine_instance.specs.OfModel.{instance, values_of, in_hundreds, covering, covered};
 ghost use Rattle.mine_instance.specs.Seen.{seen};
 ghost use Rattle.mine_instance.specs.Valid.{IsValid};
-ghost use Rattle.pit_parts.specs.declared.ranges.TheConstants.{MAX_BLOCKS, MAX_RESOURCES};
+ghost use Rattle.pit_parts.specs.declared.ranges.TheConstants.{MAX_BLOCKS, MAX_DESTINATIONS, MAX_RESOURCES};
 
 use crate::blocks::Blocks;
-use crate::coef::{Coef, Coefs};
+use crate::coef::Coefs;
+use crate::found_coefs::Covering;
 use crate::instance::Instance;
 use crate::limits::Limits;
 use crate::values::Values;
@@ -27,9 +28,6 @@ use pit_units::Dec;
 use precedence::{Numbering, PredLists, Preds};
 use rows::{RowLists, Valued};
 use std::alloc::{AllocError, Global};
-
-// A destination and a resource that covers it, by their numbers.
-type Covering = (u8, u8);
 
 /// The instance of a model, given its rows, their numbering and their predecessors. Fails only where memory is refused.
 pub fn build(
@@ -70,7 +68,7 @@ pub fn build_with<P: PredLists + Drop>(
 {
     let name = plan.name().copy(alloc)?;
     let pairs = covered_pairs(alloc, plan)?;
-    let coefs = coefs_by_id(alloc, pairs.as_slice(), blocks.as_slice())?;
+    let coefs = Coefs::of_blocks(alloc, pairs, blocks.as_slice())?;
     let limits = Vec::from_slice(alloc, plan.limits())?;
     Ok(Instance {
         name,
@@ -81,7 +79,7 @@ pub fn build_with<P: PredLists + Drop>(
         blocks: Blocks::new(blocks),
         preds,
         values,
-        coefs: Coefs::new(coefs),
+        coefs,
         limits: Limits::new(limits),
     })
 }
@@ -146,7 +144,9 @@ fn in_hundreds(cents: i128) -> Dec
 
 #[tactic(auto, using(crate::proofs::BuildFacts::pairs_next))]
 fn covered_pairs(alloc: Global, plan: &Plan) -> Result<Vec<Covering>, AllocError>
-    ensures { IfOk result (λ pairs. pairs.items ≡ covered plan.now) }
+    ensures pairs { IfOk result (λ pairs. pairs.items ≡ covered plan.now) }
+    ensures few { IfOk result
+        (λ pairs. length pairs.items ≤ MAX_DESTINATIONS * MAX_RESOURCES) }
 {
     let mut pairs = Vec::new(alloc);
     for destination in 0..plan.formulas().len() {
@@ -182,42 +182,6 @@ fn put_if_covers(
 {
     if resource.covers.as_slice().contains(&destination) {
         pairs.push((destination, number))?;
-    }
-    Ok(())
-}
-
-fn coefs_by_id(alloc: Global, pairs: &[Covering], blocks: &[Block]) -> Result<Vec<Coef>, AllocError>
-    requires { length blocks.now ≤ MAX_BLOCKS }
-    ensures { IfOk result (λ coefs. coefs.items ≡ coefs_of pairs.now blocks.now) }
-{
-    let heavy = blocks.iter().filter(|block| block.kg != 0).count();
-    let mut coefs = Vec::with_capacity(alloc, heavy.saturating_mul(pairs.len()))?;
-    for (id, block) in blocks.iter().enumerate() {
-        put_coefs(&mut coefs, pairs, id as u32, block)?;
-    }
-    Ok(coefs)
-}
-
-fn put_coefs(
-    coefs: &mut Vec<Coef>,
-    pairs: &[Covering],
-    id: u32,
-    block: &Block,
-) -> Result<(), AllocError>
-    ensures { OnOk result (coefs.new.items
-        ≡ coefs.old.items ++ block_coefs pairs.now (id, block.now)) }
-{
-    if block.kg == 0 {
-        return Ok(());
-    }
-    let tonnes = Dec::new(i128::from(block.kg) * 1000).unwrap();
-    for (destination, resource) in pairs {
-        coefs.push(Coef {
-            b: id,
-            d: *destination,
-            r: *resource,
-            v: tonnes,
-        })?;
     }
     Ok(())
 }

@@ -1,13 +1,14 @@
 //! From an instance to its CPIT.
 
-ghost use Rattle.std.specs.Prelude.{◌≡◌, ◌<◌, ℤ, List, length, map, filter, All, IfOk};
+ghost use Rattle.std.specs.Prelude.{◌≡◌, ◌<◌, ◌≤◌, ◌++◌, length, map, filter, All, IfOk, OnOk};
 ghost use Rattle.mine_instance.specs.Greatest.{first_greatest, greatest};
 ghost use Rattle.mine_instance.specs.OfCpit.{cpit, without_destination};
 ghost use Rattle.mine_instance.specs.inner.CpitFields.{is_at};
 ghost use Rattle.mine_instance.specs.Seen.{seen};
 ghost use Rattle.mine_instance.specs.Valid.{IsValid};
+ghost use Rattle.pit_parts.specs.declared.ranges.TheConstants.{MAX_DESTINATIONS};
 
-use crate::coef::Coef;
+use crate::coef::{Coef, Coefs};
 use crate::cpit::{Cpit, CpitCoef};
 use crate::greatest::first_greatest;
 use crate::instance::Instance;
@@ -15,6 +16,9 @@ use crate::values::Values;
 use pit_units::Dec;
 use precedence::PredLists;
 use std::alloc::{AllocError, Global};
+
+// How many coefficients are looked through at once.
+const PIECE: usize = 512;
 
 /// The CPIT of a valid instance: each block goes to the first destination where it is worth most, and has the value and the
 /// coefficients of that destination. Fails only where memory is refused.
@@ -30,12 +34,7 @@ pub fn build_cpit<P: PredLists>(alloc: Global, instance: &Instance<P>) -> Result
     let most = destinations
         .len()
         .saturating_mul(usize::from(instance.resources));
-    let coefs = coefs_at(
-        alloc,
-        instance.coefs.as_slice(),
-        destinations.as_slice(),
-        most,
-    )?;
+    let coefs = coefs_at(alloc, &instance.coefs, destinations.as_slice(), most)?;
     let limits = Vec::from_slice(alloc, instance.limits.as_slice())?;
     Ok(Cpit::new(
         name,
@@ -51,12 +50,13 @@ pub fn build_cpit<P: PredLists>(alloc: Global, instance: &Instance<P>) -> Result
 // Where each block is worth most, and what it is worth there.
 #[derive(Drop)]
 struct Chosen {
-    destinations: Vec<usize>,
+    destinations: Vec<u8>,
     values: Vec<Dec>,
 }
 
 fn chosen_of(alloc: Global, values: &Values) -> Result<Chosen, AllocError>
-    requires { All (λ of_block. 0 < length of_block) values.now }
+    requires some { All (λ of_block. 0 < length of_block) values.now }
+    requires few { All (λ of_block. length of_block ≤ MAX_DESTINATIONS) values.now }
     ensures destinations { IfOk result
         (λ chosen. chosen.destinations.items ≡ map first_greatest values.now) }
     ensures values { IfOk result (λ chosen. chosen.values.items ≡ map greatest values.now) }
@@ -66,7 +66,7 @@ fn chosen_of(alloc: Global, values: &Values) -> Result<Chosen, AllocError>
     for block in 0..values.len() {
         let of_block = values.of(block);
         let destination = first_greatest(of_block);
-        destinations.push(destination)?;
+        destinations.push(destination as u8)?;
         all.push(of_block[destination])?;
     }
     Ok(Chosen {
@@ -78,8 +78,8 @@ fn chosen_of(alloc: Global, values: &Values) -> Result<Chosen, AllocError>
 // The coefficients at their blocks' destinations, which are mostly not more than `most`.
 fn coefs_at(
     alloc: Global,
-    coefs: &[Coef],
-    destinations: &[usize],
+    coefs: &Coefs,
+    destinations: &[u8],
     most: usize,
 ) -> Result<Vec<CpitCoef>, AllocError>
     requires { All (λ coef. coef.b < length destinations.now) coefs.now }
@@ -87,18 +87,38 @@ fn coefs_at(
         ≡ map without_destination (filter (is_at destinations.now) coefs.now)) }
 {
     let mut chosen = Vec::with_capacity(alloc, most.min(coefs.len()))?;
+    let mut piece = Vec::with_capacity(alloc, PIECE)?;
+    let mut from = 0;
+    while from < coefs.len() {
+        piece.clear();
+        coefs.put_some(from, PIECE, &mut piece)?;
+        put_chosen(&mut chosen, piece.as_slice(), destinations)?;
+        from += piece.len();
+    }
+    Ok(chosen)
+}
+
+fn put_chosen(
+    chosen: &mut Vec<CpitCoef>,
+    coefs: &[Coef],
+    destinations: &[u8],
+) -> Result<(), AllocError>
+    requires { All (λ coef. coef.b < length destinations.now) coefs.now }
+    ensures { OnOk result (chosen.new.items
+        ≡ chosen.old.items ++ map without_destination (filter (is_at destinations.now) coefs.now)) }
+{
     for coef in coefs {
         if is_at(destinations, coef) {
             let (b, r, v) = (coef.b, coef.r, coef.v);
             chosen.push(CpitCoef { b, r, v })?;
         }
     }
-    Ok(chosen)
+    Ok(())
 }
 
-fn is_at(destinations: &[usize], coef: &Coef) -> bool
+fn is_at(destinations: &[u8], coef: &Coef) -> bool
     requires { coef.now.b < length destinations.now }
     ensures { result ≡ is_at destinations.now coef.now }
 {
-    usize::from(coef.d) == destinations[coef.b as usize]
+    coef.d == destinations[coef.b as usize]
 }

@@ -44,7 +44,7 @@ impl<P> Instance<P> {
     pub fn coefs_len(&self) -> usize
         ensures { result ≡ length self.now.coefs }
     {
-        self.coefs.as_slice().len()
+        self.coefs.len()
     }
 
     /// The number of limits.

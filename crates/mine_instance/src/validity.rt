@@ -2,10 +2,11 @@
 
 ghost use Rattle.std.specs.Prelude.{◌≡◌, ◌≢◌, ℕ, ◌<◌, ◌≤◌, ◌↔◌, List, length, All, AllPairs, IsTrue};
 ghost use Rattle.mine_instance.specs.CpitKept.{AreCpitCoefs, IsCpit, cpit_of};
+ghost use Rattle.mine_instance.specs.Order.{coef_comes_before};
 ghost use Rattle.mine_instance.specs.Valid.{HasLengths, ArePredsOf, ArePreds, IsHorizon, HasDestinations, AreCoefs, AreLimits, IsValid};
 ghost use Rattle.pit_parts.specs.declared.ranges.TheConstants.{MAX_BLOCKS};
 
-use crate::coef::Coef;
+use crate::coef::{Coef, Coefs};
 use crate::cpit::CpitCoef;
 use crate::instance::Instance;
 use crate::rising::rises;
@@ -33,7 +34,7 @@ pub fn is_valid(instance: &Instance) -> bool
         return false;
     }
     if !are_coefs(
-        instance.coefs.as_slice(),
+        &instance.coefs,
         count,
         instance.destinations,
         instance.resources,
@@ -137,13 +138,41 @@ fn has_destinations(destinations: u8, values: &Values) -> bool
         && values.are_of_width(usize::from(destinations))
 }
 
-fn are_coefs(coefs: &[Coef], count: usize, destinations: u8, resources: u8) -> bool
+fn are_coefs(coefs: &Coefs, count: usize, destinations: u8, resources: u8) -> bool
     ensures { IsTrue result ↔ AreCoefs count destinations resources coefs.now }
 {
-    coefs.iter().all(|coef| (coef.b as usize) < count
-        && coef.d < destinations
-        && coef.r < resources)
-        && rises(coefs)
+    are_there(coefs, count, destinations, resources) && coefs_rise(coefs)
+}
+
+// Whether the coefficients are of blocks, destinations and resources that are there.
+fn are_there(coefs: &Coefs, count: usize, destinations: u8, resources: u8) -> bool
+    ensures { IsTrue result
+        ↔ All (λ c. (c.b < count) × (c.d < destinations) × (c.r < resources)) coefs.now }
+{
+    for index in 0..coefs.len() {
+        if !is_there(coefs.at(index), count, destinations, resources) {
+            return false;
+        }
+    }
+    true
+}
+
+fn is_there(coef: Coef, count: usize, destinations: u8, resources: u8) -> bool
+    ensures { IsTrue result
+        ↔ ((coef.b < count) × (coef.d < destinations) × (coef.r < resources)) }
+{
+    (coef.b as usize) < count && coef.d < destinations && coef.r < resources
+}
+
+fn coefs_rise(coefs: &Coefs) -> bool
+    ensures { IsTrue result ↔ AllPairs (λ c e. IsTrue (coef_comes_before c e)) coefs.now }
+{
+    for index in 1..coefs.len() {
+        if !coefs.at(index - 1).comes_before(&coefs.at(index)) {
+            return false;
+        }
+    }
+    true
 }
 
 fn are_cpit_coefs(coefs: &[CpitCoef], count: usize, resources: u8) -> bool

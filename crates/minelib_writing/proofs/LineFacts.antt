@@ -1,6 +1,7 @@
 -- The lines of a list, one an item.
 use Rattle.std.proofs.Common.{◌≡◌, ℕ, suc, zero, ◌+◌, ◌<◌, List, [], ◌∷◌, ◌++◌, length, map, take, drop, append-nil, get_or, refl, ◌∙◌, ap, sym, arith}
-use Rattle.std.proofs.Math.Seq.{drop-cons}
+use Rattle.std.proofs.lemmas.List.{take-append-drop}
+use Rattle.std.proofs.Math.Seq.{drop-cons, take-append_seam}
 use Rattle.std.specs.List.{drop-map, flat_map, take-map}
 use Rattle.minelib_lines.specs.Lines.{line_of, lines_from, text_of}
 
@@ -46,3 +47,7 @@ pub some_texts : {A : Type 0} (fields : A → List (List ℕ)) (text : A → Lis
     → (i n : ℕ) (xs : List A) → text_of (take n (drop i (lines_from (λ k. fields) 0 xs))) ≡ flat_map text (take n (drop i xs))
 some_texts fields text each i n xs =
     rw (numberless fields 0 xs, drop-map, take-map) (texts_of fields text each (take n (drop i xs)))
+
+-- as many items as there are of so many at most
+pub take_length : {A : Type 0} (xs : List A) (most : ℕ) → take (length (take most xs)) xs ≡ take most xs
+take_length xs most = ap (take (length (take most xs))) (sym (take-append-drop most xs)) ∙ take-append_seam (take most xs) (drop most xs)

@@ -13,7 +13,7 @@ use crate::fields::{put_decimal_to, put_whole_to};
 use crate::lines::item;
 use crate::sections::Section;
 use itoa::write_digits;
-use mine_instance::coef::Coef;
+use mine_instance::coef::{Coef, Coefs};
 use mine_instance::cpit::CpitCoef;
 use std::alloc::{AllocError, Global};
 
@@ -117,6 +117,38 @@ impl CoefLine for CpitCoef {
     ghost parts = { cpit_coef_parts };
 }
 
+/// A line for each coefficient of an instance. They are found piece by piece, as their lines are appended.
+#[derive(Drop)]
+pub struct FoundCoefLines<'a> {
+    pub coefs: &'a Coefs,
+}
+
+impl<'a> Section for FoundCoefLines<'a> {
+    ghost lines = { λ s. lines_from (coef_fields Pcpsp) 0 s.coefs.now };
+
+    ghost kept = { λ s n. HoldsAt (λ c. IsInDecimalRange c.v) s.coefs.now n };
+
+    fn len(&self) -> usize {
+        self.coefs.len()
+    }
+
+    fn append(&self, alloc: Global, index: usize, out: &mut Vec<u8>) -> Result<(), AllocError> {
+        put_coef(alloc, out, &self.coefs.at(index))
+    }
+
+    fn append_some(
+        &self,
+        alloc: Global,
+        index: usize,
+        out: &mut Vec<u8>,
+    ) -> Result<usize, AllocError> {
+        let mut piece = Vec::with_capacity(alloc, MOST)?;
+        self.coefs.put_some(index, MOST, &mut piece)?;
+        put_coefs(alloc, out, piece.as_slice())?;
+        Ok(piece.len())
+    }
+}
+
 /// A line for each coefficient.
 #[derive(Drop)]
 pub struct CoefLines<'a, C> {
@@ -133,9 +165,7 @@ impl<'a, C: CoefLine> Section for CoefLines<'a, C> {
     }
 
     fn append(&self, alloc: Global, index: usize, out: &mut Vec<u8>) -> Result<(), AllocError> {
-        let coef = item(self.coefs, index);
-        put_whole_to(out, u64::from(coef.block()), b' ')?;
-        coef.put_rest(alloc, out)
+        put_coef(alloc, out, item(self.coefs, index))
     }
 
     fn append_some(
@@ -148,6 +178,16 @@ impl<'a, C: CoefLine> Section for CoefLines<'a, C> {
         put_coefs(alloc, out, coefs)?;
         Ok(coefs.len())
     }
+}
+
+// Appends the line of one coefficient.
+fn put_coef<C: CoefLine>(alloc: Global, out: &mut Vec<u8>, coef: &C) -> Result<(), AllocError>
+    ensures text { OnOk result (out.new.items
+        ≡ out.old.items ++ (decimal (C.block coef.now) ++ 32 ∷ C.rest coef.now)) }
+    ensures kept { OnOk result (C.kept coef.now) }
+{
+    put_whole_to(out, u64::from(coef.block()), b' ')?;
+    coef.put_rest(alloc, out)
 }
 
 // One or more of the coefficients from a place on.

@@ -2,6 +2,7 @@ use pit_parts::block::Block;
 use pit_units::Dec;
 use rows::{Valued, Worths};
 
+mod coefs;
 mod collecting;
 mod cones;
 mod decimals;

@@ -7,7 +7,7 @@ ghost use Rattle.precedence.specs.Cone.{HasZones};
 ghost use Rattle.rows.specs.Valued.{worths_by};
 
 use super::are_millionths;
-use mine_instance::coef::Coef;
+use mine_instance::coef::Coefs;
 use mine_instance::cpit::{Cpit, CpitCoef};
 use mine_instance::instance::Instance;
 use mine_instance::{build, build_cpit, is_valid};
@@ -98,11 +98,12 @@ fn has_values(instance: &Instance, id: usize, millionths: &[i128]) -> bool {
     id < instance.values.len() && are_millionths(instance.values.of(id), millionths)
 }
 
-fn is_coef(coefs: &[Coef], b: u32, d: u8, r: u8, millionths: i128) -> bool {
-    match coefs {
-        [coef] => (coef.b, coef.d, coef.r, coef.v.millionths()) == (b, d, r, millionths),
-        _ => false,
+fn is_coef(coefs: &Coefs, b: u32, d: u8, r: u8, millionths: i128) -> bool {
+    if coefs.len() != 1 {
+        return false;
     }
+    let coef = coefs.at(0);
+    (coef.b, coef.d, coef.r, coef.v.millionths()) == (b, d, r, millionths)
 }
 
 #[test]
@@ -112,7 +113,7 @@ fn limits_and_coefficients(rt: HostRuntime) -> Result<(), Fail> {
     assert_eq!(rt; counts(&instance), (2, 0, 1, 2));
     assert!(rt; has_values(&instance, 0, &[12_000_000_000, -2_000_000_000]));
     assert!(rt; has_values(&instance, 1, &[0, 0]));
-    assert!(rt; is_coef(instance.coefs.as_slice(), 0, 0, 0, 1_000_000_000));
+    assert!(rt; is_coef(&instance.coefs, 0, 0, 0, 1_000_000_000));
     Ok(())
 }
 

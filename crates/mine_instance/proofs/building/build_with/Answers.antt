@@ -10,22 +10,22 @@ pub returns-clause-value : goal.returns-clause-value
 returns-clause-value g c = λ listed n numbered same.
     let plan = c.args.plan.now in
     let blocks = c.args.blocks.items in
-    let coefs : c.new-2.result ≡ coefs_of (covered plan) blocks =
-    c.new-2.ensures ∙ (rw (c.as_slice.ensures.value, c.in_ok-pairs.ensures, c.as_slice-2.ensures.value) at c.in_ok-coefs.ensures) in
+    let coefs : c.in_ok-coefs.coefs ≡ coefs_of (covered plan) blocks =
+    c.in_ok-coefs.ensures ∙ (λ j. coefs_of (c.in_ok-pairs.ensures.pairs j) (c.as_slice.ensures.value j)) in
     built_is plan blocks _ _ _ _ _ _ _ _ _ _ (c.in_ok-name.ensures ∙ c.name.ensures.value) c.rate.ensures.value c.periods.ensures.value
     (ap length c.formulas.ensures.value) (ap length c.resources.ensures.value) c.new.ensures c.requires.preds
-    c.requires.values coefs (c.new-3.ensures ∙ c.in_ok-limits.ensures.items ∙ c.limits.ensures.value)
+    c.requires.values coefs (c.new-2.ensures ∙ c.in_ok-limits.ensures.items ∙ c.limits.ensures.value)
     ∙ ap (instance_of plan) (sym (by_identifier_is listed n numbered ∙ same))
 
 pub returns-clause-valid : goal.returns-clause-valid
 returns-clause-valid g c =
     let plan = c.args.plan.now in
     let blocks = c.args.blocks.items in
-    let coefs : c.new-2.result ≡ coefs_of (covered plan) blocks =
-    c.new-2.ensures ∙ (rw (c.as_slice.ensures.value, c.in_ok-pairs.ensures, c.as_slice-2.ensures.value) at c.in_ok-coefs.ensures) in
+    let coefs : c.in_ok-coefs.coefs ≡ coefs_of (covered plan) blocks =
+    c.in_ok-coefs.ensures ∙ (λ j. coefs_of (c.in_ok-pairs.ensures.pairs j) (c.as_slice.ensures.value j)) in
     let P : Instance → Type 0 = λ i. IsValid i in
     subst P (sym (built_is plan blocks _ _ _ _ _ _ _ _ _ _
     (c.in_ok-name.ensures ∙ c.name.ensures.value) c.rate.ensures.value c.periods.ensures.value
     (ap length c.formulas.ensures.value) (ap length c.resources.ensures.value) c.new.ensures c.requires.preds
-    c.requires.values coefs (c.new-3.ensures ∙ c.in_ok-limits.ensures.items ∙ c.limits.ensures.value)))
+    c.requires.values coefs (c.new-2.ensures ∙ c.in_ok-limits.ensures.items ∙ c.limits.ensures.value)))
     (instance_is_valid plan blocks c.rate.ensures.kept c.requires.few)

@@ -1,8 +1,15 @@
-use Rattle.std.proofs.Common.{◌≡◌, map, take}
+use Rattle.std.proofs.Common.{◌≡◌, ◌-◌, ◌≤◌, length, map, take}
 use Rattle.std.specs.Prelude.{filter}
 use Rattle.mine_instance.specs.OfCpit.{without_destination}
 use Rattle.mine_instance.specs.inner.CpitFields.{is_at}
 use Rattle.mine_instance.proofs.cpit_building.coefs_at.Given as goal
 
-abbrev pub invariant-loop-coef : goal.invariant-loop-coef
-invariant-loop-coef l = l.chosen.items ≡ map without_destination (filter (is_at l.destinations) (take l.coef-index l.coefs))
+-- Those so far that are at their blocks' destinations are chosen.
+abbrev pub invariant-loop-from : goal.invariant-loop-from
+invariant-loop-from l = record {
+  within : l.from ≤ length l.coefs;
+  chosen : l.chosen.items ≡ map without_destination (filter (is_at l.destinations) (take l.from l.coefs));
+}
+
+abbrev pub decreases-loop-from : goal.decreases-loop-from
+decreases-loop-from l = length l.coefs - l.from

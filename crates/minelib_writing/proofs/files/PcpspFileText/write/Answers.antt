@@ -22,9 +22,9 @@ returns g c =
     let both = lines_then keys more first (buffered (text_of more) c.in_ok-put_pcpsp_keys.ensures) in
     record {
       written = on_ok_weaker c.write_sections.result (lines_then (keys ++ more) sections both)
-          (rw (c.as_slice.ensures, c.as_slice-2.ensures) at c.write_sections.ensures.written);
+          (rw c.as_slice.ensures at c.write_sections.ensures.written);
       refused = IfErr-weaker c.write_sections.result _ _ (λ _. lines_cut_then (keys ++ more) sections both)
-          (rw (c.as_slice.ensures, c.as_slice-2.ensures) at c.write_sections.ensures.refused);
+          (rw c.as_slice.ensures at c.write_sections.ensures.refused);
       kept = on_ok_three c.write_sections.result
           (λ values coefs limits. record {
             name = c.in_ok-put_problem.ensures.kept;
@@ -32,6 +32,6 @@ returns g c =
             coefs = kept_all (λ c. IsInDecimalRange c.v) i.coefs _ (length-lines_from (coef_fields Pcpsp) 0 i.coefs) coefs;
             limits = kept_all (λ l. HasDecimals l.bound) i.limits _ (length-lines_from limit_fields 0 i.limits) limits;
           })
-          c.write_sections.ensures.values (rw c.as_slice.ensures at c.write_sections.ensures.coefs)
-          (rw c.as_slice-2.ensures at c.write_sections.ensures.limits);
+          c.write_sections.ensures.values c.write_sections.ensures.coefs
+          (rw c.as_slice.ensures at c.write_sections.ensures.limits);
     }

@@ -1,0 +1,98 @@
+//! Coefficients that are found are those of a list, each one and piece by piece.
+
+ghost use Rattle.std.specs.Prelude.{◌<◌, length};
+
+use mine_instance::coef::{Coef, Coefs};
+use pit_parts::block::Block;
+use pit_parts::ranges::MAX_BLOCKS;
+use pit_units::Dec;
+use std::alloc::Global;
+use std::test::Fail;
+
+// The kilograms of blocks by identifier, and pairs of a destination and a resource.
+const CASES: [(&[u64], &[(u8, u8)]); 6] = [
+    (&[], &[(0, 0)]),
+    (&[0, 0], &[(0, 0), (1, 0)]),
+    (&[7, 0, 9], &[]),
+    (&[0, 7, 0, 0, 8, 9], &[(0, 0)]),
+    (&[7, 8, 0, 9, 0], &[(0, 0), (0, 1), (2, 0)]),
+    (&[0, 1_000_000_000], &[(7, 7), (0, 0)]),
+];
+
+fn found(alloc: Global, kilograms: &[u64], pairs: &[(u8, u8)]) -> Result<Coefs, Fail> {
+    let mut blocks = Vec::new(alloc);
+    for kg in kilograms {
+        blocks.push(Block::new(0, 0, 0, *kg, 0, 0).ok_or("a block")?)?;
+    }
+    if blocks.len() > MAX_BLOCKS || pairs.len() > 64 {
+        return Err("a few")?;
+    }
+    let pairs = Vec::from_slice(alloc, pairs)?;
+    Ok(Coefs::of_blocks(alloc, pairs, blocks.as_slice())?)
+}
+
+fn listed(alloc: Global, kilograms: &[u64], pairs: &[(u8, u8)]) -> Result<Coefs, Fail> {
+    let mut coefs = Vec::new(alloc);
+    let mut b = 0;
+    for kg in kilograms {
+        if *kg > 0 {
+            list(&mut coefs, b, *kg, pairs)?;
+        }
+        b = b.wrapping_add(1);
+    }
+    Ok(Coefs::new(coefs))
+}
+
+fn list(coefs: &mut Vec<Coef>, b: u32, kg: u64, pairs: &[(u8, u8)]) -> Result<(), Fail> {
+    let v = Dec::new(i128::from(kg) * 1000).ok_or("tonnes")?;
+    for (d, r) in pairs {
+        let (d, r) = (*d, *r);
+        coefs.push(Coef { b, d, r, v })?;
+    }
+    Ok(())
+}
+
+fn piece(alloc: Global, coefs: &Coefs, from: usize, most: usize) -> Result<Vec<Coef>, Fail>
+    requires { from < length coefs.now }
+{
+    let mut piece = Vec::new(alloc);
+    coefs.put_some(from, most, &mut piece)?;
+    Ok(piece)
+}
+
+fn agree_from(alloc: Global, one: &Coefs, other: &Coefs, from: usize) -> Result<bool, Fail>
+    requires one { from < length one.now }
+    requires other { from < length other.now }
+{
+    for most in 0..one.len() {
+        let most = most.wrapping_add(1);
+        if piece(alloc, one, from, most)?.as_slice()
+            != piece(alloc, other, from, most)?.as_slice()
+        {
+            return Ok(false);
+        }
+    }
+    Ok(one.at(from) == other.at(from))
+}
+
+fn agree(alloc: Global, one: &Coefs, other: &Coefs) -> Result<bool, Fail> {
+    if one.len() != other.len() {
+        return Ok(false);
+    }
+    for from in 0..one.len() {
+        if !agree_from(alloc, one, other, from)? {
+            return Ok(false);
+        }
+    }
+    Ok(true)
+}
+
+#[test]
+fn coefficients_found_as_listed(rt: HostRuntime) -> Result<(), Fail> {
+    for (place, (kilograms, pairs)) in CASES.iter().enumerate() {
+        let found = found(rt.alloc(), kilograms, pairs)?;
+        let listed = listed(rt.alloc(), kilograms, pairs)?;
+        assert!(rt; agree(rt.alloc(), &found, &listed)?, "{place}");
+    }
+    Ok(())
+}
