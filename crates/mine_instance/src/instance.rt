@@ -8,10 +8,11 @@ use crate::limits::Limits;
 use crate::values::Values;
 use pit_parts::name::Name;
 use pit_units::Dec;
-use precedence::Preds;
+use precedence::{Preds, TakePreds};
 
 /// An instance of the production scheduling problem of MineLib (Espinoza, Goycoolea, Moreno and Newman 2013). Blocks,
-/// predecessors and values stand by identifier. `P` has the predecessors: `Preds` keeps their lists, and `FoundPreds` finds them.
+/// predecessors and values stand by identifier. `P` has the predecessors: `Preds` keeps their lists, `FoundPreds` finds them, and
+/// `CountedPreds` has only their number.
 #[derive(Debug, Drop)]
 pub struct Instance<P = Preds> {
     pub name: Name,
@@ -55,10 +56,10 @@ impl<P> Instance<P> {
     }
 }
 
-impl Instance<Preds> {
+impl<P: TakePreds> Instance<P> {
     /// The number of arcs: pairs of a block and one that it has to wait for.
     pub fn arcs(&self) -> usize
-        ensures { result ≡ sum_by length self.now.preds }
+        ensures { result ≡ sum_by length (P.lists self.now.preds) }
     {
         self.preds.arcs()
     }

@@ -1,8 +1,10 @@
 //! Reading an instance, and a constrained pit limit problem, from texts.
 
-ghost use Rattle.std.specs.Prelude.{◌≡◌, ◌≤◌, length, IfOk};
+ghost use Rattle.std.specs.Prelude.{◌≡◌, ◌≤◌, [], length, IfOk};
+ghost use Rattle.mine_instance.specs.Seen.{seen};
 ghost use Rattle.mine_instance.specs.Valid.{IsValid};
 ghost use Rattle.minelib_reading.specs.Denotes.{cpit_denoted, denoted};
+ghost use Rattle.minelib_reading.specs.inner.ReadAs.{ReadsAs};
 ghost use Rattle.text_lines.specs.Reading.{Reads};
 ghost use Rattle.pit_parts.specs.declared.ranges.TheConstants.{MAX_BLOCKS};
 
@@ -12,6 +14,7 @@ use crate::prec_reader::read_preds;
 use mine_instance::cpit::Cpit;
 use mine_instance::instance::Instance;
 use minelib_lines::problem::Problem;
+use precedence::{CountedPreds, Preds, TakePreds};
 use std::alloc::Global;
 use text_lines::text_fault::{ReadTextError, TextFile};
 
@@ -32,25 +35,45 @@ pub fn read_instance(
     ensures denoted { Reads result (denoted blocks.now prec.now pcpsp.now) }
     ensures valid { IfOk result IsValid }
 {
-    let instance = joined(alloc, blocks, prec, pcpsp)?;
+    let instance = joined(alloc, blocks, prec, pcpsp, Preds::new(alloc))?;
     Ok(instance)
 }
 
-#[tactic(auto, unfolding(crate::specs::Denotes::denoted))]
-fn joined(
+/// The same instance, of whose predecessors only the number is kept.
+///
+/// # Errors
+///
+/// Those of `read_instance`.
+pub fn read_counted(
     alloc: Global,
     blocks: &[u8],
     prec: &[u8],
     pcpsp: &[u8],
-) -> Result<Instance, ReadTextError>
+) -> Result<Instance<CountedPreds>, ReadTextError>
     ensures { Reads result (denoted blocks.now prec.now pcpsp.now) }
+{
+    let instance = joined(alloc, blocks, prec, pcpsp, CountedPreds::new())?;
+    Ok(instance)
+}
+
+// The instance of the texts, whose predecessors `none` takes, which has none yet.
+#[tactic(auto, unfolding(crate::specs::Denotes::denoted))]
+fn joined<P: TakePreds + Drop>(
+    alloc: Global,
+    blocks: &[u8],
+    prec: &[u8],
+    pcpsp: &[u8],
+    none: P,
+) -> Result<Instance<P>, ReadTextError>
+    requires { P.lists none ≡ [] }
+    ensures { ReadsAs (seen P.lists) result (denoted blocks.now prec.now pcpsp.now) }
 {
     let blocks = match read_blocks(alloc, blocks) {
         Ok(blocks) => blocks,
         Err(error) => return Err(error.in_file(TextFile::Blocks)),
     };
     let count = blocks.as_slice().len();
-    let preds = match read_preds(alloc, count, prec) {
+    let preds = match read_preds(alloc, count, none, prec) {
         Ok(preds) => preds,
         Err(error) => return Err(error.in_file(TextFile::Prec)),
     };

@@ -13,4 +13,4 @@ mod model_keys;
 mod model_reader;
 mod prec_reader;
 
-pub use instance_reader::{read_cpit, read_instance};
+pub use instance_reader::{read_counted, read_cpit, read_instance};

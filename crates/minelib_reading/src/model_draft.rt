@@ -3,6 +3,7 @@
 ghost use Rattle.std.specs.Prelude.{◌≡◌, ◌≤◌, ◌==◌, ◌&&◌, ◌++◌, ◌∷◌, if◌then◌else◌, Ok, Err, [], true, false, length, map, unwrap_or, IfOk};
 ghost use Rattle.mine_instance.specs.CpitKept.{IsCpit};
 ghost use Rattle.mine_instance.specs.OfCpit.{without_destination};
+ghost use Rattle.mine_instance.specs.Seen.{seen};
 ghost use Rattle.minelib_reading.specs.Denotes.{cpit_read, instance_read};
 ghost use Rattle.minelib_reading.specs.HeaderKeys.{count_in, is_complete};
 ghost use Rattle.minelib_reading.specs.ModelLines.{blank_model, coef_line, finish_model, header_line, is_behind, is_heading, is_ready, is_whole, item_line, keyed_line, last_of, limit_line, name_with, section_line, values_line};
@@ -33,7 +34,7 @@ use minelib_lines::problem::Problem;
 use pit_parts::limit::Limit;
 use pit_parts::name::Name;
 use pit_units::Dec;
-use precedence::Preds;
+use precedence::TakePreds;
 use std::alloc::{AllocError, Global};
 use std::marker::Model;
 use text_lines::line_by_line::Admit;
@@ -116,9 +117,9 @@ impl ModelDraft {
     }
 
     /// The instance of this file, and of blocks and predecessors.
-    pub fn into_instance(self, blocks: Blocks, preds: Preds) -> Instance
+    pub fn into_instance<P: TakePreds>(self, blocks: Blocks, preds: P) -> Instance<P>
         requires { is_name self.name ≡ true }
-        ensures { result ≡ instance_read blocks preds self }
+        ensures { seen P.lists result ≡ instance_read blocks (P.lists preds) self }
     {
         let rate = self.header.count(HeaderKey::Rate);
         let periods = self.periods();

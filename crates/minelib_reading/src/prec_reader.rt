@@ -1,16 +1,16 @@
 //! Reading a precedence file.
 
-ghost use Rattle.std.specs.Prelude.{◌≡◌, ◌<◌, ◌≤◌, [], All, IfOk, OnOk};
+ghost use Rattle.std.specs.Prelude.{◌≡◌, ◌<◌, ◌≤◌, [], All, IfOk, OnOk, length};
 ghost use Rattle.text_lines.specs.FieldValues.{all_by, whole_in};
 ghost use Rattle.minelib_reading.specs.inner.LinesTaken.{admit_preds, no_lists, preds_alone, preds_said};
 ghost use Rattle.minelib_reading.specs.PrecLines.{finish_preds, preds_in, stands_in};
 ghost use Rattle.text_lines.specs.Reading.{Admits};
-ghost use Rattle.text_lines.specs.inner.Taken.{Gives};
+ghost use Rattle.minelib_reading.specs.inner.ReadAs.{GivesAs};
 ghost use Rattle.text_lines.specs.TextLines.{fields_of};
 ghost use Rattle.pit_parts.specs.declared.ranges.TheConstants.{MAX_BLOCKS};
 
 use crate::marks::Marks;
-use precedence::Preds;
+use precedence::TakePreds;
 use std::alloc::{AllocError, Global};
 use std::marker::Model;
 use text_lines::line_by_line::{Admit, read_lines};
@@ -20,27 +20,27 @@ use text_lines::text_fields::{first_whole, has_field, lacks_two_fields};
 
 // The predecessors of the lines so far, by identifier.
 #[derive(Drop)]
-struct PrecDraft {
-    preds: Preds,
+struct PrecDraft<P: TakePreds> {
+    preds: P,
     // the predecessors of the line that is read
     ids: Vec<u32>,
     marks: Marks,
 }
 
-impl Model for PrecDraft {
+impl<P: TakePreds> Model for PrecDraft<P> {
     ghost use Rattle.minelib_reading.specs.inner.LinesTaken.{PrecDraftView};
 
     ghost Value = { PrecDraftView };
 
-    ghost view = { λ d. record { blocks = d.marks; lists = d.preds } };
+    ghost view = { λ d. record { blocks = d.marks; lists = P.lists d.preds } };
 }
 
-impl Admit for PrecDraft {
+impl<P: TakePreds> Admit for PrecDraft<P> {
     ghost admit_line = { admit_preds };
 
     fn admit(&mut self, line: &[u8]) -> Result<(), LineError> {
-        preds_of(line, self.preds.len(), &mut self.ids, &mut self.marks)?;
-        self.preds.push(self.ids.as_slice())?;
+        preds_of(line, self.preds.count(), &mut self.ids, &mut self.marks)?;
+        self.preds.take(&self.ids)?;
         Ok(())
     }
 }
@@ -55,6 +55,7 @@ fn preds_of(
 ) -> Result<(), LineError>
     ensures value { Admits ids.new.items result (preds_said marks.old before line.now) }
     ensures kept { marks.new ≡ marks.old }
+    ensures few { OnOk result ((before < MAX_BLOCKS) × (length ids.new.items ≤ MAX_BLOCKS)) }
 {
     match preds_alone(line, before, ids, marks) {
         Ok(()) => Ok(()),
@@ -75,6 +76,7 @@ fn preds_alone(
 ) -> Result<(), LineError>
     ensures value { Admits ids.new.items result (preds_alone marks.old before line.now) }
     ensures kept { marks.new ≡ marks.old }
+    ensures few { OnOk result ((before < MAX_BLOCKS) × (length ids.new.items ≤ MAX_BLOCKS)) }
 {
     let blocks = marks.len();
     let (id, behind_id) = first_whole(line, blocks as u64)?;
@@ -114,23 +116,24 @@ fn stands_in(ids: &[u32], id: u32) -> bool
     ids.iter().any(|other| *other == id)
 }
 
-impl PrecDraft {
-    fn new(alloc: Global, blocks: usize) -> Result<PrecDraft, AllocError>
-        requires { blocks ≤ MAX_BLOCKS }
+impl<P: TakePreds + Drop> PrecDraft<P> {
+    fn new(alloc: Global, none: P, blocks: usize) -> Result<PrecDraft<P>, AllocError>
+        requires none { P.lists none ≡ [] }
+        requires few { blocks ≤ MAX_BLOCKS }
         ensures { IfOk result (λ d. d ≡ no_lists blocks) }
     {
         Ok(PrecDraft {
-            preds: Preds::new(alloc),
+            preds: none,
             ids: Vec::new(alloc),
             marks: Marks::new(alloc, blocks)?,
         })
     }
 
     // The lists, once all lines are read and `end` is the number of the line after the last.
-    fn finish(self, end: u64) -> Result<Preds, FileError>
-        ensures { Gives result (finish_preds self.blocks end self.lists) }
+    fn finish(self, end: u64) -> Result<P, FileError>
+        ensures { GivesAs P.lists result (finish_preds self.blocks end self.lists) }
     {
-        if self.preds.len() == self.marks.len() {
+        if self.preds.count() == self.marks.len() {
             Ok(self.preds)
         } else {
             Err(FileError::Faulty(LineFault {
@@ -141,13 +144,19 @@ impl PrecDraft {
     }
 }
 
-/// The predecessors that a text states, of so many blocks.
+/// The predecessors that a text states, of so many blocks. `none` takes them, and has none yet.
 #[tactic(auto, using(crate::proofs::SpelledRead::preds_read))]
-pub fn read_preds(alloc: Global, blocks: usize, text: &[u8]) -> Result<Preds, FileError>
-    requires { blocks ≤ MAX_BLOCKS }
-    ensures { Gives result (preds_in blocks text.now) }
+pub fn read_preds<P: TakePreds + Drop>(
+    alloc: Global,
+    blocks: usize,
+    none: P,
+    text: &[u8],
+) -> Result<P, FileError>
+    requires none { P.lists none ≡ [] }
+    requires few { blocks ≤ MAX_BLOCKS }
+    ensures { GivesAs P.lists result (preds_in blocks text.now) }
 {
-    let mut draft = PrecDraft::new(alloc, blocks)?;
+    let mut draft = PrecDraft::new(alloc, none, blocks)?;
     let end = read_lines(&mut draft, text)?;
     draft.finish(end)
 }

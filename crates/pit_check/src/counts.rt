@@ -5,7 +5,8 @@ ghost use Rattle.text_lines.specs.Reading.{Reads};
 ghost use Rattle.pit_check.specs.Counts.{counted, cpit_counted};
 ghost use Rattle.pit_parts.specs.declared.ranges.TheConstants.{MAX_BLOCKS};
 
-use minelib_reading::{read_cpit, read_instance};
+use minelib_reading::laws::read_is_valid;
+use minelib_reading::{read_counted, read_cpit};
 use std::alloc::Global;
 use std::fmt;
 use text_lines::text_fault::ReadTextError;
@@ -69,7 +70,8 @@ impl Texts {
     pub fn counts(&self, alloc: Global) -> Result<Counts, ReadTextError>
         ensures { Reads result (counted self.now) }
     {
-        let instance = read_instance(
+        read_is_valid();
+        let instance = read_counted(
             alloc,
             self.blocks.as_slice(),
             self.prec.as_slice(),

@@ -1,3 +1,4 @@
+pub mod CountedFields
 pub mod FoundFields
 pub mod Lists
 pub mod NumberingFields

@@ -1,18 +1,19 @@
 use Rattle.std.proofs.Common.{◌≡◌, Err, rules, subst}
 use Rattle.minelib_reading.specs.PrecLines.{finish_preds}
-use Rattle.text_lines.specs.inner.Taken.{Gives}
+use Rattle.minelib_reading.specs.inner.ReadAs.{GivesAs}
 use Rattle.minelib_reading.proofs.SpelledRead.{preds_finished, preds_stopped}
 use Rattle.minelib_reading.proofs.prec_reader.read_preds.Goals as goal
 
 pub returns : goal.returns
-returns c =
+returns g c =
+    let gives = GivesAs g.P.TakePreds.lists c.finish.result in
     let d = c.read_lines.new.state in
     let end = c.in_ok-end.ensures.number in
     let whole = preds_finished c.args.blocks c.args.text.now d (search rules) in
-    subst (Gives c.finish.result) whole (subst (λ end. Gives c.finish.result (finish_preds d.blocks end d.lists)) end c.finish.ensures)
+    subst gives whole (subst (λ end. gives (finish_preds d.blocks end d.lists)) end c.finish.ensures)
 
 pub returns-in_err-end : goal.returns-in_err-end
-returns-in_err-end c =
+returns-in_err-end g c =
     let same : c.from_residual-in_err-end.result ≡ Err c.in_err-end.field-0.0 = search rules in
     rw same (preds_stopped c.args.blocks c.args.text.now c.read_lines.new.state c.in_err-end.field-0.0
     (rw c.in_ok-draft.ensures at c.in_err-end.ensures.read))

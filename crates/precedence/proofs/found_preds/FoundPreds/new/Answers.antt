@@ -1,7 +1,7 @@
-use Rattle.std.proofs.Common.{◌≡◌, ◌∙◌, ◌<◌, length, map, ap, sym, subst, All, List}
+use Rattle.std.proofs.Common.{◌∙◌, ◌<◌, length, ap, sym, subst, All, List}
 use Rattle.std.proofs.lemmas.List.{length-map}
 use Rattle.pit_parts.specs.declared.block.Block.{Block}
-use Rattle.precedence.specs.Codes.{place_code, place_codes}
+use Rattle.precedence.specs.Codes.{place_code}
 use Rattle.precedence.specs.inner.Lists.{in_cones}
 use Rattle.precedence.proofs.AllLists.{preds_are, tables_in_order, zones_below}
 use Rattle.precedence.proofs.found_preds.FoundPreds.new.Goals as goal

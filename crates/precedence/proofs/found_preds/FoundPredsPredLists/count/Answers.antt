@@ -1,4 +1,4 @@
-use Rattle.std.proofs.Common.{◌≡◌, length, ap, arith}
+use Rattle.std.proofs.Common.{length, ap, arith}
 use Rattle.precedence.proofs.FoundFacts.{length-found}
 use Rattle.precedence.proofs.found_preds.FoundPredsPredLists.count.Goals as goal
 

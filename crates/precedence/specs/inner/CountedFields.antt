@@ -1,0 +1,20 @@
+-- How counted lists are seen as the lists.
+use Rattle.std.specs.Prelude.{◌≡◌, ℕ, ◌*◌, ◌≤◌, List, [], ◌∷◌, ◌++◌, length, sum_by}
+use Rattle.precedence.specs.declared.counted_preds.Lists.{Lists, Start, More'}
+use Rattle.precedence.specs.declared.counted_preds.CountedPreds.TheInside.{Inside}
+use Rattle.pit_parts.specs.declared.ranges.TheConstants.{MAX_BLOCKS}
+
+-- in the order in which they came
+abbrev pub lists_in : Lists → List (List ℕ)
+lists_in Start = []
+lists_in (More' m before list) = lists_in before ++ list.value.items ∷ []
+
+abbrev pub counted_of : Inside → List (List ℕ)
+counted_of c = lists_in c.lists
+
+-- both are numbers of these lists, and small
+pub record KeepsCounted (c : Inside) : Type 0 where
+  pub blocks : c.blocks ≡ length (lists_in c.lists)
+  pub arcs : c.arcs ≡ sum_by length (lists_in c.lists)
+  pub few : c.blocks ≤ MAX_BLOCKS
+  pub low : c.arcs ≤ c.blocks * MAX_BLOCKS
