@@ -1,5 +1,5 @@
 -- An index stands for the coordinate of its blocks.
-use Rattle.std.proofs.Common.{◌≡◌, ℕ, ◌+◌, ◌*◌, ◌/◌, ◌%◌, ◌<◌, true, refl, arith, ap, ℤ, pos, negsuc}
+use Rattle.std.proofs.Common.{◌≡◌, ℕ, ◌+◌, ◌*◌, ◌/◌, ◌%◌, ◌<◌, true, refl, sym, ◌∙◌, arith, ap, ℤ, pos, negsuc}
 use Rattle.std.specs.Prelude.{◌-ℤ◌, ◌==◌, unsigned_abs}
 use Rattle.std.proofs.lemmas.Bool.{eqb-true, eq-eqb}
 use Rattle.std.proofs.lemmas.Int.{ints}
@@ -29,6 +29,17 @@ module _ (axis : Axis) (some : 0 < axis.size) where
           let low : k < 10000 * size = omega (arith, ints, e, within.1) in
           let few : k / size < 10000 = (div-lt_iff_lt-mul {k = size} {x = k} {y = 10000} (omega arith)).1 low in
           (omega (arith, ints, e, all), omega (arith, count, few))
+
+  -- a coordinate that is whole sizes above the origin is on the step, and the centroid of as many blocks as there are sizes
+  pub whole_sizes : (coordinate : ℤ) (above : ℕ) → IsInGrid axis coordinate → above ≡ unsigned_abs (coordinate -ℤ least axis)
+      → above / size * size ≡ above
+      → (is_on_step size (least axis) coordinate ≡ true) × (coordinate ≡ centroid axis (above / size))
+  whole_sizes coordinate above within is whole =
+      let sum : above / size * size + above % size ≡ above = div-add-mod' above size in
+      let none : above % size ≡ 0 = omega (arith, sum, whole) in
+      let step : is_on_step size (least axis) coordinate ≡ true =
+      eq-eqb (unsigned_abs (coordinate -ℤ least axis) % size) 0 (ap (λ n. n % size) (sym is) ∙ none) in
+      (step, (index_is_centroid coordinate (above / size) within step (ap (λ n. n / size) (sym is))).0)
 
   whole_blocks : (index : ℕ) → index * size / size ≡ index
   whole_blocks index = mul-div_left index (omega arith)

@@ -1,9 +1,8 @@
 -- What a cell of a row states, by the field of its column: a coordinate of the grid, a tonnage or a grade.
-use Rattle.std.specs.Prelude.{ℕ, ◌*◌, ◌/◌, List, [], ℤ, pos, negsuc, ◌+ℤ◌, ◌-ℤ◌, ◌*ℤ◌, ◌≤ℤ◌, unsigned_abs, Result, Ok, slice_index_or}
+use Rattle.std.specs.Prelude.{ℕ, ◌*◌, ◌/◌, List, [], ℤ, pos, negsuc, ◌+ℤ◌, ◌-ℤ◌, ◌*ℤ◌, ◌≤ℤ◌, unsigned_abs, slice_index_or}
 use Rattle.forms.specs.FieldFault.{FieldFault}
 use Rattle.forms.specs.FieldFault as fault
-use Rattle.forms.specs.Field.{Field, Stepped, Value, Millionths, up_to}
-use Rattle.forms.specs.Steps.{◌>>=◌}
+use Rattle.forms.specs.Field.{Field, Stepped, up_to}
 use Rattle.records.specs.Cells.{trimmed}
 use Rattle.pit_parts.specs.declared.grid.Axis.{Axis}
 use Rattle.zone_csv.specs.declared.row_fault.Column.{Column}
@@ -58,7 +57,3 @@ centroid axis index = pos 1000 *ℤ (axis.origin +ℤ pos (index * axis.size))
 
 abbrev pub index_at : Axis → ℤ → ℕ
 index_at axis coordinate = unsigned_abs (coordinate -ℤ least axis) / (1000 * axis.size)
-
--- a number that was read, as the value of its field
-abbrev pub as_value : {A : Type 0} → (A → ℤ) → Result A RowFault → Result Value RowFault
-as_value number answer = answer >>= λ x. Ok (Millionths (number x))

@@ -1,1 +1,2 @@
+pub mod RowAnswers
 pub mod ZoneStages

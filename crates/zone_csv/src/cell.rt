@@ -1,8 +1,9 @@
 //! What a cell of a row states.
 
-ghost use Rattle.std.specs.Prelude.{◌≡◌, ◌*◌, ◌<◌, ◌≤◌, ◌≤ℤ◌, ◌-ℤ◌, pos, unsigned_abs, Err, IfOk};
+ghost use Rattle.std.specs.Prelude.{◌≡◌, ℕ, ◌*◌, ◌<◌, ◌≤◌, ◌≤ℤ◌, ◌-ℤ◌, pos, unsigned_abs, Err, IfOk};
 ghost use Rattle.pit_parts.specs.PlanKept.{IsAxis};
-ghost use Rattle.zone_csv.specs.Cell.{IsInGrid, a_fault, as_value, coordinate, greatest, index_at, least, of_cell};
+ghost use Rattle.zone_csv.specs.Cell.{IsInGrid, a_fault, centroid, coordinate, greatest, least, of_cell};
+ghost use Rattle.zone_csv.specs.inner.RowAnswers.{as_value};
 ghost use Rattle.forms.specs.Field.{up_to};
 ghost use Rattle.forms.specs.Read.{number_or_kind, read_decimal, read_field};
 ghost use Rattle.pit_parts.specs.declared.ranges.TheConstants.{GRID_CELLS};
@@ -19,29 +20,38 @@ pub(crate) fn a_fault(row: u32, column: Column, kind: RowFaultKind) -> RowFault
     RowFault { row, column, kind }
 }
 
+// What is wrong with a row, but for the row's number. In an answer these two bytes lie in front of the number or the block that
+// may stand in their place. A whole `RowFault` would lie over half of their first 8 bytes, and have these copied in halves.
+#[derive(Clone, Copy)]
+pub(crate) struct ColumnFault {
+    pub column: Column,
+    pub kind: RowFaultKind,
+}
+
 // The fault of a cell that states no decimal.
-fn no_decimal(row: u32, column: Column, fault: DecFault) -> RowFault
-    ensures { number_or_kind (of_cell row column) (Err fault) ≡ Err result }
+fn no_decimal(column: Column, fault: DecFault) -> ColumnFault
+    ensures { (row : ℕ) → number_or_kind (of_cell row column) (Err fault)
+        ≡ Err (a_fault row result.column result.kind) }
 {
-    match fault {
-        DecFault::Number => a_fault(row, column, RowFaultKind::Number),
-        DecFault::TooFine => a_fault(row, column, RowFaultKind::TooFine),
-        DecFault::Range => a_fault(row, column, RowFaultKind::Range),
-    }
+    let kind = match fault {
+        DecFault::Number => RowFaultKind::Number,
+        DecFault::TooFine => RowFaultKind::TooFine,
+        DecFault::Range => RowFaultKind::Range,
+    };
+    ColumnFault { column, kind }
 }
 
 // The number that a cell states, with so many decimals, from the lowest to the highest millionths.
 #[inline(always)]
 fn number_of(
-    row: u32,
     column: Column,
     decimals: u8,
     low: i128,
     high: i128,
     cell: &[u8],
-) -> Result<Dec, RowFault>
+) -> Result<Dec, ColumnFault>
     requires { decimals ≤ 6 }
-    ensures value { as_value (λ m. m) result
+    ensures value { (row : ℕ) → as_value row (λ m. m) result
         ≡ read_decimal (of_cell row column) decimals low high cell.now }
     ensures in_range { IfOk result (λ number. (low ≤ℤ number) × (number ≤ℤ high)) }
 {
@@ -49,61 +59,49 @@ fn number_of(
         Ok(number) => {
             let millionths = number.millionths();
             if millionths < low || millionths > high {
-                return Err(a_fault(row, column, RowFaultKind::Range));
+                let kind = RowFaultKind::Range;
+                return Err(ColumnFault { column, kind });
             }
             Ok(number)
         }
-        Err(fault) => Err(no_decimal(row, column, fault)),
+        Err(fault) => Err(no_decimal(column, fault)),
     }
 }
 
 // The millionths that a cell states, with so many decimals, from 0 to the most.
 #[inline(always)]
 pub(crate) fn size_of(
-    row: u32,
     column: Column,
     decimals: u8,
     most: u64,
     cell: &[u8],
-) -> Result<u64, RowFault>
+) -> Result<u64, ColumnFault>
     requires { decimals ≤ 6 }
-    ensures value { as_value pos result
+    ensures value { (row : ℕ) → as_value row pos result
         ≡ read_field (of_cell row column) (up_to decimals most) cell.now }
     ensures in_range { IfOk result (λ size. size ≤ most) }
 {
-    let number = number_of(row, column, decimals, 0, i128::from(most), cell)?;
+    let number = number_of(column, decimals, 0, i128::from(most), cell)?;
     Ok(number.millionths() as u64)
 }
 
-// The coordinate that a cell states.
+// The index of the blocks at the coordinate that a cell states.
 #[inline(always)]
-pub(crate) fn coordinate_of(
-    row: u32,
-    column: Column,
-    axis: Axis,
-    cell: &[u8],
-) -> Result<Dec, RowFault>
+pub(crate) fn index_of(column: Column, axis: Axis, cell: &[u8]) -> Result<u16, ColumnFault>
     requires { IsAxis axis }
-    ensures value { as_value (λ m. m) result
+    ensures value { (row : ℕ) → as_value row (centroid axis) result
         ≡ read_field (of_cell row column) (coordinate axis) cell.now }
-    ensures in_grid { IfOk result (IsInGrid axis) }
+    ensures in_grid { IfOk result (λ index. index < GRID_CELLS) }
 {
-    let coordinate = number_of(row, column, 3, least(axis), greatest(axis), cell)?;
-    if above_origin(axis, coordinate) % size(axis) != 0 {
-        return Err(a_fault(row, column, RowFaultKind::OffGrid));
+    let coordinate = number_of(column, 3, least(axis), greatest(axis), cell)?;
+    let above = above_origin(axis, coordinate);
+    let size = size(axis);
+    let index = above / size;
+    if index * size != above {
+        let kind = RowFaultKind::OffGrid;
+        return Err(ColumnFault { column, kind });
     }
-    Ok(coordinate)
-}
-
-// The index of the blocks at a coordinate.
-#[inline(always)]
-pub(crate) fn index_at(axis: Axis, coordinate: Dec) -> u16
-    requires axis { IsAxis axis }
-    requires in_grid { IsInGrid axis coordinate }
-    ensures value { result ≡ index_at axis coordinate }
-    ensures in_grid { result < GRID_CELLS }
-{
-    (above_origin(axis, coordinate) / size(axis)) as u16
+    Ok(index as u16)
 }
 
 // How far a coordinate stands above the origin, in millionths of a metre.

@@ -4,11 +4,12 @@ ghost use Rattle.std.specs.Prelude.{◌≡◌, ◌+◌, ◌<◌, ◌≤◌, OnOk
 ghost use Rattle.csv.specs.Records.{fields_of};
 ghost use Rattle.pit_parts.specs.PlanKept.{IsGrid};
 ghost use Rattle.zone_csv.specs.Row.{row_of};
+ghost use Rattle.zone_csv.specs.inner.RowAnswers.{in_row};
 ghost use Rattle.pit_parts.specs.declared.ranges.TheConstants.{MAX_ROWS, MAX_ZONES};
 
-use crate::cell::{a_fault, coordinate_of, index_at, size_of};
+use crate::cell::{ColumnFault, index_of, size_of};
 use crate::columns::Columns;
-use crate::row_fault::{Column, RowFault, RowFaultKind};
+use crate::row_fault::{Column, RowFaultKind};
 use csv::ByteRecord;
 use pit_parts::block::Block;
 use pit_parts::grid::Grid;
@@ -27,31 +28,42 @@ pub(crate) fn row_of(
     columns: Columns,
     grid: Grid,
     zone: u8,
-) -> Result<Block, RowFault>
+) -> Result<Block, ColumnFault>
     requires grid { IsGrid grid }
     requires zone { zone < MAX_ZONES }
-    ensures value { result ≡ row_of grid zone columns number (fields_of row.now) }
+    ensures value { in_row number result
+        ≡ row_of grid zone columns number (fields_of row.now) }
     ensures within { OnOk result (number ≤ MAX_ROWS + 1) }
 {
     if number > LAST_ROW {
-        return Err(a_fault(number, Column::Whole, RowFaultKind::TooManyRows));
+        return Err(whole(RowFaultKind::TooManyRows));
     }
     if row.len() != columns.width {
-        return Err(a_fault(number, Column::Whole, RowFaultKind::Width));
+        return Err(whole(RowFaultKind::Width));
     }
-    let x = coordinate_of(number, Column::X, grid.x, cell_at(row, columns.x))?;
-    let y = coordinate_of(number, Column::Y, grid.y, cell_at(row, columns.y))?;
-    let z = coordinate_of(number, Column::Z, grid.z, cell_at(row, columns.z))?;
+    let x = index_of(Column::X, grid.x, cell_at(row, columns.x))?;
+    let y = index_of(Column::Y, grid.y, cell_at(row, columns.y))?;
+    let z = index_of(Column::Z, grid.z, cell_at(row, columns.z))?;
     let tonnes = cell_at(row, columns.tonnes);
-    let millionths = size_of(number, Column::Tonnes, 3, MAX_KG * 1000, tonnes)?;
+    let millionths = size_of(Column::Tonnes, 3, MAX_KG * 1000, tonnes)?;
     let grade = cell_at(row, columns.grade);
-    let grade = size_of(number, Column::Grade, 6, MAX_GRADE, grade)?;
+    let grade = size_of(Column::Grade, 6, MAX_GRADE, grade)?;
     Ok(Block {
-        x: index_at(grid.x, x),
-        y: index_at(grid.y, y),
-        z: index_at(grid.z, z),
+        x,
+        y,
+        z,
         kg: millionths / 1000,
         grade,
         zone,
     })
+}
+
+// A fault of the row as a whole.
+fn whole(kind: RowFaultKind) -> ColumnFault
+    ensures { result ≡ record { column = Column.Whole; kind = kind } }
+{
+    ColumnFault {
+        column: Column::Whole,
+        kind,
+    }
 }

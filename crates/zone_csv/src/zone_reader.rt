@@ -8,7 +8,7 @@ ghost use Rattle.zone_csv.specs.ZoneKept.{HasFewBlocks, HasOwnBlocks};
 ghost use Rattle.zone_csv.specs.inner.ZoneStages.{reader_view, IsCounted};
 ghost use Rattle.pit_parts.specs.declared.ranges.TheConstants.{MAX_ROWS, MAX_ZONES};
 
-use crate::cell::a_fault;
+use crate::cell::{ColumnFault, a_fault};
 use crate::columns::{Columns, columns_of};
 use crate::row::row_of;
 use crate::row_fault::{Column, RowFaultKind};
@@ -94,104 +94,113 @@ impl ZoneReader {
         ensures fewer { IfOk result
             (λ found. IfSome found (λ _. blocks_left self.new + 1 ≡ blocks_left self.old)) }
     {
-        let (stage, answer) = step(
-            self.stage,
+        step(
+            &mut self.stage,
             &mut self.records,
             &mut self.row,
             self.grid,
             self.zone,
-        );
-        self.stage = stage;
-        answer
+        )
     }
 }
 
-// One answer of a reader at a stage, and the stage that it is at then.
+// One answer of a reader at a stage, which goes on to its next stage.
 #[inline(always)]
 fn step(
-    stage: Stage,
+    stage: &mut Stage,
     records: &mut RecordReader<Cursor<Vec<u8>>>,
     row: &mut ByteRecord,
     grid: Grid,
     zone: u8,
-) -> (Stage, Result<Option<Block>, ZoneFault>)
+) -> Result<Option<Block>, ZoneFault>
     requires grid { IsGrid grid }
     requires zone { zone < MAX_ZONES }
-    requires counted { IsCounted stage }
-    ensures answers { Answers (reader_view grid zone stage records.old) result.1
-        (reader_view grid zone result.0 records.new) }
-    ensures counted { IsCounted result.0 }
+    requires counted { IsCounted stage.old }
+    ensures answers { Answers (reader_view grid zone stage.old records.old) result
+        (reader_view grid zone stage.new records.new) }
+    ensures counted { IsCounted stage.new }
 {
-    match stage {
-        Stage::Header => first_row(records, row, grid, zone),
-        Stage::Body { columns, number } => next_row(columns, number, records, row, grid, zone),
-        Stage::Ended => (Stage::Ended, Ok(None)),
-        Stage::Failed(fault) => failed(fault),
+    match *stage {
+        Stage::Header => first_row(stage, records, row, grid, zone),
+        Stage::Body { columns, number } => {
+            next_row(stage, columns, number, records, row, grid, zone)
+        }
+        Stage::Ended => Ok(None),
+        Stage::Failed(fault) => Err(fault),
     }
 }
 
-fn failed(fault: ZoneFault) -> (Stage, Result<Option<Block>, ZoneFault>)
-    ensures { result ≡ record { 0 = Stage.Failed fault; 1 = Err fault } }
+fn failed(stage: &mut Stage, fault: ZoneFault) -> Result<Option<Block>, ZoneFault>
+    ensures stage { stage.new ≡ Stage.Failed fault }
+    ensures fault { result ≡ Err fault }
 {
-    (Stage::Failed(fault), Err(fault))
+    *stage = Stage::Failed(fault);
+    Err(fault)
 }
 
 // The answer for the row behind the header, which is read first.
 fn first_row(
+    stage: &mut Stage,
     records: &mut RecordReader<Cursor<Vec<u8>>>,
     row: &mut ByteRecord,
     grid: Grid,
     zone: u8,
-) -> (Stage, Result<Option<Block>, ZoneFault>)
+) -> Result<Option<Block>, ZoneFault>
     requires grid { IsGrid grid }
     requires zone { zone < MAX_ZONES }
-    ensures answers { Answers (reader_view grid zone Stage.Header records.old) result.1
-        (reader_view grid zone result.0 records.new) }
-    ensures counted { IsCounted result.0 }
+    ensures answers { Answers (reader_view grid zone Stage.Header records.old) result
+        (reader_view grid zone stage.new records.new) }
+    ensures counted { IsCounted stage.new }
 {
     match records.next(row) {
         Ok(true) => match columns_of(row) {
-            Ok(columns) => next_row(columns, 2, records, row, grid, zone),
-            Err(fault) => failed(ZoneFault::Row(fault)),
+            Ok(columns) => next_row(stage, columns, 2, records, row, grid, zone),
+            Err(fault) => failed(stage, ZoneFault::Row(fault)),
         },
         Ok(false) => {
             let fault = a_fault(1, Column::X, RowFaultKind::MissingColumn);
-            failed(ZoneFault::Row(fault))
+            failed(stage, ZoneFault::Row(fault))
         }
-        Err(_) => failed(ZoneFault::OutOfMemory),
+        Err(_) => failed(stage, ZoneFault::OutOfMemory),
     }
 }
 
 // The answer for the next record, which has this number.
 #[inline(always)]
 fn next_row(
+    stage: &mut Stage,
     columns: Columns,
     number: u32,
     records: &mut RecordReader<Cursor<Vec<u8>>>,
     row: &mut ByteRecord,
     grid: Grid,
     zone: u8,
-) -> (Stage, Result<Option<Block>, ZoneFault>)
+) -> Result<Option<Block>, ZoneFault>
     requires grid { IsGrid grid }
     requires zone { zone < MAX_ZONES }
     requires counted { number ≤ MAX_ROWS + 2 }
     ensures answers { Answers (reader_view grid zone (Stage.Body columns number) records.old)
-        result.1
-        (reader_view grid zone result.0 records.new) }
-    ensures counted { IsCounted result.0 }
+        result
+        (reader_view grid zone stage.new records.new) }
+    ensures counted { IsCounted stage.new }
 {
     match records.next(row) {
         Ok(true) => match row_of(row, number, columns, grid, zone) {
-            Ok(block) => (
-                Stage::Body {
+            Ok(block) => {
+                *stage = Stage::Body {
                     columns,
                     number: number + 1,
-                },
-                Ok(Some(block)),
-            ),
-            Err(fault) => failed(ZoneFault::Row(fault)),
+                };
+                Ok(Some(block))
+            }
+            Err(ColumnFault { column, kind }) => {
+                failed(stage, ZoneFault::Row(a_fault(number, column, kind)))
+            }
         },
-        Ok(false) => (Stage::Ended, Ok(None)),
-        Err(_) => failed(ZoneFault::OutOfMemory),
+        Ok(false) => {
+            *stage = Stage::Ended;
+            Ok(None)
+        }
+        Err(_) => failed(stage, ZoneFault::OutOfMemory),
     }
 }

@@ -1,8 +1,9 @@
-use Rattle.std.proofs.Common.{rules, ◌≡◌, true, nat_le, length, Ok, ap, sym, ◌∙◌}
+use Rattle.std.proofs.Common.{rules, ◌≡◌, ◌<◌, true, arith, nat_le, length, Ok, ap, sym, ◌∙◌}
 use Rattle.std.proofs.lemmas.Bool.{eq-eqb}
 use Rattle.csv.specs.Records.{fields_of}
 use Rattle.pit_parts.proofs.BlockFacts.{block_again}
 use Rattle.zone_csv.specs.Row.{row_of}
+use Rattle.zone_csv.proofs.CentroidFacts.{centroid_index}
 use Rattle.zone_csv.proofs.row.row_of.Goals as goal
 
 pub returns-clause-value : goal.returns-clause-value
@@ -10,6 +11,10 @@ unfolding row_of
 returns-clause-value c =
     let few : nat_le c.args.number 1000001 ≡ true = search rules in
     let wide = eq-eqb (length (fields_of c.args.row.now)) c.args.columns.width (sym c.len.ensures ∙ c.if-len-columns.false) in
+    let sx : 0 < c.args.grid.x.size = omega arith in
+    let sy : 0 < c.args.grid.y.size = omega arith in
+    let sz : 0 < c.args.grid.z.size = omega arith in
+    let number = c.args.number in
     rw (
       few,
       wide,
@@ -18,12 +23,12 @@ returns-clause-value c =
       sym c.cell_at-3.ensures.field,
       sym c.cell_at-tonnes.ensures.field,
       sym c.cell_at-grade.ensures.field,
-      sym c.in_ok-x.ensures.value,
-      sym c.in_ok-y.ensures.value,
-      sym c.in_ok-z.ensures.value,
-      sym c.in_ok-millionths.ensures.value,
-      sym c.in_ok-grade.ensures.value,
-      sym c.index_at.ensures.value,
-      sym c.index_at-2.ensures.value,
-      sym c.index_at-3.ensures.value,
+      sym (c.in_ok-x.ensures.value number),
+      sym (c.in_ok-y.ensures.value number),
+      sym (c.in_ok-z.ensures.value number),
+      sym (c.in_ok-millionths.ensures.value number),
+      sym (c.in_ok-grade.ensures.value number),
+      centroid_index c.args.grid.x sx c.in_ok-x.x,
+      centroid_index c.args.grid.y sy c.in_ok-y.y,
+      centroid_index c.args.grid.z sz c.in_ok-z.z,
     ) (ap Ok (sym (block_again _)))
