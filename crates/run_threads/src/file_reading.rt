@@ -1,16 +1,14 @@
 //! A zone file's reader, which puts the file's rows into the lane.
 
-ghost use Rattle.std.specs.Prelude.{◌≡◌, ◌+◌, ◌<◌, ◌≤◌, ◌++◌, [], ◌∷◌, length, vec_len, IfOk, IfErr, IfSome};
+ghost use Rattle.std.specs.Prelude.{◌≡◌, ◌≤◌, ◌++◌, [], ◌∷◌, length, vec_len, IfOk, IfErr, IfSome};
 ghost use Rattle.run_threads.specs.MostBytes.{most_bytes};
 ghost use Rattle.run_threads.specs.Reading.{IsRead};
 ghost use Rattle.run_threads.specs.inner.Promises.{IsUnsent};
-ghost use Rattle.run_threads.specs.inner.Sending.{IsUnread, HasPut, TellsNext};
-ghost use Rattle.zone_csv.specs.ZoneReaderView.{blocks_left};
+ghost use Rattle.run_threads.specs.inner.Sending.{IsUnread, HasPut};
 ghost use Rattle.zone_csv.specs.Zone.{blocks_of, fault_of};
 
 use crate::read_fault::ReadFault;
 use lane::{EndedPut, PutEnd, Taken};
-use pit_parts::block::Block;
 use pit_parts::plan::Plan;
 use pit_parts::ranges::MAX_FILE_BYTES;
 use std::alloc::Global;
@@ -73,7 +71,11 @@ fn put_file<R: Wait, F: Feed, G: Gate>(
 {
     gate.reader(rt, file);
     let text = slurped(alloc, feed)?;
-    put_blocks(rt, alloc, text, plan, file, put_end)
+    match put_blocks(rt, alloc, text, plan, file, put_end) {
+        Ok(()) => Ok(()),
+        Err(ZoneFault::Row(fault)) => Err(ReadFault::Row(fault)),
+        Err(ZoneFault::OutOfMemory) => Err(ReadFault::OutOfMemory),
+    }
 }
 
 // The bytes of a zone file.
@@ -98,7 +100,7 @@ fn put_blocks<R: Wait>(
     plan: &Plan,
     file: u8,
     put_end: &mut PutEnd,
-) -> Result<(), ReadFault>
+) -> Result<(), ZoneFault>
     requires { IsUnsent plan.now file put_end.old }
     ensures end { (put_end.new.lane ≡ put_end.old.lane) × (put_end.new.file ≡ file) }
     ensures put { let grid = plan.now.grid in
@@ -106,20 +108,8 @@ fn put_blocks<R: Wait>(
         result put_end.new.sent }
 {
     let mut reader = ZoneReader::new(alloc, text, plan, file);
-    while let Some(block) = next_block(&mut reader)? {
+    while let Some(block) = reader.next()? {
         put_end.row(rt, block);
     }
     Ok(())
-}
-
-fn next_block(reader: &mut ZoneReader) -> Result<Option<Block>, ReadFault>
-    ensures tells { TellsNext reader.old result reader.new }
-    ensures fewer { IfOk result (λ found. IfSome found (λ _.
-        blocks_left reader.new + 1 ≡ blocks_left reader.old)) }
-{
-    match reader.next() {
-        Ok(found) => Ok(found),
-        Err(ZoneFault::Row(fault)) => Err(ReadFault::Row(fault)),
-        Err(ZoneFault::OutOfMemory) => Err(ReadFault::OutOfMemory),
-    }
 }

@@ -6,6 +6,8 @@ use Rattle.lane.specs.declared.message.Taken.TheVariants.{End}
 use Rattle.pit_parts.specs.declared.block.Block.{Block}
 use Rattle.zone_csv.specs.ZoneReaderView.{ZoneReaderView, Ahead}
 use Rattle.zone_csv.specs.declared.row_fault.RowFault.{RowFault}
+use Rattle.zone_csv.specs.declared.zone_fault.ZoneFault.{ZoneFault}
+use Rattle.zone_csv.specs.declared.zone_fault.ZoneFault.TheVariants as zone_fault
 use Rattle.run_threads.specs.MostBytes.{most_bytes}
 use Rattle.run_threads.specs.declared.read_fault.ReadFault.{ReadFault}
 use Rattle.run_threads.specs.declared.read_fault.ReadFault.TheVariants.{FeedFailed, TooLong, Row, OutOfMemory}
@@ -17,19 +19,6 @@ IsUnread left sure (Row fault) = ⊥
 IsUnread left sure TooLong = IfSome left (λ bytes. most_bytes < length bytes)
 IsUnread left sure FeedFailed = sure ≡ false
 IsUnread left sure OutOfMemory = Unit {0}
-
--- the next answer of a reader that has these blocks and this fault to say
-abbrev pub IsNext : List Block → Option RowFault → Result (Option Block) ReadFault → ZoneReaderView → Type 0
-IsNext [] fault (Ok found) new = (found ≡ None) × (fault ≡ None)
-IsNext (block ∷ blocks) fault (Ok found) new = (found ≡ Some block) × (new ≡ Ahead blocks fault)
-IsNext [] fault (Err (Row x)) new = fault ≡ Some x
-IsNext (block ∷ blocks) fault (Err (Row x)) new = ⊥
-IsNext blocks fault (Err OutOfMemory) new = Unit {0}
-IsNext blocks fault (Err FeedFailed) new = ⊥
-IsNext blocks fault (Err TooLong) new = ⊥
-
-abbrev pub TellsNext : ZoneReaderView → Result (Option Block) ReadFault → ZoneReaderView → Type 0
-TellsNext old answer new = (blocks : List Block) (fault : Option RowFault) → old ≡ Ahead blocks fault → IsNext blocks fault answer new
 
 -- what was put of a file, which has these blocks and this fault in all, and what the reader has still to say, make up the file
 pub record IsSending (file : ℕ) (whole : List Block) (fault : Option RowFault) (sent : List Taken) (still : ZoneReaderView) : Type 0 where
@@ -43,9 +32,7 @@ abbrev pub IsAllBut : ℕ → List Block → List Taken → Type 0
 IsAllBut file blocks sent = sent ++ End file (length sent) ∷ [] ≡ sent_from file 0 blocks
 
 -- what was put of a file of these blocks and this fault, by the answer
-abbrev pub HasPut : ℕ → List Block → Option RowFault → Result (Unit {0}) ReadFault → List Taken → Type 0
+abbrev pub HasPut : ℕ → List Block → Option RowFault → Result (Unit {0}) ZoneFault → List Taken → Type 0
 HasPut file blocks fault (Ok done) sent = (fault ≡ None) × IsAllBut file blocks sent
-HasPut file blocks fault (Err (Row x)) sent = (fault ≡ Some x) × IsAllBut file blocks sent
-HasPut file blocks fault (Err OutOfMemory) sent = Unit {0}
-HasPut file blocks fault (Err FeedFailed) sent = ⊥
-HasPut file blocks fault (Err TooLong) sent = ⊥
+HasPut file blocks fault (Err (zone_fault.Row x)) sent = (fault ≡ Some x) × IsAllBut file blocks sent
+HasPut file blocks fault (Err zone_fault.OutOfMemory) sent = Unit {0}
