@@ -1,4 +1,5 @@
 pub mod RowFacts
+pub mod RowWorths
 pub mod RisingFacts
 pub mod GreatestFacts
 pub mod ValidFacts

@@ -9,6 +9,7 @@ ghost use Rattle.precedence.specs.Cone.{preds as cone_lists};
 ghost use Rattle.precedence.specs.Identifier.{blocks_of_rows};
 ghost use Rattle.precedence.specs.Numbering.{IsNumbering, NumberingView};
 ghost use Rattle.rows.specs.Valued.{worths_by};
+ghost use Rattle.rows.specs.declared.item.Valued.{Valued as ARow};
 ghost use Rattle.mine_instance.specs.OfModel.{instance, values_of, in_hundreds, covering, covered};
 ghost use Rattle.mine_instance.specs.Seen.{seen};
 ghost use Rattle.mine_instance.specs.Valid.{IsValid};
@@ -100,29 +101,29 @@ pub fn values_by_id(
     let count = numbering.len() as usize;
     let mut all = Vec::with_capacity(alloc, count * width)?;
     for id in 0..numbering.len() {
-        put_values(&mut all, &row_of(numbering, rows, id), plan)?;
+        put_values(&mut all, worths_of(numbering, rows, id), plan)?;
     }
     Ok(Values::new(all, count, width))
 }
 
-// The row of the block that has an identifier.
-fn row_of(numbering: &Numbering, rows: &RowLists, id: u32) -> Valued
+// The worths of the row of the block that has an identifier.
+fn worths_of<'a>(numbering: &Numbering, rows: &'a RowLists, id: u32) -> &'a [i128]
     requires numbering { IsNumbering (blocks_of_rows rows.now) numbering.now }
     requires within { id < length numbering.now.blocks }
-    ensures block { slice_get numbering.now.blocks id ≡ Some result.block }
-    ensures row { Contains rows.now result }
+    ensures { (row : ARow) × Contains rows.now row
+        × (slice_get numbering.now.blocks id ≡ Some row.block) × (result.now ≡ row.worths) }
 {
-    rows.at(numbering.position(id) as usize)
+    rows.worths_at(numbering.position(id) as usize)
 }
 
-fn put_values(all: &mut Vec<Dec>, row: &Valued, plan: &Plan) -> Result<(), AllocError>
-    requires { row.now.worths ≡ worths_by (formulas_of_plan plan.now) row.now.block }
-    ensures { OnOk result (all.new.items ≡ all.old.items ++ values_of plan.now row.now.block) }
+fn put_values(all: &mut Vec<Dec>, worths: &[i128], plan: &Plan) -> Result<(), AllocError>
+    requires { (block : Block) × (worths.now ≡ worths_by (formulas_of_plan plan.now) block) }
+    ensures { OnOk result (all.new.items ≡ all.old.items ++ map in_hundreds worths.now) }
 {
     // A formula of a plan gives worths that a decimal can hold.
     worths_are_in_range();
     let _formulas = plan.formulas();
-    put_in_hundreds(all, row.worths.as_slice())
+    put_in_hundreds(all, worths)
 }
 
 fn put_in_hundreds(all: &mut Vec<Dec>, cents: &[i128]) -> Result<(), AllocError>

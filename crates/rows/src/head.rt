@@ -48,13 +48,21 @@ impl Head {
         requires { IsHeld worths.now self.now }
         ensures { result ≡ row_of worths.now self.now }
     {
-        let (_, rest) = worths.split_at(self.from);
-        let (own, _) = rest.split_at(usize::from(self.count));
         Valued {
             file: self.file,
             place: self.place,
             block: self.block,
-            worths: Worths::new(own).unwrap(),
+            worths: Worths::new(self.own(worths)).unwrap(),
         }
+    }
+
+    /// The worths of the row.
+    pub fn own<'a>(&self, worths: &'a [i128]) -> &'a [i128]
+        requires { IsHeld worths.now self.now }
+        ensures { result.now ≡ (row_of worths.now self.now).worths }
+    {
+        let (_, rest) = worths.split_at(self.from);
+        let (own, _) = rest.split_at(usize::from(self.count));
+        own
     }
 }

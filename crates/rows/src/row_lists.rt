@@ -2,6 +2,7 @@
 
 ghost use Rattle.std.specs.Prelude.{◌≡◌, ◌-◌, ◌^◌, ◌<◌, List, Some, length, map, min, slice_get, IfOk};
 ghost use Rattle.std.specs.List.{flat_map};
+ghost use Rattle.std.specs.Option.{option_map};
 
 use crate::item::Valued;
 use crate::rows::Rows;
@@ -53,7 +54,17 @@ impl RowLists {
         requires { position < length self.now }
         ensures { slice_get self.now position ≡ Some result }
     {
-        row_at(self.lists.as_slice(), position)
+        let (list, place) = list_at(self.lists.as_slice(), position);
+        list.at(place)
+    }
+
+    /// The worths of the row at a position, from 0.
+    pub fn worths_at(&self, position: usize) -> &[i128]
+        requires { position < length self.now }
+        ensures { Some result.now ≡ option_map (λ row. row.worths) (slice_get self.now position) }
+    {
+        let (list, place) = list_at(self.lists.as_slice(), position);
+        list.worths_at(place)
     }
 
     /// The blocks of the rows, in their order. Fails only where memory is refused.
@@ -82,15 +93,18 @@ fn copied(alloc: Global, rows: &[Valued]) -> Result<Rows, AllocError>
     Ok(copy)
 }
 
-// The row at a position of the files' rows, one file's behind those of the file before it.
-fn row_at(lists: &[Rows], position: usize) -> Valued
+// The file that has the row at a position of the files' rows, one file's behind those of the file before it, and the row's
+// position in it.
+fn list_at(lists: &[Rows], position: usize) -> (&Rows, usize)
     requires { position < length (flat_map (λ list. list) lists.now) }
-    ensures { slice_get (flat_map (λ list. list) lists.now) position ≡ Some result }
+    ensures within { result.1 < length result.0.now }
+    ensures row { slice_get (flat_map (λ list. list) lists.now) position
+        ≡ slice_get result.0.now result.1 }
 {
     let mut place = position;
     for list in lists {
         if place < list.len() {
-            return list.at(place);
+            return (list, place);
         }
         place -= list.len();
     }

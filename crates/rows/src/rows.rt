@@ -65,6 +65,14 @@ impl Rows {
         self.heads[position].row(&self.worths)
     }
 
+    /// The worths of the row at a position, from 0.
+    pub fn worths_at(&self, position: usize) -> &[i128]
+        requires { position < length self.now }
+        ensures { Some result.now ≡ option_map (λ row. row.worths) (slice_get self.now position) }
+    {
+        self.heads[position].own(&self.worths)
+    }
+
     /// Replaces the row at a position, from 0. Where memory is refused the rows are as they were.
     pub fn set(&mut self, position: usize, row: &Valued) -> Result<(), AllocError>
         requires { position < length self.old }

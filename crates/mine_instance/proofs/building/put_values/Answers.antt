@@ -1,8 +1,6 @@
-use Rattle.std.proofs.Common.{◌∙◌}
 use Rattle.mine_instance.proofs.ModelFacts.{worths_fit}
 use Rattle.mine_instance.proofs.building.put_values.Goals as goal
 
 pub put_in_hundreds-requires : goal.put_in_hundreds-requires
 put_in_hundreds-requires c =
-    worths_fit c.worths_are_in_range.ensures c.args.plan.now c.args.row.now.block _ (c.as_slice.ensures.value ∙ c.requires)
-    c.formulas-formulas.ensures.kept.formulas
+    worths_fit c.worths_are_in_range.ensures c.args.plan.now c.requires.0 _ c.requires.1 c.formulas-formulas.ensures.kept.formulas

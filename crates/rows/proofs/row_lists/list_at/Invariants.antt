@@ -1,6 +1,6 @@
 use Rattle.std.proofs.Common.{◌≡◌, ◌+◌, length, take}
 use Rattle.std.specs.List.{flat_map}
-use Rattle.rows.proofs.row_lists.row_at.Given as goal
+use Rattle.rows.proofs.row_lists.list_at.Given as goal
 
 -- the place, behind the lists that were passed
 abbrev pub invariant-loop-list : goal.invariant-loop-list
