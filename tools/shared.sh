@@ -3,10 +3,6 @@
 #
 #     . "$(dirname "$0")/shared.sh"
 
-# The texts of an instance, by the endings of their files, in the order in which they are written.
-# shellcheck disable=SC2034
-endings="blocks prec upit pcpsp cpit"
-
 # Ends with a message. `case_name` is what is being tried, where a script tries several things.
 fail() {
     echo "tools/${0##*/}: ${case_name:+$case_name: }$1" >&2
@@ -45,26 +41,4 @@ at_most() {
     else
         "$@"
     fi
-}
-
-# Runs the program.
-pitc() {
-    at_most 120 "$program" "$@"
-}
-
-# The texts of the files at a base, each behind its section line, as the pipe form prints them.
-sections() {
-    for ending in $endings; do
-        echo "== $ending"
-        cat "$1.$ending"
-    done
-}
-
-# Cuts an input of the pipe form into the files NAME.plan, NAME.0.csv, NAME.1.csv and so on.
-cut_input() {
-    awk -v name="$2" '
-        BEGIN { file = name ".plan" }
-        $0 == "--" { file = name "." zone++ ".csv"; next }
-        { print > file }
-    ' "$1"
 }

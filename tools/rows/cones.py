@@ -1,5 +1,7 @@
 """Identifiers and cones: the precedence file of worked examples, of random models by the test of all pairs, and of a million blocks."""
-from rows.trial import HEADER, Trial, lines, piped, refused
+from rows.instance import at, plain_texts, sections
+from rows.trial import ANY, HEADER, Part, Trial, lines, piped, refused
+from shared import ENDINGS
 
 MILL = "name,one|grid,0,0,0,10,10,10|zone,1,1,1|mill,mill,900,600,1500|periods,1|rate,0.1|"
 
@@ -97,40 +99,23 @@ def blocks_of(seed, begin, sizes):
                     yield (x, y, z), (state >> 40) % 3
 
 
-def cone_of(cells):
-    """The slopes to +x, -x, +y and -y, each as p and q, and K."""
-    *numbers, benches = map(int, cells.split(","))
-    slopes = list(zip(numbers[::2], numbers[1::2]))
-    return slopes * (4 // len(slopes)), benches
-
-
-def is_above(low, high, cone, sizes):
-    """Whether a block is a predecessor of a lower one, which has this cone: the test of the pair, as docs/formats.md has it."""
-    (east, west, north, south), benches = cone
-    dz = high[2] - low[2]
-    if not 1 <= dz <= benches:
-        return False
-    dx, dy = high[0] - low[0], high[1] - low[1]
-    (px, qx), (py, qy) = east if dx > 0 else west, north if dy > 0 else south
-    return (dx * sizes[0] * px * qy) ** 2 + (dy * sizes[1] * py * qx) ** 2 <= (dz * sizes[2] * qx * qy) ** 2
-
-
 def by_all_pairs(name, sizes, zones, blocks):
-    """A model whose precedence file is that of the test of all pairs."""
-    cones = [cone_of(cells) for cells in zones]
-    prec = ""
-    for block, (low, zone) in enumerate(blocks):
-        above = [other for other, (high, _) in enumerate(blocks) if is_above(low, high, cones[zone], sizes)]
-        prec += " ".join(map(str, [block, len(above), *above])) + "|"
-    files = ["".join(row(place, sizes, "1") for place, zone in blocks if zone == file) for file in range(len(zones))]
+    """A model, and its texts by the plain computation, which tests all pairs."""
     metres = ",".join(f"{size // 1000}.{size % 1000:03d}" for size in sizes)
     cells = "".join(f"zone,{cells}|" for cells in zones)
-    return listed(name, f"name,a|grid,0,0,0,{metres}|{cells}mill,m,900,600,1500|periods,1|rate,0.1|", files, prec)
+    plan = lines(f"name,a|grid,0,0,0,{metres}|{cells}mill,m,900,600,1500|periods,1|rate,0.1|")
+
+    def file_of(number):
+        places = (place for place, zone in blocks if zone == number)
+        return HEADER + lines("".join(row(place, sizes, "1") for place in places))
+
+    files = list(map(file_of, range(len(zones))))
+    return Trial(name, given=piped(plan, *files), out=sections(plain_texts(plan, *files)))
 
 
 def listed(name, plan, files, prec):
     """A model, and the lines of its precedence file."""
-    return Trial(name, given=model(plan, files), part=lines(f"== prec|{prec}== upit|"))
+    return Trial(name, given=model(plan, files), out=Part(lines(f"== prec|{prec}== upit|")))
 
 
 def model(plan, files):
@@ -146,13 +131,15 @@ def million_blocks():
         before=[["compile", "--plan", "plan", "--out", "b", "zone"]],
         words=["check", "b"],
         out=b"blocks 1000000 arcs 4780800 coefficients 0 limits 0 cpit 0\n",
+        left=at("b", dict.fromkeys(ENDINGS, ANY)),
     )
 
 
 def trials():
     for name, plan, rows, prec in LISTS:
         yield listed(name, plan, [rows], prec)
-    yield Trial("blocks_out_of_order", given=model(MILL, [OUT_OF_ORDER]), part=lines(f"== blocks|{IN_ORDER}== prec|"))
+    part = Part(lines(f"== blocks|{IN_ORDER}== prec|"))
+    yield Trial("blocks_out_of_order", given=model(MILL, [OUT_OF_ORDER]), out=part)
     yield refused("same_block_in_two_files", "file 1 row 4 repeats file 0 row 2", given=model(TWO_ZONES, REPEATED))
     seed = FIRST_SEED
     for sizes, zones in MODELS:

@@ -1,9 +1,11 @@
 """What the pipe form prints of a plan and its zone files, and where it cuts its input.
 
-tools/commands has one_ore_block, header_alone, empty_file, same_block_in_two_files, limits_and_coefficients, late_fault_in_file_0 and
-sixty_four_files; the table cones has the precedence files.
+The table compile_form has one_ore_block, header_alone, empty_file, same_block_in_two_files,
+limits_and_coefficients, late_fault_in_file_0 and sixty_four_files; the table cones has the
+precedence files.
 """
-from rows.trial import Trial, lines, refused
+from rows.instance import ONE_ORE_BLOCK, sections
+from rows.trial import Part, Trial, lines, refused
 
 HEADER = "x,y,z,tonnes,grade|"
 MILL = "mill,mill,900,600,1500|"
@@ -32,14 +34,6 @@ def zone(*rows):
 ORE = zone("0,0,0,1000,5000")
 
 NO_RESOURCE = "RESOURCE_CONSTRAINT_COEFFICIENTS:|RESOURCE_CONSTRAINT_LIMITS:|"
-
-ONE_ORE_BLOCK = (
-    "== blocks|0 0 0 0 1000 5000 0|== prec|0 0|== upit|NAME: one|TYPE: UPIT|NBLOCKS: 1|OBJECTIVE_FUNCTION:|0 12000|"
-    "== pcpsp|NAME: one|TYPE: PCPSP|NBLOCKS: 1|NPERIODS: 1|NDESTINATIONS: 1|NRESOURCE_SIDE_CONSTRAINTS: 0|"
-    f"NGENERAL_SIDE_CONSTRAINTS: 0|DISCOUNT_RATE: 0.1|OBJECTIVE_FUNCTION:|0 12000|{NO_RESOURCE}"
-    "== cpit|NAME: one|TYPE: CPIT|NBLOCKS: 1|NPERIODS: 1|NRESOURCE_SIDE_CONSTRAINTS: 0|"
-    f"DISCOUNT_RATE: 0.1|OBJECTIVE_FUNCTION:|0 12000|{NO_RESOURCE}"
-)
 
 
 def piped(*pieces):
@@ -155,6 +149,36 @@ CUTS = [
 ]
 
 
+# As many bytes as a plan may have.
+MOST = 1_048_576
+
+# A name, an input that is a file, and the line of the fault with its status.
+FILES = [
+    ("a zone file as the plan", ORE, "plan row 1: Key", 1),
+    ("no zone file", ONE, "settings: Files", 2),
+    ("a zone file too many", f"{ONE}--|{ORE}--|{ORE}", "settings: Files", 2),
+    ("a plan that is too long", ONE.ljust(MOST + 1, "|") + f"--|{ORE}", "plan: TooLong", 1),
+    (
+        "the longest plan, and a row off the grid",
+        ONE.ljust(MOST, "|") + "--|" + zone("5,0,0,1,0"),
+        "file 0 row 2 column x: OffGrid",
+        1,
+    ),
+    ("one file for two zones", f"{TWO}--|{ORE}--|{ORE}", "file 1 row 2 repeats file 0 row 2", 1),
+]
+
+
+def from_files():
+    """Inputs that are files, nothing and a folder."""
+    files = {"input": lines(f"{ONE}--|{ORE}")}
+    yield Trial("the pipe form", source="input", files=files, out=sections(ONE_ORE_BLOCK))
+    for name, text, line, status in FILES:
+        files = {"input": lines(text)}
+        yield refused(f"the pipe form: {name}", line, status, source="input", files=files)
+    yield refused("the pipe form: an empty input", "plan row 1: Missing", source="/dev/null")
+    yield refused("the pipe form: a folder as standard input", "input: FeedFailed", 3, source=".")
+
+
 def repetitions():
     """Each with places that rise and that fall with the letters, and along each axis."""
     for letters, line in REPETITIONS:
@@ -173,29 +197,38 @@ def many_pieces(count):
     """As many zone files as this, of a block each, from the last place to the first."""
     zones = [zone(f"{10 * (count - file)},0,0,1,{file}") for file in range(count)]
     blocks = "".join(f"{number} {number + 1} 0 0 1 {count - number - 1} {count - number - 1}|" for number in range(count))
-    return Trial(f"pieces: {count}", given=piped(plan(zones=count), *zones), part=lines(f"== blocks|{blocks}== prec|"))
+    part = Part(lines(f"== blocks|{blocks}== prec|"))
+    return Trial(f"pieces: {count}", given=piped(plan(zones=count), *zones), out=part)
 
 
 def many_coefficients(resources):
-    """1,000 blocks, of which each third one has no tonnage. All resources cover the first destination, and the first one covers both."""
-    covers = "resource,r0,a,b|" + "".join(f"resource,r{number},a|" for number in range(1, resources))
-    heavy = [block for block in range(1000) if block % 3]
-    rows = [f"{10 * block},0,0,{block if block % 3 else 0},0" for block in range(1000)]
-    coefficients = "".join("".join(f"{block} 0 {number} {block}|" for number in range(resources)) + f"{block} 1 0 {block}|" for block in heavy)
-    chosen = "".join(f"{block} {number} {block}|" for block in heavy for number in range(resources))
+    """1,000 blocks, of which each third has no tonnage. All resources cover the first destination,
+    and the first one covers both."""
+    more = "".join(f"resource,r{number},a|" for number in range(1, resources))
+    rest = f"periods,1|rate,0.1|resource,r0,a,b|{more}"
+    tonnes = [block if block % 3 else 0 for block in range(1000)]
+    rows = [f"{10 * block},0,0,{tonnes[block]},0" for block in range(1000)]
+    coefficients = chosen = ""
+    for block in filter(None, tonnes):
+        for number in range(resources):
+            coefficients += f"{block} 0 {number} {block}|"
+            chosen += f"{block} {number} {block}|"
+        coefficients += f"{block} 1 0 {block}|"
     worths = "".join(f"{block} 0|" for block in range(1000))
     return Trial(
         f"coefficients of 1,000 blocks, {resources + 1} each",
-        given=piped(plan("dump,a,0|dump,b,0|", rest=f"periods,1|rate,0.1|{covers}"), zone(*rows)),
-        part=lines(
+        given=piped(plan("dump,a,0|dump,b,0|", rest=rest), zone(*rows)),
+        out=Part(lines(
             f"RESOURCE_CONSTRAINT_COEFFICIENTS:|{coefficients}RESOURCE_CONSTRAINT_LIMITS:|"
-            f"== cpit|NAME: one|TYPE: CPIT|NBLOCKS: 1000|NPERIODS: 1|NRESOURCE_SIDE_CONSTRAINTS: {resources}|DISCOUNT_RATE: 0.1|"
-            f"OBJECTIVE_FUNCTION:|{worths}RESOURCE_CONSTRAINT_COEFFICIENTS:|{chosen}RESOURCE_CONSTRAINT_LIMITS:|"
-        ),
+            "== cpit|NAME: one|TYPE: CPIT|NBLOCKS: 1000|NPERIODS: 1|"
+            f"NRESOURCE_SIDE_CONSTRAINTS: {resources}|DISCOUNT_RATE: 0.1|OBJECTIVE_FUNCTION:|{worths}"
+            f"RESOURCE_CONSTRAINT_COEFFICIENTS:|{chosen}RESOURCE_CONSTRAINT_LIMITS:|"
+        )),
     )
 
 
 def trials():
+    yield from from_files()
     yield from repetitions()
     for resources in (1, 2, 4):
         yield many_coefficients(resources)
@@ -208,15 +241,16 @@ def trials():
     faulty = [*sixty_four[:63], zone("0,0,0,1,?")]
     yield refused("pieces: the last of 64 is faulty", "file 63 row 2 column grade: Number", given=piped(plan(zones=64), *faulty))
     quoted = '\ufeff"grade",Z,rock,y,X,tonnes\r|" 5000 ",0,"ox, hard",0,0,1000.000\r|'
-    yield Trial("quoted_and_reordered", given=piped(ONE, quoted), out=lines(ONE_ORE_BLOCK))
+    yield Trial("quoted_and_reordered", given=piped(ONE, quoted), out=sections(ONE_ORE_BLOCK))
     for name, pieces, part in PARTS:
-        yield Trial(name, given=piped(*pieces), part=lines(part))
+        yield Trial(name, given=piped(*pieces), out=Part(lines(part)))
     for name, pieces, line in FAULTS:
         yield refused(name, line, given=piped(*pieces))
     for name, text, line in CUTS:
         yield refused(name, line, given=lines(text))
     crossed = lines(f"{ONE}|--||{ORE}").replace(b"\n", b"\r\n")
-    yield Trial("lines that end in CR LF, and blank ones about a cut", given=crossed, out=lines(ONE_ORE_BLOCK))
+    name = "lines that end in CR LF, and blank ones about a cut"
+    yield Trial(name, given=crossed, out=sections(ONE_ORE_BLOCK))
     yield refused("a cut within quotes", "settings: Files", 2, given=lines(f'{ONE}--|{HEADER}"0|--|",0,0,1,0|'))
     yield refused("a million cuts", "settings: Files", 2, given=lines(ONE) + b"--\n" * 1_000_000)
     yield refused(

@@ -1,6 +1,6 @@
 """Plans: which are taken, and the first faulty record of the others; and what the texts show of what a plan states."""
 from rows.cells import Cell, bytes_about_a_name, pairs_of_faults, quoted, with_cell
-from rows.trial import HEADER, Trial, lines, piped, refused
+from rows.trial import HEADER, Part, Trial, lines, piped, refused
 
 WASTE = b"name,waste\ngrid,0,0,0,10,10,10\nzone,1,1,1\ndump,dump,200\nperiods,1\nrate,0.1\n"
 
@@ -334,7 +334,7 @@ def told(name, plan, answer):
 
 def shows(name, plan, rows, part):
     """A plan and the rows of a zone file, and a part of the texts."""
-    return Trial(name, given=piped(plan, HEADER + rows), part=lines(part))
+    return Trial(name, given=piped(plan, HEADER + rows), out=Part(lines(part)))
 
 
 def scanned(bands, grade):

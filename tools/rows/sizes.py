@@ -1,35 +1,33 @@
-"""Inputs, texts and words that are large: each row takes up to some seconds and some hundred megabytes, so they run one after the other."""
-from rows.trial import HEADER, Trial, lines, piped, refused
+"""Inputs, texts and words that are large.
+
+Each row takes up to some seconds and some hundred megabytes, so they run one after the other.
+"""
+from rows.instance import at, instance, plain_texts, sections
+from rows.trial import ANY, HEADER, Trial, lines, piped, refused
+from shared import ENDINGS
 
 ONE_AT_A_TIME = True
 
-REST = "dump,dump,200|periods,1|rate,0.1|"
+# As many bytes as an input or a zone file may have.
+MOST = 268_435_456
 
-ONE = lines("name,one|grid,0,0,0,1,1,1|zone,1,1,1|" + REST)
 
-TWO = lines("name,one|grid,0,0,0,1,1,1|zone,1,1,1|zone,1,1,1|" + REST)
+def plan_of(zones=1, benches=1):
+    """A plan with a dump alone, and so many benches above each block."""
+    zone = f"zone,1,{benches},1|" * zones
+    return lines(f"name,one|grid,0,0,0,1,1,1|{zone}dump,dump,200|periods,1|rate,0.1|")
 
-SIXTY_FOUR = lines("name,one|grid,0,0,0,1,1,1|" + "zone,1,1,1|" * 64 + REST)
+
+ONE, TWO = plan_of(), plan_of(2)
 
 # A cone that holds all of a bench above.
-FLAT = lines("name,one|grid,0,0,0,1,1,1|zone,1,1000,1|" + REST)
+FLAT = plan_of(benches=1000)
 
-# The texts of one block.
-ONE_BLOCK = {
-    "b.blocks": b"0 0 0 0 1 0 0\n",
-    "b.prec": b"0 0\n",
-    "b.pcpsp": lines(
-        "NAME: one|TYPE: PCPSP|NBLOCKS: 1|NPERIODS: 1|NDESTINATIONS: 1|NRESOURCE_SIDE_CONSTRAINTS: 0|NGENERAL_SIDE_CONSTRAINTS: 0|"
-        "DISCOUNT_RATE: 0.1|OBJECTIVE_FUNCTION:|0 -2|RESOURCE_CONSTRAINT_COEFFICIENTS:|RESOURCE_CONSTRAINT_LIMITS:|"
-    ),
-    "b.cpit": lines(
-        "NAME: one|TYPE: CPIT|NBLOCKS: 1|NPERIODS: 1|NRESOURCE_SIDE_CONSTRAINTS: 0|DISCOUNT_RATE: 0.1|OBJECTIVE_FUNCTION:|0 -2|"
-        "RESOURCE_CONSTRAINT_COEFFICIENTS:|RESOURCE_CONSTRAINT_LIMITS:|"
-    ),
-}
+ONE_BLOCK = instance("0 0 0 0 1 0 0|", "0 0|", [-2])
 
-# The bytes of an input: those of the last are as many as it may have.
-INPUT_SIZES = [150_000_000, 268_435_456]
+TWO_BLOCKS = instance("0 0 0 0 1 0 0|1 1 0 0 1 0 0|", "0 0|1 0|", [-2, -2])
+
+OLDER = at("b", dict.fromkeys(ENDINGS, b"older\n"))
 
 
 def bench(z, wide, deep):
@@ -42,78 +40,111 @@ def rows(places):
     return HEADER + "".join("%d,%d,%d,1,0\n" % place for place in places).encode()
 
 
+def block_lines(places):
+    """The lines of a block file of blocks of a tonne."""
+    return "".join("%d %d %d %d 1 0 0|" % (block, *place) for block, place in enumerate(places))
+
+
+def compiles(*zones):
+    """The words of a run into the base `b`."""
+    return ["compile", "--plan", "plan", "--out", "b", *zones]
+
+
+def million_rows():
+    """As many rows as a file may have, all of them valued by one valuer, and one more."""
+    places = bench(0, 1000, 1000)
+    prec = "".join(f"{block} 0|" for block in range(10**6))
+    left = at("b", instance(block_lines(places), prec, [-2] * 10**6))
+    words, files = [*compiles("zone"), "--valuers", "1"], {"plan": ONE, "zone": rows(places)}
+    yield Trial("a million rows", words=words, files=files, out=b"rows 1000000\n", left=left)
+    files = {**OLDER, "plan": ONE, "zone": files["zone"] + b"0,0,1,1,0\n"}
+    line = "file 0 row 1000002 column whole: TooManyRows"
+    yield refused("a million rows and one", line, words=compiles("zone"), files=files)
+
+
 def two_files():
-    """Two files of as many rows as a file may have, one above the other. A block has five predecessors, and one less at each side."""
+    """Two files of as many rows as a file may have, one above the other.
+
+    A block has five predecessors, and one less at each side.
+    """
     files = {"plan": TWO, "low": rows(bench(0, 1000, 1000)), "high": rows(bench(1, 1000, 1000))}
     return Trial(
         "two_files_of_a_million_rows",
         files=files,
-        before=[["compile", "--plan", "plan", "--out", "b", "low", "high"]],
+        before=[compiles("low", "high")],
         words=["check", "b"],
         out=b"blocks 2000000 arcs 4996000 coefficients 0 limits 0 cpit 0\n",
+        left=at("b", dict.fromkeys(ENDINGS, ANY)),
     )
 
 
 def long_text():
-    """20,000 blocks below 1,000, each of which is a predecessor of each: the precedence file has 120 MB."""
+    """20,000 blocks, each below each of 1,000: the precedence file has 120 MB."""
     low, high = bench(0, 200, 100), bench(1, 100, 10)
-    above = " 1000 " + " ".join(str(len(low) + upper) for upper in range(len(high))) + "\n"
-    head = f"NAME: one|TYPE: %s|NBLOCKS: {len(low + high)}|"
-    objective = "OBJECTIVE_FUNCTION:|" + "".join(f"{block} -2|" for block in range(len(low + high)))
-    tail = f"DISCOUNT_RATE: 0.1|{objective}RESOURCE_CONSTRAINT_COEFFICIENTS:|RESOURCE_CONSTRAINT_LIMITS:|"
-    side = "NRESOURCE_SIDE_CONSTRAINTS: 0|"
-    return Trial(
-        "text_of_120_megabytes",
-        given=piped(FLAT, rows(low + high)),
-        out=b"".join([
-            b"== blocks\n",
-            "".join("%d %d %d %d 1 0 0\n" % (block, *place) for block, place in enumerate(low + high)).encode(),
-            b"== prec\n",
-            "".join(f"{block}{above}" for block in range(len(low))).encode(),
-            "".join(f"{block} 0\n" for block in range(len(low), len(low + high))).encode(),
-            lines("== upit|" + head % "UPIT" + objective),
-            lines("== pcpsp|" + head % "PCPSP" + f"NPERIODS: 1|NDESTINATIONS: 1|{side}NGENERAL_SIDE_CONSTRAINTS: 0|{tail}"),
-            lines("== cpit|" + head % "CPIT" + f"NPERIODS: 1|{side}{tail}"),
-        ]),
-    )
+    count, whole = len(low), len(low + high)
+    above = " 1000 " + " ".join(map(str, range(count, whole))) + "|"
+    prec = "".join(f"{block}{above}" for block in range(count))
+    prec += "".join(f"{block} 0|" for block in range(count, whole))
+    texts = instance(block_lines(low + high), prec, [-2] * whole)
+    return Trial("text_of_120_megabytes", given=piped(FLAT, rows(low + high)), out=sections(texts))
 
 
 def long_inputs():
-    """A zone file with a cell that is not looked at, so long that the input has this many bytes: by the pipe form, and as a file."""
+    """A long cell that is not looked at, in an input of the pipe form and in a zone file."""
     head, end = b"x,y,z,tonnes,grade,rock\n0,0,0,1,0,", b"\n1,0,0,1,0,\n"
-    for size in INPUT_SIZES:
+    for size in (150_000_000, MOST):
         given = piped(ONE, head)
         text = given + b"b" * (size - len(given) - len(end)) + end
-        yield Trial(f"input of {size} bytes", given=text, part=b"== blocks\n0 0 0 0 1 0 0\n1 1 0 0 1 0 0\n== prec\n")
+        yield Trial(f"input of {size} bytes", given=text, out=sections(TWO_BLOCKS))
         text = head + b"b" * (size - len(head) - len(end)) + end
-        files = {"plan": ONE, "z": text}
-        yield Trial(f"zone file of {size} bytes", words=["compile", "--plan", "plan", "--out", "b", "z"], files=files, out=b"rows 2\n")
+        files, left = {"plan": ONE, "z": text}, at("b", TWO_BLOCKS)
+        name, words = f"zone file of {size} bytes", compiles("z")
+        yield Trial(name, words=words, files=files, out=b"rows 2\n", left=left)
+
+
+def too_long():
+    """Files of zeros, of as many bytes as there may be, and of one more."""
+    longest, long = bytes(MOST), bytes(MOST + 1)
+    files = {"longest": longest, "long": long}
+    yield refused("the longest input", "plan: TooLong", source="longest", files=files)
+    yield refused("an input that is too long", "input: TooLong", source="long", files=files)
+    files = {**OLDER, "plan": TWO, "ore": rows(bench(0, 1, 1)), "long": long}
+    words = compiles("ore", "long")
+    yield refused("a zone file that is too long", "file 1: TooLong", words=words, files=files)
+    files = at("b", {**ONE_BLOCK, "blocks": long})
+    name = "a block file longer than a zone file may be"
+    yield refused(name, "blocks line 1: Fields", words=["check", "b"], files=files)
 
 
 def long_files():
-    """Each text of an instance behind a remark of 200 MB."""
+    """Each text that is read of an instance behind a remark of 200 MB."""
     remark = b"%" + b"x" * 200_000_000 + b"\n"
     counts = b"blocks 1 arcs 0 coefficients 0 limits 0 cpit 0\n"
-    for name, text in ONE_BLOCK.items():
-        yield Trial(f"200 MB before {name}", words=["check", "b"], files={**ONE_BLOCK, name: remark + text}, out=counts)
+    for ending in ("blocks", "prec", "pcpsp", "cpit"):
+        files = at("b", {**ONE_BLOCK, ending: remark + ONE_BLOCK[ending]})
+        yield Trial(f"200 MB before b.{ending}", words=["check", "b"], files=files, out=counts)
 
 
 def many_words():
-    """As many zone files as a plan may name, without a number of valuers, and more words than that."""
-    files = {"plan": SIXTY_FOUR, **{f"z{zone}": rows([(zone, 0, 0)]) for zone in range(64)}}
-    zones = [f"z{zone}" for zone in range(64)]
-    words = ["compile", "--plan", "plan", *zones, "--out", "b"]
-    yield Trial("sixty_four_files by as many valuers as are not asked for", words=words, files=files, out=b"rows 64\n")
+    """As many zone files as a plan may name, without a number of valuers, and more words."""
+    zones = {f"z{zone}": rows([(zone, 0, 0)]) for zone in range(64)}
+    files, names = {"plan": plan_of(64), **zones}, list(zones)
+    left = at("b", plain_texts(plan_of(64), *zones.values()))
+    name = "sixty_four_files by as many valuers as are not asked for"
+    yield Trial(name, words=compiles(*names), files=files, out=b"rows 64\n", left=left)
     for count in (90, 300):
-        words = ["compile", "--plan", "plan", *(zones[zone % 64] for zone in range(count)), "--out", "b"]
-        yield refused(f"{count} zone files for 64 zones", "settings: Files", 2, words=words, files=files)
-        line = f"file {count}: FeedFailed"
-        yield refused(f"{count} zone files and one that is not there", line, 3, words=[*words, "none"], files=files)
+        words = compiles(*(names[zone % 64] for zone in range(count)))
+        name = f"{count} zone files for 64 zones"
+        yield refused(name, "settings: Files", 2, words=words, files=files)
+        name, words = f"{count} zone files and one that is not there", [*words, "none"]
+        yield refused(name, f"file {count}: FeedFailed", 3, words=words, files=files)
 
 
 def trials():
     yield from many_words()
+    yield from million_rows()
     yield two_files()
     yield long_text()
     yield from long_inputs()
+    yield from too_long()
     yield from long_files()

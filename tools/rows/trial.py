@@ -1,46 +1,105 @@
-"""A run of pitc, and what it has to answer."""
+"""A run of pitc, and what it has to answer and to leave."""
+import hashlib
 import os
-from typing import Mapping, NamedTuple, Sequence
+from typing import Mapping, NamedTuple, Sequence, Union
 
 HEADER = b"x,y,z,tonnes,grade\n"
 
 
-class Trial(NamedTuple):
-    """What a run is given, and what it has to answer: its status, all of its standard error, and all or a part of its standard output.
+class Part(NamedTuple):
+    """Any text that has this one in it."""
 
-    The runs before it are those of other words on the same files, which have to end with 0.
+    text: bytes
+
+    def fits(self, found):
+        return self.text in found
+
+
+class Front(NamedTuple):
+    """Any text that begins so."""
+
+    text: bytes
+
+    def fits(self, found):
+        return found.startswith(self.text)
+
+
+class Sum(NamedTuple):
+    """The text of which this is the SHA-256."""
+
+    digits: str
+
+    def fits(self, found):
+        return hashlib.sha256(found).hexdigest() == self.digits
+
+
+class Folder(NamedTuple):
+    """An empty folder in the place of a file."""
+
+
+class Link(NamedTuple):
+    """A link to another file in the place of a file."""
+
+    target: str
+
+
+ANY = Part(b"")
+
+Content = Union[bytes, Part, Front, Sum, Folder, Link]
+
+
+class Trial(NamedTuple):
+    """What a run is given, and what it has to answer and to leave.
+
+    What is given comes through a pipe, but where a source is named: a file or a folder that is
+    standard input. The runs before it are those of other words on the same files, which have to end
+    with 0. The files stay as they are, and no others come, but for those that are left.
     """
 
     name: str
     status: int = 0
-    words: Sequence[str] = ()
+    words: Sequence[Union[str, bytes]] = ()
     given: bytes = b""
-    files: Mapping[str, bytes] = {}
+    source: str = ""
+    files: Mapping[str, Content] = {}
     before: Sequence[Sequence[str]] = ()
-    out: bytes = b""
-    part: bytes = b""
-    errors: bytes = b""
+    out: Content = b""
+    errors: Content = b""
+    left: Mapping[str, Content] = {}
 
-    def difference(self, status, out, errors):
-        """What a run answered that it should not have, or nothing."""
-        wanted = self.part if self.part else self.out
-        is_out = self.part in out if self.part else out == self.out
-        if (status, errors) == (self.status, self.errors) and is_out:
-            return None
-        found, wanted = apart(out, wanted)
-        return f"status {status}, {shown(found)} and {shown(errors)} in place of {self.status}, {shown(wanted)} and {shown(self.errors)}"
-
-
-def apart(text, wanted):
-    """A text that has not these lines, and the lines, each from the first line on in which they differ."""
-    text = text[max(text.find(wanted.split(b"\n")[0]), 0) :]
-    same = os.path.commonprefix([text, wanted]).rfind(b"\n") + 1
-    return text[same:], wanted[same:]
+    def differences(self, status, out, errors, files):
+        """What a run answered or left that it should not have."""
+        if status != self.status:
+            yield f"status {status} in place of {self.status}"
+        found = {"standard output": out, "standard error": errors, **files}
+        wanted = {"standard output": self.out, "standard error": self.errors}
+        wanted.update({**self.files, **self.left})
+        for name in sorted({*found, *wanted}):
+            if name not in found or name not in wanted:
+                yield f"{name} is {'not ' if name in wanted else ''}there"
+            elif not fits(found[name], wanted[name]):
+                yield difference(name, found[name], wanted[name])
 
 
-def shown(text):
-    """A text, cut where it is long."""
-    return repr(text if len(text) <= 200 else text[:200] + b"..")
+def fits(found, wanted):
+    return wanted.fits(found) if isinstance(wanted, (Part, Front, Sum)) else found == wanted
+
+
+def difference(name, found, wanted):
+    """A text and what is wanted of it, each from the first line on in which they differ."""
+    if isinstance(wanted, Part):
+        found = found[max(found.find(wanted.text.split(b"\n")[0]), 0) :]
+    if isinstance(wanted, (Part, Front)):
+        wanted = wanted.text
+    if isinstance(found, bytes) and isinstance(wanted, bytes):
+        same = os.path.commonprefix([found, wanted]).rfind(b"\n") + 1
+        found, wanted = found[same:], wanted[same:]
+    return f"{name} has {shown(found)} in place of {shown(wanted)}"
+
+
+def shown(content):
+    """A content, cut where it is long."""
+    return repr(content if len(content) <= 200 else content[:200] + b"..")
 
 
 def lines(text):
@@ -49,7 +108,7 @@ def lines(text):
 
 
 def piped(plan, *zones):
-    """The input of the pipe form: a plan and its zone files, each but the last with its last line end."""
+    """The input of the pipe form: a plan and zone files, each but the last with its line end."""
     return b"--\n".join([plan, *zones])
 
 

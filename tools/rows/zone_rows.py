@@ -2,7 +2,7 @@
 import itertools
 
 from rows.cells import BLANKS, EVERY_BYTE, Cell, pairs_of_faults, quoted, shortest, with_cell
-from rows.trial import HEADER, Trial, lines, piped, refused
+from rows.trial import HEADER, Part, Trial, lines, piped, refused
 
 # Blocks are cubes of 10 m, the first of them at the origin.
 PLAN = b"name,waste\ngrid,0,0,0,10,10,10\nzone,1,1,1\ndump,dump,200\nperiods,1\nrate,0.1\n"
@@ -192,7 +192,7 @@ def says(name, text, answer, plan=PLAN):
     given = piped(plan, text)
     if answer.startswith("row "):
         return refused(name, "file 0 " + answer, given=given)
-    return Trial(name, given=given, part=lines(f"== blocks|{answer}== prec|"))
+    return Trial(name, given=given, out=Part(lines(f"== blocks|{answer}== prec|")))
 
 
 def numbers():

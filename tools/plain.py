@@ -1,0 +1,173 @@
+#!/usr/bin/env python3
+"""The five texts of a plan and its zone files, by a plain computation.
+
+    tools/plain.py BASE PLAN ZONE..         writes them at a base
+
+It is written from docs/formats.md alone, in another language than pitc: it counts in whole numbers,
+tests all pairs of blocks for cones, and knows no fault but that of a repeated block.
+tools/random-models and the tables of tools/rows compare what a built pitc answers with it.
+"""
+import csv
+import io
+import sys
+from decimal import Decimal
+from typing import NamedTuple
+
+import shared
+
+
+class Block(NamedTuple):
+    """A block: its bench, row and column, its zone, kilograms, and millionths of a gram a tonne."""
+
+    place: tuple
+    zone: int
+    mass: int
+    grade: int
+
+
+def shortest(millionths):
+    whole, part = divmod(abs(millionths), 10**6)
+    return ("-" if millionths < 0 else "") + f"{whole}.{part:06d}".rstrip("0").rstrip(".")
+
+
+def scaled(text, factor):
+    return int(Decimal(text) * factor)
+
+
+def plan_of(text):
+    plan = {"zones": [], "destinations": [], "resources": [], "limits": []}
+    for key, *cells in csv.reader(io.StringIO(text)):
+        if key == "grid":
+            plan["origin"] = [scaled(cell, 1000) for cell in cells[:3]]
+            plan["size"] = [scaled(cell, 1000) for cell in cells[3:]]
+        elif key == "zone":
+            numbers = list(map(int, cells))
+            slopes = list(zip(numbers[:-1:2], numbers[1::2]))
+            plan["zones"].append((slopes * (4 // len(slopes)), numbers[-1]))
+        elif key in ("mill", "leach", "dump"):
+            plan["destinations"].append((key, cells[0], cells[1:]))
+        elif key == "resource":
+            names = [name for _, name, _ in plan["destinations"]]
+            plan["resources"].append((cells[0], {names.index(name) for name in cells[1:]}))
+        elif key == "limit":
+            names = [name for name, _ in plan["resources"]]
+            plan["limits"].append((names.index(cells[0]), int(cells[1]), cells[2], cells[3:]))
+        else:
+            plan[key] = cells[0]
+    return plan
+
+
+def worth(kind, cells, block):
+    """What a block is worth at a destination, in cents."""
+    if kind == "dump":
+        return -block.mass * int(cells[0]) // 1000
+    if kind == "mill":
+        recovery, price, cost = map(int, cells)
+    else:
+        price, cost = map(int, cells[:2])
+        recovery = 0
+        for start, share in zip(cells[2::2], cells[3::2]):
+            if scaled(start, 10**6) <= block.grade:
+                recovery = int(share)
+    metal = block.mass * block.grade * recovery
+    return (metal * price - block.mass * cost * 10**12) // 10**15
+
+
+def is_above(plan, lower, upper):
+    """Whether a block has to wait for an upper one."""
+    (east, west, north, south), benches = plan["zones"][lower.zone]
+    dz, dy, dx = (up - low for up, low in zip(upper.place, lower.place))
+    if not 1 <= dz <= benches:
+        return False
+    (px, qx), (py, qy) = east if dx > 0 else west, north if dy > 0 else south
+    sx, sy, sz = plan["size"]
+    return (dx * sx * px * qy) ** 2 + (dy * sy * py * qx) ** 2 <= (dz * sz * qx * qy) ** 2
+
+
+def blocks_of(plan, files):
+    """The blocks of the files in order, or the line of the first repetition."""
+    blocks, seen = [], {}
+    for zone, text in enumerate(files):
+        for number, row in enumerate(csv.DictReader(io.StringIO(text)), start=2):
+            metres = (scaled(row[axis], 1000) for axis in "zyx")
+            grid = zip(metres, plan["origin"][::-1], plan["size"][::-1])
+            place = tuple((at - origin) // size for at, origin, size in grid)
+            if place in seen:
+                first, row_before = seen[place]
+                return f"pitc: file {zone} row {number} repeats file {first} row {row_before}\n"
+            seen[place] = zone, number
+            mass, grade = scaled(row["tonnes"], 1000), scaled(row["grade"], 10**6)
+            blocks.append(Block(place, zone, mass, grade))
+    return sorted(blocks)
+
+
+def block_line(number, block):
+    indices = " ".join(map(str, reversed(block.place)))
+    return f"{number} {indices} {tonnes(block)} {shortest(block.grade)} {block.zone}"
+
+
+def prec_line(plan, blocks, number, block):
+    above = [other for other, upper in enumerate(blocks) if is_above(plan, block, upper)]
+    return " ".join(map(str, [number, len(above), *above]))
+
+
+def tonnes(block):
+    return shortest(block.mass * 1000)
+
+
+def model(plan, kind, keys, objective, coefficients):
+    """The lines of a model file: its header, the values of each block, and its resources."""
+    yield from ["NAME: " + plan["name"], "TYPE: " + kind, f"NBLOCKS: {len(objective)}", *keys]
+    yield "OBJECTIVE_FUNCTION:"
+    yield from (f"{number} {values}" for number, values in enumerate(objective))
+    if kind != "UPIT":
+        yield from ["RESOURCE_CONSTRAINT_COEFFICIENTS:", *coefficients]
+        yield "RESOURCE_CONSTRAINT_LIMITS:"
+        for resource, period, letter, cells in sorted(plan["limits"]):
+            ends = " ".join(shortest(scaled(cell, 10**6)) for cell in cells)
+            yield f"{resource} {period} {letter} {ends}"
+
+
+def compiled(text, files):
+    """The five texts by their endings, or the line of the refusal."""
+    plan = plan_of(text)
+    blocks = blocks_of(plan, files)
+    if isinstance(blocks, str):
+        return blocks
+    destinations = [(kind, cells) for kind, _, cells in plan["destinations"]]
+    covers = [covered for _, covered in plan["resources"]]
+    worths = [[worth(*destination, block) for destination in destinations] for block in blocks]
+    dollars = [[shortest(cents * 10000) for cents in row] for row in worths]
+    best = [row.index(max(row)) for row in worths]
+    greatest = [row[place] for row, place in zip(dollars, best)]
+    held = [(number, tonnes(block)) for number, block in enumerate(blocks) if block.mass]
+    pcpsp = [f"{number} {place} {resource} {mass}" for number, mass in held
+             for place in range(len(destinations))
+             for resource, covered in enumerate(covers) if place in covered]
+    cpit = [f"{number} {resource} {mass}" for number, mass in held
+            for resource, covered in enumerate(covers) if best[number] in covered]
+    periods, rate = plan["periods"], shortest(scaled(plan["rate"], 10**6))
+    front, back = [f"NPERIODS: {periods}"], [f"DISCOUNT_RATE: {rate}"]
+    side = f"NRESOURCE_SIDE_CONSTRAINTS: {len(covers)}"
+    sides = [f"NDESTINATIONS: {len(destinations)}", side, "NGENERAL_SIDE_CONSTRAINTS: 0"]
+    texts = [
+        (block_line(number, block) for number, block in enumerate(blocks)),
+        (prec_line(plan, blocks, number, block) for number, block in enumerate(blocks)),
+        model(plan, "UPIT", [], greatest, []),
+        model(plan, "PCPSP", [*front, *sides, *back], list(map(" ".join, dollars)), pcpsp),
+        model(plan, "CPIT", [*front, side, *back], greatest, cpit),
+    ]
+    whole = ("".join(line + "\n" for line in lines) for lines in texts)
+    return dict(zip(shared.ENDINGS, whole))
+
+
+def main():
+    base, plan, *zones = sys.argv[1:]
+    answer = compiled(shared.read(plan), list(map(shared.read, zones)))
+    if isinstance(answer, str):
+        sys.exit(answer.rstrip())
+    shared.write_texts(base, answer)
+
+
+if __name__ == "__main__":
+    main()

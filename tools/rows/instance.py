@@ -1,0 +1,84 @@
+"""Inputs and texts that several tables have."""
+import plain
+from rows.trial import lines
+from shared import ENDINGS, model
+
+
+def input_of(path):
+    """The plan and the zone files of an input of the pipe form in this repository."""
+    plan, zones = model(path)
+    return plan.encode(), *(zone.encode() for zone in zones)
+
+
+# One ore block under a mill.
+PLAN, ORE = input_of("crates/pitc/stdin")
+
+
+def instance(blocks, prec, worths, name="one"):
+    """The texts by their endings of an instance with one destination, one period and no resource.
+
+    The lines of its block file and of its precedence file end in bars; each block is worth so much.
+    """
+    values = "".join(f"{block} {worth}|" for block, worth in enumerate(worths))
+    objective = "OBJECTIVE_FUNCTION:|" + values
+    resources = "RESOURCE_CONSTRAINT_COEFFICIENTS:|RESOURCE_CONSTRAINT_LIMITS:|"
+    side = "NRESOURCE_SIDE_CONSTRAINTS: 0|"
+    sides = f"NDESTINATIONS: 1|{side}NGENERAL_SIDE_CONSTRAINTS: 0|"
+
+    def model_file(kind, rest):
+        return f"NAME: {name}|TYPE: {kind}|NBLOCKS: {len(worths)}|{rest}"
+
+    def scheduled(kind, keys):
+        rest = f"NPERIODS: 1|{keys}DISCOUNT_RATE: 0.1|{objective}{resources}"
+        return model_file(kind, rest)
+
+    models = [model_file("UPIT", objective), scheduled("PCPSP", sides), scheduled("CPIT", side)]
+    return dict(zip(ENDINGS, map(lines, [blocks, prec, *models])))
+
+
+ONE_ORE_BLOCK = instance("0 0 0 0 1000 5000 0|", "0 0|", [12000])
+
+
+def plain_texts(plan, *zones):
+    """The texts by their endings that the plain computation makes of a plan and its zone files."""
+    texts = plain.compiled(plan.decode(), [zone.decode() for zone in zones])
+    return {ending: text.encode() for ending, text in texts.items()}
+
+
+def sections(texts):
+    """The texts, each under its section line."""
+    return b"".join(b"== %s\n%s" % (ending.encode(), text) for ending, text in texts.items())
+
+
+def at(base, texts):
+    """The files of texts at a base."""
+    return {f"{base}.{ending}": text for ending, text in texts.items()}
+
+
+LIMITED = input_of("tools/models/limits_and_coefficients.txt")
+
+# As many destinations and resources as there may be, each of which covers all.
+NINE = input_of("tools/models/nine_blocks_of_many_numbers.txt")
+
+SAME = input_of("tools/models/same_block_in_two_files.txt")
+
+LIMITED_TEXTS = dict(zip(ENDINGS, map(lines, [
+    "0 0 0 0 1000 5000 0|1 1 0 0 0 7 0|",
+    "0 0|1 0|",
+    "NAME: one|TYPE: UPIT|NBLOCKS: 2|OBJECTIVE_FUNCTION:|0 12000|1 0|",
+    "NAME: one|TYPE: PCPSP|NBLOCKS: 2|NPERIODS: 2|NDESTINATIONS: 2|NRESOURCE_SIDE_CONSTRAINTS: 1|"
+    "NGENERAL_SIDE_CONSTRAINTS: 0|DISCOUNT_RATE: 0.1|OBJECTIVE_FUNCTION:|0 12000 -2000|1 0 0|"
+    "RESOURCE_CONSTRAINT_COEFFICIENTS:|0 0 0 1000|"
+    "RESOURCE_CONSTRAINT_LIMITS:|0 0 L 500.5|0 1 I 0 900|",
+    "NAME: one|TYPE: CPIT|NBLOCKS: 2|NPERIODS: 2|NRESOURCE_SIDE_CONSTRAINTS: 1|DISCOUNT_RATE: 0.1|"
+    "OBJECTIVE_FUNCTION:|0 12000|1 0|RESOURCE_CONSTRAINT_COEFFICIENTS:|0 0 1000|"
+    "RESOURCE_CONSTRAINT_LIMITS:|0 0 L 500.5|0 1 I 0 900|",
+])))
+
+NINE_PREC = "0 5 3 4 6 7 8|1 6 3 4 5 6 7 8|2 5 4 5 6 7 8|3 2 6 7|4 3 6 7 8|5 2 7 8|6 0|7 0|8 0|"
+
+NINE_TEXTS = {**plain_texts(*NINE), "prec": lines(NINE_PREC)}
+
+NO_BLOCK = instance("", "", [])
+
+TWO_ZONES = instance("0 0 0 0 1000 5000 1|1 1 0 0 1 0 0|", "0 0|1 0|", [12000, -15])
