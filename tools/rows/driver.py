@@ -1,0 +1,52 @@
+"""Runs a built pitc on a row, in a folder of its own."""
+import os
+import subprocess
+import tempfile
+
+from rows.trial import Folder, Link
+
+
+def put(path, content):
+    """Puts a file, a folder or a link at a path."""
+    if isinstance(content, Folder):
+        os.mkdir(path)
+    elif isinstance(content, Link):
+        os.symlink(content.target, path)
+    else:
+        with open(path, "wb") as file:
+            file.write(content)
+
+
+def found(path):
+    """What stands at a path."""
+    if os.path.islink(path):
+        return Link(os.readlink(path))
+    if os.path.isdir(path):
+        return os.listdir(path) or Folder()
+    with open(path, "rb") as file:
+        return file.read()
+
+
+def run(program, words, trial, folder):
+    """One run in the folder of a row, with its standard input."""
+    how = {"cwd": folder, "capture_output": True, "timeout": 120}
+    if not trial.source:
+        return subprocess.run([program, *words], input=trial.given, **how)
+    source = os.open(os.path.join(folder, trial.source), os.O_RDONLY)
+    try:
+        return subprocess.run([program, *words], stdin=source, **how)
+    finally:
+        os.close(source)
+
+
+def differences(program, trial):
+    """What a row's run answered or left that it should not have, behind the runs before it."""
+    with tempfile.TemporaryDirectory() as folder:
+        for name, content in trial.files.items():
+            put(os.path.join(folder, name), content)
+        for words in [*trial.before, trial.words]:
+            ran = run(program, words, trial, folder)
+            if ran.returncode != 0:
+                break
+        files = {name: found(os.path.join(folder, name)) for name in os.listdir(folder)}
+    return list(trial.differences(ran.returncode, ran.stdout, ran.stderr, files))
