@@ -1,5 +1,6 @@
 """Plans: which are taken, and the first faulty record of the others; and what the texts show of what a plan states."""
 from rows.cells import Cell, bytes_about_a_name, pairs_of_faults, quoted, with_cell
+from rows.instance import instance, sections
 from rows.trial import HEADER, Part, Trial, lines, piped, refused
 
 WASTE = b"name,waste\ngrid,0,0,0,10,10,10\nzone,1,1,1\ndump,dump,200\nperiods,1\nrate,0.1\n"
@@ -285,15 +286,7 @@ LIMITS_IN_ORDER = "RESOURCE_CONSTRAINT_LIMITS:|0 0 L 500.5|0 1 I 0 900|1 0 G 0.5
 COVERED_DESTINATIONS = "RESOURCE_CONSTRAINT_COEFFICIENTS:|0 0 0 1|0 0 1 1|0 1 0 1|RESOURCE_CONSTRAINT_LIMITS:|"
 
 # All five texts of one block of the waste plan.
-THE_WASTE_PLAN = (
-    "== blocks|0 0 0 0 0.001 0 0|== prec|0 0|"
-    "== upit|NAME: waste|TYPE: UPIT|NBLOCKS: 1|OBJECTIVE_FUNCTION:|0 -0.01|"
-    "== pcpsp|NAME: waste|TYPE: PCPSP|NBLOCKS: 1|NPERIODS: 1|NDESTINATIONS: 1|NRESOURCE_SIDE_CONSTRAINTS: 0|"
-    "NGENERAL_SIDE_CONSTRAINTS: 0|DISCOUNT_RATE: 0.1|OBJECTIVE_FUNCTION:|0 -0.01|"
-    "RESOURCE_CONSTRAINT_COEFFICIENTS:|RESOURCE_CONSTRAINT_LIMITS:|"
-    "== cpit|NAME: waste|TYPE: CPIT|NBLOCKS: 1|NPERIODS: 1|NRESOURCE_SIDE_CONSTRAINTS: 0|DISCOUNT_RATE: 0.1|"
-    "OBJECTIVE_FUNCTION:|0 -0.01|RESOURCE_CONSTRAINT_COEFFICIENTS:|RESOURCE_CONSTRAINT_LIMITS:|"
-)
+THE_WASTE_PLAN = sections(instance("0 0 0 0 0.001 0 0|", "0 0|", ["-0.01"], "waste"))
 
 # The worths of three blocks of 1000 t on a leach of two bands: at the second, just below it, and below the first.
 LEACH = "name,n|grid,0,0,0,1,1,1|zone,1,1,1|leach,heap,10000000,100,1,300,2.5,450|periods,1|rate,0|"
@@ -430,7 +423,8 @@ def trials():
         yield told(f"marks_and_nothing: {name}", plan, answer)
     for name, plan, answer in MANY:
         yield told(f"ten_thousand_records: {name}", plan, answer)
-    yield shows("the_waste_plan", WASTE, b"0,0,0,0.001,0\n", THE_WASTE_PLAN)
+    given = piped(WASTE, HEADER + b"0,0,0,0.001,0\n")
+    yield Trial("the_waste_plan", given=given, out=THE_WASTE_PLAN)
     for cells, row, place in GRIDS:
         plan = lines(f"name,n|grid,{cells}|zone,1,1,1|dump,d,1|periods,1|rate,0|")
         yield shows(f"grids: {cells}", plan, lines(f"{row},1,0|"), f"== blocks|0 {place} 1 0 0|== prec|")

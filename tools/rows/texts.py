@@ -3,6 +3,7 @@ import itertools
 from typing import Callable, NamedTuple, Optional, Sequence
 
 from rows.cells import BLANKS, EVERY_BYTE, Cell, bytes_about_a_name, pairs_of_faults, with_cell
+from rows.instance import LIMITED_TEXTS, NO_BLOCK, ONE_ORE_BLOCK, at
 from rows.trial import Trial, lines, refused
 
 
@@ -38,46 +39,16 @@ def whole(text):
     return "".join(line + "\n" for line in text).encode()
 
 
+def lines_of(text):
+    return text.decode().splitlines()
+
+
 # Two blocks under a mill and a dump, with a resource and its limits.
-BLOCKS = b"0 0 0 0 1000 5000 0\n1 1 0 0 0 7 0\n"
+BLOCKS = LIMITED_TEXTS["blocks"]
 
 PREC = b"0 1 1\n1 0\n"
 
-PCPSP = [
-    "NAME: one",
-    "TYPE: PCPSP",
-    "NBLOCKS: 2",
-    "NPERIODS: 2",
-    "NDESTINATIONS: 2",
-    "NRESOURCE_SIDE_CONSTRAINTS: 1",
-    "NGENERAL_SIDE_CONSTRAINTS: 0",
-    "DISCOUNT_RATE: 0.1",
-    "OBJECTIVE_FUNCTION:",
-    "0 12000 -2000",
-    "1 0 0",
-    "RESOURCE_CONSTRAINT_COEFFICIENTS:",
-    "0 0 0 1000",
-    "RESOURCE_CONSTRAINT_LIMITS:",
-    "0 0 L 500.5",
-    "0 1 I 0 900",
-]
-
-CPIT = [
-    "NAME: one",
-    "TYPE: CPIT",
-    "NBLOCKS: 2",
-    "NPERIODS: 2",
-    "NRESOURCE_SIDE_CONSTRAINTS: 1",
-    "DISCOUNT_RATE: 0.1",
-    "OBJECTIVE_FUNCTION:",
-    "0 12000",
-    "1 0",
-    "RESOURCE_CONSTRAINT_COEFFICIENTS:",
-    "0 0 1000",
-    "RESOURCE_CONSTRAINT_LIMITS:",
-    "0 0 L 500.5",
-    "0 1 I 0 900",
-]
+PCPSP, CPIT = (lines_of(LIMITED_TEXTS[ending]) for ending in ("pcpsp", "cpit"))
 
 # The fields of lines, by docs/formats.md: they count kilograms, millionths or whole numbers. Each line is the second of two blocks, or
 # the first of its section. There are two resources.
@@ -253,24 +224,9 @@ SPELLINGS = [
 ]
 
 # One block under a mill.
-ONE_BLOCK = b"0 0 0 0 1000 5000 0\n"
+ONE_BLOCK, ONE_PREC = ONE_ORE_BLOCK["blocks"], ONE_ORE_BLOCK["prec"]
 
-ONE_PREC = b"0 0\n"
-
-ONE_PCPSP = [
-    "NAME: one",
-    "TYPE: PCPSP",
-    "NBLOCKS: 1",
-    "NPERIODS: 1",
-    "NDESTINATIONS: 1",
-    "NRESOURCE_SIDE_CONSTRAINTS: 0",
-    "NGENERAL_SIDE_CONSTRAINTS: 0",
-    "DISCOUNT_RATE: 0.1",
-    "OBJECTIVE_FUNCTION:",
-    "0 12000",
-    "RESOURCE_CONSTRAINT_COEFFICIENTS:",
-    "RESOURCE_CONSTRAINT_LIMITS:",
-]
+ONE_PCPSP = lines_of(ONE_ORE_BLOCK["pcpsp"])
 
 FAULTS_OF_ONE_ORE_BLOCK = [
     (put(3, "NBLOCKS: 2"), "pcpsp line 3: Count"),
@@ -308,15 +264,7 @@ NINE_ABOVE = [
 ]
 
 # The texts of no block.
-NO_PCPSP = lines(
-    "NAME: one|TYPE: PCPSP|NBLOCKS: 0|NPERIODS: 1|NDESTINATIONS: 1|NRESOURCE_SIDE_CONSTRAINTS: 0|NGENERAL_SIDE_CONSTRAINTS: 0|"
-    "DISCOUNT_RATE: 0.1|OBJECTIVE_FUNCTION:|RESOURCE_CONSTRAINT_COEFFICIENTS:|RESOURCE_CONSTRAINT_LIMITS:|"
-)
-
-NO_CPIT = lines(
-    "NAME: one|TYPE: CPIT|NBLOCKS: 0|NPERIODS: 1|NRESOURCE_SIDE_CONSTRAINTS: 0|"
-    "DISCOUNT_RATE: 0.1|OBJECTIVE_FUNCTION:|RESOURCE_CONSTRAINT_COEFFICIENTS:|RESOURCE_CONSTRAINT_LIMITS:|"
-)
+NO_PCPSP, NO_CPIT = NO_BLOCK["pcpsp"], NO_BLOCK["cpit"]
 
 MARK = b"\xEF\xBB\xBF"
 
@@ -438,7 +386,7 @@ TAKEN = [
 
 def files_of(texts):
     """The files at the base `b`."""
-    return {f"b.{ending}": text for ending, text in zip(("blocks", "prec", "pcpsp", "cpit"), texts)}
+    return at("b", dict(zip(("blocks", "prec", "pcpsp", "cpit"), texts)))
 
 
 def faulty(name, texts, line):
@@ -700,8 +648,8 @@ def model_files():
     def text_of(changed):
         return changed if isinstance(changed, bytes) else whole(changed)
 
-    pcpsp = Header("pcpsp", NO_PCPSP.decode().splitlines(), lambda changed: (b"", b"", text_of(changed)), NO_BLOCKS)
-    cpit = Header("cpit", NO_CPIT.decode().splitlines(), lambda changed: (b"", b"", NO_PCPSP, text_of(changed)), NO_BLOCKS + " cpit 0")
+    pcpsp = Header("pcpsp", lines_of(NO_PCPSP), lambda changed: (b"", b"", text_of(changed)), NO_BLOCKS)
+    cpit = Header("cpit", lines_of(NO_CPIT), lambda changed: (b"", b"", NO_PCPSP, text_of(changed)), NO_BLOCKS + " cpit 0")
     for of in (pcpsp, cpit):
         yield from headers(of)
         yield from words_of_headers(of)
