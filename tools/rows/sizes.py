@@ -104,10 +104,11 @@ def long_inputs():
 
 def too_long():
     """Files of zeros, of as many bytes as there may be, and of one more."""
-    longest, long = bytes(MOST), bytes(MOST + 1)
-    files = {"longest": longest, "long": long}
-    yield refused("the longest input", "plan: TooLong", source="longest", files=files)
-    yield refused("an input that is too long", "input: TooLong", source="long", files=files)
+    files = {"input": bytes(MOST)}
+    yield refused("the longest input", "plan: TooLong", source="input", files=files)
+    long = bytes(MOST + 1)
+    files = {"input": long}
+    yield refused("an input that is too long", "input: TooLong", source="input", files=files)
     files = {**OLDER, "plan": TWO, "ore": rows(bench(0, 1, 1)), "long": long}
     words = compiles("ore", "long")
     yield refused("a zone file that is too long", "file 1: TooLong", words=words, files=files)
