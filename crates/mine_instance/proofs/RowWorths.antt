@@ -35,7 +35,7 @@ worths_of_row rows n k position worths numbering within is_position is_worths =
       w.0,
       (position, inside, w.3),
       slice_get-get_or n.blocks k w.0.block within
-      ∙ ap Some (sym (numbering.stands k w.0.block few) ∙ ap (λ p. get_or (blocks_of_rows rows) p w.0.block) (sym is_position)
-      ∙ get_or-map (λ row. row.block) rows position w.0 w.0.block inside ∙ ap (λ row. row.block) w.3),
+          ∙ ap Some (sym (numbering.stands k w.0.block few) ∙ ap (λ p. get_or (blocks_of_rows rows) p w.0.block) (sym is_position)
+          ∙ get_or-map (λ row. row.block) rows position w.0 w.0.block inside ∙ ap (λ row. row.block) w.3),
       same_worths worths w.0.worths (is_worths ∙ ap (option_map (λ row. row.worths)) w.2),
     )

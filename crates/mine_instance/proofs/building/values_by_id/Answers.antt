@@ -11,9 +11,11 @@ use Rattle.mine_instance.proofs.building.values_by_id.Goals as goal
 
 pub put_values-requires : goal.put_values-requires
 put_values-requires c =
-    let of_row = c.worths_of.ensures in
-    (of_row.0.block, of_row.3 ∙ All-contains (λ (row : Valued). row.worths ≡ worths_by (formulas_of_plan c.args.plan.now) row.block)
-    c.args.rows.now of_row.0 c.requires.worths of_row.1)
+    let of_row = c.worths_of.ensures in (
+      of_row.0.block,
+      of_row.3 ∙ All-contains (λ (row : Valued). row.worths ≡ worths_by (formulas_of_plan c.args.plan.now) row.block)
+          c.args.rows.now of_row.0 c.requires.worths of_row.1,
+    )
 
 pub loop-id-preserved : goal.loop-id-preserved
 loop-id-preserved c =
