@@ -1,11 +1,12 @@
-/* A malloc that answers null at its call of the number REFUSE_NTH, for tools/refused-memory.
+/* A malloc that answers null at its call of the number REFUSE_NTH, for tools/malloc.py.
  *
  * It tells on descriptor 199, a line each: the size that it refused, as `refused`, or as `within`
  * where the C library starts a thread. Where the number is 0 it tells the size of each allocation,
  * and where a thread is started what was allocated last. It has no header, so that a compiler alone
  * is enough. */
 typedef unsigned long size_t;
-extern void *__libc_malloc(size_t), *__libc_realloc(void *, size_t), *__libc_calloc(size_t, size_t), *__libc_memalign(size_t, size_t);
+extern void *__libc_malloc(size_t), *__libc_realloc(void *, size_t);
+extern void *__libc_calloc(size_t, size_t), *__libc_memalign(size_t, size_t);
 extern char *getenv(const char *);
 extern long atol(const char *), write(int, const void *, size_t);
 extern int *__errno_location(void);
@@ -32,9 +33,12 @@ void *malloc(size_t n) { return refused(n) ? 0 : __libc_malloc(n); }
 void *calloc(size_t n, size_t m) { return refused(n * m) ? 0 : __libc_calloc(n, m); }
 void *realloc(void *p, size_t n) { return refused(n) ? 0 : __libc_realloc(p, n); }
 void *aligned_alloc(size_t a, size_t n) { return refused(n) ? 0 : __libc_memalign(a, n); }
-int posix_memalign(void **p, size_t a, size_t n) { return refused(n) || !(*p = __libc_memalign(a, n)) ? NO_MEMORY : 0; }
+int posix_memalign(void **p, size_t a, size_t n) {
+    return refused(n) || !(*p = __libc_memalign(a, n)) ? NO_MEMORY : 0;
+}
 int pthread_create(void *thread, const void *how, void *(*body)(void *), void *given) {
-    int (*create)(void *, const void *, void *(*)(void *), void *) = dlsym((void *)-1l, "pthread_create");
+    int (*create)(void *, const void *, void *(*)(void *), void *);
+    create = dlsym((void *)-1l, "pthread_create");
     if (nth == 0) tell("start", last);
     is_starting = 1;
     int answer = create(thread, how, body, given);

@@ -47,11 +47,6 @@ def compile_words(plan, base, zones, valuers=None, capacity=None):
     return words + list(zones)
 
 
-def texts_at(base):
-    """The texts of the files at a base, by their endings."""
-    return {ending: read(base + "." + ending) for ending in ENDINGS}
-
-
 def write_texts(base, texts):
     """Writes the files at a base, by their endings."""
     for ending, text in texts.items():

@@ -2,8 +2,18 @@
 import os
 import subprocess
 import tempfile
+from typing import NamedTuple
 
 from rows.trial import Folder, Link
+
+
+class Answer(NamedTuple):
+    """How a run ended, what it printed, and the files that it left."""
+
+    status: int
+    out: bytes
+    errors: bytes
+    files: dict
 
 
 def put(path, content):
@@ -27,9 +37,9 @@ def found(path):
         return file.read()
 
 
-def run(program, words, trial, folder):
-    """One run in the folder of a row, with its standard input."""
-    how = {"cwd": folder, "capture_output": True, "timeout": 120}
+def run(program, words, trial, folder, **how):
+    """One run in the folder of a row, with its standard input; `how` is given to it beside them."""
+    how = {"cwd": folder, "capture_output": True, "timeout": 120, **how}
     if not trial.source:
         return subprocess.run([program, *words], input=trial.given, **how)
     source = os.open(os.path.join(folder, trial.source), os.O_RDONLY)
@@ -39,14 +49,19 @@ def run(program, words, trial, folder):
         os.close(source)
 
 
-def differences(program, trial):
-    """What a row's run answered or left that it should not have, behind the runs before it."""
+def answer(program, trial, **how):
+    """What a row's run answers and leaves, behind the runs before it."""
     with tempfile.TemporaryDirectory() as folder:
         for name, content in trial.files.items():
             put(os.path.join(folder, name), content)
         for words in [*trial.before, trial.words]:
-            ran = run(program, words, trial, folder)
+            ran = run(program, words, trial, folder, **how)
             if ran.returncode != 0:
                 break
         files = {name: found(os.path.join(folder, name)) for name in os.listdir(folder)}
-    return list(trial.differences(ran.returncode, ran.stdout, ran.stderr, files))
+    return Answer(ran.returncode, ran.stdout, ran.stderr, files)
+
+
+def differences(program, trial):
+    """What a row's run answered or left that it should not have."""
+    return list(trial.differences(*answer(program, trial)))

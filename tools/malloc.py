@@ -1,0 +1,51 @@
+"""Runs a built pitc with the malloc of tools/malloc.c, which refuses one allocation.
+
+It needs a C compiler: cc, gcc or clang, or else that of the toolchain whose rt is called here.
+"""
+import os
+import shutil
+import subprocess
+import sys
+
+from rows import driver
+from shared import TOP
+
+# The descriptor on which the malloc tells.
+TOLD = 199
+
+
+def compiler():
+    """The path of a compiler and the words that it needs."""
+    here = list(filter(None, map(shutil.which, ["cc", "gcc", "clang"])))
+    if here:
+        return here[:1]
+    rt = os.path.realpath(shutil.which("rt") or "/none/none/rt")
+    tools = os.path.join(os.path.dirname(os.path.dirname(rt)), "toolchain", "bin")
+    if not os.path.exists(os.path.join(tools, "clang")):
+        sys.exit("tools/refused-memory: no cc, gcc or clang here, so nothing is compared")
+    return [os.path.join(tools, "clang"), "--ld-path=" + os.path.join(tools, "ld.lld")]
+
+
+def build(folder):
+    """The library of this malloc."""
+    library, source = os.path.join(folder, "malloc.so"), os.path.join(TOP, "tools", "malloc.c")
+    words = ["-shared", "-fPIC", "-O1", "-nostdlib", "-fno-builtin", "-o", library, source]
+    subprocess.run([*compiler(), *words], check=True)
+    return library
+
+
+def answer(program, library, trial, nth=0):
+    """What a row's run answers whose Nth allocation is refused, and what the malloc tells of it.
+
+    Told are words, each with a size: `refused`, or `within` where the C library starts a thread.
+    Where N is 0 they are `size` for each allocation, and for each thread `start`, with the size of
+    what was allocated last before.
+    """
+    reads, writes = os.pipe()
+    os.dup2(writes, TOLD, inheritable=True)
+    os.close(writes)
+    surroundings = dict(os.environ, LD_PRELOAD=library, REFUSE_NTH=str(nth))
+    given = driver.answer(program, trial, env=surroundings, pass_fds=[TOLD])
+    os.close(TOLD)
+    with open(reads, "rb") as pipe:
+        return given, [(word, int(size)) for word, size in map(bytes.split, pipe)]

@@ -1,0 +1,62 @@
+"""The commands whose allocations tools/refused-memory refuses, one by one.
+
+What they answer with ample memory is in other tables. Where a run of `compile` may write there are
+files before it.
+"""
+from rows.compile_form import rows
+from rows.instance import LIMITED, ORE, PLAN, SAME, at, plain_texts
+from rows.trial import Trial, lines, piped
+from shared import ENDINGS, compile_words
+
+LEACH = lines(
+    "name,one|grid,0,0,0,10,10,10|zone,1,1,1|zone,1,1,1|"
+    "mill,mill,900,600,1500|leach,heap,600,100,1,300,2.5,450|dump,dump,200|periods,2|rate,0.1|"
+    "resource,plant,mill|limit,plant,1,I,0,900|limit,plant,0,L,500.5|"
+)
+GOOD = LEACH, rows("0,0,0,1000,5000", "10,0,0,0,7"), rows("0,0,10,1,0", "10,0,10,1,0")
+
+ONE = "one_ore_block", (PLAN, ORE)
+
+# Plans and their zone files, and whether what is written of them is checked too.
+MODELS = [
+    ("good", GOOD, True),
+    ("same", (LEACH, rows("0,0,0,1,0"), rows("10,0,0,1,0", "0,0,0,1,0")), False),
+    ("faulty", (LEACH, rows("0,0,0,1,0"), rows("10,0,0,1,?")), False),
+    (*ONE, True),
+    ("same_block_in_two_files", SAME, False),
+    ("limits_and_coefficients", LIMITED, True),
+]
+
+
+def compiles(name, model, capacity=None):
+    """The files at the base stand first, in the order in which they are written."""
+    plan, *zones = model
+    files = {f"zone{number}": text for number, text in enumerate(zones)}
+    words = compile_words("plan", "base", files, capacity=capacity)
+    before = at("base", dict.fromkeys(ENDINGS, b"before\n"))
+    return Trial(f"compile {name}", words=words, files={**before, "plan": plan, **files})
+
+
+def pipes(name, model):
+    return Trial(f"pipe {name}", given=piped(*model))
+
+
+def checks(name, texts):
+    return Trial(f"check {name}", words=["check", "base"], files=at("base", texts))
+
+
+def trials():
+    for name, model, is_checked in MODELS:
+        yield compiles(name, model)
+        yield pipes(name, model)
+        if is_checked:
+            texts = plain_texts(*model)
+            yield checks(name, texts)
+            del texts["cpit"]
+            yield checks(f"{name}, no cpit", texts)
+    yield checks("of a faulty file", {**plain_texts(*GOOD), "prec": b"0 1\n"})
+    yield checks("of nothing", {})
+    yield pipes("with a faulty plan", [b"name\n"])
+    yield pipes("with wrong settings", [LEACH])
+    yield Trial("refused words", words=["nope"])
+    yield Trial("help", words=["--help"])
