@@ -3,10 +3,10 @@ use Rattle.std.proofs.Common.{◌≡◌, ℕ, ◌+◌, List, [], ◌∷◌, ◌+
 use Rattle.std.proofs.lemmas.List.{take-append-drop}
 use Rattle.std.proofs.Math.Seq.{take-add}
 use Rattle.minelib_lines.specs.Lines.{text_of}
-use Rattle.text_sinks.specs.SinkState.{SinkState}
-use Rattle.text_sinks.specs.SinkSteps.{IsAppended, IsAppendCut}
-use Rattle.text_sinks.proofs.Fronts.{cut_before, cut_then, written_then}
-pub use Rattle.text_sinks.proofs.Fronts.{buffered, nothing_put}
+use Rattle.devices.specs.SinkState.{SinkState}
+use Rattle.devices.specs.SinkSteps.{IsAppended, IsAppendCut}
+use Rattle.devices.proofs.Fronts.{cut_before, cut_then, written_then}
+pub use Rattle.devices.proofs.Fronts.{buffered, nothing_put}
 
 pub text_of-append : (xs ys : List (List ℕ)) → text_of (xs ++ ys) ≡ text_of xs ++ text_of ys
 text_of-append [] ys = refl

@@ -15,13 +15,13 @@ use crate::lines::Lines;
 use crate::prec_lines::write_preds;
 use crate::schedule::write_sections;
 use crate::sections::{write_section, write_titled};
+use devices::sink::Sink;
+use devices::whole_text::Text;
+use devices::write_fault::WriteFault;
 use mine_instance::cpit::Cpit;
 use mine_instance::instance::Instance;
 use precedence::PredLists;
 use std::alloc::Global;
-use text_sinks::sink::Sink;
-use text_sinks::whole_text::Text;
-use text_sinks::write_fault::WriteFault;
 
 #[derive(Drop)]
 pub struct BlockFile<'a, P> {

@@ -4,15 +4,15 @@ ghost use Rattle.std.specs.Prelude.{◌≡◌, ◌<◌, ◌≤◌, ◌++◌, ◌
 ghost use Rattle.minelib_lines.specs.Lines.{line_of, lines_from, text_of};
 ghost use Rattle.minelib_writing.specs.Written.{prec_fields};
 ghost use Rattle.pit_parts.specs.declared.ranges.TheConstants.{MAX_BLOCKS};
-ghost use Rattle.text_sinks.specs.SinkSteps.{refusals, IsAppended, IsAppendCut};
+ghost use Rattle.devices.specs.SinkSteps.{refusals, IsAppended, IsAppendCut};
 
 use crate::fields::{put_whole, put_whole_behind};
 use crate::id_text::IdText;
+use devices::sink::Sink;
+use devices::slices::flush_full;
+use devices::write_fault::WriteFault;
 use precedence::PredLists;
 use std::alloc::{AllocError, Global};
-use text_sinks::sink::Sink;
-use text_sinks::slices::flush_full;
-use text_sinks::write_fault::WriteFault;
 
 /// Writes the line of each block behind what the buffer holds. The list of a block is asked for when its line is written. `texts` has
 /// the texts of the blocks' identifiers.

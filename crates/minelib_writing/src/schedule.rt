@@ -2,14 +2,14 @@
 
 ghost use Rattle.std.specs.Prelude.{IfErr, OnOk, length};
 ghost use Rattle.minelib_lines.specs.Lines.{text_of};
-ghost use Rattle.text_sinks.specs.SinkSteps.{refusals, IsAppended, IsAppendCut};
+ghost use Rattle.devices.specs.SinkSteps.{refusals, IsAppended, IsAppendCut};
 ghost use Rattle.minelib_writing.specs.Written.{section_lines};
 ghost use Rattle.minelib_writing.specs.inner.KeptParts.{HoldsFrom};
 
 use crate::sections::{Section, write_titled};
+use devices::sink::Sink;
+use devices::write_fault::WriteFault;
 use std::alloc::Global;
-use text_sinks::sink::Sink;
-use text_sinks::write_fault::WriteFault;
 
 /// Writes the three sections behind what the buffer holds.
 pub fn write_sections<S: Sink, V: Section, C: Section, L: Section>(

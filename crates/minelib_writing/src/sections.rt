@@ -3,13 +3,13 @@
 ghost use Rattle.std.specs.Prelude.{◌≡◌, ◌+◌, ◌<◌, ◌≤◌, ℕ, List, [], ◌∷◌, ◌++◌, length, take, drop, slice_index_or, IfOk, IfErr, OnOk, OnErr};
 ghost use Rattle.minelib_lines.specs.Lines.{text_of};
 ghost use Rattle.minelib_writing.specs.inner.KeptParts.{HoldsFrom};
-ghost use Rattle.text_sinks.specs.SinkSteps.{refusals, IsAppended, IsAppendCut};
+ghost use Rattle.devices.specs.SinkSteps.{refusals, IsAppended, IsAppendCut};
 
 use crate::fields::put_text;
+use devices::sink::Sink;
+use devices::slices::flush_full;
+use devices::write_fault::WriteFault;
 use std::alloc::{AllocError, Global};
-use text_sinks::sink::Sink;
-use text_sinks::slices::flush_full;
-use text_sinks::write_fault::WriteFault;
 
 /// Lines that are written one by one.
 pub trait Section {

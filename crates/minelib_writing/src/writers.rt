@@ -2,8 +2,8 @@
 //! and holds the front of the text; after `SinkFailed` it refused one call, and after `OutOfMemory` none.
 
 ghost use Rattle.std.specs.Prelude.{◌≡◌, IfErr, OnOk};
-ghost use Rattle.text_sinks.specs.SinkState.{IsWritten, IsCutOff};
-ghost use Rattle.text_sinks.specs.SinkSteps.{refusals};
+ghost use Rattle.devices.specs.SinkState.{IsWritten, IsCutOff};
+ghost use Rattle.devices.specs.SinkSteps.{refusals};
 ghost use Rattle.minelib_writing.specs.Written.{text_blocks, text_prec, text_upit, text_pcpsp, text_cpit};
 ghost use Rattle.minelib_writing.specs.Texts.{text_named};
 ghost use Rattle.minelib_writing.specs.TextsKept.{kept_named};
@@ -15,13 +15,13 @@ ghost use Rattle.minelib_lines.specs.Kept.{IsKept, IsKeptCpit};
 
 use crate::files::{BlockFile, CpitFile, PcpspFile, PrecFile, UpitFile};
 use crate::text_name::TextName;
+use devices::sink::Sink;
+use devices::whole_text::write_text;
+use devices::write_fault::WriteFault;
 use mine_instance::cpit::Cpit;
 use mine_instance::instance::Instance;
 use precedence::PredLists;
 use std::alloc::Global;
-use text_sinks::sink::Sink;
-use text_sinks::whole_text::write_text;
-use text_sinks::write_fault::WriteFault;
 
 /// Begins the sink and writes the block file: a line for each block, by identifier.
 pub fn write_blocks<P: PredLists, S: Sink>(

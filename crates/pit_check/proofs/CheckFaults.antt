@@ -13,7 +13,7 @@ use Rattle.pit_check.specs.declared.check_fault.CheckFault.{CheckFault}
 use Rattle.pit_check.specs.declared.check_fault.CheckFault.TheVariants as check_fault
 use Rattle.pit_check.specs.declared.counts.Counts.{Counts}
 use Rattle.pit_check.specs.declared.counts.Texts.{Texts}
-use Rattle.zone_csv.specs.declared.feed.FeedFault.{FeedFault}
+use Rattle.devices.specs.declared.feed.FeedFault.{FeedFault}
 
 module _ {F : Type 0} (opens : List ℕ → Result F FeedFault → Type 0) (left : F → Option (List ℕ)) (base : List ℕ) where
   pub found_in_file : (file : TextFile) (fault : CheckFault) → IsFaultOf opens left base file fault → IsFoundIn opens left base fault

@@ -7,18 +7,18 @@ ghost use Rattle.pit_check.specs.inner.CheckSteps.{AreTexts, EndsCheck, HasText,
 ghost use Rattle.pit_check.specs.Counts.{IsCountsLine, IsLineOf};
 ghost use Rattle.pit_check.specs.declared.counts.Texts.{Texts as SomeTexts};
 ghost use Rattle.pit_edge.specs.FaultLine.{EndsRefused};
-ghost use Rattle.zone_csv.specs.declared.slurp.TheConstants.{GREATEST_LIMIT};
+ghost use Rattle.devices.specs.declared.slurp.TheConstants.{GREATEST_LIMIT};
 
 use crate::check_fault::CheckFault;
 use crate::counts::Texts;
+use devices::feed::{Feed, FeedFault};
+use devices::file_feed::FileFeed;
+use devices::slurp::{GREATEST_LIMIT, SlurpFault, slurp};
 use pit_edge::fault_line::refuse_with;
 use pit_edge::status::{DEVICE, REFUSED, RESOURCES};
 use std::alloc::Global;
 use std::rt::Files;
 use text_lines::text_fault::TextFile;
-use zone_csv::feed::{Feed, FeedFault};
-use zone_csv::file_feed::FileFeed;
-use zone_csv::slurp::{GREATEST_LIMIT, SlurpFault, slurp};
 
 /// Reads the files of an instance: `BASE.blocks`, `BASE.prec` and `BASE.pcpsp`, then `BASE.cpit` if it can be opened,
 /// and then their texts. Appends the line of their counts to `out`, or the line of the first fault to `err`; only one

@@ -3,7 +3,7 @@ use Rattle.std.proofs.Common.{◌≡◌, ℕ, suc, Bool, List, [], ◌∷◌, le
 use Rattle.std.specs.Prelude.{◌↔◌}
 use Rattle.std.specs.List.{sum_by}
 use Rattle.lane.specs.MessageKinds.{rows_in}
-use Rattle.text_sinks.specs.SinkState.{SinkState}
+use Rattle.devices.specs.SinkState.{SinkState}
 use Rattle.minelib_writing.specs.declared.text_name.TextName.{TextName}
 use Rattle.pit_compile.specs.Compiled.{AreGiven, IsVerdict}
 use Rattle.pit_compile.specs.Run.{IsRefused}

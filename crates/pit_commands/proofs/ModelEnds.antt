@@ -6,16 +6,16 @@ use Rattle.pit_edge.specs.FaultLine.{EndsInput, EndsRefused, EndsWith, IsFaultOf
 use Rattle.pit_commands.specs.Model.{ModelRefused}
 use Rattle.pit_commands.specs.inner.Cutting.{CutRefused}
 use Rattle.pit_edge.specs.Pieces.{plan_of}
-use Rattle.pit_edge.specs.declared.input.InputFault.{InputFault}
-use Rattle.pit_edge.specs.declared.input.InputFault.TheVariants.{FeedFailed, OutOfMemory, TooLong}
+use Rattle.devices.specs.declared.slurp.SlurpFault.{SlurpFault}
+use Rattle.devices.specs.declared.slurp.SlurpFault.TheVariants.{FeedFailed, OutOfMemory, TooLong}
 
-of_input : (left : Option (List ℕ)) (fault : InputFault) → (fault ≡ TooLong → IfSome left (λ bytes. 268435456 < length bytes))
+of_input : (left : Option (List ℕ)) (fault : SlurpFault) → (fault ≡ TooLong → IfSome left (λ bytes. 268435456 < length bytes))
     → IsFaultOfInput left fault
 of_input left FeedFailed long = tt
 of_input left TooLong long = long refl
 of_input left OutOfMemory long = tt
 
-pub input_refused : {A : Type 0} (left : Option (List ℕ)) (fault : InputFault) (old new : List ℕ) (status : ℕ)
+pub input_refused : {A : Type 0} (left : Option (List ℕ)) (fault : SlurpFault) (old new : List ℕ) (status : ℕ)
     → (IsErrOf {T = A} (Err fault) TooLong → IfSome left (λ bytes. 268435456 < length bytes)) → EndsInput fault old new status
     → ModelRefused left old new status
 input_refused left fault old new status long told = inl (fault, of_input left fault (λ e. long (ap Err e)), told)
@@ -33,7 +33,7 @@ files_refused left input text old new plan status own small e stated (inl files)
     inr (input, own, small, inr (plan, subst (λ first. planned first ≡ Ok plan) e stated, files))
 files_refused left input text old new plan status own small e stated (inr refused) = inl (OutOfMemory, tt, inr refused)
 
-untold : (left : Option (List ℕ)) (fault : InputFault) → IsFaultOfInput left fault → IsFaultOfInput None fault
+untold : (left : Option (List ℕ)) (fault : SlurpFault) → IsFaultOfInput left fault → IsFaultOfInput None fault
 untold left FeedFailed of = tt
 untold left TooLong of = tt
 untold left OutOfMemory of = tt

@@ -7,7 +7,7 @@ use Rattle.pit_parts.specs.declared.plan.Plan.{Plan}
 use Rattle.pit_commands.specs.RefusalLine.{EndsRun}
 use Rattle.pit_edge.specs.FaultLine.{EndsInput, IsFaultOfInput, PlanRefused}
 use Rattle.pit_edge.specs.Pieces.{PiecesView, plan_of, zones_of}
-use Rattle.pit_edge.specs.declared.input.InputFault.{InputFault}
+use Rattle.devices.specs.declared.slurp.SlurpFault.{SlurpFault}
 use Rattle.pit_parts.specs.declared.ranges.TheConstants.{MAX_FILE_BYTES, MAX_PLAN_BYTES}
 
 -- an input of at most 256 MiB is cut into these pieces, of which the first, of at most 1 MiB, states the plan
@@ -29,5 +29,5 @@ PiecesRefused input old new status =
 -- an input was not read; or its bytes, at most 256 MiB and those that it had left where it tells them, give no model
 abbrev pub ModelRefused : Option (List ℕ) → List ℕ → List ℕ → ℕ → Type 0
 ModelRefused left old new status =
-    ((fault : InputFault) × IsFaultOfInput left fault × EndsInput fault old new status)
+    ((fault : SlurpFault) × IsFaultOfInput left fault × EndsInput fault old new status)
     ⊎ ((input : List ℕ) × IfSome left (λ bytes. input ≡ bytes) × (length input ≤ MAX_FILE_BYTES) × PiecesRefused input old new status)

@@ -11,6 +11,9 @@ ghost use Rattle.pit_commands.specs.inner.CompileSteps.{IsRun};
 
 use crate::instance_files::sinks_of;
 use crate::refusal_line::refuse_run;
+use devices::feed::Feed;
+use devices::file_feed::FileFeed;
+use devices::sink::Sink;
 use pit_compile::refusal::Refusal;
 use pit_compile::run;
 use pit_compile::settings::Settings;
@@ -23,10 +26,7 @@ use std::alloc::Global;
 use std::rt::Files;
 use std::sync::Wait;
 use std::thread::Threads;
-use text_sinks::sink::Sink;
 use valuers::OpenGate;
-use zone_csv::feed::Feed;
-use zone_csv::file_feed::FileFeed;
 
 /// Compiles the zone files, which are opened in order, and writes the texts of the instance to their files:
 /// `BASE.blocks` and so on, each in place of what is there. Returns the status that the program ends with.

@@ -6,11 +6,11 @@ ghost use Rattle.minelib_writing.specs.declared.text_name.TextName.{TextName as 
 ghost use Rattle.pit_compile.specs.Sinks.{sink_of};
 ghost use Rattle.pit_commands.specs.inner.CompileSteps.{path_to};
 
+use devices::file_sink::FileSink;
 use minelib_writing::text_name::TextName;
 use pit_compile::sinks::Sinks;
 use std::alloc::{AllocError, Global};
 use std::rt::Files;
-use text_sinks::file_sink::FileSink;
 
 /// Sinks for the files of the instance. None is begun. Fails only where memory for the paths is refused.
 pub(crate) fn sinks_of<'a, R: Files>(

@@ -7,6 +7,8 @@ ghost use Rattle.pit_compile.specs.declared.settings.SettingsFault.{SettingsFaul
 ghost use Rattle.pit_parts.specs.Destinations.{formulas_of};
 ghost use Rattle.pit_commands.specs.Printed.{pipe_settings, IsPrinted, PipeRefused};
 
+use devices::feed::Feed;
+use devices::slice_feed::SliceFeed;
 use lane::Gathered;
 use pit_compile::refusal::Refusal;
 use pit_compile::settings::{Budget, Settings, require_settings};
@@ -19,8 +21,6 @@ use std::alloc::{AllocError, Global};
 use std::sync::Wait;
 use std::thread::Threads;
 use valuers::OpenGate;
-use zone_csv::feed::Feed;
-use zone_csv::slice_feed::SliceFeed;
 
 /// The settings of the pipe form.
 pub const SETTINGS: Settings = Settings {

@@ -4,13 +4,13 @@ use Rattle.std.proofs.lemmas.List.{drop_more}
 use Rattle.std.proofs.lemmas.List.Elements.{All-cons, All-head, All-more, All-nil, All-tail}
 use Rattle.std.specs.Prelude.{IfErr, OnOk}
 use Rattle.mine_instance.specs.Instance.{Instance}
-use Rattle.text_sinks.specs.SinkState.{SinkState, IsWritten, IsCutOff}
-use Rattle.text_sinks.specs.SinkSteps.{refusals}
+use Rattle.devices.specs.SinkState.{SinkState, IsWritten, IsCutOff}
+use Rattle.devices.specs.SinkSteps.{refusals}
 use Rattle.minelib_writing.specs.Texts.{all_texts, text_named}
 use Rattle.minelib_writing.specs.declared.text_name.TextName.{TextName}
 use Rattle.minelib_writing.specs.declared.text_name.TextName.TheVariants.{Blocks, Prec, Upit, Pcpsp, Cpit}
-use Rattle.text_sinks.specs.declared.write_fault.WriteFault.{WriteFault}
-use Rattle.text_sinks.specs.declared.write_fault.WriteFault.TheVariants as write
+use Rattle.devices.specs.declared.write_fault.WriteFault.{WriteFault}
+use Rattle.devices.specs.declared.write_fault.WriteFault.TheVariants as write
 use Rattle.pit_compile.specs.SinkAnswers.{AreCutOff}
 use Rattle.pit_compile.specs.inner.SinkWriting.{in_sink}
 use Rattle.pit_compile.specs.SinkLent.{with_sink}

@@ -3,7 +3,7 @@ use Rattle.std.specs.Prelude.{◌≡◌, ℕ, ◌⊎◌, Bool, List, Option}
 use Rattle.lane.specs.Whole.{GatheredView}
 use Rattle.pit_parts.specs.Plan.{PlanParts}
 use Rattle.pit_compile.specs.Compiled.{AreGiven, HasPassed, IsFeedFault, IsVerdict, instance_from}
-use Rattle.text_sinks.specs.SinkState.{SinkState}
+use Rattle.devices.specs.SinkState.{SinkState}
 use Rattle.minelib_writing.specs.declared.text_name.TextName.{TextName}
 use Rattle.pit_compile.specs.Sinks.{AreWritten, AreCutOffAt}
 use Rattle.pit_compile.specs.Verdict.{IsAccepted}

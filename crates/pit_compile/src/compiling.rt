@@ -17,6 +17,7 @@ use crate::instance_building::instance_of;
 use crate::read_answers::require_read;
 use crate::refusal::Refusal;
 use crate::settings::{Budget, require_settings};
+use devices::feed::Feed;
 use lane::Gathered;
 use mine_instance::build_cpit;
 use mine_instance::cpit::Cpit;
@@ -30,7 +31,6 @@ use std::snapshot::Snapshot;
 use std::sync::Wait;
 use std::thread::Threads;
 use valuers::Gate;
-use zone_csv::feed::Feed;
 use zone_csv::laws::zone_files;
 
 /// What a run makes of zone files before it writes.

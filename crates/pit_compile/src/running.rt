@@ -12,15 +12,15 @@ use crate::refusal::Refusal;
 use crate::settings::{Budget, Settings};
 use crate::sink_writing::write_texts;
 use crate::sinks::Sinks;
+use devices::feed::Feed;
+use devices::sink::Sink;
 use lane::Gathered;
 use pit_parts::destination::Destination;
 use pit_parts::plan::Plan;
 use std::alloc::Global;
 use std::sync::Wait;
 use std::thread::Threads;
-use text_sinks::sink::Sink;
 use valuers::Gate;
-use zone_csv::feed::Feed;
 
 /// How many threads a run may start: one for each zone file and each valuer, where there are 64 of each.
 pub const MOST_STARTS: u32 = 128;

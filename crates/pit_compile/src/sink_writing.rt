@@ -10,14 +10,14 @@ ghost use Rattle.pit_compile.specs.Sinks.{all_told, AreWritten};
 
 use crate::refusal::Refusal;
 use crate::sinks::Sinks;
+use devices::sink::Sink;
+use devices::write_fault::WriteFault;
 use mine_instance::cpit::Cpit;
 use mine_instance::instance::Instance;
 use minelib_writing::text_name::TextName;
 use minelib_writing::write_named;
 use precedence::PredLists;
 use std::alloc::Global;
-use text_sinks::sink::Sink;
-use text_sinks::write_fault::WriteFault;
 
 /// Begins the sinks and writes the texts of an instance and its CPIT, one after the other.
 ///

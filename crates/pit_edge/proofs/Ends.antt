@@ -7,7 +7,7 @@ use Rattle.pit_model.specs.declared.plan_fault.PlanFault.{PlanFault}
 use Rattle.pit_edge.specs.FaultLine.{EndsRefused, EndsWith, PlanRefused, line_of}
 use Rattle.pit_edge.specs.PlanFile.{EndsPlanFile, PlanFileRefused}
 use Rattle.pit_edge.specs.inner.PlanFeed.{IsFaultOfFeed, PlanFeedRefused}
-use Rattle.zone_csv.specs.declared.slurp.SlurpFault.{SlurpFault}
+use Rattle.devices.specs.declared.slurp.SlurpFault.{SlurpFault}
 
 pub ends_same : (s r : ℕ) (v w old new : List ℕ) (status : ℕ) → s ≡ r → v ≡ w → EndsWith s v old new status → EndsWith r w old new status
 ends_same s r v w old new status e f (inl told) = inl (told.0 ∙ e, told.1 ∙ ap (λ words. old ++ line_of words) f)

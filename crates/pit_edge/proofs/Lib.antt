@@ -1,5 +1,4 @@
 mod Again
-pub mod Consumed
 pub mod Ends
 mod Joined
 mod Lines

@@ -1,6 +1,6 @@
 -- What an output holds after several writes, where it tells what it holds.
-use Rattle.std.proofs.Common.{◌≡◌, ℕ, ◌+◌, ◌-◌, ◌<◌, ◌≤◌, List, ◌++◌, length, take, drop, Option, Some, None, ap, ◌∙◌, sym, subst, append-nil, arith, length-drop, take-add, take_all}
-use Rattle.std.proofs.KnownBytes.{Appends-kept, Appends-nil, Appends-trans, Keeps-refl, Keeps-trans}
+use Rattle.std.proofs.Common.{◌≡◌, ℕ, ◌+◌, ◌-◌, ◌<◌, ◌≤◌, List, ◌++◌, length, take, drop, Option, sym, subst, arith, length-drop, take-add, take_all}
+use Rattle.std.proofs.KnownBytes.{Appends-kept, Appends-nil, Appends-trans}
 use Rattle.std.specs.Io.KnownBytes.{Appends, Keeps}
 use Rattle.pit_edge.specs.WriteWhole.{IsAppendCut}
 
@@ -21,21 +21,3 @@ took_all a b bytes n all took = subst (Appends a b) (take_all n bytes all) took
 pub cut_short : (a b c : Option (List ℕ)) (bytes : List ℕ) (n : ℕ) → n < length bytes → Appends a b (take n bytes) → Keeps b c
     → IsAppendCut a c bytes
 cut_short a b c bytes n few took kept = (n, few, Appends-kept a b c (take n bytes) took kept)
-
-pub keeps_self : (a : Option (List ℕ)) → Keeps a a
-keeps_self a = Keeps-refl a
-
-pub keeps_after : (a b c : Option (List ℕ)) → Keeps a b → Keeps b c → Keeps a c
-keeps_after a b c = Keeps-trans a b c
-
-pub keeps_after_none : (a b c : Option (List ℕ)) (bytes : List ℕ) → Keeps a b → Appends b c (take 0 bytes) → Keeps a c
-keeps_after_none None b c bytes kept took = tt
-keeps_after_none (Some x) None c bytes kept took = absurd kept
-keeps_after_none (Some x) (Some y) None bytes kept took = absurd took
-keeps_after_none (Some x) (Some y) (Some z) bytes kept took = took ∙ append-nil y ∙ kept
-
-pub takes_after : (a b c : Option (List ℕ)) (bytes : List ℕ) → Keeps a b → Appends b c bytes → Appends a c bytes
-takes_after None b c bytes kept took = tt
-takes_after (Some x) None c bytes kept took = absurd kept
-takes_after (Some x) (Some y) None bytes kept took = absurd took
-takes_after (Some x) (Some y) (Some z) bytes kept took = took ∙ ap (λ l. l ++ bytes) kept

@@ -3,21 +3,21 @@ use Rattle.std.specs.Prelude.{◌≡◌, ◌≢◌, ℕ, ◌<◌, ◌≤◌, ◌
 use Rattle.pit_model.specs.FaultText.{fault_text as plan_fault_text}
 use Rattle.pit_model.specs.Planned.{planned}
 use Rattle.pit_model.specs.declared.plan_fault.PlanFault.{PlanFault}
-use Rattle.pit_edge.specs.declared.input.InputFault.{InputFault}
-use Rattle.pit_edge.specs.declared.input.InputFault.TheVariants as input
+use Rattle.devices.specs.declared.slurp.SlurpFault.{SlurpFault}
+use Rattle.devices.specs.declared.slurp.SlurpFault.TheVariants as slurp
 use Rattle.pit_parts.specs.declared.ranges.TheConstants.{MAX_FILE_BYTES, MAX_PLAN_BYTES}
 
--- 1 for an input that is too long, 3 for one that cannot be read, 4 for want of memory
-abbrev pub status_of_input : InputFault → ℕ
-status_of_input input.FeedFailed = 3
-status_of_input input.TooLong = 1
-status_of_input input.OutOfMemory = 4
+-- 1 for a feed that is too long, 3 for one that fails, 4 for want of memory
+abbrev pub status_of_slurp : SlurpFault → ℕ
+status_of_slurp slurp.FeedFailed = 3
+status_of_slurp slurp.TooLong = 1
+status_of_slurp slurp.OutOfMemory = 4
 
 -- the words that show why an input was not read
-abbrev pub input_text : InputFault → List ℕ
-input_text input.FeedFailed = codes "input: FeedFailed"
-input_text input.TooLong = codes "input: TooLong"
-input_text input.OutOfMemory = codes "OutOfMemory"
+abbrev pub input_text : SlurpFault → List ℕ
+input_text slurp.FeedFailed = codes "input: FeedFailed"
+input_text slurp.TooLong = codes "input: TooLong"
+input_text slurp.OutOfMemory = codes "OutOfMemory"
 
 -- a line of these words: the program's name before them and a line feed behind
 abbrev pub line_of : List ℕ → List ℕ
@@ -36,14 +36,14 @@ abbrev pub EndsRefused : List ℕ → List ℕ → ℕ → Type 0
 EndsRefused old new status = (status ≢ 0) × (status ≢ 4 → AppendsLine old new) × (status ≡ 4 → new ≡ old)
 
 -- an input that had these bytes left, where it tells them, is too long only where they are more than 256 MiB
-abbrev pub IsFaultOfInput : Option (List ℕ) → InputFault → Type 0
-IsFaultOfInput left input.FeedFailed = Unit {0}
-IsFaultOfInput left input.TooLong = IfSome left (λ bytes. MAX_FILE_BYTES < length bytes)
-IsFaultOfInput left input.OutOfMemory = Unit {0}
+abbrev pub IsFaultOfInput : Option (List ℕ) → SlurpFault → Type 0
+IsFaultOfInput left slurp.FeedFailed = Unit {0}
+IsFaultOfInput left slurp.TooLong = IfSome left (λ bytes. MAX_FILE_BYTES < length bytes)
+IsFaultOfInput left slurp.OutOfMemory = Unit {0}
 
 -- the run ends with this fault of the input, its status and its line; or memory was refused, and no line stands
-abbrev pub EndsInput : InputFault → List ℕ → List ℕ → ℕ → Type 0
-EndsInput fault old new status = EndsWith (status_of_input fault) (input_text fault) old new status
+abbrev pub EndsInput : SlurpFault → List ℕ → List ℕ → ℕ → Type 0
+EndsInput fault old new status = EndsWith (status_of_slurp fault) (input_text fault) old new status
 
 -- a text of more than 1,048,576 bytes gives no plan, and a line says so; or memory was refused, and no line stands
 abbrev pub PlanTooLong : List ℕ → List ℕ → List ℕ → ℕ → Type 0

@@ -3,7 +3,7 @@ use Rattle.std.specs.Prelude.{◌≡◌, ℕ, ◌<◌, List, ◌++◌, codes, ta
 use Rattle.std.specs.Fmt.{decimal}
 use Rattle.std.specs.List.{AllZip}
 use Rattle.pit_edge.specs.FaultLine.{EndsWith, line_of}
-use Rattle.zone_csv.specs.declared.feed.FeedFault.{FeedFault}
+use Rattle.devices.specs.declared.feed.FeedFault.{FeedFault}
 
 -- the fault of a zone file that cannot be opened
 abbrev pub zone_fault : ℕ → List ℕ

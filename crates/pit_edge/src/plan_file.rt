@@ -9,13 +9,13 @@ ghost use Rattle.pit_parts.specs.declared.ranges.TheConstants.{MAX_PLAN_BYTES};
 
 use crate::fault_line::{plan_from, refuse_with};
 use crate::status::{DEVICE, REFUSED, RESOURCES};
+use devices::feed::Feed;
+use devices::file_feed::FileFeed;
+use devices::slurp::{SlurpFault, slurp};
 use pit_model::plan::Plan;
 use pit_model::ranges::MAX_PLAN_BYTES;
 use std::alloc::Global;
 use std::rt::Files;
-use zone_csv::feed::Feed;
-use zone_csv::file_feed::FileFeed;
-use zone_csv::slurp::{SlurpFault, slurp};
 
 /// The plan in the file at this path; or the status of its refusal, with its line appended to `lines`.
 ///

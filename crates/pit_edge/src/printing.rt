@@ -8,6 +8,8 @@ ghost use Rattle.minelib_writing.specs.TextNames.{ending_of};
 ghost use Rattle.minelib_writing.specs.Texts.{text_named};
 ghost use Rattle.pit_edge.specs.Sections.{printed, section};
 
+use devices::section_sink::SectionSink;
+use devices::write_fault::WriteFault;
 use mine_instance::cpit::Cpit;
 use mine_instance::instance::Instance;
 use minelib_writing::text_name::TextName;
@@ -15,8 +17,6 @@ use minelib_writing::write_named;
 use precedence::PredLists;
 use std::alloc::{AllocError, Global};
 use std::mem::replace;
-use text_sinks::section_sink::SectionSink;
-use text_sinks::write_fault::WriteFault;
 
 /// Appends the five texts of an instance, each under its section line. Fails only where memory is refused, and then `out` is as it was.
 pub fn print<P: PredLists>(

@@ -1,11 +1,12 @@
 //! Writing to an output, whole.
 
-ghost use Rattle.std.specs.Io.KnownBytes.{Appends, WriteAppends};
-ghost use Rattle.std.specs.Prelude.{◌≤◌, ◌<◌, length, IfOk, OnErr, OnOk};
+ghost use Rattle.std.specs.Io.KnownBytes.{Appends};
+ghost use Rattle.std.specs.Prelude.{OnErr, OnOk};
 ghost use Rattle.pit_edge.specs.WriteWhole.{IsAppendCut};
 
-use std::io::{ErrorKind, Write};
-use text_sinks::sink::SinkFault;
+use devices::single_write::write_some;
+use devices::sink::SinkFault;
+use std::io::Write;
 
 /// Writes all these bytes. A write that a signal interrupts is tried again; a write that takes no byte has failed.
 ///
@@ -24,23 +25,4 @@ pub fn write_whole<T: Write>(output: &mut T, bytes: &[u8]) -> Result<(), SinkFau
         taken += write_some(output, &bytes[taken..])?;
     }
     Ok(())
-}
-
-// One write that no signal interrupts.
-#[tactic(auto, using(crate::proofs::Outputs::keeps_self, crate::proofs::Outputs::keeps_after, crate::proofs::Outputs::keeps_after_none, crate::proofs::Outputs::takes_after))]
-fn write_some<T: Write>(output: &mut T, bytes: &[u8]) -> Result<usize, SinkFault>
-    requires { 0 < length bytes.now }
-    ensures within { IfOk result (λ count. count ≤ length bytes.now) }
-    ensures some { IfOk result (λ count. 0 < count) }
-    ensures takes { WriteAppends (T.contents output.old) (T.contents output.new) result bytes.now }
-{
-    for _ in 0..u64::MAX {
-        match output.write(bytes) {
-            Ok(0) => return Err(SinkFault),
-            Ok(count) => return Ok(count),
-            Err(error) if error.kind() == ErrorKind::Interrupted => {}
-            Err(_) => return Err(SinkFault),
-        }
-    }
-    Err(SinkFault)
 }

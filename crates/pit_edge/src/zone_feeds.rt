@@ -8,8 +8,8 @@ ghost use Rattle.pit_edge.specs.FaultLine.{EndsWith};
 
 use crate::fault_line::refuse_with;
 use crate::status::{DEVICE, RESOURCES};
+use devices::feed::FeedFault;
 use std::alloc::Global;
-use zone_csv::feed::FeedFault;
 
 /// What `opener` gives at each of these paths, in order; or the status of a refusal, with its line appended to `lines`.
 ///

@@ -2,7 +2,6 @@ pub mod Bands
 pub mod BandsKept
 pub mod Block
 pub mod BlockParts
-pub mod Count
 pub mod Destinations
 pub mod Formula
 pub mod FormulaEquality

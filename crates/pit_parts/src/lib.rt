@@ -4,7 +4,6 @@
 pub mod band;
 pub mod block;
 pub mod cone;
-pub mod count;
 pub mod destination;
 pub mod formula;
 pub mod grid;

@@ -10,6 +10,7 @@ ghost use Rattle.pit_compile.specs.Verdict.{IsAccepted};
 
 use crate::tests::models::destinations_of;
 use crate::tests::watch::{OPEN, Watch};
+use devices::slice_feed::SliceFeed;
 use minelib_text::mem_sink::MemSink;
 use minelib_text::read_instance;
 use minelib_text::text_fault::ReadTextError;
@@ -25,7 +26,6 @@ use std::sync::Wait;
 use std::test::Fail;
 use std::thread::Threads;
 use valuers::OpenGate;
-use zone_csv::slice_feed::SliceFeed;
 
 /// The number of arcs of the instance that three texts denote: pairs of a block and one that it has to wait for.
 ///

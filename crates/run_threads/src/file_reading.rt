@@ -8,14 +8,14 @@ ghost use Rattle.run_threads.specs.inner.Sending.{IsUnread, HasPut};
 ghost use Rattle.zone_csv.specs.Zone.{blocks_of, fault_of};
 
 use crate::read_fault::ReadFault;
+use devices::feed::Feed;
+use devices::slurp::{SlurpFault, slurp};
 use lane::{EndedPut, PutEnd, Taken};
 use pit_parts::plan::Plan;
 use pit_parts::ranges::MAX_FILE_BYTES;
 use std::alloc::Global;
 use std::sync::Wait;
 use valuers::Gate;
-use zone_csv::feed::Feed;
-use zone_csv::slurp::{SlurpFault, slurp};
 use zone_csv::zone_fault::ZoneFault;
 use zone_csv::zone_reader::ZoneReader;
 

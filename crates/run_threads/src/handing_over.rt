@@ -16,6 +16,7 @@ use crate::read_fault::ReadFault;
 use crate::ready::Ready;
 use crate::result_room::room_for;
 use crate::shared::Shared;
+use devices::feed::Feed;
 use lane::Gathered;
 use pit_parts::destination::Destination;
 use pit_parts::plan::Plan;
@@ -26,7 +27,6 @@ use std::thread;
 use std::thread::Threads;
 use thiserror::Error;
 use valuers::Gate;
-use zone_csv::feed::Feed;
 
 /// How many valuers a run has, how long its lane is, and how many threads it may start.
 #[derive(Clone, Copy)]

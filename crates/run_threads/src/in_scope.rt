@@ -8,10 +8,10 @@ use crate::opened::Opened;
 use crate::ready::Ready;
 use crate::settling::{give_up, let_go, settle};
 use crate::starting::{start_readers, start_valuers};
+use devices::feed::Feed;
 use std::sync::Wait;
 use std::thread::{Scope, Threads};
 use valuers::Gate;
-use zone_csv::feed::Feed;
 
 /// Starts the valuers and then the readers of a run, and settles. After a refused start it joins what was started.
 pub fn hand_over_in<'s, E, R: Threads + Wait + Sync, F: Feed + Send + Drop + 's, G: Gate + Sync>(

@@ -1,12 +1,12 @@
 //! What the threads of a run promise of what they give back.
 
 use crate::file_reading::FileRead;
+use devices::feed::Feed;
 use lane::{PutEnd, TakeEnd};
 use pit_parts::plan::Plan;
 use std::snapshot::Snapshot;
 use std::thread::{Promise, PromisedHandle};
 use valuers::{PackedItems, ValuerResult};
-use zone_csv::feed::Feed;
 
 /// A reader reads this feed, as a zone file of this plan, into this put end.
 #[derive(Drop)]

@@ -10,11 +10,11 @@ use crate::handing_over::HandedOver;
 use crate::joining::{join_all, split_reads, split_values};
 use crate::promises::{ReaderHandle, ValuerHandle};
 use crate::result_room::ResultRoom;
+use devices::feed::Feed;
 use lane::{Closer, GivenUp};
 use pit_parts::plan::Plan;
 use std::sync::Wait;
 use std::thread::{Promise, PromisedHandle, Threads};
-use zone_csv::feed::Feed;
 
 /// Joins the readers, stops the lane, joins the valuers, and gathers what they hand over. Of `_plan`, which is the plan of them all, only
 /// the contract speaks.

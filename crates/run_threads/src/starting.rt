@@ -13,12 +13,12 @@ ghost use Rattle.pit_parts.specs.declared.ranges.TheConstants.{MAX_DESTINATIONS,
 use crate::file_reading::{FileRead, read_file};
 use crate::promises::{ReadBy, ReaderHandle, ValuedBy, ValuerHandle};
 use crate::shared::Shared;
+use devices::feed::Feed;
 use lane::{PutEnd, TakeEnd};
 use std::snapshot::Snapshot;
 use std::sync::Wait;
 use std::thread::{Scope, Threads};
 use valuers::{Gate, PackedItems, ValuerResult, value_packed};
-use zone_csv::feed::Feed;
 
 /// The threads that were started, in order, and whether a further start was refused.
 #[derive(Drop)]

@@ -1,5 +1,4 @@
 pub mod CentroidFacts
-pub mod Giving
 pub mod RowFacts
 pub mod ZoneFacts
 pub mod ColumnFacts

@@ -1,9 +1,6 @@
 pub mod Cell
 pub mod FaultText
-pub mod Feed
-pub mod FileFeedView
 pub mod Header
-pub mod MemFeedView
 pub mod NamedColumns
 pub mod Row
 pub mod Zone

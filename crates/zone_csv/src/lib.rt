@@ -1,16 +1,12 @@
-//! Zone files: feeds of bytes, a feed read whole, and the blocks that a zone file's rows say.
+//! Zone files: the feeds that give their bytes, and the blocks that their rows say.
 #![tactic(auto)]
 
 mod cell;
 mod columns;
-pub mod feed;
-pub mod file_feed;
 pub mod laws;
-pub mod mem_feed;
 mod row;
 pub mod row_fault;
-pub mod single_read;
-pub mod slice_feed;
-pub mod slurp;
 pub mod zone_fault;
 pub mod zone_reader;
+
+pub use devices::{feed, file_feed, mem_feed, slice_feed, slurp};

@@ -1,9 +1,9 @@
 ghost use Rattle.std.specs.Prelude.{◌≤◌};
 
+use devices::mem_feed::MemFeed;
+use devices::slurp::{SlurpFault, slurp};
 use std::alloc::{AllocError, Global};
 use std::test::Fail;
-use zone_csv::mem_feed::MemFeed;
-use zone_csv::slurp::{SlurpFault, slurp};
 
 // A text, the pull that fails or 0 for none, and what is answered with a limit of four bytes. The first pull gives all of them, the second
 // tells the end.

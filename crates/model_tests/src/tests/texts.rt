@@ -3,6 +3,8 @@
 ghost use Rattle.std.specs.Prelude.{IfOk};
 ghost use Rattle.mine_instance.specs.Valid.{IsValid};
 
+use devices::mem_sink::MemSink;
+use devices::write_fault::WriteFault;
 use mine_instance::build_cpit;
 use mine_instance::instance::Instance;
 use minelib_reading::read_instance;
@@ -10,8 +12,6 @@ use minelib_writing::text_name::TextName;
 use minelib_writing::write_named;
 use std::alloc::Global;
 use std::test::Fail;
-use text_sinks::mem_sink::MemSink;
-use text_sinks::write_fault::WriteFault;
 
 mod faults;
 mod file_sink;

@@ -10,8 +10,8 @@ use Rattle.pit_edge.specs.FaultLine.{EndsWith}
 use Rattle.pit_check.specs.declared.check_fault.CheckFault.{CheckFault}
 use Rattle.pit_check.specs.declared.check_fault.CheckFault.TheVariants as check_fault
 use Rattle.pit_check.specs.declared.counts.Texts.{Texts}
-use Rattle.zone_csv.specs.declared.feed.FeedFault.{FeedFault}
-use Rattle.zone_csv.specs.declared.slurp.TheConstants.{GREATEST_LIMIT}
+use Rattle.devices.specs.declared.feed.FeedFault.{FeedFault}
+use Rattle.devices.specs.declared.slurp.TheConstants.{GREATEST_LIMIT}
 
 -- the path of a file of the instance: BASE, a point and the file's ending
 abbrev pub path_of : List ℕ → TextFile → List ℕ

@@ -3,7 +3,7 @@ use Rattle.std.specs.Prelude.{◌≡◌, ℕ, List, ◌∷◌, ◌++◌, Option}
 use Rattle.std.specs.List.{sum_by}
 use Rattle.lane.specs.MessageKinds.{rows_in}
 use Rattle.lane.specs.Whole.{GatheredView}
-use Rattle.text_sinks.specs.SinkState.{SinkState}
+use Rattle.devices.specs.SinkState.{SinkState}
 use Rattle.minelib_writing.specs.declared.text_name.TextName.{TextName}
 use Rattle.pit_compile.specs.Run.{IsDone}
 use Rattle.pit_parts.specs.Plan.{PlanParts}

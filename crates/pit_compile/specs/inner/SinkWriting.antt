@@ -1,8 +1,8 @@
 -- What comes of writing to one sink, as the answer of the run.
 use Rattle.std.specs.Prelude.{Result, Ok, Err}
 use Rattle.minelib_writing.specs.declared.text_name.TextName.{TextName}
-use Rattle.text_sinks.specs.declared.write_fault.WriteFault.{WriteFault}
-use Rattle.text_sinks.specs.declared.write_fault.WriteFault.TheVariants as write
+use Rattle.devices.specs.declared.write_fault.WriteFault.{WriteFault}
+use Rattle.devices.specs.declared.write_fault.WriteFault.TheVariants as write
 use Rattle.pit_compile.specs.declared.refusal.Refusal.{Refusal}
 use Rattle.pit_compile.specs.declared.refusal.Refusal.TheVariants.{SinkFailed, OutOfMemory}
 

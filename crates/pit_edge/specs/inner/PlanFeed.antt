@@ -2,8 +2,8 @@
 use Rattle.std.specs.Prelude.{◌≡◌, ℕ, ◌<◌, ◌⊎◌, List, length, Option, IfSome}
 use Rattle.pit_edge.specs.FaultLine.{PlanRefused}
 use Rattle.pit_edge.specs.PlanFile.{EndsPlanFile}
-use Rattle.zone_csv.specs.declared.slurp.SlurpFault.{SlurpFault}
-use Rattle.zone_csv.specs.declared.slurp.SlurpFault.TheVariants as slurp
+use Rattle.devices.specs.declared.slurp.SlurpFault.{SlurpFault}
+use Rattle.devices.specs.declared.slurp.SlurpFault.TheVariants as slurp
 use Rattle.pit_parts.specs.declared.ranges.TheConstants.{MAX_PLAN_BYTES}
 
 -- a feed that had these bytes left, where it tells them, fails so only where a pull failed, or where they are more than 1 MiB

@@ -2,6 +2,8 @@
 
 use crate::tests::models::destinations_of;
 use crate::tests::watch::{OPEN, Watch};
+use devices::feed::FeedFault;
+use devices::file_feed::FileFeed;
 use pit_check::check::check_files;
 use pit_commands::compile::compile_files;
 use pit_compile::settings::Settings;
@@ -12,8 +14,6 @@ use std::rt::Files;
 use std::sync::Wait;
 use std::test::Fail;
 use std::thread::Threads;
-use zone_csv::feed::FeedFault;
-use zone_csv::file_feed::FileFeed;
 
 const MILL: &[u8] =
     b"name,one\ngrid,0,0,0,10,10,10\nzone,1,1,1\nmill,mill,900,600,1500\nperiods,1\nrate,0.1\n";

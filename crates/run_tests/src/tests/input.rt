@@ -1,12 +1,12 @@
 //! An input that is interrupted, ends or fails.
 
+use devices::feed::FeedFault;
+use devices::single_read::read_some;
 use pit_edge::input::{read_whole, refuse_input};
 use std::alloc::Global;
 use std::io;
 use std::io::{ErrorKind, Read};
 use std::test::Fail;
-use zone_csv::feed::FeedFault;
-use zone_csv::single_read::read_some;
 
 const INPUT: &[u8] =
     b"name,one\ngrid,0,0,0,10,10,10\nzone,1,1,1\ndump,dump,200\nperiods,1\nrate,0.1\n--\nx,y,z\n";

@@ -2,6 +2,8 @@
 
 use crate::tests::models::destinations_of;
 use crate::tests::watch::Watched;
+use devices::feed::Feed;
+use devices::mem_feed::MemFeed;
 use minelib_text::mem_sink::MemSink;
 use minelib_text::text_name::TextName;
 use pit_compile::refusal::Refusal;
@@ -15,13 +17,11 @@ use std::alloc::Global;
 use std::sync::Wait;
 use std::test::Fail;
 use std::thread::Threads;
-use zone_csv::feed::Feed;
-use zone_csv::mem_feed::MemFeed;
 
-mod devices;
 mod examples;
 mod failing_sinks;
 mod random_runs;
+mod refused_runs;
 mod schedules;
 
 // The first record of each zone file.

@@ -1,11 +1,11 @@
 //! What a run calls: its gate, the closures of its destinations, and a feed.
 
+use devices::feed::{Feed, FeedFault};
 use std::alloc::Global;
 use std::sync::atomic::{AtomicU64, Ordering};
 use std::sync::{Arc, Wait};
 use std::test::Fail;
 use valuers::Gate;
-use zone_csv::feed::{Feed, FeedFault};
 
 /// What is to wait, and for how much: a row until `rows` has come to this number, the reader of file 0 likewise, a value until `values`
 /// has. Rows and readers turn in place besides, for a while of at most so many turns.

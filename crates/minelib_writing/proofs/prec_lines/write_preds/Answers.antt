@@ -2,7 +2,7 @@ use Rattle.std.proofs.Common.{◌≡◌, ℕ, List, length, take, rules, arith, 
 use Rattle.std.proofs.lemmas.List.{take_all}
 use Rattle.minelib_lines.specs.Lines.{lines_from, text_of}
 use Rattle.minelib_writing.specs.Written.{prec_fields}
-use Rattle.text_sinks.specs.SinkSteps.{IsAppended}
+use Rattle.devices.specs.SinkSteps.{IsAppended}
 use Rattle.minelib_writing.proofs.LineFacts.{length-lines_from}
 use Rattle.minelib_writing.proofs.SectionsWritten.{more_then, rest_cut}
 use Rattle.minelib_writing.proofs.prec_lines.write_preds.Goals as goal

@@ -1,6 +1,6 @@
 use Rattle.std.proofs.Common.{◌-◌, ◌≤◌, length, take}
 use Rattle.minelib_lines.specs.Lines.{text_of}
-use Rattle.text_sinks.specs.SinkSteps.{IsAppended}
+use Rattle.devices.specs.SinkSteps.{IsAppended}
 use Rattle.minelib_writing.specs.inner.KeptParts.{HoldsFrom}
 use Rattle.minelib_writing.proofs.sections.write_section.Given as goal
 

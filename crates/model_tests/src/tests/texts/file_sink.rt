@@ -1,9 +1,9 @@
 //! A file as a sink: what `pitc`, which begins each file once, does not show.
 
+use devices::file_sink::FileSink;
+use devices::sink::Sink;
 use std::fs;
 use std::test::Fail;
-use text_sinks::file_sink::FileSink;
-use text_sinks::sink::Sink;
 
 // Whether the file at this path holds this text.
 fn holds(rt: &HostRuntime, path: &str, text: &str) -> Result<bool, Fail> {

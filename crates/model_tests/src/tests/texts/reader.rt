@@ -2,6 +2,8 @@ ghost use Rattle.mine_instance.specs.Valid.{IsValid};
 
 use super::{CPIT, LIMITED, NINE_ABOVE, PCPSP, PREC, Texts, instance_of, is_text};
 use crate::tests::are_millionths;
+use devices::mem_sink::MemSink;
+use devices::write_fault::WriteFault;
 use mine_instance::cpit::Cpit;
 use mine_instance::instance::Instance;
 use minelib_reading::read_cpit;
@@ -10,8 +12,6 @@ use minelib_writing::write_cpit;
 use pit_parts::block::Block;
 use std::alloc::Global;
 use std::test::Fail;
-use text_sinks::mem_sink::MemSink;
-use text_sinks::write_fault::WriteFault;
 
 const ONE_ORE_BLOCK: Texts = [
     b"0 0 0 0 1000 5000 0\n",

@@ -1,9 +1,9 @@
 //! Texts one after the other behind what a vector holds.
 
+use devices::section_sink::SectionSink;
+use devices::sink::Sink;
 use std::alloc::Global;
 use std::test::Fail;
-use text_sinks::section_sink::SectionSink;
-use text_sinks::sink::Sink;
 
 fn begins<S: Sink>(sink: &mut S) -> bool {
     sink.begin().is_ok()

@@ -2,13 +2,13 @@ ghost use Rattle.std.specs.Prelude.{◌≤◌};
 ghost use Rattle.mine_instance.specs.Valid.{IsValid};
 
 use super::{BLOCKS, LIMITED, PCPSP, PREC, instance_of, write};
+use devices::mem_sink::MemSink;
+use devices::write_fault::WriteFault;
 use mine_instance::instance::Instance;
 use minelib_writing::text_name::TextName;
 use std::alloc::Global;
 use std::process::Abort;
 use std::test::Fail;
-use text_sinks::mem_sink::MemSink;
-use text_sinks::write_fault::WriteFault;
 
 // The texts of the instance.
 const TEXTS: [(TextName, &[u8]); 5] = [

@@ -1,0 +1,4 @@
+pub mod Fronts
+pub mod Giving
+pub mod ReadGiven
+pub mod WriteFacts

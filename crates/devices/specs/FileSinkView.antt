@@ -1,0 +1,20 @@
+-- What a sink over a file tells.
+use Rattle.std.specs.Prelude.{ℕ, List, [], Bool, Option, Some, None}
+use Rattle.devices.specs.SinkState.{SinkState}
+
+pub record FileSinkView : Type 0 where
+  -- whether its file was created
+  pub begun : Bool
+  -- the bytes that the file holds, where the file tells them
+  pub held : Option (List ℕ)
+  -- how many calls it refused so far
+  pub failures : ℕ
+
+-- what a file holds, once there is one
+abbrev pub held_by : {F : Type 0} → (F → Option (List ℕ)) → Option F → Option (List ℕ)
+held_by contents None = None
+held_by contents (Some file) = contents file
+
+-- what it tells as a sink: the bytes of its text are told by no file of a system
+abbrev pub file_told : FileSinkView → SinkState
+file_told s = record { begun = s.begun; before = []; taken = None; failures = s.failures }

@@ -1,0 +1,11 @@
+pub mod Count
+pub mod Device
+pub mod Feed
+pub mod FileSinkView
+pub mod MemFeedView
+pub mod MemSinkView
+pub mod ReadFeedView
+pub mod SectionSinkView
+pub mod SinkState
+pub mod SinkSteps
+pub mod inner

@@ -1,0 +1,36 @@
+-- What a sink tells, before and after a text was written to it.
+use Rattle.std.specs.Prelude.{◌≡◌, ◌+◌, ◌⊎◌, ℕ, List, Option, Bool, IsTrue}
+use Rattle.devices.specs.Device.{holding, IsFront}
+
+pub record SinkState : Type 0 where
+  -- whether it was begun
+  pub begun : Bool
+  -- the bytes that stand before its text, and stay
+  pub before : List ℕ
+  -- the bytes of its text, taken since it was begun, where it tells them
+  pub taken : Option (List ℕ)
+  -- how many calls it refused so far
+  pub failures : ℕ
+
+-- the sink was begun, its text is this one, and it refused no call
+pub record IsWritten (text : List ℕ) (old new : SinkState) : Type 0 where
+  pub begun : IsTrue new.begun
+  pub before : new.before ≡ old.before
+  pub taken : new.taken ≡ holding text old.taken
+  pub works : new.failures ≡ old.failures
+
+-- its text is the one that it was, as much begun as it was
+pub record IsUntouched (old new : SinkState) : Type 0 where
+  pub begun : new.begun ≡ old.begun
+  pub taken : new.taken ≡ old.taken
+
+-- it was begun, and its text is the front of this one
+pub record HoldsFront (text : List ℕ) (old new : SinkState) : Type 0 where
+  pub begun : IsTrue new.begun
+  pub taken : IsFront new.taken (holding text old.taken)
+
+-- the sink refused so many calls: it is untouched, or it holds the front of the text
+pub record IsCutOff (more : ℕ) (text : List ℕ) (old new : SinkState) : Type 0 where
+  pub stands : IsUntouched old new ⊎ HoldsFront text old new
+  pub before : new.before ≡ old.before
+  pub fails : new.failures ≡ old.failures + more

@@ -1,0 +1,46 @@
+//! A source of bytes.
+
+ghost use Rattle.std.specs.Prelude.{◌≡◌, ◌+◌, ◌<◌, ◌≤◌, ℕ, List, [], Bool, Option, length, take, IsTrue, IsOk, IfOk, OnOk, OnErr, IfSome};
+ghost use Rattle.devices.specs.Feed.{put_back};
+
+use thiserror::Error;
+
+/// A device refused to give bytes.
+#[derive(Clone, Copy, Debug, Error, PartialEq, Eq)]
+#[error("the feed failed")]
+pub struct FeedFault;
+
+/// A source of bytes that are given once, in order: a file, a pipe, or bytes in memory.
+pub trait Feed {
+    // The bytes that it still gives, where it tells them.
+    ghost left: { Self → Option (List ℕ) };
+    // How many bytes it gave so far.
+    ghost given: { Self → ℕ };
+    // How many pulls it refused so far.
+    ghost failures: { Self → ℕ };
+    // Whether it never fails, now or later.
+    ghost is_sure: { Self → Bool };
+
+    /// Writes the next bytes to the front of `buffer`, and returns how many: at most the buffer's length, and perhaps
+    /// fewer than are left. For a buffer that is not empty, 0 means that no byte is left. What the buffer holds behind
+    /// these bytes is left open.
+    ///
+    /// # Errors
+    ///
+    /// The device failed. No byte was given, and a later pull goes on where this one would have.
+    fn pull(&mut self, buffer: &mut [u8]) -> Result<usize, FeedFault>
+        ensures within { IfOk result (λ n. n ≤ length buffer.old) }
+        ensures gives { IfOk result
+            (λ n. left self.old ≡ put_back (take n buffer.new) (left self.new)) }
+        ensures end { IfOk result
+            (λ n. n ≡ 0 → 0 < length buffer.old → IfSome (left self.old) (λ bytes. bytes ≡ [])) }
+        ensures counts { IfOk result (λ n. given self.new ≡ given self.old + n) }
+        ensures works { OnOk result (failures self.new ≡ failures self.old) }
+
+        ensures refused_left { OnErr result (left self.new ≡ left self.old) }
+        ensures refused_given { OnErr result (given self.new ≡ given self.old) }
+        ensures fails { OnErr result (failures self.new ≡ failures self.old + 1) }
+
+        ensures sure { IsTrue (is_sure self.old) → IsOk result }
+        ensures stays_sure { IsTrue (is_sure self.old) → IsTrue (is_sure self.new) };
+}

@@ -1,0 +1,43 @@
+//! A device that takes bytes.
+
+ghost use Rattle.std.specs.Prelude.{◌≡◌, ◌+◌, ◌<◌, ◌≤◌, [], length, take, IfOk, OnOk, OnErr};
+ghost use Rattle.devices.specs.Device.{added};
+ghost use Rattle.devices.specs.SinkState.{SinkState, IsWritten, IsCutOff};
+ghost use Rattle.devices.specs.SinkSteps.{IsBegunAsBefore};
+
+use thiserror::Error;
+
+/// A device refused to take bytes, or to begin.
+#[derive(Clone, Copy, Debug, Error, PartialEq, Eq)]
+#[error("the sink failed")]
+pub struct SinkFault;
+
+/// A device that takes one text: a file, or bytes in memory.
+pub trait Sink {
+    // What it tells of itself.
+    ghost state: { Self → SinkState };
+
+    /// Begins the text. The sink gives up the text that it held, and holds none of the new one yet.
+    ///
+    /// # Errors
+    ///
+    /// The device failed. The sink is as it was, or it was begun and is empty.
+    fn begin(&mut self) -> Result<(), SinkFault>
+        ensures begins { OnOk result (IsWritten [] (state self.old) (state self.new)) }
+        ensures refused { OnErr result (IsCutOff 1 [] (state self.old) (state self.new)) };
+
+    /// Takes the first bytes of `bytes`, and answers how many: at least one where there is one.
+    ///
+    /// # Errors
+    ///
+    /// The device failed. No byte was taken.
+    fn put(&mut self, bytes: &[u8]) -> Result<usize, SinkFault>
+        ensures within { IfOk result (λ n. n ≤ length bytes.now) }
+        ensures some { IfOk result (λ n. 0 < length bytes.now → 0 < n) }
+        ensures takes { IfOk result
+            (λ n. (state self.new).taken ≡ added (take n bytes.now) (state self.old).taken) }
+        ensures works { OnOk result ((state self.new).failures ≡ (state self.old).failures) }
+        ensures refused { OnErr result ((state self.new).taken ≡ (state self.old).taken) }
+        ensures fails { OnErr result ((state self.new).failures ≡ (state self.old).failures + 1) }
+        ensures still { IsBegunAsBefore (state self.old) (state self.new) };
+}
