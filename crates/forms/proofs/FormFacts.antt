@@ -6,7 +6,7 @@ use Rattle.std.proofs.lemmas.Int.{ints}
 use Rattle.pit_units.proofs.Multiples.{stands_multiple}
 use Rattle.pit_units.proofs.Standing.{read_stands, stands_read, spelled_number, spelled_too_fine}
 use Rattle.pit_units.proofs.Written.{shortest_read}
-use Rattle.pit_units.specs.Decimal.{decimal_of, shortest}
+use Rattle.pit_units.specs.Decimal.{decimal_of, decimal_within, kept_within, shortest}
 use Rattle.pit_units.specs.StandsFor.{StandsFor}
 use Rattle.pit_units.specs.declared.fault.DecFault.{DecFault}
 use Rattle.pit_units.specs.declared.fault.DecFault.TheVariants as dec
@@ -34,52 +34,49 @@ both_true : (a b : Bool) → (a && b) ≡ false → a ≡ true → b ≡ true �
 both_true true b e a is = absurd cc
 both_true false b e a is = absurd cc
 
--- a decimal, and then a test of its number
-pub number_told : {B K : Type 0} (kind : FieldFault → K) (decimals : ℕ) (text : List ℕ) (f : ℤ → Result B K) (met : Type 0) (Q : B → Type 0)
-    → decimals ≤ 6 → (met → (m : ℤ) × StandsFor decimals text m)
-    → ((m : ℤ) → StandsFor decimals text m → Follows (f m) (demand (kind fault.Range) met) Q)
-    → Follows (number_or_kind kind (decimal_of decimals text) >>= f)
-    (demand (kind fault.Number) (IsDecimal text) ++ demand (kind fault.TooFine) (IsFine decimals text) ++ demand (kind fault.Range) met) Q
-number_told {B} {K} kind decimals text f met Q few there next = by (decimal_of decimals text) refl
+-- a decimal, and whether it is in its range
+range_told : {K : Type 0} (kind : FieldFault → K) (decimals : ℕ) (low high : ℤ) (text : List ℕ) → decimals ≤ 6
+    → Follows (read_decimal kind decimals low high text) (asked_of_decimal kind decimals low high text)
+    (Says (Decimal decimals low high) text)
+unfolding decimal_within
+range_told {K} kind decimals low high text few = by (decimal_of decimals text) refl
   where
+    Met : Type 0
+    Met = IsWithin decimals low high text
+
     front : List (Demand K)
     front = demand (kind fault.Number) (IsDecimal text) ++ demand (kind fault.TooFine) (IsFine decimals text)
 
+    test : (m : ℤ) → StandsFor decimals text m → (t : Bool) → (int_le low m && int_le m high) ≡ t
+        → Follows (number_or_kind kind (if t then Ok m else Err dec.Range) >>= λ m. Ok (Millionths m)) (demand (kind fault.Range) Met)
+        (Says (Decimal decimals low high) text)
+    test m stands true e =
+        let parts = and_parts (int_le low m) (int_le m high) e in
+        let from : low ≤ℤ m = le_true low m parts.0 in
+        let to : m ≤ℤ high = le_true m high parts.1 in
+        (((m, stands, from, to), tt), (stands, from, to))
+    test m stands false e =
+        let never : ¬ Met = λ h.
+        let same : h.0 ≡ m = one_number decimals text h.0 m few h.1 stands in
+        both_true (int_le low m) (int_le m high) e (true_le low m (subst (λ z. low ≤ℤ z) same h.2))
+        (true_le m high (subst (λ z. z ≤ℤ high) same h.3)) in
+        inl (never, refl)
+
     by : (r : Result ℤ DecFault) → decimal_of decimals text ≡ r
-        → Follows (number_or_kind kind r >>= f) (front ++ demand (kind fault.Range) met) Q
+        → Follows (number_or_kind kind (kept_within low high r) >>= λ m. Ok (Millionths m)) (front ++ demand (kind fault.Range) Met)
+        (Says (Decimal decimals low high) text)
     by (Ok m) e =
         let stands = read_stands decimals text m few e in
         let fine = stands_fine decimals text m stands in
-        behind (f m) front (demand (kind fault.Range) met) Q (fine_decimal decimals text fine, (fine, tt)) (next m stands)
+        behind _ front (demand (kind fault.Range) Met) (Says (Decimal decimals low high) text)
+        (fine_decimal decimals text fine, (fine, tt)) (test m stands (int_le low m && int_le m high) refl)
     by (Err dec.Number) e = inl ((λ d. spelled_number decimals text d.0 d.1 d.2 d.3 d.4 e), refl)
     by (Err dec.TooFine) e =
         inr (too_fine_decimal decimals text e, inl ((λ f. (spelled_too_fine decimals text f.0 f.1 f.2 f.3 f.4).0 e f.5), refl))
     by (Err dec.Range) e =
         let fine = out_of_range_fine decimals text e in
-        let never : ¬ met = λ h. let t = there h in absurd (cc (sym e ∙ stands_read decimals text t.0 few t.1)) in
+        let never : ¬ Met = λ h. absurd (cc (sym e ∙ stands_read decimals text h.0 few h.1)) in
         inr (fine_decimal decimals text fine, inr (fine, inl (never, refl)))
-
-range_told : {K : Type 0} (kind : FieldFault → K) (decimals : ℕ) (low high : ℤ) (text : List ℕ) → decimals ≤ 6
-    → Follows (read_decimal kind decimals low high text) (asked_of_decimal kind decimals low high text)
-    (Says (Decimal decimals low high) text)
-range_told {K} kind decimals low high text few =
-    number_told kind decimals text _ (IsWithin decimals low high text) _ few (λ h. (h.0, h.1))
-    (λ m stands. by m stands (int_le low m && int_le m high) refl)
-  where
-    by : (m : ℤ) → StandsFor decimals text m → (t : Bool) → (int_le low m && int_le m high) ≡ t
-        → Follows (if t then Ok (Millionths m) else Err (kind fault.Range)) (demand (kind fault.Range) (IsWithin decimals low high text))
-        (Says (Decimal decimals low high) text)
-    by m stands true e =
-        let parts = and_parts (int_le low m) (int_le m high) e in
-        let from : low ≤ℤ m = le_true low m parts.0 in
-        let to : m ≤ℤ high = le_true m high parts.1 in
-        (((m, stands, from, to), tt), (stands, from, to))
-    by m stands false e =
-        let never : ¬ (IsWithin decimals low high text) = λ h.
-        let same : h.0 ≡ m = one_number decimals text h.0 m few h.1 stands in
-        both_true (int_le low m) (int_le m high) e (true_le low m (subst (λ z. low ≤ℤ z) same h.2))
-        (true_le m high (subst (λ z. z ≤ℤ high) same h.3)) in
-        inl (never, refl)
 
 -- a decimal in its range, and then whether it is on a step
 stepped_told : {K : Type 0} (kind : FieldFault → K) (decimals step : ℕ) (low high : ℤ) (text : List ℕ) → decimals ≤ 6
@@ -155,6 +152,7 @@ read_told kinds form texts fine =
 pub says_read : {K : Type 0} (kind : FieldFault → K) (field : Field) (text : List ℕ) (value : Value) → has_six_decimals field ≡ true
     → Says field text value
     → read_field kind field text ≡ Ok value
+unfolding decimal_within
 says_read kind (Decimal decimals low high) text (Millionths m) fine says =
     rw (stands_read decimals text m (leb-true decimals 6 fine) says.0, true_le low m says.1, true_le m high says.2) refl
 says_read kind (Decimal decimals low high) text (Bytes word) fine says = absurd says

@@ -1,6 +1,6 @@
 -- Reading texts by a form: their values, or the first fault.
-use Rattle.std.specs.Prelude.{ℕ, suc, ◌==◌, ◌&&◌, not, List, [], ◌∷◌, length, ℤ, int_le, Result, Ok, Err, if◌then◌else◌}
-use Rattle.pit_units.specs.Decimal.{decimal_of}
+use Rattle.std.specs.Prelude.{ℕ, suc, ◌==◌, not, List, [], ◌∷◌, length, ℤ, Result, Ok, Err, if◌then◌else◌}
+use Rattle.pit_units.specs.Decimal.{decimal_within}
 use Rattle.pit_units.specs.declared.fault.DecFault.{DecFault}
 use Rattle.pit_units.specs.declared.fault.DecFault.TheVariants as dec
 use Rattle.forms.specs.FieldFault.{FieldFault}
@@ -22,8 +22,7 @@ number_or_kind kind (Err dec.Range) = Err (kind fault.Range)
 -- what a text states as a decimal
 abbrev pub read_decimal : {K : Type 0} → (FieldFault → K) → ℕ → ℤ → ℤ → List ℕ → Result Value K
 read_decimal kind decimals low high text =
-    number_or_kind kind (decimal_of decimals text) >>= λ m.
-    if int_le low m && int_le m high then Ok (Millionths m) else Err (kind fault.Range)
+    number_or_kind kind (decimal_within decimals low high text) >>= λ m. Ok (Millionths m)
 
 -- what a text states as this field
 abbrev pub read_field : {K : Type 0} → (FieldFault → K) → Field → List ℕ → Result Value K

@@ -1,5 +1,5 @@
 -- Which number a decimal text states, and how a number is written. Numbers are counted in millionths.
-use Rattle.std.specs.Prelude.{ℕ, suc, ◌+◌, ◌*◌, ◌/◌, ◌%◌, ◌-◌, ◌^◌, Bool, not, ◌&&◌, List, [], ◌∷◌, ◌++◌, length, map, take, drop, replicate, ℤ, pos, negsuc, neg_ℤ, if◌then◌else◌, nat_lt, ◌==◌, Ok, Err, Result}
+use Rattle.std.specs.Prelude.{ℕ, suc, ◌+◌, ◌*◌, ◌/◌, ◌%◌, ◌-◌, ◌^◌, Bool, not, ◌&&◌, List, [], ◌∷◌, ◌++◌, length, map, take, drop, replicate, ℤ, pos, negsuc, neg_ℤ, int_le, if◌then◌else◌, nat_lt, ◌==◌, Ok, Err, Result}
 use Rattle.std.specs.Char.{is_ascii_digit}
 use Rattle.std.specs.Fmt.{decimal}
 use Rattle.std.specs.List.{list_all, before_first, after_first, suffix_len}
@@ -47,6 +47,15 @@ decimal_of max text =
     else (if not (all_zeros (drop max (fraction_of text))) then Err TooFine
     else (if nat_lt (10 ^ 24) size then Err Range
     else Ok (signed (starts_with_minus text) size)))
+
+-- a number from the lowest to the highest millionths, or that it is out of this range
+abbrev pub kept_within : ℤ → ℤ → Result ℤ DecFault → Result ℤ DecFault
+kept_within low high (Ok m) = if int_le low m && int_le m high then Ok m else Err Range
+kept_within low high (Err fault) = Err fault
+
+-- the millionths from the lowest to the highest that a text states, or the first fault of it
+unfoldable pub decimal_within : ℕ → ℤ → ℤ → List ℕ → Result ℤ DecFault
+decimal_within max low high text = kept_within low high (decimal_of max text)
 
 -- the six decimals of n millionths
 abbrev pub six_digits : ℕ → List ℕ

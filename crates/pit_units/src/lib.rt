@@ -11,5 +11,5 @@ mod writing;
 pub use decimal::Dec;
 pub use fault::DecFault;
 pub use front::{front_dec, front_whole};
-pub use reading::parse_dec;
+pub use reading::{parse_dec, parse_within};
 pub use writing::put_dec;

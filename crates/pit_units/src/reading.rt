@@ -1,7 +1,7 @@
-ghost use Rattle.std.specs.Prelude.{◌≡◌, ℕ, ◌+◌, ◌*◌, ◌^◌, ◌≤◌, ◌<◌, ◌==◌, min, drop, slice_index_or, length, not, ◌&&◌, IsTrue, nat_lt, if◌then◌else◌, IfSome, Ok, Err, pos};
+ghost use Rattle.std.specs.Prelude.{◌≡◌, ℕ, ◌+◌, ◌*◌, ◌^◌, ◌≤◌, ◌<◌, ◌==◌, min, drop, slice_index_or, length, not, ◌&&◌, IsTrue, nat_lt, if◌then◌else◌, IfOk, IfSome, Ok, Err, pos, ◌≤ℤ◌};
 ghost use Rattle.std.specs.List.{position_or_len};
 ghost use Rattle.std.specs.Str.Parse.{digits_value, without_leading_sign};
-ghost use Rattle.pit_units.specs.Decimal.{all_digits, all_zeros, decimal_of, signed, six_decimals};
+ghost use Rattle.pit_units.specs.Decimal.{all_digits, all_zeros, decimal_of, decimal_within, signed, six_decimals};
 
 use crate::decimal::Dec;
 use crate::fault::DecFault;
@@ -29,6 +29,27 @@ pub fn parse_dec(text: &[u8], max_decimals: u8) -> Result<Dec, DecFault>
     match short_decimal(text, max_decimals) {
         Some(dec) => Ok(dec),
         None => parse_any(text, max_decimals),
+    }
+}
+
+/// The decimal that a text states, as `parse_dec` reads it, from `low` to `high` millionths.
+///
+/// # Errors
+///
+/// Those of `parse_dec`, and behind them `Range`: the number is below `low` or above `high`.
+#[inline(always)]
+#[tactic(auto, unfolding(crate::specs::Decimal::decimal_within))]
+pub fn parse_within(text: &[u8], max_decimals: u8, low: i128, high: i128) -> Result<Dec, DecFault>
+    requires { max_decimals ≤ 6 }
+    ensures value { result ≡ decimal_within max_decimals low high text.now }
+    ensures in_range { IfOk result (λ m. (low ≤ℤ m) × (m ≤ℤ high)) }
+{
+    let dec = parse_dec(text, max_decimals)?;
+    let millionths = dec.millionths();
+    if low <= millionths && millionths <= high {
+        Ok(dec)
+    } else {
+        Err(DecFault::Range)
     }
 }
 
