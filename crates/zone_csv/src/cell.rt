@@ -11,7 +11,7 @@ ghost use Rattle.pit_parts.specs.declared.ranges.TheConstants.{GRID_CELLS};
 use crate::row_fault::{Column, RowFault, RowFaultKind};
 use pit_parts::grid::Axis;
 use pit_parts::ranges::GRID_CELLS;
-use pit_units::{Dec, DecFault, parse_dec};
+use pit_units::{Dec, DecFault, parse_within};
 
 #[inline(always)]
 pub(crate) fn a_fault(row: u32, column: Column, kind: RowFaultKind) -> RowFault
@@ -55,17 +55,7 @@ fn number_of(
         ≡ read_decimal (of_cell row column) decimals low high cell.now }
     ensures in_range { IfOk result (λ number. (low ≤ℤ number) × (number ≤ℤ high)) }
 {
-    match parse_dec(cell, decimals) {
-        Ok(number) => {
-            let millionths = number.millionths();
-            if millionths < low || millionths > high {
-                let kind = RowFaultKind::Range;
-                return Err(ColumnFault { column, kind });
-            }
-            Ok(number)
-        }
-        Err(fault) => Err(no_decimal(column, fault)),
-    }
+    parse_within(cell, decimals, low, high).map_err(|fault| no_decimal(column, fault))
 }
 
 // The millionths that a cell states, with so many decimals, from 0 to the most.

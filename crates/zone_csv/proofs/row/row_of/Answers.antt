@@ -1,5 +1,5 @@
-use Rattle.std.proofs.Common.{rules, ◌≡◌, ◌<◌, true, arith, nat_le, length, Ok, ap, sym, ◌∙◌}
-use Rattle.std.proofs.lemmas.Bool.{eq-eqb}
+use Rattle.std.proofs.Common.{rules, ◌<◌, arith, length, Ok, ap, sym, ◌∙◌}
+use Rattle.std.proofs.lemmas.Bool.{eq-eqb, le-leb}
 use Rattle.csv.specs.Records.{fields_of}
 use Rattle.pit_parts.proofs.BlockFacts.{block_again}
 use Rattle.zone_csv.specs.Row.{row_of}
@@ -9,14 +9,13 @@ use Rattle.zone_csv.proofs.row.row_of.Goals as goal
 pub returns-clause-value : goal.returns-clause-value
 unfolding row_of
 returns-clause-value c =
-    let few : nat_le c.args.number 1000001 ≡ true = search rules in
     let wide = eq-eqb (length (fields_of c.args.row.now)) c.args.columns.width (sym c.len.ensures ∙ c.if-len-columns.false) in
     let sx : 0 < c.args.grid.x.size = omega arith in
     let sy : 0 < c.args.grid.y.size = omega arith in
     let sz : 0 < c.args.grid.z.size = omega arith in
     let number = c.args.number in
     rw (
-      few,
+      le-leb c.args.number 1000001 (omega arith),
       wide,
       sym c.cell_at.ensures.field,
       sym c.cell_at-2.ensures.field,
@@ -32,3 +31,21 @@ returns-clause-value c =
       centroid_index c.args.grid.y sy c.in_ok-y.y,
       centroid_index c.args.grid.z sz c.in_ok-z.z,
     ) (ap Ok (sym (block_again _)))
+
+pub returns-in_err-z-clause-value : goal.returns-in_err-z-clause-value
+unfolding row_of
+returns-in_err-z-clause-value c =
+    let wide = eq-eqb (length (fields_of c.args.row.now)) c.args.columns.width (sym c.len.ensures ∙ c.if-len-columns.false) in
+    rw (le-leb c.args.number 1000001 (omega arith), wide) (search rules)
+
+pub returns-in_err-millionths-clause-value : goal.returns-in_err-millionths-clause-value
+unfolding row_of
+returns-in_err-millionths-clause-value c =
+    let wide = eq-eqb (length (fields_of c.args.row.now)) c.args.columns.width (sym c.len.ensures ∙ c.if-len-columns.false) in
+    rw (le-leb c.args.number 1000001 (omega arith), wide) (search rules)
+
+pub returns-in_err-grade-clause-value : goal.returns-in_err-grade-clause-value
+unfolding row_of
+returns-in_err-grade-clause-value c =
+    let wide = eq-eqb (length (fields_of c.args.row.now)) c.args.columns.width (sym c.len.ensures ∙ c.if-len-columns.false) in
+    rw (le-leb c.args.number 1000001 (omega arith), wide) (search rules)
