@@ -9,7 +9,7 @@ ghost use Rattle.pit_parts.specs.declared.ranges.TheConstants.{MAX_ORIGIN, MAX_S
 
 use crate::plan_fault::PlanFaultKind;
 use pit_parts::ranges::{MAX_ORIGIN, MAX_SIZE, MIN_ORIGIN};
-use pit_units::parse_dec;
+use pit_units::parse_within;
 
 /// The millionths that a cell states, with at most so many decimals and from `low` to `high`.
 pub fn number_in(cell: &[u8], decimals: u8, low: i128, high: i128) -> Result<i128, PlanFaultKind>
@@ -18,12 +18,7 @@ pub fn number_in(cell: &[u8], decimals: u8, low: i128, high: i128) -> Result<i12
         (read_field plan_kind (Decimal decimals low high) cell.now) }
     ensures in_range { IfOk result (λ m. (low ≤ℤ m) × (m ≤ℤ high)) }
 {
-    let millionths = parse_dec(cell, decimals)?.millionths();
-    if low <= millionths && millionths <= high {
-        Ok(millionths)
-    } else {
-        Err(PlanFaultKind::Range)
-    }
+    Ok(parse_within(cell, decimals, low, high)?.millionths())
 }
 
 /// The whole number that a cell states, from `low` to `high`.
