@@ -3,6 +3,7 @@
 ghost use Rattle.std.specs.Prelude.{◌≡◌, length};
 ghost use Rattle.mine_instance.specs.CpitKept.{IsCpit};
 
+use crate::cpit_coefs::CpitCoefs;
 use crate::rising::Ordered;
 use pit_parts::limit::Limit;
 use pit_parts::name::Name;
@@ -45,7 +46,7 @@ pub struct Cpit {
     periods: u8,
     resources: u8,
     values: Vec<Dec>,
-    coefs: Vec<CpitCoef>,
+    coefs: CpitCoefs,
     limits: Vec<Limit>,
 }
 
@@ -72,12 +73,12 @@ impl Cpit {
         periods: u8,
         resources: u8,
         values: Vec<Dec>,
-        coefs: Vec<CpitCoef>,
+        coefs: CpitCoefs,
         limits: Vec<Limit>,
     ) -> Cpit
-        requires { IsCpit (cpit_of name rate periods resources values.items coefs.items
+        requires { IsCpit (cpit_of name rate periods resources values.items coefs
             limits.items) }
-        ensures { result ≡ cpit_of name rate periods resources values.items coefs.items
+        ensures { result ≡ cpit_of name rate periods resources values.items coefs
             limits.items }
     {
         Cpit {
@@ -128,11 +129,11 @@ impl Cpit {
     }
 
     /// The coefficients, in strictly rising order of block and resource.
-    pub fn coefs(&self) -> &[CpitCoef]
+    pub fn coefs(&self) -> &CpitCoefs
         ensures value { result.now ≡ self.now.coefs }
         ensures kept { IsCpit self.now }
     {
-        self.coefs.as_slice()
+        &self.coefs
     }
 
     /// The limits, in strictly rising order of resource and period.

@@ -10,6 +10,7 @@ ghost use Rattle.pit_parts.specs.declared.ranges.TheConstants.{MAX_DESTINATIONS}
 
 use crate::coef::{Coef, Coefs};
 use crate::cpit::{Cpit, CpitCoef};
+use crate::cpit_coefs::CpitCoefs;
 use crate::greatest::first_greatest;
 use crate::instance::Instance;
 use crate::values::Values;
@@ -81,12 +82,12 @@ fn coefs_at(
     coefs: &Coefs,
     destinations: &[u8],
     most: usize,
-) -> Result<Vec<CpitCoef>, AllocError>
+) -> Result<CpitCoefs, AllocError>
     requires { All (λ coef. coef.b < length destinations.now) coefs.now }
-    ensures { IfOk result (λ chosen. chosen.items
+    ensures { IfOk result (λ chosen. chosen
         ≡ map without_destination (filter (is_at destinations.now) coefs.now)) }
 {
-    let mut chosen = Vec::with_capacity(alloc, most.min(coefs.len()))?;
+    let mut chosen = CpitCoefs::with_room(alloc, most.min(coefs.len()))?;
     let mut piece = Vec::with_capacity(alloc, PIECE)?;
     let mut from = 0;
     while from < coefs.len() {
@@ -98,14 +99,10 @@ fn coefs_at(
     Ok(chosen)
 }
 
-fn put_chosen(
-    chosen: &mut Vec<CpitCoef>,
-    coefs: &[Coef],
-    destinations: &[u8],
-) -> Result<(), AllocError>
+fn put_chosen(chosen: &mut CpitCoefs, coefs: &[Coef], destinations: &[u8]) -> Result<(), AllocError>
     requires { All (λ coef. coef.b < length destinations.now) coefs.now }
-    ensures { OnOk result (chosen.new.items
-        ≡ chosen.old.items ++ map without_destination (filter (is_at destinations.now) coefs.now)) }
+    ensures { OnOk result (chosen.new
+        ≡ chosen.old ++ map without_destination (filter (is_at destinations.now) coefs.now)) }
 {
     for coef in coefs {
         if is_at(destinations, coef) {

@@ -6,6 +6,7 @@ mod building;
 pub mod coef;
 pub mod cpit;
 mod cpit_building;
+pub mod cpit_coefs;
 mod found_coefs;
 pub mod greatest;
 pub mod instance;

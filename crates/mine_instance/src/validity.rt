@@ -2,14 +2,16 @@
 
 ghost use Rattle.std.specs.Prelude.{◌≡◌, ◌≢◌, ℕ, ◌<◌, ◌≤◌, ◌↔◌, List, length, All, AllPairs, IsTrue};
 ghost use Rattle.mine_instance.specs.CpitKept.{AreCpitCoefs, IsCpit, cpit_of};
+ghost use Rattle.mine_instance.specs.CpitOrder.{is_listed_before};
 ghost use Rattle.mine_instance.specs.Order.{coef_comes_before};
 ghost use Rattle.mine_instance.specs.Valid.{HasLengths, ArePredsOf, ArePreds, IsHorizon, HasDestinations, AreCoefs, AreLimits, IsValid};
 ghost use Rattle.pit_parts.specs.declared.ranges.TheConstants.{MAX_BLOCKS};
 
 use crate::coef::{Coef, Coefs};
 use crate::cpit::CpitCoef;
+use crate::cpit_coefs::CpitCoefs;
 use crate::instance::Instance;
-use crate::rising::rises;
+use crate::rising::{Ordered, rises};
 use crate::values::Values;
 use pit_parts::limit::Limit;
 use pit_parts::ranges::{MAX_BLOCKS, MAX_DESTINATIONS, MAX_PERIODS, MAX_RATE, MAX_RESOURCES};
@@ -55,7 +57,7 @@ pub fn is_cpit(
     periods: u8,
     resources: u8,
     values: &[Dec],
-    coefs: &[CpitCoef],
+    coefs: &CpitCoefs,
     limits: &[Limit],
 ) -> bool
     ensures { (name : List ℕ) → IsTrue result
@@ -175,13 +177,39 @@ fn coefs_rise(coefs: &Coefs) -> bool
     true
 }
 
-fn are_cpit_coefs(coefs: &[CpitCoef], count: usize, resources: u8) -> bool
+fn are_cpit_coefs(coefs: &CpitCoefs, count: usize, resources: u8) -> bool
     ensures { IsTrue result ↔ AreCpitCoefs count resources coefs.now }
 {
-    coefs
-        .iter()
-        .all(|coef| (coef.b as usize) < count && coef.r < resources)
-        && rises(coefs)
+    are_of_blocks(coefs, count, resources) && cpit_coefs_rise(coefs)
+}
+
+// Whether the coefficients are of blocks and resources that are there.
+fn are_of_blocks(coefs: &CpitCoefs, count: usize, resources: u8) -> bool
+    ensures { IsTrue result ↔ All (λ c. (c.b < count) × (c.r < resources)) coefs.now }
+{
+    for index in 0..coefs.len() {
+        if !is_of_block(coefs.at(index), count, resources) {
+            return false;
+        }
+    }
+    true
+}
+
+fn is_of_block(coef: CpitCoef, count: usize, resources: u8) -> bool
+    ensures { IsTrue result ↔ ((coef.b < count) × (coef.r < resources)) }
+{
+    (coef.b as usize) < count && coef.r < resources
+}
+
+fn cpit_coefs_rise(coefs: &CpitCoefs) -> bool
+    ensures { IsTrue result ↔ AllPairs (λ c e. IsTrue (is_listed_before c e)) coefs.now }
+{
+    for index in 1..coefs.len() {
+        if !coefs.at(index - 1).is_before(&coefs.at(index)) {
+            return false;
+        }
+    }
+    true
 }
 
 fn are_limits(limits: &[Limit], resources: u8, periods: u8) -> bool

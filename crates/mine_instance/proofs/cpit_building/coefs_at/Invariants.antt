@@ -8,7 +8,7 @@ use Rattle.mine_instance.proofs.cpit_building.coefs_at.Given as goal
 abbrev pub invariant-loop-from : goal.invariant-loop-from
 invariant-loop-from l = record {
   within : l.from ≤ length l.coefs;
-  chosen : l.chosen.items ≡ map without_destination (filter (is_at l.destinations) (take l.from l.coefs));
+  chosen : l.chosen ≡ map without_destination (filter (is_at l.destinations) (take l.from l.coefs));
 }
 
 abbrev pub decreases-loop-from : goal.decreases-loop-from
