@@ -9,11 +9,11 @@ ghost use Rattle.minelib_lines.specs.Lines.{line_of, lines_from};
 ghost use Rattle.minelib_writing.specs.Written.{coef_fields, cpit_coef_fields};
 ghost use Rattle.minelib_lines.specs.declared.problem.Problem.TheVariants.{Pcpsp};
 
+use crate::coef_list::CoefList;
 use crate::fields::{put_decimal_to, put_whole_to};
-use crate::lines::item;
 use crate::sections::Section;
 use itoa::write_digits;
-use mine_instance::coef::{Coef, Coefs};
+use mine_instance::coef::Coef;
 use mine_instance::cpit::CpitCoef;
 use std::alloc::{AllocError, Global};
 
@@ -117,16 +117,16 @@ impl CoefLine for CpitCoef {
     ghost parts = { cpit_coef_parts };
 }
 
-/// A line for each coefficient of an instance. They are found piece by piece, as their lines are appended.
+/// A line for each coefficient. They are asked for piece by piece, as their lines are appended.
 #[derive(Drop)]
-pub struct FoundCoefLines<'a> {
-    pub coefs: &'a Coefs,
+pub struct CoefLines<'a, L> {
+    pub coefs: &'a L,
 }
 
-impl<'a> Section for FoundCoefLines<'a> {
-    ghost lines = { λ s. lines_from (coef_fields Pcpsp) 0 s.coefs.now };
+impl<'a, L: CoefList> Section for CoefLines<'a, L> {
+    ghost lines = { λ s. lines_from (λ n. L.Coef.fields) 0 (L.list s.coefs.now) };
 
-    ghost kept = { λ s n. HoldsAt (λ c. IsInDecimalRange c.v) s.coefs.now n };
+    ghost kept = { λ s n. HoldsAt L.Coef.kept (L.list s.coefs.now) n };
 
     fn len(&self) -> usize {
         self.coefs.len()
@@ -149,37 +149,6 @@ impl<'a> Section for FoundCoefLines<'a> {
     }
 }
 
-/// A line for each coefficient.
-#[derive(Drop)]
-pub struct CoefLines<'a, C> {
-    pub coefs: &'a [C],
-}
-
-impl<'a, C: CoefLine> Section for CoefLines<'a, C> {
-    ghost lines = { λ s. lines_from (λ n. C.fields) 0 s.coefs.now };
-
-    ghost kept = { λ s n. HoldsAt C.kept s.coefs.now n };
-
-    fn len(&self) -> usize {
-        self.coefs.len()
-    }
-
-    fn append(&self, alloc: Global, index: usize, out: &mut Vec<u8>) -> Result<(), AllocError> {
-        put_coef(alloc, out, item(self.coefs, index))
-    }
-
-    fn append_some(
-        &self,
-        alloc: Global,
-        index: usize,
-        out: &mut Vec<u8>,
-    ) -> Result<usize, AllocError> {
-        let coefs = some_from(self.coefs, index);
-        put_coefs(alloc, out, coefs)?;
-        Ok(coefs.len())
-    }
-}
-
 // Appends the line of one coefficient.
 fn put_coef<C: CoefLine>(alloc: Global, out: &mut Vec<u8>, coef: &C) -> Result<(), AllocError>
     ensures text { OnOk result (out.new.items
@@ -188,17 +157,6 @@ fn put_coef<C: CoefLine>(alloc: Global, out: &mut Vec<u8>, coef: &C) -> Result<(
 {
     put_whole_to(out, u64::from(coef.block()), b' ')?;
     coef.put_rest(alloc, out)
-}
-
-// One or more of the coefficients from a place on.
-fn some_from<C>(coefs: &[C], index: usize) -> &[C]
-    requires { index < length coefs.now }
-    ensures some { 0 < length result.now }
-    ensures within { index + length result.now ≤ length coefs.now }
-    ensures part { result.now ≡ take (length result.now) (drop index coefs.now) }
-{
-    let count = (coefs.len() - index).min(MOST);
-    &coefs[index..index + count]
 }
 
 // Appends the lines of these coefficients. Each is made from the one before it in a room: the digits of the block end where a space

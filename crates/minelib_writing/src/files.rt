@@ -8,7 +8,7 @@ ghost use Rattle.minelib_writing.specs.Written.{text_blocks, text_prec, text_upi
 ghost use Rattle.pit_parts.specs.declared.ranges.TheConstants.{MAX_BLOCKS};
 
 use crate::block_sections::{GreatestLines, ValueLines};
-use crate::coef_lines::{CoefLines, FoundCoefLines};
+use crate::coef_lines::CoefLines;
 use crate::id_text::IdText;
 use crate::keys::{put_cpit_keys, put_pcpsp_keys, put_problem};
 use crate::lines::Lines;
@@ -132,7 +132,7 @@ impl<'a, P: PredLists> Text for PcpspFile<'a, P> {
             &ValueLines {
                 values: &instance.values,
             },
-            &FoundCoefLines {
+            &CoefLines {
                 coefs: &instance.coefs,
             },
             &Lines {

@@ -41,8 +41,8 @@ impl<'a, T: Line> Section for Lines<'a, T> {
     }
 }
 
-/// The item at a place.
-pub fn item<T>(items: &[T], index: usize) -> &T
+// The item at a place.
+fn item<T>(items: &[T], index: usize) -> &T
     requires { index < length items.now }
     ensures { result.now ≡ slice_index_or items.now index result.now }
 {

@@ -1,4 +1,4 @@
-use Rattle.std.proofs.Common.{◌≡◌, ℕ, List, length, take, rules, arith, subst}
+use Rattle.std.proofs.Common.{◌≡◌, ℕ, List, take, rules, arith, subst}
 use Rattle.std.proofs.lemmas.List.{take_all}
 use Rattle.minelib_lines.specs.Lines.{lines_from, text_of}
 use Rattle.minelib_writing.specs.Written.{prec_fields}
