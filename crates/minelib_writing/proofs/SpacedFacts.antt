@@ -1,10 +1,11 @@
 -- A run of identifiers is a part of the text of 0, 1, 2, ..
-use Rattle.std.proofs.Common.{◌≡◌, ℕ, zero, suc, ◌+◌, ◌-◌, ◌<◌, ◌≤◌, List, [], ◌∷◌, ◌++◌, length, take, drop, get_or, ap, sym, ⊎_elim, ◌∙◌, arith, append_assoc, append-nil, length-append}
+use Rattle.std.proofs.Common.{◌≡◌, ℕ, zero, suc, ◌+◌, ◌*◌, ◌^◌, ◌-◌, ◌<◌, ◌≤◌, List, [], ◌∷◌, ◌++◌, length, take, drop, get_or, ap, sym, ⊎_elim, ◌∙◌, arith, append_assoc, append-nil, length-append}
 use Rattle.std.specs.Prelude.{decimal}
 use Rattle.std.specs.List.{range_with_len}
 use Rattle.std.proofs.Math.Seq.{drop-append_seam, get_or-append_seam, take-append_seam}
 use Rattle.std.proofs.lemmas.List.{get_or_append_left, get_or_default}
 use Rattle.std.proofs.lemmas.Bool.{cases_lt}
+use Rattle.std.proofs.lemmas.Fmt.{length-decimal-le_wide}
 use Rattle.std.proofs.lemmas.Grind.{flat_map-append}
 use Rattle.minelib_writing.specs.inner.Spaced.{spaced, start_in, AreStarts}
 
@@ -36,6 +37,21 @@ pub spaced_next : (n : ℕ) → spaced (range_with_len 0 (n + 1)) ≡ spaced (ra
 spaced_next n =
     let last : 0 + n ≡ n = omega arith in
     ap spaced (range_parts 0 n 1 ∙ ap (λ k. range_with_len 0 n ++ k ∷ []) last) ∙ spaced_push (range_with_len 0 n) n
+
+-- each takes nine bytes at most
+pub start_within : (n : ℕ) → n ≤ 10 ^ 8 → start_in n ≤ 9 * n
+start_within zero le = omega arith
+start_within (suc n) le =
+    let one : suc n ≡ n + 1 = omega arith in
+    let digits : length (decimal n) ≤ 8 = length-decimal-le_wide 8 n (omega arith) (omega arith) (omega arith) in
+    omega (
+      arith,
+      start_within n (omega arith),
+      digits,
+      ap start_in one,
+      ap length (spaced_next n),
+      length-append (spaced (range_with_len 0 n)) (32 ∷ decimal n),
+    )
 
 -- one more start
 pub starts_push : (starts : List ℕ) (start : ℕ) → AreStarts starts → start ≡ start_in (length starts) → AreStarts (starts ++ start ∷ [])

@@ -1,8 +1,9 @@
 //! The texts of identifiers, made once for all lines.
 
-ghost use Rattle.std.specs.Prelude.{◌≡◌, ◌-◌, ◌<◌, ◌≤◌, ◌++◌, OnOk, IfOk, length, take, drop, slice_index};
+ghost use Rattle.std.specs.Prelude.{◌≡◌, ◌+◌, ◌-◌, ◌<◌, ◌≤◌, ◌++◌, OnOk, IfOk, length, take, drop, slice_index};
 ghost use Rattle.std.specs.List.{range_with_len};
 ghost use Rattle.minelib_writing.specs.inner.Spaced.{spaced, start_in, AreStarts};
+ghost use Rattle.pit_parts.specs.declared.ranges.TheConstants.{MAX_BLOCKS};
 
 use crate::fields::put_whole_behind;
 use std::alloc::{AllocError, Global};
@@ -11,19 +12,21 @@ use std::alloc::{AllocError, Global};
 #[derive(Drop)]
 pub struct IdText {
     text: Vec<u8>,
-    // where each identifier's text begins
-    starts: Vec<usize>,
+    // where each identifier's text begins: it has nine bytes at most, so that all take fewer than 2^32
+    starts: Vec<u32>,
     ghost all: { text.items ≡ spaced (range_with_len 0 (length starts.items)) },
     ghost start: { AreStarts starts.items },
 }
 
 impl IdText {
     /// The texts of the identifiers below `count`.
-    pub fn below(alloc: Global, count: usize) -> Result<IdText, AllocError> {
+    pub fn below(alloc: Global, count: usize) -> Result<IdText, AllocError>
+        requires { count ≤ MAX_BLOCKS + 1 }
+    {
         let mut text = Vec::new(alloc);
         let mut starts = Vec::with_capacity(alloc, count)?;
         for id in 0..count {
-            starts.push(text.len())?;
+            starts.push(text.len() as u32)?;
             put_whole_behind(&mut text, b' ', id as u64)?;
         }
         Ok(IdText { text, starts })
@@ -54,7 +57,11 @@ impl IdText {
         let past = first.saturating_add(run.len());
         if past < self.starts.len() {
             let text = self.text.as_slice();
-            out.extend_from_slice(part(text, self.starts[first], self.starts[past]))
+            out.extend_from_slice(part(
+                text,
+                self.starts[first] as usize,
+                self.starts[past] as usize,
+            ))
         } else {
             put_each(out, run)
         }

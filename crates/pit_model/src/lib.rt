@@ -13,7 +13,6 @@ mod plan_reader;
 mod zone_cells;
 
 pub use pit_parts::{
-    band, block, cone, count, destination, formula, grid, limit, name, plan, ranges, resource,
-    worth,
+    band, block, cone, destination, formula, grid, limit, name, plan, ranges, resource, worth,
 };
 pub use plan_reader::read_plan;

@@ -1,8 +1,21 @@
 use Rattle.std.proofs.Common.{◌≡◌, ◌++◌, ◌∷◌, [], ◌∙◌, length, ap, sym, arith, length-append}
 use Rattle.std.specs.Prelude.{decimal}
 use Rattle.minelib_writing.specs.inner.Spaced.{start_in}
-use Rattle.minelib_writing.proofs.SpacedFacts.{spaced_next, starts_push}
+use Rattle.minelib_writing.proofs.SpacedFacts.{spaced_next, start_within, starts_push}
 use Rattle.minelib_writing.proofs.id_text.IdText.below.Goals as goal
+
+pub overflow_cast-len : goal.overflow_cast-len
+overflow_cast-len c =
+    let id = c.loop-id.id in
+    omega (
+      arith,
+      c.len.ensures,
+      c.loop-id.text.ok,
+      ap length c.loop-id.invariant.text,
+      c.requires,
+      c.loop-id-test.true,
+      start_within id (omega (arith, c.requires, c.loop-id-test.true)),
+    )
 
 pub loop-id-preserved : goal.loop-id-preserved
 loop-id-preserved c =
