@@ -27,6 +27,7 @@ use crate::model_keys::{cut_at_colon, is_heading, is_limits, is_next, key_of, on
 use mine_instance::blocks::Blocks;
 use mine_instance::coef::{Coef, Coefs};
 use mine_instance::cpit::{Cpit, CpitCoef};
+use mine_instance::cpit_coefs::CpitCoefs;
 use mine_instance::instance::Instance;
 use mine_instance::limits::Limits;
 use mine_instance::values::Values;
@@ -353,10 +354,10 @@ impl ModelDraft {
 }
 
 // The coefficients of a CPIT, whose one destination is not named.
-fn without_destinations(alloc: Global, coefs: &[Coef]) -> Result<Vec<CpitCoef>, AllocError>
-    ensures { IfOk result (λ of_cpit. of_cpit.items ≡ map without_destination coefs.now) }
+fn without_destinations(alloc: Global, coefs: &[Coef]) -> Result<CpitCoefs, AllocError>
+    ensures { IfOk result (λ of_cpit. of_cpit ≡ map without_destination coefs.now) }
 {
-    let mut of_cpit = Vec::with_capacity(alloc, coefs.len())?;
+    let mut of_cpit = CpitCoefs::with_room(alloc, coefs.len())?;
     for coef in coefs {
         let (b, r, v) = (coef.b, coef.r, coef.v);
         of_cpit.push(CpitCoef { b, r, v })?;
