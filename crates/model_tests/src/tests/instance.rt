@@ -8,7 +8,8 @@ ghost use Rattle.rows.specs.Valued.{worths_by};
 
 use super::are_millionths;
 use mine_instance::coef::Coefs;
-use mine_instance::cpit::{Cpit, CpitCoef};
+use mine_instance::cpit::Cpit;
+use mine_instance::cpit_coefs::CpitCoefs;
 use mine_instance::instance::Instance;
 use mine_instance::{build, build_cpit, is_valid};
 use pit_model::plan::Plan;
@@ -145,10 +146,11 @@ fn cpit_of(alloc: Global, text: &[u8], kg: u64) -> Result<Cpit, Fail> {
 }
 
 // Whether the one block takes so many millionths of the one resource, or nothing.
-fn takes(coefs: &[CpitCoef], millionths: Option<i128>) -> bool {
-    match (coefs, millionths) {
-        ([], None) => true,
-        ([coef], Some(millionths)) => {
+fn takes(coefs: &CpitCoefs, millionths: Option<i128>) -> bool {
+    match (coefs.len(), millionths) {
+        (0, None) => true,
+        (1, Some(millionths)) => {
+            let coef = coefs.at(0);
             (coef.b, coef.r, coef.v.millionths()) == (0, 0, millionths)
         }
         _ => false,

@@ -119,9 +119,10 @@ fn nine_above(rt: HostRuntime) -> Result<(), Fail> {
     Ok(())
 }
 
-fn cpit_of(alloc: Global) -> Result<Cpit, Fail> {
+// The CPIT of two blocks that a text states by lines.
+fn cpit_of(alloc: Global, lines: &[&str]) -> Result<Cpit, Fail> {
     let mut text = Vec::new(alloc);
-    for line in &CPIT {
+    for line in lines {
         text.extend_from_slice(line.as_bytes())?;
     }
     Ok(read_cpit(alloc, 2, text.as_slice())?)
@@ -143,9 +144,45 @@ fn is_cpit_text(alloc: Global, cpit: &Cpit, lines: &[&str]) -> Result<bool, Writ
 
 #[test]
 fn cpit_destinations(rt: HostRuntime) -> Result<(), Fail> {
-    let cpit = cpit_of(rt.alloc())?;
+    let cpit = cpit_of(rt.alloc(), &CPIT)?;
     assert!(rt; are_millionths(cpit.values(), &[12_000_000_000, 0]));
     assert_eq!(rt; (cpit.coefs_len(), cpit.limits().len()), (1, 2));
     assert!(rt; is_cpit_text(rt.alloc(), &cpit, &CPIT)?);
+    Ok(())
+}
+
+// Coefficients that are no whole kilograms below 2^32.
+const OTHER_TONNES: [&str; 3] = ["1 0 0.0001\n", "1 0 4294967.296\n", "1 0 -0.001\n"];
+
+// Such a coefficient among others, by the lines of its CPIT.
+fn lines_with(tonnes: &'static str) -> [&'static str; 15] {
+    [
+        "NAME: one\n",
+        "TYPE: CPIT\n",
+        "NBLOCKS: 2\n",
+        "NPERIODS: 1\n",
+        "NRESOURCE_SIDE_CONSTRAINTS: 3\n",
+        "DISCOUNT_RATE: 0.1\n",
+        "OBJECTIVE_FUNCTION:\n",
+        "0 0\n",
+        "1 0\n",
+        "RESOURCE_CONSTRAINT_COEFFICIENTS:\n",
+        "0 1 0.001\n",
+        "0 2 4294967.295\n",
+        tonnes,
+        "1 2 7\n",
+        "RESOURCE_CONSTRAINT_LIMITS:\n",
+    ]
+}
+
+// A coefficient that cannot be packed stands behind those that can, and before those that could.
+#[test]
+fn other_tonnes(rt: HostRuntime) -> Result<(), Fail> {
+    for tonnes in OTHER_TONNES {
+        let lines = lines_with(tonnes);
+        let cpit = cpit_of(rt.alloc(), &lines)?;
+        assert_eq!(rt; cpit.coefs_len(), 4);
+        assert!(rt; is_cpit_text(rt.alloc(), &cpit, &lines)?, "{tonnes}");
+    }
     Ok(())
 }
