@@ -1,5 +1,4 @@
 pub mod RowFacts
-pub mod RowWorths
 pub mod RisingFacts
 pub mod GreatestFacts
 pub mod ValidFacts
@@ -7,3 +6,5 @@ pub mod CpitFacts
 pub mod BuildFacts
 pub mod FoundFacts
 pub mod ModelFacts
+pub mod Placed
+pub mod RowValues

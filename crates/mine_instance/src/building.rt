@@ -1,7 +1,7 @@
 //! From a model's valued blocks to its instance.
 
-ghost use Rattle.std.specs.Prelude.{◌≡◌, ◌*◌, ◌<◌, ◌≤◌, ◌==◌, ◌++◌, ◌∷◌, [], List, length, map, slice_get, Some, All, Contains, IfOk, OnOk, if◌then◌else◌};
-ghost use Rattle.std.specs.List.{list_any};
+ghost use Rattle.std.specs.Prelude.{◌≡◌, ◌*◌, ◌<◌, ◌≤◌, ◌==◌, ◌++◌, ◌∷◌, [], List, length, map, All, IfOk, OnOk, if◌then◌else◌};
+ghost use Rattle.std.specs.List.{flat_map, list_any};
 ghost use Rattle.pit_parts.specs.PlanFormulas.{formulas_of_plan};
 ghost use Rattle.pit_parts.specs.declared.block.Block.{Block};
 ghost use Rattle.pit_parts.specs.Worth.{IsWorth};
@@ -9,7 +9,6 @@ ghost use Rattle.precedence.specs.Cone.{preds as cone_lists};
 ghost use Rattle.precedence.specs.Identifier.{blocks_of_rows};
 ghost use Rattle.precedence.specs.Numbering.{IsNumbering, NumberingView};
 ghost use Rattle.rows.specs.Valued.{worths_by};
-ghost use Rattle.rows.specs.declared.item.Valued.{Valued as ARow};
 ghost use Rattle.mine_instance.specs.OfModel.{instance, values_of, in_hundreds, covering, covered};
 ghost use Rattle.mine_instance.specs.Seen.{seen};
 ghost use Rattle.mine_instance.specs.Valid.{IsValid};
@@ -20,6 +19,7 @@ use crate::coef::Coefs;
 use crate::found_coefs::Covering;
 use crate::instance::Instance;
 use crate::limits::Limits;
+use crate::listed_values::ListedValues;
 use crate::values::Values;
 use pit_parts::block::Block;
 use pit_parts::laws::worths_are_in_range;
@@ -27,7 +27,7 @@ use pit_parts::plan::Plan;
 use pit_parts::resource::Resource;
 use pit_units::Dec;
 use precedence::{Numbering, PredLists, Preds};
-use rows::{RowLists, Valued};
+use rows::{RowLists, Rows, Valued};
 use std::alloc::{AllocError, Global};
 
 /// The instance of a model, given its rows, their numbering and their predecessors. Fails only where memory is refused.
@@ -45,8 +45,10 @@ pub fn build(
     ensures value { IfOk result (λ built. built ≡ instance plan.now (blocks_of_rows rows.now)) }
     ensures valid { IfOk result IsValid }
 {
-    let values = values_by_id(alloc, numbering, &RowLists::of(alloc, rows)?, plan)?;
     let blocks = Vec::from_slice(alloc, numbering.blocks())?;
+    let positions = Vec::from_slice(alloc, numbering.positions())?;
+    let listed = values_in_order(alloc, RowLists::of(alloc, rows)?, plan)?;
+    let values = Values::by_position(listed, positions);
     build_with(alloc, blocks, preds, values, plan)
 }
 
@@ -85,35 +87,37 @@ pub fn build_with<P: PredLists + Drop>(
     })
 }
 
-/// What each block is worth at each destination, by identifier. Fails only where memory is refused.
-pub fn values_by_id(
+/// What the block of each row is worth at each destination, in the order of the rows. The rows of each file are given up as soon as
+/// their values are taken. Fails only where memory is refused.
+pub fn values_in_order(
     alloc: Global,
-    numbering: &Numbering,
-    rows: &RowLists,
+    rows: RowLists,
     plan: &Plan,
-) -> Result<Values, AllocError>
-    requires numbering { IsNumbering (blocks_of_rows rows.now) numbering.now }
+) -> Result<ListedValues, AllocError>
+    requires few { length rows ≤ MAX_BLOCKS }
     requires worths { All (λ row. row.worths ≡ worths_by (formulas_of_plan plan.now) row.block)
-        rows.now }
-    ensures { IfOk result (λ values. values ≡ map (values_of plan.now) numbering.now.blocks) }
+        rows }
+    ensures { IfOk result (λ values. values ≡ map (values_of plan.now) (blocks_of_rows rows)) }
 {
     let width = plan.formulas().len();
-    let count = numbering.len() as usize;
+    let count = rows.len();
     let mut all = Vec::with_capacity(alloc, count * width)?;
-    for id in 0..numbering.len() {
-        put_values(&mut all, worths_of(numbering, rows, id), plan)?;
+    for list in rows.into_lists() {
+        put_rows(&mut all, &list, plan)?;
     }
-    Ok(Values::new(all, count, width))
+    Ok(ListedValues::new(all, count, width))
 }
 
-// The worths of the row of the block that has an identifier.
-fn worths_of<'a>(numbering: &Numbering, rows: &'a RowLists, id: u32) -> &'a [i128]
-    requires numbering { IsNumbering (blocks_of_rows rows.now) numbering.now }
-    requires within { id < length numbering.now.blocks }
-    ensures { (row : ARow) × Contains rows.now row
-        × (slice_get numbering.now.blocks id ≡ Some row.block) × (result.now ≡ row.worths) }
+// Appends the values of the rows of a file.
+fn put_rows(all: &mut Vec<Dec>, rows: &Rows, plan: &Plan) -> Result<(), AllocError>
+    requires { All (λ row. row.worths ≡ worths_by (formulas_of_plan plan.now) row.block) rows.now }
+    ensures { OnOk result (all.new.items
+        ≡ all.old.items ++ flat_map (values_of plan.now) (blocks_of_rows rows.now)) }
 {
-    rows.worths_at(numbering.position(id) as usize)
+    for position in 0..rows.len() {
+        put_values(all, rows.worths_at(position), plan)?;
+    }
+    Ok(())
 }
 
 fn put_values(all: &mut Vec<Dec>, worths: &[i128], plan: &Plan) -> Result<(), AllocError>

@@ -12,10 +12,11 @@ pub mod greatest;
 pub mod instance;
 pub mod laws;
 pub mod limits;
+pub mod listed_values;
 mod rising;
 mod validity;
 pub mod values;
 
-pub use building::{build, build_with, values_by_id};
+pub use building::{build, build_with, values_in_order};
 pub use cpit_building::build_cpit;
 pub use validity::{is_cpit, is_valid};

@@ -30,6 +30,7 @@ use mine_instance::cpit::{Cpit, CpitCoef};
 use mine_instance::cpit_coefs::CpitCoefs;
 use mine_instance::instance::Instance;
 use mine_instance::limits::Limits;
+use mine_instance::listed_values::ListedValues;
 use mine_instance::values::Values;
 use minelib_lines::problem::Problem;
 use pit_parts::limit::Limit;
@@ -52,7 +53,7 @@ pub struct ModelDraft {
     name: Option<Name>,
     header: Header,
     section: Section,
-    values: Values,
+    values: ListedValues,
     coefs: Vec<Coef>,
     limits: Vec<Limit>,
     // the values of the last line of the objective
@@ -96,7 +97,7 @@ impl ModelDraft {
             name: None,
             header: blank_header(problem),
             section: Section::Heading,
-            values: Values::new(Vec::new(alloc), 0, 0),
+            values: ListedValues::new(Vec::new(alloc), 0, 0),
             coefs: Vec::new(alloc),
             limits: Vec::new(alloc),
             row: Vec::new(alloc),
@@ -134,7 +135,7 @@ impl ModelDraft {
             resources,
             blocks,
             preds,
-            values: self.values,
+            values: Values::new(self.values),
             coefs: Coefs::new(self.coefs),
             limits: Limits::new(self.limits),
         }

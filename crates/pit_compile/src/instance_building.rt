@@ -11,14 +11,15 @@ ghost use Rattle.pit_compile.specs.Verdict.{AreApart};
 use crate::numbered::numbered;
 use crate::refusal::Refusal;
 use mine_instance::instance::Instance;
-use mine_instance::{build_with, values_by_id};
+use mine_instance::values::Values;
+use mine_instance::{build_with, values_in_order};
 use pit_parts::plan::Plan;
 use precedence::FoundPreds;
 use rows::RowLists;
 use std::alloc::Global;
 
-/// The instance of these rows, whose predecessors are found when they are asked for. The rows are given up as soon as their values
-/// are taken.
+/// The instance of these rows, whose predecessors are found when they are asked for. The rows of each file are given up as soon as
+/// their values are taken.
 ///
 /// # Errors
 ///
@@ -36,8 +37,9 @@ pub fn instance_of(
     ensures refused { IfErr result (IsRepeat rows) }
 {
     let numbering = numbered(alloc, &rows)?;
-    let values = values_by_id(alloc, &numbering, &rows, plan)?;
-    drop(rows);
+    let listed = values_in_order(alloc, rows, plan)?;
     let preds = FoundPreds::new(alloc, &numbering, plan)?;
-    Ok(build_with(alloc, numbering.into_blocks(), preds, values, plan)?)
+    let (blocks, positions) = numbering.into_parts();
+    let values = Values::by_position(listed, positions);
+    Ok(build_with(alloc, blocks, preds, values, plan)?)
 }

@@ -1,6 +1,6 @@
 //! The blocks of a model by identifier.
 
-ghost use Rattle.std.specs.Prelude.{◌≡◌, ◌≤◌, ◌<◌, length, slice_get, slice_index, Some};
+ghost use Rattle.std.specs.Prelude.{◌≡◌, ◌≤◌, ◌<◌, length, slice_get, slice_index, All, Some};
 ghost use Rattle.std.specs.List.Sorted.{IsStrictlyIncreasing};
 ghost use Rattle.precedence.specs.Codes.{place_codes};
 ghost use Rattle.pit_parts.specs.declared.ranges.TheConstants.{MAX_BLOCKS};
@@ -33,6 +33,7 @@ impl Numbering {
     pub(crate) fn new(blocks: Vec<Block>, positions: Vec<u32>) -> Numbering
         requires rising { IsStrictlyIncreasing (place_codes blocks.items) }
         requires placed { length positions.items ≡ length blocks.items }
+        requires within { All (λ p. p < length blocks.items) positions.items }
         requires few { length blocks.items ≤ MAX_BLOCKS }
         ensures { result ≡ record { blocks = blocks.items; positions = positions.items } }
     {
@@ -73,11 +74,23 @@ impl Numbering {
         self.blocks.as_slice()
     }
 
-    /// The blocks in the order of their identifiers; their positions are given up.
-    pub fn into_blocks(self) -> Vec<Block>
-        ensures value { result.items ≡ self.blocks }
+    /// The position in the list, from 0, of the block of each identifier.
+    pub fn positions(&self) -> &[u32]
+        ensures value { result.now ≡ self.now.positions }
+        ensures each { length self.now.positions ≡ length self.now.blocks }
+        ensures within { All (λ p. p < length self.now.blocks) self.now.positions }
+    {
+        self.positions.as_slice()
+    }
+
+    /// The blocks in the order of their identifiers, and the position in the list, from 0, of each.
+    pub fn into_parts(self) -> (Vec<Block>, Vec<u32>)
+        ensures blocks { result.0.items ≡ self.blocks }
+        ensures positions { result.1.items ≡ self.positions }
+        ensures each { length self.positions ≡ length self.blocks }
+        ensures within { All (λ p. p < length self.blocks) self.positions }
         ensures few { length self.blocks ≤ MAX_BLOCKS }
     {
-        self.blocks
+        (self.blocks, self.positions)
     }
 }

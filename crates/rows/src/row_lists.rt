@@ -2,7 +2,6 @@
 
 ghost use Rattle.std.specs.Prelude.{◌≡◌, ◌-◌, ◌^◌, ◌<◌, List, Some, length, map, min, slice_get, IfOk};
 ghost use Rattle.std.specs.List.{flat_map};
-ghost use Rattle.std.specs.Option.{option_map};
 
 use crate::item::Valued;
 use crate::rows::Rows;
@@ -58,20 +57,18 @@ impl RowLists {
         list.at(place)
     }
 
-    /// The worths of the row at a position, from 0.
-    pub fn worths_at(&self, position: usize) -> &[i128]
-        requires { position < length self.now }
-        ensures { Some result.now ≡ option_map (λ row. row.worths) (slice_get self.now position) }
-    {
-        let (list, place) = list_at(self.lists.as_slice(), position);
-        list.worths_at(place)
-    }
-
     /// The blocks of the rows, in their order. Fails only where memory is refused.
     pub fn blocks(&self, alloc: Global) -> Result<Vec<Block>, AllocError>
         ensures { IfOk result (λ blocks. blocks.items ≡ map (λ row. row.block) self.now) }
     {
         blocks_in(alloc, self.lists.as_slice())
+    }
+
+    /// The rows of each file.
+    pub fn into_lists(self) -> Vec<Rows>
+        ensures { flat_map (λ list. list) result.items ≡ self }
+    {
+        self.lists
     }
 }
 

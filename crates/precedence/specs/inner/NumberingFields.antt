@@ -1,5 +1,5 @@
 -- How a numbering's columns are seen.
-use Rattle.std.specs.Prelude.{◌≡◌, ◌≤◌, length}
+use Rattle.std.specs.Prelude.{◌≡◌, ◌<◌, ◌≤◌, length, All}
 use Rattle.std.specs.List.Sorted.{IsStrictlyIncreasing}
 use Rattle.precedence.specs.Codes.{place_codes}
 use Rattle.precedence.specs.Numbering.{NumberingView}
@@ -9,8 +9,9 @@ use Rattle.pit_parts.specs.declared.ranges.TheConstants.{MAX_BLOCKS}
 abbrev pub numbered_of : Inside → NumberingView
 numbered_of n = record { blocks = n.blocks.items; positions = n.positions.items }
 
--- the blocks rise, each has a position, and their number is that of at most 64 zone files
+-- the blocks rise, each has a position among them, and their number is that of at most 64 zone files
 pub record KeepsNumbering (n : Inside) : Type 0 where
   pub rising : IsStrictlyIncreasing (place_codes n.blocks.items)
   pub placed : length n.positions.items ≡ length n.blocks.items
+  pub within : All (λ p. p < length n.blocks.items) n.positions.items
   pub few : length n.blocks.items ≤ MAX_BLOCKS

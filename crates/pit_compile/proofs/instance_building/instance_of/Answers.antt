@@ -1,8 +1,10 @@
-use Rattle.std.proofs.Common.{◌<◌, length}
+use Rattle.std.proofs.Common.{◌≡◌, ◌<◌, ◌∙◌, ℕ, List, length, All, sym, ap, subst}
 use Rattle.pit_parts.specs.declared.block.Block.{Block}
 use Rattle.precedence.specs.Identifier.{blocks_of_rows}
 use Rattle.rows.specs.declared.item.Valued.{Valued}
+use Rattle.std.proofs.lemmas.List.{length-map}
 use Rattle.std.proofs.lemmas.List.Elements.{All-map}
+use Rattle.mine_instance.specs.OfModel.{values_of}
 use Rattle.pit_compile.proofs.Apart.{apart, numbered_too}
 use Rattle.pit_compile.proofs.instance_building.instance_of.Goals as goal
 
@@ -12,6 +14,22 @@ new-requires c =
     let rows = c.args.rows in
     numbered_too InPlan (blocks_of_rows rows) c.in_ok-numbering.numbering c.in_ok-numbering.ensures.numbering
     (All-map InPlan (λ (row : Valued). row.block) rows c.requires.zones)
+
+pub by_position-values-requires : goal.by_position-values-requires
+by_position-values-requires c =
+    let blocks = blocks_of_rows c.args.rows in
+    let numbering = c.in_ok-numbering.numbering in
+    let parts = c.into_parts-blocks in
+    let count : length numbering.blocks ≡ length c.in_ok-listed.listed =
+    c.in_ok-numbering.ensures.numbering.blocks ∙ sym (ap length c.in_ok-listed.ensures ∙ length-map blocks (values_of c.args.plan.now)) in
+    let Within : ℕ → List ℕ → Type 0 = λ n ps. All (λ p. p < n) ps in
+    subst (λ n. Within n parts.result.1.items) count
+    (subst (Within (length numbering.blocks)) (sym parts.ensures.positions) parts.ensures.within)
+
+pub returns-clause-value : goal.returns-clause-value
+returns-clause-value c =
+    c.in_ok-build_with.ensures.value (blocks_of_rows c.args.rows) c.in_ok-numbering.numbering c.in_ok-numbering.ensures.numbering
+    (sym c.into_parts-blocks.ensures.blocks)
 
 pub returns-clause-apart : goal.returns-clause-apart
 returns-clause-apart c = apart (blocks_of_rows c.args.rows) c.in_ok-numbering.numbering c.in_ok-numbering.ensures.numbering

@@ -1,4 +1,4 @@
-use Rattle.std.proofs.Common.{◌≡◌, ℕ, ◌∙◌, ap, subst, sym, map, get_or, length, arith}
+use Rattle.std.proofs.Common.{◌≡◌, ℕ, ◌∙◌, ap, subst, sym, map, get_or, length, All, ◌<◌, arith}
 use Rattle.std.specs.Map.{values_of}
 use Rattle.std.proofs.lemmas.List.{length-map}
 use Rattle.precedence.specs.Numbering.{NumberingView, IsNumbering}
@@ -21,6 +21,16 @@ new-requires-clause-rising c =
 
 pub new-requires-clause-placed : goal.new-requires-clause-placed
 new-requires-clause-placed c = ap length (sym c.as_slice.ensures.value) ∙ sym c.in_ok-ordered.ensures.len
+
+pub new-requires-clause-within : goal.new-requires-clause-within
+new-requires-clause-within c =
+    let listed = c.args.blocks.now in
+    let entries = c.in_ok-places.places.items in
+    let same : c.as_slice.result.now ≡ values_of entries = c.as_slice.ensures.value ∙ c.in_ok-positions.ensures in
+    let as_many : length listed ≡ length c.in_ok-ordered.ordered.items =
+    sym (c.in_ok-ordered.ensures.len ∙ ap length same ∙ as_many_positions listed entries c.in_ok-places.ensures.sorted) in
+    subst (λ n. All (λ p. p < n) c.in_ok-positions.positions.items) as_many
+    (all_inside listed entries c.in_ok-places.ensures.sorted c.in_ok-positions.positions.items c.in_ok-positions.ensures)
 
 pub new-requires-clause-few : goal.new-requires-clause-few
 new-requires-clause-few c =

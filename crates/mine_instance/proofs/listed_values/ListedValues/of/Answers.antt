@@ -1,7 +1,7 @@
 use Rattle.std.proofs.Common.{sym, ◌∙◌, ap, length, arith, get_or, ◌≡◌, ◌<◌, ◌≤◌, ◌+◌, ◌*◌, [], take, drop}
 use Rattle.mine_instance.specs.Rows.{rows_of}
 use Rattle.mine_instance.proofs.RowFacts.{length-rows_of, row_within, get_or-rows_of}
-use Rattle.mine_instance.proofs.values.Values.of.Goals as goal
+use Rattle.mine_instance.proofs.listed_values.ListedValues.of.Goals as goal
 
 pub overflow_mul-block : goal.overflow_mul-block
 overflow_mul-block c =

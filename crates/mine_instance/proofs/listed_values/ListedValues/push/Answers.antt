@@ -1,7 +1,7 @@
 use Rattle.std.proofs.Common.{◌≡◌, ◌+◌, ◌*◌, ◌∷◌, ◌++◌, [], ℤ, List, All, sym, ◌∙◌, ap, subst, arith, length, length-append}
 use Rattle.mine_instance.specs.Rows.{rows_of}
 use Rattle.mine_instance.proofs.RowFacts.{length-rows_of, row_pushed}
-use Rattle.mine_instance.proofs.values.Values.push.Goals as goal
+use Rattle.mine_instance.proofs.listed_values.ListedValues.push.Goals as goal
 
 pub overflow_add-self : goal.overflow_add-self
 overflow_add-self c =

@@ -1,0 +1,9 @@
+use Rattle.std.proofs.Common.{◌≡◌, ◌++◌, take}
+use Rattle.std.specs.List.{flat_map}
+use Rattle.precedence.specs.Identifier.{blocks_of_rows}
+use Rattle.mine_instance.specs.OfModel.{values_of}
+use Rattle.mine_instance.proofs.building.put_rows.Given as goal
+
+abbrev pub invariant-loop-position : goal.invariant-loop-position
+invariant-loop-position l =
+    l.all.items ≡ l.initial.all.items ++ flat_map (values_of l.plan) (take l.position (blocks_of_rows l.rows))

@@ -1,0 +1,86 @@
+//! The values of blocks, one block's behind those of another.
+
+ghost use Rattle.std.specs.Prelude.{◌≡◌, ◌*◌, ◌^◌, ◌-◌, ◌<◌, ◌++◌, ◌∷◌, length, vec_len, slice_index_or, [], All, OnOk, OnErr};
+ghost use Rattle.std.specs.List.{flat_map};
+ghost use Rattle.mine_instance.specs.Rows.{rows_of};
+
+use pit_units::Dec;
+use std::alloc::AllocError;
+use std::marker::Model;
+
+/// The values of blocks, one per destination, in units of 100 cents, in the order in which they were listed. Contracts see a list of
+/// values for each block.
+#[derive(Debug, Drop)]
+pub struct ListedValues {
+    // the values of one block after those of the one before it
+    all: Vec<Dec>,
+    count: usize,
+    width: usize,
+}
+
+impl Model for ListedValues {
+    ghost use Rattle.std.specs.Prelude.{◌≡◌, ◌*◌, List, ℤ, vec_len};
+    ghost use Rattle.mine_instance.specs.Rows.{rows_of};
+
+    ghost Value = { List (List ℤ) };
+
+    ghost view = { λ v. rows_of v.count v.width v.all.items };
+
+    ghost invariant = { λ v. vec_len v.all ≡ v.count * v.width };
+}
+
+impl ListedValues {
+    /// The values of `count` blocks, `width` each, one block's after those of the block before it.
+    pub fn new(all: Vec<Dec>, count: usize, width: usize) -> ListedValues
+        requires { vec_len all ≡ count * width }
+        ensures { result ≡ rows_of count width all.items }
+    {
+        ListedValues { all, count, width }
+    }
+
+    /// The number of blocks.
+    pub fn len(&self) -> usize
+        ensures { result ≡ length self.now }
+    {
+        self.count
+    }
+
+    /// The number of values of each block. Where there are no blocks it says nothing.
+    pub fn width(&self) -> usize
+        ensures { All (λ values. length values ≡ result) self.now }
+    {
+        self.width
+    }
+
+    /// The values of a block, in the order of the destinations.
+    pub fn of(&self, block: usize) -> &[Dec]
+        requires { block < length self.now }
+        ensures { result.now ≡ slice_index_or self.now block [] }
+    {
+        let (_, rest) = self.all.as_slice().split_at(block * self.width);
+        let (values, _) = rest.split_at(self.width);
+        values
+    }
+
+    /// Adds the values of one more block, as many as each of the others has. Where memory is refused the values are as they were.
+    pub fn push(&mut self, values: &[Dec]) -> Result<(), AllocError>
+        requires room { length self.old < 2 ^ 64 - 1 }
+        requires width { All (λ of_block. length of_block ≡ length values.now) self.old }
+        ensures ok { OnOk result (self.new ≡ self.old ++ values.now ∷ []) }
+        ensures kept { OnErr result (self.new ≡ self.old) }
+    {
+        self.all.extend_from_slice(values)?;
+        self.count += 1;
+        // where these are the first, the width was that of no block
+        self.width = values.len();
+        Ok(())
+    }
+
+    /// The values of all blocks, one block's after those of the block before it.
+    pub fn into_flat(self) -> Vec<Dec>
+        ensures { result.items ≡ flat_map (λ of_block. of_block) self }
+    {
+        let ListedValues { all, .. } = self;
+        all
+    }
+}
