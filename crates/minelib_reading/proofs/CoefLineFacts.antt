@@ -19,7 +19,7 @@ use Rattle.text_lines.proofs.FieldSteps.{last_step, said_of, step, whole_reads}
 use Rattle.minelib_reading.specs.Fields.{any}
 use Rattle.minelib_reading.specs.ItemForms.{coef_form, coef_said}
 use Rattle.minelib_reading.specs.SpelledModel.{HasDestination}
-use Rattle.minelib_reading.specs.inner.ModelParts.{coef_alone, coef_of}
+use Rattle.minelib_reading.specs.inner.ModelParts.{uncounted_coef, coef_of}
 use Rattle.minelib_lines.specs.LineValues.{coef_values}
 use Rattle.minelib_reading.proofs.FormFields.{ArePlain, any_fits, any_reads, below_there, fit_at, whole_itself}
 
@@ -91,21 +91,21 @@ steps_said Cpit n destinations resources fields =
     last_step rest3 _ _ (ap Ok (sym (said_again Cpit (record { b = b; d = 0; r = r; v = v }) refl))))))
 
 pub coef_steps : (problem : Problem) (n destinations resources : ℕ) (fields : List (List ℕ))
-    → coef_alone problem n destinations resources fields ≡ steps_of problem n destinations resources fields
-unfolding coef_alone said_of
+    → uncounted_coef problem n destinations resources fields ≡ steps_of problem n destinations resources fields
+unfolding uncounted_coef said_of
 coef_steps problem n destinations resources fields = sym (steps_said problem n destinations resources fields)
 
 pub coef_counted : (problem : Problem) (n destinations resources : ℕ) (fields : List (List ℕ)) (coef : Coef)
-    → coef_alone problem n destinations resources fields ≡ Ok coef → coef_of problem n destinations resources fields ≡ Ok coef
-unfolding coef_alone coef_of
+    → uncounted_coef problem n destinations resources fields ≡ Ok coef → coef_of problem n destinations resources fields ≡ Ok coef
+unfolding uncounted_coef coef_of
 coef_counted problem n destinations resources fields coef e =
     counted_later text_kinds (coef_form problem n destinations resources) fields _ coef e
 
 pub coef_kind : (problem : Problem) (n destinations resources : ℕ) (fields : List (List ℕ)) (kind : TextKind)
-    → coef_alone problem n destinations resources fields ≡ Err kind
+    → uncounted_coef problem n destinations resources fields ≡ Err kind
     → coef_of problem n destinations resources fields
     ≡ Err (kind_by (length fields == length (coef_form problem n destinations resources)) kind)
-unfolding coef_alone coef_of
+unfolding uncounted_coef coef_of
 coef_kind problem n destinations resources fields kind e =
     fault_later text_kinds (coef_form problem n destinations resources) fields _ kind e
 

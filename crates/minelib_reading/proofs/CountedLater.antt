@@ -13,7 +13,7 @@ use Rattle.pit_parts.specs.declared.block.Block.{Block}
 use Rattle.minelib_reading.specs.BlockLines.{block_form, block_shape}
 use Rattle.text_lines.specs.FieldValues.{all_by, first_by, size_in, whole_in}
 use Rattle.text_lines.specs.LineKinds.{kind_by, text_kinds}
-use Rattle.minelib_reading.specs.inner.LinesTaken.{block_alone, block_said, preds_alone, preds_said}
+use Rattle.minelib_reading.specs.inner.LinesTaken.{uncounted_block, block_said, uncounted_preds, preds_said}
 use Rattle.minelib_reading.specs.PrecLines.{all_differ, preds_form, preds_shape, stands_in}
 use Rattle.text_lines.specs.TextLines.{fields_of}
 use Rattle.text_lines.specs.declared.text_fault.TextKind.{TextKind}
@@ -66,17 +66,17 @@ steps_said before fields =
     step (below MAX_ZONES) _ (whole_in MAX_ZONES) whole rest6 _ _ (whole_reads MAX_ZONES) (λ zone rest7.
     last_step rest7 _ _ (seven_end before id x y z tonnes grade zone))))))))
 
-pub block_read : (before : ℕ) (line : List ℕ) → block_alone before line ≡ block_steps before (fields_of line)
-unfolding block_alone said_of
+pub block_read : (before : ℕ) (line : List ℕ) → uncounted_block before line ≡ block_steps before (fields_of line)
+unfolding uncounted_block said_of
 block_read before line = sym (steps_said before (fields_of line))
 
-pub block_counted : (before : ℕ) (line : List ℕ) (block : Block) → block_alone before line ≡ Ok block → block_said before line ≡ Ok block
-unfolding block_alone block_said
+pub block_counted : (before : ℕ) (line : List ℕ) (block : Block) → uncounted_block before line ≡ Ok block → block_said before line ≡ Ok block
+unfolding uncounted_block block_said
 block_counted before line block e = counted_later text_kinds block_form (fields_of line) (block_then before) block e
 
-pub block_kind : (before : ℕ) (line : List ℕ) (kind : TextKind) → block_alone before line ≡ Err kind
+pub block_kind : (before : ℕ) (line : List ℕ) (kind : TextKind) → uncounted_block before line ≡ Err kind
     → block_said before line ≡ Err (kind_by (length (fields_of line) == 7) kind)
-unfolding block_alone block_said
+unfolding uncounted_block block_said
 block_kind before line kind e = fault_later text_kinds block_form (fields_of line) (block_then before) kind e
 
 -- predecessors
@@ -113,18 +113,18 @@ preds_steps_said n own (id ∷ count ∷ others) =
     first_step (below n) _ (whole_in n) whole count others _ _ (whole_reads n) (λ stated.
     wholes_step n [] others _ _ (λ ids. preds_end own id stated ids)))
 
-pub preds_read_alone : (n own : ℕ) (line : List ℕ) → preds_alone n own line ≡ preds_steps n own (fields_of line)
-unfolding preds_alone said_of
-preds_read_alone n own line = sym (preds_steps_said n own (fields_of line))
+pub uncounted_preds_read : (n own : ℕ) (line : List ℕ) → uncounted_preds n own line ≡ preds_steps n own (fields_of line)
+unfolding uncounted_preds said_of
+uncounted_preds_read n own line = sym (preds_steps_said n own (fields_of line))
 
-pub preds_counted : (n own : ℕ) (line ids : List ℕ) → preds_alone n own line ≡ Ok ids → preds_said n own line ≡ Ok ids
-unfolding preds_alone preds_said
+pub preds_counted : (n own : ℕ) (line ids : List ℕ) → uncounted_preds n own line ≡ Ok ids → preds_said n own line ≡ Ok ids
+unfolding uncounted_preds preds_said
 preds_counted n own line ids e = counted_later text_kinds (preds_form n (fields_of line)) (fields_of line) (preds_then own) ids e
 
 -- a line of fewer than two fields lacks some
 pub preds_by_count : (n own : ℕ) (line : List ℕ)
-    → preds_said n own line ≡ (if nat_lt (length (fields_of line)) 2 then Err Fields else preds_alone n own line)
-unfolding preds_alone preds_said
+    → preds_said n own line ≡ (if nat_lt (length (fields_of line)) 2 then Err Fields else uncounted_preds n own line)
+unfolding uncounted_preds preds_said
 preds_by_count n own line = by (fields_of line)
   where
     by : (fields : List (List ℕ)) → (read text_kinds (preds_form n fields) fields >>= preds_then own)

@@ -9,7 +9,7 @@ use Rattle.minelib_reading.specs.HeaderKeys.{count_in}
 use Rattle.minelib_reading.specs.ItemForms.{coef_form, values_form}
 use Rattle.text_lines.specs.LineKinds.{text_kinds}
 use Rattle.minelib_reading.specs.ModelLines.{ModelDraftView, coef_line, is_behind, is_colon, item_line, last_of, model_line}
-use Rattle.minelib_reading.specs.inner.ModelParts.{admit_model, coef_alone, coef_of, takes, values_of, values_said}
+use Rattle.minelib_reading.specs.inner.ModelParts.{admit_model, uncounted_coef, coef_of, takes, values_of, values_said}
 use Rattle.text_lines.specs.TextLines.{fields_of}
 use Rattle.minelib_reading.specs.declared.model_key.HeaderKey.TheVariants as key
 use Rattle.minelib_lines.specs.declared.problem.Problem.{Problem}
@@ -41,7 +41,7 @@ coef_keyless problem n destinations resources line coef e =
 
 -- a line below the key of the coefficients that is read as one
 pub coef_admitted : (d : ModelDraftView) (line : List ℕ) (coef : Coef) → d.section ≡ Coefs
-    → coef_alone d.problem d.blocks (count_in d.header key.Destinations) (count_in d.header key.Resources) (fields_of line) ≡ Ok coef
+    → uncounted_coef d.problem d.blocks (count_in d.header key.Destinations) (count_in d.header key.Resources) (fields_of line) ≡ Ok coef
     → admit_model d line
     ≡ (if is_behind coef_comes_before (last_of d.coefs) coef then Ok (record d { coefs = d.coefs ++ coef ∷ [] }) else Err Order)
 unfolding admit_model

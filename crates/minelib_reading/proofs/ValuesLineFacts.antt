@@ -88,12 +88,12 @@ many_read (suc k) done (field ∷ fields) count =
     by deeper (Err found) = refl
 
 -- the fields one by one, as the code reads them
-abbrev pub values_alone : ℕ → ℕ → List (List ℕ) → Result (List ℤ) TextKind
-values_alone n before fields =
+abbrev pub uncounted_values : ℕ → ℕ → List (List ℕ) → Result (List ℤ) TextKind
+uncounted_values n before fields =
     first_by (whole_in n) fields >>= λ b. all_by decimal_in [] b.1 >>= λ values. if not (b.0 == before) then Err Order else Ok values
 
 pub values_counted : (n destinations before : ℕ) (fields : List (List ℕ)) → length fields ≡ destinations + 1
-    → values_of n destinations before fields ≡ values_alone n before fields
+    → values_of n destinations before fields ≡ uncounted_values n before fields
 unfolding values_of
 values_counted n destinations before [] count = absurd (omega (arith, count))
 values_counted n destinations before (field ∷ fields) count =
@@ -116,7 +116,7 @@ values_counted n destinations before (field ∷ fields) count =
     by (Err found) = refl
 
 pub values_admitted : {A : Type 0} (n destinations before : ℕ) (fields : List (List ℕ)) (row : List ℤ) (r : Result A LineError)
-    → AdmitsCounted (length fields ≡ destinations + 1) row r (values_alone n before fields)
+    → AdmitsCounted (length fields ≡ destinations + 1) row r (uncounted_values n before fields)
     → AdmitsCounted (length fields ≡ destinations + 1) row r (values_of n destinations before fields)
 values_admitted n destinations before fields row (Ok x) h = (h.0, values_counted n destinations before fields h.0 ∙ h.1)
 values_admitted n destinations before fields row (Err (line_error.Faulty found)) h =

@@ -4,7 +4,7 @@ ghost use Rattle.std.specs.Prelude.{◌≡◌, ◌≤◌, length, IfOk};
 ghost use Rattle.pit_parts.specs.Block.{block_with};
 ghost use Rattle.pit_parts.specs.BlockParts.{AreInRange};
 ghost use Rattle.minelib_reading.specs.BlockLines.{blocks_in};
-ghost use Rattle.minelib_reading.specs.inner.LinesTaken.{admit_block, block_alone, block_said};
+ghost use Rattle.minelib_reading.specs.inner.LinesTaken.{admit_block, uncounted_block, block_said};
 ghost use Rattle.text_lines.specs.inner.Taken.{Gives};
 ghost use Rattle.pit_parts.specs.declared.ranges.TheConstants.{MAX_BLOCKS};
 
@@ -50,7 +50,7 @@ impl Admit for BlockDraft {
 fn block_of(line: &[u8], before: usize) -> Result<Block, TextKind>
     ensures { result ≡ block_said before line.now }
 {
-    match block_alone(line, before) {
+    match uncounted_block(line, before) {
         Ok(block) => Ok(block),
         Err(kind) => Err(kind_by_count(line, FIELDS, kind)),
     }
@@ -58,8 +58,8 @@ fn block_of(line: &[u8], before: usize) -> Result<Block, TextKind>
 
 #[inline(always)]
 #[tactic(auto, using(crate::proofs::CountedLater::block_read))]
-fn block_alone(line: &[u8], before: usize) -> Result<Block, TextKind>
-    ensures { result ≡ block_alone before line.now }
+fn uncounted_block(line: &[u8], before: usize) -> Result<Block, TextKind>
+    ensures { result ≡ uncounted_block before line.now }
 {
     let (id, behind_id) = first_whole(line, MAX_BLOCKS as u64)?;
     let (x, behind_x) = first_whole(behind_id, u64::from(GRID_CELLS))?;

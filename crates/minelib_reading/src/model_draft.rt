@@ -20,7 +20,7 @@ ghost use Rattle.pit_parts.specs.declared.ranges.TheConstants.{MAX_BLOCKS};
 
 use crate::model_header::{blank_header, number_in};
 use crate::model_items::{
-    coef_alone, coef_of, is_coef_behind, is_limit_behind, limit_of, values_alone, values_in,
+    coef_of, is_coef_behind, is_limit_behind, limit_of, uncounted_coef, uncounted_values, values_in,
 };
 use crate::model_key::{Header, HeaderKey, ModelKey, Section};
 use crate::model_keys::{cut_at_colon, is_heading, is_limits, is_next, key_of, only_value};
@@ -187,7 +187,7 @@ impl ModelDraft {
     {
         let destinations = self.destinations();
         let before = self.values.len();
-        match values_alone(self.blocks, destinations, before, line, &mut self.row) {
+        match uncounted_values(self.blocks, destinations, before, line, &mut self.row) {
             Ok(()) => {
                 self.values.push(self.row.as_slice())?;
                 Ok(())
@@ -204,7 +204,7 @@ impl ModelDraft {
     {
         let destinations = self.destinations();
         let resources = self.resources();
-        match coef_alone(self.problem, self.blocks, destinations, resources, line) {
+        match uncounted_coef(self.problem, self.blocks, destinations, resources, line) {
             Ok(coef) => self.add_coef(coef),
             Err(_) => self.admit_any(line),
         }

@@ -5,7 +5,7 @@ ghost use Rattle.pit_parts.specs.PlanKept.{stands_before};
 ghost use Rattle.mine_instance.specs.Order.{coef_comes_before};
 ghost use Rattle.text_lines.specs.FieldValues.{Takes, all_by, decimal_in, first_by};
 ghost use Rattle.minelib_reading.specs.ModelLines.{is_behind, last_of};
-ghost use Rattle.minelib_reading.specs.inner.ModelParts.{TakesFirst, coef_alone, coef_of, limit_of, values_of};
+ghost use Rattle.minelib_reading.specs.inner.ModelParts.{TakesFirst, uncounted_coef, coef_of, limit_of, values_of};
 ghost use Rattle.text_lines.specs.Reading.{Admits};
 ghost use Rattle.minelib_reading.specs.ItemForms.{coef_form};
 ghost use Rattle.text_lines.specs.TextLines.{fields_of};
@@ -38,7 +38,7 @@ pub fn values_in(
     ensures width { OnOk result (length row.new.items ≡ destinations) }
     ensures room { OnOk result (before < blocks) }
 {
-    match values_alone(blocks, destinations, before, line, row) {
+    match uncounted_values(blocks, destinations, before, line, row) {
         Ok(()) => Ok(()),
         Err(LineError::Faulty(kind)) => {
             let width = usize::from(destinations) + 1;
@@ -50,7 +50,7 @@ pub fn values_in(
 
 /// Reads the values of a line of as many fields as it has to have. The fault of another line may be of another kind.
 #[tactic(auto, using(crate::proofs::ValuesLineFacts::values_counted))]
-pub fn values_alone(
+pub fn uncounted_values(
     blocks: usize,
     destinations: u8,
     before: usize,
@@ -100,7 +100,7 @@ pub fn coef_of(
     requires { blocks ≤ MAX_BLOCKS }
     ensures { result ≡ coef_of problem blocks destinations resources (fields_of line.now) }
 {
-    match coef_alone(problem, blocks, destinations, resources, line) {
+    match uncounted_coef(problem, blocks, destinations, resources, line) {
         Ok(coef) => Ok(coef),
         Err(kind) => Err(kind_by_count(line, coef_width(problem), kind)),
     }
@@ -109,7 +109,7 @@ pub fn coef_of(
 /// The coefficient of a line of as many fields as it has to have. The fault of another line may be of another kind.
 #[inline(always)]
 #[tactic(auto, using(crate::proofs::CoefLineFacts::coef_steps))]
-pub fn coef_alone(
+pub fn uncounted_coef(
     problem: Problem,
     blocks: usize,
     destinations: u8,
@@ -117,7 +117,7 @@ pub fn coef_alone(
     line: &[u8],
 ) -> Result<Coef, TextKind>
     requires { blocks ≤ MAX_BLOCKS }
-    ensures { result ≡ coef_alone problem blocks destinations resources (fields_of line.now) }
+    ensures { result ≡ uncounted_coef problem blocks destinations resources (fields_of line.now) }
 {
     let (b, behind_b) = first_whole(line, blocks as u64)?;
     let (d, behind_d) = destination_in(problem, destinations, behind_b)?;

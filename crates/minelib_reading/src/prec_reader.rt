@@ -2,7 +2,7 @@
 
 ghost use Rattle.std.specs.Prelude.{◌≡◌, ◌<◌, ◌≤◌, [], All, IfOk, OnOk, length};
 ghost use Rattle.text_lines.specs.FieldValues.{all_by, whole_in};
-ghost use Rattle.minelib_reading.specs.inner.LinesTaken.{admit_preds, no_lists, preds_alone, preds_said};
+ghost use Rattle.minelib_reading.specs.inner.LinesTaken.{admit_preds, no_lists, uncounted_preds, preds_said};
 ghost use Rattle.minelib_reading.specs.PrecLines.{finish_preds, preds_in, stands_in};
 ghost use Rattle.text_lines.specs.Reading.{Admits};
 ghost use Rattle.minelib_reading.specs.inner.ReadAs.{GivesAs};
@@ -57,7 +57,7 @@ fn preds_of(
     ensures kept { marks.new ≡ marks.old }
     ensures few { OnOk result ((before < MAX_BLOCKS) × (length ids.new.items ≤ MAX_BLOCKS)) }
 {
-    match preds_alone(line, before, ids, marks) {
+    match uncounted_preds(line, before, ids, marks) {
         Ok(()) => Ok(()),
         Err(LineError::Faulty(_)) if lacks_two_fields(line) => {
             Err(LineError::Faulty(TextKind::Fields))
@@ -67,14 +67,14 @@ fn preds_of(
 }
 
 // The predecessors of a line of two fields or more.
-#[tactic(auto, using(crate::proofs::CountedLater::preds_read_alone))]
-fn preds_alone(
+#[tactic(auto, using(crate::proofs::CountedLater::uncounted_preds_read))]
+fn uncounted_preds(
     line: &[u8],
     before: usize,
     ids: &mut Vec<u32>,
     marks: &mut Marks,
 ) -> Result<(), LineError>
-    ensures value { Admits ids.new.items result (preds_alone marks.old before line.now) }
+    ensures value { Admits ids.new.items result (uncounted_preds marks.old before line.now) }
     ensures kept { marks.new ≡ marks.old }
     ensures few { OnOk result ((before < MAX_BLOCKS) × (length ids.new.items ≤ MAX_BLOCKS)) }
 {

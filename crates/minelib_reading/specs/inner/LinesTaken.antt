@@ -18,8 +18,8 @@ uncounted shape =
 unfoldable pub block_said : ℕ → List ℕ → Result Block TextKind
 block_said before line = said (block_shape before line)
 
-unfoldable pub block_alone : ℕ → List ℕ → Result Block TextKind
-block_alone before line = uncounted (block_shape before line)
+unfoldable pub uncounted_block : ℕ → List ℕ → Result Block TextKind
+uncounted_block before line = uncounted (block_shape before line)
 
 abbrev pub admit_block : List Block → List ℕ → Result (List Block) TextKind
 admit_block blocks line = block_said (length blocks) line >>= λ b. Ok (blocks ++ b ∷ [])
@@ -28,8 +28,8 @@ admit_block blocks line = block_said (length blocks) line >>= λ b. Ok (blocks +
 unfoldable pub preds_said : ℕ → ℕ → List ℕ → Result (List ℕ) TextKind
 preds_said n own line = said (preds_shape n own line)
 
-unfoldable pub preds_alone : ℕ → ℕ → List ℕ → Result (List ℕ) TextKind
-preds_alone n own line = uncounted (preds_shape n own line)
+unfoldable pub uncounted_preds : ℕ → ℕ → List ℕ → Result (List ℕ) TextKind
+uncounted_preds n own line = uncounted (preds_shape n own line)
 
 -- what the lines so far state, of so many blocks
 pub record PrecDraftView : Type 0 where

@@ -60,8 +60,8 @@ coef_of problem n destinations resources fields = do
   Ok (coef_said problem values)
 
 -- one whose fields are read before they are counted
-unfoldable pub coef_alone : Problem → ℕ → ℕ → ℕ → List (List ℕ) → Result Coef TextKind
-coef_alone problem n destinations resources fields = do
+unfoldable pub uncounted_coef : Problem → ℕ → ℕ → ℕ → List (List ℕ) → Result Coef TextKind
+uncounted_coef problem n destinations resources fields = do
   values ← read_fields text_kinds (coef_form problem n destinations resources) fields
   Ok (coef_said problem values)
 
