@@ -242,6 +242,13 @@ says_fits (Stepped decimals step low high) text (Bytes word) fine says = absurd 
 says_fits (Word passes) text (Millionths m) fine says = absurd says
 says_fits (Word passes) text (Bytes word) fine says = subst (λ w. passes w ≡ true) says.0 says.1
 
+-- and what is read fits
+pub read_fits : {K : Type 0} (kind : FieldFault → K) (field : Field) (text : List ℕ) (value : Value) → has_six_decimals field ≡ true
+    → read_field kind field text ≡ Ok value → FitsField field value
+read_fits kind field text value fine e =
+    let told = subst (λ r. Follows r (asked_of_field kind field text) (Says field text)) e (field_told kind field text fine) in
+    says_fits field text value fine told.1
+
 pub spelled_fit : (form : List Field) (texts : List (List ℕ)) (values : List Value) → is_fine form ≡ true → Spell form texts values
     → Fit form values
 spelled_fit [] [] [] fine spell = tt

@@ -61,8 +61,8 @@ steps_said before fields =
     step (below GRID_CELLS) _ (whole_in GRID_CELLS) whole rest2 _ _ (whole_reads GRID_CELLS) (λ y rest3.
     step (below GRID_CELLS) _ (whole_in GRID_CELLS) whole rest3 _ _ (whole_reads GRID_CELLS) (λ z rest4.
     step (up_to 3 (MAX_KG * 1000)) _ (size_in 3 (MAX_KG * 1000)) (λ m. Millionths (pos m)) rest4 _ _
-    (size_reads 3 (MAX_KG * 1000)) (λ tonnes rest5.
-    step (up_to 6 MAX_GRADE) _ (size_in 6 MAX_GRADE) (λ m. Millionths (pos m)) rest5 _ _ (size_reads 6 MAX_GRADE) (λ grade rest6.
+    (size_reads 3 (MAX_KG * 1000) (omega arith)) (λ tonnes rest5.
+    step (up_to 6 MAX_GRADE) _ (size_in 6 MAX_GRADE) (λ m. Millionths (pos m)) rest5 _ _ (size_reads 6 MAX_GRADE (omega arith)) (λ grade rest6.
     step (below MAX_ZONES) _ (whole_in MAX_ZONES) whole rest6 _ _ (whole_reads MAX_ZONES) (λ zone rest7.
     last_step rest7 _ _ (seven_end before id x y z tonnes grade zone))))))))
 

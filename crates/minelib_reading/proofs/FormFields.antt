@@ -1,14 +1,13 @@
 -- Decimals of any size and fields of words, beside whole numbers: which values fit them, and that a line of them is of plain fields.
-use Rattle.std.specs.Prelude.{◌≡◌, ℕ, zero, suc, ◌/◌, ◌-◌, ◌^◌, ◌<◌, ◌≤◌, length, slice_index_or, true, false, not, ◌&&◌, List, [], ◌∷◌, ℤ, pos, negsuc, ◌≤ℤ◌, int_le, unsigned_abs, Result, Ok, Err, if◌then◌else◌}
+use Rattle.std.specs.Prelude.{◌≡◌, ℕ, zero, suc, ◌/◌, ◌-◌, ◌^◌, ◌<◌, ◌≤◌, length, slice_index_or, true, false, not, List, [], ◌∷◌, ℤ, pos, negsuc, ◌≤ℤ◌, unsigned_abs, Result, Ok, Err}
 use Rattle.std.specs.List.{list_all, list_any}
 use Rattle.std.proofs.Common.{refl, sym, ap, subst, arith}
 use Rattle.std.proofs.lemmas.Int.{ints}
 use Rattle.std.proofs.lemmas.List.Sums.{list_all-from_AllPass}
 use Rattle.pit_units.proofs.Standing.{read_stands}
 use Rattle.pit_units.proofs.Written.{shortest_plain}
-use Rattle.pit_units.specs.Decimal.{decimal_of, shortest}
+use Rattle.pit_units.specs.Decimal.{decimal_of, decimal_within, kept_within, shortest}
 use Rattle.pit_units.specs.declared.fault.DecFault.{DecFault}
-use Rattle.pit_units.specs.declared.fault.DecFault.TheVariants as dec
 use Rattle.forms.proofs.FormFacts.{read_spelled, true_le}
 use Rattle.forms.proofs.NumberFields.{quotient, whole_found}
 use Rattle.forms.specs.Field.{Field, Decimal, Stepped, Word, Value, Millionths, Bytes, below, millionths, whole, whole_stated}
@@ -17,11 +16,10 @@ use Rattle.forms.specs.Read.{number_or_kind, read}
 use Rattle.forms.specs.Spelled.{Spell}
 use Rattle.forms.specs.WrittenValues.{written}
 use Rattle.forms.specs.Steps.{◌>>=◌}
-use Rattle.text_lines.specs.FieldValues.{decimal_in, number_told}
+use Rattle.text_lines.specs.FieldValues.{decimal_in}
 use Rattle.minelib_lines.specs.Kept.{IsInDecimalRange}
 use Rattle.text_lines.specs.LineKinds.{text_kind, text_kinds}
 use Rattle.minelib_reading.specs.ModelLines.{is_colon}
-use Rattle.text_lines.specs.declared.text_fault.TextKind.TheVariants.{Range}
 use Rattle.text_lines.proofs.FieldSteps.{ReadsField}
 use Rattle.minelib_reading.proofs.Keyless.{have_colon, number_no_colon, plain_no_colon}
 use Rattle.text_lines.proofs.PlainText.{EachField, IsField, all_weaker, is_plain, none_from_all, number_byte}
@@ -65,20 +63,20 @@ fit_at (field ∷ form) [] place none inside fit = absurd fit
 fit_at (field ∷ form) (value ∷ values) zero none inside fit = fit.0
 fit_at (field ∷ form) (value ∷ values) (suc place) none inside fit = fit_at form values place none (omega (arith, inside)) fit.1
 
-pub any_reads : ReadsField any decimal_in Millionths
-unfolding decimal_in
-any_reads text = by (decimal_of 6 text) refl
+-- each decimal is in the range of any
+in_any_range : (text : List ℕ) → decimal_within 6 (negsuc (10 ^ 24 - 1)) (pos (10 ^ 24)) text ≡ decimal_of 6 text
+unfolding decimal_within
+in_any_range text = by (decimal_of 6 text) refl
   where
-    by : (r : Result ℤ DecFault) → decimal_of 6 text ≡ r
-        → (number_or_kind text_kind r >>= λ m. if int_le (negsuc (10 ^ 24 - 1)) m
-        && int_le m (pos (10 ^ 24)) then Ok (Millionths m) else Err Range)
-        ≡ (number_told r >>= λ m. Ok (Millionths m))
+    by : (r : Result ℤ DecFault) → decimal_of 6 text ≡ r → kept_within (negsuc (10 ^ 24 - 1)) (pos (10 ^ 24)) r ≡ r
     by (Ok m) e =
         let small : IsInDecimalRange m = (read_stands 6 text m (omega arith) e).in_range in
         rw (true_le _ m (lowest m small), true_le m _ (highest m small)) refl
-    by (Err dec.Number) e = refl
-    by (Err dec.TooFine) e = refl
-    by (Err dec.Range) e = refl
+    by (Err fault) e = refl
+
+pub any_reads : ReadsField any decimal_in Millionths
+unfolding decimal_in
+any_reads text = ap (λ r. number_or_kind text_kind r >>= λ m. Ok (Millionths m)) (in_any_range text)
 
 -- words that are fields of a line
 abbrev pub ArePlain : List Field → Type 0

@@ -11,7 +11,7 @@ use crate::model_keys::is_word;
 use minelib_lines::problem::Problem;
 use pit_parts::name::is_name;
 use pit_parts::ranges::{MAX_BLOCKS, MAX_DESTINATIONS, MAX_PERIODS, MAX_RATE, MAX_RESOURCES};
-use pit_units::parse_dec;
+use pit_units::parse_within;
 use text_lines::text_fault::TextKind;
 
 // The millionths of 1.
@@ -73,12 +73,8 @@ fn millionths_in(field: &[u8], decimals: u8, low: u64, high: u64) -> Result<u64,
     ensures value { result ≡ millionths_in (Decimal decimals (pos low) (pos high)) field.now }
     ensures in_range { IfOk result (λ m. m ≤ high) }
 {
-    let millionths = parse_dec(field, decimals)?.millionths();
-    if i128::from(low) <= millionths && millionths <= i128::from(high) {
-        Ok(millionths as u64)
-    } else {
-        Err(TextKind::Range)
-    }
+    let stated = parse_within(field, decimals, i128::from(low), i128::from(high))?;
+    Ok(stated.millionths() as u64)
 }
 
 // How a TYPE names the problem.

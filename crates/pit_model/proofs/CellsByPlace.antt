@@ -1,15 +1,12 @@
 -- What cells state that are read at their places.
 use Rattle.std.specs.Prelude.{◌≡◌, ℕ, zero, suc, ◌+◌, ◌-◌, ◌*◌, ◌/◌, ◌%◌, ◌^◌, ◌==◌, ◌||◌, nat_lt, not, Bool, true, false, List, [], ◌∷◌, ◌++◌, length, drop, replicate, ℤ, pos, negsuc, neg_ℤ, ◌*ℤ◌, int_div, unsigned_abs, Some, unwrap_or, Result, Ok, Err, if◌then◌else◌}
-use Rattle.std.proofs.Common.{refl, sym, ◌∙◌, ap, subst, arith, drop-cons, length-drop, eqb-true, eq-eqb}
+use Rattle.std.proofs.Common.{refl, sym, ◌∙◌, ap, arith, drop-cons, length-drop, eqb-true, eq-eqb}
 use Rattle.std.proofs.lemmas.Bool.Decides.{nat_tests}
 use Rattle.std.proofs.lemmas.Int.{ints}
-use Rattle.forms.proofs.DemandFacts.{Follows}
-use Rattle.forms.proofs.FormFacts.{counted, field_told, spelled_fit, parts}
-use Rattle.forms.specs.Asked.{asked_of_field}
+use Rattle.forms.proofs.FormFacts.{counted, read_fits}
 use Rattle.forms.specs.Field.{Field, Value, Bytes, Millionths, below, between, whole, whole_at}
-use Rattle.forms.specs.Fit.{FitsField, is_fine}
+use Rattle.forms.specs.Fit.{FitsField}
 use Rattle.forms.specs.Read.{read, read_field, read_fields}
-use Rattle.forms.specs.Spelled.{Says}
 use Rattle.forms.specs.Shape.{Check, Shape, failing, said, unless}
 use Rattle.forms.specs.Steps.{◌>>=◌}
 use Rattle.records.specs.RecordCells.{cell_at}
@@ -31,17 +28,9 @@ use Rattle.pit_model.specs.declared.plan_fault.PlanFaultKind.{PlanFaultKind}
 pub quotient : (n : ℕ) → n * 10 ^ 6 / 10 ^ 6 ≡ n
 quotient n = omega arith
 
--- what is read fits
-read_fits : (field : Field) (cell : List ℕ) (value : Value) → is_fine (field ∷ []) ≡ true → read_field plan_kind field cell ≡ Ok value
-    → FitsField field value
-read_fits field cell value fine e =
-    let told = subst (λ r. Follows r (asked_of_field plan_kind field cell) (Says field cell)) e
-    (field_told plan_kind field cell (parts field [] fine).0) in
-    (spelled_fit (field ∷ []) (cell ∷ []) (value ∷ []) fine (told.1, tt)).0
-
 pub whole_read : (low high : ℕ) (cell : List ℕ) (m : ℤ) → read_field plan_kind (between low high) cell ≡ Ok (Millionths m)
     → Millionths m ≡ whole (unsigned_abs m / 10 ^ 6)
-whole_read low high cell m e = by m (read_fits (between low high) cell (Millionths m) refl e)
+whole_read low high cell m e = by m (read_fits plan_kind (between low high) cell (Millionths m) refl e)
   where
     by : (m : ℤ) → FitsField (between low high) (Millionths m) → Millionths m ≡ whole (unsigned_abs m / 10 ^ 6)
     by (pos k) fits = let same : k ≡ k / 10 ^ 6 * 10 ^ 6 = omega (arith, fits.3) in ap (λ k. Millionths (pos k)) same
@@ -57,7 +46,7 @@ thousands (negsuc k) h = let same : suc k ≡ suc k / 1000 * 1000 = omega (arith
 
 pub below_read : (limit : ℕ) (cell : List ℕ) (m : ℤ) → read_field plan_kind (below limit) cell ≡ Ok (Millionths m)
     → Millionths m ≡ whole (unsigned_abs m / 10 ^ 6)
-below_read limit cell m e = by m (read_fits (below limit) cell (Millionths m) refl e)
+below_read limit cell m e = by m (read_fits plan_kind (below limit) cell (Millionths m) refl e)
   where
     by : (m : ℤ) → FitsField (below limit) (Millionths m) → Millionths m ≡ whole (unsigned_abs m / 10 ^ 6)
     by (pos k) fits = let same : k ≡ k / 10 ^ 6 * 10 ^ 6 = omega (arith, fits.3) in ap (λ k. Millionths (pos k)) same
@@ -65,11 +54,11 @@ below_read limit cell m e = by m (read_fits (below limit) cell (Millionths m) re
 
 pub origin_read : (cell : List ℕ) (m : ℤ) → read_field plan_kind an_origin cell ≡ Ok (Millionths m)
     → Millionths m ≡ length_value (int_div m (pos 1000))
-origin_read cell m e = let fits = read_fits an_origin cell (Millionths m) refl e in ap Millionths (thousands m fits.3)
+origin_read cell m e = let fits = read_fits plan_kind an_origin cell (Millionths m) refl e in ap Millionths (thousands m fits.3)
 
 pub size_read : (cell : List ℕ) (m : ℤ) → read_field plan_kind a_size cell ≡ Ok (Millionths m)
     → Millionths m ≡ size_value (unsigned_abs m / 1000)
-size_read cell m e = by m (read_fits a_size cell (Millionths m) refl e)
+size_read cell m e = by m (read_fits plan_kind a_size cell (Millionths m) refl e)
   where
     by : (m : ℤ) → FitsField a_size (Millionths m) → Millionths m ≡ size_value (unsigned_abs m / 1000)
     by (pos k) fits = let same : k ≡ k / 1000 * 1000 = omega (arith, fits.3) in ap (λ k. Millionths (pos k)) same

@@ -1,29 +1,16 @@
 -- Fields that are read one by one, as the code reads them, are those of a form.
-use Rattle.std.specs.Prelude.{◌≡◌, ℕ, ◌*◌, ◌/◌, ◌%◌, ◌^◌, ◌==◌, ◌&&◌, nat_lt, not, Bool, true, false, List, [], ◌∷◌, ◌++◌, length, map, ℤ, pos, negsuc, ◌+ℤ◌, int_le, Result, Ok, Err, if◌then◌else◌}
+use Rattle.std.specs.Prelude.{◌≡◌, ℕ, ◌≤◌, ◌==◌, not, false, List, [], ◌∷◌, ◌++◌, length, map, pos, unsigned_abs, Result, Ok, Err, if◌then◌else◌}
 use Rattle.std.proofs.Common.{refl, sym, ◌∙◌, ap, arith, append-nil, append_assoc}
-use Rattle.std.proofs.lemmas.Bool.{ne_eqb}
-use Rattle.std.proofs.lemmas.Bool.Decides.{nat_tests}
-use Rattle.std.proofs.lemmas.Int.{ints}
-use Rattle.pit_units.proofs.Multiples.{stands_multiple}
-use Rattle.pit_units.proofs.Standing.{read_stands}
-use Rattle.pit_units.specs.Decimal.{decimal_of}
-use Rattle.pit_units.specs.declared.fault.DecFault.{DecFault}
-use Rattle.pit_units.specs.declared.fault.DecFault.TheVariants as dec
-use Rattle.forms.specs.Field.{Field, Value, Millionths, below, up_to, whole}
-use Rattle.forms.specs.Read.{number_or_kind, read_field, read_fields}
+use Rattle.std.proofs.lemmas.Bool.{le-leb, ne_eqb}
+use Rattle.forms.proofs.FormFacts.{read_fits}
+use Rattle.forms.proofs.NumberFields.{quotient, size_found, whole_found}
+use Rattle.forms.specs.Field.{Field, Value, Millionths, below, millionths, up_to, whole, whole_stated}
+use Rattle.forms.specs.Read.{read_field, read_fields}
 use Rattle.forms.specs.Steps.{◌>>=◌}
-use Rattle.text_lines.specs.FieldValues.{all_by, at_most, first_by, number_told, size_in, whole_below, whole_in}
+use Rattle.text_lines.specs.FieldValues.{all_by, first_by, size_in, whole_in}
 use Rattle.text_lines.specs.LineKinds.{text_kind, text_kinds}
 use Rattle.text_lines.specs.declared.text_fault.TextKind.{TextKind}
-use Rattle.text_lines.specs.declared.text_fault.TextKind.TheVariants.{Fields, Range}
-
--- the test of a whole number by its millionths, and by itself
-whole_tests : (limit m : ℕ) → m % 10 ^ 6 ≡ 0
-    → (int_le (pos 0) (pos m) && int_le (pos m) (pos (limit * 10 ^ 6) +ℤ negsuc 0)) ≡ nat_lt (m / 10 ^ 6) limit
-whole_tests limit m whole = grind (arith, ints, nat_tests)
-
-size_tests : (most m : ℕ) → (int_le (pos 0) (pos m) && int_le (pos m) (pos most)) ≡ not (nat_lt most m)
-size_tests most m = grind (arith, ints, nat_tests)
+use Rattle.text_lines.specs.declared.text_fault.TextKind.TheVariants.{Fields}
 
 -- a rule reads the same as a field
 abbrev pub ReadsField : {A : Type 0} → Field → (List ℕ → Result A TextKind) → (A → Value) → Type 0
@@ -31,42 +18,25 @@ ReadsField field rule value = (text : List ℕ) → read_field text_kind field t
 
 pub whole_reads : (limit : ℕ) → ReadsField (below limit) (whole_in limit) whole
 unfolding whole_in
-whole_reads limit text = by (decimal_of 0 text) refl
+whole_reads limit text = by (read_field text_kind (below limit) text) refl
   where
-    within : (m : ℕ) → m % 10 ^ 6 ≡ 0 → (t : Bool) → nat_lt (m / 10 ^ 6) limit ≡ t
-        → (if t then Ok (Millionths (pos m)) else Err Range) ≡ ((if t then Ok (m / 10 ^ 6) else Err Range) >>= λ n. Ok (whole n))
-    within m coarse true e = let same : m ≡ m / 10 ^ 6 * 10 ^ 6 = omega arith in ap (λ k. Ok (Millionths (pos k))) same
-    within m coarse false e = refl
+    by : (r : Result Value TextKind) → read_field text_kind (below limit) text ≡ r
+        → r ≡ ((r >>= λ value. Ok (whole_stated value)) >>= λ n. Ok (whole n))
+    by (Ok value) e =
+        let found = whole_found limit value (read_fits text_kind (below limit) text value refl e) in
+        rw (found.is, quotient found.n) refl
+    by (Err kind) e = refl
 
-    by : (r : Result ℤ DecFault) → decimal_of 0 text ≡ r
-        → (number_or_kind text_kind r >>= λ m. if int_le (pos 0) m
-        && int_le m (pos (limit * 10 ^ 6) +ℤ negsuc 0) then Ok (Millionths m) else Err Range)
-        ≡ ((number_told r >>= whole_below limit) >>= λ n. Ok (whole n))
-    by (Ok (pos m)) e =
-        let coarse : m % 10 ^ 6 ≡ 0 = stands_multiple 0 text (pos m) (omega arith) (read_stands 0 text (pos m) (omega arith) e) in
-        rw (whole_tests limit m coarse) (within m coarse (nat_lt (m / 10 ^ 6) limit) refl)
-    by (Ok (negsuc m)) e = refl
-    by (Err dec.Number) e = refl
-    by (Err dec.TooFine) e = refl
-    by (Err dec.Range) e = refl
-
-pub size_reads : (decimals most : ℕ) → ReadsField (up_to decimals most) (size_in decimals most) (λ m. Millionths (pos m))
+pub size_reads : (decimals most : ℕ) → decimals ≤ 6 → ReadsField (up_to decimals most) (size_in decimals most) (λ m. Millionths (pos m))
 unfolding size_in
-size_reads decimals most text = by (decimal_of decimals text)
+size_reads decimals most few text = by (read_field text_kind (up_to decimals most) text) refl
   where
-    within : (m : ℕ) (t : Bool) → (if not t then Ok (Millionths (pos m)) else Err Range)
-        ≡ ((if t then Err Range else Ok m) >>= λ n. Ok (Millionths (pos n)))
-    within m true = refl
-    within m false = refl
-
-    by : (r : Result ℤ DecFault)
-        → (number_or_kind text_kind r >>= λ m. if int_le (pos 0) m && int_le m (pos most) then Ok (Millionths m) else Err Range)
-        ≡ ((number_told r >>= at_most most) >>= λ n. Ok (Millionths (pos n)))
-    by (Ok (pos m)) = rw (size_tests most m) (within m (nat_lt most m))
-    by (Ok (negsuc m)) = refl
-    by (Err dec.Number) = refl
-    by (Err dec.TooFine) = refl
-    by (Err dec.Range) = refl
+    by : (r : Result Value TextKind) → read_field text_kind (up_to decimals most) text ≡ r
+        → r ≡ ((r >>= λ value. Ok (unsigned_abs (millionths value))) >>= λ m. Ok (Millionths (pos m)))
+    by (Ok value) e =
+        let found = size_found decimals most value (read_fits text_kind (up_to decimals most) text value (le-leb decimals 6 few) e) in
+        rw found.is refl
+    by (Err kind) e = refl
 
 -- what is read of the fields of a form says something
 unfoldable pub said_of : {B : Type 0} → List Field → List (List ℕ) → (List Value → Result B TextKind) → Result B TextKind

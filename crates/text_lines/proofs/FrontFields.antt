@@ -1,16 +1,17 @@
 -- A number that a line begins with is its first field, if a blank or nothing stands behind it.
-use Rattle.std.proofs.Common.{◌≡◌, ℕ, ◌*◌, ◌/◌, ◌^◌, ◌<◌, ◌≤◌, ◌==◌, true, List, [], ◌∷◌, ◌++◌, length, ℤ, pos, arith, refl, sym, ap, ◌∙◌}
-use Rattle.std.specs.Prelude.{Ok, Err}
+use Rattle.std.proofs.Common.{◌≡◌, ℕ, ◌*◌, ◌^◌, ◌<◌, ◌≤◌, ◌==◌, true, List, [], ◌∷◌, ◌++◌, length, ℤ, pos, negsuc, arith, refl, sym, ap, ◌∙◌}
+use Rattle.std.specs.Prelude.{◌&&◌, false, ◌≤ℤ◌, ◌+ℤ◌, int_le, unsigned_abs, Ok, Err}
 use Rattle.std.specs.List.{list_all}
-use Rattle.std.proofs.lemmas.Bool.{le-ltb, lt-ltb}
+use Rattle.std.proofs.lemmas.Int.{ints}
 use Rattle.std.proofs.lemmas.List.Sums.{list_all-from_AllPass}
 use borrow.Author.Tests.{ne_eqb}
 use Rattle.records.specs.Cells.{without_leading_blanks}
+use Rattle.pit_units.specs.Decimal.{decimal_within}
 use Rattle.pit_units.specs.Front.{BeginsWith}
-use Rattle.text_lines.specs.FieldValues.{at_most, first_by, decimal_in, size_in, whole_in}
+use Rattle.forms.proofs.NumberFields.{quotient}
+use Rattle.text_lines.specs.FieldValues.{first_by, decimal_in, size_in, whole_in}
 use Rattle.text_lines.specs.TextLines.{fields_of, is_ended}
 use Rattle.text_lines.specs.inner.Taken.{TakesDecimal}
-use Rattle.text_lines.specs.declared.text_fault.TextKind.{TextKind}
 use Rattle.text_lines.specs.declared.text_fault.TextKind.TheVariants.{Range}
 use Rattle.text_lines.proofs.Cuts.{fields_past_blanks, past_blanks, StartsWithField}
 use Rattle.text_lines.proofs.PlainText.{first_field, is_plain, number_byte}
@@ -33,29 +34,35 @@ field_in_front max line m rest b ended =
 
 pub whole_taken : (limit : ℕ) (line : List ℕ) (n : ℕ) (rest : List ℕ) → TakesDecimal 0 line (pos (n * 10 ^ 6)) rest → n < limit
     → first_by (whole_in limit) (fields_of line) ≡ Ok (n, fields_of rest)
-unfolding whole_in
-whole_taken limit line n rest t below =
-    let quotient : n * 10 ^ 6 / 10 ^ 6 ≡ n = omega arith in
-    rw (t.cut, t.stated, quotient, lt-ltb n limit below) refl
+unfolding whole_in decimal_within
+whole_taken limit line n rest t low =
+    let within : (int_le (pos 0) (pos (n * 10 ^ 6)) && int_le (pos (n * 10 ^ 6)) (pos (limit * 10 ^ 6) +ℤ negsuc 0)) ≡ true =
+    grind (arith, ints, low) in
+    rw (t.cut, t.stated, within, quotient n) refl
 
 pub whole_refused : (limit : ℕ) (line : List ℕ) (n : ℕ) (rest : List ℕ) → TakesDecimal 0 line (pos (n * 10 ^ 6)) rest → (n < limit → ⊥)
     → first_by (whole_in limit) (fields_of line) ≡ Err Range
-unfolding whole_in
+unfolding whole_in decimal_within
 whole_refused limit line n rest t above =
-    let quotient : n * 10 ^ 6 / 10 ^ 6 ≡ n = omega arith in
-    let past : limit ≤ n = omega (arith, above) in
-    rw (t.cut, t.stated, quotient, le-ltb n limit past) refl
+    let past : (int_le (pos 0) (pos (n * 10 ^ 6)) && int_le (pos (n * 10 ^ 6)) (pos (limit * 10 ^ 6) +ℤ negsuc 0)) ≡ false =
+    grind (arith, ints, above) in
+    rw (t.cut, t.stated, past) refl
 
 pub size_taken : (decimals most : ℕ) (line : List ℕ) (m : ℤ) (rest : List ℕ) (size : ℕ) → TakesDecimal decimals line m rest
-    → at_most most m ≡ Ok size
+    → size ≡ unsigned_abs m → pos 0 ≤ℤ m → size ≤ most
     → first_by (size_in decimals most) (fields_of line) ≡ Ok (size, fields_of rest)
-unfolding size_in
-size_taken decimals most line m rest size t within = rw (t.cut, t.stated, within) refl
+unfolding size_in decimal_within
+size_taken decimals most line m rest size t is low high =
+    let within : (int_le (pos 0) m && int_le m (pos most)) ≡ true = grind (arith, ints, is, low, high) in
+    rw (t.cut, t.stated, within, is) refl
 
-pub size_refused : (decimals most : ℕ) (line : List ℕ) (m : ℤ) (rest : List ℕ) (kind : TextKind) → TakesDecimal decimals line m rest
-    → at_most most m ≡ Err kind → first_by (size_in decimals most) (fields_of line) ≡ Err kind
-unfolding size_in
-size_refused decimals most line m rest kind t out = rw (t.cut, t.stated, out) refl
+pub size_refused : (decimals most : ℕ) (line : List ℕ) (m : ℤ) (rest : List ℕ) (size : ℕ) → TakesDecimal decimals line m rest
+    → size ≡ unsigned_abs m → (pos 0 ≤ℤ m → size ≤ most → ⊥)
+    → first_by (size_in decimals most) (fields_of line) ≡ Err Range
+unfolding size_in decimal_within
+size_refused decimals most line m rest size t is out =
+    let past : (int_le (pos 0) m && int_le m (pos most)) ≡ false = grind (arith, ints, is, out) in
+    rw (t.cut, t.stated, past) refl
 
 pub decimal_taken : (line : List ℕ) (m : ℤ) (rest : List ℕ) → TakesDecimal 6 line m rest
     → first_by decimal_in (fields_of line) ≡ Ok (m, fields_of rest)

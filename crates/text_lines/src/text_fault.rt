@@ -89,9 +89,11 @@ impl fmt::Display for TextKind {
 }
 
 impl From<DecFault> for TextKind {
-    ghost use Rattle.text_lines.specs.FieldValues.{kind_of};
+    ghost use Rattle.std.specs.Prelude.{◌≡◌, Err};
+    ghost use Rattle.forms.specs.Read.{number_or_kind};
+    ghost use Rattle.text_lines.specs.LineKinds.{text_kind};
 
-    ghost from_gives = { λ fault kind. kind ≡ kind_of fault };
+    ghost from_gives = { λ fault kind. Err kind ≡ number_or_kind text_kind (Err fault) };
 
     fn from(fault: DecFault) -> TextKind {
         match fault {

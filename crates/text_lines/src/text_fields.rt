@@ -3,7 +3,7 @@
 ghost use Rattle.std.specs.Prelude.{◌≡◌, ◌<◌, ◌≤◌, ◌∷◌, ◌*◌, ◌^◌, ◌==◌, [], not, pos, length, nat_lt, position, unsigned_abs, IfOk, IfSome, MatchOption};
 ghost use Rattle.std.specs.List.{position_or_len};
 ghost use Rattle.records.specs.Cells.{is_blank};
-ghost use Rattle.text_lines.specs.FieldValues.{Takes, at_most, decimal_in, first_by, size_in, whole_in};
+ghost use Rattle.text_lines.specs.FieldValues.{Takes, decimal_in, first_by, size_in, whole_in};
 ghost use Rattle.text_lines.specs.TextLines.{fields_of, is_ended};
 ghost use Rattle.text_lines.specs.LineKinds.{kind_by};
 ghost use Rattle.text_lines.specs.inner.Taken.{TakesDecimal};
@@ -116,10 +116,14 @@ pub fn first_size(line: &[u8], decimals: u8, most: u64) -> Result<(u64, &[u8]), 
     ensures in_range { IfOk result (λ x. x.0 ≤ most) }
 {
     match front_dec_field(line, decimals) {
-        Some((millionths, behind)) => match within(millionths, most) {
-            Ok(size) => Ok((size, behind)),
-            Err(kind) => Err(kind),
-        },
+        Some((millionths, behind)) => {
+            let size = millionths.unsigned_abs();
+            if 0 <= millionths && size <= most {
+                Ok((size, behind))
+            } else {
+                Err(TextKind::Range)
+            }
+        }
         None => any_size(line, decimals, most),
     }
 }
@@ -135,17 +139,6 @@ pub fn first_millionths(line: &[u8]) -> Result<(i128, &[u8]), TextKind>
         Some((millionths, behind)) => Ok((i128::from(millionths), behind)),
         None => any_millionths(line),
     }
-}
-
-#[inline(always)]
-fn within(millionths: i64, most: u64) -> Result<u64, TextKind>
-    ensures value { result ≡ at_most most millionths }
-    ensures in_range { IfOk result (λ m. m ≤ most) }
-{
-    if millionths < 0 || millionths as u64 > most {
-        return Err(TextKind::Range);
-    }
-    Ok(millionths as u64)
 }
 
 // The first field as a whole number, where it is of digits alone and not too long; `None` says nothing of it.
