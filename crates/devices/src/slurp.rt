@@ -24,7 +24,7 @@ pub enum SlurpFault {
     #[error("the feed has more bytes than the limit")]
     TooLong,
     /// Memory ran out. The bytes that the feed gave before are lost.
-    #[error("out of memory")]
+    #[error("OutOfMemory")]
     OutOfMemory,
 }
 

@@ -15,7 +15,7 @@ pub enum WriteFault {
     #[error("the sink failed")]
     SinkFailed,
     /// Memory was refused, and the sink refused no call.
-    #[error("out of memory")]
+    #[error("OutOfMemory")]
     OutOfMemory,
 }
 

@@ -8,16 +8,16 @@ use Rattle.forms.specs.Grammar.{HasFineForms, read_all}
 use Rattle.forms.specs.GrammarStates.{AllState, IsFirstFault}
 use Rattle.forms.specs.ShapeStates.{States}
 use Rattle.forms.specs.Steps.{◌>>=◌}
+use Rattle.pit_units.specs.OrMemory.{Gives}
+use Rattle.pit_units.specs.declared.or_memory.OrMemory.{OrMemory}
+use Rattle.pit_units.specs.declared.or_memory.OrMemory.TheVariants.{Fault, OutOfMemory}
 use Rattle.pit_parts.specs.declared.block.Block.{Block}
 use Rattle.mine_instance.specs.Valid.{ArePreds, ArePredsOf}
 use Rattle.minelib_reading.specs.BlockLines.{block_grammar, block_shape, blocks_in}
 use Rattle.minelib_reading.specs.inner.LinesTaken.{PrecDraftView, admit_block, admit_preds, block_said, no_lists, preds_said}
 use Rattle.minelib_reading.specs.PrecLines.{LacksLines, finish_preds, lines_missing, prec_grammar, preds_in, preds_shape}
 use Rattle.text_lines.specs.Reading.{Leaves, read_lines}
-use Rattle.text_lines.specs.inner.Taken.{Gives}
 use Rattle.text_lines.specs.TextLines.{end_of, fields_of, lines_in}
-use Rattle.text_lines.specs.declared.read_errors.FileError.{FileError}
-use Rattle.text_lines.specs.declared.read_errors.FileError.TheVariants.{Faulty, OutOfMemory}
 use Rattle.text_lines.specs.declared.text_fault.LineFault.{LineFault}
 use Rattle.minelib_reading.proofs.BlockLineFacts.{block_line}
 use Rattle.text_lines.proofs.ItemGrammarFacts.{kept_by_items, lines_read}
@@ -79,10 +79,10 @@ pub preds_finished : (n : ℕ) (text : List ℕ) (d : PrecDraftView) → read_li
 preds_finished n text d read = sym (ap (λ r. r >>= λ d. finish_preds d.blocks (end_of text) d.lists) read) ∙ preds_read n text
 
 -- the answer where a line is faulty, or memory was refused
-pub preds_stopped : (n : ℕ) (text : List ℕ) (after : PrecDraftView) (error : FileError)
+pub preds_stopped : (n : ℕ) (text : List ℕ) (after : PrecDraftView) (error : OrMemory LineFault)
     → Leaves {A = ℕ} after (Err error) (read_lines admit_preds (no_lists n) (lines_in text))
-    → Gives {A = List (List ℕ)} (Err error) (preds_in n text)
-preds_stopped n text after (Faulty fault) read =
+    → Gives {A = List (List ℕ)} (λ x. x) (Err error) (preds_in n text)
+preds_stopped n text after (Fault fault) read =
     sym (preds_read n text) ∙ ap (λ r. r >>= λ d. finish_preds d.blocks (end_of text) d.lists) read
 preds_stopped n text after OutOfMemory read = tt
 

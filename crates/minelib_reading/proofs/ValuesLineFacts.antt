@@ -11,11 +11,11 @@ use Rattle.forms.specs.Fit.{Fit, is_fine}
 use Rattle.forms.specs.Read.{read_fields}
 use Rattle.forms.specs.Steps.{◌>>=◌}
 use Rattle.minelib_lines.specs.Kept.{IsInDecimalRange}
+use Rattle.pit_units.specs.declared.or_memory.OrMemory.{OrMemory}
+use Rattle.pit_units.specs.declared.or_memory.OrMemory.TheVariants.{Fault, OutOfMemory}
 use Rattle.text_lines.specs.FieldValues.{all_by, decimal_in, first_by, whole_in}
 use Rattle.text_lines.specs.LineKinds.{kind_by, text_kinds}
 use Rattle.text_lines.specs.inner.Taken.{AdmitsCounted}
-use Rattle.text_lines.specs.declared.read_errors.LineError.{LineError}
-use Rattle.text_lines.specs.declared.read_errors.LineError.TheVariants as line_error
 use Rattle.text_lines.specs.declared.text_fault.TextKind.{TextKind}
 use Rattle.text_lines.specs.declared.text_fault.TextKind.TheVariants.{Order}
 use Rattle.text_lines.proofs.FieldSteps.{whole_reads}
@@ -115,13 +115,13 @@ values_counted n destinations before (field ∷ fields) count =
         (tail block (read_fields text_kinds (replicate destinations any) fields))
     by (Err found) = refl
 
-pub values_admitted : {A : Type 0} (n destinations before : ℕ) (fields : List (List ℕ)) (row : List ℤ) (r : Result A LineError)
+pub values_admitted : {A : Type 0} (n destinations before : ℕ) (fields : List (List ℕ)) (row : List ℤ) (r : Result A (OrMemory TextKind))
     → AdmitsCounted (length fields ≡ destinations + 1) row r (uncounted_values n before fields)
     → AdmitsCounted (length fields ≡ destinations + 1) row r (values_of n destinations before fields)
 values_admitted n destinations before fields row (Ok x) h = (h.0, values_counted n destinations before fields h.0 ∙ h.1)
-values_admitted n destinations before fields row (Err (line_error.Faulty found)) h =
+values_admitted n destinations before fields row (Err (Fault found)) h =
     λ count. values_counted n destinations before fields count ∙ h count
-values_admitted n destinations before fields row (Err line_error.OutOfMemory) h = tt
+values_admitted n destinations before fields row (Err OutOfMemory) h = tt
 
 pub values_kind : (n destinations before : ℕ) (fields : List (List ℕ)) (found : TextKind)
     → (length fields ≡ destinations + 1 → values_of n destinations before fields ≡ Err found)

@@ -2,5 +2,4 @@ pub mod LinesTaken
 pub mod Marks
 pub mod ModelFields
 pub mod ModelParts
-pub mod ReadAs
 pub mod UncountedItems

@@ -5,17 +5,17 @@ ghost use Rattle.pit_parts.specs.Block.{block_with};
 ghost use Rattle.pit_parts.specs.BlockParts.{AreInRange};
 ghost use Rattle.minelib_reading.specs.BlockLines.{blocks_in};
 ghost use Rattle.minelib_reading.specs.inner.LinesTaken.{admit_block, uncounted_block, block_said};
-ghost use Rattle.text_lines.specs.inner.Taken.{Gives};
+ghost use Rattle.pit_units.specs.OrMemory.{Gives};
 ghost use Rattle.pit_parts.specs.declared.ranges.TheConstants.{MAX_BLOCKS};
 
 use mine_instance::blocks::Blocks;
 use pit_parts::block::Block;
 use pit_parts::ranges::{GRID_CELLS, MAX_BLOCKS, MAX_GRADE, MAX_KG, MAX_ZONES};
+use pit_units::OrMemory;
 use std::alloc::Global;
 use std::marker::Model;
 use text_lines::line_by_line::{Admit, read_lines};
-use text_lines::read_errors::{FileError, LineError};
-use text_lines::text_fault::TextKind;
+use text_lines::text_fault::{LineFault, TextKind};
 use text_lines::text_fields::{first_size, first_whole, has_field, kind_by_count};
 
 // The fields of a line: the identifier, three indices, tonnes, grade and zone.
@@ -39,7 +39,7 @@ impl Model for BlockDraft {
 impl Admit for BlockDraft {
     ghost admit_line = { admit_block };
 
-    fn admit(&mut self, line: &[u8]) -> Result<(), LineError> {
+    fn admit(&mut self, line: &[u8]) -> Result<(), OrMemory<TextKind>> {
         let block = block_of(line, self.blocks.len())?;
         self.blocks.push(block)?;
         Ok(())
@@ -99,8 +99,8 @@ fn block_with(x: u16, y: u16, z: u16, kg: u64, grade: u64, zone: u8) -> Block
 }
 
 /// The blocks that a text states, by identifier.
-pub fn read_blocks(alloc: Global, text: &[u8]) -> Result<Blocks, FileError>
-    ensures stated { Gives result (blocks_in text.now) }
+pub fn read_blocks(alloc: Global, text: &[u8]) -> Result<Blocks, OrMemory<LineFault>>
+    ensures stated { Gives (λ x. x) result (blocks_in text.now) }
     ensures few { IfOk result (λ blocks. length blocks ≤ MAX_BLOCKS) }
 {
     let blocks = drafted(alloc, text)?;
@@ -108,8 +108,8 @@ pub fn read_blocks(alloc: Global, text: &[u8]) -> Result<Blocks, FileError>
 }
 
 #[tactic(auto, using(crate::proofs::SpelledRead::blocks_read))]
-fn drafted(alloc: Global, text: &[u8]) -> Result<Blocks, FileError>
-    ensures { Gives result (blocks_in text.now) }
+fn drafted(alloc: Global, text: &[u8]) -> Result<Blocks, OrMemory<LineFault>>
+    ensures { Gives (λ x. x) result (blocks_in text.now) }
 {
     let mut draft = BlockDraft {
         blocks: Vec::new(alloc),

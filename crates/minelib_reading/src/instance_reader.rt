@@ -4,8 +4,7 @@ ghost use Rattle.std.specs.Prelude.{◌≡◌, ◌≤◌, [], length, IfOk};
 ghost use Rattle.mine_instance.specs.Seen.{seen};
 ghost use Rattle.mine_instance.specs.Valid.{IsValid};
 ghost use Rattle.minelib_reading.specs.Denotes.{cpit_denoted, denoted};
-ghost use Rattle.minelib_reading.specs.inner.ReadAs.{ReadsAs};
-ghost use Rattle.text_lines.specs.Reading.{Reads};
+ghost use Rattle.pit_units.specs.OrMemory.{Gives};
 ghost use Rattle.pit_parts.specs.declared.ranges.TheConstants.{MAX_BLOCKS};
 
 use crate::block_reader::read_blocks;
@@ -14,9 +13,10 @@ use crate::prec_reader::read_preds;
 use mine_instance::cpit::Cpit;
 use mine_instance::instance::Instance;
 use minelib_lines::problem::Problem;
+use pit_units::OrMemory;
 use precedence::{CountedPreds, Preds, TakePreds};
 use std::alloc::Global;
-use text_lines::text_fault::{ReadTextError, TextFile};
+use text_lines::text_fault::{TextFault, TextFile, in_file};
 
 /// The instance that a block file, a precedence file and a production scheduling model file denote, in the lenient
 /// grammar of docs/formats.md.
@@ -31,8 +31,8 @@ pub fn read_instance(
     blocks: &[u8],
     prec: &[u8],
     pcpsp: &[u8],
-) -> Result<Instance, ReadTextError>
-    ensures denoted { Reads result (denoted blocks.now prec.now pcpsp.now) }
+) -> Result<Instance, OrMemory<TextFault>>
+    ensures denoted { Gives (λ x. x) result (denoted blocks.now prec.now pcpsp.now) }
     ensures valid { IfOk result IsValid }
 {
     let instance = joined(alloc, blocks, prec, pcpsp, Preds::new(alloc))?;
@@ -49,8 +49,8 @@ pub fn read_counted(
     blocks: &[u8],
     prec: &[u8],
     pcpsp: &[u8],
-) -> Result<Instance<CountedPreds>, ReadTextError>
-    ensures { Reads result (denoted blocks.now prec.now pcpsp.now) }
+) -> Result<Instance<CountedPreds>, OrMemory<TextFault>>
+    ensures { Gives (λ x. x) result (denoted blocks.now prec.now pcpsp.now) }
 {
     let instance = joined(alloc, blocks, prec, pcpsp, CountedPreds::new())?;
     Ok(instance)
@@ -64,22 +64,22 @@ fn joined<P: TakePreds + Drop>(
     prec: &[u8],
     pcpsp: &[u8],
     none: P,
-) -> Result<Instance<P>, ReadTextError>
+) -> Result<Instance<P>, OrMemory<TextFault>>
     requires { P.lists none ≡ [] }
-    ensures { ReadsAs (seen P.lists) result (denoted blocks.now prec.now pcpsp.now) }
+    ensures { Gives (seen P.lists) result (denoted blocks.now prec.now pcpsp.now) }
 {
     let blocks = match read_blocks(alloc, blocks) {
         Ok(blocks) => blocks,
-        Err(error) => return Err(error.in_file(TextFile::Blocks)),
+        Err(error) => return Err(in_file(error, TextFile::Blocks)),
     };
     let count = blocks.as_slice().len();
     let preds = match read_preds(alloc, count, none, prec) {
         Ok(preds) => preds,
-        Err(error) => return Err(error.in_file(TextFile::Prec)),
+        Err(error) => return Err(in_file(error, TextFile::Prec)),
     };
     match read_model(alloc, Problem::Pcpsp, count, pcpsp) {
         Ok(model) => Ok(model.into_instance(blocks, preds)),
-        Err(error) => Err(error.in_file(TextFile::Pcpsp)),
+        Err(error) => Err(in_file(error, TextFile::Pcpsp)),
     }
 }
 
@@ -91,14 +91,14 @@ fn joined<P: TakePreds + Drop>(
 /// - `Fault`: the text denotes none. It names the first faulty line.
 /// - `OutOfMemory`: memory was refused.
 #[tactic(auto, unfolding(crate::specs::Denotes::cpit_denoted))]
-pub fn read_cpit(alloc: Global, n: usize, text: &[u8]) -> Result<Cpit, ReadTextError>
+pub fn read_cpit(alloc: Global, n: usize, text: &[u8]) -> Result<Cpit, OrMemory<TextFault>>
     requires { n ≤ MAX_BLOCKS }
-    ensures denoted { Reads result (cpit_denoted n text.now) }
+    ensures denoted { Gives (λ x. x) result (cpit_denoted n text.now) }
     ensures blocks { IfOk result (λ cpit. length cpit.values ≡ n) }
 {
     let model = match read_model(alloc, Problem::Cpit, n, text) {
         Ok(model) => model,
-        Err(error) => return Err(error.in_file(TextFile::Cpit)),
+        Err(error) => return Err(in_file(error, TextFile::Cpit)),
     };
     Ok(model.into_cpit()?)
 }

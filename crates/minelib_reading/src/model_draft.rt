@@ -12,8 +12,8 @@ ghost use Rattle.mine_instance.specs.Order.{coef_comes_before};
 ghost use Rattle.minelib_reading.specs.declared.model_key.HeaderKey.TheVariants as key;
 ghost use Rattle.minelib_reading.specs.declared.model_key.Section.TheVariants as Section;
 ghost use Rattle.text_lines.specs.declared.text_fault.TextKind.TheVariants as TextKind;
-ghost use Rattle.text_lines.specs.Reading.{Admits};
-ghost use Rattle.text_lines.specs.inner.Taken.{Gives};
+ghost use Rattle.pit_units.specs.OrMemory.{Gives};
+ghost use Rattle.text_lines.specs.Reading.{Leaves};
 ghost use Rattle.text_lines.specs.TextLines.{fields_of};
 ghost use Rattle.pit_parts.specs.Name.{is_name};
 ghost use Rattle.pit_parts.specs.declared.ranges.TheConstants.{MAX_BLOCKS};
@@ -35,12 +35,11 @@ use mine_instance::values::Values;
 use minelib_lines::problem::Problem;
 use pit_parts::limit::Limit;
 use pit_parts::name::Name;
-use pit_units::Dec;
+use pit_units::{Dec, OrMemory};
 use precedence::TakePreds;
 use std::alloc::{AllocError, Global};
 use std::marker::Model;
 use text_lines::line_by_line::Admit;
-use text_lines::read_errors::{FileError, LineError};
 use text_lines::text_fault::{LineFault, TextKind};
 use text_lines::text_fields::count_fields;
 
@@ -75,7 +74,7 @@ impl Model for ModelDraft {
 impl Admit for ModelDraft {
     ghost admit_line = { admit_model };
 
-    fn admit(&mut self, line: &[u8]) -> Result<(), LineError> {
+    fn admit(&mut self, line: &[u8]) -> Result<(), OrMemory<TextKind>> {
         match self.section {
             Section::Objective => self.admit_in_objective(line),
             Section::Coefs => self.admit_in_coefs(line),
@@ -105,13 +104,13 @@ impl ModelDraft {
     }
 
     /// The draft, once all lines are read and `end` is the number of the line after the last.
-    pub fn finish(self, end: u64) -> Result<ModelDraft, FileError>
-        ensures { Gives result (finish_model end self) }
+    pub fn finish(self, end: u64) -> Result<ModelDraft, OrMemory<LineFault>>
+        ensures { Gives (λ x. x) result (finish_model end self) }
     {
         if self.is_whole() {
             Ok(self)
         } else {
-            Err(FileError::Faulty(LineFault {
+            Err(OrMemory::Fault(LineFault {
                 line: end,
                 kind: TextKind::Missing,
             }))
@@ -170,8 +169,8 @@ impl ModelDraft {
 
     #[inline(never)]
     #[tactic(auto, unfolding(crate::specs::inner::ModelParts::admit_model))]
-    fn admit_any(&mut self, line: &[u8]) -> Result<(), LineError>
-        ensures { Admits self.new result (admit_model self.old line.now) }
+    fn admit_any(&mut self, line: &[u8]) -> Result<(), OrMemory<TextKind>>
+        ensures { Leaves self.new result (admit_model self.old line.now) }
     {
         match cut_at_colon(line) {
             Some((word, values)) => self.admit_key(key_of(self.problem, word), values),
@@ -181,9 +180,9 @@ impl ModelDraft {
 
     // A line below the key of the objective. One that is read as values has no colon, so it is not searched for one.
     #[tactic(auto, unfolding(crate::specs::inner::ModelParts::admit_model), using(crate::proofs::ItemsKeyless::values_keyless, crate::proofs::ModelShapes::values_takes))]
-    fn admit_in_objective(&mut self, line: &[u8]) -> Result<(), LineError>
+    fn admit_in_objective(&mut self, line: &[u8]) -> Result<(), OrMemory<TextKind>>
         requires { self.old.section ≡ Section.Objective }
-        ensures { Admits self.new result (admit_model self.old line.now) }
+        ensures { Leaves self.new result (admit_model self.old line.now) }
     {
         let destinations = self.destinations();
         let before = self.values.len();
@@ -192,15 +191,15 @@ impl ModelDraft {
                 self.values.push(self.row.as_slice())?;
                 Ok(())
             }
-            Err(LineError::Faulty(_)) => self.admit_any(line),
-            Err(LineError::OutOfMemory) => Err(LineError::OutOfMemory),
+            Err(OrMemory::Fault(_)) => self.admit_any(line),
+            Err(OrMemory::OutOfMemory) => Err(OrMemory::OutOfMemory),
         }
     }
 
     // A line below the key of the coefficients. One that is read as a coefficient has no colon, so it is not searched for one.
-    fn admit_in_coefs(&mut self, line: &[u8]) -> Result<(), LineError>
+    fn admit_in_coefs(&mut self, line: &[u8]) -> Result<(), OrMemory<TextKind>>
         requires { self.old.section ≡ Section.Coefs }
-        ensures { Admits self.new result (admit_model self.old line.now) }
+        ensures { Leaves self.new result (admit_model self.old line.now) }
     {
         let destinations = self.destinations();
         let resources = self.resources();
@@ -211,39 +210,39 @@ impl ModelDraft {
     }
 
     #[inline(always)]
-    fn add_coef(&mut self, coef: Coef) -> Result<(), LineError>
+    fn add_coef(&mut self, coef: Coef) -> Result<(), OrMemory<TextKind>>
         requires { is_heading self.old.section ≡ false }
-        ensures { Admits self.new result
+        ensures { Leaves self.new result
             (if is_behind coef_comes_before (last_of self.old.coefs) coef then Ok
             (record self.old { coefs = self.old.coefs ++ coef ∷ [] }) else Err TextKind.Order) }
     {
         if !is_coef_behind(self.coefs.as_slice(), &coef) {
-            return Err(LineError::Faulty(TextKind::Order));
+            return Err(OrMemory::Fault(TextKind::Order));
         }
         self.coefs.push(coef)?;
         Ok(())
     }
 
     #[tactic(auto, using(crate::proofs::ModelShapes::stray_takes))]
-    fn admit_key(&mut self, key: Option<ModelKey>, values: &[u8]) -> Result<(), LineError>
-        ensures { Admits self.new result (takes (keyed_line self.old key (fields_of values.now))) }
+    fn admit_key(&mut self, key: Option<ModelKey>, values: &[u8]) -> Result<(), OrMemory<TextKind>>
+        ensures { Leaves self.new result (takes (keyed_line self.old key (fields_of values.now))) }
     {
         match key {
-            None => Err(LineError::Faulty(TextKind::Key)),
+            None => Err(OrMemory::Fault(TextKind::Key)),
             Some(ModelKey::Header(key)) => self.admit_header(key, values),
             Some(ModelKey::Section(section)) => self.admit_section(section, values),
         }
     }
 
     #[tactic(auto, using(crate::proofs::ModelShapes::header_takes))]
-    fn admit_header(&mut self, key: HeaderKey, values: &[u8]) -> Result<(), LineError>
-        ensures { Admits self.new result (takes (header_line self.old key (fields_of values.now))) }
+    fn admit_header(&mut self, key: HeaderKey, values: &[u8]) -> Result<(), OrMemory<TextKind>>
+        ensures { Leaves self.new result (takes (header_line self.old key (fields_of values.now))) }
     {
         if !is_heading(self.section) {
-            return Err(LineError::Faulty(TextKind::Key));
+            return Err(OrMemory::Fault(TextKind::Key));
         }
         if self.header.is_given(key) {
-            return Err(LineError::Faulty(TextKind::Twice));
+            return Err(OrMemory::Fault(TextKind::Twice));
         }
         let value = only_value(values)?;
         let number = number_in(self.problem, self.blocks, key, value)?;
@@ -253,30 +252,30 @@ impl ModelDraft {
     }
 
     #[tactic(auto, using(crate::proofs::ModelShapes::section_takes))]
-    fn admit_section(&mut self, section: Section, values: &[u8]) -> Result<(), LineError>
-        ensures { Admits self.new result
+    fn admit_section(&mut self, section: Section, values: &[u8]) -> Result<(), OrMemory<TextKind>>
+        ensures { Leaves self.new result
             (takes (section_line self.old section (fields_of values.now))) }
     {
         if !is_next(self.section, section) {
-            return Err(LineError::Faulty(TextKind::Key));
+            return Err(OrMemory::Fault(TextKind::Key));
         }
         if count_fields(values) != 0 {
-            return Err(LineError::Faulty(TextKind::Fields));
+            return Err(OrMemory::Fault(TextKind::Fields));
         }
         if !self.is_ready() {
-            return Err(LineError::Faulty(TextKind::Missing));
+            return Err(OrMemory::Fault(TextKind::Missing));
         }
         self.section = section;
         Ok(())
     }
 
     #[tactic(auto, using(crate::proofs::ModelShapes::stray_takes))]
-    fn admit_item(&mut self, line: &[u8]) -> Result<(), LineError>
-        ensures { Admits self.new result
+    fn admit_item(&mut self, line: &[u8]) -> Result<(), OrMemory<TextKind>>
+        ensures { Leaves self.new result
             (takes (item_line self.old self.old.section (fields_of line.now))) }
     {
         match self.section {
-            Section::Heading => Err(LineError::Faulty(TextKind::Key)),
+            Section::Heading => Err(OrMemory::Fault(TextKind::Key)),
             Section::Objective => self.admit_values(line),
             Section::Coefs => self.admit_coef(line),
             Section::Limits => self.admit_limit(line),
@@ -284,9 +283,9 @@ impl ModelDraft {
     }
 
     #[tactic(auto, using(crate::proofs::ModelShapes::values_takes))]
-    fn admit_values(&mut self, line: &[u8]) -> Result<(), LineError>
+    fn admit_values(&mut self, line: &[u8]) -> Result<(), OrMemory<TextKind>>
         requires { is_heading self.old.section ≡ false }
-        ensures { Admits self.new result (takes (values_line self.old (fields_of line.now))) }
+        ensures { Leaves self.new result (takes (values_line self.old (fields_of line.now))) }
     {
         let destinations = self.destinations();
         let before = self.values.len();
@@ -296,9 +295,9 @@ impl ModelDraft {
     }
 
     #[tactic(auto, using(crate::proofs::ModelShapes::coef_takes))]
-    fn admit_coef(&mut self, line: &[u8]) -> Result<(), LineError>
+    fn admit_coef(&mut self, line: &[u8]) -> Result<(), OrMemory<TextKind>>
         requires { is_heading self.old.section ≡ false }
-        ensures { Admits self.new result (takes (coef_line self.old (fields_of line.now))) }
+        ensures { Leaves self.new result (takes (coef_line self.old (fields_of line.now))) }
     {
         let destinations = self.destinations();
         let resources = self.resources();
@@ -307,14 +306,14 @@ impl ModelDraft {
     }
 
     #[tactic(auto, using(crate::proofs::ModelShapes::limit_takes))]
-    fn admit_limit(&mut self, line: &[u8]) -> Result<(), LineError>
-        ensures { Admits self.new result (takes (limit_line self.old (fields_of line.now))) }
+    fn admit_limit(&mut self, line: &[u8]) -> Result<(), OrMemory<TextKind>>
+        ensures { Leaves self.new result (takes (limit_line self.old (fields_of line.now))) }
     {
         let resources = self.resources();
         let periods = self.periods();
         let limit = limit_of(resources, periods, line)?;
         if limit.bound.is_turned() || !is_limit_behind(self.limits.as_slice(), &limit) {
-            return Err(LineError::Faulty(TextKind::Order));
+            return Err(OrMemory::Fault(TextKind::Order));
         }
         self.limits.push(limit)?;
         Ok(())

@@ -6,7 +6,7 @@ ghost use Rattle.mine_instance.specs.Order.{coef_comes_before};
 ghost use Rattle.text_lines.specs.FieldValues.{Takes, all_by, decimal_in, first_by};
 ghost use Rattle.minelib_reading.specs.ModelLines.{is_behind, last_of};
 ghost use Rattle.minelib_reading.specs.inner.ModelParts.{TakesFirst, uncounted_coef, coef_of, limit_of, values_of};
-ghost use Rattle.text_lines.specs.Reading.{Admits};
+ghost use Rattle.text_lines.specs.Reading.{Leaves};
 ghost use Rattle.minelib_reading.specs.ItemForms.{coef_form};
 ghost use Rattle.text_lines.specs.TextLines.{fields_of};
 ghost use Rattle.text_lines.specs.inner.Taken.{AdmitsCounted};
@@ -17,9 +17,8 @@ use crate::model_keys::is_word;
 use mine_instance::coef::Coef;
 use minelib_lines::problem::Problem;
 use pit_parts::limit::{Bound, Limit};
-use pit_units::Dec;
+use pit_units::{Dec, OrMemory};
 use text_lines::field_values::decimal_in;
-use text_lines::read_errors::LineError;
 use text_lines::text_fault::TextKind;
 use text_lines::text_fields::{
     count_fields, first_millionths, first_whole, has_field, kind_by_count, next_field,
@@ -32,19 +31,19 @@ pub fn values_in(
     before: usize,
     line: &[u8],
     row: &mut Vec<Dec>,
-) -> Result<(), LineError>
-    ensures value { Admits row.new.items result
+) -> Result<(), OrMemory<TextKind>>
+    ensures value { Leaves row.new.items result
         (values_of blocks destinations before (fields_of line.now)) }
     ensures width { OnOk result (length row.new.items ≡ destinations) }
     ensures room { OnOk result (before < blocks) }
 {
     match uncounted_values(blocks, destinations, before, line, row) {
         Ok(()) => Ok(()),
-        Err(LineError::Faulty(kind)) => {
+        Err(OrMemory::Fault(kind)) => {
             let width = usize::from(destinations) + 1;
-            Err(LineError::Faulty(kind_by_count(line, width, kind)))
+            Err(OrMemory::Fault(kind_by_count(line, width, kind)))
         }
-        Err(LineError::OutOfMemory) => Err(LineError::OutOfMemory),
+        Err(OrMemory::OutOfMemory) => Err(OrMemory::OutOfMemory),
     }
 }
 
@@ -56,7 +55,7 @@ pub fn uncounted_values(
     before: usize,
     line: &[u8],
     row: &mut Vec<Dec>,
-) -> Result<(), LineError>
+) -> Result<(), OrMemory<TextKind>>
     ensures value { AdmitsCounted (length (fields_of line.now) ≡ destinations + 1) row.new.items
         result (values_of blocks destinations before (fields_of line.now)) }
     ensures width { OnOk result (length row.new.items ≡ destinations) }
@@ -65,13 +64,13 @@ pub fn uncounted_values(
     let (b, values) = first_whole(line, blocks as u64)?;
     read_decimals(values, usize::from(destinations), row)?;
     if b != before as u64 {
-        return Err(LineError::Faulty(TextKind::Order));
+        return Err(OrMemory::Fault(TextKind::Order));
     }
     Ok(())
 }
 
 // All decimals of a line of so many fields.
-fn read_decimals(line: &[u8], count: usize, row: &mut Vec<Dec>) -> Result<(), LineError>
+fn read_decimals(line: &[u8], count: usize, row: &mut Vec<Dec>) -> Result<(), OrMemory<TextKind>>
     ensures value { AdmitsCounted (length (fields_of line.now) ≡ count) row.new.items result
         (all_by decimal_in [] (fields_of line.now)) }
     ensures width { OnOk result (length row.new.items ≡ count) }
@@ -84,7 +83,7 @@ fn read_decimals(line: &[u8], count: usize, row: &mut Vec<Dec>) -> Result<(), Li
         rest = behind;
     }
     if has_field(rest) {
-        return Err(LineError::Faulty(TextKind::Fields));
+        return Err(OrMemory::Fault(TextKind::Fields));
     }
     Ok(())
 }

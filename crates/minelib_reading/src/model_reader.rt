@@ -2,14 +2,15 @@
 
 ghost use Rattle.std.specs.Prelude.{◌≤◌};
 ghost use Rattle.minelib_reading.specs.ModelLines.{model_in};
-ghost use Rattle.text_lines.specs.inner.Taken.{Gives};
+ghost use Rattle.pit_units.specs.OrMemory.{Gives};
 ghost use Rattle.pit_parts.specs.declared.ranges.TheConstants.{MAX_BLOCKS};
 
 use crate::model_draft::ModelDraft;
 use minelib_lines::problem::Problem;
+use pit_units::OrMemory;
 use std::alloc::Global;
 use text_lines::line_by_line::read_lines;
-use text_lines::read_errors::FileError;
+use text_lines::text_fault::LineFault;
 
 /// What the model file of a problem states, of so many blocks.
 #[tactic(auto, using(crate::proofs::ModelShapes::lines_are_all))]
@@ -18,9 +19,9 @@ pub fn read_model(
     problem: Problem,
     blocks: usize,
     text: &[u8],
-) -> Result<ModelDraft, FileError>
+) -> Result<ModelDraft, OrMemory<LineFault>>
     requires { blocks ≤ MAX_BLOCKS }
-    ensures { Gives result (model_in problem blocks text.now) }
+    ensures { Gives (λ x. x) result (model_in problem blocks text.now) }
 {
     let mut draft = ModelDraft::new(alloc, problem, blocks);
     let end = read_lines(&mut draft, text)?;

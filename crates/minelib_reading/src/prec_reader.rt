@@ -4,17 +4,17 @@ ghost use Rattle.std.specs.Prelude.{◌≡◌, ◌<◌, ◌≤◌, [], All, IfOk
 ghost use Rattle.text_lines.specs.FieldValues.{all_by, whole_in};
 ghost use Rattle.minelib_reading.specs.inner.LinesTaken.{admit_preds, no_lists, uncounted_preds, preds_said};
 ghost use Rattle.minelib_reading.specs.PrecLines.{finish_preds, preds_in, stands_in};
-ghost use Rattle.text_lines.specs.Reading.{Admits};
-ghost use Rattle.minelib_reading.specs.inner.ReadAs.{GivesAs};
+ghost use Rattle.pit_units.specs.OrMemory.{Gives};
+ghost use Rattle.text_lines.specs.Reading.{Leaves};
 ghost use Rattle.text_lines.specs.TextLines.{fields_of};
 ghost use Rattle.pit_parts.specs.declared.ranges.TheConstants.{MAX_BLOCKS};
 
 use crate::marks::Marks;
+use pit_units::OrMemory;
 use precedence::TakePreds;
 use std::alloc::{AllocError, Global};
 use std::marker::Model;
 use text_lines::line_by_line::{Admit, read_lines};
-use text_lines::read_errors::{FileError, LineError};
 use text_lines::text_fault::{LineFault, TextKind};
 use text_lines::text_fields::{first_whole, has_field, lacks_two_fields};
 
@@ -38,7 +38,7 @@ impl<P: TakePreds> Model for PrecDraft<P> {
 impl<P: TakePreds> Admit for PrecDraft<P> {
     ghost admit_line = { admit_preds };
 
-    fn admit(&mut self, line: &[u8]) -> Result<(), LineError> {
+    fn admit(&mut self, line: &[u8]) -> Result<(), OrMemory<TextKind>> {
         preds_of(line, self.preds.count(), &mut self.ids, &mut self.marks)?;
         self.preds.take(&self.ids)?;
         Ok(())
@@ -52,15 +52,15 @@ fn preds_of(
     before: usize,
     ids: &mut Vec<u32>,
     marks: &mut Marks,
-) -> Result<(), LineError>
-    ensures value { Admits ids.new.items result (preds_said marks.old before line.now) }
+) -> Result<(), OrMemory<TextKind>>
+    ensures value { Leaves ids.new.items result (preds_said marks.old before line.now) }
     ensures kept { marks.new ≡ marks.old }
     ensures few { OnOk result ((before < MAX_BLOCKS) × (length ids.new.items ≤ MAX_BLOCKS)) }
 {
     match uncounted_preds(line, before, ids, marks) {
         Ok(()) => Ok(()),
-        Err(LineError::Faulty(_)) if lacks_two_fields(line) => {
-            Err(LineError::Faulty(TextKind::Fields))
+        Err(OrMemory::Fault(_)) if lacks_two_fields(line) => {
+            Err(OrMemory::Fault(TextKind::Fields))
         }
         Err(error) => Err(error),
     }
@@ -73,8 +73,8 @@ fn uncounted_preds(
     before: usize,
     ids: &mut Vec<u32>,
     marks: &mut Marks,
-) -> Result<(), LineError>
-    ensures value { Admits ids.new.items result (uncounted_preds marks.old before line.now) }
+) -> Result<(), OrMemory<TextKind>>
+    ensures value { Leaves ids.new.items result (uncounted_preds marks.old before line.now) }
     ensures kept { marks.new ≡ marks.old }
     ensures few { OnOk result ((before < MAX_BLOCKS) × (length ids.new.items ≤ MAX_BLOCKS)) }
 {
@@ -83,21 +83,21 @@ fn uncounted_preds(
     let (stated, behind_stated) = first_whole(behind_id, blocks as u64)?;
     read_ids(behind_stated, blocks, ids)?;
     if id != before as u64 {
-        return Err(LineError::Faulty(TextKind::Order));
+        return Err(OrMemory::Fault(TextKind::Order));
     }
     if stated != ids.len() as u64 {
-        return Err(LineError::Faulty(TextKind::Count));
+        return Err(OrMemory::Fault(TextKind::Count));
     }
     if stands_in(ids, before as u32) || !marks.all_differ(ids) {
-        return Err(LineError::Faulty(TextKind::Twice));
+        return Err(OrMemory::Fault(TextKind::Twice));
     }
     Ok(())
 }
 
 // All identifiers of a line, of so many blocks.
-fn read_ids(line: &[u8], blocks: usize, ids: &mut Vec<u32>) -> Result<(), LineError>
+fn read_ids(line: &[u8], blocks: usize, ids: &mut Vec<u32>) -> Result<(), OrMemory<TextKind>>
     requires { blocks ≤ MAX_BLOCKS }
-    ensures value { Admits ids.new.items result (all_by (whole_in blocks) [] (fields_of line.now)) }
+    ensures value { Leaves ids.new.items result (all_by (whole_in blocks) [] (fields_of line.now)) }
     ensures below { OnOk result (All (λ id. id < blocks) ids.new.items) }
 {
     ids.clear();
@@ -130,13 +130,13 @@ impl<P: TakePreds + Drop> PrecDraft<P> {
     }
 
     // The lists, once all lines are read and `end` is the number of the line after the last.
-    fn finish(self, end: u64) -> Result<P, FileError>
-        ensures { GivesAs P.lists result (finish_preds self.blocks end self.lists) }
+    fn finish(self, end: u64) -> Result<P, OrMemory<LineFault>>
+        ensures { Gives P.lists result (finish_preds self.blocks end self.lists) }
     {
         if self.preds.count() == self.marks.len() {
             Ok(self.preds)
         } else {
-            Err(FileError::Faulty(LineFault {
+            Err(OrMemory::Fault(LineFault {
                 line: end,
                 kind: TextKind::Missing,
             }))
@@ -151,10 +151,10 @@ pub fn read_preds<P: TakePreds + Drop>(
     blocks: usize,
     none: P,
     text: &[u8],
-) -> Result<P, FileError>
+) -> Result<P, OrMemory<LineFault>>
     requires none { P.lists none ≡ [] }
     requires few { blocks ≤ MAX_BLOCKS }
-    ensures { GivesAs P.lists result (preds_in blocks text.now) }
+    ensures { Gives P.lists result (preds_in blocks text.now) }
 {
     let mut draft = PrecDraft::new(alloc, none, blocks)?;
     let end = read_lines(&mut draft, text)?;

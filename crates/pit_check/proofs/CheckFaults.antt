@@ -2,9 +2,10 @@
 use Rattle.std.proofs.Common.{◌≡◌, ◌≢◌, ℕ, List, Option, Result, inl, inr, sym, subst, Err}
 use Rattle.pit_edge.proofs.Ends.{ends_same}
 use Rattle.pit_edge.specs.FaultLine.{EndsWith}
-use Rattle.text_lines.specs.Reading.{Reads}
-use Rattle.text_lines.specs.declared.text_fault.ReadTextError.{ReadTextError}
-use Rattle.text_lines.specs.declared.text_fault.ReadTextError.TheVariants as text_error
+use Rattle.pit_units.specs.OrMemory.{Gives}
+use Rattle.pit_units.specs.declared.or_memory.OrMemory.{OrMemory}
+use Rattle.pit_units.specs.declared.or_memory.OrMemory.TheVariants.{Fault, OutOfMemory}
+use Rattle.text_lines.specs.declared.text_fault.TextFault.{TextFault}
 use Rattle.text_lines.specs.declared.text_fault.TextFile.{TextFile}
 use Rattle.pit_check.specs.CheckFault.{IsCheckStatus, IsFound, TellsFault, fault_of_text, status_of_fault}
 use Rattle.pit_check.specs.inner.CheckSteps.{AreTexts, EndsCheck, IsFaultOf, IsFaultOfTexts, IsFoundIn, IsTooLong}
@@ -35,10 +36,10 @@ module _ {F : Type 0} (opens : List ℕ → Result F FeedFault → Type 0) (left
   found (check_fault.Text fault) h = (h.0, h.2)
   found check_fault.OutOfMemory h = _
 
-pub told_of_texts : (texts : Texts) (error : ReadTextError) (fault : CheckFault) → fault ≡ fault_of_text error
-    → Reads {A = Counts} (Err error) (counted texts) → IsFaultOfTexts texts fault
-told_of_texts texts (text_error.Fault found) fault e reads = subst (IsFaultOfTexts texts) (sym e) reads
-told_of_texts texts text_error.OutOfMemory fault e reads = subst (IsFaultOfTexts texts) (sym e) _
+pub told_of_texts : (texts : Texts) (error : OrMemory TextFault) (fault : CheckFault) → fault ≡ fault_of_text error
+    → Gives {A = Counts} (λ x. x) (Err error) (counted texts) → IsFaultOfTexts texts fault
+told_of_texts texts (Fault found) fault e reads = subst (IsFaultOfTexts texts) (sym e) reads
+told_of_texts texts OutOfMemory fault e reads = subst (IsFaultOfTexts texts) (sym e) _
 
 pub no_memory_told : (texts : Texts) (fault : CheckFault) → fault ≡ check_fault.OutOfMemory → IsFaultOfTexts texts fault
 no_memory_told texts fault e = subst (IsFaultOfTexts texts) (sym e) _

@@ -1,8 +1,9 @@
 -- The faults of a check: the status that a fault ends the program with, and the words that show it.
 use Rattle.std.specs.Prelude.{◌≡◌, ℕ, ◌⊎◌, ◌++◌, List, codes, Err}
 use Rattle.text_lines.specs.FaultText.{fault_text, file_name}
-use Rattle.text_lines.specs.declared.text_fault.ReadTextError.{ReadTextError}
-use Rattle.text_lines.specs.declared.text_fault.ReadTextError.TheVariants as text_error
+use Rattle.pit_units.specs.declared.or_memory.OrMemory.{OrMemory}
+use Rattle.pit_units.specs.declared.or_memory.OrMemory.TheVariants.{Fault, OutOfMemory}
+use Rattle.text_lines.specs.declared.text_fault.TextFault.{TextFault}
 use Rattle.pit_check.specs.Counts.{counted}
 use Rattle.pit_edge.specs.FaultLine.{line_of}
 use Rattle.pit_check.specs.declared.check_fault.CheckFault.{CheckFault}
@@ -10,9 +11,9 @@ use Rattle.pit_check.specs.declared.check_fault.CheckFault.TheVariants as check_
 use Rattle.pit_check.specs.declared.counts.Texts.{Texts}
 
 -- the text's own fault, or want of memory
-abbrev pub fault_of_text : ReadTextError → CheckFault
-fault_of_text (text_error.Fault fault) = check_fault.Text fault
-fault_of_text text_error.OutOfMemory = check_fault.OutOfMemory
+abbrev pub fault_of_text : OrMemory TextFault → CheckFault
+fault_of_text (Fault fault) = check_fault.Text fault
+fault_of_text OutOfMemory = check_fault.OutOfMemory
 
 -- 1 for a text that is refused or too long, 3 for a file that cannot be read, 4 for want of memory
 abbrev pub status_of_fault : CheckFault → ℕ

@@ -1,8 +1,9 @@
 //! Why the files of an instance are refused.
 
+use pit_units::OrMemory;
 use std::alloc::AllocError;
 use std::fmt;
-use text_lines::text_fault::{ReadTextError, TextFault, TextFile};
+use text_lines::text_fault::{TextFault, TextFile};
 use thiserror::Error;
 
 /// Why the files of an instance are refused.
@@ -45,16 +46,16 @@ impl From<AllocError> for CheckFault {
     }
 }
 
-impl From<ReadTextError> for CheckFault {
+impl From<OrMemory<TextFault>> for CheckFault {
     ghost use Rattle.std.specs.Prelude.{◌≡◌};
     ghost use Rattle.pit_check.specs.CheckFault.{fault_of_text};
 
     ghost from_gives = { λ error fault. fault ≡ fault_of_text error };
 
-    fn from(error: ReadTextError) -> CheckFault {
+    fn from(error: OrMemory<TextFault>) -> CheckFault {
         match error {
-            ReadTextError::Fault(fault) => CheckFault::Text(fault),
-            ReadTextError::OutOfMemory => CheckFault::OutOfMemory,
+            OrMemory::Fault(fault) => CheckFault::Text(fault),
+            OrMemory::OutOfMemory => CheckFault::OutOfMemory,
         }
     }
 }

@@ -1,15 +1,16 @@
 //! The counts of the texts of an instance.
 
 ghost use Rattle.std.specs.Prelude.{◌≤◌};
-ghost use Rattle.text_lines.specs.Reading.{Reads};
+ghost use Rattle.pit_units.specs.OrMemory.{Gives};
 ghost use Rattle.pit_check.specs.Counts.{counted, cpit_counted};
 ghost use Rattle.pit_parts.specs.declared.ranges.TheConstants.{MAX_BLOCKS};
 
 use minelib_reading::laws::read_is_valid;
 use minelib_reading::{read_counted, read_cpit};
+use pit_units::OrMemory;
 use std::alloc::Global;
 use std::fmt;
-use text_lines::text_fault::ReadTextError;
+use text_lines::text_fault::TextFault;
 
 /// The counts of an instance, shown as the line that the program prints of them.
 #[derive(Clone, Copy, Debug, PartialEq, Eq)]
@@ -67,8 +68,8 @@ impl Texts {
     ///   then of the constrained pit limit problem.
     /// - `OutOfMemory`: memory was refused.
     #[tactic(auto, unfolding(crate::specs::Counts::counted))]
-    pub fn counts(&self, alloc: Global) -> Result<Counts, ReadTextError>
-        ensures { Reads result (counted self.now) }
+    pub fn counts(&self, alloc: Global) -> Result<Counts, OrMemory<TextFault>>
+        ensures { Gives (λ x. x) result (counted self.now) }
     {
         read_is_valid();
         let instance = read_counted(
@@ -95,9 +96,9 @@ fn cpit_count(
     alloc: Global,
     n: usize,
     text: &Option<Vec<u8>>,
-) -> Result<Option<usize>, ReadTextError>
+) -> Result<Option<usize>, OrMemory<TextFault>>
     requires { n ≤ MAX_BLOCKS }
-    ensures { Reads result (cpit_counted n text.now) }
+    ensures { Gives (λ x. x) result (cpit_counted n text.now) }
 {
     let Some(text) = text else {
         return Ok(None);

@@ -9,7 +9,7 @@ ghost use Rattle.pit_compile.specs.Verdict.{IsRowAt};
 ghost use Rattle.pit_parts.specs.declared.ranges.TheConstants.{MAX_BLOCKS};
 
 use crate::refusal::{Refusal, RowAt};
-use precedence::{NumberError, Numbering, number_blocks};
+use precedence::{NumberFault, Numbering, number_blocks};
 use rows::RowLists;
 use std::alloc::Global;
 
@@ -28,11 +28,11 @@ pub fn numbered(alloc: Global, rows: &RowLists) -> Result<Numbering, Refusal>
     let blocks = rows.blocks(alloc)?;
     match number_blocks(alloc, blocks.as_slice()) {
         Ok(numbering) => Ok(numbering),
-        Err(NumberError::Same { first, again }) => Err(Refusal::Same {
+        Err(NumberFault::Same { first, again }) => Err(Refusal::Same {
             first: row_at(rows, first),
             again: row_at(rows, again),
         }),
-        Err(NumberError::OutOfMemory) => Err(Refusal::OutOfMemory),
+        Err(NumberFault::OutOfMemory) => Err(Refusal::OutOfMemory),
     }
 }
 

@@ -7,9 +7,9 @@ ghost use Rattle.pit_parts.specs.declared.ranges.TheConstants.{MAX_PLAN_BYTES};
 
 use crate::status::{REFUSED, RESOURCES};
 use pit_model::plan::Plan;
-use pit_model::plan_fault::ReadPlanError;
 use pit_model::ranges::MAX_PLAN_BYTES;
 use pit_model::read_plan;
+use pit_units::OrMemory;
 use std::alloc::{AllocError, Global};
 
 /// The plan that a text states; or the status of its refusal, with the line of the fault appended to `lines`.
@@ -29,13 +29,13 @@ pub fn plan_from(alloc: Global, text: &[u8], lines: &mut Vec<u8>) -> Result<Plan
     }
     match read_plan(alloc, text) {
         Ok(plan) => Ok(plan),
-        Err(ReadPlanError::Fault(fault)) => {
+        Err(OrMemory::Fault(fault)) => {
             let Ok(words) = format!(in alloc; "{fault}") else {
                 return Err(RESOURCES);
             };
             Err(refuse_with(alloc, words.as_str(), REFUSED, lines))
         }
-        Err(ReadPlanError::OutOfMemory) => Err(RESOURCES),
+        Err(OrMemory::OutOfMemory) => Err(RESOURCES),
     }
 }
 

@@ -5,18 +5,18 @@ use Rattle.forms.specs.Grammar.{placed, read_all}
 use Rattle.forms.specs.Shape.{said}
 use Rattle.forms.specs.Steps.{◌>>=◌}
 use Rattle.records.specs.RecordCells.{cells_of}
-use Rattle.pit_model.specs.inner.Admits.{AdmitsRecord}
 use Rattle.pit_model.specs.inner.ByPlace.{record_said}
 use Rattle.pit_parts.specs.Plan.{PlanParts}
 use Rattle.pit_model.specs.PlanShapes.{record_shape}
-use Rattle.pit_model.specs.Planned.{Reads, finished, finished_at, plan_grammar, planned}
+use Rattle.pit_model.specs.Planned.{finished, finished_at, plan_grammar, planned}
 use Rattle.records.specs.RecordReader.{RecordReaderView, Rows, Over, GaveUp, TakesRow}
 use Rattle.records.specs.Records.{records_of}
 use Rattle.pit_model.specs.Stated.{Stated, nothing_stated}
 use Rattle.pit_model.specs.declared.plan_fault.PlanFault.{PlanFault}
 use Rattle.pit_model.specs.declared.plan_fault.PlanFaultKind.TheVariants.{TooMany}
-use Rattle.pit_model.specs.declared.plan_fault.ReadPlanError.{ReadPlanError}
-use Rattle.pit_model.specs.declared.plan_fault.ReadPlanError.TheVariants as error
+use Rattle.pit_units.specs.OrMemory.{Gives}
+use Rattle.pit_units.specs.declared.or_memory.OrMemory.{OrMemory}
+use Rattle.pit_units.specs.declared.or_memory.OrMemory.TheVariants.{Fault, OutOfMemory}
 
 -- the plan of these records, the first of them of this number
 abbrev pub plan_from : List (List (List ℕ)) → ℕ → Stated → Result PlanParts PlanFault
@@ -86,12 +86,12 @@ admitted E old fields after n s next stated t h states =
     rw p.1.0 (sym (one fields p.0 n s ∙ ap (λ r. r >>= λ x. plan_from p.0 (n + 1) x) states) ∙ p.1.1)
 
 pub refused : (E : Type 0) (old : RecordReaderView) (fields : List (List ℕ))
-    (after : RecordReaderView) (n : ℕ) (s next : Stated) (error : ReadPlanError)
+    (after : RecordReaderView) (n : ℕ) (s next : Stated) (error : OrMemory PlanFault)
     (stated : Result PlanParts PlanFault)
     → TakesRow {E = E} old (Ok true) fields after → Leads old n s stated
-    → AdmitsRecord {A = Unit {0}} next (Err error) (record_said n s fields)
-    → Reads (Err error) stated
-refused E old fields after n s next error.OutOfMemory stated t h fails = tt
-refused E old fields after n s next (error.Fault fault) stated t h fails =
+    → Gives {A = Unit {0}} (λ _. next) (Err error) (record_said n s fields)
+    → Gives {A = PlanParts} (λ plan. plan) (Err error) stated
+refused E old fields after n s next OutOfMemory stated t h fails = tt
+refused E old fields after n s next (Fault fault) stated t h fails =
     let p = took E old fields after n s stated t h in
     sym p.1.1 ∙ one fields p.0 n s ∙ ap (λ r. r >>= λ x. plan_from p.0 (n + 1) x) fails

@@ -14,8 +14,6 @@ use Rattle.pit_parts.specs.declared.grid.Grid.{Grid}
 use Rattle.pit_model.specs.declared.plan_fault.PlanFault.{PlanFault}
 use Rattle.pit_model.specs.declared.plan_fault.PlanFaultKind.{PlanFaultKind}
 use Rattle.pit_model.specs.declared.plan_fault.PlanFaultKind.TheVariants.{Missing, TooMany}
-use Rattle.pit_model.specs.declared.plan_fault.ReadPlanError.{ReadPlanError}
-use Rattle.pit_model.specs.declared.plan_fault.ReadPlanError.TheVariants as plan_error
 use Rattle.pit_parts.specs.declared.ranges.TheConstants.{MAX_PLAN_RECORDS}
 
 -- the record of this number, of at most 10,000
@@ -48,12 +46,6 @@ finished_at number (Err kind) = Err (record { row = number; kind = kind })
 -- the plan that a text states, or the row and kind of its first faulty record; a part is missing one past the last
 abbrev pub planned : List ℕ → Result PlanParts PlanFault
 planned text = read_all plan_grammar 1 nothing_stated (records_of text) >>= λ s. finished_at (length (records_of text) + 1) (finished s)
-
--- reading answers the plan that the text states, or its fault
-abbrev pub Reads : Result PlanParts ReadPlanError → Result PlanParts PlanFault → Type 0
-Reads (Ok plan) stated = stated ≡ Ok plan
-Reads (Err (plan_error.Fault fault)) stated = stated ≡ Err fault
-Reads (Err plan_error.OutOfMemory) stated = Unit {0}
 
 -- the records state the plan
 abbrev pub SpellPlan : List (List (List ℕ)) → PlanParts → Type 0

@@ -1,3 +1,2 @@
-pub mod Admits
 pub mod ByPlace
 pub mod DraftFields

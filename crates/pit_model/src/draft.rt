@@ -2,13 +2,13 @@
 
 ghost use Rattle.std.specs.Prelude.{◌≡◌, ◌≤ℤ◌, ◌<◌, ◌≤◌, pos, length, unwrap_or, All, IfOk};
 ghost use Rattle.csv.specs.Records.{fields_of};
-ghost use Rattle.pit_model.specs.inner.Admits.{Admits};
+ghost use Rattle.pit_units.specs.OrMemory.{Gives};
 ghost use Rattle.records.specs.RecordCells.{cells_of};
 ghost use Rattle.pit_parts.specs.PlanKept.{AreTonnes};
 ghost use Rattle.forms.specs.Field.{Millionths};
 ghost use Rattle.forms.specs.Read.{read_field};
 ghost use Rattle.forms.specs.Shape.{said};
-ghost use Rattle.pit_model.specs.inner.ByPlace.{Gives, covered, key_by_place, limit_in, limited, resource_in, said_by_place, zone_in};
+ghost use Rattle.pit_model.specs.inner.ByPlace.{ReadAs, covered, key_by_place, limit_in, limited, resource_in, said_by_place, zone_in};
 ghost use Rattle.pit_model.specs.PlanCells.{a_rate, plan_kind};
 ghost use Rattle.pit_model.specs.PlanShapes.{grid_shape, name_shape, periods_shape, rate_shape, record_shape};
 ghost use Rattle.pit_model.specs.Planned.{finished};
@@ -18,7 +18,7 @@ ghost use Rattle.pit_parts.specs.declared.ranges.TheConstants.{MAX_RATE};
 use crate::limit_cells::{bound_in, insert_limit, is_limited, limit_width, period_in};
 use crate::named::{covers_in, has_repeat, is_resource, name_in, resource_in};
 use crate::numbers::{number_in, origin_in, size_in, whole_in};
-use crate::plan_fault::{PlanFaultKind, RecordError};
+use crate::plan_fault::PlanFaultKind;
 use crate::plan_key::{PlanKey, key_of};
 use crate::zone_cells::cone_in;
 use csv::ByteRecord;
@@ -30,7 +30,7 @@ use pit_parts::name::Name;
 use pit_parts::plan::{Horizon, Plan};
 use pit_parts::ranges::{MAX_PERIODS, MAX_RATE, MAX_RESOURCES, MAX_ZONES};
 use pit_parts::resource::Resource;
-use pit_units::Dec;
+use pit_units::{Dec, OrMemory};
 use records::cells::{cell_at, cell_count};
 use std::alloc::Global;
 use std::marker::Model;
@@ -85,8 +85,8 @@ impl Draft {
 
     /// Adds what the next record says. Where it has a fault, or memory is refused, the draft is of no use.
     #[tactic(auto, using(crate::proofs::CellsByPlace::recorded))]
-    pub fn admit(&mut self, row: &ByteRecord) -> Result<(), RecordError>
-        ensures { Admits self.new result
+    pub fn admit(&mut self, row: &ByteRecord) -> Result<(), OrMemory<PlanFaultKind>>
+        ensures { Gives (λ _. self.new) result
             (said (record_shape self.old (cells_of (fields_of row.now)))) }
     {
         let count = cell_count(row);
@@ -94,14 +94,19 @@ impl Draft {
             return Ok(());
         }
         match key_of(cell_at(row, 0)) {
-            None => Err(RecordError::Fault(PlanFaultKind::Key)),
+            None => Err(OrMemory::Fault(PlanFaultKind::Key)),
             Some(key) => self.admit_key(key, row, count),
         }
     }
 
-    fn admit_key(&mut self, key: PlanKey, row: &ByteRecord, count: usize) -> Result<(), RecordError>
+    fn admit_key(
+        &mut self,
+        key: PlanKey,
+        row: &ByteRecord,
+        count: usize,
+    ) -> Result<(), OrMemory<PlanFaultKind>>
         requires { count ≡ length (cells_of (fields_of row.now)) }
-        ensures { Admits self.new result
+        ensures { Gives (λ _. self.new) result
             (key_by_place self.old key (cells_of (fields_of row.now))) }
     {
         match key {
@@ -142,32 +147,32 @@ impl Draft {
         ))
     }
 
-    fn admit_name(&mut self, row: &ByteRecord, count: usize) -> Result<(), RecordError>
+    fn admit_name(&mut self, row: &ByteRecord, count: usize) -> Result<(), OrMemory<PlanFaultKind>>
         requires { count ≡ length (cells_of (fields_of row.now)) }
-        ensures { Admits self.new result
+        ensures { Gives (λ _. self.new) result
             (said_by_place (cells_of (fields_of row.now))
             (name_shape self.old (cells_of (fields_of row.now)))) }
     {
         if count != 2 {
-            return Err(RecordError::Fault(PlanFaultKind::Width));
+            return Err(OrMemory::Fault(PlanFaultKind::Width));
         }
         let name = name_in(self.alloc, cell_at(row, 1))?;
         if self.name.is_some() {
-            return Err(RecordError::Fault(PlanFaultKind::Twice));
+            return Err(OrMemory::Fault(PlanFaultKind::Twice));
         }
         self.name = Some(name);
         Ok(())
     }
 
     #[tactic(auto, using(crate::proofs::CellsByPlace::grid_said))]
-    fn admit_grid(&mut self, row: &ByteRecord, count: usize) -> Result<(), RecordError>
+    fn admit_grid(&mut self, row: &ByteRecord, count: usize) -> Result<(), OrMemory<PlanFaultKind>>
         requires { count ≡ length (cells_of (fields_of row.now)) }
-        ensures { Admits self.new result
+        ensures { Gives (λ _. self.new) result
             (said_by_place (cells_of (fields_of row.now))
             (grid_shape self.old (cells_of (fields_of row.now)))) }
     {
         if count != 7 {
-            return Err(RecordError::Fault(PlanFaultKind::Width));
+            return Err(OrMemory::Fault(PlanFaultKind::Width));
         }
         let x = origin_in(cell_at(row, 1))?;
         let y = origin_in(cell_at(row, 2))?;
@@ -176,7 +181,7 @@ impl Draft {
         let along_y = size_in(cell_at(row, 5))?;
         let along_z = size_in(cell_at(row, 6))?;
         if self.grid.is_some() {
-            return Err(RecordError::Fault(PlanFaultKind::Twice));
+            return Err(OrMemory::Fault(PlanFaultKind::Twice));
         }
         self.grid = Some(Grid {
             x: Axis {
@@ -195,54 +200,59 @@ impl Draft {
         Ok(())
     }
 
-    fn admit_zone(&mut self, row: &ByteRecord, count: usize) -> Result<(), RecordError>
+    fn admit_zone(&mut self, row: &ByteRecord, count: usize) -> Result<(), OrMemory<PlanFaultKind>>
         requires { count ≡ length (cells_of (fields_of row.now)) }
-        ensures { Admits self.new result (zone_in self.old (cells_of (fields_of row.now))) }
+        ensures { Gives (λ _. self.new) result (zone_in self.old (cells_of (fields_of row.now))) }
     {
         let cone = cone_in(row, count)?;
         if self.cones.len() == MAX_ZONES as usize {
-            return Err(RecordError::Fault(PlanFaultKind::TooMany));
+            return Err(OrMemory::Fault(PlanFaultKind::TooMany));
         }
         self.cones.push(cone)?;
         Ok(())
     }
 
-    fn admit_resource(&mut self, row: &ByteRecord, count: usize) -> Result<(), RecordError>
+    fn admit_resource(
+        &mut self,
+        row: &ByteRecord,
+        count: usize,
+    ) -> Result<(), OrMemory<PlanFaultKind>>
         requires { count ≡ length (cells_of (fields_of row.now)) }
-        ensures { Admits self.new result (resource_in self.old (cells_of (fields_of row.now))) }
+        ensures { Gives (λ _. self.new) result
+            (resource_in self.old (cells_of (fields_of row.now))) }
     {
         if count < 3 {
-            return Err(RecordError::Fault(PlanFaultKind::Width));
+            return Err(OrMemory::Fault(PlanFaultKind::Width));
         }
         let name = name_in(self.alloc, cell_at(row, 1))?;
         let covers = covers_in(self.alloc, row, count, self.formulas.as_slice())?;
         self.add_resource(Resource { name, covers })
     }
 
-    fn add_resource(&mut self, resource: Resource) -> Result<(), RecordError>
+    fn add_resource(&mut self, resource: Resource) -> Result<(), OrMemory<PlanFaultKind>>
         requires there { All (λ n. n < length self.old.formulas) resource.covers }
         requires some { 1 ≤ length resource.covers }
-        ensures { Admits self.new result (covered self.old resource.name resource.covers) }
+        ensures { Gives (λ _. self.new) result (covered self.old resource.name resource.covers) }
     {
         if is_resource(self.resources.as_slice(), resource.name.as_str().as_bytes())
             || has_repeat(resource.covers.as_slice())
         {
-            return Err(RecordError::Fault(PlanFaultKind::Twice));
+            return Err(OrMemory::Fault(PlanFaultKind::Twice));
         }
         if self.resources.len() == MAX_RESOURCES as usize {
-            return Err(RecordError::Fault(PlanFaultKind::TooMany));
+            return Err(OrMemory::Fault(PlanFaultKind::TooMany));
         }
         self.resources.push(resource)?;
         Ok(())
     }
 
     #[tactic(auto, using(crate::proofs::CellsByPlace::limit_said))]
-    fn admit_limit(&mut self, row: &ByteRecord, count: usize) -> Result<(), RecordError>
+    fn admit_limit(&mut self, row: &ByteRecord, count: usize) -> Result<(), OrMemory<PlanFaultKind>>
         requires { count ≡ length (cells_of (fields_of row.now)) }
-        ensures { Admits self.new result (limit_in self.old (cells_of (fields_of row.now))) }
+        ensures { Gives (λ _. self.new) result (limit_in self.old (cells_of (fields_of row.now))) }
     {
         if count != limit_width(row) {
-            return Err(RecordError::Fault(PlanFaultKind::Width));
+            return Err(OrMemory::Fault(PlanFaultKind::Width));
         }
         let resource = resource_in(self.resources.as_slice(), cell_at(row, 1))?;
         let period = period_in(self.periods.unwrap_or(0), cell_at(row, 2))?;
@@ -254,52 +264,56 @@ impl Draft {
         })
     }
 
-    fn add_limit(&mut self, limit: Limit) -> Result<(), RecordError>
+    fn add_limit(&mut self, limit: Limit) -> Result<(), OrMemory<PlanFaultKind>>
         requires resource { limit.resource < length self.old.resources }
         requires period { limit.period < unwrap_or self.old.periods 0 }
         requires tonnes { AreTonnes limit.bound }
-        ensures { Admits self.new result (limited self.old limit) }
+        ensures { Gives (λ _. self.new) result (limited self.old limit) }
     {
         if is_limited(self.limits.as_slice(), &limit) {
-            return Err(RecordError::Fault(PlanFaultKind::Twice));
+            return Err(OrMemory::Fault(PlanFaultKind::Twice));
         }
         if limit.bound.is_turned() {
-            return Err(RecordError::Fault(PlanFaultKind::Order));
+            return Err(OrMemory::Fault(PlanFaultKind::Order));
         }
         insert_limit(&mut self.limits, limit)?;
         Ok(())
     }
 
     #[tactic(auto, using(crate::proofs::CellsByPlace::quotient))]
-    fn admit_periods(&mut self, row: &ByteRecord, count: usize) -> Result<(), RecordError>
+    fn admit_periods(
+        &mut self,
+        row: &ByteRecord,
+        count: usize,
+    ) -> Result<(), OrMemory<PlanFaultKind>>
         requires { count ≡ length (cells_of (fields_of row.now)) }
-        ensures { Admits self.new result
+        ensures { Gives (λ _. self.new) result
             (said_by_place (cells_of (fields_of row.now))
             (periods_shape self.old (cells_of (fields_of row.now)))) }
     {
         if count != 2 {
-            return Err(RecordError::Fault(PlanFaultKind::Width));
+            return Err(OrMemory::Fault(PlanFaultKind::Width));
         }
         let periods = whole_in(cell_at(row, 1), 1, MAX_PERIODS)?;
         if self.periods.is_some() {
-            return Err(RecordError::Fault(PlanFaultKind::Twice));
+            return Err(OrMemory::Fault(PlanFaultKind::Twice));
         }
         self.periods = Some(periods as u8);
         Ok(())
     }
 
-    fn admit_rate(&mut self, row: &ByteRecord, count: usize) -> Result<(), RecordError>
+    fn admit_rate(&mut self, row: &ByteRecord, count: usize) -> Result<(), OrMemory<PlanFaultKind>>
         requires { count ≡ length (cells_of (fields_of row.now)) }
-        ensures { Admits self.new result
+        ensures { Gives (λ _. self.new) result
             (said_by_place (cells_of (fields_of row.now))
             (rate_shape self.old (cells_of (fields_of row.now)))) }
     {
         if count != 2 {
-            return Err(RecordError::Fault(PlanFaultKind::Width));
+            return Err(OrMemory::Fault(PlanFaultKind::Width));
         }
         let rate = rate_in(cell_at(row, 1))?;
         if self.rate.is_some() {
-            return Err(RecordError::Fault(PlanFaultKind::Twice));
+            return Err(OrMemory::Fault(PlanFaultKind::Twice));
         }
         self.rate = Some(rate);
         Ok(())
@@ -308,7 +322,7 @@ impl Draft {
 
 // The discount rate that a cell states.
 fn rate_in(cell: &[u8]) -> Result<Dec, PlanFaultKind>
-    ensures value { Gives Millionths result (read_field plan_kind a_rate cell.now) }
+    ensures value { ReadAs Millionths result (read_field plan_kind a_rate cell.now) }
     ensures in_range { IfOk result (λ r. (pos 0 ≤ℤ r) × (r ≤ℤ MAX_RATE)) }
 {
     let millionths = number_in(cell, 6, 0, MAX_RATE)?;

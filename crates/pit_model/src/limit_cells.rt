@@ -7,18 +7,18 @@ ghost use Rattle.records.specs.RecordCells.{cells_of};
 ghost use Rattle.pit_parts.specs.PlanKept.{AreTonnes, stands_before};
 ghost use Rattle.forms.specs.Field.{Millionths, below, whole};
 ghost use Rattle.forms.specs.Read.{read_field};
-ghost use Rattle.pit_model.specs.inner.ByPlace.{Gives, bound_in};
+ghost use Rattle.pit_model.specs.inner.ByPlace.{ReadAs, bound_in};
 ghost use Rattle.pit_model.specs.PlanCells.{a_bound, plan_kind};
 ghost use Rattle.pit_model.specs.PlanShapes.{bound_form, is_interval};
 ghost use Rattle.pit_model.specs.Stated.{is_same_place, with_limit};
 ghost use Rattle.pit_parts.specs.declared.ranges.TheConstants.{MAX_TONNES};
 
 use crate::numbers::number_in;
-use crate::plan_fault::{PlanFaultKind, RecordError};
+use crate::plan_fault::PlanFaultKind;
 use csv::ByteRecord;
 use pit_parts::limit::{Bound, Limit};
 use pit_parts::ranges::MAX_TONNES;
-use pit_units::Dec;
+use pit_units::{Dec, OrMemory};
 use records::cells::cell_at;
 
 fn is_letter(cell: &[u8], letter: &[u8]) -> bool
@@ -41,7 +41,7 @@ pub fn limit_width(row: &ByteRecord) -> usize
 /// The number of a period, of which there are so many.
 #[tactic(auto, using(crate::proofs::CellsByPlace::below_read))]
 pub fn period_in(periods: u8, cell: &[u8]) -> Result<u8, PlanFaultKind>
-    ensures value { Gives whole result (read_field plan_kind (below periods) cell.now) }
+    ensures value { ReadAs whole result (read_field plan_kind (below periods) cell.now) }
     ensures there { IfOk result (λ n. n < periods) }
 {
     let millionths = number_in(cell, 0, 0, periods as i128 * 1_000_000 - 1)?;
@@ -49,7 +49,7 @@ pub fn period_in(periods: u8, cell: &[u8]) -> Result<u8, PlanFaultKind>
 }
 
 fn tonnes_in(cell: &[u8]) -> Result<Dec, PlanFaultKind>
-    ensures value { Gives Millionths result (read_field plan_kind a_bound cell.now) }
+    ensures value { ReadAs Millionths result (read_field plan_kind a_bound cell.now) }
     ensures in_range { IfOk result (λ v. (pos 0 ≤ℤ v) × (v ≤ℤ MAX_TONNES)) }
 {
     let millionths = number_in(cell, 6, 0, MAX_TONNES)?;
@@ -106,9 +106,9 @@ fn first_after(limits: &[Limit], limit: &Limit) -> Option<usize>
 
 /// Adds a limit in its place. Where memory is refused the limits are as they were.
 #[tactic(auto, using(crate::proofs::Limits::inserted))]
-pub fn insert_limit(limits: &mut Vec<Limit>, limit: Limit) -> Result<(), RecordError>
+pub fn insert_limit(limits: &mut Vec<Limit>, limit: Limit) -> Result<(), OrMemory<PlanFaultKind>>
     ensures ok { OnOk result (limits.new.items ≡ with_limit limit limits.old.items) }
-    ensures err { IfErr result (λ error. error ≡ RecordError.OutOfMemory) }
+    ensures err { IfErr result (λ error. error ≡ OrMemory.OutOfMemory) }
     ensures kept { OnErr result (limits.new.items ≡ limits.old.items) }
 {
     let place = place_of(limits.as_slice(), &limit);

@@ -2,30 +2,32 @@
 
 ghost use Rattle.std.specs.Prelude.{◌≡◌, ◌-◌, ◌<◌, ◌≤◌, suc, [], length, is_some, All, IfOk, IfSome};
 ghost use Rattle.csv.specs.Records.{fields_of};
-ghost use Rattle.pit_model.specs.inner.Admits.{Covered, Names};
+ghost use Rattle.pit_units.specs.OrMemory.{Gives};
 ghost use Rattle.pit_model.specs.inner.ByPlace.{Finds, covers_in};
 ghost use Rattle.records.specs.RecordCells.{cells_of};
 ghost use Rattle.pit_parts.specs.PlanKept.{has_repeat};
+ghost use Rattle.forms.specs.Field.{Bytes};
 ghost use Rattle.forms.specs.Read.{read_field};
 ghost use Rattle.pit_model.specs.PlanCells.{a_name, plan_kind};
 ghost use Rattle.pit_model.specs.Stated.{destination_named, resource_named};
 ghost use Rattle.pit_parts.specs.declared.ranges.TheConstants.{MAX_DESTINATIONS, MAX_RESOURCES};
 
-use crate::plan_fault::{PlanFaultKind, RecordError};
+use crate::plan_fault::PlanFaultKind;
 use csv::ByteRecord;
 use pit_parts::formula::NamedFormula;
 use pit_parts::name::Name;
 use pit_parts::resource::{Covers, Resource};
+use pit_units::OrMemory;
 use records::cells::cell_at;
 use std::alloc::Global;
 
 /// The NAME that a cell spells.
-pub fn name_in(alloc: Global, cell: &[u8]) -> Result<Name, RecordError>
-    ensures { Names result (read_field plan_kind a_name cell.now) }
+pub fn name_in(alloc: Global, cell: &[u8]) -> Result<Name, OrMemory<PlanFaultKind>>
+    ensures { Gives Bytes result (read_field plan_kind a_name cell.now) }
 {
     match Name::read(alloc, cell)? {
         Some(name) => Ok(name),
-        None => Err(RecordError::Fault(PlanFaultKind::Name)),
+        None => Err(OrMemory::Fault(PlanFaultKind::Name)),
     }
 }
 
@@ -88,11 +90,11 @@ pub fn covers_in(
     row: &ByteRecord,
     count: usize,
     formulas: &[NamedFormula],
-) -> Result<Covers, RecordError>
+) -> Result<Covers, OrMemory<PlanFaultKind>>
     requires whole { count ≡ length (cells_of (fields_of row.now)) }
     requires some { 3 ≤ count }
     requires few { length formulas.now ≤ MAX_DESTINATIONS }
-    ensures value { Covered result
+    ensures value { Gives (λ covers. covers) result
         (covers_in 2 (suc (count - 3)) (cells_of (fields_of row.now)) formulas.now []) }
     ensures there { IfOk result (λ covers. All (λ n. n < length formulas.now) covers) }
     ensures each { IfOk result (λ covers. length covers ≡ count - 2) }

@@ -3,7 +3,7 @@
 ghost use Rattle.std.specs.Prelude.{◌≡◌, ◌≤◌, ◌*◌, ◌^◌, ◌<◌, ◌≤ℤ◌, pos, IfOk};
 ghost use Rattle.forms.specs.Field.{Decimal, Millionths, between, whole};
 ghost use Rattle.forms.specs.Read.{read_field};
-ghost use Rattle.pit_model.specs.inner.ByPlace.{Gives, length_value, size_value};
+ghost use Rattle.pit_model.specs.inner.ByPlace.{ReadAs, length_value, size_value};
 ghost use Rattle.pit_model.specs.PlanCells.{a_size, an_origin, plan_kind};
 ghost use Rattle.pit_parts.specs.declared.ranges.TheConstants.{MAX_ORIGIN, MAX_SIZE, MIN_ORIGIN};
 
@@ -14,7 +14,7 @@ use pit_units::parse_within;
 /// The millionths that a cell states, with at most so many decimals and from `low` to `high`.
 pub fn number_in(cell: &[u8], decimals: u8, low: i128, high: i128) -> Result<i128, PlanFaultKind>
     requires { decimals ≤ 6 }
-    ensures value { Gives Millionths result
+    ensures value { ReadAs Millionths result
         (read_field plan_kind (Decimal decimals low high) cell.now) }
     ensures in_range { IfOk result (λ m. (low ≤ℤ m) × (m ≤ℤ high)) }
 {
@@ -24,7 +24,7 @@ pub fn number_in(cell: &[u8], decimals: u8, low: i128, high: i128) -> Result<i12
 /// The whole number that a cell states, from `low` to `high`.
 #[tactic(auto, using(crate::proofs::CellsByPlace::whole_read))]
 pub fn whole_in(cell: &[u8], low: u32, high: u32) -> Result<u32, PlanFaultKind>
-    ensures value { Gives whole result (read_field plan_kind (between low high) cell.now) }
+    ensures value { ReadAs whole result (read_field plan_kind (between low high) cell.now) }
     ensures in_range { IfOk result (λ n. (low ≤ n) × (n ≤ high)) }
 {
     let millionths = number_in(cell, 0, low as i128 * 1_000_000, high as i128 * 1_000_000)?;
@@ -33,7 +33,7 @@ pub fn whole_in(cell: &[u8], low: u32, high: u32) -> Result<u32, PlanFaultKind>
 
 /// The millimetres of an origin that a cell states in metres, within 10^12 of zero.
 pub fn origin_in(cell: &[u8]) -> Result<i64, PlanFaultKind>
-    ensures value { Gives length_value result (read_field plan_kind an_origin cell.now) }
+    ensures value { ReadAs length_value result (read_field plan_kind an_origin cell.now) }
     ensures in_range { IfOk result (λ n. (MIN_ORIGIN ≤ℤ n) × (n ≤ℤ MAX_ORIGIN)) }
 {
     let millionths = number_in(
@@ -48,7 +48,7 @@ pub fn origin_in(cell: &[u8]) -> Result<i64, PlanFaultKind>
 /// The millimetres of a block's size that a cell states in metres, 1 to 100,000.
 #[tactic(auto, using(crate::proofs::CellsByPlace::size_read))]
 pub fn size_in(cell: &[u8]) -> Result<u32, PlanFaultKind>
-    ensures value { Gives size_value result (read_field plan_kind a_size cell.now) }
+    ensures value { ReadAs size_value result (read_field plan_kind a_size cell.now) }
     ensures in_range { IfOk result (λ n. (1 ≤ n) × (n ≤ MAX_SIZE)) }
 {
     let millionths = number_in(cell, 3, 1000, MAX_SIZE as i128 * 1000)?;

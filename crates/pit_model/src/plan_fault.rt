@@ -1,10 +1,6 @@
 //! What is wrong with a plan.
 
-ghost use Rattle.std.specs.Prelude.{◌≡◌};
-ghost use Rattle.pit_model.specs.declared.plan_fault.RecordError.TheVariants.{Fault, OutOfMemory};
-
-use pit_units::DecFault;
-use std::alloc::{AllocError, AllocFailed};
+use pit_units::{DecFault, OrMemory};
 use std::fmt;
 use thiserror::Error;
 
@@ -96,55 +92,13 @@ impl fmt::Display for PlanFault {
     }
 }
 
-/// Why one record was not admitted.
-#[derive(Debug, Drop)]
-pub enum RecordError {
-    Fault(PlanFaultKind),
-    OutOfMemory,
-}
+impl From<PlanFaultKind> for OrMemory<PlanFaultKind> {
+    ghost use Rattle.std.specs.Prelude.{◌≡◌};
+    ghost use Rattle.pit_units.specs.declared.or_memory.OrMemory.TheVariants.{Fault};
 
-impl From<PlanFaultKind> for RecordError {
     ghost from_gives = { λ kind error. error ≡ Fault kind };
 
-    fn from(kind: PlanFaultKind) -> RecordError {
-        RecordError::Fault(kind)
-    }
-}
-
-impl From<AllocError> for RecordError {
-    ghost from_gives = { λ _ error. error ≡ OutOfMemory };
-
-    fn from(_refusal: AllocError) -> RecordError {
-        RecordError::OutOfMemory
-    }
-}
-
-impl<T: Drop> From<AllocFailed<T>> for RecordError {
-    ghost from_gives = { λ _ error. error ≡ OutOfMemory };
-
-    fn from(_refusal: AllocFailed<T>) -> RecordError {
-        RecordError::OutOfMemory
-    }
-}
-
-/// Why a plan was not read.
-#[derive(Debug, Drop, Error, PartialEq, Eq)]
-pub enum ReadPlanError {
-    /// The text states no plan.
-    #[error("{0}")]
-    Fault(PlanFault),
-    /// Memory was refused.
-    #[error("OutOfMemory")]
-    OutOfMemory,
-}
-
-impl From<AllocError> for ReadPlanError {
-    ghost use Rattle.std.specs.Prelude.{◌≡◌};
-    ghost use Rattle.pit_model.specs.declared.plan_fault.ReadPlanError.TheVariants.{OutOfMemory};
-
-    ghost from_gives = { λ _ error. error ≡ OutOfMemory };
-
-    fn from(_refusal: AllocError) -> ReadPlanError {
-        ReadPlanError::OutOfMemory
+    fn from(kind: PlanFaultKind) -> OrMemory<PlanFaultKind> {
+        OrMemory::Fault(kind)
     }
 }

@@ -2,16 +2,17 @@
 
 ghost use Rattle.std.specs.Prelude.{◌≡◌, ◌≤◌, OnOk};
 ghost use Rattle.csv.specs.Records.{fields_of};
-ghost use Rattle.pit_model.specs.inner.Admits.{AdmitsRecord};
+ghost use Rattle.pit_units.specs.OrMemory.{Gives};
 ghost use Rattle.pit_model.specs.inner.ByPlace.{record_said};
-ghost use Rattle.pit_model.specs.Planned.{Reads, finished, finished_at, planned};
+ghost use Rattle.pit_model.specs.Planned.{finished, finished_at, planned};
 ghost use Rattle.pit_parts.specs.declared.ranges.TheConstants.{MAX_PLAN_RECORDS};
 
 use crate::draft::Draft;
-use crate::plan_fault::{PlanFault, PlanFaultKind, ReadPlanError, RecordError};
+use crate::plan_fault::{PlanFault, PlanFaultKind};
 use csv::ByteRecord;
 use pit_parts::plan::Plan;
 use pit_parts::ranges::MAX_PLAN_RECORDS;
+use pit_units::OrMemory;
 use records::RecordReader;
 use std::alloc::Global;
 
@@ -27,8 +28,8 @@ use std::alloc::Global;
 ///   missing, the number behind the last record.
 /// - `OutOfMemory`: memory was refused.
 #[tactic(auto, using(crate::proofs::PlanSteps::all_planned))]
-pub fn read_plan(alloc: Global, text: &[u8]) -> Result<Plan, ReadPlanError>
-    ensures { Reads result (planned text.now) }
+pub fn read_plan(alloc: Global, text: &[u8]) -> Result<Plan, OrMemory<PlanFault>>
+    ensures { Gives (λ plan. plan) result (planned text.now) }
 {
     let mut reader = RecordReader::from_slice(alloc, text);
     let mut row = ByteRecord::new(alloc);
@@ -43,8 +44,8 @@ pub fn read_plan(alloc: Global, text: &[u8]) -> Result<Plan, ReadPlanError>
 
 // Adds what the record of this number says.
 #[tactic(auto, using(crate::proofs::PlanSteps::numbered, crate::proofs::PlanSteps::too_many))]
-fn admit(draft: &mut Draft, row: &ByteRecord, number: u32) -> Result<(), ReadPlanError>
-    ensures admits { AdmitsRecord draft.new result
+fn admit(draft: &mut Draft, row: &ByteRecord, number: u32) -> Result<(), OrMemory<PlanFault>>
+    ensures admits { Gives (λ _. draft.new) result
         (record_said number draft.old (fields_of row.now)) }
     ensures few { OnOk result (number ≤ MAX_PLAN_RECORDS) }
 {
@@ -53,14 +54,14 @@ fn admit(draft: &mut Draft, row: &ByteRecord, number: u32) -> Result<(), ReadPla
     }
     match draft.admit(row) {
         Ok(()) => Ok(()),
-        Err(RecordError::Fault(kind)) => Err(fault(number, kind)),
-        Err(RecordError::OutOfMemory) => Err(ReadPlanError::OutOfMemory),
+        Err(OrMemory::Fault(kind)) => Err(fault(number, kind)),
+        Err(OrMemory::OutOfMemory) => Err(OrMemory::OutOfMemory),
     }
 }
 
 // The plan, one past whose last record this number is.
-fn finish(draft: Draft, number: u32) -> Result<Plan, ReadPlanError>
-    ensures { Reads result (finished_at number (finished draft)) }
+fn finish(draft: Draft, number: u32) -> Result<Plan, OrMemory<PlanFault>>
+    ensures { Gives (λ plan. plan) result (finished_at number (finished draft)) }
 {
     match draft.finish() {
         Ok(plan) => Ok(plan),
@@ -68,8 +69,8 @@ fn finish(draft: Draft, number: u32) -> Result<Plan, ReadPlanError>
     }
 }
 
-fn fault(row: u32, kind: PlanFaultKind) -> ReadPlanError
-    ensures { result ≡ ReadPlanError.Fault (record { row = row; kind = kind }) }
+fn fault(row: u32, kind: PlanFaultKind) -> OrMemory<PlanFault>
+    ensures { result ≡ OrMemory.Fault (record { row = row; kind = kind }) }
 {
-    ReadPlanError::Fault(PlanFault { row, kind })
+    OrMemory::Fault(PlanFault { row, kind })
 }

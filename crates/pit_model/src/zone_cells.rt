@@ -4,7 +4,7 @@ ghost use Rattle.std.specs.Prelude.{◌≡◌, ◌≤◌, true, false, length, I
 ghost use Rattle.csv.specs.Records.{fields_of};
 ghost use Rattle.forms.specs.Field.{whole};
 ghost use Rattle.forms.specs.Read.{read_field};
-ghost use Rattle.pit_model.specs.inner.ByPlace.{Gives, cone_by, cone_in};
+ghost use Rattle.pit_model.specs.inner.ByPlace.{ReadAs, cone_by, cone_in};
 ghost use Rattle.records.specs.RecordCells.{cells_of};
 ghost use Rattle.pit_parts.specs.PlanKept.{IsCone};
 ghost use Rattle.pit_model.specs.PlanCells.{a_leg, plan_kind};
@@ -19,7 +19,7 @@ use records::cells::cell_at;
 
 // The rise or the run of a slope.
 fn leg_in(cell: &[u8]) -> Result<u16, PlanFaultKind>
-    ensures value { Gives whole result (read_field plan_kind a_leg cell.now) }
+    ensures value { ReadAs whole result (read_field plan_kind a_leg cell.now) }
     ensures in_range { IfOk result (λ n. (1 ≤ n) × (n ≤ MAX_SLOPE)) }
 {
     let leg = whole_in(cell, 1, MAX_SLOPE)?;

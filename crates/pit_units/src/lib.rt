@@ -5,11 +5,13 @@ mod decimal;
 mod fault;
 mod front;
 pub mod laws;
+mod or_memory;
 mod reading;
 mod writing;
 
 pub use decimal::Dec;
 pub use fault::DecFault;
 pub use front::{front_dec, front_whole};
+pub use or_memory::OrMemory;
 pub use reading::{parse_dec, parse_within};
 pub use writing::put_dec;

@@ -13,7 +13,7 @@ ghost use Rattle.precedence.specs.inner.Seen.{placed, IsSortedTable};
 ghost use Rattle.pit_parts.specs.declared.ranges.TheConstants.{MAX_BLOCKS};
 
 use crate::code::code;
-use crate::number_error::NumberError;
+use crate::number_fault::NumberFault;
 use crate::numbering::Numbering;
 use crate::place_hashes::PlaceHashes;
 use indexmap::IndexMap;
@@ -33,7 +33,7 @@ type Seen = IndexMap<u64, u32, PlaceHashes>;
 ///
 /// - `Same`: two blocks have the same indices; it names the first that stands again.
 /// - `OutOfMemory`: memory was refused.
-pub fn number_blocks(alloc: Global, blocks: &[Block]) -> Result<Numbering, NumberError>
+pub fn number_blocks(alloc: Global, blocks: &[Block]) -> Result<Numbering, NumberFault>
     requires { length blocks.now ≤ MAX_BLOCKS }
     ensures numbering { IfOk result (IsNumbering blocks.now) }
     ensures same { IfErr result (IsReason blocks.now) }
@@ -45,7 +45,7 @@ pub fn number_blocks(alloc: Global, blocks: &[Block]) -> Result<Numbering, Numbe
 }
 
 // The place of each block, in order.
-fn sorted_places(alloc: Global, blocks: &[Block]) -> Result<Vec<Place>, NumberError>
+fn sorted_places(alloc: Global, blocks: &[Block]) -> Result<Vec<Place>, NumberFault>
     requires { length blocks.now ≤ MAX_BLOCKS }
     ensures sorted { IfOk result (λ places. IsSortedTable blocks.now places.items) }
     ensures same { IfErr result (IsReason blocks.now) }
@@ -86,7 +86,7 @@ fn rise(places: &[Place]) -> bool
 }
 
 // Finds the first block of a list whose place stood before, and fails there.
-fn differ(alloc: Global, blocks: &[Block]) -> Result<(), NumberError>
+fn differ(alloc: Global, blocks: &[Block]) -> Result<(), NumberFault>
     requires { length blocks.now ≤ MAX_BLOCKS }
     ensures differ { OnOk result (IsDistinct nat_eq (place_codes blocks.now)) }
     ensures same { IfErr result (IsReason blocks.now) }
@@ -95,7 +95,7 @@ fn differ(alloc: Global, blocks: &[Block]) -> Result<(), NumberError>
     for (position, block) in blocks.iter().enumerate() {
         let again = position as u32;
         if let Some(first) = note(&mut seen, code(block), again)? {
-            return Err(NumberError::Same { first, again });
+            return Err(NumberFault::Same { first, again });
         }
     }
     Ok(())

@@ -7,7 +7,7 @@ ghost use Rattle.precedence.specs.SameBlock.{IsReason};
 ghost use Rattle.pit_parts.specs.declared.ranges.TheConstants.{MAX_BLOCKS};
 
 use crate::number_by_place::number_blocks;
-use crate::number_error::NumberError;
+use crate::number_fault::NumberFault;
 use crate::numbering::Numbering;
 use pit_parts::block::Block;
 use rows::Valued;
@@ -20,7 +20,7 @@ use std::alloc::{AllocError, Global};
 ///
 /// - `Same`: two blocks have the same indices; it names the first that stands again.
 /// - `OutOfMemory`: memory was refused.
-pub fn number(alloc: Global, rows: &[Valued]) -> Result<Numbering, NumberError>
+pub fn number(alloc: Global, rows: &[Valued]) -> Result<Numbering, NumberFault>
     requires { length rows.now ≤ MAX_BLOCKS }
     ensures numbering { IfOk result (IsNumbering (blocks_of_rows rows.now)) }
     ensures same { IfErr result (IsReason (blocks_of_rows rows.now)) }

@@ -3,7 +3,7 @@
 ghost use Rattle.std.specs.Prelude.{◌≡◌, [], ◌∷◌, length, sum_by, Err, IfErr, IfOk, OnOk};
 ghost use Rattle.mine_instance.specs.Instance.{Instance as AnInstance};
 ghost use Rattle.minelib_reading.specs.Denotes.{Denotes, denoted};
-ghost use Rattle.text_lines.specs.Reading.{Reads};
+ghost use Rattle.pit_units.specs.OrMemory.{Gives};
 ghost use Rattle.minelib_writing.specs.Written.{text_blocks};
 ghost use Rattle.pit_compile.specs.Compiled.{instance_from};
 ghost use Rattle.pit_compile.specs.Verdict.{IsAccepted};
@@ -13,7 +13,7 @@ use crate::tests::watch::{OPEN, Watch};
 use devices::slice_feed::SliceFeed;
 use minelib_text::mem_sink::MemSink;
 use minelib_text::read_instance;
-use minelib_text::text_fault::ReadTextError;
+use minelib_text::text_fault::TextFault;
 use pit_compile::refusal::Refusal;
 use pit_compile::run;
 use pit_compile::settings::Settings;
@@ -21,6 +21,7 @@ use pit_compile::sinks::Sinks;
 use pit_model::destination::Destination;
 use pit_model::plan::Plan;
 use pit_model::read_plan;
+use pit_units::OrMemory;
 use std::alloc::Global;
 use std::sync::Wait;
 use std::test::Fail;
@@ -37,11 +38,11 @@ pub fn count_arcs(
     blocks: &[u8],
     prec: &[u8],
     pcpsp: &[u8],
-) -> Result<usize, ReadTextError>
+) -> Result<usize, OrMemory<TextFault>>
     ensures arcs { IfOk result (λ arcs. (i : AnInstance) × Denotes blocks.now prec.now pcpsp.now i
         × (arcs ≡ sum_by length i.preds)) }
     ensures refused { IfErr result
-        (λ error. Reads (Err error) (denoted blocks.now prec.now pcpsp.now)) }
+        (λ error. Gives (λ x. x) (Err error) (denoted blocks.now prec.now pcpsp.now)) }
 {
     let instance = read_instance(alloc, blocks, prec, pcpsp)?;
     Ok(instance.arcs())

@@ -6,8 +6,8 @@ use Rattle.lane.specs.declared.message.Taken.TheVariants as message
 use Rattle.pit_parts.specs.declared.block.Block.{Block}
 use Rattle.zone_csv.specs.ZoneReaderView.{ZoneReaderView, Ahead, Answers, last_answer}
 use Rattle.zone_csv.specs.declared.row_fault.RowFault.{RowFault}
-use Rattle.zone_csv.specs.declared.zone_fault.ZoneFault.{ZoneFault}
-use Rattle.zone_csv.specs.declared.zone_fault.ZoneFault.TheVariants.{Row, OutOfMemory}
+use Rattle.pit_units.specs.declared.or_memory.OrMemory.{OrMemory}
+use Rattle.pit_units.specs.declared.or_memory.OrMemory.TheVariants.{Fault, OutOfMemory}
 use Rattle.run_threads.specs.inner.Sending.{IsSending, IsAllBut, HasPut}
 
 -- behind the last block there is no block, the end where no fault is, or that fault
@@ -19,7 +19,7 @@ ended : (last : Option RowFault) → Ok None ≡ last_answer last → last ≡ N
 ended None e = refl
 ended (Some x) e = absurd cc
 
-failed : (last : Option RowFault) (x : RowFault) → Err (Row x) ≡ last_answer last → last ≡ Some x
+failed : (last : Option RowFault) (x : RowFault) → Err (Fault x) ≡ last_answer last → last ≡ Some x
 failed None x e = absurd cc
 failed (Some y) x e = cc
 
@@ -58,13 +58,13 @@ module _ (file : ℕ) (whole : List Block) (fault : Option RowFault) where
       → (fault ≡ None) × IsAllBut file whole sent
   puts_all sent old new s answers = all_put sent new s.rest s.makes_up (subst (λ v. Answers v (Ok None) new) s.says answers)
 
-  stopped : (sent : List Taken) (new : ZoneReaderView) (x : ZoneFault) (rest : List Block)
+  stopped : (sent : List Taken) (new : ZoneReaderView) (x : OrMemory RowFault) (rest : List Block)
       → sent ++ sent_from file (length sent) rest ≡ sent_from file 0 whole
       → Answers (Ahead rest fault) (Err x) new → HasPut file whole fault (Err x) sent
-  stopped sent new (Row x) [] e n = (failed fault x n.0, e)
-  stopped sent new (Row x) (y ∷ rest) e n = absurd (cc (n.0))
+  stopped sent new (Fault x) [] e n = (failed fault x n.0, e)
+  stopped sent new (Fault x) (y ∷ rest) e n = absurd (cc (n.0))
   stopped sent new OutOfMemory rest e n = tt
 
-  pub stops : (sent : List Taken) (old new : ZoneReaderView) (x : ZoneFault) → IsSending file whole fault sent old
+  pub stops : (sent : List Taken) (old new : ZoneReaderView) (x : OrMemory RowFault) → IsSending file whole fault sent old
       → Answers old (Err x) new → HasPut file whole fault (Err x) sent
   stops sent old new x s answers = stopped sent new x s.rest s.makes_up (subst (λ v. Answers v (Err x) new) s.says answers)

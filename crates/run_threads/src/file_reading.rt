@@ -13,10 +13,11 @@ use devices::slurp::{SlurpFault, slurp};
 use lane::{EndedPut, PutEnd, Taken};
 use pit_parts::plan::Plan;
 use pit_parts::ranges::MAX_FILE_BYTES;
+use pit_units::OrMemory;
 use std::alloc::Global;
 use std::sync::Wait;
 use valuers::Gate;
-use zone_csv::zone_fault::ZoneFault;
+use zone_csv::row_fault::RowFault;
 use zone_csv::zone_reader::ZoneReader;
 
 /// What a file's reader gives back.
@@ -73,8 +74,8 @@ fn put_file<R: Wait, F: Feed, G: Gate>(
     let text = slurped(alloc, feed)?;
     match put_blocks(rt, alloc, text, plan, file, put_end) {
         Ok(()) => Ok(()),
-        Err(ZoneFault::Row(fault)) => Err(ReadFault::Row(fault)),
-        Err(ZoneFault::OutOfMemory) => Err(ReadFault::OutOfMemory),
+        Err(OrMemory::Fault(fault)) => Err(ReadFault::Row(fault)),
+        Err(OrMemory::OutOfMemory) => Err(ReadFault::OutOfMemory),
     }
 }
 
@@ -100,7 +101,7 @@ fn put_blocks<R: Wait>(
     plan: &Plan,
     file: u8,
     put_end: &mut PutEnd,
-) -> Result<(), ZoneFault>
+) -> Result<(), OrMemory<RowFault>>
     requires { IsUnsent plan.now file put_end.old }
     ensures end { (put_end.new.lane ≡ put_end.old.lane) × (put_end.new.file ≡ file) }
     ensures put { let grid = plan.now.grid in

@@ -16,6 +16,6 @@ pub enum ReadFault {
     #[error("{0}")]
     Row(RowFault),
     /// Memory was refused.
-    #[error("out of memory")]
+    #[error("OutOfMemory")]
     OutOfMemory,
 }

@@ -1,6 +1,5 @@
 pub mod FaultText
 pub mod FieldValues
-pub mod FileFault
 pub mod ItemGrammar
 pub mod LineKinds
 pub mod Reading

@@ -1,14 +1,11 @@
 -- Reading the lines of a text one after the other, up to the first faulty one, and what a reader answers of it.
-use Rattle.std.specs.Prelude.{◌≡◌, ℕ, List, [], ◌∷◌, Result, Ok, Err}
+use Rattle.std.specs.Prelude.{ℕ, List, [], ◌∷◌, Result, Ok, Err}
 use Rattle.forms.specs.Steps.{◌>>=◌}
+use Rattle.pit_units.specs.OrMemory.{Gives}
+use Rattle.pit_units.specs.declared.or_memory.OrMemory.{OrMemory}
+use Rattle.pit_units.specs.declared.or_memory.OrMemory.TheVariants.{Fault, OutOfMemory}
 use Rattle.text_lines.specs.TextLines.{Line}
-use Rattle.text_lines.specs.declared.read_errors.FileError.{FileError}
-use Rattle.text_lines.specs.declared.read_errors.FileError.TheVariants as file_error
-use Rattle.text_lines.specs.declared.read_errors.LineError.{LineError}
-use Rattle.text_lines.specs.declared.read_errors.LineError.TheVariants as line_error
 use Rattle.text_lines.specs.declared.text_fault.LineFault.{LineFault}
-use Rattle.text_lines.specs.declared.text_fault.ReadTextError.{ReadTextError}
-use Rattle.text_lines.specs.declared.text_fault.ReadTextError.TheVariants as text_error
 use Rattle.text_lines.specs.declared.text_fault.TextFault.{TextFault}
 use Rattle.text_lines.specs.declared.text_fault.TextFile.{TextFile}
 use Rattle.text_lines.specs.declared.text_fault.TextKind.{TextKind}
@@ -24,24 +21,18 @@ read_lines admit so_far [] = Ok so_far
 read_lines admit so_far (line ∷ lines) = at_line line.number (admit so_far line.text) >>= λ next. read_lines admit next lines
 
 -- a faulty line, in a file
+abbrev pub fault_in : TextFile → LineFault → TextFault
+fault_in file fault = record { file = file; line = fault.line; kind = fault.kind }
+
 abbrev pub in_file : {A : Type 0} → TextFile → Result A LineFault → Result A TextFault
 in_file file (Ok x) = Ok x
-in_file file (Err fault) = Err (record { file = file; line = fault.line; kind = fault.kind })
+in_file file (Err fault) = Err (fault_in file fault)
 
--- reading answers what the texts denote, or their fault, unless memory was refused
-abbrev pub Reads : {A : Type 0} → Result A ReadTextError → Result A TextFault → Type 0
-Reads (Ok x) denoted = denoted ≡ Ok x
-Reads (Err (text_error.Fault fault)) denoted = denoted ≡ Err fault
-Reads (Err text_error.OutOfMemory) denoted = Unit {0}
+-- why a file was not read, of an instance
+abbrev pub error_in : TextFile → OrMemory LineFault → OrMemory TextFault
+error_in file (Fault fault) = Fault (fault_in file fault)
+error_in file OutOfMemory = OutOfMemory
 
--- taking a line leaves what it states after those before it, or answers its fault, unless memory was refused
-abbrev pub Admits : {S A : Type 0} → S → Result A LineError → Result S TextKind → Type 0
-Admits after (Ok x) admitted = admitted ≡ Ok after
-Admits after (Err (line_error.Faulty kind)) admitted = admitted ≡ Err kind
-Admits after (Err line_error.OutOfMemory) admitted = Unit {0}
-
--- taking lines leaves what they state, or answers the first faulty one, unless memory was refused
-abbrev pub Leaves : {S A : Type 0} → S → Result A FileError → Result S LineFault → Type 0
-Leaves after (Ok x) read = read ≡ Ok after
-Leaves after (Err (file_error.Faulty fault)) read = read ≡ Err fault
-Leaves after (Err file_error.OutOfMemory) read = Unit {0}
+-- a call that takes lines leaves this state, and it is the stated one; or it answers the stated fault, unless memory was refused
+abbrev pub Leaves : {S A F : Type 0} → S → Result A (OrMemory F) → Result S F → Type 0
+Leaves after = Gives (λ _. after)

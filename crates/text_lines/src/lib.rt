@@ -4,6 +4,5 @@
 pub mod cut_lines;
 pub mod field_values;
 pub mod line_by_line;
-pub mod read_errors;
 pub mod text_fault;
 pub mod text_fields;

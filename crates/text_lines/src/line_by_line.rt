@@ -1,13 +1,13 @@
 //! Reading the lines of a text one after the other.
 
 ghost use Rattle.std.specs.Prelude.{◌≡◌, ℕ, List, Result, IfOk};
-ghost use Rattle.text_lines.specs.Reading.{Admits, Leaves, at_line, read_lines};
+ghost use Rattle.text_lines.specs.Reading.{Leaves, at_line, read_lines};
 ghost use Rattle.text_lines.specs.TextLines.{end_of, lines_in};
 ghost use Rattle.text_lines.specs.declared.text_fault.TextKind.{TextKind as Kind};
 
 use crate::cut_lines::{cut_line, is_skipped, without_cr, without_mark};
-use crate::read_errors::{FileError, LineError};
-use crate::text_fault::LineFault;
+use crate::text_fault::{LineFault, TextKind};
+use pit_units::OrMemory;
 
 /// What the lines of a text so far state.
 pub trait Admit {
@@ -18,12 +18,12 @@ pub trait Admit {
     /// # Errors
     ///
     /// The line is faulty behind those before it, or memory was refused. What the lines state is then of no use.
-    fn admit(&mut self, line: &[u8]) -> Result<(), LineError>
-        ensures { Admits self.new result (admit_line self.old line.now) };
+    fn admit(&mut self, line: &[u8]) -> Result<(), OrMemory<TextKind>>
+        ensures { Leaves self.new result (admit_line self.old line.now) };
 }
 
 /// Takes the lines of a text that are not skipped, and answers the number of the line after the last.
-pub fn read_lines<S: Admit>(state: &mut S, text: &[u8]) -> Result<u64, FileError>
+pub fn read_lines<S: Admit>(state: &mut S, text: &[u8]) -> Result<u64, OrMemory<LineFault>>
     ensures read { Leaves state.new result (read_lines S.admit_line state.old (lines_in text.now)) }
     ensures number { IfOk result (λ n. n ≡ end_of text.now) }
 {
@@ -41,12 +41,12 @@ pub fn read_lines<S: Admit>(state: &mut S, text: &[u8]) -> Result<u64, FileError
     Ok(number)
 }
 
-fn admit_at<S: Admit>(state: &mut S, number: u64, line: &[u8]) -> Result<(), FileError>
+fn admit_at<S: Admit>(state: &mut S, number: u64, line: &[u8]) -> Result<(), OrMemory<LineFault>>
     ensures { Leaves state.new result (at_line number (S.admit_line state.old line.now)) }
 {
     match state.admit(line) {
         Ok(()) => Ok(()),
-        Err(LineError::Faulty(kind)) => Err(FileError::Faulty(LineFault { line: number, kind })),
-        Err(LineError::OutOfMemory) => Err(FileError::OutOfMemory),
+        Err(OrMemory::Fault(kind)) => Err(OrMemory::Fault(LineFault { line: number, kind })),
+        Err(OrMemory::OutOfMemory) => Err(OrMemory::OutOfMemory),
     }
 }

@@ -1,9 +1,9 @@
 //! What is wrong with a MineLib text.
 
 ghost use Rattle.std.specs.Prelude.{◌≡◌};
+ghost use Rattle.text_lines.specs.Reading.{error_in};
 
-use pit_units::DecFault;
-use std::alloc::AllocError;
+use pit_units::{DecFault, OrMemory};
 use std::fmt;
 use thiserror::Error;
 
@@ -104,6 +104,16 @@ impl From<DecFault> for TextKind {
     }
 }
 
+impl From<TextKind> for OrMemory<TextKind> {
+    ghost use Rattle.pit_units.specs.declared.or_memory.OrMemory.TheVariants.{Fault};
+
+    ghost from_gives = { λ kind error. error ≡ Fault kind };
+
+    fn from(kind: TextKind) -> OrMemory<TextKind> {
+        OrMemory::Fault(kind)
+    }
+}
+
 /// A faulty line of a text: its number, from 1, and what is wrong with it. Where something is missing at the end of the
 /// text, the number is one more than the text has lines.
 #[derive(Clone, Copy, Debug, PartialEq, Eq)]
@@ -133,23 +143,14 @@ impl fmt::Display for TextFault {
     }
 }
 
-/// Why texts were not read.
-#[derive(Debug, Drop, Error, PartialEq, Eq)]
-pub enum ReadTextError {
-    /// The texts denote nothing.
-    #[error("{0}")]
-    Fault(TextFault),
-    /// Memory was refused.
-    #[error("OutOfMemory")]
-    OutOfMemory,
-}
-
-impl From<AllocError> for ReadTextError {
-    ghost use Rattle.text_lines.specs.declared.text_fault.ReadTextError.TheVariants.{OutOfMemory};
-
-    ghost from_gives = { λ _ error. error ≡ OutOfMemory };
-
-    fn from(_refusal: AllocError) -> ReadTextError {
-        ReadTextError::OutOfMemory
+/// Why the texts of an instance were not read, where it is this file of them.
+pub fn in_file(error: OrMemory<LineFault>, file: TextFile) -> OrMemory<TextFault>
+    ensures { result ≡ error_in file error }
+{
+    match error {
+        OrMemory::Fault(LineFault { line, kind }) => {
+            OrMemory::Fault(TextFault { file, line, kind })
+        }
+        OrMemory::OutOfMemory => OrMemory::OutOfMemory,
     }
 }

@@ -3,21 +3,21 @@ use Rattle.std.proofs.Common.{◌≡◌, ◌∙◌, [], ◌∷◌, Option, None,
 use Rattle.pit_parts.specs.declared.block.Block.{Block}
 use Rattle.zone_csv.specs.ZoneReaderView.{Ahead, Answers, NoMemory, Told, ZoneReaderView, last_answer}
 use Rattle.zone_csv.specs.declared.row_fault.RowFault.{RowFault}
-use Rattle.zone_csv.specs.declared.zone_fault.ZoneFault.{ZoneFault}
-use Rattle.zone_csv.specs.declared.zone_fault.ZoneFault.TheVariants.{Row, OutOfMemory}
+use Rattle.pit_units.specs.declared.or_memory.OrMemory.{OrMemory}
+use Rattle.pit_units.specs.declared.or_memory.OrMemory.TheVariants.{Fault, OutOfMemory}
 
-told_again : (last : Option RowFault) (again : Result (Option Block) ZoneFault) (after : ZoneReaderView) → Answers (Told last) again after
+told_again : (last : Option RowFault) (again : Result (Option Block) (OrMemory RowFault)) (after : ZoneReaderView) → Answers (Told last) again after
     → again ≡ last_answer last
 told_again last (Ok found) after h = h.0
-told_again last (Err (Row fault)) after h = h.0
+told_again last (Err (Fault fault)) after h = h.0
 told_again last (Err OutOfMemory) after h = absurd h.0
 
-refused_again : (again : Result (Option Block) ZoneFault) (after : ZoneReaderView) → Answers NoMemory again after → again ≡ Err OutOfMemory
+refused_again : (again : Result (Option Block) (OrMemory RowFault)) (after : ZoneReaderView) → Answers NoMemory again after → again ≡ Err OutOfMemory
 refused_again (Ok found) after h = h.0
-refused_again (Err (Row fault)) after h = h.0
+refused_again (Err (Fault fault)) after h = h.0
 refused_again (Err OutOfMemory) after h = refl
 
-pub ended_again : (old then after : ZoneReaderView) (again : Result (Option Block) ZoneFault) → Answers old (Ok None) then
+pub ended_again : (old then after : ZoneReaderView) (again : Result (Option Block) (OrMemory RowFault)) → Answers old (Ok None) then
     → Answers then again after → again ≡ Ok None
 ended_again (Ahead (block ∷ blocks) fault) then after again h next = absurd (cc h.0)
 ended_again (Ahead [] None) then after again h next = told_again None again after (subst (λ v. Answers v again after) h.1 next)
@@ -26,15 +26,15 @@ ended_again (Told None) then after again h next = told_again None again after (s
 ended_again (Told (Some fault)) then after again h next = absurd (cc h.0)
 ended_again NoMemory then after again h next = absurd (cc h.0)
 
-faulty_again : (old then after : ZoneReaderView) (fault : RowFault) (again : Result (Option Block) ZoneFault) → Answers old (Err (Row fault)) then
-    → Answers then again after → again ≡ Err (Row fault)
+faulty_again : (old then after : ZoneReaderView) (fault : RowFault) (again : Result (Option Block) (OrMemory RowFault)) → Answers old (Err (Fault fault)) then
+    → Answers then again after → again ≡ Err (Fault fault)
 faulty_again (Ahead (block ∷ blocks) last) then after fault again h next = absurd (cc h.0)
 faulty_again (Ahead [] last) then after fault again h next =
     told_again last again after (subst (λ v. Answers v again after) h.1 next) ∙ sym h.0
 faulty_again (Told last) then after fault again h next = told_again last again after (subst (λ v. Answers v again after) h.1 next) ∙ sym h.0
 faulty_again NoMemory then after fault again h next = absurd (cc h.0)
 
-pub fault_again : (old then after : ZoneReaderView) (fault : ZoneFault) (again : Result (Option Block) ZoneFault) → Answers old (Err fault) then
+pub fault_again : (old then after : ZoneReaderView) (fault : OrMemory RowFault) (again : Result (Option Block) (OrMemory RowFault)) → Answers old (Err fault) then
     → Answers then again after → again ≡ Err fault
-fault_again old then after (Row fault) again h next = faulty_again old then after fault again h next
+fault_again old then after (Fault fault) again h next = faulty_again old then after fault again h next
 fault_again old then after OutOfMemory again h next = refused_again again after (subst (λ v. Answers v again after) h.1 next)

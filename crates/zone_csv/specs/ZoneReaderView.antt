@@ -2,8 +2,8 @@
 use Rattle.std.specs.Prelude.{◌≡◌, ℕ, List, [], ◌∷◌, length, Option, Some, None, Result, Ok, Err}
 use Rattle.pit_parts.specs.declared.block.Block.{Block}
 use Rattle.zone_csv.specs.declared.row_fault.RowFault.{RowFault}
-use Rattle.zone_csv.specs.declared.zone_fault.ZoneFault.{ZoneFault}
-use Rattle.zone_csv.specs.declared.zone_fault.ZoneFault.TheVariants.{Row, OutOfMemory}
+use Rattle.pit_units.specs.declared.or_memory.OrMemory.{OrMemory}
+use Rattle.pit_units.specs.declared.or_memory.OrMemory.TheVariants.{Fault, OutOfMemory}
 
 -- these blocks, and then this fault or the end; or that fault or that end alone, which was told; or, since memory was refused, that alone
 pub data ZoneReaderView : Type 0 where
@@ -12,12 +12,12 @@ pub data ZoneReaderView : Type 0 where
   NoMemory : ZoneReaderView
 
 -- the answer behind the last block
-abbrev pub last_answer : Option RowFault → Result (Option Block) ZoneFault
+abbrev pub last_answer : Option RowFault → Result (Option Block) (OrMemory RowFault)
 last_answer None = Ok None
-last_answer (Some fault) = Err (Row fault)
+last_answer (Some fault) = Err (Fault fault)
 
 -- the next answer
-abbrev pub answer_of : ZoneReaderView → Result (Option Block) ZoneFault
+abbrev pub answer_of : ZoneReaderView → Result (Option Block) (OrMemory RowFault)
 answer_of (Ahead (block ∷ blocks) fault) = Ok (Some block)
 answer_of (Ahead [] fault) = last_answer fault
 answer_of (Told fault) = last_answer fault
@@ -37,9 +37,9 @@ MayRunOut (Told fault) = ⊥
 MayRunOut NoMemory = Unit {0}
 
 -- the next answer was given, or memory was refused, and is ever after
-abbrev pub Answers : ZoneReaderView → Result (Option Block) ZoneFault → ZoneReaderView → Type 0
+abbrev pub Answers : ZoneReaderView → Result (Option Block) (OrMemory RowFault) → ZoneReaderView → Type 0
 Answers old (Ok found) new = (Ok found ≡ answer_of old) × (new ≡ rest_of old)
-Answers old (Err (Row fault)) new = (Err (Row fault) ≡ answer_of old) × (new ≡ rest_of old)
+Answers old (Err (Fault fault)) new = (Err (Fault fault) ≡ answer_of old) × (new ≡ rest_of old)
 Answers old (Err OutOfMemory) new = MayRunOut old × (new ≡ NoMemory)
 
 -- how many blocks are still to be said

@@ -5,6 +5,7 @@ ghost use Rattle.forms.specs.Field.{is_on_step};
 ghost use Rattle.forms.specs.Spelled.{Spell};
 ghost use Rattle.forms.specs.Shape.{failing};
 ghost use Rattle.forms.specs.ShapeStates.{Fails, States};
+ghost use Rattle.pit_units.specs.declared.or_memory.OrMemory.{OrMemory};
 ghost use Rattle.pit_parts.specs.declared.grid.Axis.{Axis as AnAxis};
 ghost use Rattle.pit_parts.specs.declared.grid.Grid.{Grid as AGrid};
 ghost use Rattle.records.specs.Records.{records_of};
@@ -19,7 +20,6 @@ ghost use Rattle.zone_csv.specs.ZoneReaderView.{Answers, ZoneReaderView};
 ghost use Rattle.zone_csv.specs.ZoneStates.{HeaderFails, ZoneStates};
 ghost use Rattle.zone_csv.specs.declared.columns.Columns.{Columns as FiveColumns};
 ghost use Rattle.zone_csv.specs.declared.row_fault.RowFault.{RowFault};
-ghost use Rattle.zone_csv.specs.declared.zone_fault.ZoneFault.{ZoneFault};
 ghost use Rattle.pit_parts.specs.declared.ranges.TheConstants.{GRID_CELLS, MAX_ZONES};
 
 /// A zone file has at most a million blocks, all of its own zone. Each record behind the header is a block, up to the record of
@@ -89,9 +89,9 @@ pub fn faulty_rows_spell_no_block()
 
 /// A reader that answered the end of its file, its fault or want of memory answers the same when it is asked again.
 pub fn readers_answer_again()
-    ensures ended { (old then after : ZoneReaderView) (again : Result (Option Block) ZoneFault)
+    ensures ended { (old then after : ZoneReaderView) (again : Result (Option Block) (OrMemory RowFault))
         → Answers old (Ok None) then → Answers then again after → again ≡ Ok None }
-    ensures refused { (old then after : ZoneReaderView) (fault : ZoneFault)
-        (again : Result (Option Block) ZoneFault)
+    ensures refused { (old then after : ZoneReaderView) (fault : OrMemory RowFault)
+        (again : Result (Option Block) (OrMemory RowFault))
         → Answers old (Err fault) then → Answers then again after → again ≡ Err fault }
 {}

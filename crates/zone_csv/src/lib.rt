@@ -6,7 +6,6 @@ mod columns;
 pub mod laws;
 mod row;
 pub mod row_fault;
-pub mod zone_fault;
 pub mod zone_reader;
 
 pub use devices::{feed, file_feed, mem_feed, slice_feed, slurp};

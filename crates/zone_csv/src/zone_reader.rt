@@ -11,12 +11,12 @@ ghost use Rattle.pit_parts.specs.declared.ranges.TheConstants.{MAX_ROWS, MAX_ZON
 use crate::cell::{ColumnFault, a_fault};
 use crate::columns::{Columns, columns_of};
 use crate::row::row_of;
-use crate::row_fault::{Column, RowFaultKind};
-use crate::zone_fault::ZoneFault;
+use crate::row_fault::{Column, RowFault, RowFaultKind};
 use csv::ByteRecord;
 use pit_parts::block::Block;
 use pit_parts::grid::Grid;
 use pit_parts::plan::Plan;
+use pit_units::OrMemory;
 use records::RecordReader;
 use std::alloc::Global;
 use std::io::Cursor;
@@ -32,7 +32,7 @@ enum Stage {
     // To its end.
     Ended,
     // Up to this fault.
-    Failed(ZoneFault),
+    Failed(OrMemory<RowFault>),
 }
 
 /// A reader of a zone file. It returns the blocks of the rows, in order, up to the file's first fault.
@@ -87,9 +87,9 @@ impl ZoneReader {
     ///
     /// Each is returned ever after.
     ///
-    /// - `Row`: the file's first fault, once the blocks before it were returned.
+    /// - `Fault`: the file's first fault, once the blocks before it were returned.
     /// - `OutOfMemory`: memory was refused for a record. It never comes once the end or the fault was told.
-    pub fn next(&mut self) -> Result<Option<Block>, ZoneFault>
+    pub fn next(&mut self) -> Result<Option<Block>, OrMemory<RowFault>>
         ensures answers { Answers self.old result self.new }
         ensures fewer { IfOk result
             (λ found. IfSome found (λ _. blocks_left self.new + 1 ≡ blocks_left self.old)) }
@@ -112,7 +112,7 @@ fn step(
     row: &mut ByteRecord,
     grid: Grid,
     zone: u8,
-) -> Result<Option<Block>, ZoneFault>
+) -> Result<Option<Block>, OrMemory<RowFault>>
     requires grid { IsGrid grid }
     requires zone { zone < MAX_ZONES }
     requires counted { IsCounted stage.old }
@@ -130,7 +130,7 @@ fn step(
     }
 }
 
-fn failed(stage: &mut Stage, fault: ZoneFault) -> Result<Option<Block>, ZoneFault>
+fn failed(stage: &mut Stage, fault: OrMemory<RowFault>) -> Result<Option<Block>, OrMemory<RowFault>>
     ensures stage { stage.new ≡ Stage.Failed fault }
     ensures fault { result ≡ Err fault }
 {
@@ -145,7 +145,7 @@ fn first_row(
     row: &mut ByteRecord,
     grid: Grid,
     zone: u8,
-) -> Result<Option<Block>, ZoneFault>
+) -> Result<Option<Block>, OrMemory<RowFault>>
     requires grid { IsGrid grid }
     requires zone { zone < MAX_ZONES }
     ensures answers { Answers (reader_view grid zone Stage.Header records.old) result
@@ -155,13 +155,13 @@ fn first_row(
     match records.next(row) {
         Ok(true) => match columns_of(row) {
             Ok(columns) => next_row(stage, columns, 2, records, row, grid, zone),
-            Err(fault) => failed(stage, ZoneFault::Row(fault)),
+            Err(fault) => failed(stage, OrMemory::Fault(fault)),
         },
         Ok(false) => {
             let fault = a_fault(1, Column::X, RowFaultKind::MissingColumn);
-            failed(stage, ZoneFault::Row(fault))
+            failed(stage, OrMemory::Fault(fault))
         }
-        Err(_) => failed(stage, ZoneFault::OutOfMemory),
+        Err(_) => failed(stage, OrMemory::OutOfMemory),
     }
 }
 
@@ -175,7 +175,7 @@ fn next_row(
     row: &mut ByteRecord,
     grid: Grid,
     zone: u8,
-) -> Result<Option<Block>, ZoneFault>
+) -> Result<Option<Block>, OrMemory<RowFault>>
     requires grid { IsGrid grid }
     requires zone { zone < MAX_ZONES }
     requires counted { number ≤ MAX_ROWS + 2 }
@@ -194,13 +194,13 @@ fn next_row(
                 Ok(Some(block))
             }
             Err(ColumnFault { column, kind }) => {
-                failed(stage, ZoneFault::Row(a_fault(number, column, kind)))
+                failed(stage, OrMemory::Fault(a_fault(number, column, kind)))
             }
         },
         Ok(false) => {
             *stage = Stage::Ended;
             Ok(None)
         }
-        Err(_) => failed(stage, ZoneFault::OutOfMemory),
+        Err(_) => failed(stage, OrMemory::OutOfMemory),
     }
 }

@@ -1,7 +1,7 @@
 //! Which plans are read, with which parts, and the first faulty record of the others.
 
 use pit_model::plan::Plan;
-use pit_model::plan_fault::{PlanFault, PlanFaultKind, ReadPlanError};
+use pit_model::plan_fault::{PlanFault, PlanFaultKind};
 use pit_model::read_plan;
 use pit_parts::cone::{Cone, Slope};
 use pit_parts::formula::{Formula, NamedFormula};
@@ -9,7 +9,7 @@ use pit_parts::grid::{Axis, Grid};
 use pit_parts::limit::{Bound, Limit};
 use pit_parts::name::Name;
 use pit_parts::resource::Resource;
-use pit_units::Dec;
+use pit_units::{Dec, OrMemory};
 use std::alloc::{AllocError, Global};
 use std::test::Fail;
 
@@ -79,8 +79,8 @@ fn joined(alloc: Global, records: &Records) -> Result<Vec<u8>, Fail> {
 fn fault_of(alloc: Global, text: &[u8]) -> Result<Option<(u32, PlanFaultKind)>, Fail> {
     match read_plan(alloc, text) {
         Ok(_) => Ok(None),
-        Err(ReadPlanError::Fault(PlanFault { row, kind })) => Ok(Some((row, kind))),
-        Err(ReadPlanError::OutOfMemory) => Err("memory")?,
+        Err(OrMemory::Fault(PlanFault { row, kind })) => Ok(Some((row, kind))),
+        Err(OrMemory::OutOfMemory) => Err("memory")?,
     }
 }
 

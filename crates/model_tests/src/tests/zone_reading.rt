@@ -3,10 +3,10 @@
 use pit_model::plan::Plan;
 use pit_model::read_plan;
 use pit_parts::block::Block;
+use pit_units::OrMemory;
 use std::alloc::Global;
 use std::test::Fail;
 use zone_csv::row_fault::{Column, RowFault, RowFaultKind};
-use zone_csv::zone_fault::ZoneFault;
 use zone_csv::zone_reader::ZoneReader;
 
 const PLAN: &[u8] =
@@ -159,7 +159,7 @@ fn reader_of(alloc: Global, text: Vec<u8>) -> Result<ZoneReader, Fail> {
     reader_by(alloc, &plan, text)
 }
 
-fn is_next(reader: &mut ZoneReader, answer: Result<Option<Block>, ZoneFault>) -> bool {
+fn is_next(reader: &mut ZoneReader, answer: Result<Option<Block>, OrMemory<RowFault>>) -> bool {
     reader.next() == answer
 }
 
@@ -174,7 +174,7 @@ fn gives(reader: &mut ZoneReader, row: Option<Row>) -> bool {
 // Whether a reader answers this fault, or none, now and ever after.
 fn ends(reader: &mut ZoneReader, fault: Option<(u32, Column, RowFaultKind)>) -> bool {
     let answer = match fault {
-        Some((row, column, kind)) => Err(ZoneFault::Row(RowFault { row, column, kind })),
+        Some((row, column, kind)) => Err(OrMemory::Fault(RowFault { row, column, kind })),
         None => Ok(None),
     };
     is_next(reader, answer) && is_next(reader, answer) && is_next(reader, answer)

@@ -27,9 +27,9 @@ use Rattle.pit_model.specs.declared.plan_key.PlanKey.TheVariants as key
 use Rattle.pit_model.specs.declared.plan_fault.PlanFaultKind.TheVariants.{Name, Width}
 
 -- what a reader of one cell answers is this value of it, or its fault
-abbrev pub Gives : {A : Type 0} → (A → Value) → Result A PlanFaultKind → Result Value PlanFaultKind → Type 0
-Gives value (Ok x) stated = stated ≡ Ok (value x)
-Gives value (Err kind) stated = stated ≡ Err kind
+abbrev pub ReadAs : {A : Type 0} → (A → Value) → Result A PlanFaultKind → Result Value PlanFaultKind → Type 0
+ReadAs value (Ok x) stated = stated ≡ Ok (value x)
+ReadAs value (Err kind) stated = stated ≡ Err kind
 
 -- what a cell names is of this number, or nothing
 abbrev pub Finds : Result ℕ PlanFaultKind → Option ℕ → Type 0

@@ -3,7 +3,7 @@
 ghost use Rattle.std.specs.Prelude.{◌≡◌, ◌≤◌, [], length, All, IfOk, Ok};
 ghost use Rattle.csv.specs.Records.{fields_of};
 ghost use Rattle.forms.specs.Shape.{failing, unless};
-ghost use Rattle.pit_model.specs.inner.Admits.{Admits};
+ghost use Rattle.pit_units.specs.OrMemory.{Gives};
 ghost use Rattle.pit_parts.specs.BandsKept.{IsBand};
 ghost use Rattle.pit_model.specs.inner.ByPlace.{destination_in, destined, formula_in, prices_in};
 ghost use Rattle.pit_model.specs.FormulaShapes.{bands_asked, formula_key_of};
@@ -19,12 +19,13 @@ use crate::band_cells::read_bands;
 use crate::draft::Draft;
 use crate::named::{is_taken, name_in};
 use crate::numbers::whole_in;
-use crate::plan_fault::{PlanFaultKind, RecordError};
+use crate::plan_fault::PlanFaultKind;
 use csv::ByteRecord;
 use pit_parts::band::{Band, Bands, starts_rise};
 use pit_parts::formula::{Formula, NamedFormula};
 use pit_parts::name::Name;
 use pit_parts::ranges::{MAX_BANDS, MAX_COST, MAX_DESTINATIONS, MAX_PRICE, MAX_RECOVERY};
+use pit_units::OrMemory;
 use records::cells::{cell_at, is_word};
 
 /// Which formula the record of a destination states.
@@ -57,9 +58,9 @@ impl Draft {
         key: FormulaKey,
         row: &ByteRecord,
         count: usize,
-    ) -> Result<(), RecordError>
+    ) -> Result<(), OrMemory<PlanFaultKind>>
         requires { count ≡ length (cells_of (fields_of row.now)) }
-        ensures { Admits self.new result
+        ensures { Gives (λ _. self.new) result
             (destination_in self.old key (cells_of (fields_of row.now))) }
     {
         match key {
@@ -69,26 +70,26 @@ impl Draft {
         }
     }
 
-    fn admit_mill(&mut self, row: &ByteRecord, count: usize) -> Result<(), RecordError>
+    fn admit_mill(&mut self, row: &ByteRecord, count: usize) -> Result<(), OrMemory<PlanFaultKind>>
         requires { count ≡ length (cells_of (fields_of row.now)) }
-        ensures { Admits self.new result
+        ensures { Gives (λ _. self.new) result
             (destination_in self.old key.Mill (cells_of (fields_of row.now))) }
     {
         if count != 5 {
-            return Err(RecordError::Fault(PlanFaultKind::Width));
+            return Err(OrMemory::Fault(PlanFaultKind::Width));
         }
         let name = name_in(self.alloc, cell_at(row, 1))?;
         let formula = mill_in(row)?;
         self.add_new(name, formula)
     }
 
-    fn admit_leach(&mut self, row: &ByteRecord, count: usize) -> Result<(), RecordError>
+    fn admit_leach(&mut self, row: &ByteRecord, count: usize) -> Result<(), OrMemory<PlanFaultKind>>
         requires { count ≡ length (cells_of (fields_of row.now)) }
-        ensures { Admits self.new result
+        ensures { Gives (λ _. self.new) result
             (destination_in self.old key.Leach (cells_of (fields_of row.now))) }
     {
         if count < 6 || count % 2 != 0 {
-            return Err(RecordError::Fault(PlanFaultKind::Width));
+            return Err(OrMemory::Fault(PlanFaultKind::Width));
         }
         let name = name_in(self.alloc, cell_at(row, 1))?;
         let (price, cost) = prices_in(cell_at(row, 2), cell_at(row, 3))?;
@@ -103,28 +104,28 @@ impl Draft {
         bands: Vec<Band>,
         price: u64,
         cost: u64,
-    ) -> Result<(), RecordError>
+    ) -> Result<(), OrMemory<PlanFaultKind>>
         requires some { 1 ≤ length bands.items }
         requires in_range { All IsBand bands.items }
         requires price { price ≤ MAX_PRICE }
         requires cost { cost ≤ MAX_COST }
-        ensures { Admits self.new result
+        ensures { Gives (λ _. self.new) result
             (destined self.old name (bands_asked bands.items) (Leach bands.items price cost)) }
     {
         if is_taken(self.formulas.as_slice(), name.as_str().as_bytes()) {
-            return Err(RecordError::Fault(PlanFaultKind::Twice));
+            return Err(OrMemory::Fault(PlanFaultKind::Twice));
         }
         let bands = rising(bands)?;
         self.add_formula(name, Formula::Leach { bands, price, cost })
     }
 
-    fn admit_dump(&mut self, row: &ByteRecord, count: usize) -> Result<(), RecordError>
+    fn admit_dump(&mut self, row: &ByteRecord, count: usize) -> Result<(), OrMemory<PlanFaultKind>>
         requires { count ≡ length (cells_of (fields_of row.now)) }
-        ensures { Admits self.new result
+        ensures { Gives (λ _. self.new) result
             (destination_in self.old key.Dump (cells_of (fields_of row.now))) }
     {
         if count != 3 {
-            return Err(RecordError::Fault(PlanFaultKind::Width));
+            return Err(OrMemory::Fault(PlanFaultKind::Width));
         }
         let name = name_in(self.alloc, cell_at(row, 1))?;
         let formula = dump_in(row)?;
@@ -132,25 +133,25 @@ impl Draft {
     }
 
     // Where no destination has the NAME yet.
-    fn add_new(&mut self, name: Name, formula: Formula) -> Result<(), RecordError>
+    fn add_new(&mut self, name: Name, formula: Formula) -> Result<(), OrMemory<PlanFaultKind>>
         requires { IsRuled formula }
-        ensures { Admits self.new result (destined self.old name [] formula) }
+        ensures { Gives (λ _. self.new) result (destined self.old name [] formula) }
     {
         if is_taken(self.formulas.as_slice(), name.as_str().as_bytes()) {
-            return Err(RecordError::Fault(PlanFaultKind::Twice));
+            return Err(OrMemory::Fault(PlanFaultKind::Twice));
         }
         self.add_formula(name, formula)
     }
 
     // Where there is room.
-    fn add_formula(&mut self, name: Name, formula: Formula) -> Result<(), RecordError>
+    fn add_formula(&mut self, name: Name, formula: Formula) -> Result<(), OrMemory<PlanFaultKind>>
         requires { IsRuled formula }
-        ensures { Admits self.new result
+        ensures { Gives (λ _. self.new) result
             (unless (failing (room_for_destination self.old))
             (Ok (with_destination self.old name formula))) }
     {
         if self.formulas.len() == MAX_DESTINATIONS as usize {
-            return Err(RecordError::Fault(PlanFaultKind::TooMany));
+            return Err(OrMemory::Fault(PlanFaultKind::TooMany));
         }
         self.formulas.push(NamedFormula { name, formula })?;
         Ok(())

@@ -6,8 +6,8 @@ use Rattle.lane.specs.declared.message.Taken.TheVariants.{End}
 use Rattle.pit_parts.specs.declared.block.Block.{Block}
 use Rattle.zone_csv.specs.ZoneReaderView.{ZoneReaderView, Ahead}
 use Rattle.zone_csv.specs.declared.row_fault.RowFault.{RowFault}
-use Rattle.zone_csv.specs.declared.zone_fault.ZoneFault.{ZoneFault}
-use Rattle.zone_csv.specs.declared.zone_fault.ZoneFault.TheVariants as zone_fault
+use Rattle.pit_units.specs.declared.or_memory.OrMemory.{OrMemory}
+use Rattle.pit_units.specs.declared.or_memory.OrMemory.TheVariants as zone
 use Rattle.run_threads.specs.MostBytes.{most_bytes}
 use Rattle.run_threads.specs.declared.read_fault.ReadFault.{ReadFault}
 use Rattle.run_threads.specs.declared.read_fault.ReadFault.TheVariants.{FeedFailed, TooLong, Row, OutOfMemory}
@@ -32,7 +32,7 @@ abbrev pub IsAllBut : ℕ → List Block → List Taken → Type 0
 IsAllBut file blocks sent = sent ++ End file (length sent) ∷ [] ≡ sent_from file 0 blocks
 
 -- what was put of a file of these blocks and this fault, by the answer
-abbrev pub HasPut : ℕ → List Block → Option RowFault → Result (Unit {0}) ZoneFault → List Taken → Type 0
+abbrev pub HasPut : ℕ → List Block → Option RowFault → Result (Unit {0}) (OrMemory RowFault) → List Taken → Type 0
 HasPut file blocks fault (Ok done) sent = (fault ≡ None) × IsAllBut file blocks sent
-HasPut file blocks fault (Err (zone_fault.Row x)) sent = (fault ≡ Some x) × IsAllBut file blocks sent
-HasPut file blocks fault (Err zone_fault.OutOfMemory) sent = Unit {0}
+HasPut file blocks fault (Err (zone.Fault x)) sent = (fault ≡ Some x) × IsAllBut file blocks sent
+HasPut file blocks fault (Err zone.OutOfMemory) sent = Unit {0}

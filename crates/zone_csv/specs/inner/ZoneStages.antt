@@ -7,8 +7,8 @@ use Rattle.pit_parts.specs.declared.grid.Grid.{Grid}
 use Rattle.zone_csv.specs.ZoneReaderView.{ZoneReaderView, Ahead, Told, NoMemory}
 use Rattle.zone_csv.specs.Zone.{records_say, rows_say, before_fault, first_fault}
 use Rattle.zone_csv.specs.declared.row_fault.RowFault.{RowFault}
-use Rattle.zone_csv.specs.declared.zone_fault.ZoneFault.{ZoneFault}
-use Rattle.zone_csv.specs.declared.zone_fault.ZoneFault.TheVariants.{Row, OutOfMemory}
+use Rattle.pit_units.specs.declared.or_memory.OrMemory.{OrMemory}
+use Rattle.pit_units.specs.declared.or_memory.OrMemory.TheVariants.{Fault, OutOfMemory}
 use Rattle.zone_csv.specs.declared.zone_reader.Stage.{Stage}
 use Rattle.zone_csv.specs.declared.zone_reader.Stage.TheVariants as stage
 
@@ -17,8 +17,8 @@ abbrev pub ahead : List (Result Block RowFault) → ZoneReaderView
 ahead said = Ahead (before_fault said) (first_fault said)
 
 -- a fault that was told
-abbrev pub told_fault : ZoneFault → ZoneReaderView
-told_fault (Row fault) = Told (Some fault)
+abbrev pub told_fault : OrMemory RowFault → ZoneReaderView
+told_fault (Fault fault) = Told (Some fault)
 told_fault OutOfMemory = NoMemory
 
 -- what is to be said at each stage, with these records ahead

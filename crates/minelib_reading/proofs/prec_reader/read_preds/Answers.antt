@@ -1,12 +1,12 @@
 use Rattle.std.proofs.Common.{◌≡◌, Err, rules, subst}
+use Rattle.pit_units.specs.OrMemory.{Gives}
 use Rattle.minelib_reading.specs.PrecLines.{finish_preds}
-use Rattle.minelib_reading.specs.inner.ReadAs.{GivesAs}
 use Rattle.minelib_reading.proofs.SpelledRead.{preds_finished, preds_stopped}
 use Rattle.minelib_reading.proofs.prec_reader.read_preds.Goals as goal
 
 pub returns : goal.returns
 returns g c =
-    let gives = GivesAs g.P.TakePreds.lists c.finish.result in
+    let gives = Gives g.P.TakePreds.lists c.finish.result in
     let d = c.read_lines.new.state in
     let end = c.in_ok-end.ensures.number in
     let whole = preds_finished c.args.blocks c.args.text.now d (search rules) in

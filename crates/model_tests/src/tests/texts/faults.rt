@@ -4,9 +4,10 @@ ghost use Rattle.std.specs.Prelude.{◌≤◌};
 
 use super::{CPIT, NINE_ABOVE};
 use minelib_reading::{read_cpit, read_instance};
+use pit_units::OrMemory;
 use std::alloc::Global;
 use std::test::Fail;
-use text_lines::text_fault::{ReadTextError, TextFault, TextFile, TextKind};
+use text_lines::text_fault::{TextFault, TextFile, TextKind};
 
 // The texts of one ore block, the last of them by line.
 const BLOCKS: &str = "0 0 0 0 1000 5000 0\n";
@@ -48,10 +49,10 @@ fn changed(alloc: Global, lines: &[&str], (before, gone, other): Change) -> Resu
     Ok(text)
 }
 
-fn fault_in(error: ReadTextError) -> Option<Fault> {
+fn fault_in(error: OrMemory<TextFault>) -> Option<Fault> {
     match error {
-        ReadTextError::Fault(TextFault { file, line, kind }) => Some((file, line, kind)),
-        ReadTextError::OutOfMemory => None,
+        OrMemory::Fault(TextFault { file, line, kind }) => Some((file, line, kind)),
+        OrMemory::OutOfMemory => None,
     }
 }
 
