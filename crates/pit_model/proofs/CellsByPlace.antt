@@ -4,15 +4,15 @@ use Rattle.std.proofs.Common.{refl, sym, ◌∙◌, ap, arith, drop-cons, length
 use Rattle.std.proofs.lemmas.Bool.Decides.{nat_tests}
 use Rattle.std.proofs.lemmas.Int.{ints}
 use Rattle.forms.proofs.FormFacts.{counted, read_fits}
-use Rattle.forms.specs.Field.{Field, Value, Bytes, Millionths, below, between, whole, whole_at}
+use Rattle.forms.specs.Field.{Field, Decimal, Value, Bytes, Millionths, below, between, whole, whole_at}
 use Rattle.forms.specs.Fit.{FitsField}
 use Rattle.forms.specs.Read.{read, read_field, read_fields}
 use Rattle.forms.specs.Shape.{Check, Shape, failing, said, unless}
 use Rattle.forms.specs.Steps.{◌>>=◌}
 use Rattle.records.specs.RecordCells.{cell_at}
-use Rattle.pit_model.specs.inner.ByPlace.{key_by_place, bound_in, destination_in, destined, limited, length_value, limit_in, read_from, resource_in, said_by_place, size_value, zone_in}
+use Rattle.pit_model.specs.inner.ByPlace.{bound_in, cone_in, destination_in, destined, grid_in, length_value, limit_in, limited, part_in, read_from, resource_in, said_by_place, size_value}
 use Rattle.pit_model.specs.FormulaShapes.{bands_asked, bands_form, bands_of, formula_shape}
-use Rattle.pit_model.specs.PlanShapes.{grid_shape, key_of, once, record_shape, a_destination, a_resource, bound_form, bound_of, cone_of, covers_of, limit_on, resource_asked, room_for_zone, cells_shape, destination_shape, is_interval, key_shape, limit_form, limit_shape, resource_form, resource_shape, zone_form, zone_shape}
+use Rattle.pit_model.specs.PlanShapes.{grid_form, grid_of, grid_shape, key_of, once, record_shape, a_destination, a_resource, bound_form, bound_of, cone_of, covers_of, limit_on, resource_asked, room_for_zone, cells_shape, destination_shape, is_interval, key_shape, limit_form, limit_shape, resource_form, resource_shape, zone_form, zone_shape}
 use Rattle.pit_model.specs.Stated.{Stated, resource_named, with_resource, with_zone}
 use Rattle.pit_model.specs.declared.plan_fault.PlanFaultKind.TheVariants.{Width}
 use Rattle.pit_model.specs.declared.draft.formulas.FormulaKey.{FormulaKey}
@@ -28,13 +28,22 @@ use Rattle.pit_model.specs.declared.plan_fault.PlanFaultKind.{PlanFaultKind}
 pub quotient : (n : ℕ) → n * 10 ^ 6 / 10 ^ 6 ≡ n
 quotient n = omega arith
 
-pub whole_read : (low high : ℕ) (cell : List ℕ) (m : ℤ) → read_field plan_kind (between low high) cell ≡ Ok (Millionths m)
+-- a whole number from the lowest on
+whole_value : (low : ℕ) (high : ℤ) (cell : List ℕ) (m : ℤ) → read_field plan_kind (Decimal 0 (pos low) high) cell ≡ Ok (Millionths m)
     → Millionths m ≡ whole (unsigned_abs m / 10 ^ 6)
-whole_read low high cell m e = by m (read_fits plan_kind (between low high) cell (Millionths m) refl e)
+whole_value low high cell m e = by m (read_fits plan_kind (Decimal 0 (pos low) high) cell (Millionths m) refl e)
   where
-    by : (m : ℤ) → FitsField (between low high) (Millionths m) → Millionths m ≡ whole (unsigned_abs m / 10 ^ 6)
+    by : (m : ℤ) → FitsField (Decimal 0 (pos low) high) (Millionths m) → Millionths m ≡ whole (unsigned_abs m / 10 ^ 6)
     by (pos k) fits = let same : k ≡ k / 10 ^ 6 * 10 ^ 6 = omega (arith, fits.3) in ap (λ k. Millionths (pos k)) same
     by (negsuc k) fits = absurd (omega (arith, ints, fits.0))
+
+pub whole_read : (low high : ℕ) (cell : List ℕ) (m : ℤ) → read_field plan_kind (between low high) cell ≡ Ok (Millionths m)
+    → Millionths m ≡ whole (unsigned_abs m / 10 ^ 6)
+whole_read low high cell m e = whole_value _ _ cell m e
+
+pub below_read : (limit : ℕ) (cell : List ℕ) (m : ℤ) → read_field plan_kind (below limit) cell ≡ Ok (Millionths m)
+    → Millionths m ≡ whole (unsigned_abs m / 10 ^ 6)
+below_read limit cell m e = whole_value _ _ cell m e
 
 under : (k n : ℕ) → suc k ≡ n * 1000 → negsuc k ≡ neg_ℤ (pos n) *ℤ pos 1000
 under k n h = omega (arith, ints)
@@ -43,14 +52,6 @@ under k n h = omega (arith, ints)
 thousands : (m : ℤ) → unsigned_abs m % 10 ^ 3 ≡ 0 → m ≡ int_div m (pos 1000) *ℤ pos 1000
 thousands (pos k) h = let same : k ≡ k / 1000 * 1000 = omega arith in ap pos same
 thousands (negsuc k) h = let same : suc k ≡ suc k / 1000 * 1000 = omega (arith, h) in under k (suc k / 1000) same
-
-pub below_read : (limit : ℕ) (cell : List ℕ) (m : ℤ) → read_field plan_kind (below limit) cell ≡ Ok (Millionths m)
-    → Millionths m ≡ whole (unsigned_abs m / 10 ^ 6)
-below_read limit cell m e = by m (read_fits plan_kind (below limit) cell (Millionths m) refl e)
-  where
-    by : (m : ℤ) → FitsField (below limit) (Millionths m) → Millionths m ≡ whole (unsigned_abs m / 10 ^ 6)
-    by (pos k) fits = let same : k ≡ k / 10 ^ 6 * 10 ^ 6 = omega (arith, fits.3) in ap (λ k. Millionths (pos k)) same
-    by (negsuc k) fits = absurd (omega (arith, ints, fits.0))
 
 pub origin_read : (cell : List ℕ) (m : ℤ) → read_field plan_kind an_origin cell ≡ Ok (Millionths m)
     → Millionths m ≡ length_value (int_div m (pos 1000))
@@ -91,39 +92,48 @@ from_front place [] cells long = by (drop place cells) (omega (arith, long, leng
 from_front place (field ∷ form) cells long =
     rw (drop-cons cells place [] (omega (arith, long)), from_front (suc place) form cells (omega (arith, long))) refl
 
-by_place : (cells : List (List ℕ)) (form : List Field) (last : List Value → List (Check PlanFaultKind)) (next : List Value → Stated)
-    → ¬ (length cells ≡ 0)
-    → said (cells_shape cells form last next) ≡ said_by_place cells (cells_shape cells form last next)
-by_place cells form last next some = by (length cells == suc (length form)) refl
+by_place : (cells : List (List ℕ)) (shape : Shape PlanFaultKind Stated) → ¬ (length cells ≡ 0)
+    → said (cells_shape cells shape.form shape.last shape.next) ≡ said_by_place cells shape
+by_place cells shape some = by (length cells == suc (length shape.form)) refl
   where
     Behind : Result (List Value) PlanFaultKind → Result Stated PlanFaultKind
-    Behind r = r >>= λ values. unless (failing (last values)) (Ok (next values))
+    Behind r = r >>= λ values. unless (failing (shape.last values)) (Ok (shape.next values))
 
-    by : (t : Bool) → (length cells == suc (length form)) ≡ t
-        → said (cells_shape cells form last next)
-        ≡ (if not t then Err Width else (read_from 1 form cells >>= λ values. unless (failing (last values)) (Ok (next values))))
+    by : (t : Bool) → (length cells == suc (length shape.form)) ≡ t
+        → said (cells_shape cells shape.form shape.last shape.next)
+        ≡ (if not t then Err Width else Behind (read_from 1 shape.form cells))
     by true e =
-        let long : length cells ≡ suc (length form) = eqb-true _ _ e in
-        let same : read (λ p. plan_kind) form (drop 1 cells) ≡ read_from 1 form cells =
-        counted (λ p. plan_kind) form (drop 1 cells) (omega (arith, long, length-drop 1 cells))
-        ∙ sym (from_front 1 form cells (omega (arith, long))) in
-        ap (λ r. r >>= λ values. unless (failing (last values)) (Ok (next values))) same
+        let long : length cells ≡ suc (length shape.form) = eqb-true _ _ e in
+        let same : read (λ p. plan_kind) shape.form (drop 1 cells) ≡ read_from 1 shape.form cells =
+        counted (λ p. plan_kind) shape.form (drop 1 cells) (omega (arith, long, length-drop 1 cells))
+        ∙ sym (from_front 1 shape.form cells (omega (arith, long))) in
+        ap Behind same
     by false e =
-        let short : (length (drop 1 cells) == length form) ≡ false =
-        unequal _ _ (λ is. other (length cells) (suc (length form)) e (omega (arith, some, is, length-drop 1 cells))) in
+        let short : (length (drop 1 cells) == length shape.form) ≡ false =
+        unequal _ _ (λ is. other (length cells) (suc (length shape.form)) e (omega (arith, some, is, length-drop 1 cells))) in
         rw short refl
 
-zone_placed : (s : Stated) (cells : List (List ℕ)) → said_by_place cells (zone_shape s cells) ≡ zone_in s cells
-zone_placed s cells = by (length cells == suc (length (zone_form (length cells == 4)))) (read_from 1 (zone_form (length cells == 4)) cells)
+-- a part read on its own
+part_placed : {A : Type 0} (form : List Field) (part : List Value → A) (asked : A → List (Check PlanFaultKind)) (next : A → Stated)
+    (cells : List (List ℕ))
+    → said_by_place cells (cells_shape cells form (λ values. asked (part values)) (λ values. next (part values)))
+    ≡ (part_in form part cells >>= λ x. unless (failing (asked x)) (Ok (next x)))
+part_placed {A} form part asked next cells = by (length cells == suc (length form)) (read_from 1 form cells)
   where
     by : (t : Bool) (r : Result (List Value) PlanFaultKind)
-        → (if not t then Err Width else (r
-        >>= λ values. unless (failing ((zone_shape s cells).last values)) (Ok ((zone_shape s cells).next values))))
-        ≡ ((if not t then Err Width else (r >>= λ values. Ok (cone_of (length cells == 4) values)))
-        >>= λ cone. unless (failing (room_for_zone s)) (Ok (with_zone s cone)))
+        → (if not t then Err Width else (r >>= λ values. unless (failing (asked (part values))) (Ok (next (part values)))))
+        ≡ ((if not t then Err Width else (r >>= λ values. Ok (part values))) >>= λ x. unless (failing (asked x)) (Ok (next x)))
     by false r = refl
     by true (Ok values) = refl
     by true (Err kind) = refl
+
+pub grid_placed : (s : Stated) (cells : List (List ℕ)) → said_by_place cells (grid_shape s cells)
+    ≡ (grid_in cells >>= λ grid. unless (failing (once s.grid)) (Ok (record s { grid = Some grid })))
+grid_placed s cells = part_placed grid_form grid_of (λ grid. once s.grid) (λ grid. record s { grid = Some grid }) cells
+
+pub zone_placed : (s : Stated) (cells : List (List ℕ)) → said_by_place cells (zone_shape s cells)
+    ≡ (cone_in cells >>= λ cone. unless (failing (room_for_zone s)) (Ok (with_zone s cone)))
+zone_placed s cells = part_placed (zone_form (length cells == 4)) (cone_of (length cells == 4)) (λ cone. room_for_zone s) (with_zone s) cells
 
 bands_long : (n : ℕ) → length (bands_form n) ≡ 2 * n
 bands_long zero = refl
@@ -173,7 +183,7 @@ formula_placed s made alike true (Err kind) rs = refl
 formula_placed s made alike true (Ok a) (Err kind) = refl
 formula_placed s made alike true (Ok a) (Ok values) = ap (λ formula. destined s (word_of a) [] formula) (alike a values)
 
-destination_placed : (s : Stated) (k : FormulaKey) (cells : List (List ℕ)) → Placed s k cells
+pub destination_placed : (s : Stated) (k : FormulaKey) (cells : List (List ℕ)) → Placed s k cells
 destination_placed s formula_key.Leach cells = leach_placed s cells
 destination_placed s k cells =
     formula_placed s (formula_shape k cells).made
@@ -184,7 +194,7 @@ all_long : (n : ℕ) (field : Field) → length (replicate n field) ≡ n
 all_long zero field = refl
 all_long (suc n) field = omega (arith, all_long n field)
 
-resource_placed : (s : Stated) (cells : List (List ℕ)) → said_by_place cells (resource_shape s cells) ≡ resource_in s cells
+pub resource_placed : (s : Stated) (cells : List (List ℕ)) → said_by_place cells (resource_shape s cells) ≡ resource_in s cells
 resource_placed s cells =
     rw width (by (nat_lt (length cells) 3) (read_field plan_kind a_name (cell_at cells 1))
     (read_from 2 (replicate (suc (length cells - 3)) (a_destination s.formulas)) cells))
@@ -202,7 +212,7 @@ resource_placed s cells =
     by false (Ok a) (Err kind) = refl
     by false (Ok a) (Ok bs) = refl
 
-limit_placed : (s : Stated) (cells : List (List ℕ)) → said_by_place cells (limit_shape s cells) ≡ limit_in s cells
+pub limit_placed : (s : Stated) (cells : List (List ℕ)) → said_by_place cells (limit_shape s cells) ≡ limit_in s cells
 limit_placed s cells =
     by (length cells == suc (length (limit_form s cells))) (read_field plan_kind (a_resource s.resources) (cell_at cells 1))
     (read_field plan_kind (below (unwrap_or s.periods 0)) (cell_at cells 2)) (read_from 3 (bound_form (is_interval cells)) cells)
@@ -219,56 +229,28 @@ limit_placed s cells =
     by true (Ok a) (Ok b) (Err kind) = refl
     by true (Ok a) (Ok b) (Ok cs) = refl
 
-keyed : (cells : List (List ℕ)) (shape : Shape PlanFaultKind Stated) → ¬ (length cells ≡ 0)
-    → said (cells_shape cells shape.form shape.last shape.next) ≡ said_by_place cells shape
-keyed cells shape some = by_place cells shape.form shape.last shape.next some
-
 key_placed : (s : Stated) (k : PlanKey) (cells : List (List ℕ)) → ¬ (length cells ≡ 0)
-    → said (key_shape s (Some k) cells) ≡ key_by_place s k cells
-key_placed s key.Zone cells some = keyed cells (key_shape s (Some key.Zone) cells) some ∙ zone_placed s cells
-key_placed s key.Resource cells some = keyed cells (key_shape s (Some key.Resource) cells) some ∙ resource_placed s cells
-key_placed s key.Limit cells some = keyed cells (key_shape s (Some key.Limit) cells) some ∙ limit_placed s cells
-key_placed s key.Name cells some = keyed cells (key_shape s (Some key.Name) cells) some
-key_placed s key.Grid cells some = keyed cells (key_shape s (Some key.Grid) cells) some
-key_placed s (key.Destination k) cells some = keyed cells (key_shape s (Some (key.Destination k)) cells) some ∙ destination_placed s k cells
-key_placed s key.Periods cells some = keyed cells (key_shape s (Some key.Periods) cells) some
-key_placed s key.Rate cells some = keyed cells (key_shape s (Some key.Rate) cells) some
+    → said (key_shape s (Some k) cells) ≡ said_by_place cells (key_shape s (Some k) cells)
+key_placed s key.Name cells some = by_place cells (key_shape s (Some key.Name) cells) some
+key_placed s key.Grid cells some = by_place cells (key_shape s (Some key.Grid) cells) some
+key_placed s key.Zone cells some = by_place cells (key_shape s (Some key.Zone) cells) some
+key_placed s (key.Destination k) cells some = by_place cells (key_shape s (Some (key.Destination k)) cells) some
+key_placed s key.Periods cells some = by_place cells (key_shape s (Some key.Periods) cells) some
+key_placed s key.Rate cells some = by_place cells (key_shape s (Some key.Rate) cells) some
+key_placed s key.Resource cells some = by_place cells (key_shape s (Some key.Resource) cells) some
+key_placed s key.Limit cells some = by_place cells (key_shape s (Some key.Limit) cells) some
 
 pub recorded : (s : Stated) (k : PlanKey) (cells : List (List ℕ)) → ¬ (length cells ≡ 0) → key_of (cell_at cells 0) ≡ Some k
-    → said (record_shape s cells) ≡ key_by_place s k cells
+    → said (record_shape s cells) ≡ said_by_place cells (key_shape s (Some k) cells)
 recorded s k cells some is = let test : (length cells == 0) ≡ false = unequal _ _ some in rw (test, is) (key_placed s k cells some)
-
--- a grid of axes
-pub grid_said : (s : Stated) (cells : List (List ℕ)) (x y z : ℤ) (a b c : ℕ) → length cells ≡ 7
-    → read_field plan_kind an_origin (cell_at cells 1) ≡ Ok (length_value x)
-    → read_field plan_kind an_origin (cell_at cells 2) ≡ Ok (length_value y)
-    → read_field plan_kind an_origin (cell_at cells 3) ≡ Ok (length_value z) → read_field plan_kind a_size (cell_at cells 4) ≡ Ok (size_value a)
-    → read_field plan_kind a_size (cell_at cells 5) ≡ Ok (size_value b) → read_field plan_kind a_size (cell_at cells 6) ≡ Ok (size_value c)
-    → said_by_place cells (grid_shape s cells)
-    ≡ unless (failing (once s.grid)) (Ok (record s {
-      grid = Some (record {
-        x = record { origin = x; size = a };
-        y = record { origin = y; size = b };
-        z =
-            record { origin = z; size = c };
-      });
-    }))
-grid_said s cells x y z a b c long rx ry rz ra rb rc =
-    rw (long, rx, ry, rz, ra, rb, rc) (λ i. unless (failing (once s.grid)) (Ok (record s {
-      grid = Some (record {
-        x = record { origin = length_back x i; size = size_back a i };
-        y = record { origin = length_back y i; size = size_back b i };
-        z = record { origin = length_back z i; size = size_back c i };
-      });
-    })))
 
 -- a limit by its parts
 pub limit_said : (s : Stated) (cells : List (List ℕ)) (resource period : ℕ) (bound : Bound)
     → length cells ≡ suc (length (limit_form s cells))
     → resource_named s.resources (cell_at cells 1) ≡ Some resource
     → read_field plan_kind (below (unwrap_or s.periods 0)) (cell_at cells 2) ≡ Ok (whole period) → bound_in cells ≡ Ok bound
-    → limit_in s cells ≡ limited s (record { resource = resource; period = period; bound = bound })
+    → said_by_place cells (limit_shape s cells) ≡ limited s (record { resource = resource; period = period; bound = bound })
 limit_said s cells resource period bound long named stated bounded =
     let test : (length cells == suc (length (limit_form s cells))) ≡ true = eq-eqb _ _ long in
     let there : unwrap_or (resource_named s.resources (cell_at cells 1)) 0 ≡ resource = rw named refl in
-    rw (test, named, stated, bounded) (λ i. limited s (record { resource = there i; period = quotient period i; bound = bound }))
+    limit_placed s cells ∙ rw (test, named, stated, bounded) (λ i. limited s (record { resource = there i; period = quotient period i; bound = bound }))

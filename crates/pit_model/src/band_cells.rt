@@ -1,19 +1,16 @@
 //! The bands in the cells of a `leach` record.
 
 ghost use Rattle.std.specs.Prelude.{◌≡◌, ◌+◌, ◌-◌, ◌/◌, ◌%◌, ◌≤◌, suc, length, pos, unsigned_abs, All, OnOk, IfOk};
-ghost use Rattle.csv.specs.Records.{fields_of};
 ghost use Rattle.pit_units.specs.OrMemory.{Gives};
 ghost use Rattle.pit_parts.specs.BandsKept.{IsBand};
 ghost use Rattle.pit_model.specs.inner.ByPlace.{band_by, bands_in};
-ghost use Rattle.records.specs.RecordCells.{cells_of};
 
+use crate::cells::Cells;
 use crate::numbers::{number_in, whole_in};
 use crate::plan_fault::PlanFaultKind;
-use csv::ByteRecord;
 use pit_parts::band::Band;
 use pit_parts::ranges::MAX_RECOVERY;
 use pit_units::OrMemory;
-use records::cells::cell_at;
 
 // The band of two cells, its start and its recovery.
 #[tactic(auto, using(crate::proofs::CellsByPlace::quotient))]
@@ -29,25 +26,20 @@ fn band_in(start: &[u8], recovery: &[u8]) -> Result<Band, PlanFaultKind>
     })
 }
 
-/// Adds the bands of a record of so many cells, an even number, from its fifth cell on.
+/// Adds the bands of a record, whose cells are of an even number, from its fifth cell on.
 #[tactic(auto, using(crate::proofs::BandSteps::bands_end))]
-pub fn read_bands(
-    row: &ByteRecord,
-    count: usize,
-    bands: &mut Vec<Band>,
-) -> Result<(), OrMemory<PlanFaultKind>>
-    requires whole { count ≡ length (cells_of (fields_of row.now)) }
-    requires pairs { count % 2 ≡ 0 }
-    requires some { 6 ≤ count }
+pub fn read_bands(cells: &Cells, bands: &mut Vec<Band>) -> Result<(), OrMemory<PlanFaultKind>>
+    requires pairs { length cells.now % 2 ≡ 0 }
+    requires some { 6 ≤ length cells.now }
     requires in_range { All IsBand bands.old.items }
     ensures reads { Gives (λ _. bands.new.items) result
-        (bands_in 4 (suc ((count - 6) / 2)) (cells_of (fields_of row.now)) bands.old.items) }
+        (bands_in 4 (suc ((length cells.now - 6) / 2)) cells.now bands.old.items) }
     ensures in_range { All IsBand bands.new.items }
     ensures counted { OnOk result
-        (length bands.new.items ≡ length bands.old.items + (count / 2 - 2)) }
+        (length bands.new.items ≡ length bands.old.items + (length cells.now / 2 - 2)) }
 {
-    for pair in 2..count / 2 {
-        let band = band_in(cell_at(row, 2 * pair), cell_at(row, 2 * pair + 1))?;
+    for pair in 2..cells.len() / 2 {
+        let band = band_in(cells.at(2 * pair), cells.at(2 * pair + 1))?;
         bands.push(band)?;
     }
     Ok(())

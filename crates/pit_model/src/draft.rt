@@ -1,6 +1,6 @@
 //! A plan while its records are read.
 
-ghost use Rattle.std.specs.Prelude.{◌≡◌, ◌≤ℤ◌, ◌<◌, ◌≤◌, pos, length, unwrap_or, All, IfOk};
+ghost use Rattle.std.specs.Prelude.{◌≡◌, ◌≤ℤ◌, ◌<◌, ◌≤◌, pos, length, Some, unwrap_or, All, IfOk};
 ghost use Rattle.csv.specs.Records.{fields_of};
 ghost use Rattle.pit_units.specs.OrMemory.{Gives};
 ghost use Rattle.records.specs.RecordCells.{cells_of};
@@ -8,30 +8,31 @@ ghost use Rattle.pit_parts.specs.PlanKept.{AreTonnes};
 ghost use Rattle.forms.specs.Field.{Millionths};
 ghost use Rattle.forms.specs.Read.{read_field};
 ghost use Rattle.forms.specs.Shape.{said};
-ghost use Rattle.pit_model.specs.inner.ByPlace.{ReadAs, covered, key_by_place, limit_in, limited, resource_in, said_by_place, zone_in};
+ghost use Rattle.pit_model.specs.inner.ByPlace.{ReadAs, covered, limited, said_by_place};
 ghost use Rattle.pit_model.specs.PlanCells.{a_rate, plan_kind};
-ghost use Rattle.pit_model.specs.PlanShapes.{grid_shape, name_shape, periods_shape, rate_shape, record_shape};
+ghost use Rattle.pit_model.specs.PlanShapes.{grid_shape, key_shape, limit_shape, name_shape, periods_shape, rate_shape, record_shape, resource_shape, zone_shape};
 ghost use Rattle.pit_model.specs.Planned.{finished};
 ghost use Rattle.pit_model.specs.Stated.{nothing_stated};
 ghost use Rattle.pit_parts.specs.declared.ranges.TheConstants.{MAX_RATE};
 
+use crate::cells::Cells;
+use crate::grid_cells::grid_in;
 use crate::limit_cells::{bound_in, insert_limit, is_limited, limit_width, period_in};
 use crate::named::{covers_in, has_repeat, is_resource, name_in, resource_in};
-use crate::numbers::{number_in, origin_in, size_in, whole_in};
+use crate::numbers::{number_in, whole_in};
 use crate::plan_fault::PlanFaultKind;
 use crate::plan_key::{PlanKey, key_of};
 use crate::zone_cells::cone_in;
 use csv::ByteRecord;
 use pit_parts::cone::Cone;
 use pit_parts::formula::NamedFormula;
-use pit_parts::grid::{Axis, Grid};
+use pit_parts::grid::Grid;
 use pit_parts::limit::Limit;
 use pit_parts::name::Name;
 use pit_parts::plan::{Horizon, Plan};
 use pit_parts::ranges::{MAX_PERIODS, MAX_RATE, MAX_RESOURCES, MAX_ZONES};
 use pit_parts::resource::Resource;
 use pit_units::{Dec, OrMemory};
-use records::cells::{cell_at, cell_count};
 use std::alloc::Global;
 use std::marker::Model;
 
@@ -89,35 +90,29 @@ impl Draft {
         ensures { Gives (λ _. self.new) result
             (said (record_shape self.old (cells_of (fields_of row.now)))) }
     {
-        let count = cell_count(row);
-        if count == 0 {
+        let cells = Cells::of(row);
+        if cells.len() == 0 {
             return Ok(());
         }
-        match key_of(cell_at(row, 0)) {
+        match key_of(cells.at(0)) {
             None => Err(OrMemory::Fault(PlanFaultKind::Key)),
-            Some(key) => self.admit_key(key, row, count),
+            Some(key) => self.admit_key(key, &cells),
         }
     }
 
-    fn admit_key(
-        &mut self,
-        key: PlanKey,
-        row: &ByteRecord,
-        count: usize,
-    ) -> Result<(), OrMemory<PlanFaultKind>>
-        requires { count ≡ length (cells_of (fields_of row.now)) }
+    fn admit_key(&mut self, key: PlanKey, cells: &Cells) -> Result<(), OrMemory<PlanFaultKind>>
         ensures { Gives (λ _. self.new) result
-            (key_by_place self.old key (cells_of (fields_of row.now))) }
+            (said_by_place cells.now (key_shape self.old (Some key) cells.now)) }
     {
         match key {
-            PlanKey::Name => self.admit_name(row, count),
-            PlanKey::Grid => self.admit_grid(row, count),
-            PlanKey::Zone => self.admit_zone(row, count),
-            PlanKey::Destination(key) => self.admit_destination(key, row, count),
-            PlanKey::Periods => self.admit_periods(row, count),
-            PlanKey::Rate => self.admit_rate(row, count),
-            PlanKey::Resource => self.admit_resource(row, count),
-            PlanKey::Limit => self.admit_limit(row, count),
+            PlanKey::Name => self.admit_name(cells),
+            PlanKey::Grid => self.admit_grid(cells),
+            PlanKey::Zone => self.admit_zone(cells),
+            PlanKey::Destination(key) => self.admit_destination(key, cells),
+            PlanKey::Periods => self.admit_periods(cells),
+            PlanKey::Rate => self.admit_rate(cells),
+            PlanKey::Resource => self.admit_resource(cells),
+            PlanKey::Limit => self.admit_limit(cells),
         }
     }
 
@@ -147,16 +142,14 @@ impl Draft {
         ))
     }
 
-    fn admit_name(&mut self, row: &ByteRecord, count: usize) -> Result<(), OrMemory<PlanFaultKind>>
-        requires { count ≡ length (cells_of (fields_of row.now)) }
+    fn admit_name(&mut self, cells: &Cells) -> Result<(), OrMemory<PlanFaultKind>>
         ensures { Gives (λ _. self.new) result
-            (said_by_place (cells_of (fields_of row.now))
-            (name_shape self.old (cells_of (fields_of row.now)))) }
+            (said_by_place cells.now (name_shape self.old cells.now)) }
     {
-        if count != 2 {
+        if cells.len() != 2 {
             return Err(OrMemory::Fault(PlanFaultKind::Width));
         }
-        let name = name_in(self.alloc, cell_at(row, 1))?;
+        let name = name_in(self.alloc, cells.at(1))?;
         if self.name.is_some() {
             return Err(OrMemory::Fault(PlanFaultKind::Twice));
         }
@@ -164,47 +157,24 @@ impl Draft {
         Ok(())
     }
 
-    #[tactic(auto, using(crate::proofs::CellsByPlace::grid_said))]
-    fn admit_grid(&mut self, row: &ByteRecord, count: usize) -> Result<(), OrMemory<PlanFaultKind>>
-        requires { count ≡ length (cells_of (fields_of row.now)) }
+    #[tactic(auto, using(crate::proofs::CellsByPlace::grid_placed))]
+    fn admit_grid(&mut self, cells: &Cells) -> Result<(), OrMemory<PlanFaultKind>>
         ensures { Gives (λ _. self.new) result
-            (said_by_place (cells_of (fields_of row.now))
-            (grid_shape self.old (cells_of (fields_of row.now)))) }
+            (said_by_place cells.now (grid_shape self.old cells.now)) }
     {
-        if count != 7 {
-            return Err(OrMemory::Fault(PlanFaultKind::Width));
-        }
-        let x = origin_in(cell_at(row, 1))?;
-        let y = origin_in(cell_at(row, 2))?;
-        let z = origin_in(cell_at(row, 3))?;
-        let along_x = size_in(cell_at(row, 4))?;
-        let along_y = size_in(cell_at(row, 5))?;
-        let along_z = size_in(cell_at(row, 6))?;
+        let grid = grid_in(cells)?;
         if self.grid.is_some() {
             return Err(OrMemory::Fault(PlanFaultKind::Twice));
         }
-        self.grid = Some(Grid {
-            x: Axis {
-                origin: x,
-                size: along_x,
-            },
-            y: Axis {
-                origin: y,
-                size: along_y,
-            },
-            z: Axis {
-                origin: z,
-                size: along_z,
-            },
-        });
+        self.grid = Some(grid);
         Ok(())
     }
 
-    fn admit_zone(&mut self, row: &ByteRecord, count: usize) -> Result<(), OrMemory<PlanFaultKind>>
-        requires { count ≡ length (cells_of (fields_of row.now)) }
-        ensures { Gives (λ _. self.new) result (zone_in self.old (cells_of (fields_of row.now))) }
+    #[tactic(auto, using(crate::proofs::CellsByPlace::zone_placed))]
+    fn admit_zone(&mut self, cells: &Cells) -> Result<(), OrMemory<PlanFaultKind>>
+        ensures { Gives (λ _. self.new) result (said_by_place cells.now (zone_shape self.old cells.now)) }
     {
-        let cone = cone_in(row, count)?;
+        let cone = cone_in(cells)?;
         if self.cones.len() == MAX_ZONES as usize {
             return Err(OrMemory::Fault(PlanFaultKind::TooMany));
         }
@@ -212,20 +182,16 @@ impl Draft {
         Ok(())
     }
 
-    fn admit_resource(
-        &mut self,
-        row: &ByteRecord,
-        count: usize,
-    ) -> Result<(), OrMemory<PlanFaultKind>>
-        requires { count ≡ length (cells_of (fields_of row.now)) }
+    #[tactic(auto, using(crate::proofs::CellsByPlace::resource_placed))]
+    fn admit_resource(&mut self, cells: &Cells) -> Result<(), OrMemory<PlanFaultKind>>
         ensures { Gives (λ _. self.new) result
-            (resource_in self.old (cells_of (fields_of row.now))) }
+            (said_by_place cells.now (resource_shape self.old cells.now)) }
     {
-        if count < 3 {
+        if cells.len() < 3 {
             return Err(OrMemory::Fault(PlanFaultKind::Width));
         }
-        let name = name_in(self.alloc, cell_at(row, 1))?;
-        let covers = covers_in(self.alloc, row, count, self.formulas.as_slice())?;
+        let name = name_in(self.alloc, cells.at(1))?;
+        let covers = covers_in(self.alloc, cells, self.formulas.as_slice())?;
         self.add_resource(Resource { name, covers })
     }
 
@@ -246,17 +212,16 @@ impl Draft {
         Ok(())
     }
 
-    #[tactic(auto, using(crate::proofs::CellsByPlace::limit_said))]
-    fn admit_limit(&mut self, row: &ByteRecord, count: usize) -> Result<(), OrMemory<PlanFaultKind>>
-        requires { count ≡ length (cells_of (fields_of row.now)) }
-        ensures { Gives (λ _. self.new) result (limit_in self.old (cells_of (fields_of row.now))) }
+    #[tactic(auto, using(crate::proofs::CellsByPlace::limit_placed, crate::proofs::CellsByPlace::limit_said))]
+    fn admit_limit(&mut self, cells: &Cells) -> Result<(), OrMemory<PlanFaultKind>>
+        ensures { Gives (λ _. self.new) result (said_by_place cells.now (limit_shape self.old cells.now)) }
     {
-        if count != limit_width(row) {
+        if cells.len() != limit_width(cells) {
             return Err(OrMemory::Fault(PlanFaultKind::Width));
         }
-        let resource = resource_in(self.resources.as_slice(), cell_at(row, 1))?;
-        let period = period_in(self.periods.unwrap_or(0), cell_at(row, 2))?;
-        let bound = bound_in(row)?;
+        let resource = resource_in(self.resources.as_slice(), cells.at(1))?;
+        let period = period_in(self.periods.unwrap_or(0), cells.at(2))?;
+        let bound = bound_in(cells)?;
         self.add_limit(Limit {
             resource,
             period,
@@ -281,20 +246,14 @@ impl Draft {
     }
 
     #[tactic(auto, using(crate::proofs::CellsByPlace::quotient))]
-    fn admit_periods(
-        &mut self,
-        row: &ByteRecord,
-        count: usize,
-    ) -> Result<(), OrMemory<PlanFaultKind>>
-        requires { count ≡ length (cells_of (fields_of row.now)) }
+    fn admit_periods(&mut self, cells: &Cells) -> Result<(), OrMemory<PlanFaultKind>>
         ensures { Gives (λ _. self.new) result
-            (said_by_place (cells_of (fields_of row.now))
-            (periods_shape self.old (cells_of (fields_of row.now)))) }
+            (said_by_place cells.now (periods_shape self.old cells.now)) }
     {
-        if count != 2 {
+        if cells.len() != 2 {
             return Err(OrMemory::Fault(PlanFaultKind::Width));
         }
-        let periods = whole_in(cell_at(row, 1), 1, MAX_PERIODS)?;
+        let periods = whole_in(cells.at(1), 1, MAX_PERIODS)?;
         if self.periods.is_some() {
             return Err(OrMemory::Fault(PlanFaultKind::Twice));
         }
@@ -302,16 +261,14 @@ impl Draft {
         Ok(())
     }
 
-    fn admit_rate(&mut self, row: &ByteRecord, count: usize) -> Result<(), OrMemory<PlanFaultKind>>
-        requires { count ≡ length (cells_of (fields_of row.now)) }
+    fn admit_rate(&mut self, cells: &Cells) -> Result<(), OrMemory<PlanFaultKind>>
         ensures { Gives (λ _. self.new) result
-            (said_by_place (cells_of (fields_of row.now))
-            (rate_shape self.old (cells_of (fields_of row.now)))) }
+            (said_by_place cells.now (rate_shape self.old cells.now)) }
     {
-        if count != 2 {
+        if cells.len() != 2 {
             return Err(OrMemory::Fault(PlanFaultKind::Width));
         }
-        let rate = rate_in(cell_at(row, 1))?;
+        let rate = rate_in(cells.at(1))?;
         if self.rate.is_some() {
             return Err(OrMemory::Fault(PlanFaultKind::Twice));
         }

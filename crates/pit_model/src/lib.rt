@@ -2,7 +2,9 @@
 #![tactic(auto)]
 
 mod band_cells;
+mod cells;
 mod draft;
+mod grid_cells;
 pub mod laws;
 mod limit_cells;
 mod named;

@@ -2,8 +2,6 @@
 
 ghost use Rattle.std.specs.Prelude.{◌≡◌, ◌+◌, ◌<◌, ◌≤◌, ◌^◌, ◌≤ℤ◌, length, pos, bytes_eq, position, IfErr, IfOk, IfSome, OnErr, OnOk};
 ghost use Rattle.std.specs.List.{list_any, position_or_len};
-ghost use Rattle.csv.specs.Records.{fields_of};
-ghost use Rattle.records.specs.RecordCells.{cells_of};
 ghost use Rattle.pit_parts.specs.PlanKept.{AreTonnes, stands_before};
 ghost use Rattle.forms.specs.Field.{Millionths, below, whole};
 ghost use Rattle.forms.specs.Read.{read_field};
@@ -13,13 +11,12 @@ ghost use Rattle.pit_model.specs.PlanShapes.{bound_form, is_interval};
 ghost use Rattle.pit_model.specs.Stated.{is_same_place, with_limit};
 ghost use Rattle.pit_parts.specs.declared.ranges.TheConstants.{MAX_TONNES};
 
+use crate::cells::Cells;
 use crate::numbers::number_in;
 use crate::plan_fault::PlanFaultKind;
-use csv::ByteRecord;
 use pit_parts::limit::{Bound, Limit};
 use pit_parts::ranges::MAX_TONNES;
 use pit_units::{Dec, OrMemory};
-use records::cells::cell_at;
 
 fn is_letter(cell: &[u8], letter: &[u8]) -> bool
     ensures { result ≡ bytes_eq cell.now letter.now }
@@ -28,14 +25,10 @@ fn is_letter(cell: &[u8], letter: &[u8]) -> bool
 }
 
 /// How many cells the record has to have: an interval has one more.
-pub fn limit_width(row: &ByteRecord) -> usize
-    ensures { result ≡ 3 + length (bound_form (is_interval (cells_of (fields_of row.now)))) }
+pub fn limit_width(cells: &Cells) -> usize
+    ensures { result ≡ 3 + length (bound_form (is_interval cells.now)) }
 {
-    if is_letter(cell_at(row, 3), b"I") {
-        6
-    } else {
-        5
-    }
+    if is_letter(cells.at(3), b"I") { 6 } else { 5 }
 }
 
 /// The number of a period, of which there are so many.
@@ -57,19 +50,19 @@ fn tonnes_in(cell: &[u8]) -> Result<Dec, PlanFaultKind>
 }
 
 /// What the record asks, by its letter.
-pub fn bound_in(row: &ByteRecord) -> Result<Bound, PlanFaultKind>
-    ensures value { result ≡ bound_in (cells_of (fields_of row.now)) }
+pub fn bound_in(cells: &Cells) -> Result<Bound, PlanFaultKind>
+    ensures value { result ≡ bound_in cells.now }
     ensures in_range { IfOk result AreTonnes }
 {
-    let letter = cell_at(row, 3);
+    let letter = cells.at(3);
     if is_letter(letter, b"I") {
-        let low = tonnes_in(cell_at(row, 4))?;
-        let high = tonnes_in(cell_at(row, 5))?;
+        let low = tonnes_in(cells.at(4))?;
+        let high = tonnes_in(cells.at(5))?;
         Ok(Bound::Between(low, high))
     } else if is_letter(letter, b"L") {
-        Ok(Bound::AtMost(tonnes_in(cell_at(row, 4))?))
+        Ok(Bound::AtMost(tonnes_in(cells.at(4))?))
     } else if is_letter(letter, b"G") {
-        Ok(Bound::AtLeast(tonnes_in(cell_at(row, 4))?))
+        Ok(Bound::AtLeast(tonnes_in(cells.at(4))?))
     } else {
         Err(PlanFaultKind::Name)
     }

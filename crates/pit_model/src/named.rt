@@ -1,10 +1,8 @@
 //! The NAMEs in a plan's cells.
 
 ghost use Rattle.std.specs.Prelude.{◌≡◌, ◌-◌, ◌<◌, ◌≤◌, suc, [], length, is_some, All, IfOk, IfSome};
-ghost use Rattle.csv.specs.Records.{fields_of};
 ghost use Rattle.pit_units.specs.OrMemory.{Gives};
 ghost use Rattle.pit_model.specs.inner.ByPlace.{Finds, covers_in};
-ghost use Rattle.records.specs.RecordCells.{cells_of};
 ghost use Rattle.pit_parts.specs.PlanKept.{has_repeat};
 ghost use Rattle.forms.specs.Field.{Bytes};
 ghost use Rattle.forms.specs.Read.{read_field};
@@ -12,13 +10,12 @@ ghost use Rattle.pit_model.specs.PlanCells.{a_name, plan_kind};
 ghost use Rattle.pit_model.specs.Stated.{destination_named, resource_named};
 ghost use Rattle.pit_parts.specs.declared.ranges.TheConstants.{MAX_DESTINATIONS, MAX_RESOURCES};
 
+use crate::cells::Cells;
 use crate::plan_fault::PlanFaultKind;
-use csv::ByteRecord;
 use pit_parts::formula::NamedFormula;
 use pit_parts::name::Name;
 use pit_parts::resource::{Covers, Resource};
 use pit_units::OrMemory;
-use records::cells::cell_at;
 use std::alloc::Global;
 
 /// The NAME that a cell spells.
@@ -87,21 +84,19 @@ fn resource_place(resources: &[Resource], name: &[u8]) -> Option<usize>
 #[tactic(auto, using(crate::proofs::BandSteps::covers_end))]
 pub fn covers_in(
     alloc: Global,
-    row: &ByteRecord,
-    count: usize,
+    cells: &Cells,
     formulas: &[NamedFormula],
 ) -> Result<Covers, OrMemory<PlanFaultKind>>
-    requires whole { count ≡ length (cells_of (fields_of row.now)) }
-    requires some { 3 ≤ count }
+    requires some { 3 ≤ length cells.now }
     requires few { length formulas.now ≤ MAX_DESTINATIONS }
     ensures value { Gives (λ covers. covers) result
-        (covers_in 2 (suc (count - 3)) (cells_of (fields_of row.now)) formulas.now []) }
+        (covers_in 2 (suc (length cells.now - 3)) cells.now formulas.now []) }
     ensures there { IfOk result (λ covers. All (λ n. n < length formulas.now) covers) }
-    ensures each { IfOk result (λ covers. length covers ≡ count - 2) }
+    ensures each { IfOk result (λ covers. length covers ≡ length cells.now - 2) }
 {
     let mut covers = Vec::new(alloc);
-    for place in 2..count {
-        let number = destination_in(formulas, cell_at(row, place))?;
+    for place in 2..cells.len() {
+        let number = destination_in(formulas, cells.at(place))?;
         covers.push(number)?;
     }
     Ok(Covers::new(covers))

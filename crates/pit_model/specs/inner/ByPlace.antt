@@ -8,9 +8,9 @@ use Rattle.forms.specs.Steps.{◌>>=◌}
 use Rattle.records.specs.RecordCells.{cell_at, cells_of}
 use Rattle.pit_model.specs.PlanCells.{a_cost, a_name, a_price, a_recovery, a_start, plan_kind, word_of}
 use Rattle.pit_model.specs.FormulaShapes.{band_at, bands_asked, bands_form, bands_of, formula_shape}
-use Rattle.pit_model.specs.PlanShapes.{a_destination, a_resource, bound_form, bound_of, cone_of, covers_of, is_interval, key_shape, limit_asked, limit_form, limit_on, new_destination, record_shape, resource_asked, room_for_destination, room_for_zone, zone_form}
+use Rattle.pit_model.specs.PlanShapes.{a_destination, a_resource, bound_form, bound_of, cone_of, covers_of, grid_form, grid_of, is_interval, limit_asked, limit_form, limit_on, new_destination, record_shape, resource_asked, room_for_destination, zone_form}
 use Rattle.pit_model.specs.Planned.{numbered_shape, plan_grammar}
-use Rattle.pit_model.specs.Stated.{Stated, with_destination, with_limit, with_resource, with_zone}
+use Rattle.pit_model.specs.Stated.{Stated, with_destination, with_limit, with_resource}
 use Rattle.pit_parts.specs.declared.band.Band.{Band}
 use Rattle.pit_parts.specs.declared.cone.Cone.{Cone}
 use Rattle.pit_model.specs.declared.draft.formulas.FormulaKey.{FormulaKey}
@@ -18,12 +18,11 @@ use Rattle.pit_model.specs.declared.draft.formulas.FormulaKey.TheVariants as for
 use Rattle.pit_parts.specs.declared.formula.Formula.{Formula}
 use Rattle.pit_parts.specs.declared.formula.Formula.TheVariants.{Leach}
 use Rattle.pit_parts.specs.declared.formula.NamedFormula.{NamedFormula}
+use Rattle.pit_parts.specs.declared.grid.Grid.{Grid}
 use Rattle.pit_parts.specs.declared.limit.Bound.{Bound}
 use Rattle.pit_parts.specs.declared.limit.Limit.{Limit}
 use Rattle.pit_model.specs.declared.plan_fault.PlanFault.{PlanFault}
 use Rattle.pit_model.specs.declared.plan_fault.PlanFaultKind.{PlanFaultKind}
-use Rattle.pit_model.specs.declared.plan_key.PlanKey.{PlanKey}
-use Rattle.pit_model.specs.declared.plan_key.PlanKey.TheVariants as key
 use Rattle.pit_model.specs.declared.plan_fault.PlanFaultKind.TheVariants.{Name, Width}
 
 -- what a reader of one cell answers is this value of it, or its fault
@@ -56,16 +55,22 @@ said_by_place cells shape =
     if not (length cells == suc (length shape.form)) then Err Width
     else (read_from 1 shape.form cells >>= λ values. unless (failing (shape.last values)) (Ok (shape.next values)))
 
--- that of a zone, of a destination, of a resource and of a limit, whose parts are read on their own
+-- one part that the cells behind a key state: a grid, a cone
+abbrev pub part_in : {A : Type 0} → List Field → (List Value → A) → List (List ℕ) → Result A PlanFaultKind
+part_in form part cells =
+    if not (length cells == suc (length form)) then Err Width else (read_from 1 form cells >>= λ values. Ok (part values))
+
+abbrev pub grid_in : List (List ℕ) → Result Grid PlanFaultKind
+grid_in cells = part_in grid_form grid_of cells
+
+-- a cone of one slope, or of four
 abbrev pub cone_by : Bool → List (List ℕ) → Result Cone PlanFaultKind
 cone_by equal cells = read_from 1 (zone_form equal) cells >>= λ values. Ok (cone_of equal values)
 
 abbrev pub cone_in : List (List ℕ) → Result Cone PlanFaultKind
-cone_in cells = if not (length cells == suc (length (zone_form (length cells == 4)))) then Err Width else cone_by (length cells == 4) cells
+cone_in cells = part_in (zone_form (length cells == 4)) (cone_of (length cells == 4)) cells
 
-abbrev pub zone_in : Stated → List (List ℕ) → Result Stated PlanFaultKind
-zone_in s cells = cone_in cells >>= λ cone. unless (failing (room_for_zone s)) (Ok (with_zone s cone))
-
+-- a destination, a resource and a limit, whose parts are read one behind the other
 abbrev pub band_by : List ℕ → List ℕ → Result Band PlanFaultKind
 band_by start recovery = do
   from ← read_field plan_kind a_start start
@@ -129,17 +134,6 @@ limit_in s cells =
       period ← read_field plan_kind (below (unwrap_or s.periods 0)) (cell_at cells 2)
       bound ← bound_in cells
       limited s (limit_on s (word_of resource) (whole_at (period ∷ []) 0) bound)
-
--- the record of this key
-abbrev pub key_by_place : Stated → PlanKey → List (List ℕ) → Result Stated PlanFaultKind
-key_by_place s key.Zone cells = zone_in s cells
-key_by_place s key.Resource cells = resource_in s cells
-key_by_place s key.Limit cells = limit_in s cells
-key_by_place s (key.Destination k) cells = destination_in s k cells
-key_by_place s key.Name cells = said_by_place cells (key_shape s (Some key.Name) cells)
-key_by_place s key.Grid cells = said_by_place cells (key_shape s (Some key.Grid) cells)
-key_by_place s key.Periods cells = said_by_place cells (key_shape s (Some key.Periods) cells)
-key_by_place s key.Rate cells = said_by_place cells (key_shape s (Some key.Rate) cells)
 
 -- the record of this number, behind what was stated before it
 abbrev pub record_said : ℕ → Stated → List (List ℕ) → Result Stated PlanFault

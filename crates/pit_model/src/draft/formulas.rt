@@ -1,32 +1,30 @@
 //! The records of destinations: for each formula its key, and how its cells are read.
 
 ghost use Rattle.std.specs.Prelude.{◌≡◌, ◌≤◌, [], length, All, IfOk, Ok};
-ghost use Rattle.csv.specs.Records.{fields_of};
 ghost use Rattle.forms.specs.Shape.{failing, unless};
 ghost use Rattle.pit_units.specs.OrMemory.{Gives};
 ghost use Rattle.pit_parts.specs.BandsKept.{IsBand};
-ghost use Rattle.pit_model.specs.inner.ByPlace.{destination_in, destined, formula_in, prices_in};
+ghost use Rattle.pit_model.specs.inner.ByPlace.{destination_in, destined, formula_in, prices_in, said_by_place};
 ghost use Rattle.pit_model.specs.FormulaShapes.{bands_asked, formula_key_of};
 ghost use Rattle.pit_parts.specs.Formula.{IsRuled};
-ghost use Rattle.pit_model.specs.PlanShapes.{room_for_destination};
+ghost use Rattle.pit_model.specs.PlanShapes.{destination_shape, room_for_destination};
 ghost use Rattle.pit_model.specs.Stated.{with_destination};
 ghost use Rattle.pit_model.specs.declared.draft.formulas.FormulaKey.TheVariants as key;
 ghost use Rattle.pit_parts.specs.declared.formula.Formula.TheVariants.{Leach};
 ghost use Rattle.pit_parts.specs.declared.ranges.TheConstants.{MAX_COST, MAX_PRICE};
-ghost use Rattle.records.specs.RecordCells.{cells_of};
 
 use crate::band_cells::read_bands;
+use crate::cells::Cells;
 use crate::draft::Draft;
 use crate::named::{is_taken, name_in};
 use crate::numbers::whole_in;
 use crate::plan_fault::PlanFaultKind;
-use csv::ByteRecord;
 use pit_parts::band::{Band, Bands, starts_rise};
 use pit_parts::formula::{Formula, NamedFormula};
 use pit_parts::name::Name;
 use pit_parts::ranges::{MAX_BANDS, MAX_COST, MAX_DESTINATIONS, MAX_PRICE, MAX_RECOVERY};
 use pit_units::OrMemory;
-use records::cells::{cell_at, is_word};
+use records::cells::is_word;
 
 /// Which formula the record of a destination states.
 #[derive(Clone, Copy, Debug, PartialEq, Eq)]
@@ -52,49 +50,46 @@ pub fn formula_key_of(cell: &[u8]) -> Option<FormulaKey>
 }
 
 impl Draft {
-    /// Adds the destination of a record of so many cells.
+    /// Adds the destination of a record.
+    #[tactic(auto, using(crate::proofs::CellsByPlace::destination_placed))]
     pub(crate) fn admit_destination(
         &mut self,
         key: FormulaKey,
-        row: &ByteRecord,
-        count: usize,
+        cells: &Cells,
     ) -> Result<(), OrMemory<PlanFaultKind>>
-        requires { count ≡ length (cells_of (fields_of row.now)) }
         ensures { Gives (λ _. self.new) result
-            (destination_in self.old key (cells_of (fields_of row.now))) }
+            (said_by_place cells.now (destination_shape self.old key cells.now)) }
     {
         match key {
-            FormulaKey::Mill => self.admit_mill(row, count),
-            FormulaKey::Leach => self.admit_leach(row, count),
-            FormulaKey::Dump => self.admit_dump(row, count),
+            FormulaKey::Mill => self.admit_mill(cells),
+            FormulaKey::Leach => self.admit_leach(cells),
+            FormulaKey::Dump => self.admit_dump(cells),
         }
     }
 
-    fn admit_mill(&mut self, row: &ByteRecord, count: usize) -> Result<(), OrMemory<PlanFaultKind>>
-        requires { count ≡ length (cells_of (fields_of row.now)) }
+    fn admit_mill(&mut self, cells: &Cells) -> Result<(), OrMemory<PlanFaultKind>>
         ensures { Gives (λ _. self.new) result
-            (destination_in self.old key.Mill (cells_of (fields_of row.now))) }
+            (destination_in self.old key.Mill cells.now) }
     {
-        if count != 5 {
+        if cells.len() != 5 {
             return Err(OrMemory::Fault(PlanFaultKind::Width));
         }
-        let name = name_in(self.alloc, cell_at(row, 1))?;
-        let formula = mill_in(row)?;
+        let name = name_in(self.alloc, cells.at(1))?;
+        let formula = mill_in(cells)?;
         self.add_new(name, formula)
     }
 
-    fn admit_leach(&mut self, row: &ByteRecord, count: usize) -> Result<(), OrMemory<PlanFaultKind>>
-        requires { count ≡ length (cells_of (fields_of row.now)) }
+    fn admit_leach(&mut self, cells: &Cells) -> Result<(), OrMemory<PlanFaultKind>>
         ensures { Gives (λ _. self.new) result
-            (destination_in self.old key.Leach (cells_of (fields_of row.now))) }
+            (destination_in self.old key.Leach cells.now) }
     {
-        if count < 6 || count % 2 != 0 {
+        if cells.len() < 6 || cells.len() % 2 != 0 {
             return Err(OrMemory::Fault(PlanFaultKind::Width));
         }
-        let name = name_in(self.alloc, cell_at(row, 1))?;
-        let (price, cost) = prices_in(cell_at(row, 2), cell_at(row, 3))?;
+        let name = name_in(self.alloc, cells.at(1))?;
+        let (price, cost) = prices_in(cells.at(2), cells.at(3))?;
         let mut bands = Vec::new(self.alloc);
-        read_bands(row, count, &mut bands)?;
+        read_bands(cells, &mut bands)?;
         self.add_leach(name, bands, price, cost)
     }
 
@@ -119,16 +114,15 @@ impl Draft {
         self.add_formula(name, Formula::Leach { bands, price, cost })
     }
 
-    fn admit_dump(&mut self, row: &ByteRecord, count: usize) -> Result<(), OrMemory<PlanFaultKind>>
-        requires { count ≡ length (cells_of (fields_of row.now)) }
+    fn admit_dump(&mut self, cells: &Cells) -> Result<(), OrMemory<PlanFaultKind>>
         ensures { Gives (λ _. self.new) result
-            (destination_in self.old key.Dump (cells_of (fields_of row.now))) }
+            (destination_in self.old key.Dump cells.now) }
     {
-        if count != 3 {
+        if cells.len() != 3 {
             return Err(OrMemory::Fault(PlanFaultKind::Width));
         }
-        let name = name_in(self.alloc, cell_at(row, 1))?;
-        let formula = dump_in(row)?;
+        let name = name_in(self.alloc, cells.at(1))?;
+        let formula = dump_in(cells)?;
         self.add_new(name, formula)
     }
 
@@ -160,13 +154,13 @@ impl Draft {
 
 // The numbers of a mill.
 #[tactic(auto, using(crate::proofs::CellsByPlace::quotient))]
-fn mill_in(row: &ByteRecord) -> Result<Formula, PlanFaultKind>
-    ensures value { result ≡ formula_in key.Mill (cells_of (fields_of row.now)) }
+fn mill_in(cells: &Cells) -> Result<Formula, PlanFaultKind>
+    ensures value { result ≡ formula_in key.Mill cells.now }
     ensures in_range { IfOk result IsRuled }
 {
-    let recovery = whole_in(cell_at(row, 2), 0, u32::from(MAX_RECOVERY))?;
-    let price = whole_in(cell_at(row, 3), 0, MAX_PRICE)?;
-    let cost = whole_in(cell_at(row, 4), 0, MAX_COST)?;
+    let recovery = whole_in(cells.at(2), 0, u32::from(MAX_RECOVERY))?;
+    let price = whole_in(cells.at(3), 0, MAX_PRICE)?;
+    let cost = whole_in(cells.at(4), 0, MAX_COST)?;
     Ok(Formula::Mill {
         recovery: recovery as u16,
         price: price as u64,
@@ -176,11 +170,11 @@ fn mill_in(row: &ByteRecord) -> Result<Formula, PlanFaultKind>
 
 // The cost of a dump.
 #[tactic(auto, using(crate::proofs::CellsByPlace::quotient))]
-fn dump_in(row: &ByteRecord) -> Result<Formula, PlanFaultKind>
-    ensures value { result ≡ formula_in key.Dump (cells_of (fields_of row.now)) }
+fn dump_in(cells: &Cells) -> Result<Formula, PlanFaultKind>
+    ensures value { result ≡ formula_in key.Dump cells.now }
     ensures in_range { IfOk result IsRuled }
 {
-    let cost = whole_in(cell_at(row, 2), 0, MAX_COST)?;
+    let cost = whole_in(cells.at(2), 0, MAX_COST)?;
     Ok(Formula::Dump { cost: cost as u64 })
 }
 

@@ -1,6 +1,6 @@
 use Rattle.std.proofs.Common.{rules, ◌∙◌, ap, Ok}
 use Rattle.pit_model.proofs.CellsByPlace.{origin_read}
-use Rattle.pit_model.proofs.numbers.origin_in.Goals as goal
+use Rattle.pit_model.proofs.grid_cells.origin_in.Goals as goal
 
 pub returns-clause-value : goal.returns-clause-value
 returns-clause-value c =
