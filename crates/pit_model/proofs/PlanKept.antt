@@ -20,11 +20,13 @@ use Rattle.pit_model.specs.PlanCells.{a_bound, a_period_count, a_rate, word_at, 
 use Rattle.pit_model.specs.FormulaShapes.{formula_shape}
 use Rattle.pit_model.specs.PlanShapes.{a_destination, blank_shape, bound_form, bound_of, cone_of, covers_of, grid_form, grid_of, is_interval, key_of, key_shape, limit_form, limit_of, record_shape, resource_form, room_for_destination, slope_at, zone_form}
 use Rattle.pit_model.specs.Planned.{SpellPlan, numbered_shape, plan_grammar, whole_plan}
-use Rattle.pit_model.specs.Stated.{Stated, is_same_place, nothing_stated, resource_named, with_destination}
+use Rattle.pit_model.specs.Stated.{Stated, is_same_place, nothing_stated, resource_named, with_destination, with_limit, with_zone}
+use Rattle.pit_parts.specs.declared.cone.Cone.{Cone}
 use Rattle.pit_parts.specs.declared.formula.Formula.{Formula}
 use Rattle.pit_parts.specs.declared.formula.NamedFormula.{NamedFormula}
 use Rattle.pit_parts.specs.declared.grid.Grid.{Grid}
 use Rattle.pit_parts.specs.declared.limit.Bound.TheVariants.{AtMost, AtLeast}
+use Rattle.pit_parts.specs.declared.limit.Limit.{Limit}
 use Rattle.pit_model.specs.declared.plan_fault.PlanFaultKind.{PlanFaultKind}
 use Rattle.pit_model.specs.declared.plan_fault.PlanFaultKind.TheVariants.{Missing, Twice, Order, TooMany}
 use Rattle.pit_model.specs.declared.plan_key.PlanKey.{PlanKey}
@@ -91,6 +93,43 @@ cone_kept false values fit = (
   ),
   between_fits 1 20 _ (fits_at (zone_form false) values 8 fit),
 )
+
+-- one zone more, in range
+pub zone_kept : (s : Stated) (cone : Cone) → KeepsStated s → length (s.cones ++ cone ∷ []) ≤ MAX_ZONES → IsCone cone
+    → KeepsStated (with_zone s cone)
+zone_kept s cone kept few in_range = record {
+  grid = kept.grid;
+  zones = few;
+  cones = All-push IsCone s.cones cone kept.cones in_range;
+  destinations = kept.destinations;
+  formulas = kept.formulas;
+  periods = kept.periods;
+  rate = kept.rate;
+  resources = kept.resources;
+  covers = kept.covers;
+  covers_once = kept.covers_once;
+  limits = kept.limits;
+  rising = kept.rising;
+}
+
+-- one limit more, in its place, on a resource and a period that are there
+pub limit_kept : (s : Stated) (l : Limit) → KeepsStated s → l.resource < length s.resources → l.period < unwrap_or s.periods 0
+    → IsBound l.bound → list_any (λ m. is_same_place l m) s.limits ≡ false → KeepsStated (record s { limits = with_limit l s.limits })
+limit_kept s l kept there early bound none = record {
+  grid = kept.grid;
+  zones = kept.zones;
+  cones = kept.cones;
+  destinations = kept.destinations;
+  formulas = kept.formulas;
+  periods = kept.periods;
+  rate = kept.rate;
+  resources = kept.resources;
+  covers = kept.covers;
+  covers_once = kept.covers_once;
+  limits = All-with_limit (λ m. (m.resource < length s.resources) × (m.period < unwrap_or s.periods 0) × IsBound m.bound) l s.limits
+      (there, early, bound) kept.limits;
+  rising = rises l s.limits kept.rising none;
+}
 
 -- one destination more, its numbers in range
 destination_kept : (s : Stated) (name : List ℕ) (formula : Formula) → KeepsStated s → IsRuled formula
@@ -201,20 +240,8 @@ key_kept s (Some key.Grid) cells kept values fit holds = record {
 }
 key_kept s (Some key.Zone) cells kept values fit holds =
     let cone = cone_of (length cells == 4) values in
-    record {
-      grid = kept.grid;
-      zones = room s.cones cone MAX_ZONES kept.zones (held TooMany (not (length s.cones == MAX_ZONES)) [] holds).0;
-      cones = All-push IsCone s.cones cone kept.cones (cone_kept (length cells == 4) values fit);
-      destinations = kept.destinations;
-      formulas = kept.formulas;
-      periods = kept.periods;
-      rate = kept.rate;
-      resources = kept.resources;
-      covers = kept.covers;
-      covers_once = kept.covers_once;
-      limits = kept.limits;
-      rising = kept.rising;
-    }
+    zone_kept s cone kept (room s.cones cone MAX_ZONES kept.zones (held TooMany (not (length s.cones == MAX_ZONES)) [] holds).0)
+    (cone_kept (length cells == 4) values fit)
 key_kept s (Some (key.Destination k)) cells kept values fit holds =
     let new = held Twice _ ((formula_shape k cells).asked values ++ room_for_destination s) holds in
     let both = apart ((formula_shape k cells).asked values) (room_for_destination s) new.1 in
@@ -292,25 +319,10 @@ key_kept s (Some key.Limit) cells kept values fit holds =
     let early = below_fits (unwrap_or s.periods 0) _ (fits_at form values 1 fit) in
     let alone = held Twice (not (list_any (λ m. is_same_place new m) s.limits)) (check Order (not (is_turned new.bound))) holds in
     let straight = held Order (not (is_turned new.bound)) [] alone.1 in
-    let bound : IsBound new.bound = record {
+    limit_kept s new kept there early (record {
       tonnes = bound_kept (is_interval cells) (drop 2 values) (fits_behind 2 form values fit);
       straight = not_true (is_turned new.bound) straight.0;
-    } in
-    record {
-      grid = kept.grid;
-      zones = kept.zones;
-      cones = kept.cones;
-      destinations = kept.destinations;
-      formulas = kept.formulas;
-      periods = kept.periods;
-      rate = kept.rate;
-      resources = kept.resources;
-      covers = kept.covers;
-      covers_once = kept.covers_once;
-      limits = All-with_limit (λ l. (l.resource < length s.resources) × (l.period < unwrap_or s.periods 0) × IsBound l.bound) new s.limits
-          (there, early, bound) kept.limits;
-      rising = rises new s.limits kept.rising (not_true (list_any (λ m. is_same_place new m) s.limits) alone.0);
-    }
+    }) (not_true (list_any (λ m. is_same_place new m) s.limits) alone.0)
 
 -- a record
 record_kept : (s next : Stated) (cells : List (List ℕ)) → KeepsStated s → States (record_shape s cells) next → KeepsStated next

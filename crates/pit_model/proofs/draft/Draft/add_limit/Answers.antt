@@ -2,7 +2,7 @@ use Rattle.std.proofs.Common.{◌≡◌, ◌<◌, sym, ◌∙◌, ap, length, un
 use Rattle.std.specs.List.{list_any}
 use Rattle.pit_parts.specs.PlanKept.{IsBound}
 use Rattle.pit_model.specs.Stated.{Stated, is_same_place}
-use Rattle.pit_model.proofs.Limits.{rises, All-with_limit}
+use Rattle.pit_model.proofs.PlanKept.{limit_kept}
 use Rattle.pit_model.proofs.draft.Draft.add_limit.Goals as goal
 
 pub invariant_of-self-2 : goal.invariant_of-self-2
@@ -19,18 +19,4 @@ invariant_of-self-2 c =
     let none : list_any (λ m. is_same_place c.args.limit m) old ≡ false =
     ap (λ xs. list_any (λ m. is_same_place c.args.limit m) xs) (sym c.as_slice.ensures.value) ∙ sym c.is_limited.ensures
     ∙ c.if-is_limited.false in
-    record {
-      grid = kept.grid;
-      zones = kept.zones;
-      cones = kept.cones;
-      destinations = kept.destinations;
-      formulas = kept.formulas;
-      periods = kept.periods;
-      rate = kept.rate;
-      resources = kept.resources;
-      covers = kept.covers;
-      covers_once = kept.covers_once;
-      limits = rw now (All-with_limit (λ l. (l.resource < length c.self.inside.resources.items)
-          × (l.period < unwrap_or c.self.inside.periods 0) × IsBound l.bound) c.args.limit old (resource, period, bound) kept.limits);
-      rising = rw now (rises c.args.limit old kept.rising none);
-    }
+    rw now (limit_kept _ c.args.limit kept resource period bound none)
