@@ -1,16 +1,18 @@
 -- A header's columns are those that it names.
 use Rattle.std.proofs.Common.{◌≡◌, ℕ, zero, suc, ◌+◌, Bool, true, false, List, [], ◌∷◌, ◌++◌, length, arith, refl, sym, ◌∙◌, ap, subst, Ok, Err, Some, None}
-use Rattle.std.specs.Prelude.{Result, Option, ◌==◌, codes, nat_le, slice_index_or}
+use Rattle.std.specs.List.{AllZip}
+use Rattle.std.specs.Prelude.{Result, Option, ◌==◌, flat_map, map, nat_le, slice_index_or}
 use Rattle.std.proofs.lemmas.Bool.Decides.{nat_tests}
 use Rattle.records.specs.Cells.{trimmed, is_word}
 use Rattle.forms.specs.Shape.{Check, failing, unless}
-use Rattle.zone_csv.proofs.RowFacts.{failing_of_row}
+use Rattle.zone_csv.proofs.RowFacts.{AreOfRow, failing_of_row}
 use Rattle.zone_csv.specs.Cell.{a_fault, trimmed_at}
-use Rattle.zone_csv.specs.Header.{a_column, asked_of_header, columns_of, places_of}
+use Rattle.zone_csv.specs.Columns.{all_columns, column_name}
+use Rattle.zone_csv.specs.Header.{a_column, asked_of_column, asked_of_header, columns_of, place_in, places_in, places_of}
 use Rattle.zone_csv.specs.NamedColumns.{NamesColumn, NamesColumns}
 use Rattle.zone_csv.specs.declared.columns.Columns.{Columns}
 use Rattle.zone_csv.specs.declared.row_fault.Column.{Column}
-use Rattle.zone_csv.specs.declared.row_fault.Column.TheVariants as column
+use Rattle.zone_csv.specs.declared.row_fault.Column.TheVariants.{X, Y, Z, Tonnes, Grade, Whole}
 use Rattle.zone_csv.specs.declared.row_fault.RowFault.{RowFault}
 use Rattle.zone_csv.specs.declared.row_fault.RowFaultKind.TheVariants.{TwiceColumn}
 
@@ -93,16 +95,49 @@ module _ (name : List ℕ) (no_name : is_word [] name ≡ false) where
   pub named_place : (header : List (List ℕ)) (p : ℕ) → NamesColumn header name p → places_of name header 0 ≡ p ∷ []
   named_place header p h = let place : 0 + p ≡ p = omega arith in one_place header 0 p h ∙ ap (λ q. q ∷ []) place
 
--- a column of which nothing fails has one place
-passes : (place : Column) (places : List ℕ) (rest : List (Check RowFault)) → failing (a_column place places ++ rest) ≡ None
-    → (places ≡ slice_index_or places 0 0 ∷ []) × (failing rest ≡ None)
-passes place [] rest e = absurd cc
-passes place (p ∷ []) rest e = (refl, e)
-passes place (p ∷ second ∷ more) rest e =
+-- a column of which nothing fails has one place, and leaves what is asked of those behind it
+one_place_each : (column : Column) (places : List ℕ) (rest : List (Check RowFault)) → failing (a_column column places ++ rest) ≡ None
+    → (places ≡ slice_index_or places 0 0 ∷ []) × ((more : List (Check RowFault)) → failing (a_column column places ++ more) ≡ failing more)
+one_place_each column [] rest e = absurd cc
+one_place_each column (p ∷ []) rest e = (refl, λ more. refl)
+one_place_each column (p ∷ second ∷ more) rest e =
     let some : (length (p ∷ second ∷ more) == 0) ≡ false = grind (arith, nat_tests) in
     let twice : nat_le (length (p ∷ second ∷ more)) 1 ≡ false = grind (arith, nat_tests) in
-    let fails : Some (a_fault 1 place TwiceColumn) ≡ None = rw (some, twice) at e in
+    let fails : Some (a_fault 1 column TwiceColumn) ≡ None = rw (some, twice) at e in
     absurd cc
+
+-- no column is named by an empty cell
+no_name : (column : Column) → is_word [] (column_name column) ≡ false
+no_name X = refl
+no_name Y = refl
+no_name Z = refl
+no_name Tonnes = refl
+no_name Grade = refl
+no_name Whole = refl
+
+module _ (header : List (List ℕ)) where
+  abbrev IsNamed : Column → ℕ → Type 0
+  IsNamed column place = NamesColumn header (column_name column) place
+
+  -- columns of which nothing fails are named at their places
+  columns_stand : (columns : List Column) → failing (flat_map (asked_of_column header) columns) ≡ None
+      → AllZip IsNamed columns (map (place_in header) columns)
+  columns_stand [] e = tt
+  columns_stand (column ∷ columns) e =
+      let rest = flat_map (asked_of_column header) columns in
+      let one = one_place_each column (places_in header column) rest e in
+      (place_named (column_name column) (no_name column) header _ one.0, columns_stand columns (sym (one.1 rest) ∙ e))
+
+  -- and of columns that are named nothing fails
+  standing_columns : (columns : List Column) (places : List ℕ) → AllZip IsNamed columns places
+      → (failing (flat_map (asked_of_column header) columns) ≡ None) × (map (place_in header) columns ≡ places)
+  standing_columns [] [] named = (refl, refl)
+  standing_columns [] (place ∷ places) named = absurd named
+  standing_columns (column ∷ columns) [] named = absurd named
+  standing_columns (column ∷ columns) (place ∷ places) named =
+      let here = named_place (column_name column) (no_name column) header place named.0 in
+      let rest = standing_columns columns places named.1 in
+      (rw here rest.0, rw here (ap (λ ps. place ∷ ps) rest.1))
 
 passed : {S : Type 0} (found : Option RowFault) (made other : S) → ◌≡◌ {A = Result S RowFault} (unless found (Ok made)) (Ok other)
     → (found ≡ None) × (made ≡ other)
@@ -112,42 +147,14 @@ passed None made other e = (refl, cc)
 pub columns_named : (header : List (List ℕ)) (columns : Columns) → columns_of header ≡ Ok columns → NamesColumns header columns
 unfolding columns_of
 columns_named header columns e =
-    let none = passed (failing (asked_of_header header)) _ columns e in
-    let from_grade = a_column column.Grade (places_of (codes "grade") header 0) in
-    let from_tonnes = a_column column.Tonnes (places_of (codes "tonnes") header 0) ++ from_grade in
-    let from_z = a_column column.Z (places_of (codes "z") header 0) ++ from_tonnes in
-    let from_y = a_column column.Y (places_of (codes "y") header 0) ++ from_z in
-    let x = passes column.X (places_of (codes "x") header 0) from_y none.0 in
-    let y = passes column.Y (places_of (codes "y") header 0) from_z x.1 in
-    let z = passes column.Z (places_of (codes "z") header 0) from_tonnes y.1 in
-    let tonnes = passes column.Tonnes (places_of (codes "tonnes") header 0) from_grade z.1 in
-    let grade = passes column.Grade (places_of (codes "grade") header 0) [] tonnes.1 in
-    subst (NamesColumns header) none.1 (record {
-      width = refl;
-      x = place_named (codes "x") refl header _ x.0;
-      y = place_named (codes "y") refl header _ y.0;
-      z = place_named (codes "z") refl header _ z.0;
-      tonnes = place_named (codes "tonnes") refl header _ tonnes.0;
-      grade = place_named (codes "grade") refl header _ grade.0;
-    })
+    let all = passed (failing (asked_of_header header)) _ columns e in
+    subst (NamesColumns header) all.1 (record { width = refl; places = columns_stand header all_columns all.0 })
 
 pub named_columns : (header : List (List ℕ)) (columns : Columns) → NamesColumns header columns → columns_of header ≡ Ok columns
 unfolding columns_of
-named_columns header columns h =
-    rw (
-      named_place (codes "x") refl header columns.x h.x,
-      named_place (codes "y") refl header columns.y h.y,
-      named_place (codes "z") refl header columns.z h.z,
-      named_place (codes "tonnes") refl header columns.tonnes h.tonnes,
-      named_place (codes "grade") refl header columns.grade h.grade,
-    ) (λ i. Ok (record {
-      width = sym h.width i;
-      x = columns.x;
-      y = columns.y;
-      z = columns.z;
-      tonnes = columns.tonnes;
-      grade = columns.grade;
-    }))
+named_columns header columns named =
+    let all = standing_columns header all_columns columns.places named.places in
+    rw all.0 (λ i. Ok (record { width = sym named.width i; places = all.1 i }))
 
 -- a header is refused with what fails first in it
 pub header_fails : (header : List (List ℕ)) (fault : RowFault) → failing (asked_of_header header) ≡ Some fault
@@ -166,6 +173,10 @@ pub refused_header : (header : List (List ℕ)) (fault : RowFault) → columns_o
 unfolding columns_of
 refused_header header fault e = refused (failing (asked_of_header header)) _ fault e
 
+-- what is asked of a header is of its row
+of_row_1 : (header : List (List ℕ)) (columns : List Column) → AreOfRow 1 (flat_map (asked_of_column header) columns)
+of_row_1 header [] = tt
+of_row_1 header (column ∷ columns) = (refl, (refl, of_row_1 header columns))
+
 pub fault_of_header : (header : List (List ℕ)) (fault : RowFault) → failing (asked_of_header header) ≡ Some fault → fault.row ≡ 1
-fault_of_header header fault e =
-    failing_of_row 1 (asked_of_header header) fault (refl, (refl, (refl, (refl, (refl, (refl, (refl, (refl, (refl, (refl, tt)))))))))) e
+fault_of_header header fault e = failing_of_row 1 (asked_of_header header) fault (of_row_1 header all_columns) e

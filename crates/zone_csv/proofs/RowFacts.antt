@@ -1,12 +1,19 @@
 -- What a row's answer tells of its number, and that a row states a block exactly where its cells spell the block's values.
-use Rattle.std.proofs.Common.{◌≡◌, ℕ, ◌*◌, ◌/◌, ◌%◌, ◌^◌, ◌<◌, ◌≤◌, Bool, true, false, List, [], ◌∷◌, arith, refl, sym, ◌∙◌, ap, subst, leb-true, inl, inr, pos, negsuc, Some, None, Ok, Err, min}
-use Rattle.std.specs.Prelude.{Option, nat_le, unsigned_abs, ◌↔◌, if◌then◌else◌}
+use Rattle.std.proofs.Common.{◌≡◌, ℕ, ◌*◌, ◌/◌, ◌%◌, ◌^◌, ◌<◌, ◌≤◌, Bool, true, false, List, [], ◌∷◌, ◌++◌, suc, arith, refl, sym, ◌∙◌, ap, subst, leb-true, inl, inr, pos, negsuc, Some, None, Ok, Err, min, length}
+use Rattle.std.specs.Prelude.{Option, map, nat_le, slice_index_or, unsigned_abs, ◌↔◌, if◌then◌else◌}
 use Rattle.std.proofs.Math.Nat.{min-eq_left, mul-div_left}
+use Rattle.std.proofs.lemmas.Bool.{eq-eqb, le-leb}
+use Rattle.std.proofs.lemmas.Grind.{same_number_lists}
 use Rattle.std.proofs.lemmas.Int.{ints}
+use Rattle.std.proofs.lemmas.List.FromFn.{get_or-map-range_with_len, length-map-range_with_len}
+use Rattle.std.specs.List.{range_with_len}
 use Rattle.forms.proofs.ShapeFacts.{IsAnswer, said_answers, states_said, fails_said}
 use Rattle.forms.specs.Demands.{Demand, FailsFirst}
-use Rattle.forms.specs.Asked.{asked}
-use Rattle.forms.specs.Field.{Value, Millionths, Bytes, millionths}
+use Rattle.forms.specs.Asked.{asked, asked_of_field, asked_of_fields}
+use Rattle.forms.specs.Field.{Field, Decimal, Stepped, Word, Value, Millionths, Bytes, millionths}
+use Rattle.forms.specs.FieldFault.{FieldFault}
+use Rattle.forms.specs.Read.{next_kinds, read}
+use Rattle.forms.specs.Steps.{◌>>=◌}
 use Rattle.forms.specs.Spelled.{Says, Spell}
 use Rattle.forms.specs.Shape.{Check, Shape, failing}
 use Rattle.forms.specs.ShapeStates.{Fails, States}
@@ -17,7 +24,8 @@ use Rattle.pit_parts.specs.declared.grid.Grid.{Grid}
 use Rattle.pit_units.proofs.Multiples.{stands_multiple}
 use Rattle.pit_parts.proofs.BlockFacts.{block_again}
 use Rattle.zone_csv.proofs.CentroidFacts.{centroid_index, index_is_centroid}
-use Rattle.zone_csv.specs.Cell.{a_tonnage, centroid, coordinate, grade, index_at}
+use Rattle.zone_csv.specs.Cell.{a_tonnage, centroid, coordinate, grade, index_at, trimmed_at}
+use Rattle.zone_csv.specs.Columns.{all_columns, field_of}
 use Rattle.zone_csv.specs.Row.{block_of, row_of, row_shape, values_of}
 use Rattle.zone_csv.specs.declared.columns.Columns.{Columns}
 use Rattle.zone_csv.specs.declared.row_fault.RowFault.{RowFault}
@@ -41,6 +49,19 @@ abbrev pub AreAskedOfRow : ℕ → List (Demand RowFault) → Type 0
 AreAskedOfRow row [] = Unit {0}
 AreAskedOfRow row (d ∷ demands) = (d.kind.row ≡ row) × AreAskedOfRow row demands
 
+-- what is asked of texts is of the row that each kind is of
+fields_of_row : (row : ℕ) (kinds : ℕ → FieldFault → RowFault) → ((place : ℕ) (found : FieldFault) → (kinds place found).row ≡ row)
+    → (form : List Field) (texts : List (List ℕ)) → AreAskedOfRow row (asked_of_fields kinds form texts)
+fields_of_row row kinds own [] texts = tt
+fields_of_row row kinds own (field ∷ form) [] = tt
+fields_of_row row kinds own (field ∷ form) (text ∷ texts) = by field (fields_of_row row (next_kinds kinds) (λ place. own (suc place)) form texts)
+  where
+    by : (field : Field) → AreAskedOfRow row (asked_of_fields (next_kinds kinds) form texts)
+        → AreAskedOfRow row (asked_of_field (kinds 0) field text ++ asked_of_fields (next_kinds kinds) form texts)
+    by (Decimal decimals low high) rest = (own 0 _, (own 0 _, (own 0 _, rest)))
+    by (Stepped decimals step low high) rest = (own 0 _, (own 0 _, (own 0 _, (own 0 _, rest))))
+    by (Word passes) rest = (own 0 _, rest)
+
 asked_of_row : (row : ℕ) (demands : List (Demand RowFault)) (fault : RowFault) → AreAskedOfRow row demands → FailsFirst demands fault
     → fault.row ≡ row
 asked_of_row row [] fault all fails = absurd fails
@@ -50,6 +71,21 @@ asked_of_row row (d ∷ demands) fault all (inr later) = asked_of_row row demand
 module _ (grid : Grid) (zone : ℕ) (columns : Columns) (number : ℕ) (cells : List (List ℕ)) where
   abbrev shape : Shape RowFault Block
   shape = row_shape grid zone columns number cells
+
+  abbrev place_at : ℕ → ℕ
+  place_at k = slice_index_or columns.places k 0
+
+  -- what is read of a row that is not too many, and has a cell for each column of the header, place by place
+  pub row_read : number ≤ 1000001 → length cells ≡ columns.width → length columns.places ≡ length all_columns
+      → row_of grid zone columns number cells
+      ≡ (read shape.kinds shape.form (map (trimmed_at cells) (map place_at (range_with_len 0 (length all_columns))))
+      >>= λ values. Ok (shape.next values))
+  unfolding row_of
+  row_read few wide count =
+      let places = same_number_lists columns.places (map place_at (range_with_len 0 (length all_columns)))
+      (count ∙ sym (length-map-range_with_len place_at 0 (length all_columns)))
+      (λ k there. sym (get_or-map-range_with_len place_at 0 (length all_columns) k k 0 (omega (arith, count, there)) (omega arith))) in
+      rw (le-leb number 1000001 few, eq-eqb (length cells) columns.width wide, ap (map (trimmed_at cells)) places) refl
 
   pub row_answers : IsAnswer shape (row_of grid zone columns number cells)
   unfolding row_of
@@ -80,22 +116,8 @@ module _ (grid : Grid) (zone : ℕ) (columns : Columns) (number : ℕ) (cells : 
   pub fault_of_row : (fault : RowFault) → Fails shape fault → fault.row ≡ number
   fault_of_row fault (inl e) = failing_of_row number shape.first fault (refl, (refl, tt)) e
   fault_of_row fault (inr (e, inl first)) =
-      asked_of_row number (asked shape.kinds shape.form shape.texts) fault (
-        refl,
-        (
-          refl,
-          (
-            refl,
-            (
-              refl,
-              (
-                refl,
-                (refl, (refl, (refl, (refl, (refl, (refl, (refl, (refl, (refl, (refl, (refl, (refl, (refl, (refl, tt)))))))))))))),
-              ),
-            ),
-          ),
-        ),
-      ) first
+      asked_of_row number (asked shape.kinds shape.form shape.texts) fault
+      (refl, fields_of_row number shape.kinds (λ place found. refl) shape.form shape.texts) first
   fault_of_row fault (inr (e, inr last)) = absurd (none last.fails)
     where
       none : None ≡ Some fault → ⊥
@@ -135,19 +157,24 @@ module _ (grid : Grid) (zone : ℕ) (sx : 0 < grid.x.size) (sy : 0 < grid.y.size
       sym (block_again b) ∙ rw (own, centroid_index grid.x sx b.x, centroid_index grid.y sy b.y, centroid_index grid.z sz b.z, kg) refl
 
   -- values that are spelled are those of the block that they state
-  values_back : (cx cy cz ct cg : List ℕ) (values : List Value)
-      → Spell (coordinate grid.x ∷ coordinate grid.y ∷ coordinate grid.z ∷ a_tonnage ∷ grade ∷ []) (cx ∷ cy ∷ cz ∷ ct ∷ cg ∷ []) values
+  values_back : (texts : List (List ℕ)) (values : List Value) → Spell (map (field_of grid) all_columns) texts values
       → values ≡ values_of grid (block_of grid zone values)
   unfolding block_with
-  values_back cx cy cz ct cg [] spelled = absurd spelled
-  values_back cx cy cz ct cg (x ∷ []) spelled = absurd spelled.1
-  values_back cx cy cz ct cg (x ∷ y ∷ []) spelled = absurd spelled.1.1
-  values_back cx cy cz ct cg (x ∷ y ∷ z ∷ []) spelled = absurd spelled.1.1.1
-  values_back cx cy cz ct cg (x ∷ y ∷ z ∷ t ∷ []) spelled = absurd spelled.1.1.1.1
-  values_back cx cy cz ct cg (x ∷ y ∷ z ∷ t ∷ g ∷ v ∷ values) spelled = absurd spelled.1.1.1.1.1
-  values_back cx cy cz ct cg (x ∷ y ∷ z ∷ t ∷ g ∷ []) (of_x, (of_y, (of_z, (of_t, (of_g, end))))) = λ i.
+  values_back (cx ∷ cy ∷ cz ∷ ct ∷ cg ∷ []) (x ∷ y ∷ z ∷ t ∷ g ∷ []) (of_x, (of_y, (of_z, (of_t, (of_g, end))))) = λ i.
       index_back grid.x cx x sx of_x i ∷ index_back grid.y cy y sy of_y i ∷ index_back grid.z cz z sz of_z i
       ∷ kilograms_back ct t of_t i ∷ grade_back cg g of_g i ∷ []
+  values_back [] values spelled = absurd spelled
+  values_back (cx ∷ texts) [] spelled = absurd spelled
+  values_back (cx ∷ []) (x ∷ values) spelled = absurd spelled.1
+  values_back (cx ∷ cy ∷ texts) (x ∷ []) spelled = absurd spelled.1
+  values_back (cx ∷ cy ∷ []) (x ∷ y ∷ values) spelled = absurd spelled.1.1
+  values_back (cx ∷ cy ∷ cz ∷ texts) (x ∷ y ∷ []) spelled = absurd spelled.1.1
+  values_back (cx ∷ cy ∷ cz ∷ []) (x ∷ y ∷ z ∷ values) spelled = absurd spelled.1.1.1
+  values_back (cx ∷ cy ∷ cz ∷ ct ∷ texts) (x ∷ y ∷ z ∷ []) spelled = absurd spelled.1.1.1
+  values_back (cx ∷ cy ∷ cz ∷ ct ∷ []) (x ∷ y ∷ z ∷ t ∷ values) spelled = absurd spelled.1.1.1.1
+  values_back (cx ∷ cy ∷ cz ∷ ct ∷ cg ∷ texts) (x ∷ y ∷ z ∷ t ∷ []) spelled = absurd spelled.1.1.1.1
+  values_back (cx ∷ cy ∷ cz ∷ ct ∷ cg ∷ []) (x ∷ y ∷ z ∷ t ∷ g ∷ v ∷ values) spelled = absurd spelled.1.1.1.1.1
+  values_back (cx ∷ cy ∷ cz ∷ ct ∷ cg ∷ c ∷ texts) (x ∷ y ∷ z ∷ t ∷ g ∷ values) spelled = absurd spelled.1.1.1.1.1
 
   pub row_spells_block : zone < 64 → (columns : Columns) (number : ℕ) (cells : List (List ℕ)) (b : Block)
       → let shape = row_shape grid zone columns number cells in
@@ -161,7 +188,7 @@ module _ (grid : Grid) (zone : ℕ) (sx : 0 < grid.x.size) (sy : 0 < grid.y.size
       to states = (
         states.first,
         subst (Spell here.form here.texts)
-            (values_back _ _ _ _ _ states.values states.spelled ∙ ap (values_of grid) (sym states.is)) states.spelled,
+            (values_back here.texts states.values states.spelled ∙ ap (values_of grid) (sym states.is)) states.spelled,
         zone_of_row grid zone columns number cells b states ∙ min-eq_left (omega (arith, small)),
       )
 

@@ -1,19 +1,9 @@
 -- The words that show a fault of a zone file.
 use Rattle.std.specs.Prelude.{ℕ, List, ◌++◌, codes, decimal}
-use Rattle.zone_csv.specs.declared.row_fault.Column.{Column}
-use Rattle.zone_csv.specs.declared.row_fault.Column.TheVariants as column
+use Rattle.zone_csv.specs.Columns.{column_name}
 use Rattle.zone_csv.specs.declared.row_fault.RowFault.{RowFault}
 use Rattle.zone_csv.specs.declared.row_fault.RowFaultKind.{RowFaultKind}
 use Rattle.zone_csv.specs.declared.row_fault.RowFaultKind.TheVariants as kind
-
--- a column by its name in the header; the row as a whole has a word of its own
-abbrev pub column_name : Column → List ℕ
-column_name column.X = codes "x"
-column_name column.Y = codes "y"
-column_name column.Z = codes "z"
-column_name column.Tonnes = codes "tonnes"
-column_name column.Grade = codes "grade"
-column_name column.Whole = codes "whole"
 
 abbrev pub row_kind_name : RowFaultKind → List ℕ
 row_kind_name kind.MissingColumn = codes "MissingColumn"

@@ -1,4 +1,5 @@
 pub mod Cell
+pub mod Columns
 pub mod FaultText
 pub mod Header
 pub mod NamedColumns

@@ -5,10 +5,11 @@ use Rattle.forms.specs.Shape.{Shape, check, said}
 use Rattle.pit_parts.specs.Block.{block_with}
 use Rattle.pit_parts.specs.declared.block.Block.{Block}
 use Rattle.pit_parts.specs.declared.grid.Grid.{Grid}
-use Rattle.zone_csv.specs.Cell.{a_fault, a_tonnage, centroid, coordinate, grade, index_at, of_cell, trimmed_at}
+use Rattle.zone_csv.specs.Cell.{a_fault, centroid, index_at, of_cell, trimmed_at}
+use Rattle.zone_csv.specs.Columns.{all_columns, field_of}
 use Rattle.zone_csv.specs.declared.columns.Columns.{Columns}
 use Rattle.zone_csv.specs.declared.row_fault.Column.{Column}
-use Rattle.zone_csv.specs.declared.row_fault.Column.TheVariants as column
+use Rattle.zone_csv.specs.declared.row_fault.Column.TheVariants.{Whole}
 use Rattle.zone_csv.specs.declared.row_fault.RowFault.{RowFault}
 use Rattle.zone_csv.specs.declared.row_fault.RowFaultKind.TheVariants.{Width, TooManyRows}
 use Rattle.pit_parts.specs.declared.ranges.TheConstants.{MAX_ROWS}
@@ -26,16 +27,16 @@ values_of grid b =
 
 -- the column of the field at a place
 abbrev pub column_at : ℕ → Column
-column_at place = slice_index_or (column.X ∷ column.Y ∷ column.Z ∷ column.Tonnes ∷ []) place column.Grade
+column_at place = slice_index_or all_columns place Whole
 
 -- the record of this number under these columns: no row too many, as wide as the header, and a field in each column
 abbrev pub row_shape : Grid → ℕ → Columns → ℕ → List (List ℕ) → Shape RowFault Block
 row_shape grid zone columns number cells = record {
   first =
-      check (a_fault number column.Whole TooManyRows) (nat_le number (MAX_ROWS + 1))
-      ++ check (a_fault number column.Whole Width) (length cells == columns.width);
-  texts = map (trimmed_at cells) (columns.x ∷ columns.y ∷ columns.z ∷ columns.tonnes ∷ columns.grade ∷ []);
-  form = coordinate grid.x ∷ coordinate grid.y ∷ coordinate grid.z ∷ a_tonnage ∷ grade ∷ [];
+      check (a_fault number Whole TooManyRows) (nat_le number (MAX_ROWS + 1))
+      ++ check (a_fault number Whole Width) (length cells == columns.width);
+  texts = map (trimmed_at cells) columns.places;
+  form = map (field_of grid) all_columns;
   kinds = λ place. of_cell number (column_at place);
   last = λ values. [];
   next = block_of grid zone;

@@ -41,13 +41,12 @@ pub(crate) fn row_of(
     if row.len() != columns.width {
         return Err(whole(RowFaultKind::Width));
     }
-    let x = index_of(Column::X, grid.x, cell_at(row, columns.x))?;
-    let y = index_of(Column::Y, grid.y, cell_at(row, columns.y))?;
-    let z = index_of(Column::Z, grid.z, cell_at(row, columns.z))?;
-    let tonnes = cell_at(row, columns.tonnes);
-    let millionths = size_of(Column::Tonnes, 3, MAX_KG * 1000, tonnes)?;
-    let grade = cell_at(row, columns.grade);
-    let grade = size_of(Column::Grade, 6, MAX_GRADE, grade)?;
+    let [x, y, z, tonnes, grade] = columns.places;
+    let x = index_of(Column::X, grid.x, cell_at(row, x))?;
+    let y = index_of(Column::Y, grid.y, cell_at(row, y))?;
+    let z = index_of(Column::Z, grid.z, cell_at(row, z))?;
+    let millionths = size_of(Column::Tonnes, 3, MAX_KG * 1000, cell_at(row, tonnes))?;
+    let grade = size_of(Column::Grade, 6, MAX_GRADE, cell_at(row, grade))?;
     Ok(Block {
         x,
         y,

@@ -1,9 +1,15 @@
 //! The first fault of a zone file.
 
+ghost use Rattle.std.specs.Prelude.{◌≡◌};
+ghost use Rattle.zone_csv.specs.Columns.{all_columns, column_name};
+
 use std::fmt;
 use thiserror::Error;
 
-/// The column of a fault.
+/// The number of columns that state a block.
+pub const COLUMNS: usize = 5;
+
+/// A column of a zone file, as a fault names it.
 #[derive(Clone, Copy, Debug, PartialEq, Eq)]
 pub enum Column {
     X,
@@ -15,21 +21,43 @@ pub enum Column {
     Whole,
 }
 
+impl Column {
+    /// All columns of a zone file, in the order in which faults are looked for.
+    pub fn all() -> [Column; COLUMNS]
+        ensures { result ≡ all_columns }
+    {
+        [
+            Column::X,
+            Column::Y,
+            Column::Z,
+            Column::Tonnes,
+            Column::Grade,
+        ]
+    }
+
+    /// Its name in the header, or the word of the row as a whole.
+    pub fn name(self) -> &'static str
+        ensures { result.now ≡ column_name self }
+    {
+        match self {
+            Column::X => "x",
+            Column::Y => "y",
+            Column::Z => "z",
+            Column::Tonnes => "tonnes",
+            Column::Grade => "grade",
+            Column::Whole => "whole",
+        }
+    }
+}
+
 impl fmt::Display for Column {
     ghost use Rattle.std.specs.Prelude.{Some};
-    ghost use Rattle.zone_csv.specs.FaultText.{column_name};
+    ghost use Rattle.zone_csv.specs.Columns.{column_name};
 
     ghost output = { λ column. Some (column_name column) };
 
     fn fmt<W: fmt::Write>(&self, f: &mut fmt::Formatter<W>) -> fmt::Result {
-        match self {
-            Column::X => f.write_str("x"),
-            Column::Y => f.write_str("y"),
-            Column::Z => f.write_str("z"),
-            Column::Tonnes => f.write_str("tonnes"),
-            Column::Grade => f.write_str("grade"),
-            Column::Whole => f.write_str("whole"),
-        }
+        f.write_str(self.name())
     }
 }
 
