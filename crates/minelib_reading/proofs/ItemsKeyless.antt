@@ -1,54 +1,49 @@
 -- A line that is read as a line of a section has no colon.
-use Rattle.std.specs.Prelude.{◌≡◌, ℕ, false, List, [], ◌∷◌, ◌++◌, ℤ, Ok, Err, if◌then◌else◌}
+use Rattle.std.specs.Prelude.{◌≡◌, ℕ, true, false, List, [], ℤ, slice_index_or, Result, Ok, codes}
 use Rattle.std.specs.List.{list_any}
-use Rattle.std.proofs.Common.{refl, ◌∙◌, ap}
+use Rattle.std.specs.Str.{bytes_eq}
+use Rattle.forms.specs.Field.{Field, Value}
+use Rattle.forms.specs.Fit.{is_fine}
 use Rattle.forms.specs.Read.{read}
-use Rattle.mine_instance.specs.Order.{coef_comes_before}
+use Rattle.forms.specs.Steps.{◌>>=◌}
+use Rattle.pit_parts.specs.declared.limit.Limit.{Limit}
 use Rattle.mine_instance.specs.declared.coef.Coef.{Coef}
-use Rattle.minelib_reading.specs.HeaderKeys.{count_in}
-use Rattle.minelib_reading.specs.ItemForms.{coef_form, values_form}
+use Rattle.minelib_reading.specs.ItemForms.{coef_form, limit_form, values_form}
 use Rattle.text_lines.specs.LineKinds.{text_kinds}
-use Rattle.minelib_reading.specs.ModelLines.{ModelDraftView, coef_line, is_behind, is_colon, item_line, last_of, model_line}
-use Rattle.minelib_reading.specs.inner.ModelParts.{admit_model, uncounted_coef, coef_of, takes, values_of, values_said}
+use Rattle.minelib_reading.specs.ModelLines.{is_colon}
+use Rattle.minelib_reading.specs.inner.ModelParts.{coef_of, limit_of, values_of, values_said}
 use Rattle.text_lines.specs.TextLines.{fields_of}
-use Rattle.minelib_reading.specs.declared.model_key.HeaderKey.TheVariants as key
+use Rattle.text_lines.specs.declared.text_fault.TextKind.{TextKind}
 use Rattle.minelib_lines.specs.declared.problem.Problem.{Problem}
-use Rattle.minelib_reading.specs.declared.model_key.Section.TheVariants.{Coefs}
-use Rattle.text_lines.specs.declared.text_fault.TextKind.TheVariants.{Order}
-use Rattle.minelib_reading.proofs.CoefLineFacts.{coef_counted, coef_fine, coef_plain}
-use Rattle.minelib_reading.proofs.FormFields.{read_keyless}
+use Rattle.minelib_reading.proofs.CoefLineFacts.{coef_fine, coef_plain}
+use Rattle.minelib_reading.proofs.FormFields.{ArePlain, read_keyless}
 use Rattle.minelib_reading.proofs.Keyless.{keyless}
-use Rattle.minelib_reading.proofs.ModelShapes.{coef_takes}
+use Rattle.minelib_reading.proofs.LimitLineFacts.{bound_plain, limit_fine}
 use Rattle.text_lines.proofs.ReadSteps.{bind_then}
 use Rattle.minelib_reading.proofs.ValuesLineFacts.{many_fine, many_plain}
+
+item_keyless : {A : Type 0} (form : List Field) (line : List ℕ) (said : List Value → Result A TextKind) (item : A)
+    → is_fine form ≡ true → ArePlain form → (read text_kinds form (fields_of line) >>= said) ≡ Ok item → list_any is_colon line ≡ false
+item_keyless form line said item fine plain e =
+    bind_then (read text_kinds form (fields_of line)) said item e (λ values read _.
+    keyless line (read_keyless form (fields_of line) values fine plain read))
 
 pub values_keyless : (n destinations before : ℕ) (line : List ℕ) (row : List ℤ)
     → values_of n destinations before (fields_of line) ≡ Ok row → list_any is_colon line ≡ false
 unfolding values_of
 values_keyless n destinations before line row e =
-    bind_then (read text_kinds (values_form n destinations) (fields_of line)) (values_said before) row e (λ values read _.
-    keyless line (read_keyless (values_form n destinations) (fields_of line) values
-    (many_fine destinations) (many_plain destinations) read))
+    item_keyless (values_form n destinations) line (values_said before) row (many_fine destinations) (many_plain destinations) e
 
-coef_keyless : (problem : Problem) (n destinations resources : ℕ) (line : List ℕ) (coef : Coef)
+pub coef_keyless : (problem : Problem) (n destinations resources : ℕ) (line : List ℕ) (coef : Coef)
     → coef_of problem n destinations resources (fields_of line) ≡ Ok coef → list_any is_colon line ≡ false
 unfolding coef_of
 coef_keyless problem n destinations resources line coef e =
-    bind_then (read text_kinds (coef_form problem n destinations resources) (fields_of line)) _ coef e (λ values read _.
-    keyless line (read_keyless (coef_form problem n destinations resources) (fields_of line) values
-    (coef_fine problem n destinations resources)
-    (coef_plain problem n destinations resources) read))
+    item_keyless (coef_form problem n destinations resources) line _ coef
+    (coef_fine problem n destinations resources) (coef_plain problem n destinations resources) e
 
--- a line below the key of the coefficients that is read as one
-pub coef_admitted : (d : ModelDraftView) (line : List ℕ) (coef : Coef) → d.section ≡ Coefs
-    → uncounted_coef d.problem d.blocks (count_in d.header key.Destinations) (count_in d.header key.Resources) (fields_of line) ≡ Ok coef
-    → admit_model d line
-    ≡ (if is_behind coef_comes_before (last_of d.coefs) coef then Ok (record d { coefs = d.coefs ++ coef ∷ [] }) else Err Order)
-unfolding admit_model
-coef_admitted d line coef below e =
-    let destinations = count_in d.header key.Destinations in
-    let resources = count_in d.header key.Resources in
-    let counted = coef_counted d.problem d.blocks destinations resources (fields_of line) coef e in
-    let colon = coef_keyless d.problem d.blocks destinations resources line coef counted in
-    let here : model_line d line ≡ coef_line d (fields_of line) = rw colon (ap (λ section. item_line d section (fields_of line)) below) in
-    ap takes here ∙ coef_takes d (fields_of line) ∙ rw counted refl
+pub limit_keyless : (resources periods : ℕ) (line : List ℕ) (limit : Limit)
+    → limit_of resources periods (fields_of line) ≡ Ok limit → list_any is_colon line ≡ false
+unfolding limit_of
+limit_keyless resources periods line limit e =
+    item_keyless (limit_form resources periods (fields_of line)) line _ limit (limit_fine resources periods (fields_of line))
+    (bound_plain (bytes_eq (slice_index_or (fields_of line) 2 []) (codes "I"))) e

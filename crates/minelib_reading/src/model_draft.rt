@@ -1,14 +1,14 @@
 //! A model file while its lines are read.
 
-ghost use Rattle.std.specs.Prelude.{◌≡◌, ◌≤◌, ◌==◌, ◌&&◌, ◌++◌, ◌∷◌, if◌then◌else◌, Ok, Err, [], true, false, length, map, unwrap_or, IfOk};
+ghost use Rattle.std.specs.Prelude.{◌≡◌, ◌≤◌, ◌==◌, ◌&&◌, Ok, Err, [], true, false, map, unwrap_or, IfOk};
+ghost use Rattle.std.specs.List.{list_any};
 ghost use Rattle.mine_instance.specs.CpitKept.{IsCpit};
 ghost use Rattle.mine_instance.specs.OfCpit.{without_destination};
 ghost use Rattle.mine_instance.specs.Seen.{seen};
 ghost use Rattle.minelib_reading.specs.Denotes.{cpit_read, instance_read};
 ghost use Rattle.minelib_reading.specs.HeaderKeys.{count_in, is_complete};
-ghost use Rattle.minelib_reading.specs.ModelLines.{blank_model, coef_line, finish_model, header_line, is_behind, is_heading, is_ready, is_whole, item_line, keyed_line, last_of, limit_line, name_with, section_line, values_line};
+ghost use Rattle.minelib_reading.specs.ModelLines.{blank_model, finish_model, header_line, is_colon, is_heading, is_ready, is_whole, item_line, keyed_line, name_with, section_line};
 ghost use Rattle.minelib_reading.specs.inner.ModelParts.{admit_model, is_name_for, takes};
-ghost use Rattle.mine_instance.specs.Order.{coef_comes_before};
 ghost use Rattle.minelib_reading.specs.declared.model_key.HeaderKey.TheVariants as key;
 ghost use Rattle.minelib_reading.specs.declared.model_key.Section.TheVariants as Section;
 ghost use Rattle.text_lines.specs.declared.text_fault.TextKind.TheVariants as TextKind;
@@ -19,9 +19,7 @@ ghost use Rattle.pit_parts.specs.Name.{is_name};
 ghost use Rattle.pit_parts.specs.declared.ranges.TheConstants.{MAX_BLOCKS};
 
 use crate::model_header::{blank_header, number_in};
-use crate::model_items::{
-    coef_of, is_coef_behind, is_limit_behind, limit_of, uncounted_coef, uncounted_values, values_in,
-};
+use crate::model_items::{coef_of, is_coef_behind, is_limit_behind, limit_of, values_in};
 use crate::model_key::{Header, HeaderKey, ModelKey, Section};
 use crate::model_keys::{cut_at_colon, is_heading, is_limits, is_next, key_of, only_value};
 use mine_instance::blocks::Blocks;
@@ -74,11 +72,14 @@ impl Model for ModelDraft {
 impl Admit for ModelDraft {
     ghost admit_line = { admit_model };
 
+    // A line that is read as an item of its section has no colon, so it is not searched for one.
+    #[tactic(auto, using(crate::proofs::ModelShapes::stray_takes))]
     fn admit(&mut self, line: &[u8]) -> Result<(), OrMemory<TextKind>> {
         match self.section {
-            Section::Objective => self.admit_in_objective(line),
-            Section::Coefs => self.admit_in_coefs(line),
-            Section::Heading | Section::Limits => self.admit_any(line),
+            Section::Heading => self.admit_key_or(line, TextKind::Key),
+            Section::Objective => self.admit_values(line),
+            Section::Coefs => self.admit_coef(line),
+            Section::Limits => self.admit_limit(line),
         }
     }
 }
@@ -167,60 +168,73 @@ impl ModelDraft {
         self.header.is_complete() && self.values.len() == self.blocks && is_limits(self.section)
     }
 
-    #[inline(never)]
-    #[tactic(auto, unfolding(crate::specs::inner::ModelParts::admit_model))]
-    fn admit_any(&mut self, line: &[u8]) -> Result<(), OrMemory<TextKind>>
-        ensures { Leaves self.new result (admit_model self.old line.now) }
-    {
-        match cut_at_colon(line) {
-            Some((word, values)) => self.admit_key(key_of(self.problem, word), values),
-            None => self.admit_item(line),
-        }
-    }
-
-    // A line below the key of the objective. One that is read as values has no colon, so it is not searched for one.
     #[tactic(auto, unfolding(crate::specs::inner::ModelParts::admit_model), using(crate::proofs::ItemsKeyless::values_keyless, crate::proofs::ModelShapes::values_takes))]
-    fn admit_in_objective(&mut self, line: &[u8]) -> Result<(), OrMemory<TextKind>>
+    fn admit_values(&mut self, line: &[u8]) -> Result<(), OrMemory<TextKind>>
         requires { self.old.section ≡ Section.Objective }
         ensures { Leaves self.new result (admit_model self.old line.now) }
     {
         let destinations = self.destinations();
         let before = self.values.len();
-        match uncounted_values(self.blocks, destinations, before, line, &mut self.row) {
+        match values_in(self.blocks, destinations, before, line, &mut self.row) {
             Ok(()) => {
                 self.values.push(self.row.as_slice())?;
                 Ok(())
             }
-            Err(OrMemory::Fault(_)) => self.admit_any(line),
+            Err(OrMemory::Fault(kind)) => self.admit_key_or(line, kind),
             Err(OrMemory::OutOfMemory) => Err(OrMemory::OutOfMemory),
         }
     }
 
-    // A line below the key of the coefficients. One that is read as a coefficient has no colon, so it is not searched for one.
-    fn admit_in_coefs(&mut self, line: &[u8]) -> Result<(), OrMemory<TextKind>>
+    #[tactic(auto, unfolding(crate::specs::inner::ModelParts::admit_model), using(crate::proofs::ItemsKeyless::coef_keyless, crate::proofs::ModelShapes::coef_takes))]
+    fn admit_coef(&mut self, line: &[u8]) -> Result<(), OrMemory<TextKind>>
         requires { self.old.section ≡ Section.Coefs }
         ensures { Leaves self.new result (admit_model self.old line.now) }
     {
         let destinations = self.destinations();
         let resources = self.resources();
-        match uncounted_coef(self.problem, self.blocks, destinations, resources, line) {
-            Ok(coef) => self.add_coef(coef),
-            Err(_) => self.admit_any(line),
+        match coef_of(self.problem, self.blocks, destinations, resources, line) {
+            Ok(coef) => {
+                if !is_coef_behind(self.coefs.as_slice(), &coef) {
+                    return Err(OrMemory::Fault(TextKind::Order));
+                }
+                self.coefs.push(coef)?;
+                Ok(())
+            }
+            Err(kind) => self.admit_key_or(line, kind),
         }
     }
 
-    #[inline(always)]
-    fn add_coef(&mut self, coef: Coef) -> Result<(), OrMemory<TextKind>>
-        requires { is_heading self.old.section ≡ false }
-        ensures { Leaves self.new result
-            (if is_behind coef_comes_before (last_of self.old.coefs) coef then Ok
-            (record self.old { coefs = self.old.coefs ++ coef ∷ [] }) else Err TextKind.Order) }
+    #[tactic(auto, unfolding(crate::specs::inner::ModelParts::admit_model), using(crate::proofs::ItemsKeyless::limit_keyless, crate::proofs::ModelShapes::limit_takes))]
+    fn admit_limit(&mut self, line: &[u8]) -> Result<(), OrMemory<TextKind>>
+        requires { self.old.section ≡ Section.Limits }
+        ensures { Leaves self.new result (admit_model self.old line.now) }
     {
-        if !is_coef_behind(self.coefs.as_slice(), &coef) {
-            return Err(OrMemory::Fault(TextKind::Order));
+        let resources = self.resources();
+        let periods = self.periods();
+        match limit_of(resources, periods, line) {
+            Ok(limit) => {
+                if limit.bound.is_turned() || !is_limit_behind(self.limits.as_slice(), &limit) {
+                    return Err(OrMemory::Fault(TextKind::Order));
+                }
+                self.limits.push(limit)?;
+                Ok(())
+            }
+            Err(kind) => self.admit_key_or(line, kind),
         }
-        self.coefs.push(coef)?;
-        Ok(())
+    }
+
+    // A line that states no item of its section: that of a key, or a faulty one of this kind.
+    #[inline(never)]
+    #[tactic(auto, unfolding(crate::specs::inner::ModelParts::admit_model))]
+    fn admit_key_or(&mut self, line: &[u8], kind: TextKind) -> Result<(), OrMemory<TextKind>>
+        requires { list_any is_colon line.now ≡ false
+            → takes (item_line self.old self.old.section (fields_of line.now)) ≡ Err kind }
+        ensures { Leaves self.new result (admit_model self.old line.now) }
+    {
+        match cut_at_colon(line) {
+            Some((word, values)) => self.admit_key(key_of(self.problem, word), values),
+            None => Err(OrMemory::Fault(kind)),
+        }
     }
 
     #[tactic(auto, using(crate::proofs::ModelShapes::stray_takes))]
@@ -266,56 +280,6 @@ impl ModelDraft {
             return Err(OrMemory::Fault(TextKind::Missing));
         }
         self.section = section;
-        Ok(())
-    }
-
-    #[tactic(auto, using(crate::proofs::ModelShapes::stray_takes))]
-    fn admit_item(&mut self, line: &[u8]) -> Result<(), OrMemory<TextKind>>
-        ensures { Leaves self.new result
-            (takes (item_line self.old self.old.section (fields_of line.now))) }
-    {
-        match self.section {
-            Section::Heading => Err(OrMemory::Fault(TextKind::Key)),
-            Section::Objective => self.admit_values(line),
-            Section::Coefs => self.admit_coef(line),
-            Section::Limits => self.admit_limit(line),
-        }
-    }
-
-    #[tactic(auto, using(crate::proofs::ModelShapes::values_takes))]
-    fn admit_values(&mut self, line: &[u8]) -> Result<(), OrMemory<TextKind>>
-        requires { is_heading self.old.section ≡ false }
-        ensures { Leaves self.new result (takes (values_line self.old (fields_of line.now))) }
-    {
-        let destinations = self.destinations();
-        let before = self.values.len();
-        values_in(self.blocks, destinations, before, line, &mut self.row)?;
-        self.values.push(self.row.as_slice())?;
-        Ok(())
-    }
-
-    #[tactic(auto, using(crate::proofs::ModelShapes::coef_takes))]
-    fn admit_coef(&mut self, line: &[u8]) -> Result<(), OrMemory<TextKind>>
-        requires { is_heading self.old.section ≡ false }
-        ensures { Leaves self.new result (takes (coef_line self.old (fields_of line.now))) }
-    {
-        let destinations = self.destinations();
-        let resources = self.resources();
-        let coef = coef_of(self.problem, self.blocks, destinations, resources, line)?;
-        self.add_coef(coef)
-    }
-
-    #[tactic(auto, using(crate::proofs::ModelShapes::limit_takes))]
-    fn admit_limit(&mut self, line: &[u8]) -> Result<(), OrMemory<TextKind>>
-        ensures { Leaves self.new result (takes (limit_line self.old (fields_of line.now))) }
-    {
-        let resources = self.resources();
-        let periods = self.periods();
-        let limit = limit_of(resources, periods, line)?;
-        if limit.bound.is_turned() || !is_limit_behind(self.limits.as_slice(), &limit) {
-            return Err(OrMemory::Fault(TextKind::Order));
-        }
-        self.limits.push(limit)?;
         Ok(())
     }
 

@@ -47,9 +47,9 @@ pub fn values_in(
     }
 }
 
-/// Reads the values of a line of as many fields as it has to have. The fault of another line may be of another kind.
+// Reads the values of a line of as many fields as it has to have. The fault of another line may be of another kind.
 #[tactic(auto, using(crate::proofs::ValuesLineFacts::values_counted))]
-pub fn uncounted_values(
+fn uncounted_values(
     blocks: usize,
     destinations: u8,
     before: usize,
@@ -89,6 +89,7 @@ fn read_decimals(line: &[u8], count: usize, row: &mut Vec<Dec>) -> Result<(), Or
 }
 
 /// The coefficient of a line, of so many blocks, destinations and resources.
+#[inline(always)]
 pub fn coef_of(
     problem: Problem,
     blocks: usize,
@@ -105,10 +106,10 @@ pub fn coef_of(
     }
 }
 
-/// The coefficient of a line of as many fields as it has to have. The fault of another line may be of another kind.
+// The coefficient of a line of as many fields as it has to have. The fault of another line may be of another kind.
 #[inline(always)]
 #[tactic(auto, using(crate::proofs::CoefLineFacts::coef_steps))]
-pub fn uncounted_coef(
+fn uncounted_coef(
     problem: Problem,
     blocks: usize,
     destinations: u8,
