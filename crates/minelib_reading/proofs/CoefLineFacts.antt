@@ -1,9 +1,9 @@
 -- The lines of coefficients: their forms, what their values say, and their fields one by one.
-use Rattle.std.specs.Prelude.{◌≡◌, ℕ, ◌<◌, ◌≤◌, ◌^◌, ◌==◌, not, true, List, [], ◌∷◌, length, Result, Ok, Err, if◌then◌else◌}
+use Rattle.std.specs.Prelude.{◌≡◌, ℕ, ◌<◌, ◌≤◌, ◌^◌, ◌==◌, not, true, List, [], length, Result, Ok, Err, if◌then◌else◌}
 use Rattle.std.proofs.Common.{refl, sym, ap, arith}
 use Rattle.forms.proofs.FormFacts.{counted_later, fault_later}
 use Rattle.forms.proofs.NumberFields.{quotient, whole_fits}
-use Rattle.forms.specs.Field.{Value, Millionths, Bytes, below, whole}
+use Rattle.forms.specs.Field.{Value, Millionths, below, whole}
 use Rattle.forms.specs.Fit.{Fit, is_fine}
 use Rattle.forms.specs.Steps.{◌>>=◌}
 use Rattle.mine_instance.specs.declared.coef.Coef.{Coef}
@@ -21,7 +21,7 @@ use Rattle.minelib_reading.specs.ItemForms.{coef_form, coef_said}
 use Rattle.minelib_reading.specs.SpelledModel.{HasDestination}
 use Rattle.minelib_reading.specs.inner.ModelParts.{uncounted_coef, coef_of}
 use Rattle.minelib_lines.specs.LineValues.{coef_values}
-use Rattle.minelib_reading.proofs.FormFields.{ArePlain, any_fits, any_reads, below_there, fit_at, whole_itself}
+use Rattle.minelib_reading.proofs.FormFields.{ArePlain, any_fits, any_reads, below_there, fit_at, fit_said}
 
 pub coef_fine : (problem : Problem) (n destinations resources : ℕ) → is_fine (coef_form problem n destinations resources) ≡ true
 coef_fine Pcpsp n destinations resources = refl
@@ -117,23 +117,5 @@ said_destination Cpit values = refl
 -- values that fit are those of the coefficient that they say
 pub coef_are : (problem : Problem) (n destinations resources : ℕ) (values : List Value)
     → Fit (coef_form problem n destinations resources) values → values ≡ coef_values problem (coef_said problem values)
-coef_are Pcpsp n destinations resources (b ∷ d ∷ r ∷ Millionths m ∷ []) fit =
-    let x = whole_itself 0 _ b fit.0 in
-    let y = whole_itself 0 _ d fit.1.0 in
-    let z = whole_itself 0 _ r fit.1.1.0 in
-    λ i. x i ∷ y i ∷ z i ∷ Millionths m ∷ []
-coef_are Pcpsp n destinations resources (b ∷ d ∷ r ∷ Bytes word ∷ []) fit = absurd fit.1.1.1.0
-coef_are Pcpsp n destinations resources [] fit = absurd fit
-coef_are Pcpsp n destinations resources (b ∷ []) fit = absurd fit.1
-coef_are Pcpsp n destinations resources (b ∷ d ∷ []) fit = absurd fit.1.1
-coef_are Pcpsp n destinations resources (b ∷ d ∷ r ∷ []) fit = absurd fit.1.1.1
-coef_are Pcpsp n destinations resources (b ∷ d ∷ r ∷ v ∷ w ∷ more) fit = absurd fit.1.1.1.1
-coef_are Cpit n destinations resources (b ∷ r ∷ Millionths m ∷ []) fit =
-    let x = whole_itself 0 _ b fit.0 in
-    let z = whole_itself 0 _ r fit.1.0 in
-    λ i. x i ∷ z i ∷ Millionths m ∷ []
-coef_are Cpit n destinations resources (b ∷ r ∷ Bytes word ∷ []) fit = absurd fit.1.1.0
-coef_are Cpit n destinations resources [] fit = absurd fit
-coef_are Cpit n destinations resources (b ∷ []) fit = absurd fit.1
-coef_are Cpit n destinations resources (b ∷ r ∷ []) fit = absurd fit.1.1
-coef_are Cpit n destinations resources (b ∷ r ∷ v ∷ w ∷ more) fit = absurd fit.1.1.1
+coef_are Pcpsp n destinations resources values fit = fit_said (coef_form Pcpsp n destinations resources) values fit
+coef_are Cpit n destinations resources values fit = fit_said (coef_form Cpit n destinations resources) values fit

@@ -1,5 +1,5 @@
 -- Decimals of any size and fields of words, beside whole numbers: which values fit them, and that a line of them is of plain fields.
-use Rattle.std.specs.Prelude.{◌≡◌, ℕ, zero, suc, ◌/◌, ◌-◌, ◌^◌, ◌<◌, ◌≤◌, length, slice_index_or, true, false, not, List, [], ◌∷◌, ℤ, pos, negsuc, ◌≤ℤ◌, unsigned_abs, Result, Ok, Err}
+use Rattle.std.specs.Prelude.{◌≡◌, Bool, ℕ, zero, suc, ◌/◌, ◌-◌, ◌^◌, ◌<◌, ◌≤◌, length, slice_index_or, true, false, not, List, [], ◌∷◌, ℤ, pos, negsuc, ◌≤ℤ◌, unsigned_abs, Result, Ok, Err}
 use Rattle.std.specs.List.{list_all, list_any}
 use Rattle.std.proofs.Common.{refl, sym, ap, subst, arith}
 use Rattle.std.proofs.lemmas.Int.{ints}
@@ -19,6 +19,7 @@ use Rattle.forms.specs.Steps.{◌>>=◌}
 use Rattle.text_lines.specs.FieldValues.{decimal_in}
 use Rattle.minelib_lines.specs.Kept.{IsInDecimalRange}
 use Rattle.text_lines.specs.LineKinds.{text_kind, text_kinds}
+use Rattle.minelib_reading.specs.ItemForms.{bytes_in}
 use Rattle.minelib_reading.specs.ModelLines.{is_colon}
 use Rattle.text_lines.proofs.FieldSteps.{ReadsField}
 use Rattle.minelib_reading.proofs.Keyless.{have_colon, number_no_colon, plain_no_colon}
@@ -129,6 +130,44 @@ pub whole_itself : (low : ℕ) (high : ℤ) (value : Value) → FitsField (Decim
 whole_itself low high (Millionths (pos m)) fits = ap (λ m. Millionths (pos m)) (omega (arith, fits.3))
 whole_itself low high (Millionths (negsuc m)) fits = absurd (omega (arith, ints, fits.0))
 whole_itself low high (Bytes word) fits = absurd fits
+
+-- a value as its field has it
+abbrev pub said_in : Field → Value → Value
+said_in (Decimal zero (pos low) high) value = whole (whole_stated value)
+said_in (Decimal decimals low high) value = Millionths (millionths value)
+said_in (Stepped decimals step low high) value = Millionths (millionths value)
+said_in (Word passes) value = Bytes (bytes_in value)
+
+said_itself : (field : Field) (value : Value) → FitsField field value → value ≡ said_in field value
+said_itself (Decimal zero (pos low) high) value fits = whole_itself low high value fits
+said_itself (Decimal zero (negsuc low) high) (Millionths m) fits = refl
+said_itself (Decimal zero (negsuc low) high) (Bytes word) fits = absurd fits
+said_itself (Decimal (suc decimals) low high) (Millionths m) fits = refl
+said_itself (Decimal (suc decimals) low high) (Bytes word) fits = absurd fits
+said_itself (Stepped decimals step low high) (Millionths m) fits = refl
+said_itself (Stepped decimals step low high) (Bytes word) fits = absurd fits
+said_itself (Word passes) (Millionths m) fits = absurd fits
+said_itself (Word passes) (Bytes word) fits = refl
+
+abbrev pub said_by : List Field → (ℕ → Value) → List Value
+said_by [] at = []
+said_by (field ∷ form) at = said_in field (at 0) ∷ said_by form (λ place. at (suc place))
+
+-- values that fit a form are those that stand at its places, and no others
+pub fit_said : (form : List Field) (values : List Value) → Fit form values
+    → values ≡ said_by form (λ place. slice_index_or values place (Bytes []))
+fit_said [] [] fit = refl
+fit_said [] (value ∷ values) fit = absurd fit
+fit_said (field ∷ form) [] fit = absurd fit
+fit_said (field ∷ form) (value ∷ values) fit =
+    let first = said_itself field value fit.0 in
+    let rest = fit_said form values fit.1 in
+    λ i. first i ∷ rest i
+
+-- the word of a value that fits
+pub word_there : (passes : List ℕ → Bool) (value : Value) → FitsField (Word passes) value → passes (bytes_in value) ≡ true
+word_there passes (Bytes word) fits = fits
+word_there passes (Millionths m) fits = absurd fits
 
 -- a number that is not negative is its size
 pub from_zero : (z : ℤ) → pos 0 ≤ℤ z → pos (unsigned_abs z) ≡ z

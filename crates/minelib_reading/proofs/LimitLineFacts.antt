@@ -1,12 +1,12 @@
 -- The lines of limits: their forms, what their values say, and their fields one by one.
-use Rattle.std.specs.Prelude.{◌≡◌, ℕ, ◌<◌, ◌≤◌, ◌^◌, ◌==◌, ◌||◌, not, Bool, true, false, List, [], ◌∷◌, length, ℤ, pos, slice_index_or, codes, Result, Ok, Err, if◌then◌else◌}
+use Rattle.std.specs.Prelude.{◌≡◌, ℕ, ◌<◌, ◌≤◌, ◌^◌, ◌==◌, ◌||◌, not, Bool, true, false, List, [], ◌∷◌, length, ℤ, slice_index_or, codes, Result, Ok, Err, if◌then◌else◌}
 use Rattle.std.specs.List.{list_any}
 use Rattle.std.specs.Str.{bytes_eq}
-use Rattle.std.proofs.Common.{refl, sym, subst, arith}
+use Rattle.std.proofs.Common.{refl, sym, ◌∙◌, subst, arith}
 use Rattle.std.proofs.lemmas.Bool.{eqb-true}
 use Rattle.std.proofs.lemmas.Slice.Eq.{bytes_eq-Decides}
 use Rattle.forms.proofs.NumberFields.{quotient, whole_fits}
-use Rattle.forms.specs.Field.{Value, Millionths, Bytes, below, number_at, whole}
+use Rattle.forms.specs.Field.{Value, Millionths, Bytes, below, number_at, whole, whole_at}
 use Rattle.forms.specs.Fit.{Fit, is_fine}
 use Rattle.forms.specs.Read.{read_fields}
 use Rattle.forms.specs.WrittenValues.{written}
@@ -23,7 +23,7 @@ use Rattle.minelib_reading.specs.inner.UncountedItems.{bound_in, limit_width}
 use Rattle.text_lines.specs.declared.text_fault.TextKind.{TextKind}
 use Rattle.text_lines.specs.declared.text_fault.TextKind.TheVariants.{Fields}
 use Rattle.text_lines.proofs.FieldSteps.{first_step, said_of, whole_reads}
-use Rattle.minelib_reading.proofs.FormFields.{ArePlain, any_fits, any_reads, below_there, fit_at, whole_itself}
+use Rattle.minelib_reading.proofs.FormFields.{ArePlain, any_fits, any_reads, below_there, fit_at, fit_said, word_there}
 use Rattle.text_lines.proofs.PlainText.{IsField}
 use Rattle.minelib_reading.specs.ItemForms.{bound_form, bound_said, bytes_in, limit_form, limit_said}
 use Rattle.minelib_lines.specs.LineValues.{bound_values, limit_values}
@@ -35,33 +35,28 @@ bound_fine false = refl
 pub limit_fine : (resources periods : ℕ) (fields : List (List ℕ)) → is_fine (limit_form resources periods fields) ≡ true
 limit_fine resources periods fields = bound_fine (bytes_eq (slice_index_or fields 2 []) (codes "I"))
 
--- a letter that is one of one, or of two
-the_letter : (word letter : List ℕ) → list_any (bytes_eq word) (letter ∷ []) ≡ true → word ≡ letter
-the_letter word letter passes = by (bytes_eq word letter) refl passes
-  where
-    by : (t : Bool) → bytes_eq word letter ≡ t → (t || false) ≡ true → word ≡ letter
-    by true e is = (bytes_eq-Decides word letter).0 e
-    by false e is = absurd cc
+-- what holds of each of some words holds of a word that is one of them
+abbrev Each : (List ℕ → Type 0) → List (List ℕ) → Type 0
+Each P [] = Unit {0}
+Each P (word ∷ words) = P word × Each P words
 
-data Either (word one other : List ℕ) : Type 0 where
-  First : (is : word ≡ one) → Either word one other
-  Second : (is : word ≡ other) → Either word one other
-
-either : (word one other : List ℕ) → list_any (bytes_eq word) (one ∷ other ∷ []) ≡ true → Either word one other
-either word one other passes = by (bytes_eq word one) refl passes
+word_of : (P : List ℕ → Type 0) (words : List (List ℕ)) (word : List ℕ) → list_any (bytes_eq word) words ≡ true → Each P words → P word
+word_of P [] word passes each = absurd cc
+word_of P (one ∷ words) word passes each = by (λ more. word_of P words word more each.1) (bytes_eq word one) refl passes
   where
-    by : (t : Bool) → bytes_eq word one ≡ t → (t || list_any (bytes_eq word) (other ∷ [])) ≡ true → Either word one other
-    by true e is = First ((bytes_eq-Decides word one).0 e)
-    by false e is = Second (the_letter word other is)
+    by : (list_any (bytes_eq word) words ≡ true → P word) → (t : Bool) → bytes_eq word one ≡ t
+        → (t || list_any (bytes_eq word) words) ≡ true → P word
+    by other true e passes = subst P (sym ((bytes_eq-Decides word one).0 e)) each.0
+    by other false e passes = other passes
 
 pub bound_plain : (t : Bool) → ArePlain (bound_form t)
 bound_plain true =
-    ((λ word passes. subst IsField (sym (the_letter word (codes "I") passes)) (record { some = omega arith; bytes = refl })), tt)
-bound_plain false = ((λ word passes. of (either word (codes "L") (codes "G") passes)), tt)
-  where
-    of : {word : List ℕ} → Either word (codes "L") (codes "G") → IsField word
-    of (First is) = subst IsField (sym is) (record { some = omega arith; bytes = refl })
-    of (Second is) = subst IsField (sym is) (record { some = omega arith; bytes = refl })
+    ((λ word passes. word_of IsField (codes "I" ∷ []) word passes (record { some = omega arith; bytes = refl }, tt)), tt)
+bound_plain false = (
+  (λ word passes. word_of IsField (codes "L" ∷ codes "G" ∷ []) word passes
+      (record { some = omega arith; bytes = refl }, (record { some = omega arith; bytes = refl }, tt))),
+  tt,
+)
 
 -- the values say the limit again
 pub said_again : (resource period : ℕ) (bound : Bound)
@@ -164,35 +159,26 @@ limit_same resources periods (r ∷ t ∷ rest) = by (bytes_eq (slice_index_or r
         rw e (tested false e (length (r ∷ t ∷ rest) == 4) (λ c. (let all = eqb-true (length (r ∷ t ∷ rest)) 4 c in omega (arith, all))))
 
 -- values that fit are those of the limit that they say
-bound_are : (interval : Bool) (values : List Value) → Fit (bound_form interval) values
-    → values ≡ bound_values (bound_said (bytes_in (slice_index_or values 0 (Bytes []))) (number_at values 1) (number_at values 2))
-bound_are true (Bytes word ∷ Millionths v ∷ Millionths w ∷ []) fit =
-    subst (λ word. Bytes word ∷ Millionths v ∷ Millionths w ∷ [] ≡ bound_values (bound_said word v w))
-    (sym (the_letter word (codes "I") fit.0)) refl
-bound_are true (Bytes word ∷ Millionths v ∷ Bytes other ∷ []) fit = absurd fit.1.1.0
-bound_are true (Bytes word ∷ Bytes other ∷ more) fit = absurd fit.1.0
-bound_are true (Millionths m ∷ more) fit = absurd fit.0
-bound_are true [] fit = absurd fit
-bound_are true (Bytes word ∷ []) fit = absurd fit.1
-bound_are true (Bytes word ∷ Millionths v ∷ []) fit = absurd fit.1.1
-bound_are true (Bytes word ∷ Millionths v ∷ w ∷ x ∷ more) fit = absurd fit.1.1.1
-bound_are false (Bytes word ∷ Millionths v ∷ []) fit = by (either word (codes "L") (codes "G") fit.0)
-  where
-    by : Either word (codes "L") (codes "G") → Bytes word ∷ Millionths v ∷ [] ≡ bound_values (bound_said word v (pos 0))
-    by (First is) = subst (λ word. Bytes word ∷ Millionths v ∷ [] ≡ bound_values (bound_said word v (pos 0))) (sym is) refl
-    by (Second is) = subst (λ word. Bytes word ∷ Millionths v ∷ [] ≡ bound_values (bound_said word v (pos 0))) (sym is) refl
-bound_are false (Bytes word ∷ Bytes other ∷ more) fit = absurd fit.1.0
-bound_are false (Millionths m ∷ more) fit = absurd fit.0
-bound_are false [] fit = absurd fit
-bound_are false (Bytes word ∷ []) fit = absurd fit.1
-bound_are false (Bytes word ∷ Millionths v ∷ w ∷ more) fit = absurd fit.1.1
-
 pub limit_are : (resources periods : ℕ) (fields : List (List ℕ)) (values : List Value) → Fit (limit_form resources periods fields) values
     → values ≡ limit_values (limit_said values)
-limit_are resources periods fields (r ∷ t ∷ values) fit =
-    let x = whole_itself 0 _ r fit.0 in
-    let y = whole_itself 0 _ t fit.1.0 in
-    let rest = bound_are (bytes_eq (slice_index_or fields 2 []) (codes "I")) values fit.1.1 in
-    λ i. x i ∷ y i ∷ rest i
-limit_are resources periods fields [] fit = absurd fit
-limit_are resources periods fields (r ∷ []) fit = absurd fit.1
+limit_are resources periods fields values fit = by (bytes_eq (slice_index_or fields 2 []) (codes "I")) fit
+  where
+    letter : List ℕ
+    letter = bytes_in (slice_index_or values 2 (Bytes []))
+
+    Same : List ℕ → List Value → Type 0
+    Same word numbers =
+        ◌≡◌ {A = List Value} (whole (whole_at values 0) ∷ whole (whole_at values 1) ∷ Bytes word ∷ numbers)
+        (whole (whole_at values 0) ∷ whole (whole_at values 1) ∷ bound_values (bound_said word (number_at values 3) (number_at values 4)))
+
+    by : (interval : Bool) → Fit (below resources ∷ below periods ∷ bound_form interval) values → values ≡ limit_values (limit_said values)
+    by true fit =
+        let form = below resources ∷ below periods ∷ bound_form true in
+        fit_said form values fit
+        ∙ word_of (λ word. Same word (Millionths (number_at values 3) ∷ Millionths (number_at values 4) ∷ [])) (codes "I" ∷ []) letter
+        (word_there _ _ (fit_at form values 2 any (omega arith) fit)) (refl, tt)
+    by false fit =
+        let form = below resources ∷ below periods ∷ bound_form false in
+        fit_said form values fit
+        ∙ word_of (λ word. Same word (Millionths (number_at values 3) ∷ [])) (codes "L" ∷ codes "G" ∷ []) letter
+        (word_there _ _ (fit_at form values 2 any (omega arith) fit)) (refl, (refl, tt))

@@ -1,5 +1,5 @@
 -- Which kind of fault a line has, once its fields spell numbers.
-use Rattle.std.specs.Prelude.{◌≡◌, ◌≢◌, ℕ, ◌==◌, ◌&&◌, not, Bool, true, false, List, [], ◌∷◌, ◌++◌, length, Some, None}
+use Rattle.std.specs.Prelude.{◌≡◌, ◌≢◌, ℕ, ◌==◌, ◌&&◌, not, Bool, true, false, List, [], ◌∷◌, ◌++◌, length, Some}
 use Rattle.std.proofs.Common.{refl, sym, ap, subst, arith, inl, inr, eq-eqb}
 use Rattle.std.proofs.lemmas.Bool.{and_parts, eqb-true, ne_eqb, not-true}
 use Rattle.forms.proofs.FormFacts.{spelled_fit}
@@ -19,6 +19,7 @@ use Rattle.minelib_reading.specs.PrecLines.{all_differ, preds_form, preds_of, pr
 use Rattle.minelib_reading.specs.declared.model_key.Section.{Section}
 use Rattle.minelib_reading.proofs.PrecLineFacts.{fine, parts}
 use Rattle.minelib_reading.proofs.PrecTests.{passed_preds, preds_pass}
+use Rattle.minelib_reading.proofs.ShapeSteps.{passed}
 
 -- the kinds of what is asked of fields
 abbrev IsFieldKind : TextKind → Type 0
@@ -187,25 +188,9 @@ one_fails : (k : TextKind) (t : Bool) → failing (check k t) ≡ Some k → t �
 one_fails k false e = refl
 one_fails k true e = absurd cc
 
-one_holds : (k : TextKind) (t : Bool) → failing (check k t) ≡ None → t ≡ true
-one_holds k true e = refl
-one_holds k false e = absurd cc
-
-no_key : (t : Bool) → failing (check kind.Missing t) ≡ Some kind.Key → ⊥
-no_key true e = cc
-no_key false e = cc
-
-no_fields : (t : Bool) → failing (check kind.Missing t) ≡ Some kind.Fields → ⊥
-no_fields true e = cc
-no_fields false e = cc
-
-key_is_no_fields : (t : Bool) → failing (check kind.Key t) ≡ Some kind.Fields → ⊥
-key_is_no_fields true e = cc
-key_is_no_fields false e = cc
-
-key_is_no_missing : (t : Bool) → failing (check kind.Key t) ≡ Some kind.Missing → ⊥
-key_is_no_missing true e = cc
-key_is_no_missing false e = cc
+its_kind : (k found : TextKind) (t : Bool) → failing (check k t) ≡ Some found → k ≡ found
+its_kind k found true e = absurd cc
+its_kind k found false e = cc
 
 none_behind : (fields : List (List ℕ)) (values : List Value) → Spell [] fields values → fields ≡ []
 none_behind [] values spelled = refl
@@ -220,7 +205,7 @@ pub section_key : (d : ModelDraftView) (section : Section) (fields : List (List 
 unfolding section_line
 section_key d section fields (inl first) = one_fails kind.Key (is_next d.section section) first
 section_key d section fields (inr (e, inl asked)) = absurd (asked_kind [] fields kind.Key asked)
-section_key d section fields (inr (e, inr last)) = absurd (no_key (is_ready d d.section) last.fails)
+section_key d section fields (inr (e, inr last)) = absurd (let same = its_kind kind.Missing kind.Key (is_ready d d.section) last.fails in cc)
 
 pub key_section : (d : ModelDraftView) (section : Section) (fields : List (List ℕ)) → is_next d.section section ≡ false
     → Fails (section_line d section fields) kind.Key
@@ -230,11 +215,11 @@ key_section d section fields e = inl (rw e refl)
 pub section_fields : (d : ModelDraftView) (section : Section) (fields : List (List ℕ)) → Fails (section_line d section fields) kind.Fields
     → (is_next d.section section ≡ true) × (fields ≢ [])
 unfolding section_line
-section_fields d section fields (inl first) = absurd (key_is_no_fields (is_next d.section section) first)
+section_fields d section fields (inl first) = absurd (let same = its_kind kind.Key kind.Fields (is_next d.section section) first in cc)
 section_fields d section fields (inr (e, inl (inl asked))) =
-    (one_holds kind.Key (is_next d.section section) e, λ none. absurd (asked.0 (ap length none)))
+    ((passed kind.Key (is_next d.section section) [] e).0, λ none. absurd (asked.0 (ap length none)))
 section_fields d section fields (inr (e, inl (inr asked))) = absurd asked.1
-section_fields d section fields (inr (e, inr last)) = absurd (no_fields (is_ready d d.section) last.fails)
+section_fields d section fields (inr (e, inr last)) = absurd (let same = its_kind kind.Missing kind.Fields (is_ready d d.section) last.fails in cc)
 
 pub fields_section : (d : ModelDraftView) (section : Section) (fields : List (List ℕ)) → is_next d.section section ≡ true → fields ≢ []
     → Fails (section_line d section fields) kind.Fields
@@ -244,10 +229,10 @@ fields_section d section fields e some = inr (rw e refl, inl (inl ((λ count. so
 pub section_missing : (d : ModelDraftView) (section : Section) (fields : List (List ℕ)) → Fails (section_line d section fields) kind.Missing
     → (is_next d.section section ≡ true) × (fields ≡ []) × (is_ready d d.section ≡ false)
 unfolding section_line
-section_missing d section fields (inl first) = absurd (key_is_no_missing (is_next d.section section) first)
+section_missing d section fields (inl first) = absurd (let same = its_kind kind.Key kind.Missing (is_next d.section section) first in cc)
 section_missing d section fields (inr (e, inl asked)) = absurd (asked_kind [] fields kind.Missing asked)
 section_missing d section fields (inr (e, inr last)) = (
-  one_holds kind.Key (is_next d.section section) e,
+  (passed kind.Key (is_next d.section section) [] e).0,
   none_behind fields last.values last.spelled,
   one_fails kind.Missing (is_ready d d.section) last.fails,
 )

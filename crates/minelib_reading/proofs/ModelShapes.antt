@@ -1,5 +1,5 @@
 -- The shapes of a model file's lines: each is what its parts are, read one by one, and no number of a form has more than six decimals.
-use Rattle.std.specs.Prelude.{◌≡◌, ℕ, suc, ◌==◌, ◌&&◌, ◌||◌, not, Bool, true, false, List, [], ◌∷◌, ◌++◌, length, Option, Some, None, unsigned_abs, Result, Ok, Err, if◌then◌else◌}
+use Rattle.std.specs.Prelude.{◌≡◌, ℕ, suc, ◌==◌, ◌&&◌, ◌||◌, not, Bool, true, false, List, [], ◌∷◌, ◌++◌, length, Option, Some, None, ℤ, unsigned_abs, Result, Ok, Err, if◌then◌else◌}
 use Rattle.std.specs.List.{list_any, before_first, after_first}
 use Rattle.std.proofs.Common.{refl, arith}
 use Rattle.std.proofs.lemmas.Bool.{ne_eqb}
@@ -184,25 +184,32 @@ section_takes d section fields = by (is_next d.section section) (is_ready d d.se
         let some : (length (field ∷ fields) == 0) ≡ false = ne_eqb (length (field ∷ fields)) 0 (λ e. omega (arith, e)) in
         rw some refl
 
+-- an item's line: what its values say is tested, and then stated
+item_takes : {A : Type 0} (r : Result (List Value) TextKind) (said : List Value → Result A TextKind) (answer : A → Result ModelDraftView TextKind)
+    (holds : List Value → Bool) (next : List Value → ModelDraftView)
+    → ((values : List Value) → unless (failing (check Order (holds values))) (Ok (next values)) ≡ (said values >>= answer))
+    → (r >>= λ values. unless (failing (check Order (holds values))) (Ok (next values))) ≡ ((r >>= said) >>= answer)
+item_takes (Ok values) said answer holds next same = same values
+item_takes (Err kind) said answer holds next same = refl
+
+-- a test as the code makes it
+in_order : (t : Bool) (next : ModelDraftView) → unless (failing (check Order t)) (Ok next) ≡ (if t then Ok next else Err Order)
+in_order true next = refl
+in_order false next = refl
+
 pub values_takes : (d : ModelDraftView) (fields : List (List ℕ))
     → takes (values_line d fields)
     ≡ (values_of d.blocks (count_in d.header key.Destinations) (length d.values) fields
     >>= λ row. Ok (record d { values = d.values ++ row ∷ [] }))
 unfolding takes values_line values_of
-values_takes d fields = by (read text_kinds (values_form d.blocks (count_in d.header key.Destinations)) fields)
+values_takes d fields =
+    item_takes (read text_kinds (values_form d.blocks (count_in d.header key.Destinations)) fields) (values_said (length d.values)) _
+    (λ values. whole_at values 0 == length d.values) _ (λ values. by (whole_at values 0 == length d.values) (row_said values))
   where
-    in_place : (t : Bool) (row : List Value)
-        → unless (failing (check Order t)) (Ok (record d { values = d.values ++ row_said row ∷ [] }))
-        ≡ ((if not t then Err Order else Ok (row_said row)) >>= λ row. Ok (record d { values = d.values ++ row ∷ [] }))
-    in_place true row = refl
-    in_place false row = refl
-
-    by : (r : Result (List Value) TextKind)
-        → (r >>= λ values. unless (failing (check Order (whole_at values 0 == length d.values)))
-        (Ok (record d { values = d.values ++ row_said values ∷ [] })))
-        ≡ ((r >>= values_said (length d.values)) >>= λ row. Ok (record d { values = d.values ++ row ∷ [] }))
-    by (Ok values) = in_place (whole_at values 0 == length d.values) values
-    by (Err kind) = refl
+    by : (t : Bool) (row : List ℤ) → unless (failing (check Order t)) (Ok (record d { values = d.values ++ row ∷ [] }))
+        ≡ ((if not t then Err Order else Ok row) >>= λ row. Ok (record d { values = d.values ++ row ∷ [] }))
+    by true row = refl
+    by false row = refl
 
 pub coef_takes : (d : ModelDraftView) (fields : List (List ℕ))
     → takes (coef_line d fields)
@@ -210,19 +217,8 @@ pub coef_takes : (d : ModelDraftView) (fields : List (List ℕ))
     >>= λ c. if is_behind coef_comes_before (last_of d.coefs) c then Ok (record d { coefs = d.coefs ++ c ∷ [] }) else Err Order)
 unfolding takes coef_line coef_of
 coef_takes d fields =
-    by (read text_kinds (coef_form d.problem d.blocks (count_in d.header key.Destinations) (count_in d.header key.Resources)) fields)
-  where
-    in_place : (t : Bool) (next : ModelDraftView) → unless (failing (check Order t)) (Ok next) ≡ (if t then Ok next else Err Order)
-    in_place true next = refl
-    in_place false next = refl
-
-    by : (r : Result (List Value) TextKind)
-        → (r >>= λ values. unless (failing (check Order (is_behind coef_comes_before (last_of d.coefs) (coef_said d.problem values))))
-        (Ok (record d { coefs = d.coefs ++ coef_said d.problem values ∷ [] })))
-        ≡ ((r >>= λ values. Ok (coef_said d.problem values))
-        >>= λ c. if is_behind coef_comes_before (last_of d.coefs) c then Ok (record d { coefs = d.coefs ++ c ∷ [] }) else Err Order)
-    by (Ok values) = in_place (is_behind coef_comes_before (last_of d.coefs) (coef_said d.problem values)) _
-    by (Err kind) = refl
+    item_takes (read text_kinds (coef_form d.problem d.blocks (count_in d.header key.Destinations) (count_in d.header key.Resources)) fields)
+    _ _ _ _ (λ values. in_order (is_behind coef_comes_before (last_of d.coefs) (coef_said d.problem values)) _)
 
 pub limit_takes : (d : ModelDraftView) (fields : List (List ℕ))
     → takes (limit_line d fields)
@@ -230,25 +226,15 @@ pub limit_takes : (d : ModelDraftView) (fields : List (List ℕ))
     >>= λ l. if is_turned l.bound || not (is_behind stands_before (last_of d.limits) l) then Err Order
     else Ok (record d { limits = d.limits ++ l ∷ [] }))
 unfolding takes limit_line limit_of
-limit_takes d fields = by (read text_kinds (limit_form (count_in d.header key.Resources) (count_in d.header key.Periods) fields) fields)
+limit_takes d fields =
+    item_takes (read text_kinds (limit_form (count_in d.header key.Resources) (count_in d.header key.Periods) fields) fields)
+    _ _ _ _ (λ values. by (is_turned (limit_said values).bound) (is_behind stands_before (last_of d.limits) (limit_said values)) _)
   where
-    in_place : (turned after : Bool) (next : ModelDraftView) → unless (failing (check Order (not turned && after))) (Ok next)
+    by : (turned after : Bool) (next : ModelDraftView) → unless (failing (check Order (not turned && after))) (Ok next)
         ≡ (if turned || not after then Err Order else Ok next)
-    in_place true after next = refl
-    in_place false true next = refl
-    in_place false false next = refl
-
-    by : (r : Result (List Value) TextKind)
-        → (r >>= λ values. unless (failing (check Order
-        (not (is_turned (limit_said values).bound) && is_behind stands_before (last_of d.limits) (limit_said values))))
-        (Ok (record d { limits = d.limits ++ limit_said values ∷ [] })))
-        ≡ ((r >>= λ values. Ok (limit_said values))
-        >>= λ l. if is_turned l.bound || not (is_behind stands_before (last_of d.limits) l) then Err Order
-        else Ok (record d { limits = d.limits ++ l ∷ [] }))
-    by (Ok values) =
-        in_place (is_turned (limit_said values).bound) (is_behind stands_before (last_of d.limits) (limit_said values))
-        _
-    by (Err kind) = refl
+    by true after next = refl
+    by false true next = refl
+    by false false next = refl
 
 -- what holds of each section and the next
 pub next_by : (P : Section → Section → Type 0) → P Heading Objective → P Objective Coefs → P Coefs Limits

@@ -1,14 +1,15 @@
 -- Lines that spell a model state it.
 use Rattle.std.specs.Prelude.{◌≡◌, ◌≢◌, ℕ, suc, ◌+◌, ◌==◌, true, false, not, List, [], ◌∷◌, ◌++◌, length, ℤ, pos, unsigned_abs, Some, None, is_some, unwrap_or, AllPairs, codes, slice_index_or}
-use Rattle.std.specs.List.{Contains, list_any}
+use Rattle.std.specs.List.{Contains}
 use Rattle.std.specs.Str.{bytes_eq}
 use Rattle.std.proofs.Common.{refl, sym, ◌∙◌, ap, subst, arith, inl, inr, append_assoc, append-nil, length-append, eq-eqb}
 use Rattle.std.proofs.lemmas.Bool.{cases_Bool}
 use Rattle.forms.proofs.NumberFields.{quotient}
-use Rattle.forms.specs.Field.{whole, whole_stated}
+use Rattle.forms.specs.Field.{Field, Value, whole, whole_stated}
 use Rattle.forms.specs.GrammarStates.{AllState}
 use Rattle.forms.specs.Shape.{check, failing}
 use Rattle.forms.specs.ShapeStates.{States}
+use Rattle.forms.specs.Spelled.{Spell}
 use Rattle.pit_parts.specs.PlanKept.{stands_before}
 use Rattle.pit_parts.specs.declared.limit.Limit.{Limit}
 use Rattle.mine_instance.specs.Order.{coef_comes_before}
@@ -21,7 +22,7 @@ use Rattle.minelib_lines.specs.declared.problem.Problem.TheVariants.{Pcpsp, Cpit
 use Rattle.minelib_reading.specs.HeaderKeys.{count_in, is_complete, is_given, number_of, with_key}
 use Rattle.minelib_reading.specs.ItemForms.{bytes_in, coef_form, limit_form, values_form}
 use Rattle.minelib_reading.specs.KeyFields.{number_said}
-use Rattle.minelib_reading.specs.ModelLines.{ModelDraftView, blank_header, blank_model, header_line, is_behind, is_colon, is_counted, is_heading, is_next, is_ready, item_line, last_of, model_grammar, model_line, name_with, section_line}
+use Rattle.minelib_reading.specs.ModelLines.{ModelDraftView, blank_header, blank_model, header_line, is_behind, is_counted, is_heading, is_next, is_ready, item_line, last_of, model_grammar, model_line, name_with, section_line}
 use Rattle.minelib_reading.specs.ModelStates.{StateModel, header_stated, stated_by}
 use Rattle.minelib_reading.specs.SpelledKeys.{IsKeyLine, has_key, key_text, section_text, value_of}
 use Rattle.minelib_reading.specs.SpelledLines.{AreLines}
@@ -33,7 +34,7 @@ use Rattle.minelib_reading.specs.declared.model_key.HeaderKey.TheVariants as key
 use Rattle.minelib_reading.specs.declared.model_key.Section.{Section}
 use Rattle.minelib_reading.specs.declared.model_key.Section.TheVariants.{Heading, Objective, Coefs, Limits}
 use Rattle.minelib_reading.proofs.CoefLineFacts.{coef_plain}
-use Rattle.minelib_reading.proofs.FormFields.{from_zero, spelled_keyless}
+use Rattle.minelib_reading.proofs.FormFields.{ArePlain, from_zero, spelled_keyless}
 use Rattle.minelib_reading.proofs.HeaderFacts.{all_given, contains_cases, each_with, first_given, with_same}
 use Rattle.minelib_reading.proofs.ItemLines.{items_keep}
 use Rattle.minelib_reading.proofs.KeyLines.{cut_line, header_found, header_plain, section_found, section_plain}
@@ -106,28 +107,30 @@ section_states d section line l follows ready =
       is = refl;
     })
 
--- a line without a colon
-item_here : (d : ModelDraftView) (line : List ℕ) → list_any is_colon line ≡ false → model_line d line ≡ item_line d d.section (fields_of line)
-item_here d line none = rw none refl
+-- the line of an item, whose fields spell a form without a colon
+item_states : (d next : ModelDraftView) (line : List ℕ) (form : List Field) (values : List Value) → ArePlain form
+    → Spell form (fields_of line) values → States (item_line d d.section (fields_of line)) next → States (model_line d line) next
+item_states d next line form values plain spelled states =
+    let none = keyless line (spelled_keyless form (fields_of line) values plain spelled) in
+    let here : model_line d line ≡ item_line d d.section (fields_of line) = rw none refl in
+    subst (λ shape. States shape next) (sym here) states
 
 values_states : (p : Problem) (n : ℕ) (name : List ℕ) (h : Header) (done : List (List ℤ)) (vs : List ℤ) (line : List ℕ)
     → SpellValues n (header_stated name h) (length done) (fields_of line) vs
     → States (model_line (draft p n name h Objective done [] []) line) (draft p n name h Objective (done ++ vs ∷ []) [] [])
 values_states p n name h done vs line spelled =
     let d = draft p n name h Objective done [] [] in
-    let none = keyless line (spelled_keyless (values_form n (count_in h key.Destinations)) (fields_of line) (values_values (length done) vs)
-    (many_plain (count_in h key.Destinations)) spelled) in
-    subst (λ shape. States shape (draft p n name h Objective (done ++ vs ∷ []) [] [])) (sym (item_here d line none))
-    (values_back d (fields_of line) vs spelled)
+    item_states d _ line (values_form n (count_in h key.Destinations)) (values_values (length done) vs)
+    (many_plain (count_in h key.Destinations)) spelled (values_back d (fields_of line) vs spelled)
 
 coef_states : (p : Problem) (n : ℕ) (name : List ℕ) (h : Header) (values : List (List ℤ)) (done : List Coef) (c : Coef) (line : List ℕ)
     → SpellCoef p n (header_stated name h) (fields_of line) c → is_behind coef_comes_before (last_of done) c ≡ true
     → States (model_line (draft p n name h Coefs values done []) line) (draft p n name h Coefs values (done ++ c ∷ []) [])
 coef_states p n name h values done c line spelled behind =
     let d = draft p n name h Coefs values done [] in
-    let none = keyless line (spelled_keyless (coef_form p n (count_in h key.Destinations) (count_in h key.Resources)) (fields_of line)
-    (coef_values p c) (coef_plain p n (count_in h key.Destinations) (count_in h key.Resources)) spelled.0) in
-    subst (λ shape. States shape (draft p n name h Coefs values (done ++ c ∷ []) [])) (sym (item_here d line none))
+    let destinations = count_in h key.Destinations in
+    let resources = count_in h key.Resources in
+    item_states d _ line (coef_form p n destinations resources) (coef_values p c) (coef_plain p n destinations resources) spelled.0
     (coef_back d (fields_of line) c spelled behind)
 
 limit_states : (p : Problem) (n : ℕ) (name : List ℕ) (h : Header) (values : List (List ℤ)) (coefs : List Coef) (done : List Limit) (l : Limit)
@@ -136,10 +139,8 @@ limit_states : (p : Problem) (n : ℕ) (name : List ℕ) (h : Header) (values : 
     → States (model_line (draft p n name h Limits values coefs done) line) (draft p n name h Limits values coefs (done ++ l ∷ []))
 limit_states p n name h values coefs done l line spelled behind =
     let d = draft p n name h Limits values coefs done in
-    let none = keyless line (spelled_keyless (limit_form (count_in h key.Resources) (count_in h key.Periods) (fields_of line))
-    (fields_of line) (limit_values l) (bound_plain (bytes_eq (slice_index_or (fields_of line) 2 []) (codes "I"))) spelled.0) in
-    subst (λ shape. States shape (draft p n name h Limits values coefs (done ++ l ∷ []))) (sym (item_here d line none))
-    (limit_back d (fields_of line) l spelled behind)
+    item_states d _ line (limit_form (count_in h key.Resources) (count_in h key.Periods) (fields_of line)) (limit_values l)
+    (bound_plain (bytes_eq (slice_index_or (fields_of line) 2 []) (codes "I"))) spelled.0 (limit_back d (fields_of line) l spelled behind)
 
 -- lines that spell items, each of which is stated behind those before it
 items_state : {A : Type 0} (Spells : ℕ → List ℕ → A → Type 0) (state : List A → ModelDraftView) (all : List A)

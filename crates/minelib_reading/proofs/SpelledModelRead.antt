@@ -9,8 +9,8 @@ use Rattle.mine_instance.specs.declared.coef.Coef.{Coef}
 use Rattle.text_lines.specs.TextLines.{Line, fields_of}
 use Rattle.minelib_lines.specs.declared.problem.Problem.{Problem}
 use Rattle.minelib_lines.specs.declared.problem.Problem.TheVariants.{Pcpsp, Cpit}
-use Rattle.minelib_reading.specs.HeaderKeys.{count_in, is_complete, with_key}
-use Rattle.minelib_reading.specs.ModelLines.{ModelDraftView, blank_model, is_heading, is_limits, model_grammar, name_with}
+use Rattle.minelib_reading.specs.HeaderKeys.{count_in, is_complete}
+use Rattle.minelib_reading.specs.ModelLines.{ModelDraftView, blank_model, is_heading, is_limits, model_grammar}
 use Rattle.minelib_reading.specs.ModelStates.{StateModel, header_stated, stated_by}
 use Rattle.minelib_reading.specs.KeyFields.{field_of}
 use Rattle.minelib_reading.specs.SpelledKeys.{IsKeyLine, has_key, key_text, section_text, value_of}
@@ -23,7 +23,7 @@ use Rattle.minelib_reading.specs.declared.model_key.Section.TheVariants.{Heading
 use Rattle.minelib_reading.proofs.HeaderLines.{Heads, heads_more, heads_none, heads_whole}
 use Rattle.minelib_reading.proofs.ItemLines.{line_more}
 use Rattle.minelib_reading.proofs.ModelShapes.{next_by}
-use Rattle.minelib_reading.proofs.ModelSteps.{AddsCoef, AddsLimit, AddsValues, BeginsSection, SetsKey, Step, Keyed, Begun, Valued, Spent, Limited, model_step}
+use Rattle.minelib_reading.proofs.ModelSteps.{BeginsSection, SetsKey, Step, Keyed, Begun, Valued, Spent, Limited, model_step}
 use Rattle.minelib_reading.proofs.ValidHeader.{one_destination}
 use Rattle.minelib_reading.proofs.ValidModel.{KeepsModel, model_kept}
 
@@ -108,16 +108,22 @@ in_limits Heading e = absurd cc
 in_limits Objective e = absurd cc
 in_limits Coefs e = absurd cc
 
+-- a line that leaves the section as it is
+within : (done : List Line) (d after next : ModelDraftView) (line : Line) (section : Section) → next ≡ after → d.section ≡ section
+    → after.section ≡ section → (At section d done → At section after (done ++ line ∷ []))
+    → At d.section d done → At next.section next (done ++ line ∷ [])
+within done d after next line section is here same step was =
+    subst (λ d. At d.section d (done ++ line ∷ [])) (sym is) (subst (λ section. At section after (done ++ line ∷ [])) (sym same)
+    (step (subst (λ section. At section d done) here was)))
+
 keyed : (done : List Line) (d : ModelDraftView) (line : Line) (next : ModelDraftView) (k : HeaderKey) (fields : List (List ℕ))
     → IsKeyLine (key_text k) line.text fields → has_key d.problem k ≡ true → SetsKey d k fields next → At d.section d done
     → At next.section next (done ++ line ∷ [])
 keyed done d line next k fields is_key has s was =
     let here = in_heading d.section s.heading in
-    let heading = subst (λ section. At section d done) here was in
-    let after : ModelDraftView = record d { header = with_key d.header k s.number; name = name_with k s.value d.name } in
     let says = subst (λ (e : ModelDraftView). Says (field_of d.problem k) s.value
     (value_of d.problem d.blocks (header_stated e.name e.header) k)) s.is s.says in
-    let now : At Heading after (done ++ line ∷ []) = (
+    within done d _ next line Heading s.is here here (λ heading. (
       heads_more d.problem d.blocks k s.value d.name d.header s.number done line s.new (record {
         value = s.value;
         is_key = subst (IsKeyLine (key_text k) line.text) s.one is_key;
@@ -127,8 +133,7 @@ keyed done d line next k fields is_key has s was =
       heading.1,
       heading.2,
       heading.3,
-    ) in
-    subst (λ d. At d.section d (done ++ line ∷ [])) (sym s.is) (subst (λ section. At section after (done ++ line ∷ [])) (sym here) now)
+    )) was
 
 begun : (done : List Line) (d : ModelDraftView) (line : Line) (next : ModelDraftView) (section : Section) (fields : List (List ℕ))
     → IsKeyLine (section_text section) line.text fields → BeginsSection d section fields next → At d.section d done
@@ -142,40 +147,24 @@ begun done d line next section fields is_key s was =
     (λ begins was. part_first (InCoefs d) Limits (SpellsLimit d) d.limits done line was.1 was.0 begins)
     d.section section s.follows (subst (IsKeyLine (section_text section) line.text) s.none is_key) was)
 
-valued : (done : List Line) (d : ModelDraftView) (line : Line) (next : ModelDraftView) → d.section ≡ Objective
-    → AddsValues d (fields_of line.text) next → At d.section d done → At next.section next (done ++ line ∷ [])
-valued done d line next here s was =
-    let before = subst (λ section. At section d done) here was in
-    let after : ModelDraftView = record d { values = d.values ++ s.values ∷ [] } in
-    let now : At Objective after (done ++ line ∷ []) =
-    (part_more (InHeading d) Objective (SpellsValues d) d.values done line s.values s.spelled before.0, before.1, before.2) in
-    subst (λ d. At d.section d (done ++ line ∷ [])) (sym s.is) (subst (λ section. At section after (done ++ line ∷ [])) (sym here) now)
-
-spent : (done : List Line) (d : ModelDraftView) (line : Line) (next : ModelDraftView) → d.section ≡ Coefs
-    → AddsCoef d (fields_of line.text) next → At d.section d done → At next.section next (done ++ line ∷ [])
-spent done d line next here s was =
-    let before = subst (λ section. At section d done) here was in
-    let after : ModelDraftView = record d { coefs = d.coefs ++ s.coef ∷ [] } in
-    let now : At Coefs after (done ++ line ∷ []) =
-    (part_more (InValues d) Coefs (SpellsCoef d) d.coefs done line s.coef s.spelled before.0, before.1) in
-    subst (λ d. At d.section d (done ++ line ∷ [])) (sym s.is) (subst (λ section. At section after (done ++ line ∷ [])) (sym here) now)
-
-limited : (done : List Line) (d : ModelDraftView) (line : Line) (next : ModelDraftView) → d.section ≡ Limits
-    → AddsLimit d (fields_of line.text) next → At d.section d done → At next.section next (done ++ line ∷ [])
-limited done d line next here s was =
-    let before = subst (λ section. At section d done) here was in
-    let after : ModelDraftView = record d { limits = d.limits ++ s.limit ∷ [] } in
-    let now : At Limits after (done ++ line ∷ []) =
-    part_more (InCoefs d) Limits (SpellsLimit d) d.limits done line s.limit s.spelled before in
-    subst (λ d. At d.section d (done ++ line ∷ [])) (sym s.is) (subst (λ section. At section after (done ++ line ∷ [])) (sym here) now)
-
 stepped : (done : List Line) (d : ModelDraftView) (line : Line) (next : ModelDraftView) → Step d line.text next → At d.section d done
     → At next.section next (done ++ line ∷ [])
 stepped done d line next (Keyed k fields is_key has s) was = keyed done d line next k fields is_key has s was
 stepped done d line next (Begun section fields is_key s) was = begun done d line next section fields is_key s was
-stepped done d line next (Valued here s) was = valued done d line next here s was
-stepped done d line next (Spent here s) was = spent done d line next here s was
-stepped done d line next (Limited here s) was = limited done d line next here s was
+stepped done d line next (Valued here s) was =
+    within done d _ next line Objective s.is here here (λ before. (
+      part_more (InHeading d) Objective (SpellsValues d) d.values done line s.values s.spelled before.0,
+      before.1,
+      before.2,
+    )) was
+stepped done d line next (Spent here s) was =
+    within done d _ next line Coefs s.is here here (λ before. (
+      part_more (InValues d) Coefs (SpellsCoef d) d.coefs done line s.coef s.spelled before.0,
+      before.1,
+    )) was
+stepped done d line next (Limited here s) was =
+    within done d _ next line Limits s.is here here
+    (part_more (InCoefs d) Limits (SpellsLimit d) d.limits done line s.limit s.spelled) was
 
 -- lines behind others
 all_at : (number : ℕ) (done : List Line) (d : ModelDraftView) (lines : List Line) (last : ModelDraftView) → At d.section d done

@@ -1,12 +1,12 @@
 -- What the lines of a model file keep, so that what is read is as an instance and a CPIT have it.
-use Rattle.std.specs.Prelude.{◌≡◌, ℕ, suc, ◌<◌, ◌≤◌, ◌==◌, ◌&&◌, not, Bool, true, false, List, [], ◌∷◌, ◌++◌, length, None, All}
+use Rattle.std.specs.Prelude.{◌≡◌, ℕ, suc, ◌<◌, ◌≤◌, ◌==◌, ◌&&◌, not, true, false, List, [], ◌∷◌, ◌++◌, length, All}
 use Rattle.std.proofs.Common.{refl, sym, ◌∙◌, ap, subst, arith, length-append}
 use Rattle.std.proofs.lemmas.Bool.{and_parts, eqb-true, not-true}
 use Rattle.std.proofs.lemmas.List.Elements.{All-nil, All-push}
 use Rattle.forms.proofs.FormFacts.{spelled_fit}
 use Rattle.forms.specs.Field.{whole_at}
 use Rattle.forms.specs.GrammarStates.{AllState}
-use Rattle.forms.specs.Shape.{Check, check, failing}
+use Rattle.forms.specs.Shape.{check}
 use Rattle.forms.specs.ShapeStates.{States}
 use Rattle.pit_parts.specs.PlanKept.{stands_before, is_turned}
 use Rattle.mine_instance.specs.Order.{coef_comes_before}
@@ -23,13 +23,13 @@ use Rattle.minelib_reading.specs.declared.model_key.HeaderKey.TheVariants as key
 use Rattle.minelib_lines.specs.declared.problem.Problem.{Problem}
 use Rattle.minelib_reading.specs.declared.model_key.Section.{Section}
 use Rattle.minelib_reading.specs.declared.model_key.Section.TheVariants.{Heading, Objective, Coefs, Limits}
-use Rattle.text_lines.specs.declared.text_fault.TextKind.{TextKind}
 use Rattle.text_lines.specs.declared.text_fault.TextKind.TheVariants.{Order, Twice, Key, Missing}
 use Rattle.minelib_reading.proofs.CoefLineFacts.{coef_fine, coef_low}
 use Rattle.minelib_reading.proofs.FormFields.{below_there, fit_at}
 use Rattle.minelib_reading.proofs.LimitLineFacts.{limit_fine, limit_low}
 use Rattle.minelib_reading.proofs.ModelShapes.{each_line, field_fine, next_by}
 use Rattle.minelib_reading.proofs.Rising.{rises_behind}
+use Rattle.minelib_reading.proofs.ShapeSteps.{passed}
 use Rattle.minelib_reading.proofs.ValidHeader.{KeepsOwn, KeepsHeader, blank_kept, fits_range, header_kept, one_destination}
 use Rattle.minelib_reading.proofs.ValuesLineFacts.{many_fine, row_width}
 
@@ -73,12 +73,6 @@ kept_at_first problem n = record {
   limits = no_limits (count_in (blank_header problem) key.Resources) (count_in (blank_header problem) key.Periods);
 }
 
--- a test that did not fail holds
-passes : (kind : TextKind) (t : Bool) (more : List (Check TextKind)) → failing (check kind t ++ more) ≡ None → (t ≡ true)
-    × (failing more ≡ None)
-passes kind true more e = (refl, e)
-passes kind false more e = absurd cc
-
 -- in the header
 none_yet : (section : Section) (d : ModelDraftView) → is_heading section ≡ true → Ready section d
     → (d.values ≡ []) × (d.coefs ≡ []) × (d.limits ≡ [])
@@ -98,8 +92,8 @@ header_line_kept : (problem : Problem) (n : ℕ) (d next : ModelDraftView) (k : 
     → States (header_line d k fields) next → KeepsModel problem n next
 unfolding header_line
 header_line_kept problem n d next k fields kept s =
-    let heading = passes Key (is_heading d.section) (check Twice (not (is_given k d.header))) s.first in
-    let new = not-true (is_given k d.header) (passes Twice (not (is_given k d.header)) [] heading.1).0 in
+    let heading = passed Key (is_heading d.section) (check Twice (not (is_given k d.header))) s.first in
+    let new = not-true (is_given k d.header) (passed Twice (not (is_given k d.header)) [] heading.1).0 in
     let fit = spelled_fit (field_of d.problem k ∷ []) fields s.values (field_fine d.problem k) s.spelled in
     let here = fits_range d.problem k (first_of s.values) d.name (fit_at (field_of d.problem k ∷ []) s.values 0 any (omega arith) fit) in
     let none = none_yet d.section d heading.0 kept.ready in
@@ -123,8 +117,8 @@ section_line_kept : (problem : Problem) (n : ℕ) (d next : ModelDraftView) (sec
     → States (section_line d section fields) next → KeepsModel problem n next
 unfolding section_line
 section_line_kept problem n d next section fields kept s =
-    let follows = (passes Key (is_next d.section section) [] s.first).0 in
-    let ready = (passes Missing (is_ready d d.section) [] s.last).0 in
+    let follows = (passed Key (is_next d.section section) [] s.first).0 in
+    let ready = (passed Missing (is_ready d d.section) [] s.last).0 in
     subst (KeepsModel problem n) (sym s.is) (record {
       of_problem = kept.of_problem;
       of_blocks = kept.of_blocks;
@@ -151,7 +145,7 @@ values_line_kept problem n d next fields here kept s =
     let form = values_form d.blocks destinations in
     let fit = spelled_fit form fields s.values (many_fine destinations) s.spelled in
     let low = below_there d.blocks _ (fit_at form s.values 0 any (omega arith) fit) in
-    let place = eqb-true (whole_at s.values 0) (length d.values) (passes Order (whole_at s.values 0 == length d.values) [] s.last).0 in
+    let place = eqb-true (whole_at s.values 0) (length d.values) (passed Order (whole_at s.values 0 == length d.values) [] s.last).0 in
     let was = subst (λ section. Ready section d) here kept.ready in
     let after : ModelDraftView = record d { values = d.values ++ row_said s.values ∷ [] } in
     let now : Ready Objective after = (was.0, omega (arith, low, place, length-append d.values (row_said s.values ∷ []))) in
@@ -178,7 +172,7 @@ coef_line_kept problem n d next fields here kept s =
     s.spelled in
     let low = coef_low d.problem d.blocks destinations resources s.values
     (λ cpit. one_destination d.header (subst (λ p. KeepsOwn p d.header) (sym kept.of_problem ∙ cpit) kept.header.own)) fit in
-    let in_order = (passes Order (is_behind coef_comes_before (last_of d.coefs) coef) [] s.last).0 in
+    let in_order = (passed Order (is_behind coef_comes_before (last_of d.coefs) coef) [] s.last).0 in
     let after : ModelDraftView = record d { coefs = d.coefs ++ coef ∷ [] } in
     let was : Ready Coefs after = subst (λ section. Ready section d) here kept.ready in
     subst (KeepsModel problem n) (sym s.is) (record {
@@ -207,7 +201,7 @@ limit_line_kept problem n d next fields here kept s =
     let fit = spelled_fit (limit_form resources periods fields) fields s.values (limit_fine resources periods fields) s.spelled in
     let low = limit_low resources periods fields s.values fit in
     let in_order = and_parts (not (is_turned limit.bound)) (is_behind stands_before (last_of d.limits) limit)
-    (passes Order (not (is_turned limit.bound) && is_behind stands_before (last_of d.limits) limit) [] s.last).0 in
+    (passed Order (not (is_turned limit.bound) && is_behind stands_before (last_of d.limits) limit) [] s.last).0 in
     let after : ModelDraftView = record d { limits = d.limits ++ limit ∷ [] } in
     let was : Ready Limits after = subst (λ section. Ready section d) here kept.ready in
     subst (KeepsModel problem n) (sym s.is) (record {
@@ -229,7 +223,7 @@ line_kept : (problem : Problem) (n : ℕ) (d next : ModelDraftView) (line : List
 unfolding stray_line
 line_kept problem n d next line kept states =
     each_line (λ shape. States shape next → KeepsModel problem n next) d
-    (λ s. absurd (let never = (passes Key false [] s.first).0 in cc))
+    (λ s. absurd (let never = (passed Key false [] s.first).0 in cc))
     (λ k fields s. header_line_kept problem n d next k fields kept s)
     (λ section fields s. section_line_kept problem n d next section fields kept s)
     (λ here fields s. values_line_kept problem n d next fields here kept s)

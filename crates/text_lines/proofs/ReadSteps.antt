@@ -16,16 +16,7 @@ pub bind_then : {A B F P : Type 0} (r : Result A F) (next : A → Result B F) (y
     → ((x : A) → r ≡ Ok x → next x ≡ Ok y → P) → P
 bind_then r next y e part = let b = bind_ok r next y e in part b.0 b.1 b.2
 
--- a step behind a test that may fail
-pub guard_ok : {A F : Type 0} (t : Bool) (fault : F) (r : Result A F) (y : A) → (if t then Err fault else r) ≡ Ok y
-    → (t ≡ false) × (r ≡ Ok y)
-guard_ok true fault r y e = absurd cc
-guard_ok false fault r y e = (refl, e)
-
-pub guard_then : {A F P : Type 0} (t : Bool) (fault : F) (r : Result A F) (y : A) → (if t then Err fault else r) ≡ Ok y
-    → (t ≡ false → r ≡ Ok y → P) → P
-guard_then t fault r y e part = let g = guard_ok t fault r y e in part g.0 g.1
-
+-- a step behind a test that has to hold
 pub then_ok : {A F : Type 0} (t : Bool) (fault : F) (r : Result A F) (y : A) → (if t then r else Err fault) ≡ Ok y → (t ≡ true) × (r ≡ Ok y)
 then_ok true fault r y e = (refl, e)
 then_ok false fault r y e = absurd cc
