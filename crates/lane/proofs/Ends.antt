@@ -10,7 +10,7 @@ use Rattle.lane.specs.Message.{IsEndedFrom}
 use Rattle.lane.specs.MessageKinds.{is_row, is_end, rows_in, has_end}
 use Rattle.lane.specs.MessageOrders.{IsFrom}
 use Rattle.lane.specs.Steps.{with_message}
-use Rattle.lane.specs.inner.Views.{sent_in, capacity_in}
+use Rattle.lane.specs.inner.Views.{sent_in}
 use Rattle.lane.specs.inner.Kept.{IsOpenPut, IsEndedPut}
 use Rattle.lane.proofs.Lists.{count_more}
 use Rattle.lane.proofs.Messages.{from_row, from_end, ended_from}
@@ -20,48 +20,45 @@ pub put_view : (v w : List Part) (f c : ℕ) (sent : List Taken) (m : Taken) →
     → w ≡ Put f c (sent ++ m ∷ []) ∷ []
 put_view v w f c sent m is e = e ∙ ap (λ (x : List Part). with_message x m) is
 
-put_part : (v w : List Part) (f : ℕ) (m : Taken) → v ≡ Put f (capacity_in v) (sent_in v) ∷ [] → w ≡ with_message v m
-    → (sent_in w ≡ sent_in v ++ m ∷ []) × (capacity_in w ≡ capacity_in v) × (w ≡ Put f (capacity_in w) (sent_in w) ∷ [])
-put_part v w f m is e =
-    let x = put_view v w f (capacity_in v) (sent_in v) m is e in
+put_part : (v w : List Part) (f c : ℕ) (m : Taken) → v ≡ Put f c (sent_in v) ∷ [] → w ≡ with_message v m
+    → (sent_in w ≡ sent_in v ++ m ∷ []) × (w ≡ Put f c (sent_in w) ∷ [])
+put_part v w f c m is e =
+    let x = put_view v w f c (sent_in v) m is e in
     let a : sent_in w ≡ sent_in v ++ m ∷ [] = ap sent_in x in
-    let b : capacity_in w ≡ capacity_in v = ap capacity_in x in
-    (a, b, x ∙ (λ i. Put f (sym b i) (sym a i) ∷ []))
+    (a, x ∙ (λ i. Put f c (sym a i) ∷ []))
 
-pub row_put : (v w : List Part) (f count : ℕ) (b : Block) → IsOpenPut v f count → w ≡ with_message v (Row f count b) → count < 1000000
-    → IsOpenPut w f (count + 1) × (capacity_in w ≡ capacity_in v)
-row_put v w f count b h e few =
+pub row_put : (v w : List Part) (f c count : ℕ) (b : Block) → IsOpenPut v f c count → w ≡ with_message v (Row f count b) → count < 1000000
+    → IsOpenPut w f c (count + 1)
+row_put v w f c count b h e few =
     let m : Taken = Row f count b in
-    let p = put_part v w f m h.part e in
+    let p = put_part v w f c m h.part e in
     let list : IsFrom f 0 (sent_in v ++ m ∷ []) =
     subst (λ k. IsFrom f 0 (sent_in v ++ Row f k b ∷ [])) (let z : 0 + length (sent_in v) ≡ count =
     omega (arith, h.places) in z) (from_row f 0 (sent_in v) b h.list h.unended) in
     let open' : has_end (sent_in v ++ m ∷ []) ≡ false =
-    list_any-append is_end (sent_in v) (m ∷ []) ∙ ap (λ (x : Bool). x || false) h.unended in (
-      record {
-        part = p.2;
-        list = subst (IsFrom f 0) (sym p.0) list;
-        unended = ap has_end p.0 ∙ open';
-        rows = ap rows_in p.0 ∙ (let z : rows_in (sent_in v ++ m ∷ []) ≡ count + 1 =
-            omega (arith, count_more is_row (sent_in v) m, h.rows) in z);
-        places = ap (λ (l : List Taken). length l) p.0
-            ∙ (let z : length (sent_in v ++ m ∷ []) ≡ count + 1 = omega (arith, length-append (sent_in v) (m ∷ []), h.places) in z);
-        few = omega arith;
-      },
-      p.1,
-    )
+    list_any-append is_end (sent_in v) (m ∷ []) ∙ ap (λ (x : Bool). x || false) h.unended in
+    record {
+      part = p.1;
+      list = subst (IsFrom f 0) (sym p.0) list;
+      unended = ap has_end p.0 ∙ open';
+      rows = ap rows_in p.0 ∙ (let z : rows_in (sent_in v ++ m ∷ []) ≡ count + 1 =
+          omega (arith, count_more is_row (sent_in v) m, h.rows) in z);
+      places = ap (λ (l : List Taken). length l) p.0
+          ∙ (let z : length (sent_in v ++ m ∷ []) ≡ count + 1 = omega (arith, length-append (sent_in v) (m ∷ []), h.places) in z);
+      few = omega arith;
+    }
 
-pub end_put : (v w : List Part) (f count : ℕ) → IsOpenPut v f count → w ≡ with_message v (End f count) → IsEndedPut w f count
-end_put v w f count h e =
+pub end_put : (v w : List Part) (f c count : ℕ) → IsOpenPut v f c count → w ≡ with_message v (End f count) → IsEndedPut w f c count
+end_put v w f c count h e =
     let m : Taken = End f count in
-    let p = put_part v w f m h.part e in
+    let p = put_part v w f c m h.part e in
     let list : IsFrom f 0 (sent_in v ++ m ∷ []) =
     subst (λ k. IsFrom f 0 (sent_in v ++ End f k ∷ [])) (let z : 0 + length (sent_in v) ≡ count =
     omega (arith, h.places) in z) (from_end f 0 (sent_in v) h.list h.unended) in
     let ended : has_end (sent_in v ++ m ∷ []) ≡ true =
     list_any-append is_end (sent_in v) (m ∷ []) ∙ ap (λ (x : Bool). x || true) h.unended in
     record {
-      part = p.2;
+      part = p.1;
       list = subst (IsEndedFrom f 0) (sym p.0) (ended_from f 0 (sent_in v ++ m ∷ []) list ended);
       rows = ap rows_in p.0 ∙ (let z : rows_in (sent_in v ++ m ∷ []) ≡ count = omega (arith, count_more is_row (sent_in v) m, h.rows) in z);
       few = h.few;

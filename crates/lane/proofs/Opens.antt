@@ -6,20 +6,20 @@ use Rattle.lane.specs.declared.part.Part.TheVariants.{Count, Put, Take, Close}
 use Rattle.lane.specs.Rule.{IsLane, put_parts, take_parts, all_parts}
 use Rattle.lane.specs.inner.Views.{more_files, more_takers, more_places, opened_view, without_second, second_alone}
 use Rattle.lane.specs.Ends.{Lane, ArePutsFrom, AreTakesFrom, first_puts, first_takes}
-use Rattle.lane.specs.inner.Kept.{puts_left, takes_left}
+use Rattle.lane.specs.inner.Kept.{MayGive, puts_left, takes_left}
 use Rattle.lane.proofs.Rules.{counts, opens, gives_put, gives_take}
 
-pub counts_file : (pass : ℕ) (v : List Part) (f w c : ℕ) → v ≡ Count f w c ∷ [] → Forks IsLane pass v (more_files v) []
-counts_file pass v f w c e = subst (λ u. Forks IsLane pass u (more_files u) []) (sym e) (counts pass f w c (f + 1) w c)
+pub counts_file : (v : List Part) (f w c : ℕ) → v ≡ Count f w c ∷ [] → (pass : ℕ) → Forks IsLane pass v (more_files v) []
+counts_file v f w c e pass = subst (λ u. Forks IsLane pass u (more_files u) []) (sym e) (counts pass f w c (f + 1) w c)
 
-pub counts_taker : (pass : ℕ) (v : List Part) (f w c : ℕ) → v ≡ Count f w c ∷ [] → Forks IsLane pass v (more_takers v) []
-counts_taker pass v f w c e = subst (λ u. Forks IsLane pass u (more_takers u) []) (sym e) (counts pass f w c f (w + 1) c)
+pub counts_taker : (v : List Part) (f w c : ℕ) → v ≡ Count f w c ∷ [] → (pass : ℕ) → Forks IsLane pass v (more_takers v) []
+counts_taker v f w c e pass = subst (λ u. Forks IsLane pass u (more_takers u) []) (sym e) (counts pass f w c f (w + 1) c)
 
-pub counts_place : (pass : ℕ) (v : List Part) (f w c : ℕ) → v ≡ Count f w c ∷ [] → Forks IsLane pass v (more_places v) []
-counts_place pass v f w c e = subst (λ u. Forks IsLane pass u (more_places u) []) (sym e) (counts pass f w c f w (c + 1))
+pub counts_place : (v : List Part) (f w c : ℕ) → v ≡ Count f w c ∷ [] → (pass : ℕ) → Forks IsLane pass v (more_places v) []
+counts_place v f w c e pass = subst (λ u. Forks IsLane pass u (more_places u) []) (sym e) (counts pass f w c f w (c + 1))
 
-pub opens_all : (pass : ℕ) (v : List Part) (f w c : ℕ) → v ≡ Count f w c ∷ [] → Forks IsLane pass v (opened_view v) []
-opens_all pass v f w c e = subst (λ u. Forks IsLane pass u (opened_view u) []) (sym e) (opens pass f w c)
+pub opens_all : (v : List Part) (f w c : ℕ) → v ≡ Count f w c ∷ [] → (pass : ℕ) → Forks IsLane pass v (opened_view v) []
+opens_all v f w c e pass = subst (λ u. Forks IsLane pass u (opened_view u) []) (sym e) (opens pass f w c)
 
 -- the first part that is left
 one_left : (f k : ℕ) → k < f → f - k ≡ suc (f - (k + 1))
@@ -29,12 +29,12 @@ puts_front : (f w c k : ℕ) → k < f → puts_left f w c k ≡ Close f w c 0 0
     ∷ (put_parts c k (replicate (suc (f - (k + 1))) []) ++ take_parts c 0 (replicate w []))
 puts_front f w c k l = ap (λ n. Close f w c 0 0 ∷ (put_parts c k (replicate n []) ++ take_parts c 0 (replicate w []))) (one_left f k l)
 
-pub put_given : (pass : ℕ) (v : List Part) (f w c k : ℕ) → v ≡ puts_left f w c k → k < f
-    → Forks IsLane pass v (without_second v) (second_alone v) × (without_second v ≡ puts_left f w c (k + 1))
+pub put_given : (v : List Part) (f w c k : ℕ) → v ≡ puts_left f w c k → k < f
+    → MayGive v × (without_second v ≡ puts_left f w c (k + 1))
     × (second_alone v ≡ Put k c [] ∷ [])
-put_given pass v f w c k e l =
+put_given v f w c k e l =
     let front = e ∙ puts_front f w c k l in (
-      subst (λ u. Forks IsLane pass u (without_second u) (second_alone u)) (sym front) (gives_put pass f w c k (f - (k + 1)) w),
+      subst MayGive (sym front) (λ pass. gives_put pass f w c k (f - (k + 1)) w),
       ap without_second front,
       ap second_alone front,
     )
@@ -42,12 +42,12 @@ put_given pass v f w c k e l =
 takes_front : (f w c k : ℕ) → k < w → takes_left f w c k ≡ Close f w c 0 0 ∷ take_parts c k (replicate (suc (w - (k + 1))) [])
 takes_front f w c k l = ap (λ n. Close f w c 0 0 ∷ take_parts c k (replicate n [])) (one_left w k l)
 
-pub take_given : (pass : ℕ) (v : List Part) (f w c k : ℕ) → v ≡ takes_left f w c k → k < w
-    → Forks IsLane pass v (without_second v) (second_alone v) × (without_second v ≡ takes_left f w c (k + 1))
+pub take_given : (v : List Part) (f w c k : ℕ) → v ≡ takes_left f w c k → k < w
+    → MayGive v × (without_second v ≡ takes_left f w c (k + 1))
     × (second_alone v ≡ Take k c [] ∷ [])
-take_given pass v f w c k e l =
+take_given v f w c k e l =
     let front = e ∙ takes_front f w c k l in (
-      subst (λ u. Forks IsLane pass u (without_second u) (second_alone u)) (sym front) (gives_take pass f w c k (w - (k + 1))),
+      subst MayGive (sym front) (λ pass. gives_take pass f w c k (w - (k + 1))),
       ap without_second front,
       ap second_alone front,
     )

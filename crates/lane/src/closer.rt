@@ -1,22 +1,21 @@
 //! The closer of a lane, which stops it once every file has ended, or gives it up.
 
-ghost use Rattle.std.specs.Prelude.{◌≡◌, ◌<◌, ◌≤◌, true, [], ◌∷◌, length, map};
+ghost use Rattle.std.specs.Prelude.{◌≡◌, ◌<◌, ◌≤◌, true, [], ◌∷◌, length, map, ℕ};
 ghost use Rattle.std.specs.List.{All, sum_by};
-ghost use Rattle.crossbeam_channel.specs.Claims.{view as known, IsSeatAt};
-ghost use Rattle.crossbeam_channel.specs.Ends.{sends_on, receives_on, ruled_capacity};
+ghost use Rattle.crossbeam_channel.specs.Ends.{receives_on};
 ghost use Rattle.lane.specs.MessageKinds.{is_done, rows_in};
 ghost use Rattle.lane.specs.Rule.{put_parts};
 ghost use Rattle.lane.specs.inner.Views.{sents_in, tooks_in};
-ghost use Rattle.lane.specs.Ends.{ArePutsFrom, AreTakesFrom};
-ghost use Rattle.lane.specs.inner.Kept.{IsJoined, IsStopping, IsAllIn, lane_at};
+ghost use Rattle.lane.specs.Ends.{ArePutsFrom, AreTakesFrom, CloserView, StoppedView};
+ghost use Rattle.lane.specs.inner.Kept.{room_of, IsChannelOf, IsJoined, IsStopping, IsAllIn, closer_view, IsCloser, quits_of, stopped_view};
 ghost use Rattle.lane.specs.Whole.{IsWhole};
 
-use crate::channel::{look, put};
 use crate::gathered::Gathered;
 use crate::message::Taken;
 use crate::part::Part;
 use crate::put_end::EndedPut;
-use crate::rule::{Receiver, Seat, Sender};
+use crate::rule::{Receiver, Seat};
+use crate::seated::SeatedSender;
 use crate::take_end::TakeEnd;
 use std::marker::Model;
 use std::sync::Wait;
@@ -24,50 +23,32 @@ use std::sync::Wait;
 /// The closer of a lane. Contracts see its lane and the numbers of files and takers.
 #[derive(Drop)]
 pub struct Closer {
-    sender: Sender,
+    seat: SeatedSender,
     receiver: Receiver,
-    pass: Seat,
     files: u8,
     takers: u8,
 }
 
 impl Model for Closer {
-    ghost use Rattle.std.specs.Prelude.{◌≡◌};
-    ghost use Rattle.crossbeam_channel.specs.Claims.{view as known, IsSeatAt};
-    ghost use Rattle.crossbeam_channel.specs.Ends.{sends_on, receives_on, ruled_capacity};
-    ghost use Rattle.lane.specs.Ends.{CloserView};
-    ghost use Rattle.lane.specs.inner.Kept.{closer_view, IsCloser};
-
     ghost Value = { CloserView };
 
-    ghost view = { λ e. closer_view e.pass e.files e.takers };
+    ghost view = { λ e. closer_view e.seat e.files e.takers };
 
-    ghost invariant = { λ e. IsSeatAt (sends_on e.sender) e.pass
-        × (receives_on e.receiver ≡ sends_on e.sender)
-        × IsCloser (known e.pass) e.files e.takers (ruled_capacity (sends_on e.sender)) };
+    ghost invariant = { λ e. IsChannelOf e.seat.lane (receives_on e.receiver)
+        × IsCloser e.seat.known e.files e.takers (room_of e.seat) };
 }
 
 impl Closer {
     // The closer of a lane whose other parts were given away.
-    pub(crate) fn new(
-        sender: Sender,
-        receiver: Receiver,
-        pass: Seat,
-        files: u8,
-        takers: u8,
-    ) -> Closer
-        requires seat { IsSeatAt (sends_on sender) pass }
-        requires channel { receives_on receiver ≡ sends_on sender }
-        requires part { known pass ≡ Part.Close files takers (ruled_capacity (sends_on sender)) 0
-            0 ∷ [] }
+    pub(crate) fn new(seat: SeatedSender, receiver: Receiver, files: u8, takers: u8) -> Closer
+        requires channel { IsChannelOf seat.lane (receives_on receiver) }
+        requires part { seat.known ≡ Part.Close files takers (room_of seat) 0 0 ∷ [] }
         requires some_taker { 0 < takers }
-        ensures value { result ≡ record
-            { lane = lane_at (sends_on sender); files = files; takers = takers } }
+        ensures value { result ≡ record { lane = seat.lane; files = files; takers = takers } }
     {
         Closer {
-            sender,
+            seat,
             receiver,
-            pass,
             files,
             takers,
         }
@@ -82,18 +63,16 @@ impl Closer {
         ensures files { length result.sent ≡ self.files }
     {
         let Closer {
-            sender,
+            mut seat,
             receiver,
-            mut pass,
             files,
             takers,
         } = self;
-        let rows = join_puts(&sender, &mut pass, files, takers, puts);
-        put_stops(rt, &sender, &mut pass, files, takers);
+        let rows = join_puts(&mut seat, files, takers, puts);
+        put_stops(rt, &mut seat, files, takers);
         Stopped {
-            sender,
+            seat,
             receiver,
-            pass,
             takers,
             rows,
         }
@@ -106,14 +85,15 @@ impl Closer {
         ensures quits { result ≡ n }
     {
         let Closer {
-            sender,
+            mut seat,
             receiver: _receiver,
-            mut pass,
             files,
             takers,
         } = self;
-        put_quits(rt, &sender, &mut pass, files, takers, n);
-        GivenUp { pass }
+        put_quits(rt, &mut seat, files, takers, n);
+        GivenUp {
+            pass: seat.into_pass(),
+        }
     }
 }
 
@@ -124,58 +104,49 @@ pub struct GivenUp {
 }
 
 impl Model for GivenUp {
-    ghost use Rattle.std.specs.Prelude.{ℕ};
-    ghost use Rattle.lane.specs.inner.Kept.{quits_of};
-
     ghost Value = { ℕ };
 
     ghost view = { λ e. quits_of e.pass };
 }
 
 // The parts of the ended puts join the closer's. Answers the number of their rows.
-fn join_puts(sender: &Sender, pass: &mut Seat, files: u8, takers: u8, puts: Vec<EndedPut>) -> u64
-    requires seat { IsSeatAt (sends_on sender.now) pass.old }
-    requires part { known pass.old
-        ≡ Part.Close files takers (ruled_capacity (sends_on sender.now)) 0 0 ∷ [] }
-    requires puts { ArePutsFrom (lane_at (sends_on sender.now)) files 0 puts.items }
-    ensures seat { IsSeatAt (sends_on sender.now) pass.new }
-    ensures joined { IsJoined (known pass.new) files takers (ruled_capacity (sends_on sender.now)) }
-    ensures lists { sents_in (known pass.new) ≡ map (λ put. put.sent) puts.items }
-    ensures rows { result ≡ sum_by rows_in (sents_in (known pass.new)) }
+fn join_puts(seat: &mut SeatedSender, files: u8, takers: u8, puts: Vec<EndedPut>) -> u64
+    requires part { seat.old.known ≡ Part.Close files takers (room_of seat.old) 0 0 ∷ [] }
+    requires puts { ArePutsFrom seat.old.lane files 0 puts.items }
+    ensures lane { seat.new.lane ≡ seat.old.lane }
+    ensures joined { IsJoined seat.new.known files takers (room_of seat.old) }
+    ensures lists { sents_in seat.new.known ≡ map (λ put. put.sent) puts.items }
+    ensures rows { result ≡ sum_by rows_in (sents_in seat.new.known) }
 {
     let mut rows = 0;
     for put in puts {
-        rows += u64::from(put.join(sender, pass));
+        rows += u64::from(put.join(seat));
     }
     rows
 }
 
 // Sends a Stop for each taker.
-fn put_stops<R: Wait>(rt: &R, sender: &Sender, pass: &mut Seat, files: u8, takers: u8)
-    requires seat { IsSeatAt (sends_on sender.now) pass.old }
-    requires joined { IsJoined (known pass.old) files takers
-        (ruled_capacity (sends_on sender.now)) }
-    ensures seat { IsSeatAt (sends_on sender.now) pass.new }
-    ensures stopped { known pass.new
-        ≡ Part.Close files takers (ruled_capacity (sends_on sender.now)) takers 0
-        ∷ put_parts (ruled_capacity (sends_on sender.now)) 0 (sents_in (known pass.old)) }
+fn put_stops<R: Wait>(rt: &R, seat: &mut SeatedSender, files: u8, takers: u8)
+    requires joined { IsJoined seat.old.known files takers (room_of seat.old) }
+    ensures stopped { seat.new ≡ record seat.old {
+      known = Part.Close files takers (room_of seat.old) takers 0
+          ∷ put_parts (room_of seat.old) 0 (sents_in seat.old.known);
+    } }
 {
     for _stop in 0..takers {
-        put(rt, sender, pass, Taken::Stop);
+        seat.put(rt, Taken::Stop);
     }
 }
 
 // Sends `n` Quits.
-fn put_quits<R: Wait>(rt: &R, sender: &Sender, pass: &mut Seat, files: u8, takers: u8, n: u8)
-    requires seat { IsSeatAt (sends_on sender.now) pass.old }
-    requires part { known pass.old
-        ≡ Part.Close files takers (ruled_capacity (sends_on sender.now)) 0 0 ∷ [] }
+fn put_quits<R: Wait>(rt: &R, seat: &mut SeatedSender, files: u8, takers: u8, n: u8)
+    requires part { seat.old.known ≡ Part.Close files takers (room_of seat.old) 0 0 ∷ [] }
     requires few { n ≤ takers }
-    ensures quits { known pass.new
-        ≡ Part.Close files takers (ruled_capacity (sends_on sender.now)) 0 n ∷ [] }
+    ensures quits { seat.new ≡ record seat.old
+        { known = Part.Close files takers (room_of seat.old) 0 n ∷ [] } }
 {
     for _quit in 0..n {
-        put(rt, sender, pass, Taken::Quit);
+        seat.put(rt, Taken::Quit);
     }
 }
 
@@ -183,31 +154,20 @@ fn put_quits<R: Wait>(rt: &R, sender: &Sender, pass: &mut Seat, files: u8, taker
 /// sent.
 #[derive(Drop)]
 pub struct Stopped {
-    sender: Sender,
+    seat: SeatedSender,
     receiver: Receiver,
-    pass: Seat,
     takers: u8,
     rows: u64,
 }
 
 impl Model for Stopped {
-    ghost use Rattle.std.specs.Prelude.{◌≡◌};
-    ghost use Rattle.crossbeam_channel.specs.Claims.{view as known, IsSeatAt};
-    ghost use Rattle.crossbeam_channel.specs.Ends.{sends_on, receives_on, ruled_capacity};
-    ghost use Rattle.std.specs.List.{sum_by};
-    ghost use Rattle.lane.specs.MessageKinds.{rows_in};
-    ghost use Rattle.lane.specs.inner.Views.{sents_in};
-    ghost use Rattle.lane.specs.Ends.{StoppedView};
-    ghost use Rattle.lane.specs.inner.Kept.{stopped_view, IsStopping};
-
     ghost Value = { StoppedView };
 
-    ghost view = { λ e. stopped_view e.pass e.takers };
+    ghost view = { λ e. stopped_view e.seat e.takers };
 
-    ghost invariant = { λ e. IsSeatAt (sends_on e.sender) e.pass
-        × (receives_on e.receiver ≡ sends_on e.sender)
-        × IsStopping (known e.pass) e.takers (ruled_capacity (sends_on e.sender))
-        × (e.rows ≡ sum_by rows_in (sents_in (known e.pass))) };
+    ghost invariant = { λ e. IsChannelOf e.seat.lane (receives_on e.receiver)
+        × IsStopping e.seat.known e.takers (room_of e.seat)
+        × (e.rows ≡ sum_by rows_in (sents_in e.seat.known)) };
 }
 
 impl Stopped {
@@ -224,30 +184,28 @@ impl Stopped {
         ensures whole { IsWhole result }
     {
         let Stopped {
-            sender,
+            mut seat,
             receiver,
-            mut pass,
             takers,
             rows,
         } = self;
-        join_takes(&sender, &mut pass, takers, takes);
-        look(rt, &receiver, &mut pass);
-        Gathered::new(pass, rows)
+        join_takes(&mut seat, takers, takes);
+        seat.look(rt, &receiver);
+        Gathered::new(seat.into_pass(), rows)
     }
 }
 
 // The parts of the take ends join the closer's.
-fn join_takes(sender: &Sender, pass: &mut Seat, takers: u8, takes: Vec<TakeEnd>)
-    requires seat { IsSeatAt (sends_on sender.now) pass.old }
-    requires stopped { IsStopping (known pass.old) takers (ruled_capacity (sends_on sender.now)) }
-    requires takes { AreTakesFrom (lane_at (sends_on sender.now)) takers 0 takes.items }
+fn join_takes(seat: &mut SeatedSender, takers: u8, takes: Vec<TakeEnd>)
+    requires stopped { IsStopping seat.old.known takers (room_of seat.old) }
+    requires takes { AreTakesFrom seat.old.lane takers 0 takes.items }
     requires done { All (λ take. is_done take.took ≡ true) takes.items }
-    ensures seat { IsSeatAt (sends_on sender.now) pass.new }
-    ensures full { IsAllIn (known pass.new) takers (ruled_capacity (sends_on sender.now)) }
-    ensures sent { sents_in (known pass.new) ≡ sents_in (known pass.old) }
-    ensures took { tooks_in (known pass.new) ≡ map (λ take. take.took) takes.items }
+    ensures lane { seat.new.lane ≡ seat.old.lane }
+    ensures full { IsAllIn seat.new.known takers (room_of seat.old) }
+    ensures sent { sents_in seat.new.known ≡ sents_in seat.old.known }
+    ensures took { tooks_in seat.new.known ≡ map (λ take. take.took) takes.items }
 {
     for take in takes {
-        take.join(sender, pass);
+        take.join(seat);
     }
 }

@@ -5,7 +5,8 @@ ghost use Rattle.std.specs.List.{sum_by};
 ghost use Rattle.crossbeam_channel.specs.Claims.{view as known};
 ghost use Rattle.lane.specs.MessageKinds.{rows_in};
 ghost use Rattle.lane.specs.inner.Views.{gathering_in, sents_in};
-ghost use Rattle.lane.specs.Whole.{IsWhole};
+ghost use Rattle.lane.specs.Whole.{IsWhole, GatheredView};
+ghost use Rattle.lane.specs.inner.Kept.{gathered_view, IsGathered};
 
 use crate::rule::Seat;
 use std::marker::Model;
@@ -18,10 +19,6 @@ pub struct Gathered {
 }
 
 impl Model for Gathered {
-    ghost use Rattle.crossbeam_channel.specs.Claims.{view as known};
-    ghost use Rattle.lane.specs.Whole.{GatheredView};
-    ghost use Rattle.lane.specs.inner.Kept.{gathered_view, IsGathered};
-
     ghost Value = { GatheredView };
 
     ghost view = { λ g. gathered_view g.pass };

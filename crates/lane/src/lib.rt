@@ -2,7 +2,6 @@
 //! once, the messages of a file in order, and what is gathered at the end is whole.
 #![tactic(auto)]
 
-mod channel;
 mod closer;
 mod gathered;
 pub mod laws;
@@ -11,6 +10,7 @@ mod opening;
 mod part;
 mod put_end;
 mod rule;
+mod seated;
 mod take_end;
 
 pub use closer::{Closer, GivenUp, Stopped};

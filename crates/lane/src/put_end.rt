@@ -1,17 +1,15 @@
 //! The end of the lane that a file's reader puts its rows into.
 
 ghost use Rattle.std.specs.Prelude.{◌≡◌, ◌<◌, ◌≤◌, ◌++◌, true, [], ◌∷◌, length};
-ghost use Rattle.crossbeam_channel.specs.Claims.{view as known, IsSeatAt};
-ghost use Rattle.crossbeam_channel.specs.Ends.{sends_on, ruled_capacity};
-ghost use Rattle.lane.specs.inner.Kept.{IsClosers, lane_at};
+ghost use Rattle.lane.specs.inner.Kept.{room_of, IsClosers, put_end_view, IsOpenPut, IsEndedPut};
 ghost use Rattle.lane.specs.Message.{IsEndedFrom};
 ghost use Rattle.lane.specs.MessageKinds.{has_end, rows_in};
 ghost use Rattle.pit_parts.specs.declared.ranges.TheConstants.{MAX_ROWS};
+ghost use Rattle.lane.specs.Ends.{PutEndView};
 
-use crate::channel::put;
 use crate::message::Taken;
 use crate::part::Part;
-use crate::rule::{Joins, Seat, Sender};
+use crate::seated::SeatedSender;
 use pit_parts::block::Block;
 use std::marker::Model;
 use std::sync::Wait;
@@ -19,40 +17,27 @@ use std::sync::Wait;
 /// The put end of one file. Contracts see its lane, its file and the list of what it sent, which are rows alone.
 #[derive(Drop)]
 pub struct PutEnd {
-    sender: Sender,
-    pass: Seat,
+    seat: SeatedSender,
     file: u8,
     rows: u32,
 }
 
 impl Model for PutEnd {
-    ghost use Rattle.std.specs.Prelude.{◌≡◌};
-    ghost use Rattle.crossbeam_channel.specs.Claims.{view as known, IsSeatAt};
-    ghost use Rattle.crossbeam_channel.specs.Ends.{sends_on, ruled_capacity};
-    ghost use Rattle.lane.specs.inner.Views.{capacity_in};
-    ghost use Rattle.lane.specs.Ends.{PutEndView};
-    ghost use Rattle.lane.specs.inner.Kept.{put_end_view, IsOpenPut};
-
     ghost Value = { PutEndView };
 
-    ghost view = { λ e. put_end_view e.pass e.file };
+    ghost view = { λ e. put_end_view e.seat e.file };
 
-    ghost invariant = { λ e. IsSeatAt (sends_on e.sender) e.pass
-        × (ruled_capacity (sends_on e.sender) ≡ capacity_in (known e.pass))
-        × IsOpenPut (known e.pass) e.file e.rows };
+    ghost invariant = { λ e. IsOpenPut e.seat.known e.file (room_of e.seat) e.rows };
 }
 
 impl PutEnd {
     // A put end that sent nothing yet.
-    pub(crate) fn new(sender: Sender, pass: Seat, file: u8) -> PutEnd
-        requires seat { IsSeatAt (sends_on sender) pass }
-        requires part { known pass ≡ Part.Put file (ruled_capacity (sends_on sender)) [] ∷ [] }
-        ensures value { result ≡ record
-            { lane = lane_at (sends_on sender); file = file; sent = [] } }
+    pub(crate) fn new(seat: SeatedSender, file: u8) -> PutEnd
+        requires part { seat.known ≡ Part.Put file (room_of seat) [] ∷ [] }
+        ensures value { result ≡ record { lane = seat.lane; file = file; sent = [] } }
     {
         PutEnd {
-            sender,
-            pass,
+            seat,
             file,
             rows: 0,
         }
@@ -69,7 +54,7 @@ impl PutEnd {
             place: self.rows,
             block,
         };
-        put(rt, &self.sender, &mut self.pass, message);
+        self.seat.put(rt, message);
         self.rows += 1;
     }
 
@@ -90,57 +75,45 @@ impl PutEnd {
         ensures ended { IsEndedFrom result.file 0 result.sent }
     {
         let PutEnd {
-            sender,
-            mut pass,
+            mut seat,
             file,
             rows,
         } = self;
-        put(rt, &sender, &mut pass, Taken::End { file, rows });
-        EndedPut { pass, file, rows }
+        seat.put(rt, Taken::End { file, rows });
+        EndedPut { seat, file, rows }
     }
 }
 
 /// A put end whose file has ended. Contracts see its lane, its file and the list of what it sent.
 #[derive(Drop)]
 pub struct EndedPut {
-    pass: Seat,
+    seat: SeatedSender,
     file: u8,
     rows: u32,
 }
 
 impl Model for EndedPut {
-    ghost use Rattle.std.specs.Prelude.{◌≡◌, []};
-    ghost use Rattle.crossbeam_channel.specs.Claims.{view as known};
-    ghost use Rattle.lane.specs.Ends.{PutEndView};
-    ghost use Rattle.lane.specs.inner.Kept.{put_end_view, IsEndedPut};
-
     ghost Value = { PutEndView };
 
-    ghost view = { λ e. put_end_view e.pass e.file };
+    ghost view = { λ e. put_end_view e.seat e.file };
 
-    ghost invariant = { λ e. (e.pass.me.1 ≡ []) × IsEndedPut (known e.pass) e.file e.rows };
+    ghost invariant = { λ e. IsEndedPut e.seat.known e.file (room_of e.seat) e.rows };
 }
 
 impl EndedPut {
-    // Hands the end's part to the pass of the closer, and answers the number of rows.
-    pub(crate) fn join(self, sender: &Sender, pass: &mut Seat) -> u32
-        requires seat { IsSeatAt (sends_on sender.now) pass.old }
-        requires closer { IsClosers (known pass.old) }
-        requires lane { self.lane ≡ lane_at (sends_on sender.now) }
-        ensures seat { IsSeatAt (sends_on sender.now) pass.new }
-        ensures joined { known pass.new
-            ≡ known pass.old ++ Part.Put self.file (ruled_capacity (sends_on sender.now))
-            self.sent ∷ [] }
+    // Hands the end's part to the closer, and answers the number of rows.
+    pub(crate) fn join(self, closer: &mut SeatedSender) -> u32
+        requires closer { IsClosers closer.old.known }
+        requires lane { self.lane ≡ closer.old.lane }
+        ensures joined { closer.new ≡ record closer.old {
+          known = closer.old.known
+              ++ Part.Put self.file (room_of closer.old) self.sent ∷ [];
+        } }
         ensures ended { has_end self.sent ≡ true }
         ensures rows { result ≡ rows_in self.sent }
         ensures few { result ≤ MAX_ROWS }
     {
-        let EndedPut {
-            pass: theirs,
-            rows,
-            ..
-        } = self;
-        sender.absorb::<Joins>(pass, theirs);
-        rows
+        closer.join_sender(self.seat);
+        self.rows
     }
 }

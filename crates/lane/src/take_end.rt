@@ -1,58 +1,44 @@
 //! The end of the lane that a valuer takes from.
 
 ghost use Rattle.std.specs.Prelude.{◌≡◌, false, ◌++◌, [], ◌∷◌};
-ghost use Rattle.crossbeam_channel.specs.Claims.{view as known, IsSeatAt};
-ghost use Rattle.crossbeam_channel.specs.Ends.{sends_on, receives_on, ruled_capacity};
-ghost use Rattle.lane.specs.inner.Kept.{IsClosers, lane_at};
+ghost use Rattle.lane.specs.inner.Kept.{room_of, IsClosers, take_end_view, IsTake};
 ghost use Rattle.lane.specs.Message.{Rises};
 ghost use Rattle.lane.specs.MessageKinds.{is_done, ends_in_mark};
 ghost use Rattle.lane.specs.MessageOrders.{EndsClose, MarksLast};
+ghost use Rattle.lane.specs.inner.Views.{took_in};
+ghost use Rattle.lane.specs.Ends.{TakeEndView};
 
-use crate::channel::take;
 use crate::message::Taken;
 use crate::part::Part;
-use crate::rule::{Joins, Receiver, Seat, Sender};
+use crate::seated::{SeatedReceiver, SeatedSender};
 use std::marker::Model;
 use std::sync::Wait;
 
 /// The take end of one valuer. Contracts see its lane, its number and the list of what it took.
 #[derive(Drop)]
 pub struct TakeEnd {
-    receiver: Receiver,
-    pass: Seat,
+    seat: SeatedReceiver,
     taker: u8,
     done: bool,
 }
 
 impl Model for TakeEnd {
-    ghost use Rattle.std.specs.Prelude.{◌≡◌};
-    ghost use Rattle.crossbeam_channel.specs.Claims.{view as known, IsSeatAt};
-    ghost use Rattle.crossbeam_channel.specs.Ends.{receives_on};
-    ghost use Rattle.lane.specs.MessageKinds.{is_done};
-    ghost use Rattle.lane.specs.inner.Views.{took_in};
-    ghost use Rattle.lane.specs.Ends.{TakeEndView};
-    ghost use Rattle.lane.specs.inner.Kept.{take_end_view, IsTake};
-
     ghost Value = { TakeEndView };
 
-    ghost view = { λ e. take_end_view e.pass e.taker };
+    ghost view = { λ e. take_end_view e.seat e.taker };
 
-    ghost invariant = { λ e. IsSeatAt (receives_on e.receiver) e.pass
-        × IsTake (known e.pass) e.taker × (e.done ≡ is_done (took_in (known e.pass))) };
+    ghost invariant = { λ e. IsTake e.seat.known e.taker (room_of e.seat)
+        × (e.done ≡ is_done (took_in e.seat.known)) };
 }
 
 impl TakeEnd {
     // A take end that took nothing yet.
-    pub(crate) fn new(receiver: Receiver, pass: Seat, taker: u8) -> TakeEnd
-        requires seat { IsSeatAt (receives_on receiver) pass }
-        requires part { known pass ≡ Part.Take taker (ruled_capacity (receives_on receiver))
-            [] ∷ [] }
-        ensures value { result ≡ record
-            { lane = lane_at (receives_on receiver); taker = taker; took = [] } }
+    pub(crate) fn new(seat: SeatedReceiver, taker: u8) -> TakeEnd
+        requires part { seat.known ≡ Part.Take taker (room_of seat) [] ∷ [] }
+        ensures value { result ≡ record { lane = seat.lane; taker = taker; took = [] } }
     {
         TakeEnd {
-            receiver,
-            pass,
+            seat,
             taker,
             done: false,
         }
@@ -66,7 +52,7 @@ impl TakeEnd {
         ensures ends { EndsClose self.new.took }
         ensures marks { MarksLast self.new.took }
     {
-        let message = take(rt, &self.receiver, &mut self.pass);
+        let message = self.seat.take(rt);
         self.done = matches!(message, Taken::Stop | Taken::Quit);
         message
     }
@@ -79,17 +65,15 @@ impl TakeEnd {
         self.done
     }
 
-    // Hands the end's part to the pass of the closer.
-    pub(crate) fn join(self, sender: &Sender, pass: &mut Seat)
-        requires seat { IsSeatAt (sends_on sender.now) pass.old }
-        requires closer { IsClosers (known pass.old) }
-        requires lane { self.lane ≡ lane_at (sends_on sender.now) }
-        ensures seat { IsSeatAt (sends_on sender.now) pass.new }
-        ensures joined { known pass.new
-            ≡ known pass.old ++ Part.Take self.taker (ruled_capacity (sends_on sender.now))
-            self.took ∷ [] }
+    // Hands the end's part to the closer.
+    pub(crate) fn join(self, closer: &mut SeatedSender)
+        requires closer { IsClosers closer.old.known }
+        requires lane { self.lane ≡ closer.old.lane }
+        ensures joined { closer.new ≡ record closer.old {
+          known = closer.old.known
+              ++ Part.Take self.taker (room_of closer.old) self.took ∷ [];
+        } }
     {
-        let TakeEnd { pass: theirs, .. } = self;
-        sender.absorb::<Joins>(pass, theirs);
+        closer.join_receiver(self.seat);
     }
 }

@@ -15,7 +15,7 @@ pub record IsOrdered (took : List Taken) : Type 0 where
   pub ends : EndsClose took
   pub marks : MarksLast took
 
--- what the first part of a view knows: its list, the capacity, and the Quits that the closer put
+-- what the first part of a view knows: its list, and the Quits that the closer put
 abbrev pub sent_in : List Part → List Taken
 sent_in [] = []
 sent_in (Count files takers capacity ∷ v) = []
@@ -29,13 +29,6 @@ took_in (Count files takers capacity ∷ v) = []
 took_in (Put file capacity sent ∷ v) = []
 took_in (Take taker capacity took ∷ v) = took
 took_in (Close files takers capacity stops quits ∷ v) = []
-
-abbrev pub capacity_in : List Part → ℕ
-capacity_in [] = 0
-capacity_in (Count files takers capacity ∷ v) = capacity
-capacity_in (Put file capacity sent ∷ v) = capacity
-capacity_in (Take taker capacity took ∷ v) = capacity
-capacity_in (Close files takers capacity stops quits ∷ v) = capacity
 
 abbrev pub quits_in : List Part → ℕ
 quits_in [] = 0

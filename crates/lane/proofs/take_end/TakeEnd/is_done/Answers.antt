@@ -5,4 +5,4 @@ use Rattle.lane.proofs.take_end.TakeEnd.is_done.Goals as goal
 
 pub returns-clause-last : goal.returns-clause-last
 returns-clause-last c = subst (λ v. c.self.inside.done ≡ ends_in_mark v.took) c.self.view_is
-    (c.self.invariant.2 ∙ done_is_last _ c.self.invariant.1.ordered.marks)
+    (c.self.invariant.1 ∙ done_is_last _ c.self.invariant.0.ordered.marks)

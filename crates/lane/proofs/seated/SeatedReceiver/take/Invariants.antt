@@ -1,9 +1,10 @@
 use Rattle.std.proofs.Common.{◌≡◌}
-use Rattle.crossbeam_channel.specs.Claims.{view, IsSeatAt}
+use Rattle.crossbeam_channel.specs.Claims.{IsSeatAt}
 use Rattle.crossbeam_channel.specs.Ends.{receives_on}
-use Rattle.lane.proofs.channel.take.Given as goal
+use Rattle.lane.specs.inner.Kept.{seated}
+use Rattle.lane.proofs.seated.SeatedReceiver.take.Given as goal
 
 abbrev pub invariant-loop : goal.invariant-loop
 invariant-loop g l =
     (goal.iterator-loop g).can_next l.iterator' × (goal.iterator-loop g).is_finite l.iterator' × IsSeatAt (receives_on l.receiver) l.pass
-    × (view l.pass ≡ view l.fn.pass)
+    × (seated (receives_on l.receiver) l.pass ≡ l.fn.self)

@@ -1,7 +1,0 @@
-use Rattle.std.proofs.Common.{sym, subst}
-use Rattle.lane.specs.Steps.{MayTake}
-use Rattle.lane.proofs.Rules.{takes}
-use Rattle.lane.proofs.channel.take.Goals as goal
-
-pub recv_as-requires-clause-rule : goal.recv_as-requires-clause-rule
-recv_as-requires-clause-rule g c = (takes _ _ (subst MayTake (sym c.loop.invariant.3) c.requires.may), λ items views h e. tt)

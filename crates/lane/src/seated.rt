@@ -1,0 +1,212 @@
+//! An end of the lane's channel with the pass that it shows, and what the two do together: one send, one receive, and the steps
+//! in which parts are made, handed on and joined. A send or receive is tried a few times before its thread sleeps, and tried
+//! again where the channel hands it back.
+
+ghost use Rattle.std.specs.Prelude.{ℕ, ◌≡◌, ◌++◌, true, false, None, IfOk, OnOk, IfSome, OnSome};
+ghost use Rattle.crossbeam_channel.specs.Claims.{view as known_by, IsSeatAt};
+ghost use Rattle.crossbeam_channel.specs.Ends.{sends_on, receives_on};
+ghost use Rattle.crossbeam_channel.specs.Fifo.{Forks};
+ghost use Rattle.lane.specs.Rule.{IsLane};
+ghost use Rattle.lane.specs.Whole.{IsWhole};
+ghost use Rattle.lane.specs.Steps.{with_message, MaySend, MayTake};
+ghost use Rattle.lane.specs.inner.Views.{gathering_in, IsOrdered, took_in, without_second, second_alone};
+ghost use Rattle.lane.specs.inner.Kept.{seated, room_of, IsChannelOf, MayGive, IsClosers, IsAllIn, SeatView};
+
+use crate::message::Taken;
+use crate::rule::{Gives, Joins, Looks, Parts, Receiver, Receives, Seat, Sender, Sends};
+use crossbeam_channel::protocol::Split;
+use std::alloc::AllocError;
+use std::marker::Model;
+use std::sync::Wait;
+use std::thread;
+
+// How often a call is tried before its thread may sleep. A thread that sleeps has to be woken, which costs more than to give the
+// processor away a few times.
+const TRIES: u32 = 16;
+
+/// A sender and its pass. Contracts see its lane and what it knows.
+#[derive(Drop)]
+pub struct SeatedSender {
+    sender: Sender,
+    pass: Seat,
+}
+
+impl Model for SeatedSender {
+    ghost Value = { SeatView };
+
+    ghost view = { λ e. seated (sends_on e.sender) e.pass };
+
+    ghost invariant = { λ e. IsSeatAt (sends_on e.sender) e.pass };
+}
+
+impl SeatedSender {
+    pub fn new(sender: Sender, pass: Seat) -> SeatedSender
+        requires seat { IsSeatAt (sends_on sender) pass }
+        ensures value { result ≡ seated (sends_on sender) pass }
+    {
+        SeatedSender { sender, pass }
+    }
+
+    /// The pass alone.
+    pub fn into_pass(self) -> Seat
+        ensures known { known_by result ≡ self.known }
+    {
+        self.pass
+    }
+
+    /// Makes the parts of the view anew. The pass that is split off knows nothing.
+    pub fn split<M: Split<Parts>>(&mut self)
+        requires rule { (pass : ℕ) → Forks IsLane pass self.old.known (M.left self.old.known)
+            (M.right self.old.known) }
+        ensures made { self.new ≡ record self.old { known = M.left self.old.known } }
+    {
+        let _spent = self.sender.another::<M>(&mut self.pass);
+    }
+
+    /// The part behind the closer's, with a sender of its own.
+    pub fn give_sender(&mut self) -> Result<SeatedSender, AllocError>
+        requires may { MayGive self.old.known }
+        ensures left { OnOk result (self.new
+            ≡ record self.old { known = without_second self.old.known }) }
+        ensures given { IfOk result (λ end. end
+            ≡ record self.old { known = second_alone self.old.known }) }
+    {
+        let sender = self.sender.try_clone()?;
+        let pass = self.sender.another::<Gives>(&mut self.pass);
+        Ok(SeatedSender { sender, pass })
+    }
+
+    /// The part behind the closer's, with a receiver of its own.
+    pub fn give_receiver(&mut self, receiver: &Receiver) -> Result<SeatedReceiver, AllocError>
+        requires channel { IsChannelOf self.old.lane (receives_on receiver.now) }
+        requires may { MayGive self.old.known }
+        ensures left { OnOk result (self.new
+            ≡ record self.old { known = without_second self.old.known }) }
+        ensures given { IfOk result (λ end. end
+            ≡ record self.old { known = second_alone self.old.known }) }
+    {
+        let receiver = receiver.try_clone()?;
+        let pass = self.sender.another::<Gives>(&mut self.pass);
+        Ok(SeatedReceiver { receiver, pass })
+    }
+
+    /// Takes over the parts of another sender of the lane.
+    #[tactic(auto, using(crate::proofs::Rules::joins))]
+    pub fn join_sender(&mut self, other: SeatedSender)
+        requires lane { other.lane ≡ self.old.lane }
+        requires closer { IsClosers self.old.known }
+        ensures joined { self.new ≡ record self.old { known = self.old.known ++ other.known } }
+    {
+        let SeatedSender { pass, .. } = other;
+        self.sender.absorb::<Joins>(&mut self.pass, pass);
+    }
+
+    /// Takes over the parts of a receiver of the lane.
+    #[tactic(auto, using(crate::proofs::Rules::joins))]
+    pub fn join_receiver(&mut self, other: SeatedReceiver)
+        requires lane { other.lane ≡ self.old.lane }
+        requires closer { IsClosers self.old.known }
+        ensures joined { self.new ≡ record self.old { known = self.old.known ++ other.known } }
+    {
+        let SeatedReceiver { pass, .. } = other;
+        self.sender.absorb::<Joins>(&mut self.pass, pass);
+    }
+
+    /// Sends the message.
+    pub fn put<R: Wait>(&mut self, rt: &R, message: Taken)
+        requires may { MaySend (room_of self.old) self.old.known message }
+        ensures sent { self.new ≡ record self.old { known = with_message self.old.known message } }
+    {
+        if self.put_soon(rt, message) {
+            return;
+        }
+        let SeatedSender { sender, pass } = self;
+        for _ in rt.forever() {
+            if sender.send_as::<Sends, R>(rt, pass, message).is_ok() {
+                break;
+            }
+        }
+    }
+
+    // Tries to send the message, never sleeps, and answers whether the message is sent.
+    fn put_soon<R: Wait>(&mut self, rt: &R, message: Taken) -> bool
+        requires may { MaySend (room_of self.old) self.old.known message }
+        ensures sent { result ≡ true → self.new
+            ≡ record self.old { known = with_message self.old.known message } }
+        ensures kept { result ≡ false → self.new ≡ self.old }
+    {
+        let SeatedSender { sender, pass } = self;
+        for _ in 0..TRIES {
+            if sender.try_send_as::<Sends, R>(rt, pass, message).is_ok() {
+                return true;
+            }
+            thread::yield_now();
+        }
+        false
+    }
+
+    /// Looks once at a lane that is done: nothing is left in its queue, so it is whole.
+    pub fn look<R: Wait>(&mut self, rt: &R, receiver: &Receiver)
+        requires channel { IsChannelOf self.old.lane (receives_on receiver.now) }
+        requires full { (takers : ℕ) × IsAllIn self.old.known takers (room_of self.old) }
+        ensures kept { self.new ≡ self.old }
+        ensures whole { IsWhole (gathering_in self.new.known) }
+    {
+        if receiver.try_recv_as::<Looks, R>(rt, &mut self.pass).is_ok() {
+            unreachable!();
+        }
+    }
+}
+
+/// A receiver and its pass. Contracts see its lane and what it knows.
+#[derive(Drop)]
+pub struct SeatedReceiver {
+    receiver: Receiver,
+    pass: Seat,
+}
+
+impl Model for SeatedReceiver {
+    ghost Value = { SeatView };
+
+    ghost view = { λ e. seated (receives_on e.receiver) e.pass };
+
+    ghost invariant = { λ e. IsSeatAt (receives_on e.receiver) e.pass };
+}
+
+impl SeatedReceiver {
+    /// Takes the next message.
+    pub fn take<R: Wait>(&mut self, rt: &R) -> Taken
+        requires may { MayTake self.old.known }
+        ensures took { self.new ≡ record self.old { known = with_message self.old.known result } }
+        ensures ordered { IsOrdered (took_in self.new.known) }
+    {
+        if let Some(message) = self.take_soon(rt) {
+            return message;
+        }
+        let SeatedReceiver { receiver, pass } = self;
+        for _ in rt.forever() {
+            if let Ok(message) = receiver.recv_as::<Receives, R>(rt, pass) {
+                return message;
+            }
+        }
+        unreachable!()
+    }
+
+    // Tries to take the next message, and never sleeps.
+    fn take_soon<R: Wait>(&mut self, rt: &R) -> Option<Taken>
+        requires may { MayTake self.old.known }
+        ensures took { IfSome result (λ message. self.new
+            ≡ record self.old { known = with_message self.old.known message }) }
+        ensures ordered { OnSome result (IsOrdered (took_in self.new.known)) }
+        ensures kept { result ≡ None → self.new ≡ self.old }
+    {
+        let SeatedReceiver { receiver, pass } = self;
+        for _ in 0..TRIES {
+            if let Ok(message) = receiver.try_recv_as::<Receives, R>(rt, pass) {
+                return Some(message);
+            }
+            thread::yield_now();
+        }
+        None
+    }
+}
