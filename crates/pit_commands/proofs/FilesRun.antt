@@ -1,12 +1,12 @@
 -- What a run on files tells: as many texts as there are feeds.
-use Rattle.std.proofs.Common.{◌≡◌, ℕ, suc, Bool, List, [], ◌∷◌, length, Option, Result, Ok, Err, IfOk, IfErr, refl, ap, ◌∙◌, sym, subst}
-use Rattle.std.specs.Prelude.{◌↔◌}
+use Rattle.std.proofs.Common.{◌≡◌, ℕ, suc, Bool, List, [], ◌∷◌, length, Option, refl, ap, ◌∙◌, sym, subst}
 use Rattle.std.specs.List.{sum_by}
 use Rattle.lane.specs.MessageKinds.{rows_in}
+use Rattle.lane.specs.Whole.{GatheredView}
 use Rattle.devices.specs.SinkState.{SinkState}
 use Rattle.minelib_writing.specs.declared.text_name.TextName.{TextName}
 use Rattle.pit_compile.specs.Compiled.{AreGiven, IsVerdict}
-use Rattle.pit_compile.specs.Run.{IsRefused}
+use Rattle.pit_compile.specs.Run.{IsDone, IsRefused}
 use Rattle.pit_compile.specs.Settings.{IsSettingsFault}
 use Rattle.pit_compile.specs.declared.refusal.Refusal.{Refusal}
 use Rattle.pit_compile.specs.declared.refusal.Refusal.TheVariants as refusal
@@ -15,7 +15,6 @@ use Rattle.pit_compile.specs.declared.settings.SettingsFault.{SettingsFault}
 use Rattle.pit_parts.specs.Plan.{PlanParts}
 use Rattle.pit_parts.specs.declared.formula.Formula.{Formula}
 use Rattle.pit_commands.specs.Compile.{HasRows, HasVerdict, NotCompiled}
-use Rattle.pit_commands.specs.inner.CompileSteps.{IsRun}
 
 as_many : (lefts : List (Option (List ℕ))) (texts : List (List ℕ)) → AreGiven lefts texts → length texts ≡ length lefts
 as_many [] [] h = refl
@@ -24,14 +23,14 @@ as_many (left ∷ lefts) [] h = absurd h
 as_many (left ∷ lefts) (text ∷ texts) h = ap suc (as_many lefts texts h.1)
 
 -- the rows of a run that is done are those of as many accepted texts as there are feeds
-pub has_rows : (plan : PlanParts) (lefts : List (Option (List ℕ))) (valuers : ℕ) (old new : TextName → SinkState) (rows count : ℕ)
-    → length lefts ≡ count
-    → IsRun plan lefts valuers old new rows → HasRows plan count rows
-has_rows plan lefts valuers old new rows count all h = record {
-  texts = h.done.texts;
-  counted = as_many lefts h.done.texts h.done.given ∙ all;
-  accepted = h.done.accepted;
-  rows_are = h.rows_are ∙ ap (sum_by rows_in) h.done.passed.sent;
+pub has_rows : (plan : PlanParts) (lefts : List (Option (List ℕ))) (valuers : ℕ) (old new : TextName → SinkState) (gathered : GatheredView)
+    (rows count : ℕ) → length lefts ≡ count → IsDone plan lefts valuers old new gathered → rows ≡ sum_by rows_in gathered.sent
+    → HasRows plan count rows
+has_rows plan lefts valuers old new gathered rows count all h rows_are = record {
+  texts = h.texts;
+  counted = as_many lefts h.texts h.given ∙ all;
+  accepted = h.accepted;
+  rows_are = rows_are ∙ ap (sum_by rows_in) h.passed.sent;
 }
 
 module _ (plan : PlanParts) (formulas : List Formula) (settings : Settings) (lefts : List (Option (List ℕ))) (sures : List Bool)
@@ -50,22 +49,6 @@ module _ (plan : PlanParts) (formulas : List Formula) (settings : Settings) (lef
   not_compiled (refusal.Same first again) fault h = verdict_on (refusal.Same first again) h.0
   not_compiled (refusal.SinkFailed which) fault h = _
   not_compiled refusal.OutOfMemory fault h = _
-
--- the same of the answer of a run
-pub rows_answered : (plan : PlanParts) (lefts : List (Option (List ℕ))) (valuers : ℕ) (old new : TextName → SinkState) (count : ℕ)
-    → length lefts ≡ count
-    → (answer : Result ℕ Refusal) → IfOk answer (IsRun plan lefts valuers old new) → IfOk answer (HasRows plan count)
-rows_answered plan lefts valuers old new count all (Ok rows) h = has_rows plan lefts valuers old new rows count all h
-rows_answered plan lefts valuers old new count all (Err refusal) h = _
-
-pub refusal_answered : (plan : PlanParts) (formulas : List Formula) (settings : Settings) (lefts : List (Option (List ℕ)))
-    (sures : List Bool) (old new : TextName → SinkState)
-    (count : ℕ) → length lefts ≡ count → (answer : Result ℕ Refusal)
-    → ((kind : SettingsFault) → (answer ≡ Err (refusal.Settings kind)) ↔ IsSettingsFault plan count formulas settings kind)
-    → IfErr answer (IsRefused plan lefts sures old new) → IfErr answer (NotCompiled plan count formulas settings)
-refusal_answered plan formulas settings lefts sures old new count all (Ok rows) faults h = _
-refusal_answered plan formulas settings lefts sures old new count all (Err refusal) faults h =
-    not_compiled plan formulas settings lefts sures old new count all refusal (λ kind e. (faults kind).0 (ap Err e)) h
 
 -- refused memory is no verdict
 pub no_memory : (plan : PlanParts) (count : ℕ) (formulas : List Formula) (settings : Settings) (r : Refusal) → r ≡ refusal.OutOfMemory

@@ -1,2 +1,2 @@
-pub mod CompileSteps
+pub mod Paths
 pub mod Cutting

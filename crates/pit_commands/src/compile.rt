@@ -1,23 +1,16 @@
 //! From the files of a plan and its zones to the files of an instance.
 
-ghost use Rattle.std.specs.Prelude.{◌≡◌, ◌≢◌, ◌↔◌, ◌++◌, Err, length, map, IfOk, IfErr};
-ghost use Rattle.pit_compile.specs.Run.{IsRefused};
-ghost use Rattle.pit_compile.specs.Settings.{IsSettingsFault};
-ghost use Rattle.pit_compile.specs.Sinks.{all_told};
-ghost use Rattle.pit_compile.specs.declared.settings.SettingsFault.{SettingsFault as ASettingsFault};
+ghost use Rattle.std.specs.Prelude.{◌≡◌, ◌≢◌, ◌++◌, length, IfOk, IfErr};
 ghost use Rattle.pit_parts.specs.Destinations.{formulas_of};
 ghost use Rattle.pit_commands.specs.Compile.{EndsRefusedCompile, HasRows, NotCompiled, TellsRows, rows_line};
-ghost use Rattle.pit_commands.specs.inner.CompileSteps.{IsRun};
 
 use crate::instance_files::sinks_of;
 use crate::refusal_line::refuse_run;
 use devices::feed::Feed;
 use devices::file_feed::FileFeed;
-use devices::sink::Sink;
 use pit_compile::refusal::Refusal;
 use pit_compile::run;
 use pit_compile::settings::Settings;
-use pit_compile::sinks::Sinks;
 use pit_edge::status::RESOURCES;
 use pit_edge::zone_feeds::open_all;
 use pit_model::destination::Destination;
@@ -68,7 +61,8 @@ where
     }
 }
 
-// Runs on open feeds, writes the texts to the files of the instance, and answers the number of rows over all zone files.
+// Runs on open feeds, as `run` does with a gate that is always open, writes the texts to the files of the instance, and answers the
+// number of rows over all zone files.
 #[tactic(auto, using(crate::proofs::FilesRun::no_memory))]
 fn run_into_files<R: Files + Threads + Wait + Sync, F: Feed + Send + Drop>(
     rt: &R,
@@ -83,47 +77,7 @@ fn run_into_files<R: Files + Threads + Wait + Sync, F: Feed + Send + Drop>(
     ensures refused { IfErr result
         (NotCompiled plan.now (length feeds.items) (formulas_of destinations.now) settings) }
 {
-    let sinks = sinks_of(rt, alloc, base)?;
-    run_into(rt, alloc, feeds, plan, destinations, settings, sinks)
-}
-
-// The same, to sinks that are let go of at the end.
-fn run_into<R: Threads + Wait + Sync, F: Feed + Send + Drop, S: Sink + Drop>(
-    rt: &R,
-    alloc: Global,
-    feeds: Vec<F>,
-    plan: &Plan,
-    destinations: &[Destination],
-    settings: Settings,
-    mut sinks: Sinks<S>,
-) -> Result<u64, Refusal>
-    ensures done { IfOk result (HasRows plan.now (length feeds.items)) }
-    ensures refused { IfErr result
-        (NotCompiled plan.now (length feeds.items) (formulas_of destinations.now) settings) }
-{
-    run_on(rt, alloc, feeds, plan, destinations, settings, &mut sinks)
-}
-
-// Runs on open feeds, as `run` does with a gate that is always open, and answers the number of rows over all files.
-fn run_on<R: Threads + Wait + Sync, F: Feed + Send + Drop, S: Sink>(
-    rt: &R,
-    alloc: Global,
-    feeds: Vec<F>,
-    plan: &Plan,
-    destinations: &[Destination],
-    settings: Settings,
-    sinks: &mut Sinks<S>,
-) -> Result<u64, Refusal>
-    ensures settings { (kind : ASettingsFault) → (result ≡ Err (Refusal.Settings kind))
-        ↔ IsSettingsFault plan.now (length feeds.items) (formulas_of destinations.now) settings
-        kind }
-    ensures done { let told = all_told S.state in
-        IfOk result (IsRun plan.now (map F.left feeds.items) settings.valuers (told sinks.old)
-        (told sinks.new)) }
-    ensures refused { let told = all_told S.state in
-        IfErr result (IsRefused plan.now (map F.left feeds.items) (map F.is_sure feeds.items)
-        (told sinks.old) (told sinks.new)) }
-{
+    let mut sinks = sinks_of(rt, alloc, base)?;
     let gathered = run(
         rt,
         alloc,
@@ -132,7 +86,7 @@ fn run_on<R: Threads + Wait + Sync, F: Feed + Send + Drop, S: Sink>(
         destinations,
         settings,
         &OpenGate,
-        sinks,
+        &mut sinks,
     )?;
     Ok(gathered.rows())
 }

@@ -4,7 +4,7 @@ ghost use Rattle.std.specs.Prelude.{◌≡◌, string_bytes, IfOk};
 ghost use Rattle.minelib_writing.specs.TextNames.{ending_of};
 ghost use Rattle.minelib_writing.specs.declared.text_name.TextName.{TextName as AName};
 ghost use Rattle.pit_compile.specs.Sinks.{sink_of};
-ghost use Rattle.pit_commands.specs.inner.CompileSteps.{path_to};
+ghost use Rattle.pit_commands.specs.inner.Paths.{path_to};
 
 use devices::file_sink::FileSink;
 use minelib_writing::text_name::TextName;
