@@ -1,10 +1,14 @@
 -- What writing lines on does to a sink and a buffer, and what a sink holds of lines that were cut short.
 use Rattle.std.proofs.Common.{◌≡◌, ℕ, ◌+◌, List, [], ◌∷◌, ◌++◌, take, drop, subst, refl, sym, ◌∙◌, ap, append_assoc, append-nil}
 use Rattle.std.proofs.lemmas.List.{take-append-drop}
+use Rattle.std.proofs.lemmas.Result.{MatchResult-weaker}
+use Rattle.std.specs.Prelude.{Result}
 use Rattle.std.proofs.Math.Seq.{take-add}
 use Rattle.minelib_lines.specs.Lines.{text_of}
 use Rattle.devices.specs.SinkState.{SinkState}
 use Rattle.devices.specs.SinkSteps.{IsAppended, IsAppendCut}
+use Rattle.devices.specs.declared.write_fault.WriteFault.{WriteFault}
+use Rattle.minelib_writing.specs.inner.WritesOn.{WritesOn}
 use Rattle.devices.proofs.Fronts.{cut_before, cut_then, written_then}
 pub use Rattle.devices.proofs.Fronts.{buffered, nothing_put}
 
@@ -45,14 +49,36 @@ module _ {before mid : List ℕ} {old between new : SinkState} where
       subst (λ all. IsAppendCut n (text_of all) before old new) (take-append-drop i lines)
       (lines_cut_then (take i lines) (drop i lines) first cut)
 
+-- lines were written on, and a writer goes on with more of them
+pub goes_on : {before mid : List ℕ} {old between : SinkState} (after : List ℕ) (new : SinkState) (xs ys : List (List ℕ))
+    (result : Result (Unit {0}) WriteFault) → IsAppended (text_of xs) before mid old between → WritesOn (text_of ys) mid after between new result
+    → WritesOn (text_of (xs ++ ys)) before after old new result
+goes_on after new xs ys result first writes =
+    MatchResult-weaker result writes (λ _ then. lines_then xs ys first then) (λ _ cut. lines_cut_then xs ys first cut)
+
+-- the first of these lines were cut short, and so are they all
+first_cut : {n : ℕ} {before : List ℕ} {old new : SinkState} (lines : List (List ℕ)) (i : ℕ)
+    → IsAppendCut n (text_of (take i lines)) before old new → IsAppendCut n (text_of lines) before old new
+first_cut {n} {before} {old} {new} lines i cut =
+    subst (λ all. IsAppendCut n (text_of all) before old new) (take-append-drop i lines)
+    (lines_cut_before (take i lines) (drop i lines) cut)
+
+-- all the lines before a place were written on, the next were cut short, and so are they all
+pub more_cut : {n : ℕ} {before mid : List ℕ} {old between new : SinkState} (lines : List (List ℕ)) (i count : ℕ)
+    → IsAppended (text_of (take i lines)) before mid old between → IsAppendCut n (text_of (take count (drop i lines))) mid between new
+    → IsAppendCut n (text_of lines) before old new
+more_cut lines i count first cut = rest_cut lines i first (first_cut (drop i lines) count cut)
+
+-- the buffer took the text, and what it held was cut short
+pub held_cut : {n : ℕ} {before after : List ℕ} {old new : SinkState} (text : List ℕ) → after ≡ before ++ text → IsAppendCut n [] after old new
+    → IsAppendCut n text before old new
+held_cut {n} {before} {after} {old} {new} text e cut =
+    subst (λ text. IsAppendCut n text before old new) (append-nil text) (cut_then (buffered text e) cut)
+
 -- the buffer took the first lines, and what it held was cut short
 pub buffered_cut : {n : ℕ} {before after : List ℕ} {old new : SinkState} (lines : List (List ℕ)) (i : ℕ)
     → after ≡ before ++ text_of (take i lines) → IsAppendCut n [] after old new → IsAppendCut n (text_of lines) before old new
-buffered_cut {n} {before} {after} {old} {new} lines i e cut =
-    subst (λ all. IsAppendCut n (text_of all) before old new) (take-append-drop i lines)
-    (lines_cut_before (take i lines) (drop i lines)
-    (subst (λ text. IsAppendCut n text before old new) (append-nil (text_of (take i lines)))
-    (cut_then (buffered (text_of (take i lines)) e) cut)))
+buffered_cut lines i e cut = first_cut lines i (held_cut (text_of (take i lines)) e cut)
 
 -- the first line of an empty buffer's text, and one line more
 pub first_line : (line before after : List ℕ) → after ≡ before ++ (line ++ 10 ∷ []) → after ≡ before ++ text_of (line ∷ [])

@@ -1,3 +1,4 @@
 pub mod CoefParts
 pub mod KeptParts
 pub mod Spaced
+pub mod WritesOn

@@ -1,10 +1,10 @@
 //! The lines of predecessors, one for each block.
 
-ghost use Rattle.std.specs.Prelude.{◌≡◌, ◌<◌, ◌≤◌, ◌++◌, ◌∷◌, [], length, take, drop, slice_index_or, IfErr, OnOk};
+ghost use Rattle.std.specs.Prelude.{◌≡◌, ◌<◌, ◌≤◌, ◌++◌, ◌∷◌, [], length, take, drop, slice_index_or, OnOk};
 ghost use Rattle.minelib_lines.specs.Lines.{line_of, lines_from, text_of};
 ghost use Rattle.minelib_writing.specs.Written.{prec_fields};
 ghost use Rattle.pit_parts.specs.declared.ranges.TheConstants.{MAX_BLOCKS};
-ghost use Rattle.devices.specs.SinkSteps.{refusals, IsAppended, IsAppendCut};
+ghost use Rattle.minelib_writing.specs.inner.WritesOn.{WritesOn};
 
 use crate::fields::{put_whole, put_whole_behind};
 use crate::id_text::IdText;
@@ -24,12 +24,8 @@ pub fn write_preds<S: Sink, P: PredLists>(
     texts: &IdText,
 ) -> Result<(), WriteFault>
     requires { length (P.lists preds.now) ≤ MAX_BLOCKS }
-    ensures written { OnOk result
-        (IsAppended (text_of (lines_from prec_fields 0 (P.lists preds.now)))
-        buffer.old.items buffer.new.items (S.state sink.old) (S.state sink.new)) }
-    ensures refused { IfErr result (λ fault. IsAppendCut (refusals fault)
-        (text_of (lines_from prec_fields 0 (P.lists preds.now)))
-        buffer.old.items (S.state sink.old) (S.state sink.new)) }
+    ensures { WritesOn (text_of (lines_from prec_fields 0 (P.lists preds.now)))
+        buffer.old.items buffer.new.items (S.state sink.old) (S.state sink.new) result }
 {
     let mut list = Vec::new(alloc);
     for id in 0..preds.count() {
@@ -49,12 +45,9 @@ fn write_line<S: Sink, P: PredLists>(
     list: &mut Vec<u32>,
 ) -> Result<(), WriteFault>
     requires { id < length (P.lists preds.now) }
-    ensures written { OnOk result
-        (IsAppended (text_of (take 1 (drop id (lines_from prec_fields 0 (P.lists preds.now)))))
-        buffer.old.items buffer.new.items (S.state sink.old) (S.state sink.new)) }
-    ensures refused { IfErr result (λ fault. IsAppendCut (refusals fault)
-        (text_of (drop id (lines_from prec_fields 0 (P.lists preds.now))))
-        buffer.old.items (S.state sink.old) (S.state sink.new)) }
+    ensures { WritesOn
+        (text_of (take 1 (drop id (lines_from prec_fields 0 (P.lists preds.now)))))
+        buffer.old.items buffer.new.items (S.state sink.old) (S.state sink.new) result }
 {
     put_line(buffer, preds, id, texts, list)?;
     flush_full(sink, buffer)?;

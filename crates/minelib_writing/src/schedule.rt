@@ -1,10 +1,10 @@
 //! The objective, the coefficients and the limits, each under its section line.
 
-ghost use Rattle.std.specs.Prelude.{IfErr, OnOk, length};
+ghost use Rattle.std.specs.Prelude.{OnOk, length};
 ghost use Rattle.minelib_lines.specs.Lines.{text_of};
-ghost use Rattle.devices.specs.SinkSteps.{refusals, IsAppended, IsAppendCut};
 ghost use Rattle.minelib_writing.specs.Written.{section_lines};
 ghost use Rattle.minelib_writing.specs.inner.KeptParts.{HoldsFrom};
+ghost use Rattle.minelib_writing.specs.inner.WritesOn.{WritesOn};
 
 use crate::sections::{Section, write_titled};
 use devices::sink::Sink;
@@ -20,12 +20,9 @@ pub fn write_sections<S: Sink, V: Section, C: Section, L: Section>(
     coefs: &C,
     limits: &L,
 ) -> Result<(), WriteFault>
-    ensures written { OnOk result (IsAppended
+    ensures writes { WritesOn
         (text_of (section_lines (V.lines values.now) (C.lines coefs.now) (L.lines limits.now)))
-        buffer.old.items buffer.new.items (S.state sink.old) (S.state sink.new)) }
-    ensures refused { IfErr result (λ fault. IsAppendCut (refusals fault)
-        (text_of (section_lines (V.lines values.now) (C.lines coefs.now) (L.lines limits.now)))
-        buffer.old.items (S.state sink.old) (S.state sink.new)) }
+        buffer.old.items buffer.new.items (S.state sink.old) (S.state sink.new) result }
     ensures values { OnOk result (HoldsFrom (V.kept values.now) 0 (length (V.lines values.now))) }
     ensures coefs { OnOk result (HoldsFrom (C.kept coefs.now) 0 (length (C.lines coefs.now))) }
     ensures limits { OnOk result (HoldsFrom (L.kept limits.now) 0 (length (L.lines limits.now))) }

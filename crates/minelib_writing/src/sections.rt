@@ -3,6 +3,7 @@
 ghost use Rattle.std.specs.Prelude.{◌≡◌, ◌+◌, ◌<◌, ◌≤◌, ℕ, List, [], ◌∷◌, ◌++◌, length, take, drop, slice_index_or, IfOk, IfErr, OnOk, OnErr};
 ghost use Rattle.minelib_lines.specs.Lines.{text_of};
 ghost use Rattle.minelib_writing.specs.inner.KeptParts.{HoldsFrom};
+ghost use Rattle.minelib_writing.specs.inner.WritesOn.{WritesOn};
 ghost use Rattle.devices.specs.SinkSteps.{refusals, IsAppended, IsAppendCut};
 
 use crate::fields::put_text;
@@ -56,11 +57,8 @@ pub fn write_section<S: Sink, L: Section>(
     buffer: &mut Vec<u8>,
     section: &L,
 ) -> Result<(), WriteFault>
-    ensures written { OnOk result (IsAppended (text_of (L.lines section.now))
-        buffer.old.items buffer.new.items (S.state sink.old) (S.state sink.new)) }
-    ensures refused { IfErr result
-        (λ fault. IsAppendCut (refusals fault) (text_of (L.lines section.now))
-        buffer.old.items (S.state sink.old) (S.state sink.new)) }
+    ensures writes { WritesOn (text_of (L.lines section.now))
+        buffer.old.items buffer.new.items (S.state sink.old) (S.state sink.new) result }
     ensures kept { OnOk result
         (HoldsFrom (L.kept section.now) 0 (length (L.lines section.now))) }
 {
@@ -106,11 +104,8 @@ pub fn write_titled<S: Sink, L: Section>(
     title: &[u8],
     section: &L,
 ) -> Result<(), WriteFault>
-    ensures written { OnOk result (IsAppended (text_of (title.now ∷ L.lines section.now))
-        buffer.old.items buffer.new.items (S.state sink.old) (S.state sink.new)) }
-    ensures refused { IfErr result
-        (λ fault. IsAppendCut (refusals fault) (text_of (title.now ∷ L.lines section.now))
-        buffer.old.items (S.state sink.old) (S.state sink.new)) }
+    ensures writes { WritesOn (text_of (title.now ∷ L.lines section.now))
+        buffer.old.items buffer.new.items (S.state sink.old) (S.state sink.new) result }
     ensures kept { OnOk result
         (HoldsFrom (L.kept section.now) 0 (length (L.lines section.now))) }
 {

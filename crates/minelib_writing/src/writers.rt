@@ -1,9 +1,8 @@
 //! The writers of the five texts. Each begins the sink and writes one text. Where it is refused, the sink is as it was, or it was begun
 //! and holds the front of the text; after `SinkFailed` it refused one call, and after `OutOfMemory` none.
 
-ghost use Rattle.std.specs.Prelude.{◌≡◌, IfErr, OnOk};
-ghost use Rattle.devices.specs.SinkState.{IsWritten, IsCutOff};
-ghost use Rattle.devices.specs.SinkSteps.{refusals};
+ghost use Rattle.std.specs.Prelude.{◌≡◌, OnOk};
+ghost use Rattle.minelib_writing.specs.Writes.{Writes};
 ghost use Rattle.minelib_writing.specs.Written.{text_blocks, text_prec, text_upit, text_pcpsp, text_cpit};
 ghost use Rattle.minelib_writing.specs.Texts.{text_named};
 ghost use Rattle.minelib_writing.specs.TextsKept.{kept_named};
@@ -30,11 +29,8 @@ pub fn write_blocks<P: PredLists, S: Sink>(
     sink: &mut S,
 ) -> Result<(), WriteFault>
     requires { IsValid (seen P.lists instance.now) }
-    ensures written { OnOk result
-        (IsWritten (text_blocks (seen P.lists instance.now)) (S.state sink.old) (S.state sink.new)) }
-    ensures refused { IfErr result
-        (λ fault. IsCutOff (refusals fault) (text_blocks (seen P.lists instance.now)) (S.state sink.old)
-        (S.state sink.new)) }
+    ensures { Writes (text_blocks (seen P.lists instance.now))
+        (S.state sink.old) (S.state sink.new) result }
 {
     write_text(alloc, &BlockFile { instance }, sink)
 }
@@ -46,11 +42,8 @@ pub fn write_prec<P: PredLists, S: Sink>(
     sink: &mut S,
 ) -> Result<(), WriteFault>
     requires { IsValid (seen P.lists instance.now) }
-    ensures written { OnOk result
-        (IsWritten (text_prec (seen P.lists instance.now)) (S.state sink.old) (S.state sink.new)) }
-    ensures refused { IfErr result
-        (λ fault. IsCutOff (refusals fault) (text_prec (seen P.lists instance.now)) (S.state sink.old)
-        (S.state sink.new)) }
+    ensures { Writes (text_prec (seen P.lists instance.now))
+        (S.state sink.old) (S.state sink.new) result }
 {
     write_text(alloc, &PrecFile { instance }, sink)
 }
@@ -63,11 +56,8 @@ pub fn write_upit<P: PredLists, S: Sink>(
     sink: &mut S,
 ) -> Result<(), WriteFault>
     requires { IsValid (seen P.lists instance.now) }
-    ensures written { OnOk result
-        (IsWritten (text_upit (seen P.lists instance.now)) (S.state sink.old) (S.state sink.new)) }
-    ensures refused { IfErr result
-        (λ fault. IsCutOff (refusals fault) (text_upit (seen P.lists instance.now)) (S.state sink.old)
-        (S.state sink.new)) }
+    ensures { Writes (text_upit (seen P.lists instance.now))
+        (S.state sink.old) (S.state sink.new) result }
 {
     write_text(alloc, &UpitFile { instance }, sink)
 }
@@ -80,11 +70,8 @@ pub fn write_pcpsp<P: PredLists, S: Sink>(
     sink: &mut S,
 ) -> Result<(), WriteFault>
     requires { IsValid (seen P.lists instance.now) }
-    ensures written { OnOk result
-        (IsWritten (text_pcpsp (seen P.lists instance.now)) (S.state sink.old) (S.state sink.new)) }
-    ensures refused { IfErr result
-        (λ fault. IsCutOff (refusals fault) (text_pcpsp (seen P.lists instance.now)) (S.state sink.old)
-        (S.state sink.new)) }
+    ensures writes { Writes (text_pcpsp (seen P.lists instance.now))
+        (S.state sink.old) (S.state sink.new) result }
     ensures kept { OnOk result (IsKept (seen P.lists instance.now)) }
 {
     write_text(alloc, &PcpspFile { instance }, sink)
@@ -93,11 +80,8 @@ pub fn write_pcpsp<P: PredLists, S: Sink>(
 /// Begins the sink and writes the file of the constrained pit limit problem. Of a CPIT that it wrote it says what the types of the
 /// parts keep, and that they are within their ranges and orders.
 pub fn write_cpit<S: Sink>(alloc: Global, cpit: &Cpit, sink: &mut S) -> Result<(), WriteFault>
-    ensures written { OnOk result
-        (IsWritten (text_cpit cpit.now) (S.state sink.old) (S.state sink.new)) }
-    ensures refused { IfErr result
-        (λ fault. IsCutOff (refusals fault) (text_cpit cpit.now) (S.state sink.old)
-        (S.state sink.new)) }
+    ensures writes { Writes (text_cpit cpit.now)
+        (S.state sink.old) (S.state sink.new) result }
     ensures kept { OnOk result (IsKeptCpit cpit.now) }
     ensures is { OnOk result (IsCpit cpit.now) }
 {
@@ -114,11 +98,8 @@ pub fn write_named<P: PredLists, S: Sink>(
 ) -> Result<(), WriteFault>
     requires valid { IsValid (seen P.lists instance.now) }
     requires cpit { cpit.now ≡ cpit_of (seen P.lists instance.now) }
-    ensures written { OnOk result
-        (IsWritten (text_named name (seen P.lists instance.now)) (S.state sink.old) (S.state sink.new)) }
-    ensures refused { IfErr result
-        (λ fault. IsCutOff (refusals fault) (text_named name (seen P.lists instance.now)) (S.state sink.old)
-        (S.state sink.new)) }
+    ensures writes { Writes (text_named name (seen P.lists instance.now))
+        (S.state sink.old) (S.state sink.new) result }
     ensures kept { OnOk result (kept_named name (seen P.lists instance.now)) }
 {
     match name {

@@ -2,11 +2,10 @@
 use Rattle.std.proofs.Common.{◌≡◌, ℕ, ◌+◌, ◌<◌, List, [], ◌∷◌, ◌++◌, All, Result, Ok, Err, take, drop, get_or, refl, ap, zero, sym, subst, ◌∙◌, arith, suc}
 use Rattle.std.proofs.lemmas.List.{drop_more}
 use Rattle.std.proofs.lemmas.List.Elements.{All-cons, All-head, All-more, All-nil, All-tail}
-use Rattle.std.specs.Prelude.{IfErr, OnOk}
 use Rattle.mine_instance.specs.Instance.{Instance}
 use Rattle.devices.specs.SinkState.{SinkState, IsWritten, IsCutOff}
-use Rattle.devices.specs.SinkSteps.{refusals}
 use Rattle.minelib_writing.specs.Texts.{all_texts, text_named}
+use Rattle.minelib_writing.specs.Writes.{Writes}
 use Rattle.minelib_writing.specs.declared.text_name.TextName.{TextName}
 use Rattle.minelib_writing.specs.declared.text_name.TextName.TheVariants.{Blocks, Prec, Upit, Pcpsp, Cpit}
 use Rattle.devices.specs.declared.write_fault.WriteFault.{WriteFault}
@@ -120,14 +119,14 @@ module _ {S : Type 0} (state : S → SinkState) (i : Instance) (old : TextName �
         }
 
     pub refused : (written : Result (Unit {0}) WriteFault) (refusal : Refusal)
-        → IfErr written (λ fault. IsCutOff (refusals fault) (text_named name i) was (state sink))
+        → Writes (text_named name i) was (state sink) written
         → Err refusal ≡ in_sink name written → AreCutOff i old (all_told state (with_sink sinks name sink)) refusal
     refused (Ok done) refusal h e = absurd (cc)
     refused (Err write.SinkFailed) refusal h e = let is : refusal ≡ SinkFailed name = cc in rw is (cut 1 h)
     refused (Err write.OutOfMemory) refusal h e = let is : refusal ≡ OutOfMemory = cc in rw is (name, cut 0 h)
 
-pub accepted : {P : Type 0} (name : TextName) (written : Result (Unit {0}) WriteFault) (done : Unit {0})
-    → OnOk written P → Ok done ≡ in_sink name written → P
+pub accepted : {text : List ℕ} {old new : SinkState} (name : TextName) (written : Result (Unit {0}) WriteFault) (done : Unit {0})
+    → Writes text old new written → Ok done ≡ in_sink name written → IsWritten text old new
 accepted name (Ok other) done h e = h
 accepted name (Err write.SinkFailed) done h e = absurd (cc)
 accepted name (Err write.OutOfMemory) done h e = absurd (cc)

@@ -4,24 +4,24 @@ use Rattle.minelib_lines.specs.Lines.{lines_from, text_of}
 use Rattle.minelib_writing.specs.Written.{prec_fields}
 use Rattle.devices.specs.SinkSteps.{IsAppended}
 use Rattle.minelib_writing.proofs.LineFacts.{length-lines_from}
-use Rattle.minelib_writing.proofs.SectionsWritten.{more_then, rest_cut}
+use Rattle.minelib_writing.proofs.SectionsWritten.{more_cut, more_then}
 use Rattle.minelib_writing.proofs.prec_lines.write_preds.Goals as goal
 
 -- the lines so far were written on, the rest was cut short, and so are they all
-pub returns-in_err-write_line-clause-refused : goal.returns-in_err-write_line-clause-refused
-returns-in_err-write_line-clause-refused g c =
+pub returns-in_err-write_line : goal.returns-in_err-write_line
+returns-in_err-write_line g c =
     let lines = lines_from prec_fields 0 (g.P.PredLists.lists c.args.preds.now) in
-    let cut = rest_cut lines _ c.loop-id.invariant c.in_err-write_line.ensures.refused in
+    let cut = more_cut lines _ 1 c.loop-id.invariant c.in_err-write_line.ensures in
     search rules
 
 -- those before the block, and then its own
 pub loop-id-preserved : goal.loop-id-preserved
 loop-id-preserved g c =
     more_then (lines_from prec_fields 0 (g.P.PredLists.lists c.args.preds.now)) c.loop-id.id 1 c.loop-id.invariant
-    c.in_ok-write_line.ensures.written
+    c.in_ok-write_line.ensures
 
-pub returns-clause-written : goal.returns-clause-written
-returns-clause-written g c =
+pub returns : goal.returns
+returns g c =
     let lists = g.P.PredLists.lists c.args.preds.now in
     let lines = lines_from prec_fields 0 lists in
     let all : take c.loop-id.id lines ≡ lines =

@@ -18,7 +18,7 @@ returns-in_err-in_sink-clause-refused g c =
     rw (p.1, p.2) (refused state (seen g.P.PredLists.lists c.args.instance.now) (all_told state c.args.sinks.now) c.loop-name.sinks c.write_named.new.sink
     k c.loop-name-test.true name at (state c.of_mut.result.now) (ap state c.of_mut.ensures.value)
     c.loop-name.invariant.written c.loop-name.invariant.still c.write_named.result c.in_err-in_sink.field-0.0
-    c.write_named.ensures.refused (sym (c.in_err-in_sink.was) ∙ c.in_sink.ensures))
+    c.write_named.ensures.writes (sym (c.in_err-in_sink.was) ∙ c.in_sink.ensures))
 
 pub loop-name-preserved : goal.loop-name-preserved
 loop-name-preserved g c =
@@ -29,7 +29,7 @@ loop-name-preserved g c =
     let more = wrote state (seen g.P.PredLists.lists c.args.instance.now) (all_told state c.args.sinks.now) c.loop-name.sinks c.write_named.new.sink
     k c.loop-name-test.true name at (state c.of_mut.result.now) (ap state c.of_mut.ensures.value)
     c.loop-name.invariant.written c.loop-name.invariant.still
-    (accepted name c.write_named.result c.in_ok-in_sink.field-0 c.write_named.ensures.written
+    (accepted name c.write_named.result c.in_ok-in_sink.field-0 c.write_named.ensures.writes
     (sym (c.in_ok-in_sink.was) ∙ c.in_sink.ensures)) in
     record { names = c.all-name-items.ensures; written = more.0; still = more.1 }
 

@@ -1,13 +1,13 @@
 use Rattle.std.proofs.Common.{◌++◌, All, length}
 use Rattle.std.specs.Prelude.{codes}
-use Rattle.std.proofs.lemmas.Result.{on_ok_weaker, IfErr-weaker}
+use Rattle.std.proofs.lemmas.Result.{MatchResult-weaker}
 use Rattle.minelib_lines.specs.Kept.{IsInDecimalRange, HasDecimals}
 use Rattle.minelib_lines.specs.Lines.{text_of, lines_from}
 use Rattle.minelib_writing.specs.Written.{text_pcpsp, problem_keys, pcpsp_keys, section_lines, value_fields, coef_fields, limit_fields}
 use Rattle.minelib_lines.specs.declared.problem.Problem.TheVariants.{Pcpsp}
 use Rattle.minelib_writing.proofs.KeptFacts.{kept_all, on_ok_three}
 use Rattle.minelib_writing.proofs.LineFacts.{length-lines_from}
-use Rattle.minelib_writing.proofs.SectionsWritten.{buffered, lines_then, lines_cut_then}
+use Rattle.minelib_writing.proofs.SectionsWritten.{buffered, goes_on, lines_then}
 use Rattle.minelib_writing.proofs.files.PcpspFileText.write.Goals as goal
 
 pub returns : goal.returns
@@ -20,11 +20,11 @@ returns g c =
     let sections = section_lines (lines_from value_fields 0 i.values) (lines_from (coef_fields Pcpsp) 0 i.coefs) limits in
     let first = buffered (text_of keys) (rw c.blocks_len.ensures at c.in_ok-put_problem.ensures.text) in
     let both = lines_then keys more first (buffered (text_of more) c.in_ok-put_pcpsp_keys.ensures) in
+    let whole = goes_on _ _ (keys ++ more) sections c.write_sections.result both
+    (rw c.as_slice.ensures at c.write_sections.ensures.writes) in
     record {
-      written = on_ok_weaker c.write_sections.result (lines_then (keys ++ more) sections both)
-          (rw c.as_slice.ensures at c.write_sections.ensures.written);
-      refused = IfErr-weaker c.write_sections.result _ _ (λ _. lines_cut_then (keys ++ more) sections both)
-          (rw c.as_slice.ensures at c.write_sections.ensures.refused);
+      written = MatchResult-weaker c.write_sections.result whole (λ _ is. is) (λ _ _. tt);
+      refused = MatchResult-weaker c.write_sections.result whole (λ _ _. tt) (λ _ is. is);
       kept = on_ok_three c.write_sections.result
           (λ values coefs limits. record {
             name = c.in_ok-put_problem.ensures.kept;

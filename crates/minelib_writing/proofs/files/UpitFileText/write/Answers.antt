@@ -1,9 +1,9 @@
 use Rattle.std.proofs.Common.{◌∷◌, length}
 use Rattle.std.specs.Prelude.{codes}
-use Rattle.std.proofs.lemmas.Result.{on_ok_weaker, IfErr-weaker}
+use Rattle.std.proofs.lemmas.Result.{on_ok_weaker, MatchResult-weaker}
 use Rattle.minelib_lines.specs.Lines.{text_of, lines_from}
 use Rattle.minelib_writing.specs.Written.{text_upit, problem_keys, greatest_fields}
-use Rattle.minelib_writing.proofs.SectionsWritten.{buffered, lines_then, lines_cut_then}
+use Rattle.minelib_writing.proofs.SectionsWritten.{buffered, goes_on}
 use Rattle.minelib_writing.proofs.files.UpitFileText.write.Goals as goal
 
 pub returns : goal.returns
@@ -13,8 +13,9 @@ returns g c =
     let keys = problem_keys i.name (codes "UPIT") (length i.blocks) in
     let values = codes "OBJECTIVE_FUNCTION:" ∷ lines_from greatest_fields 0 i.values in
     let first = buffered (text_of keys) (rw c.blocks_len.ensures at c.in_ok-put_problem.ensures.text) in
+    let whole = goes_on _ _ keys values c.write_titled.result first c.write_titled.ensures.writes in
     record {
-      written = on_ok_weaker c.write_titled.result (lines_then keys values first) c.write_titled.ensures.written;
-      refused = IfErr-weaker c.write_titled.result _ _ (λ _. lines_cut_then keys values first) c.write_titled.ensures.refused;
-      kept = on_ok_weaker c.write_titled.result (λ _. tt) c.write_titled.ensures.written;
+      written = MatchResult-weaker c.write_titled.result whole (λ _ is. is) (λ _ _. tt);
+      refused = MatchResult-weaker c.write_titled.result whole (λ _ _. tt) (λ _ is. is);
+      kept = on_ok_weaker c.write_titled.result (λ _. tt) c.write_titled.ensures.kept;
     }
