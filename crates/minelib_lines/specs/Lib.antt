@@ -1,3 +1,4 @@
+pub mod KeyWords
 pub mod Kept
 pub mod LineValues
 pub mod Lines

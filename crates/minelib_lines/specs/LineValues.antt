@@ -5,8 +5,12 @@ use Rattle.pit_parts.specs.declared.block.Block.{Block}
 use Rattle.pit_parts.specs.declared.limit.Bound.{Bound}
 use Rattle.pit_parts.specs.declared.limit.Bound.TheVariants.{AtMost, AtLeast, Between}
 use Rattle.pit_parts.specs.declared.limit.Limit.{Limit}
+use Rattle.mine_instance.specs.Cpit.{CpitParts}
+use Rattle.mine_instance.specs.declared.instance.Instance.{Instance}
 use Rattle.mine_instance.specs.declared.coef.Coef.{Coef}
 use Rattle.mine_instance.specs.declared.cpit.CpitCoef.{CpitCoef}
+use Rattle.minelib_lines.specs.declared.header_key.HeaderKey.{HeaderKey}
+use Rattle.minelib_lines.specs.declared.header_key.HeaderKey.TheVariants as key
 use Rattle.minelib_lines.specs.declared.problem.Problem.{Problem}
 use Rattle.minelib_lines.specs.declared.problem.Problem.TheVariants.{Pcpsp, Cpit}
 
@@ -42,3 +46,42 @@ limit_values l = whole l.resource ∷ whole l.period ∷ bound_values l.bound
 -- a coefficient as one of the only destination
 abbrev pub at_only_destination : CpitCoef → Coef
 at_only_destination c = record { b = c.b; d = 0; r = c.r; v = c.v }
+
+-- what a model file's header states, the discount rate in millionths
+pub record StatedHeader : Type 0 where
+  pub name : List ℕ
+  pub periods : ℕ
+  pub destinations : ℕ
+  pub resources : ℕ
+  pub rate : ℤ
+
+-- of an instance
+abbrev pub header_of : {P : Type 0} → Instance P → StatedHeader
+header_of i = record {
+  name = i.name;
+  periods = i.periods;
+  destinations = i.destinations;
+  resources = i.resources;
+  rate = i.rate;
+}
+
+-- of a constrained pit limit problem, which has one destination
+abbrev pub header_of_cpit : CpitParts → StatedHeader
+header_of_cpit c = record {
+  name = c.name;
+  periods = c.periods;
+  destinations = 1;
+  resources = c.resources;
+  rate = c.rate;
+}
+
+-- the value of a header key where TYPE names the problem so, of n blocks; there are no general side constraints
+abbrev pub key_value : List ℕ → ℕ → StatedHeader → HeaderKey → Value
+key_value problem n h key.Name = Bytes h.name
+key_value problem n h key.Type = Bytes problem
+key_value problem n h key.Blocks = whole n
+key_value problem n h key.Periods = whole h.periods
+key_value problem n h key.Destinations = whole h.destinations
+key_value problem n h key.Resources = whole h.resources
+key_value problem n h key.General = whole 0
+key_value problem n h key.Rate = Millionths h.rate

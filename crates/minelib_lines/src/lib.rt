@@ -1,4 +1,5 @@
-//! What the lines of the MineLib texts say: the values of each, and lines and fields as bytes.
+//! What the lines of the MineLib texts say: the header keys, the values of each line, and lines and fields as bytes.
 #![tactic(auto)]
 
+pub mod header_key;
 pub mod problem;

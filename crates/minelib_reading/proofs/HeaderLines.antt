@@ -11,12 +11,13 @@ use Rattle.minelib_reading.specs.HeaderKeys.{count_in, is_given, is_complete, wi
 use Rattle.minelib_reading.specs.KeyFields.{field_of}
 use Rattle.minelib_reading.specs.ModelLines.{blank_header, name_with}
 use Rattle.minelib_reading.specs.ModelStates.{header_stated}
-use Rattle.minelib_reading.specs.SpelledKeys.{has_key, value_of}
+use Rattle.minelib_lines.specs.KeyWords.{has_key, type_text}
+use Rattle.minelib_lines.specs.LineValues.{key_value}
 use Rattle.minelib_reading.specs.SpelledLines.{AreLines}
 use Rattle.minelib_reading.specs.SpelledModel.{AreHeaderLines, IsHeaderLine}
 use Rattle.minelib_reading.specs.declared.model_key.Header.{Header}
-use Rattle.minelib_reading.specs.declared.model_key.HeaderKey.{HeaderKey}
-use Rattle.minelib_reading.specs.declared.model_key.HeaderKey.TheVariants as key
+use Rattle.minelib_lines.specs.declared.header_key.HeaderKey.{HeaderKey}
+use Rattle.minelib_lines.specs.declared.header_key.HeaderKey.TheVariants as key
 use Rattle.text_lines.specs.TextLines.{Line}
 use Rattle.minelib_reading.proofs.HeaderFacts.{each_given, each_with, first_given}
 use Rattle.minelib_reading.proofs.ItemLines.{line_more, lines_weaker}
@@ -39,7 +40,7 @@ name_kept key.Name value name differ = absurd (differ refl)
 name_kept k value name differ = refl
 
 value_kept : (problem : Problem) (n : ℕ) (k j : HeaderKey) (value name : List ℕ) (h : Header) (number : ℕ) → k ≢ j
-    → value_of problem n (header_stated (name_with k value name) (with_key h k number)) j ≡ value_of problem n (header_stated name h) j
+    → key_value (type_text problem) n (header_stated (name_with k value name) (with_key h k number)) j ≡ key_value (type_text problem) n (header_stated name h) j
 value_kept problem n k key.Name value name h number differ = ap Bytes (name_kept k value name differ)
 value_kept problem n k key.Type value name h number differ = refl
 value_kept problem n k key.Blocks value name h number differ = refl

@@ -1,19 +1,22 @@
 -- Key lines: cut at their first colon, and found by their keys.
-use Rattle.std.specs.Prelude.{◌≡◌, ℕ, ◌+◌, ◌<◌, Bool, true, false, List, [], ◌∷◌, ◌++◌, length, drop, Option, Some, None, if◌then◌else◌, codes}
-use Rattle.std.specs.List.{list_any, before_first, after_first, position_or_len}
+use Rattle.std.specs.Prelude.{◌≡◌, ℕ, ◌+◌, ◌<◌, Bool, true, false, List, [], ◌∷◌, ◌++◌, length, drop, Option, Some, None, if◌then◌else◌, All}
+use Rattle.std.specs.List.{list_any, before_first, after_first, find, position_or_len}
+use Rattle.std.specs.Option.{option_map}
 use Rattle.std.specs.Str.{bytes_eq}
 use Rattle.std.proofs.Common.{refl, sym, ◌∙◌, ap, subst, arith}
 use Rattle.std.proofs.lemmas.Bool.{eqb-true, or_parts, or_right}
 use Rattle.std.proofs.lemmas.List.{take_at, drop_at, drop-drop}
+use Rattle.std.proofs.lemmas.List.Elements.{All-head, All-tail, filter_passes}
 use Rattle.std.proofs.lemmas.List.Sums.{passes_at_first, split_at_first}
 use Rattle.std.proofs.lemmas.Slice.Eq.{bytes_eq-Decides}
 use Rattle.text_lines.specs.TextLines.{fields_of}
 use Rattle.minelib_lines.specs.declared.problem.Problem.{Problem}
 use Rattle.minelib_lines.specs.declared.problem.Problem.TheVariants.{Pcpsp, Cpit}
-use Rattle.minelib_reading.specs.ModelLines.{is_colon, is_next, key_in, key_of}
-use Rattle.minelib_reading.specs.SpelledKeys.{IsKeyLine, has_key, key_text, section_text}
-use Rattle.minelib_reading.specs.declared.model_key.HeaderKey.{HeaderKey}
-use Rattle.minelib_reading.specs.declared.model_key.HeaderKey.TheVariants as key
+use Rattle.minelib_reading.specs.ModelLines.{header_or, is_colon, is_next, key_in, key_of, section_in, sections}
+use Rattle.minelib_lines.specs.KeyWords.{has_key, header_keys, key_word, keys_of}
+use Rattle.minelib_reading.specs.SpelledKeys.{IsKeyLine, section_text}
+use Rattle.minelib_lines.specs.declared.header_key.HeaderKey.{HeaderKey}
+use Rattle.minelib_lines.specs.declared.header_key.HeaderKey.TheVariants as key
 use Rattle.minelib_reading.specs.declared.model_key.ModelKey.{ModelKey}
 use Rattle.minelib_reading.specs.declared.model_key.ModelKey.TheVariants as model_key
 use Rattle.minelib_reading.specs.declared.model_key.Section.{Section}
@@ -84,57 +87,45 @@ cut_line key line fields none k = subst (λ line. IsCutLine key line fields) (sy
     rest : after_first is_colon (k.before ++ 58 ∷ k.behind) ≡ k.behind
     rest = rw (colon_place k.before k.behind no_colon) (behind_front k.before k.behind)
 
--- the key of the first of these words that it is
-abbrev found_in : List (List ℕ × ModelKey) → List ℕ → Option ModelKey
-found_in [] word = None
-found_in ((text, k) ∷ more) word = if bytes_eq word text then Some k else found_in more word
-
 -- a word is the key's own, in the files of the problem
 abbrev pub IsKeyOf : Problem → List ℕ → ModelKey → Type 0
-IsKeyOf problem word (model_key.Header k) = (word ≡ key_text k) × (has_key problem k ≡ true)
+IsKeyOf problem word (model_key.Header k) = (word ≡ key_word k) × (has_key problem k ≡ true)
 IsKeyOf problem word (model_key.Section section) = word ≡ section_text section
 
-abbrev AreKeys : Problem → List (List ℕ × ModelKey) → Type 0
-AreKeys problem [] = Unit {0}
-AreKeys problem ((text, k) ∷ more) = IsKeyOf problem text k × AreKeys problem more
-
-found_is : (problem : Problem) (keys : List (List ℕ × ModelKey)) (word : List ℕ) (found : ModelKey) → AreKeys problem keys
-    → found_in keys word ≡ Some found → IsKeyOf problem word found
-found_is problem [] word found are e = absurd cc
-found_is problem ((text, k) ∷ more) word found are e =
-    by (λ later. found_is problem more word found are.1 later) (bytes_eq word text) refl e
+-- what is found among items passes the test, and is as they all are
+found_is : {A : Type 0} (passes : A → Bool) (Is : A → Type 0) (xs : List A) (x : A) → All Is xs → find passes xs ≡ Some x
+    → (passes x ≡ true) × Is x
+found_is passes Is [] x are e = absurd cc
+found_is passes Is (y ∷ ys) x are e = by (found_is passes Is ys x (All-tail Is y ys are)) (passes y) refl e
   where
-    by : (found_in more word ≡ Some found → IsKeyOf problem word found) → (t : Bool) → bytes_eq word text ≡ t
-        → (if t then Some k else found_in more word) ≡ Some found → IsKeyOf problem word found
-    by deeper true is e =
-        let same : k ≡ found = cc in
-        subst (IsKeyOf problem word) same
-        (subst (λ w. IsKeyOf problem w k) (sym ((bytes_eq-Decides word text).0 is)) are.0)
-    by deeper false is e = deeper e
+    by : (find passes ys ≡ Some x → (passes x ≡ true) × Is x) → (t : Bool) → passes y ≡ t → (if t then Some y else find passes ys) ≡ Some x
+        → (passes x ≡ true) × Is x
+    by later true is e =
+        let same : y ≡ x = cc in subst (λ x. (passes x ≡ true) × Is x) same (is, All-head Is y ys are)
+    by later false is e = later e
 
-abbrev shared_keys : List (List ℕ × ModelKey)
-shared_keys =
-    (codes "NAME", model_key.Header key.Name)
-    ∷ (codes "TYPE", model_key.Header key.Type)
-    ∷ (codes "NBLOCKS", model_key.Header key.Blocks)
-    ∷ (codes "NPERIODS", model_key.Header key.Periods)
-    ∷ (codes "NRESOURCE_SIDE_CONSTRAINTS", model_key.Header key.Resources)
-    ∷ (codes "DISCOUNT_RATE", model_key.Header key.Rate)
-    ∷ (codes "OBJECTIVE_FUNCTION", model_key.Section Objective)
-    ∷ (codes "RESOURCE_CONSTRAINT_COEFFICIENTS", model_key.Section Coefs)
-    ∷ (codes "RESOURCE_CONSTRAINT_LIMITS", model_key.Section Limits)
-    ∷ []
+section_is : (problem : Problem) (word : List ℕ) (found : ModelKey) → section_in word ≡ Some found → IsKeyOf problem word found
+section_is problem word found e = by (find (λ s. bytes_eq word (section_text s)) sections) refl e
+  where
+    by : (r : Option Section) → find (λ s. bytes_eq word (section_text s)) sections ≡ r → option_map model_key.Section r ≡ Some found
+        → IsKeyOf problem word found
+    by None is e = absurd cc
+    by (Some section) is e =
+        let same : model_key.Section section ≡ found = cc in
+        let passes = found_is (λ s. bytes_eq word (section_text s)) (λ _. Unit {0}) sections section (λ i d inside. tt) is in
+        subst (IsKeyOf problem word) same ((bytes_eq-Decides word (section_text section)).0 passes.0)
 
 key_in_is : (problem : Problem) (word : List ℕ) (found : ModelKey) → key_in problem word ≡ Some found → IsKeyOf problem word found
-key_in_is Cpit word found e =
-    found_is Cpit shared_keys word found
-    ((refl, refl), ((refl, refl), ((refl, refl), ((refl, refl), ((refl, refl), ((refl, refl), (refl, (refl, (refl, tt))))))))) e
-key_in_is Pcpsp word found e =
-    found_is Pcpsp
-    ((codes "NDESTINATIONS", model_key.Header key.Destinations)
-    ∷ (codes "NGENERAL_SIDE_CONSTRAINTS", model_key.Header key.General) ∷ shared_keys)
-    word found
-    ((refl, refl), ((refl, refl), ((refl, refl), ((refl, refl), ((refl, refl), ((refl, refl), ((refl, refl), ((refl, refl), (refl, (refl, (refl, tt))))))))))) e
+key_in_is problem word found e = by (find (λ k. bytes_eq word (key_word k)) (keys_of problem)) refl e
+  where
+    by : (r : Option HeaderKey) → find (λ k. bytes_eq word (key_word k)) (keys_of problem) ≡ r → header_or r word ≡ Some found
+        → IsKeyOf problem word found
+    by None is e = section_is problem word found e
+    by (Some k) is e =
+        let same : model_key.Header k ≡ found = cc in
+        let passes = found_is (λ k. bytes_eq word (key_word k)) (λ k. has_key problem k ≡ true) (keys_of problem) k
+        (filter_passes (has_key problem) header_keys) is in
+        subst (IsKeyOf problem word) same ((bytes_eq-Decides word (key_word k)).0 passes.0, passes.1)
 
 -- the fields before a colon are one key
 pub record IsFound (problem : Problem) (fields : List (List ℕ)) (found : ModelKey) : Type 0 where
@@ -149,9 +140,9 @@ key_found problem (word ∷ []) found e = record { word = word; alone = refl; is
 key_found problem (word ∷ other ∷ more) found e = absurd cc
 
 -- and each key is found
-pub header_found : (problem : Problem) (k : HeaderKey) → has_key problem k ≡ true → key_in problem (key_text k) ≡ Some (model_key.Header k)
+pub header_found : (problem : Problem) (k : HeaderKey) → has_key problem k ≡ true → key_in problem (key_word k) ≡ Some (model_key.Header k)
 header_found Pcpsp k has =
-    of_keys (λ k. key_in Pcpsp (key_text k) ≡ Some (model_key.Header k)) refl refl refl refl refl refl refl refl k
+    of_keys (λ k. key_in Pcpsp (key_word k) ≡ Some (model_key.Header k)) refl refl refl refl refl refl refl refl k
 header_found Cpit key.Destinations has = absurd cc
 header_found Cpit key.General has = absurd cc
 header_found Cpit k has = refl
@@ -164,8 +155,8 @@ section_found Cpit now section next =
     next_by (λ _ s. key_in Cpit (section_text s) ≡ Some (model_key.Section s)) refl refl refl now section next
 
 -- no key has a colon
-pub header_plain : (k : HeaderKey) → list_any is_colon (key_text k) ≡ false
-header_plain = of_keys (λ k. list_any is_colon (key_text k) ≡ false) refl refl refl refl refl refl refl refl
+pub header_plain : (k : HeaderKey) → list_any is_colon (key_word k) ≡ false
+header_plain = of_keys (λ k. list_any is_colon (key_word k) ≡ false) refl refl refl refl refl refl refl refl
 
 pub section_plain : (section : Section) → list_any is_colon (section_text section) ≡ false
 section_plain Heading = refl

@@ -22,8 +22,8 @@ use Rattle.minelib_reading.specs.ModelLines.{ModelDraftView, coef_line, first_of
 use Rattle.minelib_reading.specs.inner.ModelParts.{admit_model, coef_of, limit_of, number_in, number_with, only_value, takes, values_of, values_said}
 use Rattle.text_lines.specs.Reading.{at_line, read_lines}
 use Rattle.text_lines.specs.TextLines.{Line, fields_of}
-use Rattle.minelib_reading.specs.declared.model_key.HeaderKey.{HeaderKey}
-use Rattle.minelib_reading.specs.declared.model_key.HeaderKey.TheVariants as key
+use Rattle.minelib_lines.specs.declared.header_key.HeaderKey.{HeaderKey}
+use Rattle.minelib_lines.specs.declared.header_key.HeaderKey.TheVariants as key
 use Rattle.minelib_reading.specs.declared.model_key.ModelKey.{ModelKey}
 use Rattle.minelib_reading.specs.declared.model_key.ModelKey.TheVariants as model_key
 use Rattle.minelib_lines.specs.declared.problem.Problem.{Problem}

@@ -18,18 +18,19 @@ use Rattle.mine_instance.specs.Order.{coef_comes_before}
 use Rattle.mine_instance.specs.declared.coef.Coef.{Coef}
 use Rattle.text_lines.specs.TextLines.{fields_of}
 use Rattle.text_lines.specs.declared.text_fault.TextKind.TheVariants.{Order, Count, Twice, Key, Missing}
-use Rattle.minelib_lines.specs.LineValues.{coef_values, limit_values, values_values}
+use Rattle.minelib_lines.specs.LineValues.{coef_values, key_value, limit_values, values_values}
 use Rattle.minelib_lines.specs.declared.problem.Problem.{Problem}
 use Rattle.minelib_reading.specs.HeaderKeys.{count_in, is_given, with_key}
 use Rattle.minelib_reading.specs.ItemForms.{bytes_in, coef_form, coef_said, limit_form, limit_said, row_said, values_form}
-use Rattle.minelib_reading.specs.KeyFields.{field_of, number_said, type_text}
+use Rattle.minelib_reading.specs.KeyFields.{field_of, number_said}
 use Rattle.minelib_reading.specs.ModelLines.{ModelDraftView, coef_line, first_of, header_line, is_behind, is_colon, is_counted, is_heading, is_next, is_ready, item_line, key_of, keyed_line, last_of, limit_line, model_line, name_with, section_line, stray_line, values_line}
 use Rattle.minelib_reading.specs.ModelStates.{header_stated}
 use Rattle.minelib_reading.specs.SpelledModel.{SpellCoef, SpellLimit, SpellValues}
-use Rattle.minelib_reading.specs.SpelledKeys.{IsKeyLine, has_key, key_text, section_text, value_of}
+use Rattle.minelib_lines.specs.KeyWords.{has_key, key_word, type_text}
+use Rattle.minelib_reading.specs.SpelledKeys.{IsKeyLine, section_text}
 use Rattle.minelib_reading.specs.declared.model_key.Header.{Header}
-use Rattle.minelib_reading.specs.declared.model_key.HeaderKey.{HeaderKey}
-use Rattle.minelib_reading.specs.declared.model_key.HeaderKey.TheVariants as key
+use Rattle.minelib_lines.specs.declared.header_key.HeaderKey.{HeaderKey}
+use Rattle.minelib_lines.specs.declared.header_key.HeaderKey.TheVariants as key
 use Rattle.minelib_reading.specs.declared.model_key.ModelKey.{ModelKey}
 use Rattle.minelib_reading.specs.declared.model_key.ModelKey.TheVariants as model_key
 use Rattle.minelib_reading.specs.declared.model_key.Section.{Section}
@@ -50,7 +51,7 @@ pub record SetsKey (d : ModelDraftView) (k : HeaderKey) (fields : List (List ℕ
   pub value : List ℕ
   pub one : fields ≡ value ∷ []
   pub number : ℕ
-  pub says : Says (field_of d.problem k) value (value_of d.problem d.blocks (header_stated next.name next.header) k)
+  pub says : Says (field_of d.problem k) value (key_value (type_text d.problem) d.blocks (header_stated next.name next.header) k)
   pub is : next ≡ record d { header = with_key d.header k number; name = name_with k value d.name }
 
 -- a section's key with these fields behind its colon
@@ -83,7 +84,7 @@ pub record AddsLimit (d : ModelDraftView) (fields : List (List ℕ)) (next : Mod
 -- what a value that fits states is what the header then states by its key
 said : (problem : Problem) (n : ℕ) (k : HeaderKey) (text : List ℕ) (value : Value) (name : List ℕ) (h : Header)
     → Says (field_of problem k) text value → FitsField (field_of problem k) value → (k ≡ key.Blocks → (whole_stated value == n) ≡ true)
-    → value ≡ value_of problem n (header_stated (name_with k text name) (with_key h k (number_said k value))) k
+    → value ≡ key_value (type_text problem) n (header_stated (name_with k text name) (with_key h k (number_said k value))) k
 said problem n key.Name text (Bytes word) name h says fits counted = ap Bytes (sym says.0)
 said problem n key.Name text (Millionths m) name h says fits counted = absurd fits
 said problem n key.Type text (Bytes word) name h says fits counted = ap Bytes ((bytes_eq-Decides word (type_text problem)).0 fits)
@@ -147,7 +148,7 @@ key_step d next k fields s = by fields s.values s.spelled s.last s.is
           value = text;
           one = refl;
           number = number;
-          says = subst (λ e. Says (field_of d.problem k) text (value_of d.problem d.blocks (header_stated e.name e.header) k)) (sym same)
+          says = subst (λ e. Says (field_of d.problem k) text (key_value (type_text d.problem) d.blocks (header_stated e.name e.header) k)) (sym same)
               (subst (Says (field_of d.problem k) text) stated spelled.0);
           is = same;
         }
@@ -159,10 +160,10 @@ key_step d next k fields s = by fields s.values s.spelled s.last s.is
 
 -- the value spells what is then stated by its key
 pub key_spelled : (d next : ModelDraftView) (k : HeaderKey) (fields : List (List ℕ)) → States (header_line d k fields) next
-    → Spell (field_of d.problem k ∷ []) fields (value_of d.problem d.blocks (header_stated next.name next.header) k ∷ [])
+    → Spell (field_of d.problem k ∷ []) fields (key_value (type_text d.problem) d.blocks (header_stated next.name next.header) k ∷ [])
 key_spelled d next k fields states =
     let s = key_step d next k fields states in
-    subst (λ fields. Spell (field_of d.problem k ∷ []) fields (value_of d.problem d.blocks (header_stated next.name next.header) k ∷ []))
+    subst (λ fields. Spell (field_of d.problem k ∷ []) fields (key_value (type_text d.problem) d.blocks (header_stated next.name next.header) k ∷ []))
     (sym s.one) (s.says, tt)
 
 pub section_step : (d next : ModelDraftView) (section : Section) (fields : List (List ℕ)) → States (section_line d section fields) next
@@ -275,7 +276,7 @@ limit_back d fields l spelled behind =
 
 -- a line that states something
 pub data Step (d : ModelDraftView) (line : List ℕ) (next : ModelDraftView) : Type 0 where
-  Keyed : (k : HeaderKey) (fields : List (List ℕ)) → IsKeyLine (key_text k) line fields → has_key d.problem k ≡ true
+  Keyed : (k : HeaderKey) (fields : List (List ℕ)) → IsKeyLine (key_word k) line fields → has_key d.problem k ≡ true
       → SetsKey d k fields next → Step d line next
   Begun : (section : Section) (fields : List (List ℕ)) → IsKeyLine (section_text section) line fields
       → BeginsSection d section fields next → Step d line next
@@ -297,7 +298,7 @@ model_step d next line s = by (list_any is_colon line) refl s
         let found = key_found d.problem (fields_of (before_first is_colon line)) (model_key.Header k) e in
         let fields = fields_of (after_first is_colon line) in
         Keyed k fields
-        (key_line (key_text k) line fields
+        (key_line (key_word k) line fields
         (record { colon = colon; key_is = found.alone ∙ ap (λ word. word ∷ []) found.is.0; fields_are = refl }))
         found.is.1 (key_step d next k fields s)
     keyed (Some (model_key.Section section)) colon e s =

@@ -27,7 +27,7 @@ use Rattle.text_lines.specs.Reading.{in_file}
 use Rattle.minelib_reading.specs.HeaderKeys.{count_in}
 use Rattle.minelib_reading.specs.SpelledModel.{AreModelLines}
 use Rattle.minelib_reading.specs.StatedModel.{StatedModel, alone, model_of, model_of_cpit}
-use Rattle.minelib_reading.specs.declared.model_key.HeaderKey.TheVariants as key
+use Rattle.minelib_lines.specs.declared.header_key.HeaderKey.TheVariants as key
 use Rattle.minelib_reading.specs.SpelledTexts.{SpellBlocks, SpellCpit, SpellInstance, SpellPreds}
 use Rattle.text_lines.specs.TextLines.{end_of, fields_of, lines_in}
 use Rattle.minelib_lines.specs.declared.problem.Problem.{Problem}

@@ -16,7 +16,7 @@ use Rattle.mine_instance.specs.Order.{coef_comes_before}
 use Rattle.mine_instance.specs.declared.coef.Coef.{Coef}
 use Rattle.text_lines.specs.TextLines.{Line, fields_of}
 use Rattle.text_lines.specs.declared.text_fault.TextKind.TheVariants.{Count, Twice, Key, Missing}
-use Rattle.minelib_lines.specs.LineValues.{coef_values, limit_values, values_values}
+use Rattle.minelib_lines.specs.LineValues.{StatedHeader, coef_values, key_value, limit_values, values_values}
 use Rattle.minelib_lines.specs.declared.problem.Problem.{Problem}
 use Rattle.minelib_lines.specs.declared.problem.Problem.TheVariants.{Pcpsp, Cpit}
 use Rattle.minelib_reading.specs.HeaderKeys.{count_in, is_complete, is_given, number_of, with_key}
@@ -24,13 +24,14 @@ use Rattle.minelib_reading.specs.ItemForms.{bytes_in, coef_form, limit_form, val
 use Rattle.minelib_reading.specs.KeyFields.{number_said}
 use Rattle.minelib_reading.specs.ModelLines.{ModelDraftView, blank_header, blank_model, header_line, is_behind, is_counted, is_heading, is_next, is_ready, item_line, last_of, model_grammar, model_line, name_with, section_line}
 use Rattle.minelib_reading.specs.ModelStates.{StateModel, header_stated, stated_by}
-use Rattle.minelib_reading.specs.SpelledKeys.{IsKeyLine, has_key, key_text, section_text, value_of}
+use Rattle.minelib_lines.specs.KeyWords.{has_key, key_word, type_text}
+use Rattle.minelib_reading.specs.SpelledKeys.{IsKeyLine, section_text}
 use Rattle.minelib_reading.specs.SpelledLines.{AreLines}
 use Rattle.minelib_reading.specs.SpelledModel.{AreHeaderLines, AreModelLines, IsHeaderLine, IsSingle, SpellCoef, SpellLimit, SpellValues}
-use Rattle.minelib_reading.specs.StatedModel.{StatedHeader, StatedModel}
+use Rattle.minelib_reading.specs.StatedModel.{StatedModel}
 use Rattle.minelib_reading.specs.declared.model_key.Header.{Header}
-use Rattle.minelib_reading.specs.declared.model_key.HeaderKey.{HeaderKey}
-use Rattle.minelib_reading.specs.declared.model_key.HeaderKey.TheVariants as key
+use Rattle.minelib_lines.specs.declared.header_key.HeaderKey.{HeaderKey}
+use Rattle.minelib_lines.specs.declared.header_key.HeaderKey.TheVariants as key
 use Rattle.minelib_reading.specs.declared.model_key.Section.{Section}
 use Rattle.minelib_reading.specs.declared.model_key.Section.TheVariants.{Heading, Objective, Coefs, Limits}
 use Rattle.minelib_reading.proofs.CoefLineFacts.{coef_plain}
@@ -47,7 +48,7 @@ use Rattle.minelib_reading.proofs.ShapeSteps.{met}
 use Rattle.minelib_reading.proofs.ValuesLineFacts.{many_plain}
 
 -- the number that a header keeps of what it states by a key
-abbrev told : StatedHeader → HeaderKey → ℕ
+abbrev pub told : StatedHeader → HeaderKey → ℕ
 told m key.Periods = m.periods
 told m key.Destinations = m.destinations
 told m key.Resources = m.resources
@@ -55,18 +56,18 @@ told m key.Rate = unsigned_abs m.rate
 told m k = 0
 
 -- a header's value says it
-number_told : (problem : Problem) (n : ℕ) (m : StatedHeader) (k : HeaderKey) → number_said k (value_of problem n m k) ≡ told m k
+pub number_told : (problem : Problem) (n : ℕ) (m : StatedHeader) (k : HeaderKey) → number_said k (key_value (type_text problem) n m k) ≡ told m k
 number_told problem n m key.Periods = quotient m.periods
 number_told problem n m key.Destinations = quotient m.destinations
 number_told problem n m key.Resources = quotient m.resources
 number_told problem n m k = refl
 
-name_told : (problem : Problem) (n : ℕ) (m : StatedHeader) (k : HeaderKey) (name : List ℕ)
-    → name_with k (bytes_in (value_of problem n m k)) name ≡ name_with k m.name name
+pub name_told : (problem : Problem) (n : ℕ) (m : StatedHeader) (k : HeaderKey) (name : List ℕ)
+    → name_with k (bytes_in (key_value (type_text problem) n m k)) name ≡ name_with k m.name name
 name_told problem n m key.Name name = refl
 name_told problem n m k name = refl
 
-counted : (problem : Problem) (n : ℕ) (m : StatedHeader) (k : HeaderKey) → failing (is_counted k n (value_of problem n m k)) ≡ None
+pub counted : (problem : Problem) (n : ℕ) (m : StatedHeader) (k : HeaderKey) → failing (is_counted k n (key_value (type_text problem) n m k)) ≡ None
 counted problem n m key.Blocks = met Count (whole_stated (whole n) == n) [] (rw (quotient n) (eq-eqb n n refl)) refl
 counted problem n m k = refl
 
@@ -76,7 +77,7 @@ key_states : (d : ModelDraftView) (m : StatedHeader) (k : HeaderKey) (line : Lis
     → States (model_line d line) (record d { header = with_key d.header k (told m k); name = name_with k m.name d.name })
 unfolding header_line
 key_states d m k line in_heading new l =
-    let c = cut_line (key_text k) line (l.value ∷ []) (header_plain k) l.is_key in
+    let c = cut_line (key_word k) line (l.value ∷ []) (header_plain k) l.is_key in
     let here : model_line d line ≡ header_line d k (l.value ∷ []) =
     rw (c.colon, c.key_is, header_found d.problem k l.of_problem, c.fields_are) refl in
     let number = sym (number_told d.problem d.blocks m k) in
@@ -85,7 +86,7 @@ key_states d m k line in_heading new l =
     (record {
       first = met Key (is_heading d.section) (check Twice (not (is_given k d.header))) in_heading
           (met Twice (not (is_given k d.header)) [] (ap not new) refl);
-      values = value_of d.problem d.blocks m k ∷ [];
+      values = key_value (type_text d.problem) d.blocks m k ∷ [];
       spelled = (l.says, tt);
       last = counted d.problem d.blocks m k;
       is = λ i. record d { header = with_key d.header k (number i); name = name i };

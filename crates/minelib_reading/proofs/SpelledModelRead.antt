@@ -13,11 +13,13 @@ use Rattle.minelib_reading.specs.HeaderKeys.{count_in, is_complete}
 use Rattle.minelib_reading.specs.ModelLines.{ModelDraftView, blank_model, is_heading, is_limits, model_grammar}
 use Rattle.minelib_reading.specs.ModelStates.{StateModel, header_stated, stated_by}
 use Rattle.minelib_reading.specs.KeyFields.{field_of}
-use Rattle.minelib_reading.specs.SpelledKeys.{IsKeyLine, has_key, key_text, section_text, value_of}
+use Rattle.minelib_lines.specs.KeyWords.{has_key, key_word, type_text}
+use Rattle.minelib_lines.specs.LineValues.{key_value}
+use Rattle.minelib_reading.specs.SpelledKeys.{IsKeyLine, section_text}
 use Rattle.minelib_reading.specs.SpelledLines.{AreLines}
 use Rattle.minelib_reading.specs.SpelledModel.{AreModelLines, IsSingle, SpellCoef, SpellLimit, SpellValues}
-use Rattle.minelib_reading.specs.declared.model_key.HeaderKey.{HeaderKey}
-use Rattle.minelib_reading.specs.declared.model_key.HeaderKey.TheVariants as key
+use Rattle.minelib_lines.specs.declared.header_key.HeaderKey.{HeaderKey}
+use Rattle.minelib_lines.specs.declared.header_key.HeaderKey.TheVariants as key
 use Rattle.minelib_reading.specs.declared.model_key.Section.{Section}
 use Rattle.minelib_reading.specs.declared.model_key.Section.TheVariants.{Heading, Objective, Coefs, Limits}
 use Rattle.minelib_reading.proofs.HeaderLines.{Heads, heads_more, heads_none, heads_whole}
@@ -117,16 +119,16 @@ within done d after next line section is here same step was =
     (step (subst (λ section. At section d done) here was)))
 
 keyed : (done : List Line) (d : ModelDraftView) (line : Line) (next : ModelDraftView) (k : HeaderKey) (fields : List (List ℕ))
-    → IsKeyLine (key_text k) line.text fields → has_key d.problem k ≡ true → SetsKey d k fields next → At d.section d done
+    → IsKeyLine (key_word k) line.text fields → has_key d.problem k ≡ true → SetsKey d k fields next → At d.section d done
     → At next.section next (done ++ line ∷ [])
 keyed done d line next k fields is_key has s was =
     let here = in_heading d.section s.heading in
     let says = subst (λ (e : ModelDraftView). Says (field_of d.problem k) s.value
-    (value_of d.problem d.blocks (header_stated e.name e.header) k)) s.is s.says in
+    (key_value (type_text d.problem) d.blocks (header_stated e.name e.header) k)) s.is s.says in
     within done d _ next line Heading s.is here here (λ heading. (
       heads_more d.problem d.blocks k s.value d.name d.header s.number done line s.new (record {
         value = s.value;
-        is_key = subst (IsKeyLine (key_text k) line.text) s.one is_key;
+        is_key = subst (IsKeyLine (key_word k) line.text) s.one is_key;
         of_problem = has;
         says = says;
       }) heading.0,

@@ -11,8 +11,8 @@ use Rattle.forms.specs.Fit.{FitsField}
 use Rattle.minelib_reading.proofs.FormFields.{below_there, number_there}
 use Rattle.pit_parts.specs.declared.ranges.TheConstants.{MAX_DESTINATIONS, MAX_PERIODS, MAX_RESOURCES}
 use Rattle.minelib_reading.specs.declared.model_key.Header.{Header}
-use Rattle.minelib_reading.specs.declared.model_key.HeaderKey.{HeaderKey}
-use Rattle.minelib_reading.specs.declared.model_key.HeaderKey.TheVariants as key
+use Rattle.minelib_lines.specs.declared.header_key.HeaderKey.{HeaderKey}
+use Rattle.minelib_lines.specs.declared.header_key.HeaderKey.TheVariants as key
 use Rattle.minelib_lines.specs.declared.problem.Problem.{Problem}
 use Rattle.minelib_lines.specs.declared.problem.Problem.TheVariants.{Pcpsp, Cpit}
 use Rattle.minelib_reading.proofs.HeaderFacts.{each_with}

@@ -18,8 +18,8 @@ use Rattle.minelib_reading.specs.ItemForms.{bytes_in, coef_form, coef_said, limi
 use Rattle.minelib_reading.specs.KeyFields.{field_of, number_said}
 use Rattle.minelib_reading.specs.ModelLines.{ModelDraftView, blank_header, blank_model, coef_line, first_of, header_line, is_behind, is_heading, is_next, is_ready, last_of, limit_line, model_grammar, model_line, section_line, stray_line, values_line}
 use Rattle.text_lines.specs.TextLines.{Line}
-use Rattle.minelib_reading.specs.declared.model_key.HeaderKey.{HeaderKey}
-use Rattle.minelib_reading.specs.declared.model_key.HeaderKey.TheVariants as key
+use Rattle.minelib_lines.specs.declared.header_key.HeaderKey.{HeaderKey}
+use Rattle.minelib_lines.specs.declared.header_key.HeaderKey.TheVariants as key
 use Rattle.minelib_lines.specs.declared.problem.Problem.{Problem}
 use Rattle.minelib_reading.specs.declared.model_key.Section.{Section}
 use Rattle.minelib_reading.specs.declared.model_key.Section.TheVariants.{Heading, Objective, Coefs, Limits}

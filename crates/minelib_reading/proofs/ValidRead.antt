@@ -24,8 +24,8 @@ use Rattle.minelib_reading.specs.PrecLines.{preds_in}
 use Rattle.text_lines.specs.Reading.{in_file}
 use Rattle.text_lines.specs.TextLines.{lines_in}
 use Rattle.minelib_reading.specs.declared.model_key.Header.{Header}
-use Rattle.minelib_reading.specs.declared.model_key.HeaderKey.{HeaderKey}
-use Rattle.minelib_reading.specs.declared.model_key.HeaderKey.TheVariants as key
+use Rattle.minelib_lines.specs.declared.header_key.HeaderKey.{HeaderKey}
+use Rattle.minelib_lines.specs.declared.header_key.HeaderKey.TheVariants as key
 use Rattle.minelib_lines.specs.declared.problem.Problem.{Problem}
 use Rattle.minelib_lines.specs.declared.problem.Problem.TheVariants as problem
 use Rattle.text_lines.specs.declared.text_fault.TextFile.TheVariants.{Blocks, Prec, Pcpsp, Cpit}

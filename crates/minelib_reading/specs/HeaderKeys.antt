@@ -1,16 +1,12 @@
 -- What the header keys of a model file state: a number each, once the key stood.
-use Rattle.std.specs.Prelude.{ℕ, ◌==◌, Bool, List, [], ◌∷◌, map, Option, Some, None, is_some, unwrap_or, slice_index_or, if◌then◌else◌}
+use Rattle.std.specs.Prelude.{ℕ, ◌==◌, Bool, map, Option, Some, None, is_some, unwrap_or, slice_index_or, if◌then◌else◌}
 use Rattle.std.specs.List.{list_all}
+use Rattle.minelib_lines.specs.KeyWords.{header_keys}
 use Rattle.minelib_reading.specs.declared.model_key.Header.{Header}
-use Rattle.minelib_reading.specs.declared.model_key.HeaderKey.{HeaderKey}
-use Rattle.minelib_reading.specs.declared.model_key.HeaderKey.TheVariants as key
+use Rattle.minelib_lines.specs.declared.header_key.HeaderKey.{HeaderKey}
+use Rattle.minelib_lines.specs.declared.header_key.HeaderKey.TheVariants as key
 
--- all keys, in the order in which their numbers are kept
-abbrev pub header_keys : List HeaderKey
-header_keys =
-    key.Name ∷ key.Type ∷ key.Blocks ∷ key.Periods ∷ key.Destinations ∷ key.Resources ∷ key.General ∷ key.Rate ∷ []
-
--- the place of a key among all
+-- the place of a key among all, at which its number is kept
 abbrev pub place : HeaderKey → ℕ
 place key.Name = 0
 place key.Type = 1

@@ -1,18 +1,13 @@
 -- The header keys of a model file: the field of each key's value, and the number that it states.
-use Rattle.std.specs.Prelude.{ℕ, ◌+◌, List, pos, unsigned_abs, codes}
+use Rattle.std.specs.Prelude.{ℕ, ◌+◌, pos, unsigned_abs}
 use Rattle.std.specs.Str.{bytes_eq}
 use Rattle.forms.specs.Field.{Field, Decimal, Word, Value, below, between, millionths, whole_stated}
 use Rattle.pit_parts.specs.Name.{is_name}
 use Rattle.pit_parts.specs.declared.ranges.TheConstants.{MAX_BLOCKS, MAX_DESTINATIONS, MAX_PERIODS, MAX_RATE, MAX_RESOURCES}
-use Rattle.minelib_reading.specs.declared.model_key.HeaderKey.{HeaderKey}
-use Rattle.minelib_reading.specs.declared.model_key.HeaderKey.TheVariants as key
+use Rattle.minelib_lines.specs.KeyWords.{type_text}
+use Rattle.minelib_lines.specs.declared.header_key.HeaderKey.{HeaderKey}
+use Rattle.minelib_lines.specs.declared.header_key.HeaderKey.TheVariants as key
 use Rattle.minelib_lines.specs.declared.problem.Problem.{Problem}
-use Rattle.minelib_lines.specs.declared.problem.Problem.TheVariants.{Pcpsp, Cpit}
-
--- how a TYPE names the problem
-abbrev pub type_text : Problem → List ℕ
-type_text Pcpsp = codes "PCPSP"
-type_text Cpit = codes "CPIT"
 
 -- the field of each key's value
 abbrev pub field_of : Problem → HeaderKey → Field

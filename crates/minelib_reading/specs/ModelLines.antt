@@ -1,7 +1,8 @@
 -- What a model file states, of the production scheduling problem or the constrained pit limit
 -- problem: the shape of each line, by what the lines before it state.
-use Rattle.std.specs.Prelude.{ℕ, ◌+◌, ◌-◌, ◌==◌, ◌&&◌, not, Bool, true, false, List, [], ◌∷◌, ◌++◌, length, ℤ, Option, Some, None, slice_get, slice_index_or, Result, Ok, Err, if◌then◌else◌, codes}
-use Rattle.std.specs.List.{list_any, before_first, after_first}
+use Rattle.std.specs.Prelude.{ℕ, ◌+◌, ◌-◌, ◌==◌, ◌&&◌, not, Bool, true, false, List, [], ◌∷◌, ◌++◌, length, ℤ, Option, Some, None, slice_get, slice_index_or, Result, Ok, Err, if◌then◌else◌}
+use Rattle.std.specs.List.{list_any, before_first, after_first, find}
+use Rattle.std.specs.Option.{option_map}
 use Rattle.std.specs.Str.{bytes_eq}
 use Rattle.forms.specs.Field.{Value, Bytes, whole_at, whole_stated}
 use Rattle.forms.specs.Grammar.{Grammar, read_all}
@@ -13,12 +14,14 @@ use Rattle.mine_instance.specs.Order.{coef_comes_before}
 use Rattle.mine_instance.specs.declared.coef.Coef.{Coef}
 use Rattle.minelib_reading.specs.HeaderKeys.{no_key, with_key, count_in, is_given, is_complete}
 use Rattle.minelib_reading.specs.ItemForms.{bytes_in, coef_form, coef_said, limit_form, limit_said, row_said, values_form}
+use Rattle.minelib_lines.specs.KeyWords.{key_word, keys_of}
 use Rattle.minelib_reading.specs.KeyFields.{field_of, number_said}
+use Rattle.minelib_reading.specs.SpelledKeys.{section_text}
 use Rattle.text_lines.specs.LineKinds.{text_kinds}
 use Rattle.text_lines.specs.TextLines.{Line, fields_of, lines_in, end_of}
 use Rattle.minelib_reading.specs.declared.model_key.Header.{Header}
-use Rattle.minelib_reading.specs.declared.model_key.HeaderKey.{HeaderKey}
-use Rattle.minelib_reading.specs.declared.model_key.HeaderKey.TheVariants as key
+use Rattle.minelib_lines.specs.declared.header_key.HeaderKey.{HeaderKey}
+use Rattle.minelib_lines.specs.declared.header_key.HeaderKey.TheVariants as key
 use Rattle.minelib_reading.specs.declared.model_key.ModelKey.{ModelKey}
 use Rattle.minelib_reading.specs.declared.model_key.ModelKey.TheVariants as model_key
 use Rattle.minelib_lines.specs.declared.problem.Problem.{Problem}
@@ -59,27 +62,20 @@ blank_model problem n = record {
   limits = [];
 }
 
--- the keys of all problems
-abbrev pub shared_key : List ℕ → Option ModelKey
-shared_key word =
-    if bytes_eq word (codes "NAME") then Some (model_key.Header key.Name)
-    else (if bytes_eq word (codes "TYPE") then Some (model_key.Header key.Type)
-    else (if bytes_eq word (codes "NBLOCKS") then Some (model_key.Header key.Blocks)
-    else (if bytes_eq word (codes "NPERIODS") then Some (model_key.Header key.Periods)
-    else (if bytes_eq word (codes "NRESOURCE_SIDE_CONSTRAINTS") then Some (model_key.Header key.Resources)
-    else (if bytes_eq word (codes "DISCOUNT_RATE") then Some (model_key.Header key.Rate)
-    else (if bytes_eq word (codes "OBJECTIVE_FUNCTION") then Some (model_key.Section Objective)
-    else (if bytes_eq word (codes "RESOURCE_CONSTRAINT_COEFFICIENTS") then Some (model_key.Section Coefs)
-    else (if bytes_eq word (codes "RESOURCE_CONSTRAINT_LIMITS") then Some (model_key.Section Limits)
-    else None))))))))
+-- the sections that have keys
+abbrev pub sections : List Section
+sections = Objective ∷ Coefs ∷ Limits ∷ []
 
--- the keys of a problem
+-- the key with this word in the files of a problem: a header key, or else that of a section
+abbrev pub section_in : List ℕ → Option ModelKey
+section_in word = option_map model_key.Section (find (λ s. bytes_eq word (section_text s)) sections)
+
+abbrev pub header_or : Option HeaderKey → List ℕ → Option ModelKey
+header_or (Some k) word = Some (model_key.Header k)
+header_or None word = section_in word
+
 abbrev pub key_in : Problem → List ℕ → Option ModelKey
-key_in Cpit word = shared_key word
-key_in Pcpsp word =
-    if bytes_eq word (codes "NDESTINATIONS") then Some (model_key.Header key.Destinations)
-    else (if bytes_eq word (codes "NGENERAL_SIDE_CONSTRAINTS") then Some (model_key.Header key.General)
-    else shared_key word)
+key_in problem word = header_or (find (λ k. bytes_eq word (key_word k)) (keys_of problem)) word
 
 -- the key of the fields before a colon: the one field there
 abbrev pub key_of : Problem → List (List ℕ) → Option ModelKey

@@ -5,9 +5,10 @@ use Rattle.text_lines.specs.TextLines.{Line}
 use Rattle.minelib_lines.specs.declared.problem.Problem.{Problem}
 use Rattle.minelib_reading.specs.HeaderKeys.{count_in}
 use Rattle.minelib_reading.specs.ModelLines.{ModelDraftView, blank_model, is_whole, model_grammar}
-use Rattle.minelib_reading.specs.StatedModel.{StatedHeader, StatedModel}
+use Rattle.minelib_lines.specs.LineValues.{StatedHeader}
+use Rattle.minelib_reading.specs.StatedModel.{StatedModel}
 use Rattle.minelib_reading.specs.declared.model_key.Header.{Header}
-use Rattle.minelib_reading.specs.declared.model_key.HeaderKey.TheVariants as key
+use Rattle.minelib_lines.specs.declared.header_key.HeaderKey.TheVariants as key
 
 -- all lines of a model file, of n blocks: they state this by the grammar, and nothing of it is lacking
 abbrev pub StateModel : Problem → ℕ → List Line → ModelDraftView → Type 0

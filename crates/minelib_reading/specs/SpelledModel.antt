@@ -10,15 +10,16 @@ use Rattle.mine_instance.specs.declared.coef.Coef.{Coef}
 use Rattle.text_lines.specs.TextLines.{Line, fields_of, lines_in, end_of}
 use Rattle.text_lines.specs.declared.text_fault.LineFault.{LineFault}
 use Rattle.text_lines.specs.declared.text_fault.TextKind.TheVariants.{Missing}
-use Rattle.minelib_lines.specs.LineValues.{coef_values, limit_values, values_values}
+use Rattle.minelib_lines.specs.LineValues.{StatedHeader, coef_values, key_value, limit_values, values_values}
 use Rattle.minelib_lines.specs.declared.problem.Problem.{Problem}
 use Rattle.minelib_lines.specs.declared.problem.Problem.TheVariants.{Pcpsp, Cpit}
 use Rattle.minelib_reading.specs.ItemForms.{coef_form, limit_form, values_form}
 use Rattle.minelib_reading.specs.KeyFields.{field_of}
-use Rattle.minelib_reading.specs.SpelledKeys.{IsKeyLine, has_key, key_text, section_text, value_of}
+use Rattle.minelib_lines.specs.KeyWords.{has_key, key_word, type_text}
+use Rattle.minelib_reading.specs.SpelledKeys.{IsKeyLine, section_text}
 use Rattle.minelib_reading.specs.SpelledLines.{AreLines}
-use Rattle.minelib_reading.specs.StatedModel.{StatedHeader, StatedModel}
-use Rattle.minelib_reading.specs.declared.model_key.HeaderKey.{HeaderKey}
+use Rattle.minelib_reading.specs.StatedModel.{StatedModel}
+use Rattle.minelib_lines.specs.declared.header_key.HeaderKey.{HeaderKey}
 use Rattle.minelib_reading.specs.declared.model_key.Section.TheVariants.{Objective, Coefs, Limits}
 
 -- a CPIT has one destination
@@ -35,9 +36,9 @@ HasDestination Cpit c = c.d ≡ 0
 pub record IsHeaderLine (problem : Problem) (n : ℕ) (h : StatedHeader) (line : List ℕ)
     (k : HeaderKey) : Type 0 where
   pub value : List ℕ
-  pub is_key : IsKeyLine (key_text k) line (value ∷ [])
+  pub is_key : IsKeyLine (key_word k) line (value ∷ [])
   pub of_problem : IsTrue (has_key problem k)
-  pub says : Says (field_of problem k) value (value_of problem n h k)
+  pub says : Says (field_of problem k) value (key_value (type_text problem) n h k)
 
 -- one line for each header key of the problem, in any order
 pub record AreHeaderLines (problem : Problem) (n : ℕ) (lines : List Line)

@@ -1,18 +1,10 @@
 -- What a model file states, and what that is of an instance and of a constrained pit limit problem.
-use Rattle.std.specs.Prelude.{ℕ, List, [], ◌∷◌, map, ℤ}
+use Rattle.std.specs.Prelude.{List, [], ◌∷◌, map, ℤ}
 use Rattle.pit_parts.specs.declared.limit.Limit.{Limit}
 use Rattle.mine_instance.specs.Cpit.{CpitParts}
 use Rattle.mine_instance.specs.declared.coef.Coef.{Coef}
 use Rattle.mine_instance.specs.Instance.{Instance}
-use Rattle.minelib_lines.specs.LineValues.{at_only_destination}
-
--- what the header states, the discount rate in millionths
-pub record StatedHeader : Type 0 where
-  pub name : List ℕ
-  pub periods : ℕ
-  pub destinations : ℕ
-  pub resources : ℕ
-  pub rate : ℤ
+use Rattle.minelib_lines.specs.LineValues.{StatedHeader, at_only_destination, header_of, header_of_cpit}
 
 -- the header, and what the sections state: of each block a value for each destination, coefficients and limits
 pub record StatedModel : Type 0 where
@@ -24,13 +16,7 @@ pub record StatedModel : Type 0 where
 -- the part of an instance that its model file states
 abbrev pub model_of : Instance → StatedModel
 model_of i = record {
-  header = record {
-    name = i.name;
-    periods = i.periods;
-    destinations = i.destinations;
-    resources = i.resources;
-    rate = i.rate;
-  };
+  header = header_of i;
   values = i.values;
   coefs = i.coefs;
   limits = i.limits;
@@ -43,13 +29,7 @@ alone v = v ∷ []
 -- a constrained pit limit problem as its model file states it: of one destination
 abbrev pub model_of_cpit : CpitParts → StatedModel
 model_of_cpit c = record {
-  header = record {
-    name = c.name;
-    periods = c.periods;
-    destinations = 1;
-    resources = c.resources;
-    rate = c.rate;
-  };
+  header = header_of_cpit c;
   values = map alone c.values;
   coefs = map at_only_destination c.coefs;
   limits = c.limits;

@@ -13,16 +13,16 @@ ghost use Rattle.mine_instance.specs.declared.coef.Coef.{Coef};
 ghost use Rattle.mine_instance.specs.Instance.{Instance as OneInstance};
 ghost use Rattle.minelib_reading.specs.BlockLines.{block_form, block_grammar, block_shape, blocks_in};
 ghost use Rattle.minelib_reading.specs.Denotes.{Denotes, DenotesCpit};
-ghost use Rattle.minelib_lines.specs.LineValues.{block_values, preds_values};
+ghost use Rattle.minelib_lines.specs.KeyWords.{type_text};
+ghost use Rattle.minelib_lines.specs.LineValues.{block_values, key_value, preds_values};
 ghost use Rattle.minelib_reading.specs.KeyFields.{field_of};
 ghost use Rattle.minelib_reading.specs.ModelLines.{ModelDraftView, coef_line, header_line, is_behind, is_next, is_ready, last_of, limit_line, model_in, section_line, values_line};
 ghost use Rattle.minelib_reading.specs.ModelStates.{StateModel, stated_by};
 ghost use Rattle.minelib_reading.specs.PrecLines.{LacksLines, prec_grammar, preds_form, preds_in, preds_of, preds_shape};
-ghost use Rattle.minelib_reading.specs.SpelledKeys.{value_of};
 ghost use Rattle.minelib_reading.specs.SpelledModel.{AreModelLines, SpellCoef, SpellLimit, SpellValues};
 ghost use Rattle.minelib_reading.specs.SpelledTexts.{SpellCpit, SpellInstance};
 ghost use Rattle.minelib_reading.specs.StatedModel.{StatedModel};
-ghost use Rattle.minelib_reading.specs.declared.model_key.HeaderKey.{HeaderKey};
+ghost use Rattle.minelib_lines.specs.declared.header_key.HeaderKey.{HeaderKey};
 ghost use Rattle.minelib_reading.specs.declared.model_key.Section.{Section};
 ghost use Rattle.text_lines.specs.TextLines.{fields_of, lines_in};
 ghost use Rattle.minelib_lines.specs.declared.problem.Problem.{Problem};
@@ -66,7 +66,7 @@ pub fn lines_state_what_they_spell()
     ensures header { (d next : ModelDraftView) (k : HeaderKey) (fields : List (List ℕ))
         → States (header_line d k fields) next
         → Spell (field_of d.problem k ∷ []) fields
-        (value_of d.problem d.blocks (stated_by next).header k ∷ []) }
+        (key_value (type_text d.problem) d.blocks (stated_by next).header k ∷ []) }
     ensures values { (d next : ModelDraftView) (fields : List (List ℕ))
         → States (values_line d fields) next
         ↔ (vs : List ℤ) × (next ≡ record d { values = d.values ++ vs ∷ [] })

@@ -2,12 +2,12 @@
 
 ghost use Rattle.std.specs.Prelude.{◌≡◌, ◌<◌, ◌≤◌, pos, true, IfOk};
 ghost use Rattle.forms.specs.Field.{Decimal};
-ghost use Rattle.minelib_reading.specs.KeyFields.{type_text};
 ghost use Rattle.minelib_reading.specs.ModelLines.{blank_header};
 ghost use Rattle.minelib_reading.specs.inner.ModelParts.{is_name_for, millionths_in, number_in, number_limit};
 
-use crate::model_key::{Header, HeaderKey};
+use crate::model_key::Header;
 use crate::model_keys::is_word;
+use minelib_lines::header_key::HeaderKey;
 use minelib_lines::problem::Problem;
 use pit_parts::name::is_name;
 use pit_parts::ranges::{MAX_BLOCKS, MAX_DESTINATIONS, MAX_PERIODS, MAX_RATE, MAX_RESOURCES};
@@ -44,7 +44,7 @@ pub fn number_in(
 {
     match key {
         HeaderKey::Name if is_name(value) => Ok(0),
-        HeaderKey::Type if is_word(value, type_text(problem)) => Ok(0),
+        HeaderKey::Type if is_word(value, problem.type_text()) => Ok(0),
         HeaderKey::Name | HeaderKey::Type => Err(TextKind::Name),
         HeaderKey::Blocks => {
             let stated = millionths_in(value, 0, 0, (MAX_BLOCKS as u64 + 1) * WHOLE - 1)? / WHOLE;
@@ -75,14 +75,4 @@ fn millionths_in(field: &[u8], decimals: u8, low: u64, high: u64) -> Result<u64,
 {
     let stated = parse_within(field, decimals, i128::from(low), i128::from(high))?;
     Ok(stated.millionths() as u64)
-}
-
-// How a TYPE names the problem.
-fn type_text(problem: Problem) -> &'static [u8]
-    ensures { result.now ≡ type_text problem }
-{
-    match problem {
-        Problem::Pcpsp => b"PCPSP",
-        Problem::Cpit => b"CPIT",
-    }
 }

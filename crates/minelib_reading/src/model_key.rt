@@ -3,6 +3,8 @@
 ghost use Rattle.std.specs.Prelude.{◌≡◌, ◌<◌};
 ghost use Rattle.minelib_reading.specs.HeaderKeys.{count_in, is_complete, is_given, no_key, number_of, place, with_key};
 
+use minelib_lines::header_key::HeaderKey;
+
 /// The part of a model file that a line stands in.
 #[derive(Clone, Copy, Debug, PartialEq, Eq)]
 pub enum Section {
@@ -16,19 +18,6 @@ pub enum Section {
     Limits,
 }
 
-/// A key of the header. A header keeps the numbers of its keys in this order.
-#[derive(Clone, Copy, Debug, PartialEq, Eq)]
-pub enum HeaderKey {
-    Name,
-    Type,
-    Blocks,
-    Periods,
-    Destinations,
-    Resources,
-    General,
-    Rate,
-}
-
 /// The key of a key line.
 #[derive(Clone, Copy, Debug, PartialEq, Eq)]
 pub enum ModelKey {
@@ -39,7 +28,7 @@ pub enum ModelKey {
 /// The numbers that the header keys have stated so far. A key whose value only has to be right, such as NBLOCKS, has 0.
 #[derive(Clone, Copy, Debug, PartialEq, Eq)]
 pub struct Header {
-    // by the place of the key
+    // by the place of the key, in the order in which they are written
     numbers: [Option<u32>; 8],
 }
 

@@ -1,14 +1,16 @@
 //! The key lines of a model file that is read.
 
 ghost use Rattle.std.specs.Prelude.{◌≡◌, ◌+◌, ◌<◌, true, false, length, position, MatchOption};
-ghost use Rattle.std.specs.List.{list_any, before_first, after_first};
+ghost use Rattle.std.specs.List.{list_any, before_first, after_first, find};
 ghost use Rattle.std.specs.Str.{bytes_eq};
-ghost use Rattle.minelib_reading.specs.ModelLines.{is_colon, is_heading, is_limits, is_next, key_in, key_of, shared_key};
+ghost use Rattle.minelib_reading.specs.ModelLines.{is_colon, is_heading, is_limits, is_next, key_in, key_of, section_in};
+ghost use Rattle.minelib_lines.specs.KeyWords.{key_word, keys_of};
 ghost use Rattle.minelib_reading.specs.inner.ModelParts.{StatesValue, only_value};
 ghost use Rattle.text_lines.specs.TextLines.{fields_of};
 
-use crate::model_key::{HeaderKey, ModelKey, Section};
+use crate::model_key::{ModelKey, Section};
 use memchr::memchr;
+use minelib_lines::header_key::HeaderKey;
 use minelib_lines::problem::Problem;
 use text_lines::cut_lines::behind;
 use text_lines::text_fault::TextKind;
@@ -66,41 +68,26 @@ pub fn key_of(problem: Problem, line: &[u8]) -> Option<ModelKey>
 fn key_in(problem: Problem, word: &[u8]) -> Option<ModelKey>
     ensures { result ≡ key_in problem word.now }
 {
-    match problem {
-        Problem::Cpit => shared_key(word),
-        Problem::Pcpsp => pcpsp_key(word),
+    match header_key_in(problem, word) {
+        Some(key) => Some(ModelKey::Header(key)),
+        None => section_in(word),
     }
 }
 
-fn pcpsp_key(word: &[u8]) -> Option<ModelKey>
-    ensures { result ≡ key_in Problem.Pcpsp word.now }
+fn header_key_in(problem: Problem, word: &[u8]) -> Option<HeaderKey>
+    ensures { result ≡ find (λ k. bytes_eq word.now (key_word k)) (keys_of problem) }
 {
-    if is_word(word, b"NDESTINATIONS") {
-        Some(ModelKey::Header(HeaderKey::Destinations))
-    } else if is_word(word, b"NGENERAL_SIDE_CONSTRAINTS") {
-        Some(ModelKey::Header(HeaderKey::General))
-    } else {
-        shared_key(word)
-    }
+    problem
+        .keys()
+        .iter()
+        .copied()
+        .find(|key| is_word(word, key.word()))
 }
 
-// The keys of all problems.
-fn shared_key(word: &[u8]) -> Option<ModelKey>
-    ensures { result ≡ shared_key word.now }
+fn section_in(word: &[u8]) -> Option<ModelKey>
+    ensures { result ≡ section_in word.now }
 {
-    if is_word(word, b"NAME") {
-        Some(ModelKey::Header(HeaderKey::Name))
-    } else if is_word(word, b"TYPE") {
-        Some(ModelKey::Header(HeaderKey::Type))
-    } else if is_word(word, b"NBLOCKS") {
-        Some(ModelKey::Header(HeaderKey::Blocks))
-    } else if is_word(word, b"NPERIODS") {
-        Some(ModelKey::Header(HeaderKey::Periods))
-    } else if is_word(word, b"NRESOURCE_SIDE_CONSTRAINTS") {
-        Some(ModelKey::Header(HeaderKey::Resources))
-    } else if is_word(word, b"DISCOUNT_RATE") {
-        Some(ModelKey::Header(HeaderKey::Rate))
-    } else if is_word(word, b"OBJECTIVE_FUNCTION") {
+    if is_word(word, b"OBJECTIVE_FUNCTION") {
         Some(ModelKey::Section(Section::Objective))
     } else if is_word(word, b"RESOURCE_CONSTRAINT_COEFFICIENTS") {
         Some(ModelKey::Section(Section::Coefs))

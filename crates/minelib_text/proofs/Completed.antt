@@ -2,28 +2,30 @@
 use Rattle.std.specs.Prelude.{◌≡◌, ◌≢◌, ℕ, zero, suc, ◌+◌, ◌<◌, ◌≤◌, ◌-◌, true, false, List, [], ◌∷◌, ◌++◌, length, ℤ, pos, is_some, Ok, All, codes}
 use Rattle.std.specs.List.{Contains}
 use Rattle.std.proofs.Common.{refl, sym, ◌∙◌, ap, subst, arith, length-append, eq-eqb, inl, inr}
-use Rattle.std.proofs.lemmas.Bool.{cases_Bool}
+use Rattle.std.proofs.lemmas.Bool.{cases_Bool, not-false}
 use Rattle.std.proofs.lemmas.Int.{ints}
 use Rattle.std.proofs.lemmas.List.Elements.{All-nil, All-cons}
 use Rattle.minelib_lines.specs.Kept.{IsInDecimalRange}
 use Rattle.minelib_lines.specs.Lines.{line_of}
-use Rattle.minelib_reading.specs.HeaderKeys.{header_keys, with_key, count_in, is_given, is_complete}
-use Rattle.minelib_reading.specs.ModelLines.{ModelDraftView, blank_header, is_whole, model_grammar}
+use Rattle.minelib_lines.specs.KeyWords.{has_key, header_keys}
+use Rattle.minelib_lines.specs.LineValues.{StatedHeader}
+use Rattle.minelib_reading.specs.HeaderKeys.{with_key, count_in, is_given, is_complete}
+use Rattle.minelib_reading.specs.ModelLines.{ModelDraftView, blank_header, is_whole, model_grammar, name_with}
 use Rattle.minelib_reading.specs.inner.ModelParts.{admit_model}
 use Rattle.forms.specs.GrammarStates.{AllState}
 use Rattle.text_lines.specs.TextLines.{Line}
 use Rattle.minelib_writing.specs.Written.{value_fields}
 use Rattle.minelib_reading.specs.declared.model_key.Header.{Header}
-use Rattle.minelib_reading.specs.declared.model_key.HeaderKey.{HeaderKey}
-use Rattle.minelib_reading.specs.declared.model_key.HeaderKey.TheVariants as key
+use Rattle.minelib_lines.specs.declared.header_key.HeaderKey.{HeaderKey}
+use Rattle.minelib_lines.specs.declared.header_key.HeaderKey.TheVariants as key
 use Rattle.minelib_lines.specs.declared.problem.Problem.{Problem}
-use Rattle.minelib_lines.specs.declared.problem.Problem.TheVariants.{Pcpsp, Cpit}
 use Rattle.minelib_reading.specs.declared.model_key.Section.{Section}
 use Rattle.minelib_reading.specs.declared.model_key.Section.TheVariants.{Heading, Objective, Coefs, Limits}
-use Rattle.minelib_reading.proofs.HeaderFacts.{each_with, each_key, all_given, contains_cases}
+use Rattle.minelib_reading.proofs.HeaderFacts.{each_with, each_key, all_given, contains_cases, first_given}
+use Rattle.minelib_reading.proofs.SpelledModelBack.{told}
 use Rattle.minelib_text.proofs.ItemsBack.{values_again, values_fields}
 use Rattle.minelib_reading.proofs.LinesThen.{heading}
-use Rattle.minelib_text.proofs.KeysBack.{IsStep, in_all, section_step, word_field, name_step, type_step, blocks_step, periods_step, destinations_step, resources_step, general_step, rate_step}
+use Rattle.minelib_text.proofs.KeysBack.{IsHeader, key_step, section_step}
 use Rattle.minelib_text.proofs.ModelBack.{item_admitted}
 use Rattle.minelib_reading.proofs.ModelShapes.{admitted_states, values_takes}
 use Rattle.minelib_reading.proofs.ValidHeader.{KeepsOwn}
@@ -60,9 +62,7 @@ from_limits d complete all =
 from_coefs : (d : ModelDraftView) → is_complete d.header ≡ true → length d.values ≡ d.blocks → Completes (in_section Coefs d)
 from_coefs d complete all =
     then_complete (in_section Coefs d) (in_section Limits d) _
-    (section_step (in_section Coefs d) (codes "RESOURCE_CONSTRAINT_LIMITS") Limits
-    (word_field _ _ refl) (in_all d.problem _ _ refl refl) refl
-    refl).admitted
+    (section_step (in_section Coefs d) Limits refl refl).admitted
     (from_limits d complete all)
 
 zeros : ℕ → List ℤ
@@ -85,9 +85,7 @@ values_left : (k : ℕ) (d : ModelDraftView) → is_complete d.header ≡ true �
 values_left zero d complete count few =
     let all : length d.values ≡ d.blocks = omega arith in
     then_complete (in_section Objective d) (in_section Coefs d) _
-    (section_step (in_section Objective d) (codes "RESOURCE_CONSTRAINT_COEFFICIENTS") Coefs
-    (word_field _ _ refl) (in_all d.problem _ _ refl refl)
-    refl (eq-eqb (length d.values) d.blocks all)).admitted
+    (section_step (in_section Objective d) Coefs refl (eq-eqb (length d.values) d.blocks all)).admitted
     (from_coefs d complete all)
 values_left (suc k) d complete count few =
     let destinations = count_in d.header key.Destinations in
@@ -105,41 +103,28 @@ from_objective : (d : ModelDraftView) → is_complete d.header ≡ true → leng
     → Completes (in_section Objective d)
 from_objective d complete most few = values_left (d.blocks - length d.values) d complete (omega arith) few
 
--- a line that gives a key
-record Gives (p : Problem) (n : ℕ) (k : HeaderKey) (name : List ℕ) (h : Header) : Type 0 where
-  pub line : List ℕ
-  pub after : List ℕ
-  pub number : ℕ
-  pub step : admit_model (heading p n name h) line ≡ Ok (heading p n after (with_key h k number))
+-- a header that has a value for each key
+abbrev least : StatedHeader
+least = record { name = codes "X"; periods = 1; destinations = 1; resources = 0; rate = pos 0 }
 
-by_step : (p : Problem) (n : ℕ) (k : HeaderKey) (name after : List ℕ) (h : Header) (line : List ℕ) (number : ℕ)
-    → IsStep (heading p n name h) line (heading p n after (with_key h k number)) → Gives p n k name h
-by_step p n k name after h line number s = record { line = line; after = after; number = number; step = s.admitted }
-
-gives : (p : Problem) (n : ℕ) (k : HeaderKey) (name : List ℕ) (h : Header) → n ≤ 64000000 → is_given k (blank_header p) ≡ false
-    → is_given k h ≡ false
-    → Gives p n k name h
-unfolding with_key
-gives p n key.Name name h few has new = by_step p n key.Name name _ h _ _ (name_step p n h name (codes "X") refl new)
-gives p n key.Type name h few has new = by_step p n key.Type name _ h _ _ (type_step p n h name new)
-gives p n key.Blocks name h few has new = by_step p n key.Blocks name _ h _ _ (blocks_step p n h name few new)
-gives p n key.Periods name h few has new =
-    by_step p n key.Periods name _ h _ _ (periods_step p n h name 1 (omega arith, omega arith) new)
-gives p n key.Resources name h few has new = by_step p n key.Resources name _ h _ _ (resources_step p n h name 0 (omega arith) new)
-gives p n key.Rate name h few has new =
-    by_step p n key.Rate name _ h _ _ (rate_step p n h name (pos 0) (omega (arith, ints), omega (arith, ints)) new)
-gives Pcpsp n key.Destinations name h few has new =
-    by_step Pcpsp n key.Destinations name _ h _ _ (destinations_step n h name 1 (omega arith, omega arith) new)
-gives Pcpsp n key.General name h few has new = by_step Pcpsp n key.General name _ h _ _ (general_step n h name new)
-gives Cpit n key.Destinations name h few has new = absurd cc
-gives Cpit n key.General name h few has new = absurd cc
+least_fits : (n : ℕ) → n ≤ 64000000 → IsHeader n least
+least_fits n few = record {
+  few = few;
+  name = refl;
+  horizon = record {
+    periods_1_to_100 = (omega arith, omega arith);
+    at_most_8_resources = omega arith;
+    rate_0_to_1 = (omega (arith, ints), omega (arith, ints));
+  };
+  destinations = (omega arith, omega arith);
+}
 
 -- all keys are given
 from_header : (p : Problem) (n : ℕ) (name : List ℕ) (h : Header) → n ≤ 64000000 → is_complete h ≡ true → Completes (heading p n name h)
 from_header p n name h few complete =
     let d = heading p n name h in
     then_complete d (in_section Objective d) _
-    (section_step d (codes "OBJECTIVE_FUNCTION") Objective (word_field _ _ refl) (in_all p _ _ refl refl) refl complete).admitted
+    (section_step d Objective refl complete).admitted
     (from_objective d complete (omega arith) few)
 
 -- what a header lacks are keys of the problem, and among these
@@ -156,9 +141,11 @@ fill p n (k ∷ keys) name h few lacks = elim (cases_Bool (is_given k h)) [
   | inl given ↦ fill p n keys name h few (λ j new. later j (λ same.
       (let is : is_given j h ≡ true = subst (λ j. is_given j h ≡ true) same given in absurd cc)) new)
   | inr new ↦
-      let g = gives p n k name h few (lacks k new).0 new in
-      then_complete _ _ _ g.step (fill p n keys g.after (with_key h k g.number) few
-      (each_with (λ j found. is_some found ≡ false → (is_given j (blank_header p) ≡ false) × Contains keys j) h k g.number
+      let has : has_key p k ≡ true = not-false (has_key p k) (sym (first_given p k) ∙ (lacks k new).0) in
+      let number = told least k in
+      then_complete _ _ _ (key_step p n least name h k (least_fits n few) has new).admitted
+      (fill p n keys (name_with k least.name name) (with_key h k number) few
+      (each_with (λ j found. is_some found ≡ false → (is_given j (blank_header p) ≡ false) × Contains keys j) h k number
       (λ given. absurd cc) later))
 ]
   where

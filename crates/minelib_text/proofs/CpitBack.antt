@@ -11,7 +11,7 @@ use Rattle.minelib_reading.specs.Denotes.{cpit_denoted}
 use Rattle.minelib_lines.specs.Kept.{IsInDecimalRange, IsKeptCpit}
 use Rattle.minelib_lines.specs.Lines.{line_of, lines_from}
 use Rattle.minelib_reading.specs.ModelLines.{model_in}
-use Rattle.minelib_lines.specs.LineValues.{at_only_destination}
+use Rattle.minelib_lines.specs.LineValues.{at_only_destination, header_of_cpit}
 use Rattle.minelib_writing.specs.Written.{text_cpit, coef_fields, value_fields}
 use Rattle.minelib_lines.specs.declared.problem.Problem.TheVariants.{Cpit}
 use Rattle.minelib_reading.specs.declared.model_key.Section.TheVariants.{Limits}
@@ -63,7 +63,8 @@ cpit_again : (c : CpitParts) → IsCpit c → IsKeptCpit c
     (map at_only_destination c.coefs) c.limits)
 unfolding text_cpit
 cpit_again c is kept =
-    let header = cpit_header (length c.values) c.name c.periods c.resources c.rate is.few kept.name is.horizon in
+    let header = cpit_header (length c.values) (header_of_cpit c)
+    (record { few = is.few; name = kept.name; horizon = is.horizon; destinations = (omega arith, omega arith) }) in
     let read = model_again _ _ c.name _ _ _ c.rate _ _ _ (model_of c is kept) _ header in
     rw (lines_from-map value_fields alone 0 c.values, lines_from-map (coef_fields Cpit) at_only_destination 0 c.coefs) at read
 

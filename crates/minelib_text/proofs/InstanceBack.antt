@@ -5,6 +5,7 @@ use Rattle.mine_instance.specs.Valid.{IsValid}
 use Rattle.mine_instance.specs.Instance.{Instance}
 use Rattle.minelib_reading.specs.Denotes.{denoted}
 use Rattle.minelib_lines.specs.Kept.{IsKept}
+use Rattle.minelib_lines.specs.LineValues.{header_of}
 use Rattle.minelib_reading.specs.ModelLines.{model_in}
 use Rattle.minelib_writing.specs.Written.{text_blocks, text_prec, text_pcpsp}
 use Rattle.minelib_lines.specs.declared.problem.Problem.TheVariants.{Pcpsp}
@@ -37,8 +38,12 @@ pcpsp_again : (i : Instance) → IsValid i → IsKept i
     ≡ Ok (draft Pcpsp (length i.blocks) i.name (full_header i.periods i.destinations i.resources i.rate) Limits i.values i.coefs i.limits)
 unfolding text_pcpsp
 pcpsp_again i valid kept =
-    let header = pcpsp_header (length i.blocks) i.name i.periods i.destinations i.resources i.rate valid.lengths.few kept.name valid.horizon
-    valid.destinations.from_1_to_8 in
+    let header = pcpsp_header (length i.blocks) (header_of i) (record {
+      few = valid.lengths.few;
+      name = kept.name;
+      horizon = valid.horizon;
+      destinations = valid.destinations.from_1_to_8;
+    }) in
     model_again _ _ i.name _ _ _ i.rate _ _ _ (model_of i valid kept) _ header
 
 pub written_again : (i : Instance) → IsValid i → IsKept i → denoted (text_blocks i) (text_prec i) (text_pcpsp i) ≡ Ok i

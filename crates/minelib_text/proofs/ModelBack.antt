@@ -1,6 +1,6 @@
 -- A model file is read as it is written.
 use Rattle.std.proofs.Common.{◌≡◌, ℕ, ◌<◌, ◌≤◌, false, List, [], ◌++◌, length, ℤ, arith, refl, sym, ap, ◌∙◌, eq-eqb}
-use Rattle.std.specs.Prelude.{Ok, codes, All}
+use Rattle.std.specs.Prelude.{Ok, All}
 use Rattle.pit_parts.specs.PlanKept.{stands_before, is_turned}
 use Rattle.pit_parts.specs.declared.limit.Limit.{Limit}
 use Rattle.mine_instance.specs.Order.{coef_comes_before}
@@ -17,7 +17,7 @@ use Rattle.minelib_lines.specs.declared.problem.Problem.{Problem}
 use Rattle.minelib_reading.specs.declared.model_key.Section.TheVariants.{Objective, Coefs, Limits}
 use Rattle.minelib_text.proofs.ItemsBack.{values_again, values_fields, IsCount, coef_again, coefs_fields, limit_again, limits_fields}
 use Rattle.minelib_reading.proofs.LinesThen.{draft, heading}
-use Rattle.minelib_text.proofs.KeysBack.{AreSteps, and_lines, then_lines, full_header, in_all, section_step, word_field}
+use Rattle.minelib_text.proofs.KeysBack.{AreSteps, and_lines, then_lines, full_header, section_step}
 use Rattle.minelib_text.proofs.LinesBack.{AdmitsEach, items_admitted, text_read}
 use Rattle.minelib_reading.proofs.ModelShapes.{coef_takes, limit_takes, lines_are_all, values_takes}
 use Rattle.minelib_reading.proofs.Places.{is_place, item_there, behind_last}
@@ -102,13 +102,9 @@ module _ (p : Problem) (n : ℕ) (name : List ℕ) (periods destinations resourc
       (draft p n name (full_header periods destinations resources rate) Limits values coefs limits)
   sections_again =
       let h = full_header periods destinations resources rate in
-      let objective =
-      section_step (heading p n name h) (codes "OBJECTIVE_FUNCTION") Objective (word_field _ _ refl) (in_all p _ _ refl refl) refl
-      refl in
-      let coefficients = section_step (draft p n name h Objective values [] []) (codes "RESOURCE_CONSTRAINT_COEFFICIENTS") Coefs
-      (word_field _ _ refl) (in_all p _ _ refl refl) refl (eq-eqb (length values) n m.as_many) in
-      let bounds = section_step (draft p n name h Coefs values coefs []) (codes "RESOURCE_CONSTRAINT_LIMITS") Limits (word_field _ _ refl)
-      (in_all p _ _ refl refl) refl refl in
+      let objective = section_step (heading p n name h) Objective refl refl in
+      let coefficients = section_step (draft p n name h Objective values [] []) Coefs refl (eq-eqb (length values) n m.as_many) in
+      let bounds = section_step (draft p n name h Coefs values coefs []) Limits refl refl in
       and_lines _ _ _ _ _
       (and_lines _ _ _ _ _
       (then_lines _ _ _ _ _ objective (items_read value_fields (λ done. draft p n name h Objective done [] []) values each_values))

@@ -6,7 +6,7 @@ use Rattle.forms.specs.WrittenValues.{written}
 use Rattle.pit_parts.specs.declared.limit.Bound.{Bound}
 use Rattle.pit_parts.specs.declared.limit.Bound.TheVariants.{AtMost, AtLeast, Between}
 use Rattle.pit_parts.specs.declared.limit.Limit.{Limit}
-use Rattle.pit_units.proofs.Written.{whole_written}
+pub use Rattle.pit_units.proofs.Written.{whole_written}
 use Rattle.pit_units.specs.Decimal.{shortest}
 use Rattle.minelib_lines.specs.Lines.{line_of}
 use Rattle.minelib_lines.specs.LineValues.{bound_values}

@@ -3,7 +3,13 @@ use Rattle.std.proofs.Common.{◌≡◌, ℕ, suc, zero, ◌+◌, ◌<◌, List,
 use Rattle.std.proofs.lemmas.List.{take-append-drop}
 use Rattle.std.proofs.Math.Seq.{drop-cons, take-append_seam}
 use Rattle.std.specs.List.{drop-map, flat_map, take-map}
+use Rattle.std.specs.Prelude.{codes}
+use Rattle.forms.specs.Field.{Value}
+use Rattle.forms.specs.WrittenValues.{written_value}
+use Rattle.minelib_lines.specs.KeyWords.{key_word}
 use Rattle.minelib_lines.specs.Lines.{line_of, lines_from, text_of}
+use Rattle.minelib_lines.specs.declared.header_key.HeaderKey.{HeaderKey}
+use Rattle.minelib_writing.specs.Written.{key_line, key_lines}
 
 pub length-lines_from : {A : Type 0} (fields : ℕ → A → List (List ℕ)) (n : ℕ) (xs : List A) → length (lines_from fields n xs) ≡ length xs
 length-lines_from fields n [] = refl
@@ -51,3 +57,9 @@ some_texts fields text each i n xs =
 -- as many items as there are of so many at most
 pub take_length : {A : Type 0} (xs : List A) (most : ℕ) → take (length (take most xs)) xs ≡ take most xs
 take_length xs most = ap (take (length (take most xs))) (sym (take-append-drop most xs)) ∙ take-append_seam (take most xs) (drop most xs)
+
+-- the lines of keys are the texts of each
+pub key_texts : (value : HeaderKey → Value) (keys : List HeaderKey)
+    → text_of (key_lines value keys) ≡ flat_map (λ k. key_line k (value k) ++ 10 ∷ []) keys
+key_texts value keys =
+    texts_of (λ k. (key_word k ++ codes ":") ∷ written_value (value k) ∷ []) (λ k. key_line k (value k) ++ 10 ∷ []) (λ k. refl) keys

@@ -79,13 +79,3 @@ held_cut {n} {before} {after} {old} {new} text e cut =
 pub buffered_cut : {n : ℕ} {before after : List ℕ} {old new : SinkState} (lines : List (List ℕ)) (i : ℕ)
     → after ≡ before ++ text_of (take i lines) → IsAppendCut n [] after old new → IsAppendCut n (text_of lines) before old new
 buffered_cut lines i e cut = first_cut lines i (held_cut (text_of (take i lines)) e cut)
-
--- the first line of an empty buffer's text, and one line more
-pub first_line : (line before after : List ℕ) → after ≡ before ++ (line ++ 10 ∷ []) → after ≡ before ++ text_of (line ∷ [])
-first_line line before after e = e ∙ ap (λ rest. before ++ rest) (sym (append-nil (line ++ 10 ∷ [])))
-
-pub line_more : (lines : List (List ℕ)) (line before between after : List ℕ) → between ≡ before ++ text_of lines
-    → after ≡ between ++ (line ++ 10 ∷ []) → after ≡ before ++ text_of (lines ++ line ∷ [])
-line_more lines line before between after d e =
-    e ∙ ap (λ front. front ++ (line ++ 10 ∷ [])) d ∙ append_assoc before (text_of lines) (line ++ 10 ∷ [])
-    ∙ ap (λ rest. before ++ rest) (sym (text_of-line lines line))

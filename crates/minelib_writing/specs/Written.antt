@@ -1,7 +1,7 @@
 -- The MineLib texts of an instance (Espinoza, Goycoolea, Moreno and Newman 2013, in this project's profile), as lines of fields.
-use Rattle.std.specs.Prelude.{ℕ, List, [], ◌∷◌, ◌++◌, ℤ, codes, decimal, length}
-use Rattle.forms.specs.WrittenValues.{written}
-use Rattle.pit_units.specs.Decimal.{shortest}
+use Rattle.std.specs.Prelude.{ℕ, List, [], ◌∷◌, ◌++◌, ℤ, codes, length, map}
+use Rattle.forms.specs.Field.{Value}
+use Rattle.forms.specs.WrittenValues.{written, written_value}
 use Rattle.pit_parts.specs.declared.block.Block.{Block}
 use Rattle.pit_parts.specs.declared.limit.Limit.{Limit}
 use Rattle.mine_instance.specs.Cpit.{CpitParts}
@@ -9,8 +9,10 @@ use Rattle.mine_instance.specs.Greatest.{greatest}
 use Rattle.mine_instance.specs.declared.coef.Coef.{Coef}
 use Rattle.mine_instance.specs.declared.cpit.CpitCoef.{CpitCoef}
 use Rattle.mine_instance.specs.Instance.{Instance}
+use Rattle.minelib_lines.specs.KeyWords.{key_word, keys_of, type_text, upit_keys}
 use Rattle.minelib_lines.specs.Lines.{text_of, line_of, lines_from}
-use Rattle.minelib_lines.specs.LineValues.{block_values, preds_values, coef_values, limit_values, values_values, at_only_destination}
+use Rattle.minelib_lines.specs.LineValues.{block_values, preds_values, coef_values, limit_values, values_values, at_only_destination, header_of, header_of_cpit, key_value}
+use Rattle.minelib_lines.specs.declared.header_key.HeaderKey.{HeaderKey}
 use Rattle.minelib_lines.specs.declared.problem.Problem.{Problem}
 use Rattle.minelib_lines.specs.declared.problem.Problem.TheVariants.{Pcpsp, Cpit}
 
@@ -47,40 +49,12 @@ abbrev pub cpit_coef_fields : ℕ → CpitCoef → List (List ℕ)
 cpit_coef_fields n c = coef_fields Cpit n (at_only_destination c)
 
 -- `KEY: value`
-abbrev pub key_line : List ℕ → List ℕ → List ℕ
-key_line key value = line_of (key ∷ value ∷ [])
+abbrev pub key_line : HeaderKey → Value → List ℕ
+key_line k value = line_of ((key_word k ++ codes ":") ∷ written_value value ∷ [])
 
--- the key lines that all problems begin with
-abbrev pub problem_keys : List ℕ → List ℕ → ℕ → List (List ℕ)
-problem_keys name problem n =
-    key_line (codes "NAME:") name
-    ∷ key_line (codes "TYPE:") problem
-    ∷ key_line (codes "NBLOCKS:") (decimal n)
-    ∷ []
-
--- how many periods, destinations and resources there are
-abbrev pub count_keys : ℕ → ℕ → ℕ → List (List ℕ)
-count_keys periods destinations resources =
-    key_line (codes "NPERIODS:") (decimal periods)
-    ∷ key_line (codes "NDESTINATIONS:") (decimal destinations)
-    ∷ key_line (codes "NRESOURCE_SIDE_CONSTRAINTS:") (decimal resources)
-    ∷ []
-
--- the further key lines of the production scheduling problem
-abbrev pub pcpsp_keys : ℕ → ℕ → ℕ → ℤ → List (List ℕ)
-pcpsp_keys periods destinations resources rate =
-    count_keys periods destinations resources
-    ++ (key_line (codes "NGENERAL_SIDE_CONSTRAINTS:") (codes "0")
-    ∷ key_line (codes "DISCOUNT_RATE:") (shortest rate)
-    ∷ [])
-
--- the further key lines of the constrained pit limit problem
-abbrev pub cpit_keys : ℕ → ℕ → ℤ → List (List ℕ)
-cpit_keys periods resources rate =
-    key_line (codes "NPERIODS:") (decimal periods)
-    ∷ key_line (codes "NRESOURCE_SIDE_CONSTRAINTS:") (decimal resources)
-    ∷ key_line (codes "DISCOUNT_RATE:") (shortest rate)
-    ∷ []
+-- a line for each of these header keys, by the value of each
+abbrev pub key_lines : (HeaderKey → Value) → List HeaderKey → List (List ℕ)
+key_lines value keys = map (λ k. key_line k (value k)) keys
 
 -- the objective, the coefficients and the limits, each under its section line
 abbrev pub section_lines : List (List ℕ) → List (List ℕ) → List (List ℕ) → List (List ℕ)
@@ -100,19 +74,17 @@ text_prec i = text_of (lines_from prec_fields 0 i.preds)
 -- the UPIT file
 unfoldable pub text_upit : Instance → List ℕ
 text_upit i =
-    text_of (problem_keys i.name (codes "UPIT") (length i.blocks)
+    text_of (key_lines (key_value (codes "UPIT") (length i.blocks) (header_of i)) upit_keys
     ++ (codes "OBJECTIVE_FUNCTION:" ∷ lines_from greatest_fields 0 i.values))
 
 -- the PCPSP file
 unfoldable pub text_pcpsp : Instance → List ℕ
 text_pcpsp i =
-    text_of (problem_keys i.name (codes "PCPSP") (length i.blocks)
-    ++ pcpsp_keys i.periods i.destinations i.resources i.rate
+    text_of (key_lines (key_value (type_text Pcpsp) (length i.blocks) (header_of i)) (keys_of Pcpsp)
     ++ section_lines (lines_from value_fields 0 i.values) (lines_from (coef_fields Pcpsp) 0 i.coefs) (lines_from limit_fields 0 i.limits))
 
 -- the CPIT file
 unfoldable pub text_cpit : CpitParts → List ℕ
 text_cpit c =
-    text_of (problem_keys c.name (codes "CPIT") (length c.values)
-    ++ cpit_keys c.periods c.resources c.rate
+    text_of (key_lines (key_value (type_text Cpit) (length c.values) (header_of_cpit c)) (keys_of Cpit)
     ++ section_lines (lines_from cpit_value_fields 0 c.values) (lines_from cpit_coef_fields 0 c.coefs) (lines_from limit_fields 0 c.limits))

@@ -1,4 +1,5 @@
 pub mod CoefParts
 pub mod KeptParts
+pub mod KeyParts
 pub mod Spaced
 pub mod WritesOn

@@ -10,7 +10,7 @@ ghost use Rattle.pit_parts.specs.declared.ranges.TheConstants.{MAX_BLOCKS};
 use crate::block_sections::{GreatestLines, ValueLines};
 use crate::coef_lines::CoefLines;
 use crate::id_text::IdText;
-use crate::keys::{put_cpit_keys, put_pcpsp_keys, put_problem};
+use crate::keys::{KeyValues, put_keys};
 use crate::lines::Lines;
 use crate::prec_lines::write_preds;
 use crate::schedule::write_sections;
@@ -20,6 +20,8 @@ use devices::whole_text::Text;
 use devices::write_fault::WriteFault;
 use mine_instance::cpit::Cpit;
 use mine_instance::instance::Instance;
+use minelib_lines::header_key::HeaderKey;
+use minelib_lines::problem::Problem;
 use precedence::PredLists;
 use std::alloc::Global;
 
@@ -89,11 +91,11 @@ impl<'a, P: PredLists> Text for UpitFile<'a, P> {
         buffer: &mut Vec<u8>,
     ) -> Result<(), WriteFault> {
         let values = &self.instance.values;
-        put_problem(
+        put_keys(
+            alloc,
             buffer,
-            &self.instance.name,
-            b"UPIT",
-            self.instance.blocks_len(),
+            &KeyValues::of_instance(b"UPIT", self.instance),
+            HeaderKey::of_upit(),
         )?;
         write_titled(
             alloc,
@@ -123,8 +125,13 @@ impl<'a, P: PredLists> Text for PcpspFile<'a, P> {
         buffer: &mut Vec<u8>,
     ) -> Result<(), WriteFault> {
         let instance = self.instance;
-        put_problem(buffer, &instance.name, b"PCPSP", instance.blocks_len())?;
-        put_pcpsp_keys(alloc, buffer, instance)?;
+        let problem = Problem::Pcpsp;
+        put_keys(
+            alloc,
+            buffer,
+            &KeyValues::of_instance(problem.type_text(), instance),
+            problem.keys(),
+        )?;
         write_sections(
             alloc,
             sink,
@@ -160,8 +167,13 @@ impl<'a> Text for CpitFile<'a> {
         buffer: &mut Vec<u8>,
     ) -> Result<(), WriteFault> {
         let cpit = self.cpit;
-        put_problem(buffer, cpit.name(), b"CPIT", cpit.values().len())?;
-        put_cpit_keys(alloc, buffer, cpit)?;
+        let problem = Problem::Cpit;
+        put_keys(
+            alloc,
+            buffer,
+            &KeyValues::of_cpit(problem.type_text(), cpit),
+            problem.keys(),
+        )?;
         write_sections(
             alloc,
             sink,

@@ -1,101 +1,117 @@
 //! The key lines of the model files.
 
-ghost use Rattle.std.specs.Prelude.{◌≡◌, ◌++◌, ◌∷◌, [], OnOk, decimal, true};
-ghost use Rattle.pit_units.specs.Decimal.{shortest};
+ghost use Rattle.std.specs.Prelude.{◌≡◌, ◌++◌, ◌∷◌, [], OnOk, length, true};
+ghost use Rattle.forms.specs.WrittenValues.{written_value};
 ghost use Rattle.pit_parts.specs.Name.{is_name};
+ghost use Rattle.minelib_lines.specs.LineValues.{header_of, header_of_cpit, key_value};
 ghost use Rattle.minelib_lines.specs.Lines.{text_of};
-ghost use Rattle.minelib_writing.specs.Written.{key_line, problem_keys, count_keys, pcpsp_keys, cpit_keys};
+ghost use Rattle.minelib_writing.specs.Written.{key_line, key_lines};
+ghost use Rattle.minelib_writing.specs.inner.KeyParts.{value_in};
 
 use crate::fields::{put_decimal_to, put_text, put_whole_to};
 use mine_instance::cpit::Cpit;
 use mine_instance::instance::Instance;
-use pit_parts::name::Name;
+use minelib_lines::header_key::HeaderKey;
 use pit_units::Dec;
 use std::alloc::{AllocError, Global};
 
-/// Appends the key lines that all problems begin with.
-pub fn put_problem(
-    out: &mut Vec<u8>,
-    name: &Name,
-    problem: &[u8],
-    blocks: usize,
-) -> Result<(), AllocError>
-    ensures text { OnOk result (out.new.items
-        ≡ out.old.items ++ text_of (problem_keys name.now problem.now blocks)) }
-    ensures kept { is_name name.now ≡ true }
-{
-    put_key(out, b"NAME:", name.as_str().as_bytes())?;
-    put_key(out, b"TYPE:", problem)?;
-    put_count(out, b"NBLOCKS:", blocks as u64)
+/// What the header keys of a file say; what its keys do not say may be anything.
+#[derive(Drop)]
+pub struct KeyValues<'a> {
+    pub problem: &'a [u8],
+    pub name: &'a [u8],
+    pub blocks: usize,
+    pub periods: u8,
+    pub destinations: u8,
+    pub resources: u8,
+    pub rate: Dec,
 }
 
-/// Appends the further key lines of the production scheduling problem.
-pub fn put_pcpsp_keys<P>(
+impl<'a> KeyValues<'a> {
+    /// Of an instance, where TYPE names the problem so.
+    pub fn of_instance<P>(problem: &'a [u8], instance: &'a Instance<P>) -> KeyValues<'a>
+        ensures values { value_in result
+            ≡ key_value problem.now (length instance.now.blocks) (header_of instance.now) }
+        ensures kept { is_name instance.now.name ≡ true }
+    {
+        KeyValues {
+            problem,
+            name: instance.name.as_str().as_bytes(),
+            blocks: instance.blocks_len(),
+            periods: instance.periods,
+            destinations: instance.destinations,
+            resources: instance.resources,
+            rate: instance.rate,
+        }
+    }
+
+    /// Of a CPIT, which has one destination.
+    pub fn of_cpit(problem: &'a [u8], cpit: &'a Cpit) -> KeyValues<'a>
+        ensures values { value_in result
+            ≡ key_value problem.now (length cpit.now.values) (header_of_cpit cpit.now) }
+        ensures kept { is_name cpit.now.name ≡ true }
+    {
+        KeyValues {
+            problem,
+            name: cpit.name().as_str().as_bytes(),
+            blocks: cpit.values().len(),
+            periods: cpit.periods(),
+            destinations: 1,
+            resources: cpit.resources(),
+            rate: cpit.rate(),
+        }
+    }
+}
+
+/// Appends the lines of these keys.
+pub fn put_keys(
     alloc: Global,
     out: &mut Vec<u8>,
-    instance: &Instance<P>,
+    values: &KeyValues,
+    keys: &[HeaderKey],
 ) -> Result<(), AllocError>
-    ensures { OnOk result (out.new.items ≡ out.old.items
-        ++ text_of (pcpsp_keys instance.now.periods instance.now.destinations instance.now.resources
-        instance.now.rate)) }
-{
-    put_counts(out, instance)?;
-    put_key(out, b"NGENERAL_SIDE_CONSTRAINTS:", b"0")?;
-    put_decimal_key(alloc, out, b"DISCOUNT_RATE:", instance.rate)
-}
-
-fn put_counts<P>(out: &mut Vec<u8>, instance: &Instance<P>) -> Result<(), AllocError>
-    ensures { OnOk result (out.new.items ≡ out.old.items
-        ++ text_of (count_keys instance.now.periods instance.now.destinations
-        instance.now.resources)) }
-{
-    put_small(out, b"NPERIODS:", instance.periods)?;
-    put_small(out, b"NDESTINATIONS:", instance.destinations)?;
-    put_small(out, b"NRESOURCE_SIDE_CONSTRAINTS:", instance.resources)
-}
-
-/// Appends the further key lines of the constrained pit limit problem.
-pub fn put_cpit_keys(alloc: Global, out: &mut Vec<u8>, cpit: &Cpit) -> Result<(), AllocError>
-    ensures { OnOk result (out.new.items ≡ out.old.items
-        ++ text_of (cpit_keys cpit.now.periods cpit.now.resources cpit.now.rate)) }
-{
-    put_small(out, b"NPERIODS:", cpit.periods())?;
-    put_small(out, b"NRESOURCE_SIDE_CONSTRAINTS:", cpit.resources())?;
-    put_decimal_key(alloc, out, b"DISCOUNT_RATE:", cpit.rate())
-}
-
-fn put_key(out: &mut Vec<u8>, key: &[u8], value: &[u8]) -> Result<(), AllocError>
     ensures { OnOk result (out.new.items
-        ≡ out.old.items ++ (key_line key.now value.now ++ 10 ∷ [])) }
+        ≡ out.old.items ++ text_of (key_lines (value_in values.now) keys.now)) }
 {
-    put_text(out, key, b' ')?;
-    put_text(out, value, b'\n')
+    for key in keys {
+        put_key(alloc, out, values, *key)?;
+    }
+    Ok(())
 }
 
-fn put_count(out: &mut Vec<u8>, key: &[u8], count: u64) -> Result<(), AllocError>
-    ensures { OnOk result (out.new.items
-        ≡ out.old.items ++ (key_line key.now (decimal count) ++ 10 ∷ [])) }
-{
-    put_text(out, key, b' ')?;
-    put_whole_to(out, count, b'\n')
-}
-
-fn put_decimal_key(
+fn put_key(
     alloc: Global,
     out: &mut Vec<u8>,
-    key: &[u8],
-    number: Dec,
+    values: &KeyValues,
+    key: HeaderKey,
 ) -> Result<(), AllocError>
     ensures { OnOk result (out.new.items
-        ≡ out.old.items ++ (key_line key.now (shortest number) ++ 10 ∷ [])) }
+        ≡ out.old.items ++ (key_line key (value_in values.now key) ++ 10 ∷ [])) }
 {
-    put_text(out, key, b' ')?;
-    put_decimal_to(alloc, out, number, b'\n')
+    put_text(out, key.word(), b':')?;
+    out.push(b' ')?;
+    put_value(alloc, out, values, key)
 }
 
-fn put_small(out: &mut Vec<u8>, key: &[u8], count: u8) -> Result<(), AllocError>
+// Appends the value of a key.
+#[tactic(auto, using(crate::proofs::FieldsWritten::whole_written))]
+fn put_value(
+    alloc: Global,
+    out: &mut Vec<u8>,
+    values: &KeyValues,
+    key: HeaderKey,
+) -> Result<(), AllocError>
     ensures { OnOk result (out.new.items
-        ≡ out.old.items ++ (key_line key.now (decimal count) ++ 10 ∷ [])) }
+        ≡ out.old.items ++ (written_value (value_in values.now key) ++ 10 ∷ [])) }
 {
-    put_count(out, key, u64::from(count))
+    match key {
+        HeaderKey::Name => put_text(out, values.name, b'\n'),
+        HeaderKey::Type => put_text(out, values.problem, b'\n'),
+        HeaderKey::Blocks => put_whole_to(out, values.blocks as u64, b'\n'),
+        HeaderKey::Periods => put_whole_to(out, u64::from(values.periods), b'\n'),
+        HeaderKey::Destinations => put_whole_to(out, u64::from(values.destinations), b'\n'),
+        HeaderKey::Resources => put_whole_to(out, u64::from(values.resources), b'\n'),
+        HeaderKey::General => put_whole_to(out, 0, b'\n'),
+        HeaderKey::Rate => put_decimal_to(alloc, out, values.rate, b'\n'),
+    }
 }

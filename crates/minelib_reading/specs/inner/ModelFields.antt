@@ -4,8 +4,8 @@ use Rattle.minelib_reading.specs.HeaderKeys.{count_in}
 use Rattle.minelib_reading.specs.ModelLines.{ModelDraftView, is_heading}
 use Rattle.minelib_reading.specs.declared.model_draft.ModelDraft.TheInside.{Inside}
 use Rattle.minelib_reading.specs.inner.ModelParts.{number_limit}
-use Rattle.minelib_reading.specs.declared.model_key.HeaderKey.{HeaderKey}
-use Rattle.minelib_reading.specs.declared.model_key.HeaderKey.TheVariants as key
+use Rattle.minelib_lines.specs.declared.header_key.HeaderKey.{HeaderKey}
+use Rattle.minelib_lines.specs.declared.header_key.HeaderKey.TheVariants as key
 use Rattle.pit_parts.specs.declared.ranges.TheConstants.{MAX_BLOCKS}
 
 abbrev pub draft_of : Inside → ModelDraftView

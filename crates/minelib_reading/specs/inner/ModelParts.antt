@@ -12,8 +12,8 @@ use Rattle.minelib_reading.specs.ItemForms.{coef_form, coef_said, limit_form, li
 use Rattle.minelib_reading.specs.KeyFields.{field_of}
 use Rattle.text_lines.specs.LineKinds.{text_kind, text_kinds}
 use Rattle.minelib_reading.specs.ModelLines.{ModelDraftView, model_line}
-use Rattle.minelib_reading.specs.declared.model_key.HeaderKey.{HeaderKey}
-use Rattle.minelib_reading.specs.declared.model_key.HeaderKey.TheVariants as key
+use Rattle.minelib_lines.specs.declared.header_key.HeaderKey.{HeaderKey}
+use Rattle.minelib_lines.specs.declared.header_key.HeaderKey.TheVariants as key
 use Rattle.minelib_lines.specs.declared.problem.Problem.{Problem}
 use Rattle.text_lines.specs.declared.text_fault.TextKind.{TextKind}
 use Rattle.text_lines.specs.declared.text_fault.TextKind.TheVariants.{Fields, Order, Count}

@@ -2,7 +2,7 @@ use Rattle.std.proofs.Common.{◌≡◌, true, length}
 use Rattle.std.proofs.lemmas.List.Elements.{All-nil}
 use Rattle.minelib_reading.specs.HeaderKeys.{count_in, with_key}
 use Rattle.minelib_reading.specs.ModelLines.{is_heading}
-use Rattle.minelib_reading.specs.declared.model_key.HeaderKey.TheVariants as key
+use Rattle.minelib_lines.specs.declared.header_key.HeaderKey.TheVariants as key
 use Rattle.minelib_reading.proofs.HeaderFacts.{numbers_below}
 use Rattle.minelib_reading.proofs.model_draft.ModelDraft.admit_header.Goals as goal
 

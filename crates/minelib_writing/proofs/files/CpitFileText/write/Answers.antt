@@ -1,39 +1,39 @@
-use Rattle.std.proofs.Common.{◌++◌, length}
-use Rattle.std.specs.Prelude.{codes}
+use Rattle.std.proofs.Common.{length}
 use Rattle.std.proofs.lemmas.Result.{MatchResult-weaker}
 use Rattle.minelib_lines.specs.Kept.{IsInDecimalRange, HasDecimals}
+use Rattle.minelib_lines.specs.KeyWords.{keys_of, type_text}
+use Rattle.minelib_lines.specs.LineValues.{header_of_cpit, key_value}
 use Rattle.minelib_lines.specs.Lines.{text_of, lines_from}
-use Rattle.minelib_writing.specs.Written.{text_cpit, problem_keys, cpit_keys, section_lines, cpit_value_fields, cpit_coef_fields, limit_fields}
+use Rattle.minelib_writing.specs.Written.{text_cpit, key_lines, section_lines, cpit_value_fields, cpit_coef_fields, limit_fields}
+use Rattle.minelib_lines.specs.declared.problem.Problem.TheVariants.{Cpit}
 use Rattle.minelib_writing.proofs.KeptFacts.{kept_all, on_ok_three}
 use Rattle.minelib_writing.proofs.LineFacts.{length-lines_from}
-use Rattle.minelib_writing.proofs.SectionsWritten.{buffered, goes_on, lines_then}
+use Rattle.minelib_writing.proofs.SectionsWritten.{buffered, goes_on}
 use Rattle.minelib_writing.proofs.files.CpitFileText.write.Goals as goal
 
 pub returns : goal.returns
 unfolding text_cpit
 returns g c =
     let i = c.args.self.now.cpit.now in
-    let keys = problem_keys i.name (codes "CPIT") (length i.values) in
-    let more = cpit_keys i.periods i.resources i.rate in
+    let keys = key_lines (key_value (type_text Cpit) (length i.values) (header_of_cpit i)) (keys_of Cpit) in
     let limits = lines_from limit_fields 0 i.limits in
     let sections = section_lines (lines_from cpit_value_fields 0 i.values) (lines_from cpit_coef_fields 0 i.coefs) limits in
-    let first = buffered (text_of keys) (rw (c.name.ensures, c.values.ensures.value) at c.in_ok-put_problem.ensures.text) in
-    let both = lines_then keys more first (buffered (text_of more) c.in_ok-put_cpit_keys.ensures) in
-    let whole = goes_on _ _ (keys ++ more) sections c.write_sections.result both
-    (rw (c.values-2.ensures.value, c.coefs.ensures.value, c.limits.ensures.value) at c.write_sections.ensures.writes) in
+    let first = buffered (text_of keys) (rw (c.of_cpit.ensures.values, c.type_text.ensures, c.keys.ensures) at c.in_ok-put_keys.ensures) in
+    let whole = goes_on _ _ keys sections c.write_sections.result first
+    (rw (c.values.ensures.value, c.coefs.ensures.value, c.limits.ensures.value) at c.write_sections.ensures.writes) in
     record {
       written = MatchResult-weaker c.write_sections.result whole (λ _ is. is) (λ _ _. tt);
       refused = MatchResult-weaker c.write_sections.result whole (λ _ _. tt) (λ _ is. is);
       kept = on_ok_three c.write_sections.result
           (λ values coefs limits. (
             record {
-              name = rw c.name.ensures at c.in_ok-put_problem.ensures.kept;
+              name = c.of_cpit.ensures.kept;
               values = kept_all (λ v. IsInDecimalRange v) i.values _ (length-lines_from cpit_value_fields 0 i.values) values;
               coefs = kept_all (λ c. IsInDecimalRange c.v) i.coefs _ (length-lines_from cpit_coef_fields 0 i.coefs) coefs;
               limits = kept_all (λ l. HasDecimals l.bound) i.limits _ (length-lines_from limit_fields 0 i.limits) limits;
             },
             c.values.ensures.kept,
           ))
-          (rw c.values-2.ensures.value at c.write_sections.ensures.values) (rw c.coefs.ensures.value at c.write_sections.ensures.coefs)
+          (rw c.values.ensures.value at c.write_sections.ensures.values) (rw c.coefs.ensures.value at c.write_sections.ensures.coefs)
           (rw c.limits.ensures.value at c.write_sections.ensures.limits);
     }

@@ -1,33 +1,32 @@
-use Rattle.std.proofs.Common.{◌++◌, All, length}
-use Rattle.std.specs.Prelude.{codes}
+use Rattle.std.proofs.Common.{All, length}
 use Rattle.std.proofs.lemmas.Result.{MatchResult-weaker}
 use Rattle.minelib_lines.specs.Kept.{IsInDecimalRange, HasDecimals}
+use Rattle.minelib_lines.specs.KeyWords.{keys_of, type_text}
+use Rattle.minelib_lines.specs.LineValues.{header_of, key_value}
 use Rattle.minelib_lines.specs.Lines.{text_of, lines_from}
-use Rattle.minelib_writing.specs.Written.{text_pcpsp, problem_keys, pcpsp_keys, section_lines, value_fields, coef_fields, limit_fields}
+use Rattle.minelib_writing.specs.Written.{text_pcpsp, key_lines, section_lines, value_fields, coef_fields, limit_fields}
 use Rattle.minelib_lines.specs.declared.problem.Problem.TheVariants.{Pcpsp}
 use Rattle.minelib_writing.proofs.KeptFacts.{kept_all, on_ok_three}
 use Rattle.minelib_writing.proofs.LineFacts.{length-lines_from}
-use Rattle.minelib_writing.proofs.SectionsWritten.{buffered, goes_on, lines_then}
+use Rattle.minelib_writing.proofs.SectionsWritten.{buffered, goes_on}
 use Rattle.minelib_writing.proofs.files.PcpspFileText.write.Goals as goal
 
 pub returns : goal.returns
 unfolding text_pcpsp
 returns g c =
     let i = c.args.self.now.instance.now in
-    let keys = problem_keys i.name (codes "PCPSP") (length i.blocks) in
-    let more = pcpsp_keys i.periods i.destinations i.resources i.rate in
+    let keys = key_lines (key_value (type_text Pcpsp) (length i.blocks) (header_of i)) (keys_of Pcpsp) in
     let limits = lines_from limit_fields 0 i.limits in
     let sections = section_lines (lines_from value_fields 0 i.values) (lines_from (coef_fields Pcpsp) 0 i.coefs) limits in
-    let first = buffered (text_of keys) (rw c.blocks_len.ensures at c.in_ok-put_problem.ensures.text) in
-    let both = lines_then keys more first (buffered (text_of more) c.in_ok-put_pcpsp_keys.ensures) in
-    let whole = goes_on _ _ (keys ++ more) sections c.write_sections.result both
+    let first = buffered (text_of keys) (rw (c.of_instance.ensures.values, c.type_text.ensures, c.keys.ensures) at c.in_ok-put_keys.ensures) in
+    let whole = goes_on _ _ keys sections c.write_sections.result first
     (rw c.as_slice.ensures at c.write_sections.ensures.writes) in
     record {
       written = MatchResult-weaker c.write_sections.result whole (λ _ is. is) (λ _ _. tt);
       refused = MatchResult-weaker c.write_sections.result whole (λ _ _. tt) (λ _ is. is);
       kept = on_ok_three c.write_sections.result
           (λ values coefs limits. record {
-            name = c.in_ok-put_problem.ensures.kept;
+            name = c.of_instance.ensures.kept;
             values = kept_all (λ values. All IsInDecimalRange values) i.values _ (length-lines_from value_fields 0 i.values) values;
             coefs = kept_all (λ c. IsInDecimalRange c.v) i.coefs _ (length-lines_from (coef_fields Pcpsp) 0 i.coefs) coefs;
             limits = kept_all (λ l. HasDecimals l.bound) i.limits _ (length-lines_from limit_fields 0 i.limits) limits;

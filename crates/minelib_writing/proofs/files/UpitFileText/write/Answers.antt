@@ -1,8 +1,10 @@
 use Rattle.std.proofs.Common.{◌∷◌, length}
 use Rattle.std.specs.Prelude.{codes}
 use Rattle.std.proofs.lemmas.Result.{on_ok_weaker, MatchResult-weaker}
+use Rattle.minelib_lines.specs.KeyWords.{upit_keys}
+use Rattle.minelib_lines.specs.LineValues.{header_of, key_value}
 use Rattle.minelib_lines.specs.Lines.{text_of, lines_from}
-use Rattle.minelib_writing.specs.Written.{text_upit, problem_keys, greatest_fields}
+use Rattle.minelib_writing.specs.Written.{text_upit, key_lines, greatest_fields}
 use Rattle.minelib_writing.proofs.SectionsWritten.{buffered, goes_on}
 use Rattle.minelib_writing.proofs.files.UpitFileText.write.Goals as goal
 
@@ -10,9 +12,9 @@ pub returns : goal.returns
 unfolding text_upit
 returns g c =
     let i = c.args.self.now.instance.now in
-    let keys = problem_keys i.name (codes "UPIT") (length i.blocks) in
+    let keys = key_lines (key_value (codes "UPIT") (length i.blocks) (header_of i)) upit_keys in
     let values = codes "OBJECTIVE_FUNCTION:" ∷ lines_from greatest_fields 0 i.values in
-    let first = buffered (text_of keys) (rw c.blocks_len.ensures at c.in_ok-put_problem.ensures.text) in
+    let first = buffered (text_of keys) (rw (c.of_instance.ensures.values, c.of_upit.ensures) at c.in_ok-put_keys.ensures) in
     let whole = goes_on _ _ keys values c.write_titled.result first c.write_titled.ensures.writes in
     record {
       written = MatchResult-weaker c.write_titled.result whole (λ _ is. is) (λ _ _. tt);
