@@ -16,6 +16,14 @@ def parser_of(doc):
     return argparse.ArgumentParser(description=doc.split("\n")[0])
 
 
+def with_program(doc):
+    """The same, where the first word is a built pitc."""
+    parser = parser_of(doc)
+    help_of_it = "a built pitc, as crates/pitc/out/pitc, which rt run leaves there"
+    parser.add_argument("program", type=os.path.abspath, help=help_of_it)
+    return parser
+
+
 def read(path):
     with open(path) as file:
         return file.read()

@@ -4,6 +4,9 @@ from typing import NamedTuple, Optional
 
 NAME_BYTES = b"0123456789ABCDEFGHIJKLMNOPQRSTUVWXYZ_abcdefghijklmnopqrstuvwxyz-."
 
+# Of the letters of limits and of others.
+LETTERS = "ABCDEFGHIJKLMNOPQRSTUVWXYZabcdefghijklmnopqrstuvwxyz"
+
 BLANKS = b" \t"
 
 EVERY_BYTE = [bytes([byte]) for byte in range(256)]

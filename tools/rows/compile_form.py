@@ -1,9 +1,9 @@
 """Which files `compile` writes and which it leaves, and what it tells of plans and zone files."""
 from rows.instance import (
     LIMITED, LIMITED_TEXTS, NINE, NINE_TEXTS, NO_BLOCK, ONE_ORE_BLOCK, ORE, PLAN, SAME, TWO_ZONES,
-    at, plain_texts,
+    at, plain_texts, plan_of,
 )
-from rows.trial import HEADER, Folder, Link, Trial, lines, refused
+from rows.trial import Folder, Link, Trial, refused, zone_file
 from shared import ENDINGS
 
 # Files that are longer than what is written in their place.
@@ -13,45 +13,37 @@ OLDER = at("base", dict.fromkeys(ENDINGS, b"a line of an older file\n" * 100))
 MOST = 1_048_576
 
 
-def rows(*cells):
-    """A zone file of these rows."""
-    return HEADER + lines("".join(row + "|" for row in cells))
-
-
-def plan_of(zones):
+def zones(count):
     """The plan of one ore block with so many zones."""
-    return PLAN.replace(b"zone,1,1,1\n", b"zone,1,1,1\n" * zones)
+    return plan_of(cones=["1,1,1"] * count)
 
 
-def padded(size):
-    """The plan of one ore block, with empty lines up to so many bytes."""
-    return PLAN + b"\n" * (size - len(PLAN))
+LATE = [f"{n % 30 * 10},{n // 30 * 10},0,1,0" for n in range(898)]
 
-
-MANY = plan_of(64), *(rows(f"{file * 10},0,0,1,{file}") for file in range(64))
+MANY = zones(64), *(zone_file(f"{file * 10},0,0,1,{file}") for file in range(64))
 
 # The plans and zone files that the words of runs name.
 FILES = {
     "one": PLAN,
-    "two": plan_of(2),
+    "two": zones(2),
     "many": MANY[0],
     "limited": LIMITED[0],
     "nine": NINE[0],
     "same": SAME[0],
-    "longest": padded(MOST),
-    "long": padded(MOST + 1),
+    "longest": PLAN.ljust(MOST, b"\n"),
+    "long": PLAN.ljust(MOST + 1, b"\n"),
     "faulty": b"name,a b\n",
     **dict.fromkeys(["ore", "--ore", "an ore"], ORE),
-    "none": rows(),
-    "waste": rows("10,0,0,1,0"),
+    "none": zone_file(),
+    "waste": zone_file("10,0,0,1,0"),
     "limited_zone": LIMITED[1],
     "nine_zone": NINE[1],
     "same0": SAME[1],
     "same1": SAME[2],
     "empty": b"",
-    "off_grid": rows("5,0,0,1,0"),
-    "late": rows(*(f"{n % 30 * 10},{n // 30 * 10},0,1,0" for n in range(898)), "0,0,0,1,?"),
-    "early": rows("0,0,0,1,?"),
+    "off_grid": zone_file("5,0,0,1,0"),
+    "late": zone_file(*LATE, "0,0,0,1,?"),
+    "early": zone_file("0,0,0,1,?"),
     **{f"many{file}": text for file, text in enumerate(MANY[1:])},
 }
 
@@ -73,30 +65,30 @@ ACCEPTED = [
     ("a zone file with a blank in its name", ["one", "an ore"], b""),
 ]
 
-# What runs tell that are refused, their status, their plan and their other words.
+# What runs tell that are refused, their plan and their other words.
 REFUSED = [
-    ("no plan", "plan: FeedFailed", 3, "no/such/plan ore"),
-    ("a hyphen as a plan", "plan: FeedFailed", 3, "- ore"),
-    ("a folder as a plan", "plan: FeedFailed", 3, ". ore"),
-    ("a plan that is too long", "plan: TooLong", 1, "long ore"),
-    ("a faulty plan", "plan row 1: Name", 1, "faulty ore"),
-    ("a faulty plan, and a file that is not there", "plan row 1: Name", 1, "faulty no/such"),
-    ("plan and zone file turned round", "plan row 1: Key", 1, "ore one"),
-    ("a file that is not there", "file 3: FeedFailed", 3, "one ore ore ore no/such"),
-    ("the first of two that are not there", "file 0: FeedFailed", 3, "one no/such ."),
-    ("a hyphen as a zone file", "file 0: FeedFailed", 3, "one -"),
-    ("a zone file without a name", "file 0: FeedFailed", 3, ["one", ""]),
-    ("too few files", "settings: Files", 2, "two ore"),
-    ("too many files", "settings: Files", 2, "one ore ore"),
-    ("a folder as a zone file", "file 0: FeedFailed", 3, "one ."),
-    ("a folder as the second zone file", "file 1: FeedFailed", 3, "two ore ."),
-    ("a folder behind a faulty file", "file 0 row 2 column x: OffGrid", 1, "two off_grid ."),
-    ("empty_file", "file 0 row 1 column x: MissingColumn", 1, "one empty"),
-    ("a row off the grid", "file 1 row 2 column x: OffGrid", 1, "two ore off_grid"),
-    ("same_block_in_two_files", "file 1 row 4 repeats file 0 row 2", 1, "same same0 same1"),
-    ("one file for two zones", "file 1 row 2 repeats file 0 row 2", 1, "two ore ore"),
+    ("no plan", "plan: FeedFailed", "no/such/plan ore"),
+    ("a hyphen as a plan", "plan: FeedFailed", "- ore"),
+    ("a folder as a plan", "plan: FeedFailed", ". ore"),
+    ("a plan that is too long", "plan: TooLong", "long ore"),
+    ("a faulty plan", "plan row 1: Name", "faulty ore"),
+    ("a faulty plan, and a file that is not there", "plan row 1: Name", "faulty no/such"),
+    ("plan and zone file turned round", "plan row 1: Key", "ore one"),
+    ("a file that is not there", "file 3: FeedFailed", "one ore ore ore no/such"),
+    ("the first of two that are not there", "file 0: FeedFailed", "one no/such ."),
+    ("a hyphen as a zone file", "file 0: FeedFailed", "one -"),
+    ("a zone file without a name", "file 0: FeedFailed", ["one", ""]),
+    ("too few files", "settings: Files", "two ore"),
+    ("too many files", "settings: Files", "one ore ore"),
+    ("a folder as a zone file", "file 0: FeedFailed", "one ."),
+    ("a folder as the second zone file", "file 1: FeedFailed", "two ore ."),
+    ("a folder behind a faulty file", "file 0 row 2 column x: OffGrid", "two off_grid ."),
+    ("empty_file", "file 0 row 1 column x: MissingColumn", "one empty"),
+    ("a row off the grid", "file 1 row 2 column x: OffGrid", "two ore off_grid"),
+    ("same_block_in_two_files", "file 1 row 4 repeats file 0 row 2", "same same0 same1"),
+    ("one file for two zones", "file 1 row 2 repeats file 0 row 2", "two ore ore"),
     *(
-        ("late_fault_in_file_0", "file 0 row 900 column grade: Number", 1, f"two {more} late early")
+        ("late_fault_in_file_0", "file 0 row 900 column grade: Number", f"two {more} late early")
         for more in ("--valuers 1", "--valuers 8")
     ),
 ]
@@ -148,18 +140,18 @@ def sinks_that_fail():
             run["files"][f"base.{failing}"] = put
             left = at("base", {ending: ONE_ORE_BLOCK[ending] for ending in ENDINGS[:place]})
             line = f"sink {failing}: SinkFailed"
-            yield refused(f"{name} at the file {failing}", line, 3, left=left, **run)
+            yield refused(f"{name} at the file {failing}", line, left=left, **run)
     for base in ("no/such/base", "ore/base"):
         run = compile_words("one ore", base)
-        yield refused(f"a base in no folder: {base}", "sink blocks: SinkFailed", 3, **run)
+        yield refused(f"a base in no folder: {base}", "sink blocks: SinkFailed", **run)
 
 
 def trials():
     yield from files_that_are_written()
     yield from sinks_that_fail()
-    for name, line, status, words in REFUSED:
-        yield refused(name, line, status, **compile_words(words))
+    for name, line, words in REFUSED:
+        yield refused(name, line, **compile_words(words))
     for row, fault in FAULTY_ROWS:
         run = compile_words("one odd")
-        run["files"]["odd"] = rows(row)
+        run["files"]["odd"] = zone_file(row)
         yield refused(f"the row {row}", f"file 0 row 2 column {fault}", **run)

@@ -1,6 +1,7 @@
 """Runs a built pitc on a row, in a folder of its own."""
 import os
 import subprocess
+import sys
 import tempfile
 from typing import NamedTuple
 
@@ -25,6 +26,11 @@ def put(path, content):
     else:
         with open(path, "wb") as file:
             file.write(content)
+
+
+def put_all(folder, files):
+    for name, content in files.items():
+        put(os.path.join(folder, name), content)
 
 
 def found(path):
@@ -52,8 +58,7 @@ def run(program, words, trial, folder, **how):
 def answer(program, trial, **how):
     """What a row's run answers and leaves, behind the runs before it."""
     with tempfile.TemporaryDirectory() as folder:
-        for name, content in trial.files.items():
-            put(os.path.join(folder, name), content)
+        put_all(folder, trial.files)
         for words in [*trial.before, trial.words]:
             ran = run(program, words, trial, folder, **how)
             if ran.returncode != 0:
@@ -62,6 +67,17 @@ def answer(program, trial, **how):
     return Answer(ran.returncode, ran.stdout, ran.stderr, files)
 
 
-def differences(program, trial):
+def differences(program, trial, **how):
     """What a row's run answered or left that it should not have."""
-    return list(trial.differences(*answer(program, trial)))
+    return list(trial.differences(*answer(program, trial, **how)))
+
+
+def compared(told_by, rows):
+    """Tells of each row that differs, by its name and differences; how many do, and do not."""
+    wrong = right = 0
+    for name, differ in rows:
+        if differ:
+            print(f"{told_by}: {name}: {'; '.join(differ)}", file=sys.stderr)
+        wrong += bool(differ)
+        right += not differ
+    return wrong, right

@@ -1,7 +1,7 @@
 """Inputs and texts that several tables have."""
 import plain
-from rows.trial import lines
-from shared import ENDINGS, model
+from rows.trial import ANY, Trial, lines
+from shared import ENDINGS, compile_words, model
 
 
 def input_of(path):
@@ -12,6 +12,20 @@ def input_of(path):
 
 # One ore block under a mill.
 PLAN, ORE = input_of("crates/pitc/stdin")
+
+CUBES = "0,0,0,10,10,10"
+MILL = "mill,mill,900,600,1500|"
+ONE_PERIOD = "periods,1|rate,0.1|"
+
+
+def plan_of(destinations=MILL, cones=("1,1,1",), name="one", grid=CUBES, rest=ONE_PERIOD):
+    """A plan of these records, with a zone for each cone; what is not given is as in `PLAN`."""
+    zones = "".join(f"zone,{cone}|" for cone in cones)
+    return lines(f"name,{name}|grid,{grid}|{zones}{destinations}{rest}")
+
+
+# A plan under which all is waste.
+WASTE = plan_of("dump,dump,200|", name="waste")
 
 
 def instance(blocks, prec, worths, name="one"):
@@ -53,6 +67,24 @@ def sections(texts):
 def at(base, texts):
     """The files of texts at a base."""
     return {f"{base}.{ending}": text for ending, text in texts.items()}
+
+
+def unlisted(first, behind):
+    """The lines of a precedence file of blocks that have none above them."""
+    return "".join(f"{block} 0|" for block in range(first, behind))
+
+
+def arcs_of(name, counts, plan, *zones):
+    """What `check` counts of the files that `compile` writes of a plan and its zone files."""
+    files = {f"zone{number}": text for number, text in enumerate(zones)}
+    return Trial(
+        name,
+        files={"plan": plan, **files},
+        before=[compile_words("plan", "b", files)],
+        words=["check", "b"],
+        out=lines(counts + "|"),
+        left=at("b", dict.fromkeys(ENDINGS, ANY)),
+    )
 
 
 LIMITED = input_of("tools/models/limits_and_coefficients.txt")

@@ -3,25 +3,24 @@
 What they answer with ample memory is in other tables. Where a run of `compile` may write there are
 files before it.
 """
-from rows.compile_form import rows
-from rows.instance import LIMITED, ORE, PLAN, SAME, at, plain_texts
-from rows.trial import Trial, lines, piped
+from rows.instance import LIMITED, MILL, ORE, PLAN, SAME, at, plain_texts, plan_of
+from rows.trial import Trial, piped, zone_file
 from shared import ENDINGS, compile_words
 
-LEACH = lines(
-    "name,one|grid,0,0,0,10,10,10|zone,1,1,1|zone,1,1,1|"
-    "mill,mill,900,600,1500|leach,heap,600,100,1,300,2.5,450|dump,dump,200|periods,2|rate,0.1|"
-    "resource,plant,mill|limit,plant,1,I,0,900|limit,plant,0,L,500.5|"
+LEACH = plan_of(
+    MILL + "leach,heap,600,100,1,300,2.5,450|dump,dump,200|",
+    cones=["1,1,1"] * 2,
+    rest="periods,2|rate,0.1|resource,plant,mill|limit,plant,1,I,0,900|limit,plant,0,L,500.5|",
 )
-GOOD = LEACH, rows("0,0,0,1000,5000", "10,0,0,0,7"), rows("0,0,10,1,0", "10,0,10,1,0")
+GOOD = LEACH, zone_file("0,0,0,1000,5000", "10,0,0,0,7"), zone_file("0,0,10,1,0", "10,0,10,1,0")
 
 ONE = "one_ore_block", (PLAN, ORE)
 
 # Plans and their zone files, and whether what is written of them is checked too.
 MODELS = [
     ("good", GOOD, True),
-    ("same", (LEACH, rows("0,0,0,1,0"), rows("10,0,0,1,0", "0,0,0,1,0")), False),
-    ("faulty", (LEACH, rows("0,0,0,1,0"), rows("10,0,0,1,?")), False),
+    ("same", (LEACH, zone_file("0,0,0,1,0"), zone_file("10,0,0,1,0", "0,0,0,1,0")), False),
+    ("faulty", (LEACH, zone_file("0,0,0,1,0"), zone_file("10,0,0,1,?")), False),
     (*ONE, True),
     ("same_block_in_two_files", SAME, False),
     ("limits_and_coefficients", LIMITED, True),

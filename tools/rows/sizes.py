@@ -2,9 +2,10 @@
 
 Each row takes up to some seconds and some hundred megabytes, so they run one after the other.
 """
-from rows.instance import at, instance, plain_texts, sections
-from rows.trial import ANY, HEADER, Trial, lines, piped, refused
-from shared import ENDINGS
+from rows import instance
+from rows.instance import arcs_of, at, plain_texts, sections, unlisted
+from rows.trial import HEADER, Trial, piped, refused
+from shared import ENDINGS, compile_words
 
 ONE_AT_A_TIME = True
 
@@ -14,20 +15,14 @@ MOST = 268_435_456
 
 def plan_of(zones=1, benches=1):
     """A plan with a dump alone, and so many benches above each block."""
-    zone = f"zone,1,{benches},1|" * zones
-    return lines(f"name,one|grid,0,0,0,1,1,1|{zone}dump,dump,200|periods,1|rate,0.1|")
+    cones = [f"1,{benches},1"] * zones
+    return instance.plan_of("dump,dump,200|", cones, grid="0,0,0,1,1,1")
 
 
 ONE, TWO = plan_of(), plan_of(2)
 
 # A cone that holds all of a bench above.
 FLAT = plan_of(benches=1000)
-
-ONE_BLOCK = instance("0 0 0 0 1 0 0|", "0 0|", [-2])
-
-TWO_BLOCKS = instance("0 0 0 0 1 0 0|1 1 0 0 1 0 0|", "0 0|1 0|", [-2, -2])
-
-OLDER = at("b", dict.fromkeys(ENDINGS, b"older\n"))
 
 
 def bench(z, wide, deep):
@@ -40,21 +35,26 @@ def rows(places):
     return HEADER + "".join("%d,%d,%d,1,0\n" % place for place in places).encode()
 
 
-def block_lines(places):
-    """The lines of a block file of blocks of a tonne."""
-    return "".join("%d %d %d %d 1 0 0|" % (block, *place) for block, place in enumerate(places))
+def texts_of(places, prec):
+    """The texts of blocks of a tonne, with these lines of a precedence file."""
+    blocks = "".join("%d %d %d %d 1 0 0|" % (block, *place) for block, place in enumerate(places))
+    return instance.instance(blocks, prec, [-2] * len(places))
+
+
+ONE_BLOCK, TWO_BLOCKS = texts_of(bench(0, 1, 1), "0 0|"), texts_of(bench(0, 2, 1), "0 0|1 0|")
+
+OLDER = at("b", dict.fromkeys(ENDINGS, b"older\n"))
 
 
 def compiles(*zones):
     """The words of a run into the base `b`."""
-    return ["compile", "--plan", "plan", "--out", "b", *zones]
+    return compile_words("plan", "b", zones)
 
 
 def million_rows():
     """As many rows as a file may have, all of them valued by one valuer, and one more."""
     places = bench(0, 1000, 1000)
-    prec = "".join(f"{block} 0|" for block in range(10**6))
-    left = at("b", instance(block_lines(places), prec, [-2] * 10**6))
+    left = at("b", texts_of(places, unlisted(0, 10**6)))
     words, files = [*compiles("zone"), "--valuers", "1"], {"plan": ONE, "zone": rows(places)}
     yield Trial("a million rows", words=words, files=files, out=b"rows 1000000\n", left=left)
     files = {**OLDER, "plan": ONE, "zone": files["zone"] + b"0,0,1,1,0\n"}
@@ -67,15 +67,9 @@ def two_files():
 
     A block has five predecessors, and one less at each side.
     """
-    files = {"plan": TWO, "low": rows(bench(0, 1000, 1000)), "high": rows(bench(1, 1000, 1000))}
-    return Trial(
-        "two_files_of_a_million_rows",
-        files=files,
-        before=[compiles("low", "high")],
-        words=["check", "b"],
-        out=b"blocks 2000000 arcs 4996000 coefficients 0 limits 0 cpit 0\n",
-        left=at("b", dict.fromkeys(ENDINGS, ANY)),
-    )
+    zones = [rows(bench(z, 1000, 1000)) for z in (0, 1)]
+    counts = "blocks 2000000 arcs 4996000 coefficients 0 limits 0 cpit 0"
+    return arcs_of("two_files_of_a_million_rows", counts, TWO, *zones)
 
 
 def long_text():
@@ -83,36 +77,32 @@ def long_text():
     low, high = bench(0, 200, 100), bench(1, 100, 10)
     count, whole = len(low), len(low + high)
     above = " 1000 " + " ".join(map(str, range(count, whole))) + "|"
-    prec = "".join(f"{block}{above}" for block in range(count))
-    prec += "".join(f"{block} 0|" for block in range(count, whole))
-    texts = instance(block_lines(low + high), prec, [-2] * whole)
-    return Trial("text_of_120_megabytes", given=piped(FLAT, rows(low + high)), out=sections(texts))
+    prec = "".join(f"{block}{above}" for block in range(count)) + unlisted(count, whole)
+    out = sections(texts_of(low + high, prec))
+    return Trial("text_of_120_megabytes", given=piped(FLAT, rows(low + high)), out=out)
 
 
 def long_inputs():
     """A long cell that is not looked at, in an input of the pipe form and in a zone file."""
     head, end = b"x,y,z,tonnes,grade,rock\n0,0,0,1,0,", b"\n1,0,0,1,0,\n"
     for size in (150_000_000, MOST):
-        given = piped(ONE, head)
-        text = given + b"b" * (size - len(given) - len(end)) + end
+        text = piped(ONE, head).ljust(size - len(end), b"b") + end
         yield Trial(f"input of {size} bytes", given=text, out=sections(TWO_BLOCKS))
-        text = head + b"b" * (size - len(head) - len(end)) + end
-        files, left = {"plan": ONE, "z": text}, at("b", TWO_BLOCKS)
-        name, words = f"zone file of {size} bytes", compiles("z")
-        yield Trial(name, words=words, files=files, out=b"rows 2\n", left=left)
+        files = {"plan": ONE, "z": head.ljust(size - len(end), b"b") + end}
+        name, left = f"zone file of {size} bytes", at("b", TWO_BLOCKS)
+        yield Trial(name, words=compiles("z"), files=files, out=b"rows 2\n", left=left)
 
 
 def too_long():
     """Files of zeros, of as many bytes as there may be, and of one more."""
     files = {"input": bytes(MOST)}
     yield refused("the longest input", "plan: TooLong", source="input", files=files)
-    long = bytes(MOST + 1)
-    files = {"input": long}
+    files = {"input": bytes(MOST + 1)}
     yield refused("an input that is too long", "input: TooLong", source="input", files=files)
-    files = {**OLDER, "plan": TWO, "ore": rows(bench(0, 1, 1)), "long": long}
+    files = {**OLDER, "plan": TWO, "ore": rows(bench(0, 1, 1)), "long": files["input"]}
     words = compiles("ore", "long")
     yield refused("a zone file that is too long", "file 1: TooLong", words=words, files=files)
-    files = at("b", {**ONE_BLOCK, "blocks": long})
+    files = at("b", {**ONE_BLOCK, "blocks": files["long"]})
     name = "a block file longer than a zone file may be"
     yield refused(name, "blocks line 1: Fields", words=["check", "b"], files=files)
 
@@ -130,15 +120,15 @@ def many_words():
     """As many zone files as a plan may name, without a number of valuers, and more words."""
     zones = {f"z{zone}": rows([(zone, 0, 0)]) for zone in range(64)}
     files, names = {"plan": plan_of(64), **zones}, list(zones)
-    left = at("b", plain_texts(plan_of(64), *zones.values()))
+    left = at("b", plain_texts(*files.values()))
     name = "sixty_four_files by as many valuers as are not asked for"
     yield Trial(name, words=compiles(*names), files=files, out=b"rows 64\n", left=left)
     for count in (90, 300):
         words = compiles(*(names[zone % 64] for zone in range(count)))
         name = f"{count} zone files for 64 zones"
-        yield refused(name, "settings: Files", 2, words=words, files=files)
+        yield refused(name, "settings: Files", words=words, files=files)
         name, words = f"{count} zone files and one that is not there", [*words, "none"]
-        yield refused(name, f"file {count}: FeedFailed", 3, words=words, files=files)
+        yield refused(name, f"file {count}: FeedFailed", words=words, files=files)
 
 
 def trials():

@@ -5,6 +5,9 @@ from typing import Mapping, NamedTuple, Sequence, Union
 
 HEADER = b"x,y,z,tonnes,grade\n"
 
+# A byte order mark.
+MARK = b"\xEF\xBB\xBF"
+
 
 class Part(NamedTuple):
     """Any text that has this one in it."""
@@ -107,11 +110,21 @@ def lines(text):
     return text.replace("|", "\n").encode()
 
 
+def zone_file(*rows):
+    """A zone file of these rows."""
+    return HEADER + lines("".join(row + "|" for row in rows))
+
+
 def piped(plan, *zones):
     """The input of the pipe form: a plan and zone files, each but the last with its line end."""
     return b"--\n".join([plan, *zones])
 
 
-def refused(name, line, status=1, **given):
-    """A run that is refused with this line, and prints nothing."""
+def refused(name, line, **given):
+    """A run that is refused with this line and the status of its kind, and prints nothing."""
+    status = 1
+    if line.startswith(("command line: ", "settings: ")):
+        status = 2
+    elif line.endswith((": FeedFailed", ": SinkFailed")):
+        status = 3
     return Trial(name, status, errors=f"pitc: {line}\n".encode(), **given)

@@ -75,4 +75,4 @@ def trials():
         yield Trial(words, 2, words=words.split(), files=FILES, errors=Front(b"error: "))
     for words in NOT_UTF8:
         name = f"words that are not UTF-8: {words}"
-        yield refused(name, "command line: NotUtf8", 2, words=words.split(), files=FILES)
+        yield refused(name, "command line: NotUtf8", words=words.split(), files=FILES)
