@@ -3,9 +3,9 @@
 #
 #     . "$(dirname "$0")/shared.sh"
 
-# Ends with a message. `case_name` is what is being tried, where a script tries several things.
+# Ends with a message.
 fail() {
-    echo "tools/${0##*/}: ${case_name:+$case_name: }$1" >&2
+    echo "tools/${0##*/}: $1" >&2
     exit 1
 }
 
@@ -24,6 +24,7 @@ begin() {
         echo "tools/${0##*/}: give a built pitc, as crates/pitc/out/pitc, which rt run leaves there" >&2
         exit 2
     fi
+    # shellcheck disable=SC2034
     program=$(cd "$(dirname "$1")" && pwd)/$(basename "$1")
     # shellcheck disable=SC2034
     top=$(cd "$(dirname "$0")/.." && pwd) || exit 2
