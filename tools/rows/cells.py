@@ -1,4 +1,5 @@
-"""What cells and fields may hold: the spellings of a number at both ends of its range and past them, and each byte in a name."""
+"""What cells and fields may hold: the spellings of a number at both ends of its range and past
+them, and each byte in a name."""
 import itertools
 from typing import NamedTuple, Optional
 
@@ -13,9 +14,11 @@ EVERY_BYTE = [bytes([byte]) for byte in range(256)]
 
 
 class Cell(NamedTuple):
-    """A cell or a field of a record or a line: one that is good, and the decimals, the least and the greatest number that it may hold.
+    """A cell or a field of a record or a line: one that is good, and the decimals, the least and
+    the greatest number that it may hold.
 
-    The two ends count the last of these decimals. A cell without them holds a name, or a word that stays as it is.
+    The two ends count the last of these decimals. A cell without them holds a name, or a word that
+    stays as it is.
     """
 
     good: str
@@ -25,7 +28,7 @@ class Cell(NamedTuple):
     stays: bool = False
 
     def faults(self):
-        """Texts that are refused, and their kinds: that which is looked for first, and that which is looked for last."""
+        """Texts that are refused, and their kinds: what is looked for first, and what last."""
         if self.stays:
             return []
         if self.decimals is None:
@@ -33,7 +36,7 @@ class Cell(NamedTuple):
         return [("x", "Number"), (spelled(self.greatest + 1, self.decimals), "Range")]
 
     def spellings(self):
-        """Spellings of numbers, each with its number, or else with None and the kind of its fault; of a name nothing."""
+        """Spellings of numbers, each with its number, or with None and the kind of its fault."""
         least, greatest, decimals = self.least, self.greatest, self.decimals
         if decimals is None:
             return
@@ -52,12 +55,13 @@ class Cell(NamedTuple):
         for number in sorted({least - 1, least, max(0, least), greatest, greatest + 1}):
             yield spelled(number, decimals) + point + "1", None, "TooFine"
         yield spelled(greatest, decimals) + point + "0000001", None, "TooFine"
-        for text in ["x", "1e0", "-", spelled(least, decimals) + point + "1x", spelled(greatest + 1, decimals) + "x"]:
+        digits = [spelled(least, decimals) + point + "1", spelled(greatest + 1, decimals)]
+        for text in ["x", "1e0", "-", digits[0] + "x", digits[1] + "x"]:
             yield text, None, "Number"
 
 
 def spelled(number, decimals, front=""):
-    """A number that counts the last of so many decimals, with all of them, and with more digits in front."""
+    """A number that counts the last of so many decimals, with all of them, and these in front."""
     digits = f"{abs(number):0{decimals + 1}d}"
     whole, fraction = (digits[:-decimals], "." + digits[-decimals:]) if decimals else (digits, "")
     return ("-" if number < 0 else "") + front + whole + fraction
@@ -75,14 +79,15 @@ def with_cell(cells, at, text):
 
 
 def pairs_of_faults(cells):
-    """Cells of which two are refused, and the kind of the one on the left, where the two kinds tell which it was."""
-    for left, cell in enumerate(cells):
-        for right in range(left + 1, len(cells)):
-            for (text, kind), (other, other_kind) in itertools.product(cell.faults(), cells[right].faults()):
-                if kind != other_kind:
-                    both = with_cell(cells, left, text)
-                    both[right] = other
-                    yield both, kind
+    """Cells of which two are refused, and the kind of the one on the left, where the two kinds tell
+    which it was."""
+    for left, right in itertools.combinations(range(len(cells)), 2):
+        pairs = itertools.product(cells[left].faults(), cells[right].faults())
+        for (text, kind), (other, other_kind) in pairs:
+            if kind != other_kind:
+                both = with_cell(cells, left, text)
+                both[right] = other
+                yield both, kind
 
 
 def bytes_about_a_name():

@@ -1,6 +1,6 @@
 """Inputs and texts that several tables have."""
 import plain
-from rows.trial import ANY, Trial, lines
+from rows.trial import ANY, MARK, Trial, lines
 from shared import ENDINGS, compile_words, model
 
 
@@ -10,8 +10,9 @@ def input_of(path):
     return plan.encode(), *(zone.encode() for zone in zones)
 
 
-# One ore block under a mill.
+# One ore block under a mill, and its zone file in another spelling.
 PLAN, ORE = input_of("crates/pitc/stdin")
+OTHER_ORE = MARK + b'"grade",Z,rock,y,X,tonnes\r\n" 5000 ",0,"ox, hard",0,0,1000.000\r\n'
 
 CUBES = "0,0,0,10,10,10"
 MILL = "mill,mill,900,600,1500|"

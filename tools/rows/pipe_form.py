@@ -6,11 +6,13 @@ precedence files.
 """
 import itertools
 
-from rows.instance import MILL, ONE_ORE_BLOCK, ONE_PERIOD, WASTE, plan_of, sections
+from rows.instance import MILL, ONE_ORE_BLOCK, OTHER_ORE, WASTE, plan_of, sections
 from rows.trial import HEADER, MARK, Part, Trial, lines, piped, refused, zone_file
 
-LIMITS = "periods,2|rate,0.1|resource,plant,mill|limit,plant,1,I,0,900|limit,plant,0,L,500.5|"
-
+LIMITED = plan_of(
+    MILL + "dump,dump,200|",
+    rest="periods,2|rate,0.1|resource,plant,mill|limit,plant,1,I,0,900|limit,plant,0,L,500.5|",
+)
 LEACH = plan_of("leach,heap,10000000,100,1,300,2.5,450|")
 RICHEST = plan_of("mill,m,1000,100000000,0|")
 
@@ -26,34 +28,19 @@ def dumps(covered):
 
 
 ONE, TWO, THREE = zones(1), zones(2), zones(3)
-
 ORE, ZERO = zone_file("0,0,0,1000,5000"), zone_file("0,0,0,1,0")
 
 NO_RESOURCE = "RESOURCE_CONSTRAINT_COEFFICIENTS:|RESOURCE_CONSTRAINT_LIMITS:|"
+ONE_COEFFICIENT = "RESOURCE_CONSTRAINT_COEFFICIENTS:|0 0 1|RESOURCE_CONSTRAINT_LIMITS:|"
 
 # A name, a plan, the one row of its zone file, and what is printed behind the line of an objective.
 WORTHS = [
     ("heap_leach_bands, at 2.5", LEACH, "0,0,0,1000,2.5", "0 111500|"),
     ("heap_leach_bands, below 2.5", LEACH, "0,0,0,1000,2.499999", "0 73999.97|"),
     ("heap_leach_bands, below 1", LEACH, "0,0,0,1000,0.999999", "0 -1000|"),
-    (
-        "heap_leach_bands, the richest mill",
-        RICHEST,
-        "0,0,0,1000000,1000000",
-        "0 1000000000000000|",
-    ),
-    (
-        "cpit_destinations, waste",
-        plan_of(MILL + "dump,dump,200|", rest=LIMITS),
-        "0,0,0,1000,0",
-        f"0 -2000|{NO_RESOURCE}0 0 L 500.5|",
-    ),
-    (
-        "cpit_destinations, that is covered",
-        dumps("a"),
-        "0,0,0,1,0",
-        "0 -2|RESOURCE_CONSTRAINT_COEFFICIENTS:|0 0 1|RESOURCE_CONSTRAINT_LIMITS:|",
-    ),
+    ("heap_leach_bands, the richest mill", RICHEST, "0,0,0,1000000,1000000", f"0 {10**15}|"),
+    ("cpit_destinations, waste", LIMITED, "0,0,0,1000,0", f"0 -2000|{NO_RESOURCE}0 0 L 500.5|"),
+    ("cpit_destinations, that is covered", dumps("a"), "0,0,0,1,0", "0 -2|" + ONE_COEFFICIENT),
 ]
 
 # A name, an input, and a part of what is printed.
@@ -141,31 +128,13 @@ CUTS = [
     ("a byte order mark before the hyphens", MARK + b"--\n" + ONE, "plan row 1: Key"),
     ("CR behind the hyphens at the end", ONE + b"--\r", "plan row 7: Key"),
     ("CR CR LF behind the hyphens", ONE + b"--\r\r\n", "plan row 7: Key"),
-    (
-        "hyphens at a line's end",
-        piped(ONE, zone_file("0,0,0,1,0--")),
-        "file 0 row 2 column grade: Number",
-    ),
-    (
-        "hyphens at a line's front",
-        piped(ONE, zone_file("--0,0,0,1,0")),
-        "file 0 row 2 column x: Number",
-    ),
     *(
-        (f"the line {line!r}", piped(ONE, zone_file(line)), "file 0 row 2 column whole: Width")
-        for line in ["-", "---", "-- ", " --"]
-    ),
-]
-
-# Inputs of the one ore block in other spellings.
-SPELLINGS = [
-    (
-        "quoted_and_reordered",
-        piped(ONE, MARK + b'"grade",Z,rock,y,X,tonnes\r\n" 5000 ",0,"ox, hard",0,0,1000.000\r\n'),
-    ),
-    (
-        "lines that end in CR LF, and blank ones about a cut",
-        piped(ONE + b"\n", b"\n" + ORE).replace(b"\n", b"\r\n"),
+        (name, piped(ONE, zone_file(line)), "file 0 row 2 column " + fault)
+        for name, line, fault in [
+            ("hyphens at a line's end", "0,0,0,1,0--", "grade: Number"),
+            ("hyphens at a line's front", "--0,0,0,1,0", "x: Number"),
+            *((f"the line {line!r}", line, "whole: Width") for line in ["-", "---", "-- ", " --"]),
+        ]
     ),
 ]
 
@@ -252,8 +221,10 @@ def trials():
     yield from repetitions()
     yield from map(many_coefficients, (1, 2, 4))
     yield from map(many_pieces, (4, 5, 8, 9, 16, 32, 63, 64))
-    for name, given in SPELLINGS:
-        yield Trial(name, given=given, out=sections(ONE_ORE_BLOCK))
+    same = {"out": sections(ONE_ORE_BLOCK)}
+    yield Trial("quoted_and_reordered", given=piped(ONE, OTHER_ORE), **same)
+    crossed = piped(ONE + b"\n", b"\n" + ORE).replace(b"\n", b"\r\n")
+    yield Trial("lines that end in CR LF, and blank ones about a cut", given=crossed, **same)
     for name, given, part in PARTS:
         yield Trial(name, given=given, out=Part(lines(part)))
     for name, given, line in FAULTS + CUTS:

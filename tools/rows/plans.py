@@ -12,43 +12,28 @@ from rows.trial import HEADER, MARK, Part, Trial, lines, piped, refused
 
 TAKEN = None
 
-# The six records that a plan has to have.
+# The six records that a plan has to have, and such in another order, but for a destination.
 SIX = ["name,one", "grid,0,0,0,10,10,10", "zone,1,1,1", "dump,d,1", "periods,1", "rate,0.1"]
-
-# Records in another order, but for a destination.
 IN_TURN = "rate,0|periods,2|{}|zone,1,1,1|grid,0,0,0,10,10,10|name,one"
 
 SIXTY_FOUR_ZONES = "zone,1,1,1|" * 64
-
 DESTINATIONS = ["dump,d,1", "mill,d,1,1,1", "leach,d,1,1,0,1"]
-
 EIGHT_DUMPS = "".join(f"dump,{name},1|" for name in "abcdefgh")
-
 EIGHT_RESOURCES = "dump,d,1|" + "".join(f"resource,{name},d|" for name in "abcdefgh")
-
 LIMITED = "periods,1|dump,d,1|resource,r,d|"
-
 LIMITS = ["limit,r,0,L,2", "limit,r,0,G,2", "limit,r,0,I,2,3"]
-
 SIXTEEN_BANDS = "leach,h,1,1" + "".join(f",{start},0" for start in range(16))
-
 SIXTEEN_OF_THE_MILL = SIXTEEN_BANDS.replace("leach,h", "leach,mill")
 
 # The cells of records, by docs/formats.md: what stands before the record, its key and its cells.
 # Numbers count millimetres, millionths or whole numbers.
-ORIGIN = Cell("0", 3, -(10**12), 10**12)
-SIZE = Cell("10", 3, 1, 100_000)
-SLOPE = Cell("1", 0, 1, 1000)
-BENCHES = Cell("1", 0, 1, 20)
-NAME = Cell("n")
-RECOVERY = Cell("900", 0, 0, 1000)
-PRICE = Cell("600", 0, 0, 10**8)
-COST = Cell("1500", 0, 0, 10**7)
-START = Cell("1", 6, 0, 10**12)
-RATE = Cell("0.1", 6, 0, 10**6)
+ORIGIN, SIZE = Cell("0", 3, -(10**12), 10**12), Cell("10", 3, 1, 100_000)
+SLOPE, BENCHES = Cell("1", 0, 1, 1000), Cell("1", 0, 1, 20)
+RECOVERY, PRICE, COST = Cell("900", 0, 0, 1000), Cell("600", 0, 0, 10**8), Cell("1500", 0, 0, 10**7)
+START, RATE = Cell("1", 6, 0, 10**12), Cell("0.1", 6, 0, 10**6)
+NAME, COVERED, LIMITED_BY = Cell("n"), Cell("d"), Cell("r")
 TONNES = Cell("1", 6, 0, 10**18)
 LEAST, GREATEST = TONNES._replace(good="0"), TONNES._replace(good="1000000000000")
-COVERED, LIMITED_BY = Cell("d"), Cell("r")
 AT_MOST, AT_LEAST, BETWEEN = Cell("L"), Cell("G"), Cell("I", stays=True)
 
 
@@ -265,6 +250,8 @@ TWO_RESOURCES = lines(
     "periods,2|rate,0|name,n|grid,0,0,0,1,1,1|zone,1,1,1|dump,a,1|dump,b,1|"
     "resource,r,b,a|resource,s,a|limit,s,0,G,0.5|limit,r,1,I,0,900|limit,r,0,L,500.5|"
 )
+LIMITS_IN_ORDER = "RESOURCE_CONSTRAINT_LIMITS:|0 0 L 500.5|0 1 I 0 900|1 0 G 0.5|== cpit|"
+MASSES = "RESOURCE_CONSTRAINT_COEFFICIENTS:|0 0 0 1|0 0 1 1|0 1 0 1|RESOURCE_CONSTRAINT_LIMITS:|"
 
 LONGEST = "n" * 64
 
@@ -303,18 +290,8 @@ SHOWN = [
         b"0,0,0,0.001,0\n1,0,0,0.001,100\n",
         "OBJECTIVE_FUNCTION:|0 -0.02 -0.02 -0.01 0|1 -0.01 -0.01 -0.01 0|RESOURCE",
     ),
-    (
-        "limits_in_order",
-        TWO_RESOURCES,
-        b"0,0,0,1,0\n",
-        "RESOURCE_CONSTRAINT_LIMITS:|0 0 L 500.5|0 1 I 0 900|1 0 G 0.5|== cpit|",
-    ),
-    (
-        "covered_destinations",
-        TWO_RESOURCES,
-        b"0,0,0,1,0\n",
-        "RESOURCE_CONSTRAINT_COEFFICIENTS:|0 0 0 1|0 0 1 1|0 1 0 1|RESOURCE_CONSTRAINT_LIMITS:|",
-    ),
+    ("limits_in_order", TWO_RESOURCES, b"0,0,0,1,0\n", LIMITS_IN_ORDER),
+    ("covered_destinations", TWO_RESOURCES, b"0,0,0,1,0\n", MASSES),
     # the worths of three blocks of 1000 t on a leach of two bands: at the second, just below it,
     # and below the first
     (
@@ -324,9 +301,6 @@ SHOWN = [
         "OBJECTIVE_FUNCTION:|0 111500|1 73999.97|2 -1000|== pcpsp|",
     ),
 ]
-
-# All five texts of one block of the waste plan.
-THE_WASTE_PLAN = sections(instance("0 0 0 0 0.001 0 0|", "0 0|", ["-0.01"], "waste"))
 
 
 def told(name, plan, answer):
@@ -341,11 +315,7 @@ def shows(name, plan, rows, part):
 
 def scanned(bands, grade):
     """The recovery of the last band that begins at or below the grade, found by looking at each."""
-    recovery = 0
-    for start, share in bands:
-        if start <= grade:
-            recovery = share
-    return recovery
+    return [0, *(share for start, share in bands if start <= grade)][-1]
 
 
 def at_every_edge(name, bands):
@@ -451,8 +421,9 @@ def trials():
         yield told(name, plan, answer)
     for name, plan, answer in MANY:
         yield told(f"ten_thousand_records: {name}", plan, answer)
+    texts = instance("0 0 0 0 0.001 0 0|", "0 0|", ["-0.01"], "waste")
     given = piped(WASTE, HEADER + b"0,0,0,0.001,0\n")
-    yield Trial("the_waste_plan", given=given, out=THE_WASTE_PLAN)
+    yield Trial("the_waste_plan", given=given, out=sections(texts))
     for cells, row in GRIDS:
         plan, part = small("dump,d,1|", grid=cells), "== blocks|0 1 2 3 1 0 0|== prec|"
         yield shows(f"grids: {cells}", plan, lines(f"{row},1,0|"), part)

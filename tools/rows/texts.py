@@ -48,29 +48,21 @@ def lines_of(text):
 
 
 # Two blocks under a mill and a dump, with a resource and its limits.
-BLOCKS = LIMITED_TEXTS["blocks"]
-
-PREC = b"0 1 1\n1 0\n"
-
+BLOCKS, PREC = LIMITED_TEXTS["blocks"], b"0 1 1\n1 0\n"
 PCPSP, CPIT = (lines_of(LIMITED_TEXTS[ending]) for ending in ("pcpsp", "cpit"))
-
 TWO_BLOCKS = "blocks 2 arcs 1 coefficients 1 limits 2"
 
 # One block under a mill.
 ONE_BLOCK, ONE_PREC = ONE_ORE_BLOCK["blocks"], ONE_ORE_BLOCK["prec"]
-
 ONE_PCPSP = lines_of(ONE_ORE_BLOCK["pcpsp"])
 
 # The texts of no block.
 NO_PCPSP, NO_CPIT = NO_BLOCK["pcpsp"], NO_BLOCK["cpit"]
-
 NO_BLOCKS = "blocks 0 arcs 0 coefficients 0 limits 0"
 
 # The fields of lines, by docs/formats.md: they count kilograms, millionths or whole numbers. Each
 # line is the second of two blocks, or the first of its section. There are two resources.
-INDEX = Cell("0", 0, 0, 9999)
-BLOCK = Cell("1", 0, 0, 1)
-RESOURCE = Cell("0", 0, 0, 1)
+INDEX, BLOCK, RESOURCE = Cell("0", 0, 0, 9999), Cell("1", 0, 0, 1), Cell("0", 0, 0, 1)
 VALUE = Cell("1", 6, -(10**24), 10**24)
 LEAST = VALUE._replace(good="-1000000000000000000")
 GREATEST = VALUE._replace(good="1000000000000000000")
@@ -80,27 +72,21 @@ MASS, GRADE, ZONE = Cell("1", 3, 0, 10**9), Cell("1", 6, 0, 10**12), Cell("0", 0
 # The fields of a line, and the kinds of those numbers in range that stand in the place of the only
 # one which is asked for.
 BLOCK_LINE = [Cell("1", 0, 0, 63_999_999), INDEX, INDEX, INDEX, MASS, GRADE, ZONE], ["Order"]
-
-PREC_LINE = [BLOCK, BLOCK, Cell("0", 0, 0, 1)], ["Order", "Count", "Twice"]
-
+PREC_LINE = [BLOCK, BLOCK, RESOURCE], ["Order", "Count", "Twice"]
 LIMIT_LINES = [
     ([RESOURCE, BLOCK, AT_MOST, VALUE], []),
     ([RESOURCE, BLOCK, AT_LEAST, VALUE], []),
     ([RESOURCE, BLOCK, BETWEEN, LEAST, GREATEST], []),
 ]
 
-# By the number of the line: the second of the objective, and the only one of each other section.
+# By the number of the line: the second of the objective, and the only one of each other section;
+# then those of limits.
 LINES_OF_A_PCPSP = [
     (11, ([BLOCK, VALUE, VALUE], ["Order"])),
     (13, ([BLOCK, BLOCK, RESOURCE, VALUE], [])),
-    *((15, line) for line in LIMIT_LINES),
 ]
 
-LINES_OF_A_CPIT = [
-    (9, ([BLOCK, VALUE], ["Order"])),
-    (11, ([BLOCK, RESOURCE, VALUE], [])),
-    *((13, line) for line in LIMIT_LINES),
-]
+LINES_OF_A_CPIT = [(9, ([BLOCK, VALUE], ["Order"])), (11, ([BLOCK, RESOURCE, VALUE], []))]
 
 # The header keys with a number, where there is no block.
 HEADER_NUMBERS = {
@@ -191,10 +177,10 @@ FAULTS_OF_BLOCKS = [
     ("blocks line 1: Fields", b"0 0 0 0 1000 5000\n", b"0 0 0 0 1000 5000 0 0\n"),
     ("blocks line 2: Order", b"\n1 0 0 0 1000 5000 0\n"),
     ("blocks line 1: Range", b"64000000 0 0 0 1000 5000 0", b"0 10000 0 0 1000 5000 0"),
-    ("blocks line 1: TooFine", b"0 0 0 0 1000.0001 5000 0"),
     ("blocks line 1: Range", b"0 0 0 0 1000000.001 5000 0", b"0 0 0 0 1000 -1 0"),
-    ("blocks line 1: Number", b"0 0 0 0 1000 1e3 0", b"0 x 0 0 1000.0001 5000 64"),
     ("blocks line 1: Range", b"0 0 0 0 1000 5000 64"),
+    ("blocks line 1: TooFine", b"0 0 0 0 1000.0001 5000 0"),
+    ("blocks line 1: Number", b"0 0 0 0 1000 1e3 0", b"0 x 0 0 1000.0001 5000 64"),
     ("prec line 1: Range", b"% none\n \t\n"),
 ]
 
@@ -237,7 +223,6 @@ TEN_BLOCKS = lines(
     "0 1 1 0 1 0 0|1 0 0 1 1 0 0|2 1 0 1 1 0 0|3 2 0 1 1 0 0|4 0 1 1 1 0 0|"
     "5 1 1 1 1 0 0|6 2 1 1 1 0 0|7 0 2 1 1 0 0|8 1 2 1 1 0 0|9 2 2 1 1 0 0|"
 )
-
 NINE_ABOVE = [
     ("prec line 1: Count", b"0 6 2 4 5 6 8\n1 0\n2 0\n"),
     ("prec line 2: Twice", b"0 5 2 4 5 6 8\n1 1 1\n2 0\n"),
@@ -271,13 +256,11 @@ TEXTS_OF_NO_BLOCK = [
 
 # Lines that are skipped, and others, which have one field or none of their own, and no colon.
 SKIPPED = ["", " ", "\t \t", "\r", " \t\r", "%", "% a: b", "  % x", "\t%x\r", "%%"]
-
 NOT_SKIPPED = ["\r\r", "\v", "\f", "#", "//%", "\0", "\r%", ";"]
 
 # By hand: remarks, blank lines, runs of blanks, line ends of two bytes, header keys in another
 # order, a last line without its end.
 HAND_BLOCKS = b"% hand\r\n\n0\t0 0  0 1000.000 5000 0\r\n"
-
 HAND_PCPSP = lines(
     "DISCOUNT_RATE: 0.1|NGENERAL_SIDE_CONSTRAINTS: 0|NRESOURCE_SIDE_CONSTRAINTS: 0|"
     "NDESTINATIONS: 1|NPERIODS: 1|NBLOCKS: 1|TYPE: PCPSP|NAME : one|OBJECTIVE_FUNCTION:|0 12000|"
@@ -289,9 +272,7 @@ SPELLED_BLOCKS = MARK + b"+0 0. 0 .0 01000.0000000 5000 0\n1 1 0 0 -0 7 0"
 
 # Predecessors in no order, and the least and greatest of most numbers.
 EDGE_BLOCKS = b"0 0 0 0 0 0 0\n1 9999 9999 9999 1000000 1000000 63\n2 2 0 0 0 0 0\n"
-
 EDGE_PREC = b"0 2 2 1\n1 0\n2 0\n"
-
 EDGE_PCPSP = lines(
     "NAME: n|TYPE: PCPSP|NBLOCKS: 3|NPERIODS: 100|NDESTINATIONS: 1|NRESOURCE_SIDE_CONSTRAINTS: 8|"
     "NGENERAL_SIDE_CONSTRAINTS: 0|DISCOUNT_RATE: 1|"
@@ -314,30 +295,22 @@ def with_one_pcpsp(text):
 
 
 # Texts that are taken, and their counts.
+HAND = HAND_BLOCKS, b"0 0", HAND_PCPSP
+EDGE = EDGE_BLOCKS, EDGE_PREC, EDGE_PCPSP
+REMARKS = b"% none\n \t\n"
+AT_LEAST_500 = put(13, "0 0 G -500.5").of(CPIT)
+
 TAKEN = [
-    (
-        "hand_made_instance",
-        (HAND_BLOCKS, b"0 0", HAND_PCPSP),
-        "blocks 1 arcs 0 coefficients 0 limits 0",
-    ),
+    ("hand_made_instance", HAND, "blocks 1 arcs 0 coefficients 0 limits 0"),
     ("limits_and_coefficients", (SPELLED_BLOCKS, PREC, whole(PCPSP)), TWO_BLOCKS),
-    (
-        "numbers_at_the_edge",
-        (EDGE_BLOCKS, EDGE_PREC, EDGE_PCPSP),
-        "blocks 3 arcs 2 coefficients 2 limits 2",
-    ),
+    ("numbers_at_the_edge", EDGE, "blocks 3 arcs 2 coefficients 2 limits 2"),
     ("texts_of_no_block: nothing", (b"", b"", NO_PCPSP), NO_BLOCKS),
     ("texts_of_no_block: marks", (MARK, MARK, NO_PCPSP), NO_BLOCKS),
-    ("texts_of_no_block: remarks", (b"% none\n \t\n", b"% none\n \t\n", NO_PCPSP), NO_BLOCKS),
+    ("texts_of_no_block: remarks", (REMARKS, REMARKS, NO_PCPSP), NO_BLOCKS),
     ("texts_of_no_block: a CPIT", (b"", b"", NO_PCPSP, NO_CPIT), NO_BLOCKS + " cpit 0"),
-    *(
-        (f"cpit_destinations{name}", with_cpit(cpit), TWO_BLOCKS + " cpit 1")
-        for name, cpit in [
-            ("", CPIT),
-            (": a lower limit", put(13, "0 0 G -500.5").of(CPIT)),
-            (": no limit", front(12).of(CPIT)),
-        ]
-    ),
+    ("cpit_destinations", with_cpit(CPIT), TWO_BLOCKS + " cpit 1"),
+    ("cpit_destinations: a lower limit", with_cpit(AT_LEAST_500), TWO_BLOCKS + " cpit 1"),
+    ("cpit_destinations: no limit", with_cpit(front(12).of(CPIT)), TWO_BLOCKS + " cpit 1"),
 ]
 
 
@@ -400,19 +373,23 @@ def lines_of_blocks():
 
 
 def lines_of_sections(file, good, lines_of, texts_of, counts):
-    """A line of each section, and the letters of limits."""
+    """A line of each section, of limits a line of each kind and of each letter."""
     for number, line in lines_of:
-        letter = line[0][2] if number == len(good) - 1 else None
-        last = len(good) if letter else number
         def texts_with(text):
-            return texts_of(Change(number - 1, last, [text]).of(good))
+            return texts_of(put(number, text).of(good))
         place = f"{file} line {number}"
-        left = counts.replace("limits 2", "limits 1") if letter and file == "pcpsp" else counts
-        yield from fields_of(place, line, texts_with, left)
-        front = ["?", "?", letter.good] if letter else []
-        yield from widths_of(place, front, [len(line[0])], texts_with)
-        if letter is AT_MOST:
-            yield from letters_of(place, texts_with, left)
+        yield from fields_of(place, line, texts_with, counts)
+        yield from widths_of(place, [], [len(line[0])], texts_with)
+
+    def texts_with_limit(text):
+        return texts_of([*good[:-2], text])
+    place = f"{file} line {len(good) - 1}"
+    one = counts.replace("limits 2", "limits 1") if file == "pcpsp" else counts
+    for line in LIMIT_LINES:
+        yield from fields_of(place, line, texts_with_limit, one)
+        front = ["?", "?", line[0][2].good]
+        yield from widths_of(place, front, [len(line[0])], texts_with_limit)
+    yield from letters_of(place, texts_with_limit, one)
 
 
 def letters_of(place, texts_with, counts):

@@ -5,7 +5,7 @@ import itertools
 from rows.cells import (
     BLANKS, EVERY_BYTE, Cell, pairs_of_faults, quoted, shortest, with_cell,
 )
-from rows.instance import WASTE, plan_of
+from rows.instance import OTHER_ORE, WASTE, plan_of
 from rows.trial import HEADER, MARK, Part, Trial, lines, piped, refused
 
 # Blocks are cubes of a millimetre, the first of them at this place in millimetres.
@@ -35,23 +35,17 @@ NO_COLUMNS = {
 # How often a column stands, by the fault of its header.
 TIMES = {"MissingColumn": 0, "TwiceColumn": 2}
 
-# Headers, and the first column that is missing or stands twice.
+# What is told of a header, and headers of which that is told.
 HEADERS = [
-    ("x,y,z,tonnes,grade,", None),
-    ("x,y,z,tonnes,grade,,,", None),
-    ("x,y,z,,,tonnes,grade,rock,rock", None),
-    (" x\t,\ty , z,tonnes  ,\t\tgrade", None),
-    ("x, x,y,z,tonnes,grade", "x: TwiceColumn"),
-    ("x,y,z,tonnes,grade,grade\t", "grade: TwiceColumn"),
-    ("x,y,z,tonnes,grade,X,X", "x: TwiceColumn"),
-    ("tonnes,y,z,Tonnes,x,grade", "tonnes: TwiceColumn"),
-    ("0,0,0,1,0", "x: MissingColumn"),
-    ("x;y;z;tonnes;grade", "x: MissingColumn"),
-    ("x\ty\tz\ttonnes\tgrade", "x: MissingColumn"),
-    (" ,,,,", "x: MissingColumn"),
+    (None, "x,y,z,tonnes,grade,", "x,y,z,tonnes,grade,,,", "x,y,z,,,tonnes,grade,rock,rock"),
+    (None, " x\t,\ty , z,tonnes  ,\t\tgrade"),
+    ("x: TwiceColumn", "x, x,y,z,tonnes,grade", "x,y,z,tonnes,grade,X,X"),
+    ("grade: TwiceColumn", "x,y,z,tonnes,grade,grade\t"),
+    ("tonnes: TwiceColumn", "tonnes,y,z,Tonnes,x,grade"),
+    ("x: MissingColumn", "0,0,0,1,0", "x;y;z;tonnes;grade", "x\ty\tz\ttonnes\tgrade", " ,,,,"),
 ]
 
-NO_X = "row 1 column x: MissingColumn"
+NO_X, NO_GRADE = "row 1 column x: MissingColumn", "row 1 column grade: MissingColumn"
 
 # A text, and the lines of its blocks or the place and kind of its first fault.
 FILES = [
@@ -59,61 +53,48 @@ FILES = [
     ("empty_file: blank lines", b"\r\n\n", NO_X),
     ("empty_file: a mark", MARK, NO_X),
     ("header_alone", HEADER, ""),
+    ("header_faults: a column is missing", b"x,y,z,tonnes", NO_GRADE),
+    ("header_faults: a part of a name", b"x,y,z,tonnes,grad", NO_GRADE),
     ("header_faults: all but one are missing", b"x", "row 1 column y: MissingColumn"),
     ("header_faults: a column stands twice", b"x,y,X,tonnes", "row 1 column x: TwiceColumn"),
     # One byte order mark is dropped, and no second one.
     ("header_faults: two marks", MARK + MARK + b"x,y,z,tonnes,grade", NO_X),
-    *(
-        (f"header_faults: {name}", text, "row 1 column grade: MissingColumn")
-        for name, text in [
-            ("a column is missing", b"x,y,z,tonnes"),
-            ("a part of a name", b"x,y,z,tonnes,grad"),
-        ]
-    ),
-    (
-        "quoted_and_reordered",
-        MARK + b'"grade",Z,rock,y,X,tonnes\r\n" 5000 ",0,"ox, hard",0,0,1000.000\r\n',
-        "0 0 0 0 1000 5000 0|",
-    ),
+    ("quoted_and_reordered", OTHER_ORE, "0 0 0 0 1000 5000 0|"),
 ]
 
-# Rows below the header, and the line of their block or their fault.
+# What is told of a row below the header, or the line of its block, and rows of which that is told.
 ROWS = {
     "tonnage_spellings": [
-        (b"0,0,0,2500.000000,0", "0 0 0 0 2500 0 0|"),
-        (b"0,0,0,-0,0", "0 0 0 0 0 0 0|"),
-        (b"0,0,0,1000000,0", "0 0 0 0 1000000 0 0|"),
-        (b"0,0,0,2500.0001,0", "row 2 column tonnes: TooFine"),
-        (b"0,0,0,-99,0", "row 2 column tonnes: Range"),
-        (b"0,0,0,1000000.001,0", "row 2 column tonnes: Range"),
-        (b"0,0,0,1e3,0", "row 2 column tonnes: Number"),
-        (b"0,0,0,1000", "row 2 column whole: Width"),
+        ("0 0 0 0 2500 0 0|", b"0,0,0,2500.000000,0"),
+        ("0 0 0 0 0 0 0|", b"0,0,0,-0,0"),
+        ("0 0 0 0 1000000 0 0|", b"0,0,0,1000000,0"),
+        ("row 2 column tonnes: TooFine", b"0,0,0,2500.0001,0"),
+        ("row 2 column tonnes: Range", b"0,0,0,-99,0", b"0,0,0,1000000.001,0"),
+        ("row 2 column tonnes: Number", b"0,0,0,1e3,0"),
+        ("row 2 column whole: Width", b"0,0,0,1000"),
     ],
     "grid_edges": [
-        (b"5,0,0,1,0", "row 2 column x: OffGrid"),
-        (b"-5,0,0,1,0", "row 2 column x: Range"),
-        (b"99990,0,0,1,0", "0 9999 0 0 1 0 0|"),
-        (b"99995,0,0,1,0", "row 2 column x: OffGrid"),
-        (b"100000,0,0,1,0", "row 2 column x: Range"),
-        (b"0,99990,0,1,0", "0 0 9999 0 1 0 0|"),
-        (b"0,0,99990,1,0", "0 0 0 9999 1 0 0|"),
-        (b"0,100000,5,1,0", "row 2 column y: Range"),
-        (b"0,0,100000,x,0", "row 2 column z: Range"),
+        ("row 2 column x: OffGrid", b"5,0,0,1,0", b"99995,0,0,1,0"),
+        ("row 2 column x: Range", b"-5,0,0,1,0", b"100000,0,0,1,0"),
+        ("row 2 column y: Range", b"0,100000,5,1,0"),
+        ("row 2 column z: Range", b"0,0,100000,x,0"),
+        ("0 9999 0 0 1 0 0|", b"99990,0,0,1,0"),
+        ("0 0 9999 0 1 0 0|", b"0,99990,0,1,0"),
+        ("0 0 0 9999 1 0 0|", b"0,0,99990,1,0"),
     ],
     # An empty grade, a row without a line end, bytes that are no text, a quote that is not closed,
     # and cells far longer than any number.
     "zone_texts_at_the_edge": [
-        (b"0,0,0,1000", "row 2 column whole: Width"),
-        (b"0,0,0,1000,", "row 2 column grade: Number"),
-        (b"0,0,0,1000,5", "0 0 0 0 1000 5 0|"),
-        (b"\xFF,0,0,1,0", "row 2 column x: Number"),
-        (b'0,0,0,1,"0\n0,0,0,1,0\n', "row 2 column grade: Number"),
-        (b"1" + b"0" * 100 + b",0,0,1,0", "row 2 column x: Range"),
-        (b"1" + b"0" * 100 + b".0001,0,0,1,0", "row 2 column x: TooFine"),
-        (b"0,0,0,1,1" + b"0" * 100 + b".0001", "row 2 column grade: Range"),
-        (b"0" * 1_000_000 + b",0,0,1,0", "0 0 0 0 1 0 0|"),
-        (b"0,0,0," + b"0" * 1_000_000 + b"7.5,0", "0 0 0 0 7.5 0 0|"),
-        (b"0,0,0,1," + b"9" * 1_000_000, "row 2 column grade: Range"),
+        ("row 2 column whole: Width", b"0,0,0,1000"),
+        ("row 2 column grade: Number", b"0,0,0,1000,", b'0,0,0,1,"0\n0,0,0,1,0\n'),
+        ("0 0 0 0 1000 5 0|", b"0,0,0,1000,5"),
+        ("row 2 column x: Number", b"\xFF,0,0,1,0"),
+        ("row 2 column x: Range", b"1" + b"0" * 100 + b",0,0,1,0"),
+        ("row 2 column x: TooFine", b"1" + b"0" * 100 + b".0001,0,0,1,0"),
+        ("row 2 column grade: Range", b"0,0,0,1,1" + b"0" * 100 + b".0001"),
+        ("row 2 column grade: Range", b"0,0,0,1," + b"9" * 1_000_000),
+        ("0 0 0 0 1 0 0|", b"0" * 1_000_000 + b",0,0,1,0"),
+        ("0 0 0 0 7.5 0 0|", b"0,0,0," + b"0" * 1_000_000 + b"7.5,0"),
     ],
 }
 
@@ -182,17 +163,14 @@ LONG_CELL = b'x,y,z,rock,tonnes,grade\n0,0,0,"%s\n%s",1,2\n10,0,0,b,3,4' % (SEVE
 # As many rows as a file may have, and one more, which is not looked at.
 MOST_ROWS = HEADER + b"0,0,0,1,0\n" * 999_999
 FULL, TOO_MANY = MOST_ROWS + b"0,0,0,1,0\n", "row 1000002 column whole: TooManyRows"
+SHORT = HEADER + b"0,0,0,1\n" + b"0,0,0,1,0\n" * 1_000_001
 
 MOST = [
     ("the last one is faulty", MOST_ROWS + b"0,0,0,1", "row 1000001 column whole: Width"),
     ("a row too many", FULL + b"0,0,0,1,0\n", TOO_MANY),
     ("a faulty row too many", FULL + b"0,0,0,1,?\n", TOO_MANY),
     ("a short row too many", FULL + b"0\n", TOO_MANY),
-    (
-        "rows too many, the first faulty",
-        FULL.replace(b",0\n", b"\n", 1) + b"0,0,0,1,0\n0,0,0,1,0\n",
-        "row 2 column whole: Width",
-    ),
+    ("rows too many, the first faulty", SHORT, "row 2 column whole: Width"),
 ]
 
 
@@ -238,13 +216,11 @@ def faults():
     for count in [*range(1, 5), *range(6, 12)]:
         row = ",".join(["?"] * count).encode()
         yield faulty(f"width_of_a_row: {count} cells", HEADER + row, "whole", "Width", 2)
+    longer = HEADER + b"0,0,0,1,0,\n"
+    yield faulty("width_of_a_row: an empty cell behind", longer, "whole", "Width", 2)
     wider = b"x,y,z,tonnes,grade,\n0,0,0,1,0"
-    for name, text, answer in [
-        ("an empty cell behind", HEADER + b"0,0,0,1,0,\n", "row 2 column whole: Width"),
-        ("an empty column", wider + b"\n", "row 2 column whole: Width"),
-        ("an empty column and cell", wider + b",\n", "0 0 0 0 1 0 0|"),
-    ]:
-        yield says(f"width_of_a_row: {name}", text, answer)
+    yield faulty("width_of_a_row: an empty column", wider + b"\n", "whole", "Width", 2)
+    yield says("width_of_a_row: an empty column and cell", wider + b",\n", "0 0 0 0 1 0 0|")
 
 
 def first_fault(cells):
@@ -267,10 +243,9 @@ def headers():
         for other in wrong + NO_COLUMNS[column]:
             text = ",".join([*others, other]).encode()
             yield faulty(f"no_columns: {column}: {other}", text, column, "MissingColumn")
-        text = ",".join([column.upper(), *COLUMNS]).encode()
-        yield faulty(f"columns_twice: {column}", text, column, "TwiceColumn")
-        text = ",".join([column, *COLUMNS, column]).encode()
-        yield faulty(f"columns_thrice: {column}", text, column, "TwiceColumn")
+        twice, thrice = [column.upper(), *COLUMNS], [column, *COLUMNS, column]
+        for name, named in [("columns_twice", twice), ("columns_thrice", thrice)]:
+            yield faulty(f"{name}: {column}", ",".join(named).encode(), column, "TwiceColumn")
         missing = "y" if column == "x" else "x"
         yield faulty(f"columns_alone: {column}", column.encode(), missing, "MissingColumn")
     pairs, kinds = itertools.combinations(COLUMNS, 2), itertools.product(TIMES, repeat=2)
@@ -279,10 +254,11 @@ def headers():
         for order in [COLUMNS, COLUMNS[::-1]]:
             text = ",".join(column for column in order for _ in range(counts[column])).encode()
             yield faulty(f"two_faults_of_a_header: {text}", text, first, left)
-    for text, fault in HEADERS:
-        row = lines("|" + ",".join(["0"] * (text.count(",") + 1)) + "|")
-        answer = f"row 1 column {fault}" if fault else "0 0 0 0 0 0 0|"
-        yield says(f"headers: {text}", text.encode() + row, answer)
+    for fault, *texts in HEADERS:
+        for text in texts:
+            row = lines("|" + ",".join(["0"] * (text.count(",") + 1)) + "|")
+            answer = f"row 1 column {fault}" if fault else "0 0 0 0 0 0 0|"
+            yield says(f"headers: {text}", text.encode() + row, answer)
 
 
 def bytes_about_cells():
@@ -308,9 +284,10 @@ def trials():
     yield from bytes_about_cells()
     for name, text, answer in FILES:
         yield says(name, text, answer)
-    for name, rows in ROWS.items():
-        for row, answer in rows:
-            yield says(f"{name}: {row[:40]!r}", HEADER + row, answer)
+    for name, table in ROWS.items():
+        for answer, *rows in table:
+            for row in rows:
+                yield says(f"{name}: {row[:40]!r}", HEADER + row, answer)
     for name, text, answer in MOST:
         yield says(f"zone_texts_at_the_edge: {name}", text, answer)
     for text, answer in RECORDS_OF_TEXTS:
