@@ -35,7 +35,7 @@ def write(path, text):
 
 
 def model(path):
-    """The plan and the zone files of an input of the pipe form, at this path from the top of the repository."""
+    """The plan and the zone files of an input of the pipe form, at this path from the top."""
     plan, *zones = read(os.path.join(TOP, path)).split("--\n")
     return plan, zones
 
@@ -62,7 +62,8 @@ def write_texts(base, texts):
 
 
 class Used(NamedTuple):
-    """How a run ended, and what it took: seconds of wall time and of processor time, and the bytes of its peak memory."""
+    """How a run ended, and what it took: seconds of wall time and of processor time, and the bytes
+    of its peak memory."""
 
     status: int
     wall: float
@@ -71,7 +72,7 @@ class Used(NamedTuple):
 
 
 def measured(command, **streams):
-    """Runs a command in a process of its own, which `subprocess.Popen` starts with these streams."""
+    """Runs a command in a process of its own, by `subprocess.Popen` with these streams."""
     begun = time.monotonic()
     child = subprocess.Popen(command, **streams)
     _, ended, used = os.wait4(child.pid, 0)
