@@ -11,4 +11,5 @@ pub mod Shape
 pub mod ShapeStates
 pub mod Spelled
 pub mod Steps
+pub mod Words
 pub mod WrittenValues

@@ -1,6 +1,6 @@
 -- The values of each line of a MineLib text: what its fields state, from left to right.
 use Rattle.std.specs.Prelude.{ℕ, List, [], ◌∷◌, ◌*◌, length, map, ℤ, pos, codes}
-use Rattle.forms.specs.Field.{Value, Millionths, Bytes, whole}
+use Rattle.forms.specs.Words.{Value, Millionths, Bytes, whole}
 use Rattle.pit_parts.specs.declared.block.Block.{Block}
 use Rattle.pit_parts.specs.declared.limit.Bound.{Bound}
 use Rattle.pit_parts.specs.declared.limit.Bound.TheVariants.{AtMost, AtLeast, Between}

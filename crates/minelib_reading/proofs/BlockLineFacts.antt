@@ -4,10 +4,7 @@ use Rattle.std.proofs.Common.{refl, sym, ◌∙◌, ap, subst, arith, eq-eqb}
 use Rattle.std.proofs.lemmas.Bool.{eqb-true}
 use Rattle.forms.proofs.FormFacts.{spelled_fit}
 use Rattle.forms.proofs.NumberFields.{quotient, size_fits, size_found, whole_fits, whole_found}
-use Rattle.forms.specs.Field.{Value, Millionths, whole, whole_at}
-use Rattle.forms.specs.Fit.{Fit}
-use Rattle.forms.specs.Spelled.{Spell}
-use Rattle.forms.specs.ShapeStates.{States}
+use Rattle.forms.specs.Words.{Value, Millionths, whole, whole_at, Fit, Spell, States}
 use Rattle.pit_parts.proofs.BlockFacts.{block_again, block_parts}
 use Rattle.pit_parts.specs.Block.{block_with}
 use Rattle.pit_parts.specs.declared.block.Block.{Block}

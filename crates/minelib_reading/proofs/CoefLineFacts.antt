@@ -3,9 +3,7 @@ use Rattle.std.specs.Prelude.{◌≡◌, ℕ, ◌<◌, ◌≤◌, ◌^◌, ◌==
 use Rattle.std.proofs.Common.{refl, sym, ap, arith}
 use Rattle.forms.proofs.FormFacts.{counted_later, fault_later}
 use Rattle.forms.proofs.NumberFields.{quotient, whole_fits}
-use Rattle.forms.specs.Field.{Value, Millionths, below, whole}
-use Rattle.forms.specs.Fit.{Fit, is_fine}
-use Rattle.forms.specs.Steps.{◌>>=◌}
+use Rattle.forms.specs.Words.{Value, Millionths, below, whole, Fit, is_fine, ◌>>=◌}
 use Rattle.mine_instance.specs.declared.coef.Coef.{Coef}
 use Rattle.minelib_lines.specs.Kept.{IsInDecimalRange}
 use Rattle.text_lines.specs.FieldValues.{decimal_in, first_by, whole_in}

@@ -4,10 +4,7 @@ use Rattle.std.proofs.Common.{refl, sym, ap, arith, le-ltb}
 use Rattle.std.proofs.lemmas.List.{length-map}
 use Rattle.forms.proofs.FormFacts.{counted, counted_later, fault_later}
 use Rattle.forms.proofs.NumberFields.{quotient}
-use Rattle.forms.specs.Field.{Value, Millionths, below, up_to, whole}
-use Rattle.forms.specs.Read.{read, read_fields}
-use Rattle.forms.specs.Shape.{check, failing, unless}
-use Rattle.forms.specs.Steps.{◌>>=◌}
+use Rattle.forms.specs.Words.{Value, Millionths, below, up_to, whole, read, read_fields, check, failing, unless, ◌>>=◌}
 use Rattle.pit_parts.specs.Block.{block_with}
 use Rattle.pit_parts.specs.declared.block.Block.{Block}
 use Rattle.minelib_reading.specs.BlockLines.{block_form, block_shape}

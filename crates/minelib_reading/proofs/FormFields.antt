@@ -10,12 +10,7 @@ use Rattle.pit_units.specs.Decimal.{decimal_of, decimal_within, kept_within, sho
 use Rattle.pit_units.specs.declared.fault.DecFault.{DecFault}
 use Rattle.forms.proofs.FormFacts.{read_spelled, true_le}
 use Rattle.forms.proofs.NumberFields.{quotient, whole_found}
-use Rattle.forms.specs.Field.{Field, Decimal, Stepped, Word, Value, Millionths, Bytes, below, millionths, whole, whole_stated}
-use Rattle.forms.specs.Fit.{FitsField, Fit, is_fine}
-use Rattle.forms.specs.Read.{number_or_kind, read}
-use Rattle.forms.specs.Spelled.{Spell}
-use Rattle.forms.specs.WrittenValues.{written}
-use Rattle.forms.specs.Steps.{◌>>=◌}
+use Rattle.forms.specs.Words.{Field, Decimal, Stepped, Word, Value, Millionths, Bytes, below, millionths, whole, whole_stated, FitsField, Fit, is_fine, number_or_kind, read, Spell, written, ◌>>=◌}
 use Rattle.text_lines.specs.FieldValues.{decimal_in}
 use Rattle.minelib_lines.specs.Kept.{IsInDecimalRange}
 use Rattle.text_lines.specs.LineKinds.{text_kind, text_kinds}

@@ -4,8 +4,7 @@ use Rattle.std.specs.List.{Contains}
 use Rattle.std.proofs.Common.{refl, sym, ◌∙◌, ap, subst, arith, inl, inr}
 use Rattle.std.proofs.lemmas.List.Elements.{All-nil, All-push, Contains-push, Contains-append_left}
 use Rattle.std.proofs.lemmas.List.Quantifiers.{all_pairs_push}
-use Rattle.forms.specs.Field.{Millionths, Bytes, whole}
-use Rattle.forms.specs.Spelled.{Says}
+use Rattle.forms.specs.Words.{Millionths, Bytes, whole, Says}
 use Rattle.minelib_lines.specs.declared.problem.Problem.{Problem}
 use Rattle.minelib_reading.specs.HeaderKeys.{count_in, is_given, is_complete, with_key}
 use Rattle.minelib_reading.specs.KeyFields.{field_of}

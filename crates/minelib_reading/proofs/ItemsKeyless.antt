@@ -2,10 +2,7 @@
 use Rattle.std.specs.Prelude.{◌≡◌, ℕ, true, false, List, [], ℤ, slice_index_or, Result, Ok, codes}
 use Rattle.std.specs.List.{list_any}
 use Rattle.std.specs.Str.{bytes_eq}
-use Rattle.forms.specs.Field.{Field, Value}
-use Rattle.forms.specs.Fit.{is_fine}
-use Rattle.forms.specs.Read.{read}
-use Rattle.forms.specs.Steps.{◌>>=◌}
+use Rattle.forms.specs.Words.{Field, Value, is_fine, read, ◌>>=◌}
 use Rattle.pit_parts.specs.declared.limit.Limit.{Limit}
 use Rattle.mine_instance.specs.declared.coef.Coef.{Coef}
 use Rattle.minelib_reading.specs.ItemForms.{coef_form, limit_form, values_form}

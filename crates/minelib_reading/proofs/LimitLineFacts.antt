@@ -6,11 +6,7 @@ use Rattle.std.proofs.Common.{refl, sym, ◌∙◌, subst, arith}
 use Rattle.std.proofs.lemmas.Bool.{eqb-true}
 use Rattle.std.proofs.lemmas.Slice.Eq.{bytes_eq-Decides}
 use Rattle.forms.proofs.NumberFields.{quotient, whole_fits}
-use Rattle.forms.specs.Field.{Value, Millionths, Bytes, below, number_at, whole, whole_at}
-use Rattle.forms.specs.Fit.{Fit, is_fine}
-use Rattle.forms.specs.Read.{read_fields}
-use Rattle.forms.specs.WrittenValues.{written}
-use Rattle.forms.specs.Steps.{◌>>=◌}
+use Rattle.forms.specs.Words.{Value, Millionths, Bytes, below, number_at, whole, whole_at, Fit, is_fine, read_fields, written, ◌>>=◌}
 use Rattle.pit_parts.specs.declared.limit.Bound.{Bound}
 use Rattle.pit_parts.specs.declared.limit.Bound.TheVariants.{AtMost, AtLeast, Between}
 use Rattle.pit_parts.specs.declared.limit.Limit.{Limit}

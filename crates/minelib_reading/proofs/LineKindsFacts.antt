@@ -3,12 +3,7 @@ use Rattle.std.specs.Prelude.{◌≡◌, ◌≢◌, ℕ, ◌==◌, ◌&&◌, not
 use Rattle.std.proofs.Common.{refl, sym, ap, subst, arith, inl, inr, eq-eqb}
 use Rattle.std.proofs.lemmas.Bool.{and_parts, eqb-true, ne_eqb, not-true}
 use Rattle.forms.proofs.FormFacts.{spelled_fit}
-use Rattle.forms.specs.Asked.{asked, asked_of_field, asked_of_fields}
-use Rattle.forms.specs.Demands.{Demand, FailsFirst}
-use Rattle.forms.specs.Field.{Decimal, Field, Stepped, Value, Word, whole_at}
-use Rattle.forms.specs.Shape.{check, failing}
-use Rattle.forms.specs.ShapeStates.{Fails, FailsLast}
-use Rattle.forms.specs.Spelled.{Spell}
+use Rattle.forms.specs.Words.{asked, asked_of_field, asked_of_fields, Demand, FailsFirst, Decimal, Field, Stepped, Value, Word, whole_at, check, failing, Fails, FailsLast, Spell}
 use Rattle.mine_instance.specs.Valid.{ArePredsOf}
 use Rattle.text_lines.specs.LineKinds.{text_kind, text_kinds}
 use Rattle.text_lines.specs.TextLines.{fields_of}

@@ -1,8 +1,7 @@
 -- Lines that state something behind what was stated before, whatever their numbers.
 use Rattle.std.specs.Prelude.{ℕ, suc, List, [], ◌∷◌, ◌++◌, ℤ}
 use Rattle.std.proofs.Common.{subst}
-use Rattle.forms.specs.GrammarStates.{AllState}
-use Rattle.forms.specs.ShapeStates.{States}
+use Rattle.forms.specs.Words.{AllState, States}
 use Rattle.pit_parts.specs.declared.limit.Limit.{Limit}
 use Rattle.mine_instance.specs.declared.coef.Coef.{Coef}
 use Rattle.text_lines.specs.TextLines.{Line}

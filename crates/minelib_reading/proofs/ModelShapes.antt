@@ -4,13 +4,7 @@ use Rattle.std.specs.List.{list_any, before_first, after_first}
 use Rattle.std.proofs.Common.{refl, arith}
 use Rattle.std.proofs.lemmas.Bool.{ne_eqb}
 use Rattle.forms.proofs.ShapeFacts.{said_states}
-use Rattle.forms.specs.Field.{Value, Bytes, millionths, whole_at, whole_stated}
-use Rattle.forms.specs.Fit.{is_fine}
-use Rattle.forms.specs.Read.{read, read_field}
-use Rattle.forms.specs.Grammar.{HasFineForms, placed, read_all}
-use Rattle.forms.specs.Shape.{Shape, check, failing, unless}
-use Rattle.forms.specs.ShapeStates.{States}
-use Rattle.forms.specs.Steps.{◌>>=◌}
+use Rattle.forms.specs.Words.{Value, Bytes, millionths, whole_at, whole_stated, is_fine, read, read_field, HasFineForms, placed, read_all, Shape, check, failing, unless, States, ◌>>=◌}
 use Rattle.pit_parts.specs.Name.{is_name}
 use Rattle.pit_parts.specs.PlanKept.{is_turned, stands_before}
 use Rattle.mine_instance.specs.Order.{coef_comes_before}

@@ -7,11 +7,7 @@ use Rattle.std.proofs.lemmas.Int.{ints}
 use Rattle.std.proofs.lemmas.Slice.Eq.{bytes_eq-Decides}
 use Rattle.forms.proofs.FormFacts.{spelled_fit}
 use Rattle.forms.proofs.NumberFields.{quotient}
-use Rattle.forms.specs.Field.{Value, Millionths, Bytes, whole, whole_at, whole_stated}
-use Rattle.forms.specs.Fit.{FitsField}
-use Rattle.forms.specs.Shape.{check, failing}
-use Rattle.forms.specs.ShapeStates.{States}
-use Rattle.forms.specs.Spelled.{Says, Spell}
+use Rattle.forms.specs.Words.{Value, Millionths, Bytes, whole, whole_at, whole_stated, FitsField, check, failing, States, Says, Spell}
 use Rattle.pit_parts.specs.declared.limit.Limit.{Limit}
 use Rattle.pit_parts.specs.PlanKept.{is_turned, stands_before}
 use Rattle.mine_instance.specs.Order.{coef_comes_before}

@@ -5,12 +5,7 @@ use Rattle.std.proofs.lemmas.Bool.{eqb-true, not-true}
 use Rattle.std.proofs.lemmas.List.Elements.{All-cons, All-head, All-nil, All-tail}
 use Rattle.forms.proofs.FormFacts.{spelled_fit}
 use Rattle.forms.proofs.NumberFields.{quotient, whole_fits, whole_found}
-use Rattle.forms.specs.Field.{Value, below, whole, whole_at, whole_stated}
-use Rattle.forms.specs.Fit.{Fit, is_fine}
-use Rattle.forms.specs.Spelled.{Spell}
-use Rattle.forms.specs.WrittenValues.{written}
-use Rattle.forms.specs.Shape.{check}
-use Rattle.forms.specs.ShapeStates.{States}
+use Rattle.forms.specs.Words.{Value, below, whole, whole_at, whole_stated, Fit, is_fine, Spell, written, check, States}
 use Rattle.mine_instance.specs.Valid.{ArePredsOf}
 use Rattle.minelib_lines.specs.LineValues.{preds_values}
 use Rattle.minelib_reading.specs.PrecLines.{all_differ, preds_form, preds_of, preds_shape, stands_in}

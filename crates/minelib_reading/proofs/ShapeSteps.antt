@@ -1,7 +1,7 @@
 -- Tests of a shape, one behind the other.
 use Rattle.std.specs.Prelude.{◌≡◌, Bool, true, false, List, ◌++◌, None}
 use Rattle.std.proofs.Common.{refl}
-use Rattle.forms.specs.Shape.{Check, check, failing}
+use Rattle.forms.specs.Words.{Check, check, failing}
 
 -- no test fails where each holds
 pub met : {K : Type 0} (kind : K) (t : Bool) (checks : List (Check K)) → t ≡ true → failing checks ≡ None

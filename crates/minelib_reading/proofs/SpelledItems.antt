@@ -1,9 +1,7 @@
 -- The lines of a file of one line an item spell its items, one by one.
 use Rattle.std.specs.Prelude.{◌≡◌, ℕ, suc, ◌+◌, List, [], ◌∷◌, ◌++◌, length}
 use Rattle.std.proofs.Common.{refl, sym, ◌∙◌, ap, subst, arith, append_assoc, append-nil, length-append}
-use Rattle.forms.specs.GrammarStates.{AllState}
-use Rattle.forms.specs.Shape.{Shape}
-use Rattle.forms.specs.ShapeStates.{States}
+use Rattle.forms.specs.Words.{AllState, Shape, States}
 use Rattle.text_lines.specs.ItemGrammar.{items_grammar, with_item}
 use Rattle.text_lines.specs.TextLines.{Line}
 use Rattle.text_lines.specs.declared.text_fault.TextKind.{TextKind}

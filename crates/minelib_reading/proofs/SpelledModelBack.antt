@@ -5,11 +5,7 @@ use Rattle.std.specs.Str.{bytes_eq}
 use Rattle.std.proofs.Common.{refl, sym, ◌∙◌, ap, subst, arith, inl, inr, append_assoc, append-nil, length-append, eq-eqb}
 use Rattle.std.proofs.lemmas.Bool.{cases_Bool}
 use Rattle.forms.proofs.NumberFields.{quotient}
-use Rattle.forms.specs.Field.{Field, Value, whole, whole_stated}
-use Rattle.forms.specs.GrammarStates.{AllState}
-use Rattle.forms.specs.Shape.{check, failing}
-use Rattle.forms.specs.ShapeStates.{States}
-use Rattle.forms.specs.Spelled.{Spell}
+use Rattle.forms.specs.Words.{Field, Value, whole, whole_stated, AllState, check, failing, States, Spell}
 use Rattle.pit_parts.specs.PlanKept.{stands_before}
 use Rattle.pit_parts.specs.declared.limit.Limit.{Limit}
 use Rattle.mine_instance.specs.Order.{coef_comes_before}

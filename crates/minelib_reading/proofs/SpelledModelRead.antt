@@ -2,8 +2,7 @@
 use Rattle.std.specs.Prelude.{◌≡◌, ℕ, suc, ◌+◌, ◌==◌, ◌&&◌, true, List, [], ◌∷◌, ◌++◌, length, ℤ}
 use Rattle.std.proofs.Common.{refl, sym, ◌∙◌, ap, subst, arith, append_assoc, append-nil}
 use Rattle.std.proofs.lemmas.Bool.{and_parts, eqb-true}
-use Rattle.forms.specs.GrammarStates.{AllState}
-use Rattle.forms.specs.Spelled.{Says}
+use Rattle.forms.specs.Words.{AllState, Says}
 use Rattle.pit_parts.specs.declared.limit.Limit.{Limit}
 use Rattle.mine_instance.specs.declared.coef.Coef.{Coef}
 use Rattle.text_lines.specs.TextLines.{Line, fields_of}

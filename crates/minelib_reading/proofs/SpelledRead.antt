@@ -4,10 +4,7 @@ use Rattle.std.proofs.Common.{refl, sym, ◌∙◌, ap, subst, inl, inr, arith, 
 use Rattle.std.proofs.lemmas.Bool.{eqb-true, ltb-true, ltb-false}
 use Rattle.std.proofs.lemmas.List.{get_or_at, get_or_append_left}
 use Rattle.forms.proofs.GrammarFacts.{all_read, read_all_states, read_first_fault}
-use Rattle.forms.specs.Grammar.{HasFineForms, read_all}
-use Rattle.forms.specs.GrammarStates.{AllState, IsFirstFault}
-use Rattle.forms.specs.ShapeStates.{States}
-use Rattle.forms.specs.Steps.{◌>>=◌}
+use Rattle.forms.specs.Words.{HasFineForms, read_all, AllState, IsFirstFault, States, ◌>>=◌}
 use Rattle.pit_units.specs.OrMemory.{Gives}
 use Rattle.pit_units.specs.declared.or_memory.OrMemory.{OrMemory}
 use Rattle.pit_units.specs.declared.or_memory.OrMemory.TheVariants.{Fault, OutOfMemory}

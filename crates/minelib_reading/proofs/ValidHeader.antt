@@ -6,8 +6,7 @@ use Rattle.minelib_reading.specs.HeaderKeys.{count_in, is_given, number_of, with
 use Rattle.minelib_reading.specs.ModelLines.{blank_header, name_with}
 use Rattle.minelib_reading.specs.ItemForms.{bytes_in}
 use Rattle.minelib_reading.specs.KeyFields.{field_of, number_said}
-use Rattle.forms.specs.Field.{Value, Bytes, Millionths}
-use Rattle.forms.specs.Fit.{FitsField}
+use Rattle.forms.specs.Words.{Value, Bytes, Millionths, FitsField}
 use Rattle.minelib_reading.proofs.FormFields.{below_there, number_there}
 use Rattle.pit_parts.specs.declared.ranges.TheConstants.{MAX_DESTINATIONS, MAX_PERIODS, MAX_RESOURCES}
 use Rattle.minelib_reading.specs.declared.model_key.Header.{Header}

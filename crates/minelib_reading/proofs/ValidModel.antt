@@ -4,10 +4,7 @@ use Rattle.std.proofs.Common.{refl, sym, ◌∙◌, ap, subst, arith, length-app
 use Rattle.std.proofs.lemmas.Bool.{and_parts, eqb-true, not-true}
 use Rattle.std.proofs.lemmas.List.Elements.{All-nil, All-push}
 use Rattle.forms.proofs.FormFacts.{spelled_fit}
-use Rattle.forms.specs.Field.{whole_at}
-use Rattle.forms.specs.GrammarStates.{AllState}
-use Rattle.forms.specs.Shape.{check}
-use Rattle.forms.specs.ShapeStates.{States}
+use Rattle.forms.specs.Words.{whole_at, AllState, check, States}
 use Rattle.pit_parts.specs.PlanKept.{stands_before, is_turned}
 use Rattle.mine_instance.specs.Order.{coef_comes_before}
 use Rattle.mine_instance.specs.OrderLaws.{coef_comes_before_through, stands_before_through}

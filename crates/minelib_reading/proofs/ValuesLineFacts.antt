@@ -6,10 +6,7 @@ use Rattle.std.proofs.lemmas.Bool.{eqb-true}
 use Rattle.std.proofs.lemmas.List.Elements.{All-head, All-tail}
 use Rattle.forms.proofs.FormFacts.{counted}
 use Rattle.forms.proofs.NumberFields.{quotient, whole_fits}
-use Rattle.forms.specs.Field.{Value, Millionths, Bytes, millionths, whole, whole_at}
-use Rattle.forms.specs.Fit.{Fit, is_fine}
-use Rattle.forms.specs.Read.{read_fields}
-use Rattle.forms.specs.Steps.{◌>>=◌}
+use Rattle.forms.specs.Words.{Value, Millionths, Bytes, millionths, whole, whole_at, Fit, is_fine, read_fields, ◌>>=◌}
 use Rattle.minelib_lines.specs.Kept.{IsInDecimalRange}
 use Rattle.pit_units.specs.declared.or_memory.OrMemory.{OrMemory}
 use Rattle.pit_units.specs.declared.or_memory.OrMemory.TheVariants.{Fault, OutOfMemory}

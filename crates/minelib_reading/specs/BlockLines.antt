@@ -1,8 +1,6 @@
 -- The blocks that a block file states.
 use Rattle.std.specs.Prelude.{ℕ, ◌*◌, ◌/◌, ◌==◌, List, [], ◌∷◌, unsigned_abs, Result}
-use Rattle.forms.specs.Field.{Field, Value, below, number_at, up_to, whole_at}
-use Rattle.forms.specs.Grammar.{Grammar, read_all}
-use Rattle.forms.specs.Shape.{Shape, check}
+use Rattle.forms.specs.Words.{Field, Value, below, number_at, up_to, whole_at, Grammar, read_all, Shape, check}
 use Rattle.pit_parts.specs.Block.{block_with}
 use Rattle.pit_parts.specs.declared.block.Block.{Block}
 use Rattle.text_lines.specs.ItemGrammar.{items_grammar}

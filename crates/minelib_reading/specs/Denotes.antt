@@ -1,7 +1,7 @@
 -- Which instance MineLib texts denote, and which constrained pit limit problem its text.
 use Rattle.std.specs.Prelude.{◌≡◌, ℕ, List, length, map, pos, Result, Ok}
 use Rattle.std.specs.List.{flat_map}
-use Rattle.forms.specs.Steps.{◌>>=◌}
+use Rattle.forms.specs.Words.{◌>>=◌}
 use Rattle.pit_parts.specs.declared.block.Block.{Block}
 use Rattle.mine_instance.specs.Cpit.{CpitParts}
 use Rattle.mine_instance.specs.CpitKept.{cpit_of}

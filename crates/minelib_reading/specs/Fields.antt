@@ -2,7 +2,7 @@
 use Rattle.std.specs.Prelude.{ℕ, ◌-◌, ◌^◌, List, pos, negsuc}
 use Rattle.std.specs.List.{list_any}
 use Rattle.std.specs.Str.{bytes_eq}
-use Rattle.forms.specs.Field.{Field, Decimal, Word}
+use Rattle.forms.specs.Words.{Field, Decimal, Word}
 
 -- any decimal: of at most 10^24 millionths either side of zero
 abbrev pub any : Field

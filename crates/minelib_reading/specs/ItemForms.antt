@@ -2,7 +2,7 @@
 -- values of each form say.
 use Rattle.std.specs.Prelude.{ℕ, Bool, true, false, List, [], ◌∷◌, drop, map, replicate, slice_index_or, ℤ, codes, if◌then◌else◌}
 use Rattle.std.specs.Str.{bytes_eq}
-use Rattle.forms.specs.Field.{Field, Value, Millionths, Bytes, below, millionths, number_at, whole_at}
+use Rattle.forms.specs.Words.{Field, Value, Millionths, Bytes, below, millionths, number_at, whole_at}
 use Rattle.pit_parts.specs.declared.limit.Bound.{Bound}
 use Rattle.pit_parts.specs.declared.limit.Bound.TheVariants.{AtMost, AtLeast, Between}
 use Rattle.pit_parts.specs.declared.limit.Limit.{Limit}

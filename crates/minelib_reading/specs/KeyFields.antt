@@ -1,7 +1,7 @@
 -- The header keys of a model file: the field of each key's value, and the number that it states.
 use Rattle.std.specs.Prelude.{ℕ, ◌+◌, pos, unsigned_abs}
 use Rattle.std.specs.Str.{bytes_eq}
-use Rattle.forms.specs.Field.{Field, Decimal, Word, Value, below, between, millionths, whole_stated}
+use Rattle.forms.specs.Words.{Field, Decimal, Word, Value, below, between, millionths, whole_stated}
 use Rattle.pit_parts.specs.Name.{is_name}
 use Rattle.pit_parts.specs.declared.ranges.TheConstants.{MAX_BLOCKS, MAX_DESTINATIONS, MAX_PERIODS, MAX_RATE, MAX_RESOURCES}
 use Rattle.minelib_lines.specs.KeyWords.{type_text}

@@ -4,10 +4,7 @@ use Rattle.std.specs.Prelude.{ℕ, ◌+◌, ◌-◌, ◌==◌, ◌&&◌, not, Bo
 use Rattle.std.specs.List.{list_any, before_first, after_first, find}
 use Rattle.std.specs.Option.{option_map}
 use Rattle.std.specs.Str.{bytes_eq}
-use Rattle.forms.specs.Field.{Value, Bytes, whole_at, whole_stated}
-use Rattle.forms.specs.Grammar.{Grammar, read_all}
-use Rattle.forms.specs.Shape.{Check, Shape, check}
-use Rattle.forms.specs.Steps.{◌>>=◌}
+use Rattle.forms.specs.Words.{Value, Bytes, whole_at, whole_stated, Grammar, read_all, Check, Shape, check, ◌>>=◌}
 use Rattle.pit_parts.specs.PlanKept.{is_turned, stands_before}
 use Rattle.pit_parts.specs.declared.limit.Limit.{Limit}
 use Rattle.mine_instance.specs.Order.{coef_comes_before}

@@ -1,6 +1,6 @@
 -- What the lines of a model file state one after the other, and what that is of a model.
 use Rattle.std.specs.Prelude.{◌≡◌, ℕ, true, List, pos}
-use Rattle.forms.specs.GrammarStates.{AllState}
+use Rattle.forms.specs.Words.{AllState}
 use Rattle.text_lines.specs.TextLines.{Line}
 use Rattle.minelib_lines.specs.declared.problem.Problem.{Problem}
 use Rattle.minelib_reading.specs.HeaderKeys.{count_in}

@@ -1,11 +1,7 @@
 -- The predecessors that a precedence file states.
 use Rattle.std.specs.Prelude.{◌≡◌, ◌≢◌, ℕ, ◌==◌, ◌&&◌, not, Bool, true, List, [], ◌∷◌, ◌++◌, length, map, drop, Result, Ok, Err, if◌then◌else◌}
 use Rattle.std.specs.List.{list_any}
-use Rattle.forms.specs.Field.{Field, Value, below, whole_at, whole_stated}
-use Rattle.forms.specs.Grammar.{Grammar, read_all}
-use Rattle.forms.specs.GrammarStates.{AllState}
-use Rattle.forms.specs.Shape.{Shape, check}
-use Rattle.forms.specs.Steps.{◌>>=◌}
+use Rattle.forms.specs.Words.{Field, Value, below, whole_at, whole_stated, Grammar, read_all, AllState, Shape, check, ◌>>=◌}
 use Rattle.text_lines.specs.ItemGrammar.{items_grammar}
 use Rattle.text_lines.specs.LineKinds.{text_kinds}
 use Rattle.text_lines.specs.TextLines.{Line, end_of, fields_of, lines_in}

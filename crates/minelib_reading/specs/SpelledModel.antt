@@ -2,7 +2,7 @@
 -- And the first line with which they can no longer become a model.
 use Rattle.std.specs.Prelude.{◌≡◌, ◌≢◌, ℕ, false, List, [], ◌∷◌, ◌++◌, length, AllPairs, IsTrue, ℤ}
 use Rattle.std.specs.List.{Contains}
-use Rattle.forms.specs.Spelled.{Says, Spell}
+use Rattle.forms.specs.Words.{Says, Spell}
 use Rattle.pit_parts.specs.PlanKept.{RiseStrictly, is_turned}
 use Rattle.pit_parts.specs.declared.limit.Limit.{Limit}
 use Rattle.mine_instance.specs.Order.{coef_comes_before}

@@ -1,7 +1,7 @@
 -- Three texts spell an instance, and one spells a constrained pit limit problem: by their lines, in
 -- order.
 use Rattle.std.specs.Prelude.{◌≡◌, ℕ, List, length}
-use Rattle.forms.specs.Spelled.{Spell}
+use Rattle.forms.specs.Words.{Spell}
 use Rattle.pit_parts.specs.declared.block.Block.{Block}
 use Rattle.mine_instance.specs.Cpit.{CpitParts}
 use Rattle.mine_instance.specs.Valid.{ArePredsOf}

@@ -1,10 +1,7 @@
 //! What holds of reading, whatever the texts say: each contract is a law, and a call of it changes nothing.
 
 ghost use Rattle.std.specs.Prelude.{◌≡◌, ◌≢◌, ◌↔◌, ◌⊎◌, ℕ, ◌≤◌, [], ◌∷◌, ◌++◌, false, true, List, length, ℤ, Ok, Err};
-ghost use Rattle.forms.specs.Spelled.{Spell};
-ghost use Rattle.forms.specs.GrammarStates.{AllState, IsFirstFault};
-ghost use Rattle.forms.specs.Field.{Value, whole_at};
-ghost use Rattle.forms.specs.ShapeStates.{Fails, States};
+ghost use Rattle.forms.specs.Words.{Spell, AllState, IsFirstFault, Value, whole_at, Fails, States};
 ghost use Rattle.mine_instance.specs.Cpit.{CpitParts};
 ghost use Rattle.mine_instance.specs.CpitKept.{IsCpit};
 ghost use Rattle.mine_instance.specs.Valid.{ArePredsOf, IsValid};

@@ -1,7 +1,7 @@
 //! The header of a model file that is read.
 
 ghost use Rattle.std.specs.Prelude.{◌≡◌, ◌<◌, ◌≤◌, pos, true, IfOk};
-ghost use Rattle.forms.specs.Field.{Decimal};
+ghost use Rattle.forms.specs.Words.{Decimal};
 ghost use Rattle.minelib_reading.specs.ModelLines.{blank_header};
 ghost use Rattle.minelib_reading.specs.inner.ModelParts.{is_name_for, millionths_in, number_in, number_limit};
 

@@ -3,9 +3,7 @@ use Rattle.std.proofs.Common.{subst, ◌≡◌, ℕ, ◌*◌, ◌^◌, ◌<◌, 
 use Rattle.std.specs.Prelude.{Ok}
 use Rattle.forms.proofs.FormFacts.{spell_written}
 use Rattle.forms.proofs.ShapeFacts.{states_said}
-use Rattle.forms.specs.ShapeStates.{States}
-use Rattle.forms.specs.Spelled.{Spell}
-use Rattle.forms.specs.Steps.{◌>>=◌}
+use Rattle.forms.specs.Words.{States, Spell, ◌>>=◌}
 use Rattle.pit_parts.specs.declared.block.Block.{Block}
 use Rattle.minelib_reading.specs.BlockLines.{block_form, block_shape, blocks_in}
 use Rattle.minelib_lines.specs.LineValues.{block_values}

@@ -12,7 +12,7 @@ use Rattle.minelib_lines.specs.LineValues.{StatedHeader}
 use Rattle.minelib_reading.specs.HeaderKeys.{with_key, count_in, is_given, is_complete}
 use Rattle.minelib_reading.specs.ModelLines.{ModelDraftView, blank_header, is_whole, model_grammar, name_with}
 use Rattle.minelib_reading.specs.inner.ModelParts.{admit_model}
-use Rattle.forms.specs.GrammarStates.{AllState}
+use Rattle.forms.specs.Words.{AllState}
 use Rattle.text_lines.specs.TextLines.{Line}
 use Rattle.minelib_writing.specs.Written.{value_fields}
 use Rattle.minelib_reading.specs.declared.model_key.Header.{Header}

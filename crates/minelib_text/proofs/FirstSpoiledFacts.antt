@@ -2,10 +2,7 @@
 use Rattle.std.specs.Prelude.{◌≡◌, ℕ, suc, ◌≤◌, Bool, true, false, List, [], ◌∷◌, ◌++◌, Result, Ok, Err, ◌⊎◌, if◌then◌else◌}
 use Rattle.std.proofs.Common.{refl, sym, ◌∙◌, ap, subst, inl, inr, append_assoc}
 use Rattle.forms.proofs.GrammarFacts.{all_read, fault_read, read_all_states, read_first_fault}
-use Rattle.forms.specs.Grammar.{read_all}
-use Rattle.forms.specs.GrammarStates.{AllState, IsFirstFault}
-use Rattle.forms.specs.ShapeStates.{Fails}
-use Rattle.forms.specs.Steps.{◌>>=◌}
+use Rattle.forms.specs.Words.{read_all, AllState, IsFirstFault, Fails, ◌>>=◌}
 use Rattle.minelib_reading.specs.ModelLines.{ModelDraftView, blank_model, finish_model, is_whole, model_grammar, model_in, model_line}
 use Rattle.minelib_reading.specs.ModelStates.{stated_by}
 use Rattle.minelib_reading.specs.SpelledModel.{BeginModel, EndsEarly, IsFirstSpoiled}

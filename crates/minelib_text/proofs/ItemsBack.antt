@@ -4,8 +4,7 @@ use Rattle.std.specs.Prelude.{decimal, Ok, All, slice_index_or, codes}
 use Rattle.std.specs.Str.{bytes_eq}
 use Rattle.forms.proofs.FormFacts.{written_read}
 use Rattle.forms.proofs.NumberFields.{quotient}
-use Rattle.forms.specs.Fit.{Fit}
-use Rattle.forms.specs.Steps.{◌>>=◌}
+use Rattle.forms.specs.Words.{Fit, ◌>>=◌}
 use Rattle.pit_parts.specs.declared.limit.Limit.{Limit}
 use Rattle.mine_instance.specs.declared.coef.Coef.{Coef}
 use Rattle.minelib_lines.specs.Kept.{IsInDecimalRange, HasDecimals}

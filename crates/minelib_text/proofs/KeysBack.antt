@@ -11,9 +11,7 @@ use Rattle.pit_parts.specs.declared.ranges.TheConstants.{MAX_BLOCKS, MAX_DESTINA
 use Rattle.mine_instance.specs.Valid.{IsHorizon}
 use Rattle.forms.proofs.FormFacts.{written_read}
 use Rattle.forms.proofs.NumberFields.{size_fits, whole_fits}
-use Rattle.forms.specs.Field.{Decimal, Millionths, between, whole}
-use Rattle.forms.specs.Fit.{FitsField}
-use Rattle.forms.specs.WrittenValues.{written_value}
+use Rattle.forms.specs.Words.{Decimal, Millionths, between, whole, FitsField, written_value}
 use Rattle.text_lines.proofs.PlainText.{is_plain, is_inner, plain_inner, all_weaker, all_parts, first_read, IsField, IsLine}
 use Rattle.text_lines.specs.LineKinds.{text_kinds}
 use Rattle.text_lines.specs.TextLines.{fields_of}

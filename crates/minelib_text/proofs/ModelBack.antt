@@ -9,7 +9,7 @@ use Rattle.mine_instance.specs.declared.coef.Coef.{Coef}
 use Rattle.minelib_lines.specs.Kept.{IsInDecimalRange, HasDecimals}
 use Rattle.minelib_lines.specs.Lines.{text_of, line_of, lines_from}
 use Rattle.minelib_reading.specs.ModelLines.{ModelDraftView, blank_model, finish_model, item_line, model_in}
-use Rattle.forms.specs.Steps.{◌>>=◌}
+use Rattle.forms.specs.Words.{◌>>=◌}
 use Rattle.text_lines.specs.TextLines.{end_of, lines_in}
 use Rattle.minelib_reading.specs.inner.ModelParts.{admit_model, takes}
 use Rattle.minelib_writing.specs.Written.{value_fields, coef_fields, limit_fields, section_lines}

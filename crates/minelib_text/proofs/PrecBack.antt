@@ -8,9 +8,7 @@ use Rattle.std.proofs.lemmas.Map.Keys.{IsDistinct-from_apart}
 use Rattle.std.proofs.lemmas.Map.Steps.{length-le_from_distinct_below}
 use Rattle.forms.proofs.FormFacts.{spell_written}
 use Rattle.forms.proofs.ShapeFacts.{states_said}
-use Rattle.forms.specs.ShapeStates.{States}
-use Rattle.forms.specs.Spelled.{Spell}
-use Rattle.forms.specs.Steps.{◌>>=◌}
+use Rattle.forms.specs.Words.{States, Spell, ◌>>=◌}
 use Rattle.mine_instance.specs.Valid.{ArePredsOf, ArePreds}
 use Rattle.minelib_lines.specs.Lines.{line_of, lines_from, text_of}
 use Rattle.minelib_reading.specs.inner.LinesTaken.{admit_preds, no_lists, preds_said}

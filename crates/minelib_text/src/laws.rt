@@ -1,7 +1,7 @@
 //! What holds of the texts of an instance and of reading, together: each contract is a law, and a call of it changes nothing.
 
 ghost use Rattle.std.specs.Prelude.{◌≡◌, ◌⊎◌, ℕ, ◌≤◌, ◌++◌, ◌∷◌, [], All, true, List, length, Err};
-ghost use Rattle.forms.specs.GrammarStates.{IsFirstFault};
+ghost use Rattle.forms.specs.Words.{IsFirstFault};
 ghost use Rattle.mine_instance.specs.Cpit.{CpitParts};
 ghost use Rattle.mine_instance.specs.CpitKept.{IsCpit};
 ghost use Rattle.mine_instance.specs.OfModel.{instance as instance_of};

@@ -1,8 +1,7 @@
 -- Lines as they are written, field by field.
 use Rattle.std.specs.Prelude.{◌≡◌, ℕ, List, [], ◌∷◌, ◌++◌, length, map, decimal, ℤ}
 use Rattle.std.proofs.Common.{refl, ap}
-use Rattle.forms.specs.Field.{Millionths, whole}
-use Rattle.forms.specs.WrittenValues.{written}
+use Rattle.forms.specs.Words.{Millionths, whole, written}
 use Rattle.pit_parts.specs.declared.limit.Bound.{Bound}
 use Rattle.pit_parts.specs.declared.limit.Bound.TheVariants.{AtMost, AtLeast, Between}
 use Rattle.pit_parts.specs.declared.limit.Limit.{Limit}

@@ -4,8 +4,7 @@ use Rattle.std.proofs.lemmas.List.{take-append-drop}
 use Rattle.std.proofs.Math.Seq.{drop-cons, take-append_seam}
 use Rattle.std.specs.List.{drop-map, flat_map, take-map}
 use Rattle.std.specs.Prelude.{codes}
-use Rattle.forms.specs.Field.{Value}
-use Rattle.forms.specs.WrittenValues.{written_value}
+use Rattle.forms.specs.Words.{Value, written_value}
 use Rattle.minelib_lines.specs.KeyWords.{key_word}
 use Rattle.minelib_lines.specs.Lines.{line_of, lines_from, text_of}
 use Rattle.minelib_lines.specs.declared.header_key.HeaderKey.{HeaderKey}

@@ -1,7 +1,6 @@
 -- The MineLib texts of an instance (Espinoza, Goycoolea, Moreno and Newman 2013, in this project's profile), as lines of fields.
 use Rattle.std.specs.Prelude.{ℕ, List, [], ◌∷◌, ◌++◌, ℤ, codes, length, map}
-use Rattle.forms.specs.Field.{Value}
-use Rattle.forms.specs.WrittenValues.{written, written_value}
+use Rattle.forms.specs.Words.{Value, written, written_value}
 use Rattle.pit_parts.specs.declared.block.Block.{Block}
 use Rattle.pit_parts.specs.declared.limit.Limit.{Limit}
 use Rattle.mine_instance.specs.Cpit.{CpitParts}

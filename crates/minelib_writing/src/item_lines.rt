@@ -4,7 +4,7 @@ ghost use Rattle.std.specs.Prelude.{◌≡◌, ◌++◌, ◌∷◌, [], ◌*◌,
 ghost use Rattle.pit_units.specs.Decimal.{shortest};
 ghost use Rattle.minelib_lines.specs.Kept.{IsInDecimalRange, HasDecimals};
 ghost use Rattle.minelib_lines.specs.Lines.{line_of};
-ghost use Rattle.forms.specs.WrittenValues.{written};
+ghost use Rattle.forms.specs.Words.{written};
 ghost use Rattle.minelib_lines.specs.LineValues.{bound_values};
 ghost use Rattle.minelib_writing.specs.Written.{block_fields, limit_fields, cpit_value_fields};
 

@@ -1,7 +1,7 @@
 //! The key lines of the model files.
 
 ghost use Rattle.std.specs.Prelude.{◌≡◌, ◌++◌, ◌∷◌, [], OnOk, length, true};
-ghost use Rattle.forms.specs.WrittenValues.{written_value};
+ghost use Rattle.forms.specs.Words.{written_value};
 ghost use Rattle.pit_parts.specs.Name.{is_name};
 ghost use Rattle.minelib_lines.specs.LineValues.{header_of, header_of_cpit, key_value};
 ghost use Rattle.minelib_lines.specs.Lines.{text_of};

@@ -2,7 +2,7 @@
 use Rattle.std.specs.Prelude.{◌≡◌, ℕ, List, [], ◌∷◌, ◌++◌, Vec, length, sum_by, codes, Option, None, Some, Result, Ok}
 use Rattle.std.specs.Fmt.{decimal}
 use Rattle.std.specs.declared.alloc.Global.{Global}
-use Rattle.forms.specs.Steps.{◌>>=◌}
+use Rattle.forms.specs.Words.{◌>>=◌}
 use Rattle.minelib_reading.specs.Denotes.{cpit_denoted, denoted}
 use Rattle.text_lines.specs.declared.text_fault.TextFault.{TextFault}
 use Rattle.mine_instance.specs.Instance.{Instance}

@@ -1,9 +1,7 @@
 -- One band more of a leach's record, and one destination more of a resource's.
 use Rattle.std.proofs.Common.{◌≡◌, ◌<◌, ◌+◌, ◌-◌, ◌*◌, ◌++◌, ℕ, suc, List, [], ◌∷◌, Some, None, Result, Ok, Err, refl, sym, ◌∙◌, ap, arith, append_assoc, append-nil}
 use Rattle.std.specs.Prelude.{replicate, ◌/◌}
-use Rattle.forms.specs.Field.{Value, Bytes}
-use Rattle.forms.specs.Read.{read_field}
-use Rattle.forms.specs.Steps.{◌>>=◌}
+use Rattle.forms.specs.Words.{Value, Bytes, read_field, ◌>>=◌}
 use Rattle.pit_model.specs.inner.ByPlace.{band_by, bands_in, covers_in, read_from}
 use Rattle.records.specs.RecordCells.{cell_at}
 use Rattle.pit_model.specs.PlanCells.{a_recovery, a_start, plan_kind}

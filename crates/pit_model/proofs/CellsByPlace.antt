@@ -4,11 +4,7 @@ use Rattle.std.proofs.Common.{refl, sym, ◌∙◌, ap, arith, drop-cons, length
 use Rattle.std.proofs.lemmas.Bool.Decides.{nat_tests}
 use Rattle.std.proofs.lemmas.Int.{ints}
 use Rattle.forms.proofs.FormFacts.{counted, read_fits}
-use Rattle.forms.specs.Field.{Field, Decimal, Value, Bytes, Millionths, below, between, whole, whole_at}
-use Rattle.forms.specs.Fit.{FitsField}
-use Rattle.forms.specs.Read.{read, read_field, read_fields}
-use Rattle.forms.specs.Shape.{Check, Shape, failing, said, unless}
-use Rattle.forms.specs.Steps.{◌>>=◌}
+use Rattle.forms.specs.Words.{Field, Decimal, Value, Bytes, Millionths, below, between, whole, whole_at, FitsField, read, read_field, read_fields, Check, Shape, failing, said, unless, ◌>>=◌}
 use Rattle.records.specs.RecordCells.{cell_at}
 use Rattle.pit_model.specs.inner.ByPlace.{bound_in, cone_in, destination_in, destined, grid_in, length_value, limit_in, limited, part_in, read_from, resource_in, said_by_place, size_value}
 use Rattle.pit_model.specs.FormulaShapes.{bands_asked, bands_form, bands_of, formula_shape}

@@ -2,8 +2,7 @@
 use Rattle.std.specs.Prelude.{ℕ, zero, suc, ◌/◌, ◌^◌, ◌<◌, ◌≤◌, List, [], ◌∷◌, drop, ℤ, pos, negsuc, ◌≤ℤ◌, unsigned_abs, int_div, slice_index_or}
 use Rattle.std.proofs.Common.{arith}
 use Rattle.std.proofs.lemmas.Int.{ints}
-use Rattle.forms.specs.Field.{Field, Decimal, Value, Millionths, Bytes, below, between, millionths, up_to, whole_stated}
-use Rattle.forms.specs.Fit.{FitsField, Fit}
+use Rattle.forms.specs.Words.{Field, Decimal, Value, Millionths, Bytes, below, between, millionths, up_to, whole_stated, FitsField, Fit}
 use Rattle.pit_model.specs.PlanCells.{metres}
 
 -- what fits a form fits the field of its place

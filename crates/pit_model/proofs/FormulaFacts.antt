@@ -2,9 +2,7 @@
 use Rattle.std.specs.Prelude.{◌≡◌, ℕ, zero, suc, ◌-◌, ◌/◌, ◌^◌, ◌≤◌, Bool, true, false, nat_le, List, [], ◌∷◌, ◌++◌, length, drop, All, Some, None, if◌then◌else◌}
 use Rattle.std.proofs.Common.{refl, arith, leb-true}
 use Rattle.std.proofs.lemmas.List.Elements.{All-nil, All-cons}
-use Rattle.forms.specs.Field.{Field, Value}
-use Rattle.forms.specs.Fit.{is_fine, Fit}
-use Rattle.forms.specs.Shape.{Check, check, failing}
+use Rattle.forms.specs.Words.{Field, Value, is_fine, Fit, Check, check, failing}
 use Rattle.pit_parts.specs.BandsKept.{AreBands, IsBand, starts_rise}
 use Rattle.pit_model.specs.FormulaShapes.{bands_form, bands_of, formula_shape}
 use Rattle.pit_model.specs.PlanCells.{a_recovery, a_start}

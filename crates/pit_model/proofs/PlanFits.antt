@@ -1,8 +1,7 @@
 -- The forms of a plan's records are fine.
 use Rattle.std.specs.Prelude.{◌≡◌, ℕ, zero, suc, ◌==◌, Bool, true, false, List, length, replicate, ◌-◌, Option, Some, None, if◌then◌else◌}
 use Rattle.std.proofs.Common.{refl}
-use Rattle.forms.specs.Fit.{is_fine}
-use Rattle.forms.specs.Grammar.{HasFineForms}
+use Rattle.forms.specs.Words.{is_fine, HasFineForms}
 use Rattle.records.specs.RecordCells.{cell_at, cells_of}
 use Rattle.pit_model.specs.PlanShapes.{blank_shape, bound_form, key_of, key_shape, record_shape, zone_form, a_destination}
 use Rattle.pit_model.specs.Planned.{plan_grammar}

@@ -6,11 +6,7 @@ use Rattle.std.proofs.lemmas.List.Quantifiers.{position-Some}
 use Rattle.std.specs.List.{list_any}
 use Rattle.std.specs.Str.{bytes_eq}
 use Rattle.forms.proofs.FormFacts.{spelled_fit}
-use Rattle.forms.specs.Field.{Field, Word, Value, Millionths, Bytes, millionths, number_at, whole_at}
-use Rattle.forms.specs.Fit.{is_fine, Fit, FitsField}
-use Rattle.forms.specs.GrammarStates.{AllState}
-use Rattle.forms.specs.Shape.{Shape, check, failing}
-use Rattle.forms.specs.ShapeStates.{States}
+use Rattle.forms.specs.Words.{Field, Word, Value, Millionths, Bytes, millionths, number_at, whole_at, is_fine, Fit, FitsField, AllState, Shape, check, failing, States}
 use Rattle.records.specs.RecordCells.{cell_at, cells_of}
 use Rattle.pit_model.specs.inner.DraftFields.{KeepsStated}
 use Rattle.pit_parts.specs.Plan.{PlanParts}

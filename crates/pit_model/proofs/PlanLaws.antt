@@ -2,9 +2,7 @@
 use Rattle.std.specs.Prelude.{◌≡◌, ℕ, ◌+◌, List, length, Result, Ok, Err, ◌⊎◌}
 use Rattle.std.proofs.Common.{refl, sym, ◌∙◌, ap, inl, inr}
 use Rattle.forms.proofs.GrammarFacts.{all_read, fault_read, read_all_states, read_first_fault}
-use Rattle.forms.specs.Grammar.{read_all}
-use Rattle.forms.specs.GrammarStates.{AllState, IsFirstFault}
-use Rattle.forms.specs.Steps.{◌>>=◌}
+use Rattle.forms.specs.Words.{read_all, AllState, IsFirstFault, ◌>>=◌}
 use Rattle.pit_parts.specs.Plan.{PlanParts}
 use Rattle.pit_model.specs.Planned.{IsLacking, SpellPlan, finished, finished_at, plan_grammar, planned}
 use Rattle.records.specs.Records.{records_of}

@@ -1,9 +1,7 @@
 -- One record of a plan after the other: what the records ahead state, behind those before them.
 use Rattle.std.proofs.Common.{◌≡◌, ◌<◌, ◌≤◌, ℕ, suc, ◌+◌, true, false, List, [], ◌∷◌, Result, Ok, Err, refl, sym, ◌∙◌, ap, arith, length, nat_le}
 use Rattle.std.proofs.lemmas.Bool.Decides.{nat_tests}
-use Rattle.forms.specs.Grammar.{placed, read_all}
-use Rattle.forms.specs.Shape.{said}
-use Rattle.forms.specs.Steps.{◌>>=◌}
+use Rattle.forms.specs.Words.{placed, read_all, said, ◌>>=◌}
 use Rattle.records.specs.RecordCells.{cells_of}
 use Rattle.pit_model.specs.inner.ByPlace.{record_said}
 use Rattle.pit_parts.specs.Plan.{PlanParts}

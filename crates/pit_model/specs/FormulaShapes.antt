@@ -1,8 +1,7 @@
 -- The formulas of a plan: of each its key, the form of its cells, what is asked of what they state,
 -- and the formula.
 use Rattle.std.specs.Prelude.{ℕ, zero, suc, ◌-◌, ◌/◌, ◌^◌, nat_le, List, [], ◌∷◌, ◌++◌, length, drop, unsigned_abs, Option, Some, None, codes, if◌then◌else◌}
-use Rattle.forms.specs.Field.{Field, Value, millionths, whole_at}
-use Rattle.forms.specs.Shape.{Check, check}
+use Rattle.forms.specs.Words.{Field, Value, millionths, whole_at, Check, check}
 use Rattle.pit_parts.specs.BandsKept.{starts_rise}
 use Rattle.pit_model.specs.PlanCells.{a_cost, a_name, a_price, a_recovery, a_start}
 use Rattle.pit_parts.specs.declared.band.Band.{Band}

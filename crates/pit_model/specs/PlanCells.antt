@@ -1,8 +1,7 @@
 -- The cells of a plan's records: what a cell of each kind takes, and the kind of fault where it does not.
 use Rattle.std.specs.Prelude.{ℕ, List, [], slice_index_or, ℤ, pos, ◌*ℤ◌}
-use Rattle.forms.specs.FieldFault.{FieldFault}
+use Rattle.forms.specs.Words.{FieldFault, Field, Decimal, Word, Value, Millionths, Bytes, between, up_to}
 use Rattle.forms.specs.FieldFault as fault
-use Rattle.forms.specs.Field.{Field, Decimal, Word, Value, Millionths, Bytes, between, up_to}
 use Rattle.pit_parts.specs.Name.{is_name}
 use Rattle.pit_model.specs.declared.plan_fault.PlanFaultKind.{PlanFaultKind}
 use Rattle.pit_model.specs.declared.plan_fault.PlanFaultKind.TheVariants.{Width, Number, TooFine, Range, Name}

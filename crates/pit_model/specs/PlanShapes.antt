@@ -3,8 +3,7 @@ use Rattle.std.specs.Prelude.{ℕ, suc, ◌+◌, ◌-◌, ◌/◌, ◌==◌, ◌
 use Rattle.std.specs.List.{list_any}
 use Rattle.std.specs.Option.{option_map}
 use Rattle.std.specs.Str.{bytes_eq}
-use Rattle.forms.specs.Field.{Field, Word, Value, below, number_at, whole_at}
-use Rattle.forms.specs.Shape.{Check, Shape, check}
+use Rattle.forms.specs.Words.{Field, Word, Value, below, number_at, whole_at, Check, Shape, check}
 use Rattle.records.specs.Cells.{is_word}
 use Rattle.records.specs.RecordCells.{cell_at}
 use Rattle.pit_model.specs.FormulaShapes.{formula_key_of, formula_shape}

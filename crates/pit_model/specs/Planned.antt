@@ -1,9 +1,6 @@
 -- The plan that a text states: what its records state in turn, once each part that must be there is.
 use Rattle.std.specs.Prelude.{◌≡◌, ℕ, ◌+◌, ◌==◌, ◌||◌, nat_le, List, ◌++◌, length, ℤ, Option, Some, Result, Ok, Err, if◌then◌else◌}
-use Rattle.forms.specs.Grammar.{Grammar, read_all}
-use Rattle.forms.specs.GrammarStates.{AllState}
-use Rattle.forms.specs.Shape.{Shape, check}
-use Rattle.forms.specs.Steps.{◌>>=◌}
+use Rattle.forms.specs.Words.{Grammar, read_all, AllState, Shape, check, ◌>>=◌}
 use Rattle.records.specs.RecordCells.{cells_of}
 use Rattle.pit_parts.specs.Plan.{PlanParts}
 use Rattle.pit_parts.specs.PlanKept.{plan_of}

@@ -1,7 +1,7 @@
 //! The cells of a `grid` record.
 
 ghost use Rattle.std.specs.Prelude.{◌≡◌, ◌≤◌, ◌*◌, ◌^◌, ◌≤ℤ◌, pos, IfOk};
-ghost use Rattle.forms.specs.Read.{read_field};
+ghost use Rattle.forms.specs.Words.{read_field};
 ghost use Rattle.pit_model.specs.inner.ByPlace.{ReadAs, grid_in, length_value, size_value};
 ghost use Rattle.pit_model.specs.PlanCells.{a_size, an_origin, plan_kind};
 ghost use Rattle.pit_parts.specs.PlanKept.{IsGrid};

@@ -3,8 +3,7 @@
 ghost use Rattle.std.specs.Prelude.{◌≡◌, ◌+◌, ◌<◌, ◌≤◌, ◌^◌, ◌≤ℤ◌, length, pos, bytes_eq, position, IfErr, IfOk, IfSome, OnErr, OnOk};
 ghost use Rattle.std.specs.List.{list_any, position_or_len};
 ghost use Rattle.pit_parts.specs.PlanKept.{AreTonnes, stands_before};
-ghost use Rattle.forms.specs.Field.{Millionths, below, whole};
-ghost use Rattle.forms.specs.Read.{read_field};
+ghost use Rattle.forms.specs.Words.{Millionths, below, whole, read_field};
 ghost use Rattle.pit_model.specs.inner.ByPlace.{ReadAs, bound_in};
 ghost use Rattle.pit_model.specs.PlanCells.{a_bound, plan_kind};
 ghost use Rattle.pit_model.specs.PlanShapes.{bound_form, is_interval};

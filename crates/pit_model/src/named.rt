@@ -4,8 +4,7 @@ ghost use Rattle.std.specs.Prelude.{◌≡◌, ◌-◌, ◌<◌, ◌≤◌, suc,
 ghost use Rattle.pit_units.specs.OrMemory.{Gives};
 ghost use Rattle.pit_model.specs.inner.ByPlace.{Finds, covers_in};
 ghost use Rattle.pit_parts.specs.PlanKept.{has_repeat};
-ghost use Rattle.forms.specs.Field.{Bytes};
-ghost use Rattle.forms.specs.Read.{read_field};
+ghost use Rattle.forms.specs.Words.{Bytes, read_field};
 ghost use Rattle.pit_model.specs.PlanCells.{a_name, plan_kind};
 ghost use Rattle.pit_model.specs.Stated.{destination_named, resource_named};
 ghost use Rattle.pit_parts.specs.declared.ranges.TheConstants.{MAX_DESTINATIONS, MAX_RESOURCES};

@@ -1,8 +1,7 @@
 //! The numbers in a plan's cells.
 
 ghost use Rattle.std.specs.Prelude.{◌≤◌, ◌*◌, ◌<◌, ◌≤ℤ◌, IfOk};
-ghost use Rattle.forms.specs.Field.{Decimal, Millionths, between, whole};
-ghost use Rattle.forms.specs.Read.{read_field};
+ghost use Rattle.forms.specs.Words.{Decimal, Millionths, between, whole, read_field};
 ghost use Rattle.pit_model.specs.inner.ByPlace.{ReadAs};
 ghost use Rattle.pit_model.specs.PlanCells.{plan_kind};
 

@@ -58,7 +58,7 @@ impl fmt::Display for PlanFaultKind {
 
 impl From<DecFault> for PlanFaultKind {
     ghost use Rattle.std.specs.Prelude.{◌≡◌, Ok, Err, ℤ};
-    ghost use Rattle.forms.specs.Read.{number_or_kind};
+    ghost use Rattle.forms.specs.Words.{number_or_kind};
     ghost use Rattle.pit_model.specs.PlanCells.{plan_kind};
 
     ghost from_gives = { λ fault kind. Err kind ≡ number_or_kind plan_kind (Err fault) };

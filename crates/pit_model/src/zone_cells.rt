@@ -1,8 +1,7 @@
 //! The cells of a `zone` record.
 
 ghost use Rattle.std.specs.Prelude.{◌≡◌, ◌≤◌, true, false, IfOk};
-ghost use Rattle.forms.specs.Field.{whole};
-ghost use Rattle.forms.specs.Read.{read_field};
+ghost use Rattle.forms.specs.Words.{whole, read_field};
 ghost use Rattle.pit_model.specs.inner.ByPlace.{ReadAs, cone_by, cone_in};
 ghost use Rattle.pit_parts.specs.PlanKept.{IsCone};
 ghost use Rattle.pit_model.specs.PlanCells.{a_leg, plan_kind};

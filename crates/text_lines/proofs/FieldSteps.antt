@@ -4,9 +4,7 @@ use Rattle.std.proofs.Common.{refl, sym, ◌∙◌, ap, arith, append-nil, appen
 use Rattle.std.proofs.lemmas.Bool.{le-leb, ne_eqb}
 use Rattle.forms.proofs.FormFacts.{read_fits}
 use Rattle.forms.proofs.NumberFields.{quotient, size_found, whole_found}
-use Rattle.forms.specs.Field.{Field, Value, Millionths, below, millionths, up_to, whole, whole_stated}
-use Rattle.forms.specs.Read.{read_field, read_fields}
-use Rattle.forms.specs.Steps.{◌>>=◌}
+use Rattle.forms.specs.Words.{Field, Value, Millionths, below, millionths, up_to, whole, whole_stated, read_field, read_fields, ◌>>=◌}
 use Rattle.text_lines.specs.FieldValues.{all_by, first_by, size_in, whole_in}
 use Rattle.text_lines.specs.LineKinds.{text_kind, text_kinds}
 use Rattle.text_lines.specs.declared.text_fault.TextKind.{TextKind}

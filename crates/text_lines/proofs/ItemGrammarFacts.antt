@@ -1,13 +1,7 @@
 -- Files of one line an item: they are read line by line as the code reads them, and what each line shows of its item stands at the end.
 use Rattle.std.specs.Prelude.{◌≡◌, ℕ, suc, List, [], ◌∷◌, ◌++◌, length, Option, Some, None, Result, Ok, Err}
 use Rattle.std.proofs.Common.{refl, sym, ◌∙◌, ap, subst}
-use Rattle.forms.specs.Field.{Value}
-use Rattle.forms.specs.Read.{read}
-use Rattle.forms.specs.Grammar.{placed, read_all}
-use Rattle.forms.specs.GrammarStates.{AllState}
-use Rattle.forms.specs.Shape.{Shape, failing, said, unless}
-use Rattle.forms.specs.ShapeStates.{States}
-use Rattle.forms.specs.Steps.{◌>>=◌}
+use Rattle.forms.specs.Words.{Value, read, placed, read_all, AllState, Shape, failing, said, unless, States, ◌>>=◌}
 use Rattle.text_lines.specs.ItemGrammar.{items_grammar, with_item}
 use Rattle.text_lines.specs.Reading.{at_line, read_lines}
 use Rattle.text_lines.specs.TextLines.{Line}

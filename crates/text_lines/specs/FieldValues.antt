@@ -2,9 +2,7 @@
 use Rattle.std.specs.Prelude.{◌≡◌, ℕ, List, [], ◌∷◌, ◌++◌, ℤ, unsigned_abs, Result, Ok, Err}
 use Rattle.std.specs.Borrow.{Bor}
 use Rattle.pit_units.specs.Decimal.{decimal_of}
-use Rattle.forms.specs.Field.{below, millionths, up_to, whole_stated}
-use Rattle.forms.specs.Read.{number_or_kind, read_field}
-use Rattle.forms.specs.Steps.{◌>>=◌}
+use Rattle.forms.specs.Words.{below, millionths, up_to, whole_stated, number_or_kind, read_field, ◌>>=◌}
 use Rattle.text_lines.specs.LineKinds.{text_kind}
 use Rattle.text_lines.specs.TextLines.{fields_of}
 use Rattle.text_lines.specs.declared.text_fault.TextKind.{TextKind}

@@ -1,7 +1,6 @@
 -- Files of one line an item: the shape of each line behind the items before it.
 use Rattle.std.specs.Prelude.{ℕ, List, [], ◌∷◌, ◌++◌, length}
-use Rattle.forms.specs.Grammar.{Grammar}
-use Rattle.forms.specs.Shape.{Shape}
+use Rattle.forms.specs.Words.{Grammar, Shape}
 use Rattle.text_lines.specs.TextLines.{Line}
 use Rattle.text_lines.specs.declared.text_fault.LineFault.{LineFault}
 use Rattle.text_lines.specs.declared.text_fault.TextKind.{TextKind}

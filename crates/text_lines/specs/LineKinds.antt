@@ -1,6 +1,6 @@
 -- The kind of fault of a line for what is wrong with its fields, whichever place a field has.
 use Rattle.std.specs.Prelude.{ℕ, Bool, if◌then◌else◌}
-use Rattle.forms.specs.FieldFault.{FieldFault}
+use Rattle.forms.specs.Words.{FieldFault}
 use Rattle.forms.specs.FieldFault as fault
 use Rattle.text_lines.specs.declared.text_fault.TextKind.{TextKind}
 use Rattle.text_lines.specs.declared.text_fault.TextKind.TheVariants as kind

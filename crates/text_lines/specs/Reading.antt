@@ -1,6 +1,6 @@
 -- Reading the lines of a text one after the other, up to the first faulty one, and what a reader answers of it.
 use Rattle.std.specs.Prelude.{ℕ, List, [], ◌∷◌, Result, Ok, Err}
-use Rattle.forms.specs.Steps.{◌>>=◌}
+use Rattle.forms.specs.Words.{◌>>=◌}
 use Rattle.pit_units.specs.OrMemory.{Gives}
 use Rattle.pit_units.specs.declared.or_memory.OrMemory.{OrMemory}
 use Rattle.pit_units.specs.declared.or_memory.OrMemory.TheVariants.{Fault, OutOfMemory}

@@ -5,7 +5,7 @@ use Rattle.std.proofs.lemmas.Bool.{eqb-true, eq-eqb}
 use Rattle.std.proofs.lemmas.Int.{ints}
 use Rattle.std.proofs.lemmas.Nat.{div-add-mod'}
 use Rattle.std.proofs.Math.Nat.{mul-div_left, div-lt_iff_lt-mul}
-use Rattle.forms.specs.Field.{is_on_step}
+use Rattle.forms.specs.Words.{is_on_step}
 use Rattle.pit_parts.specs.declared.grid.Axis.{Axis}
 use Rattle.zone_csv.specs.Cell.{IsInGrid, centroid, index_at, least}
 

@@ -4,7 +4,7 @@ use Rattle.std.specs.List.{AllZip}
 use Rattle.std.specs.Prelude.{Result, Option, ◌==◌, flat_map, map, nat_le, slice_index_or}
 use Rattle.std.proofs.lemmas.Bool.Decides.{nat_tests}
 use Rattle.records.specs.Cells.{trimmed, is_word}
-use Rattle.forms.specs.Shape.{Check, failing, unless}
+use Rattle.forms.specs.Words.{Check, failing, unless}
 use Rattle.zone_csv.proofs.RowFacts.{AreOfRow, failing_of_row}
 use Rattle.zone_csv.specs.Cell.{a_fault, trimmed_at}
 use Rattle.zone_csv.specs.Columns.{all_columns, column_name}

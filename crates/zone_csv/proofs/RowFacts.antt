@@ -8,15 +8,7 @@ use Rattle.std.proofs.lemmas.Int.{ints}
 use Rattle.std.proofs.lemmas.List.FromFn.{get_or-map-range_with_len, length-map-range_with_len}
 use Rattle.std.specs.List.{range_with_len}
 use Rattle.forms.proofs.ShapeFacts.{IsAnswer, said_answers, states_said, fails_said}
-use Rattle.forms.specs.Demands.{Demand, FailsFirst}
-use Rattle.forms.specs.Asked.{asked, asked_of_field, asked_of_fields}
-use Rattle.forms.specs.Field.{Field, Decimal, Stepped, Word, Value, Millionths, Bytes, millionths}
-use Rattle.forms.specs.FieldFault.{FieldFault}
-use Rattle.forms.specs.Read.{next_kinds, read}
-use Rattle.forms.specs.Steps.{◌>>=◌}
-use Rattle.forms.specs.Spelled.{Says, Spell}
-use Rattle.forms.specs.Shape.{Check, Shape, failing}
-use Rattle.forms.specs.ShapeStates.{Fails, States}
+use Rattle.forms.specs.Words.{Demand, FailsFirst, asked, asked_of_field, asked_of_fields, Field, Decimal, Stepped, Word, Value, Millionths, Bytes, millionths, FieldFault, next_kinds, read, ◌>>=◌, Says, Spell, Check, Shape, failing, Fails, States}
 use Rattle.pit_parts.specs.Block.{block_with}
 use Rattle.pit_parts.specs.declared.block.Block.{Block}
 use Rattle.pit_parts.specs.declared.grid.Axis.{Axis}

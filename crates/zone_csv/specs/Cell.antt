@@ -1,8 +1,7 @@
 -- What a cell of a row states, by the field of its column: a coordinate of the grid, a tonnage or a grade.
 use Rattle.std.specs.Prelude.{ℕ, ◌*◌, ◌/◌, List, [], ℤ, pos, negsuc, ◌+ℤ◌, ◌-ℤ◌, ◌*ℤ◌, ◌≤ℤ◌, unsigned_abs, slice_index_or}
-use Rattle.forms.specs.FieldFault.{FieldFault}
+use Rattle.forms.specs.Words.{FieldFault, Field, Stepped, up_to}
 use Rattle.forms.specs.FieldFault as fault
-use Rattle.forms.specs.Field.{Field, Stepped, up_to}
 use Rattle.records.specs.Cells.{trimmed}
 use Rattle.pit_parts.specs.declared.grid.Axis.{Axis}
 use Rattle.zone_csv.specs.declared.row_fault.Column.{Column}

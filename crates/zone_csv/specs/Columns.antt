@@ -1,6 +1,6 @@
 -- The columns of a zone file: their order, their names, and what their cells are.
 use Rattle.std.specs.Prelude.{ℕ, false, List, [], ◌∷◌, codes}
-use Rattle.forms.specs.Field.{Field, Word}
+use Rattle.forms.specs.Words.{Field, Word}
 use Rattle.pit_parts.specs.declared.grid.Grid.{Grid}
 use Rattle.zone_csv.specs.Cell.{a_tonnage, coordinate, grade}
 use Rattle.zone_csv.specs.declared.row_fault.Column.{Column}

@@ -1,6 +1,6 @@
 -- The header of a zone file: where its columns stand.
 use Rattle.std.specs.Prelude.{ℕ, ◌+◌, ◌==◌, nat_le, not, List, [], ◌∷◌, ◌++◌, length, map, flat_map, slice_index_or, Result, Ok, if◌then◌else◌}
-use Rattle.forms.specs.Shape.{Check, check, failing, unless}
+use Rattle.forms.specs.Words.{Check, check, failing, unless}
 use Rattle.records.specs.Cells.{trimmed, is_word}
 use Rattle.zone_csv.specs.Cell.{a_fault}
 use Rattle.zone_csv.specs.Columns.{all_columns, column_name}

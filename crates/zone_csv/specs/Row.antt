@@ -1,7 +1,6 @@
 -- What a row of a zone file looks like, and what it then says: a block, or its first fault.
 use Rattle.std.specs.Prelude.{ℕ, ◌*◌, ◌/◌, ◌+◌, ◌==◌, nat_le, List, [], ◌∷◌, ◌++◌, length, map, slice_index_or, pos, unsigned_abs, Result}
-use Rattle.forms.specs.Field.{Value, Millionths, number_at}
-use Rattle.forms.specs.Shape.{Shape, check, said}
+use Rattle.forms.specs.Words.{Value, Millionths, number_at, Shape, check, said}
 use Rattle.pit_parts.specs.Block.{block_with}
 use Rattle.pit_parts.specs.declared.block.Block.{Block}
 use Rattle.pit_parts.specs.declared.grid.Grid.{Grid}

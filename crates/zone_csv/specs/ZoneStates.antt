@@ -1,7 +1,6 @@
 -- What the records of a zone file state, as relations.
 use Rattle.std.specs.Prelude.{◌≡◌, ℕ, ◌+◌, List, [], ◌∷◌, drop, slice_index_or, Option, Some, None}
-use Rattle.forms.specs.Shape.{failing}
-use Rattle.forms.specs.ShapeStates.{Fails, States}
+use Rattle.forms.specs.Words.{failing, Fails, States}
 use Rattle.pit_parts.specs.declared.block.Block.{Block}
 use Rattle.pit_parts.specs.declared.grid.Grid.{Grid}
 use Rattle.zone_csv.specs.Header.{asked_of_header}

@@ -4,8 +4,7 @@ ghost use Rattle.std.specs.Prelude.{◌≡◌, ℕ, ◌*◌, ◌<◌, ◌≤◌,
 ghost use Rattle.pit_parts.specs.PlanKept.{IsAxis};
 ghost use Rattle.zone_csv.specs.Cell.{IsInGrid, a_fault, centroid, coordinate, greatest, least, of_cell};
 ghost use Rattle.zone_csv.specs.inner.RowAnswers.{as_value};
-ghost use Rattle.forms.specs.Field.{up_to};
-ghost use Rattle.forms.specs.Read.{number_or_kind, read_decimal, read_field};
+ghost use Rattle.forms.specs.Words.{up_to, number_or_kind, read_decimal, read_field};
 ghost use Rattle.pit_parts.specs.declared.ranges.TheConstants.{GRID_CELLS};
 
 use crate::row_fault::{Column, RowFault, RowFaultKind};

@@ -2,7 +2,7 @@
 
 ghost use Rattle.std.specs.Prelude.{◌≡◌, Ok};
 ghost use Rattle.csv.specs.Records.{fields_of};
-ghost use Rattle.forms.specs.Shape.{failing, unless};
+ghost use Rattle.forms.specs.Words.{failing, unless};
 ghost use Rattle.zone_csv.specs.Header.{asked_of_column, columns_of, place_in};
 
 use crate::cell::a_fault;

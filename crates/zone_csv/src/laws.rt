@@ -1,10 +1,7 @@
 //! What holds of every zone file and of every coordinate, for whoever speaks of them in a contract. The calls do nothing.
 
 ghost use Rattle.std.specs.Prelude.{◌≡◌, ◌*◌, ◌<◌, ◌⊎◌, ◌↔◌, ℕ, ℤ, true, List, Option, Result, Ok, Err, None, Some};
-ghost use Rattle.forms.specs.Field.{is_on_step};
-ghost use Rattle.forms.specs.Spelled.{Spell};
-ghost use Rattle.forms.specs.Shape.{failing};
-ghost use Rattle.forms.specs.ShapeStates.{Fails, States};
+ghost use Rattle.forms.specs.Words.{is_on_step, Spell, failing, Fails, States};
 ghost use Rattle.pit_units.specs.declared.or_memory.OrMemory.{OrMemory};
 ghost use Rattle.pit_parts.specs.declared.grid.Axis.{Axis as AnAxis};
 ghost use Rattle.pit_parts.specs.declared.grid.Grid.{Grid as AGrid};

@@ -1,8 +1,6 @@
 -- Lines of blocks and of predecessors as the code takes them.
 use Rattle.std.specs.Prelude.{ℕ, List, [], ◌∷◌, ◌++◌, length, Result, Ok}
-use Rattle.forms.specs.Read.{read_fields}
-use Rattle.forms.specs.Shape.{Shape, failing, said, unless}
-use Rattle.forms.specs.Steps.{◌>>=◌}
+use Rattle.forms.specs.Words.{read_fields, Shape, failing, said, unless, ◌>>=◌}
 use Rattle.pit_parts.specs.declared.block.Block.{Block}
 use Rattle.minelib_reading.specs.BlockLines.{block_shape}
 use Rattle.minelib_reading.specs.PrecLines.{preds_shape}

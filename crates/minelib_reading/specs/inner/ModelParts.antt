@@ -1,10 +1,7 @@
 -- How the parts of a model file's lines are taken, and how a draft of it is seen.
 use Rattle.std.specs.Prelude.{◌≡◌, ℕ, ◌/◌, ◌^◌, ◌==◌, not, Bool, true, List, [], ◌∷◌, ℤ, unsigned_abs, Result, Ok, Err, if◌then◌else◌}
 use Rattle.std.specs.Borrow.{Bor}
-use Rattle.forms.specs.Field.{Field, Value, millionths, whole_at}
-use Rattle.forms.specs.Read.{read, read_field, read_fields}
-use Rattle.forms.specs.Shape.{Shape, said}
-use Rattle.forms.specs.Steps.{◌>>=◌}
+use Rattle.forms.specs.Words.{Field, Value, millionths, whole_at, read, read_field, read_fields, Shape, said, ◌>>=◌}
 use Rattle.pit_parts.specs.Name.{is_name}
 use Rattle.pit_parts.specs.declared.limit.Limit.{Limit}
 use Rattle.mine_instance.specs.declared.coef.Coef.{Coef}

@@ -1,5 +1,5 @@
 -- What the header keys of a file say, as the code has it.
-use Rattle.forms.specs.Field.{Value}
+use Rattle.forms.specs.Words.{Value}
 use Rattle.minelib_lines.specs.LineValues.{key_value}
 use Rattle.minelib_lines.specs.declared.header_key.HeaderKey.{HeaderKey}
 use Rattle.minelib_writing.specs.declared.keys.KeyValues.{KeyValues}

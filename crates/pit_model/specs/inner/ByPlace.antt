@@ -1,10 +1,6 @@
 -- Cells read one after the other, each at its place, as code reads them.
 use Rattle.std.specs.Prelude.{◌≡◌, ℕ, suc, ◌-◌, ◌/◌, ◌%◌, ◌==◌, ◌||◌, Bool, not, nat_lt, List, [], ◌∷◌, ◌++◌, length, drop, replicate, ℤ, pos, ◌*ℤ◌, Option, Some, None, unwrap_or, Result, Ok, Err, if◌then◌else◌}
-use Rattle.forms.specs.Field.{Field, Value, Bytes, Millionths, below, whole_at}
-use Rattle.forms.specs.Read.{read_field}
-use Rattle.forms.specs.Grammar.{placed}
-use Rattle.forms.specs.Shape.{Check, Shape, failing, said, unless}
-use Rattle.forms.specs.Steps.{◌>>=◌}
+use Rattle.forms.specs.Words.{Field, Value, Bytes, Millionths, below, whole_at, read_field, placed, Check, Shape, failing, said, unless, ◌>>=◌}
 use Rattle.records.specs.RecordCells.{cell_at, cells_of}
 use Rattle.pit_model.specs.PlanCells.{a_cost, a_name, a_price, a_recovery, a_start, plan_kind, word_of}
 use Rattle.pit_model.specs.FormulaShapes.{band_at, bands_asked, bands_form, bands_of, formula_shape}

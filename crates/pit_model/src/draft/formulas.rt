@@ -1,7 +1,7 @@
 //! The records of destinations: for each formula its key, and how its cells are read.
 
 ghost use Rattle.std.specs.Prelude.{◌≡◌, ◌≤◌, [], length, All, IfOk, Ok};
-ghost use Rattle.forms.specs.Shape.{failing, unless};
+ghost use Rattle.forms.specs.Words.{failing, unless};
 ghost use Rattle.pit_units.specs.OrMemory.{Gives};
 ghost use Rattle.pit_parts.specs.BandsKept.{IsBand};
 ghost use Rattle.pit_model.specs.inner.ByPlace.{destination_in, destined, formula_in, prices_in, said_by_place};

@@ -1,7 +1,6 @@
 -- What the cells of a row and the row itself answer before the number of the row is put into a fault.
 use Rattle.std.specs.Prelude.{ℕ, ℤ, Result, Ok, Err}
-use Rattle.forms.specs.Field.{Value, Millionths}
-use Rattle.forms.specs.Steps.{◌>>=◌}
+use Rattle.forms.specs.Words.{Value, Millionths, ◌>>=◌}
 use Rattle.zone_csv.specs.Cell.{a_fault}
 use Rattle.zone_csv.specs.declared.cell.ColumnFault.{ColumnFault}
 use Rattle.zone_csv.specs.declared.row_fault.RowFault.{RowFault}

@@ -1,5 +1,5 @@
 use Rattle.std.proofs.Common.{sym, subst}
-use Rattle.forms.specs.ShapeStates.{States}
+use Rattle.forms.specs.Words.{States}
 use Rattle.minelib_reading.specs.ModelLines.{coef_line, limit_line, values_line}
 use Rattle.minelib_reading.proofs.BlockLineFacts.{block_back, block_line}
 use Rattle.minelib_reading.proofs.ModelSteps.{coef_back, coef_step, key_spelled, limit_back, limit_step, values_back, values_step}

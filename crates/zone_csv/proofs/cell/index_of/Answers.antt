@@ -1,6 +1,5 @@
 use Rattle.std.proofs.Common.{rules, ◌≡◌, ◌*◌, ◌/◌, ◌<◌, Ok, arith, ap, sym}
-use Rattle.forms.specs.Field.{Millionths}
-use Rattle.forms.specs.Read.{read_decimal}
+use Rattle.forms.specs.Words.{Millionths, read_decimal}
 use Rattle.zone_csv.specs.Cell.{IsInGrid, greatest, least, of_cell}
 use Rattle.zone_csv.proofs.CentroidFacts.{whole_sizes}
 use Rattle.zone_csv.proofs.cell.index_of.Goals as goal

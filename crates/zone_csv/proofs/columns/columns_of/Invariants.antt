@@ -1,7 +1,7 @@
 use Rattle.std.proofs.Common.{◌≡◌, drop, length, map, take}
 use Rattle.std.specs.Prelude.{flat_map}
 use Rattle.csv.specs.Records.{fields_of}
-use Rattle.forms.specs.Shape.{failing}
+use Rattle.forms.specs.Words.{failing}
 use Rattle.zone_csv.specs.Columns.{all_columns}
 use Rattle.zone_csv.specs.Header.{asked_of_column, asked_of_header, place_in}
 use Rattle.zone_csv.proofs.columns.columns_of.Given as goal

@@ -1,5 +1,5 @@
 use Rattle.std.proofs.Common.{◌*◌, ap, sym, subst, ◌∙◌}
-use Rattle.forms.specs.Field.{is_on_step}
+use Rattle.forms.specs.Words.{is_on_step}
 use Rattle.zone_csv.proofs.CentroidFacts.{centroid_in_grid, centroid_index, centroid_on_step, index_is_centroid}
 use Rattle.zone_csv.specs.Cell.{IsInGrid, index_at, least}
 use Rattle.zone_csv.proofs.laws.coordinates.Goals as goal
