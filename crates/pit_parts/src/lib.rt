@@ -9,6 +9,7 @@ pub mod formula;
 pub mod grid;
 pub mod laws;
 pub mod limit;
+pub mod listed;
 pub mod name;
 pub mod plan;
 pub mod ranges;
