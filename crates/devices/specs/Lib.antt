@@ -8,4 +8,5 @@ pub mod ReadFeedView
 pub mod SectionSinkView
 pub mod SinkState
 pub mod SinkSteps
+pub mod Writes
 pub mod inner

@@ -1,8 +1,7 @@
 //! A whole text to a sink.
 
-ghost use Rattle.std.specs.Prelude.{ℕ, List, IfErr, OnOk};
-ghost use Rattle.devices.specs.SinkState.{IsWritten, IsCutOff};
-ghost use Rattle.devices.specs.SinkSteps.{refusals, IsAppended, IsAppendCut};
+ghost use Rattle.std.specs.Prelude.{ℕ, List, OnOk};
+ghost use Rattle.devices.specs.Writes.{Writes, WritesOn};
 
 use crate::sink::Sink;
 use crate::slices::{LARGE, flush};
@@ -23,21 +22,15 @@ pub trait Text {
         sink: &mut S,
         buffer: &mut Vec<u8>,
     ) -> Result<(), WriteFault>
-        ensures written { OnOk result (IsAppended (text self.now)
-            buffer.old.items buffer.new.items (S.state sink.old) (S.state sink.new)) }
-        ensures refused { IfErr result (λ fault. IsAppendCut (refusals fault) (text self.now)
-            buffer.old.items (S.state sink.old) (S.state sink.new)) }
+        ensures writes { WritesOn (text self.now)
+            buffer.old.items buffer.new.items (S.state sink.old) (S.state sink.new) result }
         ensures kept { OnOk result (kept self.now) };
 }
 
 /// Begins the sink and writes the text.
 #[tactic(auto, using(crate::proofs::Fronts::cut_at_begin))]
 pub fn write_text<S: Sink, T: Text>(alloc: Global, text: &T, sink: &mut S) -> Result<(), WriteFault>
-    ensures written { OnOk result
-        (IsWritten (T.text text.now) (S.state sink.old) (S.state sink.new)) }
-    ensures refused { IfErr result
-        (λ fault. IsCutOff (refusals fault) (T.text text.now) (S.state sink.old)
-        (S.state sink.new)) }
+    ensures writes { Writes (T.text text.now) (S.state sink.old) (S.state sink.new) result }
     ensures kept { OnOk result (T.kept text.now) }
 {
     let mut buffer = Vec::with_capacity(alloc, 2 * LARGE)?;

@@ -8,7 +8,7 @@ use Rattle.minelib_lines.specs.Lines.{text_of}
 use Rattle.devices.specs.SinkState.{SinkState}
 use Rattle.devices.specs.SinkSteps.{IsAppended, IsAppendCut}
 use Rattle.devices.specs.declared.write_fault.WriteFault.{WriteFault}
-use Rattle.minelib_writing.specs.inner.WritesOn.{WritesOn}
+use Rattle.devices.specs.Writes.{WritesOn}
 use Rattle.devices.proofs.Fronts.{cut_before, cut_then, written_then}
 pub use Rattle.devices.proofs.Fronts.{buffered, nothing_put}
 

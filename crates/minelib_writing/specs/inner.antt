@@ -2,4 +2,3 @@ pub mod CoefParts
 pub mod KeptParts
 pub mod KeyParts
 pub mod Spaced
-pub mod WritesOn

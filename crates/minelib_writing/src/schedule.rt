@@ -4,7 +4,7 @@ ghost use Rattle.std.specs.Prelude.{OnOk, length};
 ghost use Rattle.minelib_lines.specs.Lines.{text_of};
 ghost use Rattle.minelib_writing.specs.Written.{section_lines};
 ghost use Rattle.minelib_writing.specs.inner.KeptParts.{HoldsFrom};
-ghost use Rattle.minelib_writing.specs.inner.WritesOn.{WritesOn};
+ghost use Rattle.devices.specs.Writes.{WritesOn};
 
 use crate::sections::{Section, write_titled};
 use devices::sink::Sink;

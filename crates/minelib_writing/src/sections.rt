@@ -3,7 +3,7 @@
 ghost use Rattle.std.specs.Prelude.{◌≡◌, ◌+◌, ◌<◌, ◌≤◌, ℕ, List, [], ◌∷◌, ◌++◌, length, take, drop, slice_index_or, IfOk, IfErr, OnOk, OnErr};
 ghost use Rattle.minelib_lines.specs.Lines.{text_of};
 ghost use Rattle.minelib_writing.specs.inner.KeptParts.{HoldsFrom};
-ghost use Rattle.minelib_writing.specs.inner.WritesOn.{WritesOn};
+ghost use Rattle.devices.specs.Writes.{WritesOn};
 ghost use Rattle.devices.specs.SinkSteps.{refusals, IsAppended, IsAppendCut};
 
 use crate::fields::put_text;

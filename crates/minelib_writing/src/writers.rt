@@ -2,7 +2,7 @@
 //! and holds the front of the text; after `SinkFailed` it refused one call, and after `OutOfMemory` none.
 
 ghost use Rattle.std.specs.Prelude.{◌≡◌, OnOk};
-ghost use Rattle.minelib_writing.specs.Writes.{Writes};
+ghost use Rattle.devices.specs.Writes.{Writes};
 ghost use Rattle.minelib_writing.specs.Written.{text_blocks, text_prec, text_upit, text_pcpsp, text_cpit};
 ghost use Rattle.minelib_writing.specs.Texts.{text_named};
 ghost use Rattle.minelib_writing.specs.TextsKept.{kept_named};

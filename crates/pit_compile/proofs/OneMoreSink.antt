@@ -5,7 +5,7 @@ use Rattle.std.proofs.lemmas.List.Elements.{All-cons, All-head, All-more, All-ni
 use Rattle.mine_instance.specs.Instance.{Instance}
 use Rattle.devices.specs.SinkState.{SinkState, IsWritten, IsCutOff}
 use Rattle.minelib_writing.specs.Texts.{all_texts, text_named}
-use Rattle.minelib_writing.specs.Writes.{Writes}
+use Rattle.devices.specs.Writes.{Writes}
 use Rattle.minelib_writing.specs.declared.text_name.TextName.{TextName}
 use Rattle.minelib_writing.specs.declared.text_name.TextName.TheVariants.{Blocks, Prec, Upit, Pcpsp, Cpit}
 use Rattle.devices.specs.declared.write_fault.WriteFault.{WriteFault}

@@ -1,5 +1,4 @@
 use Rattle.std.proofs.Common.{All, length}
-use Rattle.std.proofs.lemmas.Result.{MatchResult-weaker}
 use Rattle.minelib_lines.specs.Kept.{IsInDecimalRange, HasDecimals}
 use Rattle.minelib_lines.specs.KeyWords.{keys_of, type_text}
 use Rattle.minelib_lines.specs.LineValues.{header_of, key_value}
@@ -22,8 +21,7 @@ returns g c =
     let whole = goes_on _ _ keys sections c.write_sections.result first
     (rw c.as_slice.ensures at c.write_sections.ensures.writes) in
     record {
-      written = MatchResult-weaker c.write_sections.result whole (λ _ is. is) (λ _ _. tt);
-      refused = MatchResult-weaker c.write_sections.result whole (λ _ _. tt) (λ _ is. is);
+      writes = whole;
       kept = on_ok_three c.write_sections.result
           (λ values coefs limits. record {
             name = c.of_instance.ensures.kept;

@@ -1,6 +1,6 @@
 use Rattle.std.proofs.Common.{◌∷◌, length}
 use Rattle.std.specs.Prelude.{codes}
-use Rattle.std.proofs.lemmas.Result.{on_ok_weaker, MatchResult-weaker}
+use Rattle.std.proofs.lemmas.Result.{on_ok_weaker}
 use Rattle.minelib_lines.specs.KeyWords.{upit_keys}
 use Rattle.minelib_lines.specs.LineValues.{header_of, key_value}
 use Rattle.minelib_lines.specs.Lines.{text_of, lines_from}
@@ -17,7 +17,6 @@ returns g c =
     let first = buffered (text_of keys) (rw (c.of_instance.ensures.values, c.of_upit.ensures) at c.in_ok-put_keys.ensures) in
     let whole = goes_on _ _ keys values c.write_titled.result first c.write_titled.ensures.writes in
     record {
-      written = MatchResult-weaker c.write_titled.result whole (λ _ is. is) (λ _ _. tt);
-      refused = MatchResult-weaker c.write_titled.result whole (λ _ _. tt) (λ _ is. is);
+      writes = whole;
       kept = on_ok_weaker c.write_titled.result (λ _. tt) c.write_titled.ensures.kept;
     }
