@@ -1,14 +1,15 @@
 -- What marks tell of the numbers that were marked.
 use Rattle.std.proofs.Common.{◌≡◌, ℕ, zero, suc, ◌+◌, ◌<◌, ◌==◌, ◌&&◌, ◌||◌, Bool, true, false, not, true≢false, List, [], ◌∷◌, ◌++◌, length, take, drop, refl, sym, ap, ◌∙◌, subst, arith, get_or}
-use Rattle.std.specs.Prelude.{IsTrue, slice_index_or, slice_set}
+use Rattle.std.specs.Prelude.{All, IsTrue, nat_lt, slice_index_or, slice_set}
 use Rattle.std.proofs.Math.Seq.{take-suc}
-use Rattle.std.proofs.lemmas.Bool.{and_parts, or_parts}
+use Rattle.std.proofs.lemmas.Bool.{and_parts, ltb-true, ne_eqb, or_parts}
 use Rattle.std.proofs.lemmas.Bool.Decides.{nat_tests}
 use Rattle.std.proofs.lemmas.List.{get_or-set_other}
-use Rattle.std.proofs.lemmas.List.Folds.{list_any-append}
+use Rattle.std.proofs.lemmas.List.Elements.{All-cons, All-nil}
+use Rattle.std.proofs.lemmas.List.Folds.{list_any-append, list_any_none}
 use Rattle.std.proofs.lemmas.Grind.{get_or-set_at}
 use Rattle.std.proofs.Math.Bool.{or-true, or-false, and-false}
-use Rattle.minelib_reading.specs.inner.Marks.{AreMarked}
+use Rattle.minelib_reading.specs.inner.Marks.{AreMarked, rise_above}
 use Rattle.minelib_reading.specs.PrecLines.{stands_in, all_differ}
 
 one_more : (ids : List ℕ) (id place : ℕ) → stands_in (ids ++ id ∷ []) place ≡ (stands_in ids place || ((id == place) || false))
@@ -85,3 +86,21 @@ marked_at ids marks place within low differ just new =
     let more = take-suc ids place 0 within in
     let id = get_or ids place 0 in
     rw (next, more) (differ_more (take place ids) id differ (sym (just id) ∙ new), marked_more (take place ids) marks id low just)
+
+-- numbers that rise above a number are all above it
+rising_above : (own : ℕ) (ids : List ℕ) → rise_above own ids ≡ true → All (λ id. own < id) ids
+rising_above own [] e = All-nil (λ id. own < id)
+rising_above own (id ∷ ids) e =
+    let parts = and_parts (nat_lt own id) (rise_above id ids) e in
+    let first : own < id = ltb-true own id parts.0 in
+    All-cons (λ other. own < other) id ids first (λ k d within. let above = rising_above id ids parts.1 k d within in omega (arith, first, above))
+
+-- and differ from it and from one another
+pub rising_differ : (own : ℕ) (ids : List ℕ) → rise_above own ids ≡ true → (stands_in ids own ≡ false) × (all_differ ids ≡ true)
+rising_differ own [] e = (refl, refl)
+rising_differ own (id ∷ ids) e =
+    let parts = and_parts (nat_lt own id) (rise_above id ids) e in
+    let others = rising_differ id ids parts.1 in
+    let none : stands_in (id ∷ ids) own ≡ false = list_any_none (λ other. other == own) (id ∷ ids)
+    (λ k d within. let above = rising_above own (id ∷ ids) e k d within in ne_eqb _ own (λ same. omega (arith, above, same))) in
+    (none, rw (others.0, others.1) refl)

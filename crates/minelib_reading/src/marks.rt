@@ -1,7 +1,7 @@
 //! Whether numbers differ, in time that is linear in how many they are.
 
 ghost use Rattle.std.specs.Prelude.{◌≡◌, ◌<◌, ◌≤◌, length, All, IfOk};
-ghost use Rattle.minelib_reading.specs.inner.Marks.{AreClear, AreMarked};
+ghost use Rattle.minelib_reading.specs.inner.Marks.{AreClear, AreMarked, rise_above};
 ghost use Rattle.minelib_reading.specs.PrecLines.{all_differ};
 ghost use Rattle.pit_parts.specs.declared.ranges.TheConstants.{MAX_BLOCKS};
 
@@ -55,6 +55,21 @@ impl Marks {
         unmark(self.places.as_mut_slice(), ids);
         differ
     }
+}
+
+/// Whether the numbers rise, the first of them above `own`. Such numbers differ from one another and from `own`, and
+/// no mark is needed to know it.
+pub fn rise_above(own: u32, ids: &[u32]) -> bool
+    ensures { result ≡ rise_above own ids.now }
+{
+    let mut last = own;
+    for id in ids {
+        if *id <= last {
+            return false;
+        }
+        last = *id;
+    }
+    true
 }
 
 // Marks the numbers up to the first that is marked, and answers whether there was none.

@@ -1,15 +1,15 @@
 //! Reading a precedence file.
 
-ghost use Rattle.std.specs.Prelude.{◌≡◌, ◌<◌, ◌≤◌, [], All, IfOk, OnOk, length};
+ghost use Rattle.std.specs.Prelude.{◌≡◌, ◌<◌, ◌≤◌, ◌&&◌, [], not, All, IfOk, OnOk, length};
 ghost use Rattle.text_lines.specs.FieldValues.{all_by, whole_in};
 ghost use Rattle.minelib_reading.specs.inner.LinesTaken.{admit_preds, no_lists, uncounted_preds, preds_said};
-ghost use Rattle.minelib_reading.specs.PrecLines.{finish_preds, preds_in, stands_in};
+ghost use Rattle.minelib_reading.specs.PrecLines.{all_differ, finish_preds, preds_in, stands_in};
 ghost use Rattle.pit_units.specs.OrMemory.{Gives};
 ghost use Rattle.text_lines.specs.Reading.{Leaves};
 ghost use Rattle.text_lines.specs.TextLines.{fields_of};
 ghost use Rattle.pit_parts.specs.declared.ranges.TheConstants.{MAX_BLOCKS};
 
-use crate::marks::Marks;
+use crate::marks::{Marks, rise_above};
 use pit_units::OrMemory;
 use precedence::TakePreds;
 use std::alloc::{AllocError, Global};
@@ -88,10 +88,20 @@ fn uncounted_preds(
     if stated != ids.len() as u64 {
         return Err(OrMemory::Fault(TextKind::Count));
     }
-    if stands_in(ids, before as u32) || !marks.all_differ(ids) {
+    if !are_others(ids, before as u32, marks) {
         return Err(OrMemory::Fault(TextKind::Twice));
     }
     Ok(())
+}
+
+// Whether no number stands twice, and `own` not at all. Most lists rise, which is quicker to see than what is marked.
+#[tactic(auto, using(crate::proofs::MarkFacts::rising_differ))]
+fn are_others(ids: &[u32], own: u32, marks: &mut Marks) -> bool
+    requires { All (λ id. id < marks.old) ids.now }
+    ensures value { result ≡ (not (stands_in ids.now own) && all_differ ids.now) }
+    ensures kept { marks.new ≡ marks.old }
+{
+    rise_above(own, ids) || (!stands_in(ids, own) && marks.all_differ(ids))
 }
 
 // All identifiers of a line, of so many blocks.

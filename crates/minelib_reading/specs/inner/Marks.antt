@@ -1,5 +1,5 @@
 -- A table of marks, one for each number.
-use Rattle.std.specs.Prelude.{◌≡◌, ℕ, Bool, true, false, List, slice_index_or, IsTrue}
+use Rattle.std.specs.Prelude.{◌≡◌, ℕ, ◌&&◌, Bool, true, false, List, [], ◌∷◌, nat_lt, slice_index_or, IsTrue}
 use Rattle.minelib_reading.specs.PrecLines.{stands_in}
 
 -- no place is marked
@@ -9,3 +9,8 @@ AreClear marks = (place : ℕ) → slice_index_or marks place false ≡ false
 -- what is marked are numbers of the list
 abbrev pub AreMarked : List ℕ → List Bool → Type 0
 AreMarked ids marks = (place : ℕ) → slice_index_or marks place false ≡ true → IsTrue (stands_in ids place)
+
+-- the numbers rise, the first of them above this one
+abbrev pub rise_above : ℕ → List ℕ → Bool
+rise_above own [] = true
+rise_above own (id ∷ ids) = nat_lt own id && rise_above id ids
