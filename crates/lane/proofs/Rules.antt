@@ -17,7 +17,7 @@ use Rattle.lane.specs.Rule.{Role, Putter, Taker, Closer, part_of, role_of, Has, 
 use Rattle.lane.specs.Steps.{with_message, IsFree, HasEnded, PutSends, CloseSends, MaySend, MayTake, IsFull, full_view}
 use Rattle.lane.specs.inner.Views.{IsOrdered, Takes, sents_in, tooks_in, gathering_in}
 use Rattle.lane.specs.inner.Kept.{IsClosers}
-use Rattle.lane.proofs.Seats.{at_part, has_left, has_right, at_within, at_end, given, joined, opened}
+use Rattle.lane.proofs.Seats.{at_part, has_left, has_right, at_within, every_set, every_more, given, joined, opened}
 use Rattle.lane.proofs.Keeps.{begins}
 use Rattle.lane.proofs.Steps.{put_is, take_is, close_is, row_is, end_is, stop_is, quit_is, take_event}
 use Rattle.lane.proofs.Orders.{ordered}
@@ -82,13 +82,9 @@ counts pass f w c f' w' c' items views h at =
       first = at_longer vs ([] ∷ []) 0 (Count f' w' c'
           ∷ []) (subst (λ i. get_elem? vs i ≡ some (Count f' w' c' ∷ [])) k.1
           (set_here views pass (Count f' w' c' ∷ []) (at_within views pass _ at)));
-      others = λ j u e ne. ⊎_elim
-          (λ (x : get_elem? vs j ≡ some u).
-          ⊎_elim (λ (y : (j ≡ pass) × ((Count f' w' c' ∷ []) ≡ u)). absurd (ne (y.0
-          ∙ k.1))) (λ (y : (j ≢ pass) × (get_elem? views j ≡ some u)). k.0.others j u y.1 ne)
-          (at_set views pass j (Count f' w' c' ∷ []) u x))
-          (λ (x : (j ≡ length vs) × ([] ≡ u)). sym x.1)
-          (at_end vs [] u j e);
+      others = every_more (λ j u. (j ≡ 0 → ⊥) → u ≡ []) vs [] (λ _. refl)
+          (every_set (λ j u. (j ≡ 0 → ⊥) → u ≡ []) views pass (Count f' w' c' ∷ []) (λ ne. absurd (ne k.1))
+          (λ j u _ e ne. k.0.others j u e ne));
     })
 
 pub made : (items : List Taken) (views : List (List Part)) (pass f w c : ℕ) → IsLane items views

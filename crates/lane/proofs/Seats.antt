@@ -35,6 +35,34 @@ at_within [] i a e = absurd (some-ne-none a (sym e))
 at_within (x ∷ l) zero a e = omega arith
 at_within (x ∷ l) (suc i) a e = omega (arith, at_within l i a e)
 
+-- what holds of each element at its index still does where one changes, and where one more comes
+pub every_set : {A : Type 0} (P : ℕ → A → Type 0) (l : List A) (i : ℕ) (a : A) → P i a
+    → ((j : ℕ) (b : A) → (j ≡ i → ⊥) → get_elem? l j ≡ some b → P j b) → (j : ℕ) (b : A) → get_elem? (set l i a) j ≡ some b → P j b
+every_set P l i a here else j b e =
+    ⊎_elim (λ (x : (j ≡ i) × (a ≡ b)). subst (P j) x.1 (subst (λ k. P k a) (sym x.0) here))
+    (λ (x : (j ≢ i) × (get_elem? l j ≡ some b)). else j b x.0 x.1) (at_set l i j a b e)
+
+pub every_more : {A : Type 0} (P : ℕ → A → Type 0) (l : List A) (a : A) → P (length l) a
+    → ((j : ℕ) (b : A) → get_elem? l j ≡ some b → P j b) → (j : ℕ) (b : A) → get_elem? (l ++ a ∷ []) j ≡ some b → P j b
+every_more P [] a new old zero b e = subst (P 0) (some-injective a b e) new
+every_more P [] a new old (suc j) b e = absurd (some-ne-none b (sym e))
+every_more P (x ∷ l) a new old zero b e = old 0 b e
+every_more P (x ∷ l) a new old (suc j) b e = every_more (λ k. P (suc k)) l a new (λ k c. old (suc k) c) j b e
+
+-- what holds of the element at an index, where one changes
+some_set : {A : Type 0} (P Q : A → Type 0) (l : List A) (i : ℕ) (a b : A) → get_elem? l i ≡ some a → (P a → Q b) → (j : ℕ)
+    → ((j ≡ i → ⊥) → (c : A) → P c → Q c) → (c : A) × (get_elem? l j ≡ some c) × P c
+    → (c : A) × (get_elem? (set l i b) j ≡ some c) × Q c
+some_set P Q l i a b at here j else old =
+    ⊎_elim
+    (λ (e : j ≡ i). (
+      b,
+      ap (get_elem? (set l i b)) e ∙ set_here l i b (at_within l i a at),
+      here (subst P (some-injective old.0 a (sym old.1 ∙ (ap (get_elem? l) e ∙ at))) old.2),
+    ))
+    (λ (ne : j ≡ i → ⊥). (old.0, set_else l i j b ne ∙ old.1, else ne old.0 old.2))
+    (cases_eq j i)
+
 role_of_part : (n : Size) (s : State) (r : Role) → role_of (part_of n s r) ≡ Some r
 role_of_part n s (Putter f) = refl
 role_of_part n s (Taker w) = refl
@@ -43,6 +71,20 @@ role_of_part n s Closer = refl
 -- a part is of one role
 pub one_role : (n m : Size) (s t : State) (r q : Role) → part_of n s r ≡ part_of m t q → r ≡ q
 one_role n m s t r q e = let x : Some r ≡ Some q = sym (role_of_part n s r) ∙ (ap role_of e ∙ role_of_part m t q) in cc
+
+-- a view stays seated where the part of each role that stands in it stays, and its seat moves with it
+still : (n : Size) (s t : State) (seat new : Role → ℕ) (pass pass' : ℕ) (v : List Part)
+    → ((r : Role) → seat r ≡ pass → Has (part_of n s r) v → (part_of n t r ≡ part_of n s r) × (new r ≡ pass'))
+    → AllByRecursion (IsSeated n s seat pass) v → AllByRecursion (IsSeated n t new pass') v
+still n s t seat new pass pass' [] f h = tt
+still n s t seat new pass pass' (x ∷ v) f h =
+    let q = h.0 in
+    let kept = f q.0 q.3 (inl (sym q.2)) in
+    ((q.0, q.1, q.2 ∙ sym kept.0, kept.1), still n s t seat new pass pass' v (λ r e stands. f r e (inr stands)) h.1)
+
+free_of : (n : Size) (s : State) (role r : Role) (v : List Part) → IsFree role v → Has (part_of n s r) v → r ≡ role → ⊥
+free_of n s role r v f stands e =
+    at_part (λ x. role_of x ≡ Some role → ⊥) (part_of n s r) v stands f (role_of_part n s r ∙ ap (λ (a : Role). Some a) e)
 
 -- a role's part changes where it stands, and no other part does
 pub changed : (n : Size) (s t : State) (seat : Role → ℕ) (views : List (List Part)) (pass : ℕ) (role : Role) (rest : List Part)
@@ -53,71 +95,28 @@ changed n s t seat views pass role rest h at is free same =
     let mine = h.only pass (part_of n s role ∷ rest) at in
     let here : seat role ≡ pass = ap seat (one_role n n s s role mine.0.0 mine.0.2) ∙ mine.0.3 in
     record {
-      only = λ j u e. ⊎_elim
-          (λ (x : (j ≡ pass) × ((part_of n t role ∷ rest) ≡ u)).
-          subst (AllByRecursion (IsSeated n t seat j)) x.1
-          (subst (λ i. AllByRecursion (IsSeated n t seat i) (part_of n t role ∷ rest)) (sym x.0)
-          ((role, is, refl, here), rest_seated rest free mine.1)))
-          (λ (x : (j ≢ pass) × (get_elem? views j ≡ some u)).
-          all_weaker (IsSeated n s seat j) (IsSeated n t seat j)
-          (λ part q. (q.0, q.1, q.2 ∙ sym (same q.0 (λ e'. x.0 (sym q.3 ∙ (ap seat e' ∙ here)))), q.3)) u (h.only j u x.1))
-          (at_set views pass j (part_of n t role ∷ rest) u e);
-      stands = λ r is_r. let old = h.stands r is_r in ⊎_elim
-          (λ (e : seat r ≡ pass).
-          let v_is : old.0 ≡ part_of n s role ∷ rest = some-injective _ _ (sym old.1 ∙ (ap (get_elem? views) e ∙ at)) in (
-            part_of n t role ∷ rest,
-            ap (get_elem? (set views pass (part_of n t role ∷ rest))) e
-                ∙ set_here views pass (part_of n t role ∷ rest) (at_within views pass _ at),
-            stand r (subst (Has (part_of n s r)) v_is old.2),
-          ))
-          (λ (ne : seat r ≡ pass → ⊥). (
-            old.0,
-            set_else views pass (seat r) (part_of n t role ∷ rest) ne ∙ old.1,
-            subst (λ p. Has p old.0) (sym (same r (λ e. ne (ap seat e ∙ here)))) old.2,
-          ))
-          (cases_eq (seat r) pass);
+      only = every_set (λ j. AllByRecursion (IsSeated n t seat j)) views pass (part_of n t role ∷ rest)
+          (
+            (role, is, refl, here),
+            still n s t seat seat pass pass rest (λ r e stands. (same r (free_of n s role r rest free stands), e)) mine.1,
+          )
+          (λ j u ne e. still n s t seat seat j j u (λ r q _. (same r (λ x. ne (sym q ∙ (ap seat x ∙ here))), q)) (h.only j u e));
+      stands = λ r is_r. some_set (Has (part_of n s r)) (Has (part_of n t r)) views pass (part_of n s role ∷ rest)
+          (part_of n t role ∷ rest) at (stand r) (seat r)
+          (λ ne v. subst (λ p. Has p v) (sym (same r (λ e. ne (ap seat e ∙ here))))) (h.stands r is_r);
     }
   where
-    rest_seated : (v : List Part) → IsFree role v → AllByRecursion (IsSeated n s seat pass) v → AllByRecursion (IsSeated n t seat pass) v
-    rest_seated [] f q = tt
-    rest_seated (x ∷ v) f q = (
-      (
-        q.0.0,
-        q.0.1,
-        q.0.2 ∙ sym (same q.0.0 (λ e. f.0 (ap role_of q.0.2 ∙ (role_of_part n s q.0.0 ∙ ap (λ (a : Role). Some a) e)))),
-        q.0.3,
-      ),
-      rest_seated v f.1 q.1,
-    )
-
-    free_of : (part : Part) (v : List Part) → Has part v → IsFree role v → role_of part ≡ Some role → ⊥
-    free_of part v in' f = at_part (λ x. role_of x ≡ Some role → ⊥) part v in' f
-
     stand : (r : Role) → Has (part_of n s r) (part_of n s role ∷ rest) → Has (part_of n t r) (part_of n t role ∷ rest)
     stand r q = ⊎_elim
         (λ (e : part_of n s r ≡ part_of n s role). inl (ap (part_of n t) (one_role n n s s r role e)))
-        (λ (in' : Has (part_of n s r) rest).
-        inr (subst (λ p. Has p rest) (sym (same r
-        (λ e. free_of (part_of n s r) rest in' free (role_of_part n s r ∙ ap (λ (a : Role). Some a) e)))) in'))
+        (λ (in' : Has (part_of n s r) rest). inr (subst (λ p. Has p rest) (sym (same r (free_of n s role r rest free in'))) in'))
         q
-
-pub at_end : {A : Type 0} (l : List A) (a b : A) (j : ℕ) → get_elem? (l ++ a ∷ []) j ≡ some b → (get_elem? l j ≡ some b)
-    ⊎ ((j ≡ length l) × (a ≡ b))
-at_end [] a b zero e = inr (refl, some-injective a b e)
-at_end [] a b (suc j) e = absurd (some-ne-none b (sym e))
-at_end (x ∷ l) a b zero e = inl e
-at_end (x ∷ l) a b (suc j) e = ⊎_elim (λ q. inl q) (λ (q : (j ≡ length l) × (a ≡ b)). inr (ap suc q.0, q.1)) (at_end l a b j e)
 
 same_role : Role → Role → Bool
 same_role (Putter f) (Putter g) = f == g
-same_role (Putter f) (Taker w) = false
-same_role (Putter f) Closer = false
-same_role (Taker w) (Putter g) = false
 same_role (Taker w) (Taker x) = w == x
-same_role (Taker w) Closer = false
-same_role Closer (Putter g) = false
-same_role Closer (Taker w) = false
 same_role Closer Closer = true
+same_role _ _ = false
 
 same_role_itself : (r : Role) → same_role r r ≡ true
 unfolding same_role
@@ -128,14 +127,14 @@ same_role_itself Closer = refl
 same_role_is : (r q : Role) → same_role r q ≡ true → r ≡ q
 unfolding same_role
 same_role_is (Putter f) (Putter g) e = ap (λ k. Putter k) (eqb-true f g e)
-same_role_is (Putter f) (Taker w) e = absurd (false≢true e)
-same_role_is (Putter f) Closer e = absurd (false≢true e)
-same_role_is (Taker w) (Putter g) e = absurd (false≢true e)
 same_role_is (Taker w) (Taker x) e = ap (λ k. Taker k) (eqb-true w x e)
-same_role_is (Taker w) Closer e = absurd (false≢true e)
-same_role_is Closer (Putter g) e = absurd (false≢true e)
-same_role_is Closer (Taker w) e = absurd (false≢true e)
 same_role_is Closer Closer e = refl
+same_role_is _ _ e = absurd (false≢true e)
+
+role_cases : (r role : Role) → (r ≡ role) ⊎ ((r ≡ role → ⊥) × (same_role r role ≡ false))
+role_cases r role = ⊎_elim (λ (e : same_role r role ≡ true). inl (same_role_is r role e))
+    (λ (e : same_role r role ≡ false). inr ((λ q.
+    true≢false (sym (subst (λ x. same_role x role ≡ true) (sym q) (same_role_itself role)) ∙ e)), e)) (cases_Bool (same_role r role))
 
 reseated : (Role → ℕ) → Role → ℕ → Role → ℕ
 reseated seat role new r = cond (same_role r role) new (seat r)
@@ -146,27 +145,8 @@ reseated_here seat role new = ap (λ (b : Bool). cond b new (seat role)) (same_r
 
 reseated_else : (seat : Role → ℕ) (role : Role) (new : ℕ) (r : Role) → (r ≡ role → ⊥) → reseated seat role new r ≡ seat r
 unfolding reseated
-reseated_else seat role new r ne = ⊎_elim (λ (e : same_role r role ≡ true). absurd (ne (same_role_is r role e)))
-    (λ (e : same_role r role ≡ false). ap (λ (b : Bool). cond b new (seat r)) e) (cases_Bool (same_role r role))
-
-free_of : (n : Size) (s : State) (role r : Role) (v : List Part) → IsFree role v → Has (part_of n s r) v → r ≡ role → ⊥
-free_of n s role r v f in' e =
-    at_part (λ x. role_of x ≡ Some role → ⊥) (part_of n s r) v in' f (role_of_part n s r ∙ ap (λ (a : Role). Some a) e)
-
--- where a role has no part in the view, another seat for it changes nothing there
-elsewhere : (n : Size) (s : State) (seat : Role → ℕ) (pass : ℕ) (role : Role) (new : ℕ) (v : List Part) → IsFree role v
-    → AllByRecursion (IsSeated n s seat pass) v → AllByRecursion (IsSeated n s (reseated seat role new) pass) v
-elsewhere n s seat pass role new [] f q = tt
-elsewhere n s seat pass role new (x ∷ v) f q = (
-  (
-    q.0.0,
-    q.0.1,
-    q.0.2,
-    reseated_else seat role new q.0.0
-        (λ e. f.0 (ap role_of q.0.2 ∙ (role_of_part n s q.0.0 ∙ ap (λ (a : Role). Some a) e))) ∙ q.0.3,
-  ),
-  elsewhere n s seat pass role new v f.1 q.1,
-)
+reseated_else seat role new r ne = ⊎_elim (λ (e : r ≡ role). absurd (ne e))
+    (λ (x : (r ≡ role → ⊥) × (same_role r role ≡ false)). ap (λ (b : Bool). cond b new (seat r)) x.1) (role_cases r role)
 
 -- a part moves to a new pass
 pub given : (n : Size) (s : State) (seat : Role → ℕ) (views : List (List Part))
@@ -180,61 +160,36 @@ given n s seat views pass role first part rest h at named free =
     let old = h.only pass (first ∷ part ∷ rest) at in
     let mine = old.1.0 in
     let name : mine.0 ≡ role = let x : Some mine.0 ≡ Some role = sym (role_of_part n s mine.0) ∙ (sym (ap role_of mine.2) ∙ named) in cc in
-    let is : IsRole n role = subst (IsRole n) name mine.1 in
-    let here : seat role ≡ pass = ap seat (sym name) ∙ mine.3 in
     let part_is : part ≡ part_of n s role = mine.2 ∙ ap (part_of n s) name in
-    let right_seated : IsSeated n s new (length vs) part = (role, is, part_is, reseated_here seat role (length vs)) in
-    let left_seated : AllByRecursion (IsSeated n s new pass) left = elsewhere n s seat pass role (length vs) left free (old.0, old.1.1) in (
+    let other : (r : Role) → (r ≡ role → ⊥) → new r ≡ seat r = reseated_else seat role (length vs) in (
       new,
       record {
-        only = λ j u e. ⊎_elim
-            (λ (x : get_elem? vs j ≡ some u). ⊎_elim
-            (λ (y : (j ≡ pass) × (left ≡ u)). subst (AllByRecursion (IsSeated n s new j)) y.1
-            (subst (λ i. AllByRecursion (IsSeated n s new i) left) (sym y.0) left_seated))
-            (λ (y : (j ≢ pass) × (get_elem? views j ≡ some u)).
-            all_weaker (IsSeated n s seat j) (IsSeated n s new j)
-            (λ p q. (q.0, q.1, q.2, reseated_else seat role (length vs) q.0 (λ e'. y.0 (sym q.3 ∙ (ap seat e' ∙ here))) ∙ q.3)) u
-            (h.only j u y.1))
-            (at_set views pass j left u x))
-            (λ (x : (j ≡ length vs) × ((part ∷ []) ≡ u)). subst (AllByRecursion (IsSeated n s new j)) x.1
-            (subst (λ i. IsSeated n s new i part) (sym x.0) right_seated, tt))
-            (at_end vs (part ∷ []) u j e);
+        only = every_more (λ j. AllByRecursion (IsSeated n s new j)) vs (part ∷ [])
+            ((role, subst (IsRole n) name mine.1, part_is, reseated_here seat role (length vs)), tt)
+            (every_set (λ j. AllByRecursion (IsSeated n s new j)) views pass left
+            (still n s s seat new pass pass left (λ r e stands. (refl, other r (free_of n s role r left free stands) ∙ e)) (old.0, old.1.1))
+            (λ j u ne e. still n s s seat new j j u
+            (λ r q _. (refl, other r (λ x. ne (sym q ∙ (ap seat (x ∙ sym name) ∙ mine.3))) ∙ q)) (h.only j u e)));
         stands = λ r is_r. ⊎_elim
-            (λ (e : r ≡ role).
-            let seat_is : new r ≡ length vs = ap new e ∙ reseated_here seat role (length vs) in (
+            (λ (e : r ≡ role). (
               part ∷ [],
-              ap (get_elem? (vs ++ (part ∷ []) ∷ [])) seat_is ∙ at_last vs (part ∷ []) (length vs) refl,
+              ap (get_elem? (vs ++ (part ∷ []) ∷ [])) (ap new e ∙ reseated_here seat role (length vs))
+                  ∙ at_last vs (part ∷ []) (length vs) refl,
               inl (ap (part_of n s) e ∙ sym part_is),
             ))
-            (λ (ne : r ≡ role → ⊥).
-            let o = h.stands r is_r in
-            let seat_is : new r ≡ seat r = reseated_else seat role (length vs) r ne in
-            ⊎_elim
-            (λ (q : seat r ≡ pass).
-            let v_is : o.0 ≡ first ∷ part ∷ rest = some-injective _ _ (sym o.1 ∙ (ap (get_elem? views) q ∙ at)) in (
-              left,
-              ap (get_elem? (vs ++ (part ∷ []) ∷ [])) (seat_is ∙ q)
-                  ∙ at_longer vs ((part ∷ []) ∷ []) pass left (set_here views pass left (at_within views pass _ at)),
-              ⊎_elim (λ (a : part_of n s r ≡ first). inl a)
-                  (⊎_elim (λ (a : part_of n s r ≡ part). absurd (ne (one_role n n s s r role
-                  (a ∙ part_is)))) (λ (a : Has (part_of n s r) rest). inr a))
-                  (subst (Has (part_of n s r)) v_is o.2),
+            (λ (x : (r ≡ role → ⊥) × (same_role r role ≡ false)).
+            let kept = some_set (Has (part_of n s r)) (Has (part_of n s r)) views pass (first ∷ part ∷ rest) left at
+            (⊎_elim (λ (a : part_of n s r ≡ first). inl a)
+            (⊎_elim (λ (a : part_of n s r ≡ part). absurd (x.0 (one_role n n s s r role (a ∙ part_is))))
+            (λ (a : Has (part_of n s r) rest). inr a)))
+            (seat r) (λ _ v q. q) (h.stands r is_r) in (
+              kept.0,
+              ap (get_elem? (vs ++ (part ∷ []) ∷ [])) (other r x.0) ∙ at_longer vs ((part ∷ []) ∷ []) (seat r) kept.0 kept.1,
+              kept.2,
             ))
-            (λ (q : seat r ≡ pass → ⊥). (
-              o.0,
-              ap (get_elem? (vs ++ (part ∷ []) ∷ [])) seat_is
-                  ∙ at_longer vs ((part ∷ []) ∷ []) (seat r) o.0 (set_else views pass (seat r) left q ∙ o.1),
-              o.2,
-            ))
-            (cases_eq (seat r) pass))
-            (role_cases r);
+            (role_cases r role);
       },
     )
-  where
-    role_cases : (r : Role) → (r ≡ role) ⊎ (r ≡ role → ⊥)
-    role_cases r = ⊎_elim (λ (e : same_role r role ≡ true). inl (same_role_is r role e))
-        (λ (e : same_role r role ≡ false). inr (λ q.
-        true≢false (sym (subst (λ x. same_role x role ≡ true) (sym q) (same_role_itself role)) ∙ e))) (cases_Bool (same_role r role))
 
 -- one pass takes over the parts of another
 pub joined : (n : Size) (s : State) (seat : Role → ℕ) (views : List (List Part)) (pass other : ℕ) (v u : List Part)
@@ -247,46 +202,28 @@ joined n s seat views pass other v u h at apart at' =
     let moved : (r : Role) → seat r ≡ other → new r ≡ pass = λ r e. ap (λ (b : Bool). cond b pass (seat r)) (eq-eqb (seat r) other e) in
     let kept : (r : Role) → (seat r ≡ other → ⊥) → new r ≡ seat r =
     λ r e. ap (λ (b : Bool). cond b pass (seat r)) (ne_eqb (seat r) other e) in
+    let stay : (j : ℕ) (w : List Part) → (j ≡ other → ⊥) → get_elem? views j ≡ some w → AllByRecursion (IsSeated n s new j) w =
+    λ j w ne e. still n s s seat new j j w (λ r q _. (refl, kept r (λ x. ne (sym q ∙ x)) ∙ q)) (h.only j w e) in
     let all : AllByRecursion (IsSeated n s new pass) both =
-    all_joined (IsSeated n s new pass) v u
-    (all_weaker (IsSeated n s seat pass) (IsSeated n s new pass)
-    (λ p q. (q.0, q.1, q.2, kept q.0 (λ e. apart (sym e ∙ q.3)) ∙ q.3)) v (h.only pass v at))
-    (all_weaker (IsSeated n s seat other) (IsSeated n s new pass) (λ p q. (q.0, q.1, q.2, moved q.0 q.3)) u (h.only other u at')) in
-    let here : get_elem? (set vs other []) pass ≡ some both =
-    set_else vs other pass [] (λ e. apart (sym e)) ∙ set_here views pass both (at_within views pass _ at) in (
+    all_joined (IsSeated n s new pass) v u (stay pass v (λ e. apart (sym e)) at)
+    (still n s s seat new other pass u (λ r q _. (refl, moved r q)) (h.only other u at')) in (
       new,
       record {
-        only = λ j w e. ⊎_elim
-            (λ (x : (j ≡ other) × ([] ≡ w)). subst (AllByRecursion (IsSeated n s new j)) x.1 tt)
-            (λ (x : (j ≢ other) × (get_elem? vs j ≡ some w)). ⊎_elim
-            (λ (y : (j ≡ pass) × (both ≡ w)). subst (AllByRecursion (IsSeated n s new j)) y.1
-            (subst (λ i. AllByRecursion (IsSeated n s new i) both) (sym y.0) all))
-            (λ (y : (j ≢ pass) × (get_elem? views j ≡ some w)).
-            all_weaker (IsSeated n s seat j) (IsSeated n s new j)
-            (λ p q. (q.0, q.1, q.2, kept q.0 (λ e'. x.0 (sym q.3 ∙ e')) ∙ q.3)) w (h.only j w y.1))
-            (at_set views pass j both w x.1))
-            (at_set vs other j [] w e);
+        only = every_set (λ j. AllByRecursion (IsSeated n s new j)) vs other [] tt
+            (λ j w ne e. every_set (λ i x. (i ≡ other → ⊥) → AllByRecursion (IsSeated n s new i) x) views pass both (λ _. all)
+            (λ i x _ e' ne'. stay i x ne' e') j w e ne);
         stands = λ r is_r. let o = h.stands r is_r in ⊎_elim
-            (λ (e : seat r ≡ other).
-            let v_is : o.0 ≡ u = some-injective _ _ (sym o.1 ∙ (ap (get_elem? views) e ∙ at')) in (
+            (λ (e : seat r ≡ other). (
               both,
-              ap (get_elem? (set vs other [])) (moved r e) ∙ here,
-              has_right (part_of n s r) v u (subst (Has (part_of n s r)) v_is o.2),
+              ap (get_elem? (set vs other [])) (moved r e)
+                  ∙ (set_else vs other pass [] (λ e. apart (sym e)) ∙ set_here views pass both (at_within views pass _ at)),
+              has_right (part_of n s r) v u
+                  (subst (Has (part_of n s r)) (some-injective _ _ (sym o.1 ∙ (ap (get_elem? views) e ∙ at'))) o.2),
             ))
-            (λ (ne : seat r ≡ other → ⊥). ⊎_elim
-            (λ (q : seat r ≡ pass).
-            let v_is : o.0 ≡ v = some-injective _ _ (sym o.1 ∙ (ap (get_elem? views) q ∙ at)) in (
-              both,
-              ap (get_elem? (set vs other [])) (kept r ne ∙ q) ∙ here,
-              has_left (part_of n s r) v u (subst (Has (part_of n s r)) v_is o.2),
-            ))
-            (λ (q : seat r ≡ pass → ⊥). (
-              o.0,
-              ap (get_elem? (set vs other [])) (kept r ne)
-                  ∙ (set_else vs other (seat r) [] ne ∙ (set_else views pass (seat r) both q ∙ o.1)),
-              o.2,
-            ))
-            (cases_eq (seat r) pass))
+            (λ (ne : seat r ≡ other → ⊥).
+            let p = some_set (Has (part_of n s r)) (Has (part_of n s r)) views pass v both at (has_left (part_of n s r) v u) (seat r)
+            (λ _ w q. q) o in
+            (p.0, ap (get_elem? (set vs other [])) (kept r ne) ∙ (set_else vs other (seat r) [] ne ∙ p.1), p.2))
             (cases_eq (seat r) other);
       },
     )
@@ -327,19 +264,14 @@ module _ (n : Size) where
       let parts : List Part = all_parts n.files n.takers n.capacity in
       let vs : List (List Part) = set views 0 parts in
       record {
-        only = λ j u e. ⊎_elim
-            (λ (x : get_elem? vs j ≡ some u). ⊎_elim
-            (λ (y : (j ≡ 0) × (parts ≡ u)). subst (AllByRecursion (IsSeated n opening (λ r. 0) j)) y.1
-            (subst (λ i. AllByRecursion (IsSeated n opening (λ r. 0) i) parts) (sym y.0) (
+        only = every_more (λ j. AllByRecursion (IsSeated n opening (λ r. 0) j)) vs [] tt
+            (every_set (λ j. AllByRecursion (IsSeated n opening (λ r. 0) j)) views 0 parts
+            (
               (Closer, tt, refl, refl),
               all_joined (IsSeated n opening (λ r. 0) 0)
-                  (put_parts n.capacity 0 (replicate n.files [])) (take_parts n.capacity 0 (replicate n.takers [])) (new_puts 0 n.files
-                  (omega arith)) (new_takes 0 n.takers (omega arith)),
-            )))
-            (λ (y : (j ≢ 0) × (get_elem? views j ≡ some u)). subst (AllByRecursion (IsSeated n opening (λ r. 0) j))
-            (sym (others j u y.1 y.0)) tt)
-            (at_set views 0 j parts u x))
-            (λ (x : (j ≡ length vs) × ([] ≡ u)). subst (AllByRecursion (IsSeated n opening (λ r. 0) j)) x.1 tt)
-            (at_end vs [] u j e);
+                  (put_parts n.capacity 0 (replicate n.files [])) (take_parts n.capacity 0 (replicate n.takers []))
+                  (new_puts 0 n.files (omega arith)) (new_takes 0 n.takers (omega arith)),
+            )
+            (λ j u ne e. subst (AllByRecursion (IsSeated n opening (λ r. 0) j)) (sym (others j u e ne)) tt));
         stands = λ r is. (parts, at_longer vs ([] ∷ []) 0 parts (set_here views 0 parts (at_within views 0 v at)), has_new r is);
       }
