@@ -13,22 +13,6 @@ use Rattle.collector.specs.Fault.{is_after, fault}
 use Rattle.collector.specs.Found.{row_at, end_at, has_past}
 use Rattle.collector.proofs.Slots.{eqb-other, slot-put, slot-kept, length-with_row}
 
--- a row of no shelf is no double, so it does not matter which of the two is asked first
-outside_first : {A : Type 0} (outside double far : Bool) (x y z : A) → (outside ≡ true → double ≡ false) →
-    cond outside y (cond double x (cond far y z)) ≡ cond double x (cond (outside || far) y z)
-outside_first false double far x y z single = refl
-outside_first true double far x y z single = sym (cond-false double x y (single refl))
-
--- the fault of an item by the shelves is its fault by the items
-pub fault-kept : (files : ℕ) (held : List Item) (rows : ℕ → List Valued) (ends : ℕ → Option ℕ) (item : Item) →
-    IsKept files held rows ends → fault_in files rows ends item ≡ fault files held item
-fault-kept files held rows ends (Row v) kept =
-    let none : leb files v.file ≡ true → is_some (slot (rows v.file) v.place) ≡ false
-    = λ outside. ap (λ rs. is_some (slot rs v.place)) (kept.outside v.file (leb-true files v.file outside)) in
-    outside_first (leb files v.file) (is_some (slot (rows v.file) v.place)) (leb 1000000 v.place) _ _ _ none
-    ∙ rw ((kept.shelved v.file).row v.place, (kept.shelved v.file).ended)
-fault-kept files held rows ends (End file count) kept = rw ((kept.shelved file).ended, (kept.shelved file).past count)
-
 -- with one item more, the first look-up that finds something answers
 pub row_at-push : (file place : ℕ) (held : List Item) (item : Item) →
     row_at file place (held ++ item ∷ []) ≡ cond (is_some (row_at file place held)) (row_at file place held) (row_at file place (item ∷ []))
@@ -50,24 +34,6 @@ has_past-push file place [] item = refl
 has_past-push file place (End f n ∷ held) item = has_past-push file place held item
 has_past-push file place (Row v ∷ held) item =
     ⊎_elim (λ yes. rw yes) (λ no. rw no (has_past-push file place held item)) (cases_Bool (eqb v.file file && leb place v.place))
-
--- nothing is held
-bare : (file : ℕ) → IsShelved [] file [] None
-bare file = record {
-  row = λ place. refl;
-  ended = refl;
-  past = λ place. sym (le-ltb place 0 (omega arith));
-  few = omega arith;
-  closed = λ count e. absurd (none-some count e);
-}
-
-pub kept_start : (files : ℕ) (rows : ℕ → List Valued) (ends : ℕ → Option ℕ) → ((file : ℕ) → rows file ≡ [])
-    → ((file : ℕ) → ends file ≡ None) →
-    IsKept files [] rows ends
-kept_start files rows ends empty open' = record {
-  outside = λ file past. empty file;
-  shelved = λ file. rw (empty file, open' file) (bare file);
-}
 
 -- a look-up that finds something keeps its answer, and another one has that of the last item
 else-none : {A : Type 0} (o : Option A) → cond (is_some o) o None ≡ o

@@ -13,18 +13,6 @@ use Rattle.collector.specs.Fault.{fault}
 use Rattle.collector.specs.CollectorView.{CollectorView}
 use Rattle.collector.proofs.Kept.{kept_more}
 
-pub rows-at : (shelves : List Shelf) (file : ℕ) (s : Shelf) → slice_get shelves file ≡ Some s → rows_in shelves file ≡ s.rows
-rows-at shelves file s e = ap (λ o. unwrap_or (option_map (λ (t : Shelf). t.rows) o) []) e
-
-pub end-at : (shelves : List Shelf) (file : ℕ) (s : Shelf) → slice_get shelves file ≡ Some s → end_in shelves file ≡ s.end
-end-at shelves file s e = ap (option_and_then (λ (t : Shelf). t.end)) e
-
-pub rows-past : (shelves : List Shelf) (file : ℕ) → length shelves ≤ file → rows_in shelves file ≡ []
-rows-past shelves file past = ap (λ o. unwrap_or (option_map (λ (t : Shelf). t.rows) o) []) (slice_get_past shelves file past)
-
-pub end-past : (shelves : List Shelf) (file : ℕ) → length shelves ≤ file → end_in shelves file ≡ None
-end-past shelves file past = ap (option_and_then (λ (t : Shelf). t.end)) (slice_get_past shelves file past)
-
 -- the fault on a file's shelf is the fault among all shelves
 pub row_fault-at : (shelves : List Shelf) (v : Valued) (s : Shelf) → v.file < length shelves → s ≡ get_or shelves v.file s →
     row_fault s.rows s.end v.place ≡ fault_in (length shelves) (rows_in shelves) (end_in shelves) (Row v)
