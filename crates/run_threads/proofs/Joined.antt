@@ -1,6 +1,7 @@
 -- What joined threads gave back, by what they promised.
 use Rattle.std.proofs.Common.{◌≡◌, ℕ, zero, suc, ◌+◌, List, [], ◌∷◌, ◌++◌, Bool, true, false, Option, length, map, drop, get_or, refl, sym, ap, ◌∙◌, subst, arith, All, append_assoc}
 use Rattle.std.proofs.lemmas.List.{map-append, length-map}
+use Rattle.std.proofs.lemmas.Simd.{map-map}
 use Rattle.std.specs.List.{AllZip, list_any}
 use Rattle.std.proofs.lemmas.Bool.{or_parts}
 use Rattle.std.proofs.lemmas.List.Elements.{All-nil, All-cons, All-head, All-rest}
@@ -15,10 +16,6 @@ use Rattle.run_threads.specs.inner.Promises.{KeepsRead, KeepsValued, AreUnsentFr
 use Rattle.run_threads.specs.Reading.{AreRead}
 use Rattle.run_threads.specs.declared.file_reading.FileRead.{FileRead}
 
-map_twice : {X Y Z : Type 0} (f : X → Y) (g : Y → Z) (xs : List X) → map (λ x. g (f x)) xs ≡ map g (map f xs)
-map_twice f g [] = refl
-map_twice f g (x ∷ xs) = ap (λ w. g (f x) ∷ w) (map_twice f g xs)
-
 -- one more item joins those before it, and leaves the rest
 pub map_step : {X Y : Type 0} (f : X → Y) (old : List X) (x : X) (y : Y) (l rest all : List Y) → l ≡ y ∷ rest → f x ≡ y
     → map f old ++ l ≡ all
@@ -31,15 +28,10 @@ map_step f old x y l rest all is same h =
     ∙ h
 
 pub map_through : {X Y Z : Type 0} (f : X → Y) (g : Y → Z) (xs : List X) (ys : List Y) → map f xs ≡ ys → map (λ x. g (f x)) xs ≡ map g ys
-map_through f g xs ys same = map_twice f g xs ∙ ap (map g) same
+map_through f g xs ys same = sym (map-map g f xs) ∙ ap (map g) same
 
 pub same_lengths : {X Y Z : Type 0} (f : X → Z) (g : Y → Z) (xs : List X) (ys : List Y) → map f xs ≡ map g ys → length xs ≡ length ys
 same_lengths f g xs ys same = sym (length-map xs f) ∙ ap length same ∙ length-map ys g
-
-pub partly_none : {A B : Type 0} (R : A → B → Type 0) (all rest : List A) (done : List B) → done ≡ [] → all ≡ rest
-    → IsPartly R all done rest
-partly_none R all rest [] none same = same
-partly_none R all rest (y ∷ ys) none same = absurd (let n = ap length none in let z : ⊥ = omega arith in z)
 
 pub partly_more : {A B : Type 0} (R : A → B → Type 0) (all : List A) (done : List B) (x : A) (rest : List A) (y : B)
     → IsPartly R all done (x ∷ rest) → R x y → IsPartly R all (done ++ y ∷ []) rest
