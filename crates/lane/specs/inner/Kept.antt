@@ -105,11 +105,8 @@ pub record IsGathered (v : List Part) (count : ℕ) : Type 0 where
 
 -- the view is a closer's
 abbrev pub IsClosers : List Part → Type 0
-IsClosers [] = ⊥
-IsClosers (Count files takers capacity ∷ v) = ⊥
-IsClosers (Put file capacity sent ∷ v) = ⊥
-IsClosers (Take taker capacity took ∷ v) = ⊥
 IsClosers (Close files takers capacity stops quits ∷ v) = Unit {0}
+IsClosers _ = ⊥
 
 -- some ended parts joined the closer's, and those of the rest are to come
 pub record IsJoining (files takers capacity : ℕ) (lane : Lane) (all rest : List PutEndView) (v : List Part) (count : ℕ) : Type 0 where

@@ -17,25 +17,16 @@ pub record IsOrdered (took : List Taken) : Type 0 where
 
 -- what the first part of a view knows: its list, and the Quits that the closer put
 abbrev pub sent_in : List Part → List Taken
-sent_in [] = []
-sent_in (Count files takers capacity ∷ v) = []
 sent_in (Put file capacity sent ∷ v) = sent
-sent_in (Take taker capacity took ∷ v) = []
-sent_in (Close files takers capacity stops quits ∷ v) = []
+sent_in _ = []
 
 abbrev pub took_in : List Part → List Taken
-took_in [] = []
-took_in (Count files takers capacity ∷ v) = []
-took_in (Put file capacity sent ∷ v) = []
 took_in (Take taker capacity took ∷ v) = took
-took_in (Close files takers capacity stops quits ∷ v) = []
+took_in _ = []
 
 abbrev pub quits_in : List Part → ℕ
-quits_in [] = 0
-quits_in (Count files takers capacity ∷ v) = 0
-quits_in (Put file capacity sent ∷ v) = 0
-quits_in (Take taker capacity took ∷ v) = 0
 quits_in (Close files takers capacity stops quits ∷ v) = quits
+quits_in _ = 0
 
 -- a take tells that the message joined the taker's list, which is in order
 abbrev pub Takes : List Part → Taken → List Part → Type 0
@@ -44,49 +35,33 @@ Takes v m w = (w ≡ with_message v m) × IsOrdered (took_in w)
 -- the lists of all put parts, and of all take parts
 abbrev pub sents_in : List Part → List (List Taken)
 sents_in [] = []
-sents_in (Count files takers capacity ∷ v) = sents_in v
 sents_in (Put file capacity sent ∷ v) = sent ∷ sents_in v
-sents_in (Take taker capacity took ∷ v) = sents_in v
-sents_in (Close files takers capacity stops quits ∷ v) = sents_in v
+sents_in (_ ∷ v) = sents_in v
 
 abbrev pub tooks_in : List Part → List (List Taken)
 tooks_in [] = []
-tooks_in (Count files takers capacity ∷ v) = tooks_in v
-tooks_in (Put file capacity sent ∷ v) = tooks_in v
 tooks_in (Take taker capacity took ∷ v) = took ∷ tooks_in v
-tooks_in (Close files takers capacity stops quits ∷ v) = tooks_in v
+tooks_in (_ ∷ v) = tooks_in v
 
 abbrev pub gathering_in : List Part → GatheredView
 gathering_in v = record { sent = sents_in v; took = tooks_in v }
 
 -- how the views change as the lane is opened: one more file, taker or place; the count becomes all parts; the second part moves to a new pass
 abbrev pub more_files : List Part → List Part
-more_files [] = []
 more_files (Count files takers capacity ∷ v) = Count (files + 1) takers capacity ∷ v
-more_files (Put file capacity sent ∷ v) = []
-more_files (Take taker capacity took ∷ v) = []
-more_files (Close files takers capacity stops quits ∷ v) = []
+more_files _ = []
 
 abbrev pub more_takers : List Part → List Part
-more_takers [] = []
 more_takers (Count files takers capacity ∷ v) = Count files (takers + 1) capacity ∷ v
-more_takers (Put file capacity sent ∷ v) = []
-more_takers (Take taker capacity took ∷ v) = []
-more_takers (Close files takers capacity stops quits ∷ v) = []
+more_takers _ = []
 
 abbrev pub more_places : List Part → List Part
-more_places [] = []
 more_places (Count files takers capacity ∷ v) = Count files takers (capacity + 1) ∷ v
-more_places (Put file capacity sent ∷ v) = []
-more_places (Take taker capacity took ∷ v) = []
-more_places (Close files takers capacity stops quits ∷ v) = []
+more_places _ = []
 
 abbrev pub opened_view : List Part → List Part
-opened_view [] = []
 opened_view (Count files takers capacity ∷ v) = all_parts files takers capacity
-opened_view (Put file capacity sent ∷ v) = []
-opened_view (Take taker capacity took ∷ v) = []
-opened_view (Close files takers capacity stops quits ∷ v) = []
+opened_view _ = []
 
 abbrev pub without_second : List Part → List Part
 without_second [] = []
