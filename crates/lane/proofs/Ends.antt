@@ -1,5 +1,5 @@
 -- What the ends keep, as they send, join and give away their parts.
-use Rattle.std.proofs.Common.{◌≡◌, ℕ, ◌+◌, ◌<◌, Bool, true, false, ◌||◌, List, [], ◌∷◌, ◌++◌, length, sym, ap, ◌∙◌, subst, arith, length-append}
+use Rattle.std.proofs.Common.{◌≡◌, ℕ, ◌+◌, ◌<◌, Bool, true, false, ◌||◌, List, [], ◌∷◌, ◌++◌, length, refl, sym, ap, ◌∙◌, subst, arith, length-append}
 use Rattle.std.proofs.lemmas.List.Folds.{list_any-append}
 use Rattle.pit_parts.specs.declared.block.Block.{Block}
 use Rattle.lane.specs.declared.message.Taken.{Taken}
@@ -13,17 +13,13 @@ use Rattle.lane.specs.Steps.{with_message}
 use Rattle.lane.specs.inner.Views.{sent_in}
 use Rattle.lane.specs.inner.Kept.{IsOpenPut, IsEndedPut}
 use Rattle.lane.proofs.Lists.{count_more}
-use Rattle.lane.proofs.Messages.{from_row, from_end, ended_from}
+use Rattle.lane.proofs.Messages.{from_more, ended_from}
 
 -- the view of a put end after a send
-pub put_view : (v w : List Part) (f c : ℕ) (sent : List Taken) (m : Taken) → v ≡ Put f c sent ∷ [] → w ≡ with_message v m
-    → w ≡ Put f c (sent ++ m ∷ []) ∷ []
-put_view v w f c sent m is e = e ∙ ap (λ (x : List Part). with_message x m) is
-
 put_part : (v w : List Part) (f c : ℕ) (m : Taken) → v ≡ Put f c (sent_in v) ∷ [] → w ≡ with_message v m
     → (sent_in w ≡ sent_in v ++ m ∷ []) × (w ≡ Put f c (sent_in w) ∷ [])
 put_part v w f c m is e =
-    let x = put_view v w f c (sent_in v) m is e in
+    let x : w ≡ Put f c (sent_in v ++ m ∷ []) ∷ [] = e ∙ ap (λ (u : List Part). with_message u m) is in
     let a : sent_in w ≡ sent_in v ++ m ∷ [] = ap sent_in x in
     (a, x ∙ (λ i. Put f c (sym a i) ∷ []))
 
@@ -32,9 +28,7 @@ pub row_put : (v w : List Part) (f c count : ℕ) (b : Block) → IsOpenPut v f 
 row_put v w f c count b h e few =
     let m : Taken = Row f count b in
     let p = put_part v w f c m h.part e in
-    let list : IsFrom f 0 (sent_in v ++ m ∷ []) =
-    subst (λ k. IsFrom f 0 (sent_in v ++ Row f k b ∷ [])) (let z : 0 + length (sent_in v) ≡ count =
-    omega (arith, h.places) in z) (from_row f 0 (sent_in v) b h.list h.unended) in
+    let list : IsFrom f 0 (sent_in v ++ m ∷ []) = from_more f 0 (sent_in v) m h.list h.unended (refl, omega (arith, h.places), tt) in
     let open' : has_end (sent_in v ++ m ∷ []) ≡ false =
     list_any-append is_end (sent_in v) (m ∷ []) ∙ ap (λ (x : Bool). x || false) h.unended in
     record {
@@ -52,9 +46,7 @@ pub end_put : (v w : List Part) (f c count : ℕ) → IsOpenPut v f c count → 
 end_put v w f c count h e =
     let m : Taken = End f count in
     let p = put_part v w f c m h.part e in
-    let list : IsFrom f 0 (sent_in v ++ m ∷ []) =
-    subst (λ k. IsFrom f 0 (sent_in v ++ End f k ∷ [])) (let z : 0 + length (sent_in v) ≡ count =
-    omega (arith, h.places) in z) (from_end f 0 (sent_in v) h.list h.unended) in
+    let list : IsFrom f 0 (sent_in v ++ m ∷ []) = from_more f 0 (sent_in v) m h.list h.unended (refl, omega (arith, h.places), refl) in
     let ended : has_end (sent_in v ++ m ∷ []) ≡ true =
     list_any-append is_end (sent_in v) (m ∷ []) ∙ ap (λ (x : Bool). x || true) h.unended in
     record {

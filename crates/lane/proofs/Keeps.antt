@@ -13,7 +13,7 @@ use Rattle.lane.specs.MessageOrders.{IsFrom, MarksLast, AreStops, StopsLast}
 use Rattle.lane.specs.Machine.{Size, State, opening, Event, PutRow, PutEnd, PutStop, PutQuit, TakeNext, HasRoom, Allowed, with_at, put, take_front, take_next, after, after_all, AreAllowed, IsReached}
 use Rattle.lane.specs.Lawful.{over, IsPlaced, IsLawful}
 use Rattle.lane.proofs.Lists.{all_more, all_weaker, get_more, drop_front, count_more, count_front, with_at_all, with_at_here, over_zero, over_le, over_at}
-use Rattle.lane.proofs.Messages.{rising_more, of_yes, of_no, front_yes, front_no, of_one, mark_of_none, of_is_no_mark, unmarked, from_row, from_end, rows_all, from_place, placed_new, placed_later, placed_below, marks_more, stops_none, stops_more}
+use Rattle.lane.proofs.Messages.{rising_more, of_yes, of_no, front_yes, front_no, one_file, of_one, mark_of_none, of_is_no_mark, from_more, rows_all, from_place, placed_all, placed_later, placed_below, marks_more, stops_none, stops_more}
 
 pub begins : (n : Size) → IsLawful n opening
 begins n = record {
@@ -59,7 +59,7 @@ module _ (n : Size) (s : State) (h : IsLawful n s) where
       → IsLawful n (put f m s)
   puts f m room below open' is new =
       let z = no_stops f below open' in
-      let data' = unmarked m (of_is_no_mark f m is) in
+      let data' = of_is_no_mark f m is in
       record {
         lists = with_at_all (λ j l. IsFrom j 0 l) s.sent f (s.sent f ++ m ∷ []) new (λ j _. h.lists j);
         files = with_at_all (λ j l. n.files ≤ j → l ≡ []) s.sent f (s.sent f ++ m ∷ []) (λ l. absurd (omega arith)) (λ j _. h.files j);
@@ -229,15 +229,9 @@ module _ (n : Size) (s : State) (h : IsLawful n s) (w : ℕ) (m : Taken) (ms : L
       takes n s h w m ms front below undone h.left (λ j. omega arith) h.within
       (λ j p. ap (λ (b : Bool). cond {A = ℕ} (nat_lt p (h.left j)) 1 0 + cond (b && (position m == p)) 1 0) (mark_of_none j m t)
       ∙ (let z : cond {A = ℕ} (nat_lt p (h.left j)) 1 0 + 0 ≡ cond (nat_lt p (h.left j)) 1 0 = omega arith in z))
-      (placed_mark m t)
+      (placed_all s.sent h.left m (λ j e. absurd (true≢false (sym e ∙ mark_of_none j m t))))
       (λ j e. absurd (true≢false (sym e ∙ mark_of_none j m t)))
       (λ j. sym (front_no j m ms (mark_of_none j m t)) ∙ (sym (ap (of j) front) ∙ h.rest j))
-    where
-      placed_mark : (x : Taken) → is_mark x ≡ true → IsPlaced s.sent h.left x
-      placed_mark (Row g p b) e = absurd (cc)
-      placed_mark (End g k) e = absurd (cc)
-      placed_mark Stop e = tt
-      placed_mark Quit e = tt
 
   take_of : (f : ℕ) → is_of f m ≡ true → IsLawful n (take_front w m ms s)
   take_of f is =
@@ -255,9 +249,9 @@ module _ (n : Size) (s : State) (h : IsLawful n s) (w : ℕ) (m : Taken) (ms : L
       (λ i ne. ap (λ (b : Bool). cond {A = ℕ} (nat_lt p (h.left i)) 1 0 + cond (b && (position m == p)) 1 0) (of_one f i m is ne)
       ∙ (let z : cond {A = ℕ} (nat_lt p (h.left i)) 1 0 + 0 ≡ cond (nat_lt p (h.left i)) 1 0 = omega arith in z))
       j)
-      (placed_new s.sent left' f m is (omega (arith, at', here)) (ap (slice_get (s.sent f)) at' ∙ d.0))
-      (λ j e. ⊎_elim (λ (q : j ≡ f). at' ∙ ap h.left (sym q))
-      (λ (ne : j ≡ f → ⊥). absurd (true≢false (sym e ∙ of_one f j m is ne))) (cases_eq j f))
+      (placed_all s.sent left' m (λ j e. subst (λ i. (position m < left' i) × (slice_get (s.sent i) (position m) ≡ Some m))
+      (sym (one_file f j m is e)) (omega (arith, at', here), ap (slice_get (s.sent f)) at' ∙ d.0)))
+      (λ j e. at' ∙ ap h.left (sym (one_file f j m is e)))
       (with_at_all (λ j l. of j ms ≡ drop l (s.sent j)) h.left f (h.left f + 1)
       (sym d.1 ∙ ap (λ k. drop k (s.sent f)) (let z : suc (h.left f) ≡ h.left f + 1 = omega arith in z))
       (λ j ne. sym (front_no j m ms (of_one f j m is ne)) ∙ (sym (ap (of j) front) ∙ h.rest j)))
@@ -276,11 +270,10 @@ take_queue n s h w (m ∷ ms) e below undone = take_any n s h w m ms e below und
 
 pub keeps : (n : Size) (s : State) (e : Event) → IsLawful n s → Allowed n s e → IsLawful n (after s e)
 keeps n s (PutRow f b) h a = puts n s h f (Row f (length (s.sent f)) b) a.1 a.0 a.2 (eq-eqb f f refl)
-    (subst (λ k. IsFrom f 0 (s.sent f ++ Row f k b ∷ [])) (let z : 0 + length (s.sent f) ≡ length (s.sent f) =
-    omega arith in z) (from_row f 0 (s.sent f) b (h.lists f) a.2))
+    (from_more f 0 (s.sent f) (Row f (length (s.sent f)) b) (h.lists f) a.2 (refl, omega arith, tt))
 keeps n s (PutEnd f) h a = puts n s h f (End f (rows_in (s.sent f))) a.1 a.0 a.2 (eq-eqb f f refl)
-    (subst (λ k. IsFrom f 0 (s.sent f ++ End f k ∷ [])) (let z : 0 + length (s.sent f) ≡ rows_in (s.sent f) =
-    omega (arith, rows_all f 0 (s.sent f) (h.lists f) a.2) in z) (from_end f 0 (s.sent f) (h.lists f) a.2))
+    (from_more f 0 (s.sent f) (End f (rows_in (s.sent f))) (h.lists f) a.2
+    (refl, omega (arith, rows_all f 0 (s.sent f) (h.lists f) a.2), refl))
 keeps n s PutStop h a = put_stop n s h a
 keeps n s PutQuit h a = put_quit n s h a
 keeps n s (TakeNext w) h a = take_queue n s h w s.queue refl a.0 a.2

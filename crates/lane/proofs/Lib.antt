@@ -3,11 +3,8 @@ pub mod Messages
 pub mod Keeps
 pub mod Seats
 pub mod Steps
-pub mod Orders
 pub mod Wholes
 pub mod Rules
 pub mod Ends
 pub mod Opens
 pub mod Joining
-pub mod Sent
-pub mod HandedOver

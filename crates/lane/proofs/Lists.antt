@@ -16,6 +16,21 @@ module _ {A : Type 0} where
   all_weaker P Q f [] h = tt
   all_weaker P Q f (x ∷ xs) h = (f x h.0, all_weaker P Q f xs h.1)
 
+  -- what holds of all holds at each index, and what holds at each index holds of all
+  pub all_get : (P : A → Type 0) (xs : List A) (i : ℕ) (x : A) → AllByRecursion P xs → slice_get xs i ≡ Some x → P x
+  all_get P [] i x h e = absurd (cc)
+  all_get P (y ∷ xs) zero x h e = let q : y ≡ x = cc in subst P q h.0
+  all_get P (y ∷ xs) (suc i) x h e = all_get P xs i x h.1 e
+
+  pub all_at : (P : A → Type 0) (xs : List A) → ((i : ℕ) (x : A) → slice_get xs i ≡ Some x → P x) → AllByRecursion P xs
+  all_at P [] h = tt
+  all_at P (x ∷ xs) h = (h 0 x refl, all_at P xs (λ i y e. h (suc i) y e))
+
+  pub some_at : (xs : List A) (i : ℕ) → i < length xs → (x : A) × (slice_get xs i ≡ Some x)
+  some_at [] i l = absurd (omega arith)
+  some_at (x ∷ xs) zero l = (x, refl)
+  some_at (x ∷ xs) (suc i) l = some_at xs i (omega arith)
+
   pub get_more : (xs ys : List A) (i : ℕ) (x : A) → slice_get xs i ≡ Some x → slice_get (xs ++ ys) i ≡ Some x
   get_more [] ys i x e = absurd (cc)
   get_more (y ∷ xs) ys zero x e = e
@@ -72,18 +87,7 @@ pub over_at : {A : Type 0} (F : A → ℕ) (n : ℕ) (g : ℕ → A) (k : ℕ) (
 over_at F zero g k x l = absurd (omega arith)
 over_at {A} F (suc n) g k x l =
     ⊎_elim
-    (λ (e : k ≡ n).
-    let low : over n (λ j. F (with_at g k x j)) ≡ over n (λ j. F (g j)) =
-    over_same n _ _ (λ j below. ap F (with_at_else g k x j (λ q. omega arith))) in
-    let last : F (with_at g k x n) ≡ F x = subst (λ i. F (with_at g k x i) ≡ F x) e (ap F (with_at_here g k x)) in
-    let old : F (g k) ≡ F (g n) = ap (λ i. F (g i)) e in
-    let goal : (over n (λ j. F (with_at g k x j)) + F (with_at g k x n)) + F (g k) ≡ (over n (λ j. F (g j)) + F (g n))
-    + F x = omega arith in
-    goal)
-    (λ (ne : k ≡ n → ⊥).
-    let low : over n (λ j. F (with_at g k x j)) + F (g k) ≡ over n (λ j. F (g j)) + F x = over_at F n g k x (omega arith) in
-    let last : F (with_at g k x n) ≡ F (g n) = ap F (with_at_else g k x n (λ q. ne (sym q))) in
-    let goal : (over n (λ j. F (with_at g k x j)) + F (with_at g k x n)) + F (g k) ≡ (over n (λ j. F (g j)) + F (g n))
-    + F x = omega arith in
-    goal)
+    (λ (e : k ≡ n). omega (arith, over_same n (λ j. F (with_at g k x j)) (λ j. F (g j)) (λ j below. ap F (with_at_else g k x j (λ q. omega arith))),
+    subst (λ i. F (with_at g k x i) ≡ F x) e (ap F (with_at_here g k x)), ap (λ i. F (g i)) e))
+    (λ (ne : k ≡ n → ⊥). omega (arith, over_at F n g k x (omega arith), ap F (with_at_else g k x n (λ q. ne (sym q)))))
     (cases_eq k n)

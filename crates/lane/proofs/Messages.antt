@@ -1,17 +1,16 @@
 -- Lists of messages, with one more message behind.
-use Rattle.std.proofs.Common.{◌≡◌, ℕ, zero, suc, ◌+◌, ◌<◌, ◌≤◌, Bool, true, false, cond, ◌||◌, List, [], ◌∷◌, ◌++◌, length, map, slice_get, Some, None, refl, sym, ap, ◌∙◌, subst, arith, count_by, append-nil}
+use Rattle.std.proofs.Common.{◌≡◌, ⊎_elim, ℕ, zero, suc, ◌+◌, ◌<◌, ◌≤◌, Bool, true, false, cond, ◌||◌, List, [], ◌∷◌, ◌++◌, length, map, slice_get, Some, None, refl, sym, ap, ◌∙◌, subst, arith, count_by, append-nil}
 use Rattle.std.specs.List.{AllByRecursion}
 use Rattle.std.specs.List.Sorted.{IsStrictlyIncreasing}
-use Rattle.std.proofs.lemmas.Bool.{eqb-true, eq-eqb, ne_eqb, true≢false, or_parts}
+use Rattle.std.proofs.lemmas.Bool.{cases_Bool, eqb-true, eq-eqb, true≢false, or_parts}
 use Rattle.std.proofs.lemmas.List.Elements.{All-from_recursion, filter-append}
 use Rattle.std.proofs.lemmas.List.Kept.{AllPairs-from_increasing}
 use Rattle.std.proofs.lemmas.List.Quantifiers.{all_pairs_push}
 use Rattle.std.proofs.Math.Bool.{or-false}
-use Rattle.pit_parts.specs.declared.block.Block.{Block}
 use Rattle.lane.specs.declared.message.Taken.{Taken}
 use Rattle.lane.specs.declared.message.Taken.TheVariants.{Row, End, Stop, Quit}
 use Rattle.lane.specs.Message.{is_of, of, position, IsEndedFrom}
-use Rattle.lane.specs.MessageKinds.{is_row, is_stop, is_quit, is_mark, rows_in, has_end, is_done, ends_in_mark}
+use Rattle.lane.specs.MessageKinds.{is_row, is_end, is_stop, is_quit, is_mark, rows_in, has_end, is_done, ends_in_mark}
 use Rattle.lane.specs.MessageOrders.{IsFrom, MarksLast, StopsLast}
 use Rattle.lane.specs.Lawful.{IsPlaced}
 use Rattle.lane.proofs.Lists.{all_more, count_front}
@@ -34,86 +33,61 @@ pub front_no : (f : ℕ) (m : Taken) (ms : List Taken) → is_of f m ≡ false �
 front_no f m ms e = ap (λ (b : Bool). cond b (m ∷ of f ms) (of f ms)) e
 
 -- a message is of one file
+pub one_file : (f j : ℕ) (m : Taken) → is_of f m ≡ true → is_of j m ≡ true → j ≡ f
+one_file f j (Row g p b) e d = sym (eqb-true g j d) ∙ eqb-true g f e
+one_file f j (End g n) e d = sym (eqb-true g j d) ∙ eqb-true g f e
+one_file f j _ e d = absurd (cc)
+
 pub of_one : (f j : ℕ) (m : Taken) → is_of f m ≡ true → (j ≡ f → ⊥) → is_of j m ≡ false
-of_one f j (Row g p b) e ne = ne_eqb g j (λ q. ne (sym q ∙ eqb-true g f e))
-of_one f j (End g n) e ne = ne_eqb g j (λ q. ne (sym q ∙ eqb-true g f e))
-of_one f j Stop e ne = refl
-of_one f j Quit e ne = refl
+of_one f j m e ne =
+    ⊎_elim (λ (d : is_of j m ≡ true). absurd (ne (one_file f j m e d))) (λ (d : is_of j m ≡ false). d) (cases_Bool (is_of j m))
 
 pub mark_of_none : (j : ℕ) (m : Taken) → is_mark m ≡ true → is_of j m ≡ false
 mark_of_none j (Row g p b) e = absurd (cc)
 mark_of_none j (End g n) e = absurd (cc)
-mark_of_none j Stop e = refl
-mark_of_none j Quit e = refl
+mark_of_none j _ e = refl
 
-pub of_is_no_mark : (f : ℕ) (m : Taken) → is_of f m ≡ true → is_mark m ≡ false
-of_is_no_mark f (Row g p b) e = refl
-of_is_no_mark f (End g n) e = refl
-of_is_no_mark f Stop e = absurd (cc)
-of_is_no_mark f Quit e = absurd (cc)
+pub of_is_no_mark : (f : ℕ) (m : Taken) → is_of f m ≡ true → (is_stop m ≡ false) × (is_quit m ≡ false)
+of_is_no_mark f (Row g p b) e = (refl, refl)
+of_is_no_mark f (End g n) e = (refl, refl)
+of_is_no_mark f _ e = absurd (cc)
 
-pub unmarked : (m : Taken) → is_mark m ≡ false → (is_stop m ≡ false) × (is_quit m ≡ false)
-unmarked (Row g p b) e = (refl, refl)
-unmarked (End g n) e = (refl, refl)
-unmarked Stop e = absurd (cc)
-unmarked Quit e = absurd (cc)
-
-pub from_row : (f k : ℕ) (ms : List Taken) (b : Block) → IsFrom f k ms → has_end ms ≡ false
-    → IsFrom f k (ms ++ Row f (k + length ms) b ∷ [])
-from_row f k [] b h e = (refl, omega arith, tt)
-from_row f k (Row g p c ∷ ms) b h e =
-    let n : (k + 1) + length ms ≡ k + suc (length ms) = omega arith in
-    (h.0, h.1, subst (λ i. IsFrom f (k + 1) (ms ++ Row f i b ∷ [])) n (from_row f (k + 1) ms b h.2 e))
-from_row f k (End g n ∷ ms) b h e = absurd (true≢false e)
-from_row f k (Stop ∷ ms) b h e = absurd h
-from_row f k (Quit ∷ ms) b h e = absurd h
+pub from_more : (f k : ℕ) (ms : List Taken) (m : Taken) → IsFrom f k ms → has_end ms ≡ false → IsFrom f (k + length ms) (m ∷ [])
+    → IsFrom f k (ms ++ m ∷ [])
+from_more f k [] m h e last = subst (λ i. IsFrom f i (m ∷ [])) (let z : k + 0 ≡ k = omega arith in z) last
+from_more f k (Row g p c ∷ ms) m h e last =
+    let n : k + suc (length ms) ≡ (k + 1) + length ms = omega arith in
+    (h.0, h.1, from_more f (k + 1) ms m h.2 e (subst (λ i. IsFrom f i (m ∷ [])) n last))
+from_more f k (End g n ∷ ms) m h e last = absurd (true≢false e)
+from_more f k (_ ∷ ms) m h e last = absurd h
 
 -- a list with no end mark is all rows
 pub rows_all : (f k : ℕ) (ms : List Taken) → IsFrom f k ms → has_end ms ≡ false → rows_in ms ≡ length ms
 rows_all f k [] h e = refl
 rows_all f k (Row g p c ∷ ms) h e = omega (arith, count_front is_row (Row g p c) ms, rows_all f (k + 1) ms h.2 e)
 rows_all f k (End g n ∷ ms) h e = absurd (true≢false e)
-rows_all f k (Stop ∷ ms) h e = absurd h
-rows_all f k (Quit ∷ ms) h e = absurd h
-
-pub from_end : (f k : ℕ) (ms : List Taken) → IsFrom f k ms → has_end ms ≡ false → IsFrom f k (ms ++ End f (k + length ms) ∷ [])
-from_end f k [] h e = (refl, omega arith, refl)
-from_end f k (Row g p c ∷ ms) h e =
-    let n : (k + 1) + length ms ≡ k + suc (length ms) = omega arith in
-    (h.0, h.1, subst (λ i. IsFrom f (k + 1) (ms ++ End f i ∷ [])) n (from_end f (k + 1) ms h.2 e))
-from_end f k (End g n ∷ ms) h e = absurd (true≢false e)
-from_end f k (Stop ∷ ms) h e = absurd h
-from_end f k (Quit ∷ ms) h e = absurd h
+rows_all f k (_ ∷ ms) h e = absurd h
 
 pub ended_from : (f k : ℕ) (ms : List Taken) → IsFrom f k ms → has_end ms ≡ true → IsEndedFrom f k ms
 ended_from f k [] h e = absurd (cc)
 ended_from f k (Row g p c ∷ ms) h e = (h.0, h.1, ended_from f (k + 1) ms h.2 e)
 ended_from f k (End g n ∷ ms) h e = h
-ended_from f k (Stop ∷ ms) h e = absurd h
-ended_from f k (Quit ∷ ms) h e = absurd h
+ended_from f k (_ ∷ ms) h e = absurd h
 
--- what stands at a place of a file's list
+-- what stands at a place of a file's list, and that an end mark stands last
 pub from_place : (f k : ℕ) (ms : List Taken) (i : ℕ) (m : Taken) → IsFrom f k ms → slice_get ms i ≡ Some m → (is_of f m ≡ true)
-    × (position m ≡ k + i)
+    × (position m ≡ k + i) × (is_end m ≡ true → length ms ≡ suc i)
 from_place f k [] i m h e = absurd (cc)
-from_place f k (Row g p c ∷ ms) zero m h e = let q : Row g p c ≡ m =
-    cc in subst (λ (x : Taken). (is_of f x ≡ true) × (position x ≡ k + 0)) q (eq-eqb g f h.0, omega (arith, h.1))
-from_place f k (Row g p c ∷ ms) (suc i) m h e = let r = from_place f (k + 1) ms i m h.2 e in (r.0, omega (arith, r.1))
-from_place f k (End g n ∷ ms) zero m h e = let q : End g n ≡ m =
-    cc in subst (λ (x : Taken). (is_of f x ≡ true) × (position x ≡ k + 0)) q (eq-eqb g f h.0, omega (arith, h.1))
+from_place f k (Row g p c ∷ ms) zero m h e =
+    subst (λ (x : Taken). (is_of f x ≡ true) × (position x ≡ k + 0) × (is_end x ≡ true → suc (length ms) ≡ 1))
+    (let q : Row g p c ≡ m = cc in q) (eq-eqb g f h.0, omega (arith, h.1), λ t. absurd (true≢false (sym t)))
+from_place f k (Row g p c ∷ ms) (suc i) m h e =
+    let r = from_place f (k + 1) ms i m h.2 e in (r.0, omega (arith, r.1), λ t. ap suc (r.2 t))
+from_place f k (End g n ∷ ms) zero m h e =
+    subst (λ (x : Taken). (is_of f x ≡ true) × (position x ≡ k + 0) × (is_end x ≡ true → suc (length ms) ≡ 1))
+    (let q : End g n ≡ m = cc in q) (eq-eqb g f h.0, omega (arith, h.1), λ _. ap (λ (l : List Taken). suc (length l)) h.2)
 from_place f k (End g n ∷ ms) (suc i) m h e = let q : slice_get ms i ≡ None = ap (λ (l : List Taken). slice_get l i) h.2 in absurd (cc)
-from_place f k (Stop ∷ ms) i m h e = absurd h
-from_place f k (Quit ∷ ms) i m h e = absurd h
-
--- nothing stands behind the end mark
-pub end_is_last : (f k : ℕ) (ms : List Taken) (i g n : ℕ) → IsFrom f k ms → slice_get ms i ≡ Some (End g n) → length ms ≡ suc i
-end_is_last f k [] i g n h e = absurd (cc)
-end_is_last f k (Row g' p c ∷ ms) zero g n h e = absurd (cc)
-end_is_last f k (Row g' p c ∷ ms) (suc i) g n h e = omega (arith, end_is_last f (k + 1) ms i g n h.2 e)
-end_is_last f k (End g' n' ∷ ms) zero g n h e = ap (λ (l : List Taken). suc (length l)) h.2
-end_is_last f k (End g' n' ∷ ms) (suc i) g n h e = let q : slice_get ms i ≡ None = ap (λ (l : List Taken). slice_get l i) h.2 in absurd (cc)
-end_is_last f k (Stop ∷ ms) i g n h e = absurd h
-end_is_last f k (Quit ∷ ms) i g n h e = absurd h
+from_place f k (_ ∷ ms) i m h e = absurd h
 
 pub placed_pos : (sent : ℕ → List Taken) (left : ℕ → ℕ) (f : ℕ) (m : Taken) → IsPlaced sent left m → is_of f m ≡ true
     → (position m < left f) × (slice_get (sent f) (position m) ≡ Some m)
@@ -121,25 +95,19 @@ placed_pos sent left f (Row g p b) h e = let q : g ≡ f =
     eqb-true g f e in (subst (λ k. p < left k) q h.0, subst (λ k. slice_get (sent k) p ≡ Some (Row g p b)) q h.1)
 placed_pos sent left f (End g n) h e = let q : g ≡ f =
     eqb-true g f e in (subst (λ k. n < left k) q h.0, subst (λ k. slice_get (sent k) n ≡ Some (End g n)) q h.1)
-placed_pos sent left f Stop h e = absurd (cc)
-placed_pos sent left f Quit h e = absurd (cc)
+placed_pos sent left f _ h e = absurd (cc)
 
-pub placed_new : (sent : ℕ → List Taken) (left : ℕ → ℕ) (f : ℕ) (m : Taken) → is_of f m ≡ true → position m < left f
-    → slice_get (sent f) (position m) ≡ Some m → IsPlaced sent left m
-placed_new sent left f (Row g p b) e l s = let q : f ≡ g =
-    sym (eqb-true g f e) in (subst (λ k. p < left k) q l, subst (λ k. slice_get (sent k) p ≡ Some (Row g p b)) q s)
-placed_new sent left f (End g n) e l s = let q : f ≡ g =
-    sym (eqb-true g f e) in (subst (λ k. n < left k) q l, subst (λ k. slice_get (sent k) n ≡ Some (End g n)) q s)
-placed_new sent left f Stop e l s = tt
-placed_new sent left f Quit e l s = tt
+pub placed_all : (sent : ℕ → List Taken) (left : ℕ → ℕ) (m : Taken)
+    → ((f : ℕ) → is_of f m ≡ true → (position m < left f) × (slice_get (sent f) (position m) ≡ Some m)) → IsPlaced sent left m
+placed_all sent left (Row g p b) h = h g (eq-eqb g g refl)
+placed_all sent left (End g n) h = h g (eq-eqb g g refl)
+placed_all sent left _ h = tt
 
 pub placed_later : (sent sent' : ℕ → List Taken) (left left' : ℕ → ℕ)
     → ((f p : ℕ) (m : Taken) → slice_get (sent f) p ≡ Some m → slice_get (sent' f) p ≡ Some m) → ((f : ℕ) → left f ≤ left' f) → (m : Taken)
     → IsPlaced sent left m → IsPlaced sent' left' m
-placed_later sent sent' left left' keeps grows (Row g p b) h = (omega (arith, h.0, grows g), keeps g p _ h.1)
-placed_later sent sent' left left' keeps grows (End g n) h = (omega (arith, h.0, grows g), keeps g n _ h.1)
-placed_later sent sent' left left' keeps grows Stop h = tt
-placed_later sent sent' left left' keeps grows Quit h = tt
+placed_later sent sent' left left' keeps grows m h =
+    placed_all sent' left' m (λ f e. let p = placed_pos sent left f m h e in (omega (arith, p.0, grows f), keeps f (position m) m p.1))
 
 below_cases : (P : ℕ → Type 0) (m : Taken) (rest : List Taken) (b : Bool) → (b ≡ true → P (position m))
     → AllByRecursion P (map position rest) → AllByRecursion P (map position (cond b (m ∷ rest) rest))
@@ -185,5 +153,4 @@ pub ended_has_end : (f k : ℕ) (ms : List Taken) → IsEndedFrom f k ms → has
 ended_has_end f k [] h = absurd h
 ended_has_end f k (Row g p c ∷ ms) h = ended_has_end f (k + 1) ms h.2
 ended_has_end f k (End g n ∷ ms) h = refl
-ended_has_end f k (Stop ∷ ms) h = absurd h
-ended_has_end f k (Quit ∷ ms) h = absurd h
+ended_has_end f k (_ ∷ ms) h = absurd h

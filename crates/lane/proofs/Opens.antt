@@ -1,109 +1,98 @@
--- How the lane is counted, opened and given away, part by part.
-use Rattle.std.proofs.Common.{◌≡◌, ℕ, zero, suc, ◌+◌, ◌-◌, ◌<◌, ◌≤◌, List, [], ◌∷◌, ◌++◌, replicate, length, refl, sym, ap, ◌∙◌, subst, arith}
+-- How an opened lane is given away, part by part, and the ends that are made, handed to threads and given back.
+use Rattle.std.proofs.Common.{◌≡◌, ℕ, zero, suc, ◌+◌, ◌-◌, ◌<◌, ◌≤◌, List, [], ◌∷◌, ◌++◌, Some, replicate, length, refl, sym, ap, ◌∙◌, subst, arith, get_or, Option, None, IfSome, option_to_list, All, length-append}
 use Rattle.crossbeam_channel.specs.Fifo.{Forks}
 use Rattle.lane.specs.declared.part.Part.{Part}
 use Rattle.lane.specs.declared.part.Part.TheVariants.{Count, Put, Take, Close}
-use Rattle.lane.specs.Rule.{IsLane, put_parts, take_parts, all_parts}
-use Rattle.lane.specs.inner.Views.{more_files, more_takers, more_places, opened_view, without_second, second_alone}
-use Rattle.lane.specs.Ends.{Lane, ArePutsFrom, AreTakesFrom, first_puts, first_takes}
+use Rattle.lane.specs.Rule.{Role, Putter, Taker, Closer, role_of, IsLane, put_parts, take_parts}
+use Rattle.lane.specs.Steps.{IsFree}
+use Rattle.lane.specs.inner.Views.{opened_view, without_second, second_alone}
+use Rattle.lane.specs.Ends.{Lane, AreEndsFrom, ends_from, PutEndView, first_puts}
 use Rattle.lane.specs.inner.Kept.{MayGive, puts_left, takes_left}
-use Rattle.lane.proofs.Rules.{counts, opens, gives_put, gives_take}
-
-pub counts_file : (v : List Part) (f w c : ℕ) → v ≡ Count f w c ∷ [] → (pass : ℕ) → Forks IsLane pass v (more_files v) []
-counts_file v f w c e pass = subst (λ u. Forks IsLane pass u (more_files u) []) (sym e) (counts pass f w c (f + 1) w c)
-
-pub counts_taker : (v : List Part) (f w c : ℕ) → v ≡ Count f w c ∷ [] → (pass : ℕ) → Forks IsLane pass v (more_takers v) []
-counts_taker v f w c e pass = subst (λ u. Forks IsLane pass u (more_takers u) []) (sym e) (counts pass f w c f (w + 1) c)
-
-pub counts_place : (v : List Part) (f w c : ℕ) → v ≡ Count f w c ∷ [] → (pass : ℕ) → Forks IsLane pass v (more_places v) []
-counts_place v f w c e pass = subst (λ u. Forks IsLane pass u (more_places u) []) (sym e) (counts pass f w c f w (c + 1))
-
-pub opens_all : (v : List Part) (f w c : ℕ) → v ≡ Count f w c ∷ [] → (pass : ℕ) → Forks IsLane pass v (opened_view v) []
-opens_all v f w c e pass = subst (λ u. Forks IsLane pass u (opened_view u) []) (sym e) (opens pass f w c)
+use Rattle.lane.proofs.Seats.{all_joined}
+use Rattle.lane.proofs.Rules.{gives, free_parts}
+use Rattle.std.proofs.lemmas.List.Elements.{All-nil, All-cons}
 
 -- the first part that is left
 one_left : (f k : ℕ) → k < f → f - k ≡ suc (f - (k + 1))
 one_left f k l = omega arith
 
-puts_front : (f w c k : ℕ) → k < f → puts_left f w c k ≡ Close f w c 0 0
-    ∷ (put_parts c k (replicate (suc (f - (k + 1))) []) ++ take_parts c 0 (replicate w []))
-puts_front f w c k l = ap (λ n. Close f w c 0 0 ∷ (put_parts c k (replicate n []) ++ take_parts c 0 (replicate w []))) (one_left f k l)
+given_away : (v : List Part) (first part : Part) (rest : List Part) (role : Role) → v ≡ first ∷ part ∷ rest → role_of part ≡ Some role
+    → IsFree role (first ∷ rest) → MayGive v × (without_second v ≡ first ∷ rest) × (second_alone v ≡ part ∷ [])
+given_away v first part rest role e named free =
+    (subst MayGive (sym e) (λ pass. gives pass first part rest role named free), ap without_second e, ap second_alone e)
 
-pub put_given : (v : List Part) (f w c k : ℕ) → v ≡ puts_left f w c k → k < f
-    → MayGive v × (without_second v ≡ puts_left f w c (k + 1))
-    × (second_alone v ≡ Put k c [] ∷ [])
-put_given v f w c k e l =
-    let front = e ∙ puts_front f w c k l in (
-      subst MayGive (sym front) (λ pass. gives_put pass f w c k (f - (k + 1)) w),
-      ap without_second front,
-      ap second_alone front,
+pub put_given : (f w c k : ℕ) → k < f → MayGive (puts_left f w c k) × (without_second (puts_left f w c k) ≡ puts_left f w c (k + 1))
+    × (second_alone (puts_left f w c k) ≡ Put k c [] ∷ [])
+put_given f w c k l =
+    let puts : List Part = put_parts c (k + 1) (replicate (f - (k + 1)) []) in
+    let takes : List Part = take_parts c 0 (replicate w []) in
+    given_away (puts_left f w c k) (Close f w c 0 0) (Put k c []) (puts ++ takes) (Putter k)
+    (ap (λ n. Close f w c 0 0 ∷ (put_parts c k (replicate n []) ++ take_parts c 0 (replicate w []))) (one_left f k l)) refl
+    (
+      (λ (x : Some Closer ≡ Some (Putter k)). cc),
+      all_joined (λ p. role_of p ≡ Some (Putter k) → ⊥) puts takes
+          (free_parts (Putter k) (λ i y. Put i c y) (k + 1) (replicate (f - (k + 1)) [])
+          (λ j y le. λ (x : Some (Putter j) ≡ Some (Putter k)). let z : j ≡ k = cc in let bad : ⊥ = omega arith in bad))
+          (free_parts (Putter k) (λ i y. Take i c y) 0 (replicate w []) (λ j y le. λ (x : Some (Taker j) ≡ Some (Putter k)). cc)),
     )
 
-takes_front : (f w c k : ℕ) → k < w → takes_left f w c k ≡ Close f w c 0 0 ∷ take_parts c k (replicate (suc (w - (k + 1))) [])
-takes_front f w c k l = ap (λ n. Close f w c 0 0 ∷ take_parts c k (replicate n [])) (one_left w k l)
-
-pub take_given : (v : List Part) (f w c k : ℕ) → v ≡ takes_left f w c k → k < w
-    → MayGive v × (without_second v ≡ takes_left f w c (k + 1))
-    × (second_alone v ≡ Take k c [] ∷ [])
-take_given v f w c k e l =
-    let front = e ∙ takes_front f w c k l in (
-      subst MayGive (sym front) (λ pass. gives_take pass f w c k (w - (k + 1))),
-      ap without_second front,
-      ap second_alone front,
+pub take_given : (f w c k : ℕ) → k < w → MayGive (takes_left f w c k) × (without_second (takes_left f w c k) ≡ takes_left f w c (k + 1))
+    × (second_alone (takes_left f w c k) ≡ Take k c [] ∷ [])
+take_given f w c k l =
+    given_away (takes_left f w c k) (Close f w c 0 0) (Take k c []) (take_parts c (k + 1) (replicate (w - (k + 1)) [])) (Taker k)
+    (ap (λ n. Close f w c 0 0 ∷ take_parts c k (replicate n [])) (one_left w k l)) refl
+    (
+      (λ (x : Some Closer ≡ Some (Taker k)). cc),
+      free_parts (Taker k) (λ i y. Take i c y) (k + 1) (replicate (w - (k + 1)) [])
+          (λ j y le. λ (x : Some (Taker j) ≡ Some (Taker k)). let z : j ≡ k = cc in let bad : ⊥ = omega arith in bad),
     )
 
-pub puts_begin : (f w c : ℕ) → all_parts f w c ≡ puts_left f w c 0
-puts_begin f w c =
-    ap (λ n. Close f w c 0 0 ∷ (put_parts c 0 (replicate n []) ++ take_parts c 0 (replicate w []))) (let z : f ≡ f - 0 = omega arith in z)
+-- the ends that are made are those of the lane, so many, and one more
+pub ends_are : {E : Type 0} (lane_of : E → Lane) (number : E → ℕ) (lane : Lane) (make : ℕ → E) (k n all : ℕ)
+    → ((i : ℕ) → lane_of (make i) ≡ lane) → ((i : ℕ) → number (make i) ≡ i) → k + n ≡ all
+    → AreEndsFrom lane_of number lane all k (ends_from make k n)
+ends_are lane_of number lane make k zero all l i e = omega arith
+ends_are lane_of number lane make k (suc n) all l i e =
+    (l k, i k, ends_are lane_of number lane make (k + 1) n all l i (omega arith))
 
-pub puts_done : (f w c k : ℕ) → f ≤ k → puts_left f w c k ≡ takes_left f w c 0
-puts_done f w c k l =
-    ap (λ n. Close f w c 0 0 ∷ (put_parts c k (replicate n []) ++ take_parts c 0 (replicate w []))) (let z : f - k ≡ 0 = omega arith in z)
-    ∙ ap (λ n. Close f w c 0 0 ∷ take_parts c 0 (replicate n [])) (let z : w ≡ w - 0 = omega arith in z)
+pub ends_count : {E : Type 0} (make : ℕ → E) (k n : ℕ) → length (ends_from make k n) ≡ n
+ends_count make k zero = refl
+ends_count make k (suc n) = ap suc (ends_count make (k + 1) n)
 
-pub takes_done : (f w c k : ℕ) → w ≤ k → takes_left f w c k ≡ Close f w c 0 0 ∷ []
-takes_done f w c k l = ap (λ n. Close f w c 0 0 ∷ take_parts c k (replicate n [])) (let z : w - k ≡ 0 = omega arith in z)
+ends_more : {E : Type 0} (make : ℕ → E) (k n : ℕ) → ends_from make k (suc n) ≡ ends_from make k n ++ make (k + n) ∷ []
+ends_more make k zero = ap (λ i. make i ∷ []) (let z : k ≡ k + 0 = omega arith in z)
+ends_more make k (suc n) =
+    ap (λ l. make k ∷ l) (ends_more make (k + 1) n
+    ∙ ap (λ i. ends_from make (k + 1) n ++ make i ∷ []) (let z : (k + 1) + n ≡ k + suc n = omega arith in z))
 
-first_puts_more : (lane : Lane) (k n : ℕ)
-    → first_puts lane k (suc n) ≡ first_puts lane k n ++ record { lane = lane; file = k + n; sent = [] } ∷ []
-first_puts_more lane k zero = ap (λ (i : ℕ). record { lane = lane; file = i; sent = [] } ∷ []) (let z : k ≡ k + 0 = omega arith in z)
-first_puts_more lane k (suc n) =
-    ap (λ i. record { lane = lane; file = k; sent = [] } ∷ i)
-    (first_puts_more lane (k + 1) n ∙ ap (λ (i : ℕ). first_puts lane (k + 1) n ++ record { lane = lane; file = i; sent = [] }
-    ∷ []) (let z : (k + 1) + n ≡ k + suc n = omega arith in z))
+pub ends_next : {E : Type 0} (make : ℕ → E) (n : ℕ) → ends_from make 0 (n + 1) ≡ ends_from make 0 n ++ make n ∷ []
+ends_next make n =
+    ap (ends_from make 0) (let z : n + 1 ≡ suc n = omega arith in z)
+    ∙ (ends_more make 0 n ∙ ap (λ i. ends_from make 0 n ++ make i ∷ []) (let z : 0 + n ≡ n = omega arith in z))
 
-first_takes_more : (lane : Lane) (k n : ℕ)
-    → first_takes lane k (suc n) ≡ first_takes lane k n ++ record { lane = lane; taker = k + n; took = [] } ∷ []
-first_takes_more lane k zero = ap (λ (i : ℕ). record { lane = lane; taker = i; took = [] } ∷ []) (let z : k ≡ k + 0 = omega arith in z)
-first_takes_more lane k (suc n) =
-    ap (λ i. record { lane = lane; taker = k; took = [] } ∷ i)
-    (first_takes_more lane (k + 1) n ∙ ap (λ (i : ℕ). first_takes lane (k + 1) n ++ record { lane = lane; taker = i; took = [] }
-    ∷ []) (let z : (k + 1) + n ≡ k + suc n = omega arith in z))
+module _ {E : Type 0} where
+  pub ends_back : (lane_of : E → Lane) (number : E → ℕ) (lane : Lane) (all k : ℕ) (xs ys : List E) → length ys ≡ length xs
+      → ((i : ℕ) (d e : E) → i < length xs → lane_of (get_or ys i d) ≡ lane_of (get_or xs i e))
+      → ((i : ℕ) (d e : E) → i < length xs → number (get_or ys i d) ≡ number (get_or xs i e))
+      → AreEndsFrom lane_of number lane all k xs → AreEndsFrom lane_of number lane all k ys
+  ends_back lane_of number lane all k [] [] len l f h = h
+  ends_back lane_of number lane all k [] (y ∷ ys) len l f h = absurd (omega arith)
+  ends_back lane_of number lane all k (x ∷ xs) [] len l f h = absurd (omega arith)
+  ends_back lane_of number lane all k (x ∷ xs) (y ∷ ys) len l f h = (
+    l 0 y x (omega arith) ∙ h.0,
+    f 0 y x (omega arith) ∙ h.1,
+    ends_back lane_of number lane all (k + 1) xs ys (omega arith) (λ i d e b. l (suc i) d e (omega arith))
+        (λ i d e b. f (suc i) d e (omega arith)) h.2,
+  )
 
-pub first_puts_are : (lane : Lane) (k n f : ℕ) → k + n ≡ f → ArePutsFrom lane f k (first_puts lane k n)
-first_puts_are lane k zero f e = omega arith
-first_puts_are lane k (suc n) f e = (refl, refl, first_puts_are lane (k + 1) n f (omega arith))
+  -- the last of one end is that end
+  pub last_end : (P : E → Type 0) (first : E) (items rest : List E) (o : Option E) → items ≡ rest ++ option_to_list o
+      → items ≡ first ∷ [] → P first → IfSome o P
+  last_end P first items rest None e h p = tt
+  last_end P first items [] (Some x) e h p = subst P (sym (ap (λ (l : List E). get_or l 0 x) (sym e ∙ h))) p
+  last_end P first items (y ∷ rest) (Some x) e h p =
+      absurd (let n = ap (λ (l : List E). length l) (sym e ∙ h) in let l = length-append rest (x ∷ []) in let z : ⊥ = omega arith in z)
 
-pub first_takes_are : (lane : Lane) (k n w : ℕ) → k + n ≡ w → AreTakesFrom lane w k (first_takes lane k n)
-first_takes_are lane k zero w e = omega arith
-first_takes_are lane k (suc n) w e = (refl, refl, first_takes_are lane (k + 1) n w (omega arith))
-
-pub first_puts_count : (lane : Lane) (k n : ℕ) → length (first_puts lane k n) ≡ n
-first_puts_count lane k zero = refl
-first_puts_count lane k (suc n) = ap suc (first_puts_count lane (k + 1) n)
-
-pub first_takes_count : (lane : Lane) (k n : ℕ) → length (first_takes lane k n) ≡ n
-first_takes_count lane k zero = refl
-first_takes_count lane k (suc n) = ap suc (first_takes_count lane (k + 1) n)
-
-pub first_puts_next : (lane : Lane) (n : ℕ)
-    → first_puts lane 0 (n + 1) ≡ first_puts lane 0 n ++ record { lane = lane; file = n; sent = [] } ∷ []
-first_puts_next lane n = ap (first_puts lane 0) (let z : n + 1 ≡ suc n = omega arith in z)
-    ∙ (first_puts_more lane 0 n ∙ ap (λ (i : ℕ). first_puts lane 0 n ++ record { lane = lane; file = i; sent = [] } ∷ []) (let z : 0 + n
-    ≡ n = omega arith in z))
-
-pub first_takes_next : (lane : Lane) (n : ℕ)
-    → first_takes lane 0 (n + 1) ≡ first_takes lane 0 n ++ record { lane = lane; taker = n; took = [] } ∷ []
-first_takes_next lane n = ap (first_takes lane 0) (let z : n + 1 ≡ suc n = omega arith in z)
-    ∙ (first_takes_more lane 0 n ∙ ap (λ (i : ℕ). first_takes lane 0 n ++ record { lane = lane; taker = i; took = [] } ∷ []) (let z : 0 + n
-    ≡ n = omega arith in z))
+pub first_puts_unsent : (lane : Lane) (k n : ℕ) → All (λ (p : PutEndView). p.sent ≡ []) (first_puts lane k n)
+first_puts_unsent lane k zero = All-nil (λ (p : PutEndView). p.sent ≡ [])
+first_puts_unsent lane k (suc n) = All-cons (λ (p : PutEndView). p.sent ≡ []) _ _ refl (first_puts_unsent lane (k + 1) n)

@@ -1,14 +1,16 @@
 -- Which pass has which part, as the parts change and move.
-use Rattle.std.proofs.Common.{◌≡◌, ◌≢◌, ◌⊎◌, ⊎_elim, inl, inr, ℕ, zero, suc, ◌+◌, ◌<◌, ◌≤◌, Bool, true, false, cond, ◌==◌, replicate, List, [], ◌∷◌, ◌++◌, length, set, Some, refl, sym, ap, ◌∙◌, subst, arith}
+use Rattle.std.proofs.Common.{◌≡◌, ◌≢◌, ◌⊎◌, ⊎_elim, inl, inr, ℕ, zero, suc, ◌+◌, ◌<◌, ◌≤◌, Bool, true, false, cond, ◌==◌, replicate, List, [], ◌∷◌, ◌++◌, length, set, slice_get, Some, refl, sym, ap, ◌∙◌, subst, arith}
 use Rattle.std.specs.List.{AllByRecursion}
 use Rattle.std.proofs.lemmas.Bool.{cases_eq, cases_Bool, eq-eqb, ne_eqb, eqb-true, true≢false, false≢true}
+use native.Mathlib.Decide.{ℕ_discrete}
 use mathlib.Core.Option.{some, some-injective, some-ne-none}
 use lib.ListN.{get_elem?}
 use Rattle.atomic_table.proofs.Lists.{at_set, at_last, at_longer, set_here, set_else}
+use Rattle.lane.specs.declared.message.Taken.{Taken}
 use Rattle.lane.specs.declared.part.Part.{Part}
 use Rattle.lane.specs.declared.part.Part.TheVariants.{Put, Take}
 use Rattle.lane.specs.Machine.{Size, State, opening}
-use Rattle.lane.specs.Rule.{Role, Putter, Taker, Closer, IsRole, part_of, role_of, Has, IsSeated, AreSeated, put_parts, take_parts, all_parts}
+use Rattle.lane.specs.Rule.{Role, Putter, Taker, Closer, same_role, IsRole, part_of, role_of, Has, IsSeated, AreSeated, parts_from, put_parts, take_parts, all_parts}
 use Rattle.lane.specs.Steps.{IsFree}
 use Rattle.lane.proofs.Lists.{all_weaker}
 
@@ -28,6 +30,25 @@ has_right part (x ∷ v) u h = inr (has_right part v u h)
 pub all_joined : (P : Part → Type 0) (v u : List Part) → AllByRecursion P v → AllByRecursion P u → AllByRecursion P (v ++ u)
 all_joined P [] u h k = k
 all_joined P (x ∷ v) u h k = (h.0, all_joined P v u h.1 k)
+
+-- the part of a list, and what holds of the parts of lists in which nothing is yet
+pub has_part : (part : ℕ → List Taken → Part) (k : ℕ) (lists : List (List Taken)) (i : ℕ) (l : List Taken)
+    → slice_get lists i ≡ Some l → Has (part (i + k) l) (parts_from part k lists)
+has_part part k [] i l e = absurd (cc)
+has_part part k (x ∷ lists) zero l e = let q : l ≡ x = cc in inl (λ j. part ((let z : 0 + k ≡ k = omega arith in z) j) (q j))
+has_part part k (x ∷ lists) (suc i) l e =
+    inr (subst (λ j. Has (part j l) (parts_from part (k + 1) lists))
+    (let z : i + (k + 1) ≡ suc i + k = omega arith in z) (has_part part (k + 1) lists i l e))
+
+new_parts : (P : Part → Type 0) (part : ℕ → List Taken → Part) (k m : ℕ) → ((j : ℕ) → j < k + m → P (part j []))
+    → AllByRecursion P (parts_from part k (replicate m []))
+new_parts P part k zero f = tt
+new_parts P part k (suc m) f = (f k (omega arith), new_parts P part (k + 1) m (λ j l. f j (omega arith)))
+
+new_list : (n i : ℕ) → i < n → slice_get {X = List Taken} (replicate n []) i ≡ Some []
+new_list zero i l = absurd (omega arith)
+new_list (suc n) zero l = refl
+new_list (suc n) (suc i) l = new_list n i (omega arith)
 
 -- index of something within the list
 pub at_within : {A : Type 0} (l : List A) (i : ℕ) (a : A) → get_elem? l i ≡ some a → i < length l
@@ -63,7 +84,7 @@ some_set P Q l i a b at here j else old =
     (λ (ne : j ≡ i → ⊥). (old.0, set_else l i j b ne ∙ old.1, else ne old.0 old.2))
     (cases_eq j i)
 
-role_of_part : (n : Size) (s : State) (r : Role) → role_of (part_of n s r) ≡ Some r
+pub role_of_part : (n : Size) (s : State) (r : Role) → role_of (part_of n s r) ≡ Some r
 role_of_part n s (Putter f) = refl
 role_of_part n s (Taker w) = refl
 role_of_part n s Closer = refl
@@ -71,6 +92,13 @@ role_of_part n s Closer = refl
 -- a part is of one role
 pub one_role : (n m : Size) (s t : State) (r q : Role) → part_of n s r ≡ part_of m t q → r ≡ q
 one_role n m s t r q e = let x : Some r ≡ Some q = sym (role_of_part n s r) ∙ (ap role_of e ∙ role_of_part m t q) in cc
+
+-- a seated part of a role is what the state has of it
+pub seated_as : (n : Size) (s : State) (seat : Role → ℕ) (pass : ℕ) (part : Part) (role : Role) → IsSeated n s seat pass part
+    → role_of part ≡ Some role → IsRole n role × (part ≡ part_of n s role) × (seat role ≡ pass)
+seated_as n s seat pass part role h named =
+    let name : h.0 ≡ role = let x : Some h.0 ≡ Some role = sym (role_of_part n s h.0) ∙ (sym (ap role_of h.2) ∙ named) in cc in
+    (subst (IsRole n) name h.1, h.2 ∙ ap (part_of n s) name, ap seat (sym name) ∙ h.3)
 
 -- a view stays seated where the part of each role that stands in it stays, and its seat moves with it
 still : (n : Size) (s t : State) (seat new : Role → ℕ) (pass pass' : ℕ) (v : List Part)
@@ -93,7 +121,7 @@ pub changed : (n : Size) (s t : State) (seat : Role → ℕ) (views : List (List
     → AreSeated n t seat (set views pass (part_of n t role ∷ rest))
 changed n s t seat views pass role rest h at is free same =
     let mine = h.only pass (part_of n s role ∷ rest) at in
-    let here : seat role ≡ pass = ap seat (one_role n n s s role mine.0.0 mine.0.2) ∙ mine.0.3 in
+    let here = (seated_as n s seat pass (part_of n s role) role mine.0 (role_of_part n s role)).2 in
     record {
       only = every_set (λ j. AllByRecursion (IsSeated n t seat j)) views pass (part_of n t role ∷ rest)
           (
@@ -112,41 +140,24 @@ changed n s t seat views pass role rest h at is free same =
         (λ (in' : Has (part_of n s r) rest). inr (subst (λ p. Has p rest) (sym (same r (free_of n s role r rest free in'))) in'))
         q
 
-same_role : Role → Role → Bool
-same_role (Putter f) (Putter g) = f == g
-same_role (Taker w) (Taker x) = w == x
-same_role Closer Closer = true
-same_role _ _ = false
+-- a number for the role, and another one for every other role
+either : {P : Type 0} → Dec P → ℕ → ℕ → ℕ
+either (yes p) new old = new
+either (no ne) new old = old
 
-same_role_itself : (r : Role) → same_role r r ≡ true
-unfolding same_role
-same_role_itself (Putter f) = eq-eqb f f refl
-same_role_itself (Taker w) = eq-eqb w w refl
-same_role_itself Closer = refl
+either_new : {P : Type 0} (d : Dec P) (new old : ℕ) → P → either d new old ≡ new
+unfolding either
+either_new (yes p) new old h = refl
+either_new (no ne) new old h = absurd (ne h)
 
-same_role_is : (r q : Role) → same_role r q ≡ true → r ≡ q
-unfolding same_role
-same_role_is (Putter f) (Putter g) e = ap (λ k. Putter k) (eqb-true f g e)
-same_role_is (Taker w) (Taker x) e = ap (λ k. Taker k) (eqb-true w x e)
-same_role_is Closer Closer e = refl
-same_role_is _ _ e = absurd (false≢true e)
+either_old : {P : Type 0} (d : Dec P) (new old : ℕ) → (P → ⊥) → either d new old ≡ old
+unfolding either
+either_old (yes p) new old h = absurd (h p)
+either_old (no ne) new old h = refl
 
-role_cases : (r role : Role) → (r ≡ role) ⊎ ((r ≡ role → ⊥) × (same_role r role ≡ false))
-role_cases r role = ⊎_elim (λ (e : same_role r role ≡ true). inl (same_role_is r role e))
-    (λ (e : same_role r role ≡ false). inr ((λ q.
-    true≢false (sym (subst (λ x. same_role x role ≡ true) (sym q) (same_role_itself role)) ∙ e)), e)) (cases_Bool (same_role r role))
-
-reseated : (Role → ℕ) → Role → ℕ → Role → ℕ
-reseated seat role new r = cond (same_role r role) new (seat r)
-
-reseated_here : (seat : Role → ℕ) (role : Role) (new : ℕ) → reseated seat role new role ≡ new
-unfolding reseated
-reseated_here seat role new = ap (λ (b : Bool). cond b new (seat role)) (same_role_itself role)
-
-reseated_else : (seat : Role → ℕ) (role : Role) (new : ℕ) (r : Role) → (r ≡ role → ⊥) → reseated seat role new r ≡ seat r
-unfolding reseated
-reseated_else seat role new r ne = ⊎_elim (λ (e : r ≡ role). absurd (ne e))
-    (λ (x : (r ≡ role → ⊥) × (same_role r role ≡ false)). ap (λ (b : Bool). cond b new (seat r)) x.1) (role_cases r role)
+role_cases : {P : Type 0} → Dec P → P ⊎ (P → ⊥)
+role_cases (yes p) = inl p
+role_cases (no ne) = inr ne
 
 -- a part moves to a new pass
 pub given : (n : Size) (s : State) (seat : Role → ℕ) (views : List (List Part))
@@ -156,38 +167,38 @@ pub given : (n : Size) (s : State) (seat : Role → ℕ) (views : List (List Par
 given n s seat views pass role first part rest h at named free =
     let left : List Part = first ∷ rest in
     let vs : List (List Part) = set views pass left in
-    let new : Role → ℕ = reseated seat role (length vs) in
+    let same : (r : Role) → Dec (r ≡ role) = λ r. same_role ℕ_discrete r role in
+    let new : Role → ℕ = λ r. either (same r) (length vs) (seat r) in
+    let moved : new role ≡ length vs = either_new (same role) (length vs) (seat role) refl in
     let old = h.only pass (first ∷ part ∷ rest) at in
-    let mine = old.1.0 in
-    let name : mine.0 ≡ role = let x : Some mine.0 ≡ Some role = sym (role_of_part n s mine.0) ∙ (sym (ap role_of mine.2) ∙ named) in cc in
-    let part_is : part ≡ part_of n s role = mine.2 ∙ ap (part_of n s) name in
-    let other : (r : Role) → (r ≡ role → ⊥) → new r ≡ seat r = reseated_else seat role (length vs) in (
+    let mine = seated_as n s seat pass part role old.1.0 named in
+    let other : (r : Role) → (r ≡ role → ⊥) → new r ≡ seat r = λ r. either_old (same r) (length vs) (seat r) in (
       new,
       record {
         only = every_more (λ j. AllByRecursion (IsSeated n s new j)) vs (part ∷ [])
-            ((role, subst (IsRole n) name mine.1, part_is, reseated_here seat role (length vs)), tt)
+            ((role, mine.0, mine.1, moved), tt)
             (every_set (λ j. AllByRecursion (IsSeated n s new j)) views pass left
             (still n s s seat new pass pass left (λ r e stands. (refl, other r (free_of n s role r left free stands) ∙ e)) (old.0, old.1.1))
             (λ j u ne e. still n s s seat new j j u
-            (λ r q _. (refl, other r (λ x. ne (sym q ∙ (ap seat (x ∙ sym name) ∙ mine.3))) ∙ q)) (h.only j u e)));
+            (λ r q _. (refl, other r (λ x. ne (sym q ∙ (ap seat x ∙ mine.2))) ∙ q)) (h.only j u e)));
         stands = λ r is_r. ⊎_elim
             (λ (e : r ≡ role). (
               part ∷ [],
-              ap (get_elem? (vs ++ (part ∷ []) ∷ [])) (ap new e ∙ reseated_here seat role (length vs))
+              ap (get_elem? (vs ++ (part ∷ []) ∷ [])) (ap new e ∙ moved)
                   ∙ at_last vs (part ∷ []) (length vs) refl,
-              inl (ap (part_of n s) e ∙ sym part_is),
+              inl (ap (part_of n s) e ∙ sym mine.1),
             ))
-            (λ (x : (r ≡ role → ⊥) × (same_role r role ≡ false)).
+            (λ (ne : r ≡ role → ⊥).
             let kept = some_set (Has (part_of n s r)) (Has (part_of n s r)) views pass (first ∷ part ∷ rest) left at
             (⊎_elim (λ (a : part_of n s r ≡ first). inl a)
-            (⊎_elim (λ (a : part_of n s r ≡ part). absurd (x.0 (one_role n n s s r role (a ∙ part_is))))
+            (⊎_elim (λ (a : part_of n s r ≡ part). absurd (ne (one_role n n s s r role (a ∙ mine.1))))
             (λ (a : Has (part_of n s r) rest). inr a)))
             (seat r) (λ _ v q. q) (h.stands r is_r) in (
               kept.0,
-              ap (get_elem? (vs ++ (part ∷ []) ∷ [])) (other r x.0) ∙ at_longer vs ((part ∷ []) ∷ []) (seat r) kept.0 kept.1,
+              ap (get_elem? (vs ++ (part ∷ []) ∷ [])) (other r ne) ∙ at_longer vs ((part ∷ []) ∷ []) (seat r) kept.0 kept.1,
               kept.2,
             ))
-            (role_cases r role);
+            (role_cases (same r));
       },
     )
 
@@ -229,31 +240,13 @@ joined n s seat views pass other v u h at apart at' =
     )
 
 module _ (n : Size) where
-  new_puts : (k m : ℕ) → k + m ≤ n.files → AllByRecursion (IsSeated n opening (λ r. 0) 0) (put_parts n.capacity k (replicate m []))
-  new_puts k zero l = tt
-  new_puts k (suc m) l = ((Putter k, omega arith, refl, refl), new_puts (k + 1) m (omega arith))
-
-  new_takes : (k m : ℕ) → k + m ≤ n.takers → AllByRecursion (IsSeated n opening (λ r. 0) 0) (take_parts n.capacity k (replicate m []))
-  new_takes k zero l = tt
-  new_takes k (suc m) l = ((Taker k, omega arith, refl, refl), new_takes (k + 1) m (omega arith))
-
-  has_put : (f k m : ℕ) → k ≤ f → f < k + m → Has (Put f n.capacity []) (put_parts n.capacity k (replicate m []))
-  has_put f k zero a b = absurd (omega arith)
-  has_put f k (suc m) a b = ⊎_elim (λ (e : f ≡ k). inl (ap (λ (i : ℕ). Put i n.capacity []) e))
-      (λ (ne : f ≡ k → ⊥). inr (has_put f (k + 1) m (omega arith) (omega arith))) (cases_eq f k)
-
-  has_take : (w k m : ℕ) → k ≤ w → w < k + m → Has (Take w n.capacity []) (take_parts n.capacity k (replicate m []))
-  has_take w k zero a b = absurd (omega arith)
-  has_take w k (suc m) a b = ⊎_elim (λ (e : w ≡ k). inl (ap (λ (i : ℕ). Take i n.capacity []) e))
-      (λ (ne : w ≡ k → ⊥). inr (has_take w (k + 1) m (omega arith) (omega arith))) (cases_eq w k)
-
   has_new : (r : Role) → IsRole n r → Has (part_of n opening r) (all_parts n.files n.takers n.capacity)
-  has_new (Putter f) l = inr (has_left _
-      (put_parts n.capacity 0 (replicate n.files [])) (take_parts n.capacity 0
-      (replicate n.takers [])) (has_put f 0 n.files (omega arith) (omega arith)))
-  has_new (Taker w) l = inr (has_right _
-      (put_parts n.capacity 0 (replicate n.files [])) (take_parts n.capacity 0
-      (replicate n.takers [])) (has_take w 0 n.takers (omega arith) (omega arith)))
+  has_new (Putter f) l = inr (has_left _ (put_parts n.capacity 0 (replicate n.files [])) (take_parts n.capacity 0 (replicate n.takers []))
+      (subst (λ i. Has (Put i n.capacity []) (put_parts n.capacity 0 (replicate n.files []))) (let z : f + 0 ≡ f = omega arith in z)
+      (has_part (λ i l. Put i n.capacity l) 0 (replicate n.files []) f [] (new_list n.files f l))))
+  has_new (Taker w) l = inr (has_right _ (put_parts n.capacity 0 (replicate n.files [])) (take_parts n.capacity 0 (replicate n.takers []))
+      (subst (λ i. Has (Take i n.capacity []) (take_parts n.capacity 0 (replicate n.takers []))) (let z : w + 0 ≡ w = omega arith in z)
+      (has_part (λ i l. Take i n.capacity l) 0 (replicate n.takers []) w [] (new_list n.takers w l))))
   has_new Closer l = inl refl
 
   -- the first pass has all parts
@@ -270,7 +263,10 @@ module _ (n : Size) where
               (Closer, tt, refl, refl),
               all_joined (IsSeated n opening (λ r. 0) 0)
                   (put_parts n.capacity 0 (replicate n.files [])) (take_parts n.capacity 0 (replicate n.takers []))
-                  (new_puts 0 n.files (omega arith)) (new_takes 0 n.takers (omega arith)),
+                  (new_parts (IsSeated n opening (λ r. 0) 0) (λ i l. Put i n.capacity l) 0 n.files
+                  (λ j l. (Putter j, omega arith, refl, refl)))
+                  (new_parts (IsSeated n opening (λ r. 0) 0) (λ i l. Take i n.capacity l) 0 n.takers
+                  (λ j l. (Taker j, omega arith, refl, refl))),
             )
             (λ j u ne e. subst (AllByRecursion (IsSeated n opening (λ r. 0) j)) (sym (others j u e ne)) tt));
         stands = λ r is. (parts, at_longer vs ([] ∷ []) 0 parts (set_here views 0 parts (at_within views 0 v at)), has_new r is);

@@ -8,17 +8,17 @@ use Rattle.pit_parts.specs.declared.block.Block.{Block}
 use Rattle.lane.specs.declared.message.Taken.{Taken}
 use Rattle.lane.specs.declared.message.Taken.TheVariants.{Row, End, Stop, Quit}
 use Rattle.lane.specs.declared.part.Part.{Part}
-use Rattle.lane.specs.declared.part.Part.TheVariants.{Put, Take, Close}
+use Rattle.lane.specs.declared.part.Part.TheVariants.{Count, Put, Take, Close}
 use Rattle.lane.specs.Message.{is_of, of}
 use Rattle.lane.specs.MessageKinds.{has_end, is_done, rows_in}
 use Rattle.lane.specs.Machine.{Size, State, opening, Event, PutRow, PutEnd, PutStop, PutQuit, TakeNext, Allowed, with_at, put, take_front, take_next, after, after_all}
 use Rattle.lane.specs.Rule.{Role, Putter, Taker, Closer, IsRole, part_of, IsSeated, AreSeated, IsLaneAt}
-use Rattle.lane.specs.Steps.{IsFree, HasEnded}
-use Rattle.lane.specs.Laws.{RunsStayLawful, leaves, leaving, LeftIsPrefixOfSent, TakenIsPrefixOfSent}
+use Rattle.lane.specs.Steps.{with_message, IsFree, HasEnded, PutSends, CloseSends}
+use Rattle.lane.specs.Laws.{RunsStayLawful, leaves, leaving, LeftIsPrefixOfSent, TakenIsPrefixOfSent, send_event, SendIsAnEvent, ReceiveIsAnEvent, SplitIsNoEvent, JoinIsNoEvent}
 use Rattle.lane.proofs.Lists.{with_at_here, with_at_else, with_at_all}
 use Rattle.lane.proofs.Messages.{of_yes, of_no, of_one, front_yes, front_no}
 use Rattle.lane.proofs.Keeps.{begins, keeps, keeps_all, reaches}
-use Rattle.lane.proofs.Seats.{at_part, changed}
+use Rattle.lane.proofs.Seats.{at_part, seated_as, changed, given, joined}
 
 pub runs_stay_lawful : RunsStayLawful
 runs_stay_lawful n events allowed = keeps_all n opening events (begins n) allowed
@@ -31,37 +31,28 @@ taken_is_prefix n s h f = record {
   placed = h.placed;
 }
 
--- a put part in a view is its file's, as the state has it
+-- a put part, a take part and the closer's in a view are as the state has them
 pub put_is : (n : Size) (s : State) (seat : Role → ℕ) (pass f c : ℕ) (ms : List Taken) → IsSeated n s seat pass (Put f c ms) → (f < n.files)
     × (c ≡ n.capacity) × (ms ≡ s.sent f)
-put_is n s seat pass f c ms h = by_role h.0 h.1 h.2
-  where
-    by_role : (r : Role) → IsRole n r → Put f c ms ≡ part_of n s r → (f < n.files) × (c ≡ n.capacity) × (ms ≡ s.sent f)
-    by_role (Putter g) is e = let a : f ≡ g = cc in let b : c ≡ n.capacity = cc in let d : ms ≡ s.sent g =
-        cc in (omega arith, b, d ∙ ap s.sent (sym a))
-    by_role (Taker w) is e = absurd (cc)
-    by_role Closer is e = absurd (cc)
+put_is n s seat pass f c ms h =
+    let r = seated_as n s seat pass (Put f c ms) (Putter f) h refl in
+    let e : Put f c ms ≡ Put f n.capacity (s.sent f) = r.1 in
+    let b : c ≡ n.capacity = cc in let d : ms ≡ s.sent f = cc in (r.0, b, d)
 
 pub take_is : (n : Size) (s : State) (seat : Role → ℕ) (pass w c : ℕ) (ms : List Taken) → IsSeated n s seat pass (Take w c ms)
     → (w < n.takers) × (c ≡ n.capacity) × (ms ≡ s.took w)
-take_is n s seat pass w c ms h = by_role h.0 h.1 h.2
-  where
-    by_role : (r : Role) → IsRole n r → Take w c ms ≡ part_of n s r → (w < n.takers) × (c ≡ n.capacity) × (ms ≡ s.took w)
-    by_role (Putter g) is e = absurd (cc)
-    by_role (Taker g) is e = let a : w ≡ g = cc in let b : c ≡ n.capacity = cc in let d : ms ≡ s.took g =
-        cc in (omega arith, b, d ∙ ap s.took (sym a))
-    by_role Closer is e = absurd (cc)
+take_is n s seat pass w c ms h =
+    let r = seated_as n s seat pass (Take w c ms) (Taker w) h refl in
+    let e : Take w c ms ≡ Take w n.capacity (s.took w) = r.1 in
+    let b : c ≡ n.capacity = cc in let d : ms ≡ s.took w = cc in (r.0, b, d)
 
 pub close_is : (n : Size) (s : State) (seat : Role → ℕ) (pass f w c x y : ℕ) → IsSeated n s seat pass (Close f w c x y) → (f ≡ n.files)
     × (w ≡ n.takers) × (c ≡ n.capacity) × (x ≡ s.stops) × (y ≡ s.quits)
-close_is n s seat pass f w c x y h = by_role h.0 h.2
-  where
-    by_role : (r : Role) → Close f w c x y ≡ part_of n s r → (f ≡ n.files) × (w ≡ n.takers) × (c ≡ n.capacity) × (x ≡ s.stops)
-        × (y ≡ s.quits)
-    by_role (Putter g) e = absurd (cc)
-    by_role (Taker g) e = absurd (cc)
-    by_role Closer e = let a : f ≡ n.files = cc in let b : w ≡ n.takers = cc in let d : c ≡ n.capacity = cc in let i : x ≡ s.stops =
-        cc in let j : y ≡ s.quits = cc in (a, b, d, i, j)
+close_is n s seat pass f w c x y h =
+    let e : Close f w c x y ≡ Close n.files n.takers n.capacity s.stops s.quits =
+    (seated_as n s seat pass (Close f w c x y) Closer h refl).1 in
+    let a : f ≡ n.files = cc in let b : w ≡ n.takers = cc in let d : c ≡ n.capacity = cc in let i : x ≡ s.stops =
+    cc in let j : y ≡ s.quits = cc in (a, b, d, i, j)
 
 -- an event that changes one role's part: the lane is at the state after it
 moves : (n : Size) (s t : State) (e : Event) (items items' : List Taken) (views : List (List Part))
@@ -97,57 +88,41 @@ take_same n s w m rest (Taker v) ne =
     ap (λ l. Take v n.capacity l) (with_at_else s.took w (s.took w ++ m ∷ []) v (λ e. ne (ap (λ k. Taker k) e)))
 take_same n s w m rest Closer ne = refl
 
-put_moves : (n : Size) (s : State) (e : Event) (items : List Taken) (views : List (List Part)) (pass f c : ℕ) (ms : List Taken) (m : Taken)
-    → IsLaneAt n s items views → get_elem? views pass ≡ some (Put f c ms ∷ []) → f < n.files → c ≡ n.capacity → ms ≡ s.sent f
-    → Allowed n s e → after s e ≡ put f m s
-    → IsLaneAt n (after s e) (items ++ m ∷ []) (set views pass (Put f c (ms ++ m ∷ []) ∷ []))
-put_moves n s e items views pass f c ms m h at below cap list allowed is =
-    moves n s (put f m s) e items (items ++ m ∷ []) views pass (Putter f) (Put f c ms) (Put f c (ms ++ m ∷ [])) [] h at
-    (λ i. Put f (cap i) (list i)) below tt allowed is (ap (λ l. l ++ m ∷ []) h.queue)
-    ((λ i. Put f (cap i) (list i ++ m ∷ [])) ∙ ap (λ l. Put f n.capacity l) (sym (with_at_here s.sent f (s.sent f ++ m ∷ []))))
+-- what a put end sends
+put_moves : (n : Size) (s : State) (e : Event) (items : List Taken) (views : List (List Part)) (pass f c : ℕ) (ms : List Taken)
+    (v : List Part) (m : Taken)
+    → IsLaneAt n s items views → get_elem? views pass ≡ some (Put f c ms ∷ v) → IsFree (Putter f) v
+    → (f < n.files) × (c ≡ n.capacity) × (ms ≡ s.sent f) → Allowed n s e → after s e ≡ put f m s
+    → IsLaneAt n (after s e) (items ++ m ∷ []) (set views pass (Put f c (ms ++ m ∷ []) ∷ v))
+put_moves n s e items views pass f c ms v m h at free p allowed is =
+    moves n s (put f m s) e items (items ++ m ∷ []) views pass (Putter f) (Put f c ms) (Put f c (ms ++ m ∷ [])) v h at
+    (λ i. Put f (p.1 i) (p.2 i)) p.0 free allowed is (ap (λ l. l ++ m ∷ []) h.queue)
+    ((λ i. Put f (p.1 i) (p.2 i ++ m ∷ [])) ∙ ap (λ l. Put f n.capacity l) (sym (with_at_here s.sent f (s.sent f ++ m ∷ []))))
     (put_same n s f m)
 
-abbrev pub RowIsAnEvent : Type 0
-RowIsAnEvent =
-    (n : Size) (s : State) (items : List Taken) (views : List (List Part)) (pass file capacity : ℕ) (sent : List Taken) (block : Block)
-    → IsLaneAt n s items views → get_elem? views pass ≡ some (Put file capacity sent ∷ [])
-    → length items < capacity → has_end sent ≡ false → rows_in sent < 1000000
-    → Allowed n s (PutRow file block)
-    × IsLaneAt n (after s (PutRow file block))
-    (items ++ Row file (length sent) block ∷ []) (set views pass (Put file capacity (sent ++ Row file (length sent) block ∷ []) ∷ []))
-
-pub row_is : RowIsAnEvent
-row_is n s items views pass f c ms b h at room open' few =
-    let p = put_is n s h.seat pass f c ms (h.seated.only pass (Put f c ms ∷ []) at).0 in
-    let allowed : Allowed n s (PutRow f b) = (
-      p.0,
+put_event : (n : Size) (s : State) (items : List Taken) (views : List (List Part)) (pass f c : ℕ) (ms : List Taken) (v : List Part) (m : Taken)
+    → IsLaneAt n s items views → get_elem? views pass ≡ some (Put f c ms ∷ v) → IsFree (Putter f) v → length items < c → PutSends f ms m
+    → Allowed n s (send_event m)
+    × IsLaneAt n (after s (send_event m)) (items ++ m ∷ []) (set views pass (Put f c (ms ++ m ∷ []) ∷ v))
+put_event n s items views pass f c ms v (Row g k b) h at free room q =
+    let p = put_is n s h.seat pass f c ms (h.seated.only pass (Put f c ms ∷ v) at).0 in
+    let list : ms ≡ s.sent g = p.2 ∙ ap s.sent (sym q.0) in
+    let place : length (s.sent g) ≡ k = ap (λ (l : List Taken). length l) (sym list) ∙ sym q.1 in
+    let allowed : Allowed n s (PutRow g b) = (
+      omega (arith, p.0, q.0),
       omega (arith, ap (λ (l : List Taken). length l) h.queue, p.1),
-      ap has_end (sym p.2) ∙ open',
-      subst (λ l. rows_in l < 1000000) p.2 few,
-    ) in (
-      allowed,
-      put_moves n s (PutRow f b) items views pass f c ms (Row f (length ms) b) h at p.0 p.1 p.2 allowed
-          (ap (λ (l : List Taken). put f (Row f (length l) b) s) (sym p.2)),
-    )
-
-abbrev pub EndIsAnEvent : Type 0
-EndIsAnEvent =
-    (n : Size) (s : State) (items : List Taken) (views : List (List Part)) (pass file capacity : ℕ) (sent : List Taken)
-    → IsLaneAt n s items views → get_elem? views pass ≡ some (Put file capacity sent ∷ [])
-    → length items < capacity → has_end sent ≡ false
-    → Allowed n s (PutEnd file)
-    × IsLaneAt n (after s (PutEnd file))
-    (items ++ End file (rows_in sent) ∷ []) (set views pass (Put file capacity (sent ++ End file (rows_in sent) ∷ []) ∷ []))
-
-pub end_is : EndIsAnEvent
-end_is n s items views pass f c ms h at room open' =
-    let p = put_is n s h.seat pass f c ms (h.seated.only pass (Put f c ms ∷ []) at).0 in
-    let allowed : Allowed n s (PutEnd f) =
-    (p.0, omega (arith, ap (λ (l : List Taken). length l) h.queue, p.1), ap has_end (sym p.2) ∙ open') in (
-      allowed,
-      put_moves n s (PutEnd f) items views pass f c ms (End f (rows_in ms)) h at p.0 p.1 p.2 allowed
-          (ap (λ (l : List Taken). put f (End f (rows_in l)) s) (sym p.2)),
-    )
+      ap has_end (sym list) ∙ q.2,
+      subst (λ l. rows_in l < 1000000) list q.3,
+    ) in
+    (allowed, put_moves n s (PutRow g b) items views pass f c ms v (Row g k b) h at free p allowed (λ i. put (q.0 i) (Row g (place i) b) s))
+put_event n s items views pass f c ms v (End g k) h at free room q =
+    let p = put_is n s h.seat pass f c ms (h.seated.only pass (Put f c ms ∷ v) at).0 in
+    let list : ms ≡ s.sent g = p.2 ∙ ap s.sent (sym q.0) in
+    let rows : rows_in (s.sent g) ≡ k = ap rows_in (sym list) ∙ sym q.1 in
+    let allowed : Allowed n s (PutEnd g) =
+    (omega (arith, p.0, q.0), omega (arith, ap (λ (l : List Taken). length l) h.queue, p.1), ap has_end (sym list) ∙ q.2) in
+    (allowed, put_moves n s (PutEnd g) items views pass f c ms v (End g k) h at free p allowed (λ i. put (q.0 i) (End g (rows i)) s))
+put_event n s items views pass f c ms v _ h at free room q = absurd q
 
 -- all files have ended, where the view has their ended parts
 all_ended : (n : Size) (s : State) (seat : Role → ℕ) (pass files : ℕ) (v : List Part) → AllByRecursion (IsSeated n s seat pass) v
@@ -162,72 +137,72 @@ close_same n s t a b (Putter g) ne = ap (λ (k : ℕ → List Taken). Put g n.ca
 close_same n s t a b (Taker v) ne = ap (λ (k : ℕ → List Taken). Take v n.capacity (k v)) (sym b)
 close_same n s t a b Closer ne = absurd (ne refl)
 
-abbrev pub StopIsAnEvent : Type 0
-StopIsAnEvent =
-    (n : Size) (s : State) (items : List Taken) (views : List (List Part)) (pass files takers capacity stops quits : ℕ) (v : List Part)
-    → IsLaneAt n s items views → get_elem? views pass ≡ some (Close files takers capacity stops quits ∷ v) → IsFree Closer v
-    → length items < capacity → HasEnded files v → quits ≡ 0 → stops < takers
-    → Allowed n s PutStop × IsLaneAt n (after s PutStop)
-    (items ++ Stop ∷ []) (set views pass (Close files takers capacity (stops + 1) quits ∷ v))
-
-pub stop_is : StopIsAnEvent
-stop_is n s items views pass files takers c stops quits v h at free room ended none few =
-    let all = h.seated.only pass (Close files takers c stops quits ∷ v) at in
-    let p = close_is n s h.seat pass files takers c stops quits all.0 in
+-- what the closer sends
+close_event : (n : Size) (s : State) (items : List Taken) (views : List (List Part)) (pass f w c x y : ℕ) (v : List Part) (m : Taken)
+    → IsLaneAt n s items views → get_elem? views pass ≡ some (Close f w c x y ∷ v) → IsFree Closer v → length items < c
+    → CloseSends f w x y v m
+    → Allowed n s (send_event m)
+    × IsLaneAt n (after s (send_event m)) (items ++ m ∷ []) (set views pass (with_message (Close f w c x y ∷ v) m))
+close_event n s items views pass f w c x y v Stop h at free room q =
+    let all = h.seated.only pass (Close f w c x y ∷ v) at in
+    let p = close_is n s h.seat pass f w c x y all.0 in
+    let quits : y + 0 ≡ s.quits = omega (arith, p.4) in
     let allowed : Allowed n s PutStop = (
       omega (arith, ap (λ (l : List Taken). length l) h.queue, p.2),
-      (λ f l. all_ended n s h.seat pass files v all.1 ended f (omega (arith, p.0))),
-      omega (arith, p.4),
-      omega (arith, p.1, p.3),
+      (λ g l. all_ended n s h.seat pass f v all.1 q.0 g (omega (arith, p.0))),
+      omega (arith, p.4, q.1),
+      omega (arith, p.1, p.3, q.2),
     ) in (
       allowed,
       moves n s (after s PutStop) PutStop items (items ++ Stop ∷ []) views pass Closer
-          (Close files takers c stops quits) (Close files takers c (stops + 1) quits) v h at
+          (Close f w c x y) (Close f w c (x + 1) (y + 0)) v h at
           (λ i. Close (p.0 i) (p.1 i) (p.2 i) (p.3 i) (p.4 i)) tt free allowed refl (ap (λ l. l ++ Stop ∷ []) h.queue)
-          (λ i. Close (p.0 i) (p.1 i) (p.2 i) (p.3 i + 1) (p.4 i))
+          (λ i. Close (p.0 i) (p.1 i) (p.2 i) (p.3 i + 1) (quits i))
           (close_same n s (after s PutStop) refl refl),
     )
-
-abbrev pub QuitIsAnEvent : Type 0
-QuitIsAnEvent =
-    (n : Size) (s : State) (items : List Taken) (views : List (List Part)) (pass files takers capacity stops quits : ℕ) (v : List Part)
-    → IsLaneAt n s items views → get_elem? views pass ≡ some (Close files takers capacity stops quits ∷ v) → IsFree Closer v
-    → length items < capacity → stops ≡ 0 → quits < takers
-    → Allowed n s PutQuit × IsLaneAt n (after s PutQuit)
-    (items ++ Quit ∷ []) (set views pass (Close files takers capacity stops (quits + 1) ∷ v))
-
-pub quit_is : QuitIsAnEvent
-quit_is n s items views pass files takers c stops quits v h at free room none few =
-    let all = h.seated.only pass (Close files takers c stops quits ∷ v) at in
-    let p = close_is n s h.seat pass files takers c stops quits all.0 in
+close_event n s items views pass f w c x y v Quit h at free room q =
+    let p = close_is n s h.seat pass f w c x y (h.seated.only pass (Close f w c x y ∷ v) at).0 in
+    let stops : x + 0 ≡ s.stops = omega (arith, p.3) in
     let allowed : Allowed n s PutQuit =
-    (omega (arith, ap (λ (l : List Taken). length l) h.queue, p.2), omega (arith, p.3), omega (arith, p.1, p.4)) in (
+    (omega (arith, ap (λ (l : List Taken). length l) h.queue, p.2), omega (arith, p.3, q.0), omega (arith, p.1, p.4, q.1)) in (
       allowed,
       moves n s (after s PutQuit) PutQuit items (items ++ Quit ∷ []) views pass Closer
-          (Close files takers c stops quits) (Close files takers c stops (quits + 1)) v h at
+          (Close f w c x y) (Close f w c (x + 0) (y + 1)) v h at
           (λ i. Close (p.0 i) (p.1 i) (p.2 i) (p.3 i) (p.4 i)) tt free allowed refl (ap (λ l. l ++ Quit ∷ []) h.queue)
-          (λ i. Close (p.0 i) (p.1 i) (p.2 i) (p.3 i) (p.4 i + 1))
+          (λ i. Close (p.0 i) (p.1 i) (p.2 i) (stops i) (p.4 i + 1))
           (close_same n s (after s PutQuit) refl refl),
     )
+close_event n s items views pass f w c x y v _ h at free room q = absurd q
 
-abbrev pub TakeIsAnEvent : Type 0
-TakeIsAnEvent =
-    (n : Size) (s : State) (m : Taken) (items : List Taken) (views : List (List Part)) (pass taker capacity : ℕ) (took : List Taken)
-    → IsLaneAt n s (m ∷ items) views → get_elem? views pass ≡ some (Take taker capacity took ∷ []) → is_done took ≡ false
-    → Allowed n s (TakeNext taker) × IsLaneAt n (after s (TakeNext taker)) items
-    (set views pass (Take taker capacity (took ++ m ∷ []) ∷ []))
+pub send_is_an_event : SendIsAnEvent
+send_is_an_event n s items views pass capacity (Put f c ms ∷ v) m h at room q =
+    put_event n s items views pass f c ms v m h at (subst (IsFree (Putter f)) (sym q.0) tt) (omega (arith, q.1)) q.2
+send_is_an_event n s items views pass capacity (Close f w c x y ∷ v) m h at room q =
+    close_event n s items views pass f w c x y v m h at q.0 (omega (arith, q.1)) q.2
+send_is_an_event n s items views pass capacity _ m h at room q = absurd q
 
-pub take_event : TakeIsAnEvent
-take_event n s m items views pass w c ms h at undone =
-    let p = take_is n s h.seat pass w c ms (h.seated.only pass (Take w c ms ∷ []) at).0 in
+pub receive_is_an_event : ReceiveIsAnEvent
+receive_is_an_event n s m items views pass (Take w c ms ∷ v) h at q =
+    let p = take_is n s h.seat pass w c ms (h.seated.only pass (Take w c ms ∷ v) at).0 in
     let allowed : Allowed n s (TakeNext w) =
-    (p.0, (λ (e : s.queue ≡ []). let z : (m ∷ items) ≡ [] = sym h.queue ∙ e in cc), ap is_done (sym p.2) ∙ undone) in (
+    (p.0, (λ (e : s.queue ≡ []). let z : (m ∷ items) ≡ [] = sym h.queue ∙ e in cc), ap is_done (sym p.2) ∙ q.1) in (
       allowed,
-      moves n s (take_front w m items s) (TakeNext w) (m ∷ items) items views pass (Taker w) (Take w c ms) (Take w c (ms ++ m ∷ [])) [] h at
-          (λ i. Take w (p.1 i) (p.2 i)) p.0 tt allowed (ap (λ q. take_next w q s) h.queue) refl
+      moves n s (take_front w m items s) (TakeNext w) (m ∷ items) items views pass (Taker w) (Take w c ms) (Take w c (ms ++ m ∷ [])) v h at
+          (λ i. Take w (p.1 i) (p.2 i)) p.0 (subst (IsFree (Taker w)) (sym q.0) tt) allowed (ap (λ l. take_next w l s) h.queue) refl
           ((λ i. Take w (p.1 i) (p.2 i ++ m ∷ [])) ∙ ap (λ l. Take w n.capacity l) (sym (with_at_here s.took w (s.took w ++ m ∷ []))))
           (take_same n s w m items),
     )
+receive_is_an_event n s m items views pass _ h at q = absurd q
+
+pub split_is_no_event : SplitIsNoEvent
+split_is_no_event n s items views pass first part rest role h at named free =
+    let g = given n s h.seat views pass role first part rest h.seated at named free in
+    record { reached = h.reached; lawful = h.lawful; queue = h.queue; seat = g.0; seated = g.1 }
+
+pub join_is_no_event : JoinIsNoEvent
+join_is_no_event n s items views pass other v u h at apart at' =
+    let j = joined n s h.seat views pass other v u h.seated at apart at' in
+    record { reached = h.reached; lawful = h.lawful; queue = h.queue; seat = j.0; seated = j.1 }
 
 file_put : (s : State) (pre : List Taken) (f g : ℕ) (m : Taken) → is_of g m ≡ true → of f pre ++ of f s.queue ≡ s.sent f
     → of f (pre ++ []) ++ of f (s.queue ++ m ∷ []) ≡ with_at s.sent g (s.sent g ++ m ∷ []) f

@@ -33,22 +33,28 @@ pub record StoppedView : Type 0 where
   pub takers : ℕ
   pub sent : List (List Taken)
 
+-- the ends of the lane, each with its number, from number k on, in order
+abbrev pub AreEndsFrom : {E : Type 0} → (E → Lane) → (E → ℕ) → Lane → ℕ → ℕ → List E → Type 0
+AreEndsFrom lane_of number lane all k [] = k ≡ all
+AreEndsFrom lane_of number lane all k (e ∷ es) = (lane_of e ≡ lane) × (number e ≡ k) × AreEndsFrom lane_of number lane all (k + 1) es
+
 -- the put ends of the lane's files from number k on, in order
 abbrev pub ArePutsFrom : Lane → ℕ → ℕ → List PutEndView → Type 0
-ArePutsFrom lane files k [] = k ≡ files
-ArePutsFrom lane files k (p ∷ ps) = (p.lane ≡ lane) × (p.file ≡ k) × ArePutsFrom lane files (k + 1) ps
+ArePutsFrom lane files k ps = AreEndsFrom (λ p. p.lane) (λ p. p.file) lane files k ps
 
 -- the take ends of the lane's takers from number k on, in order
 abbrev pub AreTakesFrom : Lane → ℕ → ℕ → List TakeEndView → Type 0
-AreTakesFrom lane takers k [] = k ≡ takers
-AreTakesFrom lane takers k (t ∷ ts) = (t.lane ≡ lane) × (t.taker ≡ k) × AreTakesFrom lane takers (k + 1) ts
+AreTakesFrom lane takers k ts = AreEndsFrom (λ t. t.lane) (λ t. t.taker) lane takers k ts
+
+-- the ends that are made for n numbers from k on
+abbrev pub ends_from : {E : Type 0} → (ℕ → E) → ℕ → ℕ → List E
+ends_from make k zero = []
+ends_from make k (suc n) = make k ∷ ends_from make (k + 1) n
 
 -- n put ends of the lane that sent nothing yet, of the files from number k on
 abbrev pub first_puts : Lane → ℕ → ℕ → List PutEndView
-first_puts lane k zero = []
-first_puts lane k (suc n) = record { lane = lane; file = k; sent = [] } ∷ first_puts lane (k + 1) n
+first_puts lane k n = ends_from (λ file. record { lane = lane; file = file; sent = [] }) k n
 
 -- n take ends of the lane that took nothing yet, of the takers from number k on
 abbrev pub first_takes : Lane → ℕ → ℕ → List TakeEndView
-first_takes lane k zero = []
-first_takes lane k (suc n) = record { lane = lane; taker = k; took = [] } ∷ first_takes lane (k + 1) n
+first_takes lane k n = ends_from (λ taker. record { lane = lane; taker = taker; took = [] }) k n

@@ -14,6 +14,7 @@ pub data Role : Type 0 where
   Putter : (file : ℕ) → Role
   Taker : (taker : ℕ) → Role
   Closer : Role
+  deriving Discrete as same_role
 
 -- the lane has this role
 abbrev pub IsRole : Size → Role → Type 0
@@ -69,14 +70,17 @@ pub record IsCounting (items : List Taken) (views : List (List Part)) : Type 0 w
 abbrev pub IsLane : List Taken → List (List Part) → Type 0
 IsLane items views = IsCounting items views ⊎ ((n : Size) × (s : State) × IsLaneAt n s items views)
 
+-- the parts of these lists, numbered from k on
+abbrev pub parts_from : (ℕ → List Taken → Part) → ℕ → List (List Taken) → List Part
+parts_from part k [] = []
+parts_from part k (list ∷ rest) = part k list ∷ parts_from part (k + 1) rest
+
 -- the put parts of these lists, from file k on, and the take parts, from taker k on
 abbrev pub put_parts : ℕ → ℕ → List (List Taken) → List Part
-put_parts capacity k [] = []
-put_parts capacity k (sent ∷ rest) = Put k capacity sent ∷ put_parts capacity (k + 1) rest
+put_parts capacity k sent = parts_from (λ file list. Put file capacity list) k sent
 
 abbrev pub take_parts : ℕ → ℕ → List (List Taken) → List Part
-take_parts capacity k [] = []
-take_parts capacity k (took ∷ rest) = Take k capacity took ∷ take_parts capacity (k + 1) rest
+take_parts capacity k took = parts_from (λ taker list. Take taker capacity list) k took
 
 -- all parts of a lane that is opened: nothing was put or taken
 abbrev pub all_parts : ℕ → ℕ → ℕ → List Part

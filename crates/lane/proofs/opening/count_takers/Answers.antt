@@ -1,7 +1,5 @@
-use Rattle.std.proofs.Common.{ap}
-use Rattle.lane.specs.inner.Kept.{SeatView}
-use Rattle.lane.proofs.Opens.{counts_taker}
+use Rattle.lane.proofs.Rules.{counts}
 use Rattle.lane.proofs.opening.count_takers.Goals as goal
 
 pub split-requires : goal.split-requires
-split-requires c = record { rule = counts_taker _ _ _ _ (ap (λ (s : SeatView). s.known) c.loop-taker.invariant) }
+split-requires c = record { rule = rw c.loop-taker.invariant (λ pass. counts pass _ _ _ _ _ _) }

@@ -1,33 +1,25 @@
-use Rattle.std.proofs.Common.{[], ◌∷◌, ◌++◌, sym, ap, ◌∙◌}
-use Rattle.lane.specs.declared.part.Part.TheVariants.{Put}
-use Rattle.lane.specs.Ends.{Lane, PutEndView, first_puts}
-use Rattle.lane.specs.inner.Kept.{SeatView}
-use Rattle.lane.proofs.Opens.{put_given, first_puts_next}
+use Rattle.std.proofs.Common.{sym, ap}
+use Rattle.lane.proofs.Opens.{put_given, ends_next}
 use Rattle.lane.proofs.opening.put_ends.Goals as goal
 
 pub give_sender-requires : goal.give_sender-requires
-give_sender-requires c =
-    let given = put_given _ _ _ _ _ (ap (λ (s : SeatView). s.known) c.loop-file.invariant.0) c.loop-file-test.true in
-    record { may = given.0 }
+give_sender-requires c = record { may = rw c.loop-file.invariant.0 (put_given _ _ _ _ c.loop-file-test.true).0 }
 
 pub new-requires : goal.new-requires
-new-requires c =
-    let given = put_given _ _ _ _ _ (ap (λ (s : SeatView). s.known) c.loop-file.invariant.0) c.loop-file-test.true in
-    let lane = ap (λ (s : SeatView). s.lane) c.in_ok-end.ensures.given ∙ ap (λ (s : SeatView). s.lane) c.loop-file.invariant.0 in
-    record {
-      part = ap (λ (s : SeatView). s.known) c.in_ok-end.ensures.given
-          ∙ (given.2 ∙ ap (λ (l : Lane). Put c.loop-file.file l.2 [] ∷ []) (sym lane));
-    }
+new-requires c = record {
+  part = rw (c.in_ok-end.ensures.given, c.loop-file.invariant.0) (put_given _ _ _ _ c.loop-file-test.true).2;
+}
 
 pub loop-file-preserved : goal.loop-file-preserved
-loop-file-preserved c =
-    let given = put_given _ _ _ _ _ (ap (λ (s : SeatView). s.known) c.loop-file.invariant.0) c.loop-file-test.true in
-    let lane = ap (λ (s : SeatView). s.lane) c.loop-file.invariant.0 in
-    let ends = ap (λ (s : SeatView). s.lane) c.in_ok-end.ensures.given ∙ lane in (
-      c.in_ok-end.ensures.left ∙ (λ i. record { lane = lane i; known = given.1 i }),
-      c.in_ok-push.ensures.items
-          ∙ (ap (λ l. l ++ c.new.result ∷ []) c.loop-file.invariant.1
-          ∙ (ap (λ (p : PutEndView). first_puts c.args.seat.now.lane 0 c.loop-file.file ++ p ∷ []) (c.new.ensures.value
-          ∙ ap (λ (l : Lane). record { lane = l; file = c.loop-file.file; sent = [] }) ends)
-          ∙ sym (first_puts_next c.args.seat.now.lane c.loop-file.file))),
-    )
+loop-file-preserved c = (
+  rw (c.in_ok-end.ensures.left, c.loop-file.invariant.0)
+      (ap (λ v. record c.args.seat.now { known = v }) (put_given _ _ _ _ c.loop-file-test.true).1),
+  rw (
+    c.in_ok-push.ensures.items,
+    c.loop-file.invariant.1,
+    c.new.ensures.value,
+    c.in_ok-end.ensures.given,
+    c.loop-file.invariant.0,
+  )
+      (sym (ends_next _ c.loop-file.file)),
+)

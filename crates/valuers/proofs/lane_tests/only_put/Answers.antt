@@ -1,5 +1,6 @@
-use Rattle.lane.proofs.HandedOver.{last_put}
+use Rattle.std.proofs.Common.{refl}
+use Rattle.lane.proofs.Opens.{last_end}
 use Rattle.valuers.proofs.lane_tests.only_put.Goals as goal
 
 pub returns : goal.returns
-returns c = last_put _ _ _ _ c.pop.ensures.items c.requires
+returns c = last_end _ _ _ _ _ c.pop.ensures.items c.requires (refl, refl, refl)

@@ -1,8 +1,6 @@
-use Rattle.std.proofs.Common.{◌≡◌, ◌∙◌, subst}
-use Rattle.lane.specs.MessageKinds.{ends_in_mark}
+use Rattle.std.proofs.Common.{sym, ◌∙◌}
 use Rattle.lane.proofs.Messages.{done_is_last}
 use Rattle.lane.proofs.take_end.TakeEnd.is_done.Goals as goal
 
 pub returns-clause-last : goal.returns-clause-last
-returns-clause-last c = subst (λ v. c.self.inside.done ≡ ends_in_mark v.took) c.self.view_is
-    (c.self.invariant.1 ∙ done_is_last _ c.self.invariant.0.ordered.marks)
+returns-clause-last c = rw (sym c.self.view_is) (c.self.invariant.1 ∙ done_is_last _ c.self.invariant.0.ordered.marks)
