@@ -32,10 +32,4 @@ module _ (ws now more : List ℤ) (es : List Entry) (items : List Item) (is_now 
     (kept : All (IsKept ws) es) where
   pub pushed : (later : List Entry) (e : Entry) (item : Item) → later ≡ es ++ e ∷ [] → item_of now e ≡ item →
       map (item_of now) later ≡ items ++ item ∷ []
-  pushed later e item is_later is_item =
-      ap (map (item_of now)) is_later
-      ∙ ap (λ w. map (item_of w) (es ++ e ∷ [])) is_now
-      ∙ item_appended ws more es e kept
-      ∙ ap (λ xs. xs ++ item_of (ws ++ more) e ∷ []) were
-      ∙ ap (λ w. items ++ item_of w e ∷ []) (sym is_now)
-      ∙ ap (λ i. items ++ i ∷ []) is_item
+  pushed later e item is_later is_item = rw (is_later, sym is_item, is_now, sym were) (item_appended ws more es e kept)

@@ -51,31 +51,18 @@ module _ (ws now more : List ℤ) (hs : List Head) (rows : List Valued) (is_now 
     (held : All (IsHeld ws) hs) where
   pub set_at : (later : List Head) (i : ℕ) (h : Head) (row : Valued) → later ≡ set hs i h → row_of now h ≡ row →
       map (row_of now) later ≡ set rows i row
-  set_at later i h row is_later is_row =
-      ap (map (row_of now)) is_later
-      ∙ ap (λ w. map (row_of w) (set hs i h)) is_now
-      ∙ row_set ws more hs i h held
-      ∙ ap (λ xs. set xs i (row_of (ws ++ more) h)) were
-      ∙ ap (λ w. set rows i (row_of w h)) (sym is_now)
-      ∙ ap (set rows i) is_row
+  set_at later i h row is_later is_row = rw (is_later, sym is_row, is_now, sym were) (row_set ws more hs i h held)
 
   pub resized : (later : List Head) (count : ℕ) (h : Head) (row : Valued) → length rows ≤ count →
       later ≡ take count hs ++ replicate (count - length hs) h → row_of now h ≡ row →
       map (row_of now) later ≡ rows ++ replicate (count - length rows) row
   resized later count h row enough is_later is_row =
       let same : length hs ≡ length rows = sym (length-map hs (row_of ws)) ∙ ap length were in
-      ap (map (row_of now)) is_later
-      ∙ ap (λ xs. map (row_of now) (xs ++ replicate (count - length hs) h)) (take_all count hs (omega arith))
-      ∙ ap (λ w. map (row_of w) (hs ++ replicate (count - length hs) h)) is_now
-      ∙ rows_filled ws more hs (count - length hs) h held
-      ∙ ap (λ xs. xs ++ replicate (count - length hs) (row_of (ws ++ more) h)) were
-      ∙ ap (λ n. rows ++ replicate (count - n) (row_of (ws ++ more) h)) same
-      ∙ ap (λ w. rows ++ replicate (count - length rows) (row_of w h)) (sym is_now)
-      ∙ ap (λ r. rows ++ replicate (count - length rows) r) is_row
+      rw (is_later, take_all count hs (omega arith), sym is_row, is_now, sym were, length-map hs (row_of ws))
+      (rows_filled ws more hs (count - length hs) h held)
 
   pub not_set : (later : List Head) → later ≡ hs → map (row_of now) later ≡ rows
-  not_set later is_later =
-      ap (map (row_of now)) is_later ∙ ap (λ w. map (row_of w) hs) is_now ∙ rows_kept ws more hs held ∙ were
+  not_set later is_later = rw (is_later, is_now, sym were) (rows_kept ws more hs held)
 
 -- the blocks of rows are those of their heads
 pub blocks_of_heads : (ws : List ℤ) (hs : List Head) → map (λ h. h.block) hs ≡ map (λ row. row.block) (map (row_of ws) hs)
