@@ -3,7 +3,7 @@ use Rattle.std.proofs.Common.{◌≡◌, ℕ, suc, ◌+◌, ◌<◌, Bool, true,
 use Rattle.std.specs.List.{AllByRecursion, Contains, count_by}
 use Rattle.std.specs.List.Sorted.{IsPermutation}
 use Rattle.std.proofs.lemmas.Bool.{cond-true, cond-false, le-ltb, lt-ltb, lt-leb, cases_Bool, cases_eq, eqb-true, false≢true, eq-eqb, and_parts}
-use Rattle.std.proofs.lemmas.List.Elements.{recursion_from_All}
+use Rattle.std.proofs.lemmas.List.Elements.{recursion_from_All, All-from_recursion, All-contains}
 use Rattle.std.proofs.lemmas.List.Sorted.{All-permutation, sum_by-IsPermutation}
 use Rattle.std.proofs.lemmas.List.Sums.{sum_by-append, sum_by-cons}
 use Rattle.std.proofs.lemmas.Option.{none-some, same_Some}
@@ -27,39 +27,65 @@ counted-no : (p : Item → Bool) (item : Item) (items : List Item) → p item �
 counted-no p item items fails = let e = counted p item items ∙ ap (λ b. cond b 1 0 + count_by p items) fails in omega arith
 
 -- a row is found where one is counted, and an end mark too
+found-more : {A : Type 0} (p : Item → Bool) (item : Item) (items : List Item) (first : A) (o : Option A)
+    → is_some o ≡ ltb 0 (count_by p items) → is_some (cond (p item) (Some first) o) ≡ ltb 0 (count_by p (item ∷ items))
+found-more p item items first o found =
+    ⊎_elim
+    (λ yes. ap is_some (cond-true _ _ _ yes) ∙ sym (lt-ltb 0 _ (let more = counted-yes p item items yes in omega arith)))
+    (λ no. ap is_some (cond-false _ _ _ no) ∙ found ∙ ap (ltb 0) (sym (counted-no p item items no)))
+    (cases_Bool (p item))
+
 row-found : (file place : ℕ) (items : List Item) → is_some (row_at file place items) ≡ ltb 0 (count_by (is_row file place) items)
 row-found file place [] = sym (le-ltb 0 0 (omega arith))
 row-found file place (End f n ∷ items) = row-found file place items ∙ ap (ltb 0) (sym (counted-no (is_row file place) (End f n) items refl))
-row-found file place (Row v ∷ items) =
-    ⊎_elim
-    (λ yes. ap is_some (cond-true _ _ _ yes)
-    ∙ sym (lt-ltb 0 _ (let more = counted-yes (is_row file place) (Row v) items yes in omega arith)))
-    (λ no. ap is_some (cond-false _ _ _ no) ∙ row-found file place items
-    ∙ ap (ltb 0) (sym (counted-no (is_row file place) (Row v) items no)))
-    (cases_Bool (eqb v.file file && eqb v.place place))
+row-found file place (Row v ∷ items) = found-more (is_row file place) (Row v) items v (row_at file place items) (row-found file place items)
 
 end-found : (file : ℕ) (items : List Item) → is_some (end_at file items) ≡ ltb 0 (count_by (is_end file) items)
 end-found file [] = sym (le-ltb 0 0 (omega arith))
 end-found file (Row v ∷ items) = end-found file items ∙ ap (ltb 0) (sym (counted-no (is_end file) (Row v) items refl))
-end-found file (End f n ∷ items) =
+end-found file (End f n ∷ items) = found-more (is_end file) (End f n) items n (end_at file items) (end-found file items)
+
+-- an item of the rest is an item of the whole
+later : (items : List Item) (first item : Item) → Contains items item → Contains (first ∷ items) item
+later items first item h = (suc h.0, omega (arith, h.1), h.2)
+
+pub row-held : (items : List Item) (file place : ℕ) (v : Valued) → row_at file place items ≡ Some v →
+    (v.file ≡ file) × (v.place ≡ place) × Contains items (Row v)
+row-held [] file place v e = absurd (none-some v e)
+row-held (End f n ∷ items) file place v e = let h = row-held items file place v e in (h.0, h.1, later items (End f n) (Row v) h.2)
+row-held (Row w ∷ items) file place v e =
     ⊎_elim
-    (λ yes. ap is_some (cond-true _ _ _ yes)
-    ∙ sym (lt-ltb 0 _ (let more = counted-yes (is_end file) (End f n) items yes in omega arith)))
-    (λ no. ap is_some (cond-false _ _ _ no) ∙ end-found file items
-    ∙ ap (ltb 0) (sym (counted-no (is_end file) (End f n) items no)))
+    (λ yes. let same = same_Some w v (sym (cond-true _ (Some w) (row_at file place items) yes) ∙ e) in
+    let both = and_parts (eqb w.file file) (eqb w.place place) yes in (
+      ap (λ u. u.file) (sym same) ∙ eqb-true w.file file both.0,
+      ap (λ u. u.place) (sym same) ∙ eqb-true w.place place both.1,
+      (0, omega arith, ap Row same),
+    ))
+    (λ no. let h = row-held items file place v (sym (cond-false _ (Some w) (row_at file place items) no) ∙ e) in
+    (h.0, h.1, later items (Row w) (Row v) h.2))
+    (cases_Bool (eqb w.file file && eqb w.place place))
+
+pub end-held : (items : List Item) (file count : ℕ) → end_at file items ≡ Some count → Contains items (End file count)
+end-held [] file count e = absurd (none-some count e)
+end-held (Row w ∷ items) file count e = later items (Row w) (End file count) (end-held items file count e)
+end-held (End f n ∷ items) file count e =
+    ⊎_elim
+    (λ yes. (
+      0,
+      omega arith,
+      ap (λ g. End g n) (eqb-true f file yes)
+          ∙ ap (λ m. End file m) (same_Some n count (sym (cond-true (eqb f file) (Some n) (end_at file items) yes) ∙ e)),
+    ))
+    (λ no. later items (End f n) (End file count)
+    (end-held items file count (sym (cond-false (eqb f file) (Some n) (end_at file items) no) ∙ e)))
     (cases_Bool (eqb f file))
 
 -- where the items fit, an end mark that is found has its file's count
 end-fits : (files : ℕ) (counts : ℕ → ℕ) (file count : ℕ) (items : List Item) → AllByRecursion (Fits files counts) items →
     end_at file items ≡ Some count → count ≡ counts file
-end-fits files counts file count [] fit e = absurd (none-some count e)
-end-fits files counts file count (Row v ∷ items) fit e = end-fits files counts file count items fit.1 e
-end-fits files counts file count (End f n ∷ items) fit e =
-    ⊎_elim
-    (λ yes. let same = same_Some n count (sym (cond-true (eqb f file) (Some n) (end_at file items) yes) ∙ e) in
-    sym same ∙ fit.0.1 ∙ ap counts (eqb-true f file yes))
-    (λ no. end-fits files counts file count items fit.1 (sym (cond-false (eqb f file) (Some n) (end_at file items) no) ∙ e))
-    (cases_Bool (eqb f file))
+end-fits files counts file count items fit e =
+    (All-contains (Fits files counts) items (End file count) (All-from_recursion (Fits files counts) items fit)
+    (end-held items file count e)).1
 
 -- and no row is at that count or past it
 past-fits : (files : ℕ) (counts : ℕ → ℕ) (file : ℕ) (items : List Item) → AllByRecursion (Fits files counts) items →
@@ -153,38 +179,3 @@ any_order files items order whole moved = record {
       ∙ whole.rows file place within below;
   others = All-permutation (Fits files whole.counts) items order moved whole.others;
 }
-
--- an item of the rest is an item of the whole
-later : (items : List Item) (first item : Item) → Contains items item → Contains (first ∷ items) item
-later items first item h = (suc h.0, omega (arith, h.1), h.2)
-
-pub row-held : (items : List Item) (file place : ℕ) (v : Valued) → row_at file place items ≡ Some v →
-    (v.file ≡ file) × (v.place ≡ place) × Contains items (Row v)
-row-held [] file place v e = absurd (none-some v e)
-row-held (End f n ∷ items) file place v e = let h = row-held items file place v e in (h.0, h.1, later items (End f n) (Row v) h.2)
-row-held (Row w ∷ items) file place v e =
-    ⊎_elim
-    (λ yes. let same = same_Some w v (sym (cond-true _ (Some w) (row_at file place items) yes) ∙ e) in
-    let both = and_parts (eqb w.file file) (eqb w.place place) yes in (
-      ap (λ u. u.file) (sym same) ∙ eqb-true w.file file both.0,
-      ap (λ u. u.place) (sym same) ∙ eqb-true w.place place both.1,
-      (0, omega arith, ap Row same),
-    ))
-    (λ no. let h = row-held items file place v (sym (cond-false _ (Some w) (row_at file place items) no) ∙ e) in
-    (h.0, h.1, later items (Row w) (Row v) h.2))
-    (cases_Bool (eqb w.file file && eqb w.place place))
-
-pub end-held : (items : List Item) (file count : ℕ) → end_at file items ≡ Some count → Contains items (End file count)
-end-held [] file count e = absurd (none-some count e)
-end-held (Row w ∷ items) file count e = later items (Row w) (End file count) (end-held items file count e)
-end-held (End f n ∷ items) file count e =
-    ⊎_elim
-    (λ yes. (
-      0,
-      omega arith,
-      ap (λ g. End g n) (eqb-true f file yes)
-          ∙ ap (λ m. End file m) (same_Some n count (sym (cond-true (eqb f file) (Some n) (end_at file items) yes) ∙ e)),
-    ))
-    (λ no. later items (End f n) (End file count)
-    (end-held items file count (sym (cond-false (eqb f file) (Some n) (end_at file items) no) ∙ e)))
-    (cases_Bool (eqb f file))

@@ -1,6 +1,6 @@
 -- The shelves keep the items, one item after the other.
 use Rattle.std.proofs.Common.{◌≡◌, ℕ, ◌+◌, ◌<◌, ◌≤◌, Bool, true, false, ◌&&◌, ◌||◌, cond, eqb, leb, ltb, is_some, List, [], ◌∷◌, ◌++◌, length, take, drop, Option, Some, None, refl, sym, ap, subst, ◌∙◌, ⊎_elim, arith}
-use Rattle.std.proofs.lemmas.Bool.{cond-true, cond-false, le-ltb, ltb-false, leb-true, leb-false, cases_Bool, cases_eq, eq-eqb, or_parts}
+use Rattle.std.proofs.lemmas.Bool.{cond-true, cond-false, ltb-false, leb-false, cases_Bool, cases_eq, eq-eqb, or_parts}
 use Rattle.std.proofs.lemmas.Option.{none-some, same_Some}
 use Rattle.std.proofs.lemmas.List.{append-nil, take_all, drop_all}
 use Rattle.std.proofs.lemmas.Bool.Decides.{nat_tests}
@@ -8,7 +8,7 @@ use Rattle.std.proofs.Math.Bool.{or-false}
 use Rattle.rows.specs.declared.item.Item.{Item}
 use Rattle.rows.specs.declared.item.Item.TheVariants.{Row, End}
 use Rattle.rows.specs.declared.item.Valued.{Valued}
-use Rattle.collector.specs.inner.Shelves.{slot, with_row, fault_in, file_of, ArePut, IsShelved, IsKept}
+use Rattle.collector.specs.inner.Shelves.{slot, with_row, file_of, ArePut, IsShelved, IsKept}
 use Rattle.collector.specs.Fault.{is_after, fault}
 use Rattle.collector.specs.Found.{row_at, end_at, has_past}
 use Rattle.collector.proofs.Slots.{eqb-other, slot-put, slot-kept, length-with_row}

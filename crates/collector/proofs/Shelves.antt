@@ -1,11 +1,10 @@
 -- The shelf of a file among the shelves.
-use Rattle.std.proofs.Common.{◌≡◌, ℕ, ◌<◌, ◌≤◌, leb, List, [], ◌∷◌, ◌++◌, length, get_or, Some, None, refl, sym, ap, subst, ◌∙◌}
+use Rattle.std.proofs.Common.{◌≡◌, ℕ, ◌<◌, ◌≤◌, leb, List, [], ◌∷◌, ◌++◌, length, get_or, None, refl, sym, ap, subst, ◌∙◌}
 use Rattle.std.proofs.lemmas.Bool.{cond-false, lt-leb}
 use Rattle.rows.specs.declared.item.Item.{Item}
 use Rattle.rows.specs.declared.item.Item.TheVariants.{Row, End}
-use Rattle.std.specs.List.{slice_get}
 use Rattle.std.specs.Option.{option_and_then, unwrap_or, option_map}
-use Rattle.std.proofs.lemmas.Option.{slice_get_past, slice_get_read}
+use Rattle.std.proofs.lemmas.Option.{slice_get_read}
 use Rattle.rows.specs.declared.item.Valued.{Valued}
 use Rattle.collector.specs.declared.shelf.Shelf.{Shelf}
 use Rattle.collector.specs.inner.Shelves.{rows_in, end_in, row_fault, end_fault, fault_in, ArePut, IsKept}
