@@ -28,7 +28,7 @@ pub row_put : (v w : List Part) (f c count : ℕ) (b : Block) → IsOpenPut v f 
 row_put v w f c count b h e few =
     let m : Taken = Row f count b in
     let p = put_part v w f c m h.part e in
-    let list : IsFrom f 0 (sent_in v ++ m ∷ []) = from_more f 0 (sent_in v) m h.list h.unended (refl, omega (arith, h.places), tt) in
+    let list : IsFrom f 0 (sent_in v ++ m ∷ []) = from_more f 0 (sent_in v) m count (omega (arith, h.places)) h.list h.unended (refl, refl, tt) in
     let open' : has_end (sent_in v ++ m ∷ []) ≡ false =
     list_any-append is_end (sent_in v) (m ∷ []) ∙ ap (λ (x : Bool). x || false) h.unended in
     record {
@@ -46,7 +46,7 @@ pub end_put : (v w : List Part) (f c count : ℕ) → IsOpenPut v f c count → 
 end_put v w f c count h e =
     let m : Taken = End f count in
     let p = put_part v w f c m h.part e in
-    let list : IsFrom f 0 (sent_in v ++ m ∷ []) = from_more f 0 (sent_in v) m h.list h.unended (refl, omega (arith, h.places), refl) in
+    let list : IsFrom f 0 (sent_in v ++ m ∷ []) = from_more f 0 (sent_in v) m count (omega (arith, h.places)) h.list h.unended (refl, refl, refl) in
     let ended : has_end (sent_in v ++ m ∷ []) ≡ true =
     list_any-append is_end (sent_in v) (m ∷ []) ∙ ap (λ (x : Bool). x || true) h.unended in
     record {

@@ -2,7 +2,7 @@
 use Rattle.std.proofs.Common.{◌≡◌, ⊎_elim, inl, inr, ℕ, suc, ◌+◌, ◌<◌, ◌≤◌, Bool, true, false, cond, ◌==◌, ◌&&◌, nat_lt, List, [], ◌∷◌, ◌++◌, length, map, drop, slice_get, Some, refl, sym, ap, ◌∙◌, subst, arith, count_by, length-append}
 use Rattle.std.specs.List.{AllByRecursion}
 use Rattle.std.specs.List.Sorted.{IsStrictlyIncreasing}
-use Rattle.std.proofs.lemmas.Bool.{cases_Bool, cases_eq, cases_lt, eq-eqb, le-ltb, true≢false}
+use Rattle.std.proofs.lemmas.Bool.{cases_Bool, cases_lt, eq-eqb, le-ltb, true≢false}
 use Rattle.std.proofs.lemmas.Bool.Decides.{nat_tests}
 use Rattle.std.proofs.lemmas.List.{drop-append-le, map-append}
 use Rattle.lane.specs.declared.message.Taken.{Taken}
@@ -142,22 +142,20 @@ module _ (n : Size) (s : State) (h : IsLawful n s) where
     more : List Taken
     more = s.took w ++ m ∷ []
 
-    -- what the queue loses the taker has
-    moved : (p : Taken → Bool) → count_by p rest + over n.takers (λ v. count_by p (with_at s.took w (s.took w ++ m ∷ []) v))
-        ≡ count_by p s.queue + over n.takers (λ v. count_by p (s.took v))
-    moved p =
-        let a = over_at (λ (ms : List Taken). count_by p ms) n.takers s.took w (s.took w ++ m ∷ []) below in
-        let b = count_more p (s.took w) m in
-        let c : count_by p s.queue ≡ cond (p m) 1 0 + count_by p rest =
-        ap (λ (ms : List Taken). count_by p ms) front ∙ count_front p m rest in
-        omega arith
-
     counted : (p : Taken → Bool) → over n.takers (λ v. count_by p (with_at s.took w (s.took w ++ m ∷ []) v))
         ≡ over n.takers (λ v. count_by p (s.took v)) + cond (p m) 1 0
     counted p =
         let a = over_at (λ (ms : List Taken). count_by p ms) n.takers s.took w (s.took w ++ m ∷ []) below in
         let b = count_more p (s.took w) m in
         omega arith
+
+    -- what the queue loses the taker has
+    moved : (p : Taken → Bool) → count_by p rest + over n.takers (λ v. count_by p (with_at s.took w (s.took w ++ m ∷ []) v))
+        ≡ count_by p s.queue + over n.takers (λ v. count_by p (s.took v))
+    moved p =
+        let c : count_by p s.queue ≡ cond (p m) 1 0 + count_by p rest =
+        ap (λ (ms : List Taken). count_by p ms) front ∙ count_front p m rest in
+        omega (arith, counted p)
 
     stopped_then : (v : ℕ) → 0 < count_by is_stop (with_at s.took w (s.took w ++ m ∷ []) v) → AreStops rest
     stopped_then =
@@ -270,10 +268,10 @@ take_queue n s h w (m ∷ ms) e below undone = take_any n s h w m ms e below und
 
 pub keeps : (n : Size) (s : State) (e : Event) → IsLawful n s → Allowed n s e → IsLawful n (after s e)
 keeps n s (PutRow f b) h a = puts n s h f (Row f (length (s.sent f)) b) a.1 a.0 a.2 (eq-eqb f f refl)
-    (from_more f 0 (s.sent f) (Row f (length (s.sent f)) b) (h.lists f) a.2 (refl, omega arith, tt))
+    (from_more f 0 (s.sent f) (Row f (length (s.sent f)) b) (length (s.sent f)) (omega arith) (h.lists f) a.2 (refl, refl, tt))
 keeps n s (PutEnd f) h a = puts n s h f (End f (rows_in (s.sent f))) a.1 a.0 a.2 (eq-eqb f f refl)
-    (from_more f 0 (s.sent f) (End f (rows_in (s.sent f))) (h.lists f) a.2
-    (refl, omega (arith, rows_all f 0 (s.sent f) (h.lists f) a.2), refl))
+    (from_more f 0 (s.sent f) (End f (rows_in (s.sent f))) (rows_in (s.sent f))
+    (omega (arith, rows_all f 0 (s.sent f) (h.lists f) a.2)) (h.lists f) a.2 (refl, refl, refl))
 keeps n s PutStop h a = put_stop n s h a
 keeps n s PutQuit h a = put_quit n s h a
 keeps n s (TakeNext w) h a = take_queue n s h w s.queue refl a.0 a.2

@@ -87,7 +87,11 @@ pub over_at : {A : Type 0} (F : A → ℕ) (n : ℕ) (g : ℕ → A) (k : ℕ) (
 over_at F zero g k x l = absurd (omega arith)
 over_at {A} F (suc n) g k x l =
     ⊎_elim
-    (λ (e : k ≡ n). omega (arith, over_same n (λ j. F (with_at g k x j)) (λ j. F (g j)) (λ j below. ap F (with_at_else g k x j (λ q. omega arith))),
-    subst (λ i. F (with_at g k x i) ≡ F x) e (ap F (with_at_here g k x)), ap (λ i. F (g i)) e))
+    (λ (e : k ≡ n). omega (
+      arith,
+      over_same n (λ j. F (with_at g k x j)) (λ j. F (g j)) (λ j below. ap F (with_at_else g k x j (λ q. omega arith))),
+      subst (λ i. F (with_at g k x i) ≡ F x) e (ap F (with_at_here g k x)),
+      ap (λ i. F (g i)) e,
+    ))
     (λ (ne : k ≡ n → ⊥). omega (arith, over_at F n g k x (omega arith), ap F (with_at_else g k x n (λ q. ne (sym q)))))
     (cases_eq k n)

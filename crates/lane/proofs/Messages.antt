@@ -8,7 +8,7 @@ use Rattle.std.proofs.lemmas.List.Kept.{AllPairs-from_increasing}
 use Rattle.std.proofs.lemmas.List.Quantifiers.{all_pairs_push}
 use Rattle.std.proofs.Math.Bool.{or-false}
 use Rattle.lane.specs.declared.message.Taken.{Taken}
-use Rattle.lane.specs.declared.message.Taken.TheVariants.{Row, End, Stop, Quit}
+use Rattle.lane.specs.declared.message.Taken.TheVariants.{Row, End, Stop}
 use Rattle.lane.specs.Message.{is_of, of, position, IsEndedFrom}
 use Rattle.lane.specs.MessageKinds.{is_row, is_end, is_stop, is_quit, is_mark, rows_in, has_end, is_done, ends_in_mark}
 use Rattle.lane.specs.MessageOrders.{IsFrom, MarksLast, StopsLast}
@@ -52,14 +52,12 @@ of_is_no_mark f (Row g p b) e = (refl, refl)
 of_is_no_mark f (End g n) e = (refl, refl)
 of_is_no_mark f _ e = absurd (cc)
 
-pub from_more : (f k : ℕ) (ms : List Taken) (m : Taken) → IsFrom f k ms → has_end ms ≡ false → IsFrom f (k + length ms) (m ∷ [])
-    → IsFrom f k (ms ++ m ∷ [])
-from_more f k [] m h e last = subst (λ i. IsFrom f i (m ∷ [])) (let z : k + 0 ≡ k = omega arith in z) last
-from_more f k (Row g p c ∷ ms) m h e last =
-    let n : k + suc (length ms) ≡ (k + 1) + length ms = omega arith in
-    (h.0, h.1, from_more f (k + 1) ms m h.2 e (subst (λ i. IsFrom f i (m ∷ [])) n last))
-from_more f k (End g n ∷ ms) m h e last = absurd (true≢false e)
-from_more f k (_ ∷ ms) m h e last = absurd h
+pub from_more : (f k : ℕ) (ms : List Taken) (m : Taken) (n : ℕ) → k + length ms ≡ n → IsFrom f k ms → has_end ms ≡ false
+    → IsFrom f n (m ∷ []) → IsFrom f k (ms ++ m ∷ [])
+from_more f k [] m n s h e last = subst (λ i. IsFrom f i (m ∷ [])) (let z : n ≡ k = omega arith in z) last
+from_more f k (Row g p c ∷ ms) m n s h e last = (h.0, h.1, from_more f (k + 1) ms m n (omega arith) h.2 e last)
+from_more f k (End g j ∷ ms) m n s h e last = absurd (true≢false e)
+from_more f k (_ ∷ ms) m n s h e last = absurd h
 
 -- a list with no end mark is all rows
 pub rows_all : (f k : ℕ) (ms : List Taken) → IsFrom f k ms → has_end ms ≡ false → rows_in ms ≡ length ms

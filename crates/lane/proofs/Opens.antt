@@ -1,11 +1,10 @@
 -- How an opened lane is given away, part by part, and the ends that are made, handed to threads and given back.
-use Rattle.std.proofs.Common.{◌≡◌, ℕ, zero, suc, ◌+◌, ◌-◌, ◌<◌, ◌≤◌, List, [], ◌∷◌, ◌++◌, Some, replicate, length, refl, sym, ap, ◌∙◌, subst, arith, get_or, Option, None, IfSome, option_to_list, All, length-append}
-use Rattle.crossbeam_channel.specs.Fifo.{Forks}
+use Rattle.std.proofs.Common.{◌≡◌, ℕ, zero, suc, ◌+◌, ◌-◌, ◌<◌, List, [], ◌∷◌, ◌++◌, Some, replicate, length, refl, sym, ap, ◌∙◌, subst, arith, get_or, Option, None, IfSome, option_to_list, All, length-append}
 use Rattle.lane.specs.declared.part.Part.{Part}
-use Rattle.lane.specs.declared.part.Part.TheVariants.{Count, Put, Take, Close}
-use Rattle.lane.specs.Rule.{Role, Putter, Taker, Closer, role_of, IsLane, put_parts, take_parts}
+use Rattle.lane.specs.declared.part.Part.TheVariants.{Put, Take, Close}
+use Rattle.lane.specs.Rule.{Role, Putter, Taker, Closer, role_of, put_parts, take_parts}
 use Rattle.lane.specs.Steps.{IsFree}
-use Rattle.lane.specs.inner.Views.{opened_view, without_second, second_alone}
+use Rattle.lane.specs.inner.Views.{without_second, second_alone}
 use Rattle.lane.specs.Ends.{Lane, AreEndsFrom, ends_from, PutEndView, first_puts}
 use Rattle.lane.specs.inner.Kept.{MayGive, puts_left, takes_left}
 use Rattle.lane.proofs.Seats.{all_joined}
@@ -27,8 +26,7 @@ put_given f w c k l =
     let puts : List Part = put_parts c (k + 1) (replicate (f - (k + 1)) []) in
     let takes : List Part = take_parts c 0 (replicate w []) in
     given_away (puts_left f w c k) (Close f w c 0 0) (Put k c []) (puts ++ takes) (Putter k)
-    (ap (λ n. Close f w c 0 0 ∷ (put_parts c k (replicate n []) ++ take_parts c 0 (replicate w []))) (one_left f k l)) refl
-    (
+    (ap (λ n. Close f w c 0 0 ∷ (put_parts c k (replicate n []) ++ take_parts c 0 (replicate w []))) (one_left f k l)) refl (
       (λ (x : Some Closer ≡ Some (Putter k)). cc),
       all_joined (λ p. role_of p ≡ Some (Putter k) → ⊥) puts takes
           (free_parts (Putter k) (λ i y. Put i c y) (k + 1) (replicate (f - (k + 1)) [])
@@ -40,8 +38,7 @@ pub take_given : (f w c k : ℕ) → k < w → MayGive (takes_left f w c k) × (
     × (second_alone (takes_left f w c k) ≡ Take k c [] ∷ [])
 take_given f w c k l =
     given_away (takes_left f w c k) (Close f w c 0 0) (Take k c []) (take_parts c (k + 1) (replicate (w - (k + 1)) [])) (Taker k)
-    (ap (λ n. Close f w c 0 0 ∷ take_parts c k (replicate n [])) (one_left w k l)) refl
-    (
+    (ap (λ n. Close f w c 0 0 ∷ take_parts c k (replicate n [])) (one_left w k l)) refl (
       (λ (x : Some Closer ≡ Some (Taker k)). cc),
       free_parts (Taker k) (λ i y. Take i c y) (k + 1) (replicate (w - (k + 1)) [])
           (λ j y le. λ (x : Some (Taker j) ≡ Some (Taker k)). let z : j ≡ k = cc in let bad : ⊥ = omega arith in bad),
@@ -59,16 +56,12 @@ pub ends_count : {E : Type 0} (make : ℕ → E) (k n : ℕ) → length (ends_fr
 ends_count make k zero = refl
 ends_count make k (suc n) = ap suc (ends_count make (k + 1) n)
 
-ends_more : {E : Type 0} (make : ℕ → E) (k n : ℕ) → ends_from make k (suc n) ≡ ends_from make k n ++ make (k + n) ∷ []
-ends_more make k zero = ap (λ i. make i ∷ []) (let z : k ≡ k + 0 = omega arith in z)
-ends_more make k (suc n) =
-    ap (λ l. make k ∷ l) (ends_more make (k + 1) n
-    ∙ ap (λ i. ends_from make (k + 1) n ++ make i ∷ []) (let z : (k + 1) + n ≡ k + suc n = omega arith in z))
+ends_more : {E : Type 0} (make : ℕ → E) (k n m : ℕ) → k + n ≡ m → ends_from make k (suc n) ≡ ends_from make k n ++ make m ∷ []
+ends_more make k zero m s = ap (λ i. make i ∷ []) (let z : k ≡ m = omega arith in z)
+ends_more make k (suc n) m s = ap (λ l. make k ∷ l) (ends_more make (k + 1) n m (omega arith))
 
 pub ends_next : {E : Type 0} (make : ℕ → E) (n : ℕ) → ends_from make 0 (n + 1) ≡ ends_from make 0 n ++ make n ∷ []
-ends_next make n =
-    ap (ends_from make 0) (let z : n + 1 ≡ suc n = omega arith in z)
-    ∙ (ends_more make 0 n ∙ ap (λ i. ends_from make 0 n ++ make i ∷ []) (let z : 0 + n ≡ n = omega arith in z))
+ends_next make n = ap (ends_from make 0) (let z : n + 1 ≡ suc n = omega arith in z) ∙ ends_more make 0 n n (omega arith)
 
 module _ {E : Type 0} where
   pub ends_back : (lane_of : E → Lane) (number : E → ℕ) (lane : Lane) (all k : ℕ) (xs ys : List E) → length ys ≡ length xs

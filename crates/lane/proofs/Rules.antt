@@ -1,5 +1,5 @@
 -- Each move of the passes keeps the rule of the lane.
-use Rattle.std.proofs.Common.{◌≡◌, ◌≢◌, ⊎_elim, inl, inr, ℕ, zero, suc, ◌+◌, ◌<◌, ◌≤◌, true, false, List, [], ◌∷◌, ◌++◌, length, set, slice_get, Some, None, refl, sym, ap, ◌∙◌, subst, arith, append_assoc, replicate}
+use Rattle.std.proofs.Common.{◌≡◌, ⊎_elim, inl, inr, ℕ, zero, suc, ◌+◌, ◌<◌, ◌≤◌, true, List, [], ◌∷◌, ◌++◌, length, set, slice_get, Some, None, refl, sym, ap, ◌∙◌, subst, arith, append_assoc}
 use Rattle.std.specs.List.{AllByRecursion}
 use Rattle.std.proofs.lemmas.Bool.{cases_eq}
 use mathlib.Core.Option.{some, some-injective, some-ne-none}
@@ -8,11 +8,11 @@ use Rattle.crossbeam_channel.specs.Fifo.{Pushes, Pops, Forks, Merges, Learns}
 use Rattle.atomic_table.proofs.Lists.{at_longer, set_here, set_else}
 use Rattle.lane.specs.declared.message.Taken.{Taken}
 use Rattle.lane.specs.declared.part.Part.{Part}
-use Rattle.lane.specs.declared.part.Part.TheVariants.{Count, Put, Take, Close}
+use Rattle.lane.specs.declared.part.Part.TheVariants.{Count, Put, Take}
 use Rattle.lane.specs.MessageKinds.{has_end}
 use Rattle.lane.specs.Machine.{Size, State, opening, TakeNext, after}
 use Rattle.lane.specs.Whole.{IsWhole}
-use Rattle.lane.specs.Rule.{Role, role_of, Has, IsSeated, AreSeated, IsLaneAt, IsCounting, IsLane, parts_from, put_parts, take_parts, all_parts}
+use Rattle.lane.specs.Rule.{Role, role_of, IsSeated, AreSeated, IsLaneAt, IsCounting, IsLane, parts_from, put_parts, take_parts, all_parts}
 use Rattle.lane.specs.Steps.{with_message, IsFree, HasEnded, MaySend, MayTake, full_view}
 use Rattle.lane.specs.Laws.{send_event, MakeIsTheOpening, LookFindsNothing}
 use Rattle.lane.specs.inner.Views.{IsOrdered, Takes, sents_in, tooks_in, gathering_in}
@@ -111,8 +111,12 @@ gives pass first part rest role named free items views h at =
 pub joins : (pass : ℕ) (v : List Part) (other : ℕ) (u : List Part) → IsClosers v → Merges IsLane pass v other u (v ++ u) []
 joins pass v other u closer items views h at apart at' =
     let o = open_at IsClosers items views pass v h at closer (λ e. e) (λ f w c e. e) in
-    inr (o.0, o.1, join_is_no_event o.0 o.1 items views pass other v u o.2 at apart
-    (sym (set_else views pass other (v ++ u) apart) ∙ at'))
+    inr (
+      o.0,
+      o.1,
+      join_is_no_event o.0 o.1 items views pass other v u o.2 at apart
+          (sym (set_else views pass other (v ++ u) apart) ∙ at'),
+    )
 
 pub sends : (n pass : ℕ) (v : List Part) (m : Taken) → MaySend n v m → Pushes IsLane n pass v m (λ w. w ≡ with_message v m)
 sends n pass v m q items views room h at =
@@ -135,15 +139,14 @@ look_finds_nothing n s items views pass files takers c sent took h at full =
     let parts : List Part = put_parts c 0 sent ++ take_parts c 0 took in
     let all = h.seated.only pass (full_view files takers c sent took) at in
     let p = close_is n s h.seat pass files takers c takers 0 all.0 in
-    let zero_is : (i : ℕ) → i + 0 ≡ i = λ i. omega arith in
     let sent_is : (f : ℕ) (l : List Taken) → slice_get sent f ≡ Some l → l ≡ s.sent f =
-    λ f l e. (put_is n s h.seat pass (f + 0) c l
-    (at_part (IsSeated n s h.seat pass) (Put (f + 0) c l) parts
-    (has_left _ (put_parts c 0 sent) (take_parts c 0 took) (has_part (λ i x. Put i c x) 0 sent f l e)) all.1)).2 ∙ ap s.sent (zero_is f) in
+    λ f l e. (put_is n s h.seat pass f c l
+    (at_part (IsSeated n s h.seat pass) (Put f c l) parts
+    (has_left _ (put_parts c 0 sent) (take_parts c 0 took) (has_part (λ i x. Put i c x) 0 sent f f l (omega arith) e)) all.1)).2 in
     let took_is : (w : ℕ) (l : List Taken) → slice_get took w ≡ Some l → l ≡ s.took w =
-    λ w l e. (take_is n s h.seat pass (w + 0) c l
-    (at_part (IsSeated n s h.seat pass) (Take (w + 0) c l) parts
-    (has_right _ (put_parts c 0 sent) (take_parts c 0 took) (has_part (λ i x. Take i c x) 0 took w l e)) all.1)).2 ∙ ap s.took (zero_is w) in
+    λ w l e. (take_is n s h.seat pass w c l
+    (at_part (IsSeated n s h.seat pass) (Take w c l) parts
+    (has_right _ (put_parts c 0 sent) (take_parts c 0 took) (has_part (λ i x. Take i c x) 0 took w w l (omega arith) e)) all.1)).2 in
     let a : length sent ≡ n.files = full.all_files ∙ p.0 in
     let b : length took ≡ n.takers = full.all_takers ∙ p.1 in
     let d : 0 < n.takers = subst (λ k. 0 < k) p.1 full.some_taker in
@@ -176,20 +179,17 @@ pub tooks_all : (c k j : ℕ) (sent took : List (List Taken)) → tooks_in (put_
 tooks_all c k j [] took = tooks_take c j took
 tooks_all c k j (x ∷ sent) took = tooks_all c (k + 1) j sent took
 
-parts_more : (part : ℕ → List Taken → Part) (k : ℕ) (lists : List (List Taken)) (l : List Taken)
-    → parts_from part k (lists ++ l ∷ []) ≡ parts_from part k lists ++ part (k + length lists) l ∷ []
-parts_more part k [] l = ap (λ i. part i l ∷ []) (let z : k ≡ k + 0 = omega arith in z)
-parts_more part k (x ∷ lists) l =
-    let z : (k + 1) + length lists ≡ k + suc (length lists) = omega arith in
-    ap (λ v. part k x ∷ v) (parts_more part (k + 1) lists l ∙ ap (λ i. parts_from part (k + 1) lists ++ part i l ∷ []) z)
+parts_more : (part : ℕ → List Taken → Part) (k : ℕ) (lists : List (List Taken)) (l : List Taken) (n : ℕ) → k + length lists ≡ n
+    → parts_from part k (lists ++ l ∷ []) ≡ parts_from part k lists ++ part n l ∷ []
+parts_more part k [] l n s = ap (λ i. part i l ∷ []) (let z : k ≡ n = omega arith in z)
+parts_more part k (x ∷ lists) l n s = ap (λ v. part k x ∷ v) (parts_more part (k + 1) lists l n (omega arith))
 
 -- one more part joins the closer's
 pub part_joins : (part : ℕ → List Taken → Part) (v : List Part) (lists : List (List Taken)) (l : List Taken)
     → (v ++ parts_from part 0 lists) ++ part (length lists) l ∷ [] ≡ v ++ parts_from part 0 (lists ++ l ∷ [])
 part_joins part v lists l =
     append_assoc v (parts_from part 0 lists) (part (length lists) l ∷ [])
-    ∙ ap (λ u. v ++ u) (sym (parts_more part 0 lists l
-    ∙ ap (λ i. parts_from part 0 lists ++ part i l ∷ []) (let z : 0 + length lists ≡ length lists = omega arith in z)))
+    ∙ ap (λ u. v ++ u) (sym (parts_more part 0 lists l (length lists) (omega arith)))
 
 -- the ended parts of all files
 pub ended_view : (files c : ℕ) (lists : List (List Taken)) → length lists ≡ files → AllByRecursion (λ l. has_end l ≡ true) lists
@@ -198,8 +198,7 @@ ended_view files c lists len h f l =
     let x = some_at lists f (omega arith) in (
       c,
       x.0,
-      subst (λ i. Has (Put i c x.0) (put_parts c 0 lists)) (let z : f + 0 ≡ f = omega arith in z)
-          (has_part (λ i y. Put i c y) 0 lists f x.0 x.1),
+      has_part (λ i y. Put i c y) 0 lists f f x.0 (omega arith) x.1,
       all_get (λ y. has_end y ≡ true) lists f x.0 h x.1,
     )
 

@@ -1,7 +1,7 @@
 -- Which pass has which part, as the parts change and move.
-use Rattle.std.proofs.Common.{◌≡◌, ◌≢◌, ◌⊎◌, ⊎_elim, inl, inr, ℕ, zero, suc, ◌+◌, ◌<◌, ◌≤◌, Bool, true, false, cond, ◌==◌, replicate, List, [], ◌∷◌, ◌++◌, length, set, slice_get, Some, refl, sym, ap, ◌∙◌, subst, arith}
+use Rattle.std.proofs.Common.{◌≡◌, ◌≢◌, ◌⊎◌, ⊎_elim, inl, inr, ℕ, zero, suc, ◌+◌, ◌<◌, Bool, cond, ◌==◌, replicate, List, [], ◌∷◌, ◌++◌, length, set, slice_get, Some, refl, sym, ap, ◌∙◌, subst, arith}
 use Rattle.std.specs.List.{AllByRecursion}
-use Rattle.std.proofs.lemmas.Bool.{cases_eq, cases_Bool, eq-eqb, ne_eqb, eqb-true, true≢false, false≢true}
+use Rattle.std.proofs.lemmas.Bool.{cases_eq, eq-eqb, ne_eqb}
 use native.Mathlib.Decide.{ℕ_discrete}
 use mathlib.Core.Option.{some, some-injective, some-ne-none}
 use lib.ListN.{get_elem?}
@@ -12,7 +12,6 @@ use Rattle.lane.specs.declared.part.Part.TheVariants.{Put, Take}
 use Rattle.lane.specs.Machine.{Size, State, opening}
 use Rattle.lane.specs.Rule.{Role, Putter, Taker, Closer, same_role, IsRole, part_of, role_of, Has, IsSeated, AreSeated, parts_from, put_parts, take_parts, all_parts}
 use Rattle.lane.specs.Steps.{IsFree}
-use Rattle.lane.proofs.Lists.{all_weaker}
 
 -- a part that stands in a view has what holds of all of them
 pub at_part : (P : Part → Type 0) (part : Part) (v : List Part) → Has part v → AllByRecursion P v → P part
@@ -32,13 +31,11 @@ all_joined P [] u h k = k
 all_joined P (x ∷ v) u h k = (h.0, all_joined P v u h.1 k)
 
 -- the part of a list, and what holds of the parts of lists in which nothing is yet
-pub has_part : (part : ℕ → List Taken → Part) (k : ℕ) (lists : List (List Taken)) (i : ℕ) (l : List Taken)
-    → slice_get lists i ≡ Some l → Has (part (i + k) l) (parts_from part k lists)
-has_part part k [] i l e = absurd (cc)
-has_part part k (x ∷ lists) zero l e = let q : l ≡ x = cc in inl (λ j. part ((let z : 0 + k ≡ k = omega arith in z) j) (q j))
-has_part part k (x ∷ lists) (suc i) l e =
-    inr (subst (λ j. Has (part j l) (parts_from part (k + 1) lists))
-    (let z : i + (k + 1) ≡ suc i + k = omega arith in z) (has_part part (k + 1) lists i l e))
+pub has_part : (part : ℕ → List Taken → Part) (k : ℕ) (lists : List (List Taken)) (i j : ℕ) (l : List Taken) → i + k ≡ j
+    → slice_get lists i ≡ Some l → Has (part j l) (parts_from part k lists)
+has_part part k [] i j l s e = absurd (cc)
+has_part part k (x ∷ lists) zero j l s e = let q : l ≡ x = cc in inl (λ a. part ((let z : j ≡ k = omega arith in z) a) (q a))
+has_part part k (x ∷ lists) (suc i) j l s e = inr (has_part part (k + 1) lists i j l (omega arith) e)
 
 new_parts : (P : Part → Type 0) (part : ℕ → List Taken → Part) (k m : ℕ) → ((j : ℕ) → j < k + m → P (part j []))
     → AllByRecursion P (parts_from part k (replicate m []))
@@ -123,11 +120,10 @@ changed n s t seat views pass role rest h at is free same =
     let mine = h.only pass (part_of n s role ∷ rest) at in
     let here = (seated_as n s seat pass (part_of n s role) role mine.0 (role_of_part n s role)).2 in
     record {
-      only = every_set (λ j. AllByRecursion (IsSeated n t seat j)) views pass (part_of n t role ∷ rest)
-          (
-            (role, is, refl, here),
-            still n s t seat seat pass pass rest (λ r e stands. (same r (free_of n s role r rest free stands), e)) mine.1,
-          )
+      only = every_set (λ j. AllByRecursion (IsSeated n t seat j)) views pass (part_of n t role ∷ rest) (
+        (role, is, refl, here),
+        still n s t seat seat pass pass rest (λ r e stands. (same r (free_of n s role r rest free stands), e)) mine.1,
+      )
           (λ j u ne e. still n s t seat seat j j u (λ r q _. (same r (λ x. ne (sym q ∙ (ap seat x ∙ here))), q)) (h.only j u e));
       stands = λ r is_r. some_set (Has (part_of n s r)) (Has (part_of n t r)) views pass (part_of n s role ∷ rest)
           (part_of n t role ∷ rest) at (stand r) (seat r)
@@ -242,11 +238,9 @@ joined n s seat views pass other v u h at apart at' =
 module _ (n : Size) where
   has_new : (r : Role) → IsRole n r → Has (part_of n opening r) (all_parts n.files n.takers n.capacity)
   has_new (Putter f) l = inr (has_left _ (put_parts n.capacity 0 (replicate n.files [])) (take_parts n.capacity 0 (replicate n.takers []))
-      (subst (λ i. Has (Put i n.capacity []) (put_parts n.capacity 0 (replicate n.files []))) (let z : f + 0 ≡ f = omega arith in z)
-      (has_part (λ i l. Put i n.capacity l) 0 (replicate n.files []) f [] (new_list n.files f l))))
+      (has_part (λ i l. Put i n.capacity l) 0 (replicate n.files []) f f [] (omega arith) (new_list n.files f l)))
   has_new (Taker w) l = inr (has_right _ (put_parts n.capacity 0 (replicate n.files [])) (take_parts n.capacity 0 (replicate n.takers []))
-      (subst (λ i. Has (Take i n.capacity []) (take_parts n.capacity 0 (replicate n.takers []))) (let z : w + 0 ≡ w = omega arith in z)
-      (has_part (λ i l. Take i n.capacity l) 0 (replicate n.takers []) w [] (new_list n.takers w l))))
+      (has_part (λ i l. Take i n.capacity l) 0 (replicate n.takers []) w w [] (omega arith) (new_list n.takers w l)))
   has_new Closer l = inl refl
 
   -- the first pass has all parts
@@ -258,8 +252,7 @@ module _ (n : Size) where
       let vs : List (List Part) = set views 0 parts in
       record {
         only = every_more (λ j. AllByRecursion (IsSeated n opening (λ r. 0) j)) vs [] tt
-            (every_set (λ j. AllByRecursion (IsSeated n opening (λ r. 0) j)) views 0 parts
-            (
+            (every_set (λ j. AllByRecursion (IsSeated n opening (λ r. 0) j)) views 0 parts (
               (Closer, tt, refl, refl),
               all_joined (IsSeated n opening (λ r. 0) 0)
                   (put_parts n.capacity 0 (replicate n.files [])) (take_parts n.capacity 0 (replicate n.takers []))

@@ -4,11 +4,10 @@ use Rattle.std.specs.List.{AllByRecursion}
 use mathlib.Core.Option.{some}
 use lib.ListN.{get_elem?}
 use Rattle.std.proofs.lemmas.Bool.{cases_Bool, eq-eqb}
-use Rattle.pit_parts.specs.declared.block.Block.{Block}
 use Rattle.lane.specs.declared.message.Taken.{Taken}
 use Rattle.lane.specs.declared.message.Taken.TheVariants.{Row, End, Stop, Quit}
 use Rattle.lane.specs.declared.part.Part.{Part}
-use Rattle.lane.specs.declared.part.Part.TheVariants.{Count, Put, Take, Close}
+use Rattle.lane.specs.declared.part.Part.TheVariants.{Put, Take, Close}
 use Rattle.lane.specs.Message.{is_of, of}
 use Rattle.lane.specs.MessageKinds.{has_end, is_done, rows_in}
 use Rattle.lane.specs.Machine.{Size, State, opening, Event, PutRow, PutEnd, PutStop, PutQuit, TakeNext, Allowed, with_at, put, take_front, take_next, after, after_all}
@@ -207,26 +206,21 @@ join_is_no_event n s items views pass other v u h at apart at' =
 file_put : (s : State) (pre : List Taken) (f g : ℕ) (m : Taken) → is_of g m ≡ true → of f pre ++ of f s.queue ≡ s.sent f
     → of f (pre ++ []) ++ of f (s.queue ++ m ∷ []) ≡ with_at s.sent g (s.sent g ++ m ∷ []) f
 file_put s pre f g m is h =
-    ap (λ l. of f l ++ of f (s.queue ++ m ∷ [])) (append-nil pre)
-    ∙ with_at_all (λ j l. of j pre ++ of j s.queue ≡ s.sent j → of j pre ++ of j (s.queue ++ m ∷ []) ≡ l) s.sent g (s.sent g ++ m ∷ [])
-    (λ q. ap (λ l. of g pre ++ l) (of_yes g s.queue m is)
-    ∙ (sym (append_assoc (of g pre) (of g s.queue) (m ∷ [])) ∙ ap (λ l. l ++ m ∷ []) q))
-    (λ j ne q. ap (λ l. of j pre ++ l) (of_no j s.queue m (of_one g j m is ne)) ∙ q)
-    f h
+    with_at_all (λ j l. of j pre ++ of j s.queue ≡ s.sent j → of j (pre ++ []) ++ of j (s.queue ++ m ∷ []) ≡ l) s.sent g (s.sent g ++ m ∷ [])
+    (λ q. rw (append-nil pre, of_yes g s.queue m is, sym q) (sym (append_assoc (of g pre) (of g s.queue) (m ∷ []))))
+    (λ j ne q. rw (append-nil pre, of_no j s.queue m (of_one g j m is ne)) q) f h
 
 mark_put : (s : State) (pre : List Taken) (f : ℕ) (m : Taken) → is_of f m ≡ false → of f pre ++ of f s.queue ≡ s.sent f
     → of f (pre ++ []) ++ of f (s.queue ++ m ∷ []) ≡ s.sent f
-mark_put s pre f m is h =
-    ap (λ l. of f l ++ of f (s.queue ++ m ∷ [])) (append-nil pre) ∙ (ap (λ l. of f pre ++ l) (of_no f s.queue m is) ∙ h)
+mark_put s pre f m is h = rw (append-nil pre, of_no f s.queue m is) h
 
 next_taken : (s : State) (pre : List Taken) (f w : ℕ) (q : List Taken) → of f pre ++ of f q ≡ s.sent f → s.queue ≡ q
     → of f (pre ++ take 1 q) ++ of f (take_next w q s).queue ≡ (take_next w q s).sent f
 next_taken s pre f w [] h e = ap (λ l. of f l ++ of f s.queue) (append-nil pre) ∙ (ap (λ l. of f pre ++ of f l) e ∙ h)
 next_taken s pre f w (m ∷ rest) h e =
     ⊎_elim
-    (λ (t : is_of f m ≡ true). ap (λ l. l ++ of f rest) (of_yes f pre m t)
-    ∙ (append_assoc (of f pre) (m ∷ []) (of f rest) ∙ (ap (λ l. of f pre ++ l) (sym (front_yes f m rest t)) ∙ h)))
-    (λ (t : is_of f m ≡ false). ap (λ l. l ++ of f rest) (of_no f pre m t) ∙ (ap (λ l. of f pre ++ l) (sym (front_no f m rest t)) ∙ h))
+    (λ (t : is_of f m ≡ true). rw (of_yes f pre m t, append_assoc (of f pre) (m ∷ []) (of f rest), sym (front_yes f m rest t)) h)
+    (λ (t : is_of f m ≡ false). rw (of_no f pre m t, sym (front_no f m rest t)) h)
     (cases_Bool (is_of f m))
 
 event_leaves : (s : State) (e : Event) (pre : List Taken) (f : ℕ) → of f pre ++ of f s.queue ≡ s.sent f

@@ -9,7 +9,7 @@ use Rattle.crossbeam_channel.specs.Claims.{Pass, view, IsKeyed}
 use Rattle.crossbeam_channel.specs.Fifo.{Forks}
 use Rattle.lane.specs.declared.message.Taken.{Taken}
 use Rattle.lane.specs.declared.part.Part.{Part}
-use Rattle.lane.specs.declared.part.Part.TheVariants.{Count, Put, Take, Close}
+use Rattle.lane.specs.declared.part.Part.TheVariants.{Put, Take, Close}
 use Rattle.lane.specs.Message.{IsEndedFrom}
 use Rattle.lane.specs.MessageKinds.{has_end, is_done, rows_in}
 use Rattle.lane.specs.MessageOrders.{IsFrom}
