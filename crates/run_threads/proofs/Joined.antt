@@ -21,11 +21,7 @@ pub map_step : {X Y : Type 0} (f : X → Y) (old : List X) (x : X) (y : Y) (l re
     → map f old ++ l ≡ all
     → map f (old ++ x ∷ []) ++ rest ≡ all
 map_step f old x y l rest all is same h =
-    ap (λ w. w ++ rest) (map-append f old (x ∷ []))
-    ∙ append_assoc (map f old) (f x ∷ []) rest
-    ∙ ap (λ w. map f old ++ w ∷ rest) same
-    ∙ ap (λ w. map f old ++ w) (sym is)
-    ∙ h
+    rw (map-append f old (x ∷ []), append_assoc (map f old) (f x ∷ []) rest, same, sym is) h
 
 pub map_through : {X Y Z : Type 0} (f : X → Y) (g : Y → Z) (xs : List X) (ys : List Y) → map f xs ≡ ys → map (λ x. g (f x)) xs ≡ map g ys
 map_through f g xs ys same = sym (map-map g f xs) ∙ ap (map g) same
@@ -66,19 +62,16 @@ module _ {H : Type 0} (left : H → Option (List ℕ)) (sure : H → Bool) (plan
       → ArePutsFrom lane files k (map (λ r. r.ended) rs)
   puts_of k zero sum [] [] kept ends = omega arith
   puts_of k (suc n) sum [] [] kept ends = absurd (let l = ap length ends in let z : ⊥ = omega arith in z)
-  puts_of k n sum [] (r ∷ rs) kept ends = absurd kept
-  puts_of k n sum (h ∷ hs) [] kept ends = absurd kept
   puts_of k zero sum (h ∷ hs) (r ∷ rs) kept ends = absurd (let l = ap length ends in let z : ⊥ = omega arith in z)
   puts_of k (suc n) sum (h ∷ hs) (r ∷ rs) kept ends =
       let here = ap (λ l. get_or l 0 (end h)) ends in
       (kept.0.0 ∙ ap (λ e. e.lane) here, kept.0.1 ∙ ap (λ e. e.file) here, puts_of (k + 1) n (omega arith) hs rs kept.1 (ap (drop 1) ends))
+  puts_of k n sum _ _ kept ends = absurd kept
 
   pub read_of : (k n : ℕ) (hs : List H) (rs : List FileRead) → AllZip Kept hs rs → All (λ h. plan h ≡ p) hs
       → map end hs ≡ first_puts lane k n
       → AreRead p.grid k (map left hs) (map sure hs) (map (λ r. r.answer) rs) (map (λ (e : PutEndView). e.sent) (map (λ r. r.ended) rs))
   read_of k n [] [] kept plans ends = tt
-  read_of k n [] (r ∷ rs) kept plans ends = absurd kept
-  read_of k n (h ∷ hs) [] kept plans ends = absurd kept
   read_of k zero (h ∷ hs) (r ∷ rs) kept plans ends = absurd (let l = ap length ends in let z : ⊥ = omega arith in z)
   read_of k (suc n) (h ∷ hs) (r ∷ rs) kept plans ends =
       let Same : H → Type 0 = λ w. plan w ≡ p in
@@ -87,6 +80,7 @@ module _ {H : Type 0} (left : H → Option (List ℕ)) (sure : H → Bool) (plan
         read_of (k + 1) n hs rs kept.1 (All-rest Same h hs (h ∷ hs) refl plans)
             (ap (drop 1) ends),
       )
+  read_of k n _ _ kept plans ends = absurd kept
 
 abbrev ValuerResult : Type 0
 ValuerResult = ResultBy (List Item)
@@ -101,8 +95,6 @@ module _ {H : Type 0} (plan : H → PlanParts) (end : H → TakeEndView) (p : Pl
       → AreTakesFrom lane takers k (map (λ r. r.taker) rs)
   takes_of k zero sum [] [] kept ends = omega arith
   takes_of k (suc n) sum [] [] kept ends = absurd (let l = ap length ends in let z : ⊥ = omega arith in z)
-  takes_of k n sum [] (r ∷ rs) kept ends = absurd kept
-  takes_of k n sum (h ∷ hs) [] kept ends = absurd kept
   takes_of k zero sum (h ∷ hs) (r ∷ rs) kept ends = absurd (let l = ap length ends in let z : ⊥ = omega arith in z)
   takes_of k (suc n) sum (h ∷ hs) (r ∷ rs) kept ends =
       let here = ap (λ l. get_or l 0 (end h)) ends in (
@@ -111,22 +103,20 @@ module _ {H : Type 0} (plan : H → PlanParts) (end : H → TakeEndView) (p : Pl
             ∙ ap (λ e. e.taker) here,
         takes_of (k + 1) n (omega arith) hs rs kept.1 (ap (drop 1) ends),
       )
+  takes_of k n sum _ _ kept ends = absurd kept
 
   pub done_of : (hs : List H) (rs : List ValuerResult) → AllZip KeptValues hs rs
       → All (λ (t : TakeEndView). is_done t.took ≡ true) (map (λ r. r.taker) rs)
   done_of [] [] kept = All-nil (λ (t : TakeEndView). is_done t.took ≡ true)
-  done_of [] (r ∷ rs) kept = absurd kept
-  done_of (h ∷ hs) [] kept = absurd kept
   done_of (h ∷ hs) (r ∷ rs) kept =
       All-cons (λ (t : TakeEndView). is_done t.took ≡ true) r.taker (map (λ r. r.taker) rs) kept.0.1 (done_of hs rs kept.1)
+  done_of _ _ kept = absurd kept
 
   pub valued_of : (k n : ℕ) (hs : List H) (rs : List ValuerResult) → AllZip KeptValues hs rs → All (λ h. plan h ≡ p) hs
       → map end hs ≡ first_takes lane k n
       → list_any (λ r. r.memory) rs ≡ false → map (λ r. r.items) rs ≡ map (items_by (formulas_of_plan p))
       (map (λ (t : TakeEndView). t.took) (map (λ r. r.taker) rs))
   valued_of k n [] [] kept plans ends fine = refl
-  valued_of k n [] (r ∷ rs) kept plans ends fine = absurd kept
-  valued_of k n (h ∷ hs) [] kept plans ends fine = absurd kept
   valued_of k zero (h ∷ hs) (r ∷ rs) kept plans ends fine = absurd (let l = ap length ends in let z : ⊥ = omega arith in z)
   valued_of k (suc n) (h ∷ hs) (r ∷ rs) kept plans ends fine =
       let Same : H → Type 0 = λ w. plan w ≡ p in
@@ -136,3 +126,4 @@ module _ {H : Type 0} (plan : H → PlanParts) (end : H → TakeEndView) (p : Pl
       let rest : map (λ r. r.items) rs ≡ map (items_by (formulas_of_plan p)) (map (λ (t : TakeEndView). t.took) (map (λ r. r.taker) rs)) =
       valued_of (k + 1) n hs rs kept.1 (All-rest Same h hs (h ∷ hs) refl plans) (ap (drop 1) ends) (or_parts r.memory _ fine).1 in
       ap (λ w. w ∷ map (λ r. r.items) rs) here ∙ ap (λ w. items_by (formulas_of_plan p) r.taker.took ∷ w) rest
+  valued_of k n _ _ kept plans ends fine = absurd kept
