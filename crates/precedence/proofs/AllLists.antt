@@ -74,18 +74,6 @@ module _ (tables : List ConeTable) (of_zone all : List ℕ) where
   in_cones_of [] = refl
   in_cones_of (b ∷ bs) = ap (λ rest. in_cone tables of_zone all b.zone (place_code b) ∷ rest) (in_cones_of bs)
 
-  pub length-in_cones : (zones cs : List ℕ) → length zones ≡ length cs → length (in_cones tables of_zone all zones cs) ≡ length zones
-  length-in_cones [] cs e = refl
-  length-in_cones (z ∷ zones) [] e = absurd (omega arith)
-  length-in_cones (z ∷ zones) (c ∷ cs) e = ap (λ n. suc n) (length-in_cones zones cs (omega arith))
-
-  pub in_cones_at : (zones cs : List ℕ) (k : ℕ) → length zones ≡ length cs → k < length zones
-      → get_or (in_cones tables of_zone all zones cs) k [] ≡ in_cone tables of_zone all (get_or zones k 0) (get_or cs k 0)
-  in_cones_at [] cs k e lt = absurd (omega arith)
-  in_cones_at (z ∷ zones) [] k e lt = absurd (omega arith)
-  in_cones_at (z ∷ zones) (c ∷ cs) zero e lt = refl
-  in_cones_at (z ∷ zones) (c ∷ cs) (suc k) e lt = in_cones_at zones cs k (omega arith) (omega arith)
-
 -- the zones of blocks are below a number where the blocks' zones are
 pub zones_below : (n m : ℕ) (blocks : List Block) (zones : List ℕ) → zones ≡ map (λ b. b.zone) blocks → m ≡ n
     → All (λ (b : Block). b.zone < n) blocks → All (λ z. z < m) zones

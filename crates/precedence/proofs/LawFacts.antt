@@ -1,5 +1,5 @@
 -- What stands behind the laws of predecessors.
-use Rattle.std.proofs.Common.{◌≡◌, ℕ, zero, suc, ◌+◌, ◌-◌, ◌*◌, ◌<◌, ◌≤◌, ◌==◌, ◌&&◌, Bool, true, false, List, [], ◌∷◌, Option, Some, None, All, Contains, filter, length, map, get_or, slice_get, nat_lt, nat_le, refl, sym, ap, subst, ◌∙◌, arith, ⊎_elim, cond, if◌then◌else◌}
+use Rattle.std.proofs.Common.{◌≡◌, ℕ, ◌+◌, ◌-◌, ◌*◌, ◌<◌, ◌≤◌, ◌==◌, ◌&&◌, Bool, true, false, List, [], ◌∷◌, Option, Some, None, All, Contains, filter, length, map, get_or, slice_get, nat_lt, nat_le, refl, sym, ap, subst, ◌∙◌, arith, ⊎_elim, if◌then◌else◌}
 use Rattle.std.specs.Int.{abs_diff}
 use Rattle.std.specs.List.{range_with_len, list_any}
 use Rattle.std.specs.List.Sorted.{IsStrictlyIncreasing}
@@ -8,7 +8,9 @@ use Rattle.std.proofs.Math.Bool.{and-false}
 use Rattle.std.proofs.lemmas.List.Folds.{list_any_at, list_any_none}
 use Rattle.std.proofs.lemmas.Bool.{cases_Bool, cases_lt, le-leb, lt-leb, ltb-true, eqb-true, eq-eqb, and_parts}
 use Rattle.std.proofs.lemmas.List.{get_or-map, get_or_default}
-use Rattle.std.proofs.lemmas.List.Elements.{All-cons, All-nil, All-contains}
+use Rattle.std.proofs.lemmas.List.Elements.{All-contains, All-filter, All-same, filter_passes}
+use Rattle.std.proofs.lemmas.List.FromFn.{get_or-range_with_len, length-range_with_len}
+use Rattle.std.proofs.lemmas.List.Kept.{IsStrictlyIncreasing-filter}
 use Rattle.std.proofs.lemmas.Option.{slice_get_within}
 use Rattle.pit_parts.specs.Plan.{PlanParts}
 use Rattle.pit_parts.specs.PlanKept.{IsCone}
@@ -21,7 +23,7 @@ use Rattle.precedence.specs.ConeLaws.{above_by, even_cone, has_pred, is_above_by
 use Rattle.precedence.specs.Identifier.{id}
 use Rattle.precedence.specs.Numbering.{IsNumbering, NumberingView}
 use Rattle.precedence.proofs.AllLists.{all_at}
-use Rattle.precedence.proofs.Starts.{Rises, rises_less}
+use Rattle.precedence.proofs.PlacesWhere.{nowhere, where_at, where_filter}
 
 -- ---- one slope
 
@@ -80,106 +82,58 @@ even_zones_are plan blocks cones even =
         let there = slice_get_within plan.cones low.zone cone is in
         (all_at IsEven plan.cones low.zone cone even there is, (all_at IsCone plan.cones low.zone cone cones there is).0.0.1.0)
 
--- ---- the places that pass
-
--- a place of the list, counted from n on, whose element passes
-abbrev pub IsFound : {X : Type 0} → (X → Bool) → ℕ → List X → ℕ → Type 0
-IsFound {X} test n xs k = (i : ℕ) × (k ≡ n + i) × (i < length xs) × ((d : X) → test (get_or xs i d) ≡ true)
-
-found_later : {X : Type 0} (test : X → Bool) (n : ℕ) (x : X) (xs : List X) (ks : List ℕ) → All (IsFound test (n + 1) xs) ks
-    → All (IsFound test n (x ∷ xs)) ks
-found_later test n x xs ks rest k d lt =
-    let h = rest k d lt in
-    (suc h.0, omega (arith, h.1), omega (arith, h.2), h.3)
-
-found_step : {X : Type 0} (test : X → Bool) (n : ℕ) (x : X) (xs : List X) (ks : List ℕ) (b : Bool) → test x ≡ b
-    → All (IsFound test (n + 1) xs) ks
-    → All (IsFound test n (x ∷ xs)) (if b then n ∷ ks else ks)
-found_step test n x xs ks true e rest =
-    All-cons (IsFound test n (x ∷ xs)) n ks (0, omega arith, omega arith, λ d. e) (found_later test n x xs ks rest)
-found_step test n x xs ks false e rest = found_later test n x xs ks rest
-
--- each number is such a place
-pub where_found : {X : Type 0} (test : X → Bool) (n : ℕ) (xs : List X) → All (IsFound test n xs) (places_where test n xs)
-where_found test n [] = All-nil (IsFound test n [])
-where_found test n (x ∷ xs) = found_step test n x xs (places_where test (n + 1) xs) (test x) refl (where_found test (n + 1) xs)
-
-rises_step : (n : ℕ) (b : Bool) (ks : List ℕ) → Rises (n + 1) ks → Rises n (if b then n ∷ ks else ks)
-rises_step n true ks h = (omega arith, h)
-rises_step n false ks h = rises_less n (n + 1) ks (omega arith) h
-
--- and they rise
-pub where_rises : {X : Type 0} (test : X → Bool) (n : ℕ) (xs : List X) → Rises n (places_where test n xs)
-where_rises test n [] = tt
-where_rises test n (x ∷ xs) = rises_step n (test x) (places_where test (n + 1) xs) (where_rises test (n + 1) xs)
-
-increasing_from : (low : ℕ) (cs : List ℕ) → Rises low cs → IsStrictlyIncreasing cs
-increasing_from low [] h k lt = absurd (omega arith)
-increasing_from low (c ∷ []) h k lt = absurd (omega arith)
-increasing_from low (c ∷ e ∷ cs) h zero lt = omega (arith, h.1.0)
-increasing_from low (c ∷ e ∷ cs) h (suc k) lt =
-    let later = increasing_from (c + 1) (e ∷ cs) h.1 k (omega arith) in
-    let more : suc (k + 1) ≡ suc k + 1 = omega arith in
-    let P : ℕ → Type 0 = λ n. get_or (c ∷ e ∷ cs) (suc k) 0 < get_or (c ∷ e ∷ cs) n 0 in
-    subst P more later
-
-nowhere : {X : Type 0} (n : ℕ) (xs : List X) → places_where (λ x. false) n xs ≡ []
-nowhere n [] = refl
-nowhere n (x ∷ xs) = nowhere (n + 1) xs
-
--- the same numbers by a filter of all
-filter_step : (t : ℕ → Bool) (n : ℕ) (b : Bool) (ks : List ℕ) (len : ℕ) → t n ≡ b → ks ≡ filter t (range_with_len (n + 1) len)
-    → (if b then n ∷ ks else ks) ≡ filter t (range_with_len n (suc len))
-filter_step t n true ks len e h =
-    ap (λ xs. n ∷ xs) h ∙ ap (λ b. cond b (n ∷ filter t (range_with_len (n + 1) len)) (filter t (range_with_len (n + 1) len))) (sym e)
-filter_step t n false ks len e h =
-    h ∙ ap (λ b. cond b (n ∷ filter t (range_with_len (n + 1) len)) (filter t (range_with_len (n + 1) len))) (sym e)
-
-where_filter : {X : Type 0} (test : X → Bool) (t : ℕ → Bool) (n : ℕ) (xs : List X)
-    → ((i : ℕ) (d : X) → i < length xs → t (n + i) ≡ test (get_or xs i d))
-    → places_where test n xs ≡ filter t (range_with_len n (length xs))
-where_filter test t n [] h = refl
-where_filter test t n (x ∷ xs) h =
-    let first : n ≡ n + 0 = omega arith in
-    filter_step t n (test x) (places_where test (n + 1) xs) (length xs) (ap t first ∙ h 0 x (omega arith))
-    (where_filter test t (n + 1) xs (λ i d lt.
-    let next : (n + 1) + i ≡ n + suc i = omega arith in
-    ap t next ∙ h (suc i) d (omega arith)))
-
 -- ---- the lists of all blocks
 
-module _ (plan : PlanParts) (blocks : List Block) where
-  list_at : (i : ℕ) (d : Block) → i < length blocks
-      → get_or (preds plan blocks) i [] ≡ above plan.grid (slice_get plan.cones (get_or blocks i d).zone) blocks (get_or blocks i d)
-  list_at i d lt = get_or-map (λ low. above plan.grid (slice_get plan.cones low.zone) blocks low) blocks i d [] lt
+pub range_rises : (a n : ℕ) → IsStrictlyIncreasing (range_with_len a n)
+range_rises a n k lt =
+    let long = length-range_with_len a n in
+    omega (arith, get_or-range_with_len a n k 0 (omega arith), get_or-range_with_len a n (k + 1) 0 (omega arith))
 
-  above_found : (o : Option Cone) (low : Block) → All (IsFound (is_pred_by plan.grid o low) 0 blocks) (above plan.grid o blocks low)
-  above_found None low = All-nil (IsFound (is_pred_by plan.grid None low) 0 blocks)
-  above_found (Some cone) low = where_found (is_above plan.grid cone low) 0 blocks
+range_below : (n : ℕ) → All (λ k. k < n) (range_with_len 0 n)
+range_below n k d lt = let long = length-range_with_len 0 n in omega (arith, get_or-range_with_len 0 n k d (omega arith))
 
-  higher : (o : Option Cone) (low high : Block) → is_pred_by plan.grid o low high ≡ true → low.z < high.z
-  higher None low high h = let no : ⊥ = cc in absurd no
-  higher (Some cone) low high h = ltb-true low.z high.z (and_parts (nat_lt low.z high.z) _ h).0
+above_where : (grid : Grid) (o : Option Cone) (blocks : List Block) (low : Block)
+    → above grid o blocks low ≡ places_where (is_pred_by grid o low) 0 blocks
+above_where grid None blocks low = sym (nowhere 0 blocks)
+above_where grid (Some cone) blocks low = refl
 
-  pub lies_higher : (i k : ℕ) (d : Block) → i < length blocks → Contains (get_or (preds plan blocks) i []) k → (k < length blocks)
-      × ((get_or blocks i d).z < (get_or blocks k d).z)
-  lies_higher i k d lt has =
-      let low = get_or blocks i d in
-      let o = slice_get plan.cones low.zone in
-      let P : List ℕ → Type 0 = λ ks. Contains ks k in
-      let h = All-contains (IsFound (is_pred_by plan.grid o low) 0 blocks) (above plan.grid o blocks low) k
-      (above_found o low) (subst P (list_at i d lt) has) in
-      let same : h.0 ≡ k = omega (arith, h.1) in
-      (omega (arith, h.2), higher o low (get_or blocks k d) (ap (λ n. is_pred_by plan.grid o low (get_or blocks n d)) (sym same) ∙ h.3 d))
+module _ (plan : PlanParts) (blocks : List Block) (i : ℕ) (d : Block) (lt : i < length blocks) where
+  abbrev low : Block
+  low = get_or blocks i d
 
-  above_rises : (o : Option Cone) (low : Block) → Rises 0 (above plan.grid o blocks low)
-  above_rises None low = tt
-  above_rises (Some cone) low = where_rises (is_above plan.grid cone low) 0 blocks
+  abbrev is_pred : Block → Bool
+  is_pred high = is_pred_by plan.grid (slice_get plan.cones low.zone) low high
 
-  rise_at : (i : ℕ) (d : Block) → i < length blocks → IsStrictlyIncreasing (get_or (preds plan blocks) i [])
-  rise_at i d lt =
+  abbrev passes : ℕ → Bool
+  passes k = is_pred (get_or blocks k d)
+
+  list_where : get_or (preds plan blocks) i [] ≡ places_where is_pred 0 blocks
+  list_where =
+      get_or-map (λ low. above plan.grid (slice_get plan.cones low.zone) blocks low) blocks i d [] lt
+      ∙ above_where plan.grid (slice_get plan.cones low.zone) blocks low
+
+  list_is : get_or (preds plan blocks) i [] ≡ filter passes (range_with_len 0 (length blocks))
+  list_is = list_where ∙ where_at is_pred d blocks
+
+  higher : (o : Option Cone) (high : Block) → is_pred_by plan.grid o low high ≡ true → low.z < high.z
+  higher None high h = let no : ⊥ = cc in absurd no
+  higher (Some cone) high h = ltb-true low.z high.z (and_parts (nat_lt low.z high.z) _ h).0
+
+  pub lie_higher : All (λ k. (k < length blocks) × (low.z < (get_or blocks k d).z)) (get_or (preds plan blocks) i [])
+  lie_higher = All-same (λ k. (k < length blocks) × (low.z < (get_or blocks k d).z)) _ _ list_is (λ k e within. (
+      All-filter passes (λ k. k < length blocks) (range_with_len 0 (length blocks)) (range_below (length blocks)) k e within,
+      higher (slice_get plan.cones low.zone) _ (filter_passes passes (range_with_len 0 (length blocks)) k e within),
+  ))
+
+  rise_at : IsStrictlyIncreasing (get_or (preds plan blocks) i [])
+  rise_at =
       let P : List ℕ → Type 0 = IsStrictlyIncreasing in
-      subst P (sym (list_at i d lt)) (increasing_from 0 _ (above_rises (slice_get plan.cones (get_or blocks i d).zone) (get_or blocks i d)))
+      subst P (sym list_is) (IsStrictlyIncreasing-filter passes _ (range_rises 0 (length blocks)))
+
+pub lies_higher : (plan : PlanParts) (blocks : List Block) (i k : ℕ) (d : Block) → i < length blocks
+    → Contains (get_or (preds plan blocks) i []) k → (k < length blocks) × ((get_or blocks i d).z < (get_or blocks k d).z)
+lies_higher plan blocks i k d lt has =
+    All-contains (λ k. (k < length blocks) × ((get_or blocks i d).z < (get_or blocks k d).z)) _ k (lie_higher plan blocks i d lt) has
 
 pub lists_rise : (plan : PlanParts) (blocks : List Block) (i : ℕ) → i < length blocks
     → IsStrictlyIncreasing (get_or (preds plan blocks) i [])
@@ -209,25 +163,13 @@ module _ (listed : List Block) (n : NumberingView) (numbering : IsNumbering list
       (cases_Bool (id listed (get_or listed i e) == k))) ∙ sym fails)
       (cases_Bool (p (get_or n.blocks k d)))
 
-module _ (plan : PlanParts) (listed : List Block) (n : NumberingView) (numbering : IsNumbering listed n) where
-  by_filter : (o : Option Cone) (low : Block)
-      → above plan.grid o n.blocks low ≡ filter (λ k. list_any (λ high. (id listed high == k) && is_pred_by plan.grid o low high) listed)
-      (range_with_len 0 (length n.blocks))
-  by_filter None low = sym (nowhere 0 n.blocks)
-      ∙ where_filter (λ high. false) (λ k. list_any (λ high. (id listed high == k) && false) listed) 0 n.blocks (λ i d lt. none_at i d lt)
-    where
-      none_at : (i : ℕ) (d : Block) → i < length n.blocks → list_any (λ high. (id listed high == (0 + i)) && false) listed ≡ false
-      none_at i d lt = some_passes listed n numbering (λ high. false) (0 + i) d (omega (arith, numbering.blocks))
-  by_filter (Some cone) low = where_filter (is_above plan.grid cone low)
-      (λ k. list_any (λ high. (id listed high == k) && is_above plan.grid cone low high) listed) 0 n.blocks
-      (λ i d lt.
-      let same : 0 + i ≡ i = omega arith in
-      some_passes listed n numbering (is_above plan.grid cone low) (0 + i) d (omega (arith, numbering.blocks))
-      ∙ ap (λ m. is_above plan.grid cone low (get_or n.blocks m d)) same)
-
-  pub of_the_list : (i : ℕ) (d : Block) → i < length listed
-      → get_or (preds plan n.blocks) i [] ≡ filter (has_pred plan listed (get_or n.blocks i d)) (range_with_len 0 (length listed))
-  of_the_list i d lt =
-      let low = get_or n.blocks i d in
-      list_at plan n.blocks i d (omega (arith, numbering.blocks)) ∙ by_filter (slice_get plan.cones low.zone) low
-      ∙ ap (λ len. filter (has_pred plan listed low) (range_with_len 0 len)) numbering.blocks
+pub of_the_list : (plan : PlanParts) (listed : List Block) (n : NumberingView) (i : ℕ) (d : Block) → IsNumbering listed n → i < length listed
+    → get_or (preds plan n.blocks) i [] ≡ filter (has_pred plan listed (get_or n.blocks i d)) (range_with_len 0 (length listed))
+of_the_list plan listed n i d numbering lt =
+    let own = is_pred plan n.blocks i d (omega (arith, numbering.blocks)) in
+    let here = has_pred plan listed (get_or n.blocks i d) in
+    list_where plan n.blocks i d (omega (arith, numbering.blocks))
+    ∙ where_filter own here 0 n.blocks (λ k e within.
+    let same : k ≡ 0 + k = omega arith in
+    sym (some_passes listed n numbering own k e (omega (arith, numbering.blocks))) ∙ ap here same)
+    ∙ ap (λ len. filter here (range_with_len 0 len)) numbering.blocks

@@ -6,6 +6,7 @@ pub mod Identifiers
 pub mod Order
 pub mod OrderFacts
 pub mod Pieces
+pub mod PlacesWhere
 pub mod RunsOfRows
 pub mod SeenPlaces
 pub mod Reaches

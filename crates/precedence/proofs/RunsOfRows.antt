@@ -1,18 +1,19 @@
 -- The identifiers in rows are the runs of the rows, one after the other.
-use Rattle.std.proofs.Common.{◌≡◌, ◌⊎◌, inl, inr, ℕ, zero, suc, ◌+◌, ◌-◌, ◌<◌, ◌≤◌, ◌&&◌, ◌||◌, Bool, true, false, List, [], ◌∷◌, ◌++◌, All, length, take, drop, get_or, nat_lt, nat_le, refl, sym, ap, subst, ◌∙◌, arith, length-drop, ⊎_elim, if◌then◌else◌}
+use Rattle.std.proofs.Common.{◌≡◌, ℕ, zero, suc, ◌+◌, ◌-◌, ◌<◌, ◌≤◌, ◌&&◌, ◌||◌, Bool, true, false, List, [], ◌∷◌, ◌++◌, filter, length, take, drop, get_or, nat_lt, nat_le, max, refl, sym, ap, subst, ◌∙◌, arith, length-drop, length-take, ⊎_elim, if◌then◌else◌}
 use Rattle.std.specs.List.{range_with_len}
 use Rattle.std.specs.List.Sorted.{IsStrictlyIncreasing}
 use Rattle.std.proofs.Math.Bool.{and-false}
 use Rattle.std.proofs.Math.Seq.{drop-cons}
-use Rattle.std.proofs.lemmas.List.{drop-map, get_or-drop, get_or_default, drop-drop}
-use Rattle.std.proofs.lemmas.List.Kept.{AllPairs-from_increasing}
-use Rattle.std.proofs.lemmas.List.Elements.{All-head, All-tail}
-use Rattle.std.proofs.lemmas.Bool.{cases_lt, lt-ltb, le-ltb, le-leb, lt-leb}
+use Rattle.std.proofs.lemmas.Grind.{same_number_lists}
+use Rattle.std.proofs.lemmas.List.{drop-map, get_or-drop, get_or-take, drop-drop}
+use Rattle.std.proofs.lemmas.List.FromFn.{get_or-range_with_len, length-range_with_len}
+use Rattle.std.proofs.lemmas.Bool.{cases_lt, lt-ltb, le-ltb, le-leb, lt-leb, or_parts}
 use Rattle.precedence.specs.Cone.{places_where}
 use Rattle.precedence.specs.inner.Rows.{is_in_row, is_in_rows, pasts, start_of, AreApart}
 use Rattle.precedence.specs.inner.Search.{run}
 use Rattle.precedence.specs.declared.cone_rows.Row.{Row}
-use Rattle.precedence.proofs.Starts.{Rises, rises, at_start, start_before_in, start_yes, start_no, start_none}
+use Rattle.precedence.proofs.PlacesWhere.{nowhere, where_at}
+use Rattle.precedence.proofs.Starts.{from_start, no_less, start_before_in, start_grows, start_within}
 
 -- ---- parts of 0, 1, 2, ..
 
@@ -23,27 +24,53 @@ range_more a (suc n) =
     let last : (a + 1) + n ≡ a + suc n = omega arith in
     ap (range_with_len a) more ∙ ap (λ xs. a ∷ xs) (range_more (a + 1) n ∙ ap (λ k. range_with_len (a + 1) n ++ k ∷ []) last)
 
-drop-range : (f a n : ℕ) → f ≤ n → drop f (range_with_len a n) ≡ range_with_len (a + f) (n - f)
-drop-range zero a n le =
-    let same : a ≡ a + 0 = omega arith in
-    let all : n ≡ n - 0 = omega arith in
-    λ j. range_with_len (same j) (all j)
-drop-range (suc f) a zero le = absurd (omega arith)
-drop-range (suc f) a (suc n) le =
-    let from : (a + 1) + f ≡ a + suc f = omega arith in
-    let left : n - f ≡ suc n - suc f = omega arith in
-    drop-range f (a + 1) n (omega arith) ∙ (λ j. range_with_len (from j) (left j))
-
-take-range : (k a n : ℕ) → k ≤ n → take k (range_with_len a n) ≡ range_with_len a k
-take-range zero a n le = refl
-take-range (suc k) a zero le = absurd (omega arith)
-take-range (suc k) a (suc n) le = ap (λ xs. a ∷ xs) (take-range k (a + 1) n (omega arith))
-
 pub part_of_range : (n first past : ℕ) → first ≤ past → past ≤ n
     → take (past - first) (drop first (range_with_len 0 n)) ≡ range_with_len first (past - first)
-part_of_range n first past le within = ap (take (past - first)) (drop-range first 0 n (omega arith))
-    ∙ take-range (past - first) (0 + first) (n - first) (omega arith)
-    ∙ (let from : 0 + first ≡ first = omega arith in ap (λ a. range_with_len a (past - first)) from)
+part_of_range n first past le within =
+    let rest = drop first (range_with_len 0 n) in
+    let long : length (take (past - first) rest) ≡ past - first =
+    omega (arith, length-take (past - first) rest, length-drop first (range_with_len 0 n), length-range_with_len 0 n) in
+    same_number_lists (take (past - first) rest) (range_with_len first (past - first)) (long ∙ sym (length-range_with_len first (past - first)))
+    (λ k lt.
+    omega (
+      arith,
+      get_or-take (past - first) rest k 0 (omega (arith, long)),
+      get_or-drop first (range_with_len 0 n) k 0,
+      get_or-range_with_len 0 n (first + k) 0 (omega (arith, long)),
+      get_or-range_with_len first (past - first) k 0 (omega (arith, long)),
+    ))
+
+-- what passes a test is a run and, behind it, what passes another test
+filter_run : (p q : ℕ → Bool) (a b n m : ℕ) → ((k : ℕ) → k < a → p k ≡ false) → ((k : ℕ) → a ≤ k → k < b → p k ≡ true)
+    → ((k : ℕ) → b ≤ k → k < n + m → p k ≡ q k) → ((k : ℕ) → k < b → q k ≡ false) → a ≤ b → b ≤ n + m
+    → filter p (range_with_len n m) ≡ range_with_len (max a n) (b - max a n) ++ filter q (range_with_len n m)
+filter_run p q a b n zero before inside same none le long =
+    let empty : b - max a n ≡ 0 = omega arith in ap (λ k. range_with_len (max a n) k ++ []) (sym empty)
+filter_run p q a b n (suc m) before inside same none le long =
+    let rest = filter_run p q a b (n + 1) m before inside (λ k h lt. same k h (omega arith)) none le (omega arith) in
+    let left = filter q (range_with_len (n + 1) m) in
+    ⊎_elim
+    (λ first. ⊎_elim
+    (λ early.
+    let begin : max a (n + 1) ≡ max a n = omega arith in
+    (λ j. if before n early j then n ∷ rest j else rest j)
+    ∙ (λ j. range_with_len (begin j) (b - begin j) ++ (if sym (none n first) j then n ∷ left else left)))
+    (λ late.
+    let next : max a (n + 1) ≡ n + 1 = omega arith in
+    let here : max a n ≡ n = omega arith in
+    let len : suc (b - (n + 1)) ≡ b - n = omega arith in
+    (λ j. if inside n late first j then n ∷ rest j else rest j)
+    ∙ (λ j. n ∷ (range_with_len (next j) (b - next j) ++ (if sym (none n first) j then n ∷ left else left)))
+    ∙ (λ j. range_with_len n (len j) ++ (if q n then n ∷ left else left))
+    ∙ (λ j. range_with_len (sym here j) (b - sym here j) ++ (if q n then n ∷ left else left)))
+    (cases_lt n a))
+    (λ beyond.
+    let empty : b - max a (n + 1) ≡ 0 = omega arith in
+    let none_left : b - max a n ≡ 0 = omega arith in
+    let only : filter p (range_with_len (n + 1) m) ≡ left = rest ∙ ap (λ k. range_with_len (max a (n + 1)) k ++ left) empty in
+    (λ j. if same n beyond (omega arith) j then n ∷ only j else only j)
+    ∙ ap (λ k. range_with_len (max a n) k ++ (if q n then n ∷ left else left)) (sym none_left))
+    (cases_lt n b)
 
 -- ---- codes outside of rows
 
@@ -55,105 +82,24 @@ before_rows from c low (row ∷ rows) high h lt =
     let rest = before_rows from c row.past rows high h.2 (omega (arith, h.0, h.1)) in
     λ j. (out j && nat_lt c (from + row.past)) || rest j
 
--- ---- filters
+-- nor one behind a row in that row
+behind_row : (from c : ℕ) (row : Row) → from + row.past ≤ c → is_in_row from row c ≡ false
+behind_row from c row le =
+    ap (λ b. nat_le (from + row.first) c && b) (le-ltb c (from + row.past) le) ∙ and-false (nat_le (from + row.first) c)
 
-where_yes : (test : ℕ → Bool) (n c : ℕ) (cs : List ℕ) → test c ≡ true → places_where test n (c ∷ cs) ≡ n ∷ places_where test (n + 1) cs
-where_yes test n c cs e = ap (λ b. if b then n ∷ places_where test (n + 1) cs else places_where test (n + 1) cs) e
+-- so it lies in the others, or in none
+skip : (from c n : ℕ) (rows : List Row) → n ≤ length rows → ((k : ℕ) → k < n → from + get_or (pasts rows) k 0 ≤ c)
+    → is_in_rows from rows c ≡ is_in_rows from (drop n rows) c
+skip from c zero rows le past = refl
+skip from c (suc n) [] le past = absurd (omega arith)
+skip from c (suc n) (row ∷ rows) le past =
+    ap (λ b. b || is_in_rows from rows c) (behind_row from c row (past 0 (omega arith)))
+    ∙ skip from c n rows (omega arith) (λ k lt. past (suc k) (omega arith))
 
-where_no : (test : ℕ → Bool) (n c : ℕ) (cs : List ℕ) → test c ≡ false → places_where test n (c ∷ cs) ≡ places_where test (n + 1) cs
-where_no test n c cs e = ap (λ b. if b then n ∷ places_where test (n + 1) cs else places_where test (n + 1) cs) e
-
--- tests that agree on the codes find the same places
-pub where_same : (test other : ℕ → Bool) (n : ℕ) (cs : List ℕ) → All (λ c. test c ≡ other c) cs
-    → places_where test n cs ≡ places_where other n cs
-where_same test other n [] h = refl
-where_same test other n (c ∷ cs) h =
-    let first = All-head (λ c. test c ≡ other c) c cs h in
-    let rest = where_same test other (n + 1) cs (All-tail (λ c. test c ≡ other c) c cs h) in
-    λ j. if first j then n ∷ rest j else rest j
-
--- ---- one row's run
-
-module _ (from : ℕ) (row : Row) (rows : List Row) (high : ℕ) (some : row.first < row.past) (apart : AreApart row.past rows high) where
-  abbrev first_of : List ℕ → ℕ
-  first_of codes = start_of (from + row.first) codes
-
-  abbrev past_of : List ℕ → ℕ
-  past_of codes = start_of (from + row.past) codes
-
-  pub split : (low n : ℕ) (codes : List ℕ) → Rises low codes
-      → places_where (is_in_rows from (row ∷ rows)) n codes ≡ range_with_len (n + first_of codes) (past_of codes - first_of codes)
-      ++ places_where (is_in_rows from rows) n codes
-  split low n [] h = refl
-  split low n (c ∷ cs) h = ⊎_elim
-      (λ before.
-      let out : nat_le (from + row.first) c ≡ false = lt-leb _ _ before in
-      let rest : is_in_rows from rows c ≡ false = before_rows from c row.past rows high apart (omega arith) in
-      let none : is_in_rows from (row ∷ rows) c ≡ false = λ j. (out j && nat_lt c (from + row.past)) || rest j in
-      let one = start_yes (from + row.first) c cs before in
-      let two = start_yes (from + row.past) c cs (omega arith) in
-      let begin : (n + 1) + first_of cs ≡ n + first_of (c ∷ cs) = omega (arith, one) in
-      let len : past_of cs - first_of cs ≡ past_of (c ∷ cs) - first_of (c ∷ cs) = omega (arith, one, two) in
-      let left : places_where (is_in_rows from rows) (n + 1) cs ≡ places_where (is_in_rows from rows) n (c ∷ cs) =
-      sym (where_no (is_in_rows from rows) n c cs rest) in
-      where_no (is_in_rows from (row ∷ rows)) n c cs none ∙ split (c + 1) (n + 1) cs h.1
-      ∙ (λ j. range_with_len (begin j) (len j) ++ left j))
-      (λ after. ⊎_elim
-      (λ inside.
-      let in_first : nat_le (from + row.first) c ≡ true = le-leb _ _ after in
-      let in_past : nat_lt c (from + row.past) ≡ true = lt-ltb _ _ inside in
-      let rest : is_in_rows from rows c ≡ false = before_rows from c row.past rows high apart inside in
-      let yes : is_in_rows from (row ∷ rows) c ≡ true = λ j. (in_first j && in_past j) || rest j in
-      let none = start_none (from + row.first) (c + 1) cs h.1 (omega arith) in
-      let one = start_no (from + row.first) c cs after in
-      let two = start_yes (from + row.past) c cs inside in
-      let begin : n ≡ n + first_of (c ∷ cs) = omega (arith, one) in
-      let len : suc (past_of cs - first_of cs) ≡ past_of (c ∷ cs) - first_of (c ∷ cs) = omega (arith, one, two, none) in
-      let next : (n + 1) + first_of cs ≡ n + 1 = omega (arith, none) in
-      let left : places_where (is_in_rows from rows) (n + 1) cs ≡ places_where (is_in_rows from rows) n (c ∷ cs) =
-      sym (where_no (is_in_rows from rows) n c cs rest) in
-      where_yes (is_in_rows from (row ∷ rows)) n c cs yes
-      ∙ ap (λ xs. n ∷ xs) (split (c + 1) (n + 1) cs h.1)
-      ∙ (λ j. n ∷ (range_with_len (next j) (past_of cs - first_of cs) ++ left j))
-      ∙ (λ j. range_with_len (begin j) (len j) ++ places_where (is_in_rows from rows) n (c ∷ cs)))
-      (λ beyond.
-      let out : nat_lt c (from + row.past) ≡ false = le-ltb _ _ beyond in
-      let none : is_in_row from row c ≡ false = ap (λ b. nat_le (from + row.first) c && b) out ∙ and-false (nat_le (from + row.first) c) in
-      let one = start_no (from + row.first) c cs after in
-      let two = start_no (from + row.past) c cs beyond in
-      let no_past = start_none (from + row.past) (c + 1) cs h.1 (omega arith) in
-      let len_of_rest : past_of cs - first_of cs ≡ 0 = omega (arith, no_past) in
-      let len : 0 ≡ past_of (c ∷ cs) - first_of (c ∷ cs) = omega (arith, two) in
-      let same : places_where (is_in_rows from (row ∷ rows)) (n + 1) cs ≡ places_where (is_in_rows from rows) (n + 1) cs =
-      split (c + 1) (n + 1) cs h.1 ∙ (λ j. range_with_len ((n + 1) + first_of cs) (len_of_rest j)
-      ++ places_where (is_in_rows from rows) (n + 1) cs) in
-      (λ j. if none j || is_in_rows from rows c then n ∷ same j else same j)
-      ∙ (λ j. range_with_len (n + first_of (c ∷ cs)) (len j) ++ places_where (is_in_rows from rows) n (c ∷ cs)))
-      (cases_lt c (from + row.past)))
-      (cases_lt c (from + row.first))
-
--- ---- rows passed over
-
--- no code lies in the first n rows where each is before the rows or past these
-pub skip : (from low high m n : ℕ) (rows : List Row) (codes : List ℕ) → AreApart low rows high → n ≤ length rows
-    → All (λ c. (k : ℕ) → k < n → (c < from + low) ⊎ (from + get_or (pasts rows) k 0 ≤ c)) codes
-    → places_where (is_in_rows from rows) m codes ≡ places_where (is_in_rows from (drop n rows)) m codes
-skip from low high m zero rows codes h le out = refl
-skip from low high m (suc n) [] codes h le out = absurd (omega arith)
-skip from low high m (suc n) (row ∷ rows) codes h le out =
-    where_same (is_in_rows from (row ∷ rows)) (is_in_rows from rows) m codes (λ i d lt.
-    let c = get_or codes i d in
-    let none : is_in_row from row c ≡ false = ⊎_elim
-    (λ before. let no : nat_le (from + row.first) c ≡ false =
-    lt-leb _ _ (omega (arith, h.0)) in ap (λ b. b && nat_lt c (from + row.past)) no)
-    (λ beyond. let no : nat_lt c (from + row.past) ≡ false =
-    le-ltb _ _ beyond in ap (λ b. nat_le (from + row.first) c && b) no ∙ and-false (nat_le (from + row.first) c))
-    (out i d lt 0 (omega arith)) in
-    ap (λ b. b || is_in_rows from rows c) none)
-    ∙ skip from row.past high m n rows codes h.2 (omega arith) (λ i d lt k less. ⊎_elim
-    (λ before. inl (omega (arith, h.0, h.1)))
-    (λ beyond. inr beyond)
-    (out i d lt (suc k) (omega arith)))
+fewer_rows : (from c n : ℕ) (rows : List Row) → is_in_rows from rows c ≡ false → is_in_rows from (drop n rows) c ≡ false
+fewer_rows from c zero rows none = none
+fewer_rows from c (suc n) [] none = none
+fewer_rows from c (suc n) (row ∷ rows) none = fewer_rows from c n rows (or_parts (is_in_row from row c) (is_in_rows from rows c) none).1
 
 -- ---- the next row
 
@@ -177,47 +123,71 @@ past_at : (rows : List Row) (i k : ℕ) → get_or (pasts (drop i rows)) k 0 ≡
 past_at rows i k = ap (λ ps. get_or ps k 0) (sym (drop-map (λ row. row.past) i rows)) ∙ get_or-drop i (pasts rows) k 0
 
 pub no_rows : (from n : ℕ) (codes : List ℕ) → places_where (is_in_rows from []) n codes ≡ []
-no_rows from n [] = refl
-no_rows from n (c ∷ cs) = no_rows from (n + 1) cs
+no_rows from n codes = nowhere n codes
 
 -- from a row to the next one that has codes, what is added is the row's run
 module _ (from high : ℕ) (rows : List Row) (codes : List ℕ) (apart : AreApart 0 rows high) (rising : IsStrictlyIncreasing codes)
     (i j past : ℕ) (row : Row) (is : row ≡ get_or rows i row) (within : i < length rows) (later : i < j) (inside : j ≤ length rows)
     (found : past ≡ start_of (from + row.past) codes)
     (skipped : (k : ℕ) → i < k → k < j → past < length codes → get_or (pasts rows) k 0 ≤ get_or codes past 0 - from) where
-  here : (row.first < row.past) × AreApart row.past (drop (suc i) rows) high
+  abbrev others : List Row
+  others = drop (suc i) rows
+
+  abbrev code : ℕ → ℕ
+  code k = get_or codes k 0
+
+  abbrev in_all : ℕ → Bool
+  in_all k = is_in_rows from (row ∷ others) (code k)
+
+  abbrev in_rest : ℕ → Bool
+  in_rest k = is_in_rows from (drop (j - suc i) others) (code k)
+
+  abbrev first_place : ℕ
+  first_place = start_of (from + row.first) codes
+
+  abbrev past_place : ℕ
+  past_place = start_of (from + row.past) codes
+
+  here : (row.first < row.past) × AreApart row.past others high
   here =
-      let P : Row → Type 0 = λ r. (r.first < r.past) × AreApart r.past (drop (suc i) rows) high in
+      let P : Row → Type 0 = λ r. (r.first < r.past) × AreApart r.past others high in
       subst P (sym is) (apart_at 0 rows high i row apart within)
 
-  -- each code lies before the rows passed over, or beyond them
-  out : All (λ c. (k : ℕ) → k < j - suc i → (c < from + row.past) ⊎ (from + get_or (pasts (drop (suc i) rows)) k 0 ≤ c)) codes
-  out m d lt k less = ⊎_elim
-      (λ before. inl (omega (arith, start_before_in (from + row.past) m codes (omega (arith, found)), get_or_default codes m d 0 lt)))
-      (λ after.
-      let left : past < length codes = omega arith in
-      let gap = skipped (suc i + k) (omega arith) (omega arith) left in
-      let begin = at_start (from + row.past) codes (omega (arith, found)) in
-      let same = ap (λ n. get_or codes n 0) found in
-      let grows : get_or codes past 0 ≤ get_or codes m 0 = not_below codes past m rising after lt in
-      inr (omega (arith, past_at rows (suc i) k, get_or_default codes m d 0 lt)))
-      (cases_lt m past)
-    where
-      not_below : (cs : List ℕ) (a b : ℕ) → IsStrictlyIncreasing cs → a ≤ b → b < length cs → get_or cs a 0 ≤ get_or cs b 0
-      not_below cs a b up le lt = ⊎_elim
-          (λ below. omega (arith, AllPairs-from_increasing cs up a b 0 below lt))
-          (λ no. let same : a ≡ b = omega arith in omega (arith, ap (λ n. get_or cs n 0) same))
-          (cases_lt a b)
+  before : (k : ℕ) → k < first_place → in_all k ≡ false
+  before k lt = before_rows from (code k) row.first (row ∷ others) high (omega arith, here.0, here.1)
+      (start_before_in (from + row.first) k codes lt)
+
+  within_row : (k : ℕ) → first_place ≤ k → k < past_place → in_all k ≡ true
+  within_row k le lt =
+      let few = start_within (from + row.past) codes in
+      let low = le-leb _ _ (from_start (from + row.first) k codes rising le (omega arith)) in
+      let up = lt-ltb _ _ (start_before_in (from + row.past) k codes lt) in
+      λ t. (low t && up t) || is_in_rows from others (code k)
+
+  -- the rows passed over have no code
+  beyond : (k : ℕ) → past_place ≤ k → k < length codes → in_all k ≡ in_rest k
+  beyond k le lt =
+      let far = from_start (from + row.past) past_place codes rising (omega arith) (omega arith) in
+      let same = ap code found in
+      ap (λ b. b || is_in_rows from others (code k)) (behind_row from (code k) row (from_start (from + row.past) k codes rising le lt))
+      ∙ skip from (code k) (j - suc i) others (omega (arith, length-drop (suc i) rows)) (λ m less.
+      let gap = skipped (suc i + m) (omega arith) (omega arith) (omega arith) in
+      omega (arith, past_at rows (suc i) m, no_less codes past_place k rising le lt))
+
+  none : (k : ℕ) → k < past_place → in_rest k ≡ false
+  none k lt = fewer_rows from (code k) (j - suc i) others
+      (before_rows from (code k) row.past others high here.1 (start_before_in (from + row.past) k codes lt))
 
   pub adds_run : places_where (is_in_rows from (drop i rows)) 0 codes ≡ run from row codes
       ++ places_where (is_in_rows from (drop j rows)) 0 codes
   adds_run =
-      let whole : drop i rows ≡ row ∷ drop (suc i) rows = drop-cons rows i row within ∙ ap (λ r. r ∷ drop (suc i) rows) (sym is) in
-      let first = split from row (drop (suc i) rows) high here.0 here.1 0 0 codes (rises codes rising) in
-      let start : 0 + start_of (from + row.first) codes ≡ start_of (from + row.first) codes = omega arith in
-      let passed = skip from row.past high 0 (j - suc i) (drop (suc i) rows) codes here.1 (omega (arith, length-drop (suc i) rows)) out in
+      let whole : drop i rows ≡ row ∷ others = drop-cons rows i row within ∙ ap (λ r. r ∷ others) (sym is) in
+      let begin : max first_place 0 ≡ first_place = omega arith in
       let last : suc i + (j - suc i) ≡ j = omega arith in
-      let rest : drop (j - suc i) (drop (suc i) rows) ≡ drop j rows = drop-drop (j - suc i) (suc i) rows ∙ ap (λ n. drop n rows) last in
-      ap (λ rs. places_where (is_in_rows from rs) 0 codes) whole ∙ first
-      ∙ (λ t. range_with_len (start t) (start_of (from + row.past) codes - start_of (from + row.first) codes) ++ passed t)
+      let rest : drop (j - suc i) others ≡ drop j rows = drop-drop (j - suc i) (suc i) rows ∙ ap (λ n. drop n rows) last in
+      ap (λ rs. places_where (is_in_rows from rs) 0 codes) whole ∙ where_at (is_in_rows from (row ∷ others)) 0 codes
+      ∙ filter_run in_all in_rest first_place past_place 0 (length codes) before within_row (λ k le lt. beyond k le (omega arith)) none
+      (start_grows (from + row.first) (from + row.past) codes rising (omega (arith, here.0)))
+      (omega (arith, start_within (from + row.past) codes))
+      ∙ (λ t. range_with_len (begin t) (past_place - begin t) ++ sym (where_at (is_in_rows from (drop (j - suc i) others)) 0 codes) t)
       ∙ ap (λ rs. run from row codes ++ places_where (is_in_rows from rs) 0 codes) rest

@@ -72,6 +72,7 @@ fn keep_hint(hints: &[Cell<Hint>], i: usize, run: Hint) {
 }
 
 // Appends the identifiers whose codes lie in a row, and tells the first of them and the one past the last.
+#[tactic(auto, using(crate::proofs::Starts::runs))]
 #[inline(always)]
 fn add_run(
     list: &mut Vec<u32>,

@@ -1,5 +1,6 @@
 -- The lists of all blocks, by the rows of their zones' cones.
-use Rattle.std.specs.Prelude.{ℕ, List, [], ◌∷◌}
+use Rattle.std.specs.Prelude.{ℕ, List}
+use Rattle.std.specs.Simd.Lanes.{zip2}
 use Rattle.precedence.specs.Cone.{places_where}
 use Rattle.precedence.specs.inner.Rows.{is_in_rows}
 use Rattle.precedence.specs.inner.ZoneTables.{zone_rows}
@@ -11,7 +12,4 @@ in_cone tables of_zone all zone from = places_where (is_in_rows from (zone_rows 
 
 -- those of each block, by the zones and codes of the blocks
 abbrev pub in_cones : List ConeTable → List ℕ → List ℕ → List ℕ → List ℕ → List (List ℕ)
-in_cones tables of_zone all [] codes = []
-in_cones tables of_zone all (zone ∷ zones) [] = []
-in_cones tables of_zone all (zone ∷ zones) (code ∷ codes) =
-    in_cone tables of_zone all zone code ∷ in_cones tables of_zone all zones codes
+in_cones tables of_zone all zones codes = zip2 (in_cone tables of_zone all) zones codes

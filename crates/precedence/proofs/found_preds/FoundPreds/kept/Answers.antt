@@ -1,14 +1,8 @@
 use Rattle.std.proofs.Common.{◌≡◌, ℕ, ◌+◌, ◌<◌, ◌≤◌, ◌∙◌, ◌++◌, ◌∷◌, [], List, length, take, get_or, ap, sym, arith, length-append}
 use Rattle.std.proofs.lemmas.List.{take_more, take_all}
-use Rattle.precedence.proofs.FoundFacts.{length-found}
+use Rattle.precedence.proofs.FoundFacts.{found_length}
 use Rattle.precedence.proofs.Pieces.{ends_push, pieces_push}
 use Rattle.precedence.proofs.found_preds.FoundPreds.kept.Goals as goal
-
-pub add_list-requires : goal.add_list-requires
-add_list-requires c =
-    let f = c.self.inside in
-    let long = length-found f c.self.invariant in
-    omega (arith, c.loop-id-test.true, c.len-count.ensures, f.zones.ok, long, ap length c.self.view_is)
 
 pub loop-id-preserved : goal.loop-id-preserved
 loop-id-preserved c =
@@ -23,7 +17,7 @@ loop-id-preserved c =
     let more : c.push.new.self.items ≡ ends ++ length (flat ++ list) ∷ [] =
     c.in_ok-push.ensures.items ∙ ap (λ end. ends ++ end ∷ []) end_is in
     let f = c.self.inside in
-    let long = length-found f c.self.invariant in
+    let long = found_length f c.self.invariant in
     let within : id < length lists = omega (arith, c.loop-id-test.true, c.len-count.ensures, f.zones.ok, long, ap length c.self.view_is) in
     let whole : take (id + 1) lists ≡ take id lists ++ list ∷ [] = take_more lists id [] within in
     record {
@@ -38,7 +32,7 @@ loop-id-preserved c =
 pub returns : goal.returns
 returns c =
     let f = c.self.inside in
-    let long = length-found f c.self.invariant in
+    let long = found_length f c.self.invariant in
     let past : length c.args.self.now ≤ c.loop-id.id =
     omega (arith, c.loop-id-test.false, c.len-count.ensures, f.zones.ok, long, ap length c.self.view_is) in
     c.of_parts.ensures ∙ c.loop-id.invariant.lists ∙ take_all _ c.args.self.now past

@@ -1,0 +1,26 @@
+-- The numbers of the elements that pass a test, as a filter of all numbers.
+use Rattle.std.proofs.Common.{◌≡◌, ℕ, suc, ◌+◌, ◌<◌, Bool, false, List, [], ◌∷◌, filter, length, get_or, refl, ap, ◌∙◌, arith, if◌then◌else◌}
+use Rattle.std.specs.List.{range_with_len}
+use Rattle.std.proofs.lemmas.List.{get_or_default}
+use Rattle.precedence.specs.Cone.{places_where}
+
+pub nowhere : {X : Type 0} (n : ℕ) (xs : List X) → places_where (λ x. false) n xs ≡ []
+nowhere n [] = refl
+nowhere n (x ∷ xs) = nowhere (n + 1) xs
+
+pub where_filter : {X : Type 0} (test : X → Bool) (t : ℕ → Bool) (n : ℕ) (xs : List X)
+    → ((i : ℕ) (d : X) → i < length xs → test (get_or xs i d) ≡ t (n + i))
+    → places_where test n xs ≡ filter t (range_with_len n (length xs))
+where_filter test t n [] h = refl
+where_filter test t n (x ∷ xs) h =
+    let here : n + 0 ≡ n = omega arith in
+    let first : test x ≡ t n = h 0 x (omega arith) ∙ ap t here in
+    let rest = where_filter test t (n + 1) xs (λ i d lt.
+    let next : n + suc i ≡ (n + 1) + i = omega arith in h (suc i) d (omega arith) ∙ ap t next) in
+    λ j. if first j then n ∷ rest j else rest j
+
+-- where there is some element to take for those that are not there
+pub where_at : {X : Type 0} (test : X → Bool) (d : X) (xs : List X)
+    → places_where test 0 xs ≡ filter (λ k. test (get_or xs k d)) (range_with_len 0 (length xs))
+where_at test d xs = where_filter test (λ k. test (get_or xs k d)) 0 xs (λ i e lt.
+    let here : i ≡ 0 + i = omega arith in ap test (get_or_default xs i e d lt ∙ ap (λ k. get_or xs k d) here))
