@@ -3,8 +3,8 @@ use Rattle.std.proofs.Common.{◌≡◌, ℕ, ◌+◌, ◌<◌, Bool, true, fals
 use Rattle.std.specs.Prelude.{filter, AllPairs, IsTrue, ◌==◌, ◌&&◌, ◌||◌, nat_lt}
 use Rattle.std.proofs.lemmas.Bool.{eqb-true}
 use Rattle.std.proofs.lemmas.Bool.Decides.{nat_tests}
-use Rattle.std.proofs.lemmas.List.{get_or-map, length-map, map-append}
-use Rattle.std.proofs.lemmas.List.Elements.{All-weaker, All-map, All-filter, All-nil, All-cons, All-head, All-tail, filter-append}
+use Rattle.std.proofs.lemmas.List.{get_or-map, length-map, length-take, map-append, take_min}
+use Rattle.std.proofs.lemmas.List.Elements.{All-weaker, All-map, All-filter, All-head, All-tail, filter-append, filter_passes}
 use Rattle.std.proofs.lemmas.List.Kept.{AllPairs-filter}
 use Rattle.std.proofs.Math.Seq.{take-add}
 use Rattle.pit_parts.specs.declared.limit.Limit.{Limit}
@@ -18,7 +18,6 @@ use Rattle.mine_instance.specs.Valid.{IsValid}
 use Rattle.mine_instance.specs.declared.coef.Coef.{Coef}
 use Rattle.mine_instance.specs.declared.cpit.CpitCoef.{CpitCoef}
 use Rattle.mine_instance.specs.Instance.{Instance}
-use Rattle.mine_instance.proofs.FoundFacts.{take_length}
 
 -- of two coefficients at their blocks' destinations, the order is that of blocks and resources
 listed : (values : List (List ℤ)) (c e : Coef) → is_chosen values c ≡ true → is_chosen values e ≡ true → IsTrue (coef_comes_before c e)
@@ -30,16 +29,6 @@ listed values c e p q h = in_order (destination_of values) c.b e.b c.d e.d c.r e
         → (nat_lt b b' || ((b == b') && nat_lt r r')) ≡ true
     in_order f b b' d d' r r' p q h = grind (arith, nat_tests)
 
--- what a filter leaves passes
-kept_pass : (p : Coef → Bool) (coefs : List Coef) → All (λ c. p c ≡ true) (filter p coefs)
-kept_pass p [] = All-nil (λ c. p c ≡ true)
-kept_pass p (c ∷ coefs) = at (kept_pass p coefs) (p c) refl
-  where
-    at : All (λ c. p c ≡ true) (filter p coefs) → (b : Bool) → p c ≡ b
-        → All (λ c. p c ≡ true) (cond b (c ∷ filter p coefs) (filter p coefs))
-    at rest true e = All-cons (λ c. p c ≡ true) c (filter p coefs) e rest
-    at rest false e = rest
-
 chosen_rise : (values : List (List ℤ)) (coefs : List Coef) → AllPairs (λ c e. IsTrue (coef_comes_before c e)) coefs
     → AllPairs (λ c e. IsTrue (is_listed_before c e)) (map without_destination (filter (is_chosen values) coefs))
 chosen_rise values coefs rising i j d h k =
@@ -48,8 +37,8 @@ chosen_rise values coefs rising i j d h k =
     let high : j < length chosen = omega (arith, length-map chosen without_destination) in
     let low : i < length chosen = omega arith in
     rw (get_or-map without_destination chosen i blank d low, get_or-map without_destination chosen j blank d high)
-    (listed values (get_or chosen i blank) (get_or chosen j blank) (kept_pass (is_chosen values) coefs i blank low)
-    (kept_pass (is_chosen values) coefs j blank high)
+    (listed values (get_or chosen i blank) (get_or chosen j blank) (filter_passes (is_chosen values) coefs i blank low)
+    (filter_passes (is_chosen values) coefs j blank high)
     (AllPairs-filter (λ c e. IsTrue (coef_comes_before c e)) (is_chosen values) coefs rising i j blank h high))
 
 chosen_in_range : (values : List (List ℤ)) (n destinations resources : ℕ) (coefs : List Coef)
@@ -105,7 +94,8 @@ pub chosen_more : (p : Coef → Bool) (coefs : List Coef) (from most n : ℕ) �
     ≡ map without_destination (filter p (take (from + n) coefs))
 chosen_more p coefs from most n count =
     let piece = take most (drop from coefs) in
-    let same : take n (drop from coefs) ≡ piece = ap (λ k. take k (drop from coefs)) count ∙ take_length (drop from coefs) most in
+    let same : take n (drop from coefs) ≡ piece =
+    ap (λ k. take k (drop from coefs)) (count ∙ length-take most (drop from coefs)) ∙ take_min most (drop from coefs) in
     sym (ap (λ cs. map without_destination (filter p cs)) (take-add from n coefs ∙ ap (λ more. take from coefs ++ more) same)
     ∙ ap (map without_destination) (filter-append p (take from coefs) piece)
     ∙ map-append without_destination (filter p (take from coefs)) (filter p piece))

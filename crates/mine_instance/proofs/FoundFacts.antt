@@ -1,13 +1,13 @@
 -- Where each coefficient that is found stands, and that all of them are those of the blocks.
-use Rattle.std.proofs.Common.{◌≡◌, ℕ, zero, suc, ◌+◌, ◌*◌, ◌/◌, ◌%◌, ◌<◌, ◌≤◌, Bool, true, false, cond, List, [], ◌∷◌, ◌++◌, length, map, take, drop, get_or, min, refl, sym, ◌∙◌, ap, inl, inr, arith, append-nil, length-append, length-take-le, mod-lt, mul-zero}
-use Rattle.std.specs.Prelude.{◌==◌}
+use Rattle.std.proofs.Common.{◌≡◌, ℕ, zero, suc, ◌+◌, ◌-◌, ◌*◌, ◌/◌, ◌%◌, ◌<◌, ◌≤◌, Bool, true, false, cond, List, [], ◌∷◌, ◌++◌, length, map, take, drop, get_or, min, refl, sym, ◌∙◌, ap, inl, inr, arith, append-nil, length-take-le, mod-lt, mul-zero}
+use Rattle.std.specs.Prelude.{vec_len, ◌==◌}
 use Rattle.std.specs.List.{flat_map, enumerate_from}
 use Rattle.std.proofs.lemmas.Bool.{cases_lt}
-use Rattle.std.proofs.lemmas.List.{length-map, get_or-map, get_or-drop, length-drop, length-take, nil_from_length, take-append-drop, take_more}
-use Rattle.std.proofs.lemmas.List.Concat.{flat_map-append, get_or-flat_map}
+use Rattle.std.proofs.lemmas.List.{length-map, get_or-map, get_or-drop, length-drop, nil_from_length, take_min, take_more}
+use Rattle.std.proofs.lemmas.List.Concat.{flat_map-append, get_or-flat_map, length-flat_map}
 use Rattle.std.proofs.lemmas.List.FromFn.{length-enumerate_from}
-use Rattle.std.proofs.Math.Nat.{div-add-mod, mul-le-mul_right}
-use Rattle.std.proofs.Math.Seq.{take-append_seam}
+use Rattle.std.proofs.lemmas.List.Sums.{sum_by-le}
+use Rattle.std.proofs.Math.Nat.{div-add-mod, div-lt_iff_lt-mul, mul-le-mul_right}
 use Rattle.pit_parts.specs.declared.block.Block.{Block}
 use Rattle.mine_instance.specs.declared.coef.Coef.{Coef}
 use Rattle.mine_instance.specs.declared.found_coefs.FoundCoefs.TheInside.{Inside}
@@ -37,30 +37,19 @@ numbered_blocks pairs (b ∷ bs) =
 pub found_are : (pairs : List (ℕ × ℕ)) (blocks : List Block) → found_coefs pairs (heavy_of blocks) ≡ coefs_of pairs blocks
 found_are pairs blocks = numbered_blocks pairs (enumerate_from 0 blocks)
 
-at_most_one : (k : ℕ) (b : Block) → length (heavy_one (k, b)) ≤ 1
-at_most_one k b = at (b.kg == 0)
-  where
-    heavy : HeavyBlock
-    heavy = record { b = k; kg = b.kg }
-
-    at : (none : Bool) → length (cond none [] (heavy ∷ [])) ≤ 1
-    at true = omega arith
-    at false = omega arith
-
-few_of : (blocks : List (ℕ × Block)) → length (flat_map heavy_one blocks) ≤ length blocks
-few_of [] = omega arith
-few_of (b ∷ bs) =
-    let one : length (heavy_one b) ≤ 1 = at_most_one b.0 b.1 in
-    let rest : length (flat_map heavy_one bs) ≤ length bs = few_of bs in
-    let both : length (heavy_one b ++ flat_map heavy_one bs) ≡ length (heavy_one b) + length (flat_map heavy_one bs) =
-    length-append (heavy_one b) (flat_map heavy_one bs) in
-    omega (arith, one, rest, both)
-
 -- no more of them than blocks
 pub heavy_few : (blocks : List Block) → length (heavy_of blocks) ≤ length blocks
 heavy_few blocks =
-    let few = few_of (enumerate_from 0 blocks) in
-    omega (arith, few, length-enumerate_from 0 blocks)
+    let numbered = enumerate_from 0 blocks in
+    let most = sum_by-le (λ e. length (heavy_one e)) 1 numbered (λ k d h. at_most_one (get_or numbered k d)) in
+    omega (arith, length-flat_map heavy_one numbered, most, length-enumerate_from 0 blocks)
+  where
+    at_most_one : (e : ℕ × Block) → length (heavy_one e) ≤ 1
+    at_most_one e = by (e.1.kg == 0) (record { b = e.0; kg = e.1.kg })
+      where
+        by : (none : Bool) (heavy : HeavyBlock) → length (cond none [] (heavy ∷ [])) ≤ 1
+        by true heavy = omega arith
+        by false heavy = omega arith
 
 -- one for each block and pair
 pub length-found : (pairs : List (ℕ × ℕ)) (heavy : List HeavyBlock) → length (found_coefs pairs heavy) ≡ length heavy * length pairs
@@ -87,8 +76,7 @@ row_and_place index width n h =
     let some : 0 < width = wide width h in
     let whole : index / width * width + index % width ≡ index =
     let back : width * (index / width) + index % width ≡ index = div-add-mod index width in grind (arith, back) in
-    let low : index / width * width + index % width < n * width = omega (arith, whole) in
-    (some, row_of_place (index / width) (index % width) width n low, mod-lt index some, whole)
+    (some, (div-lt_iff_lt-mul some).1 h, mod-lt index some, whole)
   where
     wide : (width : ℕ) → index < n * width → 0 < width
     wide zero h = absurd (grind arith)
@@ -106,7 +94,10 @@ found_at pairs heavy i j b pair d h k =
     ∙ get_or-flat_map (heavy_coefs pairs) heavy i j b d h within
     ∙ get_or-map (heavy_coef (get_or heavy i b)) pairs j pair d k
 
-module _ (f : Inside) (all : List Coef) (width : ℕ) (is : found_in f ≡ all) (wide : width ≡ length f.pairs.items) where
+module _ (f : Inside) (all : List Coef) (width : ℕ) (is : found_in f ≡ all) (len : width ≡ vec_len f.pairs) where
+  wide : width ≡ length f.pairs.items
+  wide = omega (arith, len, f.pairs.ok)
+
   -- so many are there
   pub length-all : length all ≡ length f.heavy.items * width
   length-all = sym (ap length is) ∙ length-found f.pairs.items f.heavy.items ∙ ap (λ n. length f.heavy.items * n) (sym wide)
@@ -140,10 +131,9 @@ piece_more xs from n x h is =
     take_more (drop from xs) n x (omega (arith, length-drop from xs))
     ∙ ap (λ y. take n (drop from xs) ++ y ∷ []) (get_or-drop from xs n x ∙ sym is)
 
--- as many as there are of so many at most
-pub take_length : {X : Type 0} (xs : List X) (most : ℕ) → take (length (take most xs)) xs ≡ take most xs
-take_length xs most = ap (take (length (take most xs))) (sym (take-append-drop most xs)) ∙ take-append_seam (take most xs) (drop most xs)
-
 -- so many of a list, or all of them where they are fewer
-pub take_fewer : {X : Type 0} (xs : List X) (most n : ℕ) → n ≡ min most (length xs) → take n xs ≡ take most xs
-take_fewer xs most n is = ap (λ k. take k xs) (is ∙ sym (length-take most xs)) ∙ take_length xs most
+pub put_all : {X : Type 0} (xs old now : List X) (from most n : ℕ) → now ≡ old ++ take n (drop from xs) → n ≡ min most (length xs - from)
+    → now ≡ old ++ take most (drop from xs)
+put_all xs old now from most n is count =
+    is ∙ ap (λ more. old ++ more) (ap (λ k. take k (drop from xs)) (count ∙ ap (min most) (sym (length-drop from xs)))
+    ∙ take_min most (drop from xs))

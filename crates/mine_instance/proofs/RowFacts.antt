@@ -73,3 +73,5 @@ row_pushed (suc n) width items row whole all =
       ap (λ m. rows_of m (length row) (items ++ row)) (add-one (suc n))
           ∙ ap (λ w. rows_of (suc (suc n)) w (items ++ row)) (sym same) ∙ rows_of-push (suc n) width items row whole (sym same),
     )
+
+pub ruleset rows = (length-rows_of, row_within)

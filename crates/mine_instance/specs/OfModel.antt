@@ -72,11 +72,15 @@ instance_with name rate periods destinations resources blocks lists values coefs
   limits = limits;
 }
 
--- the instance of a plan and of blocks by identifier
-abbrev pub instance_of : PlanParts → List Block → Instance
-instance_of plan blocks =
-    instance_with plan.name plan.rate plan.periods (length plan.formulas) (length plan.resources) blocks (preds plan blocks)
+-- the instance of a plan and of blocks by identifier, with these predecessors
+abbrev pub instance_with_preds : PlanParts → List Block → List (List ℕ) → Instance
+instance_with_preds plan blocks lists =
+    instance_with plan.name plan.rate plan.periods (length plan.formulas) (length plan.resources) blocks lists
     (map (values_of plan) blocks) (coefs_of (covered plan) blocks) plan.limits
+
+-- with those of their cones
+abbrev pub instance_of : PlanParts → List Block → Instance
+instance_of plan blocks = instance_with_preds plan blocks (preds plan blocks)
 
 -- the instance of a list of blocks and a plan
 abbrev pub instance : PlanParts → List Block → Instance

@@ -39,6 +39,7 @@ impl ListedValues {
     }
 
     /// The number of blocks.
+    #[tactic(auto, using(crate::proofs::RowFacts::rows))]
     pub fn len(&self) -> usize
         ensures { result ≡ length self.now }
     {
@@ -53,6 +54,7 @@ impl ListedValues {
     }
 
     /// The values of a block, in the order of the destinations.
+    #[tactic(auto, using(crate::proofs::RowFacts::rows))]
     pub fn of(&self, block: usize) -> &[Dec]
         requires { block < length self.now }
         ensures { result.now ≡ slice_index_or self.now block [] }
@@ -63,6 +65,7 @@ impl ListedValues {
     }
 
     /// Adds the values of one more block, as many as each of the others has. Where memory is refused the values are as they were.
+    #[tactic(auto, using(crate::proofs::RowFacts::rows))]
     pub fn push(&mut self, values: &[Dec]) -> Result<(), AllocError>
         requires room { length self.old < 2 ^ 64 - 1 }
         requires width { All (λ of_block. length of_block ≡ length values.now) self.old }

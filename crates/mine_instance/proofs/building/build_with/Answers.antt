@@ -6,26 +6,17 @@ use Rattle.mine_instance.proofs.BuildFacts.{by_identifier_is}
 use Rattle.mine_instance.proofs.ModelFacts.{built_is, instance_is_valid}
 use Rattle.mine_instance.proofs.building.build_with.Goals as goal
 
-pub returns-clause-value : goal.returns-clause-value
-returns-clause-value g c = λ listed n numbered same.
+pub returns : goal.returns
+returns g c =
     let plan = c.args.plan.now in
     let blocks = c.args.blocks.items in
     let coefs : c.in_ok-coefs.coefs ≡ coefs_of (covered plan) blocks =
     c.in_ok-coefs.ensures ∙ (λ j. coefs_of (c.in_ok-pairs.ensures.pairs j) (c.as_slice.ensures.value j)) in
-    built_is plan blocks _ _ _ _ _ _ _ _ _ _ (c.in_ok-name.ensures ∙ c.name.ensures.value) c.rate.ensures.value c.periods.ensures.value
-    (ap length c.formulas.ensures.value) (ap length c.resources.ensures.value) c.new.ensures c.requires.preds
-    c.requires.values coefs (c.new-2.ensures ∙ c.in_ok-limits.ensures.items ∙ c.limits.ensures.value)
-    ∙ ap (instance_of plan) (sym (by_identifier_is listed n numbered ∙ same))
-
-pub returns-clause-valid : goal.returns-clause-valid
-returns-clause-valid g c =
-    let plan = c.args.plan.now in
-    let blocks = c.args.blocks.items in
-    let coefs : c.in_ok-coefs.coefs ≡ coefs_of (covered plan) blocks =
-    c.in_ok-coefs.ensures ∙ (λ j. coefs_of (c.in_ok-pairs.ensures.pairs j) (c.as_slice.ensures.value j)) in
+    let built = built_is plan blocks _ _ _ _ _ _ _ _ _ _ (c.in_ok-name.ensures ∙ c.name.ensures.value) c.rate.ensures.value
+    c.periods.ensures.value (ap length c.formulas.ensures.value) (ap length c.resources.ensures.value) c.new.ensures c.requires.preds
+    c.requires.values coefs (c.new-2.ensures ∙ c.in_ok-limits.ensures.items ∙ c.limits.ensures.value) in
     let P : Instance → Type 0 = λ i. IsValid i in
-    subst P (sym (built_is plan blocks _ _ _ _ _ _ _ _ _ _
-    (c.in_ok-name.ensures ∙ c.name.ensures.value) c.rate.ensures.value c.periods.ensures.value
-    (ap length c.formulas.ensures.value) (ap length c.resources.ensures.value) c.new.ensures c.requires.preds
-    c.requires.values coefs (c.new-2.ensures ∙ c.in_ok-limits.ensures.items ∙ c.limits.ensures.value)))
-    (instance_is_valid plan blocks c.rate.ensures.kept c.requires.few)
+    record {
+      value = λ listed n numbered same. built ∙ ap (instance_of plan) (sym (by_identifier_is listed n numbered ∙ same));
+      valid = subst P (sym built) (instance_is_valid plan blocks c.rate.ensures.kept c.requires.few);
+    }

@@ -1,8 +1,12 @@
-use Rattle.std.proofs.Common.{arith}
+use Rattle.std.proofs.Common.{length, refl, arith}
+use Rattle.std.proofs.lemmas.Option.{slice_get_read}
 use Rattle.mine_instance.proofs.RisingFacts.{rises_more}
 use Rattle.mine_instance.proofs.rising.rises.Goals as goal
 
 pub loop-index-preserved : goal.loop-index-preserved
 loop-index-preserved g c =
-    rises_more g.T.Ordered.before g.met.T.Ordered.through _ _ _ _ (omega arith) (omega arith)
-    c.index-items-index.is c.index-items-index-in-loop-index.is (c.is_before.ensures.0 c.if-not-is_before.false) c.loop-index.invariant
+    let items = c.args.items.now in
+    rises_more g.T.Ordered.before items c.loop-index.index _ _ (omega arith)
+    (slice_get_read items (length items) _ _ refl (omega arith) c.index-items-index.is)
+    (slice_get_read items (length items) _ _ refl (omega arith) c.index-items-index-in-loop-index.is)
+    g.met.T.Ordered.through (c.is_before.ensures.0 c.if-not-is_before.false) c.loop-index.invariant

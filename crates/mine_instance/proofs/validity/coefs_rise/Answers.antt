@@ -1,31 +1,21 @@
-use Rattle.std.proofs.Common.{◌≡◌, ◌-◌, ◌∙◌, get_or, sym, arith}
+use Rattle.std.proofs.Common.{◌∙◌, sym, arith}
 use Rattle.std.specs.Prelude.{IsTrue}
-use Rattle.std.proofs.lemmas.Option.{get_or_from_slice_get}
 use Rattle.mine_instance.specs.Order.{coef_comes_before}
 use Rattle.mine_instance.specs.OrderLaws.{coef_comes_before_through}
-use Rattle.mine_instance.proofs.RisingFacts.{rises_more}
+use Rattle.mine_instance.proofs.RisingFacts.{neighbours, rises_more}
 use Rattle.mine_instance.proofs.validity.coefs_rise.Goals as goal
 
 pub returns-then-not-comes_before : goal.returns-then-not-comes_before
-returns-then-not-comes_before c =
-    let coefs = c.args.coefs.now in
-    let n = c.loop-index.index in
-    let one = c.at.result in
-    let next = c.at-in-loop-index.result in
-    let one_is : get_or coefs (n - 1) one ≡ one = get_or_from_slice_get coefs (n - 1) one one c.at.ensures in
-    let next_is : get_or coefs n one ≡ next = get_or_from_slice_get coefs n next one c.at-in-loop-index.ensures in (
-      λ f. absurd (cc),
-      λ rise.
-          sym c.if-not-comes_before.true ∙ c.comes_before.ensures ∙ (λ j. coef_comes_before (sym one_is j) (sym next_is j))
-          ∙ rise (n - 1) n one (omega arith) (omega arith),
-    )
+returns-then-not-comes_before c = (
+  λ f. absurd (cc),
+  λ rise.
+      sym c.if-not-comes_before.true ∙ c.comes_before.ensures
+      ∙ neighbours (λ x y. IsTrue (coef_comes_before x y)) c.args.coefs.now c.loop-index.index _ _ (omega arith)
+      c.at.ensures c.at-in-loop-index.ensures rise,
+)
 
 pub loop-index-preserved : goal.loop-index-preserved
 loop-index-preserved c =
-    let coefs = c.args.coefs.now in
-    let n = c.loop-index.index in
-    let one = c.at.result in
-    let next = c.at-in-loop-index.result in
-    rises_more (λ x y. IsTrue (coef_comes_before x y)) coef_comes_before_through coefs n one next (omega arith) (omega arith)
-    (sym (get_or_from_slice_get coefs (n - 1) one one c.at.ensures)) (sym (get_or_from_slice_get coefs n next next c.at-in-loop-index.ensures))
+    rises_more (λ x y. IsTrue (coef_comes_before x y)) c.args.coefs.now c.loop-index.index _ _ (omega arith)
+    c.at.ensures c.at-in-loop-index.ensures coef_comes_before_through
     (sym c.comes_before.ensures ∙ c.if-not-comes_before.false) c.loop-index.invariant

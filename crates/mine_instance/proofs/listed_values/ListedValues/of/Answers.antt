@@ -1,28 +1,7 @@
-use Rattle.std.proofs.Common.{sym, ◌∙◌, ap, length, arith, get_or, ◌≡◌, ◌<◌, ◌≤◌, ◌+◌, ◌*◌, [], take, drop}
+use Rattle.std.proofs.Common.{sym, ◌∙◌, ap, length, arith, get_or, ◌≡◌, ◌<◌, ◌*◌, [], take, drop}
 use Rattle.mine_instance.specs.Rows.{rows_of}
-use Rattle.mine_instance.proofs.RowFacts.{length-rows_of, row_within, get_or-rows_of}
+use Rattle.mine_instance.proofs.RowFacts.{length-rows_of, get_or-rows_of}
 use Rattle.mine_instance.proofs.listed_values.ListedValues.of.Goals as goal
-
-pub overflow_mul-block : goal.overflow_mul-block
-overflow_mul-block c =
-    let count : length c.args.self.now ≡ c.self.inside.count = sym (ap length c.self.view_is) ∙ length-rows_of _ _ _ in
-    let room : c.args.block * c.self.inside.width + c.self.inside.width ≤ c.self.inside.count * c.self.inside.width =
-    row_within _ _ _ (omega arith) in
-    omega arith
-
-pub split_at-requires : goal.split_at-requires
-split_at-requires c =
-    let count : length c.args.self.now ≡ c.self.inside.count = sym (ap length c.self.view_is) ∙ length-rows_of _ _ _ in
-    let room : c.args.block * c.self.inside.width + c.self.inside.width ≤ c.self.inside.count * c.self.inside.width =
-    row_within _ _ _ (omega arith) in
-    omega arith
-
-pub split_at-requires-2 : goal.split_at-requires-2
-split_at-requires-2 c =
-    let count : length c.args.self.now ≡ c.self.inside.count = sym (ap length c.self.view_is) ∙ length-rows_of _ _ _ in
-    let room : c.args.block * c.self.inside.width + c.self.inside.width ≤ c.self.inside.count * c.self.inside.width =
-    row_within _ _ _ (omega arith) in
-    omega arith
 
 pub returns : goal.returns
 returns c =

@@ -3,11 +3,6 @@ use Rattle.mine_instance.specs.Rows.{rows_of}
 use Rattle.mine_instance.proofs.RowFacts.{length-rows_of, row_pushed}
 use Rattle.mine_instance.proofs.listed_values.ListedValues.push.Goals as goal
 
-pub overflow_add-self : goal.overflow_add-self
-overflow_add-self c =
-    let count : length c.args.self.now ≡ c.self.inside.count = sym (ap length c.self.view_is) ∙ length-rows_of _ _ _ in
-    omega arith
-
 pub invariant_of-self-2 : goal.invariant_of-self-2
 invariant_of-self-2 c =
     let P : List (List ℤ) → Type 0 = λ rows. All (λ row. length row ≡ length c.args.values.now) rows in
