@@ -1,6 +1,8 @@
 -- What the rows of the zones' cones say of all blocks is what lies above each.
-use Rattle.std.proofs.Common.{◌≡◌, ℕ, zero, suc, ◌+◌, ◌^◌, ◌<◌, Bool, List, [], ◌∷◌, Some, All, length, map, get_or, slice_get, refl, sym, ap, subst, ◌∙◌, arith, ⊎_elim, if◌then◌else◌}
+use Rattle.std.proofs.Common.{◌≡◌, ℕ, ◌+◌, ◌^◌, ◌<◌, Bool, List, [], ◌∷◌, Some, All, length, map, get_or, slice_get, refl, sym, ap, subst, ◌∙◌, arith, ⊎_elim, if◌then◌else◌}
+use Rattle.std.specs.Simd.Lanes.{zip2}
 use Rattle.std.proofs.lemmas.List.{get_or_default}
+use Rattle.std.proofs.lemmas.Simd.{get_or-zip2, length-zip2}
 use Rattle.std.proofs.lemmas.Option.{slice_get_cases, slice_get-get_or, get_or_from_slice_get}
 use Rattle.std.proofs.lemmas.List.Elements.{All-head, All-map, All-tail}
 use Rattle.pit_parts.specs.Plan.{PlanParts}
@@ -9,11 +11,13 @@ use Rattle.pit_parts.specs.declared.cone.Cone.{Cone}
 use Rattle.pit_parts.specs.declared.grid.Grid.{Grid}
 use Rattle.precedence.specs.Codes.{place_code, place_codes}
 use Rattle.precedence.specs.Cone.{above, is_above, places_where, preds, HasZones}
+use Rattle.precedence.specs.inner.FoundFields.{found_in, KeepsFound}
 use Rattle.precedence.specs.inner.Lists.{in_cone, in_cones}
 use Rattle.precedence.specs.inner.Rows.{is_in_rows, AreInOrder, IsWithin}
 use Rattle.precedence.specs.inner.ZoneTables.{HasTables, IsTold, rows_in}
 use Rattle.precedence.specs.declared.cone_table.ConeTable.{ConeTable}
 use Rattle.precedence.specs.declared.cone_rows.Extent.{Extent}
+use Rattle.precedence.specs.declared.found_preds.FoundPreds.TheInside.{Inside}
 
 -- an element that is there meets what all meet
 pub all_at : {X : Type 0} (P : X → Type 0) (xs : List X) (k : ℕ) (x : X) → All P xs → k < length xs → slice_get xs k ≡ Some x → P x
@@ -28,58 +32,46 @@ blocks_where test other n (b ∷ bs) h =
     let rest = blocks_where test other (n + 1) bs (All-tail (λ b. test (place_code b) ≡ other b) b bs h) in
     λ j. if first j then n ∷ rest j else rest j
 
-map_same : {X Y : Type 0} (f g : X → Y) (xs : List X) → All (λ x. f x ≡ g x) xs → map f xs ≡ map g xs
-map_same f g [] h = refl
-map_same f g (x ∷ xs) h =
-    let first = All-head (λ x. f x ≡ g x) x xs h in
-    let rest = map_same f g xs (All-tail (λ x. f x ≡ g x) x xs h) in
+-- lists by the zones and codes of blocks are lists by the blocks
+zipped : (one : ℕ → ℕ → List ℕ) (list : Block → List ℕ) (bs : List Block) → All (λ b. one b.zone (place_code b) ≡ list b) bs
+    → zip2 one (map (λ b. b.zone) bs) (place_codes bs) ≡ map list bs
+zipped one list [] h = refl
+zipped one list (b ∷ bs) h =
+    let first = All-head (λ b. one b.zone (place_code b) ≡ list b) b bs h in
+    let rest = zipped one list bs (All-tail (λ b. one b.zone (place_code b) ≡ list b) b bs h) in
     λ j. first j ∷ rest j
 
-module _ (grid : Grid) (cones : List Cone) (extent : Extent) (tables : List ConeTable) (of_zone : List ℕ) (blocks : List Block)
-    (has : HasTables grid cones extent tables of_zone)
+module _ (plan : PlanParts) (extent : Extent) (tables : List ConeTable) (of_zone : List ℕ) (blocks : List Block)
+    (has : HasTables plan.grid plan.cones extent tables of_zone)
     (near : (i j : ℕ) (d : Block) → i < length blocks → j < length blocks → IsWithin extent (get_or blocks i d) (get_or blocks j d))
-    (zones : All (λ b. b.zone < length cones) blocks) where
+    (zones : HasZones plan blocks) where
   abbrev place : ℕ → ℕ
   place zone = get_or of_zone zone 0
 
   -- one block's list
-  list_is : (low : Block) → All (IsWithin extent low) blocks → low.zone < length cones
-      → in_cone tables of_zone (place_codes blocks) low.zone (place_code low) ≡ above grid (slice_get cones low.zone) blocks low
+  list_is : (low : Block) → All (IsWithin extent low) blocks → low.zone < length plan.cones
+      → in_cone tables of_zone (place_codes blocks) low.zone (place_code low) ≡ above plan.grid (slice_get plan.cones low.zone) blocks low
   list_is low close lt = ⊎_elim
       (λ found.
       let table : ConeTable = found.0 in
       let cone : Cone = table.cone in
-      let same : slice_get cones low.zone ≡ Some cone =
-      slice_get-get_or cones low.zone cone lt
+      let same : slice_get plan.cones low.zone ≡ Some cone =
+      slice_get-get_or plan.cones low.zone cone lt
       ∙ ap (λ (c : Cone). Some c) (sym (has.same low.zone cone table lt)
       ∙ ap (λ (t : ConeTable). t.cone) (get_or_from_slice_get tables (place low.zone) table table found.2)) in
-      let told = all_at (IsTold grid extent) tables (place low.zone) table has.told found.1 found.2 in
+      let told = all_at (IsTold plan.grid extent) tables (place low.zone) table has.told found.1 found.2 in
       ap (λ o. places_where (is_in_rows (place_code low) (rows_in o)) 0 (place_codes blocks)) found.2
-      ∙ blocks_where (is_in_rows (place_code low) table.rows.items) (is_above grid cone low) 0 blocks
+      ∙ blocks_where (is_in_rows (place_code low) table.rows.items) (is_above plan.grid cone low) 0 blocks
       (λ k d within. told.told low (get_or blocks k d) (close k d within))
-      ∙ ap (λ o. above grid o blocks low) (sym same))
+      ∙ ap (λ o. above plan.grid o blocks low) (sym same))
       (λ past. let below = has.below low.zone 0 (omega (arith, has.zones)) in absurd (omega (arith, past.0)))
       ((slice_get_cases tables (place low.zone)).1)
 
-  pub lists_are : map (λ low. in_cone tables of_zone (place_codes blocks) low.zone (place_code low)) blocks ≡ map (λ low. above grid (slice_get cones low.zone) blocks low) blocks
-  lists_are = map_same (λ low. in_cone tables of_zone (place_codes blocks) low.zone (place_code low)) (λ low. above grid (slice_get cones low.zone) blocks low) blocks
+  pub preds_are : in_cones tables of_zone (place_codes blocks) (map (λ b. b.zone) blocks) (place_codes blocks) ≡ preds plan blocks
+  preds_are = zipped (in_cone tables of_zone (place_codes blocks)) (λ low. above plan.grid (slice_get plan.cones low.zone) blocks low) blocks
       (λ k d lt. list_is (get_or blocks k d)
       (λ j e within. subst (IsWithin extent (get_or blocks k d)) (get_or_default blocks j d e within) (near k j d lt within))
       (zones k d lt))
-
-module _ (tables : List ConeTable) (of_zone all : List ℕ) where
-  -- by the zones and codes of blocks
-  pub in_cones_of : (bs : List Block)
-      → in_cones tables of_zone all (map (λ b. b.zone) bs) (place_codes bs) ≡ map (λ low. in_cone tables of_zone all low.zone (place_code low)) bs
-  in_cones_of [] = refl
-  in_cones_of (b ∷ bs) = ap (λ rest. in_cone tables of_zone all b.zone (place_code b) ∷ rest) (in_cones_of bs)
-
--- the zones of blocks are below a number where the blocks' zones are
-pub zones_below : (n m : ℕ) (blocks : List Block) (zones : List ℕ) → zones ≡ map (λ b. b.zone) blocks → m ≡ n
-    → All (λ (b : Block). b.zone < n) blocks → All (λ z. z < m) zones
-zones_below n m blocks zones e same below =
-    subst (λ zs. All (λ z. z < m) zs) (sym e)
-    (All-map (λ z. z < m) (λ (b : Block). b.zone) blocks (subst (λ k. All (λ (b : Block). b.zone < k) blocks) (sym same) below))
 
 -- each code of a block is small
 pub codes_small : (blocks : List Block) → All (λ c. c < 10 ^ 14) (place_codes blocks)
@@ -92,16 +84,18 @@ pub tables_in_order : (grid : Grid) (extent : Extent) (tables : List ConeTable) 
     → All (λ t. AreInOrder t.rows.items) tables
 tables_in_order grid extent tables told k d lt = let h = told k d lt in (h.high, h.apart)
 
--- of a plan's grid and cones, and of the blocks by identifier
-pub preds_are : (plan : PlanParts) (listed : List Block) (grid : Grid) (cones : List Cone)
-    (extent : Extent) (tables : List ConeTable) (of_zone : List ℕ) (blocks : List Block)
-    → blocks ≡ listed → grid ≡ plan.grid → cones ≡ plan.cones
-    → HasTables grid cones extent tables of_zone
-    → ((i j : ℕ) (d : Block) → i < length blocks → j < length blocks → IsWithin extent (get_or blocks i d) (get_or blocks j d))
-    → HasZones plan listed
-    → in_cones tables of_zone (place_codes blocks) (map (λ b. b.zone) blocks) (place_codes blocks) ≡ preds plan listed
-preds_are plan listed grid cones extent tables of_zone blocks e g c has near zones =
-    in_cones_of tables of_zone (place_codes blocks) blocks
-    ∙ lists_are grid cones extent tables of_zone blocks has near
-    (λ k d lt. omega (arith, zones k d (omega (arith, ap length e)), ap (λ (bs : List Block). (get_or bs k d).zone) e, ap length c))
-    ∙ (λ j. map (λ low. above (g j) (slice_get (c j) low.zone) (e j) low) (e j))
+-- what a search finds
+module _ (f : Inside) (keeps : KeepsFound f) where
+  abbrev one : ℕ → ℕ → List ℕ
+  one = in_cone f.tables.tables.items f.tables.of_zone.items f.places.codes.items
+
+  pub found_length : length (found_in f) ≡ length f.zones.items
+  found_length = length-zip2 one f.zones.items f.places.codes.items keeps.each
+
+  pub found_at : (lists : List (List ℕ)) (id zone from : ℕ) → found_in f ≡ lists → id < length lists
+      → zone ≡ get_or f.zones.items id zone → from ≡ get_or f.places.codes.items id from → get_or lists id [] ≡ one zone from
+  found_at lists id zone from is lt of_block at_place =
+      ap (λ lists. get_or lists id []) (sym is)
+      ∙ get_or-zip2 one f.zones.items f.places.codes.items id zone from []
+      (omega (arith, found_length, ap length is)) (omega (arith, found_length, ap length is, keeps.each))
+      ∙ (λ j. one (sym of_block j) (sym at_place j))

@@ -41,13 +41,10 @@ module _ (grid : Grid) (cone : Cone) (rows dz i : ℕ) (low high : Block) (up : 
       (abs_diff low.x high.x) (same_rows j) (same_rise j))
 
 -- a code beside the middle of a row, on either side
-beside_east : (low high middle x y west east : ℕ) → high + x ≡ (low + middle) + y → x < y → 10000 ≤ middle → west ≤ 10000
-    → (nat_le (low + (middle + 1 - west)) high && nat_lt high (low + (middle + max east 1))) ≡ nat_lt (y - x) east
-beside_east low high middle x y west east e lt far few = grind (arith, nat_tests)
-
-beside_west : (low high middle x y west east : ℕ) → high + x ≡ (low + middle) + y → y ≤ x → 10000 ≤ middle → west ≤ 10000
-    → (nat_le (low + (middle + 1 - west)) high && nat_lt high (low + (middle + max east 1))) ≡ nat_lt (x - y) west
-beside_west low high middle x y west east e le far few = grind (arith, nat_tests)
+beside : (low high middle x y west east : ℕ) → high + x ≡ (low + middle) + y → 10000 ≤ middle → west ≤ 10000
+    → (nat_le (low + (middle + 1 - west)) high && nat_lt high (low + (middle + max east 1)))
+    ≡ (if nat_lt x y then nat_lt (y - x) east else nat_lt (x - y) west)
+beside low high middle x y west east e far few = grind (arith, nat_tests)
 
 -- a row with these counts tells which of its blocks lie above
 module _ (grid : Grid) (cone : Cone) (rows dz i : ℕ) (counts : Counts) (counted : CountsRow grid cone rows dz i counts)
@@ -86,12 +83,5 @@ module _ (grid : Grid) (cone : Cone) (rows dz i : ℕ) (counts : Counts) (counte
       → is_in_row (place_code low) row (place_code high) ≡ is_above grid cone low high
   row_told row first past =
       (λ j. nat_le (place_code low + first j) (place_code high) && nat_lt (place_code high) (place_code low + past j))
-      ∙ by (nat_lt low.x high.x) refl ∙ sym side_is
-    where
-      by : (b : Bool) → nat_lt low.x high.x ≡ b
-          → (nat_le (place_code low + (center rows dz i + 1 - counts.west)) (place_code high)
-          && nat_lt (place_code high) (place_code low + (center rows dz i + max counts.east 1))) ≡ on_side b
-      by true e = beside_east (place_code low) (place_code high) (center rows dz i) low.x high.x counts.west counts.east apart_is
-          (ltb-true low.x high.x e) far counted.few_west
-      by false e = beside_west (place_code low) (place_code high) (center rows dz i) low.x high.x counts.west counts.east apart_is
-          (ltb-false low.x high.x e) far counted.few_west
+      ∙ beside (place_code low) (place_code high) (center rows dz i) low.x high.x counts.west counts.east apart_is far counted.few_west
+      ∙ sym side_is

@@ -1,5 +1,5 @@
 -- What stands behind the laws of predecessors.
-use Rattle.std.proofs.Common.{◌≡◌, ℕ, ◌+◌, ◌-◌, ◌*◌, ◌<◌, ◌≤◌, ◌==◌, ◌&&◌, Bool, true, false, List, [], ◌∷◌, Option, Some, None, All, Contains, filter, length, map, get_or, slice_get, nat_lt, nat_le, refl, sym, ap, subst, ◌∙◌, arith, ⊎_elim, if◌then◌else◌}
+use Rattle.std.proofs.Common.{◌≡◌, ℕ, ◌+◌, ◌-◌, ◌*◌, ◌<◌, ◌≤◌, ◌==◌, ◌&&◌, Bool, true, false, List, [], ◌∷◌, Option, Some, None, All, Contains, filter, length, map, get_or, slice_get, nat_lt, nat_le, refl, sym, ap, ◌∙◌, arith, ⊎_elim, if◌then◌else◌}
 use Rattle.std.specs.Int.{abs_diff}
 use Rattle.std.specs.List.{range_with_len, list_any}
 use Rattle.std.specs.List.Sorted.{IsStrictlyIncreasing}
@@ -121,14 +121,12 @@ module _ (plan : PlanParts) (blocks : List Block) (i : ℕ) (d : Block) (lt : i 
 
   pub lie_higher : All (λ k. (k < length blocks) × (low.z < (get_or blocks k d).z)) (get_or (preds plan blocks) i [])
   lie_higher = All-same (λ k. (k < length blocks) × (low.z < (get_or blocks k d).z)) _ _ list_is (λ k e within. (
-      All-filter passes (λ k. k < length blocks) (range_with_len 0 (length blocks)) (range_below (length blocks)) k e within,
-      higher (slice_get plan.cones low.zone) _ (filter_passes passes (range_with_len 0 (length blocks)) k e within),
+    All-filter passes (λ k. k < length blocks) (range_with_len 0 (length blocks)) (range_below (length blocks)) k e within,
+    higher (slice_get plan.cones low.zone) _ (filter_passes passes (range_with_len 0 (length blocks)) k e within),
   ))
 
   rise_at : IsStrictlyIncreasing (get_or (preds plan blocks) i [])
-  rise_at =
-      let P : List ℕ → Type 0 = IsStrictlyIncreasing in
-      subst P (sym list_is) (IsStrictlyIncreasing-filter passes _ (range_rises 0 (length blocks)))
+  rise_at = rw list_is (IsStrictlyIncreasing-filter passes (range_with_len 0 (length blocks)) (range_rises 0 (length blocks)))
 
 pub lies_higher : (plan : PlanParts) (blocks : List Block) (i k : ℕ) (d : Block) → i < length blocks
     → Contains (get_or (preds plan blocks) i []) k → (k < length blocks) × ((get_or blocks i d).z < (get_or blocks k d).z)

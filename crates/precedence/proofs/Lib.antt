@@ -1,10 +1,7 @@
 pub mod AllLists
-pub mod Counts
-pub mod FoundFacts
 pub mod Geometry
 pub mod Identifiers
 pub mod Order
-pub mod OrderFacts
 pub mod Pieces
 pub mod PlacesWhere
 pub mod RunsOfRows
@@ -12,5 +9,4 @@ pub mod SeenPlaces
 pub mod Reaches
 pub mod Starts
 pub mod Tables
-pub mod ZoneFacts
 pub mod LawFacts

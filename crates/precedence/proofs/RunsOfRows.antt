@@ -17,12 +17,11 @@ use Rattle.precedence.proofs.Starts.{from_start, no_less, start_before_in, start
 
 -- ---- parts of 0, 1, 2, ..
 
-pub range_more : (a n : ℕ) → range_with_len a (n + 1) ≡ range_with_len a n ++ (a + n) ∷ []
-range_more a zero = ap (λ k. k ∷ []) (omega arith)
-range_more a (suc n) =
+pub range_more : (a n k : ℕ) → a + n ≡ k → range_with_len a (n + 1) ≡ range_with_len a n ++ k ∷ []
+range_more a zero k is = ap (λ k. k ∷ []) (omega arith)
+range_more a (suc n) k is =
     let more : suc n + 1 ≡ suc (n + 1) = omega arith in
-    let last : (a + 1) + n ≡ a + suc n = omega arith in
-    ap (range_with_len a) more ∙ ap (λ xs. a ∷ xs) (range_more (a + 1) n ∙ ap (λ k. range_with_len (a + 1) n ++ k ∷ []) last)
+    ap (range_with_len a) more ∙ ap (λ xs. a ∷ xs) (range_more (a + 1) n k (omega arith))
 
 pub part_of_range : (n first past : ℕ) → first ≤ past → past ≤ n
     → take (past - first) (drop first (range_with_len 0 n)) ≡ range_with_len first (past - first)

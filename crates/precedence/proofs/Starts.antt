@@ -1,10 +1,11 @@
 -- Where numbers from a target on begin in a rising list.
-use Rattle.std.proofs.Common.{◌≡◌, ℕ, suc, ◌+◌, ◌<◌, ◌≤◌, List, [], ◌∷◌, length, get_or, nat_lt, refl, ap, arith, ⊎_elim, if◌then◌else◌}
+use Rattle.std.proofs.Common.{◌≡◌, ℕ, zero, suc, ◌+◌, ◌<◌, ◌≤◌, Bool, List, [], ◌∷◌, length, take, get_or, min, nat_lt, count_by, refl, sym, ap, ◌∙◌, arith, ⊎_elim, if◌then◌else◌}
 use Rattle.std.specs.List.{prefix_len}
 use Rattle.std.specs.List.Sorted.{IsStrictlyIncreasing}
-use Rattle.std.proofs.lemmas.Bool.{cases_lt, ltb-true, ltb-false}
+use Rattle.std.proofs.lemmas.Bool.{cases_lt, lt-ltb, le-ltb, ltb-true, ltb-false}
+use Rattle.std.proofs.lemmas.List.{take_all}
 use Rattle.std.proofs.lemmas.List.Kept.{AllPairs-from_increasing}
-use Rattle.std.proofs.lemmas.List.Sums.{prefix_len-le-length, prefix_len_passes, prefix_len_stops}
+use Rattle.std.proofs.lemmas.List.Sums.{count_by_more_no, count_by_more_yes, prefix_len-le-length, prefix_len_passes, prefix_len_stops}
 use Rattle.precedence.specs.inner.Rows.{start_of}
 
 -- a later number is not less
@@ -53,5 +54,29 @@ start_grows t u cs rising le = ⊎_elim
     (λ no. no)
     (cases_lt (start_of u cs) (start_of t cs))
 
+-- in a rising list k numbers are below the k-th
+pub count_below : (xs : List ℕ) (k : ℕ) → IsStrictlyIncreasing xs → k < length xs → count_by (λ c. nat_lt c (get_or xs k 0)) xs ≡ k
+count_below xs k rising within =
+    ap (count_by below) (sym (take_all (length xs) xs (omega arith))) ∙ (let all = so_far (length xs) (omega arith) in omega arith)
+  where
+    below : ℕ → Bool
+    below c = nat_lt c (get_or xs k 0)
+
+    so_far : (i : ℕ) → i ≤ length xs → count_by below (take i xs) ≡ min i k
+    so_far zero le = omega arith
+    so_far (suc i) le =
+        let more : suc i ≡ i + 1 = omega arith in
+        let one = ap (λ n. count_by below (take n xs)) more in
+        let before = so_far i (omega arith) in
+        ⊎_elim
+        (λ first.
+        let yes = lt-ltb _ _ (AllPairs-from_increasing xs rising i k 0 first within) in
+        omega (arith, one, before, count_by_more_yes below xs i 0 (omega arith) yes))
+        (λ later.
+        let no = le-ltb _ _ (no_less xs k i rising later (omega arith)) in
+        omega (arith, one, before, count_by_more_no below xs i 0 (omega arith) no))
+        (cases_lt i k)
+
 pub ruleset starts = (start_after, start_before, start_within)
+
 pub ruleset runs = (start_grows, start_within)

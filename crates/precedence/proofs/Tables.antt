@@ -1,7 +1,7 @@
 -- Row by row and bench by bench, the rows of a cone tell which block lies above which.
-use Rattle.std.proofs.Common.{◌≡◌, ℕ, ◌+◌, ◌-◌, ◌*◌, ◌<◌, ◌≤◌, ◌&&◌, ◌||◌, true, false, List, [], ◌∷◌, ◌++◌, nat_lt, nat_le, max, min, sym, ap, ◌∙◌, arith, ⊎_elim}
+use Rattle.std.proofs.Common.{◌≡◌, ℕ, ◌+◌, ◌-◌, ◌*◌, ◌<◌, ◌≤◌, ◌&&◌, ◌||◌, Bool, true, false, List, [], ◌∷◌, ◌++◌, nat_lt, nat_le, max, min, refl, sym, ap, ◌∙◌, arith, ⊎_elim}
 use Rattle.std.proofs.Math.Bool.{and-false, or-false, or_assoc}
-use Rattle.std.proofs.lemmas.Bool.{and_left, cases_lt, cases_Bool, lt-ltb, le-ltb, ltb-true, leb-true, lt-leb, and_parts}
+use Rattle.std.proofs.lemmas.Bool.{cases_lt, lt-ltb, le-ltb, ltb-true, leb-true, and_parts}
 use Rattle.std.proofs.lemmas.Bool.Decides.{nat_tests}
 use Rattle.pit_parts.specs.declared.block.Block.{Block}
 use Rattle.pit_parts.specs.declared.cone.Cone.{Cone}
@@ -40,97 +40,55 @@ module _ (extent : Extent) (low high : Block) (near : IsWithin extent low high) 
   at_row : (dz i : ℕ) → 1 ≤ dz → i ≤ 2 * extent.rows → place_code low + edge extent.rows dz i ≤ place_code high
       → place_code high < place_code low + edge extent.rows dz (i + 1) → IsAt extent.rows dz i low high
   at_row dz i up within above below =
-      let lx = low.x_in_grid in
-      let ly = low.y_in_grid in
-      let hx = high.x_in_grid in
-      let hy = high.y_in_grid in
-      let few = extent.few_rows in
-      let apart = near.rows in
       let bench : high.z ≡ low.z + dz = omega arith in
       record { bench = bench; row = omega arith }
 
   -- between the last row of a bench and the next bench lies none
   between_benches : (dz : ℕ) → nat_lt (place_code high) (place_code low + edge extent.rows dz (2 * extent.rows + 1))
       ≡ nat_lt (place_code high) (place_code low + edge extent.rows (dz + 1) 0)
-  between_benches dz =
-      let lx = low.x_in_grid in
-      let ly = low.y_in_grid in
-      let hx = high.x_in_grid in
-      let hy = high.y_in_grid in
-      let few = extent.few_rows in
-      let apart = near.rows in
-      grind (arith, nat_tests)
+  between_benches dz = grind (arith, nat_tests)
 
   -- a block on a higher bench lies past the first edge
   past_first : low.z < high.z → place_code low + edge extent.rows 1 0 ≤ place_code high
-  past_first lt =
-      let lx = low.x_in_grid in
-      let ly = low.y_in_grid in
-      let hx = high.x_in_grid in
-      let hy = high.y_in_grid in
-      let few = extent.few_rows in
-      let apart = near.rows in
-      omega arith
+  past_first lt = omega arith
 
   -- a block at most `top` benches higher lies before the edge after them
   before_last : (top : ℕ) → high.z ≤ low.z + top → place_code high < place_code low + edge extent.rows (top + 1) 0
-  before_last top le =
-      let lx = low.x_in_grid in
-      let ly = low.y_in_grid in
-      let hx = high.x_in_grid in
-      let hy = high.y_in_grid in
-      let few = extent.few_rows in
-      let apart = near.rows in
-      omega arith
+  before_last top le = omega arith
 
 -- ---- one more row
+
+-- a row between two edges adds what it tells of the codes between them
+between : (high low edge next first past : ℕ) (above : Bool) → edge ≤ first → past ≤ next → first ≤ past
+    → (low + edge ≤ high → high < low + next → (nat_le (low + first) high && nat_lt high (low + past)) ≡ above)
+    → ((nat_lt high (low + edge) && above) || (nat_le (low + first) high && nat_lt high (low + past))) ≡ (nat_lt high (low + next) && above)
+between high low edge next first past above begin end order told = ⊎_elim
+    (λ before. grind (arith, nat_tests, or-false))
+    (λ after. ⊎_elim
+    (λ inside. let told_here = told after inside in grind (arith, nat_tests))
+    (λ beyond. grind (arith, nat_tests, and-false))
+    (cases_lt high (low + next)))
+    (cases_lt high (low + edge))
 
 module _ (grid : Grid) (cone : Cone) (extent : Extent) (dz i : ℕ) (up : 1 ≤ dz) (within : dz ≤ cone.k) (inside : i ≤ 2 * extent.rows)
     (counts : Counts) (counted : CountsRow grid cone extent.rows dz i counts)
     (row : Row) (first : row.first ≡ center extent.rows dz i + 1 - counts.west)
     (past : row.past ≡ center extent.rows dz i + max counts.east 1) where
   after_edge : edge extent.rows dz i ≤ row.first
-  after_edge =
-      let few = extent.few_rows in
-      let west = counted.few_west in
-      omega arith
+  after_edge = omega arith
 
   before_edge : row.past ≤ edge extent.rows dz (i + 1)
-  before_edge =
-      let few = extent.few_rows in
-      let east = counted.few_east in
-      omega arith
+  before_edge = omega arith
 
   -- the row tells of the blocks between its edges
   row_adds : (low high : Block) → IsWithin extent low high
       → ((nat_lt (place_code high) (place_code low + edge extent.rows dz i) && is_above grid cone low high) || is_in_row (place_code low) row (place_code high))
       ≡ (nat_lt (place_code high) (place_code low + edge extent.rows dz (i + 1)) && is_above grid cone low high)
-  row_adds low high near = ⊎_elim
-      (λ before.
-      let yes : nat_lt (place_code high) (place_code low + edge extent.rows dz i) ≡ true = lt-ltb _ _ before in
-      let yes_too : nat_lt (place_code high) (place_code low + edge extent.rows dz (i + 1)) ≡ true =
-      lt-ltb _ _ (omega (arith, after_edge, before_edge, row.in_order)) in
-      let out : nat_le (place_code low + row.first) (place_code high) ≡ false = lt-leb _ _ (omega (arith, after_edge)) in
-      (λ j. (yes j && is_above grid cone low high) || (out j && nat_lt (place_code high) (place_code low + row.past)))
-      ∙ or-false (is_above grid cone low high)
-      ∙ (λ j. sym yes_too j && is_above grid cone low high))
-      (λ after. ⊎_elim
-      (λ before.
-      let no : nat_lt (place_code high) (place_code low + edge extent.rows dz i) ≡ false = le-ltb _ _ after in
-      let yes : nat_lt (place_code high) (place_code low + edge extent.rows dz (i + 1)) ≡ true = lt-ltb _ _ before in
-      let at = at_row extent low high near dz i up inside after before in
-      let told = row_told grid cone extent.rows dz i counts counted low high up within extent.few_rows at row first past in
-      (λ j. (no j && is_above grid cone low high) || told j)
-      ∙ (λ j. sym yes j && is_above grid cone low high))
-      (λ later.
-      let no : nat_lt (place_code high) (place_code low + edge extent.rows dz i) ≡ false = le-ltb _ _ after in
-      let no_too : nat_lt (place_code high) (place_code low + edge extent.rows dz (i + 1)) ≡ false = le-ltb _ _ later in
-      let out : nat_lt (place_code high) (place_code low + row.past) ≡ false = le-ltb _ _ (omega (arith, before_edge)) in
-      (λ j. (no j && is_above grid cone low high) || (nat_le (place_code low + row.first) (place_code high) && out j))
-      ∙ and-false (nat_le (place_code low + row.first) (place_code high))
-      ∙ (λ j. sym no_too j && is_above grid cone low high))
-      (cases_lt (place_code high) (place_code low + edge extent.rows dz (i + 1))))
-      (cases_lt (place_code high) (place_code low + edge extent.rows dz i))
+  row_adds low high near =
+      between (place_code high) (place_code low) (edge extent.rows dz i) (edge extent.rows dz (i + 1)) row.first row.past
+      (is_above grid cone low high) after_edge before_edge row.in_order (λ after before.
+      row_told grid cone extent.rows dz i counts counted low high up within extent.few_rows
+      (at_row extent low high near dz i up inside after before) row first past)
 
   pub tells_row : row.first < row.past → (rows : List Row) → Tells grid cone extent (edge extent.rows dz i) rows
       → Tells grid cone extent (edge extent.rows dz (i + 1)) (rows ++ row ∷ [])
@@ -158,27 +116,30 @@ module _ (grid : Grid) (cone : Cone) (extent : Extent) (dz i : ℕ) (up : 1 ≤ 
 
 -- ---- one more bench, and all
 
+-- of two tests, where what passes the second passes the first, or does not
+always : (p q : Bool) → (q ≡ true → p ≡ true) → (p && q) ≡ q
+always true q h = refl
+always false true h = h refl
+always false false h = refl
+
+never : (p q : Bool) → (q ≡ true → p ≡ false) → (p && q) ≡ false
+never true true h = h refl
+never true false h = refl
+never false q h = refl
+
 module _ (grid : Grid) (cone : Cone) (extent : Extent) where
   pub tells_none : Tells grid cone extent (edge extent.rows 1 0) []
   tells_none = record {
     apart = omega arith;
-    told = λ low high near. ⊎_elim
-        (λ higher.
-        let no : nat_lt (place_code high) (place_code low + edge extent.rows 1 0) ≡ false = le-ltb _ _ (past_first extent low high near higher) in
-        (λ j. sym no j && is_above grid cone low high))
-        (λ lower.
-        let no : nat_lt low.z high.z ≡ false = le-ltb low.z high.z lower in
-        let none : is_above grid cone low high ≡ false = and_left _ _ no in
-        sym (ap (λ b. nat_lt (place_code high) (place_code low + edge extent.rows 1 0) && b) none
-        ∙ and-false (nat_lt (place_code high) (place_code low + edge extent.rows 1 0))))
-        (cases_lt low.z high.z);
+    told = λ low high near. sym (never _ _ (λ lies.
+        le-ltb _ _ (past_first extent low high near (ltb-true low.z high.z (and_parts (nat_lt low.z high.z) _ lies).0))));
   }
 
   pub tells_bench : (dz : ℕ) (rows : List Row) → Tells grid cone extent (edge extent.rows dz (2 * extent.rows + 1)) rows
       → Tells grid cone extent (edge extent.rows (dz + 1) 0) rows
   tells_bench dz rows h = record {
     apart = apart_more 0 rows (edge extent.rows dz (2 * extent.rows + 1)) (edge extent.rows (dz + 1) 0) h.apart
-        (let few = extent.few_rows in omega arith);
+        (omega arith);
     told = λ low high near. h.told low high near ∙ ap (λ b. b && is_above grid cone low high) (between_benches extent low high near dz);
   }
 
@@ -196,13 +157,6 @@ module _ (grid : Grid) (cone : Cone) (extent : Extent) where
   is_table top rows e h = record {
     high = edge extent.rows (top + 1) 0;
     apart = h.apart;
-    told = λ low high near. h.told low high near ∙ ⊎_elim
-        (λ above.
-        let before : nat_lt (place_code high) (place_code low + edge extent.rows (top + 1) 0) ≡ true =
-        lt-ltb _ _ (before_last extent low high near top (omega (arith, high_enough low high near above))) in
-        (λ j. before j && is_above grid cone low high))
-        (λ no.
-        ap (λ b. nat_lt (place_code high) (place_code low + edge extent.rows (top + 1) 0) && b) no
-        ∙ and-false (nat_lt (place_code high) (place_code low + edge extent.rows (top + 1) 0)) ∙ sym no)
-        (cases_Bool (is_above grid cone low high));
+    told = λ low high near. h.told low high near ∙ always _ _ (λ lies.
+        lt-ltb _ _ (before_last extent low high near top (omega (arith, high_enough low high near lies))));
   }

@@ -66,7 +66,7 @@ impl FoundPreds {
     }
 
     /// All lists, kept. Fails only where memory is refused.
-    #[tactic(auto, using(crate::proofs::FoundFacts::found_length))]
+    #[tactic(auto, using(crate::proofs::AllLists::found_length))]
     pub fn kept(&self, alloc: Global) -> Result<Preds, AllocError>
         ensures { IfOk result (λ lists. lists ≡ self.now) }
     {
@@ -84,12 +84,12 @@ impl FoundPreds {
 impl PredLists for FoundPreds {
     ghost lists = { λ found. found };
 
-    #[tactic(auto, using(crate::proofs::FoundFacts::found_length))]
+    #[tactic(auto, using(crate::proofs::AllLists::found_length))]
     fn count(&self) -> usize {
         self.zones.len()
     }
 
-    #[tactic(auto, using(crate::proofs::FoundFacts::found_length))]
+    #[tactic(auto, using(crate::proofs::AllLists::found_length))]
     fn add_list(&self, list: &mut Vec<u32>, id: u32) -> Result<(), AllocError> {
         let index = id as usize;
         let zone = self.zones[index];

@@ -102,6 +102,7 @@ fn differ(alloc: Global, blocks: &[Block]) -> Result<(), NumberFault>
 }
 
 // Notes a place, and tells where it was seen before.
+#[tactic(auto, using(crate::proofs::SeenPlaces::noted))]
 fn note(seen: &mut Seen, place: u64, position: u32) -> Result<Option<u32>, AllocError>
     ensures before { IfOk result (λ before. before ≡ get nat_eq seen.old place) }
     ensures noted { OnOk result (get nat_eq seen.old place ≡ None

@@ -51,6 +51,7 @@ fn codes_of(alloc: Global, blocks: &[Block]) -> Result<Vec<u64>, AllocError>
     blocks.iter().map(|block| code(block)).collect(alloc)
 }
 
+#[tactic(auto, using(crate::proofs::RunsOfRows::range_more))]
 fn ids_below(alloc: Global, count: u32) -> Result<Vec<u32>, AllocError>
     ensures { IfOk result (λ ids. ids.items ≡ range_with_len 0 count) }
 {

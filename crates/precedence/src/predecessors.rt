@@ -64,6 +64,7 @@ impl Preds {
     }
 
     /// The number of blocks that have a list.
+    #[tactic(auto, using(crate::proofs::Pieces::as_many_pieces))]
     pub fn len(&self) -> usize
         ensures { result ≡ length self.now }
     {
@@ -71,6 +72,7 @@ impl Preds {
     }
 
     /// The number of identifiers in all lists.
+    #[tactic(auto, using(crate::proofs::Pieces::arcs_are))]
     pub fn arcs(&self) -> usize
         ensures { result ≡ sum_by length self.now }
     {
@@ -78,6 +80,7 @@ impl Preds {
     }
 
     /// The list of a block.
+    #[tactic(auto, using(crate::proofs::Pieces::as_many_pieces))]
     pub fn of(&self, id: u32) -> &[u32]
         requires { id < length self.now }
         ensures { slice_get self.now id ≡ Some result.now }
@@ -99,6 +102,7 @@ impl PredLists for Preds {
 }
 
 // The part of `flat` up to the end at `index`.
+#[tactic(auto, using(crate::proofs::Pieces::parts))]
 fn piece<'a>(flat: &'a [u32], ends: &[usize], index: usize) -> &'a [u32]
     requires ends { AreEnds 0 ends.now (length flat.now) }
     requires within { index < length ends.now }
@@ -108,6 +112,7 @@ fn piece<'a>(flat: &'a [u32], ends: &[usize], index: usize) -> &'a [u32]
     part(flat, start, ends[index])
 }
 
+#[tactic(auto, using(crate::proofs::Pieces::start_is))]
 fn start_of_piece(ends: &[usize], index: usize) -> usize
     requires { index < length ends.now }
     ensures { result ≡ start_at 0 ends.now index }

@@ -1,4 +1,4 @@
-use Rattle.precedence.proofs.OrderFacts.{in_order}
+use Rattle.precedence.proofs.Order.{in_order}
 use Rattle.precedence.proofs.laws.identifiers_rise.Goals as goal
 
 pub returns : goal.returns

@@ -14,7 +14,7 @@ returns-in-Some-clause-same c =
     let place : (d : Block) → place_code (get_or listed c.loop-position.position d) ≡ c.code.result =
     λ d. ap place_code (get_or_default listed c.loop-position.position d block c.loop-position-test.true ∙ sym c.index-blocks-position.is)
     ∙ sym c.code.ensures.value in
-    first_again listed _ _ c.code.result block c.loop-position-test.true place
+    first_again listed _ _ c.code.result c.loop-position-test.true place
     (rw (← c.loop-position.invariant.entries) (sym c.in_ok-first.ensures.before ∙ c.in-Some.is))
     (rw (← c.loop-position.invariant.entries) c.loop-position.invariant.unique)
 

@@ -1,4 +1,4 @@
-use Rattle.precedence.proofs.FoundFacts.{found_at}
+use Rattle.precedence.proofs.AllLists.{found_at}
 use Rattle.precedence.proofs.found_preds.FoundPredsPredLists.add_list.Goals as goal
 
 pub returns : goal.returns
