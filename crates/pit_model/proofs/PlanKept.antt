@@ -38,20 +38,7 @@ no_limits : RiseStrictly []
 no_limits i j d before within = absurd (omega arith)
 
 nothing_kept : KeepsStated nothing_stated
-nothing_kept = record {
-  grid = tt;
-  zones = omega arith;
-  cones = All-nil _;
-  destinations = omega arith;
-  formulas = All-nil _;
-  periods = tt;
-  rate = tt;
-  resources = omega arith;
-  covers = All-nil _;
-  covers_once = All-nil _;
-  limits = All-nil _;
-  rising = no_limits;
-}
+nothing_kept = search (arith, All-nil, no_limits)
 
 -- there is room for one more
 room : {A : Type 0} (xs : List A) (x : A) (most : ℕ) → length xs ≤ most → not (length xs == most) ≡ true → length (xs ++ x ∷ []) ≤ most
@@ -93,39 +80,17 @@ cone_kept false values fit = (
 -- one zone more, in range
 pub zone_kept : (s : Stated) (cone : Cone) → KeepsStated s → length (s.cones ++ cone ∷ []) ≤ MAX_ZONES → IsCone cone
     → KeepsStated (with_zone s cone)
-zone_kept s cone kept few in_range = record {
-  grid = kept.grid;
-  zones = few;
-  cones = All-push IsCone s.cones cone kept.cones in_range;
-  destinations = kept.destinations;
-  formulas = kept.formulas;
-  periods = kept.periods;
-  rate = kept.rate;
-  resources = kept.resources;
-  covers = kept.covers;
-  covers_once = kept.covers_once;
-  limits = kept.limits;
-  rising = kept.rising;
-}
+zone_kept s cone kept few in_range = search (All-push IsCone s.cones cone kept.cones in_range)
 
 -- one limit more, in its place, on a resource and a period that are there
 pub limit_kept : (s : Stated) (l : Limit) → KeepsStated s → l.resource < length s.resources → l.period < unwrap_or s.periods 0
     → IsBound l.bound → list_any (λ m. is_same_place l m) s.limits ≡ false → KeepsStated (record s { limits = with_limit l s.limits })
-limit_kept s l kept there early bound none = record {
-  grid = kept.grid;
-  zones = kept.zones;
-  cones = kept.cones;
-  destinations = kept.destinations;
-  formulas = kept.formulas;
-  periods = kept.periods;
-  rate = kept.rate;
-  resources = kept.resources;
-  covers = kept.covers;
-  covers_once = kept.covers_once;
-  limits = All-with_limit (λ m. (m.resource < length s.resources) × (m.period < unwrap_or s.periods 0) × IsBound m.bound) l s.limits
-      (there, early, bound) kept.limits;
-  rising = rises l s.limits kept.rising none;
-}
+limit_kept s l kept there early bound none =
+    search (
+      All-with_limit (λ m. (m.resource < length s.resources) × (m.period < unwrap_or s.periods 0) × IsBound m.bound) l s.limits
+          (there, early, bound) kept.limits,
+      rises l s.limits kept.rising none,
+    )
 
 -- one destination more, its numbers in range
 destination_kept : (s : Stated) (name : List ℕ) (formula : Formula) → KeepsStated s → IsRuled formula
@@ -134,23 +99,14 @@ destination_kept : (s : Stated) (name : List ℕ) (formula : Formula) → KeepsS
 destination_kept s name formula kept ruled free =
     let new : NamedFormula = record { name = name; formula = formula } in
     let more : length (s.formulas ++ new ∷ []) ≡ length s.formulas + 1 = length-append s.formulas (new ∷ []) in
-    record {
-      grid = kept.grid;
-      zones = kept.zones;
-      cones = kept.cones;
-      destinations = room s.formulas new MAX_DESTINATIONS kept.destinations free;
-      formulas = All-push (λ f. IsRuled f.formula) s.formulas new kept.formulas ruled;
-      periods = kept.periods;
-      rate = kept.rate;
-      resources = kept.resources;
-      covers = All-weaker (λ r. All (λ n. n < length s.formulas) r.covers) (λ r. All (λ n. n < length (s.formulas ++ new ∷ [])) r.covers)
+    search (
+      room s.formulas new MAX_DESTINATIONS kept.destinations free,
+      All-push (λ f. IsRuled f.formula) s.formulas new kept.formulas ruled,
+      All-weaker (λ r. All (λ n. n < length s.formulas) r.covers) (λ r. All (λ n. n < length (s.formulas ++ new ∷ [])) r.covers)
           (λ r all. All-weaker (λ n. n < length s.formulas)
           (λ n. n < length (s.formulas ++ new ∷ [])) (λ n small. omega (arith, more)) r.covers all)
-          s.resources kept.covers;
-      covers_once = kept.covers_once;
-      limits = kept.limits;
-      rising = kept.rising;
-    }
+          s.resources kept.covers,
+    )
 
 -- the number of what is named is that of one there
 number_there : {A : Type 0} (test : A → Bool) (xs : List A) → is_some (position test xs) ≡ true → unwrap_or (position test xs) 0 < length xs
@@ -206,34 +162,8 @@ Kept s k cells =
 
 key_kept : (s : Stated) (k : Option PlanKey) (cells : List (List ℕ)) → KeepsStated s → Kept s k cells
 key_kept s None cells kept values fit holds = kept
-key_kept s (Some key.Name) cells kept values fit holds = record {
-  grid = kept.grid;
-  zones = kept.zones;
-  cones = kept.cones;
-  destinations = kept.destinations;
-  formulas = kept.formulas;
-  periods = kept.periods;
-  rate = kept.rate;
-  resources = kept.resources;
-  covers = kept.covers;
-  covers_once = kept.covers_once;
-  limits = kept.limits;
-  rising = kept.rising;
-}
-key_kept s (Some key.Grid) cells kept values fit holds = record {
-  grid = grid_kept values fit;
-  zones = kept.zones;
-  cones = kept.cones;
-  destinations = kept.destinations;
-  formulas = kept.formulas;
-  periods = kept.periods;
-  rate = kept.rate;
-  resources = kept.resources;
-  covers = kept.covers;
-  covers_once = kept.covers_once;
-  limits = kept.limits;
-  rising = kept.rising;
-}
+key_kept s (Some key.Name) cells kept values fit holds = search
+key_kept s (Some key.Grid) cells kept values fit holds = search (grid_kept values fit)
 key_kept s (Some key.Zone) cells kept values fit holds =
     let cone = cone_of (length cells == 4) values in
     zone_kept s cone kept (room s.cones cone MAX_ZONES kept.zones (held TooMany (not (length s.cones == MAX_ZONES)) [] holds).0)
@@ -246,40 +176,17 @@ key_kept s (Some (key.Destination k)) cells kept values fit holds =
 key_kept s (Some key.Periods) cells kept values fit holds =
     let none : s.periods ≡ None = not_some s.periods (held Twice (not (is_some s.periods)) [] holds).0 in
     let n = whole_at values 0 in
-    record {
-      grid = kept.grid;
-      zones = kept.zones;
-      cones = kept.cones;
-      destinations = kept.destinations;
-      formulas = kept.formulas;
-      periods = between_fits 1 100 _ (fits_at (a_period_count ∷ []) values 0 fit);
-      rate = kept.rate;
-      resources = kept.resources;
-      covers = kept.covers;
-      covers_once = kept.covers_once;
-      limits = All-weaker (λ l. (l.resource < length s.resources) × (l.period < unwrap_or s.periods 0) × IsBound l.bound)
+    search (
+      between_fits 1 100 _ (fits_at (a_period_count ∷ []) values 0 fit),
+      All-weaker (λ l. (l.resource < length s.resources) × (l.period < unwrap_or s.periods 0) × IsBound l.bound)
           (λ l. (l.resource < length s.resources) × (l.period < n) × IsBound l.bound)
-          (λ l h. let small : l.period < unwrap_or s.periods 0 = h.1 in absurd (omega (arith, rw none at small))) s.limits kept.limits;
-      rising = kept.rising;
-    }
+          (λ l h. let small : l.period < unwrap_or s.periods 0 = h.1 in absurd (omega (arith, rw none at small))) s.limits kept.limits,
+    )
   where
     not_some : (o : Option ℕ) → not (is_some o) ≡ true → o ≡ None
     not_some None e = refl
     not_some (Some n) e = absurd cc
-key_kept s (Some key.Rate) cells kept values fit holds = record {
-  grid = kept.grid;
-  zones = kept.zones;
-  cones = kept.cones;
-  destinations = kept.destinations;
-  formulas = kept.formulas;
-  periods = kept.periods;
-  rate = range_fits 6 (pos 0) (pos (10 ^ 6)) _ (fits_at (a_rate ∷ []) values 0 fit);
-  resources = kept.resources;
-  covers = kept.covers;
-  covers_once = kept.covers_once;
-  limits = kept.limits;
-  rising = kept.rising;
-}
+key_kept s (Some key.Rate) cells kept values fit holds = search (range_fits 6 (pos 0) (pos (10 ^ 6)) _ (fits_at (a_rate ∷ []) values 0 fit))
 key_kept s (Some key.Resource) cells kept values fit holds =
     let new : Resource = record { name = word_at values 0; covers = covers_of s.formulas (drop 1 values) } in
     let behind = fits_behind 1 (resource_form s cells) values fit in
@@ -287,26 +194,18 @@ key_kept s (Some key.Resource) cells kept values fit holds =
     held Twice _ (check Twice (not (has_repeat new.covers)) ++ check TooMany (not (length s.resources == MAX_RESOURCES))) holds in
     let once = held Twice (not (has_repeat new.covers)) (check TooMany (not (length s.resources == MAX_RESOURCES))) apart.1 in
     let more : length (s.resources ++ new ∷ []) ≡ length s.resources + 1 = length-append s.resources (new ∷ []) in
-    record {
-      grid = kept.grid;
-      zones = kept.zones;
-      cones = kept.cones;
-      destinations = kept.destinations;
-      formulas = kept.formulas;
-      periods = kept.periods;
-      rate = kept.rate;
-      resources = room s.resources new MAX_RESOURCES kept.resources (held TooMany (not (length s.resources == MAX_RESOURCES)) [] once.1).0;
-      covers = All-push (λ r. All (λ n. n < length s.formulas) r.covers) s.resources new kept.covers
-          (covers_kept s (suc (length cells - 3)) (drop 1 values) behind);
-      covers_once = All-push (λ r. AreCovers r.covers) s.resources new kept.covers_once (
+    search (
+      room s.resources new MAX_RESOURCES kept.resources (held TooMany (not (length s.resources == MAX_RESOURCES)) [] once.1).0,
+      All-push (λ r. All (λ n. n < length s.formulas) r.covers) s.resources new kept.covers
+          (covers_kept s (suc (length cells - 3)) (drop 1 values) behind),
+      All-push (λ r. AreCovers r.covers) s.resources new kept.covers_once (
         some_covers s (a_destination s.formulas) (replicate (length cells - 3) (a_destination s.formulas)) (drop 1 values) behind,
         not_true (has_repeat new.covers) once.0,
-      );
-      limits = All-weaker (λ l. (l.resource < length s.resources) × (l.period < unwrap_or s.periods 0) × IsBound l.bound)
+      ),
+      All-weaker (λ l. (l.resource < length s.resources) × (l.period < unwrap_or s.periods 0) × IsBound l.bound)
           (λ l. (l.resource < length (s.resources ++ new ∷ [])) × (l.period < unwrap_or s.periods 0) × IsBound l.bound)
-          (λ l h. (omega (arith, more, h.0), h.1, h.2)) s.limits kept.limits;
-      rising = kept.rising;
-    }
+          (λ l h. (omega (arith, more, h.0), h.1, h.2)) s.limits kept.limits,
+    )
 key_kept s (Some key.Limit) cells kept values fit holds =
     let form = limit_form s cells in
     let new = limit_of s cells values in
