@@ -1,5 +1,5 @@
 -- The forms of a plan's records are fine.
-use Rattle.std.specs.Prelude.{◌≡◌, ℕ, zero, suc, ◌==◌, Bool, true, false, List, length, replicate, ◌-◌, Option, Some, None, if◌then◌else◌}
+use Rattle.std.specs.Prelude.{◌≡◌, ℕ, zero, suc, ◌==◌, Bool, true, false, List, length, replicate, ◌-◌, Option, Some, if◌then◌else◌}
 use Rattle.std.proofs.Common.{refl}
 use Rattle.forms.specs.Words.{is_fine, HasFineForms}
 use Rattle.records.specs.RecordCells.{cell_at, cells_of}
@@ -23,15 +23,11 @@ bound_fine true = refl
 bound_fine false = refl
 
 key_fine : (s : Stated) (k : Option PlanKey) (cells : List (List ℕ)) → is_fine (key_shape s k cells).form ≡ true
-key_fine s None cells = refl
-key_fine s (Some key.Name) cells = refl
-key_fine s (Some key.Grid) cells = refl
 key_fine s (Some key.Zone) cells = zone_fine (length cells == 4)
 key_fine s (Some (key.Destination k)) cells = formula_fine k cells
-key_fine s (Some key.Periods) cells = refl
-key_fine s (Some key.Rate) cells = refl
 key_fine s (Some key.Resource) cells = each_fine s (length cells - 3)
 key_fine s (Some key.Limit) cells = bound_fine _
+key_fine s k cells = refl
 
 pub record_fine : (s : Stated) (cells : List (List ℕ)) → is_fine (record_shape s cells).form ≡ true
 record_fine s cells = by (length cells == 0)

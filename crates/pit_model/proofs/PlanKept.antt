@@ -1,6 +1,7 @@
 -- What the records of a plan state is in range.
 use Rattle.std.specs.Prelude.{◌≡◌, ℕ, suc, ◌+◌, ◌^◌, ◌<◌, ◌≤◌, ◌==◌, Bool, true, false, not, nat_le, List, [], ◌∷◌, ◌++◌, length, drop, replicate, zero, ◌-◌, position, All, pos, Option, Some, None, is_some, unwrap_or, if◌then◌else◌, Result, Ok, Err, ℤ, codes, ◌||◌}
-use Rattle.std.proofs.Common.{refl, sym, subst, arith, eq-eqb, length-append}
+use Rattle.std.proofs.Common.{refl, sym, subst, arith, length-append}
+use Rattle.std.proofs.lemmas.Bool.{eqb-false, not-true}
 use Rattle.std.proofs.lemmas.List.Elements.{All-nil, All-cons, All-push, All-weaker}
 use Rattle.std.proofs.lemmas.List.Quantifiers.{position-Some}
 use Rattle.std.specs.List.{list_any}
@@ -42,17 +43,7 @@ nothing_kept = search (arith, All-nil, no_limits)
 
 -- there is room for one more
 room : {A : Type 0} (xs : List A) (x : A) (most : ℕ) → length xs ≤ most → not (length xs == most) ≡ true → length (xs ++ x ∷ []) ≤ most
-room xs x most within e = by (length xs == most) refl e
-  where
-    by : (t : Bool) → (length xs == most) ≡ t → not t ≡ true → length (xs ++ x ∷ []) ≤ most
-    by true is e = absurd cc
-    by false is e =
-        let other : ¬ (length xs ≡ most) = λ same. absurd (cc (is, eq-eqb (length xs) most same)) in
-        omega (arith, length-append xs (x ∷ []), other)
-
-not_true : (t : Bool) → not t ≡ true → t ≡ false
-not_true true e = absurd cc
-not_true false e = refl
+room xs x most within e = omega (arith, length-append xs (x ∷ []), eqb-false (length xs) most (not-true _ e))
 
 grid_kept : (values : List Value) → Fit grid_form values → IsGrid (grid_of values)
 grid_kept values fit =
@@ -200,7 +191,7 @@ key_kept s (Some key.Resource) cells kept values fit holds =
           (covers_kept s (suc (length cells - 3)) (drop 1 values) behind),
       All-push (λ r. AreCovers r.covers) s.resources new kept.covers_once (
         some_covers s (a_destination s.formulas) (replicate (length cells - 3) (a_destination s.formulas)) (drop 1 values) behind,
-        not_true (has_repeat new.covers) once.0,
+        not-true (has_repeat new.covers) once.0,
       ),
       All-weaker (λ l. (l.resource < length s.resources) × (l.period < unwrap_or s.periods 0) × IsBound l.bound)
           (λ l. (l.resource < length (s.resources ++ new ∷ [])) × (l.period < unwrap_or s.periods 0) × IsBound l.bound)
@@ -216,8 +207,8 @@ key_kept s (Some key.Limit) cells kept values fit holds =
     let straight = held Order (not (is_turned new.bound)) [] alone.1 in
     limit_kept s new kept there early (record {
       tonnes = bound_kept (is_interval cells) (drop 2 values) (fits_behind 2 form values fit);
-      straight = not_true (is_turned new.bound) straight.0;
-    }) (not_true (list_any (λ m. is_same_place new m) s.limits) alone.0)
+      straight = not-true (is_turned new.bound) straight.0;
+    }) (not-true (list_any (λ m. is_same_place new m) s.limits) alone.0)
 
 -- a record
 record_kept : (s next : Stated) (cells : List (List ℕ)) → KeepsStated s → States (record_shape s cells) next → KeepsStated next
@@ -270,20 +261,8 @@ whole_kept s (Some name) (Some grid) (Some periods) (Some rate) p kept g n r e =
     by false c true d e = absurd cc
     by false c false d e =
         let same : plan_of name grid s.cones s.formulas periods rate s.resources s.limits ≡ p = cc in
-        subst IsPlan same (record {
-          grid = rw g at kept.grid;
-          zones = (some s.cones c, kept.zones);
-          cones = kept.cones;
-          destinations = (some s.formulas d, kept.destinations);
-          formulas = kept.formulas;
-          periods = rw n at kept.periods;
-          rate = rw r at kept.rate;
-          resources = kept.resources;
-          covers = kept.covers;
-          covers_once = kept.covers_once;
-          limits = rw n at kept.limits;
-          rising = kept.rising;
-        })
+        subst IsPlan same
+        (search (some s.cones c, some s.formulas d, rw g at kept.grid, rw n at kept.periods, rw r at kept.rate, rw n at kept.limits))
 whole_kept s None grid periods rate p kept g n r e = absurd cc
 whole_kept s (Some name) None periods rate p kept g n r e = absurd cc
 whole_kept s (Some name) (Some grid) None rate p kept g n r e = absurd cc
