@@ -4,9 +4,9 @@ use Rattle.std.specs.Prelude.{IsTrue}
 use Rattle.std.specs.List.{list_any, insert, position, position_or_len}
 use Rattle.std.proofs.lemmas.Bool.Decides.{nat_tests}
 use Rattle.std.proofs.Math.Numerals.{one-add}
-use Rattle.std.proofs.lemmas.List.Elements.{All-nil, All-cons, All-head, All-tail, All-weaker}
+use Rattle.std.proofs.lemmas.List.Elements.{All-nil, All-cons, All-weaker}
 use Rattle.std.proofs.lemmas.List.Kept.{AllPairs-cons}
-use Rattle.std.proofs.lemmas.List.Sorted.{IsPermutation-insert}
+use Rattle.std.proofs.lemmas.List.Sorted.{All-permutation, IsPermutation-insert}
 use Rattle.std.specs.List.Sorted.{IsPermutation}
 use Rattle.std.proofs.lemmas.List.Sums.{prefix_len-le-length}
 use Rattle.std.proofs.lemmas.Bool.{or_parts}
@@ -40,14 +40,13 @@ trans a b c h k = grind (arith, nat_tests)
 after : (l m : Limit) → stands_before l m ≡ false → is_same_place l m ≡ false → stands_before m l ≡ true
 after l m h k = grind (arith, nat_tests)
 
+-- no limit is lost, so what holds of it and of the others holds of all
+pub with_limit_keeps : (l : Limit) (ms : List Limit) → IsPermutation (l ∷ ms) (with_limit l ms)
+with_limit_keeps l ms =
+    subst (IsPermutation (l ∷ ms)) (inserted l ms) (IsPermutation-insert ms (position_or_len (λ m. stands_before l m) ms) l)
+
 pub All-with_limit : (P : Limit → Type 0) (l : Limit) (ms : List Limit) → P l → All P ms → All P (with_limit l ms)
-All-with_limit P l [] here all = All-cons P l [] here all
-All-with_limit P l (m ∷ ms) here all =
-    by_test (All-with_limit P l ms here (All-tail P m ms all)) (stands_before l m) refl
-  where
-    by_test : All P (with_limit l ms) → (b : Bool) → stands_before l m ≡ b → All P (with_limit l (m ∷ ms))
-    by_test more true e = rw e (All-cons P l (m ∷ ms) here all)
-    by_test more false e = rw e (All-cons P m (with_limit l ms) (All-head P m ms all) more)
+All-with_limit P l ms here all = All-permutation P (l ∷ ms) (with_limit l ms) (with_limit_keeps l ms) (All-cons P l ms here all)
 
 abbrev before : Limit → Limit → Type 0
 before l m = IsTrue (stands_before l m)
@@ -76,7 +75,3 @@ rises l (m ∷ ms) up none =
     by_test more false e =
         rw e (AllPairs-cons before m (with_limit l ms)
         (All-with_limit (λ k. stands_before m k ≡ true) l ms (after l m e others.0) (first_rises m ms up)) more)
-
-pub with_limit_keeps : (l : Limit) (ms : List Limit) → IsPermutation (l ∷ ms) (with_limit l ms)
-with_limit_keeps l ms =
-    subst (IsPermutation (l ∷ ms)) (inserted l ms) (IsPermutation-insert ms (position_or_len (λ m. stands_before l m) ms) l)

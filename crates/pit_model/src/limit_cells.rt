@@ -97,7 +97,6 @@ fn first_after(limits: &[Limit], limit: &Limit) -> Option<usize>
 }
 
 /// Adds a limit in its place. Where memory is refused the limits are as they were.
-#[tactic(auto, using(crate::proofs::Limits::inserted))]
 pub fn insert_limit(limits: &mut Vec<Limit>, limit: Limit) -> Result<(), OrMemory<PlanFaultKind>>
     ensures ok { OnOk result (limits.new.items ≡ with_limit limit limits.old.items) }
     ensures err { IfErr result (λ error. error ≡ OrMemory.OutOfMemory) }
