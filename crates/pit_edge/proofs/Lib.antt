@@ -1,8 +1,7 @@
-mod Again
+pub mod Again
 pub mod Ends
-mod Joined
-mod Lines
-mod Opened
+pub mod Joined
+pub mod Lines
 pub mod Outputs
-mod Uncut
-mod Walk
+pub mod Uncut
+pub mod Walk

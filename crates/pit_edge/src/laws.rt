@@ -3,6 +3,7 @@ ghost use Rattle.std.specs.Prelude.{◌≡◌, [], ◌∷◌, ◌++◌, length, 
 ghost use Rattle.pit_edge.specs.Pieces.{cuts_of, pieces_of, plan_of, zones_of, woven, IsEnded};
 
 /// The input is its plan, and then each cut with the zone file behind it.
+#[tactic(auto, using(crate::proofs::Walk::pieces_first, crate::proofs::Joined::zone_for_each_cut, crate::proofs::Joined::pieces_woven))]
 pub fn pieces_join_to_the_input(input: &[u8])
     ensures first { pieces_of input.now ≡ plan_of input.now ∷ zones_of input.now }
     ensures counted { length (zones_of input.now) ≡ length (cuts_of input.now) }
@@ -10,11 +11,13 @@ pub fn pieces_join_to_the_input(input: &[u8])
 {}
 
 /// No piece has a line that cuts.
+#[tactic(auto, using(crate::proofs::Uncut::pieces_uncut))]
 pub fn pieces_have_no_cut(input: &[u8])
     ensures { All (λ piece. cuts_of piece ≡ []) (pieces_of input.now) }
 {}
 
 /// A text that has no line that cuts is its only piece.
+#[tactic(auto, using(crate::proofs::Again::uncut_whole))]
 pub fn uncut_text_is_the_plan(text: &[u8])
     requires { cuts_of text.now ≡ [] }
     ensures { pieces_of text.now ≡ text.now ∷ [] }

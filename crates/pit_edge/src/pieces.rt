@@ -109,6 +109,7 @@ fn first_piece(text: &[u8]) -> (&[u8], Option<&[u8]>)
 }
 
 // The length of the first line, with the LF that ends it.
+#[tactic(auto, using(crate::proofs::Lines::line_to_feed, crate::proofs::Lines::line_to_end))]
 fn first_line_len(text: &[u8]) -> usize
     requires { 0 < length text.now }
     ensures line { lines_of text.now ≡ take result text.now ∷ lines_of (drop result text.now) }

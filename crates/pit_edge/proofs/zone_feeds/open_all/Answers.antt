@@ -1,12 +1,25 @@
-use Rattle.std.proofs.Common.{◌≡◌, ◌++◌, ◌∷◌, ◌+◌, [], Ok, get_or, refl, rules, string_bytes, subst, sym, take}
+use Rattle.std.proofs.Common.{◌≡◌, ◌<◌, ◌++◌, ◌∷◌, ◌+◌, ◌∙◌, ℕ, List, [], Ok, ap, get_or, length, refl, rules, string_bytes, subst, sym, take}
+use Rattle.std.proofs.lemmas.List.{take_more}
 use Rattle.std.proofs.lemmas.Option.{slice_get_read}
 use Rattle.std.specs.Fn.{FnReturnsAt}
 use Rattle.std.specs.List.{AllZip}
 use Rattle.pit_edge.specs.ZoneFeeds.{zone_fault}
 use Rattle.pit_edge.specs.FaultLine.{EndsWith, line_of}
 use Rattle.pit_edge.proofs.Ends.{line_told}
-use Rattle.pit_edge.proofs.Opened.{zip_more}
 use Rattle.pit_edge.proofs.zone_feeds.open_all.Goals as goal
+
+-- one pair more of lists that are paired element by element
+zip_push : {X Y : Type 0} (R : X → Y → Type 0) (xs : List X) (ys : List Y) (x : X) (y : Y) → AllZip R xs ys → R x y
+    → AllZip R (xs ++ x ∷ []) (ys ++ y ∷ [])
+zip_push R [] [] x y h r = (r, tt)
+zip_push R (a ∷ xs) (b ∷ ys) x y h r = (h.0, zip_push R xs ys x y h.1 r)
+zip_push R _ _ x y h r = absurd h
+
+zip_more : {X Y : Type 0} (R : X → Y → Type 0) (xs : List X) (ys : List Y) (i : ℕ) (x : X) (y : Y) → i < length xs → x ≡ get_or xs i x
+    → AllZip R (take i xs) ys → R x y → AllZip R (take (i + 1) xs) (ys ++ y ∷ [])
+zip_more R xs ys i x y lt is h r =
+    subst (λ l. AllZip R l (ys ++ y ∷ [])) (ap (λ z. take i xs ++ z ∷ []) is ∙ sym (take_more xs i x lt))
+    (zip_push R (take i xs) ys x y h r)
 
 pub loop-file-preserved : goal.loop-file-preserved
 loop-file-preserved g c =
