@@ -83,9 +83,10 @@ pub less_left : (held more : List (List ℕ)) (piece : List ℕ) (rest : Bor (Li
     → more ≡ held ++ piece ∷ []
     → behind ≡ Some rest → IfSome next (λ r. length r.now < length rest.now) → length held + steps_behind behind ≤ size
     → length more + steps_behind next ≤ size
-less_left held more piece rest behind None size push is shorter fit =
-    let before : length held + (1 + length rest.now) ≤ size =
-    rw is at fit in omega (arith, ap length push, length-append held (piece ∷ []), before)
-less_left held more piece rest behind (Some r) size push is shorter fit =
-    let before : length held + (1 + length rest.now) ≤ size =
-    rw is at fit in omega (arith, ap length push, length-append held (piece ∷ []), before, shorter)
+less_left held more piece rest behind next size push is shorter fit =
+    let before : length held + (1 + length rest.now) ≤ size = rw is at fit in
+    omega (arith, ap length push, length-append held (piece ∷ []), before, falls next shorter)
+  where
+    falls : (next : Option (Bor (List ℕ))) → IfSome next (λ r. length r.now < length rest.now) → steps_behind next ≤ length rest.now
+    falls None h = omega arith
+    falls (Some r) h = omega (arith, h)
