@@ -1,5 +1,5 @@
 -- From what clap found in the words to the job that they state, or to none.
-use Rattle.std.proofs.Common.{◌≡◌, ◌∙◌, ◌<◌, List, [], ◌∷◌, Option, Some, None, ap, arith, codes, length, map, option_map, refl, slice_index, string_bytes, subst, sym, unwrap_or}
+use Rattle.std.proofs.Common.{◌≡◌, ◌∙◌, ◌<◌, List, [], ◌∷◌, Option, Some, None, ap, arith, codes, length, map, refl, slice_index, string_bytes, subst, sym, unwrap_or}
 use Rattle.std.proofs.lemmas.List.{length-map}
 use Rattle.clap.specs.Words.{Row, Text, all_of, first_of}
 use Rattle.pit_jobs.specs.CommandLine.{Finds, FindsCompile, FindsSettings}
@@ -61,21 +61,6 @@ no_zone rows none = no_compile rows (λ r. all_of (codes "zone") r ≡ Some []) 
     let same : zones ≡ [] = ap (λ o. unwrap_or o []) (sym found.has_zones ∙ lacks) in
     let bad : 0 < 0 = subst (λ z. 0 < length z) same found.some_zone in
     absurd (omega (arith, bad)))
-
--- a subcommand that is neither states no job
-pub no_job : (found : Option (Text × List Row)) → (option_map (λ p. p.0) found ≡ Some (codes "check") → ⊥)
-    → (option_map (λ p. p.0) found ≡ Some (codes "compile") → ⊥)
-    → (job : Job) → Finds found job → ⊥
-no_job found no_check no_compile (Check base) finds = no_check (ap (option_map (λ (p : Text × List Row). p.0)) finds.is_check)
-no_job found no_check no_compile (Compile plan out settings zones) finds =
-    no_compile (ap (option_map (λ (p : Text × List Row). p.0)) finds.is_compile)
-
--- the name and the rows of the subcommand, each found by itself, are found together
-pub found_together : {A X Y : Type 0} (f : A → X) (g : A → Y) (o : Option A) (x : X) (y : Y) → Some x ≡ option_map f o
-    → Some y ≡ option_map (λ (p : X × Y). p.1) (option_map {U = X × Y} (λ a. (f a, g a)) o)
-    → option_map {U = X × Y} (λ a. (f a, g a)) o ≡ Some (x, y)
-found_together f g None x y is has = absurd (cc)
-found_together f g (Some a) x y is has = cc
 
 -- values that were copied are some where there were some
 pub some_copied : {A B : Type 0} (f : A → Text) (g : B → Text) (xs : List A) (ys : List B) → map f xs ≡ map g ys → 0 < length ys

@@ -1,8 +1,8 @@
-use Rattle.std.proofs.Common.{rules, ◌≡◌, ◌∙◌, ◌<◌, None, Some, ap, codes, length, map, option_map, refl, string_bytes, subst, sym, MatchOption}
+use Rattle.std.proofs.Common.{rules, ◌≡◌, ◌∙◌, ◌<◌, None, Some, ap, codes, length, map, option_map, refl, string_bytes, sym}
+use Rattle.std.proofs.lemmas.Option.{MatchOption-at_none, MatchOption-at_some}
 use Rattle.clap.proofs.WalkLemmas.{first_value-rows, raw_values-rows}
 use Rattle.clap.specs.Words.{first_value, found_of, matched_of, raw_values, rows_of}
 use Rattle.pit_jobs.specs.CommandLine.{FindsSettings}
-use Rattle.pit_parts.specs.declared.settings.Settings.{Settings}
 use Rattle.pit_jobs.proofs.FoundJob.{no_out, no_plan, no_settings, no_zone, no_zones, none_mapped, some_copied}
 use Rattle.pit_jobs.proofs.job.compile_job.Goals as goal
 
@@ -22,8 +22,7 @@ pub returns-in_default-settings_in : goal.returns-in_default-settings_in
 returns-in_default-settings_in c =
     let rows = rows_of (found_of c.args.found.now) in
     let none : c.settings_in.result ≡ None = search rules in
-    no_settings rows (subst (λ o. MatchOption o ((settings : Settings) → FindsSettings rows settings → ⊥) (FindsSettings rows))
-    none c.settings_in.ensures)
+    no_settings rows (MatchOption-at_none _ (FindsSettings rows) none c.settings_in.ensures)
 
 pub returns-in_default-get_strs : goal.returns-in_default-get_strs
 returns-in_default-get_strs c =
@@ -54,9 +53,7 @@ returns c =
       is_compile = refl;
       has_plan = sym (first_value-rows found (codes "plan")) ∙ has_plan;
       has_out = sym (first_value-rows found (codes "out")) ∙ has_out;
-      has_settings = subst (λ o. MatchOption o
-          ((settings : Settings) → FindsSettings (rows_of found) settings → ⊥) (FindsSettings (rows_of found)))
-          settings c.settings_in.ensures;
+      has_settings = MatchOption-at_some _ (FindsSettings (rows_of found)) _ settings c.settings_in.ensures;
       has_zones = sym (raw_values-rows found (codes "zone")) ∙ has_zones ∙ ap (λ z. Some z) (sym copied);
       some_zone = some_copied string_bytes (λ v. v.now) c.in_ok-zones.zones.items zones copied some;
     }
