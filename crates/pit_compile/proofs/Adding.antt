@@ -23,9 +23,7 @@ cut-at : {A : Type 0} (before xs rest : List A) (i : ℕ) (d : A) → i < length
 cut-at before xs rest i d within =
     let cut : xs ≡ take i xs ++ get_or xs i d ∷ drop (suc i) xs
     = sym (take-append-drop i xs) ∙ ap (λ ys. take i xs ++ ys) (drop-cons xs i d within) in
-    ap (λ ys. (before ++ ys) ++ rest) cut
-    ∙ ap (λ ys. ys ++ rest) (sym (append_assoc before (take i xs) (get_or xs i d ∷ drop (suc i) xs)))
-    ∙ append_assoc (before ++ take i xs) (get_or xs i d ∷ drop (suc i) xs) rest
+    ap (λ ys. (before ++ ys) ++ rest) cut ∙ simp append_assoc
 
 -- the next item has no fault
 pub next-sound : (law : IsNeverRefused) (old now : CollectorView) (items : List Item) (i : ℕ) (item : Item)

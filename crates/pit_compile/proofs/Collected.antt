@@ -31,11 +31,10 @@ pub record FoundIsHeld : Type 0 where
 same-lists : {A : Type 0} (xs ys : List A) → length xs ≡ length ys →
     ((k : ℕ) (x : A) → slice_get xs k ≡ Some x → slice_get ys k ≡ Some x) → xs ≡ ys
 same-lists [] [] long each = refl
-same-lists [] (y ∷ ys) long each = absurd (omega arith)
-same-lists (x ∷ xs) [] long each = absurd (omega arith)
 same-lists (x ∷ xs) (y ∷ ys) long each =
     ap (λ z. z ∷ xs) (sym (same_Some y x (each 0 x refl)))
     ∙ ap (λ zs. y ∷ zs) (same-lists xs ys (omega arith) (λ k z e. each (suc k) z e))
+same-lists _ _ long each = absurd (omega arith)
 
 -- the list of a file
 file-list : (found : FoundIsHeld) (fs : List Formula) (sent : List (List Taken)) (items : List Item) (lists : List (List Valued)) →

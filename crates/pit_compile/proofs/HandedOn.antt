@@ -1,14 +1,14 @@
 -- What the valuers hand on of a whole gathering is complete.
-use Rattle.std.proofs.Common.{◌≡◌, ℕ, ◌+◌, ◌<◌, ◌≤◌, Bool, false, ◌&&◌, cond, eqb, List, [], ◌∷◌, length, map, get_or, Some, refl, sym, ap, subst, ◌∙◌, ⊎_elim, arith}
+use Rattle.std.proofs.Common.{◌≡◌, ℕ, ◌+◌, ◌<◌, ◌≤◌, Bool, false, ◌&&◌, cond, eqb, List, [], ◌∷◌, length, map, get_or, Some, refl, sym, ap, subst, ◌∙◌, arith}
 use Rattle.std.specs.List.{All, AllByRecursion, count_by, sum_by, slice_get}
-use Rattle.std.proofs.lemmas.Bool.{cases_eq, ne_eqb, eq-eqb}
+use Rattle.std.proofs.lemmas.Bool.Decides.{nat_tests}
 use Rattle.std.proofs.lemmas.List.Elements.{recursion_from_All, All-from_recursion, All-append, All-nil, All-weaker}
 use Rattle.std.proofs.lemmas.List.Sums.{sum_by-append, sum_by-cons}
 use Rattle.std.proofs.lemmas.Option.{same_Some, slice_get_within, slice_get-get_or, get_or_from_slice_get}
 use Rattle.collector.specs.Complete.{Fits, IsComplete}
 use Rattle.collector.specs.Found.{is_row, is_end}
 use Rattle.lane.specs.declared.message.Taken.{Taken}
-use Rattle.lane.specs.declared.message.Taken.TheVariants.{Row, End, Stop, Quit}
+use Rattle.lane.specs.declared.message.Taken.TheVariants.{Row, End}
 use Rattle.lane.specs.Message.{is_at, IsEndedFrom}
 use Rattle.lane.specs.MessageKinds.{rows_in}
 use Rattle.lane.specs.Whole.{GatheredView, IsSent, IsWhole}
@@ -50,24 +50,22 @@ are-of fs sent ended (Row f p b ∷ ms) all =
 are-of fs sent ended (End f n ∷ ms) all =
     let at = all.0 in
     ((at.0, at.1, end-sent fs f 0 n f n at.0 (ended f at.0 at.1) at.2), are-of fs sent ended ms all.1)
-are-of fs sent ended (Stop ∷ ms) all = are-of fs sent ended ms all.1
-are-of fs sent ended (Quit ∷ ms) all = are-of fs sent ended ms all.1
+are-of fs sent ended (m ∷ ms) all = are-of fs sent ended ms all.1
 
-abbrev AreHanded : List Formula → List (List Taken) → List (List Taken) → Type 0
-AreHanded fs sent tooks = AllByRecursion (λ took. AllByRecursion (IsOf fs sent) (items_by fs took)) tooks
-
-are-handed : (fs : List Formula) (sent : List (List Taken)) → AreEnded sent → (tooks : List (List Taken)) →
-    AllByRecursion (λ took. All (IsSent sent) took) tooks → AreHanded fs sent tooks
-are-handed fs sent ended [] all = tt
-are-handed fs sent ended (took ∷ tooks) all =
-    (are-of fs sent ended took (recursion_from_All (IsSent sent) took all.0), are-handed fs sent ended tooks all.1)
-
-all-joined : (fs : List Formula) (sent tooks : List (List Taken)) → AreHanded fs sent tooks
-    → All (IsOf fs sent) (joined (map (items_by fs) tooks))
-all-joined fs sent [] all = All-nil (IsOf fs sent)
-all-joined fs sent (took ∷ tooks) all =
+-- so it is with what all valuers hand on
+all-joined : (fs : List Formula) (sent : List (List Taken)) → AreEnded sent → (tooks : List (List Taken)) →
+    AllByRecursion (λ took. All (IsSent sent) took) tooks → All (IsOf fs sent) (joined (map (items_by fs) tooks))
+all-joined fs sent ended [] all = All-nil (IsOf fs sent)
+all-joined fs sent ended (took ∷ tooks) all =
     All-append (IsOf fs sent) (items_by fs took) (joined (map (items_by fs) tooks))
-    (All-from_recursion (IsOf fs sent) (items_by fs took) all.0) (all-joined fs sent tooks all.1)
+    (All-from_recursion (IsOf fs sent) (items_by fs took)
+    (are-of fs sent ended took (recursion_from_All (IsSent sent) took all.0)))
+    (all-joined fs sent ended tooks all.1)
+
+-- whether it is the file's item of that position: a row at its place, an end mark behind its rows
+abbrev is_item_at : ℕ → ℕ → Item → Bool
+is_item_at file p (item.Row v) = eqb v.file file && eqb v.place p
+is_item_at file p (item.End f n) = eqb f file && eqb n p
 
 -- counts of one list and of another go together
 counted-same : {X Y : Type 0} (p : X → Bool) (q : Y → Bool) (x : X) (y : Y) (xs : List X) (ys : List Y) → p x ≡ q y →
@@ -75,69 +73,52 @@ counted-same : {X Y : Type 0} (p : X → Bool) (q : Y → Bool) (x : X) (y : Y) 
 counted-same p q x y xs ys same rest =
     counted p x xs ∙ ap (λ b. cond b 1 0 + count_by p xs) same ∙ ap (λ n. cond (q y) 1 0 + n) rest ∙ sym (counted q y ys)
 
-counted-no : {X : Type 0} (p : X → Bool) (x : X) (xs : List X) → p x ≡ false → count_by p (x ∷ xs) ≡ count_by p xs
-counted-no p x xs fails = let e = counted p x xs ∙ ap (λ b. cond b 1 0 + count_by p xs) fails in omega arith
+-- of a position as many items are handed on as messages were taken
+items-taken : (fs : List Formula) (file p : ℕ) (ms : List Taken) → count_by (is_item_at file p) (items_by fs ms) ≡ count_by (is_at file p) ms
+items-taken fs file p [] = refl
+items-taken fs file p (Row f q b ∷ ms) =
+    counted-same (is_item_at file p) (is_at file p) (item.Row (row_by fs f q b)) (Row f q b) (items_by fs ms) ms refl (items-taken fs file p ms)
+items-taken fs file p (End f n ∷ ms) =
+    counted-same (is_item_at file p) (is_at file p) (item.End f n) (End f n) (items_by fs ms) ms refl (items-taken fs file p ms)
+items-taken fs file p (m ∷ ms) =
+    let none : count_by (is_at file p) (m ∷ ms) ≡ 0 + count_by (is_at file p) ms = counted (is_at file p) m ms in
+    omega (arith, none, items-taken fs file p ms)
+
+all-taken : (fs : List Formula) (file p : ℕ) (tooks : List (List Taken)) →
+    count_by (is_item_at file p) (joined (map (items_by fs) tooks)) ≡ sum_by (λ took. count_by (is_at file p) took) tooks
+all-taken fs file p [] = refl
+all-taken fs file p (took ∷ tooks) =
+    sum_by-append (λ x. cond (is_item_at file p x) 1 0) (items_by fs took) (joined (map (items_by fs) tooks))
+    ∙ ap (λ n. n + count_by (is_item_at file p) (joined (map (items_by fs) tooks))) (items-taken fs file p took)
+    ∙ ap (λ n. count_by (is_at file p) took + n) (all-taken fs file p tooks)
+    ∙ sym (sum_by-cons (λ t. count_by (is_at file p) t) took tooks)
+
+-- tests that answer the same of each item count the same
+count-same : (p q : Item → Bool) (items : List Item) → AllByRecursion (λ i. p i ≡ q i) items → count_by p items ≡ count_by q items
+count-same p q [] all = refl
+count-same p q (i ∷ items) all = counted-same p q i i items items all.0 (count-same p q items all.1)
 
 not-both : (f file p r : ℕ) → (f ≡ file → p ≡ r → ⊥) → (eqb f file && eqb p r) ≡ false
-not-both f file p r differs =
-    ⊎_elim (λ same. let other : p ≡ r → ⊥ = differs same in rw (eq-eqb f file same, ne_eqb p r other) refl)
-    (λ other. rw (ne_eqb f file other) refl)
-    (cases_eq f file)
+not-both f file p r differs = grind (arith, nat_tests, differs)
 
 as-both : (f file n r : ℕ) → (f ≡ file → n ≡ r) → eqb f file ≡ (eqb f file && eqb n r)
-as-both f file n r same_then =
-    ⊎_elim (λ same. rw (eq-eqb f file same, eq-eqb n r (same_then same)) refl)
-    (λ other. rw (ne_eqb f file other) refl)
-    (cases_eq f file)
+as-both f file n r same_then = grind (arith, nat_tests, same_then)
 
--- an end mark of the file is what was taken from behind its rows
-ends-taken : (fs : List Formula) (sent : List (List Taken)) (file : ℕ) (list : List Taken) → slice_get sent file ≡ Some list →
-    (ms : List Taken) → AllByRecursion (IsOf fs sent) (items_by fs ms) →
-    count_by (is_end file) (items_by fs ms) ≡ count_by (is_at file (length (rows_by fs list))) ms
-ends-taken fs sent file list got [] all = refl
-ends-taken fs sent file list got (Row f p b ∷ ms) all =
-    counted-same (is_end file) (is_at file (length (rows_by fs list))) (item.Row (row_by fs f p b)) (Row f p b) (items_by fs ms) ms
-    (sym (not-both f file p (length (rows_by fs list)) (λ same at_end.
-    let within = slice_get_within (rows_by fs list) p (row_by fs f p b) (row-of fs sent file list (row_by fs f p b) got same all.0) in
-    omega arith)))
-    (ends-taken fs sent file list got ms all.1)
-ends-taken fs sent file list got (End f n ∷ ms) all =
-    counted-same (is_end file) (is_at file (length (rows_by fs list))) (item.End f n) (End f n) (items_by fs ms) ms
-    (as-both f file n (length (rows_by fs list)) (λ same. end-of fs sent file list f n got same all.0))
-    (ends-taken fs sent file list got ms all.1)
-ends-taken fs sent file list got (Stop ∷ ms) all =
-    ends-taken fs sent file list got ms all ∙ sym (counted-no (is_at file (length (rows_by fs list))) Stop ms refl)
-ends-taken fs sent file list got (Quit ∷ ms) all =
-    ends-taken fs sent file list got ms all ∙ sym (counted-no (is_at file (length (rows_by fs list))) Quit ms refl)
+-- the end mark of a file stands behind its rows, and a row before it
+end-at : (fs : List Formula) (sent : List (List Taken)) (file : ℕ) (list : List Taken) → slice_get sent file ≡ Some list → (i : Item) →
+    IsOf fs sent i → is_end file i ≡ is_item_at file (length (rows_by fs list)) i
+end-at fs sent file list got (item.Row v) of =
+    sym (not-both v.file file v.place (length (rows_by fs list)) (λ same at_end.
+    let within = slice_get_within (rows_by fs list) v.place v (row-of fs sent file list v got same of) in
+    omega arith))
+end-at fs sent file list got (item.End f n) of =
+    as-both f file n (length (rows_by fs list)) (λ same. end-of fs sent file list f n got same of)
 
--- a row of the file and a place is what was taken from there
-rows-taken : (fs : List Formula) (sent : List (List Taken)) (file place : ℕ) (list : List Taken) → slice_get sent file ≡ Some list →
-    place < length (rows_by fs list) → (ms : List Taken) → AllByRecursion (IsOf fs sent) (items_by fs ms) →
-    count_by (is_row file place) (items_by fs ms) ≡ count_by (is_at file place) ms
-rows-taken fs sent file place list got below [] all = refl
-rows-taken fs sent file place list got below (Row f p b ∷ ms) all =
-    counted-same (is_row file place) (is_at file place) (item.Row (row_by fs f p b)) (Row f p b) (items_by fs ms) ms refl
-    (rows-taken fs sent file place list got below ms all.1)
-rows-taken fs sent file place list got below (End f n ∷ ms) all =
-    counted-same (is_row file place) (is_at file place) (item.End f n) (End f n) (items_by fs ms) ms
-    (sym (not-both f file n place (λ same at_place. let behind = end-of fs sent file list f n got same all.0 in omega arith)))
-    (rows-taken fs sent file place list got below ms all.1)
-rows-taken fs sent file place list got below (Stop ∷ ms) all =
-    rows-taken fs sent file place list got below ms all ∙ sym (counted-no (is_at file place) Stop ms refl)
-rows-taken fs sent file place list got below (Quit ∷ ms) all =
-    rows-taken fs sent file place list got below ms all ∙ sym (counted-no (is_at file place) Quit ms refl)
-
--- what is counted in the lists of all valuers
-counted-joined : (fs : List Formula) (sent : List (List Taken)) (p : Item → Bool) (q : Taken → Bool) →
-    ((ms : List Taken) → AllByRecursion (IsOf fs sent) (items_by fs ms) → count_by p (items_by fs ms) ≡ count_by q ms) →
-    (tooks : List (List Taken)) → AreHanded fs sent tooks →
-    count_by p (joined (map (items_by fs) tooks)) ≡ sum_by (λ took. count_by q took) tooks
-counted-joined fs sent p q each [] all = refl
-counted-joined fs sent p q each (took ∷ tooks) all =
-    sum_by-append (λ x. cond (p x) 1 0) (items_by fs took) (joined (map (items_by fs) tooks))
-    ∙ ap (λ n. n + count_by p (joined (map (items_by fs) tooks))) (each took all.0)
-    ∙ ap (λ n. count_by q took + n) (counted-joined fs sent p q each tooks all.1)
-    ∙ sym (sum_by-cons (λ t. count_by q t) took tooks)
+row-at : (fs : List Formula) (sent : List (List Taken)) (file place : ℕ) (list : List Taken) → slice_get sent file ≡ Some list →
+    place < length (rows_by fs list) → (i : Item) → IsOf fs sent i → is_row file place i ≡ is_item_at file place i
+row-at fs sent file place list got below (item.Row v) of = refl
+row-at fs sent file place list got below (item.End f n) of =
+    sym (not-both f file n place (λ same at_place. let behind = end-of fs sent file list f n got same of in omega arith))
 
 -- the number of rows that a file sent
 abbrev size : List Formula → List (List Taken) → ℕ → ℕ
@@ -156,29 +137,37 @@ fits fs sent (item.End f n) of = (
 
 pub all-of : (fs : List Formula) (g : GatheredView) → IsWhole g → All (IsOf fs g.sent) (joined (map (items_by fs) g.took))
 all-of fs g whole =
-    all-joined fs g.sent g.took
-    (are-handed fs g.sent whole.sents g.took (recursion_from_All (λ took. All (IsSent g.sent) took) g.took whole.only))
+    all-joined fs g.sent whole.sents g.took (recursion_from_All (λ took. All (IsSent g.sent) took) g.took whole.only)
+
+-- one item has the position of a message that was sent
+once : (fs : List Formula) (g : GatheredView) → IsWhole g → (test : Item → Bool) (file p : ℕ) (list : List Taken) →
+    slice_get g.sent file ≡ Some list → p < length list → ((i : Item) → IsOf fs g.sent i → test i ≡ is_item_at file p i) →
+    count_by test (joined (map (items_by fs) g.took)) ≡ 1
+once fs g whole test file p list got within same =
+    let items = joined (map (items_by fs) g.took) in
+    let Same : Item → Type 0 = λ i. test i ≡ is_item_at file p i in
+    count-same test (is_item_at file p) items
+    (recursion_from_All Same items (All-weaker (IsOf fs g.sent) Same same items (all-of fs g whole)))
+    ∙ all-taken fs file p g.took ∙ whole.once file p list got within
 
 pub complete : (fs : List Formula) (g : GatheredView) → IsWhole g → All (λ list. rows_in list ≤ 1000000) g.sent →
     IsComplete (length g.sent) (joined (map (items_by fs) g.took))
 complete fs g whole few =
-    let handed = are-handed fs g.sent whole.sents g.took (recursion_from_All (λ took. All (IsSent g.sent) took) g.took whole.only) in
-    let got : (file : ℕ) → file < length g.sent → slice_get g.sent file ≡ Some (get_or g.sent file [])
+    let list : ℕ → List Taken = λ file. get_or g.sent file [] in
+    let got : (file : ℕ) → file < length g.sent → slice_get g.sent file ≡ Some (list file)
     = λ file within. slice_get-get_or g.sent file [] within in
-    let long : (file : ℕ) → file < length g.sent → length (get_or g.sent file []) ≡ size fs g.sent file + 1
-    = λ file within. ended-length fs file 0 (get_or g.sent file []) (whole.sents file (get_or g.sent file []) (got file within)) in
+    let long : (file : ℕ) → file < length g.sent → length (list file) ≡ size fs g.sent file + 1
+    = λ file within. ended-length fs file 0 (list file) (whole.sents file (list file) (got file within)) in
     record {
       counts = size fs g.sent;
       few = λ file within.
-          subst (λ (n : ℕ). n ≤ 1000000) (sym (rows-counted fs (get_or g.sent file []))) (few file [] within);
+          subst (λ (n : ℕ). n ≤ 1000000) (sym (rows-counted fs (list file))) (few file [] within);
       ends = λ file within.
-          counted-joined fs g.sent (is_end file) (is_at file (size fs g.sent file))
-          (ends-taken fs g.sent file (get_or g.sent file []) (got file within)) g.took handed
-          ∙ whole.once file (size fs g.sent file) (get_or g.sent file []) (got file within) (omega (arith, long file within));
+          once fs g whole (is_end file) file (size fs g.sent file) (list file) (got file within) (omega (arith, long file within))
+          (end-at fs g.sent file (list file) (got file within));
       rows = λ file place within below.
-          counted-joined fs g.sent (is_row file place) (is_at file place)
-          (rows-taken fs g.sent file place (get_or g.sent file []) (got file within) below) g.took handed
-          ∙ whole.once file place (get_or g.sent file []) (got file within) (omega (arith, long file within));
+          once fs g whole (is_row file place) file place (list file) (got file within) (omega (arith, long file within))
+          (row-at fs g.sent file place (list file) (got file within) below);
       others = All-weaker (IsOf fs g.sent) (Fits (length g.sent) (size fs g.sent)) (fits fs g.sent)
           (joined (map (items_by fs) g.took)) (all-of fs g whole);
     }

@@ -7,7 +7,7 @@ use Rattle.std.proofs.lemmas.Option.{none-some}
 use Rattle.pit_parts.specs.declared.block.Block.{Block}
 use Rattle.pit_parts.specs.declared.formula.Formula.{Formula}
 use Rattle.lane.specs.declared.message.Taken.{Taken}
-use Rattle.lane.specs.declared.message.Taken.TheVariants.{Row, End, Stop, Quit}
+use Rattle.lane.specs.declared.message.Taken.TheVariants.{Row, End}
 use Rattle.lane.specs.Message.{IsEndedFrom}
 use Rattle.lane.specs.MessageKinds.{is_row, rows_in}
 use Rattle.rows.specs.Valued.{row_by}
@@ -22,18 +22,12 @@ pub rows-counted : (fs : List Formula) (ms : List Taken) → length (rows_by fs 
 rows-counted fs [] = refl
 rows-counted fs (Row f p b ∷ ms) =
     let one : rows_in (Row f p b ∷ ms) ≡ 1 + rows_in ms = counted is_row (Row f p b) ms in omega (arith, rows-counted fs ms)
-rows-counted fs (End f n ∷ ms) =
-    let none : rows_in (End f n ∷ ms) ≡ 0 + rows_in ms = counted is_row (End f n) ms in omega (arith, rows-counted fs ms)
-rows-counted fs (Stop ∷ ms) =
-    let none : rows_in (Stop ∷ ms) ≡ 0 + rows_in ms = counted is_row Stop ms in omega (arith, rows-counted fs ms)
-rows-counted fs (Quit ∷ ms) =
-    let none : rows_in (Quit ∷ ms) ≡ 0 + rows_in ms = counted is_row Quit ms in omega (arith, rows-counted fs ms)
+rows-counted fs (m ∷ ms) =
+    let none : rows_in (m ∷ ms) ≡ 0 + rows_in ms = counted is_row m ms in omega (arith, rows-counted fs ms)
 
 abbrev valued : List Formula → Taken → Option Valued
 valued fs (Row f p b) = Some (row_by fs f p b)
-valued fs (End f n) = None
-valued fs Stop = None
-valued fs Quit = None
+valued fs _ = None
 
 -- nothing stands behind the end mark
 past-end : (ms : List Taken) (i : ℕ) (m : Taken) → ms ≡ [] → slice_get ms i ≡ Some m → ⊥
@@ -42,32 +36,26 @@ past-end ms i m none got = none-some m (sym (ap (λ xs. slice_get xs i) none) �
 -- a row stands among the rows where it stands in the list
 pub row-sent : (fs : List Formula) (file k i f p : ℕ) (b : Block) (ms : List Taken) → IsEndedFrom file k ms →
     slice_get ms i ≡ Some (Row f p b) → slice_get (rows_by fs ms) i ≡ Some (row_by fs f p b)
-row-sent fs file k i f p b [] ended got = absurd ended
 row-sent fs file k zero f p b (Row f' p' b' ∷ ms) ended got = ap (option_and_then (valued fs)) got
 row-sent fs file k (suc i) f p b (Row f' p' b' ∷ ms) ended got = row-sent fs file (k + 1) i f p b ms ended.2 got
 row-sent fs file k zero f p b (End f' n ∷ ms) ended got =
     absurd (none-some (row_by fs f p b) (ap (option_and_then (valued fs)) got))
 row-sent fs file k (suc i) f p b (End f' n ∷ ms) ended got = absurd (past-end ms i (Row f p b) ended.2 got)
-row-sent fs file k i f p b (Stop ∷ ms) ended got = absurd ended
-row-sent fs file k i f p b (Quit ∷ ms) ended got = absurd ended
+row-sent fs file k i f p b _ ended got = absurd ended
 
 -- the end mark stands behind all rows
 pub end-sent : (fs : List Formula) (file k i f n : ℕ) (ms : List Taken) → IsEndedFrom file k ms →
     slice_get ms i ≡ Some (End f n) → i ≡ length (rows_by fs ms)
-end-sent fs file k i f n [] ended got = absurd ended
 end-sent fs file k zero f n (Row f' p' b' ∷ ms) ended got =
     absurd (none-some (row_by fs f' p' b') (ap (option_and_then (valued fs)) (sym got)))
 end-sent fs file k (suc i) f n (Row f' p' b' ∷ ms) ended got = ap suc (end-sent fs file (k + 1) i f n ms ended.2 got)
 end-sent fs file k zero f n (End f' n' ∷ ms) ended got = sym (ap (λ xs. length (rows_by fs xs)) ended.2)
 end-sent fs file k (suc i) f n (End f' n' ∷ ms) ended got = absurd (past-end ms i (End f n) ended.2 got)
-end-sent fs file k i f n (Stop ∷ ms) ended got = absurd ended
-end-sent fs file k i f n (Quit ∷ ms) ended got = absurd ended
+end-sent fs file k i f n _ ended got = absurd ended
 
 pub ended-length : (fs : List Formula) (file k : ℕ) (ms : List Taken) → IsEndedFrom file k ms → length ms ≡ length (rows_by fs ms) + 1
-ended-length fs file k [] ended = absurd ended
 ended-length fs file k (Row f p b ∷ ms) ended = omega (arith, ended-length fs file (k + 1) ms ended.2)
 ended-length fs file k (End f n ∷ ms) ended =
     let none : length ms ≡ 0 = ap length ended.2 in
     let no_rows : length (rows_by fs ms) ≡ 0 = ap (λ xs. length (rows_by fs xs)) ended.2 in omega arith
-ended-length fs file k (Stop ∷ ms) ended = absurd ended
-ended-length fs file k (Quit ∷ ms) ended = absurd ended
+ended-length fs file k _ ended = absurd ended
