@@ -1,6 +1,6 @@
 -- Blocks that are numbered stand apart, and what holds of listed blocks holds of the numbered ones.
-use Rattle.std.proofs.Common.{◌≡◌, ◌<◌, ◌&&◌, ◌||◌, ◌==◌, ℕ, List, Bool, true, false, nat_lt, refl, sym, ◌∙◌, ap, subst, arith, length, get_or, All, Result, Ok, Err}
-use Rattle.std.specs.Prelude.{count_by, slice_index_or, IfOk}
+use Rattle.std.proofs.Common.{◌≡◌, ◌<◌, ◌&&◌, ◌||◌, ◌==◌, ℕ, List, Bool, true, false, nat_lt, refl, sym, ◌∙◌, ap, subst, arith, length, get_or, All}
+use Rattle.std.specs.Prelude.{count_by, slice_index_or}
 use Rattle.std.proofs.lemmas.Bool.{and_parts, eqb-true}
 use Rattle.pit_parts.specs.declared.block.Block.{Block}
 use Rattle.precedence.specs.Identifier.{id, is_same_place}
@@ -40,8 +40,3 @@ pub numbered_too : (P : Block → Type 0) (listed : List Block) (n : NumberingVi
 numbered_too P listed n h all k d within =
     let there : k < length listed = omega (arith, h.blocks) in
     subst P (h.stands k d there) (all (get_or n.positions k 0) d (h.within k there))
-
--- what always holds also holds of an Ok
-pub on_ok : {T E : Type 0} (r : Result T E) (P : Type 0) → P → IfOk r (λ _. P)
-on_ok (Ok x) P p = p
-on_ok (Err e) P p = tt

@@ -15,15 +15,14 @@ use Rattle.pit_compile.specs.inner.ModelRows.{AreModelRows}
 use Rattle.pit_compile.specs.Rows.{fault_in, rows_of, sents_of}
 use Rattle.pit_compile.specs.inner.Repeats.{IsRepeat}
 use Rattle.pit_compile.specs.declared.refusal.Refusal.{Refusal}
-use Rattle.pit_compile.specs.declared.refusal.Refusal.TheVariants.{Settings, NoThread, FeedFailed, TooLong, Row, Same, SinkFailed, OutOfMemory}
+use Rattle.pit_compile.specs.declared.refusal.Refusal.TheVariants.{Same, OutOfMemory}
 use Rattle.pit_compile.proofs.Readers.{all_read}
 use Rattle.pit_compile.proofs.RowFacts.{AreZoneFiles, model_rows, sent_rows}
 
 given_count : (lefts : List (Option (List ℕ))) (texts : List (List ℕ)) → AreGiven lefts texts → length texts ≡ length lefts
 given_count [] [] h = refl
-given_count [] (t ∷ ts) h = absurd h
-given_count (l ∷ ls) [] h = absurd h
 given_count (l ∷ ls) (t ∷ ts) h = let rest = given_count ls ts h.1 in omega arith
+given_count _ _ h = absurd h
 
 -- texts are given that have no fault, the lane had what their files send, and these are their rows
 pub record Compiles (plan : PlanParts) (lefts : List (Option (List ℕ))) (sents : List (List Taken)) (rows : List Valued) : Type 0 where
@@ -60,9 +59,4 @@ pub repeat_refused : (plan : PlanParts) (lefts : List (Option (List ℕ))) (sure
 repeat_refused plan lefts sures sents rows (Same first again) m h =
     record { texts = m.texts; given = m.given; refused = (m.no_fault, subst (λ rs. IsRepeat rs (Same first again)) m.rows_are h) }
 repeat_refused plan lefts sures sents rows OutOfMemory m h = tt
-repeat_refused plan lefts sures sents rows (Settings kind) m h = absurd h
-repeat_refused plan lefts sures sents rows NoThread m h = absurd h
-repeat_refused plan lefts sures sents rows (FeedFailed file) m h = absurd h
-repeat_refused plan lefts sures sents rows (TooLong file) m h = absurd h
-repeat_refused plan lefts sures sents rows (Row file fault) m h = absurd h
-repeat_refused plan lefts sures sents rows (SinkFailed which) m h = absurd h
+repeat_refused plan lefts sures sents rows other m h = absurd h

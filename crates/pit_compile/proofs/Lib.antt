@@ -7,6 +7,5 @@ pub mod OneMoreSink
 pub mod Readers
 pub mod RowFacts
 pub mod RunFacts
-pub mod SameFormulas
 pub mod SentRows
 pub mod SettingsFacts

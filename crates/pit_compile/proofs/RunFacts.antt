@@ -10,7 +10,7 @@ use Rattle.minelib_writing.specs.declared.text_name.TextName.{TextName}
 use Rattle.mine_instance.specs.Instance.{Instance}
 use Rattle.pit_compile.specs.declared.compiling.Compiled.{Compiled}
 use Rattle.pit_compile.specs.declared.refusal.Refusal.{Refusal}
-use Rattle.pit_compile.specs.declared.refusal.Refusal.TheVariants.{Settings, NoThread, FeedFailed, TooLong, Row, Same, SinkFailed, OutOfMemory}
+use Rattle.pit_compile.specs.declared.refusal.Refusal.TheVariants.{Settings, SinkFailed, OutOfMemory}
 use Rattle.pit_compile.specs.declared.settings.SettingsFault.{SettingsFault}
 
 -- a run that is refused in writing
@@ -23,21 +23,10 @@ cut_off plan lefts sures valuers old new c (SinkFailed which) h k =
 cut_off plan lefts sures valuers old new c OutOfMemory h k =
     let cut_is = subst (λ (i : Instance). AreCutOffAt (k.0) 0 i old new) h.instance_is (k.1) in
     inr (k.0, record { texts = h.texts; given = h.given; accepted = h.accepted; cut = cut_is })
-cut_off plan lefts sures valuers old new c (Settings kind) h k = absurd k
-cut_off plan lefts sures valuers old new c NoThread h k = absurd k
-cut_off plan lefts sures valuers old new c (FeedFailed file) h k = absurd k
-cut_off plan lefts sures valuers old new c (TooLong file) h k = absurd k
-cut_off plan lefts sures valuers old new c (Row file fault) h k = absurd k
-cut_off plan lefts sures valuers old new c (Same first again) h k = absurd k
+cut_off plan lefts sures valuers old new c other h k = absurd k
 
 -- and it is not refused for its settings
 pub cut_is_not_settings : (i : Instance) (old new : TextName → SinkState) (refusal : Refusal) (kind : SettingsFault)
     → AreCutOff i old new refusal → refusal ≡ Settings kind → ⊥
-cut_is_not_settings i old new (SinkFailed which) kind k e = cc
-cut_is_not_settings i old new OutOfMemory kind k e = cc
 cut_is_not_settings i old new (Settings other) kind k e = absurd k
-cut_is_not_settings i old new NoThread kind k e = cc
-cut_is_not_settings i old new (FeedFailed file) kind k e = cc
-cut_is_not_settings i old new (TooLong file) kind k e = cc
-cut_is_not_settings i old new (Row file fault) kind k e = cc
-cut_is_not_settings i old new (Same first again) kind k e = cc
+cut_is_not_settings i old new other kind k e = cc

@@ -10,13 +10,10 @@ use Rattle.pit_compile.specs.declared.settings.SettingsFault.TheVariants.{Files,
 pub only_one : (plan : PlanParts) (files : ℕ) (formulas : List Formula) (settings : Settings) (a b : SettingsFault)
     → IsSettingsFault plan files formulas settings a → IsSettingsFault plan files formulas settings b → a ≡ b
 only_one plan files formulas settings Files Files h k = refl
-only_one plan files formulas settings Files Valuers h k = absurd (h k.0)
-only_one plan files formulas settings Files Capacity h k = absurd (h k.0)
-only_one plan files formulas settings Files Destinations h k = absurd (h k.0)
+only_one plan files formulas settings Files later h k = absurd (h k.0)
 only_one plan files formulas settings Valuers Files h k = absurd (k h.0)
 only_one plan files formulas settings Valuers Valuers h k = refl
-only_one plan files formulas settings Valuers Capacity h k = absurd (h.1 k.1)
-only_one plan files formulas settings Valuers Destinations h k = absurd (h.1 k.1)
+only_one plan files formulas settings Valuers later h k = absurd (h.1 k.1)
 only_one plan files formulas settings Capacity Files h k = absurd (k h.0)
 only_one plan files formulas settings Capacity Valuers h k = absurd (k.1 h.1)
 only_one plan files formulas settings Capacity Capacity h k = refl

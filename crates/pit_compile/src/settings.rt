@@ -53,6 +53,7 @@ impl fmt::Display for SettingsFault {
 }
 
 /// Fails with the first fault of the settings, in the order of `SettingsFault`, for so many zone files.
+#[tactic(auto, using(crate::proofs::SettingsFacts::told_exactly))]
 pub fn require_settings(
     files: usize,
     plan: &Plan,
