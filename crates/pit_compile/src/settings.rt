@@ -8,6 +8,7 @@ ghost use Rattle.pit_parts.specs.PlanFormulas.{formulas_of_plan};
 
 use pit_parts::destination::Destination;
 use pit_parts::formula::{Formula, NamedFormula};
+use pit_parts::laws::equal_formulas_are_the_same;
 use pit_parts::plan::Plan;
 use pit_parts::ranges::{MAX_CAPACITY, MAX_VALUERS};
 pub use pit_parts::settings::Settings;
@@ -118,5 +119,6 @@ fn are_same(destinations: &[Destination], formulas: &[NamedFormula]) -> bool
 fn is_same(formula: &Formula, other: &Formula) -> bool
     ensures { IsTrue result ↔ (formula.now ≡ other.now) }
 {
+    equal_formulas_are_the_same();
     *formula == *other
 }

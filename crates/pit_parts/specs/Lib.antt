@@ -4,7 +4,7 @@ pub mod Block
 pub mod BlockParts
 pub mod Destinations
 pub mod Formula
-pub mod FormulaEquality
+pub mod FormulaCopy
 pub mod Name
 pub mod Plan
 pub mod PlanFormulas

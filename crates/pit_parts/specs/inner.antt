@@ -1,3 +1,3 @@
 pub mod Equality
-pub mod FormulasTold
 pub mod PlanFields
+pub mod RuledOnce

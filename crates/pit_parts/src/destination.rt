@@ -2,7 +2,7 @@
 
 ghost use Rattle.std.specs.Prelude.{◌≡◌, ℤ};
 ghost use Rattle.pit_parts.specs.Formula.{IsRuled};
-ghost use Rattle.pit_parts.specs.inner.FormulasTold.{IsRuled-prop};
+ghost use Rattle.pit_parts.specs.inner.RuledOnce.{IsRuled-prop};
 ghost use Rattle.pit_parts.specs.Worth.{worth, IsWorth};
 ghost use Rattle.pit_parts.specs.declared.block.Block.{Block as ABlock};
 

@@ -2,7 +2,7 @@
 
 ghost use Rattle.std.specs.Prelude.{◌≡◌, IfOk, OnErr};
 ghost use Rattle.pit_parts.specs.Formula.{IsRuled};
-ghost use Rattle.pit_parts.specs.FormulaEquality.{HasBands};
+ghost use Rattle.pit_parts.specs.FormulaCopy.{HasBands};
 ghost use Rattle.pit_parts.specs.Worth.{worth, IsWorth};
 
 use crate::band::Bands;
@@ -15,7 +15,7 @@ use std::alloc::{AllocError, Global};
 /// require it.
 ///
 /// `==` tells whether two formulas are of one kind and have the same numbers.
-#[derive(Debug, Drop)]
+#[derive(Debug, Drop, PartialEq, Eq)]
 pub enum Formula {
     /// A mill: it recovers `recovery` per mille of the metal, 0 to 1000, which sells for `price` cents per kilogram, 0 to 10^8, and it costs
     /// `cost` cents per tonne of the block, 0 to 10^7.
@@ -77,53 +77,6 @@ impl Formula {
             Formula::Dump { cost } => dump_worth(block, *cost),
         }
     }
-}
-
-impl PartialEq for Formula {
-    ghost use Rattle.std.specs.Prelude.{◌≡◌, ◌↔◌, IsTrue};
-    ghost use Rattle.std.specs.Cmp.{partial_equiv_from_equiv};
-    ghost use Rattle.pit_parts.specs.FormulaEquality.{formula_eq};
-    ghost use Rattle.pit_parts.specs.inner.FormulasTold.{formula_equivalence};
-
-    ghost eq = { formula_eq };
-
-    ghost laws = { partial_equiv_from_equiv formula_equivalence };
-
-    fn eq(&self, other: &Formula) -> bool
-        ensures value { result ≡ formula_eq self.now other.now }
-        ensures equal { IsTrue result ↔ (self.now ≡ other.now) }
-    {
-        match (self, other) {
-            (
-                Formula::Mill {
-                    recovery,
-                    price,
-                    cost,
-                },
-                Formula::Mill {
-                    recovery: other_recovery,
-                    price: other_price,
-                    cost: other_cost,
-                },
-            ) => recovery == other_recovery && price == other_price && cost == other_cost,
-            (
-                Formula::Leach { bands, price, cost },
-                Formula::Leach {
-                    bands: other_bands,
-                    price: other_price,
-                    cost: other_cost,
-                },
-            ) => bands == other_bands && price == other_price && cost == other_cost,
-            (Formula::Dump { cost }, Formula::Dump { cost: other_cost }) => cost == other_cost,
-            _ => false,
-        }
-    }
-}
-
-impl Eq for Formula {
-    ghost use Rattle.pit_parts.specs.inner.FormulasTold.{formula_equivalence};
-
-    ghost laws = { formula_equivalence };
 }
 
 /// A destination of the plan: its NAME and its formula.
