@@ -74,12 +74,10 @@ mill_bound kg grade recovery price cost k g r p c =
     near : (earned spent : ℕ) → earned ≤ 10 ^ 32 → spent ≤ 10 ^ 16 → IsWorth (floor (pos earned -ℤ pos (spent * 10 ^ 12)) (10 ^ 15))
     near earned spent e s = floor_bound (pos earned -ℤ pos (spent * 10 ^ 12)) (omega (arith, ints))
 
-pub dump_bound : (kg cost : ℕ) → kg ≤ 10 ^ 9 → cost ≤ 10 ^ 7 → IsWorth (floor (neg_ℤ (pos (kg * cost))) 1000)
-dump_bound kg cost k c = near _ (mul-le kg cost (10 ^ 9) (10 ^ 7) k c)
-  where
-    near : (spent : ℕ) → spent ≤ 10 ^ 16 → IsWorth (floor (neg_ℤ (pos spent)) 1000)
-    near zero s = omega arith
-    near (suc spent) s = omega arith
+-- so is what is spent alone, in thousandths of a cent
+spent_bound : (spent : ℕ) → spent ≤ 10 ^ 20 → IsWorth (floor (neg_ℤ (pos spent)) 1000)
+spent_bound zero s = omega arith
+spent_bound (suc spent) s = omega arith
 
 -- the worth of a block by a formula in range
 pub worth_bound : (f : Formula) (b : Block) → IsRuled f → IsWorth (worth f b)
@@ -88,4 +86,5 @@ worth_bound (formula.Mill recovery price cost) b ruled =
 worth_bound (formula.Leach bands price cost) b ruled =
     mill_bound b.kg b.grade _ price cost b.kg_in_range b.grade_in_range
     (recovery_bound None bands b.grade (omega arith) ruled.0.in_range) ruled.1 ruled.2
-worth_bound (formula.Dump cost) b ruled = dump_bound b.kg cost b.kg_in_range ruled
+worth_bound (formula.Dump cost) b ruled =
+    spent_bound (b.kg * cost) (omega (arith, mul-le b.kg cost (10 ^ 9) (10 ^ 7) b.kg_in_range ruled))
