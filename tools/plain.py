@@ -1,5 +1,5 @@
 #!/usr/bin/env python3
-"""The five texts of a plan and its zone files, by a plain computation.
+"""The texts of a plan and its zone files, by a plain computation.
 
     tools/plain.py BASE PLAN ZONE..         writes them at a base
 
@@ -129,7 +129,7 @@ def model(plan, kind, keys, objective, coefficients):
 
 
 def compiled(text, files):
-    """The five texts by their endings, or the line of the refusal."""
+    """The texts by their endings, or the line of the refusal."""
     plan = plan_of(text)
     blocks = blocks_of(plan, files)
     if isinstance(blocks, str):

@@ -1,4 +1,4 @@
--- The words of the five texts.
+-- The words of the texts.
 use Rattle.std.specs.Prelude.{ℕ, List, codes}
 use Rattle.minelib_writing.specs.declared.text_name.TextName.{TextName}
 use Rattle.minelib_writing.specs.declared.text_name.TextName.TheVariants.{Blocks, Prec, Upit, Pcpsp, Cpit}

@@ -1,4 +1,4 @@
--- The five texts of an instance by their names.
+-- The texts of an instance by their names.
 use Rattle.std.specs.Prelude.{ℕ, List, [], ◌∷◌}
 use Rattle.mine_instance.specs.OfCpit.{cpit}
 use Rattle.mine_instance.specs.Instance.{Instance}
@@ -10,7 +10,7 @@ use Rattle.minelib_writing.specs.declared.text_name.TextName.TheVariants.{Blocks
 abbrev pub all_texts : List TextName
 all_texts = Blocks ∷ Prec ∷ Upit ∷ Pcpsp ∷ Cpit ∷ []
 
--- the text of this name, the last one that of the instance's CPIT
+-- the text of this name; that of a CPIT is of the instance's
 abbrev pub text_named : TextName → Instance → List ℕ
 text_named Blocks i = text_blocks i
 text_named Prec i = text_prec i

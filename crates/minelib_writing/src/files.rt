@@ -1,4 +1,4 @@
-//! The five texts by their parts.
+//! The texts by their parts.
 
 ghost use Rattle.std.specs.Prelude.{◌≤◌, ◌<◌, length, All, ⊤};
 ghost use Rattle.mine_instance.specs.Seen.{seen};

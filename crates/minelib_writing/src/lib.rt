@@ -1,4 +1,4 @@
-//! The five MineLib texts of an instance, written to sinks.
+//! The MineLib texts of an instance, written to sinks.
 #![tactic(auto)]
 
 mod block_sections;

@@ -1,4 +1,4 @@
-//! The five texts of an instance, by their names.
+//! The texts of an instance, by their names.
 
 ghost use Rattle.std.specs.Prelude.{◌≡◌};
 ghost use Rattle.minelib_writing.specs.TextNames.{ending_of};
@@ -7,7 +7,7 @@ ghost use Rattle.minelib_writing.specs.Texts.{all_texts};
 use std::fmt;
 use thiserror::Error;
 
-/// One of the five texts of an instance, in the order of writing.
+/// One of the texts of an instance, in the order of writing.
 #[derive(Clone, Copy, Debug, Error, PartialEq, Eq)]
 pub enum TextName {
     Blocks,
@@ -18,7 +18,7 @@ pub enum TextName {
 }
 
 impl TextName {
-    /// All five, in the order of writing.
+    /// All of them, in the order of writing.
     pub fn all() -> [TextName; 5]
         ensures { result ≡ all_texts }
     {

@@ -1,4 +1,4 @@
-//! The writers of the five texts. Each begins the sink and writes one text. Where it is refused, the sink is as it was, or it was begun
+//! The writers of the texts. Each begins the sink and writes one text. Where it is refused, the sink is as it was, or it was begun
 //! and holds the front of the text; after `SinkFailed` it refused one call, and after `OutOfMemory` none.
 
 ghost use Rattle.std.specs.Prelude.{◌≡◌, OnOk};

@@ -1,4 +1,4 @@
--- What the pipe form prints of a model: the five texts of its instance, each under its section line.
+-- What the pipe form prints of a model: the texts of its instance, each under its section line.
 use Rattle.std.specs.Prelude.{◌≡◌, ℕ, List, ◌++◌, length}
 use Rattle.pit_edge.specs.Sections.{printed}
 use Rattle.pit_compile.specs.Compiled.{instance_from}

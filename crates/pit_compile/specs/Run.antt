@@ -1,4 +1,4 @@
--- What a run does, by what its feeds had left, which of them were sure, and what its five sinks tell before and after.
+-- What a run does, by what its feeds had left, which of them were sure, and what its sinks tell before and after.
 use Rattle.std.specs.Prelude.{◌≡◌, ℕ, ◌⊎◌, Bool, List, Option}
 use Rattle.lane.specs.Whole.{GatheredView}
 use Rattle.pit_parts.specs.Plan.{PlanParts}

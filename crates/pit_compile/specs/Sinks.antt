@@ -1,4 +1,4 @@
--- What the five sinks of a run tell, before and after the texts of an instance are written to them in turn.
+-- What the sinks of a run tell, before and after the texts of an instance are written to them in turn.
 use Rattle.std.specs.Prelude.{◌≡◌, ℕ, List, ◌∷◌, ◌++◌, All}
 use Rattle.devices.specs.SinkState.{SinkState, IsWritten, IsCutOff}
 use Rattle.minelib_writing.specs.Texts.{all_texts, text_named}

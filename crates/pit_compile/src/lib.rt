@@ -1,4 +1,4 @@
-//! The run: many zone files, many valuers, one instance and its five texts.
+//! The run: many zone files, many valuers, one instance and its texts.
 #![tactic(auto)]
 
 mod collecting;

@@ -1,4 +1,4 @@
-//! The run: from zone files to the five texts of the instance.
+//! The run: from zone files to the texts of the instance.
 
 ghost use Rattle.std.specs.Prelude.{◌≡◌, ◌↔◌, ◌+◌, ◌≤◌, Err, length, map, IfErr, IfOk};
 ghost use Rattle.pit_compile.specs.Run.{IsDone, IsRefused};
@@ -25,7 +25,7 @@ use valuers::Gate;
 /// How many threads a run may start: one for each zone file and each valuer, where there are 64 of each.
 pub const MOST_STARTS: u32 = 128;
 
-/// Reads and values the zone files over threads, builds the instance of the plan and these files, and writes its five
+/// Reads and values the zone files over threads, builds the instance of the plan and these files, and writes its
 /// texts to the sinks. It begins the sinks only when all blocks are known to be different. Returns what went through
 /// the lane. The feeds are used up.
 ///

@@ -1,4 +1,4 @@
-//! Writing the five texts of an instance, one sink after the other.
+//! Writing the texts of an instance, one sink after the other.
 
 ghost use Rattle.std.specs.Prelude.{◌≡◌, IfErr, OnOk};
 ghost use Rattle.mine_instance.specs.OfCpit.{cpit};

@@ -1,4 +1,4 @@
-//! The five sinks of a run.
+//! The sinks of a run.
 
 ghost use Rattle.std.specs.Borrow.{sem};
 ghost use Rattle.std.specs.Prelude.{◌≡◌, IfOk, Ok};
@@ -8,7 +8,7 @@ ghost use Rattle.pit_compile.specs.Sinks.{sink_of};
 
 use minelib_writing::text_name::TextName;
 
-/// A sink for each of the five texts of an instance, in the order of writing.
+/// A sink for each text of an instance, in the order of writing.
 #[derive(Debug, Drop)]
 pub struct Sinks<S> {
     pub blocks: S,

@@ -1,4 +1,4 @@
--- What is printed of an instance: its five texts, each under its section line.
+-- What is printed of an instance: its texts, each under its section line.
 use Rattle.std.specs.Prelude.{ℕ, List, ◌∷◌, ◌++◌, codes, flat_map}
 use Rattle.mine_instance.specs.Instance.{Instance}
 use Rattle.minelib_writing.specs.TextNames.{ending_of}
@@ -8,6 +8,6 @@ use Rattle.minelib_writing.specs.Texts.{all_texts, text_named}
 abbrev pub section : List ℕ → List ℕ → List ℕ
 section name text = codes "== " ++ (name ++ (10 ∷ text))
 
--- the five sections
+-- the sections of all
 abbrev pub printed : Instance → List ℕ
 printed i = flat_map (λ name. section (ending_of name) (text_named name i)) all_texts

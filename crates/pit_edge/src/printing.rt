@@ -1,4 +1,4 @@
-//! How the five texts of an instance are printed into one vector.
+//! How the texts of an instance are printed into one vector.
 
 ghost use Rattle.std.specs.Prelude.{◌≡◌, ◌++◌, length, take, OnErr, OnOk};
 ghost use Rattle.mine_instance.specs.OfCpit.{cpit as cpit_of};
@@ -18,7 +18,7 @@ use precedence::PredLists;
 use std::alloc::{AllocError, Global};
 use std::mem::replace;
 
-/// Appends the five texts of an instance, each under its section line. Fails only where memory is refused, and then `out` is as it was.
+/// Appends the texts of an instance, each under its section line. Fails only where memory is refused, and then `out` is as it was.
 pub fn print<P: PredLists>(
     alloc: Global,
     instance: &Instance<P>,
