@@ -1,4 +1,3 @@
-pub mod TextNames
 pub mod Texts
 pub mod TextsKept
 pub mod Written

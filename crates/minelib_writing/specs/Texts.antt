@@ -1,19 +1,27 @@
 -- The texts of an instance by their names.
-use Rattle.std.specs.Prelude.{ℕ, List, [], ◌∷◌}
+use Rattle.std.specs.Prelude.{ℕ, List, [], ◌∷◌, codes}
 use Rattle.mine_instance.specs.OfCpit.{cpit}
 use Rattle.mine_instance.specs.Instance.{Instance}
 use Rattle.minelib_writing.specs.Written.{text_blocks, text_prec, text_upit, text_pcpsp, text_cpit}
 use Rattle.minelib_writing.specs.declared.text_name.TextName.{TextName}
-use Rattle.minelib_writing.specs.declared.text_name.TextName.TheVariants.{Blocks, Prec, Upit, Pcpsp, Cpit}
+use Rattle.minelib_writing.specs.declared.text_name.TextName.TheVariants as text
 
 -- in the order of writing
 abbrev pub all_texts : List TextName
-all_texts = Blocks ∷ Prec ∷ Upit ∷ Pcpsp ∷ Cpit ∷ []
+all_texts = text.Blocks ∷ text.Prec ∷ text.Upit ∷ text.Pcpsp ∷ text.Cpit ∷ []
+
+-- a text by the ending of its file
+abbrev pub ending_of : TextName → List ℕ
+ending_of text.Blocks = codes "blocks"
+ending_of text.Prec = codes "prec"
+ending_of text.Upit = codes "upit"
+ending_of text.Pcpsp = codes "pcpsp"
+ending_of text.Cpit = codes "cpit"
 
 -- the text of this name; that of a CPIT is of the instance's
 abbrev pub text_named : TextName → Instance → List ℕ
-text_named Blocks i = text_blocks i
-text_named Prec i = text_prec i
-text_named Upit i = text_upit i
-text_named Pcpsp i = text_pcpsp i
-text_named Cpit i = text_cpit (cpit i)
+text_named text.Blocks i = text_blocks i
+text_named text.Prec i = text_prec i
+text_named text.Upit i = text_upit i
+text_named text.Pcpsp i = text_pcpsp i
+text_named text.Cpit i = text_cpit (cpit i)

@@ -5,12 +5,10 @@ use Rattle.mine_instance.specs.OfCpit.{cpit}
 use Rattle.mine_instance.specs.Instance.{Instance}
 use Rattle.minelib_lines.specs.Kept.{IsKept, IsKeptCpit}
 use Rattle.minelib_writing.specs.declared.text_name.TextName.{TextName}
-use Rattle.minelib_writing.specs.declared.text_name.TextName.TheVariants.{Blocks, Prec, Upit, Pcpsp, Cpit}
+use Rattle.minelib_writing.specs.declared.text_name.TextName.TheVariants.{Pcpsp, Cpit}
 
--- by the text's name
+-- by the text's name: what the writers of these two say, and of the others nothing
 abbrev pub kept_named : TextName → Instance → Type 0
-kept_named Blocks i = ⊤
-kept_named Prec i = ⊤
-kept_named Upit i = ⊤
 kept_named Pcpsp i = IsKept i
 kept_named Cpit i = IsKeptCpit (cpit i) × IsCpit (cpit i)
+kept_named name i = ⊤

@@ -4,8 +4,7 @@ ghost use Rattle.std.specs.Prelude.{◌≡◌, ◌++◌, length, take, OnErr, On
 ghost use Rattle.mine_instance.specs.OfCpit.{cpit as cpit_of};
 ghost use Rattle.mine_instance.specs.Seen.{seen};
 ghost use Rattle.mine_instance.specs.Valid.{IsValid};
-ghost use Rattle.minelib_writing.specs.TextNames.{ending_of};
-ghost use Rattle.minelib_writing.specs.Texts.{text_named};
+ghost use Rattle.minelib_writing.specs.Texts.{ending_of, text_named};
 ghost use Rattle.pit_edge.specs.Sections.{printed, section};
 
 use devices::section_sink::SectionSink;
