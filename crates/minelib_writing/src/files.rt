@@ -1,9 +1,15 @@
-//! The texts by their parts.
+//! The texts of an instance: the parts of each, and its writer, which begins the sink and writes the text. Where it is refused, the sink
+//! is as it was, or it was begun and holds the front of the text; after `SinkFailed` it refused one call, and after `OutOfMemory` none.
 
-ghost use Rattle.std.specs.Prelude.{◌≤◌, ◌<◌, length, All, ⊤};
+ghost use Rattle.std.specs.Prelude.{◌≡◌, ◌≤◌, ◌<◌, length, All, OnOk, ⊤};
+ghost use Rattle.devices.specs.Writes.{Writes};
 ghost use Rattle.mine_instance.specs.Seen.{seen};
 ghost use Rattle.mine_instance.specs.CpitKept.{IsCpit};
+ghost use Rattle.mine_instance.specs.OfCpit.{cpit as cpit_of};
+ghost use Rattle.mine_instance.specs.Valid.{IsValid};
 ghost use Rattle.minelib_lines.specs.Kept.{IsKept, IsKeptCpit};
+ghost use Rattle.minelib_writing.specs.Texts.{text_named};
+ghost use Rattle.minelib_writing.specs.TextsKept.{kept_named};
 ghost use Rattle.minelib_writing.specs.Written.{text_blocks, text_prec, text_upit, text_pcpsp, text_cpit};
 ghost use Rattle.pit_parts.specs.declared.ranges.TheConstants.{MAX_BLOCKS};
 
@@ -15,8 +21,9 @@ use crate::lines::Lines;
 use crate::prec_lines::write_preds;
 use crate::schedule::write_sections;
 use crate::sections::{write_section, write_titled};
+use crate::text_name::TextName;
 use devices::sink::Sink;
-use devices::whole_text::Text;
+use devices::whole_text::{Text, write_text};
 use devices::write_fault::WriteFault;
 use mine_instance::cpit::Cpit;
 use mine_instance::instance::Instance;
@@ -26,8 +33,8 @@ use precedence::PredLists;
 use std::alloc::Global;
 
 #[derive(Drop)]
-pub struct BlockFile<'a, P> {
-    pub instance: &'a Instance<P>,
+struct BlockFile<'a, P> {
+    instance: &'a Instance<P>,
 }
 
 impl<'a, P: PredLists> Text for BlockFile<'a, P> {
@@ -47,10 +54,23 @@ impl<'a, P: PredLists> Text for BlockFile<'a, P> {
     }
 }
 
+/// Begins the sink and writes the block file: a line for each block, by identifier.
+pub fn write_blocks<P: PredLists, S: Sink>(
+    alloc: Global,
+    instance: &Instance<P>,
+    sink: &mut S,
+) -> Result<(), WriteFault>
+    requires { IsValid (seen P.lists instance.now) }
+    ensures { Writes (text_blocks (seen P.lists instance.now))
+        (S.state sink.old) (S.state sink.new) result }
+{
+    write_text(alloc, &BlockFile { instance }, sink)
+}
+
 #[derive(Drop)]
-pub struct PrecFile<'a, P: PredLists> {
-    pub instance: &'a Instance<P>,
-    pub ghost few: { length (P.lists instance.now.preds) ≤ MAX_BLOCKS },
+struct PrecFile<'a, P: PredLists> {
+    instance: &'a Instance<P>,
+    ghost few: { length (P.lists instance.now.preds) ≤ MAX_BLOCKS },
 }
 
 impl<'a, P: PredLists> Text for PrecFile<'a, P> {
@@ -72,10 +92,23 @@ impl<'a, P: PredLists> Text for PrecFile<'a, P> {
     }
 }
 
+/// Begins the sink and writes the precedence file: the predecessors of each block, by identifier.
+pub fn write_prec<P: PredLists, S: Sink>(
+    alloc: Global,
+    instance: &Instance<P>,
+    sink: &mut S,
+) -> Result<(), WriteFault>
+    requires { IsValid (seen P.lists instance.now) }
+    ensures { Writes (text_prec (seen P.lists instance.now))
+        (S.state sink.old) (S.state sink.new) result }
+{
+    write_text(alloc, &PrecFile { instance }, sink)
+}
+
 #[derive(Drop)]
-pub struct UpitFile<'a, P> {
-    pub instance: &'a Instance<P>,
-    pub ghost some: { All (λ of_block. 0 < length of_block) instance.now.values },
+struct UpitFile<'a, P> {
+    instance: &'a Instance<P>,
+    ghost some: { All (λ of_block. 0 < length of_block) instance.now.values },
 }
 
 impl<'a, P: PredLists> Text for UpitFile<'a, P> {
@@ -107,9 +140,23 @@ impl<'a, P: PredLists> Text for UpitFile<'a, P> {
     }
 }
 
+/// Begins the sink and writes the file of the ultimate pit limit problem: the greatest value of each block, in units of 100
+/// cents.
+pub fn write_upit<P: PredLists, S: Sink>(
+    alloc: Global,
+    instance: &Instance<P>,
+    sink: &mut S,
+) -> Result<(), WriteFault>
+    requires { IsValid (seen P.lists instance.now) }
+    ensures { Writes (text_upit (seen P.lists instance.now))
+        (S.state sink.old) (S.state sink.new) result }
+{
+    write_text(alloc, &UpitFile { instance }, sink)
+}
+
 #[derive(Drop)]
-pub struct PcpspFile<'a, P> {
-    pub instance: &'a Instance<P>,
+struct PcpspFile<'a, P> {
+    instance: &'a Instance<P>,
 }
 
 impl<'a, P: PredLists> Text for PcpspFile<'a, P> {
@@ -149,9 +196,24 @@ impl<'a, P: PredLists> Text for PcpspFile<'a, P> {
     }
 }
 
+/// Begins the sink and writes the file of the production scheduling problem. Of an instance that it wrote it says what the types of
+/// the parts keep: a NAME and decimals.
+pub fn write_pcpsp<P: PredLists, S: Sink>(
+    alloc: Global,
+    instance: &Instance<P>,
+    sink: &mut S,
+) -> Result<(), WriteFault>
+    requires { IsValid (seen P.lists instance.now) }
+    ensures writes { Writes (text_pcpsp (seen P.lists instance.now))
+        (S.state sink.old) (S.state sink.new) result }
+    ensures kept { OnOk result (IsKept (seen P.lists instance.now)) }
+{
+    write_text(alloc, &PcpspFile { instance }, sink)
+}
+
 #[derive(Drop)]
-pub struct CpitFile<'a> {
-    pub cpit: &'a Cpit,
+struct CpitFile<'a> {
+    cpit: &'a Cpit,
 }
 
 impl<'a> Text for CpitFile<'a> {
@@ -188,5 +250,39 @@ impl<'a> Text for CpitFile<'a> {
                 items: cpit.limits(),
             },
         )
+    }
+}
+
+/// Begins the sink and writes the file of the constrained pit limit problem. Of a CPIT that it wrote it says what the types of the
+/// parts keep, and that they are within their ranges and orders.
+pub fn write_cpit<S: Sink>(alloc: Global, cpit: &Cpit, sink: &mut S) -> Result<(), WriteFault>
+    ensures writes { Writes (text_cpit cpit.now)
+        (S.state sink.old) (S.state sink.new) result }
+    ensures kept { OnOk result (IsKeptCpit cpit.now) }
+    ensures is { OnOk result (IsCpit cpit.now) }
+{
+    write_text(alloc, &CpitFile { cpit }, sink)
+}
+
+/// Begins the sink and writes the text of this name, of an instance and its CPIT.
+pub fn write_named<P: PredLists, S: Sink>(
+    alloc: Global,
+    name: TextName,
+    instance: &Instance<P>,
+    cpit: &Cpit,
+    sink: &mut S,
+) -> Result<(), WriteFault>
+    requires valid { IsValid (seen P.lists instance.now) }
+    requires cpit { cpit.now ≡ cpit_of (seen P.lists instance.now) }
+    ensures writes { Writes (text_named name (seen P.lists instance.now))
+        (S.state sink.old) (S.state sink.new) result }
+    ensures kept { OnOk result (kept_named name (seen P.lists instance.now)) }
+{
+    match name {
+        TextName::Blocks => write_blocks(alloc, instance, sink),
+        TextName::Prec => write_prec(alloc, instance, sink),
+        TextName::Upit => write_upit(alloc, instance, sink),
+        TextName::Pcpsp => write_pcpsp(alloc, instance, sink),
+        TextName::Cpit => write_cpit(alloc, cpit, sink),
     }
 }

@@ -14,6 +14,5 @@ mod prec_lines;
 mod schedule;
 mod sections;
 pub mod text_name;
-mod writers;
 
-pub use writers::{write_blocks, write_cpit, write_named, write_pcpsp, write_prec, write_upit};
+pub use files::{write_blocks, write_cpit, write_named, write_pcpsp, write_prec, write_upit};
