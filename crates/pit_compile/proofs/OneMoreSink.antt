@@ -1,13 +1,15 @@
 -- The sinks, where that of one text more was written to.
-use Rattle.std.proofs.Common.{◌≡◌, ℕ, ◌+◌, ◌<◌, List, [], ◌∷◌, ◌++◌, All, Result, Ok, Err, take, drop, get_or, refl, ap, zero, sym, subst, ◌∙◌, arith, suc}
-use Rattle.std.proofs.lemmas.List.{drop_more}
-use Rattle.std.proofs.lemmas.List.Elements.{All-cons, All-head, All-more, All-nil, All-tail}
+use Rattle.std.proofs.Common.{◌≡◌, ℕ, ◌+◌, ◌<◌, List, [], ◌∷◌, ◌++◌, All, AllPairs, Result, Ok, Err, take, drop, get_or, length, refl, ap, sym, subst, ◌∙◌, arith}
+use Rattle.std.specs.List.{AllByRecursion}
+use Rattle.std.proofs.lemmas.List.{drop_more, get_or-drop, get_or-take, length-drop, length-take, take-append-drop}
+use Rattle.std.proofs.lemmas.List.Elements.{All-from_get_or, All-from_recursion, All-head, All-more, All-rest, recursion_from_All}
+use Rattle.std.proofs.lemmas.List.Kept.{AllPairs-cons}
 use Rattle.mine_instance.specs.Instance.{Instance}
 use Rattle.devices.specs.SinkState.{SinkState, IsWritten, IsCutOff}
 use Rattle.minelib_writing.specs.Texts.{all_texts, text_named}
 use Rattle.devices.specs.Writes.{Writes}
 use Rattle.minelib_writing.specs.declared.text_name.TextName.{TextName}
-use Rattle.minelib_writing.specs.declared.text_name.TextName.TheVariants.{Blocks, Prec, Upit, Pcpsp, Cpit}
+use Rattle.minelib_writing.specs.declared.text_name.TextName.TheVariants.{Blocks}
 use Rattle.devices.specs.declared.write_fault.WriteFault.{WriteFault}
 use Rattle.devices.specs.declared.write_fault.WriteFault.TheVariants as write
 use Rattle.pit_compile.specs.SinkAnswers.{AreCutOff}
@@ -30,26 +32,13 @@ IsHeld i old new name = IsWritten (text_named name i) (old name) (new name)
 abbrev pub IsAsItWas : (TextName → SinkState) → (TextName → SinkState) → TextName → Type 0
 IsAsItWas old new name = new name ≡ old name
 
--- the same as `All`, by steps that compute
-abbrev Each : (TextName → Type 0) → List TextName → Type 0
-Each P [] = Unit {0}
-Each P (name ∷ names) = P name × Each P names
-
-each_all : (P : TextName → Type 0) (names : List TextName) → All P names → Each P names
-each_all P [] h = tt
-each_all P (name ∷ names) h = (All-head P name names h, each_all P names (All-tail P name names h))
-
-all_each : (P : TextName → Type 0) (names : List TextName) → Each P names → All P names
-all_each P [] h = All-nil P
-all_each P (name ∷ names) h = All-cons P name names h.0 (all_each P names h.1)
-
--- what holds of all five holds of each
+-- what holds of all texts holds of each
 pub of_each : (P : TextName → Type 0) → All P all_texts → (name : TextName) → P name
-of_each P h Blocks = (each_all P all_texts h).0
-of_each P h Prec = (each_all P all_texts h).1.0
-of_each P h Upit = (each_all P all_texts h).1.1.0
-of_each P h Pcpsp = (each_all P all_texts h).1.1.1.0
-of_each P h Cpit = (each_all P all_texts h).1.1.1.1.0
+of_each P h = each (recursion_from_All P all_texts h)
+  where
+    each : AllByRecursion P all_texts → (name : TextName) → P name
+    each all Blocks = all.0
+    each all name = assumption
 
 module _ {S : Type 0} (state : S → SinkState) (i : Instance) (old : TextName → SinkState) (sinks : Sinks S) (sink : S) where
   abbrev Held : Sinks S → TextName → Type 0
@@ -58,52 +47,76 @@ module _ {S : Type 0} (state : S → SinkState) (i : Instance) (old : TextName �
   abbrev Same : Sinks S → TextName → Type 0
   Same now = IsAsItWas old (all_told state now)
 
-  -- this sink stands at a place, with written ones in front of it, and behind it those that are as they were
-  record Stands (k : ℕ) (now : Sinks S) : Type 0 where
-    order : all_texts ≡ take k all_texts ++ name_at k ∷ drop (k + 1) all_texts
-    before : Each (Held now) (take k all_texts)
-    told : all_told state now (name_at k) ≡ state sink
-    behind : Each (Same now) (drop (k + 1) all_texts)
+  -- with this sink for a text, that of another one tells what it told
+  abbrev IsStill : TextName → TextName → Type 0
+  IsStill name = IsAsItWas (all_told state sinks) (all_told state (with_sink sinks name sink))
 
-  stands : (k : ℕ) → k < 5 → Each (Held sinks) (take k all_texts) → Each (Same sinks) (drop k all_texts)
-      → Stands k (with_sink sinks (name_at k) sink)
-  stands zero lt w q = record { order = refl; before = w; told = refl; behind = q.1 }
-  stands (suc zero) lt w q = record { order = refl; before = w; told = refl; behind = q.1 }
-  stands (suc (suc zero)) lt w q = record { order = refl; before = w; told = refl; behind = q.1 }
-  stands (suc (suc (suc zero))) lt w q = record { order = refl; before = w; told = refl; behind = q.1 }
-  stands (suc (suc (suc (suc zero)))) lt w q = record { order = refl; before = w; told = refl; behind = q.1 }
-  stands (suc (suc (suc (suc (suc k))))) lt w q = absurd (omega arith)
+  abbrev AreApart : TextName → TextName → Type 0
+  AreApart name other = IsStill name other × IsStill other name
 
-  was_old : (k : ℕ) → k < 5 → All (Same sinks) (drop k all_texts) → all_told state sinks (name_at k) ≡ old (name_at k)
-  was_old k lt h =
-      All-head (Same sinks) (name_at k) (drop (k + 1) all_texts) (subst (All (Same sinks)) (drop_more all_texts k Blocks lt) h)
+  -- each two of these texts, by steps that compute
+  abbrev ArePairsApart : List TextName → Type 0
+  ArePairsApart [] = Unit {0}
+  ArePairsApart (name ∷ names) = AllByRecursion (AreApart name) names × ArePairsApart names
+
+  pairs_apart : (names : List TextName) → ArePairsApart names → AllPairs AreApart names
+  pairs_apart [] h = λ place other d below within. absurd (omega arith)
+  pairs_apart (name ∷ names) h =
+      AllPairs-cons AreApart name names (All-from_recursion (AreApart name) names h.0) (pairs_apart names h.1)
+
+  all_apart : AllPairs AreApart all_texts
+  all_apart = pairs_apart all_texts assumption
+
+  tells : (name : TextName) → all_told state (with_sink sinks name sink) name ≡ state sink
+  tells Blocks = refl
+  tells name = refl
 
   -- the sink of the text at this place told `was`, and this one stands in its place
-  module _ (k : ℕ) (lt : k < 5) (name : TextName) (at : name ≡ name_at k) (was : SinkState) (is : was ≡ all_told state sinks name)
+  module _ (k : ℕ) (lt : k < length all_texts) (name : TextName) (at : name ≡ name_at k) (was : SinkState)
+      (is : was ≡ all_told state sinks name)
       (before : All (Held sinks) (take k all_texts)) (behind : All (Same sinks) (drop k all_texts)) where
     abbrev now : Sinks S
     now = with_sink sinks (name_at k) sink
 
-    parts : Stands k now
-    parts = stands k lt (each_all (Held sinks) (take k all_texts) before) (each_all (Same sinks) (drop k all_texts) behind)
+    from_here : drop k all_texts ≡ name_at k ∷ drop (k + 1) all_texts
+    from_here = drop_more all_texts k Blocks lt
+
+    still_before : All (IsStill (name_at k)) (take k all_texts)
+    still_before = All-from_get_or (IsStill (name_at k)) (take k all_texts) Blocks (λ place within.
+        let low : place < k = omega (arith, length-take k all_texts) in
+        subst (IsStill (name_at k)) (sym (get_or-take k all_texts place Blocks low)) (all_apart place k Blocks low lt).1)
+
+    still_behind : All (IsStill (name_at k)) (drop (k + 1) all_texts)
+    still_behind = All-from_get_or (IsStill (name_at k)) (drop (k + 1) all_texts) Blocks (λ place within.
+        let there : k + 1 + place < length all_texts = omega (arith, length-drop (k + 1) all_texts) in
+        subst (IsStill (name_at k)) (sym (get_or-drop (k + 1) all_texts place Blocks))
+        (all_apart k (k + 1 + place) Blocks (omega arith) there).0)
+
+    held : All (Held now) (take k all_texts)
+    held place d within =
+        let text = get_or (take k all_texts) place d in
+        subst (IsWritten (text_named text i) (old text)) (sym (still_before place d within)) (before place d within)
+
+    same : All (Same now) (drop (k + 1) all_texts)
+    same place d within =
+        let rest = All-rest (Same sinks) (name_at k) (drop (k + 1) all_texts) (drop k all_texts) from_here behind in
+        still_behind place d within ∙ rest place d within
 
     -- what holds of the step from what it told to what this one tells, holds from the old state to the new one
     moved : (P : TextName → SinkState → SinkState → Type 0) → P name was (state sink)
         → P (name_at k) (old (name_at k)) (all_told state now (name_at k))
     moved P h =
-        let started : was ≡ old (name_at k) = is ∙ ap (all_told state sinks) at ∙ was_old k lt behind in
-        subst (P (name_at k) (old (name_at k))) (sym parts.told)
+        let as_it_was = All-head (Same sinks) (name_at k) (drop (k + 1) all_texts) (subst (All (Same sinks)) from_here behind) in
+        let started : was ≡ old (name_at k) = is ∙ ap (all_told state sinks) at ∙ as_it_was in
+        subst (P (name_at k) (old (name_at k))) (sym (tells (name_at k)))
         (subst (λ told. P (name_at k) told (state sink)) started (subst (λ text. P text was (state sink)) at h))
 
     pub wrote : IsWritten (text_named name i) was (state sink)
         → All (Held (with_sink sinks name sink)) (take (k + 1) all_texts) × All (Same (with_sink sinks name sink)) (drop (k + 1) all_texts)
     wrote h =
         subst (λ text. All (Held (with_sink sinks text sink)) (take (k + 1) all_texts)
-        × All (Same (with_sink sinks text sink)) (drop (k + 1) all_texts)) (sym at) (
-          All-more (Held now) all_texts k Blocks lt (all_each (Held now) (take k all_texts) parts.before)
-              (moved (λ text. IsWritten (text_named text i)) h),
-          all_each (Same now) (drop (k + 1) all_texts) parts.behind,
-        )
+        × All (Same (with_sink sinks text sink)) (drop (k + 1) all_texts)) (sym at)
+        (All-more (Held now) all_texts k Blocks lt held (moved (λ text. IsWritten (text_named text i)) h), same)
 
     cut : (more : ℕ) → IsCutOff more (text_named name i) was (state sink)
         → AreCutOffAt name more i old (all_told state (with_sink sinks name sink))
@@ -112,10 +125,10 @@ module _ {S : Type 0} (state : S → SinkState) (i : Instance) (old : TextName �
         record {
           before = take k all_texts;
           behind = drop (k + 1) all_texts;
-          order = parts.order;
-          written = all_each (Held now) (take k all_texts) parts.before;
+          order = sym (take-append-drop k all_texts) ∙ ap (λ rest. take k all_texts ++ rest) from_here;
+          written = held;
           cut = moved (λ text. IsCutOff more (text_named text i)) h;
-          still = all_each (Same now) (drop (k + 1) all_texts) parts.behind;
+          still = same;
         }
 
     pub refused : (written : Result (Unit {0}) WriteFault) (refusal : Refusal)

@@ -1,17 +1,17 @@
 -- What sinks end as, where the sink of a text is lent to be written to. Callers of `of_mut` and proofs alone need this page.
 use Rattle.std.specs.Borrow.{Lends, Fml, RattleType, MutBor}
 use Rattle.minelib_writing.specs.declared.text_name.TextName.{TextName}
-use Rattle.minelib_writing.specs.declared.text_name.TextName.TheVariants.{Blocks, Prec, Upit, Pcpsp, Cpit}
+use Rattle.minelib_writing.specs.declared.text_name.TextName.TheVariants as text
 use Rattle.pit_compile.specs.contracts.sinks.Sinks.{the_row}
 use Rattle.pit_compile.specs.declared.sinks.Sinks.{Sinks}
 
 -- the sinks with this one for a text
 abbrev pub with_sink : {S : Type 0} → Sinks S → TextName → S → Sinks S
-with_sink sinks Blocks sink = record sinks { blocks = sink }
-with_sink sinks Prec sink = record sinks { prec = sink }
-with_sink sinks Upit sink = record sinks { upit = sink }
-with_sink sinks Pcpsp sink = record sinks { pcpsp = sink }
-with_sink sinks Cpit sink = record sinks { cpit = sink }
+with_sink sinks text.Blocks sink = record sinks { blocks = sink }
+with_sink sinks text.Prec sink = record sinks { prec = sink }
+with_sink sinks text.Upit sink = record sinks { upit = sink }
+with_sink sinks text.Pcpsp sink = record sinks { pcpsp = sink }
+with_sink sinks text.Cpit sink = record sinks { cpit = sink }
 
 module _ (S : RattleType) where
   -- once the borrow ends, the sink of the text is what stands last behind it

@@ -3,17 +3,17 @@ use Rattle.std.specs.Prelude.{◌≡◌, ℕ, List, ◌∷◌, ◌++◌, All}
 use Rattle.devices.specs.SinkState.{SinkState, IsWritten, IsCutOff}
 use Rattle.minelib_writing.specs.Texts.{all_texts, text_named}
 use Rattle.minelib_writing.specs.declared.text_name.TextName.{TextName}
-use Rattle.minelib_writing.specs.declared.text_name.TextName.TheVariants.{Blocks, Prec, Upit, Pcpsp, Cpit}
+use Rattle.minelib_writing.specs.declared.text_name.TextName.TheVariants as text
 use Rattle.mine_instance.specs.Instance.{Instance}
 use Rattle.pit_compile.specs.declared.sinks.Sinks.{Sinks}
 
 -- the sink of a text
 abbrev pub sink_of : {S : Type 0} → Sinks S → TextName → S
-sink_of sinks Blocks = sinks.blocks
-sink_of sinks Prec = sinks.prec
-sink_of sinks Upit = sinks.upit
-sink_of sinks Pcpsp = sinks.pcpsp
-sink_of sinks Cpit = sinks.cpit
+sink_of sinks text.Blocks = sinks.blocks
+sink_of sinks text.Prec = sinks.prec
+sink_of sinks text.Upit = sinks.upit
+sink_of sinks text.Pcpsp = sinks.pcpsp
+sink_of sinks text.Cpit = sinks.cpit
 
 -- what the sink of each text tells
 abbrev pub all_told : {S : Type 0} → (S → SinkState) → Sinks S → TextName → SinkState
