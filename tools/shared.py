@@ -10,6 +10,9 @@ TOP = os.path.dirname(os.path.dirname(os.path.abspath(__file__)))
 # The texts of an instance, by the endings of their files, in the order in which they are written.
 ENDINGS = ["blocks", "prec", "upit", "pcpsp", "cpit"]
 
+# Those that `check` reads, in its order.
+CHECKED = ["blocks", "prec", "pcpsp", "cpit"]
+
 
 def parser_of(doc):
     """A parser for the words of a script that is described so."""

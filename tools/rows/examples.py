@@ -12,12 +12,9 @@ import tempfile
 
 from rows.instance import at, input_of, plain_texts, sections
 from rows.trial import Sum, Trial, piped
-from shared import TOP
+from shared import CHECKED, TOP
 
 EXAMPLES = os.path.join(TOP, "examples")
-
-# The files of an instance that `check` reads.
-CHECKED = ["blocks", "prec", "pcpsp", "cpit"]
 
 ZONES = ["deposit-oxide.csv", "deposit-west.csv", "deposit-east.csv"]
 

@@ -5,7 +5,7 @@ Each row takes up to some seconds and some hundred megabytes, so they run one af
 from rows import instance
 from rows.instance import arcs_of, at, plain_texts, sections, unlisted
 from rows.trial import HEADER, Trial, piped, refused
-from shared import ENDINGS, compile_words
+from shared import CHECKED, ENDINGS, compile_words
 
 ONE_AT_A_TIME = True
 
@@ -111,7 +111,7 @@ def long_files():
     """Each text that is read of an instance behind a remark of 200 MB."""
     remark = b"%" + b"x" * 200_000_000 + b"\n"
     counts = b"blocks 1 arcs 0 coefficients 0 limits 0 cpit 0\n"
-    for ending in ("blocks", "prec", "pcpsp", "cpit"):
+    for ending in CHECKED:
         files = at("b", {**ONE_BLOCK, ending: remark + ONE_BLOCK[ending]})
         yield Trial(f"200 MB before b.{ending}", words=["check", "b"], files=files, out=counts)
 

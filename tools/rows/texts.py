@@ -8,6 +8,7 @@ from rows.cells import (
 )
 from rows.instance import LIMITED_TEXTS, NO_BLOCK, ONE_ORE_BLOCK, at
 from rows.trial import MARK, Trial, lines, refused
+from shared import CHECKED
 
 
 class Change(NamedTuple):
@@ -317,7 +318,7 @@ TAKEN = [
 def answered(name, texts, place, kind, counts=""):
     """Texts that are refused at a place, such as `prec line 2`, or without a kind taken, with these
     counts."""
-    files = at("b", dict(zip(("blocks", "prec", "pcpsp", "cpit"), texts)))
+    files = at("b", dict(zip(CHECKED, texts)))
     run = {"words": ["check", "b"], "files": files}
     if kind:
         return refused(name, f"{place}: {kind}", **run)
@@ -565,7 +566,7 @@ def bytes_of_lines():
 def lines_between():
     """Lines that are skipped and others, behind the first line of each text."""
     texts = [BLOCKS, PREC, whole(PCPSP), whole(CPIT)]
-    for number, file in enumerate(("blocks", "prec", "pcpsp", "cpit")):
+    for number, file in enumerate(CHECKED):
         text, is_line = texts[number], number < 2
         def answers(name, changed, line=0, kind=None):
             changed = [*texts[:number], changed, *texts[number + 1 :]]
