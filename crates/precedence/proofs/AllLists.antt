@@ -14,7 +14,7 @@ use Rattle.precedence.specs.Cone.{above, is_above, places_where, preds, HasZones
 use Rattle.precedence.specs.inner.FoundFields.{found_in, KeepsFound}
 use Rattle.precedence.specs.inner.Lists.{in_cone, in_cones}
 use Rattle.precedence.specs.inner.Rows.{is_in_rows, AreInOrder, IsWithin}
-use Rattle.precedence.specs.inner.ZoneTables.{HasTables, IsTold, rows_in}
+use Rattle.precedence.specs.inner.ZoneTables.{HasTables, IsTold}
 use Rattle.precedence.specs.declared.cone_table.ConeTable.{ConeTable}
 use Rattle.precedence.specs.declared.cone_rows.Extent.{Extent}
 use Rattle.precedence.specs.declared.found_preds.FoundPreds.TheInside.{Inside}
@@ -60,10 +60,8 @@ module _ (plan : PlanParts) (extent : Extent) (tables : List ConeTable) (of_zone
       ∙ ap (λ (c : Cone). Some c) (sym (has.same low.zone cone table lt)
       ∙ ap (λ (t : ConeTable). t.cone) (get_or_from_slice_get tables (place low.zone) table table found.2)) in
       let told = all_at (IsTold plan.grid extent) tables (place low.zone) table has.told found.1 found.2 in
-      ap (λ o. places_where (is_in_rows (place_code low) (rows_in o)) 0 (place_codes blocks)) found.2
-      ∙ blocks_where (is_in_rows (place_code low) table.rows.items) (is_above plan.grid cone low) 0 blocks
-      (λ k d within. told.told low (get_or blocks k d) (close k d within))
-      ∙ ap (λ o. above plan.grid o blocks low) (sym same))
+      rw (found.2, same) (blocks_where (is_in_rows (place_code low) table.rows.items) (is_above plan.grid cone low) 0 blocks
+      (λ k d within. told.told low (get_or blocks k d) (close k d within))))
       (λ past. let below = has.below low.zone 0 (omega (arith, has.zones)) in absurd (omega (arith, past.0)))
       ((slice_get_cases tables (place low.zone)).1)
 

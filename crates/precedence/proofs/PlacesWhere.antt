@@ -1,8 +1,22 @@
--- The numbers of the elements that pass a test, as a filter of all numbers.
-use Rattle.std.proofs.Common.{◌≡◌, ℕ, suc, ◌+◌, ◌<◌, Bool, false, List, [], ◌∷◌, filter, length, get_or, refl, ap, ◌∙◌, arith, if◌then◌else◌}
-use Rattle.std.specs.List.{range_with_len}
-use Rattle.std.proofs.lemmas.List.{get_or_default}
+-- The numbers of elements: one more, and of those that pass a test as a filter of all numbers.
+use Rattle.std.proofs.Common.{◌≡◌, ℕ, suc, ◌+◌, ◌<◌, Bool, false, List, [], ◌∷◌, ◌++◌, filter, length, length-take-le, take, get_or, refl, sym, ap, ◌∙◌, arith, if◌then◌else◌}
+use Rattle.std.specs.List.{enumerate_from, range_with_len}
+use Rattle.std.proofs.lemmas.List.{get_or_default, take_more}
 use Rattle.precedence.specs.Cone.{places_where}
+
+numbered-append : {X : Type 0} (n : ℕ) (xs ys : List X)
+    → enumerate_from n (xs ++ ys) ≡ enumerate_from n xs ++ enumerate_from (n + length xs) ys
+numbered-append n [] ys = ap (λ k. enumerate_from k ys) (omega arith)
+numbered-append n (x ∷ xs) ys =
+    ap (λ rest. (n, x) ∷ rest) (numbered-append (n + 1) xs ys ∙ ap (λ k. enumerate_from (n + 1) xs ++ enumerate_from k ys) (omega arith))
+
+-- one element more, with its number
+pub numbered_more : {X : Type 0} (xs : List X) (i : ℕ) (x : X) → i < length xs → x ≡ get_or xs i x
+    → enumerate_from 0 (take (i + 1) xs) ≡ enumerate_from 0 (take i xs) ++ (i, x) ∷ []
+numbered_more xs i x h is =
+    let at : 0 + length (take i xs) ≡ i = omega (arith, length-take-le i xs (omega arith)) in
+    ap (enumerate_from 0) (take_more xs i x h ∙ ap (λ y. take i xs ++ y ∷ []) (sym is))
+    ∙ numbered-append 0 (take i xs) (x ∷ []) ∙ ap (λ k. enumerate_from 0 (take i xs) ++ (k, x) ∷ []) at
 
 pub nowhere : {X : Type 0} (n : ℕ) (xs : List X) → places_where (λ x. false) n xs ≡ []
 nowhere n [] = refl

@@ -39,6 +39,8 @@ part_of_range n first past le within =
       get_or-range_with_len first (past - first) k 0 (omega (arith, long)),
     ))
 
+pub ruleset parts = (part_of_range, length-range_with_len)
+
 -- what passes a test is a run and, behind it, what passes another test
 filter_run : (p q : ℕ → Bool) (a b n m : ℕ) → ((k : ℕ) → k < a → p k ≡ false) → ((k : ℕ) → a ≤ k → k < b → p k ≡ true)
     → ((k : ℕ) → b ≤ k → k < n + m → p k ≡ q k) → ((k : ℕ) → k < b → q k ≡ false) → a ≤ b → b ≤ n + m
@@ -184,9 +186,8 @@ module _ (from high : ℕ) (rows : List Row) (codes : List ℕ) (apart : AreApar
       let begin : max first_place 0 ≡ first_place = omega arith in
       let last : suc i + (j - suc i) ≡ j = omega arith in
       let rest : drop (j - suc i) others ≡ drop j rows = drop-drop (j - suc i) (suc i) rows ∙ ap (λ n. drop n rows) last in
-      ap (λ rs. places_where (is_in_rows from rs) 0 codes) whole ∙ where_at (is_in_rows from (row ∷ others)) 0 codes
+      rw (whole, ← rest) (where_at (is_in_rows from (row ∷ others)) 0 codes
       ∙ filter_run in_all in_rest first_place past_place 0 (length codes) before within_row (λ k le lt. beyond k le (omega arith)) none
       (start_grows (from + row.first) (from + row.past) codes rising (omega (arith, here.0)))
       (omega (arith, start_within (from + row.past) codes))
-      ∙ (λ t. range_with_len (begin t) (past_place - begin t) ++ sym (where_at (is_in_rows from (drop (j - suc i) others)) 0 codes) t)
-      ∙ ap (λ rs. run from row codes ++ places_where (is_in_rows from rs) 0 codes) rest
+      ∙ (λ t. range_with_len (begin t) (past_place - begin t) ++ sym (where_at (is_in_rows from (drop (j - suc i) others)) 0 codes) t))

@@ -1,29 +1,23 @@
 -- The table of places: its keys, its positions, and what a look-up says.
-use Rattle.std.proofs.Common.{◌≡◌, ℕ, zero, suc, ◌+◌, ◌<◌, false, List, [], ◌∷◌, ◌++◌, Some, All, length, take, get_or, nat_eq, refl, sym, ap, subst, ◌∙◌, arith}
+use Rattle.std.proofs.Common.{◌≡◌, ℕ, ◌+◌, ◌<◌, false, List, [], ◌∷◌, ◌++◌, Some, All, length, take, get_or, nat_eq, refl, sym, ap, subst, ◌∙◌, arith}
 use Rattle.std.specs.Map.{keys_of, lookup}
-use Rattle.std.specs.List.{IsDistinct}
+use Rattle.std.specs.List.{enumerate_from, IsDistinct}
 use Rattle.std.proofs.lemmas.Bool.{eqb-true, eq-eqb}
-use Rattle.std.proofs.lemmas.List.{get_or-map, get_or-take, length-take, length-map, take_more}
+use Rattle.std.proofs.lemmas.List.{get_or-map, get_or-take, length-take, length-map, map-append}
 use Rattle.std.proofs.lemmas.List.Elements.{All-contains}
+use Rattle.std.proofs.lemmas.List.FromFn.{get_or-enumerate_from, length-enumerate_from}
 use Rattle.std.proofs.lemmas.Map.Keys.{apart_from_distinct}
 use Rattle.std.proofs.lemmas.Map.Views.{Contains-from_lookup}
 use Rattle.indexmap.proofs.CallerLemmas.{insert_entry-new}
 use Rattle.pit_parts.specs.declared.block.Block.{Block}
 use Rattle.precedence.specs.Codes.{place_code, place_codes}
 use Rattle.precedence.specs.Identifier.{IsFirstAgain, is_same_place}
-use Rattle.precedence.specs.inner.Seen.{placed, IsPlaced}
+use Rattle.precedence.specs.inner.Seen.{placed, with_place, IsPlaced}
 use Rattle.precedence.proofs.Order.{same_is}
-
-pub placed_push : (n : ℕ) (bs : List Block) (b : Block) → placed n (bs ++ b ∷ []) ≡ placed n bs ++ (place_code b, n + length bs) ∷ []
-placed_push n [] b = ap (λ k. (place_code b, k) ∷ []) (omega arith)
-placed_push n (a ∷ bs) b =
-    let more = placed_push (n + 1) bs b in
-    let same : (n + 1) + length bs ≡ n + length (a ∷ bs) = omega arith in
-    ap (λ es. (place_code a, n) ∷ es) (more ∙ ap (λ k. placed (n + 1) bs ++ (place_code b, k) ∷ []) same)
+use Rattle.precedence.proofs.PlacesWhere.{numbered_more}
 
 pub length-placed : (n : ℕ) (bs : List Block) → length (placed n bs) ≡ length bs
-length-placed n [] = refl
-length-placed n (b ∷ bs) = ap (λ k. suc k) (length-placed (n + 1) bs)
+length-placed n bs = length-map (enumerate_from n bs) with_place ∙ length-enumerate_from n bs
 
 pub keys-placed : (n : ℕ) (bs : List Block) → keys_of (placed n bs) ≡ place_codes bs
 keys-placed n [] = refl
@@ -32,11 +26,9 @@ keys-placed n (b ∷ bs) = ap (λ ks. place_code b ∷ ks) (keys-placed (n + 1) 
 -- the entry at i
 pub placed_at : (n : ℕ) (bs : List Block) (i : ℕ) (d : Block) (e : ℕ × ℕ) → i < length bs
     → get_or (placed n bs) i e ≡ (place_code (get_or bs i d), n + i)
-placed_at n [] i d e lt = absurd (omega arith)
-placed_at n (b ∷ bs) zero d e lt = ap (λ k. (place_code b, k)) (omega arith)
-placed_at n (b ∷ bs) (suc i) d e lt =
-    let same : (n + 1) + i ≡ n + suc i = omega arith in
-    placed_at (n + 1) bs i d e (omega arith) ∙ ap (λ k. (place_code (get_or bs i d), k)) same
+placed_at n bs i d e lt =
+    get_or-map with_place (enumerate_from n bs) i (0, d) e (omega (arith, length-enumerate_from n bs))
+    ∙ ap with_place (get_or-enumerate_from n bs i (0, d) lt)
 
 -- every entry has the position and the place of a block
 pub all_placed : (listed : List Block) → All (IsPlaced listed) (placed 0 listed)
@@ -58,25 +50,13 @@ apart bs i j d distinct lt within =
     same_is (get_or bs i d) (get_or bs j d) ∙ (λ t. nat_eq (code i (omega arith) t) (code j within t))
     ∙ apart_from_distinct nat_eq (place_codes bs) i j 0 (subst (IsDistinct nat_eq) (keys-placed 0 bs) distinct) lt (omega arith)
 
--- one block more
-placed_more : (listed : List Block) (i : ℕ) (d : Block) → i < length listed
-    → placed 0 (take (i + 1) listed) ≡ placed 0 (take i listed) ++ (place_code (get_or listed i d), i) ∷ []
-placed_more listed i d lt =
-    let long : 0 + length (take i listed) ≡ i = omega (arith, length-take i listed) in
-    ap (placed 0) (take_more listed i d lt) ∙ placed_push 0 (take i listed) (get_or listed i d)
-    ∙ ap (λ n. placed 0 (take i listed) ++ (place_code (get_or listed i d), n) ∷ []) long
-
 -- a table of the blocks before this one, with this one's place behind it, is that of one block more
 pub placed_on : (listed : List Block) (position place : ℕ) (block : Block) (table more : List (ℕ × ℕ)) → position < length listed
     → block ≡ get_or listed position block → place ≡ place_code block → table ≡ placed 0 (take position listed)
     → more ≡ table ++ (place, position) ∷ []
     → more ≡ placed 0 (take (position + 1) listed)
 placed_on listed position place block table more lt is at before push =
-    let here : place ≡ place_code (get_or listed position block) = at ∙ ap place_code is in
-    push
-    ∙ ap (λ es. es ++ (place, position) ∷ []) before
-    ∙ ap (λ k. placed 0 (take position listed) ++ (k, position) ∷ []) here
-    ∙ sym (placed_more listed position block lt)
+    rw (numbered_more listed position block lt is, map-append) (push ∙ (λ j. before j ++ (at j, position) ∷ []))
 
 -- the refusal at a place that the table has
 pub first_again : (listed : List Block) (first again c : ℕ) → again < length listed

@@ -79,4 +79,4 @@ count_below xs k rising within =
 
 pub ruleset starts = (start_after, start_before, start_within)
 
-pub ruleset runs = (start_grows, start_within)
+pub ruleset runs = (start_grows, start_within, start_before_in)

@@ -25,6 +25,7 @@ pub struct Places {
 
 impl Places {
     /// The identifiers from `first` on and before `past`.
+    #[tactic(auto, using(crate::proofs::RunsOfRows::parts))]
     pub fn ids(&self, first: usize, past: usize) -> &[u32]
         requires in_order { first ≤ past }
         requires within { past ≤ length self.now.codes.items }

@@ -114,6 +114,7 @@ fn run_end(codes: &[u64], first: usize, hint: usize, past: u64) -> usize
 }
 
 // The first row after the row `i` that can have a code from the one of the identifier `past` on, or the number of rows.
+#[tactic(auto, using(crate::proofs::Starts::runs))]
 #[inline(always)]
 fn next_row(places: &Places, pasts: &[u64], i: usize, past: usize, from: u64) -> usize
     requires rising { IsStrictlyIncreasing pasts.now }

@@ -1,14 +1,18 @@
 -- The table of the places that were seen, each with its position.
-use Rattle.std.specs.Prelude.{◌≡◌, ℕ, ◌+◌, ◌<◌, List, [], ◌∷◌, length, slice_index_or}
+use Rattle.std.specs.Prelude.{◌≡◌, ℕ, ◌<◌, List, length, map, slice_index_or}
+use Rattle.std.specs.List.{enumerate_from}
 use Rattle.std.specs.List.Sorted.{IsPermutation, IsStrictlyIncreasing}
 use Rattle.std.specs.Map.{keys_of}
 use Rattle.pit_parts.specs.declared.block.Block.{Block}
 use Rattle.precedence.specs.Codes.{place_code}
 
+-- a block's place, with its number
+abbrev pub with_place : ℕ × Block → ℕ × ℕ
+with_place numbered = (place_code numbered.1, numbered.0)
+
 -- the places of blocks, whose positions go on from n
 abbrev pub placed : ℕ → List Block → List (ℕ × ℕ)
-placed n [] = []
-placed n (b ∷ bs) = (place_code b, n) ∷ placed (n + 1) bs
+placed n blocks = map with_place (enumerate_from n blocks)
 
 -- the entry's position is one of the list's, and its place that of the block there
 abbrev pub IsPlaced : List Block → ℕ × ℕ → Type 0

@@ -1,10 +1,11 @@
-use Rattle.std.proofs.Common.{◌<◌, All, take}
+use Rattle.std.proofs.Common.{ℕ, ◌<◌, get_or}
+use Rattle.pit_parts.specs.declared.block.Block.{Block}
 use Rattle.precedence.specs.inner.ZoneTables.{Holds}
 use Rattle.precedence.proofs.bounds.extent_of.Given as goal
 
 abbrev pub invariant-loop-block : goal.invariant-loop-block
 invariant-loop-block l = record {
-  holds : All (Holds l.bounds) (take l.block-index l.blocks);
+  holds : (k : ℕ) (d : Block) → k < l.block-index → Holds l.bounds (get_or l.blocks k d);
   north : l.bounds.north < 10000;
   top : l.bounds.top < 10000;
 }

@@ -1,4 +1,4 @@
-use Rattle.std.proofs.Common.{◌≡◌, ℕ, length, map, take, get_or, arith, sym, ap, ◌∙◌, ◌++◌, ◌∷◌, []}
+use Rattle.std.proofs.Common.{◌≡◌, length, map, get_or, arith, sym, ap, ◌∙◌, ◌++◌, ◌∷◌, []}
 use Rattle.std.proofs.lemmas.List.{take_more, take_all, length_push, map-append, get_or_default}
 use Rattle.precedence.proofs.number_by_place.blocks_at.Goals as goal
 
@@ -8,16 +8,11 @@ loop-position-preserved c = record {
   blocks = λ d.
       let block = c.index-blocks-position.result in
       let i = c.loop-position.position-index in
-      let blocks = c.args.blocks.now in
-      let positions = c.args.positions.now in
-      let p : ℕ = get_or positions i 0 in
-      let f = λ (p : ℕ). get_or blocks p d in
-      let there : f p ≡ block =
-      get_or_default blocks p d block (c.requires i 0 c.loop-position-test.true) ∙ sym c.index-blocks-position.is in
-      c.in_ok-push.ensures.items
-      ∙ ap (λ bs. bs ++ block ∷ []) (c.loop-position.invariant.blocks d)
-      ∙ ap (λ b. map f (take i positions) ++ b ∷ []) (sym there)
-      ∙ sym (ap (map f) (take_more positions i 0 c.loop-position-test.true) ∙ map-append f (take i positions) (p ∷ []));
+      let p = get_or c.args.positions.now i 0 in
+      let there : get_or c.args.blocks.now p d ≡ block =
+      get_or_default c.args.blocks.now p d block (c.requires i 0 c.loop-position-test.true) ∙ sym c.index-blocks-position.is in
+      rw (take_more c.args.positions.now i 0 c.loop-position-test.true, map-append)
+      (c.in_ok-push.ensures.items ∙ (λ j. c.loop-position.invariant.blocks d j ++ sym there j ∷ []));
 }
 
 pub returns-clause-blocks : goal.returns-clause-blocks
