@@ -17,8 +17,7 @@ use Rattle.pit_model.specs.PlanCells.{a_bound, a_period_count, a_rate, word_at, 
 use Rattle.pit_model.specs.FormulaShapes.{formula_shape}
 use Rattle.pit_model.specs.PlanShapes.{a_destination, blank_shape, bound_form, bound_of, cone_of, covers_of, grid_form, grid_of, is_interval, key_of, key_shape, limit_form, limit_of, record_shape, resource_form, room_for_destination, slope_at, zone_form}
 use Rattle.pit_model.specs.Planned.{SpellPlan, numbered_shape, plan_grammar, whole_plan}
-use Rattle.pit_model.specs.Stated.{Stated, is_same_place, nothing_stated, resource_named, with_destination, with_limit, with_zone}
-use Rattle.pit_parts.specs.declared.cone.Cone.{Cone}
+use Rattle.pit_model.specs.Stated.{Stated, is_same_place, nothing_stated, resource_named, with_destination, with_limit}
 use Rattle.pit_parts.specs.declared.formula.Formula.{Formula}
 use Rattle.pit_parts.specs.declared.formula.NamedFormula.{NamedFormula}
 use Rattle.pit_parts.specs.declared.grid.Grid.{Grid}
@@ -67,11 +66,6 @@ cone_kept false values fit = (
   ),
   between_fits 1 20 _ (fits_at (zone_form false) values 8 fit),
 )
-
--- one zone more, in range
-pub zone_kept : (s : Stated) (cone : Cone) → KeepsStated s → length (s.cones ++ cone ∷ []) ≤ MAX_ZONES → IsCone cone
-    → KeepsStated (with_zone s cone)
-zone_kept s cone kept few in_range = search (All-push IsCone s.cones cone kept.cones in_range)
 
 -- one limit more, in its place, on a resource and a period that are there
 pub limit_kept : (s : Stated) (l : Limit) → KeepsStated s → l.resource < length s.resources → l.period < unwrap_or s.periods 0
@@ -157,8 +151,10 @@ key_kept s (Some key.Name) cells kept values fit holds = search
 key_kept s (Some key.Grid) cells kept values fit holds = search (grid_kept values fit)
 key_kept s (Some key.Zone) cells kept values fit holds =
     let cone = cone_of (length cells == 4) values in
-    zone_kept s cone kept (room s.cones cone MAX_ZONES kept.zones (held TooMany (not (length s.cones == MAX_ZONES)) [] holds).0)
-    (cone_kept (length cells == 4) values fit)
+    search (
+      room s.cones cone MAX_ZONES kept.zones (held TooMany (not (length s.cones == MAX_ZONES)) [] holds).0,
+      All-push IsCone s.cones cone kept.cones (cone_kept (length cells == 4) values fit),
+    )
 key_kept s (Some (key.Destination k)) cells kept values fit holds =
     let new = held Twice _ ((formula_shape k cells).asked values ++ room_for_destination s) holds in
     let both = apart ((formula_shape k cells).asked values) (room_for_destination s) new.1 in

@@ -21,7 +21,7 @@ fn band_in(start: &[u8], recovery: &[u8]) -> Result<Band, PlanFaultKind>
     let start = number_in(start, 6, 0, 1_000_000_000_000)?;
     let recovery = whole_in(recovery, 0, u32::from(MAX_RECOVERY))?;
     Ok(Band {
-        start: start as u64,
+        start: start.millionths() as u64,
         recovery: recovery as u16,
     })
 }

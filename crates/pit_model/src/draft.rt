@@ -1,26 +1,23 @@
 //! A plan while its records are read.
 
-ghost use Rattle.std.specs.Prelude.{◌≡◌, ◌≤ℤ◌, ◌<◌, ◌≤◌, pos, length, Some, unwrap_or, All, IfOk};
+ghost use Rattle.std.specs.Prelude.{◌≡◌, ◌<◌, ◌≤◌, length, unwrap_or, All};
 ghost use Rattle.csv.specs.Records.{fields_of};
 ghost use Rattle.pit_units.specs.OrMemory.{Gives};
 ghost use Rattle.records.specs.RecordCells.{cells_of};
 ghost use Rattle.pit_parts.specs.PlanKept.{AreTonnes};
-ghost use Rattle.forms.specs.Words.{Millionths, read_field, said};
-ghost use Rattle.pit_model.specs.inner.ByPlace.{ReadAs, covered, limited, said_by_place};
-ghost use Rattle.pit_model.specs.PlanCells.{a_rate, plan_kind};
-ghost use Rattle.pit_model.specs.PlanShapes.{grid_shape, key_shape, limit_shape, name_shape, periods_shape, rate_shape, record_shape, resource_shape, zone_shape};
+ghost use Rattle.forms.specs.Words.{said};
+ghost use Rattle.pit_model.specs.inner.ByPlace.{covered, key_in, limit_in, limited, resource_in, said_by_place};
+ghost use Rattle.pit_model.specs.PlanShapes.{grid_shape, name_shape, periods_shape, rate_shape, record_shape};
 ghost use Rattle.pit_model.specs.Planned.{finished};
 ghost use Rattle.pit_model.specs.Stated.{nothing_stated};
-ghost use Rattle.pit_parts.specs.declared.ranges.TheConstants.{MAX_RATE};
 
 use crate::cells::Cells;
-use crate::grid_cells::grid_in;
+use crate::grid_cells::{axis_of, origin_in, size_in};
 use crate::limit_cells::{bound_in, insert_limit, is_limited, limit_width, period_in};
 use crate::named::{covers_in, has_repeat, is_resource, name_in, resource_in};
 use crate::numbers::{number_in, whole_in};
 use crate::plan_fault::PlanFaultKind;
 use crate::plan_key::{PlanKey, key_of};
-use crate::zone_cells::cone_in;
 use csv::ByteRecord;
 use pit_parts::cone::Cone;
 use pit_parts::formula::NamedFormula;
@@ -28,13 +25,14 @@ use pit_parts::grid::Grid;
 use pit_parts::limit::Limit;
 use pit_parts::name::Name;
 use pit_parts::plan::{Horizon, Plan};
-use pit_parts::ranges::{MAX_PERIODS, MAX_RATE, MAX_RESOURCES, MAX_ZONES};
+use pit_parts::ranges::{MAX_PERIODS, MAX_RATE, MAX_RESOURCES};
 use pit_parts::resource::Resource;
 use pit_units::{Dec, OrMemory};
 use std::alloc::Global;
 use std::marker::Model;
 
 mod formulas;
+mod zones;
 
 pub use formulas::{FormulaKey, formula_key_of};
 
@@ -100,7 +98,7 @@ impl Draft {
 
     fn admit_key(&mut self, key: PlanKey, cells: &Cells) -> Result<(), OrMemory<PlanFaultKind>>
         ensures { Gives (λ _. self.new) result
-            (said_by_place cells.now (key_shape self.old (Some key) cells.now)) }
+            (key_in self.old key cells.now) }
     {
         match key {
             PlanKey::Name => self.admit_name(cells),
@@ -155,35 +153,33 @@ impl Draft {
         Ok(())
     }
 
-    #[tactic(auto, using(crate::proofs::CellsByPlace::grid_placed))]
     fn admit_grid(&mut self, cells: &Cells) -> Result<(), OrMemory<PlanFaultKind>>
         ensures { Gives (λ _. self.new) result
             (said_by_place cells.now (grid_shape self.old cells.now)) }
     {
-        let grid = grid_in(cells)?;
+        if cells.len() != 7 {
+            return Err(OrMemory::Fault(PlanFaultKind::Width));
+        }
+        let x = origin_in(cells.at(1))?;
+        let y = origin_in(cells.at(2))?;
+        let z = origin_in(cells.at(3))?;
+        let along_x = size_in(cells.at(4))?;
+        let along_y = size_in(cells.at(5))?;
+        let along_z = size_in(cells.at(6))?;
         if self.grid.is_some() {
             return Err(OrMemory::Fault(PlanFaultKind::Twice));
         }
-        self.grid = Some(grid);
+        self.grid = Some(Grid {
+            x: axis_of(x, along_x),
+            y: axis_of(y, along_y),
+            z: axis_of(z, along_z),
+        });
         Ok(())
     }
 
-    #[tactic(auto, using(crate::proofs::CellsByPlace::zone_placed))]
-    fn admit_zone(&mut self, cells: &Cells) -> Result<(), OrMemory<PlanFaultKind>>
-        ensures { Gives (λ _. self.new) result (said_by_place cells.now (zone_shape self.old cells.now)) }
-    {
-        let cone = cone_in(cells)?;
-        if self.cones.len() == MAX_ZONES as usize {
-            return Err(OrMemory::Fault(PlanFaultKind::TooMany));
-        }
-        self.cones.push(cone)?;
-        Ok(())
-    }
-
-    #[tactic(auto, using(crate::proofs::CellsByPlace::resource_placed))]
     fn admit_resource(&mut self, cells: &Cells) -> Result<(), OrMemory<PlanFaultKind>>
         ensures { Gives (λ _. self.new) result
-            (said_by_place cells.now (resource_shape self.old cells.now)) }
+            (resource_in self.old cells.now) }
     {
         if cells.len() < 3 {
             return Err(OrMemory::Fault(PlanFaultKind::Width));
@@ -210,9 +206,9 @@ impl Draft {
         Ok(())
     }
 
-    #[tactic(auto, using(crate::proofs::CellsByPlace::limit_placed, crate::proofs::CellsByPlace::limit_said))]
+    #[tactic(auto, using(crate::proofs::CellsByPlace::limit_said))]
     fn admit_limit(&mut self, cells: &Cells) -> Result<(), OrMemory<PlanFaultKind>>
-        ensures { Gives (λ _. self.new) result (said_by_place cells.now (limit_shape self.old cells.now)) }
+        ensures { Gives (λ _. self.new) result (limit_in self.old cells.now) }
     {
         if cells.len() != limit_width(cells) {
             return Err(OrMemory::Fault(PlanFaultKind::Width));
@@ -266,20 +262,11 @@ impl Draft {
         if cells.len() != 2 {
             return Err(OrMemory::Fault(PlanFaultKind::Width));
         }
-        let rate = rate_in(cells.at(1))?;
+        let rate = number_in(cells.at(1), 6, 0, MAX_RATE)?;
         if self.rate.is_some() {
             return Err(OrMemory::Fault(PlanFaultKind::Twice));
         }
         self.rate = Some(rate);
         Ok(())
     }
-}
-
-// The discount rate that a cell states.
-fn rate_in(cell: &[u8]) -> Result<Dec, PlanFaultKind>
-    ensures value { ReadAs Millionths result (read_field plan_kind a_rate cell.now) }
-    ensures in_range { IfOk result (λ r. (pos 0 ≤ℤ r) × (r ≤ℤ MAX_RATE)) }
-{
-    let millionths = number_in(cell, 6, 0, MAX_RATE)?;
-    Ok(Dec::new(millionths).unwrap())
 }

@@ -12,7 +12,6 @@ mod numbers;
 pub mod plan_fault;
 mod plan_key;
 mod plan_reader;
-mod zone_cells;
 
 pub use pit_parts::{
     band, block, cone, destination, formula, grid, limit, name, plan, ranges, resource, worth,

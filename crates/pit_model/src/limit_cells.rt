@@ -31,21 +31,20 @@ pub fn limit_width(cells: &Cells) -> usize
 }
 
 /// The number of a period, of which there are so many.
-#[tactic(auto, using(crate::proofs::CellsByPlace::below_read))]
+#[tactic(auto, using(crate::proofs::CellsByPlace::whole_read))]
 pub fn period_in(periods: u8, cell: &[u8]) -> Result<u8, PlanFaultKind>
     ensures value { ReadAs whole result (read_field plan_kind (below periods) cell.now) }
     ensures there { IfOk result (λ n. n < periods) }
 {
-    let millionths = number_in(cell, 0, 0, periods as i128 * 1_000_000 - 1)?;
-    Ok((millionths.unsigned_abs() / 1_000_000) as u8)
+    let number = number_in(cell, 0, 0, periods as i128 * 1_000_000 - 1)?;
+    Ok((number.millionths().unsigned_abs() / 1_000_000) as u8)
 }
 
 fn tonnes_in(cell: &[u8]) -> Result<Dec, PlanFaultKind>
     ensures value { ReadAs Millionths result (read_field plan_kind a_bound cell.now) }
     ensures in_range { IfOk result (λ v. (pos 0 ≤ℤ v) × (v ≤ℤ MAX_TONNES)) }
 {
-    let millionths = number_in(cell, 6, 0, MAX_TONNES)?;
-    Ok(Dec::new(millionths).unwrap())
+    number_in(cell, 6, 0, MAX_TONNES)
 }
 
 /// What the record asks, by its letter.

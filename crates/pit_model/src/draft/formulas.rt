@@ -1,13 +1,13 @@
 //! The records of destinations: for each formula its key, and how its cells are read.
 
-ghost use Rattle.std.specs.Prelude.{◌≡◌, ◌≤◌, [], length, All, IfOk, Ok};
+ghost use Rattle.std.specs.Prelude.{◌≡◌, ◌≤◌, [], length, All, Ok};
 ghost use Rattle.forms.specs.Words.{failing, unless};
 ghost use Rattle.pit_units.specs.OrMemory.{Gives};
 ghost use Rattle.pit_parts.specs.BandsKept.{IsBand};
-ghost use Rattle.pit_model.specs.inner.ByPlace.{destination_in, destined, formula_in, prices_in, said_by_place};
+ghost use Rattle.pit_model.specs.inner.ByPlace.{destination_in, destined};
 ghost use Rattle.pit_model.specs.FormulaShapes.{bands_asked, formula_key_of};
 ghost use Rattle.pit_parts.specs.Formula.{IsRuled};
-ghost use Rattle.pit_model.specs.PlanShapes.{destination_shape, room_for_destination};
+ghost use Rattle.pit_model.specs.PlanShapes.{room_for_destination};
 ghost use Rattle.pit_model.specs.Stated.{with_destination};
 ghost use Rattle.pit_model.specs.declared.draft.formulas.FormulaKey.TheVariants as key;
 ghost use Rattle.pit_parts.specs.declared.formula.Formula.TheVariants.{Leach};
@@ -51,14 +51,13 @@ pub fn formula_key_of(cell: &[u8]) -> Option<FormulaKey>
 
 impl Draft {
     /// Adds the destination of a record.
-    #[tactic(auto, using(crate::proofs::CellsByPlace::destination_placed))]
     pub(crate) fn admit_destination(
         &mut self,
         key: FormulaKey,
         cells: &Cells,
     ) -> Result<(), OrMemory<PlanFaultKind>>
         ensures { Gives (λ _. self.new) result
-            (said_by_place cells.now (destination_shape self.old key cells.now)) }
+            (destination_in self.old key cells.now) }
     {
         match key {
             FormulaKey::Mill => self.admit_mill(cells),
@@ -67,6 +66,7 @@ impl Draft {
         }
     }
 
+    #[tactic(auto, using(crate::proofs::CellsByPlace::quotient))]
     fn admit_mill(&mut self, cells: &Cells) -> Result<(), OrMemory<PlanFaultKind>>
         ensures { Gives (λ _. self.new) result
             (destination_in self.old key.Mill cells.now) }
@@ -75,10 +75,20 @@ impl Draft {
             return Err(OrMemory::Fault(PlanFaultKind::Width));
         }
         let name = name_in(self.alloc, cells.at(1))?;
-        let formula = mill_in(cells)?;
-        self.add_new(name, formula)
+        let recovery = whole_in(cells.at(2), 0, u32::from(MAX_RECOVERY))?;
+        let price = whole_in(cells.at(3), 0, MAX_PRICE)?;
+        let cost = whole_in(cells.at(4), 0, MAX_COST)?;
+        self.add_new(
+            name,
+            Formula::Mill {
+                recovery: recovery as u16,
+                price: price as u64,
+                cost: cost as u64,
+            },
+        )
     }
 
+    #[tactic(auto, using(crate::proofs::CellsByPlace::quotient))]
     fn admit_leach(&mut self, cells: &Cells) -> Result<(), OrMemory<PlanFaultKind>>
         ensures { Gives (λ _. self.new) result
             (destination_in self.old key.Leach cells.now) }
@@ -87,10 +97,11 @@ impl Draft {
             return Err(OrMemory::Fault(PlanFaultKind::Width));
         }
         let name = name_in(self.alloc, cells.at(1))?;
-        let (price, cost) = prices_in(cells.at(2), cells.at(3))?;
+        let price = whole_in(cells.at(2), 0, MAX_PRICE)?;
+        let cost = whole_in(cells.at(3), 0, MAX_COST)?;
         let mut bands = Vec::new(self.alloc);
         read_bands(cells, &mut bands)?;
-        self.add_leach(name, bands, price, cost)
+        self.add_leach(name, bands, price as u64, cost as u64)
     }
 
     fn add_leach(
@@ -114,6 +125,7 @@ impl Draft {
         self.add_formula(name, Formula::Leach { bands, price, cost })
     }
 
+    #[tactic(auto, using(crate::proofs::CellsByPlace::quotient))]
     fn admit_dump(&mut self, cells: &Cells) -> Result<(), OrMemory<PlanFaultKind>>
         ensures { Gives (λ _. self.new) result
             (destination_in self.old key.Dump cells.now) }
@@ -122,8 +134,8 @@ impl Draft {
             return Err(OrMemory::Fault(PlanFaultKind::Width));
         }
         let name = name_in(self.alloc, cells.at(1))?;
-        let formula = dump_in(cells)?;
-        self.add_new(name, formula)
+        let cost = whole_in(cells.at(2), 0, MAX_COST)?;
+        self.add_new(name, Formula::Dump { cost: cost as u64 })
     }
 
     // Where no destination has the NAME yet.
@@ -150,43 +162,6 @@ impl Draft {
         self.formulas.push(NamedFormula { name, formula })?;
         Ok(())
     }
-}
-
-// The numbers of a mill.
-#[tactic(auto, using(crate::proofs::CellsByPlace::quotient))]
-fn mill_in(cells: &Cells) -> Result<Formula, PlanFaultKind>
-    ensures value { result ≡ formula_in key.Mill cells.now }
-    ensures in_range { IfOk result IsRuled }
-{
-    let recovery = whole_in(cells.at(2), 0, u32::from(MAX_RECOVERY))?;
-    let price = whole_in(cells.at(3), 0, MAX_PRICE)?;
-    let cost = whole_in(cells.at(4), 0, MAX_COST)?;
-    Ok(Formula::Mill {
-        recovery: recovery as u16,
-        price: price as u64,
-        cost: cost as u64,
-    })
-}
-
-// The cost of a dump.
-#[tactic(auto, using(crate::proofs::CellsByPlace::quotient))]
-fn dump_in(cells: &Cells) -> Result<Formula, PlanFaultKind>
-    ensures value { result ≡ formula_in key.Dump cells.now }
-    ensures in_range { IfOk result IsRuled }
-{
-    let cost = whole_in(cells.at(2), 0, MAX_COST)?;
-    Ok(Formula::Dump { cost: cost as u64 })
-}
-
-// The price and the cost that two cells state.
-#[tactic(auto, using(crate::proofs::CellsByPlace::quotient))]
-fn prices_in(price: &[u8], cost: &[u8]) -> Result<(u64, u64), PlanFaultKind>
-    ensures value { result ≡ prices_in price.now cost.now }
-    ensures in_range { IfOk result (λ prices. (prices.0 ≤ MAX_PRICE) × (prices.1 ≤ MAX_COST)) }
-{
-    let price = whole_in(price, 0, MAX_PRICE)?;
-    let cost = whole_in(cost, 0, MAX_COST)?;
-    Ok((price as u64, cost as u64))
 }
 
 // The bands of a leach, where they rise and are not too many.
