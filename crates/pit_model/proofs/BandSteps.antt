@@ -1,5 +1,5 @@
 -- One band more of a leach's record, and one destination more of a resource's.
-use Rattle.std.proofs.Common.{◌≡◌, ◌<◌, ◌+◌, ◌-◌, ◌*◌, ◌++◌, ℕ, suc, List, [], ◌∷◌, Some, None, Result, Ok, Err, refl, sym, ◌∙◌, ap, arith, append_assoc, append-nil}
+use Rattle.std.proofs.Common.{◌≡◌, ◌<◌, ◌+◌, ◌-◌, ◌*◌, ◌++◌, ℕ, suc, List, [], ◌∷◌, Some, None, Result, Ok, Err, refl, sym, ◌∙◌, ap, arith, add-one, append_assoc, append-nil}
 use Rattle.std.specs.Prelude.{replicate, ◌/◌}
 use Rattle.forms.specs.Words.{Value, Bytes, read_field, ◌>>=◌}
 use Rattle.pit_model.specs.inner.ByPlace.{band_by, bands_in, covers_in, read_from}
@@ -18,12 +18,11 @@ pub bands_end : (place : ℕ) (cells : List (List ℕ)) (done : List Band) → b
 bands_end place cells done = ap Ok (append-nil done)
 
 -- a pair of cells, and those behind it
-pub bands_step : (place n : ℕ) (cells : List (List ℕ)) (done : List Band)
-    → bands_in place (suc n) cells done
-    ≡ (band_by (cell_at cells place) (cell_at cells (suc place)) >>= λ band. bands_in (suc (suc place)) n cells (done ++ band ∷ []))
+bands_step : (place n : ℕ) (cells : List (List ℕ)) (done : List Band)
+    → bands_in place (suc n) cells done ≡ (band_by place cells >>= λ band. bands_in (suc (suc place)) n cells (done ++ band ∷ []))
 bands_step place n cells done =
-    by (read_field plan_kind a_start (cell_at cells place)) (read_field plan_kind a_recovery (cell_at cells (suc place)))
-    (read_from (suc (suc place)) (bands_form n) cells)
+    rw add-one (by (read_field plan_kind a_start (cell_at cells place)) (read_field plan_kind a_recovery (cell_at cells (suc place)))
+    (read_from (suc (suc place)) (bands_form n) cells))
   where
     by : (r1 r2 : Result Value PlanFaultKind) (r3 : Result (List Value) PlanFaultKind)
         → ((r1 >>= λ a. (r2 >>= λ b. r3 >>= λ cs. Ok (b ∷ cs)) >>= λ bs. Ok (a ∷ bs)) >>= λ values. Ok (done ++ bands_of values))
@@ -35,29 +34,24 @@ bands_step place n cells done =
 
 pair_step : (cells : List (List ℕ)) (count pair : ℕ) (done : List Band) → pair < count / 2
     → bands_in (2 * pair) (count / 2 - pair) cells done
-    ≡ (band_by (cell_at cells (2 * pair)) (cell_at cells (2 * pair + 1))
-    >>= λ band. bands_in (2 * (pair + 1)) (count / 2 - (pair + 1)) cells (done ++ band ∷ []))
+    ≡ (band_by (2 * pair) cells >>= λ band. bands_in (2 * (pair + 1)) (count / 2 - (pair + 1)) cells (done ++ band ∷ []))
 pair_step cells count pair done within =
     let n = count / 2 - (pair + 1) in
     let more : count / 2 - pair ≡ suc n = omega (arith, within) in
-    let next : suc (2 * pair) ≡ 2 * pair + 1 = omega arith in
     let after : suc (suc (2 * pair)) ≡ 2 * (pair + 1) = omega arith in
     ap (λ k. bands_in (2 * pair) k cells done) more ∙ bands_step (2 * pair) n cells done
-    ∙ ap (λ i. band_by (cell_at cells (2 * pair)) (cell_at cells i)
-    >>= λ band. bands_in (suc (suc (2 * pair))) n cells (done ++ band ∷ [])) next
-    ∙ ap (λ i. band_by (cell_at cells (2 * pair)) (cell_at cells (2 * pair + 1)) >>= λ band. bands_in i n cells (done ++ band ∷ [])) after
+    ∙ ap (λ i. band_by (2 * pair) cells >>= λ band. bands_in i n cells (done ++ band ∷ [])) after
 
 -- where a pair of cells states a band, and where it states none
 pub bands_more : (cells : List (List ℕ)) (count pair : ℕ) (done : List Band) (band : Band) → pair < count / 2
-    → band_by (cell_at cells (2 * pair)) (cell_at cells (2 * pair + 1)) ≡ Ok band
+    → band_by (2 * pair) cells ≡ Ok band
     → bands_in (2 * (pair + 1)) (count / 2 - (pair + 1)) cells (done ++ band ∷ []) ≡ bands_in (2 * pair) (count / 2 - pair) cells done
 bands_more cells count pair done band within said =
     sym (pair_step cells count pair done within
     ∙ ap (λ r. r >>= λ b. bands_in (2 * (pair + 1)) (count / 2 - (pair + 1)) cells (done ++ b ∷ [])) said)
 
 pub bands_fail : (cells : List (List ℕ)) (count pair : ℕ) (done : List Band) (kind : PlanFaultKind) → pair < count / 2
-    → band_by (cell_at cells (2 * pair)) (cell_at cells (2 * pair + 1)) ≡ Err kind
-    → bands_in (2 * pair) (count / 2 - pair) cells done ≡ Err kind
+    → band_by (2 * pair) cells ≡ Err kind → bands_in (2 * pair) (count / 2 - pair) cells done ≡ Err kind
 bands_fail cells count pair done kind within said =
     pair_step cells count pair done within
     ∙ ap (λ r. r >>= λ b. bands_in (2 * (pair + 1)) (count / 2 - (pair + 1)) cells (done ++ b ∷ [])) said

@@ -1,6 +1,6 @@
 //! The bands in the cells of a `leach` record.
 
-ghost use Rattle.std.specs.Prelude.{◌≡◌, ◌+◌, ◌-◌, ◌/◌, ◌%◌, ◌≤◌, suc, length, pos, unsigned_abs, All, OnOk, IfOk};
+ghost use Rattle.std.specs.Prelude.{◌≡◌, ◌+◌, ◌-◌, ◌/◌, ◌%◌, ◌^◌, ◌<◌, ◌≤◌, suc, length, pos, unsigned_abs, All, OnOk, IfOk};
 ghost use Rattle.pit_units.specs.OrMemory.{Gives};
 ghost use Rattle.pit_parts.specs.BandsKept.{IsBand};
 ghost use Rattle.pit_model.specs.inner.ByPlace.{band_by, bands_in};
@@ -12,14 +12,15 @@ use pit_parts::band::Band;
 use pit_parts::ranges::MAX_RECOVERY;
 use pit_units::OrMemory;
 
-// The band of two cells, its start and its recovery.
+// The band of two cells: its start, and behind it its recovery.
 #[tactic(auto, using(crate::proofs::CellsByPlace::quotient))]
-fn band_in(start: &[u8], recovery: &[u8]) -> Result<Band, PlanFaultKind>
-    ensures value { result ≡ band_by start.now recovery.now }
+fn band_in(cells: &Cells, place: usize) -> Result<Band, PlanFaultKind>
+    requires { place + 1 < 2 ^ 64 }
+    ensures value { result ≡ band_by place cells.now }
     ensures in_range { IfOk result IsBand }
 {
-    let start = number_in(start, 6, 0, 1_000_000_000_000)?;
-    let recovery = whole_in(recovery, 0, u32::from(MAX_RECOVERY))?;
+    let start = number_in(cells.at(place), 6, 0, 1_000_000_000_000)?;
+    let recovery = whole_in(cells.at(place + 1), 0, u32::from(MAX_RECOVERY))?;
     Ok(Band {
         start: start.millionths() as u64,
         recovery: recovery as u16,
@@ -39,7 +40,7 @@ pub fn read_bands(cells: &Cells, bands: &mut Vec<Band>) -> Result<(), OrMemory<P
         (length bands.new.items ≡ length bands.old.items + (length cells.now / 2 - 2)) }
 {
     for pair in 2..cells.len() / 2 {
-        let band = band_in(cells.at(2 * pair), cells.at(2 * pair + 1))?;
+        let band = band_in(cells, 2 * pair)?;
         bands.push(band)?;
     }
     Ok(())

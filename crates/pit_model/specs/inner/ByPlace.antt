@@ -1,5 +1,5 @@
 -- Cells read one after the other, each at its place, as code reads them.
-use Rattle.std.specs.Prelude.{◌≡◌, ℕ, suc, ◌-◌, ◌/◌, ◌%◌, ◌==◌, ◌||◌, Bool, not, nat_lt, List, [], ◌∷◌, ◌++◌, length, replicate, Option, Some, None, unwrap_or, Result, Ok, Err, if◌then◌else◌}
+use Rattle.std.specs.Prelude.{◌≡◌, ℕ, suc, ◌+◌, ◌-◌, ◌/◌, ◌%◌, ◌==◌, ◌||◌, Bool, not, nat_lt, List, [], ◌∷◌, ◌++◌, length, replicate, Option, Some, None, unwrap_or, Result, Ok, Err, if◌then◌else◌}
 use Rattle.forms.specs.Words.{Field, Value, below, whole_stated, read_field, placed, Check, Shape, failing, said, unless, ◌>>=◌}
 use Rattle.records.specs.RecordCells.{cell_at, cells_of}
 use Rattle.pit_model.specs.PlanCells.{a_cost, a_name, a_price, a_recovery, a_start, plan_kind, word_of}
@@ -60,10 +60,10 @@ zone_by equal s cells =
     read_then 1 (zone_form equal) cells (λ values. unless (failing (room_for_zone s)) (Ok (with_zone s (cone_of equal values))))
 
 -- a destination, a resource and a limit, whose parts are read one behind the other
-abbrev pub band_by : List ℕ → List ℕ → Result Band PlanFaultKind
-band_by start recovery = do
-  from ← read_field plan_kind a_start start
-  part ← read_field plan_kind a_recovery recovery
+abbrev pub band_by : ℕ → List (List ℕ) → Result Band PlanFaultKind
+band_by place cells = do
+  from ← read_field plan_kind a_start (cell_at cells place)
+  part ← read_field plan_kind a_recovery (cell_at cells (place + 1))
   Ok (band_at from part)
 
 abbrev pub bands_in : ℕ → ℕ → List (List ℕ) → List Band → Result (List Band) PlanFaultKind
