@@ -9,17 +9,20 @@ ghost use Rattle.pit_units.specs.StandsFor.{IsSpelled, StandsFor};
 ghost use Rattle.pit_units.specs.Shortest.{IsPlain, IsShortest, longest};
 
 /// What is written is read again as the same number.
+#[tactic(auto, using(crate::proofs::Written::shortest_read))]
 pub fn written_is_read()
     ensures { (z : ℤ) → unsigned_abs z ≤ 10 ^ 24 → decimal_of 6 (shortest z) ≡ Ok z }
 {}
 
 /// A number that needs no more than `max` decimals is read back where `max` decimals are allowed.
+#[tactic(auto, using(crate::proofs::Written::shortest_read))]
 pub fn coarse_is_read()
     ensures { (max : ℕ) (z : ℤ) → max ≤ 6 → unsigned_abs z ≤ 10 ^ 24
         → unsigned_abs z % 10 ^ (6 - max) ≡ 0 → decimal_of max (shortest z) ≡ Ok z }
 {}
 
 /// A whole number is written as its digits alone, and is read from them.
+#[tactic(auto, using(crate::proofs::Written::whole_written, crate::proofs::Written::whole_read))]
 pub fn whole_is_digits()
     ensures written { (k : ℕ) → shortest (pos (k * 10 ^ 6)) ≡ decimal k }
     ensures read { (k : ℕ) → k ≤ 10 ^ 18 → decimal_of 0 (decimal k) ≡ Ok (pos (k * 10 ^ 6)) }
@@ -34,6 +37,7 @@ pub fn written_is_shortest()
 
 /// What is written has no other bytes than digits, a minus and a point, and there are 26 of them at most, as in the
 /// least number with six decimals.
+#[tactic(auto, using(crate::proofs::Written::shortest_plain, crate::proofs::Written::longest_written))]
 pub fn written_is_plain()
     ensures plain { (z : ℤ) → unsigned_abs z ≤ 10 ^ 24 → IsPlain (shortest z) }
     ensures long { length (shortest (negsuc (10 ^ 24 - 2))) ≡ longest }
@@ -41,6 +45,7 @@ pub fn written_is_plain()
 
 /// What is written of fewer than 10^12 whole units, and not below zero, begins as most decimals do, where what stands
 /// behind it begins with no digit and no point.
+#[tactic(auto, using(crate::proofs::UsualTexts::written_usual))]
 pub fn written_is_usual()
     ensures { (n : ℕ) (rest : List ℕ) → n < 10 ^ 18 → digits_ahead rest ≡ 0
         → past_point rest ≡ [] → IsUsual 6 (size_text n ++ rest) }
@@ -53,6 +58,7 @@ pub fn read_is_meant()
 {}
 
 /// A text is refused as no number exactly where it is not spelled as one.
+#[tactic(auto, using(crate::proofs::Standing::number_spelled, crate::proofs::Standing::spelled_number))]
 pub fn number_is_spelled()
     ensures { (max : ℕ) (text : List ℕ) → ((decimal_of max text ≡ Err DecFault.Number)
         ↔ ((sign whole tail fraction : List ℕ) → ¬ (IsSpelled text sign whole tail fraction))) }
@@ -60,6 +66,7 @@ pub fn number_is_spelled()
 
 /// A text that is spelled as a number is refused as too fine exactly where a digit behind its first `max` decimals is
 /// not zero. Else it is refused as out of range exactly where its number is out of range.
+#[tactic(auto, using(crate::proofs::Standing::spelled_too_fine, crate::proofs::Standing::spelled_range))]
 pub fn spelled_faults()
     ensures too_fine { (max : ℕ) (text sign whole tail fraction : List ℕ)
         → IsSpelled text sign whole tail fraction
