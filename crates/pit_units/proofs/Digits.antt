@@ -1,23 +1,24 @@
--- Digits of a text and their value.
-use Rattle.std.specs.Prelude.{◌≡◌, ℕ, ◌+◌, ◌*◌, ◌-◌, ◌^◌, ◌<◌, ◌≤◌, min, List, ◌++◌, length, get_or, take, replicate, zero, suc, [], ◌∷◌, true, ◌==◌}
-use Rattle.std.proofs.Common.{arith, sym, refl, ap, add-one, length-append}
-use Rattle.std.proofs.Math.Nat.{pow-succ'}
-use borrow.Author.Tests.{eq-eqb, ne_eqb}
-use Rattle.std.proofs.lemmas.Bool.Decides.{nat_tests}
+-- Digits of a text: their value, with one digit more, and what digits alone state.
+use Rattle.std.specs.Prelude.{◌≡◌, ℕ, ◌+◌, ◌*◌, ◌-◌, ◌^◌, ◌<◌, ◌≤◌, min, List, ◌++◌, length, get_or, take, replicate, zero, suc, [], ◌∷◌, true, ◌==◌, drop, pos, Ok}
+use Rattle.std.proofs.Common.{arith, sym, refl, ap, add-one, length-append, ◌∙◌, inl, append-nil}
+use Rattle.std.proofs.Math.Nat.{pow-succ', pow-le-pow_right}
+use borrow.Author.Tests.{eq-eqb, ne_eqb, le-ltb}
 use Rattle.std.proofs.lemmas.Int.Digits.{digits_value_more}
 use Rattle.std.proofs.lemmas.List.Sums.{AllPass-from_list_all, position_or_len_is}
-use Rattle.std.proofs.lemmas.List.{get_or-replicate}
+use Rattle.std.proofs.lemmas.List.{get_or-replicate, drop_all}
 use Rattle.std.proofs.lemmas.Str.{digit_value_digit}
 use Rattle.std.specs.Char.{is_ascii_digit}
 use Rattle.std.specs.Int.{IsInRange}
 use Rattle.std.specs.List.{list_all, position_or_len}
 use Rattle.std.specs.Str.Parse.{digits_value}
+use Rattle.std.proofs.lemmas.List.Folds.{list_all_more}
+use Rattle.pit_units.proofs.Spelling.{digit_range, reads}
+use Rattle.pit_units.specs.Decimal.{all_digits, size_of, decimal_of}
+use Rattle.pit_units.specs.StandsFor.{IsSpelled}
 
 -- each byte of digits is a digit
 pub digit_in_range : (xs : List ℕ) (i : ℕ) → list_all is_ascii_digit xs ≡ true → i < length xs → IsInRange 48 57 (get_or xs i 0)
-digit_in_range xs i all within =
-    let passes : is_ascii_digit (get_or xs i 0) ≡ true = AllPass-from_list_all is_ascii_digit xs all i 0 within in
-    grind (arith, nat_tests)
+digit_in_range xs i all within = digit_range (get_or xs i 0) (AllPass-from_list_all is_ascii_digit xs all i 0 within)
 
 -- one more digit of a number that is cut off at a limit
 pub capped_more : (xs : List ℕ) (i value : ℕ) → list_all is_ascii_digit xs ≡ true → i < length xs
@@ -49,4 +50,38 @@ decimals_more xs i value digit within small is bound so_far =
     let long : i < length (xs ++ replicate 6 48) = omega (arith, length-append xs (replicate 6 48)) in (
       omega (arith, pow-succ' 10 i, ap (λ n. 10 ^ n) (add-one i)),
       omega (arith, digit_value_digit _ range, digits_value_more 10 (xs ++ replicate 6 48) i long),
+    )
+
+-- digits alone are read as their number
+pub digits_alone : (max : ℕ) (text : List ℕ) → all_digits text ≡ true → 0 < length text → digits_value 10 text ≤ 10 ^ 18
+    → decimal_of max text ≡ Ok (pos (digits_value 10 text * 10 ^ 6))
+digits_alone max text digits some few =
+    let spelled : IsSpelled text [] text [] [] = record {
+      joined = sym (append-nil text);
+      signs = inl refl;
+      point = inl (refl, refl);
+      whole_digits = digits;
+      fraction_digits = refl;
+      some_digit = omega (arith, some);
+    } in
+    let none : drop {A = ℕ} max [] ≡ [] = drop_all max [] (omega arith) in
+    let size : size_of text [] ≡ digits_value 10 text * 10 ^ 6 = omega arith in
+    reads max text [] text [] [] spelled ∙ rw (none, size, le-ltb (10 ^ 24) (digits_value 10 text * 10 ^ 6) (omega (arith, few))) refl
+
+-- a number of few digits
+pub small_value : (i most value : ℕ) → i ≤ most → value < 10 ^ i → value < 10 ^ most
+small_value i most value few small = omega (arith, small, pow-le-pow_right {n = 10} (omega arith) few)
+
+-- one more digit
+pub more_digits : (xs : List ℕ) (i value : ℕ) → i < length xs → is_ascii_digit (get_or xs i 0) ≡ true
+    → (value < 10 ^ i) × ((value ≡ digits_value 10 (take i xs)) × (all_digits (take i xs) ≡ true))
+    → (value * 10 + (get_or xs i 0 - 48) < 10 ^ (i + 1))
+    × ((value * 10 + (get_or xs i 0 - 48) ≡ digits_value 10 (take (i + 1) xs)) × (all_digits (take (i + 1) xs) ≡ true))
+more_digits xs i value within digit so_far =
+    let range = digit_range (get_or xs i 0) digit in (
+      omega (arith, range, so_far.0, pow-succ' 10 i, ap (λ n. 10 ^ n) (add-one i)),
+      (
+        omega (arith, range, so_far.1.0, digit_value_digit (get_or xs i 0) range, digits_value_more 10 xs i within),
+        list_all_more is_ascii_digit xs i 0 within ∙ rw (so_far.1.1, digit) refl,
+      ),
     )

@@ -1,19 +1,19 @@
 -- What a text begins with.
-use Rattle.std.specs.Prelude.{◌≡◌, ◌⊎◌, ℕ, ◌+◌, ◌*◌, ◌-◌, ◌^◌, ◌<◌, ◌≤◌, Bool, true, false, List, [], ◌∷◌, ◌++◌, length, drop, get_or, min, take, pos, zero, suc, unsigned_abs, Ok, if◌then◌else◌}
-use Rattle.std.proofs.Common.{arith, refl, sym, ap, ◌∙◌, inl, inr, append-nil, append_assoc, length-append}
+use Rattle.std.specs.Prelude.{◌≡◌, ◌⊎◌, ℕ, ◌+◌, ◌*◌, ◌-◌, ◌^◌, ◌<◌, ◌≤◌, Bool, true, false, List, [], ◌∷◌, ◌++◌, length, drop, get_or, min, take, pos, zero, suc, Ok}
+use Rattle.std.proofs.Common.{arith, refl, sym, ap, subst, ◌∙◌, inl, inr, append-nil, append_assoc, length-append}
 use Rattle.std.specs.List.{All}
-use Rattle.std.specs.Str.Parse.{digits_value, starts_with_minus}
+use Rattle.std.specs.Fmt.{sign_text}
+use Rattle.std.specs.Str.Parse.{digits_value}
 use Rattle.std.proofs.Math.Nat.{min-eq_left, min-eq_right, mul-lt-mul_of_pos_right, pow-zero}
-use Rattle.std.proofs.lemmas.Bool.{cases_lt}
+use Rattle.std.proofs.lemmas.Bool.{and_parts, cases_lt}
 use Rattle.std.proofs.lemmas.List.{drop_all, length-take, length-drop, take_all, take-append-drop}
-use Rattle.std.proofs.lemmas.List.Elements.{All-append}
+use Rattle.std.proofs.lemmas.List.Elements.{All-append, All-cons}
 use Rattle.std.proofs.lemmas.List.Sums.{prefix_len-le-length, prefix_len_passes}
 use Rattle.std.specs.Char.{is_ascii_digit}
-use Rattle.pit_units.proofs.DigitsAlone.{digits_alone, small_value}
-use Rattle.pit_units.proofs.Spelling.{both}
-use Rattle.pit_units.proofs.Standing.{stands_read}
+use Rattle.pit_units.proofs.Digits.{digits_alone, small_value}
+use Rattle.pit_units.proofs.Standing.{size_of_signed, stands_read}
 use Rattle.pit_units.proofs.Value.{size_product, value_append}
-use Rattle.pit_units.proofs.Written.{all_cons, digits_plain}
+use Rattle.pit_units.proofs.Written.{digits_plain, side_of_sign, sign_part, sign_plain}
 use Rattle.pit_units.specs.Decimal.{all_digits, signed}
 use Rattle.pit_units.specs.StandsFor.{IsSpelled, StandsFor}
 use Rattle.pit_units.specs.Shortest.{IsPlainByte}
@@ -42,22 +42,15 @@ pub digits_alone_there : (text : List ℕ) (i n : ℕ) → length text ≡ i
     → (i ≤ 18) × ((n < 10 ^ i) × ((n ≡ digits_value 10 (take i text)) × (all_digits (take i text) ≡ true)))
     → BeginsWithDigits text n []
 digits_alone_there text i n end so_far =
-    let all : take i text ≡ text = take_all i text (omega (arith, end)) in
-    record {
-      digits = text;
-      joined = sym (append-nil text);
-      are_digits = rw all at so_far.1.1.1;
-      few = omega (arith, end, so_far.0);
-      value = so_far.1.1.0 ∙ ap (digits_value 10) all;
-      small = rw end so_far.1.0;
-    }
+    let none = take_all (length text - i) (drop i text) (omega (arith, length-drop i text)) ∙ drop_all i text (omega (arith, end)) in
+    subst (BeginsWithDigits text n) none (digits_up_to text i n (omega (arith, end)) so_far)
 
 -- digits alone are no more than those that a text begins with
 all_ahead : (i : ℕ) (text : List ℕ) → i ≤ length text → all_digits (take i text) ≡ true → i ≤ digits_ahead text
 all_ahead zero text within digits = omega arith
 all_ahead (suc i) [] within digits = absurd (omega (arith, within))
 all_ahead (suc i) (c ∷ text) within digits =
-    let parts = both (is_ascii_digit c) (all_digits (take i text)) digits in
+    let parts = and_parts (is_ascii_digit c) (all_digits (take i text)) digits in
     let more = all_ahead i text (omega (arith, within)) parts.1 in
     rw parts.0 (omega (arith, more))
 
@@ -191,41 +184,20 @@ size_of_units max text units rest d other = record {
   value = omega (arith, d.value, pow-zero 10, ap (digits_value 10) (append-nil d.digits));
 }
 
--- the sign of a decimal
-abbrev pub minus_if : Bool → List ℕ
-minus_if below = if below then 45 ∷ [] else []
-
-minus_spelled : (below : Bool) → (minus_if below ≡ []) ⊎ ((minus_if below ≡ 43 ∷ []) ⊎ (minus_if below ≡ 45 ∷ []))
-minus_spelled true = inr (inr refl)
-minus_spelled false = inl refl
-
-minus_plain : (below : Bool) → All IsPlainByte (minus_if below)
-minus_plain true = all_cons 45 [] (omega arith, omega arith, λ e. omega (arith, e)) (digits_plain [] refl)
-minus_plain false = digits_plain [] refl
-
-size_away : (below : Bool) (size : ℕ) → unsigned_abs (signed below size) ≡ size
-size_away false size = refl
-size_away true zero = refl
-size_away true (suc n) = refl
-
-side_of : (below : Bool) → starts_with_minus (minus_if below) ≡ below
-side_of true = refl
-side_of false = refl
-
 tail_plain : (tail fraction : List ℕ) → all_digits fraction ≡ true → ((tail ≡ []) × (fraction ≡ [])) ⊎ (tail ≡ 46 ∷ fraction)
     → All IsPlainByte tail
 tail_plain tail fraction digits (inl none) = rw none.0 (digits_plain [] refl)
 tail_plain tail fraction digits (inr is) =
-    rw is (all_cons 46 fraction (omega arith, omega arith, λ e. omega (arith, e)) (digits_plain fraction digits))
+    rw is (All-cons IsPlainByte 46 fraction (omega arith, omega arith, λ e. omega (arith, e)) (digits_plain fraction digits))
 
 -- a decimal with its sign in front
 pub dec_in_front : (max : ℕ) (text : List ℕ) (below : Bool) (unsigned : List ℕ) (size : ℕ) (rest : List ℕ) → max ≤ 6 → size < 2 * 10 ^ 18
-    → text ≡ minus_if below ++ unsigned → BeginsWithSize max unsigned size rest → BeginsWith max text (signed below size) rest
+    → text ≡ sign_text below ++ unsigned → BeginsWithSize max unsigned size rest → BeginsWith max text (signed below size) rest
 dec_in_front max text below unsigned size rest few small joined s =
-    let front = minus_if below ++ (s.whole ++ s.tail) in
-    let spelled : IsSpelled front (minus_if below) s.whole s.tail s.fraction = record {
+    let front = sign_text below ++ (s.whole ++ s.tail) in
+    let spelled : IsSpelled front (sign_text below) s.whole s.tail s.fraction = record {
       joined = refl;
-      signs = minus_spelled below;
+      signs = sign_part below;
       point = s.point;
       whole_digits = s.whole_digits;
       fraction_digits = s.fraction_digits;
@@ -233,22 +205,22 @@ dec_in_front max text below unsigned size rest few small joined s =
     } in
     let none : drop max s.fraction ≡ [] = drop_all max s.fraction s.few in
     let stands : StandsFor max front (signed below size) = record {
-      sign = minus_if below;
+      sign = sign_text below;
       whole = s.whole;
       tail = s.tail;
       fraction = s.fraction;
       spelled = spelled;
       fine = rw none refl;
-      value = rw (size_away below size) s.value;
-      side = rw (side_of below, size_away below size) refl;
-      in_range = rw (size_away below size) (omega (arith, small));
+      value = rw (size_of_signed below size) s.value;
+      side = rw (side_of_sign below, size_of_signed below size) refl;
+      in_range = rw (size_of_signed below size) (omega (arith, small));
     } in
     record {
       front = front;
-      joined = joined ∙ ap (λ xs. minus_if below ++ xs) (s.joined ∙ sym (append_assoc s.whole s.tail rest))
-          ∙ sym (append_assoc (minus_if below) (s.whole ++ s.tail) rest);
-      some = omega (arith, s.some, length-append (minus_if below) (s.whole ++ s.tail), length-append s.whole s.tail);
-      bytes = All-append IsPlainByte _ _ (minus_plain below)
+      joined = joined ∙ ap (λ xs. sign_text below ++ xs) (s.joined ∙ sym (append_assoc s.whole s.tail rest))
+          ∙ sym (append_assoc (sign_text below) (s.whole ++ s.tail) rest);
+      some = omega (arith, s.some, length-append (sign_text below) (s.whole ++ s.tail), length-append s.whole s.tail);
+      bytes = All-append IsPlainByte _ _ (sign_plain below)
           (All-append IsPlainByte _ _ (digits_plain s.whole s.whole_digits) (tail_plain s.tail s.fraction s.fraction_digits s.point));
       stated = stands_read max front (signed below size) few stands;
     }

@@ -1,23 +1,14 @@
 -- A number that needs few decimals is a multiple of the last that it may need.
-use Rattle.std.specs.Prelude.{◌≡◌, ℕ, zero, suc, ◌+◌, ◌*◌, ◌-◌, ◌^◌, ◌%◌, ◌≤◌, Bool, true, List, [], ◌∷◌, ◌++◌, length, take, drop, replicate, ◌==◌, ℤ, unsigned_abs}
+use Rattle.std.specs.Prelude.{◌≡◌, ℕ, ◌+◌, ◌*◌, ◌-◌, ◌^◌, ◌%◌, ◌≤◌, true, List, ◌++◌, length, take, drop, replicate, ◌==◌, ℤ, unsigned_abs}
 use Rattle.std.proofs.Common.{arith, refl, ap, sym, ◌∙◌}
 use Rattle.std.proofs.Math.Seq.{take-add}
 use Rattle.std.proofs.lemmas.List.{length-append, length-drop, length-take-le}
 use Rattle.std.proofs.lemmas.Nat.{pow-add, mod-mul-add}
-use Rattle.std.specs.List.{list_all}
 use Rattle.std.specs.Str.Parse.{digits_value}
 use Rattle.pit_units.specs.Decimal.{all_zeros, six_decimals}
 use Rattle.pit_units.specs.StandsFor.{StandsFor}
-use Rattle.pit_units.proofs.Spelling.{both}
 use Rattle.pit_units.proofs.Standing.{scale_positive, size_stands}
-use Rattle.pit_units.proofs.Value.{pass_drop_append, pass_drop_later, value_append, value_zeros}
-
-pass_take : (p : ℕ → Bool) (xs : List ℕ) (n : ℕ) → list_all p xs ≡ true → list_all p (take n xs) ≡ true
-pass_take p xs zero h = refl
-pass_take p [] (suc n) h = refl
-pass_take p (c ∷ cs) (suc n) h =
-    let parts = both (p c) (list_all p cs) h in
-    rw parts.0 (pass_take p cs n parts.1)
+use Rattle.pit_units.proofs.Value.{pass_drop_append, pass_drop_later, pass_parts, value_append, value_zeros}
 
 -- the six decimals, where those behind a place are zeros
 six_cut : (fraction : List ℕ) (max : ℕ) → max ≤ 6 → all_zeros (drop max fraction) ≡ true
@@ -26,7 +17,7 @@ six_cut fraction max few fine =
     let padded = fraction ++ replicate 6 48 in
     let rest = take (6 - max) (drop max padded) in
     let zeros : all_zeros rest ≡ true =
-    pass_take (λ c. c == 48) (drop max padded) (6 - max) (pass_drop_append (λ c. c == 48) fraction (replicate 6 48) max fine refl) in
+    (pass_parts (λ c. c == 48) (drop max padded) (6 - max) (pass_drop_append (λ c. c == 48) fraction (replicate 6 48) max fine refl)).0 in
     let count : length rest ≡ 6 - max =
     length-take-le (6 - max) (drop max padded) (omega (arith, length-drop max padded, length-append fraction (replicate 6 48))) in
     let whole : max + (6 - max) ≡ 6 = omega arith in

@@ -1,6 +1,8 @@
 -- How a text that is spelled in parts falls into them again.
-use Rattle.std.specs.Prelude.{◌≡◌, ◌≢◌, ℕ, suc, ◌+◌, ◌<◌, Bool, true, false, not, ◌&&◌, ◌⊎◌, List, [], ◌∷◌, ◌++◌, length, get_or, drop, Result, Ok, Err, ◌==◌, nat_lt, if◌then◌else◌, ◌^◌, ℤ}
-use Rattle.std.proofs.Common.{arith, refl, ap, ◌∙◌, inl, inr, add-one, append-nil}
+use Rattle.std.specs.Prelude.{◌≡◌, ◌≢◌, ℕ, ◌+◌, ◌<◌, Bool, true, false, not, ◌⊎◌, List, [], ◌∷◌, ◌++◌, length, get_or, drop, Result, Ok, Err, ◌==◌, nat_lt, if◌then◌else◌, ◌^◌, ℤ}
+use Rattle.std.proofs.Common.{arith, refl, ap, ◌∙◌, inl, inr, append-nil}
+use Rattle.std.proofs.Math.Seq.{drop-append-add}
+use Rattle.std.proofs.lemmas.Bool.{and_parts}
 use Rattle.std.proofs.lemmas.Bool.Decides.{nat_tests}
 use Rattle.std.proofs.lemmas.List.{take_at, take_all, drop_all}
 use borrow.Author.Tests.{ne_eqb}
@@ -12,10 +14,6 @@ use Rattle.pit_units.specs.Decimal.{all_digits, all_zeros, whole_of, fraction_of
 use Rattle.pit_units.specs.StandsFor.{IsSpelled}
 use Rattle.pit_units.specs.declared.fault.DecFault.{DecFault}
 use Rattle.pit_units.specs.declared.fault.DecFault.TheVariants.{TooFine, Range}
-
-pub both : (a b : Bool) → (a && b) ≡ true → (a ≡ true) × (b ≡ true)
-both true b h = (refl, h)
-both false b h = cc
 
 pub digit_range : (c : ℕ) → is_ascii_digit c ≡ true → IsInRange 48 57 c
 digit_range c h = grind (arith, nat_tests)
@@ -30,14 +28,14 @@ not_point c h = ne_eqb c 46 (λ e. omega (arith, digit_range c h))
 point_behind : (whole rest : List ℕ) → all_digits whole ≡ true → position_or_len is_point (whole ++ 46 ∷ rest) ≡ length whole
 point_behind [] rest h = refl
 point_behind (c ∷ cs) rest h =
-    let parts = both (is_ascii_digit c) (all_digits cs) h in
+    let parts = and_parts (is_ascii_digit c) (all_digits cs) h in
     rw (not_point c parts.0) (omega (arith, point_behind cs rest parts.1))
 
 -- digits have no point
 point_nowhere : (whole : List ℕ) → all_digits whole ≡ true → position_or_len is_point whole ≡ length whole
 point_nowhere [] h = refl
 point_nowhere (c ∷ cs) h =
-    let parts = both (is_ascii_digit c) (all_digits cs) h in
+    let parts = and_parts (is_ascii_digit c) (all_digits cs) h in
     rw (not_point c parts.0) (omega (arith, point_nowhere cs parts.1))
 
 -- a text that begins with no sign is left whole
@@ -56,14 +54,10 @@ sign_falls sign body (inr (inr e)) minus plus = rw e (refl, refl)
 first_byte : (whole tail fraction : List ℕ) → all_digits whole ≡ true → ((tail ≡ []) × (fraction ≡ [])) ⊎ (tail ≡ 46 ∷ fraction)
     → 0 < length whole + length fraction → (b : ℕ) → b < 46 → get_or (whole ++ tail) 0 0 ≢ b
 first_byte (c ∷ cs) tail fraction digits point some b small e =
-    let range = digit_range c (both (is_ascii_digit c) (all_digits cs) digits).0 in
+    let range = digit_range c (and_parts (is_ascii_digit c) (all_digits cs) digits).0 in
     omega arith
 first_byte [] tail fraction digits (inl none) some b small e = omega (arith, ap length none.1)
 first_byte [] tail fraction digits (inr is) some b small e = let h = rw is at e in omega arith
-
-drop_behind : (xs : List ℕ) (x : ℕ) (ys : List ℕ) → drop (suc (length xs)) (xs ++ x ∷ ys) ≡ ys
-drop_behind [] x ys = refl
-drop_behind (c ∷ cs) x ys = drop_behind cs x ys
 
 -- the parts of a text
 pub record Falls (text sign whole fraction : List ℕ) : Type 0 where
@@ -86,7 +80,7 @@ module _ (text whole tail fraction : List ℕ) (bare : without_leading_sign text
       rw (same, point_nowhere whole digits, none.1) (drop_all (length whole + 1) whole (omega arith))
   fraction_falls (inr is) =
       let same : without_leading_sign text ≡ whole ++ 46 ∷ fraction = bare ∙ ap (λ xs. whole ++ xs) is in
-      rw (same, point_behind whole fraction digits, add-one) (drop_behind whole 46 fraction)
+      rw (same, point_behind whole fraction digits) (drop-append-add whole (46 ∷ fraction) 1)
 
 -- a spelled text falls into its parts
 pub falls : (text sign whole tail fraction : List ℕ) → IsSpelled text sign whole tail fraction → Falls text sign whole fraction

@@ -1,8 +1,8 @@
 -- A text is read as the number that it stands for, and what is read it stands for.
 use Rattle.std.specs.Prelude.{◌≡◌, ◌≢◌, ◌↔◌, ℕ, zero, suc, ◌+◌, ◌*◌, ◌^◌, ◌<◌, ◌≤◌, Bool, true, false, not, ◌&&◌, ◌⊎◌, List, [], ◌∷◌, ◌++◌, length, take, drop, Result, Ok, Err, ℤ, unsigned_abs, nat_lt, if◌then◌else◌, ◌==◌}
 use Rattle.std.proofs.Common.{arith, refl, ap, sym, ◌∙◌, inl, inr, append-nil}
-use Rattle.std.proofs.Math.Nat.{lt_of_mul-lt-mul_right, mul-lt-mul_of_pos_right, pow-zero, pow-succ'}
-use Rattle.std.proofs.lemmas.Bool.{cases_lt}
+use Rattle.std.proofs.Math.Nat.{eq_of_mul-eq-mul_right, lt_of_mul-lt-mul_right, mul-lt-mul_of_pos_right, pow-zero, pow-succ'}
+use Rattle.std.proofs.lemmas.Bool.{and_parts, cases_lt}
 use Rattle.std.proofs.lemmas.Bool.Decides.{nat_tests}
 use Rattle.std.proofs.lemmas.List.{take_all, drop_all}
 use Rattle.std.proofs.lemmas.List.Sums.{passes_at_first, split_at_first}
@@ -13,24 +13,19 @@ use Rattle.pit_units.specs.Decimal.{all_digits, all_zeros, whole_of, fraction_of
 use Rattle.pit_units.specs.StandsFor.{IsSpelled, StandsFor}
 use Rattle.pit_units.specs.declared.fault.DecFault.{DecFault}
 use Rattle.pit_units.specs.declared.fault.DecFault.TheVariants.{Number, TooFine, Range}
-use Rattle.pit_units.proofs.Spelling.{both, reads}
+use Rattle.pit_units.proofs.Spelling.{reads}
 use Rattle.pit_units.proofs.Value.{pass_drop_later, size_scaled}
 
 pub scale_positive : (n : ℕ) → 0 < 10 ^ n
 scale_positive zero = omega (arith, pow-zero 10)
 scale_positive (suc n) = omega (arith, pow-succ' 10 n, scale_positive n)
 
-same_scaled : (a b scale : ℕ) → 0 < scale → a * scale ≡ b * scale → (a < b) ⊎ (b ≤ a) → (b < a) ⊎ (a ≤ b) → a ≡ b
-same_scaled a b scale some e (inl less) other = absurd (omega (arith, e, mul-lt-mul_of_pos_right less some))
-same_scaled a b scale some e other (inl less) = absurd (omega (arith, e, mul-lt-mul_of_pos_right less some))
-same_scaled a b scale some e (inr above) (inr below) = omega arith
-
 -- the size of what stands for m is that of m
 pub size_stands : (whole fraction : List ℕ) (size : ℕ) → all_zeros (drop 6 fraction) ≡ true
     → size * 10 ^ length fraction ≡ digits_value 10 (whole ++ fraction) * 10 ^ 6 → size_of whole fraction ≡ size
 size_stands whole fraction size fine value =
-    same_scaled (size_of whole fraction) size (10 ^ length fraction) (scale_positive (length fraction))
-    (size_scaled whole fraction fine ∙ sym value) (cases_lt _ _) (cases_lt _ _)
+    eq_of_mul-eq-mul_right (10 ^ length fraction) (scale_positive (length fraction)) (size_of whole fraction) size
+    (size_scaled whole fraction fine ∙ sym value)
 
 -- a text is read as the number that it stands for
 pub stands_read : (max : ℕ) (text : List ℕ) (m : ℤ) → max ≤ 6 → StandsFor max text m → decimal_of max text ≡ Ok m
@@ -46,9 +41,7 @@ pick number fine large m = if not number then Err Number else (if not fine then 
 pub picked : (number fine large : Bool) (found m : ℤ) → pick number fine large found ≡ Ok m → (number ≡ true) × (fine ≡ true)
     × (large ≡ false) × (found ≡ m)
 picked true true false found m e = (refl, refl, refl, cc)
-picked true true true found m e = cc
-picked true false large found m e = cc
-picked false fine large found m e = cc
+picked _ _ _ found m e = cc
 
 -- the sign of a text
 record SignOff (text : List ℕ) : Type 0 where
@@ -107,9 +100,9 @@ number_parts text number =
     let off = sign_off text in
     let bare = without_leading_sign text in
     let point = point_off bare (cases_lt _ _) in
-    let outer = both (all_digits (whole_of text) && all_digits (fraction_of text))
+    let outer = and_parts (all_digits (whole_of text) && all_digits (fraction_of text))
     (not (length (whole_of text) + length (fraction_of text) == 0)) number in
-    let digits = both (all_digits (whole_of text)) (all_digits (fraction_of text)) outer.0 in
+    let digits = and_parts (all_digits (whole_of text)) (all_digits (fraction_of text)) outer.0 in
     record {
       sign = off.sign;
       tail = point.tail;
@@ -125,9 +118,8 @@ number_parts text number =
     }
 
 pub size_of_signed : (below : Bool) (n : ℕ) → unsigned_abs (signed below n) ≡ n
-size_of_signed false n = refl
-size_of_signed true zero = refl
 size_of_signed true (suc n) = refl
+size_of_signed _ _ = refl
 
 -- what is read, the text stands for
 pub read_stands : (max : ℕ) (text : List ℕ) (m : ℤ) → max ≤ 6 → decimal_of max text ≡ Ok m → StandsFor max text m
@@ -152,8 +144,7 @@ read_stands max text m few read =
 
 reading_number : (fine large : Bool) (m : ℤ) → pick true fine large m ≢ Err Number
 reading_number true true m e = cc
-reading_number true false m e = cc
-reading_number false large m e = cc
+reading_number _ _ m e = cc
 
 -- a text that is spelled is a number, and a number is spelled
 pub spelled_number : (max : ℕ) (text sign whole tail fraction : List ℕ) → IsSpelled text sign whole tail fraction
@@ -172,9 +163,9 @@ number_spelled max text none = by (is_number text) refl
 
 -- where a spelled text is too fine, and where it is out of range
 reading_fine : (fine large : Bool) (m : ℤ) → (pick true fine large m ≡ Err TooFine) ↔ ¬ (fine ≡ true)
+reading_fine false large m = (λ e t. cc, λ n. refl)
 reading_fine true true m = (λ e. cc, λ n. absurd (n refl))
 reading_fine true false m = (λ e. cc, λ n. absurd (n refl))
-reading_fine false large m = (λ e t. cc, λ n. refl)
 
 reading_range : (fine large : Bool) (m : ℤ) → fine ≡ true → (pick true fine large m ≡ Err Range) ↔ (large ≡ true)
 reading_range true true m h = (λ e. refl, λ e. refl)

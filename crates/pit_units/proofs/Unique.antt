@@ -1,5 +1,5 @@
 -- No other text than the shortest is as short.
-use Rattle.std.specs.Prelude.{◌≡◌, ◌≢◌, ◌↔◌, ℕ, zero, suc, ◌+◌, ◌-◌, ◌*◌, ◌/◌, ◌%◌, ◌^◌, ◌<◌, ◌≤◌, true, ◌⊎◌, List, [], ◌∷◌, ◌++◌, length, get_or, take, drop, replicate, ◌==◌, ℤ, pos, negsuc, unsigned_abs, int_lt, nat_lt, ◌<ℤ◌}
+use Rattle.std.specs.Prelude.{◌≡◌, ◌≢◌, ◌↔◌, ℕ, ◌+◌, ◌-◌, ◌/◌, ◌%◌, ◌^◌, ◌<◌, ◌≤◌, true, ◌⊎◌, List, [], ◌∷◌, ◌++◌, length, get_or, take, drop, replicate, ◌==◌, ℤ, pos, negsuc, unsigned_abs, int_lt, nat_lt, ◌<ℤ◌}
 use Rattle.std.proofs.Common.{arith, refl, ap, sym, ◌∙◌, inl, inr}
 use Rattle.std.proofs.Math.Seq.{take-append-add}
 use Rattle.std.proofs.lemmas.Bool.{cases_lt}
@@ -8,28 +8,20 @@ use Rattle.std.proofs.lemmas.Int.{ints}
 use Rattle.std.proofs.lemmas.Int.Digits.{digits_value-lt}
 use Rattle.std.proofs.lemmas.List.{get_or_append_left, get_or-append_right, get_or-drop, get_or-replicate, length-append, length-drop, length-replicate, take_at, take-replicate}
 use Rattle.std.proofs.lemmas.List.Sums.{AllPass-from_list_all, suffix_len_is}
-use Rattle.std.proofs.lemmas.Str.{digit_value_digit}
-use Rattle.std.proofs.lemmas.Str.Parse.{digit_from_value, numerals_by_value, tells_digits}
+use Rattle.std.proofs.lemmas.Str.Parse.{numerals_by_value, tells_digits}
 use borrow.Author.Tests.{eqb-true, ne_eqb, eq-eqb}
-use Rattle.std.specs.Char.{digit_value, is_ascii_digit}
+use Rattle.std.specs.Char.{is_ascii_digit}
 use Rattle.std.specs.Fmt.{decimal, sign_text}
 use Rattle.std.specs.List.{suffix_len}
 use Rattle.std.specs.Str.Parse.{AllDigits, digits_value, starts_with_minus}
 use Rattle.pit_units.specs.Decimal.{all_digits, all_zeros, six_decimals, size_of, signed, six_digits, without_end_zeros, fraction_text, shortest}
 use Rattle.pit_units.specs.StandsFor.{StandsFor}
 use Rattle.pit_units.specs.Shortest.{IsShortest}
-use Rattle.pit_units.proofs.Spelling.{both, digit_range, reads}
+use Rattle.pit_units.proofs.Spelling.{reads}
 use Rattle.pit_units.proofs.Standing.{picked, size_of_signed, stands_read}
 use Rattle.pit_units.proofs.Text.{not_below, shortest_is}
-use Rattle.pit_units.proofs.Written.{decimals, point_part}
-
--- digits, in std's words
-digits_all : (ds : List ℕ) → all_digits ds ≡ true → AllDigits 10 ds
-digits_all [] h = tt
-digits_all (c ∷ cs) h =
-    let parts = both (is_ascii_digit c) (all_digits cs) h in
-    let range = digit_range c parts.0 in
-    (omega (arith, range, digit_value_digit c range), digits_all cs parts.1)
+use Rattle.pit_units.proofs.Value.{digits_all, pass_append, same_digits, zeros_pass}
+use Rattle.pit_units.proofs.Written.{decimals, point_part, six_pass, six_value}
 
 -- digits with no leading zero are what is written of their value
 whole_unique : (ds : List ℕ) → all_digits ds ≡ true → 0 < length ds → (get_or ds 0 0 ≡ 48 → length ds ≡ 1) → digits_value 10 ds < 2 ^ 64
@@ -49,45 +41,12 @@ fraction_short fraction fine ends (inl long) =
     let place : 6 + (length fraction - 7) ≡ length fraction - 1 = omega arith in
     absurd (ends (omega arith) (ap (λ k. get_or fraction k 0) (sym place) ∙ sym (get_or-drop 6 fraction (length fraction - 7) 0) ∙ last))
 
-abbrev made : (p q r s t u : ℕ) → ℕ
-made p q r s t u = (((((0 + p) * 10 + q) * 10 + r) * 10 + s) * 10 + t) * 10 + u
-
-record ArePlaces (p q r s t u : ℕ) : Type 0 where
-  pub at_100000 : made p q r s t u / 100000 % 10 ≡ p
-  pub at_10000 : made p q r s t u / 10000 % 10 ≡ q
-  pub at_1000 : made p q r s t u / 1000 % 10 ≡ r
-  pub at_100 : made p q r s t u / 100 % 10 ≡ s
-  pub at_10 : made p q r s t u / 10 % 10 ≡ t
-  pub at_1 : made p q r s t u / 1 % 10 ≡ u
-
-are_places : (p q r s t u : ℕ) → p < 10 → q < 10 → r < 10 → s < 10 → t < 10 → u < 10 → ArePlaces p q r s t u
-are_places p q r s t u a b c d e f =
-    record {
-      at_100000 = omega arith;
-      at_10000 = omega arith;
-      at_1000 = omega arith;
-      at_100 = omega arith;
-      at_10 = omega arith;
-      at_1 = omega arith;
-    }
-
-digit_again : (c place : ℕ) → digit_value c < 10 → place ≡ digit_value c → 48 + place ≡ c
-digit_again c place low same = omega (arith, digit_value_digit c (digit_from_value c low))
-
 -- six digits are those of their value
 six_unique : (ds : List ℕ) → length ds ≡ 6 → AllDigits 10 ds → six_digits (digits_value 10 ds) ≡ ds
-six_unique (a ∷ b ∷ c ∷ d ∷ e ∷ f ∷ []) six digits =
-    let low_a = digits.0 in
-    let low_b = digits.1.0 in
-    let low_c = digits.1.1.0 in
-    let low_d = digits.1.1.1.0 in
-    let low_e = digits.1.1.1.1.0 in
-    let low_f = digits.1.1.1.1.1.0 in
-    let places = are_places (digit_value a) (digit_value b) (digit_value c) (digit_value d)
-    (digit_value e) (digit_value f) low_a low_b low_c low_d low_e low_f in
-    λ i. digit_again a _ low_a places.at_100000 i ∷ digit_again b _ low_b places.at_10000 i ∷ digit_again c _ low_c places.at_1000 i
-    ∷ digit_again d _ low_d places.at_100 i ∷ digit_again e _ low_e places.at_10 i ∷ digit_again f _ low_f places.at_1 i ∷ []
-six_unique ds six digits = absurd (omega arith)
+six_unique ds six digits =
+    let n = digits_value 10 ds in
+    let small : n < 10 ^ 6 = rw six at (digits_value-lt 10 ds digits) in
+    same_digits (six_digits n) ds (digits_all (six_digits n) (six_pass n)) digits (sym six) (six_value n small)
 
 -- cut off again what was put behind
 cut_again : (fraction : List ℕ) → length fraction ≤ 6 → (0 < length fraction → get_or fraction (length fraction - 1) 0 ≢ 48)
@@ -114,23 +73,13 @@ six_of_short fraction short =
     ∙ take-append-add fraction (replicate 6 48) (6 - length fraction)
     ∙ ap (λ xs. fraction ++ xs) (take-replicate (6 - length fraction) 6 48 (omega arith))
 
-digits_pass_append : (xs ys : List ℕ) → all_digits xs ≡ true → all_digits ys ≡ true → all_digits (xs ++ ys) ≡ true
-digits_pass_append [] ys h g = g
-digits_pass_append (c ∷ cs) ys h g =
-    let parts = both (is_ascii_digit c) (all_digits cs) h in
-    rw parts.0 (digits_pass_append cs ys parts.1 g)
-
-zeros_digits : (n : ℕ) → all_digits (replicate n 48) ≡ true
-zeros_digits zero = refl
-zeros_digits (suc n) = zeros_digits n
-
 -- the six decimals of a short fraction are six digits
 six_are_digits : (fraction : List ℕ) → all_digits fraction ≡ true → length fraction ≤ 6 → (length (six_decimals fraction) ≡ 6)
     × AllDigits 10 (six_decimals fraction)
 six_are_digits fraction digits short =
     let padded = six_of_short fraction short in
     let pass : all_digits (six_decimals fraction) ≡ true =
-    rw padded (digits_pass_append fraction (replicate (6 - length fraction) 48) digits (zeros_digits (6 - length fraction))) in (
+    rw padded (pass_append is_ascii_digit fraction (replicate (6 - length fraction) 48) digits (zeros_pass is_ascii_digit (6 - length fraction) refl)) in (
       ap length padded ∙ length-append fraction (replicate (6 - length fraction) 48)
           ∙ omega (arith, length-replicate {A = ℕ} (6 - length fraction) 48),
       digits_all (six_decimals fraction) pass,

@@ -1,22 +1,19 @@
 -- What is written begins as most decimals do.
-use Rattle.std.proofs.Common.{◌≡◌, ℕ, ◌+◌, ◌/◌, ◌%◌, ◌^◌, ◌<◌, ◌≤◌, ◌⊎◌, true, List, [], ◌∷◌, ◌++◌, length, drop, arith, refl, ap, sym, subst, ◌∙◌, inl, inr}
+use Rattle.std.proofs.Common.{◌≡◌, ℕ, ◌+◌, ◌/◌, ◌%◌, ◌^◌, ◌<◌, ◌≤◌, ◌⊎◌, true, List, [], ◌∷◌, ◌++◌, length, drop, arith, refl, ap, sym, subst, ◌∙◌, inl, inr, append_assoc}
+use Rattle.std.proofs.lemmas.Bool.{and_parts}
+use Rattle.std.proofs.Math.Seq.{drop-append_seam}
 use Rattle.std.proofs.lemmas.Fmt.{decimal_is_IsNumeral_wide, length-decimal-le_wide}
 use Rattle.std.specs.Char.{is_ascii_digit}
 use Rattle.std.specs.Fmt.{decimal}
 use Rattle.pit_units.specs.Decimal.{all_digits, fraction_text, size_text, six_digits}
 use Rattle.pit_units.specs.Front.{digits_ahead, past_point, IsUsual}
-use Rattle.pit_units.proofs.Spelling.{both}
-use Rattle.pit_units.proofs.Written.{decimals, digits_pass, kept_length, pass_take, point_part, six_pass}
+use Rattle.pit_units.proofs.Written.{decimals, decimals_pass, digits_pass, kept_length, point_part}
 
 counted : (ds more : List ℕ) → all_digits ds ≡ true → digits_ahead (ds ++ more) ≡ length ds + digits_ahead more
 counted [] more h = omega arith
 counted (d ∷ ds) more h =
-    let parts = both (is_ascii_digit d) (all_digits ds) h in
+    let parts = and_parts (is_ascii_digit d) (all_digits ds) h in
     rw parts.0 (omega (arith, counted ds more parts.1))
-
-behind : (ds more : List ℕ) → drop (length ds) (ds ++ more) ≡ more
-behind [] more = refl
-behind (d ∷ ds) more = behind ds more
 
 -- up to 12 digits before something else, which is perhaps a point with few digits behind it
 usual : (max : ℕ) (ds more : List ℕ) → all_digits ds ≡ true → 0 < length ds → length ds ≤ 12 → digits_ahead more ≡ 0
@@ -28,11 +25,8 @@ usual max ds more pass some few stop coarse =
       some = omega (arith, count, some);
       few = omega (arith, count, few);
       coarse = subst (λ text. digits_ahead (past_point text) ≤ max)
-          (sym (ap (λ n. drop n (ds ++ more)) count ∙ behind ds more)) coarse;
+          (sym (ap (λ n. drop n (ds ++ more)) count ∙ drop-append_seam ds more)) coarse;
     }
-
-decimals_pass : (m : ℕ) → all_digits (decimals m) ≡ true
-decimals_pass m = pass_take is_ascii_digit (six_digits m) _ (six_pass m)
 
 -- what stands behind the whole part
 stops : (m : ℕ) (rest : List ℕ) → digits_ahead rest ≡ 0 → (((fraction_text m ≡ []) × (decimals m ≡ [])) ⊎ (fraction_text m ≡ 46 ∷ decimals m))
@@ -50,10 +44,6 @@ written_usual n rest small stop none_behind =
     let m = n % 10 ^ 6 in
     let numeral = decimal_is_IsNumeral_wide (n / 10 ^ 6) (omega arith) in
     let few = length-decimal-le_wide 12 (n / 10 ^ 6) (omega arith) (omega arith) (omega arith) in
-    subst (IsUsual 6) (sym (joined (decimal (n / 10 ^ 6)) (fraction_text m) rest))
+    subst (IsUsual 6) (sym (append_assoc (decimal (n / 10 ^ 6)) (fraction_text m) rest))
     (usual 6 (decimal (n / 10 ^ 6)) (fraction_text m ++ rest) (digits_pass (decimal (n / 10 ^ 6)) numeral.0.1) numeral.0.0 few
     (stops m rest stop (point_part m)) (coarse m rest stop none_behind (point_part m)))
-  where
-    joined : (xs ys zs : List ℕ) → (xs ++ ys) ++ zs ≡ xs ++ (ys ++ zs)
-    joined [] ys zs = refl
-    joined (x ∷ xs) ys zs = ap (λ l. x ∷ l) (joined xs ys zs)

@@ -5,12 +5,14 @@ use Rattle.std.proofs.lemmas.Bool.{cases_lt}
 use Rattle.std.proofs.lemmas.Fmt.{decimal_digit, decimal_is_IsNumeral_wide, first_decimal, length-decimal-le_wide}
 use Rattle.std.proofs.lemmas.Int.{ints}
 use Rattle.std.proofs.lemmas.Int.Digits.{digits_value-lt}
-use Rattle.std.proofs.Math.Nat.{pow-le-pow_right}
-use Rattle.std.proofs.lemmas.List.{length-take, length-append, length-reverse, length-replicate, get_or-take, get_or_append_left, get_or-append_right, get_or-replicate, get_or-reverse, drop_all, ext_get_or}
+use Rattle.std.proofs.Math.Nat.{dvd-mul_right, mod-mod_of_dvd, mul_comm, pow-le-pow_right}
+use Rattle.std.proofs.lemmas.Nat.{mod-mul-add, pow-add}
+use Rattle.std.proofs.lemmas.List.Elements.{All-append, All-cons, All-nil}
+use Rattle.std.proofs.lemmas.List.{length-drop, length-take, length-append, take-append-drop, length-reverse, length-replicate, get_or-take, get_or_append_left, get_or-append_right, get_or-replicate, get_or-reverse, ext_get_or}
 use Rattle.std.proofs.lemmas.List.Sums.{AllPass-from_list_all, prefix_len_passes, prefix_len_stops, suffix_len-le-length}
 use Rattle.std.proofs.lemmas.Str.{digit_value_digit}
 use Rattle.std.proofs.lemmas.Str.Parse.{digit_from_value}
-use borrow.Author.Tests.{eq-eqb, ne_eqb, le-ltb, le-leb, eqb-true, eqb-false}
+use borrow.Author.Tests.{ne_eqb, le-ltb, le-leb, eqb-true, eqb-false}
 use Rattle.std.specs.Char.{digit_value, is_ascii_digit}
 use Rattle.std.specs.Fmt.{decimal, sign_text}
 use Rattle.std.specs.List.{All, list_all, suffix_len}
@@ -18,7 +20,8 @@ use Rattle.std.specs.Str.Parse.{AllDigits, digits_value, starts_with_minus}
 use Rattle.pit_units.specs.Decimal.{all_digits, all_zeros, six_decimals, size_of, signed, decimal_of, six_digits, without_end_zeros, fraction_text, size_text, shortest}
 use Rattle.pit_units.specs.StandsFor.{IsSpelled}
 use Rattle.pit_units.specs.Shortest.{IsPlain, IsPlainByte, IsShortest, longest}
-use Rattle.pit_units.proofs.Spelling.{both, digit_range, reads}
+use Rattle.pit_units.proofs.Spelling.{digit_range, reads}
+use Rattle.pit_units.proofs.Value.{digits_all, pass_parts, value_append, zeros_alone}
 use Rattle.pit_units.proofs.Text.{not_below, shortest_is}
 
 -- std's digits by recursion, as a test
@@ -28,17 +31,9 @@ digits_pass (c ∷ cs) h =
     let range = digit_from_value c h.0 in
     rw (le-leb 48 c range.0, le-leb c 57 range.1) (digits_pass cs h.1)
 
--- a part of a list that passes
-pub pass_take : (p : ℕ → Bool) (xs : List ℕ) (n : ℕ) → list_all p xs ≡ true → list_all p (take n xs) ≡ true
-pass_take p xs zero h = refl
-pass_take p [] (suc n) h = refl
-pass_take p (c ∷ cs) (suc n) h =
-    let parts = both (p c) (list_all p cs) h in
-    rw parts.0 (pass_take p cs n parts.1)
-
 -- what is passed behind a place is passed behind it in a part
 pass_drop_take : (p : ℕ → Bool) (xs : List ℕ) (from n : ℕ) → list_all p (drop from xs) ≡ true → list_all p (drop from (take n xs)) ≡ true
-pass_drop_take p xs zero n h = pass_take p xs n h
+pass_drop_take p xs zero n h = (pass_parts p xs n h).0
 pass_drop_take p [] (suc from) zero h = refl
 pass_drop_take p [] (suc from) (suc n) h = refl
 pass_drop_take p (c ∷ cs) (suc from) zero h = refl
@@ -104,49 +99,35 @@ pub six_value : (n : ℕ) → n < 10 ^ 6 → digits_value 10 (six_digits n) ≡ 
 six_value n small = simp digit_is (omega arith)
 
 -- past the decimals that a multiple needs there are zeros
-fine_places : (n max : ℕ) → n % 10 ^ (6 - max) ≡ 0 → all_zeros (drop max (six_digits n)) ≡ true
-fine_places n zero multiple = rw (
-  eq-eqb (48 + n / 100000 % 10) 48 (omega arith),
-  eq-eqb (48 + n / 10000 % 10) 48 (omega arith),
-  eq-eqb (48 + n / 1000 % 10) 48 (omega arith),
-  eq-eqb (48 + n / 100 % 10) 48 (omega arith),
-  eq-eqb (48 + n / 10 % 10) 48 (omega arith),
-  eq-eqb (48 + n / 1 % 10) 48 (omega arith),
-)
-fine_places n (suc zero) multiple = rw (
-  eq-eqb (48 + n / 10000 % 10) 48 (omega arith),
-  eq-eqb (48 + n / 1000 % 10) 48 (omega arith),
-  eq-eqb (48 + n / 100 % 10) 48 (omega arith),
-  eq-eqb (48 + n / 10 % 10) 48 (omega arith),
-  eq-eqb (48 + n / 1 % 10) 48 (omega arith),
-)
-fine_places n (suc (suc zero)) multiple =
-    rw (
-      eq-eqb (48 + n / 1000 % 10) 48 (omega arith),
-      eq-eqb (48 + n / 100 % 10) 48 (omega arith),
-      eq-eqb (48 + n / 10 % 10) 48 (omega arith),
-      eq-eqb (48 + n / 1 % 10) 48 (omega arith),
-    )
-fine_places n (suc (suc (suc zero))) multiple =
-    rw (eq-eqb (48 + n / 100 % 10) 48 (omega arith), eq-eqb (48 + n / 10 % 10) 48 (omega arith), eq-eqb (48 + n / 1 % 10) 48 (omega arith))
-fine_places n (suc (suc (suc (suc zero)))) multiple =
-    rw (eq-eqb (48 + n / 10 % 10) 48 (omega arith), eq-eqb (48 + n / 1 % 10) 48 (omega arith))
-fine_places n (suc (suc (suc (suc (suc zero))))) multiple = rw (eq-eqb (48 + n / 1 % 10) 48 (omega arith))
-fine_places n (suc (suc (suc (suc (suc (suc max)))))) multiple = ap all_zeros (drop_all {X = ℕ} max [] (omega arith))
+fine_places : (n max : ℕ) → n < 10 ^ 6 → n % 10 ^ (6 - max) ≡ 0 → all_zeros (drop max (six_digits n)) ≡ true
+fine_places n max small multiple =
+    let front = take max (six_digits n) in
+    let rest = drop max (six_digits n) in
+    let long : length rest ≡ 6 - max = length-drop max (six_digits n) in
+    let digits = digits_all rest (pass_parts is_ascii_digit (six_digits n) max (six_pass n)).1 in
+    let low : digits_value 10 rest < 10 ^ (6 - max) = rw long at (digits_value-lt 10 rest digits) in
+    let sum : digits_value 10 (front ++ rest) ≡ digits_value 10 front * 10 ^ (6 - max) + digits_value 10 rest = rw long at (value_append front rest) in
+    let split : n ≡ digits_value 10 front * 10 ^ (6 - max) + digits_value 10 rest =
+    sym (six_value n small) ∙ ap (digits_value 10) (sym (take-append-drop max (six_digits n))) ∙ sum in
+    zeros_alone rest digits
+    (sym (mod-mul-add (digits_value 10 front) (10 ^ (6 - max)) (digits_value 10 rest) low) ∙ ap (λ k. k % 10 ^ (6 - max)) (sym split) ∙ multiple)
 
 -- the decimals that the shortest text of n millionths has
 abbrev pub decimals : ℕ → List ℕ
 decimals n = without_end_zeros (six_digits n)
 
+pub decimals_pass : (n : ℕ) → all_digits (decimals n) ≡ true
+decimals_pass n = (pass_parts is_ascii_digit (six_digits n) _ (six_pass n)).0
+
 pub point_part : (n : ℕ) → ((fraction_text n ≡ []) × (decimals n ≡ [])) ⊎ (fraction_text n ≡ 46 ∷ decimals n)
 point_part zero = inl (refl, refl)
 point_part (suc n) = inr (rw (ne_eqb (suc n) 0 (λ e. omega (arith, e))))
 
-sign_part : (below : Bool) → (sign_text below ≡ []) ⊎ ((sign_text below ≡ 43 ∷ []) ⊎ (sign_text below ≡ 45 ∷ []))
+pub sign_part : (below : Bool) → (sign_text below ≡ []) ⊎ ((sign_text below ≡ 43 ∷ []) ⊎ (sign_text below ≡ 45 ∷ []))
 sign_part true = inr (inr refl)
 sign_part false = inl refl
 
-side_of_sign : (below : Bool) → starts_with_minus (sign_text below) ≡ below
+pub side_of_sign : (below : Bool) → starts_with_minus (sign_text below) ≡ below
 side_of_sign true = refl
 side_of_sign false = refl
 
@@ -161,7 +142,7 @@ written_spelled below n most =
       signs = sign_part below;
       point = point_part (n % 10 ^ 6);
       whole_digits = digits_pass (decimal (n / 10 ^ 6)) numeral.0.1;
-      fraction_digits = pass_take is_ascii_digit (six_digits (n % 10 ^ 6)) _ (six_pass (n % 10 ^ 6));
+      fraction_digits = decimals_pass (n % 10 ^ 6);
       some_digit = omega (arith, numeral.0.0);
     }
 
@@ -175,22 +156,17 @@ size_again n most =
     omega (arith, numeral.1, rest)
 
 low_multiple : (n max : ℕ) → max ≤ 6 → n % 10 ^ (6 - max) ≡ 0 → n % 10 ^ 6 % 10 ^ (6 - max) ≡ 0
-low_multiple n zero few multiple = omega arith
-low_multiple n (suc zero) few multiple = omega arith
-low_multiple n (suc (suc zero)) few multiple = omega arith
-low_multiple n (suc (suc (suc zero))) few multiple = omega arith
-low_multiple n (suc (suc (suc (suc zero)))) few multiple = omega arith
-low_multiple n (suc (suc (suc (suc (suc zero))))) few multiple = omega arith
-low_multiple n (suc (suc (suc (suc (suc (suc max)))))) few multiple =
-    let none : 6 - suc (suc (suc (suc (suc (suc max))))) ≡ 0 = omega arith in
-    rw none (omega arith)
+low_multiple n max few multiple =
+    let whole : 6 ≡ max + (6 - max) = omega arith in
+    let power : 10 ^ 6 ≡ 10 ^ (6 - max) * 10 ^ max = ap (λ n. 10 ^ n) whole ∙ pow-add 10 max (6 - max) ∙ mul_comm (10 ^ max) (10 ^ (6 - max)) in
+    rw power (mod-mod_of_dvd (10 ^ (6 - max)) n (dvd-mul_right (10 ^ (6 - max)) (10 ^ max)) ∙ multiple)
 
 -- what is read from a written text
 written_read : (max : ℕ) (below : Bool) (n : ℕ) → n ≤ 10 ^ 24 → n % 10 ^ 6 % 10 ^ (6 - max) ≡ 0
     → decimal_of max (sign_text below ++ size_text n) ≡ Ok (signed below n)
 written_read max below n most multiple =
     let fine : all_zeros (drop max (decimals (n % 10 ^ 6))) ≡ true =
-    pass_drop_take (λ c. c == 48) (six_digits (n % 10 ^ 6)) max _ (fine_places (n % 10 ^ 6) max multiple) in
+    pass_drop_take (λ c. c == 48) (six_digits (n % 10 ^ 6)) max _ (fine_places (n % 10 ^ 6) max (omega arith) multiple) in
     reads max (sign_text below ++ size_text n) (sign_text below) (decimal (n / 10 ^ 6)) (fraction_text (n % 10 ^ 6))
     (decimals (n % 10 ^ 6)) (written_spelled below n most)
     ∙ rw (fine, size_again n most, side_of_sign below, le-ltb (10 ^ 24) n most)
@@ -254,33 +230,22 @@ shortest_shape z most =
     } in
     rw (shortest_is z below n refl refl) shape
 
-pub all_cons : (x : ℕ) (xs : List ℕ) → IsPlainByte x → All IsPlainByte xs → All IsPlainByte (x ∷ xs)
-all_cons x xs p h = at
-  where
-    at : (k : ℕ) (d : ℕ) → k < length (x ∷ xs) → IsPlainByte (get_or (x ∷ xs) k d)
-    at zero d within = p
-    at (suc k) d within = h k d (omega arith)
-
 -- digits are plain bytes
 pub digits_plain : (ds : List ℕ) → all_digits ds ≡ true → All IsPlainByte ds
 digits_plain ds h = λ k d within. let range =
     digit_range (get_or ds k d) (AllPass-from_list_all is_ascii_digit ds h k d within) in (omega arith, omega arith, λ e. omega arith)
 
-all_append : (xs ys : List ℕ) → All IsPlainByte xs → All IsPlainByte ys → All IsPlainByte (xs ++ ys)
-all_append [] ys h g = g
-all_append (x ∷ xs) ys h g = all_cons x (xs ++ ys) (h 0 0 (omega arith)) (all_append xs ys (λ k d within. h (suc k) d (omega arith)) g)
-
-sign_plain : (below : Bool) → All IsPlainByte (sign_text below)
-sign_plain true = all_cons 45 [] (omega arith, omega arith, λ e. omega arith) (λ k d within. absurd (omega arith))
-sign_plain false = λ k d within. absurd (omega arith)
+pub sign_plain : (below : Bool) → All IsPlainByte (sign_text below)
+sign_plain true = All-cons IsPlainByte 45 [] (omega arith, omega arith, λ e. omega arith) (All-nil IsPlainByte)
+sign_plain false = All-nil IsPlainByte
 
 fraction_plain : (n : ℕ) → ((fraction_text n ≡ []) × (decimals n ≡ [])) ⊎ (fraction_text n ≡ 46 ∷ decimals n)
     → (All IsPlainByte (fraction_text n)) × (length (fraction_text n) ≤ 7)
-fraction_plain n (inl none) = rw none.0 (λ k d within. absurd (omega arith), omega arith)
+fraction_plain n (inl none) = rw none.0 (All-nil IsPlainByte, omega arith)
 fraction_plain n (inr is) =
     rw is (
-      all_cons 46 (decimals n) (omega arith, omega arith, λ e. omega arith)
-          (digits_plain (decimals n) (pass_take is_ascii_digit (six_digits n) _ (six_pass n))),
+      All-cons IsPlainByte 46 (decimals n) (omega arith, omega arith, λ e. omega arith)
+          (digits_plain (decimals n) (decimals_pass n)),
       omega (arith, kept_length (six_digits n)),
     )
 
@@ -314,8 +279,8 @@ shortest_plain z most =
     let plain : IsPlain (sign_text below ++ size_text n) = record {
       some = omega (arith, text_length, size_length, numeral.0.0);
       short = omega (arith, text_length, size_short n most fraction.1, sign_length below);
-      bytes = all_append (sign_text below) (size_text n) (sign_plain below)
-          (all_append (decimal (n / 10 ^ 6)) (fraction_text (n % 10 ^ 6))
+      bytes = All-append IsPlainByte (sign_text below) (size_text n) (sign_plain below)
+          (All-append IsPlainByte (decimal (n / 10 ^ 6)) (fraction_text (n % 10 ^ 6))
           (digits_plain (decimal (n / 10 ^ 6)) (digits_pass (decimal (n / 10 ^ 6)) numeral.0.1)) fraction.0);
     } in
     rw (shortest_is z below n refl refl) plain

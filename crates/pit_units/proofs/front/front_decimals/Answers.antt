@@ -1,5 +1,5 @@
 use Rattle.std.proofs.Common.{arith}
-use Rattle.pit_units.proofs.DigitsAlone.{small_value}
+use Rattle.pit_units.proofs.Digits.{small_value}
 use Rattle.pit_units.proofs.FrontFacts.{decimals_in_front, digits_count}
 use Rattle.pit_units.proofs.front.front_decimals.Goals as goal
 

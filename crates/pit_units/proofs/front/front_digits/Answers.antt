@@ -1,7 +1,7 @@
 use Rattle.std.proofs.Common.{arith, rules, inl, inr, ◌≡◌, true, get_or}
 use Rattle.std.proofs.lemmas.List.Sums.{prefix_len-le-length}
 use Rattle.std.specs.Char.{is_ascii_digit}
-use Rattle.pit_units.proofs.DigitsAlone.{more_digits, small_value}
+use Rattle.pit_units.proofs.Digits.{more_digits, small_value}
 use Rattle.pit_units.proofs.FrontFacts.{behind_all_digits, behind_digits, digits_up_to, digits_alone_there, most_digits, stops_there}
 use Rattle.pit_units.proofs.front.front_digits.Goals as goal
 use Rattle.pit_units.proofs.front.front_digits.Goals.{then-place-eq-MOST_DIGITS-via-then-place-eq-MOST_DIGITS, then-place-eq-MOST_DIGITS-via-else-place-eq-MOST_DIGITS+then-not-is_ascii_digit}
