@@ -14,6 +14,7 @@ const MOST_UNITS: u64 = 1_000_000_000_000;
 ///
 /// `None` says that the text does not begin with a digit.
 #[inline(always)]
+#[tactic(auto, using(crate::proofs::FrontFacts::whole_in_front))]
 pub fn front_whole(text: &[u8]) -> Option<(u64, &[u8])>
     ensures whole { IfSome result (λ x. BeginsWith 0 text.now (pos (x.0 * 10 ^ 6)) x.1.now) }
     ensures rest { IfSome result (λ x. x.1.now ≡ past_digits text.now) }

@@ -135,6 +135,7 @@ fn is_number(whole: &[u8], fraction: &[u8]) -> bool
 }
 
 // The number that digits write, but for one that is past the range of every decimal.
+#[tactic(auto, using(crate::proofs::Digits::capped_more))]
 fn whole_capped(digits: &[u8]) -> u64
     requires { IsTrue (all_digits digits.now) }
     ensures { result ≡ min (10 ^ 18 + 1) (digits_value 10 digits.now) }
