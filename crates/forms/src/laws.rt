@@ -15,6 +15,7 @@ ghost use Rattle.forms.specs.Shape.{Shape, said};
 ghost use Rattle.forms.specs.ShapeStates.{Fails, States};
 
 /// Texts are read as the values that they spell, and as no others.
+#[tactic(auto, using(crate::proofs::FormFacts::read_spelled, crate::proofs::FormFacts::spelled_read))]
 pub fn read_is_spelled<K>()
     ensures { (kinds : ℕ → FieldFault → K) (form : List Field) (texts : List (List ℕ))
         (values : List Value) → is_fine form ≡ true
@@ -22,6 +23,7 @@ pub fn read_is_spelled<K>()
 {}
 
 /// Where texts are refused, the kind of their fault is that of the first thing that is asked of them and fails.
+#[tactic(auto, using(crate::proofs::FormFacts::read_fails))]
 pub fn faults_are_first<K>()
     ensures { (kinds : ℕ → FieldFault → K) (form : List Field) (texts : List (List ℕ)) (fault : K)
         → is_fine form ≡ true → read kinds form texts ≡ Err fault
@@ -29,12 +31,14 @@ pub fn faults_are_first<K>()
 {}
 
 /// Values that fit a form are read back from what is written of them.
+#[tactic(auto, using(crate::proofs::FormFacts::written_read))]
 pub fn written_is_read<K>()
     ensures { (kinds : ℕ → FieldFault → K) (form : List Field) (values : List Value)
         → is_fine form ≡ true → Fit form values → read kinds form (written values) ≡ Ok values }
 {}
 
 /// Values that texts spell by a form fit the form.
+#[tactic(auto, using(crate::proofs::FormFacts::spelled_fit))]
 pub fn spelled_fits()
     ensures { (form : List Field) (texts : List (List ℕ)) (values : List Value)
         → is_fine form ≡ true → Spell form texts values → Fit form values }
@@ -53,6 +57,7 @@ pub fn texts_fail_first<K, S>()
 {}
 
 /// The records of a grammar are read as what they state one after the other, and as nothing else.
+#[tactic(auto, using(crate::proofs::GrammarFacts::read_all_states, crate::proofs::GrammarFacts::all_read))]
 pub fn records_are_read<R, S, K, F>()
     ensures { (grammar : Grammar R S K F) (number : ℕ) (state : S) (rows : List R) (last : S)
         → HasFineForms grammar
@@ -60,6 +65,7 @@ pub fn records_are_read<R, S, K, F>()
 {}
 
 /// The records of a grammar are refused with a fault exactly where it is that of the first record that states nothing.
+#[tactic(auto, using(crate::proofs::GrammarFacts::read_first_fault, crate::proofs::GrammarFacts::fault_read))]
 pub fn records_fail_first<R, S, K, F>()
     ensures { (grammar : Grammar R S K F) (number : ℕ) (state : S) (rows : List R) (fault : F)
         → HasFineForms grammar
