@@ -1,7 +1,7 @@
 -- What the fault of a decimal tells of its text.
-use Rattle.std.specs.Prelude.{◌≡◌, ℕ, ◌≤◌, Bool, true, false, not, List, drop, ℤ, Result, Ok, Err, if◌then◌else◌}
+use Rattle.std.specs.Prelude.{◌≡◌, ℕ, ◌≤◌, Bool, true, false, List, drop, ℤ, Result, Ok, Err}
 use Rattle.std.proofs.Common.{refl, sym, ◌∙◌}
-use Rattle.pit_units.proofs.Standing.{number_parts, stands_read}
+use Rattle.pit_units.proofs.Standing.{number_parts, pick, stands_read}
 use Rattle.pit_units.specs.Decimal.{decimal_of, is_number, all_zeros, fraction_of, whole_of}
 use Rattle.pit_units.specs.StandsFor.{StandsFor}
 use Rattle.pit_units.specs.declared.fault.DecFault.{DecFault}
@@ -14,19 +14,14 @@ one_number decimals cell m n few a b =
     let same : ◌≡◌ {A = Result ℤ DecFault} (Ok m) (Ok n) = sym (stands_read decimals cell m few a) ∙ stands_read decimals cell n few b in
     cc
 
--- the tests of a decimal in turn
-abbrev tests : Bool → Bool → Bool → ℤ → Result ℤ DecFault
-tests number fine large found =
-    if not number then Err dec.Number else (if not fine then Err dec.TooFine else (if large then Err dec.Range else Ok found))
-
-pick_fine : (number fine large : Bool) (found : ℤ) → tests number fine large found ≡ Err dec.TooFine → number ≡ true
+-- what holds where the tests of a decimal answer so
+pick_fine : (number fine large : Bool) (found : ℤ) → pick number fine large found ≡ Err dec.TooFine → number ≡ true
 pick_fine true fine large found e = refl
 pick_fine false fine large found e = absurd cc
 
-pick_range : (number fine large : Bool) (found : ℤ) → tests number fine large found ≡ Err dec.Range → (number ≡ true) × (fine ≡ true)
+pick_range : (number fine large : Bool) (found : ℤ) → pick number fine large found ≡ Err dec.Range → (number ≡ true) × (fine ≡ true)
 pick_range true true large found e = (refl, refl)
-pick_range true false large found e = absurd cc
-pick_range false fine large found e = absurd cc
+pick_range _ _ large found e = absurd cc
 
 -- what was too fine is a decimal, and what was out of range is fine enough
 pub too_fine_decimal : (decimals : ℕ) (cell : List ℕ) → decimal_of decimals cell ≡ Err dec.TooFine → IsDecimal cell

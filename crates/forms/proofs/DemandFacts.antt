@@ -53,20 +53,8 @@ pub mapped : {A B K : Type 0} (r : Result A K) (g : A → B) (ds : List (Demand 
 mapped (Ok x) g ds P Q here next = (here.0, next x here.1)
 mapped (Err kind) g ds P Q here next = here
 
--- the same answer keeps what follows from what it keeps
-pub weaker : {A K : Type 0} (r : Result A K) (ds : List (Demand K)) (P Q : A → Type 0) → ((x : A) → P x → Q x) → Follows r ds P
-    → Follows r ds Q
-weaker (Ok x) ds P Q to h = (h.0, to x h.1)
-weaker (Err kind) ds P Q to h = h
-
 -- a test, and then the rest
 pub guarded : {B K : Type 0} (t : Bool) (kind : K) (met : Type 0) (r : Result B K) (es : List (Demand K)) (Q : B → Type 0)
     → (t ≡ true → ¬ met) → (t ≡ false → met × Follows r es Q) → Follows (if t then Err kind else r) (demand kind met ++ es) Q
 guarded true kind met r es Q refuted kept = inl (refuted refl, refl)
 guarded false kind met r es Q refuted kept = let h = kept refl in behind r (demand kind met) es Q (h.0, tt) h.1
-
--- a test at the end
-pub last_guarded : {B K : Type 0} (t : Bool) (kind : K) (met : Type 0) (x : B) (Q : B → Type 0)
-    → (t ≡ true → ¬ met) → (t ≡ false → met × Q x) → Follows (if t then Err kind else Ok x) (demand kind met) Q
-last_guarded true kind met x Q refuted kept = inl (refuted refl, refl)
-last_guarded false kind met x Q refuted kept = let h = kept refl in ((h.0, tt), h.1)

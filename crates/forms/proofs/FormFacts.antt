@@ -30,10 +30,6 @@ le_true a b e = grind (arith, ints)
 pub true_le : (a b : ℤ) → a ≤ℤ b → int_le a b ≡ true
 true_le a b e = grind (arith, ints)
 
-both_true : (a b : Bool) → (a && b) ≡ false → a ≡ true → b ≡ true → ⊥
-both_true true b e a is = absurd cc
-both_true false b e a is = absurd cc
-
 -- a decimal, and whether it is in its range
 range_told : {K : Type 0} (kind : FieldFault → K) (decimals : ℕ) (low high : ℤ) (text : List ℕ) → decimals ≤ 6
     → Follows (read_decimal kind decimals low high text) (asked_of_decimal kind decimals low high text)
@@ -58,8 +54,8 @@ range_told {K} kind decimals low high text few = by (decimal_of decimals text) r
     test m stands false e =
         let never : ¬ Met = λ h.
         let same : h.0 ≡ m = one_number decimals text h.0 m few h.1 stands in
-        both_true (int_le low m) (int_le m high) e (true_le low m (subst (λ z. low ≤ℤ z) same h.2))
-        (true_le m high (subst (λ z. z ≤ℤ high) same h.3)) in
+        let both = rw (true_le low m (subst (λ z. low ≤ℤ z) same h.2), true_le m high (subst (λ z. z ≤ℤ high) same h.3)) at e in
+        absurd cc in
         inl (never, refl)
 
     by : (r : Result ℤ DecFault) → decimal_of decimals text ≡ r
@@ -125,8 +121,6 @@ pub fields_told : {K : Type 0} (kinds : ℕ → FieldFault → K) (form : List F
     → length texts ≡ length form
     → Follows (read_fields kinds form texts) (asked_of_fields kinds form texts) (Spell form texts)
 fields_told kinds [] [] fine count = (tt, tt)
-fields_told kinds [] (text ∷ texts) fine count = absurd (omega (arith, count))
-fields_told kinds (field ∷ form) [] fine count = absurd (omega (arith, count))
 fields_told kinds (field ∷ form) (text ∷ texts) fine count =
     let p = parts field form fine in
     bound (read_field (kinds 0) field text) _ (asked_of_field (kinds 0) field text)
@@ -135,18 +129,15 @@ fields_told kinds (field ∷ form) (text ∷ texts) fine count =
     mapped (read_fields (next_kinds kinds) form texts)
     (λ values. value ∷ values) (asked_of_fields (next_kinds kinds) form texts) (Spell form texts) _
     (fields_told (next_kinds kinds) form texts p.1 (omega (arith, count))) (λ values spell. (says, spell)))
+fields_told kinds _ _ fine count = absurd (omega (arith, count))
 
 pub read_told : {K : Type 0} (kinds : ℕ → FieldFault → K) (form : List Field) (texts : List (List ℕ)) → is_fine form ≡ true
     → Follows (read kinds form texts) (asked kinds form texts) (Spell form texts)
 read_told kinds form texts fine =
     guarded (not (length texts == length form)) (kinds 0 fault.Count) (length texts ≡ length form) (read_fields kinds form texts) _ _
-    (λ t h. other (length texts == length form) t (eq-eqb (length texts) (length form) h)) (λ t.
+    (λ t h. let no = rw (eq-eqb (length texts) (length form) h) at t in absurd cc) (λ t.
     let count = eqb-true (length texts) (length form) (not-false (length texts == length form) t) in
     (count, fields_told kinds form texts fine count))
-  where
-    other : (t : Bool) → not t ≡ true → t ≡ true → ⊥
-    other true a b = absurd cc
-    other false a b = absurd cc
 
 -- what is spelled is read
 pub says_read : {K : Type 0} (kind : FieldFault → K) (field : Field) (text : List ℕ) (value : Value) → has_six_decimals field ≡ true
@@ -155,31 +146,24 @@ pub says_read : {K : Type 0} (kind : FieldFault → K) (field : Field) (text : L
 unfolding decimal_within
 says_read kind (Decimal decimals low high) text (Millionths m) fine says =
     rw (stands_read decimals text m (leb-true decimals 6 fine) says.0, true_le low m says.1, true_le m high says.2) refl
-says_read kind (Decimal decimals low high) text (Bytes word) fine says = absurd says
 says_read kind (Stepped decimals step low high) text (Millionths m) fine says =
     rw (stands_read decimals text m (leb-true decimals 6 fine) says.0, true_le low m says.1, true_le m high says.2, says.3) refl
-says_read kind (Stepped decimals step low high) text (Bytes word) fine says = absurd says
-says_read kind (Word passes) text (Millionths m) fine says = absurd says
 says_read kind (Word passes) text (Bytes word) fine says = rw says.1 (ap (λ w. Ok (Bytes w)) says.0)
+says_read kind _ text _ fine says = absurd says
 
 pub spelled_count : (form : List Field) (texts : List (List ℕ)) (values : List Value) → Spell form texts values → length texts ≡ length form
 spelled_count [] [] values spell = refl
-spelled_count [] (text ∷ texts) values spell = absurd spell
-spelled_count (field ∷ form) [] values spell = absurd spell
-spelled_count (field ∷ form) (text ∷ texts) [] spell = absurd spell
 spelled_count (field ∷ form) (text ∷ texts) (value ∷ values) spell = omega (arith, spelled_count form texts values spell.1)
+spelled_count _ _ _ spell = absurd spell
 
 spelled_fields : {K : Type 0} (kinds : ℕ → FieldFault → K) (form : List Field) (texts : List (List ℕ)) (values : List Value)
     → is_fine form ≡ true
     → Spell form texts values → read_fields kinds form texts ≡ Ok values
 spelled_fields kinds [] [] [] fine spell = refl
-spelled_fields kinds [] [] (value ∷ values) fine spell = absurd spell
-spelled_fields kinds [] (text ∷ texts) values fine spell = absurd spell
-spelled_fields kinds (field ∷ form) [] values fine spell = absurd spell
-spelled_fields kinds (field ∷ form) (text ∷ texts) [] fine spell = absurd spell
 spelled_fields kinds (field ∷ form) (text ∷ texts) (value ∷ values) fine spell =
     let p = parts field form fine in
     rw (says_read (kinds 0) field text value p.0 spell.0, spelled_fields (next_kinds kinds) form texts values p.1 spell.1) refl
+spelled_fields kinds _ _ _ fine spell = absurd spell
 
 -- as many texts as fields are read field by field
 pub counted : {K : Type 0} (kinds : ℕ → FieldFault → K) (form : List Field) (texts : List (List ℕ)) → length texts ≡ length form
@@ -209,22 +193,19 @@ says_written : (field : Field) (value : Value) → has_six_decimals field ≡ tr
 says_written (Decimal decimals low high) (Millionths m) fine fits =
     let few = leb-true decimals 6 fine in
     (read_stands decimals (shortest m) m few (shortest_read decimals m few fits.2 fits.3), fits.0, fits.1)
-says_written (Decimal decimals low high) (Bytes word) fine fits = absurd fits
 says_written (Stepped decimals step low high) (Millionths m) fine fits =
     let few = leb-true decimals 6 fine in
     let at = fits.0 in
     (read_stands decimals (shortest m) m few (shortest_read decimals m few at.2 at.3), at.0, at.1, fits.1)
-says_written (Stepped decimals step low high) (Bytes word) fine fits = absurd fits
-says_written (Word passes) (Millionths m) fine fits = absurd fits
 says_written (Word passes) (Bytes word) fine fits = (refl, fits)
+says_written _ _ fine fits = absurd fits
 
 pub spell_written : (form : List Field) (values : List Value) → is_fine form ≡ true → Fit form values → Spell form (written values) values
 spell_written [] [] fine fit = tt
-spell_written [] (value ∷ values) fine fit = absurd fit
-spell_written (field ∷ form) [] fine fit = absurd fit
 spell_written (field ∷ form) (value ∷ values) fine fit =
     let p = parts field form fine in
     (says_written field value p.0 fit.0, spell_written form values p.1 fit.1)
+spell_written _ _ fine fit = absurd fit
 
 pub written_read : {K : Type 0} (kinds : ℕ → FieldFault → K) (form : List Field) (values : List Value) → is_fine form ≡ true
     → Fit form values
@@ -235,12 +216,10 @@ written_read kinds form values fine fit = spelled_read kinds form (written value
 says_fits : (field : Field) (text : List ℕ) (value : Value) → has_six_decimals field ≡ true → Says field text value → FitsField field value
 says_fits (Decimal decimals low high) text (Millionths m) fine says =
     (says.1, says.2, says.0.in_range, stands_multiple decimals text m (leb-true decimals 6 fine) says.0)
-says_fits (Decimal decimals low high) text (Bytes word) fine says = absurd says
 says_fits (Stepped decimals step low high) text (Millionths m) fine says =
     ((says.1, says.2, says.0.in_range, stands_multiple decimals text m (leb-true decimals 6 fine) says.0), says.3)
-says_fits (Stepped decimals step low high) text (Bytes word) fine says = absurd says
-says_fits (Word passes) text (Millionths m) fine says = absurd says
 says_fits (Word passes) text (Bytes word) fine says = subst (λ w. passes w ≡ true) says.0 says.1
+says_fits _ text _ fine says = absurd says
 
 -- and what is read fits
 pub read_fits : {K : Type 0} (kind : FieldFault → K) (field : Field) (text : List ℕ) (value : Value) → has_six_decimals field ≡ true
@@ -252,35 +231,23 @@ read_fits kind field text value fine e =
 pub spelled_fit : (form : List Field) (texts : List (List ℕ)) (values : List Value) → is_fine form ≡ true → Spell form texts values
     → Fit form values
 spelled_fit [] [] [] fine spell = tt
-spelled_fit [] [] (value ∷ values) fine spell = absurd spell
-spelled_fit [] (text ∷ texts) values fine spell = absurd spell
-spelled_fit (field ∷ form) [] values fine spell = absurd spell
-spelled_fit (field ∷ form) (text ∷ texts) [] fine spell = absurd spell
 spelled_fit (field ∷ form) (text ∷ texts) (value ∷ values) fine spell =
     let p = parts field form fine in
     (says_fits field text value p.0 spell.0, spelled_fit form texts values p.1 spell.1)
+spelled_fit _ _ _ fine spell = absurd spell
 
 -- what is read before it is counted has been counted
 pub read_count : {K : Type 0} (kinds : ℕ → FieldFault → K) (form : List Field) (texts : List (List ℕ)) (values : List Value)
     → read_fields kinds form texts ≡ Ok values → length texts ≡ length form
 read_count kinds [] [] values e = refl
-read_count kinds [] (text ∷ texts) values e = absurd cc
-read_count kinds (field ∷ form) [] values e = absurd cc
 read_count {K} kinds (field ∷ form) (text ∷ texts) values e =
-    one (λ more is. read_count (next_kinds kinds) form texts more is) (read_field (kinds 0) field text) e
+    by (read_field (kinds 0) field text) (read_fields (next_kinds kinds) form texts) (read_count (next_kinds kinds) form texts) e
   where
-    rest : ((more : List Value) → read_fields (next_kinds kinds) form texts ≡ Ok more → length texts ≡ length form)
-        → (value : Value) (r : Result (List Value) K)
-        → read_fields (next_kinds kinds) form texts ≡ r → (r >>= λ more. Ok (value ∷ more)) ≡ Ok values
-        → length (text ∷ texts) ≡ length (field ∷ form)
-    rest deeper value (Ok more) is e = omega (arith, deeper more is)
-    rest deeper value (Err found) is e = absurd cc
-
-    one : ((more : List Value) → read_fields (next_kinds kinds) form texts ≡ Ok more → length texts ≡ length form) → (r : Result Value K)
-        → (r >>= λ value. read_fields (next_kinds kinds) form texts >>= λ more. Ok (value ∷ more)) ≡ Ok values
-        → length (text ∷ texts) ≡ length (field ∷ form)
-    one deeper (Ok value) e = rest deeper value (read_fields (next_kinds kinds) form texts) refl e
-    one deeper (Err found) e = absurd cc
+    by : (r : Result Value K) (rest : Result (List Value) K) → ((more : List Value) → rest ≡ Ok more → length texts ≡ length form)
+        → (r >>= λ value. rest >>= λ more. Ok (value ∷ more)) ≡ Ok values → length (text ∷ texts) ≡ length (field ∷ form)
+    by (Ok value) (Ok more) deeper e = omega (arith, deeper more refl)
+    by _ _ deeper e = absurd cc
+read_count kinds _ _ values e = absurd cc
 
 -- and then a step, which may fail
 pub counted_later : {A K : Type 0} (kinds : ℕ → FieldFault → K) (form : List Field)

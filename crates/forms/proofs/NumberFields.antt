@@ -1,11 +1,9 @@
--- Fields of whole numbers below a limit, and of sizes up to the most: which values fit them, and that their text states one alone.
-use Rattle.std.specs.Prelude.{◌≡◌, ℕ, zero, suc, ◌*◌, ◌/◌, ◌%◌, ◌-◌, ◌^◌, ◌<◌, ◌≤◌, List, ◌∷◌, slice_index_or, [], pos, negsuc, ◌+ℤ◌, ◌≤ℤ◌}
+-- Fields of whole numbers below a limit, and of sizes up to the most: which values fit them.
+use Rattle.std.specs.Prelude.{◌≡◌, ℕ, ◌*◌, ◌/◌, ◌%◌, ◌-◌, ◌^◌, ◌<◌, ◌≤◌, pos, negsuc, ◌+ℤ◌, ◌≤ℤ◌}
 use Rattle.std.proofs.Common.{refl, ap, arith}
 use Rattle.std.proofs.lemmas.Int.{ints}
-use Rattle.forms.proofs.DecimalFaults.{one_number}
-use Rattle.forms.specs.Field.{Field, Value, Millionths, Bytes, below, up_to, whole}
+use Rattle.forms.specs.Field.{Value, Millionths, Bytes, below, up_to, whole}
 use Rattle.forms.specs.Fit.{FitsField}
-use Rattle.forms.specs.Spelled.{Says, Spell}
 
 pub quotient : (n : ℕ) → n * 10 ^ 6 / 10 ^ 6 ≡ n
 quotient n = omega arith
@@ -48,25 +46,3 @@ pub size_found : (decimals most : ℕ) (value : Value) → FitsField (up_to deci
 size_found decimals most (Millionths (pos m)) fits = record { m = m; is = refl; low = omega (arith, ints, fits.1); coarse = fits.3 }
 size_found decimals most (Millionths (negsuc m)) fits = absurd (omega (arith, ints, fits.0))
 size_found decimals most (Bytes word) fits = absurd fits
-
--- a text states one whole number
-pub one_whole : (limit : ℕ) (text : List ℕ) (a b : ℕ) → Says (below limit) text (whole a) → Says (below limit) text (whole b) → a ≡ b
-one_whole limit text a b first second =
-    let same : pos (a * 10 ^ 6) ≡ pos (b * 10 ^ 6) =
-    one_number 0 text (pos (a * 10 ^ 6)) (pos (b * 10 ^ 6)) (omega arith) first.0 second.0 in
-    omega (arith, ints, same)
-
--- what the text at a place states
-abbrev pub SaysAt : List Field → List Value → ℕ → List ℕ → Type 0
-SaysAt [] values place text = Unit {0}
-SaysAt (field ∷ form) [] place text = Unit {0}
-SaysAt (field ∷ form) (value ∷ values) zero text = Says field text value
-SaysAt (field ∷ form) (value ∷ values) (suc place) text = SaysAt form values place text
-
-pub says_at : (form : List Field) (texts : List (List ℕ)) (values : List Value) (place : ℕ) → Spell form texts values
-    → SaysAt form values place (slice_index_or texts place [])
-says_at [] texts values place spell = tt
-says_at (field ∷ form) texts [] place spell = tt
-says_at (field ∷ form) [] (value ∷ values) place spell = absurd spell
-says_at (field ∷ form) (text ∷ texts) (value ∷ values) zero spell = spell.0
-says_at (field ∷ form) (text ∷ texts) (value ∷ values) (suc place) spell = says_at form texts values place spell.1
