@@ -18,6 +18,7 @@ pub fn without_mark(text: &[u8]) -> &[u8]
 }
 
 /// The first line of a text, without its LF, and the text behind it.
+#[tactic(auto, using(crate::proofs::Cuts::line_cut))]
 pub fn cut_line(text: &[u8]) -> (&[u8], &[u8])
     requires { 0 < length text.now }
     ensures cut { lines_of text.now ≡ result.0.now ∷ lines_of result.1.now }
@@ -34,6 +35,7 @@ pub fn behind(text: &[u8], place: usize) -> &[u8]
     text.get(place..).unwrap_or(&[])
 }
 
+#[tactic(auto, using(crate::proofs::Cuts::byte_found, crate::proofs::Cuts::place_within))]
 fn line_end(text: &[u8]) -> usize
     ensures value { result ≡ position_or_len (λ b. b == 10) text.now }
     ensures within { result ≤ length text.now }

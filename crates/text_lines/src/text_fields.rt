@@ -30,6 +30,7 @@ pub fn next_field(line: &[u8]) -> Option<(&[u8], &[u8])>
 }
 
 #[inline(always)]
+#[tactic(auto, using(crate::proofs::Cuts::place_or_length, crate::proofs::Cuts::place_within))]
 fn field_end(text: &[u8]) -> usize
     ensures value { result ≡ position_or_len is_blank text.now }
     ensures within { result ≤ length text.now }
@@ -82,6 +83,7 @@ pub fn lacks_two_fields(line: &[u8]) -> bool
 
 /// Whether a line has a field.
 #[inline(always)]
+#[tactic(auto, using(crate::proofs::FrontFields::none_past_blanks))]
 pub fn has_field(line: &[u8]) -> bool
     ensures { result ≡ not (length (fields_of line.now) == 0) }
 {
