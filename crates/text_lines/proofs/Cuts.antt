@@ -94,35 +94,27 @@ field_of_some b (c ∷ cs) e = before (is_blank c) (field_of_some c cs) refl whe
       let next : position_or_len is_blank (b ∷ c ∷ cs) ≡ suc n = rw e (omega arith) in
       rw next (fields_join b c cs e at ∙ ap (onto_first b) (field at))
 
--- blanks before a line's first field do not count
-pub fields_past_blanks : (line : List ℕ) → fields_of (without_leading_blanks line) ≡ fields_of line
-fields_past_blanks [] = refl
-fields_past_blanks (b ∷ bs) = past (is_blank b) (fields_past_blanks bs) refl where
-  past : (t : Bool) → fields_of (without_leading_blanks bs) ≡ fields_of bs → is_blank b ≡ t
-      → fields_of (without_leading_blanks (b ∷ bs)) ≡ fields_of (b ∷ bs)
-  past true same e = rw (e, same) refl
-  past false same e = rw (e, e) refl
-
 -- what stands behind the blanks begins with a field, if it holds anything
 abbrev pub StartsWithField : List ℕ → Type 0
 StartsWithField text = 0 < length text → BeginsWithField text (position_or_len is_blank text) × (0 < position_or_len is_blank text)
 
-pub past_blanks : (line : List ℕ) → StartsWithField (without_leading_blanks line)
-past_blanks [] = λ some. absurd (omega (arith, some))
-past_blanks (b ∷ bs) = past (is_blank b) (past_blanks bs) refl where
-  past : (t : Bool) → StartsWithField (without_leading_blanks bs) → is_blank b ≡ t → StartsWithField (without_leading_blanks (b ∷ bs))
-  past true rest e = rw e rest
+-- blanks before a line's first field do not count
+pub record IsBehindBlanks (line text : List ℕ) : Type 0 where
+  pub same : fields_of text ≡ fields_of line
+  pub starts : StartsWithField text
+  pub short : length text ≤ length line
+
+pub behind_blanks : (line : List ℕ) → IsBehindBlanks line (without_leading_blanks line)
+behind_blanks [] = record { same = refl; starts = λ some. absurd (omega (arith, some)); short = omega arith }
+behind_blanks (b ∷ bs) = past (is_blank b) (behind_blanks bs) refl where
+  past : (t : Bool) → IsBehindBlanks bs (without_leading_blanks bs) → is_blank b ≡ t
+      → IsBehindBlanks (b ∷ bs) (without_leading_blanks (b ∷ bs))
+  past true rest e =
+      let same : fields_of (without_leading_blanks bs) ≡ fields_of (b ∷ bs) = rw e rest.same in
+      rw e (record { same = same; starts = rest.starts; short = omega (arith, rest.short) })
   past false rest e =
       let starts : StartsWithField (b ∷ bs) = λ some. (field_of_some b bs e, rw e (omega arith)) in
-      rw e starts
-
-pub no_longer : (line : List ℕ) → length (without_leading_blanks line) ≤ length line
-no_longer [] = omega arith
-no_longer (b ∷ bs) = past (is_blank b) (no_longer bs) refl where
-  past : (t : Bool) → length (without_leading_blanks bs) ≤ length bs → is_blank b ≡ t
-      → length (without_leading_blanks (b ∷ bs)) ≤ length (b ∷ bs)
-  past true short e = rw e (omega (arith, short))
-  past false short e = rw e (omega arith)
+      rw e (record { same = refl; starts = starts; short = omega arith })
 
 pub no_fields : (text : List ℕ) → length text ≡ 0 → fields_of text ≡ []
 no_fields [] e = refl

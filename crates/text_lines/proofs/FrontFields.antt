@@ -13,7 +13,7 @@ use Rattle.text_lines.specs.FieldValues.{first_by, decimal_in, size_in, whole_in
 use Rattle.text_lines.specs.TextLines.{fields_of, is_ended}
 use Rattle.text_lines.specs.inner.Taken.{TakesDecimal}
 use Rattle.text_lines.specs.declared.text_fault.TextKind.TheVariants.{Range}
-use Rattle.text_lines.proofs.Cuts.{fields_past_blanks, past_blanks, StartsWithField}
+use Rattle.text_lines.proofs.Cuts.{behind_blanks, StartsWithField}
 use Rattle.text_lines.proofs.PlainText.{first_field, is_plain, number_byte}
 
 front_cut : (front rest : List ℕ) → 0 < length front → list_all is_plain front ≡ true → is_ended rest ≡ true
@@ -28,7 +28,7 @@ field_in_front max line m rest b ended =
     let plain = list_all-from_AllPass is_plain b.front (λ k d h. number_byte _ (b.bytes k d h)) in
     record {
       field = b.front;
-      cut = sym (fields_past_blanks line) ∙ ap fields_of b.joined ∙ front_cut b.front rest b.some plain ended;
+      cut = sym (behind_blanks line).same ∙ ap fields_of b.joined ∙ front_cut b.front rest b.some plain ended;
       stated = b.stated;
     }
 
@@ -71,7 +71,7 @@ decimal_taken line m rest t = rw (t.cut, t.stated) refl
 
 -- a line has no field where it has no byte but blanks
 pub none_past_blanks : (line : List ℕ) → (length (without_leading_blanks line) == 0) ≡ (length (fields_of line) == 0)
-none_past_blanks line = by (without_leading_blanks line) (past_blanks line) (fields_past_blanks line)
+none_past_blanks line = by (without_leading_blanks line) (behind_blanks line).starts (behind_blanks line).same
   where
     by : (text : List ℕ) → StartsWithField text → fields_of text ≡ fields_of line → (length text == 0) ≡ (length (fields_of line) == 0)
     by [] starts same = rw (sym same) refl
