@@ -21,6 +21,7 @@ ghost use Rattle.pit_parts.specs.declared.ranges.TheConstants.{GRID_CELLS, MAX_Z
 
 /// A zone file has at most a million blocks, all of its own zone. Each record behind the header is a block, up to the record of
 /// the fault, if there is one.
+#[tactic(auto, using(crate::proofs::ZoneFacts::few_blocks, crate::proofs::ZoneFacts::own_blocks, crate::proofs::ZoneFacts::accounts_for_records))]
 pub fn zone_files()
     ensures few { (grid : AGrid) (zone : ℕ) (text : List ℕ) → HasFewBlocks grid zone text }
     ensures own { (grid : AGrid) (zone : ℕ) (text : List ℕ) → zone < MAX_ZONES
@@ -85,6 +86,7 @@ pub fn faulty_rows_spell_no_block()
 {}
 
 /// A reader that answered the end of its file, its fault or want of memory answers the same when it is asked again.
+#[tactic(auto, using(crate::proofs::AnsweredAgain::ended_again, crate::proofs::AnsweredAgain::fault_again))]
 pub fn readers_answer_again()
     ensures ended { (old then after : ZoneReaderView) (again : Result (Option Block) (OrMemory RowFault))
         → Answers old (Ok None) then → Answers then again after → again ≡ Ok None }
