@@ -1,40 +1,35 @@
 -- What a reader answers once it has told its end, its fault or want of memory.
-use Rattle.std.proofs.Common.{◌≡◌, ◌∙◌, [], ◌∷◌, Option, None, Some, Result, Ok, Err, refl, subst, sym}
+use Rattle.std.proofs.Common.{◌≡◌, ◌∙◌, [], Option, None, Some, Result, Ok, Err, refl, subst, sym}
 use Rattle.pit_parts.specs.declared.block.Block.{Block}
-use Rattle.zone_csv.specs.ZoneReaderView.{Ahead, Answers, NoMemory, Told, ZoneReaderView, last_answer}
+use Rattle.zone_csv.specs.ZoneReaderView.{Ahead, Answers, NoMemory, Told, ZoneReaderView, answer_of, last_answer, rest_of}
 use Rattle.zone_csv.specs.declared.row_fault.RowFault.{RowFault}
 use Rattle.pit_units.specs.declared.or_memory.OrMemory.{OrMemory}
 use Rattle.pit_units.specs.declared.or_memory.OrMemory.TheVariants.{Fault, OutOfMemory}
 
 told_again : (last : Option RowFault) (again : Result (Option Block) (OrMemory RowFault)) (after : ZoneReaderView) → Answers (Told last) again after
     → again ≡ last_answer last
+told_again last (Err OutOfMemory) after h = absurd h.0
 told_again last (Ok found) after h = h.0
 told_again last (Err (Fault fault)) after h = h.0
-told_again last (Err OutOfMemory) after h = absurd h.0
 
 refused_again : (again : Result (Option Block) (OrMemory RowFault)) (after : ZoneReaderView) → Answers NoMemory again after → again ≡ Err OutOfMemory
+refused_again (Err OutOfMemory) after h = refl
 refused_again (Ok found) after h = h.0
 refused_again (Err (Fault fault)) after h = h.0
-refused_again (Err OutOfMemory) after h = refl
+
+-- the answer behind the last block, which is the end or a fault
+last_again : (old then after : ZoneReaderView) (last : Option RowFault) (again : Result (Option Block) (OrMemory RowFault))
+    → (last_answer last ≡ answer_of old) × (then ≡ rest_of old) → Answers then again after → again ≡ last_answer last
+last_again (Ahead [] same) then after last again h next = told_again same again after (subst (λ v. Answers v again after) h.1 next) ∙ sym h.0
+last_again (Told same) then after last again h next = told_again same again after (subst (λ v. Answers v again after) h.1 next) ∙ sym h.0
+last_again old then after None again h next = absurd (cc h.0)
+last_again old then after (Some fault) again h next = absurd (cc h.0)
 
 pub ended_again : (old then after : ZoneReaderView) (again : Result (Option Block) (OrMemory RowFault)) → Answers old (Ok None) then
     → Answers then again after → again ≡ Ok None
-ended_again (Ahead (block ∷ blocks) fault) then after again h next = absurd (cc h.0)
-ended_again (Ahead [] None) then after again h next = told_again None again after (subst (λ v. Answers v again after) h.1 next)
-ended_again (Ahead [] (Some fault)) then after again h next = absurd (cc h.0)
-ended_again (Told None) then after again h next = told_again None again after (subst (λ v. Answers v again after) h.1 next)
-ended_again (Told (Some fault)) then after again h next = absurd (cc h.0)
-ended_again NoMemory then after again h next = absurd (cc h.0)
-
-faulty_again : (old then after : ZoneReaderView) (fault : RowFault) (again : Result (Option Block) (OrMemory RowFault)) → Answers old (Err (Fault fault)) then
-    → Answers then again after → again ≡ Err (Fault fault)
-faulty_again (Ahead (block ∷ blocks) last) then after fault again h next = absurd (cc h.0)
-faulty_again (Ahead [] last) then after fault again h next =
-    told_again last again after (subst (λ v. Answers v again after) h.1 next) ∙ sym h.0
-faulty_again (Told last) then after fault again h next = told_again last again after (subst (λ v. Answers v again after) h.1 next) ∙ sym h.0
-faulty_again NoMemory then after fault again h next = absurd (cc h.0)
+ended_again old then after again h next = last_again old then after None again h next
 
 pub fault_again : (old then after : ZoneReaderView) (fault : OrMemory RowFault) (again : Result (Option Block) (OrMemory RowFault)) → Answers old (Err fault) then
     → Answers then again after → again ≡ Err fault
-fault_again old then after (Fault fault) again h next = faulty_again old then after fault again h next
+fault_again old then after (Fault fault) again h next = last_again old then after (Some fault) again h next
 fault_again old then after OutOfMemory again h next = refused_again again after (subst (λ v. Answers v again after) h.1 next)

@@ -1,7 +1,7 @@
 -- A header's columns are those that it names.
-use Rattle.std.proofs.Common.{◌≡◌, ℕ, zero, suc, ◌+◌, Bool, true, false, List, [], ◌∷◌, ◌++◌, length, arith, refl, sym, ◌∙◌, ap, subst, Ok, Err, Some, None}
+use Rattle.std.proofs.Common.{◌≡◌, ℕ, zero, suc, ◌+◌, ◌<◌, Bool, true, false, List, [], ◌∷◌, ◌++◌, length, arith, refl, sym, ◌∙◌, ap, subst, Ok, Err, Some, None}
 use Rattle.std.specs.List.{AllZip}
-use Rattle.std.specs.Prelude.{Result, Option, ◌==◌, flat_map, map, nat_le, slice_index_or}
+use Rattle.std.specs.Prelude.{Result, Option, ◌==◌, flat_map, map, nat_le, slice_index_or, if◌then◌else◌}
 use Rattle.std.proofs.lemmas.Bool.Decides.{nat_tests}
 use Rattle.records.specs.Cells.{trimmed, is_word}
 use Rattle.forms.specs.Words.{Check, failing, unless}
@@ -12,7 +12,7 @@ use Rattle.zone_csv.specs.Header.{a_column, asked_of_column, asked_of_header, co
 use Rattle.zone_csv.specs.NamedColumns.{NamesColumn, NamesColumns}
 use Rattle.zone_csv.specs.declared.columns.Columns.{Columns}
 use Rattle.zone_csv.specs.declared.row_fault.Column.{Column}
-use Rattle.zone_csv.specs.declared.row_fault.Column.TheVariants.{X, Y, Z, Tonnes, Grade, Whole}
+use Rattle.zone_csv.specs.declared.row_fault.Column.TheVariants.{X}
 use Rattle.zone_csv.specs.declared.row_fault.RowFault.{RowFault}
 use Rattle.zone_csv.specs.declared.row_fault.RowFaultKind.TheVariants.{TwiceColumn}
 
@@ -20,80 +20,58 @@ module _ (name : List ℕ) (no_name : is_word [] name ≡ false) where
   abbrev Is : List (List ℕ) → ℕ → Type 0
   Is cells q = is_word (trimmed_at cells q) name ≡ true
 
-  none_there : (q : ℕ) → Is [] q → ⊥
-  none_there q h = absurd (cc (no_name, h))
-
-  -- no place, where no cell is the name
-  no_places : (cells : List (List ℕ)) (n : ℕ) → ((q : ℕ) → Is cells q → ⊥) → places_of name cells n ≡ []
-  no_places [] n none = refl
-  no_places (cell ∷ cells) n none = by (is_word (trimmed cell) name) refl (no_places cells (n + 1) (λ q h. none (suc q) h))
-    where
-      by : (t : Bool) → is_word (trimmed cell) name ≡ t → places_of name cells (n + 1) ≡ [] → places_of name (cell ∷ cells) n ≡ []
-      by true e rest = absurd (none 0 e)
-      by false e rest = rw e rest
-
-  pub none_at : (cells : List (List ℕ)) (n : ℕ) → places_of name cells n ≡ [] → (q : ℕ) → Is cells q → ⊥
-  none_at [] n e q h = none_there q h
-  none_at (cell ∷ cells) n e q h = by (is_word (trimmed cell) name) refl q h (λ rest r there. none_at cells (n + 1) rest r there)
-    where
-      by : (t : Bool) → is_word (trimmed cell) name ≡ t → (q : ℕ) → Is (cell ∷ cells) q
-          → (places_of name cells (n + 1) ≡ [] → (r : ℕ) → Is cells r → ⊥) → ⊥
-      by true is q h rest = absurd (cc (rw is at e))
-      by false is zero h rest = absurd (cc (is, h))
-      by false is (suc q) h rest = rest (rw is at e) q h
-
   abbrev One : List (List ℕ) → ℕ → Type 0
   One cells q = Is cells q × ((r : ℕ) → Is cells r → r ≡ q)
 
-  pub one_place : (cells : List (List ℕ)) (n q : ℕ) → One cells q → places_of name cells n ≡ (n + q) ∷ []
-  one_place [] n q h = absurd (none_there q h.0)
-  one_place (cell ∷ cells) n zero h =
-      let none : places_of name cells (n + 1) ≡ [] = no_places cells (n + 1) (λ r there. absurd (omega (arith, h.1 (suc r) there))) in
-      let place : n ≡ n + zero = omega arith in
-      let is : is_word (trimmed cell) name ≡ true = h.0 in
-      rw (is, none) (ap (λ m. m ∷ []) place)
-  one_place (cell ∷ cells) n (suc q) h =
-      by (is_word (trimmed cell) name) refl
-      (one_place cells (n + 1) q (h.0, λ r there. let same : suc r ≡ suc q = h.1 (suc r) there in omega arith))
-    where
-      by : (t : Bool) → is_word (trimmed cell) name ≡ t → places_of name cells (n + 1) ≡ (n + 1 + q) ∷ []
-          → places_of name (cell ∷ cells) n ≡ (n + suc q) ∷ []
-      by true is rest = absurd (omega (arith, h.1 0 is))
-      by false is rest = let place : n + 1 + q ≡ n + suc q = omega arith in rw is (rest ∙ ap (λ m. m ∷ []) place)
+  -- what the places that are found tell: no cell is the name, or one alone, or two are
+  abbrev Found : List (List ℕ) → ℕ → List ℕ → Type 0
+  Found cells n [] = (q : ℕ) → Is cells q → ⊥
+  Found cells n (p ∷ []) = (q : ℕ) × (p ≡ n + q) × One cells q
+  Found cells n (p ∷ second ∷ more) = (q : ℕ) × (r : ℕ) × Is cells q × Is cells r × (q < r)
 
-  only_one : (cells : List (List ℕ)) (n p : ℕ) → places_of name cells n ≡ p ∷ [] → (q : ℕ) × (p ≡ n + q) × One cells q
-  only_one [] n p e = absurd cc
-  only_one (cell ∷ cells) n p e = by (is_word (trimmed cell) name) refl (λ h. only_one cells (n + 1) p h)
+  found : (cells : List (List ℕ)) (n : ℕ) → Found cells n (places_of name cells n)
+  found [] n = λ q h. absurd (cc (no_name, h))
+  found (cell ∷ cells) n = by (is_word (trimmed cell) name) refl (places_of name cells (n + 1)) (found cells (n + 1))
     where
-      by : (t : Bool) → is_word (trimmed cell) name ≡ t → (places_of name cells (n + 1) ≡ p ∷ [] → (q : ℕ) × (p ≡ n + 1 + q) × One cells q)
-          → (q : ℕ) × (p ≡ n + q) × One (cell ∷ cells) q
-      by true is rest =
-          let here : n ∷ places_of name cells (n + 1) ≡ p ∷ [] = rw is at e in
-          let place : n ≡ p = cc in
-          (0, omega (arith, place), (is, first))
-        where
-          first : (r : ℕ) → Is (cell ∷ cells) r → r ≡ 0
-          first zero h = refl
-          first (suc r) h =
-              let here : n ∷ places_of name cells (n + 1) ≡ p ∷ [] = rw is at e in
-              let none : places_of name cells (n + 1) ≡ [] = cc in
-              absurd (none_at cells (n + 1) none r h)
-      by false is rest =
-          let o = rest (rw is at e) in
-          (suc o.0, omega (arith, o.1), (o.2.0, same o.0 o.2.1))
-        where
-          same : (q : ℕ) → ((r : ℕ) → Is cells r → r ≡ q) → (r : ℕ) → Is (cell ∷ cells) r → r ≡ suc q
-          same q only zero h = absurd (cc (is, h))
-          same q only (suc r) h = ap suc (only r h)
+      first : ((q : ℕ) → Is cells q → ⊥) → (r : ℕ) → Is (cell ∷ cells) r → r ≡ 0
+      first none zero h = refl
+      first none (suc r) h = absurd (none r h)
+
+      behind : is_word (trimmed cell) name ≡ false → (q : ℕ) → ((r : ℕ) → Is cells r → r ≡ q) → (r : ℕ) → Is (cell ∷ cells) r → r ≡ suc q
+      behind is q only zero h = absurd (cc (is, h))
+      behind is q only (suc r) h = ap suc (only r h)
+
+      none_behind : is_word (trimmed cell) name ≡ false → ((q : ℕ) → Is cells q → ⊥) → (r : ℕ) → Is (cell ∷ cells) r → ⊥
+      none_behind is none zero h = absurd (cc (is, h))
+      none_behind is none (suc r) h = none r h
+
+      by : (t : Bool) → is_word (trimmed cell) name ≡ t → (ps : List ℕ) → Found cells (n + 1) ps → Found (cell ∷ cells) n (if t then n ∷ ps else ps)
+      by true is [] none = (0, omega arith, (is, first none))
+      by true is (p ∷ []) one = (0, suc one.0, is, one.2.0, omega arith)
+      by true is (p ∷ second ∷ more) two = (0, suc two.0, is, two.2, omega arith)
+      by false is [] none = none_behind is none
+      by false is (p ∷ []) one = (suc one.0, omega (arith, one.1), (one.2.0, behind is one.0 one.2.1))
+      by false is (p ∷ second ∷ more) two = (suc two.0, suc two.1, two.2, two.3, omega (arith, two.4))
 
   pub place_named : (header : List (List ℕ)) (p : ℕ) → places_of name header 0 ≡ p ∷ [] → NamesColumn header name p
   place_named header p e =
-      let o = only_one header 0 p e in
-      let same : o.0 ≡ p = omega (arith, o.1) in
-      subst (NamesColumn header name) same o.2
+      let one = subst (Found header 0) e (found header 0) in
+      let same : one.0 ≡ p = omega (arith, one.1) in
+      subst (NamesColumn header name) same one.2
 
   pub named_place : (header : List (List ℕ)) (p : ℕ) → NamesColumn header name p → places_of name header 0 ≡ p ∷ []
-  named_place header p h = let place : 0 + p ≡ p = omega arith in one_place header 0 p h ∙ ap (λ q. q ∷ []) place
+  named_place header p h = by (places_of name header 0) (found header 0)
+    where
+      by : (ps : List ℕ) → Found header 0 ps → ps ≡ p ∷ []
+      by [] none = absurd (none p h.0)
+      by (q ∷ []) one =
+          let same : one.0 ≡ p = h.1 one.0 one.2.0 in
+          let place : q ≡ p = omega (arith, one.1, same) in
+          ap (λ m. m ∷ []) place
+      by (q ∷ second ∷ more) two =
+          let first : two.0 ≡ p = h.1 two.0 two.2 in
+          let other : two.1 ≡ p = h.1 two.1 two.3 in
+          absurd (omega (arith, first, other, two.4))
 
 -- a column of which nothing fails has one place, and leaves what is asked of those behind it
 one_place_each : (column : Column) (places : List ℕ) (rest : List (Check RowFault)) → failing (a_column column places ++ rest) ≡ None
@@ -109,11 +87,7 @@ one_place_each column (p ∷ second ∷ more) rest e =
 -- no column is named by an empty cell
 no_name : (column : Column) → is_word [] (column_name column) ≡ false
 no_name X = refl
-no_name Y = refl
-no_name Z = refl
-no_name Tonnes = refl
-no_name Grade = refl
-no_name Whole = refl
+no_name other = refl
 
 module _ (header : List (List ℕ)) where
   abbrev IsNamed : Column → ℕ → Type 0
@@ -132,12 +106,11 @@ module _ (header : List (List ℕ)) where
   standing_columns : (columns : List Column) (places : List ℕ) → AllZip IsNamed columns places
       → (failing (flat_map (asked_of_column header) columns) ≡ None) × (map (place_in header) columns ≡ places)
   standing_columns [] [] named = (refl, refl)
-  standing_columns [] (place ∷ places) named = absurd named
-  standing_columns (column ∷ columns) [] named = absurd named
   standing_columns (column ∷ columns) (place ∷ places) named =
       let here = named_place (column_name column) (no_name column) header place named.0 in
       let rest = standing_columns columns places named.1 in
       (rw here rest.0, rw here (ap (λ ps. place ∷ ps) rest.1))
+  standing_columns _ _ named = absurd named
 
 passed : {S : Type 0} (found : Option RowFault) (made other : S) → ◌≡◌ {A = Result S RowFault} (unless found (Ok made)) (Ok other)
     → (found ≡ None) × (made ≡ other)

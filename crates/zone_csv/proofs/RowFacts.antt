@@ -1,5 +1,5 @@
 -- What a row's answer tells of its number, and that a row states a block exactly where its cells spell the block's values.
-use Rattle.std.proofs.Common.{◌≡◌, ℕ, ◌*◌, ◌/◌, ◌%◌, ◌^◌, ◌<◌, ◌≤◌, Bool, true, false, List, [], ◌∷◌, ◌++◌, suc, arith, refl, sym, ◌∙◌, ap, subst, leb-true, inl, inr, pos, negsuc, Some, None, Ok, Err, min, length}
+use Rattle.std.proofs.Common.{rules, ◌≡◌, ℕ, ◌*◌, ◌/◌, ◌%◌, ◌^◌, ◌<◌, ◌≤◌, Bool, true, false, List, [], ◌∷◌, ◌++◌, suc, arith, refl, sym, ◌∙◌, ap, subst, leb-true, inl, inr, pos, negsuc, Some, None, Ok, Err, min, length}
 use Rattle.std.specs.Prelude.{Option, map, nat_le, slice_index_or, unsigned_abs, ◌↔◌, if◌then◌else◌}
 use Rattle.std.proofs.Math.Nat.{min-eq_left, mul-div_left}
 use Rattle.std.proofs.lemmas.Bool.{eq-eqb, le-leb}
@@ -155,18 +155,7 @@ module _ (grid : Grid) (zone : ℕ) (sx : 0 < grid.x.size) (sy : 0 < grid.y.size
   values_back (cx ∷ cy ∷ cz ∷ ct ∷ cg ∷ []) (x ∷ y ∷ z ∷ t ∷ g ∷ []) (of_x, (of_y, (of_z, (of_t, (of_g, end))))) = λ i.
       index_back grid.x cx x sx of_x i ∷ index_back grid.y cy y sy of_y i ∷ index_back grid.z cz z sz of_z i
       ∷ kilograms_back ct t of_t i ∷ grade_back cg g of_g i ∷ []
-  values_back [] values spelled = absurd spelled
-  values_back (cx ∷ texts) [] spelled = absurd spelled
-  values_back (cx ∷ []) (x ∷ values) spelled = absurd spelled.1
-  values_back (cx ∷ cy ∷ texts) (x ∷ []) spelled = absurd spelled.1
-  values_back (cx ∷ cy ∷ []) (x ∷ y ∷ values) spelled = absurd spelled.1.1
-  values_back (cx ∷ cy ∷ cz ∷ texts) (x ∷ y ∷ []) spelled = absurd spelled.1.1
-  values_back (cx ∷ cy ∷ cz ∷ []) (x ∷ y ∷ z ∷ values) spelled = absurd spelled.1.1.1
-  values_back (cx ∷ cy ∷ cz ∷ ct ∷ texts) (x ∷ y ∷ z ∷ []) spelled = absurd spelled.1.1.1
-  values_back (cx ∷ cy ∷ cz ∷ ct ∷ []) (x ∷ y ∷ z ∷ t ∷ values) spelled = absurd spelled.1.1.1.1
-  values_back (cx ∷ cy ∷ cz ∷ ct ∷ cg ∷ texts) (x ∷ y ∷ z ∷ t ∷ []) spelled = absurd spelled.1.1.1.1
-  values_back (cx ∷ cy ∷ cz ∷ ct ∷ cg ∷ []) (x ∷ y ∷ z ∷ t ∷ g ∷ v ∷ values) spelled = absurd spelled.1.1.1.1.1
-  values_back (cx ∷ cy ∷ cz ∷ ct ∷ cg ∷ c ∷ texts) (x ∷ y ∷ z ∷ t ∷ g ∷ values) spelled = absurd spelled.1.1.1.1.1
+  values_back _ _ spelled = absurd (search rules)
 
   pub row_spells_block : zone < 64 → (columns : Columns) (number : ℕ) (cells : List (List ℕ)) (b : Block)
       → let shape = row_shape grid zone columns number cells in

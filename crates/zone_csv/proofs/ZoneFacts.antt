@@ -61,9 +61,6 @@ module _ (grid : Grid) (zone : ℕ) where
         → RowsState grid zone columns number rows blocks fault
         → (first_fault (rows_say grid zone columns rows number) ≡ fault) × (before_fault (rows_say grid zone columns rows number) ≡ blocks)
     told_rows [] number [] None h = (refl, refl)
-    told_rows [] number [] (Some fault) h = absurd h
-    told_rows [] number (b ∷ blocks) fault h = absurd h
-    told_rows (row ∷ rows) number [] None h = absurd h
     told_rows (row ∷ rows) number [] (Some fault) fails =
         let here = fails_row grid zone columns number row fault fails in
         (rw here refl, rw here refl)
@@ -71,6 +68,7 @@ module _ (grid : Grid) (zone : ℕ) where
         let here = states_row grid zone columns number row b states in
         let more = told_rows rows (number + 1) blocks fault rest in
         (rw here more.0, rw here (ap (λ bs. b ∷ bs) more.1))
+    told_rows _ number _ _ h = absurd h
 
     -- rows that state blocks are few, the blocks are of the zone, and each row has one, up to that of the fault
     rows_kept : (rows : List (List (List ℕ))) (number : ℕ) (blocks : List Block) (fault : Option RowFault) → number ≤ 1000002
@@ -78,9 +76,6 @@ module _ (grid : Grid) (zone : ℕ) where
         → (length blocks + number ≤ 1000002) × All (λ (b : Block). b.zone ≡ min zone 63) blocks
         × Accounts (length rows) number fault (length blocks)
     rows_kept [] number [] None counted h = (omega (arith, counted), All-nil (λ (b : Block). b.zone ≡ min zone 63), refl)
-    rows_kept [] number [] (Some fault) counted h = absurd h
-    rows_kept [] number (b ∷ blocks) fault counted h = absurd h
-    rows_kept (row ∷ rows) number [] None counted h = absurd h
     rows_kept (row ∷ rows) number [] (Some fault) counted fails =
         let here : fault.row ≡ number = fault_of_row grid zone columns number row fault fails in
         (omega (arith, counted), All-nil (λ (b : Block). b.zone ≡ min zone 63), omega (arith, here))
@@ -96,6 +91,7 @@ module _ (grid : Grid) (zone : ℕ) where
             → Accounts (length (row ∷ rows)) number fault (length (b ∷ blocks))
         accounts None h = omega (arith, h)
         accounts (Some fault) h = omega (arith, h)
+    rows_kept _ number _ _ counted h = absurd h
 
   -- records tell what they say
   pub told : (records : List (List (List ℕ)))
