@@ -39,6 +39,7 @@ pub fn without_leading_blanks(cell: &[u8]) -> &[u8]
 }
 
 #[inline(always)]
+#[tactic(auto, using(crate::proofs::CellFacts::blank_at_end, crate::proofs::CellFacts::other_at_end))]
 fn without_trailing_blanks(cell: &[u8]) -> &[u8]
     ensures { result.now ≡ without_trailing_blanks cell.now }
 {
@@ -67,6 +68,7 @@ pub fn cell_count(row: &ByteRecord) -> usize
 
 /// The cell of a record at a place, trimmed; it is empty where the record has no such cell.
 #[inline(always)]
+#[tactic(auto, using(crate::proofs::CellFacts::at_cell, crate::proofs::CellFacts::cell_there, crate::proofs::CellFacts::no_cell_there))]
 pub fn cell_at(row: &ByteRecord, place: usize) -> &[u8]
     ensures value { result.now ≡ cell_at (cells_of (fields_of row.now)) place }
     ensures field { result.now ≡ trimmed (slice_index_or (fields_of row.now) place []) }

@@ -5,6 +5,7 @@ ghost use Rattle.std.specs.declared.alloc.AllocError.{AllocError};
 ghost use Rattle.records.specs.RecordReader.{RecordReaderView, TakesRow};
 
 /// A reader that told the end of its text, or want of memory, tells the same when it is asked again.
+#[tactic(auto, using(crate::proofs::ToldAgain::ended_again, crate::proofs::ToldAgain::refused_again))]
 pub fn record_readers_answer_again()
     ensures ended { (old then after : RecordReaderView) (fields more : List (List ℕ))
         (again : Result Bool AllocError)
