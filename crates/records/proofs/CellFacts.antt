@@ -36,14 +36,10 @@ pub other_at_end : (xs : List ℕ) → 0 < length xs → is_blank (get_or xs (le
 other_at_end xs some h =
     sym (ap without_trailing_blanks (split_last xs 0 some)) ∙ other_stays (take (length xs - 1) xs) _ h ∙ split_last xs 0 some
 
--- a cell of no bytes is empty
-empty_is : (c : List ℕ) → (length c == 0) ≡ true → c ≡ []
+-- a list with no element is empty
+empty_is : {A : Type 0} (xs : List A) → (length xs == 0) ≡ true → xs ≡ []
 empty_is [] h = refl
-empty_is (b ∷ c) h = absurd (omega (arith, eqb-true (suc (length c)) 0 h))
-
-no_cells : (cells : List (List ℕ)) → (length cells == 0) ≡ true → cells ≡ []
-no_cells [] h = refl
-no_cells (c ∷ cells) h = absurd (omega (arith, eqb-true (suc (length cells)) 0 h))
+empty_is (x ∷ xs) h = absurd (omega (arith, eqb-true (suc (length xs)) 0 h))
 
 -- dropping the empty cells at the end changes no cell, where a cell past the end is empty
 pub cell_stays : (cells : List (List ℕ)) (i : ℕ) → get_or (without_empty_end cells) i [] ≡ get_or cells i []
@@ -55,11 +51,9 @@ cell_stays (c ∷ cells) i = by_tests (λ k. cell_stays cells k) (length (withou
         → get_or (cond (a && b) [] (c ∷ without_empty_end cells)) i [] ≡ get_or (c ∷ cells) i []
     by_tests more true true e f zero = sym (empty_is c f)
     by_tests more true true e f (suc i) = let none : without_empty_end cells ≡ [] =
-        no_cells (without_empty_end cells) e in (rw none at (more i))
-    by_tests more true false e f zero = refl
-    by_tests more true false e f (suc i) = more i
-    by_tests more false b e f zero = refl
-    by_tests more false b e f (suc i) = more i
+        empty_is (without_empty_end cells) e in (rw none at (more i))
+    by_tests more _ _ e f zero = refl
+    by_tests more _ _ e f (suc i) = more i
 
 -- an empty cell at the end goes
 pub empty_goes : (cells : List (List ℕ)) (c : List ℕ) → (length c == 0) ≡ true

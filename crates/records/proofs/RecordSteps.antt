@@ -1,5 +1,5 @@
 -- A record of a text takes a byte at least, so that reading all of them ends, and taking them one at a time gives them all.
-use Rattle.std.proofs.Common.{◌≡◌, ◌+◌, ◌<◌, ◌≤◌, Bool, true, false, ℕ, zero, suc, List, [], ◌∷◌, ◌++◌, length, Option, Some, None, IfSome, All, if◌then◌else◌, refl, ap, ◌∙◌, arith, rules, inl, length-append}
+use Rattle.std.proofs.Common.{◌≡◌, ◌+◌, ◌-◌, ◌<◌, ◌≤◌, Bool, true, false, ℕ, zero, suc, List, [], ◌∷◌, ◌++◌, length, Option, Some, None, IfSome, All, if◌then◌else◌, refl, ap, ◌∙◌, arith, rules, inl, length-append}
 use Rattle.std.proofs.lemmas.List.Elements.{All-nil, All-cons}
 use Rattle.csv.specs.Machine.{Read, step, is_end, ends_at_end, field_after, fields_after, next_record}
 use Rattle.csv.specs.Reading.{default_config, is_bom, NextIs, ReadRecord, ReadsNext, pending_of, records_from, records_next, source_of, strip_bom, took_first, is_flexible, reader_trim, reader_config, reader_state}
@@ -15,20 +15,12 @@ use Rattle.records.specs.inner.RecordsAhead.{IsBetweenRecords, TakesNext, rows_f
 -- a byte that ends a record leaves the machine where the end of the text ends none
 ends-between : (s : State) (c : ℕ) → is_end (step default_config s c).1 ≡ true → ends_at_end (step default_config s c).0 ≡ false
 ends-between st.StartRecord c h = grind rules
-ends-between st.StartField c h = grind rules
-ends-between st.InField c h = grind rules
-ends-between st.InQuoted c h = grind rules
-ends-between st.AfterQuote c h = grind rules
-ends-between st.InEscape c h = grind rules
-ends-between st.InComment c h = grind rules
-ends-between st.AfterCr c h = grind rules
+ends-between other c h = grind rules
 
 -- a record that ends has the field at hand as its last one
 ends-with-cell : (a : Action) (fields : List (List ℕ)) (field : List ℕ) → is_end a ≡ true → 0 < length (fields_after a fields field)
 ends-with-cell act.EndRecord fields field h = rw (length-append fields (field ∷ [])) (omega arith)
-ends-with-cell act.Skip fields field h = cc h
-ends-with-cell act.Copy fields field h = cc h
-ends-with-cell act.EndField fields field h = cc h
+ends-with-cell other fields field h = cc h
 
 -- what a read of a record leaves: a state between records, a cell at least, and no more than so many bytes
 record Leaves (read : Read) (most : ℕ) : Type 0 where
@@ -40,25 +32,26 @@ leaves-more : (found : Option Read) (n m : ℕ) → n ≤ m → IfSome found (λ
 leaves-more None n m h l = tt
 leaves-more (Some read) n m h l = record { between = l.between; cells = l.cells; bytes = omega (arith, l.bytes, h) }
 
+-- of bytes, one at least is taken
 leaves : (state : State) (fields : List (List ℕ)) (field bytes : List ℕ)
-    → IfSome (next_record default_config state fields field bytes) (λ read. Leaves read (length bytes))
+    → IfSome (next_record default_config state fields field bytes) (λ read. Leaves read (length bytes - 1))
 unfolding next_record
 leaves state fields field [] = at-end (ends_at_end state)
   where
-    at-end : (b : Bool) → IfSome (if b then Some (fields ++ (field ∷ []), st.StartRecord, []) else None) (λ read. Leaves read 0)
+    at-end : (b : Bool) → IfSome (if b then Some (fields ++ (field ∷ []), st.StartRecord, []) else None) (λ read. Leaves read (0 - 1))
     at-end true = record { between = refl; cells = ends-with-cell act.EndRecord fields field refl; bytes = omega arith }
     at-end false = tt
 leaves state fields field (c ∷ rest) =
     by (is_end (step default_config state c).1) refl
-    (leaves-more _ _ (length (c ∷ rest)) (omega arith)
+    (leaves-more _ (length rest - 1) (length (c ∷ rest) - 1) (omega arith)
     (leaves (step default_config state c).0 (fields_after (step default_config state c).1 fields field)
     (field_after (step default_config state c).1 c field) rest))
   where
     by : (b : Bool) → is_end (step default_config state c).1 ≡ b
         → IfSome (next_record default_config (step default_config state c).0 (fields_after (step default_config state c).1 fields field)
         (field_after (step default_config state c).1 c field) rest)
-        (λ read. Leaves read (length (c ∷ rest)))
-        → IfSome (next_record default_config state fields field (c ∷ rest)) (λ read. Leaves read (length (c ∷ rest)))
+        (λ read. Leaves read (length (c ∷ rest) - 1))
+        → IfSome (next_record default_config state fields field (c ∷ rest)) (λ read. Leaves read (length (c ∷ rest) - 1))
     by true h more = rw h (record {
       between = ends-between state c h;
       cells =
@@ -67,34 +60,19 @@ leaves state fields field (c ∷ rest) =
     })
     by false h more = rw h more
 
--- a read between two records takes a byte at least
-takes : (state : State) (bytes : List ℕ) → ends_at_end state ≡ false
-    → IfSome (next_record default_config state [] [] bytes)
-    (λ read. (ends_at_end read.1 ≡ false) × (0 < length read.0) × (length read.2 < length bytes))
-unfolding next_record
-takes state [] h = rw h tt
-takes state (c ∷ rest) h = by (is_end (step default_config state c).1) refl
-    (leaves (step default_config state c).0
-    (fields_after (step default_config state c).1 [] []) (field_after (step default_config state c).1 c []) rest)
-  where
-    Taken : Option Read → Type 0
-    Taken found = IfSome found (λ read. (ends_at_end read.1 ≡ false) × (0 < length read.0) × (length read.2 < length (c ∷ rest)))
-
-    longer : (found : Option Read) → IfSome found (λ read. Leaves read (length rest)) → Taken found
-    longer None l = tt
-    longer (Some read) l = (l.between, l.cells, omega (arith, l.bytes))
-
-    by : (b : Bool) → is_end (step default_config state c).1 ≡ b
-        → IfSome (next_record default_config (step default_config state c).0
-        (fields_after (step default_config state c).1 [] []) (field_after (step default_config state c).1 c []) rest)
-        (λ read. Leaves read (length rest))
-        → Taken (next_record default_config state [] [] (c ∷ rest))
-    by true h l = rw h (ends-between state c h, ends-with-cell (step default_config state c).1 [] [] h, omega arith)
-    by false h l = rw h (longer _ l)
-
 -- what a read between two records leaves
 abbrev Taken : List ℕ → Read → Type 0
 Taken bytes read = (ends_at_end read.1 ≡ false) × (0 < length read.0) × (length read.2 < length bytes)
+
+takes : (state : State) (bytes : List ℕ) → ends_at_end state ≡ false
+    → IfSome (next_record default_config state [] [] bytes) (λ read. Taken bytes read)
+unfolding next_record
+takes state [] h = rw h tt
+takes state (c ∷ rest) h = longer (next_record default_config state [] [] (c ∷ rest)) (leaves state [] [] (c ∷ rest))
+  where
+    longer : (found : Option Read) → IfSome found (λ read. Leaves read (length (c ∷ rest) - 1)) → IfSome found (λ read. Taken (c ∷ rest) read)
+    longer None l = tt
+    longer (Some read) l = (l.between, l.cells, omega (arith, l.bytes))
 
 -- the records do not depend on how many are asked for, once there are enough
 enough : (n m : ℕ) (state : State) (bytes : List ℕ) → ends_at_end state ≡ false → length bytes < n → length bytes < m
@@ -112,51 +90,39 @@ enough (suc n) (suc m) state bytes h a b =
     by None t more = refl
     by (Some read) t more = ap (λ rows. read.0 ∷ rows) (more read.1 read.2 t.0 (omega (arith, t.2, a)) (omega (arith, t.2, b)))
 
--- a text has no more records than bytes
-few : (n : ℕ) (state : State) (bytes : List ℕ) → ends_at_end state ≡ false
-    → length (records_from default_config n state bytes) ≤ length bytes
+-- a text has no more records than bytes, and each has a cell
+kept : (n : ℕ) (state : State) (bytes : List ℕ) → ends_at_end state ≡ false
+    → (length (records_from default_config n state bytes) ≤ length bytes)
+    × All (λ row. 0 < length row) (records_from default_config n state bytes)
 unfolding records_from
-few zero state bytes h = omega arith
-few (suc n) state bytes h = by (next_record default_config state [] [] bytes) (takes state bytes h) (λ s xs between. few n s xs between)
+kept zero state bytes h = (omega arith, All-nil (λ row. 0 < length row))
+kept (suc n) state bytes h = by (next_record default_config state [] [] bytes) (takes state bytes h) (λ s xs between. kept n s xs between)
   where
     by : (found : Option Read) → IfSome found (λ read. Taken bytes read)
-        → ((s : State) (xs : List ℕ) → ends_at_end s ≡ false → length (records_from default_config n s xs) ≤ length xs)
-        → length (records_next (records_from default_config n) found) ≤ length bytes
-    by None t more = omega arith
-    by (Some read) t more = let rest = more read.1 read.2 t.0 in omega (arith, rest, t.2)
-
--- each record of a text has a cell
-celled : (n : ℕ) (state : State) (bytes : List ℕ) → ends_at_end state ≡ false
-    → All (λ row. 0 < length row) (records_from default_config n state bytes)
-unfolding records_from
-celled zero state bytes h = All-nil (λ row. 0 < length row)
-celled (suc n) state bytes h =
-    by (next_record default_config state [] [] bytes) (takes state bytes h) (λ s xs between. celled n s xs between)
-  where
-    by : (found : Option Read) → IfSome found (λ read. Taken bytes read)
-        → ((s : State) (xs : List ℕ) → ends_at_end s ≡ false → All (λ row. 0 < length row) (records_from default_config n s xs))
-        → All (λ row. 0 < length row) (records_next (records_from default_config n) found)
-    by None t more = All-nil (λ row. 0 < length row)
-    by (Some read) t more = All-cons (λ row. 0 < length row) _ _ t.1 (more read.1 read.2 t.0)
+        → ((s : State) (xs : List ℕ) → ends_at_end s ≡ false → (length (records_from default_config n s xs) ≤ length xs)
+        × All (λ row. 0 < length row) (records_from default_config n s xs))
+        → (length (records_next (records_from default_config n) found) ≤ length bytes)
+        × All (λ row. 0 < length row) (records_next (records_from default_config n) found)
+    by None t more = (omega arith, All-nil (λ row. 0 < length row))
+    by (Some read) t more =
+        let rest = more read.1 read.2 t.0 in (omega (arith, rest.0, t.2), All-cons (λ row. 0 < length row) _ _ t.1 rest.1)
 
 shorter-text : (text : List ℕ) → length (strip_bom text) ≤ length text
 unfolding strip_bom
-shorter-text [] = omega arith
-shorter-text (a ∷ []) = omega arith
-shorter-text (a ∷ b ∷ []) = omega arith
 shorter-text (a ∷ b ∷ c ∷ rest) = by (is_bom a b c)
   where
     by : (mark : Bool) → length (if mark then rest else a ∷ b ∷ c ∷ rest) ≤ length (a ∷ b ∷ c ∷ rest)
     by true = omega arith
     by false = omega arith
+shorter-text _ = omega arith
 
 -- a text has no more records than bytes, and none without a cell
 pub few_records : (text : List ℕ) → length (records_of text) ≤ length text
-few_records text = let a = few (length (strip_bom text) + 1) st.StartRecord (strip_bom text) refl in let b =
-    shorter-text text in omega (arith, a, b)
+few_records text =
+    let all = kept (length (strip_bom text) + 1) st.StartRecord (strip_bom text) refl in omega (arith, all.0, shorter-text text)
 
 pub records_have_cells : (text : List ℕ) → All (λ row. 0 < length row) (records_of text)
-records_have_cells text = celled (length (strip_bom text) + 1) st.StartRecord (strip_bom text) refl
+records_have_cells text = (kept (length (strip_bom text) + 1) st.StartRecord (strip_bom text) refl).1
 
 -- one read of the bytes that are left takes the first of the records ahead, or finds none
 rows-next : (state : State) (bytes : List ℕ) → ends_at_end state ≡ false
