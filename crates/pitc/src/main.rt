@@ -61,7 +61,22 @@ fn main(rt: HostRuntime) -> ExitCode {
                 };
                 Destination::new(formula, valuer)
             }
-            Formula::Leach { .. } => {
+            Formula::Dump { cost } => {
+                let cost = *cost;
+                let Ok(boxed) = Box::new(
+                    alloc,
+                    move |block: Block| -> i128
+                        requires { cost ≤ MAX_COST }
+                        ensures { result ≡ dump block cost }
+                    { dump_worth(block, cost) },
+                ) else {
+                    return out_of_memory(&rt);
+                };
+                let valuer: Valuer = boxed;
+                Destination::new(Formula::Dump { cost }, valuer)
+            }
+            // Any other formula is kept whole, and asked itself.
+            _ => {
                 let (Ok(formula), Ok(kept)) = (named.formula.copy(alloc), named.formula.copy(alloc))
                 else {
                     return out_of_memory(&rt);
@@ -77,20 +92,6 @@ fn main(rt: HostRuntime) -> ExitCode {
                 };
                 let valuer: Valuer = boxed;
                 Destination::new(formula, valuer)
-            }
-            Formula::Dump { cost } => {
-                let cost = *cost;
-                let Ok(boxed) = Box::new(
-                    alloc,
-                    move |block: Block| -> i128
-                        requires { cost ≤ MAX_COST }
-                        ensures { result ≡ dump block cost }
-                    { dump_worth(block, cost) },
-                ) else {
-                    return out_of_memory(&rt);
-                };
-                let valuer: Valuer = boxed;
-                Destination::new(Formula::Dump { cost }, valuer)
             }
         };
         if destinations.push(destination).is_err() {
