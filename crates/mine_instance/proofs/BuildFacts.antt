@@ -1,5 +1,5 @@
 -- One step further along the blocks, the resources and the rows of values.
-use Rattle.std.proofs.Common.{◌≡◌, ℕ, zero, suc, ◌+◌, ◌*◌, ◌<◌, ◌≤◌, Bool, true, false, cond, List, [], ◌∷◌, ◌++◌, length, map, take, drop, get_or, All, Option, Some, refl, sym, ◌∙◌, ap, arith, append_assoc, append-nil, length-append, eq-eqb, ℤ, length-take-le, zero-mul, ⊎_elim}
+use Rattle.std.proofs.Common.{◌≡◌, ℕ, suc, ◌+◌, ◌*◌, ◌<◌, ◌≤◌, Bool, true, false, cond, List, [], ◌∷◌, ◌++◌, length, map, take, get_or, All, Option, Some, refl, sym, ◌∙◌, ap, arith, append_assoc, append-nil, length-append, eq-eqb, ℤ, zero-mul, ⊎_elim}
 use Rattle.std.specs.Prelude.{filter, slice_get, slice_index, ◌==◌}
 use Rattle.std.specs.List.{cons_option, flat_map, filter_map, range_with_len, enumerate_from, list_any}
 use Rattle.std.proofs.lemmas.Bool.{cases_Bool, eqb-true}
@@ -14,6 +14,7 @@ use Rattle.pit_parts.specs.declared.block.Block.{Block}
 use Rattle.pit_parts.specs.declared.resource.Resource.{Resource}
 use Rattle.precedence.specs.Identifier.{id}
 use Rattle.precedence.specs.Numbering.{IsNumbering, NumberingView}
+use Rattle.precedence.proofs.PlacesWhere.{numbered_more}
 use Rattle.precedence.proofs.RunsOfRows.{range_more}
 use Rattle.mine_instance.specs.OfModel.{block_of_id, by_identifier, covers, pair_with, covering}
 use Rattle.mine_instance.specs.Rows.{rows_of}
@@ -25,30 +26,12 @@ take_next xs i x e = take_more xs i x (slice_get_within xs i x e) ∙ ap (λ y. 
 -- the pairs of one destination more
 pub pairs_next : (resources : List Resource) (d : ℕ)
     → flat_map (covering resources) (range_with_len 0 (d + 1)) ≡ flat_map (covering resources) (range_with_len 0 d) ++ covering resources d
-pairs_next resources d =
-    ap (flat_map (covering resources)) (range_more 0 d) ∙ flat_map-append (covering resources) (range_with_len 0 d) ((0 + d) ∷ [])
-    ∙ ap (λ last. flat_map (covering resources) (range_with_len 0 d) ++ last) (append-nil (covering resources (0 + d))
-    ∙ ap (covering resources) (omega arith))
+pairs_next resources d = rw (range_more 0 d d (omega arith), flat_map-append, append-nil)
 
-numbered-append : {X : Type 0} (n : ℕ) (xs ys : List X)
-    → enumerate_from n (xs ++ ys) ≡ enumerate_from n xs ++ enumerate_from (n + length xs) ys
-numbered-append n [] ys = ap (λ k. enumerate_from k ys) (omega arith)
-numbered-append n (x ∷ xs) ys =
-    ap (λ rest. (n, x) ∷ rest) (numbered-append (n + 1) xs ys ∙ ap (λ k. enumerate_from (n + 1) xs ++ enumerate_from k ys) (omega arith))
-
--- one element more, with its number
-numbered_more : {X : Type 0} (xs : List X) (i : ℕ) (x : X) → i < length xs → x ≡ get_or xs i x
-    → enumerate_from 0 (take (i + 1) xs) ≡ enumerate_from 0 (take i xs) ++ (i, x) ∷ []
-numbered_more xs i x h is =
-    let at : 0 + length (take i xs) ≡ i = omega (arith, length-take-le i xs (omega arith)) in
-    ap (enumerate_from 0) (take_more xs i x h ∙ ap (λ y. take i xs ++ y ∷ []) (sym is))
-    ∙ numbered-append 0 (take i xs) (x ∷ []) ∙ ap (λ k. enumerate_from 0 (take i xs) ++ (k, x) ∷ []) at
-
+-- the lists of numbered elements, with that of one more
 pub numbered_next : {X A : Type 0} (f : ℕ × X → List A) (xs : List X) (i : ℕ) (x : X) → i < length xs → x ≡ get_or xs i x
     → flat_map f (enumerate_from 0 (take (i + 1) xs)) ≡ flat_map f (enumerate_from 0 (take i xs)) ++ f (i, x)
-numbered_next f xs i x h is =
-    ap (flat_map f) (numbered_more xs i x h is) ∙ flat_map-append f (enumerate_from 0 (take i xs)) ((i, x) ∷ [])
-    ∙ ap (λ last. flat_map f (enumerate_from 0 (take i xs)) ++ last) (append-nil (f (i, x)))
+numbered_next f xs i x h is = rw (numbered_more xs i x h is, flat_map-append, append-nil)
 
 one_pair : (d i : ℕ) (r : Resource) (b : Bool)
     → map (pair_with d) (cond b ((i, r) ∷ []) []) ≡ cond b ((d, i) ∷ []) []
@@ -59,10 +42,8 @@ one_pair d i r false = refl
 pub covering_next : (resources : List Resource) (d i : ℕ) (r : Resource) → i < length resources → r ≡ get_or resources i r
     → covering (take (i + 1) resources) d ≡ covering (take i resources) d ++ cond (list_any (λ e. e == d) r.covers) ((d, i) ∷ []) []
 covering_next resources d i r h is =
-    ap (λ (es : List (ℕ × Resource)). map (pair_with d) (filter (covers d) es)) (numbered_more resources i r h is)
-    ∙ ap (λ (es : List (ℕ × Resource)). map (pair_with d) es) (filter-append (covers d) (enumerate_from 0 (take i resources)) ((i, r) ∷ []))
-    ∙ map-append (pair_with d) (filter (covers d) (enumerate_from 0 (take i resources))) (filter (covers d) ((i, r) ∷ []))
-    ∙ ap (λ last. covering (take i resources) d ++ last) (one_pair d i r (covers d (i, r)))
+    rw (numbered_more resources i r h is, filter-append, map-append)
+    (ap (λ last. covering (take i resources) d ++ last) (one_pair d i r (covers d (i, r))))
 
 -- of each destination no more pairs than there are resources
 pub pairs_few : (resources : List Resource) (a n : ℕ) → length resources ≤ 8
@@ -87,9 +68,7 @@ pairs_few resources a n few =
 -- the values of one block more
 pub values_next : (f : Block → List ℤ) (blocks : List Block) (i : ℕ) (b : Block) → slice_get blocks i ≡ Some b
     → flat_map f (take (i + 1) blocks) ≡ flat_map f (take i blocks) ++ f b
-values_next f blocks i b e =
-    ap (flat_map f) (take_next blocks i b e) ∙ flat_map-append f (take i blocks) (b ∷ [])
-    ∙ ap (λ last. flat_map f (take i blocks) ++ last) (append-nil (f b))
+values_next f blocks i b e = rw (take_next blocks i b e, flat_map-append, append-nil)
 
 -- lists of one length, one after the other
 pub length-flat : {X A : Type 0} (f : X → List A) (width : ℕ) → ((x : X) → length (f x) ≡ width) → (xs : List X)
@@ -151,5 +130,4 @@ by_identifier_is listed n is =
 -- a list that grew by one piece
 pub grown : {X : Type 0} (base old new front more next : List X) → new ≡ old ++ more → old ≡ base ++ front → next ≡ front ++ more
     → new ≡ base ++ next
-grown base old new front more next added is e =
-    added ∙ ap (λ xs. xs ++ more) is ∙ append_assoc base front more ∙ ap (λ xs. base ++ xs) (sym e)
+grown base old new front more next added is e = rw (added, is, e, append_assoc)

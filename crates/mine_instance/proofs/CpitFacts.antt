@@ -1,10 +1,10 @@
 -- The CPIT of a valid instance keeps what every CPIT keeps.
-use Rattle.std.proofs.Common.{◌≡◌, ℕ, ◌+◌, ◌<◌, Bool, true, false, cond, List, [], ◌∷◌, ◌++◌, length, take, drop, get_or, map, refl, sym, ◌∙◌, ap, arith, ℤ, pos, All}
+use Rattle.std.proofs.Common.{◌≡◌, ℕ, ◌+◌, ◌<◌, Bool, true, cond, List, [], ◌∷◌, ◌++◌, length, take, drop, get_or, map, refl, ◌∙◌, ap, arith, ℤ, All}
 use Rattle.std.specs.Prelude.{filter, AllPairs, IsTrue, ◌==◌, ◌&&◌, ◌||◌, nat_lt}
 use Rattle.std.proofs.lemmas.Bool.{eqb-true}
 use Rattle.std.proofs.lemmas.Bool.Decides.{nat_tests}
 use Rattle.std.proofs.lemmas.List.{get_or-map, length-map, length-take, map-append, take_min}
-use Rattle.std.proofs.lemmas.List.Elements.{All-weaker, All-map, All-filter, All-head, All-tail, filter-append, filter_passes}
+use Rattle.std.proofs.lemmas.List.Elements.{All-map, All-filter, All-head, All-tail, filter-append, filter_passes}
 use Rattle.std.proofs.lemmas.List.Kept.{AllPairs-filter}
 use Rattle.std.proofs.Math.Seq.{take-add}
 use Rattle.pit_parts.specs.declared.limit.Limit.{Limit}
@@ -18,6 +18,7 @@ use Rattle.mine_instance.specs.Valid.{IsValid}
 use Rattle.mine_instance.specs.declared.coef.Coef.{Coef}
 use Rattle.mine_instance.specs.declared.cpit.CpitCoef.{CpitCoef}
 use Rattle.mine_instance.specs.Instance.{Instance}
+use Rattle.mine_instance.proofs.PairFacts.{pairs_map}
 
 -- of two coefficients at their blocks' destinations, the order is that of blocks and resources
 listed : (values : List (List ℤ)) (c e : Coef) → is_chosen values c ≡ true → is_chosen values e ≡ true → IsTrue (coef_comes_before c e)
@@ -31,23 +32,20 @@ listed values c e p q h = in_order (destination_of values) c.b e.b c.d e.d c.r e
 
 chosen_rise : (values : List (List ℤ)) (coefs : List Coef) → AllPairs (λ c e. IsTrue (coef_comes_before c e)) coefs
     → AllPairs (λ c e. IsTrue (is_listed_before c e)) (map without_destination (filter (is_chosen values) coefs))
-chosen_rise values coefs rising i j d h k =
-    let blank : Coef = record { b = 0; d = 0; r = 0; v = pos 0 } in
+chosen_rise values coefs rising =
     let chosen : List Coef = filter (is_chosen values) coefs in
-    let high : j < length chosen = omega (arith, length-map chosen without_destination) in
-    let low : i < length chosen = omega arith in
-    rw (get_or-map without_destination chosen i blank d low, get_or-map without_destination chosen j blank d high)
-    (listed values (get_or chosen i blank) (get_or chosen j blank) (filter_passes (is_chosen values) coefs i blank low)
-    (filter_passes (is_chosen values) coefs j blank high)
-    (AllPairs-filter (λ c e. IsTrue (coef_comes_before c e)) (is_chosen values) coefs rising i j blank h high))
+    pairs_map (λ c e. IsTrue (is_listed_before c e)) without_destination chosen (λ i j d h k.
+    listed values (get_or chosen i d) (get_or chosen j d) (filter_passes (is_chosen values) coefs i d (omega arith))
+    (filter_passes (is_chosen values) coefs j d k)
+    (AllPairs-filter (λ c e. IsTrue (coef_comes_before c e)) (is_chosen values) coefs rising i j d h k))
 
 chosen_in_range : (values : List (List ℤ)) (n destinations resources : ℕ) (coefs : List Coef)
     → All (λ c. (c.b < n) × (c.d < destinations) × (c.r < resources)) coefs
     → All (λ c. (c.b < n) × (c.r < resources)) (map without_destination (filter (is_chosen values) coefs))
 chosen_in_range values n destinations resources coefs in_range =
-    All-map (λ c. (c.b < n) × (c.r < resources)) without_destination (filter (is_chosen values) coefs)
-    (All-weaker (λ c. (c.b < n) × (c.d < destinations) × (c.r < resources)) (λ c. (c.b < n) × (c.r < resources)) (λ c h. (h.0, h.2)) _
-    (All-filter (is_chosen values) (λ c. (c.b < n) × (c.d < destinations) × (c.r < resources)) coefs in_range))
+    All-map (λ c. (c.b < n) × (c.r < resources)) without_destination (filter (is_chosen values) coefs) (λ k d h.
+    let here = All-filter (is_chosen values) (λ c. (c.b < n) × (c.d < destinations) × (c.r < resources)) coefs in_range k d h in
+    (here.0, here.2))
 
 pub cpit_is_one : (i : Instance) (name : List ℕ) (values : List ℤ) (coefs : List CpitCoef) (limits : List Limit) → IsValid i
     → values ≡ map greatest i.values → coefs ≡ map without_destination (filter (is_chosen i.values) i.coefs) → limits ≡ i.limits
@@ -77,8 +75,7 @@ same_destinations values destinations (c ∷ coefs) is there =
 
 -- each coefficient is of a block that has values
 pub coefs_there : (i : Instance) → IsValid i → All (λ c. c.b < length i.values) i.coefs
-coefs_there i v = All-weaker (λ c. (c.b < length i.blocks) × (c.d < i.destinations) × (c.r < i.resources)) (λ c. c.b < length i.values)
-    (λ c h. let same : length i.values ≡ length i.blocks = v.lengths.values in omega arith) i.coefs v.coefs.in_range
+coefs_there i v = λ k d h. let here = v.coefs.in_range k d h in omega (arith, here.0, v.lengths.values)
 
 -- and so are those that were found by the blocks' destinations
 pub coefs_are_chosen : (i : Instance) (destinations : List ℕ) (coefs : List CpitCoef) → IsValid i
@@ -93,9 +90,6 @@ pub chosen_more : (p : Coef → Bool) (coefs : List Coef) (from most n : ℕ) �
     → map without_destination (filter p (take from coefs)) ++ map without_destination (filter p (take most (drop from coefs)))
     ≡ map without_destination (filter p (take (from + n) coefs))
 chosen_more p coefs from most n count =
-    let piece = take most (drop from coefs) in
-    let same : take n (drop from coefs) ≡ piece =
+    let same : take n (drop from coefs) ≡ take most (drop from coefs) =
     ap (λ k. take k (drop from coefs)) (count ∙ length-take most (drop from coefs)) ∙ take_min most (drop from coefs) in
-    sym (ap (λ cs. map without_destination (filter p cs)) (take-add from n coefs ∙ ap (λ more. take from coefs ++ more) same)
-    ∙ ap (map without_destination) (filter-append p (take from coefs) piece)
-    ∙ map-append without_destination (filter p (take from coefs)) (filter p piece))
+    rw (take-add from n coefs, same, filter-append, map-append)

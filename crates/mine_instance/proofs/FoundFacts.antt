@@ -55,6 +55,8 @@ heavy_few blocks =
 pub length-found : (pairs : List (ℕ × ℕ)) (heavy : List HeavyBlock) → length (found_coefs pairs heavy) ≡ length heavy * length pairs
 length-found pairs heavy = length-flat (heavy_coefs pairs) (length pairs) (λ block. length-map pairs (heavy_coef block)) heavy
 
+pub ruleset counts = (length-found)
+
 -- at no pair there are none
 pub none_found : (pairs : List (ℕ × ℕ)) (blocks : List Block) → length pairs ≡ 0 → coefs_of pairs blocks ≡ []
 none_found pairs blocks none =
@@ -127,13 +129,9 @@ next_row i j width place at last = grind (arith, at, last)
 -- of a list from a place on, one element more
 pub piece_more : {X : Type 0} (xs : List X) (from n : ℕ) (x : X) → from + n < length xs → x ≡ get_or xs (from + n) x
     → take (n + 1) (drop from xs) ≡ take n (drop from xs) ++ x ∷ []
-piece_more xs from n x h is =
-    take_more (drop from xs) n x (omega (arith, length-drop from xs))
-    ∙ ap (λ y. take n (drop from xs) ++ y ∷ []) (get_or-drop from xs n x ∙ sym is)
+piece_more xs from n x h is = rw (take_more (drop from xs) n x (omega (arith, length-drop from xs)), get_or-drop, ← is)
 
 -- so many of a list, or all of them where they are fewer
 pub put_all : {X : Type 0} (xs old now : List X) (from most n : ℕ) → now ≡ old ++ take n (drop from xs) → n ≡ min most (length xs - from)
     → now ≡ old ++ take most (drop from xs)
-put_all xs old now from most n is count =
-    is ∙ ap (λ more. old ++ more) (ap (λ k. take k (drop from xs)) (count ∙ ap (min most) (sym (length-drop from xs)))
-    ∙ take_min most (drop from xs))
+put_all xs old now from most n is count = rw (is, count, ← length-drop from xs, take_min)

@@ -1,10 +1,7 @@
 pub mod RowFacts
-pub mod RisingFacts
-pub mod GreatestFacts
-pub mod ValidFacts
+pub mod PairFacts
 pub mod CpitFacts
 pub mod BuildFacts
 pub mod FoundFacts
 pub mod ModelFacts
-pub mod Placed
-pub mod RowValues
+pub mod ValueFacts

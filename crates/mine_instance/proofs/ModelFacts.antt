@@ -1,10 +1,10 @@
 -- What the plan's ranges say of the parts of an instance.
-use Rattle.std.proofs.Common.{◌≡◌, ℕ, ◌+◌, ◌<◌, ◌≤◌, List, [], ◌∷◌, ◌++◌, length, map, refl, sym, ◌∙◌, ap, subst, arith, ℤ, All, Bool, true, false, cond, suc, get_or, ◌⊎◌, inl, inr, ◌&&◌, ◌||◌}
-use Rattle.std.proofs.lemmas.List.{length-map, get_or-map}
-use Rattle.std.proofs.lemmas.List.Elements.{All-map, All-weaker, All-append, All-head, All-tail, All-nil, All-filter}
+use Rattle.std.proofs.Common.{◌≡◌, ℕ, ◌<◌, ◌≤◌, List, [], ◌∷◌, length, map, refl, ◌∙◌, ap, arith, ℤ, All, Bool, true, false, cond, suc, get_or, ◌⊎◌, inl, inr}
+use Rattle.std.proofs.lemmas.List.{length-map}
+use Rattle.std.proofs.lemmas.List.Elements.{All-map, All-append, All-head, All-tail, All-nil, All-filter}
 use Rattle.std.proofs.lemmas.List.FromFn.{get_or-enumerate_from, get_or-range_with_len, length-enumerate_from, length-range_with_len}
-use Rattle.std.proofs.lemmas.List.Kept.{AllPairs-cons, AllPairs-filter, AllPairs-from_increasing}
-use Rattle.std.specs.Prelude.{AllPairs, IsTrue, nat_lt, slice_get, filter, ◌==◌}
+use Rattle.std.proofs.lemmas.List.Kept.{AllPairs-filter, AllPairs-from_increasing}
+use Rattle.std.specs.Prelude.{AllPairs, IsTrue, slice_get, filter, ◌==◌}
 use Rattle.std.specs.List.{enumerate_from, range_with_len, flat_map}
 use Rattle.std.proofs.lemmas.Bool.Decides.{nat_tests}
 use Rattle.pit_parts.specs.PlanFormulas.{formulas_of_plan}
@@ -14,13 +14,13 @@ use Rattle.pit_parts.specs.declared.resource.Resource.{Resource}
 use Rattle.pit_parts.specs.declared.limit.Limit.{Limit}
 use Rattle.pit_parts.specs.Plan.{PlanParts}
 use Rattle.pit_parts.specs.Formula.{IsRuled}
-use Rattle.pit_parts.specs.PlanKept.{IsPlan, IsBound, is_turned}
+use Rattle.pit_parts.specs.PlanKept.{IsPlan}
 use Rattle.pit_parts.specs.Worth.{worth, IsWorth}
 use Rattle.pit_parts.specs.declared.block.Block.{Block}
 use Rattle.pit_parts.specs.declared.formula.Formula.{Formula}
 use Rattle.pit_parts.specs.declared.formula.NamedFormula.{NamedFormula}
 use Rattle.rows.specs.Valued.{worths_by}
-use Rattle.mine_instance.proofs.ValidFacts.{rising_differ}
+use Rattle.mine_instance.proofs.PairFacts.{pairs_append, pairs_map, rising_differ}
 use Rattle.mine_instance.specs.Valid.{AreLimits, AreCoefs, ArePreds, IsValid}
 use Rattle.mine_instance.specs.OfModel.{values_of, in_hundreds, covers, pair_with, covering, covered, coef_at, block_coefs, coefs_of, instance_of, instance_with}
 use Rattle.mine_instance.specs.Order.{coef_comes_before}
@@ -36,16 +36,13 @@ length-values_of plan b =
 pub worths_fit : ((f : Formula) (b : Block) → IsRuled f → IsWorth (worth f b)) → (plan : PlanParts) (b : Block) (worths : List ℤ)
     → worths ≡ worths_by (formulas_of_plan plan) b → All (λ f. IsRuled f.formula) plan.formulas → All IsWorth worths
 worths_fit law plan b worths e ruled =
-    let P : List ℤ → Type 0 = λ ws. All IsWorth ws in
-    subst P (sym e) (All-map IsWorth (λ f. worth f b) (formulas_of_plan plan)
+    rw e (All-map IsWorth (λ f. worth f b) (formulas_of_plan plan)
     (All-map (λ f. IsWorth (worth f b)) (λ (f : NamedFormula). f.formula) plan.formulas
-    (All-weaker (λ f. IsRuled f.formula) (λ f. IsWorth (worth f.formula b)) (λ f h. law f.formula b h) plan.formulas ruled)))
+    (λ k d h. law (get_or plan.formulas k d).formula b (ruled k d h))))
 
 pub limits_are : (plan : PlanParts) → IsPlan plan → AreLimits (length plan.resources) plan.periods plan.limits
 limits_are plan is = record {
-  in_range = All-weaker (λ l. (l.resource < length plan.resources) × (l.period < plan.periods) × IsBound l.bound)
-      (λ l. (l.resource < length plan.resources) × (l.period < plan.periods) × (is_turned l.bound ≡ false))
-      (λ l h. (h.0, h.1, h.2.straight)) plan.limits is.limits;
+  in_range = λ k d h. let here = is.limits k d h in (here.0, here.1, here.2.straight);
   rising = is.rising;
 }
 
@@ -68,15 +65,6 @@ preds_are plan (b ∷ bs) = λ i h.
 
 -- ---- lists that rise, one after the other
 
--- pairs of two lists, one after the other
-pub pairs_append : {X : Type 0} (R : X → X → Type 0) (xs ys : List X) → AllPairs R xs → AllPairs R ys → All (λ x. All (R x) ys) xs
-    → AllPairs R (xs ++ ys)
-pairs_append R [] ys rise rest across = rest
-pairs_append R (x ∷ xs) ys rise rest across =
-    AllPairs-cons R x (xs ++ ys)
-    (All-append (R x) xs ys (λ k d h. rise 0 (suc k) d (omega arith) (omega arith)) (All-head (λ z. All (R z) ys) x xs across))
-    (pairs_append R xs ys (λ i j d h k. rise (suc i) (suc j) d (omega arith) (omega arith)) rest (All-tail (λ z. All (R z) ys) x xs across))
-
 all_flat : {X Y : Type 0} (P : Y → Type 0) (f : X → List Y) (xs : List X) → All (λ x. All P (f x)) xs → All P (flat_map f xs)
 all_flat P f [] each = All-nil P
 all_flat P f (x ∷ xs) each =
@@ -93,14 +81,6 @@ pairs_flat R f number key before own each (x ∷ xs) rise =
     (λ i d lt. all_flat (R (get_or (f x) i d)) f xs (λ j e h k c g.
     before (get_or (f x) i d) (get_or (f (get_or xs j e)) k c)
     (omega (arith, own x i d lt, own (get_or xs j e) k c g, rise 0 (suc j) e (omega arith) (omega arith)))))
-
--- a map keeps an order
-pub pairs_map : {X Y : Type 0} (R : Y → Y → Type 0) (f : X → Y) (xs : List X) → AllPairs (λ x y. R (f x) (f y)) xs → AllPairs R (map f xs)
-pairs_map R f [] rise = λ i j d h k. absurd (omega arith)
-pairs_map R f (x ∷ xs) rise = λ i j d h k.
-    let high : j < length (x ∷ xs) = omega (arith, length-map (x ∷ xs) f) in
-    let low : i < length (x ∷ xs) = omega arith in
-    rw (get_or-map f (x ∷ xs) i x d low, get_or-map f (x ∷ xs) j x d high) (rise i j x h high)
 
 -- what holds of a list and of none
 or_none : {X : Type 0} (Q : List X → Type 0) (none : Bool) (xs : List X) → Q [] → Q xs → Q (cond none [] xs)
@@ -150,17 +130,10 @@ covered_rise resources n =
     (covering_rise resources) (range_with_len 0 n) (AllPairs-from_increasing (range_with_len 0 n) (range_rises 0 n))
 
 coef_order : (k : ℕ) (b : Block) (p q : ℕ × ℕ) → PairBefore p q → IsTrue (coef_comes_before (coef_at k b p) (coef_at k b q))
-coef_order k b p q h = in_order k p.0 p.1 q.0 q.1 h
-  where
-    in_order : (k d r d' r' : ℕ) → (d < d') ⊎ ((d ≡ d') × (r < r'))
-        → (nat_lt k k || ((k == k) && (nat_lt d d' || ((d == d') && nat_lt r r')))) ≡ true
-    in_order k d r d' r' h = grind (arith, nat_tests)
+coef_order k b p q h = grind (arith, nat_tests)
 
 block_order : (c e : Coef) → c.b < e.b → IsTrue (coef_comes_before c e)
-block_order c e h = in_order c.b e.b _ h
-  where
-    in_order : (m n : ℕ) (q : Bool) → m < n → (nat_lt m n || q) ≡ true
-    in_order m n q h = grind (arith, nat_tests)
+block_order c e h = grind (arith, nat_tests)
 
 module _ (nd nr : ℕ) (pairs : List (ℕ × ℕ)) (fit : All (λ p. (p.0 < nd) × (p.1 < nr)) pairs) (rise : AllPairs PairBefore pairs) where
   -- the coefficients of one block

@@ -74,4 +74,4 @@ row_pushed (suc n) width items row whole all =
           ∙ ap (λ w. rows_of (suc (suc n)) w (items ++ row)) (sym same) ∙ rows_of-push (suc n) width items row whole (sym same),
     )
 
-pub ruleset rows = (length-rows_of, row_within)
+pub ruleset rows = (length-rows_of, row_within, get_or-rows_of)

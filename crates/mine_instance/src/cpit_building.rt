@@ -1,12 +1,13 @@
 //! From an instance to its CPIT.
 
-ghost use Rattle.std.specs.Prelude.{◌≡◌, ◌<◌, ◌≤◌, ◌++◌, length, map, filter, All, IfOk, OnOk};
+ghost use Rattle.std.specs.Prelude.{◌≡◌, ◌<◌, ◌≤◌, ◌++◌, length, map, filter, take, drop, All, IfOk, OnOk};
 ghost use Rattle.mine_instance.specs.Greatest.{first_greatest, greatest};
 ghost use Rattle.mine_instance.specs.OfCpit.{cpit, without_destination};
 ghost use Rattle.mine_instance.specs.inner.CpitFields.{is_at};
 ghost use Rattle.mine_instance.specs.Seen.{seen};
 ghost use Rattle.mine_instance.specs.Valid.{IsValid};
 ghost use Rattle.pit_parts.specs.declared.ranges.TheConstants.{MAX_DESTINATIONS};
+ghost use Rattle.mine_instance.specs.declared.cpit_building.TheConstants.{PIECE};
 
 use crate::coef::{Coef, Coefs};
 use crate::cpit::{Cpit, CpitCoef};
@@ -91,12 +92,20 @@ fn coefs_at(
     let mut piece = Vec::with_capacity(alloc, PIECE)?;
     let mut from = 0;
     while from < coefs.len() {
-        piece.clear();
-        coefs.put_some(from, PIECE, &mut piece)?;
+        next_piece(coefs, from, &mut piece)?;
         put_chosen(&mut chosen, piece.as_slice(), destinations)?;
         from += piece.len();
     }
     Ok(chosen)
+}
+
+// So many coefficients from a place on, in place of those that the piece had.
+fn next_piece(coefs: &Coefs, from: usize, piece: &mut Vec<Coef>) -> Result<(), AllocError>
+    requires { from < length coefs.now }
+    ensures { OnOk result (piece.new.items ≡ take PIECE (drop from coefs.now)) }
+{
+    piece.clear();
+    coefs.put_some(from, PIECE, piece)
 }
 
 fn put_chosen(chosen: &mut CpitCoefs, coefs: &[Coef], destinations: &[u8]) -> Result<(), AllocError>

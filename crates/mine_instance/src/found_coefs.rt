@@ -74,6 +74,7 @@ impl FoundCoefs {
     }
 
     /// The number of coefficients.
+    #[tactic(auto, using(crate::proofs::FoundFacts::counts))]
     pub fn len(&self) -> usize
         ensures { result ≡ length self.now }
     {

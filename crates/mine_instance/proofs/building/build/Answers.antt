@@ -1,4 +1,4 @@
-use Rattle.std.proofs.Common.{◌≡◌, ◌<◌, ◌∙◌, ℕ, List, length, map, All, sym, ap, subst, arith}
+use Rattle.std.proofs.Common.{◌≡◌, ◌∙◌, length, map, sym, ap, arith}
 use Rattle.std.proofs.lemmas.List.{length-map}
 use Rattle.precedence.specs.Identifier.{blocks_of_rows}
 use Rattle.rows.specs.declared.item.Valued.{Valued}
@@ -14,12 +14,9 @@ pub by_position-values-requires : goal.by_position-values-requires
 by_position-values-requires c =
     let blocks = blocks_of_rows c.in_ok-of.field-0 in
     let rows : length blocks ≡ length (blocks_of_rows c.args.rows.now) = ap (λ rows. length (blocks_of_rows rows)) c.in_ok-of.ensures in
-    let count : length c.args.numbering.now.blocks ≡ length c.in_ok-listed.listed =
-    c.requires.numbering.blocks ∙ sym rows ∙ sym (ap length c.in_ok-listed.ensures ∙ length-map blocks (values_of c.args.plan.now)) in
-    let Within : ℕ → List ℕ → Type 0 = λ n ps. All (λ p. p < n) ps in
-    subst (λ n. Within n c.in_ok-positions.positions.items) count
-    (subst (Within (length c.args.numbering.now.blocks)) (sym (c.in_ok-positions.ensures.items ∙ c.positions.ensures.value))
-    c.positions.ensures.within)
+    let listed = ap length c.in_ok-listed.ensures ∙ length-map blocks (values_of c.args.plan.now) in
+    rw (c.in_ok-positions.ensures.items, c.positions.ensures.value)
+    (λ k d lt. omega (arith, c.positions.ensures.within k d lt, c.requires.numbering.blocks, rows, listed))
 
 pub build_with-requires-clause-values : goal.build_with-requires-clause-values
 build_with-requires-clause-values c =

@@ -2,7 +2,7 @@ use Rattle.std.proofs.Common.{◌<◌, ◌++◌, ◌∙◌, ap, arith, length, m
 use Rattle.precedence.specs.Identifier.{blocks_of_rows}
 use Rattle.mine_instance.specs.OfModel.{in_hundreds, values_of}
 use Rattle.mine_instance.proofs.BuildFacts.{grown, values_next}
-use Rattle.mine_instance.proofs.RowValues.{block_there}
+use Rattle.mine_instance.proofs.ValueFacts.{block_there}
 use Rattle.mine_instance.proofs.building.put_rows.Goals as goal
 
 pub put_values-requires : goal.put_values-requires

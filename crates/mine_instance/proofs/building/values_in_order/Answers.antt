@@ -1,7 +1,7 @@
 use Rattle.std.proofs.Common.{rules, ◌≡◌, ◌∷◌, ◌∙◌, sym, ap, arith, length}
 use Rattle.std.specs.Vec.Iter.{into_iter_items, into_iter_len}
 use Rattle.mine_instance.specs.OfModel.{values_of}
-use Rattle.mine_instance.proofs.RowValues.{all_taken, file_taken, worths_parts}
+use Rattle.mine_instance.proofs.ValueFacts.{all_taken, file_taken, worths_parts}
 use Rattle.mine_instance.proofs.building.values_in_order.Goals as goal
 
 pub put_rows-requires : goal.put_rows-requires

@@ -1,6 +1,6 @@
 use Rattle.std.proofs.Common.{length, refl, arith}
 use Rattle.std.proofs.lemmas.Option.{slice_get_read}
-use Rattle.mine_instance.proofs.RisingFacts.{rises_more}
+use Rattle.mine_instance.proofs.PairFacts.{rises_more}
 use Rattle.mine_instance.proofs.rising.rises.Goals as goal
 
 pub loop-index-preserved : goal.loop-index-preserved

@@ -1,7 +1,6 @@
-use Rattle.std.proofs.Common.{ℕ, [], arith, refl, sym, subst, below_more, List}
+use Rattle.std.proofs.Common.{[], arith, refl, sym, below_more}
 use Rattle.std.proofs.lemmas.Option.{get_or_from_slice_get}
-use Rattle.mine_instance.specs.Valid.{ArePredsOf}
-use Rattle.mine_instance.proofs.ValidFacts.{one_refused}
+use Rattle.mine_instance.proofs.PairFacts.{one_refused}
 use Rattle.mine_instance.proofs.validity.are_preds.Goals as goal
 
 pub returns-then-not-are_preds_of : goal.returns-then-not-are_preds_of
@@ -14,8 +13,7 @@ returns-then-not-are_preds_of c = (
 pub loop-id-preserved : goal.loop-id-preserved
 loop-id-preserved c =
     below_more _ _ c.loop-id.invariant
-    (let P : List ℕ → Type 0 = λ ids. ArePredsOf c.loop-id.id c.args.count ids in
-    subst P (sym (get_or_from_slice_get c.args.preds.now c.loop-id.id c.of.result.now [] c.of.ensures))
+    (rw (get_or_from_slice_get c.args.preds.now c.loop-id.id c.of.result.now [] c.of.ensures)
     (c.are_preds_of.ensures.0 c.if-not-are_preds_of.false))
 
 pub returns : goal.returns

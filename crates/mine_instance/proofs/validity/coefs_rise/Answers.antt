@@ -2,7 +2,7 @@ use Rattle.std.proofs.Common.{◌∙◌, sym, arith}
 use Rattle.std.specs.Prelude.{IsTrue}
 use Rattle.mine_instance.specs.Order.{coef_comes_before}
 use Rattle.mine_instance.specs.OrderLaws.{coef_comes_before_through}
-use Rattle.mine_instance.proofs.RisingFacts.{neighbours, rises_more}
+use Rattle.mine_instance.proofs.PairFacts.{neighbours, rises_more}
 use Rattle.mine_instance.proofs.validity.coefs_rise.Goals as goal
 
 pub returns-then-not-comes_before : goal.returns-then-not-comes_before

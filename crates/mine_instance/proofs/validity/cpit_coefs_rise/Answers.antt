@@ -2,7 +2,7 @@ use Rattle.std.proofs.Common.{◌∙◌, sym, arith}
 use Rattle.std.specs.Prelude.{IsTrue}
 use Rattle.mine_instance.specs.CpitOrder.{is_listed_before}
 use Rattle.mine_instance.specs.OrderLaws.{is_listed_before_through}
-use Rattle.mine_instance.proofs.RisingFacts.{neighbours, rises_more}
+use Rattle.mine_instance.proofs.PairFacts.{neighbours, rises_more}
 use Rattle.mine_instance.proofs.validity.cpit_coefs_rise.Goals as goal
 
 pub returns-then-not-is_before : goal.returns-then-not-is_before

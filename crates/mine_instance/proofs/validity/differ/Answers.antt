@@ -1,6 +1,6 @@
 use Rattle.std.proofs.Common.{get_or}
 use Rattle.std.proofs.lemmas.List.{get_or_default}
-use Rattle.mine_instance.proofs.ValidFacts.{repeat_refused, distinct_more}
+use Rattle.mine_instance.proofs.PairFacts.{repeat_refused, distinct_more}
 use Rattle.mine_instance.proofs.validity.differ.Goals as goal
 
 pub returns-then-not-is_new : goal.returns-then-not-is_new

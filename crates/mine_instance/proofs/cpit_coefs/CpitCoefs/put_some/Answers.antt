@@ -1,4 +1,4 @@
-use Rattle.std.proofs.Common.{◌≡◌, ◌<◌, ◌+◌, length, get_or, sym, arith}
+use Rattle.std.proofs.Common.{◌<◌, ◌+◌, length, sym, arith}
 use Rattle.std.proofs.lemmas.Option.{get_or_from_slice_get}
 use Rattle.mine_instance.proofs.BuildFacts.{grown}
 use Rattle.mine_instance.proofs.FoundFacts.{piece_more, put_all}

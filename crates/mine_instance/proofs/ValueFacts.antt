@@ -1,20 +1,24 @@
--- The values of rows, taken row by row and file by file.
-use Rattle.std.proofs.Common.{◌≡◌, ℕ, zero, suc, ◌*◌, ◌<◌, ℤ, List, [], ◌∷◌, ◌++◌, length, map, All, Some, refl, sym, ap, subst, ◌∙◌, arith, append_assoc, append-nil}
+-- The values of blocks: taken row by row and file by file, and as they stand at positions of a list.
+use Rattle.std.proofs.Common.{◌≡◌, ℕ, zero, suc, ◌*◌, ◌<◌, ℤ, List, [], ◌∷◌, ◌++◌, length, map, get_or, All, Some, refl, sym, ap, subst, ◌∙◌, arith, append_assoc, append-nil}
 use Rattle.std.specs.Prelude.{slice_get}
 use Rattle.std.specs.List.{flat_map}
 use Rattle.std.specs.Option.{option_map}
-use Rattle.std.proofs.lemmas.List.{length-map, map-append}
+use Rattle.std.proofs.lemmas.List.{get_or-map, length-map, map-append, same_lists}
 use Rattle.std.proofs.lemmas.List.Concat.{flat_map-append}
-use Rattle.std.proofs.lemmas.List.Elements.{All-nil, All-cons, All-tail}
+use Rattle.std.proofs.lemmas.List.Elements.{All-map, All-nil, All-cons, All-tail}
 use Rattle.std.proofs.lemmas.Option.{same_Some}
 use Rattle.pit_parts.specs.Plan.{PlanParts}
 use Rattle.pit_parts.specs.PlanFormulas.{formulas_of_plan}
 use Rattle.pit_parts.specs.declared.block.Block.{Block}
 use Rattle.precedence.specs.Identifier.{blocks_of_rows}
+use Rattle.precedence.specs.Numbering.{IsNumbering, NumberingView}
 use Rattle.rows.specs.Valued.{worths_by}
 use Rattle.rows.specs.declared.item.Valued.{Valued}
 use Rattle.mine_instance.specs.OfModel.{values_of}
 use Rattle.mine_instance.specs.Rows.{rows_of}
+use Rattle.mine_instance.specs.declared.values.Order.{Order}
+use Rattle.mine_instance.specs.declared.values.Order.TheVariants.{ById, ByPosition}
+use Rattle.mine_instance.specs.inner.ValuesFields.{in_order, AreWithin}
 use Rattle.mine_instance.proofs.BuildFacts.{length-flat, rows_of-flat}
 use Rattle.mine_instance.proofs.ModelFacts.{length-values_of}
 
@@ -49,14 +53,7 @@ pub file_taken : (value : Block → List ℤ) (all new whole : List ℤ) (lists 
     → new ≡ all ++ flat_map value (blocks_of_rows list)
     → new ++ flat_map value (blocks_of_rows (flat_map (λ rows. rows) rest)) ≡ whole
 file_taken value all new whole lists rest list come cut added =
-    let values_in : List Valued → List ℤ = λ rows. flat_map value (blocks_of_rows rows) in
-    let behind : List Valued = flat_map (λ rows. rows) rest in
-    let parts : values_in (list ++ behind) ≡ values_in list ++ values_in behind =
-    ap (flat_map value) (map-append (λ (row : Valued). row.block) list behind)
-    ∙ flat_map-append value (blocks_of_rows list) (blocks_of_rows behind) in
-    ap (λ values. values ++ values_in behind) added ∙ append_assoc all (values_in list) (values_in behind)
-    ∙ ap (λ values. all ++ values) (sym parts)
-    ∙ ap (λ (ls : List (List Valued)). all ++ values_in (flat_map (λ rows. rows) ls)) (sym cut) ∙ come
+    rw (added, append_assoc) (rw (cut, map-append, flat_map-append) at come)
 
 -- once no file is left
 pub all_taken : (plan : PlanParts) (rows : List Valued) (all : List ℤ) (lists : List (List Valued)) (count width : ℕ)
@@ -74,3 +71,33 @@ all_taken plan rows all [] count width come none long wide =
       ap length taken ∙ length-flat value many each blocks ∙ (λ j. sym of_blocks j * sym wide j),
       (λ j. rows_of (of_blocks j) (wide j) (taken j)) ∙ rows_of-flat value many each blocks,
     )
+
+-- what holds of all holds of those at positions
+pub all_in_order : (P : List ℤ → Type 0) (listed : List (List ℤ)) (order : Order) → AreWithin listed order → All P listed
+    → All P (in_order listed order)
+all_in_order P listed ById within all = all
+all_in_order P listed (ByPosition positions) within all =
+    All-map P (λ p. get_or listed p []) positions.items (λ k d h. all _ [] (within k d h))
+
+-- at the positions of a numbering stands what belongs to the blocks by identifier
+pub numbered_at : (value : Block → List ℤ) (blocks : List Block) (n : NumberingView) → IsNumbering blocks n
+    → map (λ p. get_or (map value blocks) p []) n.positions ≡ map value n.blocks
+numbered_at value blocks n is =
+    same_lists _ _ (length-map n.positions at ∙ is.positions ∙ sym is.blocks ∙ sym (length-map n.blocks value)) (each blocks is)
+  where
+    at : ℕ → List ℤ
+    at p = get_or (map value blocks) p []
+
+    each : (listed : List Block) → IsNumbering listed n → (k : ℕ) (d : List ℤ)
+        → k < length (map (λ p. get_or (map value listed) p []) n.positions)
+        → get_or (map (λ p. get_or (map value listed) p []) n.positions) k d ≡ get_or (map value n.blocks) k d
+    each [] is k d h = absurd (omega (arith, length-map n.positions (λ (p : ℕ). get_or (map value []) p []), is.positions))
+    each (b ∷ bs) is k d h =
+        let listed : List Block = b ∷ bs in
+        let own : ℕ → List ℤ = λ p. get_or (map value listed) p [] in
+        let long : length (map own n.positions) ≡ length n.positions = length-map n.positions own in
+        let low : k < length listed = omega (arith, is.positions) in
+        get_or-map own n.positions k 0 d (omega arith)
+        ∙ get_or-map value listed (get_or n.positions k 0) b [] (is.within k low)
+        ∙ ap value (is.stands k b low)
+        ∙ sym (get_or-map value n.blocks k b d (omega (arith, is.blocks)))

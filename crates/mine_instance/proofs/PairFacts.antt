@@ -1,0 +1,85 @@
+-- What holds of the pairs of a list as far as one place, and one place further.
+use Rattle.std.proofs.Common.{◌≡◌, ◌≢◌, ℕ, ◌+◌, ◌-◌, ◌<◌, ◌≤◌, Bool, true, false, List, [], ◌∷◌, ◌++◌, Some, All, AllPairs, length, map, take, get_or, slice_get, suc, sym, ◌∙◌, subst, arith, inl, inr, get_or-take, length-take-le}
+use Rattle.std.proofs.lemmas.Bool.{cases_lt}
+use Rattle.std.proofs.lemmas.List.{get_or-map, get_or_default, length-map}
+use Rattle.std.proofs.lemmas.List.Elements.{All-append, All-head, All-tail}
+use Rattle.std.proofs.lemmas.List.Kept.{AllPairs-cons}
+use Rattle.std.proofs.lemmas.Option.{get_or_from_slice_get, slice_get_within}
+use Rattle.mine_instance.specs.Valid.{ArePreds, ArePredsOf}
+
+-- one place further, where its element stands in the relation to all before it
+pairs_more : {T : Type 0} (R : T → T → Type 0) (xs : List T) (n : ℕ)
+    → ((i j : ℕ) (d : T) → i < j → j < n → R (get_or xs i d) (get_or xs j d))
+    → ((i : ℕ) (d : T) → i < n → R (get_or xs i d) (get_or xs n d))
+    → (i j : ℕ) (d : T) → i < j → j < n + 1 → R (get_or xs i d) (get_or xs j d)
+pairs_more R xs n before new i j d below high = elim (cases_lt j n) [
+  | inl h ↦ before i j d below h
+  | inr h ↦ (
+      let P : ℕ → Type 0 = λ m. R (get_or xs i d) (get_or xs m d) in
+      let same : n ≡ j = omega arith in
+      subst P same (new i d (omega arith))
+      )
+]
+
+module _ {T : Type 0} (R : T → T → Type 0) (xs : List T) (n : ℕ) (x y : T) (from : 1 ≤ n)
+    (x_is : slice_get xs (n - 1) ≡ Some x) (y_is : slice_get xs n ≡ Some y) where
+  -- neighbours in a list that rises
+  pub neighbours : AllPairs R xs → R x y
+  neighbours rise =
+      rw (get_or_from_slice_get xs (n - 1) x x x_is, get_or_from_slice_get xs n y x y_is)
+      at (rise (n - 1) n x (omega arith) (slice_get_within xs n y y_is))
+
+  pub rises_more : ((x y z : T) → R x y → R y z → R x z) → R x y
+      → ((i j : ℕ) (d : T) → i < j → j < n → R (get_or xs i d) (get_or xs j d))
+      → (i j : ℕ) (d : T) → i < j → j < n + 1 → R (get_or xs i d) (get_or xs j d)
+  rises_more through next before = pairs_more R xs n before up_to
+    where
+      up_to : (i : ℕ) (d : T) → i < n → R (get_or xs i d) (get_or xs n d)
+      up_to i d h =
+          let pair : R (get_or xs (n - 1) d) (get_or xs n d) =
+          rw (get_or_from_slice_get xs (n - 1) x d x_is, get_or_from_slice_get xs n y d y_is) next in
+          elim (cases_lt i (n - 1)) [
+            | inl k ↦ through (get_or xs i d) (get_or xs (n - 1) d) (get_or xs n d) (before i (n - 1) d k (omega arith)) pair
+            | inr k ↦ (let P : ℕ → Type 0 = λ m. R (get_or xs m d) (get_or xs n d) in subst P (omega arith) pair)
+          ]
+
+-- one list that is refused
+pub one_refused : (n id : ℕ) (preds : List (List ℕ)) (ids : List ℕ) (r : Bool) → id < length preds → ids ≡ get_or preds id []
+    → (ArePredsOf id n ids → r ≡ true) → r ≡ false → ArePreds n preds → false ≡ true
+one_refused n id preds ids r within is says refused all =
+    sym refused ∙ says (rw is (all id within))
+
+-- a place whose identifier stood before
+pub repeat_refused : (ids : List ℕ) (n x : ℕ) (r : Bool) → n < length ids → x ≡ get_or ids n x
+    → (All (λ other. other ≢ x) (take n ids) → r ≡ true) → r ≡ false → AllPairs (λ id other. id ≢ other) ids → false ≡ true
+repeat_refused ids n x r within is says refused all = sym refused ∙ says (λ k d h same.
+    let below : k < n = omega (arith, length-take-le n ids (omega arith)) in
+    all k n x below within (sym (get_or-take n ids k x below) ∙ get_or_default (take n ids) k x d h ∙ same ∙ is))
+
+-- a further place, whose identifier differs from all before it
+pub distinct_more : (ids : List ℕ) (n x : ℕ) → n < length ids → x ≡ get_or ids n x → All (λ other. other ≢ x) (take n ids)
+    → ((i j d : ℕ) → i < j → j < n → get_or ids i d ≢ get_or ids j d)
+    → (i j d : ℕ) → i < j → j < n + 1 → get_or ids i d ≢ get_or ids j d
+distinct_more ids n x within is new before = pairs_more (λ id other. id ≢ other) ids n before (λ i d low same.
+    new i d (omega (arith, length-take-le n ids (omega arith))) (get_or-take n ids i d low ∙ same ∙ get_or_default ids n d x within ∙ sym is))
+
+-- numbers that rise differ
+pub rising_differ : (ids : List ℕ) → AllPairs (λ n m. n < m) ids → AllPairs (λ id other. id ≢ other) ids
+rising_differ ids rising i j d h k same = let less : get_or ids i d < get_or ids j d = rising i j d h k in omega arith
+
+-- pairs of two lists, one after the other
+pub pairs_append : {X : Type 0} (R : X → X → Type 0) (xs ys : List X) → AllPairs R xs → AllPairs R ys → All (λ x. All (R x) ys) xs
+    → AllPairs R (xs ++ ys)
+pairs_append R [] ys rise rest across = rest
+pairs_append R (x ∷ xs) ys rise rest across =
+    AllPairs-cons R x (xs ++ ys)
+    (All-append (R x) xs ys (λ k d h. rise 0 (suc k) d (omega arith) (omega arith)) (All-head (λ z. All (R z) ys) x xs across))
+    (pairs_append R xs ys (λ i j d h k. rise (suc i) (suc j) d (omega arith) (omega arith)) rest (All-tail (λ z. All (R z) ys) x xs across))
+
+-- a map keeps an order
+pub pairs_map : {X Y : Type 0} (R : Y → Y → Type 0) (f : X → Y) (xs : List X) → AllPairs (λ x y. R (f x) (f y)) xs → AllPairs R (map f xs)
+pairs_map R f [] rise = λ i j d h k. absurd (omega arith)
+pairs_map R f (x ∷ xs) rise = λ i j d h k.
+    let high : j < length (x ∷ xs) = omega (arith, length-map (x ∷ xs) f) in
+    let low : i < length (x ∷ xs) = omega arith in
+    rw (get_or-map f (x ∷ xs) i x d low, get_or-map f (x ∷ xs) j x d high) (rise i j x h high)
