@@ -1,51 +1,44 @@
 -- What marks tell of the numbers that were marked.
-use Rattle.std.proofs.Common.{◌≡◌, ℕ, zero, suc, ◌+◌, ◌<◌, ◌==◌, ◌&&◌, ◌||◌, Bool, true, false, not, true≢false, List, [], ◌∷◌, ◌++◌, length, take, drop, refl, sym, ap, ◌∙◌, subst, arith, get_or}
+use Rattle.std.proofs.Common.{◌≡◌, ◌≢◌, length-append, ℕ, zero, suc, ◌+◌, ◌<◌, ◌==◌, ◌||◌, Bool, true, false, not, List, [], ◌∷◌, ◌++◌, length, take, drop, refl, sym, ap, ◌∙◌, subst, arith, get_or}
 use Rattle.std.specs.Prelude.{All, IsTrue, nat_lt, slice_index_or, slice_set}
 use Rattle.std.proofs.Math.Seq.{take-suc}
-use Rattle.std.proofs.lemmas.Bool.{and_parts, ltb-true, ne_eqb, or_parts}
+use Rattle.std.proofs.lemmas.Bool.{and_parts, eqb-true, ltb-true}
 use Rattle.std.proofs.lemmas.Bool.Decides.{nat_tests}
-use Rattle.std.proofs.lemmas.List.{get_or-set_other}
+use Rattle.std.proofs.lemmas.List.{get_or-set_other, get_or_at, get_or_append_left}
 use Rattle.std.proofs.lemmas.List.Elements.{All-cons, All-nil}
-use Rattle.std.proofs.lemmas.List.Folds.{list_any-append, list_any_none}
+use Rattle.std.proofs.lemmas.List.Quantifiers.{all_pairs_push}
+use Rattle.std.proofs.lemmas.List.Folds.{Any-from_list_any, list_any-append}
 use Rattle.std.proofs.lemmas.Grind.{get_or-set_at}
-use Rattle.std.proofs.Math.Bool.{or-true, or-false, and-false}
+use Rattle.std.proofs.Math.Bool.{or-true, or-false}
 use Rattle.minelib_reading.specs.inner.Marks.{AreMarked, rise_above}
+use Rattle.minelib_reading.proofs.PrecTests.{differ_again, others_differ, pairs_differ, stands_not}
 use Rattle.minelib_reading.specs.PrecLines.{stands_in, all_differ}
 
 one_more : (ids : List ℕ) (id place : ℕ) → stands_in (ids ++ id ∷ []) place ≡ (stands_in ids place || ((id == place) || false))
 one_more ids id place = list_any-append (λ other. other == place) ids (id ∷ [])
 
 -- a number that stands before another place makes the numbers no longer differ
-pub stands_twice : (ids : List ℕ) (id : ℕ) (rest : List ℕ) → stands_in ids id ≡ true → all_differ (ids ++ id ∷ rest) ≡ false
-stands_twice [] id rest e = absurd (cc)
-stands_twice (x ∷ xs) id rest e = at (x == id) refl (stands_in xs id) refl (stands_twice xs id rest) where
-  at : (same : Bool) → (x == id) ≡ same → (found : Bool) → stands_in xs id ≡ found
-      → (stands_in xs id ≡ true → all_differ (xs ++ id ∷ rest) ≡ false) → all_differ ((x ∷ xs) ++ id ∷ rest) ≡ false
-  at true is found f twice =
-      let back : (id == x) ≡ true = grind (arith, nat_tests, is) in
-      let again : stands_in (xs ++ id ∷ rest) x ≡ true =
-      list_any-append (λ other. other == x) xs (id ∷ rest) ∙ rw back (or-true (stands_in xs x)) in
-      rw again refl
-  at false is true f twice = rw (twice f) (and-false (not (stands_in (xs ++ id ∷ rest) x)))
-  at false is false f twice = absurd (true≢false (sym e ∙ rw (is, f) refl))
+stands_twice : (ids : List ℕ) (id : ℕ) (rest : List ℕ) → stands_in ids id ≡ true → all_differ (ids ++ id ∷ rest) ≡ false
+stands_twice ids id rest e = by (all_differ (ids ++ id ∷ rest)) refl
+  where
+    by : (t : Bool) → all_differ (ids ++ id ∷ rest) ≡ t → t ≡ false
+    by false differ = refl
+    by true differ =
+        let there = Any-from_list_any (λ other. other == id) ids e in
+        let same = get_or_append_left ids (id ∷ rest) there.1 there.0 there.2 ∙ there.3 ∙ eqb-true there.1 id there.4 in
+        absurd (pairs_differ (ids ++ id ∷ rest) differ there.0 (length ids) there.1 there.2 (omega (arith, length-append ids (id ∷ rest)))
+        (same ∙ sym (get_or_at ids id rest there.1 (length ids) refl)))
 
 -- numbers that differ, and one more that does not stand among them
-pub differ_more : (ids : List ℕ) (id : ℕ) → all_differ ids ≡ true → stands_in ids id ≡ false → all_differ (ids ++ id ∷ []) ≡ true
-differ_more [] id e new = refl
-differ_more (x ∷ xs) id e new =
-    let parts = and_parts (not (stands_in xs x)) (all_differ xs) e in
-    let news = or_parts (x == id) (stands_in xs id) new in
-    let other : (id == x) ≡ false = grind (arith, nat_tests, news.0) in
-    rw (one_more xs id x, other, differ_more xs id parts.1 news.1) (still (stands_in xs x) parts.0) where
-      still : (t : Bool) → not t ≡ true → (not (t || (false || false)) && true) ≡ true
-      still true h = h
-      still false h = refl
+differ_more : (ids : List ℕ) (id : ℕ) → all_differ ids ≡ true → stands_in ids id ≡ false → all_differ (ids ++ id ∷ []) ≡ true
+differ_more ids id e new =
+    differ_again (ids ++ id ∷ []) (all_pairs_push (λ a b. a ≢ b) ids id (pairs_differ ids e) (others_differ id ids new))
 
 -- just the numbers of a list are marked
 abbrev pub AreJustMarked : List ℕ → List Bool → Type 0
 AreJustMarked ids marks = (place : ℕ) → slice_index_or marks place false ≡ stands_in ids place
 
-pub marked_more : (ids : List ℕ) (marks : List Bool) (id : ℕ) → id < length marks → AreJustMarked ids marks
+marked_more : (ids : List ℕ) (marks : List Bool) (id : ℕ) → id < length marks → AreJustMarked ids marks
     → AreJustMarked (ids ++ id ∷ []) (slice_set marks id true)
 marked_more ids marks id within just place = at (id == place) refl where
   at : (t : Bool) → (id == place) ≡ t → slice_index_or (slice_set marks id true) place false ≡ stands_in (ids ++ id ∷ []) place
@@ -55,7 +48,7 @@ marked_more ids marks id within just place = at (id == place) refl where
       ∙ sym (one_more ids id place ∙ rw e (or-false (stands_in ids place)))
 
 -- numbers up to a place, the one there, and those behind it
-pub parts_at : (ids : List ℕ) (place : ℕ) → place < length ids → ids ≡ take place ids ++ get_or ids place 0 ∷ drop (suc place) ids
+parts_at : (ids : List ℕ) (place : ℕ) → place < length ids → ids ≡ take place ids ++ get_or ids place 0 ∷ drop (suc place) ids
 parts_at [] place within = absurd (omega (arith, within))
 parts_at (id ∷ ids) zero within = refl
 parts_at (id ∷ ids) (suc place) within = ap (λ rest. id ∷ rest) (parts_at ids place (omega (arith, within)))
@@ -101,6 +94,5 @@ rising_differ own [] e = (refl, refl)
 rising_differ own (id ∷ ids) e =
     let parts = and_parts (nat_lt own id) (rise_above id ids) e in
     let others = rising_differ id ids parts.1 in
-    let none : stands_in (id ∷ ids) own ≡ false = list_any_none (λ other. other == own) (id ∷ ids)
-    (λ k d within. let above = rising_above own (id ∷ ids) e k d within in ne_eqb _ own (λ same. omega (arith, above, same))) in
+    let none = stands_not own (id ∷ ids) (λ k d within same. let above = rising_above own (id ∷ ids) e k d within in omega (arith, above, same)) in
     (none, rw (others.0, others.1) refl)

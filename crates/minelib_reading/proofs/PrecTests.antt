@@ -9,10 +9,10 @@ use Rattle.std.proofs.lemmas.List.Kept.{AllPairs-cons}
 use Rattle.mine_instance.specs.Valid.{ArePredsOf}
 use Rattle.minelib_reading.specs.PrecLines.{stands_in, all_differ}
 
-stands_not : (own : ℕ) (ids : List ℕ) → All (λ id. id ≢ own) ids → stands_in ids own ≡ false
+pub stands_not : (own : ℕ) (ids : List ℕ) → All (λ id. id ≢ own) ids → stands_in ids own ≡ false
 stands_not own ids h = list_any_none (λ id. id == own) ids (λ k d within. ne_eqb _ own (h k d within))
 
-differ_again : (ids : List ℕ) → AllPairs (λ id other. id ≢ other) ids → all_differ ids ≡ true
+pub differ_again : (ids : List ℕ) → AllPairs (λ id other. id ≢ other) ids → all_differ ids ≡ true
 differ_again [] h = refl
 differ_again (id ∷ ids) h =
     let none = stands_not id ids (λ k d within same. h 0 (suc k) d (omega arith) (omega arith) (sym same)) in
@@ -23,14 +23,14 @@ pub preds_pass : (own n : ℕ) (ids : List ℕ) → ArePredsOf own n ids → (st
 preds_pass own n ids h = (stands_not own ids h.others, differ_again ids h.distinct)
 
 -- a number that does not stand in a list differs from each one there
-others_differ : (own : ℕ) (ids : List ℕ) → stands_in ids own ≡ false → All (λ id. id ≢ own) ids
+pub others_differ : (own : ℕ) (ids : List ℕ) → stands_in ids own ≡ false → All (λ id. id ≢ own) ids
 others_differ own [] e = All-nil (λ id. id ≢ own)
 others_differ own (id ∷ ids) e =
     let parts = or_parts (id == own) (stands_in ids own) e in
     All-cons (λ other. other ≢ own) id ids (grind (arith, nat_tests, parts.0)) (others_differ own ids parts.1)
 
 -- where no number stands twice, each two differ
-pairs_differ : (ids : List ℕ) → all_differ ids ≡ true → AllPairs (λ id other. id ≢ other) ids
+pub pairs_differ : (ids : List ℕ) → all_differ ids ≡ true → AllPairs (λ id other. id ≢ other) ids
 pairs_differ [] e = λ i j d less high. absurd (omega arith)
 pairs_differ (id ∷ ids) e =
     let parts = and_parts (not (stands_in ids id)) (all_differ ids) e in
