@@ -1,5 +1,5 @@
 -- The lines of coefficients: their forms, what their values say, and their fields one by one.
-use Rattle.std.specs.Prelude.{◌≡◌, ℕ, ◌<◌, ◌≤◌, ◌^◌, ◌==◌, not, true, List, [], length, Result, Ok, Err, if◌then◌else◌}
+use Rattle.std.specs.Prelude.{◌≡◌, ℕ, ◌<◌, ◌≤◌, ◌^◌, ◌==◌, not, true, List, length, Result, Ok, Err, if◌then◌else◌}
 use Rattle.std.proofs.Common.{refl, sym, ap, arith}
 use Rattle.forms.proofs.FormFacts.{counted_later, fault_later}
 use Rattle.forms.proofs.NumberFields.{quotient, whole_fits}
@@ -16,10 +16,10 @@ use Rattle.text_lines.specs.declared.text_fault.TextKind.TheVariants.{Fields}
 use Rattle.text_lines.proofs.FieldSteps.{last_step, said_of, step, whole_reads}
 use Rattle.minelib_reading.specs.Fields.{any}
 use Rattle.minelib_reading.specs.ItemForms.{coef_form, coef_said}
-use Rattle.minelib_reading.specs.SpelledModel.{HasDestination}
+use Rattle.minelib_reading.specs.SpelledModel.{HasDestination, IsSingle}
 use Rattle.minelib_reading.specs.inner.ModelParts.{uncounted_coef, coef_of}
 use Rattle.minelib_lines.specs.LineValues.{coef_values}
-use Rattle.minelib_reading.proofs.FormFields.{ArePlain, any_fits, any_reads, below_there, fit_at, fit_said}
+use Rattle.minelib_reading.proofs.FormFields.{ArePlain, any_fits, any_reads, fit_said, whole_low}
 
 pub coef_fine : (problem : Problem) (n destinations resources : ℕ) → is_fine (coef_form problem n destinations resources) ≡ true
 coef_fine Pcpsp n destinations resources = refl
@@ -47,24 +47,13 @@ said_again Cpit c of_it =
     let only : 0 ≡ c.d = sym of_it in
     rw (quotient c.b, quotient c.r) (ap (λ d. record c { d = d }) only)
 
--- values that fit say a coefficient in range
-pub coef_low : (problem : Problem) (n destinations resources : ℕ) (values : List Value) → (problem ≡ Cpit → destinations ≡ 1)
-    → Fit (coef_form problem n destinations resources) values
-    → ((coef_said problem values).b < n) × ((coef_said problem values).d < destinations) × ((coef_said problem values).r < resources)
-coef_low Pcpsp n destinations resources values one fit =
-    let form = coef_form Pcpsp n destinations resources in (
-      below_there n _ (fit_at form values 0 any (omega arith) fit),
-      below_there destinations _ (fit_at form values 1 any (omega arith) fit),
-      below_there resources _ (fit_at form values 2 any (omega arith) fit),
-    )
-coef_low Cpit n destinations resources values one fit =
-    let form = coef_form Cpit n destinations resources in
-    let single : destinations ≡ 1 = one refl in
-    let first : 0 < destinations = omega arith in (
-      below_there n _ (fit_at form values 0 any (omega arith) fit),
-      first,
-      below_there resources _ (fit_at form values 1 any (omega arith) fit),
-    )
+-- a coefficient whose values fit is in range
+pub coef_low : (problem : Problem) (n destinations resources : ℕ) (c : Coef) → IsSingle problem destinations → HasDestination problem c
+    → Fit (coef_form problem n destinations resources) (coef_values problem c)
+    → (c.b < n) × (c.d < destinations) × (c.r < resources)
+coef_low Pcpsp n destinations resources c single of_it fit =
+    (whole_low n c.b fit.0, whole_low destinations c.d fit.1.0, whole_low resources c.r fit.1.1.0)
+coef_low Cpit n destinations resources c single of_it fit = (whole_low n c.b fit.0, omega arith, whole_low resources c.r fit.1.0)
 
 -- the fields one by one, as the code reads them before they are counted
 abbrev pub steps_of : Problem → ℕ → ℕ → ℕ → List (List ℕ) → Result Coef TextKind

@@ -1,31 +1,23 @@
 -- Decimals of any size and fields of words, beside whole numbers: which values fit them, and that a line of them is of plain fields.
-use Rattle.std.specs.Prelude.{◌≡◌, Bool, ℕ, zero, suc, ◌/◌, ◌-◌, ◌^◌, ◌<◌, ◌≤◌, length, slice_index_or, true, false, not, List, [], ◌∷◌, ℤ, pos, negsuc, ◌≤ℤ◌, unsigned_abs, Result, Ok, Err}
+use Rattle.std.specs.Prelude.{◌≡◌, Bool, ℕ, zero, suc, ◌-◌, ◌^◌, ◌<◌, length, slice_index_or, true, false, not, List, [], ◌∷◌, ℤ, pos, negsuc, ◌≤ℤ◌, unsigned_abs, Result, Ok, Err}
 use Rattle.std.specs.List.{list_all, list_any}
-use Rattle.std.proofs.Common.{refl, sym, ap, subst, arith}
+use Rattle.std.proofs.Common.{refl, ap, arith}
 use Rattle.std.proofs.lemmas.Int.{ints}
-use Rattle.std.proofs.lemmas.List.Sums.{list_all-from_AllPass}
 use Rattle.pit_units.proofs.Standing.{read_stands}
-use Rattle.pit_units.proofs.Written.{shortest_plain}
-use Rattle.pit_units.specs.Decimal.{decimal_of, decimal_within, kept_within, shortest}
+use Rattle.pit_units.specs.Decimal.{decimal_of, decimal_within, kept_within}
 use Rattle.pit_units.specs.declared.fault.DecFault.{DecFault}
-use Rattle.forms.proofs.FormFacts.{read_spelled, true_le}
-use Rattle.forms.proofs.NumberFields.{quotient, whole_found}
-use Rattle.forms.specs.Words.{Field, Decimal, Stepped, Word, Value, Millionths, Bytes, below, millionths, whole, whole_stated, FitsField, Fit, is_fine, number_or_kind, read, Spell, written, ◌>>=◌}
+use Rattle.forms.proofs.FormFacts.{true_le}
+use Rattle.forms.specs.Words.{Field, Decimal, Stepped, Word, Value, Millionths, Bytes, below, millionths, whole, whole_stated, FitsField, Fit, number_or_kind, Spell, ◌>>=◌}
 use Rattle.text_lines.specs.FieldValues.{decimal_in}
 use Rattle.minelib_lines.specs.Kept.{IsInDecimalRange}
-use Rattle.text_lines.specs.LineKinds.{text_kind, text_kinds}
+use Rattle.text_lines.specs.LineKinds.{text_kind}
 use Rattle.minelib_reading.specs.ItemForms.{bytes_in}
 use Rattle.minelib_reading.specs.ModelLines.{is_colon}
 use Rattle.text_lines.proofs.FieldSteps.{ReadsField}
-use Rattle.minelib_reading.proofs.Keyless.{have_colon, number_no_colon, plain_no_colon}
-use Rattle.text_lines.proofs.PlainText.{EachField, IsField, all_weaker, is_plain, none_from_all, number_byte}
+use Rattle.minelib_reading.proofs.Keyless.{have_colon, keyless, number_field, plain_no_colon}
+use Rattle.text_lines.specs.TextLines.{fields_of}
+use Rattle.text_lines.proofs.PlainText.{EachField, IsField, all_weaker, is_plain, none_from_all}
 use Rattle.minelib_reading.specs.Fields.{any}
-
--- a written decimal is a field
-pub decimal_field : (z : ℤ) → IsInDecimalRange z → IsField (shortest z)
-decimal_field z most =
-    let plain = shortest_plain z most in
-    record { some = plain.some; bytes = list_all-from_AllPass is_plain (shortest z) (λ k d h. number_byte _ (plain.bytes k d h)) }
 
 lowest : (z : ℤ) → IsInDecimalRange z → negsuc (10 ^ 24 - 1) ≤ℤ z
 lowest (pos m) small = omega (arith, ints)
@@ -38,18 +30,14 @@ highest (negsuc m) small = omega (arith, ints)
 pub any_fits : (z : ℤ) → IsInDecimalRange z → FitsField any (Millionths z)
 any_fits z small = (lowest z small, highest z small, small, omega arith)
 
--- the number of a value that fits
-pub number_there : (decimals low high : ℕ) (value : Value) → FitsField (Decimal decimals (pos low) (pos high)) value
-    → (low ≤ unsigned_abs (millionths value)) × (unsigned_abs (millionths value) ≤ high)
-number_there decimals low high (Millionths (pos m)) fits = (omega (arith, ints, fits.0), omega (arith, ints, fits.1))
-number_there decimals low high (Millionths (negsuc m)) fits = absurd (omega (arith, ints, fits.0))
-number_there decimals low high (Bytes word) fits = absurd fits
+-- a whole number that fits is below the limit
+pub whole_low : (limit n : ℕ) → FitsField (below limit) (whole n) → n < limit
+whole_low limit n fits = omega (arith, ints, fits.1)
 
-pub below_there : (limit : ℕ) (value : Value) → FitsField (below limit) value → unsigned_abs (millionths value) / 10 ^ 6 < limit
-below_there limit value fits =
-    let found = whole_found limit value fits in
-    let low : unsigned_abs (millionths (whole found.n)) / 10 ^ 6 < limit = rw (quotient found.n) found.low in
-    subst (λ v. unsigned_abs (millionths v) / 10 ^ 6 < limit) (sym found.is) low
+pub stated_low : (limit : ℕ) (value : Value) → FitsField (below limit) value → whole_stated value < limit
+stated_low limit (Millionths (pos m)) fits = omega (arith, ints, fits.1)
+stated_low limit (Millionths (negsuc m)) fits = absurd (omega (arith, ints, fits.0))
+stated_low limit (Bytes word) fits = absurd fits
 
 -- the value at a place fits the field there
 pub fit_at : (form : List Field) (values : List Value) (place : ℕ) (none : Field) → place < length form → Fit form values
@@ -81,44 +69,33 @@ ArePlain (Decimal decimals low high ∷ form) = ArePlain form
 ArePlain (Stepped decimals step low high ∷ form) = ArePlain form
 ArePlain (Word passes ∷ form) = ((word : List ℕ) → passes word ≡ true → IsField word) × ArePlain form
 
+-- the fields that spell such a form are plain
+pub spelled_fields : (form : List Field) (fields : List (List ℕ)) (values : List Value) → ArePlain form → Spell form fields values
+    → EachField fields
+spelled_fields [] [] [] plain spell = tt
+spelled_fields (Decimal decimals low high ∷ form) (text ∷ fields) (Millionths m ∷ values) plain spell =
+    (number_field decimals text m spell.0.0, spelled_fields form fields values plain spell.1)
+spelled_fields (Decimal decimals low high ∷ form) (text ∷ fields) (Bytes word ∷ values) plain spell = absurd spell.0
+spelled_fields (Stepped decimals step low high ∷ form) (text ∷ fields) (Millionths m ∷ values) plain spell =
+    (number_field decimals text m spell.0.0, spelled_fields form fields values plain spell.1)
+spelled_fields (Stepped decimals step low high ∷ form) (text ∷ fields) (Bytes word ∷ values) plain spell = absurd spell.0
+spelled_fields (Word passes ∷ form) (text ∷ fields) (Millionths m ∷ values) plain spell = absurd spell.0
+spelled_fields (Word passes ∷ form) (text ∷ fields) (Bytes word ∷ values) plain spell =
+    (plain.0 text spell.0.1, spelled_fields form fields values plain.1 spell.1)
+spelled_fields form fields values plain spell = absurd spell
+
+-- so they have no colon
 pub plain_keyless : (bytes : List ℕ) → list_all is_plain bytes ≡ true → list_any is_colon bytes ≡ false
 plain_keyless bytes plain = none_from_all is_colon bytes (all_weaker is_plain (λ c. not (is_colon c)) plain_no_colon bytes plain)
 
--- what spells such a form has no colon
-pub spelled_keyless : (form : List Field) (fields : List (List ℕ)) (values : List Value) → ArePlain form → Spell form fields values
-    → have_colon fields ≡ false
-spelled_keyless [] [] [] plain spell = refl
-spelled_keyless [] [] (value ∷ values) plain spell = absurd spell
-spelled_keyless [] (text ∷ fields) values plain spell = absurd spell
-spelled_keyless (field ∷ form) [] values plain spell = absurd spell
-spelled_keyless (field ∷ form) (text ∷ fields) [] plain spell = absurd spell
-spelled_keyless (Decimal decimals low high ∷ form) (text ∷ fields) (Millionths m ∷ values) plain spell =
-    rw (number_no_colon decimals text m spell.0.0, spelled_keyless form fields values plain spell.1) refl
-spelled_keyless (Decimal decimals low high ∷ form) (text ∷ fields) (Bytes word ∷ values) plain spell = absurd spell.0
-spelled_keyless (Stepped decimals step low high ∷ form) (text ∷ fields) (Millionths m ∷ values) plain spell =
-    rw (number_no_colon decimals text m spell.0.0, spelled_keyless form fields values plain spell.1) refl
-spelled_keyless (Stepped decimals step low high ∷ form) (text ∷ fields) (Bytes word ∷ values) plain spell = absurd spell.0
-spelled_keyless (Word passes ∷ form) (text ∷ fields) (Millionths m ∷ values) plain spell = absurd spell.0
-spelled_keyless (Word passes ∷ form) (text ∷ fields) (Bytes word ∷ values) plain spell =
-    rw (plain_keyless text (plain.0 text spell.0.1).bytes, spelled_keyless form fields values plain.1 spell.1) refl
+fields_keyless : (fields : List (List ℕ)) → EachField fields → have_colon fields ≡ false
+fields_keyless [] each = refl
+fields_keyless (text ∷ fields) each = rw (plain_keyless text each.0.bytes, fields_keyless fields each.1) refl
 
-pub read_keyless : (form : List Field) (fields : List (List ℕ)) (values : List Value) → is_fine form ≡ true → ArePlain form
-    → read text_kinds form fields ≡ Ok values → have_colon fields ≡ false
-read_keyless form fields values fine plain e = spelled_keyless form fields values plain (read_spelled text_kinds form fields values fine e)
-
--- and what is written of values that fit it is of fields
-pub written_fields : (form : List Field) (values : List Value) → ArePlain form → Fit form values → EachField (written values)
-written_fields [] [] plain fit = tt
-written_fields [] (value ∷ values) plain fit = absurd fit
-written_fields (field ∷ form) [] plain fit = absurd fit
-written_fields (Decimal decimals low high ∷ form) (Millionths m ∷ values) plain fit =
-    (decimal_field m fit.0.2, written_fields form values plain fit.1)
-written_fields (Decimal decimals low high ∷ form) (Bytes word ∷ values) plain fit = absurd fit.0
-written_fields (Stepped decimals step low high ∷ form) (Millionths m ∷ values) plain fit =
-    (decimal_field m fit.0.0.2, written_fields form values plain fit.1)
-written_fields (Stepped decimals step low high ∷ form) (Bytes word ∷ values) plain fit = absurd fit.0
-written_fields (Word passes ∷ form) (Millionths m ∷ values) plain fit = absurd fit.0
-written_fields (Word passes ∷ form) (Bytes word ∷ values) plain fit = (plain.0 word fit.0, written_fields form values plain.1 fit.1)
+pub spelled_keyless : (form : List Field) (line : List ℕ) (values : List Value) → ArePlain form → Spell form (fields_of line) values
+    → list_any is_colon line ≡ false
+spelled_keyless form line values plain spell =
+    keyless line (fields_keyless (fields_of line) (spelled_fields form (fields_of line) values plain spell))
 
 -- a number without decimals that fits a range from 0 on is the whole number that it states
 pub whole_itself : (low : ℕ) (high : ℤ) (value : Value) → FitsField (Decimal 0 (pos low) high) value → value ≡ whole (whole_stated value)
@@ -136,13 +113,10 @@ said_in (Word passes) value = Bytes (bytes_in value)
 said_itself : (field : Field) (value : Value) → FitsField field value → value ≡ said_in field value
 said_itself (Decimal zero (pos low) high) value fits = whole_itself low high value fits
 said_itself (Decimal zero (negsuc low) high) (Millionths m) fits = refl
-said_itself (Decimal zero (negsuc low) high) (Bytes word) fits = absurd fits
 said_itself (Decimal (suc decimals) low high) (Millionths m) fits = refl
-said_itself (Decimal (suc decimals) low high) (Bytes word) fits = absurd fits
 said_itself (Stepped decimals step low high) (Millionths m) fits = refl
-said_itself (Stepped decimals step low high) (Bytes word) fits = absurd fits
-said_itself (Word passes) (Millionths m) fits = absurd fits
 said_itself (Word passes) (Bytes word) fits = refl
+said_itself field value fits = absurd fits
 
 abbrev pub said_by : List Field → (ℕ → Value) → List Value
 said_by [] at = []
@@ -152,12 +126,11 @@ said_by (field ∷ form) at = said_in field (at 0) ∷ said_by form (λ place. a
 pub fit_said : (form : List Field) (values : List Value) → Fit form values
     → values ≡ said_by form (λ place. slice_index_or values place (Bytes []))
 fit_said [] [] fit = refl
-fit_said [] (value ∷ values) fit = absurd fit
-fit_said (field ∷ form) [] fit = absurd fit
 fit_said (field ∷ form) (value ∷ values) fit =
     let first = said_itself field value fit.0 in
     let rest = fit_said form values fit.1 in
     λ i. first i ∷ rest i
+fit_said form values fit = absurd fit
 
 -- the word of a value that fits
 pub word_there : (passes : List ℕ → Bool) (value : Value) → FitsField (Word passes) value → passes (bytes_in value) ≡ true

@@ -8,6 +8,7 @@ use Rattle.std.proofs.lemmas.List.FromFn.{fill_by_all}
 use Rattle.std.proofs.lemmas.List.Sums.{AllPass-from_list_all, list_all-from_AllPass}
 use Rattle.minelib_reading.specs.HeaderKeys.{place, number_of, with_key, count_in, is_given, is_complete}
 use Rattle.minelib_reading.specs.ModelLines.{blank_header}
+use Rattle.minelib_reading.specs.SpelledModel.{IsSingle}
 use Rattle.minelib_lines.specs.KeyWords.{has_key, header_keys}
 use Rattle.minelib_reading.specs.inner.ModelParts.{number_limit}
 use Rattle.minelib_reading.specs.declared.model_key.Header.{Header}
@@ -117,3 +118,19 @@ pub contains_cases : (k : HeaderKey) (keys : List HeaderKey) (j : HeaderKey) (i 
     → (k ≡ j) ⊎ Contains keys j
 contains_cases k keys j zero inside is = inl is
 contains_cases k keys j (suc i) inside is = inr (i, omega arith, is)
+
+-- what has no key in the files of a problem is as before the first
+abbrev pub KeepsOwn : Problem → Header → Type 0
+KeepsOwn problem h = (k : HeaderKey) → is_given k (blank_header problem) ≡ true → number_of h k ≡ number_of (blank_header problem) k
+
+pub own_kept : (problem : Problem) (h : Header) (k : HeaderKey) (n : ℕ) → is_given k h ≡ false → KeepsOwn problem h
+    → KeepsOwn problem (with_key h k n)
+own_kept problem h k n new kept =
+    each_with (λ j found. is_given j (blank_header problem) ≡ true → found ≡ number_of (blank_header problem) j) h k n
+    (λ given. (let was : is_given k h ≡ true = ap is_some (kept k given) ∙ given in absurd cc)) (λ j _. kept j)
+
+-- a CPIT has one destination
+pub own_single : (problem : Problem) (h : Header) → KeepsOwn problem h → IsSingle problem (count_in h key.Destinations)
+unfolding with_key
+own_single Pcpsp h own = tt
+own_single Cpit h own = rw (own key.Destinations refl) refl

@@ -13,12 +13,12 @@ use Rattle.minelib_reading.specs.ModelStates.{header_stated}
 use Rattle.minelib_lines.specs.KeyWords.{has_key, type_text}
 use Rattle.minelib_lines.specs.LineValues.{key_value}
 use Rattle.minelib_reading.specs.SpelledLines.{AreLines}
-use Rattle.minelib_reading.specs.SpelledModel.{AreHeaderLines, IsHeaderLine}
+use Rattle.minelib_reading.specs.SpelledModel.{AreHeaderLines, IsHeaderLine, IsSingle}
 use Rattle.minelib_reading.specs.declared.model_key.Header.{Header}
 use Rattle.minelib_lines.specs.declared.header_key.HeaderKey.{HeaderKey}
 use Rattle.minelib_lines.specs.declared.header_key.HeaderKey.TheVariants as key
 use Rattle.text_lines.specs.TextLines.{Line}
-use Rattle.minelib_reading.proofs.HeaderFacts.{each_given, each_with, first_given}
+use Rattle.minelib_reading.proofs.HeaderFacts.{KeepsOwn, each_given, each_with, first_given, own_kept, own_single}
 use Rattle.minelib_reading.proofs.ItemLines.{line_more, lines_weaker}
 
 -- the header's lines so far: one for each key that is given
@@ -28,6 +28,7 @@ pub record Heads (problem : Problem) (n : ℕ) (name : List ℕ) (h : Header) (l
   pub once : AllPairs (λ k j. k ≢ j) keys
   pub given : All (λ k. is_given k h ≡ true) keys
   pub all : (k : HeaderKey) → has_key problem k ≡ true → is_given k h ≡ true → Contains keys k
+  pub own : KeepsOwn problem h
 
 -- another key leaves the value of this one
 count_kept : (h : Header) (k j : HeaderKey) (number : ℕ) → k ≢ j → count_in (with_key h k number) j ≡ count_in h j
@@ -41,13 +42,11 @@ name_kept k value name differ = refl
 value_kept : (problem : Problem) (n : ℕ) (k j : HeaderKey) (value name : List ℕ) (h : Header) (number : ℕ) → k ≢ j
     → key_value (type_text problem) n (header_stated (name_with k value name) (with_key h k number)) j ≡ key_value (type_text problem) n (header_stated name h) j
 value_kept problem n k key.Name value name h number differ = ap Bytes (name_kept k value name differ)
-value_kept problem n k key.Type value name h number differ = refl
-value_kept problem n k key.Blocks value name h number differ = refl
 value_kept problem n k key.Periods value name h number differ = ap whole (count_kept h k key.Periods number differ)
 value_kept problem n k key.Destinations value name h number differ = ap whole (count_kept h k key.Destinations number differ)
 value_kept problem n k key.Resources value name h number differ = ap whole (count_kept h k key.Resources number differ)
-value_kept problem n k key.General value name h number differ = refl
 value_kept problem n k key.Rate value name h number differ = ap (λ m. Millionths (pos m)) (count_kept h k key.Rate number differ)
+value_kept problem n k j value name h number differ = refl
 
 -- a key that is given is that of the line, or was given before it
 given_by : (h : Header) (k : HeaderKey) (n : ℕ) (j : HeaderKey) → is_given j (with_key h k n) ≡ true → (k ≡ j) ⊎ (is_given j h ≡ true)
@@ -65,6 +64,7 @@ heads_none problem n = record {
   once = λ i j d less within. absurd (omega arith);
   given = All-nil (λ k. is_given k (blank_header problem) ≡ true);
   all = λ k has is. absurd (let none = first_given problem k ∙ ap not has in cc);
+  own = λ k given. refl;
 }
 
 pub heads_more : (problem : Problem) (n : ℕ) (k : HeaderKey) (value name : List ℕ) (h : Header) (number : ℕ) (lines : List Line) (line : Line)
@@ -84,6 +84,7 @@ heads_more problem n k value name h number lines line new here heads = record {
     | inl same ↦ subst (Contains (heads.keys ++ k ∷ [])) same (Contains-push heads.keys k)
     | inr was ↦ Contains-append_left heads.keys (k ∷ []) m (heads.all m has was)
   ];
+  own = own_kept problem h k number new heads.own;
 }
   where
     next : Header
@@ -103,11 +104,20 @@ heads_more problem n k value name h number lines line new here heads = record {
     }
 
 -- the lines of a header that lacks no key
+pub record WholeHeader (problem : Problem) (n : ℕ) (name : List ℕ) (h : Header) (lines : List Line) : Type 0 where
+  pub complete : is_complete h ≡ true
+  pub single : IsSingle problem (count_in h key.Destinations)
+  pub spelled : AreHeaderLines problem n lines (header_stated name h)
+
 pub heads_whole : (problem : Problem) (n : ℕ) (name : List ℕ) (h : Header) (lines : List Line) → is_complete h ≡ true
-    → Heads problem n name h lines → AreHeaderLines problem n lines (header_stated name h)
+    → Heads problem n name h lines → WholeHeader problem n name h lines
 heads_whole problem n name h lines complete heads = record {
-  keys = heads.keys;
-  spelled = heads.spelled;
-  once = heads.once;
-  all = λ k has. heads.all k has (each_given h complete k);
+  complete = complete;
+  single = own_single problem h heads.own;
+  spelled = record {
+    keys = heads.keys;
+    spelled = heads.spelled;
+    once = heads.once;
+    all = λ k has. heads.all k has (each_given h complete k);
+  };
 }

@@ -23,7 +23,6 @@ use Rattle.minelib_reading.specs.declared.model_key.Section.{Section}
 use Rattle.minelib_reading.specs.declared.model_key.Section.TheVariants.{Heading, Objective, Coefs, Limits}
 use Rattle.minelib_reading.proofs.HeaderFacts.{of_keys}
 use Rattle.minelib_reading.proofs.Keyless.{have_colon, keyless}
-use Rattle.minelib_reading.proofs.ModelShapes.{next_by}
 
 -- a line with a colon is cut at the first
 colon_inside : (line : List ℕ) → list_any is_colon line ≡ true → position_or_len is_colon line < length line
@@ -139,6 +138,15 @@ key_found problem [] found e = absurd cc
 key_found problem (word ∷ []) found e = record { word = word; alone = refl; is = key_in_is problem word found e }
 key_found problem (word ∷ other ∷ more) found e = absurd cc
 
+-- what holds of each section and the next
+pub next_by : (P : Section → Section → Type 0) → P Heading Objective → P Objective Coefs → P Coefs Limits
+    → (now next : Section) → is_next now next ≡ true → P now next
+next_by P objective coefs limits Heading Objective e = objective
+next_by P objective coefs limits Objective Coefs e = coefs
+next_by P objective coefs limits Coefs Limits e = limits
+next_by P objective coefs limits Limits Heading e = absurd cc
+next_by P objective coefs limits now next e = absurd cc
+
 -- and each key is found
 pub header_found : (problem : Problem) (k : HeaderKey) → has_key problem k ≡ true → key_in problem (key_word k) ≡ Some (model_key.Header k)
 header_found Pcpsp k has =
@@ -160,6 +168,4 @@ header_plain = of_keys (λ k. list_any is_colon (key_word k) ≡ false) refl ref
 
 pub section_plain : (section : Section) → list_any is_colon (section_text section) ≡ false
 section_plain Heading = refl
-section_plain Objective = refl
-section_plain Coefs = refl
-section_plain Limits = refl
+section_plain section = refl

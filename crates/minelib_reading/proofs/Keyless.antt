@@ -1,17 +1,16 @@
--- A line whose fields have no colon has none.
-use Rattle.std.specs.Prelude.{◌≡◌, ℕ, Bool, true, false, not, List, [], ◌∷◌, ◌++◌, ℤ, if◌then◌else◌, ◌⊎◌}
+-- A line whose fields have no colon has none, and the text of a number is a field without one.
+use Rattle.std.specs.Prelude.{◌≡◌, ℕ, Bool, true, false, not, List, [], ◌∷◌, ◌++◌, ◌≤◌, ℤ, if◌then◌else◌, ◌⊎◌}
 use Rattle.std.specs.Char.{is_ascii_digit}
-use Rattle.std.specs.List.{list_any}
-use Rattle.std.proofs.Common.{refl, arith, inl, inr}
-use Rattle.std.proofs.lemmas.Bool.{and_parts, or_parts}
+use Rattle.std.specs.List.{list_all, list_any}
+use Rattle.std.proofs.Common.{refl, arith, inl, inr, length, length-append}
+use Rattle.std.proofs.lemmas.Bool.{or_parts}
 use Rattle.std.proofs.lemmas.Bool.Decides.{nat_tests}
-use Rattle.std.proofs.lemmas.List.Folds.{list_any-append}
 use Rattle.pit_units.specs.Decimal.{all_digits}
 use Rattle.pit_units.specs.StandsFor.{StandsFor}
 use Rattle.records.specs.Cells.{is_blank}
 use Rattle.minelib_reading.specs.ModelLines.{is_colon}
 use Rattle.text_lines.specs.TextLines.{fields_of, is_ended, onto_first}
-use Rattle.text_lines.proofs.PlainText.{is_plain}
+use Rattle.text_lines.proofs.PlainText.{IsField, all_parts, all_weaker, is_plain}
 
 -- a colon stands in some field
 abbrev pub have_colon : List (List ℕ) → Bool
@@ -24,8 +23,8 @@ plain_no_colon c h = grind (arith, nat_tests)
 blank_no_colon : (b : ℕ) → is_blank b ≡ true → is_colon b ≡ false
 blank_no_colon b h = grind (arith, nat_tests)
 
-digit_no_colon : (b : ℕ) → is_ascii_digit b ≡ true → is_colon b ≡ false
-digit_no_colon b h = grind (arith, nat_tests)
+digit_plain : (b : ℕ) → is_ascii_digit b ≡ true → is_plain b ≡ true
+digit_plain b h = grind (arith, nat_tests)
 
 onto_none : (b : ℕ) (fields : List (List ℕ)) → have_colon (onto_first b fields) ≡ false → (is_colon b ≡ false) × (have_colon fields ≡ false)
 onto_none b [] h =
@@ -54,37 +53,27 @@ keyless (b ∷ bytes) h = by (λ none. keyless bytes none) (is_blank b) refl h
     by deeper true blank none = rw (blank_no_colon b blank, deeper none) refl
     by deeper false blank none = let parts = by_end (is_ended bytes) none in rw (parts.0, deeper parts.1) refl
 
-digits_no_colon : (bytes : List ℕ) → all_digits bytes ≡ true → list_any is_colon bytes ≡ false
-digits_no_colon [] h = refl
-digits_no_colon (b ∷ bytes) h =
-    let parts = and_parts (is_ascii_digit b) (all_digits bytes) h in
-    rw (digit_no_colon b parts.0, digits_no_colon bytes parts.1) refl
+digits_plain : (bytes : List ℕ) → all_digits bytes ≡ true → list_all is_plain bytes ≡ true
+digits_plain bytes h = all_weaker is_ascii_digit is_plain digit_plain bytes h
 
-sign_no_colon : (sign : List ℕ) → (sign ≡ []) ⊎ ((sign ≡ 43 ∷ []) ⊎ (sign ≡ 45 ∷ [])) → list_any is_colon sign ≡ false
-sign_no_colon sign s = elim s [
-  | inl none ↦ rw none refl
-  | inr some ↦ elim some [
-    | inl plus ↦ rw plus refl
-    | inr minus ↦ rw minus refl
-  ]
-]
+sign_plain : (sign : List ℕ) → (sign ≡ []) ⊎ ((sign ≡ 43 ∷ []) ⊎ (sign ≡ 45 ∷ [])) → list_all is_plain sign ≡ true
+sign_plain sign (inl none) = rw none refl
+sign_plain sign (inr (inl plus)) = rw plus refl
+sign_plain sign (inr (inr minus)) = rw minus refl
 
-tail_no_colon : (tail fraction : List ℕ) → ((tail ≡ []) × (fraction ≡ [])) ⊎ (tail ≡ 46 ∷ fraction) → all_digits fraction ≡ true
-    → list_any is_colon tail ≡ false
-tail_no_colon tail fraction point digits = elim point [
-  | inl none ↦ rw (none.0) refl
-  | inr some ↦ rw some (digits_no_colon fraction digits)
-]
+-- behind the sign stand digits, some of them behind a point
+tail_plain : (tail fraction : List ℕ) → ((tail ≡ []) × (fraction ≡ [])) ⊎ (tail ≡ 46 ∷ fraction) → all_digits fraction ≡ true
+    → (list_all is_plain tail ≡ true) × (length fraction ≤ length tail)
+tail_plain tail fraction (inl none) digits = (rw (none.0) refl, rw (none.1) (omega arith))
+tail_plain tail fraction (inr some) digits = (rw some (digits_plain fraction digits), rw some (omega arith))
 
--- a decimal text has no colon
-pub number_no_colon : (max : ℕ) (field : List ℕ) (m : ℤ) → StandsFor max field m → list_any is_colon field ≡ false
-number_no_colon max field m s =
+-- a decimal text is a field
+pub number_field : (max : ℕ) (text : List ℕ) (m : ℤ) → StandsFor max text m → IsField text
+number_field max text m s =
     let p = s.spelled in
-    rw (
-      p.joined,
-      list_any-append is_colon s.sign (s.whole ++ s.tail),
-      list_any-append is_colon s.whole s.tail,
-      sign_no_colon s.sign p.signs,
-      digits_no_colon s.whole p.whole_digits,
-      tail_no_colon s.tail s.fraction p.point p.fraction_digits,
-    ) refl
+    let tail = tail_plain s.tail s.fraction p.point p.fraction_digits in
+    rw p.joined (record {
+      some = omega (arith, p.some_digit, tail.1, length-append s.sign (s.whole ++ s.tail), length-append s.whole s.tail);
+      bytes = all_parts is_plain s.sign (s.whole ++ s.tail) (sign_plain s.sign p.signs)
+          (all_parts is_plain s.whole s.tail (digits_plain s.whole p.whole_digits) tail.0);
+    })

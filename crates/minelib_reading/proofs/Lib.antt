@@ -1,11 +1,11 @@
 pub mod BlockLineFacts
 pub mod CoefLineFacts
 pub mod CountedLater
+pub mod Finished
 pub mod FormFields
 pub mod HeaderFacts
 pub mod HeaderLines
 pub mod ItemLines
-pub mod ItemsKeyless
 pub mod KeyLines
 pub mod Keyless
 pub mod LimitLineFacts
@@ -18,14 +18,11 @@ pub mod ModelSteps
 pub mod Places
 pub mod PrecLineFacts
 pub mod PrecTests
-pub mod Rising
 pub mod ShapeSteps
 pub mod SpelledDenotes
-pub mod SpelledItems
 pub mod SpelledModelBack
 pub mod SpelledModelRead
 pub mod SpelledRead
-pub mod ValidHeader
 pub mod ValidModel
 pub mod ValidRead
 pub mod ValuesLineFacts

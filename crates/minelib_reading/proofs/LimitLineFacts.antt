@@ -19,7 +19,7 @@ use Rattle.minelib_reading.specs.inner.UncountedItems.{bound_in, limit_width}
 use Rattle.text_lines.specs.declared.text_fault.TextKind.{TextKind}
 use Rattle.text_lines.specs.declared.text_fault.TextKind.TheVariants.{Fields}
 use Rattle.text_lines.proofs.FieldSteps.{first_step, said_of, whole_reads}
-use Rattle.minelib_reading.proofs.FormFields.{ArePlain, any_fits, any_reads, below_there, fit_at, fit_said, word_there}
+use Rattle.minelib_reading.proofs.FormFields.{ArePlain, any_fits, any_reads, fit_at, fit_said, word_there}
 use Rattle.text_lines.proofs.PlainText.{IsField}
 use Rattle.minelib_reading.specs.ItemForms.{bound_form, bound_said, bytes_in, limit_form, limit_said}
 use Rattle.minelib_lines.specs.LineValues.{bound_values, limit_values}
@@ -62,7 +62,7 @@ said_again resource period (AtMost v) = rw (quotient resource, quotient period) 
 said_again resource period (AtLeast v) = rw (quotient resource, quotient period) refl
 said_again resource period (Between v w) = rw (quotient resource, quotient period) refl
 
--- the values of a limit in range fit, and are in range where they fit
+-- the values of a limit in range fit
 pub limit_fits : (n resources periods : ℕ) (l : Limit) → resources ≤ 10 ^ 18 → periods ≤ 10 ^ 18 → l.resource < resources
     → l.period < periods
     → HasDecimals l.bound → Fit (limit_form resources periods (written (limit_values l))) (limit_values l)
@@ -74,14 +74,6 @@ limit_fits n resources periods l few short low_r low_t decimals =
     of (AtMost v) decimals = (refl, (any_fits v decimals, tt))
     of (AtLeast v) decimals = (refl, (any_fits v decimals, tt))
     of (Between v w) decimals = (refl, (any_fits v decimals.0, (any_fits w decimals.1, tt)))
-
-pub limit_low : (resources periods : ℕ) (fields : List (List ℕ)) (values : List Value) → Fit (limit_form resources periods fields) values
-    → ((limit_said values).resource < resources) × ((limit_said values).period < periods)
-limit_low resources periods fields values fit =
-    let form = limit_form resources periods fields in (
-      below_there resources _ (fit_at form values 0 any (omega arith) fit),
-      below_there periods _ (fit_at form values 1 any (omega arith) fit),
-    )
 
 -- the bound's fields one by one, where there are as many as there have to be
 abbrev BoundMet : Bool → ℕ → ℕ → List (List ℕ) → Type 0
@@ -110,13 +102,7 @@ bound_met false r t (letter ∷ v ∷ []) is count =
     by (Ok z) false true e is_l is_g = rw (is_l, is_g, any_reads v, e, quotient r, quotient t, is_l, is_g) refl
     by (Err kind) false true e is_l is_g = rw (is_l, is_g, any_reads v, e) refl
     by z false false e is_l is_g = rw (is_l, is_g, is) refl
-bound_met true r t [] is count = absurd (omega (arith, count))
-bound_met true r t (a ∷ []) is count = absurd (omega (arith, count))
-bound_met true r t (a ∷ b ∷ []) is count = absurd (omega (arith, count))
-bound_met true r t (a ∷ b ∷ c ∷ d ∷ more) is count = absurd (omega (arith, count))
-bound_met false r t [] is count = absurd (omega (arith, count))
-bound_met false r t (a ∷ []) is count = absurd (omega (arith, count))
-bound_met false r t (a ∷ b ∷ c ∷ more) is count = absurd (omega (arith, count))
+bound_met interval r t rest is count = absurd (omega (arith, count))
 
 -- the fields are read one by one once they are counted
 pub limit_same : (resources periods : ℕ) (fields : List (List ℕ))

@@ -13,15 +13,13 @@ use Rattle.text_lines.specs.declared.text_fault.TextKind.{TextKind}
 
 pub key_of_one : (problem : Problem) (fields : List (List ℕ)) (word : List ℕ) → only_value fields ≡ Ok word
     → key_of problem fields ≡ key_in problem word
-key_of_one problem [] word e = absurd (cc)
 key_of_one problem (value ∷ []) word e = ap (key_in problem) (cc)
-key_of_one problem (value ∷ other ∷ more) word e = absurd (cc)
+key_of_one problem fields word e = absurd (cc)
 
 pub key_of_none : (problem : Problem) (fields : List (List ℕ)) (kind : TextKind) → only_value fields ≡ Err kind
     → key_of problem fields ≡ None
-key_of_none problem [] kind e = refl
 key_of_none problem (value ∷ []) kind e = absurd (cc)
-key_of_none problem (value ∷ other ∷ more) kind e = refl
+key_of_none problem fields kind e = refl
 
 -- where a byte is found it stands at the first place, and where none is found none stands
 pub place_found : (p : ℕ → Bool) (xs : List ℕ) (k : ℕ) → position p xs ≡ Some k → (position_or_len p xs ≡ k) × (list_any p xs ≡ true)

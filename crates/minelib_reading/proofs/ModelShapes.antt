@@ -1,10 +1,9 @@
 -- The shapes of a model file's lines: each is what its parts are, read one by one, and no number of a form has more than six decimals.
-use Rattle.std.specs.Prelude.{◌≡◌, ℕ, suc, ◌==◌, ◌&&◌, ◌||◌, not, Bool, true, false, List, [], ◌∷◌, ◌++◌, length, Option, Some, None, ℤ, unsigned_abs, Result, Ok, Err, if◌then◌else◌}
+use Rattle.std.specs.Prelude.{◌≡◌, ℕ, suc, ◌==◌, ◌&&◌, ◌||◌, not, Bool, true, false, List, [], ◌∷◌, ◌++◌, length, Option, Some, None, ℤ, unsigned_abs, Result, Ok, Err, if◌then◌else◌, slice_index_or, codes}
 use Rattle.std.specs.List.{list_any, before_first, after_first}
-use Rattle.std.proofs.Common.{refl, arith}
+use Rattle.std.proofs.Common.{refl, ◌∙◌, ap, arith}
 use Rattle.std.proofs.lemmas.Bool.{ne_eqb}
-use Rattle.forms.proofs.ShapeFacts.{said_states}
-use Rattle.forms.specs.Words.{Value, Bytes, millionths, whole_at, whole_stated, is_fine, read, read_field, HasFineForms, placed, read_all, Shape, check, failing, unless, States, ◌>>=◌}
+use Rattle.forms.specs.Words.{Value, Bytes, millionths, whole_at, whole_stated, is_fine, read, read_field, HasFineForms, placed, read_all, Shape, check, failing, unless, ◌>>=◌, Field}
 use Rattle.pit_parts.specs.Name.{is_name}
 use Rattle.pit_parts.specs.PlanKept.{is_turned, stands_before}
 use Rattle.mine_instance.specs.Order.{coef_comes_before}
@@ -25,36 +24,57 @@ use Rattle.minelib_reading.specs.declared.model_key.Section.{Section}
 use Rattle.minelib_reading.specs.declared.model_key.Section.TheVariants.{Heading, Objective, Coefs, Limits}
 use Rattle.text_lines.specs.declared.text_fault.TextKind.{TextKind}
 use Rattle.text_lines.specs.declared.text_fault.TextKind.TheVariants.{Fields, Order, Count, Name, Twice, Key, Missing}
-use Rattle.minelib_reading.proofs.CoefLineFacts.{coef_fine}
-use Rattle.minelib_reading.proofs.LimitLineFacts.{limit_fine}
-use Rattle.minelib_reading.proofs.ValuesLineFacts.{many_fine}
+use Rattle.minelib_lines.specs.KeyWords.{has_key, key_word}
+use Rattle.minelib_reading.specs.SpelledKeys.{IsKeyLine, section_text}
+use Rattle.minelib_reading.proofs.CoefLineFacts.{coef_fine, coef_plain}
+use Rattle.minelib_reading.proofs.KeyLines.{key_found, key_line}
+use Rattle.minelib_reading.proofs.LimitLineFacts.{limit_fine, bound_plain}
+use Rattle.minelib_reading.proofs.ValuesLineFacts.{many_fine, many_plain}
+use Rattle.std.specs.Str.{bytes_eq}
+use Rattle.pit_parts.specs.declared.limit.Limit.{Limit}
+use Rattle.mine_instance.specs.declared.coef.Coef.{Coef}
+use Rattle.minelib_reading.proofs.FormFields.{ArePlain, spelled_keyless}
+use Rattle.forms.proofs.FormFacts.{read_spelled}
+use Rattle.text_lines.proofs.ReadSteps.{bind_then}
 
 -- what holds of each shape holds of a line's
-pub each_line : (P : Shape TextKind ModelDraftView → Type 0) (d : ModelDraftView) → P (stray_line d)
-    → ((k : HeaderKey) (fields : List (List ℕ)) → P (header_line d k fields))
-    → ((section : Section) (fields : List (List ℕ)) → P (section_line d section fields))
-    → (d.section ≡ Objective → (fields : List (List ℕ)) → P (values_line d fields))
-    → (d.section ≡ Coefs → (fields : List (List ℕ)) → P (coef_line d fields))
-    → (d.section ≡ Limits → (fields : List (List ℕ)) → P (limit_line d fields))
-    → (line : List ℕ) → P (model_line d line)
-each_line P d stray header section values coef limit line = by (list_any is_colon line)
+pub each_line : (P : Shape TextKind ModelDraftView → Type 0) (d : ModelDraftView) (line : List ℕ) → P (stray_line d)
+    → ((k : HeaderKey) (fields : List (List ℕ)) → IsKeyLine (key_word k) line fields → has_key d.problem k ≡ true → P (header_line d k fields))
+    → ((section : Section) (fields : List (List ℕ)) → IsKeyLine (section_text section) line fields → P (section_line d section fields))
+    → (d.section ≡ Objective → P (values_line d (fields_of line)))
+    → (d.section ≡ Coefs → P (coef_line d (fields_of line)))
+    → (d.section ≡ Limits → P (limit_line d (fields_of line)))
+    → P (model_line d line)
+each_line P d line stray header section values coef limit = by (list_any is_colon line) refl
   where
-    keyed : (found : Option ModelKey) (fields : List (List ℕ)) → P (keyed_line d found fields)
-    keyed None fields = stray
-    keyed (Some (model_key.Header k)) fields = header k fields
-    keyed (Some (model_key.Section s)) fields = section s fields
+    front : List (List ℕ)
+    front = fields_of (before_first is_colon line)
+
+    fields : List (List ℕ)
+    fields = fields_of (after_first is_colon line)
+
+    cut : (word : List ℕ) → list_any is_colon line ≡ true → front ≡ word ∷ [] → IsKeyLine word line fields
+    cut word colon alone = key_line word line fields (record { colon = colon; key_is = alone; fields_are = refl })
+
+    keyed : (found : Option ModelKey) → list_any is_colon line ≡ true → key_of d.problem front ≡ found → P (keyed_line d found fields)
+    keyed None colon e = stray
+    keyed (Some (model_key.Header k)) colon e =
+        let found = key_found d.problem front (model_key.Header k) e in
+        header k fields (cut (key_word k) colon (found.alone ∙ ap (λ word. word ∷ []) found.is.0)) found.is.1
+    keyed (Some (model_key.Section s)) colon e =
+        let found = key_found d.problem front (model_key.Section s) e in
+        section s fields (cut (section_text s) colon (found.alone ∙ ap (λ word. word ∷ []) found.is))
 
     item : (s : Section) → d.section ≡ s → P (item_line d s (fields_of line))
     item Heading here = stray
-    item Objective here = values here (fields_of line)
-    item Coefs here = coef here (fields_of line)
-    item Limits here = limit here (fields_of line)
+    item Objective here = values here
+    item Coefs here = coef here
+    item Limits here = limit here
 
-    by : (t : Bool)
-        → P (if t then keyed_line d (key_of d.problem (fields_of (before_first is_colon line))) (fields_of (after_first is_colon line))
-        else item_line d d.section (fields_of line))
-    by true = keyed (key_of d.problem (fields_of (before_first is_colon line))) (fields_of (after_first is_colon line))
-    by false = item d.section refl
+    by : (t : Bool) → list_any is_colon line ≡ t
+        → P (if t then keyed_line d (key_of d.problem front) fields else item_line d d.section (fields_of line))
+    by true colon = keyed (key_of d.problem front) colon refl
+    by false none = item d.section refl
 
 pub field_fine : (problem : Problem) (k : HeaderKey) → is_fine (field_of problem k ∷ []) ≡ true
 field_fine problem key.Name = refl
@@ -63,19 +83,13 @@ field_fine problem k = refl
 pub line_fine : (d : ModelDraftView) (line : List ℕ) → is_fine (model_line d line).form ≡ true
 unfolding stray_line header_line section_line values_line coef_line limit_line
 line_fine d line =
-    each_line (λ shape. is_fine shape.form ≡ true) d refl (λ k fields. field_fine d.problem k) (λ section fields. refl)
-    (λ _ fields. many_fine (count_in d.header key.Destinations))
-    (λ _ fields. coef_fine d.problem d.blocks (count_in d.header key.Destinations) (count_in d.header key.Resources))
-    (λ _ fields. limit_fine (count_in d.header key.Resources) (count_in d.header key.Periods) fields) line
+    each_line (λ shape. is_fine shape.form ≡ true) d line refl (λ k fields _ _. field_fine d.problem k) (λ section fields _. refl)
+    (λ _. many_fine (count_in d.header key.Destinations))
+    (λ _. coef_fine d.problem d.blocks (count_in d.header key.Destinations) (count_in d.header key.Resources))
+    (λ _. limit_fine (count_in d.header key.Resources) (count_in d.header key.Periods) (fields_of line))
 
 pub all_fine : HasFineForms model_grammar
 all_fine = λ number d line. line_fine d line.text
-
--- a line that is admitted states what it leaves
-pub admitted_states : (d : ModelDraftView) (line : List ℕ) (next : ModelDraftView) → admit_model d line ≡ Ok next
-    → States (model_line d line) next
-unfolding admit_model takes
-admitted_states d line next e = said_states (model_line d line) next (line_fine d line) e
 
 -- lines that are read one after the other are those of the grammar
 pub lines_are_all : (number : ℕ) (d : ModelDraftView) (lines : List Line)
@@ -230,22 +244,28 @@ limit_takes d fields =
     by false true next = refl
     by false false next = refl
 
--- what holds of each section and the next
-pub next_by : (P : Section → Section → Type 0) → P Heading Objective → P Objective Coefs → P Coefs Limits
-    → (now next : Section) → is_next now next ≡ true → P now next
-next_by P objective coefs limits Heading Objective e = objective
-next_by P objective coefs limits Objective Coefs e = coefs
-next_by P objective coefs limits Coefs Limits e = limits
-next_by P objective coefs limits Heading Heading e = absurd cc
-next_by P objective coefs limits Heading Coefs e = absurd cc
-next_by P objective coefs limits Heading Limits e = absurd cc
-next_by P objective coefs limits Objective Heading e = absurd cc
-next_by P objective coefs limits Objective Objective e = absurd cc
-next_by P objective coefs limits Objective Limits e = absurd cc
-next_by P objective coefs limits Coefs Heading e = absurd cc
-next_by P objective coefs limits Coefs Objective e = absurd cc
-next_by P objective coefs limits Coefs Coefs e = absurd cc
-next_by P objective coefs limits Limits Heading e = absurd cc
-next_by P objective coefs limits Limits Objective e = absurd cc
-next_by P objective coefs limits Limits Coefs e = absurd cc
-next_by P objective coefs limits Limits Limits e = absurd cc
+item_keyless : {A : Type 0} (form : List Field) (line : List ℕ) (said : List Value → Result A TextKind) (item : A)
+    → is_fine form ≡ true → ArePlain form → (read text_kinds form (fields_of line) >>= said) ≡ Ok item → list_any is_colon line ≡ false
+item_keyless form line said item fine plain e =
+    bind_then (read text_kinds form (fields_of line)) said item e (λ values read _.
+    spelled_keyless form line values plain (read_spelled text_kinds form (fields_of line) values fine read))
+
+pub values_keyless : (n destinations before : ℕ) (line : List ℕ) (row : List ℤ)
+    → values_of n destinations before (fields_of line) ≡ Ok row → list_any is_colon line ≡ false
+unfolding values_of
+values_keyless n destinations before line row e =
+    item_keyless (values_form n destinations) line (values_said before) row (many_fine destinations) (many_plain destinations) e
+
+pub coef_keyless : (problem : Problem) (n destinations resources : ℕ) (line : List ℕ) (coef : Coef)
+    → coef_of problem n destinations resources (fields_of line) ≡ Ok coef → list_any is_colon line ≡ false
+unfolding coef_of
+coef_keyless problem n destinations resources line coef e =
+    item_keyless (coef_form problem n destinations resources) line _ coef
+    (coef_fine problem n destinations resources) (coef_plain problem n destinations resources) e
+
+pub limit_keyless : (resources periods : ℕ) (line : List ℕ) (limit : Limit)
+    → limit_of resources periods (fields_of line) ≡ Ok limit → list_any is_colon line ≡ false
+unfolding limit_of
+limit_keyless resources periods line limit e =
+    item_keyless (limit_form resources periods (fields_of line)) line _ limit (limit_fine resources periods (fields_of line))
+    (bound_plain (bytes_eq (slice_index_or (fields_of line) 2 []) (codes "I"))) e

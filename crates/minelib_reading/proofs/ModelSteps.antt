@@ -1,6 +1,5 @@
 -- What a line of a model file that states something spells, and what it makes of what stood before.
-use Rattle.std.specs.Prelude.{◌≡◌, ℕ, ◌==◌, ◌&&◌, not, Bool, true, false, List, [], ◌∷◌, ◌++◌, length, ℤ, Option, Some, None, pos, negsuc, if◌then◌else◌}
-use Rattle.std.specs.List.{list_any, before_first, after_first}
+use Rattle.std.specs.Prelude.{◌≡◌, ℕ, ◌==◌, ◌&&◌, not, true, false, List, [], ◌∷◌, ◌++◌, length, ℤ, None, pos, negsuc}
 use Rattle.std.proofs.Common.{refl, sym, ◌∙◌, ap, subst, arith, eq-eqb}
 use Rattle.std.proofs.lemmas.Bool.{and_parts, eqb-true, not-true}
 use Rattle.std.proofs.lemmas.Int.{ints}
@@ -12,29 +11,23 @@ use Rattle.pit_parts.specs.declared.limit.Limit.{Limit}
 use Rattle.pit_parts.specs.PlanKept.{is_turned, stands_before}
 use Rattle.mine_instance.specs.Order.{coef_comes_before}
 use Rattle.mine_instance.specs.declared.coef.Coef.{Coef}
-use Rattle.text_lines.specs.TextLines.{fields_of}
 use Rattle.text_lines.specs.declared.text_fault.TextKind.TheVariants.{Order, Count, Twice, Key, Missing}
 use Rattle.minelib_lines.specs.LineValues.{coef_values, key_value, limit_values, values_values}
 use Rattle.minelib_lines.specs.declared.problem.Problem.{Problem}
 use Rattle.minelib_reading.specs.HeaderKeys.{count_in, is_given, with_key}
 use Rattle.minelib_reading.specs.ItemForms.{bytes_in, coef_form, coef_said, limit_form, limit_said, row_said, values_form}
 use Rattle.minelib_reading.specs.KeyFields.{field_of, number_said}
-use Rattle.minelib_reading.specs.ModelLines.{ModelDraftView, coef_line, first_of, header_line, is_behind, is_colon, is_counted, is_heading, is_next, is_ready, item_line, key_of, keyed_line, last_of, limit_line, model_line, name_with, section_line, stray_line, values_line}
+use Rattle.minelib_reading.specs.ModelLines.{ModelDraftView, coef_line, first_of, header_line, is_behind, is_counted, is_heading, is_next, is_ready, last_of, limit_line, name_with, section_line, stray_line, values_line}
 use Rattle.minelib_reading.specs.ModelStates.{header_stated}
 use Rattle.minelib_reading.specs.SpelledModel.{SpellCoef, SpellLimit, SpellValues}
-use Rattle.minelib_lines.specs.KeyWords.{has_key, key_word, type_text}
-use Rattle.minelib_reading.specs.SpelledKeys.{IsKeyLine, section_text}
+use Rattle.minelib_lines.specs.KeyWords.{type_text}
 use Rattle.minelib_reading.specs.declared.model_key.Header.{Header}
 use Rattle.minelib_lines.specs.declared.header_key.HeaderKey.{HeaderKey}
 use Rattle.minelib_lines.specs.declared.header_key.HeaderKey.TheVariants as key
-use Rattle.minelib_reading.specs.declared.model_key.ModelKey.{ModelKey}
-use Rattle.minelib_reading.specs.declared.model_key.ModelKey.TheVariants as model_key
 use Rattle.minelib_reading.specs.declared.model_key.Section.{Section}
-use Rattle.minelib_reading.specs.declared.model_key.Section.TheVariants.{Heading, Objective, Coefs, Limits}
 use Rattle.minelib_reading.proofs.CoefLineFacts.{coef_are, coef_fine, said_again as coef_said_again, said_destination}
 use Rattle.minelib_reading.proofs.FormFields.{whole_itself}
 use Rattle.minelib_reading.proofs.HeaderFacts.{count_there}
-use Rattle.minelib_reading.proofs.KeyLines.{key_found, key_line}
 use Rattle.minelib_reading.proofs.LimitLineFacts.{limit_are, limit_fine, said_again as limit_said_again}
 use Rattle.minelib_reading.proofs.ModelShapes.{field_fine}
 use Rattle.minelib_reading.proofs.ShapeSteps.{met, passed}
@@ -56,26 +49,6 @@ pub record BeginsSection (d : ModelDraftView) (section : Section) (fields : List
   pub none : fields ≡ []
   pub ready : is_ready d d.section ≡ true
   pub is : next ≡ record d { section = section }
-
--- the fields of a block's values
-pub record AddsValues (d : ModelDraftView) (fields : List (List ℕ)) (next : ModelDraftView) : Type 0 where
-  pub values : List ℤ
-  pub spelled : SpellValues d.blocks (header_stated d.name d.header) (length d.values) fields values
-  pub is : next ≡ record d { values = d.values ++ values ∷ [] }
-
--- of a coefficient
-pub record AddsCoef (d : ModelDraftView) (fields : List (List ℕ)) (next : ModelDraftView) : Type 0 where
-  pub coef : Coef
-  pub spelled : SpellCoef d.problem d.blocks (header_stated d.name d.header) fields coef
-  pub behind : is_behind coef_comes_before (last_of d.coefs) coef ≡ true
-  pub is : next ≡ record d { coefs = d.coefs ++ coef ∷ [] }
-
--- of a limit
-pub record AddsLimit (d : ModelDraftView) (fields : List (List ℕ)) (next : ModelDraftView) : Type 0 where
-  pub limit : Limit
-  pub spelled : SpellLimit (header_stated d.name d.header) fields limit
-  pub behind : is_behind stands_before (last_of d.limits) limit ≡ true
-  pub is : next ≡ record d { limits = d.limits ++ limit ∷ [] }
 
 -- what a value that fits states is what the header then states by its key
 said : (problem : Problem) (n : ℕ) (k : HeaderKey) (text : List ℕ) (value : Value) (name : List ℕ) (h : Header)
@@ -148,11 +121,9 @@ key_step d next k fields s = by fields s.values s.spelled s.last s.is
               (subst (Says (field_of d.problem k) text) stated spelled.0);
           is = same;
         }
-    by [] values spelled none is = absurd spelled
-    by (text ∷ []) [] spelled none is = absurd spelled
     by (text ∷ []) (value ∷ other ∷ more) spelled none is = absurd spelled.1
-    by (text ∷ other ∷ more) [] spelled none is = absurd spelled
     by (text ∷ other ∷ more) (value ∷ values) spelled none is = absurd spelled.1
+    by fields values spelled none is = absurd spelled
 
 -- the value spells what is then stated by its key
 pub key_spelled : (d next : ModelDraftView) (k : HeaderKey) (fields : List (List ℕ)) → States (header_line d k fields) next
@@ -176,37 +147,69 @@ section_step d next section fields s = record {
     empty [] values spelled = refl
     empty (field ∷ fields) values spelled = absurd spelled
 
-pub values_step : (d next : ModelDraftView) (fields : List (List ℕ)) → States (values_line d fields) next → AddsValues d fields next
+-- a line adds the values of a block, a coefficient or a limit just where its fields spell it, and where it comes behind the last one
+pub values_step : (d next : ModelDraftView) (fields : List (List ℕ)) → States (values_line d fields) next
+    → (vs : List ℤ) × (next ≡ record d { values = d.values ++ vs ∷ [] })
+    × SpellValues d.blocks (header_stated d.name d.header) (length d.values) fields vs
 unfolding values_line
 values_step d next fields s =
     let destinations = count_in d.header key.Destinations in
     let form = values_form d.blocks destinations in
     let fit = spelled_fit form fields s.values (many_fine destinations) s.spelled in
     let place = eqb-true (whole_at s.values 0) (length d.values) (passed Order (whole_at s.values 0 == length d.values) [] s.last).0 in
-    record {
-      values = row_said s.values;
-      spelled = subst (Spell form fields) (values_are d.blocks destinations (length d.values) s.values fit place) s.spelled;
-      is = s.is;
-    }
+    (row_said s.values, s.is, subst (Spell form fields) (values_are d.blocks destinations (length d.values) s.values fit place) s.spelled)
 
-pub coef_step : (d next : ModelDraftView) (fields : List (List ℕ)) → States (coef_line d fields) next → AddsCoef d fields next
+pub values_back : (d next : ModelDraftView) (fields : List (List ℕ))
+    → (vs : List ℤ) × (next ≡ record d { values = d.values ++ vs ∷ [] })
+    × SpellValues d.blocks (header_stated d.name d.header) (length d.values) fields vs
+    → States (values_line d fields) next
+unfolding values_line
+values_back d next fields (vs, is, spelled) = record {
+  first = refl;
+  values = values_values (length d.values) vs;
+  spelled = spelled;
+  last = met Order (whole_at (values_values (length d.values) vs) 0 == length d.values) []
+      (rw (quotient (length d.values)) (eq-eqb (length d.values) (length d.values) refl)) refl;
+  is = is ∙ ap (λ row. record d { values = d.values ++ row ∷ [] }) (sym (many_again vs));
+}
+
+pub coef_step : (d next : ModelDraftView) (fields : List (List ℕ)) → States (coef_line d fields) next
+    → (c : Coef) × (next ≡ record d { coefs = d.coefs ++ c ∷ [] })
+    × SpellCoef d.problem d.blocks (header_stated d.name d.header) fields c × (is_behind coef_comes_before (last_of d.coefs) c ≡ true)
 unfolding coef_line
 coef_step d next fields s =
     let destinations = count_in d.header key.Destinations in
     let resources = count_in d.header key.Resources in
     let form = coef_form d.problem d.blocks destinations resources in
-    let fit = spelled_fit form fields s.values (coef_fine d.problem d.blocks destinations resources) s.spelled in
-    record {
-      coef = coef_said d.problem s.values;
-      spelled = (
+    let fit = spelled_fit form fields s.values (coef_fine d.problem d.blocks destinations resources) s.spelled in (
+      coef_said d.problem s.values,
+      s.is,
+      (
         subst (Spell form fields) (coef_are d.problem d.blocks destinations resources s.values fit) s.spelled,
         said_destination d.problem s.values,
-      );
-      behind = (passed Order (is_behind coef_comes_before (last_of d.coefs) (coef_said d.problem s.values)) [] s.last).0;
-      is = s.is;
+      ),
+      (passed Order (is_behind coef_comes_before (last_of d.coefs) (coef_said d.problem s.values)) [] s.last).0,
+    )
+
+pub coef_back : (d next : ModelDraftView) (fields : List (List ℕ))
+    → (c : Coef) × (next ≡ record d { coefs = d.coefs ++ c ∷ [] })
+    × SpellCoef d.problem d.blocks (header_stated d.name d.header) fields c × (is_behind coef_comes_before (last_of d.coefs) c ≡ true)
+    → States (coef_line d fields) next
+unfolding coef_line
+coef_back d next fields (c, is, spelled, behind) =
+    let same = coef_said_again d.problem c spelled.1 in
+    record {
+      first = refl;
+      values = coef_values d.problem c;
+      spelled = spelled.0;
+      last = met Order (is_behind coef_comes_before (last_of d.coefs) (coef_said d.problem (coef_values d.problem c))) []
+          (ap (is_behind coef_comes_before (last_of d.coefs)) same ∙ behind) refl;
+      is = is ∙ ap (λ c. record d { coefs = d.coefs ++ c ∷ [] }) (sym same);
     }
 
-pub limit_step : (d next : ModelDraftView) (fields : List (List ℕ)) → States (limit_line d fields) next → AddsLimit d fields next
+pub limit_step : (d next : ModelDraftView) (fields : List (List ℕ)) → States (limit_line d fields) next
+    → (l : Limit) × (next ≡ record d { limits = d.limits ++ l ∷ [] })
+    × SpellLimit (header_stated d.name d.header) fields l × (is_behind stands_before (last_of d.limits) l ≡ true)
 unfolding limit_line
 limit_step d next fields s =
     let resources = count_in d.header key.Resources in
@@ -215,50 +218,19 @@ limit_step d next fields s =
     let fit = spelled_fit form fields s.values (limit_fine resources periods fields) s.spelled in
     let limit = limit_said s.values in
     let in_order = and_parts (not (is_turned limit.bound)) (is_behind stands_before (last_of d.limits) limit)
-    (passed Order (not (is_turned limit.bound) && is_behind stands_before (last_of d.limits) limit) [] s.last).0 in
-    record {
-      limit = limit;
-      spelled = (
-        subst (Spell form fields) (limit_are resources periods fields s.values fit) s.spelled,
-        not-true (is_turned limit.bound) in_order.0,
-      );
-      behind = in_order.1;
-      is = s.is;
-    }
+    (passed Order (not (is_turned limit.bound) && is_behind stands_before (last_of d.limits) limit) [] s.last).0 in (
+      limit,
+      s.is,
+      (subst (Spell form fields) (limit_are resources periods fields s.values fit) s.spelled, not-true (is_turned limit.bound) in_order.0),
+      in_order.1,
+    )
 
--- fields that spell an item behind those before it state it
-pub values_back : (d : ModelDraftView) (fields : List (List ℕ)) (vs : List ℤ)
-    → SpellValues d.blocks (header_stated d.name d.header) (length d.values) fields vs
-    → States (values_line d fields) (record d { values = d.values ++ vs ∷ [] })
-unfolding values_line
-values_back d fields vs spelled = record {
-  first = refl;
-  values = values_values (length d.values) vs;
-  spelled = spelled;
-  last = met Order (whole_at (values_values (length d.values) vs) 0 == length d.values) []
-      (rw (quotient (length d.values)) (eq-eqb (length d.values) (length d.values) refl)) refl;
-  is = ap (λ row. record d { values = d.values ++ row ∷ [] }) (sym (many_again vs));
-}
-
-pub coef_back : (d : ModelDraftView) (fields : List (List ℕ)) (c : Coef)
-    → SpellCoef d.problem d.blocks (header_stated d.name d.header) fields c → is_behind coef_comes_before (last_of d.coefs) c ≡ true
-    → States (coef_line d fields) (record d { coefs = d.coefs ++ c ∷ [] })
-unfolding coef_line
-coef_back d fields c spelled behind =
-    let same = coef_said_again d.problem c spelled.1 in
-    record {
-      first = refl;
-      values = coef_values d.problem c;
-      spelled = spelled.0;
-      last = met Order (is_behind coef_comes_before (last_of d.coefs) (coef_said d.problem (coef_values d.problem c))) []
-          (ap (is_behind coef_comes_before (last_of d.coefs)) same ∙ behind) refl;
-      is = ap (λ c. record d { coefs = d.coefs ++ c ∷ [] }) (sym same);
-    }
-
-pub limit_back : (d : ModelDraftView) (fields : List (List ℕ)) (l : Limit) → SpellLimit (header_stated d.name d.header) fields l
-    → is_behind stands_before (last_of d.limits) l ≡ true → States (limit_line d fields) (record d { limits = d.limits ++ l ∷ [] })
+pub limit_back : (d next : ModelDraftView) (fields : List (List ℕ))
+    → (l : Limit) × (next ≡ record d { limits = d.limits ++ l ∷ [] })
+    × SpellLimit (header_stated d.name d.header) fields l × (is_behind stands_before (last_of d.limits) l ≡ true)
+    → States (limit_line d fields) next
 unfolding limit_line
-limit_back d fields l spelled behind =
+limit_back d next fields (l, is, spelled, behind) =
     let same : limit_said (limit_values l) ≡ l = limit_said_again l.resource l.period l.bound in
     record {
       first = refl;
@@ -267,53 +239,9 @@ limit_back d fields l spelled behind =
       last = met Order (not (is_turned (limit_said (limit_values l)).bound)
           && is_behind stands_before (last_of d.limits) (limit_said (limit_values l))) []
           (ap (λ l. not (is_turned l.bound) && is_behind stands_before (last_of d.limits) l) same ∙ rw (spelled.1, behind) refl) refl;
-      is = ap (λ l. record d { limits = d.limits ++ l ∷ [] }) (sym same);
+      is = is ∙ ap (λ l. record d { limits = d.limits ++ l ∷ [] }) (sym same);
     }
 
--- a line that states something
-pub data Step (d : ModelDraftView) (line : List ℕ) (next : ModelDraftView) : Type 0 where
-  Keyed : (k : HeaderKey) (fields : List (List ℕ)) → IsKeyLine (key_word k) line fields → has_key d.problem k ≡ true
-      → SetsKey d k fields next → Step d line next
-  Begun : (section : Section) (fields : List (List ℕ)) → IsKeyLine (section_text section) line fields
-      → BeginsSection d section fields next → Step d line next
-  Valued : d.section ≡ Objective → AddsValues d (fields_of line) next → Step d line next
-  Spent : d.section ≡ Coefs → AddsCoef d (fields_of line) next → Step d line next
-  Limited : d.section ≡ Limits → AddsLimit d (fields_of line) next → Step d line next
-
-no_stray : (d next : ModelDraftView) → States (stray_line d) next → ⊥
+pub no_stray : (d next : ModelDraftView) → States (stray_line d) next → ⊥
 unfolding stray_line
 no_stray d next s = let never = (passed Key false [] s.first).0 in cc
-
-pub model_step : (d next : ModelDraftView) (line : List ℕ) → States (model_line d line) next → Step d line next
-model_step d next line s = by (list_any is_colon line) refl s
-  where
-    keyed : (found : Option ModelKey) → list_any is_colon line ≡ true → key_of d.problem (fields_of (before_first is_colon line)) ≡ found
-        → States (keyed_line d found (fields_of (after_first is_colon line))) next → Step d line next
-    keyed None colon e s = absurd (no_stray d next s)
-    keyed (Some (model_key.Header k)) colon e s =
-        let found = key_found d.problem (fields_of (before_first is_colon line)) (model_key.Header k) e in
-        let fields = fields_of (after_first is_colon line) in
-        Keyed k fields
-        (key_line (key_word k) line fields
-        (record { colon = colon; key_is = found.alone ∙ ap (λ word. word ∷ []) found.is.0; fields_are = refl }))
-        found.is.1 (key_step d next k fields s)
-    keyed (Some (model_key.Section section)) colon e s =
-        let found = key_found d.problem (fields_of (before_first is_colon line)) (model_key.Section section) e in
-        let fields = fields_of (after_first is_colon line) in
-        Begun section fields
-        (key_line (section_text section) line fields
-        (record { colon = colon; key_is = found.alone ∙ ap (λ word. word ∷ []) found.is; fields_are = refl }))
-        (section_step d next section fields s)
-
-    item : (section : Section) → d.section ≡ section → States (item_line d section (fields_of line)) next → Step d line next
-    item Heading here s = absurd (no_stray d next s)
-    item Objective here s = Valued here (values_step d next (fields_of line) s)
-    item Coefs here s = Spent here (coef_step d next (fields_of line) s)
-    item Limits here s = Limited here (limit_step d next (fields_of line) s)
-
-    by : (t : Bool) → list_any is_colon line ≡ t
-        → States (if t then keyed_line d (key_of d.problem (fields_of (before_first is_colon line))) (fields_of (after_first is_colon line))
-        else item_line d d.section (fields_of line)) next
-        → Step d line next
-    by true colon s = keyed (key_of d.problem (fields_of (before_first is_colon line))) colon refl s
-    by false none s = item d.section refl s

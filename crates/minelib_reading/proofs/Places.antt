@@ -1,9 +1,11 @@
--- An item of a list, behind those before it.
-use Rattle.std.proofs.Common.{◌≡◌, ◌-◌, ◌<◌, Bool, true, List, [], ◌∷◌, ◌++◌, length, get_or, arith, refl, ◌∙◌, ap, subst, length-append}
-use Rattle.std.specs.Prelude.{All, AllPairs, IsTrue}
+-- Items of a list, behind those before them; a list in which each comes behind the last before it rises.
+use Rattle.std.proofs.Common.{◌≡◌, ◌-◌, ◌<◌, Bool, true, List, [], ◌∷◌, ◌++◌, length, get_or, arith, refl, ◌∙◌, ap, subst, length-append, sym, inl, inr}
+use Rattle.std.specs.Prelude.{All, AllPairs, IsTrue, ℕ}
 use Rattle.std.proofs.lemmas.List.{get_or_at, get_or_append_left}
 use Rattle.std.proofs.lemmas.Option.{slice_get-get_or}
 use Rattle.minelib_reading.specs.ModelLines.{last_of, is_behind}
+use Rattle.std.proofs.lemmas.Bool.{cases_lt}
+use Rattle.std.proofs.lemmas.List.Quantifiers.{all_pairs_push}
 
 module _ {A : Type 0} (all done : List A) (x : A) (rest : List A) (whole : all ≡ done ++ x ∷ rest) where
   -- its place is the number of those before it
@@ -27,3 +29,22 @@ behind_last before all (y ∷ ys) x rest whole h =
     ap (λ items. get_or items last x) whole ∙ get_or_append_left (y ∷ ys) (x ∷ rest) x last (omega arith) in
     let rising = h last (length (y ∷ ys)) x (omega arith) (is_place all (y ∷ ys) x rest whole) in
     rw (slice_get-get_or (y ∷ ys) last x (omega arith), ← front) (rw (stands_there all (y ∷ ys) x rest whole x) at rising)
+
+behind_each : {A : Type 0} (before : A → A → Bool)
+    → ((x y z : A) → IsTrue (before x y) → IsTrue (before y z) → IsTrue (before x z))
+    → (items : List A) (x : A) → AllPairs (λ a b. IsTrue (before a b)) items → is_behind before (last_of items) x ≡ true
+    → (k : ℕ) (d : A) → k < length items → IsTrue (before (get_or items k d) x)
+behind_each before through items x rising behind k d within = elim (cases_lt k (length items - 1)) [
+  | inl low ↦ through (get_or items k d) (get_or items (length items - 1) d) x (rising k (length items - 1) d low (omega arith)) end
+  | inr high ↦ (let e : length items - 1 ≡ k = omega arith in subst (λ n. IsTrue (before (get_or items n d) x)) e end)
+]
+  where
+    end : before (get_or items (length items - 1) d) x ≡ true
+    end = ap (λ o. is_behind before o x) (sym (slice_get-get_or items (length items - 1) d (omega arith))) ∙ behind
+
+pub rises_behind : {A : Type 0} (before : A → A → Bool)
+    → ((x y z : A) → IsTrue (before x y) → IsTrue (before y z) → IsTrue (before x z))
+    → (items : List A) (x : A) → AllPairs (λ a b. IsTrue (before a b)) items → is_behind before (last_of items) x ≡ true
+    → AllPairs (λ a b. IsTrue (before a b)) (items ++ x ∷ [])
+rises_behind before through items x rising behind =
+    all_pairs_push (λ a b. IsTrue (before a b)) items x rising (behind_each before through items x rising behind)

@@ -57,14 +57,13 @@ preds_back n own line ids spelled are =
 wholes_found : (n : ℕ) (fields : List (List ℕ)) (values : List Value) → Fit (map (λ field. below n) fields) values
     → All (λ id. id < n) (map whole_stated values) × (values ≡ map whole (map whole_stated values))
 wholes_found n [] [] fit = (All-nil (λ id. id < n), refl)
-wholes_found n [] (value ∷ values) fit = absurd fit
-wholes_found n (field ∷ fields) [] fit = absurd fit
 wholes_found n (field ∷ fields) (value ∷ values) fit =
     let here = whole_found n value fit.0 in
     let is : whole_stated value ≡ here.n = ap whole_stated here.is ∙ quotient here.n in
     let same : value ≡ whole (whole_stated value) = here.is ∙ ap whole (sym is) in
     let rest = wholes_found n fields values fit.1 in
     (All-cons (λ id. id < n) (whole_stated value) (map whole_stated values) (omega (arith, here.low, is)) rest.0, λ i. same i ∷ rest.1 i)
+wholes_found n fields values fit = absurd fit
 
 pub parts : (n own : ℕ) (fields : List (List ℕ)) (values : List Value) → Fit (preds_form n fields) values → whole_at values 0 ≡ own
     → whole_at values 1 ≡ length (preds_of values) → All (λ id. id < n) (preds_of values) × (values ≡ preds_values own (preds_of values))

@@ -3,8 +3,8 @@ use Rattle.std.specs.Prelude.{◌≡◌, ℕ, List, [], ◌∷◌, length, map, 
 use Rattle.std.specs.List.{flat_map}
 use Rattle.std.proofs.Common.{refl, sym, ◌∙◌, ap, subst, arith}
 use Rattle.std.proofs.lemmas.List.Elements.{All-head, All-tail}
-use Rattle.forms.proofs.GrammarFacts.{all_read, read_all_states}
-use Rattle.forms.specs.Words.{read_all, AllState, Spell, ◌>>=◌}
+use Rattle.minelib_reading.proofs.Finished.{finished_states, states_finished}
+use Rattle.forms.specs.Words.{AllState, Spell}
 use Rattle.mine_instance.specs.Cpit.{CpitParts}
 use Rattle.mine_instance.specs.CpitKept.{cpit_of}
 use Rattle.mine_instance.specs.OfCpit.{without_destination}
@@ -17,7 +17,7 @@ use Rattle.minelib_lines.specs.LineValues.{at_only_destination, block_values, pr
 use Rattle.mine_instance.specs.Instance.{Instance}
 use Rattle.minelib_reading.specs.BlockLines.{block_form, block_grammar, block_shape, blocks_in}
 use Rattle.minelib_reading.specs.Denotes.{instance_read, denoted, Denotes, cpit_read, cpit_denoted, DenotesCpit}
-use Rattle.minelib_reading.specs.ModelLines.{ModelDraftView, blank_model, finish_model, is_whole, model_grammar, model_in}
+use Rattle.minelib_reading.specs.ModelLines.{ModelDraftView, blank_model, is_whole, model_grammar, model_in}
 use Rattle.minelib_reading.specs.ModelStates.{StateModel, stated_by}
 use Rattle.minelib_reading.specs.PrecLines.{prec_grammar, preds_form, preds_in, preds_shape}
 use Rattle.text_lines.specs.Reading.{in_file}
@@ -26,36 +26,28 @@ use Rattle.minelib_reading.specs.SpelledModel.{AreModelLines}
 use Rattle.minelib_reading.specs.StatedModel.{StatedModel, alone, model_of, model_of_cpit}
 use Rattle.minelib_lines.specs.declared.header_key.HeaderKey.TheVariants as key
 use Rattle.minelib_reading.specs.SpelledTexts.{SpellBlocks, SpellCpit, SpellInstance, SpellPreds}
-use Rattle.text_lines.specs.TextLines.{end_of, fields_of, lines_in}
+use Rattle.text_lines.specs.TextLines.{fields_of, lines_in}
 use Rattle.minelib_lines.specs.declared.problem.Problem.{Problem}
 use Rattle.minelib_lines.specs.declared.problem.Problem.TheVariants as problem
 use Rattle.text_lines.specs.declared.text_fault.TextFile.TheVariants.{Blocks, Prec, Pcpsp, Cpit}
-use Rattle.text_lines.specs.declared.text_fault.TextKind.TheVariants.{Missing}
 use Rattle.minelib_reading.proofs.BlockLineFacts.{block_back, block_line}
 use Rattle.minelib_reading.proofs.ModelShapes.{all_fine}
 use Rattle.minelib_reading.proofs.PrecLineFacts.{preds_back, preds_line}
-use Rattle.minelib_reading.proofs.SpelledItems.{items_spelled, spelled_items}
-use Rattle.text_lines.proofs.ReadSteps.{bind_then, same_ok, in_file_ok, then_ok}
+use Rattle.minelib_reading.proofs.ItemLines.{items_spelled, spelled_items}
+use Rattle.text_lines.proofs.ReadSteps.{bind_then, same_ok, in_file_ok}
 use Rattle.minelib_reading.proofs.SpelledModelBack.{spelled_stated}
 use Rattle.minelib_reading.proofs.SpelledModelRead.{stated_spelled}
-use Rattle.minelib_reading.proofs.ValidHeader.{one_destination}
-use Rattle.minelib_reading.proofs.ValidModel.{model_kept}
+use Rattle.minelib_reading.proofs.ValidModel.{spelled_model}
 use Rattle.minelib_reading.proofs.SpelledRead.{blocks_back, blocks_spelled, lists_back, preds_spelled}
 
 -- what is read the lines state by the grammar, and what they state is read
 pub model_states : (problem : Problem) (n : ℕ) (text : List ℕ) (d : ModelDraftView) → model_in problem n text ≡ Ok d
     → StateModel problem n (lines_in text) d
-model_states problem n text d e =
-    bind_then (read_all model_grammar 1 (blank_model problem n) (lines_in text)) (finish_model (end_of text)) d e (λ last read rest.
-    let t = then_ok (is_whole last) (record { line = end_of text; kind = Missing }) (Ok last) d rest in
-    subst (StateModel problem n (lines_in text)) (same_ok last d t.1)
-    (read_all_states model_grammar 1 (blank_model problem n) (lines_in text) last all_fine read, t.0))
+model_states problem n text d e = finished_states model_grammar all_fine (blank_model problem n) (lines_in text) is_whole _ d e
 
 pub states_back : (problem : Problem) (n : ℕ) (text : List ℕ) (d : ModelDraftView) → StateModel problem n (lines_in text) d
     → model_in problem n text ≡ Ok d
-states_back problem n text d are =
-    ap (λ r. r >>= finish_model (end_of text)) (all_read model_grammar 1 (blank_model problem n) (lines_in text) d all_fine are.0)
-    ∙ rw (are.1) refl
+states_back problem n text d are = states_finished model_grammar all_fine (blank_model problem n) (lines_in text) is_whole _ d are.0 are.1
 
 -- so they spell what is read, and what they spell is read
 pub model_spelled : (problem : Problem) (n : ℕ) (text : List ℕ) (d : ModelDraftView) → model_in problem n text ≡ Ok d
@@ -69,15 +61,15 @@ model_back problem n text m are =
     (b.0, states_back problem n text b.0 b.1, b.2)
 
 -- the lines of blocks and of predecessors, in the format's words and by the grammar
-blocks_lines : (text : List ℕ) (blocks : List Block) → AllState block_grammar 1 [] (lines_in text) blocks → SpellBlocks text blocks
+pub blocks_lines : (text : List ℕ) (blocks : List Block) → AllState block_grammar 1 [] (lines_in text) blocks → SpellBlocks text blocks
 blocks_lines text blocks all =
     items_spelled block_shape (λ id line b. Spell block_form (fields_of line) (block_values id b))
-    (λ id line b states. (block_line id line b states).1) 1 (lines_in text) blocks all
+    block_line 1 (lines_in text) blocks all
 
 lines_blocks : (text : List ℕ) (blocks : List Block) → SpellBlocks text blocks → AllState block_grammar 1 [] (lines_in text) blocks
 lines_blocks text blocks are =
     spelled_items block_shape (λ id line b. Spell block_form (fields_of line) (block_values id b))
-    (λ id line b spelled. block_back id b line spelled) 1 (lines_in text) blocks are
+    (λ id line b spelled. block_back id b line spelled) (lines_in text) blocks are
 
 preds_lines : (n : ℕ) (text : List ℕ) (lists : List (List ℕ))
     → (length lists ≡ n) × AllState (prec_grammar n) 1 [] (lines_in text) lists → SpellPreds n text lists
@@ -85,7 +77,7 @@ preds_lines n text lists (count, all) = (
   count,
   items_spelled (preds_shape n)
       (λ own line ids. Spell (preds_form n (fields_of line)) (fields_of line) (preds_values own ids) × ArePredsOf own n ids)
-      (λ own line ids states. preds_line n own line ids states) 1 (lines_in text) lists all,
+      (preds_line n) 1 (lines_in text) lists all,
 )
 
 lines_preds : (n : ℕ) (text : List ℕ) (lists : List (List ℕ)) → SpellPreds n text lists
@@ -93,7 +85,7 @@ lines_preds : (n : ℕ) (text : List ℕ) (lists : List (List ℕ)) → SpellPre
 lines_preds n text lists are =
     spelled_items (preds_shape n)
     (λ own line ids. Spell (preds_form n (fields_of line)) (fields_of line) (preds_values own ids) × ArePredsOf own n ids)
-    (λ own line ids h. preds_back n own line ids h.0 h.1) 1 (lines_in text) lists are.1
+    (λ own line ids h. preds_back n own line ids h.0 h.1) (lines_in text) lists are.1
 
 pub denoted_spelled : (blocks prec pcpsp : List ℕ) (i : Instance) → Denotes blocks prec pcpsp i → SpellInstance blocks prec pcpsp i
 unfolding denoted
@@ -126,10 +118,9 @@ spelled_denoted blocks prec pcpsp i h =
 each_alone : (rows : List (List ℤ)) → All (λ row. length row ≡ 1) rows → map alone (flat_map (λ values. values) rows) ≡ rows
 each_alone [] one = refl
 each_alone ((v ∷ []) ∷ rows) one = ap (λ more. (v ∷ []) ∷ more) (each_alone rows (All-tail (λ row. length row ≡ 1) (v ∷ []) rows one))
-each_alone ([] ∷ rows) one = absurd (omega (arith, All-head (λ row. length row ≡ 1) [] rows one))
-each_alone ((v ∷ w ∷ row) ∷ rows) one = absurd (omega (arith, All-head (λ row. length row ≡ 1) (v ∷ w ∷ row) rows one))
+each_alone (row ∷ rows) one = absurd (omega (arith, All-head (λ row. length row ≡ 1) row rows one))
 
-pub values_joined : (values : List ℤ) → flat_map (λ values. values) (map alone values) ≡ values
+values_joined : (values : List ℤ) → flat_map (λ values. values) (map alone values) ≡ values
 values_joined [] = refl
 values_joined (v ∷ values) = ap (λ more. v ∷ more) (values_joined values)
 
@@ -141,7 +132,7 @@ all_first (c ∷ coefs) of_it =
     let rest = all_first coefs (All-tail (λ (c : Coef). c.d ≡ 0) c coefs of_it) in
     λ i. record c { d = first i } ∷ rest i
 
-pub coefs_without : (coefs : List CpitCoef) → map without_destination (map at_only_destination coefs) ≡ coefs
+coefs_without : (coefs : List CpitCoef) → map without_destination (map at_only_destination coefs) ≡ coefs
 coefs_without [] = refl
 coefs_without (c ∷ coefs) = ap (λ more. c ∷ more) (coefs_without coefs)
 
@@ -151,10 +142,10 @@ cpit_spelled n text c e =
     bind_then (in_file Cpit (model_in problem.Cpit n text)) _ c e (λ d e1 rest.
     let read = in_file_ok Cpit _ d e1 in
     let are = model_spelled problem.Cpit n text d read in
-    let kept = model_kept problem.Cpit n 1 (lines_in text) d (model_states problem.Cpit n text d read).0 in
-    let one = one_destination d.header kept.header.own in
-    let rows = sym (each_alone d.values (subst (λ k. All (λ values. length values ≡ k) d.values) one kept.values)) in
-    let first : All (λ c. c.d ≡ 0) d.coefs = λ i c within. let low = kept.coefs.in_range i c within in omega (arith, low.1, one) in
+    let model = spelled_model problem.Cpit n (lines_in text) (stated_by d) are in
+    let one = model.single in
+    let rows = sym (each_alone d.values (subst (λ k. All (λ values. length values ≡ k) d.values) one model.destinations.one_each)) in
+    let first : All (λ c. c.d ≡ 0) d.coefs = λ i c within. let low = model.coefs.in_range i c within in omega (arith, low.1, one) in
     let coefs = sym (all_first d.coefs first) in
     let same : stated_by d ≡ model_of_cpit (cpit_read d) =
     λ i. record {

@@ -2,7 +2,7 @@
 use Rattle.std.specs.Prelude.{◌≡◌, ◌≢◌, ℕ, suc, ◌+◌, ◌==◌, true, false, not, List, [], ◌∷◌, ◌++◌, length, ℤ, pos, unsigned_abs, Some, None, is_some, unwrap_or, AllPairs, codes, slice_index_or}
 use Rattle.std.specs.List.{Contains}
 use Rattle.std.specs.Str.{bytes_eq}
-use Rattle.std.proofs.Common.{refl, sym, ◌∙◌, ap, subst, arith, inl, inr, append_assoc, append-nil, length-append, eq-eqb}
+use Rattle.std.proofs.Common.{refl, sym, ◌∙◌, ap, subst, arith, inl, inr, eq-eqb}
 use Rattle.std.proofs.lemmas.Bool.{cases_Bool}
 use Rattle.forms.proofs.NumberFields.{quotient}
 use Rattle.forms.specs.Words.{Field, Value, whole, whole_stated, AllState, check, failing, States, Spell}
@@ -33,9 +33,9 @@ use Rattle.minelib_reading.specs.declared.model_key.Section.TheVariants.{Heading
 use Rattle.minelib_reading.proofs.CoefLineFacts.{coef_plain}
 use Rattle.minelib_reading.proofs.FormFields.{ArePlain, from_zero, spelled_keyless}
 use Rattle.minelib_reading.proofs.HeaderFacts.{all_given, contains_cases, each_with, first_given, with_same}
-use Rattle.minelib_reading.proofs.ItemLines.{items_keep}
+use Rattle.minelib_reading.proofs.ItemLines.{items_state}
+use Rattle.minelib_reading.proofs.ValidModel.{in_both, key_fits}
 use Rattle.minelib_reading.proofs.KeyLines.{cut_line, header_found, header_plain, section_found, section_plain}
-use Rattle.minelib_reading.proofs.Keyless.{keyless}
 use Rattle.minelib_reading.proofs.LimitLineFacts.{bound_plain}
 use Rattle.minelib_reading.proofs.ModelSteps.{coef_back, limit_back, values_back}
 use Rattle.minelib_reading.proofs.LinesThen.{StateAny, draft, heading, line_then, lines_then}
@@ -68,7 +68,7 @@ counted problem n m key.Blocks = met Count (whole_stated (whole n) == n) [] (rw 
 counted problem n m k = refl
 
 -- a key's line adds what the header states by it
-key_states : (d : ModelDraftView) (m : StatedHeader) (k : HeaderKey) (line : List ℕ) → is_heading d.section ≡ true
+pub key_states : (d : ModelDraftView) (m : StatedHeader) (k : HeaderKey) (line : List ℕ) → is_heading d.section ≡ true
     → is_given k d.header ≡ false → IsHeaderLine d.problem d.blocks m line k
     → States (model_line d line) (record d { header = with_key d.header k (told m k); name = name_with k m.name d.name })
 unfolding header_line
@@ -89,7 +89,7 @@ key_states d m k line in_heading new l =
     })
 
 -- the line that begins a section
-section_states : (d : ModelDraftView) (section : Section) (line : List ℕ) → IsKeyLine (section_text section) line []
+pub section_states : (d : ModelDraftView) (section : Section) (line : List ℕ) → IsKeyLine (section_text section) line []
     → is_next d.section section ≡ true → is_ready d d.section ≡ true → States (model_line d line) (record d { section = section })
 unfolding section_line
 section_states d section line l follows ready =
@@ -108,51 +108,38 @@ section_states d section line l follows ready =
 item_states : (d next : ModelDraftView) (line : List ℕ) (form : List Field) (values : List Value) → ArePlain form
     → Spell form (fields_of line) values → States (item_line d d.section (fields_of line)) next → States (model_line d line) next
 item_states d next line form values plain spelled states =
-    let none = keyless line (spelled_keyless form (fields_of line) values plain spelled) in
+    let none = spelled_keyless form line values plain spelled in
     let here : model_line d line ≡ item_line d d.section (fields_of line) = rw none refl in
     subst (λ shape. States shape next) (sym here) states
 
-values_states : (p : Problem) (n : ℕ) (name : List ℕ) (h : Header) (done : List (List ℤ)) (vs : List ℤ) (line : List ℕ)
-    → SpellValues n (header_stated name h) (length done) (fields_of line) vs
-    → States (model_line (draft p n name h Objective done [] []) line) (draft p n name h Objective (done ++ vs ∷ []) [] [])
-values_states p n name h done vs line spelled =
-    let d = draft p n name h Objective done [] [] in
-    item_states d _ line (values_form n (count_in h key.Destinations)) (values_values (length done) vs)
-    (many_plain (count_in h key.Destinations)) spelled (values_back d (fields_of line) vs spelled)
+pub values_states : (d : ModelDraftView) (vs : List ℤ) (line : List ℕ)
+    → SpellValues d.blocks (header_stated d.name d.header) (length d.values) (fields_of line) vs
+    → States (model_line (record d { section = Objective }) line) (record d { section = Objective; values = d.values ++ vs ∷ [] })
+values_states d vs line spelled =
+    let destinations = count_in d.header key.Destinations in
+    let at : ModelDraftView = record d { section = Objective } in
+    item_states at _ line (values_form d.blocks destinations) (values_values (length d.values) vs) (many_plain destinations) spelled
+    (values_back at _ (fields_of line) (vs, refl, spelled))
 
-coef_states : (p : Problem) (n : ℕ) (name : List ℕ) (h : Header) (values : List (List ℤ)) (done : List Coef) (c : Coef) (line : List ℕ)
-    → SpellCoef p n (header_stated name h) (fields_of line) c → is_behind coef_comes_before (last_of done) c ≡ true
-    → States (model_line (draft p n name h Coefs values done []) line) (draft p n name h Coefs values (done ++ c ∷ []) [])
-coef_states p n name h values done c line spelled behind =
-    let d = draft p n name h Coefs values done [] in
-    let destinations = count_in h key.Destinations in
-    let resources = count_in h key.Resources in
-    item_states d _ line (coef_form p n destinations resources) (coef_values p c) (coef_plain p n destinations resources) spelled.0
-    (coef_back d (fields_of line) c spelled behind)
+coef_states : (d : ModelDraftView) (c : Coef) (line : List ℕ)
+    → SpellCoef d.problem d.blocks (header_stated d.name d.header) (fields_of line) c
+    → is_behind coef_comes_before (last_of d.coefs) c ≡ true
+    → States (model_line (record d { section = Coefs }) line) (record d { section = Coefs; coefs = d.coefs ++ c ∷ [] })
+coef_states d c line spelled behind =
+    let destinations = count_in d.header key.Destinations in
+    let resources = count_in d.header key.Resources in
+    let at : ModelDraftView = record d { section = Coefs } in
+    item_states at _ line (coef_form d.problem d.blocks destinations resources) (coef_values d.problem c)
+    (coef_plain d.problem d.blocks destinations resources) spelled.0 (coef_back at _ (fields_of line) (c, refl, spelled, behind))
 
-limit_states : (p : Problem) (n : ℕ) (name : List ℕ) (h : Header) (values : List (List ℤ)) (coefs : List Coef) (done : List Limit) (l : Limit)
-    (line : List ℕ)
-    → SpellLimit (header_stated name h) (fields_of line) l → is_behind stands_before (last_of done) l ≡ true
-    → States (model_line (draft p n name h Limits values coefs done) line) (draft p n name h Limits values coefs (done ++ l ∷ []))
-limit_states p n name h values coefs done l line spelled behind =
-    let d = draft p n name h Limits values coefs done in
-    item_states d _ line (limit_form (count_in h key.Resources) (count_in h key.Periods) (fields_of line)) (limit_values l)
-    (bound_plain (bytes_eq (slice_index_or (fields_of line) 2 []) (codes "I"))) spelled.0 (limit_back d (fields_of line) l spelled behind)
-
--- lines that spell items, each of which is stated behind those before it
-items_state : {A : Type 0} (Spells : ℕ → List ℕ → A → Type 0) (state : List A → ModelDraftView) (all : List A)
-    → ((done : List A) (x : A) (rest : List A) (line : List ℕ) → all ≡ done ++ x ∷ rest → Spells (length done) line x
-    → States (model_line (state done) line) (state (done ++ x ∷ [])))
-    → (i : ℕ) (done rest : List A) (lines : List Line) → i ≡ length done → all ≡ done ++ rest → AreLines Spells i lines rest
-    → StateAny (state done) lines (state all)
-items_state Spells state all each i done [] [] count cut are = λ number. ap state (cut ∙ append-nil done)
-items_state Spells state all each i done (x ∷ rest) [] count cut are = absurd are
-items_state Spells state all each i done [] (line ∷ lines) count cut are = absurd are
-items_state Spells state all each i done (x ∷ rest) (line ∷ lines) count cut are =
-    line_then (state done) (state (done ++ x ∷ [])) (state all) line lines
-    (each done x rest line.text cut (subst (λ k. Spells k line.text x) count are.0))
-    (items_state Spells state all each (i + 1) (done ++ x ∷ []) rest lines (omega (arith, length-append done (x ∷ []), count))
-    (cut ∙ sym (append_assoc done (x ∷ []) rest)) are.1)
+limit_states : (d : ModelDraftView) (l : Limit) (line : List ℕ) → SpellLimit (header_stated d.name d.header) (fields_of line) l
+    → is_behind stands_before (last_of d.limits) l ≡ true
+    → States (model_line (record d { section = Limits }) line) (record d { section = Limits; limits = d.limits ++ l ∷ [] })
+limit_states d l line spelled behind =
+    let at : ModelDraftView = record d { section = Limits } in
+    item_states at _ line (limit_form (count_in d.header key.Resources) (count_in d.header key.Periods) (fields_of line)) (limit_values l)
+    (bound_plain (bytes_eq (slice_index_or (fields_of line) 2 []) (codes "I"))) spelled.0
+    (limit_back at _ (fields_of line) (l, refl, spelled, behind))
 
 -- the NAME is the value of its key
 abbrev IsNameOf : HeaderKey → List ℕ → List ℕ → Type 0
@@ -186,8 +173,6 @@ walk : (problem : Problem) (n : ℕ) (m : StatedHeader) (i : ℕ) (lines : List 
     → ((k : HeaderKey) → Contains keys k → has_key problem k ≡ true → is_given k h ≡ false) → Walked problem n m keys lines name h
 walk problem n m i [] [] name h are once fresh =
     record { last_name = name; last = h; states = λ number. refl; kept = λ k was. was; all = λ k c. absurd (omega (arith, c.1)) }
-walk problem n m i [] (k ∷ keys) name h are once fresh = absurd are
-walk problem n m i (line ∷ lines) [] name h are once fresh = absurd are
 walk problem n m i (line ∷ lines) (k ∷ keys) name h are once fresh =
     let number = told m k in
     let next_name = name_with k m.name name in
@@ -213,13 +198,14 @@ walk problem n m i (line ∷ lines) (k ∷ keys) name h are once fresh =
         | inr there ↦ more.all j there
       ];
     }
+walk problem n m i lines keys name h are once fresh = absurd are
 
 -- what has no key stands before the first
-without : (problem : Problem) (m : StatedHeader) (k : HeaderKey) → has_key problem k ≡ false → (problem ≡ Cpit → m.destinations ≡ 1)
+without : (problem : Problem) (m : StatedHeader) (k : HeaderKey) → has_key problem k ≡ false → IsSingle problem m.destinations
     → Has m k [] (blank_header problem)
 unfolding with_key
 without Pcpsp m k e single = absurd cc
-without Cpit m key.Destinations e single = (ap Some (sym (single refl)), tt)
+without Cpit m key.Destinations e single = (ap Some (sym single), tt)
 without Cpit m key.General e single = (refl, tt)
 without Cpit m k e single = absurd cc
 
@@ -231,24 +217,7 @@ record HasHeader (problem : Problem) (n : ℕ) (m : StatedHeader) (lines : List 
   pub complete : is_complete h ≡ true
   pub stated : header_stated name h ≡ m
 
--- the rate is not negative
-rate_line : (problem : Problem) (n : ℕ) (m : StatedHeader) (line : List ℕ) (k : HeaderKey) → IsHeaderLine problem n m line k → k ≡ key.Rate
-    → pos (unsigned_abs m.rate) ≡ m.rate
-rate_line problem n m line k h is =
-    from_zero m.rate (subst (λ k. IsHeaderLine problem n m line k) is h).says.1
-
-has_rate : (problem : Problem) → has_key problem key.Rate ≡ true
-has_rate Pcpsp = refl
-has_rate Cpit = refl
-
-rated : (problem : Problem) (n : ℕ) (lines : List Line) (m : StatedHeader) → AreHeaderLines problem n lines m → pos (unsigned_abs m.rate) ≡ m.rate
-rated problem n lines m h =
-    let each = items_keep (λ _ line k. IsHeaderLine problem n m line k) (λ k. k ≡ key.Rate → pos (unsigned_abs m.rate) ≡ m.rate)
-    (λ _ line k l is. rate_line problem n m line k l is) 0 lines h.keys h.spelled in
-    let there = h.all key.Rate (has_rate problem) in
-    each there.0 key.Rate there.1 there.2
-
-header_back : (problem : Problem) (n : ℕ) (m : StatedHeader) (lines : List Line) → (problem ≡ Cpit → m.destinations ≡ 1)
+header_back : (problem : Problem) (n : ℕ) (m : StatedHeader) (lines : List Line) → IsSingle problem m.destinations
     → AreHeaderLines problem n lines m → HasHeader problem n m lines
 header_back problem n m lines single are =
     let w = walk problem n m 0 lines are.keys [] (blank_header problem) are.spelled are.once
@@ -259,6 +228,7 @@ header_back problem n m lines single are =
       | inr none ↦ w.kept k (without problem m k none single)
     ] in
     let count : (k : HeaderKey) → count_in w.last k ≡ told m k = λ k. ap (λ number. unwrap_or number 0) (each k).0 in
+    let rate = from_zero m.rate (key_fits problem n lines m are key.Rate (in_both problem key.Rate refl)).0 in
     record {
       name = w.last_name;
       h = w.last;
@@ -269,13 +239,9 @@ header_back problem n m lines single are =
         periods = count key.Periods i;
         destinations = count key.Destinations i;
         resources = count key.Resources i;
-        rate = (ap pos (count key.Rate) ∙ rated problem n lines m are) i;
+        rate = (ap pos (count key.Rate) ∙ rate) i;
       };
     }
-
-single : (problem : Problem) (destinations : ℕ) → IsSingle problem destinations → problem ≡ Cpit → destinations ≡ 1
-single Pcpsp destinations of_it is = absurd cc
-single Cpit destinations of_it is = of_it
 
 -- a model with the header that was read
 abbrev with_header : StatedModel → StatedHeader → StatedModel
@@ -291,16 +257,16 @@ sections_back : (problem : Problem) (n : ℕ) (m : StatedModel) (lines : List Li
     → StatedAs problem n lines (with_header m (header_stated name h))
 sections_back problem n m lines name h complete are header =
     let at = draft problem n name h in
-    let values = items_state (λ block line vs. SpellValues n (header_stated name h) block (fields_of line) vs)
+    let values = items_state model_grammar (λ block line vs. SpellValues n (header_stated name h) block (fields_of line) vs)
     (λ done. at Objective done [] []) m.values
-    (λ done x rest line cut s. values_states problem n name h done x line s) 0 [] m.values are.values refl refl are.spell_values in
-    let coefs = items_state (λ _ line c. SpellCoef problem n (header_stated name h) (fields_of line) c)
+    (λ _ done x rest line cut s. values_states (at Objective done [] []) x line.text s) 0 [] m.values are.values refl refl are.spell_values in
+    let coefs = items_state model_grammar (λ _ line c. SpellCoef problem n (header_stated name h) (fields_of line) c)
     (λ done. at Coefs m.values done []) m.coefs
-    (λ done x rest line cut s. coef_states problem n name h m.values done x line s
+    (λ _ done x rest line cut s. coef_states (at Coefs m.values done []) x line.text s
     (behind_last coef_comes_before m.coefs done x rest cut are.rising_coefs)) 0 [] m.coefs are.coefs refl refl are.spell_coefs in
-    let limits = items_state (λ _ line l. SpellLimit (header_stated name h) (fields_of line) l)
+    let limits = items_state model_grammar (λ _ line l. SpellLimit (header_stated name h) (fields_of line) l)
     (λ done. at Limits m.values m.coefs done) m.limits
-    (λ done x rest line cut s. limit_states problem n name h m.values m.coefs done x line s
+    (λ _ done x rest line cut s. limit_states (at Limits m.values m.coefs done) x line.text s
     (behind_last stands_before m.limits done x rest cut are.rising_limits)) 0 [] m.limits are.limits refl refl are.spell_limits in
     let objective = section_states (at Heading [] [] []) Objective are.objective.text are.begin_values refl complete in
     let coefficients = section_states (at Objective m.values [] []) Coefs are.coefficients.text are.begin_coefs refl
@@ -322,7 +288,7 @@ sections_back problem n m lines name h complete are header =
 pub spelled_stated : (problem : Problem) (n : ℕ) (lines : List Line) (m : StatedModel) → AreModelLines problem n lines m
     → StatedAs problem n lines m
 spelled_stated problem n lines m are =
-    let h = header_back problem n m.header are.heading (single problem m.header.destinations are.destinations) are.spell_header in
+    let h = header_back problem n m.header are.heading are.destinations are.spell_header in
     subst (λ header. (are : AreModelLines problem n lines (with_header m header))
     → StateAny (blank_model problem n) are.heading (heading problem n h.name h.h) → StatedAs problem n lines (with_header m header))
     h.stated (sections_back problem n m lines h.name h.h h.complete) are h.states

@@ -6,7 +6,7 @@ use Rattle.std.proofs.lemmas.Bool.{eqb-true}
 use Rattle.std.proofs.lemmas.List.Elements.{All-head, All-tail}
 use Rattle.forms.proofs.FormFacts.{counted}
 use Rattle.forms.proofs.NumberFields.{quotient, whole_fits}
-use Rattle.forms.specs.Words.{Value, Millionths, Bytes, millionths, whole, whole_at, Fit, is_fine, read_fields, ◌>>=◌}
+use Rattle.forms.specs.Words.{Value, Millionths, Bytes, below, millionths, whole, whole_at, Fit, is_fine, ◌>>=◌}
 use Rattle.minelib_lines.specs.Kept.{IsInDecimalRange}
 use Rattle.pit_units.specs.declared.or_memory.OrMemory.{OrMemory}
 use Rattle.pit_units.specs.declared.or_memory.OrMemory.TheVariants.{Fault, OutOfMemory}
@@ -15,7 +15,7 @@ use Rattle.text_lines.specs.LineKinds.{kind_by, text_kinds}
 use Rattle.text_lines.specs.inner.Taken.{AdmitsCounted}
 use Rattle.text_lines.specs.declared.text_fault.TextKind.{TextKind}
 use Rattle.text_lines.specs.declared.text_fault.TextKind.TheVariants.{Order}
-use Rattle.text_lines.proofs.FieldSteps.{whole_reads}
+use Rattle.text_lines.proofs.FieldSteps.{first_step, said_of, whole_reads}
 use Rattle.minelib_reading.specs.Fields.{any}
 use Rattle.minelib_reading.specs.ItemForms.{row_said, values_form}
 use Rattle.minelib_reading.specs.inner.ModelParts.{values_of, values_said}
@@ -33,10 +33,9 @@ many_plain (suc k) = many_plain k
 
 many_fit : (k : ℕ) (values : List ℤ) → length values ≡ k → All IsInDecimalRange values → Fit (replicate k any) (map Millionths values)
 many_fit zero [] count decimals = tt
-many_fit zero (v ∷ values) count decimals = absurd (omega (arith, count))
-many_fit (suc k) [] count decimals = absurd (omega (arith, count))
 many_fit (suc k) (v ∷ values) count decimals =
     (any_fits v (All-head IsInDecimalRange v values decimals), many_fit k values (omega (arith, count)) (All-tail IsInDecimalRange v values decimals))
+many_fit k values count decimals = absurd (omega (arith, count))
 
 pub many_again : (values : List ℤ) → map millionths (map Millionths values) ≡ values
 many_again [] = refl
@@ -48,41 +47,34 @@ pub values_fits : (n destinations block : ℕ) (values : List ℤ) → n ≤ 10 
 values_fits n destinations block values few low count decimals = (whole_fits n block low few, many_fit destinations values count decimals)
 
 -- values that fit have one for each destination
-pub row_width : (n destinations : ℕ) (values : List Value) → Fit (values_form n destinations) values
-    → length (row_said values) ≡ destinations
-row_width n destinations [] fit = absurd fit
-row_width n destinations (block ∷ values) fit = many_count destinations values fit.1
-  where
-    many_count : (k : ℕ) (values : List Value) → Fit (replicate k any) values → length (map millionths values) ≡ k
-    many_count zero [] fit = refl
-    many_count zero (v ∷ values) fit = absurd fit
-    many_count (suc k) [] fit = absurd fit
-    many_count (suc k) (v ∷ values) fit = ap suc (many_count k values fit.1)
+pub row_width : (destinations : ℕ) (values : List ℤ) → Fit (replicate destinations any) (map Millionths values)
+    → length values ≡ destinations
+row_width zero [] fit = refl
+row_width (suc k) (v ∷ values) fit = ap suc (row_width k values fit.1)
+row_width k values fit = absurd fit
 
 values_width : (n destinations : ℕ) → length (values_form n destinations) ≡ destinations + 1
 values_width n destinations = omega (arith, length-replicate destinations any)
 
 -- decimals one by one, as the code reads them
-many_read : (k : ℕ) (done : List ℤ) (fields : List (List ℕ)) → length fields ≡ k
-    → all_by decimal_in done fields ≡ (read_fields text_kinds (replicate k any) fields >>= λ values. Ok (done ++ map millionths values))
-many_read zero done [] count = ap Ok (sym (append-nil done))
-many_read zero done (field ∷ fields) count = absurd (omega (arith, count))
-many_read (suc k) done [] count = absurd (omega (arith, count))
-many_read (suc k) done (field ∷ fields) count =
-    rw (any_reads field) (by (λ m. many_read k (done ++ m ∷ []) fields (omega (arith, count))) (decimal_in field))
+many_step : {B : Type 0} (k : ℕ) (done : List ℤ) (fields : List (List ℕ)) (next : List ℤ → Result B TextKind)
+    (said : List Value → Result B TextKind) → length fields ≡ k → ((vs : List ℤ) → next (done ++ vs) ≡ said (map Millionths vs))
+    → (all_by decimal_in done fields >>= next) ≡ said_of (replicate k any) fields said
+unfolding said_of
+many_step zero done [] next said count same = ap next (sym (append-nil done)) ∙ same []
+many_step {B} (suc k) done (text ∷ rest) next said count same =
+    by (decimal_in text)
+    ∙ first_step any _ decimal_in Millionths text rest behind said any_reads (λ m.
+    many_step k (done ++ m ∷ []) rest next _ (omega (arith, count)) (λ vs. ap next (append_assoc done (m ∷ []) vs) ∙ same (m ∷ vs)))
   where
-    tail : (m : ℤ) (r : Result (List Value) TextKind) → (r >>= λ values. Ok ((done ++ m ∷ []) ++ map millionths values))
-        ≡ ((r >>= λ values. Ok (Millionths m ∷ values)) >>= λ values. Ok (done ++ map millionths values))
-    tail m (Ok values) = ap Ok (append_assoc done (m ∷ []) (map millionths values))
-    tail m (Err found) = refl
+    behind : ℤ × List (List ℕ) → Result B TextKind
+    behind x = all_by decimal_in (done ++ x.0 ∷ []) x.1 >>= next
 
-    by : ((m : ℤ) → all_by decimal_in (done ++ m ∷ []) fields
-        ≡ (read_fields text_kinds (replicate k any) fields >>= λ values. Ok ((done ++ m ∷ []) ++ map millionths values)))
-        → (r : Result ℤ TextKind) → (r >>= λ x. all_by decimal_in (done ++ x ∷ []) fields)
-        ≡ (((r >>= λ m. Ok (Millionths m)) >>= λ v. read_fields text_kinds (replicate k any) fields >>= λ values. Ok (v ∷ values))
-        >>= λ values. Ok (done ++ map millionths values))
-    by deeper (Ok m) = deeper m ∙ tail m (read_fields text_kinds (replicate k any) fields)
-    by deeper (Err found) = refl
+    by : (r : Result ℤ TextKind) → ((r >>= λ m. all_by decimal_in (done ++ m ∷ []) rest) >>= next)
+        ≡ ((r >>= λ m. Ok (m, rest)) >>= behind)
+    by (Ok m) = refl
+    by (Err kind) = refl
+many_step k done fields next said count same = absurd (omega (arith, count))
 
 -- the fields one by one, as the code reads them
 abbrev pub uncounted_values : ℕ → ℕ → List (List ℕ) → Result (List ℤ) TextKind
@@ -91,26 +83,13 @@ uncounted_values n before fields =
 
 pub values_counted : (n destinations before : ℕ) (fields : List (List ℕ)) → length fields ≡ destinations + 1
     → values_of n destinations before fields ≡ uncounted_values n before fields
-unfolding values_of
+unfolding values_of said_of
 values_counted n destinations before [] count = absurd (omega (arith, count))
 values_counted n destinations before (field ∷ fields) count =
     ap (λ r. r >>= values_said before)
     (counted text_kinds (values_form n destinations) (field ∷ fields) (count ∙ sym (values_width n destinations)))
-    ∙ rw (whole_reads n field) (by (whole_in n field))
-  where
-    tail : (block : ℕ) (r : Result (List Value) TextKind) → ((r >>= λ values. Ok (whole block ∷ values)) >>= values_said before)
-        ≡ ((r >>= λ values. Ok (map millionths values)) >>= λ values. if not (block == before) then Err Order else Ok values)
-    tail block (Ok values) = rw (quotient block) refl
-    tail block (Err found) = refl
-
-    by : (r : Result ℕ TextKind)
-        → (((r >>= λ x. Ok (whole x)) >>= λ v. read_fields text_kinds (replicate destinations any) fields >>= λ values. Ok (v ∷ values))
-        >>= values_said before)
-        ≡ ◌>>=◌ {A = ℕ × List (List ℕ)} (r >>= λ x. Ok (x, fields)) (λ b.
-        all_by decimal_in [] b.1 >>= λ values. if not (b.0 == before) then Err Order else Ok values)
-    by (Ok block) = rw (many_read destinations [] fields (omega (arith, count)))
-        (tail block (read_fields text_kinds (replicate destinations any) fields))
-    by (Err found) = refl
+    ∙ sym (first_step (below n) (replicate destinations any) (whole_in n) whole field fields _ _ (whole_reads n) (λ b.
+    many_step destinations [] fields _ _ (omega (arith, count)) (λ vs. rw (quotient b, many_again vs) refl)))
 
 pub values_admitted : {A : Type 0} (n destinations before : ℕ) (fields : List (List ℕ)) (row : List ℤ) (r : Result A (OrMemory TextKind))
     → AdmitsCounted (length fields ≡ destinations + 1) row r (uncounted_values n before fields)
@@ -133,10 +112,9 @@ values_kind n destinations before fields found counted = by (length fields == de
 -- values that fit are those of the row that they say, of the block that they name
 many_are : (k : ℕ) (values : List Value) → Fit (replicate k any) values → values ≡ map Millionths (map millionths values)
 many_are zero [] fit = refl
-many_are zero (v ∷ values) fit = absurd fit
-many_are (suc k) [] fit = absurd fit
 many_are (suc k) (Millionths m ∷ values) fit = ap (λ more. Millionths m ∷ more) (many_are k values fit.1)
 many_are (suc k) (Bytes word ∷ values) fit = absurd fit.0
+many_are k values fit = absurd fit
 
 pub values_are : (n destinations block : ℕ) (values : List Value) → Fit (values_form n destinations) values → whole_at values 0 ≡ block
     → values ≡ values_values block (row_said values)

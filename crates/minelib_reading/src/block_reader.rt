@@ -99,6 +99,7 @@ fn block_with(x: u16, y: u16, z: u16, kg: u64, grade: u64, zone: u8) -> Block
 }
 
 /// The blocks that a text states, by identifier.
+#[tactic(auto, using(crate::proofs::ValidRead::few_blocks))]
 pub fn read_blocks(alloc: Global, text: &[u8]) -> Result<Blocks, OrMemory<LineFault>>
     ensures stated { Gives (λ x. x) result (blocks_in text.now) }
     ensures few { IfOk result (λ blocks. length blocks ≤ MAX_BLOCKS) }

@@ -26,6 +26,7 @@ use text_lines::text_fault::{TextFault, TextFile, in_file};
 /// - `Fault`: the texts denote no instance. It names the first faulty line: of the blocks, then of the precedences,
 ///   then of the model.
 /// - `OutOfMemory`: memory was refused.
+#[tactic(auto, using(crate::proofs::ValidRead::read_valid))]
 pub fn read_instance(
     alloc: Global,
     blocks: &[u8],

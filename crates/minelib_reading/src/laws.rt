@@ -81,6 +81,7 @@ pub fn lines_state_what_they_spell()
 {}
 
 /// Where a text is read as blocks, each line that is not skipped states one of them, in order.
+#[tactic(auto, using(crate::proofs::SpelledRead::blocks_spelled))]
 pub fn block_lines_are_spelled()
     ensures { (text : List ℕ) (blocks : List Block) → blocks_in text ≡ Ok blocks
         → AllState block_grammar 1 [] (lines_in text) blocks }
@@ -132,6 +133,7 @@ pub fn cpits_are_spelled()
 {}
 
 /// Lines that state blocks are read as these blocks, whatever their spelling.
+#[tactic(auto, using(crate::proofs::SpelledRead::blocks_back))]
 pub fn spelled_blocks_are_read()
     ensures { (text : List ℕ) (blocks : List Block)
         → AllState block_grammar 1 [] (lines_in text) blocks
@@ -139,6 +141,7 @@ pub fn spelled_blocks_are_read()
 {}
 
 /// Lines that state the predecessors of n blocks, one line for each block, are read as these.
+#[tactic(auto, using(crate::proofs::SpelledRead::lists_back))]
 pub fn spelled_preds_are_read()
     ensures { (n : ℕ) (text : List ℕ) (lists : List (List ℕ)) → length lists ≡ n
         → AllState (prec_grammar n) 1 [] (lines_in text) lists → preds_in n text ≡ Ok lists }
@@ -146,6 +149,7 @@ pub fn spelled_preds_are_read()
 
 /// The faulty line of a block file is the first that states no block behind those before it. Its kind is that of the
 /// first thing that is asked of it and fails.
+#[tactic(auto, using(crate::proofs::SpelledRead::bad_block))]
 pub fn faulty_lines_spell_no_block()
     ensures { (text : List ℕ) (fault : LineFault) → blocks_in text ≡ Err fault
         → IsFirstFault block_grammar 1 [] (lines_in text) fault }
@@ -154,6 +158,7 @@ pub fn faulty_lines_spell_no_block()
 /// The fault of a precedence file is one of two. Either its line is the first that states no predecessors behind those
 /// before it, and its kind is that of the first thing that is asked of the line and fails. Or all lines state
 /// predecessors, and lines are lacking at the end.
+#[tactic(auto, using(crate::proofs::SpelledRead::bad_preds))]
 pub fn faulty_lines_spell_no_preds()
     ensures { (n : ℕ) (text : List ℕ) (fault : LineFault) → preds_in n text ≡ Err fault
         → IsFirstFault (prec_grammar n) 1 [] (lines_in text) fault ⊎ LacksLines n text fault }

@@ -169,7 +169,7 @@ impl ModelDraft {
         self.header.is_complete() && self.values.len() == self.blocks && is_limits(self.section)
     }
 
-    #[tactic(auto, unfolding(crate::specs::inner::ModelParts::admit_model), using(crate::proofs::ItemsKeyless::values_keyless, crate::proofs::ModelShapes::values_takes))]
+    #[tactic(auto, unfolding(crate::specs::inner::ModelParts::admit_model), using(crate::proofs::ModelShapes::values_keyless, crate::proofs::ModelShapes::values_takes))]
     fn admit_values(&mut self, line: &[u8]) -> Result<(), OrMemory<TextKind>>
         requires { self.old.section ≡ Section.Objective }
         ensures { Leaves self.new result (admit_model self.old line.now) }
@@ -186,7 +186,7 @@ impl ModelDraft {
         }
     }
 
-    #[tactic(auto, unfolding(crate::specs::inner::ModelParts::admit_model), using(crate::proofs::ItemsKeyless::coef_keyless, crate::proofs::ModelShapes::coef_takes))]
+    #[tactic(auto, unfolding(crate::specs::inner::ModelParts::admit_model), using(crate::proofs::ModelShapes::coef_keyless, crate::proofs::ModelShapes::coef_takes))]
     fn admit_coef(&mut self, line: &[u8]) -> Result<(), OrMemory<TextKind>>
         requires { self.old.section ≡ Section.Coefs }
         ensures { Leaves self.new result (admit_model self.old line.now) }
@@ -205,7 +205,7 @@ impl ModelDraft {
         }
     }
 
-    #[tactic(auto, unfolding(crate::specs::inner::ModelParts::admit_model), using(crate::proofs::ItemsKeyless::limit_keyless, crate::proofs::ModelShapes::limit_takes))]
+    #[tactic(auto, unfolding(crate::specs::inner::ModelParts::admit_model), using(crate::proofs::ModelShapes::limit_keyless, crate::proofs::ModelShapes::limit_takes))]
     fn admit_limit(&mut self, line: &[u8]) -> Result<(), OrMemory<TextKind>>
         requires { self.old.section ≡ Section.Limits }
         ensures { Leaves self.new result (admit_model self.old line.now) }

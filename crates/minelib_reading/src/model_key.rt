@@ -81,6 +81,7 @@ impl Header {
 }
 
 // Keeps the number of a key at its place.
+#[tactic(auto, using(crate::proofs::HeaderFacts::key_set))]
 fn put(numbers: &mut [Option<u32>; 8], key: HeaderKey, number: u32)
     ensures { record { numbers = numbers.new }
         ≡ with_key (record { numbers = numbers.old }) key number }

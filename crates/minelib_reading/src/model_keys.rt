@@ -28,6 +28,7 @@ pub fn cut_at_colon(line: &[u8]) -> Option<(&[u8], &[u8])>
     }
 }
 
+#[tactic(auto, using(text_lines::proofs::Cuts::byte_placed))]
 fn colon_place(line: &[u8]) -> Option<usize>
     ensures { result ≡ position is_colon line.now }
 {

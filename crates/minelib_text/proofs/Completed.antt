@@ -1,35 +1,35 @@
 -- Whatever is read of a model file, some lines behind it complete it.
-use Rattle.std.specs.Prelude.{◌≡◌, ◌≢◌, ℕ, zero, suc, ◌+◌, ◌<◌, ◌≤◌, ◌-◌, true, false, List, [], ◌∷◌, ◌++◌, length, ℤ, pos, is_some, Ok, All, codes}
+use Rattle.std.specs.Prelude.{◌≡◌, ◌≢◌, ℕ, zero, suc, ◌+◌, ◌<◌, ◌≤◌, ◌-◌, true, false, List, [], ◌∷◌, ◌++◌, length, ℤ, pos, replicate, is_some, codes}
 use Rattle.std.specs.List.{Contains}
 use Rattle.std.proofs.Common.{refl, sym, ◌∙◌, ap, subst, arith, length-append, eq-eqb, inl, inr}
 use Rattle.std.proofs.lemmas.Bool.{cases_Bool, not-false}
 use Rattle.std.proofs.lemmas.Int.{ints}
-use Rattle.std.proofs.lemmas.List.Elements.{All-nil, All-cons}
+use Rattle.std.proofs.lemmas.List.{length-replicate}
+use Rattle.std.proofs.lemmas.List.Elements.{All-replicate}
 use Rattle.minelib_lines.specs.Kept.{IsInDecimalRange}
+use Rattle.minelib_lines.specs.KeyWords.{has_key, header_keys, type_text}
 use Rattle.minelib_lines.specs.Lines.{line_of}
-use Rattle.minelib_lines.specs.KeyWords.{has_key, header_keys}
-use Rattle.minelib_lines.specs.LineValues.{StatedHeader}
+use Rattle.minelib_writing.specs.Written.{key_line, value_fields}
+use Rattle.minelib_lines.specs.LineValues.{StatedHeader, key_value}
 use Rattle.minelib_reading.specs.HeaderKeys.{with_key, count_in, is_given, is_complete}
-use Rattle.minelib_reading.specs.ModelLines.{ModelDraftView, blank_header, is_whole, model_grammar, name_with}
-use Rattle.minelib_reading.specs.inner.ModelParts.{admit_model}
-use Rattle.forms.specs.Words.{AllState}
+use Rattle.minelib_reading.specs.ModelLines.{ModelDraftView, blank_header, is_next, is_ready, is_whole, model_grammar, model_line, name_with}
+use Rattle.forms.specs.Words.{AllState, States}
 use Rattle.text_lines.specs.TextLines.{Line}
-use Rattle.minelib_writing.specs.Written.{value_fields}
 use Rattle.minelib_reading.specs.declared.model_key.Header.{Header}
 use Rattle.minelib_lines.specs.declared.header_key.HeaderKey.{HeaderKey}
 use Rattle.minelib_lines.specs.declared.header_key.HeaderKey.TheVariants as key
 use Rattle.minelib_lines.specs.declared.problem.Problem.{Problem}
 use Rattle.minelib_reading.specs.declared.model_key.Section.{Section}
 use Rattle.minelib_reading.specs.declared.model_key.Section.TheVariants.{Heading, Objective, Coefs, Limits}
-use Rattle.minelib_reading.proofs.HeaderFacts.{each_with, each_key, all_given, contains_cases, first_given}
-use Rattle.minelib_reading.proofs.SpelledModelBack.{told}
-use Rattle.minelib_text.proofs.ItemsBack.{values_again, values_fields}
+use Rattle.minelib_reading.proofs.HeaderFacts.{KeepsOwn, each_with, each_key, all_given, contains_cases, first_given}
+use Rattle.minelib_reading.proofs.SpelledModelBack.{key_states, section_states, told, values_states}
+use Rattle.minelib_reading.proofs.SpelledModelRead.{At, Now}
+use Rattle.minelib_reading.specs.ModelStates.{header_stated}
+use Rattle.minelib_reading.specs.SpelledKeys.{section_text}
+use Rattle.text_lines.proofs.PlainText.{IsField}
 use Rattle.minelib_reading.proofs.LinesThen.{heading}
-use Rattle.minelib_text.proofs.KeysBack.{IsHeader, key_step, section_step}
-use Rattle.minelib_text.proofs.ModelBack.{item_admitted}
-use Rattle.minelib_reading.proofs.ModelShapes.{admitted_states, values_takes}
-use Rattle.minelib_reading.proofs.ValidHeader.{KeepsOwn}
-use Rattle.minelib_reading.proofs.ValidModel.{KeepsModel, Ready}
+use Rattle.minelib_text.proofs.KeysBack.{IsHeader, header_line, section_line, word_field}
+use Rattle.minelib_text.proofs.ModelBack.{values_line}
 
 -- some lines behind what was read make it whole
 pub record Completes (d : ModelDraftView) : Type 0 where
@@ -38,65 +38,49 @@ pub record Completes (d : ModelDraftView) : Type 0 where
   pub states : (number : ℕ) → AllState model_grammar number d rest last
   pub whole : is_whole last ≡ true
 
-then_complete : (s t : ModelDraftView) (line : List ℕ) → admit_model s line ≡ Ok t → Completes t → Completes s
-then_complete s t line e c = record {
+then_complete : (s t : ModelDraftView) (line : List ℕ) → States (model_line s line) t → Completes t → Completes s
+then_complete s t line states c = record {
   rest = record { number = 0; text = line } ∷ c.rest;
   last = c.last;
-  states = λ number. (t, admitted_states s line t e, c.states (suc number));
+  states = λ number. (t, states, c.states (suc number));
   whole = c.whole;
 }
 
 abbrev in_section : Section → ModelDraftView → ModelDraftView
 in_section section d = record d { section = section }
 
+-- the line of the next section's key
+then_section : (d : ModelDraftView) (section : Section) → IsField (section_text section) → is_next d.section section ≡ true
+    → is_ready d d.section ≡ true → Completes (in_section section d) → Completes d
+then_section d section field follows ready c =
+    let line = section_text section ++ 58 ∷ [] in
+    then_complete d (in_section section d) line (section_states d section line (section_line (section_text section) field).1 follows ready) c
+
 from_limits : (d : ModelDraftView) → is_complete d.header ≡ true → length d.values ≡ d.blocks → Completes (in_section Limits d)
-from_limits d complete all =
-    record {
-      rest = [];
-      last = in_section Limits d;
-      states = λ number. refl;
-      whole =
-          rw (complete, eq-eqb (length d.values) d.blocks all) refl;
-    }
+from_limits d complete all = record {
+  rest = [];
+  last = in_section Limits d;
+  states = λ number. refl;
+  whole = rw (complete, eq-eqb (length d.values) d.blocks all) refl;
+}
 
 from_coefs : (d : ModelDraftView) → is_complete d.header ≡ true → length d.values ≡ d.blocks → Completes (in_section Coefs d)
-from_coefs d complete all =
-    then_complete (in_section Coefs d) (in_section Limits d) _
-    (section_step (in_section Coefs d) Limits refl refl).admitted
-    (from_limits d complete all)
-
-zeros : ℕ → List ℤ
-zeros zero = []
-zeros (suc k) = pos 0 ∷ zeros k
-
-zeros_count : (k : ℕ) → length (zeros k) ≡ k
-unfolding zeros
-zeros_count zero = refl
-zeros_count (suc k) = ap suc (zeros_count k)
-
-zeros_kept : (k : ℕ) → All IsInDecimalRange (zeros k)
-unfolding zeros
-zeros_kept zero = All-nil IsInDecimalRange
-zeros_kept (suc k) = All-cons IsInDecimalRange (pos 0) (zeros k) (omega arith) (zeros_kept k)
+from_coefs d complete all = then_section (in_section Coefs d) Limits (word_field _ _ refl) refl refl (from_limits d complete all)
 
 -- so many blocks have no values yet
 values_left : (k : ℕ) (d : ModelDraftView) → is_complete d.header ≡ true → length d.values + k ≡ d.blocks → d.blocks ≤ 64000000
     → Completes (in_section Objective d)
 values_left zero d complete count few =
     let all : length d.values ≡ d.blocks = omega arith in
-    then_complete (in_section Objective d) (in_section Coefs d) _
-    (section_step (in_section Objective d) Coefs refl (eq-eqb (length d.values) d.blocks all)).admitted
-    (from_coefs d complete all)
+    then_section (in_section Objective d) Coefs (word_field _ _ refl) refl (eq-eqb (length d.values) d.blocks all) (from_coefs d complete all)
 values_left (suc k) d complete count few =
     let destinations = count_in d.header key.Destinations in
-    let vs = zeros destinations in
-    let place : length d.values < d.blocks = omega arith in
-    let fields = values_fields (length d.values) vs (omega arith) (zeros_kept destinations) in
+    let vs = replicate destinations (pos 0) in
     let next : ModelDraftView = record d { values = d.values ++ vs ∷ [] } in
-    then_complete (in_section Objective d) (in_section Objective next) (line_of (value_fields (length d.values) vs))
-    (item_admitted (in_section Objective d) (value_fields (length d.values) vs) fields
-    ∙ values_takes (in_section Objective d) (value_fields (length d.values) vs)
-    ∙ rw (values_again d.blocks destinations (length d.values) vs few place (zeros_count destinations) (zeros_kept destinations)) refl)
+    let written = values_line d.blocks (length d.values) (header_stated d.name d.header) vs few (omega arith)
+    (length-replicate destinations (pos 0)) (All-replicate IsInDecimalRange destinations (pos 0) (omega arith)) in
+    let line = line_of (value_fields (length d.values) vs) in
+    then_complete (in_section Objective d) (in_section Objective next) line (values_states d vs line written.1)
     (values_left k next complete (omega (arith, length-append d.values (vs ∷ []))) few)
 
 from_objective : (d : ModelDraftView) → is_complete d.header ≡ true → length d.values ≤ d.blocks → d.blocks ≤ 64000000
@@ -123,9 +107,7 @@ least_fits n few = record {
 from_header : (p : Problem) (n : ℕ) (name : List ℕ) (h : Header) → n ≤ 64000000 → is_complete h ≡ true → Completes (heading p n name h)
 from_header p n name h few complete =
     let d = heading p n name h in
-    then_complete d (in_section Objective d) _
-    (section_step d Objective refl complete).admitted
-    (from_objective d complete (omega arith) few)
+    then_section d Objective (word_field _ _ refl) refl complete (from_objective d complete (omega arith) few)
 
 -- what a header lacks are keys of the problem, and among these
 abbrev Lacks : Problem → List HeaderKey → Header → Type 0
@@ -143,7 +125,9 @@ fill p n (k ∷ keys) name h few lacks = elim (cases_Bool (is_given k h)) [
   | inr new ↦
       let has : has_key p k ≡ true = not-false (has_key p k) (sym (first_given p k) ∙ (lacks k new).0) in
       let number = told least k in
-      then_complete _ _ _ (key_step p n least name h k (least_fits n few) has new).admitted
+      let line = key_line k (key_value (type_text p) n least k) in
+      then_complete (heading p n name h) (heading p n (name_with k least.name name) (with_key h k number)) line
+      (key_states (heading p n name h) least k line refl new (header_line p n least (least_fits n few) k has).1)
       (fill p n keys (name_with k least.name name) (with_key h k number) few
       (each_with (λ j found. is_some found ≡ false → (is_given j (blank_header p) ≡ false) × Contains keys j) h k number
       (λ given. absurd cc) later))
@@ -164,16 +148,14 @@ from_heading p n name h few own = fill p n header_keys name h few (λ k new. (
   each_key k,
 ))
 
-from_section : (section : Section) (d : ModelDraftView) → Ready section d → d.blocks ≤ 64000000 → KeepsOwn d.problem d.header
+from_section : (section : Section) (d : ModelDraftView) (done : List Line) → At section d done → d.blocks ≤ 64000000
     → Completes (in_section section d)
-from_section Heading d ready few own =
-    let empty : heading d.problem d.blocks d.name d.header ≡ in_section Heading d = rw (ready.0, ready.1, ready.2) refl in
-    subst Completes empty (from_heading d.problem d.blocks d.name d.header few own)
-from_section Objective d ready few own = from_objective d ready.0 ready.1 few
-from_section Coefs d ready few own = from_coefs d ready.0 ready.1
-from_section Limits d ready few own = from_limits d ready.0 ready.1
+from_section Heading d done at few =
+    let empty : heading d.problem d.blocks d.name d.header ≡ in_section Heading d = rw (at.1, at.2, at.3) refl in
+    subst Completes empty (from_heading d.problem d.blocks d.name d.header few at.0.own)
+from_section Objective d done at few = from_objective d at.0.earlier.complete at.0.kept few
+from_section Coefs d done at few = from_coefs d at.0.earlier.earlier.complete at.1
+from_section Limits d done at few = from_limits d at.0.earlier.earlier.earlier.complete at.1
 
-pub completed : (problem : Problem) (n : ℕ) (d : ModelDraftView) → n ≤ 64000000 → KeepsModel problem n d → Completes d
-completed problem n d few kept =
-    from_section d.section d kept.ready (subst (λ k. k ≤ 64000000) (sym kept.of_blocks) few)
-    (subst (λ p. KeepsOwn p d.header) (sym kept.of_problem) kept.header.own)
+pub completed : (problem : Problem) (n : ℕ) (d : ModelDraftView) (done : List Line) → n ≤ 64000000 → Now problem n d done → Completes d
+completed problem n d done few now = from_section d.section d done now.at (subst (λ k. k ≤ 64000000) (sym now.of_blocks) few)

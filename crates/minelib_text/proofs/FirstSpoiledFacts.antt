@@ -1,7 +1,8 @@
 -- A faulty line of a model file is the first behind which nothing makes it a model.
 use Rattle.std.specs.Prelude.{◌≡◌, ℕ, suc, ◌≤◌, Bool, true, false, List, [], ◌∷◌, ◌++◌, Result, Ok, Err, ◌⊎◌, if◌then◌else◌}
 use Rattle.std.proofs.Common.{refl, sym, ◌∙◌, ap, subst, inl, inr, append_assoc}
-use Rattle.forms.proofs.GrammarFacts.{all_read, fault_read, read_all_states, read_first_fault}
+use Rattle.forms.proofs.GrammarFacts.{all_read, fault_read}
+use Rattle.minelib_reading.proofs.Finished.{finished_fails}
 use Rattle.forms.specs.Words.{read_all, AllState, IsFirstFault, Fails, ◌>>=◌}
 use Rattle.minelib_reading.specs.ModelLines.{ModelDraftView, blank_model, finish_model, is_whole, model_grammar, model_in, model_line}
 use Rattle.minelib_reading.specs.ModelStates.{stated_by}
@@ -15,9 +16,8 @@ use Rattle.minelib_text.proofs.Completed.{completed}
 use Rattle.minelib_reading.proofs.ModelShapes.{all_fine}
 use Rattle.minelib_reading.proofs.LinesThen.{joined}
 use Rattle.minelib_reading.proofs.SpelledModelBack.{spelled_stated}
-use Rattle.minelib_reading.proofs.SpelledModelRead.{stated_spelled}
-use Rattle.text_lines.proofs.ReadSteps.{err_same}
-use Rattle.minelib_reading.proofs.ValidModel.{model_kept}
+use Rattle.minelib_reading.proofs.SpelledModelRead.{lines_now, stated_spelled}
+use Rattle.text_lines.proofs.ReadSteps.{same_ok}
 
 -- where lines fail
 record Stops (s : ModelDraftView) (lines : List Line) (fault : LineFault) : Type 0 where
@@ -71,7 +71,7 @@ failing_behind number s t (line ∷ lines) bad more kind (next, states, all) fai
 begins : (problem : Problem) (n : ℕ) (lines : List Line) (d : ModelDraftView) → n ≤ 64000000
     → AllState model_grammar 1 (blank_model problem n) lines d → BeginModel problem n lines
 begins problem n lines d few all =
-    let c = completed problem n d few (model_kept problem n 1 lines d all) in
+    let c = completed problem n d lines few (lines_now problem n 1 lines d all) in
     let states = joined 1 (blank_model problem n) d c.last lines c.rest all c.states in
     (c.rest, stated_by c.last, stated_spelled problem n (lines ++ c.rest) c.last (states, c.whole))
 
@@ -91,55 +91,38 @@ spoils problem n before bad d kind all fails (rest, m, are) =
     not_both : (r : Result ModelDraftView LineFault) (last : ModelDraftView) (fault : LineFault) → r ≡ Ok last → r ≡ Err fault → ⊥
     not_both r last fault a b = cc
 
-one_ok : (r : Result ModelDraftView LineFault) (x y : ModelDraftView) → r ≡ Ok x → r ≡ Ok y → x ≡ y
-one_ok r x y a b = cc
+-- lines state one thing
+one_state : (number : ℕ) (s : ModelDraftView) (lines : List Line) (x y : ModelDraftView) → AllState model_grammar number s lines x
+    → AllState model_grammar number s lines y → x ≡ y
+one_state number s lines x y a b =
+    same_ok {F = LineFault} x y (sym (all_read model_grammar number s lines x all_fine a) ∙ all_read model_grammar number s lines y all_fine b)
 
 pub bad_model : (problem : Problem) (n : ℕ) (text : List ℕ) (fault : LineFault) → n ≤ 64000000 → model_in problem n text ≡ Err fault
     → (IsFirstFault model_grammar 1 (blank_model problem n) (lines_in text) fault × IsFirstSpoiled problem n (lines_in text) fault.line)
     ⊎ EndsEarly problem n text fault
-bad_model problem n text fault few e = by (read_all model_grammar 1 (blank_model problem n) (lines_in text)) refl e
-  where
-    ends : (t : Bool) (d : ModelDraftView) → is_whole d ≡ t → read_all model_grammar 1 (blank_model problem n) (lines_in text) ≡ Ok d
-        → (if t then Ok d else Err (record { line = end_of text; kind = Missing })) ≡ Err fault → EndsEarly problem n text fault
-    ends true d lacks read e = absurd cc
-    ends false d lacks read e =
-        let same : record { line = end_of text; kind = Missing } ≡ fault =
-        err_same {B = ModelDraftView} (record { line = end_of text; kind = Missing }) fault e in
-        record {
-          place = sym (ap (λ (f : LineFault). f.line) same);
-          kind = sym (ap (λ (f : LineFault). f.kind) same);
-          begun = begins problem n (lines_in text) d few
-              (read_all_states model_grammar 1 (blank_model problem n) (lines_in text) d all_fine read);
-          no_model = λ m are.
-              let stated = spelled_stated problem n (lines_in text) m are in
-              other stated.0 (all_read model_grammar 1 (blank_model problem n) (lines_in text) stated.0 all_fine stated.1.0) stated.1.1;
-        }
-      where
-        other : (last : ModelDraftView) → read_all model_grammar 1 (blank_model problem n) (lines_in text) ≡ Ok last
-            → is_whole last ≡ true → ⊥
-        other last again whole =
-            let same : last ≡ d = one_ok _ last d again read in
-            let lacks_too : is_whole last ≡ false = ap (λ d. is_whole d) same ∙ lacks in
-            cc
-
-    by : (r : Result ModelDraftView LineFault) → read_all model_grammar 1 (blank_model problem n) (lines_in text) ≡ r
-        → (r >>= finish_model (end_of text)) ≡ Err fault
-        → (IsFirstFault model_grammar 1 (blank_model problem n) (lines_in text) fault × IsFirstSpoiled problem n (lines_in text) fault.line)
-        ⊎ EndsEarly problem n text fault
-    by (Ok d) is h = inr (ends (is_whole d) d refl is h)
-    by (Err f) is h =
-        let same = err_same {B = ModelDraftView} f fault h in
-        let first = read_first_fault model_grammar 1 (blank_model problem n) (lines_in text) fault all_fine (is ∙ ap Err same) in
-        let stop = stops 1 (blank_model problem n) (lines_in text) fault first in
-        inl (
-          first,
-          record {
-            before = stop.before;
-            bad = stop.bad;
-            behind = stop.behind;
-            cut = stop.cut;
-            place = stop.place;
-            begun = begins problem n stop.before stop.state few (stop.states 1);
-            spoiled = spoils problem n stop.before stop.bad stop.state stop.kind (stop.states 1) stop.fails;
-          },
-        )
+bad_model problem n text fault few e =
+    elim (finished_fails model_grammar all_fine (blank_model problem n) (lines_in text) is_whole _ fault e) [
+      | inl first ↦
+          let stop = stops 1 (blank_model problem n) (lines_in text) fault first in
+          inl (
+            first,
+            record {
+              before = stop.before;
+              bad = stop.bad;
+              behind = stop.behind;
+              cut = stop.cut;
+              place = stop.place;
+              begun = begins problem n stop.before stop.state few (stop.states 1);
+              spoiled = spoils problem n stop.before stop.bad stop.state stop.kind (stop.states 1) stop.fails;
+            },
+          )
+      | inr h ↦ inr (record {
+        place = sym (ap (λ (f : LineFault). f.line) h.3);
+        kind = sym (ap (λ (f : LineFault). f.kind) h.3);
+        begun = begins problem n (lines_in text) h.0 few h.1;
+        no_model = λ m are.
+            let stated = spelled_stated problem n (lines_in text) m are in
+            let same = one_state 1 (blank_model problem n) (lines_in text) stated.0 h.0 stated.1.0 h.1 in
+            absurd (let lacks_too : is_whole stated.0 ≡ false = ap (λ d. is_whole d) same ∙ h.2 in cc (stated.1.1, lacks_too));
+      })
+    ]

@@ -1,13 +1,9 @@
 pub mod BlocksBack
 pub mod Completed
-pub mod CpitBack
 pub mod FirstSpoiledFacts
-pub mod InstanceBack
-pub mod ItemsBack
 pub mod KeysBack
 pub mod LinesBack
 pub mod LinesOfText
 pub mod ModelBack
-pub mod NumbersBack
 pub mod PlainLines
-pub mod PrecBack
+pub mod TextsBack

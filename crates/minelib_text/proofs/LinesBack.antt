@@ -1,21 +1,17 @@
--- Lines that a rule admits one after the other are read from their text.
-use Rattle.std.proofs.Common.{◌≡◌, ℕ, ◌+◌, ◌-◌, ◌<◌, true, false, List, [], ◌∷◌, ◌++◌, length, arith, refl, ◌∙◌, ap, sym, append_assoc, append-nil}
-use Rattle.std.specs.Prelude.{Result, Ok}
+-- Written lines are read as they stand, and spell what they were written of.
+use Rattle.std.proofs.Common.{◌≡◌, ℕ, ◌+◌, ◌-◌, ◌<◌, false, true, List, [], ◌∷◌, ◌++◌, length, arith, refl, ◌∙◌, ap, sym, append_assoc, eq-eqb, subst}
+use Rattle.std.specs.Prelude.{All, slice_index_or}
 use Rattle.std.specs.List.{list_all}
 use Rattle.std.proofs.lemmas.Bool.{and_parts}
 use Rattle.std.proofs.lemmas.List.{length_push}
+use Rattle.std.proofs.lemmas.List.Elements.{All-cons, All-head, All-nil, All-tail, All-weaker}
 use Rattle.std.proofs.lemmas.List.Sums.{AllPass-from_list_all}
 use Rattle.minelib_lines.specs.Lines.{text_of, line_of, lines_from}
-use Rattle.text_lines.specs.Reading.{read_lines}
-use Rattle.text_lines.specs.TextLines.{lines_of, without_cr, without_mark, is_skipped, numbered_lines, lines_in}
-use Rattle.text_lines.specs.declared.text_fault.TextKind.{TextKind}
+use Rattle.minelib_reading.specs.SpelledLines.{AreLines}
+use Rattle.text_lines.specs.TextLines.{Line, without_cr, without_mark, is_skipped, numbered_lines, lines_in}
+use Rattle.text_lines.specs.TextParts.{IsLineText}
 use Rattle.text_lines.proofs.PlainText.{is_inner, IsLine, not_lf, not_cr, not_mark}
-
-first_line : (line rest : List ℕ) → list_all is_inner line ≡ true → lines_of ((line ++ 10 ∷ []) ++ rest) ≡ line ∷ lines_of rest
-first_line [] rest h = refl
-first_line (c ∷ cs) rest h =
-    let parts = and_parts (is_inner c) (list_all is_inner cs) h in
-    rw (not_lf c parts.0, first_line cs rest parts.1) refl
+use Rattle.minelib_text.proofs.LinesOfText.{lines_again}
 
 some_bytes : (line : List ℕ) → is_skipped line ≡ false → 0 < length line
 some_bytes [] h = absurd (cc)
@@ -25,51 +21,72 @@ no_cr : (line : List ℕ) → IsLine line → without_cr line ≡ line
 no_cr line h =
     rw (not_cr _ (AllPass-from_list_all is_inner line h.inner (length line - 1) 0 (omega (arith, some_bytes line h.is_read)))) refl
 
--- a rule admits these lines one after the other, which takes it from one state to another
-abbrev pub AdmitsAll : {S : Type 0} → (S → List ℕ → Result S TextKind) → S → List (List ℕ) → S → Type 0
-AdmitsAll admit s [] t = s ≡ t
-AdmitsAll {S} admit s (line ∷ lines) t = (next : S) × IsLine line × (admit s line ≡ Ok next) × AdmitsAll admit next lines t
+no_lf : (line : List ℕ) → IsLine line → IsLineText line
+no_lf line h k d within same =
+    let byte = slice_index_or line k d in
+    let other = not_lf byte (AllPass-from_list_all is_inner line h.inner k d within) in
+    absurd (cc (other, eq-eqb byte 10 same))
 
-lines_read : {S : Type 0} (admit : S → List ℕ → Result S TextKind) (s t : S) (n : ℕ) (lines : List (List ℕ)) → AdmitsAll admit s lines t
-    → read_lines admit s (numbered_lines n (lines_of (text_of lines))) ≡ Ok t
-lines_read admit s t n [] h = ap Ok h
-lines_read admit s t n (line ∷ lines) h =
-    rw (first_line line (text_of lines) h.1.inner, no_cr line h.1, h.1.is_read, h.2) (lines_read admit h.0 t (n + 1) lines h.3)
+no_mark : (lines : List (List ℕ)) → All IsLine lines → without_mark (text_of lines) ≡ text_of lines
+no_mark [] h = refl
+no_mark ([] ∷ lines) h = absurd (omega (arith, some_bytes [] (All-head IsLine [] lines h).is_read))
+no_mark ((c ∷ cs) ∷ lines) h =
+    rw (not_mark c (and_parts (is_inner c) (list_all is_inner cs) (All-head IsLine (c ∷ cs) lines h).inner).0) refl
 
-no_mark : {S : Type 0} (admit : S → List ℕ → Result S TextKind) (s t : S) (lines : List (List ℕ)) → AdmitsAll admit s lines t
-    → without_mark (text_of lines) ≡ text_of lines
-no_mark admit s t [] h = refl
-no_mark admit s t ([] ∷ lines) h = absurd (omega (arith, some_bytes [] h.1.is_read))
-no_mark admit s t ((c ∷ cs) ∷ lines) h = rw (not_mark c (and_parts (is_inner c) (list_all is_inner cs) h.1.inner).0) refl
+-- lines under their numbers
+abbrev pub numbered : ℕ → List (List ℕ) → List Line
+numbered n [] = []
+numbered n (line ∷ lines) = record { number = n; text = line } ∷ numbered (n + 1) lines
 
-pub text_read : {S : Type 0} (admit : S → List ℕ → Result S TextKind) (s t : S) (lines : List (List ℕ)) → AdmitsAll admit s lines t
-    → read_lines admit s (lines_in (text_of lines)) ≡ Ok t
-text_read admit s t lines h = rw (no_mark admit s t lines h) (lines_read admit s t 1 lines h)
+pub numbered_both : (n : ℕ) (xs ys : List (List ℕ)) → numbered n (xs ++ ys) ≡ numbered n xs ++ numbered (n + length xs) ys
+numbered_both n [] ys = let place : n ≡ n + 0 = omega arith in ap (λ k. numbered k ys) place
+numbered_both n (x ∷ xs) ys =
+    let place : n + 1 + length xs ≡ n + length (x ∷ xs) = omega arith in
+    ap (λ more. record { number = n; text = x } ∷ more) (numbered_both (n + 1) xs ys ∙ ap (λ k. numbered (n + 1) xs ++ numbered k ys) place)
 
--- lines, and then more
-pub admits_both : {S : Type 0} (admit : S → List ℕ → Result S TextKind) (s t u : S) (xs ys : List (List ℕ)) → AdmitsAll admit s xs t
-    → AdmitsAll admit t ys u
-    → AdmitsAll admit s (xs ++ ys) u
-admits_both admit s t u [] ys h k = rw h k
-admits_both admit s t u (x ∷ xs) ys h k = (h.0, h.1, h.2, admits_both admit h.0 t u xs ys h.3 k)
+all_read : (n : ℕ) (lines : List (List ℕ)) → All IsLine lines → numbered_lines n lines ≡ numbered n lines
+all_read n [] h = refl
+all_read n (line ∷ lines) h =
+    let here = All-head IsLine line lines h in
+    rw (no_cr line here, here.is_read, all_read (n + 1) lines (All-tail IsLine line lines h)) refl
 
--- the line of each item is admitted behind those of the items before it
-abbrev pub AdmitsEach : {S A : Type 0} → (S → List ℕ → Result S TextKind) → (ℕ → A → List (List ℕ)) → (List A → S) → List A → Type 0
-AdmitsEach {S} {A} admit fields after all =
+pub text_lines : (lines : List (List ℕ)) → All IsLine lines → lines_in (text_of lines) ≡ numbered 1 lines
+text_lines lines h = rw (no_mark lines h, lines_again lines (All-weaker IsLine IsLineText no_lf lines h)) (all_read 1 lines h)
+
+-- lines that are read as they stand, and spell these items, of which the first has this number
+pub record AreWritten {A : Type 0} (Spells : ℕ → List ℕ → A → Type 0) (n : ℕ) (lines : List (List ℕ)) (items : List A) : Type 0 where
+  pub each : All IsLine lines
+  pub spelled : (number : ℕ) → AreLines Spells n (numbered number lines) items
+
+pub none_written : {A : Type 0} (Spells : ℕ → List ℕ → A → Type 0) (n : ℕ) → AreWritten Spells n [] []
+none_written Spells n = record { each = All-nil IsLine; spelled = λ number. tt }
+
+pub then_written : {A : Type 0} (Spells : ℕ → List ℕ → A → Type 0) (n : ℕ) (line : List ℕ) (lines : List (List ℕ)) (x : A) (items : List A)
+    → IsLine line × Spells n line x → AreWritten Spells (n + 1) lines items → AreWritten Spells n (line ∷ lines) (x ∷ items)
+then_written Spells n line lines x items here more = record {
+  each = All-cons IsLine line lines here.0 more.each;
+  spelled = λ number. (here.1, more.spelled (number + 1));
+}
+
+-- the line of each item does, by the number of those before it
+abbrev pub IsEachWritten : {A : Type 0} → (ℕ → List ℕ → A → Type 0) → (ℕ → A → List (List ℕ)) → List A → Type 0
+IsEachWritten {A} Spells fields all =
     (done : List A) (x : A) (rest : List A) → all ≡ done ++ x ∷ rest
-    → IsLine (line_of (fields (length done) x)) × (admit (after done) (line_of (fields (length done) x)) ≡ Ok (after (done ++ x ∷ [])))
+    → IsLine (line_of (fields (length done) x)) × Spells (length done) (line_of (fields (length done) x)) x
 
--- so all are
-pub items_admitted : {S A : Type 0} (admit : S → List ℕ → Result S TextKind)
-    (fields : ℕ → A → List (List ℕ)) (after : List A → S) (all : List A)
-    → AdmitsEach admit fields after all → (n : ℕ) (done rest : List A) → n ≡ length done → all ≡ done ++ rest
-    → AdmitsAll admit (after done) (lines_from fields n rest) (after all)
-items_admitted admit fields after all each n done [] e whole = ap after (sym (whole ∙ append-nil done))
-items_admitted admit fields after all each n done (x ∷ rest) e whole =
-    let here = each done x rest whole in (
-      after (done ++ x ∷ []),
-      rw e here.0,
-      rw e here.1,
-      items_admitted admit fields after all each (n + 1) (done ++ x ∷ []) rest (omega (arith, length_push done x))
-          (whole ∙ sym (append_assoc done (x ∷ []) rest)),
-    )
+-- so all do
+pub items_written : {A : Type 0} (Spells : ℕ → List ℕ → A → Type 0) (fields : ℕ → A → List (List ℕ)) (all : List A)
+    → IsEachWritten Spells fields all → (n : ℕ) (done rest : List A) → n ≡ length done → all ≡ done ++ rest
+    → AreWritten Spells n (lines_from fields n rest) rest
+items_written Spells fields all each n done [] e whole = none_written Spells n
+items_written Spells fields all each n done (x ∷ rest) e whole =
+    then_written Spells n (line_of (fields n x)) (lines_from fields (n + 1) rest) x rest (rw e (each done x rest whole))
+    (items_written Spells fields all each (n + 1) (done ++ x ∷ []) rest (omega (arith, e, length_push done x))
+    (whole ∙ sym (append_assoc done (x ∷ []) rest)))
+
+-- the lines of their text spell them
+pub text_spells : {A : Type 0} (Spells : ℕ → List ℕ → A → Type 0) (fields : ℕ → A → List (List ℕ)) (all : List A)
+    → IsEachWritten Spells fields all → AreLines Spells 0 (lines_in (text_of (lines_from fields 0 all))) all
+text_spells Spells fields all each =
+    let w = items_written Spells fields all each 0 [] all refl refl in
+    subst (λ lines. AreLines Spells 0 lines all) (sym (text_lines (lines_from fields 0 all) w.each)) (w.spelled 1)

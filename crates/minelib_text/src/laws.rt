@@ -27,6 +27,7 @@ ghost use Rattle.pit_parts.specs.declared.ranges.TheConstants.{MAX_BLOCKS};
 
 /// The texts of a valid instance denote that instance. That it has a NAME and decimals (`IsKept`), `write_pcpsp` says of every
 /// instance that it wrote.
+#[tactic(auto, using(crate::proofs::TextsBack::written_again))]
 pub fn written_is_read()
     ensures { (i : OneInstance) → IsValid i → IsKept i
         → Denotes (text_blocks i) (text_prec i) (text_pcpsp i) i }
@@ -34,6 +35,7 @@ pub fn written_is_read()
 
 /// The text of a CPIT denotes that CPIT. That its parts are in their ranges and orders (`IsCpit`), with a NAME and decimals
 /// (`IsKeptCpit`), `write_cpit` says of every CPIT that it wrote.
+#[tactic(auto, using(crate::proofs::TextsBack::written_cpit_again))]
 pub fn written_cpit_is_read()
     ensures { (c : CpitParts) → IsCpit c → IsKeptCpit c
         → DenotesCpit (length c.values) (text_cpit c) c }
@@ -54,6 +56,7 @@ pub fn even_zones()
 /// - Its line is the first that states nothing behind those before it, and its kind is that of what fails first there.
 ///   The lines before it begin a model; with it, whatever stands behind, they begin none.
 /// - Or all lines begin a model, they spell none, and something is missing at the end.
+#[tactic(auto, using(crate::proofs::FirstSpoiledFacts::bad_model))]
 pub fn faulty_lines_begin_no_model()
     ensures { (problem : Problem) (n : ℕ) (text : List ℕ) (fault : LineFault) → n ≤ MAX_BLOCKS
         → model_in problem n text ≡ Err fault

@@ -1,0 +1,88 @@
+-- The texts of a valid instance denote it, and that of a CPIT denotes the CPIT.
+use Rattle.std.proofs.Common.{◌≡◌, length, refl, ℕ, ◌+◌, ◌<◌, List, [], ◌∷◌, map, arith, ap}
+use Rattle.std.specs.Prelude.{Ok, All}
+use Rattle.mine_instance.specs.Valid.{IsValid, AreCoefs}
+use Rattle.mine_instance.specs.Instance.{Instance}
+use Rattle.minelib_reading.specs.Denotes.{Denotes, DenotesCpit}
+use Rattle.minelib_reading.specs.StatedModel.{model_of, alone, model_of_cpit}
+use Rattle.minelib_reading.proofs.SpelledDenotes.{spelled_denoted, spelled_cpit}
+use Rattle.minelib_lines.specs.Kept.{IsKept, IsInDecimalRange, IsKeptCpit}
+use Rattle.minelib_lines.specs.declared.problem.Problem.TheVariants.{Pcpsp, Cpit}
+use Rattle.minelib_writing.specs.Written.{text_blocks, text_prec, text_pcpsp, text_cpit, coef_fields, value_fields}
+use Rattle.minelib_text.proofs.BlocksBack.{blocks_back, preds_back}
+use Rattle.minelib_text.proofs.ModelBack.{model_back, IsWritable}
+use Rattle.std.proofs.lemmas.List.{get_or-map, length-map}
+use Rattle.std.proofs.lemmas.List.Elements.{All-map, All-nil, All-cons}
+use Rattle.mine_instance.specs.Cpit.{CpitParts}
+use Rattle.mine_instance.specs.CpitKept.{IsCpit}
+use Rattle.mine_instance.specs.OfCpit.{without_destination}
+use Rattle.minelib_lines.specs.Lines.{line_of, lines_from}
+use Rattle.minelib_lines.specs.LineValues.{at_only_destination}
+
+pub written_again : (i : Instance) → IsValid i → IsKept i → Denotes (text_blocks i) (text_prec i) (text_pcpsp i) i
+unfolding text_blocks text_prec text_pcpsp
+written_again i valid kept = spelled_denoted (text_blocks i) (text_prec i) (text_pcpsp i) i (record {
+  of_blocks = blocks_back i.blocks valid.lengths.few;
+  of_preds = preds_back (length i.blocks) i.preds valid.lengths.few valid.lengths.preds valid.preds;
+  of_model = model_back Pcpsp (length i.blocks) (model_of i) (record {
+    few = valid.lengths.few;
+    model = record {
+      name = kept.name;
+      horizon = valid.horizon;
+      count = valid.lengths.values;
+      destinations = valid.destinations;
+      single = tt;
+      coefs = valid.coefs;
+      limits = valid.limits;
+    };
+    values = kept.values;
+    coefs = kept.coefs;
+    limits = kept.limits;
+  });
+})
+
+lines_from-map : {A B : Type 0} (fields : ℕ → B → List (List ℕ)) (f : A → B) (n : ℕ) (xs : List A)
+    → lines_from fields n (map f xs) ≡ lines_from (λ k x. fields k (f x)) n xs
+lines_from-map fields f n [] = refl
+lines_from-map fields f n (x ∷ xs) = ap (λ lines. line_of (fields n (f x)) ∷ lines) (lines_from-map fields f (n + 1) xs)
+
+coefs_of : (c : CpitParts) → IsCpit c → AreCoefs (length c.values) 1 c.resources (map at_only_destination c.coefs)
+coefs_of c is = record {
+  in_range = All-map (λ e. (e.b < length c.values) × (e.d < 1) × (e.r < c.resources)) at_only_destination c.coefs
+      (λ k d within. let range = is.coefs.in_range k d within in (range.0, omega arith, range.1));
+  rising = λ i j d before within.
+      let inside : j < length c.coefs = omega (arith, length-map c.coefs at_only_destination) in
+      rw (
+        get_or-map at_only_destination c.coefs i (without_destination d) d (omega arith),
+        get_or-map at_only_destination c.coefs j (without_destination d) d inside,
+      )
+      (is.coefs.rising i j (without_destination d) before inside);
+}
+
+writable : (c : CpitParts) → IsCpit c → IsKeptCpit c → IsWritable Cpit (length c.values) (model_of_cpit c)
+writable c is kept = record {
+  few = is.few;
+  model = record {
+    name = kept.name;
+    horizon = is.horizon;
+    count = length-map c.values alone;
+    destinations = record {
+      from_1_to_8 = (omega arith, omega arith);
+      one_each = All-map (λ vs. length vs ≡ 1) alone c.values (λ k d within. refl);
+    };
+    single = refl;
+    coefs = coefs_of c is;
+    limits = is.limits;
+  };
+  values = All-map (λ vs. All IsInDecimalRange vs) alone c.values
+      (λ k d within. All-cons IsInDecimalRange _ [] (kept.values k d within) (All-nil IsInDecimalRange));
+  coefs = All-map (λ e. IsInDecimalRange e.v) at_only_destination c.coefs kept.coefs;
+  limits = kept.limits;
+}
+
+pub written_cpit_again : (c : CpitParts) → IsCpit c → IsKeptCpit c → DenotesCpit (length c.values) (text_cpit c) c
+unfolding text_cpit
+written_cpit_again c is kept =
+    let lines = model_back Cpit (length c.values) (model_of_cpit c) (writable c is kept) in
+    spelled_cpit (length c.values) (text_cpit c) c
+    (rw (lines_from-map value_fields alone 0 c.values, lines_from-map (coef_fields Cpit) at_only_destination 0 c.coefs) at lines)
