@@ -1,12 +1,12 @@
 -- The key lines of a model file spell what they are written of.
-use Rattle.std.proofs.Common.{◌≡◌, ◌≢◌, ℕ, ◌+◌, ◌^◌, ◌≤◌, true, false, List, [], ◌∷◌, ◌++◌, length, ℤ, pos, negsuc, ◌≤ℤ◌, append_assoc, arith, refl, sym, subst, ap, ◌∙◌, map}
+use Rattle.std.proofs.Common.{◌≡◌, ◌≢◌, ℕ, ◌+◌, ◌^◌, ◌≤◌, true, List, [], ◌∷◌, ◌++◌, length, ℤ, pos, negsuc, ◌≤ℤ◌, append_assoc, arith, refl, sym, subst, ap, ◌∙◌, map}
 use Rattle.std.specs.Prelude.{◌*◌, ◌&&◌, nat_le, All, AllPairs}
 use Rattle.std.specs.List.{list_all, Contains}
 use Rattle.std.specs.Str.{bytes_eq}
 use Rattle.std.proofs.lemmas.Bool.{and_parts, leb-true}
 use Rattle.std.proofs.lemmas.Bool.Decides.{nat_tests}
 use Rattle.std.proofs.lemmas.Int.{ints}
-use Rattle.std.proofs.lemmas.List.{get_or-map, length-map}
+use Rattle.std.proofs.lemmas.List.{get_or-map}
 use Rattle.std.proofs.lemmas.List.Elements.{All-head, All-tail, filter_passes}
 use Rattle.std.proofs.lemmas.List.Kept.{AllPairs-filter}
 use Rattle.std.proofs.lemmas.Slice.Eq.{bytes_eq-Decides}
@@ -17,7 +17,6 @@ use Rattle.forms.proofs.FormFacts.{spell_written}
 use Rattle.forms.proofs.NumberFields.{size_fits, whole_fits}
 use Rattle.forms.specs.Words.{Decimal, Millionths, between, whole, FitsField, written_value}
 use Rattle.text_lines.proofs.PlainText.{is_plain, is_inner, all_weaker, all_parts, first_read, IsField, IsLine}
-use Rattle.text_lines.specs.TextLines.{Line}
 use Rattle.minelib_lines.specs.KeyWords.{has_key, header_keys, key_word, keys_of, type_text}
 use Rattle.minelib_lines.specs.LineValues.{StatedHeader, key_value}
 use Rattle.minelib_lines.specs.declared.header_key.HeaderKey.{HeaderKey}

@@ -4,7 +4,6 @@ use Rattle.std.specs.Prelude.{All, codes, slice_index_or}
 use Rattle.std.specs.Str.{bytes_eq}
 use Rattle.std.proofs.lemmas.List.Elements.{All-append, All-cons}
 use Rattle.pit_parts.specs.PlanKept.{is_turned}
-use Rattle.pit_parts.specs.declared.limit.Limit.{Limit}
 use Rattle.mine_instance.specs.declared.coef.Coef.{Coef}
 use Rattle.minelib_lines.specs.Kept.{IsInDecimalRange, HasDecimals}
 use Rattle.minelib_lines.specs.KeyWords.{keys_of, type_text}
@@ -23,7 +22,7 @@ use Rattle.minelib_reading.specs.StatedModel.{StatedModel}
 use Rattle.minelib_writing.specs.Written.{value_fields, coef_fields, limit_fields, key_lines, section_lines}
 use Rattle.text_lines.specs.TextLines.{Line, fields_of, lines_in}
 use Rattle.text_lines.proofs.PlainText.{IsLine}
-use Rattle.minelib_text.proofs.KeysBack.{IsHeader, header_lines, section_line, word_field}
+use Rattle.minelib_text.proofs.KeysBack.{header_lines, section_line, word_field}
 use Rattle.minelib_text.proofs.LinesBack.{IsEachWritten, items_written, numbered, numbered_both, text_lines}
 use Rattle.minelib_text.proofs.PlainLines.{form_line}
 

@@ -1,6 +1,6 @@
 -- The texts of a valid instance denote it, and that of a CPIT denotes the CPIT.
 use Rattle.std.proofs.Common.{◌≡◌, length, refl, ℕ, ◌+◌, ◌<◌, List, [], ◌∷◌, map, arith, ap}
-use Rattle.std.specs.Prelude.{Ok, All}
+use Rattle.std.specs.Prelude.{All}
 use Rattle.mine_instance.specs.Valid.{IsValid, AreCoefs}
 use Rattle.mine_instance.specs.Instance.{Instance}
 use Rattle.minelib_reading.specs.Denotes.{Denotes, DenotesCpit}
