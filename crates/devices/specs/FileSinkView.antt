@@ -1,14 +1,20 @@
 -- What a sink over a file tells.
-use Rattle.std.specs.Prelude.{ℕ, List, [], Bool, Option, Some, None}
+use Rattle.std.specs.Prelude.{ℕ, List, [], Bool, false, Option, Some, None}
 use Rattle.devices.specs.SinkState.{SinkState}
 
 pub record FileSinkView : Type 0 where
+  -- the path of its file
+  pub path : List ℕ
   -- whether its file was created
   pub begun : Bool
   -- the bytes that the file holds, where the file tells them
   pub held : Option (List ℕ)
   -- how many calls it refused so far
   pub failures : ℕ
+
+-- a sink for the file at this path that was not begun
+abbrev pub unbegun : List ℕ → FileSinkView
+unbegun path = record { path = path; begun = false; held = None; failures = 0 }
 
 -- what a file holds, once there is one
 abbrev pub held_by : {F : Type 0} → (F → Option (List ℕ)) → Option F → Option (List ℕ)

@@ -5,6 +5,7 @@ ghost use Rattle.std.specs.Prelude.{◌≡◌, ◌+◌, ◌≤◌, None, false, 
 
 use crate::feed::{Feed, FeedFault};
 use crate::read_feed::ReadFeed;
+use crate::shown_bytes::{ShownBytes, shown};
 use std::fs::File;
 use std::io::Read;
 use std::marker::Model;
@@ -15,14 +16,21 @@ use std::rt::Files;
 #[derive(Drop)]
 pub struct FileFeed<F: Read> {
     file: ReadFeed<F>,
+    path: ShownBytes,
 }
 
 impl<F: Read> Model for FileFeed<F> {
-    ghost use Rattle.devices.specs.ReadFeedView.{ReadFeedView};
+    ghost use Rattle.devices.specs.FileFeedView.{FileFeedView};
+    ghost use Rattle.devices.specs.ShownBytes.{bytes_of};
 
-    ghost Value = { ReadFeedView };
+    ghost Value = { FileFeedView };
 
-    ghost view = { λ f. f.file };
+    ghost view = { λ f. record {
+      path = bytes_of f.path;
+      left = f.file.left;
+      given = f.file.given;
+      failures = f.file.failures;
+    } };
 }
 
 impl<F: Read + Drop> FileFeed<F> {
@@ -32,6 +40,7 @@ impl<F: Read + Drop> FileFeed<F> {
     ///
     /// The file cannot be opened. Where the system opens a folder as a file, each pull of it fails.
     pub fn open<R: Files<File = F>>(rt: &R, path: &str) -> Result<FileFeed<F>, FeedFault>
+        ensures path { IfOk result (λ feed. feed.path ≡ path.now) }
         ensures left { IfOk result (λ feed. ⟦<FileFeed<F> as Feed>⟧.left feed ≡ None) }
         ensures given { IfOk result (λ feed. ⟦<FileFeed<F> as Feed>⟧.given feed ≡ 0) }
         ensures failures { IfOk result (λ feed. ⟦<FileFeed<F> as Feed>⟧.failures feed ≡ 0) }
@@ -40,6 +49,7 @@ impl<F: Read + Drop> FileFeed<F> {
         match File::open(rt, path) {
             Ok(file) => Ok(FileFeed {
                 file: ReadFeed::new(file),
+                path: shown(path.as_bytes()),
             }),
             Err(_) => Err(FeedFault),
         }
@@ -57,6 +67,7 @@ impl<F: Read + Drop> Feed for FileFeed<F> {
 
     /// Gives what one read of the file gives. A read that a signal interrupts is tried again.
     fn pull(&mut self, buffer: &mut [u8]) -> Result<usize, FeedFault>
+        ensures path { self.new.path ≡ self.old.path }
         ensures reads { ReadConsumes self.old.left self.new.left result buffer.new }
         ensures within { IfOk result (λ n. n ≤ length buffer.old) }
         ensures counts { IfOk result (λ n. self.new.given ≡ self.old.given + n) }

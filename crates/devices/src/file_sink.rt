@@ -1,9 +1,9 @@
 //! A file as a sink.
 
-ghost use Rattle.std.specs.Prelude.{◌≡◌, ◌+◌, ◌<◌, ◌≤◌, [], None, false, length, take, IsErr, IfOk, OnOk, OnErr};
+ghost use Rattle.std.specs.Prelude.{◌≡◌, ◌+◌, ◌<◌, ◌≤◌, [], false, length, string_bytes, take, IsErr, IfOk, OnOk, OnErr};
 ghost use Rattle.std.specs.Io.KnownBytes.{WriteAppends};
 ghost use Rattle.devices.specs.Device.{added};
-ghost use Rattle.devices.specs.FileSinkView.{file_told as told};
+ghost use Rattle.devices.specs.FileSinkView.{file_told as told, unbegun};
 ghost use Rattle.devices.specs.SinkState.{IsCutOff, IsWritten};
 ghost use Rattle.devices.specs.SinkSteps.{IsBegunAsBefore};
 
@@ -26,13 +26,14 @@ pub struct FileSink<'a, R: Files> {
 }
 
 impl<'a, R: Files> Model for FileSink<'a, R> {
-    ghost use Rattle.std.specs.Prelude.{is_some};
+    ghost use Rattle.std.specs.Prelude.{is_some, string_bytes};
     ghost use Rattle.devices.specs.Count.{count_of};
     ghost use Rattle.devices.specs.FileSinkView.{FileSinkView, held_by};
 
     ghost Value = { FileSinkView };
 
     ghost view = { λ s. record {
+      path = string_bytes s.path;
       begun = is_some s.file;
       held = held_by R.File.contents s.file;
       failures = count_of s.failures;
@@ -46,14 +47,14 @@ impl<'a, R: Files> FileSink<'a, R> {
     ///
     /// Memory for the path was refused.
     pub fn new(rt: &'a R, alloc: Global, path: &str) -> Result<FileSink<'a, R>, AllocError>
-        ensures { IfOk result (λ sink. sink ≡ record { begun = false; held = None; failures = 0 }) }
+        ensures { IfOk result (λ sink. sink ≡ unbegun path.now) }
     {
         Ok(FileSink::from_path(rt, String::from_str(alloc, path)?))
     }
 
     /// The same as `new`, by a path that is handed over. It takes no memory, and is never refused.
     pub fn from_path(rt: &'a R, path: String) -> FileSink<'a, R>
-        ensures { result ≡ record { begun = false; held = None; failures = 0 } }
+        ensures { result ≡ unbegun (string_bytes path) }
     {
         FileSink {
             rt,
@@ -75,6 +76,7 @@ impl<'a, R: Files> Sink for FileSink<'a, R> {
     fn begin(&mut self) -> Result<(), SinkFault>
         ensures begins { OnOk result (IsWritten [] (told self.old) (told self.new)) }
         ensures refused { OnErr result (IsCutOff 1 [] (told self.old) (told self.new)) }
+        ensures path { self.new.path ≡ self.old.path }
         ensures kept { OnErr result
             (self.new ≡ record self.old { failures = self.old.failures + 1 }) }
     {
@@ -96,6 +98,7 @@ impl<'a, R: Files> Sink for FileSink<'a, R> {
     ///
     /// The sink was not begun, or the file takes no byte.
     fn put(&mut self, bytes: &[u8]) -> Result<usize, SinkFault>
+        ensures path { self.new.path ≡ self.old.path }
         ensures unbegun { self.old.begun ≡ false → IsErr result }
         ensures within { IfOk result (λ n. n ≤ length bytes.now) }
         ensures some { IfOk result (λ n. 0 < length bytes.now → 0 < n) }

@@ -10,6 +10,7 @@ pub mod mem_feed;
 pub mod mem_sink;
 pub mod read_feed;
 pub mod section_sink;
+mod shown_bytes;
 pub mod single_read;
 pub mod single_write;
 pub mod sink;
