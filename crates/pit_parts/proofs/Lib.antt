@@ -1,4 +1,5 @@
 pub mod BandFacts
 pub mod BlockFacts
+pub mod LimitFacts
 pub mod Names
 pub mod WorthFacts

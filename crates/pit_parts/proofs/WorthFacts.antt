@@ -3,10 +3,12 @@ use Rattle.std.proofs.Common.{◌≡◌, ◌<◌, ◌≤◌, ℕ, zero, suc, add
 use Rattle.std.proofs.Math.Nat.{div-div-eq-div-mul, div-eq_of_lt-le, suc-mul}
 use Rattle.std.proofs.lemmas.Int.{ints}
 use Rattle.std.proofs.lemmas.Nat.{mul-le, div-add-mod', mod_below}
-use Rattle.std.specs.Prelude.{ℤ, pos, negsuc, ◌-ℤ◌, neg_ℤ, unsigned_abs}
+use Rattle.std.specs.Prelude.{ℤ, pos, negsuc, ◌+ℤ◌, ◌-ℤ◌, ◌*ℤ◌, ◌≤ℤ◌, neg_ℤ, unsigned_abs}
 use Rattle.std.specs.List.{filter, last_or}
 use Rattle.std.specs.Option.{option_map_or}
+use Rattle.pit_parts.specs.Bands.{recovery_at}
 use Rattle.pit_parts.specs.BandsKept.{IsBand}
+use Rattle.pit_parts.specs.PartLaws.{Earns}
 use Rattle.pit_parts.specs.Formula.{IsRuled}
 use Rattle.pit_parts.specs.Worth.{floor, IsFloor, worth, IsWorth}
 use Rattle.pit_parts.specs.declared.band.Band.{Band}
@@ -88,3 +90,44 @@ worth_bound (formula.Leach bands price cost) b ruled =
     (recovery_bound None bands b.grade (omega arith) ruled.0.in_range) ruled.1 ruled.2
 worth_bound (formula.Dump cost) b ruled =
     spent_bound (b.kg * cost) (omega (arith, mul-le b.kg cost (10 ^ 9) (10 ^ 7) b.kg_in_range ruled))
+
+-- a floor is the greatest number whose multiple is paid beside what is spent
+paid : (earned spent : ℕ) → ((floor (pos earned -ℤ pos spent) (10 ^ 15) *ℤ pos (10 ^ 15)) +ℤ pos spent) ≤ℤ pos earned
+paid earned spent = by_floor (floor (pos earned -ℤ pos spent) (10 ^ 15)) (floor_is (pos earned -ℤ pos spent) (10 ^ 15) (omega arith))
+  where
+    by_floor : (q : ℤ) → IsFloor q (pos earned -ℤ pos spent) (10 ^ 15) → ((q *ℤ pos (10 ^ 15)) +ℤ pos spent) ≤ℤ pos earned
+    by_floor q is = omega (arith, ints, is.0)
+
+most : (earned spent : ℕ) (cents : ℤ) → ((cents *ℤ pos (10 ^ 15)) +ℤ pos spent) ≤ℤ pos earned
+    → cents ≤ℤ floor (pos earned -ℤ pos spent) (10 ^ 15)
+most earned spent cents within =
+    by_floor (floor (pos earned -ℤ pos spent) (10 ^ 15)) (floor_is (pos earned -ℤ pos spent) (10 ^ 15) (omega arith))
+  where
+    by_floor : (q : ℤ) → IsFloor q (pos earned -ℤ pos spent) (10 ^ 15) → cents ≤ℤ q
+    by_floor q is = omega (arith, ints, is.1, within)
+
+-- what a dump costs, in thousandths of a cent, is spent by a mill that earns nothing
+dumps : (spent : ℕ) → floor (neg_ℤ (pos spent)) 1000 ≡ floor (pos 0 -ℤ pos (spent * 10 ^ 12)) (10 ^ 15)
+dumps spent =
+    floor_alone (floor (neg_ℤ (pos spent)) 1000) (pos 0 -ℤ pos (spent * 10 ^ 12)) (10 ^ 15) (omega arith)
+    (by_floor (floor (neg_ℤ (pos spent)) 1000) (floor_is (neg_ℤ (pos spent)) 1000 (omega arith)))
+  where
+    by_floor : (q : ℤ) → IsFloor q (neg_ℤ (pos spent)) 1000 → IsFloor q (pos 0 -ℤ pos (spent * 10 ^ 12)) (10 ^ 15)
+    by_floor q is = (omega (arith, ints, is.0), omega (arith, ints, is.1))
+
+no_metal : (metal : ℕ) → metal * 0 * 0 ≡ 0
+no_metal metal = omega arith
+
+pub worth_earned : (f : Formula) (b : Block) → Earns f b (worth f b)
+worth_earned (formula.Mill recovery price cost) b = paid (b.kg * b.grade * recovery * price) (b.kg * cost * 10 ^ 12)
+worth_earned (formula.Leach bands price cost) b = paid (b.kg * b.grade * recovery_at bands b.grade * price) (b.kg * cost * 10 ^ 12)
+worth_earned (formula.Dump cost) b =
+    rw (no_metal (b.kg * b.grade), dumps (b.kg * cost)) (paid 0 (b.kg * cost * 10 ^ 12))
+
+pub worth_greatest : (f : Formula) (b : Block) (cents : ℤ) → Earns f b cents → cents ≤ℤ worth f b
+worth_greatest (formula.Mill recovery price cost) b cents within =
+    most (b.kg * b.grade * recovery * price) (b.kg * cost * 10 ^ 12) cents within
+worth_greatest (formula.Leach bands price cost) b cents within =
+    most (b.kg * b.grade * recovery_at bands b.grade * price) (b.kg * cost * 10 ^ 12) cents within
+worth_greatest (formula.Dump cost) b cents within =
+    rw (dumps (b.kg * cost)) (most 0 (b.kg * cost * 10 ^ 12) cents (rw (no_metal (b.kg * b.grade)) at within))

@@ -6,6 +6,7 @@ pub mod Destinations
 pub mod Formula
 pub mod FormulaCopy
 pub mod Name
+pub mod PartLaws
 pub mod Plan
 pub mod PlanFormulas
 pub mod PlanKept
