@@ -2,6 +2,7 @@
 
 ghost use Rattle.std.specs.Prelude.{◌≡◌, [], OnOk, OnErr};
 ghost use Rattle.devices.specs.SinkSteps.{IsAppended, IsAppendCut};
+ghost use Rattle.devices.specs.Writes.{HasRoom};
 
 use crate::sink::{Sink, SinkFault};
 
@@ -41,6 +42,7 @@ pub fn flush<S: Sink>(sink: &mut S, buffer: &mut Vec<u8>) -> Result<(), SinkFaul
 pub fn flush_full<S: Sink>(sink: &mut S, buffer: &mut Vec<u8>) -> Result<(), SinkFault>
     ensures written { OnOk result
         (IsAppended [] buffer.old.items buffer.new.items (S.state sink.old) (S.state sink.new)) }
+    ensures room { OnOk result (HasRoom buffer.new.items) }
     ensures refused { OnErr result
         (IsAppendCut 1 [] buffer.old.items (S.state sink.old) (S.state sink.new)) }
 {

@@ -8,7 +8,7 @@ use Rattle.minelib_lines.specs.Lines.{text_of}
 use Rattle.devices.specs.SinkState.{SinkState}
 use Rattle.devices.specs.SinkSteps.{IsAppended, IsAppendCut}
 use Rattle.devices.specs.declared.write_fault.WriteFault.{WriteFault}
-use Rattle.devices.specs.Writes.{WritesOn}
+use Rattle.devices.specs.Writes.{IsWrittenOn, WritesOn}
 use Rattle.devices.proofs.Fronts.{cut_before, cut_then, written_then}
 pub use Rattle.devices.proofs.Fronts.{buffered, nothing_put}
 
@@ -28,9 +28,10 @@ lines_cut_before xs ys cut = rw text_of-append (cut_before (text_of ys) cut)
 
 module _ {before mid : List ℕ} {old between new : SinkState} where
   -- lines were written on, and then more of them
-  pub lines_then : {after : List ℕ} (xs ys : List (List ℕ)) → IsAppended (text_of xs) before mid old between
-      → IsAppended (text_of ys) mid after between new → IsAppended (text_of (xs ++ ys)) before after old new
-  lines_then xs ys first then = rw text_of-append (written_then first then)
+  pub lines_then : {after : List ℕ} (xs ys : List (List ℕ)) → IsWrittenOn (text_of xs) before mid old between
+      → IsWrittenOn (text_of ys) mid after between new → IsWrittenOn (text_of (xs ++ ys)) before after old new
+  lines_then xs ys first then =
+      record { appended = rw text_of-append (written_then first.appended then.appended); room = λ room. then.room (first.room room) }
 
   -- lines were written on, and the next were cut short
   pub lines_cut_then : {n : ℕ} (xs ys : List (List ℕ)) → IsAppended (text_of xs) before mid old between
@@ -38,8 +39,8 @@ module _ {before mid : List ℕ} {old between new : SinkState} where
   lines_cut_then xs ys first cut = rw text_of-append (cut_then first cut)
 
   -- all the lines before a place were written on, and then so many more
-  pub more_then : {after : List ℕ} (lines : List (List ℕ)) (i n : ℕ) → IsAppended (text_of (take i lines)) before mid old between
-      → IsAppended (text_of (take n (drop i lines))) mid after between new → IsAppended (text_of (take (i + n) lines)) before after old new
+  pub more_then : {after : List ℕ} (lines : List (List ℕ)) (i n : ℕ) → IsWrittenOn (text_of (take i lines)) before mid old between
+      → IsWrittenOn (text_of (take n (drop i lines))) mid after between new → IsWrittenOn (text_of (take (i + n) lines)) before after old new
   more_then lines i n first then = rw take-add (lines_then (take i lines) (take n (drop i lines)) first then)
 
   -- all the lines before a place were written on, and the others were cut short
@@ -51,10 +52,10 @@ module _ {before mid : List ℕ} {old between new : SinkState} where
 
 -- lines were written on, and a writer goes on with more of them
 pub goes_on : {before mid : List ℕ} {old between : SinkState} (after : List ℕ) (new : SinkState) (xs ys : List (List ℕ))
-    (result : Result (Unit {0}) WriteFault) → IsAppended (text_of xs) before mid old between → WritesOn (text_of ys) mid after between new result
+    (result : Result (Unit {0}) WriteFault) → IsWrittenOn (text_of xs) before mid old between → WritesOn (text_of ys) mid after between new result
     → WritesOn (text_of (xs ++ ys)) before after old new result
 goes_on after new xs ys result first writes =
-    MatchResult-weaker result writes (λ _ then. lines_then xs ys first then) (λ _ cut. lines_cut_then xs ys first cut)
+    MatchResult-weaker result writes (λ _ then. lines_then xs ys first then) (λ _ cut. lines_cut_then xs ys first.appended cut)
 
 -- the first of these lines were cut short, and so are they all
 first_cut : {n : ℕ} {before : List ℕ} {old new : SinkState} (lines : List (List ℕ)) (i : ℕ)
@@ -74,6 +75,11 @@ pub held_cut : {n : ℕ} {before after : List ℕ} {old new : SinkState} (text :
     → IsAppendCut n text before old new
 held_cut {n} {before} {after} {old} {new} text e cut =
     subst (λ text. IsAppendCut n text before old new) (append-nil text) (cut_then (buffered text e) cut)
+
+-- the buffer took a line, and what it held was cut short before more lines came
+pub line_cut : {n : ℕ} {before after : List ℕ} {old new : SinkState} (line : List ℕ) (lines : List (List ℕ))
+    → after ≡ before ++ (line ++ 10 ∷ []) → IsAppendCut n [] after old new → IsAppendCut n (text_of (line ∷ lines)) before old new
+line_cut line lines e cut = cut_before (text_of lines) (held_cut (line ++ 10 ∷ []) e cut)
 
 -- the buffer took the first lines, and what it held was cut short
 pub buffered_cut : {n : ℕ} {before after : List ℕ} {old new : SinkState} (lines : List (List ℕ)) (i : ℕ)

@@ -16,7 +16,7 @@ ghost use Rattle.pit_parts.specs.declared.ranges.TheConstants.{MAX_BLOCKS};
 use crate::block_sections::{GreatestLines, ValueLines};
 use crate::coef_lines::CoefLines;
 use crate::id_text::IdText;
-use crate::keys::{KeyValues, put_keys};
+use crate::keys::{KeyValues, write_keys};
 use crate::lines::Lines;
 use crate::prec_lines::write_preds;
 use crate::schedule::write_sections;
@@ -124,8 +124,9 @@ impl<'a, P: PredLists> Text for UpitFile<'a, P> {
         buffer: &mut Vec<u8>,
     ) -> Result<(), WriteFault> {
         let values = &self.instance.values;
-        put_keys(
+        write_keys(
             alloc,
+            sink,
             buffer,
             &KeyValues::of_instance(b"UPIT", self.instance),
             HeaderKey::of_upit(),
@@ -173,8 +174,9 @@ impl<'a, P: PredLists> Text for PcpspFile<'a, P> {
     ) -> Result<(), WriteFault> {
         let instance = self.instance;
         let problem = Problem::Pcpsp;
-        put_keys(
+        write_keys(
             alloc,
+            sink,
             buffer,
             &KeyValues::of_instance(problem.type_text(), instance),
             problem.keys(),
@@ -230,8 +232,9 @@ impl<'a> Text for CpitFile<'a> {
     ) -> Result<(), WriteFault> {
         let cpit = self.cpit;
         let problem = Problem::Cpit;
-        put_keys(
+        write_keys(
             alloc,
+            sink,
             buffer,
             &KeyValues::of_cpit(problem.type_text(), cpit),
             problem.keys(),

@@ -7,8 +7,12 @@ ghost use Rattle.minelib_lines.specs.LineValues.{header_of, header_of_cpit, key_
 ghost use Rattle.minelib_lines.specs.Lines.{text_of};
 ghost use Rattle.minelib_writing.specs.Written.{key_line, key_lines};
 ghost use Rattle.minelib_writing.specs.inner.KeyParts.{value_in};
+ghost use Rattle.devices.specs.Writes.{WritesOn};
 
 use crate::fields::{put_decimal_to, put_text, put_whole_to};
+use devices::sink::Sink;
+use devices::slices::flush_full;
+use devices::write_fault::WriteFault;
 use mine_instance::cpit::Cpit;
 use mine_instance::instance::Instance;
 use minelib_lines::header_key::HeaderKey;
@@ -63,8 +67,24 @@ impl<'a> KeyValues<'a> {
     }
 }
 
-/// Appends the lines of these keys.
-pub fn put_keys(
+/// Writes the lines of these keys behind what the buffer holds.
+#[tactic(auto, using(crate::proofs::SectionsWritten::nothing_put))]
+pub fn write_keys<S: Sink>(
+    alloc: Global,
+    sink: &mut S,
+    buffer: &mut Vec<u8>,
+    values: &KeyValues,
+    keys: &[HeaderKey],
+) -> Result<(), WriteFault>
+    ensures { WritesOn (text_of (key_lines (value_in values.now) keys.now))
+        buffer.old.items buffer.new.items (S.state sink.old) (S.state sink.new) result }
+{
+    put_keys(alloc, buffer, values, keys)?;
+    flush_full(sink, buffer)?;
+    Ok(())
+}
+
+fn put_keys(
     alloc: Global,
     out: &mut Vec<u8>,
     values: &KeyValues,

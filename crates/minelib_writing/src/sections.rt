@@ -3,8 +3,8 @@
 ghost use Rattle.std.specs.Prelude.{◌≡◌, ◌+◌, ◌<◌, ◌≤◌, ℕ, List, [], ◌∷◌, ◌++◌, length, take, drop, slice_index_or, IfOk, IfErr, OnOk, OnErr};
 ghost use Rattle.minelib_lines.specs.Lines.{text_of};
 ghost use Rattle.minelib_writing.specs.inner.KeptParts.{HoldsFrom};
-ghost use Rattle.devices.specs.Writes.{WritesOn};
-ghost use Rattle.devices.specs.SinkSteps.{refusals, IsAppended, IsAppendCut};
+ghost use Rattle.devices.specs.SinkSteps.{refusals, IsAppendCut};
+ghost use Rattle.devices.specs.Writes.{IsWrittenOn, WritesOn};
 
 use crate::fields::put_text;
 use devices::sink::Sink;
@@ -83,7 +83,7 @@ fn write_some<S: Sink, L: Section>(
     ensures some { IfOk result (λ n. 0 < n) }
     ensures within { IfOk result (λ n. index + n ≤ length (L.lines section.now)) }
     ensures written { IfOk result
-        (λ n. IsAppended (text_of (take n (drop index (L.lines section.now))))
+        (λ n. IsWrittenOn (text_of (take n (drop index (L.lines section.now))))
         buffer.old.items buffer.new.items (S.state sink.old) (S.state sink.new)) }
     ensures refused { IfErr result
         (λ fault. IsAppendCut (refusals fault) (text_of (drop index (L.lines section.now)))
@@ -110,5 +110,6 @@ pub fn write_titled<S: Sink, L: Section>(
         (HoldsFrom (L.kept section.now) 0 (length (L.lines section.now))) }
 {
     put_text(buffer, title, b'\n')?;
+    flush_full(sink, buffer)?;
     write_section(alloc, sink, buffer, section)
 }

@@ -17,7 +17,7 @@ returns-in_err-write_titled-2-clause-writes g c =
     let values = codes "OBJECTIVE_FUNCTION:" ∷ g.V.Section.lines c.args.values.now in
     let coefs = codes "RESOURCE_CONSTRAINT_COEFFICIENTS:" ∷ g.C.Section.lines c.args.coefs.now in
     let limits = codes "RESOURCE_CONSTRAINT_LIMITS:" ∷ g.L.Section.lines c.args.limits.now in
-    let two = lines_cut_then values coefs c.in_ok-write_titled.ensures.writes c.in_err-write_titled-2.ensures.writes in
+    let two = lines_cut_then values coefs c.in_ok-write_titled.ensures.writes.appended c.in_err-write_titled-2.ensures.writes in
     let cut = lines_cut_before (values ++ coefs) limits two in
     search rules
 

@@ -7,7 +7,7 @@ use Rattle.minelib_writing.proofs.sections.write_section.Goals as goal
 pub returns-in_err-count-clause-writes : goal.returns-in_err-count-clause-writes
 returns-in_err-count-clause-writes g c =
     let lines = g.L.Section.lines c.args.section.now in
-    let cut = rest_cut lines _ c.loop-index.invariant.written c.in_err-count.ensures.refused in
+    let cut = rest_cut lines _ c.loop-index.invariant.written.appended c.in_err-count.ensures.refused in
     search rules
 
 -- those before the place, and then some more

@@ -1,6 +1,6 @@
 use Rattle.std.proofs.Common.{◌-◌, ◌≤◌, length, take}
 use Rattle.minelib_lines.specs.Lines.{text_of}
-use Rattle.devices.specs.SinkSteps.{IsAppended}
+use Rattle.devices.specs.Writes.{IsWrittenOn}
 use Rattle.minelib_writing.specs.inner.KeptParts.{HoldsFrom}
 use Rattle.minelib_writing.proofs.sections.write_section.Given as goal
 
@@ -8,7 +8,7 @@ use Rattle.minelib_writing.proofs.sections.write_section.Given as goal
 abbrev pub invariant-loop-index : goal.invariant-loop-index
 invariant-loop-index g l = record {
   within : l.index ≤ length (g.L.Section.lines l.section);
-  written : IsAppended (text_of (take l.index (g.L.Section.lines l.section))) l.initial.buffer.items l.buffer.items
+  written : IsWrittenOn (text_of (take l.index (g.L.Section.lines l.section))) l.initial.buffer.items l.buffer.items
       (g.S.Sink.state l.initial.sink) (g.S.Sink.state l.sink);
   kept : HoldsFrom (g.L.Section.kept l.section) 0 l.index;
 }

@@ -1,13 +1,13 @@
-use Rattle.std.proofs.Common.{All, length}
+use Rattle.std.proofs.Common.{rules, All, length}
 use Rattle.minelib_lines.specs.Kept.{IsInDecimalRange, HasDecimals}
 use Rattle.minelib_lines.specs.KeyWords.{keys_of, type_text}
 use Rattle.minelib_lines.specs.LineValues.{header_of, key_value}
-use Rattle.minelib_lines.specs.Lines.{text_of, lines_from}
+use Rattle.minelib_lines.specs.Lines.{lines_from}
 use Rattle.minelib_writing.specs.Written.{text_pcpsp, key_lines, section_lines, value_fields, coef_fields, limit_fields}
 use Rattle.minelib_lines.specs.declared.problem.Problem.TheVariants.{Pcpsp}
 use Rattle.minelib_writing.proofs.KeptFacts.{kept_all, on_ok_three}
 use Rattle.minelib_writing.proofs.LineFacts.{length-lines_from}
-use Rattle.minelib_writing.proofs.SectionsWritten.{buffered, goes_on}
+use Rattle.minelib_writing.proofs.SectionsWritten.{goes_on, lines_cut_before}
 use Rattle.minelib_writing.proofs.files.PcpspFileText.write.Goals as goal
 
 pub returns : goal.returns
@@ -17,7 +17,7 @@ returns g c =
     let keys = key_lines (key_value (type_text Pcpsp) (length i.blocks) (header_of i)) (keys_of Pcpsp) in
     let limits = lines_from limit_fields 0 i.limits in
     let sections = section_lines (lines_from value_fields 0 i.values) (lines_from (coef_fields Pcpsp) 0 i.coefs) limits in
-    let first = buffered (text_of keys) (rw (c.of_instance.ensures.values, c.type_text.ensures, c.keys.ensures) at c.in_ok-put_keys.ensures) in
+    let first = rw (c.of_instance.ensures.values, c.type_text.ensures, c.keys.ensures) at c.in_ok-write_keys.ensures in
     let whole = goes_on _ _ keys sections c.write_sections.result first
     (rw c.as_slice.ensures at c.write_sections.ensures.writes) in
     record {
@@ -32,3 +32,14 @@ returns g c =
           c.write_sections.ensures.values c.write_sections.ensures.coefs
           (rw c.as_slice.ensures at c.write_sections.ensures.limits);
     }
+
+-- the keys were cut short, and so is what stands under them
+pub returns-in_err-write_keys-clause-writes : goal.returns-in_err-write_keys-clause-writes
+unfolding text_pcpsp
+returns-in_err-write_keys-clause-writes g c =
+    let i = c.args.self.now.instance.now in
+    let keys = key_lines (key_value (type_text Pcpsp) (length i.blocks) (header_of i)) (keys_of Pcpsp) in
+    let limits = lines_from limit_fields 0 i.limits in
+    let sections = section_lines (lines_from value_fields 0 i.values) (lines_from (coef_fields Pcpsp) 0 i.coefs) limits in
+    let cut = lines_cut_before keys sections (rw (c.of_instance.ensures.values, c.type_text.ensures, c.keys.ensures) at c.in_err-write_keys.ensures) in
+    search rules

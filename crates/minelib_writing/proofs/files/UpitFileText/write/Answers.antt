@@ -1,11 +1,11 @@
-use Rattle.std.proofs.Common.{◌∷◌, length}
+use Rattle.std.proofs.Common.{rules, ◌∷◌, length}
 use Rattle.std.specs.Prelude.{codes}
 use Rattle.std.proofs.lemmas.Result.{on_ok_weaker}
 use Rattle.minelib_lines.specs.KeyWords.{upit_keys}
 use Rattle.minelib_lines.specs.LineValues.{header_of, key_value}
-use Rattle.minelib_lines.specs.Lines.{text_of, lines_from}
+use Rattle.minelib_lines.specs.Lines.{lines_from}
 use Rattle.minelib_writing.specs.Written.{text_upit, key_lines, greatest_fields}
-use Rattle.minelib_writing.proofs.SectionsWritten.{buffered, goes_on}
+use Rattle.minelib_writing.proofs.SectionsWritten.{goes_on, lines_cut_before}
 use Rattle.minelib_writing.proofs.files.UpitFileText.write.Goals as goal
 
 pub returns : goal.returns
@@ -14,9 +14,19 @@ returns g c =
     let i = c.args.self.now.instance.now in
     let keys = key_lines (key_value (codes "UPIT") (length i.blocks) (header_of i)) upit_keys in
     let values = codes "OBJECTIVE_FUNCTION:" ∷ lines_from greatest_fields 0 i.values in
-    let first = buffered (text_of keys) (rw (c.of_instance.ensures.values, c.of_upit.ensures) at c.in_ok-put_keys.ensures) in
+    let first = rw (c.of_instance.ensures.values, c.of_upit.ensures) at c.in_ok-write_keys.ensures in
     let whole = goes_on _ _ keys values c.write_titled.result first c.write_titled.ensures.writes in
     record {
       writes = whole;
       kept = on_ok_weaker c.write_titled.result (λ _. tt) c.write_titled.ensures.kept;
     }
+
+-- the keys were cut short, and so is what stands under them
+pub returns-in_err-write_keys-clause-writes : goal.returns-in_err-write_keys-clause-writes
+unfolding text_upit
+returns-in_err-write_keys-clause-writes g c =
+    let i = c.args.self.now.instance.now in
+    let keys = key_lines (key_value (codes "UPIT") (length i.blocks) (header_of i)) upit_keys in
+    let values = codes "OBJECTIVE_FUNCTION:" ∷ lines_from greatest_fields 0 i.values in
+    let cut = lines_cut_before keys values (rw (c.of_instance.ensures.values, c.of_upit.ensures) at c.in_err-write_keys.ensures) in
+    search rules
