@@ -7,6 +7,7 @@ use Rattle.std.proofs.Math.Nat.{mul-le-mul, mul-le-mul_left, le_of_mul-le-mul_le
 use Rattle.std.proofs.Math.Bool.{and-false}
 use Rattle.std.proofs.lemmas.List.Folds.{list_any_at, list_any_none}
 use Rattle.std.proofs.lemmas.Bool.{cases_Bool, cases_lt, le-leb, lt-leb, ltb-true, eqb-true, eq-eqb, and_parts}
+use Rattle.std.proofs.lemmas.Bool.Decides.{nat_tests}
 use Rattle.std.proofs.lemmas.List.{get_or-map, get_or_default}
 use Rattle.std.proofs.lemmas.List.Elements.{All-contains, All-filter, All-same, filter_passes}
 use Rattle.std.proofs.lemmas.List.FromFn.{get_or-range_with_len, length-range_with_len}
@@ -24,6 +25,48 @@ use Rattle.precedence.specs.Identifier.{id}
 use Rattle.precedence.specs.Numbering.{IsNumbering, NumberingView}
 use Rattle.precedence.proofs.AllLists.{all_at}
 use Rattle.precedence.proofs.PlacesWhere.{nowhere, where_at, where_filter}
+
+-- ---- the slope of a side
+
+-- cones with the same slopes towards a block, and as high, see it alike
+seen_alike : (grid : Grid) (one other : Cone) (low high : Block) → slope_along_x one low high ≡ slope_along_x other low high
+    → slope_along_y one low high ≡ slope_along_y other low high → one.k ≡ other.k → is_above grid one low high ≡ is_above grid other low high
+seen_alike grid one other low high along across benches =
+    λ j. nat_lt low.z high.z
+    && (nat_le (high.z - low.z) (benches j)
+    && is_within_slopes grid (along j) (across j) (abs_diff low.x high.x) (abs_diff low.y high.y) (high.z - low.z))
+
+-- which slope is taken, where the other one changes
+first_taken : (m n : ℕ) (first second other : Slope) → m < n → (if nat_lt m n then first else other) ≡ (if nat_lt m n then first else second)
+first_taken m n first second other less = by_test (nat_lt m n) (grind (arith, nat_tests))
+  where
+    by_test : (t : Bool) → t ≡ true → (if t then first else other) ≡ (if t then first else second)
+    by_test true e = refl
+    by_test false e = absurd cc
+
+second_taken : (m n : ℕ) (first second other : Slope) → n < m → (if nat_lt m n then other else second) ≡ (if nat_lt m n then first else second)
+second_taken m n first second other more = by_test (nat_lt m n) (grind (arith, nat_tests))
+  where
+    by_test : (t : Bool) → t ≡ false → (if t then other else second) ≡ (if t then first else second)
+    by_test true e = absurd cc
+    by_test false e = refl
+
+module _ (grid : Grid) (cone : Cone) (low high : Block) where
+  pub east_alone : (west : Slope) → low.x < high.x → is_above grid (record cone { west = west }) low high ≡ is_above grid cone low high
+  east_alone west less =
+      seen_alike grid (record cone { west = west }) cone low high (first_taken low.x high.x cone.east cone.west west less) refl refl
+
+  pub west_alone : (east : Slope) → high.x < low.x → is_above grid (record cone { east = east }) low high ≡ is_above grid cone low high
+  west_alone east more =
+      seen_alike grid (record cone { east = east }) cone low high (second_taken low.x high.x cone.east cone.west east more) refl refl
+
+  pub north_alone : (south : Slope) → low.y < high.y → is_above grid (record cone { south = south }) low high ≡ is_above grid cone low high
+  north_alone south less =
+      seen_alike grid (record cone { south = south }) cone low high refl (first_taken low.y high.y cone.north cone.south south less) refl
+
+  pub south_alone : (north : Slope) → high.y < low.y → is_above grid (record cone { north = north }) low high ≡ is_above grid cone low high
+  south_alone north more =
+      seen_alike grid (record cone { north = north }) cone low high refl (second_taken low.y high.y cone.north cone.south north more) refl
 
 -- ---- one slope
 

@@ -6,6 +6,7 @@ ghost use Rattle.std.specs.List.Sorted.{IsStrictlyIncreasing};
 ghost use Rattle.pit_parts.specs.Plan.{PlanParts};
 ghost use Rattle.pit_parts.specs.PlanKept.{IsCone};
 ghost use Rattle.pit_parts.specs.declared.block.Block.{Block};
+ghost use Rattle.pit_parts.specs.declared.cone.Cone.{Cone};
 ghost use Rattle.pit_parts.specs.declared.cone.Slope.{Slope};
 ghost use Rattle.pit_parts.specs.declared.grid.Grid.{Grid};
 ghost use Rattle.precedence.specs.Cone.{is_above, preds};
@@ -24,6 +25,19 @@ pub fn identifiers_rise()
 pub fn one_slope()
     ensures { (grid : Grid) (slope : Slope) (k : ℕ) (low high : Block) → 1 ≤ slope.q
         → is_above grid (even_cone slope k) low high ≡ is_above_by grid slope k low high }
+{}
+
+/// Towards each side a cone goes by that side's slope alone: east is where x is greater, north is where y is greater.
+#[tactic(auto, using(crate::proofs::LawFacts::east_alone, crate::proofs::LawFacts::west_alone, crate::proofs::LawFacts::north_alone, crate::proofs::LawFacts::south_alone))]
+pub fn each_side_has_its_slope()
+    ensures east { (grid : Grid) (cone : Cone) (low high : Block) (west : Slope) → low.x < high.x
+        → is_above grid (record cone { west = west }) low high ≡ is_above grid cone low high }
+    ensures west { (grid : Grid) (cone : Cone) (low high : Block) (east : Slope) → high.x < low.x
+        → is_above grid (record cone { east = east }) low high ≡ is_above grid cone low high }
+    ensures north { (grid : Grid) (cone : Cone) (low high : Block) (south : Slope) → low.y < high.y
+        → is_above grid (record cone { south = south }) low high ≡ is_above grid cone low high }
+    ensures south { (grid : Grid) (cone : Cone) (low high : Block) (north : Slope) → high.y < low.y
+        → is_above grid (record cone { north = north }) low high ≡ is_above grid cone low high }
 {}
 
 /// Where the cone of each zone has one slope on all sides, the lists of predecessors are those of the test with one slope.
