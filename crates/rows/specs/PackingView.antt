@@ -1,5 +1,6 @@
--- What contracts see of items while they are packed.
-use Rattle.std.specs.Prelude.{ℕ, ℤ, List, []}
+-- What contracts see of items while they are packed, and when a list of items is full.
+use Rattle.std.specs.Prelude.{◌≡◌, ℕ, ◌≤◌, ℤ, List, [], vec_len, vec_capacity}
+use Rattle.std.specs.Global.{Vec}
 use Rattle.rows.specs.declared.item.Item.{Item}
 use Rattle.rows.specs.declared.item.Item.TheVariants.{Row, End}
 
@@ -13,3 +14,11 @@ pub record PackingView : Type 0 where
 abbrev pub item_worths : Item → List ℤ
 item_worths (Row v) = v.worths
 item_worths (End file rows) = []
+
+-- the list has no room for one more item of so many worths
+abbrev pub IsFullFor : ℕ → PackingView → Type 0
+IsFullFor worths list = worths ≤ list.worths_room → list.room ≡ 0
+
+-- the items are those of a list that has no room for one more
+abbrev pub FillAList : List Item → Type 0
+FillAList items = (list : Vec Item) × (list.items ≡ items) × (vec_capacity list ≤ vec_len list)

@@ -1,7 +1,8 @@
 //! Items while a valuer packs them.
 
 ghost use Rattle.std.specs.Prelude.{◌≡◌, ◌<◌, ◌≤◌, [], Some, length, slice_get};
-ghost use Rattle.std.proofs.Common.{rules};
+ghost use Rattle.std.proofs.Math.Nat.{le_trans};
+ghost use Rattle.rows.specs.PackingView.{IsFullFor};
 
 use crate::entry::Entry;
 use crate::item::Item;
@@ -68,9 +69,9 @@ impl<A: Allocator> Packing<A> {
 impl<A: Allocator> Keeps for Packing<A> {
     ghost held = { λ packing. packing.items };
 
-    ghost is_full = { λ packing count. count ≤ packing.worths_room → packing.room ≡ 0 };
+    ghost is_full = { λ packing worths. IsFullFor worths packing };
 
-    ghost full_for_more = { λ packing few more fewer full. Prim.search rules };
+    ghost full_for_more = { λ packing few more fewer full enough. full (le_trans fewer enough) };
 
     fn keep(&mut self, item: Item) -> Result<(), AllocError> {
         make_room_for(&mut self.entries, 1)?;

@@ -148,7 +148,7 @@ fn start_valuer<'s, E, R: Threads + Wait + Sync, G: Gate + Sync>(
                 ensures items { let took = drop (length end.took) result.taker.took in
                     IsFalse result.memory
                     → result.items ≡ items_by (formulas_of destinations.entry.now) took }
-            { value_packed(rt, alloc, end, valuer, destinations, gate) },
+            { value_packed(rt, alloc, end, valuer, destinations, gate).packed() },
         )
         .ok()
 }

@@ -3,6 +3,7 @@
 ghost use Rattle.std.specs.Prelude.{◌≡◌, ◌≤◌, ◌++◌, true, [], ◌∷◌, length, take, drop, OnOk, OnErr, IsFalse, IsTrue};
 ghost use Rattle.lane.specs.MessageKinds.{is_done};
 ghost use Rattle.pit_parts.specs.Destinations.{formulas_of};
+ghost use Rattle.rows.specs.PackingView.{FillAList, IsFullFor};
 ghost use Rattle.valuers.specs.Valuing.{items_by};
 ghost use Rattle.pit_parts.specs.declared.ranges.TheConstants.{MAX_DESTINATIONS};
 
@@ -29,7 +30,7 @@ pub struct ValuerResult<K = Items> {
 /// of each row before it values it.
 ///
 /// Where memory for an item is refused, it drops this item and all behind it, and goes on taking messages: so no reader
-/// waits for ever.
+/// waits for ever. Memory is refused only where the list has no room left for an item.
 pub fn value_all<R: Wait, G: Gate>(
     rt: &R,
     alloc: Global,
@@ -52,6 +53,7 @@ pub fn value_all<R: Wait, G: Gate>(
     ensures front { result.items
         ≡ take (length result.items)
         (items_by (formulas_of destinations.now) (drop (length take_end.took) result.taker.took)) }
+    ensures full { IsTrue result.memory → FillAList result.items }
 {
     let items = Vec::new(alloc);
     let (taker, items, memory) = take_all(rt, take_end, valuer, destinations, gate, items);
@@ -62,7 +64,7 @@ pub fn value_all<R: Wait, G: Gate>(
     }
 }
 
-/// The same, but each row is kept without the room that it does not use.
+/// The same, but each row is kept without the room that it does not use, and contracts see how much room is left.
 pub fn value_packed<R: Wait, G: Gate>(
     rt: &R,
     alloc: Global,
@@ -70,7 +72,7 @@ pub fn value_packed<R: Wait, G: Gate>(
     valuer: u8,
     destinations: &[Destination],
     gate: &G,
-) -> ValuerResult<PackedItems>
+) -> ValuerResult<Packing<Global>>
     requires some { 1 ≤ length destinations.now }
     requires few { length destinations.now ≤ MAX_DESTINATIONS }
     ensures taker { result.taker
@@ -80,18 +82,33 @@ pub fn value_packed<R: Wait, G: Gate>(
         } }
     ensures done { is_done result.taker.took ≡ true }
     ensures items { IsFalse result.memory
-        → result.items ≡ items_by (formulas_of destinations.now)
+        → result.items.items ≡ items_by (formulas_of destinations.now)
         (drop (length take_end.took) result.taker.took) }
-    ensures front { result.items
-        ≡ take (length result.items)
+    ensures front { result.items.items
+        ≡ take (length result.items.items)
         (items_by (formulas_of destinations.now) (drop (length take_end.took) result.taker.took)) }
+    ensures full { IsTrue result.memory → IsFullFor (length destinations.now) result.items }
 {
     let items = Packing::new(alloc);
     let (taker, items, memory) = take_all(rt, take_end, valuer, destinations, gate, items);
     ValuerResult {
         taker,
-        items: PackedItems::new(items),
+        items,
         memory,
+    }
+}
+
+impl ValuerResult<Packing<Global>> {
+    /// The same, with the items alone.
+    pub fn packed(self) -> ValuerResult<PackedItems>
+        ensures { result
+            ≡ record { taker = self.taker; items = self.items.items; memory = self.memory } }
+    {
+        ValuerResult {
+            taker: self.taker,
+            items: PackedItems::new(self.items),
+            memory: self.memory,
+        }
     }
 }
 
