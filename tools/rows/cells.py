@@ -36,10 +36,27 @@ class Cell(NamedTuple):
         return [("x", "Number"), (spelled(self.greatest + 1, self.decimals), "Range")]
 
     def spellings(self):
-        """Spellings of numbers, each with its number, or with None and the kind of its fault."""
+        """Spellings of numbers but the good one, each once, with its number, or with None and the
+        kind of its fault."""
+        seen = {self.good}
+        for text, number, kind in self.all_spellings() if self.decimals is not None else []:
+            if text not in seen:
+                seen.add(text)
+                yield text, number, kind
+
+    def past(self):
+        """Numbers past either end that a count of so many bits would take for one of the range,
+        whether it counts the last decimals or millionths."""
+        for bits, unit in itertools.product((8, 16, 32, 64, 128), (0, 6 - self.decimals)):
+            step = 2 ** (bits - unit)
+            if self.least + step > self.greatest:
+                yield self.least + step
+            if self.greatest - step < self.least:
+                yield self.greatest - step
+
+    def all_spellings(self):
+        """The same, some of them more than once."""
         least, greatest, decimals = self.least, self.greatest, self.decimals
-        if decimals is None:
-            return
         point = "" if decimals else "."
         for number in sorted({least, min(least + 1, greatest), max(greatest - 1, least), greatest}):
             yield spelled(number, decimals), number, None
@@ -48,7 +65,7 @@ class Cell(NamedTuple):
         yield ("+" if greatest >= 0 else "") + spelled(greatest, decimals), greatest, None
         if least <= 0 <= greatest:
             yield "-0", 0, None
-        for number in [least - 1, greatest + 1, -(10**40), 10**40]:
+        for number in [least - 1, greatest + 1, -(10**40), 10**40, *self.past()]:
             yield spelled(number, decimals), None, "Range"
         if greatest > 0 and -greatest < least:
             yield spelled(-greatest, decimals), None, "Range"
@@ -94,8 +111,8 @@ def bytes_about_a_name():
     """Names with each byte within, before and behind, and whether the name is one."""
     for byte in EVERY_BYTE:
         yield b"a" + byte + b"b", byte in NAME_BYTES
-        yield byte + b"a", byte in NAME_BYTES + BLANKS
-        yield b"a" + byte, byte in NAME_BYTES + BLANKS
+        yield byte + b"c", byte in NAME_BYTES + BLANKS
+        yield b"de" + byte, byte in NAME_BYTES + BLANKS
 
 
 def quoted(cell):

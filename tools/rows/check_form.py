@@ -32,7 +32,7 @@ COUNTED = [
     ("check cpit=lacking", spoiled("cpit=lacking"), "blocks 1 arcs 0 coefficients 0 limits 0"),
     *(
         (f"check {parts}", spoiled(parts), "blocks 1 arcs 0 coefficients 0 limits 0 cpit 0")
-        for parts in ("upit=lacking", "upit=x")
+        for parts in ("upit=lacking", "upit=x", "upit=folder")
     ),
 ]
 

@@ -26,6 +26,7 @@ MANY = zones(64), *(zone_file(f"{file * 10},0,0,1,{file}") for file in range(64)
 FILES = {
     "one": PLAN,
     "two": zones(2),
+    "three": zones(3),
     "many": MANY[0],
     "limited": LIMITED[0],
     "nine": NINE[0],
@@ -83,13 +84,35 @@ REFUSED = [
     ("a folder as a zone file", "file 0: FeedFailed", "one ."),
     ("a folder as the second zone file", "file 1: FeedFailed", "two ore ."),
     ("a folder behind a faulty file", "file 0 row 2 column x: OffGrid", "two off_grid ."),
+    ("a folder behind a late fault", "file 0 row 900 column grade: Number", "two late ."),
+    ("a folder before a faulty file", "file 0: FeedFailed", "two . off_grid"),
+    ("a folder between a good and a faulty file", "file 1: FeedFailed", "three ore . early"),
+    ("two folders", "file 0: FeedFailed", "two . ."),
+    ("a folder and a file that is not there", "file 1: FeedFailed", "two . no/such"),
+    ("a faulty file and one that is not there", "file 1: FeedFailed", "two early no/such"),
+    ("a faulty row, then a header", "file 0 row 2 column grade: Number", "two early empty"),
+    ("a faulty header, then a row", "file 0 row 1 column x: MissingColumn", "two empty early"),
+    ("a late fault, then a header", "file 0 row 900 column grade: Number", "two late empty"),
+    ("the second and third faulty", "file 1 row 900 column grade: Number", "three ore late early"),
+    ("the third faulty", "file 2 row 2 column x: OffGrid", "three ore waste off_grid"),
+    ("a repetition, then a row", "file 2 row 2 column x: OffGrid", "three ore ore off_grid"),
+    ("a repetition, then a folder", "file 2: FeedFailed", "three ore ore ."),
+    ("a repetition, a header", "file 2 row 1 column x: MissingColumn", "three ore ore empty"),
+    ("a faulty file of too few", "settings: Files", "two off_grid"),
+    ("a folder of too few", "settings: Files", "two ."),
+    ("faulty files of too many", "settings: Files", "one off_grid empty ."),
+    ("too many, of which the last is not there", "file 2: FeedFailed", "one ore ore no/such"),
     ("empty_file", "file 0 row 1 column x: MissingColumn", "one empty"),
     ("a row off the grid", "file 1 row 2 column x: OffGrid", "two ore off_grid"),
     ("same_block_in_two_files", "file 1 row 4 repeats file 0 row 2", "same same0 same1"),
     ("one file for two zones", "file 1 row 2 repeats file 0 row 2", "two ore ore"),
     *(
-        ("late_fault_in_file_0", "file 0 row 900 column grade: Number", f"two {more} late early")
-        for more in ("--valuers 1", "--valuers 8")
+        (
+            f"late_fault_in_file_0 {valuers}",
+            "file 0 row 900 column grade: Number",
+            f"two {valuers} late early",
+        )
+        for valuers in ("--valuers 1", "--valuers 8")
     ),
 ]
 

@@ -1,8 +1,10 @@
 """Identifiers and cones: precedence files of worked examples and of random models.
 
-Those of random models are by the test of all pairs; of a million blocks the arcs are counted.
+Those of random models are by the test of all pairs; of a million blocks the arcs are counted. The
+others are counted by hand, or by a formula of their own.
 """
 import itertools
+import math
 
 from rows.instance import arcs_of, plain_texts, plan_of, sections, unlisted
 from rows.trial import HEADER, Part, Trial, lines, piped, refused
@@ -55,7 +57,62 @@ LISTS = [
         FIFTEEN_ABOVE,
         "0 6 3 7 8 9 10 13|" + unlisted(1, 16),
     ),
+    # blocks without tonnage are predecessors, and have them
+    (
+        "no_tonnage",
+        plan_of(cones=["1,1,2"]),
+        HEADER + b"0,0,0,0,0\n0,0,10,0,5\n0,0,20,1,0\n10,0,20,0,0\n",
+        "0 3 1 2 3|1 2 2 3|2 0|3 0|",
+    ),
     ("four_slopes: equal", ONE, FIFTEEN_ABOVE, "0 5 3 7 8 9 13|" + unlisted(1, 16)),
+]
+
+# Sizes of blocks, a cone, and distances in blocks along x, y and z: of those that are inside, some
+# of them exactly on the boundary, and of those that are outside by as little as there can be.
+CUBES, WIDE, METRES = (10_000,) * 3, (100_000,) * 3, (1_000,) * 3
+BOUNDARIES = [
+    (CUBES, "1,1,20", "3 4 5, 4 3 5, 5 0 5, 0 5 5, 0 0 5, 6 8 10, 12 16 20, 20 0 20, 14 14 20",
+     "4 4 5, 5 1 5, 1 5 5, 6 0 5, 0 6 5, 6 9 10, 7 8 10, 12 17 20, 13 16 20, 21 0 20, 15 14 20"),
+    (CUBES, "1,1,20", "0 0 1, 1 0 1, 0 9 9, 9 0 9, 7 5 9, 8 4 9, 0 10 10, 6 7 10, 0 11 11, 0 20 20",
+     "1 1 1, 2 0 1, 0 10 9, 1 9 9, 7 6 9, 8 5 9, 1 10 10, 8 7 10, 0 12 11, 0 21 20"),
+    (CUBES, "3,5,9", "5 0 3, 3 4 3, 15 0 9, 9 12 9", "6 0 3, 4 4 3, 3 5 3, 16 0 9, 15 1 9, 9 13 9"),
+    (CUBES, "5,3,20", "3 0 5, 0 3 5, 6 0 10, 12 0 20", "4 0 6, 3 1 5, 1 1 2, 7 0 11, 12 1 20"),
+    # a millimetre more or less of one size
+    ((10_001, 10_000, 10_000), "1,1,9", "0 1 1, 0 9 9, 8 3 9", "1 0 1, 9 0 9, 3 4 5"),
+    ((10_000, 10_001, 10_000), "1,1,9", "1 0 1, 9 0 9, 3 8 9", "0 1 1, 0 9 9, 3 4 5"),
+    ((10_000, 10_000, 9_999), "1,1,9", "0 0 1, 8 0 9, 6 6 9", "1 0 1, 0 1 1, 9 0 9, 3 4 5"),
+    ((9_999, 9_999, 9_999), "1,1,9", "1 0 1, 0 1 1, 9 0 9, 3 4 5", "1 1 1, 4 4 5"),
+    ((9_999, 9_999, 10_000), "1,1,9", "1 0 1, 3 4 5, 0 9 9", "1 1 1, 4 4 5, 10 0 9"),
+    ((1, 1, 1), "1,1,9", "1 0 1, 3 4 5, 0 9 9", "1 1 1, 4 4 5, 10 0 9"),
+    ((1, 2, 3), "1,1,9", "3 0 1, 0 1 1, 27 0 9, 0 13 9", "4 0 1, 0 2 1, 3 1 1, 28 0 9, 0 14 9"),
+    # one more or less of a rise or a run
+    (CUBES, "1000,1000,5", "1 0 1, 3 4 5", "2 0 1, 4 4 5"),
+    (CUBES, "1000,999,5", "0 0 1, 4 0 5", "1 0 1, 0 1 1, 3 4 5"),
+    (CUBES, "999,1000,5", "1 0 1, 3 4 5", "2 0 1, 4 4 5"),
+    (CUBES, "1000,1,20", "0 0 1, 0 0 20", "1 0 20, 0 1 20"),
+    # far away: the reach is a thousand blocks for each bench
+    (WIDE, "1,1000,20", "5400 7200 9, 7200 5400 9, 9000 0 9, 0 9000 9, 9999 9798 14, 9999 9999 15",
+     "5400 7201 9, 5401 7200 9, 9001 0 9, 0 9001 9, 9999 9799 14, 9999 9999 14, 9799 9999 14"),
+    (WIDE, "1,1000,9", "9000 0 9, 1000 0 1, 0 1000 1", "9001 0 9, 1001 0 1, 0 1001 1, 0 0 10"),
+    ((99_999, 100_000, 100_000), "1,1000,9", "9000 0 9", "9001 0 9, 0 9001 9, 5401 7200 9"),
+    ((100_000, 100_000, 99_999), "1,1000,9", "8999 0 9, 5399 7199 9", "9000 0 9, 5400 7200 9"),
+    ((200, 200, 100_000), "1000,1000,20", "500 0 1, 0 9500 19, 300 400 1, 9999 0 20, 6000 8000 20",
+     "501 0 1, 0 9501 19, 300 401 1, 9999 9999 20, 6001 8000 20, 6000 8001 20"),
+    (WIDE, "1000,1,20", "0 0 20", "1 0 20, 0 1 20, 9999 9999 20, 9999 9999 1, 4295 4295 1"),
+    # a slope of its own on each side, those east and north three times as flat
+    (METRES, "1,3,1,1,1,3,1,1,3",
+     "3 0 1, 0 3 1, 9 0 3, 0 9 3, -1 0 1, 0 -1 1, -3 0 3, 6 6 3, 6 -2 3",
+     "4 0 1, 0 4 1, -2 0 1, 0 -2 1, 10 0 3, -4 0 3, 7 6 3, 6 -3 3, -3 3 3, -3 -1 3"),
+]
+
+# Sizes, and p and q of the sides where blocks lie; blocks that lie so far along x are inside up to
+# some number along y.
+REACHES = [
+    ((99_999, 100_000, 99_998), (1, 1000), (1, 1000), 14),
+    ((100_000, 99_991, 99_989), (1, 999), (1, 1000), 13),
+    ((99_989, 99_991, 100_000), (2, 1000), (1, 997), 20),
+    ((7, 99_999, 100_000), (1000, 997), (1, 991), 20),
+    ((313, 50_021, 99_999), (998, 999), (3, 1000), 19),
 ]
 
 # Four blocks out of order, each of other tonnes, and the lines of the block file.
@@ -103,6 +160,96 @@ def by_all_pairs(name, sizes, cones, blocks):
     return Trial(name, given=piped(plan, *files), out=sections(plain_texts(plan, *files)))
 
 
+def by_hand(name, sizes, cones, low, above):
+    """A block, and others so far from it, of which it is told which are its predecessors."""
+    there = {tuple(a + b for a, b in zip(low, far)): inside for far, inside in above.items()}
+    places = sorted(there, key=lambda place: place[::-1])
+    ids = [str(number) for number, place in enumerate(places, 1) if there[place]]
+    plan = plan_of(cones=cones, grid=",".join(["0,0,0", *map(shown, sizes)]))
+    line = " ".join(["0", str(len(ids)), *ids])
+    given = piped(plan, rows_of([low, *places], sizes))
+    return Trial(name, given=given, out=Part(lines(f"== prec|{line}|1 ")))
+
+
+def boundaries():
+    """Blocks about the boundary of a cone: to the north-east of a block, and where all of its sides
+    are alike in the other three directions too; at either edge of the grid."""
+    for sizes, cone, inside, outside in BOUNDARIES:
+        far = {tuple(map(int, place.split())): is_inside
+               for is_inside, places in ((True, inside), (False, outside))
+               for place in places.split(", ")}
+        turns = itertools.product((1, -1), repeat=2) if cone.count(",") == 2 else [(1, 1)]
+        for east, north in turns:
+            above = {(x * east, y * north, z): is_inside for (x, y, z), is_inside in far.items()}
+            margin = 0 if cone.count(",") == 2 else 20
+            low = (margin if east > 0 else 9999, margin if north > 0 else 9999, 3)
+            name = f"boundaries: {sizes}, {cone}, towards {east} {north}: {inside}"
+            yield by_hand(name, sizes, [cone], low, above)
+
+
+def reaches():
+    """The last block inside and the first outside, by a square root."""
+    for sizes, (px, qx), (py, qy), z in REACHES:
+        sx, sy, sz = sizes
+        above = {}
+        for x in (0, 1, 5000, 9000, 9998, 9999):
+            # (x sx px / qx)^2 + (y sy py / qy)^2 <= (z sz)^2
+            rest = (z * sz * qx * qy) ** 2 - (x * sx * px * qy) ** 2
+            most = math.isqrt(rest) // (sy * py * qx) if rest >= 0 else -1
+            for y in (0, most, most + 1, 9999):
+                if 0 <= y <= 9999:
+                    above[x, y, z] = y <= most
+        steep = "1000,1"
+        for place, (east, north) in enumerate(itertools.product((1, -1), repeat=2)):
+            slopes = [steep] * 4
+            slopes[0 if east > 0 else 1] = f"{px},{qx}"
+            slopes[2 if north > 0 else 3] = f"{py},{qy}"
+            turned = {(x * east, y * north, z): is_inside for (x, y, z), is_inside in above.items()}
+            low = (0 if east > 0 else 9999, 0 if north > 0 else 9999, 0)
+            name = f"reaches: {sizes}, {px}:{qx} and {py}:{qy}, quarter {place}"
+            yield by_hand(name, sizes, [",".join([*slopes, "20"])], low, turned)
+
+
+def sides():
+    """Nine blocks above one, whose sides are flat or steep: those towards flat sides are inside,
+    and a corner between two of them only where they are very flat."""
+    flats = itertools.product((True, False), repeat=4)
+    for slope, flat in itertools.product(("1,2", "1,1"), flats):
+        east, west, north, south = flat
+        above = {}
+        for x, y in itertools.product((-1, 0, 1), repeat=2):
+            is_flat = {1: east, 0: True, -1: west}[x] and {1: north, 0: True, -1: south}[y]
+            above[x, y, 1] = is_flat and (slope == "1,2" or x * y == 0)
+        cone = ",".join([*(slope if side else "2,1" for side in flat), "1"])
+        if any(flat) or slope == "1,2":
+            yield by_hand(f"sides: {cone}", CUBES, [cone], (5, 5, 0), above)
+
+
+def columns():
+    """A column of 30 blocks, each below as many as its K, also where some have no tonnage; then 64
+    columns, each of a zone with a K of its own."""
+    for benches in range(1, 21):
+        rows = "".join(f"0,0,{z}0,{z % 2},0|" for z in range(30))
+        prec = "".join(upwards(z, 1, min(benches, 29 - z)) for z in range(30))
+        plan = plan_of(cones=[f"1,1,{benches}"])
+        part = Part(lines(f"== prec|{prec}== upit|"))
+        yield Trial(f"columns: K = {benches}", given=piped(plan, HEADER + lines(rows)), out=part)
+    ks = [zone * 7 % 20 + 1 for zone in range(64)]
+    zones = [HEADER + lines("".join(f"{zone * 1000},0,{z}0,1,0|" for z in range(25)))
+             for zone in range(64)]
+    prec = "".join(upwards(z * 64 + zone, 64, min(ks[zone], 24 - z))
+                   for z in range(25) for zone in range(64))
+    part = Part(lines(f"== prec|{prec}== upit|"))
+    plan = plan_of(cones=[f"1,1,{k}" for k in ks])
+    yield Trial("columns: 64 zones, each with its own K", given=piped(plan, *zones), out=part)
+
+
+def upwards(block, step, count):
+    """The line of a block below so many others, each of which comes so much later."""
+    above = (block + step * up for up in range(1, count + 1))
+    return " ".join(map(str, [block, count, *above])) + "|"
+
+
 def million_blocks():
     """A box of a million blocks."""
     places = itertools.product(range(25), range(200), range(200))
@@ -115,6 +262,10 @@ def trials():
     for name, plan, zone, prec in LISTS:
         part = Part(lines(f"== prec|{prec}== upit|"))
         yield Trial(name, given=piped(plan, zone), out=part)
+    yield from boundaries()
+    yield from reaches()
+    yield from sides()
+    yield from columns()
     part = Part(lines(f"== blocks|{IN_ORDER}== prec|"))
     yield Trial("blocks_out_of_order", given=piped(ONE, OUT_OF_ORDER), out=part)
     given = piped(plan_of(cones=["1,1,1"] * 2), *REPEATED)

@@ -72,6 +72,23 @@ def differences(program, trial, **how):
     return list(trial.differences(*answer(program, trial, **how)))
 
 
+class Register:
+    """The rows that were taken, of which no two of a table have one name, and no two one input."""
+
+    def __init__(self):
+        self.places = {}
+
+    def each_once(self, table, trials):
+        """The rows of a table; it ends the program where one has the name or input of another."""
+        for trial in trials:
+            place = f"{table}: {trial.name}"
+            for mark, what in ((place, "name"), (trial.input(), "input")):
+                if mark in self.places:
+                    sys.exit(f"{place}: it has the {what} of {self.places[mark]}")
+                self.places[mark] = place
+            yield trial
+
+
 def compared(told_by, rows):
     """Tells of each row that differs, by its name and differences; how many do, and do not."""
     wrong = right = 0

@@ -6,7 +6,7 @@ precedence files.
 """
 import itertools
 
-from rows.instance import MILL, ONE_ORE_BLOCK, OTHER_ORE, WASTE, plan_of, sections
+from rows.instance import MILL, ONE_ORE_BLOCK, OTHER_ORE, WASTE, instance, plan_of, sections
 from rows.trial import HEADER, MARK, Part, Trial, lines, piped, refused, zone_file
 
 LIMITED = plan_of(
@@ -46,12 +46,6 @@ WORTHS = [
 # A name, an input, and a part of what is printed.
 PARTS = [
     (
-        "waste_of_one_kilogram",
-        piped(WASTE, zone_file("0,0,0,0.001,0")),
-        "== blocks|0 0 0 0 0.001 0 0|== prec|0 0|"
-        "== upit|NAME: waste|TYPE: UPIT|NBLOCKS: 1|OBJECTIVE_FUNCTION:|0 -0.01|",
-    ),
-    (
         "two_blocks_out_of_order",
         piped(WASTE, zone_file("10,0,0,1,0", "0,0,0,2,0")),
         "== blocks|0 0 0 0 2 0 0|1 1 0 0 1 0 0|== prec|",
@@ -75,6 +69,16 @@ FAULTS = [
         piped(WASTE, zone_file("10,0,0,1,0", "0,0,0,2,0", "10,0,0,3,0")),
         "file 0 row 4 repeats file 0 row 2",
     ),
+    *(
+        (f"the least of two files with a fault: {line}", piped(TWO, first, second), line)
+        for first, second, line in [
+            (zone_file("0,0,0,?,0"), b"x\n", "file 0 row 2 column tonnes: Number"),
+            (b"x\n", zone_file("?,0,0,1,0"), "file 0 row 1 column y: MissingColumn"),
+            (b"", zone_file("0,0,0,1"), "file 0 row 1 column x: MissingColumn"),
+            (zone_file("0,0,0,1,0"), b"", "file 1 row 1 column x: MissingColumn"),
+            (zone_file("0,0,0"), zone_file("?,0,0,1,0"), "file 0 row 2 column whole: Width"),
+        ]
+    ),
     (
         "the least file of two with a fault",
         piped(TWO, zone_file("0,0,0,1,0", "5,0,0,1,0"), zone_file("0,0,0,?,0")),
@@ -90,6 +94,12 @@ FAULTS = [
         piped(ONE, HEADER + b"0,0,0,1000,5000\n" * 1_000_000),
         "file 0 row 3 repeats file 0 row 2",
     ),
+]
+
+# Two zone files of which each has a quote that is not closed, and so goes on to its end.
+OPEN_QUOTES = [
+    b'x,y,z,tonnes,grade,rock\n0,0,0,1,0,"b\n5,0,0,1,0,c\n',
+    b'x,y,z,tonnes,grade,rock\n10,0,0,1,0,"b\n0,0,0,1,0,c',
 ]
 
 # Zone files, of which each letter is a row and each other letter another block, and the rows that
@@ -118,6 +128,14 @@ CUTS = [
     ),
     ("a cut within quotes", piped(ONE, HEADER + b'"0\n', b'",0,0,1,0\n'), "settings: Files"),
     ("a million cuts", ONE + b"--\n" * 1_000_000, "settings: Files"),
+    ("an open quote of a plan at a cut", piped(b'name,"one\n', ORE), "plan row 1: Name"),
+    *(
+        (f"an open quote at a cut: {line}", piped(TWO, first, second), line)
+        for first, second, line in [
+            (HEADER + b'"0\n', ORE, "file 0 row 2 column whole: Width"),
+            (ORE, HEADER + b'0,0,0,"1\n', "file 1 row 2 column whole: Width"),
+        ]
+    ),
     (
         "a cut by CR LF, and one without a line's end",
         TWO + b"--\r\n" + HEADER + b"--",
@@ -175,7 +193,7 @@ def repetitions():
         for axis, sign in itertools.product(range(3), (1, -1)):
             def zone_row(letter):
                 cells = ["0", "0", "0", "1", "0"]
-                cells[axis] = str(500 + sign * 10 * ord(letter) - sign * 650)
+                cells[axis] = str(500 + sign * (10 * ord(letter) - 640))
                 return ",".join(cells)
             pieces = [zone_file(*map(zone_row, file)) for file in files]
             name = f"repetitions: {letters}, axis {axis}, {sign}"
@@ -223,8 +241,13 @@ def trials():
     yield from map(many_pieces, (4, 5, 8, 9, 16, 32, 63, 64))
     same = {"out": sections(ONE_ORE_BLOCK)}
     yield Trial("quoted_and_reordered", given=piped(ONE, OTHER_ORE), **same)
+    waste = instance("0 0 0 0 0.001 0 0|", "0 0|", ["-0.01"], "waste")
+    given = piped(WASTE, zone_file("0,0,0,0.001,0"))
+    yield Trial("waste_of_one_kilogram", given=given, out=sections(waste))
     crossed = piped(ONE + b"\n", b"\n" + ORE).replace(b"\n", b"\r\n")
     yield Trial("lines that end in CR LF, and blank ones about a cut", given=crossed, **same)
+    part = Part(lines("== blocks|0 0 0 0 1 0 0|1 1 0 0 1 0 1|== prec|"))
+    yield Trial("open quotes before cuts", given=piped(TWO, *OPEN_QUOTES), out=part)
     for name, given, part in PARTS:
         yield Trial(name, given=given, out=Part(lines(part)))
     for name, given, line in FAULTS + CUTS:

@@ -1,14 +1,12 @@
 """Plans: which are taken, and the first faulty record of the others.
 
-Then what the texts show of what a plan states.
+The table written has what the texts show of what a plan states.
 """
 import itertools
 
-from rows.cells import (
-    LETTERS, Cell, bytes_about_a_name, pairs_of_faults, quoted, spelled, with_cell,
-)
-from rows.instance import WASTE, instance, plan_of, sections
-from rows.trial import HEADER, MARK, Part, Trial, lines, piped, refused
+from rows.cells import LETTERS, Cell, bytes_about_a_name, pairs_of_faults, quoted, with_cell
+from rows.instance import WASTE, plan_of
+from rows.trial import MARK, lines, refused
 
 TAKEN = None
 
@@ -24,6 +22,7 @@ LIMITED = "periods,1|dump,d,1|resource,r,d|"
 LIMITS = ["limit,r,0,L,2", "limit,r,0,G,2", "limit,r,0,I,2,3"]
 SIXTEEN_BANDS = "leach,h,1,1" + "".join(f",{start},0" for start in range(16))
 SIXTEEN_OF_THE_MILL = SIXTEEN_BANDS.replace("leach,h", "leach,mill")
+FIVE_HUNDRED_BANDS = "leach,h,1,1" + "".join(f",{start},0" for start in range(500))
 
 # The cells of records, by docs/formats.md: what stands before the record, its key and its cells.
 # Numbers count millimetres, millionths or whole numbers.
@@ -80,8 +79,8 @@ WIDTHS = [
 
 # What is none of the keys, beside each of them a letter less, a letter more and one changed.
 NO_KEYS = [
-    "#", "%", "#name", "pit", "na me", "name:", "re\u017fource", "l\u0131mit", "nam\u00e9", "dumps",
-    "x", "0", "?",
+    "#", "%", "#name", "pit", "na me", "name:", "re\u017fource", "l\u0131mit", "nam\u00e9", "x",
+    "0", "?",
 ]
 
 
@@ -93,7 +92,9 @@ FAULTS = [
     ("|".join(SIX), "Name", "|resource,r,heap", "|limit,r,0,L,1"),
     ("", "Missing", *("|".join(SIX[:at] + SIX[at + 1 :]) for at in range(6))),
     # blanks round cells, and empty ones
-    ("", "Missing", " name\t,\t one \t, ,\t", 'name,one,"",'),
+    ("", "Missing", " name\t,\t one \t, ,\t", 'name,one,"",', 'name," one\t"'),
+    ("", "Missing", "name,one" + "," * 1000, "rate,0" + ", " * 64, "name, " + "a" * 64 + "\t"),
+    ("", "Width", "name,one" + "," * 1000 + "x", "name" + ",x" * 1000, "rate,0" + ", " * 64 + "0"),
     # a width before the cells, and cells before the repetition
     ("", "Width", "name,", "name, ,", 'name,""', "grid,x,0,0,10,10"),
     ("name,one|", "Name", "name,a b"),
@@ -141,21 +142,34 @@ FAULTS = [
     (EIGHT_RESOURCES, "Width", "resource,i"),
     # limits name earlier resources and periods
     ("", "Name", "limit,nope,x,L,1"),
-    (LIMITED, "Name", "limit,d,0,L,1", "limit,R,0,L,1", "limit,r,0,i,1", "limit,r,0,,1"),
+    (LIMITED, "Name", "limit,d,0,L,1", "limit,R,0,L,1"),
     (LIMITED, "Width", "limit,r,0,i,1,2", "limit,r,0,I,1,"),
     (LIMITED, "Width", "limit,r,0,L,1,2", "limit,r,0,G,1,2"),
     (LIMITED, "Missing", "limit,r,0, I ,1,1", "limit,r,0,I,0,0.000001", "limit,r,0,I,2,2"),
     (LIMITED, "Order", "limit,r,0,I,2,1", "limit,r,0,I,0.000001,0"),
     (LIMITED + "limit,r,0,I,2,2|", "Twice", "limit,r,0,I,2,1"),
     (LIMITED + "limit,r,0,L,2|", "Twice", *LIMITS),
-    (LIMITED + "limit,r,0,G,2|", "Twice", LIMITS[0], LIMITS[2]),
-    (LIMITED + "limit,r,0,I,2,3|", "Twice", LIMITS[0]),
+    (LIMITED + "limit,r,0,G,2|", "Twice", *LIMITS),
+    (LIMITED + "limit,r,0,I,2,3|", "Twice", *LIMITS),
+    (LIMITED + "limit,r,0,I,2,3|", "Width", "limit,r,0,L,2,3", "limit,r,0,I,2", "limit,r,0,I"),
+    (LIMITED + "limit,r,0,I,2,3|", "Number", "limit,r,0,I,4,x", "limit,r,0,I,x,3"),
+    (LIMITED + "limit,r,0,L,2|resource,s,d|", "Missing", "limit,s,0,L,2", "limit,s,0,I,2,2"),
     (LIMITED + "limit,r,0,L,2|", "Range", "limit,r,0,L,-1"),
     (LIMITED + "limit,r,0,L,2|", "Name", "limit,r,0,X,1"),
     (LIMITED + "resource,s,d|limit,r,0,L,2|limit,s,0,L,2|", "Twice", "limit,r,0,G,1"),
     ("periods,2|dump,d,1|resource,r,d|limit,r,1,L,2|", "Missing", "limit,r,0,L,2"),
+    # names of every kind, and the same one for a plan, a destination and a resource
+    ("", "Missing", "name,123", "name,.", "name,--", "name,-1", "name,_", "name,name", "name,L"),
+    ("", "Missing", "dump,123,1|resource,.,123|periods,1|limit,.,0,L,1"),
+    ("", "Missing", "dump,--,1|resource,--,--", "dump,dump,1|resource,resource,dump"),
+    ("", "Missing", "name,d|dump,d,1|resource,d,d", "dump,d,1|resource,d,d|name,d"),
+    ("", "Missing", "dump,d,1|resource,r,d|dump,r,1", "dump,d,1|resource,r,d|mill,r,1,1,1"),
+    ("", "Missing", "dump,d,1|resource,r,d|leach,r,1,1,0,1|resource,d,r|resource,e,r,d"),
+    ("dump,d,1|", "Name", "resource,r,*", "resource,r,all", "resource,r,d d", "resource,r,d,r"),
+    ("dump,d,1|resource,r,d|", "Name", "resource,s,r", "dump,*,1", "limit,d,0,L,1"),
+    ("dump,d,1|resource,r,d|", "Name", "limit,*,0,L,1", "limit,,0,L,1", "limit,r r,0,L,1"),
     # quoted cells
-    ("", "Name", '"name" ,"o""e"', 'name,"o,e"'),
+    ("", "Name", '"name" ,"o""e"', 'name,"o,e"', "name,'one'", "name,one\u00a0", "name,on\u00e9"),
     ("", "Missing", 'name,"one'),
 ]
 
@@ -166,6 +180,17 @@ PLANS = [
     ("|".join([*SIX[:2], "pit,1", *SIX[3:]]), "row 3: Key"),
     (",x|name,one", "row 1: Key"),
     ("name,\"one|grid,0", "row 1: Name"),
+    # a blank line is no record; one of empty cells is
+    ("||\r|pit", "row 1: Key"),
+    ("name,one||pit", "row 2: Key"),
+    ("name,one||\r||", "row 2: Missing"),
+    ('""|pit', "row 2: Key"),
+    ('""', "row 2: Missing"),
+    ('" "|"",""|pit', "row 3: Key"),
+    ('name,one|""|""|name,one', "row 4: Twice"),
+    (" |pit", "row 2: Key"),
+    ('"",pit|name,one', "row 1: Key"),
+    ('"|"|pit', "row 1: Key"),
     ("name,one|,,| , |||", "row 4: Missing"),
     ("resource,r,d|dump,d,1", "row 1: Name"),
     ("dump,d,1|resource,r,d|limit,r,0,L,1|periods,1", "row 3: Range"),
@@ -187,15 +212,21 @@ LAST_RECORDS = [
     (TAKEN, "leach,h,1,1,2,300,2.000001,400", SIXTEEN_BANDS),
     ("Order", "leach,h,1,1,2,300,2,400", "leach,h,1,1,2,300,1.999999,400"),
     ("Order", SIXTEEN_BANDS + ",15,0"),
-    ("Width", "leach,h,1,1,2,300,2,400,x", SIXTEEN_BANDS + ",16"),
+    ("Order", SIXTEEN_BANDS + ",16,0,16,0", SIXTEEN_BANDS + ",14,0,17,0"),
+    ("Order", FIVE_HUNDRED_BANDS + ",498,0"),
+    ("Width", "leach,h,1,1,2,300,2,400,x", SIXTEEN_BANDS + ",16", SIXTEEN_BANDS + ",16,0,x"),
+    ("Width", FIVE_HUNDRED_BANDS + ",500"),
     ("TooFine", "leach,h,1,1,2,300,2.0000001,400", "leach,h,1,1,2,300,3,0.5"),
-    ("TooFine", SIXTEEN_BANDS + ",16.0000001,0"),
-    ("Number", "leach,h,1,1,3,300,2,x", SIXTEEN_BANDS + ",x,0"),
+    ("TooFine", SIXTEEN_BANDS + ",16.0000001,0", SIXTEEN_BANDS + ",16,0,17,0.5"),
+    ("Number", "leach,h,1,1,3,300,2,x", SIXTEEN_BANDS + ",x,0", SIXTEEN_BANDS + ",16,0,17,x"),
+    ("Number", SIXTEEN_BANDS + ",16,0,x,0", FIVE_HUNDRED_BANDS + ",x,0"),
+    ("Number", "leach,h,1,1,,,2,300", "leach,h,1,1,2,,3,300", "leach,h,1,1,,1,2,300"),
+    ("Number", "leach,h,,1,2,300", "leach,h,1,,2,300"),
     ("Range", "leach,h,1,1,0,1001,x,300", "leach,mill,1,1,2,300,2,1001"),
-    ("Range", SIXTEEN_BANDS + ",16,1001"),
+    ("Range", SIXTEEN_BANDS + ",16,1001", SIXTEEN_BANDS + ",16,0,17,1001"),
     ("Twice", "leach,mill,1,1,2,300,2,400", "MILL,mill,1,1,1"),
     ("Twice", SIXTEEN_OF_THE_MILL + ",16,0", SIXTEEN_OF_THE_MILL + ",15,0"),
-    ("TooMany", SIXTEEN_BANDS + ",16,0", SIXTEEN_BANDS + ",16,0,17,0"),
+    ("TooMany", SIXTEEN_BANDS + ",16,0", SIXTEEN_BANDS + ",16,0,17,0", FIVE_HUNDRED_BANDS),
 ]
 
 
@@ -239,98 +270,9 @@ MANY = [
 ]
 
 
-def small(destinations, rest="periods,1|rate,0|", name="n", grid="0,0,0,1,1,1"):
-    """A plan of blocks of a cubic metre."""
-    return plan_of(destinations, name=name, grid=grid, rest=rest)
-
-
-# Limits are written by resource and period, and coefficients by destination and resource, whatever
-# their order in the plan.
-TWO_RESOURCES = lines(
-    "periods,2|rate,0|name,n|grid,0,0,0,1,1,1|zone,1,1,1|dump,a,1|dump,b,1|"
-    "resource,r,b,a|resource,s,a|limit,s,0,G,0.5|limit,r,1,I,0,900|limit,r,0,L,500.5|"
-)
-LIMITS_IN_ORDER = "RESOURCE_CONSTRAINT_LIMITS:|0 0 L 500.5|0 1 I 0 900|1 0 G 0.5|== cpit|"
-MASSES = "RESOURCE_CONSTRAINT_COEFFICIENTS:|0 0 0 1|0 0 1 1|0 1 0 1|RESOURCE_CONSTRAINT_LIMITS:|"
-
-LONGEST = "n" * 64
-
-# The cells of a grid, and a row whose block has the indices 1, 2 and 3.
-GRIDS = [
-    ("-30.5,-1000000000,999999999.5,0.5,100,0.001", "-30,-999999800,999999999.503"),
-    ("0.001,-0.001,-5,10,20,5", "10.001,39.999,10"),
-    ("1000000000,-0.5,0,0.001,0.5,99.999", "1000000000.001,0.5,299.997"),
-]
-
-# A name, a plan, the rows of a zone file, and a part of the texts.
-SHOWN = [
-    # a number of each cell of a plan, none like another
-    (
-        "each_number_of_a_plan",
-        small(
-            "mill,m,900,600,1500|leach,l,700,1600,0,850|dump,d,250|",
-            "periods,100|rate,0.000001|resource,r,d|resource,s,l,m|"
-            "limit,s,99,I,0.5,999999999999.999999|limit,r,7,L,0.000001|"
-            "limit,s,0,G,1000000000000|limit,r,98,G,0|",
-            LONGEST,
-        ),
-        b"0,0,0,1,5000\n",
-        f"== pcpsp|NAME: {LONGEST}|TYPE: PCPSP|NBLOCKS: 1|NPERIODS: 100|NDESTINATIONS: 3|"
-        "NRESOURCE_SIDE_CONSTRAINTS: 2|NGENERAL_SIDE_CONSTRAINTS: 0|DISCOUNT_RATE: 0.000001|"
-        "OBJECTIVE_FUNCTION:|0 12 13.75 -2.5|"
-        "RESOURCE_CONSTRAINT_COEFFICIENTS:|0 0 1 1|0 1 1 1|0 2 0 1|"
-        "RESOURCE_CONSTRAINT_LIMITS:|0 7 L 0.000001|0 98 G 0|1 0 G 1000000000000|"
-        "1 99 I 0.5 999999999999.999999|== cpit|",
-    ),
-    # the worths of a kilogram at each kind of destination, of waste and with 0.1 g of metal: -1.5,
-    # -1.6, -0.25 and 0 cents, then -0.87, -0.835, -0.25 and 0
-    (
-        "worths_are_rounded_down",
-        small("mill,m,900,7000,1500|leach,l,9000,1600,0,850|dump,d,250|dump,n,0|"),
-        b"0,0,0,0.001,0\n1,0,0,0.001,100\n",
-        "OBJECTIVE_FUNCTION:|0 -0.02 -0.02 -0.01 0|1 -0.01 -0.01 -0.01 0|RESOURCE",
-    ),
-    ("limits_in_order", TWO_RESOURCES, b"0,0,0,1,0\n", LIMITS_IN_ORDER),
-    ("covered_destinations", TWO_RESOURCES, b"0,0,0,1,0\n", MASSES),
-    # the worths of three blocks of 1000 t on a leach of two bands: at the second, just below it,
-    # and below the first
-    (
-        "bands_of_a_plan",
-        small("leach,heap,10000000,100,1,300,2.5,450|"),
-        b"0,0,0,1000,2.5\n1,0,0,1000,2.499999\n2,0,0,1000,0.999999\n",
-        "OBJECTIVE_FUNCTION:|0 111500|1 73999.97|2 -1000|== pcpsp|",
-    ),
-]
-
-
 def told(name, plan, answer):
     """A plan without a zone file: it is refused, or taken, and then a zone file is lacking."""
     return refused(name, "settings: Files" if answer is TAKEN else "plan " + answer, given=plan)
-
-
-def shows(name, plan, rows, part):
-    """A plan and the rows of a zone file, and a part of the texts."""
-    return Trial(name, given=piped(plan, HEADER + rows), out=Part(lines(part)))
-
-
-def scanned(bands, grade):
-    """The recovery of the last band that begins at or below the grade, found by looking at each."""
-    return [0, *(share for start, share in bands if start <= grade)][-1]
-
-
-def at_every_edge(name, bands):
-    """Blocks below, at and above the start of each band.
-
-    Price and tonnage are such that a worth is grade times recovery.
-    """
-    cells = "".join(f",{spelled(start, 6)},{share}" for start, share in bands)
-    grades = [0, 10**12]
-    for start, _ in bands:
-        grades += [max(start - 1, 0), start, min(start + 1, 10**12)]
-    rows = "".join(f"{x},0,0,1000000,{spelled(grade, 6)}|" for x, grade in enumerate(grades))
-    worths = "".join(f"{x} {grade * scanned(bands, grade)}|" for x, grade in enumerate(grades))
-    plan, part = small(f"leach,heap,100000000,0{cells}|"), f"OBJECTIVE_FUNCTION:|{worths}== pcpsp|"
-    return shows(f"recovery_at_every_edge: {name}", plan, lines(rows), part)
 
 
 def last_told(name, before, key, cells, kind=None):
@@ -343,16 +285,20 @@ def last_told(name, before, key, cells, kind=None):
 def faults_of_cells(before, key, cells):
     """Each cell of a record in turn: numbers at both ends of its range and past them, and what is
     none. Then two that are refused."""
+    def told_of(name, texts, kind=None):
+        record = before + ",".join([key, *texts])
+        return last_told(f"{name}: {record}", before, key, texts, kind)
+    yield told_of("cells_of_a_plan", [cell.good for cell in cells])
     for at, cell in enumerate(cells):
         for text, _, kind in cell.spellings():
-            name = f"numbers_of_a_plan: {key} {at + 1}: {text}"
-            yield last_told(name, before, key, with_cell(cells, at, text), kind)
+            yield told_of("numbers_of_a_plan", with_cell(cells, at, text), kind)
         for _, kind in cell.faults()[:1]:
-            for text in ["?"] if at + 1 == len(cells) else ["", "?"]:
-                name = f"cells_of_a_plan: {key} {at + 1}: {text}"
-                yield last_told(name, before, key, with_cell(cells, at, text), kind)
+            # Alone in its record it is a row of `widths`; an empty cell at the end is left out.
+            for text in [text for text in ("", "?") if text or at + 1 < len(cells)]:
+                if len(cells) > 1:
+                    yield told_of("cells_of_a_plan", with_cell(cells, at, text), kind)
     for texts, kind in pairs_of_faults(cells):
-        yield last_told(f"two_faulty_cells: {key} {texts}", before, key, texts, kind)
+        yield told_of("two_faulty_cells", texts, kind)
 
 
 def spellings_of_a_key(before, key, cells):
@@ -361,9 +307,11 @@ def spellings_of_a_key(before, key, cells):
     goods = [cell.good for cell in cells]
     capitals = (key[:at] + key[at].upper() + key[at + 1 :] for at in range(len(key)))
     for other in [key.upper(), *capitals]:
-        yield last_told(f"keys_in_capitals: {other}", before, other, goods)
+        name = f"keys_in_capitals: {','.join([other, *goods])}"
+        yield last_told(name, before, other, goods)
     for other in [key[1:], key[:-1], key + "s", key + "_", "_" + key, key + "-" + key]:
-        yield last_told(f"no_keys: {other}", before, other, goods, "Key")
+        name = f"no_keys: {','.join([other, *goods])}"
+        yield last_told(name, before, other, goods, "Key")
 
 
 def widths(front, counts, kind):
@@ -386,10 +334,34 @@ def names():
         plan = lines(f"dump,d,1|{key},{'a' * length}{rest}")
         yield told(f"length_of_a_name: {key}, {length} bytes", plan, answer)
     for letter in [*LETTERS, "LL", "GL", "<=", "1"]:
-        cells = "1,1" if letter == "I" else "1"
+        cells = "3,3" if letter == "I" else "3"
         answer = "row 5: Missing" if letter in ("L", "G", "I") else "row 4: Name"
         plan = lines(f"{LIMITED}limit,r,0,{letter},{cells}")
         yield told(f"letters_of_limits: {letter}", plan, answer)
+
+
+# Records that may stand once: two that are good, and one with a cell that is not, and its kind.
+ONCE = [
+    ("name,one", "name,two", "name,?", "Name"),
+    ("grid,0,0,0,10,10,10", "grid,-1,2,0.5,20,1,3", "grid,0,0,0,10,10,0", "Range"),
+    ("periods,1", "periods,100", "periods,1.5", "TooFine"),
+    ("rate,0", "rate,1", "rate,x", "Number"),
+]
+
+
+def records_twice():
+    """Each record that may stand once beside the same and another, in either case and order."""
+    for one, other, faulty, kind in ONCE:
+        pairs = itertools.product((one, other), repeat=2)
+        for first, second in pairs:
+            for again in (second, second.replace(second[0], second[0].upper(), 1)):
+                plan = f"{first}|{again}|pit"
+                yield told(f"records_twice: {plan}", lines(plan), "row 2: Twice")
+        for front in (f"{one}|dump,d,1|,|", f"{other}|zone,1,1,1|||"):
+            row = 4 if front.endswith("1|,|") else 3
+            for second, what in ((one, "Twice"), (faulty, kind), (one + ",1", "Width")):
+                plan = f"{front}{second}|{other}"
+                yield told(f"records_twice: {plan}", lines(plan), f"row {row}: {what}")
 
 
 def of_the_mill(name, front, table):
@@ -417,19 +389,8 @@ def trials():
         yield told(f"plan_table: {plan}", lines(plan), answer)
     yield from of_the_mill("mills_and_leaches", "", LAST_RECORDS)
     yield from of_the_mill("bands_that_are_refused", "leach,h,1,1,", BANDS)
+    yield from records_twice()
     for name, plan, answer in MARKED:
         yield told(name, plan, answer)
     for name, plan, answer in MANY:
         yield told(f"ten_thousand_records: {name}", plan, answer)
-    texts = instance("0 0 0 0 0.001 0 0|", "0 0|", ["-0.01"], "waste")
-    given = piped(WASTE, HEADER + b"0,0,0,0.001,0\n")
-    yield Trial("the_waste_plan", given=given, out=sections(texts))
-    for cells, row in GRIDS:
-        plan, part = small("dump,d,1|", grid=cells), "== blocks|0 1 2 3 1 0 0|== prec|"
-        yield shows(f"grids: {cells}", plan, lines(f"{row},1,0|"), part)
-    for shown in SHOWN:
-        yield shows(*shown)
-    for count in range(1, 17):
-        yield at_every_edge(f"{count} bands", [(7 + 10 * i, 1000 - 3 * i) for i in range(count)])
-    yield at_every_edge("the greatest start", [(10**6, 300), (2_500_000, 450), (10**12, 0)])
-    yield at_every_edge("the least start", [(0, 1000)])

@@ -103,8 +103,9 @@ HEADER_NUMBERS = {
 # is told and the kind, and the lines that have it in the place of that line, or changes.
 FAULTS_OF_A_PCPSP = [
     (1, "Fields", "NAME:", "NAME: one two"),
-    (1, "Name", "NAME: o/e"),
-    (1, "Key", "NAMES: one", "name: one", "one"),
+    (1, "Name", "NAME: o/e", 'NAME: "one"', "NAME: one\r ", "NAME: one%", "NAME: one,"),
+    (1, "Key", "NAMES: one", "name: one", "one", "NAME = one", "NAME one", "NAME; one", "N AME: 1"),
+    (2, "Key", "TYPE = PCPSP", "TY PE: PCPSP"),
     (2, "Name", "TYPE: CPIT", "TYPE: pcpsp"),
     (2, "Twice", "NAME: one"),
     (3, "Count", "NBLOCKS: 3", "NBLOCKS: 64000000"),
@@ -115,27 +116,50 @@ FAULTS_OF_A_PCPSP = [
     (5, "Range", "NDESTINATIONS: 0", "NDESTINATIONS: 9"),
     (6, "Range", "NRESOURCE_SIDE_CONSTRAINTS: 9"),
     (7, "Range", "NGENERAL_SIDE_CONSTRAINTS: 1"),
+    (7, "Fields", "NGENERAL_SIDE_CONSTRAINTS: 0 0", "NGENERAL_SIDE_CONSTRAINTS: 1 1"),
+    (8, "Key", "DISCOUNT RATE: 0.1", "DISCOUNT_RATE = 0.1", "DISCOUNT-RATE: 0.1", "RATE: 0.1"),
+    (8, "Number", "DISCOUNT_RATE: 10%", "DISCOUNT_RATE: 0,1", "DISCOUNT_RATE: 0.1\r "),
     (8, "Range", "DISCOUNT_RATE: 1.000001"),
     (8, "TooFine", "DISCOUNT_RATE: 0.0000001"),
     (8, "Missing", without(8)),
     (9, "Fields", "OBJECTIVE_FUNCTION: 1"),
     (9, "Key", "RESOURCE_CONSTRAINT_COEFFICIENTS:", without(9)),
+    # a section out of turn while keys lack, and one in turn while lines lack
+    (8, "Key", Change(7, 9, ["RESOURCE_CONSTRAINT_COEFFICIENTS:"]), Change(7, 9, ["EOF:"])),
+    (8, "Key", Change(7, 9, ["RESOURCE_CONSTRAINT_LIMITS: 1"]), Change(7, 9, ["0 12000 -2000"])),
+    (8, "Twice", Change(7, 9, ["NAME: one two"])),
+    (11, "Fields", Change(10, 12, ["RESOURCE_CONSTRAINT_COEFFICIENTS: 1"])),
+    (11, "Key", Change(10, 12, ["RESOURCE_CONSTRAINT_LIMITS:"]), Change(10, 12, ["EOF:"])),
+    (10, "Key", "0 1:1", "0 12000 -2000:", ":", ": 0 12000 -2000", "0:", "NAME: one"),
     (10, "Fields", "0 12000"),
     (10, "Range", "2 12000 -2000"),
     (10, "Order", "1 12000 -2000"),
     (10, "Number", "0 12000 ?", "1 ? -2000"),
     (11, "Missing", without(11)),
-    (12, "Order", before(12, "1 0 0")),
-    (12, "Key", before(12, "NPERIODS: 2")),
+    (12, "Order", before(12, "1 0 0"), before(12, "0 0 0")),
+    (12, "Range", before(12, "2 1 1"), before(12, "2 ? 1"), before(12, "-1 1 1")),
+    (12, "Number", before(12, "1 ? 0"), before(12, "0 0 ?")),
+    (12, "Fields", before(12, "1 0"), before(12, "2 0 0 0")),
+    (12, "Key", before(12, "NPERIODS: 2"), before(12, "1 0:0"), before(12, "END:")),
     (13, "Fields", "0 0 1000"),
     (13, "Range", "0 2 0 1000", "0 0 1 1000"),
     (14, "Order", before(13, "0 0 0 1000")),
     (14, "Missing", front(13)),
-    (15, "Fields", "0 0 L", "0 0 L 1 2"),
-    (15, "Name", "0 0 E 1"),
+    (13, "Key", "0 0 0:1000", "EOF: 0"),
+    (13, "Range", "2 0 0 ?", "0 0 -1 1000"),
+    (15, "Fields", "0", "0 0", "0 0 L", "0 0 L 1 2", "0 0 IN 1 2", "0 0 I", "0 0 I 1 2 3"),
+    (15, "Fields", "0 9 ? 1 2", "9 9 ? 1 2", "9 9 I 1", "?"),
+    (15, "Name", "0 0 E 1", "0 0 IN 1", "0 0 L% 1", '0 0 "L" 1', "0 0 l 1"),
+    (15, "Key", "0 0 L: 1", "0:0 L 1"),
+    (15, "Number", "0 0 L 1%", "0 0 L %", "0 0 I 2 x", "0 0 I x 1", "0 0 L 1\r "),
+    (15, "Range", "0 2 I 2 1", "1 0 I 2 1", "2 9 ? 1"),
+    (15, "Order", "0 0 I 2.000001 2", "0 0 I -1 -2", "0 0 I 0.000001 0", "0 0 I 0 -0.000001"),
     (15, "Range", "0 2 L 1"),
     (16, "Fields", "0 1 I 0"),
-    (16, "Order", "0 1 I 901 900", "0 0 G 1"),
+    (16, "Order", "0 1 I 901 900", "0 0 G 1", "0 0 I 1 2", "0 0 I 2 1", "0 0 L 500.5"),
+    (17, "Order", before(17, "0 1 I 0 900"), before(17, "0 0 L 1"), before(17, "0 1 L 1")),
+    (17, "Key", before(17, "EOF:"), before(17, "OBJECTIVE_FUNCTION:")),
+    (17, "Fields", before(17, "EOF"), before(17, "0 1 I")),
 ]
 
 FAULTS_OF_ONE_ORE_BLOCK = [
@@ -148,20 +172,68 @@ FAULTS_OF_ONE_ORE_BLOCK = [
     (12, "Missing", without(12)),
     (12, "Range", before(12, "0 0 0 5")),
     (13, "Key", before(13, "RESOURCE_CONSTRAINT_LIMITS:")),
+    (11, "Range", before(11, "1 0"), before(11, "2 1"), before(11, "1 ?")),
+    (11, "Order", before(11, "0 0")),
+    (13, "Range", before(13, "0 0 L 1"), before(13, "0 0 I 2 1")),
+    (13, "Fields", before(13, "0 0 I 1"), before(13, "EOF")),
+]
+
+# What stands behind the greatest line of a section, does not rise, and has another fault, which is
+# told.
+COEFFICIENTS_BEHIND = [
+    ("Number", "x 0 0 1", "0 x 0 1", "0 0 x 1", "0 0 0 ?", "1 1 1 ?"),
+    ("Range", "2 0 0 1", "0 2 0 1", "0 0 2 1", "0 0 -1 1", "1 0 2 1"),
+    ("TooFine", "0.5 0 0 1", "0 0.5 0 1", "0 0 0.5 1", "0 0 0 0.0000001"),
+    ("Fields", "0 0 0", "0 0 0 1 1", "1 1 1", "1 1 1 1 1", "0"),
+    ("Order", "1 1 1 2", "1 1 0 2", "0 0 0 -1"),
+]
+
+CPIT_COEFFICIENTS_BEHIND = [
+    ("Number", "x 0 1", "0 x 1", "0 0 ?", "1 1 ?"),
+    ("Range", "2 0 1", "0 2 1", "0 -1 1", "1 2 1"),
+    ("TooFine", "0.5 0 1", "0 0.5 1", "0 0 0.0000001"),
+    ("Fields", "0 0", "0 0 1 1", "1 1", "1 1 1 1"),
+    ("Order", "1 1 2", "1 0 2", "0 0 -1"),
+]
+
+LIMITS_BEHIND = [
+    ("Number", "x 0 L 1", "0 x L 1", "0 0 L ?", "0 1 I 1 ?", "1 1 I ? 1"),
+    ("Range", "2 0 L 1", "0 2 L 1", "0 2 I 1 2", "1 -1 I 2 1", "0 2 E 1"),
+    ("Name", "0 1 E 1", "1 1 E 1", "1 0 i 1", "0 0 ? ?"),
+    ("TooFine", "0.5 0 L 1", "0 0.5 L 1", "0 0 L 0.0000001"),
+    ("Fields", "0 0 L", "0 0 I 1", "1 1 G 1 2", "0 0 E 1 2", "1 1"),
+    ("Order", "1 1 L 2", "1 1 I 1 2", "1 0 G 1", "0 1 L 5", "0 0 I 2 1"),
 ]
 
 FAULTS_OF_A_CPIT = [
     (2, "Name", "TYPE: PCPSP"),
     (5, "Key", before(5, "NDESTINATIONS: 2"), before(5, "NGENERAL_SIDE_CONSTRAINTS: 0")),
-    (8, "Fields", "0 12000 0"),
+    (1, "Name", 'NAME: "one"', "NAME: one\r "),
+    (1, "Key", "NAME = one", "NAME one"),
+    (6, "Key", "DISCOUNT RATE: 0.1", "DISCOUNT_RATE = 0.1"),
+    (6, "Number", "DISCOUNT_RATE: 10%", "DISCOUNT_RATE: 0.1\r "),
+    (6, "Key", Change(5, 7, ["RESOURCE_CONSTRAINT_COEFFICIENTS:"]), Change(5, 7, ["0 12000"])),
+    (6, "Missing", without(6)),
+    (8, "Fields", "0 12000 0", "0"),
+    (8, "Key", "0:12000", "0 12000:", "NAME: one"),
     (9, "Missing", without(9)),
+    (9, "Fields", Change(8, 10, ["RESOURCE_CONSTRAINT_COEFFICIENTS: 1"])),
+    (9, "Key", Change(8, 10, ["RESOURCE_CONSTRAINT_LIMITS:"])),
+    (10, "Order", before(10, "1 0"), before(10, "0 0")),
+    (10, "Range", before(10, "2 1"), before(10, "2 ?")),
+    (10, "Number", before(10, "1 ?"), before(10, "0 ?")),
+    (10, "Fields", before(10, "1"), before(10, "2 0 0")),
     (11, "Fields", "0 0 0 1000"),
     (11, "Range", "2 0 1000"),
     (12, "Order", before(11, "0 0 7")),
-    (13, "Fields", "0 0 G"),
-    (13, "Name", "0 0 E 1"),
-    (13, "Range", "1 0 L 1"),
-    (14, "Order", "0 0 G 1"),
+    (13, "Fields", "0 0 G", "0 0", "0", "0 0 IN 1 2", "0 0 I 1"),
+    (13, "Name", "0 0 E 1", "0 0 IN 1"),
+    (13, "Range", "1 0 L 1", "0 2 I 2 1"),
+    (13, "Order", "0 0 I 2.000001 2", "0 0 I 0 -0.000001"),
+    (14, "Order", "0 0 G 1", "0 1 I 2 1"),
+    (15, "Order", before(15, "0 1 I 0 900"), before(15, "0 0 L 1")),
+    (15, "Fields", before(15, "EOF")),
+    (15, "Key", before(15, "EOF:")),
 ]
 
 # A CPIT that ends within its objective, or that is hostile.
@@ -177,6 +249,20 @@ HOSTILE_CPIT = [
 FAULTS_OF_BLOCKS = [
     ("blocks line 1: Fields", b"0 0 0 0 1000 5000\n", b"0 0 0 0 1000 5000 0 0\n"),
     ("blocks line 2: Order", b"\n1 0 0 0 1000 5000 0\n"),
+    ("blocks line 1: Order", b"1 0 0 0 1000 5000 63", b"63999999 0 0 0 1000 5000 0"),
+    ("blocks line 1: Range", b"1 0 0 0 1000 5000 64", b"1 0 0 0 -1 5000 0", b"-1 0 0 0 1 5000 0"),
+    ("blocks line 1: Number", b"1 0 0 0 1000 5000 x", b"1 x 0 0 1000 5000 64"),
+    ("blocks line 1: TooFine", b"1 0 0 0 1000 0.0000001 0", b"0.5 0 0 0 1000 1 64"),
+    ("blocks line 1: Fields", b"1 0 0 0 1000 5000", b"1 x 0 0 1000 5000 64 0", b"EOF"),
+    ("blocks line 2: Range", b"0 0 0 0 1 0 0\n5 0 0 0 1000 5000 64\n"),
+    ("blocks line 2: Number", b"0 0 0 0 1 0 0\n0 0 0 0 1000 5000 ?\n"),
+    ("blocks line 2: Number", b"0 0 0 0 1 0 0\n1 0 0 0 1 0 0%"),
+    ("blocks line 2: Fields", b"0 0 0 0 1 0 0\n0 0 0 0 1 0\n"),
+    ("blocks line 2: Fields", b"0 0 0 0 1 0 0\n1 0 0 0 1 0 0 % x\n"),
+    ("blocks line 3: Order", b"0 0 0 0 1 0 0\n1 0 0 0 1 0 0\n1 0 0 0 1 0 0\n"),
+    ("blocks line 2: Number", b"0 0 0 0 1 0 0\n1 0 0 0 1 0 0\r \n"),
+    ("blocks line 2: Number", b"0 0 0 0 1 0 0\n1 0 0 0 1 0\r 0\n"),
+    ("blocks line 2: Fields", b"0 0 0 0 1 0 0\n1 0 0 0 1 0 0 \r \n"),
     ("blocks line 1: Range", b"64000000 0 0 0 1000 5000 0", b"0 10000 0 0 1000 5000 0"),
     ("blocks line 1: Range", b"0 0 0 0 1000000.001 5000 0", b"0 0 0 0 1000 -1 0"),
     ("blocks line 1: Range", b"0 0 0 0 1000 5000 64"),
@@ -195,6 +281,14 @@ FAULTS_OF_PRECEDENCES = [
     ("prec line 1: Twice", b"0 1 0\n1 0\n"),
     ("prec line 1: Range", b"0 1 2\n1 0\n", b"0 2 1 1\n1 0\n"),
     ("prec line 2: Range", b"0 1 1\n1 -1\n"),
+    ("prec line 2: Order", b"0 1 1\n0 0\n", b"0 1 1\n0 0 1\n", b"0 1 1\n0 1 1 1\n"),
+    ("prec line 2: Range", b"0 1 1\n0 2\n", b"0 1 1\n0 0 2\n", b"0 1 1\n2 0\n", b"0 1 1\n0 1 -1\n"),
+    ("prec line 2: Number", b"0 1 1\n0 x\n", b"0 1 1\n0 1 ?\n", b"0 1 1\n1 0\r \n"),
+    ("prec line 2: TooFine", b"0 1 1\n0 0.5\n", b"0 1 1\n0 0 0.5\n"),
+    ("prec line 2: Fields", b"0 1 1\n0\n", b"0 1 1\n1\n", b"0 1 1\n2\n", b"0 1 1\nEOF\n"),
+    ("prec line 3: Range", b"0 1 1\n1 0\n2 0\n"),
+    ("prec line 3: Order", b"0 1 1\n1 0\n0 0\n"),
+    ("prec line 3: Fields", b"0 1 1\n1 0\n1\n", b"0 1 1\n1 0\nEOF\n"),
     ("prec line 1: Range", b"0 18446744073709551616\n1 0\n"),
 ]
 
@@ -329,24 +423,29 @@ def faulty(name, texts, line):
     return answered(name, texts, *line.split(": "))
 
 
-def fields_of(place, line, texts_with, counts):
-    """Each field of a line in turn: numbers at both ends of its range and past them, and what is
-    none; then two fields that are refused."""
-    fields, others = line
-    for number, field in enumerate(fields, 1):
-        def answers(name, text, kind):
-            texts = texts_with(" ".join(with_cell(fields, number - 1, text)))
-            name = f"{name}: {place}, field {number}: {text}"
-            return answered(name, texts, place, kind, counts)
+def lines_like(fields, others):
+    """A line that is good; then each of its fields in turn: numbers at both ends of its range and
+    past them, and what is none; then two fields that are refused. Each with the kind of its fault.
+    """
+    yield [field.good for field in fields], None
+    for at, field in enumerate(fields):
         for text, value, kind in field.spellings():
-            if kind is None and number <= len(others) and value != int(field.good):
-                kind = others[number - 1]
-            yield answers("numbers_of_a_line", text, kind)
-        for text, kind in field.faults():
-            yield answers("faulty_fields", text, kind)
-    for texts, kind in pairs_of_faults(fields):
-        name = f"two_faulty_fields: {place}: {texts}"
-        yield answered(name, texts_with(" ".join(texts)), place, kind)
+            if kind is None and at < len(others) and value != int(field.good):
+                kind = others[at]
+            yield with_cell(fields, at, text), kind
+        for text, kind in field.faults() if field.decimals is None else []:
+            yield with_cell(fields, at, text), kind
+    yield from pairs_of_faults(fields)
+
+
+def fields_of(place, kinds_of_lines, texts_with, counts):
+    """Lines that are like those of these kinds, each once."""
+    found = {}
+    for line in kinds_of_lines:
+        for fields, kind in lines_like(*line):
+            found.setdefault(" ".join(fields), kind)
+    for line, kind in found.items():
+        yield answered(f"fields_of_a_line: {place}: {line}", texts_with(line), place, kind, counts)
 
 
 def widths_of(place, front, counts, texts_with):
@@ -366,10 +465,10 @@ def lines_of_blocks():
     def prec_with(line):
         return BLOCKS, f"0 1 1\n{line}\n".encode(), whole(PCPSP)
 
-    yield from fields_of("blocks line 2", BLOCK_LINE, blocks_with, TWO_BLOCKS)
+    yield from fields_of("blocks line 2", [BLOCK_LINE], blocks_with, TWO_BLOCKS)
     yield from widths_of("blocks line 2", [], [7], blocks_with)
     counts = TWO_BLOCKS.replace("arcs 1", "arcs 2")
-    yield from fields_of("prec line 2", PREC_LINE, prec_with, counts)
+    yield from fields_of("prec line 2", [PREC_LINE], prec_with, counts)
     yield from widths_of("prec line 2", [], range(2, 13), prec_with)
 
 
@@ -379,15 +478,15 @@ def lines_of_sections(file, good, lines_of, texts_of, counts):
         def texts_with(text):
             return texts_of(put(number, text).of(good))
         place = f"{file} line {number}"
-        yield from fields_of(place, line, texts_with, counts)
+        yield from fields_of(place, [line], texts_with, counts)
         yield from widths_of(place, [], [len(line[0])], texts_with)
 
     def texts_with_limit(text):
         return texts_of([*good[:-2], text])
     place = f"{file} line {len(good) - 1}"
     one = counts.replace("limits 2", "limits 1") if file == "pcpsp" else counts
+    yield from fields_of(place, LIMIT_LINES, texts_with_limit, one)
     for line in LIMIT_LINES:
-        yield from fields_of(place, line, texts_with_limit, one)
         front = ["?", "?", line[0][2].good]
         yield from widths_of(place, front, [len(line[0])], texts_with_limit)
     yield from letters_of(place, texts_with_limit, one)
@@ -398,7 +497,7 @@ def letters_of(place, texts_with, counts):
     for letter in [*LETTERS, "LL", "<=", "1"]:
         name = f"letters_of_limits: {place}: {letter}"
         kind = {"L": None, "G": None, "I": "Fields"}.get(letter, "Name")
-        yield answered(name, texts_with(f"0 0 {letter} 1"), place, kind, counts)
+        yield answered(name, texts_with(f"0 0 {letter} 2"), place, kind, counts)
         if letter != "I":
             yield answered(f"{name}, 5 fields", texts_with(f"0 0 {letter} 1 2"), place, "Fields")
 
@@ -417,7 +516,7 @@ def orders(file, good, section, ends, tail, texts_of, counts):
         texts = texts_of([*good[:section], *items, *good[below:]])
         kind = None if chosen[-2] < chosen[-1] else "Order"
         place = f"{file} line {section + len(items)}"
-        name = f"order_of_lines: {file}: {name}"
+        name = f"order_of_lines: {file}: {name} {tail}"
         return answered(name, texts, place, kind, counts.format(len(items)))
 
     for first, second in itertools.product(places, places):
@@ -458,7 +557,7 @@ def headers(of):
         yield from of_line(of, number, line)
     for first, second in itertools.combinations(range(of.head + 1, of.head + 4), 2):
         turned = put(second, of.good[first - 1]).of(put(first, of.good[second - 1]).of(of.good))
-        name = f"sections_out_of_turn: {turned[first - 1]}"
+        name = f"sections_out_of_turn: {turned[first - 1]} as line {first}"
         yield of.answered(name, turned, first, "Key")
         changed = put(first, turned[first - 1] + " 1").of(turned)
         yield of.answered(f"{name} and a field", changed, first, "Key")
@@ -476,9 +575,12 @@ def spellings_of_a_key(of, number, line):
         key.lower(), key.title(), key[:-1] + key[-1].lower(), key[1:], key[:-1], key + "S",
         f"x {key}", f"{key} x", f"{key}.", "",
     ]:
-        yield of.answered(f"no_keys: {other}", put(number, f"{other}:{value}"), number, "Key")
+        name = f"no_keys: {other} for {key}"
+        yield of.answered(name, put(number, f"{other}:{value}"), number, "Key")
     blanks = [f"{key} \t:{value}", f" \t{line}", f"{line} \t\r"]
-    for other in [*blanks, line.replace(" ", ""), line.replace(" ", "\t \t")]:
+    if value:
+        blanks += [line.replace(" ", ""), line.replace(" ", "\t \t")]
+    for other in blanks:
         yield of.answered(f"blanks_about_keys: {other!r}", put(number, other))
 
 
@@ -505,7 +607,7 @@ def header_key(of, number, line):
     for later in range(of.head + 2, of.head + 5):
         name = f"keys_behind_sections: {key} as line {later}"
         yield of.answered(name, before(later, line), later, "Key")
-    for place in (1, of.head):
+    for place in {1, of.head} - {number}:
         name = f"keys_in_any_order: {key} as line {place}"
         yield of.answered(name, before(place, line).of(others))
 
@@ -525,7 +627,7 @@ def words_of_headers(of):
         if b"\n" not in name:
             changed = b"NAME: " + name + b"\n" + whole(of.good[1:])
             kind = "Fields" if name[1:2] in BLANKS else "Name"
-            if is_name or name == b"a\r":
+            if is_name or name == b"de\r":
                 kind = None
             yield of.answered(f"bytes_of_a_name: {name}", changed, 1, kind)
     for length in (1, 63, 64, 65, 1000):
@@ -534,7 +636,6 @@ def words_of_headers(of):
         yield of.answered(name, put(1, "NAME: " + "a" * length), 1, kind)
     far = put(1, "NAME:" + " " * 1_000_000 + "one")
     yield of.answered("a_name_behind_a_million_blanks", far)
-    yield of.answered("a_name_with_a_colon", put(1, "NAME: a:b"), 1, "Name")
     right = of.file.upper()
     wrong = [right.lower(), right.title(), right[:-1], right[1:], right + "S", "UPIT", "?"]
     for other in [*wrong, "PCPSPCPIT".replace(right, "")]:
@@ -608,6 +709,23 @@ def model_files():
     yield from orders("cpit", good, 12, (2, 2), " G 1", with_cpit, counts)
 
 
+def beside_order():
+    """Lines that do not rise, and what else is wrong with them. There are two resources."""
+    two = ["NRESOURCE_SIDE_CONSTRAINTS: 2"]
+    pcpsp, cpit = Change(5, 6, two).of(PCPSP), Change(4, 5, two).of(CPIT)
+    for file, good, texts_of, number, last, greatest, table in [
+        ("pcpsp", pcpsp, with_pcpsp, 13, 13, "1 1 1 1", COEFFICIENTS_BEHIND),
+        ("pcpsp", pcpsp, with_pcpsp, 15, None, "1 1 L 1", LIMITS_BEHIND),
+        ("cpit", cpit, with_cpit, 11, 11, "1 1 1", CPIT_COEFFICIENTS_BEHIND),
+        ("cpit", cpit, with_cpit, 13, None, "1 1 L 1", LIMITS_BEHIND),
+    ]:
+        for kind, *others in table:
+            for other in others:
+                texts = texts_of(Change(number - 1, last, [greatest, other]).of(good))
+                name = f"beside_order: {file}: {greatest}, {other}"
+                yield answered(name, texts, f"{file} line {number + 1}", kind)
+
+
 def changed_files():
     """Model files with lines that are faulty, and such that end within their objective."""
     for name, file, good, texts_of, table in [
@@ -659,6 +777,7 @@ def trials():
     yield from model_files()
     yield from bytes_of_lines()
     yield from lines_between()
+    yield from beside_order()
     yield from changed_files()
     yield from blocks_and_precedences()
     for kind, *spellings in SPELLINGS:

@@ -18,6 +18,19 @@ class Part(NamedTuple):
         return self.text in found
 
 
+class Parts(NamedTuple):
+    """Any text that has each of these in it."""
+
+    texts: Sequence[bytes]
+
+    def fits(self, found):
+        return all(text in found for text in self.texts)
+
+    def lacking(self, found):
+        """The first of them that a text has not."""
+        return Part(next(text for text in self.texts if text not in found))
+
+
 class Front(NamedTuple):
     """Any text that begins so."""
 
@@ -48,7 +61,7 @@ class Link(NamedTuple):
 
 ANY = Part(b"")
 
-Content = Union[bytes, Part, Front, Sum, Folder, Link]
+Content = Union[bytes, Part, Parts, Front, Sum, Folder, Link]
 
 
 class Trial(NamedTuple):
@@ -70,6 +83,11 @@ class Trial(NamedTuple):
     errors: Content = b""
     left: Mapping[str, Content] = {}
 
+    def input(self):
+        """A number that tells its words, files and standard input from those of other runs."""
+        words, before = tuple(self.words), tuple(map(tuple, self.before))
+        return hash((words, self.given, self.source, frozenset(self.files.items()), before))
+
     def differences(self, status, out, errors, files):
         """What a run answered or left that it should not have."""
         if status != self.status:
@@ -85,11 +103,15 @@ class Trial(NamedTuple):
 
 
 def fits(found, wanted):
-    return wanted.fits(found) if isinstance(wanted, (Part, Front, Sum)) else found == wanted
+    if isinstance(wanted, (Part, Parts, Front, Sum)):
+        return wanted.fits(found)
+    return found == wanted
 
 
 def difference(name, found, wanted):
     """A text and what is wanted of it, each from the first line on in which they differ."""
+    if isinstance(wanted, Parts):
+        wanted = wanted.lacking(found)
     if isinstance(wanted, Part):
         found = found[max(found.find(wanted.text.split(b"\n")[0]), 0) :]
     if isinstance(wanted, (Part, Front)):

@@ -39,6 +39,10 @@ TIMES = {"MissingColumn": 0, "TwiceColumn": 2}
 HEADERS = [
     (None, "x,y,z,tonnes,grade,", "x,y,z,tonnes,grade,,,", "x,y,z,,,tonnes,grade,rock,rock"),
     (None, " x\t,\ty , z,tonnes  ,\t\tgrade"),
+    (None, "x,y,z,tonnes,grade,zone", "zone,Zone,z,y,x,grade,tonnes"),
+    (None, "x,y,z,tonnes,grade,'x'", "x,y,z,tonnes,grade,\u00a0x,x\u00a0"),
+    ("x: MissingColumn", "'x',y,z,tonnes,grade"),
+    ("x: MissingColumn", "\u00a0x,y,z,tonnes,grade", "x\u00a0,y,z,tonnes,grade"),
     ("x: TwiceColumn", "x, x,y,z,tonnes,grade", "x,y,z,tonnes,grade,X,X"),
     ("grade: TwiceColumn", "x,y,z,tonnes,grade,grade\t"),
     ("tonnes: TwiceColumn", "tonnes,y,z,Tonnes,x,grade"),
@@ -54,8 +58,6 @@ FILES = [
     ("empty_file: a mark", MARK, NO_X),
     ("header_alone", HEADER, ""),
     ("header_faults: a column is missing", b"x,y,z,tonnes", NO_GRADE),
-    ("header_faults: a part of a name", b"x,y,z,tonnes,grad", NO_GRADE),
-    ("header_faults: all but one are missing", b"x", "row 1 column y: MissingColumn"),
     ("header_faults: a column stands twice", b"x,y,X,tonnes", "row 1 column x: TwiceColumn"),
     # One byte order mark is dropped, and no second one.
     ("header_faults: two marks", MARK + MARK + b"x,y,z,tonnes,grade", NO_X),
@@ -71,6 +73,8 @@ ROWS = {
         ("row 2 column tonnes: TooFine", b"0,0,0,2500.0001,0"),
         ("row 2 column tonnes: Range", b"0,0,0,-99,0", b"0,0,0,1000000.001,0"),
         ("row 2 column tonnes: Number", b"0,0,0,1e3,0"),
+        ("row 2 column x: Range", b"-99,-99,-99,-99,-99"),
+        ("row 2 column grade: Range", b"0,0,0,1,-99", b"0,0,0,1,-999.25", b"0,0,0,1,-0.000001"),
         ("row 2 column whole: Width", b"0,0,0,1000"),
     ],
     "grid_edges": [
@@ -85,10 +89,19 @@ ROWS = {
     # An empty grade, a row without a line end, bytes that are no text, a quote that is not closed,
     # and cells far longer than any number.
     "zone_texts_at_the_edge": [
-        ("row 2 column whole: Width", b"0,0,0,1000"),
         ("row 2 column grade: Number", b"0,0,0,1000,", b'0,0,0,1,"0\n0,0,0,1,0\n'),
         ("0 0 0 0 1000 5 0|", b"0,0,0,1000,5"),
-        ("row 2 column x: Number", b"\xFF,0,0,1,0"),
+        ("row 2 column x: Number", b"\xFF,0,0,1,0", b"0\0,0,0,1,0", b"\0,0,0,1,0"),
+        (
+            "row 2 column tonnes: Number",
+            *(b'0,0,0,"' + text + b'",0' for text in [
+                b"+ 1", b"- 1", b"1 000", b"1,000", b"1'000", b"1_000", b"0x10", b"1.000,5", b"NaN",
+                b"inf", b"1t", b"1 t", b"=1", b"#N/A", b"n/a", b"1\0", b"\xC2\xA01", b"1\xC2\xA0",
+                b"\xE2\x80\x891", b"\xEF\xBC\x91", b"\xD9\xA1", b"\xE2\x88\x921", b"1\v", b"\n1",
+            ]),
+        ),
+        ("row 2 column tonnes: Number", b"0,0,0,'1',0", b"0,0,0,'1,0'"),
+        ("row 2 column whole: Width", b"0,0,0,1,000,0", b"0;0;0;1;0", b"0\t0\t0\t1\t0"),
         ("row 2 column x: Range", b"1" + b"0" * 100 + b",0,0,1,0"),
         ("row 2 column x: TooFine", b"1" + b"0" * 100 + b".0001,0,0,1,0"),
         ("row 2 column grade: Range", b"0,0,0,1,1" + b"0" * 100 + b".0001"),
@@ -126,6 +139,16 @@ RECORDS_OF_TEXTS = [
     (b'"x\n",y,z,tonnes,grade\n', NO_X),
     (b'"x""",y,z,tonnes,grade\n', NO_X),
     (HEADER + b'0,0,0,"1,",2\n', "row 2 column tonnes: Number"),
+    # other quotes are none
+    (b"x,y,z,rock,tonnes,grade\n0,0,0,'a,b',1,2\n", "row 2 column whole: Width"),
+    (b"x,y,z,rock,tonnes,grade\n0,0,0,'a',1,2\n10,0,0,`b`,3,4\n", TWO),
+    (b"x,y,z,tonnes,grade,rock\n0,0,0,1,2,'b\n10,0,0,3,4,d'\n", TWO),
+    # what stands before the header is the header
+    (b"x and y\n" + HEADER + b"0,0,0,1,2\n", NO_X),
+    (b"# the model of May\n" + HEADER, NO_X),
+    (b",,,,\n" + HEADER, NO_X),
+    (b'""\n' + HEADER, NO_X),
+    (HEADER + HEADER + b"0,0,0,1,2\n", "row 2 column x: Number"),
     # records of other lengths, and blank lines, which are none
     (HEADER + b"0,0,0,1,2\n10,0,0,3,4,5", "row 3 column whole: Width"),
     (HEADER + b"\n0,0,0,1,2\n\r\n\r10,0,0,3", "row 3 column whole: Width"),
@@ -147,13 +170,33 @@ RECORDS_OF_TEXTS = [
     # marks, whole and in part, and where they are none
     (MARK + HEADER + b"0,0,0,1,2\n", ONE),
     (MARK + b'"x","y","z","tonnes","grade"\n0,0,0,1,2\n', ONE),
+    (MARK + b"\n\r\n" + HEADER + b"0,0,0,1,2\n", ONE),
     (MARK[:2] + HEADER, NO_X),
+    (MARK[1:] + HEADER, NO_X),
+    (b" " + MARK + HEADER, NO_X),
+    (b"\n" + MARK + HEADER, NO_X),
+    (b"\xFE\xFF" + HEADER, NO_X),
+    (b"\xFF\xFE" + HEADER, NO_X),
+    (MARK + b" x,y,z,tonnes,grade\n" + b"0,0,0,1,2\n", ONE),
     (HEADER + MARK + b"0,0,0,1,2\n", "row 2 column x: Number"),
     (b"x,y,z,tonnes,grade,rock\n0,0,0,1,2,\xFF\x00\n10,0,0,3,4," + MARK + b"\n", TWO),
     # no comments, and no escapes
     (b"#,x,y,z,tonnes,grade\n#a,0,0,0,1,2\n", ONE),
     (b'rock,x,y,z,tonnes,grade\n\\"b,0,0,0,1,2\n\\n,10,0,0,3,4\n', TWO),
     (b'rock,x,y,z,tonnes,grade\n"b\\",0,0,0,1,2\n', ONE),
+]
+
+def wide(columns, at, *cells):
+    """A header and rows with so many other columns, of which so many stand before these five."""
+    for count, row in zip(itertools.count(), [COLUMNS, *cells]):
+        others = [f"{'c' * (count == 0)}{place}" for place in range(columns)]
+        yield ",".join([*others[:at], *map(str, row), *others[at:]])
+
+
+# So many columns beside the five, and where these begin.
+WIDE = [
+    (59, 0), (60, 60), (64, 30), (251, 251), (256, 256), (1_000, 0), (1_000, 1_000),
+    (65_536, 65_536),
 ]
 
 # A cell far longer than any buffer, with a line break in it, and a row behind it.
@@ -187,8 +230,13 @@ def faulty(name, text, column, kind, row=1, plan=WASTE):
     return says(name, text, f"row {row} column {column}: {kind}", plan)
 
 
+def good_row():
+    return HEADER + ",".join(cell.good for cell in CELLS).encode()
+
+
 def numbers():
     """Each cell of a row: numbers at both ends of its range and past them, and what is none."""
+    yield says("numbers_of_a_row: all good", good_row(), "0 0 0 0 1 1 0|", MILLIMETRES)
     for at, cell in enumerate(CELLS):
         for text, number, kind in [*cell.spellings(), ("", None, "Number")]:
             held = [*FIRST, 1000, 1_000_000]
@@ -235,12 +283,12 @@ def headers():
     for at, column in enumerate(COLUMNS):
         others = COLUMNS[:at] + COLUMNS[at + 1 :]
         capitals = [column[:cut] + column[cut:].upper() for cut in range(len(column))]
-        for other in [column.upper(), column.title(), *capitals]:
+        for other in dict.fromkeys([column.title(), *capitals]):
             text = ",".join([*others, other])
             name = f"columns_in_capitals: {text}|0,0,0,0,0"
             yield says(name, text.encode() + zeros, "0 0 0 0 0 0 0|")
         wrong = [column[1:], column[:-1], column + "s", column + "_", "_" + column, "rock"]
-        for other in wrong + NO_COLUMNS[column]:
+        for other in dict.fromkeys(wrong + NO_COLUMNS[column]):
             text = ",".join([*others, other]).encode()
             yield faulty(f"no_columns: {column}: {other}", text, column, "MissingColumn")
         twice, thrice = [column.upper(), *COLUMNS], [column, *COLUMNS, column]
@@ -261,15 +309,37 @@ def headers():
             yield says(f"headers: {text}", text.encode() + row, answer)
 
 
+def wide_files():
+    """Many columns, of which a row has one more or less, or a faulty cell."""
+    for columns, at in WIDE:
+        name = f"wide_files: {columns} others, at {at}"
+        good = list(wide(columns, at, [0, 0, 0, 1, 2], [10, 0, 0, 3, 4]))
+        for what, last, answer in [
+            ("good", "", TWO),
+            ("a cell more", ",1", "row 3 column whole: Width"),
+            ("a faulty cell", None, "row 3 column grade: Number"),
+        ]:
+            if last is None:
+                rows = list(wide(columns, at, [0, 0, 0, 1, 2], [10, 0, 0, 3, "x"]))
+            else:
+                rows = [*good[:2], good[2] + last]
+            yield says(f"{name}: {what}", "\n".join(rows).encode(), answer)
+        less = "\n".join([*good[:2], good[2].rsplit(",", 1)[0]]).encode()
+        yield faulty(f"{name}: a cell less", less, "whole", "Width", 3)
+        twice = "\n".join([good[0] + ",X", *good[1:]]).encode()
+        yield faulty(f"{name}: a column twice", twice, "x", "TwiceColumn")
+
+
 def bytes_about_cells():
     """Each byte about the name of a column and about a number: spaces and tabs are left out, and
     nothing else is."""
     for byte in EVERY_BYTE:
-        for cell in (byte + b"x", b"x" + byte):
+        for cell in dict.fromkeys([byte + b"x", b"x" + byte]):
             text = quoted(cell) + b",y,z,tonnes,grade\n0,0,0,1,0\n"
             answer = "0 0 0 0 1 0 0|" if byte in BLANKS else NO_X
             yield says(f"bytes_about_columns: {cell}", text, answer)
-        for cell, more in ((byte + b"0", b"0123456789+-."), (b"0" + byte, b"0123456789.")):
+        cells = {byte + b"0": b"0123456789+-.", b"0" + byte: b"0123456789."}
+        for cell, more in cells.items():
             answer = "row 2 column tonnes: Number"
             if byte in BLANKS or byte in more:
                 answer = f"0 0 0 0 {int(cell.decode().strip(' +-.') or '0')} 0 0|"
@@ -282,12 +352,13 @@ def trials():
     yield from faults()
     yield from headers()
     yield from bytes_about_cells()
+    yield from wide_files()
     for name, text, answer in FILES:
         yield says(name, text, answer)
     for name, table in ROWS.items():
         for answer, *rows in table:
             for row in rows:
-                yield says(f"{name}: {row[:40]!r}", HEADER + row, answer)
+                yield says(f"{name}: {row[:40]!r}, {len(row)} bytes", HEADER + row, answer)
     for name, text, answer in MOST:
         yield says(f"zone_texts_at_the_edge: {name}", text, answer)
     for text, answer in RECORDS_OF_TEXTS:
