@@ -1,13 +1,21 @@
 """Inputs, texts and words that are large.
 
-Each row takes up to some seconds and some hundred megabytes, so they run one after the other.
+Each row takes some seconds and some hundred megabytes at most, so they run one after the other.
+That of five million blocks has 800 MB of files.
 """
-from rows import instance
+import shutil
+import sys
+import tempfile
+
+from rows import instance, large
 from rows.instance import arcs_of, at, plain_texts, sections, unlisted
 from rows.trial import HEADER, Trial, piped, refused
 from shared import CHECKED, ENDINGS, compile_words
 
 ONE_AT_A_TIME = True
+
+# The bytes of disk that have to be free where the rows have their folders.
+ROOM = 2_000_000_000
 
 # As many bytes as an input or a zone file may have.
 MOST = 268_435_456
@@ -102,6 +110,11 @@ def too_long():
     files = {**OLDER, "plan": TWO, "ore": rows(bench(0, 1, 1)), "long": files["input"]}
     words = compiles("ore", "long")
     yield refused("a zone file that is too long", "file 1: TooLong", words=words, files=files)
+    files["ore"] = HEADER + b"0,0,0,1,?\n"
+    line = "file 0 row 2 column grade: Number"
+    yield refused("a faulty file before one that is too long", line, words=words, files=files)
+    name, words = "a file that is too long before a faulty one", compiles("long", "ore")
+    yield refused(name, "file 0: TooLong", words=words, files=files)
     files = at("b", {**ONE_BLOCK, "blocks": files["long"]})
     name = "a block file longer than a zone file may be"
     yield refused(name, "blocks line 1: Fields", words=["check", "b"], files=files)
@@ -114,6 +127,20 @@ def long_files():
     for ending in CHECKED:
         files = at("b", {**ONE_BLOCK, ending: remark + ONE_BLOCK[ending]})
         yield Trial(f"200 MB before b.{ending}", words=["check", "b"], files=files, out=counts)
+
+
+def five_million_blocks():
+    """A model beyond each count at which a list might be taken for full: its texts, and what
+    `check` counts of them."""
+    files = {f"zone{number}": text for number, text in enumerate(large.zones())}
+    return Trial(
+        "five million blocks",
+        files={"plan": large.PLAN, **files},
+        before=[compiles(*files)],
+        words=["check", "b"],
+        out=large.COUNTS.encode() + b"\n",
+        left=at("b", large.TEXTS),
+    )
 
 
 def many_words():
@@ -132,6 +159,10 @@ def many_words():
 
 
 def trials():
+    folder = tempfile.gettempdir()
+    if shutil.disk_usage(folder).free < ROOM:
+        sys.exit(f"tools/rows/sizes.py: less than {ROOM} bytes are free in {folder}; set TMPDIR")
+    yield five_million_blocks()
     yield from many_words()
     yield from million_rows()
     yield two_files()

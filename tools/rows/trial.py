@@ -1,7 +1,7 @@
 """A run of pitc, and what it has to answer and to leave."""
 import hashlib
 import os
-from typing import Mapping, NamedTuple, Sequence, Union
+from typing import Callable, Iterable, Mapping, NamedTuple, Sequence, Union
 
 HEADER = b"x,y,z,tonnes,grade\n"
 
@@ -49,6 +49,25 @@ class Sum(NamedTuple):
         return hashlib.sha256(found).hexdigest() == self.digits
 
 
+class Pieces(NamedTuple):
+    """The text that is made of these pieces, which are made anew each time that it is looked at."""
+
+    make: Callable[[], Iterable[bytes]]
+
+    def differing(self, found):
+        """Where a text begins to differ, and the piece that should stand there; None where it is
+        the same."""
+        at = 0
+        for piece in self.make():
+            if not found.startswith(piece, at):
+                return at, piece
+            at += len(piece)
+        return None if at == len(found) else (at, b"")
+
+    def fits(self, found):
+        return self.differing(found) is None
+
+
 class Folder(NamedTuple):
     """An empty folder in the place of a file."""
 
@@ -61,7 +80,7 @@ class Link(NamedTuple):
 
 ANY = Part(b"")
 
-Content = Union[bytes, Part, Parts, Front, Sum, Folder, Link]
+Content = Union[bytes, Part, Parts, Front, Sum, Pieces, Folder, Link]
 
 
 class Trial(NamedTuple):
@@ -103,7 +122,7 @@ class Trial(NamedTuple):
 
 
 def fits(found, wanted):
-    if isinstance(wanted, (Part, Parts, Front, Sum)):
+    if isinstance(wanted, (Part, Parts, Front, Sum, Pieces)):
         return wanted.fits(found)
     return found == wanted
 
@@ -112,6 +131,9 @@ def difference(name, found, wanted):
     """A text and what is wanted of it, each from the first line on in which they differ."""
     if isinstance(wanted, Parts):
         wanted = wanted.lacking(found)
+    if isinstance(wanted, Pieces):
+        start, wanted = wanted.differing(found)
+        found = found[start : start + len(wanted) + 1]
     if isinstance(wanted, Part):
         found = found[max(found.find(wanted.text.split(b"\n")[0]), 0) :]
     if isinstance(wanted, (Part, Front)):
