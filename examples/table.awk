@@ -3,20 +3,29 @@
 #     awk -v x=XC -v y=YC -v z=ZC -v tonnes=TONNAGE -v grade=AU_PPM -v zone=DOMAIN -f table.awk export.csv > table.csv
 #
 # - The header is the first of at most 100 lines that has all these columns, in upper or lower case. Lines above it are left out, and
-#   so is a row of units below it. Cells stand apart by commas, semicolons, tabs or blanks, as the header shows, or by -v separator='|'.
-# - -v decimal=, reads decimal commas.
-# - tonnes and grade take a product of columns and numbers, or a sum of products: -v tonnes='SG*4000' for blocks of 4000 cubic metres,
-#   -v tonnes='SG*DX*DY*DZ' for sub-blocks, -v grade='CU*10000' for percent, -v grade='AU + CU*0.9' for an equivalent grade.
-# - A cell is missing where it is empty, below 0 (as -99) or as -v missing=NA says. Where a factor is missing, the product is; a
-#   missing product adds nothing to a sum, and where all are missing, the cell of the table is empty, as it is for 0 tonnes.
-# - Without -v zone all rows are of the zone `all`.
+#   so are those below it up to the first whose x is a number, as rows of units. Cells stand apart by commas, semicolons, tabs or
+#   blanks, as the header shows, or by -v separator='|'.
+# - -v decimal=, reads decimal commas; -v thousands=, or -v thousands=' ' leaves out what stands between thousands.
+# - x, y, z, tonnes and grade take columns and numbers with + - * and /, products before sums: -v tonnes='SG*4000' for blocks of 4000
+#   cubic metres, -v tonnes='SG*DX*DY*DZ' for sub-blocks, -v tonnes='VOLUME/FACTOR', -v grade='CU*10000' for percent,
+#   -v grade='AU + CU*0.9' for an equivalent grade, -v x='1000 + 20*I' for indices, -v z='-DEPTH'. A name may have these signs itself.
+# - Tonnes or a grade are missing in a cell that is empty, below 0 (as -99) or as -v missing=NA says. Where a factor is missing, the
+#   product is; a missing product adds nothing to a sum, and where all are missing, the cell of the table is empty, as it is for 0
+#   tonnes.
+# - Without -v zone all rows are of the zone `all`. A comma in a zone's name becomes a semicolon.
 #
-# At the first row that it cannot read it says which and ends with 1; the table is then not whole.
+# At the first row that it cannot read it says which, there and in the table, and ends with 1; the table is then not whole.
 
-function stop(message) {
-    print "table.awk: line " NR ": " message > "/dev/stderr"
+# Tells why there is no whole table, also in the table, so that what reads that looks for no other cause.
+function refuse(message) {
+    print "table.awk: " message > "/dev/stderr"
+    print "table.awk: " message
     failed = 1
     exit 1
+}
+
+function stop(message) {
+    refuse("line " NR ": " message)
 }
 
 function trim(text) {
@@ -47,26 +56,48 @@ function place_of(wanted,    at, found) {
     return found
 }
 
-# the same; whether it was found is noted
-function column_of(wanted,    found) {
-    found = place_of(wanted)
-    if (found) hits++
-    else if (lacking == "") lacking = wanted
-    return found
+# Takes an operand off the front of the formula `rest`: at[kind, product, n] is its column, or 0 with number[kind, product, n].
+function take_operand(kind, one, part,    column, text, behind, found, length_of_it) {
+    sub(/^[ \t]+/, "", rest)
+    for (column = 1; column <= cells; column++) {
+        text = tolower(trim(cell[column]))
+        behind = substr(rest, length(text) + 1)
+        if (text == "" || tolower(substr(rest, 1, length(text))) != text || behind !~ /^[ \t]*([-+*\/]|$)/) continue
+        if (length(text) == length_of_it) stop("two columns `" trim(cell[column]) "`")
+        if (length(text) < length_of_it) continue
+        found = column
+        length_of_it = length(text)
+    }
+    operand[kind, one, part] = found + 0
+    if (found) {
+        hits++
+        if (kind == "x") of_x[found]
+    } else if (match(rest, /^([0-9]+\.?[0-9]*|\.[0-9]+)/) && substr(rest, RLENGTH + 1) ~ /^[ \t]*([-+*\/]|$)/) length_of_it = RLENGTH
+    else {
+        match(rest, /^[^-+*\/]*/)
+        length_of_it = RLENGTH
+        if (lacking == "") lacking = trim(substr(rest, 1, RLENGTH))
+    }
+    number[kind, one, part] = found ? 0 : substr(rest, 1, length_of_it) + 0
+    rest = substr(rest, length_of_it + 1)
+    sub(/^[ \t]+/, "", rest)
 }
 
-# Takes a sum of products apart: factor[kind, product, n] is a column, or 0 with number[kind, product, n].
-function take_formula(kind, formula,    sums, products, part, one, text) {
-    many[kind] = place_of(formula) ? 1 : split(formula, sums, "+")
-    if (many[kind] == 1) sums[1] = formula
-    for (one = 1; one <= many[kind]; one++) {
-        many[kind, one] = split(sums[one], products, "*")
-        for (part = 1; part <= many[kind, one]; part++) {
-            text = trim(products[part])
-            factor[kind, one, part] = text ~ /^([0-9]+\.?[0-9]*|\.[0-9]+)$/ ? 0 : column_of(text)
-            number[kind, one, part] = text + 0
+# Takes a formula apart: a sum of products, each with a sign, of operands by which is multiplied or divided.
+function take_formula(kind, formula,    one, part, sign) {
+    rest = trim(formula)
+    for (one = 1; one == 1 || rest != ""; one++) {
+        sign = substr(rest, 1, 1)
+        if (sign ~ /[-+]/) rest = substr(rest, 2)
+        negative[kind, one] = sign == "-"
+        for (part = 1; part == 1 || rest ~ /^[*\/]/; part++) {
+            divides[kind, one, part] = part > 1 && rest ~ /^\//
+            if (part > 1) rest = substr(rest, 2)
+            take_operand(kind, one, part)
         }
+        many[kind, one] = part - 1
     }
+    many[kind] = one - 1
 }
 
 # whether the line is a header with all columns, its cells being apart by this separator
@@ -75,12 +106,17 @@ function is_header(by,    at) {
     cells = split_record($0)
     hits = 0
     lacking = ""
-    x_at = column_of(x)
-    y_at = column_of(y)
-    z_at = column_of(z)
+    split("", of_x)
+    take_formula("x", x)
+    take_formula("y", y)
+    take_formula("z", z)
     take_formula("tonnes", tonnes)
     take_formula("grade", grade)
-    if (zone != "") zone_at = column_of(zone)
+    if (zone != "") {
+        zone_at = place_of(zone)
+        if (zone_at) hits++
+        else if (lacking == "") lacking = zone
+    }
     if (hits * 1000 + cells > closest) {
         closest = hits * 1000 + cells
         closest_line = NR
@@ -91,47 +127,67 @@ function is_header(by,    at) {
     return lacking == ""
 }
 
-function number_at(at,    text) {
+# what may be wrong with a number
+function hint(text,    told) {
+    if (text ~ /^[-+]?[0-9]+,[0-9]+$/ && decimal != ",") told = ": if its comma is decimal, give -v decimal=,"
+    if (text ~ /^[-+]?[0-9]+([ ,.'][0-9][0-9][0-9])+([.,][0-9]*)?$/) told = told ": if it has separators of thousands, give theirs as -v thousands=,"
+    return told
+}
+
+function number_at(at,    text, parts, count, part) {
     text = trim(cell[at])
+    if (thousands != "") {
+        count = split(text, parts, thousands == " " ? "[ ]" : "[" thousands "]")
+        text = ""
+        for (part = 1; part <= count; part++) text = text parts[part]
+    }
     if (decimal == ",") {
         gsub(/\./, "?", text)
         sub(/,/, ".", text)
     }
-    if (text !~ /^[-+]?([0-9]+\.?[0-9]*|\.[0-9]+)([eE][-+]?[0-9]+)?$/) {
-        stop("column " name[at] " has `" trim(cell[at]) "`" (text ~ /^[-+0-9]+,[0-9]+$/ ? ": if its comma is decimal, give -v decimal=," : ""))
-    }
+    if (text !~ /^[-+]?([0-9]+\.?[0-9]*|\.[0-9]+)([eE][-+]?[0-9]+)?$/) stop("column " name[at] " has `" trim(cell[at]) "`" hint(trim(cell[at])))
     return text + 0
 }
 
-# the number in a cell, or -1 where it is missing
-function measure_at(at,    text, found) {
+# whether a cell says that nothing is known
+function is_missing(at,    text) {
     text = trim(cell[at])
-    if (text == "" || text "" == missing "") return -1
-    found = number_at(at)
-    return found < 0 ? -1 : found
+    return text == "" || text "" == missing "" || number_at(at) < 0
 }
 
-# what a formula gives in this row, or an empty text
-function value_of(kind,    one, part, product, found, sum) {
+# what a formula gives in this row, or an empty text; coordinates may be below 0, and are never missing
+function value_of(kind, may_lack,    one, part, product, found, sum, known) {
     for (one = 1; one <= many[kind]; one++) {
-        product = 1
-        for (part = 1; part <= many[kind, one] && product >= 0; part++) {
-            found = factor[kind, one, part] ? measure_at(factor[kind, one, part]) : number[kind, one, part]
-            product = found < 0 ? -1 : product * found
+        product = negative[kind, one] ? -1 : 1
+        for (part = 1; part <= many[kind, one] && product != ""; part++) {
+            found = operand[kind, one, part]
+            if (found && may_lack && is_missing(found)) product = ""
+            else {
+                found = found ? number_at(found) : number[kind, one, part]
+                if (!divides[kind, one, part]) product *= found
+                else if (found != 0) product /= found
+                else if (may_lack) product = ""
+                else stop(kind " is divided by 0")
+            }
         }
-        if (product >= 0) sum = (sum == "" ? 0 : sum) + product
+        if (product == "") continue
+        sum += product
+        known = 1
     }
-    return sum == "" ? "" : sprintf("%.9f", sum)
+    return known && !(may_lack && sum < 0) ? sprintf("%.9f", sum) : ""
 }
 
 BEGIN {
-    if (x == "" || y == "" || z == "" || tonnes == "" || grade == "") stop("give x, y, z, tonnes and grade, each by -v")
-    if (tonnes_times grade_times != "") stop("write a factor behind its column, as in -v grade='CU*10000'")
+    if (x == "" || y == "" || z == "" || tonnes == "" || grade == "") refuse("give x, y, z, tonnes and grade, each by -v")
 }
 
 { sub(/\r$/, "") }
 
-NR == 1 { sub(/^\357\273\277/, "") }
+NR == 1 {
+    sub(/^\357\273\277/, "")
+    front = substr($0, 1, 2)
+    if (front == "\377\376" || front == "\376\377") stop("it is UTF-16: iconv -f UTF-16 -t UTF-8 makes it UTF-8")
+}
 
 !width {
     if (separator_given == "") separator_given = separator == "" ? "," : separator
@@ -139,6 +195,7 @@ NR == 1 { sub(/^\357\273\277/, "") }
         width = cells
         header = NR
         for (at = 1; at <= width; at++) name[at] = trim(cell[at])
+        for (first = 1; first < width && !(first in of_x); first++) continue
         print "x,y,z,tonnes,grade,zone"
     }
     if (width || NR < 100) next
@@ -149,24 +206,22 @@ NR == 1 { sub(/^\357\273\277/, "") }
 
 {
     cells = split_record($0)
-    if (cells != width) stop("it has " cells " cells, and the header " width)
-    if (NR == header + 1 && trim(cell[x_at]) !~ /^[-+.,0-9]/) {
-        units = ", and the row of units"
+    if (!rows && (cells != width || trim(cell[first]) !~ /^[-+.,0-9]/)) {
+        units++
         next
     }
-    mass = value_of("tonnes")
+    if (cells != width) stop("it has " cells " cells, and the header " width)
     zone_name = zone == "" ? "all" : trim(cell[zone_at])
-    if (index(zone_name, ",")) stop("a comma in the zone `" zone_name "`")
-    printf("%.6f,%.6f,%.6f,%s,%s,%s\n", number_at(x_at), number_at(y_at), number_at(z_at), mass + 0 > 0 ? mass : "", value_of("grade"), zone_name)
+    gsub(/,/, ";", zone_name)
+    mass = value_of("tonnes", 1)
+    printf("%.6f,%.6f,%.6f,%s,%s,%s\n", value_of("x"), value_of("y"), value_of("z"), mass + 0 > 0 ? mass : "", value_of("grade", 1), zone_name)
     rows++
 }
 
 END {
     if (failed) exit 1
-    if (!NR) stop("there is no text")
-    if (!width) {
-        print "table.awk: no column `" closest_lacks "` in line " closest_line + 0 ", which has" closest_names > "/dev/stderr"
-        exit 1
-    }
-    print rows + 0 " rows; left out: " header - 1 " lines above the header" units > "/dev/stderr"
+    if (!NR) refuse("there is no text")
+    if (!width) refuse("no column `" closest_lacks "` in line " closest_line + 0 ", which has" closest_names)
+    if (!rows) refuse("no row below the header in line " header " has a number in the column " name[first])
+    print rows " rows; left out: " header - 1 " lines above the header, " units + 0 " between it and the first number" > "/dev/stderr"
 }

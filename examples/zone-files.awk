@@ -11,13 +11,18 @@
 # - With -v size=20,20,10, the size of a block, each row moves to the nearest place of the grid through the first row. A row that is
 #   more than a tenth of a size off is no row of that grid, and is named.
 #
-# It prints the rows of each file, what was left out or changed, and the record `grid` for the plan. Where no grid fits, or a row
-# cannot be read, it says so and ends with 1; the files are then not whole.
+# It prints the rows of each file, what was left out or changed, and the record `grid` for the plan. It warns where all sizes of the grid
+# are 1, as those of indices, and where rock has less than 0.5 or more than 10 tonnes a cubic metre. Where no grid fits, or a row cannot
+# be read, it says so and ends with 1; the files are then not whole.
 
 function stop(message) {
     print "zone-files.awk: line " NR ": " message > "/dev/stderr"
     failed = 1
     exit 1
+}
+
+function warn(message) {
+    print "zone-files.awk: warning: " message > "/dev/stderr"
 }
 
 function divisor(one, other,    rest) {
@@ -85,6 +90,8 @@ BEGIN {
     }
 }
 
+/^table\.awk: / { stop("the table is not whole, since it stopped: " $0) }
+
 NR == 1 {
     if ($0 != "x,y,z,tonnes,grade,zone") stop("it is no plain table: make it by table.awk")
     next
@@ -103,6 +110,8 @@ NR == 1 {
     }
     if (!(column in top) || level + 0 > top[column]) top[column] = level + 0
     if ($5 == "") barren++
+    if (!lightest || $4 < lightest) lightest = $4
+    if ($4 > heaviest) heaviest = $4
     write_row(column "," level, $6, $4, $5)
 }
 
@@ -123,6 +132,15 @@ function look_at(axis,    places) {
     box = (box ? box : 1) * places
 }
 
+# Warns of what is no fault, and is mostly wrong.
+function look_at_rock(    volume) {
+    volume = step["x"] * step["y"] * step["z"] / 1000000000
+    if (step["x"] == 1000 && step["y"] == 1000 && step["z"] == 1000) warn("all sizes are 1: are x, y and z indices of blocks?")
+    if (lightest && lightest < 0.5 * volume || heaviest > 10 * volume) {
+        warn("tonnes a cubic metre are from " plain(lightest / volume) " to " plain(heaviest / volume) ": are these tonnes?")
+    }
+}
+
 END {
     if (failed) exit 1
     for (at = 1; holes && at <= hollow; at++) {
@@ -140,6 +158,7 @@ END {
     look_at("x")
     look_at("y")
     look_at("z")
+    look_at_rock()
     printf("of the grid's %d places %d have a row (%d %%)\n", box, all, all * 100 / box)
     print "grid," plain(least["x"] / 1000) "," plain(least["y"] / 1000) "," plain(least["z"] / 1000) "," plain(step["x"] / 1000) "," plain(step["y"] / 1000) "," plain(step["z"] / 1000)
 }
