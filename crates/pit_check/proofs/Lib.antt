@@ -1,1 +1,1 @@
-pub mod CheckFaults
+mod Checks

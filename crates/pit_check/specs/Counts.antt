@@ -52,6 +52,6 @@ counted texts = do
 abbrev pub IsLineOf : Texts → List ℕ → Type 0
 IsLineOf texts line = (counts : Counts) × (counted texts ≡ Ok counts) × (line ≡ counts_words counts ++ 10 ∷ [])
 
--- the line of the counts of some texts
-abbrev pub IsCountsLine : List ℕ → Type 0
-IsCountsLine line = (texts : Texts) × IsLineOf texts line
+-- the same, and the line was appended
+abbrev pub TellsCounts : Texts → List ℕ → List ℕ → Type 0
+TellsCounts texts old new = (line : List ℕ) × IsLineOf texts line × (new ≡ old ++ line)

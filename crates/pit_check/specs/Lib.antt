@@ -1,3 +1,3 @@
-pub mod CheckFault
+pub mod Checked
 pub mod Counts
 pub mod inner

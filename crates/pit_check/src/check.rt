@@ -1,21 +1,21 @@
 //! The check of the files of an instance.
 
 ghost use Rattle.std.specs.Fn.{FnReturnsAt};
-ghost use Rattle.std.specs.Prelude.{◌≡◌, ◌≢◌, ◌+◌, ◌≤◌, ◌++◌, ℕ, List, IfErr, IfOk, IfSome, IsErrOf};
-ghost use Rattle.pit_check.specs.CheckFault.{IsCheckStatus, TellsFault};
-ghost use Rattle.pit_check.specs.inner.CheckSteps.{AreTexts, EndsCheck, HasText, HasTextIfThere, IsFaultOf, IsFaultOfFeed, IsFaultOfTexts, IsFoundIn};
-ghost use Rattle.pit_check.specs.Counts.{IsCountsLine, IsLineOf};
+ghost use Rattle.std.specs.Prelude.{◌≡◌, ◌≢◌, IfErr, IfOk, OnErr, OnOk};
+ghost use Rattle.pit_check.specs.Checked.{IsCheckStatus, IsUncounted};
+ghost use Rattle.pit_check.specs.inner.CheckSteps.{AreTexts, HasText, HasTextIfThere, IsFaultOf, IsFaultOfTexts, IsFoundIn};
+ghost use Rattle.pit_check.specs.Counts.{IsLineOf, TellsCounts};
 ghost use Rattle.pit_check.specs.declared.counts.Texts.{Texts as SomeTexts};
-ghost use Rattle.pit_edge.specs.FaultLine.{EndsRefused};
-ghost use Rattle.devices.specs.declared.slurp.TheConstants.{GREATEST_LIMIT};
+ghost use Rattle.pit_edge.specs.FaultLine.{EndsBy};
 
-use crate::check_fault::CheckFault;
 use crate::counts::Texts;
 use devices::feed::{Feed, FeedFault};
 use devices::file_feed::FileFeed;
-use devices::slurp::{GREATEST_LIMIT, SlurpFault, slurp};
-use pit_edge::fault_line::refuse_with;
-use pit_edge::status::{DEVICE, REFUSED, RESOURCES};
+use devices::slurp::GREATEST_LIMIT;
+use pit_edge::fault_line::tell;
+use pit_edge::input::read_source;
+use pit_edge::refused::Refused;
+use pit_edge::source::Source;
 use std::alloc::Global;
 use std::rt::Files;
 use text_lines::text_fault::TextFile;
@@ -28,7 +28,7 @@ use text_lines::text_fault::TextFile;
 /// - 1: a text is too long, or has a faulty line;
 /// - 3: a file cannot be opened or read;
 /// - 4: memory was refused, and both vectors are as they were.
-#[tactic(auto, using(crate::proofs::CheckFaults::status_listed, crate::proofs::CheckFaults::fault_told, crate::proofs::CheckFaults::found))]
+#[tactic(auto, using(crate::proofs::Checks::uncounted, crate::proofs::Checks::status_listed, crate::proofs::Checks::no_memory))]
 pub fn check_files<R: Files>(
     rt: &R,
     alloc: Global,
@@ -36,62 +36,44 @@ pub fn check_files<R: Files>(
     out: &mut Vec<u8>,
     err: &mut Vec<u8>,
 ) -> u8
-    ensures done { result ≡ 0 → (line : List ℕ) × IsCountsLine line
-        × (out.new.items ≡ out.old.items ++ line) }
+    ensures done { result ≡ 0 → (texts : SomeTexts) × TellsCounts texts out.old.items out.new.items }
     ensures quiet { result ≡ 0 → err.new.items ≡ err.old.items }
     ensures refused { result ≢ 0 → out.new.items ≡ out.old.items }
     ensures status { IsCheckStatus result }
-    ensures told { result ≢ 0 → result ≢ 4 → TellsFault err.old.items err.new.items result }
+    ensures told { result ≢ 0 → EndsBy IsUncounted err.old.items err.new.items result }
     ensures memory { result ≡ 4 → err.new.items ≡ err.old.items }
 {
-    match checked(alloc, base, &|path: &str| FileFeed::open(rt, path)) {
-        Ok(line) => match out.extend_from_slice(line.as_bytes()) {
-            Ok(()) => 0,
-            Err(_) => RESOURCES,
-        },
-        Err(fault) => refuse(alloc, fault, err),
+    match check(alloc, base, &|path: &str| FileFeed::open(rt, path), out) {
+        Ok(()) => 0,
+        Err(refused) => tell(alloc, &refused, err),
     }
 }
 
-// Appends the line of a fault, and answers its status.
-#[tactic(auto, using(crate::proofs::CheckFaults::fault_ended))]
-fn refuse(alloc: Global, fault: CheckFault, lines: &mut Vec<u8>) -> u8
-    ensures refused { EndsRefused lines.old.items lines.new.items result }
-    ensures told { EndsCheck fault lines.old.items lines.new.items result }
-{
-    let status = match fault {
-        CheckFault::FeedFailed(_) => DEVICE,
-        CheckFault::TooLong(_) | CheckFault::Text(_) => REFUSED,
-        CheckFault::OutOfMemory => return RESOURCES,
-    };
-    let Ok(words) = format!(in alloc; "{fault}") else {
-        return RESOURCES;
-    };
-    refuse_with(alloc, words.as_str(), status, lines)
-}
-
-// The line of the counts of the files, which `opener` opens by their paths.
-#[tactic(auto, using(crate::proofs::CheckFaults::found_in_texts))]
-fn checked<F: Feed + Drop, O: Fn(&str) -> Result<F, FeedFault>>(
+// Appends the line of the counts of the files, which `opener` opens by their paths. Where it is refused `out` is as it was.
+#[tactic(auto, using(crate::proofs::Checks::found_in_texts))]
+fn check<F: Feed + Drop, O: Fn(&str) -> Result<F, FeedFault>>(
     alloc: Global,
     base: &str,
     opener: &O,
-) -> Result<String, CheckFault>
+    out: &mut Vec<u8>,
+) -> Result<(), Refused>
     requires { O.IsAlwaysCallable opener.now }
     ensures counts { let opens = FnReturnsAt O.Fn opener.now in
-        IfOk result (λ line. (texts : SomeTexts) × AreTexts opens F.left base.now texts
-        × IsLineOf texts line.bytes.items) }
+        OnOk result ((texts : SomeTexts) × AreTexts opens F.left base.now texts
+        × TellsCounts texts out.old.items out.new.items) }
+    ensures kept { OnErr result (out.new.items ≡ out.old.items) }
     ensures fault { let opens = FnReturnsAt O.Fn opener.now in
         IfErr result (IsFoundIn opens F.left base.now) }
 {
     let texts = texts_of(alloc, base, opener)?;
     let line = line_of(alloc, &texts)?;
-    Ok(line)
+    out.extend_from_slice(line.as_bytes())?;
+    Ok(())
 }
 
 // The line of the counts of these texts.
-#[tactic(auto, using(crate::proofs::CheckFaults::told_of_texts, crate::proofs::CheckFaults::no_memory_told))]
-fn line_of(alloc: Global, texts: &Texts) -> Result<String, CheckFault>
+#[tactic(auto, using(crate::proofs::Checks::told_of_texts, crate::proofs::Checks::no_memory_told))]
+fn line_of(alloc: Global, texts: &Texts) -> Result<String, Refused>
     ensures counts { IfOk result (λ line. IsLineOf texts.now line.bytes.items) }
     ensures fault { IfErr result (IsFaultOfTexts texts.now) }
 {
@@ -100,12 +82,12 @@ fn line_of(alloc: Global, texts: &Texts) -> Result<String, CheckFault>
 }
 
 // The texts of the files.
-#[tactic(auto, using(crate::proofs::CheckFaults::found_in_file))]
+#[tactic(auto, using(crate::proofs::Checks::found_in_file))]
 fn texts_of<F: Feed + Drop, O: Fn(&str) -> Result<F, FeedFault>>(
     alloc: Global,
     base: &str,
     opener: &O,
-) -> Result<Texts, CheckFault>
+) -> Result<Texts, Refused>
     requires { O.IsAlwaysCallable opener.now }
     ensures texts { let opens = FnReturnsAt O.Fn opener.now in
         IfOk result (AreTexts opens F.left base.now) }
@@ -130,7 +112,7 @@ fn text_of<F: Feed + Drop, O: Fn(&str) -> Result<F, FeedFault>>(
     base: &str,
     file: TextFile,
     opener: &O,
-) -> Result<Vec<u8>, CheckFault>
+) -> Result<Vec<u8>, Refused>
     requires { O.IsAlwaysCallable opener.now }
     ensures text { let opens = FnReturnsAt O.Fn opener.now in
         IfOk result (λ text. HasText opens F.left base.now file text.items) }
@@ -139,7 +121,7 @@ fn text_of<F: Feed + Drop, O: Fn(&str) -> Result<F, FeedFault>>(
 {
     match text_if_there(alloc, base, file, opener)? {
         Some(text) => Ok(text),
-        None => Err(CheckFault::FeedFailed(file)),
+        None => Err(Refused::FeedFailed(Source::Text(file))),
     }
 }
 
@@ -149,7 +131,7 @@ fn text_if_there<F: Feed + Drop, O: Fn(&str) -> Result<F, FeedFault>>(
     base: &str,
     file: TextFile,
     opener: &O,
-) -> Result<Option<Vec<u8>>, CheckFault>
+) -> Result<Option<Vec<u8>>, Refused>
     requires { O.IsAlwaysCallable opener.now }
     ensures text { let opens = FnReturnsAt O.Fn opener.now in
         IfOk result (HasTextIfThere opens F.left base.now file) }
@@ -158,27 +140,12 @@ fn text_if_there<F: Feed + Drop, O: Fn(&str) -> Result<F, FeedFault>>(
 {
     let path = format!(in alloc; "{base}.{file}")?;
     match opener(path.as_str()) {
-        Ok(mut feed) => Ok(Some(text_from(alloc, &mut feed, file)?)),
+        Ok(mut feed) => Ok(Some(read_source(
+            alloc,
+            &mut feed,
+            Source::Text(file),
+            GREATEST_LIMIT,
+        )?)),
         Err(_) => Ok(None),
-    }
-}
-
-// The text that the feed of a file gives.
-fn text_from<F: Feed>(alloc: Global, feed: &mut F, file: TextFile) -> Result<Vec<u8>, CheckFault>
-    ensures whole { IfOk result (λ text. IfSome (F.left feed.old) (λ bytes. text.items ≡ bytes)) }
-    ensures fault { IfErr result (IsFaultOfFeed (F.left feed.old) file) }
-    ensures failed { IsErrOf result (CheckFault.FeedFailed file)
-        → F.failures feed.new ≡ F.failures feed.old + 1 }
-    ensures long { IsErrOf result (CheckFault.TooLong file)
-        → F.given feed.new ≡ F.given feed.old + (GREATEST_LIMIT + 1) }
-    ensures memory { IsErrOf result CheckFault.OutOfMemory
-        → (F.failures feed.new ≡ F.failures feed.old)
-        × (F.given feed.new ≤ F.given feed.old + GREATEST_LIMIT) }
-{
-    match slurp(alloc, feed, GREATEST_LIMIT) {
-        Ok(text) => Ok(text),
-        Err(SlurpFault::FeedFailed) => Err(CheckFault::FeedFailed(file)),
-        Err(SlurpFault::TooLong) => Err(CheckFault::TooLong(file)),
-        Err(SlurpFault::OutOfMemory) => Err(CheckFault::OutOfMemory),
     }
 }

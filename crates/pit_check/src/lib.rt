@@ -2,5 +2,4 @@
 #![tactic(auto)]
 
 pub mod check;
-pub mod check_fault;
 pub mod counts;

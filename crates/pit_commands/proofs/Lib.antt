@@ -1,3 +1,3 @@
 mod FilesRun
 mod Lent
-pub mod ModelEnds
+mod Models

@@ -1,5 +1,5 @@
 -- What a compile says of the files that it opens, and of the run on them.
-use Rattle.std.specs.Prelude.{◌≡◌, ℕ, ◌⊎◌, List, [], ◌∷◌, ◌++◌, codes, length}
+use Rattle.std.specs.Prelude.{◌≡◌, ℕ, ◌<◌, List, [], ◌∷◌, ◌++◌, codes, length}
 use Rattle.std.specs.Fmt.{decimal}
 use Rattle.std.specs.List.{sum_by}
 use Rattle.lane.specs.MessageKinds.{rows_in}
@@ -10,8 +10,9 @@ use Rattle.pit_compile.specs.declared.refusal.Refusal.{Refusal}
 use Rattle.pit_parts.specs.declared.settings.Settings.{Settings}
 use Rattle.pit_parts.specs.Plan.{PlanParts}
 use Rattle.pit_parts.specs.declared.formula.Formula.{Formula}
-use Rattle.pit_edge.specs.ZoneFeeds.{ZonesRefused}
-use Rattle.pit_commands.specs.RefusalLine.{EndsRun}
+use Rattle.pit_edge.specs.declared.refused.Refused.{Refused}
+use Rattle.pit_edge.specs.declared.refused.Refused.TheVariants.{NotUtf8, FeedFailed, TooLong, Plan, Text, Run}
+use Rattle.pit_edge.specs.declared.source.Source.TheVariants.{Zone}
 use Rattle.pit_commands.specs.RunRefused.{RunRefused}
 
 -- the line of so many rows
@@ -42,8 +43,11 @@ abbrev pub NotCompiled : PlanParts → ℕ → List Formula → Settings → Ref
 NotCompiled plan count formulas settings refusal =
     RunRefused (IsSettingsFault plan count formulas settings) (HasVerdict plan count) (Unit {0}) refusal
 
--- a zone file cannot be opened; or the run is refused
-abbrev pub EndsRefusedCompile : PlanParts → ℕ → List Formula → Settings → List ℕ → List ℕ → ℕ → Type 0
-EndsRefusedCompile plan count formulas settings old new status =
-    ZonesRefused count old new status
-    ⊎ ((refusal : Refusal) × EndsRun refusal old new status × NotCompiled plan count formulas settings refusal)
+-- one of so many zone files cannot be opened; or the run is refused
+abbrev pub IsNoCompile : PlanParts → ℕ → List Formula → Settings → Refused → Type 0
+IsNoCompile plan count formulas settings NotUtf8 = ⊥
+IsNoCompile plan count formulas settings (FeedFailed source) = (file : ℕ) × (source ≡ Zone file) × (file < count)
+IsNoCompile plan count formulas settings (TooLong source) = ⊥
+IsNoCompile plan count formulas settings (Plan fault) = ⊥
+IsNoCompile plan count formulas settings (Text fault) = ⊥
+IsNoCompile plan count formulas settings (Run refusal) = NotCompiled plan count formulas settings refusal

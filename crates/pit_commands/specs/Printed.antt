@@ -1,6 +1,8 @@
 -- What the pipe form prints of a model: the texts of its instance, each under its section line.
 use Rattle.std.specs.Prelude.{◌≡◌, ℕ, List, ◌++◌, length}
 use Rattle.pit_edge.specs.Sections.{printed}
+use Rattle.pit_edge.specs.declared.refused.Refused.{Refused}
+use Rattle.pit_edge.specs.declared.refused.Refused.TheVariants.{NotUtf8, FeedFailed, TooLong, Plan, Text, Run}
 use Rattle.pit_compile.specs.Compiled.{instance_from}
 use Rattle.pit_compile.specs.Settings.{IsSettingsFault}
 use Rattle.pit_compile.specs.Verdict.{IsAccepted, IsRefusedBy}
@@ -23,3 +25,12 @@ pipe_settings = record { valuers = 4; capacity = 64 }
 abbrev pub PipeRefused : PlanParts → List Formula → List (List ℕ) → Refusal → Type 0
 PipeRefused plan formulas zones refusal =
     RunRefused (IsSettingsFault plan (length zones) formulas pipe_settings) (IsRefusedBy plan zones) ⊥ refusal
+
+-- the same of what the program refuses
+abbrev pub IsNoPipe : PlanParts → List Formula → List (List ℕ) → Refused → Type 0
+IsNoPipe plan formulas zones NotUtf8 = ⊥
+IsNoPipe plan formulas zones (FeedFailed source) = ⊥
+IsNoPipe plan formulas zones (TooLong source) = ⊥
+IsNoPipe plan formulas zones (Plan fault) = ⊥
+IsNoPipe plan formulas zones (Text fault) = ⊥
+IsNoPipe plan formulas zones (Run refusal) = PipeRefused plan formulas zones refusal

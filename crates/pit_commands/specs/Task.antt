@@ -1,11 +1,10 @@
 -- What a task does.
 use Rattle.std.specs.Prelude.{ℕ, List, length}
-use Rattle.pit_compile.specs.declared.refusal.Refusal.{Refusal}
 use Rattle.pit_parts.specs.Plan.{PlanParts}
 use Rattle.pit_parts.specs.declared.formula.Formula.{Formula}
-use Rattle.pit_commands.specs.Compile.{EndsRefusedCompile, TellsRows}
-use Rattle.pit_commands.specs.RefusalLine.{EndsRun}
-use Rattle.pit_commands.specs.Printed.{IsPrinted, PipeRefused}
+use Rattle.pit_commands.specs.Compile.{IsNoCompile, TellsRows}
+use Rattle.pit_commands.specs.Printed.{IsNoPipe, IsPrinted}
+use Rattle.pit_edge.specs.declared.refused.Refused.{Refused}
 use Rattle.pit_commands.specs.declared.task.Task.{Task}
 use Rattle.pit_commands.specs.declared.task.Task.TheVariants.{Pipe, Files}
 
@@ -19,9 +18,7 @@ abbrev pub IsTaskDone : Task → List ℕ → List ℕ → Type 0
 IsTaskDone (Pipe model) old new = IsPrinted model.plan model.pieces.zones old new
 IsTaskDone (Files plan settings base zones) old new = TellsRows plan (length zones.items) old new
 
--- the task is refused at these destinations, and a line says why: of the pipe form's refusal; or of that of a compile of files
-abbrev pub IsTaskRefused : Task → List Formula → List ℕ → List ℕ → ℕ → Type 0
-IsTaskRefused (Pipe model) formulas old new status =
-    (refusal : Refusal) × EndsRun refusal old new status × PipeRefused model.plan formulas model.pieces.zones refusal
-IsTaskRefused (Files plan settings base zones) formulas old new status =
-    EndsRefusedCompile plan (length zones.items) formulas settings old new status
+-- why the task is refused at these destinations: as the pipe form is; or as a compile of files
+abbrev pub IsNoTask : Task → List Formula → Refused → Type 0
+IsNoTask (Pipe model) formulas refused = IsNoPipe model.plan formulas model.pieces.zones refused
+IsNoTask (Files plan settings base zones) formulas refused = IsNoCompile plan (length zones.items) formulas settings refused

@@ -1,21 +1,22 @@
 //! From the files of a plan and its zones to the files of an instance.
 
-ghost use Rattle.std.specs.Prelude.{◌≡◌, ◌≢◌, ◌++◌, length, IfOk, IfErr};
+ghost use Rattle.std.specs.Prelude.{◌≡◌, ◌≢◌, ◌++◌, length, IfOk, IfErr, OnOk, OnErr};
+ghost use Rattle.pit_edge.specs.FaultLine.{EndsBy};
 ghost use Rattle.pit_parts.specs.Destinations.{formulas_of};
-ghost use Rattle.pit_commands.specs.Compile.{EndsRefusedCompile, HasRows, NotCompiled, TellsRows, rows_line};
+ghost use Rattle.pit_commands.specs.Compile.{HasRows, IsNoCompile, NotCompiled, TellsRows, rows_line};
 
 use crate::instance_files::sinks_of;
-use crate::refusal_line::refuse_run;
 use devices::feed::Feed;
 use devices::file_feed::FileFeed;
 use pit_compile::refusal::Refusal;
 use pit_compile::run;
 use pit_compile::settings::Settings;
-use pit_edge::status::RESOURCES;
+use pit_edge::fault_line::tell;
+use pit_edge::refused::Refused;
 use pit_edge::zone_feeds::open_all;
 use pit_model::destination::Destination;
 use pit_model::plan::Plan;
-use std::alloc::Global;
+use std::alloc::{AllocError, Global};
 use std::rt::Files;
 use std::sync::Wait;
 use std::thread::Threads;
@@ -48,17 +49,38 @@ where
     ensures quiet { result ≡ 0 → err.new.items ≡ err.old.items }
     ensures kept { result ≢ 0 → out.new.items ≡ out.old.items }
     ensures refused { result ≢ 0
-        → EndsRefusedCompile plan.now (length zones.now) (formulas_of destinations.now) settings
+        → EndsBy (IsNoCompile plan.now (length zones.now) (formulas_of destinations.now) settings)
         err.old.items err.new.items result }
 {
-    let feeds = match open_all(alloc, zones, |path| FileFeed::open(rt, path), err) {
-        Ok(feeds) => feeds,
-        Err(status) => return status,
-    };
-    match run_into_files(rt, alloc, feeds, plan, destinations, settings, base) {
-        Ok(rows) => tell_rows(alloc, rows, out),
-        Err(refusal) => refuse_run(alloc, &refusal, err),
+    match compile(rt, alloc, plan, destinations, settings, base, zones, out) {
+        Ok(()) => 0,
+        Err(refused) => tell(alloc, &refused, err),
     }
+}
+
+// Compiles the zone files, and appends the line of the rows to `out`. Where it is refused `out` is as it was.
+fn compile<R: Files + Threads + Wait + Sync>(
+    rt: &R,
+    alloc: Global,
+    plan: &Plan,
+    destinations: &[Destination],
+    settings: Settings,
+    base: &str,
+    zones: &[String],
+    out: &mut Vec<u8>,
+) -> Result<(), Refused>
+where
+    R::File: Send,
+    ensures done { OnOk result
+        (TellsRows plan.now (length zones.now) out.old.items out.new.items) }
+    ensures kept { OnErr result (out.new.items ≡ out.old.items) }
+    ensures refused { IfErr result
+        (IsNoCompile plan.now (length zones.now) (formulas_of destinations.now) settings) }
+{
+    let feeds = open_all(alloc, zones, |path| FileFeed::open(rt, path))?;
+    let rows = run_into_files(rt, alloc, feeds, plan, destinations, settings, base)?;
+    append_rows(alloc, rows, out)?;
+    Ok(())
 }
 
 // Runs on open feeds, as `run` does with a gate that is always open, writes the texts to the files of the instance, and answers the
@@ -91,16 +113,11 @@ fn run_into_files<R: Files + Threads + Wait + Sync, F: Feed + Send + Drop>(
     Ok(gathered.rows())
 }
 
-// Appends the line of so many rows to `out`, and answers 0; or the status of memory, where it is refused, and then `out` is as it was.
-fn tell_rows(alloc: Global, rows: u64, out: &mut Vec<u8>) -> u8
-    ensures told { result ≡ 0 → out.new.items ≡ out.old.items ++ rows_line rows }
-    ensures kept { result ≢ 0 → (result ≡ 4) × (out.new.items ≡ out.old.items) }
+// Appends the line of so many rows to `out`. Where memory is refused `out` is as it was.
+fn append_rows(alloc: Global, rows: u64, out: &mut Vec<u8>) -> Result<(), AllocError>
+    ensures told { OnOk result (out.new.items ≡ out.old.items ++ rows_line rows) }
+    ensures kept { OnErr result (out.new.items ≡ out.old.items) }
 {
-    let Ok(line) = format!(in alloc; "rows {rows}\n") else {
-        return RESOURCES;
-    };
-    match out.extend_from_slice(line.as_bytes()) {
-        Ok(()) => 0,
-        Err(_) => RESOURCES,
-    }
+    let line = format!(in alloc; "rows {rows}\n")?;
+    out.extend_from_slice(line.as_bytes())
 }

@@ -2,12 +2,14 @@
 
 ghost use Rattle.std.specs.Prelude.{◌≡◌, ◌≢◌};
 ghost use Rattle.pit_parts.specs.Destinations.{formulas_of};
-ghost use Rattle.pit_commands.specs.Task.{IsTaskDone, IsTaskRefused, plan_in};
+ghost use Rattle.pit_edge.specs.FaultLine.{EndsBy};
+ghost use Rattle.pit_commands.specs.Task.{IsNoTask, IsTaskDone, plan_in};
 
 use crate::compile::compile_files;
 use crate::model::Model;
 use crate::pipe_run::run_pipe;
 use pit_compile::settings::Settings;
+use pit_edge::fault_line::tell;
 use pit_model::destination::Destination;
 use pit_model::plan::Plan;
 use std::alloc::Global;
@@ -55,12 +57,14 @@ impl Task {
         ensures done { result ≡ 0 → IsTaskDone self.now text.old.items text.new.items }
         ensures quiet { result ≡ 0 → lines.new.items ≡ lines.old.items }
         ensures kept { result ≢ 0 → text.new.items ≡ text.old.items }
-        ensures refused { result ≢ 0
-            → IsTaskRefused self.now (formulas_of destinations.now) lines.old.items lines.new.items
-            result }
+        ensures refused { result ≢ 0 → EndsBy (IsNoTask self.now (formulas_of destinations.now))
+            lines.old.items lines.new.items result }
     {
         match self {
-            Task::Pipe(model) => run_pipe(rt, alloc, model, destinations, text, lines),
+            Task::Pipe(model) => match run_pipe(rt, alloc, model, destinations, text) {
+                Ok(()) => 0,
+                Err(refused) => tell(alloc, &refused, lines),
+            },
             Task::Files {
                 plan,
                 settings,

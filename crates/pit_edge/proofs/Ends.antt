@@ -1,49 +1,53 @@
--- How a fault ends the program, in other words.
-use Rattle.std.proofs.Common.{◌≡◌, ◌≤◌, ℕ, List, ◌++◌, arith, length, inl, inr, ap, ◌∙◌, sym, Err, Option, ◌≢◌}
+-- Why there is no plan, in other words, and how that ends the program.
+use Rattle.std.proofs.Common.{◌≡◌, ◌≤◌, ◌≢◌, ℕ, List, Option, Result, length, arith, inl, inr, refl, sym, subst, Err}
 use Rattle.std.specs.Prelude.{IfSome}
-use Rattle.pit_model.specs.FaultText.{fault_text}
 use Rattle.pit_model.specs.Planned.{planned}
 use Rattle.pit_model.specs.declared.plan_fault.PlanFault.{PlanFault}
-use Rattle.pit_edge.specs.FaultLine.{EndsRefused, EndsWith, PlanRefused, line_of}
-use Rattle.pit_edge.specs.PlanFile.{EndsPlanFile, PlanFileRefused}
-use Rattle.pit_edge.specs.inner.PlanFeed.{IsFaultOfFeed, PlanFeedRefused}
-use Rattle.devices.specs.declared.slurp.SlurpFault.{SlurpFault}
+use Rattle.pit_parts.specs.declared.plan.Plan.{Plan}
+use Rattle.pit_units.specs.OrMemory.{Gives}
+use Rattle.pit_units.specs.declared.or_memory.OrMemory.{OrMemory}
+use Rattle.pit_units.specs.declared.or_memory.OrMemory.TheVariants as or_memory
+use Rattle.pit_compile.specs.declared.refusal.Refusal.TheVariants.{OutOfMemory}
+use Rattle.pit_edge.specs.FaultLine.{Ends, EndsRefused, EndsWith}
+use Rattle.pit_edge.specs.PlanFile.{IsNoPlanFile}
+use Rattle.pit_edge.specs.PlanText.{IsNoPlan}
+use Rattle.pit_edge.specs.Refused.{IsUnread, plan_refused, refused_text}
+use Rattle.pit_edge.specs.declared.refused.Refused.{Refused}
+use Rattle.pit_edge.specs.declared.refused.Refused.TheVariants.{NotUtf8, FeedFailed, TooLong, Text, Run}
+use Rattle.pit_edge.specs.declared.refused.Refused.TheVariants as refused
+use Rattle.pit_edge.specs.declared.source.Source.TheVariants as source
 
-pub ends_same : (s r : ℕ) (v w old new : List ℕ) (status : ℕ) → s ≡ r → v ≡ w → EndsWith s v old new status → EndsWith r w old new status
-ends_same s r v w old new status e f (inl told) = inl (told.0 ∙ e, told.1 ∙ ap (λ words. old ++ line_of words) f)
-ends_same s r v w old new status e f (inr refused) = inr refused
+-- a text of at most 1 MiB that states no plan
+pub faulty_plan : (text : List ℕ) (error : OrMemory PlanFault) (why : Refused) → length text ≤ 1048576
+    → why ≡ plan_refused error → Gives {A = Plan} (λ plan. plan) (Err error) (planned text) → IsNoPlan text why
+faulty_plan text (or_memory.Fault fault) why short e stated = subst (IsNoPlan text) (sym e) (short, stated)
+faulty_plan text or_memory.OutOfMemory why short e stated = subst (IsNoPlan text) (sym e) refl
 
-pub plan_told : (text words old new : List ℕ) (status : ℕ) (fault : PlanFault) → length text ≤ 1048576 → planned text ≡ Err fault
-    → words ≡ fault_text fault
-    → EndsWith 1 words old new status → PlanRefused text old new status
-plan_told text words old new status fault short stated e (inl told) =
-    inr (inl (short, told.0, (fault, stated, told.1 ∙ ap (λ w. old ++ line_of w) e)))
-plan_told text words old new status fault short stated e (inr refused) = inr (inr refused)
+pub plan_unread : (left : Option (List ℕ)) (why : Refused) → IsUnread source.Plan left 1048576 why → IsNoPlanFile left why
+plan_unread left why unread = inl unread
 
-pub plan_file_refused : (fault : SlurpFault) (old new : List ℕ) (status : ℕ) → EndsPlanFile fault old new status
-    → PlanFileRefused old new status
-plan_file_refused fault old new status told = inl (fault, told)
+pub plan_read : (left : Option (List ℕ)) (text : List ℕ) (why : Refused) → IfSome left (λ bytes. text ≡ bytes) → IsNoPlan text why
+    → IsNoPlanFile left why
+plan_read left text why is refused = inr (text, is, refused)
 
-pub plan_feed_refused : (left : Option (List ℕ)) (failed : Type 0) (old new : List ℕ) (status : ℕ) → PlanFeedRefused left failed old new status
-    → PlanFileRefused old new status
-plan_feed_refused left failed old new status (inl unread) = inl (unread.0, unread.2)
-plan_feed_refused left failed old new status (inr read) = inr (read.0, read.2)
-
-pub feed_refused : (left : Option (List ℕ)) (failed : Type 0) (fault : SlurpFault) (old new : List ℕ) (status : ℕ) → IsFaultOfFeed left failed fault
-    → EndsPlanFile fault old new status → PlanFeedRefused left failed old new status
-feed_refused left failed fault old new status why told = inl (fault, why, told)
-
-pub feed_text_refused : (left : Option (List ℕ)) (failed : Type 0) (text old new : List ℕ) (status : ℕ) → IfSome left (λ bytes. text ≡ bytes)
-    → PlanRefused text old new status → PlanFeedRefused left failed old new status
-feed_text_refused left failed text old new status is refused = inr (text, is, refused)
-
-pub ended_by_one : (words old new : List ℕ) (status : ℕ) → EndsWith 1 words old new status → EndsRefused old new status
-ended_by_one words old new status (inl told) =
+-- a text that gives no plan ends the program with 1, a line appended, or for want of memory with none
+one_or_memory : (words old new : List ℕ) (status : ℕ) → EndsWith 1 words old new status → EndsRefused old new status
+one_or_memory words old new status (inl told) =
     (λ none. omega (arith, told.0, none), λ other. (words, told.1), λ four. absurd (omega (arith, told.0, four)))
-ended_by_one words old new status (inr refused) =
+one_or_memory words old new status (inr refused) =
     (λ none. omega (arith, refused.0, none), λ other. absurd (other refused.0), λ four. refused.1)
 
-pub line_told : (status answered : ℕ) (words old new : List ℕ) → status ≢ 4 → answered ≡ status → EndsWith status words old new answered
-    → new ≡ old ++ line_of words
-line_told status answered words old new other is (inl told) = told.1
-line_told status answered words old new other is (inr refused) = absurd (other (sym is ∙ refused.0))
+pub no_plan_ends : (text old new : List ℕ) (why : Refused) (status : ℕ) → IsNoPlan text why → Ends why old new status
+    → EndsRefused old new status
+no_plan_ends text old new NotUtf8 status none ends = absurd none
+no_plan_ends text old new (FeedFailed which) status none ends = absurd none
+no_plan_ends text old new (TooLong which) status none ends = one_or_memory (refused_text (TooLong which)) old new status ends.0
+no_plan_ends text old new (refused.Plan fault) status none ends = one_or_memory (refused_text (refused.Plan fault)) old new status ends.0
+no_plan_ends text old new (Text fault) status none ends = absurd none
+no_plan_ends text old new (Run why) status none ends =
+    subst (λ w. Ends (Run w) old new status → EndsRefused old new status) (sym none) (λ e. memory_ends old new status e) ends where
+      memory_ends : (old new : List ℕ) (status : ℕ) → Ends (Run OutOfMemory) old new status → EndsRefused old new status
+      memory_ends old new status (inl told, unsaid) =
+          (λ zero. omega (arith, told.0, zero), λ other. absurd (other told.0), λ four. unsaid refl)
+      memory_ends old new status (inr told, unsaid) =
+          (λ zero. omega (arith, told.0, zero), λ other. absurd (other told.0), λ four. unsaid refl)

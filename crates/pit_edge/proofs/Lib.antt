@@ -1,7 +1,8 @@
-pub mod Again
-pub mod Ends
-pub mod Joined
-pub mod Lines
-pub mod Outputs
-pub mod Uncut
-pub mod Walk
+mod Again
+mod Ends
+mod Joined
+mod Lines
+mod Outputs
+mod Uncut
+mod Unread
+mod Walk

@@ -1,7 +1,9 @@
 pub mod FaultLine
 pub mod Pieces
 pub mod PlanFile
+pub mod PlanText
+pub mod Refused
 pub mod Sections
+pub mod Words
 pub mod WriteWhole
 pub mod ZoneFeeds
-pub mod inner

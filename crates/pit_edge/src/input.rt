@@ -1,40 +1,64 @@
 //! An input, whole.
 
-ghost use Rattle.std.specs.Prelude.{◌≡◌, ◌<◌, ◌≤◌, length, IfOk, IfSome, IsErrOf};
-ghost use Rattle.pit_edge.specs.FaultLine.{EndsInput, EndsRefused};
+ghost use Rattle.std.specs.Prelude.{◌≡◌, ◌+◌, ◌≤◌, length, IfOk, IfErr, IfSome, IsErrOf};
+ghost use Rattle.devices.specs.declared.slurp.TheConstants.{GREATEST_LIMIT};
+ghost use Rattle.pit_compile.specs.declared.refusal.Refusal.TheVariants.{OutOfMemory};
+ghost use Rattle.pit_edge.specs.Refused.{IsUnread};
+ghost use Rattle.pit_edge.specs.declared.source.Source.TheVariants.{Input};
 ghost use Rattle.pit_parts.specs.declared.ranges.TheConstants.{MAX_FILE_BYTES};
 
-use crate::fault_line::refuse_with;
-use crate::status::{DEVICE, REFUSED, RESOURCES};
+use crate::refused::Refused;
+use crate::source::Source;
+use devices::feed::Feed;
 use devices::read_feed::ReadFeed;
-use devices::slurp::{SlurpFault, slurp};
+use devices::slurp::slurp;
 use pit_model::ranges::MAX_FILE_BYTES;
 use std::alloc::Global;
 use std::io::Read;
 
 /// Reads an input to its end, and asks for no more than one byte past the limit. A read that fails is a `FeedFailed`, whatever the
 /// system's reason; one that a signal interrupts is tried again.
-pub fn read_whole<T: Read>(input: &mut T, alloc: Global) -> Result<Vec<u8>, SlurpFault>
+pub fn read_whole<T: Read>(input: &mut T, alloc: Global) -> Result<Vec<u8>, Refused>
     ensures limit { IfOk result (λ bytes. length bytes.items ≤ MAX_FILE_BYTES) }
     ensures whole { IfOk result (λ bytes. IfSome (T.remaining input.old)
         (λ left. bytes.items ≡ left)) }
-    ensures long { IsErrOf result SlurpFault.TooLong
-        → IfSome (T.remaining input.old) (λ left. MAX_FILE_BYTES < length left) }
+    ensures refused { IfErr result (IsUnread Input (T.remaining input.old) MAX_FILE_BYTES) }
 {
-    slurp(alloc, &mut ReadFeed::new(input), MAX_FILE_BYTES as u64)
+    read_source(
+        alloc,
+        &mut ReadFeed::new(input),
+        Source::Input,
+        MAX_FILE_BYTES as u64,
+    )
 }
 
-/// Appends the line of an input's fault, and answers the status that it ends the program with. Where memory is refused, to the input or for
-/// the line, the status is that of memory and `lines` is as it was.
-#[tactic(auto, using(crate::proofs::Ends::ends_same))]
-pub fn refuse_input(alloc: Global, fault: SlurpFault, lines: &mut Vec<u8>) -> u8
-    ensures refused { EndsRefused lines.old.items lines.new.items result }
-    ensures told { EndsInput fault lines.old.items lines.new.items result }
+/// All bytes of a feed, which is this source, if they are at most `limit`.
+///
+/// # Errors
+///
+/// - `FeedFailed`: a pull of the feed failed.
+/// - `TooLong`: the feed has more bytes than the limit.
+/// - `Run`: memory was refused.
+pub fn read_source<F: Feed>(
+    alloc: Global,
+    feed: &mut F,
+    source: Source,
+    limit: u64,
+) -> Result<Vec<u8>, Refused>
+    requires { limit ≤ GREATEST_LIMIT }
+    ensures whole { IfOk result (λ text. IfSome (F.left feed.old) (λ bytes. text.items ≡ bytes)) }
+    ensures short { IfOk result (λ text. length text.items ≤ limit) }
+    ensures refused { IfErr result (IsUnread source (F.left feed.old) limit) }
+    ensures failed { IsErrOf result (Refused.FeedFailed source)
+        → F.failures feed.new ≡ F.failures feed.old + 1 }
+    ensures long { IsErrOf result (Refused.TooLong source)
+        → F.given feed.new ≡ F.given feed.old + (limit + 1) }
+    ensures memory { IsErrOf result (Refused.Run OutOfMemory)
+        → (F.failures feed.new ≡ F.failures feed.old)
+        × (F.given feed.new ≤ F.given feed.old + limit) }
 {
-    let (words, status) = match fault {
-        SlurpFault::FeedFailed => ("input: FeedFailed", DEVICE),
-        SlurpFault::TooLong => ("input: TooLong", REFUSED),
-        SlurpFault::OutOfMemory => return RESOURCES,
-    };
-    refuse_with(alloc, words, status, lines)
+    match slurp(alloc, feed, limit) {
+        Ok(text) => Ok(text),
+        Err(fault) => Err(Refused::unread(source, fault)),
+    }
 }

@@ -1,4 +1,4 @@
-//! The edge of `pitc`: its words, streams and files, the texts that it prints, the line of a fault and the statuses. It needs no run.
+//! The edge of `pitc`: its words, streams and files, the texts that it prints, the line of a refusal and the statuses.
 #![tactic(auto)]
 
 pub mod fault_line;
@@ -7,7 +7,10 @@ pub mod laws;
 pub mod piece;
 pub mod pieces;
 pub mod plan_file;
+pub mod plan_text;
 pub mod printing;
+pub mod refused;
+pub mod source;
 pub mod status;
 pub mod words;
 pub mod write_whole;

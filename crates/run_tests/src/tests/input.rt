@@ -2,7 +2,8 @@
 
 use devices::feed::FeedFault;
 use devices::single_read::read_some;
-use pit_edge::input::{read_whole, refuse_input};
+use pit_edge::fault_line::tell;
+use pit_edge::input::read_whole;
 use std::alloc::Global;
 use std::io;
 use std::io::{ErrorKind, Read};
@@ -74,9 +75,9 @@ fn an_interrupted_read_loses_nothing(rt: HostRuntime) -> Result<(), Fail> {
 fn whole_or_refused(alloc: Global, fails: bool) -> (u8, Vec<u8>) {
     match read_whole(&mut input_that(fails), alloc) {
         Ok(bytes) => (0, bytes),
-        Err(fault) => {
+        Err(refused) => {
             let mut lines = Vec::new(alloc);
-            (refuse_input(alloc, fault, &mut lines), lines)
+            (tell(alloc, &refused, &mut lines), lines)
         }
     }
 }

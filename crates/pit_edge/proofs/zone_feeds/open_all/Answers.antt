@@ -3,9 +3,6 @@ use Rattle.std.proofs.lemmas.List.{take_more}
 use Rattle.std.proofs.lemmas.Option.{slice_get_read}
 use Rattle.std.specs.Fn.{FnReturnsAt}
 use Rattle.std.specs.List.{AllZip}
-use Rattle.pit_edge.specs.ZoneFeeds.{zone_fault}
-use Rattle.pit_edge.specs.FaultLine.{EndsWith, line_of}
-use Rattle.pit_edge.proofs.Ends.{line_told}
 use Rattle.pit_edge.proofs.zone_feeds.open_all.Goals as goal
 
 -- one pair more of lists that are paired element by element
@@ -35,22 +32,14 @@ loop-file-preserved g c =
           c.args.paths.now c.loop-file.feeds.items
           c.loop-file.file path c.in-Ok.feed c.loop-file-test.true is c.loop-file.invariant.each opens);
       count = search rules;
-      lines = c.loop-file.invariant.lines;
     }
 
 pub returns-in_default-clause-refused : goal.returns-in_default-clause-refused
-returns-in_default-clause-refused g c = (
-  c.loop-file.file,
-  c.loop-file-test.true,
-  subst (λ old. EndsWith 3 (zone_fault c.loop-file.file) old c.refuse_zone.new.lines.items c.refuse_zone.result)
-      c.loop-file.invariant.lines c.refuse_zone.ensures,
-)
-
-pub returns-in_default-clause-first : goal.returns-in_default-clause-first
-returns-in_default-clause-first g c three =
+returns-in_default-clause-refused g c =
     let path = c.index-paths-file.result in
     let is : path ≡ get_or c.args.paths.now c.loop-file.file path = search rules in (
       c.loop-file.file,
+      refl,
       record {
         feeds = c.loop-file.feeds.items;
         before = c.loop-file.invariant.each;
@@ -59,6 +48,4 @@ returns-in_default-clause-first g c three =
         fault = _;
         refused = record { shown = c.as_str.result; shows = c.as_str.ensures.value; says = record { met = c.in_default.ensures } };
       },
-      subst (λ old. c.refuse_zone.new.lines.items ≡ old ++ line_of (zone_fault c.loop-file.file)) c.loop-file.invariant.lines
-          (line_told 3 c.refuse_zone.result (zone_fault c.loop-file.file) _ _ (λ e. absurd (cc e)) (cc three) c.refuse_zone.ensures),
     )

@@ -7,5 +7,4 @@ abbrev pub invariant-loop-file : goal.invariant-loop-file
 invariant-loop-file g l = record {
   each : AllZip (λ path feed. FnReturnsAt g.O.Fn l.opener (string_bytes path) (Ok feed)) (take l.file l.paths) l.feeds.items;
   count : vec_len l.feeds ≡ l.file;
-  lines : l.lines.items ≡ l.fn.lines.items;
 }
