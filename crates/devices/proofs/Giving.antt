@@ -1,20 +1,41 @@
 -- What a feed still gives, as it gives more.
-use Rattle.std.proofs.Common.{◌≡◌, ℕ, ◌+◌, List, ◌++◌, length, take, Option, Some, None, refl, sym, ◌∙◌, ap, append_assoc, [], IfSome}
+use Rattle.std.proofs.Common.{◌≡◌, ℕ, ◌+◌, ◌≤◌, List, ◌++◌, length, take, Option, Some, None, Result, Ok, Err, refl, sym, ◌∙◌, ap, append_assoc, [], arith, IfOk, IfSome}
+use Rattle.std.proofs.lemmas.List.{length-take-le, take-append-le}
 use Rattle.std.proofs.Math.Seq.{take-append-add}
+use borrow.Rule.Slice.PartMut.{put_mid, post_of}
 use Rattle.std.specs.Io.KnownBytes.{IsAtEnd}
-use Rattle.devices.specs.Feed.{put_back}
+use Rattle.devices.specs.Feed.{GaveBehind, put_back}
+use Rattle.devices.specs.declared.feed.FeedFault.{FeedFault}
 
 -- bytes put back in two steps
 pub put_back-append : (a b : List ℕ) (left : Option (List ℕ)) → put_back a (put_back b left) ≡ put_back (a ++ b) left
 put_back-append a b None = refl
 put_back-append a b (Some rest) = ap Some (sym (append_assoc a b rest))
 
--- k more bytes of a buffer behind those in hand
-pub put_back-more : (front buffer : List ℕ) (now old : Option (List ℕ)) (n k : ℕ) → length front ≡ n
-    → old ≡ put_back (take k buffer) now → put_back front old ≡ put_back (take (n + k) (front ++ buffer)) now
-put_back-more front buffer now old n k len gives =
-    ap (put_back front) gives ∙ put_back-append front (take k buffer) now
-    ∙ ap (λ bytes. put_back bytes now) (sym (take-append-add front buffer k) ∙ ap (λ m. take (m + k) (front ++ buffer)) len)
+-- bytes given behind those in hand
+pub given_more : (n filled : ℕ) (old new : List ℕ) (first left_old left_new : Option (List ℕ)) → first ≡ put_back (take filled old) left_old
+    → GaveBehind n filled old new left_old left_new → first ≡ put_back (take (filled + n) new) left_new
+given_more n filled old new first left_old left_new given gave =
+    given ∙ ap (put_back (take filled old)) gave.left ∙ put_back-append (take filled old) gave.bytes left_new
+    ∙ ap (λ bytes. put_back bytes left_new) (sym gave.behind)
+
+written : (filled k n : ℕ) (old new : List ℕ) → filled ≤ length old → n ≤ length new
+    → take (filled + n) (put_mid filled k old new) ≡ take filled old ++ take n new
+written filled k n old new within fits =
+    let front : length (take filled old) ≡ filled = length-take-le filled old within in
+    ap (λ m. take (m + n) (take filled old ++ (new ++ post_of filled k old))) (sym front)
+    ∙ take-append-add (take filled old) (new ++ post_of filled k old) n
+    ∙ ap (λ bytes. take filled old ++ bytes) (take-append-le n new (post_of filled k old) fits)
+
+-- a pull into the middle of a buffer
+pub gave_behind : (result : Result ℕ FeedFault) (filled k room : ℕ) (old new : List ℕ) (left_old left_new : Option (List ℕ))
+    → filled ≤ length old → length new ≡ room → IfOk result (λ n. n ≤ room)
+    → IfOk result (λ n. left_old ≡ put_back (take n new) left_new)
+    → IfOk result (λ n. GaveBehind n filled old (put_mid filled k old new) left_old left_new)
+gave_behind (Ok n) filled k room old new left_old left_new within size fits gives =
+    let some : n ≤ length new = omega (arith, size, fits) in
+    record { bytes = take n new; count = length-take-le n new some; behind = written filled k n old new within some; left = gives }
+gave_behind (Err fault) filled k room old new left_old left_new within size fits gives = tt
 
 -- where no byte was consumed and none is left, none was left
 pub none_left : (old new : Option (List ℕ)) (bytes : List ℕ) → old ≡ put_back (take 0 bytes) new → IsAtEnd new

@@ -6,6 +6,7 @@ pub mod count;
 pub mod feed;
 pub mod file_feed;
 pub mod file_sink;
+pub mod filling;
 pub mod mem_feed;
 pub mod mem_sink;
 pub mod read_feed;

@@ -1,18 +1,16 @@
 //! A feed read whole.
 
 ghost use Rattle.std.specs.Prelude.{◌≡◌, ◌≢◌, ◌+◌, ◌-◌, ◌<◌, ◌≤◌, ◌^◌, [], length, take, vec_len, IsTrue, IsOk, IfOk, OnOk, OnErr, IfSome, IsErrOf};
-ghost use Rattle.devices.specs.Feed.{put_back, left_after};
+ghost use Rattle.devices.specs.Feed.{left_after};
 ghost use Rattle.devices.specs.declared.slurp.SlurpFault.TheVariants.{FeedFailed, OutOfMemory};
 
 use crate::feed::{Feed, FeedFault};
+use crate::filling::{make_room, pull_behind};
 use std::alloc::{AllocError, Global};
 use thiserror::Error;
 
 /// The greatest limit that `slurp` takes, in bytes: 64 GiB.
 pub const GREATEST_LIMIT: u64 = 68_719_476_736;
-
-// The most that is asked of the feed at a time, in bytes.
-const CHUNK: usize = 262_144;
 
 /// Why a feed was not read whole.
 #[derive(Debug, Drop, Error, PartialEq, Eq)]
@@ -56,6 +54,7 @@ impl From<AllocError> for SlurpFault {
 /// - `OutOfMemory`: the list of bytes could not grow.
 ///
 /// The feed then stands behind the bytes that it gave in this call, which are lost.
+#[tactic(auto, using(crate::proofs::Giving::given_more))]
 pub fn slurp<F: Feed>(alloc: Global, feed: &mut F, limit: u64) -> Result<Vec<u8>, SlurpFault>
     requires { limit ≤ GREATEST_LIMIT }
 
@@ -97,7 +96,7 @@ pub fn slurp<F: Feed>(alloc: Global, feed: &mut F, limit: u64) -> Result<Vec<u8>
     let mut filled = 0;
     while filled < most {
         make_room(&mut text, filled, most)?;
-        let count = pull_behind(feed, text.as_mut_slice(), filled)?;
+        let count = pull_behind(feed, text.as_mut_slice(), filled, most - filled)?;
         if count == 0 {
             text.truncate(filled);
             return Ok(text);
@@ -105,43 +104,4 @@ pub fn slurp<F: Feed>(alloc: Global, feed: &mut F, limit: u64) -> Result<Vec<u8>
         filled += count;
     }
     Err(SlurpFault::TooLong)
-}
-
-// Leaves room for a byte behind the first `filled`, within the first `most`. Memory of the list doubles, so that a long feed is copied a
-// bounded number of times, and is written no further than the next bytes go.
-fn make_room(text: &mut Vec<u8>, filled: usize, most: usize) -> Result<(), AllocError>
-    requires filled { filled ≤ vec_len text.old }
-    requires within { vec_len text.old ≤ most }
-    requires open { filled < most }
-    requires most { most ≤ 2 ^ 37 }
-    ensures room { OnOk result (filled < vec_len text.new) }
-    ensures within { vec_len text.new ≤ most }
-    ensures kept { take filled text.new.items ≡ take filled text.old.items }
-{
-    if filled == text.len() {
-        let wanted = (filled + CHUNK).min(most);
-        text.resize(wanted, 0)?;
-    }
-    Ok(())
-}
-
-// One pull into `text` behind its first `filled` bytes.
-fn pull_behind<F: Feed>(feed: &mut F, text: &mut [u8], filled: usize) -> Result<usize, FeedFault>
-    requires { filled < length text.old }
-    ensures within { IfOk result (λ count. filled + count ≤ length text.new) }
-    ensures gives { IfOk result (λ count. put_back (take filled text.old) (F.left feed.old)
-        ≡ put_back (take (filled + count) text.new) (F.left feed.new)) }
-    ensures front { take filled text.new ≡ take filled text.old }
-    ensures end { IfOk result (λ count. count ≡ 0
-        → IfSome (F.left feed.old) (λ bytes. bytes ≡ [])) }
-    ensures counts { IfOk result (λ count. F.given feed.new ≡ F.given feed.old + count) }
-    ensures works { OnOk result (F.failures feed.new ≡ F.failures feed.old) }
-    ensures refused_left { OnErr result (F.left feed.new ≡ F.left feed.old) }
-    ensures refused_given { OnErr result (F.given feed.new ≡ F.given feed.old) }
-    ensures fails { OnErr result (F.failures feed.new ≡ F.failures feed.old + 1) }
-    ensures sure { IsTrue (F.is_sure feed.old) → IsOk result }
-    ensures stays_sure { IsTrue (F.is_sure feed.old) → IsTrue (F.is_sure feed.new) }
-{
-    let (_, room) = text.split_at_mut(filled);
-    feed.pull(room)
 }

@@ -1,6 +1,9 @@
 pub mod Cuts
+pub mod FedSteps
 pub mod FieldSteps
 pub mod FrontFields
 pub mod ItemGrammarFacts
+pub mod PieceFacts
 pub mod PlainText
 pub mod ReadSteps
+pub mod GivenFacts

@@ -1,4 +1,5 @@
 pub mod FaultText
+pub mod Fed
 pub mod FieldValues
 pub mod ItemGrammar
 pub mod LineKinds

@@ -1,8 +1,8 @@
 //! Reading the lines of a text one after the other.
 
-ghost use Rattle.std.specs.Prelude.{◌≡◌, ℕ, List, Result, IfOk};
+ghost use Rattle.std.specs.Prelude.{◌≡◌, ℕ, ◌+◌, ◌<◌, ◌^◌, List, Result, IfOk, length};
 ghost use Rattle.text_lines.specs.Reading.{Leaves, at_line, read_lines};
-ghost use Rattle.text_lines.specs.TextLines.{end_of, lines_in};
+ghost use Rattle.text_lines.specs.TextLines.{end_of, lines_in, lines_of, numbered_lines};
 ghost use Rattle.text_lines.specs.declared.text_fault.TextKind.{TextKind as Kind};
 
 use crate::cut_lines::{cut_line, is_skipped, without_cr, without_mark};
@@ -27,8 +27,19 @@ pub fn read_lines<S: Admit>(state: &mut S, text: &[u8]) -> Result<u64, OrMemory<
     ensures read { Leaves state.new result (read_lines S.admit_line state.old (lines_in text.now)) }
     ensures number { IfOk result (λ n. n ≡ end_of text.now) }
 {
-    let mut number = 1;
-    let mut rest = without_mark(text);
+    read_on(state, 1, without_mark(text))
+}
+
+/// Takes the lines of a part of a text that are not skipped, the first line having this number, and answers the number
+/// of the line after the last.
+pub fn read_on<S: Admit>(state: &mut S, first: u64, part: &[u8]) -> Result<u64, OrMemory<LineFault>>
+    requires { first + length part.now < 2 ^ 64 }
+    ensures read { Leaves state.new result
+        (read_lines S.admit_line state.old (numbered_lines first (lines_of part.now))) }
+    ensures number { IfOk result (λ n. n ≡ first + length (lines_of part.now)) }
+{
+    let mut number = first;
+    let mut rest = part;
     while !rest.is_empty() {
         let (whole, behind) = cut_line(rest);
         let line = without_cr(whole);

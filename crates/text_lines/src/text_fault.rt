@@ -1,7 +1,7 @@
 //! What is wrong with a MineLib text.
 
 ghost use Rattle.std.specs.Prelude.{◌≡◌};
-ghost use Rattle.text_lines.specs.Reading.{error_in};
+ghost use Rattle.text_lines.specs.Reading.{error_in, fault_in};
 
 use pit_units::{DecFault, OrMemory};
 use std::fmt;
@@ -122,6 +122,16 @@ pub struct LineFault {
     pub kind: TextKind,
 }
 
+impl LineFault {
+    /// The same, where the text is this file of an instance.
+    pub fn in_file(self, file: TextFile) -> TextFault
+        ensures { result ≡ fault_in file self }
+    {
+        let LineFault { line, kind } = self;
+        TextFault { file, line, kind }
+    }
+}
+
 /// The first faulty line of the texts of an instance.
 #[derive(Clone, Copy, Debug, Error, PartialEq, Eq)]
 pub struct TextFault {
@@ -148,9 +158,7 @@ pub fn in_file(error: OrMemory<LineFault>, file: TextFile) -> OrMemory<TextFault
     ensures { result ≡ error_in file error }
 {
     match error {
-        OrMemory::Fault(LineFault { line, kind }) => {
-            OrMemory::Fault(TextFault { file, line, kind })
-        }
+        OrMemory::Fault(fault) => OrMemory::Fault(fault.in_file(file)),
         OrMemory::OutOfMemory => OrMemory::OutOfMemory,
     }
 }

@@ -1,0 +1,47 @@
+use Rattle.std.proofs.Common.{◌≡◌, ◌+◌, ◌-◌, ◌∙◌, arith}
+use Rattle.text_lines.proofs.FedSteps.{held_more, last_told, none_after, none_yet, read_faulty, took_more}
+use Rattle.text_lines.proofs.fed_lines.read_fed.Goals as goal
+
+pub loop-rest-init : goal.loop-rest-init
+loop-rest-init g c = record {
+  so_far = rw c.new-waiting.ensures (none_yet g.S.Admit.admit_line c.args.state.now (c.args.limit + 1) (g.F.Feed.left c.args.feed.now));
+  counts = omega arith;
+  works = cc;
+  sure = λ s. s;
+}
+
+pub returns-then-count-eq0-clause-read : goal.returns-then-count-eq0-clause-read
+returns-then-count-eq0-clause-read g c =
+    let admit = g.S.Admit.admit_line in
+    let n = c.in_ok-count.count in
+    let held = c.in_ok-count.ensures.held in
+    let zero : n ≡ 0 = c.if-count-eq0.true in
+    let so = held_more admit c.args.state.now c.loop-rest.state c.loop-rest.waiting c.pull.new.self c.loop-rest.rest (c.loop-rest.rest - n) n
+    (c.args.limit + 1) _ _ _ c.loop-rest.invariant.so_far held (omega (arith, c.in_ok-count.ensures.within)) in
+    last_told admit c.args.state.now c.loop-rest.state c.take_last.new.state c.pull.new.self (c.loop-rest.rest - n) c.args.limit _ _
+    c.take_last.result so (omega (arith, zero, c.loop-rest-test.true))
+    (none_after _ _ held.bytes held.left (held.count ∙ zero) (c.in_ok-count.ensures.end zero)) c.take_last.ensures.read
+
+pub loop-rest-preserved : goal.loop-rest-preserved
+loop-rest-preserved g c =
+    let admit = g.S.Admit.admit_line in
+    let inv = c.loop-rest.invariant in
+    let n = c.in_ok-count.count in
+    let so = held_more admit c.args.state.now c.loop-rest.state c.loop-rest.waiting c.pull.new.self c.loop-rest.rest (c.loop-rest.rest - n) n
+    (c.args.limit + 1) _ _ _ inv.so_far c.in_ok-count.ensures.held (omega (arith, c.in_ok-count.ensures.within)) in
+    record {
+      so_far = took_more admit c.args.state.now c.loop-rest.state c.take_ended.new.state c.pull.new.self c.take_ended.new.self
+          (c.loop-rest.rest - n) (c.args.limit + 1) _ _ so c.in-Ok.ensures;
+      counts = omega (arith, inv.counts, c.in_ok-count.ensures.counts, c.in_ok-count.ensures.within);
+      works = c.in_ok-count.ensures.works ∙ inv.works;
+      sure = λ s. c.pull.ensures.stays_sure (inv.sure s);
+    }
+
+pub returns-in-Err-Fault-clause-read : goal.returns-in-Err-Fault-clause-read
+returns-in-Err-Fault-clause-read g c =
+    let admit = g.S.Admit.admit_line in
+    let n = c.in_ok-count.count in
+    let so = held_more admit c.args.state.now c.loop-rest.state c.loop-rest.waiting c.pull.new.self c.loop-rest.rest (c.loop-rest.rest - n) n
+    (c.args.limit + 1) _ _ _ c.loop-rest.invariant.so_far c.in_ok-count.ensures.held (omega (arith, c.in_ok-count.ensures.within)) in
+    read_faulty admit c.args.state.now c.loop-rest.state c.take_ended.new.state c.pull.new.self (c.loop-rest.rest - n) c.args.limit _ _ _
+    c.in-Err-Fault.fault so (rw c.in-Err-Fault.field-0-is at c.in-Err-Fault.ensures) c.in_ok-pass-in-Err-Fault.ensures.all

@@ -1,0 +1,16 @@
+use Rattle.std.proofs.Common.{◌≡◌, ◌+◌, ◌-◌, ◌≤◌, IsTrue}
+use Rattle.text_lines.specs.inner.Waiting.{Gave}
+use Rattle.text_lines.proofs.waiting.Waiting.pass.Given as goal
+
+-- what the feed gave since the call went by, and none of its pulls failed
+abbrev pub invariant-loop-rest : goal.invariant-loop-rest
+invariant-loop-rest g l = record {
+  within : l.rest ≤ l.most;
+  gave : Gave (l.most - l.rest) (g.F.Feed.left l.initial.feed) (g.F.Feed.left l.feed);
+  counts : g.F.Feed.given l.feed + l.rest ≡ g.F.Feed.given l.initial.feed + l.most;
+  works : g.F.Feed.failures l.feed ≡ g.F.Feed.failures l.initial.feed;
+  sure : IsTrue (g.F.Feed.is_sure l.initial.feed) → IsTrue (g.F.Feed.is_sure l.feed);
+}
+
+abbrev pub decreases-loop-rest : goal.decreases-loop-rest
+decreases-loop-rest g l = l.rest

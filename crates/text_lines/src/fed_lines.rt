@@ -1,0 +1,107 @@
+//! Reading the lines of a text while a feed gives it.
+
+ghost use Rattle.std.specs.Prelude.{◌≡◌, ◌≢◌, ◌+◌, ◌<◌, ◌≤◌, Err, [], length, IfOk, OnOk, IfSome, IsErrOf, IsTrue};
+ghost use Rattle.devices.specs.declared.slurp.SlurpFault.TheVariants as SlurpFault;
+ghost use Rattle.devices.specs.declared.slurp.TheConstants.{GREATEST_LIMIT};
+ghost use Rattle.text_lines.specs.Fed.{IsFedReading};
+
+use crate::line_by_line::Admit;
+use crate::text_fault::LineFault;
+use crate::waiting::Waiting;
+use devices::feed::Feed;
+use devices::slurp::SlurpFault;
+use pit_units::OrMemory;
+use std::alloc::Global;
+
+/// Takes the lines of a feed's text that are not skipped, while the feed gives it, and answers the number of the line
+/// after the last, or the first faulty line. The feed is read to its end in either case: its bytes behind a faulty line
+/// go by. At most `limit + 1` bytes are read. Memory grows with the longest line, and not with the text.
+///
+/// # Errors
+///
+/// The first that is met of
+///
+/// - `FeedFailed`: the feed refused a pull of this call;
+/// - `TooLong`: the feed has more than `limit` bytes, whatever its lines say;
+/// - `OutOfMemory`: a growth was refused, for a line or in taking one.
+pub fn read_fed<S: Admit, F: Feed>(
+    alloc: Global,
+    state: &mut S,
+    feed: &mut F,
+    limit: u64,
+) -> Result<Result<u64, LineFault>, SlurpFault>
+    requires { limit ≤ GREATEST_LIMIT }
+    ensures read { IfOk result
+        (IsFedReading S.admit_line (F.left feed.old) limit state.old state.new) }
+    ensures used_up { OnOk result (IfSome (F.left feed.new) (λ bytes. bytes ≡ [])) }
+    ensures within { OnOk result (F.given feed.new ≤ F.given feed.old + limit) }
+    ensures works { OnOk result (F.failures feed.new ≡ F.failures feed.old) }
+
+    ensures failed { IsErrOf result SlurpFault.FeedFailed
+        → F.failures feed.new ≡ F.failures feed.old + 1 }
+    ensures sure { IsTrue (F.is_sure feed.old) → result ≢ Err SlurpFault.FeedFailed }
+    ensures long { IsErrOf result SlurpFault.TooLong
+        → IfSome (F.left feed.old) (λ bytes. limit < length bytes) }
+    ensures long_counts { IsErrOf result SlurpFault.TooLong
+        → F.given feed.new ≡ F.given feed.old + (limit + 1) }
+    ensures memory_works { IsErrOf result SlurpFault.OutOfMemory
+        → F.failures feed.new ≡ F.failures feed.old }
+    ensures memory_first { IsErrOf result SlurpFault.OutOfMemory
+        → F.given feed.new ≤ F.given feed.old + limit }
+
+    ensures reads { F.given feed.new ≤ F.given feed.old + (limit + 1) }
+{
+    let mut waiting = Waiting::new(alloc);
+    let mut rest = limit as usize + 1;
+    while rest > 0 {
+        let before = waiting.len();
+        let count = waiting.pull(feed, rest)?;
+        if count == 0 {
+            return waiting.take_last(state);
+        }
+        rest -= count;
+        if rest == 0 {
+            return Err(SlurpFault::TooLong);
+        }
+        match waiting.take_ended(state, before) {
+            Ok(()) => {}
+            Err(OrMemory::Fault(fault)) => {
+                waiting.pass(feed, rest)?;
+                return Ok(Err(fault));
+            }
+            Err(OrMemory::OutOfMemory) => return Err(SlurpFault::OutOfMemory),
+        }
+    }
+    Err(SlurpFault::TooLong)
+}
+
+/// Lets the text of a feed go by, whatever its lines say, under the same limit. Memory does not grow with the text.
+///
+/// # Errors
+///
+/// Those of `read_fed`, with `OutOfMemory` where the first bytes have no room.
+#[tactic(auto, using(crate::proofs::FedSteps::passed, crate::proofs::FedSteps::too_many))]
+pub fn pass_text<F: Feed>(alloc: Global, feed: &mut F, limit: u64) -> Result<(), SlurpFault>
+    requires { limit ≤ GREATEST_LIMIT }
+    ensures short { OnOk result (IfSome (F.left feed.old) (λ bytes. length bytes ≤ limit)) }
+    ensures used_up { OnOk result (IfSome (F.left feed.new) (λ bytes. bytes ≡ [])) }
+    ensures within { OnOk result (F.given feed.new ≤ F.given feed.old + limit) }
+    ensures works { OnOk result (F.failures feed.new ≡ F.failures feed.old) }
+
+    ensures failed { IsErrOf result SlurpFault.FeedFailed
+        → F.failures feed.new ≡ F.failures feed.old + 1 }
+    ensures sure { IsTrue (F.is_sure feed.old) → result ≢ Err SlurpFault.FeedFailed }
+    ensures long { IsErrOf result SlurpFault.TooLong
+        → IfSome (F.left feed.old) (λ bytes. limit < length bytes) }
+    ensures long_counts { IsErrOf result SlurpFault.TooLong
+        → F.given feed.new ≡ F.given feed.old + (limit + 1) }
+    ensures memory_works { IsErrOf result SlurpFault.OutOfMemory
+        → F.failures feed.new ≡ F.failures feed.old }
+    ensures memory_first { IsErrOf result SlurpFault.OutOfMemory
+        → F.given feed.new ≤ F.given feed.old + limit }
+
+    ensures reads { F.given feed.new ≤ F.given feed.old + (limit + 1) }
+{
+    let mut waiting = Waiting::new(alloc);
+    waiting.pass(feed, limit as usize + 1)
+}
