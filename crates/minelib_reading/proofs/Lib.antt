@@ -1,6 +1,7 @@
 pub mod BlockLineFacts
 pub mod CoefLineFacts
 pub mod CountedLater
+pub mod FedAnswers
 pub mod Finished
 pub mod FormFields
 pub mod HeaderFacts
@@ -26,3 +27,4 @@ pub mod SpelledRead
 pub mod ValidModel
 pub mod ValidRead
 pub mod ValuesLineFacts
+pub mod CountedFacts

@@ -1,5 +1,6 @@
 pub mod BlockLines
 pub mod Denotes
+pub mod FedCounts
 pub mod Fields
 pub mod HeaderKeys
 pub mod ItemForms

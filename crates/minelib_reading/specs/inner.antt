@@ -1,3 +1,4 @@
+pub mod CountedItems
 pub mod LinesTaken
 pub mod Marks
 pub mod ModelFields

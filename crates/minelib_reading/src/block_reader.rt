@@ -1,6 +1,6 @@
 //! Reading a block file.
 
-ghost use Rattle.std.specs.Prelude.{◌≡◌, ◌≤◌, length, IfOk};
+ghost use Rattle.std.specs.Prelude.{◌≡◌, ◌<◌, ◌≤◌, [], length, IfOk, OnOk};
 ghost use Rattle.pit_parts.specs.Block.{block_with};
 ghost use Rattle.pit_parts.specs.BlockParts.{AreInRange};
 ghost use Rattle.minelib_reading.specs.BlockLines.{blocks_in};
@@ -8,6 +8,7 @@ ghost use Rattle.minelib_reading.specs.inner.LinesTaken.{admit_block, uncounted_
 ghost use Rattle.pit_units.specs.OrMemory.{Gives};
 ghost use Rattle.pit_parts.specs.declared.ranges.TheConstants.{MAX_BLOCKS};
 
+use crate::taking::TakeBlocks;
 use mine_instance::blocks::Blocks;
 use pit_parts::block::Block;
 use pit_parts::ranges::{GRID_CELLS, MAX_BLOCKS, MAX_GRADE, MAX_KG, MAX_ZONES};
@@ -21,34 +22,52 @@ use text_lines::text_fields::{first_size, first_whole, has_field, kind_by_count}
 // The fields of a line: the identifier, three indices, tonnes, grade and zone.
 const FIELDS: usize = 7;
 
-// The blocks of the lines so far, by identifier.
+/// The blocks of the lines so far, by identifier.
 #[derive(Drop)]
-struct BlockDraft {
-    blocks: Vec<Block>,
+pub struct BlockDraft<B: TakeBlocks> {
+    blocks: B,
 }
 
-impl Model for BlockDraft {
+impl<B: TakeBlocks> Model for BlockDraft<B> {
     ghost use Rattle.std.specs.Prelude.{List};
     ghost use Rattle.pit_parts.specs.declared.block.Block.{Block as OneBlock};
 
     ghost Value = { List OneBlock };
 
-    ghost view = { λ d. d.blocks.items };
+    ghost view = { λ d. B.blocks d.blocks };
 }
 
-impl Admit for BlockDraft {
+impl<B: TakeBlocks> Admit for BlockDraft<B> {
     ghost admit_line = { admit_block };
 
     fn admit(&mut self, line: &[u8]) -> Result<(), OrMemory<TextKind>> {
-        let block = block_of(line, self.blocks.len())?;
-        self.blocks.push(block)?;
+        let block = block_of(line, self.blocks.count())?;
+        self.blocks.take(block)?;
         Ok(())
+    }
+}
+
+impl<B: TakeBlocks + Drop> BlockDraft<B> {
+    /// Before the first line. `none` takes the blocks, and has none yet.
+    pub fn new(none: B) -> BlockDraft<B>
+        requires { B.blocks none ≡ [] }
+        ensures { result ≡ [] }
+    {
+        BlockDraft { blocks: none }
+    }
+
+    /// The blocks, once all lines are read.
+    pub fn finish(self) -> B
+        ensures { B.blocks result ≡ self }
+    {
+        self.blocks
     }
 }
 
 // The block of a line, where so many blocks stand before.
 fn block_of(line: &[u8], before: usize) -> Result<Block, TextKind>
-    ensures { result ≡ block_said before line.now }
+    ensures value { result ≡ block_said before line.now }
+    ensures few { OnOk result (before < MAX_BLOCKS) }
 {
     match uncounted_block(line, before) {
         Ok(block) => Ok(block),
@@ -59,7 +78,8 @@ fn block_of(line: &[u8], before: usize) -> Result<Block, TextKind>
 #[inline(always)]
 #[tactic(auto, using(crate::proofs::CountedLater::block_read))]
 fn uncounted_block(line: &[u8], before: usize) -> Result<Block, TextKind>
-    ensures { result ≡ uncounted_block before line.now }
+    ensures value { result ≡ uncounted_block before line.now }
+    ensures few { OnOk result (before < MAX_BLOCKS) }
 {
     let (id, behind_id) = first_whole(line, MAX_BLOCKS as u64)?;
     let (x, behind_x) = first_whole(behind_id, u64::from(GRID_CELLS))?;
@@ -112,9 +132,7 @@ pub fn read_blocks(alloc: Global, text: &[u8]) -> Result<Blocks, OrMemory<LineFa
 fn drafted(alloc: Global, text: &[u8]) -> Result<Blocks, OrMemory<LineFault>>
     ensures { Gives (λ x. x) result (blocks_in text.now) }
 {
-    let mut draft = BlockDraft {
-        blocks: Vec::new(alloc),
-    };
+    let mut draft = BlockDraft::new(Vec::new(alloc));
     read_lines(&mut draft, text)?;
-    Ok(Blocks::new(draft.blocks))
+    Ok(Blocks::new(draft.finish()))
 }

@@ -2,7 +2,10 @@
 #![tactic(auto)]
 
 mod block_reader;
+mod counted;
+mod fed_counts;
 mod instance_reader;
+mod kept;
 pub mod laws;
 mod marks;
 mod model_draft;
@@ -12,5 +15,7 @@ pub mod model_key;
 mod model_keys;
 mod model_reader;
 mod prec_reader;
+mod taking;
 
+pub use fed_counts::{count_arcs, count_blocks, count_model};
 pub use instance_reader::{read_counted, read_cpit, read_instance};

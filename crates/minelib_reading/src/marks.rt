@@ -11,6 +11,9 @@ use std::marker::Model;
 /// A place for each block, none of which is marked between two calls. Contracts see how many blocks there are.
 #[derive(Drop)]
 pub struct Marks {
+    alloc: Global,
+    blocks: usize,
+    // none before the first list that is marked
     places: Vec<bool>,
 }
 
@@ -21,20 +24,23 @@ impl Model for Marks {
 
     ghost Value = { ℕ };
 
-    ghost view = { λ m. vec_len m.places };
+    ghost view = { λ m. m.blocks };
 
-    ghost invariant = { λ m. (vec_len m.places ≤ MAX_BLOCKS) × AreClear m.places.items };
+    ghost invariant = { λ m. (m.blocks ≤ MAX_BLOCKS) × (vec_len m.places ≤ m.blocks)
+        × AreClear m.places.items };
 }
 
 impl Marks {
-    /// A place for each of so many blocks.
-    pub fn new(alloc: Global, blocks: usize) -> Result<Marks, AllocError>
+    /// A place for each of so many blocks. It takes no memory before a list is marked.
+    pub fn new(alloc: Global, blocks: usize) -> Marks
         requires { blocks ≤ MAX_BLOCKS }
-        ensures { IfOk result (λ marks. marks ≡ blocks) }
+        ensures { result ≡ blocks }
     {
-        Ok(Marks {
-            places: Vec::from_elem(alloc, false, blocks)?,
-        })
+        Marks {
+            alloc,
+            blocks,
+            places: Vec::new(alloc),
+        }
     }
 
     /// How many blocks there are.
@@ -42,18 +48,21 @@ impl Marks {
         ensures value { result ≡ self.now }
         ensures few { result ≤ MAX_BLOCKS }
     {
-        self.places.len()
+        self.blocks
     }
 
     /// Whether no identifier of these blocks stands twice.
-    pub fn all_differ(&mut self, ids: &[u32]) -> bool
+    pub fn all_differ(&mut self, ids: &[u32]) -> Result<bool, AllocError>
         requires { All (λ id. id < self.old) ids.now }
-        ensures value { result ≡ all_differ ids.now }
+        ensures value { IfOk result (λ differ. differ ≡ all_differ ids.now) }
         ensures kept { self.new ≡ self.old }
     {
+        if self.places.len() < self.blocks {
+            self.places = Vec::from_elem(self.alloc, false, self.blocks)?;
+        }
         let differ = mark_new(self.places.as_mut_slice(), ids);
         unmark(self.places.as_mut_slice(), ids);
-        differ
+        Ok(differ)
     }
 }
 

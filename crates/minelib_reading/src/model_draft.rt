@@ -1,6 +1,6 @@
 //! A model file while its lines are read.
 
-ghost use Rattle.std.specs.Prelude.{◌≡◌, ◌≤◌, ◌==◌, ◌&&◌, Ok, Err, [], true, false, map, unwrap_or, IfOk};
+ghost use Rattle.std.specs.Prelude.{◌≡◌, ◌≤◌, ◌==◌, ◌&&◌, Ok, Err, [], true, false, map, unwrap_or, length, IfOk};
 ghost use Rattle.std.specs.List.{list_any};
 ghost use Rattle.mine_instance.specs.CpitKept.{IsCpit};
 ghost use Rattle.mine_instance.specs.OfCpit.{without_destination};
@@ -18,17 +18,18 @@ ghost use Rattle.text_lines.specs.TextLines.{fields_of};
 ghost use Rattle.pit_parts.specs.Name.{is_name};
 ghost use Rattle.pit_parts.specs.declared.ranges.TheConstants.{MAX_BLOCKS};
 
+use crate::kept::KeptItems;
 use crate::model_header::{blank_header, number_in};
-use crate::model_items::{coef_of, is_coef_behind, is_limit_behind, limit_of, values_in};
+use crate::model_items::{coef_of, is_limit_behind, limit_of, values_in};
 use crate::model_key::{Header, ModelKey, Section};
 use crate::model_keys::{cut_at_colon, is_heading, is_limits, is_next, key_of, only_value};
+use crate::taking::TakeItems;
 use mine_instance::blocks::Blocks;
 use mine_instance::coef::{Coef, Coefs};
 use mine_instance::cpit::{Cpit, CpitCoef};
 use mine_instance::cpit_coefs::CpitCoefs;
 use mine_instance::instance::Instance;
 use mine_instance::limits::Limits;
-use mine_instance::listed_values::ListedValues;
 use mine_instance::values::Values;
 use minelib_lines::header_key::HeaderKey;
 use minelib_lines::problem::Problem;
@@ -44,33 +45,42 @@ use text_lines::text_fields::count_fields;
 
 /// What the lines of a model file so far state, of so many blocks.
 #[derive(Drop)]
-pub struct ModelDraft {
+pub struct ModelDraft<T: TakeItems> {
     alloc: Global,
     problem: Problem,
     blocks: usize,
     name: Option<Name>,
     header: Header,
     section: Section,
-    values: ListedValues,
-    coefs: Vec<Coef>,
+    // its values and coefficients
+    items: T,
     limits: Vec<Limit>,
     // the values of the last line of the objective
     row: Vec<Dec>,
 }
 
-impl Model for ModelDraft {
+impl<T: TakeItems> Model for ModelDraft<T> {
+    ghost use Rattle.std.specs.Prelude.{[], unwrap_or};
     ghost use Rattle.minelib_reading.specs.ModelLines.{ModelDraftView};
+    ghost use Rattle.minelib_reading.specs.inner.ModelFields.{KeepsModel};
 
     ghost Value = { ModelDraftView };
 
-    ghost use Rattle.minelib_reading.specs.inner.ModelFields.{draft_of, KeepsModel};
+    ghost view = { λ d. record {
+      problem = d.problem;
+      blocks = d.blocks;
+      name = unwrap_or d.name [];
+      header = d.header;
+      section = d.section;
+      values = T.values d.items;
+      coefs = T.coefs d.items;
+      limits = d.limits.items;
+    } };
 
-    ghost view = { draft_of };
-
-    ghost invariant = { KeepsModel };
+    ghost invariant = { λ d. KeepsModel d.blocks d.header d.section (T.values d.items) };
 }
 
-impl Admit for ModelDraft {
+impl<T: TakeItems> Admit for ModelDraft<T> {
     ghost admit_line = { admit_model };
 
     // A line that is read as an item of its section has no colon, so it is not searched for one.
@@ -85,10 +95,12 @@ impl Admit for ModelDraft {
     }
 }
 
-impl ModelDraft {
-    /// Before the first line.
-    pub fn new(alloc: Global, problem: Problem, blocks: usize) -> ModelDraft
-        requires { blocks ≤ MAX_BLOCKS }
+impl<T: TakeItems + Drop> ModelDraft<T> {
+    /// Before the first line. `none` takes the values and coefficients, and has none yet.
+    pub fn new(alloc: Global, problem: Problem, blocks: usize, none: T) -> ModelDraft<T>
+        requires few { blocks ≤ MAX_BLOCKS }
+        requires no_values { T.values none ≡ [] }
+        requires no_coefs { T.coefs none ≡ [] }
         ensures { result ≡ blank_model problem blocks }
     {
         ModelDraft {
@@ -98,15 +110,14 @@ impl ModelDraft {
             name: None,
             header: blank_header(problem),
             section: Section::Heading,
-            values: ListedValues::new(Vec::new(alloc), 0, 0),
-            coefs: Vec::new(alloc),
+            items: none,
             limits: Vec::new(alloc),
             row: Vec::new(alloc),
         }
     }
 
     /// The draft, once all lines are read and `end` is the number of the line after the last.
-    pub fn finish(self, end: u64) -> Result<ModelDraft, OrMemory<LineFault>>
+    pub fn finish(self, end: u64) -> Result<ModelDraft<T>, OrMemory<LineFault>>
         ensures { Gives (λ x. x) result (finish_model end self) }
     {
         if self.is_whole() {
@@ -118,55 +129,29 @@ impl ModelDraft {
             }))
         }
     }
+}
 
-    /// The instance of this file, and of blocks and predecessors.
-    pub fn into_instance<P: TakePreds>(self, blocks: Blocks, preds: P) -> Instance<P>
-        requires { is_name self.name ≡ true }
-        ensures { seen P.lists result ≡ instance_read blocks (P.lists preds) self }
+impl<T: TakeItems> ModelDraft<T> {
+    /// The number of coefficients.
+    pub fn coefs_len(&self) -> usize
+        ensures { result ≡ length self.now.coefs }
     {
-        let rate = self.header.count(HeaderKey::Rate);
-        let periods = self.periods();
-        let destinations = self.destinations();
-        let resources = self.resources();
-        Instance {
-            name: self.name.unwrap(),
-            rate: Dec::new(i128::from(rate)).unwrap(),
-            periods,
-            destinations,
-            resources,
-            blocks,
-            preds,
-            values: Values::new(self.values),
-            coefs: Coefs::new(self.coefs),
-            limits: Limits::new(self.limits),
-        }
+        self.items.coefs_len()
     }
 
-    /// The CPIT of this file. Fails only where memory is refused.
-    pub fn into_cpit(self) -> Result<Cpit, AllocError>
-        requires name { is_name self.name ≡ true }
-        requires cpit { IsCpit (cpit_read self) }
-        ensures { IfOk result (λ cpit. cpit ≡ cpit_read self) }
+    /// The number of limits.
+    pub fn limits_len(&self) -> usize
+        ensures { result ≡ length self.now.limits }
     {
-        let coefs = without_destinations(self.alloc, self.coefs.as_slice())?;
-        let rate = self.header.count(HeaderKey::Rate);
-        let periods = self.periods();
-        let resources = self.resources();
-        Ok(Cpit::new(
-            self.name.unwrap(),
-            Dec::new(i128::from(rate)).unwrap(),
-            periods,
-            resources,
-            self.values.into_flat(),
-            coefs,
-            self.limits,
-        ))
+        self.limits.len()
     }
 
     fn is_whole(&self) -> bool
         ensures { result ≡ is_whole self.now }
     {
-        self.header.is_complete() && self.values.len() == self.blocks && is_limits(self.section)
+        self.header.is_complete()
+            && self.items.values_len() == self.blocks
+            && is_limits(self.section)
     }
 
     #[tactic(auto, unfolding(crate::specs::inner::ModelParts::admit_model), using(crate::proofs::ModelShapes::values_keyless, crate::proofs::ModelShapes::values_takes))]
@@ -175,10 +160,10 @@ impl ModelDraft {
         ensures { Leaves self.new result (admit_model self.old line.now) }
     {
         let destinations = self.destinations();
-        let before = self.values.len();
+        let before = self.items.values_len();
         match values_in(self.blocks, destinations, before, line, &mut self.row) {
             Ok(()) => {
-                self.values.push(self.row.as_slice())?;
+                self.items.take_values(&self.row)?;
                 Ok(())
             }
             Err(OrMemory::Fault(kind)) => self.admit_key_or(line, kind),
@@ -195,10 +180,10 @@ impl ModelDraft {
         let resources = self.resources();
         match coef_of(self.problem, self.blocks, destinations, resources, line) {
             Ok(coef) => {
-                if !is_coef_behind(self.coefs.as_slice(), &coef) {
+                if !self.items.is_next(&coef) {
                     return Err(OrMemory::Fault(TextKind::Order));
                 }
-                self.coefs.push(coef)?;
+                self.items.take_coef(coef)?;
                 Ok(())
             }
             Err(kind) => self.admit_key_or(line, kind),
@@ -311,10 +296,57 @@ impl ModelDraft {
     {
         match self.section {
             Section::Heading => self.header.is_complete(),
-            Section::Objective => self.values.len() == self.blocks,
+            Section::Objective => self.items.values_len() == self.blocks,
             Section::Coefs => true,
             Section::Limits => true,
         }
+    }
+}
+
+impl ModelDraft<KeptItems> {
+    /// The instance of this file, and of blocks and predecessors.
+    pub fn into_instance<P: TakePreds>(self, blocks: Blocks, preds: P) -> Instance<P>
+        requires { is_name self.name ≡ true }
+        ensures { seen P.lists result ≡ instance_read blocks (P.lists preds) self }
+    {
+        let rate = self.header.count(HeaderKey::Rate);
+        let periods = self.periods();
+        let destinations = self.destinations();
+        let resources = self.resources();
+        Instance {
+            name: self.name.unwrap(),
+            rate: Dec::new(i128::from(rate)).unwrap(),
+            periods,
+            destinations,
+            resources,
+            blocks,
+            preds,
+            values: Values::new(self.items.values),
+            coefs: Coefs::new(self.items.coefs),
+            limits: Limits::new(self.limits),
+        }
+    }
+
+    /// The CPIT of this file. Fails only where memory is refused.
+    pub fn into_cpit(self) -> Result<Cpit, AllocError>
+        requires name { is_name self.name ≡ true }
+        requires cpit { IsCpit (cpit_read self) }
+        ensures { IfOk result (λ cpit. cpit ≡ cpit_read self) }
+    {
+        let rate = self.header.count(HeaderKey::Rate);
+        let periods = self.periods();
+        let resources = self.resources();
+        let KeptItems { values, coefs } = self.items;
+        let coefs = without_destinations(self.alloc, coefs.as_slice())?;
+        Ok(Cpit::new(
+            self.name.unwrap(),
+            Dec::new(i128::from(rate)).unwrap(),
+            periods,
+            resources,
+            values.into_flat(),
+            coefs,
+            self.limits,
+        ))
     }
 }
 

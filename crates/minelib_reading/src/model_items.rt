@@ -98,7 +98,10 @@ pub fn coef_of(
     line: &[u8],
 ) -> Result<Coef, TextKind>
     requires { blocks ≤ MAX_BLOCKS }
-    ensures { result ≡ coef_of problem blocks destinations resources (fields_of line.now) }
+    ensures value { result ≡ coef_of problem blocks destinations resources (fields_of line.now) }
+    ensures block { IfOk result (λ coef. coef.b < MAX_BLOCKS) }
+    ensures destination { IfOk result (λ coef. coef.d < 256) }
+    ensures resource { IfOk result (λ coef. coef.r < 256) }
 {
     match uncounted_coef(problem, blocks, destinations, resources, line) {
         Ok(coef) => Ok(coef),
@@ -117,7 +120,11 @@ fn uncounted_coef(
     line: &[u8],
 ) -> Result<Coef, TextKind>
     requires { blocks ≤ MAX_BLOCKS }
-    ensures { result ≡ uncounted_coef problem blocks destinations resources (fields_of line.now) }
+    ensures value { result
+        ≡ uncounted_coef problem blocks destinations resources (fields_of line.now) }
+    ensures block { IfOk result (λ coef. coef.b < MAX_BLOCKS) }
+    ensures destination { IfOk result (λ coef. coef.d < 256) }
+    ensures resource { IfOk result (λ coef. coef.r < 256) }
 {
     let (b, behind_b) = first_whole(line, blocks as u64)?;
     let (d, behind_d) = destination_in(problem, destinations, behind_b)?;

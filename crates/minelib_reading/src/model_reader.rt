@@ -5,6 +5,7 @@ ghost use Rattle.minelib_reading.specs.ModelLines.{model_in};
 ghost use Rattle.pit_units.specs.OrMemory.{Gives};
 ghost use Rattle.pit_parts.specs.declared.ranges.TheConstants.{MAX_BLOCKS};
 
+use crate::kept::KeptItems;
 use crate::model_draft::ModelDraft;
 use minelib_lines::problem::Problem;
 use pit_units::OrMemory;
@@ -19,11 +20,11 @@ pub fn read_model(
     problem: Problem,
     blocks: usize,
     text: &[u8],
-) -> Result<ModelDraft, OrMemory<LineFault>>
+) -> Result<ModelDraft<KeptItems>, OrMemory<LineFault>>
     requires { blocks ≤ MAX_BLOCKS }
     ensures { Gives (λ x. x) result (model_in problem blocks text.now) }
 {
-    let mut draft = ModelDraft::new(alloc, problem, blocks);
+    let mut draft = ModelDraft::new(alloc, problem, blocks, KeptItems::new(alloc));
     let end = read_lines(&mut draft, text)?;
     draft.finish(end)
 }

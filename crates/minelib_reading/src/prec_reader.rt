@@ -18,9 +18,9 @@ use text_lines::line_by_line::{Admit, read_lines};
 use text_lines::text_fault::{LineFault, TextKind};
 use text_lines::text_fields::{first_whole, has_field, lacks_two_fields};
 
-// The predecessors of the lines so far, by identifier.
+/// The predecessors of the lines so far, by identifier.
 #[derive(Drop)]
-struct PrecDraft<P: TakePreds> {
+pub struct PrecDraft<P: TakePreds> {
     preds: P,
     // the predecessors of the line that is read
     ids: Vec<u32>,
@@ -88,7 +88,7 @@ fn uncounted_preds(
     if stated != ids.len() as u64 {
         return Err(OrMemory::Fault(TextKind::Count));
     }
-    if !are_others(ids, before as u32, marks) {
+    if !are_others(ids, before as u32, marks)? {
         return Err(OrMemory::Fault(TextKind::Twice));
     }
     Ok(())
@@ -96,12 +96,19 @@ fn uncounted_preds(
 
 // Whether no number stands twice, and `own` not at all. Most lists rise, which is quicker to see than what is marked.
 #[tactic(auto, using(crate::proofs::MarkFacts::rising_differ))]
-fn are_others(ids: &[u32], own: u32, marks: &mut Marks) -> bool
+fn are_others(ids: &[u32], own: u32, marks: &mut Marks) -> Result<bool, AllocError>
     requires { All (λ id. id < marks.old) ids.now }
-    ensures value { result ≡ (not (stands_in ids.now own) && all_differ ids.now) }
+    ensures value { IfOk result
+        (λ others. others ≡ (not (stands_in ids.now own) && all_differ ids.now)) }
     ensures kept { marks.new ≡ marks.old }
 {
-    rise_above(own, ids) || (!stands_in(ids, own) && marks.all_differ(ids))
+    if rise_above(own, ids) {
+        return Ok(true);
+    }
+    if stands_in(ids, own) {
+        return Ok(false);
+    }
+    marks.all_differ(ids)
 }
 
 // All identifiers of a line, of so many blocks.
@@ -127,20 +134,21 @@ fn stands_in(ids: &[u32], id: u32) -> bool
 }
 
 impl<P: TakePreds + Drop> PrecDraft<P> {
-    fn new(alloc: Global, none: P, blocks: usize) -> Result<PrecDraft<P>, AllocError>
+    /// Before the first line. `none` takes the lists, and has none yet.
+    pub fn new(alloc: Global, none: P, blocks: usize) -> PrecDraft<P>
         requires none { P.lists none ≡ [] }
         requires few { blocks ≤ MAX_BLOCKS }
-        ensures { IfOk result (λ d. d ≡ no_lists blocks) }
+        ensures { result ≡ no_lists blocks }
     {
-        Ok(PrecDraft {
+        PrecDraft {
             preds: none,
             ids: Vec::new(alloc),
-            marks: Marks::new(alloc, blocks)?,
-        })
+            marks: Marks::new(alloc, blocks),
+        }
     }
 
-    // The lists, once all lines are read and `end` is the number of the line after the last.
-    fn finish(self, end: u64) -> Result<P, OrMemory<LineFault>>
+    /// The lists, once all lines are read and `end` is the number of the line after the last.
+    pub fn finish(self, end: u64) -> Result<P, OrMemory<LineFault>>
         ensures { Gives P.lists result (finish_preds self.blocks end self.lists) }
     {
         if self.preds.count() == self.marks.len() {
@@ -166,7 +174,7 @@ pub fn read_preds<P: TakePreds + Drop>(
     requires few { blocks ≤ MAX_BLOCKS }
     ensures { Gives P.lists result (preds_in blocks text.now) }
 {
-    let mut draft = PrecDraft::new(alloc, none, blocks)?;
+    let mut draft = PrecDraft::new(alloc, none, blocks);
     let end = read_lines(&mut draft, text)?;
     draft.finish(end)
 }

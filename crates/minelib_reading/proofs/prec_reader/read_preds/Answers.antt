@@ -14,6 +14,6 @@ returns g c =
 
 pub returns-in_err-end : goal.returns-in_err-end
 returns-in_err-end g c =
-    let same : c.from_residual-in_err-end.result ≡ Err c.in_err-end.field-0.0 = search rules in
+    let same : c.from_residual.result ≡ Err c.in_err-end.field-0.0 = search rules in
     rw same (preds_stopped c.args.blocks c.args.text.now c.read_lines.new.state c.in_err-end.field-0.0
-    (rw c.in_ok-draft.ensures at c.in_err-end.ensures.read))
+    (rw c.new-draft.ensures at c.in_err-end.ensures.read))

@@ -7,7 +7,7 @@ use Rattle.minelib_reading.proofs.HeaderFacts.{numbers_below}
 use Rattle.minelib_reading.proofs.model_draft.ModelDraft.admit_header.Goals as goal
 
 pub invariant_of-self-2 : goal.invariant_of-self-2
-invariant_of-self-2 c =
+invariant_of-self-2 g c =
     let d = c.self.inside in
     let kept = c.self.invariant in
     let number = c.in_ok-number.number in

@@ -7,8 +7,8 @@ use Rattle.minelib_reading.proofs.HeaderFacts.{blank_below}
 use Rattle.minelib_reading.proofs.model_draft.ModelDraft.new.Goals as goal
 
 pub invariant_of-result : goal.invariant_of-result
-invariant_of-result c = rw (c.blank_header.ensures, c.new-2.ensures) (record {
-  few = c.requires;
+invariant_of-result g c = rw (c.blank_header.ensures, c.requires.no_values) (record {
+  few = c.requires.few;
   numbers = blank_below c.args.problem;
   heading = search rules;
   width = All-nil (λ of_block. length of_block ≡ count_in (blank_header c.args.problem) key.Destinations);

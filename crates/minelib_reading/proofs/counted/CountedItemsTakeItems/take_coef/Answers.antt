@@ -1,0 +1,18 @@
+use Rattle.std.proofs.Common.{◌≡◌, ◌+◌, ◌∷◌, ◌++◌, [], length, ap, sym, ◌∙◌, arith}
+use Rattle.std.proofs.lemmas.List.{length_push}
+use Rattle.minelib_reading.specs.inner.CountedItems.{counted_coefs}
+use Rattle.minelib_reading.proofs.CountedFacts.{last_added, next_place}
+use Rattle.minelib_reading.proofs.counted.CountedItemsTakeItems.take_coef.Goals as goal
+
+pub invariant_of-self : goal.invariant_of-self
+invariant_of-self c =
+    let s = c.args.self.now in
+    record {
+      blocks_are = s.blocks_are;
+      few = s.few;
+      coefs_are = rw (c.of.ensures, c.of-2.ensures) (ap (λ n. n + 1) s.coefs_are ∙ sym (length_push (counted_coefs s.past_coefs) c.args.coef));
+      last_is = rw (c.of.ensures, c.of-2.ensures) (last_added (counted_coefs s.past_coefs) c.args.coef);
+      destination = c.requires.destination;
+      resource = c.requires.resource;
+      low = next_place s.last s.coefs c.args.coef s.destination s.resource s.low (rw s.last_is c.requires.next);
+    }

@@ -1,0 +1,71 @@
+//! The items of a block file and of a model file, kept.
+
+ghost use Rattle.std.specs.Prelude.{◌≡◌, []};
+
+use crate::model_items::is_coef_behind;
+use crate::taking::{TakeBlocks, TakeItems};
+use mine_instance::coef::Coef;
+use mine_instance::listed_values::ListedValues;
+use pit_parts::block::Block;
+use pit_units::Dec;
+use std::alloc::{AllocError, Global};
+
+impl TakeBlocks for Vec<Block> {
+    ghost blocks = { λ all. all.items };
+
+    fn count(&self) -> usize {
+        self.len()
+    }
+
+    fn take(&mut self, block: Block) -> Result<(), AllocError> {
+        self.push(block)?;
+        Ok(())
+    }
+}
+
+/// The values and coefficients of a model file.
+#[derive(Drop)]
+pub struct KeptItems {
+    pub values: ListedValues,
+    pub coefs: Vec<Coef>,
+}
+
+impl KeptItems {
+    /// No values and no coefficients.
+    pub fn new(alloc: Global) -> KeptItems
+        ensures values { result.values ≡ [] }
+        ensures coefs { result.coefs.items ≡ [] }
+    {
+        KeptItems {
+            values: ListedValues::new(Vec::new(alloc), 0, 0),
+            coefs: Vec::new(alloc),
+        }
+    }
+}
+
+impl TakeItems for KeptItems {
+    ghost values = { λ items. items.values };
+
+    ghost coefs = { λ items. items.coefs.items };
+
+    fn values_len(&self) -> usize {
+        self.values.len()
+    }
+
+    fn coefs_len(&self) -> usize {
+        self.coefs.len()
+    }
+
+    fn is_next(&self, coef: &Coef) -> bool {
+        is_coef_behind(self.coefs.as_slice(), coef)
+    }
+
+    fn take_values(&mut self, row: &Vec<Dec>) -> Result<(), AllocError> {
+        self.values.push(row.as_slice())
+    }
+
+    fn take_coef(&mut self, coef: Coef) -> Result<(), AllocError> {
+        self.coefs.push(coef)?;
+        Ok(())
+    }
+}
