@@ -1,4 +1,5 @@
-"""The examples: the pipe form on pit.txt and waste.txt, `check` on one, and all on a deposit.
+"""The examples: the pipe form on pit.txt and waste.txt, `check` on one, `compile` on march, and
+all on a deposit.
 
 The texts of the deposit, whose files deposit.awk makes, were made without pitc in half a minute. So
 their sums stand here:
@@ -12,7 +13,7 @@ import tempfile
 
 from rows.instance import at, input_of, plain_texts, sections
 from rows.trial import Sum, Trial, piped
-from shared import CHECKED, TOP
+from shared import CHECKED, TOP, compile_words
 
 EXAMPLES = os.path.join(TOP, "examples")
 
@@ -60,6 +61,11 @@ def trials():
     one = {f"one.{ending}": read(EXAMPLES, f"one.{ending}") for ending in CHECKED}
     counts = b"blocks 1 arcs 0 coefficients 0 limits 0 cpit 0\n"
     yield Trial("check on one", words=["check", "one"], files=one, out=counts)
+    names = ["march.plan", "north.csv", "south.csv"]
+    files = {name: read(EXAMPLES, name) for name in names}
+    texts = at("march", plain_texts(*files.values()))
+    words = compile_words("march.plan", "march", names[1:])
+    yield Trial("compile on march", words=words, files=files, left=texts, out=b"rows 48\n")
     files, texts = deposit(), at("deposit", TEXTS)
     words = ["compile", "--plan", "deposit.plan", "--out", "deposit", *ZONES]
     both = {"files": files, "left": texts}
