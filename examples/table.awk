@@ -98,6 +98,7 @@ function take_formula(kind, formula,    one, part, sign) {
         many[kind, one] = part - 1
     }
     many[kind] = one - 1
+    is_column[kind] = many[kind] == 1 && many[kind, 1] == 1 && operand[kind, 1, 1] && !negative[kind, 1]
 }
 
 # whether the line is a header with all columns, its cells being apart by this separator
@@ -149,32 +150,34 @@ function number_at(at,    text, parts, count, part) {
     return text + 0
 }
 
-# whether a cell says that nothing is known
-function is_missing(at,    text) {
+# the number in a cell, or an empty text where it says that nothing is known
+function measure_at(at,    text, found) {
     text = trim(cell[at])
-    return text == "" || text "" == missing "" || number_at(at) < 0
+    if (text == "" || text "" == missing "") return ""
+    found = number_at(at)
+    return found < 0 ? "" : found
 }
 
 # what a formula gives in this row, or an empty text; coordinates may be below 0, and are never missing
 function value_of(kind, may_lack,    one, part, product, found, sum, known) {
+    if (is_column[kind]) return may_lack ? measure_at(operand[kind, 1, 1]) : number_at(operand[kind, 1, 1])
     for (one = 1; one <= many[kind]; one++) {
         product = negative[kind, one] ? -1 : 1
         for (part = 1; part <= many[kind, one] && product != ""; part++) {
             found = operand[kind, one, part]
-            if (found && may_lack && is_missing(found)) product = ""
-            else {
-                found = found ? number_at(found) : number[kind, one, part]
-                if (!divides[kind, one, part]) product *= found
-                else if (found != 0) product /= found
-                else if (may_lack) product = ""
-                else stop(kind " is divided by 0")
-            }
+            if (!found) found = number[kind, one, part]
+            else found = may_lack ? measure_at(found) : number_at(found)
+            if (found == "") product = ""
+            else if (!divides[kind, one, part]) product *= found
+            else if (found != 0) product /= found
+            else if (may_lack) product = ""
+            else stop(kind " is divided by 0")
         }
         if (product == "") continue
         sum += product
         known = 1
     }
-    return known && !(may_lack && sum < 0) ? sprintf("%.9f", sum) : ""
+    return known && !(may_lack && sum < 0) ? sum : ""
 }
 
 BEGIN {
@@ -214,7 +217,9 @@ NR == 1 {
     zone_name = zone == "" ? "all" : trim(cell[zone_at])
     gsub(/,/, ";", zone_name)
     mass = value_of("tonnes", 1)
-    printf("%.6f,%.6f,%.6f,%s,%s,%s\n", value_of("x"), value_of("y"), value_of("z"), mass + 0 > 0 ? mass : "", value_of("grade", 1), zone_name)
+    richness = value_of("grade", 1)
+    printf("%.6f,%.6f,%.6f,%s,%s,%s\n", value_of("x"), value_of("y"), value_of("z"), mass + 0 > 0 ? sprintf("%.9f", mass) : "",
+        richness == "" ? "" : sprintf("%.9f", richness), zone_name)
     rows++
 }
 
