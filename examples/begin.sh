@@ -1,10 +1,14 @@
 # Begins the commands of a page of recipes: makes a folder `work` and goes there, brings the built pitc into the PATH, and compiles the
-# example deposit, whose zone files are then $zones. It is read by a shell at the top of the repository, not run:
+# example deposit, whose zone files are then $zones. It is read by a shell, not run, at the top of the repository or of an unpacked archive:
 #
 #     . examples/begin.sh
+#
+# Where neither has a program, it is the pitc that is installed.
 
 mkdir work && cd work
-PATH=$(cd ../crates/pitc/out && pwd):$PATH
+for folder in ../crates/pitc/out ../bin; do
+    [ ! -x $folder/pitc ] || PATH=$(cd $folder && pwd):$PATH
+done
 LC_ALL=C && export LC_ALL
 awk -f ../examples/deposit.awk
 zones="deposit-oxide.csv deposit-west.csv deposit-east.csv"
