@@ -3,7 +3,7 @@
 #     awk -v corner=990,1990,295 -v size=20,20,10 -f parents.awk table.csv > parents.csv
 #
 # size is that of a parent; corner is the least corner of one, and no centroid. A parent has the tonnes of its sub-blocks, their mean grade
-# by tonnes (tonnes without a grade count with grade 0), and the zone with most of its tonnes. A parent without tonnes stays a row without.
+# by tonnes (tonnes without a grade count with grade 0, and are told), and the zone with most of its tonnes. A parent without tonnes stays a row without.
 
 function stop(message) {
     print "parents.awk: line " NR ": " message > "/dev/stderr"
@@ -32,6 +32,7 @@ NR == 1 {
 }
 
 {
+    if ($4 + 0 > 0 && $5 == "") barren++
     parent = index_of($1, 1) " " index_of($2, 2) " " index_of($3, 3)
     if (!(parent in zone)) parents[++count] = parent
     if (!(parent in zone) || ($4 + 0 > 0 && !mass[parent])) zone[parent] = $6
@@ -49,5 +50,6 @@ END {
         if (mass[parent]) printf("%.9f,%.9f,%s\n", mass[parent], metal[parent] / mass[parent], zone[parent])
         else print ",," zone[parent]
     }
+    if (!failed) print NR - 1 " rows, " count " parents; " barren + 0 " rows without a grade count with grade 0" > "/dev/stderr"
     exit failed
 }
