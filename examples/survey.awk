@@ -27,7 +27,7 @@ function ratio(sum, count, decimals) {
     return count + 0 ? thousands(sum / count, decimals) : "-"
 }
 
-BEGIN { blocks = arcs = columns = 0 }
+BEGIN { blocks = arcs = 0 }
 
 # The block file: id x y z tonnes grade zone.
 
@@ -63,11 +63,13 @@ function take_column(column) {
 }
 
 file == 2 {
+    if (!blocks) volume = metres[1] * metres[2] * metres[3]
     if (NF != 7 || $1 != blocks) stop("no line of a block file")
     take_place(1, $2)
     take_place(2, $3)
     take_place(3, $4)
     take_rock("all")
+    if ($5 > 0 && ($5 < 0.5 * volume || $5 > 10 * volume)) unlikely++
     take_rock("zone" $7)
     take_rock("bench" $4)
     take_column($2 " " $3)
@@ -159,21 +161,19 @@ function put_places(    axis, box, name) {
     if (metres[1] == 1 && metres[2] == 1 && metres[3] == 1) print "WARNING: blocks are 1 x 1 x 1 m; are coordinates the indices of blocks?"
 }
 
-function put_rock_of(label, group, zone,    volume) {
-    volume = metres[1] * metres[2] * metres[3]
+function put_rock_of(label, group, zone) {
     printf("%4s %10s %10s %16s %7s %7s %7s %10.4f %11.4f %8s %7s%s\n", label, thousands(rows[group]), zone in lines ? thousands(lines[zone] - 1) : "-",
         thousands(mass[group], 1), ratio(lightest[group], volume, 3), ratio(mass[group], volume * solid[group], 3), ratio(heaviest[group], volume, 3),
         mean(metal[group], mass[group]), top_grade[group], thousands(barren[group]), thousands(rows[group] - solid[group]),
         zone in file_name ? "  " file_name[zone] : "")
 }
 
-function put_rock(    zone, volume) {
+function put_rock(    zone) {
     print "\nROCK       rows   lines of           tonnes   t/m3:                   grade, g/t:              rows of"
     print "zone               its file                    least    mean    most       mean        most    0 g/t     0 t"
     for (zone = 0; zone < zones; zone++) put_rock_of(zone, "zone" zone, zone)
     put_rock_of("all", "all", "all")
-    volume = metres[1] * metres[2] * metres[3]
-    if (lightest["all"] + 0 < 0.5 * volume || heaviest["all"] > 10 * volume) print "WARNING: rock of less than 0.5 or more than 10 t/m3"
+    if (unlikely) printf("WARNING: %s blocks have less than 0.5 or more than 10 t/m3\n", thousands(unlikely))
 }
 
 function put_benches(    z, group) {
@@ -340,7 +340,7 @@ function put_files(    at, part, pairs, wanted_limits) {
 END {
     if (failed) exit 1
     if (file < 4 || !blocks) {
-        print "survey.awk: give a plan and the files BASE.blocks, BASE.prec and BASE.pcpsp" > "/dev/stderr"
+        print "survey.awk: " (file < 4 ? "give a plan and the files BASE.blocks, BASE.prec and BASE.pcpsp" : "there are no blocks") > "/dev/stderr"
         exit 1
     }
     printf("%s: %d zones, %d destinations, %d resources, %d periods\n", plan_name, zones, destinations, resources, periods)
