@@ -1,4 +1,4 @@
-# Reads a plan, and measures the walls that its cones give. It prints nothing: it goes before slopes.awk or survey.awk.
+# Reads a plan, and measures the walls that its cones give. It prints nothing: it goes before slopes.awk, survey.awk or places.awk.
 #
 #     awk -f plan.awk -f slopes.awk deposit.plan
 #
