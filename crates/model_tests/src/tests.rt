@@ -10,6 +10,7 @@ mod feeds;
 mod instance;
 mod numbering;
 mod plans;
+mod signals;
 mod stored_rows;
 mod texts;
 mod validity;

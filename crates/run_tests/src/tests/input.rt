@@ -1,13 +1,10 @@
 //! An input that is interrupted, ends or fails.
 
-use devices::feed::FeedFault;
-use devices::single_read::read_some;
 use pit_edge::fault_line::tell;
 use pit_edge::input::read_whole;
 use std::alloc::Global;
 use std::io;
 use std::io::{ErrorKind, Read};
-use std::test::Fail;
 
 const INPUT: &[u8] =
     b"name,one\ngrid,0,0,0,10,10,10\nzone,1,1,1\ndump,dump,200\nperiods,1\nrate,0.1\n--\nx,y,z\n";
@@ -44,31 +41,6 @@ fn input_that(fails: bool) -> Interrupted {
         interrupts: false,
         fails,
     }
-}
-
-// What single reads of an input give, up to its end or its failure.
-fn read_singly(alloc: Global, input: &mut Interrupted) -> Result<Result<Vec<u8>, FeedFault>, Fail> {
-    let mut bytes = Vec::new(alloc);
-    for _ in 0..100u32 {
-        let mut piece = [0u8; 2];
-        match read_some(input, &mut piece) {
-            Ok(0) => return Ok(Ok(bytes)),
-            Ok(count) => bytes.extend_from_slice(&piece[..count])?,
-            Err(fault) => return Ok(Err(fault)),
-        }
-    }
-    Err("an input without an end")?
-}
-
-#[test]
-fn an_interrupted_read_loses_nothing(rt: HostRuntime) -> Result<(), Fail> {
-    for fails in [false, true] {
-        match read_singly(rt.alloc(), &mut input_that(fails))? {
-            Ok(bytes) => assert!(rt; !fails && bytes.as_slice() == INPUT),
-            Err(fault) => assert!(rt; fails && fault == FeedFault),
-        }
-    }
-    Ok(())
 }
 
 // The bytes of the input, behind the status 0; or the status of its refusal and the line.
