@@ -1,11 +1,11 @@
 -- One step further along the blocks, the resources and the rows of values.
-use Rattle.std.proofs.Common.{◌≡◌, ℕ, suc, ◌+◌, ◌*◌, ◌<◌, ◌≤◌, Bool, true, false, cond, List, [], ◌∷◌, ◌++◌, length, map, take, get_or, All, Option, Some, refl, sym, ◌∙◌, ap, arith, append_assoc, append-nil, length-append, eq-eqb, ℤ, zero-mul, ⊎_elim}
+use Rattle.std.proofs.Common.{◌≡◌, ℕ, suc, ◌+◌, ◌*◌, ◌<◌, ◌≤◌, Bool, true, false, cond, List, [], ◌∷◌, ◌++◌, length, map, take, drop, get_or, All, Option, Some, refl, sym, ◌∙◌, ap, arith, append_assoc, append-nil, length-append, eq-eqb, ℤ, zero-mul, ⊎_elim}
 use Rattle.std.specs.Prelude.{filter, slice_get, slice_index, ◌==◌}
 use Rattle.std.specs.List.{cons_option, flat_map, filter_map, range_with_len, enumerate_from, list_any}
 use Rattle.std.proofs.lemmas.Bool.{cases_Bool, eqb-true}
-use Rattle.std.proofs.lemmas.List.{length-map, map-append, take_more, take_all, take-append-le, drop_all, drop-append-le}
+use Rattle.std.proofs.lemmas.List.{length-map, map-append, take_more, take_all, take-append-drop, take-append-le, drop_all, drop-append-le}
 use Rattle.std.proofs.lemmas.List.Concat.{flat_map-append, length-flat_map}
-use Rattle.std.proofs.lemmas.List.Elements.{filter-append}
+use Rattle.std.proofs.lemmas.List.Elements.{All-nil, All-cons, All-tail, filter-append}
 use Rattle.std.proofs.lemmas.List.Folds.{find_at}
 use Rattle.std.proofs.lemmas.List.FromFn.{length-enumerate_from, length-range_with_len}
 use Rattle.std.proofs.lemmas.List.Sums.{count_by-le-length, length-filter, position_or_len_is, sum_by-le}
@@ -70,6 +70,19 @@ pub values_next : (f : Block → List ℤ) (blocks : List Block) (i : ℕ) (b : 
     → flat_map f (take (i + 1) blocks) ≡ flat_map f (take i blocks) ++ f b
 values_next f blocks i b e = rw (take_next blocks i b e, flat_map-append, append-nil)
 
+-- there is room for the values of the next block, where there is room for those of all
+pub next_fits : (f : Block → List ℤ) (blocks : List Block) (i : ℕ) (b : Block) → slice_get blocks i ≡ Some b
+    → length (flat_map f (take i blocks)) + length (f b) ≤ length (flat_map f blocks)
+next_fits f blocks i b e =
+    let front = flat_map f (take (i + 1) blocks) in
+    let back = flat_map f (drop (i + 1) blocks) in
+    let whole : length front + length back ≡ length (flat_map f blocks) =
+    sym (length-append front back)
+    ∙ ap length (sym (flat_map-append f (take (i + 1) blocks) (drop (i + 1) blocks)) ∙ ap (flat_map f) (take-append-drop (i + 1) blocks)) in
+    let next : length front ≡ length (flat_map f (take i blocks)) + length (f b) =
+    ap length (values_next f blocks i b e) ∙ length-append (flat_map f (take i blocks)) (f b) in
+    omega (arith, whole, next)
+
 -- lists of one length, one after the other
 pub length-flat : {X A : Type 0} (f : X → List A) (width : ℕ) → ((x : X) → length (f x) ≡ width) → (xs : List X)
     → length (flat_map f xs) ≡ length xs * width
@@ -126,6 +139,13 @@ by_identifier_is listed n is =
     ap (λ m. filter_map (block_of_id listed) (range_with_len 0 m)) (sym is.blocks)
     ∙ all_found (block_of_id listed) 0 n.blocks (λ k d h.
     let here : 0 + k ≡ k = omega arith in ap (block_of_id listed) here ∙ block_found listed n is k d h)
+
+-- what holds of two lists, one after the other, holds of both
+pub All-parts : {X : Type 0} (P : X → Type 0) (xs ys : List X) → All P (xs ++ ys) → All P xs × All P ys
+All-parts P [] ys all = (All-nil P, all)
+All-parts P (x ∷ xs) ys all =
+    let more = All-parts P xs ys (All-tail P x (xs ++ ys) all) in
+    (All-cons P x xs (all 0 x (omega arith)) more.0, more.1)
 
 -- a list that grew by one piece
 pub grown : {X : Type 0} (base old new front more next : List X) → new ≡ old ++ more → old ≡ base ++ front → next ≡ front ++ more

@@ -1,5 +1,5 @@
 -- Where each coefficient that is found stands, and that all of them are those of the blocks.
-use Rattle.std.proofs.Common.{◌≡◌, ℕ, zero, suc, ◌+◌, ◌-◌, ◌*◌, ◌/◌, ◌%◌, ◌<◌, ◌≤◌, Bool, true, false, cond, List, [], ◌∷◌, ◌++◌, length, map, take, drop, get_or, min, refl, sym, ◌∙◌, ap, inl, inr, arith, append-nil, length-take-le, mod-lt, mul-zero}
+use Rattle.std.proofs.Common.{◌≡◌, ℕ, zero, suc, ◌+◌, ◌-◌, ◌*◌, ◌/◌, ◌%◌, ◌<◌, ◌≤◌, Bool, true, false, cond, List, [], ◌∷◌, ◌++◌, length, map, take, drop, get_or, min, All, refl, sym, ◌∙◌, ap, inl, inr, arith, append-nil, length-take-le, mod-lt, mul-zero}
 use Rattle.std.specs.Prelude.{vec_len, ◌==◌}
 use Rattle.std.specs.List.{flat_map, enumerate_from}
 use Rattle.std.proofs.lemmas.Bool.{cases_lt}
@@ -14,7 +14,7 @@ use Rattle.mine_instance.specs.declared.found_coefs.FoundCoefs.TheInside.{Inside
 use Rattle.mine_instance.specs.declared.found_coefs.HeavyBlock.{HeavyBlock}
 use Rattle.mine_instance.specs.OfModel.{block_coefs, coef_at, coefs_of}
 use Rattle.mine_instance.specs.inner.FoundCoefFields.{heavy_one, heavy_of, heavy_coef, heavy_coefs, found_coefs, found_in}
-use Rattle.mine_instance.proofs.BuildFacts.{length-flat}
+use Rattle.mine_instance.proofs.BuildFacts.{All-parts, length-flat}
 
 one_block : (pairs : List (ℕ × ℕ)) (k : ℕ) (b : Block) → found_coefs pairs (heavy_one (k, b)) ≡ block_coefs pairs (k, b)
 one_block pairs k b = at (b.kg == 0)
@@ -121,6 +121,21 @@ module _ (f : Inside) (all : List Coef) (width : ℕ) (is : found_in f ≡ all) 
       ∙ ap (λ n. get_or (found_in f) n d) (sym at ∙ ap (λ n. i * n + j) wide)
       ∙ found_at f.pairs.items f.heavy.items i j b pair d h (omega (arith, k, wide))
       ∙ sym (λ n. heavy_coef (of_block n) (of_pair n))
+
+-- where all coefficients of blocks are of blocks below a number, so are those of one of these
+pub own_within : (n : ℕ) (pairs : List (ℕ × ℕ)) (heavy : List HeavyBlock) (i : ℕ) (b : HeavyBlock) → i < length heavy
+    → All (λ coef. coef.b < n) (found_coefs pairs heavy) → All (λ coef. coef.b < n) (heavy_coefs pairs (get_or heavy i b))
+own_within n pairs [] i b h all = absurd (omega (arith, h))
+own_within n pairs (x ∷ heavy) zero b h all = (All-parts (λ coef. coef.b < n) (heavy_coefs pairs x) (found_coefs pairs heavy) all).0
+own_within n pairs (x ∷ heavy) (suc i) b h all =
+    own_within n pairs heavy i b (omega (arith, h)) (All-parts (λ coef. coef.b < n) (heavy_coefs pairs x) (found_coefs pairs heavy) all).1
+
+-- and so is the block
+pub block_within : (n : ℕ) (pairs : List (ℕ × ℕ)) (block : HeavyBlock) (k : ℕ) → k < length pairs
+    → All (λ coef. coef.b < n) (heavy_coefs pairs block) → block.b < n
+block_within n pairs block k h all =
+    let other : Coef = heavy_coef block (0, 0) in
+    rw (get_or-map (heavy_coef block) pairs k (0, 0) other h) at (all k other (omega (arith, h, length-map pairs (heavy_coef block))))
 
 -- behind the last place of a row comes the first of the next
 pub next_row : (i j width place : ℕ) → i * width + j ≡ place → j + 1 ≡ width → (i + 1) * width + 0 ≡ place + 1

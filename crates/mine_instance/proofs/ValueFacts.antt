@@ -1,11 +1,11 @@
 -- The values of blocks: taken row by row and file by file, and as they stand at positions of a list.
-use Rattle.std.proofs.Common.{◌≡◌, ℕ, zero, suc, ◌*◌, ◌<◌, ℤ, List, [], ◌∷◌, ◌++◌, length, map, get_or, All, Some, refl, sym, ap, subst, ◌∙◌, arith, append_assoc, append-nil}
+use Rattle.std.proofs.Common.{◌≡◌, ℕ, zero, suc, ◌+◌, ◌*◌, ◌<◌, ◌≤◌, ℤ, List, [], ◌∷◌, ◌++◌, length, map, get_or, All, Some, refl, sym, ap, subst, ◌∙◌, arith, append_assoc, append-nil, length-append}
 use Rattle.std.specs.Prelude.{slice_get}
 use Rattle.std.specs.List.{flat_map}
 use Rattle.std.specs.Option.{option_map}
 use Rattle.std.proofs.lemmas.List.{get_or-map, length-map, map-append, same_lists}
 use Rattle.std.proofs.lemmas.List.Concat.{flat_map-append}
-use Rattle.std.proofs.lemmas.List.Elements.{All-map, All-nil, All-cons, All-tail}
+use Rattle.std.proofs.lemmas.List.Elements.{All-map}
 use Rattle.std.proofs.lemmas.Option.{same_Some}
 use Rattle.pit_parts.specs.Plan.{PlanParts}
 use Rattle.pit_parts.specs.PlanFormulas.{formulas_of_plan}
@@ -19,7 +19,7 @@ use Rattle.mine_instance.specs.Rows.{rows_of}
 use Rattle.mine_instance.specs.declared.values.Order.{Order}
 use Rattle.mine_instance.specs.declared.values.Order.TheVariants.{ById, ByPosition}
 use Rattle.mine_instance.specs.inner.ValuesFields.{in_order, AreWithin}
-use Rattle.mine_instance.proofs.BuildFacts.{length-flat, rows_of-flat}
+use Rattle.mine_instance.proofs.BuildFacts.{All-parts, length-flat, rows_of-flat}
 use Rattle.mine_instance.proofs.ModelFacts.{length-values_of}
 
 -- worths at a position are those of the block of the row there
@@ -39,13 +39,7 @@ pub worths_parts : (plan : PlanParts) (lists rest : List (List Valued)) (list : 
     × All (λ row. row.worths ≡ worths_by (formulas_of_plan plan) row.block) (flat_map (λ rows. rows) rest)
 worths_parts plan lists rest list cut all =
     let Has : Valued → Type 0 = λ row. row.worths ≡ worths_by (formulas_of_plan plan) row.block in
-    parts Has list (flat_map (λ rows. rows) rest) (subst (λ (ls : List (List Valued)). All Has (flat_map (λ rows. rows) ls)) cut all)
-  where
-    parts : (P : Valued → Type 0) (xs ys : List Valued) → All P (xs ++ ys) → All P xs × All P ys
-    parts P [] ys all = (All-nil P, all)
-    parts P (x ∷ xs) ys all =
-        let more = parts P xs ys (All-tail P x (xs ++ ys) all) in
-        (All-cons P x xs (all 0 x (omega arith)) more.0, more.1)
+    All-parts Has list (flat_map (λ rows. rows) rest) (subst (λ (ls : List (List Valued)). All Has (flat_map (λ rows. rows) ls)) cut all)
 
 -- the values of one file more
 pub file_taken : (value : Block → List ℤ) (all new whole : List ℤ) (lists rest : List (List Valued)) (list : List Valued)
@@ -54,6 +48,21 @@ pub file_taken : (value : Block → List ℤ) (all new whole : List ℤ) (lists 
     → new ++ flat_map value (blocks_of_rows (flat_map (λ rows. rows) rest)) ≡ whole
 file_taken value all new whole lists rest list come cut added =
     rw (added, append_assoc) (rw (cut, map-append, flat_map-append) at come)
+
+-- there is room for the values of the next file, where there is room for those of all
+pub file_fits : (plan : PlanParts) (rows : List Valued) (all : List ℤ) (lists rest : List (List Valued)) (list : List Valued)
+    → all ++ flat_map (values_of plan) (blocks_of_rows (flat_map (λ rows. rows) lists)) ≡ flat_map (values_of plan) (blocks_of_rows rows)
+    → lists ≡ list ∷ rest
+    → length all + length (flat_map (values_of plan) (blocks_of_rows list)) ≤ length rows * length plan.formulas
+file_fits plan rows all lists rest list come cut =
+    let value = values_of plan in
+    let own = flat_map value (blocks_of_rows list) in
+    let others = flat_map value (blocks_of_rows (flat_map (λ rows. rows) rest)) in
+    let whole : length (flat_map value (blocks_of_rows rows)) ≡ length rows * length plan.formulas =
+    length-flat value (length plan.formulas) (length-values_of plan) (blocks_of_rows rows)
+    ∙ ap (λ n. n * length plan.formulas) (length-map rows (λ (row : Valued). row.block)) in
+    let parts = ap length (file_taken value all (all ++ own) _ lists rest list come cut refl) in
+    omega (arith, whole, parts, length-append (all ++ own) others, length-append all own)
 
 -- once no file is left
 pub all_taken : (plan : PlanParts) (rows : List Valued) (all : List ℤ) (lists : List (List Valued)) (count width : ℕ)

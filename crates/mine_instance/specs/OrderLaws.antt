@@ -4,19 +4,14 @@ use Rattle.std.proofs.Common.{ℕ, ◌<◌, arith}
 use Rattle.std.proofs.lemmas.Bool.Decides.{nat_tests}
 use Rattle.pit_parts.specs.PlanKept.{stands_before}
 use Rattle.pit_parts.specs.declared.limit.Limit.{Limit}
-use Rattle.mine_instance.specs.CpitOrder.{is_listed_before}
 use Rattle.mine_instance.specs.Order.{coef_comes_before}
 use Rattle.mine_instance.specs.declared.coef.Coef.{Coef}
-use Rattle.mine_instance.specs.declared.cpit.CpitCoef.{CpitCoef}
 
 pub coef_comes_before_through : (x y z : Coef) → IsTrue (coef_comes_before x y) → IsTrue (coef_comes_before y z) → IsTrue (coef_comes_before x z)
 coef_comes_before_through x y z h k = grind (arith, nat_tests)
 
 pub stands_before_through : (x y z : Limit) → IsTrue (stands_before x y) → IsTrue (stands_before y z) → IsTrue (stands_before x z)
 stands_before_through x y z h k = grind (arith, nat_tests)
-
-pub is_listed_before_through : (x y z : CpitCoef) → IsTrue (is_listed_before x y) → IsTrue (is_listed_before y z) → IsTrue (is_listed_before x z)
-is_listed_before_through x y z h k = grind (arith, nat_tests)
 
 pub less_through : (x y z : ℕ) → x < y → y < z → x < z
 less_through x y z h k = omega arith

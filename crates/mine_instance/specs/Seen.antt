@@ -1,10 +1,11 @@
--- An instance with the lists of its predecessors, by how these are seen as lists.
+-- An instance with the lists of its predecessors and of its coefficients, by how these are seen as lists.
 use Rattle.std.specs.Prelude.{ℕ, List}
 use Rattle.mine_instance.specs.Instance.{Instance}
+use Rattle.mine_instance.specs.declared.coef.Coef.{Coef}
 use Rattle.mine_instance.specs.declared.instance.Instance.{Instance as Parts}
 
-abbrev pub seen : {P : Type 0} → (P → List (List ℕ)) → Parts P → Instance
-seen lists i = record {
+abbrev pub seen : {P C : Type 0} → (P → List (List ℕ)) → (C → List Coef) → Parts P C → Instance
+seen lists coefs i = record {
   name = i.name;
   rate = i.rate;
   periods = i.periods;
@@ -13,6 +14,6 @@ seen lists i = record {
   blocks = i.blocks;
   preds = lists i.preds;
   values = i.values;
-  coefs = i.coefs;
+  coefs = coefs i.coefs;
   limits = i.limits;
 }

@@ -1,5 +1,4 @@
-pub mod CoefFields
-pub mod CpitCoefFields
 pub mod CpitFields
 pub mod FoundCoefFields
+pub mod PackedCoefFields
 pub mod ValuesFields

@@ -1,6 +1,6 @@
 //! From a model's valued blocks to its instance.
 
-ghost use Rattle.std.specs.Prelude.{◌≡◌, ◌*◌, ◌<◌, ◌≤◌, ◌==◌, ◌++◌, ◌∷◌, [], List, length, map, All, IfOk, OnOk, if◌then◌else◌};
+ghost use Rattle.std.specs.Prelude.{◌≡◌, ◌+◌, ◌*◌, ◌<◌, ◌≤◌, ◌==◌, ◌++◌, ◌∷◌, [], List, length, map, All, IfOk, OnOk, if◌then◌else◌, vec_len, vec_capacity};
 ghost use Rattle.std.specs.List.{flat_map, list_any};
 ghost use Rattle.pit_parts.specs.PlanFormulas.{formulas_of_plan};
 ghost use Rattle.pit_parts.specs.declared.block.Block.{Block};
@@ -15,8 +15,7 @@ ghost use Rattle.mine_instance.specs.Valid.{IsValid};
 ghost use Rattle.pit_parts.specs.declared.ranges.TheConstants.{MAX_BLOCKS, MAX_DESTINATIONS, MAX_RESOURCES};
 
 use crate::blocks::Blocks;
-use crate::coef::Coefs;
-use crate::found_coefs::Covering;
+use crate::found_coefs::{Covering, FoundCoefs};
 use crate::instance::Instance;
 use crate::limits::Limits;
 use crate::listed_values::ListedValues;
@@ -47,31 +46,35 @@ pub fn build(
 {
     let blocks = Vec::from_slice(alloc, numbering.blocks())?;
     let positions = Vec::from_slice(alloc, numbering.positions())?;
-    let listed = values_in_order(alloc, RowLists::of(alloc, rows)?, plan)?;
+    let room = Vec::with_capacity(alloc, rows.len() * plan.formulas().len())?;
+    let listed = values_in_order(room, RowLists::of(alloc, rows)?, plan);
     let values = Values::by_position(listed, positions);
-    build_with(alloc, blocks, preds, values, plan)
+    let found = build_with(alloc, blocks, preds, values, plan)?;
+    let kept = found.with_kept_coefs(alloc)?;
+    Ok(kept)
 }
 
 /// The instance of a model, given its blocks in the order of their identifiers, their predecessors and their values.
-/// The rows that the values come from, and their numbering, are needed no more. Fails only where memory is refused.
+/// The rows that the values come from, and their numbering, are needed no more. Coefficients are found when they are asked for. Fails
+/// only where memory is refused.
 pub fn build_with<P: PredLists + Drop>(
     alloc: Global,
     blocks: Vec<Block>,
     preds: P,
     values: Values,
     plan: &Plan,
-) -> Result<Instance<P>, AllocError>
+) -> Result<Instance<P, FoundCoefs>, AllocError>
     requires few { length blocks.items ≤ MAX_BLOCKS }
     requires preds { P.lists preds ≡ cone_lists plan.now blocks.items }
     requires values { values ≡ map (values_of plan.now) blocks.items }
     ensures value { (listed : List Block) → (n : NumberingView) → IsNumbering listed n
         → n.blocks ≡ blocks.items
-        → IfOk result (λ built. seen P.lists built ≡ instance plan.now listed) }
-    ensures valid { IfOk result (λ built. IsValid (seen P.lists built)) }
+        → IfOk result (λ built. seen P.lists (λ coefs. coefs) built ≡ instance plan.now listed) }
+    ensures valid { IfOk result (λ built. IsValid (seen P.lists (λ coefs. coefs) built)) }
 {
     let name = plan.name().copy(alloc)?;
     let pairs = covered_pairs(alloc, plan)?;
-    let coefs = Coefs::of_blocks(alloc, pairs, blocks.as_slice())?;
+    let coefs = FoundCoefs::new(alloc, pairs, blocks.as_slice())?;
     let limits = Vec::from_slice(alloc, plan.limits())?;
     Ok(Instance {
         name,
@@ -88,41 +91,46 @@ pub fn build_with<P: PredLists + Drop>(
 }
 
 /// What the block of each row is worth at each destination, in the order of the rows. The rows of each file are given up as soon as
-/// their values are taken. Fails only where memory is refused.
-pub fn values_in_order(
-    alloc: Global,
-    rows: RowLists,
-    plan: &Plan,
-) -> Result<ListedValues, AllocError>
+/// their values are taken. `room` is for the values, and so the call takes no memory.
+pub fn values_in_order(room: Vec<Dec>, rows: RowLists, plan: &Plan) -> ListedValues
+    requires empty { room.items ≡ [] }
+    requires room { length rows * length plan.now.formulas ≤ vec_capacity room }
     requires few { length rows ≤ MAX_BLOCKS }
     requires worths { All (λ row. row.worths ≡ worths_by (formulas_of_plan plan.now) row.block)
         rows }
-    ensures { IfOk result (λ values. values ≡ map (values_of plan.now) (blocks_of_rows rows)) }
+    ensures { result ≡ map (values_of plan.now) (blocks_of_rows rows) }
 {
     let width = plan.formulas().len();
     let count = rows.len();
-    let mut all = Vec::with_capacity(alloc, count * width)?;
+    let mut all = room;
     for list in rows.into_lists() {
-        put_rows(&mut all, &list, plan)?;
+        put_rows(&mut all, &list, plan);
     }
-    Ok(ListedValues::new(all, count, width))
+    ListedValues::new(all, count, width)
 }
 
 // Appends the values of the rows of a file.
-fn put_rows(all: &mut Vec<Dec>, rows: &Rows, plan: &Plan) -> Result<(), AllocError>
-    requires { All (λ row. row.worths ≡ worths_by (formulas_of_plan plan.now) row.block) rows.now }
-    ensures { OnOk result (all.new.items
-        ≡ all.old.items ++ flat_map (values_of plan.now) (blocks_of_rows rows.now)) }
+fn put_rows(all: &mut Vec<Dec>, rows: &Rows, plan: &Plan)
+    requires room { vec_len all.old
+        + length (flat_map (values_of plan.now) (blocks_of_rows rows.now))
+        ≤ vec_capacity all.old }
+    requires worths { All (λ row. row.worths ≡ worths_by (formulas_of_plan plan.now) row.block)
+        rows.now }
+    ensures values { all.new.items
+        ≡ all.old.items ++ flat_map (values_of plan.now) (blocks_of_rows rows.now) }
+    ensures room { vec_capacity all.old ≤ vec_capacity all.new }
 {
     for position in 0..rows.len() {
-        put_values(all, rows.worths_at(position), plan)?;
+        put_values(all, rows.worths_at(position), plan);
     }
-    Ok(())
 }
 
-fn put_values(all: &mut Vec<Dec>, worths: &[i128], plan: &Plan) -> Result<(), AllocError>
-    requires { (block : Block) × (worths.now ≡ worths_by (formulas_of_plan plan.now) block) }
-    ensures { OnOk result (all.new.items ≡ all.old.items ++ map in_hundreds worths.now) }
+fn put_values(all: &mut Vec<Dec>, worths: &[i128], plan: &Plan)
+    requires room { vec_len all.old + length worths.now ≤ vec_capacity all.old }
+    requires worths { (block : Block)
+        × (worths.now ≡ worths_by (formulas_of_plan plan.now) block) }
+    ensures values { all.new.items ≡ all.old.items ++ map in_hundreds worths.now }
+    ensures room { vec_capacity all.old ≤ vec_capacity all.new }
 {
     // A formula of a plan gives worths that a decimal can hold.
     worths_are_in_range();
@@ -130,14 +138,15 @@ fn put_values(all: &mut Vec<Dec>, worths: &[i128], plan: &Plan) -> Result<(), Al
     put_in_hundreds(all, worths)
 }
 
-fn put_in_hundreds(all: &mut Vec<Dec>, cents: &[i128]) -> Result<(), AllocError>
-    requires { All IsWorth cents.now }
-    ensures { OnOk result (all.new.items ≡ all.old.items ++ map in_hundreds cents.now) }
+fn put_in_hundreds(all: &mut Vec<Dec>, cents: &[i128])
+    requires room { vec_len all.old + length cents.now ≤ vec_capacity all.old }
+    requires worths { All IsWorth cents.now }
+    ensures values { all.new.items ≡ all.old.items ++ map in_hundreds cents.now }
+    ensures room { vec_capacity all.old ≤ vec_capacity all.new }
 {
     for worth in cents {
-        all.push(in_hundreds(*worth))?;
+        all.push(in_hundreds(*worth)).unwrap();
     }
-    Ok(())
 }
 
 fn in_hundreds(cents: i128) -> Dec

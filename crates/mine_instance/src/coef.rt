@@ -1,14 +1,11 @@
 //! What a block takes of a resource where it goes to a destination.
 
-ghost use Rattle.std.specs.Prelude.{◌≡◌, ◌*◌, ◌<◌, ◌≤◌, ◌++◌, IfOk, OnOk, Some, length, take, drop, slice_get};
-ghost use Rattle.mine_instance.specs.OfModel.{coefs_of};
-ghost use Rattle.pit_parts.specs.declared.ranges.TheConstants.{MAX_BLOCKS, MAX_DESTINATIONS, MAX_RESOURCES};
+ghost use Rattle.std.specs.Prelude.{◌≡◌};
+ghost use Rattle.mine_instance.specs.Order.{coef_comes_before};
 
-use crate::found_coefs::{Covering, FoundCoefs};
-use pit_parts::block::Block;
+use crate::rising::Ordered;
+use pit_parts::listed::Listed;
 use pit_units::Dec;
-use std::alloc::{AllocError, Global};
-use std::marker::Model;
 
 /// The tonnes of a block that a resource handles where the block goes to a destination.
 #[derive(Clone, Copy, Debug, PartialEq, Eq)]
@@ -23,9 +20,10 @@ pub struct Coef {
     pub v: Dec,
 }
 
-impl Coef {
-    ghost use Rattle.mine_instance.specs.Order.{coef_comes_before};
+/// Coefficients that are kept, in rising order of block, destination and resource.
+pub type Coefs = Listed<Coef>;
 
+impl Coef {
     /// Whether the coefficient comes before another: by block, then destination, then resource.
     pub fn comes_before(&self, other: &Coef) -> bool
         ensures { result ≡ coef_comes_before self.now other.now }
@@ -35,98 +33,17 @@ impl Coef {
     }
 }
 
-/// Coefficients, in rising order of block, destination and resource: listed, or found when they are asked for. Contracts see the list
-/// of them.
-#[derive(Debug, Drop)]
-pub struct Coefs {
-    source: Source,
-}
+impl Ordered for Coef {
+    ghost use Rattle.std.specs.Prelude.{IsTrue};
+    ghost use Rattle.mine_instance.specs.Order.{coef_comes_before};
 
-#[derive(Debug, Drop)]
-enum Source {
-    Listed(Vec<Coef>),
-    Found(FoundCoefs),
-}
+    ghost before = { λ c e. IsTrue (coef_comes_before c e) };
 
-impl Model for Coefs {
-    ghost use Rattle.std.specs.Prelude.{List};
-    ghost use Rattle.mine_instance.specs.declared.coef.Coef.{Coef as OneCoef};
-    ghost use Rattle.mine_instance.specs.inner.CoefFields.{coefs_in};
+    ghost use Rattle.mine_instance.specs.OrderLaws.{coef_comes_before_through};
 
-    ghost Value = { List OneCoef };
+    ghost through = { coef_comes_before_through };
 
-    ghost view = { λ c. coefs_in c.source };
-}
-
-impl Coefs {
-    /// These coefficients, in their order.
-    pub fn new(coefs: Vec<Coef>) -> Coefs
-        ensures { result ≡ coefs.items }
-    {
-        Coefs {
-            source: Source::Listed(coefs),
-        }
-    }
-
-    /// The coefficients of these blocks, by identifier, at these pairs of a destination and a resource. They are not kept: each is found
-    /// when it is asked for. Fails only where memory is refused.
-    pub fn of_blocks(
-        alloc: Global,
-        pairs: Vec<Covering>,
-        blocks: &[Block],
-    ) -> Result<Coefs, AllocError>
-        requires blocks { length blocks.now ≤ MAX_BLOCKS }
-        requires pairs { length pairs.items ≤ MAX_DESTINATIONS * MAX_RESOURCES }
-        ensures { IfOk result (λ coefs. coefs ≡ coefs_of pairs.items blocks.now) }
-    {
-        if pairs.is_empty() {
-            return Ok(Coefs::new(Vec::new(alloc)));
-        }
-        let found = FoundCoefs::new(alloc, pairs, blocks)?;
-        Ok(Coefs {
-            source: Source::Found(found),
-        })
-    }
-
-    /// The number of coefficients.
-    pub fn len(&self) -> usize
-        ensures { result ≡ length self.now }
-    {
-        match &self.source {
-            Source::Listed(coefs) => coefs.len(),
-            Source::Found(found) => found.len(),
-        }
-    }
-
-    /// The coefficient at a place.
-    pub fn at(&self, index: usize) -> Coef
-        requires { index < length self.now }
-        ensures { slice_get self.now index ≡ Some result }
-    {
-        match &self.source {
-            Source::Listed(coefs) => coefs[index],
-            Source::Found(found) => found.at(index),
-        }
-    }
-
-    /// Appends so many of the coefficients from a place on, or all of them where they are fewer. It is quicker than to ask for each.
-    /// Fails only where memory is refused.
-    pub fn put_some(
-        &self,
-        from: usize,
-        most: usize,
-        piece: &mut Vec<Coef>,
-    ) -> Result<(), AllocError>
-        requires { from < length self.now }
-        ensures { OnOk result
-            (piece.new.items ≡ piece.old.items ++ take most (drop from self.now)) }
-    {
-        match &self.source {
-            Source::Listed(coefs) => {
-                let count = most.min(coefs.len() - from);
-                piece.extend_from_slice(&coefs[from..from + count])
-            }
-            Source::Found(found) => found.put_some(from, most, piece),
-        }
+    fn is_before(&self, other: &Coef) -> bool {
+        self.comes_before(other)
     }
 }

@@ -3,9 +3,9 @@
 ghost use Rattle.std.specs.Prelude.{◌≡◌, length};
 ghost use Rattle.mine_instance.specs.CpitKept.{IsCpit};
 
-use crate::cpit_coefs::CpitCoefs;
-use crate::rising::Ordered;
+use crate::coef_list::CoefList;
 use pit_parts::limit::Limit;
+use pit_parts::listed::Listed;
 use pit_parts::name::Name;
 use pit_units::Dec;
 use std::marker::Model;
@@ -21,64 +21,53 @@ pub struct CpitCoef {
     pub v: Dec,
 }
 
-impl Ordered for CpitCoef {
-    ghost use Rattle.std.specs.Prelude.{IsTrue};
-    ghost use Rattle.mine_instance.specs.CpitOrder.{is_listed_before};
-
-    ghost before = { λ c e. IsTrue (is_listed_before c e) };
-
-    ghost use Rattle.mine_instance.specs.OrderLaws.{is_listed_before_through};
-
-    ghost through = { is_listed_before_through };
-
-    fn is_before(&self, other: &CpitCoef) -> bool {
-        self.b < other.b || (self.b == other.b && self.r < other.r)
-    }
-}
+/// Coefficients that are kept, in rising order of block and resource.
+pub type CpitCoefs = Listed<CpitCoef>;
 
 /// An instance of the constrained pit limit problem of MineLib (Espinoza, Goycoolea, Moreno and Newman 2013): each
 /// block has one destination, and so one value. Contracts see the record of its parts. Every value keeps their ranges
-/// and orders.
+/// and orders. `C` has the coefficients: `CpitCoefs` keeps and lends them, and `PackedCoefs` unpacks them.
 #[derive(Debug, Drop)]
-pub struct Cpit {
+pub struct Cpit<C: CoefList<Coef = CpitCoef> = CpitCoefs> {
     name: Name,
     rate: Dec,
     periods: u8,
     resources: u8,
     values: Vec<Dec>,
-    coefs: CpitCoefs,
+    coefs: C,
     limits: Vec<Limit>,
 }
 
-impl Model for Cpit {
+impl<C: CoefList<Coef = CpitCoef>> Model for Cpit<C> {
     ghost use Rattle.mine_instance.specs.Cpit.{CpitParts};
 
     ghost Value = { CpitParts };
 
-    ghost use Rattle.mine_instance.specs.inner.CpitFields.{parts_of, KeepsCpit};
+    ghost use Rattle.mine_instance.specs.CpitKept.{IsCpit, cpit_of};
 
-    ghost view = { parts_of };
+    ghost view = { λ c. cpit_of c.name c.rate c.periods c.resources c.values.items
+        (C.list c.coefs) c.limits.items };
 
-    ghost invariant = { KeepsCpit };
+    ghost invariant = { λ c. IsCpit (cpit_of c.name c.rate c.periods c.resources c.values.items
+        (C.list c.coefs) c.limits.items) };
 }
 
-impl Cpit {
+impl<C: CoefList<Coef = CpitCoef>> Cpit<C> {
     ghost use Rattle.mine_instance.specs.CpitKept.{cpit_of};
 
-    /// The CPIT of these parts, which must fit one another and keep their ranges and orders: `is_cpit` tells whether
-    /// they do.
+    /// The CPIT of these parts, which must fit one another and keep their ranges and orders.
     pub fn new(
         name: Name,
         rate: Dec,
         periods: u8,
         resources: u8,
         values: Vec<Dec>,
-        coefs: CpitCoefs,
+        coefs: C,
         limits: Vec<Limit>,
-    ) -> Cpit
-        requires { IsCpit (cpit_of name rate periods resources values.items coefs
+    ) -> Cpit<C>
+        requires { IsCpit (cpit_of name rate periods resources values.items (C.list coefs)
             limits.items) }
-        ensures { result ≡ cpit_of name rate periods resources values.items coefs
+        ensures { result ≡ cpit_of name rate periods resources values.items (C.list coefs)
             limits.items }
     {
         Cpit {
@@ -129,8 +118,8 @@ impl Cpit {
     }
 
     /// The coefficients, in strictly rising order of block and resource.
-    pub fn coefs(&self) -> &CpitCoefs
-        ensures value { result.now ≡ self.now.coefs }
+    pub fn coef_list(&self) -> &C
+        ensures value { C.list result.now ≡ self.now.coefs }
         ensures kept { IsCpit self.now }
     {
         &self.coefs
@@ -149,5 +138,15 @@ impl Cpit {
         ensures { result ≡ length self.now.coefs }
     {
         self.coefs.len()
+    }
+}
+
+impl Cpit {
+    /// The coefficients, in strictly rising order of block and resource.
+    pub fn coefs(&self) -> &[CpitCoef]
+        ensures value { result.now ≡ self.now.coefs }
+        ensures kept { IsCpit self.now }
+    {
+        self.coefs.as_slice()
     }
 }

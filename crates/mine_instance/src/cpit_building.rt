@@ -9,11 +9,13 @@ ghost use Rattle.mine_instance.specs.Valid.{IsValid};
 ghost use Rattle.pit_parts.specs.declared.ranges.TheConstants.{MAX_DESTINATIONS};
 ghost use Rattle.mine_instance.specs.declared.cpit_building.TheConstants.{PIECE};
 
-use crate::coef::{Coef, Coefs};
-use crate::cpit::{Cpit, CpitCoef};
-use crate::cpit_coefs::CpitCoefs;
+use crate::coef::Coef;
+use crate::coef_list::CoefList;
+use crate::cpit::{Cpit, CpitCoef, CpitCoefs};
+use crate::found_coefs::FoundCoefs;
 use crate::greatest::first_greatest;
 use crate::instance::Instance;
+use crate::packed_coefs::PackedCoefs;
 use crate::values::Values;
 use pit_units::Dec;
 use precedence::PredLists;
@@ -24,11 +26,30 @@ const PIECE: usize = 512;
 
 /// The CPIT of a valid instance: each block goes to the first destination where it is worth most, and has the value and the
 /// coefficients of that destination. Fails only where memory is refused.
-pub fn build_cpit<P: PredLists>(alloc: Global, instance: &Instance<P>) -> Result<Cpit, AllocError>
-    requires { IsValid (seen P.lists instance.now) }
-    ensures { IfOk result (λ built. built ≡ cpit (seen P.lists instance.now)) }
+pub fn build_cpit<P: PredLists, C: CoefList<Coef = Coef>>(
+    alloc: Global,
+    instance: &Instance<P, C>,
+) -> Result<Cpit, AllocError>
+    requires { IsValid (seen P.lists C.list instance.now) }
+    ensures { IfOk result (λ built. built ≡ cpit (seen P.lists C.list instance.now)) }
 {
-    let name = instance.name.copy(alloc)?;
+    let Chosen {
+        destinations,
+        values,
+    } = chosen_of(alloc, &instance.values)?;
+    let coefs = coefs_at(alloc, &instance.coefs, destinations.as_slice())?;
+    cpit_with(alloc, instance, values, CpitCoefs::new(coefs))
+}
+
+/// The same of an instance whose coefficients are found, with packed coefficients.
+pub fn build_packed<P: PredLists>(
+    alloc: Global,
+    instance: &Instance<P, FoundCoefs>,
+) -> Result<Cpit<PackedCoefs>, AllocError>
+    requires { IsValid (seen P.lists (λ coefs. coefs) instance.now) }
+    ensures { IfOk result
+        (λ built. built ≡ cpit (seen P.lists (λ coefs. coefs) instance.now)) }
+{
     let Chosen {
         destinations,
         values,
@@ -36,7 +57,25 @@ pub fn build_cpit<P: PredLists>(alloc: Global, instance: &Instance<P>) -> Result
     let most = destinations
         .len()
         .saturating_mul(usize::from(instance.resources));
-    let coefs = coefs_at(alloc, &instance.coefs, destinations.as_slice(), most)?;
+    let coefs = instance
+        .coefs
+        .packed_at(alloc, destinations.as_slice(), most)?;
+    cpit_with(alloc, instance, values, coefs)
+}
+
+// The CPIT of a valid instance, given its values and coefficients.
+fn cpit_with<P: PredLists, C: CoefList<Coef = Coef>, D: CoefList<Coef = CpitCoef> + Drop>(
+    alloc: Global,
+    instance: &Instance<P, C>,
+    values: Vec<Dec>,
+    coefs: D,
+) -> Result<Cpit<D>, AllocError>
+    requires valid { IsValid (seen P.lists C.list instance.now) }
+    requires values { values.items ≡ (cpit (seen P.lists C.list instance.now)).values }
+    requires coefs { D.list coefs ≡ (cpit (seen P.lists C.list instance.now)).coefs }
+    ensures { IfOk result (λ built. built ≡ cpit (seen P.lists C.list instance.now)) }
+{
+    let name = instance.name.copy(alloc)?;
     let limits = Vec::from_slice(alloc, instance.limits.as_slice())?;
     Ok(Cpit::new(
         name,
@@ -77,18 +116,17 @@ fn chosen_of(alloc: Global, values: &Values) -> Result<Chosen, AllocError>
     })
 }
 
-// The coefficients at their blocks' destinations, which are mostly not more than `most`.
-fn coefs_at(
+// The coefficients at their blocks' destinations.
+fn coefs_at<C: CoefList<Coef = Coef>>(
     alloc: Global,
-    coefs: &Coefs,
+    coefs: &C,
     destinations: &[u8],
-    most: usize,
-) -> Result<CpitCoefs, AllocError>
-    requires { All (λ coef. coef.b < length destinations.now) coefs.now }
-    ensures { IfOk result (λ chosen. chosen
-        ≡ map without_destination (filter (is_at destinations.now) coefs.now)) }
+) -> Result<Vec<CpitCoef>, AllocError>
+    requires { All (λ coef. coef.b < length destinations.now) (C.list coefs.now) }
+    ensures { IfOk result (λ chosen. chosen.items
+        ≡ map without_destination (filter (is_at destinations.now) (C.list coefs.now))) }
 {
-    let mut chosen = CpitCoefs::with_room(alloc, most.min(coefs.len()))?;
+    let mut chosen = Vec::new(alloc);
     let mut piece = Vec::with_capacity(alloc, PIECE)?;
     let mut from = 0;
     while from < coefs.len() {
@@ -100,18 +138,26 @@ fn coefs_at(
 }
 
 // So many coefficients from a place on, in place of those that the piece had.
-fn next_piece(coefs: &Coefs, from: usize, piece: &mut Vec<Coef>) -> Result<(), AllocError>
-    requires { from < length coefs.now }
-    ensures { OnOk result (piece.new.items ≡ take PIECE (drop from coefs.now)) }
+fn next_piece<C: CoefList<Coef = Coef>>(
+    coefs: &C,
+    from: usize,
+    piece: &mut Vec<Coef>,
+) -> Result<(), AllocError>
+    requires { from < length (C.list coefs.now) }
+    ensures { OnOk result (piece.new.items ≡ take PIECE (drop from (C.list coefs.now))) }
 {
     piece.clear();
     coefs.put_some(from, PIECE, piece)
 }
 
-fn put_chosen(chosen: &mut CpitCoefs, coefs: &[Coef], destinations: &[u8]) -> Result<(), AllocError>
+fn put_chosen(
+    chosen: &mut Vec<CpitCoef>,
+    coefs: &[Coef],
+    destinations: &[u8],
+) -> Result<(), AllocError>
     requires { All (λ coef. coef.b < length destinations.now) coefs.now }
-    ensures { OnOk result (chosen.new
-        ≡ chosen.old ++ map without_destination (filter (is_at destinations.now) coefs.now)) }
+    ensures { OnOk result (chosen.new.items ≡ chosen.old.items
+        ++ map without_destination (filter (is_at destinations.now) coefs.now)) }
 {
     for coef in coefs {
         if is_at(destinations, coef) {

@@ -1,11 +1,16 @@
 //! Coefficients that are found when they are asked for.
 
-ghost use Rattle.std.specs.Prelude.{◌≡◌, ◌+◌, ◌*◌, ◌<◌, ◌≤◌, ◌++◌, ◌==◌, ◌∷◌, [], ℕ, IfOk, OnOk, Some, if◌then◌else◌, length, take, drop, slice_get};
+ghost use Rattle.std.specs.Prelude.{◌≡◌, ◌*◌, ◌<◌, ◌≤◌, ◌==◌, ◌++◌, ◌∷◌, [], All, if◌then◌else◌, IfOk, OnOk, length, map, filter};
+ghost use Rattle.mine_instance.specs.OfCpit.{without_destination};
 ghost use Rattle.mine_instance.specs.OfModel.{coefs_of};
-ghost use Rattle.mine_instance.specs.inner.FoundCoefFields.{heavy_of, heavy_one, heavy_coef};
+ghost use Rattle.mine_instance.specs.inner.CpitFields.{is_at};
+ghost use Rattle.mine_instance.specs.inner.FoundCoefFields.{heavy_of, heavy_one, heavy_coef, heavy_coefs, found_coefs};
+ghost use Rattle.mine_instance.specs.inner.PackedCoefFields.{packed_coef};
 ghost use Rattle.pit_parts.specs.declared.ranges.TheConstants.{MAX_BLOCKS, MAX_DESTINATIONS, MAX_RESOURCES};
 
 use crate::coef::Coef;
+use crate::coef_list::CoefList;
+use crate::packed_coefs::{PackedCoef, PackedCoefs};
 use pit_parts::block::Block;
 use pit_units::Dec;
 use std::alloc::{AllocError, Global};
@@ -69,38 +74,47 @@ impl FoundCoefs {
         requires pairs { length pairs.items ≤ MAX_DESTINATIONS * MAX_RESOURCES }
         ensures { IfOk result (λ found. found ≡ coefs_of pairs.items blocks.now) }
     {
+        if pairs.is_empty() {
+            let heavy = Vec::new(alloc);
+            return Ok(FoundCoefs { heavy, pairs });
+        }
         let heavy = heavy_of(alloc, blocks)?;
         Ok(FoundCoefs { heavy, pairs })
     }
 
-    /// The number of coefficients.
-    #[tactic(auto, using(crate::proofs::FoundFacts::counts))]
-    pub fn len(&self) -> usize
-        ensures { result ≡ length self.now }
+    /// Those at these destinations of their blocks, packed. They are mostly not more than `most`. Fails only where memory is refused.
+    pub fn packed_at(
+        &self,
+        alloc: Global,
+        destinations: &[u8],
+        most: usize,
+    ) -> Result<PackedCoefs, AllocError>
+        requires { All (λ coef. coef.b < length destinations.now) self.now }
+        ensures { IfOk result (λ packed. packed
+            ≡ map without_destination (filter (is_at destinations.now) self.now)) }
     {
+        let room = Vec::with_capacity(alloc, most.min(self.len()))?;
+        let packed = packed_at(room, &self.heavy, &self.pairs, destinations)?;
+        Ok(PackedCoefs::new(packed))
+    }
+}
+
+impl CoefList for FoundCoefs {
+    type Coef = Coef;
+
+    ghost list = { λ found. found };
+
+    #[tactic(auto, using(crate::proofs::FoundFacts::counts))]
+    fn len(&self) -> usize {
         self.heavy.len() * self.pairs.len()
     }
 
-    /// The coefficient at a place.
-    pub fn at(&self, index: usize) -> Coef
-        requires { index < length self.now }
-        ensures { slice_get self.now index ≡ Some result }
-    {
+    fn at(&self, index: usize) -> Coef {
         let width = self.pairs.len();
         self.heavy[index / width].coef(self.pairs[index % width])
     }
 
-    /// Appends so many of the coefficients from a place on, or all of them where they are fewer.
-    pub fn put_some(
-        &self,
-        from: usize,
-        most: usize,
-        piece: &mut Vec<Coef>,
-    ) -> Result<(), AllocError>
-        requires { from < length self.now }
-        ensures { OnOk result
-            (piece.new.items ≡ piece.old.items ++ take most (drop from self.now)) }
-    {
+    fn put_some(&self, from: usize, most: usize, piece: &mut Vec<Coef>) -> Result<(), AllocError> {
         let width = self.pairs.len();
         let count = most.min(self.len() - from);
         let mut block = from / width;
@@ -115,6 +129,47 @@ impl FoundCoefs {
         }
         Ok(())
     }
+}
+
+// The coefficients of these blocks and pairs that are at their blocks' destinations, packed, behind those of `room`, which has none.
+fn packed_at(
+    room: Vec<PackedCoef>,
+    heavy: &[HeavyBlock],
+    pairs: &[Covering],
+    destinations: &[u8],
+) -> Result<Vec<PackedCoef>, AllocError>
+    requires empty { room.items ≡ [] }
+    requires there { All (λ coef. coef.b < length destinations.now)
+        (found_coefs pairs.now heavy.now) }
+    ensures { IfOk result (λ packed. map packed_coef packed.items
+        ≡ map without_destination (filter (is_at destinations.now)
+        (found_coefs pairs.now heavy.now))) }
+{
+    let mut packed = room;
+    for block in heavy {
+        put_at(&mut packed, block, pairs, destinations)?;
+    }
+    Ok(packed)
+}
+
+// Appends those of one block, packed.
+fn put_at(
+    packed: &mut Vec<PackedCoef>,
+    block: &HeavyBlock,
+    pairs: &[Covering],
+    destinations: &[u8],
+) -> Result<(), AllocError>
+    requires { All (λ coef. coef.b < length destinations.now) (heavy_coefs pairs.now block.now) }
+    ensures { OnOk result (map packed_coef packed.new.items
+        ≡ map packed_coef packed.old.items ++ map without_destination
+        (filter (is_at destinations.now) (heavy_coefs pairs.now block.now))) }
+{
+    for (d, r) in pairs {
+        if *d == destinations[block.b as usize] {
+            packed.push(PackedCoef::new(block.b, block.kg, *r))?;
+        }
+    }
+    Ok(())
 }
 
 fn heavy_of(alloc: Global, blocks: &[Block]) -> Result<Vec<HeavyBlock>, AllocError>

@@ -1,20 +1,23 @@
 //! The instance of a model.
 
-ghost use Rattle.std.specs.Prelude.{◌≡◌, length, sum_by};
+ghost use Rattle.std.specs.Prelude.{◌≡◌, IfOk, length, sum_by};
+ghost use Rattle.mine_instance.specs.Seen.{seen};
 
 use crate::blocks::Blocks;
-use crate::coef::Coefs;
+use crate::coef::{Coef, Coefs};
+use crate::coef_list::{CoefList, keep};
 use crate::limits::Limits;
 use crate::values::Values;
 use pit_parts::name::Name;
 use pit_units::Dec;
-use precedence::{Preds, TakePreds};
+use precedence::{PredLists, Preds, TakePreds};
+use std::alloc::{AllocError, Global};
 
 /// An instance of the production scheduling problem of MineLib (Espinoza, Goycoolea, Moreno and Newman 2013). Blocks,
 /// predecessors and values stand by identifier. `P` has the predecessors: `Preds` keeps their lists, `FoundPreds` finds them, and
-/// `CountedPreds` has only their number.
+/// `CountedPreds` has only their number. `C` has the coefficients: `Coefs` keeps and lends them, and `FoundCoefs` finds them.
 #[derive(Debug, Drop)]
-pub struct Instance<P = Preds> {
+pub struct Instance<P = Preds, C = Coefs> {
     pub name: Name,
     /// The discount rate, 0 to 1 in a valid instance.
     pub rate: Dec,
@@ -29,23 +32,17 @@ pub struct Instance<P = Preds> {
     pub preds: P,
     /// What each block is worth at each destination, in units of 100 cents.
     pub values: Values,
-    pub coefs: Coefs,
+    /// What resources handle of each block at each destination.
+    pub coefs: C,
     pub limits: Limits,
 }
 
-impl<P> Instance<P> {
+impl<P, C> Instance<P, C> {
     /// The number of blocks.
     pub fn blocks_len(&self) -> usize
         ensures { result ≡ length self.now.blocks }
     {
         self.blocks.as_slice().len()
-    }
-
-    /// The number of coefficients.
-    pub fn coefs_len(&self) -> usize
-        ensures { result ≡ length self.now.coefs }
-    {
-        self.coefs.len()
     }
 
     /// The number of limits.
@@ -56,11 +53,42 @@ impl<P> Instance<P> {
     }
 }
 
-impl<P: TakePreds> Instance<P> {
+impl<P, C: CoefList<Coef = Coef>> Instance<P, C> {
+    /// The number of coefficients.
+    pub fn coefs_len(&self) -> usize
+        ensures { result ≡ length (C.list self.now.coefs) }
+    {
+        self.coefs.len()
+    }
+}
+
+impl<P: TakePreds, C> Instance<P, C> {
     /// The number of arcs: pairs of a block and one that it has to wait for.
     pub fn arcs(&self) -> usize
         ensures { result ≡ sum_by length (P.lists self.now.preds) }
     {
         self.preds.arcs()
+    }
+}
+
+impl<P: PredLists + Drop, C: CoefList<Coef = Coef> + Drop> Instance<P, C> {
+    /// The same instance, whose coefficients are kept. Fails only where memory is refused.
+    pub fn with_kept_coefs(self, alloc: Global) -> Result<Instance<P>, AllocError>
+        ensures { IfOk result
+            (λ kept. seen P.lists (λ coefs. coefs) kept ≡ seen P.lists C.list self) }
+    {
+        let coefs = keep(alloc, &self.coefs)?;
+        Ok(Instance {
+            name: self.name,
+            rate: self.rate,
+            periods: self.periods,
+            destinations: self.destinations,
+            resources: self.resources,
+            blocks: self.blocks,
+            preds: self.preds,
+            values: self.values,
+            coefs,
+            limits: self.limits,
+        })
     }
 }

@@ -1,17 +1,12 @@
 //! Whether an instance is valid.
 
-ghost use Rattle.std.specs.Prelude.{◌≡◌, ◌≢◌, ℕ, ◌<◌, ◌≤◌, ◌↔◌, List, length, All, AllPairs, IsTrue};
-ghost use Rattle.mine_instance.specs.CpitKept.{AreCpitCoefs, IsCpit, cpit_of};
-ghost use Rattle.mine_instance.specs.CpitOrder.{is_listed_before};
-ghost use Rattle.mine_instance.specs.Order.{coef_comes_before};
+ghost use Rattle.std.specs.Prelude.{◌≢◌, ◌<◌, ◌≤◌, ◌↔◌, length, All, AllPairs, IsTrue};
 ghost use Rattle.mine_instance.specs.Valid.{HasLengths, ArePredsOf, ArePreds, IsHorizon, HasDestinations, AreCoefs, AreLimits, IsValid};
 ghost use Rattle.pit_parts.specs.declared.ranges.TheConstants.{MAX_BLOCKS};
 
-use crate::coef::{Coef, Coefs};
-use crate::cpit::CpitCoef;
-use crate::cpit_coefs::CpitCoefs;
+use crate::coef::Coef;
 use crate::instance::Instance;
-use crate::rising::{Ordered, rises};
+use crate::rising::rises;
 use crate::values::Values;
 use pit_parts::limit::Limit;
 use pit_parts::ranges::{MAX_BLOCKS, MAX_DESTINATIONS, MAX_PERIODS, MAX_RATE, MAX_RESOURCES};
@@ -36,7 +31,7 @@ pub fn is_valid(instance: &Instance) -> bool
         return false;
     }
     if !are_coefs(
-        &instance.coefs,
+        instance.coefs.as_slice(),
         count,
         instance.destinations,
         instance.resources,
@@ -48,25 +43,6 @@ pub fn is_valid(instance: &Instance) -> bool
         instance.resources,
         instance.periods,
     )
-}
-
-/// Whether these are the parts of a CPIT, whatever its name: what `Cpit::new` asks of them. There are at most 64,000,000 values, and
-/// all parts keep their ranges and orders.
-pub fn is_cpit(
-    rate: Dec,
-    periods: u8,
-    resources: u8,
-    values: &[Dec],
-    coefs: &CpitCoefs,
-    limits: &[Limit],
-) -> bool
-    ensures { (name : List ℕ) → IsTrue result
-        ↔ IsCpit (cpit_of name rate periods resources values.now coefs.now limits.now) }
-{
-    values.len() <= MAX_BLOCKS
-        && is_horizon(periods, resources, rate)
-        && are_cpit_coefs(coefs, values.len(), resources)
-        && are_limits(limits, resources, periods)
 }
 
 fn has_lengths(instance: &Instance) -> bool
@@ -140,76 +116,13 @@ fn has_destinations(destinations: u8, values: &Values) -> bool
         && values.are_of_width(usize::from(destinations))
 }
 
-fn are_coefs(coefs: &Coefs, count: usize, destinations: u8, resources: u8) -> bool
+fn are_coefs(coefs: &[Coef], count: usize, destinations: u8, resources: u8) -> bool
     ensures { IsTrue result ↔ AreCoefs count destinations resources coefs.now }
 {
-    are_there(coefs, count, destinations, resources) && coefs_rise(coefs)
-}
-
-// Whether the coefficients are of blocks, destinations and resources that are there.
-fn are_there(coefs: &Coefs, count: usize, destinations: u8, resources: u8) -> bool
-    ensures { IsTrue result
-        ↔ All (λ c. (c.b < count) × (c.d < destinations) × (c.r < resources)) coefs.now }
-{
-    for index in 0..coefs.len() {
-        if !is_there(coefs.at(index), count, destinations, resources) {
-            return false;
-        }
-    }
-    true
-}
-
-fn is_there(coef: Coef, count: usize, destinations: u8, resources: u8) -> bool
-    ensures { IsTrue result
-        ↔ ((coef.b < count) × (coef.d < destinations) × (coef.r < resources)) }
-{
-    (coef.b as usize) < count && coef.d < destinations && coef.r < resources
-}
-
-fn coefs_rise(coefs: &Coefs) -> bool
-    ensures { IsTrue result ↔ AllPairs (λ c e. IsTrue (coef_comes_before c e)) coefs.now }
-{
-    for index in 1..coefs.len() {
-        if !coefs.at(index - 1).comes_before(&coefs.at(index)) {
-            return false;
-        }
-    }
-    true
-}
-
-fn are_cpit_coefs(coefs: &CpitCoefs, count: usize, resources: u8) -> bool
-    ensures { IsTrue result ↔ AreCpitCoefs count resources coefs.now }
-{
-    are_of_blocks(coefs, count, resources) && cpit_coefs_rise(coefs)
-}
-
-// Whether the coefficients are of blocks and resources that are there.
-fn are_of_blocks(coefs: &CpitCoefs, count: usize, resources: u8) -> bool
-    ensures { IsTrue result ↔ All (λ c. (c.b < count) × (c.r < resources)) coefs.now }
-{
-    for index in 0..coefs.len() {
-        if !is_of_block(coefs.at(index), count, resources) {
-            return false;
-        }
-    }
-    true
-}
-
-fn is_of_block(coef: CpitCoef, count: usize, resources: u8) -> bool
-    ensures { IsTrue result ↔ ((coef.b < count) × (coef.r < resources)) }
-{
-    (coef.b as usize) < count && coef.r < resources
-}
-
-fn cpit_coefs_rise(coefs: &CpitCoefs) -> bool
-    ensures { IsTrue result ↔ AllPairs (λ c e. IsTrue (is_listed_before c e)) coefs.now }
-{
-    for index in 1..coefs.len() {
-        if !coefs.at(index - 1).is_before(&coefs.at(index)) {
-            return false;
-        }
-    }
-    true
+    coefs.iter().all(|coef| (coef.b as usize) < count
+        && coef.d < destinations
+        && coef.r < resources)
+        && rises(coefs)
 }
 
 fn are_limits(limits: &[Limit], resources: u8, periods: u8) -> bool

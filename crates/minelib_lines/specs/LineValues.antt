@@ -56,7 +56,7 @@ pub record StatedHeader : Type 0 where
   pub rate : ℤ
 
 -- of an instance
-abbrev pub header_of : {P : Type 0} → Instance P → StatedHeader
+abbrev pub header_of : {P C : Type 0} → Instance P C → StatedHeader
 header_of i = record {
   name = i.name;
   periods = i.periods;

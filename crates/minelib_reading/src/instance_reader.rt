@@ -67,7 +67,7 @@ fn joined<P: TakePreds + Drop>(
     none: P,
 ) -> Result<Instance<P>, OrMemory<TextFault>>
     requires { P.lists none ≡ [] }
-    ensures { Gives (seen P.lists) result (denoted blocks.now prec.now pcpsp.now) }
+    ensures { Gives (seen P.lists (λ coefs. coefs)) result (denoted blocks.now prec.now pcpsp.now) }
 {
     let blocks = match read_blocks(alloc, blocks) {
         Ok(blocks) => blocks,

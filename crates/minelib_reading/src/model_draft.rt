@@ -26,8 +26,7 @@ use crate::model_keys::{cut_at_colon, is_heading, is_limits, is_next, key_of, on
 use crate::taking::TakeItems;
 use mine_instance::blocks::Blocks;
 use mine_instance::coef::{Coef, Coefs};
-use mine_instance::cpit::{Cpit, CpitCoef};
-use mine_instance::cpit_coefs::CpitCoefs;
+use mine_instance::cpit::{Cpit, CpitCoef, CpitCoefs};
 use mine_instance::instance::Instance;
 use mine_instance::limits::Limits;
 use mine_instance::values::Values;
@@ -307,7 +306,8 @@ impl ModelDraft<KeptItems> {
     /// The instance of this file, and of blocks and predecessors.
     pub fn into_instance<P: TakePreds>(self, blocks: Blocks, preds: P) -> Instance<P>
         requires { is_name self.name ≡ true }
-        ensures { seen P.lists result ≡ instance_read blocks (P.lists preds) self }
+        ensures { seen P.lists (λ coefs. coefs) result
+            ≡ instance_read blocks (P.lists preds) self }
     {
         let rate = self.header.count(HeaderKey::Rate);
         let periods = self.periods();
@@ -344,17 +344,17 @@ impl ModelDraft<KeptItems> {
             periods,
             resources,
             values.into_flat(),
-            coefs,
+            CpitCoefs::new(coefs),
             self.limits,
         ))
     }
 }
 
 // The coefficients of a CPIT, whose one destination is not named.
-fn without_destinations(alloc: Global, coefs: &[Coef]) -> Result<CpitCoefs, AllocError>
-    ensures { IfOk result (λ of_cpit. of_cpit ≡ map without_destination coefs.now) }
+fn without_destinations(alloc: Global, coefs: &[Coef]) -> Result<Vec<CpitCoef>, AllocError>
+    ensures { IfOk result (λ of_cpit. of_cpit.items ≡ map without_destination coefs.now) }
 {
-    let mut of_cpit = CpitCoefs::with_room(alloc, coefs.len())?;
+    let mut of_cpit = Vec::with_capacity(alloc, coefs.len())?;
     for coef in coefs {
         let (b, r, v) = (coef.b, coef.r, coef.v);
         of_cpit.push(CpitCoef { b, r, v })?;

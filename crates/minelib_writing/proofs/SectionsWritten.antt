@@ -17,10 +17,6 @@ text_of-append [] ys = refl
 text_of-append (x ∷ xs) ys =
     ap (λ rest. (x ++ 10 ∷ []) ++ rest) (text_of-append xs ys) ∙ sym (append_assoc (x ++ 10 ∷ []) (text_of xs) (text_of ys))
 
--- one line behind the others
-text_of-line : (lines : List (List ℕ)) (line : List ℕ) → text_of (lines ++ line ∷ []) ≡ text_of lines ++ (line ++ 10 ∷ [])
-text_of-line lines line = text_of-append lines (line ∷ []) ∙ ap (λ last. text_of lines ++ last) (append-nil (line ++ 10 ∷ []))
-
 -- lines were cut short, and more were to come
 pub lines_cut_before : {n : ℕ} {before : List ℕ} {old new : SinkState} (xs ys : List (List ℕ))
     → IsAppendCut n (text_of xs) before old new → IsAppendCut n (text_of (xs ++ ys)) before old new

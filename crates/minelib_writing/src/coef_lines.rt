@@ -9,11 +9,11 @@ ghost use Rattle.minelib_lines.specs.Lines.{line_of, lines_from};
 ghost use Rattle.minelib_writing.specs.Written.{coef_fields, cpit_coef_fields};
 ghost use Rattle.minelib_lines.specs.declared.problem.Problem.TheVariants.{Pcpsp};
 
-use crate::coef_list::CoefList;
 use crate::fields::{put_decimal_to, put_whole_to};
 use crate::sections::Section;
 use itoa::write_digits;
 use mine_instance::coef::Coef;
+use mine_instance::coef_list::CoefList;
 use mine_instance::cpit::CpitCoef;
 use std::alloc::{AllocError, Global};
 
@@ -123,7 +123,10 @@ pub struct CoefLines<'a, L> {
     pub coefs: &'a L,
 }
 
-impl<'a, L: CoefList> Section for CoefLines<'a, L> {
+impl<'a, L: CoefList> Section for CoefLines<'a, L>
+where
+    L::Coef: CoefLine,
+{
     ghost lines = { λ s. lines_from (λ n. L.Coef.fields) 0 (L.list s.coefs.now) };
 
     ghost kept = { λ s n. HoldsAt L.Coef.kept (L.list s.coefs.now) n };

@@ -25,7 +25,9 @@ use crate::text_name::TextName;
 use devices::sink::Sink;
 use devices::whole_text::{Text, write_text};
 use devices::write_fault::WriteFault;
-use mine_instance::cpit::Cpit;
+use mine_instance::coef::Coef;
+use mine_instance::coef_list::CoefList;
+use mine_instance::cpit::{Cpit, CpitCoef};
 use mine_instance::instance::Instance;
 use minelib_lines::header_key::HeaderKey;
 use minelib_lines::problem::Problem;
@@ -33,12 +35,12 @@ use precedence::PredLists;
 use std::alloc::Global;
 
 #[derive(Drop)]
-struct BlockFile<'a, P> {
-    instance: &'a Instance<P>,
+struct BlockFile<'a, P, C> {
+    instance: &'a Instance<P, C>,
 }
 
-impl<'a, P: PredLists> Text for BlockFile<'a, P> {
-    ghost text = { λ t. text_blocks (seen P.lists t.instance.now) };
+impl<'a, P: PredLists, C: CoefList<Coef = Coef>> Text for BlockFile<'a, P, C> {
+    ghost text = { λ t. text_blocks (seen P.lists C.list t.instance.now) };
 
     ghost kept = { λ t. ⊤ };
 
@@ -55,26 +57,26 @@ impl<'a, P: PredLists> Text for BlockFile<'a, P> {
 }
 
 /// Begins the sink and writes the block file: a line for each block, by identifier.
-pub fn write_blocks<P: PredLists, S: Sink>(
+pub fn write_blocks<P: PredLists, C: CoefList<Coef = Coef>, S: Sink>(
     alloc: Global,
-    instance: &Instance<P>,
+    instance: &Instance<P, C>,
     sink: &mut S,
 ) -> Result<(), WriteFault>
-    requires { IsValid (seen P.lists instance.now) }
-    ensures { Writes (text_blocks (seen P.lists instance.now))
+    requires { IsValid (seen P.lists C.list instance.now) }
+    ensures { Writes (text_blocks (seen P.lists C.list instance.now))
         (S.state sink.old) (S.state sink.new) result }
 {
     write_text(alloc, &BlockFile { instance }, sink)
 }
 
 #[derive(Drop)]
-struct PrecFile<'a, P: PredLists> {
-    instance: &'a Instance<P>,
+struct PrecFile<'a, P: PredLists, C> {
+    instance: &'a Instance<P, C>,
     ghost few: { length (P.lists instance.now.preds) ≤ MAX_BLOCKS },
 }
 
-impl<'a, P: PredLists> Text for PrecFile<'a, P> {
-    ghost text = { λ t. text_prec (seen P.lists t.instance.now) };
+impl<'a, P: PredLists, C: CoefList<Coef = Coef>> Text for PrecFile<'a, P, C> {
+    ghost text = { λ t. text_prec (seen P.lists C.list t.instance.now) };
 
     ghost kept = { λ t. ⊤ };
 
@@ -93,26 +95,26 @@ impl<'a, P: PredLists> Text for PrecFile<'a, P> {
 }
 
 /// Begins the sink and writes the precedence file: the predecessors of each block, by identifier.
-pub fn write_prec<P: PredLists, S: Sink>(
+pub fn write_prec<P: PredLists, C: CoefList<Coef = Coef>, S: Sink>(
     alloc: Global,
-    instance: &Instance<P>,
+    instance: &Instance<P, C>,
     sink: &mut S,
 ) -> Result<(), WriteFault>
-    requires { IsValid (seen P.lists instance.now) }
-    ensures { Writes (text_prec (seen P.lists instance.now))
+    requires { IsValid (seen P.lists C.list instance.now) }
+    ensures { Writes (text_prec (seen P.lists C.list instance.now))
         (S.state sink.old) (S.state sink.new) result }
 {
     write_text(alloc, &PrecFile { instance }, sink)
 }
 
 #[derive(Drop)]
-struct UpitFile<'a, P> {
-    instance: &'a Instance<P>,
+struct UpitFile<'a, P, C> {
+    instance: &'a Instance<P, C>,
     ghost some: { All (λ of_block. 0 < length of_block) instance.now.values },
 }
 
-impl<'a, P: PredLists> Text for UpitFile<'a, P> {
-    ghost text = { λ t. text_upit (seen P.lists t.instance.now) };
+impl<'a, P: PredLists, C: CoefList<Coef = Coef>> Text for UpitFile<'a, P, C> {
+    ghost text = { λ t. text_upit (seen P.lists C.list t.instance.now) };
 
     ghost kept = { λ t. ⊤ };
 
@@ -143,27 +145,27 @@ impl<'a, P: PredLists> Text for UpitFile<'a, P> {
 
 /// Begins the sink and writes the file of the ultimate pit limit problem: the greatest value of each block, in units of 100
 /// cents.
-pub fn write_upit<P: PredLists, S: Sink>(
+pub fn write_upit<P: PredLists, C: CoefList<Coef = Coef>, S: Sink>(
     alloc: Global,
-    instance: &Instance<P>,
+    instance: &Instance<P, C>,
     sink: &mut S,
 ) -> Result<(), WriteFault>
-    requires { IsValid (seen P.lists instance.now) }
-    ensures { Writes (text_upit (seen P.lists instance.now))
+    requires { IsValid (seen P.lists C.list instance.now) }
+    ensures { Writes (text_upit (seen P.lists C.list instance.now))
         (S.state sink.old) (S.state sink.new) result }
 {
     write_text(alloc, &UpitFile { instance }, sink)
 }
 
 #[derive(Drop)]
-struct PcpspFile<'a, P> {
-    instance: &'a Instance<P>,
+struct PcpspFile<'a, P, C> {
+    instance: &'a Instance<P, C>,
 }
 
-impl<'a, P: PredLists> Text for PcpspFile<'a, P> {
-    ghost text = { λ t. text_pcpsp (seen P.lists t.instance.now) };
+impl<'a, P: PredLists, C: CoefList<Coef = Coef>> Text for PcpspFile<'a, P, C> {
+    ghost text = { λ t. text_pcpsp (seen P.lists C.list t.instance.now) };
 
-    ghost kept = { λ t. IsKept (seen P.lists t.instance.now) };
+    ghost kept = { λ t. IsKept (seen P.lists C.list t.instance.now) };
 
     #[tactic(auto, using(crate::proofs::SectionsWritten::nothing_put))]
     fn write<S: Sink>(
@@ -200,25 +202,25 @@ impl<'a, P: PredLists> Text for PcpspFile<'a, P> {
 
 /// Begins the sink and writes the file of the production scheduling problem. Of an instance that it wrote it says what the types of
 /// the parts keep: a NAME and decimals.
-pub fn write_pcpsp<P: PredLists, S: Sink>(
+pub fn write_pcpsp<P: PredLists, C: CoefList<Coef = Coef>, S: Sink>(
     alloc: Global,
-    instance: &Instance<P>,
+    instance: &Instance<P, C>,
     sink: &mut S,
 ) -> Result<(), WriteFault>
-    requires { IsValid (seen P.lists instance.now) }
-    ensures writes { Writes (text_pcpsp (seen P.lists instance.now))
+    requires { IsValid (seen P.lists C.list instance.now) }
+    ensures writes { Writes (text_pcpsp (seen P.lists C.list instance.now))
         (S.state sink.old) (S.state sink.new) result }
-    ensures kept { OnOk result (IsKept (seen P.lists instance.now)) }
+    ensures kept { OnOk result (IsKept (seen P.lists C.list instance.now)) }
 {
     write_text(alloc, &PcpspFile { instance }, sink)
 }
 
 #[derive(Drop)]
-struct CpitFile<'a> {
-    cpit: &'a Cpit,
+struct CpitFile<'a, C: CoefList<Coef = CpitCoef>> {
+    cpit: &'a Cpit<C>,
 }
 
-impl<'a> Text for CpitFile<'a> {
+impl<'a, C: CoefList<Coef = CpitCoef>> Text for CpitFile<'a, C> {
     ghost text = { λ t. text_cpit t.cpit.now };
 
     ghost kept = { λ t. IsKeptCpit t.cpit.now × IsCpit t.cpit.now };
@@ -247,7 +249,7 @@ impl<'a> Text for CpitFile<'a> {
                 items: cpit.values(),
             },
             &CoefLines {
-                coefs: cpit.coefs(),
+                coefs: cpit.coef_list(),
             },
             &Lines {
                 items: cpit.limits(),
@@ -258,7 +260,11 @@ impl<'a> Text for CpitFile<'a> {
 
 /// Begins the sink and writes the file of the constrained pit limit problem. Of a CPIT that it wrote it says what the types of the
 /// parts keep, and that they are within their ranges and orders.
-pub fn write_cpit<S: Sink>(alloc: Global, cpit: &Cpit, sink: &mut S) -> Result<(), WriteFault>
+pub fn write_cpit<C: CoefList<Coef = CpitCoef>, S: Sink>(
+    alloc: Global,
+    cpit: &Cpit<C>,
+    sink: &mut S,
+) -> Result<(), WriteFault>
     ensures writes { Writes (text_cpit cpit.now)
         (S.state sink.old) (S.state sink.new) result }
     ensures kept { OnOk result (IsKeptCpit cpit.now) }
@@ -268,18 +274,18 @@ pub fn write_cpit<S: Sink>(alloc: Global, cpit: &Cpit, sink: &mut S) -> Result<(
 }
 
 /// Begins the sink and writes the text of this name, of an instance and its CPIT.
-pub fn write_named<P: PredLists, S: Sink>(
+pub fn write_named<P: PredLists, C: CoefList<Coef = Coef>, D: CoefList<Coef = CpitCoef>, S: Sink>(
     alloc: Global,
     name: TextName,
-    instance: &Instance<P>,
-    cpit: &Cpit,
+    instance: &Instance<P, C>,
+    cpit: &Cpit<D>,
     sink: &mut S,
 ) -> Result<(), WriteFault>
-    requires valid { IsValid (seen P.lists instance.now) }
-    requires cpit { cpit.now ≡ cpit_of (seen P.lists instance.now) }
-    ensures writes { Writes (text_named name (seen P.lists instance.now))
+    requires valid { IsValid (seen P.lists C.list instance.now) }
+    requires cpit { cpit.now ≡ cpit_of (seen P.lists C.list instance.now) }
+    ensures writes { Writes (text_named name (seen P.lists C.list instance.now))
         (S.state sink.old) (S.state sink.new) result }
-    ensures kept { OnOk result (kept_named name (seen P.lists instance.now)) }
+    ensures kept { OnOk result (kept_named name (seen P.lists C.list instance.now)) }
 {
     match name {
         TextName::Blocks => write_blocks(alloc, instance, sink),

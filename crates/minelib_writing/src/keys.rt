@@ -13,7 +13,8 @@ use crate::fields::{put_decimal_to, put_text, put_whole_to};
 use devices::sink::Sink;
 use devices::slices::flush_full;
 use devices::write_fault::WriteFault;
-use mine_instance::cpit::Cpit;
+use mine_instance::coef_list::CoefList;
+use mine_instance::cpit::{Cpit, CpitCoef};
 use mine_instance::instance::Instance;
 use minelib_lines::header_key::HeaderKey;
 use pit_units::Dec;
@@ -33,7 +34,7 @@ pub struct KeyValues<'a> {
 
 impl<'a> KeyValues<'a> {
     /// Of an instance, where TYPE names the problem so.
-    pub fn of_instance<P>(problem: &'a [u8], instance: &'a Instance<P>) -> KeyValues<'a>
+    pub fn of_instance<P, C>(problem: &'a [u8], instance: &'a Instance<P, C>) -> KeyValues<'a>
         ensures values { value_in result
             ≡ key_value problem.now (length instance.now.blocks) (header_of instance.now) }
         ensures kept { is_name instance.now.name ≡ true }
@@ -50,7 +51,10 @@ impl<'a> KeyValues<'a> {
     }
 
     /// Of a CPIT, which has one destination.
-    pub fn of_cpit(problem: &'a [u8], cpit: &'a Cpit) -> KeyValues<'a>
+    pub fn of_cpit<C: CoefList<Coef = CpitCoef>>(
+        problem: &'a [u8],
+        cpit: &'a Cpit<C>,
+    ) -> KeyValues<'a>
         ensures values { value_in result
             ≡ key_value problem.now (length cpit.now.values) (header_of_cpit cpit.now) }
         ensures kept { is_name cpit.now.name ≡ true }

@@ -3,7 +3,6 @@
 
 mod block_sections;
 mod coef_lines;
-mod coef_list;
 mod fields;
 mod files;
 mod id_text;

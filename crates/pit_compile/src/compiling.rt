@@ -19,9 +19,9 @@ use crate::refusal::Refusal;
 use crate::settings::{Budget, require_settings};
 use devices::feed::Feed;
 use lane::Gathered;
-use mine_instance::build_cpit;
 use mine_instance::cpit::Cpit;
 use mine_instance::instance::Instance;
+use mine_instance::{FoundCoefs, PackedCoefs, build_packed};
 use pit_parts::destination::Destination;
 use pit_parts::plan::Plan;
 use precedence::FoundPreds;
@@ -38,10 +38,10 @@ use zone_csv::laws::zone_files;
 pub struct Compiled {
     /// What went through the lane.
     pub gathered: Gathered,
-    /// The instance of the model, whose predecessors are found when they are asked for.
-    pub instance: Instance<FoundPreds>,
+    /// The instance of the model, whose predecessors and coefficients are found when they are asked for.
+    pub instance: Instance<FoundPreds, FoundCoefs>,
     /// Its constrained pit limit problem.
-    pub cpit: Cpit,
+    pub cpit: Cpit<PackedCoefs>,
 }
 
 /// Reads and values the zone files over threads, and builds the instance of the plan and these files. No more threads are
@@ -126,7 +126,7 @@ fn compiled_of<F: Feed>(
     }
     let rows = collect(alloc, &gathered, plan, items)?;
     let instance = instance_of(alloc, rows, plan)?;
-    let cpit = build_cpit(alloc, &instance)?;
+    let cpit = build_packed(alloc, &instance)?;
     Ok(Compiled {
         gathered,
         instance,

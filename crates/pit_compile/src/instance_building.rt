@@ -12,13 +12,13 @@ use crate::numbered::numbered;
 use crate::refusal::Refusal;
 use mine_instance::instance::Instance;
 use mine_instance::values::Values;
-use mine_instance::{build_with, values_in_order};
+use mine_instance::{FoundCoefs, build_with, values_in_order};
 use pit_parts::plan::Plan;
 use precedence::FoundPreds;
 use rows::RowLists;
 use std::alloc::Global;
 
-/// The instance of these rows, whose predecessors are found when they are asked for. The rows of each file are given up as soon as
+/// The instance of these rows, whose predecessors and coefficients are found when they are asked for. The rows of each file are given up as soon as
 /// their values are taken.
 ///
 /// # Errors
@@ -29,7 +29,7 @@ pub fn instance_of(
     alloc: Global,
     rows: RowLists,
     plan: &Plan,
-) -> Result<Instance<FoundPreds>, Refusal>
+) -> Result<Instance<FoundPreds, FoundCoefs>, Refusal>
     requires { AreModelRows plan.now rows }
     ensures apart { IfOk result (λ _. AreApart (blocks_of_rows rows)) }
     ensures value { IfOk result (λ built. built ≡ instance plan.now (blocks_of_rows rows)) }
@@ -37,7 +37,8 @@ pub fn instance_of(
     ensures refused { IfErr result (IsRepeat rows) }
 {
     let numbering = numbered(alloc, &rows)?;
-    let listed = values_in_order(alloc, rows, plan)?;
+    let room = Vec::with_capacity(alloc, rows.len() * plan.formulas().len())?;
+    let listed = values_in_order(room, rows, plan);
     let preds = FoundPreds::new(alloc, &numbering, plan)?;
     let (blocks, positions) = numbering.into_parts();
     let values = Values::by_position(listed, positions);

@@ -12,7 +12,9 @@ use crate::refusal::Refusal;
 use crate::sinks::Sinks;
 use devices::sink::Sink;
 use devices::write_fault::WriteFault;
-use mine_instance::cpit::Cpit;
+use mine_instance::coef::Coef;
+use mine_instance::coef_list::CoefList;
+use mine_instance::cpit::{Cpit, CpitCoef};
 use mine_instance::instance::Instance;
 use minelib_writing::text_name::TextName;
 use minelib_writing::write_named;
@@ -28,18 +30,18 @@ use std::alloc::Global;
 ///
 /// The sinks before that one hold their texts. That one is as it was, or begun with a front of its text. Those behind
 /// it are as they were.
-pub fn write_texts<P: PredLists, S: Sink>(
+pub fn write_texts<P: PredLists, C: CoefList<Coef = Coef>, D: CoefList<Coef = CpitCoef>, S: Sink>(
     alloc: Global,
-    instance: &Instance<P>,
-    problem: &Cpit,
+    instance: &Instance<P, C>,
+    problem: &Cpit<D>,
     sinks: &mut Sinks<S>,
 ) -> Result<(), Refusal>
-    requires valid { IsValid (seen P.lists instance.now) }
-    requires problem { problem.now ≡ cpit (seen P.lists instance.now) }
+    requires valid { IsValid (seen P.lists C.list instance.now) }
+    requires problem { problem.now ≡ cpit (seen P.lists C.list instance.now) }
     ensures written { let told = all_told S.state in
-        OnOk result (AreWritten (seen P.lists instance.now) (told sinks.old) (told sinks.new)) }
+        OnOk result (AreWritten (seen P.lists C.list instance.now) (told sinks.old) (told sinks.new)) }
     ensures refused { let told = all_told S.state in
-        IfErr result (AreCutOff (seen P.lists instance.now) (told sinks.old) (told sinks.new)) }
+        IfErr result (AreCutOff (seen P.lists C.list instance.now) (told sinks.old) (told sinks.new)) }
 {
     for name in TextName::all() {
         in_sink(

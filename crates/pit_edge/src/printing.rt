@@ -9,7 +9,9 @@ ghost use Rattle.pit_edge.specs.Sections.{printed, section};
 
 use devices::section_sink::SectionSink;
 use devices::write_fault::WriteFault;
-use mine_instance::cpit::Cpit;
+use mine_instance::coef::Coef;
+use mine_instance::coef_list::CoefList;
+use mine_instance::cpit::{Cpit, CpitCoef};
 use mine_instance::instance::Instance;
 use minelib_writing::text_name::TextName;
 use minelib_writing::write_named;
@@ -18,16 +20,16 @@ use std::alloc::{AllocError, Global};
 use std::mem::replace;
 
 /// Appends the texts of an instance, each under its section line. Fails only where memory is refused, and then `out` is as it was.
-pub fn print<P: PredLists>(
+pub fn print<P: PredLists, C: CoefList<Coef = Coef>, D: CoefList<Coef = CpitCoef>>(
     alloc: Global,
-    instance: &Instance<P>,
-    cpit: &Cpit,
+    instance: &Instance<P, C>,
+    cpit: &Cpit<D>,
     out: &mut Vec<u8>,
 ) -> Result<(), AllocError>
-    requires valid { IsValid (seen P.lists instance.now) }
-    requires cpit { cpit.now ≡ cpit_of (seen P.lists instance.now) }
+    requires valid { IsValid (seen P.lists C.list instance.now) }
+    requires cpit { cpit.now ≡ cpit_of (seen P.lists C.list instance.now) }
     ensures ok { OnOk result
-        (out.new.items ≡ out.old.items ++ printed (seen P.lists instance.now)) }
+        (out.new.items ≡ out.old.items ++ printed (seen P.lists C.list instance.now)) }
     ensures err { OnErr result (out.new.items ≡ out.old.items) }
 {
     let kept = out.len();
@@ -42,16 +44,16 @@ pub fn print<P: PredLists>(
 }
 
 // The same behind what a sink holds. Where it is refused, what stood before stands at the front.
-fn print_sections<P: PredLists>(
+fn print_sections<P: PredLists, C: CoefList<Coef = Coef>, D: CoefList<Coef = CpitCoef>>(
     alloc: Global,
-    instance: &Instance<P>,
-    cpit: &Cpit,
+    instance: &Instance<P, C>,
+    cpit: &Cpit<D>,
     sink: &mut SectionSink,
 ) -> Result<(), WriteFault>
-    requires valid { IsValid (seen P.lists instance.now) }
-    requires cpit { cpit.now ≡ cpit_of (seen P.lists instance.now) }
+    requires valid { IsValid (seen P.lists C.list instance.now) }
+    requires cpit { cpit.now ≡ cpit_of (seen P.lists C.list instance.now) }
     ensures ok { OnOk result (sink.new.before ++ sink.new.taken
-        ≡ (sink.old.before ++ sink.old.taken) ++ printed (seen P.lists instance.now)) }
+        ≡ (sink.old.before ++ sink.old.taken) ++ printed (seen P.lists C.list instance.now)) }
     ensures err { OnErr result (take (length sink.old.before) sink.new.before ≡ sink.old.before) }
 {
     for name in TextName::all() {
@@ -61,18 +63,18 @@ fn print_sections<P: PredLists>(
 }
 
 // The same of the text of this name alone.
-fn print_section<P: PredLists>(
+fn print_section<P: PredLists, C: CoefList<Coef = Coef>, D: CoefList<Coef = CpitCoef>>(
     alloc: Global,
     name: TextName,
-    instance: &Instance<P>,
-    cpit: &Cpit,
+    instance: &Instance<P, C>,
+    cpit: &Cpit<D>,
     sink: &mut SectionSink,
 ) -> Result<(), WriteFault>
-    requires valid { IsValid (seen P.lists instance.now) }
-    requires cpit { cpit.now ≡ cpit_of (seen P.lists instance.now) }
+    requires valid { IsValid (seen P.lists C.list instance.now) }
+    requires cpit { cpit.now ≡ cpit_of (seen P.lists C.list instance.now) }
     ensures ok { OnOk result (sink.new.before ++ sink.new.taken
         ≡ (sink.old.before ++ sink.old.taken)
-        ++ section (ending_of name) (text_named name (seen P.lists instance.now))) }
+        ++ section (ending_of name) (text_named name (seen P.lists C.list instance.now))) }
     ensures front { take (length sink.old.before) sink.new.before ≡ sink.old.before }
 {
     let line = format!(in alloc; "== {name}\n")?;

@@ -25,11 +25,6 @@ abbrev pub EachField : List (List ℕ) → Type 0
 EachField [] = Unit {0}
 EachField (field ∷ fields) = IsField field × EachField fields
 
--- the fields of a line
-pub record AreFields (fields : List (List ℕ)) : Type 0 where
-  pub some : 0 < length fields
-  pub each : EachField fields
-
 -- a line that is read, of such bytes
 pub record IsLine (line : List ℕ) : Type 0 where
   pub inner : list_all is_inner line ≡ true

@@ -2,7 +2,9 @@
 
 ghost use Rattle.std.specs.Prelude.{◌<◌, length};
 
+use mine_instance::FoundCoefs;
 use mine_instance::coef::{Coef, Coefs};
+use mine_instance::coef_list::CoefList;
 use pit_parts::block::Block;
 use pit_parts::ranges::MAX_BLOCKS;
 use pit_units::Dec;
@@ -19,7 +21,7 @@ const CASES: [(&[u64], &[(u8, u8)]); 6] = [
     (&[0, 1_000_000_000], &[(7, 7), (0, 0)]),
 ];
 
-fn found(alloc: Global, kilograms: &[u64], pairs: &[(u8, u8)]) -> Result<Coefs, Fail> {
+fn found(alloc: Global, kilograms: &[u64], pairs: &[(u8, u8)]) -> Result<FoundCoefs, Fail> {
     let mut blocks = Vec::new(alloc);
     for kg in kilograms {
         blocks.push(Block::new(0, 0, 0, *kg, 0, 0).ok_or("a block")?)?;
@@ -28,7 +30,7 @@ fn found(alloc: Global, kilograms: &[u64], pairs: &[(u8, u8)]) -> Result<Coefs, 
         return Err("a few")?;
     }
     let pairs = Vec::from_slice(alloc, pairs)?;
-    Ok(Coefs::of_blocks(alloc, pairs, blocks.as_slice())?)
+    Ok(FoundCoefs::new(alloc, pairs, blocks.as_slice())?)
 }
 
 fn listed(alloc: Global, kilograms: &[u64], pairs: &[(u8, u8)]) -> Result<Coefs, Fail> {
@@ -52,15 +54,20 @@ fn list(coefs: &mut Vec<Coef>, b: u32, kg: u64, pairs: &[(u8, u8)]) -> Result<()
     Ok(())
 }
 
-fn piece(alloc: Global, coefs: &Coefs, from: usize, most: usize) -> Result<Vec<Coef>, Fail>
-    requires { from < length coefs.now }
+fn piece<C: CoefList<Coef = Coef>>(
+    alloc: Global,
+    coefs: &C,
+    from: usize,
+    most: usize,
+) -> Result<Vec<Coef>, Fail>
+    requires { from < length (C.list coefs.now) }
 {
     let mut piece = Vec::new(alloc);
     coefs.put_some(from, most, &mut piece)?;
     Ok(piece)
 }
 
-fn agree_from(alloc: Global, one: &Coefs, other: &Coefs, from: usize) -> Result<bool, Fail>
+fn agree_from(alloc: Global, one: &FoundCoefs, other: &Coefs, from: usize) -> Result<bool, Fail>
     requires one { from < length one.now }
     requires other { from < length other.now }
 {
@@ -75,7 +82,7 @@ fn agree_from(alloc: Global, one: &Coefs, other: &Coefs, from: usize) -> Result<
     Ok(one.at(from) == other.at(from))
 }
 
-fn agree(alloc: Global, one: &Coefs, other: &Coefs) -> Result<bool, Fail> {
+fn agree(alloc: Global, one: &FoundCoefs, other: &Coefs) -> Result<bool, Fail> {
     if one.len() != other.len() {
         return Ok(false);
     }

@@ -7,14 +7,15 @@ ghost use Rattle.precedence.specs.Cone.{HasZones};
 ghost use Rattle.rows.specs.Valued.{worths_by};
 
 use super::are_millionths;
-use mine_instance::coef::Coefs;
-use mine_instance::cpit::Cpit;
-use mine_instance::cpit_coefs::CpitCoefs;
+use mine_instance::coef::Coef;
+use mine_instance::cpit::{Cpit, CpitCoef};
 use mine_instance::instance::Instance;
 use mine_instance::{build, build_cpit, is_valid};
 use pit_model::plan::Plan;
 use pit_model::read_plan;
 use pit_parts::block::Block;
+use pit_parts::limit::{Bound, Limit};
+use pit_units::Dec;
 use precedence::{Numbering, number, preds};
 use rows::{Valued, Worths};
 use std::alloc::Global;
@@ -99,12 +100,10 @@ fn has_values(instance: &Instance, id: usize, millionths: &[i128]) -> bool {
     id < instance.values.len() && are_millionths(instance.values.of(id), millionths)
 }
 
-fn is_coef(coefs: &Coefs, b: u32, d: u8, r: u8, millionths: i128) -> bool {
-    if coefs.len() != 1 {
-        return false;
-    }
-    let coef = coefs.at(0);
-    (coef.b, coef.d, coef.r, coef.v.millionths()) == (b, d, r, millionths)
+// A coefficient of so many tonnes.
+fn coef(b: u32, d: u8, r: u8, tonnes: u32) -> Option<Coef> {
+    let v = Dec::new(i128::from(tonnes) * 1_000_000)?;
+    Some(Coef { b, d, r, v })
 }
 
 #[test]
@@ -114,7 +113,96 @@ fn limits_and_coefficients(rt: HostRuntime) -> Result<(), Fail> {
     assert_eq!(rt; counts(&instance), (2, 0, 1, 2));
     assert!(rt; has_values(&instance, 0, &[12_000_000_000, -2_000_000_000]));
     assert!(rt; has_values(&instance, 1, &[0, 0]));
-    assert!(rt; is_coef(&instance.coefs, 0, 0, 0, 1_000_000_000));
+    let coef = coef(0, 0, 0, 1000).ok_or("a coefficient")?;
+    assert!(rt; instance.coefs.as_slice() == [coef]);
+    Ok(())
+}
+
+// A plan of a mill and a dump: a resource that covers both, and one that covers the dump.
+const BOTH: &[u8] =
+    b"name,one\ngrid,0,0,0,10,10,10\nzone,1,1,1\nmill,mill,900,600,1500\ndump,dump,200\nperiods,2\nrate,0.1\nresource,plant,mill,dump\nresource,trucks,dump\nlimit,plant,1,I,0,900\nlimit,plant,0,L,500.5\n";
+
+// Two blocks of ore, one above the other, the upper one first.
+fn two_ores(plan: &Plan) -> Option<[Valued; 2]>
+    ensures { IfSome result
+        (λ rows. All (λ row. row.worths ≡ worths_by (formulas_of_plan plan.now) row.block) rows) }
+{
+    let [lower, upper] = ores()?;
+    Some([row(plan, 0, upper)?, row(plan, 1, lower)?])
+}
+
+fn ores() -> Option<[Block; 2]> {
+    Some([
+        Block::new(0, 0, 0, 1_000_000, 5_000_000_000, 0)?,
+        Block::new(0, 0, 1, 2_000_000, 5_000_000_000, 0)?,
+    ])
+}
+
+// The coefficients of the two at both destinations, by block, destination and resource.
+fn all_coefs() -> Option<[Coef; 6]> {
+    Some([
+        coef(0, 0, 0, 1000)?,
+        coef(0, 1, 0, 1000)?,
+        coef(0, 1, 1, 1000)?,
+        coef(1, 0, 0, 2000)?,
+        coef(1, 1, 0, 2000)?,
+        coef(1, 1, 1, 2000)?,
+    ])
+}
+
+// Those of the CPIT, where both go to the mill.
+fn mill_coefs() -> Option<[CpitCoef; 2]> {
+    let (lower, upper) = (coef(0, 0, 0, 1000)?, coef(1, 0, 0, 2000)?);
+    Some([
+        CpitCoef {
+            b: lower.b,
+            r: lower.r,
+            v: lower.v,
+        },
+        CpitCoef {
+            b: upper.b,
+            r: upper.r,
+            v: upper.v,
+        },
+    ])
+}
+
+fn limits() -> Option<[Limit; 2]> {
+    Some([
+        Limit {
+            resource: 0,
+            period: 0,
+            bound: Bound::AtMost(Dec::new(500_500_000)?),
+        },
+        Limit {
+            resource: 0,
+            period: 1,
+            bound: Bound::Between(Dec::new(0)?, Dec::new(900_000_000)?),
+        },
+    ])
+}
+
+fn has_preds(instance: &Instance, id: usize, list: &[u32]) -> bool {
+    id < instance.preds.len() && id < 2 && instance.preds.of(id as u32) == list
+}
+
+// What is built lends each of its lists.
+#[test]
+fn built_lists_are_lent(rt: HostRuntime) -> Result<(), Fail> {
+    let alloc = rt.alloc();
+    let plan = read_plan(alloc, BOTH)?;
+    let rows = two_ores(&plan).ok_or("rows")?;
+    let instance = built_of(alloc, &plan, &rows)?;
+    assert!(rt; instance.blocks.as_slice() == ores().ok_or("blocks")?);
+    assert!(rt; has_preds(&instance, 0, &[1]) && has_preds(&instance, 1, &[]));
+    assert!(rt; has_values(&instance, 0, &[12_000_000_000, -2_000_000_000]));
+    assert!(rt; has_values(&instance, 1, &[24_000_000_000, -4_000_000_000]));
+    assert!(rt; instance.coefs.as_slice() == all_coefs().ok_or("coefficients")?);
+    assert!(rt; instance.limits.as_slice() == limits().ok_or("limits")?);
+    let cpit = build_cpit(alloc, &instance)?;
+    assert!(rt; are_millionths(cpit.values(), &[12_000_000_000, 24_000_000_000]));
+    assert!(rt; cpit.coefs() == mill_coefs().ok_or("coefficients")?);
+    assert!(rt; cpit.limits() == limits().ok_or("limits")?);
     Ok(())
 }
 
@@ -146,11 +234,10 @@ fn cpit_of(alloc: Global, text: &[u8], kg: u64) -> Result<Cpit, Fail> {
 }
 
 // Whether the one block takes so many millionths of the one resource, or nothing.
-fn takes(coefs: &CpitCoefs, millionths: Option<i128>) -> bool {
-    match (coefs.len(), millionths) {
-        (0, None) => true,
-        (1, Some(millionths)) => {
-            let coef = coefs.at(0);
+fn takes(coefs: &[CpitCoef], millionths: Option<i128>) -> bool {
+    match (coefs, millionths) {
+        ([], None) => true,
+        ([coef], Some(millionths)) => {
             (coef.b, coef.r, coef.v.millionths()) == (0, 0, millionths)
         }
         _ => false,

@@ -13,8 +13,8 @@ returns g c =
     let coefs : c.in_ok-coefs.coefs ≡ coefs_of (covered plan) blocks =
     c.in_ok-coefs.ensures ∙ (λ j. coefs_of (c.in_ok-pairs.ensures.pairs j) (c.as_slice.ensures.value j)) in
     let built = built_is plan blocks _ _ _ _ _ _ _ _ _ _ (c.in_ok-name.ensures ∙ c.name.ensures.value) c.rate.ensures.value
-    c.periods.ensures.value (ap length c.formulas.ensures.value) (ap length c.resources.ensures.value) c.new.ensures c.requires.preds
-    c.requires.values coefs (c.new-2.ensures ∙ c.in_ok-limits.ensures.items ∙ c.limits.ensures.value) in
+    c.periods.ensures.value (ap length c.formulas.ensures.value) (ap length c.resources.ensures.value) c.new-2.ensures c.requires.preds
+    c.requires.values coefs (c.new-3.ensures ∙ c.in_ok-limits.ensures.items ∙ c.limits.ensures.value) in
     let P : Instance → Type 0 = λ i. IsValid i in
     record {
       value = λ listed n numbered same. built ∙ ap (instance_of plan) (sym (by_identifier_is listed n numbered ∙ same));

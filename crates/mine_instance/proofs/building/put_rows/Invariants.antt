@@ -1,4 +1,4 @@
-use Rattle.std.proofs.Common.{◌≡◌, ◌++◌, take}
+use Rattle.std.proofs.Common.{◌≡◌, ◌≤◌, ◌++◌, take, vec_capacity}
 use Rattle.std.specs.List.{flat_map}
 use Rattle.precedence.specs.Identifier.{blocks_of_rows}
 use Rattle.mine_instance.specs.OfModel.{values_of}
@@ -6,4 +6,7 @@ use Rattle.mine_instance.proofs.building.put_rows.Given as goal
 
 abbrev pub invariant-loop-position : goal.invariant-loop-position
 invariant-loop-position l =
-    l.all.items ≡ l.initial.all.items ++ flat_map (values_of l.plan) (take l.position (blocks_of_rows l.rows))
+    record {
+      values : l.all.items ≡ l.initial.all.items ++ flat_map (values_of l.plan) (take l.position (blocks_of_rows l.rows));
+      room : vec_capacity l.initial.all ≤ vec_capacity l.all;
+    }

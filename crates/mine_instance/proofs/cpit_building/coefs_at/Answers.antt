@@ -7,16 +7,16 @@ use Rattle.mine_instance.proofs.CpitFacts.{chosen_more}
 use Rattle.mine_instance.proofs.cpit_building.coefs_at.Goals as goal
 
 pub overflow_add-from : goal.overflow_add-from
-overflow_add-from c =
-    let rest = drop c.loop-from.from c.args.coefs.now in
-    let long = length-drop c.loop-from.from c.args.coefs.now in
+overflow_add-from g c =
+    let rest = drop c.loop-from.from (g.C.CoefList.list c.args.coefs.now) in
+    let long = length-drop c.loop-from.from (g.C.CoefList.list c.args.coefs.now) in
     let most = length-take 512 rest in
     let piece = ap length c.in_ok-next_piece.ensures in
-    omega (arith, c.len-from.ensures, c.next_piece.new.piece.ok, piece, c.loop-from.invariant.within, c.len-in-loop-from.ensures)
+    omega (arith, c.len-from.ensures, c.next_piece.new.piece.ok, piece, c.loop-from.invariant.within, c.len.ensures)
 
 pub loop-from-preserved : goal.loop-from-preserved
-loop-from-preserved c =
-    let all = c.args.coefs.now in
+loop-from-preserved g c =
+    let all = (g.C.CoefList.list c.args.coefs.now) in
     let from = c.loop-from.from in
     let at_block = is_at c.args.destinations.now in
     let piece = c.in_ok-next_piece.ensures in

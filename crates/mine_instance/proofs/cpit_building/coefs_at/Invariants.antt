@@ -6,10 +6,10 @@ use Rattle.mine_instance.proofs.cpit_building.coefs_at.Given as goal
 
 -- Those so far that are at their blocks' destinations are chosen.
 abbrev pub invariant-loop-from : goal.invariant-loop-from
-invariant-loop-from l = record {
-  within : l.from ≤ length l.coefs;
-  chosen : l.chosen ≡ map without_destination (filter (is_at l.destinations) (take l.from l.coefs));
+invariant-loop-from g l = record {
+  within : l.from ≤ length (g.C.CoefList.list l.coefs);
+  chosen : l.chosen.items ≡ map without_destination (filter (is_at l.destinations) (take l.from (g.C.CoefList.list l.coefs)));
 }
 
 abbrev pub decreases-loop-from : goal.decreases-loop-from
-decreases-loop-from l = length l.coefs - l.from
+decreases-loop-from g l = length (g.C.CoefList.list l.coefs) - l.from

@@ -6,4 +6,4 @@ use Rattle.mine_instance.proofs.cpit_building.put_chosen.Given as goal
 
 abbrev pub invariant-loop-coef : goal.invariant-loop-coef
 invariant-loop-coef l =
-    l.chosen ≡ l.initial.chosen ++ map without_destination (filter (is_at l.destinations) (take l.coef-index l.coefs))
+    l.chosen.items ≡ l.initial.chosen.items ++ map without_destination (filter (is_at l.destinations) (take l.coef-index l.coefs))

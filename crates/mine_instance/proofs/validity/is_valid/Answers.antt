@@ -12,8 +12,8 @@ returns c = (
     preds = rw c.blocks_len-count.ensures at (c.are_preds.ensures.0 c.if-not-are_preds.false);
     horizon = c.is_horizon.ensures.0 c.if-not-is_horizon.false;
     destinations = c.has_destinations.ensures.0 c.if-not-has_destinations.false;
-    coefs = rw c.blocks_len-count.ensures at (c.are_coefs.ensures.0 c.if-not-are_coefs.false);
-    limits = rw c.as_slice.ensures at (c.are_limits.ensures.0 t);
+    coefs = rw (c.blocks_len-count.ensures, c.as_slice.ensures) at (c.are_coefs.ensures.0 c.if-not-are_coefs.false);
+    limits = rw c.as_slice-2.ensures at (c.are_limits.ensures.0 t);
   },
-  λ v. c.are_limits.ensures.1 (rw c.as_slice.ensures v.limits),
+  λ v. c.are_limits.ensures.1 (rw c.as_slice-2.ensures v.limits),
 )

@@ -4,12 +4,15 @@ use super::{CPIT, LIMITED, NINE_ABOVE, PCPSP, PREC, Texts, instance_of, is_text}
 use crate::tests::are_millionths;
 use devices::mem_sink::MemSink;
 use devices::write_fault::WriteFault;
-use mine_instance::cpit::Cpit;
+use mine_instance::coef::Coef;
+use mine_instance::cpit::{Cpit, CpitCoef};
 use mine_instance::instance::Instance;
 use minelib_reading::read_cpit;
 use minelib_writing::text_name::TextName;
 use minelib_writing::write_cpit;
 use pit_parts::block::Block;
+use pit_parts::limit::{Bound, Limit};
+use pit_units::Dec;
 use std::alloc::Global;
 use std::test::Fail;
 
@@ -151,7 +154,7 @@ fn cpit_destinations(rt: HostRuntime) -> Result<(), Fail> {
     Ok(())
 }
 
-// Coefficients that are no whole kilograms below 2^32.
+// Coefficients that a run does not have: no whole kilograms, too many, less than none.
 const OTHER_TONNES: [&str; 3] = ["1 0 0.0001\n", "1 0 4294967.296\n", "1 0 -0.001\n"];
 
 // Such a coefficient among others, by the lines of its CPIT.
@@ -175,7 +178,7 @@ fn lines_with(tonnes: &'static str) -> [&'static str; 15] {
     ]
 }
 
-// A coefficient that cannot be packed stands behind those that can, and before those that could.
+// Such a coefficient stands among others.
 #[test]
 fn other_tonnes(rt: HostRuntime) -> Result<(), Fail> {
     for tonnes in OTHER_TONNES {
@@ -184,5 +187,67 @@ fn other_tonnes(rt: HostRuntime) -> Result<(), Fail> {
         assert_eq!(rt; cpit.coefs_len(), 4);
         assert!(rt; is_cpit_text(rt.alloc(), &cpit, &lines)?, "{tonnes}");
     }
+    Ok(())
+}
+
+// Those of AT_THE_EDGE, with their destinations.
+fn edge_coefs() -> Option<[Coef; 2]> {
+    Some([
+        Coef {
+            b: 0,
+            d: 0,
+            r: 7,
+            v: Dec::new(-1_000_000)?,
+        },
+        Coef {
+            b: 2,
+            d: 0,
+            r: 0,
+            v: Dec::new(0)?,
+        },
+    ])
+}
+
+fn edge_limits() -> Option<[Limit; 2]> {
+    let two_below = Dec::new(-2_000_000)?;
+    Some([
+        Limit {
+            resource: 0,
+            period: 99,
+            bound: Bound::AtLeast(Dec::new(-5_000_000)?),
+        },
+        Limit {
+            resource: 7,
+            period: 0,
+            bound: Bound::Between(two_below, two_below),
+        },
+    ])
+}
+
+// A coefficient of a CPIT of so many millionths of a tonne.
+fn cpit_coef(b: u32, r: u8, millionths: i128) -> Option<CpitCoef> {
+    let v = Dec::new(millionths)?;
+    Some(CpitCoef { b, r, v })
+}
+
+// Those of the CPIT with a coefficient of 0.0001 tonnes among others.
+fn cpit_coefs() -> Option<[CpitCoef; 4]> {
+    Some([
+        cpit_coef(0, 1, 1_000)?,
+        cpit_coef(0, 2, 4_294_967_295_000)?,
+        cpit_coef(1, 0, 100)?,
+        cpit_coef(1, 2, 7_000_000)?,
+    ])
+}
+
+// What is read lends each of its lists; `nine_above` has blocks, predecessors and values.
+#[test]
+fn read_lists_are_lent(rt: HostRuntime) -> Result<(), Fail> {
+    let instance = instance_of(rt.alloc(), AT_THE_EDGE)?;
+    assert!(rt; instance.coefs.as_slice() == edge_coefs().ok_or("coefficients")?);
+    assert!(rt; instance.limits.as_slice() == edge_limits().ok_or("limits")?);
+    let cpit = cpit_of(rt.alloc(), &lines_with("1 0 0.0001\n"))?;
+    assert!(rt; cpit.coefs() == cpit_coefs().ok_or("coefficients")?);
+    assert_eq!(rt; cpit.limits().len(), 0);
     Ok(())
 }

@@ -20,8 +20,8 @@ by_position-values-requires c =
     let blocks = blocks_of_rows c.args.rows in
     let numbering = c.in_ok-numbering.numbering in
     let parts = c.into_parts-blocks in
-    let count : length numbering.blocks ≡ length c.in_ok-listed.listed =
-    c.in_ok-numbering.ensures.numbering.blocks ∙ sym (ap length c.in_ok-listed.ensures ∙ length-map blocks (values_of c.args.plan.now)) in
+    let count : length numbering.blocks ≡ length c.values_in_order-listed.result =
+    c.in_ok-numbering.ensures.numbering.blocks ∙ sym (ap length c.values_in_order-listed.ensures ∙ length-map blocks (values_of c.args.plan.now)) in
     let Within : ℕ → List ℕ → Type 0 = λ n ps. All (λ p. p < n) ps in
     subst (λ n. Within n parts.result.1.items) count
     (subst (Within (length numbering.blocks)) (sym parts.ensures.positions) parts.ensures.within)

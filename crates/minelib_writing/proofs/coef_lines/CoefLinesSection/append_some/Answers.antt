@@ -15,7 +15,7 @@ put_coefs-requires g c =
     let rest = drop c.args.index all in
     let within : c.args.index < length all = rw length-lines_from at c.requires in
     let piece : c.as_slice.result.now ≡ take 512 rest =
-    c.as_slice.ensures.value ∙ c.in_ok-put_some.ensures ∙ ap (λ front. front ++ take 512 rest) c.in_ok-piece.ensures.items in
+    c.as_slice.ensures.value ∙ c.in_ok-put_some.ensures.put ∙ ap (λ front. front ++ take 512 rest) c.in_ok-piece.ensures.items in
     omega (arith, within, ap length piece, length-take 512 rest, length-drop c.args.index all)
 
 pub returns : goal.returns
@@ -24,7 +24,7 @@ returns g c =
     let rest = drop c.args.index all in
     let within : c.args.index < length all = rw length-lines_from at c.requires in
     let piece : c.put_some.new.piece.items ≡ take 512 rest =
-    c.in_ok-put_some.ensures ∙ ap (λ front. front ++ take 512 rest) c.in_ok-piece.ensures.items in
+    c.in_ok-put_some.ensures.put ∙ ap (λ front. front ++ take 512 rest) c.in_ok-piece.ensures.items in
     let count : c.len.result ≡ length (take 512 rest) = omega (arith, c.len.ensures, c.put_some.new.piece.ok, ap length piece) in
     let same : c.as_slice.result.now ≡ take c.len.result rest =
     c.as_slice.ensures.value ∙ piece ∙ sym (ap (λ n. take n rest) count ∙ take_length rest 512) in

@@ -19,7 +19,7 @@ returns g c =
     let sections = section_lines (lines_from cpit_value_fields 0 i.values) (lines_from cpit_coef_fields 0 i.coefs) limits in
     let first = rw (c.of_cpit.ensures.values, c.type_text.ensures, c.keys.ensures) at c.in_ok-write_keys.ensures in
     let whole = goes_on _ _ keys sections c.write_sections.result first
-    (rw (c.values.ensures.value, c.coefs.ensures.value, c.limits.ensures.value) at c.write_sections.ensures.writes) in
+    (rw (c.values.ensures.value, c.coef_list.ensures.value, c.limits.ensures.value) at c.write_sections.ensures.writes) in
     record {
       writes = whole;
       kept = on_ok_three c.write_sections.result
@@ -32,7 +32,7 @@ returns g c =
             },
             c.values.ensures.kept,
           ))
-          (rw c.values.ensures.value at c.write_sections.ensures.values) (rw c.coefs.ensures.value at c.write_sections.ensures.coefs)
+          (rw c.values.ensures.value at c.write_sections.ensures.values) (rw c.coef_list.ensures.value at c.write_sections.ensures.coefs)
           (rw c.limits.ensures.value at c.write_sections.ensures.limits);
     }
 

@@ -16,7 +16,7 @@ returns g c =
     let i = c.args.self.now.instance.now in
     let keys = key_lines (key_value (type_text Pcpsp) (length i.blocks) (header_of i)) (keys_of Pcpsp) in
     let limits = lines_from limit_fields 0 i.limits in
-    let sections = section_lines (lines_from value_fields 0 i.values) (lines_from (coef_fields Pcpsp) 0 i.coefs) limits in
+    let sections = section_lines (lines_from value_fields 0 i.values) (lines_from (coef_fields Pcpsp) 0 (g.C.CoefList.list i.coefs)) limits in
     let first = rw (c.of_instance.ensures.values, c.type_text.ensures, c.keys.ensures) at c.in_ok-write_keys.ensures in
     let whole = goes_on _ _ keys sections c.write_sections.result first
     (rw c.as_slice.ensures at c.write_sections.ensures.writes) in
@@ -26,7 +26,7 @@ returns g c =
           (λ values coefs limits. record {
             name = c.of_instance.ensures.kept;
             values = kept_all (λ values. All IsInDecimalRange values) i.values _ (length-lines_from value_fields 0 i.values) values;
-            coefs = kept_all (λ c. IsInDecimalRange c.v) i.coefs _ (length-lines_from (coef_fields Pcpsp) 0 i.coefs) coefs;
+            coefs = kept_all (λ c. IsInDecimalRange c.v) (g.C.CoefList.list i.coefs) _ (length-lines_from (coef_fields Pcpsp) 0 (g.C.CoefList.list i.coefs)) coefs;
             limits = kept_all (λ l. HasDecimals l.bound) i.limits _ (length-lines_from limit_fields 0 i.limits) limits;
           })
           c.write_sections.ensures.values c.write_sections.ensures.coefs

@@ -1,7 +1,7 @@
 use Rattle.std.proofs.Common.{◌∙◌, length, sym, arith}
 use Rattle.std.proofs.lemmas.Option.{slice_get_read}
 use Rattle.mine_instance.proofs.FoundFacts.{coef_there, place_of}
-use Rattle.mine_instance.proofs.found_coefs.FoundCoefs.at.Goals as goal
+use Rattle.mine_instance.proofs.found_coefs.FoundCoefsCoefList.at.Goals as goal
 
 pub nonzero_div-index : goal.nonzero_div-index
 nonzero_div-index c = (place_of c.self.inside c.args.self.now _ c.self.view_is c.len-width.ensures c.args.index c.requires).0
