@@ -64,6 +64,8 @@ def trials():
     for name, texts, counts in COUNTED:
         yield counted(name, texts, counts)
     yield counted("a base with a blank and a point", *COUNTED[0][1:], base="an instance.v2")
+    near = counted("a base of 300 bytes", *COUNTED[0][1:])
+    yield near._replace(words=["check", "./" * 150 + "base"])
     for parts, line in SPOILED:
         files = at("base", spoiled(parts))
         yield refused(f"check {parts}", line, words=["check", "base"], files=files)

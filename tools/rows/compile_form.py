@@ -9,6 +9,9 @@ from shared import ENDINGS
 # Files that are longer than what is written in their place.
 OLDER = at("base", dict.fromkeys(ENDINGS, b"a line of an older file\n" * 100))
 
+# A path of 300 bytes and more, which leads to where it begins.
+FAR = "./" * 150
+
 # As many bytes as a plan may have.
 MOST = 1_048_576
 
@@ -79,6 +82,7 @@ REFUSED = [
     ("the first of two that are not there", "file 0: FeedFailed", "one no/such ."),
     ("a hyphen as a zone file", "file 0: FeedFailed", "one -"),
     ("a zone file without a name", "file 0: FeedFailed", ["one", ""]),
+    ("a path of 300 bytes to no file", "file 1: FeedFailed", ["two", "ore", FAR + "ore.csv"]),
     ("too few files", "settings: Files", "two ore"),
     ("too many files", "settings: Files", "one ore ore"),
     ("a folder as a zone file", "file 0: FeedFailed", "one ."),
@@ -149,6 +153,10 @@ def files_that_are_written():
     yield replaces._replace(files={**replaces.files, "base.blocks": ORE})
     name, base = "a base with a blank and a point", "an instance.v2"
     yield writes(name, "one ore", ONE_ORE_BLOCK, base)
+    far = compile_words("one ore", FAR + "base")
+    far["words"][-2:] = [FAR + "one", FAR + "ore"]
+    left = at("base", ONE_ORE_BLOCK)
+    yield Trial("paths and a base of 300 bytes", out=b"rows 1\n", left=left, **far)
     zones = " ".join(f"many{file}" for file in range(64))
     texts = plain_texts(*MANY)
     for words in ("--valuers 64 --capacity 1", "--valuers 1 --capacity 4096"):
