@@ -66,15 +66,25 @@ fn lane_on_one_thread(rt: HostRuntime) -> Result<(), Fail> {
     Ok(())
 }
 
-// The take end of a lane that holds two rows, the end mark and a Quit.
-fn two_rows<R: Wait>(rt: &R, alloc: Global) -> Result<TakeEnd, Fail> {
-    let (closer, puts, takes) = open(alloc, 1, 1, 4)?;
-    let mut put = only_put(&closer, puts).ok_or("a put end")?;
-    let take = only_take(&closer, takes).ok_or("a take end")?;
-    put.row(rt, ore()?);
-    put.row(rt, Block::new(10, 0, 0, 2_700_000, 0, 0).ok_or("a block")?);
+// Puts two rows and the end mark of the one file of a lane, and ends its taker.
+fn put_two<R: Wait>(rt: &R, closer: Closer, mut put: PutEnd, first: Block, second: Block)
+    requires taker { 1 ≤ closer.takers }
+    requires unsent { put.sent ≡ [] }
+{
+    put.row(rt, first);
+    put.row(rt, second);
     let _ended = put.end(rt);
     closer.quit(rt, 1);
+}
+
+// The take end of a lane that holds two rows, the end mark and a Quit.
+fn two_rows<R: Wait>(rt: &R, alloc: Global) -> Result<TakeEnd, Fail> {
+    let second = Block::new(10, 0, 0, 2_700_000, 0, 0).ok_or("a block")?;
+    let first = ore()?;
+    let (closer, puts, takes) = open(alloc, 1, 1, 4)?;
+    let put = only_put(&closer, puts).ok_or("a put end")?;
+    let take = only_take(&closer, takes).ok_or("a take end")?;
+    put_two(rt, closer, put, first, second);
     Ok(take)
 }
 
@@ -96,23 +106,24 @@ fn packs_the_items<R: Wait>(
     Ok(same)
 }
 
-// Rows of 1, 3 and 8 worths.
+// The same, of rows of so many worths: one for each of so many mills.
+fn packs_worths<R: Wait>(rt: &R, alloc: Global, count: u64) -> Result<bool, Fail>
+    requires { count ≤ 8 }
+{
+    let mut mills = Vec::new(alloc);
+    for cost in 0..count {
+        mills.push(mill(alloc, cost)?)?;
+    }
+    let worths = mills.len();
+    Ok(1 <= worths && worths <= 8 && packs_the_items(rt, alloc, &mills)?)
+}
+
 #[test]
 fn packed_items_are_the_items(rt: HostRuntime) -> Result<(), Fail> {
     let alloc = rt.alloc();
-    let mills = [
-        mill(alloc, 0)?,
-        mill(alloc, 1)?,
-        mill(alloc, 2)?,
-        mill(alloc, 3)?,
-        mill(alloc, 4)?,
-        mill(alloc, 5)?,
-        mill(alloc, 6)?,
-        mill(alloc, 7)?,
-    ];
-    assert!(rt; packs_the_items(&rt, alloc, &mills[..1])?);
-    assert!(rt; packs_the_items(&rt, alloc, &mills[..3])?);
-    assert!(rt; packs_the_items(&rt, alloc, &mills)?);
+    assert!(rt; packs_worths(&rt, alloc, 1)?);
+    assert!(rt; packs_worths(&rt, alloc, 3)?);
+    assert!(rt; packs_worths(&rt, alloc, 8)?);
     Ok(())
 }
 
