@@ -40,6 +40,6 @@ returns-in_err-write_keys-clause-writes g c =
     let i = c.args.self.now.instance.now in
     let keys = key_lines (key_value (type_text Pcpsp) (length i.blocks) (header_of i)) (keys_of Pcpsp) in
     let limits = lines_from limit_fields 0 i.limits in
-    let sections = section_lines (lines_from value_fields 0 i.values) (lines_from (coef_fields Pcpsp) 0 i.coefs) limits in
+    let sections = section_lines (lines_from value_fields 0 i.values) (lines_from (coef_fields Pcpsp) 0 (g.C.CoefList.list i.coefs)) limits in
     let cut = lines_cut_before keys sections (rw (c.of_instance.ensures.values, c.type_text.ensures, c.keys.ensures) at c.in_err-write_keys.ensures) in
     search rules
