@@ -1,3 +1,4 @@
+pub mod BestFacts
 pub mod CoefFacts
 pub mod FieldsWritten
 pub mod KeptFacts

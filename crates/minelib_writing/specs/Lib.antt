@@ -1,3 +1,4 @@
+pub mod TextLaws
 pub mod Texts
 pub mod TextsKept
 pub mod Written

@@ -8,6 +8,7 @@ mod files;
 mod id_text;
 mod item_lines;
 mod keys;
+pub mod laws;
 mod lines;
 mod prec_lines;
 mod schedule;

@@ -1,0 +1,18 @@
+//! Laws of the texts: the call does nothing, and its contract states one.
+
+ghost use Rattle.std.specs.Prelude.{◌≡◌, ◌++◌, [], ◌∷◌, ℤ, List, codes, length};
+ghost use Rattle.std.specs.List.{AllZip};
+ghost use Rattle.mine_instance.specs.Instance.{Instance};
+ghost use Rattle.minelib_lines.specs.KeyWords.{upit_keys};
+ghost use Rattle.minelib_lines.specs.LineValues.{header_of, key_value};
+ghost use Rattle.minelib_lines.specs.Lines.{text_of};
+ghost use Rattle.minelib_writing.specs.TextLaws.{best_lines, IsBest};
+ghost use Rattle.minelib_writing.specs.Written.{key_lines, text_upit};
+
+/// Behind its keys a UPIT file has, for each block, one of the block's values, which none of them exceeds.
+#[tactic(auto, using(crate::proofs::BestFacts::upit_is))]
+pub fn a_upit_has_the_best_values()
+    ensures { (i : Instance) (best : List ℤ) → AllZip IsBest i.values best
+        → text_upit i ≡ text_of (key_lines (key_value (codes "UPIT") (length i.blocks) (header_of i)) upit_keys)
+        ++ ((codes "OBJECTIVE_FUNCTION:" ++ 10 ∷ []) ++ best_lines 0 best) }
+{}
