@@ -5,7 +5,7 @@ The table texts has the faults of their lines.
 from rows.instance import (
     LIMITED_TEXTS, NINE_TEXTS, NO_BLOCK, ONE_ORE_BLOCK, TWO_ZONES, at,
 )
-from rows.trial import Folder, Trial, lines, refused
+from rows.trial import MARK, Folder, Trial, lines, refused
 
 
 def spoiled(parts):
@@ -17,6 +17,34 @@ def spoiled(parts):
             del texts[ending]
     return texts
 
+
+# How many bytes of a file are read at a time.
+PIECE = 262144
+
+
+def across(bytes_before, text, ending="blocks"):
+    """The texts of the one ore block, one of which has this text at the end of the first piece."""
+    comment = b"%" + b"x" * (PIECE - bytes_before - 2) + b"\n"
+    return {**ONE_ORE_BLOCK, ending: comment + text}
+
+
+ONE_LINE = b" 0 0 0 0 1000 5000 0"
+
+# What stands across the end of a piece, by how many bytes of it stand before.
+ACROSS = [
+    (f"{name}, of which the first piece has {before}", across(before, text, ending))
+    for name, ending, text, places in [
+        ("a line", "blocks", ONE_LINE[1:] + b"\n", (0, 1, 7, 20)),
+        ("a last line without an end", "blocks", ONE_LINE[1:], (0, 1, 20)),
+        ("CR LF", "blocks", ONE_LINE[1:] + b"\r\n", (20, 21, 22)),
+        ("CR at the end", "blocks", ONE_LINE[1:] + b"\r", (20, 21)),
+        ("blank lines", "blocks", b"\n \t\r\n\n" + ONE_LINE, (1, 2, 3, 4)),
+        ("a comment", "blocks", b"  % 1\n" + ONE_LINE, (2, 3, 6)),
+        ("a line longer than a piece", "blocks", b" " * 2 * PIECE + ONE_LINE, (0, 1)),
+        ("a line of precedences", "prec", b"0 0\n", (0, 1, 4)),
+    ]
+    for before in places
+]
 
 # An instance, and what is counted.
 COUNTED = [
@@ -33,6 +61,10 @@ COUNTED = [
     *(
         (f"check {parts}", spoiled(parts), "blocks 1 arcs 0 coefficients 0 limits 0 cpit 0")
         for parts in ("upit=lacking", "upit=x", "upit=folder")
+    ),
+    *(
+        (name, texts, "blocks 1 arcs 0 coefficients 0 limits 0 cpit 0")
+        for name, texts in ACROSS
     ),
 ]
 
@@ -56,6 +88,15 @@ SPOILED = [
 ]
 
 
+# Texts with a fault at the end of the first piece, and what is told of it.
+FAULTY = [
+    ("a mark at the end of a piece", across(1, MARK + ONE_LINE[1:]), "blocks line 2: Number"),
+    ("a fault behind a piece", across(0, b"x\n\n0"), "blocks line 2: Fields"),
+    ("a fault across the end of a piece", across(1, b"0 x\n"), "blocks line 2: Fields"),
+    ("a line that is lacking", across(1, b" \n%", "prec"), "prec line 4: Missing"),
+]
+
+
 def counted(name, texts, counts, base="base"):
     return Trial(name, words=["check", base], files=at(base, texts), out=lines(counts + "|"))
 
@@ -66,6 +107,8 @@ def trials():
     yield counted("a base with a blank and a point", *COUNTED[0][1:], base="an instance.v2")
     near = counted("a base of 300 bytes", *COUNTED[0][1:])
     yield near._replace(words=["check", "./" * 150 + "base"])
+    for name, texts, line in FAULTY:
+        yield refused(name, line, words=["check", "base"], files=at("base", texts))
     for parts, line in SPOILED:
         files = at("base", spoiled(parts))
         yield refused(f"check {parts}", line, words=["check", "base"], files=files)

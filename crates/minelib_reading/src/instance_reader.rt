@@ -14,7 +14,7 @@ use mine_instance::cpit::Cpit;
 use mine_instance::instance::Instance;
 use minelib_lines::problem::Problem;
 use pit_units::OrMemory;
-use precedence::{CountedPreds, Preds, TakePreds};
+use precedence::{Preds, TakePreds};
 use std::alloc::Global;
 use text_lines::text_fault::{TextFault, TextFile, in_file};
 
@@ -37,23 +37,6 @@ pub fn read_instance(
     ensures valid { IfOk result IsValid }
 {
     let instance = joined(alloc, blocks, prec, pcpsp, Preds::new(alloc))?;
-    Ok(instance)
-}
-
-/// The same instance, of whose predecessors only the number is kept.
-///
-/// # Errors
-///
-/// Those of `read_instance`.
-pub fn read_counted(
-    alloc: Global,
-    blocks: &[u8],
-    prec: &[u8],
-    pcpsp: &[u8],
-) -> Result<Instance<CountedPreds>, OrMemory<TextFault>>
-    ensures { Gives (λ x. x) result (denoted blocks.now prec.now pcpsp.now) }
-{
-    let instance = joined(alloc, blocks, prec, pcpsp, CountedPreds::new())?;
     Ok(instance)
 }
 

@@ -18,4 +18,4 @@ mod prec_reader;
 mod taking;
 
 pub use fed_counts::{count_arcs, count_blocks, count_model};
-pub use instance_reader::{read_counted, read_cpit, read_instance};
+pub use instance_reader::{read_cpit, read_instance};

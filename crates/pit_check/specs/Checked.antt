@@ -1,8 +1,7 @@
 -- Why a check tells no counts.
 use Rattle.std.specs.Prelude.{◌≡◌, ℕ, ◌⊎◌, Err}
 use Rattle.text_lines.specs.declared.text_fault.TextFile.{TextFile}
-use Rattle.pit_check.specs.Counts.{counted}
-use Rattle.pit_check.specs.declared.counts.Texts.{Texts}
+use Rattle.pit_check.specs.Counts.{Texts, counted}
 use Rattle.pit_compile.specs.declared.refusal.Refusal.TheVariants.{OutOfMemory}
 use Rattle.pit_edge.specs.declared.refused.Refused.{Refused}
 use Rattle.pit_edge.specs.declared.refused.Refused.TheVariants.{NotUtf8, FeedFailed, TooLong, Plan, Text, Run}

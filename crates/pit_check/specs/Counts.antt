@@ -1,13 +1,11 @@
 -- What is counted of the texts of an instance.
-use Rattle.std.specs.Prelude.{◌≡◌, ℕ, List, [], ◌∷◌, ◌++◌, Vec, length, sum_by, codes, Option, None, Some, Result, Ok}
+use Rattle.std.specs.Prelude.{◌≡◌, ℕ, List, [], ◌∷◌, ◌++◌, length, sum_by, codes, Option, None, Some, Result, Ok}
 use Rattle.std.specs.Fmt.{decimal}
-use Rattle.std.specs.declared.alloc.Global.{Global}
 use Rattle.forms.specs.Words.{◌>>=◌}
 use Rattle.minelib_reading.specs.Denotes.{cpit_denoted, denoted}
 use Rattle.text_lines.specs.declared.text_fault.TextFault.{TextFault}
 use Rattle.mine_instance.specs.Instance.{Instance}
 use Rattle.pit_check.specs.declared.counts.Counts.{Counts}
-use Rattle.pit_check.specs.declared.counts.Texts.{Texts}
 
 -- the counts of an instance, with that of the coefficients of its constrained pit limit problem, where there is one
 abbrev pub counts_of : Instance → Option ℕ → Counts
@@ -18,6 +16,13 @@ counts_of i cpit = record {
   limits = length i.limits;
   cpit = cpit;
 }
+
+-- the texts of an instance, and that of its constrained pit limit problem where there is one
+pub record Texts : Type 0 where
+  pub blocks : List ℕ
+  pub prec : List ℕ
+  pub pcpsp : List ℕ
+  pub cpit : Option (List ℕ)
 
 -- the number of limits, and that of the coefficients of the constrained pit limit problem where there is one
 abbrev pub limits_words : ℕ → Option ℕ → List ℕ
@@ -35,16 +40,16 @@ abbrev pub counts_words : Counts → List ℕ
 counts_words c = words_with c c.cpit
 
 -- how many coefficients the constrained pit limit problem of n blocks has, where it has a text; or its text's first faulty line
-unfoldable pub cpit_counted : ℕ → Option (Vec ℕ Global) → Result (Option ℕ) TextFault
+unfoldable pub cpit_counted : ℕ → Option (List ℕ) → Result (Option ℕ) TextFault
 cpit_counted n None = Ok None
 cpit_counted n (Some text) = do
-  c ← cpit_denoted n text.items
+  c ← cpit_denoted n text
   Ok (Some (length c.coefs))
 
 -- the counts of the instance that three texts denote, and of the problem that a fourth one does; or the first faulty line
 unfoldable pub counted : Texts → Result Counts TextFault
 counted texts = do
-  i ← denoted texts.blocks.items texts.prec.items texts.pcpsp.items
+  i ← denoted texts.blocks texts.prec texts.pcpsp
   coefs ← cpit_counted (length i.blocks) texts.cpit
   Ok (counts_of i coefs)
 

@@ -1,1 +1,2 @@
 pub mod CheckSteps
+pub mod CountSteps

@@ -1,24 +1,23 @@
 //! The check of the files of an instance.
 
 ghost use Rattle.std.specs.Fn.{FnReturnsAt};
-ghost use Rattle.std.specs.Prelude.{◌≡◌, ◌≢◌, IfErr, IfOk, OnErr, OnOk};
+ghost use Rattle.std.specs.Prelude.{◌≡◌, ◌≢◌, ◌≤◌, IfErr, IfOk, IfSome, OnErr, OnOk};
 ghost use Rattle.pit_check.specs.Checked.{IsCheckStatus, IsUncounted};
-ghost use Rattle.pit_check.specs.inner.CheckSteps.{AreTexts, HasText, HasTextIfThere, IsFaultOf, IsFaultOfTexts, IsFoundIn};
-ghost use Rattle.pit_check.specs.Counts.{IsLineOf, TellsCounts};
-ghost use Rattle.pit_check.specs.declared.counts.Texts.{Texts as SomeTexts};
+ghost use Rattle.pit_check.specs.inner.CheckSteps.{AreTexts, CountsAll, CountsFile, CountsIfThere, IsFaultOf, IsFoundIn};
+ghost use Rattle.pit_check.specs.Counts.{TellsCounts, Texts as SomeTexts};
+ghost use Rattle.pit_parts.specs.declared.ranges.TheConstants.{MAX_BLOCKS};
 ghost use Rattle.pit_edge.specs.FaultLine.{EndsBy};
 
-use crate::counts::Texts;
+use crate::counting::count_on;
+use crate::counts::Counts;
 use devices::feed::{Feed, FeedFault};
 use devices::file_feed::FileFeed;
-use devices::slurp::GREATEST_LIMIT;
 use pit_edge::fault_line::tell;
-use pit_edge::input::read_source;
 use pit_edge::refused::Refused;
 use pit_edge::source::Source;
 use std::alloc::Global;
 use std::rt::Files;
-use text_lines::text_fault::TextFile;
+use text_lines::text_fault::{TextFault, TextFile};
 
 /// Reads the files of an instance: `BASE.blocks`, `BASE.prec` and `BASE.pcpsp`, then `BASE.cpit` if it can be opened,
 /// and then their texts. Appends the line of their counts to `out`, or the line of the first fault to `err`; only one
@@ -50,7 +49,6 @@ pub fn check_files<R: Files>(
 }
 
 // Appends the line of the counts of the files, which `opener` opens by their paths. Where it is refused `out` is as it was.
-#[tactic(auto, using(crate::proofs::Checks::found_in_texts))]
 fn check<F: Feed + Drop, O: Fn(&str) -> Result<F, FeedFault>>(
     alloc: Global,
     base: &str,
@@ -65,87 +63,83 @@ fn check<F: Feed + Drop, O: Fn(&str) -> Result<F, FeedFault>>(
     ensures fault { let opens = FnReturnsAt O.Fn opener.now in
         IfErr result (IsFoundIn opens F.left base.now) }
 {
-    let texts = texts_of(alloc, base, opener)?;
-    let line = line_of(alloc, &texts)?;
+    let counts = match count_all(alloc, base, opener)? {
+        Ok(counts) => counts,
+        Err(fault) => return Err(Refused::Text(fault)),
+    };
+    let line = format!(in alloc; "{counts}\n")?;
     out.extend_from_slice(line.as_bytes())?;
     Ok(())
 }
 
-// The line of the counts of these texts.
-#[tactic(auto, using(crate::proofs::Checks::told_of_texts, crate::proofs::Checks::no_memory_told))]
-fn line_of(alloc: Global, texts: &Texts) -> Result<String, Refused>
-    ensures counts { IfOk result (λ line. IsLineOf texts.now line.bytes.items) }
-    ensures fault { IfErr result (IsFaultOfTexts texts.now) }
-{
-    let counts = texts.counts(alloc)?;
-    Ok(format!(in alloc; "{counts}\n")?)
-}
-
-// The texts of the files.
-#[tactic(auto, using(crate::proofs::Checks::found_in_file))]
-fn texts_of<F: Feed + Drop, O: Fn(&str) -> Result<F, FeedFault>>(
+// What the texts of the files are counted as, or the first faulty line of them. Each file is read to its end in either case.
+#[tactic(auto, using(crate::proofs::Checks::found_in_file, crate::proofs::Checks::counted_three_files, crate::proofs::Checks::counted_four_files))]
+fn count_all<F: Feed + Drop, O: Fn(&str) -> Result<F, FeedFault>>(
     alloc: Global,
     base: &str,
     opener: &O,
-) -> Result<Texts, Refused>
+) -> Result<Result<Counts, TextFault>, Refused>
     requires { O.IsAlwaysCallable opener.now }
-    ensures texts { let opens = FnReturnsAt O.Fn opener.now in
-        IfOk result (AreTexts opens F.left base.now) }
+    ensures counts { let opens = FnReturnsAt O.Fn opener.now in
+        IfOk result (CountsAll opens F.left base.now) }
     ensures fault { let opens = FnReturnsAt O.Fn opener.now in
         IfErr result (IsFoundIn opens F.left base.now) }
 {
-    let blocks = text_of(alloc, base, TextFile::Blocks, opener)?;
-    let prec = text_of(alloc, base, TextFile::Prec, opener)?;
-    let pcpsp = text_of(alloc, base, TextFile::Pcpsp, opener)?;
-    let cpit = text_if_there(alloc, base, TextFile::Cpit, opener)?;
-    Ok(Texts {
-        blocks,
-        prec,
-        pcpsp,
-        cpit,
-    })
+    let blocks = count_file(alloc, base, TextFile::Blocks, opener, Ok(Counts::new()))?;
+    let prec = count_file(alloc, base, TextFile::Prec, opener, blocks)?;
+    let pcpsp = count_file(alloc, base, TextFile::Pcpsp, opener, prec)?;
+    match count_if_there(alloc, base, TextFile::Cpit, opener, pcpsp)? {
+        Some(cpit) => Ok(cpit),
+        None => Ok(pcpsp),
+    }
 }
 
-// The text of a file.
-fn text_of<F: Feed + Drop, O: Fn(&str) -> Result<F, FeedFault>>(
+// What a file is counted as, behind the files before.
+fn count_file<F: Feed + Drop, O: Fn(&str) -> Result<F, FeedFault>>(
     alloc: Global,
     base: &str,
     file: TextFile,
     opener: &O,
-) -> Result<Vec<u8>, Refused>
-    requires { O.IsAlwaysCallable opener.now }
-    ensures text { let opens = FnReturnsAt O.Fn opener.now in
-        IfOk result (λ text. HasText opens F.left base.now file text.items) }
+    so_far: Result<Counts, TextFault>,
+) -> Result<Result<Counts, TextFault>, Refused>
+    requires opener { O.IsAlwaysCallable opener.now }
+    requires few { IfOk so_far (λ counts. counts.blocks ≤ MAX_BLOCKS) }
+    ensures counts { let opens = FnReturnsAt O.Fn opener.now in
+        IfOk result (CountsFile opens F.left base.now file so_far) }
+    ensures few { IfOk result (λ answer. IfOk answer (λ counts. counts.blocks ≤ MAX_BLOCKS)) }
     ensures fault { let opens = FnReturnsAt O.Fn opener.now in
         IfErr result (IsFaultOf opens F.left base.now file) }
 {
-    match text_if_there(alloc, base, file, opener)? {
-        Some(text) => Ok(text),
+    match count_if_there(alloc, base, file, opener, so_far)? {
+        Some(answer) => Ok(answer),
         None => Err(Refused::FeedFailed(Source::Text(file))),
     }
 }
 
-// The text of a file, or `None` where it cannot be opened.
-fn text_if_there<F: Feed + Drop, O: Fn(&str) -> Result<F, FeedFault>>(
+// The same, or `None` where the file cannot be opened.
+#[tactic(auto, using(crate::proofs::Checks::unread_file, crate::proofs::Checks::counted_file))]
+fn count_if_there<F: Feed + Drop, O: Fn(&str) -> Result<F, FeedFault>>(
     alloc: Global,
     base: &str,
     file: TextFile,
     opener: &O,
-) -> Result<Option<Vec<u8>>, Refused>
-    requires { O.IsAlwaysCallable opener.now }
-    ensures text { let opens = FnReturnsAt O.Fn opener.now in
-        IfOk result (HasTextIfThere opens F.left base.now file) }
+    so_far: Result<Counts, TextFault>,
+) -> Result<Option<Result<Counts, TextFault>>, Refused>
+    requires opener { O.IsAlwaysCallable opener.now }
+    requires few { IfOk so_far (λ counts. counts.blocks ≤ MAX_BLOCKS) }
+    ensures counts { let opens = FnReturnsAt O.Fn opener.now in
+        IfOk result (CountsIfThere opens F.left base.now file so_far) }
+    ensures few { IfOk result (λ found. IfSome found (λ answer. IfOk answer
+        (λ counts. counts.blocks ≤ MAX_BLOCKS))) }
     ensures fault { let opens = FnReturnsAt O.Fn opener.now in
         IfErr result (IsFaultOf opens F.left base.now file) }
 {
     let path = format!(in alloc; "{base}.{file}")?;
     match opener(path.as_str()) {
-        Ok(mut feed) => Ok(Some(read_source(
-            alloc,
-            &mut feed,
-            Source::Text(file),
-            GREATEST_LIMIT,
-        )?)),
+        Ok(mut feed) => match count_on(alloc, file, so_far, &mut feed) {
+            Ok(answer) => Ok(Some(answer)),
+            Err(fault) => Err(Refused::unread(Source::Text(file), fault)),
+        },
         Err(_) => Ok(None),
     }
 }

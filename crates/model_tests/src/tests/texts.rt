@@ -14,6 +14,7 @@ use std::alloc::Global;
 use std::test::Fail;
 
 mod faults;
+mod fed;
 mod file_sink;
 mod reader;
 mod section_sink;
