@@ -1,10 +1,11 @@
 //! The first half of a run: from zone files to the instance.
 
-ghost use Rattle.std.specs.Prelude.{◌≡◌, ◌≢◌, ◌↔◌, ◌+◌, ◌≤◌, Err, length, map, IfErr, IfOk, IsFalse};
+ghost use Rattle.std.specs.Prelude.{◌≡◌, ◌≢◌, ◌↔◌, ◌+◌, ◌≤◌, Err, length, map, IfErr, IfOk, IfSome, IsFalse};
 ghost use Rattle.mine_instance.specs.Valid.{IsValid};
 ghost use Rattle.pit_compile.specs.Compiling.{IsCompiled, IsNotCompiled};
 ghost use Rattle.pit_compile.specs.Settings.{IsSettingsFault};
 ghost use Rattle.pit_compile.specs.declared.settings.SettingsFault.{SettingsFault as ASettingsFault};
+ghost use Rattle.pit_compile.specs.inner.ReadAnswers.{refusal_in};
 ghost use Rattle.lane.specs.Whole.{IsWhole};
 ghost use Rattle.pit_parts.specs.Destinations.{formulas_of};
 ghost use Rattle.pit_parts.specs.PlanFormulas.{formulas_of_plan};
@@ -90,7 +91,8 @@ pub fn compile<R: Threads + Wait + Sync, F: Feed + Send + Drop, G: Gate + Sync>(
     compiled_of(alloc, plan, given, handed)
 }
 
-// What is compiled of what the threads handed over. Of `_feeds`, which the readers were given, only the contract speaks.
+// What is compiled of what the threads handed over. Where the reader of a file did not finish, the first such file's answer is given, also
+// where a valuer was refused memory. Of `_feeds`, which the readers were given, only the contract speaks.
 fn compiled_of<F: Feed>(
     alloc: Global,
     plan: &Plan,
@@ -106,6 +108,7 @@ fn compiled_of<F: Feed>(
     requires valued { IsFalse handed.memory
         → handed.items.items ≡ map (items_by (formulas_of_plan plan.now)) handed.gathered.took }
     ensures settings { (kind : ASettingsFault) → result ≢ Err (Refusal.Settings kind) }
+    ensures files { IfSome (refusal_in 0 handed.answers.items) (λ refusal. result ≡ Err refusal) }
     ensures done { IfOk result
         (IsCompiled plan.now (map F.left _feeds.value.items) (length handed.gathered.took)) }
     ensures valid { IfOk result (λ made. IsValid made.instance) }
