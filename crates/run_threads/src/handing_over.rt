@@ -6,10 +6,11 @@ ghost use Rattle.pit_parts.specs.Destinations.{AreOfPlan};
 ghost use Rattle.pit_parts.specs.PlanFormulas.{formulas_of_plan};
 ghost use Rattle.run_threads.specs.inner.HandingOver.{IsHandedOver};
 ghost use Rattle.run_threads.specs.Reading.{AreRead};
-ghost use Rattle.run_threads.specs.declared.handing_over.HandOverFault.TheVariants.{OutOfMemory};
+ghost use Rattle.run_threads.specs.declared.handing_over.HandOverFault.TheVariants.{NoThread, OutOfMemory};
 ghost use Rattle.valuers.specs.Valuing.{items_by};
 ghost use Rattle.pit_parts.specs.declared.ranges.TheConstants.{MAX_CAPACITY, MAX_VALUERS};
 
+use crate::giving_up::GaveUp;
 use crate::in_scope::hand_over_in;
 use crate::opened::open_lane;
 use crate::read_fault::ReadFault;
@@ -68,6 +69,14 @@ impl From<AllocError> for HandOverFault {
 
     fn from(_refusal: AllocError) -> HandOverFault {
         HandOverFault::OutOfMemory
+    }
+}
+
+impl From<GaveUp> for HandOverFault {
+    ghost from_gives = { λ _ fault. fault ≡ NoThread };
+
+    fn from(_gave_up: GaveUp) -> HandOverFault {
+        HandOverFault::NoThread
     }
 }
 
@@ -132,6 +141,6 @@ pub fn hand_over<R: Threads + Wait + Sync, F: Feed + Send + Drop, G: Gate + Sync
                 ready.entry.lane.closer.takers) }
             ensures budget { IfOk result (λ _.
                 ready.entry.lane.closer.takers + vec_len ready.entry.feeds ≤ ready.entry.starts) }
-        { hand_over_in(scope, ready) },
+        { Ok(hand_over_in(scope, ready)?) },
     )
 }

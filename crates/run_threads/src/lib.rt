@@ -2,6 +2,7 @@
 #![tactic(auto)]
 
 mod file_reading;
+mod giving_up;
 mod handing_over;
 mod in_scope;
 mod joining;

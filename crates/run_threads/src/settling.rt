@@ -6,15 +6,16 @@ ghost use Rattle.lane.specs.Ends.{first_puts, first_takes};
 ghost use Rattle.run_threads.specs.inner.HandingOver.{IsHandedOver};
 ghost use Rattle.run_threads.specs.inner.Ready.{IsRoomFor};
 
+use crate::giving_up::{GaveUp, join_behind, join_each, quit_each};
 use crate::handing_over::HandedOver;
 use crate::joining::{join_all, split_reads, split_values};
 use crate::promises::{ReaderHandle, ValuerHandle};
 use crate::result_room::ResultRoom;
 use devices::feed::Feed;
-use lane::{Closer, GivenUp};
+use lane::Closer;
 use pit_parts::plan::Plan;
 use std::sync::Wait;
-use std::thread::{Promise, PromisedHandle, Threads};
+use std::thread::Threads;
 
 /// Joins the readers, stops the lane, joins the valuers, and gathers what they hand over. Of `_plan`, which is the plan of them all, only
 /// the contract speaks.
@@ -60,19 +61,20 @@ pub fn settle<R: Threads + Wait, F: Feed>(
     }
 }
 
-/// Ends the valuers that were started by a Quit each, and joins them.
-pub fn give_up<R: Threads + Wait>(rt: &R, closer: Closer, valuers: Vec<ValuerHandle>) -> GivenUp
+/// Ends the threads that were started, of a run that was refused one: the readers first, since each of them waits for the valuers to take
+/// what it puts, and then the valuers, each of which waits for a message.
+pub fn give_up<R: Threads + Wait, F: Feed>(
+    rt: &R,
+    closer: Closer,
+    readers: Vec<ReaderHandle<F>>,
+    valuers: Vec<ValuerHandle>,
+) -> GaveUp
     requires { vec_len valuers ≤ closer.takers }
-    ensures { result ≡ vec_len valuers }
+    ensures readers { result.readers.count ≡ vec_len readers }
+    ensures quits { result.quits ≡ vec_len valuers }
+    ensures valuers { result.valuers.count ≡ vec_len valuers }
 {
-    let given_up = closer.quit(rt, valuers.len() as u8);
-    let_go(rt, valuers);
-    given_up
-}
-
-/// Joins each thread, and drops what it gave back.
-pub fn let_go<R: Threads, T: Drop, P: Promise<T>>(rt: &R, handles: Vec<PromisedHandle<T, P>>) {
-    for handle in handles {
-        drop(handle.join(rt));
-    }
+    let readers = join_each(rt, readers);
+    let quits = quit_each(rt, closer, &readers, valuers.len());
+    join_behind(rt, readers, quits, valuers)
 }
