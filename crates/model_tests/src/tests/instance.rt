@@ -114,7 +114,7 @@ fn limits_and_coefficients(rt: HostRuntime) -> Result<(), Fail> {
     assert!(rt; has_values(&instance, 0, &[12_000_000_000, -2_000_000_000]));
     assert!(rt; has_values(&instance, 1, &[0, 0]));
     let coef = coef(0, 0, 0, 1000).ok_or("a coefficient")?;
-    assert!(rt; instance.coefs.as_slice() == [coef]);
+    assert!(rt; instance.coefs.as_slice() == [coef].as_slice());
     Ok(())
 }
 
@@ -193,16 +193,16 @@ fn built_lists_are_lent(rt: HostRuntime) -> Result<(), Fail> {
     let plan = read_plan(alloc, BOTH)?;
     let rows = two_ores(&plan).ok_or("rows")?;
     let instance = built_of(alloc, &plan, &rows)?;
-    assert!(rt; instance.blocks.as_slice() == ores().ok_or("blocks")?);
+    assert!(rt; instance.blocks.as_slice() == ores().ok_or("blocks")?.as_slice());
     assert!(rt; has_preds(&instance, 0, &[1]) && has_preds(&instance, 1, &[]));
     assert!(rt; has_values(&instance, 0, &[12_000_000_000, -2_000_000_000]));
     assert!(rt; has_values(&instance, 1, &[24_000_000_000, -4_000_000_000]));
-    assert!(rt; instance.coefs.as_slice() == all_coefs().ok_or("coefficients")?);
-    assert!(rt; instance.limits.as_slice() == limits().ok_or("limits")?);
+    assert!(rt; instance.coefs.as_slice() == all_coefs().ok_or("coefficients")?.as_slice());
+    assert!(rt; instance.limits.as_slice() == limits().ok_or("limits")?.as_slice());
     let cpit = build_cpit(alloc, &instance)?;
     assert!(rt; are_millionths(cpit.values(), &[12_000_000_000, 24_000_000_000]));
-    assert!(rt; cpit.coefs() == mill_coefs().ok_or("coefficients")?);
-    assert!(rt; cpit.limits() == limits().ok_or("limits")?);
+    assert!(rt; cpit.coefs() == mill_coefs().ok_or("coefficients")?.as_slice());
+    assert!(rt; cpit.limits() == limits().ok_or("limits")?.as_slice());
     Ok(())
 }
 

@@ -244,10 +244,10 @@ fn cpit_coefs() -> Option<[CpitCoef; 4]> {
 #[test]
 fn read_lists_are_lent(rt: HostRuntime) -> Result<(), Fail> {
     let instance = instance_of(rt.alloc(), AT_THE_EDGE)?;
-    assert!(rt; instance.coefs.as_slice() == edge_coefs().ok_or("coefficients")?);
-    assert!(rt; instance.limits.as_slice() == edge_limits().ok_or("limits")?);
+    assert!(rt; instance.coefs.as_slice() == edge_coefs().ok_or("coefficients")?.as_slice());
+    assert!(rt; instance.limits.as_slice() == edge_limits().ok_or("limits")?.as_slice());
     let cpit = cpit_of(rt.alloc(), &lines_with("1 0 0.0001\n"))?;
-    assert!(rt; cpit.coefs() == cpit_coefs().ok_or("coefficients")?);
+    assert!(rt; cpit.coefs() == cpit_coefs().ok_or("coefficients")?.as_slice());
     assert_eq!(rt; cpit.limits().len(), 0);
     Ok(())
 }
