@@ -62,6 +62,7 @@ class Cell(NamedTuple):
             yield spelled(number, decimals), number, None
         yield spelled(greatest, decimals) + point + "000", greatest, None
         yield spelled(least, decimals, "00"), least, None
+        yield spelled(greatest, decimals, "0" * 120), greatest, None
         yield ("+" if greatest >= 0 else "") + spelled(greatest, decimals), greatest, None
         if least <= 0 <= greatest:
             yield "-0", 0, None
@@ -72,6 +73,7 @@ class Cell(NamedTuple):
         for number in sorted({least - 1, least, max(0, least), greatest, greatest + 1}):
             yield spelled(number, decimals) + point + "1", None, "TooFine"
         yield spelled(greatest, decimals) + point + "0000001", None, "TooFine"
+        yield spelled(least, decimals) + point + "0" * 120 + "1", None, "TooFine"
         digits = [spelled(least, decimals) + point + "1", spelled(greatest + 1, decimals)]
         for text in ["x", "1e0", "-", digits[0] + "x", digits[1] + "x"]:
             yield text, None, "Number"

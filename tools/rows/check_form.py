@@ -84,6 +84,9 @@ SPOILED = [
     ("pcpsp=x cpit=x", "pcpsp line 1: Key"),
     ("pcpsp=x cpit=lacking", "pcpsp line 1: Key"),
     ("cpit=x", "cpit line 1: Key"),
+    ("cpit=folder", "cpit: FeedFailed"),
+    ("upit=folder cpit=folder", "cpit: FeedFailed"),
+    ("blocks=x upit=folder", "blocks line 1: Fields"),
     ("cpit=", "cpit line 2: Missing"),
 ]
 

@@ -127,9 +127,12 @@ FAULTS = [
     (EIGHT_DUMPS, "Range", "dump,i,10000001"),
     (EIGHT_DUMPS, "Name", "dump,?,1"),
     (EIGHT_DUMPS, "Number", "mill,a,1,1,x"),
-    (EIGHT_DUMPS, "Order", "leach,i,1,1,2,300,2,400"),
+    (EIGHT_DUMPS, "Order", "leach,i,1,1,2,300,2,400", "leach,i,1,1,5,1,3,2", "leach,i,1,1,0,0,0,0"),
     # resources name earlier destinations, each once
     ("dump,d,1|", "Missing", "resource,d,d", "resource,r,d|resource,R,d"),
+    ("dump,d,1|", "Name", "resource,r,0", "resource,r,d,0", "resource,r,d,1", "resource,r,d,d,?"),
+    ("dump,d,1|", "Name", "resource,r,d|resource,r,?", "resource,r,d|resource,r,d,x"),
+    ("dump,d,1|", "Name", "resource,r,d,*", "resource,r,*,d", "resource,*,*", "resource,r,d,d,d,*"),
     ("dump,d,1|", "Name", "resource,?,x", "resource,r,D", "resource,r,d,d,x"),
     ("dump,d,1|", "Name", "resource,q,d|resource,r,q", "resource,r,d|resource,r,x"),
     ("dump,d,1|", "Twice", "resource,r,d,d", "resource,r,d|resource,r,d"),
@@ -148,6 +151,9 @@ FAULTS = [
     (LIMITED, "Missing", "limit,r,0, I ,1,1", "limit,r,0,I,0,0.000001", "limit,r,0,I,2,2"),
     (LIMITED, "Order", "limit,r,0,I,2,1", "limit,r,0,I,0.000001,0"),
     (LIMITED + "limit,r,0,I,2,2|", "Twice", "limit,r,0,I,2,1"),
+    (LIMITED, "Name", "limit,0,0,L,1", "limit,1,0,L,1"),
+    (LIMITED, "Order", "limit,r,0,I,1.5,1.25", "limit,r,0,I,0.9,0.1", "limit,r,0,I,7.000001,7"),
+    (LIMITED + "limit,r,0,L,2|", "Twice", "limit,r,0,I,2,1", "limit,r,0,I,0.5,0.25"),
     (LIMITED + "limit,r,0,L,2|", "Twice", *LIMITS),
     (LIMITED + "limit,r,0,G,2|", "Twice", *LIMITS),
     (LIMITED + "limit,r,0,I,2,3|", "Twice", *LIMITS),
@@ -163,6 +169,8 @@ FAULTS = [
     ("", "Missing", "dump,123,1|resource,.,123|periods,1|limit,.,0,L,1"),
     ("", "Missing", "dump,--,1|resource,--,--", "dump,dump,1|resource,resource,dump"),
     ("", "Missing", "name,d|dump,d,1|resource,d,d", "dump,d,1|resource,d,d|name,d"),
+    ("", "Missing", "name,r|dump,d,1|resource,r,d", "dump,d,1|resource,r,d|name,r"),
+    ("", "Missing", "name,n|dump,n,1", "dump,n,1|name,n"),
     ("", "Missing", "dump,d,1|resource,r,d|dump,r,1", "dump,d,1|resource,r,d|mill,r,1,1,1"),
     ("", "Missing", "dump,d,1|resource,r,d|leach,r,1,1,0,1|resource,d,r|resource,e,r,d"),
     ("dump,d,1|", "Name", "resource,r,*", "resource,r,all", "resource,r,d d", "resource,r,d,r"),
@@ -170,6 +178,7 @@ FAULTS = [
     ("dump,d,1|resource,r,d|", "Name", "limit,*,0,L,1", "limit,,0,L,1", "limit,r r,0,L,1"),
     # quoted cells
     ("", "Name", '"name" ,"o""e"', 'name,"o,e"', "name,'one'", "name,one\u00a0", "name,on\u00e9"),
+    ("", "Name", "name,one\u2009", "name,\u2009one", "name,o\u200bne", "name,\ufeffone"),
     ("", "Missing", 'name,"one'),
 ]
 
@@ -179,6 +188,9 @@ PLANS = [
     ("|".join([*SIX[:2], "zone,1,1", *SIX[3:]]), "row 3: Width"),
     ("|".join([*SIX[:2], "pit,1", *SIX[3:]]), "row 3: Key"),
     (",x|name,one", "row 1: Key"),
+    (",name,one", "row 1: Key"),
+    (" ,,periods,1", "row 1: Key"),
+    ('name,one|"",grid,0,0,0,10,10,10', "row 2: Key"),
     ("name,\"one|grid,0", "row 1: Name"),
     # a blank line is no record; one of empty cells is
     ("||\r|pit", "row 1: Key"),
@@ -195,6 +207,8 @@ PLANS = [
     ("resource,r,d|dump,d,1", "row 1: Name"),
     ("dump,d,1|resource,r,d|limit,r,0,L,1|periods,1", "row 3: Range"),
     ("dump,d,1|resource,r,d|limit,r,x,L,1|periods,1", "row 3: Number"),
+    ("dump,d,1|resource,r,d|limit,r,99,L,1|periods,100", "row 3: Range"),
+    ("dump,d,1|resource,r,d|limit,r,0,I,1,2|periods,2", "row 3: Range"),
     ("dump,d,1|resource,r,d|limit,r,0.5,L,1|periods,1", "row 3: TooFine"),
     ("periods,1|dump,d,1|limit,r,0,L,1|resource,r,d", "row 3: Name"),
     ("|".join(SIX) + ",,,", TAKEN),
@@ -239,6 +253,7 @@ def bands(first, changed, less):
 # place.
 BANDS = [
     (TAKEN, "0,0", "1000000,1000", "0.000001,500,0.000002,400"),
+    ("Number", ",,3,300", "1,300,,,2,400", ",,,,2,300", "1,300,,400", "1,300,2,,3,400"),
     ("Order", *(bands(0, at, 1) for at in range(1, 16))),
     ("Order", *(bands(2, at, 2) for at in range(3, 18))),
     ("Order", "0.000003,300,0.000001,400,0.000002,500", "0.000002,300,0.000002,400"),
@@ -254,6 +269,9 @@ EMPTY, TOO_MANY = b",\n", "row 10001: TooMany"
 MARKED = [
     ("marks_and_nothing: one", MARK + WASTE, TAKEN),
     ("marks_and_nothing: two", MARK + MARK + WASTE, "row 1: Key"),
+    ("marks_and_nothing: a blank and a mark", b" " + MARK + WASTE, "row 1: Key"),
+    ("marks_and_nothing: a blank line and a mark", b"\n" + MARK + WASTE, "row 1: Key"),
+    ("marks_and_nothing: a mark and a blank line", MARK + b"\r\n" + WASTE, TAKEN),
     ("marks_and_nothing: nothing", b"", "row 1: Missing"),
     ("marks_and_nothing: a mark alone", MARK, "row 1: Missing"),
 ]
@@ -349,6 +367,15 @@ ONCE = [
 ]
 
 
+def long_records():
+    """Records of so many cells more than there may be, as a narrow count of them takes for none."""
+    for _, key, cells in CELLS:
+        for more in (16, 32, 64, 100, 256, 65_536) if key not in ("leach", "resource") else ():
+            record = ",".join([key, *(cell.good for cell in cells), *["1"] * more])
+            name = f"long_records: {key} of {len(cells)} cells, {record[:30]}, {more} more"
+            yield told(name, lines(record), "row 1: Width")
+
+
 def records_twice():
     """Each record that may stand once beside the same and another, in either case and order."""
     for one, other, faulty, kind in ONCE:
@@ -390,6 +417,7 @@ def trials():
     yield from of_the_mill("mills_and_leaches", "", LAST_RECORDS)
     yield from of_the_mill("bands_that_are_refused", "leach,h,1,1,", BANDS)
     yield from records_twice()
+    yield from long_records()
     for name, plan, answer in MARKED:
         yield told(name, plan, answer)
     for name, plan, answer in MANY:

@@ -210,7 +210,8 @@ FAULTS_OF_A_CPIT = [
     (5, "Key", before(5, "NDESTINATIONS: 2"), before(5, "NGENERAL_SIDE_CONSTRAINTS: 0")),
     (1, "Name", 'NAME: "one"', "NAME: one\r "),
     (1, "Key", "NAME = one", "NAME one"),
-    (6, "Key", "DISCOUNT RATE: 0.1", "DISCOUNT_RATE = 0.1"),
+    (6, "Key", "DISCOUNT RATE: 0.1", "DISCOUNT_RATE = 0.1", "DISCOUNT-RATE: 0.1"),
+    (7, "Key", "OBJECTIVE FUNCTION:", "OBJECTIVE-FUNCTION:", "OBJECTIVE_FUNCTION"),
     (6, "Number", "DISCOUNT_RATE: 10%", "DISCOUNT_RATE: 0.1\r "),
     (6, "Key", Change(5, 7, ["RESOURCE_CONSTRAINT_COEFFICIENTS:"]), Change(5, 7, ["0 12000"])),
     (6, "Missing", without(6)),
@@ -406,6 +407,17 @@ TAKEN = [
     ("cpit_destinations", with_cpit(CPIT), TWO_BLOCKS + " cpit 1"),
     ("cpit_destinations: a lower limit", with_cpit(AT_LEAST_500), TWO_BLOCKS + " cpit 1"),
     ("cpit_destinations: no limit", with_cpit(front(12).of(CPIT)), TWO_BLOCKS + " cpit 1"),
+    # what the two model files state is not compared, but for the number of blocks
+    *(
+        (f"cpit_beside_pcpsp: {line}", with_cpit(put(at, line).of(CPIT)), TWO_BLOCKS + " cpit 1")
+        for at, line in [
+            (1, "NAME: other"), (4, "NPERIODS: 100"), (4, "NPERIODS: 3"),
+            (5, "NRESOURCE_SIDE_CONSTRAINTS: 8"), (6, "DISCOUNT_RATE: 0"), (8, "0 -7"),
+            (11, "0 0 999"), (11, "1 0 1"), (13, "0 0 G 1"), (14, "0 1 L 5"),
+        ]
+    ),
+    ("cpit_beside_pcpsp: fewer periods", with_cpit(Change(3, None, [
+        "NPERIODS: 1", *CPIT[4:13]]).of(CPIT)), TWO_BLOCKS + " cpit 1"),
 ]
 
 
@@ -685,6 +697,7 @@ def lines_between():
             ("a mark", MARK + text, None),
             ("two CRs", text.replace(b"\n", b"\r\r\n"), "Number" if is_line else "Name"),
             ("two marks", MARK + MARK + text, "Number" if is_line else "Key"),
+            ("a blank and a mark", b" " + MARK + text, "Number" if is_line else "Key"),
         ]:
             yield answers(f"ends_of_lines: {file}: {name}", changed, 1, kind)
 
@@ -724,6 +737,22 @@ def beside_order():
                 texts = texts_of(Change(number - 1, last, [greatest, other]).of(good))
                 name = f"beside_order: {file}: {greatest}, {other}"
                 yield answered(name, texts, f"{file} line {number + 1}", kind)
+
+
+def long_lines():
+    """Lines of so many fields more than there may be, as a narrow count of them takes for none."""
+    for more in (16, 32, 64, 100, 256, 65_536):
+        fields = " 0" * more
+        blocks = f"0 0 0 0 1 0 0\n1 0 0 0 1 0 0{fields}\n".encode()
+        yield faulty(f"long_lines: blocks, {more}", (blocks, PREC, b""), "blocks line 2: Fields")
+        for file, good, texts_of, numbers in [
+            ("pcpsp", PCPSP, with_pcpsp, (1, 9, 10, 13, 15, 16)),
+            ("cpit", CPIT, with_cpit, (1, 7, 8, 11, 13, 14)),
+        ]:
+            for number in numbers:
+                texts = texts_of(put(number, good[number - 1] + fields).of(good))
+                name = f"long_lines: {file} line {number}, {more}"
+                yield answered(name, texts, f"{file} line {number}", "Fields")
 
 
 def changed_files():
@@ -778,6 +807,7 @@ def trials():
     yield from bytes_of_lines()
     yield from lines_between()
     yield from beside_order()
+    yield from long_lines()
     yield from changed_files()
     yield from blocks_and_precedences()
     for kind, *spellings in SPELLINGS:

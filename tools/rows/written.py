@@ -95,6 +95,25 @@ SHOWN = [
         "2 0 1 0.999|2 1 0 0.999|2 1 1 0.999|4 0 1 1.001|4 1 0 1.001|4 1 1 1.001|RESOURCE",
         "COEFFICIENTS:|0 1 0.001|1 1 0.5|2 1 0.999|4 1 1.001|RESOURCE",
     ),
+    # periods and resources are counted also where none has a limit; an interval may be one number
+    (
+        "limits_of_few",
+        small("dump,d,1|dump,e,2|", "periods,7|rate,0|resource,z,e|resource,y,d|resource,x,e,d|"
+              "limit,y,2,I,0,0|limit,y,1,I,0.5,0.5|"),
+        ONE_BLOCK,
+        "NPERIODS: 7|NDESTINATIONS: 2|NRESOURCE_SIDE_CONSTRAINTS: 3|",
+        "NPERIODS: 7|NRESOURCE_SIDE_CONSTRAINTS: 3|",
+        "COEFFICIENTS:|0 0 1 1|0 0 2 1|0 1 0 1|0 1 2 1|RESOURCE_CONSTRAINT_LIMITS:|"
+        "1 1 I 0.5 0.5|1 2 I 0 0|== cpit|",
+        "COEFFICIENTS:|0 1 1|0 2 1|RESOURCE",
+    ),
+    # 0.001 t that hold 0.001 g: 0.6 cents less 0.5, and 0.6 less 0.7; floors taken apart give -1
+    (
+        "one_floor_of_the_difference",
+        small("mill,m,1000,600000,500|leach,l,600000,700,0,1000|mill,n,1000,999999,1000|"),
+        b"0,0,0,0.001,1\n",
+        "OBJECTIVE_FUNCTION:|0 0 -0.01 -0.01|RESOURCE",
+    ),
     # no metal is recovered, or none is paid for, so all are worth what their cost is
     (
         "nothing_recovered",
@@ -114,6 +133,9 @@ EQUAL_WHEN_ROUNDED = [
     ("dump,a,999|mill,b,1000,100,1|", -1),
     ("mill,a,0,0,1999|dump,b,1500|", -2),
     ("dump,a,1999|leach,b,0,1500,0,0|", -2),
+    ("dump,a,1500|mill,b,0,0,1999|", -2),
+    ("leach,a,0,1999,0,0|mill,b,0,0,1500|", -2),
+    ("leach,a,0,1500,0,0|dump,b,1999|", -2),
 ]
 
 # So many bits, and cents a kilogram that a block costs on a dump or is worth at a mill.
@@ -133,7 +155,10 @@ EXTREMES = [
     ("mill,m,999,99999999,9999999|", 1, 99_890_000 - 1),
 ]
 
-NAMES = ["Pit_3.A-b", "PIT", "pit.2", "..", "--x", "_", "0", "007", "L", "NAME", "-1.5", "a-", "Zz"]
+NAMES = [
+    "Pit_3.A-b", "PIT", "pit.2", "..", "--x", "_", "0", "007", "L", "NAME", "-1.5", "a-", "Zz",
+    "0123456789" * 6, "Aa_" * 11, "x" * 63, "-." * 32,
+]
 
 
 def shows(name, plan, rows, *parts):
@@ -275,6 +300,8 @@ def trials():
         yield shows(*shown)
     for count in range(1, 17):
         yield at_every_edge(f"{count} bands", [(7 + 10 * i, 1000 - 3 * i) for i in range(count)])
+    yield at_every_edge("16 bands that fall and rise", [(at * at, at * 7 % 16) for at in range(16)])
+    yield at_every_edge("16 bands at the end", [(10**12 - 15 + at, 900 + at) for at in range(16)])
     yield at_every_edge("the greatest start", [(10**6, 300), (2_500_000, 450), (10**12, 0)])
     yield at_every_edge("the least start", [(0, 1000)])
     yield from narrow_worths()

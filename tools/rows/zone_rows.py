@@ -107,7 +107,10 @@ ROWS = {
         ("row 2 column grade: Range", b"0,0,0,1,1" + b"0" * 100 + b".0001"),
         ("row 2 column grade: Range", b"0,0,0,1," + b"9" * 1_000_000),
         ("0 0 0 0 1 0 0|", b"0" * 1_000_000 + b",0,0,1,0"),
-        ("0 0 0 0 7.5 0 0|", b"0,0,0," + b"0" * 1_000_000 + b"7.5,0"),
+        (
+            "0 0 0 0 7.5 0 0|",
+            *(b"0,0,0," + b"0" * zeros + b"7.5,0" for zeros in (300, 70_000, 1_000_000)),
+        ),
     ],
 }
 
@@ -160,6 +163,8 @@ RECORDS_OF_TEXTS = [
     # blanks round cells, and quotes behind them, which are cells' own
     (b"x , y,\tz,tonnes , grade\n 0,0 ,\t0,1\t, 2 \n", ONE),
     (HEADER + b'0,0,0, "1" ,2\n', "row 2 column tonnes: Number"),
+    (b"x,y,z,tonnes,grade,zone\n0,0,0,1,2,7\n10,0,0,3,4,x\n", TWO),
+    (b"zone,x,y,z,tonnes,grade\n63,0,0,0,1,2\n-1,10,0,0,3,4\n", TWO),
     (b'x,y,z,rock,tonnes,grade\n0,0,0,a"b"c,1,2\n10,0,0,d",3,4\n', TWO),
     (HEADER + b'0,0,0,1"5",2\n', "row 2 column tonnes: Number"),
     # what stands behind a closing quote belongs to the cell
@@ -324,6 +329,9 @@ def wide_files():
             else:
                 rows = [*good[:2], good[2] + last]
             yield says(f"{name}: {what}", "\n".join(rows).encode(), answer)
+        for more in (16, 32, 64, 100, 256, 65_536):
+            longer = "\n".join([*good, good[2] + ",0" * more]).encode()
+            yield faulty(f"{name}: {more} cells more", longer, "whole", "Width", 4)
         less = "\n".join([*good[:2], good[2].rsplit(",", 1)[0]]).encode()
         yield faulty(f"{name}: a cell less", less, "whole", "Width", 3)
         twice = "\n".join([good[0] + ",X", *good[1:]]).encode()
