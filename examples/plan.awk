@@ -161,17 +161,17 @@ function take_destination(key,    at, part) {
     kind[at] = key
     name_of[at] = cell[2]
     number_of[cell[2]] = at
-    price[at] = key == "mill" ? cell[4] : key == "leach" ? cell[3] : 0
-    cost[at] = key == "mill" ? cell[5] : key == "leach" ? cell[4] : cell[3]
+    price[at] = key == "mill" ? cell[4] + 0 : key == "leach" ? cell[3] + 0 : 0
+    cost[at] = (key == "mill" ? cell[5] : key == "leach" ? cell[4] : cell[3]) + 0
     bands[at] = 0
     for (part = 5; key == "leach" && part < cells; part += 2) {
-        start[at, ++bands[at]] = cell[part]
-        recovery[at, bands[at]] = cell[part + 1]
+        start[at, ++bands[at]] = cell[part] + 0
+        recovery[at, bands[at]] = cell[part + 1] + 0
     }
     if (key != "mill") return
     bands[at] = 1
     start[at, 1] = 0
-    recovery[at, 1] = cell[3]
+    recovery[at, 1] = cell[3] + 0
 }
 
 function take_limit(    resource) {
@@ -205,7 +205,7 @@ file == 1 {
     key = tolower(cell[1])
     if (FNR == 1 && key !~ /^(name|grid|zone|mill|leach|dump|periods|rate|resource|limit)$/) stop("no key of a plan")
     if (key == "name") plan_name = cell[2]
-    if (key == "grid") for (at = 1; at <= 3; at++) { origin[at] = cell[at + 1]; metres[at] = cell[at + 4] }
+    if (key == "grid") for (at = 1; at <= 3; at++) { origin[at] = cell[at + 1] + 0; metres[at] = cell[at + 4] + 0 }
     if (key == "zone") {
         zone_slopes[zones] = slopes_of()
         zone_K[zones++] = cell[cells] + 0

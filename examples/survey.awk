@@ -6,6 +6,8 @@
 #
 # Zone files behind them, in the order of `compile`, are named, and their lines are counted. docs/planners.md says what each number is.
 
+# Numbers that may not be set are given to functions as `+ 0`: gawk 5.2.1 fails on others.
+
 # a number with commas between thousands
 function thousands(number, decimals,    text, sign, rest) {
     text = sprintf("%." decimals + 0 "f", number)
@@ -156,15 +158,15 @@ function put_places(    axis, box, name) {
             odd[axis], short(origin[axis] + first[axis] * metres[axis], 3), short(origin[axis] + last[axis] * metres[axis], 3))
         box *= last[axis] - first[axis] + 1
     }
-    printf("%s blocks at %s places; %s places below a block have none, at most %d of a column in a row\n", thousands(blocks), thousands(box),
-        thousands(holes), deepest)
+    printf("%s blocks at %s places; %s places below a block have none, at most %d of a column in a row\n", thousands(blocks + 0), thousands(box),
+        thousands(holes + 0), deepest)
     if (metres[1] == 1 && metres[2] == 1 && metres[3] == 1) print "WARNING: blocks are 1 x 1 x 1 m; are coordinates the indices of blocks?"
 }
 
 function put_rock_of(label, group, zone) {
-    printf("%4s %10s %10s %16s %7s %7s %7s %10.4f %11.4f %8s %7s%s\n", label, thousands(rows[group]), zone in lines ? thousands(lines[zone] - 1) : "-",
-        thousands(mass[group], 1), ratio(lightest[group], volume, 3), ratio(mass[group], volume * solid[group], 3), ratio(heaviest[group], volume, 3),
-        mean(metal[group], mass[group]), top_grade[group], thousands(barren[group]), thousands(rows[group] - solid[group]),
+    printf("%4s %10s %10s %16s %7s %7s %7s %10.4f %11.4f %8s %7s%s\n", label, thousands(rows[group] + 0), zone in lines ? thousands(lines[zone] - 1) : "-",
+        thousands(mass[group] + 0, 1), ratio(lightest[group] + 0, volume, 3), ratio(mass[group] + 0, volume * solid[group], 3), ratio(heaviest[group] + 0, volume, 3),
+        mean(metal[group] + 0, mass[group] + 0), top_grade[group], thousands(barren[group] + 0), thousands(rows[group] - solid[group]),
         zone in file_name ? "  " file_name[zone] : "")
 }
 
@@ -180,10 +182,10 @@ function put_benches(    z, group) {
     print "\nBENCHES\n   z    centroid      blocks            tonnes     mean g/t   wait for none"
     for (z = last[3]; z >= first[3]; z--) {
         group = "bench" z
-        printf("%4d %11s %11s %17s %12.4f %15s\n", z, short(origin[3] + z * metres[3], 3), thousands(rows[group]), thousands(mass[group], 1),
-            mean(metal[group], mass[group]), thousands(free_on[z]))
+        printf("%4d %11s %11s %17s %12.4f %15s\n", z, short(origin[3] + z * metres[3], 3), thousands(rows[group] + 0), thousands(mass[group] + 0, 1),
+            mean(metal[group] + 0, mass[group] + 0), thousands(free_on[z] + 0))
     }
-    printf("%s blocks wait for none, %s of them with rock above\n", thousands(free), thousands(covered))
+    printf("%s blocks wait for none, %s of them with rock above\n", thousands(free + 0), thousands(covered + 0))
 }
 
 # whether a zone is steeper than another on some side
@@ -221,7 +223,7 @@ function put_slopes(    zone, other, slopes, bearing) {
         for (bearing = 0; bearing < 360; bearing += 45) printf(" %5.1f", given[slopes, 0, bearing])
         printf("\n  K = %2d gives", zone_K[zone])
         for (bearing = 0; bearing < 360; bearing += 45) printf(" %5.1f", given[slopes, zone_K[zone], bearing])
-        printf(" %11.1f %10s %20s %6d %10d\n", over[slopes, zone_K[zone]], "K = " first_within(slopes, 2), ratio(arcs_from[zone], rows["zone" zone], 2), most_arcs[zone], arcs_of[slopes, zone_K[zone]])
+        printf(" %11.1f %10s %20s %6d %10d\n", over[slopes, zone_K[zone]], "K = " first_within(slopes, 2), ratio(arcs_from[zone] + 0, rows["zone" zone] + 0, 2), most_arcs[zone], arcs_of[slopes, zone_K[zone]])
     }
     for (zone = 0; zone < zones; zone++) for (other = 0; other < zones; other++) {
         if (zone != other && is_steeper(other, zone)) { steeper[zone, other]; contacts++ }
@@ -265,12 +267,12 @@ function put_destinations(    at) {
 function put_best(    at, zone, waste) {
     print "\nBEST FOR           blocks            tonnes     mean g/t    value a t                value   blocks by zone"
     for (at = 0; at < destinations; at++) {
-        printf("%d %-13.13s %9s %17s %12.4f %12s %20s  ", at, name_of[at], thousands(best_rows[at]), thousands(best_mass[at], 1),
-            mean(best_metal[at], best_mass[at]), ratio(best_value[at], best_mass[at], 2), thousands(best_value[at], 2))
-        for (zone = 0; zone < zones; zone++) printf(" %s", thousands(best_in[zone, at]))
+        printf("%d %-13.13s %9s %17s %12.4f %12s %20s  ", at, name_of[at], thousands(best_rows[at] + 0), thousands(best_mass[at] + 0, 1),
+            mean(best_metal[at] + 0, best_mass[at] + 0), ratio(best_value[at] + 0, best_mass[at] + 0, 2), thousands(best_value[at] + 0, 2))
+        for (zone = 0; zone < zones; zone++) printf(" %s", thousands(best_in[zone, at] + 0))
         print ""
     }
-    printf("%s of %s blocks are worth more than 0, %s in all: no pit is worth more\n", thousands(paying), thousands(blocks), thousands(paid, 2))
+    printf("%s of %s blocks are worth more than 0, %s in all: no pit is worth more\n", thousands(paying + 0), thousands(blocks + 0), thousands(paid + 0, 2))
     for (at = 1; at < destinations; at++) if (cost[at] < cost[waste + 0]) waste = at
     printf("waste, rock of 0 g/t, is worth %s a tonne, at %s\n", thousands(-cost[waste + 0] / 100, 2), name_of[waste + 0])
 }
@@ -295,6 +297,8 @@ function limit_told(limit, tonnes,    bound, text) {
 }
 
 function put_resource(at,    part, tonnes, covered_names, others, period, limit, order, many, list) {
+    tonnes = many = 0
+    covered_names = others = ""
     for (part = 0; part < destinations; part++) {
         if ((at, part) in covers) {
             tonnes += best_mass[part]
@@ -334,7 +338,7 @@ function put_files(    at, part, pairs, wanted_limits) {
     compare("coefficients", coefficients + 0, pairs * solid["all"])
     compare("limits", limits + 0, wanted_limits + 0)
     if (!unlike) print "name, values, coefficients and limits are those of the plan"
-    printf("%s lines of blocks, %s arcs, %s coefficients\n", thousands(blocks), thousands(arcs), thousands(coefficients))
+    printf("%s lines of blocks, %s arcs, %s coefficients\n", thousands(blocks + 0), thousands(arcs + 0), thousands(coefficients + 0))
 }
 
 END {
