@@ -1,3 +1,3 @@
-mod FilesRun
+mod Compiles
 mod Lent
 mod Models

@@ -1,12 +1,14 @@
 //! From the files of a plan and its zones to the files of an instance.
 
-ghost use Rattle.std.specs.Prelude.{◌≡◌, ◌≢◌, ◌++◌, length, IfOk, IfErr, OnOk, OnErr};
+ghost use Rattle.std.specs.Fn.{FnReturnsAt};
+ghost use Rattle.std.specs.Prelude.{◌≡◌, ◌≢◌, ◌++◌, map, string_bytes, IfOk, IfErr, OnOk, OnErr};
 ghost use Rattle.pit_edge.specs.FaultLine.{EndsBy};
+ghost use Rattle.pit_edge.specs.OpenedFile.{OpensFile};
 ghost use Rattle.pit_parts.specs.Destinations.{formulas_of};
-ghost use Rattle.pit_commands.specs.Compile.{HasRows, IsNoCompile, NotCompiled, TellsRows, rows_line};
+ghost use Rattle.pit_commands.specs.Compile.{IsNoCompile, IsNoFiles, IsRefusedInto, IsRunInto, TellsFiles, TellsRows, rows_line};
 
 use crate::instance_files::sinks_of;
-use devices::feed::Feed;
+use devices::feed::{Feed, FeedFault};
 use devices::file_feed::FileFeed;
 use pit_compile::refusal::Refusal;
 use pit_compile::run;
@@ -45,23 +47,43 @@ pub fn compile_files<R: Files + Threads + Wait + Sync>(
 ) -> u8
 where
     R::File: Send,
-    ensures done { result ≡ 0 → TellsRows plan.now (length zones.now) out.old.items out.new.items }
+    ensures done { result ≡ 0 → TellsFiles base.now plan.now zones.now settings.valuers
+        out.old.items out.new.items }
     ensures quiet { result ≡ 0 → err.new.items ≡ err.old.items }
     ensures kept { result ≢ 0 → out.new.items ≡ out.old.items }
     ensures refused { result ≢ 0
-        → EndsBy (IsNoCompile plan.now (length zones.now) (formulas_of destinations.now) settings)
+        → EndsBy (IsNoFiles base.now plan.now zones.now (formulas_of destinations.now) settings)
         err.old.items err.new.items result }
 {
-    match compile(rt, alloc, plan, destinations, settings, base, zones, out) {
+    match compile_from(
+        rt,
+        alloc,
+        |path: &str| -> Result<FileFeed<R::File>, FeedFault>
+            ensures { OpensFile path.now result }
+        { FileFeed::open(rt, path) },
+        plan,
+        destinations,
+        settings,
+        base,
+        zones,
+        out,
+    ) {
         Ok(()) => 0,
         Err(refused) => tell(alloc, &refused, err),
     }
 }
 
-// Compiles the zone files, and appends the line of the rows to `out`. Where it is refused `out` is as it was.
-fn compile<R: Files + Threads + Wait + Sync>(
+// Compiles the zone files, which `opener` opens by their paths, and appends the line of the rows to `out`. Where it is refused `out` is
+// as it was.
+#[tactic(auto, using(crate::proofs::Compiles::unopened_files, crate::proofs::Compiles::refused_run, crate::proofs::Compiles::refused_memory))]
+fn compile_from<
+    R: Files + Threads + Wait + Sync,
+    F: Feed + Send + Drop,
+    O: Fn(&str) -> Result<F, FeedFault>,
+>(
     rt: &R,
     alloc: Global,
+    opener: O,
     plan: &Plan,
     destinations: &[Destination],
     settings: Settings,
@@ -69,15 +91,15 @@ fn compile<R: Files + Threads + Wait + Sync>(
     zones: &[String],
     out: &mut Vec<u8>,
 ) -> Result<(), Refused>
-where
-    R::File: Send,
-    ensures done { OnOk result
-        (TellsRows plan.now (length zones.now) out.old.items out.new.items) }
+    requires { O.IsAlwaysCallable opener }
+    ensures done { OnOk result (TellsRows (λ path. FnReturnsAt O.Fn opener (string_bytes path))
+        F.left base.now plan.now zones.now settings.valuers out.old.items out.new.items) }
     ensures kept { OnErr result (out.new.items ≡ out.old.items) }
     ensures refused { IfErr result
-        (IsNoCompile plan.now (length zones.now) (formulas_of destinations.now) settings) }
+        (IsNoCompile (λ path. FnReturnsAt O.Fn opener (string_bytes path)) F.left base.now plan.now
+        F.is_sure zones.now (formulas_of destinations.now) settings) }
 {
-    let feeds = open_all(alloc, zones, |path| FileFeed::open(rt, path))?;
+    let feeds = open_all(alloc, zones, opener)?;
     let rows = run_into_files(rt, alloc, feeds, plan, destinations, settings, base)?;
     append_rows(alloc, rows, out)?;
     Ok(())
@@ -85,7 +107,7 @@ where
 
 // Runs on open feeds, as `run` does with a gate that is always open, writes the texts to the files of the instance, and answers the
 // number of rows over all zone files.
-#[tactic(auto, using(crate::proofs::FilesRun::no_memory))]
+#[tactic(auto, using(crate::proofs::Compiles::no_memory))]
 fn run_into_files<R: Files + Threads + Wait + Sync, F: Feed + Send + Drop>(
     rt: &R,
     alloc: Global,
@@ -95,9 +117,10 @@ fn run_into_files<R: Files + Threads + Wait + Sync, F: Feed + Send + Drop>(
     settings: Settings,
     base: &str,
 ) -> Result<u64, Refusal>
-    ensures done { IfOk result (HasRows plan.now (length feeds.items)) }
-    ensures refused { IfErr result
-        (NotCompiled plan.now (length feeds.items) (formulas_of destinations.now) settings) }
+    ensures done { IfOk result
+        (IsRunInto base.now plan.now settings.valuers (map F.left feeds.items)) }
+    ensures refused { IfErr result (IsRefusedInto base.now plan.now (formulas_of destinations.now)
+        settings (map F.left feeds.items) (map F.is_sure feeds.items)) }
 {
     let mut sinks = sinks_of(rt, alloc, base)?;
     let gathered = run(

@@ -4,7 +4,8 @@ ghost use Rattle.std.specs.Prelude.{◌≡◌, string_bytes, IfOk};
 ghost use Rattle.minelib_writing.specs.Texts.{ending_of};
 ghost use Rattle.minelib_writing.specs.declared.text_name.TextName.{TextName as AName};
 ghost use Rattle.pit_compile.specs.Sinks.{sink_of};
-ghost use Rattle.pit_commands.specs.inner.Paths.{path_to};
+ghost use Rattle.devices.specs.FileSinkView.{unbegun};
+ghost use Rattle.pit_commands.specs.Compile.{path_to};
 
 use devices::file_sink::FileSink;
 use minelib_writing::text_name::TextName;
@@ -17,7 +18,10 @@ pub(crate) fn sinks_of<'a, R: Files>(
     rt: &'a R,
     alloc: Global,
     base: &str,
-) -> Result<Sinks<FileSink<'a, R>>, AllocError> {
+) -> Result<Sinks<FileSink<'a, R>>, AllocError>
+    ensures { IfOk result (λ sinks. (name : AName)
+        → sink_of sinks name ≡ unbegun (path_to base.now (ending_of name))) }
+{
     let paths = paths_of(alloc, base)?;
     Ok(Sinks {
         blocks: FileSink::from_path(rt, paths.blocks),

@@ -1,4 +1,5 @@
 pub mod FaultLine
+pub mod OpenedFile
 pub mod Pieces
 pub mod PlanFile
 pub mod PlanText

@@ -3,7 +3,7 @@
 ghost use Rattle.std.specs.Io.KnownBytes.{Appends};
 ghost use Rattle.std.specs.Prelude.{◌≡◌, ◌≢◌, ◌⊎◌};
 ghost use Rattle.std.specs.Process.{exit_status};
-ghost use Rattle.pit_edge.specs.WriteWhole.{IsAppendCut};
+ghost use Rattle.pit_edge.specs.WriteWhole.{IsAppend, IsAppendCut, output_failed, told_lines};
 
 use crate::write_whole::write_whole;
 use std::io::Write;
@@ -44,21 +44,37 @@ pub fn finish<O: Write, E: Write>(
     ensures short { status ≡ 0 → exit_status result ≡ 3
         → IsAppendCut (O.contents output.old) (O.contents output.new) text.now }
     ensures still { exit_status result ≡ 0 → errors.new ≡ errors.old }
+    ensures told { status ≢ 0
+        → IsAppend (E.contents errors.old) (E.contents errors.new) (told_lines lines.now) }
+    ensures failed { status ≡ 0 → exit_status result ≡ 3
+        → IsAppend (E.contents errors.old) (E.contents errors.new) output_failed }
 {
     if status != 0 {
-        let line = if lines.is_empty() {
-            b"pitc: OutOfMemory\n".as_slice()
-        } else {
-            lines
-        };
-        let _ = write_whole(errors, line);
+        write_line(errors, lines_of(lines));
         return ExitCode::from(status);
     }
     match write_whole(output, text) {
         Ok(()) => ExitCode::from(0),
         Err(_) => {
-            let _ = write_whole(errors, b"pitc: output: SinkFailed\n");
+            write_line(errors, b"pitc: output: SinkFailed\n");
             ExitCode::from(DEVICE)
         }
     }
+}
+
+// The lines to be told: these, or that memory was refused, where there is none.
+fn lines_of(lines: &[u8]) -> &[u8]
+    ensures { result.now ≡ told_lines lines.now }
+{
+    match lines {
+        [] => b"pitc: OutOfMemory\n",
+        _ => lines,
+    }
+}
+
+// Writes a line. Where that fails, a front of it was taken.
+fn write_line<E: Write>(errors: &mut E, line: &[u8])
+    ensures { IsAppend (E.contents errors.old) (E.contents errors.new) line.now }
+{
+    let _ = write_whole(errors, line);
 }

@@ -5,19 +5,22 @@ use std::alloc::Global;
 use std::io::{self, ErrorKind, Write};
 use std::process::ExitCode;
 
-// An output with room for so many bytes, which takes one byte a write, behind a write that is interrupted.
+// An output with room for so many bytes, which takes one byte a write, behind a write that is interrupted. Once it is full a write fails,
+// or takes no byte.
 #[derive(Drop)]
 struct Narrow {
     held: Vec<u8>,
     room: usize,
+    fails: bool,
     interrupts: bool,
 }
 
 impl Narrow {
-    fn new(alloc: Global, room: usize) -> Narrow {
+    fn new(alloc: Global, room: usize, fails: bool) -> Narrow {
         Narrow {
             held: Vec::new(alloc),
             room,
+            fails,
             interrupts: false,
         }
     }
@@ -30,7 +33,11 @@ impl Write for Narrow {
             return Err(io::Error::from(ErrorKind::Interrupted));
         }
         if self.held.len() >= self.room {
-            return Err(io::Error::from(ErrorKind::BrokenPipe));
+            return if self.fails {
+                Err(io::Error::from(ErrorKind::BrokenPipe))
+            } else {
+                Ok(0)
+            };
         }
         match bytes.first() {
             Some(byte) => {
@@ -131,11 +138,13 @@ const ENDS: [End; 7] = [
 #[test]
 fn outputs_that_fail(rt: HostRuntime) {
     for end in &ENDS {
-        let mut output = Narrow::new(rt.alloc(), end.output_room);
-        let mut errors = Narrow::new(rt.alloc(), end.errors_room);
-        let answer = finish(&mut output, &mut errors, end.status, TEXT, end.line);
-        assert!(rt; answer == ExitCode::from(end.answer), "{}", end.status);
-        assert!(rt; output.held.as_slice() == end.output);
-        assert!(rt; errors.held.as_slice() == end.errors);
+        for fails in [true, false] {
+            let mut output = Narrow::new(rt.alloc(), end.output_room, fails);
+            let mut errors = Narrow::new(rt.alloc(), end.errors_room, fails);
+            let answer = finish(&mut output, &mut errors, end.status, TEXT, end.line);
+            assert!(rt; answer == ExitCode::from(end.answer), "{}", end.status);
+            assert!(rt; output.held.as_slice() == end.output);
+            assert!(rt; errors.held.as_slice() == end.errors);
+        }
     }
 }

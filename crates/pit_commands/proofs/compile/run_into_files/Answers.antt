@@ -1,17 +1,33 @@
-use Rattle.std.proofs.Common.{Err, length, ap}
+use Rattle.std.proofs.Common.{Err, ap, length, subst, sym}
 use Rattle.std.proofs.lemmas.List.{length-map}
 use Rattle.std.proofs.lemmas.Result.{err_from_is_err_and}
+use Rattle.pit_compile.specs.Settings.{IsSettingsFault}
+use Rattle.pit_compile.specs.Sinks.{sink_of}
 use Rattle.pit_parts.specs.Destinations.{formulas_of}
-use Rattle.pit_commands.proofs.FilesRun.{has_rows, not_compiled}
 use Rattle.pit_commands.proofs.compile.run_into_files.Goals as goal
 
 pub returns-clause-done : goal.returns-clause-done
-returns-clause-done g c =
-    has_rows c.args.plan.now _ _ _ _ _ _ _ (length-map c.args.feeds.items _) c.in_ok-gathered.ensures.done c.rows.ensures.rows
+returns-clause-done g c = record {
+  sinks = record {
+    before = sink_of c.in_ok-sinks.sinks;
+    after = sink_of c.run.new.sinks;
+    fresh = c.in_ok-sinks.ensures;
+  };
+  gathered = c.in_ok-gathered.gathered;
+  done = c.in_ok-gathered.ensures.done;
+  rows_are = c.rows.ensures.rows;
+}
 
 pub returns-in_err-gathered-clause-refused : goal.returns-in_err-gathered-clause-refused
 returns-in_err-gathered-clause-refused g c =
     let p = err_from_is_err_and c.from_residual-in_err-gathered.result c.from_residual-in_err-gathered.ensures.1 in
-    rw (p.1, p.2) (not_compiled c.args.plan.now (formulas_of c.args.destinations.now) c.args.settings _ _ _ _
-    (length c.args.feeds.items) (length-map c.args.feeds.items _) c.in_err-gathered.field-0.0
-    (λ kind e. (c.in_err-gathered.ensures.settings kind).0 (ap Err e)) c.in_err-gathered.ensures.refused)
+    rw (p.1, p.2) (record {
+      sinks = record {
+        before = sink_of c.in_ok-sinks.sinks;
+        after = sink_of c.run.new.sinks;
+        fresh = c.in_ok-sinks.ensures;
+      };
+      faulty = λ kind e. subst (λ n. IsSettingsFault c.args.plan.now n (formulas_of c.args.destinations.now) c.args.settings kind)
+          (sym (length-map c.args.feeds.items _)) ((c.in_err-gathered.ensures.settings kind).0 (ap Err e));
+      refused = c.in_err-gathered.ensures.refused;
+    })
