@@ -57,6 +57,13 @@ LISTS = [
         FIFTEEN_ABOVE,
         "0 6 3 7 8 9 10 13|" + unlisted(1, 16),
     ),
+    # sixteen hundred predecessors
+    (
+        "a_flat_cone",
+        plan_of(cones=["1,1000,1"]),
+        under_a_box((7, 9), 40, 40, 1),
+        " ".join(map(str, ["0 1600", *range(1, 1601)])) + "|" + unlisted(1, 1601),
+    ),
     # blocks without tonnage are predecessors, and have them
     (
         "no_tonnage",
@@ -99,6 +106,9 @@ BOUNDARIES = [
     ((200, 200, 100_000), "1000,1000,20", "500 0 1, 0 9500 19, 300 400 1, 9999 0 20, 6000 8000 20",
      "501 0 1, 0 9501 19, 300 401 1, 9999 9999 20, 6001 8000 20, 6000 8001 20"),
     (WIDE, "1000,1,20", "0 0 20", "1 0 20, 0 1 20, 9999 9999 20, 9999 9999 1, 4295 4295 1"),
+    # outside by a part in 4 * 10^18, which floating point does not see
+    ((100_000, 1, 100_000), "1,1,1,1,1,1000,1,1000,20", "20 0 20, 19 9 20", "20 1 20, 20 -1 20"),
+    ((1, 100_000, 100_000), "1,1000,1,1000,1,1,1,1,20", "0 20 20, 9 19 20", "1 20 20, -1 20 20"),
     # a slope of its own on each side, those east and north three times as flat
     (METRES, "1,3,1,1,1,3,1,1,3",
      "3 0 1, 0 3 1, 9 0 3, 0 9 3, -1 0 1, 0 -1 1, -3 0 3, 6 6 3, 6 -2 3",

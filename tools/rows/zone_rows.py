@@ -329,7 +329,7 @@ def wide_files():
             else:
                 rows = [*good[:2], good[2] + last]
             yield says(f"{name}: {what}", "\n".join(rows).encode(), answer)
-        for more in (16, 32, 64, 100, 256, 65_536):
+        for more in (16, 32, 40, 64, 100, 255, 256, 500, 999, 1_000, 65_536):
             longer = "\n".join([*good, good[2] + ",0" * more]).encode()
             yield faulty(f"{name}: {more} cells more", longer, "whole", "Width", 4)
         less = "\n".join([*good[:2], good[2].rsplit(",", 1)[0]]).encode()
