@@ -81,3 +81,8 @@ returns-clause-printed g c =
       appended = subst (λ i. c.print.new.out.items ≡ c.args.out.now.items ++ printed i) done.instance_is c.in_ok-print.ensures.ok
           ∙ ap (λ texts. c.args.out.now.items ++ printed (instance_from c.args.plan.now texts)) same;
     }
+
+pub returns-in_err-print-clause-refused : goal.returns-in_err-print-clause-refused
+returns-in_err-print-clause-refused g c =
+    let p = err_from_is_err_and c.from_residual-in_err-print.result c.from_residual-in_err-print.ensures.1 in
+    let told : c.from_residual-in_err-print.result ≡ Err OutOfMemory = cc (p.1, p.2) in rw told tt
