@@ -1,7 +1,9 @@
 """What the scripts of tools/ that are written in Python share."""
 import argparse
 import os
+import shutil
 import subprocess
+import tempfile
 import time
 from typing import NamedTuple
 
@@ -75,10 +77,15 @@ class Used(NamedTuple):
 
 
 def measured(command, **streams):
-    """Runs a command in a process of its own, by `subprocess.Popen` with these streams."""
-    begun = time.monotonic()
-    child = subprocess.Popen(command, **streams)
-    _, ended, used = os.wait4(child.pid, 0)
-    wall = time.monotonic() - begun
+    """Runs a command in a process of its own, by `subprocess.Popen` with these streams. Its peak is
+    what GNU time tells, where that is there: the system also counts what a process held before it
+    became the command, so without it a peak is never less than that of the tool which asks."""
+    with tempfile.NamedTemporaryFile("r") as told:
+        by_time = ["time", "-f", "%M", "-o", told.name] if shutil.which("time") else []
+        begun = time.monotonic()
+        child = subprocess.Popen([*by_time, *command], **streams)
+        _, ended, used = os.wait4(child.pid, 0)
+        wall = time.monotonic() - begun
+        peak = int(told.read().split()[-1]) if by_time else used.ru_maxrss
     child.returncode = os.WEXITSTATUS(ended) if os.WIFEXITED(ended) else -os.WTERMSIG(ended)
-    return Used(child.returncode, wall, used.ru_utime + used.ru_stime, used.ru_maxrss * 1024)
+    return Used(child.returncode, wall, used.ru_utime + used.ru_stime, peak * 1024)
