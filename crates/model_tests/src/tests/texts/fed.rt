@@ -21,11 +21,20 @@ const BLOCKS: [(&[u8], Counted); 11] = [
     (b"\r", Ok(0)),
     (b"0 0 0 0 1 1 0", Ok(1)),
     (b"\xEF\xBB\xBF0 0 0 0 1000 5000 0\r\n1 1 0 0 0 7 0\r", Ok(2)),
-    (b"% a\n \t \r\n0 0 0 0 1 1 0\n\n  % 1 0\n1 1 0 0 1 1 0\n\n", Ok(2)),
+    (
+        b"% a\n \t \r\n0 0 0 0 1 1 0\n\n  % 1 0\n1 1 0 0 1 1 0\n\n",
+        Ok(2),
+    ),
     (b"0 0 0 0 1 1 0\n\r\n%\nx\n0\n", Err((4, TextKind::Fields))),
     (b"0 0 0 0 1 1 0\nx", Err((2, TextKind::Fields))),
-    (b"\xEF\xBB\xBF\xEF\xBB\xBF0 0 0 0 1 1 0\n", Err((1, TextKind::Number))),
-    (b"0 0 0 0 1 1 0\n\xEF\xBB\xBF1 1 0 0 1 1 0\n", Err((2, TextKind::Number))),
+    (
+        b"\xEF\xBB\xBF\xEF\xBB\xBF0 0 0 0 1 1 0\n",
+        Err((1, TextKind::Number)),
+    ),
+    (
+        b"0 0 0 0 1 1 0\n\xEF\xBB\xBF1 1 0 0 1 1 0\n",
+        Err((2, TextKind::Number)),
+    ),
     (b"0 0 0 0 1 1 0\r\r\n", Err((1, TextKind::Number))),
 ];
 
