@@ -59,7 +59,8 @@ where
 {
     let words = words_of(rt, alloc)?;
     if words.len() <= 1 {
-        return run(rt, alloc, &Task::Pipe(read_model(rt, alloc)?), text, lines);
+        let task = Task::Pipe(read_model(rt, alloc)?);
+        return Ok(run(rt, alloc, &task, text, lines)?);
     }
     match job(alloc, words.as_slice()) {
         Ok(
@@ -77,7 +78,7 @@ where
                 base: out,
                 zones,
             };
-            run(rt, alloc, &task, text, lines)
+            Ok(run(rt, alloc, &task, text, lines)?)
         }
         Ok(Job::Check { base }) => Ok(check_files(rt, alloc, base.as_str(), text, lines)),
         Err(JobFault::Line(error)) => Ok(show(alloc, &error, text, lines)?),
@@ -85,18 +86,70 @@ where
     }
 }
 
-// Runs the task with the destinations of its plan.
+// Runs the task with the destinations of its plan, in its order. The closures are made beside the run that asks them, since a function
+// that made one and handed it out could promise nothing of it.
 fn run<R: Files + Threads + Wait + Sync>(
     rt: &R,
     alloc: Global,
     task: &Task,
     text: &mut Vec<u8>,
     lines: &mut Vec<u8>,
-) -> Result<u8, Refused>
+) -> Result<u8, AllocError>
 where
     R::File: Send,
 {
-    let destinations = destinations_of(alloc, task)?;
+    let mut destinations = Vec::new(alloc);
+    for named in task.plan().formulas() {
+        let destination = match &named.formula {
+            Formula::Mill {
+                recovery,
+                price,
+                cost,
+            } => {
+                let (recovery, price, cost) = (*recovery, *price, *cost);
+                let valuer: Valuer = Box::new(
+                    alloc,
+                    move |block: Block| -> i128
+                        requires recovery { recovery ≤ MAX_RECOVERY }
+                        requires price { price ≤ MAX_PRICE }
+                        requires cost { cost ≤ MAX_COST }
+                        ensures { result ≡ mill block recovery price cost }
+                    { mill_worth(block, recovery, price, cost) },
+                )?;
+                let formula = Formula::Mill {
+                    recovery,
+                    price,
+                    cost,
+                };
+                Destination::new(formula, valuer)
+            }
+            Formula::Dump { cost } => {
+                let cost = *cost;
+                let valuer: Valuer = Box::new(
+                    alloc,
+                    move |block: Block| -> i128
+                        requires { cost ≤ MAX_COST }
+                        ensures { result ≡ dump block cost }
+                    { dump_worth(block, cost) },
+                )?;
+                Destination::new(Formula::Dump { cost }, valuer)
+            }
+            // Any other formula is kept whole, and asked itself.
+            _ => {
+                let kept = named.formula.copy(alloc)?;
+                let formula = named.formula.copy(alloc)?;
+                let valuer: Valuer = Box::new(
+                    alloc,
+                    move |block: Block| -> i128
+                        requires { IsRuled kept }
+                        ensures { result ≡ worth kept block }
+                    { kept.worth(block) },
+                )?;
+                Destination::new(formula, valuer)
+            }
+        };
+        destinations.push(destination)?;
+    }
     Ok(task.run(rt, alloc, destinations.as_slice(), text, lines))
 }
 
@@ -114,78 +167,4 @@ fn show(
     }
     text.extend_from_slice(words.as_bytes())?;
     Ok(0)
-}
-
-// The destinations of the task's plan, in its order.
-fn destinations_of(alloc: Global, task: &Task) -> Result<Vec<Destination>, AllocError> {
-    let mut destinations = Vec::new(alloc);
-    for named in task.plan().formulas() {
-        destinations.push(destination_of(alloc, &named.formula)?)?;
-    }
-    Ok(destinations)
-}
-
-// A destination of this formula, whose closure values by it.
-fn destination_of(alloc: Global, formula: &Formula) -> Result<Destination, AllocError>
-    requires { IsRuled formula.now }
-{
-    match formula {
-        Formula::Mill {
-            recovery,
-            price,
-            cost,
-        } => mill_of(alloc, *recovery, *price, *cost),
-        Formula::Dump { cost } => dump_of(alloc, *cost),
-        // Any other formula is kept whole, and asked itself.
-        _ => kept_of(alloc, formula),
-    }
-}
-
-fn mill_of(alloc: Global, recovery: u16, price: u64, cost: u64) -> Result<Destination, AllocError>
-    requires recovery { recovery ≤ MAX_RECOVERY }
-    requires price { price ≤ MAX_PRICE }
-    requires cost { cost ≤ MAX_COST }
-{
-    let valuer: Valuer = Box::new(
-        alloc,
-        move |block: Block| -> i128
-            requires recovery { recovery ≤ MAX_RECOVERY }
-            requires price { price ≤ MAX_PRICE }
-            requires cost { cost ≤ MAX_COST }
-            ensures { result ≡ mill block recovery price cost }
-        { mill_worth(block, recovery, price, cost) },
-    )?;
-    let formula = Formula::Mill {
-        recovery,
-        price,
-        cost,
-    };
-    Ok(Destination::new(formula, valuer))
-}
-
-fn dump_of(alloc: Global, cost: u64) -> Result<Destination, AllocError>
-    requires { cost ≤ MAX_COST }
-{
-    let valuer: Valuer = Box::new(
-        alloc,
-        move |block: Block| -> i128
-            requires { cost ≤ MAX_COST }
-            ensures { result ≡ dump block cost }
-        { dump_worth(block, cost) },
-    )?;
-    Ok(Destination::new(Formula::Dump { cost }, valuer))
-}
-
-fn kept_of(alloc: Global, formula: &Formula) -> Result<Destination, AllocError>
-    requires { IsRuled formula.now }
-{
-    let kept = formula.copy(alloc)?;
-    let valuer: Valuer = Box::new(
-        alloc,
-        move |block: Block| -> i128
-            requires { IsRuled kept }
-            ensures { result ≡ worth kept block }
-        { kept.worth(block) },
-    )?;
-    Ok(Destination::new(formula.copy(alloc)?, valuer))
 }
