@@ -2,11 +2,12 @@
 
 ghost use Rattle.std.specs.Fn.{FnReturnsAt};
 ghost use Rattle.std.specs.Prelude.{◌≡◌, ◌≢◌, ◌≤◌, IfErr, IfOk, IfSome, OnErr, OnOk};
-ghost use Rattle.pit_check.specs.Checked.{IsCheckStatus, IsUncounted};
-ghost use Rattle.pit_check.specs.inner.CheckSteps.{AreTexts, CountsAll, CountsFile, CountsIfThere, IsFaultOf, IsFoundIn};
+ghost use Rattle.pit_check.specs.Checked.{AreTexts, IsCheckStatus, IsFoundIn, IsUncounted, TellsFiles};
+ghost use Rattle.pit_check.specs.inner.CheckSteps.{CountsAll, CountsFile, CountsIfThere, IsFaultOf, IsFaultOrGone};
 ghost use Rattle.pit_check.specs.Counts.{TellsCounts, Texts as SomeTexts};
 ghost use Rattle.pit_parts.specs.declared.ranges.TheConstants.{MAX_BLOCKS};
 ghost use Rattle.pit_edge.specs.FaultLine.{EndsBy};
+ghost use Rattle.pit_edge.specs.OpenedFile.{OpensFile};
 
 use crate::counting::count_on;
 use crate::counts::Counts;
@@ -27,7 +28,6 @@ use text_lines::text_fault::{TextFault, TextFile};
 /// - 1: a text is too long, or has a faulty line;
 /// - 3: a file cannot be opened or read;
 /// - 4: memory was refused, and both vectors are as they were.
-#[tactic(auto, using(crate::proofs::Checks::uncounted, crate::proofs::Checks::status_listed, crate::proofs::Checks::no_memory))]
 pub fn check_files<R: Files>(
     rt: &R,
     alloc: Global,
@@ -35,20 +35,28 @@ pub fn check_files<R: Files>(
     out: &mut Vec<u8>,
     err: &mut Vec<u8>,
 ) -> u8
-    ensures done { result ≡ 0 → (texts : SomeTexts) × TellsCounts texts out.old.items out.new.items }
+    ensures done { result ≡ 0 → TellsFiles base.now out.old.items out.new.items }
     ensures quiet { result ≡ 0 → err.new.items ≡ err.old.items }
     ensures refused { result ≢ 0 → out.new.items ≡ out.old.items }
     ensures status { IsCheckStatus result }
-    ensures told { result ≢ 0 → EndsBy IsUncounted err.old.items err.new.items result }
+    ensures told { result ≢ 0 → EndsBy (IsUncounted base.now) err.old.items err.new.items result }
     ensures memory { result ≡ 4 → err.new.items ≡ err.old.items }
 {
-    match check(alloc, base, &|path: &str| FileFeed::open(rt, path), out) {
+    match check(
+        alloc,
+        base,
+        &|path: &str| -> Result<FileFeed<R::File>, FeedFault>
+            ensures { OpensFile path.now result }
+        { FileFeed::open(rt, path) },
+        out,
+    ) {
         Ok(()) => 0,
         Err(refused) => tell(alloc, &refused, err),
     }
 }
 
 // Appends the line of the counts of the files, which `opener` opens by their paths. Where it is refused `out` is as it was.
+#[tactic(auto, using(crate::proofs::Checks::found_in_texts), unfolding(crate::specs::Checked::IsFoundIn))]
 fn check<F: Feed + Drop, O: Fn(&str) -> Result<F, FeedFault>>(
     alloc: Global,
     base: &str,
@@ -73,7 +81,6 @@ fn check<F: Feed + Drop, O: Fn(&str) -> Result<F, FeedFault>>(
 }
 
 // What the texts of the files are counted as, or the first faulty line of them. Each file is read to its end in either case.
-#[tactic(auto, using(crate::proofs::Checks::found_in_file, crate::proofs::Checks::counted_three_files, crate::proofs::Checks::counted_four_files))]
 fn count_all<F: Feed + Drop, O: Fn(&str) -> Result<F, FeedFault>>(
     alloc: Global,
     base: &str,
@@ -108,7 +115,7 @@ fn count_file<F: Feed + Drop, O: Fn(&str) -> Result<F, FeedFault>>(
         IfOk result (CountsFile opens F.left base.now file so_far) }
     ensures few { IfOk result (λ answer. IfOk answer (λ counts. counts.blocks ≤ MAX_BLOCKS)) }
     ensures fault { let opens = FnReturnsAt O.Fn opener.now in
-        IfErr result (IsFaultOf opens F.left base.now file) }
+        IfErr result (IsFaultOrGone opens F.left base.now file) }
 {
     match count_if_there(alloc, base, file, opener, so_far)? {
         Some(answer) => Ok(answer),
