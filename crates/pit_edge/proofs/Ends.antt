@@ -1,5 +1,5 @@
 -- Why there is no plan, in other words, and how that ends the program.
-use Rattle.std.proofs.Common.{◌≡◌, ◌≤◌, ◌≢◌, ℕ, List, Option, Result, length, arith, inl, inr, refl, sym, subst, Err}
+use Rattle.std.proofs.Common.{◌≡◌, ◌≤◌, ℕ, List, Option, length, arith, inl, inr, refl, sym, subst, Err}
 use Rattle.std.specs.Prelude.{IfSome}
 use Rattle.pit_model.specs.Planned.{planned}
 use Rattle.pit_model.specs.declared.plan_fault.PlanFault.{PlanFault}

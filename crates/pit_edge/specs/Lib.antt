@@ -5,6 +5,6 @@ pub mod PlanFile
 pub mod PlanText
 pub mod Refused
 pub mod Sections
-pub mod Words
+pub mod UntakenWords
 pub mod WriteWhole
 pub mod ZoneFeeds

@@ -1,13 +1,16 @@
 //! The words that the program was started with.
 
-ghost use Rattle.std.specs.Prelude.{IfErr};
-ghost use Rattle.pit_edge.specs.Words.{AreNoWords};
+ghost use Rattle.std.specs.IoError.{error_kind};
+ghost use Rattle.std.specs.Prelude.{◌≡◌, ◌≢◌, Err, IfErr, IfOk};
+ghost use Rattle.std.specs.Vec.Iter.{into_iter_items};
+ghost use Rattle.pit_compile.specs.declared.refusal.Refusal.TheVariants.{OutOfMemory};
+ghost use Rattle.pit_edge.specs.UntakenWords.{AreNoWords};
 
 use crate::refused::Refused;
 use pit_compile::refusal::Refusal;
-use std::alloc::{Alloc, Global};
-use std::env;
-use std::io::ErrorKind;
+use std::alloc::{Alloc, AllocError, Global};
+use std::env::{self, Args};
+use std::io::{self, ErrorKind};
 use std::rt::Env;
 
 /// The words of the command line, the program's name first.
@@ -19,9 +22,28 @@ use std::rt::Env;
 pub fn words_of<R: Env + Alloc<A = Global>>(rt: &R, alloc: Global) -> Result<Vec<String>, Refused>
     ensures { IfErr result AreNoWords }
 {
-    match env::args(rt) {
-        Ok(words) => Ok(words.collect(alloc)?),
+    all_words(alloc, env::args(rt))
+}
+
+// All words that the system gave, in order. A fault of its own says that one is not UTF-8, or that memory was refused.
+fn all_words(alloc: Global, given: io::Result<Args>) -> Result<Vec<String>, Refused>
+    ensures all { IfOk given (λ left. IfOk result (λ words. words.items ≡ into_iter_items left)) }
+    ensures memory { IfOk given (λ left. IfErr result (λ why. why ≡ Refused.Run OutOfMemory)) }
+    ensures encoding { IfErr given (λ error. error_kind error ≡ ErrorKind.InvalidData
+        → result ≡ Err Refused.NotUtf8) }
+    ensures other { IfErr given (λ error. error_kind error ≢ ErrorKind.InvalidData
+        → result ≡ Err (Refused.Run OutOfMemory)) }
+{
+    match given {
+        Ok(words) => Ok(in_order(alloc, words)?),
         Err(error) if error.kind() == ErrorKind::InvalidData => Err(Refused::NotUtf8),
         Err(_) => Err(Refused::Run(Refusal::OutOfMemory)),
     }
+}
+
+// These words.
+fn in_order(alloc: Global, words: Args) -> Result<Vec<String>, AllocError>
+    ensures { IfOk result (λ taken. taken.items ≡ into_iter_items words) }
+{
+    words.collect(alloc)
 }
