@@ -115,9 +115,17 @@ def tonnes(block):
     return shortest(block.mass * 1000)
 
 
-def model(plan, kind, keys, objective, coefficients):
+def model(plan, kind, objective, coefficients):
     """The lines of a model file: its header, the values of each block, and its resources."""
-    yield from ["NAME: " + plan["name"], "TYPE: " + kind, f"NBLOCKS: {len(objective)}", *keys]
+    yield from shared.header(
+        kind,
+        name=plan["name"],
+        blocks=len(objective),
+        periods=plan["periods"],
+        destinations=len(plan["destinations"]),
+        resources=len(plan["resources"]),
+        rate=shortest(scaled(plan["rate"], 10**6)),
+    )
     yield "OBJECTIVE_FUNCTION:"
     yield from (f"{number} {values}" for number, values in enumerate(objective))
     if kind != "UPIT":
@@ -146,16 +154,12 @@ def compiled(text, files):
              for resource, covered in enumerate(covers) if place in covered]
     cpit = [f"{number} {resource} {mass}" for number, mass in held
             for resource, covered in enumerate(covers) if best[number] in covered]
-    periods, rate = plan["periods"], shortest(scaled(plan["rate"], 10**6))
-    front, back = [f"NPERIODS: {periods}"], [f"DISCOUNT_RATE: {rate}"]
-    side = f"NRESOURCE_SIDE_CONSTRAINTS: {len(covers)}"
-    sides = [f"NDESTINATIONS: {len(destinations)}", side, "NGENERAL_SIDE_CONSTRAINTS: 0"]
     texts = [
         (block_line(number, block) for number, block in enumerate(blocks)),
         (prec_line(plan, blocks, number, block) for number, block in enumerate(blocks)),
-        model(plan, "UPIT", [], greatest, []),
-        model(plan, "PCPSP", [*front, *sides, *back], list(map(" ".join, dollars)), pcpsp),
-        model(plan, "CPIT", [*front, side, *back], greatest, cpit),
+        model(plan, "UPIT", greatest, []),
+        model(plan, "PCPSP", list(map(" ".join, dollars)), pcpsp),
+        model(plan, "CPIT", greatest, cpit),
     ]
     whole = ("".join(line + "\n" for line in lines) for lines in texts)
     return dict(zip(shared.ENDINGS, whole))

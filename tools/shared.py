@@ -16,6 +16,28 @@ ENDINGS = ["blocks", "prec", "upit", "pcpsp", "cpit"]
 CHECKED = ["blocks", "prec", "pcpsp", "cpit"]
 
 
+# The header keys of the model files, each with the files that have it and its value, by
+# docs/formats.md.
+HEADER_KEYS = [
+    ("NAME", "UPIT PCPSP CPIT", "{name}"),
+    ("TYPE", "UPIT PCPSP CPIT", "{kind}"),
+    ("NBLOCKS", "UPIT PCPSP CPIT", "{blocks}"),
+    ("NPERIODS", "PCPSP CPIT", "{periods}"),
+    ("NDESTINATIONS", "PCPSP", "{destinations}"),
+    ("NRESOURCE_SIDE_CONSTRAINTS", "PCPSP CPIT", "{resources}"),
+    ("NGENERAL_SIDE_CONSTRAINTS", "PCPSP", "0"),
+    ("DISCOUNT_RATE", "PCPSP CPIT", "{rate}"),
+]
+
+
+def header(kind, **values):
+    """The header lines of a model file. What is not given is of one period and one destination."""
+    said = {"name": "one", "periods": 1, "destinations": 1, "resources": 0, "rate": "0.1"}
+    said = {"kind": kind, **said, **values}
+    keys = [(key, value) for key, files, value in HEADER_KEYS if kind in files.split()]
+    return [f"{key}: {value.format(**said)}" for key, value in keys]
+
+
 def parser_of(doc):
     """A parser for the words of a script that is described so."""
     return argparse.ArgumentParser(description=doc.split("\n")[0])

@@ -1,7 +1,7 @@
 """Inputs and texts that several tables have."""
 import plain
 from rows.trial import ANY, MARK, Trial, lines
-from shared import ENDINGS, compile_words, model
+from shared import ENDINGS, compile_words, header, model
 
 
 def input_of(path):
@@ -29,6 +29,11 @@ def plan_of(destinations=MILL, cones=("1,1,1",), name="one", grid=CUBES, rest=ON
 WASTE = plan_of("dump,dump,200|", name="waste")
 
 
+def heading(kind, **values):
+    """The header of a model file, whose lines end in bars."""
+    return "".join(line + "|" for line in header(kind, **values))
+
+
 def instance(blocks, prec, worths, name="one"):
     """The texts by their endings of an instance with one destination, one period and no resource.
 
@@ -37,17 +42,11 @@ def instance(blocks, prec, worths, name="one"):
     values = "".join(f"{block} {worth}|" for block, worth in enumerate(worths))
     objective = "OBJECTIVE_FUNCTION:|" + values
     resources = "RESOURCE_CONSTRAINT_COEFFICIENTS:|RESOURCE_CONSTRAINT_LIMITS:|"
-    side = "NRESOURCE_SIDE_CONSTRAINTS: 0|"
-    sides = f"NDESTINATIONS: 1|{side}NGENERAL_SIDE_CONSTRAINTS: 0|"
 
     def model_file(kind, rest):
-        return f"NAME: {name}|TYPE: {kind}|NBLOCKS: {len(worths)}|{rest}"
+        return heading(kind, name=name, blocks=len(worths)) + objective + rest
 
-    def scheduled(kind, keys):
-        rest = f"NPERIODS: 1|{keys}DISCOUNT_RATE: 0.1|{objective}{resources}"
-        return model_file(kind, rest)
-
-    models = [model_file("UPIT", objective), scheduled("PCPSP", sides), scheduled("CPIT", side)]
+    models = [model_file("UPIT", ""), model_file("PCPSP", resources), model_file("CPIT", resources)]
     return dict(zip(ENDINGS, map(lines, [blocks, prec, *models])))
 
 
@@ -95,17 +94,17 @@ NINE = input_of("tools/models/nine_blocks_of_many_numbers.txt")
 
 SAME = input_of("tools/models/same_block_in_two_files.txt")
 
+LIMITS = "RESOURCE_CONSTRAINT_LIMITS:|0 0 L 500.5|0 1 I 0 900|"
+TWO = {"blocks": 2, "periods": 2, "destinations": 2, "resources": 1}
+
 LIMITED_TEXTS = dict(zip(ENDINGS, map(lines, [
     "0 0 0 0 1000 5000 0|1 1 0 0 0 7 0|",
     "0 0|1 0|",
-    "NAME: one|TYPE: UPIT|NBLOCKS: 2|OBJECTIVE_FUNCTION:|0 12000|1 0|",
-    "NAME: one|TYPE: PCPSP|NBLOCKS: 2|NPERIODS: 2|NDESTINATIONS: 2|NRESOURCE_SIDE_CONSTRAINTS: 1|"
-    "NGENERAL_SIDE_CONSTRAINTS: 0|DISCOUNT_RATE: 0.1|OBJECTIVE_FUNCTION:|0 12000 -2000|1 0 0|"
-    "RESOURCE_CONSTRAINT_COEFFICIENTS:|0 0 0 1000|"
-    "RESOURCE_CONSTRAINT_LIMITS:|0 0 L 500.5|0 1 I 0 900|",
-    "NAME: one|TYPE: CPIT|NBLOCKS: 2|NPERIODS: 2|NRESOURCE_SIDE_CONSTRAINTS: 1|DISCOUNT_RATE: 0.1|"
-    "OBJECTIVE_FUNCTION:|0 12000|1 0|RESOURCE_CONSTRAINT_COEFFICIENTS:|0 0 1000|"
-    "RESOURCE_CONSTRAINT_LIMITS:|0 0 L 500.5|0 1 I 0 900|",
+    heading("UPIT", **TWO) + "OBJECTIVE_FUNCTION:|0 12000|1 0|",
+    heading("PCPSP", **TWO) + "OBJECTIVE_FUNCTION:|0 12000 -2000|1 0 0|"
+    "RESOURCE_CONSTRAINT_COEFFICIENTS:|0 0 0 1000|" + LIMITS,
+    heading("CPIT", **TWO) + "OBJECTIVE_FUNCTION:|0 12000|1 0|"
+    "RESOURCE_CONSTRAINT_COEFFICIENTS:|0 0 1000|" + LIMITS,
 ])))
 
 NINE_PREC = "0 5 3 4 6 7 8|1 6 3 4 5 6 7 8|2 5 4 5 6 7 8|3 2 6 7|4 3 6 7 8|5 2 7 8|6 0|7 0|8 0|"

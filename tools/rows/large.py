@@ -5,7 +5,7 @@ first. Below the middle stands a block of a flat zone, under some five thousand 
 some hundred columns. A block is a cubic metre, so that metres are indices. Its tonnes and grade
 follow from its column: t tonnes of g grams are worth (10 g - 5) t at the mill, and -t on the dump.
 """
-from rows.instance import plan_of
+from rows.instance import heading, plan_of
 from rows.trial import Pieces, lines
 from shared import ENDINGS
 
@@ -109,10 +109,11 @@ def prec_line(number, y):
     return " ".join(map(str, [number, len(above), *above])) + "\n"
 
 
-def model_file(kind, keys, values, coefficients):
-    """A model file: what stands in its header, and of the low block and behind the number of each
-    other in the two sections."""
-    yield lines(f"NAME: one|TYPE: {kind}|NBLOCKS: {COUNT}|{keys}OBJECTIVE_FUNCTION:|")
+def model_file(kind, values, coefficients):
+    """A model file: what stands of the low block and behind the number of each other in its two
+    sections."""
+    head = heading(kind, blocks=COUNT, periods=PERIODS, destinations=2, resources=2)
+    yield lines(head + "OBJECTIVE_FUNCTION:|")
     yield from by_row(*values)
     if coefficients:
         yield b"RESOURCE_CONSTRAINT_COEFFICIENTS:\n"
@@ -122,23 +123,20 @@ def model_file(kind, keys, values, coefficients):
 
 
 def upit():
-    return model_file("UPIT", "", ("0 -1\n", COLUMNS, [f" {best}\n" for best in BEST]), ())
+    return model_file("UPIT", ("0 -1\n", COLUMNS, [f" {best}\n" for best in BEST]), ())
 
 
 def pcpsp():
-    keys = (f"NPERIODS: {PERIODS}|NDESTINATIONS: 2|NRESOURCE_SIDE_CONSTRAINTS: 2|"
-            "NGENERAL_SIDE_CONSTRAINTS: 0|DISCOUNT_RATE: 0.1|")
     both = [f" {mill} {dump}\n" for mill, dump in zip(AT_MILL, ON_DUMP)]
     twice = [x for x in HEAVY for _ in (0, 1)]
     masses = [f" {place} {place} {TONNES[x]}\n" for x in HEAVY for place in (0, 1)]
     coefficients = "0 0 0 1\n0 1 1 1\n", twice, masses
-    return model_file("PCPSP", keys, ("0 -5 -1\n", COLUMNS, both), coefficients)
+    return model_file("PCPSP", ("0 -5 -1\n", COLUMNS, both), coefficients)
 
 
 def cpit():
-    keys = f"NPERIODS: {PERIODS}|NRESOURCE_SIDE_CONSTRAINTS: 2|DISCOUNT_RATE: 0.1|"
     best, chosen = [f" {value}\n" for value in BEST], [f" {CHOSEN[x]} {TONNES[x]}\n" for x in HEAVY]
-    return model_file("CPIT", keys, ("0 -1\n", COLUMNS, best), ("0 1 1\n", HEAVY, chosen))
+    return model_file("CPIT", ("0 -1\n", COLUMNS, best), ("0 1 1\n", HEAVY, chosen))
 
 
 TEXTS = dict(zip(ENDINGS, map(Pieces, [blocks, prec, upit, pcpsp, cpit])))

@@ -6,7 +6,9 @@ precedence files.
 """
 import itertools
 
-from rows.instance import MILL, ONE_ORE_BLOCK, OTHER_ORE, WASTE, instance, plan_of, sections
+from rows.instance import (
+    MILL, ONE_ORE_BLOCK, OTHER_ORE, WASTE, heading, instance, plan_of, sections,
+)
 from rows.trial import HEADER, MARK, Part, Trial, lines, piped, refused, zone_file
 
 LIMITED = plan_of(
@@ -53,8 +55,7 @@ PARTS = [
     (
         "cpit_destinations, the first of equals",
         piped(dumps("b"), ZERO),
-        "== cpit|NAME: one|TYPE: CPIT|NBLOCKS: 1|NPERIODS: 1|NRESOURCE_SIDE_CONSTRAINTS: 1|"
-        f"DISCOUNT_RATE: 0.1|OBJECTIVE_FUNCTION:|0 -2|{NO_RESOURCE}",
+        f"== cpit|{heading('CPIT', blocks=1, resources=1)}OBJECTIVE_FUNCTION:|0 -2|{NO_RESOURCE}",
     ),
     *(
         (name, piped(plan, zone_file(row)), "OBJECTIVE_FUNCTION:|" + part)
@@ -229,8 +230,7 @@ def many_coefficients(resources):
     worths = "".join(f"{block} 0|" for block in range(1000))
     part = (
         f"RESOURCE_CONSTRAINT_COEFFICIENTS:|{coefficients}RESOURCE_CONSTRAINT_LIMITS:|"
-        "== cpit|NAME: one|TYPE: CPIT|NBLOCKS: 1000|NPERIODS: 1|"
-        f"NRESOURCE_SIDE_CONSTRAINTS: {resources}|DISCOUNT_RATE: 0.1|OBJECTIVE_FUNCTION:|{worths}"
+        f"== cpit|{heading('CPIT', blocks=1000, resources=resources)}OBJECTIVE_FUNCTION:|{worths}"
         f"RESOURCE_CONSTRAINT_COEFFICIENTS:|{chosen}RESOURCE_CONSTRAINT_LIMITS:|"
     )
     name = f"coefficients of 1,000 blocks, {resources + 1} each"

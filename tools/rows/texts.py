@@ -1,43 +1,55 @@
 """MineLib texts by `pitc check`: the counts of those that are taken, and the first faulty line of
 the others."""
 import itertools
-from typing import NamedTuple, Optional, Sequence
+import re
+from typing import NamedTuple, Optional, Sequence, Union
 
 from rows.cells import (
     BLANKS, EVERY_BYTE, LETTERS, Cell, bytes_about_a_name, pairs_of_faults, with_cell,
 )
-from rows.instance import LIMITED_TEXTS, NO_BLOCK, ONE_ORE_BLOCK, at
+from rows.instance import LIMITED_TEXTS, NO_BLOCK, ONE_ORE_BLOCK, at, heading
 from rows.trial import MARK, Trial, lines, refused
-from shared import CHECKED
+from shared import CHECKED, header
+
+
+def number_of(text, line):
+    """The number of a line, counted from 1. It is said by this, or by a word of its key, as
+    `NPERIODS`, also as so many lines behind or before it, as `LIMITS+2`."""
+    if isinstance(line, int):
+        return line
+    word, more = re.fullmatch(r"(\w+)([+-]\d+)?", line).groups()
+    keys = [other.partition(":")[0] for other in text]
+    key = next(key for key in keys if word in [key, *key.split("_")])
+    return keys.index(key) + 1 + int(more or 0)
 
 
 class Change(NamedTuple):
-    """Lines that stand in the place of those from the first to the last."""
+    """Lines that stand in the place of so many from a line on, or of all."""
 
-    first: int
-    last: Optional[int]
+    line: Union[int, str]
+    count: Optional[int]
     others: Sequence[str]
 
     def of(self, text):
-        rest = text[self.last :] if self.last is not None else []
-        return [*text[: self.first], *self.others, *rest]
+        first = number_of(text, self.line) - 1
+        rest = text[first + self.count :] if self.count is not None else []
+        return [*text[:first], *self.others, *rest]
 
 
-# Lines are counted from 1.
-def put(number, line):
-    return Change(number - 1, number, [line])
+def put(line, other):
+    return Change(line, 1, [other])
 
 
-def before(number, line):
-    return Change(number - 1, number - 1, [line])
+def before(line, other):
+    return Change(line, 0, [other])
 
 
-def without(number):
-    return Change(number - 1, number, [])
+def without(line):
+    return Change(line, 1, [])
 
 
-def front(count):
-    return Change(count, None, [])
+def cut_before(line):
+    return Change(line, None, [])
 
 
 def whole(text):
@@ -80,14 +92,16 @@ LIMIT_LINES = [
     ([RESOURCE, BLOCK, BETWEEN, LEAST, GREATEST], []),
 ]
 
-# By the number of the line: the second of the objective, and the only one of each other section;
-# then those of limits.
+# The second line of the objective, and the only one of each other section; then those of limits.
 LINES_OF_A_PCPSP = [
-    (11, ([BLOCK, VALUE, VALUE], ["Order"])),
-    (13, ([BLOCK, BLOCK, RESOURCE, VALUE], [])),
+    ("OBJECTIVE+2", ([BLOCK, VALUE, VALUE], ["Order"])),
+    ("COEFFICIENTS+1", ([BLOCK, BLOCK, RESOURCE, VALUE], [])),
 ]
 
-LINES_OF_A_CPIT = [(9, ([BLOCK, VALUE], ["Order"])), (11, ([BLOCK, RESOURCE, VALUE], []))]
+LINES_OF_A_CPIT = [
+    ("OBJECTIVE+2", ([BLOCK, VALUE], ["Order"])),
+    ("COEFFICIENTS+1", ([BLOCK, RESOURCE, VALUE], [])),
+]
 
 # The header keys with a number, where there is no block.
 HEADER_NUMBERS = {
@@ -102,80 +116,90 @@ HEADER_NUMBERS = {
 # Faults of model files, of each kind at every place that can have it: the number of the line that
 # is told and the kind, and the lines that have it in the place of that line, or changes.
 FAULTS_OF_A_PCPSP = [
-    (1, "Fields", "NAME:", "NAME: one two"),
-    (1, "Name", "NAME: o/e", 'NAME: "one"', "NAME: one\r ", "NAME: one%", "NAME: one,"),
-    (1, "Key", "NAMES: one", "name: one", "one", "NAME = one", "NAME one", "NAME; one", "N AME: 1"),
-    (2, "Key", "TYPE = PCPSP", "TY PE: PCPSP"),
-    (2, "Name", "TYPE: CPIT", "TYPE: pcpsp"),
-    (2, "Twice", "NAME: one"),
-    (3, "Count", "NBLOCKS: 3", "NBLOCKS: 64000000"),
-    (3, "Range", "NBLOCKS: 64000001"),
-    (3, "Number", "NBLOCKS: x"),
-    (3, "TooFine", "NBLOCKS: 2.5"),
-    (4, "Range", "NPERIODS: 0", "NPERIODS: 101"),
-    (5, "Range", "NDESTINATIONS: 0", "NDESTINATIONS: 9"),
-    (6, "Range", "NRESOURCE_SIDE_CONSTRAINTS: 9"),
-    (7, "Range", "NGENERAL_SIDE_CONSTRAINTS: 1"),
-    (7, "Fields", "NGENERAL_SIDE_CONSTRAINTS: 0 0", "NGENERAL_SIDE_CONSTRAINTS: 1 1"),
-    (8, "Key", "DISCOUNT RATE: 0.1", "DISCOUNT_RATE = 0.1", "DISCOUNT-RATE: 0.1", "RATE: 0.1"),
-    (8, "Number", "DISCOUNT_RATE: 10%", "DISCOUNT_RATE: 0,1", "DISCOUNT_RATE: 0.1\r "),
-    (8, "Range", "DISCOUNT_RATE: 1.000001"),
-    (8, "TooFine", "DISCOUNT_RATE: 0.0000001"),
-    (8, "Missing", without(8)),
-    (9, "Fields", "OBJECTIVE_FUNCTION: 1"),
-    (9, "Key", "RESOURCE_CONSTRAINT_COEFFICIENTS:", without(9)),
+    ("NAME", "Fields", "NAME:", "NAME: one two"),
+    ("NAME", "Name", "NAME: o/e", 'NAME: "one"', "NAME: one\r ", "NAME: one%", "NAME: one,"),
+    ("NAME", "Key", "NAMES: one", "name: one", "one", "NAME = one", "NAME one", "NAME; one",
+     "N AME: 1"),
+    ("TYPE", "Key", "TYPE = PCPSP", "TY PE: PCPSP"),
+    ("TYPE", "Name", "TYPE: CPIT", "TYPE: pcpsp"),
+    ("TYPE", "Twice", "NAME: one"),
+    ("NBLOCKS", "Count", "NBLOCKS: 3", "NBLOCKS: 64000000"),
+    ("NBLOCKS", "Range", "NBLOCKS: 64000001"),
+    ("NBLOCKS", "Number", "NBLOCKS: x"),
+    ("NBLOCKS", "TooFine", "NBLOCKS: 2.5"),
+    ("NPERIODS", "Range", "NPERIODS: 0", "NPERIODS: 101"),
+    ("NDESTINATIONS", "Range", "NDESTINATIONS: 0", "NDESTINATIONS: 9"),
+    ("NRESOURCE_SIDE_CONSTRAINTS", "Range", "NRESOURCE_SIDE_CONSTRAINTS: 9"),
+    ("NGENERAL_SIDE_CONSTRAINTS", "Range", "NGENERAL_SIDE_CONSTRAINTS: 1"),
+    ("NGENERAL_SIDE_CONSTRAINTS", "Fields", "NGENERAL_SIDE_CONSTRAINTS: 0 0",
+     "NGENERAL_SIDE_CONSTRAINTS: 1 1"),
+    ("RATE", "Key", "DISCOUNT RATE: 0.1", "DISCOUNT_RATE = 0.1", "DISCOUNT-RATE: 0.1", "RATE: 0.1"),
+    ("RATE", "Number", "DISCOUNT_RATE: 10%", "DISCOUNT_RATE: 0,1", "DISCOUNT_RATE: 0.1\r "),
+    ("RATE", "Range", "DISCOUNT_RATE: 1.000001"),
+    ("RATE", "TooFine", "DISCOUNT_RATE: 0.0000001"),
+    ("OBJECTIVE-1", "Missing", without("RATE")),
+    ("OBJECTIVE", "Fields", "OBJECTIVE_FUNCTION: 1"),
+    ("OBJECTIVE", "Key", "RESOURCE_CONSTRAINT_COEFFICIENTS:", without("OBJECTIVE")),
     # a section out of turn while keys lack, and one in turn while lines lack
-    (8, "Key", Change(7, 9, ["RESOURCE_CONSTRAINT_COEFFICIENTS:"]), Change(7, 9, ["EOF:"])),
-    (8, "Key", Change(7, 9, ["RESOURCE_CONSTRAINT_LIMITS: 1"]), Change(7, 9, ["0 12000 -2000"])),
-    (8, "Twice", Change(7, 9, ["NAME: one two"])),
-    (11, "Fields", Change(10, 12, ["RESOURCE_CONSTRAINT_COEFFICIENTS: 1"])),
-    (11, "Key", Change(10, 12, ["RESOURCE_CONSTRAINT_LIMITS:"]), Change(10, 12, ["EOF:"])),
-    (10, "Key", "0 1:1", "0 12000 -2000:", ":", ": 0 12000 -2000", "0:", "NAME: one"),
-    (10, "Fields", "0 12000"),
-    (10, "Range", "2 12000 -2000"),
-    (10, "Order", "1 12000 -2000"),
-    (10, "Number", "0 12000 ?", "1 ? -2000"),
-    (11, "Missing", without(11)),
-    (12, "Order", before(12, "1 0 0"), before(12, "0 0 0")),
-    (12, "Range", before(12, "2 1 1"), before(12, "2 ? 1"), before(12, "-1 1 1")),
-    (12, "Number", before(12, "1 ? 0"), before(12, "0 0 ?")),
-    (12, "Fields", before(12, "1 0"), before(12, "2 0 0 0")),
-    (12, "Key", before(12, "NPERIODS: 2"), before(12, "1 0:0"), before(12, "END:")),
-    (13, "Fields", "0 0 1000"),
-    (13, "Range", "0 2 0 1000", "0 0 1 1000"),
-    (14, "Order", before(13, "0 0 0 1000")),
-    (14, "Missing", front(13)),
-    (13, "Key", "0 0 0:1000", "EOF: 0"),
-    (13, "Range", "2 0 0 ?", "0 0 -1 1000"),
-    (15, "Fields", "0", "0 0", "0 0 L", "0 0 L 1 2", "0 0 IN 1 2", "0 0 I", "0 0 I 1 2 3"),
-    (15, "Fields", "0 9 ? 1 2", "9 9 ? 1 2", "9 9 I 1", "?"),
-    (15, "Name", "0 0 E 1", "0 0 IN 1", "0 0 L% 1", '0 0 "L" 1', "0 0 l 1"),
-    (15, "Key", "0 0 L: 1", "0:0 L 1"),
-    (15, "Number", "0 0 L 1%", "0 0 L %", "0 0 I 2 x", "0 0 I x 1", "0 0 L 1\r "),
-    (15, "Range", "0 2 I 2 1", "1 0 I 2 1", "2 9 ? 1"),
-    (15, "Order", "0 0 I 2.000001 2", "0 0 I -1 -2", "0 0 I 0.000001 0", "0 0 I 0 -0.000001"),
-    (15, "Range", "0 2 L 1"),
-    (16, "Fields", "0 1 I 0"),
-    (16, "Order", "0 1 I 901 900", "0 0 G 1", "0 0 I 1 2", "0 0 I 2 1", "0 0 L 500.5"),
-    (17, "Order", before(17, "0 1 I 0 900"), before(17, "0 0 L 1"), before(17, "0 1 L 1")),
-    (17, "Key", before(17, "EOF:"), before(17, "OBJECTIVE_FUNCTION:")),
-    (17, "Fields", before(17, "EOF"), before(17, "0 1 I")),
+    ("OBJECTIVE-1", "Key", Change("OBJECTIVE-1", 2, ["RESOURCE_CONSTRAINT_COEFFICIENTS:"]),
+     Change("OBJECTIVE-1", 2, ["EOF:"])),
+    ("OBJECTIVE-1", "Key", Change("OBJECTIVE-1", 2, ["RESOURCE_CONSTRAINT_LIMITS: 1"]),
+     Change("OBJECTIVE-1", 2, ["0 12000 -2000"])),
+    ("OBJECTIVE-1", "Twice", Change("OBJECTIVE-1", 2, ["NAME: one two"])),
+    ("OBJECTIVE+2", "Fields", Change("OBJECTIVE+2", 2, ["RESOURCE_CONSTRAINT_COEFFICIENTS: 1"])),
+    ("OBJECTIVE+2", "Key", Change("OBJECTIVE+2", 2, ["RESOURCE_CONSTRAINT_LIMITS:"]),
+     Change("OBJECTIVE+2", 2, ["EOF:"])),
+    ("OBJECTIVE+1", "Key", "0 1:1", "0 12000 -2000:", ":", ": 0 12000 -2000", "0:", "NAME: one"),
+    ("OBJECTIVE+1", "Fields", "0 12000"),
+    ("OBJECTIVE+1", "Range", "2 12000 -2000"),
+    ("OBJECTIVE+1", "Order", "1 12000 -2000"),
+    ("OBJECTIVE+1", "Number", "0 12000 ?", "1 ? -2000"),
+    ("OBJECTIVE+2", "Missing", without("OBJECTIVE+2")),
+    ("COEFFICIENTS", "Order", before("COEFFICIENTS", "1 0 0"), before("COEFFICIENTS", "0 0 0")),
+    ("COEFFICIENTS", "Range", before("COEFFICIENTS", "2 1 1"), before("COEFFICIENTS", "2 ? 1"),
+     before("COEFFICIENTS", "-1 1 1")),
+    ("COEFFICIENTS", "Number", before("COEFFICIENTS", "1 ? 0"), before("COEFFICIENTS", "0 0 ?")),
+    ("COEFFICIENTS", "Fields", before("COEFFICIENTS", "1 0"), before("COEFFICIENTS", "2 0 0 0")),
+    ("COEFFICIENTS", "Key", before("COEFFICIENTS", "NPERIODS: 2"), before("COEFFICIENTS", "1 0:0"),
+     before("COEFFICIENTS", "END:")),
+    ("COEFFICIENTS+1", "Fields", "0 0 1000"),
+    ("COEFFICIENTS+1", "Range", "0 2 0 1000", "0 0 1 1000"),
+    ("LIMITS", "Order", before("COEFFICIENTS+1", "0 0 0 1000")),
+    ("LIMITS", "Missing", cut_before("LIMITS")),
+    ("COEFFICIENTS+1", "Key", "0 0 0:1000", "EOF: 0"),
+    ("COEFFICIENTS+1", "Range", "2 0 0 ?", "0 0 -1 1000"),
+    ("LIMITS+1", "Fields", "0", "0 0", "0 0 L", "0 0 L 1 2", "0 0 IN 1 2", "0 0 I", "0 0 I 1 2 3"),
+    ("LIMITS+1", "Fields", "0 9 ? 1 2", "9 9 ? 1 2", "9 9 I 1", "?"),
+    ("LIMITS+1", "Name", "0 0 E 1", "0 0 IN 1", "0 0 L% 1", '0 0 "L" 1', "0 0 l 1"),
+    ("LIMITS+1", "Key", "0 0 L: 1", "0:0 L 1"),
+    ("LIMITS+1", "Number", "0 0 L 1%", "0 0 L %", "0 0 I 2 x", "0 0 I x 1", "0 0 L 1\r "),
+    ("LIMITS+1", "Range", "0 2 I 2 1", "1 0 I 2 1", "2 9 ? 1"),
+    ("LIMITS+1", "Order", "0 0 I 2.000001 2", "0 0 I -1 -2", "0 0 I 0.000001 0",
+     "0 0 I 0 -0.000001"),
+    ("LIMITS+1", "Range", "0 2 L 1"),
+    ("LIMITS+2", "Fields", "0 1 I 0"),
+    ("LIMITS+2", "Order", "0 1 I 901 900", "0 0 G 1", "0 0 I 1 2", "0 0 I 2 1", "0 0 L 500.5"),
+    ("LIMITS+3", "Order", before("LIMITS+3", "0 1 I 0 900"), before("LIMITS+3", "0 0 L 1"),
+     before("LIMITS+3", "0 1 L 1")),
+    ("LIMITS+3", "Key", before("LIMITS+3", "EOF:"), before("LIMITS+3", "OBJECTIVE_FUNCTION:")),
+    ("LIMITS+3", "Fields", before("LIMITS+3", "EOF"), before("LIMITS+3", "0 1 I")),
 ]
 
 FAULTS_OF_ONE_ORE_BLOCK = [
-    (2, "Name", "TYPE: CPIT"),
-    (3, "Count", "NBLOCKS: 2"),
-    (3, "Range", "NBLOCKS: 64000001"),
-    (7, "Range", "NGENERAL_SIDE_CONSTRAINTS: 1"),
-    (8, "Missing", without(8)),
-    (10, "Missing", without(10), front(9)),
-    (12, "Missing", without(12)),
-    (12, "Range", before(12, "0 0 0 5")),
-    (13, "Key", before(13, "RESOURCE_CONSTRAINT_LIMITS:")),
-    (11, "Range", before(11, "1 0"), before(11, "2 1"), before(11, "1 ?")),
-    (11, "Order", before(11, "0 0")),
-    (13, "Range", before(13, "0 0 L 1"), before(13, "0 0 I 2 1")),
-    (13, "Fields", before(13, "0 0 I 1"), before(13, "EOF")),
+    ("TYPE", "Name", "TYPE: CPIT"),
+    ("NBLOCKS", "Count", "NBLOCKS: 2"),
+    ("NBLOCKS", "Range", "NBLOCKS: 64000001"),
+    ("NGENERAL_SIDE_CONSTRAINTS", "Range", "NGENERAL_SIDE_CONSTRAINTS: 1"),
+    ("OBJECTIVE-1", "Missing", without("RATE")),
+    ("OBJECTIVE+1", "Missing", without("OBJECTIVE+1"), cut_before("OBJECTIVE+1")),
+    ("LIMITS", "Missing", without("LIMITS")),
+    ("LIMITS", "Range", before("LIMITS", "0 0 0 5")),
+    ("LIMITS+1", "Key", before("LIMITS+1", "RESOURCE_CONSTRAINT_LIMITS:")),
+    ("COEFFICIENTS", "Range", before("COEFFICIENTS", "1 0"), before("COEFFICIENTS", "2 1"),
+     before("COEFFICIENTS", "1 ?")),
+    ("COEFFICIENTS", "Order", before("COEFFICIENTS", "0 0")),
+    ("LIMITS+1", "Range", before("LIMITS+1", "0 0 L 1"), before("LIMITS+1", "0 0 I 2 1")),
+    ("LIMITS+1", "Fields", before("LIMITS+1", "0 0 I 1"), before("LIMITS+1", "EOF")),
 ]
 
 # What stands behind the greatest line of a section, does not rise, and has another fault, which is
@@ -206,43 +230,45 @@ LIMITS_BEHIND = [
 ]
 
 FAULTS_OF_A_CPIT = [
-    (2, "Name", "TYPE: PCPSP"),
-    (5, "Key", before(5, "NDESTINATIONS: 2"), before(5, "NGENERAL_SIDE_CONSTRAINTS: 0")),
-    (1, "Name", 'NAME: "one"', "NAME: one\r "),
-    (1, "Key", "NAME = one", "NAME one"),
-    (6, "Key", "DISCOUNT RATE: 0.1", "DISCOUNT_RATE = 0.1", "DISCOUNT-RATE: 0.1"),
-    (7, "Key", "OBJECTIVE FUNCTION:", "OBJECTIVE-FUNCTION:", "OBJECTIVE_FUNCTION"),
-    (6, "Number", "DISCOUNT_RATE: 10%", "DISCOUNT_RATE: 0.1\r "),
-    (6, "Key", Change(5, 7, ["RESOURCE_CONSTRAINT_COEFFICIENTS:"]), Change(5, 7, ["0 12000"])),
-    (6, "Missing", without(6)),
-    (8, "Fields", "0 12000 0", "0"),
-    (8, "Key", "0:12000", "0 12000:", "NAME: one"),
-    (9, "Missing", without(9)),
-    (9, "Fields", Change(8, 10, ["RESOURCE_CONSTRAINT_COEFFICIENTS: 1"])),
-    (9, "Key", Change(8, 10, ["RESOURCE_CONSTRAINT_LIMITS:"])),
-    (10, "Order", before(10, "1 0"), before(10, "0 0")),
-    (10, "Range", before(10, "2 1"), before(10, "2 ?")),
-    (10, "Number", before(10, "1 ?"), before(10, "0 ?")),
-    (10, "Fields", before(10, "1"), before(10, "2 0 0")),
-    (11, "Fields", "0 0 0 1000"),
-    (11, "Range", "2 0 1000"),
-    (12, "Order", before(11, "0 0 7")),
-    (13, "Fields", "0 0 G", "0 0", "0", "0 0 IN 1 2", "0 0 I 1"),
-    (13, "Name", "0 0 E 1", "0 0 IN 1"),
-    (13, "Range", "1 0 L 1", "0 2 I 2 1"),
-    (13, "Order", "0 0 I 2.000001 2", "0 0 I 0 -0.000001"),
-    (14, "Order", "0 0 G 1", "0 1 I 2 1"),
-    (15, "Order", before(15, "0 1 I 0 900"), before(15, "0 0 L 1")),
-    (15, "Fields", before(15, "EOF")),
-    (15, "Key", before(15, "EOF:")),
+    ("TYPE", "Name", "TYPE: PCPSP"),
+    ("NRESOURCE_SIDE_CONSTRAINTS", "Key", before("NRESOURCE_SIDE_CONSTRAINTS", "NDESTINATIONS: 2"),
+     before("NRESOURCE_SIDE_CONSTRAINTS", "NGENERAL_SIDE_CONSTRAINTS: 0")),
+    ("NAME", "Name", 'NAME: "one"', "NAME: one\r "),
+    ("NAME", "Key", "NAME = one", "NAME one"),
+    ("RATE", "Key", "DISCOUNT RATE: 0.1", "DISCOUNT_RATE = 0.1", "DISCOUNT-RATE: 0.1"),
+    ("OBJECTIVE", "Key", "OBJECTIVE FUNCTION:", "OBJECTIVE-FUNCTION:", "OBJECTIVE_FUNCTION"),
+    ("RATE", "Number", "DISCOUNT_RATE: 10%", "DISCOUNT_RATE: 0.1\r "),
+    ("OBJECTIVE-1", "Key", Change("OBJECTIVE-1", 2, ["RESOURCE_CONSTRAINT_COEFFICIENTS:"]),
+     Change("OBJECTIVE-1", 2, ["0 12000"])),
+    ("OBJECTIVE-1", "Missing", without("RATE")),
+    ("OBJECTIVE+1", "Fields", "0 12000 0", "0"),
+    ("OBJECTIVE+1", "Key", "0:12000", "0 12000:", "NAME: one"),
+    ("OBJECTIVE+2", "Missing", without("OBJECTIVE+2")),
+    ("OBJECTIVE+2", "Fields", Change("OBJECTIVE+2", 2, ["RESOURCE_CONSTRAINT_COEFFICIENTS: 1"])),
+    ("OBJECTIVE+2", "Key", Change("OBJECTIVE+2", 2, ["RESOURCE_CONSTRAINT_LIMITS:"])),
+    ("COEFFICIENTS", "Order", before("COEFFICIENTS", "1 0"), before("COEFFICIENTS", "0 0")),
+    ("COEFFICIENTS", "Range", before("COEFFICIENTS", "2 1"), before("COEFFICIENTS", "2 ?")),
+    ("COEFFICIENTS", "Number", before("COEFFICIENTS", "1 ?"), before("COEFFICIENTS", "0 ?")),
+    ("COEFFICIENTS", "Fields", before("COEFFICIENTS", "1"), before("COEFFICIENTS", "2 0 0")),
+    ("COEFFICIENTS+1", "Fields", "0 0 0 1000"),
+    ("COEFFICIENTS+1", "Range", "2 0 1000"),
+    ("LIMITS", "Order", before("COEFFICIENTS+1", "0 0 7")),
+    ("LIMITS+1", "Fields", "0 0 G", "0 0", "0", "0 0 IN 1 2", "0 0 I 1"),
+    ("LIMITS+1", "Name", "0 0 E 1", "0 0 IN 1"),
+    ("LIMITS+1", "Range", "1 0 L 1", "0 2 I 2 1"),
+    ("LIMITS+1", "Order", "0 0 I 2.000001 2", "0 0 I 0 -0.000001"),
+    ("LIMITS+2", "Order", "0 0 G 1", "0 1 I 2 1"),
+    ("LIMITS+3", "Order", before("LIMITS+3", "0 1 I 0 900"), before("LIMITS+3", "0 0 L 1")),
+    ("LIMITS+3", "Fields", before("LIMITS+3", "EOF")),
+    ("LIMITS+3", "Key", before("LIMITS+3", "EOF:")),
 ]
 
 # A CPIT that ends within its objective, or that is hostile.
 HOSTILE_CPIT = [
-    (3, "Range", "NBLOCKS: 64000001", "NBLOCKS: 18446744073709551616"),
-    (8, "Missing", front(7)),
-    (8, "Range", "-1 12000", "18446744073709551616 12000"),
-    (11, "Range", "0 18446744073709551616 1000"),
+    ("NBLOCKS", "Range", "NBLOCKS: 64000001", "NBLOCKS: 18446744073709551616"),
+    ("OBJECTIVE+1", "Missing", cut_before("OBJECTIVE+1")),
+    ("OBJECTIVE+1", "Range", "-1 12000", "18446744073709551616 12000"),
+    ("COEFFICIENTS+1", "Range", "0 18446744073709551616 1000"),
 ]
 
 # The line that is told, and block files, each with these precedences. Then precedence files, each
@@ -357,11 +383,10 @@ NOT_SKIPPED = ["\r\r", "\v", "\f", "#", "//%", "\0", "\r%", ";"]
 # By hand: remarks, blank lines, runs of blanks, line ends of two bytes, header keys in another
 # order, a last line without its end.
 HAND_BLOCKS = b"% hand\r\n\n0\t0 0  0 1000.000 5000 0\r\n"
-HAND_PCPSP = lines(
-    "DISCOUNT_RATE: 0.1|NGENERAL_SIDE_CONSTRAINTS: 0|NRESOURCE_SIDE_CONSTRAINTS: 0|"
-    "NDESTINATIONS: 1|NPERIODS: 1|NBLOCKS: 1|TYPE: PCPSP|NAME : one|OBJECTIVE_FUNCTION:|0 12000|"
-    "RESOURCE_CONSTRAINT_COEFFICIENTS:|RESOURCE_CONSTRAINT_LIMITS:"
-)
+HAND_PCPSP = "\n".join([
+    *reversed(header("PCPSP", blocks=1)[1:]), "NAME : one", "OBJECTIVE_FUNCTION:", "0 12000",
+    "RESOURCE_CONSTRAINT_COEFFICIENTS:", "RESOURCE_CONSTRAINT_LIMITS:",
+]).encode()
 
 # A mark in front, and numbers in other spellings.
 SPELLED_BLOCKS = MARK + b"+0 0. 0 .0 01000.0000000 5000 0\n1 1 0 0 -0 7 0"
@@ -370,8 +395,7 @@ SPELLED_BLOCKS = MARK + b"+0 0. 0 .0 01000.0000000 5000 0\n1 1 0 0 -0 7 0"
 EDGE_BLOCKS = b"0 0 0 0 0 0 0\n1 9999 9999 9999 1000000 1000000 63\n2 2 0 0 0 0 0\n"
 EDGE_PREC = b"0 2 2 1\n1 0\n2 0\n"
 EDGE_PCPSP = lines(
-    "NAME: n|TYPE: PCPSP|NBLOCKS: 3|NPERIODS: 100|NDESTINATIONS: 1|NRESOURCE_SIDE_CONSTRAINTS: 8|"
-    "NGENERAL_SIDE_CONSTRAINTS: 0|DISCOUNT_RATE: 1|"
+    heading("PCPSP", name="n", blocks=3, periods=100, resources=8, rate=1) +
     "OBJECTIVE_FUNCTION:|0 -1000000000000000000|1 0.000001|2 0|"
     "RESOURCE_CONSTRAINT_COEFFICIENTS:|0 0 7 -1|2 0 0 0|"
     "RESOURCE_CONSTRAINT_LIMITS:|0 99 G -5|7 0 I -2 -2|"
@@ -394,7 +418,7 @@ def with_one_pcpsp(text):
 HAND = HAND_BLOCKS, b"0 0", HAND_PCPSP
 EDGE = EDGE_BLOCKS, EDGE_PREC, EDGE_PCPSP
 REMARKS = b"% none\n \t\n"
-AT_LEAST_500 = put(13, "0 0 G -500.5").of(CPIT)
+AT_LEAST_500 = put("LIMITS+1", "0 0 G -500.5").of(CPIT)
 
 TAKEN = [
     ("hand_made_instance", HAND, "blocks 1 arcs 0 coefficients 0 limits 0"),
@@ -406,18 +430,20 @@ TAKEN = [
     ("texts_of_no_block: a CPIT", (b"", b"", NO_PCPSP, NO_CPIT), NO_BLOCKS + " cpit 0"),
     ("cpit_destinations", with_cpit(CPIT), TWO_BLOCKS + " cpit 1"),
     ("cpit_destinations: a lower limit", with_cpit(AT_LEAST_500), TWO_BLOCKS + " cpit 1"),
-    ("cpit_destinations: no limit", with_cpit(front(12).of(CPIT)), TWO_BLOCKS + " cpit 1"),
+    ("cpit_destinations: no limit", with_cpit(cut_before("LIMITS+1").of(CPIT)),
+     TWO_BLOCKS + " cpit 1"),
     # what the two model files state is not compared, but for the number of blocks
     *(
         (f"cpit_beside_pcpsp: {line}", with_cpit(put(at, line).of(CPIT)), TWO_BLOCKS + " cpit 1")
         for at, line in [
-            (1, "NAME: other"), (4, "NPERIODS: 100"), (4, "NPERIODS: 3"),
-            (5, "NRESOURCE_SIDE_CONSTRAINTS: 8"), (6, "DISCOUNT_RATE: 0"), (8, "0 -7"),
-            (11, "0 0 999"), (11, "1 0 1"), (13, "0 0 G 1"), (14, "0 1 L 5"),
+            ("NAME", "NAME: other"), ("NPERIODS", "NPERIODS: 100"), ("NPERIODS", "NPERIODS: 3"),
+            ("NRESOURCE_SIDE_CONSTRAINTS", "NRESOURCE_SIDE_CONSTRAINTS: 8"),
+            ("RATE", "DISCOUNT_RATE: 0"), ("OBJECTIVE+1", "0 -7"), ("COEFFICIENTS+1", "0 0 999"),
+            ("COEFFICIENTS+1", "1 0 1"), ("LIMITS+1", "0 0 G 1"), ("LIMITS+2", "0 1 L 5"),
         ]
     ),
-    ("cpit_beside_pcpsp: fewer periods", with_cpit(Change(3, None, [
-        "NPERIODS: 1", *CPIT[4:13]]).of(CPIT)), TWO_BLOCKS + " cpit 1"),
+    ("cpit_beside_pcpsp: fewer periods", with_cpit(put("NPERIODS", "NPERIODS: 1").of(
+        cut_before("LIMITS+2").of(CPIT))), TWO_BLOCKS + " cpit 1"),
 ]
 
 
@@ -486,7 +512,7 @@ def lines_of_blocks():
 
 def lines_of_sections(file, good, lines_of, texts_of, counts):
     """A line of each section, of limits a line of each kind and of each letter."""
-    for number, line in lines_of:
+    for number, line in ((number_of(good, line), line_of) for line, line_of in lines_of):
         def texts_with(text):
             return texts_of(put(number, text).of(good))
         place = f"{file} line {number}"
@@ -514,13 +540,13 @@ def letters_of(place, texts_with, counts):
             yield answered(f"{name}, 5 fields", texts_with(f"0 0 {letter} 1 2"), place, "Fields")
 
 
-def orders(file, good, section, ends, tail, texts_of, counts):
-    """Two lines below the line of a section, whose places have these ends: each in front of each.
-    Then a third behind two that rise.
+def orders(file, good, key, ends, tail, texts_of, counts):
+    """Two lines below a section's line, whose places have these ends: each in front of each. Then
+    a third behind two that rise.
 
     `counts` has braces where the number of these lines stands.
     """
-    places = list(itertools.product(*map(range, ends)))
+    places, section = list(itertools.product(*map(range, ends))), number_of(good, key)
     below = next((line for line in range(section, len(good)) if ":" in good[line]), len(good))
 
     def answers(name, *chosen):
@@ -645,13 +671,13 @@ def words_of_headers(of):
     for length in (1, 63, 64, 65, 1000):
         kind = None if length <= 64 else "Name"
         name = f"length_of_a_name: {length}"
-        yield of.answered(name, put(1, "NAME: " + "a" * length), 1, kind)
-    far = put(1, "NAME:" + " " * 1_000_000 + "one")
+        yield of.answered(name, put("NAME", "NAME: " + "a" * length), 1, kind)
+    far = put("NAME", "NAME:" + " " * 1_000_000 + "one")
     yield of.answered("a_name_behind_a_million_blanks", far)
     right = of.file.upper()
     wrong = [right.lower(), right.title(), right[:-1], right[1:], right + "S", "UPIT", "?"]
     for other in [*wrong, "PCPSPCPIT".replace(right, "")]:
-        yield of.answered(f"types: {other}", put(2, "TYPE: " + other), 2, "Name")
+        yield of.answered(f"types: {other}", put("TYPE", "TYPE: " + other), 2, "Name")
 
 
 def bytes_of_lines():
@@ -709,34 +735,41 @@ def model_files():
     for of in (pcpsp, cpit):
         yield from headers(of)
         yield from words_of_headers(of)
-    good = put(6, "NRESOURCE_SIDE_CONSTRAINTS: 2").of(PCPSP)
+    two = put("NRESOURCE_SIDE_CONSTRAINTS", "NRESOURCE_SIDE_CONSTRAINTS: 2")
+    good = two.of(PCPSP)
     yield from lines_of_sections("pcpsp", good, LINES_OF_A_PCPSP, with_pcpsp, TWO_BLOCKS)
     counts = "blocks 2 arcs 1 coefficients {} limits 2"
-    yield from orders("pcpsp", good, 12, (2, 2, 2), " 1", with_pcpsp, counts)
+    yield from orders("pcpsp", good, "COEFFICIENTS", (2, 2, 2), " 1", with_pcpsp, counts)
     counts = "blocks 2 arcs 1 coefficients 1 limits {}"
-    yield from orders("pcpsp", good, 14, (2, 2), " L 1", with_pcpsp, counts)
-    good = put(5, "NRESOURCE_SIDE_CONSTRAINTS: 2").of(CPIT)
+    yield from orders("pcpsp", good, "LIMITS", (2, 2), " L 1", with_pcpsp, counts)
+    good = two.of(CPIT)
     counts = TWO_BLOCKS + " cpit 1"
     yield from lines_of_sections("cpit", good, LINES_OF_A_CPIT, with_cpit, counts)
-    yield from orders("cpit", good, 10, (2, 2), " 1", with_cpit, TWO_BLOCKS + " cpit {}")
-    yield from orders("cpit", good, 12, (2, 2), " G 1", with_cpit, counts)
+    arcs = TWO_BLOCKS + " cpit {}"
+    yield from orders("cpit", good, "COEFFICIENTS", (2, 2), " 1", with_cpit, arcs)
+    yield from orders("cpit", good, "LIMITS", (2, 2), " G 1", with_cpit, counts)
 
 
 def beside_order():
     """Lines that do not rise, and what else is wrong with them. There are two resources."""
-    two = ["NRESOURCE_SIDE_CONSTRAINTS: 2"]
-    pcpsp, cpit = Change(5, 6, two).of(PCPSP), Change(4, 5, two).of(CPIT)
-    for file, good, texts_of, number, last, greatest, table in [
-        ("pcpsp", pcpsp, with_pcpsp, 13, 13, "1 1 1 1", COEFFICIENTS_BEHIND),
-        ("pcpsp", pcpsp, with_pcpsp, 15, None, "1 1 L 1", LIMITS_BEHIND),
-        ("cpit", cpit, with_cpit, 11, 11, "1 1 1", CPIT_COEFFICIENTS_BEHIND),
-        ("cpit", cpit, with_cpit, 13, None, "1 1 L 1", LIMITS_BEHIND),
+    two = put("NRESOURCE_SIDE_CONSTRAINTS", "NRESOURCE_SIDE_CONSTRAINTS: 2")
+    pcpsp, cpit = two.of(PCPSP), two.of(CPIT)
+    for file, good, texts_of, line, count, greatest, table in [
+        ("pcpsp", pcpsp, with_pcpsp, "COEFFICIENTS+1", 1, "1 1 1 1", COEFFICIENTS_BEHIND),
+        ("pcpsp", pcpsp, with_pcpsp, "LIMITS+1", None, "1 1 L 1", LIMITS_BEHIND),
+        ("cpit", cpit, with_cpit, "COEFFICIENTS+1", 1, "1 1 1", CPIT_COEFFICIENTS_BEHIND),
+        ("cpit", cpit, with_cpit, "LIMITS+1", None, "1 1 L 1", LIMITS_BEHIND),
     ]:
         for kind, *others in table:
             for other in others:
-                texts = texts_of(Change(number - 1, last, [greatest, other]).of(good))
+                texts = texts_of(Change(line, count, [greatest, other]).of(good))
                 name = f"beside_order: {file}: {greatest}, {other}"
-                yield answered(name, texts, f"{file} line {number + 1}", kind)
+                yield answered(name, texts, f"{file} line {number_of(good, line) + 1}", kind)
+
+
+LINES_OF_EACH_KIND = [
+    "NAME", "OBJECTIVE", "OBJECTIVE+1", "COEFFICIENTS+1", "LIMITS+1", "LIMITS+2",
+]
 
 
 def long_lines():
@@ -745,11 +778,9 @@ def long_lines():
         fields = " 0" * more
         blocks = f"0 0 0 0 1 0 0\n1 0 0 0 1 0 0{fields}\n".encode()
         yield faulty(f"long_lines: blocks, {more}", (blocks, PREC, b""), "blocks line 2: Fields")
-        for file, good, texts_of, numbers in [
-            ("pcpsp", PCPSP, with_pcpsp, (1, 9, 10, 13, 15, 16)),
-            ("cpit", CPIT, with_cpit, (1, 7, 8, 11, 13, 14)),
-        ]:
-            for number in numbers:
+        for file, good, texts_of in [("pcpsp", PCPSP, with_pcpsp), ("cpit", CPIT, with_cpit)]:
+            for line in LINES_OF_EACH_KIND:
+                number = number_of(good, line)
                 texts = texts_of(put(number, good[number - 1] + fields).of(good))
                 name = f"long_lines: {file} line {number}, {more}"
                 yield answered(name, texts, f"{file} line {number}", "Fields")
@@ -763,18 +794,21 @@ def changed_files():
         ("cpit_destinations", "cpit", CPIT, with_cpit, FAULTS_OF_A_CPIT),
         ("hostile_minelib_texts", "cpit", CPIT, with_cpit, HOSTILE_CPIT),
     ]:
-        for number, kind, *changes in table:
+        for line, kind, *changes in table:
             for change in changes:
-                change = put(number, change) if isinstance(change, str) else change
-                texts = texts_of(change.of(good))
-                yield answered(f"{name}: {change}", texts, f"{file} line {number}", kind)
+                change = put(line, change) if isinstance(change, str) else change
+                texts, place = texts_of(change.of(good)), f"{file} line {number_of(good, line)}"
+                yield answered(f"{name}: {change}", texts, place, kind)
     texts = [*with_one_pcpsp(ONE_PCPSP), whole(CPIT)]
     yield faulty("cpit_destinations: of two blocks", texts, "cpit line 3: Count")
-    cut = ONE_BLOCK, ONE_PREC, whole(front(9).of(ONE_PCPSP)) + b"0 1"
+    values, behind = cut_before("OBJECTIVE+1"), number_of(ONE_PCPSP, "OBJECTIVE+2")
+    cut = ONE_BLOCK, ONE_PREC, whole(values.of(ONE_PCPSP)) + b"0 1"
     name = "hostile_minelib_texts: a model file that is cut"
-    yield faulty(name, cut, "pcpsp line 11: Missing")
-    cut = BLOCKS, PREC, whole(PCPSP), whole(front(7).of(CPIT)) + b"0 1"
-    yield faulty("hostile_minelib_texts: a CPIT that is cut", cut, "cpit line 9: Missing")
+    yield faulty(name, cut, f"pcpsp line {behind}: Missing")
+    cut, behind = with_cpit(values.of(CPIT)), number_of(CPIT, "OBJECTIVE+2")
+    cut = *cut[:3], cut[3] + b"0 1"
+    name = "hostile_minelib_texts: a CPIT that is cut"
+    yield faulty(name, cut, f"cpit line {behind}: Missing")
 
 
 def blocks_and_precedences():
@@ -812,8 +846,8 @@ def trials():
     yield from blocks_and_precedences()
     for kind, *spellings in SPELLINGS:
         for numbers in spellings:
-            texts = with_pcpsp(put(10, "0 " + numbers).of(PCPSP))
-            name = f"further_spellings: {numbers}"
-            yield answered(name, texts, "pcpsp line 10", kind, TWO_BLOCKS)
+            texts = with_pcpsp(put("OBJECTIVE+1", "0 " + numbers).of(PCPSP))
+            name, place = f"further_spellings: {numbers}", number_of(PCPSP, "OBJECTIVE+1")
+            yield answered(name, texts, f"pcpsp line {place}", kind, TWO_BLOCKS)
     for name, texts, counts in TAKEN:
         yield answered(name, texts, None, None, counts)

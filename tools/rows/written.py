@@ -5,7 +5,7 @@ What is not written out here follows by a formula of its own, or by the plain co
 import itertools
 
 from rows.cells import spelled
-from rows.instance import arcs_of, plain_texts, plan_of, sections
+from rows.instance import arcs_of, heading, plain_texts, plan_of, sections
 from rows.trial import HEADER, Parts, Trial, lines, piped, zone_file
 
 
@@ -48,8 +48,8 @@ SHOWN = [
             LONGEST,
         ),
         ONE_BLOCK,
-        f"== pcpsp|NAME: {LONGEST}|TYPE: PCPSP|NBLOCKS: 1|NPERIODS: 100|NDESTINATIONS: 3|"
-        "NRESOURCE_SIDE_CONSTRAINTS: 2|NGENERAL_SIDE_CONSTRAINTS: 0|DISCOUNT_RATE: 0.000001|"
+        "== pcpsp|" + heading("PCPSP", name=LONGEST, blocks=1, periods=100, destinations=3,
+                              resources=2, rate="0.000001") +
         "OBJECTIVE_FUNCTION:|0 12 13.75 -2.5|"
         "RESOURCE_CONSTRAINT_COEFFICIENTS:|0 0 1 1|0 1 1 1|0 2 0 1|"
         "RESOURCE_CONSTRAINT_LIMITS:|0 7 L 0.000001|0 98 G 0|1 0 G 1000000000000|"
@@ -251,8 +251,8 @@ def equal_worths():
             f"equal_when_rounded: {destinations}",
             small(destinations, "periods,1|rate,0|resource,r,a|"),
             b"0,0,0,0.001,0\n",
-            f"PCPSP|NBLOCKS: 1|NPERIODS: 1|NDESTINATIONS: 2|NRESOURCE_SIDE_CONSTRAINTS: 1|"
-            f"NGENERAL_SIDE_CONSTRAINTS: 0|DISCOUNT_RATE: 0|OBJECTIVE_FUNCTION:|0 {worth} {worth}|",
+            heading("PCPSP", name="n", blocks=1, destinations=2, resources=1, rate=0) +
+            f"OBJECTIVE_FUNCTION:|0 {worth} {worth}|",
             f"OBJECTIVE_FUNCTION:|0 {worth}|RESOURCE_CONSTRAINT_COEFFICIENTS:|0 0 0.001|RESOURCE",
         )
 
@@ -271,8 +271,8 @@ def numbers_and_names():
     for rate, written in [("0", "0"), ("1", "1"), ("0.10", "0.1"), (".999999", "0.999999"),
                           ("+0.5000000", "0.5"), ("00.01", "0.01"), ("-0", "0")]:
         plan = small("dump,d,1|", f"periods,1|rate,{rate}|")
-        part = f"DISCOUNT_RATE: {written}|OBJECTIVE"
-        yield shows(f"rates_as_written: {rate}", plan, b"", f"CONSTRAINTS: 0|{part}", part)
+        parts = [heading(kind, name="n", blocks=0, rate=written) for kind in ("PCPSP", "CPIT")]
+        yield shows(f"rates_as_written: {rate}", plan, b"", *(part + "OBJECTIVE" for part in parts))
 
 
 def all_limits():

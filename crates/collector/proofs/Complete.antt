@@ -20,10 +20,10 @@ use Rattle.collector.proofs.Slots.{eqb-other}
 counted : (p : Item → Bool) (item : Item) (items : List Item) → count_by p (item ∷ items) ≡ cond (p item) 1 0 + count_by p items
 counted p item items = sum_by-cons (λ x. cond (p x) 1 0) item items
 
-counted-yes : (p : Item → Bool) (item : Item) (items : List Item) → p item ≡ true → count_by p (item ∷ items) ≡ 1 + count_by p items
+pub counted-yes : (p : Item → Bool) (item : Item) (items : List Item) → p item ≡ true → count_by p (item ∷ items) ≡ 1 + count_by p items
 counted-yes p item items passes = counted p item items ∙ ap (λ b. cond b 1 0 + count_by p items) passes
 
-counted-no : (p : Item → Bool) (item : Item) (items : List Item) → p item ≡ false → count_by p (item ∷ items) ≡ count_by p items
+pub counted-no : (p : Item → Bool) (item : Item) (items : List Item) → p item ≡ false → count_by p (item ∷ items) ≡ count_by p items
 counted-no p item items fails = let e = counted p item items ∙ ap (λ b. cond b 1 0 + count_by p items) fails in omega arith
 
 -- a row is found where one is counted, and an end mark too
@@ -81,7 +81,7 @@ end-held (End f n ∷ items) file count e =
     (cases_Bool (eqb f file))
 
 -- where the items fit, an end mark that is found has its file's count
-end-fits : (files : ℕ) (counts : ℕ → ℕ) (file count : ℕ) (items : List Item) → AllByRecursion (Fits files counts) items →
+pub end-fits : (files : ℕ) (counts : ℕ → ℕ) (file count : ℕ) (items : List Item) → AllByRecursion (Fits files counts) items →
     end_at file items ≡ Some count → count ≡ counts file
 end-fits files counts file count items fit e =
     (All-contains (Fits files counts) items (End file count) (All-from_recursion (Fits files counts) items fit)
@@ -143,7 +143,7 @@ not_refused files held rest (End f n) whole =
     rw (lt-leb files f here.0, fresh, le-ltb 1000000 n (omega arith), none)
 
 -- a look-up that finds something
-some-value : {A : Type 0} (o : Option A) → is_some o ≡ true → (x : A) × (o ≡ Some x)
+pub some-value : {A : Type 0} (o : Option A) → is_some o ≡ true → (x : A) × (o ≡ Some x)
 some-value None e = absurd (false≢true e)
 some-value (Some x) e = (x, refl)
 

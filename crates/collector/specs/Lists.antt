@@ -1,5 +1,6 @@
 -- The lists of rows that a list of items gives, or the first row that it lacks.
 use Rattle.std.specs.Prelude.{◌≡◌, ℕ, ◌<◌, true, is_some, List, length, slice_get, Option, Some, None}
+use Rattle.std.specs.List.{flat_map}
 use Rattle.rows.specs.declared.item.Item.{Item}
 use Rattle.rows.specs.declared.item.Valued.{Valued}
 use Rattle.collector.specs.declared.finish_fault.FinishFault.{FinishFault}
@@ -34,3 +35,7 @@ pub record IsMissing (files : ℕ) (held : List Item) (file place : ℕ) : Type 
 abbrev pub IsFinishFault : ℕ → List Item → FinishFault → Type 0
 IsFinishFault files held (Missing file place) = IsMissing files held file place
 IsFinishFault files held OutOfMemory = Unit {0}
+
+-- the rows of all files: those of each file in order of place, behind those of the file before it
+abbrev pub AreRows : ℕ → List Item → List Valued → Type 0
+AreRows files held rows = (lists : List (List Valued)) × AreLists files held lists × (rows ≡ flat_map (λ list. list) lists)

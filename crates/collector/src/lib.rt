@@ -7,9 +7,12 @@ mod collector;
 mod finish_fault;
 mod history;
 pub mod laws;
+mod ordering;
+mod places;
 mod shelf;
 
 pub use add_fault::AddFault;
 pub use collector::Collector;
 pub use finish_fault::FinishFault;
+pub use ordering::in_order;
 pub use rows::Rows;

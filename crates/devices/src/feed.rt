@@ -29,6 +29,7 @@ pub trait Feed {
     ///
     /// The device failed. No byte was given, and a later pull goes on where this one would have.
     fn pull(&mut self, buffer: &mut [u8]) -> Result<usize, FeedFault>
+        // On success the next bytes stand at the buffer's front; none of them, in a buffer with room, is the end.
         ensures within { IfOk result (λ n. n ≤ length buffer.old) }
         ensures gives { IfOk result
             (λ n. left self.old ≡ put_back (take n buffer.new) (left self.new)) }
@@ -37,10 +38,12 @@ pub trait Feed {
         ensures counts { IfOk result (λ n. given self.new ≡ given self.old + n) }
         ensures works { OnOk result (failures self.new ≡ failures self.old) }
 
+        // On failure nothing was given, and one refusal more is counted.
         ensures refused_left { OnErr result (left self.new ≡ left self.old) }
         ensures refused_given { OnErr result (given self.new ≡ given self.old) }
         ensures fails { OnErr result (failures self.new ≡ failures self.old + 1) }
 
+        // A sure feed never fails.
         ensures sure { IsTrue (is_sure self.old) → IsOk result }
         ensures stays_sure { IsTrue (is_sure self.old) → IsTrue (is_sure self.new) };
 }

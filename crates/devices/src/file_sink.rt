@@ -98,16 +98,23 @@ impl<'a, R: Files> Sink for FileSink<'a, R> {
     ///
     /// The sink was not begun, or the file takes no byte.
     fn put(&mut self, bytes: &[u8]) -> Result<usize, SinkFault>
+        // Its path stays, and what is not begun takes nothing.
         ensures path { self.new.path ≡ self.old.path }
         ensures unbegun { self.old.begun ≡ false → IsErr result }
+
+        // On success so many of the bytes are taken, and the file grows by them.
         ensures within { IfOk result (λ n. n ≤ length bytes.now) }
         ensures some { IfOk result (λ n. 0 < length bytes.now → 0 < n) }
         ensures bytes { WriteAppends self.old.held self.new.held result bytes.now }
         ensures takes { IfOk result
             (λ n. (told self.new).taken ≡ added (take n bytes.now) (told self.old).taken) }
         ensures works { OnOk result ((told self.new).failures ≡ (told self.old).failures) }
+
+        // On failure none is taken, and one refusal more is counted.
         ensures refused { OnErr result ((told self.new).taken ≡ (told self.old).taken) }
         ensures fails { OnErr result ((told self.new).failures ≡ (told self.old).failures + 1) }
+
+        // Whatever is answered, it is begun where it was.
         ensures still { IsBegunAsBefore (told self.old) (told self.new) }
     {
         let written = match &mut self.file {

@@ -38,6 +38,8 @@ pub fn pull_behind<F: Feed>(
 ) -> Result<usize, FeedFault>
     requires room { filled < length buffer.old }
     requires some { 0 < most }
+
+    // On success the next bytes stand behind the filled ones, which stay.
     ensures most { IfOk result (λ count. count ≤ most) }
     ensures within { IfOk result (λ count. filled + count ≤ length buffer.new) }
     ensures gave { IfOk result (λ count. GaveBehind count filled buffer.old buffer.new
@@ -47,9 +49,13 @@ pub fn pull_behind<F: Feed>(
         → IfSome (F.left feed.old) (λ bytes. bytes ≡ [])) }
     ensures counts { IfOk result (λ count. F.given feed.new ≡ F.given feed.old + count) }
     ensures works { OnOk result (F.failures feed.new ≡ F.failures feed.old) }
+
+    // On failure nothing was given, and one refusal more is counted.
     ensures refused_left { OnErr result (F.left feed.new ≡ F.left feed.old) }
     ensures refused_given { OnErr result (F.given feed.new ≡ F.given feed.old) }
     ensures fails { OnErr result (F.failures feed.new ≡ F.failures feed.old + 1) }
+
+    // A sure feed never fails.
     ensures sure { IsTrue (F.is_sure feed.old) → IsOk result }
     ensures stays_sure { IsTrue (F.is_sure feed.old) → IsTrue (F.is_sure feed.new) }
 {

@@ -149,15 +149,20 @@ impl Sink for MemSink {
     ///
     /// This is the call that fails, or memory for the bytes was refused. No byte was taken.
     fn put(&mut self, bytes: &[u8]) -> Result<usize, SinkFault>
+        // When it fails.
         ensures fails { FailsNext self.old → IsErr result }
         ensures fails_only { OnErr result
             (FailsNext self.old ⊎ (self.old.room
             < length self.old.bytes + min (length bytes.now) self.old.step)) }
+
+        // On success the first of the bytes are held, as many as one put takes.
         ensures count { IfOk result (λ n. n ≡ min (length bytes.now) self.old.step) }
         ensures some { IfOk result (λ n. 0 < length bytes.now → 0 < n) }
         ensures takes { IfOk result
             (λ n. IsCalled self.old.begun (self.old.bytes ++ take n bytes.now) self.old.failures
             self.old self.new) }
+
+        // On failure no byte is taken, and one refusal more is counted.
         ensures refused { OnErr result
             (IsCalled self.old.begun self.old.bytes (self.old.failures + 1) self.old self.new) }
     {

@@ -67,7 +67,10 @@ impl<R: Read> Feed for ReadFeed<R> {
     /// Gives what one read of the input gives. A read that a signal interrupts is tried again.
     #[tactic(auto, using(crate::proofs::Giving::none_left))]
     fn pull(&mut self, buffer: &mut [u8]) -> Result<usize, FeedFault>
+        // What the input did.
         ensures reads { ReadConsumes self.old.left self.new.left result buffer.new }
+
+        // On success its next bytes stand at the buffer's front.
         ensures within { IfOk result (λ n. n ≤ length buffer.old) }
         ensures gives { IfOk result
             (λ n. self.old.left ≡ put_back (take n buffer.new) self.new.left) }
@@ -75,6 +78,8 @@ impl<R: Read> Feed for ReadFeed<R> {
             (λ n. n ≡ 0 → 0 < length buffer.old → IfSome self.old.left (λ bytes. bytes ≡ [])) }
         ensures counts { IfOk result (λ n. self.new.given ≡ self.old.given + n) }
         ensures works { OnOk result (self.new.failures ≡ self.old.failures) }
+
+        // On failure nothing was given, and one refusal more is counted.
         ensures refused_left { OnErr result (self.new.left ≡ self.old.left) }
         ensures refused_given { OnErr result (self.new.given ≡ self.old.given) }
         ensures fails { OnErr result (self.new.failures ≡ self.old.failures + 1) }

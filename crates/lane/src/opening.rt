@@ -29,13 +29,19 @@ pub fn open(
     requires files { (1 ≤ files) × (files ≤ MAX_ZONES) }
     requires valuers { (1 ≤ valuers) × (valuers ≤ MAX_VALUERS) }
     requires capacity { (1 ≤ capacity) × (capacity ≤ MAX_CAPACITY) }
+
+    // The closer knows the lane's size.
     ensures files { IfOk result (λ ends. ends.0.files ≡ files) }
     ensures takers { IfOk result (λ ends. ends.0.takers ≡ valuers) }
     ensures capacity { IfOk result (λ ends. ends.0.lane.2 ≡ capacity) }
+
+    // The put ends, one a file, in order.
     ensures puts { IfOk result (λ ends. ArePutsFrom ends.0.lane files 0 ends.1.items) }
     ensures first_puts { IfOk result (λ ends. ends.1.items ≡ first_puts ends.0.lane 0 files) }
     ensures put_count { IfOk result (λ ends. length ends.1.items ≡ files) }
     ensures put_len { IfOk result (λ ends. vec_len ends.1 ≡ files) }
+
+    // The take ends, one a valuer, in order.
     ensures takes { IfOk result (λ ends. AreTakesFrom ends.0.lane valuers 0 ends.2.items) }
     ensures first_takes { IfOk result (λ ends. ends.2.items ≡ first_takes ends.0.lane 0 valuers) }
     ensures take_count { IfOk result (λ ends. length ends.2.items ≡ valuers) }

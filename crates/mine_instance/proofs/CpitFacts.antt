@@ -8,11 +8,10 @@ use Rattle.std.proofs.lemmas.List.Elements.{All-map, All-filter, All-head, All-t
 use Rattle.std.proofs.lemmas.List.Kept.{AllPairs-filter}
 use Rattle.std.proofs.Math.Seq.{take-add}
 use Rattle.pit_parts.specs.declared.limit.Limit.{Limit}
-use Rattle.mine_instance.specs.CpitKept.{IsCpit, cpit_of}
+use Rattle.mine_instance.specs.CpitKept.{IsCpit}
 use Rattle.mine_instance.specs.CpitOrder.{is_listed_before}
-use Rattle.mine_instance.specs.Greatest.{first_greatest, greatest}
-use Rattle.mine_instance.specs.OfCpit.{is_chosen, without_destination, destination_of}
-use Rattle.mine_instance.specs.inner.CpitFields.{is_at}
+use Rattle.mine_instance.specs.Greatest.{greatest}
+use Rattle.mine_instance.specs.OfCpit.{cpit, is_chosen, without_destination, destination_of}
 use Rattle.mine_instance.specs.Order.{coef_comes_before}
 use Rattle.mine_instance.specs.Valid.{IsValid}
 use Rattle.mine_instance.specs.declared.coef.Coef.{Coef}
@@ -47,49 +46,19 @@ chosen_in_range values n destinations resources coefs in_range =
     let here = All-filter (is_chosen values) (λ c. (c.b < n) × (c.d < destinations) × (c.r < resources)) coefs in_range k d h in
     (here.0, here.2))
 
-pub cpit_is_one : (i : Instance) (name : List ℕ) (values : List ℤ) (coefs : List CpitCoef) (limits : List Limit) → IsValid i
-    → values ≡ map greatest i.values → coefs ≡ map without_destination (filter (is_chosen i.values) i.coefs) → limits ≡ i.limits
-    → IsCpit (cpit_of name i.rate i.periods i.resources values coefs limits)
-cpit_is_one i name values coefs limits v of_values of_coefs of_limits =
-    let count : length values ≡ length i.blocks = ap length of_values ∙ length-map i.values greatest ∙ v.lengths.values in
+pub cpit_is_one : (i : Instance) → IsValid i → IsCpit (cpit i)
+cpit_is_one i v =
+    let count : length (map greatest i.values) ≡ length i.blocks = length-map i.values greatest ∙ v.lengths.values in
     record {
       few = rw count v.lengths.few;
       horizon = v.horizon;
-      coefs = rw (count, of_coefs) (record {
+      coefs = rw count (record {
         in_range = chosen_in_range i.values (length i.blocks) i.destinations i.resources i.coefs v.coefs.in_range;
         rising = chosen_rise i.values i.coefs v.coefs.rising;
       });
-      limits = rw of_limits v.limits;
+      limits = v.limits;
     }
-
--- the coefficients at the blocks' destinations are those that are chosen
-pub same_destinations : (values : List (List ℤ)) (destinations : List ℕ) (coefs : List Coef) → destinations ≡ map first_greatest values
-    → All (λ c. c.b < length values) coefs → filter (is_at destinations) coefs ≡ filter (is_chosen values) coefs
-same_destinations values destinations [] is there = refl
-same_destinations values destinations (c ∷ coefs) is there =
-    let rest = same_destinations values destinations coefs is (All-tail (λ (c : Coef). c.b < length values) c coefs there) in
-    let within : c.b < length values = All-head (λ (c : Coef). c.b < length values) c coefs there in
-    let first : is_at destinations c ≡ is_chosen values c =
-    ap (λ ds. c.d == get_or ds c.b 0) is ∙ ap (λ n. c.d == n) (get_or-map first_greatest values c.b [] 0 within) in
-    λ j. cond (first j) (c ∷ rest j) (rest j)
 
 -- each coefficient is of a block that has values
 pub coefs_there : (i : Instance) → IsValid i → All (λ c. c.b < length i.values) i.coefs
 coefs_there i v = λ k d h. let here = v.coefs.in_range k d h in omega (arith, here.0, v.lengths.values)
-
--- and so are those that were found by the blocks' destinations
-pub coefs_are_chosen : (i : Instance) (destinations : List ℕ) (coefs : List CpitCoef) → IsValid i
-    → destinations ≡ map first_greatest i.values
-    → coefs ≡ map without_destination (filter (is_at destinations) i.coefs)
-    → coefs ≡ map without_destination (filter (is_chosen i.values) i.coefs)
-coefs_are_chosen i destinations coefs v is of_coefs =
-    of_coefs ∙ ap (map without_destination) (same_destinations i.values destinations i.coefs is (coefs_there i v))
-
--- the chosen ones of a piece more
-pub chosen_more : (p : Coef → Bool) (coefs : List Coef) (from most n : ℕ) → n ≡ length (take most (drop from coefs))
-    → map without_destination (filter p (take from coefs)) ++ map without_destination (filter p (take most (drop from coefs)))
-    ≡ map without_destination (filter p (take (from + n) coefs))
-chosen_more p coefs from most n count =
-    let same : take n (drop from coefs) ≡ take most (drop from coefs) =
-    ap (λ k. take k (drop from coefs)) (count ∙ length-take most (drop from coefs)) ∙ take_min most (drop from coefs) in
-    rw (take-add from n coefs, same, filter-append, map-append)

@@ -1,20 +1,20 @@
--- Where each coefficient that is found stands, and that all of them are those of the blocks.
-use Rattle.std.proofs.Common.{◌≡◌, ℕ, zero, suc, ◌+◌, ◌-◌, ◌*◌, ◌/◌, ◌%◌, ◌<◌, ◌≤◌, Bool, true, false, cond, List, [], ◌∷◌, ◌++◌, length, map, take, drop, get_or, min, All, refl, sym, ◌∙◌, ap, inl, inr, arith, append-nil, length-take-le, mod-lt, mul-zero}
+-- The coefficients that are found are those of the blocks, and those of a block stand together.
+use Rattle.std.proofs.Common.{◌≡◌, ℕ, zero, suc, ◌+◌, ◌*◌, ◌/◌, ◌%◌, ◌<◌, ◌≤◌, Bool, true, false, cond, List, [], ◌∷◌, ◌++◌, length, map, take, drop, get_or, refl, sym, ◌∙◌, ap, arith, append-nil, length-take-le, mod-lt, mul-zero}
 use Rattle.std.specs.Prelude.{vec_len, ◌==◌}
 use Rattle.std.specs.List.{flat_map, enumerate_from}
-use Rattle.std.proofs.lemmas.Bool.{cases_lt}
-use Rattle.std.proofs.lemmas.List.{length-map, get_or-map, get_or-drop, length-drop, nil_from_length, take_min, take_more}
-use Rattle.std.proofs.lemmas.List.Concat.{flat_map-append, get_or-flat_map, length-flat_map}
+use Rattle.std.proofs.lemmas.List.{length-map, length-drop, drop-append-le, drop-map, nil_from_length}
+use Rattle.std.proofs.lemmas.List.Concat.{flat_map-append, length-flat_map}
 use Rattle.std.proofs.lemmas.List.FromFn.{length-enumerate_from}
 use Rattle.std.proofs.lemmas.List.Sums.{sum_by-le}
 use Rattle.std.proofs.Math.Nat.{div-add-mod, div-lt_iff_lt-mul, mul-le-mul_right}
+use Rattle.std.proofs.Math.Seq.{drop-append_seam, drop-drop, take-append_seam}
 use Rattle.pit_parts.specs.declared.block.Block.{Block}
 use Rattle.mine_instance.specs.declared.coef.Coef.{Coef}
 use Rattle.mine_instance.specs.declared.found_coefs.FoundCoefs.TheInside.{Inside}
 use Rattle.mine_instance.specs.declared.found_coefs.HeavyBlock.{HeavyBlock}
 use Rattle.mine_instance.specs.OfModel.{block_coefs, coef_at, coefs_of}
 use Rattle.mine_instance.specs.inner.FoundCoefFields.{heavy_one, heavy_of, heavy_coef, heavy_coefs, found_coefs, found_in}
-use Rattle.mine_instance.proofs.BuildFacts.{All-parts, length-flat}
+use Rattle.mine_instance.proofs.BuildFacts.{length-flat}
 
 one_block : (pairs : List (ℕ × ℕ)) (k : ℕ) (b : Block) → found_coefs pairs (heavy_one (k, b)) ≡ block_coefs pairs (k, b)
 one_block pairs k b = at (b.kg == 0)
@@ -64,13 +64,6 @@ none_found pairs blocks none =
     ∙ nil_from_length (found_coefs pairs (heavy_of blocks))
     (length-found pairs (heavy_of blocks) ∙ ap (λ n. length (heavy_of blocks) * n) none ∙ mul-zero (length (heavy_of blocks)))
 
--- a place among rows of one width lies in one of them
-pub row_of_place : (i j width n : ℕ) → i * width + j < n * width → i < n
-row_of_place i j width n h = elim (cases_lt i n) [
-  | inl low ↦ low
-  | inr high ↦ absurd (let past : n * width ≤ i * width = mul-le-mul_right width high in omega (arith, past))
-]
-
 -- the row of a place, and the place in it
 pub row_and_place : (index width n : ℕ) → index < n * width
     → (0 < width) × (index / width < n) × (index % width < width) × (index / width * width + index % width ≡ index)
@@ -84,24 +77,43 @@ row_and_place index width n h =
     wide zero h = absurd (grind arith)
     wide (suc width) h = omega arith
 
--- the coefficient at a place is that of a block and a pair
-found_at : (pairs : List (ℕ × ℕ)) (heavy : List HeavyBlock) (i j : ℕ) (b : HeavyBlock) (pair : ℕ × ℕ) (d : Coef)
-    → i < length heavy → j < length pairs
-    → get_or (found_coefs pairs heavy) (i * length pairs + j) d ≡ heavy_coef (get_or heavy i b) (get_or pairs j pair)
-found_at pairs heavy i j b pair d h k =
-    let before : length (found_coefs pairs (take i heavy)) ≡ i * length pairs =
-    length-found pairs (take i heavy) ∙ ap (λ n. n * length pairs) (length-take-le i heavy (omega arith)) in
-    let within : j < length (heavy_coefs pairs (get_or heavy i b)) = omega (arith, length-map pairs (heavy_coef (get_or heavy i b))) in
-    ap (λ n. get_or (found_coefs pairs heavy) (n + j) d) (sym before)
-    ∙ get_or-flat_map (heavy_coefs pairs) heavy i j b d h within
-    ∙ get_or-map (heavy_coef (get_or heavy i b)) pairs j pair d k
+-- the coefficients from those of a block on
+from_block : (pairs : List (ℕ × ℕ)) (heavy : List HeavyBlock) (i j : ℕ) (b : HeavyBlock) → i < length heavy → j ≤ length pairs
+    → b ≡ get_or heavy i b
+    → drop (i * length pairs + j) (found_coefs pairs heavy) ≡ drop j (heavy_coefs pairs b) ++ found_coefs pairs (drop (suc i) heavy)
+from_block pairs [] i j b h k is = absurd (omega (arith, h))
+from_block pairs (x ∷ heavy) zero j b h k is =
+    let all = length-map pairs (heavy_coef x) in
+    let same : zero * length pairs + j ≡ j = grind arith in
+    ap (λ n. drop n (heavy_coefs pairs x ++ found_coefs pairs heavy)) same
+    ∙ drop-append-le j (heavy_coefs pairs x) (found_coefs pairs heavy) (omega (arith, all, k))
+    ∙ ap (λ y. drop j (heavy_coefs pairs y) ++ found_coefs pairs heavy) (sym is)
+from_block pairs (x ∷ heavy) (suc i) j b h k is =
+    let own = heavy_coefs pairs x in
+    let all : length own ≡ length pairs = length-map pairs (heavy_coef x) in
+    let past : suc i * length pairs + j ≡ length own + (i * length pairs + j) = grind (arith, all) in
+    ap (λ n. drop n (own ++ found_coefs pairs heavy)) past
+    ∙ sym (drop-drop (i * length pairs + j) (length own) (own ++ found_coefs pairs heavy))
+    ∙ ap (drop (i * length pairs + j)) (drop-append_seam own (found_coefs pairs heavy))
+    ∙ from_block pairs heavy i j b (omega (arith, h)) k is
+
+-- those of a block at the pairs from one on stand together
+pub of_block : (pairs : List (ℕ × ℕ)) (heavy : List HeavyBlock) (i j : ℕ) (b : HeavyBlock) → i < length heavy → j ≤ length pairs
+    → b ≡ get_or heavy i b
+    → map (heavy_coef b) (drop j pairs) ≡ take (length (drop j pairs)) (drop (i * length pairs + j) (found_coefs pairs heavy))
+of_block pairs heavy i j b h k is =
+    let own = map (heavy_coef b) (drop j pairs) in
+    let others = found_coefs pairs (drop (suc i) heavy) in
+    let many : length own ≡ length (drop j pairs) = length-map (drop j pairs) (heavy_coef b) in
+    sym (take-append_seam own others) ∙ ap (λ n. take n (own ++ others)) many
+    ∙ ap (take (length (drop j pairs))) (ap (λ xs. xs ++ others) (sym (drop-map (heavy_coef b) j pairs)) ∙ sym (from_block pairs heavy i j b h k is))
 
 module _ (f : Inside) (all : List Coef) (width : ℕ) (is : found_in f ≡ all) (len : width ≡ vec_len f.pairs) where
   wide : width ≡ length f.pairs.items
   wide = omega (arith, len, f.pairs.ok)
 
   -- so many are there
-  pub length-all : length all ≡ length f.heavy.items * width
+  length-all : length all ≡ length f.heavy.items * width
   length-all = sym (ap length is) ∙ length-found f.pairs.items f.heavy.items ∙ ap (λ n. length f.heavy.items * n) (sym wide)
 
   -- the block and the pair of a place
@@ -109,44 +121,22 @@ module _ (f : Inside) (all : List Coef) (width : ℕ) (is : found_in f ≡ all) 
       → (0 < width) × (index / width < length f.heavy.items) × (index % width < width) × (index / width * width + index % width ≡ index)
   place_of index h = row_and_place index width (length f.heavy.items) (omega (arith, h, length-all))
 
-  -- the block of a place that is there
-  pub block_there : (i j place : ℕ) → i * width + j ≡ place → place < length all → i < length f.heavy.items
-  block_there i j place at h = row_of_place i j width (length f.heavy.items) (omega (arith, at, h, length-all))
+  -- the coefficients of a block at the pairs from one on stand from the place of the first of them on
+  pub group_is : (from : ℕ) (b : HeavyBlock) → from < length all → b ≡ get_or f.heavy.items (from / width) b
+      → map (heavy_coef b) (drop (from % width) f.pairs.items)
+      ≡ take (length (drop (from % width) f.pairs.items)) (drop from all)
+  group_is from b h at =
+      let place = place_of from h in
+      let here : from / width * length f.pairs.items + from % width ≡ from =
+      ap (λ n. from / width * n + from % width) (sym wide) ∙ place.3 in
+      of_block f.pairs.items f.heavy.items (from / width) (from % width) b place.1 (omega (arith, place.2, wide)) at
+      ∙ (λ j. take (length (drop (from % width) f.pairs.items)) (drop (here j) (is j)))
 
-  -- what stands at the place of a block and a pair
-  pub coef_there : (i j place : ℕ) (b : HeavyBlock) (pair : ℕ × ℕ) (d : Coef) → i < length f.heavy.items → j < width → i * width + j ≡ place
-      → b ≡ get_or f.heavy.items i b → pair ≡ get_or f.pairs.items j pair → get_or all place d ≡ heavy_coef b pair
-  coef_there i j place b pair d h k at of_block of_pair =
-      ap (λ coefs. get_or coefs place d) (sym is)
-      ∙ ap (λ n. get_or (found_in f) n d) (sym at ∙ ap (λ n. i * n + j) wide)
-      ∙ found_at f.pairs.items f.heavy.items i j b pair d h (omega (arith, k, wide))
-      ∙ sym (λ n. heavy_coef (of_block n) (of_pair n))
-
--- where all coefficients of blocks are of blocks below a number, so are those of one of these
-pub own_within : (n : ℕ) (pairs : List (ℕ × ℕ)) (heavy : List HeavyBlock) (i : ℕ) (b : HeavyBlock) → i < length heavy
-    → All (λ coef. coef.b < n) (found_coefs pairs heavy) → All (λ coef. coef.b < n) (heavy_coefs pairs (get_or heavy i b))
-own_within n pairs [] i b h all = absurd (omega (arith, h))
-own_within n pairs (x ∷ heavy) zero b h all = (All-parts (λ coef. coef.b < n) (heavy_coefs pairs x) (found_coefs pairs heavy) all).0
-own_within n pairs (x ∷ heavy) (suc i) b h all =
-    own_within n pairs heavy i b (omega (arith, h)) (All-parts (λ coef. coef.b < n) (heavy_coefs pairs x) (found_coefs pairs heavy) all).1
-
--- and so is the block
-pub block_within : (n : ℕ) (pairs : List (ℕ × ℕ)) (block : HeavyBlock) (k : ℕ) → k < length pairs
-    → All (λ coef. coef.b < n) (heavy_coefs pairs block) → block.b < n
-block_within n pairs block k h all =
-    let other : Coef = heavy_coef block (0, 0) in
-    rw (get_or-map (heavy_coef block) pairs k (0, 0) other h) at (all k other (omega (arith, h, length-map pairs (heavy_coef block))))
-
--- behind the last place of a row comes the first of the next
-pub next_row : (i j width place : ℕ) → i * width + j ≡ place → j + 1 ≡ width → (i + 1) * width + 0 ≡ place + 1
-next_row i j width place at last = grind (arith, at, last)
-
--- of a list from a place on, one element more
-pub piece_more : {X : Type 0} (xs : List X) (from n : ℕ) (x : X) → from + n < length xs → x ≡ get_or xs (from + n) x
-    → take (n + 1) (drop from xs) ≡ take n (drop from xs) ++ x ∷ []
-piece_more xs from n x h is = rw (take_more (drop from xs) n x (omega (arith, length-drop from xs)), get_or-drop, ← is)
-
--- so many of a list, or all of them where they are fewer
-pub put_all : {X : Type 0} (xs old now : List X) (from most n : ℕ) → now ≡ old ++ take n (drop from xs) → n ≡ min most (length xs - from)
-    → now ≡ old ++ take most (drop from xs)
-put_all xs old now from most n is count = rw (is, count, ← length-drop from xs, take_min)
+  -- and they are all there
+  pub whole_within : (from : ℕ) → from < length all → from + length (drop (from % width) f.pairs.items) ≤ length all
+  whole_within from h =
+      let place = place_of from h in
+      let pairs = f.pairs.items in
+      let next : (from / width + 1) * width ≤ length f.heavy.items * width = mul-le-mul_right width (omega (arith, place.1)) in
+      let row : (from / width + 1) * width ≡ from / width * width + width = grind arith in
+      omega (arith, length-drop (from % width) pairs, place.2, place.3, next, row, wide, length-all)

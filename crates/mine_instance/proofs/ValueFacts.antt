@@ -1,12 +1,11 @@
 -- The values of blocks: taken row by row and file by file, and as they stand at positions of a list.
-use Rattle.std.proofs.Common.{◌≡◌, ℕ, zero, suc, ◌+◌, ◌*◌, ◌<◌, ◌≤◌, ℤ, List, [], ◌∷◌, ◌++◌, length, map, get_or, All, Some, refl, sym, ap, subst, ◌∙◌, arith, append_assoc, append-nil, length-append}
+use Rattle.std.proofs.Common.{◌≡◌, ℕ, zero, suc, ◌*◌, ◌<◌, ℤ, List, [], ◌∷◌, length, map, get_or, All, Some, refl, sym, ap, ◌∙◌, arith}
 use Rattle.std.specs.Prelude.{slice_get}
 use Rattle.std.specs.List.{flat_map}
 use Rattle.std.specs.Option.{option_map}
-use Rattle.std.proofs.lemmas.List.{get_or-map, length-map, map-append, same_lists}
-use Rattle.std.proofs.lemmas.List.Concat.{flat_map-append}
+use Rattle.std.proofs.lemmas.List.{get_or-map, length-map, same_lists}
 use Rattle.std.proofs.lemmas.List.Elements.{All-map}
-use Rattle.std.proofs.lemmas.Option.{same_Some}
+use Rattle.std.proofs.lemmas.Option.{same_Some, slice_get-get_or, slice_get-map}
 use Rattle.pit_parts.specs.Plan.{PlanParts}
 use Rattle.pit_parts.specs.PlanFormulas.{formulas_of_plan}
 use Rattle.pit_parts.specs.declared.block.Block.{Block}
@@ -15,11 +14,12 @@ use Rattle.precedence.specs.Numbering.{IsNumbering, NumberingView}
 use Rattle.rows.specs.Valued.{worths_by}
 use Rattle.rows.specs.declared.item.Valued.{Valued}
 use Rattle.mine_instance.specs.OfModel.{values_of}
+use Rattle.mine_instance.specs.WorthsOf.{AreWorthsOf}
 use Rattle.mine_instance.specs.Rows.{rows_of}
 use Rattle.mine_instance.specs.declared.values.Order.{Order}
 use Rattle.mine_instance.specs.declared.values.Order.TheVariants.{ById, ByPosition}
 use Rattle.mine_instance.specs.inner.ValuesFields.{in_order, AreWithin}
-use Rattle.mine_instance.proofs.BuildFacts.{All-parts, length-flat, rows_of-flat}
+use Rattle.mine_instance.proofs.BuildFacts.{length-flat, rows_of-flat}
 use Rattle.mine_instance.proofs.ModelFacts.{length-values_of}
 
 -- worths at a position are those of the block of the row there
@@ -32,53 +32,34 @@ block_there plan (row ∷ rows) zero worths all within is = (row.block, same_Som
 block_there plan (row ∷ rows) (suc i) worths all within is =
     block_there plan rows i worths (λ k d h. all (suc k) d (omega arith)) (omega arith) is
 
--- what holds of the rows of all files holds of those of the first and of the others
-pub worths_parts : (plan : PlanParts) (lists rest : List (List Valued)) (list : List Valued) → lists ≡ list ∷ rest
-    → All (λ row. row.worths ≡ worths_by (formulas_of_plan plan) row.block) (flat_map (λ rows. rows) lists)
-    → All (λ row. row.worths ≡ worths_by (formulas_of_plan plan) row.block) list
-    × All (λ row. row.worths ≡ worths_by (formulas_of_plan plan) row.block) (flat_map (λ rows. rows) rest)
-worths_parts plan lists rest list cut all =
-    let Has : Valued → Type 0 = λ row. row.worths ≡ worths_by (formulas_of_plan plan) row.block in
-    All-parts Has list (flat_map (λ rows. rows) rest) (subst (λ (ls : List (List Valued)). All Has (flat_map (λ rows. rows) ls)) cut all)
+pub count_of : (plan : PlanParts) (worths : List (List ℤ)) (rows : List Valued) → AreWorthsOf plan worths rows → length worths ≡ length rows
+count_of plan worths rows are = ap length are.0 ∙ length-map rows (λ (row : Valued). row.worths)
 
--- the values of one file more
-pub file_taken : (value : Block → List ℤ) (all new whole : List ℤ) (lists rest : List (List Valued)) (list : List Valued)
-    → all ++ flat_map value (blocks_of_rows (flat_map (λ rows. rows) lists)) ≡ whole → lists ≡ list ∷ rest
-    → new ≡ all ++ flat_map value (blocks_of_rows list)
-    → new ++ flat_map value (blocks_of_rows (flat_map (λ rows. rows) rest)) ≡ whole
-file_taken value all new whole lists rest list come cut added =
-    rw (added, append_assoc) (rw (cut, map-append, flat_map-append) at come)
+-- so it is with worths that were read from the list of them
+pub worths_there : (plan : PlanParts) (worths : List (List ℤ)) (rows : List Valued) (i : ℕ) (own : List ℤ) → AreWorthsOf plan worths rows
+    → i < length worths → own ≡ get_or worths i []
+    → (b : Block) × (own ≡ worths_by (formulas_of_plan plan) b) × (slice_get (blocks_of_rows rows) i ≡ Some b)
+worths_there plan worths rows i own are within is =
+    let Worth : Valued → List ℤ = λ row. row.worths in
+    let long : length worths ≡ length rows = ap length are.0 ∙ length-map rows Worth in
+    block_there plan rows i own are.1 (omega (arith, within, long))
+    (ap Some is ∙ sym (slice_get-get_or worths i [] within) ∙ ap (λ (ws : List (List ℤ)). slice_get ws i) are.0 ∙ slice_get-map Worth rows i)
 
--- there is room for the values of the next file, where there is room for those of all
-pub file_fits : (plan : PlanParts) (rows : List Valued) (all : List ℤ) (lists rest : List (List Valued)) (list : List Valued)
-    → all ++ flat_map (values_of plan) (blocks_of_rows (flat_map (λ rows. rows) lists)) ≡ flat_map (values_of plan) (blocks_of_rows rows)
-    → lists ≡ list ∷ rest
-    → length all + length (flat_map (values_of plan) (blocks_of_rows list)) ≤ length rows * length plan.formulas
-file_fits plan rows all lists rest list come cut =
-    let value = values_of plan in
-    let own = flat_map value (blocks_of_rows list) in
-    let others = flat_map value (blocks_of_rows (flat_map (λ rows. rows) rest)) in
-    let whole : length (flat_map value (blocks_of_rows rows)) ≡ length rows * length plan.formulas =
-    length-flat value (length plan.formulas) (length-values_of plan) (blocks_of_rows rows)
-    ∙ ap (λ n. n * length plan.formulas) (length-map rows (λ (row : Valued). row.block)) in
-    let parts = ap length (file_taken value all (all ++ own) _ lists rest list come cut refl) in
-    omega (arith, whole, parts, length-append (all ++ own) others, length-append all own)
+-- the values of all rows, one row's behind those of the row before it
+pub length-taken : (plan : PlanParts) (rows : List Valued)
+    → length (flat_map (values_of plan) (blocks_of_rows rows)) ≡ length rows * length plan.formulas
+length-taken plan rows =
+    length-flat (values_of plan) (length plan.formulas) (length-values_of plan) (blocks_of_rows rows)
+    ∙ ap (λ n. n * length plan.formulas) (length-map rows (λ (row : Valued). row.block))
 
--- once no file is left
-pub all_taken : (plan : PlanParts) (rows : List Valued) (all : List ℤ) (lists : List (List Valued)) (count width : ℕ)
-    → all ++ flat_map (values_of plan) (blocks_of_rows (flat_map (λ rows. rows) lists)) ≡ flat_map (values_of plan) (blocks_of_rows rows)
-    → length lists ≡ 0 → count ≡ length rows → width ≡ length plan.formulas
+pub all_taken : (plan : PlanParts) (rows : List Valued) (all : List ℤ) (count width : ℕ)
+    → all ≡ flat_map (values_of plan) (blocks_of_rows rows) → count ≡ length rows → width ≡ length plan.formulas
     → (length all ≡ count * width) × (rows_of count width all ≡ map (values_of plan) (blocks_of_rows rows))
-all_taken plan rows all (list ∷ lists) count width come none long wide = absurd (omega arith)
-all_taken plan rows all [] count width come none long wide =
-    let value = values_of plan in
-    let each = length-values_of plan in
+all_taken plan rows all count width taken long wide =
     let blocks = blocks_of_rows rows in
-    let many = length plan.formulas in
-    let taken : all ≡ flat_map value blocks = sym (append-nil all) ∙ come in
     let of_blocks : count ≡ length blocks = long ∙ sym (length-map rows (λ (row : Valued). row.block)) in (
-      ap length taken ∙ length-flat value many each blocks ∙ (λ j. sym of_blocks j * sym wide j),
-      (λ j. rows_of (of_blocks j) (wide j) (taken j)) ∙ rows_of-flat value many each blocks,
+      ap length taken ∙ length-taken plan rows ∙ (λ j. sym long j * sym wide j),
+      (λ j. rows_of (of_blocks j) (wide j) (taken j)) ∙ rows_of-flat (values_of plan) (length plan.formulas) (length-values_of plan) blocks,
     )
 
 -- what holds of all holds of those at positions

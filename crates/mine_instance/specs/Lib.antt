@@ -2,6 +2,7 @@ pub mod Cpit
 pub mod CpitKept
 pub mod CpitOrder
 pub mod Greatest
+pub mod Groups
 pub mod Instance
 pub mod OfCpit
 pub mod OfModel
@@ -11,4 +12,5 @@ pub mod OrderLaws
 pub mod Rows
 pub mod Seen
 pub mod Valid
+pub mod WorthsOf
 pub mod inner

@@ -1,4 +1,2 @@
-pub mod CpitFields
 pub mod FoundCoefFields
-pub mod PackedCoefFields
 pub mod ValuesFields

@@ -9,13 +9,16 @@ ghost use Rattle.precedence.specs.Cone.{preds as cone_lists};
 ghost use Rattle.precedence.specs.Identifier.{blocks_of_rows};
 ghost use Rattle.precedence.specs.Numbering.{IsNumbering, NumberingView};
 ghost use Rattle.rows.specs.Valued.{worths_by};
+ghost use Rattle.rows.specs.declared.item.Valued.{Valued as OneRow};
 ghost use Rattle.mine_instance.specs.OfModel.{instance, values_of, in_hundreds, covering, covered};
 ghost use Rattle.mine_instance.specs.Seen.{seen};
 ghost use Rattle.mine_instance.specs.Valid.{IsValid};
+ghost use Rattle.mine_instance.specs.WorthsOf.{AreWorthsOf};
 ghost use Rattle.pit_parts.specs.declared.ranges.TheConstants.{MAX_BLOCKS, MAX_DESTINATIONS, MAX_RESOURCES};
 
 use crate::blocks::Blocks;
-use crate::found_coefs::{Covering, FoundCoefs};
+use crate::coef_group::Covering;
+use crate::found_coefs::FoundCoefs;
 use crate::instance::Instance;
 use crate::limits::Limits;
 use crate::listed_values::ListedValues;
@@ -26,7 +29,7 @@ use pit_parts::plan::Plan;
 use pit_parts::resource::Resource;
 use pit_units::Dec;
 use precedence::{Numbering, PredLists, Preds};
-use rows::{RowLists, Rows, Valued};
+use rows::{RowLists, RowWorths, Valued};
 use std::alloc::{AllocError, Global};
 
 /// The instance of a model, given its rows, their numbering and their predecessors. Fails only where memory is refused.
@@ -46,8 +49,12 @@ pub fn build(
 {
     let blocks = Vec::from_slice(alloc, numbering.blocks())?;
     let positions = Vec::from_slice(alloc, numbering.positions())?;
-    let room = Vec::with_capacity(alloc, rows.len() * plan.formulas().len())?;
-    let listed = values_in_order(room, RowLists::of(alloc, rows)?, plan);
+    // A formula of a plan gives worths that a row can keep.
+    worths_are_in_range();
+    let width = plan.formulas().len();
+    let room = Vec::with_capacity(alloc, rows.len() * width)?;
+    let worths = RowLists::of(alloc, rows, width)?.into_worths(alloc)?;
+    let listed = values_in_order(room, worths, plan);
     let values = Values::by_position(listed, positions);
     let found = build_with(alloc, blocks, preds, values, plan)?;
     let kept = found.with_kept_coefs(alloc)?;
@@ -90,42 +97,35 @@ pub fn build_with<P: PredLists + Drop>(
     })
 }
 
-/// What the block of each row is worth at each destination, in the order of the rows. The rows of each file are given up as soon as
-/// their values are taken. `room` is for the values, and so the call takes no memory.
-pub fn values_in_order(room: Vec<Dec>, rows: RowLists, plan: &Plan) -> ListedValues
+/// What the block of each row is worth at each destination, in the order of the rows, whose worths these are. `room` is for the values,
+/// and so the call takes no memory.
+pub fn values_in_order(room: Vec<Dec>, worths: RowWorths, plan: &Plan) -> ListedValues
     requires empty { room.items ≡ [] }
-    requires room { length rows * length plan.now.formulas ≤ vec_capacity room }
-    requires few { length rows ≤ MAX_BLOCKS }
-    requires worths { All (λ row. row.worths ≡ worths_by (formulas_of_plan plan.now) row.block)
-        rows }
-    ensures { result ≡ map (values_of plan.now) (blocks_of_rows rows) }
+    requires room { length worths * length plan.now.formulas ≤ vec_capacity room }
+    requires worths { (rows : List OneRow) × AreWorthsOf plan.now worths rows }
+    ensures { (rows : List OneRow) → AreWorthsOf plan.now worths rows
+        → result ≡ map (values_of plan.now) (blocks_of_rows rows) }
 {
-    let width = plan.formulas().len();
-    let count = rows.len();
     let mut all = room;
-    for list in rows.into_lists() {
-        put_rows(&mut all, &list, plan);
-    }
-    ListedValues::new(all, count, width)
+    put_rows(&mut all, &worths, plan);
+    ListedValues::new(all, worths.len(), plan.formulas().len())
 }
 
-// Appends the values of the rows of a file.
-fn put_rows(all: &mut Vec<Dec>, rows: &Rows, plan: &Plan)
-    requires room { vec_len all.old
-        + length (flat_map (values_of plan.now) (blocks_of_rows rows.now))
+// Appends the values of the rows.
+fn put_rows(all: &mut Vec<Dec>, worths: &RowWorths, plan: &Plan)
+    requires room { (rows : List OneRow) → AreWorthsOf plan.now worths.now rows
+        → vec_len all.old + length (flat_map (values_of plan.now) (blocks_of_rows rows))
         ≤ vec_capacity all.old }
-    requires worths { All (λ row. row.worths ≡ worths_by (formulas_of_plan plan.now) row.block)
-        rows.now }
-    ensures values { all.new.items
-        ≡ all.old.items ++ flat_map (values_of plan.now) (blocks_of_rows rows.now) }
-    ensures room { vec_capacity all.old ≤ vec_capacity all.new }
+    requires worths { (rows : List OneRow) × AreWorthsOf plan.now worths.now rows }
+    ensures values { (rows : List OneRow) → AreWorthsOf plan.now worths.now rows
+        → all.new.items ≡ all.old.items ++ flat_map (values_of plan.now) (blocks_of_rows rows) }
 {
-    for position in 0..rows.len() {
-        put_values(all, rows.worths_at(position), plan);
+    for position in 0..worths.len() {
+        put_values(all, worths.at(position), plan);
     }
 }
 
-fn put_values(all: &mut Vec<Dec>, worths: &[i128], plan: &Plan)
+fn put_values(all: &mut Vec<Dec>, worths: &[i64], plan: &Plan)
     requires room { vec_len all.old + length worths.now ≤ vec_capacity all.old }
     requires worths { (block : Block)
         × (worths.now ≡ worths_by (formulas_of_plan plan.now) block) }
@@ -138,14 +138,14 @@ fn put_values(all: &mut Vec<Dec>, worths: &[i128], plan: &Plan)
     put_in_hundreds(all, worths)
 }
 
-fn put_in_hundreds(all: &mut Vec<Dec>, cents: &[i128])
+fn put_in_hundreds(all: &mut Vec<Dec>, cents: &[i64])
     requires room { vec_len all.old + length cents.now ≤ vec_capacity all.old }
     requires worths { All IsWorth cents.now }
     ensures values { all.new.items ≡ all.old.items ++ map in_hundreds cents.now }
     ensures room { vec_capacity all.old ≤ vec_capacity all.new }
 {
     for worth in cents {
-        all.push(in_hundreds(*worth)).unwrap();
+        all.push(in_hundreds(i128::from(*worth))).unwrap();
     }
 }
 

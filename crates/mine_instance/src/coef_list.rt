@@ -1,69 +1,68 @@
 //! Lists of coefficients, whether they are kept or found.
 
-ghost use Rattle.std.specs.Prelude.{◌≡◌, ◌+◌, ◌<◌, ◌++◌, List, IfOk, OnOk, OnErr, Some, length, take, drop, slice_get, vec_len, vec_capacity};
+ghost use Rattle.std.specs.Prelude.{◌≡◌, ◌+◌, ◌<◌, ◌≤◌, ◌++◌, List, IfOk, OnOk, length, take, drop};
+ghost use Rattle.mine_instance.specs.Groups.{coefs_in, pairs_of};
 
+use crate::coef::{Coef, Coefs};
+use crate::coef_group::{CoefGroup, Pairs};
 use pit_parts::listed::Listed;
 use std::alloc::{AllocError, Global};
 
-/// A list of coefficients. `Listed` keeps them and lends them; `FoundCoefs` finds one when it is asked for, and `PackedCoefs` unpacks
-/// it.
+/// A list of coefficients. `Coefs` keeps them and lends them, and `FoundCoefs` finds them when they are asked for.
 pub trait CoefList {
-    type Coef: Copy;
+    ghost use Rattle.mine_instance.specs.declared.coef.Coef.{Coef};
 
-    ghost list: { Self → List Self.Coef };
+    ghost list: { Self → List Coef };
 
     /// The number of coefficients.
     fn len(&self) -> usize
         ensures { result ≡ length (list self.now) };
 
-    /// The coefficient at a place.
-    fn at(&self, index: usize) -> Self::Coef
-        requires { index < length (list self.now) }
-        ensures { slice_get (list self.now) index ≡ Some result };
-
-    /// Appends so many of the coefficients from a place on, or all of them where they are fewer. It is quicker than to ask for each.
-    /// Memory is refused only where the piece has no room left for so many.
-    fn put_some(
-        &self,
-        from: usize,
-        most: usize,
-        piece: &mut Vec<Self::Coef>,
-    ) -> Result<(), AllocError>
+    /// Those from a place on that are told at once: one or more of one block with the same tonnes.
+    fn group(&self, from: usize) -> CoefGroup<'_>
         requires { from < length (list self.now) }
-        ensures put { OnOk result
-            (piece.new.items ≡ piece.old.items ++ take most (drop from (list self.now))) }
-        ensures full { OnErr result (vec_capacity piece.old < vec_len piece.old + most) };
+        ensures some { 0 < length (pairs_of result.pairs) }
+        ensures within { from + length (pairs_of result.pairs) ≤ length (list self.now) }
+        ensures value { coefs_in result
+            ≡ take (length (pairs_of result.pairs)) (drop from (list self.now)) };
 }
 
-impl<T: Copy> CoefList for Listed<T> {
-    type Coef = T;
-
+impl CoefList for Listed<Coef> {
     ghost list = { λ listed. listed };
 
     fn len(&self) -> usize {
         self.as_slice().len()
     }
 
-    fn at(&self, index: usize) -> T {
-        self.as_slice()[index]
-    }
-
-    fn put_some(&self, from: usize, most: usize, piece: &mut Vec<T>) -> Result<(), AllocError> {
-        let (_, rest) = self.as_slice().split_at(from);
-        let (some, _) = rest.split_at(most.min(rest.len()));
-        piece.extend_from_slice(some)
+    fn group(&self, from: usize) -> CoefGroup<'_> {
+        let Coef { b, d, r, v } = self.as_slice()[from];
+        let pairs = Pairs::One([(d, r)]);
+        CoefGroup { b, v, pairs }
     }
 }
 
 /// All coefficients of a list, kept. Fails only where memory is refused.
-pub fn keep<C: CoefList>(alloc: Global, coefs: &C) -> Result<Listed<C::Coef>, AllocError>
+pub fn keep<C: CoefList>(alloc: Global, coefs: &C) -> Result<Coefs, AllocError>
     ensures { IfOk result (λ kept. kept ≡ C.list coefs.now) }
 {
     let count = coefs.len();
     let mut kept = Vec::with_capacity(alloc, count)?;
-    if count == 0 {
-        return Ok(Listed::new(kept));
+    let mut from = 0;
+    while from < count {
+        let group = coefs.group(from);
+        put_group(&mut kept, &group)?;
+        from += group.pairs.len();
     }
-    coefs.put_some(0, count, &mut kept)?;
-    Ok(Listed::new(kept))
+    Ok(Coefs::new(kept))
+}
+
+fn put_group(kept: &mut Vec<Coef>, group: &CoefGroup) -> Result<(), AllocError>
+    ensures { OnOk result (kept.new.items ≡ kept.old.items ++ coefs_in group.now) }
+{
+    let (b, v) = (group.b, group.v);
+    for (d, r) in group.pairs.as_slice() {
+        let (d, r) = (*d, *r);
+        kept.push(Coef { b, d, r, v })?;
+    }
+    Ok(())
 }

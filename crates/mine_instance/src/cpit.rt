@@ -3,7 +3,6 @@
 ghost use Rattle.std.specs.Prelude.{◌≡◌, length};
 ghost use Rattle.mine_instance.specs.CpitKept.{IsCpit};
 
-use crate::coef_list::CoefList;
 use pit_parts::limit::Limit;
 use pit_parts::listed::Listed;
 use pit_parts::name::Name;
@@ -26,19 +25,19 @@ pub type CpitCoefs = Listed<CpitCoef>;
 
 /// An instance of the constrained pit limit problem of MineLib (Espinoza, Goycoolea, Moreno and Newman 2013): each
 /// block has one destination, and so one value. Contracts see the record of its parts. Every value keeps their ranges
-/// and orders. `C` has the coefficients: `CpitCoefs` keeps and lends them, and `PackedCoefs` unpacks them.
+/// and orders.
 #[derive(Debug, Drop)]
-pub struct Cpit<C: CoefList<Coef = CpitCoef> = CpitCoefs> {
+pub struct Cpit {
     name: Name,
     rate: Dec,
     periods: u8,
     resources: u8,
     values: Vec<Dec>,
-    coefs: C,
+    coefs: CpitCoefs,
     limits: Vec<Limit>,
 }
 
-impl<C: CoefList<Coef = CpitCoef>> Model for Cpit<C> {
+impl Model for Cpit {
     ghost use Rattle.mine_instance.specs.Cpit.{CpitParts};
 
     ghost Value = { CpitParts };
@@ -46,13 +45,13 @@ impl<C: CoefList<Coef = CpitCoef>> Model for Cpit<C> {
     ghost use Rattle.mine_instance.specs.CpitKept.{IsCpit, cpit_of};
 
     ghost view = { λ c. cpit_of c.name c.rate c.periods c.resources c.values.items
-        (C.list c.coefs) c.limits.items };
+        c.coefs c.limits.items };
 
     ghost invariant = { λ c. IsCpit (cpit_of c.name c.rate c.periods c.resources c.values.items
-        (C.list c.coefs) c.limits.items) };
+        c.coefs c.limits.items) };
 }
 
-impl<C: CoefList<Coef = CpitCoef>> Cpit<C> {
+impl Cpit {
     ghost use Rattle.mine_instance.specs.CpitKept.{cpit_of};
 
     /// The CPIT of these parts, which must fit one another and keep their ranges and orders.
@@ -62,12 +61,12 @@ impl<C: CoefList<Coef = CpitCoef>> Cpit<C> {
         periods: u8,
         resources: u8,
         values: Vec<Dec>,
-        coefs: C,
+        coefs: CpitCoefs,
         limits: Vec<Limit>,
-    ) -> Cpit<C>
-        requires { IsCpit (cpit_of name rate periods resources values.items (C.list coefs)
+    ) -> Cpit
+        requires { IsCpit (cpit_of name rate periods resources values.items coefs
             limits.items) }
-        ensures { result ≡ cpit_of name rate periods resources values.items (C.list coefs)
+        ensures { result ≡ cpit_of name rate periods resources values.items coefs
             limits.items }
     {
         Cpit {
@@ -118,11 +117,11 @@ impl<C: CoefList<Coef = CpitCoef>> Cpit<C> {
     }
 
     /// The coefficients, in strictly rising order of block and resource.
-    pub fn coef_list(&self) -> &C
-        ensures value { C.list result.now ≡ self.now.coefs }
+    pub fn coefs(&self) -> &[CpitCoef]
+        ensures value { result.now ≡ self.now.coefs }
         ensures kept { IsCpit self.now }
     {
-        &self.coefs
+        self.coefs.as_slice()
     }
 
     /// The limits, in strictly rising order of resource and period.
@@ -137,16 +136,6 @@ impl<C: CoefList<Coef = CpitCoef>> Cpit<C> {
     pub fn coefs_len(&self) -> usize
         ensures { result ≡ length self.now.coefs }
     {
-        self.coefs.len()
-    }
-}
-
-impl Cpit {
-    /// The coefficients, in strictly rising order of block and resource.
-    pub fn coefs(&self) -> &[CpitCoef]
-        ensures value { result.now ≡ self.now.coefs }
-        ensures kept { IsCpit self.now }
-    {
-        self.coefs.as_slice()
+        self.coefs.as_slice().len()
     }
 }

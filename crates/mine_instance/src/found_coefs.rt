@@ -1,23 +1,16 @@
 //! Coefficients that are found when they are asked for.
 
-ghost use Rattle.std.specs.Prelude.{◌≡◌, ◌*◌, ◌<◌, ◌≤◌, ◌==◌, ◌++◌, ◌∷◌, [], All, if◌then◌else◌, IfOk, OnOk, length, map, filter};
-ghost use Rattle.mine_instance.specs.OfCpit.{without_destination};
+ghost use Rattle.std.specs.Prelude.{◌≡◌, ◌*◌, ◌<◌, ◌≤◌, ◌==◌, ◌++◌, ◌∷◌, [], pos, if◌then◌else◌, IfOk, OnOk, length};
 ghost use Rattle.mine_instance.specs.OfModel.{coefs_of};
-ghost use Rattle.mine_instance.specs.inner.CpitFields.{is_at};
-ghost use Rattle.mine_instance.specs.inner.FoundCoefFields.{heavy_of, heavy_one, heavy_coef, heavy_coefs, found_coefs};
-ghost use Rattle.mine_instance.specs.inner.PackedCoefFields.{packed_coef};
+ghost use Rattle.mine_instance.specs.inner.FoundCoefFields.{heavy_of, heavy_one};
 ghost use Rattle.pit_parts.specs.declared.ranges.TheConstants.{MAX_BLOCKS, MAX_DESTINATIONS, MAX_RESOURCES};
 
-use crate::coef::Coef;
+use crate::coef_group::{CoefGroup, Covering, Pairs};
 use crate::coef_list::CoefList;
-use crate::packed_coefs::{PackedCoef, PackedCoefs};
 use pit_parts::block::Block;
 use pit_units::Dec;
 use std::alloc::{AllocError, Global};
 use std::marker::Model;
-
-/// A destination and a resource that covers it, by their numbers.
-pub type Covering = (u8, u8);
 
 /// A block that has tonnage.
 #[derive(Clone, Copy, Debug)]
@@ -30,16 +23,10 @@ struct HeavyBlock {
 
 impl HeavyBlock {
     #[inline(always)]
-    fn coef(&self, pair: Covering) -> Coef
-        ensures { result ≡ heavy_coef self.now pair }
+    fn tonnes(&self) -> Dec
+        ensures { result ≡ pos (self.now.kg * 1000) }
     {
-        let (d, r) = pair;
-        Coef {
-            b: self.b,
-            d,
-            r,
-            v: Dec::new(i128::from(self.kg) * 1000).unwrap(),
-        }
+        Dec::new(i128::from(self.kg) * 1000).unwrap()
     }
 }
 
@@ -81,27 +68,9 @@ impl FoundCoefs {
         let heavy = heavy_of(alloc, blocks)?;
         Ok(FoundCoefs { heavy, pairs })
     }
-
-    /// Those at these destinations of their blocks, packed. They are mostly not more than `most`. Fails only where memory is refused.
-    pub fn packed_at(
-        &self,
-        alloc: Global,
-        destinations: &[u8],
-        most: usize,
-    ) -> Result<PackedCoefs, AllocError>
-        requires { All (λ coef. coef.b < length destinations.now) self.now }
-        ensures { IfOk result (λ packed. packed
-            ≡ map without_destination (filter (is_at destinations.now) self.now)) }
-    {
-        let room = Vec::with_capacity(alloc, most.min(self.len()))?;
-        let packed = packed_at(room, &self.heavy, &self.pairs, destinations)?;
-        Ok(PackedCoefs::new(packed))
-    }
 }
 
 impl CoefList for FoundCoefs {
-    type Coef = Coef;
-
     ghost list = { λ found. found };
 
     #[tactic(auto, using(crate::proofs::FoundFacts::counts))]
@@ -109,67 +78,16 @@ impl CoefList for FoundCoefs {
         self.heavy.len() * self.pairs.len()
     }
 
-    fn at(&self, index: usize) -> Coef {
+    fn group(&self, from: usize) -> CoefGroup<'_> {
         let width = self.pairs.len();
-        self.heavy[index / width].coef(self.pairs[index % width])
-    }
-
-    fn put_some(&self, from: usize, most: usize, piece: &mut Vec<Coef>) -> Result<(), AllocError> {
-        let width = self.pairs.len();
-        let count = most.min(self.len() - from);
-        let mut block = from / width;
-        let mut pair = from % width;
-        for _ in 0..count {
-            piece.push(self.heavy[block].coef(self.pairs[pair]))?;
-            pair += 1;
-            if pair == width {
-                pair = 0;
-                block += 1;
-            }
-        }
-        Ok(())
-    }
-}
-
-// The coefficients of these blocks and pairs that are at their blocks' destinations, packed, behind those of `room`, which has none.
-fn packed_at(
-    room: Vec<PackedCoef>,
-    heavy: &[HeavyBlock],
-    pairs: &[Covering],
-    destinations: &[u8],
-) -> Result<Vec<PackedCoef>, AllocError>
-    requires empty { room.items ≡ [] }
-    requires there { All (λ coef. coef.b < length destinations.now)
-        (found_coefs pairs.now heavy.now) }
-    ensures { IfOk result (λ packed. map packed_coef packed.items
-        ≡ map without_destination (filter (is_at destinations.now)
-        (found_coefs pairs.now heavy.now))) }
-{
-    let mut packed = room;
-    for block in heavy {
-        put_at(&mut packed, block, pairs, destinations)?;
-    }
-    Ok(packed)
-}
-
-// Appends those of one block, packed.
-fn put_at(
-    packed: &mut Vec<PackedCoef>,
-    block: &HeavyBlock,
-    pairs: &[Covering],
-    destinations: &[u8],
-) -> Result<(), AllocError>
-    requires { All (λ coef. coef.b < length destinations.now) (heavy_coefs pairs.now block.now) }
-    ensures { OnOk result (map packed_coef packed.new.items
-        ≡ map packed_coef packed.old.items ++ map without_destination
-        (filter (is_at destinations.now) (heavy_coefs pairs.now block.now))) }
-{
-    for (d, r) in pairs {
-        if *d == destinations[block.b as usize] {
-            packed.push(PackedCoef::new(block.b, block.kg, *r))?;
+        let block = &self.heavy[from / width];
+        let (_, pairs) = self.pairs.as_slice().split_at(from % width);
+        CoefGroup {
+            b: block.b,
+            v: block.tonnes(),
+            pairs: Pairs::Covered(pairs),
         }
     }
-    Ok(())
 }
 
 fn heavy_of(alloc: Global, blocks: &[Block]) -> Result<Vec<HeavyBlock>, AllocError>

@@ -4,7 +4,7 @@ ghost use Rattle.std.specs.Prelude.{◌≡◌, IfOk, length, sum_by};
 ghost use Rattle.mine_instance.specs.Seen.{seen};
 
 use crate::blocks::Blocks;
-use crate::coef::{Coef, Coefs};
+use crate::coef::Coefs;
 use crate::coef_list::{CoefList, keep};
 use crate::limits::Limits;
 use crate::values::Values;
@@ -53,7 +53,7 @@ impl<P, C> Instance<P, C> {
     }
 }
 
-impl<P, C: CoefList<Coef = Coef>> Instance<P, C> {
+impl<P, C: CoefList> Instance<P, C> {
     /// The number of coefficients.
     pub fn coefs_len(&self) -> usize
         ensures { result ≡ length (C.list self.now.coefs) }
@@ -71,7 +71,7 @@ impl<P: TakePreds, C> Instance<P, C> {
     }
 }
 
-impl<P: PredLists + Drop, C: CoefList<Coef = Coef> + Drop> Instance<P, C> {
+impl<P: PredLists + Drop, C: CoefList + Drop> Instance<P, C> {
     /// The same instance, whose coefficients are kept. Fails only where memory is refused.
     pub fn with_kept_coefs(self, alloc: Global) -> Result<Instance<P>, AllocError>
         ensures { IfOk result

@@ -5,8 +5,12 @@ ghost use Rattle.pit_parts.specs.Plan.{PlanParts};
 ghost use Rattle.pit_parts.specs.PlanKept.{IsCone};
 ghost use Rattle.pit_parts.specs.declared.block.Block.{Block};
 ghost use Rattle.precedence.specs.ConeLaws.{IsEven};
+ghost use Rattle.mine_instance.specs.CpitKept.{IsCpit};
+ghost use Rattle.mine_instance.specs.Instance.{Instance};
+ghost use Rattle.mine_instance.specs.OfCpit.{cpit};
 ghost use Rattle.mine_instance.specs.OfModel.{instance};
 ghost use Rattle.mine_instance.specs.OneSlope.{instance_by};
+ghost use Rattle.mine_instance.specs.Valid.{IsValid};
 
 /// Where the cone of each zone has one slope on all sides, the instance is that of the test with one slope. So is each text of it,
 /// since a text tells an instance and nothing else.
@@ -17,3 +21,9 @@ pub fn even_zones()
 {
     precedence::laws::even_zones();
 }
+
+/// The CPIT of a valid instance keeps what every CPIT keeps.
+#[tactic(auto, using(crate::proofs::CpitFacts::cpit_is_one))]
+pub fn a_valid_instance_has_a_cpit()
+    ensures { (i : Instance) → IsValid i → IsCpit (cpit i) }
+{}

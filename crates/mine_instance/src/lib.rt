@@ -4,6 +4,7 @@
 pub mod blocks;
 mod building;
 pub mod coef;
+pub mod coef_group;
 pub mod coef_list;
 pub mod cpit;
 mod cpit_building;
@@ -13,13 +14,11 @@ pub mod instance;
 pub mod laws;
 pub mod limits;
 pub mod listed_values;
-mod packed_coefs;
 mod rising;
 mod validity;
 pub mod values;
 
 pub use building::{build, build_with, values_in_order};
-pub use cpit_building::{build_cpit, build_packed};
+pub use cpit_building::build_cpit;
 pub use found_coefs::FoundCoefs;
-pub use packed_coefs::PackedCoefs;
 pub use validity::is_valid;

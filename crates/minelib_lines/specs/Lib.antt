@@ -1,4 +1,5 @@
-pub mod KeyWords
+pub mod HeaderTable
+pub mod KeyParts
 pub mod Kept
 pub mod LineValues
 pub mod Lines

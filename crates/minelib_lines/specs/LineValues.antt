@@ -1,4 +1,4 @@
--- The values of each line of a MineLib text: what its fields state, from left to right.
+-- The values of the lines of a MineLib text: what their fields state, from left to right.
 use Rattle.std.specs.Prelude.{ℕ, List, [], ◌∷◌, ◌*◌, length, map, ℤ, pos, codes}
 use Rattle.forms.specs.Words.{Value, Millionths, Bytes, whole}
 use Rattle.pit_parts.specs.declared.block.Block.{Block}
@@ -9,8 +9,6 @@ use Rattle.mine_instance.specs.Cpit.{CpitParts}
 use Rattle.mine_instance.specs.declared.instance.Instance.{Instance}
 use Rattle.mine_instance.specs.declared.coef.Coef.{Coef}
 use Rattle.mine_instance.specs.declared.cpit.CpitCoef.{CpitCoef}
-use Rattle.minelib_lines.specs.declared.header_key.HeaderKey.{HeaderKey}
-use Rattle.minelib_lines.specs.declared.header_key.HeaderKey.TheVariants as key
 use Rattle.minelib_lines.specs.declared.problem.Problem.{Problem}
 use Rattle.minelib_lines.specs.declared.problem.Problem.TheVariants.{Pcpsp, Cpit}
 
@@ -74,14 +72,3 @@ header_of_cpit c = record {
   resources = c.resources;
   rate = c.rate;
 }
-
--- the value of a header key where TYPE names the problem so, of n blocks; there are no general side constraints
-abbrev pub key_value : List ℕ → ℕ → StatedHeader → HeaderKey → Value
-key_value problem n h key.Name = Bytes h.name
-key_value problem n h key.Type = Bytes problem
-key_value problem n h key.Blocks = whole n
-key_value problem n h key.Periods = whole h.periods
-key_value problem n h key.Destinations = whole h.destinations
-key_value problem n h key.Resources = whole h.resources
-key_value problem n h key.General = whole 0
-key_value problem n h key.Rate = Millionths h.rate

@@ -2,4 +2,5 @@
 #![tactic(auto)]
 
 pub mod header_key;
+pub mod key_values;
 pub mod problem;

@@ -1,7 +1,7 @@
 //! The problem that a model file states.
 
 ghost use Rattle.std.specs.Prelude.{◌≡◌};
-ghost use Rattle.minelib_lines.specs.KeyWords.{keys_of, type_text};
+ghost use Rattle.minelib_lines.specs.HeaderTable.{keys_of, type_text};
 
 use crate::header_key::HeaderKey;
 
@@ -30,24 +30,8 @@ impl Problem {
         ensures { result.now ≡ keys_of self }
     {
         match self {
-            Problem::Pcpsp => &[
-                HeaderKey::Name,
-                HeaderKey::Type,
-                HeaderKey::Blocks,
-                HeaderKey::Periods,
-                HeaderKey::Destinations,
-                HeaderKey::Resources,
-                HeaderKey::General,
-                HeaderKey::Rate,
-            ],
-            Problem::Cpit => &[
-                HeaderKey::Name,
-                HeaderKey::Type,
-                HeaderKey::Blocks,
-                HeaderKey::Periods,
-                HeaderKey::Resources,
-                HeaderKey::Rate,
-            ],
+            Problem::Pcpsp => HeaderKey::of_pcpsp(),
+            Problem::Cpit => HeaderKey::of_cpit(),
         }
     }
 }

@@ -1,14 +1,12 @@
 -- What a reader that only counts answers of the text of a feed.
-use Rattle.std.specs.Prelude.{◌≡◌, ℕ, ◌+◌, List, [], ◌∷◌, ◌++◌, length, sum_by, Option, Result, Ok, Err}
-use Rattle.std.proofs.Common.{refl, sym, ◌∙◌, ap, subst}
+use Rattle.std.specs.Prelude.{◌≡◌, ℕ, List, [], length, sum_by, Option, Ok, Err}
+use Rattle.std.proofs.Common.{sym, ◌∙◌, ap}
 use Rattle.forms.specs.Words.{◌>>=◌}
 use Rattle.pit_parts.specs.declared.block.Block.{Block}
 use Rattle.text_lines.specs.Fed.{IsFedReading}
-use Rattle.text_lines.specs.Reading.{at_line, read_lines}
-use Rattle.text_lines.specs.TextLines.{Line, end_of, lines_in}
+use Rattle.text_lines.specs.Reading.{read_lines}
+use Rattle.text_lines.specs.TextLines.{end_of, lines_in}
 use Rattle.text_lines.specs.declared.text_fault.LineFault.{LineFault}
-use Rattle.text_lines.specs.declared.text_fault.TextKind.{TextKind}
-use Rattle.minelib_reading.specs.BlockLines.{blocks_in}
 use Rattle.minelib_reading.specs.FedCounts.{IsFedAnswer, arcs_counted, blocks_counted, model_counted}
 use Rattle.minelib_reading.specs.ModelLines.{ModelDraftView, blank_model, finish_model, model_in}
 use Rattle.minelib_reading.specs.inner.ModelParts.{admit_model}

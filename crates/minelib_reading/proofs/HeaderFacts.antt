@@ -6,35 +6,25 @@ use Rattle.std.proofs.lemmas.Bool.{eqb-true}
 use Rattle.std.proofs.lemmas.List.Elements.{All-contains}
 use Rattle.std.proofs.lemmas.List.FromFn.{fill_by_all}
 use Rattle.std.proofs.lemmas.List.Sums.{AllPass-from_list_all, list_all-from_AllPass}
-use Rattle.minelib_reading.specs.HeaderKeys.{place, number_of, with_key, count_in, is_given, is_complete}
+use Rattle.minelib_lines.specs.HeaderTable.{has_key, header_keys, place}
+use Rattle.minelib_reading.specs.HeaderNumbers.{number_of, with_key, count_in, is_given, is_complete}
 use Rattle.minelib_reading.specs.ModelLines.{blank_header}
 use Rattle.minelib_reading.specs.SpelledModel.{IsSingle}
-use Rattle.minelib_lines.specs.KeyWords.{has_key, header_keys}
 use Rattle.minelib_reading.specs.inner.ModelParts.{number_limit}
 use Rattle.minelib_reading.specs.declared.model_key.Header.{Header}
 use Rattle.minelib_lines.specs.declared.header_key.HeaderKey.{HeaderKey}
+use Rattle.minelib_lines.specs.declared.header_key.TheConstants.{KEYS}
 use Rattle.minelib_lines.specs.declared.header_key.HeaderKey.TheVariants as key
 use Rattle.minelib_lines.specs.declared.problem.Problem.{Problem}
 use Rattle.minelib_lines.specs.declared.problem.Problem.TheVariants.{Pcpsp, Cpit}
-
--- what holds of each key
-pub of_keys : (P : HeaderKey → Type 0) → P key.Name → P key.Type → P key.Blocks → P key.Periods → P key.Destinations → P key.Resources
-    → P key.General → P key.Rate → (k : HeaderKey) → P k
-of_keys P name type blocks periods destinations resources general rate key.Name = name
-of_keys P name type blocks periods destinations resources general rate key.Type = type
-of_keys P name type blocks periods destinations resources general rate key.Blocks = blocks
-of_keys P name type blocks periods destinations resources general rate key.Periods = periods
-of_keys P name type blocks periods destinations resources general rate key.Destinations = destinations
-of_keys P name type blocks periods destinations resources general rate key.Resources = resources
-of_keys P name type blocks periods destinations resources general rate key.General = general
-of_keys P name type blocks periods destinations resources general rate key.Rate = rate
 
 -- the key at a place
 abbrev key_at : ℕ → HeaderKey
 key_at i = slice_index_or header_keys i key.Name
 
 key_there : (k : HeaderKey) → key_at (place k) ≡ k
-key_there = of_keys (λ k. key_at (place k) ≡ k) refl refl refl refl refl refl refl refl
+key_there key.Name = refl
+key_there k = refl
 
 one_place : (j k : HeaderKey) → place j ≡ place k → j ≡ k
 one_place j k same = sym (key_there j) ∙ ap key_at same ∙ key_there k
@@ -43,9 +33,8 @@ one_place j k same = sym (key_there j) ∙ ap key_at same ∙ key_there k
 entry : (h : Header) (k : HeaderKey) (n : ℕ) (j : HeaderKey)
     → number_of (with_key h k n) j ≡ (if place j == place k then Some n else number_of h j)
 unfolding with_key
-entry h k n =
-    of_keys (λ j. number_of (with_key h k n) j ≡ (if place j == place k then Some n else number_of h j))
-    refl refl refl refl refl refl refl refl
+entry h k n key.Name = refl
+entry h k n j = refl
 
 -- what holds of a new number and of what was there for each other key holds of each key
 pub each_with : (P : HeaderKey → Option ℕ → Type 0) (h : Header) (k : HeaderKey) (n : ℕ) → P k (Some n)
@@ -67,8 +56,10 @@ count_there h n k = ap (λ number. unwrap_or number 0) (with_same h k n)
 -- before the first line just the keys that the problem's files do not have are given
 pub first_given : (problem : Problem) (k : HeaderKey) → is_given k (blank_header problem) ≡ not (has_key problem k)
 unfolding with_key
-first_given Pcpsp = of_keys (λ k. is_given k (blank_header Pcpsp) ≡ not (has_key Pcpsp k)) refl refl refl refl refl refl refl refl
-first_given Cpit = of_keys (λ k. is_given k (blank_header Cpit) ≡ not (has_key Cpit k)) refl refl refl refl refl refl refl refl
+first_given Pcpsp key.Name = refl
+first_given Pcpsp k = refl
+first_given Cpit key.Name = refl
+first_given Cpit k = refl
 
 -- numbers below the limits of their keys
 pub numbers_below : (h : Header) (k : HeaderKey) (n : ℕ) → n < number_limit k → ((j : HeaderKey) → count_in h j < number_limit j)
@@ -83,27 +74,36 @@ blank_below Cpit key.Name = omega arith
 blank_below Cpit k = omega arith
 
 -- an array with another number at the place of a key
-pub key_set : (xs : List (Option ℕ)) (k : HeaderKey) (n : ℕ) → length xs ≡ 8
+pub key_set : (xs : List (Option ℕ)) (k : HeaderKey) (n : ℕ) → length xs ≡ KEYS
     → record { numbers = set xs (place k) (Some n) } ≡ with_key (record { numbers = xs }) k n
 unfolding with_key
 key_set xs k n count =
     ap (λ numbers. record { numbers = numbers })
-    (ap (λ ys. set ys (place k) (Some n)) (fill_by_all at xs 8 None count (λ i h. refl))
-    ∙ of_keys (λ k. set (map at (range_with_len 0 8)) (place k) (Some n) ≡ (with_key (record { numbers = xs }) k n).numbers)
-    refl refl refl refl refl refl refl refl k)
+    (ap (λ ys. set ys (place k) (Some n)) (fill_by_all at xs KEYS None count (λ i h. refl)) ∙ here k)
   where
     at : ℕ → Option ℕ
     at i = get_or xs i None
 
+    here : (k : HeaderKey) → set (map at (range_with_len 0 KEYS)) (place k) (Some n) ≡ (with_key (record { numbers = xs }) k n).numbers
+    here key.Name = refl
+    here k = refl
+
 -- all keys stood where all of their numbers are there
-pub all_numbers : (xs : List (Option ℕ)) → length xs ≡ 8
+pub all_numbers : (xs : List (Option ℕ)) → length xs ≡ KEYS
     → list_all (λ number. is_some number) xs ≡ is_complete (record { numbers = xs })
-all_numbers xs count = ap (λ ys. list_all (λ number. is_some number) ys) (fill_by_all (λ i. get_or xs i None) xs 8 None count (λ i h. refl))
+all_numbers xs count = ap (λ ys. list_all (λ number. is_some number) ys) (fill_by_all (λ i. get_or xs i None) xs KEYS None count (λ i h. refl))
 
 -- each key is among all
 pub each_key : (k : HeaderKey) → Contains header_keys k
-each_key = of_keys (Contains header_keys) (0, omega arith, refl) (1, omega arith, refl) (2, omega arith, refl) (3, omega arith, refl)
-    (4, omega arith, refl) (5, omega arith, refl) (6, omega arith, refl) (7, omega arith, refl)
+each_key k = (place k, inside k, there k)
+  where
+    inside : (k : HeaderKey) → place k < length header_keys
+    inside key.Name = omega arith
+    inside k = omega arith
+
+    there : (k : HeaderKey) → slice_index_or header_keys (place k) k ≡ k
+    there key.Name = refl
+    there k = refl
 
 -- a header with all keys has each
 pub each_given : (h : Header) → is_complete h ≡ true → (k : HeaderKey) → is_given k h ≡ true

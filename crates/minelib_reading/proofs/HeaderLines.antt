@@ -6,12 +6,10 @@ use Rattle.std.proofs.lemmas.List.Elements.{All-nil, All-push, Contains-push, Co
 use Rattle.std.proofs.lemmas.List.Quantifiers.{all_pairs_push}
 use Rattle.forms.specs.Words.{Millionths, Bytes, whole, Says}
 use Rattle.minelib_lines.specs.declared.problem.Problem.{Problem}
-use Rattle.minelib_reading.specs.HeaderKeys.{count_in, is_given, is_complete, with_key}
-use Rattle.minelib_reading.specs.KeyFields.{field_of}
+use Rattle.minelib_reading.specs.HeaderNumbers.{count_in, is_given, is_complete, with_key}
+use Rattle.minelib_lines.specs.HeaderTable.{field_of, has_key, key_value, type_text}
 use Rattle.minelib_reading.specs.ModelLines.{blank_header, name_with}
 use Rattle.minelib_reading.specs.ModelStates.{header_stated}
-use Rattle.minelib_lines.specs.KeyWords.{has_key, type_text}
-use Rattle.minelib_lines.specs.LineValues.{key_value}
 use Rattle.minelib_reading.specs.SpelledLines.{AreLines}
 use Rattle.minelib_reading.specs.SpelledModel.{AreHeaderLines, IsHeaderLine, IsSingle}
 use Rattle.minelib_reading.specs.declared.model_key.Header.{Header}

@@ -13,7 +13,7 @@ use Rattle.text_lines.specs.TextLines.{fields_of}
 use Rattle.minelib_lines.specs.declared.problem.Problem.{Problem}
 use Rattle.minelib_lines.specs.declared.problem.Problem.TheVariants.{Pcpsp, Cpit}
 use Rattle.minelib_reading.specs.ModelLines.{header_or, is_colon, is_next, key_in, key_of, section_in, sections}
-use Rattle.minelib_lines.specs.KeyWords.{has_key, header_keys, key_word, keys_of}
+use Rattle.minelib_lines.specs.HeaderTable.{has_key, header_keys, key_word, keys_of}
 use Rattle.minelib_reading.specs.SpelledKeys.{IsKeyLine, section_text}
 use Rattle.minelib_lines.specs.declared.header_key.HeaderKey.{HeaderKey}
 use Rattle.minelib_lines.specs.declared.header_key.HeaderKey.TheVariants as key
@@ -21,7 +21,6 @@ use Rattle.minelib_reading.specs.declared.model_key.ModelKey.{ModelKey}
 use Rattle.minelib_reading.specs.declared.model_key.ModelKey.TheVariants as model_key
 use Rattle.minelib_reading.specs.declared.model_key.Section.{Section}
 use Rattle.minelib_reading.specs.declared.model_key.Section.TheVariants.{Heading, Objective, Coefs, Limits}
-use Rattle.minelib_reading.proofs.HeaderFacts.{of_keys}
 use Rattle.minelib_reading.proofs.Keyless.{have_colon, keyless}
 
 -- a line with a colon is cut at the first
@@ -149,8 +148,8 @@ next_by P objective coefs limits now next e = absurd cc
 
 -- and each key is found
 pub header_found : (problem : Problem) (k : HeaderKey) → has_key problem k ≡ true → key_in problem (key_word k) ≡ Some (model_key.Header k)
-header_found Pcpsp k has =
-    of_keys (λ k. key_in Pcpsp (key_word k) ≡ Some (model_key.Header k)) refl refl refl refl refl refl refl refl k
+header_found Pcpsp key.Name has = refl
+header_found Pcpsp k has = refl
 header_found Cpit key.Destinations has = absurd cc
 header_found Cpit key.General has = absurd cc
 header_found Cpit k has = refl
@@ -164,7 +163,8 @@ section_found Cpit now section next =
 
 -- no key has a colon
 pub header_plain : (k : HeaderKey) → list_any is_colon (key_word k) ≡ false
-header_plain = of_keys (λ k. list_any is_colon (key_word k) ≡ false) refl refl refl refl refl refl refl refl
+header_plain key.Name = refl
+header_plain k = refl
 
 pub section_plain : (section : Section) → list_any is_colon (section_text section) ≡ false
 section_plain Heading = refl

@@ -8,6 +8,7 @@ pub mod HeaderFacts
 pub mod HeaderLines
 pub mod ItemLines
 pub mod KeyLines
+pub mod KeyNumbers
 pub mod Keyless
 pub mod LimitLineFacts
 pub mod LineKindsFacts

@@ -7,9 +7,9 @@ use Rattle.forms.specs.Words.{Value, Bytes, millionths, whole_at, whole_stated, 
 use Rattle.pit_parts.specs.Name.{is_name}
 use Rattle.pit_parts.specs.PlanKept.{is_turned, stands_before}
 use Rattle.mine_instance.specs.Order.{coef_comes_before}
-use Rattle.minelib_reading.specs.HeaderKeys.{count_in, is_given, with_key}
+use Rattle.minelib_reading.specs.HeaderNumbers.{count_in, is_given, with_key, number_said}
 use Rattle.minelib_reading.specs.ItemForms.{bytes_in, coef_form, coef_said, limit_form, limit_said, row_said, values_form}
-use Rattle.minelib_reading.specs.KeyFields.{field_of, number_said}
+use Rattle.minelib_lines.specs.HeaderTable.{field_of, has_key, key_word}
 use Rattle.text_lines.specs.LineKinds.{text_kind, text_kinds}
 use Rattle.minelib_reading.specs.ModelLines.{ModelDraftView, coef_line, first_of, header_line, is_behind, is_colon, is_counted, is_heading, is_next, is_ready, item_line, key_of, keyed_line, last_of, limit_line, model_grammar, model_line, name_with, section_line, stray_line, values_line}
 use Rattle.minelib_reading.specs.inner.ModelParts.{admit_model, coef_of, limit_of, number_in, number_with, only_value, takes, values_of, values_said}
@@ -24,7 +24,6 @@ use Rattle.minelib_reading.specs.declared.model_key.Section.{Section}
 use Rattle.minelib_reading.specs.declared.model_key.Section.TheVariants.{Heading, Objective, Coefs, Limits}
 use Rattle.text_lines.specs.declared.text_fault.TextKind.{TextKind}
 use Rattle.text_lines.specs.declared.text_fault.TextKind.TheVariants.{Fields, Order, Count, Name, Twice, Key, Missing}
-use Rattle.minelib_lines.specs.KeyWords.{has_key, key_word}
 use Rattle.minelib_reading.specs.SpelledKeys.{IsKeyLine, section_text}
 use Rattle.minelib_reading.proofs.CoefLineFacts.{coef_fine, coef_plain}
 use Rattle.minelib_reading.proofs.KeyLines.{key_found, key_line}

@@ -12,15 +12,14 @@ use Rattle.pit_parts.specs.PlanKept.{is_turned, stands_before}
 use Rattle.mine_instance.specs.Order.{coef_comes_before}
 use Rattle.mine_instance.specs.declared.coef.Coef.{Coef}
 use Rattle.text_lines.specs.declared.text_fault.TextKind.TheVariants.{Order, Count, Twice, Key, Missing}
-use Rattle.minelib_lines.specs.LineValues.{coef_values, key_value, limit_values, values_values}
+use Rattle.minelib_lines.specs.HeaderTable.{field_of, key_value, type_text}
+use Rattle.minelib_lines.specs.LineValues.{coef_values, limit_values, values_values}
 use Rattle.minelib_lines.specs.declared.problem.Problem.{Problem}
-use Rattle.minelib_reading.specs.HeaderKeys.{count_in, is_given, with_key}
+use Rattle.minelib_reading.specs.HeaderNumbers.{count_in, is_given, with_key, number_said}
 use Rattle.minelib_reading.specs.ItemForms.{bytes_in, coef_form, coef_said, limit_form, limit_said, row_said, values_form}
-use Rattle.minelib_reading.specs.KeyFields.{field_of, number_said}
 use Rattle.minelib_reading.specs.ModelLines.{ModelDraftView, coef_line, first_of, header_line, is_behind, is_counted, is_heading, is_next, is_ready, last_of, limit_line, name_with, section_line, stray_line, values_line}
 use Rattle.minelib_reading.specs.ModelStates.{header_stated}
 use Rattle.minelib_reading.specs.SpelledModel.{SpellCoef, SpellLimit, SpellValues}
-use Rattle.minelib_lines.specs.KeyWords.{type_text}
 use Rattle.minelib_reading.specs.declared.model_key.Header.{Header}
 use Rattle.minelib_lines.specs.declared.header_key.HeaderKey.{HeaderKey}
 use Rattle.minelib_lines.specs.declared.header_key.HeaderKey.TheVariants as key
@@ -66,14 +65,14 @@ said problem n key.Destinations text value name h says fits counted =
     whole_itself _ _ value fits ∙ ap whole (sym (count_there h (whole_stated value) key.Destinations))
 said problem n key.Resources text value name h says fits counted =
     whole_itself 0 _ value fits ∙ ap whole (sym (count_there h (whole_stated value) key.Resources))
-said problem n key.General text (Millionths (pos m)) name h says fits counted =
-    let none : m ≡ 0 = omega (arith, ints, fits.1, fits.3) in ap (λ m. Millionths (pos m)) none
-said problem n key.General text (Millionths (negsuc m)) name h says fits counted = absurd (omega (arith, ints, fits.0))
-said problem n key.General text (Bytes word) name h says fits counted = absurd fits
 said problem n key.Rate text (Millionths (pos m)) name h says fits counted =
     ap (λ m. Millionths (pos m)) (sym (count_there h m key.Rate))
 said problem n key.Rate text (Millionths (negsuc m)) name h says fits counted = absurd (omega (arith, ints, fits.0))
 said problem n key.Rate text (Bytes word) name h says fits counted = absurd fits
+said problem n k text (Millionths (pos m)) name h says fits counted =
+    ap (λ m. Millionths (pos m)) (omega (arith, ints, fits.0, fits.1, fits.3))
+said problem n k text (Millionths (negsuc m)) name h says fits counted = absurd (omega (arith, ints, fits.0))
+said problem n k text (Bytes word) name h says fits counted = absurd fits
 
 -- the NAME that a value states is its text
 name_said : (problem : Problem) (k : HeaderKey) (text : List ℕ) (value : Value) (name : List ℕ) → Says (field_of problem k) text value

@@ -21,7 +21,7 @@ use Rattle.minelib_reading.specs.ModelLines.{ModelDraftView, blank_model, is_who
 use Rattle.minelib_reading.specs.ModelStates.{StateModel, stated_by}
 use Rattle.minelib_reading.specs.PrecLines.{prec_grammar, preds_form, preds_in, preds_shape}
 use Rattle.text_lines.specs.Reading.{in_file}
-use Rattle.minelib_reading.specs.HeaderKeys.{count_in}
+use Rattle.minelib_reading.specs.HeaderNumbers.{count_in}
 use Rattle.minelib_reading.specs.SpelledModel.{AreModelLines}
 use Rattle.minelib_reading.specs.StatedModel.{StatedModel, alone, model_of, model_of_cpit}
 use Rattle.minelib_lines.specs.declared.header_key.HeaderKey.TheVariants as key

@@ -1,5 +1,5 @@
 -- Lines that spell a model state it.
-use Rattle.std.specs.Prelude.{◌≡◌, ◌≢◌, ℕ, suc, ◌+◌, ◌==◌, true, false, not, List, [], ◌∷◌, ◌++◌, length, ℤ, pos, unsigned_abs, Some, None, is_some, unwrap_or, AllPairs, codes, slice_index_or}
+use Rattle.std.specs.Prelude.{◌≡◌, ◌≢◌, ℕ, suc, ◌+◌, ◌==◌, true, false, not, List, [], ◌∷◌, ◌++◌, length, ℤ, pos, Some, None, is_some, unwrap_or, AllPairs, codes, slice_index_or}
 use Rattle.std.specs.List.{Contains}
 use Rattle.std.specs.Str.{bytes_eq}
 use Rattle.std.proofs.Common.{refl, sym, ◌∙◌, ap, subst, arith, inl, inr, eq-eqb}
@@ -12,15 +12,14 @@ use Rattle.mine_instance.specs.Order.{coef_comes_before}
 use Rattle.mine_instance.specs.declared.coef.Coef.{Coef}
 use Rattle.text_lines.specs.TextLines.{Line, fields_of}
 use Rattle.text_lines.specs.declared.text_fault.TextKind.TheVariants.{Count, Twice, Key, Missing}
-use Rattle.minelib_lines.specs.LineValues.{StatedHeader, coef_values, key_value, limit_values, values_values}
+use Rattle.minelib_lines.specs.HeaderTable.{has_key, key_value, key_word, type_text}
+use Rattle.minelib_lines.specs.LineValues.{StatedHeader, coef_values, limit_values, values_values}
 use Rattle.minelib_lines.specs.declared.problem.Problem.{Problem}
 use Rattle.minelib_lines.specs.declared.problem.Problem.TheVariants.{Pcpsp, Cpit}
-use Rattle.minelib_reading.specs.HeaderKeys.{count_in, is_complete, is_given, number_of, with_key}
+use Rattle.minelib_reading.specs.HeaderNumbers.{count_in, is_complete, is_given, number_of, with_key, number_said}
 use Rattle.minelib_reading.specs.ItemForms.{bytes_in, coef_form, limit_form, values_form}
-use Rattle.minelib_reading.specs.KeyFields.{number_said}
 use Rattle.minelib_reading.specs.ModelLines.{ModelDraftView, blank_header, blank_model, header_line, is_behind, is_counted, is_heading, is_next, is_ready, item_line, last_of, model_grammar, model_line, name_with, section_line}
 use Rattle.minelib_reading.specs.ModelStates.{StateModel, header_stated, stated_by}
-use Rattle.minelib_lines.specs.KeyWords.{has_key, key_word, type_text}
 use Rattle.minelib_reading.specs.SpelledKeys.{IsKeyLine, section_text}
 use Rattle.minelib_reading.specs.SpelledLines.{AreLines}
 use Rattle.minelib_reading.specs.SpelledModel.{AreHeaderLines, AreModelLines, IsHeaderLine, IsSingle, SpellCoef, SpellLimit, SpellValues}
@@ -44,19 +43,8 @@ use Rattle.minelib_reading.proofs.ShapeSteps.{met}
 use Rattle.minelib_reading.proofs.ValuesLineFacts.{many_plain}
 
 -- the number that a header keeps of what it states by a key
-abbrev pub told : StatedHeader → HeaderKey → ℕ
-told m key.Periods = m.periods
-told m key.Destinations = m.destinations
-told m key.Resources = m.resources
-told m key.Rate = unsigned_abs m.rate
-told m k = 0
-
--- a header's value says it
-pub number_told : (problem : Problem) (n : ℕ) (m : StatedHeader) (k : HeaderKey) → number_said k (key_value (type_text problem) n m k) ≡ told m k
-number_told problem n m key.Periods = quotient m.periods
-number_told problem n m key.Destinations = quotient m.destinations
-number_told problem n m key.Resources = quotient m.resources
-number_told problem n m k = refl
+abbrev pub told : Problem → ℕ → StatedHeader → HeaderKey → ℕ
+told problem n m k = number_said k (key_value (type_text problem) n m k)
 
 pub name_told : (problem : Problem) (n : ℕ) (m : StatedHeader) (k : HeaderKey) (name : List ℕ)
     → name_with k (bytes_in (key_value (type_text problem) n m k)) name ≡ name_with k m.name name
@@ -70,22 +58,21 @@ counted problem n m k = refl
 -- a key's line adds what the header states by it
 pub key_states : (d : ModelDraftView) (m : StatedHeader) (k : HeaderKey) (line : List ℕ) → is_heading d.section ≡ true
     → is_given k d.header ≡ false → IsHeaderLine d.problem d.blocks m line k
-    → States (model_line d line) (record d { header = with_key d.header k (told m k); name = name_with k m.name d.name })
+    → States (model_line d line) (record d { header = with_key d.header k (told d.problem d.blocks m k); name = name_with k m.name d.name })
 unfolding header_line
 key_states d m k line in_heading new l =
     let c = cut_line (key_word k) line (l.value ∷ []) (header_plain k) l.is_key in
     let here : model_line d line ≡ header_line d k (l.value ∷ []) =
     rw (c.colon, c.key_is, header_found d.problem k l.of_problem, c.fields_are) refl in
-    let number = sym (number_told d.problem d.blocks m k) in
     let name = sym (name_told d.problem d.blocks m k d.name) in
-    subst (λ shape. States shape (record d { header = with_key d.header k (told m k); name = name_with k m.name d.name })) (sym here)
+    subst (λ shape. States shape (record d { header = with_key d.header k (told d.problem d.blocks m k); name = name_with k m.name d.name })) (sym here)
     (record {
       first = met Key (is_heading d.section) (check Twice (not (is_given k d.header))) in_heading
           (met Twice (not (is_given k d.header)) [] (ap not new) refl);
       values = key_value (type_text d.problem) d.blocks m k ∷ [];
       spelled = (l.says, tt);
       last = counted d.problem d.blocks m k;
-      is = λ i. record d { header = with_key d.header k (number i); name = name i };
+      is = λ i. record d { header = with_key d.header k (told d.problem d.blocks m k); name = name i };
     })
 
 -- the line that begins a section
@@ -156,8 +143,8 @@ name_kept key.Name j value name was = was
 name_kept k j value name was = was
 
 -- a NAME and a header have what the model states by a key
-abbrev Has : StatedHeader → HeaderKey → List ℕ → Header → Type 0
-Has m k name h = (number_of h k ≡ Some (told m k)) × IsNameOf k m.name name
+abbrev Has : Problem → ℕ → StatedHeader → HeaderKey → List ℕ → Header → Type 0
+Has problem n m k name h = (number_of h k ≡ Some (told problem n m k)) × IsNameOf k m.name name
 
 -- behind the lines of these keys
 record Walked (problem : Problem) (n : ℕ) (m : StatedHeader) (keys : List HeaderKey) (lines : List Line) (name : List ℕ)
@@ -165,8 +152,8 @@ record Walked (problem : Problem) (n : ℕ) (m : StatedHeader) (keys : List Head
   pub last_name : List ℕ
   pub last : Header
   pub states : StateAny (heading problem n name h) lines (heading problem n last_name last)
-  pub kept : (k : HeaderKey) → Has m k name h → Has m k last_name last
-  pub all : (k : HeaderKey) → Contains keys k → Has m k last_name last
+  pub kept : (k : HeaderKey) → Has problem n m k name h → Has problem n m k last_name last
+  pub all : (k : HeaderKey) → Contains keys k → Has problem n m k last_name last
 
 walk : (problem : Problem) (n : ℕ) (m : StatedHeader) (i : ℕ) (lines : List Line) (keys : List HeaderKey) (name : List ℕ) (h : Header)
     → AreLines (λ _ line k. IsHeaderLine problem n m line k) i lines keys → AllPairs (λ k j. k ≢ j) keys
@@ -174,7 +161,7 @@ walk : (problem : Problem) (n : ℕ) (m : StatedHeader) (i : ℕ) (lines : List 
 walk problem n m i [] [] name h are once fresh =
     record { last_name = name; last = h; states = λ number. refl; kept = λ k was. was; all = λ k c. absurd (omega (arith, c.1)) }
 walk problem n m i (line ∷ lines) (k ∷ keys) name h are once fresh =
-    let number = told m k in
+    let number = told problem n m k in
     let next_name = name_with k m.name name in
     let next = with_key h k number in
     let new = fresh k (0, omega arith, refl) are.0.of_problem in
@@ -190,24 +177,24 @@ walk problem n m i (line ∷ lines) (k ∷ keys) name h are once fresh =
       states = line_then (heading problem n name h) (heading problem n next_name next) (heading problem n more.last_name more.last) line lines
           (key_states (heading problem n name h) m k line.text refl new are.0) more.states;
       kept = λ j was. more.kept j (
-        each_with (λ j found. number_of h j ≡ Some (told m j) → found ≡ Some (told m j)) h k number (λ _. refl) (λ j _ same. same) j was.0,
+        each_with (λ j found. number_of h j ≡ Some (told problem n m j) → found ≡ Some (told problem n m j)) h k number (λ _. refl) (λ j _ same. same) j was.0,
         name_kept k j m.name name was.1,
       );
       all = λ j c. elim (contains_cases k keys j c.0 c.1 c.2) [
-        | inl same ↦ subst (λ j. Has m j more.last_name more.last) same (more.kept k (with_same h k number, name_stands k m.name name))
+        | inl same ↦ subst (λ j. Has problem n m j more.last_name more.last) same (more.kept k (with_same h k number, name_stands k m.name name))
         | inr there ↦ more.all j there
       ];
     }
 walk problem n m i lines keys name h are once fresh = absurd are
 
 -- what has no key stands before the first
-without : (problem : Problem) (m : StatedHeader) (k : HeaderKey) → has_key problem k ≡ false → IsSingle problem m.destinations
-    → Has m k [] (blank_header problem)
+without : (problem : Problem) (n : ℕ) (m : StatedHeader) (k : HeaderKey) → has_key problem k ≡ false → IsSingle problem m.destinations
+    → Has problem n m k [] (blank_header problem)
 unfolding with_key
-without Pcpsp m k e single = absurd cc
-without Cpit m key.Destinations e single = (ap Some (sym single), tt)
-without Cpit m key.General e single = (refl, tt)
-without Cpit m k e single = absurd cc
+without Pcpsp n m k e single = absurd cc
+without Cpit n m key.Destinations e single = (ap Some (sym (quotient m.destinations ∙ single)), tt)
+without Cpit n m key.General e single = (refl, tt)
+without Cpit n m k e single = absurd cc
 
 -- behind the header's lines it stands whole
 record HasHeader (problem : Problem) (n : ℕ) (m : StatedHeader) (lines : List Line) : Type 0 where
@@ -222,12 +209,12 @@ header_back : (problem : Problem) (n : ℕ) (m : StatedHeader) (lines : List Lin
 header_back problem n m lines single are =
     let w = walk problem n m 0 lines are.keys [] (blank_header problem) are.spelled are.once
     (λ k _ has. first_given problem k ∙ ap not has) in
-    let each : (k : HeaderKey) → Has m k w.last_name w.last =
+    let each : (k : HeaderKey) → Has problem n m k w.last_name w.last =
     λ k. elim (cases_Bool (has_key problem k)) [
       | inl has ↦ w.all k (are.all k has)
-      | inr none ↦ w.kept k (without problem m k none single)
+      | inr none ↦ w.kept k (without problem n m k none single)
     ] in
-    let count : (k : HeaderKey) → count_in w.last k ≡ told m k = λ k. ap (λ number. unwrap_or number 0) (each k).0 in
+    let count : (k : HeaderKey) → count_in w.last k ≡ told problem n m k = λ k. ap (λ number. unwrap_or number 0) (each k).0 in
     let rate = from_zero m.rate (key_fits problem n lines m are key.Rate (in_both problem key.Rate refl)).0 in
     record {
       name = w.last_name;
@@ -236,9 +223,9 @@ header_back problem n m lines single are =
       complete = all_given w.last (λ k. ap is_some (each k).0);
       stated = λ i. record {
         name = (each key.Name).1 i;
-        periods = count key.Periods i;
-        destinations = count key.Destinations i;
-        resources = count key.Resources i;
+        periods = (count key.Periods ∙ quotient m.periods) i;
+        destinations = (count key.Destinations ∙ quotient m.destinations) i;
+        resources = (count key.Resources ∙ quotient m.resources) i;
         rate = (ap pos (count key.Rate) ∙ rate) i;
       };
     }

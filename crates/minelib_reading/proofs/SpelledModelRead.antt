@@ -11,12 +11,11 @@ use Rattle.pit_parts.specs.declared.limit.Limit.{Limit}
 use Rattle.mine_instance.specs.declared.coef.Coef.{Coef}
 use Rattle.text_lines.specs.TextLines.{Line, fields_of}
 use Rattle.minelib_lines.specs.declared.problem.Problem.{Problem}
-use Rattle.minelib_reading.specs.HeaderKeys.{count_in, is_complete}
+use Rattle.minelib_reading.specs.HeaderNumbers.{count_in, is_complete}
 use Rattle.minelib_reading.specs.ModelLines.{ModelDraftView, blank_model, coef_line, header_line, is_heading, is_limits, is_ready, limit_line, model_grammar, model_line, section_line, values_line}
 use Rattle.minelib_reading.specs.ModelStates.{StateModel, header_stated, stated_by}
-use Rattle.minelib_reading.specs.KeyFields.{field_of}
-use Rattle.minelib_lines.specs.KeyWords.{has_key, key_word, type_text}
-use Rattle.minelib_lines.specs.LineValues.{key_value, values_values}
+use Rattle.minelib_lines.specs.HeaderTable.{field_of, has_key, key_value, key_word, type_text}
+use Rattle.minelib_lines.specs.LineValues.{values_values}
 use Rattle.minelib_reading.specs.ItemForms.{values_form}
 use Rattle.minelib_reading.specs.SpelledKeys.{IsKeyLine, section_text}
 use Rattle.minelib_reading.specs.SpelledLines.{AreLines}

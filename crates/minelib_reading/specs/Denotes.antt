@@ -9,7 +9,7 @@ use Rattle.mine_instance.specs.OfCpit.{without_destination}
 use Rattle.mine_instance.specs.OfModel.{instance_with}
 use Rattle.mine_instance.specs.Instance.{Instance}
 use Rattle.minelib_reading.specs.BlockLines.{blocks_in}
-use Rattle.minelib_reading.specs.HeaderKeys.{count_in}
+use Rattle.minelib_reading.specs.HeaderNumbers.{count_in}
 use Rattle.minelib_reading.specs.ModelLines.{ModelDraftView, model_in}
 use Rattle.minelib_reading.specs.PrecLines.{preds_in}
 use Rattle.text_lines.specs.Reading.{in_file}

@@ -2,9 +2,8 @@ pub mod BlockLines
 pub mod Denotes
 pub mod FedCounts
 pub mod Fields
-pub mod HeaderKeys
+pub mod HeaderNumbers
 pub mod ItemForms
-pub mod KeyFields
 pub mod ModelLines
 pub mod ModelStates
 pub mod PrecLines

@@ -9,10 +9,9 @@ use Rattle.pit_parts.specs.PlanKept.{is_turned, stands_before}
 use Rattle.pit_parts.specs.declared.limit.Limit.{Limit}
 use Rattle.mine_instance.specs.Order.{coef_comes_before}
 use Rattle.mine_instance.specs.declared.coef.Coef.{Coef}
-use Rattle.minelib_reading.specs.HeaderKeys.{no_key, with_key, count_in, is_given, is_complete}
+use Rattle.minelib_reading.specs.HeaderNumbers.{no_key, with_key, count_in, is_given, is_complete, number_said}
 use Rattle.minelib_reading.specs.ItemForms.{bytes_in, coef_form, coef_said, limit_form, limit_said, row_said, values_form}
-use Rattle.minelib_lines.specs.KeyWords.{key_word, keys_of}
-use Rattle.minelib_reading.specs.KeyFields.{field_of, number_said}
+use Rattle.minelib_lines.specs.HeaderTable.{field_of, key_word, keys_of}
 use Rattle.minelib_reading.specs.SpelledKeys.{section_text}
 use Rattle.text_lines.specs.LineKinds.{text_kinds}
 use Rattle.text_lines.specs.TextLines.{Line, fields_of, lines_in, end_of}

@@ -33,9 +33,12 @@ pub fn count_blocks<F: Feed>(
     limit: u64,
 ) -> Result<Result<usize, LineFault>, SlurpFault>
     requires { limit ≤ GREATEST_LIMIT }
+
+    // What an answer tells of the text.
     ensures counts { IfOk result (IsFedAnswer blocks_counted (F.left feed.old) limit) }
     ensures few { IfOk result (λ answer. IfOk answer (λ blocks. blocks ≤ MAX_BLOCKS)) }
 
+    // When each fault comes.
     ensures failed { IsErrOf result SlurpFault.FeedFailed
         → F.failures feed.new ≡ F.failures feed.old + 1 }
     ensures long { IsErrOf result SlurpFault.TooLong
@@ -69,8 +72,11 @@ pub fn count_arcs<F: Feed>(
 ) -> Result<Result<usize, LineFault>, SlurpFault>
     requires few { blocks ≤ MAX_BLOCKS }
     requires limit { limit ≤ GREATEST_LIMIT }
+
+    // What an answer tells of the text.
     ensures counts { IfOk result (IsFedAnswer (arcs_counted blocks) (F.left feed.old) limit) }
 
+    // When each fault comes.
     ensures failed { IsErrOf result SlurpFault.FeedFailed
         → F.failures feed.new ≡ F.failures feed.old + 1 }
     ensures long { IsErrOf result SlurpFault.TooLong
@@ -109,9 +115,12 @@ pub fn count_model<F: Feed>(
 ) -> Result<Result<(usize, usize), LineFault>, SlurpFault>
     requires few { blocks ≤ MAX_BLOCKS }
     requires limit { limit ≤ GREATEST_LIMIT }
+
+    // What an answer tells of the text.
     ensures counts { IfOk result
         (IsFedAnswer (model_counted problem blocks) (F.left feed.old) limit) }
 
+    // When each fault comes.
     ensures failed { IsErrOf result SlurpFault.FeedFailed
         → F.failures feed.new ≡ F.failures feed.old + 1 }
     ensures long { IsErrOf result SlurpFault.TooLong

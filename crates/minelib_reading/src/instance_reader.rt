@@ -1,7 +1,6 @@
 //! Reading an instance, and a constrained pit limit problem, from texts.
 
-ghost use Rattle.std.specs.Prelude.{◌≡◌, ◌≤◌, [], length, IfOk};
-ghost use Rattle.mine_instance.specs.Seen.{seen};
+ghost use Rattle.std.specs.Prelude.{◌≡◌, ◌≤◌, length, IfOk};
 ghost use Rattle.mine_instance.specs.Valid.{IsValid};
 ghost use Rattle.minelib_reading.specs.Denotes.{cpit_denoted, denoted};
 ghost use Rattle.pit_units.specs.OrMemory.{Gives};
@@ -14,7 +13,6 @@ use mine_instance::cpit::Cpit;
 use mine_instance::instance::Instance;
 use minelib_lines::problem::Problem;
 use pit_units::OrMemory;
-use precedence::{Preds, TakePreds};
 use std::alloc::Global;
 use text_lines::text_fault::{TextFault, TextFile, in_file};
 
@@ -26,7 +24,7 @@ use text_lines::text_fault::{TextFault, TextFile, in_file};
 /// - `Fault`: the texts denote no instance. It names the first faulty line: of the blocks, then of the precedences,
 ///   then of the model.
 /// - `OutOfMemory`: memory was refused.
-#[tactic(auto, using(crate::proofs::ValidRead::read_valid))]
+#[tactic(auto, unfolding(crate::specs::Denotes::denoted), using(crate::proofs::ValidRead::read_valid))]
 pub fn read_instance(
     alloc: Global,
     blocks: &[u8],
@@ -36,28 +34,12 @@ pub fn read_instance(
     ensures denoted { Gives (λ x. x) result (denoted blocks.now prec.now pcpsp.now) }
     ensures valid { IfOk result IsValid }
 {
-    let instance = joined(alloc, blocks, prec, pcpsp, Preds::new(alloc))?;
-    Ok(instance)
-}
-
-// The instance of the texts, whose predecessors `none` takes, which has none yet.
-#[tactic(auto, unfolding(crate::specs::Denotes::denoted))]
-fn joined<P: TakePreds + Drop>(
-    alloc: Global,
-    blocks: &[u8],
-    prec: &[u8],
-    pcpsp: &[u8],
-    none: P,
-) -> Result<Instance<P>, OrMemory<TextFault>>
-    requires { P.lists none ≡ [] }
-    ensures { Gives (seen P.lists (λ coefs. coefs)) result (denoted blocks.now prec.now pcpsp.now) }
-{
     let blocks = match read_blocks(alloc, blocks) {
         Ok(blocks) => blocks,
         Err(error) => return Err(in_file(error, TextFile::Blocks)),
     };
     let count = blocks.as_slice().len();
-    let preds = match read_preds(alloc, count, none, prec) {
+    let preds = match read_preds(alloc, count, prec) {
         Ok(preds) => preds,
         Err(error) => return Err(in_file(error, TextFile::Prec)),
     };

@@ -10,9 +10,8 @@ ghost use Rattle.mine_instance.specs.declared.coef.Coef.{Coef};
 ghost use Rattle.mine_instance.specs.Instance.{Instance as OneInstance};
 ghost use Rattle.minelib_reading.specs.BlockLines.{block_form, block_grammar, block_shape, blocks_in};
 ghost use Rattle.minelib_reading.specs.Denotes.{Denotes, DenotesCpit};
-ghost use Rattle.minelib_lines.specs.KeyWords.{type_text};
-ghost use Rattle.minelib_lines.specs.LineValues.{block_values, key_value, preds_values};
-ghost use Rattle.minelib_reading.specs.KeyFields.{field_of};
+ghost use Rattle.minelib_lines.specs.HeaderTable.{field_of, key_value, type_text};
+ghost use Rattle.minelib_lines.specs.LineValues.{block_values, preds_values};
 ghost use Rattle.minelib_reading.specs.ModelLines.{ModelDraftView, coef_line, header_line, is_behind, is_next, is_ready, last_of, limit_line, model_in, section_line, values_line};
 ghost use Rattle.minelib_reading.specs.ModelStates.{StateModel, stated_by};
 ghost use Rattle.minelib_reading.specs.PrecLines.{LacksLines, prec_grammar, preds_form, preds_in, preds_of, preds_shape};
@@ -55,11 +54,14 @@ pub fn cpit_read_is_valid()
 /// - `coefs`, `limits`: a line of the coefficients or the limits adds one exactly where its fields spell it, and where
 ///   it comes behind the last one.
 pub fn lines_state_what_they_spell()
+    // Of the files of blocks and predecessors.
     ensures blocks { (before : ℕ) (line : List ℕ) (b : Block) → States (block_shape before line) b
         ↔ Spell block_form (fields_of line) (block_values before b) }
     ensures preds { (n own : ℕ) (line ids : List ℕ) → States (preds_shape n own line) ids
         ↔ (Spell (preds_form n (fields_of line)) (fields_of line) (preds_values own ids)
         × ArePredsOf own n ids) }
+
+    // Of a model file: its header, and the lines of its sections.
     ensures header { (d next : ModelDraftView) (k : HeaderKey) (fields : List (List ℕ))
         → States (header_line d k fields) next
         → Spell (field_of d.problem k ∷ []) fields
@@ -172,6 +174,7 @@ pub fn faulty_lines_spell_no_preds()
 /// - `key`, `fields`, `missing`: of the line of a section's key. The section is not the next; or it is, and something
 ///   stands behind the colon; or nothing does, and something is missing before it.
 pub fn faulty_lines_have_their_kind()
+    // Of a line of predecessors: its own number, how many it states, and which.
     ensures order { (n own : ℕ) (line : List ℕ) → Fails (preds_shape n own line) Order
         ↔ (values : List Value) × Spell (preds_form n (fields_of line)) (fields_of line) values
         × (whole_at values 0 ≢ own) }
@@ -182,6 +185,8 @@ pub fn faulty_lines_have_their_kind()
         ↔ (values : List Value) × Spell (preds_form n (fields_of line)) (fields_of line) values
         × (whole_at values 0 ≡ own) × (whole_at values 1 ≡ length (preds_of values))
         × ¬ (ArePredsOf own n (preds_of values)) }
+
+    // Of the key of a section: its turn, what stands behind it, and what has to stand before.
     ensures key { (d : ModelDraftView) (section : Section) (fields : List (List ℕ))
         → Fails (section_line d section fields) Key ↔ (is_next d.section section ≡ false) }
     ensures fields { (d : ModelDraftView) (section : Section) (fields : List (List ℕ))

@@ -4,9 +4,8 @@ ghost use Rattle.std.specs.Prelude.{◌≡◌, ◌≤◌, ◌==◌, ◌&&◌, Ok
 ghost use Rattle.std.specs.List.{list_any};
 ghost use Rattle.mine_instance.specs.CpitKept.{IsCpit};
 ghost use Rattle.mine_instance.specs.OfCpit.{without_destination};
-ghost use Rattle.mine_instance.specs.Seen.{seen};
 ghost use Rattle.minelib_reading.specs.Denotes.{cpit_read, instance_read};
-ghost use Rattle.minelib_reading.specs.HeaderKeys.{count_in, is_complete};
+ghost use Rattle.minelib_reading.specs.HeaderNumbers.{count_in, is_complete};
 ghost use Rattle.minelib_reading.specs.ModelLines.{blank_model, finish_model, header_line, is_colon, is_heading, is_ready, is_whole, item_line, keyed_line, name_with, section_line};
 ghost use Rattle.minelib_reading.specs.inner.ModelParts.{admit_model, is_name_for, takes};
 ghost use Rattle.minelib_lines.specs.declared.header_key.HeaderKey.TheVariants as key;
@@ -19,10 +18,10 @@ ghost use Rattle.pit_parts.specs.Name.{is_name};
 ghost use Rattle.pit_parts.specs.declared.ranges.TheConstants.{MAX_BLOCKS};
 
 use crate::kept::KeptItems;
+use crate::key_lines::{cut_at_colon, is_heading, is_limits, is_next, key_of, only_value};
 use crate::model_header::{blank_header, number_in};
 use crate::model_items::{coef_of, is_limit_behind, limit_of, values_in};
 use crate::model_key::{Header, ModelKey, Section};
-use crate::model_keys::{cut_at_colon, is_heading, is_limits, is_next, key_of, only_value};
 use crate::taking::TakeItems;
 use mine_instance::blocks::Blocks;
 use mine_instance::coef::{Coef, Coefs};
@@ -35,7 +34,7 @@ use minelib_lines::problem::Problem;
 use pit_parts::limit::Limit;
 use pit_parts::name::Name;
 use pit_units::{Dec, OrMemory};
-use precedence::TakePreds;
+use precedence::Preds;
 use std::alloc::{AllocError, Global};
 use std::marker::Model;
 use text_lines::line_by_line::Admit;
@@ -304,10 +303,9 @@ impl<T: TakeItems> ModelDraft<T> {
 
 impl ModelDraft<KeptItems> {
     /// The instance of this file, and of blocks and predecessors.
-    pub fn into_instance<P: TakePreds>(self, blocks: Blocks, preds: P) -> Instance<P>
+    pub fn into_instance(self, blocks: Blocks, preds: Preds) -> Instance
         requires { is_name self.name ≡ true }
-        ensures { seen P.lists (λ coefs. coefs) result
-            ≡ instance_read blocks (P.lists preds) self }
+        ensures { result ≡ instance_read blocks preds self }
     {
         let rate = self.header.count(HeaderKey::Rate);
         let periods = self.periods();

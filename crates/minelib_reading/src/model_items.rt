@@ -13,7 +13,7 @@ ghost use Rattle.text_lines.specs.inner.Taken.{AdmitsCounted};
 ghost use Rattle.minelib_reading.specs.inner.UncountedItems.{bound_in, destination_in, interval_in, limit_width};
 ghost use Rattle.pit_parts.specs.declared.ranges.TheConstants.{MAX_BLOCKS};
 
-use crate::model_keys::is_word;
+use crate::key_lines::is_word;
 use mine_instance::coef::Coef;
 use minelib_lines::problem::Problem;
 use pit_parts::limit::{Bound, Limit};

@@ -1,9 +1,9 @@
-//! The key lines of a model file.
+//! The keys of a model file, and what its header keys state.
 
-ghost use Rattle.std.specs.Prelude.{◌≡◌, ◌<◌};
-ghost use Rattle.minelib_reading.specs.HeaderKeys.{count_in, is_complete, is_given, no_key, number_of, place, with_key};
+ghost use Rattle.std.specs.Prelude.{◌≡◌};
+ghost use Rattle.minelib_reading.specs.HeaderNumbers.{count_in, is_complete, is_given, no_key, number_of, with_key};
 
-use minelib_lines::header_key::HeaderKey;
+use minelib_lines::header_key::{HeaderKey, KEYS};
 
 /// The part of a model file that a line stands in.
 #[derive(Clone, Copy, Debug, PartialEq, Eq)]
@@ -29,7 +29,7 @@ pub enum ModelKey {
 #[derive(Clone, Copy, Debug, PartialEq, Eq)]
 pub struct Header {
     // by the place of the key, in the order in which they are written
-    numbers: [Option<u32>; 8],
+    numbers: [Option<u32>; KEYS],
 }
 
 impl Header {
@@ -37,7 +37,9 @@ impl Header {
     pub fn blank() -> Header
         ensures { result ≡ no_key }
     {
-        Header { numbers: [None; 8] }
+        Header {
+            numbers: [None; KEYS],
+        }
     }
 
     /// This header, and a key with this number.
@@ -53,7 +55,7 @@ impl Header {
     fn number(&self, key: HeaderKey) -> Option<u32>
         ensures { result ≡ number_of self.now key }
     {
-        self.numbers[place(key)]
+        self.numbers[key.place()]
     }
 
     /// The number of a key, or 0 before it stood.
@@ -82,18 +84,9 @@ impl Header {
 
 // Keeps the number of a key at its place.
 #[tactic(auto, using(crate::proofs::HeaderFacts::key_set))]
-fn put(numbers: &mut [Option<u32>; 8], key: HeaderKey, number: u32)
+fn put(numbers: &mut [Option<u32>; KEYS], key: HeaderKey, number: u32)
     ensures { record { numbers = numbers.new }
         ≡ with_key (record { numbers = numbers.old }) key number }
 {
-    numbers[place(key)] = Some(number);
-}
-
-// The place of a key among all.
-#[inline]
-fn place(key: HeaderKey) -> usize
-    ensures value { result ≡ place key }
-    ensures below { result < 8 }
-{
-    key as usize
+    numbers[key.place()] = Some(number);
 }

@@ -11,7 +11,7 @@ ghost use Rattle.pit_parts.specs.declared.ranges.TheConstants.{MAX_BLOCKS};
 
 use crate::marks::{Marks, rise_above};
 use pit_units::OrMemory;
-use precedence::TakePreds;
+use precedence::{Preds, TakePreds};
 use std::alloc::{AllocError, Global};
 use std::marker::Model;
 use text_lines::line_by_line::{Admit, read_lines};
@@ -162,19 +162,13 @@ impl<P: TakePreds + Drop> PrecDraft<P> {
     }
 }
 
-/// The predecessors that a text states, of so many blocks. `none` takes them, and has none yet.
+/// The predecessors that a text states, of so many blocks.
 #[tactic(auto, using(crate::proofs::SpelledRead::preds_read))]
-pub fn read_preds<P: TakePreds + Drop>(
-    alloc: Global,
-    blocks: usize,
-    none: P,
-    text: &[u8],
-) -> Result<P, OrMemory<LineFault>>
-    requires none { P.lists none ≡ [] }
-    requires few { blocks ≤ MAX_BLOCKS }
-    ensures { Gives P.lists result (preds_in blocks text.now) }
+pub fn read_preds(alloc: Global, blocks: usize, text: &[u8]) -> Result<Preds, OrMemory<LineFault>>
+    requires { blocks ≤ MAX_BLOCKS }
+    ensures { Gives (λ lists. lists) result (preds_in blocks text.now) }
 {
-    let mut draft = PrecDraft::new(alloc, none, blocks);
+    let mut draft = PrecDraft::new(alloc, Preds::new(alloc), blocks);
     let end = read_lines(&mut draft, text)?;
     draft.finish(end)
 }

@@ -7,11 +7,11 @@ use Rattle.std.proofs.lemmas.Int.{ints}
 use Rattle.std.proofs.lemmas.List.{length-replicate}
 use Rattle.std.proofs.lemmas.List.Elements.{All-replicate}
 use Rattle.minelib_lines.specs.Kept.{IsInDecimalRange}
-use Rattle.minelib_lines.specs.KeyWords.{has_key, header_keys, type_text}
+use Rattle.minelib_lines.specs.HeaderTable.{has_key, header_keys, key_value, type_text}
 use Rattle.minelib_lines.specs.Lines.{line_of}
 use Rattle.minelib_writing.specs.Written.{key_line, value_fields}
-use Rattle.minelib_lines.specs.LineValues.{StatedHeader, key_value}
-use Rattle.minelib_reading.specs.HeaderKeys.{with_key, count_in, is_given, is_complete}
+use Rattle.minelib_lines.specs.LineValues.{StatedHeader}
+use Rattle.minelib_reading.specs.HeaderNumbers.{with_key, count_in, is_given, is_complete}
 use Rattle.minelib_reading.specs.ModelLines.{ModelDraftView, blank_header, is_next, is_ready, is_whole, model_grammar, model_line, name_with}
 use Rattle.forms.specs.Words.{AllState, States}
 use Rattle.text_lines.specs.TextLines.{Line}
@@ -124,7 +124,7 @@ fill p n (k ∷ keys) name h few lacks = elim (cases_Bool (is_given k h)) [
       (let is : is_given j h ≡ true = subst (λ j. is_given j h ≡ true) same given in absurd cc)) new)
   | inr new ↦
       let has : has_key p k ≡ true = not-false (has_key p k) (sym (first_given p k) ∙ (lacks k new).0) in
-      let number = told least k in
+      let number = told p n least k in
       let line = key_line k (key_value (type_text p) n least k) in
       then_complete (heading p n name h) (heading p n (name_with k least.name name) (with_key h k number)) line
       (key_states (heading p n name h) least k line refl new (header_line p n least (least_fits n few) k has).1)

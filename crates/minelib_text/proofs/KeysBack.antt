@@ -1,13 +1,13 @@
 -- The key lines of a model file spell what they are written of.
-use Rattle.std.proofs.Common.{◌≡◌, ◌≢◌, ℕ, ◌+◌, ◌^◌, ◌≤◌, true, List, [], ◌∷◌, ◌++◌, length, ℤ, pos, negsuc, ◌≤ℤ◌, append_assoc, arith, refl, sym, subst, ap, ◌∙◌, map}
-use Rattle.std.specs.Prelude.{◌*◌, ◌&&◌, nat_le, All, AllPairs}
-use Rattle.std.specs.List.{list_all, Contains}
+use Rattle.std.proofs.Common.{◌≡◌, ◌≢◌, ℕ, ◌+◌, ◌^◌, ◌≤◌, true, List, [], ◌∷◌, ◌++◌, length, ℤ, pos, negsuc, ◌≤ℤ◌, append_assoc, arith, refl, sym, subst, ap, ◌∙◌, map, inl, inr}
+use Rattle.std.specs.Prelude.{◌*◌, ◌&&◌, ◌⊎◌, Bool, false, if◌then◌else◌, nat_le, All, AllPairs}
+use Rattle.std.specs.List.{list_all, filter, Contains}
 use Rattle.std.specs.Str.{bytes_eq}
 use Rattle.std.proofs.lemmas.Bool.{and_parts, leb-true}
 use Rattle.std.proofs.lemmas.Bool.Decides.{nat_tests}
 use Rattle.std.proofs.lemmas.Int.{ints}
 use Rattle.std.proofs.lemmas.List.{get_or-map}
-use Rattle.std.proofs.lemmas.List.Elements.{All-head, All-tail, filter_passes}
+use Rattle.std.proofs.lemmas.List.Elements.{All-head, All-tail, Contains-append_right, filter_passes}
 use Rattle.std.proofs.lemmas.List.Kept.{AllPairs-filter}
 use Rattle.std.proofs.lemmas.Slice.Eq.{bytes_eq-Decides}
 use Rattle.pit_parts.specs.Name.{is_name, is_name_byte}
@@ -17,19 +17,17 @@ use Rattle.forms.proofs.FormFacts.{spell_written}
 use Rattle.forms.proofs.NumberFields.{size_fits, whole_fits}
 use Rattle.forms.specs.Words.{Decimal, Millionths, between, whole, FitsField, written_value}
 use Rattle.text_lines.proofs.PlainText.{is_plain, is_inner, all_weaker, all_parts, first_read, IsField, IsLine}
-use Rattle.minelib_lines.specs.KeyWords.{has_key, header_keys, key_word, keys_of, type_text}
-use Rattle.minelib_lines.specs.LineValues.{StatedHeader, key_value}
+use Rattle.minelib_lines.specs.HeaderTable.{field_of, has_key, header_keys, key_value, key_word, keys_of, place, type_text}
+use Rattle.minelib_lines.specs.LineValues.{StatedHeader}
 use Rattle.minelib_lines.specs.declared.header_key.HeaderKey.{HeaderKey}
 use Rattle.minelib_lines.specs.declared.header_key.HeaderKey.TheVariants as key
 use Rattle.minelib_lines.specs.declared.problem.Problem.{Problem}
 use Rattle.minelib_lines.specs.declared.problem.Problem.TheVariants.{Pcpsp, Cpit}
 use Rattle.minelib_writing.specs.Written.{key_line, key_lines}
 use Rattle.minelib_reading.proofs.FormFields.{ArePlain, spelled_fields}
-use Rattle.minelib_reading.proofs.HeaderFacts.{each_key, of_keys}
+use Rattle.minelib_reading.proofs.HeaderFacts.{contains_cases, each_key}
 use Rattle.minelib_reading.proofs.ModelShapes.{field_fine}
 use Rattle.minelib_reading.proofs.PrecTests.{pairs_differ}
-use Rattle.minelib_reading.specs.HeaderKeys.{place}
-use Rattle.minelib_reading.specs.KeyFields.{field_of}
 use Rattle.minelib_reading.specs.SpelledKeys.{IsKeyLine}
 use Rattle.minelib_reading.specs.SpelledModel.{AreHeaderLines, IsHeaderLine}
 use Rattle.minelib_text.proofs.LinesBack.{AreWritten, none_written, numbered, then_written}
@@ -93,8 +91,8 @@ key_fits p n m is key.Periods =
 key_fits p n m is key.Destinations =
     counted_fits 1 MAX_DESTINATIONS m.destinations is.destinations.0 is.destinations.1 (omega arith)
 key_fits p n m is key.Resources = whole_fits (MAX_RESOURCES + 1) m.resources (omega (arith, is.horizon.at_most_8_resources)) (omega arith)
-key_fits p n m is key.General = whole_fits 1 0 (omega arith) (omega arith)
 key_fits p n m is key.Rate = rate_fits m.rate is.horizon.rate_0_to_1
+key_fits p n m is k = (omega (arith, ints), omega (arith, ints), omega arith, refl)
 
 type_field : (p : Problem) → IsField (type_text p)
 type_field Pcpsp = word_field _ _ refl
@@ -110,8 +108,8 @@ key_plain p key.Type = (
 key_plain p k = tt
 
 key_field : (k : HeaderKey) → IsField (key_word k)
-key_field = of_keys (λ k. IsField (key_word k)) (word_field _ _ refl) (word_field _ _ refl) (word_field _ _ refl) (word_field _ _ refl)
-    (word_field _ _ refl) (word_field _ _ refl) (word_field _ _ refl) (word_field _ _ refl)
+key_field key.Name = word_field _ _ refl
+key_field k = word_field _ _ refl
 
 -- the line of a key spells its value
 pub header_line : (p : Problem) (n : ℕ) (m : StatedHeader) → IsHeader n m → (k : HeaderKey) → has_key p k ≡ true
@@ -154,15 +152,20 @@ keys_differ i j d less within same =
     (get_or-map place header_keys i d (place d) (omega (arith, less, within)) ∙ ap (λ k. place k) same
     ∙ sym (get_or-map place header_keys j d (place d) within))
 
+still_there : (passes : HeaderKey → Bool) (keys : List HeaderKey) (k : HeaderKey) → passes k ≡ true → Contains keys k
+    → Contains (filter passes keys) k
+still_there passes [] k has c = absurd (omega (arith, c.1))
+still_there passes (j ∷ keys) k has c = by (still_there passes keys k has) (passes j) refl (contains_cases j keys k c.0 c.1 c.2)
+  where
+    by : (Contains keys k → Contains (filter passes keys) k) → (t : Bool) → passes j ≡ t → (j ≡ k) ⊎ Contains keys k
+        → Contains (if t then j ∷ filter passes keys else filter passes keys) k
+    by later true is (inl same) = (0, omega arith, same)
+    by later true is (inr there) = Contains-append_right (j ∷ []) (filter passes keys) k (later there)
+    by later false is (inl same) = let never : passes j ≡ true = ap passes same ∙ has in absurd cc
+    by later false is (inr there) = later there
+
 key_stands : (p : Problem) (k : HeaderKey) → has_key p k ≡ true → Contains (keys_of p) k
-key_stands Pcpsp k has = each_key k
-key_stands Cpit key.Name has = (0, omega arith, refl)
-key_stands Cpit key.Type has = (1, omega arith, refl)
-key_stands Cpit key.Blocks has = (2, omega arith, refl)
-key_stands Cpit key.Periods has = (3, omega arith, refl)
-key_stands Cpit key.Resources has = (4, omega arith, refl)
-key_stands Cpit key.Rate has = (5, omega arith, refl)
-key_stands Cpit k has = absurd cc
+key_stands p k has = still_there (has_key p) header_keys k has (each_key k)
 
 pub header_lines : (p : Problem) (n : ℕ) (m : StatedHeader) → IsHeader n m
     → All IsLine (key_lines (key_value (type_text p) n m) (keys_of p))

@@ -6,9 +6,9 @@ use Rattle.std.proofs.lemmas.List.Elements.{All-append, All-cons}
 use Rattle.pit_parts.specs.PlanKept.{is_turned}
 use Rattle.mine_instance.specs.declared.coef.Coef.{Coef}
 use Rattle.minelib_lines.specs.Kept.{IsInDecimalRange, HasDecimals}
-use Rattle.minelib_lines.specs.KeyWords.{keys_of, type_text}
+use Rattle.minelib_lines.specs.HeaderTable.{key_value, keys_of, type_text}
 use Rattle.minelib_lines.specs.Lines.{text_of, line_of, lines_from}
-use Rattle.minelib_lines.specs.LineValues.{StatedHeader, coef_values, key_value, limit_values, values_values}
+use Rattle.minelib_lines.specs.LineValues.{StatedHeader, coef_values, limit_values, values_values}
 use Rattle.minelib_lines.specs.declared.problem.Problem.{Problem}
 use Rattle.minelib_lines.specs.declared.problem.Problem.TheVariants.{Pcpsp, Cpit}
 use Rattle.minelib_reading.proofs.CoefLineFacts.{coef_fine, coef_fits, coef_plain}

@@ -8,8 +8,8 @@ use Rattle.std.proofs.lemmas.List.Sums.{AllPass-from_list_all, fails_before_firs
 use Rattle.pit_units.specs.Decimal.{shortest}
 use Rattle.mine_instance.specs.Greatest.{greatest, is_greatest}
 use Rattle.mine_instance.specs.Instance.{Instance}
-use Rattle.minelib_lines.specs.KeyWords.{upit_keys}
-use Rattle.minelib_lines.specs.LineValues.{header_of, key_value}
+use Rattle.minelib_lines.specs.HeaderTable.{key_value, upit_keys}
+use Rattle.minelib_lines.specs.LineValues.{header_of}
 use Rattle.minelib_lines.specs.Lines.{lines_from, line_of, text_of}
 use Rattle.minelib_writing.specs.TextLaws.{best_lines, IsBest}
 use Rattle.minelib_writing.specs.Written.{greatest_fields, key_lines, text_upit}

@@ -1,49 +1,71 @@
--- The room of a coefficient's line: digits of the block, a space at 10, and the rest, whose numbers may be digits.
-use Rattle.std.proofs.Common.{◌≡◌, ℕ, suc, ◌+◌, ◌-◌, ◌<◌, ◌≤◌, List, [], ◌∷◌, ◌++◌, length, take, drop, get_or, min, refl, sym, ap, ◌∙◌, arith}
-use Rattle.std.proofs.Math.Seq.{drop-drop, drop-append_seam, take-append_seam, take-suc}
-use Rattle.std.proofs.lemmas.List.{drop-take, drop-append-le, flat_map_more, length-take, length-drop, take-append-drop}
-use Rattle.std.specs.List.{flat_map}
-use Rattle.std.specs.Prelude.{decimal, slice_set}
+-- The room of a coefficient's line: digits of the block, a pair or a resource behind them, and the tonnes from 14 on.
+use Rattle.std.proofs.Common.{◌≡◌, ℕ, suc, ◌+◌, ◌-◌, ◌<◌, ◌≤◌, All, Bor, cond, false, ⊎_elim, List, [], ◌∷◌, ◌++◌, length, map, take, drop, get_or, min, refl, subst, sym, ap, ◌∙◌, arith, append_assoc}
+use Rattle.std.proofs.Math.Seq.{drop-drop, drop-append_seam, take-add, take-append_seam, take-suc}
+use Rattle.std.proofs.lemmas.Bool.{cases_Bool, eqb-true}
+use Rattle.std.proofs.lemmas.Bool.Decides.{nat_tests}
+use Rattle.std.proofs.lemmas.List.{drop-take, drop-append-le, flat_map_more, get_or-drop, get_or-map, get_or-take, length-map, length-take, length-drop, take-append-drop}
+use Rattle.std.proofs.lemmas.List.Concat.{flat_map-append}
+use Rattle.std.proofs.lemmas.List.Elements.{All-map}
+use Rattle.std.proofs.lemmas.List.Folds.{flat_map-map}
+use Rattle.std.specs.List.{drop-map, flat_map, take-map}
+use Rattle.std.specs.Prelude.{◌==◌, ◌&&◌, decimal, if◌then◌else◌, IsTrue, nat_lt, slice_index_or, ℤ}
+use Rattle.pit_units.specs.Decimal.{shortest}
 use Rattle.minelib_lines.specs.Lines.{line_of}
+use Rattle.mine_instance.specs.Greatest.{first_greatest}
+use Rattle.mine_instance.specs.Groups.{coef_of}
+use Rattle.mine_instance.specs.declared.coef.Coef.{Coef}
+use Rattle.minelib_writing.specs.declared.coef_lines.CoefForm.TheVariants.{OfChosen}
+use Rattle.minelib_writing.specs.inner.CoefParts.{coef_part, coef_text, cpit_coef_text, has_values}
+use Rattle.minelib_writing.specs.inner.Parts.{joined}
+use Rattle.minelib_writing.proofs.FieldsWritten.{whole_written}
 use Rattle.minelib_writing.proofs.OneDigit.{one_digit}
 
--- another digit in place of the one
-pub one_digit_set : (r s : ℕ) (v : List ℕ) → r < 10 → s < 10
-    → slice_set (line_of (decimal r ∷ v ∷ []) ++ 10 ∷ []) 0 (48 + s) ≡ line_of (decimal s ∷ v ∷ []) ++ 10 ∷ []
-one_digit_set r s v h k = rw (one_digit r h, one_digit s k) refl
+-- the line of a coefficient, whose destination and resource are digits
+pub coef_line : (c : Coef) → c.d < 10 → c.r < 10
+    → coef_text c ≡ decimal c.b ++ 32 ∷ (48 + c.d) ∷ 32 ∷ (48 + c.r) ∷ 32 ∷ (shortest c.v ++ 10 ∷ [])
+coef_line c h k =
+    rw (whole_written c.b, whole_written c.d, whole_written c.r, one_digit c.d h, one_digit c.r k)
+    (append_assoc (decimal c.b) (32 ∷ (48 + c.d) ∷ 32 ∷ (48 + c.r) ∷ 32 ∷ shortest c.v) (10 ∷ []))
 
--- other digits in place of the two
-pub two_digits_set : (d r e s : ℕ) (v : List ℕ) → d < 10 → r < 10 → e < 10 → s < 10
-    → slice_set (slice_set (line_of (decimal d ∷ decimal r ∷ v ∷ []) ++ 10 ∷ []) 0 (48 + e)) 2 (48 + s)
-    ≡ line_of (decimal e ∷ decimal s ∷ v ∷ []) ++ 10 ∷ []
-two_digits_set d r e s v h k i j = rw (one_digit d h, one_digit r k, one_digit e i, one_digit s j) refl
+-- the same in a CPIT
+pub cpit_coef_line : (c : Coef) → c.r < 10 → cpit_coef_text c ≡ decimal c.b ++ 32 ∷ (48 + c.r) ∷ 32 ∷ (shortest c.v ++ 10 ∷ [])
+cpit_coef_line c h =
+    rw (whole_written c.b, whole_written c.r, one_digit c.r h)
+    (append_assoc (decimal c.b) (32 ∷ (48 + c.r) ∷ 32 ∷ shortest c.v) (10 ∷ []))
 
--- behind a space at 10, the room has ten places before it
-pub ten_before : (room rest : List ℕ) → drop 10 room ≡ 32 ∷ rest → 10 ≤ length room
-ten_before room rest h = let long : suc (length rest) ≡ length room - 10 = sym (ap length h) ∙ length-drop 10 room in omega (arith, long)
+-- where something stands from a place on, the room has the places before it
+pub places_before : (place : ℕ) (room rest : List ℕ) (x : ℕ) → drop place room ≡ x ∷ rest → suc place ≤ length room
+places_before place room rest x h =
+    let long : suc (length rest) ≡ length room - place = sym (ap length h) ∙ length-drop place room in omega (arith, long)
+
+-- other tonnes behind the space
+pub other_tonnes : (room text rest : List ℕ) → drop 14 room ≡ 32 ∷ rest → drop 14 (take 15 room ++ text) ≡ 32 ∷ text
+other_tonnes room text rest h =
+    let long = places_before 14 room rest 32 h in
+    drop-append-le 14 (take 15 room) text (omega (arith, long, length-take 15 room))
+    ∙ ap (λ xs. xs ++ text) (drop-take 14 1 room ∙ ap (take 1) h)
 
 -- what stands from the digits on
-pub line_in : (room digits rest : List ℕ) (start : ℕ) → start ≤ 10 → drop start (take 10 room) ≡ digits → drop 10 room ≡ 32 ∷ rest
-    → drop start room ≡ digits ++ 32 ∷ rest
-line_in room digits rest start within before behind =
-    let ten = ten_before room rest behind in
-    let long : length (take 10 room) ≡ min 10 (length room) = length-take 10 room in
-    ap (drop start) (sym (take-append-drop 10 room)) ∙ drop-append-le start (take 10 room) (drop 10 room) (omega (arith, long, ten))
-    ∙ ap (λ xs. xs ++ drop 10 room) before ∙ ap (λ xs. digits ++ xs) behind
+pub line_in : (end : ℕ) (room digits rest : List ℕ) (start : ℕ) → start ≤ end → end ≤ length room → drop start (take end room) ≡ digits
+    → drop end room ≡ rest → drop start room ≡ digits ++ rest
+line_in end room digits rest start within long before behind =
+    let front : length (take end room) ≡ min end (length room) = length-take end room in
+    ap (drop start) (sym (take-append-drop end room)) ∙ drop-append-le start (take end room) (drop end room) (omega (arith, front, long, within))
+    ∙ ap (λ xs. xs ++ drop end room) before ∙ ap (λ xs. digits ++ xs) behind
 
--- digits that end at 10
-pub digits_end : (room new digits : List ℕ) (start : ℕ) → start + length digits ≡ 10 → drop start new ≡ digits ++ drop 10 room
-    → drop start (take 10 new) ≡ digits
-digits_end room new digits start ends written =
+-- digits that end at a place
+pub digits_end : (end : ℕ) (room new digits : List ℕ) (start : ℕ) → start + length digits ≡ end → drop start new ≡ digits ++ drop end room
+    → drop start (take end new) ≡ digits
+digits_end end room new digits start ends written =
     ap (λ n. drop start (take n new)) (sym ends) ∙ drop-take start (length digits) new ∙ ap (take (length digits)) written
-    ∙ take-append_seam digits (drop 10 room)
+    ∙ take-append_seam digits (drop end room)
 
 -- what stands behind them
-pub behind_stays : (room new digits : List ℕ) (start : ℕ) → start + length digits ≡ 10 → drop start new ≡ digits ++ drop 10 room
-    → drop 10 new ≡ drop 10 room
-behind_stays room new digits start ends written =
+pub behind_stays : (end : ℕ) (room new digits : List ℕ) (start : ℕ) → start + length digits ≡ end → drop start new ≡ digits ++ drop end room
+    → drop end new ≡ drop end room
+behind_stays end room new digits start ends written =
     ap (λ n. drop n new) (sym ends) ∙ sym (drop-drop (length digits) start new) ∙ ap (drop (length digits)) written
-    ∙ drop-append_seam digits (drop 10 room)
+    ∙ drop-append_seam digits (drop end room)
 
 -- one line more
 pub next_line : {X : Type 0} (f : X → List ℕ) (out now new line : List ℕ) (xs : List X) (i : ℕ) (x : X) → i < length xs → x ≡ get_or xs i x
@@ -53,3 +75,62 @@ next_line f out now new line xs i x within read so_far more is_line =
     more ∙ ap (λ ys. ys ++ line) so_far ∙ ap (λ ys. (out ++ flat_map f (take i xs)) ++ ys) is_line ∙ flat_map_more f out (take i xs) x
     ∙ ap (λ ys. out ++ flat_map f ys) (ap (λ y. take i xs ++ y ∷ []) read ∙ sym (take-suc xs i x within)
     ∙ ap (λ n. take n xs) one)
+
+-- what stands from a further place on
+pub further : (n place : ℕ) (xs ys : List ℕ) → drop place xs ≡ drop place ys → drop (place + n) xs ≡ drop (place + n) ys
+further n place xs ys h = sym (drop-drop n place xs) ∙ ap (drop n) h ∙ drop-drop n place ys
+
+-- what holds of all coefficients of a group holds of that of a pair
+pub of_pair : (P : Coef → Type 0) (b : ℕ) (v : ℤ) (pairs all : List (ℕ × ℕ)) (i : ℕ) → pairs ≡ all → i < length pairs
+    → All P (map (coef_of b v) all) → P (coef_of b v (get_or pairs i (0, 0)))
+of_pair P b v pairs all i is within fit =
+    let d = coef_of b v (0, 0) in
+    subst P (get_or-map (coef_of b v) pairs i (0, 0) d within)
+    ((subst (λ ps. All P (map (coef_of b v) ps)) (sym is) fit) i d (omega (arith, within, length-map pairs (coef_of b v))))
+
+-- those at a block's destination are those that are chosen
+pub chosen_parts : (values : Bor (List (List ℤ))) (b : ℕ) (v : ℤ) (destination : ℕ) (pairs : List (ℕ × ℕ))
+    → destination ≡ first_greatest (slice_index_or values.now b [])
+    → flat_map (λ c. if c.d == destination then cpit_coef_text c else []) (map (coef_of b v) pairs)
+    ≡ flat_map (coef_part (OfChosen values)) (map (coef_of b v) pairs)
+chosen_parts values b v destination [] is = refl
+chosen_parts values b v destination (p ∷ pairs) is =
+    let rest = chosen_parts values b v destination pairs is in
+    λ j. cond (p.0 == is j) (cpit_coef_text (coef_of b v p)) [] ++ rest j
+
+-- the parts of a group more
+pub group_parts : (f : Coef → List ℕ) (all group : List Coef) (index count n : ℕ) → group ≡ take n (drop (index + count) all)
+    → joined (take (count + n) (drop index (map f all))) ≡ joined (take count (drop index (map f all))) ++ flat_map f group
+group_parts f all group index count n is =
+    let parts = drop index (map f all) in
+    let next : take n (drop count parts) ≡ map f group =
+    ap (take n) (drop-drop count index (map f all) ∙ drop-map f (index + count) all) ∙ take-map f n (drop (index + count) all)
+    ∙ ap (map f) (sym is) in
+    ap joined (take-add count n parts) ∙ flat_map-append (λ part. part) (take count parts) (take n (drop count parts))
+    ∙ ap (λ ps. joined (take count parts) ++ joined ps) next
+    ∙ ap (λ text. joined (take count parts) ++ text) (flat_map-map (λ part. part) f group)
+
+-- what holds of all coefficients holds of those of a group
+pub of_group : (P : Coef → Type 0) (all group : List Coef) (from n : ℕ) → from + n ≤ length all → group ≡ take n (drop from all)
+    → All P all → All P group
+of_group P all group from n within is fit k d h =
+    let few : length group ≤ n = omega (arith, ap length is, length-take n (drop from all)) in
+    let low : k < n = omega (arith, h, few) in
+    subst P (sym (ap (λ xs. get_or xs k d) is ∙ get_or-take n (drop from all) k d low ∙ get_or-drop from all k d))
+    (fit (from + k) d (omega (arith, low, within)))
+
+-- of a group's coefficients is known what is of its tonnes
+pub known_of : (P : ℤ → Type 0) (b : ℕ) (v : ℤ) (pairs : List (ℕ × ℕ)) → P v → All (λ c. P c.v) (map (coef_of b v) pairs)
+known_of P b v pairs known = All-map (λ (c : Coef). P c.v) (coef_of b v) pairs (λ k d h. known)
+
+-- a block that has values is one of them, and they are some
+pub has_some : (values : Bor (List (List ℤ))) (b : ℕ) → IsTrue (has_values (OfChosen values) b)
+    → (b < length values.now) × (0 < length (slice_index_or values.now b []))
+has_some values b h = parts (length values.now) (length (slice_index_or values.now b [])) h
+  where
+    parts : (n m : ℕ) → IsTrue (nat_lt b n && nat_lt 0 m) → (b < n) × (0 < m)
+    parts n m h = (grind (arith, nat_tests), grind (arith, nat_tests))
+
+-- numbers that are not the same
+pub differ : (a b : ℕ) → (a ≡ b → ⊥) → (a == b) ≡ false
+differ a b h = ⊎_elim (λ same. absurd (h (eqb-true a b same))) (λ other. other) (cases_Bool (a == b))

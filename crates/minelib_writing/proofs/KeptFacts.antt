@@ -15,6 +15,10 @@ holds_then {Holds} i j k first then place low high = by_order (cases_lt place j)
     by_order (inl before) = first place low before
     by_order (inr behind) = then place behind high
 
+-- of one place
+pub holds_one : (Holds : ℕ → Type 0) (i : ℕ) → Holds i → HoldsFrom Holds i (i + 1)
+holds_one Holds i here place low high = let same : i ≡ place = omega (arith, low, high) in subst Holds same here
+
 module _ {X : Type 0} (P : X → Type 0) where
   -- of an item that stands at a place
   pub kept_at : (xs : List X) (i : ℕ) (x : X) → i < length xs → x ≡ get_or xs i x → P x → HoldsAt P xs i

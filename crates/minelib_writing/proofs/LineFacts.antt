@@ -1,14 +1,15 @@
 -- The lines of a list, one an item.
 use Rattle.std.proofs.Common.{◌≡◌, ℕ, suc, zero, ◌+◌, ◌<◌, List, [], ◌∷◌, ◌++◌, length, map, take, drop, append-nil, get_or, refl, ◌∙◌, ap, sym, arith}
-use Rattle.std.proofs.lemmas.List.{take-append-drop}
-use Rattle.std.proofs.Math.Seq.{drop-cons, take-append_seam}
-use Rattle.std.specs.List.{drop-map, flat_map, take-map}
+use Rattle.std.proofs.lemmas.List.{get_or-map, length-map}
+use Rattle.std.proofs.Math.Seq.{drop-cons}
+use Rattle.std.specs.List.{flat_map}
 use Rattle.std.specs.Prelude.{codes}
 use Rattle.forms.specs.Words.{Value, written_value}
-use Rattle.minelib_lines.specs.KeyWords.{key_word}
+use Rattle.minelib_lines.specs.HeaderTable.{key_word}
 use Rattle.minelib_lines.specs.Lines.{line_of, lines_from, text_of}
 use Rattle.minelib_lines.specs.declared.header_key.HeaderKey.{HeaderKey}
 use Rattle.minelib_writing.specs.Written.{key_line, key_lines}
+use Rattle.minelib_writing.specs.inner.Parts.{joined, line_parts}
 
 pub length-lines_from : {A : Type 0} (fields : ℕ → A → List (List ℕ)) (n : ℕ) (xs : List A) → length (lines_from fields n xs) ≡ length xs
 length-lines_from fields n [] = refl
@@ -30,32 +31,33 @@ line_at fields i xs x h e = get_or-lines_from fields 0 i i xs x h (omega arith) 
 pub text_at : (lines : List (List ℕ)) (i : ℕ) → i < length lines → text_of (take 1 (drop i lines)) ≡ get_or lines i [] ++ 10 ∷ []
 text_at lines i h = ap (λ rest. text_of (take 1 rest)) (drop-cons lines i [] h) ∙ append-nil (get_or lines i [] ++ 10 ∷ [])
 
+-- the part at a place is that alone
+pub part_at : (parts : List (List ℕ)) (i : ℕ) → i < length parts → joined (take 1 (drop i parts)) ≡ get_or parts i []
+part_at parts i h = ap (λ rest. joined (take 1 rest)) (drop-cons parts i [] h) ∙ append-nil (get_or parts i [])
+
+-- a part for each item
+pub length-line_parts : {A : Type 0} (fields : ℕ → A → List (List ℕ)) (xs : List A) → length (line_parts (lines_from fields 0 xs)) ≡ length xs
+length-line_parts fields xs = length-map (lines_from fields 0 xs) (λ line. line ++ 10 ∷ []) ∙ length-lines_from fields 0 xs
+
+-- that of an item which stands at the place
+pub line_part : {A : Type 0} (fields : ℕ → A → List (List ℕ)) (i : ℕ) (xs : List A) (x : A) → i < length xs → x ≡ get_or xs i x
+    → joined (take 1 (drop i (line_parts (lines_from fields 0 xs)))) ≡ line_of (fields i x) ++ 10 ∷ []
+line_part fields i xs x h e =
+    let lines = lines_from fields 0 xs in
+    part_at (line_parts lines) i (omega (arith, h, length-line_parts fields xs))
+    ∙ get_or-map (λ line. line ++ 10 ∷ []) lines i [] [] (omega (arith, h, length-lines_from fields 0 xs))
+    ∙ ap (λ line. line ++ 10 ∷ []) (line_at fields i xs x h e)
+
 -- a field, and then one for each item
 pub line_of-map : {A : Type 0} (first : List ℕ) (field : A → List ℕ) (xs : List A)
     → line_of (first ∷ map field xs) ≡ first ++ flat_map (λ x. 32 ∷ field x) xs
 line_of-map first field [] = sym (append-nil first)
 line_of-map first field (x ∷ xs) = ap (λ rest. first ++ 32 ∷ rest) (line_of-map (field x) field xs)
 
--- where the numbers do not count
-numberless : {A : Type 0} (fields : A → List (List ℕ)) (n : ℕ) (xs : List A)
-    → lines_from (λ k. fields) n xs ≡ map (λ x. line_of (fields x)) xs
-numberless fields n [] = refl
-numberless fields n (x ∷ xs) = ap (λ rest. line_of (fields x) ∷ rest) (numberless fields (n + 1) xs)
-
 texts_of : {A : Type 0} (fields : A → List (List ℕ)) (text : A → List ℕ) → ((x : A) → line_of (fields x) ++ 10 ∷ [] ≡ text x)
     → (xs : List A) → text_of (map (λ x. line_of (fields x)) xs) ≡ flat_map text xs
 texts_of fields text each [] = refl
 texts_of fields text each (x ∷ xs) = rw (each x, texts_of fields text each xs) refl
-
--- the lines from a place on are the texts of the items there
-pub some_texts : {A : Type 0} (fields : A → List (List ℕ)) (text : A → List ℕ) → ((x : A) → line_of (fields x) ++ 10 ∷ [] ≡ text x)
-    → (i n : ℕ) (xs : List A) → text_of (take n (drop i (lines_from (λ k. fields) 0 xs))) ≡ flat_map text (take n (drop i xs))
-some_texts fields text each i n xs =
-    rw (numberless fields 0 xs, drop-map, take-map) (texts_of fields text each (take n (drop i xs)))
-
--- as many items as there are of so many at most
-pub take_length : {A : Type 0} (xs : List A) (most : ℕ) → take (length (take most xs)) xs ≡ take most xs
-take_length xs most = ap (take (length (take most xs))) (sym (take-append-drop most xs)) ∙ take-append_seam (take most xs) (drop most xs)
 
 -- the lines of keys are the texts of each
 pub key_texts : (value : HeaderKey → Value) (keys : List HeaderKey)

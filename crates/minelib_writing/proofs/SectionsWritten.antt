@@ -76,8 +76,3 @@ held_cut {n} {before} {after} {old} {new} text e cut =
 pub line_cut : {n : ℕ} {before after : List ℕ} {old new : SinkState} (line : List ℕ) (lines : List (List ℕ))
     → after ≡ before ++ (line ++ 10 ∷ []) → IsAppendCut n [] after old new → IsAppendCut n (text_of (line ∷ lines)) before old new
 line_cut line lines e cut = cut_before (text_of lines) (held_cut (line ++ 10 ∷ []) e cut)
-
--- the buffer took the first lines, and what it held was cut short
-pub buffered_cut : {n : ℕ} {before after : List ℕ} {old new : SinkState} (lines : List (List ℕ)) (i : ℕ)
-    → after ≡ before ++ text_of (take i lines) → IsAppendCut n [] after old new → IsAppendCut n (text_of lines) before old new
-buffered_cut lines i e cut = first_cut lines i (held_cut (text_of (take i lines)) e cut)

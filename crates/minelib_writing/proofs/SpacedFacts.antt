@@ -3,7 +3,7 @@ use Rattle.std.proofs.Common.{◌≡◌, ℕ, zero, suc, ◌+◌, ◌*◌, ◌^�
 use Rattle.std.specs.Prelude.{decimal}
 use Rattle.std.specs.List.{range_with_len}
 use Rattle.std.proofs.Math.Seq.{drop-append_seam, get_or-append_seam, take-append_seam}
-use Rattle.std.proofs.lemmas.List.{get_or_append_left, get_or_default}
+use Rattle.std.proofs.lemmas.List.{drop-drop, drop-take, get_or_append_left, get_or_default}
 use Rattle.std.proofs.lemmas.Bool.{cases_lt}
 use Rattle.std.proofs.lemmas.Fmt.{length-decimal-le_wide}
 use Rattle.std.proofs.lemmas.Grind.{flat_map-append}
@@ -29,14 +29,16 @@ below_parts m n le =
 spaced-append : (xs ys : List ℕ) → spaced (xs ++ ys) ≡ spaced xs ++ spaced ys
 spaced-append xs ys = flat_map-append (λ id. 32 ∷ decimal id) xs ys
 
-pub spaced_push : (xs : List ℕ) (x : ℕ) → spaced (xs ++ x ∷ []) ≡ spaced xs ++ 32 ∷ decimal x
-spaced_push xs x = spaced-append xs (x ∷ []) ∙ ap (λ t. spaced xs ++ t) (append-nil (32 ∷ decimal x))
-
 -- one more identifier
-pub spaced_next : (n : ℕ) → spaced (range_with_len 0 (n + 1)) ≡ spaced (range_with_len 0 n) ++ 32 ∷ decimal n
-spaced_next n =
+pub spaced_next : (first n : ℕ) → spaced (range_with_len first (n + 1)) ≡ spaced (range_with_len first n) ++ 32 ∷ decimal (first + n)
+spaced_next first n =
+    ap spaced (range_parts first n 1) ∙ spaced-append (range_with_len first n) ((first + n) ∷ [])
+    ∙ ap (λ t. spaced (range_with_len first n) ++ t) (append-nil (32 ∷ decimal (first + n)))
+
+pub spaced_below : (n : ℕ) → spaced (range_with_len 0 (n + 1)) ≡ spaced (range_with_len 0 n) ++ 32 ∷ decimal n
+spaced_below n =
     let last : 0 + n ≡ n = omega arith in
-    ap spaced (range_parts 0 n 1 ∙ ap (λ k. range_with_len 0 n ++ k ∷ []) last) ∙ spaced_push (range_with_len 0 n) n
+    spaced_next 0 n ∙ ap (λ k. spaced (range_with_len 0 n) ++ 32 ∷ decimal k) last
 
 -- each takes nine bytes at most
 pub start_within : (n : ℕ) → n ≤ 10 ^ 8 → start_in n ≤ 9 * n
@@ -49,7 +51,7 @@ start_within (suc n) le =
       start_within n (omega arith),
       digits,
       ap start_in one,
-      ap length (spaced_next n),
+      ap length (spaced_below n),
       length-append (spaced (range_with_len 0 n)) (32 ∷ decimal n),
     )
 
@@ -110,3 +112,26 @@ run_is starts text first past a b are is le lt low high =
     let at_first : a ≡ start_in first = low ∙ get_or_default starts first a 0 (omega arith) ∙ are first (omega arith) in
     let at_past : b ≡ start_in past = high ∙ get_or_default starts past b 0 lt ∙ are past lt in
     (λ j. take (at_past j - at_first j) (drop (at_first j) (is j))) ∙ part_of_text (length starts) first past le (omega arith)
+
+-- without the space before it, one identifier's text is its digits
+pub digits_within : (starts text : List ℕ) (id a b : ℕ) → AreStarts starts → text ≡ spaced (range_with_len 0 (length starts))
+    → id + 1 < length starts → a ≡ get_or starts id a → b ≡ get_or starts (id + 1) b → (a + 1 ≤ b) × (b ≤ length text)
+digits_within starts text id a b are is lt low high =
+    let at_id : a ≡ start_in id = low ∙ get_or_default starts id a 0 (omega arith) ∙ are id (omega arith) in
+    let at_next : b ≡ start_in (id + 1) = high ∙ get_or_default starts (id + 1) b 0 lt ∙ are (id + 1) lt in
+    let more = length-append (spaced (range_with_len 0 id)) (32 ∷ decimal id) in
+    let inside = run_within starts text id (id + 1) a b are is (omega arith) lt low high in
+    (omega (arith, at_id, at_next, ap length (spaced_below id), more), inside.1)
+
+pub digits_are : (starts text : List ℕ) (id a b : ℕ) → AreStarts starts → text ≡ spaced (range_with_len 0 (length starts))
+    → id + 1 < length starts → a ≡ get_or starts id a → b ≡ get_or starts (id + 1) b
+    → take (b - (a + 1)) (drop (a + 1) text) ≡ decimal id
+digits_are starts text id a b are is lt low high =
+    let one : (id + 1) - id ≡ 1 = omega arith in
+    let whole : take (b - a) (drop a text) ≡ 32 ∷ (decimal id ++ []) =
+    run_is starts text id (id + 1) a b are is (omega arith) lt low high ∙ ap (λ n. spaced (range_with_len id n)) one in
+    let long : 1 + (b - (a + 1)) ≡ b - a = omega (arith, (digits_within starts text id a b are is lt low high).0) in
+    ap (take (b - (a + 1))) (sym (drop-drop 1 a text))
+    ∙ sym (drop-take 1 (b - (a + 1)) (drop a text))
+    ∙ ap (λ n. drop 1 (take n (drop a text))) long
+    ∙ ap (drop 1) whole ∙ append-nil (decimal id)

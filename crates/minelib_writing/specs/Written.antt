@@ -8,9 +8,9 @@ use Rattle.mine_instance.specs.Greatest.{greatest}
 use Rattle.mine_instance.specs.declared.coef.Coef.{Coef}
 use Rattle.mine_instance.specs.declared.cpit.CpitCoef.{CpitCoef}
 use Rattle.mine_instance.specs.Instance.{Instance}
-use Rattle.minelib_lines.specs.KeyWords.{key_word, keys_of, type_text, upit_keys}
+use Rattle.minelib_lines.specs.HeaderTable.{key_value, key_word, keys_of, type_text, upit_keys}
 use Rattle.minelib_lines.specs.Lines.{text_of, line_of, lines_from}
-use Rattle.minelib_lines.specs.LineValues.{block_values, preds_values, coef_values, limit_values, values_values, at_only_destination, header_of, header_of_cpit, key_value}
+use Rattle.minelib_lines.specs.LineValues.{block_values, preds_values, coef_values, limit_values, values_values, at_only_destination, header_of, header_of_cpit}
 use Rattle.minelib_lines.specs.declared.header_key.HeaderKey.{HeaderKey}
 use Rattle.minelib_lines.specs.declared.problem.Problem.{Problem}
 use Rattle.minelib_lines.specs.declared.problem.Problem.TheVariants.{Pcpsp, Cpit}

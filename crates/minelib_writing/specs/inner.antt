@@ -1,4 +1,4 @@
 pub mod CoefParts
 pub mod KeptParts
-pub mod KeyParts
+pub mod Parts
 pub mod Spaced

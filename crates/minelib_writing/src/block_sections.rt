@@ -1,6 +1,6 @@
 //! The lines of values, one for each block.
 
-ghost use Rattle.std.specs.Prelude.{◌≡◌, ◌<◌, ◌++◌, ◌∷◌, [], length, map, All, HoldsAt, OnOk, decimal, ⊤};
+ghost use Rattle.std.specs.Prelude.{◌≡◌, ◌<◌, ◌++◌, ◌∷◌, [], length, map, All, HoldsAt, OnOk, decimal};
 ghost use Rattle.std.specs.List.{flat_map};
 ghost use Rattle.pit_units.specs.Decimal.{shortest};
 ghost use Rattle.mine_instance.specs.Greatest.{greatest};
@@ -24,14 +24,21 @@ pub struct ValueLines<'a> {
 impl<'a> Section for ValueLines<'a> {
     ghost lines = { λ s. lines_from value_fields 0 s.values.now };
 
+    ghost use Rattle.minelib_writing.specs.inner.Parts.{line_parts, lines_whole};
+
+    ghost parts = { λ s. line_parts (lines_from value_fields 0 s.values.now) };
+
     ghost kept = { λ s n. HoldsAt (λ of_block. All IsInDecimalRange of_block) s.values.now n };
+
+    ghost whole = { λ s. lines_whole (lines_from value_fields 0 s.values.now) };
 
     fn len(&self) -> usize {
         self.values.len()
     }
 
-    fn append(&self, alloc: Global, index: usize, out: &mut Vec<u8>) -> Result<(), AllocError> {
-        put_values(alloc, out, index, self.values.of(index))
+    fn append(&self, alloc: Global, index: usize, out: &mut Vec<u8>) -> Result<usize, AllocError> {
+        put_values(alloc, out, index, self.values.of(index))?;
+        Ok(1)
     }
 }
 
@@ -67,14 +74,21 @@ pub struct GreatestLines<'a> {
 impl<'a> Section for GreatestLines<'a> {
     ghost lines = { λ s. lines_from greatest_fields 0 s.values.now };
 
-    ghost kept = { λ s n. ⊤ };
+    ghost use Rattle.minelib_writing.specs.inner.Parts.{line_parts, lines_whole};
+
+    ghost parts = { λ s. line_parts (lines_from greatest_fields 0 s.values.now) };
+
+    ghost kept = { λ s n. HoldsAt (λ of_block. IsInDecimalRange (greatest of_block)) s.values.now n };
+
+    ghost whole = { λ s. lines_whole (lines_from greatest_fields 0 s.values.now) };
 
     fn len(&self) -> usize {
         self.values.len()
     }
 
-    fn append(&self, alloc: Global, index: usize, out: &mut Vec<u8>) -> Result<(), AllocError> {
-        put_greatest(alloc, out, index, self.values.of(index))
+    fn append(&self, alloc: Global, index: usize, out: &mut Vec<u8>) -> Result<usize, AllocError> {
+        put_greatest(alloc, out, index, self.values.of(index))?;
+        Ok(1)
     }
 }
 
@@ -85,9 +99,10 @@ fn put_greatest(
     values: &[Dec],
 ) -> Result<(), AllocError>
     requires { 0 < length values.now }
-    ensures { OnOk result (out.new.items
+    ensures text { OnOk result (out.new.items
         ≡ out.old.items ++ (line_of (decimal id ∷ shortest (greatest values.now) ∷ [])
         ++ 10 ∷ [])) }
+    ensures kept { OnOk result (IsInDecimalRange (greatest values.now)) }
 {
     put_whole(out, id as u64)?;
     put_decimal_behind(alloc, out, b' ', greatest(values))?;

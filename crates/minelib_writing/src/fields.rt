@@ -1,12 +1,18 @@
 //! Fields of a line, and what stands between them.
 
-ghost use Rattle.std.specs.Prelude.{◌≡◌, ◌++◌, ◌∷◌, [], OnOk, decimal};
+ghost use Rattle.std.specs.Prelude.{◌≡◌, ◌+◌, ◌≤◌, ◌++◌, ◌∷◌, [], OnOk, decimal, drop, length};
 ghost use Rattle.pit_units.specs.Decimal.{shortest};
 ghost use Rattle.minelib_lines.specs.Kept.{IsInDecimalRange};
 
-use itoa::Buffer;
-use pit_units::{Dec, put_dec};
+use itoa::write_digits;
+use pit_units::{Dec, append_front, put_dec};
 use std::alloc::{AllocError, Global};
+
+// The most digits of a whole number.
+const DIGITS: usize = 20;
+
+// The bytes of the room of a number: its digits, the byte that ends it, and from wherever it starts on as many as the longest has.
+const ROOM: usize = 2 * DIGITS + 1;
 
 /// Appends a text and the byte that ends it.
 #[inline(always)]
@@ -28,8 +34,9 @@ pub fn put_whole(out: &mut Vec<u8>, number: u64) -> Result<(), AllocError>
         out.push(b'0' + number as u8)?;
         return Ok(());
     }
-    let mut digits = Buffer::new();
-    out.extend_from_slice(digits.format(number).as_bytes())
+    let mut room = [0; ROOM];
+    let start = write_whole(&mut room, number);
+    append_front(out, &room[start..start + DIGITS], DIGITS - start)
 }
 
 /// Appends a whole number and the byte that ends it.
@@ -37,9 +44,26 @@ pub fn put_whole(out: &mut Vec<u8>, number: u64) -> Result<(), AllocError>
 pub fn put_whole_to(out: &mut Vec<u8>, number: u64, end: u8) -> Result<(), AllocError>
     ensures { OnOk result (out.new.items ≡ out.old.items ++ (decimal number ++ end ∷ [])) }
 {
-    put_whole(out, number)?;
-    out.push(end)?;
-    Ok(())
+    if number < 10 {
+        put_whole(out, number)?;
+        out.push(end)?;
+        return Ok(());
+    }
+    let mut room = [0; ROOM];
+    room[DIGITS] = end;
+    let start = write_whole(&mut room, number);
+    append_front(out, &room[start..start + DIGITS + 1], DIGITS + 1 - start)
+}
+
+// Writes the digits of a whole number before the byte that ends it, and gives where they start.
+#[inline(always)]
+fn write_whole(room: &mut [u8], number: u64) -> usize
+    requires { 20 ≤ length room.old }
+    ensures start { result + length (decimal number) ≡ 20 }
+    ensures text { drop result room.new ≡ decimal number ++ drop 20 room.old }
+    ensures count { length room.new ≡ length room.old }
+{
+    write_digits(number, room, DIGITS)
 }
 
 /// Appends a byte and a whole number behind it.

@@ -14,9 +14,9 @@ ghost use Rattle.minelib_writing.specs.Written.{text_blocks, text_prec, text_upi
 ghost use Rattle.pit_parts.specs.declared.ranges.TheConstants.{MAX_BLOCKS};
 
 use crate::block_sections::{GreatestLines, ValueLines};
-use crate::coef_lines::CoefLines;
+use crate::coef_lines::{CoefForm, CoefLines};
 use crate::id_text::IdText;
-use crate::keys::{KeyValues, write_keys};
+use crate::keys::write_keys;
 use crate::lines::Lines;
 use crate::prec_lines::write_preds;
 use crate::schedule::write_sections;
@@ -25,11 +25,12 @@ use crate::text_name::TextName;
 use devices::sink::Sink;
 use devices::whole_text::{Text, write_text};
 use devices::write_fault::WriteFault;
-use mine_instance::coef::Coef;
 use mine_instance::coef_list::CoefList;
-use mine_instance::cpit::{Cpit, CpitCoef};
+use mine_instance::cpit::Cpit;
 use mine_instance::instance::Instance;
+use mine_instance::laws::a_valid_instance_has_a_cpit;
 use minelib_lines::header_key::HeaderKey;
+use minelib_lines::key_values::KeyValues;
 use minelib_lines::problem::Problem;
 use precedence::PredLists;
 use std::alloc::Global;
@@ -39,7 +40,7 @@ struct BlockFile<'a, P, C> {
     instance: &'a Instance<P, C>,
 }
 
-impl<'a, P: PredLists, C: CoefList<Coef = Coef>> Text for BlockFile<'a, P, C> {
+impl<'a, P: PredLists, C: CoefList> Text for BlockFile<'a, P, C> {
     ghost text = { λ t. text_blocks (seen P.lists C.list t.instance.now) };
 
     ghost kept = { λ t. ⊤ };
@@ -57,7 +58,7 @@ impl<'a, P: PredLists, C: CoefList<Coef = Coef>> Text for BlockFile<'a, P, C> {
 }
 
 /// Begins the sink and writes the block file: a line for each block, by identifier.
-pub fn write_blocks<P: PredLists, C: CoefList<Coef = Coef>, S: Sink>(
+pub fn write_blocks<P: PredLists, C: CoefList, S: Sink>(
     alloc: Global,
     instance: &Instance<P, C>,
     sink: &mut S,
@@ -75,7 +76,7 @@ struct PrecFile<'a, P: PredLists, C> {
     ghost few: { length (P.lists instance.now.preds) ≤ MAX_BLOCKS },
 }
 
-impl<'a, P: PredLists, C: CoefList<Coef = Coef>> Text for PrecFile<'a, P, C> {
+impl<'a, P: PredLists, C: CoefList> Text for PrecFile<'a, P, C> {
     ghost text = { λ t. text_prec (seen P.lists C.list t.instance.now) };
 
     ghost kept = { λ t. ⊤ };
@@ -95,7 +96,7 @@ impl<'a, P: PredLists, C: CoefList<Coef = Coef>> Text for PrecFile<'a, P, C> {
 }
 
 /// Begins the sink and writes the precedence file: the predecessors of each block, by identifier.
-pub fn write_prec<P: PredLists, C: CoefList<Coef = Coef>, S: Sink>(
+pub fn write_prec<P: PredLists, C: CoefList, S: Sink>(
     alloc: Global,
     instance: &Instance<P, C>,
     sink: &mut S,
@@ -113,7 +114,7 @@ struct UpitFile<'a, P, C> {
     ghost some: { All (λ of_block. 0 < length of_block) instance.now.values },
 }
 
-impl<'a, P: PredLists, C: CoefList<Coef = Coef>> Text for UpitFile<'a, P, C> {
+impl<'a, P: PredLists, C: CoefList> Text for UpitFile<'a, P, C> {
     ghost text = { λ t. text_upit (seen P.lists C.list t.instance.now) };
 
     ghost kept = { λ t. ⊤ };
@@ -145,7 +146,7 @@ impl<'a, P: PredLists, C: CoefList<Coef = Coef>> Text for UpitFile<'a, P, C> {
 
 /// Begins the sink and writes the file of the ultimate pit limit problem: the greatest value of each block, in units of 100
 /// cents.
-pub fn write_upit<P: PredLists, C: CoefList<Coef = Coef>, S: Sink>(
+pub fn write_upit<P: PredLists, C: CoefList, S: Sink>(
     alloc: Global,
     instance: &Instance<P, C>,
     sink: &mut S,
@@ -158,11 +159,12 @@ pub fn write_upit<P: PredLists, C: CoefList<Coef = Coef>, S: Sink>(
 }
 
 #[derive(Drop)]
-struct PcpspFile<'a, P, C> {
+struct PcpspFile<'a, P: PredLists, C: CoefList> {
     instance: &'a Instance<P, C>,
+    ghost valid: { IsValid (seen P.lists C.list instance.now) },
 }
 
-impl<'a, P: PredLists, C: CoefList<Coef = Coef>> Text for PcpspFile<'a, P, C> {
+impl<'a, P: PredLists, C: CoefList> Text for PcpspFile<'a, P, C> {
     ghost text = { λ t. text_pcpsp (seen P.lists C.list t.instance.now) };
 
     ghost kept = { λ t. IsKept (seen P.lists C.list t.instance.now) };
@@ -192,6 +194,7 @@ impl<'a, P: PredLists, C: CoefList<Coef = Coef>> Text for PcpspFile<'a, P, C> {
             },
             &CoefLines {
                 coefs: &instance.coefs,
+                form: CoefForm::OfAll,
             },
             &Lines {
                 items: instance.limits.as_slice(),
@@ -202,7 +205,7 @@ impl<'a, P: PredLists, C: CoefList<Coef = Coef>> Text for PcpspFile<'a, P, C> {
 
 /// Begins the sink and writes the file of the production scheduling problem. Of an instance that it wrote it says what the types of
 /// the parts keep: a NAME and decimals.
-pub fn write_pcpsp<P: PredLists, C: CoefList<Coef = Coef>, S: Sink>(
+pub fn write_pcpsp<P: PredLists, C: CoefList, S: Sink>(
     alloc: Global,
     instance: &Instance<P, C>,
     sink: &mut S,
@@ -216,11 +219,11 @@ pub fn write_pcpsp<P: PredLists, C: CoefList<Coef = Coef>, S: Sink>(
 }
 
 #[derive(Drop)]
-struct CpitFile<'a, C: CoefList<Coef = CpitCoef>> {
-    cpit: &'a Cpit<C>,
+struct CpitFile<'a> {
+    cpit: &'a Cpit,
 }
 
-impl<'a, C: CoefList<Coef = CpitCoef>> Text for CpitFile<'a, C> {
+impl<'a> Text for CpitFile<'a> {
     ghost text = { λ t. text_cpit t.cpit.now };
 
     ghost kept = { λ t. IsKeptCpit t.cpit.now × IsCpit t.cpit.now };
@@ -248,8 +251,8 @@ impl<'a, C: CoefList<Coef = CpitCoef>> Text for CpitFile<'a, C> {
             &Lines {
                 items: cpit.values(),
             },
-            &CoefLines {
-                coefs: cpit.coef_list(),
+            &Lines {
+                items: cpit.coefs(),
             },
             &Lines {
                 items: cpit.limits(),
@@ -260,11 +263,7 @@ impl<'a, C: CoefList<Coef = CpitCoef>> Text for CpitFile<'a, C> {
 
 /// Begins the sink and writes the file of the constrained pit limit problem. Of a CPIT that it wrote it says what the types of the
 /// parts keep, and that they are within their ranges and orders.
-pub fn write_cpit<C: CoefList<Coef = CpitCoef>, S: Sink>(
-    alloc: Global,
-    cpit: &Cpit<C>,
-    sink: &mut S,
-) -> Result<(), WriteFault>
+pub fn write_cpit<S: Sink>(alloc: Global, cpit: &Cpit, sink: &mut S) -> Result<(), WriteFault>
     ensures writes { Writes (text_cpit cpit.now)
         (S.state sink.old) (S.state sink.new) result }
     ensures kept { OnOk result (IsKeptCpit cpit.now) }
@@ -273,16 +272,75 @@ pub fn write_cpit<C: CoefList<Coef = CpitCoef>, S: Sink>(
     write_text(alloc, &CpitFile { cpit }, sink)
 }
 
-/// Begins the sink and writes the text of this name, of an instance and its CPIT.
-pub fn write_named<P: PredLists, C: CoefList<Coef = Coef>, D: CoefList<Coef = CpitCoef>, S: Sink>(
+#[derive(Drop)]
+struct ChosenFile<'a, P: PredLists, C: CoefList> {
+    instance: &'a Instance<P, C>,
+    ghost valid: { IsValid (seen P.lists C.list instance.now) },
+}
+
+impl<'a, P: PredLists, C: CoefList> Text for ChosenFile<'a, P, C> {
+    ghost text = { λ t. text_cpit (cpit_of (seen P.lists C.list t.instance.now)) };
+
+    ghost kept = { λ t. IsKeptCpit (cpit_of (seen P.lists C.list t.instance.now))
+        × IsCpit (cpit_of (seen P.lists C.list t.instance.now)) };
+
+    #[tactic(auto, using(crate::proofs::SectionsWritten::nothing_put))]
+    fn write<S: Sink>(
+        &self,
+        alloc: Global,
+        sink: &mut S,
+        buffer: &mut Vec<u8>,
+    ) -> Result<(), WriteFault> {
+        a_valid_instance_has_a_cpit();
+        let instance = self.instance;
+        let values = &instance.values;
+        let problem = Problem::Cpit;
+        write_keys(
+            alloc,
+            sink,
+            buffer,
+            &KeyValues::of_one_destination(problem.type_text(), instance),
+            problem.keys(),
+        )?;
+        write_sections(
+            alloc,
+            sink,
+            buffer,
+            &GreatestLines { values },
+            &CoefLines {
+                coefs: &instance.coefs,
+                form: CoefForm::OfChosen(values),
+            },
+            &Lines {
+                items: instance.limits.as_slice(),
+            },
+        )
+    }
+}
+
+// The same of the CPIT of an instance, which is not built: each block's destination is found when its lines are written.
+fn write_chosen<P: PredLists, C: CoefList, S: Sink>(
+    alloc: Global,
+    instance: &Instance<P, C>,
+    sink: &mut S,
+) -> Result<(), WriteFault>
+    requires { IsValid (seen P.lists C.list instance.now) }
+    ensures writes { Writes (text_cpit (cpit_of (seen P.lists C.list instance.now)))
+        (S.state sink.old) (S.state sink.new) result }
+    ensures kept { OnOk result (IsKeptCpit (cpit_of (seen P.lists C.list instance.now))) }
+    ensures is { OnOk result (IsCpit (cpit_of (seen P.lists C.list instance.now))) }
+{
+    write_text(alloc, &ChosenFile { instance }, sink)
+}
+
+/// Begins the sink and writes the text of this name, of an instance or of its CPIT.
+pub fn write_named<P: PredLists, C: CoefList, S: Sink>(
     alloc: Global,
     name: TextName,
     instance: &Instance<P, C>,
-    cpit: &Cpit<D>,
     sink: &mut S,
 ) -> Result<(), WriteFault>
-    requires valid { IsValid (seen P.lists C.list instance.now) }
-    requires cpit { cpit.now ≡ cpit_of (seen P.lists C.list instance.now) }
+    requires { IsValid (seen P.lists C.list instance.now) }
     ensures writes { Writes (text_named name (seen P.lists C.list instance.now))
         (S.state sink.old) (S.state sink.new) result }
     ensures kept { OnOk result (kept_named name (seen P.lists C.list instance.now)) }
@@ -292,6 +350,6 @@ pub fn write_named<P: PredLists, C: CoefList<Coef = Coef>, D: CoefList<Coef = Cp
         TextName::Prec => write_prec(alloc, instance, sink),
         TextName::Upit => write_upit(alloc, instance, sink),
         TextName::Pcpsp => write_pcpsp(alloc, instance, sink),
-        TextName::Cpit => write_cpit(alloc, cpit, sink),
+        TextName::Cpit => write_chosen(alloc, instance, sink),
     }
 }

@@ -1,11 +1,13 @@
 //! The texts of identifiers, made once for all lines.
 
-ghost use Rattle.std.specs.Prelude.{◌≡◌, ◌+◌, ◌-◌, ◌<◌, ◌≤◌, ◌++◌, OnOk, IfOk, length, take, drop, slice_index};
+ghost use Rattle.std.specs.Prelude.{◌≡◌, ◌+◌, ◌-◌, ◌≤◌, ◌++◌, OnOk, decimal, length, take, drop};
 ghost use Rattle.std.specs.List.{range_with_len};
+ghost use Rattle.precedence.specs.IdRuns.{ids_of, ids_of_run};
 ghost use Rattle.minelib_writing.specs.inner.Spaced.{spaced, start_in, AreStarts};
 ghost use Rattle.pit_parts.specs.declared.ranges.TheConstants.{MAX_BLOCKS};
 
-use crate::fields::put_whole_behind;
+use crate::fields::{put_whole, put_whole_behind};
+use precedence::IdRun;
 use std::alloc::{AllocError, Global};
 
 /// The text ` 0 1 2 ..` of identifiers. A run of them is written by one copy of a part of it.
@@ -32,29 +34,42 @@ impl IdText {
         Ok(IdText { text, starts })
     }
 
-    /// Appends identifiers, each behind a space.
+    /// Appends an identifier.
     #[inline(always)]
-    pub fn put(&self, out: &mut Vec<u8>, ids: &[u32]) -> Result<(), AllocError>
-        ensures { OnOk result (out.new.items ≡ out.old.items ++ spaced ids.now) }
+    pub fn put_one(&self, out: &mut Vec<u8>, id: u32) -> Result<(), AllocError>
+        ensures { OnOk result (out.new.items ≡ out.old.items ++ decimal id) }
     {
-        let mut rest = ids;
-        while !rest.is_empty() {
-            let (run, later) = rest.split_at(run_len(rest));
-            self.put_run(out, run)?;
-            rest = later;
+        let index = id as usize;
+        if index + 1 < self.starts.len() {
+            let text = self.text.as_slice();
+            out.extend_from_slice(part(
+                text,
+                self.starts[index] as usize + 1,
+                self.starts[index + 1] as usize,
+            ))
+        } else {
+            put_whole(out, u64::from(id))
+        }
+    }
+
+    /// Appends the identifiers of runs, each behind a space.
+    #[inline(always)]
+    pub fn put(&self, out: &mut Vec<u8>, runs: &[IdRun]) -> Result<(), AllocError>
+        ensures { OnOk result (out.new.items ≡ out.old.items ++ spaced (ids_of runs.now)) }
+    {
+        for run in runs {
+            self.put_run(out, *run)?;
         }
         Ok(())
     }
 
     // those past the table go one by one
     #[inline(always)]
-    fn put_run(&self, out: &mut Vec<u8>, run: &[u32]) -> Result<(), AllocError>
-        requires some { 0 < length run.now }
-        requires run { run.now ≡ range_with_len (slice_index run.now 0) (length run.now) }
-        ensures { OnOk result (out.new.items ≡ out.old.items ++ spaced run.now) }
+    fn put_run(&self, out: &mut Vec<u8>, run: IdRun) -> Result<(), AllocError>
+        ensures { OnOk result (out.new.items ≡ out.old.items ++ spaced (ids_of_run run)) }
     {
-        let first = run[0] as usize;
-        let past = first.saturating_add(run.len());
+        let first = run.first as usize;
+        let past = first + run.len as usize;
         if past < self.starts.len() {
             let text = self.text.as_slice();
             out.extend_from_slice(part(
@@ -77,28 +92,11 @@ fn part(text: &[u8], start: usize, end: usize) -> &[u8]
     &text[start..end]
 }
 
-fn put_each(out: &mut Vec<u8>, ids: &[u32]) -> Result<(), AllocError>
-    ensures { OnOk result (out.new.items ≡ out.old.items ++ spaced ids.now) }
+fn put_each(out: &mut Vec<u8>, run: IdRun) -> Result<(), AllocError>
+    ensures { OnOk result (out.new.items ≡ out.old.items ++ spaced (ids_of_run run)) }
 {
-    for id in ids {
-        put_whole_behind(out, b' ', u64::from(*id))?;
+    for k in 0..run.len {
+        put_whole_behind(out, b' ', u64::from(run.first + k))?;
     }
     Ok(())
-}
-
-// How many identifiers follow one another, from the first on.
-#[inline(always)]
-fn run_len(ids: &[u32]) -> usize
-    requires { 0 < length ids.now }
-    ensures some { 0 < result }
-    ensures within { result ≤ length ids.now }
-    ensures run { take result ids.now ≡ range_with_len (slice_index ids.now 0) result }
-{
-    let first = ids[0];
-    let most = ids.len().min((u32::MAX - first) as usize);
-    let mut len = 1;
-    while len < most && ids[len] == first + len as u32 {
-        len += 1;
-    }
-    len
 }

@@ -3,8 +3,8 @@
 ghost use Rattle.std.specs.Prelude.{◌≡◌, ◌++◌, [], ◌∷◌, ℤ, List, codes, length};
 ghost use Rattle.std.specs.List.{AllZip};
 ghost use Rattle.mine_instance.specs.Instance.{Instance};
-ghost use Rattle.minelib_lines.specs.KeyWords.{upit_keys};
-ghost use Rattle.minelib_lines.specs.LineValues.{header_of, key_value};
+ghost use Rattle.minelib_lines.specs.HeaderTable.{key_value, upit_keys};
+ghost use Rattle.minelib_lines.specs.LineValues.{header_of};
 ghost use Rattle.minelib_lines.specs.Lines.{text_of};
 ghost use Rattle.minelib_writing.specs.TextLaws.{best_lines, IsBest};
 ghost use Rattle.minelib_writing.specs.Written.{key_lines, text_upit};

@@ -30,14 +30,21 @@ pub struct Lines<'a, T> {
 impl<'a, T: Line> Section for Lines<'a, T> {
     ghost lines = { λ s. lines_from T.fields 0 s.items.now };
 
+    ghost use Rattle.minelib_writing.specs.inner.Parts.{line_parts, lines_whole};
+
+    ghost parts = { λ s. line_parts (lines_from T.fields 0 s.items.now) };
+
     ghost kept = { λ s n. HoldsAt T.kept s.items.now n };
+
+    ghost whole = { λ s. lines_whole (lines_from T.fields 0 s.items.now) };
 
     fn len(&self) -> usize {
         self.items.len()
     }
 
-    fn append(&self, alloc: Global, index: usize, out: &mut Vec<u8>) -> Result<(), AllocError> {
-        item(self.items, index).put(alloc, index, out)
+    fn append(&self, alloc: Global, index: usize, out: &mut Vec<u8>) -> Result<usize, AllocError> {
+        item(self.items, index).put(alloc, index, out)?;
+        Ok(1)
     }
 }
 

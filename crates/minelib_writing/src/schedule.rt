@@ -23,9 +23,9 @@ pub fn write_sections<S: Sink, V: Section, C: Section, L: Section>(
     ensures writes { WritesOn
         (text_of (section_lines (V.lines values.now) (C.lines coefs.now) (L.lines limits.now)))
         buffer.old.items buffer.new.items (S.state sink.old) (S.state sink.new) result }
-    ensures values { OnOk result (HoldsFrom (V.kept values.now) 0 (length (V.lines values.now))) }
-    ensures coefs { OnOk result (HoldsFrom (C.kept coefs.now) 0 (length (C.lines coefs.now))) }
-    ensures limits { OnOk result (HoldsFrom (L.kept limits.now) 0 (length (L.lines limits.now))) }
+    ensures values { OnOk result (HoldsFrom (V.kept values.now) 0 (length (V.parts values.now))) }
+    ensures coefs { OnOk result (HoldsFrom (C.kept coefs.now) 0 (length (C.parts coefs.now))) }
+    ensures limits { OnOk result (HoldsFrom (L.kept limits.now) 0 (length (L.parts limits.now))) }
 {
     write_titled(alloc, sink, buffer, b"OBJECTIVE_FUNCTION:", values)?;
     write_titled(

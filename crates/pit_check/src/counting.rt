@@ -30,9 +30,13 @@ pub fn count_on<F: Feed>(
     feed: &mut F,
 ) -> Result<Result<Counts, TextFault>, SlurpFault>
     requires { IfOk so_far (λ counts. counts.blocks ≤ MAX_BLOCKS) }
+
+    // What an answer tells of the text.
     ensures counts { IfOk result
         (IsFedAnswer (counted_on file so_far) (F.left feed.old) GREATEST_LIMIT) }
     ensures few { IfOk result (λ answer. IfOk answer (λ counts. counts.blocks ≤ MAX_BLOCKS)) }
+
+    // When each fault comes.
     ensures failed { IsErrOf result SlurpFault.FeedFailed
         → F.failures feed.new ≡ F.failures feed.old + 1 }
     ensures long { IsErrOf result SlurpFault.TooLong
@@ -65,9 +69,13 @@ fn count_in<F: Feed>(
     feed: &mut F,
 ) -> Result<Result<Counts, LineFault>, SlurpFault>
     requires { counts.blocks ≤ MAX_BLOCKS }
+
+    // What an answer tells of the text.
     ensures counts { IfOk result
         (IsFedAnswer (counted_in file counts) (F.left feed.old) GREATEST_LIMIT) }
     ensures few { IfOk result (λ answer. IfOk answer (λ counts. counts.blocks ≤ MAX_BLOCKS)) }
+
+    // When each fault comes.
     ensures failed { IsErrOf result SlurpFault.FeedFailed
         → F.failures feed.new ≡ F.failures feed.old + 1 }
     ensures long { IsErrOf result SlurpFault.TooLong

@@ -4,7 +4,7 @@ use Rattle.std.specs.Prelude.{IfSome}
 use Rattle.pit_model.specs.Planned.{planned}
 use Rattle.pit_parts.specs.declared.plan.Plan.{Plan}
 use Rattle.pit_commands.specs.Model.{HasTooManyFiles, IsNoModel}
-use Rattle.pit_edge.specs.Pieces.{plan_of}
+use Rattle.pit_edge.specs.Pieces.{plan_piece}
 use Rattle.pit_edge.specs.PlanText.{IsNoPlan}
 use Rattle.pit_edge.specs.Refused.{IsUnread}
 use Rattle.pit_edge.specs.declared.refused.Refused.{Refused}
@@ -15,7 +15,7 @@ pub unread : (left : Option (List ℕ)) (why : Refused) → IsUnread Input left 
 unread left why h = inl h
 
 module _ (left : Option (List ℕ)) (input text : List ℕ) (own : IfSome left (λ bytes. input ≡ bytes)) (small : length input ≤ 268435456)
-    (first : text ≡ plan_of input) where
+    (first : text ≡ plan_piece input) where
   pub planless : (why : Refused) → IsNoPlan text why → IsNoModel left why
   planless why h = inr (input, own, small, inl (subst (λ plan. IsNoPlan plan why) first h))
 

@@ -4,7 +4,7 @@ use Rattle.pit_compile.specs.declared.refusal.Refusal.TheVariants.{Settings, Out
 use Rattle.pit_compile.specs.declared.settings.SettingsFault.TheVariants.{Files}
 use Rattle.pit_model.specs.Planned.{planned}
 use Rattle.pit_parts.specs.declared.plan.Plan.{Plan}
-use Rattle.pit_edge.specs.Pieces.{PiecesView, plan_of, zones_of}
+use Rattle.pit_edge.specs.Pieces.{PiecesView, plan_piece, zone_pieces}
 use Rattle.pit_edge.specs.PlanText.{IsNoPlan}
 use Rattle.pit_edge.specs.Refused.{IsUnread}
 use Rattle.pit_edge.specs.declared.refused.Refused.{Refused}
@@ -16,18 +16,18 @@ use Rattle.pit_parts.specs.declared.ranges.TheConstants.{MAX_FILE_BYTES, MAX_PLA
 abbrev pub IsModel : List ℕ → PiecesView → Plan → Type 0
 IsModel input pieces plan =
     (length input ≤ MAX_FILE_BYTES)
-    × ((pieces.plan ≡ plan_of input) × (pieces.zones ≡ zones_of input))
+    × ((pieces.plan ≡ plan_piece input) × (pieces.zones ≡ zone_pieces input))
     × ((length pieces.plan ≤ MAX_PLAN_BYTES) × (planned pieces.plan ≡ Ok plan))
 
 -- an input has more zone files than this plan has zones; or memory was refused
 abbrev pub HasTooManyFiles : List ℕ → Plan → Refused → Type 0
 HasTooManyFiles input plan refused =
-    ((refused ≡ Run (Settings Files)) × (length plan.cones < length (zones_of input))) ⊎ (refused ≡ Run OutOfMemory)
+    ((refused ≡ Run (Settings Files)) × (length plan.cones < length (zone_pieces input))) ⊎ (refused ≡ Run OutOfMemory)
 
 -- the first piece of an input gives no plan; or it states a plan with fewer zones than there are further pieces
 abbrev pub GivesNoModel : List ℕ → Refused → Type 0
 GivesNoModel input refused =
-    IsNoPlan (plan_of input) refused ⊎ ((plan : Plan) × (planned (plan_of input) ≡ Ok plan) × HasTooManyFiles input plan refused)
+    IsNoPlan (plan_piece input) refused ⊎ ((plan : Plan) × (planned (plan_piece input) ≡ Ok plan) × HasTooManyFiles input plan refused)
 
 -- an input was not read; or its bytes, at most 256 MiB and those that it had left where it tells them, give no model
 abbrev pub IsNoModel : Option (List ℕ) → Refused → Type 0

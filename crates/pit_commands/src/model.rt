@@ -2,7 +2,7 @@
 
 ghost use Rattle.std.specs.Prelude.{◌≡◌, ℕ, List, None, IfOk, IfErr, IfSome};
 ghost use Rattle.pit_commands.specs.Model.{HasTooManyFiles, IsModel, IsNoModel};
-ghost use Rattle.pit_edge.specs.Pieces.{plan_of, zones_of};
+ghost use Rattle.pit_edge.specs.Pieces.{plan_piece, zone_pieces};
 
 use pit_compile::refusal::Refusal;
 use pit_compile::settings::SettingsFault;
@@ -54,7 +54,7 @@ pub fn read_model_from<T: Read>(reader: &mut T, alloc: Global) -> Result<Model, 
 // The pieces of an input, if it has at most as many zone files as the plan has zones.
 fn pieces_for(alloc: Global, input: &[u8], plan: &Plan) -> Result<Pieces, Refused>
     ensures pieces { IfOk result
-        (λ pieces. (pieces.plan ≡ plan_of input.now) × (pieces.zones ≡ zones_of input.now)) }
+        (λ pieces. (pieces.plan ≡ plan_piece input.now) × (pieces.zones ≡ zone_pieces input.now)) }
     ensures refused { IfErr result (HasTooManyFiles input.now plan.now) }
 {
     match cut_at_most(alloc, input, plan.cones().len())? {

@@ -13,7 +13,7 @@ use lane::Gathered;
 use pit_compile::refusal::Refusal;
 use pit_compile::settings::{Budget, Settings, require_settings};
 use pit_compile::{MOST_STARTS, compile};
-use pit_edge::piece::Piece;
+use pit_edge::pieces::Piece;
 use pit_edge::printing::print;
 use pit_model::destination::Destination;
 use pit_model::plan::Plan;
@@ -69,7 +69,7 @@ pub fn pipe<R: Threads + Wait + Sync>(
         },
         &OpenGate,
     )?;
-    print(alloc, &compiled.instance, &compiled.cpit, out)?;
+    print(alloc, &compiled.instance, out)?;
     Ok(compiled.gathered)
 }
 

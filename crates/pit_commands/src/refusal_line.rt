@@ -1,7 +1,7 @@
 //! The line that the program writes of a refused run, and the status that it ends with.
 
 ghost use Rattle.std.specs.Prelude.{◌≡◌, ◌++◌, IfOk, OnOk, OnErr};
-ghost use Rattle.pit_edge.specs.FaultLine.{line_of};
+ghost use Rattle.pit_edge.specs.FaultLine.{program_line};
 ghost use Rattle.pit_edge.specs.Refused.{run_status};
 ghost use Rattle.pit_compile.specs.FaultText.{refusal_text};
 
@@ -15,7 +15,7 @@ use std::alloc::{AllocError, Global};
 pub fn refusal_line(alloc: Global, refusal: &Refusal, lines: &mut Vec<u8>) -> Result<u8, AllocError>
     ensures status { IfOk result (λ status. status ≡ run_status refusal.now) }
     ensures appends { OnOk result
-        (lines.new.items ≡ lines.old.items ++ line_of (refusal_text refusal.now)) }
+        (lines.new.items ≡ lines.old.items ++ program_line (refusal_text refusal.now)) }
     ensures err { OnErr result (lines.new.items ≡ lines.old.items) }
 {
     let refused = Refused::Run(*refusal);

@@ -8,8 +8,7 @@ use Rattle.std.proofs.lemmas.List.Folds.{flat_map-map}
 use Rattle.std.proofs.lemmas.Option.{same_Some, slice_get_within, slice_get-get_or, slice_get-map}
 use Rattle.collector.specs.Complete.{IsComplete}
 use Rattle.collector.specs.Found.{row_at, end_at}
-use Rattle.collector.specs.CollectorView.{CollectorView}
-use Rattle.collector.specs.Lists.{AreLists}
+use Rattle.collector.specs.Lists.{AreLists, AreRows}
 use Rattle.lane.specs.declared.message.Taken.{Taken}
 use Rattle.lane.specs.MessageKinds.{rows_in}
 use Rattle.lane.specs.Whole.{GatheredView, IsWhole}
@@ -61,27 +60,17 @@ are-rows found fs sent items lists all are =
     same-lists lists (map (rows_by fs) sent) (are.count ∙ sym (length-map sent (rows_by fs)))
     (file-list found fs sent items lists all are)
 
--- what is to be added to the new collector makes a complete list
-pub to-add : (fs : List Formula) (g : GatheredView) (items : List (List Item)) (files : ℕ) (new : CollectorView) → IsWhole g →
+-- what is handed on is complete
+pub to-order : (fs : List Formula) (g : GatheredView) (items : List (List Item)) (files : ℕ) → IsWhole g →
     All (λ list. rows_in list ≤ 1000000) g.sent → items ≡ map (items_by fs) g.took → length g.sent ≡ files →
-    new ≡ record { files = files; items = [] } → IsComplete new.files (new.items ++ joined items)
-to-add fs g items files new whole few handed same is_new = rw (is_new, handed, ← same) (complete fs g whole few)
+    IsComplete files (joined items)
+to-order fs g items files whole few handed same = rw (handed, ← same) (complete fs g whole few)
 
--- and is one, once it is added
-pub is-added : (items : List (List Item)) (new added : CollectorView) → IsComplete new.files (new.items ++ joined items) →
-    added ≡ record new { items = new.items ++ joined items } → IsComplete added.files added.items
-is-added items new added whole more = rw more whole
-
--- the rows of the lists, where all was added
-pub collected : (found : FoundIsHeld) (fs : List Formula) (g : GatheredView) (items : List (List Item)) (files : ℕ)
-    (new added : CollectorView)
-    (lists : List (List Valued)) → IsWhole g → items ≡ map (items_by fs) g.took → length g.sent ≡ files →
-    new ≡ record { files = files; items = [] } → added ≡ record new { items = new.items ++ joined items } →
-    AreLists added.files added.items lists → joined lists ≡ flat_map (rows_by fs) g.sent
-collected found fs g items files new added lists whole handed same is_new is_added are =
-    let all = joined (map (items_by fs) g.took) in
-    let held : AreLists (length g.sent) all lists
-    = rw (same, ← handed) (subst (λ (h : CollectorView). AreLists h.files (h.items ++ joined items) lists) is_new
-    (subst (λ (h : CollectorView). AreLists h.files h.items lists) is_added are)) in
-    ap (λ xs. joined xs) (are-rows found fs g.sent all lists (all-of fs g whole) held)
+-- the rows in order
+pub collected : (found : FoundIsHeld) (fs : List Formula) (g : GatheredView) (items : List (List Item)) (files : ℕ) (rows : List Valued)
+    → IsWhole g → items ≡ map (items_by fs) g.took → length g.sent ≡ files → AreRows files (joined items) rows
+    → rows ≡ flat_map (rows_by fs) g.sent
+collected found fs g items files rows whole handed same are =
+    let held : AreLists (length g.sent) (joined (map (items_by fs) g.took)) are.0 = rw (same, ← handed) are.1 in
+    are.2 ∙ ap (λ xs. joined xs) (are-rows found fs g.sent (joined (map (items_by fs) g.took)) are.0 (all-of fs g whole) held)
     ∙ flat_map-map (λ (l : List Valued). l) (rows_by fs) g.sent

@@ -1,4 +1,3 @@
-pub mod Adding
 pub mod Apart
 pub mod Collected
 pub mod Compiles

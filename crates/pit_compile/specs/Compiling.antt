@@ -1,6 +1,5 @@
 -- What `compile` answers.
 use Rattle.std.specs.Prelude.{◌≡◌, ℕ, Bool, List, Option}
-use Rattle.mine_instance.specs.OfCpit.{cpit}
 use Rattle.pit_parts.specs.Plan.{PlanParts}
 use Rattle.pit_compile.specs.Verdict.{IsAccepted}
 use Rattle.pit_compile.specs.declared.compiling.Compiled.{Compiled}
@@ -15,7 +14,6 @@ pub record IsCompiled (plan : PlanParts) (lefts : List (Option (List ℕ))) (val
   pub accepted : IsAccepted plan texts
   pub passed : HasPassed plan texts valuers c.gathered
   pub instance_is : c.instance ≡ instance_from plan texts
-  pub cpit_is : c.cpit ≡ cpit (instance_from plan texts)
 
 -- why nothing was compiled, by the bytes that the feeds had left and by which of them were sure
 abbrev pub IsNotCompiled : PlanParts → List (Option (List ℕ)) → List Bool → Refusal → Type 0

@@ -9,7 +9,7 @@ ghost use Rattle.pit_compile.specs.inner.ReadAnswers.{refusal_in};
 ghost use Rattle.lane.specs.Whole.{IsWhole};
 ghost use Rattle.pit_parts.specs.Destinations.{formulas_of};
 ghost use Rattle.pit_parts.specs.PlanFormulas.{formulas_of_plan};
-ghost use Rattle.pit_parts.specs.declared.ranges.TheConstants.{MAX_ZONES};
+ghost use Rattle.pit_parts.specs.declared.ranges.TheConstants.{MAX_VALUERS, MAX_ZONES};
 ghost use Rattle.run_threads.specs.Reading.{AreRead};
 ghost use Rattle.valuers.specs.Valuing.{items_by};
 
@@ -20,9 +20,8 @@ use crate::refusal::Refusal;
 use crate::settings::{Budget, require_settings};
 use devices::feed::Feed;
 use lane::Gathered;
-use mine_instance::cpit::Cpit;
+use mine_instance::FoundCoefs;
 use mine_instance::instance::Instance;
-use mine_instance::{FoundCoefs, PackedCoefs, build_packed};
 use pit_parts::destination::Destination;
 use pit_parts::plan::Plan;
 use precedence::FoundPreds;
@@ -41,8 +40,6 @@ pub struct Compiled {
     pub gathered: Gathered,
     /// The instance of the model, whose predecessors and coefficients are found when they are asked for.
     pub instance: Instance<FoundPreds, FoundCoefs>,
-    /// Its constrained pit limit problem.
-    pub cpit: Cpit<PackedCoefs>,
 }
 
 /// Reads and values the zone files over threads, and builds the instance of the plan and these files. No more threads are
@@ -102,6 +99,7 @@ fn compiled_of<F: Feed>(
     requires files { length _feeds.value.items ≡ length plan.now.cones }
     requires few { length plan.now.cones ≤ MAX_ZONES }
     requires whole { IsWhole handed.gathered }
+    requires takers { length handed.gathered.took ≤ MAX_VALUERS }
     requires read { AreRead plan.now.grid 0
         (map F.left _feeds.value.items) (map F.is_sure _feeds.value.items)
         handed.answers.items handed.gathered.sent }
@@ -129,10 +127,5 @@ fn compiled_of<F: Feed>(
     }
     let rows = collect(alloc, &gathered, plan, items)?;
     let instance = instance_of(alloc, rows, plan)?;
-    let cpit = build_packed(alloc, &instance)?;
-    Ok(Compiled {
-        gathered,
-        instance,
-        cpit,
-    })
+    Ok(Compiled { gathered, instance })
 }

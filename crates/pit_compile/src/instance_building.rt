@@ -18,8 +18,8 @@ use precedence::FoundPreds;
 use rows::RowLists;
 use std::alloc::Global;
 
-/// The instance of these rows, whose predecessors and coefficients are found when they are asked for. The rows of each file are given up as soon as
-/// their values are taken.
+/// The instance of these rows, whose predecessors and coefficients are found when they are asked for. Of the rows only the
+/// worths are kept once they are numbered, and these until the values are taken.
 ///
 /// # Errors
 ///
@@ -37,8 +37,9 @@ pub fn instance_of(
     ensures refused { IfErr result (IsRepeat rows) }
 {
     let numbering = numbered(alloc, &rows)?;
-    let room = Vec::with_capacity(alloc, rows.len() * plan.formulas().len())?;
-    let listed = values_in_order(room, rows, plan);
+    let worths = rows.into_worths(alloc)?;
+    let room = Vec::with_capacity(alloc, worths.len() * plan.formulas().len())?;
+    let listed = values_in_order(room, worths, plan);
     let preds = FoundPreds::new(alloc, &numbering, plan)?;
     let (blocks, positions) = numbering.into_parts();
     let values = Values::by_position(listed, positions);

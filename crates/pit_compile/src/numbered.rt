@@ -25,8 +25,7 @@ pub fn numbered(alloc: Global, rows: &RowLists) -> Result<Numbering, Refusal>
     ensures numbering { IfOk result (IsNumbering (blocks_of_rows rows.now)) }
     ensures refused { IfErr result (IsRepeat rows.now) }
 {
-    let blocks = rows.blocks(alloc)?;
-    match number_blocks(alloc, blocks.as_slice()) {
+    match number_blocks(alloc, rows) {
         Ok(numbering) => Ok(numbering),
         Err(NumberFault::Same { first, again }) => Err(Refusal::Same {
             first: row_at(rows, first),

@@ -93,11 +93,7 @@ pub fn run_limited<R: Threads + Wait + Sync, F: Feed + Send + Drop, G: Gate + Sy
         (told sinks.old) (told sinks.new)) }
     ensures budget { IfOk result (λ _. settings.valuers + length feeds.items ≤ starts) }
 {
-    let Compiled {
-        gathered,
-        instance,
-        cpit,
-    } = compile(
+    let Compiled { gathered, instance } = compile(
         rt,
         alloc,
         feeds,
@@ -106,6 +102,6 @@ pub fn run_limited<R: Threads + Wait + Sync, F: Feed + Send + Drop, G: Gate + Sy
         Budget { settings, starts },
         gate,
     )?;
-    write_texts(alloc, &instance, &cpit, sinks)?;
+    write_texts(alloc, &instance, sinks)?;
     Ok(gathered)
 }

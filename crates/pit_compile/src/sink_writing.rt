@@ -1,7 +1,6 @@
 //! Writing the texts of an instance, one sink after the other.
 
 ghost use Rattle.std.specs.Prelude.{◌≡◌, IfErr, OnOk};
-ghost use Rattle.mine_instance.specs.OfCpit.{cpit};
 ghost use Rattle.mine_instance.specs.Seen.{seen};
 ghost use Rattle.mine_instance.specs.Valid.{IsValid};
 ghost use Rattle.pit_compile.specs.SinkAnswers.{AreCutOff};
@@ -12,9 +11,7 @@ use crate::refusal::Refusal;
 use crate::sinks::Sinks;
 use devices::sink::Sink;
 use devices::write_fault::WriteFault;
-use mine_instance::coef::Coef;
 use mine_instance::coef_list::CoefList;
-use mine_instance::cpit::{Cpit, CpitCoef};
 use mine_instance::instance::Instance;
 use minelib_writing::text_name::TextName;
 use minelib_writing::write_named;
@@ -30,24 +27,19 @@ use std::alloc::Global;
 ///
 /// The sinks before that one hold their texts. That one is as it was, or begun with a front of its text. Those behind
 /// it are as they were.
-pub fn write_texts<P: PredLists, C: CoefList<Coef = Coef>, D: CoefList<Coef = CpitCoef>, S: Sink>(
+pub fn write_texts<P: PredLists, C: CoefList, S: Sink>(
     alloc: Global,
     instance: &Instance<P, C>,
-    problem: &Cpit<D>,
     sinks: &mut Sinks<S>,
 ) -> Result<(), Refusal>
-    requires valid { IsValid (seen P.lists C.list instance.now) }
-    requires problem { problem.now ≡ cpit (seen P.lists C.list instance.now) }
+    requires { IsValid (seen P.lists C.list instance.now) }
     ensures written { let told = all_told S.state in
         OnOk result (AreWritten (seen P.lists C.list instance.now) (told sinks.old) (told sinks.new)) }
     ensures refused { let told = all_told S.state in
         IfErr result (AreCutOff (seen P.lists C.list instance.now) (told sinks.old) (told sinks.new)) }
 {
     for name in TextName::all() {
-        in_sink(
-            name,
-            write_named(alloc, name, instance, problem, sinks.of_mut(name)),
-        )?;
+        in_sink(name, write_named(alloc, name, instance, sinks.of_mut(name)))?;
     }
     Ok(())
 }

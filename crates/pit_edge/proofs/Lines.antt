@@ -4,7 +4,7 @@ use Rattle.std.specs.List.{position_or_len}
 use Rattle.std.proofs.lemmas.Option.{cond_some}
 use Rattle.std.proofs.lemmas.Bool.Decides.{nat_tests}
 use Rattle.std.proofs.lemmas.List.{take_all, drop_all}
-use Rattle.pit_edge.specs.Pieces.{lines_of}
+use Rattle.pit_edge.specs.Pieces.{ended_lines}
 
 -- a byte that ends a line
 abbrev pub is_feed : ℕ → Bool
@@ -12,7 +12,7 @@ is_feed b = b == 10
 
 -- the first n bytes of a text are its first line
 abbrev pub BeginsWithLine : List ℕ → ℕ → Type 0
-BeginsWithLine text n = lines_of text ≡ take n text ∷ lines_of (drop n text)
+BeginsWithLine text n = ended_lines text ≡ take n text ∷ ended_lines (drop n text)
 
 -- the first line is what stands before the first LF, with that LF
 first_line : (b : ℕ) (bs : List ℕ) → BeginsWithLine (b ∷ bs) (suc (position_or_len is_feed (b ∷ bs)))

@@ -2,7 +2,7 @@
 use Rattle.std.proofs.Common.{◌≡◌, ℕ, ◌+◌, ◌-◌, ◌<◌, ◌≤◌, List, length, take, drop, Option, sym, subst, arith, length-drop, take-add, take_all}
 use Rattle.std.proofs.KnownBytes.{Appends-kept, Appends-nil, Appends-trans}
 use Rattle.std.specs.Io.KnownBytes.{Appends, Keeps}
-use Rattle.pit_edge.specs.WriteWhole.{IsAppendCut}
+use Rattle.pit_edge.specs.WriteWhole.{TakesLess}
 
 pub took_none : (a : Option (List ℕ)) (bytes : List ℕ) → Appends a a (take 0 bytes)
 took_none a bytes = Appends-nil a
@@ -19,5 +19,5 @@ pub took_all : (a b : Option (List ℕ)) (bytes : List ℕ) (n : ℕ) → length
 took_all a b bytes n all took = subst (Appends a b) (take_all n bytes all) took
 
 pub cut_short : (a b c : Option (List ℕ)) (bytes : List ℕ) (n : ℕ) → n < length bytes → Appends a b (take n bytes) → Keeps b c
-    → IsAppendCut a c bytes
+    → TakesLess a c bytes
 cut_short a b c bytes n few took kept = (n, few, Appends-kept a b c (take n bytes) took kept)

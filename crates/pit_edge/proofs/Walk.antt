@@ -4,22 +4,22 @@ use Rattle.std.specs.List.{concat, onto_first, slice_split}
 use Rattle.std.proofs.lemmas.List.{drop-drop}
 use Rattle.std.proofs.lemmas.List.Splits.{slice_split-cons_no, length-slice_split}
 use Rattle.std.proofs.Math.Seq.{take-add}
-use Rattle.pit_edge.specs.Pieces.{lines_of, is_cut, pieces_of, plan_of, zones_of}
+use Rattle.pit_edge.specs.Pieces.{ended_lines, is_cut, pieces_of, plan_piece, zone_pieces}
 use Rattle.pit_edge.proofs.Lines.{BeginsWithLine}
 
 -- no line before this place cuts the text
 pub record IsUncut (text : List ℕ) (place : ℕ) : Type 0 where
   pub within : place ≤ length text
-  pub plan : plan_of text ≡ take place text ++ plan_of (drop place text)
-  pub zones : zones_of text ≡ zones_of (drop place text)
+  pub plan : plan_piece text ≡ take place text ++ plan_piece (drop place text)
+  pub zones : zone_pieces text ≡ zone_pieces (drop place text)
 
 -- the pieces of some lines
 abbrev pieces_in : List (List ℕ) → List (List ℕ)
 pieces_in lines = map concat (slice_split is_cut lines)
 
 -- there is always a first piece
-pub pieces_first : (text : List ℕ) → pieces_of text ≡ plan_of text ∷ zones_of text
-pieces_first text = by_parts (slice_split is_cut (lines_of text)) (omega (arith, length-slice_split is_cut (lines_of text))) where
+pub pieces_first : (text : List ℕ) → pieces_of text ≡ plan_piece text ∷ zone_pieces text
+pieces_first text = by_parts (slice_split is_cut (ended_lines text)) (omega (arith, length-slice_split is_cut (ended_lines text))) where
   by_parts : (parts : List (List (List ℕ))) → 0 < length parts
       → map concat parts ≡ get_or (map concat parts) 0 [] ∷ drop 1 (map concat parts)
   by_parts [] some = absurd (omega arith)
@@ -37,9 +37,9 @@ uncut_line line lines e = rw (slice_split-cons_no is_cut line lines e) (by_parts
 pub uncut_on : (text : List ℕ) (place n : ℕ) → place + n ≤ length text → BeginsWithLine (drop place text) n
     → is_cut (take n (drop place text)) ≡ false → IsUncut text place → IsUncut text (place + n)
 uncut_on text place n within line e uncut =
-    let pieces : pieces_of (drop place text) ≡ (take n (drop place text) ++ plan_of (drop (place + n) text))
-    ∷ zones_of (drop (place + n) text)
-    = rw (← drop-drop n place text) (ap pieces_in line ∙ uncut_line (take n (drop place text)) (lines_of (drop n (drop place text))) e) in
+    let pieces : pieces_of (drop place text) ≡ (take n (drop place text) ++ plan_piece (drop (place + n) text))
+    ∷ zone_pieces (drop (place + n) text)
+    = rw (← drop-drop n place text) (ap pieces_in line ∙ uncut_line (take n (drop place text)) (ended_lines (drop n (drop place text))) e) in
     record {
       within = within;
       plan = uncut.plan ∙ ap (λ ps. take place text ++ get_or ps 0 []) pieces
@@ -58,14 +58,14 @@ steps_behind (Some rest) = 1 + length rest.now
 
 -- one piece more is cut off
 pub cut_on : (zones more cut : List (List ℕ)) (rest zone : List ℕ) (next : Option (Bor (List ℕ))) → zones ≡ more ++ pieces_of rest
-    → zone ≡ plan_of rest
-    → MatchOption next (zones_of rest ≡ []) (λ behind. zones_of rest ≡ pieces_of behind.now) → cut ≡ more ++ zone ∷ []
+    → zone ≡ plan_piece rest
+    → MatchOption next (zone_pieces rest ≡ []) (λ behind. zone_pieces rest ≡ pieces_of behind.now) → cut ≡ more ++ zone ∷ []
     → zones ≡ cut ++ pieces_behind next
 cut_on zones more cut rest zone next before first further push =
     let same : pieces_of rest ≡ zone ∷ pieces_behind next = rw (first, ← by_next next further) (pieces_first rest) in
     before ∙ rw (push, same) (sym (append_assoc more (zone ∷ []) (pieces_behind next))) where
-      by_next : (next : Option (Bor (List ℕ))) → MatchOption next (zones_of rest ≡ []) (λ behind. zones_of rest ≡ pieces_of behind.now)
-          → zones_of rest ≡ pieces_behind next
+      by_next : (next : Option (Bor (List ℕ))) → MatchOption next (zone_pieces rest ≡ []) (λ behind. zone_pieces rest ≡ pieces_of behind.now)
+          → zone_pieces rest ≡ pieces_behind next
       by_next None e = e
       by_next (Some behind) e = e
 

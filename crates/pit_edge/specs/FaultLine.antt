@@ -6,16 +6,16 @@ use Rattle.pit_edge.specs.declared.refused.Refused.{Refused}
 use Rattle.pit_edge.specs.declared.refused.Refused.TheVariants.{Run}
 
 -- a line of these words: the program's name before them and a line feed behind
-abbrev pub line_of : List ℕ → List ℕ
-line_of words = codes "pitc: " ++ words ++ 10 ∷ []
+abbrev pub program_line : List ℕ → List ℕ
+program_line words = codes "pitc: " ++ words ++ 10 ∷ []
 
 -- one line was appended
 abbrev pub AppendsLine : List ℕ → List ℕ → Type 0
-AppendsLine old new = (words : List ℕ) × (new ≡ old ++ line_of words)
+AppendsLine old new = (words : List ℕ) × (new ≡ old ++ program_line words)
 
 -- the run ends with this status, a line of these words appended; or with that of refused memory, and no line stands
 abbrev pub EndsWith : ℕ → List ℕ → List ℕ → List ℕ → ℕ → Type 0
-EndsWith status words old new answered = ((answered ≡ status) × (new ≡ old ++ line_of words)) ⊎ ((answered ≡ 4) × (new ≡ old))
+EndsWith status words old new answered = ((answered ≡ status) × (new ≡ old ++ program_line words)) ⊎ ((answered ≡ 4) × (new ≡ old))
 
 -- the same of a refusal, by its status and its words; where that is refused memory, no line stands
 abbrev pub Ends : Refused → List ℕ → List ℕ → ℕ → Type 0

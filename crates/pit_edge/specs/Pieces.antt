@@ -4,9 +4,9 @@ use Rattle.std.specs.List.{concat, onto_first, slice_index_or, slice_split}
 use Rattle.std.specs.Str.{bytes_eq}
 
 -- the lines of an input, each with the LF that ends it, which only the last may lack
-abbrev pub lines_of : List ℕ → List (List ℕ)
-lines_of [] = []
-lines_of (b ∷ bs) = if b == 10 then (b ∷ []) ∷ lines_of bs else onto_first b (lines_of bs)
+abbrev pub ended_lines : List ℕ → List (List ℕ)
+ended_lines [] = []
+ended_lines (b ∷ bs) = if b == 10 then (b ∷ []) ∷ ended_lines bs else onto_first b (ended_lines bs)
 
 -- a line cuts if it is `--`, ended by LF or by CR LF, or at the end of the input by nothing
 abbrev pub is_cut : List ℕ → Bool
@@ -14,19 +14,19 @@ is_cut line = bytes_eq line (codes "--" ++ 10 ∷ []) || bytes_eq line (codes "-
 
 -- the lines at which an input is cut
 abbrev pub cuts_of : List ℕ → List (List ℕ)
-cuts_of input = filter is_cut (lines_of input)
+cuts_of input = filter is_cut (ended_lines input)
 
 -- the bytes before, between and behind the cuts: one piece more than there are cuts
 abbrev pub pieces_of : List ℕ → List (List ℕ)
-pieces_of input = map concat (slice_split is_cut (lines_of input))
+pieces_of input = map concat (slice_split is_cut (ended_lines input))
 
 -- the first piece, which is always there
-abbrev pub plan_of : List ℕ → List ℕ
-plan_of input = slice_index_or (pieces_of input) 0 []
+abbrev pub plan_piece : List ℕ → List ℕ
+plan_piece input = slice_index_or (pieces_of input) 0 []
 
 -- the further pieces, one a zone file
-abbrev pub zones_of : List ℕ → List (List ℕ)
-zones_of input = drop 1 (pieces_of input)
+abbrev pub zone_pieces : List ℕ → List (List ℕ)
+zone_pieces input = drop 1 (pieces_of input)
 
 -- what `Pieces` holds
 pub record PiecesView : Type 0 where

@@ -6,11 +6,11 @@ use Rattle.devices.specs.declared.slurp.SlurpFault.TheVariants as slurp
 use Rattle.pit_compile.specs.FaultText.{refusal_text}
 use Rattle.pit_compile.specs.declared.refusal.Refusal.{Refusal}
 use Rattle.pit_compile.specs.declared.refusal.Refusal.TheVariants as refusal
-use Rattle.pit_model.specs.FaultText.{fault_text as plan_fault_text}
+use Rattle.pit_model.specs.FaultText.{plan_fault_text}
 use Rattle.pit_model.specs.declared.plan_fault.PlanFault.{PlanFault}
 use Rattle.pit_units.specs.declared.or_memory.OrMemory.{OrMemory}
 use Rattle.pit_units.specs.declared.or_memory.OrMemory.TheVariants as or_memory
-use Rattle.text_lines.specs.FaultText.{fault_text as text_fault_text, file_name}
+use Rattle.text_lines.specs.FaultText.{file_name, text_fault_text}
 use Rattle.text_lines.specs.declared.text_fault.TextFault.{TextFault}
 use Rattle.pit_edge.specs.declared.refused.Refused.{Refused}
 use Rattle.pit_edge.specs.declared.refused.Refused.TheVariants.{NotUtf8, FeedFailed, TooLong, Plan, Text, Run}

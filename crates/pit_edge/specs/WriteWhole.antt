@@ -3,12 +3,12 @@ use Rattle.std.specs.Prelude.{ℕ, ◌<◌, ◌⊎◌, List, [], ◌∷◌, ◌+
 use Rattle.std.specs.Io.KnownBytes.{Appends}
 
 -- it took a front of these bytes, and not all of them
-abbrev pub IsAppendCut : Option (List ℕ) → Option (List ℕ) → List ℕ → Type 0
-IsAppendCut old new bytes = (taken : ℕ) × (taken < length bytes) × Appends old new (take taken bytes)
+abbrev pub TakesLess : Option (List ℕ) → Option (List ℕ) → List ℕ → Type 0
+TakesLess old new bytes = (taken : ℕ) × (taken < length bytes) × Appends old new (take taken bytes)
 
 -- it took these bytes, or a front of them
-abbrev pub IsAppend : Option (List ℕ) → Option (List ℕ) → List ℕ → Type 0
-IsAppend old new bytes = Appends old new bytes ⊎ IsAppendCut old new bytes
+abbrev pub TakesAtMost : Option (List ℕ) → Option (List ℕ) → List ℕ → Type 0
+TakesAtMost old new bytes = Appends old new bytes ⊎ TakesLess old new bytes
 
 -- the lines that are told, or that memory was refused where there is none
 abbrev pub told_lines : List ℕ → List ℕ

@@ -2,7 +2,7 @@
 
 ghost use Rattle.std.specs.Prelude.{◌≡◌, ◌≤◌, ◌++◌, length, Ok, IfOk, IfErr, OnOk, OnErr};
 ghost use Rattle.pit_model.specs.Planned.{planned};
-ghost use Rattle.pit_edge.specs.FaultLine.{Ends, EndsBy, EndsRefused, line_of};
+ghost use Rattle.pit_edge.specs.FaultLine.{Ends, EndsBy, EndsRefused, program_line};
 ghost use Rattle.pit_edge.specs.PlanText.{IsNoPlan};
 ghost use Rattle.pit_edge.specs.Refused.{refused_text};
 ghost use Rattle.pit_parts.specs.declared.ranges.TheConstants.{MAX_PLAN_BYTES};
@@ -49,7 +49,7 @@ pub fn tell(alloc: Global, refused: &Refused, lines: &mut Vec<u8>) -> u8
 /// Appends the line of a refusal. Where memory is refused `lines` is as it was.
 pub fn append_line(alloc: Global, refused: &Refused, lines: &mut Vec<u8>) -> Result<(), AllocError>
     ensures ok { OnOk result
-        (lines.new.items ≡ lines.old.items ++ line_of (refused_text refused.now)) }
+        (lines.new.items ≡ lines.old.items ++ program_line (refused_text refused.now)) }
     ensures err { OnErr result (lines.new.items ≡ lines.old.items) }
 {
     let line = format!(in alloc; "pitc: {refused}\n")?;

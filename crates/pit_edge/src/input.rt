@@ -46,8 +46,12 @@ pub fn read_source<F: Feed>(
     limit: u64,
 ) -> Result<Vec<u8>, Refused>
     requires { limit ≤ GREATEST_LIMIT }
+
+    // What an answer holds.
     ensures whole { IfOk result (λ text. IfSome (F.left feed.old) (λ bytes. text.items ≡ bytes)) }
     ensures short { IfOk result (λ text. length text.items ≤ limit) }
+
+    // When each refusal comes.
     ensures refused { IfErr result (IsUnread source (F.left feed.old) limit) }
     ensures failed { IsErrOf result (Refused.FeedFailed source)
         → F.failures feed.new ≡ F.failures feed.old + 1 }

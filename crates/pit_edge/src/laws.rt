@@ -1,12 +1,12 @@
 //! Laws of the cutting of an input. Each of these functions does nothing: what holds of every input is its contract.
 ghost use Rattle.std.specs.Prelude.{◌≡◌, [], ◌∷◌, ◌++◌, length, codes, All};
-ghost use Rattle.pit_edge.specs.Pieces.{cuts_of, pieces_of, plan_of, zones_of, woven, IsEnded};
+ghost use Rattle.pit_edge.specs.Pieces.{cuts_of, pieces_of, plan_piece, zone_pieces, woven, IsEnded};
 
 /// The input is its plan, and then each cut with the zone file behind it.
 #[tactic(auto, using(crate::proofs::Walk::pieces_first, crate::proofs::Joined::zone_for_each_cut, crate::proofs::Joined::pieces_woven))]
 pub fn pieces_join_to_the_input(input: &[u8])
-    ensures first { pieces_of input.now ≡ plan_of input.now ∷ zones_of input.now }
-    ensures counted { length (zones_of input.now) ≡ length (cuts_of input.now) }
+    ensures first { pieces_of input.now ≡ plan_piece input.now ∷ zone_pieces input.now }
+    ensures counted { length (zone_pieces input.now) ≡ length (cuts_of input.now) }
     ensures whole { woven (pieces_of input.now) (cuts_of input.now) ≡ input.now }
 {}
 

@@ -4,7 +4,6 @@
 pub mod fault_line;
 pub mod input;
 pub mod laws;
-pub mod piece;
 pub mod pieces;
 pub mod plan_file;
 pub mod plan_text;

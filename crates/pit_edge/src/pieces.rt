@@ -1,11 +1,14 @@
 //! The cutting of the input of the pipe form into a plan and zone files, at the lines `--`.
 ghost use Rattle.std.specs.Prelude.{◌≡◌, ◌<◌, ◌≤◌, ◌==◌, [], ◌∷◌, length, take, drop, position, Ok, None, IfOk, IfSome, MatchOption};
-ghost use Rattle.pit_edge.specs.Pieces.{lines_of, is_cut, pieces_of, plan_of, zones_of};
+ghost use Rattle.pit_edge.specs.Pieces.{ended_lines, is_cut, pieces_of, plan_piece, zone_pieces};
 
-use crate::piece::Piece;
 use memchr::memchr;
+use pit_parts::listed::Listed;
 use std::alloc::{AllocError, Global};
 use std::marker::Model;
+
+/// The bytes of one text of the pipe's input, such as one zone file.
+pub type Piece = Listed<u8>;
 
 /// What an input is cut into: the plan, and the zone files in order.
 #[derive(Drop)]
@@ -43,8 +46,8 @@ impl Pieces {
 /// before the first such line is the plan, and behind each of them begins a zone file. Fails only where memory is
 /// refused.
 pub fn cut(alloc: Global, input: &[u8]) -> Result<Pieces, AllocError>
-    ensures plan { IfOk result (λ pieces. pieces.plan ≡ plan_of input.now) }
-    ensures zones { IfOk result (λ pieces. pieces.zones ≡ zones_of input.now) }
+    ensures plan { IfOk result (λ pieces. pieces.plan ≡ plan_piece input.now) }
+    ensures zones { IfOk result (λ pieces. pieces.zones ≡ zone_pieces input.now) }
 {
     match cut_at_most(alloc, input, input.len())? {
         Some(pieces) => Ok(pieces),
@@ -55,11 +58,11 @@ pub fn cut(alloc: Global, input: &[u8]) -> Result<Pieces, AllocError>
 /// Cuts an input as `cut` does, where that makes at most `most` zone files. Where it would make more the answer is
 /// `None`: so no more than `most` are ever held. Fails only where memory is refused.
 pub fn cut_at_most(alloc: Global, input: &[u8], most: usize) -> Result<Option<Pieces>, AllocError>
-    ensures plan { IfOk result (λ found. IfSome found (λ pieces. pieces.plan ≡ plan_of input.now)) }
+    ensures plan { IfOk result (λ found. IfSome found (λ pieces. pieces.plan ≡ plan_piece input.now)) }
     ensures zones { IfOk result (λ found. IfSome found
-        (λ pieces. pieces.zones ≡ zones_of input.now)) }
+        (λ pieces. pieces.zones ≡ zone_pieces input.now)) }
     ensures few { IfOk result (λ found. IfSome found (λ pieces. length pieces.zones ≤ most)) }
-    ensures more { result ≡ Ok None → most < length (zones_of input.now) }
+    ensures more { result ≡ Ok None → most < length (zone_pieces input.now) }
     ensures bytes { result ≡ Ok None → most < length input.now }
 {
     let (plan, mut behind) = first_piece(input);
@@ -78,7 +81,7 @@ pub fn cut_at_most(alloc: Global, input: &[u8], most: usize) -> Result<Option<Pi
 
 /// The plan of an input, as a part of the input itself. `cut` copies it.
 pub fn plan_text(input: &[u8]) -> &[u8]
-    ensures { result.now ≡ plan_of input.now }
+    ensures { result.now ≡ plan_piece input.now }
 {
     first_piece(input).0
 }
@@ -92,9 +95,9 @@ fn copied(alloc: Global, bytes: &[u8]) -> Result<Piece, AllocError>
 
 // The first piece of a text, and what stands behind the cut that ends it, if there is one.
 fn first_piece(text: &[u8]) -> (&[u8], Option<&[u8]>)
-    ensures first { result.0.now ≡ plan_of text.now }
-    ensures further { MatchOption result.1 (zones_of text.now ≡ [])
-        (λ rest. zones_of text.now ≡ pieces_of rest.now) }
+    ensures first { result.0.now ≡ plan_piece text.now }
+    ensures further { MatchOption result.1 (zone_pieces text.now ≡ [])
+        (λ rest. zone_pieces text.now ≡ pieces_of rest.now) }
     ensures shorter { IfSome result.1 (λ rest. length rest.now < length text.now) }
 {
     let mut at = 0;
@@ -112,7 +115,7 @@ fn first_piece(text: &[u8]) -> (&[u8], Option<&[u8]>)
 #[tactic(auto, using(crate::proofs::Lines::line_to_feed, crate::proofs::Lines::line_to_end))]
 fn first_line_len(text: &[u8]) -> usize
     requires { 0 < length text.now }
-    ensures line { lines_of text.now ≡ take result text.now ∷ lines_of (drop result text.now) }
+    ensures line { ended_lines text.now ≡ take result text.now ∷ ended_lines (drop result text.now) }
     ensures some { 0 < result }
     ensures within { result ≤ length text.now }
 {

@@ -1,7 +1,6 @@
 //! How the texts of an instance are printed into one vector.
 
 ghost use Rattle.std.specs.Prelude.{◌≡◌, ◌++◌, length, take, OnErr, OnOk};
-ghost use Rattle.mine_instance.specs.OfCpit.{cpit as cpit_of};
 ghost use Rattle.mine_instance.specs.Seen.{seen};
 ghost use Rattle.mine_instance.specs.Valid.{IsValid};
 ghost use Rattle.minelib_writing.specs.Texts.{ending_of, text_named};
@@ -9,9 +8,7 @@ ghost use Rattle.pit_edge.specs.Sections.{printed, section};
 
 use devices::section_sink::SectionSink;
 use devices::write_fault::WriteFault;
-use mine_instance::coef::Coef;
 use mine_instance::coef_list::CoefList;
-use mine_instance::cpit::{Cpit, CpitCoef};
 use mine_instance::instance::Instance;
 use minelib_writing::text_name::TextName;
 use minelib_writing::write_named;
@@ -20,21 +17,19 @@ use std::alloc::{AllocError, Global};
 use std::mem::replace;
 
 /// Appends the texts of an instance, each under its section line. Fails only where memory is refused, and then `out` is as it was.
-pub fn print<P: PredLists, C: CoefList<Coef = Coef>, D: CoefList<Coef = CpitCoef>>(
+pub fn print<P: PredLists, C: CoefList>(
     alloc: Global,
     instance: &Instance<P, C>,
-    cpit: &Cpit<D>,
     out: &mut Vec<u8>,
 ) -> Result<(), AllocError>
-    requires valid { IsValid (seen P.lists C.list instance.now) }
-    requires cpit { cpit.now ≡ cpit_of (seen P.lists C.list instance.now) }
+    requires { IsValid (seen P.lists C.list instance.now) }
     ensures ok { OnOk result
         (out.new.items ≡ out.old.items ++ printed (seen P.lists C.list instance.now)) }
     ensures err { OnErr result (out.new.items ≡ out.old.items) }
 {
     let kept = out.len();
     let mut sink = SectionSink::new(replace(out, Vec::new(alloc)));
-    let printed = print_sections(alloc, instance, cpit, &mut sink);
+    let printed = print_sections(alloc, instance, &mut sink);
     *out = sink.into_vec();
     if printed.is_err() {
         out.truncate(kept);
@@ -44,34 +39,30 @@ pub fn print<P: PredLists, C: CoefList<Coef = Coef>, D: CoefList<Coef = CpitCoef
 }
 
 // The same behind what a sink holds. Where it is refused, what stood before stands at the front.
-fn print_sections<P: PredLists, C: CoefList<Coef = Coef>, D: CoefList<Coef = CpitCoef>>(
+fn print_sections<P: PredLists, C: CoefList>(
     alloc: Global,
     instance: &Instance<P, C>,
-    cpit: &Cpit<D>,
     sink: &mut SectionSink,
 ) -> Result<(), WriteFault>
-    requires valid { IsValid (seen P.lists C.list instance.now) }
-    requires cpit { cpit.now ≡ cpit_of (seen P.lists C.list instance.now) }
+    requires { IsValid (seen P.lists C.list instance.now) }
     ensures ok { OnOk result (sink.new.before ++ sink.new.taken
         ≡ (sink.old.before ++ sink.old.taken) ++ printed (seen P.lists C.list instance.now)) }
     ensures err { OnErr result (take (length sink.old.before) sink.new.before ≡ sink.old.before) }
 {
     for name in TextName::all() {
-        print_section(alloc, name, instance, cpit, sink)?;
+        print_section(alloc, name, instance, sink)?;
     }
     Ok(())
 }
 
 // The same of the text of this name alone.
-fn print_section<P: PredLists, C: CoefList<Coef = Coef>, D: CoefList<Coef = CpitCoef>>(
+fn print_section<P: PredLists, C: CoefList>(
     alloc: Global,
     name: TextName,
     instance: &Instance<P, C>,
-    cpit: &Cpit<D>,
     sink: &mut SectionSink,
 ) -> Result<(), WriteFault>
-    requires valid { IsValid (seen P.lists C.list instance.now) }
-    requires cpit { cpit.now ≡ cpit_of (seen P.lists C.list instance.now) }
+    requires { IsValid (seen P.lists C.list instance.now) }
     ensures ok { OnOk result (sink.new.before ++ sink.new.taken
         ≡ (sink.old.before ++ sink.old.taken)
         ++ section (ending_of name) (text_named name (seen P.lists C.list instance.now))) }
@@ -79,5 +70,5 @@ fn print_section<P: PredLists, C: CoefList<Coef = Coef>, D: CoefList<Coef = Cpit
 {
     let line = format!(in alloc; "== {name}\n")?;
     sink.section(line.as_bytes())?;
-    write_named(alloc, name, instance, cpit, sink)
+    write_named(alloc, name, instance, sink)
 }

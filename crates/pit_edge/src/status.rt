@@ -3,7 +3,7 @@
 ghost use Rattle.std.specs.Io.KnownBytes.{Appends};
 ghost use Rattle.std.specs.Prelude.{◌≡◌, ◌≢◌, ◌⊎◌};
 ghost use Rattle.std.specs.Process.{exit_status};
-ghost use Rattle.pit_edge.specs.WriteWhole.{IsAppend, IsAppendCut, output_failed, told_lines};
+ghost use Rattle.pit_edge.specs.WriteWhole.{TakesAtMost, TakesLess, output_failed, told_lines};
 
 use crate::write_whole::write_whole;
 use std::io::Write;
@@ -36,21 +36,24 @@ pub fn finish<O: Write, E: Write>(
     text: &[u8],
     lines: &[u8],
 ) -> ExitCode
+    // Which status the program ends with, and what standard output then took.
     ensures refused { status ≢ 0 → exit_status result ≡ status }
     ensures quiet { status ≢ 0 → output.new ≡ output.old }
     ensures done { status ≡ 0 → (exit_status result ≡ 0) ⊎ (exit_status result ≡ 3) }
     ensures whole { status ≡ 0 → exit_status result ≡ 0
         → Appends (O.contents output.old) (O.contents output.new) text.now }
     ensures short { status ≡ 0 → exit_status result ≡ 3
-        → IsAppendCut (O.contents output.old) (O.contents output.new) text.now }
+        → TakesLess (O.contents output.old) (O.contents output.new) text.now }
+
+    // What standard error took.
     ensures still { exit_status result ≡ 0 → errors.new ≡ errors.old }
     ensures told { status ≢ 0
-        → IsAppend (E.contents errors.old) (E.contents errors.new) (told_lines lines.now) }
+        → TakesAtMost (E.contents errors.old) (E.contents errors.new) (told_lines lines.now) }
     ensures failed { status ≡ 0 → exit_status result ≡ 3
-        → IsAppend (E.contents errors.old) (E.contents errors.new) output_failed }
+        → TakesAtMost (E.contents errors.old) (E.contents errors.new) output_failed }
 {
     if status != 0 {
-        write_line(errors, lines_of(lines));
+        write_line(errors, lines_to_tell(lines));
         return ExitCode::from(status);
     }
     match write_whole(output, text) {
@@ -63,7 +66,7 @@ pub fn finish<O: Write, E: Write>(
 }
 
 // The lines to be told: these, or that memory was refused, where there is none.
-fn lines_of(lines: &[u8]) -> &[u8]
+fn lines_to_tell(lines: &[u8]) -> &[u8]
     ensures { result.now ≡ told_lines lines.now }
 {
     match lines {
@@ -74,7 +77,7 @@ fn lines_of(lines: &[u8]) -> &[u8]
 
 // Writes a line. Where that fails, a front of it was taken.
 fn write_line<E: Write>(errors: &mut E, line: &[u8])
-    ensures { IsAppend (E.contents errors.old) (E.contents errors.new) line.now }
+    ensures { TakesAtMost (E.contents errors.old) (E.contents errors.new) line.now }
 {
     let _ = write_whole(errors, line);
 }

@@ -2,7 +2,7 @@
 
 ghost use Rattle.std.specs.Io.KnownBytes.{Appends};
 ghost use Rattle.std.specs.Prelude.{OnErr, OnOk};
-ghost use Rattle.pit_edge.specs.WriteWhole.{IsAppendCut};
+ghost use Rattle.pit_edge.specs.WriteWhole.{TakesLess};
 
 use devices::single_write::write_some;
 use devices::sink::SinkFault;
@@ -18,7 +18,7 @@ pub fn write_whole<T: Write>(output: &mut T, bytes: &[u8]) -> Result<(), SinkFau
     ensures whole { OnOk result (Appends (T.contents output.old) (T.contents output.new)
         bytes.now) }
     ensures short { OnErr result
-        (IsAppendCut (T.contents output.old) (T.contents output.new) bytes.now) }
+        (TakesLess (T.contents output.old) (T.contents output.new) bytes.now) }
 {
     let mut taken = 0;
     while taken < bytes.len() {

@@ -6,9 +6,9 @@ use Rattle.clap.specs.declared.error.Error.{Error}
 use Rattle.clap.specs.declared.parser.matches.ArgMatches.{ArgMatches}
 use Rattle.pit_jobs.specs.CommandLine.{Finds, HandsOn, RefusesWords, StatesJob, base_word, capacity_word, check_words, compile_words, out_word, plan_word, program, top_words, valuers_word, zone_word}
 use Rattle.pit_jobs.specs.inner.Commands.{FindsIfAny}
-use Rattle.pit_jobs.specs.declared.jobs.Job.{Job}
-use Rattle.pit_jobs.specs.declared.jobs.JobFault.{JobFault}
-use Rattle.pit_jobs.specs.declared.jobs.JobFault.TheVariants.{OutOfMemory, Line}
+use Rattle.pit_jobs.specs.declared.job.Job.{Job}
+use Rattle.pit_jobs.specs.declared.job.JobFault.{JobFault}
+use Rattle.pit_jobs.specs.declared.job.JobFault.TheVariants.{OutOfMemory, Line}
 
 is_free : is_simple_and_free program ≡ true
 unfolding clap_on_literals program top_words compile_words check_words plan_word out_word valuers_word capacity_word zone_word base_word

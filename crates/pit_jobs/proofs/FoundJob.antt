@@ -3,8 +3,8 @@ use Rattle.std.proofs.Common.{◌≡◌, ◌∙◌, ◌<◌, List, [], ◌∷◌
 use Rattle.std.proofs.lemmas.List.{length-map}
 use Rattle.clap.specs.Words.{Row, Text, all_of, first_of}
 use Rattle.pit_jobs.specs.CommandLine.{Finds, FindsCompile, FindsSettings}
-use Rattle.pit_jobs.specs.declared.jobs.Job.{Job}
-use Rattle.pit_jobs.specs.declared.jobs.Job.TheVariants.{Check, Compile}
+use Rattle.pit_jobs.specs.declared.job.Job.{Job}
+use Rattle.pit_jobs.specs.declared.job.Job.TheVariants.{Check, Compile}
 use Rattle.pit_parts.specs.declared.settings.Settings.{Settings}
 
 -- the name and the rows of what was found

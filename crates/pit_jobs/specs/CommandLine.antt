@@ -6,10 +6,10 @@ use Rattle.clap.specs.Words.{App, IsAmong, Row, Rule, Text, all_of, fault_of, fi
 use Rattle.clap.specs.declared.builder.value_parser.ValueParser.TheVariants as parser
 use Rattle.clap.specs.declared.error.Error.{Error}
 use Rattle.clap.specs.declared.error.kind.ErrorKind.TheVariants as kind
-use Rattle.pit_jobs.specs.declared.jobs.Job.{Job}
-use Rattle.pit_jobs.specs.declared.jobs.Job.TheVariants.{Check, Compile}
-use Rattle.pit_jobs.specs.declared.jobs.JobFault.{JobFault}
-use Rattle.pit_jobs.specs.declared.jobs.JobFault.TheVariants.{OutOfMemory, Line}
+use Rattle.pit_jobs.specs.declared.job.Job.{Job}
+use Rattle.pit_jobs.specs.declared.job.Job.TheVariants.{Check, Compile}
+use Rattle.pit_jobs.specs.declared.job.JobFault.{JobFault}
+use Rattle.pit_jobs.specs.declared.job.JobFault.TheVariants.{OutOfMemory, Line}
 use Rattle.pit_parts.specs.declared.settings.Settings.{Settings}
 use Rattle.pit_parts.specs.declared.ranges.TheConstants.{MAX_CAPACITY, MAX_VALUERS}
 

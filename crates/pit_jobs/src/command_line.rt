@@ -6,6 +6,7 @@ ghost use Rattle.pit_jobs.specs.CommandLine.{base_word, capacity_word, check_wor
 ghost use Rattle.pit_jobs.specs.inner.Commands.{IsCommandOf};
 
 use clap::{Arg, Command, value_parser};
+use pit_parts::ranges::{MAX_CAPACITY, MAX_VALUERS};
 use std::alloc::{AllocError, Global};
 
 // The version, which the newest entry of CHANGELOG.md has too.
@@ -123,7 +124,7 @@ fn valuers_option<'a>(alloc: Global) -> Arg<'a>
         .long("valuers")
         .value_name("N")
         .default_value("4")
-        .value_parser(value_parser!(usize).range(1..=64))
+        .value_parser(value_parser!(usize).range(1..=MAX_VALUERS as i64))
         .help("How many threads value blocks, from 1 to 64")
 }
 
@@ -136,7 +137,7 @@ fn capacity_option<'a>(alloc: Global) -> Arg<'a>
         .long("capacity")
         .value_name("N")
         .default_value("64")
-        .value_parser(value_parser!(usize).range(1..=4096))
+        .value_parser(value_parser!(usize).range(1..=MAX_CAPACITY as i64))
         .help("How many blocks wait between the threads, from 1 to 4096")
 }
 

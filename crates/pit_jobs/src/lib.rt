@@ -3,4 +3,4 @@
 
 pub mod command_line;
 pub mod job;
-pub mod jobs;
+pub mod stated_job;

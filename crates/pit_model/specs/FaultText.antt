@@ -17,5 +17,5 @@ plan_kind_name kind.TooMany = codes "TooMany"
 plan_kind_name kind.Missing = codes "Missing"
 
 -- `plan row N: K`
-abbrev pub fault_text : PlanFault → List ℕ
-fault_text fault = codes "plan row " ++ (decimal fault.row ++ (codes ": " ++ plan_kind_name fault.kind))
+abbrev pub plan_fault_text : PlanFault → List ℕ
+plan_fault_text fault = codes "plan row " ++ (decimal fault.row ++ (codes ": " ++ plan_kind_name fault.kind))

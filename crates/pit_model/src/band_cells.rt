@@ -9,7 +9,7 @@ use crate::cells::Cells;
 use crate::numbers::{number_in, whole_in};
 use crate::plan_fault::PlanFaultKind;
 use pit_parts::band::Band;
-use pit_parts::ranges::MAX_RECOVERY;
+use pit_parts::ranges::{MAX_GRADE, MAX_RECOVERY};
 use pit_units::OrMemory;
 
 // The band of two cells: its start, and behind it its recovery.
@@ -19,7 +19,7 @@ fn band_in(cells: &Cells, place: usize) -> Result<Band, PlanFaultKind>
     ensures value { result ≡ band_by place cells.now }
     ensures in_range { IfOk result IsBand }
 {
-    let start = number_in(cells.at(place), 6, 0, 1_000_000_000_000)?;
+    let start = number_in(cells.at(place), 6, 0, i128::from(MAX_GRADE))?;
     let recovery = whole_in(cells.at(place + 1), 0, u32::from(MAX_RECOVERY))?;
     Ok(Band {
         start: start.millionths() as u64,

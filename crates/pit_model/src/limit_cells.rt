@@ -15,7 +15,7 @@ use crate::numbers::number_in;
 use crate::plan_fault::PlanFaultKind;
 use pit_parts::limit::{Bound, Limit};
 use pit_parts::ranges::MAX_TONNES;
-use pit_units::{Dec, OrMemory};
+use pit_units::{Dec, MILLIONTHS, OrMemory};
 
 fn is_letter(cell: &[u8], letter: &[u8]) -> bool
     ensures { result ≡ bytes_eq cell.now letter.now }
@@ -36,8 +36,8 @@ pub fn period_in(periods: u8, cell: &[u8]) -> Result<u8, PlanFaultKind>
     ensures value { ReadAs whole result (read_field plan_kind (below periods) cell.now) }
     ensures there { IfOk result (λ n. n < periods) }
 {
-    let number = number_in(cell, 0, 0, periods as i128 * 1_000_000 - 1)?;
-    Ok((number.millionths().unsigned_abs() / 1_000_000) as u8)
+    let number = number_in(cell, 0, 0, periods as i128 * MILLIONTHS - 1)?;
+    Ok(number.whole() as u8)
 }
 
 fn tonnes_in(cell: &[u8]) -> Result<Dec, PlanFaultKind>

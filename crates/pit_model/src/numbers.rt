@@ -6,7 +6,7 @@ ghost use Rattle.pit_model.specs.inner.ByPlace.{ReadAs};
 ghost use Rattle.pit_model.specs.PlanCells.{plan_kind};
 
 use crate::plan_fault::PlanFaultKind;
-use pit_units::{Dec, parse_within};
+use pit_units::{Dec, MILLIONTHS, parse_within};
 
 /// The number that a cell states, with at most so many decimals and from `low` to `high` millionths.
 pub fn number_in(cell: &[u8], decimals: u8, low: i128, high: i128) -> Result<Dec, PlanFaultKind>
@@ -24,6 +24,6 @@ pub fn whole_in(cell: &[u8], low: u32, high: u32) -> Result<u32, PlanFaultKind>
     ensures value { ReadAs whole result (read_field plan_kind (between low high) cell.now) }
     ensures in_range { IfOk result (λ n. (low ≤ n) × (n ≤ high)) }
 {
-    let number = number_in(cell, 0, low as i128 * 1_000_000, high as i128 * 1_000_000)?;
-    Ok((number.millionths().unsigned_abs() / 1_000_000) as u32)
+    let number = number_in(cell, 0, low as i128 * MILLIONTHS, high as i128 * MILLIONTHS)?;
+    Ok(number.whole() as u32)
 }

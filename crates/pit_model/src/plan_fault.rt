@@ -41,18 +41,18 @@ impl fmt::Display for PlanFaultKind {
     ghost output = { λ kind. Some (plan_kind_name kind) };
 
     fn fmt<W: fmt::Write>(&self, f: &mut fmt::Formatter<W>) -> fmt::Result {
-        match self {
-            PlanFaultKind::Key => f.write_str("Key"),
-            PlanFaultKind::Width => f.write_str("Width"),
-            PlanFaultKind::Number => f.write_str("Number"),
-            PlanFaultKind::TooFine => f.write_str("TooFine"),
-            PlanFaultKind::Range => f.write_str("Range"),
-            PlanFaultKind::Name => f.write_str("Name"),
-            PlanFaultKind::Twice => f.write_str("Twice"),
-            PlanFaultKind::Order => f.write_str("Order"),
-            PlanFaultKind::TooMany => f.write_str("TooMany"),
-            PlanFaultKind::Missing => f.write_str("Missing"),
-        }
+        f.write_str(match self {
+            PlanFaultKind::Key => "Key",
+            PlanFaultKind::Width => "Width",
+            PlanFaultKind::Number => "Number",
+            PlanFaultKind::TooFine => "TooFine",
+            PlanFaultKind::Range => "Range",
+            PlanFaultKind::Name => "Name",
+            PlanFaultKind::Twice => "Twice",
+            PlanFaultKind::Order => "Order",
+            PlanFaultKind::TooMany => "TooMany",
+            PlanFaultKind::Missing => "Missing",
+        })
     }
 }
 
@@ -82,9 +82,9 @@ pub struct PlanFault {
 
 impl fmt::Display for PlanFault {
     ghost use Rattle.std.specs.Prelude.{Some};
-    ghost use Rattle.pit_model.specs.FaultText.{fault_text};
+    ghost use Rattle.pit_model.specs.FaultText.{plan_fault_text};
 
-    ghost output = { λ fault. Some (fault_text fault) };
+    ghost output = { λ fault. Some (plan_fault_text fault) };
 
     fn fmt<W: fmt::Write>(&self, f: &mut fmt::Formatter<W>) -> fmt::Result {
         let PlanFault { row, kind } = self;

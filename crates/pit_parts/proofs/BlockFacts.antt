@@ -2,7 +2,8 @@
 use Rattle.std.specs.Prelude.{◌≡◌, ℕ, ◌<◌, ◌≤◌, ◌^◌, min}
 use Rattle.std.proofs.Common.{subst, arith}
 use Rattle.std.proofs.Math.Bridge.{le_prop}
-use Rattle.pit_parts.specs.Block.{block_with}
+use Rattle.std.proofs.Math.Nat.{min-le_right}
+use Rattle.pit_parts.specs.Block.{block_with, least_below}
 use Rattle.pit_parts.specs.BlockParts.{AreInRange, HasParts}
 use Rattle.pit_parts.specs.declared.block.Block.{Block}
 
@@ -21,12 +22,12 @@ within_same most = kept_same (λ k. k ≤ most) (λ k p q. le_prop p q)
 pub block_again : (b : Block) → block_with b.x b.y b.z b.kg b.grade b.zone ≡ b
 unfolding block_with
 block_again b =
-    let x = below_same 10000 (min b.x 9999) b.x (omega (arith, b.x_in_grid)) (omega arith) b.x_in_grid in
-    let y = below_same 10000 (min b.y 9999) b.y (omega (arith, b.y_in_grid)) (omega arith) b.y_in_grid in
-    let z = below_same 10000 (min b.z 9999) b.z (omega (arith, b.z_in_grid)) (omega arith) b.z_in_grid in
-    let kg = within_same (10 ^ 9) (min b.kg (10 ^ 9)) b.kg (omega (arith, b.kg_in_range)) (omega arith) b.kg_in_range in
-    let grade = within_same (10 ^ 12) (min b.grade (10 ^ 12)) b.grade (omega (arith, b.grade_in_range)) (omega arith) b.grade_in_range in
-    let zone = below_same 64 (min b.zone 63) b.zone (omega (arith, b.zone_in_range)) (omega arith) b.zone_in_range in
+    let x = below_same 10000 (min b.x 9999) b.x (omega (arith, b.x_in_grid)) (least_below b.x 9999) b.x_in_grid in
+    let y = below_same 10000 (min b.y 9999) b.y (omega (arith, b.y_in_grid)) (least_below b.y 9999) b.y_in_grid in
+    let z = below_same 10000 (min b.z 9999) b.z (omega (arith, b.z_in_grid)) (least_below b.z 9999) b.z_in_grid in
+    let kg = within_same (10 ^ 9) (min b.kg (10 ^ 9)) b.kg (omega (arith, b.kg_in_range)) (min-le_right b.kg (10 ^ 9)) b.kg_in_range in
+    let grade = within_same (10 ^ 12) (min b.grade (10 ^ 12)) b.grade (omega (arith, b.grade_in_range)) (min-le_right b.grade (10 ^ 12)) b.grade_in_range in
+    let zone = below_same 64 (min b.zone 63) b.zone (omega (arith, b.zone_in_range)) (least_below b.zone 63) b.zone_in_range in
     λ i. record {
       x = (x i).0;
       y = (y i).0;

@@ -1,9 +1,12 @@
 //! A decimal number.
 
-ghost use Rattle.std.specs.Prelude.{◌≡◌, ◌≤◌, ◌^◌, ◌↔◌, IsSome, IfSome, unsigned_abs};
+ghost use Rattle.std.specs.Prelude.{◌≡◌, ◌≤◌, ◌/◌, ◌^◌, ◌↔◌, IsSome, IfSome, unsigned_abs};
 
 use std::fmt;
 use std::marker::Model;
+
+/// How many millionths one is.
+pub const MILLIONTHS: i128 = 1_000_000;
 
 // The most millionths that a decimal counts, either side of zero: 10^18 as a number.
 const MOST: u128 = 1_000_000_000_000_000_000_000_000;
@@ -58,6 +61,13 @@ impl Dec {
     {
         let raised = u128::from(self.high) * HALF + u128::from(self.low);
         raised as i128 - MOST as i128
+    }
+
+    /// The whole number in the decimal, without its sign and its decimals.
+    pub fn whole(self) -> u64
+        ensures { result ≡ unsigned_abs self / 10 ^ 6 }
+    {
+        (self.millionths().unsigned_abs() / MILLIONTHS as u128) as u64
     }
 }
 

@@ -9,9 +9,9 @@ mod or_memory;
 mod reading;
 mod writing;
 
-pub use decimal::Dec;
+pub use decimal::{Dec, MILLIONTHS};
 pub use fault::DecFault;
 pub use front::{front_dec, front_whole};
 pub use or_memory::OrMemory;
-pub use reading::{parse_dec, parse_within};
-pub use writing::put_dec;
+pub use reading::{after, parse_dec, parse_within};
+pub use writing::{append_front, put_dec};

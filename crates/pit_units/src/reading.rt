@@ -108,8 +108,8 @@ fn first_point(text: &[u8]) -> usize
     text.len()
 }
 
-// The bytes from a place on, if there are any.
-fn after(text: &[u8], place: usize) -> &[u8]
+/// The bytes from a place on, if there are any.
+pub fn after(text: &[u8], place: usize) -> &[u8]
     ensures { result.now ≡ drop place text.now }
 {
     text.get(place..).unwrap_or(&[])

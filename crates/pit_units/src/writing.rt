@@ -26,9 +26,10 @@ pub fn put_dec(_alloc: Global, out: &mut Vec<u8>, dec: Dec) -> Result<(), AllocE
     append_front(out, &room[start..start + LONGEST], end - start)
 }
 
-// Appends the first few of some bytes. All are copied, and the others taken off again: a copy of a known length needs no call.
+/// Appends the first few of some bytes. All are copied, and the others taken off again: where it is known how many they are, the copy
+/// needs no call. Where memory is refused `out` is as it was.
 #[inline(always)]
-fn append_front(out: &mut Vec<u8>, bytes: &[u8], count: usize) -> Result<(), AllocError>
+pub fn append_front(out: &mut Vec<u8>, bytes: &[u8], count: usize) -> Result<(), AllocError>
     requires { count ≤ length bytes.now }
     ensures ok { OnOk result (out.new.items ≡ out.old.items ++ take count bytes.now) }
     ensures err { OnErr result (out.new.items ≡ out.old.items) }

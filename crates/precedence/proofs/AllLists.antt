@@ -15,9 +15,9 @@ use Rattle.precedence.specs.inner.FoundFields.{found_in, KeepsFound}
 use Rattle.precedence.specs.inner.Lists.{in_cone, in_cones}
 use Rattle.precedence.specs.inner.Rows.{is_in_rows, AreInOrder, IsWithin}
 use Rattle.precedence.specs.inner.ZoneTables.{HasTables, IsTold}
-use Rattle.precedence.specs.declared.cone_table.ConeTable.{ConeTable}
-use Rattle.precedence.specs.declared.cone_rows.Extent.{Extent}
-use Rattle.precedence.specs.declared.found_preds.FoundPreds.TheInside.{Inside}
+use Rattle.precedence.specs.declared.cones.cone_table.ConeTable.{ConeTable}
+use Rattle.precedence.specs.declared.cones.cone_rows.Extent.{Extent}
+use Rattle.precedence.specs.declared.lists.found_preds.FoundPreds.TheInside.{Inside}
 
 -- an element that is there meets what all meet
 pub all_at : {X : Type 0} (P : X → Type 0) (xs : List X) (k : ℕ) (x : X) → All P xs → k < length xs → slice_get xs k ≡ Some x → P x

@@ -11,8 +11,8 @@ use Rattle.precedence.specs.Codes.{place_code}
 use Rattle.precedence.specs.Cone.{is_above, is_within_slopes, slope_along_x, slope_along_y}
 use Rattle.precedence.specs.inner.Reach.{CountsRow, slope_across}
 use Rattle.precedence.specs.inner.Rows.{center, is_in_row}
-use Rattle.precedence.specs.declared.cone_rows.Counts.{Counts}
-use Rattle.precedence.specs.declared.cone_rows.Row.{Row}
+use Rattle.precedence.specs.declared.cones.cone_rows.Counts.{Counts}
+use Rattle.precedence.specs.declared.cones.cone_rows.Row.{Row}
 
 -- `high` lies in the row i of the bench dz above `low`
 pub record IsAt (rows dz i : ℕ) (low high : Block) : Type 0 where

@@ -4,6 +4,7 @@ pub mod Identifiers
 pub mod Order
 pub mod Pieces
 pub mod PlacesWhere
+pub mod RunLists
 pub mod RunsOfRows
 pub mod SeenPlaces
 pub mod Reaches

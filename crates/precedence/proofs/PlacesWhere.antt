@@ -1,5 +1,5 @@
 -- The numbers of elements: one more, and of those that pass a test as a filter of all numbers.
-use Rattle.std.proofs.Common.{◌≡◌, ℕ, suc, ◌+◌, ◌<◌, Bool, false, List, [], ◌∷◌, ◌++◌, filter, length, length-take-le, take, get_or, refl, sym, ap, ◌∙◌, arith, if◌then◌else◌}
+use Rattle.std.proofs.Common.{◌≡◌, ℕ, suc, ◌+◌, ◌<◌, ◌≤◌, Bool, true, false, List, [], ◌∷◌, ◌++◌, filter, length, length-take-le, take, get_or, refl, sym, ap, ◌∙◌, arith, if◌then◌else◌}
 use Rattle.std.specs.List.{enumerate_from, range_with_len}
 use Rattle.std.proofs.lemmas.List.{get_or_default, take_more}
 use Rattle.precedence.specs.Cone.{places_where}
@@ -38,3 +38,13 @@ pub where_at : {X : Type 0} (test : X → Bool) (d : X) (xs : List X)
     → places_where test 0 xs ≡ filter (λ k. test (get_or xs k d)) (range_with_len 0 (length xs))
 where_at test d xs = where_filter test (λ k. test (get_or xs k d)) 0 xs (λ i e lt.
     let here : i ≡ 0 + i = omega arith in ap test (get_or_default xs i e d lt ∙ ap (λ k. get_or xs k d) here))
+
+-- no more numbers than elements
+pub length-places_where : {X : Type 0} (test : X → Bool) (n : ℕ) (xs : List X) → length (places_where test n xs) ≤ length xs
+length-places_where test n [] = omega arith
+length-places_where test n (x ∷ xs) = one (test x) (length-places_where test (n + 1) xs)
+  where
+    one : (t : Bool) → length (places_where test (n + 1) xs) ≤ length xs
+        → length (if t then n ∷ places_where test (n + 1) xs else places_where test (n + 1) xs) ≤ length (x ∷ xs)
+    one true rest = omega (arith, rest)
+    one false rest = omega (arith, rest)

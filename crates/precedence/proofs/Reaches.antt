@@ -4,7 +4,7 @@ use Rattle.std.proofs.Math.Nat.{mul-le-mul, mul-le-mul_right}
 use Rattle.std.proofs.lemmas.Bool.{cases_lt, cases_Bool, lt-ltb, le-ltb, leb-true, le-leb}
 use Rattle.precedence.specs.Cone.{square}
 use Rattle.precedence.specs.inner.Reach.{takes_in, CountsAll}
-use Rattle.precedence.specs.declared.cone_rows.Reach.{Reach}
+use Rattle.precedence.specs.declared.cones.cone_rows.Reach.{Reach}
 
 pub size_times : (s a : ℕ) → s ≤ 10 ^ 5 → a ≤ 1000 → s * a ≤ 10 ^ 8
 size_times s a h k = mul-le-mul h k

@@ -1,17 +1,15 @@
 -- The identifiers in rows are the runs of the rows, one after the other.
-use Rattle.std.proofs.Common.{◌≡◌, ℕ, zero, suc, ◌+◌, ◌-◌, ◌<◌, ◌≤◌, ◌&&◌, ◌||◌, Bool, true, false, List, [], ◌∷◌, ◌++◌, filter, length, take, drop, get_or, nat_lt, nat_le, max, refl, sym, ap, subst, ◌∙◌, arith, length-drop, length-take, ⊎_elim, if◌then◌else◌}
+use Rattle.std.proofs.Common.{◌≡◌, ℕ, zero, suc, ◌+◌, ◌-◌, ◌<◌, ◌≤◌, ◌&&◌, ◌||◌, Bool, true, false, List, [], ◌∷◌, ◌++◌, filter, length, drop, get_or, nat_lt, nat_le, max, refl, sym, ap, subst, ◌∙◌, arith, length-drop, ⊎_elim, if◌then◌else◌}
 use Rattle.std.specs.List.{range_with_len}
 use Rattle.std.specs.List.Sorted.{IsStrictlyIncreasing}
 use Rattle.std.proofs.Math.Bool.{and-false}
 use Rattle.std.proofs.Math.Seq.{drop-cons}
-use Rattle.std.proofs.lemmas.Grind.{same_number_lists}
-use Rattle.std.proofs.lemmas.List.{drop-map, get_or-drop, get_or-take, drop-drop}
-use Rattle.std.proofs.lemmas.List.FromFn.{get_or-range_with_len, length-range_with_len}
+use Rattle.std.proofs.lemmas.List.{drop-map, get_or-drop, drop-drop}
 use Rattle.std.proofs.lemmas.Bool.{cases_lt, lt-ltb, le-ltb, le-leb, lt-leb, or_parts}
 use Rattle.precedence.specs.Cone.{places_where}
 use Rattle.precedence.specs.inner.Rows.{is_in_row, is_in_rows, pasts, start_of, AreApart}
 use Rattle.precedence.specs.inner.Search.{run}
-use Rattle.precedence.specs.declared.cone_rows.Row.{Row}
+use Rattle.precedence.specs.declared.cones.cone_rows.Row.{Row}
 use Rattle.precedence.proofs.PlacesWhere.{nowhere, where_at}
 use Rattle.precedence.proofs.Starts.{from_start, no_less, start_before_in, start_grows, start_within}
 
@@ -22,24 +20,6 @@ range_more a zero k is = ap (λ k. k ∷ []) (omega arith)
 range_more a (suc n) k is =
     let more : suc n + 1 ≡ suc (n + 1) = omega arith in
     ap (range_with_len a) more ∙ ap (λ xs. a ∷ xs) (range_more (a + 1) n k (omega arith))
-
-pub part_of_range : (n first past : ℕ) → first ≤ past → past ≤ n
-    → take (past - first) (drop first (range_with_len 0 n)) ≡ range_with_len first (past - first)
-part_of_range n first past le within =
-    let rest = drop first (range_with_len 0 n) in
-    let long : length (take (past - first) rest) ≡ past - first =
-    omega (arith, length-take (past - first) rest, length-drop first (range_with_len 0 n), length-range_with_len 0 n) in
-    same_number_lists (take (past - first) rest) (range_with_len first (past - first)) (long ∙ sym (length-range_with_len first (past - first)))
-    (λ k lt.
-    omega (
-      arith,
-      get_or-take (past - first) rest k 0 (omega (arith, long)),
-      get_or-drop first (range_with_len 0 n) k 0,
-      get_or-range_with_len 0 n (first + k) 0 (omega (arith, long)),
-      get_or-range_with_len first (past - first) k 0 (omega (arith, long)),
-    ))
-
-pub ruleset parts = (part_of_range, length-range_with_len)
 
 -- what passes a test is a run and, behind it, what passes another test
 filter_run : (p q : ℕ → Bool) (a b n m : ℕ) → ((k : ℕ) → k < a → p k ≡ false) → ((k : ℕ) → a ≤ k → k < b → p k ≡ true)

@@ -10,9 +10,9 @@ use Rattle.precedence.specs.Codes.{place_code}
 use Rattle.precedence.specs.Cone.{is_above}
 use Rattle.precedence.specs.inner.Reach.{CountsRow}
 use Rattle.precedence.specs.inner.Rows.{center, edge, is_in_row, is_in_rows, AreApart, IsWithin, Tells, IsTable}
-use Rattle.precedence.specs.declared.cone_rows.Extent.{Extent}
-use Rattle.precedence.specs.declared.cone_rows.Counts.{Counts}
-use Rattle.precedence.specs.declared.cone_rows.Row.{Row}
+use Rattle.precedence.specs.declared.cones.cone_rows.Extent.{Extent}
+use Rattle.precedence.specs.declared.cones.cone_rows.Counts.{Counts}
+use Rattle.precedence.specs.declared.cones.cone_rows.Row.{Row}
 use Rattle.precedence.proofs.Geometry.{IsAt, row_told}
 
 -- ---- rows at the end

@@ -2,8 +2,8 @@
 use Rattle.std.specs.Prelude.{List}
 use Rattle.pit_parts.specs.declared.block.Block.{Block}
 use Rattle.precedence.specs.Identifier.{IsFirstAgain}
-use Rattle.precedence.specs.declared.number_fault.NumberFault.{NumberFault}
-use Rattle.precedence.specs.declared.number_fault.NumberFault.TheVariants.{Same, OutOfMemory}
+use Rattle.precedence.specs.declared.numbering.number_fault.NumberFault.{NumberFault}
+use Rattle.precedence.specs.declared.numbering.number_fault.NumberFault.TheVariants.{Same, OutOfMemory}
 
 -- the two positions of the first repetition; of memory nothing is known
 abbrev pub IsReason : List Block → NumberFault → Type 0

@@ -8,6 +8,12 @@ ghost use Rattle.pit_parts.specs.declared.ranges.TheConstants.{MAX_BLOCKS};
 use pit_parts::block::Block;
 use std::marker::Model;
 
+pub mod listed_blocks;
+pub mod number_by_place;
+pub mod number_fault;
+pub mod number_rows;
+pub mod place_hashes;
+
 /// The blocks of a model in the order of their identifiers, 0, 1, 2, .., and the position of each in the list that was numbered.
 /// Contracts see it as the record of the two.
 #[derive(Debug, Drop)]

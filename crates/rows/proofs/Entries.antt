@@ -1,35 +1,75 @@
--- Items whose worths stand in one list, when worths are appended to it.
-use Rattle.std.proofs.Common.{◌≡◌, ℤ, List, [], ◌∷◌, ◌++◌, map, refl, sym, ap, ◌∙◌, arith, length-append}
-use Rattle.std.specs.List.{All}
-use Rattle.std.proofs.lemmas.List.{map-append}
-use Rattle.rows.specs.declared.item.Item.{Item}
+-- Items whose worths stand in one list, of each item as many.
+use Rattle.std.proofs.Common.{◌≡◌, ℕ, zero, suc, ◌+◌, ◌*◌, ◌<◌, ◌≤◌, ℤ, List, [], ◌∷◌, ◌++◌, length, take, drop, refl, sym, ap, ◌∙◌, arith, zero-mul, pos, length-append, length-drop, length-take-le}
+use Rattle.std.specs.List.{slice_get}
+use Rattle.std.specs.Option.{option_map}
+use Rattle.std.proofs.Math.Nat.{mul-le-mul_right}
+use Rattle.std.proofs.lemmas.List.{drop-drop, drop-append-le, length-replicate, take_all, take-append-le}
 use Rattle.rows.specs.declared.entry.Entry.{Entry}
-use Rattle.rows.specs.declared.entry.Entry.TheVariants.{Row, End}
-use Rattle.rows.specs.inner.Entries.{item_of, IsKept}
-use Rattle.rows.proofs.Heads.{own_kept, seen_alike}
+use Rattle.rows.specs.declared.item.Item.{Item}
+use Rattle.rows.specs.declared.item.Item.TheVariants as item
+use Rattle.rows.specs.Packed.{IsOfWidth}
+use Rattle.rows.specs.inner.Entries.{item_with, items_of, kept_worths}
 
-item_kept : (ws more : List ℤ) (e : Entry) → IsKept ws e → item_of (ws ++ more) e ≡ item_of ws e
-item_kept ws more (Row file count place from block) held =
-    rw (own_kept ws more from count held.2) refl
-item_kept ws more (End file rows) held = refl
+pub length-items_of : (width : ℕ) (ws : List ℤ) (es : List Entry) → length (items_of width ws es) ≡ length es
+length-items_of width ws [] = refl
+length-items_of width ws (e ∷ es) = ap suc (length-items_of width (drop width ws) es)
 
-items_kept : (ws more : List ℤ) (es : List Entry) → All (IsKept ws) es → map (item_of (ws ++ more)) es ≡ map (item_of ws) es
-items_kept ws more es kept = seen_alike (IsKept ws) (item_of (ws ++ more)) (item_of ws) (item_kept ws more) es kept
+-- the worths of an entry end where those of the next one begin
+pub own_within : (i n width : ℕ) → i < n → i * width + width ≤ n * width
+own_within i n width h = grind (arith, mul-le-mul_right)
 
-item_appended : (ws more : List ℤ) (es : List Entry) (e : Entry) → All (IsKept ws) es
-    → map (item_of (ws ++ more)) (es ++ e ∷ []) ≡ map (item_of ws) es ++ item_of (ws ++ more) e ∷ []
-item_appended ws more es e kept =
-    map-append (item_of (ws ++ more)) es (e ∷ [])
-    ∙ ap (λ items. items ++ item_of (ws ++ more) e ∷ []) (items_kept ws more es kept)
+-- the worths behind those of the first entry
+rest_whole : (n width : ℕ) (ws : List ℤ) → length ws ≡ suc n * width → length (drop width ws) ≡ n * width
+rest_whole n width ws whole = grind (arith, length-drop)
 
--- what is kept is kept among more
-kept_more : (ws more : List ℤ) (e : Entry) → IsKept ws e → IsKept (ws ++ more) e
-kept_more ws more (Row file count place from block) held = (held.0, held.1, let both = length-append ws more in omega arith)
-kept_more ws more (End file rows) held = tt
+-- each entry has as many worths
+pub own_long : (width : ℕ) (ws : List ℤ) (n i : ℕ) → length ws ≡ n * width → i < n → length (take width (drop (i * width) ws)) ≡ width
+own_long width ws n i whole within =
+    let room = own_within i n width within in
+    length-take-le width (drop (i * width) ws) (omega (arith, length-drop (i * width) ws))
 
--- the items, where some worths were appended and then an entry
-module _ (ws now more : List ℤ) (es : List Entry) (items : List Item) (is_now : now ≡ ws ++ more) (were : map (item_of ws) es ≡ items)
-    (kept : All (IsKept ws) es) where
-  pub pushed : (later : List Entry) (e : Entry) (item : Item) → later ≡ es ++ e ∷ [] → item_of now e ≡ item →
-      map (item_of now) later ≡ items ++ item ∷ []
-  pushed later e item is_later is_item = rw (is_later, sym is_item, is_now, sym were) (item_appended ws more es e kept)
+kept_long : (width : ℕ) (item : Item) → IsOfWidth width item → length (kept_worths width item) ≡ width
+kept_long width (item.Row v) fits = fits.0
+kept_long width (item.End file rows) fits = length-replicate width (pos 0)
+
+pub item_at : (width : ℕ) (ws : List ℤ) (es : List Entry) (i : ℕ) →
+    slice_get (items_of width ws es) i ≡ option_map (item_with (take width (drop (i * width) ws))) (slice_get es i)
+item_at width ws [] i = refl
+item_at width ws (e ∷ es) zero = rw zero-mul refl
+item_at width ws (e ∷ es) (suc i) =
+    item_at width (drop width ws) es i
+    ∙ ap (λ own. option_map (item_with (take width own)) (slice_get es i))
+    (drop-drop (i * width) width ws ∙ ap (λ k. drop k ws) (grind arith))
+
+pub items_push : (width : ℕ) (ws own : List ℤ) (es : List Entry) (e : Entry) → length ws ≡ length es * width → length own ≡ width
+    → items_of width (ws ++ own) (es ++ e ∷ []) ≡ items_of width ws es ++ item_with own e ∷ []
+items_push width [] own [] e whole wide = ap (λ o. item_with o e ∷ []) (take_all width own (omega arith))
+items_push width (w ∷ ws) own [] e whole wide = absurd (grind (arith))
+items_push width ws own (x ∷ es) e whole wide =
+    let within : width ≤ length ws = grind arith in
+    rw (take-append-le width ws own within, drop-append-le width ws own within)
+    (ap (λ items. item_with (take width ws) x ∷ items)
+    (items_push width (drop width ws) own es e (rest_whole (length es) width ws whole) wide))
+
+whole_more : (all n width later after : ℕ) → all ≡ n * width → later ≡ all + width → after ≡ n + 1 → later ≡ after * width
+whole_more all n width later after whole is_later is_after = rw is_after (next all n width later whole is_later)
+  where
+    next : (all n width later : ℕ) → all ≡ n * width → later ≡ all + width → later ≡ (n + 1) * width
+    next all n width later whole is_later = grind arith
+
+-- the list and its worths, where one item more was kept
+module _ (width : ℕ) (ws later : List ℤ) (es after : List Entry) (item : Item) (e : Entry) (whole : length ws ≡ length es * width)
+    (fits : IsOfWidth width item) (is_later : later ≡ ws ++ kept_worths width item) (is_after : after ≡ es ++ e ∷ []) where
+  pub still_whole : length later ≡ length after * width
+  still_whole =
+      ap length is_later
+      ∙ whole_more (length ws) (length es) width (length (ws ++ kept_worths width item)) (length (es ++ e ∷ [])) whole
+      (length-append ws (kept_worths width item) ∙ ap (λ n. length ws + n) (kept_long width item fits)) (length-append es (e ∷ []))
+      ∙ ap (λ after. length after * width) (sym is_after)
+
+  pub one_more : item_with (kept_worths width item) e ≡ item → items_of width later after ≡ items_of width ws es ++ item ∷ []
+  one_more is =
+      rw (is_later, is_after) (items_push width ws (kept_worths width item) es e whole (kept_long width item fits)
+      ∙ ap (λ i. items_of width ws es ++ i ∷ []) is)
+
+pub ruleset entries = (length-items_of, own_within, item_at)

@@ -2,7 +2,6 @@
 use Rattle.std.proofs.Common.{◌≡◌, ℕ, zero, suc, ◌+◌, ◌-◌, ◌≤◌, ℤ, List, [], ◌∷◌, ◌++◌, length, map, take, drop, set, replicate, take_all, refl, sym, ap, ◌∙◌, arith}
 use Rattle.std.specs.List.{All}
 use Rattle.std.proofs.lemmas.List.{drop-append-le, take-append-le, length-drop, length-map, map-append, map-set}
-use Rattle.std.proofs.lemmas.Simd.{map-map}
 use Rattle.std.proofs.lemmas.List.Elements.{All-tail}
 use Rattle.rows.specs.declared.head.Head.{Head}
 use Rattle.rows.specs.declared.item.Valued.{Valued}
@@ -63,7 +62,3 @@ module _ (ws now more : List ℤ) (hs : List Head) (rows : List Valued) (is_now 
 
   pub not_set : (later : List Head) → later ≡ hs → map (row_of now) later ≡ rows
   not_set later is_later = rw (is_later, is_now, sym were) (rows_kept ws more hs held)
-
--- the blocks of rows are those of their heads
-pub blocks_of_heads : (ws : List ℤ) (hs : List Head) → map (λ h. h.block) hs ≡ map (λ row. row.block) (map (row_of ws) hs)
-blocks_of_heads ws hs = sym (map-map (λ row. row.block) (row_of ws) hs)

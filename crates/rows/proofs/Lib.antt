@@ -1,4 +1,6 @@
 pub mod Cells
 pub mod Entries
+pub mod Found
 pub mod Heads
-pub mod Listed
+pub mod Own
+pub mod Spots

@@ -1,3 +1,4 @@
+pub mod Packed
 pub mod PackingView
 pub mod Valued
 pub mod inner

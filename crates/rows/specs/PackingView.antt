@@ -4,11 +4,12 @@ use Rattle.std.specs.Global.{Vec}
 use Rattle.rows.specs.declared.item.Item.{Item}
 use Rattle.rows.specs.declared.item.Item.TheVariants.{Row, End}
 
--- the items, and for how many more items and how many more worths there is room
+-- the items, for how many more items and how many more worths there is room, and how many worths each row has
 pub record PackingView : Type 0 where
   pub items : List Item
   pub room : ℕ
   pub worths_room : ℕ
+  pub width : ℕ
 
 -- the worths of an item, none for an end mark
 abbrev pub item_worths : Item → List ℤ

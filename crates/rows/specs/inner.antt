@@ -1,3 +1,5 @@
 pub mod Entries
 pub mod Heads
+pub mod Own
+pub mod Spots
 pub mod WorthsFields

@@ -1,7 +1,7 @@
 //! Lists that a valuer keeps items in.
 
-ghost use Rattle.std.specs.Prelude.{◌≡◌, ◌≤◌, ◌++◌, [], ◌∷◌, ℕ, List, OnOk, OnErr, length, vec_len, vec_capacity};
-ghost use Rattle.rows.specs.PackingView.{item_worths};
+ghost use Rattle.std.specs.Prelude.{◌≡◌, ◌≤◌, ◌++◌, [], ◌∷◌, ℕ, List, OnOk, OnErr, vec_len, vec_capacity};
+ghost use Rattle.rows.specs.Packed.{IsOfWidth};
 ghost use Rattle.rows.specs.declared.item.Item.{Item as OneItem};
 
 use crate::item::Item;
@@ -13,26 +13,28 @@ pub trait Keeps {
     /// The items, in their order.
     ghost held: { Self → List OneItem };
 
-    /// That it has no room left for an item of so many worths.
+    /// That it is for rows of so many worths.
+    ghost is_for: { Self → ℕ → Type 0 };
+
+    /// That it has no room left for a row of so many worths.
     ghost is_full: { Self → ℕ → Type 0 };
 
-    /// Appends an item. Memory is refused only where the list has no room left for it.
+    /// Appends an item that it is for. Memory is refused only where the list has no room left for one.
     fn keep(&mut self, item: Item) -> Result<(), AllocError>
+        requires fits { (width : ℕ) × is_for self.old width × IsOfWidth width item }
         ensures appended { OnOk result (held self.new ≡ held self.old ++ item ∷ []) }
         ensures kept { OnErr result (held self.new ≡ held self.old) }
-        ensures full { OnErr result (is_full self.new (length (item_worths item))) };
-
-    /// Where it has no room for an item, it has none for one of more worths.
-    ghost full_for_more: { (list : Self) (few more : ℕ) → few ≤ more
-        → is_full list few → is_full list more };
+        ensures width { (width : ℕ) → is_for self.old width → is_for self.new width }
+        ensures full { OnErr result ((width : ℕ) → is_for self.new width
+            → is_full self.new width) };
 }
 
 impl<A: Allocator> Keeps for Vec<Item, A> {
     ghost held = { λ list. list.items };
 
-    ghost is_full = { λ list _. vec_capacity list ≤ vec_len list };
+    ghost is_for = { λ list width. Unit {0} };
 
-    ghost full_for_more = { λ list few more fewer full. full };
+    ghost is_full = { λ list width. vec_capacity list ≤ vec_len list };
 
     fn keep(&mut self, item: Item) -> Result<(), AllocError> {
         make_room_for(self, 1)?;

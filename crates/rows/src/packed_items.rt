@@ -1,13 +1,19 @@
 //! Items without the room that a row does not use.
 
 ghost use Rattle.std.specs.Prelude.{◌≡◌, ◌<◌, Some, length, slice_get};
+ghost use Rattle.std.specs.Option.{option_map};
+ghost use Rattle.rows.specs.Packed.{mark_of, row_of};
+ghost use Rattle.rows.specs.inner.Own.{HasWorths};
 
 use crate::item::Item;
+use crate::mark::Mark;
+use crate::packed_worths::PackedWorths;
 use crate::packing::Packing;
+use pit_parts::block::Block;
 use std::alloc::Global;
 use std::marker::Model;
 
-/// What one valuer hands on, packed. In memory an item takes 40 bytes, and 16 for each worth of a row. Contracts see the
+/// What one valuer hands on, packed. In memory an item takes 32 bytes, and 8 for each worth that a row has. Contracts see the
 /// list of items, as of `Items`.
 #[derive(Debug, Drop)]
 pub struct PackedItems {
@@ -44,5 +50,28 @@ impl PackedItems {
         ensures { slice_get self.now position ≡ Some result }
     {
         self.packing.at(position)
+    }
+
+    /// Which item stands at a position, from 0.
+    pub fn mark_at(&self, position: usize) -> Mark
+        requires { position < length self.now }
+        ensures { option_map mark_of (slice_get self.now position) ≡ Some result }
+    {
+        self.packing.mark_at(position)
+    }
+
+    /// The block of the row at a position, from 0, or `None` where no row stands there.
+    pub fn block_at(&self, position: usize) -> Option<Block>
+        requires { position < length self.now }
+        ensures { result ≡ option_map (λ row. row.block) (row_of self.now position) }
+    {
+        self.packing.block_at(position)
+    }
+
+    // The worths of the items, which are given up.
+    pub(crate) fn into_worths(self) -> PackedWorths
+        ensures { HasWorths self result }
+    {
+        self.packing.into_worths()
     }
 }

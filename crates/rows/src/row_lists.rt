@@ -1,132 +1,153 @@
 //! The rows of several files as one list.
 
-ghost use Rattle.std.specs.Prelude.{◌≡◌, ◌-◌, ◌^◌, ◌<◌, List, Some, length, map, min, slice_get, IfOk};
-ghost use Rattle.std.specs.List.{flat_map};
+ghost use Rattle.std.specs.Prelude.{◌≡◌, ◌^◌, ◌<◌, ◌≤◌, All, Some, filter_map, length, map, slice_get, IfOk};
+ghost use Rattle.std.specs.List.{range_with_len, AllZip};
+ghost use Rattle.std.specs.Option.{option_map};
+ghost use Rattle.pit_parts.specs.declared.ranges.TheConstants.{MAX_DESTINATIONS};
+ghost use Rattle.rows.specs.Packed.{row_on, AreWorths, HasRow};
+ghost use Rattle.rows.specs.declared.item.Item.TheVariants.{Row};
+ghost use Rattle.rows.specs.inner.Own.{HasWorths};
+ghost use Rattle.rows.specs.inner.Spots.{first_spot};
 
-use crate::item::Valued;
-use crate::rows::Rows;
+use crate::item::{Item, Valued};
+use crate::keeps::Keeps;
+use crate::packed_items::PackedItems;
+use crate::packed_worths::PackedWorths;
+use crate::packing::Packing;
+use crate::row_worths::RowWorths;
+use crate::spot::Spot;
 use pit_parts::block::Block;
 use std::alloc::{AllocError, Global};
 use std::marker::Model;
 
-/// The rows of several files, which are not copied. Contracts see one list: the rows of each file behind those of the
-/// file before it.
+/// The rows of several files, where the valuers put them, and their order. The order takes 8 bytes a row. Contracts see one list: the
+/// rows in this order.
 #[derive(Debug, Drop)]
 pub struct RowLists {
-    lists: Vec<Rows>,
+    lists: Vec<PackedItems>,
+    spots: Vec<Spot>,
 }
 
 impl Model for RowLists {
-    ghost use Rattle.std.specs.Prelude.{List};
-    ghost use Rattle.std.specs.List.{flat_map};
+    ghost use Rattle.std.specs.Prelude.{List, All, filter_map};
+    ghost use Rattle.rows.specs.Packed.{row_on, HasRow};
     ghost use Rattle.rows.specs.declared.item.Valued.{Valued};
 
     ghost Value = { List Valued };
 
-    ghost view = { λ r. flat_map (λ list. list) r.lists.items };
+    ghost view = { λ r. filter_map (row_on r.lists.items) r.spots.items };
+
+    ghost invariant = { λ r. All (HasRow r.lists.items) r.spots.items };
 }
 
 impl RowLists {
-    /// The rows of these files.
-    pub fn new(lists: Vec<Rows>) -> RowLists
-        ensures { result ≡ flat_map (λ list. list) lists.items }
+    /// The rows at these spots of the lists, which are not copied.
+    pub fn new(lists: Vec<PackedItems>, spots: Vec<Spot>) -> RowLists
+        requires { All (HasRow lists.items) spots.items }
+        ensures { result ≡ filter_map (row_on lists.items) spots.items }
     {
-        RowLists { lists }
+        RowLists { lists, spots }
     }
 
-    /// A copy of these rows, as one list. Fails only where memory is refused.
-    pub fn of(alloc: Global, rows: &[Valued]) -> Result<RowLists, AllocError>
+    /// Copies of these rows, each with so many worths, in their order. Fails only where memory is refused.
+    pub fn of(alloc: Global, rows: &[Valued], width: usize) -> Result<RowLists, AllocError>
+        requires width { (1 ≤ width) × (width ≤ MAX_DESTINATIONS) }
+        requires worths { All (λ row. AreWorths width row.worths) rows.now }
+        requires few { length rows.now < 2 ^ 32 }
         ensures { IfOk result (λ lists. lists ≡ rows.now) }
     {
-        one_list(alloc, rows)
+        let mut lists = Vec::with_capacity(alloc, 1)?;
+        lists.push(packed(alloc, rows, width)?)?;
+        Ok(RowLists::new(lists, first_spots(alloc, rows.len() as u32)?))
     }
 
-    /// The number of rows, or `usize::MAX` where there are more of them.
+    /// The number of rows.
+    #[tactic(auto, using(crate::proofs::Found::found))]
     pub fn len(&self) -> usize
-        ensures { result ≡ min (length self.now) (2 ^ 64 - 1) }
+        ensures { result ≡ length self.now }
     {
-        count_of(self.lists.as_slice())
+        self.spots.len()
     }
 
     /// The row at a position, from 0.
+    #[tactic(auto, using(crate::proofs::Found::found))]
     pub fn at(&self, position: usize) -> Valued
         requires { position < length self.now }
         ensures { slice_get self.now position ≡ Some result }
     {
-        let (list, place) = list_at(self.lists.as_slice(), position);
-        list.at(place)
+        let spot = self.spots[position];
+        row_at(&self.lists, spot)
     }
 
-    /// The blocks of the rows, in their order. Fails only where memory is refused.
-    pub fn blocks(&self, alloc: Global) -> Result<Vec<Block>, AllocError>
-        ensures { IfOk result (λ blocks. blocks.items ≡ map (λ row. row.block) self.now) }
+    /// The block of the row at a position, from 0.
+    #[tactic(auto, using(crate::proofs::Found::found))]
+    pub fn block_at(&self, position: usize) -> Block
+        requires { position < length self.now }
+        ensures { Some result ≡ option_map (λ row. row.block) (slice_get self.now position) }
     {
-        blocks_in(alloc, self.lists.as_slice())
+        let spot = self.spots[position];
+        block_at(&self.lists, spot)
     }
 
-    /// The rows of each file.
-    pub fn into_lists(self) -> Vec<Rows>
-        ensures { flat_map (λ list. list) result.items ≡ self }
+    /// The worths of the rows, which stay where they are; all else of the rows is given up. Fails only where memory for the number of
+    /// lists is refused.
+    pub fn into_worths(self, alloc: Global) -> Result<RowWorths, AllocError>
+        ensures { IfOk result (λ worths. worths ≡ map (λ row. row.worths) self) }
     {
-        self.lists
+        Ok(RowWorths::new(worths_of(alloc, self.lists)?, self.spots))
     }
 }
 
-fn one_list(alloc: Global, rows: &[Valued]) -> Result<RowLists, AllocError>
-    ensures { IfOk result (λ lists. lists ≡ rows.now) }
+// These rows, each with so many worths, as one list of items.
+fn packed(alloc: Global, rows: &[Valued], width: usize) -> Result<PackedItems, AllocError>
+    requires width { (1 ≤ width) × (width ≤ MAX_DESTINATIONS) }
+    requires worths { All (λ row. AreWorths width row.worths) rows.now }
+    ensures { IfOk result (λ items. items ≡ map Row rows.now) }
 {
-    let mut lists = Vec::with_capacity(alloc, 1)?;
-    lists.push(copied(alloc, rows)?)?;
-    Ok(RowLists::new(lists))
+    let mut packing = Packing::new(alloc, width);
+    for row in rows {
+        packing.keep(Item::Row(*row))?;
+    }
+    Ok(PackedItems::new(packing))
 }
 
-fn copied(alloc: Global, rows: &[Valued]) -> Result<Rows, AllocError>
-    ensures { IfOk result (λ copy. copy ≡ rows.now) }
+// The first spots of a list, so many of them.
+fn first_spots(alloc: Global, count: u32) -> Result<Vec<Spot>, AllocError>
+    ensures { IfOk result (λ spots. spots.items ≡ map first_spot (range_with_len 0 count)) }
 {
-    let mut copy = Rows::new(alloc);
-    for (position, row) in rows.iter().enumerate() {
-        copy.resize(position + 1, row)?;
+    let mut spots = Vec::with_capacity(alloc, count as usize)?;
+    for position in 0..count {
+        spots.push(Spot { position, list: 0 })?;
     }
-    Ok(copy)
+    Ok(spots)
 }
 
-// The file that has the row at a position of the files' rows, one file's behind those of the file before it, and the row's
-// position in it.
-fn list_at(lists: &[Rows], position: usize) -> (&Rows, usize)
-    requires { position < length (flat_map (λ list. list) lists.now) }
-    ensures within { result.1 < length result.0.now }
-    ensures row { slice_get (flat_map (λ list. list) lists.now) position
-        ≡ slice_get result.0.now result.1 }
+fn row_at(lists: &[PackedItems], spot: Spot) -> Valued
+    requires { HasRow lists.now spot }
+    ensures { Some result ≡ row_on lists.now spot }
 {
-    let mut place = position;
-    for list in lists {
-        if place < list.len() {
-            return (list, place);
-        }
-        place -= list.len();
+    match lists[spot.list as usize].at(spot.position as usize) {
+        Item::Row(row) => row,
+        Item::End { .. } => unreachable!(),
     }
-    unreachable!()
 }
 
-// The blocks of the files' rows, one file's behind those of the file before it.
-fn blocks_in(alloc: Global, lists: &[Rows]) -> Result<Vec<Block>, AllocError>
-    ensures { IfOk result (λ blocks. blocks.items
-        ≡ map (λ row. row.block) (flat_map (λ list. list) lists.now)) }
+fn block_at(lists: &[PackedItems], spot: Spot) -> Block
+    requires { HasRow lists.now spot }
+    ensures { Some result ≡ option_map (λ row. row.block) (row_on lists.now spot) }
 {
-    let mut blocks = Vec::with_capacity(alloc, count_of(lists))?;
-    for list in lists {
-        list.put_blocks(&mut blocks)?;
-    }
-    Ok(blocks)
+    lists[spot.list as usize]
+        .block_at(spot.position as usize)
+        .unwrap()
 }
 
-// The number of the files' rows, or `usize::MAX` where there are more of them.
-fn count_of(lists: &[Rows]) -> usize
-    ensures { result ≡ min (length (flat_map (λ list. list) lists.now)) (2 ^ 64 - 1) }
+// The worths of each of these lists of items, which are given up.
+fn worths_of(alloc: Global, lists: Vec<PackedItems>) -> Result<Vec<PackedWorths>, AllocError>
+    ensures { IfOk result (λ worths. AllZip HasWorths lists.items worths.items) }
 {
-    let mut count: usize = 0;
-    for list in lists {
-        count = count.saturating_add(list.len());
+    let mut worths = Vec::with_capacity(alloc, lists.len())?;
+    for items in lists {
+        worths.push(items.into_worths())?;
     }
-    count
+    Ok(worths)
 }

@@ -6,7 +6,6 @@ ghost use Rattle.std.specs.Option.{option_map};
 use crate::head::Head;
 use crate::item::Valued;
 use crate::long_lists::make_room;
-use pit_parts::block::Block;
 use std::alloc::{AllocError, Global};
 use std::marker::Model;
 
@@ -65,14 +64,6 @@ impl Rows {
         self.heads[position].row(&self.worths)
     }
 
-    /// The worths of the row at a position, from 0.
-    pub fn worths_at(&self, position: usize) -> &[i128]
-        requires { position < length self.now }
-        ensures { Some result.now ≡ option_map (λ row. row.worths) (slice_get self.now position) }
-    {
-        self.heads[position].own(&self.worths)
-    }
-
     /// Replaces the row at a position, from 0. Where memory is refused the rows are as they were.
     pub fn set(&mut self, position: usize, row: &Valued) -> Result<(), AllocError>
         requires { position < length self.old }
@@ -97,22 +88,4 @@ impl Rows {
         self.heads.resize(count, head)?;
         Ok(())
     }
-
-    /// Appends the blocks of the rows, in their order. Where memory is refused some of them may have been appended.
-    pub fn put_blocks(&self, blocks: &mut Vec<Block>) -> Result<(), AllocError>
-        ensures { OnOk result (blocks.new.items
-            ≡ blocks.old.items ++ map (λ row. row.block) self.now) }
-    {
-        put_blocks(blocks, &self.heads)
-    }
-}
-
-fn put_blocks(blocks: &mut Vec<Block>, heads: &[Head]) -> Result<(), AllocError>
-    ensures { OnOk result (blocks.new.items
-        ≡ blocks.old.items ++ map (λ head. head.block) heads.now) }
-{
-    for head in heads {
-        blocks.push(head.block)?;
-    }
-    Ok(())
 }

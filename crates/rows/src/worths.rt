@@ -50,6 +50,19 @@ impl Worths {
         Some(Worths { cells, count })
     }
 
+    /// These 1 to 8 worths, in their order.
+    pub fn of_cents(cents: &[i64]) -> Worths
+        requires some { 1 ≤ length cents.now }
+        requires few { length cents.now ≤ MAX_DESTINATIONS }
+        ensures { result ≡ cents.now }
+    {
+        let mut cells = [0i128; 8];
+        for (place, worth) in cents.iter().enumerate() {
+            cells[place] = i128::from(*worth);
+        }
+        Worths::new(&cells[..cents.len()]).unwrap()
+    }
+
     /// The worths, in the order of the destinations.
     pub fn as_slice(&self) -> &[i128]
         ensures value { result.now ≡ self.now }

@@ -101,12 +101,16 @@ pub fn hand_over<R: Threads + Wait + Sync, F: Feed + Send + Drop, G: Gate + Sync
     requires valuers { (1 ≤ allowance.valuers) × (allowance.valuers ≤ MAX_VALUERS) }
     requires capacity { (1 ≤ allowance.capacity) × (allowance.capacity ≤ MAX_CAPACITY) }
     requires destinations { AreOfPlan destinations.now plan.now }
+
+    // What was read, and what the valuers made of it.
     ensures whole { IfOk result (λ handed. IsWhole handed.gathered) }
     ensures read { IfOk result (λ handed.
         AreRead plan.now.grid 0 (map F.left feeds.items) (map F.is_sure feeds.items)
         handed.answers.items handed.gathered.sent) }
     ensures valued { IfOk result (λ handed. IsFalse handed.memory
         → handed.items.items ≡ map (items_by (formulas_of_plan plan.now)) handed.gathered.took) }
+
+    // How many threads there were.
     ensures takers { IfOk result (λ handed. length handed.gathered.took ≡ allowance.valuers) }
     ensures budget { IfOk result (λ _.
         allowance.valuers + length feeds.items ≤ allowance.starts) }

@@ -27,15 +27,20 @@ pub fn settle<R: Threads + Wait, F: Feed>(
     room: ResultRoom,
     _plan: &Plan,
 ) -> HandedOver
+    // The threads have all ends of the lane, under one plan.
     requires ends { map (λ h. h.promise.end.value) readers.items
         ≡ first_puts closer.lane 0 closer.files }
     requires takes { map (λ h. h.promise.end.value) valuers.items
         ≡ first_takes closer.lane 0 closer.takers }
     requires read_plans { All (λ h. h.promise.plan.value ≡ _plan.now) readers.items }
     requires valuer_plans { All (λ h. h.promise.plan.value ≡ _plan.now) valuers.items }
+
+    // There is room for what each of them answers.
     requires readers { vec_len readers ≡ closer.files }
     requires valuers { vec_len valuers ≡ closer.takers }
     requires room { IsRoomFor closer.files closer.takers room }
+
+    // What they hand over.
     ensures { IsHandedOver _plan.now (map (λ h. F.left h.promise.feed.value) readers.items)
         (map (λ h. F.is_sure h.promise.feed.value) readers.items) closer.takers result }
 {

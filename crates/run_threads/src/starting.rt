@@ -83,11 +83,15 @@ pub fn start_readers<'s, E, R: Threads + Wait + Sync, F: Feed + Send + Drop + 's
     requires unsent { AreUnsentFrom 0 ends.items }
     requires empty { handles.items ≡ [] }
     requires room { vec_len ends ≤ vec_capacity handles }
+
+    // Which readers run: where none was refused, one for each end.
     ensures ends { IsFalse result.refused
         → map (λ h. h.promise.end.value) result.handles.items ≡ ends.items }
     ensures feeds { IsFalse result.refused
         → map (λ h. h.promise.feed.value) result.handles.items ≡ feeds.items }
     ensures plans { All (λ h. h.promise.plan.value ≡ shared.now.plan.now) result.handles.items }
+
+    // How many there are.
     ensures count { vec_len result.handles ≤ vec_len ends }
     ensures whole { IsFalse result.refused → vec_len result.handles ≡ vec_len ends }
     ensures budget { vec_len result.handles ≤ starts }

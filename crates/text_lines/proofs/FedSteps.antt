@@ -236,13 +236,6 @@ pub too_long : {S : Type 0} (admit : S → List ℕ → Result S TextKind) (befo
 too_long admit before now w rest limit old left so none =
     long_told old left so.text limit so.gave (omega (arith, so.count, none))
 
-pub too_long_behind : {S : Type 0} (admit : S → List ℕ → Result S TextKind) (before now : S) (w : WaitingView) (rest limit : ℕ)
-    (old left new : Option (List ℕ)) → SoFar admit before now w rest (limit + 1) old left → Gave rest left new
-    → IfSome old (λ bytes. limit < length bytes)
-too_long_behind admit before now w rest limit old left new so gave =
-    long_told old new (so.text ++ gave.bytes) limit (so.gave ∙ ap (put_back so.text) gave.left ∙ put_back-append so.text gave.bytes new)
-    (rw (length-append so.text gave.bytes) (omega (arith, so.count, gave.count)))
-
 pub last_told : {S : Type 0} (admit : S → List ℕ → Result S TextKind) (before now after : S) (w : WaitingView) (rest limit : ℕ)
     (old new : Option (List ℕ)) (result : Result (Result ℕ LineFault) SlurpFault) → SoFar admit before now w rest (limit + 1) old new → 0 < rest
     → IfSome new (λ bytes. bytes ≡ []) → IfOk result (IsLastReading admit now after w)

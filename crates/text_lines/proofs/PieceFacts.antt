@@ -78,9 +78,6 @@ read_append {S} admit state (line ∷ lines) more = by (λ next. read_append adm
   by again (Err kind) = refl
 
 -- a byte order mark stands in the first line, or nowhere
-no_mark_1 : (more : List ℕ) → bytes_eq (take 3 (10 ∷ more)) (239 ∷ 187 ∷ 191 ∷ []) ≡ false
-no_mark_1 more = refl
-
 no_mark_2 : (a : ℕ) (more : List ℕ) → bytes_eq (take 3 (a ∷ 10 ∷ more)) (239 ∷ 187 ∷ 191 ∷ []) ≡ false
 no_mark_2 a more = at (a == 239) refl where
   at : (t : Bool) → (a == 239) ≡ t → bytes_eq (take 3 (a ∷ 10 ∷ more)) (239 ∷ 187 ∷ 191 ∷ []) ≡ false

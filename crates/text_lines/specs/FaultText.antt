@@ -26,5 +26,5 @@ text_kind_name kind.Missing = codes "Missing"
 text_kind_name kind.Name = codes "Name"
 
 -- `FILE line N: K`
-abbrev pub fault_text : TextFault → List ℕ
-fault_text fault = file_name fault.file ++ (codes " line " ++ (decimal fault.line ++ (codes ": " ++ text_kind_name fault.kind)))
+abbrev pub text_fault_text : TextFault → List ℕ
+text_fault_text fault = file_name fault.file ++ (codes " line " ++ (decimal fault.line ++ (codes ": " ++ text_kind_name fault.kind)))

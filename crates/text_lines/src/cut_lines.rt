@@ -1,10 +1,11 @@
 //! The lines of a text that is read.
 
-ghost use Rattle.std.specs.Prelude.{◌≡◌, ◌<◌, ◌≤◌, ◌==◌, ◌∷◌, drop, length};
+ghost use Rattle.std.specs.Prelude.{◌≡◌, ◌<◌, ◌≤◌, ◌==◌, ◌∷◌, length};
 ghost use Rattle.std.specs.List.{position_or_len};
 ghost use Rattle.text_lines.specs.TextLines.{is_skipped, lines_of, without_cr, without_mark};
 
 use memchr::memchr;
+use pit_units::after;
 use records::cells::without_leading_blanks;
 
 /// The text without one byte order mark at its front.
@@ -25,14 +26,7 @@ pub fn cut_line(text: &[u8]) -> (&[u8], &[u8])
     ensures less { length result.1.now < length text.now }
 {
     let end = line_end(text);
-    (&text[..end], behind(text, end + 1))
-}
-
-/// The bytes from a place on, if there are any.
-pub fn behind(text: &[u8], place: usize) -> &[u8]
-    ensures { result.now ≡ drop place text.now }
-{
-    text.get(place..).unwrap_or(&[])
+    (&text[..end], after(text, end + 1))
 }
 
 #[tactic(auto, using(crate::proofs::Cuts::byte_found, crate::proofs::Cuts::place_within))]

@@ -31,12 +31,15 @@ pub fn read_fed<S: Admit, F: Feed>(
     limit: u64,
 ) -> Result<Result<u64, LineFault>, SlurpFault>
     requires { limit ≤ GREATEST_LIMIT }
+
+    // What an answer says of the text, and that the feed is used up then.
     ensures read { IfOk result
         (IsFedReading S.admit_line (F.left feed.old) limit state.old state.new) }
     ensures used_up { OnOk result (IfSome (F.left feed.new) (λ bytes. bytes ≡ [])) }
     ensures within { OnOk result (F.given feed.new ≤ F.given feed.old + limit) }
     ensures works { OnOk result (F.failures feed.new ≡ F.failures feed.old) }
 
+    // When each fault comes.
     ensures failed { IsErrOf result SlurpFault.FeedFailed
         → F.failures feed.new ≡ F.failures feed.old + 1 }
     ensures sure { IsTrue (F.is_sure feed.old) → result ≢ Err SlurpFault.FeedFailed }
@@ -49,6 +52,7 @@ pub fn read_fed<S: Admit, F: Feed>(
     ensures memory_first { IsErrOf result SlurpFault.OutOfMemory
         → F.given feed.new ≤ F.given feed.old + limit }
 
+    // How much was read, whatever was answered.
     ensures reads { F.given feed.new ≤ F.given feed.old + (limit + 1) }
 {
     let mut waiting = Waiting::new(alloc);
@@ -83,11 +87,14 @@ pub fn read_fed<S: Admit, F: Feed>(
 #[tactic(auto, using(crate::proofs::FedSteps::passed, crate::proofs::FedSteps::too_many))]
 pub fn pass_text<F: Feed>(alloc: Global, feed: &mut F, limit: u64) -> Result<(), SlurpFault>
     requires { limit ≤ GREATEST_LIMIT }
+
+    // On success the text was within the limit, and the feed is used up.
     ensures short { OnOk result (IfSome (F.left feed.old) (λ bytes. length bytes ≤ limit)) }
     ensures used_up { OnOk result (IfSome (F.left feed.new) (λ bytes. bytes ≡ [])) }
     ensures within { OnOk result (F.given feed.new ≤ F.given feed.old + limit) }
     ensures works { OnOk result (F.failures feed.new ≡ F.failures feed.old) }
 
+    // When each fault comes.
     ensures failed { IsErrOf result SlurpFault.FeedFailed
         → F.failures feed.new ≡ F.failures feed.old + 1 }
     ensures sure { IsTrue (F.is_sure feed.old) → result ≢ Err SlurpFault.FeedFailed }
@@ -100,6 +107,7 @@ pub fn pass_text<F: Feed>(alloc: Global, feed: &mut F, limit: u64) -> Result<(),
     ensures memory_first { IsErrOf result SlurpFault.OutOfMemory
         → F.given feed.new ≤ F.given feed.old + limit }
 
+    // How much was read, whatever was answered.
     ensures reads { F.given feed.new ≤ F.given feed.old + (limit + 1) }
 {
     let mut waiting = Waiting::new(alloc);

@@ -4,7 +4,7 @@ ghost use Rattle.std.specs.Prelude.{◌≡◌, ◌<◌, ◌≤◌, IfOk};
 ghost use Rattle.text_lines.specs.FieldValues.{decimal_in, size_in, whole_in};
 
 use crate::text_fault::TextKind;
-use pit_units::{Dec, parse_dec, parse_within};
+use pit_units::{Dec, MILLIONTHS, parse_dec, parse_within};
 
 /// The whole number that a field states, below `limit`.
 #[tactic(auto, unfolding(crate::specs::FieldValues::whole_in))]
@@ -13,8 +13,7 @@ pub fn whole_in(field: &[u8], limit: u64) -> Result<u64, TextKind>
     ensures value { result ≡ whole_in limit field.now }
     ensures below { IfOk result (λ n. n < limit) }
 {
-    let whole = parse_within(field, 0, 0, i128::from(limit) * 1_000_000 - 1)?;
-    Ok((whole.millionths().unsigned_abs() / 1_000_000) as u64)
+    Ok(parse_within(field, 0, 0, i128::from(limit) * MILLIONTHS - 1)?.whole())
 }
 
 /// The millionths that a field states with at most so many decimals, from 0 to `most`.

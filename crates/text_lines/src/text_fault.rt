@@ -27,12 +27,12 @@ impl fmt::Display for TextFile {
     ghost output = { λ file. Some (file_name file) };
 
     fn fmt<W: fmt::Write>(&self, f: &mut fmt::Formatter<W>) -> fmt::Result {
-        match self {
-            TextFile::Blocks => f.write_str("blocks"),
-            TextFile::Prec => f.write_str("prec"),
-            TextFile::Pcpsp => f.write_str("pcpsp"),
-            TextFile::Cpit => f.write_str("cpit"),
-        }
+        f.write_str(match self {
+            TextFile::Blocks => "blocks",
+            TextFile::Prec => "prec",
+            TextFile::Pcpsp => "pcpsp",
+            TextFile::Cpit => "cpit",
+        })
     }
 }
 
@@ -73,18 +73,18 @@ impl fmt::Display for TextKind {
     ghost output = { λ kind. Some (text_kind_name kind) };
 
     fn fmt<W: fmt::Write>(&self, f: &mut fmt::Formatter<W>) -> fmt::Result {
-        match self {
-            TextKind::Fields => f.write_str("Fields"),
-            TextKind::Number => f.write_str("Number"),
-            TextKind::TooFine => f.write_str("TooFine"),
-            TextKind::Range => f.write_str("Range"),
-            TextKind::Order => f.write_str("Order"),
-            TextKind::Count => f.write_str("Count"),
-            TextKind::Twice => f.write_str("Twice"),
-            TextKind::Key => f.write_str("Key"),
-            TextKind::Missing => f.write_str("Missing"),
-            TextKind::Name => f.write_str("Name"),
-        }
+        f.write_str(match self {
+            TextKind::Fields => "Fields",
+            TextKind::Number => "Number",
+            TextKind::TooFine => "TooFine",
+            TextKind::Range => "Range",
+            TextKind::Order => "Order",
+            TextKind::Count => "Count",
+            TextKind::Twice => "Twice",
+            TextKind::Key => "Key",
+            TextKind::Missing => "Missing",
+            TextKind::Name => "Name",
+        })
     }
 }
 
@@ -143,9 +143,9 @@ pub struct TextFault {
 
 impl fmt::Display for TextFault {
     ghost use Rattle.std.specs.Prelude.{Some};
-    ghost use Rattle.text_lines.specs.FaultText.{fault_text};
+    ghost use Rattle.text_lines.specs.FaultText.{text_fault_text};
 
-    ghost output = { λ fault. Some (fault_text fault) };
+    ghost output = { λ fault. Some (text_fault_text fault) };
 
     fn fmt<W: fmt::Write>(&self, f: &mut fmt::Formatter<W>) -> fmt::Result {
         let TextFault { file, line, kind } = self;

@@ -8,10 +8,9 @@ ghost use Rattle.text_lines.specs.TextLines.{fields_of, is_ended};
 ghost use Rattle.text_lines.specs.LineKinds.{kind_by};
 ghost use Rattle.text_lines.specs.inner.Taken.{TakesDecimal};
 
-use crate::cut_lines::behind;
 use crate::field_values::{decimal_in, size_in, whole_in};
 use crate::text_fault::TextKind;
-use pit_units::{front_dec, front_whole};
+use pit_units::{after, front_dec, front_whole};
 use records::cells::{is_blank, without_leading_blanks};
 
 /// The first field of a line and what stands behind it, or `None` where the line has no field.
@@ -26,7 +25,7 @@ pub fn next_field(line: &[u8]) -> Option<(&[u8], &[u8])>
         return None;
     }
     let end = field_end(text);
-    Some((&text[..end], behind(text, end)))
+    Some((&text[..end], after(text, end)))
 }
 
 #[inline(always)]

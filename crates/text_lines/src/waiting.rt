@@ -68,12 +68,16 @@ impl Waiting {
     pub fn pull<F: Feed>(&mut self, feed: &mut F, most: usize) -> Result<usize, SlurpFault>
         requires some { 0 < most }
         requires room { length self.old.held + most ≤ GREATEST_LIMIT + 1 }
+
+        // On success what one pull gave is held behind what was held.
         ensures held { IfOk result
             (λ n. Held n self.old self.new (F.left feed.old) (F.left feed.new)) }
         ensures within { IfOk result (λ n. n ≤ most) }
         ensures end { IfOk result (λ n. n ≡ 0 → IfSome (F.left feed.old) (λ bytes. bytes ≡ [])) }
         ensures counts { IfOk result (λ n. F.given feed.new ≡ F.given feed.old + n) }
         ensures works { OnOk result (F.failures feed.new ≡ F.failures feed.old) }
+
+        // On failure nothing was given; when each fault comes.
         ensures refused_given { OnErr result (F.given feed.new ≡ F.given feed.old) }
         ensures failed { IsErrOf result SlurpFault.FeedFailed
             → F.failures feed.new ≡ F.failures feed.old + 1 }
@@ -81,6 +85,8 @@ impl Waiting {
             → F.failures feed.new ≡ F.failures feed.old }
         ensures not_long { result ≢ Err SlurpFault.TooLong }
         ensures sure { IsTrue (F.is_sure feed.old) → result ≢ Err SlurpFault.FeedFailed }
+
+        // Whatever is answered.
         ensures stays_sure { IsTrue (F.is_sure feed.old) → IsTrue (F.is_sure feed.new) }
     {
         make_room(&mut self.bytes, self.filled, GREATEST_LIMIT as usize + 1)?;
@@ -92,9 +98,13 @@ impl Waiting {
     /// Lets all bytes go by that the feed still gives, which are to be fewer than `most`.
     pub fn pass<F: Feed>(&mut self, feed: &mut F, most: usize) -> Result<(), SlurpFault>
         requires room { most ≤ GREATEST_LIMIT + 1 }
+
+        // On success the feed gave all that it had.
         ensures all { OnOk result (GaveAll most (F.left feed.old) (F.left feed.new)) }
         ensures within { OnOk result (F.given feed.new < F.given feed.old + most) }
         ensures works { OnOk result (F.failures feed.new ≡ F.failures feed.old) }
+
+        // When each fault comes.
         ensures failed { IsErrOf result SlurpFault.FeedFailed
             → F.failures feed.new ≡ F.failures feed.old + 1 }
         ensures long { IsErrOf result SlurpFault.TooLong
@@ -105,7 +115,11 @@ impl Waiting {
             → F.failures feed.new ≡ F.failures feed.old }
         ensures memory_first { IsErrOf result SlurpFault.OutOfMemory
             → F.given feed.new < F.given feed.old + most }
+
+        // How much was read, whatever was answered.
         ensures reads { F.given feed.new ≤ F.given feed.old + most }
+
+        // A sure feed does not fail.
         ensures sure { IsTrue (F.is_sure feed.old) → result ≢ Err SlurpFault.FeedFailed }
     {
         let mut rest = most;

@@ -64,7 +64,8 @@ pub fn value_all<R: Wait, G: Gate>(
     }
 }
 
-/// The same, but each row is kept without the room that it does not use, and contracts see how much room is left.
+/// The same, but each row is kept without the room that it does not use, and contracts see how much room is left for rows of as many
+/// worths as there are destinations.
 pub fn value_packed<R: Wait, G: Gate>(
     rt: &R,
     alloc: Global,
@@ -89,7 +90,7 @@ pub fn value_packed<R: Wait, G: Gate>(
         (items_by (formulas_of destinations.now) (drop (length take_end.took) result.taker.took)) }
     ensures full { IsTrue result.memory → IsFullFor (length destinations.now) result.items }
 {
-    let items = Packing::new(alloc);
+    let items = Packing::new(alloc, destinations.len());
     let (taker, items, memory) = take_all(rt, take_end, valuer, destinations, gate, items);
     ValuerResult {
         taker,
@@ -124,6 +125,7 @@ fn take_all<R: Wait, G: Gate, K: Keeps>(
     requires some { 1 ≤ length destinations.now }
     requires few { length destinations.now ≤ MAX_DESTINATIONS }
     requires empty { K.held items ≡ [] }
+    requires width { K.is_for items (length destinations.now) }
     ensures taker { result.0 ≡ record take_end
         { took = take_end.took ++ drop (length take_end.took) result.0.took } }
     ensures done { is_done result.0.took ≡ true }
@@ -133,6 +135,7 @@ fn take_all<R: Wait, G: Gate, K: Keeps>(
     ensures front { K.held result.1
         ≡ take (length (K.held result.1))
         (items_by (formulas_of destinations.now) (drop (length take_end.took) result.0.took)) }
+    ensures width { K.is_for result.1 (length destinations.now) }
     ensures full { IsTrue result.2 → K.is_full result.1 (length destinations.now) }
 {
     let mut memory = false;
@@ -159,10 +162,12 @@ fn push_item<R: Wait, G: Gate, K: Keeps>(
 ) -> Result<(), AllocError>
     requires some { 1 ≤ length destinations.now }
     requires few { length destinations.now ≤ MAX_DESTINATIONS }
+    requires width { K.is_for items.old (length destinations.now) }
     ensures pushed { OnOk result
         (K.held items.new ≡ K.held items.old
         ++ items_by (formulas_of destinations.now) (message ∷ [])) }
     ensures kept { OnErr result (K.held items.new ≡ K.held items.old) }
+    ensures width { K.is_for items.new (length destinations.now) }
     ensures full { OnErr result (K.is_full items.new (length destinations.now)) }
 {
     match message {

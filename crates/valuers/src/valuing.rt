@@ -1,7 +1,8 @@
 //! Valuing a block by the stored closures of the destinations.
 
-ghost use Rattle.std.specs.Prelude.{◌≡◌, ◌≤◌, length};
+ghost use Rattle.std.specs.Prelude.{◌≡◌, ◌≤◌, length, All};
 ghost use Rattle.pit_parts.specs.Destinations.{formulas_of};
+ghost use Rattle.pit_parts.specs.Worth.{IsWorth};
 ghost use Rattle.pit_parts.specs.declared.ranges.TheConstants.{MAX_DESTINATIONS};
 ghost use Rattle.rows.specs.Valued.{worths_by};
 ghost use Rattle.valuers.specs.Valuing.{AreAnswered};
@@ -15,6 +16,7 @@ pub fn worths_of(block: Block, destinations: &[Destination]) -> Worths
     requires some { 1 ≤ length destinations.now }
     requires few { length destinations.now ≤ MAX_DESTINATIONS }
     ensures asked { AreAnswered ⟦<Valuer as Fn(Block) -> i128>⟧.post destinations.now block result }
+    ensures in_range { All IsWorth result }
     ensures worths { result ≡ worths_by (formulas_of destinations.now) block }
 {
     let mut cells = [0i128; 8];

@@ -18,7 +18,7 @@ use Rattle.pit_parts.proofs.BlockFacts.{block_again}
 use Rattle.zone_csv.proofs.CentroidFacts.{centroid_index, index_is_centroid}
 use Rattle.zone_csv.specs.Cell.{a_tonnage, centroid, coordinate, grade, index_at, trimmed_at}
 use Rattle.zone_csv.specs.Columns.{all_columns, field_of}
-use Rattle.zone_csv.specs.Row.{block_of, row_of, row_shape, values_of}
+use Rattle.zone_csv.specs.Row.{block_of, row_of, row_shape, row_values}
 use Rattle.zone_csv.specs.declared.columns.Columns.{Columns}
 use Rattle.zone_csv.specs.declared.row_fault.RowFault.{RowFault}
 
@@ -143,14 +143,14 @@ grade_back cell (Bytes word) says = absurd says
 
 module _ (grid : Grid) (zone : ℕ) (sx : 0 < grid.x.size) (sy : 0 < grid.y.size) (sz : 0 < grid.z.size) where
   -- a block is stated by its values
-  block_back : (b : Block) → b.zone ≡ zone → b ≡ block_of grid zone (values_of grid b)
+  block_back : (b : Block) → b.zone ≡ zone → b ≡ block_of grid zone (row_values grid b)
   block_back b own =
       let kg : b.kg * 1000 / 1000 ≡ b.kg = mul-div_left b.kg (omega arith) in
       sym (block_again b) ∙ rw (own, centroid_index grid.x sx b.x, centroid_index grid.y sy b.y, centroid_index grid.z sz b.z, kg) refl
 
   -- values that are spelled are those of the block that they state
   values_back : (texts : List (List ℕ)) (values : List Value) → Spell (map (field_of grid) all_columns) texts values
-      → values ≡ values_of grid (block_of grid zone values)
+      → values ≡ row_values grid (block_of grid zone values)
   unfolding block_with
   values_back (cx ∷ cy ∷ cz ∷ ct ∷ cg ∷ []) (x ∷ y ∷ z ∷ t ∷ g ∷ []) (of_x, (of_y, (of_z, (of_t, (of_g, end))))) = λ i.
       index_back grid.x cx x sx of_x i ∷ index_back grid.y cy y sy of_y i ∷ index_back grid.z cz z sz of_z i
@@ -159,19 +159,19 @@ module _ (grid : Grid) (zone : ℕ) (sx : 0 < grid.x.size) (sy : 0 < grid.y.size
 
   pub row_spells_block : zone < 64 → (columns : Columns) (number : ℕ) (cells : List (List ℕ)) (b : Block)
       → let shape = row_shape grid zone columns number cells in
-      States shape b ↔ ((failing shape.first ≡ None) × Spell shape.form shape.texts (values_of grid b) × (b.zone ≡ zone))
+      States shape b ↔ ((failing shape.first ≡ None) × Spell shape.form shape.texts (row_values grid b) × (b.zone ≡ zone))
   row_spells_block small columns number cells b = (to, from)
     where
       here : Shape RowFault Block
       here = row_shape grid zone columns number cells
 
-      to : States here b → (failing here.first ≡ None) × Spell here.form here.texts (values_of grid b) × (b.zone ≡ zone)
+      to : States here b → (failing here.first ≡ None) × Spell here.form here.texts (row_values grid b) × (b.zone ≡ zone)
       to states = (
         states.first,
         subst (Spell here.form here.texts)
-            (values_back here.texts states.values states.spelled ∙ ap (values_of grid) (sym states.is)) states.spelled,
+            (values_back here.texts states.values states.spelled ∙ ap (row_values grid) (sym states.is)) states.spelled,
         zone_of_row grid zone columns number cells b states ∙ min-eq_left (omega (arith, small)),
       )
 
-      from : (failing here.first ≡ None) × Spell here.form here.texts (values_of grid b) × (b.zone ≡ zone) → States here b
-      from h = record { first = h.0; values = values_of grid b; spelled = h.1; last = refl; is = block_back b h.2 }
+      from : (failing here.first ≡ None) × Spell here.form here.texts (row_values grid b) × (b.zone ≡ zone) → States here b
+      from h = record { first = h.0; values = row_values grid b; spelled = h.1; last = refl; is = block_back b h.2 }

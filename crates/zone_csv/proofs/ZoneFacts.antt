@@ -14,7 +14,7 @@ use Rattle.zone_csv.specs.NamedColumns.{NamesColumns}
 use Rattle.zone_csv.specs.Row.{row_of, row_shape}
 use Rattle.zone_csv.specs.Zone.{before_fault, below_header, blocks_of, fault_of, first_fault, records_say, rows_say}
 use Rattle.zone_csv.specs.ZoneKept.{AccountsForRecords, HasFewBlocks, HasOwnBlocks}
-use Rattle.zone_csv.specs.ZoneStates.{HeaderFails, RowsState, ZoneStates, header_of}
+use Rattle.zone_csv.specs.ZoneStates.{HeaderFails, RowsState, ZoneStates, header_record}
 use Rattle.zone_csv.specs.declared.columns.Columns.{Columns}
 use Rattle.zone_csv.specs.declared.row_fault.RowFault.{RowFault}
 
@@ -148,7 +148,7 @@ module _ (grid : Grid) (zone : ℕ) where
       let few : length blocks ≤ 1000000 = omega (arith, ap length none) in (
         few,
         subst (All (λ (b : Block). b.zone ≡ min zone 63)) (sym none) (All-nil (λ (b : Block). b.zone ≡ min zone 63)),
-        inr (fault_of_header (header_of records) fault fails, none),
+        inr (fault_of_header (header_record records) fault fails, none),
       )
 
 pub zone_told : (grid : Grid) (zone : ℕ) (text : List ℕ)

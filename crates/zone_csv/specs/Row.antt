@@ -20,8 +20,8 @@ block_of grid zone values =
     (unsigned_abs (number_at values 3) / 1000) (unsigned_abs (number_at values 4)) zone
 
 -- the values that state a block
-abbrev pub values_of : Grid → Block → List Value
-values_of grid b =
+abbrev pub row_values : Grid → Block → List Value
+row_values grid b =
     map Millionths (centroid grid.x b.x ∷ centroid grid.y b.y ∷ centroid grid.z b.z ∷ pos (b.kg * 1000) ∷ pos b.grade ∷ [])
 
 -- the column of the field at a place

@@ -20,14 +20,14 @@ RowsState grid zone columns number (row ∷ rows) (block ∷ blocks) fault =
     States (row_shape grid zone columns number row) block × RowsState grid zone columns (number + 1) rows blocks fault
 
 -- the header of these records, which has no cells where there are none
-abbrev pub header_of : List (List (List ℕ)) → List (List ℕ)
-header_of records = slice_index_or records 0 []
+abbrev pub header_record : List (List (List ℕ)) → List (List ℕ)
+header_record records = slice_index_or records 0 []
 
 -- the header names columns, and the rows behind it state these blocks, up to the end or this fault
 abbrev pub ZoneStates : Grid → ℕ → List (List (List ℕ)) → List Block → Option RowFault → Type 0
 ZoneStates grid zone records blocks fault =
-    (columns : Columns) × NamesColumns (header_of records) columns × RowsState grid zone columns 2 (drop 1 records) blocks fault
+    (columns : Columns) × NamesColumns (header_record records) columns × RowsState grid zone columns 2 (drop 1 records) blocks fault
 
 -- the fault is what fails first in the header, and then there are no blocks
 abbrev pub HeaderFails : List (List (List ℕ)) → List Block → RowFault → Type 0
-HeaderFails records blocks fault = (blocks ≡ []) × (failing (asked_of_header (header_of records)) ≡ Some fault)
+HeaderFails records blocks fault = (blocks ≡ []) × (failing (asked_of_header (header_record records)) ≡ Some fault)

@@ -1,2 +1,2 @@
 pub mod RowAnswers
-pub mod ZoneStages
+pub mod ReaderStages

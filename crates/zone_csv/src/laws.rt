@@ -10,7 +10,7 @@ ghost use Rattle.pit_parts.specs.declared.block.Block.{Block};
 ghost use Rattle.zone_csv.specs.Cell.{IsInGrid, centroid, index_at, least};
 ghost use Rattle.zone_csv.specs.Header.{asked_of_header, columns_of};
 ghost use Rattle.zone_csv.specs.NamedColumns.{NamesColumns};
-ghost use Rattle.zone_csv.specs.Row.{row_shape, values_of};
+ghost use Rattle.zone_csv.specs.Row.{row_shape, row_values};
 ghost use Rattle.zone_csv.specs.Zone.{blocks_of, fault_of};
 ghost use Rattle.zone_csv.specs.ZoneKept.{HasFewBlocks, HasOwnBlocks, AccountsForRecords};
 ghost use Rattle.zone_csv.specs.ZoneReaderView.{Answers, ZoneReaderView};
@@ -53,7 +53,7 @@ pub fn rows_spell_blocks()
         → 0 < grid.x.size → 0 < grid.y.size → 0 < grid.z.size → zone < MAX_ZONES
         → let shape = row_shape grid zone columns number row in
         States shape block
-        ↔ ((failing shape.first ≡ None) × Spell shape.form shape.texts (values_of grid block)
+        ↔ ((failing shape.first ≡ None) × Spell shape.form shape.texts (row_values grid block)
         × (block.zone ≡ zone)) }
 {}
 

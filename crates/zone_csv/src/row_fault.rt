@@ -89,16 +89,16 @@ impl fmt::Display for RowFaultKind {
     ghost output = { λ kind. Some (row_kind_name kind) };
 
     fn fmt<W: fmt::Write>(&self, f: &mut fmt::Formatter<W>) -> fmt::Result {
-        match self {
-            RowFaultKind::MissingColumn => f.write_str("MissingColumn"),
-            RowFaultKind::TwiceColumn => f.write_str("TwiceColumn"),
-            RowFaultKind::Width => f.write_str("Width"),
-            RowFaultKind::Number => f.write_str("Number"),
-            RowFaultKind::TooFine => f.write_str("TooFine"),
-            RowFaultKind::Range => f.write_str("Range"),
-            RowFaultKind::OffGrid => f.write_str("OffGrid"),
-            RowFaultKind::TooManyRows => f.write_str("TooManyRows"),
-        }
+        f.write_str(match self {
+            RowFaultKind::MissingColumn => "MissingColumn",
+            RowFaultKind::TwiceColumn => "TwiceColumn",
+            RowFaultKind::Width => "Width",
+            RowFaultKind::Number => "Number",
+            RowFaultKind::TooFine => "TooFine",
+            RowFaultKind::Range => "Range",
+            RowFaultKind::OffGrid => "OffGrid",
+            RowFaultKind::TooManyRows => "TooManyRows",
+        })
     }
 }
 

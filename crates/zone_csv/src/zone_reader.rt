@@ -5,7 +5,7 @@ ghost use Rattle.pit_parts.specs.PlanKept.{IsGrid};
 ghost use Rattle.zone_csv.specs.ZoneReaderView.{Ahead, Answers, blocks_left};
 ghost use Rattle.zone_csv.specs.Zone.{blocks_of, fault_of};
 ghost use Rattle.zone_csv.specs.ZoneKept.{HasFewBlocks, HasOwnBlocks};
-ghost use Rattle.zone_csv.specs.inner.ZoneStages.{reader_view, IsCounted};
+ghost use Rattle.zone_csv.specs.inner.ReaderStages.{reader_view, IsCounted};
 ghost use Rattle.pit_parts.specs.declared.ranges.TheConstants.{MAX_ROWS, MAX_ZONES};
 
 use crate::cell::{ColumnFault, a_fault};
@@ -52,7 +52,7 @@ impl Model for ZoneReader {
     ghost use Rattle.std.specs.Prelude.{◌<◌};
     ghost use Rattle.pit_parts.specs.PlanKept.{IsGrid};
     ghost use Rattle.zone_csv.specs.ZoneReaderView.{ZoneReaderView};
-    ghost use Rattle.zone_csv.specs.inner.ZoneStages.{reader_view, IsCounted};
+    ghost use Rattle.zone_csv.specs.inner.ReaderStages.{reader_view, IsCounted};
     ghost use Rattle.pit_parts.specs.declared.ranges.TheConstants.{MAX_ZONES};
 
     ghost Value = { ZoneReaderView };

@@ -1,6 +1,6 @@
 -- What a model file that is being read keeps.
 use Rattle.std.specs.Prelude.{◌≡◌, ◌<◌, ◌≤◌, true, ℕ, ℤ, List, [], length, All}
-use Rattle.minelib_reading.specs.HeaderKeys.{count_in}
+use Rattle.minelib_reading.specs.HeaderNumbers.{count_in}
 use Rattle.minelib_reading.specs.ModelLines.{is_heading}
 use Rattle.minelib_reading.specs.declared.model_key.Header.{Header}
 use Rattle.minelib_reading.specs.declared.model_key.Section.{Section}

@@ -1,27 +1,62 @@
--- The two parts of a coefficient's line.
-use Rattle.std.specs.Prelude.{◌≡◌, List, ℕ, [], ◌∷◌, ◌++◌, decimal}
-use Rattle.std.proofs.Common.{append_assoc}
-use Rattle.pit_units.proofs.Written.{whole_written}
-use Rattle.pit_units.specs.Decimal.{shortest}
+-- The lines of coefficients in a form, and the part of each.
+use Rattle.std.specs.Prelude.{◌≡◌, ℕ, ◌+◌, ◌<◌, ◌&&◌, Bool, true, false, nat_lt, IsTrue, List, [], ◌∷◌, ◌++◌, length, slice_index_or, map, filter, if◌then◌else◌}
+use Rattle.std.proofs.Common.{ap, cond, refl}
+use Rattle.mine_instance.specs.OfCpit.{is_chosen, without_destination}
 use Rattle.mine_instance.specs.declared.coef.Coef.{Coef}
-use Rattle.mine_instance.specs.declared.cpit.CpitCoef.{CpitCoef}
-use Rattle.minelib_lines.specs.Lines.{line_of}
-use Rattle.minelib_writing.specs.Written.{coef_fields, cpit_coef_fields}
+use Rattle.minelib_lines.specs.Lines.{line_of, lines_from, text_of}
 use Rattle.minelib_lines.specs.declared.problem.Problem.TheVariants.{Pcpsp}
+use Rattle.minelib_writing.specs.Written.{coef_fields, cpit_coef_fields}
+use Rattle.minelib_writing.specs.inner.Parts.{joined}
+use Rattle.minelib_writing.specs.declared.coef_lines.CoefForm.{CoefForm}
+use Rattle.minelib_writing.specs.declared.coef_lines.CoefForm.TheVariants.{OfAll, OfChosen}
 
--- a first field, and the line of the others behind a space
-in_parts : (first other : List ℕ) (others : List (List ℕ))
-    → line_of (first ∷ other ∷ others) ++ 10 ∷ [] ≡ first ++ 32 ∷ (line_of (other ∷ others) ++ 10 ∷ [])
-in_parts first other others = append_assoc first (32 ∷ line_of (other ∷ others)) (10 ∷ [])
+-- the line of a coefficient, with its LF
+abbrev pub coef_text : Coef → List ℕ
+coef_text c = line_of (coef_fields Pcpsp 0 c) ++ 10 ∷ []
 
-pub coef_parts : (c : Coef)
-    → line_of (coef_fields Pcpsp 0 c) ++ 10 ∷ [] ≡ decimal c.b ++ 32 ∷ (line_of (decimal c.d ∷ decimal c.r ∷ shortest c.v ∷ []) ++ 10 ∷ [])
-coef_parts c =
-    rw (whole_written c.b, whole_written c.d, whole_written c.r)
-    (in_parts (decimal c.b) (decimal c.d) (decimal c.r ∷ shortest c.v ∷ []))
+-- the same in a CPIT
+abbrev pub cpit_coef_text : Coef → List ℕ
+cpit_coef_text c = line_of (cpit_coef_fields 0 (without_destination c)) ++ 10 ∷ []
 
-pub cpit_coef_parts : (c : CpitCoef)
-    → line_of (cpit_coef_fields 0 c) ++ 10 ∷ [] ≡ decimal c.b ++ 32 ∷ (line_of (decimal c.r ∷ shortest c.v ∷ []) ++ 10 ∷ [])
-cpit_coef_parts c =
-    rw (whole_written c.b, whole_written c.r)
-    (in_parts (decimal c.b) (decimal c.r) (shortest c.v ∷ []))
+-- the part of a coefficient
+abbrev pub coef_part : CoefForm → Coef → List ℕ
+coef_part OfAll c = coef_text c
+coef_part (OfChosen values) c = if is_chosen values.now c then cpit_coef_text c else []
+
+-- their lines
+abbrev pub coef_lines : CoefForm → List Coef → List (List ℕ)
+coef_lines OfAll coefs = lines_from (coef_fields Pcpsp) 0 coefs
+coef_lines (OfChosen values) coefs = lines_from cpit_coef_fields 0 (map without_destination (filter (is_chosen values.now) coefs))
+
+-- where values count, the block has some
+abbrev pub has_values : CoefForm → ℕ → Bool
+has_values OfAll block = true
+has_values (OfChosen values) block = nat_lt block (length values.now) && nat_lt 0 (length (slice_index_or values.now block []))
+
+-- a coefficient that can be written: numbers of one digit
+abbrev pub FitsForm : CoefForm → Coef → Type 0
+FitsForm form c = (c.d < 10) × (c.r < 10) × IsTrue (has_values form c.b)
+
+all_whole : (n : ℕ) (coefs : List Coef) → joined (map coef_text coefs) ≡ text_of (lines_from (coef_fields Pcpsp) n coefs)
+all_whole n [] = refl
+all_whole n (c ∷ coefs) = ap (λ rest. coef_text c ++ rest) (all_whole (n + 1) coefs)
+
+-- one coefficient more
+one_more : (c : Coef) (coefs : List Coef) (others : List ℕ) (n : ℕ) (chosen : Bool)
+    → others ≡ text_of (lines_from cpit_coef_fields (n + 1) (map without_destination coefs))
+    → others ≡ text_of (lines_from cpit_coef_fields n (map without_destination coefs))
+    → cond chosen (cpit_coef_text c) [] ++ others
+    ≡ text_of (lines_from cpit_coef_fields n (map without_destination (cond chosen (c ∷ coefs) coefs)))
+one_more c coefs others n true next here = ap (λ rest. cpit_coef_text c ++ rest) next
+one_more c coefs others n false next here = here
+
+chosen_whole : (p : Coef → Bool) (n : ℕ) (coefs : List Coef)
+    → joined (map (λ c. if p c then cpit_coef_text c else []) coefs)
+    ≡ text_of (lines_from cpit_coef_fields n (map without_destination (filter p coefs)))
+chosen_whole p n [] = refl
+chosen_whole p n (c ∷ coefs) = one_more c (filter p coefs) _ n (p c) (chosen_whole p (n + 1) coefs) (chosen_whole p n coefs)
+
+-- the parts are the lines
+pub coef_lines_whole : (form : CoefForm) (coefs : List Coef) → joined (map (coef_part form) coefs) ≡ text_of (coef_lines form coefs)
+coef_lines_whole OfAll coefs = all_whole 0 coefs
+coef_lines_whole (OfChosen values) coefs = chosen_whole (is_chosen values.now) 0 coefs

@@ -1,10 +1,10 @@
-//! Coefficients that are found are those of a list, each one and piece by piece.
+//! Coefficients that are found are those of a list, group by group and as a whole.
 
 ghost use Rattle.std.specs.Prelude.{◌<◌, length};
 
 use mine_instance::FoundCoefs;
 use mine_instance::coef::{Coef, Coefs};
-use mine_instance::coef_list::CoefList;
+use mine_instance::coef_list::{CoefList, keep};
 use pit_parts::block::Block;
 use pit_parts::ranges::MAX_BLOCKS;
 use pit_units::Dec;
@@ -54,44 +54,30 @@ fn list(coefs: &mut Vec<Coef>, b: u32, kg: u64, pairs: &[(u8, u8)]) -> Result<()
     Ok(())
 }
 
-fn piece<C: CoefList<Coef = Coef>>(
-    alloc: Global,
-    coefs: &C,
-    from: usize,
-    most: usize,
-) -> Result<Vec<Coef>, Fail>
-    requires { from < length (C.list coefs.now) }
+// Whether the group from a place on has the coefficients of a list from there on.
+fn agree_from(one: &FoundCoefs, other: &Coefs, from: usize) -> bool
+    requires { from < length one.now }
 {
-    let mut piece = Vec::new(alloc);
-    coefs.put_some(from, most, &mut piece)?;
-    Ok(piece)
-}
-
-fn agree_from(alloc: Global, one: &FoundCoefs, other: &Coefs, from: usize) -> Result<bool, Fail>
-    requires one { from < length one.now }
-    requires other { from < length other.now }
-{
-    for most in 0..one.len() {
-        let most = most.wrapping_add(1);
-        if piece(alloc, one, from, most)?.as_slice()
-            != piece(alloc, other, from, most)?.as_slice()
-        {
-            return Ok(false);
+    let group = one.group(from);
+    let (b, v) = (group.b, group.v);
+    let mut place = from;
+    for (d, r) in group.pairs.as_slice() {
+        let (d, r) = (*d, *r);
+        if other.as_slice().get(place).copied() != Some(Coef { b, d, r, v }) {
+            return false;
         }
+        place = place.wrapping_add(1);
     }
-    Ok(one.at(from) == other.at(from))
+    place > from
 }
 
 fn agree(alloc: Global, one: &FoundCoefs, other: &Coefs) -> Result<bool, Fail> {
-    if one.len() != other.len() {
-        return Ok(false);
-    }
     for from in 0..one.len() {
-        if !agree_from(alloc, one, other, from)? {
+        if !agree_from(one, other, from) {
             return Ok(false);
         }
     }
-    Ok(true)
+    Ok(keep(alloc, one)?.as_slice() == other.as_slice())
 }
 
 #[test]

@@ -119,7 +119,7 @@ fn numbered(alloc: Global, blocks: &[Block]) -> Result<Numbering, Fail> {
     if blocks.len() > 2_000 {
         return Err("too many blocks")?;
     }
-    Ok(number_blocks(alloc, blocks)?)
+    Ok(number_blocks(alloc, &blocks)?)
 }
 
 fn lists_by(alloc: Global, numbering: &Numbering, plan: &Plan) -> Result<Preds, Fail> {

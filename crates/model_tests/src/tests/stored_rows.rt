@@ -1,7 +1,6 @@
 //! The rows of a file, as they are kept with their worths.
 
 use super::valued;
-use pit_parts::block::Block;
 use rows::{Rows, Valued, Worths};
 use std::alloc::{AllocError, Global};
 use std::test::Fail;
@@ -20,22 +19,12 @@ fn stored(alloc: Global, three: &Valued, eight: &Valued) -> Result<Rows, AllocEr
     Ok(rows)
 }
 
-fn blocks_of(alloc: Global, rows: &Rows) -> Result<Vec<Block>, AllocError> {
-    let mut blocks = Vec::new(alloc);
-    rows.put_blocks(&mut blocks)?;
-    Ok(blocks)
-}
-
 #[test]
 fn rows_of_any_width(rt: HostRuntime) -> Result<(), Fail> {
     let three = valued(3, 0, 7, &THREE).ok_or("a row")?;
     let eight = valued(3, 1, 8, &EIGHT).ok_or("a row")?;
     let rows = stored(rt.alloc(), &three, &eight)?;
     assert!(rt; rows.len() == 2 && rows.at(0) == eight && rows.at(1) == three);
-    assert_eq!(rt;
-        blocks_of(rt.alloc(), &rows)?.as_slice(),
-        [eight.block, three.block].as_slice()
-    );
     Ok(())
 }
 

@@ -5,7 +5,6 @@ ghost use Rattle.mine_instance.specs.Valid.{IsValid};
 
 use devices::mem_sink::MemSink;
 use devices::write_fault::WriteFault;
-use mine_instance::build_cpit;
 use mine_instance::instance::Instance;
 use minelib_reading::read_instance;
 use minelib_writing::text_name::TextName;
@@ -76,8 +75,7 @@ fn write(
 ) -> Result<(), WriteFault>
     requires { IsValid instance.now }
 {
-    let cpit = build_cpit(alloc, instance)?;
-    write_named(alloc, name, instance, &cpit, sink)
+    write_named(alloc, name, instance, sink)
 }
 
 // Whether this is the text of this name.

@@ -4,7 +4,7 @@ use Rattle.clap.specs.Words.{App, Row, Text, app_of}
 use Rattle.clap.specs.declared.builder.Command.TheViews.{out-Command as fields_of}
 use Rattle.clap.specs.declared.builder.command.Command.{Command}
 use Rattle.pit_jobs.specs.CommandLine.{Finds}
-use Rattle.pit_jobs.specs.declared.jobs.Job.{Job}
+use Rattle.pit_jobs.specs.declared.job.Job.{Job}
 
 -- the command takes these words, and has no argument that its subcommands share
 abbrev pub IsCommandOf : App → Command → Type 0

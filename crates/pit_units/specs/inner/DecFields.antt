@@ -1,6 +1,7 @@
 -- How the halves of a decimal are seen as its millionths, and back.
 use Rattle.std.specs.Prelude.{◌≡◌, ℕ, ◌+◌, ◌*◌, ◌/◌, ◌%◌, ◌^◌, ◌<◌, ◌≤◌, ℤ, pos, ◌+ℤ◌, ◌-ℤ◌, unsigned_abs}
-use Rattle.std.proofs.Common.{ap, arith}
+use Rattle.std.proofs.Common.{◌∙◌, ap}
+use Rattle.std.proofs.lemmas.Nat.{div-mul-add, mod-mul-add}
 use Rattle.std.proofs.Math.IntN as int
 use Rattle.pit_units.specs.declared.decimal.Dec.TheInside.{Inside}
 
@@ -24,7 +25,7 @@ raised_back : (dec : Inside) → unsigned_abs (millionths_of dec +ℤ pos (10 ^ 
 raised_back dec = ap unsigned_abs (int.-ℤ-+ℤ_cancel (pos (raised_of dec)) (pos (10 ^ 24)))
 
 pub high_back : (dec : Inside) → KeepsRange dec → unsigned_abs (millionths_of dec +ℤ pos (10 ^ 24)) / 2 ^ 64 ≡ dec.high
-high_back dec kept = let back = raised_back dec in omega (arith, back, kept.1)
+high_back dec kept = ap (λ n. n / 2 ^ 64) (raised_back dec) ∙ div-mul-add dec.high (2 ^ 64) dec.low kept.1
 
 pub low_back : (dec : Inside) → KeepsRange dec → unsigned_abs (millionths_of dec +ℤ pos (10 ^ 24)) % 2 ^ 64 ≡ dec.low
-low_back dec kept = let back = raised_back dec in omega (arith, back, kept.1)
+low_back dec kept = ap (λ n. n % 2 ^ 64) (raised_back dec) ∙ mod-mul-add dec.high (2 ^ 64) dec.low kept.1

@@ -1,7 +1,7 @@
 -- How counted lists are seen as the lists.
 use Rattle.std.specs.Prelude.{◌≡◌, ℕ, ◌*◌, ◌≤◌, List, [], ◌∷◌, ◌++◌, length, sum_by}
-use Rattle.precedence.specs.declared.counted_preds.Lists.{Lists, Start, More'}
-use Rattle.precedence.specs.declared.counted_preds.CountedPreds.TheInside.{Inside}
+use Rattle.precedence.specs.declared.lists.counted_preds.Lists.{Lists, Start, More'}
+use Rattle.precedence.specs.declared.lists.counted_preds.CountedPreds.TheInside.{Inside}
 use Rattle.pit_parts.specs.declared.ranges.TheConstants.{MAX_BLOCKS}
 
 -- in the order in which they came

@@ -2,7 +2,7 @@
 use Rattle.std.specs.Prelude.{◌≡◌, ◌<◌, ℕ, List, All, length}
 use Rattle.precedence.specs.inner.Lists.{in_cones}
 use Rattle.precedence.specs.inner.Rows.{AreInOrder}
-use Rattle.precedence.specs.declared.found_preds.FoundPreds.TheInside.{Inside}
+use Rattle.precedence.specs.declared.lists.found_preds.FoundPreds.TheInside.{Inside}
 
 abbrev pub found_in : Inside → List (List ℕ)
 found_in f = in_cones f.tables.tables.items f.tables.of_zone.items f.places.codes.items f.zones.items f.places.codes.items

@@ -4,7 +4,7 @@ use Rattle.std.specs.Simd.Lanes.{zip2}
 use Rattle.precedence.specs.Cone.{places_where}
 use Rattle.precedence.specs.inner.Rows.{is_in_rows}
 use Rattle.precedence.specs.inner.ZoneTables.{zone_rows}
-use Rattle.precedence.specs.declared.cone_table.ConeTable.{ConeTable}
+use Rattle.precedence.specs.declared.cones.cone_table.ConeTable.{ConeTable}
 
 -- the identifiers whose codes lie in the rows of a zone's cone, seen from a code
 abbrev pub in_cone : List ConeTable → List ℕ → List ℕ → ℕ → ℕ → List ℕ

@@ -1,6 +1,6 @@
 -- How one list and the ends in it are seen as many lists.
 use Rattle.std.specs.Prelude.{◌≡◌, ℕ, zero, suc, ◌-◌, ◌≤◌, List, [], ◌∷◌, length, take, drop}
-use Rattle.precedence.specs.declared.predecessors.Preds.TheInside.{Inside}
+use Rattle.precedence.specs.declared.lists.predecessors.Preds.TheInside.{Inside}
 
 -- the parts of a list from a place on, up to each of the ends
 abbrev pub pieces : List ℕ → ℕ → List ℕ → List (List ℕ)

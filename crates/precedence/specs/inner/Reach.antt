@@ -5,8 +5,8 @@ use Rattle.pit_parts.specs.declared.cone.Cone.{Cone}
 use Rattle.pit_parts.specs.declared.cone.Slope.{Slope}
 use Rattle.pit_parts.specs.declared.grid.Grid.{Grid}
 use Rattle.precedence.specs.Cone.{square, is_within_slopes}
-use Rattle.precedence.specs.declared.cone_rows.Counts.{Counts}
-use Rattle.precedence.specs.declared.cone_rows.Reach.{Reach}
+use Rattle.precedence.specs.declared.cones.cone_rows.Counts.{Counts}
+use Rattle.precedence.specs.declared.cones.cone_rows.Reach.{Reach}
 use Rattle.pit_parts.specs.declared.ranges.TheConstants.{GRID_CELLS}
 
 -- what is left of the reach takes in the distance d

@@ -6,8 +6,8 @@ use Rattle.pit_parts.specs.declared.cone.Cone.{Cone}
 use Rattle.pit_parts.specs.declared.grid.Grid.{Grid}
 use Rattle.precedence.specs.Codes.{place_code}
 use Rattle.precedence.specs.Cone.{is_above}
-use Rattle.precedence.specs.declared.cone_rows.Row.{Row}
-use Rattle.precedence.specs.declared.cone_rows.Extent.{Extent}
+use Rattle.precedence.specs.declared.cones.cone_rows.Row.{Row}
+use Rattle.precedence.specs.declared.cones.cone_rows.Extent.{Extent}
 
 -- a code lies in the row, as seen from the code `from`
 abbrev pub is_in_row : ℕ → Row → ℕ → Bool

@@ -2,7 +2,7 @@
 use Rattle.std.specs.Prelude.{ℕ, ◌+◌, ◌-◌, List}
 use Rattle.std.specs.List.{range_with_len}
 use Rattle.precedence.specs.inner.Rows.{start_of}
-use Rattle.precedence.specs.declared.cone_rows.Row.{Row}
+use Rattle.precedence.specs.declared.cones.cone_rows.Row.{Row}
 
 -- the identifiers whose codes lie in the row
 abbrev pub run : ℕ → Row → List ℕ → List ℕ

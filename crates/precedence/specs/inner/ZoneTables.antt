@@ -4,10 +4,10 @@ use Rattle.pit_parts.specs.declared.block.Block.{Block}
 use Rattle.pit_parts.specs.declared.cone.Cone.{Cone}
 use Rattle.pit_parts.specs.declared.grid.Grid.{Grid}
 use Rattle.precedence.specs.inner.Rows.{IsTable}
-use Rattle.precedence.specs.declared.bounds.Bounds.{Bounds}
-use Rattle.precedence.specs.declared.cone_table.ConeTable.{ConeTable}
-use Rattle.precedence.specs.declared.cone_rows.Extent.{Extent}
-use Rattle.precedence.specs.declared.cone_rows.Row.{Row}
+use Rattle.precedence.specs.declared.cones.bounds.Bounds.{Bounds}
+use Rattle.precedence.specs.declared.cones.cone_table.ConeTable.{ConeTable}
+use Rattle.precedence.specs.declared.cones.cone_rows.Extent.{Extent}
+use Rattle.precedence.specs.declared.cones.cone_rows.Row.{Row}
 
 -- the bounds hold the block
 pub record Holds (bounds : Bounds) (b : Block) : Type 0 where

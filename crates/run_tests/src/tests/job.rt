@@ -1,8 +1,8 @@
 //! The job that the words of a command line state.
 
 use pit_compile::settings::Settings;
-use pit_jobs::job::job;
-use pit_jobs::jobs::{Job, JobFault};
+use pit_jobs::job::{Job, JobFault};
+use pit_jobs::stated_job::job;
 use std::alloc::Global;
 use std::test::Fail;
 

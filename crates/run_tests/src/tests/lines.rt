@@ -8,7 +8,7 @@ use pit_commands::refusal_line::refusal_line;
 use pit_compile::refusal::{Refusal, RowAt};
 use pit_compile::settings::SettingsFault;
 use pit_edge::fault_line::plan_from;
-use pit_edge::piece::Piece;
+use pit_edge::pieces::Piece;
 use pit_model::read_plan;
 use std::alloc::Global;
 use std::sync::Wait;

@@ -203,7 +203,7 @@ fn take_into_heap<R: Wait>(
 {
     let heap = LocalHeap::new(alloc, bytes)?;
     if packed {
-        let items = Packing::new(&heap);
+        let items = Packing::new(&heap, destinations.len());
         let (take, items, memory) = take_all(rt, take, 0, destinations, &OpenGate, items);
         return Ok((take, items.len(), memory));
     }
@@ -212,7 +212,7 @@ fn take_into_heap<R: Wait>(
 }
 
 // Memory is refused for the first item, or for the fifth, or for none: the reader ends, all is gathered, and the items are those before.
-// A packed list is refused memory for items or, with 192 bytes, for worths.
+// A packed list is refused memory for items or, with 144 bytes, for worths.
 #[test]
 fn growth_refused(rt: HostRuntime) -> Result<(), Fail> {
     let alloc = rt.alloc();
@@ -222,7 +222,7 @@ fn growth_refused(rt: HostRuntime) -> Result<(), Fail> {
         (false, 1_024, 4),
         (false, 65_536, 7),
         (true, 64, 0),
-        (true, 192, 0),
+        (true, 144, 0),
         (true, 400, 4),
         (true, 65_536, 7),
     ];

@@ -1,19 +1,13 @@
-use Rattle.std.proofs.Common.{◌≡◌, ◌∙◌, ap, length}
-use Rattle.std.proofs.lemmas.List.{length-map}
-use Rattle.mine_instance.specs.Greatest.{first_greatest}
+use Rattle.std.proofs.Common.{◌≡◌, ◌∙◌}
 use Rattle.mine_instance.specs.Seen.{seen}
-use Rattle.mine_instance.proofs.CpitFacts.{coefs_are_chosen, coefs_there}
+use Rattle.mine_instance.proofs.CpitFacts.{coefs_there, cpit_is_one}
 use Rattle.mine_instance.proofs.cpit_building.build_cpit.Goals as goal
 
-pub coefs_at-requires : goal.coefs_at-requires
-coefs_at-requires g c =
-    let i = seen g.P.PredLists.lists g.C.CoefList.list c.args.instance.now in
-    let long : length c.in_ok-destinations.field-0.destinations.items ≡ length i.values =
-    ap length c.in_ok-destinations.ensures.destinations ∙ length-map i.values first_greatest in
-    rw (c.as_slice.ensures.value, long) (coefs_there i c.requires)
+pub chosen_of-requires-clause-there : goal.chosen_of-requires-clause-there
+chosen_of-requires-clause-there g c = coefs_there (seen g.P.PredLists.lists g.C.CoefList.list c.args.instance.now) c.requires
 
-pub cpit_with-requires-clause-coefs : goal.cpit_with-requires-clause-coefs
-cpit_with-requires-clause-coefs g c =
+pub new-requires-2 : goal.new-requires-2
+new-requires-2 g c =
     let i = seen g.P.PredLists.lists g.C.CoefList.list c.args.instance.now in
-    c.new.ensures ∙ coefs_are_chosen i _ _ c.requires c.in_ok-destinations.ensures.destinations
-    (rw c.as_slice.ensures.value at c.in_ok-coefs.ensures)
+    let limits = c.in_ok-limits.ensures.items ∙ c.as_slice.ensures in
+    rw (c.in_ok-values.ensures, c.new.ensures, c.in_ok-coefs.ensures, limits, c.in_ok-name.ensures) (cpit_is_one i c.requires)

@@ -1,9 +1,14 @@
-use Rattle.std.proofs.Common.{◌≡◌, map, take}
-use Rattle.mine_instance.specs.Greatest.{first_greatest, greatest}
+use Rattle.std.proofs.Common.{◌≡◌, ◌-◌, ◌≤◌, length, map, take}
+use Rattle.std.specs.Prelude.{filter}
+use Rattle.mine_instance.specs.OfCpit.{is_chosen, without_destination}
 use Rattle.mine_instance.proofs.cpit_building.chosen_of.Given as goal
 
-abbrev pub invariant-loop-block : goal.invariant-loop-block
-invariant-loop-block l = record {
-  destinations : l.destinations.items ≡ map first_greatest (take l.block l.values);
-  values : l.all.items ≡ map greatest (take l.block l.values);
+-- Those so far that are at their blocks' destinations are chosen.
+abbrev pub invariant-loop-from : goal.invariant-loop-from
+invariant-loop-from g l = record {
+  within : l.from ≤ length (g.C.CoefList.list l.coefs);
+  chosen : l.chosen.items ≡ map without_destination (filter (is_chosen l.values) (take l.from (g.C.CoefList.list l.coefs)));
 }
+
+abbrev pub decreases-loop-from : goal.decreases-loop-from
+decreases-loop-from g l = length (g.C.CoefList.list l.coefs) - l.from

@@ -1,23 +1,28 @@
-use Rattle.std.proofs.Common.{rules, ◌+◌, arith}
+use Rattle.std.proofs.Common.{rules, ◌≡◌, ◌+◌, ◌∙◌, ℕ, List, ap, arith, subst, take}
+use Rattle.std.proofs.lemmas.List.{take_all}
+use Rattle.minelib_lines.specs.Lines.{text_of}
+use Rattle.devices.specs.SinkSteps.{refusals, IsAppendCut}
+use Rattle.devices.specs.Writes.{IsWrittenOn}
+use Rattle.minelib_writing.specs.inner.Parts.{joined}
 use Rattle.minelib_writing.proofs.KeptFacts.{holds_then}
-use Rattle.minelib_writing.proofs.SectionsWritten.{more_then, rest_cut}
+use Rattle.minelib_writing.proofs.PartsWritten.{parts_then, rest_cut}
 use Rattle.minelib_writing.proofs.sections.write_section.Goals as goal
 
--- the lines so far were written on, the rest was cut short, and so are they all
+-- the parts so far were written on, the rest was cut short, and so are they all
 pub returns-in_err-count-clause-writes : goal.returns-in_err-count-clause-writes
 returns-in_err-count-clause-writes g c =
-    let lines = g.L.Section.lines c.args.section.now in
-    let cut = rest_cut lines _ c.loop-index.invariant.written.appended c.in_err-count.ensures.refused in
+    let parts = g.L.Section.parts c.args.section.now in
+    let cut = rw g.met.L.Section.whole at (rest_cut parts _ c.loop-index.invariant.written.appended c.in_err-count.ensures.refused) in
     search rules
 
 -- those before the place, and then some more
 pub loop-index-preserved : goal.loop-index-preserved
 loop-index-preserved g c =
-    let lines = g.L.Section.lines c.args.section.now in
+    let parts = g.L.Section.parts c.args.section.now in
     let index = c.loop-index.index in
     record {
       within = c.in_ok-count.ensures.within;
-      written = more_then lines index c.in_ok-count.count c.loop-index.invariant.written c.in_ok-count.ensures.written;
+      written = parts_then parts index c.in_ok-count.count c.loop-index.invariant.written c.in_ok-count.ensures.written;
       kept = holds_then 0 index (index + c.in_ok-count.count) c.loop-index.invariant.kept c.in_ok-count.ensures.kept;
     }
 

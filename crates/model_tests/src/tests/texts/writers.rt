@@ -4,8 +4,10 @@ ghost use Rattle.mine_instance.specs.Valid.{IsValid};
 use super::{BLOCKS, LIMITED, PCPSP, PREC, instance_of, write};
 use devices::mem_sink::MemSink;
 use devices::write_fault::WriteFault;
+use mine_instance::build_cpit;
 use mine_instance::instance::Instance;
 use minelib_writing::text_name::TextName;
+use minelib_writing::write_cpit;
 use std::alloc::Global;
 use std::process::Abort;
 use std::test::Fail;
@@ -78,5 +80,17 @@ fn failing_devices(rt: HostRuntime) -> Result<(), Fail> {
     for (name, text) in &TEXTS {
         all_end_well(&rt, rt.alloc(), *name, &instance, text);
     }
+    Ok(())
+}
+
+// A CPIT that is built has the text that is written where it is not.
+#[test]
+fn built_cpit(rt: HostRuntime) -> Result<(), Fail> {
+    let instance = instance_of(rt.alloc(), LIMITED)?;
+    let cpit = build_cpit(rt.alloc(), &instance)?;
+    let mut sink = MemSink::new(rt.alloc());
+    assert!(rt; write_cpit(rt.alloc(), &cpit, &mut sink).is_ok());
+    let (_, text) = TEXTS[4];
+    assert!(rt; sink.begun() && sink.bytes() == text);
     Ok(())
 }

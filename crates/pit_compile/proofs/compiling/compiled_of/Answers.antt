@@ -3,7 +3,6 @@ use Rattle.std.proofs.lemmas.List.{length-map}
 use Rattle.std.proofs.lemmas.Result.{err_from_is_err_and}
 use Rattle.lane.specs.MessageKinds.{rows_in}
 use Rattle.lane.specs.declared.message.Taken.{Taken}
-use Rattle.mine_instance.specs.OfCpit.{cpit}
 use Rattle.mine_instance.specs.OfModel.{instance}
 use Rattle.precedence.specs.Identifier.{blocks_of_rows}
 use Rattle.rows.specs.declared.item.Valued.{Valued}
@@ -103,5 +102,4 @@ returns-clause-done g c =
       };
       passed = record { sent = made.sent; takers = refl; whole = c.requires.whole };
       instance_is = built;
-      cpit_is = c.in_ok-cpit.ensures ∙ ap cpit built;
     }

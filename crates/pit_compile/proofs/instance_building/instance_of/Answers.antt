@@ -15,13 +15,16 @@ new-requires c =
     numbered_too InPlan (blocks_of_rows rows) c.in_ok-numbering.numbering c.in_ok-numbering.ensures.numbering
     (All-map InPlan (λ (row : Valued). row.block) rows c.requires.zones)
 
+pub values_in_order-listed-requires-clause-worths : goal.values_in_order-listed-requires-clause-worths
+values_in_order-listed-requires-clause-worths c = (c.args.rows, (c.in_ok-worths.ensures, c.requires.valued))
+
 pub by_position-values-requires : goal.by_position-values-requires
 by_position-values-requires c =
     let blocks = blocks_of_rows c.args.rows in
     let numbering = c.in_ok-numbering.numbering in
     let parts = c.into_parts-blocks in
     let count : length numbering.blocks ≡ length c.values_in_order-listed.result =
-    c.in_ok-numbering.ensures.numbering.blocks ∙ sym (ap length c.values_in_order-listed.ensures ∙ length-map blocks (values_of c.args.plan.now)) in
+    c.in_ok-numbering.ensures.numbering.blocks ∙ sym (ap length (c.values_in_order-listed.ensures c.args.rows (c.in_ok-worths.ensures, c.requires.valued)) ∙ length-map blocks (values_of c.args.plan.now)) in
     let Within : ℕ → List ℕ → Type 0 = λ n ps. All (λ p. p < n) ps in
     subst (λ n. Within n parts.result.1.items) count
     (subst (Within (length numbering.blocks)) (sym parts.ensures.positions) parts.ensures.within)

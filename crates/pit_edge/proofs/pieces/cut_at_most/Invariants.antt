@@ -1,12 +1,12 @@
 use Rattle.std.proofs.Common.{◌≡◌, ◌+◌, ◌≤◌, ◌++◌, length}
-use Rattle.pit_edge.specs.Pieces.{zones_of}
+use Rattle.pit_edge.specs.Pieces.{zone_pieces}
 use Rattle.pit_edge.proofs.Walk.{pieces_behind, steps_behind}
 use Rattle.pit_edge.proofs.pieces.cut_at_most.Given as goal
 
 abbrev pub invariant-loop-behind : goal.invariant-loop-behind
 invariant-loop-behind l =
     record {
-      pieces : zones_of l.input ≡ l.zones.items ++ pieces_behind l.behind;
+      pieces : zone_pieces l.input ≡ l.zones.items ++ pieces_behind l.behind;
       held : length l.zones.items ≤ l.most;
       short : length l.zones.items + steps_behind l.behind ≤ length l.input;
     }

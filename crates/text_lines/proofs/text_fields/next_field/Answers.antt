@@ -13,7 +13,7 @@ returns-clause-cut c =
     let t = c.without_leading_blanks-text in
     let some : 0 < length t.result.now = grind arith in
     let field = (behind_blanks c.args.line.now).starts (rw (← t.ensures) some) in
-    sym (behind_blanks c.args.line.now).same ∙ rw (c.behind.ensures, c.field_end-end.ensures.value, t.ensures) (field.0)
+    sym (behind_blanks c.args.line.now).same ∙ rw (c.after.ensures, c.field_end-end.ensures.value, t.ensures) (field.0)
 
 pub returns-clause-less : goal.returns-clause-less
 returns-clause-less c =
@@ -22,4 +22,4 @@ returns-clause-less c =
     let field = (behind_blanks c.args.line.now).starts (rw (← t.ensures) some) in
     let positive : 0 < c.field_end-end.result = rw (c.field_end-end.ensures.value, t.ensures) (field.1) in
     let within : length t.result.now ≤ length c.args.line.now = rw t.ensures (behind_blanks c.args.line.now).short in
-    rw (c.behind.ensures, length-drop c.field_end-end.result t.result.now) (omega (arith, positive, some, within))
+    rw (c.after.ensures, length-drop c.field_end-end.result t.result.now) (omega (arith, positive, some, within))

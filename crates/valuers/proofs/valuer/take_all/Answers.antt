@@ -22,6 +22,7 @@ loop-preserved-then-not-memory g c =
       front = front_where_pushed (g.K.Keeps.held c.loop.items) (g.K.Keeps.held c.push_item.new.items)
           (items_by (formulas_of c.args.destinations.now) (c.take-message.result ∷ [])) all is
           c.push_item.result c.push_item.ensures.pushed c.push_item.ensures.kept;
+      width = c.push_item.ensures.width;
       full = search rules;
     }
 
@@ -36,5 +37,6 @@ loop-preserved g c =
       items = search rules;
       front = rw now (front_stays (formulas_of c.args.destinations.now) c.args.take_end.took c.loop.take_end.took
           c.take-message.result was.took (g.K.Keeps.held c.loop.items) was.front);
+      width = was.width;
       full = was.full;
     }

@@ -13,5 +13,6 @@ invariant-loop g l =
       items : IsFalse l.memory → g.K.Keeps.held l.items ≡ items_by (formulas_of l.destinations) (drop (length l.fn.take_end.took) l.take_end.took);
       front : g.K.Keeps.held l.items ≡ take (length (g.K.Keeps.held l.items))
           (items_by (formulas_of l.destinations) (drop (length l.fn.take_end.took) l.take_end.took));
+      width : g.K.Keeps.is_for l.items (length l.destinations);
       full : IsTrue l.memory → g.K.Keeps.is_full l.items (length l.destinations);
     }

@@ -1,6 +1,6 @@
 use Rattle.std.proofs.Common.{◌≡◌, true, length}
 use Rattle.std.proofs.lemmas.List.Elements.{All-nil}
-use Rattle.minelib_reading.specs.HeaderKeys.{count_in, with_key}
+use Rattle.minelib_reading.specs.HeaderNumbers.{count_in, with_key}
 use Rattle.minelib_reading.specs.ModelLines.{is_heading}
 use Rattle.minelib_lines.specs.declared.header_key.HeaderKey.TheVariants as key
 use Rattle.minelib_reading.proofs.HeaderFacts.{numbers_below}

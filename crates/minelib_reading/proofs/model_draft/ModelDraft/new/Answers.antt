@@ -1,6 +1,6 @@
 use Rattle.std.proofs.Common.{◌≡◌, length, rules}
 use Rattle.std.proofs.lemmas.List.Elements.{All-nil}
-use Rattle.minelib_reading.specs.HeaderKeys.{count_in}
+use Rattle.minelib_reading.specs.HeaderNumbers.{count_in}
 use Rattle.minelib_reading.specs.ModelLines.{blank_header}
 use Rattle.minelib_lines.specs.declared.header_key.HeaderKey.TheVariants as key
 use Rattle.minelib_reading.proofs.HeaderFacts.{blank_below}

@@ -1,7 +1,7 @@
 use Rattle.std.proofs.Common.{sym, ◌∙◌}
 use Rattle.minelib_writing.specs.Written.{value_fields}
-use Rattle.minelib_writing.proofs.LineFacts.{length-lines_from}
+use Rattle.minelib_writing.proofs.LineFacts.{length-line_parts}
 use Rattle.minelib_writing.proofs.block_sections.ValueLinesSection.len.Goals as goal
 
 pub returns : goal.returns
-returns c = c.len.ensures ∙ sym (length-lines_from value_fields 0 c.args.self.now.values.now)
+returns c = c.len.ensures ∙ sym (length-line_parts value_fields c.args.self.now.values.now)

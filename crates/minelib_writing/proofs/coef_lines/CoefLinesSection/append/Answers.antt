@@ -1,26 +1,46 @@
-use Rattle.std.proofs.Common.{◌≡◌, ◌<◌, get_or, length, sym}
-use Rattle.std.proofs.lemmas.Option.{get_or_from_slice_get}
-use Rattle.std.proofs.lemmas.Result.{on_ok_weaker}
-use Rattle.minelib_writing.proofs.KeptFacts.{kept_at}
-use Rattle.minelib_writing.proofs.LineFacts.{length-lines_from, line_at}
+use Rattle.std.proofs.Common.{◌≡◌, ◌+◌, ◌≤◌, ◌++◌, ◌∙◌, All, length, map, take, drop, ap, sym, subst, arith, append_assoc}
+use Rattle.std.specs.Prelude.{HoldsAt}
+use Rattle.mine_instance.specs.Groups.{coefs_in, pairs_of}
+use Rattle.minelib_lines.specs.Kept.{IsInDecimalRange}
+use Rattle.minelib_writing.specs.inner.CoefParts.{coef_part, FitsForm}
+use Rattle.minelib_writing.specs.inner.KeptParts.{HoldsFrom}
+use Rattle.minelib_writing.specs.inner.Parts.{joined}
+use Rattle.std.specs.List.{flat_map}
+use Rattle.minelib_writing.proofs.CoefFacts.{group_parts, known_of, of_group}
+use Rattle.minelib_writing.proofs.KeptFacts.{holds_then, kept_part}
 use Rattle.minelib_writing.proofs.coef_lines.CoefLinesSection.append.Goals as goal
 
-pub at-requires : goal.at-requires
-at-requires g c = rw length-lines_from at c.requires
+pub put_group-requires-clause-fit : goal.put_group-requires-clause-fit
+put_group-requires-clause-fit g c =
+    let all = g.C.CoefList.list c.args.self.now.coefs.now in
+    let group = c.group-group.result in
+    of_group (FitsForm c.args.self.now.form) all (coefs_in group) (c.args.index + c.loop-count.count) (length (pairs_of group.pairs))
+    c.group-group.ensures.within c.group-group.ensures.value c.args.self.now.fit
 
-pub returns-clause-text : goal.returns-clause-text
-returns-clause-text g c =
-    let coefs = g.L.CoefList.list c.args.self.now.coefs.now in
-    let coef = c.at.result in
-    let within : c.args.index < length coefs = rw length-lines_from at c.requires in
-    let stands : coef ≡ get_or coefs c.args.index coef = sym (get_or_from_slice_get coefs c.args.index coef coef c.at.ensures) in
-    rw (line_at (λ n. g.L.Coef.CoefLine.fields) c.args.index coefs coef within stands, g.met.L.Coef.CoefLine.parts coef)
-    c.put_coef.ensures.text
-
-pub returns-clause-kept : goal.returns-clause-kept
-returns-clause-kept g c =
-    let coefs = g.L.CoefList.list c.args.self.now.coefs.now in
-    let coef = c.at.result in
-    let within : c.args.index < length coefs = rw length-lines_from at c.requires in
-    let stands : coef ≡ get_or coefs c.args.index coef = sym (get_or_from_slice_get coefs c.args.index coef coef c.at.ensures) in
-    on_ok_weaker c.put_coef.result (kept_at g.L.Coef.CoefLine.kept coefs c.args.index coef within stands) c.put_coef.ensures.kept
+pub loop-count-preserved : goal.loop-count-preserved
+loop-count-preserved g c =
+    let all = g.C.CoefList.list c.args.self.now.coefs.now in
+    let form = c.args.self.now.form in
+    let index = c.args.index in
+    let count = c.loop-count.count in
+    let group = c.group-group.result in
+    let n = length (pairs_of group.pairs) in
+    let more : c.len-count.result ≡ n = c.len-count.ensures in
+    let on : (index + count) + n ≡ index + (count + n) = omega arith in
+    let value = c.group-group.ensures.value in
+    let known = known_of (λ v. IsInDecimalRange v) group.b group.v (pairs_of group.pairs) c.in_ok-next_tonnes.ensures.kept in
+    let part = kept_part (λ c. IsInDecimalRange c.v) all (index + count) n c.group-group.ensures.within
+    (subst (All (λ c. IsInDecimalRange c.v)) value known) in
+    let so_far = joined (take count (drop index (map (coef_part form) all))) in
+    let next = flat_map (coef_part form) (coefs_in group) in
+    rw more (record {
+      within = subst (λ k. k ≤ length all) on c.group-group.ensures.within;
+      room = c.in_ok-put_group.ensures.tonnes;
+      known = c.in_ok-next_tonnes.ensures.kept;
+      text =
+          c.in_ok-put_group.ensures.text ∙ ap (λ text. text ++ next) c.loop-count.invariant.text
+          ∙ append_assoc c.args.out.now.items so_far next
+          ∙ ap (λ text. c.args.out.now.items ++ text) (sym (group_parts (coef_part form) all (coefs_in group) index count n value));
+      kept = subst (HoldsFrom (HoldsAt (λ c. IsInDecimalRange c.v) all) index) on
+          (holds_then index (index + count) ((index + count) + n) c.loop-count.invariant.kept part);
+    })

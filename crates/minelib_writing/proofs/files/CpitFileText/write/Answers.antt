@@ -1,12 +1,12 @@
 use Rattle.std.proofs.Common.{rules, length}
 use Rattle.minelib_lines.specs.Kept.{IsInDecimalRange, HasDecimals}
-use Rattle.minelib_lines.specs.KeyWords.{keys_of, type_text}
-use Rattle.minelib_lines.specs.LineValues.{header_of_cpit, key_value}
+use Rattle.minelib_lines.specs.HeaderTable.{key_value, keys_of, type_text}
+use Rattle.minelib_lines.specs.LineValues.{header_of_cpit}
 use Rattle.minelib_lines.specs.Lines.{lines_from}
 use Rattle.minelib_writing.specs.Written.{text_cpit, key_lines, section_lines, cpit_value_fields, cpit_coef_fields, limit_fields}
 use Rattle.minelib_lines.specs.declared.problem.Problem.TheVariants.{Cpit}
 use Rattle.minelib_writing.proofs.KeptFacts.{kept_all, on_ok_three}
-use Rattle.minelib_writing.proofs.LineFacts.{length-lines_from}
+use Rattle.minelib_writing.proofs.LineFacts.{length-line_parts}
 use Rattle.minelib_writing.proofs.SectionsWritten.{goes_on, lines_cut_before}
 use Rattle.minelib_writing.proofs.files.CpitFileText.write.Goals as goal
 
@@ -19,20 +19,20 @@ returns g c =
     let sections = section_lines (lines_from cpit_value_fields 0 i.values) (lines_from cpit_coef_fields 0 i.coefs) limits in
     let first = rw (c.of_cpit.ensures.values, c.type_text.ensures, c.keys.ensures) at c.in_ok-write_keys.ensures in
     let whole = goes_on _ _ keys sections c.write_sections.result first
-    (rw (c.values.ensures.value, c.coef_list.ensures.value, c.limits.ensures.value) at c.write_sections.ensures.writes) in
+    (rw (c.values.ensures.value, c.coefs.ensures.value, c.limits.ensures.value) at c.write_sections.ensures.writes) in
     record {
       writes = whole;
       kept = on_ok_three c.write_sections.result
           (λ values coefs limits. (
             record {
               name = c.of_cpit.ensures.kept;
-              values = kept_all (λ v. IsInDecimalRange v) i.values _ (length-lines_from cpit_value_fields 0 i.values) values;
-              coefs = kept_all (λ c. IsInDecimalRange c.v) i.coefs _ (length-lines_from cpit_coef_fields 0 i.coefs) coefs;
-              limits = kept_all (λ l. HasDecimals l.bound) i.limits _ (length-lines_from limit_fields 0 i.limits) limits;
+              values = kept_all (λ v. IsInDecimalRange v) i.values _ (length-line_parts cpit_value_fields i.values) values;
+              coefs = kept_all (λ c. IsInDecimalRange c.v) i.coefs _ (length-line_parts cpit_coef_fields i.coefs) coefs;
+              limits = kept_all (λ l. HasDecimals l.bound) i.limits _ (length-line_parts limit_fields i.limits) limits;
             },
             c.values.ensures.kept,
           ))
-          (rw c.values.ensures.value at c.write_sections.ensures.values) (rw c.coef_list.ensures.value at c.write_sections.ensures.coefs)
+          (rw c.values.ensures.value at c.write_sections.ensures.values) (rw c.coefs.ensures.value at c.write_sections.ensures.coefs)
           (rw c.limits.ensures.value at c.write_sections.ensures.limits);
     }
 

@@ -1,12 +1,15 @@
 use Rattle.std.proofs.Common.{rules, All, length}
+use Rattle.std.proofs.lemmas.List.{length-map}
+use Rattle.minelib_writing.specs.inner.CoefParts.{coef_part}
+use Rattle.minelib_writing.specs.declared.coef_lines.CoefForm.TheVariants.{OfAll}
 use Rattle.minelib_lines.specs.Kept.{IsInDecimalRange, HasDecimals}
-use Rattle.minelib_lines.specs.KeyWords.{keys_of, type_text}
-use Rattle.minelib_lines.specs.LineValues.{header_of, key_value}
+use Rattle.minelib_lines.specs.HeaderTable.{key_value, keys_of, type_text}
+use Rattle.minelib_lines.specs.LineValues.{header_of}
 use Rattle.minelib_lines.specs.Lines.{lines_from}
 use Rattle.minelib_writing.specs.Written.{text_pcpsp, key_lines, section_lines, value_fields, coef_fields, limit_fields}
 use Rattle.minelib_lines.specs.declared.problem.Problem.TheVariants.{Pcpsp}
 use Rattle.minelib_writing.proofs.KeptFacts.{kept_all, on_ok_three}
-use Rattle.minelib_writing.proofs.LineFacts.{length-lines_from}
+use Rattle.minelib_writing.proofs.LineFacts.{length-line_parts}
 use Rattle.minelib_writing.proofs.SectionsWritten.{goes_on, lines_cut_before}
 use Rattle.minelib_writing.proofs.files.PcpspFileText.write.Goals as goal
 
@@ -25,9 +28,9 @@ returns g c =
       kept = on_ok_three c.write_sections.result
           (λ values coefs limits. record {
             name = c.of_instance.ensures.kept;
-            values = kept_all (λ values. All IsInDecimalRange values) i.values _ (length-lines_from value_fields 0 i.values) values;
-            coefs = kept_all (λ c. IsInDecimalRange c.v) (g.C.CoefList.list i.coefs) _ (length-lines_from (coef_fields Pcpsp) 0 (g.C.CoefList.list i.coefs)) coefs;
-            limits = kept_all (λ l. HasDecimals l.bound) i.limits _ (length-lines_from limit_fields 0 i.limits) limits;
+            values = kept_all (λ values. All IsInDecimalRange values) i.values _ (length-line_parts value_fields i.values) values;
+            coefs = kept_all (λ c. IsInDecimalRange c.v) (g.C.CoefList.list i.coefs) _ (length-map (g.C.CoefList.list i.coefs) (coef_part OfAll)) coefs;
+            limits = kept_all (λ l. HasDecimals l.bound) i.limits _ (length-line_parts limit_fields i.limits) limits;
           })
           c.write_sections.ensures.values c.write_sections.ensures.coefs
           (rw c.as_slice.ensures at c.write_sections.ensures.limits);

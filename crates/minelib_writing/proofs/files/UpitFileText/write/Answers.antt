@@ -1,8 +1,8 @@
 use Rattle.std.proofs.Common.{rules, ◌∷◌, length}
 use Rattle.std.specs.Prelude.{codes}
 use Rattle.std.proofs.lemmas.Result.{on_ok_weaker}
-use Rattle.minelib_lines.specs.KeyWords.{upit_keys}
-use Rattle.minelib_lines.specs.LineValues.{header_of, key_value}
+use Rattle.minelib_lines.specs.HeaderTable.{key_value, upit_keys}
+use Rattle.minelib_lines.specs.LineValues.{header_of}
 use Rattle.minelib_lines.specs.Lines.{lines_from}
 use Rattle.minelib_writing.specs.Written.{text_upit, key_lines, greatest_fields}
 use Rattle.minelib_writing.proofs.SectionsWritten.{goes_on, lines_cut_before}

@@ -1,7 +1,7 @@
 use Rattle.std.proofs.Common.{◌≡◌, ◌++◌, ◌∷◌, [], ◌∙◌, length, ap, sym, arith, length-append}
 use Rattle.std.specs.Prelude.{decimal}
 use Rattle.minelib_writing.specs.inner.Spaced.{start_in}
-use Rattle.minelib_writing.proofs.SpacedFacts.{spaced_next, start_within, starts_push}
+use Rattle.minelib_writing.proofs.SpacedFacts.{spaced_below, start_within, starts_push}
 use Rattle.minelib_writing.proofs.id_text.IdText.below.Goals as goal
 
 pub overflow_cast-len : goal.overflow_cast-len
@@ -25,7 +25,7 @@ loop-id-preserved c =
     omega (arith, c.len.ensures, c.loop-id.text.ok, ap length c.loop-id.invariant.text, ap start_in c.loop-id.invariant.count) in
     record {
       text =
-          c.in_ok-put_whole_behind.ensures ∙ ap (λ t. t ++ 32 ∷ decimal id) c.loop-id.invariant.text ∙ sym (spaced_next id);
+          c.in_ok-put_whole_behind.ensures ∙ ap (λ t. t ++ 32 ∷ decimal id) c.loop-id.invariant.text ∙ sym (spaced_below id);
       count = omega (arith, ap length c.in_ok-push.ensures.items, length-append starts (c.len.result ∷ []), c.loop-id.invariant.count);
       starts = rw c.in_ok-push.ensures.items (starts_push starts c.len.result c.loop-id.invariant.starts start);
     }

@@ -1,9 +1,7 @@
-use Rattle.std.proofs.Common.{◌≡◌, ◌++◌, length}
+use Rattle.std.proofs.Common.{◌≡◌, ◌++◌, take}
+use Rattle.precedence.specs.IdRuns.{ids_of}
 use Rattle.minelib_writing.specs.inner.Spaced.{spaced}
 use Rattle.minelib_writing.proofs.id_text.IdText.put.Given as goal
 
-abbrev pub invariant-loop-rest : goal.invariant-loop-rest
-invariant-loop-rest l = l.out.items ++ spaced l.rest ≡ l.initial.out.items ++ spaced l.ids
-
-abbrev pub decreases-loop-rest : goal.decreases-loop-rest
-decreases-loop-rest l = length l.rest
+abbrev pub invariant-loop-run : goal.invariant-loop-run
+invariant-loop-run l = l.out.items ≡ l.initial.out.items ++ spaced (ids_of (take l.run-index l.runs))

@@ -1,5 +1,6 @@
-use Rattle.std.proofs.Common.{◌≡◌, ◌-◌, ◌<◌, ◌≤◌, ◌∙◌, get_or, length, ap, sym, arith, rules}
+use Rattle.std.proofs.Common.{◌≡◌, ◌+◌, ◌-◌, ◌<◌, ◌∙◌, length, ap, sym, arith, rules}
 use Rattle.std.specs.List.{range_with_len}
+use Rattle.precedence.specs.IdRuns.{ids_of_run}
 use Rattle.minelib_writing.specs.inner.Spaced.{spaced}
 use Rattle.minelib_writing.proofs.SpacedFacts.{run_is, run_within}
 use Rattle.minelib_writing.proofs.id_text.IdText.put_run.Goals as goal
@@ -7,38 +8,34 @@ use Rattle.minelib_writing.proofs.id_text.IdText.put_run.Goals as goal
 pub part-requires-clause-in_order : goal.part-requires-clause-in_order
 part-requires-clause-in_order c =
     let table = c.args.self.now in
-    let first = get_or c.args.run.now 0 0 in
-    let past = c.saturating_add-past.result in
-    let later : first ≤ past = omega (arith, c.saturating_add-past.ensures, c.type_inv.run 0) in
+    let first = c.args.run.first in
+    let past = first + c.args.run.len in
     let within : past < length table.starts.items = omega (arith, c.if-past-len.true, c.len.ensures, table.starts.ok) in
     (run_within table.starts.items table.text.items first past _ _ table.start table.all
-    later within c.index.ensures c.index-then-past-len.ensures).0
+    (omega arith) within c.index.ensures c.index-then-past-len.ensures).0
 
 pub part-requires-clause-within : goal.part-requires-clause-within
 part-requires-clause-within c =
     let table = c.args.self.now in
-    let first = get_or c.args.run.now 0 0 in
-    let past = c.saturating_add-past.result in
-    let later : first ≤ past = omega (arith, c.saturating_add-past.ensures, c.type_inv.run 0) in
+    let first = c.args.run.first in
+    let past = first + c.args.run.len in
     let within : past < length table.starts.items = omega (arith, c.if-past-len.true, c.len.ensures, table.starts.ok) in
     rw c.as_slice-text.ensures.value
     (run_within table.starts.items table.text.items first past _ _ table.start table.all
-    later within c.index.ensures c.index-then-past-len.ensures).1
+    (omega arith) within c.index.ensures c.index-then-past-len.ensures).1
 
 pub returns-then-past-len : goal.returns-then-past-len
 returns-then-past-len c =
     let table = c.args.self.now in
-    let run = c.args.run.now in
-    let first = get_or run 0 0 in
-    let past = c.saturating_add-past.result in
-    let later : first ≤ past = omega (arith, c.saturating_add-past.ensures, c.type_inv.run 0) in
+    let run = c.args.run in
+    let first = run.first in
+    let past = first + run.len in
     let within : past < length table.starts.items = omega (arith, c.if-past-len.true, c.len.ensures, table.starts.ok) in
-    let long : past - first ≡ length run =
-    omega (arith, c.saturating_add-past.ensures, c.type_inv.run 0, table.starts.ok, table.starts.small) in
-    let same : spaced run ≡ c.part.result.now =
+    let long : past - first ≡ run.len = omega arith in
+    let same : spaced (ids_of_run run) ≡ c.part.result.now =
     sym (c.part.ensures
     ∙ (rw c.as_slice-text.ensures.value
-    (run_is table.starts.items table.text.items first past _ _ table.start table.all later
+    (run_is table.starts.items table.text.items first past _ _ table.start table.all (omega arith)
     within c.index.ensures c.index-then-past-len.ensures))
-    ∙ ap (λ n. spaced (range_with_len first n)) long ∙ ap spaced (sym c.requires.run)) in
+    ∙ ap (λ n. spaced (range_with_len first n)) long) in
     rw same (search rules)

@@ -1,0 +1,173 @@
+-- Where rows stand, after one more was put at its place.
+use Rattle.std.proofs.Common.{◌≡◌, ℕ, suc, zero, ◌+◌, ◌-◌, ◌<◌, ◌≤◌, eqb, ltb, List, [], ◌∷◌, ◌++◌, length, get_or, replicate, take, Option, Some, None, refl, sym, ap, subst, ◌∙◌, ⊎_elim, arith, length-append, length-set}
+use Rattle.std.specs.List.{All, flat_map, slice_get}
+use Rattle.std.specs.Option.{option_and_then, option_map}
+use Rattle.std.proofs.lemmas.Bool.{cond-true, cond-false, lt-ltb, le-ltb, cases_lt, cases_eq, eq-eqb}
+use Rattle.std.proofs.lemmas.List.{length-replicate, take_more}
+use Rattle.std.proofs.lemmas.List.Elements.{All-append, All-cons, All-nil, All-tail}
+use Rattle.std.proofs.lemmas.Option.{get_or_from_slice_get, none-some, same_Some, slice_get-get_or, slice_get_within}
+use Rattle.collector.specs.Complete.{Fits}
+use Rattle.collector.specs.inner.Places.{with_spot, spots_in, IsPut, IsPutAs, IsPlaced, AreFew}
+use Rattle.collector.proofs.Slots.{get-set_same, get-set_other, get-append_left, get-filled, eqb-other}
+use Rattle.rows.specs.Packed.{mark_of, row_in, row_of, row_on}
+use Rattle.rows.specs.declared.item.Item.{Item}
+use Rattle.rows.specs.declared.item.Item.TheVariants.{Row, End}
+use Rattle.rows.specs.declared.item.Valued.{Valued}
+use Rattle.rows.specs.declared.mark.Mark.{Mark}
+use Rattle.rows.specs.declared.spot.Spot.{Spot}
+
+with_within : (xs : List Spot) (place : ℕ) (s : Spot) → place < length xs → with_spot xs place s ≡ lib.ListN.set xs place s
+with_within xs place s within = cond-true (ltb place (length xs)) _ _ (lt-ltb place (length xs) within)
+
+with_past : (xs : List Spot) (place : ℕ) (s : Spot) → length xs ≤ place → with_spot xs place s ≡ xs ++ replicate (place + 1 - length xs) s
+with_past xs place s past = cond-false (ltb place (length xs)) _ _ (le-ltb place (length xs) past)
+
+-- the spot that was put
+get-put : (xs : List Spot) (place : ℕ) (s : Spot) → slice_get (with_spot xs place s) place ≡ Some s
+get-put xs place s =
+    ⊎_elim (λ within. ap (λ ys. slice_get ys place) (with_within xs place s within) ∙ get-set_same xs place s within)
+    (λ past. ap (λ ys. slice_get ys place) (with_past xs place s past) ∙ get-filled xs s (place + 1 - length xs) place past (omega arith))
+    (cases_lt place (length xs))
+
+-- and what another place had
+get-kept : (xs : List Spot) (place k : ℕ) (s : Spot) → (k ≡ place → ⊥) → k < length xs → slice_get (with_spot xs place s) k ≡ slice_get xs k
+get-kept xs place k s differs there =
+    ⊎_elim (λ within. ap (λ ys. slice_get ys k) (with_within xs place s within) ∙ get-set_other xs place k s differs)
+    (λ past. ap (λ ys. slice_get ys k) (with_past xs place s past) ∙ get-append_left xs (replicate (place + 1 - length xs) s) k there)
+    (cases_lt place (length xs))
+
+length-put : (xs : List Spot) (place most : ℕ) (s : Spot) → length xs ≤ most → place < most → length (with_spot xs place s) ≤ most
+length-put xs place most s few below =
+    ⊎_elim (λ within. omega (arith, ap length (with_within xs place s within), length-set xs place s))
+    (λ past. omega (
+      arith,
+      ap length (with_past xs place s past),
+      length-append xs (replicate (place + 1 - length xs) s),
+      length-replicate (place + 1 - length xs) s,
+    ))
+    (cases_lt place (length xs))
+
+-- the row of a spot that is found
+pub spot-found : (lists : List (List Item)) (o : Option Spot) (w : Valued) → option_and_then (row_on lists) o ≡ Some w
+    → (s : Spot) × (o ≡ Some s) × (row_on lists s ≡ Some w)
+spot-found lists None w e = absurd (none-some w e)
+spot-found lists (Some s) w e = (s, refl, e)
+
+-- one row more is put at its place
+module _ (lists : List (List Item)) (old new : List (List Spot)) (file place : ℕ) (s : Spot) (put : IsPut file place s old new) where
+  own : spots_in new file ≡ with_spot (spots_in old file) place s
+  own = put file ∙ cond-true (eqb file file) _ _ (eq-eqb file file refl)
+
+  other-file : (f : ℕ) → (file ≡ f → ⊥) → spots_in new f ≡ spots_in old f
+  other-file f differs = put f ∙ cond-false (eqb file f) _ _ (eqb-other file f differs)
+
+  abbrev pub found : (f p : ℕ) → Type 0
+  found f p = (w : Valued) × (option_and_then (row_on lists) (slice_get (spots_in new f) p) ≡ Some w) × (w.file ≡ f) × (w.place ≡ p)
+
+  pub put-placed : (v : Valued) → row_on lists s ≡ Some v → v.file ≡ file → v.place ≡ place → found file place
+  put-placed v at f p = (
+    v,
+    ap (λ xs. option_and_then (row_on lists) (slice_get xs place)) own
+        ∙ ap (option_and_then (row_on lists)) (get-put (spots_in old file) place s) ∙ at,
+    f,
+    p,
+  )
+
+  pub put-kept : (v : Valued) → row_on lists s ≡ Some v → v.file ≡ file → v.place ≡ place → (item : Item)
+      → IsPlaced lists old item → IsPlaced lists new item
+  put-kept v at f p (End n count) was = tt
+  put-kept v at f p (Row u) was =
+      let there = spot-found lists (slice_get (spots_in old u.file) u.place) was.0 was.1 in
+      let within = slice_get_within (spots_in old u.file) u.place there.0 there.1 in
+      ⊎_elim (λ same. ⊎_elim (λ here.
+      subst (λ (k : ℕ). found k u.place) same (subst (λ (k : ℕ). found file k) here (put-placed v at f p)))
+      (λ elsewhere. (
+        was.0,
+        ap (λ xs. option_and_then (row_on lists) (slice_get xs u.place))
+            (ap (spots_in new) (sym same) ∙ own ∙ ap (λ k. with_spot (spots_in old k) place s) same)
+            ∙ ap (option_and_then (row_on lists))
+            (get-kept (spots_in old u.file) place u.place s (λ e. elsewhere (sym e)) within)
+            ∙ was.1,
+        was.2,
+        was.3,
+      ))
+      (cases_eq place u.place))
+      (λ differs. (
+        was.0,
+        ap (λ xs. option_and_then (row_on lists) (slice_get xs u.place)) (other-file u.file differs) ∙ was.1,
+        was.2,
+        was.3,
+      ))
+      (cases_eq file u.file)
+
+  pub put-few : (counts : ℕ → ℕ) → place < counts file → AreFew counts old → AreFew counts new
+  put-few counts below few f =
+      ⊎_elim (λ same. subst (λ (k : ℕ). length (spots_in new k) ≤ counts k) same
+      (subst (λ (xs : List Spot). length xs ≤ counts file) (sym own)
+      (length-put (spots_in old file) place (counts file) s (few file) below)))
+      (λ differs. subst (λ (xs : List Spot). length xs ≤ counts f) (sym (other-file f differs)) (few f))
+      (cases_eq file f)
+
+-- the item of a mark
+pub marked : (o : Option Item) (m : Mark) → option_map mark_of o ≡ Some m → (item : Item) × (o ≡ Some item) × (mark_of item ≡ m)
+marked None m e = absurd (none-some m e)
+marked (Some item) m e = (item, refl, same_Some (mark_of item) m e)
+
+-- a list that was read
+pub read-list : (lists : List (List Item)) (l : ℕ) (items : List Item) → l < length lists → items ≡ get_or lists l items → items ≡ get_or lists l []
+read-list lists l items within is =
+    is ∙ same_Some _ _ (sym (slice_get-get_or lists l items within) ∙ slice_get-get_or lists l [] within)
+
+-- the row at a position of one of the lists
+pub on-list : (lists : List (List Item)) (l p : ℕ) (s : Spot) (item : Item) → s.list ≡ l → s.position ≡ p → l < length lists
+    → slice_get (get_or lists l []) p ≡ Some item → row_on lists s ≡ row_in item
+on-list lists l p s item is_list is_position within at =
+    (λ j. option_and_then (λ items. row_of items (is_position j)) (slice_get lists (is_list j)))
+    ∙ ap (option_and_then (λ items. row_of items p)) (slice_get-get_or lists l [] within)
+    ∙ ap (option_and_then row_in) at
+
+-- the item is put as it is marked
+module _ (lists : List (List Item)) (old new : List (List Spot)) (s : Spot) where
+  pub item-placed : (item : Item) → row_on lists s ≡ row_in item → IsPutAs (mark_of item) s old new → IsPlaced lists new item
+  item-placed (Row v) at put = put-placed lists old new v.file v.place s put v at refl refl
+  item-placed (End f n) at put = tt
+
+  pub item-kept : (item : Item) → row_on lists s ≡ row_in item → IsPutAs (mark_of item) s old new → (other : Item)
+      → IsPlaced lists old other → IsPlaced lists new other
+  item-kept (Row v) at put other was = put-kept lists old new v.file v.place s put v at refl refl other was
+  item-kept (End f n) at put (End g m) was = tt
+  item-kept (End f n) at put (Row u) was =
+      (was.0, ap (λ xs. option_and_then (row_on lists) (slice_get xs u.place)) (put u.file) ∙ was.1, was.2, was.3)
+
+  pub item-few : (files : ℕ) (counts : ℕ → ℕ) (item : Item) → Fits files counts item → IsPutAs (mark_of item) s old new
+      → AreFew counts old → AreFew counts new
+  item-few files counts (Row v) fits put few = put-few lists old new v.file v.place s put counts fits.1 few
+  item-few files counts (End f n) fits put few = λ file. subst (λ (xs : List Spot). length xs ≤ counts file) (sym (put file)) (few file)
+
+-- one item more of a list
+pub all-next : (P : Item → Type 0) (items : List Item) (i : ℕ) (item : Item) → slice_get items i ≡ Some item → P item → All P (take i items)
+    → All P (take (i + 1) items)
+all-next P items i item at is all =
+    subst (λ (xs : List Item). All P xs)
+    (ap (λ x. take i items ++ x ∷ []) (sym (get_or_from_slice_get items i item item at))
+    ∙ sym (take_more items i item (slice_get_within items i item at)))
+    (All-append P (take i items) (item ∷ []) all (All-cons P item [] is (All-nil P)))
+
+All-parts : (P : Item → Type 0) (xs ys : List Item) → All P (xs ++ ys) → All P xs × All P ys
+All-parts P [] ys all = (All-nil P, all)
+All-parts P (x ∷ xs) ys all =
+    let rest = All-parts P xs ys (All-tail P x (xs ++ ys) all) in (All-cons P x xs (all 0 x (omega arith)) rest.0, rest.1)
+
+-- what holds of all items of several lists holds of those of each
+pub all-of-list : (P : Item → Type 0) (lists : List (List Item)) (i : ℕ) → All P (flat_map (λ list. list) lists) → i < length lists
+    → All P (get_or lists i [])
+all-of-list P [] i all within = absurd (omega (arith, within))
+all-of-list P (list ∷ lists) zero all within = (All-parts P list (flat_map (λ l. l) lists) all).0
+all-of-list P (list ∷ lists) (suc i) all within =
+    all-of-list P lists i (All-parts P list (flat_map (λ l. l) lists) all).1 (omega (arith, within))
+
+pub all-lists : (P : Item → Type 0) (lists : List (List Item)) → ((i : ℕ) → i < length lists → All P (get_or lists i []))
+    → All P (flat_map (λ list. list) lists)
+all-lists P [] each = All-nil P
+all-lists P (list ∷ lists) each =
+    All-append P list (flat_map (λ l. l) lists) (each 0 (omega arith)) (all-lists P lists (λ i within. each (suc i) (omega (arith, within))))

@@ -1,0 +1,45 @@
+-- Where the rows of each file stand, place by place, while lists of items are gone through.
+use Rattle.std.specs.Prelude.{◌≡◌, ℕ, ◌+◌, ◌-◌, ◌<◌, ◌≤◌, ◌==◌, if◌then◌else◌, nat_lt, List, [], ◌++◌, length, replicate, slice_get, slice_set, Some}
+use Rattle.std.specs.Option.{option_and_then, unwrap_or}
+use Rattle.rows.specs.Packed.{row_on}
+use Rattle.rows.specs.declared.item.Item.{Item}
+use Rattle.rows.specs.declared.item.Item.TheVariants.{Row, End}
+use Rattle.rows.specs.declared.item.Valued.{Valued}
+use Rattle.rows.specs.declared.mark.Mark.{Mark}
+use Rattle.rows.specs.declared.mark.Mark.TheVariants as mark
+use Rattle.rows.specs.declared.spot.Spot.{Spot}
+
+-- the spots with one more, which also fills the places before it that no spot reached
+abbrev pub with_spot : List Spot → ℕ → Spot → List Spot
+with_spot spots place spot =
+    if nat_lt place (length spots) then slice_set spots place spot else spots ++ replicate (place + 1 - length spots) spot
+
+-- the spots of a file
+abbrev pub spots_in : List (List Spot) → ℕ → List Spot
+spots_in places file = unwrap_or (slice_get places file) []
+
+-- the file has the spot at the place, and all else is as before
+abbrev pub IsPut : ℕ → ℕ → Spot → List (List Spot) → List (List Spot) → Type 0
+IsPut file place spot old new =
+    (other : ℕ) → spots_in new other ≡ (if file == other then with_spot (spots_in old other) place spot else spots_in old other)
+
+-- at the place of the row stands a row of its file and place
+abbrev pub IsPlaced : List (List Item) → List (List Spot) → Item → Type 0
+IsPlaced lists places (Row v) =
+    (w : Valued) × (option_and_then (row_on lists) (slice_get (spots_in places v.file) v.place) ≡ Some w)
+    × (w.file ≡ v.file) × (w.place ≡ v.place)
+IsPlaced lists places (End file count) = Unit {0}
+
+-- the row that is marked so has the spot at its place, and all else is as before
+abbrev pub IsPutAs : Mark → Spot → List (List Spot) → List (List Spot) → Type 0
+IsPutAs (mark.Row file place) spot old new = IsPut file place spot old new
+IsPutAs (mark.End file count) spot old new = (other : ℕ) → spots_in new other ≡ spots_in old other
+
+-- the file of a row is one of so many
+abbrev pub IsOfFile : ℕ → Mark → Type 0
+IsOfFile files (mark.Row file place) = file < files
+IsOfFile files (mark.End file count) = Unit {0}
+
+-- no file has more places than this
+abbrev pub AreFew : (ℕ → ℕ) → List (List Spot) → Type 0
+AreFew counts places = (file : ℕ) → length (spots_in places file) ≤ counts file

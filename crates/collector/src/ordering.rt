@@ -1,0 +1,110 @@
+//! The order of rows that stay where the valuers put them.
+
+ghost use Rattle.std.specs.Prelude.{◌≡◌, ℕ, ◌^◌, ◌<◌, ◌≤◌, [], All, IfOk, OnOk, Some, length, replicate, slice_index_or};
+ghost use Rattle.std.specs.List.{flat_map};
+ghost use Rattle.collector.specs.Complete.{Fits, IsComplete};
+ghost use Rattle.collector.specs.Lists.{AreRows};
+ghost use Rattle.collector.specs.inner.Places.{AreFew, IsOfFile, IsPlaced, IsPut, IsPutAs};
+ghost use Rattle.rows.specs.Packed.{mark_of, row_on};
+ghost use Rattle.rows.specs.declared.item.Item.{Item as OneItem};
+ghost use Rattle.rows.specs.declared.item.Valued.{Valued as OneRow};
+
+use crate::places::Places;
+use rows::{Mark, PackedItems, RowLists, Spot};
+use std::alloc::{AllocError, Global};
+
+/// The rows of the files 0 to `files` - 1, file after file and in each file in order of place, from lists of items that together are
+/// complete. The rows are not copied. Fails only where memory is refused.
+pub fn in_order(alloc: Global, files: u8, lists: Vec<PackedItems>) -> Result<RowLists, AllocError>
+    requires few { length lists.items ≤ 256 }
+    requires complete { IsComplete files (flat_map (λ list. list) lists.items) }
+    ensures { IfOk result (AreRows files (flat_map (λ list. list) lists.items)) }
+{
+    let mut places = no_places(alloc, files)?;
+    put_lists(&mut places, &lists)?;
+    let spots = all_spots(alloc, &places)?;
+    Ok(RowLists::new(lists, spots))
+}
+
+// No places of any of so many files.
+fn no_places(alloc: Global, files: u8) -> Result<Vec<Places>, AllocError>
+    ensures { IfOk result (λ places. places.items ≡ replicate files []) }
+{
+    let mut places = Vec::with_capacity(alloc, files as usize)?;
+    for _ in 0..files {
+        places.push(Places::new(alloc))?;
+    }
+    Ok(places)
+}
+
+// Puts the rows of all lists at their places.
+fn put_lists(places: &mut [Places], lists: &[PackedItems]) -> Result<(), AllocError>
+    requires few { length lists.now ≤ 256 }
+    requires files { All (λ item. IsOfFile (length places.old) (mark_of item)) (flat_map (λ list. list) lists.now) }
+    ensures placed { OnOk result
+        (All (IsPlaced lists.now places.new) (flat_map (λ list. list) lists.now)) }
+    ensures few { (files : ℕ) (counts : ℕ → ℕ)
+        → All (Fits files counts) (flat_map (λ list. list) lists.now) → AreFew counts places.old
+        → OnOk result (AreFew counts places.new) }
+    ensures count { length places.new ≡ length places.old }
+{
+    for list in 0..lists.len() {
+        put_list(places, lists, list as u8)?;
+    }
+    Ok(())
+}
+
+// Puts the rows of a list at their places. What stood at a place is still a row of that place.
+fn put_list(places: &mut [Places], lists: &[PackedItems], list: u8) -> Result<(), AllocError>
+    requires there { list < length lists.now }
+    requires files { All (λ item. IsOfFile (length places.old) (mark_of item)) (slice_index_or lists.now list []) }
+    ensures placed { OnOk result
+        (All (IsPlaced lists.now places.new) (slice_index_or lists.now list [])) }
+    ensures kept { (item : OneItem) → IsPlaced lists.now places.old item
+        → OnOk result (IsPlaced lists.now places.new item) }
+    ensures few { (files : ℕ) (counts : ℕ → ℕ)
+        → All (Fits files counts) (slice_index_or lists.now list []) → AreFew counts places.old
+        → OnOk result (AreFew counts places.new) }
+    ensures count { length places.new ≡ length places.old }
+{
+    let items = &lists[list as usize];
+    for position in 0..items.len() {
+        let mark = items.mark_at(position);
+        // complete lists have at most 255 * 1,000,001 items, so that every position fits
+        let position = u32::try_from(position).map_err(|_| AllocError)?;
+        put_marked(places, mark, Spot { position, list })?;
+    }
+    Ok(())
+}
+
+// Puts the row that is marked so at this spot; an end mark is put nowhere.
+fn put_marked(places: &mut [Places], mark: Mark, spot: Spot) -> Result<(), AllocError>
+    requires { IsOfFile (length places.old) mark }
+    ensures put { OnOk result (IsPutAs mark spot places.old places.new) }
+    ensures count { length places.new ≡ length places.old }
+{
+    match mark {
+        Mark::Row { file, place } => put_row(places, file, place, spot),
+        Mark::End { .. } => Ok(()),
+    }
+}
+
+// Puts the row of a file and a place at this spot.
+fn put_row(places: &mut [Places], file: u8, place: u32, spot: Spot) -> Result<(), AllocError>
+    requires { file < length places.old }
+    ensures put { OnOk result (IsPut file place spot places.old places.new) }
+    ensures count { length places.new ≡ length places.old }
+{
+    places[file as usize].put(place, spot)
+}
+
+// The spots of all files, one file's behind those of the file before it.
+fn all_spots(alloc: Global, places: &[Places]) -> Result<Vec<Spot>, AllocError>
+    ensures { IfOk result (λ spots. spots.items ≡ flat_map (λ of_file. of_file) places.now) }
+{
+    let mut spots = Vec::new(alloc);
+    for of_file in places {
+        spots.extend_from_slice(of_file.as_slice())?;
+    }
+    Ok(spots)
+}

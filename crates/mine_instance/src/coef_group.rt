@@ -1,0 +1,50 @@
+//! Coefficients that have a block and its tonnes in common.
+
+ghost use Rattle.std.specs.Prelude.{◌≡◌, length};
+ghost use Rattle.mine_instance.specs.Groups.{pairs_of};
+
+use pit_units::Dec;
+
+/// A destination and a resource that covers it, by their numbers.
+pub type Covering = (u8, u8);
+
+/// Coefficients, one behind the other, of the same block with the same tonnes.
+#[derive(Clone, Copy, Debug)]
+pub struct CoefGroup<'a> {
+    /// The identifier of the block.
+    pub b: u32,
+    /// The tonnes.
+    pub v: Dec,
+    /// The destination and the resource of each.
+    pub pairs: Pairs<'a>,
+}
+
+/// The destinations and resources of some coefficients.
+#[derive(Clone, Copy, Debug)]
+pub enum Pairs<'a> {
+    /// Those that are covered.
+    Covered(&'a [Covering]),
+    /// A single one.
+    One([Covering; 1]),
+}
+
+impl<'a> Pairs<'a> {
+    /// All of them, in their order.
+    #[inline(always)]
+    pub fn as_slice(&self) -> &[Covering]
+        ensures { result.now ≡ pairs_of self.now }
+    {
+        match self {
+            Pairs::Covered(pairs) => pairs,
+            Pairs::One(pair) => pair.as_slice(),
+        }
+    }
+
+    /// How many there are.
+    #[inline(always)]
+    pub fn len(&self) -> usize
+        ensures { result ≡ length (pairs_of self.now) }
+    {
+        self.as_slice().len()
+    }
+}

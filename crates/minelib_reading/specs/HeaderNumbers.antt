@@ -1,0 +1,38 @@
+-- The numbers that the header keys of a model file state, each from where its key stood.
+use Rattle.std.specs.Prelude.{ℕ, ◌==◌, Bool, map, Option, Some, None, is_some, unwrap_or, slice_index_or, if◌then◌else◌, unsigned_abs}
+use Rattle.std.specs.List.{list_all}
+use Rattle.forms.specs.Words.{Value, millionths, whole_stated}
+use Rattle.minelib_lines.specs.HeaderTable.{header_keys, place}
+use Rattle.minelib_reading.specs.declared.model_key.Header.{Header}
+use Rattle.minelib_lines.specs.declared.header_key.HeaderKey.{HeaderKey}
+use Rattle.minelib_lines.specs.declared.header_key.HeaderKey.TheVariants as key
+
+-- the number of a key with this value: 0 where it states no more than that it stands
+abbrev pub number_said : HeaderKey → Value → ℕ
+number_said key.Blocks value = 0
+number_said key.Rate value = unsigned_abs (millionths value)
+number_said k value = whole_stated value
+
+-- where no key stood
+abbrev pub no_key : Header
+no_key = record { numbers = map (λ _. None) header_keys }
+
+-- the number of a key that stood
+abbrev pub number_of : Header → HeaderKey → Option ℕ
+number_of h k = slice_index_or h.numbers (place k) None
+
+-- and a key with this number
+unfoldable pub with_key : Header → HeaderKey → ℕ → Header
+with_key h k n = record { numbers = map (λ j. if place j == place k then Some n else number_of h j) header_keys }
+
+-- the number of a key, 0 before it stood: how many of a kind there are
+abbrev pub count_in : Header → HeaderKey → ℕ
+count_in h k = unwrap_or (number_of h k) 0
+
+-- a key stood before
+abbrev pub is_given : HeaderKey → Header → Bool
+is_given k h = is_some (number_of h k)
+
+-- all keys stood
+abbrev pub is_complete : Header → Bool
+is_complete h = list_all (λ k. is_given k h) header_keys

@@ -1,0 +1,35 @@
+-- The text of the CPIT of an instance, by the instance.
+use Rattle.std.proofs.Common.{◌≡◌, ℕ, ◌+◌, List, [], ◌∷◌, ◌++◌, ◌<◌, ◌∙◌, All, IsTrue, length, map, refl, ap, arith, true}
+use Rattle.std.specs.Prelude.{ℤ, codes, filter}
+use Rattle.std.proofs.lemmas.List.{length-map}
+use Rattle.mine_instance.specs.Greatest.{greatest}
+use Rattle.mine_instance.specs.Instance.{Instance}
+use Rattle.mine_instance.specs.OfCpit.{cpit, is_chosen, without_destination}
+use Rattle.mine_instance.specs.Valid.{IsValid}
+use Rattle.minelib_lines.specs.HeaderTable.{key_value, keys_of, type_text}
+use Rattle.minelib_lines.specs.LineValues.{header_of}
+use Rattle.minelib_lines.specs.Lines.{line_of, lines_from, text_of}
+use Rattle.minelib_lines.specs.declared.problem.Problem.TheVariants.{Cpit}
+use Rattle.minelib_writing.specs.Written.{cpit_coef_fields, cpit_value_fields, greatest_fields, key_lines, limit_fields, section_lines, text_cpit}
+
+greatest_lines : (n : ℕ) (values : List (List ℤ)) → lines_from cpit_value_fields n (map greatest values) ≡ lines_from greatest_fields n values
+greatest_lines n [] = refl
+greatest_lines n (of_block ∷ values) = ap (λ rest. line_of (greatest_fields n of_block) ∷ rest) (greatest_lines (n + 1) values)
+
+-- its keys, and its sections
+abbrev pub chosen_keys : Instance → List (List ℕ)
+chosen_keys i =
+    key_lines (key_value (type_text Cpit) (length i.blocks) (record (header_of i) { destinations = 1 })) (keys_of Cpit)
+
+abbrev pub chosen_sections : Instance → List (List ℕ)
+chosen_sections i =
+    section_lines (lines_from greatest_fields 0 i.values)
+    (lines_from cpit_coef_fields 0 (map without_destination (filter (is_chosen i.values) i.coefs))) (lines_from limit_fields 0 i.limits)
+
+pub chosen_text : (i : Instance) → IsValid i → text_cpit (cpit i) ≡ text_of (chosen_keys i ++ chosen_sections i)
+unfolding text_cpit
+chosen_text i v =
+    let count : length (map greatest i.values) ≡ length i.blocks = length-map i.values greatest ∙ v.lengths.values in
+    let coefs = lines_from cpit_coef_fields 0 (map without_destination (filter (is_chosen i.values) i.coefs)) in
+    λ j. text_of (key_lines (key_value (type_text Cpit) (count j) (record (header_of i) { destinations = 1 })) (keys_of Cpit)
+    ++ section_lines (greatest_lines 0 i.values j) coefs (lines_from limit_fields 0 i.limits))

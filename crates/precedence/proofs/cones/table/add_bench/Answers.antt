@@ -1,0 +1,27 @@
+use Rattle.std.proofs.Common.{◌≡◌, ◌+◌, ◌*◌, ◌≤◌, ⊎_elim, arith}
+use Rattle.std.proofs.lemmas.Bool.{cases_lt}
+use Rattle.precedence.proofs.Tables.{tells_row, tells_no_row, tells_bench}
+use Rattle.precedence.proofs.cones.table.add_bench.Goals as goal
+
+pub loop-i-preserved : goal.loop-i-preserved
+loop-i-preserved c =
+    let a = c.args in
+    let i = c.loop-i.i in
+    let row = c.row_at.result in
+    let counts = c.row_counts-counts in
+    let rows = c.loop-i.rows.items in
+    let inside : i ≤ 2 * a.extent.rows = omega (arith, c.loop-i-test.true) in
+    ⊎_elim
+    (λ some. rw (c.in_ok-add_row.ensures.row some)
+    (tells_row a.grid a.cone a.extent a.dz i c.requires.up c.requires.within inside counts.result counts.ensures
+    row c.row_at.ensures.first c.row_at.ensures.past some rows c.loop-i.invariant))
+    (λ none. rw (c.in_ok-add_row.ensures.no_row none)
+    (tells_no_row a.grid a.cone a.extent a.dz i c.requires.up c.requires.within inside counts.result counts.ensures
+    row c.row_at.ensures.first c.row_at.ensures.past none rows c.loop-i.invariant))
+    (cases_lt row.first row.past)
+
+pub returns : goal.returns
+returns c =
+    let a = c.args in
+    let last : c.loop-i.i ≡ 2 * a.extent.rows + 1 = omega (arith, c.loop-i-test.false, c.loop-i.auto.i-end) in
+    tells_bench a.grid a.cone a.extent a.dz c.loop-i.rows.items (rw last at c.loop-i.invariant)

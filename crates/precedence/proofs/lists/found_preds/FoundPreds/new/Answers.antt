@@ -1,0 +1,34 @@
+use Rattle.std.proofs.Common.{◌∙◌, ◌<◌, length, ap, sym, arith}
+use Rattle.std.proofs.lemmas.List.{length-map}
+use Rattle.std.proofs.lemmas.List.Elements.{All-map}
+use Rattle.pit_parts.specs.declared.block.Block.{Block}
+use Rattle.precedence.specs.Codes.{place_code}
+use Rattle.precedence.specs.Cone.{preds, HasZones}
+use Rattle.precedence.specs.inner.Lists.{in_cones}
+use Rattle.precedence.proofs.AllLists.{preds_are, tables_in_order}
+use Rattle.precedence.proofs.lists.found_preds.FoundPreds.new.Goals as goal
+
+pub invariant_of-result : goal.invariant_of-result
+invariant_of-result c =
+    let blocks = c.blocks-blocks.result.now in
+    let tables = c.in_ok-tables.tables in
+    let zones : HasZones c.args.plan.now blocks = rw c.blocks-blocks.ensures.value c.requires in
+    let cones = ap length c.cones.ensures.value in
+    record {
+      each =
+          ap length c.in_ok-zones.ensures ∙ length-map blocks (λ (b : Block). b.zone)
+          ∙ sym (ap length c.in_ok-places.ensures ∙ length-map blocks place_code);
+      zones = rw c.in_ok-zones.ensures (All-map (λ z. z < length tables.of_zone.items) (λ (b : Block). b.zone) blocks
+          (λ k d lt. omega (arith, zones k d lt, c.in_ok-tables.ensures.zones, cones)));
+      below = c.in_ok-tables.ensures.below;
+      in_order = tables_in_order c.grid.result c.extent_of.result tables.tables.items c.in_ok-tables.ensures.told;
+    }
+
+pub returns : goal.returns
+returns c =
+    let tables = c.in_ok-tables.tables in
+    (λ j. in_cones tables.tables.items tables.of_zone.items (c.in_ok-places.ensures j) (c.in_ok-zones.ensures j) (c.in_ok-places.ensures j))
+    ∙ preds_are c.args.plan.now c.extent_of.result tables.tables.items tables.of_zone.items c.blocks-blocks.result.now
+    (rw (c.grid.ensures.value, c.cones.ensures.value) at c.in_ok-tables.ensures) c.extent_of.ensures
+    (rw c.blocks-blocks.ensures.value c.requires)
+    ∙ ap (preds c.args.plan.now) c.blocks-blocks.ensures.value

@@ -1,0 +1,8 @@
+//! The rows of cones: how many blocks of each they take in, and their tables by zone.
+
+pub mod bounds;
+pub mod cone_rows;
+pub mod cone_table;
+pub mod counting;
+pub mod table;
+pub mod zone_tables;

@@ -1,0 +1,19 @@
+//! The table of a cone.
+
+ghost use Rattle.std.specs.Prelude.{◌≡◌};
+ghost use Rattle.precedence.specs.inner.Rows.{pasts};
+
+use crate::cones::cone_rows::Row;
+use pit_parts::cone::Cone;
+
+/// The rows of a cone.
+#[derive(Debug, Drop)]
+pub struct ConeTable {
+    pub cone: Cone,
+    pub rows: Vec<Row>,
+    /// Where each row is past.
+    pub past: Vec<u64>,
+    /// The number of rows in the tables before, where the hints for its own begin.
+    pub start: usize,
+    pub ghost all_past: { past.items ≡ pasts rows.items },
+}

@@ -1,0 +1,136 @@
+//! The tables of the cones of all zones.
+
+ghost use Rattle.std.specs.Prelude.{◌≡◌, ℕ, ◌<◌, ◌≤◌, ◌++◌, [], ◌∷◌, IfOk, OnOk, Some, All, length, map, slice_get, slice_index, slice_index_or};
+ghost use Rattle.pit_parts.specs.PlanKept.{IsCone, IsGrid};
+ghost use Rattle.pit_parts.specs.declared.cone.Cone.{Cone};
+ghost use Rattle.precedence.specs.inner.Rows.{pasts};
+ghost use Rattle.precedence.specs.inner.ZoneTables.{HasTables, IsTold};
+ghost use Rattle.precedence.specs.declared.cones.cone_table.ConeTable.{ConeTable};
+
+use crate::cones::cone_rows::{Extent, Row};
+use crate::cones::cone_table::ConeTable;
+use crate::cones::table::rows_of;
+use pit_parts::cone::Cone;
+use pit_parts::grid::Grid;
+use std::alloc::{AllocError, Global};
+
+/// The tables of different cones, and of each zone the place of its cone's table.
+#[derive(Debug, Drop)]
+pub struct ZoneTables {
+    pub tables: Vec<ConeTable>,
+    pub of_zone: Vec<usize>,
+}
+
+impl ZoneTables {
+    /// The table of a zone's cone.
+    pub fn of(&self, zone: u8) -> &ConeTable
+        requires zone { zone < length self.now.of_zone.items }
+        requires below { All (λ t. t < length self.now.tables.items) self.now.of_zone.items }
+        ensures { slice_get self.now.tables.items (slice_index self.now.of_zone.items zone)
+            ≡ Some result.now }
+    {
+        &self.tables[self.of_zone[zone as usize]]
+    }
+
+    /// The number of rows of all tables.
+    pub fn rows(&self) -> usize {
+        rows_before(self.tables.as_slice())
+    }
+}
+
+/// The tables of these cones, one a zone, in a model no greater than `extent`. Equal cones share one.
+pub fn tables_of(
+    alloc: Global,
+    grid: Grid,
+    cones: &[Cone],
+    extent: Extent,
+) -> Result<ZoneTables, AllocError>
+    requires grid { IsGrid grid }
+    requires cones { All IsCone cones.now }
+    ensures { IfOk result (λ t. HasTables grid cones.now extent t.tables.items t.of_zone.items) }
+{
+    let mut tables = Vec::new(alloc);
+    let mut of_zone = Vec::with_capacity(alloc, cones.len())?;
+    for cone in cones {
+        let place = place_of(alloc, &mut tables, grid, *cone, extent)?;
+        of_zone.push(place)?;
+    }
+    Ok(ZoneTables { tables, of_zone })
+}
+
+// The place of a cone's table, which is made where there is none.
+fn place_of(
+    alloc: Global,
+    tables: &mut Vec<ConeTable>,
+    grid: Grid,
+    cone: Cone,
+    extent: Extent,
+) -> Result<usize, AllocError>
+    requires grid { IsGrid grid }
+    requires cone { IsCone cone }
+    requires told { All (IsTold grid extent) tables.old.items }
+    ensures told { OnOk result (All (IsTold grid extent) tables.new.items) }
+    ensures within { IfOk result (λ place. place < length tables.new.items) }
+    ensures cone { IfOk result (λ place. (t : ConeTable)
+        → (slice_index_or tables.new.items place t).cone ≡ cone) }
+    ensures more { OnOk result (length tables.old.items ≤ length tables.new.items) }
+    ensures kept { OnOk result ((k : ℕ) (t : ConeTable) → k < length tables.old.items
+        → slice_index_or tables.new.items k t ≡ slice_index_or tables.old.items k t) }
+{
+    let place = find_cone(tables.as_slice(), cone);
+    if place < tables.len() {
+        return Ok(place);
+    }
+    let table = table_of(alloc, grid, cone, extent, rows_before(tables.as_slice()))?;
+    tables.push(table)?;
+    Ok(place)
+}
+
+// The place of the first table of a cone, or their number where there is none.
+fn find_cone(tables: &[ConeTable], cone: Cone) -> usize
+    ensures within { result ≤ length tables.now }
+    ensures same { result < length tables.now → (t : ConeTable)
+        → (slice_index_or tables.now result t).cone ≡ cone }
+{
+    for (place, table) in tables.iter().enumerate() {
+        if table.cone == cone {
+            return place;
+        }
+    }
+    tables.len()
+}
+
+fn rows_before(tables: &[ConeTable]) -> usize {
+    match tables.last() {
+        Some(table) => table.start.saturating_add(table.rows.len()),
+        None => 0,
+    }
+}
+
+fn table_of(
+    alloc: Global,
+    grid: Grid,
+    cone: Cone,
+    extent: Extent,
+    start: usize,
+) -> Result<ConeTable, AllocError>
+    requires grid { IsGrid grid }
+    requires cone { IsCone cone }
+    ensures cone { IfOk result (λ table. table.cone ≡ cone) }
+    ensures told { IfOk result (IsTold grid extent) }
+{
+    let rows = rows_of(alloc, grid, cone, extent)?;
+    let past = past_of(alloc, rows.as_slice())?;
+    Ok(ConeTable {
+        cone,
+        rows,
+        past,
+        start,
+    })
+}
+
+fn past_of(alloc: Global, rows: &[Row]) -> Result<Vec<u64>, AllocError>
+    ensures { IfOk result (λ past. past.items ≡ pasts rows.now) }
+{
+    rows.iter().map(|row| row.past).collect(alloc)
+}

@@ -1,0 +1,10 @@
+//! The lists of predecessors, kept, found or counted, and the runs of identifiers that they are told by.
+
+pub mod counted_preds;
+pub mod cut_runs;
+pub mod found_preds;
+pub mod id_run;
+pub mod pred_lists;
+pub mod predecessors;
+pub mod runs;
+pub mod take_preds;

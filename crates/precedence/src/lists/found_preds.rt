@@ -1,0 +1,166 @@
+//! Predecessors that are found when they are asked for.
+
+ghost use Rattle.std.specs.Prelude.{◌≡◌, ◌<◌, ◌^◌, ◌++◌, IfOk, OnOk, All, length, map};
+ghost use Rattle.precedence.specs.Cone.{preds, HasZones};
+ghost use Rattle.precedence.specs.IdRuns.{ids_of};
+ghost use Rattle.precedence.specs.inner.Lists.{in_cone};
+ghost use Rattle.precedence.specs.inner.Rows.{AreInOrder};
+
+use crate::cones::bounds::extent_of;
+use crate::cones::zone_tables::{ZoneTables, tables_of};
+use crate::lists::cut_runs::add_ids;
+use crate::lists::id_run::IdRun;
+use crate::lists::pred_lists::PredLists;
+use crate::lists::predecessors::Preds;
+use crate::lists::runs::{Hint, NOTHING_KNOWN, add_above};
+use crate::numbering::Numbering;
+use crate::places::{Places, places_of};
+use pit_parts::block::Block;
+use pit_parts::plan::Plan;
+use std::alloc::{AllocError, Global};
+use std::cell::Cell;
+use std::marker::Model;
+
+// As many blocks lie in a cone of one bench under slopes of 1:1, and a few more.
+const USUAL: usize = 8;
+
+/// The predecessors of each block by identifier, in rising order. They are not kept: those of a block are found when they are asked
+/// for. It takes 9 bytes for each block and 32 for each row of a cone. Contracts see the list of all lists, as of `Preds`.
+#[derive(Drop)]
+pub struct FoundPreds {
+    places: Places,
+    // of each block by identifier
+    zones: Vec<u8>,
+    tables: ZoneTables,
+    // where the run of each row of the tables was found last: a guess, which changes the time and not the lists
+    hints: Vec<Cell<Hint>>,
+}
+
+impl Model for FoundPreds {
+    ghost use Rattle.std.specs.Prelude.{ℕ, List};
+
+    ghost Value = { List (List ℕ) };
+
+    ghost use Rattle.precedence.specs.inner.FoundFields.{found_in, KeepsFound};
+
+    ghost view = { found_in };
+
+    ghost invariant = { KeepsFound };
+}
+
+impl FoundPreds {
+    /// The blocks of the cone above each block, whose slopes and number of benches are those of the block's own zone. The plan has to
+    /// have the zone of each block. Fails only where memory is refused.
+    pub fn new(alloc: Global, numbering: &Numbering, plan: &Plan) -> Result<FoundPreds, AllocError>
+        requires { HasZones plan.now numbering.now.blocks }
+        ensures { IfOk result (λ found. found ≡ preds plan.now numbering.now.blocks) }
+    {
+        let blocks = numbering.blocks();
+        let places = places_of(alloc, blocks)?;
+        let zones = zones_of(alloc, blocks)?;
+        let tables = tables_of(alloc, plan.grid(), plan.cones(), extent_of(blocks))?;
+        let hints = no_hints(alloc, tables.rows())?;
+        Ok(FoundPreds {
+            places,
+            zones,
+            tables,
+            hints,
+        })
+    }
+
+    /// All lists, kept. Fails only where memory is refused.
+    #[tactic(auto, using(crate::proofs::AllLists::found_length))]
+    pub fn kept(&self, alloc: Global) -> Result<Preds, AllocError>
+        ensures { IfOk result (λ lists. lists ≡ self.now) }
+    {
+        let count = self.zones.len();
+        let mut flat = Vec::with_capacity(alloc, count.saturating_mul(USUAL))?;
+        let mut ends = Vec::with_capacity(alloc, count)?;
+        let mut runs = Vec::new(alloc);
+        for id in 0..count as u32 {
+            runs.clear();
+            self.add_runs(&mut runs, id)?;
+            add_ids(&mut flat, runs.as_slice())?;
+            ends.push(flat.len())?;
+        }
+        Ok(Preds::of_parts(flat, ends))
+    }
+}
+
+impl PredLists for FoundPreds {
+    ghost lists = { λ found. found };
+
+    #[tactic(auto, using(crate::proofs::AllLists::found_length))]
+    fn count(&self) -> usize {
+        self.zones.len()
+    }
+
+    #[tactic(auto, using(crate::proofs::AllLists::found_length))]
+    fn add_runs(&self, runs: &mut Vec<IdRun>, id: u32) -> Result<(), AllocError> {
+        let index = id as usize;
+        let zone = self.zones[index];
+        let from = self.places.codes[index];
+        add_in_cone(
+            runs,
+            &self.places,
+            &self.tables,
+            self.hints.as_slice(),
+            zone,
+            from,
+        )
+    }
+}
+
+/// The predecessors of each block by identifier, in rising order: the blocks of the cone above it, whose slopes and number of
+/// benches are those of the block's own zone. The plan has to have the zone of each block. Fails only where memory is refused.
+pub fn preds(alloc: Global, numbering: &Numbering, plan: &Plan) -> Result<Preds, AllocError>
+    requires { HasZones plan.now numbering.now.blocks }
+    ensures { IfOk result (λ lists. lists ≡ preds plan.now numbering.now.blocks) }
+{
+    let found = FoundPreds::new(alloc, numbering, plan)?;
+    found.kept(alloc)
+}
+
+fn zones_of(alloc: Global, blocks: &[Block]) -> Result<Vec<u8>, AllocError>
+    ensures { IfOk result (λ zones. zones.items ≡ map (λ b. b.zone) blocks.now) }
+{
+    blocks.iter().map(|block| block.zone).collect(alloc)
+}
+
+fn no_hints(alloc: Global, count: usize) -> Result<Vec<Cell<Hint>>, AllocError> {
+    let mut hints = Vec::with_capacity(alloc, count)?;
+    for _ in 0..count {
+        hints.push(Cell::new(NOTHING_KNOWN))?;
+    }
+    Ok(hints)
+}
+
+// Appends the runs of the blocks in the rows of a zone's cone, seen from the code `from`.
+#[inline(always)]
+fn add_in_cone(
+    runs: &mut Vec<IdRun>,
+    places: &Places,
+    tables: &ZoneTables,
+    hints: &[Cell<Hint>],
+    zone: u8,
+    from: u64,
+) -> Result<(), AllocError>
+    requires zone { zone < length tables.now.of_zone.items }
+    requires below { All (λ t. t < length tables.now.tables.items) tables.now.of_zone.items }
+    requires in_order { All (λ t. AreInOrder t.rows.items) tables.now.tables.items }
+    requires from { from < 10 ^ 14 }
+    ensures { OnOk result (ids_of runs.new.items
+        ≡ ids_of runs.old.items ++ in_cone tables.now.tables.items tables.now.of_zone.items
+        places.now.codes.items zone from) }
+{
+    let table = tables.of(zone);
+    let start = table.start.min(hints.len());
+    add_above(
+        runs,
+        places,
+        table.rows.as_slice(),
+        table.past.as_slice(),
+        &hints[start..],
+        from,
+    )
+}

@@ -1,0 +1,11 @@
+//! A run of identifiers.
+
+ghost use Rattle.std.specs.Prelude.{◌+◌, ◌≤◌, ◌^◌};
+
+/// Identifiers that follow one another: `len` of them, from `first` on.
+#[derive(Clone, Copy, Debug)]
+pub struct IdRun {
+    pub first: u32,
+    pub len: u32,
+    pub ghost within: { first + len ≤ 2 ^ 32 },
+}

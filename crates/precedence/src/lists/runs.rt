@@ -1,0 +1,153 @@
+//! The identifiers of the blocks above a block, by runs.
+
+ghost use Rattle.std.specs.Prelude.{◌≡◌, ℕ, ◌+◌, ◌-◌, ◌<◌, ◌≤◌, ◌^◌, ◌++◌, OnOk, IfOk, length, slice_index};
+ghost use Rattle.std.specs.List.{range_with_len};
+ghost use Rattle.std.specs.List.Sorted.{IsStrictlyIncreasing};
+ghost use Rattle.precedence.specs.Cone.{places_where};
+ghost use Rattle.precedence.specs.IdRuns.{ids_of};
+ghost use Rattle.precedence.specs.inner.Rows.{is_in_rows, pasts, start_of, AreInOrder};
+ghost use Rattle.precedence.specs.inner.Search.{run};
+ghost use Rattle.precedence.specs.declared.cones.cone_rows.Row.{Row};
+
+use crate::cones::cone_rows::Row;
+use crate::lists::id_run::IdRun;
+use crate::places::Places;
+use crate::places::find::find;
+use std::alloc::AllocError;
+use std::cell::Cell;
+
+/// The identifiers that a row's run began and ended at, for the block that was looked at last.
+#[derive(Clone, Copy, Debug)]
+pub struct Hint {
+    pub first: u32,
+    pub past: u32,
+}
+
+/// What is known before the first block.
+pub const NOTHING_KNOWN: Hint = Hint { first: 0, past: 0 };
+
+/// Appends the runs of the identifiers whose codes lie in the rows, seen from the code `from`, in rising order. `past` has
+/// the end of each row. The hints, one for each row, are guesses, such as where the rows' runs were found for a smaller
+/// code: they change the time and not the answer.
+pub fn add_above(
+    runs: &mut Vec<IdRun>,
+    places: &Places,
+    rows: &[Row],
+    past: &[u64],
+    hints: &[Cell<Hint>],
+    from: u64,
+) -> Result<(), AllocError>
+    requires in_order { AreInOrder rows.now }
+    requires past { past.now ≡ pasts rows.now }
+    requires from { from < 10 ^ 14 }
+    ensures { OnOk result (ids_of runs.new.items
+        ≡ ids_of runs.old.items ++ places_where (is_in_rows from rows.now) 0 places.now.codes.items) }
+{
+    let mut i = 0;
+    let mut behind = 0;
+    while i < rows.len() {
+        let run = add_run(runs, places, rows[i], hint_at(hints, i, behind), from)?;
+        keep_hint(hints, i, run);
+        behind = run.past;
+        i = next_row(places, past, i, run.past as usize, from);
+    }
+    Ok(())
+}
+
+// A row's hint, but for what is before `behind`, where the row before it ends: a row that was left out for long has an old one.
+#[inline(always)]
+fn hint_at(hints: &[Cell<Hint>], i: usize, behind: u32) -> Hint {
+    let known = match hints.get(i) {
+        Some(hint) => hint.get(),
+        None => NOTHING_KNOWN,
+    };
+    Hint {
+        first: known.first.max(behind),
+        past: known.past.max(behind),
+    }
+}
+
+#[inline(always)]
+fn keep_hint(hints: &[Cell<Hint>], i: usize, run: Hint) {
+    if let Some(hint) = hints.get(i) {
+        hint.set(run);
+    }
+}
+
+// Appends the run of the identifiers whose codes lie in a row, and tells the first of them and the one past the last.
+#[tactic(auto, using(crate::proofs::Starts::runs))]
+#[inline(always)]
+fn add_run(
+    runs: &mut Vec<IdRun>,
+    places: &Places,
+    row: Row,
+    hint: Hint,
+    from: u64,
+) -> Result<Hint, AllocError>
+    requires { from < 10 ^ 14 }
+    ensures run { OnOk result (ids_of runs.new.items
+        ≡ ids_of runs.old.items ++ run from row places.now.codes.items) }
+    ensures past { IfOk result (λ found. found.past
+        ≡ start_of (from + row.past) places.now.codes.items) }
+{
+    let codes = places.codes.as_slice();
+    let first = find(codes, hint.first as usize, from + row.first);
+    let past = run_end(codes, first, hint.past as usize, from + row.past);
+    push_run(runs, first as u32, past as u32)?;
+    Ok(Hint {
+        first: first as u32,
+        past: past as u32,
+    })
+}
+
+// Appends the run from `first` on and before `past`, where it has an identifier.
+#[tactic(auto, using(crate::proofs::RunLists::pushed_run))]
+#[inline(always)]
+fn push_run(runs: &mut Vec<IdRun>, first: u32, past: u32) -> Result<(), AllocError>
+    requires { first ≤ past }
+    ensures { OnOk result (ids_of runs.new.items
+        ≡ ids_of runs.old.items ++ range_with_len first (past - first)) }
+{
+    if first < past {
+        runs.push(IdRun {
+            first,
+            len: past - first,
+        })?;
+    }
+    Ok(())
+}
+
+// Where the codes from the place `first` on are no longer below `past`. Most rows of scattered blocks have no code, and need no
+// search for it.
+#[tactic(auto, using(crate::proofs::Starts::starts))]
+#[inline(always)]
+fn run_end(codes: &[u64], first: usize, hint: usize, past: u64) -> usize
+    requires rising { IsStrictlyIncreasing codes.now }
+    requires first { first ≤ start_of past codes.now }
+    ensures { result ≡ start_of past codes.now }
+{
+    if first < codes.len() && codes[first] < past {
+        find(codes, hint.max(first), past)
+    } else {
+        first
+    }
+}
+
+// The first row after the row `i` that can have a code from the one of the identifier `past` on, or the number of rows.
+#[tactic(auto, using(crate::proofs::Starts::runs))]
+#[inline(always)]
+fn next_row(places: &Places, pasts: &[u64], i: usize, past: usize, from: u64) -> usize
+    requires rising { IsStrictlyIncreasing pasts.now }
+    requires i { i < length pasts.now }
+    ensures later { i < result }
+    ensures within { result ≤ length pasts.now }
+    ensures skipped { (k : ℕ) → i < k → k < result → past < length places.now.codes.items
+        → slice_index pasts.now k ≤ slice_index places.now.codes.items past - from }
+{
+    if past < places.codes.len() {
+        let gap = places.codes[past].saturating_sub(from);
+        find(pasts, i, gap.saturating_add(1)).max(i + 1)
+    } else {
+        pasts.len()
+    }
+}

@@ -1,0 +1,43 @@
+//! Lists of predecessors that come block by block.
+
+ghost use Rattle.std.specs.Prelude.{◌≡◌, ◌<◌, ◌≤◌, ◌++◌, [], ◌∷◌, ℕ, List, OnOk, length, sum_by};
+ghost use Rattle.pit_parts.specs.declared.ranges.TheConstants.{MAX_BLOCKS};
+
+use crate::lists::predecessors::Preds;
+use std::alloc::AllocError;
+
+/// Takes the list of one block after the other. `Preds` keeps the lists; `CountedPreds` keeps only how many identifiers stand in
+/// them.
+pub trait TakePreds {
+    ghost lists: { Self → List (List ℕ) };
+
+    /// The number of lists.
+    fn count(&self) -> usize
+        ensures { result ≡ length (lists self.now) };
+
+    /// The number of identifiers in all lists.
+    fn arcs(&self) -> usize
+        ensures { result ≡ sum_by length (lists self.now) };
+
+    /// Takes the list of one more block. Where memory is refused the lists are of no use.
+    fn take(&mut self, list: &Vec<u32>) -> Result<(), AllocError>
+        requires few { length (lists self.old) < MAX_BLOCKS }
+        requires short { length list.now.items ≤ MAX_BLOCKS }
+        ensures { OnOk result (lists self.new ≡ lists self.old ++ list.now.items ∷ []) };
+}
+
+impl TakePreds for Preds {
+    ghost lists = { λ preds. preds };
+
+    fn count(&self) -> usize {
+        self.len()
+    }
+
+    fn arcs(&self) -> usize {
+        self.arcs()
+    }
+
+    fn take(&mut self, list: &Vec<u32>) -> Result<(), AllocError> {
+        self.push(list.as_slice())
+    }
+}

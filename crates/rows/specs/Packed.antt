@@ -1,0 +1,41 @@
+-- Rows among packed items: which item it is, and the row that stands somewhere in several lists of items.
+use Rattle.std.specs.Prelude.{◌≡◌, ℕ, ℤ, true, is_some, slice_get, length, All, List, Option, Some, None}
+use Rattle.std.specs.Option.{option_and_then}
+use Rattle.pit_parts.specs.Worth.{IsWorth}
+use Rattle.rows.specs.declared.item.Item.{Item}
+use Rattle.rows.specs.declared.item.Item.TheVariants.{Row, End}
+use Rattle.rows.specs.declared.item.Valued.{Valued}
+use Rattle.rows.specs.declared.mark.Mark.{Mark}
+use Rattle.rows.specs.declared.mark.Mark.TheVariants as mark
+use Rattle.rows.specs.declared.spot.Spot.{Spot}
+
+-- so many worths, each of them one that a formula can give
+abbrev pub AreWorths : ℕ → List ℤ → Type 0
+AreWorths width worths = (length worths ≡ width) × All IsWorth worths
+
+-- a row has so many worths
+abbrev pub IsOfWidth : ℕ → Item → Type 0
+IsOfWidth width (Row v) = AreWorths width v.worths
+IsOfWidth width (End file rows) = Unit {0}
+
+-- the item without what a row has
+abbrev pub mark_of : Item → Mark
+mark_of (Row v) = mark.Row v.file v.place
+mark_of (End file rows) = mark.End file rows
+
+-- the row, if the item is one
+abbrev pub row_in : Item → Option Valued
+row_in (Row v) = Some v
+row_in (End file rows) = None
+
+-- the row at a position of a list of items, if a row stands there
+abbrev pub row_of : List Item → ℕ → Option Valued
+row_of items position = option_and_then row_in (slice_get items position)
+
+-- the row at a spot of these lists, if a row stands there
+abbrev pub row_on : List (List Item) → Spot → Option Valued
+row_on lists spot = option_and_then (λ items. row_of items spot.position) (slice_get lists spot.list)
+
+-- a row stands there
+abbrev pub HasRow : List (List Item) → Spot → Type 0
+HasRow lists spot = is_some (row_on lists spot) ≡ true

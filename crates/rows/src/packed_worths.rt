@@ -1,0 +1,24 @@
+//! The worths of packed items.
+
+ghost use Rattle.std.specs.Prelude.{◌≡◌, ◌+◌, ◌*◌, ◌≤◌, length};
+ghost use Rattle.rows.specs.inner.Own.{own_at};
+
+/// The worths of items, of each as many: those of one after those of the one before it.
+#[derive(Debug, Drop)]
+pub struct PackedWorths {
+    pub worths: Vec<i64>,
+    /// The number of worths of an item.
+    pub width: usize,
+}
+
+impl PackedWorths {
+    /// The worths of the item at a position, from 0.
+    pub fn at(&self, position: usize) -> &[i64]
+        requires { position * self.now.width + self.now.width ≤ length self.now.worths.items }
+        ensures { result.now ≡ own_at self.now position }
+    {
+        let (_, rest) = self.worths.as_slice().split_at(position * self.width);
+        let (own, _) = rest.split_at(self.width);
+        own
+    }
+}

@@ -1,0 +1,61 @@
+//! The worths of the rows of several files as one list.
+
+ghost use Rattle.std.specs.Prelude.{◌≡◌, ◌<◌, All, length, map, slice_index_or, []};
+ghost use Rattle.rows.specs.inner.Own.{own_on, HasOwn};
+
+use crate::packed_worths::PackedWorths;
+use crate::spot::Spot;
+use std::marker::Model;
+
+/// The worths of the rows of several files, where the valuers put them, and the order of the rows. In memory a row takes 8 bytes, and 8
+/// for each of its worths. Contracts see the list of each row's worths.
+#[derive(Debug, Drop)]
+pub struct RowWorths {
+    lists: Vec<PackedWorths>,
+    spots: Vec<Spot>,
+}
+
+impl Model for RowWorths {
+    ghost use Rattle.std.specs.Prelude.{List, ℤ, All, map};
+    ghost use Rattle.rows.specs.inner.Own.{own_on, HasOwn};
+
+    ghost Value = { List (List ℤ) };
+
+    ghost view = { λ r. map (own_on r.lists.items) r.spots.items };
+
+    ghost invariant = { λ r. All (HasOwn r.lists.items) r.spots.items };
+}
+
+impl RowWorths {
+    // The worths at these spots of the lists.
+    pub(crate) fn new(lists: Vec<PackedWorths>, spots: Vec<Spot>) -> RowWorths
+        requires { All (HasOwn lists.items) spots.items }
+        ensures { result ≡ map (own_on lists.items) spots.items }
+    {
+        RowWorths { lists, spots }
+    }
+
+    /// The number of rows.
+    pub fn len(&self) -> usize
+        ensures { result ≡ length self.now }
+    {
+        self.spots.len()
+    }
+
+    /// The worths of the row at a position, from 0.
+    pub fn at(&self, position: usize) -> &[i64]
+        requires { position < length self.now }
+        ensures { result.now ≡ slice_index_or self.now position [] }
+    {
+        let spot = self.spots[position];
+        own_on(&self.lists, spot)
+    }
+}
+
+// The worths at a spot of these lists.
+fn own_on(lists: &[PackedWorths], spot: Spot) -> &[i64]
+    requires { HasOwn lists.now spot }
+    ensures { result.now ≡ own_on lists.now spot }
+{
+    lists[spot.list as usize].at(spot.position as usize)
+}
