@@ -1,9 +1,9 @@
 -- One step further along the blocks, the resources and the rows of values.
-use Rattle.std.proofs.Common.{◌≡◌, ℕ, suc, ◌+◌, ◌*◌, ◌<◌, ◌≤◌, Bool, true, false, cond, List, [], ◌∷◌, ◌++◌, length, map, take, drop, get_or, All, Option, Some, refl, sym, ◌∙◌, ap, arith, append_assoc, append-nil, length-append, eq-eqb, ℤ, zero-mul, ⊎_elim}
+use Rattle.std.proofs.Common.{◌≡◌, ℕ, suc, ◌+◌, ◌*◌, ◌<◌, ◌≤◌, Bool, true, false, cond, List, [], ◌∷◌, ◌++◌, length, map, take, get_or, All, Option, Some, refl, sym, ◌∙◌, ap, arith, append_assoc, append-nil, length-append, eq-eqb, zero-mul, ⊎_elim}
 use Rattle.std.specs.Prelude.{filter, slice_get, slice_index, ◌==◌}
 use Rattle.std.specs.List.{cons_option, flat_map, filter_map, range_with_len, enumerate_from, list_any}
 use Rattle.std.proofs.lemmas.Bool.{cases_Bool, eqb-true}
-use Rattle.std.proofs.lemmas.List.{length-map, map-append, take_more, take_all, take-append-drop, take-append-le, drop_all, drop-append-le}
+use Rattle.std.proofs.lemmas.List.{length-map, map-append, take_more}
 use Rattle.std.proofs.lemmas.List.Concat.{flat_map-append, length-flat_map}
 use Rattle.std.proofs.lemmas.List.Elements.{All-nil, All-cons, All-tail, filter-append}
 use Rattle.std.proofs.lemmas.List.Folds.{find_at}
@@ -17,7 +17,6 @@ use Rattle.precedence.specs.Numbering.{IsNumbering, NumberingView}
 use Rattle.precedence.proofs.PlacesWhere.{numbered_more}
 use Rattle.precedence.proofs.RunsOfRows.{range_more}
 use Rattle.mine_instance.specs.OfModel.{block_of_id, by_identifier, covers, pair_with, covering}
-use Rattle.mine_instance.specs.Rows.{rows_of}
 
 -- the next element of a front
 pub take_next : {X : Type 0} (xs : List X) (i : ℕ) (x : X) → slice_get xs i ≡ Some x → take (i + 1) xs ≡ take i xs ++ x ∷ []
@@ -65,24 +64,6 @@ pairs_few resources a n few =
           length-enumerate_from 0 resources,
         )
 
--- the values of one block more
-pub values_next : (f : Block → List ℤ) (blocks : List Block) (i : ℕ) (b : Block) → slice_get blocks i ≡ Some b
-    → flat_map f (take (i + 1) blocks) ≡ flat_map f (take i blocks) ++ f b
-values_next f blocks i b e = rw (take_next blocks i b e, flat_map-append, append-nil)
-
--- there is room for the values of the next block, where there is room for those of all
-pub next_fits : (f : Block → List ℤ) (blocks : List Block) (i : ℕ) (b : Block) → slice_get blocks i ≡ Some b
-    → length (flat_map f (take i blocks)) + length (f b) ≤ length (flat_map f blocks)
-next_fits f blocks i b e =
-    let front = flat_map f (take (i + 1) blocks) in
-    let back = flat_map f (drop (i + 1) blocks) in
-    let whole : length front + length back ≡ length (flat_map f blocks) =
-    sym (length-append front back)
-    ∙ ap length (sym (flat_map-append f (take (i + 1) blocks) (drop (i + 1) blocks)) ∙ ap (flat_map f) (take-append-drop (i + 1) blocks)) in
-    let next : length front ≡ length (flat_map f (take i blocks)) + length (f b) =
-    ap length (values_next f blocks i b e) ∙ length-append (flat_map f (take i blocks)) (f b) in
-    omega (arith, whole, next)
-
 -- lists of one length, one after the other
 pub length-flat : {X A : Type 0} (f : X → List A) (width : ℕ) → ((x : X) → length (f x) ≡ width) → (xs : List X)
     → length (flat_map f xs) ≡ length xs * width
@@ -92,17 +73,6 @@ length-flat f width each (x ∷ xs) =
     ∙ (let rest : length (flat_map f xs) ≡ length xs * width = length-flat f width each xs in
     let one : length (f x) ≡ width = each x in
     grind arith)
-
--- and cut again
-pub rows_of-flat : {X A : Type 0} (f : X → List A) (width : ℕ) → ((x : X) → length (f x) ≡ width) → (xs : List X)
-    → rows_of (length xs) width (flat_map f xs) ≡ map f xs
-rows_of-flat f width each [] = refl
-rows_of-flat f width each (x ∷ xs) =
-    let wide : length (f x) ≡ width = each x in
-    let rest = flat_map f xs in
-    let front = take-append-le width (f x) rest (omega arith) ∙ take_all width (f x) (omega arith) in
-    let back = drop-append-le width (f x) rest (omega arith) ∙ ap (λ ys. ys ++ rest) (drop_all width (f x) (omega arith)) in
-    (λ j. front j ∷ rows_of (length xs) width (back j)) ∙ ap (λ rows. f x ∷ rows) (rows_of-flat f width each xs)
 
 -- the block of an identifier is the one of the numbering
 block_found : (listed : List Block) (n : NumberingView) → IsNumbering listed n → (k : ℕ) (d : Block) → k < length n.blocks

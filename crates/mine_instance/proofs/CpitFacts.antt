@@ -1,13 +1,11 @@
 -- The CPIT of a valid instance keeps what every CPIT keeps.
-use Rattle.std.proofs.Common.{◌≡◌, ℕ, ◌+◌, ◌<◌, Bool, true, cond, List, [], ◌∷◌, ◌++◌, length, take, drop, get_or, map, refl, ◌∙◌, ap, arith, ℤ, All}
+use Rattle.std.proofs.Common.{◌≡◌, ℕ, ◌<◌, true, List, length, get_or, map, ◌∙◌, arith, ℤ, All}
 use Rattle.std.specs.Prelude.{filter, AllPairs, IsTrue, ◌==◌, ◌&&◌, ◌||◌, nat_lt}
 use Rattle.std.proofs.lemmas.Bool.{eqb-true}
 use Rattle.std.proofs.lemmas.Bool.Decides.{nat_tests}
-use Rattle.std.proofs.lemmas.List.{get_or-map, length-map, length-take, map-append, take_min}
-use Rattle.std.proofs.lemmas.List.Elements.{All-map, All-filter, All-head, All-tail, filter-append, filter_passes}
+use Rattle.std.proofs.lemmas.List.{length-map}
+use Rattle.std.proofs.lemmas.List.Elements.{All-map, All-filter, filter_passes}
 use Rattle.std.proofs.lemmas.List.Kept.{AllPairs-filter}
-use Rattle.std.proofs.Math.Seq.{take-add}
-use Rattle.pit_parts.specs.declared.limit.Limit.{Limit}
 use Rattle.mine_instance.specs.CpitKept.{IsCpit}
 use Rattle.mine_instance.specs.CpitOrder.{is_listed_before}
 use Rattle.mine_instance.specs.Greatest.{greatest}
@@ -15,7 +13,6 @@ use Rattle.mine_instance.specs.OfCpit.{cpit, is_chosen, without_destination, des
 use Rattle.mine_instance.specs.Order.{coef_comes_before}
 use Rattle.mine_instance.specs.Valid.{IsValid}
 use Rattle.mine_instance.specs.declared.coef.Coef.{Coef}
-use Rattle.mine_instance.specs.declared.cpit.CpitCoef.{CpitCoef}
 use Rattle.mine_instance.specs.Instance.{Instance}
 use Rattle.mine_instance.proofs.PairFacts.{pairs_map}
 

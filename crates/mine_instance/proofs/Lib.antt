@@ -3,6 +3,7 @@ pub mod PairFacts
 pub mod CpitFacts
 pub mod BuildFacts
 pub mod FoundFacts
+pub mod GreatestFacts
 pub mod GroupFacts
 pub mod ModelFacts
 pub mod ValueFacts

@@ -1,11 +1,7 @@
--- The values of blocks: taken row by row and file by file, and as they stand at positions of a list.
-use Rattle.std.proofs.Common.{◌≡◌, ℕ, zero, suc, ◌*◌, ◌<◌, ℤ, List, [], ◌∷◌, length, map, get_or, All, Some, refl, sym, ap, ◌∙◌, arith}
-use Rattle.std.specs.Prelude.{slice_get}
-use Rattle.std.specs.List.{flat_map}
-use Rattle.std.specs.Option.{option_map}
+-- The values of blocks by the worths of rows at the positions of a numbering, and kept row by row.
+use Rattle.std.proofs.Common.{◌≡◌, ℕ, ◌<◌, ℤ, List, [], ◌∷◌, length, map, get_or, All, refl, sym, ap, ◌∙◌, arith}
 use Rattle.std.proofs.lemmas.List.{get_or-map, length-map, same_lists}
-use Rattle.std.proofs.lemmas.List.Elements.{All-map}
-use Rattle.std.proofs.lemmas.Option.{same_Some, slice_get-get_or, slice_get-map}
+use Rattle.std.proofs.lemmas.List.Elements.{All-head, All-tail}
 use Rattle.pit_parts.specs.Plan.{PlanParts}
 use Rattle.pit_parts.specs.PlanFormulas.{formulas_of_plan}
 use Rattle.pit_parts.specs.declared.block.Block.{Block}
@@ -13,64 +9,20 @@ use Rattle.precedence.specs.Identifier.{blocks_of_rows}
 use Rattle.precedence.specs.Numbering.{IsNumbering, NumberingView}
 use Rattle.rows.specs.Valued.{worths_by}
 use Rattle.rows.specs.declared.item.Valued.{Valued}
-use Rattle.mine_instance.specs.OfModel.{values_of}
+use Rattle.mine_instance.specs.OfModel.{in_hundreds, values_of}
 use Rattle.mine_instance.specs.WorthsOf.{AreWorthsOf}
-use Rattle.mine_instance.specs.Rows.{rows_of}
-use Rattle.mine_instance.specs.declared.values.Order.{Order}
-use Rattle.mine_instance.specs.declared.values.Order.TheVariants.{ById, ByPosition}
-use Rattle.mine_instance.specs.inner.ValuesFields.{in_order, AreWithin}
-use Rattle.mine_instance.proofs.BuildFacts.{length-flat, rows_of-flat}
-use Rattle.mine_instance.proofs.ModelFacts.{length-values_of}
+use Rattle.mine_instance.specs.inner.FoundValueFields.{found_at}
 
--- worths at a position are those of the block of the row there
-pub block_there : (plan : PlanParts) (rows : List Valued) (i : ℕ) (worths : List ℤ)
-    → All (λ row. row.worths ≡ worths_by (formulas_of_plan plan) row.block) rows → i < length rows
-    → Some worths ≡ option_map (λ row. row.worths) (slice_get rows i)
-    → (b : Block) × (worths ≡ worths_by (formulas_of_plan plan) b) × (slice_get (blocks_of_rows rows) i ≡ Some b)
-block_there plan [] i worths all within is = absurd (omega arith)
-block_there plan (row ∷ rows) zero worths all within is = (row.block, same_Some worths row.worths is ∙ all 0 row within, refl)
-block_there plan (row ∷ rows) (suc i) worths all within is =
-    block_there plan rows i worths (λ k d h. all (suc k) d (omega arith)) (omega arith) is
-
-pub count_of : (plan : PlanParts) (worths : List (List ℤ)) (rows : List Valued) → AreWorthsOf plan worths rows → length worths ≡ length rows
-count_of plan worths rows are = ap length are.0 ∙ length-map rows (λ (row : Valued). row.worths)
-
--- so it is with worths that were read from the list of them
-pub worths_there : (plan : PlanParts) (worths : List (List ℤ)) (rows : List Valued) (i : ℕ) (own : List ℤ) → AreWorthsOf plan worths rows
-    → i < length worths → own ≡ get_or worths i []
-    → (b : Block) × (own ≡ worths_by (formulas_of_plan plan) b) × (slice_get (blocks_of_rows rows) i ≡ Some b)
-worths_there plan worths rows i own are within is =
-    let Worth : Valued → List ℤ = λ row. row.worths in
-    let long : length worths ≡ length rows = ap length are.0 ∙ length-map rows Worth in
-    block_there plan rows i own are.1 (omega (arith, within, long))
-    (ap Some is ∙ sym (slice_get-get_or worths i [] within) ∙ ap (λ (ws : List (List ℤ)). slice_get ws i) are.0 ∙ slice_get-map Worth rows i)
-
--- the values of all rows, one row's behind those of the row before it
-pub length-taken : (plan : PlanParts) (rows : List Valued)
-    → length (flat_map (values_of plan) (blocks_of_rows rows)) ≡ length rows * length plan.formulas
-length-taken plan rows =
-    length-flat (values_of plan) (length plan.formulas) (length-values_of plan) (blocks_of_rows rows)
-    ∙ ap (λ n. n * length plan.formulas) (length-map rows (λ (row : Valued). row.block))
-
-pub all_taken : (plan : PlanParts) (rows : List Valued) (all : List ℤ) (count width : ℕ)
-    → all ≡ flat_map (values_of plan) (blocks_of_rows rows) → count ≡ length rows → width ≡ length plan.formulas
-    → (length all ≡ count * width) × (rows_of count width all ≡ map (values_of plan) (blocks_of_rows rows))
-all_taken plan rows all count width taken long wide =
-    let blocks = blocks_of_rows rows in
-    let of_blocks : count ≡ length blocks = long ∙ sym (length-map rows (λ (row : Valued). row.block)) in (
-      ap length taken ∙ length-taken plan rows ∙ (λ j. sym long j * sym wide j),
-      (λ j. rows_of (of_blocks j) (wide j) (taken j)) ∙ rows_of-flat (values_of plan) (length plan.formulas) (length-values_of plan) blocks,
-    )
-
--- what holds of all holds of those at positions
-pub all_in_order : (P : List ℤ → Type 0) (listed : List (List ℤ)) (order : Order) → AreWithin listed order → All P listed
-    → All P (in_order listed order)
-all_in_order P listed ById within all = all
-all_in_order P listed (ByPosition positions) within all =
-    All-map P (λ p. get_or listed p []) positions.items (λ k d h. all _ [] (within k d h))
+-- the worths of rows are those of their blocks
+worths_of_blocks : (plan : PlanParts) (rows : List Valued) → All (λ row. row.worths ≡ worths_by (formulas_of_plan plan) row.block) rows
+    → map (λ row. row.worths) rows ≡ map (worths_by (formulas_of_plan plan)) (blocks_of_rows rows)
+worths_of_blocks plan [] all = refl
+worths_of_blocks plan (row ∷ rows) all =
+    let Own : Valued → Type 0 = λ row. row.worths ≡ worths_by (formulas_of_plan plan) row.block in
+    λ i. All-head Own row rows all i ∷ worths_of_blocks plan rows (All-tail Own row rows all) i
 
 -- at the positions of a numbering stands what belongs to the blocks by identifier
-pub numbered_at : (value : Block → List ℤ) (blocks : List Block) (n : NumberingView) → IsNumbering blocks n
+numbered_at : (value : Block → List ℤ) (blocks : List Block) (n : NumberingView) → IsNumbering blocks n
     → map (λ p. get_or (map value blocks) p []) n.positions ≡ map value n.blocks
 numbered_at value blocks n is =
     same_lists _ _ (length-map n.positions at ∙ is.positions ∙ sym is.blocks ∙ sym (length-map n.blocks value)) (each blocks is)
@@ -91,3 +43,19 @@ numbered_at value blocks n is =
         ∙ get_or-map value listed (get_or n.positions k 0) b [] (is.within k low)
         ∙ ap value (is.stands k b low)
         ∙ sym (get_or-map value n.blocks k b d (omega (arith, is.blocks)))
+
+-- a list made in two steps
+in_two_steps : {X Y Z : Type 0} (f : Y → Z) (g : X → Y) (xs : List X) → map (λ x. f (g x)) xs ≡ map f (map g xs)
+in_two_steps f g [] = refl
+in_two_steps f g (x ∷ xs) = ap (λ ys. f (g x) ∷ ys) (in_two_steps f g xs)
+
+-- the worths of rows at the positions of the numbering of their blocks make the values of the blocks by identifier
+pub values_found : (worths : List (List ℤ)) (positions : List ℕ) (plan : PlanParts) (rows : List Valued) (n : NumberingView)
+    → AreWorthsOf plan worths rows → IsNumbering (blocks_of_rows rows) n → n.positions ≡ positions
+    → map (found_at worths) positions ≡ map (values_of plan) n.blocks
+values_found worths positions plan rows n are is same =
+    let worth : Block → List ℤ = worths_by (formulas_of_plan plan) in
+    let own : worths ≡ map worth (blocks_of_rows rows) = are.0 ∙ worths_of_blocks plan rows are.1 in
+    in_two_steps (map in_hundreds) (λ p. get_or worths p []) positions
+    ∙ ap (map (map in_hundreds)) ((λ i. map (λ p. get_or (own i) p []) (sym same i)) ∙ numbered_at worth (blocks_of_rows rows) n is)
+    ∙ sym (in_two_steps (map in_hundreds) worth n.blocks)

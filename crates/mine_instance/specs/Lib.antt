@@ -1,3 +1,4 @@
+pub mod BlockValues
 pub mod Cpit
 pub mod CpitKept
 pub mod CpitOrder

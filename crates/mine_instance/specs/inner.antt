@@ -1,2 +1,2 @@
 pub mod FoundCoefFields
-pub mod ValuesFields
+pub mod FoundValueFields

@@ -10,21 +10,20 @@ ghost use Rattle.mine_instance.specs.Valid.{IsValid};
 use crate::coef_group::CoefGroup;
 use crate::coef_list::CoefList;
 use crate::cpit::{Cpit, CpitCoef, CpitCoefs};
-use crate::greatest::{first_greatest, greatest};
 use crate::instance::Instance;
-use crate::values::Values;
+use crate::value_list::ValueList;
 use pit_units::Dec;
 use precedence::PredLists;
 use std::alloc::{AllocError, Global};
 
 /// The CPIT of a valid instance: each block goes to the first destination where it is worth most, and has the value and the
 /// coefficients of that destination. Fails only where memory is refused.
-pub fn build_cpit<P: PredLists, C: CoefList>(
+pub fn build_cpit<P: PredLists, C: CoefList, V: ValueList>(
     alloc: Global,
-    instance: &Instance<P, C>,
+    instance: &Instance<P, C, V>,
 ) -> Result<Cpit, AllocError>
-    requires { IsValid (seen P.lists C.list instance.now) }
-    ensures { IfOk result (λ built. built ≡ cpit (seen P.lists C.list instance.now)) }
+    requires { IsValid (seen P.lists C.list V.list instance.now) }
+    ensures { IfOk result (λ built. built ≡ cpit (seen P.lists C.list V.list instance.now)) }
 {
     let name = instance.name.copy(alloc)?;
     let values = greatest_of(alloc, &instance.values)?;
@@ -42,33 +41,33 @@ pub fn build_cpit<P: PredLists, C: CoefList>(
 }
 
 // What each block is worth where it is worth most.
-fn greatest_of(alloc: Global, values: &Values) -> Result<Vec<Dec>, AllocError>
-    requires { All (λ of_block. 0 < length of_block) values.now }
-    ensures { IfOk result (λ all. all.items ≡ map greatest values.now) }
+fn greatest_of<V: ValueList>(alloc: Global, values: &V) -> Result<Vec<Dec>, AllocError>
+    requires { All (λ of_block. 0 < length of_block) (V.list values.now) }
+    ensures { IfOk result (λ all. all.items ≡ map greatest (V.list values.now)) }
 {
     let mut all = Vec::with_capacity(alloc, values.len())?;
     for block in 0..values.len() {
-        all.push(greatest(values.of(block)))?;
+        all.push(values.of_block(block).greatest())?;
     }
     Ok(all)
 }
 
 // The coefficients at their blocks' destinations.
-fn chosen_of<C: CoefList>(
+fn chosen_of<C: CoefList, V: ValueList>(
     alloc: Global,
     coefs: &C,
-    values: &Values,
+    values: &V,
 ) -> Result<Vec<CpitCoef>, AllocError>
-    requires some { All (λ of_block. 0 < length of_block) values.now }
-    requires there { All (λ coef. coef.b < length values.now) (C.list coefs.now) }
+    requires some { All (λ of_block. 0 < length of_block) (V.list values.now) }
+    requires there { All (λ coef. coef.b < length (V.list values.now)) (C.list coefs.now) }
     ensures { IfOk result (λ chosen. chosen.items
-        ≡ map without_destination (filter (is_chosen values.now) (C.list coefs.now))) }
+        ≡ map without_destination (filter (is_chosen (V.list values.now)) (C.list coefs.now))) }
 {
     let mut chosen = Vec::new(alloc);
     let mut from = 0;
     while from < coefs.len() {
         let group = coefs.group(from);
-        let destination = first_greatest(values.of(group.b as usize));
+        let destination = values.of_block(group.b as usize).first_greatest();
         put_at(&mut chosen, &group, destination)?;
         from += group.pairs.len();
     }

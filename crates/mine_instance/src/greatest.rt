@@ -1,7 +1,8 @@
 //! The greatest of some numbers.
 
-ghost use Rattle.std.specs.Prelude.{◌≡◌, ◌<◌, ◌≤ℤ◌, ℤ, pos, length, slice_index_or, All, Contains};
+ghost use Rattle.std.specs.Prelude.{◌≡◌, ◌<◌, ◌≤ℤ◌, ℤ, pos, length, map, slice_index_or, All, Contains};
 ghost use Rattle.mine_instance.specs.Greatest.{first_greatest, greatest};
+ghost use Rattle.mine_instance.specs.OfModel.{in_hundreds};
 
 use pit_units::Dec;
 
@@ -29,4 +30,19 @@ pub fn greatest(numbers: &[Dec]) -> Dec
     ensures most { All (λ n. n ≤ℤ result) numbers.now }
 {
     numbers[first_greatest(numbers)]
+}
+
+/// The same of values in cents.
+pub fn first_greatest_of_cents(cents: &[i64]) -> usize
+    requires { 0 < length cents.now }
+    ensures value { result ≡ first_greatest (map in_hundreds cents.now) }
+    ensures within { result < length cents.now }
+{
+    let mut best = 0;
+    for index in 1..cents.len() {
+        if cents[best] < cents[index] {
+            best = index;
+        }
+    }
+    best
 }

@@ -2,11 +2,13 @@
 
 ghost use Rattle.std.specs.Prelude.{◌≡◌, IfOk, length, sum_by};
 ghost use Rattle.mine_instance.specs.Seen.{seen};
+ghost use Rattle.mine_instance.specs.Valid.{IsValid};
 
 use crate::blocks::Blocks;
 use crate::coef::Coefs;
-use crate::coef_list::{CoefList, keep};
+use crate::coef_list::{CoefList, keep as keep_coefs};
 use crate::limits::Limits;
+use crate::value_list::{ValueList, keep as keep_values};
 use crate::values::Values;
 use pit_parts::name::Name;
 use pit_units::Dec;
@@ -15,9 +17,10 @@ use std::alloc::{AllocError, Global};
 
 /// An instance of the production scheduling problem of MineLib (Espinoza, Goycoolea, Moreno and Newman 2013). Blocks,
 /// predecessors and values stand by identifier. `P` has the predecessors: `Preds` keeps their lists, `FoundPreds` finds them, and
-/// `CountedPreds` has only their number. `C` has the coefficients: `Coefs` keeps and lends them, and `FoundCoefs` finds them.
+/// `CountedPreds` has only their number. `C` has the coefficients: `Coefs` keeps and lends them, and `FoundCoefs` finds them. `V` has the
+/// values: `Values` keeps and lends them, and `FoundValues` finds them.
 #[derive(Debug, Drop)]
-pub struct Instance<P = Preds, C = Coefs> {
+pub struct Instance<P = Preds, C = Coefs, V = Values> {
     pub name: Name,
     /// The discount rate, 0 to 1 in a valid instance.
     pub rate: Dec,
@@ -31,13 +34,13 @@ pub struct Instance<P = Preds, C = Coefs> {
     /// The blocks that each block has to wait for.
     pub preds: P,
     /// What each block is worth at each destination, in units of 100 cents.
-    pub values: Values,
+    pub values: V,
     /// What resources handle of each block at each destination.
     pub coefs: C,
     pub limits: Limits,
 }
 
-impl<P, C> Instance<P, C> {
+impl<P, C, V> Instance<P, C, V> {
     /// The number of blocks.
     pub fn blocks_len(&self) -> usize
         ensures { result ≡ length self.now.blocks }
@@ -53,7 +56,7 @@ impl<P, C> Instance<P, C> {
     }
 }
 
-impl<P, C: CoefList> Instance<P, C> {
+impl<P, C: CoefList, V> Instance<P, C, V> {
     /// The number of coefficients.
     pub fn coefs_len(&self) -> usize
         ensures { result ≡ length (C.list self.now.coefs) }
@@ -62,7 +65,7 @@ impl<P, C: CoefList> Instance<P, C> {
     }
 }
 
-impl<P: TakePreds, C> Instance<P, C> {
+impl<P: TakePreds, C, V> Instance<P, C, V> {
     /// The number of arcs: pairs of a block and one that it has to wait for.
     pub fn arcs(&self) -> usize
         ensures { result ≡ sum_by length (P.lists self.now.preds) }
@@ -71,13 +74,15 @@ impl<P: TakePreds, C> Instance<P, C> {
     }
 }
 
-impl<P: PredLists + Drop, C: CoefList + Drop> Instance<P, C> {
-    /// The same instance, whose coefficients are kept. Fails only where memory is refused.
-    pub fn with_kept_coefs(self, alloc: Global) -> Result<Instance<P>, AllocError>
-        ensures { IfOk result
-            (λ kept. seen P.lists (λ coefs. coefs) kept ≡ seen P.lists C.list self) }
+impl<P: PredLists + Drop, C: CoefList + Drop, V: ValueList + Drop> Instance<P, C, V> {
+    /// The same valid instance, whose coefficients and values are kept. Fails only where memory is refused.
+    pub fn kept(self, alloc: Global) -> Result<Instance<P>, AllocError>
+        requires { IsValid (seen P.lists C.list V.list self) }
+        ensures { IfOk result (λ kept. seen P.lists (λ coefs. coefs) (λ values. values) kept
+            ≡ seen P.lists C.list V.list self) }
     {
-        let coefs = keep(alloc, &self.coefs)?;
+        let coefs = keep_coefs(alloc, &self.coefs)?;
+        let values = keep_values(alloc, &self.values, usize::from(self.destinations))?;
         Ok(Instance {
             name: self.name,
             rate: self.rate,
@@ -86,7 +91,7 @@ impl<P: PredLists + Drop, C: CoefList + Drop> Instance<P, C> {
             resources: self.resources,
             blocks: self.blocks,
             preds: self.preds,
-            values: self.values,
+            values,
             coefs,
             limits: self.limits,
         })

@@ -1,89 +1,102 @@
-//! The values of the blocks at the destinations.
+//! The values of the blocks at the destinations, kept.
 
-ghost use Rattle.std.specs.Prelude.{◌≡◌, ◌<◌, ℤ, List, length, map, slice_index_or, [], ◌↔◌, IsTrue, All};
-ghost use Rattle.pit_parts.specs.declared.block.Block.{Block};
-ghost use Rattle.precedence.specs.Numbering.{IsNumbering, NumberingView};
+ghost use Rattle.std.specs.Prelude.{◌≡◌, ◌*◌, ◌^◌, ◌-◌, ◌<◌, ◌++◌, ◌∷◌, ◌↔◌, length, vec_len, slice_index_or, [], All, IsTrue, OnOk, OnErr};
+ghost use Rattle.std.specs.List.{flat_map};
+ghost use Rattle.mine_instance.specs.Rows.{rows_of};
 
-use crate::listed_values::ListedValues;
+use crate::block_values::BlockValues;
+use crate::value_list::ValueList;
 use pit_units::Dec;
+use std::alloc::AllocError;
 use std::marker::Model;
 
 /// The values of blocks by identifier, one per destination, in units of 100 cents. Contracts see a list of values for each block.
 #[derive(Debug, Drop)]
 pub struct Values {
-    listed: ListedValues,
-    order: Order,
-}
-
-// Where the values of the block of an identifier stand among those that are listed.
-#[derive(Debug, Drop)]
-enum Order {
-    ById,
-    ByPosition(Vec<u32>),
+    // the values of one block after those of the one before it
+    all: Vec<Dec>,
+    count: usize,
+    width: usize,
 }
 
 impl Model for Values {
-    ghost use Rattle.std.specs.Prelude.{ℤ, List};
-    ghost use Rattle.mine_instance.specs.inner.ValuesFields.{values_in, KeepsPositions};
+    ghost use Rattle.std.specs.Prelude.{◌≡◌, ◌*◌, List, ℤ, vec_len};
+    ghost use Rattle.mine_instance.specs.Rows.{rows_of};
 
     ghost Value = { List (List ℤ) };
 
-    ghost view = { values_in };
+    ghost view = { λ v. rows_of v.count v.width v.all.items };
 
-    ghost invariant = { KeepsPositions };
+    ghost invariant = { λ v. vec_len v.all ≡ v.count * v.width };
 }
 
 impl Values {
-    /// These values, which are listed by identifier.
-    pub fn new(listed: ListedValues) -> Values
-        ensures { result ≡ listed }
+    /// The values of `count` blocks, `width` each, one block's after those of the block before it.
+    pub fn new(all: Vec<Dec>, count: usize, width: usize) -> Values
+        requires { vec_len all ≡ count * width }
+        ensures { result ≡ rows_of count width all.items }
     {
-        Values {
-            listed,
-            order: Order::ById,
-        }
-    }
-
-    /// The listed values at these positions, which are not moved. Where these are the values of the blocks of a list, and the positions
-    /// of its numbering, they are those of the blocks by identifier.
-    pub fn by_position(listed: ListedValues, positions: Vec<u32>) -> Values
-        requires { All (λ p. p < length listed) positions.items }
-        ensures value { result ≡ map (λ p. slice_index_or listed p []) positions.items }
-        ensures numbered { (blocks : List Block) → (n : NumberingView) → IsNumbering blocks n
-            → n.positions ≡ positions.items → (value : Block → List ℤ)
-            → listed ≡ map value blocks → result ≡ map value n.blocks }
-    {
-        Values {
-            listed,
-            order: Order::ByPosition(positions),
-        }
+        Values { all, count, width }
     }
 
     /// The number of blocks.
+    #[tactic(auto, using(crate::proofs::RowFacts::rows))]
     pub fn len(&self) -> usize
         ensures { result ≡ length self.now }
     {
-        match &self.order {
-            Order::ById => self.listed.len(),
-            Order::ByPosition(positions) => positions.len(),
-        }
+        self.count
     }
 
     /// Whether each block has so many values.
     pub fn are_of_width(&self, width: usize) -> bool
         ensures { IsTrue result ↔ All (λ values. length values ≡ width) self.now }
     {
-        self.len() == 0 || self.listed.width() == width
+        self.len() == 0 || self.width == width
     }
 
     /// The values of a block, in the order of the destinations.
+    #[tactic(auto, using(crate::proofs::RowFacts::rows))]
     pub fn of(&self, block: usize) -> &[Dec]
         requires { block < length self.now }
         ensures { result.now ≡ slice_index_or self.now block [] }
     {
-        match &self.order {
-            Order::ById => self.listed.of(block),
-            Order::ByPosition(positions) => self.listed.of(positions[block] as usize),
-        }
+        let (_, rest) = self.all.as_slice().split_at(block * self.width);
+        let (values, _) = rest.split_at(self.width);
+        values
+    }
+
+    /// Adds the values of one more block, as many as each of the others has. Where memory is refused the values are as they were.
+    #[tactic(auto, using(crate::proofs::RowFacts::rows))]
+    pub fn push(&mut self, values: &[Dec]) -> Result<(), AllocError>
+        requires room { length self.old < 2 ^ 64 - 1 }
+        requires width { All (λ of_block. length of_block ≡ length values.now) self.old }
+        ensures ok { OnOk result (self.new ≡ self.old ++ values.now ∷ []) }
+        ensures kept { OnErr result (self.new ≡ self.old) }
+    {
+        self.all.extend_from_slice(values)?;
+        self.count += 1;
+        // where these are the first, the width was that of no block
+        self.width = values.len();
+        Ok(())
+    }
+
+    /// The values of all blocks, one block's behind those of the block before it.
+    pub fn into_flat(self) -> Vec<Dec>
+        ensures { result.items ≡ flat_map (λ of_block. of_block) self }
+    {
+        let Values { all, .. } = self;
+        all
+    }
+}
+
+impl ValueList for Values {
+    ghost list = { λ values. values };
+
+    fn len(&self) -> usize {
+        self.len()
+    }
+
+    fn of_block(&self, block: usize) -> BlockValues<'_> {
+        BlockValues::Hundreds(self.of(block))
     }
 }

@@ -54,7 +54,7 @@ pub record StatedHeader : Type 0 where
   pub rate : ℤ
 
 -- of an instance
-abbrev pub header_of : {P C : Type 0} → Instance P C → StatedHeader
+abbrev pub header_of : {P C V : Type 0} → Instance P C V → StatedHeader
 header_of i = record {
   name = i.name;
   periods = i.periods;

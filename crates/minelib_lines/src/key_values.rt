@@ -33,7 +33,10 @@ pub enum KeyValue<'a> {
 
 impl<'a> KeyValues<'a> {
     /// Of an instance, where TYPE names the problem so.
-    pub fn of_instance<P, C>(problem: &'a [u8], instance: &'a Instance<P, C>) -> KeyValues<'a>
+    pub fn of_instance<P, C, V>(
+        problem: &'a [u8],
+        instance: &'a Instance<P, C, V>,
+    ) -> KeyValues<'a>
         ensures values { value_in result
             ≡ key_value problem.now (length instance.now.blocks) (header_of instance.now) }
         ensures kept { is_name instance.now.name ≡ true }
@@ -50,9 +53,9 @@ impl<'a> KeyValues<'a> {
     }
 
     /// Of an instance of which each block has one destination.
-    pub fn of_one_destination<P, C>(
+    pub fn of_one_destination<P, C, V>(
         problem: &'a [u8],
-        instance: &'a Instance<P, C>,
+        instance: &'a Instance<P, C, V>,
     ) -> KeyValues<'a>
         ensures values { value_in result
             ≡ key_value problem.now (length instance.now.blocks)

@@ -5,7 +5,7 @@ ghost use Rattle.std.specs.Prelude.{◌≡◌, []};
 use crate::model_items::is_coef_behind;
 use crate::taking::{TakeBlocks, TakeItems};
 use mine_instance::coef::Coef;
-use mine_instance::listed_values::ListedValues;
+use mine_instance::values::Values;
 use pit_parts::block::Block;
 use pit_units::Dec;
 use std::alloc::{AllocError, Global};
@@ -26,7 +26,7 @@ impl TakeBlocks for Vec<Block> {
 /// The values and coefficients of a model file.
 #[derive(Drop)]
 pub struct KeptItems {
-    pub values: ListedValues,
+    pub values: Values,
     pub coefs: Vec<Coef>,
 }
 
@@ -37,7 +37,7 @@ impl KeptItems {
         ensures coefs { result.coefs.items ≡ [] }
     {
         KeptItems {
-            values: ListedValues::new(Vec::new(alloc), 0, 0),
+            values: Values::new(Vec::new(alloc), 0, 0),
             coefs: Vec::new(alloc),
         }
     }

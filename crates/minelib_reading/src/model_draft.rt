@@ -28,7 +28,6 @@ use mine_instance::coef::{Coef, Coefs};
 use mine_instance::cpit::{Cpit, CpitCoef, CpitCoefs};
 use mine_instance::instance::Instance;
 use mine_instance::limits::Limits;
-use mine_instance::values::Values;
 use minelib_lines::header_key::HeaderKey;
 use minelib_lines::problem::Problem;
 use pit_parts::limit::Limit;
@@ -319,7 +318,7 @@ impl ModelDraft<KeptItems> {
             resources,
             blocks,
             preds,
-            values: Values::new(self.items.values),
+            values: self.items.values,
             coefs: Coefs::new(self.items.coefs),
             limits: Limits::new(self.limits),
         }

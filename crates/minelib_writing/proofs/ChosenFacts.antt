@@ -1,6 +1,6 @@
 -- The text of the CPIT of an instance, by the instance.
-use Rattle.std.proofs.Common.{◌≡◌, ℕ, ◌+◌, List, [], ◌∷◌, ◌++◌, ◌<◌, ◌∙◌, All, IsTrue, length, map, refl, ap, arith, true}
-use Rattle.std.specs.Prelude.{ℤ, codes, filter}
+use Rattle.std.proofs.Common.{◌≡◌, ℕ, ◌+◌, List, [], ◌∷◌, ◌++◌, ◌∙◌, length, map, refl, ap}
+use Rattle.std.specs.Prelude.{ℤ, filter}
 use Rattle.std.proofs.lemmas.List.{length-map}
 use Rattle.mine_instance.specs.Greatest.{greatest}
 use Rattle.mine_instance.specs.Instance.{Instance}

@@ -10,7 +10,6 @@ use Rattle.std.proofs.lemmas.List.Folds.{flat_map-map}
 use Rattle.std.specs.List.{drop-map, flat_map, take-map}
 use Rattle.std.specs.Prelude.{◌==◌, ◌&&◌, decimal, if◌then◌else◌, IsTrue, nat_lt, slice_index_or, ℤ}
 use Rattle.pit_units.specs.Decimal.{shortest}
-use Rattle.minelib_lines.specs.Lines.{line_of}
 use Rattle.mine_instance.specs.Greatest.{first_greatest}
 use Rattle.mine_instance.specs.Groups.{coef_of}
 use Rattle.mine_instance.specs.declared.coef.Coef.{Coef}
@@ -89,13 +88,13 @@ of_pair P b v pairs all i is within fit =
     ((subst (λ ps. All P (map (coef_of b v) ps)) (sym is) fit) i d (omega (arith, within, length-map pairs (coef_of b v))))
 
 -- those at a block's destination are those that are chosen
-pub chosen_parts : (values : Bor (List (List ℤ))) (b : ℕ) (v : ℤ) (destination : ℕ) (pairs : List (ℕ × ℕ))
-    → destination ≡ first_greatest (slice_index_or values.now b [])
+pub chosen_parts : {V : Type 0} (list : V → List (List ℤ)) (values : Bor V) (b : ℕ) (v : ℤ) (destination : ℕ) (pairs : List (ℕ × ℕ))
+    → destination ≡ first_greatest (slice_index_or (list values.now) b [])
     → flat_map (λ c. if c.d == destination then cpit_coef_text c else []) (map (coef_of b v) pairs)
-    ≡ flat_map (coef_part (OfChosen values)) (map (coef_of b v) pairs)
-chosen_parts values b v destination [] is = refl
-chosen_parts values b v destination (p ∷ pairs) is =
-    let rest = chosen_parts values b v destination pairs is in
+    ≡ flat_map (coef_part list (OfChosen values)) (map (coef_of b v) pairs)
+chosen_parts list values b v destination [] is = refl
+chosen_parts list values b v destination (p ∷ pairs) is =
+    let rest = chosen_parts list values b v destination pairs is in
     λ j. cond (p.0 == is j) (cpit_coef_text (coef_of b v p)) [] ++ rest j
 
 -- the parts of a group more
@@ -124,9 +123,9 @@ pub known_of : (P : ℤ → Type 0) (b : ℕ) (v : ℤ) (pairs : List (ℕ × �
 known_of P b v pairs known = All-map (λ (c : Coef). P c.v) (coef_of b v) pairs (λ k d h. known)
 
 -- a block that has values is one of them, and they are some
-pub has_some : (values : Bor (List (List ℤ))) (b : ℕ) → IsTrue (has_values (OfChosen values) b)
-    → (b < length values.now) × (0 < length (slice_index_or values.now b []))
-has_some values b h = parts (length values.now) (length (slice_index_or values.now b [])) h
+pub has_some : {V : Type 0} (list : V → List (List ℤ)) (values : Bor V) (b : ℕ) → IsTrue (has_values list (OfChosen values) b)
+    → (b < length (list values.now)) × (0 < length (slice_index_or (list values.now) b []))
+has_some list values b h = parts (length (list values.now)) (length (slice_index_or (list values.now) b [])) h
   where
     parts : (n m : ℕ) → IsTrue (nat_lt b n && nat_lt 0 m) → (b < n) × (0 < m)
     parts n m h = (grind (arith, nat_tests), grind (arith, nat_tests))

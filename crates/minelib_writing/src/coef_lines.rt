@@ -16,8 +16,7 @@ use itoa::write_digits;
 use mine_instance::coef_group::CoefGroup;
 use mine_instance::coef_list::CoefList;
 use mine_instance::cpit::CpitCoef;
-use mine_instance::greatest::first_greatest;
-use mine_instance::values::Values;
+use mine_instance::value_list::ValueList;
 use pit_units::Dec;
 use std::alloc::{AllocError, Global};
 
@@ -34,32 +33,32 @@ const TONNES: usize = 15;
 const MOST: usize = 512;
 
 /// Which coefficients have a line, and its form.
-#[derive(Clone, Copy)]
-pub enum CoefForm<'a> {
+#[derive(Drop)]
+pub enum CoefForm<'a, V> {
     /// `b d r v`, of all.
     OfAll,
     /// `b r v`, of those at the first destination where their block is worth most.
-    OfChosen(&'a Values),
+    OfChosen(&'a V),
 }
 
 /// The lines of coefficients in a form. They are asked for group by group, as their lines are appended.
 #[derive(Drop)]
-pub struct CoefLines<'a, C: CoefList> {
+pub struct CoefLines<'a, C: CoefList, V: ValueList> {
     pub coefs: &'a C,
-    pub form: CoefForm<'a>,
-    pub ghost fit: { All (FitsForm form) (C.list coefs.now) },
+    pub form: CoefForm<'a, V>,
+    pub ghost fit: { All (FitsForm V.list form) (C.list coefs.now) },
 }
 
-impl<'a, C: CoefList> Section for CoefLines<'a, C> {
-    ghost lines = { λ s. coef_lines s.form (C.list s.coefs.now) };
+impl<'a, C: CoefList, V: ValueList> Section for CoefLines<'a, C, V> {
+    ghost lines = { λ s. coef_lines V.list s.form (C.list s.coefs.now) };
 
-    ghost parts = { λ s. map (coef_part s.form) (C.list s.coefs.now) };
+    ghost parts = { λ s. map (coef_part V.list s.form) (C.list s.coefs.now) };
 
     ghost kept = { λ s n. HoldsAt (λ c. IsInDecimalRange c.v) (C.list s.coefs.now) n };
 
     ghost use Rattle.minelib_writing.specs.inner.CoefParts.{coef_lines_whole};
 
-    ghost whole = { λ s. coef_lines_whole s.form (C.list s.coefs.now) };
+    ghost whole = { λ s. coef_lines_whole V.list s.form (C.list s.coefs.now) };
 
     fn len(&self) -> usize {
         self.coefs.len()
@@ -74,7 +73,7 @@ impl<'a, C: CoefList> Section for CoefLines<'a, C> {
             let group = self.coefs.group(index + count);
             next_tonnes(alloc, &mut room, tonnes, group.v)?;
             tonnes = group.v;
-            put_group(out, &mut room, &group, self.form)?;
+            put_group(out, &mut room, &group, &self.form)?;
             count += group.pairs.len();
         }
         Ok(count)
@@ -114,24 +113,25 @@ fn next_tonnes(
 
 // Appends the lines of a group, whose tonnes stand in the room.
 #[inline(always)]
-fn put_group(
+fn put_group<V: ValueList>(
     out: &mut Vec<u8>,
     room: &mut Vec<u8>,
     group: &CoefGroup,
-    form: CoefForm,
+    form: &CoefForm<V>,
 ) -> Result<(), AllocError>
     requires tonnes { drop 14 room.old.items ≡ 32 ∷ (shortest group.now.v ++ 10 ∷ []) }
     requires some { 0 < length (pairs_of group.now.pairs) }
-    requires fit { All (FitsForm form) (coefs_in group.now) }
+    requires fit { All (FitsForm V.list form.now) (coefs_in group.now) }
     ensures text { OnOk result
-        (out.new.items ≡ out.old.items ++ flat_map (coef_part form.entry) (coefs_in group.now)) }
+        (out.new.items
+        ≡ out.old.items ++ flat_map (coef_part V.list form.now) (coefs_in group.now)) }
     ensures tonnes { OnOk result
         (drop 14 room.new.items ≡ 32 ∷ (shortest group.now.v ++ 10 ∷ [])) }
 {
     match form {
         CoefForm::OfAll => put_all(out, room, group),
         CoefForm::OfChosen(values) => {
-            let destination = first_greatest(values.of(group.b as usize));
+            let destination = values.of_block(group.b as usize).first_greatest();
             put_at(out, room, group, destination)
         }
     }

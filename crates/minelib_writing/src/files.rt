@@ -29,6 +29,7 @@ use mine_instance::coef_list::CoefList;
 use mine_instance::cpit::Cpit;
 use mine_instance::instance::Instance;
 use mine_instance::laws::a_valid_instance_has_a_cpit;
+use mine_instance::value_list::ValueList;
 use minelib_lines::header_key::HeaderKey;
 use minelib_lines::key_values::KeyValues;
 use minelib_lines::problem::Problem;
@@ -36,12 +37,12 @@ use precedence::PredLists;
 use std::alloc::Global;
 
 #[derive(Drop)]
-struct BlockFile<'a, P, C> {
-    instance: &'a Instance<P, C>,
+struct BlockFile<'a, P, C, V> {
+    instance: &'a Instance<P, C, V>,
 }
 
-impl<'a, P: PredLists, C: CoefList> Text for BlockFile<'a, P, C> {
-    ghost text = { λ t. text_blocks (seen P.lists C.list t.instance.now) };
+impl<'a, P: PredLists, C: CoefList, V: ValueList> Text for BlockFile<'a, P, C, V> {
+    ghost text = { λ t. text_blocks (seen P.lists C.list V.list t.instance.now) };
 
     ghost kept = { λ t. ⊤ };
 
@@ -58,26 +59,26 @@ impl<'a, P: PredLists, C: CoefList> Text for BlockFile<'a, P, C> {
 }
 
 /// Begins the sink and writes the block file: a line for each block, by identifier.
-pub fn write_blocks<P: PredLists, C: CoefList, S: Sink>(
+pub fn write_blocks<P: PredLists, C: CoefList, V: ValueList, S: Sink>(
     alloc: Global,
-    instance: &Instance<P, C>,
+    instance: &Instance<P, C, V>,
     sink: &mut S,
 ) -> Result<(), WriteFault>
-    requires { IsValid (seen P.lists C.list instance.now) }
-    ensures { Writes (text_blocks (seen P.lists C.list instance.now))
+    requires { IsValid (seen P.lists C.list V.list instance.now) }
+    ensures { Writes (text_blocks (seen P.lists C.list V.list instance.now))
         (S.state sink.old) (S.state sink.new) result }
 {
     write_text(alloc, &BlockFile { instance }, sink)
 }
 
 #[derive(Drop)]
-struct PrecFile<'a, P: PredLists, C> {
-    instance: &'a Instance<P, C>,
+struct PrecFile<'a, P: PredLists, C, V> {
+    instance: &'a Instance<P, C, V>,
     ghost few: { length (P.lists instance.now.preds) ≤ MAX_BLOCKS },
 }
 
-impl<'a, P: PredLists, C: CoefList> Text for PrecFile<'a, P, C> {
-    ghost text = { λ t. text_prec (seen P.lists C.list t.instance.now) };
+impl<'a, P: PredLists, C: CoefList, V: ValueList> Text for PrecFile<'a, P, C, V> {
+    ghost text = { λ t. text_prec (seen P.lists C.list V.list t.instance.now) };
 
     ghost kept = { λ t. ⊤ };
 
@@ -96,26 +97,26 @@ impl<'a, P: PredLists, C: CoefList> Text for PrecFile<'a, P, C> {
 }
 
 /// Begins the sink and writes the precedence file: the predecessors of each block, by identifier.
-pub fn write_prec<P: PredLists, C: CoefList, S: Sink>(
+pub fn write_prec<P: PredLists, C: CoefList, V: ValueList, S: Sink>(
     alloc: Global,
-    instance: &Instance<P, C>,
+    instance: &Instance<P, C, V>,
     sink: &mut S,
 ) -> Result<(), WriteFault>
-    requires { IsValid (seen P.lists C.list instance.now) }
-    ensures { Writes (text_prec (seen P.lists C.list instance.now))
+    requires { IsValid (seen P.lists C.list V.list instance.now) }
+    ensures { Writes (text_prec (seen P.lists C.list V.list instance.now))
         (S.state sink.old) (S.state sink.new) result }
 {
     write_text(alloc, &PrecFile { instance }, sink)
 }
 
 #[derive(Drop)]
-struct UpitFile<'a, P, C> {
-    instance: &'a Instance<P, C>,
-    ghost some: { All (λ of_block. 0 < length of_block) instance.now.values },
+struct UpitFile<'a, P, C, V: ValueList> {
+    instance: &'a Instance<P, C, V>,
+    ghost some: { All (λ of_block. 0 < length of_block) (V.list instance.now.values) },
 }
 
-impl<'a, P: PredLists, C: CoefList> Text for UpitFile<'a, P, C> {
-    ghost text = { λ t. text_upit (seen P.lists C.list t.instance.now) };
+impl<'a, P: PredLists, C: CoefList, V: ValueList> Text for UpitFile<'a, P, C, V> {
+    ghost text = { λ t. text_upit (seen P.lists C.list V.list t.instance.now) };
 
     ghost kept = { λ t. ⊤ };
 
@@ -146,28 +147,28 @@ impl<'a, P: PredLists, C: CoefList> Text for UpitFile<'a, P, C> {
 
 /// Begins the sink and writes the file of the ultimate pit limit problem: the greatest value of each block, in units of 100
 /// cents.
-pub fn write_upit<P: PredLists, C: CoefList, S: Sink>(
+pub fn write_upit<P: PredLists, C: CoefList, V: ValueList, S: Sink>(
     alloc: Global,
-    instance: &Instance<P, C>,
+    instance: &Instance<P, C, V>,
     sink: &mut S,
 ) -> Result<(), WriteFault>
-    requires { IsValid (seen P.lists C.list instance.now) }
-    ensures { Writes (text_upit (seen P.lists C.list instance.now))
+    requires { IsValid (seen P.lists C.list V.list instance.now) }
+    ensures { Writes (text_upit (seen P.lists C.list V.list instance.now))
         (S.state sink.old) (S.state sink.new) result }
 {
     write_text(alloc, &UpitFile { instance }, sink)
 }
 
 #[derive(Drop)]
-struct PcpspFile<'a, P: PredLists, C: CoefList> {
-    instance: &'a Instance<P, C>,
-    ghost valid: { IsValid (seen P.lists C.list instance.now) },
+struct PcpspFile<'a, P: PredLists, C: CoefList, V: ValueList> {
+    instance: &'a Instance<P, C, V>,
+    ghost valid: { IsValid (seen P.lists C.list V.list instance.now) },
 }
 
-impl<'a, P: PredLists, C: CoefList> Text for PcpspFile<'a, P, C> {
-    ghost text = { λ t. text_pcpsp (seen P.lists C.list t.instance.now) };
+impl<'a, P: PredLists, C: CoefList, V: ValueList> Text for PcpspFile<'a, P, C, V> {
+    ghost text = { λ t. text_pcpsp (seen P.lists C.list V.list t.instance.now) };
 
-    ghost kept = { λ t. IsKept (seen P.lists C.list t.instance.now) };
+    ghost kept = { λ t. IsKept (seen P.lists C.list V.list t.instance.now) };
 
     #[tactic(auto, using(crate::proofs::SectionsWritten::nothing_put))]
     fn write<S: Sink>(
@@ -177,6 +178,7 @@ impl<'a, P: PredLists, C: CoefList> Text for PcpspFile<'a, P, C> {
         buffer: &mut Vec<u8>,
     ) -> Result<(), WriteFault> {
         let instance = self.instance;
+        let form: CoefForm<V> = CoefForm::OfAll;
         let problem = Problem::Pcpsp;
         write_keys(
             alloc,
@@ -194,7 +196,7 @@ impl<'a, P: PredLists, C: CoefList> Text for PcpspFile<'a, P, C> {
             },
             &CoefLines {
                 coefs: &instance.coefs,
-                form: CoefForm::OfAll,
+                form,
             },
             &Lines {
                 items: instance.limits.as_slice(),
@@ -205,15 +207,15 @@ impl<'a, P: PredLists, C: CoefList> Text for PcpspFile<'a, P, C> {
 
 /// Begins the sink and writes the file of the production scheduling problem. Of an instance that it wrote it says what the types of
 /// the parts keep: a NAME and decimals.
-pub fn write_pcpsp<P: PredLists, C: CoefList, S: Sink>(
+pub fn write_pcpsp<P: PredLists, C: CoefList, V: ValueList, S: Sink>(
     alloc: Global,
-    instance: &Instance<P, C>,
+    instance: &Instance<P, C, V>,
     sink: &mut S,
 ) -> Result<(), WriteFault>
-    requires { IsValid (seen P.lists C.list instance.now) }
-    ensures writes { Writes (text_pcpsp (seen P.lists C.list instance.now))
+    requires { IsValid (seen P.lists C.list V.list instance.now) }
+    ensures writes { Writes (text_pcpsp (seen P.lists C.list V.list instance.now))
         (S.state sink.old) (S.state sink.new) result }
-    ensures kept { OnOk result (IsKept (seen P.lists C.list instance.now)) }
+    ensures kept { OnOk result (IsKept (seen P.lists C.list V.list instance.now)) }
 {
     write_text(alloc, &PcpspFile { instance }, sink)
 }
@@ -273,16 +275,16 @@ pub fn write_cpit<S: Sink>(alloc: Global, cpit: &Cpit, sink: &mut S) -> Result<(
 }
 
 #[derive(Drop)]
-struct ChosenFile<'a, P: PredLists, C: CoefList> {
-    instance: &'a Instance<P, C>,
-    ghost valid: { IsValid (seen P.lists C.list instance.now) },
+struct ChosenFile<'a, P: PredLists, C: CoefList, V: ValueList> {
+    instance: &'a Instance<P, C, V>,
+    ghost valid: { IsValid (seen P.lists C.list V.list instance.now) },
 }
 
-impl<'a, P: PredLists, C: CoefList> Text for ChosenFile<'a, P, C> {
-    ghost text = { λ t. text_cpit (cpit_of (seen P.lists C.list t.instance.now)) };
+impl<'a, P: PredLists, C: CoefList, V: ValueList> Text for ChosenFile<'a, P, C, V> {
+    ghost text = { λ t. text_cpit (cpit_of (seen P.lists C.list V.list t.instance.now)) };
 
-    ghost kept = { λ t. IsKeptCpit (cpit_of (seen P.lists C.list t.instance.now))
-        × IsCpit (cpit_of (seen P.lists C.list t.instance.now)) };
+    ghost kept = { λ t. IsKeptCpit (cpit_of (seen P.lists C.list V.list t.instance.now))
+        × IsCpit (cpit_of (seen P.lists C.list V.list t.instance.now)) };
 
     #[tactic(auto, using(crate::proofs::SectionsWritten::nothing_put))]
     fn write<S: Sink>(
@@ -319,31 +321,31 @@ impl<'a, P: PredLists, C: CoefList> Text for ChosenFile<'a, P, C> {
 }
 
 // The same of the CPIT of an instance, which is not built: each block's destination is found when its lines are written.
-fn write_chosen<P: PredLists, C: CoefList, S: Sink>(
+fn write_chosen<P: PredLists, C: CoefList, V: ValueList, S: Sink>(
     alloc: Global,
-    instance: &Instance<P, C>,
+    instance: &Instance<P, C, V>,
     sink: &mut S,
 ) -> Result<(), WriteFault>
-    requires { IsValid (seen P.lists C.list instance.now) }
-    ensures writes { Writes (text_cpit (cpit_of (seen P.lists C.list instance.now)))
+    requires { IsValid (seen P.lists C.list V.list instance.now) }
+    ensures writes { Writes (text_cpit (cpit_of (seen P.lists C.list V.list instance.now)))
         (S.state sink.old) (S.state sink.new) result }
-    ensures kept { OnOk result (IsKeptCpit (cpit_of (seen P.lists C.list instance.now))) }
-    ensures is { OnOk result (IsCpit (cpit_of (seen P.lists C.list instance.now))) }
+    ensures kept { OnOk result (IsKeptCpit (cpit_of (seen P.lists C.list V.list instance.now))) }
+    ensures is { OnOk result (IsCpit (cpit_of (seen P.lists C.list V.list instance.now))) }
 {
     write_text(alloc, &ChosenFile { instance }, sink)
 }
 
 /// Begins the sink and writes the text of this name, of an instance or of its CPIT.
-pub fn write_named<P: PredLists, C: CoefList, S: Sink>(
+pub fn write_named<P: PredLists, C: CoefList, V: ValueList, S: Sink>(
     alloc: Global,
     name: TextName,
-    instance: &Instance<P, C>,
+    instance: &Instance<P, C, V>,
     sink: &mut S,
 ) -> Result<(), WriteFault>
-    requires { IsValid (seen P.lists C.list instance.now) }
-    ensures writes { Writes (text_named name (seen P.lists C.list instance.now))
+    requires { IsValid (seen P.lists C.list V.list instance.now) }
+    ensures writes { Writes (text_named name (seen P.lists C.list V.list instance.now))
         (S.state sink.old) (S.state sink.new) result }
-    ensures kept { OnOk result (kept_named name (seen P.lists C.list instance.now)) }
+    ensures kept { OnOk result (kept_named name (seen P.lists C.list V.list instance.now)) }
 {
     match name {
         TextName::Blocks => write_blocks(alloc, instance, sink),

@@ -20,8 +20,8 @@ use crate::refusal::Refusal;
 use crate::settings::{Budget, require_settings};
 use devices::feed::Feed;
 use lane::Gathered;
-use mine_instance::FoundCoefs;
 use mine_instance::instance::Instance;
+use mine_instance::{FoundCoefs, FoundValues};
 use pit_parts::destination::Destination;
 use pit_parts::plan::Plan;
 use precedence::FoundPreds;
@@ -38,8 +38,8 @@ use zone_csv::laws::zone_files;
 pub struct Compiled {
     /// What went through the lane.
     pub gathered: Gathered,
-    /// The instance of the model, whose predecessors and coefficients are found when they are asked for.
-    pub instance: Instance<FoundPreds, FoundCoefs>,
+    /// The instance of the model, whose predecessors, coefficients and values are found when they are asked for.
+    pub instance: Instance<FoundPreds, FoundCoefs, FoundValues>,
 }
 
 /// Reads and values the zone files over threads, and builds the instance of the plan and these files. No more threads are

@@ -11,15 +11,14 @@ ghost use Rattle.pit_compile.specs.Verdict.{AreApart};
 use crate::numbered::numbered;
 use crate::refusal::Refusal;
 use mine_instance::instance::Instance;
-use mine_instance::values::Values;
-use mine_instance::{FoundCoefs, build_with, values_in_order};
+use mine_instance::{FoundCoefs, FoundValues, build_with};
 use pit_parts::plan::Plan;
 use precedence::FoundPreds;
 use rows::RowLists;
 use std::alloc::Global;
 
-/// The instance of these rows, whose predecessors and coefficients are found when they are asked for. Of the rows only the
-/// worths are kept once they are numbered, and these until the values are taken.
+/// The instance of these rows, whose predecessors, coefficients and values are found when they are asked for. Of the rows only the
+/// worths are kept once they are numbered.
 ///
 /// # Errors
 ///
@@ -29,7 +28,7 @@ pub fn instance_of(
     alloc: Global,
     rows: RowLists,
     plan: &Plan,
-) -> Result<Instance<FoundPreds, FoundCoefs>, Refusal>
+) -> Result<Instance<FoundPreds, FoundCoefs, FoundValues>, Refusal>
     requires { AreModelRows plan.now rows }
     ensures apart { IfOk result (λ _. AreApart (blocks_of_rows rows)) }
     ensures value { IfOk result (λ built. built ≡ instance plan.now (blocks_of_rows rows)) }
@@ -38,10 +37,8 @@ pub fn instance_of(
 {
     let numbering = numbered(alloc, &rows)?;
     let worths = rows.into_worths(alloc)?;
-    let room = Vec::with_capacity(alloc, worths.len() * plan.formulas().len())?;
-    let listed = values_in_order(room, worths, plan);
     let preds = FoundPreds::new(alloc, &numbering, plan)?;
     let (blocks, positions) = numbering.into_parts();
-    let values = Values::by_position(listed, positions);
+    let values = FoundValues::new(worths, positions);
     Ok(build_with(alloc, blocks, preds, values, plan)?)
 }

@@ -13,6 +13,7 @@ use devices::sink::Sink;
 use devices::write_fault::WriteFault;
 use mine_instance::coef_list::CoefList;
 use mine_instance::instance::Instance;
+use mine_instance::value_list::ValueList;
 use minelib_writing::text_name::TextName;
 use minelib_writing::write_named;
 use precedence::PredLists;
@@ -27,16 +28,16 @@ use std::alloc::Global;
 ///
 /// The sinks before that one hold their texts. That one is as it was, or begun with a front of its text. Those behind
 /// it are as they were.
-pub fn write_texts<P: PredLists, C: CoefList, S: Sink>(
+pub fn write_texts<P: PredLists, C: CoefList, V: ValueList, S: Sink>(
     alloc: Global,
-    instance: &Instance<P, C>,
+    instance: &Instance<P, C, V>,
     sinks: &mut Sinks<S>,
 ) -> Result<(), Refusal>
-    requires { IsValid (seen P.lists C.list instance.now) }
+    requires { IsValid (seen P.lists C.list V.list instance.now) }
     ensures written { let told = all_told S.state in
-        OnOk result (AreWritten (seen P.lists C.list instance.now) (told sinks.old) (told sinks.new)) }
+        OnOk result (AreWritten (seen P.lists C.list V.list instance.now) (told sinks.old) (told sinks.new)) }
     ensures refused { let told = all_told S.state in
-        IfErr result (AreCutOff (seen P.lists C.list instance.now) (told sinks.old) (told sinks.new)) }
+        IfErr result (AreCutOff (seen P.lists C.list V.list instance.now) (told sinks.old) (told sinks.new)) }
 {
     for name in TextName::all() {
         in_sink(name, write_named(alloc, name, instance, sinks.of_mut(name)))?;

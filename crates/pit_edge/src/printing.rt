@@ -10,6 +10,7 @@ use devices::section_sink::SectionSink;
 use devices::write_fault::WriteFault;
 use mine_instance::coef_list::CoefList;
 use mine_instance::instance::Instance;
+use mine_instance::value_list::ValueList;
 use minelib_writing::text_name::TextName;
 use minelib_writing::write_named;
 use precedence::PredLists;
@@ -17,14 +18,14 @@ use std::alloc::{AllocError, Global};
 use std::mem::replace;
 
 /// Appends the texts of an instance, each under its section line. Fails only where memory is refused, and then `out` is as it was.
-pub fn print<P: PredLists, C: CoefList>(
+pub fn print<P: PredLists, C: CoefList, V: ValueList>(
     alloc: Global,
-    instance: &Instance<P, C>,
+    instance: &Instance<P, C, V>,
     out: &mut Vec<u8>,
 ) -> Result<(), AllocError>
-    requires { IsValid (seen P.lists C.list instance.now) }
+    requires { IsValid (seen P.lists C.list V.list instance.now) }
     ensures ok { OnOk result
-        (out.new.items ≡ out.old.items ++ printed (seen P.lists C.list instance.now)) }
+        (out.new.items ≡ out.old.items ++ printed (seen P.lists C.list V.list instance.now)) }
     ensures err { OnErr result (out.new.items ≡ out.old.items) }
 {
     let kept = out.len();
@@ -39,14 +40,14 @@ pub fn print<P: PredLists, C: CoefList>(
 }
 
 // The same behind what a sink holds. Where it is refused, what stood before stands at the front.
-fn print_sections<P: PredLists, C: CoefList>(
+fn print_sections<P: PredLists, C: CoefList, V: ValueList>(
     alloc: Global,
-    instance: &Instance<P, C>,
+    instance: &Instance<P, C, V>,
     sink: &mut SectionSink,
 ) -> Result<(), WriteFault>
-    requires { IsValid (seen P.lists C.list instance.now) }
+    requires { IsValid (seen P.lists C.list V.list instance.now) }
     ensures ok { OnOk result (sink.new.before ++ sink.new.taken
-        ≡ (sink.old.before ++ sink.old.taken) ++ printed (seen P.lists C.list instance.now)) }
+        ≡ (sink.old.before ++ sink.old.taken) ++ printed (seen P.lists C.list V.list instance.now)) }
     ensures err { OnErr result (take (length sink.old.before) sink.new.before ≡ sink.old.before) }
 {
     for name in TextName::all() {
@@ -56,16 +57,16 @@ fn print_sections<P: PredLists, C: CoefList>(
 }
 
 // The same of the text of this name alone.
-fn print_section<P: PredLists, C: CoefList>(
+fn print_section<P: PredLists, C: CoefList, V: ValueList>(
     alloc: Global,
     name: TextName,
-    instance: &Instance<P, C>,
+    instance: &Instance<P, C, V>,
     sink: &mut SectionSink,
 ) -> Result<(), WriteFault>
-    requires { IsValid (seen P.lists C.list instance.now) }
+    requires { IsValid (seen P.lists C.list V.list instance.now) }
     ensures ok { OnOk result (sink.new.before ++ sink.new.taken
         ≡ (sink.old.before ++ sink.old.taken)
-        ++ section (ending_of name) (text_named name (seen P.lists C.list instance.now))) }
+        ++ section (ending_of name) (text_named name (seen P.lists C.list V.list instance.now))) }
     ensures front { take (length sink.old.before) sink.new.before ≡ sink.old.before }
 {
     let line = format!(in alloc; "== {name}\n")?;

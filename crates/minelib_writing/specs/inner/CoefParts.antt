@@ -1,5 +1,5 @@
 -- The lines of coefficients in a form, and the part of each.
-use Rattle.std.specs.Prelude.{◌≡◌, ℕ, ◌+◌, ◌<◌, ◌&&◌, Bool, true, false, nat_lt, IsTrue, List, [], ◌∷◌, ◌++◌, length, slice_index_or, map, filter, if◌then◌else◌}
+use Rattle.std.specs.Prelude.{◌≡◌, ℕ, ◌+◌, ◌<◌, ◌&&◌, Bool, true, false, nat_lt, IsTrue, ℤ, List, [], ◌∷◌, ◌++◌, length, slice_index_or, map, filter, if◌then◌else◌}
 use Rattle.std.proofs.Common.{ap, cond, refl}
 use Rattle.mine_instance.specs.OfCpit.{is_chosen, without_destination}
 use Rattle.mine_instance.specs.declared.coef.Coef.{Coef}
@@ -18,24 +18,26 @@ coef_text c = line_of (coef_fields Pcpsp 0 c) ++ 10 ∷ []
 abbrev pub cpit_coef_text : Coef → List ℕ
 cpit_coef_text c = line_of (cpit_coef_fields 0 (without_destination c)) ++ 10 ∷ []
 
--- the part of a coefficient
-abbrev pub coef_part : CoefForm → Coef → List ℕ
-coef_part OfAll c = coef_text c
-coef_part (OfChosen values) c = if is_chosen values.now c then cpit_coef_text c else []
+-- the part of a coefficient, where values are seen as this list
+abbrev pub coef_part : {V : Type 0} → (V → List (List ℤ)) → CoefForm V → Coef → List ℕ
+coef_part list OfAll c = coef_text c
+coef_part list (OfChosen values) c = if is_chosen (list values.now) c then cpit_coef_text c else []
 
 -- their lines
-abbrev pub coef_lines : CoefForm → List Coef → List (List ℕ)
-coef_lines OfAll coefs = lines_from (coef_fields Pcpsp) 0 coefs
-coef_lines (OfChosen values) coefs = lines_from cpit_coef_fields 0 (map without_destination (filter (is_chosen values.now) coefs))
+abbrev pub coef_lines : {V : Type 0} → (V → List (List ℤ)) → CoefForm V → List Coef → List (List ℕ)
+coef_lines list OfAll coefs = lines_from (coef_fields Pcpsp) 0 coefs
+coef_lines list (OfChosen values) coefs =
+    lines_from cpit_coef_fields 0 (map without_destination (filter (is_chosen (list values.now)) coefs))
 
 -- where values count, the block has some
-abbrev pub has_values : CoefForm → ℕ → Bool
-has_values OfAll block = true
-has_values (OfChosen values) block = nat_lt block (length values.now) && nat_lt 0 (length (slice_index_or values.now block []))
+abbrev pub has_values : {V : Type 0} → (V → List (List ℤ)) → CoefForm V → ℕ → Bool
+has_values list OfAll block = true
+has_values list (OfChosen values) block =
+    nat_lt block (length (list values.now)) && nat_lt 0 (length (slice_index_or (list values.now) block []))
 
 -- a coefficient that can be written: numbers of one digit
-abbrev pub FitsForm : CoefForm → Coef → Type 0
-FitsForm form c = (c.d < 10) × (c.r < 10) × IsTrue (has_values form c.b)
+abbrev pub FitsForm : {V : Type 0} → (V → List (List ℤ)) → CoefForm V → Coef → Type 0
+FitsForm list form c = (c.d < 10) × (c.r < 10) × IsTrue (has_values list form c.b)
 
 all_whole : (n : ℕ) (coefs : List Coef) → joined (map coef_text coefs) ≡ text_of (lines_from (coef_fields Pcpsp) n coefs)
 all_whole n [] = refl
@@ -57,6 +59,7 @@ chosen_whole p n [] = refl
 chosen_whole p n (c ∷ coefs) = one_more c (filter p coefs) _ n (p c) (chosen_whole p (n + 1) coefs) (chosen_whole p n coefs)
 
 -- the parts are the lines
-pub coef_lines_whole : (form : CoefForm) (coefs : List Coef) → joined (map (coef_part form) coefs) ≡ text_of (coef_lines form coefs)
-coef_lines_whole OfAll coefs = all_whole 0 coefs
-coef_lines_whole (OfChosen values) coefs = chosen_whole (is_chosen values.now) 0 coefs
+pub coef_lines_whole : {V : Type 0} (list : V → List (List ℤ)) (form : CoefForm V) (coefs : List Coef)
+    → joined (map (coef_part list form) coefs) ≡ text_of (coef_lines list form coefs)
+coef_lines_whole list OfAll coefs = all_whole 0 coefs
+coef_lines_whole list (OfChosen values) coefs = chosen_whole (is_chosen (list values.now)) 0 coefs

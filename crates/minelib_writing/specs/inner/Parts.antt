@@ -1,8 +1,8 @@
 -- The parts that lines are written in, and the lines that they make.
-use Rattle.std.specs.Prelude.{◌≡◌, ℕ, ◌+◌, Bool, List, [], ◌∷◌, ◌++◌, map, filter, if◌then◌else◌}
+use Rattle.std.specs.Prelude.{◌≡◌, ℕ, List, [], ◌∷◌, ◌++◌, map}
 use Rattle.std.specs.List.{flat_map}
-use Rattle.std.proofs.Common.{refl, ap, ◌∙◌, append_assoc, true, false}
-use Rattle.minelib_lines.specs.Lines.{line_of, lines_from, text_of}
+use Rattle.std.proofs.Common.{refl, ap}
+use Rattle.minelib_lines.specs.Lines.{text_of}
 
 -- parts, one after the other
 abbrev pub joined : List (List ℕ) → List ℕ

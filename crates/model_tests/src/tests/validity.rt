@@ -6,7 +6,6 @@ use mine_instance::coef::{Coef, Coefs};
 use mine_instance::instance::Instance;
 use mine_instance::is_valid;
 use mine_instance::limits::Limits;
-use mine_instance::listed_values::ListedValues;
 use mine_instance::values::Values;
 use pit_parts::block::Block;
 use pit_parts::limit::{Bound, Limit};
@@ -85,7 +84,7 @@ fn values_of(alloc: Global, count: usize, width: usize) -> Result<Values, Fail> 
     };
     let mut all = Vec::new(alloc);
     all.resize(len, dec(0)?)?;
-    Ok(Values::new(ListedValues::new(all, count, width)))
+    Ok(Values::new(all, count, width))
 }
 
 fn with_counts(alloc: Global, blocks: usize, count: usize, width: usize) -> Result<bool, Fail> {

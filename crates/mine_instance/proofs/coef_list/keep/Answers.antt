@@ -1,4 +1,4 @@
-use Rattle.std.proofs.Common.{◌≡◌, ◌+◌, ◌≤◌, ◌++◌, ◌∙◌, length, ap, sym, arith, subst}
+use Rattle.std.proofs.Common.{◌≡◌, ◌++◌, ◌∙◌, length, ap, sym}
 use Rattle.mine_instance.specs.Groups.{coefs_in, pairs_of}
 use Rattle.mine_instance.proofs.GroupFacts.{group_more}
 use Rattle.mine_instance.proofs.coef_list.keep.Goals as goal

@@ -7,7 +7,7 @@ use Rattle.mine_instance.proofs.cpit_building.chosen_of.Given as goal
 abbrev pub invariant-loop-from : goal.invariant-loop-from
 invariant-loop-from g l = record {
   within : l.from ≤ length (g.C.CoefList.list l.coefs);
-  chosen : l.chosen.items ≡ map without_destination (filter (is_chosen l.values) (take l.from (g.C.CoefList.list l.coefs)));
+  chosen : l.chosen.items ≡ map without_destination (filter (is_chosen (g.V.ValueList.list l.values)) (take l.from (g.C.CoefList.list l.coefs)));
 }
 
 abbrev pub decreases-loop-from : goal.decreases-loop-from

@@ -1,4 +1,4 @@
-use Rattle.std.proofs.Common.{◌≡◌, ◌++◌, ◌∷◌, ◌∙◌, [], ap, drop}
+use Rattle.std.proofs.Common.{◌++◌, ◌∷◌, ◌∙◌, [], ap, drop}
 use Rattle.std.proofs.lemmas.Result.{on_ok_weaker}
 use Rattle.pit_units.specs.Decimal.{shortest}
 use Rattle.minelib_writing.proofs.CoefFacts.{other_tonnes}

@@ -1,4 +1,4 @@
-use Rattle.std.proofs.Common.{◌≡◌, ℕ, List, true, false, eq-eqb, ◌+◌, ◌<◌, ◌≤◌, ◌++◌, ◌∷◌, ◌∙◌, [], length, map, take, drop, get_or, ap, sym, arith, append-nil}
+use Rattle.std.proofs.Common.{◌≡◌, ℕ, List, true, false, eq-eqb, ◌+◌, ◌<◌, ◌++◌, ◌∷◌, ◌∙◌, [], take, drop, get_or, ap, sym, arith, append-nil}
 use Rattle.std.specs.Prelude.{decimal, if◌then◌else◌, ◌==◌}
 use Rattle.std.proofs.Math.Seq.{drop-drop}
 use Rattle.std.proofs.lemmas.List.{get_or_default, take_all, take_rest}

@@ -1,9 +1,4 @@
-use Rattle.std.proofs.Common.{rules, ◌≡◌, ◌+◌, ◌∙◌, ℕ, List, ap, arith, subst, take}
-use Rattle.std.proofs.lemmas.List.{take_all}
-use Rattle.minelib_lines.specs.Lines.{text_of}
-use Rattle.devices.specs.SinkSteps.{refusals, IsAppendCut}
-use Rattle.devices.specs.Writes.{IsWrittenOn}
-use Rattle.minelib_writing.specs.inner.Parts.{joined}
+use Rattle.std.proofs.Common.{rules, ◌+◌, arith}
 use Rattle.minelib_writing.proofs.KeptFacts.{holds_then}
 use Rattle.minelib_writing.proofs.PartsWritten.{parts_then, rest_cut}
 use Rattle.minelib_writing.proofs.sections.write_section.Goals as goal

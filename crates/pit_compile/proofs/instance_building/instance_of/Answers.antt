@@ -1,4 +1,4 @@
-use Rattle.std.proofs.Common.{◌≡◌, ◌<◌, ◌∙◌, ℕ, List, length, All, sym, ap, subst}
+use Rattle.std.proofs.Common.{◌≡◌, ◌<◌, ◌∙◌, ℕ, List, length, map, All, sym, ap, subst}
 use Rattle.pit_parts.specs.declared.block.Block.{Block}
 use Rattle.precedence.specs.Identifier.{blocks_of_rows}
 use Rattle.rows.specs.declared.item.Valued.{Valued}
@@ -15,19 +15,24 @@ new-requires c =
     numbered_too InPlan (blocks_of_rows rows) c.in_ok-numbering.numbering c.in_ok-numbering.ensures.numbering
     (All-map InPlan (λ (row : Valued). row.block) rows c.requires.zones)
 
-pub values_in_order-listed-requires-clause-worths : goal.values_in_order-listed-requires-clause-worths
-values_in_order-listed-requires-clause-worths c = (c.args.rows, (c.in_ok-worths.ensures, c.requires.valued))
-
-pub by_position-values-requires : goal.by_position-values-requires
-by_position-values-requires c =
-    let blocks = blocks_of_rows c.args.rows in
-    let numbering = c.in_ok-numbering.numbering in
+pub new-values-requires : goal.new-values-requires
+new-values-requires c =
+    let rows = c.args.rows in
     let parts = c.into_parts-blocks in
-    let count : length numbering.blocks ≡ length c.values_in_order-listed.result =
-    c.in_ok-numbering.ensures.numbering.blocks ∙ sym (ap length (c.values_in_order-listed.ensures c.args.rows (c.in_ok-worths.ensures, c.requires.valued)) ∙ length-map blocks (values_of c.args.plan.now)) in
+    let numbering = c.in_ok-numbering.numbering in
+    let count : length numbering.blocks ≡ length c.in_ok-worths.worths =
+    c.in_ok-numbering.ensures.numbering.blocks ∙ length-map rows (λ (row : Valued). row.block)
+    ∙ sym (ap length c.in_ok-worths.ensures ∙ length-map rows (λ (row : Valued). row.worths)) in
     let Within : ℕ → List ℕ → Type 0 = λ n ps. All (λ p. p < n) ps in
     subst (λ n. Within n parts.result.1.items) count
     (subst (Within (length numbering.blocks)) (sym parts.ensures.positions) parts.ensures.within)
+
+pub build_with-requires-clause-values : goal.build_with-requires-clause-values
+build_with-requires-clause-values c =
+    let parts = c.into_parts-blocks in
+    c.new-values.ensures.of_model c.args.plan.now c.args.rows c.in_ok-numbering.numbering (c.in_ok-worths.ensures, c.requires.valued)
+    c.in_ok-numbering.ensures.numbering (sym parts.ensures.positions)
+    ∙ ap (map (values_of c.args.plan.now)) (sym parts.ensures.blocks)
 
 pub returns-clause-value : goal.returns-clause-value
 returns-clause-value c =

@@ -9,6 +9,6 @@ invariant-loop-name g l = record {
   names : l.name-items ≡ all_texts;
   printed : l.sink.before ++ l.sink.taken
       ≡ (l.fn.sink.before ++ l.fn.sink.taken)
-      ++ flat_map (λ name. section (ending_of name) (text_named name (seen g.P.PredLists.lists g.C.CoefList.list l.instance))) (take l.name-index all_texts);
+      ++ flat_map (λ name. section (ending_of name) (text_named name (seen g.P.PredLists.lists g.C.CoefList.list g.V.ValueList.list l.instance))) (take l.name-index all_texts);
   front : take (length l.fn.sink.before) l.sink.before ≡ l.fn.sink.before;
 }

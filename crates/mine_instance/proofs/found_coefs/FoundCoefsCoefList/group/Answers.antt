@@ -1,6 +1,5 @@
-use Rattle.std.proofs.Common.{◌≡◌, ◌+◌, ◌*◌, ◌/◌, ◌%◌, ◌∙◌, length, map, take, drop, ap, sym, arith, pos}
+use Rattle.std.proofs.Common.{◌%◌, ◌∙◌, length, drop, ap, arith}
 use Rattle.std.proofs.lemmas.List.{length-drop}
-use Rattle.mine_instance.specs.Groups.{coef_of}
 use Rattle.mine_instance.proofs.FoundFacts.{group_is, place_of, whole_within}
 use Rattle.mine_instance.proofs.found_coefs.FoundCoefsCoefList.group.Goals as goal
 

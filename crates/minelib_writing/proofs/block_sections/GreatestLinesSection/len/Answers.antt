@@ -4,4 +4,4 @@ use Rattle.minelib_writing.proofs.LineFacts.{length-line_parts}
 use Rattle.minelib_writing.proofs.block_sections.GreatestLinesSection.len.Goals as goal
 
 pub returns : goal.returns
-returns c = c.len.ensures ∙ sym (length-line_parts greatest_fields c.args.self.now.values.now)
+returns g c = c.len.ensures ∙ sym (length-line_parts greatest_fields (g.V.ValueList.list c.args.self.now.values.now))

@@ -14,7 +14,7 @@ pub put_group-requires-clause-fit : goal.put_group-requires-clause-fit
 put_group-requires-clause-fit g c =
     let all = g.C.CoefList.list c.args.self.now.coefs.now in
     let group = c.group-group.result in
-    of_group (FitsForm c.args.self.now.form) all (coefs_in group) (c.args.index + c.loop-count.count) (length (pairs_of group.pairs))
+    of_group (FitsForm g.V.ValueList.list c.args.self.now.form) all (coefs_in group) (c.args.index + c.loop-count.count) (length (pairs_of group.pairs))
     c.group-group.ensures.within c.group-group.ensures.value c.args.self.now.fit
 
 pub loop-count-preserved : goal.loop-count-preserved
@@ -31,8 +31,8 @@ loop-count-preserved g c =
     let known = known_of (λ v. IsInDecimalRange v) group.b group.v (pairs_of group.pairs) c.in_ok-next_tonnes.ensures.kept in
     let part = kept_part (λ c. IsInDecimalRange c.v) all (index + count) n c.group-group.ensures.within
     (subst (All (λ c. IsInDecimalRange c.v)) value known) in
-    let so_far = joined (take count (drop index (map (coef_part form) all))) in
-    let next = flat_map (coef_part form) (coefs_in group) in
+    let so_far = joined (take count (drop index (map (coef_part g.V.ValueList.list form) all))) in
+    let next = flat_map (coef_part g.V.ValueList.list form) (coefs_in group) in
     rw more (record {
       within = subst (λ k. k ≤ length all) on c.group-group.ensures.within;
       room = c.in_ok-put_group.ensures.tonnes;
@@ -40,7 +40,7 @@ loop-count-preserved g c =
       text =
           c.in_ok-put_group.ensures.text ∙ ap (λ text. text ++ next) c.loop-count.invariant.text
           ∙ append_assoc c.args.out.now.items so_far next
-          ∙ ap (λ text. c.args.out.now.items ++ text) (sym (group_parts (coef_part form) all (coefs_in group) index count n value));
+          ∙ ap (λ text. c.args.out.now.items ++ text) (sym (group_parts (coef_part g.V.ValueList.list form) all (coefs_in group) index count n value));
       kept = subst (HoldsFrom (HoldsAt (λ c. IsInDecimalRange c.v) all) index) on
           (holds_then index (index + count) ((index + count) + n) c.loop-count.invariant.kept part);
     })

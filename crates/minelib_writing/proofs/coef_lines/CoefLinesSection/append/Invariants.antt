@@ -14,7 +14,7 @@ invariant-loop-count g l = record {
   room : drop 14 l.room.items ≡ 32 ∷ (shortest l.tonnes ++ 10 ∷ []);
   known : IsInDecimalRange l.tonnes;
   text : l.out.items ≡ l.initial.out.items
-      ++ joined (take l.count (drop l.index (map (coef_part l.self.form) (g.C.CoefList.list l.self.coefs.now))));
+      ++ joined (take l.count (drop l.index (map (coef_part g.V.ValueList.list l.self.form) (g.C.CoefList.list l.self.coefs.now))));
   kept : HoldsFrom (HoldsAt (λ c. IsInDecimalRange c.v) (g.C.CoefList.list l.self.coefs.now)) l.index (l.index + l.count);
 }
 

@@ -1,4 +1,4 @@
-use Rattle.std.proofs.Common.{rules, All, length}
+use Rattle.std.proofs.Common.{rules}
 use Rattle.std.proofs.lemmas.List.{length-map}
 use Rattle.std.proofs.lemmas.List.Elements.{All-filter, All-map}
 use Rattle.mine_instance.specs.Greatest.{greatest}
@@ -15,21 +15,21 @@ use Rattle.minelib_writing.proofs.files.ChosenFileText.write.Goals as goal
 -- the keys were cut short, and so is what stands under them
 pub returns-in_err-write_keys-clause-writes : goal.returns-in_err-write_keys-clause-writes
 returns-in_err-write_keys-clause-writes g c =
-    let i = seen g.P.PredLists.lists g.C.CoefList.list c.args.self.now.instance.now in
+    let i = seen g.P.PredLists.lists g.C.CoefList.list g.V.ValueList.list c.args.self.now.instance.now in
     let cut = lines_cut_before (chosen_keys i) (chosen_sections i)
     (rw (c.of_one_destination.ensures.values, c.type_text.ensures, c.keys.ensures) at c.in_err-write_keys.ensures) in
     rw (chosen_text i c.args.self.now.valid) (search rules)
 
 pub returns-clause-writes : goal.returns-clause-writes
 returns-clause-writes g c =
-    let i = seen g.P.PredLists.lists g.C.CoefList.list c.args.self.now.instance.now in
+    let i = seen g.P.PredLists.lists g.C.CoefList.list g.V.ValueList.list c.args.self.now.instance.now in
     let first = rw (c.of_one_destination.ensures.values, c.type_text.ensures, c.keys.ensures) at c.in_ok-write_keys.ensures in
     rw (chosen_text i c.args.self.now.valid)
     (goes_on _ _ (chosen_keys i) (chosen_sections i) c.write_sections.result first (rw c.as_slice.ensures at c.write_sections.ensures.writes))
 
 pub returns-clause-kept : goal.returns-clause-kept
 returns-clause-kept g c =
-    let i = seen g.P.PredLists.lists g.C.CoefList.list c.args.self.now.instance.now in
+    let i = seen g.P.PredLists.lists g.C.CoefList.list g.V.ValueList.list c.args.self.now.instance.now in
     on_ok_three c.write_sections.result
     (λ values coefs limits. (
       record {

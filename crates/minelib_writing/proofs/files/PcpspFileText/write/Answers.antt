@@ -19,7 +19,7 @@ returns g c =
     let i = c.args.self.now.instance.now in
     let keys = key_lines (key_value (type_text Pcpsp) (length i.blocks) (header_of i)) (keys_of Pcpsp) in
     let limits = lines_from limit_fields 0 i.limits in
-    let sections = section_lines (lines_from value_fields 0 i.values) (lines_from (coef_fields Pcpsp) 0 (g.C.CoefList.list i.coefs)) limits in
+    let sections = section_lines (lines_from value_fields 0 (g.V.ValueList.list i.values)) (lines_from (coef_fields Pcpsp) 0 (g.C.CoefList.list i.coefs)) limits in
     let first = rw (c.of_instance.ensures.values, c.type_text.ensures, c.keys.ensures) at c.in_ok-write_keys.ensures in
     let whole = goes_on _ _ keys sections c.write_sections.result first
     (rw c.as_slice.ensures at c.write_sections.ensures.writes) in
@@ -28,8 +28,8 @@ returns g c =
       kept = on_ok_three c.write_sections.result
           (λ values coefs limits. record {
             name = c.of_instance.ensures.kept;
-            values = kept_all (λ values. All IsInDecimalRange values) i.values _ (length-line_parts value_fields i.values) values;
-            coefs = kept_all (λ c. IsInDecimalRange c.v) (g.C.CoefList.list i.coefs) _ (length-map (g.C.CoefList.list i.coefs) (coef_part OfAll)) coefs;
+            values = kept_all (λ values. All IsInDecimalRange values) (g.V.ValueList.list i.values) _ (length-line_parts value_fields (g.V.ValueList.list i.values)) values;
+            coefs = kept_all (λ c. IsInDecimalRange c.v) (g.C.CoefList.list i.coefs) _ (length-map (g.C.CoefList.list i.coefs) (coef_part g.V.ValueList.list OfAll)) coefs;
             limits = kept_all (λ l. HasDecimals l.bound) i.limits _ (length-line_parts limit_fields i.limits) limits;
           })
           c.write_sections.ensures.values c.write_sections.ensures.coefs
@@ -43,6 +43,6 @@ returns-in_err-write_keys-clause-writes g c =
     let i = c.args.self.now.instance.now in
     let keys = key_lines (key_value (type_text Pcpsp) (length i.blocks) (header_of i)) (keys_of Pcpsp) in
     let limits = lines_from limit_fields 0 i.limits in
-    let sections = section_lines (lines_from value_fields 0 i.values) (lines_from (coef_fields Pcpsp) 0 (g.C.CoefList.list i.coefs)) limits in
+    let sections = section_lines (lines_from value_fields 0 (g.V.ValueList.list i.values)) (lines_from (coef_fields Pcpsp) 0 (g.C.CoefList.list i.coefs)) limits in
     let cut = lines_cut_before keys sections (rw (c.of_instance.ensures.values, c.type_text.ensures, c.keys.ensures) at c.in_err-write_keys.ensures) in
     search rules

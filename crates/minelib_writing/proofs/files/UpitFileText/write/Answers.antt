@@ -13,7 +13,7 @@ unfolding text_upit
 returns g c =
     let i = c.args.self.now.instance.now in
     let keys = key_lines (key_value (codes "UPIT") (length i.blocks) (header_of i)) upit_keys in
-    let values = codes "OBJECTIVE_FUNCTION:" ∷ lines_from greatest_fields 0 i.values in
+    let values = codes "OBJECTIVE_FUNCTION:" ∷ lines_from greatest_fields 0 (g.V.ValueList.list i.values) in
     let first = rw (c.of_instance.ensures.values, c.of_upit.ensures) at c.in_ok-write_keys.ensures in
     let whole = goes_on _ _ keys values c.write_titled.result first c.write_titled.ensures.writes in
     record {
@@ -27,6 +27,6 @@ unfolding text_upit
 returns-in_err-write_keys-clause-writes g c =
     let i = c.args.self.now.instance.now in
     let keys = key_lines (key_value (codes "UPIT") (length i.blocks) (header_of i)) upit_keys in
-    let values = codes "OBJECTIVE_FUNCTION:" ∷ lines_from greatest_fields 0 i.values in
+    let values = codes "OBJECTIVE_FUNCTION:" ∷ lines_from greatest_fields 0 (g.V.ValueList.list i.values) in
     let cut = lines_cut_before keys values (rw (c.of_instance.ensures.values, c.of_upit.ensures) at c.in_err-write_keys.ensures) in
     search rules

@@ -1,4 +1,4 @@
-use Rattle.std.proofs.Common.{◌≡◌, ◌<◌, ◌++◌, length}
+use Rattle.std.proofs.Common.{◌<◌, length}
 use Rattle.std.specs.Prelude.{HoldsAt}
 use Rattle.minelib_writing.proofs.KeptFacts.{holds_one, kept_at}
 use Rattle.minelib_writing.proofs.LineFacts.{length-line_parts, line_part}

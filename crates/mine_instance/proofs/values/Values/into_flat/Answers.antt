@@ -1,6 +1,6 @@
 use Rattle.std.proofs.Common.{sym, arith}
 use Rattle.mine_instance.proofs.RowFacts.{rows_of-flat}
-use Rattle.mine_instance.proofs.listed_values.ListedValues.into_flat.Goals as goal
+use Rattle.mine_instance.proofs.values.Values.into_flat.Goals as goal
 
 pub returns : goal.returns
 returns c =

@@ -1,7 +1,7 @@
 use Rattle.std.proofs.Common.{◌≡◌, ◌+◌, ◌*◌, ◌∷◌, ◌++◌, [], ℤ, List, ◌∙◌, ap, arith, length, length-append}
 use Rattle.mine_instance.specs.Rows.{rows_of}
 use Rattle.mine_instance.proofs.RowFacts.{row_pushed}
-use Rattle.mine_instance.proofs.listed_values.ListedValues.push.Goals as goal
+use Rattle.mine_instance.proofs.values.Values.push.Goals as goal
 
 pub invariant_of-self-2 : goal.invariant_of-self-2
 invariant_of-self-2 c =
