@@ -7,8 +7,9 @@ use Rattle.std.proofs.lemmas.Bool.{cases_lt, cases_Bool, cond-true, cond-false, 
 use Rattle.std.proofs.lemmas.Option.{slice_get_past, none-some, same_Some}
 use Rattle.rows.specs.declared.item.Item.{Item}
 use Rattle.rows.specs.declared.item.Valued.{Valued}
-use Rattle.collector.specs.declared.finish_fault.FinishFault.{FinishFault}
-use Rattle.collector.specs.declared.finish_fault.FinishFault.TheVariants.{Missing, OutOfMemory}
+use Rattle.collector.specs.declared.missing.Missing.{Missing}
+use Rattle.pit_units.specs.declared.or_memory.OrMemory.{OrMemory}
+use Rattle.pit_units.specs.declared.or_memory.OrMemory.TheVariants.{Fault, OutOfMemory}
 use Rattle.collector.specs.declared.shelf.Shelf.{Shelf}
 use Rattle.collector.specs.inner.Shelves.{if_at, slot, rows_in, end_in, IsKept, IsShelved, IsFilled, IsFirstLacking}
 use Rattle.collector.specs.CollectorView.{CollectorView}
@@ -58,18 +59,18 @@ full-kept : (held : List Item) (file : ℕ) (rows : List Valued) (end : Option �
 full-kept held file rows end shelved filled =
     (length rows, shelved.ended ∙ filled.0, λ place below. ap is_some (shelved.row place) ∙ filled.1 place below)
 
-pub is_missing : (held : List Item) (shelves : List Shelf) (why : FinishFault) (view : CollectorView) →
+pub is_missing : (held : List Item) (shelves : List Shelf) (why : OrMemory Missing) (view : CollectorView) →
     record { files = length shelves; items = held } ≡ view →
     (length shelves ≤ 255) × IsKept (length shelves) held (rows_in shelves) (end_in shelves) →
     IsFirstLacking shelves why → IsFinishFault view.files view.items why
 is_missing held shelves OutOfMemory view is_view kept lacking = absurd lacking
-is_missing held shelves (Missing file place) view is_view kept lacking =
-    let here = kept.1.shelved file in
-    subst (λ (v : CollectorView). IsMissing v.files v.items file place) is_view (record {
+is_missing held shelves (Fault missing) view is_view kept lacking =
+    let here = kept.1.shelved missing.file in
+    subst (λ (v : CollectorView). IsMissing v.files v.items missing.file missing.place) is_view (record {
       within = lacking.0;
       before =
           λ other below. full-kept held other (rows_in shelves other) (end_in shelves other) (kept.1.shelved other) (lacking.1 other below);
-      open_at = subst (λ (o : Option ℕ). IsOpen o place) (sym here.ended) lacking.2.2;
-      none = here.row place ∙ lacking.2.0;
+      open_at = subst (λ (o : Option ℕ). IsOpen o missing.place) (sym here.ended) lacking.2.2;
+      none = here.row missing.place ∙ lacking.2.0;
       least = λ other below. ap is_some (here.row other) ∙ lacking.2.1 other below;
     })

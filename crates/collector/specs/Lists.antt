@@ -3,8 +3,9 @@ use Rattle.std.specs.Prelude.{◌≡◌, ℕ, ◌<◌, true, is_some, List, leng
 use Rattle.std.specs.List.{flat_map}
 use Rattle.rows.specs.declared.item.Item.{Item}
 use Rattle.rows.specs.declared.item.Valued.{Valued}
-use Rattle.collector.specs.declared.finish_fault.FinishFault.{FinishFault}
-use Rattle.collector.specs.declared.finish_fault.FinishFault.TheVariants.{Missing, OutOfMemory}
+use Rattle.collector.specs.declared.missing.Missing.{Missing}
+use Rattle.pit_units.specs.declared.or_memory.OrMemory.{OrMemory}
+use Rattle.pit_units.specs.declared.or_memory.OrMemory.TheVariants.{Fault, OutOfMemory}
 use Rattle.collector.specs.Found.{row_at, end_at}
 
 -- one list a file: as long as its end mark says, with the row of each place
@@ -32,8 +33,8 @@ pub record IsMissing (files : ℕ) (held : List Item) (file place : ℕ) : Type 
   pub least : (other : ℕ) → other < place → is_some (row_at file other held) ≡ true
 
 -- the fault names what is missing
-abbrev pub IsFinishFault : ℕ → List Item → FinishFault → Type 0
-IsFinishFault files held (Missing file place) = IsMissing files held file place
+abbrev pub IsFinishFault : ℕ → List Item → OrMemory Missing → Type 0
+IsFinishFault files held (Fault missing) = IsMissing files held missing.file missing.place
 IsFinishFault files held OutOfMemory = Unit {0}
 
 -- the rows of all files: those of each file in order of place, behind those of the file before it

@@ -7,9 +7,10 @@ ghost use Rattle.collector.specs.Lists.{AreLists, IsFinishFault};
 ghost use Rattle.pit_parts.specs.declared.ranges.TheConstants.{MAX_ROWS};
 
 use crate::add_fault::AddFault;
-use crate::finish_fault::FinishFault;
 use crate::history::History;
+use crate::missing::Missing;
 use crate::shelf::Shelf;
+use pit_units::OrMemory;
 use rows::{Item, Rows, Valued};
 use std::alloc::{AllocError, Global};
 use std::marker::Model;
@@ -85,7 +86,7 @@ impl Collector {
     ///
     /// - `Missing` names the first row that is missing, by file and place.
     /// - `OutOfMemory`: memory was refused.
-    pub fn finish(self) -> Result<Vec<Rows>, FinishFault>
+    pub fn finish(self) -> Result<Vec<Rows>, OrMemory<Missing>>
         ensures lists { IfOk result (λ lists. AreLists self.files self.items lists.items) }
         ensures missing { IfErr result (IsFinishFault self.files self.items) }
     {
@@ -161,7 +162,7 @@ fn put_end(shelves: &mut [Shelf], file: u8, count: u32)
 }
 
 // Refuses the first shelf that is not filled.
-fn require_filled(shelves: &[Shelf]) -> Result<(), FinishFault>
+fn require_filled(shelves: &[Shelf]) -> Result<(), OrMemory<Missing>>
     requires count { length shelves.now ≤ 255 }
     requires few { (file : ℕ) → length (rows_in shelves.now file) ≤ MAX_ROWS }
     requires closed { (file count : ℕ) → end_in shelves.now file ≡ Some count
@@ -173,10 +174,10 @@ fn require_filled(shelves: &[Shelf]) -> Result<(), FinishFault>
 {
     for (file, shelf) in shelves.iter().enumerate() {
         if let Some(place) = shelf.lacking() {
-            return Err(FinishFault::Missing {
+            return Err(OrMemory::Fault(Missing {
                 file: file as u8,
                 place,
-            });
+            }));
         }
     }
     Ok(())

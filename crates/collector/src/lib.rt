@@ -4,15 +4,15 @@
 
 mod add_fault;
 mod collector;
-mod finish_fault;
 mod history;
 pub mod laws;
+mod missing;
 mod ordering;
 mod places;
 mod shelf;
 
 pub use add_fault::AddFault;
 pub use collector::Collector;
-pub use finish_fault::FinishFault;
+pub use missing::Missing;
 pub use ordering::in_order;
 pub use rows::Rows;

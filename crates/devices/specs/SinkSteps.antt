@@ -1,8 +1,9 @@
 -- What a sink tells before and after one step of a writer, which may hold back bytes in a buffer.
 use Rattle.std.specs.Prelude.{◌≡◌, ◌+◌, ℕ, List}
 use Rattle.devices.specs.Device.{added, IsFront}
-use Rattle.devices.specs.declared.write_fault.WriteFault.{WriteFault}
-use Rattle.devices.specs.declared.write_fault.WriteFault.TheVariants.{SinkFailed, OutOfMemory}
+use Rattle.devices.specs.declared.sink.SinkFault.{SinkFault}
+use Rattle.pit_units.specs.declared.or_memory.OrMemory.{OrMemory}
+use Rattle.pit_units.specs.declared.or_memory.OrMemory.TheVariants.{Fault, OutOfMemory}
 use Rattle.devices.specs.SinkState.{SinkState}
 
 -- as much begun as it was, behind the same bytes
@@ -23,6 +24,6 @@ pub record IsAppendCut (more : ℕ) (text before : List ℕ) (old new : SinkStat
   pub still : IsBegunAsBefore old new
 
 -- how many calls a sink refused, by why its text was not written
-abbrev pub refusals : WriteFault → ℕ
-refusals SinkFailed = 1
+abbrev pub refusals : OrMemory SinkFault → ℕ
+refusals (Fault fault) = 1
 refusals OutOfMemory = 0

@@ -3,10 +3,11 @@ use Rattle.std.specs.Prelude.{◌<◌, ℕ, List, length, Result, MatchResult}
 use Rattle.devices.specs.SinkState.{SinkState, IsWritten, IsCutOff}
 use Rattle.devices.specs.SinkSteps.{refusals, IsAppended, IsAppendCut}
 use Rattle.devices.specs.declared.slices.TheConstants.{LARGE}
-use Rattle.devices.specs.declared.write_fault.WriteFault.{WriteFault}
+use Rattle.devices.specs.declared.sink.SinkFault.{SinkFault}
+use Rattle.pit_units.specs.declared.or_memory.OrMemory.{OrMemory}
 
 -- on `Ok` the sink has the text; else it was cut off, and refused as many calls as the fault says
-abbrev pub Writes : List ℕ → SinkState → SinkState → Result (Unit {0}) WriteFault → Type 0
+abbrev pub Writes : List ℕ → SinkState → SinkState → Result (Unit {0}) (OrMemory SinkFault) → Type 0
 Writes text old new result =
     MatchResult result (λ _. IsWritten text old new) (λ fault. IsCutOff (refusals fault) text old new)
 
@@ -20,7 +21,7 @@ pub record IsWrittenOn (text before after : List ℕ) (old new : SinkState) : Ty
   pub room : HasRoom before → HasRoom after
 
 -- on `Ok` the text was written on; else it was cut short
-abbrev pub WritesOn : List ℕ → List ℕ → List ℕ → SinkState → SinkState → Result (Unit {0}) WriteFault → Type 0
+abbrev pub WritesOn : List ℕ → List ℕ → List ℕ → SinkState → SinkState → Result (Unit {0}) (OrMemory SinkFault) → Type 0
 WritesOn text before after old new result =
     MatchResult result (λ _. IsWrittenOn text before after old new)
     (λ fault. IsAppendCut (refusals fault) text before old new)

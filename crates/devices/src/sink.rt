@@ -5,12 +5,23 @@ ghost use Rattle.devices.specs.Device.{added};
 ghost use Rattle.devices.specs.SinkState.{SinkState, IsWritten, IsCutOff};
 ghost use Rattle.devices.specs.SinkSteps.{IsBegunAsBefore};
 
+use pit_units::OrMemory;
 use thiserror::Error;
 
 /// A device refused to take bytes, or to begin.
 #[derive(Clone, Copy, Debug, Error, PartialEq, Eq)]
 #[error("the sink failed")]
 pub struct SinkFault;
+
+impl From<SinkFault> for OrMemory<SinkFault> {
+    ghost use Rattle.pit_units.specs.declared.or_memory.OrMemory.TheVariants.{Fault};
+
+    ghost from_gives = { λ fault error. error ≡ Fault fault };
+
+    fn from(fault: SinkFault) -> OrMemory<SinkFault> {
+        OrMemory::Fault(fault)
+    }
+}
 
 /// A device that takes one text: a file, or bytes in memory.
 pub trait Sink {

@@ -7,7 +7,8 @@ use Rattle.std.proofs.Math.Seq.{take-add}
 use Rattle.minelib_lines.specs.Lines.{text_of}
 use Rattle.devices.specs.SinkState.{SinkState}
 use Rattle.devices.specs.SinkSteps.{IsAppended, IsAppendCut}
-use Rattle.devices.specs.declared.write_fault.WriteFault.{WriteFault}
+use Rattle.devices.specs.declared.sink.SinkFault.{SinkFault}
+use Rattle.pit_units.specs.declared.or_memory.OrMemory.{OrMemory}
 use Rattle.devices.specs.Writes.{IsWrittenOn, WritesOn}
 use Rattle.devices.proofs.Fronts.{cut_before, cut_then, written_then}
 pub use Rattle.devices.proofs.Fronts.{buffered, nothing_put}
@@ -48,7 +49,7 @@ module _ {before mid : List ℕ} {old between new : SinkState} where
 
 -- lines were written on, and a writer goes on with more of them
 pub goes_on : {before mid : List ℕ} {old between : SinkState} (after : List ℕ) (new : SinkState) (xs ys : List (List ℕ))
-    (result : Result (Unit {0}) WriteFault) → IsWrittenOn (text_of xs) before mid old between → WritesOn (text_of ys) mid after between new result
+    (result : Result (Unit {0}) (OrMemory SinkFault)) → IsWrittenOn (text_of xs) before mid old between → WritesOn (text_of ys) mid after between new result
     → WritesOn (text_of (xs ++ ys)) before after old new result
 goes_on after new xs ys result first writes =
     MatchResult-weaker result writes (λ _ then. lines_then xs ys first then) (λ _ cut. lines_cut_then xs ys first.appended cut)

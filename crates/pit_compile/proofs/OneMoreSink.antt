@@ -10,8 +10,9 @@ use Rattle.minelib_writing.specs.Texts.{all_texts, text_named}
 use Rattle.devices.specs.Writes.{Writes}
 use Rattle.minelib_writing.specs.declared.text_name.TextName.{TextName}
 use Rattle.minelib_writing.specs.declared.text_name.TextName.TheVariants.{Blocks}
-use Rattle.devices.specs.declared.write_fault.WriteFault.{WriteFault}
-use Rattle.devices.specs.declared.write_fault.WriteFault.TheVariants as write
+use Rattle.devices.specs.declared.sink.SinkFault.{SinkFault}
+use Rattle.pit_units.specs.declared.or_memory.OrMemory.{OrMemory}
+use Rattle.pit_units.specs.declared.or_memory.OrMemory.TheVariants as write
 use Rattle.pit_compile.specs.SinkAnswers.{AreCutOff}
 use Rattle.pit_compile.specs.inner.SinkWriting.{in_sink}
 use Rattle.pit_compile.specs.SinkLent.{with_sink}
@@ -131,15 +132,15 @@ module _ {S : Type 0} (state : S → SinkState) (i : Instance) (old : TextName �
           still = same;
         }
 
-    pub refused : (written : Result (Unit {0}) WriteFault) (refusal : Refusal)
+    pub refused : (written : Result (Unit {0}) (OrMemory SinkFault)) (refusal : Refusal)
         → Writes (text_named name i) was (state sink) written
         → Err refusal ≡ in_sink name written → AreCutOff i old (all_told state (with_sink sinks name sink)) refusal
     refused (Ok done) refusal h e = absurd (cc)
-    refused (Err write.SinkFailed) refusal h e = let is : refusal ≡ SinkFailed name = cc in rw is (cut 1 h)
+    refused (Err (write.Fault fault)) refusal h e = let is : refusal ≡ SinkFailed name = cc in rw is (cut 1 h)
     refused (Err write.OutOfMemory) refusal h e = let is : refusal ≡ OutOfMemory = cc in rw is (name, cut 0 h)
 
-pub accepted : {text : List ℕ} {old new : SinkState} (name : TextName) (written : Result (Unit {0}) WriteFault) (done : Unit {0})
+pub accepted : {text : List ℕ} {old new : SinkState} (name : TextName) (written : Result (Unit {0}) (OrMemory SinkFault)) (done : Unit {0})
     → Writes text old new written → Ok done ≡ in_sink name written → IsWritten text old new
 accepted name (Ok other) done h e = h
-accepted name (Err write.SinkFailed) done h e = absurd (cc)
+accepted name (Err (write.Fault fault)) done h e = absurd (cc)
 accepted name (Err write.OutOfMemory) done h e = absurd (cc)

@@ -9,7 +9,8 @@ ghost use Rattle.pit_compile.specs.Verdict.{IsRowAt};
 ghost use Rattle.pit_parts.specs.declared.ranges.TheConstants.{MAX_BLOCKS};
 
 use crate::refusal::{Refusal, RowAt};
-use precedence::{NumberFault, Numbering, number_blocks};
+use pit_units::OrMemory;
+use precedence::{Numbering, Same, number_blocks};
 use rows::RowLists;
 use std::alloc::Global;
 
@@ -27,11 +28,11 @@ pub fn numbered(alloc: Global, rows: &RowLists) -> Result<Numbering, Refusal>
 {
     match number_blocks(alloc, rows) {
         Ok(numbering) => Ok(numbering),
-        Err(NumberFault::Same { first, again }) => Err(Refusal::Same {
+        Err(OrMemory::Fault(Same { first, again })) => Err(Refusal::Same {
             first: row_at(rows, first),
             again: row_at(rows, again),
         }),
-        Err(NumberFault::OutOfMemory) => Err(Refusal::OutOfMemory),
+        Err(OrMemory::OutOfMemory) => Err(Refusal::OutOfMemory),
     }
 }
 

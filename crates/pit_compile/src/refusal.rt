@@ -6,7 +6,8 @@ ghost use Rattle.pit_compile.specs.Answers.{refused_start};
 
 use crate::settings::SettingsFault;
 use minelib_writing::text_name::TextName;
-use run_threads::HandOverFault;
+use pit_units::OrMemory;
+use run_threads::NoThread;
 use std::alloc::AllocError;
 use std::fmt;
 use thiserror::Error;
@@ -82,13 +83,13 @@ impl From<SettingsFault> for Refusal {
     }
 }
 
-impl From<HandOverFault> for Refusal {
+impl From<OrMemory<NoThread>> for Refusal {
     ghost from_gives = { λ fault refusal. refusal ≡ refused_start fault };
 
-    fn from(fault: HandOverFault) -> Refusal {
+    fn from(fault: OrMemory<NoThread>) -> Refusal {
         match fault {
-            HandOverFault::NoThread => Refusal::NoThread,
-            HandOverFault::OutOfMemory => Refusal::OutOfMemory,
+            OrMemory::Fault(NoThread) => Refusal::NoThread,
+            OrMemory::OutOfMemory => Refusal::OutOfMemory,
         }
     }
 }

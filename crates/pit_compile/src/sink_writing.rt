@@ -16,6 +16,7 @@ use mine_instance::instance::Instance;
 use mine_instance::value_list::ValueList;
 use minelib_writing::text_name::TextName;
 use minelib_writing::write_named;
+use pit_units::OrMemory;
 use precedence::PredLists;
 use std::alloc::Global;
 
@@ -51,7 +52,7 @@ fn in_sink(which: TextName, written: Result<(), WriteFault>) -> Result<(), Refus
 {
     match written {
         Ok(()) => Ok(()),
-        Err(WriteFault::SinkFailed) => Err(Refusal::SinkFailed { which }),
-        Err(WriteFault::OutOfMemory) => Err(Refusal::OutOfMemory),
+        Err(OrMemory::Fault(_)) => Err(Refusal::SinkFailed { which }),
+        Err(OrMemory::OutOfMemory) => Err(Refusal::OutOfMemory),
     }
 }

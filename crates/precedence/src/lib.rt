@@ -16,5 +16,5 @@ pub use lists::take_preds::TakePreds;
 pub use numbering::Numbering;
 pub use numbering::listed_blocks::ListedBlocks;
 pub use numbering::number_by_place::number_blocks;
-pub use numbering::number_fault::NumberFault;
 pub use numbering::number_rows::number;
+pub use numbering::same::Same;

@@ -10,9 +10,9 @@ use std::marker::Model;
 
 pub mod listed_blocks;
 pub mod number_by_place;
-pub mod number_fault;
 pub mod number_rows;
 pub mod place_hashes;
+pub mod same;
 
 /// The blocks of a model in the order of their identifiers, 0, 1, 2, .., and the position of each in the list that was numbered.
 /// Contracts see it as the record of the two.

@@ -6,7 +6,7 @@ ghost use Rattle.pit_parts.specs.Destinations.{AreOfPlan};
 ghost use Rattle.pit_parts.specs.PlanFormulas.{formulas_of_plan};
 ghost use Rattle.run_threads.specs.inner.HandingOver.{IsHandedOver};
 ghost use Rattle.run_threads.specs.Reading.{AreRead};
-ghost use Rattle.run_threads.specs.declared.handing_over.HandOverFault.TheVariants.{NoThread, OutOfMemory};
+ghost use Rattle.pit_units.specs.declared.or_memory.OrMemory.TheVariants.{Fault};
 ghost use Rattle.valuers.specs.Valuing.{items_by};
 ghost use Rattle.pit_parts.specs.declared.ranges.TheConstants.{MAX_CAPACITY, MAX_VALUERS};
 
@@ -21,8 +21,9 @@ use devices::feed::Feed;
 use lane::Gathered;
 use pit_parts::destination::Destination;
 use pit_parts::plan::Plan;
+use pit_units::OrMemory;
 use rows::PackedItems;
-use std::alloc::{AllocError, Global};
+use std::alloc::Global;
 use std::sync::Wait;
 use std::thread;
 use std::thread::Threads;
@@ -53,30 +54,16 @@ pub struct HandedOver {
     pub answers: Vec<Result<(), ReadFault>>,
 }
 
-/// Why the threads of a run hand nothing over.
+/// The start of a thread was refused.
 #[derive(Clone, Copy, Debug, Error, PartialEq, Eq)]
-pub enum HandOverFault {
-    /// The start of a thread was refused.
-    #[error("NoThread")]
-    NoThread,
-    /// Memory was refused before the first start.
-    #[error("OutOfMemory")]
-    OutOfMemory,
-}
+#[error("NoThread")]
+pub struct NoThread;
 
-impl From<AllocError> for HandOverFault {
-    ghost from_gives = { λ _ fault. fault ≡ OutOfMemory };
+impl From<GaveUp> for OrMemory<NoThread> {
+    ghost from_gives = { λ _ error. error ≡ Fault record {} };
 
-    fn from(_refusal: AllocError) -> HandOverFault {
-        HandOverFault::OutOfMemory
-    }
-}
-
-impl From<GaveUp> for HandOverFault {
-    ghost from_gives = { λ _ fault. fault ≡ NoThread };
-
-    fn from(_gave_up: GaveUp) -> HandOverFault {
-        HandOverFault::NoThread
+    fn from(_gave_up: GaveUp) -> OrMemory<NoThread> {
+        OrMemory::Fault(NoThread)
     }
 }
 
@@ -96,7 +83,7 @@ pub fn hand_over<R: Threads + Wait + Sync, F: Feed + Send + Drop, G: Gate + Sync
     destinations: &[Destination],
     allowance: Allowance,
     gate: &G,
-) -> Result<HandedOver, HandOverFault>
+) -> Result<HandedOver, OrMemory<NoThread>>
     requires files { length feeds.items ≡ length plan.now.cones }
     requires valuers { (1 ≤ allowance.valuers) × (allowance.valuers ≤ MAX_VALUERS) }
     requires capacity { (1 ≤ allowance.capacity) × (allowance.capacity ≤ MAX_CAPACITY) }
@@ -139,7 +126,7 @@ pub fn hand_over<R: Threads + Wait + Sync, F: Feed + Send + Drop, G: Gate + Sync
     thread::scope(
         thread::scope_env(),
         rt,
-        move |scope| -> Result<HandedOver, HandOverFault>
+        move |scope| -> Result<HandedOver, OrMemory<NoThread>>
             ensures handed { IfOk result (IsHandedOver ready.entry.shared.plan.now
                 (map F.left ready.entry.feeds.items) (map F.is_sure ready.entry.feeds.items)
                 ready.entry.lane.closer.takers) }

@@ -15,5 +15,5 @@ mod settling;
 mod shared;
 mod starting;
 
-pub use handing_over::{Allowance, HandOverFault, HandedOver, hand_over};
+pub use handing_over::{Allowance, HandedOver, NoThread, hand_over};
 pub use read_fault::ReadFault;

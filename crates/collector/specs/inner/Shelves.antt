@@ -7,8 +7,9 @@ use Rattle.rows.specs.declared.item.Valued.{Valued}
 use Rattle.collector.specs.declared.shelf.Shelf.{Shelf}
 use Rattle.collector.specs.declared.add_fault.AddFault.{AddFault}
 use Rattle.collector.specs.declared.add_fault.AddFault.TheVariants.{Double, Stranger, AfterEnd, SecondEnd, BadCount}
-use Rattle.collector.specs.declared.finish_fault.FinishFault.{FinishFault}
-use Rattle.collector.specs.declared.finish_fault.FinishFault.TheVariants.{Missing, OutOfMemory}
+use Rattle.collector.specs.declared.missing.Missing.{Missing}
+use Rattle.pit_units.specs.declared.or_memory.OrMemory.{OrMemory}
+use Rattle.pit_units.specs.declared.or_memory.OrMemory.TheVariants.{Fault, OutOfMemory}
 use Rattle.collector.specs.Fault.{is_after}
 use Rattle.collector.specs.Lists.{IsOpen}
 use Rattle.collector.specs.Found.{row_at, end_at, has_past}
@@ -98,9 +99,9 @@ IsLacking rows end place =
     (slot rows place ≡ None) × ((other : ℕ) → other < place → is_some (slot rows other) ≡ true) × IsOpen end place
 
 -- the fault names the first shelf that is not filled
-abbrev pub IsFirstLacking : List Shelf → FinishFault → Type 0
-IsFirstLacking shelves (Missing file place) =
-    (file < length shelves)
-    × ((other : ℕ) → other < file → IsFilled (rows_in shelves other) (end_in shelves other))
-    × IsLacking (rows_in shelves file) (end_in shelves file) place
+abbrev pub IsFirstLacking : List Shelf → OrMemory Missing → Type 0
+IsFirstLacking shelves (Fault missing) =
+    (missing.file < length shelves)
+    × ((other : ℕ) → other < missing.file → IsFilled (rows_in shelves other) (end_in shelves other))
+    × IsLacking (rows_in shelves missing.file) (end_in shelves missing.file) missing.place
 IsFirstLacking shelves OutOfMemory = ⊥

@@ -1,5 +1,6 @@
 use super::valued;
-use collector::{AddFault, Collector, FinishFault};
+use collector::{AddFault, Collector, Missing};
+use pit_units::OrMemory;
 use rows::{Item, Rows, Valued};
 use std::alloc::{AllocError, Global};
 use std::process::Abort;
@@ -33,7 +34,7 @@ fn new_collector(alloc: Global, files: u8) -> Result<Collector, AllocError> {
     Collector::new(alloc, files)
 }
 
-fn finish(collector: Collector) -> Result<Vec<Rows>, FinishFault> {
+fn finish(collector: Collector) -> Result<Vec<Rows>, OrMemory<Missing>> {
     collector.finish()
 }
 
@@ -93,7 +94,7 @@ fn collector_faults(rt: HostRuntime) -> Result<(), Fail> {
         let collector = stepped(&rt, rt.alloc(), 2, steps)?;
         assert_eq!(rt;
             finish(collector).err(),
-            Some(FinishFault::Missing { file, place })
+            Some(OrMemory::Fault(Missing { file, place }))
         );
     }
     let lists = finish(stepped(&rt, rt.alloc(), 1, WHOLE)?)?;

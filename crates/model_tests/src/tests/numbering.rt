@@ -1,5 +1,6 @@
 use super::valued;
-use precedence::{NumberFault, number};
+use pit_units::OrMemory;
+use precedence::{Same, number};
 use rows::Valued;
 use std::test::Fail;
 
@@ -17,7 +18,7 @@ fn four_rows(places: [u16; 4]) -> Option<[Valued; 4]> {
 #[test]
 fn same_block_in_two_files(rt: HostRuntime) -> Result<(), Fail> {
     let rows = four_rows([0, 1, 2, 0]).ok_or("rows")?;
-    let same = NumberFault::Same { first: 0, again: 3 };
+    let same = OrMemory::Fault(Same { first: 0, again: 3 });
     assert_eq!(rt; number(rt.alloc(), &rows).err(), Some(same));
     Ok(())
 }

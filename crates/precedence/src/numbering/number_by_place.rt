@@ -14,11 +14,12 @@ ghost use Rattle.pit_parts.specs.declared.ranges.TheConstants.{MAX_BLOCKS};
 
 use crate::numbering::Numbering;
 use crate::numbering::listed_blocks::ListedBlocks;
-use crate::numbering::number_fault::NumberFault;
 use crate::numbering::place_hashes::PlaceHashes;
+use crate::numbering::same::Same;
 use crate::places::code::code;
 use indexmap::IndexMap;
 use pit_parts::block::Block;
+use pit_units::OrMemory;
 use std::alloc::{AllocError, Global};
 
 // The place of a block, as its code, and the block's position in the list.
@@ -34,7 +35,10 @@ type Seen = IndexMap<u64, u32, PlaceHashes>;
 ///
 /// - `Same`: two blocks have the same indices; it names the first that stands again.
 /// - `OutOfMemory`: memory was refused.
-pub fn number_blocks<L: ListedBlocks>(alloc: Global, listed: &L) -> Result<Numbering, NumberFault>
+pub fn number_blocks<L: ListedBlocks>(
+    alloc: Global,
+    listed: &L,
+) -> Result<Numbering, OrMemory<Same>>
     requires { length (L.listed listed.now) ≤ MAX_BLOCKS }
     ensures numbering { IfOk result (IsNumbering (L.listed listed.now)) }
     ensures same { IfErr result (IsReason (L.listed listed.now)) }
@@ -46,7 +50,7 @@ pub fn number_blocks<L: ListedBlocks>(alloc: Global, listed: &L) -> Result<Numbe
 }
 
 // The place of each block, in order.
-fn sorted_places<L: ListedBlocks>(alloc: Global, listed: &L) -> Result<Vec<Place>, NumberFault>
+fn sorted_places<L: ListedBlocks>(alloc: Global, listed: &L) -> Result<Vec<Place>, OrMemory<Same>>
     requires { length (L.listed listed.now) ≤ MAX_BLOCKS }
     ensures sorted { IfOk result (λ places. IsSortedTable (L.listed listed.now) places.items) }
     ensures same { IfErr result (IsReason (L.listed listed.now)) }
@@ -89,7 +93,7 @@ fn rise(places: &[Place]) -> bool
 }
 
 // Finds the first block of a list whose place stood before, and fails there.
-fn differ<L: ListedBlocks>(alloc: Global, listed: &L) -> Result<(), NumberFault>
+fn differ<L: ListedBlocks>(alloc: Global, listed: &L) -> Result<(), OrMemory<Same>>
     requires { length (L.listed listed.now) ≤ MAX_BLOCKS }
     ensures differ { OnOk result (IsDistinct nat_eq (place_codes (L.listed listed.now))) }
     ensures same { IfErr result (IsReason (L.listed listed.now)) }
@@ -100,7 +104,7 @@ fn differ<L: ListedBlocks>(alloc: Global, listed: &L) -> Result<(), NumberFault>
         let block = listed.block_at(position);
         let again = position as u32;
         if let Some(first) = note(&mut seen, code(&block), again)? {
-            return Err(NumberFault::Same { first, again });
+            return Err(OrMemory::Fault(Same { first, again }));
         }
     }
     Ok(())

@@ -8,7 +8,8 @@ ghost use Rattle.pit_parts.specs.declared.ranges.TheConstants.{MAX_BLOCKS};
 
 use crate::numbering::Numbering;
 use crate::numbering::number_by_place::number_blocks;
-use crate::numbering::number_fault::NumberFault;
+use crate::numbering::same::Same;
+use pit_units::OrMemory;
 use rows::Valued;
 use std::alloc::Global;
 
@@ -19,7 +20,7 @@ use std::alloc::Global;
 ///
 /// - `Same`: two blocks have the same indices; it names the first that stands again.
 /// - `OutOfMemory`: memory was refused.
-pub fn number(alloc: Global, rows: &[Valued]) -> Result<Numbering, NumberFault>
+pub fn number(alloc: Global, rows: &[Valued]) -> Result<Numbering, OrMemory<Same>>
     requires { length rows.now ≤ MAX_BLOCKS }
     ensures numbering { IfOk result (IsNumbering (blocks_of_rows rows.now)) }
     ensures same { IfErr result (IsReason (blocks_of_rows rows.now)) }

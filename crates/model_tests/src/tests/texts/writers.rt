@@ -3,11 +3,12 @@ ghost use Rattle.mine_instance.specs.Valid.{IsValid};
 
 use super::{BLOCKS, LIMITED, PCPSP, PREC, instance_of, write};
 use devices::mem_sink::MemSink;
-use devices::write_fault::WriteFault;
+use devices::sink::SinkFault;
 use mine_instance::build_cpit;
 use mine_instance::instance::Instance;
 use minelib_writing::text_name::TextName;
 use minelib_writing::write_cpit;
+use pit_units::OrMemory;
 use std::alloc::Global;
 use std::process::Abort;
 use std::test::Fail;
@@ -56,7 +57,7 @@ fn ends_well(
     let mut sink = MemSink::fresh(alloc, step, nth);
     match write(alloc, name, instance, &mut sink) {
         Ok(()) => !fails && sink.bytes() == text,
-        Err(fault) => fails && fault == WriteFault::SinkFailed && is_cut_off(&sink, text, nth),
+        Err(fault) => fails && fault == OrMemory::Fault(SinkFault) && is_cut_off(&sink, text, nth),
     }
 }
 
