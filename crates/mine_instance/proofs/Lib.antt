@@ -6,4 +6,5 @@ pub mod FoundFacts
 pub mod GreatestFacts
 pub mod GroupFacts
 pub mod ModelFacts
+pub mod OrderLaws
 pub mod ValueFacts

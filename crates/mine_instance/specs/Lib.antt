@@ -9,7 +9,6 @@ pub mod OfCpit
 pub mod OfModel
 pub mod OneSlope
 pub mod Order
-pub mod OrderLaws
 pub mod Rows
 pub mod Seen
 pub mod Valid

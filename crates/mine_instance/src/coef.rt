@@ -39,11 +39,10 @@ impl Ordered for Coef {
 
     ghost before = { λ c e. IsTrue (coef_comes_before c e) };
 
-    ghost use Rattle.mine_instance.specs.OrderLaws.{coef_comes_before_through};
-
-    ghost through = { coef_comes_before_through };
-
     fn is_before(&self, other: &Coef) -> bool {
         self.comes_before(other)
     }
+
+    #[tactic(auto, using(crate::proofs::OrderLaws::coef_comes_before_through))]
+    fn goes_through() {}
 }

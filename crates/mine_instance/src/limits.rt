@@ -13,11 +13,10 @@ impl Ordered for Limit {
 
     ghost before = { λ l m. IsTrue (stands_before l m) };
 
-    ghost use Rattle.mine_instance.specs.OrderLaws.{stands_before_through};
-
-    ghost through = { stands_before_through };
-
     fn is_before(&self, other: &Limit) -> bool {
         self.stands_before(other)
     }
+
+    #[tactic(auto, using(crate::proofs::OrderLaws::stands_before_through))]
+    fn goes_through() {}
 }

@@ -9,13 +9,16 @@ pub trait Ordered {
     fn is_before(&self, other: &Self) -> bool
         ensures { IsTrue result ↔ before self.now other.now };
 
-    ghost through: { (x y z : Self) → before x y → before y z → before x z };
+    /// Does nothing. Its contract says that the order goes through.
+    fn goes_through()
+        ensures { (x y z : Self) → before x y → before y z → before x z };
 }
 
 /// Whether each item stands before all that come after it.
 pub fn rises<T: Ordered>(items: &[T]) -> bool
     ensures { IsTrue result ↔ AllPairs T.before items.now }
 {
+    T::goes_through();
     for index in 1..items.len() {
         if !items[index - 1].is_before(&items[index]) {
             return false;
@@ -29,11 +32,10 @@ impl Ordered for u32 {
 
     ghost before = { λ n m. n < m };
 
-    ghost use Rattle.mine_instance.specs.OrderLaws.{less_through};
-
-    ghost through = { less_through };
-
     fn is_before(&self, other: &u32) -> bool {
         *self < *other
     }
+
+    #[tactic(auto, using(crate::proofs::OrderLaws::less_through))]
+    fn goes_through() {}
 }

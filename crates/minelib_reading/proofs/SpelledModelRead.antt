@@ -6,7 +6,7 @@ use Rattle.forms.proofs.FormFacts.{spelled_fit}
 use Rattle.forms.specs.Words.{AllState, Says, States}
 use Rattle.pit_parts.specs.PlanKept.{RiseStrictly, stands_before}
 use Rattle.mine_instance.specs.Order.{coef_comes_before}
-use Rattle.mine_instance.specs.OrderLaws.{coef_comes_before_through, stands_before_through}
+use Rattle.mine_instance.proofs.OrderLaws.{coef_comes_before_through, stands_before_through}
 use Rattle.pit_parts.specs.declared.limit.Limit.{Limit}
 use Rattle.mine_instance.specs.declared.coef.Coef.{Coef}
 use Rattle.text_lines.specs.TextLines.{Line, fields_of}
