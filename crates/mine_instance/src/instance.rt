@@ -16,9 +16,9 @@ use precedence::{PredLists, Preds, TakePreds};
 use std::alloc::{AllocError, Global};
 
 /// An instance of the production scheduling problem of MineLib (Espinoza, Goycoolea, Moreno and Newman 2013). Blocks,
-/// predecessors and values stand by identifier. `P` has the predecessors: `Preds` keeps their lists, `FoundPreds` finds them, and
-/// `CountedPreds` has only their number. `C` has the coefficients: `Coefs` keeps and lends them, and `FoundCoefs` finds them. `V` has the
-/// values: `Values` keeps and lends them, and `FoundValues` finds them.
+/// predecessors and values stand by identifier. `P` has the predecessors: `Preds` keeps their lists, and `FoundPreds` finds them. `C`
+/// has the coefficients: `Coefs` keeps and lends them, and `FoundCoefs` finds them. `V` has the values: `Values` keeps and lends them,
+/// and `FoundValues` finds them.
 #[derive(Debug, Drop)]
 pub struct Instance<P = Preds, C = Coefs, V = Values> {
     pub name: Name,
