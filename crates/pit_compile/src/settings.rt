@@ -44,12 +44,12 @@ impl fmt::Display for SettingsFault {
     ghost output = { λ kind. Some (settings_name kind) };
 
     fn fmt<W: fmt::Write>(&self, f: &mut fmt::Formatter<W>) -> fmt::Result {
-        match self {
-            SettingsFault::Files => f.write_str("Files"),
-            SettingsFault::Valuers => f.write_str("Valuers"),
-            SettingsFault::Capacity => f.write_str("Capacity"),
-            SettingsFault::Destinations => f.write_str("Destinations"),
-        }
+        f.write_str(match self {
+            SettingsFault::Files => "Files",
+            SettingsFault::Valuers => "Valuers",
+            SettingsFault::Capacity => "Capacity",
+            SettingsFault::Destinations => "Destinations",
+        })
     }
 }
 
