@@ -1,7 +1,7 @@
 -- What the two halves of a run say of it.
-use Rattle.std.proofs.Common.{◌≡◌, ℕ, inr, Bool, List, Option, subst}
+use Rattle.std.proofs.Common.{◌≡◌, ℕ, inl, inr, refl, Bool, List, Option, subst}
 use Rattle.pit_parts.specs.Plan.{PlanParts}
-use Rattle.pit_compile.specs.Compiling.{IsCompiled}
+use Rattle.pit_compile.specs.Compiling.{IsCompiled, IsNotCompiled}
 use Rattle.pit_compile.specs.Run.{IsRefused}
 use Rattle.pit_compile.specs.SinkAnswers.{AreCutOff}
 use Rattle.pit_compile.specs.Sinks.{AreCutOffAt}
@@ -10,8 +10,20 @@ use Rattle.minelib_writing.specs.declared.text_name.TextName.{TextName}
 use Rattle.mine_instance.specs.Instance.{Instance}
 use Rattle.pit_compile.specs.declared.compiling.Compiled.{Compiled}
 use Rattle.pit_compile.specs.declared.refusal.Refusal.{Refusal}
-use Rattle.pit_compile.specs.declared.refusal.Refusal.TheVariants.{Settings, SinkFailed, OutOfMemory}
+use Rattle.pit_compile.specs.declared.refusal.Refusal.TheVariants.{Settings, NoThread, FeedFailed, TooLong, Row, Same, SinkFailed, OutOfMemory}
 use Rattle.pit_compile.specs.declared.settings.SettingsFault.{SettingsFault}
+
+-- a run that is refused before it writes
+pub not_compiled : (plan : PlanParts) (lefts : List (Option (List ℕ))) (sures : List Bool) (told : TextName → SinkState) (refusal : Refusal)
+    → IsNotCompiled plan lefts sures refusal → IsRefused plan lefts sures told told refusal
+not_compiled plan lefts sures told (Settings kind) h = refl
+not_compiled plan lefts sures told NoThread h = refl
+not_compiled plan lefts sures told (FeedFailed file) h = (h, refl)
+not_compiled plan lefts sures told (TooLong file) h = (h, refl)
+not_compiled plan lefts sures told (Row file fault) h = (h, refl)
+not_compiled plan lefts sures told (Same first again) h = (h, refl)
+not_compiled plan lefts sures told (SinkFailed which) h = absurd h
+not_compiled plan lefts sures told OutOfMemory h = inl refl
 
 -- a run that is refused in writing
 pub cut_off : (plan : PlanParts) (lefts : List (Option (List ℕ))) (sures : List Bool) (valuers : ℕ) (old new : TextName → SinkState)

@@ -1,14 +1,18 @@
 -- What a run does, by what its feeds had left, which of them were sure, and what its sinks tell before and after.
-use Rattle.std.specs.Prelude.{◌≡◌, ℕ, ◌⊎◌, Bool, List, Option}
+use Rattle.std.specs.Prelude.{◌≡◌, ◌↔◌, ◌+◌, ◌≤◌, ℕ, ◌⊎◌, Bool, List, length, Option, Result, Err, IfOk, IfErr}
 use Rattle.lane.specs.Whole.{GatheredView}
 use Rattle.pit_parts.specs.Plan.{PlanParts}
+use Rattle.pit_parts.specs.declared.formula.Formula.{Formula}
+use Rattle.pit_parts.specs.declared.settings.Settings.{Settings as Chosen}
 use Rattle.pit_compile.specs.Compiled.{AreGiven, HasPassed, IsFeedFault, IsVerdict, instance_from}
 use Rattle.devices.specs.SinkState.{SinkState}
 use Rattle.minelib_writing.specs.declared.text_name.TextName.{TextName}
+use Rattle.pit_compile.specs.Settings.{IsSettingsFault}
 use Rattle.pit_compile.specs.Sinks.{AreWritten, AreCutOffAt}
 use Rattle.pit_compile.specs.Verdict.{IsAccepted}
 use Rattle.pit_compile.specs.declared.refusal.Refusal.{Refusal}
 use Rattle.pit_compile.specs.declared.refusal.Refusal.TheVariants.{Settings, NoThread, FeedFailed, TooLong, Row, Same, SinkFailed, OutOfMemory}
+use Rattle.pit_compile.specs.declared.settings.SettingsFault.{SettingsFault}
 
 -- the zone files are accepted, every row of every file passed the lane whole, and each sink holds its text of their instance
 pub record IsDone (plan : PlanParts) (lefts : List (Option (List ℕ))) (valuers : ℕ)
@@ -39,3 +43,11 @@ IsRefused plan lefts sures old new (Same first again) = IsVerdict plan lefts (Sa
 IsRefused plan lefts sures old new (SinkFailed which) = IsStopped plan lefts which 1 old new
 IsRefused plan lefts sures old new OutOfMemory =
     (new ≡ old) ⊎ ((which : TextName) × IsStopped plan lefts which 0 old new)
+
+-- what a run answers and does to its sinks, of a plan, destinations of these formulas, and settings, where it may start so many threads
+pub record Runs (plan : PlanParts) (formulas : List Formula) (chosen : Chosen) (lefts : List (Option (List ℕ))) (sures : List Bool)
+    (starts : ℕ) (old new : TextName → SinkState) (answer : Result GatheredView Refusal) : Type 0 where
+  pub settings : (kind : SettingsFault) → (answer ≡ Err (Settings kind)) ↔ IsSettingsFault plan (length lefts) formulas chosen kind
+  pub done : IfOk answer (IsDone plan lefts chosen.valuers old new)
+  pub refused : IfErr answer (IsRefused plan lefts sures old new)
+  pub budget : IfOk answer (λ _. chosen.valuers + length lefts ≤ starts)

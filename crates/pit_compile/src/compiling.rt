@@ -96,6 +96,7 @@ fn compiled_of<F: Feed>(
     _feeds: Snapshot<Vec<F>>,
     handed: HandedOver,
 ) -> Result<Compiled, Refusal>
+    // Of a plan with as many zones as there were feeds, what the threads of a run promise.
     requires files { length _feeds.value.items ≡ length plan.now.cones }
     requires few { length plan.now.cones ≤ MAX_ZONES }
     requires whole { IsWhole handed.gathered }
@@ -105,11 +106,15 @@ fn compiled_of<F: Feed>(
         handed.answers.items handed.gathered.sent }
     requires valued { IsFalse handed.memory
         → handed.items.items ≡ map (items_by (formulas_of_plan plan.now)) handed.gathered.took }
-    ensures settings { (kind : ASettingsFault) → result ≢ Err (Refusal.Settings kind) }
-    ensures files { IfSome (refusal_in 0 handed.answers.items) (λ refusal. result ≡ Err refusal) }
+
+    // What is compiled.
     ensures done { IfOk result
         (IsCompiled plan.now (map F.left _feeds.value.items) (length handed.gathered.took)) }
     ensures valid { IfOk result (λ made. IsValid made.instance) }
+
+    // Why nothing is: never for the settings, and for the answer of a reader where one did not finish.
+    ensures settings { (kind : ASettingsFault) → result ≢ Err (Refusal.Settings kind) }
+    ensures files { IfSome (refusal_in 0 handed.answers.items) (λ refusal. result ≡ Err refusal) }
     ensures refused { IfErr result
         (IsNotCompiled plan.now (map F.left _feeds.value.items)
         (map F.is_sure _feeds.value.items)) }

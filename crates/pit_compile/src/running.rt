@@ -1,10 +1,9 @@
 //! The run: from zone files to the texts of the instance.
 
-ghost use Rattle.std.specs.Prelude.{◌≡◌, ◌↔◌, ◌+◌, ◌≤◌, Err, length, map, IfErr, IfOk};
-ghost use Rattle.pit_compile.specs.Run.{IsDone, IsRefused};
-ghost use Rattle.pit_compile.specs.Settings.{IsSettingsFault};
+ghost use Rattle.std.specs.Prelude.{map};
+ghost use Rattle.pit_compile.specs.Run.{Runs};
 ghost use Rattle.pit_compile.specs.Sinks.{all_told};
-ghost use Rattle.pit_compile.specs.declared.settings.SettingsFault.{SettingsFault as ASettingsFault};
+ghost use Rattle.pit_compile.specs.declared.running.TheConstants.{MOST_STARTS};
 ghost use Rattle.pit_parts.specs.Destinations.{formulas_of};
 
 use crate::compiling::{Compiled, compile};
@@ -46,16 +45,9 @@ pub fn run<R: Threads + Wait + Sync, F: Feed + Send + Drop, G: Gate + Sync, S: S
     gate: &G,
     sinks: &mut Sinks<S>,
 ) -> Result<Gathered, Refusal>
-    ensures settings { (kind : ASettingsFault) → (result ≡ Err (Refusal.Settings kind))
-        ↔ IsSettingsFault plan.now (length feeds.items) (formulas_of destinations.now)
-        settings kind }
-    ensures done { let told = all_told S.state in
-        IfOk result (IsDone plan.now (map F.left feeds.items) settings.valuers
-        (told sinks.old) (told sinks.new)) }
-    ensures refused { let told = all_told S.state in
-        IfErr result (IsRefused plan.now (map F.left feeds.items) (map F.is_sure feeds.items)
-        (told sinks.old) (told sinks.new)) }
-    ensures budget { IfOk result (λ _. settings.valuers + length feeds.items ≤ 128) }
+    ensures { let told = all_told S.state in
+        Runs plan.now (formulas_of destinations.now) settings (map F.left feeds.items)
+        (map F.is_sure feeds.items) MOST_STARTS (told sinks.old) (told sinks.new) result }
 {
     run_limited(
         rt,
@@ -82,16 +74,9 @@ pub fn run_limited<R: Threads + Wait + Sync, F: Feed + Send + Drop, G: Gate + Sy
     gate: &G,
     sinks: &mut Sinks<S>,
 ) -> Result<Gathered, Refusal>
-    ensures settings { (kind : ASettingsFault) → (result ≡ Err (Refusal.Settings kind))
-        ↔ IsSettingsFault plan.now (length feeds.items) (formulas_of destinations.now)
-        settings kind }
-    ensures done { let told = all_told S.state in
-        IfOk result (IsDone plan.now (map F.left feeds.items) settings.valuers
-        (told sinks.old) (told sinks.new)) }
-    ensures refused { let told = all_told S.state in
-        IfErr result (IsRefused plan.now (map F.left feeds.items) (map F.is_sure feeds.items)
-        (told sinks.old) (told sinks.new)) }
-    ensures budget { IfOk result (λ _. settings.valuers + length feeds.items ≤ starts) }
+    ensures { let told = all_told S.state in
+        Runs plan.now (formulas_of destinations.now) settings (map F.left feeds.items)
+        (map F.is_sure feeds.items) starts (told sinks.old) (told sinks.new) result }
 {
     let Compiled { gathered, instance } = compile(
         rt,

@@ -122,13 +122,18 @@ fn take_all<R: Wait, G: Gate, K: Keeps>(
     gate: &G,
     mut items: K,
 ) -> (TakeEnd, K, bool)
+    // Of a list of no items, for rows of as many worths as there are destinations.
     requires some { 1 ≤ length destinations.now }
     requires few { length destinations.now ≤ MAX_DESTINATIONS }
     requires empty { K.held items ≡ [] }
     requires width { K.is_for items (length destinations.now) }
+
+    // What was taken.
     ensures taker { result.0 ≡ record take_end
         { took = take_end.took ++ drop (length take_end.took) result.0.took } }
     ensures done { is_done result.0.took ≡ true }
+
+    // What is kept of it, and that memory is refused only where the list is full.
     ensures items { IsFalse result.2
         → K.held result.1 ≡ items_by (formulas_of destinations.now)
         (drop (length take_end.took) result.0.took) }

@@ -1,9 +1,6 @@
-use Rattle.std.proofs.Common.{Err, ap, length, subst, sym}
-use Rattle.std.proofs.lemmas.List.{length-map}
+use Rattle.std.proofs.Common.{Err, ap}
 use Rattle.std.proofs.lemmas.Result.{err_from_is_err_and}
-use Rattle.pit_compile.specs.Settings.{IsSettingsFault}
 use Rattle.pit_compile.specs.Sinks.{sink_of}
-use Rattle.pit_parts.specs.Destinations.{formulas_of}
 use Rattle.pit_commands.proofs.compile.run_into_files.Goals as goal
 
 pub returns-clause-done : goal.returns-clause-done
@@ -27,7 +24,6 @@ returns-in_err-gathered-clause-refused g c =
         after = sink_of c.run.new.sinks;
         fresh = c.in_ok-sinks.ensures;
       };
-      faulty = λ kind e. subst (λ n. IsSettingsFault c.args.plan.now n (formulas_of c.args.destinations.now) c.args.settings kind)
-          (sym (length-map c.args.feeds.items _)) ((c.in_err-gathered.ensures.settings kind).0 (ap Err e));
+      faulty = λ kind e. (c.in_err-gathered.ensures.settings kind).0 (ap Err e);
       refused = c.in_err-gathered.ensures.refused;
     })
