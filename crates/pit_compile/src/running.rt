@@ -16,13 +16,14 @@ use devices::sink::Sink;
 use lane::Gathered;
 use pit_parts::destination::Destination;
 use pit_parts::plan::Plan;
+use pit_parts::ranges::{MAX_VALUERS, MAX_ZONES};
 use std::alloc::Global;
 use std::sync::Wait;
 use std::thread::Threads;
 use valuers::Gate;
 
-/// How many threads a run may start: one for each zone file and each valuer, where there are 64 of each.
-pub const MOST_STARTS: u32 = 128;
+/// How many threads a run may start: one for each zone file and each valuer, where there are as many as there may be.
+pub const MOST_STARTS: u32 = MAX_ZONES as u32 + MAX_VALUERS as u32;
 
 /// Reads and values the zone files over threads, builds the instance of the plan and these files, and writes its
 /// texts to the sinks. It begins the sinks only when all blocks are known to be different. Returns what went through

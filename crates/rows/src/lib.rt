@@ -27,4 +27,4 @@ pub use row_lists::RowLists;
 pub use row_worths::RowWorths;
 pub use rows::Rows;
 pub use spot::Spot;
-pub use worths::Worths;
+pub use worths::{MAX_WORTHS, Worths};

@@ -6,15 +6,15 @@ ghost use Rattle.pit_parts.specs.declared.ranges.TheConstants.{MAX_DESTINATIONS}
 use pit_parts::ranges::MAX_DESTINATIONS;
 use std::marker::Model;
 
-// The most worths of a block.
-const MOST: usize = MAX_DESTINATIONS as usize;
+/// The most worths of a block: one for each destination of a plan.
+pub const MAX_WORTHS: usize = MAX_DESTINATIONS as usize;
 
 /// 1 to 8 worths in cents, one for each destination, in the order of the plan. They take no memory beside the value
 /// itself. Contracts see the list of them.
 #[derive(Clone, Copy, Debug, PartialEq, Eq)]
 pub struct Worths {
     // zeros after the worths
-    cells: [i128; 8],
+    cells: [i128; MAX_WORTHS],
     count: usize,
 }
 
@@ -42,10 +42,10 @@ impl Worths {
         ensures value { IfSome result (λ held. held ≡ worths.now) }
     {
         let count = worths.len();
-        if count == 0 || count > MOST {
+        if count == 0 || count > MAX_WORTHS {
             return None;
         }
-        let mut cells = [0; 8];
+        let mut cells = [0; MAX_WORTHS];
         cells[..count].copy_from_slice(worths);
         Some(Worths { cells, count })
     }
@@ -56,7 +56,7 @@ impl Worths {
         requires few { length cents.now ≤ MAX_DESTINATIONS }
         ensures { result ≡ cents.now }
     {
-        let mut cells = [0i128; 8];
+        let mut cells = [0i128; MAX_WORTHS];
         for (place, worth) in cents.iter().enumerate() {
             cells[place] = i128::from(*worth);
         }

@@ -9,7 +9,7 @@ ghost use Rattle.valuers.specs.Valuing.{AreAnswered};
 
 use pit_parts::block::Block;
 use pit_parts::destination::{Destination, Valuer};
-use rows::Worths;
+use rows::{MAX_WORTHS, Worths};
 
 /// What a block is worth at each of 1 to 8 destinations, in their order.
 pub fn worths_of(block: Block, destinations: &[Destination]) -> Worths
@@ -19,7 +19,7 @@ pub fn worths_of(block: Block, destinations: &[Destination]) -> Worths
     ensures in_range { All IsWorth result }
     ensures worths { result ≡ worths_by (formulas_of destinations.now) block }
 {
-    let mut cells = [0i128; 8];
+    let mut cells = [0i128; MAX_WORTHS];
     for (place, destination) in destinations.iter().enumerate() {
         cells[place] = destination.value(block);
     }
