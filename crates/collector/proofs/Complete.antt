@@ -12,7 +12,7 @@ use Rattle.rows.specs.declared.item.Item.TheVariants.{Row, End}
 use Rattle.rows.specs.declared.item.Valued.{Valued}
 use Rattle.collector.specs.Complete.{Fits, IsComplete}
 use Rattle.collector.specs.Fault.{fault, is_after}
-use Rattle.collector.specs.Found.{is_row, is_end, row_at, end_at, has_past}
+use Rattle.collector.specs.Found.{is_row_at, is_end_of, row_at, end_at, has_past}
 use Rattle.collector.specs.Lists.{IsFull, IsMissing, IsOpen}
 use Rattle.collector.proofs.Slots.{eqb-other}
 
@@ -35,15 +35,15 @@ found-more p item items first o found =
     (λ no. ap is_some (cond-false _ _ _ no) ∙ found ∙ ap (ltb 0) (sym (counted-no p item items no)))
     (cases_Bool (p item))
 
-row-found : (file place : ℕ) (items : List Item) → is_some (row_at file place items) ≡ ltb 0 (count_by (is_row file place) items)
+row-found : (file place : ℕ) (items : List Item) → is_some (row_at file place items) ≡ ltb 0 (count_by (is_row_at file place) items)
 row-found file place [] = sym (le-ltb 0 0 (omega arith))
-row-found file place (End f n ∷ items) = row-found file place items ∙ ap (ltb 0) (sym (counted-no (is_row file place) (End f n) items refl))
-row-found file place (Row v ∷ items) = found-more (is_row file place) (Row v) items v (row_at file place items) (row-found file place items)
+row-found file place (End f n ∷ items) = row-found file place items ∙ ap (ltb 0) (sym (counted-no (is_row_at file place) (End f n) items refl))
+row-found file place (Row v ∷ items) = found-more (is_row_at file place) (Row v) items v (row_at file place items) (row-found file place items)
 
-end-found : (file : ℕ) (items : List Item) → is_some (end_at file items) ≡ ltb 0 (count_by (is_end file) items)
+end-found : (file : ℕ) (items : List Item) → is_some (end_at file items) ≡ ltb 0 (count_by (is_end_of file) items)
 end-found file [] = sym (le-ltb 0 0 (omega arith))
-end-found file (Row v ∷ items) = end-found file items ∙ ap (ltb 0) (sym (counted-no (is_end file) (Row v) items refl))
-end-found file (End f n ∷ items) = found-more (is_end file) (End f n) items n (end_at file items) (end-found file items)
+end-found file (Row v ∷ items) = end-found file items ∙ ap (ltb 0) (sym (counted-no (is_end_of file) (Row v) items refl))
+end-found file (End f n ∷ items) = found-more (is_end_of file) (End f n) items n (end_at file items) (end-found file items)
 
 -- an item of the rest is an item of the whole
 later : (items : List Item) (first item : Item) → Contains items item → Contains (first ∷ items) item
@@ -127,7 +127,7 @@ not_refused files held rest (Row v) whole =
     let fit = recursion_from_All (Fits files whole.counts) _ whole.others in
     let here = at-cut (Fits files whole.counts) held rest (Row v) fit in
     let most = whole.few v.file here.0 in
-    let single = single-cut (is_row v.file v.place) held rest (Row v)
+    let single = single-cut (is_row_at v.file v.place) held rest (Row v)
     (rw (eq-eqb v.file v.file refl, eq-eqb v.place v.place refl)) (whole.rows v.file v.place here.0 here.1) in
     let fresh = row-found v.file v.place held ∙ single in
     let below = after-fits files whole.counts v.file v.place held (front _ held (Row v ∷ rest) fit) here.1 (end_at v.file held) refl in
@@ -136,7 +136,7 @@ not_refused files held rest (End f n) whole =
     let fit = recursion_from_All (Fits files whole.counts) _ whole.others in
     let here = at-cut (Fits files whole.counts) held rest (End f n) fit in
     let most = whole.few f here.0 in
-    let single = single-cut (is_end f) held rest (End f n) (eq-eqb f f refl) (whole.ends f here.0) in
+    let single = single-cut (is_end_of f) held rest (End f n) (eq-eqb f f refl) (whole.ends f here.0) in
     let fresh = end-found f held ∙ single in
     let none : has_past f n held ≡ false
     = subst (λ (k : ℕ). has_past f k held ≡ false) (sym here.1) (past-fits files whole.counts f held (front _ held (End f n ∷ rest) fit)) in
@@ -174,8 +174,8 @@ pub any_order : (files : ℕ) (items order : List Item) → IsComplete files ite
 any_order files items order whole moved = record {
   counts = whole.counts;
   few = whole.few;
-  ends = λ file within. sum_by-IsPermutation (λ x. cond (is_end file x) 1 0) items order moved ∙ whole.ends file within;
-  rows = λ file place within below. sum_by-IsPermutation (λ x. cond (is_row file place x) 1 0) items order moved
+  ends = λ file within. sum_by-IsPermutation (λ x. cond (is_end_of file x) 1 0) items order moved ∙ whole.ends file within;
+  rows = λ file place within below. sum_by-IsPermutation (λ x. cond (is_row_at file place x) 1 0) items order moved
       ∙ whole.rows file place within below;
   others = All-permutation (Fits files whole.counts) items order moved whole.others;
 }

@@ -11,7 +11,7 @@ use Rattle.collector.specs.declared.missing.Missing.{Missing}
 use Rattle.pit_units.specs.declared.or_memory.OrMemory.{OrMemory}
 use Rattle.pit_units.specs.declared.or_memory.OrMemory.TheVariants.{Fault, OutOfMemory}
 use Rattle.collector.specs.declared.shelf.Shelf.{Shelf}
-use Rattle.collector.specs.inner.Shelves.{if_at, slot, rows_in, end_in, IsKept, IsShelved, IsFilled, IsFirstLacking}
+use Rattle.collector.specs.inner.Shelves.{if_at, slot, rows_on_shelf, end_on_shelf, IsKept, IsShelved, IsFilled, IsFirstLacking}
 use Rattle.collector.specs.CollectorView.{CollectorView}
 use Rattle.collector.specs.Lists.{AreLists, IsFull, IsOpen, IsMissing, IsFinishFault}
 use Rattle.collector.proofs.Slots.{slot-past}
@@ -32,15 +32,15 @@ get-filled-row rows end place filled =
 
 -- the rows of the shelves are lists
 list-of : (shelves : List Shelf) (file : ℕ) (rows : List Valued) →
-    slice_get (map (λ (s : Shelf). s.rows) shelves) file ≡ Some rows → (file < length shelves) × (rows_in shelves file ≡ rows)
+    slice_get (map (λ (s : Shelf). s.rows) shelves) file ≡ Some rows → (file < length shelves) × (rows_on_shelf shelves file ≡ rows)
 list-of [] file rows got = absurd (none-some rows got)
 list-of (s ∷ shelves) zero rows got = (omega arith, same_Some s.rows rows got)
 list-of (s ∷ shelves) (suc file) rows got = let h = list-of shelves file rows got in (omega (arith, h.0), h.1)
 
 pub are_lists : (held : List Item) (shelves : List Shelf) (lists : List (List Valued)) (view : CollectorView) →
     record { files = length shelves; items = held } ≡ view →
-    (length shelves ≤ 255) × IsKept (length shelves) held (rows_in shelves) (end_in shelves) →
-    ((file : ℕ) → file < length shelves → IsFilled (rows_in shelves file) (end_in shelves file)) →
+    (length shelves ≤ 255) × IsKept (length shelves) held (rows_on_shelf shelves) (end_on_shelf shelves) →
+    ((file : ℕ) → file < length shelves → IsFilled (rows_on_shelf shelves file) (end_on_shelf shelves file)) →
     lists ≡ map (λ (s : Shelf). s.rows) shelves → AreLists view.files view.items lists
 are_lists held shelves lists view is_view kept filled is_map =
     subst (λ (v : CollectorView). AreLists v.files v.items lists) is_view (rw is_map (record {
@@ -49,7 +49,7 @@ are_lists held shelves lists view is_view kept filled is_map =
           (kept.1.shelved file).ended ∙ (filled file at.0).0 ∙ ap (λ rs. Some (length rs)) at.1;
       rows = λ file place rows got. let at = list-of shelves file rows got in
           ap (λ rs. slice_get rs place) (sym at.1)
-          ∙ get-filled-row (rows_in shelves file) (end_in shelves file) place (filled file at.0)
+          ∙ get-filled-row (rows_on_shelf shelves file) (end_on_shelf shelves file) place (filled file at.0)
           ∙ sym ((kept.1.shelved file).row place);
     }))
 
@@ -61,7 +61,7 @@ full-kept held file rows end shelved filled =
 
 pub is_missing : (held : List Item) (shelves : List Shelf) (why : OrMemory Missing) (view : CollectorView) →
     record { files = length shelves; items = held } ≡ view →
-    (length shelves ≤ 255) × IsKept (length shelves) held (rows_in shelves) (end_in shelves) →
+    (length shelves ≤ 255) × IsKept (length shelves) held (rows_on_shelf shelves) (end_on_shelf shelves) →
     IsFirstLacking shelves why → IsFinishFault view.files view.items why
 is_missing held shelves OutOfMemory view is_view kept lacking = absurd lacking
 is_missing held shelves (Fault missing) view is_view kept lacking =
@@ -69,7 +69,7 @@ is_missing held shelves (Fault missing) view is_view kept lacking =
     subst (λ (v : CollectorView). IsMissing v.files v.items missing.file missing.place) is_view (record {
       within = lacking.0;
       before =
-          λ other below. full-kept held other (rows_in shelves other) (end_in shelves other) (kept.1.shelved other) (lacking.1 other below);
+          λ other below. full-kept held other (rows_on_shelf shelves other) (end_on_shelf shelves other) (kept.1.shelved other) (lacking.1 other below);
       open_at = subst (λ (o : Option ℕ). IsOpen o missing.place) (sym here.ended) lacking.2.2;
       none = here.row missing.place ∙ lacking.2.0;
       least = λ other below. ap is_some (here.row other) ∙ lacking.2.1 other below;

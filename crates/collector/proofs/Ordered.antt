@@ -7,7 +7,7 @@ use Rattle.std.proofs.lemmas.List.{length-map, take-append-le, take_all}
 use Rattle.std.proofs.lemmas.List.Elements.{Contains-append_left, Contains-append_right, filter_map-append, All-append, All-contains, All-nil, All-tail, recursion_from_All}
 use Rattle.std.proofs.lemmas.Option.{get_or_from_slice_get, none-some, same_Some, slice_get_past, slice_get_within}
 use Rattle.collector.specs.Complete.{Fits, IsComplete}
-use Rattle.collector.specs.Found.{is_row, row_at, end_at}
+use Rattle.collector.specs.Found.{is_row_at, row_at, end_at}
 use Rattle.collector.specs.Lists.{AreRows}
 use Rattle.collector.specs.inner.Places.{spots_in, IsPlaced, AreFew}
 use Rattle.collector.proofs.Complete.{counted-no, counted-yes, end-fits, is_full, row-held, some-value}
@@ -69,14 +69,14 @@ some-counted p (y ∷ items) x (suc k, h, e) passes =
     (λ no. let same = counted-no p y items no in omega arith)
     (cases_Bool (p y))
 
-only-row : (items : List Item) (file place : ℕ) (w : Valued) → count_by (is_row file place) items ≡ 1 → Contains items (Row w)
+only-row : (items : List Item) (file place : ℕ) (w : Valued) → count_by (is_row_at file place) items ≡ 1 → Contains items (Row w)
     → (eqb w.file file && eqb w.place place) ≡ true → row_at file place items ≡ Some w
 only-row [] file place w once h own = absurd (omega (arith, h.1))
 only-row (End f n ∷ items) file place w once (zero, h, e) own = absurd (cc e)
 only-row (End f n ∷ items) file place w once (suc k, h, e) own =
-    only-row items file place w (sym (counted-no (is_row file place) (End f n) items refl) ∙ once) (k, omega (arith, h), e) own
+    only-row items file place w (sym (counted-no (is_row_at file place) (End f n) items refl) ∙ once) (k, omega (arith, h), e) own
 only-row (Row v ∷ items) file place w once (zero, h, e) own =
-    let passes : is_row file place (Row v) ≡ true = ap (is_row file place) e ∙ own in
+    let passes : is_row_at file place (Row v) ≡ true = ap (is_row_at file place) e ∙ own in
     cond-true _ (Some v) (row_at file place items) passes ∙ row-same (Row v) (Row w) e
   where
     row-same : (a b : Item) → a ≡ b → row_in a ≡ row_in b
@@ -84,11 +84,11 @@ only-row (Row v ∷ items) file place w once (zero, h, e) own =
 only-row (Row v ∷ items) file place w once (suc k, h, e) own =
     let held : Contains items (Row w) = (k, omega (arith, h), e) in
     ⊎_elim (λ yes.
-    let more = counted-yes (is_row file place) (Row v) items yes in
-    let again = some-counted (is_row file place) items (Row w) held own in
+    let more = counted-yes (is_row_at file place) (Row v) items yes in
+    let again = some-counted (is_row_at file place) items (Row w) held own in
     absurd (omega arith))
     (λ no. cond-false _ (Some v) (row_at file place items) no
-    ∙ only-row items file place w (sym (counted-no (is_row file place) (Row v) items no) ∙ once) held own)
+    ∙ only-row items file place w (sym (counted-no (is_row_at file place) (Row v) items no) ∙ once) held own)
     (cases_Bool (eqb v.file file && eqb v.place place))
 
 -- the list of a file

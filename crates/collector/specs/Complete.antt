@@ -3,7 +3,7 @@ use Rattle.std.specs.Prelude.{◌≡◌, ℕ, ◌<◌, ◌≤◌, List, All}
 use Rattle.std.specs.List.{count_by}
 use Rattle.rows.specs.declared.item.Item.{Item}
 use Rattle.rows.specs.declared.item.Item.TheVariants.{Row, End}
-use Rattle.collector.specs.Found.{is_row, is_end}
+use Rattle.collector.specs.Found.{is_row_at, is_end_of}
 use Rattle.pit_parts.specs.declared.ranges.TheConstants.{MAX_ROWS}
 
 -- the item is of one of these files: a row below its count, or an end mark with its count
@@ -16,6 +16,6 @@ Fits files counts (End file count) = (file < files) × (count ≡ counts file)
 pub record IsComplete (files : ℕ) (items : List Item) : Type 0 where
   pub counts : ℕ → ℕ
   pub few : (file : ℕ) → file < files → counts file ≤ MAX_ROWS
-  pub ends : (file : ℕ) → file < files → count_by (is_end file) items ≡ 1
-  pub rows : (file place : ℕ) → file < files → place < counts file → count_by (is_row file place) items ≡ 1
+  pub ends : (file : ℕ) → file < files → count_by (is_end_of file) items ≡ 1
+  pub rows : (file place : ℕ) → file < files → place < counts file → count_by (is_row_at file place) items ≡ 1
   pub others : All (Fits files counts) items

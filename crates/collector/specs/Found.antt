@@ -5,14 +5,14 @@ use Rattle.rows.specs.declared.item.Item.TheVariants.{Row, End}
 use Rattle.rows.specs.declared.item.Valued.{Valued}
 
 -- the item is the row of this file and place
-abbrev pub is_row : ℕ → ℕ → Item → Bool
-is_row file place (Row v) = (v.file == file) && (v.place == place)
-is_row file place (End f n) = false
+abbrev pub is_row_at : ℕ → ℕ → Item → Bool
+is_row_at file place (Row v) = (v.file == file) && (v.place == place)
+is_row_at file place (End f n) = false
 
 -- the item is the end mark of this file
-abbrev pub is_end : ℕ → Item → Bool
-is_end file (Row v) = false
-is_end file (End f n) = f == file
+abbrev pub is_end_of : ℕ → Item → Bool
+is_end_of file (Row v) = false
+is_end_of file (End f n) = f == file
 
 -- the first row of this file and place
 abbrev pub row_at : ℕ → ℕ → List Item → Option Valued

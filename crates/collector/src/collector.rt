@@ -1,7 +1,7 @@
 //! What is held of all files.
 
 ghost use Rattle.std.specs.Prelude.{◌≡◌, ℕ, ◌<◌, ◌≤◌, ◌++◌, [], ◌∷◌, length, map, if◌then◌else◌, ◌==◌, Some, Err, IfOk, IfErr, IfSome, IfNone, OnOk, OnErr};
-ghost use Rattle.collector.specs.inner.Shelves.{rows_in, end_in, with_row, fault_in, file_of, ArePut, AreSame, IsFilled, IsFirstLacking};
+ghost use Rattle.collector.specs.inner.Shelves.{rows_on_shelf, end_on_shelf, with_row, item_fault, file_of, ArePut, AreSame, IsFilled, IsFirstLacking};
 ghost use Rattle.collector.specs.Fault.{fault};
 ghost use Rattle.collector.specs.Lists.{AreLists, IsFinishFault};
 ghost use Rattle.pit_parts.specs.declared.ranges.TheConstants.{MAX_ROWS};
@@ -30,15 +30,15 @@ impl Model for Collector {
     ghost use Rattle.std.specs.Prelude.{ℕ, ◌≤◌, length};
     ghost use Rattle.collector.specs.CollectorView.{CollectorView};
     ghost use Rattle.collector.specs.inner.History.{items_in};
-    ghost use Rattle.collector.specs.inner.Shelves.{IsKept, rows_in, end_in};
+    ghost use Rattle.collector.specs.inner.Shelves.{IsKept, rows_on_shelf, end_on_shelf};
 
     ghost Value = { CollectorView };
 
     ghost view = { λ c. record { files = length c.shelves.items; items = items_in c.history } };
 
     ghost invariant = { λ c. (length c.shelves.items ≤ 255)
-        × IsKept (length c.shelves.items) (items_in c.history) (rows_in c.shelves.items)
-        (end_in c.shelves.items) };
+        × IsKept (length c.shelves.items) (items_in c.history) (rows_on_shelf c.shelves.items)
+        (end_on_shelf c.shelves.items) };
 }
 
 impl Collector {
@@ -104,7 +104,7 @@ impl Collector {
 
 // What is wrong with an item where these shelves are held.
 fn fault_on(shelves: &[Shelf], item: &Item) -> Option<AddFault>
-    ensures { result ≡ fault_in (length shelves.now) (rows_in shelves.now) (end_in shelves.now)
+    ensures { result ≡ item_fault (length shelves.now) (rows_on_shelf shelves.now) (end_on_shelf shelves.now)
         item.now }
 {
     match item {
@@ -122,10 +122,10 @@ fn fault_on(shelves: &[Shelf], item: &Item) -> Option<AddFault>
 // Puts an item on the shelf of its file. The shelves stay as they were where memory is refused.
 fn put_item(shelves: &mut [Shelf], item: &Item) -> Result<(), AllocError>
     requires { file_of item.now < length shelves.old }
-    ensures ok { OnOk result (ArePut item.now (rows_in shelves.old) (end_in shelves.old)
-        (rows_in shelves.new) (end_in shelves.new)) }
-    ensures err { OnErr result (AreSame (rows_in shelves.old) (end_in shelves.old)
-        (rows_in shelves.new) (end_in shelves.new)) }
+    ensures ok { OnOk result (ArePut item.now (rows_on_shelf shelves.old) (end_on_shelf shelves.old)
+        (rows_on_shelf shelves.new) (end_on_shelf shelves.new)) }
+    ensures err { OnErr result (AreSame (rows_on_shelf shelves.old) (end_on_shelf shelves.old)
+        (rows_on_shelf shelves.new) (end_on_shelf shelves.new)) }
     ensures count { length shelves.new ≡ length shelves.old }
 {
     match item {
@@ -140,11 +140,11 @@ fn put_item(shelves: &mut [Shelf], item: &Item) -> Result<(), AllocError>
 // Puts a row on the shelf of its file. The shelves stay as they were where memory is refused.
 fn put_row(shelves: &mut [Shelf], row: &Valued) -> Result<(), AllocError>
     requires { row.now.file < length shelves.old }
-    ensures rows { OnOk result ((file : ℕ) → rows_in shelves.new file
-        ≡ (if row.now.file == file then with_row (rows_in shelves.old file) row.now else rows_in
+    ensures rows { OnOk result ((file : ℕ) → rows_on_shelf shelves.new file
+        ≡ (if row.now.file == file then with_row (rows_on_shelf shelves.old file) row.now else rows_on_shelf
         shelves.old file)) }
-    ensures err { OnErr result ((file : ℕ) → rows_in shelves.new file ≡ rows_in shelves.old file) }
-    ensures ends { (file : ℕ) → end_in shelves.new file ≡ end_in shelves.old file }
+    ensures err { OnErr result ((file : ℕ) → rows_on_shelf shelves.new file ≡ rows_on_shelf shelves.old file) }
+    ensures ends { (file : ℕ) → end_on_shelf shelves.new file ≡ end_on_shelf shelves.old file }
     ensures count { length shelves.new ≡ length shelves.old }
 {
     shelves[row.file as usize].put_row(row)
@@ -153,9 +153,9 @@ fn put_row(shelves: &mut [Shelf], row: &Valued) -> Result<(), AllocError>
 // Puts an end mark on the shelf of its file.
 fn put_end(shelves: &mut [Shelf], file: u8, count: u32)
     requires { file < length shelves.old }
-    ensures rows { (other : ℕ) → rows_in shelves.new other ≡ rows_in shelves.old other }
-    ensures ends { (other : ℕ) → end_in shelves.new other
-        ≡ (if file == other then Some count else end_in shelves.old other) }
+    ensures rows { (other : ℕ) → rows_on_shelf shelves.new other ≡ rows_on_shelf shelves.old other }
+    ensures ends { (other : ℕ) → end_on_shelf shelves.new other
+        ≡ (if file == other then Some count else end_on_shelf shelves.old other) }
     ensures count { length shelves.new ≡ length shelves.old }
 {
     shelves[file as usize].end = Some(count);
@@ -164,12 +164,12 @@ fn put_end(shelves: &mut [Shelf], file: u8, count: u32)
 // Refuses the first shelf that is not filled.
 fn require_filled(shelves: &[Shelf]) -> Result<(), OrMemory<Missing>>
     requires count { length shelves.now ≤ 255 }
-    requires few { (file : ℕ) → length (rows_in shelves.now file) ≤ MAX_ROWS }
-    requires closed { (file count : ℕ) → end_in shelves.now file ≡ Some count
-        → length (rows_in shelves.now file) ≤ count }
+    requires few { (file : ℕ) → length (rows_on_shelf shelves.now file) ≤ MAX_ROWS }
+    requires closed { (file count : ℕ) → end_on_shelf shelves.now file ≡ Some count
+        → length (rows_on_shelf shelves.now file) ≤ count }
     ensures filled { OnOk result
         ((file : ℕ) → file < length shelves.now
-        → IsFilled (rows_in shelves.now file) (end_in shelves.now file)) }
+        → IsFilled (rows_on_shelf shelves.now file) (end_on_shelf shelves.now file)) }
     ensures lacking { IfErr result (IsFirstLacking shelves.now) }
 {
     for (file, shelf) in shelves.iter().enumerate() {

@@ -7,7 +7,7 @@ use Rattle.lane.specs.declared.message.Taken.TheVariants.{Row, End}
 use Rattle.lane.specs.declared.part.Part.{Part}
 use Rattle.lane.specs.declared.part.Part.TheVariants.{Put}
 use Rattle.lane.specs.Message.{IsEndedFrom}
-use Rattle.lane.specs.MessageKinds.{is_row, is_end, rows_in, has_end}
+use Rattle.lane.specs.MessageKinds.{is_row, is_end, row_count, has_end}
 use Rattle.lane.specs.MessageOrders.{IsFrom}
 use Rattle.lane.specs.Steps.{with_message}
 use Rattle.lane.specs.inner.Views.{sent_in}
@@ -35,7 +35,7 @@ row_put v w f c count b h e few =
       part = p.1;
       list = subst (IsFrom f 0) (sym p.0) list;
       unended = ap has_end p.0 ∙ open';
-      rows = ap rows_in p.0 ∙ (let z : rows_in (sent_in v ++ m ∷ []) ≡ count + 1 =
+      rows = ap row_count p.0 ∙ (let z : row_count (sent_in v ++ m ∷ []) ≡ count + 1 =
           omega (arith, count_more is_row (sent_in v) m, h.rows) in z);
       places = ap (λ (l : List Taken). length l) p.0
           ∙ (let z : length (sent_in v ++ m ∷ []) ≡ count + 1 = omega (arith, length-append (sent_in v) (m ∷ []), h.places) in z);
@@ -52,6 +52,6 @@ end_put v w f c count h e =
     record {
       part = p.1;
       list = subst (IsEndedFrom f 0) (sym p.0) (ended_from f 0 (sent_in v ++ m ∷ []) list ended);
-      rows = ap rows_in p.0 ∙ (let z : rows_in (sent_in v ++ m ∷ []) ≡ count = omega (arith, count_more is_row (sent_in v) m, h.rows) in z);
+      rows = ap row_count p.0 ∙ (let z : row_count (sent_in v ++ m ∷ []) ≡ count = omega (arith, count_more is_row (sent_in v) m, h.rows) in z);
       few = h.few;
     }

@@ -8,7 +8,7 @@ use Rattle.lane.specs.declared.message.Taken.{Taken}
 use Rattle.lane.specs.declared.message.Taken.TheVariants.{Stop}
 use Rattle.lane.specs.declared.part.Part.{Part}
 use Rattle.lane.specs.declared.part.Part.TheVariants.{Put, Take, Close}
-use Rattle.lane.specs.MessageKinds.{has_end, is_done, rows_in}
+use Rattle.lane.specs.MessageKinds.{has_end, is_done, row_count}
 use Rattle.lane.specs.Whole.{IsWhole}
 use Rattle.lane.specs.Rule.{Putter, Closer, IsLane, put_parts, take_parts}
 use Rattle.lane.specs.Steps.{MaySend, full_view}
@@ -30,7 +30,7 @@ tooks_alone c sent = ap tooks_in (puts_alone c sent) ∙ tooks_all c 0 0 sent []
 
 module _ (files takers c : ℕ) (lane : Lane) (all : List PutEndView) where
   pub join_more : (v u : List Part) (p : PutEndView) (rest : List PutEndView) (n k : ℕ) → IsJoining files takers c lane all (p ∷ rest) v n
-      → u ≡ v ++ Put p.file c p.sent ∷ [] → has_end p.sent ≡ true → k ≡ rows_in p.sent → k ≤ 1000000
+      → u ≡ v ++ Put p.file c p.sent ∷ [] → has_end p.sent ≡ true → k ≡ row_count p.sent → k ≤ 1000000
       → IsJoining files takers c lane all rest u (n + k)
   join_more v u p rest n k h e ended count few =
       let lists : List (List Taken) = sents_in v in
@@ -46,7 +46,7 @@ module _ (files takers c : ℕ) (lane : Lane) (all : List PutEndView) where
         lists = ap (λ l. l ++ map (λ q. q.sent) rest) new ∙ (append_assoc lists (p.sent ∷ []) (map (λ q. q.sent) rest) ∙ h.lists);
         puts = subst (λ i. ArePutsFrom lane files i rest) (sym longer) h.puts.2;
         ended = subst (AllByRecursion (λ l. has_end l ≡ true)) (sym new) (all_more (λ l. has_end l ≡ true) lists p.sent h.ended ended);
-        rows = ap (sum_by rows_in) new ∙ (sum_by_push rows_in lists p.sent ∙ (λ i. h.rows i + sym count i));
+        rows = ap (sum_by row_count) new ∙ (sum_by_push row_count lists p.sent ∙ (λ i. h.rows i + sym count i));
         few = let old = h.few in omega arith;
       }
 

@@ -8,7 +8,7 @@ use Rattle.std.proofs.lemmas.List.{drop-append-le, map-append}
 use Rattle.lane.specs.declared.message.Taken.{Taken}
 use Rattle.lane.specs.declared.message.Taken.TheVariants.{Row, End, Stop, Quit}
 use Rattle.lane.specs.Message.{is_of, of, position, is_at, Rises}
-use Rattle.lane.specs.MessageKinds.{is_stop, is_quit, is_mark, rows_in, has_end, is_done}
+use Rattle.lane.specs.MessageKinds.{is_stop, is_quit, is_mark, row_count, has_end, is_done}
 use Rattle.lane.specs.MessageOrders.{IsFrom, MarksLast, AreStops, StopsLast}
 use Rattle.lane.specs.Machine.{Size, State, opening, Event, PutRow, PutEnd, PutStop, PutQuit, TakeNext, HasRoom, Allowed, with_at, put, take_front, take_next, after, after_all, AreAllowed, IsReached}
 use Rattle.lane.specs.Lawful.{over, IsPlaced, IsLawful}
@@ -269,8 +269,8 @@ take_queue n s h w (m ∷ ms) e below undone = take_any n s h w m ms e below und
 pub keeps : (n : Size) (s : State) (e : Event) → IsLawful n s → Allowed n s e → IsLawful n (after s e)
 keeps n s (PutRow f b) h a = puts n s h f (Row f (length (s.sent f)) b) a.1 a.0 a.2 (eq-eqb f f refl)
     (from_more f 0 (s.sent f) (Row f (length (s.sent f)) b) (length (s.sent f)) (omega arith) (h.lists f) a.2 (refl, refl, tt))
-keeps n s (PutEnd f) h a = puts n s h f (End f (rows_in (s.sent f))) a.1 a.0 a.2 (eq-eqb f f refl)
-    (from_more f 0 (s.sent f) (End f (rows_in (s.sent f))) (rows_in (s.sent f))
+keeps n s (PutEnd f) h a = puts n s h f (End f (row_count (s.sent f))) a.1 a.0 a.2 (eq-eqb f f refl)
+    (from_more f 0 (s.sent f) (End f (row_count (s.sent f))) (row_count (s.sent f))
     (omega (arith, rows_all f 0 (s.sent f) (h.lists f) a.2)) (h.lists f) a.2 (refl, refl, refl))
 keeps n s PutStop h a = put_stop n s h a
 keeps n s PutQuit h a = put_quit n s h a

@@ -10,7 +10,7 @@ use Rattle.std.proofs.Math.Bool.{or-false}
 use Rattle.lane.specs.declared.message.Taken.{Taken}
 use Rattle.lane.specs.declared.message.Taken.TheVariants.{Row, End, Stop}
 use Rattle.lane.specs.Message.{is_of, of, position, IsEndedFrom}
-use Rattle.lane.specs.MessageKinds.{is_row, is_end, is_stop, is_quit, is_mark, rows_in, has_end, is_done, ends_in_mark}
+use Rattle.lane.specs.MessageKinds.{is_row, is_end, is_stop, is_quit, is_mark, row_count, has_end, is_done, ends_in_mark}
 use Rattle.lane.specs.MessageOrders.{IsFrom, MarksLast, StopsLast}
 use Rattle.lane.specs.Lawful.{IsPlaced}
 use Rattle.lane.proofs.Lists.{all_more, count_front}
@@ -60,7 +60,7 @@ from_more f k (End g j ∷ ms) m n s h e last = absurd (true≢false e)
 from_more f k (_ ∷ ms) m n s h e last = absurd h
 
 -- a list with no end mark is all rows
-pub rows_all : (f k : ℕ) (ms : List Taken) → IsFrom f k ms → has_end ms ≡ false → rows_in ms ≡ length ms
+pub rows_all : (f k : ℕ) (ms : List Taken) → IsFrom f k ms → has_end ms ≡ false → row_count ms ≡ length ms
 rows_all f k [] h e = refl
 rows_all f k (Row g p c ∷ ms) h e = omega (arith, count_front is_row (Row g p c) ms, rows_all f (k + 1) ms h.2 e)
 rows_all f k (End g n ∷ ms) h e = absurd (true≢false e)

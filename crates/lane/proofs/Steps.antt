@@ -9,7 +9,7 @@ use Rattle.lane.specs.declared.message.Taken.TheVariants.{Row, End, Stop, Quit}
 use Rattle.lane.specs.declared.part.Part.{Part}
 use Rattle.lane.specs.declared.part.Part.TheVariants.{Put, Take, Close}
 use Rattle.lane.specs.Message.{is_of, of}
-use Rattle.lane.specs.MessageKinds.{has_end, is_done, rows_in}
+use Rattle.lane.specs.MessageKinds.{has_end, is_done, row_count}
 use Rattle.lane.specs.Machine.{Size, State, opening, Event, PutRow, PutEnd, PutStop, PutQuit, TakeNext, Allowed, with_at, put, take_front, take_next, after, after_all}
 use Rattle.lane.specs.Rule.{Role, Putter, Taker, Closer, IsRole, part_of, IsSeated, AreSeated, IsLaneAt}
 use Rattle.lane.specs.Steps.{with_message, IsFree, HasEnded, PutSends, CloseSends}
@@ -111,13 +111,13 @@ put_event n s items views pass f c ms v (Row g k b) h at free room q =
       omega (arith, p.0, q.0),
       omega (arith, ap (λ (l : List Taken). length l) h.queue, p.1),
       ap has_end (sym list) ∙ q.2,
-      subst (λ l. rows_in l < 1000000) list q.3,
+      subst (λ l. row_count l < 1000000) list q.3,
     ) in
     (allowed, put_moves n s (PutRow g b) items views pass f c ms v (Row g k b) h at free p allowed (λ i. put (q.0 i) (Row g (place i) b) s))
 put_event n s items views pass f c ms v (End g k) h at free room q =
     let p = put_is n s h.seat pass f c ms (h.seated.only pass (Put f c ms ∷ v) at).0 in
     let list : ms ≡ s.sent g = p.2 ∙ ap s.sent (sym q.0) in
-    let rows : rows_in (s.sent g) ≡ k = ap rows_in (sym list) ∙ sym q.1 in
+    let rows : row_count (s.sent g) ≡ k = ap row_count (sym list) ∙ sym q.1 in
     let allowed : Allowed n s (PutEnd g) =
     (omega (arith, p.0, q.0), omega (arith, ap (λ (l : List Taken). length l) h.queue, p.1), ap has_end (sym list) ∙ q.2) in
     (allowed, put_moves n s (PutEnd g) items views pass f c ms v (End g k) h at free p allowed (λ i. put (q.0 i) (End g (rows i)) s))
@@ -226,7 +226,7 @@ next_taken s pre f w (m ∷ rest) h e =
 event_leaves : (s : State) (e : Event) (pre : List Taken) (f : ℕ) → of f pre ++ of f s.queue ≡ s.sent f
     → of f (pre ++ leaves s e) ++ of f (after s e).queue ≡ (after s e).sent f
 event_leaves s (PutRow g b) pre f h = file_put s pre f g (Row g (length (s.sent g)) b) (eq-eqb g g refl) h
-event_leaves s (PutEnd g) pre f h = file_put s pre f g (End g (rows_in (s.sent g))) (eq-eqb g g refl) h
+event_leaves s (PutEnd g) pre f h = file_put s pre f g (End g (row_count (s.sent g))) (eq-eqb g g refl) h
 event_leaves s PutStop pre f h = mark_put s pre f Stop refl h
 event_leaves s PutQuit pre f h = mark_put s pre f Quit refl h
 event_leaves s (TakeNext w) pre f h = next_taken s pre f w s.queue h refl

@@ -4,7 +4,7 @@ use Rattle.std.specs.Prelude.{◌≡◌, ◌≢◌, ℕ, ◌+◌, ◌<◌, cond,
 use Rattle.pit_parts.specs.declared.block.Block.{Block}
 use Rattle.lane.specs.declared.message.Taken.{Taken}
 use Rattle.lane.specs.declared.message.Taken.TheVariants.{Row, End, Stop, Quit}
-use Rattle.lane.specs.MessageKinds.{has_end, is_done, rows_in}
+use Rattle.lane.specs.MessageKinds.{has_end, is_done, row_count}
 use Rattle.pit_parts.specs.declared.ranges.TheConstants.{MAX_ROWS}
 
 -- the number of files and of takers, and how many messages the queue has room for
@@ -37,7 +37,7 @@ HasRoom n s = length s.queue < n.capacity
 
 -- where an event is allowed
 abbrev pub Allowed : Size → State → Event → Type 0
-Allowed n s (PutRow file block) = (file < n.files) × HasRoom n s × (has_end (s.sent file) ≡ false) × (rows_in (s.sent file) < MAX_ROWS)
+Allowed n s (PutRow file block) = (file < n.files) × HasRoom n s × (has_end (s.sent file) ≡ false) × (row_count (s.sent file) < MAX_ROWS)
 Allowed n s (PutEnd file) = (file < n.files) × HasRoom n s × (has_end (s.sent file) ≡ false)
 Allowed n s PutStop = HasRoom n s × ((file : ℕ) → file < n.files → has_end (s.sent file) ≡ true) × (s.quits ≡ 0) × (s.stops < n.takers)
 Allowed n s PutQuit = HasRoom n s × (s.stops ≡ 0) × (s.quits < n.takers)
@@ -62,7 +62,7 @@ take_next taker (m ∷ rest) s = take_front taker m rest s
 -- what an event does
 abbrev pub after : State → Event → State
 after s (PutRow file block) = put file (Row file (length (s.sent file)) block) s
-after s (PutEnd file) = put file (End file (rows_in (s.sent file))) s
+after s (PutEnd file) = put file (End file (row_count (s.sent file))) s
 after s PutStop = record { queue = s.queue ++ Stop ∷ []; sent = s.sent; stops = s.stops + 1; quits = s.quits; took = s.took }
 after s PutQuit = record { queue = s.queue ++ Quit ∷ []; sent = s.sent; stops = s.stops; quits = s.quits + 1; took = s.took }
 after s (TakeNext taker) = take_next taker s.queue s

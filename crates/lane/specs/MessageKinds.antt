@@ -33,8 +33,8 @@ abbrev pub is_mark : Taken → Bool
 is_mark m = is_stop m || is_quit m
 
 -- the number of rows in a list
-abbrev pub rows_in : List Taken → ℕ
-rows_in ms = count_by is_row ms
+abbrev pub row_count : List Taken → ℕ
+row_count ms = count_by is_row ms
 
 -- whether the list has an end mark
 abbrev pub has_end : List Taken → Bool

@@ -5,7 +5,7 @@ use Rattle.lane.specs.declared.message.Taken.{Taken}
 use Rattle.lane.specs.declared.message.Taken.TheVariants.{Row, End, Stop, Quit}
 use Rattle.lane.specs.declared.part.Part.{Part}
 use Rattle.lane.specs.declared.part.Part.TheVariants.{Count, Put, Take, Close}
-use Rattle.lane.specs.MessageKinds.{has_end, is_done, is_stop, is_quit, rows_in}
+use Rattle.lane.specs.MessageKinds.{has_end, is_done, is_stop, is_quit, row_count}
 use Rattle.lane.specs.Rule.{Role, Closer, role_of, Has, put_parts, take_parts}
 use Rattle.pit_parts.specs.declared.ranges.TheConstants.{MAX_ROWS}
 
@@ -31,8 +31,8 @@ HasEnded files v = (file : ℕ) → file < files → (capacity : ℕ) × (sent :
 
 -- what a put end sends: the next row, or the end mark
 abbrev pub PutSends : ℕ → List Taken → Taken → Type 0
-PutSends file sent (Row f place block) = (f ≡ file) × (place ≡ length sent) × (has_end sent ≡ false) × (rows_in sent < MAX_ROWS)
-PutSends file sent (End f rows) = (f ≡ file) × (rows ≡ rows_in sent) × (has_end sent ≡ false)
+PutSends file sent (Row f place block) = (f ≡ file) × (place ≡ length sent) × (has_end sent ≡ false) × (row_count sent < MAX_ROWS)
+PutSends file sent (End f rows) = (f ≡ file) × (rows ≡ row_count sent) × (has_end sent ≡ false)
 PutSends file sent Stop = ⊥
 PutSends file sent Quit = ⊥
 

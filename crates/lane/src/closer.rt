@@ -3,7 +3,7 @@
 ghost use Rattle.std.specs.Prelude.{◌≡◌, ◌<◌, ◌≤◌, true, [], ◌∷◌, length, map, ℕ};
 ghost use Rattle.std.specs.List.{All, sum_by};
 ghost use Rattle.crossbeam_channel.specs.Ends.{receives_on};
-ghost use Rattle.lane.specs.MessageKinds.{is_done, rows_in};
+ghost use Rattle.lane.specs.MessageKinds.{is_done, row_count};
 ghost use Rattle.lane.specs.Rule.{put_parts};
 ghost use Rattle.lane.specs.inner.Views.{sents_in, tooks_in};
 ghost use Rattle.lane.specs.Ends.{ArePutsFrom, AreTakesFrom, CloserView, StoppedView};
@@ -116,7 +116,7 @@ fn join_puts(seat: &mut SeatedSender, files: u8, takers: u8, puts: Vec<EndedPut>
     ensures lane { seat.new.lane ≡ seat.old.lane }
     ensures joined { IsJoined seat.new.known files takers (room_of seat.old) }
     ensures lists { sents_in seat.new.known ≡ map (λ put. put.sent) puts.items }
-    ensures rows { result ≡ sum_by rows_in (sents_in seat.new.known) }
+    ensures rows { result ≡ sum_by row_count (sents_in seat.new.known) }
 {
     let mut rows = 0;
     for put in puts {
@@ -167,7 +167,7 @@ impl Model for Stopped {
 
     ghost invariant = { λ e. IsChannelOf e.seat.lane (receives_on e.receiver)
         × IsStopping e.seat.known e.takers (room_of e.seat)
-        × (e.rows ≡ sum_by rows_in (sents_in e.seat.known)) };
+        × (e.rows ≡ sum_by row_count (sents_in e.seat.known)) };
 }
 
 impl Stopped {

@@ -3,7 +3,7 @@
 ghost use Rattle.std.specs.Prelude.{◌≡◌};
 ghost use Rattle.std.specs.List.{sum_by};
 ghost use Rattle.crossbeam_channel.specs.Claims.{view as known};
-ghost use Rattle.lane.specs.MessageKinds.{rows_in};
+ghost use Rattle.lane.specs.MessageKinds.{row_count};
 ghost use Rattle.lane.specs.inner.Views.{gathering_in, sents_in};
 ghost use Rattle.lane.specs.Whole.{IsWhole, GatheredView};
 ghost use Rattle.lane.specs.inner.Kept.{gathered_view, IsGathered};
@@ -29,7 +29,7 @@ impl Model for Gathered {
 impl Gathered {
     pub(crate) fn new(pass: Seat, rows: u64) -> Gathered
         requires whole { IsWhole (gathering_in (known pass)) }
-        requires rows { rows ≡ sum_by rows_in (sents_in (known pass)) }
+        requires rows { rows ≡ sum_by row_count (sents_in (known pass)) }
         ensures value { result ≡ gathering_in (known pass) }
     {
         Gathered { pass, rows }
@@ -37,7 +37,7 @@ impl Gathered {
 
     /// The number of rows over all files.
     pub fn rows(&self) -> u64
-        ensures rows { result ≡ sum_by rows_in self.now.sent }
+        ensures rows { result ≡ sum_by row_count self.now.sent }
         ensures whole { IsWhole self.now }
     {
         self.rows

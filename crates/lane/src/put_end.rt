@@ -3,7 +3,7 @@
 ghost use Rattle.std.specs.Prelude.{◌≡◌, ◌<◌, ◌≤◌, ◌++◌, true, [], ◌∷◌, length};
 ghost use Rattle.lane.specs.inner.Kept.{room_of, IsClosers, put_end_view, IsOpenPut, IsEndedPut};
 ghost use Rattle.lane.specs.Message.{IsEndedFrom};
-ghost use Rattle.lane.specs.MessageKinds.{has_end, rows_in};
+ghost use Rattle.lane.specs.MessageKinds.{has_end, row_count};
 ghost use Rattle.pit_parts.specs.declared.ranges.TheConstants.{MAX_ROWS};
 ghost use Rattle.lane.specs.Ends.{PutEndView};
 
@@ -60,7 +60,7 @@ impl PutEnd {
 
     /// The number of rows sent.
     pub fn rows(&self) -> u32
-        ensures rows { result ≡ rows_in self.now.sent }
+        ensures rows { result ≡ row_count self.now.sent }
         ensures places { result ≡ length self.now.sent }
     {
         self.rows
@@ -69,7 +69,7 @@ impl PutEnd {
     /// Sends the end mark with the number of rows. Nothing can be sent for the file after it.
     pub fn end<R: Wait>(self, rt: &R) -> EndedPut
         ensures sent { result ≡ record self
-            { sent = self.sent ++ Taken.End self.file (rows_in self.sent) ∷ [] } }
+            { sent = self.sent ++ Taken.End self.file (row_count self.sent) ∷ [] } }
         ensures places { result ≡ record self
             { sent = self.sent ++ Taken.End self.file (length self.sent) ∷ [] } }
         ensures ended { IsEndedFrom result.file 0 result.sent }
@@ -110,7 +110,7 @@ impl EndedPut {
               ++ Part.Put self.file (room_of closer.old) self.sent ∷ [];
         } }
         ensures ended { has_end self.sent ≡ true }
-        ensures rows { result ≡ rows_in self.sent }
+        ensures rows { result ≡ row_count self.sent }
         ensures few { result ≤ MAX_ROWS }
     {
         closer.join_sender(self.seat);

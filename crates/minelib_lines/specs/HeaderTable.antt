@@ -35,8 +35,8 @@ pub record KeyRow : Type 0 where
   pub value : List ℕ → ℕ → StatedHeader → Value
 
 -- of each; there are no general side constraints
-abbrev pub row_of : HeaderKey → KeyRow
-row_of key.Name = record {
+abbrev pub key_row : HeaderKey → KeyRow
+key_row key.Name = record {
   place = 0;
   word = codes "NAME";
   of_upit = true;
@@ -44,7 +44,7 @@ row_of key.Name = record {
   field = λ problem. Word is_name;
   value = λ problem n h. Bytes h.name;
 }
-row_of key.Type = record {
+key_row key.Type = record {
   place = 1;
   word = codes "TYPE";
   of_upit = true;
@@ -52,7 +52,7 @@ row_of key.Type = record {
   field = λ problem. Word (λ text. bytes_eq text (type_text problem));
   value = λ problem n h. Bytes problem;
 }
-row_of key.Blocks = record {
+key_row key.Blocks = record {
   place = 2;
   word = codes "NBLOCKS";
   of_upit = true;
@@ -60,7 +60,7 @@ row_of key.Blocks = record {
   field = λ problem. below (MAX_BLOCKS + 1);
   value = λ problem n h. whole n;
 }
-row_of key.Periods = record {
+key_row key.Periods = record {
   place = 3;
   word = codes "NPERIODS";
   of_upit = false;
@@ -68,7 +68,7 @@ row_of key.Periods = record {
   field = λ problem. between 1 MAX_PERIODS;
   value = λ problem n h. whole h.periods;
 }
-row_of key.Destinations = record {
+key_row key.Destinations = record {
   place = 4;
   word = codes "NDESTINATIONS";
   of_upit = false;
@@ -76,7 +76,7 @@ row_of key.Destinations = record {
   field = λ problem. between 1 MAX_DESTINATIONS;
   value = λ problem n h. whole h.destinations;
 }
-row_of key.Resources = record {
+key_row key.Resources = record {
   place = 5;
   word = codes "NRESOURCE_SIDE_CONSTRAINTS";
   of_upit = false;
@@ -84,7 +84,7 @@ row_of key.Resources = record {
   field = λ problem. below (MAX_RESOURCES + 1);
   value = λ problem n h. whole h.resources;
 }
-row_of key.General = record {
+key_row key.General = record {
   place = 6;
   word = codes "NGENERAL_SIDE_CONSTRAINTS";
   of_upit = false;
@@ -92,7 +92,7 @@ row_of key.General = record {
   field = λ problem. below 1;
   value = λ problem n h. whole 0;
 }
-row_of key.Rate = record {
+key_row key.Rate = record {
   place = 7;
   word = codes "DISCOUNT_RATE";
   of_upit = false;
@@ -103,28 +103,28 @@ row_of key.Rate = record {
 
 -- the place of a key among all
 abbrev pub place : HeaderKey → ℕ
-place k = (row_of k).place
+place k = (key_row k).place
 
 -- the word of a key
 abbrev pub key_word : HeaderKey → List ℕ
-key_word k = (row_of k).word
+key_word k = (key_row k).word
 
 -- the field of each key's value
 abbrev pub field_of : Problem → HeaderKey → Field
-field_of problem k = (row_of k).field problem
+field_of problem k = (key_row k).field problem
 
 -- the value of a key
 abbrev pub key_value : List ℕ → ℕ → StatedHeader → HeaderKey → Value
-key_value problem n h k = (row_of k).value problem n h
+key_value problem n h k = (key_row k).value problem n h
 
 -- the files of the problem have this key
 abbrev pub has_key : Problem → HeaderKey → Bool
 has_key Pcpsp k = true
-has_key Cpit k = (row_of k).of_cpit
+has_key Cpit k = (key_row k).of_cpit
 
 -- the keys of a problem's file, and those of a UPIT file
 abbrev pub keys_of : Problem → List HeaderKey
 keys_of problem = filter (has_key problem) header_keys
 
 abbrev pub upit_keys : List HeaderKey
-upit_keys = filter (λ k. (row_of k).of_upit) header_keys
+upit_keys = filter (λ k. (key_row k).of_upit) header_keys

@@ -12,7 +12,7 @@ use Rattle.minelib_reading.specs.ItemForms.{bytes_in, coef_form, coef_said, limi
 use Rattle.minelib_lines.specs.HeaderTable.{field_of, has_key, key_word}
 use Rattle.text_lines.specs.LineKinds.{text_kind, text_kinds}
 use Rattle.minelib_reading.specs.ModelLines.{ModelDraftView, coef_line, first_of, header_line, is_behind, is_colon, is_counted, is_heading, is_next, is_ready, item_line, key_of, keyed_line, last_of, limit_line, model_grammar, model_line, name_with, section_line, stray_line, values_line}
-use Rattle.minelib_reading.specs.inner.ModelParts.{admit_model, coef_of, limit_of, number_in, number_with, only_value, takes, values_of, values_said}
+use Rattle.minelib_reading.specs.inner.ModelParts.{admit_model, coef_of, limit_of, number_in, number_with, only_value, takes, values_of_line, values_said}
 use Rattle.text_lines.specs.Reading.{at_line, read_lines}
 use Rattle.text_lines.specs.TextLines.{Line, fields_of}
 use Rattle.minelib_lines.specs.declared.header_key.HeaderKey.{HeaderKey}
@@ -206,9 +206,9 @@ in_order false next = refl
 
 pub values_takes : (d : ModelDraftView) (fields : List (List ℕ))
     → takes (values_line d fields)
-    ≡ (values_of d.blocks (count_in d.header key.Destinations) (length d.values) fields
+    ≡ (values_of_line d.blocks (count_in d.header key.Destinations) (length d.values) fields
     >>= λ row. Ok (record d { values = d.values ++ row ∷ [] }))
-unfolding takes values_line values_of
+unfolding takes values_line values_of_line
 values_takes d fields =
     item_takes (read text_kinds (values_form d.blocks (count_in d.header key.Destinations)) fields) (values_said (length d.values)) _
     (λ values. whole_at values 0 == length d.values) _ (λ values. by (whole_at values 0 == length d.values) (row_said values))
@@ -250,8 +250,8 @@ item_keyless form line said item fine plain e =
     spelled_keyless form line values plain (read_spelled text_kinds form (fields_of line) values fine read))
 
 pub values_keyless : (n destinations before : ℕ) (line : List ℕ) (row : List ℤ)
-    → values_of n destinations before (fields_of line) ≡ Ok row → list_any is_colon line ≡ false
-unfolding values_of
+    → values_of_line n destinations before (fields_of line) ≡ Ok row → list_any is_colon line ≡ false
+unfolding values_of_line
 values_keyless n destinations before line row e =
     item_keyless (values_form n destinations) line (values_said before) row (many_fine destinations) (many_plain destinations) e
 

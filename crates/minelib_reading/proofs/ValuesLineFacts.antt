@@ -18,7 +18,7 @@ use Rattle.text_lines.specs.declared.text_fault.TextKind.TheVariants.{Order}
 use Rattle.text_lines.proofs.FieldSteps.{first_step, said_of, whole_reads}
 use Rattle.minelib_reading.specs.Fields.{any}
 use Rattle.minelib_reading.specs.ItemForms.{row_said, values_form}
-use Rattle.minelib_reading.specs.inner.ModelParts.{values_of, values_said}
+use Rattle.minelib_reading.specs.inner.ModelParts.{values_of_line, values_said}
 use Rattle.minelib_lines.specs.LineValues.{values_values}
 use Rattle.minelib_reading.proofs.FormFields.{ArePlain, any_fits, any_reads, whole_itself}
 
@@ -82,8 +82,8 @@ uncounted_values n before fields =
     first_by (whole_in n) fields >>= λ b. all_by decimal_in [] b.1 >>= λ values. if not (b.0 == before) then Err Order else Ok values
 
 pub values_counted : (n destinations before : ℕ) (fields : List (List ℕ)) → length fields ≡ destinations + 1
-    → values_of n destinations before fields ≡ uncounted_values n before fields
-unfolding values_of said_of
+    → values_of_line n destinations before fields ≡ uncounted_values n before fields
+unfolding values_of_line said_of
 values_counted n destinations before [] count = absurd (omega (arith, count))
 values_counted n destinations before (field ∷ fields) count =
     ap (λ r. r >>= values_said before)
@@ -93,19 +93,19 @@ values_counted n destinations before (field ∷ fields) count =
 
 pub values_admitted : {A : Type 0} (n destinations before : ℕ) (fields : List (List ℕ)) (row : List ℤ) (r : Result A (OrMemory TextKind))
     → AdmitsCounted (length fields ≡ destinations + 1) row r (uncounted_values n before fields)
-    → AdmitsCounted (length fields ≡ destinations + 1) row r (values_of n destinations before fields)
+    → AdmitsCounted (length fields ≡ destinations + 1) row r (values_of_line n destinations before fields)
 values_admitted n destinations before fields row (Ok x) h = (h.0, values_counted n destinations before fields h.0 ∙ h.1)
 values_admitted n destinations before fields row (Err (Fault found)) h =
     λ count. values_counted n destinations before fields count ∙ h count
 values_admitted n destinations before fields row (Err OutOfMemory) h = tt
 
 pub values_kind : (n destinations before : ℕ) (fields : List (List ℕ)) (found : TextKind)
-    → (length fields ≡ destinations + 1 → values_of n destinations before fields ≡ Err found)
-    → values_of n destinations before fields ≡ Err (kind_by (length fields == destinations + 1) found)
-unfolding values_of
+    → (length fields ≡ destinations + 1 → values_of_line n destinations before fields ≡ Err found)
+    → values_of_line n destinations before fields ≡ Err (kind_by (length fields == destinations + 1) found)
+unfolding values_of_line
 values_kind n destinations before fields found counted = by (length fields == destinations + 1) refl
   where
-    by : (t : Bool) → (length fields == destinations + 1) ≡ t → values_of n destinations before fields ≡ Err (kind_by t found)
+    by : (t : Bool) → (length fields == destinations + 1) ≡ t → values_of_line n destinations before fields ≡ Err (kind_by t found)
     by true e = counted (eqb-true (length fields) (destinations + 1) e)
     by false e = rw (values_width n destinations, e) refl
 

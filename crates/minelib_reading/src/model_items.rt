@@ -5,7 +5,7 @@ ghost use Rattle.pit_parts.specs.PlanKept.{stands_before};
 ghost use Rattle.mine_instance.specs.Order.{coef_comes_before};
 ghost use Rattle.text_lines.specs.FieldValues.{Takes, all_by, decimal_in, first_by};
 ghost use Rattle.minelib_reading.specs.ModelLines.{is_behind, last_of};
-ghost use Rattle.minelib_reading.specs.inner.ModelParts.{TakesFirst, uncounted_coef, coef_of, limit_of, values_of};
+ghost use Rattle.minelib_reading.specs.inner.ModelParts.{TakesFirst, uncounted_coef, coef_of, limit_of, values_of_line};
 ghost use Rattle.text_lines.specs.Reading.{Leaves};
 ghost use Rattle.minelib_reading.specs.ItemForms.{coef_form};
 ghost use Rattle.text_lines.specs.TextLines.{fields_of};
@@ -33,7 +33,7 @@ pub fn values_in(
     row: &mut Vec<Dec>,
 ) -> Result<(), OrMemory<TextKind>>
     ensures value { Leaves row.new.items result
-        (values_of blocks destinations before (fields_of line.now)) }
+        (values_of_line blocks destinations before (fields_of line.now)) }
     ensures width { OnOk result (length row.new.items ≡ destinations) }
     ensures room { OnOk result (before < blocks) }
 {
@@ -57,7 +57,7 @@ fn uncounted_values(
     row: &mut Vec<Dec>,
 ) -> Result<(), OrMemory<TextKind>>
     ensures value { AdmitsCounted (length (fields_of line.now) ≡ destinations + 1) row.new.items
-        result (values_of blocks destinations before (fields_of line.now)) }
+        result (values_of_line blocks destinations before (fields_of line.now)) }
     ensures width { OnOk result (length row.new.items ≡ destinations) }
     ensures room { OnOk result (before < blocks) }
 {

@@ -5,7 +5,7 @@ use Rattle.std.specs.Fmt.{decimal}
 use Rattle.std.specs.List.{AllZip, sum_by}
 use Rattle.devices.specs.FileSinkView.{FileSinkView, file_told, unbegun}
 use Rattle.devices.specs.declared.feed.FeedFault.{FeedFault}
-use Rattle.lane.specs.MessageKinds.{rows_in}
+use Rattle.lane.specs.MessageKinds.{row_count}
 use Rattle.lane.specs.Whole.{GatheredView}
 use Rattle.minelib_writing.specs.Texts.{ending_of}
 use Rattle.minelib_writing.specs.declared.text_name.TextName.{TextName}
@@ -37,7 +37,7 @@ pub record IsRunInto (base : List ℕ) (plan : PlanParts) (valuers : ℕ) (lefts
   pub sinks : SinksOf base
   pub gathered : GatheredView
   pub done : IsDone plan lefts valuers (λ name. file_told (sinks.before name)) (λ name. file_told (sinks.after name)) gathered
-  pub rows_are : rows ≡ sum_by rows_in gathered.sent
+  pub rows_are : rows ≡ sum_by row_count gathered.sent
 
 -- it is refused: by these settings and destinations, or as a run is; `sures` says which feeds were sure
 pub record IsRefusedInto (base : List ℕ) (plan : PlanParts) (formulas : List Formula) (settings : Settings)

@@ -10,7 +10,7 @@ use Rattle.collector.specs.Complete.{IsComplete}
 use Rattle.collector.specs.Found.{row_at, end_at}
 use Rattle.collector.specs.Lists.{AreLists, AreRows}
 use Rattle.lane.specs.declared.message.Taken.{Taken}
-use Rattle.lane.specs.MessageKinds.{rows_in}
+use Rattle.lane.specs.MessageKinds.{row_count}
 use Rattle.lane.specs.Whole.{GatheredView, IsWhole}
 use Rattle.pit_compile.proofs.HandedOn.{IsOf, row-of, end-of, all-of, complete}
 use Rattle.pit_compile.specs.inner.Collecting.{joined}
@@ -62,7 +62,7 @@ are-rows found fs sent items lists all are =
 
 -- what is handed on is complete
 pub to-order : (fs : List Formula) (g : GatheredView) (items : List (List Item)) (files : ℕ) → IsWhole g →
-    All (λ list. rows_in list ≤ 1000000) g.sent → items ≡ map (items_by fs) g.took → length g.sent ≡ files →
+    All (λ list. row_count list ≤ 1000000) g.sent → items ≡ map (items_by fs) g.took → length g.sent ≡ files →
     IsComplete files (joined items)
 to-order fs g items files whole few handed same = rw (handed, ← same) (complete fs g whole few)
 

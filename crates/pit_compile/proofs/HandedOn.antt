@@ -6,11 +6,11 @@ use Rattle.std.proofs.lemmas.List.Elements.{recursion_from_All, All-from_recursi
 use Rattle.std.proofs.lemmas.List.Sums.{sum_by-append, sum_by-cons}
 use Rattle.std.proofs.lemmas.Option.{same_Some, slice_get_within, slice_get-get_or, get_or_from_slice_get}
 use Rattle.collector.specs.Complete.{Fits, IsComplete}
-use Rattle.collector.specs.Found.{is_row, is_end}
+use Rattle.collector.specs.Found.{is_row_at, is_end_of}
 use Rattle.lane.specs.declared.message.Taken.{Taken}
 use Rattle.lane.specs.declared.message.Taken.TheVariants.{Row, End}
 use Rattle.lane.specs.Message.{is_at, IsEndedFrom}
-use Rattle.lane.specs.MessageKinds.{rows_in}
+use Rattle.lane.specs.MessageKinds.{row_count}
 use Rattle.lane.specs.Whole.{GatheredView, IsSent, IsWhole}
 use Rattle.pit_compile.proofs.SentRows.{counted, rows-counted, row-sent, end-sent, ended-length}
 use Rattle.pit_compile.specs.inner.Collecting.{joined}
@@ -106,7 +106,7 @@ as-both f file n r same_then = grind (arith, nat_tests, same_then)
 
 -- the end mark of a file stands behind its rows, and a row before it
 end-at : (fs : List Formula) (sent : List (List Taken)) (file : ℕ) (list : List Taken) → slice_get sent file ≡ Some list → (i : Item) →
-    IsOf fs sent i → is_end file i ≡ is_item_at file (length (rows_by fs list)) i
+    IsOf fs sent i → is_end_of file i ≡ is_item_at file (length (rows_by fs list)) i
 end-at fs sent file list got (item.Row v) of =
     sym (not-both v.file file v.place (length (rows_by fs list)) (λ same at_end.
     let within = slice_get_within (rows_by fs list) v.place v (row-of fs sent file list v got same of) in
@@ -115,7 +115,7 @@ end-at fs sent file list got (item.End f n) of =
     as-both f file n (length (rows_by fs list)) (λ same. end-of fs sent file list f n got same of)
 
 row-at : (fs : List Formula) (sent : List (List Taken)) (file place : ℕ) (list : List Taken) → slice_get sent file ≡ Some list →
-    place < length (rows_by fs list) → (i : Item) → IsOf fs sent i → is_row file place i ≡ is_item_at file place i
+    place < length (rows_by fs list) → (i : Item) → IsOf fs sent i → is_row_at file place i ≡ is_item_at file place i
 row-at fs sent file place list got below (item.Row v) of = refl
 row-at fs sent file place list got below (item.End f n) of =
     sym (not-both f file n place (λ same at_place. let behind = end-of fs sent file list f n got same of in omega arith))
@@ -150,7 +150,7 @@ once fs g whole test file p list got within same =
     (recursion_from_All Same items (All-weaker (IsOf fs g.sent) Same same items (all-of fs g whole)))
     ∙ all-taken fs file p g.took ∙ whole.once file p list got within
 
-pub complete : (fs : List Formula) (g : GatheredView) → IsWhole g → All (λ list. rows_in list ≤ 1000000) g.sent →
+pub complete : (fs : List Formula) (g : GatheredView) → IsWhole g → All (λ list. row_count list ≤ 1000000) g.sent →
     IsComplete (length g.sent) (joined (map (items_by fs) g.took))
 complete fs g whole few =
     let list : ℕ → List Taken = λ file. get_or g.sent file [] in
@@ -163,10 +163,10 @@ complete fs g whole few =
       few = λ file within.
           subst (λ (n : ℕ). n ≤ 1000000) (sym (rows-counted fs (list file))) (few file [] within);
       ends = λ file within.
-          once fs g whole (is_end file) file (size fs g.sent file) (list file) (got file within) (omega (arith, long file within))
+          once fs g whole (is_end_of file) file (size fs g.sent file) (list file) (got file within) (omega (arith, long file within))
           (end-at fs g.sent file (list file) (got file within));
       rows = λ file place within below.
-          once fs g whole (is_row file place) file place (list file) (got file within) (omega (arith, long file within))
+          once fs g whole (is_row_at file place) file place (list file) (got file within) (omega (arith, long file within))
           (row-at fs g.sent file place (list file) (got file within) below);
       others = All-weaker (IsOf fs g.sent) (Fits (length g.sent) (size fs g.sent)) (fits fs g.sent)
           (joined (map (items_by fs) g.took)) (all-of fs g whole);

@@ -3,7 +3,7 @@ use Rattle.std.proofs.Common.{◌≡◌, ◌<◌, ◌≤◌, ◌+◌, ◌*◌, �
 use Rattle.std.specs.List.{flat_map}
 use Rattle.std.proofs.lemmas.List.Elements.{All-nil, All-cons, All-append, All-head, All-tail, All-weaker}
 use Rattle.lane.specs.Message.{sent_from}
-use Rattle.lane.specs.MessageKinds.{rows_in as rows_sent_in}
+use Rattle.lane.specs.MessageKinds.{row_count}
 use Rattle.pit_parts.specs.PlanFormulas.{formulas_of_plan}
 use Rattle.pit_parts.specs.Plan.{PlanParts}
 use Rattle.pit_parts.specs.declared.block.Block.{Block}
@@ -87,14 +87,14 @@ sent_rows grid formulas n (text ∷ texts) =
     (ap (λ rows. rows_from (blocks_of grid n text) formulas n 0 ++ rows) (sent_rows grid formulas (n + 1) texts))
 
 -- each file sends few rows
-few_sent : (file n : ℕ) (blocks : List Block) → rows_sent_in (sent_from file n blocks) ≡ length blocks
+few_sent : (file n : ℕ) (blocks : List Block) → row_count (sent_from file n blocks) ≡ length blocks
 few_sent file n blocks =
     sym (rows-counted [] (sent_from file n blocks)) ∙ ap length (rows_sent [] file n blocks) ∙ count_from [] file n blocks
 
 pub few_sents : (grid : Grid) → AreZoneFiles → (n : ℕ) (texts : List (List ℕ))
-    → All (λ sent. rows_sent_in sent ≤ 1000000) (sents_from n grid texts)
-few_sents grid files n [] = All-nil (λ sent. rows_sent_in sent ≤ 1000000)
+    → All (λ sent. row_count sent ≤ 1000000) (sents_from n grid texts)
+few_sents grid files n [] = All-nil (λ sent. row_count sent ≤ 1000000)
 few_sents grid files n (text ∷ texts) =
     let mine = files.few grid n text in
     let count = few_sent n 0 (blocks_of grid n text) in
-    All-cons (λ sent. rows_sent_in sent ≤ 1000000) _ (sents_from (n + 1) grid texts) (omega arith) (few_sents grid files (n + 1) texts)
+    All-cons (λ sent. row_count sent ≤ 1000000) _ (sents_from (n + 1) grid texts) (omega arith) (few_sents grid files (n + 1) texts)

@@ -9,7 +9,7 @@ use Rattle.pit_parts.specs.declared.formula.Formula.{Formula}
 use Rattle.lane.specs.declared.message.Taken.{Taken}
 use Rattle.lane.specs.declared.message.Taken.TheVariants.{Row, End}
 use Rattle.lane.specs.Message.{IsEndedFrom}
-use Rattle.lane.specs.MessageKinds.{is_row, rows_in}
+use Rattle.lane.specs.MessageKinds.{is_row, row_count}
 use Rattle.rows.specs.Valued.{row_by}
 use Rattle.valuers.specs.Valuing.{rows_by}
 use Rattle.rows.specs.declared.item.Valued.{Valued}
@@ -18,12 +18,12 @@ use Rattle.rows.specs.declared.item.Valued.{Valued}
 pub counted : {X : Type 0} (p : X → Bool) (x : X) (xs : List X) → count_by p (x ∷ xs) ≡ cond (p x) 1 0 + count_by p xs
 counted p x xs = sum_by-cons (λ y. cond (p y) 1 0) x xs
 
-pub rows-counted : (fs : List Formula) (ms : List Taken) → length (rows_by fs ms) ≡ rows_in ms
+pub rows-counted : (fs : List Formula) (ms : List Taken) → length (rows_by fs ms) ≡ row_count ms
 rows-counted fs [] = refl
 rows-counted fs (Row f p b ∷ ms) =
-    let one : rows_in (Row f p b ∷ ms) ≡ 1 + rows_in ms = counted is_row (Row f p b) ms in omega (arith, rows-counted fs ms)
+    let one : row_count (Row f p b ∷ ms) ≡ 1 + row_count ms = counted is_row (Row f p b) ms in omega (arith, rows-counted fs ms)
 rows-counted fs (m ∷ ms) =
-    let none : rows_in (m ∷ ms) ≡ 0 + rows_in ms = counted is_row m ms in omega (arith, rows-counted fs ms)
+    let none : row_count (m ∷ ms) ≡ 0 + row_count ms = counted is_row m ms in omega (arith, rows-counted fs ms)
 
 abbrev valued : List Formula → Taken → Option Valued
 valued fs (Row f p b) = Some (row_by fs f p b)

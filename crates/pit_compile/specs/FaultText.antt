@@ -1,7 +1,7 @@
 -- The words that show why a run is refused.
 use Rattle.std.specs.Prelude.{ℕ, List, ◌++◌, codes, decimal}
 use Rattle.minelib_writing.specs.Texts.{ending_of}
-use Rattle.zone_csv.specs.FaultText.{fault_text}
+use Rattle.zone_csv.specs.FaultText.{row_fault_text}
 use Rattle.pit_compile.specs.declared.refusal.Refusal.{Refusal}
 use Rattle.pit_compile.specs.declared.refusal.Refusal.TheVariants as refusal
 use Rattle.pit_compile.specs.declared.refusal.RowAt.{RowAt}
@@ -24,7 +24,7 @@ refusal_text (refusal.Settings kind) = codes "settings: " ++ settings_name kind
 refusal_text refusal.NoThread = codes "NoThread"
 refusal_text (refusal.FeedFailed file) = codes "file " ++ (decimal file ++ codes ": FeedFailed")
 refusal_text (refusal.TooLong file) = codes "file " ++ (decimal file ++ codes ": TooLong")
-refusal_text (refusal.Row file fault) = codes "file " ++ (decimal file ++ (codes " " ++ fault_text fault))
+refusal_text (refusal.Row file fault) = codes "file " ++ (decimal file ++ (codes " " ++ row_fault_text fault))
 refusal_text (refusal.Same first again) = row_text again ++ (codes " repeats " ++ row_text first)
 refusal_text (refusal.SinkFailed which) = codes "sink " ++ (ending_of which ++ codes ": SinkFailed")
 refusal_text refusal.OutOfMemory = codes "OutOfMemory"

@@ -7,7 +7,7 @@ use Rattle.std.proofs.Math.Seq.{drop-cons}
 use Rattle.std.proofs.lemmas.List.{drop-map, get_or-drop, drop-drop}
 use Rattle.std.proofs.lemmas.Bool.{cases_lt, lt-ltb, le-ltb, le-leb, lt-leb, or_parts}
 use Rattle.precedence.specs.Cone.{places_where}
-use Rattle.precedence.specs.inner.Rows.{is_in_row, is_in_rows, pasts, start_of, AreApart}
+use Rattle.precedence.specs.inner.Rows.{is_in_row, is_in_rows, pasts, start_of, LieApart}
 use Rattle.precedence.specs.inner.Search.{run}
 use Rattle.precedence.specs.declared.cones.cone_rows.Row.{Row}
 use Rattle.precedence.proofs.PlacesWhere.{nowhere, where_at}
@@ -56,7 +56,7 @@ filter_run p q a b n (suc m) before inside same none le long =
 -- ---- codes outside of rows
 
 -- a code before all rows lies in none
-pub before_rows : (from c low : ℕ) (rows : List Row) (high : ℕ) → AreApart low rows high → c < from + low → is_in_rows from rows c ≡ false
+pub before_rows : (from c low : ℕ) (rows : List Row) (high : ℕ) → LieApart low rows high → c < from + low → is_in_rows from rows c ≡ false
 before_rows from c low [] high h lt = refl
 before_rows from c low (row ∷ rows) high h lt =
     let out : nat_le (from + row.first) c ≡ false = lt-leb _ _ (omega (arith, h.0)) in
@@ -84,7 +84,7 @@ fewer_rows from c (suc n) (row ∷ rows) none = fewer_rows from c n rows (or_par
 
 -- ---- the next row
 
-pub pasts_rise : (low : ℕ) (rows : List Row) (high : ℕ) → AreApart low rows high → IsStrictlyIncreasing (pasts rows)
+pub pasts_rise : (low : ℕ) (rows : List Row) (high : ℕ) → LieApart low rows high → IsStrictlyIncreasing (pasts rows)
 pasts_rise low [] high h k lt = absurd (omega arith)
 pasts_rise low (row ∷ []) high h k lt = absurd (omega arith)
 pasts_rise low (row ∷ next ∷ rows) high h zero lt = omega (arith, h.2.0, h.2.1)
@@ -94,8 +94,8 @@ pasts_rise low (row ∷ next ∷ rows) high h (suc k) lt =
     let P : ℕ → Type 0 = λ n. get_or (pasts (row ∷ next ∷ rows)) (suc k) 0 < get_or (pasts (row ∷ next ∷ rows)) n 0 in
     subst P more later
 
-apart_at : (low : ℕ) (rows : List Row) (high i : ℕ) (d : Row) → AreApart low rows high → i < length rows
-    → ((get_or rows i d).first < (get_or rows i d).past) × AreApart (get_or rows i d).past (drop (suc i) rows) high
+apart_at : (low : ℕ) (rows : List Row) (high i : ℕ) (d : Row) → LieApart low rows high → i < length rows
+    → ((get_or rows i d).first < (get_or rows i d).past) × LieApart (get_or rows i d).past (drop (suc i) rows) high
 apart_at low [] high i d h lt = absurd (omega arith)
 apart_at low (row ∷ rows) high zero d h lt = (h.1, h.2)
 apart_at low (row ∷ rows) high (suc i) d h lt = apart_at row.past rows high i d h.2 (omega arith)
@@ -107,7 +107,7 @@ pub no_rows : (from n : ℕ) (codes : List ℕ) → places_where (is_in_rows fro
 no_rows from n codes = nowhere n codes
 
 -- from a row to the next one that has codes, what is added is the row's run
-module _ (from high : ℕ) (rows : List Row) (codes : List ℕ) (apart : AreApart 0 rows high) (rising : IsStrictlyIncreasing codes)
+module _ (from high : ℕ) (rows : List Row) (codes : List ℕ) (apart : LieApart 0 rows high) (rising : IsStrictlyIncreasing codes)
     (i j past : ℕ) (row : Row) (is : row ≡ get_or rows i row) (within : i < length rows) (later : i < j) (inside : j ≤ length rows)
     (found : past ≡ start_of (from + row.past) codes)
     (skipped : (k : ℕ) → i < k → k < j → past < length codes → get_or (pasts rows) k 0 ≤ get_or codes past 0 - from) where
@@ -129,9 +129,9 @@ module _ (from high : ℕ) (rows : List Row) (codes : List ℕ) (apart : AreApar
   abbrev past_place : ℕ
   past_place = start_of (from + row.past) codes
 
-  here : (row.first < row.past) × AreApart row.past others high
+  here : (row.first < row.past) × LieApart row.past others high
   here =
-      let P : Row → Type 0 = λ r. (r.first < r.past) × AreApart r.past others high in
+      let P : Row → Type 0 = λ r. (r.first < r.past) × LieApart r.past others high in
       subst P (sym is) (apart_at 0 rows high i row apart within)
 
   before : (k : ℕ) → k < first_place → in_all k ≡ false

@@ -9,7 +9,7 @@ use Rattle.pit_parts.specs.declared.grid.Grid.{Grid}
 use Rattle.precedence.specs.Codes.{place_code}
 use Rattle.precedence.specs.Cone.{is_above}
 use Rattle.precedence.specs.inner.Reach.{CountsRow}
-use Rattle.precedence.specs.inner.Rows.{center, edge, is_in_row, is_in_rows, AreApart, IsWithin, Tells, IsTable}
+use Rattle.precedence.specs.inner.Rows.{center, edge, is_in_row, is_in_rows, LieApart, IsWithin, Tells, IsTable}
 use Rattle.precedence.specs.declared.cones.cone_rows.Extent.{Extent}
 use Rattle.precedence.specs.declared.cones.cone_rows.Counts.{Counts}
 use Rattle.precedence.specs.declared.cones.cone_rows.Row.{Row}
@@ -24,12 +24,12 @@ in_rows_push from (r ∷ rows) row c =
     ap (λ b. is_in_row from r c || b) (in_rows_push from rows row c)
     ∙ sym (or_assoc (is_in_row from r c) (is_in_rows from rows c) (is_in_row from row c))
 
-pub apart_push : (low : ℕ) (rows : List Row) (high : ℕ) (row : Row) (up : ℕ) → AreApart low rows high → high ≤ row.first
-    → row.first < row.past → row.past ≤ up → AreApart low (rows ++ row ∷ []) up
+pub apart_push : (low : ℕ) (rows : List Row) (high : ℕ) (row : Row) (up : ℕ) → LieApart low rows high → high ≤ row.first
+    → row.first < row.past → row.past ≤ up → LieApart low (rows ++ row ∷ []) up
 apart_push low [] high row up h le some past = (omega arith, some, past)
 apart_push low (r ∷ rows) high row up h le some past = (h.0, h.1, apart_push r.past rows high row up h.2 le some past)
 
-pub apart_more : (low : ℕ) (rows : List Row) (high up : ℕ) → AreApart low rows high → high ≤ up → AreApart low rows up
+pub apart_more : (low : ℕ) (rows : List Row) (high up : ℕ) → LieApart low rows high → high ≤ up → LieApart low rows up
 apart_more low [] high up h le = omega arith
 apart_more low (r ∷ rows) high up h le = (h.0, h.1, apart_more r.past rows high up h.2 le)
 

@@ -5,7 +5,7 @@ use Rattle.std.proofs.lemmas.List.{drop-append-le, take-append-le, length-drop, 
 use Rattle.std.proofs.lemmas.List.Elements.{All-tail}
 use Rattle.rows.specs.declared.head.Head.{Head}
 use Rattle.rows.specs.declared.item.Valued.{Valued}
-use Rattle.rows.specs.inner.Heads.{row_of, IsHeld}
+use Rattle.rows.specs.inner.Heads.{row_of_head, IsHeld}
 
 pub own_kept : (ws more : List ℤ) (from count : ℕ) → from + count ≤ length ws → take count (drop from (ws ++ more)) ≡ take count (drop from ws)
 own_kept ws more from count within =
@@ -15,7 +15,7 @@ own_kept ws more from count within =
 abbrev row_with : Head → List ℤ → Valued
 row_with h own = record { file = h.file; place = h.place; block = h.block; worths = own }
 
-pub row_kept : (ws more : List ℤ) (h : Head) → IsHeld ws h → row_of (ws ++ more) h ≡ row_of ws h
+pub row_kept : (ws more : List ℤ) (h : Head) → IsHeld ws h → row_of_head (ws ++ more) h ≡ row_of_head ws h
 row_kept ws more h held =
     ap (row_with h) (own_kept ws more h.from h.count held.2)
 
@@ -29,36 +29,36 @@ map_replicate : {A B : Type 0} (f : A → B) (n : ℕ) (x : A) → map f (replic
 map_replicate f zero x = refl
 map_replicate f (suc n) x = ap (λ ys. f x ∷ ys) (map_replicate f n x)
 
-pub rows_kept : (ws more : List ℤ) (hs : List Head) → All (IsHeld ws) hs → map (row_of (ws ++ more)) hs ≡ map (row_of ws) hs
-rows_kept ws more hs held = seen_alike (IsHeld ws) (row_of (ws ++ more)) (row_of ws) (row_kept ws more) hs held
+pub rows_kept : (ws more : List ℤ) (hs : List Head) → All (IsHeld ws) hs → map (row_of_head (ws ++ more)) hs ≡ map (row_of_head ws) hs
+rows_kept ws more hs held = seen_alike (IsHeld ws) (row_of_head (ws ++ more)) (row_of_head ws) (row_kept ws more) hs held
 
 pub rows_filled : (ws more : List ℤ) (hs : List Head) (n : ℕ) (h : Head) → All (IsHeld ws) hs →
-    map (row_of (ws ++ more)) (hs ++ replicate n h) ≡ map (row_of ws) hs ++ replicate n (row_of (ws ++ more) h)
+    map (row_of_head (ws ++ more)) (hs ++ replicate n h) ≡ map (row_of_head ws) hs ++ replicate n (row_of_head (ws ++ more) h)
 rows_filled ws more hs n h held =
-    map-append (row_of (ws ++ more)) hs (replicate n h)
-    ∙ ap (λ rows. rows ++ map (row_of (ws ++ more)) (replicate n h)) (rows_kept ws more hs held)
-    ∙ ap (λ rows. map (row_of ws) hs ++ rows) (map_replicate (row_of (ws ++ more)) n h)
+    map-append (row_of_head (ws ++ more)) hs (replicate n h)
+    ∙ ap (λ rows. rows ++ map (row_of_head (ws ++ more)) (replicate n h)) (rows_kept ws more hs held)
+    ∙ ap (λ rows. map (row_of_head ws) hs ++ rows) (map_replicate (row_of_head (ws ++ more)) n h)
 
 pub row_set : (ws more : List ℤ) (hs : List Head) (i : ℕ) (h : Head) → All (IsHeld ws) hs →
-    map (row_of (ws ++ more)) (set hs i h) ≡ set (map (row_of ws) hs) i (row_of (ws ++ more) h)
+    map (row_of_head (ws ++ more)) (set hs i h) ≡ set (map (row_of_head ws) hs) i (row_of_head (ws ++ more) h)
 row_set ws more hs i h held =
-    map-set (row_of (ws ++ more)) hs i h
-    ∙ ap (λ rows. set rows i (row_of (ws ++ more) h)) (rows_kept ws more hs held)
+    map-set (row_of_head (ws ++ more)) hs i h
+    ∙ ap (λ rows. set rows i (row_of_head (ws ++ more) h)) (rows_kept ws more hs held)
 
 -- the rows, where some worths were appended, and then a row was set, appended several times, or neither
-module _ (ws now more : List ℤ) (hs : List Head) (rows : List Valued) (is_now : now ≡ ws ++ more) (were : map (row_of ws) hs ≡ rows)
+module _ (ws now more : List ℤ) (hs : List Head) (rows : List Valued) (is_now : now ≡ ws ++ more) (were : map (row_of_head ws) hs ≡ rows)
     (held : All (IsHeld ws) hs) where
-  pub set_at : (later : List Head) (i : ℕ) (h : Head) (row : Valued) → later ≡ set hs i h → row_of now h ≡ row →
-      map (row_of now) later ≡ set rows i row
+  pub set_at : (later : List Head) (i : ℕ) (h : Head) (row : Valued) → later ≡ set hs i h → row_of_head now h ≡ row →
+      map (row_of_head now) later ≡ set rows i row
   set_at later i h row is_later is_row = rw (is_later, sym is_row, is_now, sym were) (row_set ws more hs i h held)
 
   pub resized : (later : List Head) (count : ℕ) (h : Head) (row : Valued) → length rows ≤ count →
-      later ≡ take count hs ++ replicate (count - length hs) h → row_of now h ≡ row →
-      map (row_of now) later ≡ rows ++ replicate (count - length rows) row
+      later ≡ take count hs ++ replicate (count - length hs) h → row_of_head now h ≡ row →
+      map (row_of_head now) later ≡ rows ++ replicate (count - length rows) row
   resized later count h row enough is_later is_row =
-      let same : length hs ≡ length rows = sym (length-map hs (row_of ws)) ∙ ap length were in
-      rw (is_later, take_all count hs (omega arith), sym is_row, is_now, sym were, length-map hs (row_of ws))
+      let same : length hs ≡ length rows = sym (length-map hs (row_of_head ws)) ∙ ap length were in
+      rw (is_later, take_all count hs (omega arith), sym is_row, is_now, sym were, length-map hs (row_of_head ws))
       (rows_filled ws more hs (count - length hs) h held)
 
-  pub not_set : (later : List Head) → later ≡ hs → map (row_of now) later ≡ rows
+  pub not_set : (later : List Head) → later ≡ hs → map (row_of_head now) later ≡ rows
   not_set later is_later = rw (is_later, is_now, sym were) (rows_kept ws more hs held)

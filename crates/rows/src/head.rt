@@ -1,7 +1,7 @@
 //! Rows whose worths stand in one list.
 
 ghost use Rattle.std.specs.Prelude.{◌≡◌, ◌+◌, ◌<◌, ◌++◌, IfOk, OnOk, OnErr, length, vec_len, vec_capacity};
-ghost use Rattle.rows.specs.inner.Heads.{row_of, IsHeld};
+ghost use Rattle.rows.specs.inner.Heads.{row_of_head, IsHeld};
 
 use crate::item::Valued;
 use crate::worths::Worths;
@@ -25,7 +25,7 @@ impl Head {
     /// them, and then it is as it was.
     pub fn new<A: Allocator>(worths: &mut Vec<i128, A>, row: &Valued) -> Result<Head, AllocError>
         ensures held { IfOk result (IsHeld worths.new.items) }
-        ensures row { IfOk result (λ head. row_of worths.new.items head ≡ row.now) }
+        ensures row { IfOk result (λ head. row_of_head worths.new.items head ≡ row.now) }
         ensures appended { OnOk result (worths.new.items ≡ worths.old.items ++ row.now.worths) }
         ensures kept { OnErr result (worths.new.items ≡ worths.old.items) }
         ensures full { OnErr result
@@ -46,7 +46,7 @@ impl Head {
     /// The row.
     pub fn row(&self, worths: &[i128]) -> Valued
         requires { IsHeld worths.now self.now }
-        ensures { result ≡ row_of worths.now self.now }
+        ensures { result ≡ row_of_head worths.now self.now }
     {
         Valued {
             file: self.file,
@@ -59,7 +59,7 @@ impl Head {
     /// The worths of the row.
     pub fn own<'a>(&self, worths: &'a [i128]) -> &'a [i128]
         requires { IsHeld worths.now self.now }
-        ensures { result.now ≡ (row_of worths.now self.now).worths }
+        ensures { result.now ≡ (row_of_head worths.now self.now).worths }
     {
         let (_, rest) = worths.split_at(self.from);
         let (own, _) = rest.split_at(usize::from(self.count));

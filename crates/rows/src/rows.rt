@@ -22,11 +22,11 @@ impl Model for Rows {
     ghost use Rattle.std.specs.Prelude.{List, map};
     ghost use Rattle.std.specs.List.{All};
     ghost use Rattle.rows.specs.declared.item.Valued.{Valued};
-    ghost use Rattle.rows.specs.inner.Heads.{row_of, IsHeld};
+    ghost use Rattle.rows.specs.inner.Heads.{row_of_head, IsHeld};
 
     ghost Value = { List Valued };
 
-    ghost view = { λ r. map (row_of r.worths.items) r.heads.items };
+    ghost view = { λ r. map (row_of_head r.worths.items) r.heads.items };
 
     ghost invariant = { λ r. All (IsHeld r.worths.items) r.heads.items };
 }

@@ -21,16 +21,16 @@ read_lines admit so_far [] = Ok so_far
 read_lines admit so_far (line ∷ lines) = at_line line.number (admit so_far line.text) >>= λ next. read_lines admit next lines
 
 -- a faulty line, in a file
-abbrev pub fault_in : TextFile → LineFault → TextFault
-fault_in file fault = record { file = file; line = fault.line; kind = fault.kind }
+abbrev pub fault_in_file : TextFile → LineFault → TextFault
+fault_in_file file fault = record { file = file; line = fault.line; kind = fault.kind }
 
 abbrev pub in_file : {A : Type 0} → TextFile → Result A LineFault → Result A TextFault
 in_file file (Ok x) = Ok x
-in_file file (Err fault) = Err (fault_in file fault)
+in_file file (Err fault) = Err (fault_in_file file fault)
 
 -- why a file was not read, of an instance
 abbrev pub error_in : TextFile → OrMemory LineFault → OrMemory TextFault
-error_in file (Fault fault) = Fault (fault_in file fault)
+error_in file (Fault fault) = Fault (fault_in_file file fault)
 error_in file OutOfMemory = OutOfMemory
 
 -- a call that takes lines leaves this state, and it is the stated one; or it answers the stated fault, unless memory was refused

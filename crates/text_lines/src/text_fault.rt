@@ -1,7 +1,7 @@
 //! What is wrong with a MineLib text.
 
 ghost use Rattle.std.specs.Prelude.{◌≡◌};
-ghost use Rattle.text_lines.specs.Reading.{error_in, fault_in};
+ghost use Rattle.text_lines.specs.Reading.{error_in, fault_in_file};
 
 use pit_units::{DecFault, OrMemory};
 use std::fmt;
@@ -125,7 +125,7 @@ pub struct LineFault {
 impl LineFault {
     /// The same, where the text is this file of an instance.
     pub fn in_file(self, file: TextFile) -> TextFault
-        ensures { result ≡ fault_in file self }
+        ensures { result ≡ fault_in_file file self }
     {
         let LineFault { line, kind } = self;
         TextFault { file, line, kind }

@@ -16,6 +16,6 @@ row_kind_name kind.OffGrid = codes "OffGrid"
 row_kind_name kind.TooManyRows = codes "TooManyRows"
 
 -- `row N column C: K`
-abbrev pub fault_text : RowFault → List ℕ
-fault_text fault =
+abbrev pub row_fault_text : RowFault → List ℕ
+row_fault_text fault =
     codes "row " ++ (decimal fault.row ++ (codes " column " ++ (column_name fault.column ++ (codes ": " ++ row_kind_name fault.kind))))

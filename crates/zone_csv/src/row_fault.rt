@@ -113,9 +113,9 @@ pub struct RowFault {
 
 impl fmt::Display for RowFault {
     ghost use Rattle.std.specs.Prelude.{Some};
-    ghost use Rattle.zone_csv.specs.FaultText.{fault_text};
+    ghost use Rattle.zone_csv.specs.FaultText.{row_fault_text};
 
-    ghost output = { λ fault. Some (fault_text fault) };
+    ghost output = { λ fault. Some (row_fault_text fault) };
 
     fn fmt<W: fmt::Write>(&self, f: &mut fmt::Formatter<W>) -> fmt::Result {
         let RowFault { row, column, kind } = self;

@@ -29,12 +29,12 @@ with_row rows v =
     if nat_lt v.place (length rows) then slice_set rows v.place v else rows ++ replicate (v.place + 1 - length rows) v
 
 -- the rows on the shelf of a file
-abbrev pub rows_in : List Shelf → ℕ → List Valued
-rows_in shelves file = unwrap_or (option_map (λ s. s.rows) (slice_get shelves file)) []
+abbrev pub rows_on_shelf : List Shelf → ℕ → List Valued
+rows_on_shelf shelves file = unwrap_or (option_map (λ s. s.rows) (slice_get shelves file)) []
 
 -- the count of the end mark on the shelf of a file
-abbrev pub end_in : List Shelf → ℕ → Option ℕ
-end_in shelves file = option_and_then (λ s. s.end) (slice_get shelves file)
+abbrev pub end_on_shelf : List Shelf → ℕ → Option ℕ
+end_on_shelf shelves file = option_and_then (λ s. s.end) (slice_get shelves file)
 
 -- nothing is on the shelf
 abbrev pub IsBare : Shelf → Type 0
@@ -56,9 +56,9 @@ end_fault rows end count =
     else None
 
 -- the fault of an item, by the rows and the end marks of all files
-abbrev pub fault_in : ℕ → (ℕ → List Valued) → (ℕ → Option ℕ) → Item → Option AddFault
-fault_in files rows ends (Row v) = if nat_le files v.file then Some Stranger else row_fault (rows v.file) (ends v.file) v.place
-fault_in files rows ends (End file count) = if nat_le files file then Some Stranger else end_fault (rows file) (ends file) count
+abbrev pub item_fault : ℕ → (ℕ → List Valued) → (ℕ → Option ℕ) → Item → Option AddFault
+item_fault files rows ends (Row v) = if nat_le files v.file then Some Stranger else row_fault (rows v.file) (ends v.file) v.place
+item_fault files rows ends (End file count) = if nat_le files file then Some Stranger else end_fault (rows file) (ends file) count
 
 -- the file of an item
 abbrev pub file_of : Item → ℕ
@@ -102,6 +102,6 @@ IsLacking rows end place =
 abbrev pub IsFirstLacking : List Shelf → OrMemory Missing → Type 0
 IsFirstLacking shelves (Fault missing) =
     (missing.file < length shelves)
-    × ((other : ℕ) → other < missing.file → IsFilled (rows_in shelves other) (end_in shelves other))
-    × IsLacking (rows_in shelves missing.file) (end_in shelves missing.file) missing.place
+    × ((other : ℕ) → other < missing.file → IsFilled (rows_on_shelf shelves other) (end_on_shelf shelves other))
+    × IsLacking (rows_on_shelf shelves missing.file) (end_on_shelf shelves missing.file) missing.place
 IsFirstLacking shelves OutOfMemory = ⊥

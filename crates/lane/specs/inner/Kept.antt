@@ -11,7 +11,7 @@ use Rattle.lane.specs.declared.message.Taken.{Taken}
 use Rattle.lane.specs.declared.part.Part.{Part}
 use Rattle.lane.specs.declared.part.Part.TheVariants.{Put, Take, Close}
 use Rattle.lane.specs.Message.{IsEndedFrom}
-use Rattle.lane.specs.MessageKinds.{has_end, is_done, rows_in}
+use Rattle.lane.specs.MessageKinds.{has_end, is_done, row_count}
 use Rattle.lane.specs.MessageOrders.{IsFrom}
 use Rattle.lane.specs.Whole.{GatheredView, IsWhole}
 use Rattle.lane.specs.Ends.{Lane, PutEndView, TakeEndView, CloserView, StoppedView, ArePutsFrom, AreTakesFrom}
@@ -69,7 +69,7 @@ pub record IsOpenPut (v : List Part) (file capacity count : ℕ) : Type 0 where
   pub part : v ≡ Put file capacity (sent_in v) ∷ []
   pub list : IsFrom file 0 (sent_in v)
   pub unended : has_end (sent_in v) ≡ false
-  pub rows : rows_in (sent_in v) ≡ count
+  pub rows : row_count (sent_in v) ≡ count
   pub places : length (sent_in v) ≡ count
   pub few : count ≤ MAX_ROWS
 
@@ -77,7 +77,7 @@ pub record IsOpenPut (v : List Part) (file capacity count : ℕ) : Type 0 where
 pub record IsEndedPut (v : List Part) (file capacity count : ℕ) : Type 0 where
   pub part : v ≡ Put file capacity (sent_in v) ∷ []
   pub list : IsEndedFrom file 0 (sent_in v)
-  pub rows : rows_in (sent_in v) ≡ count
+  pub rows : row_count (sent_in v) ≡ count
   pub few : count ≤ MAX_ROWS
 
 pub record IsTake (v : List Part) (taker capacity : ℕ) : Type 0 where
@@ -101,7 +101,7 @@ pub record IsAllIn (v : List Part) (takers capacity : ℕ) : Type 0 where
 
 pub record IsGathered (v : List Part) (count : ℕ) : Type 0 where
   pub whole : IsWhole (gathering_in v)
-  pub rows : sum_by rows_in (sents_in v) ≡ count
+  pub rows : sum_by row_count (sents_in v) ≡ count
 
 -- the view is a closer's
 abbrev pub IsClosers : List Part → Type 0
@@ -114,7 +114,7 @@ pub record IsJoining (files takers capacity : ℕ) (lane : Lane) (all rest : Lis
   pub lists : sents_in v ++ map (λ p. p.sent) rest ≡ map (λ p. p.sent) all
   pub puts : ArePutsFrom lane files (length (sents_in v)) rest
   pub ended : AllByRecursion (λ l. has_end l ≡ true) (sents_in v)
-  pub rows : sum_by rows_in (sents_in v) ≡ count
+  pub rows : sum_by row_count (sents_in v) ≡ count
   pub few : count ≤ length (sents_in v) * MAX_ROWS
 
 -- the ended parts of all files joined the closer's

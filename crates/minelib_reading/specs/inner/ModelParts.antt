@@ -47,8 +47,8 @@ abbrev pub values_said : ℕ → List Value → Result (List ℤ) TextKind
 values_said before values =
     if not (whole_at values 0 == before) then Err Order else Ok (row_said values)
 
-unfoldable pub values_of : ℕ → ℕ → ℕ → List (List ℕ) → Result (List ℤ) TextKind
-values_of n destinations before fields =
+unfoldable pub values_of_line : ℕ → ℕ → ℕ → List (List ℕ) → Result (List ℤ) TextKind
+values_of_line n destinations before fields =
     read text_kinds (values_form n destinations) fields >>= values_said before
 
 unfoldable pub coef_of : Problem → ℕ → ℕ → ℕ → List (List ℕ) → Result Coef TextKind

@@ -18,9 +18,9 @@ is_in_rows from [] c = false
 is_in_rows from (row ∷ rows) c = is_in_row from row c || is_in_rows from rows c
 
 -- no row is without codes, none begins before the one before it is past, nor before `low`, and all are past at `high`
-abbrev pub AreApart : ℕ → List Row → ℕ → Type 0
-AreApart low [] high = low ≤ high
-AreApart low (row ∷ rows) high = (low ≤ row.first) × (row.first < row.past) × AreApart row.past rows high
+abbrev pub LieApart : ℕ → List Row → ℕ → Type 0
+LieApart low [] high = low ≤ high
+LieApart low (row ∷ rows) high = (low ≤ row.first) × (row.first < row.past) × LieApart row.past rows high
 
 -- no further apart than a model's rows and benches are
 pub record IsWithin (extent : Extent) (low high : Block) : Type 0 where
@@ -29,13 +29,13 @@ pub record IsWithin (extent : Extent) (low high : Block) : Type 0 where
 
 -- up to the distance `up` the rows tell which block is above which
 pub record Tells (grid : Grid) (cone : Cone) (extent : Extent) (up : ℕ) (rows : List Row) : Type 0 where
-  pub apart : AreApart 0 rows up
+  pub apart : LieApart 0 rows up
   pub told : (low high : Block) → IsWithin extent low high → is_in_rows (place_code low) rows (place_code high) ≡ (nat_lt (place_code high) (place_code low + up) && is_above grid cone low high)
 
 -- the rows tell of all
 pub record IsTable (grid : Grid) (cone : Cone) (extent : Extent) (rows : List Row) : Type 0 where
   pub high : ℕ
-  pub apart : AreApart 0 rows high
+  pub apart : LieApart 0 rows high
   pub told : (low high : Block) → IsWithin extent low high → is_in_rows (place_code low) rows (place_code high) ≡ is_above grid cone low high
 
 -- the distance from a block to the codes of the row i of the bench dz above, `rows` rows south of it being row 0
@@ -57,4 +57,4 @@ pasts rows = map (λ row. row.past) rows
 
 -- the rows lie in order
 abbrev pub AreInOrder : List Row → Type 0
-AreInOrder rows = (high : ℕ) × AreApart 0 rows high
+AreInOrder rows = (high : ℕ) × LieApart 0 rows high

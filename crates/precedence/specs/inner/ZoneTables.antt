@@ -27,10 +27,10 @@ pub record HasTables (grid : Grid) (cones : List Cone) (extent : Extent) (tables
   pub same : (z : ℕ) (cone : Cone) (table : ConeTable) → z < length cones → (slice_index_or tables (slice_index of_zone z) table).cone ≡ slice_index_or cones z cone
   pub told : All (IsTold grid extent) tables
 
-abbrev pub rows_in : Option ConeTable → List Row
-rows_in None = []
-rows_in (Some table) = table.rows.items
+abbrev pub rows_of_table : Option ConeTable → List Row
+rows_of_table None = []
+rows_of_table (Some table) = table.rows.items
 
 -- the rows of a zone's cone
 abbrev pub zone_rows : List ConeTable → List ℕ → ℕ → List Row
-zone_rows tables of_zone zone = rows_in (slice_get tables (slice_index of_zone zone))
+zone_rows tables of_zone zone = rows_of_table (slice_get tables (slice_index of_zone zone))

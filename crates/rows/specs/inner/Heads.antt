@@ -5,8 +5,8 @@ use Rattle.rows.specs.declared.head.Head.{Head}
 use Rattle.rows.specs.declared.item.Valued.{Valued}
 
 -- the row of a head, where these are the worths of all rows
-abbrev pub row_of : List ℤ → Head → Valued
-row_of worths h = record { file = h.file; place = h.place; block = h.block; worths = take h.count (drop h.from worths) }
+abbrev pub row_of_head : List ℤ → Head → Valued
+row_of_head worths h = record { file = h.file; place = h.place; block = h.block; worths = take h.count (drop h.from worths) }
 
 -- the head's worths, 1 to 8, stand among these
 abbrev pub IsHeld : List ℤ → Head → Type 0

@@ -1,7 +1,7 @@
 use Rattle.std.proofs.Common.{◌≡◌, ◌≤◌, List, None, map, refl, sym, ◌∙◌, ap, subst, arith, length, All}
 use Rattle.std.proofs.lemmas.List.{length-map}
 use Rattle.std.proofs.lemmas.Result.{err_from_is_err_and}
-use Rattle.lane.specs.MessageKinds.{rows_in}
+use Rattle.lane.specs.MessageKinds.{row_count}
 use Rattle.lane.specs.declared.message.Taken.{Taken}
 use Rattle.mine_instance.specs.OfModel.{instance}
 use Rattle.precedence.specs.Identifier.{blocks_of_rows}
@@ -67,7 +67,7 @@ collect-requires-clause-few g c =
     let none : refusal_in 0 handed.answers.items ≡ None = ap (refusal_in 0) (sym c.as_slice.ensures.value)
     ∙ c.in_ok-require_read.ensures.read in
     let read = all_read grid lefts sures handed.answers.items handed.gathered.sent c.requires.read none in
-    subst (λ (sents : List (List Taken)). All (λ sent. rows_in sent ≤ 1000000) sents) (sym read.sent) (few_sents grid files 0 read.texts)
+    subst (λ (sents : List (List Taken)). All (λ sent. row_count sent ≤ 1000000) sents) (sym read.sent) (few_sents grid files 0 read.texts)
 
 -- what the collected rows say of the model
 model : (g : Over) (c : In_ok-rows g)
