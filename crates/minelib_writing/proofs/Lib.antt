@@ -1,4 +1,5 @@
 pub mod BestFacts
+pub mod CentsFacts
 pub mod ChosenFacts
 pub mod CoefFacts
 pub mod Digits

@@ -5,14 +5,18 @@ ghost use Rattle.std.specs.List.{flat_map};
 ghost use Rattle.pit_units.specs.Decimal.{shortest};
 ghost use Rattle.mine_instance.specs.BlockValues.{values_in};
 ghost use Rattle.mine_instance.specs.Greatest.{greatest};
+ghost use Rattle.mine_instance.specs.OfModel.{in_hundreds};
 ghost use Rattle.minelib_lines.specs.Kept.{IsInDecimalRange};
 ghost use Rattle.minelib_lines.specs.Lines.{line_of, lines_from};
 ghost use Rattle.minelib_writing.specs.Written.{greatest_fields, value_fields};
 
+use crate::cents::put_cents_behind;
 use crate::fields::{put_decimal_behind, put_whole, put_whole_behind};
 use crate::sections::Section;
 use mine_instance::block_values::BlockValues;
+use mine_instance::greatest::{first_greatest_of_cents, greatest};
 use mine_instance::value_list::ValueList;
+use pit_units::Dec;
 use std::alloc::{AllocError, Global};
 
 /// The values of each block.
@@ -58,13 +62,37 @@ fn put_values(
     Ok(())
 }
 
+// Appends values, each behind a space.
+#[inline(always)]
 fn put_decimals(alloc: Global, out: &mut Vec<u8>, values: BlockValues) -> Result<(), AllocError>
     ensures text { OnOk result (out.new.items
         ≡ out.old.items ++ flat_map (λ value. 32 ∷ shortest value) (values_in values.entry)) }
     ensures kept { OnOk result (All IsInDecimalRange (values_in values.entry)) }
 {
-    for destination in 0..values.len() {
-        put_decimal_behind(alloc, out, b' ', values.at(destination))?;
+    match values {
+        BlockValues::Hundreds(values) => put_hundreds(alloc, out, values),
+        BlockValues::Cents(cents) => put_cents(out, cents),
+    }
+}
+
+fn put_hundreds(alloc: Global, out: &mut Vec<u8>, values: &[Dec]) -> Result<(), AllocError>
+    ensures text { OnOk result (out.new.items
+        ≡ out.old.items ++ flat_map (λ value. 32 ∷ shortest value) values.now) }
+    ensures kept { OnOk result (All IsInDecimalRange values.now) }
+{
+    for value in values {
+        put_decimal_behind(alloc, out, b' ', *value)?;
+    }
+    Ok(())
+}
+
+fn put_cents(out: &mut Vec<u8>, values: &[i64]) -> Result<(), AllocError>
+    ensures text { OnOk result (out.new.items
+        ≡ out.old.items ++ flat_map (λ cents. 32 ∷ shortest (in_hundreds cents)) values.now) }
+    ensures kept { OnOk result (All (λ cents. IsInDecimalRange (in_hundreds cents)) values.now) }
+{
+    for cents in values {
+        put_cents_behind(out, b' ', *cents)?;
     }
     Ok(())
 }
@@ -110,7 +138,27 @@ fn put_greatest(
     ensures kept { OnOk result (IsInDecimalRange (greatest (values_in values.entry))) }
 {
     put_whole(out, id as u64)?;
-    put_decimal_behind(alloc, out, b' ', values.greatest())?;
+    put_greatest_decimal(alloc, out, values)?;
     out.push(b'\n')?;
     Ok(())
+}
+
+// Appends the greatest of some values behind a space.
+#[inline(always)]
+fn put_greatest_decimal(
+    alloc: Global,
+    out: &mut Vec<u8>,
+    values: BlockValues,
+) -> Result<(), AllocError>
+    requires { 0 < length (values_in values) }
+    ensures text { OnOk result (out.new.items
+        ≡ out.old.items ++ 32 ∷ shortest (greatest (values_in values.entry))) }
+    ensures kept { OnOk result (IsInDecimalRange (greatest (values_in values.entry))) }
+{
+    match values {
+        BlockValues::Hundreds(values) => put_decimal_behind(alloc, out, b' ', greatest(values)),
+        BlockValues::Cents(cents) => {
+            put_cents_behind(out, b' ', cents[first_greatest_of_cents(cents)])
+        }
+    }
 }

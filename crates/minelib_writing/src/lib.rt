@@ -2,6 +2,7 @@
 #![tactic(auto)]
 
 mod block_sections;
+mod cents;
 mod coef_lines;
 mod fields;
 mod files;
