@@ -1,8 +1,7 @@
 -- What contracts see of items while they are packed, and when a list of items is full.
-use Rattle.std.specs.Prelude.{◌≡◌, ℕ, ◌≤◌, ℤ, List, [], vec_len, vec_capacity}
+use Rattle.std.specs.Prelude.{◌≡◌, ℕ, ◌≤◌, List, vec_len, vec_capacity}
 use Rattle.std.specs.Global.{Vec}
 use Rattle.rows.specs.declared.item.Item.{Item}
-use Rattle.rows.specs.declared.item.Item.TheVariants.{Row, End}
 
 -- the items, for how many more items and how many more worths there is room, and how many worths each row has
 pub record PackingView : Type 0 where
@@ -10,11 +9,6 @@ pub record PackingView : Type 0 where
   pub room : ℕ
   pub worths_room : ℕ
   pub width : ℕ
-
--- the worths of an item, none for an end mark
-abbrev pub item_worths : Item → List ℤ
-item_worths (Row v) = v.worths
-item_worths (End file rows) = []
 
 -- the list has no room for one more item of so many worths
 abbrev pub IsFullFor : ℕ → PackingView → Type 0

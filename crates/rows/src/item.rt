@@ -1,8 +1,5 @@
 //! What a valuer hands on of the messages that it took.
 
-ghost use Rattle.std.specs.Prelude.{◌≡◌};
-ghost use Rattle.rows.specs.PackingView.{item_worths};
-
 use crate::worths::Worths;
 use pit_parts::block::Block;
 
@@ -24,16 +21,4 @@ pub enum Item {
     Row(Valued),
     /// The end mark of a file, with the number of rows that it sent.
     End { file: u8, rows: u32 },
-}
-
-impl Item {
-    /// Its worths, none for an end mark.
-    pub fn worths(&self) -> &[i128]
-        ensures { result.now ≡ item_worths self.now }
-    {
-        match self {
-            Item::Row(row) => row.worths.as_slice(),
-            Item::End { .. } => &[],
-        }
-    }
 }
