@@ -4,6 +4,7 @@ use Rattle.std.specs.Int.{abs_diff}
 use Rattle.pit_parts.specs.declared.block.Block.{Block}
 use Rattle.pit_parts.specs.declared.cone.Cone.{Cone}
 use Rattle.pit_parts.specs.declared.grid.Grid.{Grid}
+use Rattle.pit_parts.specs.declared.ranges.TheConstants.{GRID_CELLS}
 use Rattle.precedence.specs.Codes.{place_code}
 use Rattle.precedence.specs.Cone.{is_above}
 use Rattle.precedence.specs.declared.cones.cone_rows.Row.{Row}
@@ -44,7 +45,7 @@ center rows dz i = dz * 10 ^ 10 + i * 10 ^ 5 - rows * 10 ^ 5
 
 -- where the codes of that row begin at the earliest
 abbrev pub edge : ℕ → ℕ → ℕ → ℕ
-edge rows dz i = dz * 10 ^ 10 + i * 10 ^ 5 - (rows * 10 ^ 5 + 20000)
+edge rows dz i = dz * 10 ^ 10 + i * 10 ^ 5 - (rows * 10 ^ 5 + 2 * GRID_CELLS)
 
 -- how many codes, from the first on, are below t
 abbrev pub start_of : ℕ → List ℕ → ℕ
