@@ -40,6 +40,7 @@ impl Model for SeatedSender {
 }
 
 impl SeatedSender {
+    /// A sender with the pass of its seat.
     pub fn new(sender: Sender, pass: Seat) -> SeatedSender
         requires seat { IsSeatAt (sends_on sender) pass }
         ensures value { result ≡ seated (sends_on sender) pass }

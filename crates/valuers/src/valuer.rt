@@ -39,14 +39,19 @@ pub fn value_all<R: Wait, G: Gate>(
     destinations: &[Destination],
     gate: &G,
 ) -> ValuerResult
+    // Of 1 to 8 destinations.
     requires some { 1 ≤ length destinations.now }
     requires few { length destinations.now ≤ MAX_DESTINATIONS }
+
+    // What was taken.
     ensures taker { result.taker
         ≡ record take_end {
           took = take_end.took
               ++ drop (length take_end.took) result.taker.took;
         } }
     ensures done { is_done result.taker.took ≡ true }
+
+    // What is kept of it, and that memory is refused only where the list is full.
     ensures items { IsFalse result.memory
         → result.items ≡ items_by (formulas_of destinations.now)
         (drop (length take_end.took) result.taker.took) }
@@ -74,14 +79,19 @@ pub fn value_packed<R: Wait, G: Gate>(
     destinations: &[Destination],
     gate: &G,
 ) -> ValuerResult<Packing<Global>>
+    // Of 1 to 8 destinations.
     requires some { 1 ≤ length destinations.now }
     requires few { length destinations.now ≤ MAX_DESTINATIONS }
+
+    // What was taken.
     ensures taker { result.taker
         ≡ record take_end {
           took = take_end.took
               ++ drop (length take_end.took) result.taker.took;
         } }
     ensures done { is_done result.taker.took ≡ true }
+
+    // What is kept of it, and that memory is refused only where the list is full.
     ensures items { IsFalse result.memory
         → result.items.items ≡ items_by (formulas_of destinations.now)
         (drop (length take_end.took) result.taker.took) }
