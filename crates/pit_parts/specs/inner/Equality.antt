@@ -1,5 +1,5 @@
 -- A test tells whether two things are equal; so does `==` of bands.
-use Rattle.std.proofs.Common.{◌≡◌, ◌↔◌, List, Bool, true, refl, sym, ap, eq-eqb}
+use Rattle.std.proofs.Common.{◌≡◌, ◌↔◌, ◌∙◌, ◌&&◌, ◌==◌, List, Bool, true, refl, sym, ap, subst, eq-eqb}
 use Rattle.std.proofs.lemmas.Bool.{and_parts, eqb-true}
 use Rattle.std.specs.Bool.{Decides, one_answer, IsTrue}
 use Rattle.std.specs.Cmp.{IsEquivalence}
@@ -17,7 +17,7 @@ equivalence {K} {E} told = record {
 
 -- it is enough that it holds of a thing and itself
 pub decides : {K : Type 0} (E : K → K → Bool) → ((x y : K) → E x y ≡ true → x ≡ y) → ((x : K) → E x x ≡ true) → (x y : K) → Decides (E x y) (x ≡ y)
-decides E same own x y = (same x y, λ e. rw (← e) (own x))
+decides E same own x y = (same x y, λ e. subst (λ w. E x w ≡ true) e (own x))
 
 bands_same : (b c : Band) → band_eq b c ≡ true → b ≡ c
 bands_same b c h =
@@ -27,7 +27,8 @@ bands_same b c h =
     λ i. record { start = start i; recovery = recovery i }
 
 band_own : (b : Band) → band_eq b b ≡ true
-band_own b = rw (eq-eqb b.start b.start refl, eq-eqb b.recovery b.recovery refl) refl
+band_own b =
+    ap (λ start. start && (b.recovery == b.recovery)) (eq-eqb b.start b.start refl) ∙ eq-eqb b.recovery b.recovery refl
 
 pub bands_told : (bands others : List Band) → Decides (bands_eq bands others) (bands ≡ others)
 bands_told = pointwise_decides (decides band_eq bands_same band_own)
@@ -37,4 +38,4 @@ bands_equivalence = equivalence bands_told
 
 -- the answer of the test, as a fact
 pub answered : {K : Type 0} {E : K → K → Bool} → ((x y : K) → Decides (E x y) (x ≡ y)) → (x y : K) (r : Bool) → r ≡ E x y → IsTrue r ↔ (x ≡ y)
-answered told x y r e = rw e (told x y)
+answered {E = E} told x y r e = subst (λ answer. IsTrue answer ↔ (x ≡ y)) (sym e) (told x y)
