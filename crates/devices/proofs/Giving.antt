@@ -5,7 +5,7 @@ use Rattle.std.proofs.Math.Seq.{take-append-add}
 use borrow.Rule.Slice.PartMut.{put_mid, post_of}
 use Rattle.std.specs.Io.KnownBytes.{IsAtEnd}
 use Rattle.devices.specs.Feed.{GaveBehind, put_back}
-use Rattle.devices.specs.declared.feed.FeedFault.{FeedFault}
+use Rattle.devices.specs.declared.feeds.feed.FeedFault.{FeedFault}
 
 -- bytes put back in two steps
 pub put_back-append : (a b : List ℕ) (left : Option (List ℕ)) → put_back a (put_back b left) ≡ put_back (a ++ b) left

@@ -1,7 +1,7 @@
 -- What a sink tells before and after one step of a writer, which may hold back bytes in a buffer.
 use Rattle.std.specs.Prelude.{◌≡◌, ◌+◌, ℕ, List}
 use Rattle.devices.specs.Device.{added, IsFront}
-use Rattle.devices.specs.declared.sink.SinkFault.{SinkFault}
+use Rattle.devices.specs.declared.sinks.sink.SinkFault.{SinkFault}
 use Rattle.pit_units.specs.declared.or_memory.OrMemory.{OrMemory}
 use Rattle.pit_units.specs.declared.or_memory.OrMemory.TheVariants.{Fault, OutOfMemory}
 use Rattle.devices.specs.SinkState.{SinkState}

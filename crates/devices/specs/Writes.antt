@@ -2,8 +2,8 @@
 use Rattle.std.specs.Prelude.{◌<◌, ℕ, List, length, Result, MatchResult}
 use Rattle.devices.specs.SinkState.{SinkState, IsWritten, IsCutOff}
 use Rattle.devices.specs.SinkSteps.{refusals, IsAppended, IsAppendCut}
-use Rattle.devices.specs.declared.slices.TheConstants.{LARGE}
-use Rattle.devices.specs.declared.sink.SinkFault.{SinkFault}
+use Rattle.devices.specs.declared.sinks.slices.TheConstants.{LARGE}
+use Rattle.devices.specs.declared.sinks.sink.SinkFault.{SinkFault}
 use Rattle.pit_units.specs.declared.or_memory.OrMemory.{OrMemory}
 
 -- on `Ok` the sink has the text; else it was cut off, and refused as many calls as the fault says

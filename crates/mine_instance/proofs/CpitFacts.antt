@@ -12,7 +12,7 @@ use Rattle.mine_instance.specs.Greatest.{greatest}
 use Rattle.mine_instance.specs.OfCpit.{cpit, is_chosen, without_destination, destination_of}
 use Rattle.mine_instance.specs.Order.{coef_comes_before}
 use Rattle.mine_instance.specs.Valid.{IsValid}
-use Rattle.mine_instance.specs.declared.coef.Coef.{Coef}
+use Rattle.mine_instance.specs.declared.coefs.coef.Coef.{Coef}
 use Rattle.mine_instance.specs.Instance.{Instance}
 use Rattle.mine_instance.proofs.PairFacts.{pairs_map}
 

@@ -9,9 +9,9 @@ use Rattle.std.proofs.lemmas.List.Sums.{sum_by-le}
 use Rattle.std.proofs.Math.Nat.{div-add-mod, div-lt_iff_lt-mul, mul-le-mul_right}
 use Rattle.std.proofs.Math.Seq.{drop-append_seam, drop-drop, take-append_seam}
 use Rattle.pit_parts.specs.declared.block.Block.{Block}
-use Rattle.mine_instance.specs.declared.coef.Coef.{Coef}
-use Rattle.mine_instance.specs.declared.found_coefs.FoundCoefs.TheInside.{Inside}
-use Rattle.mine_instance.specs.declared.found_coefs.HeavyBlock.{HeavyBlock}
+use Rattle.mine_instance.specs.declared.coefs.coef.Coef.{Coef}
+use Rattle.mine_instance.specs.declared.coefs.found.FoundCoefs.TheInside.{Inside}
+use Rattle.mine_instance.specs.declared.coefs.found.HeavyBlock.{HeavyBlock}
 use Rattle.mine_instance.specs.OfModel.{block_coefs, coef_at, coefs_of}
 use Rattle.mine_instance.specs.inner.FoundCoefFields.{heavy_one, heavy_of, heavy_coef, heavy_coefs, found_coefs, found_in}
 use Rattle.mine_instance.proofs.BuildFacts.{length-flat}

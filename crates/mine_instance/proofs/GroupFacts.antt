@@ -7,8 +7,8 @@ use Rattle.std.proofs.lemmas.List.Elements.{filter-append}
 use Rattle.mine_instance.specs.Greatest.{first_greatest}
 use Rattle.mine_instance.specs.Groups.{coef_of, coefs_in, pairs_of}
 use Rattle.mine_instance.specs.OfCpit.{is_chosen, without_destination}
-use Rattle.mine_instance.specs.declared.coef.Coef.{Coef}
-use Rattle.mine_instance.specs.declared.coef_group.CoefGroup.{CoefGroup}
+use Rattle.mine_instance.specs.declared.coefs.coef.Coef.{Coef}
+use Rattle.mine_instance.specs.declared.coefs.group.CoefGroup.{CoefGroup}
 
 -- the coefficients so far, and those of a group
 pub group_more : (all group : List Coef) (from n : ℕ) → group ≡ take n (drop from all) → take (from + n) all ≡ take from all ++ group

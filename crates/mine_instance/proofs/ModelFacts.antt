@@ -17,14 +17,14 @@ use Rattle.pit_parts.specs.Formula.{IsRuled}
 use Rattle.pit_parts.specs.PlanKept.{IsPlan}
 use Rattle.pit_parts.specs.Worth.{worth, IsWorth}
 use Rattle.pit_parts.specs.declared.block.Block.{Block}
-use Rattle.pit_parts.specs.declared.formula.Formula.{Formula}
-use Rattle.pit_parts.specs.declared.formula.NamedFormula.{NamedFormula}
+use Rattle.pit_parts.specs.declared.formulas.formula.Formula.{Formula}
+use Rattle.pit_parts.specs.declared.formulas.formula.NamedFormula.{NamedFormula}
 use Rattle.rows.specs.Valued.{worths_by}
 use Rattle.mine_instance.proofs.PairFacts.{pairs_append, pairs_map, rising_differ}
 use Rattle.mine_instance.specs.Valid.{AreLimits, AreCoefs, ArePreds, IsValid}
 use Rattle.mine_instance.specs.OfModel.{values_of, in_hundreds, covers, pair_with, covering, covered, coef_at, block_coefs, coefs_of, instance_of, instance_with}
 use Rattle.mine_instance.specs.Order.{coef_comes_before}
-use Rattle.mine_instance.specs.declared.coef.Coef.{Coef}
+use Rattle.mine_instance.specs.declared.coefs.coef.Coef.{Coef}
 
 -- one value per destination
 pub length-values_of : (plan : PlanParts) (b : Block) → length (values_of plan b) ≡ length plan.formulas

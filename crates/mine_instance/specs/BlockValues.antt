@@ -1,8 +1,8 @@
 -- The values of one block, which stand in units of 100 cents or in cents.
 use Rattle.std.specs.Prelude.{ℤ, List, map}
 use Rattle.mine_instance.specs.OfModel.{in_hundreds}
-use Rattle.mine_instance.specs.declared.block_values.BlockValues.{BlockValues}
-use Rattle.mine_instance.specs.declared.block_values.BlockValues.TheVariants.{Hundreds, Cents}
+use Rattle.mine_instance.specs.declared.values.block.BlockValues.{BlockValues}
+use Rattle.mine_instance.specs.declared.values.block.BlockValues.TheVariants.{Hundreds, Cents}
 
 -- in units of 100 cents
 abbrev pub values_in : BlockValues → List ℤ

@@ -1,9 +1,9 @@
 -- The coefficients of a group: those of one block with the same tonnes.
 use Rattle.std.specs.Prelude.{ℕ, ℤ, List, map}
-use Rattle.mine_instance.specs.declared.coef.Coef.{Coef}
-use Rattle.mine_instance.specs.declared.coef_group.CoefGroup.{CoefGroup}
-use Rattle.mine_instance.specs.declared.coef_group.Pairs.{Pairs}
-use Rattle.mine_instance.specs.declared.coef_group.Pairs.TheVariants.{Covered, One}
+use Rattle.mine_instance.specs.declared.coefs.coef.Coef.{Coef}
+use Rattle.mine_instance.specs.declared.coefs.group.CoefGroup.{CoefGroup}
+use Rattle.mine_instance.specs.declared.coefs.group.Pairs.{Pairs}
+use Rattle.mine_instance.specs.declared.coefs.group.Pairs.TheVariants.{Covered, One}
 
 -- the destination and the resource of each
 abbrev pub pairs_of : Pairs → List (ℕ × ℕ)

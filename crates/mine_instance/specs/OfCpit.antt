@@ -1,7 +1,7 @@
 -- The CPIT of an instance: each block goes to the first destination where it is worth most.
 use Rattle.std.specs.Prelude.{ℕ, ◌==◌, Bool, List, [], ℤ, map, filter, slice_index_or}
 use Rattle.mine_instance.specs.Greatest.{first_greatest, greatest}
-use Rattle.mine_instance.specs.declared.coef.Coef.{Coef}
+use Rattle.mine_instance.specs.declared.coefs.coef.Coef.{Coef}
 use Rattle.mine_instance.specs.declared.cpit.CpitCoef.{CpitCoef}
 use Rattle.mine_instance.specs.Instance.{Instance}
 use Rattle.mine_instance.specs.Cpit.{CpitParts}

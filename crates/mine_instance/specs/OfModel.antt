@@ -10,7 +10,7 @@ use Rattle.pit_parts.specs.declared.resource.Resource.{Resource}
 use Rattle.precedence.specs.Cone.{preds}
 use Rattle.precedence.specs.Identifier.{id}
 use Rattle.rows.specs.Valued.{worths_by}
-use Rattle.mine_instance.specs.declared.coef.Coef.{Coef}
+use Rattle.mine_instance.specs.declared.coefs.coef.Coef.{Coef}
 use Rattle.mine_instance.specs.Instance.{Instance}
 
 -- the block of a list that has an identifier

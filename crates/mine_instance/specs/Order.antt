@@ -1,6 +1,6 @@
 -- The order of coefficients.
 use Rattle.std.specs.Prelude.{Bool, ◌==◌, ◌&&◌, ◌||◌, nat_lt}
-use Rattle.mine_instance.specs.declared.coef.Coef.{Coef}
+use Rattle.mine_instance.specs.declared.coefs.coef.Coef.{Coef}
 
 -- by block, then destination, then resource
 abbrev pub coef_comes_before : Coef → Coef → Bool

@@ -1,7 +1,7 @@
 -- An instance with the lists of its predecessors, its coefficients and its values, by how these are seen as lists.
 use Rattle.std.specs.Prelude.{ℕ, ℤ, List}
 use Rattle.mine_instance.specs.Instance.{Instance}
-use Rattle.mine_instance.specs.declared.coef.Coef.{Coef}
+use Rattle.mine_instance.specs.declared.coefs.coef.Coef.{Coef}
 use Rattle.mine_instance.specs.declared.instance.Instance.{Instance as Parts}
 
 abbrev pub seen : {P C V : Type 0} → (P → List (List ℕ)) → (C → List Coef) → (V → List (List ℤ)) → Parts P C V → Instance

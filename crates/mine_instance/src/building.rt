@@ -14,12 +14,12 @@ ghost use Rattle.mine_instance.specs.Valid.{IsValid};
 ghost use Rattle.pit_parts.specs.declared.ranges.TheConstants.{MAX_BLOCKS, MAX_DESTINATIONS, MAX_RESOURCES};
 
 use crate::blocks::Blocks;
-use crate::coef_group::Covering;
-use crate::found_coefs::FoundCoefs;
-use crate::found_values::FoundValues;
+use crate::coefs::found::FoundCoefs;
+use crate::coefs::group::Covering;
 use crate::instance::Instance;
 use crate::limits::Limits;
-use crate::value_list::ValueList;
+use crate::values::found::FoundValues;
+use crate::values::list::ValueList;
 use pit_parts::block::Block;
 use pit_parts::laws::worths_are_in_range;
 use pit_parts::plan::Plan;

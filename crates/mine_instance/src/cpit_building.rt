@@ -7,11 +7,11 @@ ghost use Rattle.mine_instance.specs.OfCpit.{cpit, is_chosen, without_destinatio
 ghost use Rattle.mine_instance.specs.Seen.{seen};
 ghost use Rattle.mine_instance.specs.Valid.{IsValid};
 
-use crate::coef_group::CoefGroup;
-use crate::coef_list::CoefList;
+use crate::coefs::group::CoefGroup;
+use crate::coefs::list::CoefList;
 use crate::cpit::{Cpit, CpitCoef, CpitCoefs};
 use crate::instance::Instance;
-use crate::value_list::ValueList;
+use crate::values::list::ValueList;
 use pit_units::Dec;
 use precedence::PredLists;
 use std::alloc::{AllocError, Global};

@@ -5,11 +5,11 @@ ghost use Rattle.mine_instance.specs.Seen.{seen};
 ghost use Rattle.mine_instance.specs.Valid.{IsValid};
 
 use crate::blocks::Blocks;
-use crate::coef::Coefs;
-use crate::coef_list::{CoefList, keep as keep_coefs};
+use crate::coefs::coef::Coefs;
+use crate::coefs::list::{CoefList, keep as keep_coefs};
 use crate::limits::Limits;
-use crate::value_list::{ValueList, keep as keep_values};
 use crate::values::Values;
+use crate::values::list::{ValueList, keep as keep_values};
 use pit_parts::name::Name;
 use pit_units::Dec;
 use precedence::{PredLists, Preds, TakePreds};

@@ -4,11 +4,17 @@ ghost use Rattle.std.specs.Prelude.{◌≡◌, ◌*◌, ◌^◌, ◌-◌, ◌<�
 ghost use Rattle.std.specs.List.{flat_map};
 ghost use Rattle.mine_instance.specs.Rows.{rows_of};
 
-use crate::block_values::BlockValues;
-use crate::value_list::ValueList;
+use crate::values::block::BlockValues;
+use crate::values::list::ValueList;
 use pit_units::Dec;
 use std::alloc::AllocError;
 use std::marker::Model;
+
+pub mod block;
+pub mod found;
+pub mod greatest;
+pub mod in_hundreds;
+pub mod list;
 
 /// The values of blocks by identifier, one per destination, in units of 100 cents. Contracts see a list of values for each block.
 #[derive(Debug, Drop)]

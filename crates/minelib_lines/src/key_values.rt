@@ -33,10 +33,7 @@ pub enum KeyValue<'a> {
 
 impl<'a> KeyValues<'a> {
     /// Of an instance, where TYPE names the problem so.
-    pub fn of_instance<P, C, V>(
-        problem: &'a [u8],
-        instance: &'a Instance<P, C, V>,
-    ) -> KeyValues<'a>
+    pub fn of_instance<P, C, V>(problem: &'a [u8], instance: &'a Instance<P, C, V>) -> KeyValues<'a>
         ensures values { value_in result
             ≡ key_value problem.now (length instance.now.blocks) (header_of instance.now) }
         ensures kept { is_name instance.now.name ≡ true }

@@ -11,7 +11,7 @@ use Rattle.minelib_reading.specs.HeaderNumbers.{number_of, with_key, count_in, i
 use Rattle.minelib_reading.specs.ModelLines.{blank_header}
 use Rattle.minelib_reading.specs.SpelledModel.{IsSingle}
 use Rattle.minelib_reading.specs.inner.ModelParts.{number_limit}
-use Rattle.minelib_reading.specs.declared.model_key.Header.{Header}
+use Rattle.minelib_reading.specs.declared.model.key.Header.{Header}
 use Rattle.minelib_lines.specs.declared.header_key.HeaderKey.{HeaderKey}
 use Rattle.minelib_lines.specs.declared.header_key.TheConstants.{KEYS}
 use Rattle.minelib_lines.specs.declared.header_key.HeaderKey.TheVariants as key

@@ -12,7 +12,7 @@ use Rattle.minelib_reading.specs.ModelLines.{blank_header, name_with}
 use Rattle.minelib_reading.specs.ModelStates.{header_stated}
 use Rattle.minelib_reading.specs.SpelledLines.{AreLines}
 use Rattle.minelib_reading.specs.SpelledModel.{AreHeaderLines, IsHeaderLine, IsSingle}
-use Rattle.minelib_reading.specs.declared.model_key.Header.{Header}
+use Rattle.minelib_reading.specs.declared.model.key.Header.{Header}
 use Rattle.minelib_lines.specs.declared.header_key.HeaderKey.{HeaderKey}
 use Rattle.minelib_lines.specs.declared.header_key.HeaderKey.TheVariants as key
 use Rattle.text_lines.specs.TextLines.{Line}

@@ -17,10 +17,10 @@ use Rattle.minelib_lines.specs.HeaderTable.{has_key, header_keys, key_word, keys
 use Rattle.minelib_reading.specs.SpelledKeys.{IsKeyLine, section_text}
 use Rattle.minelib_lines.specs.declared.header_key.HeaderKey.{HeaderKey}
 use Rattle.minelib_lines.specs.declared.header_key.HeaderKey.TheVariants as key
-use Rattle.minelib_reading.specs.declared.model_key.ModelKey.{ModelKey}
-use Rattle.minelib_reading.specs.declared.model_key.ModelKey.TheVariants as model_key
-use Rattle.minelib_reading.specs.declared.model_key.Section.{Section}
-use Rattle.minelib_reading.specs.declared.model_key.Section.TheVariants.{Heading, Objective, Coefs, Limits}
+use Rattle.minelib_reading.specs.declared.model.key.ModelKey.{ModelKey}
+use Rattle.minelib_reading.specs.declared.model.key.ModelKey.TheVariants as model_key
+use Rattle.minelib_reading.specs.declared.model.key.Section.{Section}
+use Rattle.minelib_reading.specs.declared.model.key.Section.TheVariants.{Heading, Objective, Coefs, Limits}
 use Rattle.minelib_reading.proofs.Keyless.{have_colon, keyless}
 
 -- a line with a colon is cut at the first

@@ -11,7 +11,7 @@ use Rattle.text_lines.specs.declared.text_fault.TextKind.{TextKind}
 use Rattle.text_lines.specs.declared.text_fault.TextKind.TheVariants as kind
 use Rattle.minelib_reading.specs.ModelLines.{ModelDraftView, is_next, is_ready, section_line}
 use Rattle.minelib_reading.specs.PrecLines.{all_differ, preds_form, preds_of, preds_shape, stands_in}
-use Rattle.minelib_reading.specs.declared.model_key.Section.{Section}
+use Rattle.minelib_reading.specs.declared.model.key.Section.{Section}
 use Rattle.minelib_reading.proofs.PrecLineFacts.{fine, parts}
 use Rattle.minelib_reading.proofs.PrecTests.{passed_preds, preds_pass}
 use Rattle.minelib_reading.proofs.ShapeSteps.{passed}

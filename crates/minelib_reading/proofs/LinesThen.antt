@@ -3,13 +3,13 @@ use Rattle.std.specs.Prelude.{ℕ, suc, List, [], ◌∷◌, ◌++◌, ℤ}
 use Rattle.std.proofs.Common.{subst}
 use Rattle.forms.specs.Words.{AllState, States}
 use Rattle.pit_parts.specs.declared.limit.Limit.{Limit}
-use Rattle.mine_instance.specs.declared.coef.Coef.{Coef}
+use Rattle.mine_instance.specs.declared.coefs.coef.Coef.{Coef}
 use Rattle.text_lines.specs.TextLines.{Line}
 use Rattle.minelib_lines.specs.declared.problem.Problem.{Problem}
 use Rattle.minelib_reading.specs.ModelLines.{ModelDraftView, model_grammar, model_line}
-use Rattle.minelib_reading.specs.declared.model_key.Header.{Header}
-use Rattle.minelib_reading.specs.declared.model_key.Section.{Section}
-use Rattle.minelib_reading.specs.declared.model_key.Section.TheVariants.{Heading}
+use Rattle.minelib_reading.specs.declared.model.key.Header.{Header}
+use Rattle.minelib_reading.specs.declared.model.key.Section.{Section}
+use Rattle.minelib_reading.specs.declared.model.key.Section.TheVariants.{Heading}
 
 -- what was read up to a section
 abbrev pub draft : Problem → ℕ → List ℕ → Header → Section → List (List ℤ) → List Coef → List Limit → ModelDraftView

@@ -17,11 +17,11 @@ use Rattle.text_lines.specs.Reading.{at_line, read_lines}
 use Rattle.text_lines.specs.TextLines.{Line, fields_of}
 use Rattle.minelib_lines.specs.declared.header_key.HeaderKey.{HeaderKey}
 use Rattle.minelib_lines.specs.declared.header_key.HeaderKey.TheVariants as key
-use Rattle.minelib_reading.specs.declared.model_key.ModelKey.{ModelKey}
-use Rattle.minelib_reading.specs.declared.model_key.ModelKey.TheVariants as model_key
+use Rattle.minelib_reading.specs.declared.model.key.ModelKey.{ModelKey}
+use Rattle.minelib_reading.specs.declared.model.key.ModelKey.TheVariants as model_key
 use Rattle.minelib_lines.specs.declared.problem.Problem.{Problem}
-use Rattle.minelib_reading.specs.declared.model_key.Section.{Section}
-use Rattle.minelib_reading.specs.declared.model_key.Section.TheVariants.{Heading, Objective, Coefs, Limits}
+use Rattle.minelib_reading.specs.declared.model.key.Section.{Section}
+use Rattle.minelib_reading.specs.declared.model.key.Section.TheVariants.{Heading, Objective, Coefs, Limits}
 use Rattle.text_lines.specs.declared.text_fault.TextKind.{TextKind}
 use Rattle.text_lines.specs.declared.text_fault.TextKind.TheVariants.{Fields, Order, Count, Name, Twice, Key, Missing}
 use Rattle.minelib_reading.specs.SpelledKeys.{IsKeyLine, section_text}
@@ -31,7 +31,7 @@ use Rattle.minelib_reading.proofs.LimitLineFacts.{limit_fine, bound_plain}
 use Rattle.minelib_reading.proofs.ValuesLineFacts.{many_fine, many_plain}
 use Rattle.std.specs.Str.{bytes_eq}
 use Rattle.pit_parts.specs.declared.limit.Limit.{Limit}
-use Rattle.mine_instance.specs.declared.coef.Coef.{Coef}
+use Rattle.mine_instance.specs.declared.coefs.coef.Coef.{Coef}
 use Rattle.minelib_reading.proofs.FormFields.{ArePlain, spelled_keyless}
 use Rattle.forms.proofs.FormFacts.{read_spelled}
 use Rattle.text_lines.proofs.ReadSteps.{bind_then}

@@ -10,7 +10,7 @@ use Rattle.forms.specs.Words.{Value, Millionths, Bytes, whole, whole_at, whole_s
 use Rattle.pit_parts.specs.declared.limit.Limit.{Limit}
 use Rattle.pit_parts.specs.PlanKept.{is_turned, stands_before}
 use Rattle.mine_instance.specs.Order.{coef_comes_before}
-use Rattle.mine_instance.specs.declared.coef.Coef.{Coef}
+use Rattle.mine_instance.specs.declared.coefs.coef.Coef.{Coef}
 use Rattle.text_lines.specs.declared.text_fault.TextKind.TheVariants.{Order, Count, Twice, Key, Missing}
 use Rattle.minelib_lines.specs.HeaderTable.{field_of, key_value, type_text}
 use Rattle.minelib_lines.specs.LineValues.{coef_values, limit_values, values_values}
@@ -20,10 +20,10 @@ use Rattle.minelib_reading.specs.ItemForms.{bytes_in, coef_form, coef_said, limi
 use Rattle.minelib_reading.specs.ModelLines.{ModelDraftView, coef_line, first_of, header_line, is_behind, is_counted, is_heading, is_next, is_ready, last_of, limit_line, name_with, section_line, stray_line, values_line}
 use Rattle.minelib_reading.specs.ModelStates.{header_stated}
 use Rattle.minelib_reading.specs.SpelledModel.{SpellCoef, SpellLimit, SpellValues}
-use Rattle.minelib_reading.specs.declared.model_key.Header.{Header}
+use Rattle.minelib_reading.specs.declared.model.key.Header.{Header}
 use Rattle.minelib_lines.specs.declared.header_key.HeaderKey.{HeaderKey}
 use Rattle.minelib_lines.specs.declared.header_key.HeaderKey.TheVariants as key
-use Rattle.minelib_reading.specs.declared.model_key.Section.{Section}
+use Rattle.minelib_reading.specs.declared.model.key.Section.{Section}
 use Rattle.minelib_reading.proofs.CoefLineFacts.{coef_are, coef_fine, said_again as coef_said_again, said_destination}
 use Rattle.minelib_reading.proofs.FormFields.{whole_itself}
 use Rattle.minelib_reading.proofs.HeaderFacts.{count_there}

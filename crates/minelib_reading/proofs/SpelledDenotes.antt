@@ -10,7 +10,7 @@ use Rattle.mine_instance.specs.CpitKept.{cpit_of}
 use Rattle.mine_instance.specs.OfCpit.{without_destination}
 use Rattle.mine_instance.specs.OfModel.{instance_with}
 use Rattle.mine_instance.specs.Valid.{ArePredsOf}
-use Rattle.mine_instance.specs.declared.coef.Coef.{Coef}
+use Rattle.mine_instance.specs.declared.coefs.coef.Coef.{Coef}
 use Rattle.mine_instance.specs.declared.cpit.CpitCoef.{CpitCoef}
 use Rattle.pit_parts.specs.declared.block.Block.{Block}
 use Rattle.minelib_lines.specs.LineValues.{at_only_destination, block_values, preds_values}

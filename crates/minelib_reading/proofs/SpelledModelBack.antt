@@ -9,7 +9,7 @@ use Rattle.forms.specs.Words.{Field, Value, whole, whole_stated, AllState, check
 use Rattle.pit_parts.specs.PlanKept.{stands_before}
 use Rattle.pit_parts.specs.declared.limit.Limit.{Limit}
 use Rattle.mine_instance.specs.Order.{coef_comes_before}
-use Rattle.mine_instance.specs.declared.coef.Coef.{Coef}
+use Rattle.mine_instance.specs.declared.coefs.coef.Coef.{Coef}
 use Rattle.text_lines.specs.TextLines.{Line, fields_of}
 use Rattle.text_lines.specs.declared.text_fault.TextKind.TheVariants.{Count, Twice, Key, Missing}
 use Rattle.minelib_lines.specs.HeaderTable.{has_key, key_value, key_word, type_text}
@@ -24,11 +24,11 @@ use Rattle.minelib_reading.specs.SpelledKeys.{IsKeyLine, section_text}
 use Rattle.minelib_reading.specs.SpelledLines.{AreLines}
 use Rattle.minelib_reading.specs.SpelledModel.{AreHeaderLines, AreModelLines, IsHeaderLine, IsSingle, SpellCoef, SpellLimit, SpellValues}
 use Rattle.minelib_reading.specs.StatedModel.{StatedModel}
-use Rattle.minelib_reading.specs.declared.model_key.Header.{Header}
+use Rattle.minelib_reading.specs.declared.model.key.Header.{Header}
 use Rattle.minelib_lines.specs.declared.header_key.HeaderKey.{HeaderKey}
 use Rattle.minelib_lines.specs.declared.header_key.HeaderKey.TheVariants as key
-use Rattle.minelib_reading.specs.declared.model_key.Section.{Section}
-use Rattle.minelib_reading.specs.declared.model_key.Section.TheVariants.{Heading, Objective, Coefs, Limits}
+use Rattle.minelib_reading.specs.declared.model.key.Section.{Section}
+use Rattle.minelib_reading.specs.declared.model.key.Section.TheVariants.{Heading, Objective, Coefs, Limits}
 use Rattle.minelib_reading.proofs.CoefLineFacts.{coef_plain}
 use Rattle.minelib_reading.proofs.FormFields.{ArePlain, from_zero, spelled_keyless}
 use Rattle.minelib_reading.proofs.HeaderFacts.{all_given, contains_cases, each_with, first_given, with_same}

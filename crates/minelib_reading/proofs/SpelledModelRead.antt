@@ -8,7 +8,7 @@ use Rattle.pit_parts.specs.PlanKept.{RiseStrictly, stands_before}
 use Rattle.mine_instance.specs.Order.{coef_comes_before}
 use Rattle.mine_instance.proofs.OrderLaws.{coef_comes_before_through, stands_before_through}
 use Rattle.pit_parts.specs.declared.limit.Limit.{Limit}
-use Rattle.mine_instance.specs.declared.coef.Coef.{Coef}
+use Rattle.mine_instance.specs.declared.coefs.coef.Coef.{Coef}
 use Rattle.text_lines.specs.TextLines.{Line, fields_of}
 use Rattle.minelib_lines.specs.declared.problem.Problem.{Problem}
 use Rattle.minelib_reading.specs.HeaderNumbers.{count_in, is_complete}
@@ -22,8 +22,8 @@ use Rattle.minelib_reading.specs.SpelledLines.{AreLines}
 use Rattle.minelib_reading.specs.SpelledModel.{AreModelLines, SpellCoef, SpellLimit, SpellValues}
 use Rattle.minelib_lines.specs.declared.header_key.HeaderKey.{HeaderKey}
 use Rattle.minelib_lines.specs.declared.header_key.HeaderKey.TheVariants as key
-use Rattle.minelib_reading.specs.declared.model_key.Section.{Section}
-use Rattle.minelib_reading.specs.declared.model_key.Section.TheVariants.{Heading, Objective, Coefs, Limits}
+use Rattle.minelib_reading.specs.declared.model.key.Section.{Section}
+use Rattle.minelib_reading.specs.declared.model.key.Section.TheVariants.{Heading, Objective, Coefs, Limits}
 use Rattle.minelib_reading.proofs.HeaderLines.{Heads, WholeHeader, heads_more, heads_none, heads_whole}
 use Rattle.minelib_reading.proofs.ItemLines.{line_more}
 use Rattle.minelib_reading.proofs.KeyLines.{next_by}

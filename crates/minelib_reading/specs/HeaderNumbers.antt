@@ -3,7 +3,7 @@ use Rattle.std.specs.Prelude.{ℕ, ◌==◌, Bool, map, Option, Some, None, is_s
 use Rattle.std.specs.List.{list_all}
 use Rattle.forms.specs.Words.{Value, millionths, whole_stated}
 use Rattle.minelib_lines.specs.HeaderTable.{header_keys, place}
-use Rattle.minelib_reading.specs.declared.model_key.Header.{Header}
+use Rattle.minelib_reading.specs.declared.model.key.Header.{Header}
 use Rattle.minelib_lines.specs.declared.header_key.HeaderKey.{HeaderKey}
 use Rattle.minelib_lines.specs.declared.header_key.HeaderKey.TheVariants as key
 

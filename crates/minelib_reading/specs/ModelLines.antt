@@ -8,22 +8,22 @@ use Rattle.forms.specs.Words.{Value, Bytes, whole_at, whole_stated, Grammar, rea
 use Rattle.pit_parts.specs.PlanKept.{is_turned, stands_before}
 use Rattle.pit_parts.specs.declared.limit.Limit.{Limit}
 use Rattle.mine_instance.specs.Order.{coef_comes_before}
-use Rattle.mine_instance.specs.declared.coef.Coef.{Coef}
+use Rattle.mine_instance.specs.declared.coefs.coef.Coef.{Coef}
 use Rattle.minelib_reading.specs.HeaderNumbers.{no_key, with_key, count_in, is_given, is_complete, number_said}
 use Rattle.minelib_reading.specs.ItemForms.{bytes_in, coef_form, coef_said, limit_form, limit_said, row_said, values_form}
 use Rattle.minelib_lines.specs.HeaderTable.{field_of, key_word, keys_of}
 use Rattle.minelib_reading.specs.SpelledKeys.{section_text}
 use Rattle.text_lines.specs.LineKinds.{text_kinds}
 use Rattle.text_lines.specs.TextLines.{Line, fields_of, lines_in, end_of}
-use Rattle.minelib_reading.specs.declared.model_key.Header.{Header}
+use Rattle.minelib_reading.specs.declared.model.key.Header.{Header}
 use Rattle.minelib_lines.specs.declared.header_key.HeaderKey.{HeaderKey}
 use Rattle.minelib_lines.specs.declared.header_key.HeaderKey.TheVariants as key
-use Rattle.minelib_reading.specs.declared.model_key.ModelKey.{ModelKey}
-use Rattle.minelib_reading.specs.declared.model_key.ModelKey.TheVariants as model_key
+use Rattle.minelib_reading.specs.declared.model.key.ModelKey.{ModelKey}
+use Rattle.minelib_reading.specs.declared.model.key.ModelKey.TheVariants as model_key
 use Rattle.minelib_lines.specs.declared.problem.Problem.{Problem}
 use Rattle.minelib_lines.specs.declared.problem.Problem.TheVariants.{Pcpsp, Cpit}
-use Rattle.minelib_reading.specs.declared.model_key.Section.{Section}
-use Rattle.minelib_reading.specs.declared.model_key.Section.TheVariants.{Heading, Objective, Coefs, Limits}
+use Rattle.minelib_reading.specs.declared.model.key.Section.{Section}
+use Rattle.minelib_reading.specs.declared.model.key.Section.TheVariants.{Heading, Objective, Coefs, Limits}
 use Rattle.text_lines.specs.declared.text_fault.LineFault.{LineFault}
 use Rattle.text_lines.specs.declared.text_fault.TextKind.{TextKind}
 use Rattle.text_lines.specs.declared.text_fault.TextKind.TheVariants.{Order, Count, Twice, Key, Missing}

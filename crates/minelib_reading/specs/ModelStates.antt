@@ -7,7 +7,7 @@ use Rattle.minelib_reading.specs.HeaderNumbers.{count_in}
 use Rattle.minelib_reading.specs.ModelLines.{ModelDraftView, blank_model, is_whole, model_grammar}
 use Rattle.minelib_lines.specs.LineValues.{StatedHeader}
 use Rattle.minelib_reading.specs.StatedModel.{StatedModel}
-use Rattle.minelib_reading.specs.declared.model_key.Header.{Header}
+use Rattle.minelib_reading.specs.declared.model.key.Header.{Header}
 use Rattle.minelib_lines.specs.declared.header_key.HeaderKey.TheVariants as key
 
 -- all lines of a model file, of n blocks: they state this by the grammar, and nothing of it is lacking

@@ -6,7 +6,7 @@ use Rattle.forms.specs.Words.{Says, Spell}
 use Rattle.pit_parts.specs.PlanKept.{RiseStrictly, is_turned}
 use Rattle.pit_parts.specs.declared.limit.Limit.{Limit}
 use Rattle.mine_instance.specs.Order.{coef_comes_before}
-use Rattle.mine_instance.specs.declared.coef.Coef.{Coef}
+use Rattle.mine_instance.specs.declared.coefs.coef.Coef.{Coef}
 use Rattle.text_lines.specs.TextLines.{Line, fields_of, lines_in, end_of}
 use Rattle.text_lines.specs.declared.text_fault.LineFault.{LineFault}
 use Rattle.text_lines.specs.declared.text_fault.TextKind.TheVariants.{Missing}
@@ -19,7 +19,7 @@ use Rattle.minelib_reading.specs.SpelledKeys.{IsKeyLine, section_text}
 use Rattle.minelib_reading.specs.SpelledLines.{AreLines}
 use Rattle.minelib_reading.specs.StatedModel.{StatedModel}
 use Rattle.minelib_lines.specs.declared.header_key.HeaderKey.{HeaderKey}
-use Rattle.minelib_reading.specs.declared.model_key.Section.TheVariants.{Objective, Coefs, Limits}
+use Rattle.minelib_reading.specs.declared.model.key.Section.TheVariants.{Objective, Coefs, Limits}
 
 -- a CPIT has one destination
 abbrev pub IsSingle : Problem → ℕ → Type 0

@@ -6,7 +6,7 @@ ghost use Rattle.minelib_reading.specs.inner.CountedItems.{counted_blocks, count
 ghost use Rattle.pit_parts.specs.declared.ranges.TheConstants.{MAX_BLOCKS};
 
 use crate::taking::{TakeBlocks, TakeItems};
-use mine_instance::coef::Coef;
+use mine_instance::coefs::coef::Coef;
 use pit_parts::block::Block;
 use pit_units::Dec;
 use std::alloc::AllocError;

@@ -1,18 +1,18 @@
 //! What the texts of feeds state, counted while the feeds give them.
 
 ghost use Rattle.std.specs.Prelude.{◌≡◌, ◌+◌, ◌<◌, ◌≤◌, length, IfOk, IfSome, IsErrOf};
-ghost use Rattle.devices.specs.declared.slurp.SlurpFault.TheVariants as SlurpFault;
-ghost use Rattle.devices.specs.declared.slurp.TheConstants.{GREATEST_LIMIT};
+ghost use Rattle.devices.specs.declared.feeds.slurp.SlurpFault.TheVariants as SlurpFault;
+ghost use Rattle.devices.specs.declared.feeds.slurp.TheConstants.{GREATEST_LIMIT};
 ghost use Rattle.minelib_reading.specs.FedCounts.{IsFedAnswer, arcs_counted, blocks_counted, model_counted};
 ghost use Rattle.pit_parts.specs.declared.ranges.TheConstants.{MAX_BLOCKS};
 
 use crate::block_reader::BlockDraft;
 use crate::counted::{CountedBlocks, CountedItems};
-use crate::model_draft::ModelDraft;
+use crate::model::draft::ModelDraft;
 use crate::prec_reader::PrecDraft;
 use crate::taking::TakeBlocks;
-use devices::feed::Feed;
-use devices::slurp::SlurpFault;
+use devices::feeds::feed::Feed;
+use devices::feeds::slurp::SlurpFault;
 use minelib_lines::problem::Problem;
 use pit_units::OrMemory;
 use precedence::{CountedPreds, TakePreds};

@@ -7,7 +7,7 @@ ghost use Rattle.pit_units.specs.OrMemory.{Gives};
 ghost use Rattle.pit_parts.specs.declared.ranges.TheConstants.{MAX_BLOCKS};
 
 use crate::block_reader::read_blocks;
-use crate::model_reader::read_model;
+use crate::model::reader::read_model;
 use crate::prec_reader::read_preds;
 use mine_instance::cpit::Cpit;
 use mine_instance::instance::Instance;

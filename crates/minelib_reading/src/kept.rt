@@ -2,9 +2,9 @@
 
 ghost use Rattle.std.specs.Prelude.{◌≡◌, []};
 
-use crate::model_items::is_coef_behind;
+use crate::model::items::is_coef_behind;
 use crate::taking::{TakeBlocks, TakeItems};
-use mine_instance::coef::Coef;
+use mine_instance::coefs::coef::Coef;
 use mine_instance::values::Values;
 use pit_parts::block::Block;
 use pit_units::Dec;

@@ -6,7 +6,7 @@ ghost use Rattle.mine_instance.specs.Cpit.{CpitParts};
 ghost use Rattle.mine_instance.specs.CpitKept.{IsCpit};
 ghost use Rattle.mine_instance.specs.Valid.{ArePredsOf, IsValid};
 ghost use Rattle.mine_instance.specs.Order.{coef_comes_before};
-ghost use Rattle.mine_instance.specs.declared.coef.Coef.{Coef};
+ghost use Rattle.mine_instance.specs.declared.coefs.coef.Coef.{Coef};
 ghost use Rattle.mine_instance.specs.Instance.{Instance as OneInstance};
 ghost use Rattle.minelib_reading.specs.BlockLines.{block_form, block_grammar, block_shape, blocks_in};
 ghost use Rattle.minelib_reading.specs.Denotes.{Denotes, DenotesCpit};
@@ -19,7 +19,7 @@ ghost use Rattle.minelib_reading.specs.SpelledModel.{AreModelLines, SpellCoef, S
 ghost use Rattle.minelib_reading.specs.SpelledTexts.{SpellCpit, SpellInstance};
 ghost use Rattle.minelib_reading.specs.StatedModel.{StatedModel};
 ghost use Rattle.minelib_lines.specs.declared.header_key.HeaderKey.{HeaderKey};
-ghost use Rattle.minelib_reading.specs.declared.model_key.Section.{Section};
+ghost use Rattle.minelib_reading.specs.declared.model.key.Section.{Section};
 ghost use Rattle.text_lines.specs.TextLines.{fields_of, lines_in};
 ghost use Rattle.minelib_lines.specs.declared.problem.Problem.{Problem};
 ghost use Rattle.text_lines.specs.declared.text_fault.LineFault.{LineFault};

@@ -6,14 +6,9 @@ mod counted;
 mod fed_counts;
 mod instance_reader;
 mod kept;
-mod key_lines;
 pub mod laws;
 mod marks;
-mod model_draft;
-mod model_header;
-mod model_items;
-pub mod model_key;
-mod model_reader;
+pub mod model;
 mod prec_reader;
 mod taking;
 

@@ -2,12 +2,12 @@
 
 ghost use Rattle.std.specs.Prelude.{◌≡◌, ◌<◌, ◌++◌, [], ◌∷◌, ℤ, List, All, OnOk, OnErr, length, true};
 ghost use Rattle.mine_instance.specs.Order.{coef_comes_before};
-ghost use Rattle.mine_instance.specs.declared.coef.Coef.{Coef as OneCoef};
+ghost use Rattle.mine_instance.specs.declared.coefs.coef.Coef.{Coef as OneCoef};
 ghost use Rattle.minelib_reading.specs.ModelLines.{is_behind, last_of};
 ghost use Rattle.pit_parts.specs.declared.block.Block.{Block as OneBlock};
 ghost use Rattle.pit_parts.specs.declared.ranges.TheConstants.{MAX_BLOCKS};
 
-use mine_instance::coef::Coef;
+use mine_instance::coefs::coef::Coef;
 use pit_parts::block::Block;
 use pit_units::Dec;
 use std::alloc::AllocError;

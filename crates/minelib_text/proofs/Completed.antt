@@ -15,12 +15,12 @@ use Rattle.minelib_reading.specs.HeaderNumbers.{with_key, count_in, is_given, is
 use Rattle.minelib_reading.specs.ModelLines.{ModelDraftView, blank_header, is_next, is_ready, is_whole, model_grammar, model_line, name_with}
 use Rattle.forms.specs.Words.{AllState, States}
 use Rattle.text_lines.specs.TextLines.{Line}
-use Rattle.minelib_reading.specs.declared.model_key.Header.{Header}
+use Rattle.minelib_reading.specs.declared.model.key.Header.{Header}
 use Rattle.minelib_lines.specs.declared.header_key.HeaderKey.{HeaderKey}
 use Rattle.minelib_lines.specs.declared.header_key.HeaderKey.TheVariants as key
 use Rattle.minelib_lines.specs.declared.problem.Problem.{Problem}
-use Rattle.minelib_reading.specs.declared.model_key.Section.{Section}
-use Rattle.minelib_reading.specs.declared.model_key.Section.TheVariants.{Heading, Objective, Coefs, Limits}
+use Rattle.minelib_reading.specs.declared.model.key.Section.{Section}
+use Rattle.minelib_reading.specs.declared.model.key.Section.TheVariants.{Heading, Objective, Coefs, Limits}
 use Rattle.minelib_reading.proofs.HeaderFacts.{KeepsOwn, each_with, each_key, all_given, contains_cases, first_given}
 use Rattle.minelib_reading.proofs.SpelledModelBack.{key_states, section_states, told, values_states}
 use Rattle.minelib_reading.proofs.SpelledModelRead.{At, Now}

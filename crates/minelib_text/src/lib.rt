@@ -3,7 +3,7 @@
 
 pub mod laws;
 
-pub use devices::{file_sink, mem_sink, section_sink, sink, write_fault};
+pub use devices::sinks::{file_sink, mem_sink, section_sink, sink, write_fault};
 pub use minelib_reading::{read_cpit, read_instance};
 pub use minelib_writing::{
     text_name, write_blocks, write_cpit, write_named, write_pcpsp, write_prec, write_upit,

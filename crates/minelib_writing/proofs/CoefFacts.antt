@@ -12,8 +12,8 @@ use Rattle.std.specs.Prelude.{◌==◌, ◌&&◌, decimal, if◌then◌else◌, 
 use Rattle.pit_units.specs.Decimal.{shortest}
 use Rattle.mine_instance.specs.Greatest.{first_greatest}
 use Rattle.mine_instance.specs.Groups.{coef_of}
-use Rattle.mine_instance.specs.declared.coef.Coef.{Coef}
-use Rattle.minelib_writing.specs.declared.coef_lines.CoefForm.TheVariants.{OfChosen}
+use Rattle.mine_instance.specs.declared.coefs.coef.Coef.{Coef}
+use Rattle.minelib_writing.specs.declared.lines.coefs.CoefForm.TheVariants.{OfChosen}
 use Rattle.minelib_writing.specs.inner.CoefParts.{coef_part, coef_text, cpit_coef_text, has_values}
 use Rattle.minelib_writing.specs.inner.Parts.{joined}
 use Rattle.minelib_writing.proofs.FieldsWritten.{whole_written}

@@ -7,7 +7,7 @@ use Rattle.std.proofs.Math.Seq.{take-add}
 use Rattle.minelib_lines.specs.Lines.{text_of}
 use Rattle.devices.specs.SinkState.{SinkState}
 use Rattle.devices.specs.SinkSteps.{IsAppended, IsAppendCut}
-use Rattle.devices.specs.declared.sink.SinkFault.{SinkFault}
+use Rattle.devices.specs.declared.sinks.sink.SinkFault.{SinkFault}
 use Rattle.pit_units.specs.declared.or_memory.OrMemory.{OrMemory}
 use Rattle.devices.specs.Writes.{IsWrittenOn, WritesOn}
 use Rattle.devices.proofs.Fronts.{cut_before, cut_then, written_then}

@@ -8,9 +8,9 @@ ghost use Rattle.minelib_writing.specs.Written.{key_line, key_lines};
 ghost use Rattle.devices.specs.Writes.{WritesOn};
 
 use crate::fields::{put_decimal_to, put_text, put_whole_to};
-use devices::sink::Sink;
-use devices::slices::flush_full;
-use devices::write_fault::WriteFault;
+use devices::sinks::sink::Sink;
+use devices::sinks::slices::flush_full;
+use devices::sinks::write_fault::WriteFault;
 use minelib_lines::header_key::HeaderKey;
 use minelib_lines::key_values::{KeyValue, KeyValues};
 use std::alloc::{AllocError, Global};

@@ -6,6 +6,11 @@ ghost use Rattle.minelib_lines.specs.Lines.{line_of, lines_from};
 use crate::sections::Section;
 use std::alloc::{AllocError, Global};
 
+pub mod coefs;
+pub mod items;
+pub mod preds;
+pub mod values;
+
 /// An item that is written as a line.
 pub trait Line {
     ghost fields: { ℕ → Self → List (List ℕ) };

@@ -7,8 +7,8 @@ ghost use Rattle.minelib_writing.specs.inner.KeptParts.{HoldsFrom};
 ghost use Rattle.devices.specs.Writes.{WritesOn};
 
 use crate::sections::{Section, write_titled};
-use devices::sink::Sink;
-use devices::write_fault::WriteFault;
+use devices::sinks::sink::Sink;
+use devices::sinks::write_fault::WriteFault;
 use std::alloc::Global;
 
 /// Writes the three sections behind what the buffer holds.

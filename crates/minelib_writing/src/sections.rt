@@ -8,9 +8,9 @@ ghost use Rattle.devices.specs.SinkSteps.{refusals, IsAppendCut};
 ghost use Rattle.devices.specs.Writes.{IsWrittenOn, WritesOn};
 
 use crate::fields::put_text;
-use devices::sink::Sink;
-use devices::slices::flush_full;
-use devices::write_fault::WriteFault;
+use devices::sinks::sink::Sink;
+use devices::sinks::slices::flush_full;
+use devices::sinks::write_fault::WriteFault;
 use std::alloc::{AllocError, Global};
 
 /// Lines that are written part by part: the text of a part is no line, one, or more.

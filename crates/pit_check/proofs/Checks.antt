@@ -1,7 +1,7 @@
 -- Why a check tells no counts, in other words, and how that ends it.
 use Rattle.std.proofs.Common.{◌≡◌, ◌≢◌, ℕ, List, Option, Result, Some, None, IfSome, ◌<◌, length, inl, inr, refl, ap, ◌∙◌, sym, subst, Err, Ok, arith}
-use Rattle.devices.specs.declared.feed.FeedFault.{FeedFault}
-use Rattle.devices.specs.declared.slurp.TheConstants.{GREATEST_LIMIT}
+use Rattle.devices.specs.declared.feeds.feed.FeedFault.{FeedFault}
+use Rattle.devices.specs.declared.feeds.slurp.TheConstants.{GREATEST_LIMIT}
 use Rattle.text_lines.specs.declared.text_fault.TextFault.{TextFault}
 use Rattle.text_lines.specs.declared.text_fault.TextFile.{TextFile}
 use Rattle.pit_check.specs.Checked.{AreReadBefore, AreTexts, CannotOpen, HasFailed, HasText, HasTextIfThere, IsCheckStatus, IsFoundIn, IsRead, path_of}
@@ -9,8 +9,8 @@ use Rattle.pit_check.specs.inner.CheckSteps.{CountsAll, CountsFile, IsFaultOf, I
 use Rattle.pit_check.specs.inner.CountSteps.{counted_on, no_counts}
 use Rattle.pit_check.proofs.CountedAll.{counted_all}
 use Rattle.minelib_reading.specs.FedCounts.{IsFedAnswer}
-use Rattle.devices.specs.declared.slurp.SlurpFault.{SlurpFault}
-use Rattle.devices.specs.declared.slurp.SlurpFault.TheVariants as slurp
+use Rattle.devices.specs.declared.feeds.slurp.SlurpFault.{SlurpFault}
+use Rattle.devices.specs.declared.feeds.slurp.SlurpFault.TheVariants as slurp
 use Rattle.text_lines.specs.declared.text_fault.TextFile.TheVariants.{Blocks, Prec, Pcpsp, Cpit}
 use Rattle.pit_check.specs.Counts.{Texts}
 use Rattle.pit_check.specs.declared.counts.Counts.{Counts}
@@ -18,7 +18,7 @@ use Rattle.pit_edge.specs.FaultLine.{Ends}
 use Rattle.pit_edge.specs.Refused.{run_status, unread}
 use Rattle.pit_edge.specs.declared.refused.Refused.{Refused}
 use Rattle.pit_edge.specs.declared.refused.Refused.TheVariants.{NotUtf8, FeedFailed, TooLong, Plan, Text, Run}
-use Rattle.pit_edge.specs.declared.source.Source.TheVariants as source
+use Rattle.pit_edge.specs.declared.refused.source.Source.TheVariants as source
 
 module _ {F : Type 0} (opens : List ℕ → Result F FeedFault → Type 0) (left : F → Option (List ℕ)) (base : List ℕ) where
   -- a file that was not read to its end

@@ -1,7 +1,7 @@
 -- What a check tells of the files of BASE, and why it tells no counts.
 use Rattle.std.specs.Prelude.{◌≡◌, ◌≢◌, ℕ, ◌<◌, ◌≤◌, ◌⊎◌, ◌++◌, List, ◌∷◌, Option, Some, None, Result, Ok, Err, IfSome, length}
-use Rattle.devices.specs.declared.feed.FeedFault.{FeedFault}
-use Rattle.devices.specs.declared.slurp.TheConstants.{GREATEST_LIMIT}
+use Rattle.devices.specs.declared.feeds.feed.FeedFault.{FeedFault}
+use Rattle.devices.specs.declared.feeds.slurp.TheConstants.{GREATEST_LIMIT}
 use Rattle.text_lines.specs.FaultText.{file_name}
 use Rattle.text_lines.specs.declared.text_fault.TextFile.{TextFile}
 use Rattle.text_lines.specs.declared.text_fault.TextFile.TheVariants.{Blocks, Prec, Pcpsp, Cpit}
@@ -10,7 +10,7 @@ use Rattle.pit_compile.specs.declared.refusal.Refusal.TheVariants.{OutOfMemory}
 use Rattle.pit_edge.specs.OpenedFile.{OpensFile, file_left}
 use Rattle.pit_edge.specs.declared.refused.Refused.{Refused}
 use Rattle.pit_edge.specs.declared.refused.Refused.TheVariants.{NotUtf8, FeedFailed, TooLong, Plan, Text, Run}
-use Rattle.pit_edge.specs.declared.source.Source.TheVariants as source
+use Rattle.pit_edge.specs.declared.refused.source.Source.TheVariants as source
 
 -- the path of a file of the instance: BASE, a point and the file's ending
 abbrev pub path_of : List ℕ → TextFile → List ℕ

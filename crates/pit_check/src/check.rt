@@ -11,11 +11,11 @@ ghost use Rattle.pit_edge.specs.OpenedFile.{OpensFile};
 
 use crate::counting::count_on;
 use crate::counts::Counts;
-use devices::feed::{Feed, FeedFault};
-use devices::file_feed::FileFeed;
-use pit_edge::fault_line::tell;
+use devices::feeds::feed::{Feed, FeedFault};
+use devices::feeds::file_feed::FileFeed;
 use pit_edge::refused::Refused;
-use pit_edge::source::Source;
+use pit_edge::refused::fault_line::tell;
+use pit_edge::refused::source::Source;
 use std::alloc::Global;
 use std::rt::Files;
 use text_lines::text_fault::{TextFault, TextFile};

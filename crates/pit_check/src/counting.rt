@@ -1,15 +1,15 @@
 //! The counts of the texts of an instance, one file after the other.
 
 ghost use Rattle.std.specs.Prelude.{◌≡◌, ◌+◌, ◌<◌, ◌≤◌, length, IfOk, IfSome, IsErrOf};
-ghost use Rattle.devices.specs.declared.slurp.SlurpFault.TheVariants as SlurpFault;
-ghost use Rattle.devices.specs.declared.slurp.TheConstants.{GREATEST_LIMIT};
+ghost use Rattle.devices.specs.declared.feeds.slurp.SlurpFault.TheVariants as SlurpFault;
+ghost use Rattle.devices.specs.declared.feeds.slurp.TheConstants.{GREATEST_LIMIT};
 ghost use Rattle.minelib_reading.specs.FedCounts.{IsFedAnswer};
 ghost use Rattle.pit_check.specs.inner.CountSteps.{counted_in, counted_on};
 ghost use Rattle.pit_parts.specs.declared.ranges.TheConstants.{MAX_BLOCKS};
 
 use crate::counts::Counts;
-use devices::feed::Feed;
-use devices::slurp::{GREATEST_LIMIT, SlurpFault};
+use devices::feeds::feed::Feed;
+use devices::feeds::slurp::{GREATEST_LIMIT, SlurpFault};
 use minelib_lines::problem::Problem;
 use minelib_reading::{count_arcs, count_blocks, count_model};
 use std::alloc::Global;

@@ -2,13 +2,13 @@
 use Rattle.std.proofs.Common.{◌≡◌, ℕ, Bool, List, [], ◌∷◌, map, take, Option, Result, Ok, Err, inl, inr, refl, sym, subst}
 use Rattle.std.specs.List.{AllZip}
 use Rattle.devices.specs.FileSinkView.{unbegun}
-use Rattle.devices.specs.declared.feed.FeedFault.{FeedFault}
+use Rattle.devices.specs.declared.feeds.feed.FeedFault.{FeedFault}
 use Rattle.minelib_writing.specs.Texts.{ending_of}
 use Rattle.pit_compile.specs.declared.refusal.Refusal.{Refusal}
 use Rattle.pit_compile.specs.declared.refusal.Refusal.TheVariants as refusal
 use Rattle.pit_parts.specs.declared.settings.Settings.{Settings}
 use Rattle.pit_parts.specs.Plan.{PlanParts}
-use Rattle.pit_parts.specs.declared.formula.Formula.{Formula}
+use Rattle.pit_parts.specs.declared.formulas.formula.Formula.{Formula}
 use Rattle.pit_edge.specs.ZoneFeeds.{IsFirstUnopened, IsUnopened}
 use Rattle.pit_edge.specs.declared.refused.Refused.{Refused}
 use Rattle.pit_edge.specs.declared.refused.Refused.TheVariants.{NotUtf8, FeedFailed, TooLong, Plan, Text, Run}

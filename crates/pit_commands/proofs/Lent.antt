@@ -11,7 +11,7 @@ use Rattle.pit_parts.specs.declared.settings.Settings as set
 use Rattle.pit_compile.specs.declared.settings.SettingsFault.{SettingsFault}
 use Rattle.pit_compile.specs.declared.settings.SettingsFault.TheVariants.{Files, Valuers, Capacity, Destinations}
 use Rattle.pit_parts.specs.Plan.{PlanParts}
-use Rattle.pit_parts.specs.declared.formula.Formula.{Formula}
+use Rattle.pit_parts.specs.declared.formulas.formula.Formula.{Formula}
 use Rattle.pit_commands.specs.Printed.{pipe_settings, PipeRefused}
 
 same_texts : (zones texts : List (List ℕ)) → AreGiven (map Some zones) texts → texts ≡ zones

@@ -9,7 +9,7 @@ use Rattle.pit_edge.specs.PlanText.{IsNoPlan}
 use Rattle.pit_edge.specs.Refused.{IsUnread}
 use Rattle.pit_edge.specs.declared.refused.Refused.{Refused}
 use Rattle.pit_edge.specs.declared.refused.Refused.TheVariants.{NotUtf8, FeedFailed, TooLong, Plan as PlanFaulty, Text, Run}
-use Rattle.pit_edge.specs.declared.source.Source.TheVariants.{Input}
+use Rattle.pit_edge.specs.declared.refused.source.Source.TheVariants.{Input}
 
 pub unread : (left : Option (List ℕ)) (why : Refused) → IsUnread Input left 268435456 why → IsNoModel left why
 unread left why h = inl h

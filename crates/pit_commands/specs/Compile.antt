@@ -4,7 +4,7 @@ use Rattle.std.specs.declared.alloc.Global.{Global}
 use Rattle.std.specs.Fmt.{decimal}
 use Rattle.std.specs.List.{AllZip, sum_by}
 use Rattle.devices.specs.FileSinkView.{FileSinkView, file_told, unbegun}
-use Rattle.devices.specs.declared.feed.FeedFault.{FeedFault}
+use Rattle.devices.specs.declared.feeds.feed.FeedFault.{FeedFault}
 use Rattle.lane.specs.MessageKinds.{row_count}
 use Rattle.lane.specs.Whole.{GatheredView}
 use Rattle.minelib_writing.specs.Texts.{ending_of}
@@ -16,7 +16,7 @@ use Rattle.pit_compile.specs.declared.refusal.Refusal.TheVariants as refusal
 use Rattle.pit_compile.specs.declared.settings.SettingsFault.{SettingsFault}
 use Rattle.pit_parts.specs.declared.settings.Settings.{Settings}
 use Rattle.pit_parts.specs.Plan.{PlanParts}
-use Rattle.pit_parts.specs.declared.formula.Formula.{Formula}
+use Rattle.pit_parts.specs.declared.formulas.formula.Formula.{Formula}
 use Rattle.pit_edge.specs.OpenedFile.{OpensFile, file_left, is_file_sure}
 use Rattle.pit_edge.specs.ZoneFeeds.{IsUnopened}
 use Rattle.pit_edge.specs.declared.refused.Refused.{Refused}

@@ -9,7 +9,7 @@ use Rattle.pit_edge.specs.PlanText.{IsNoPlan}
 use Rattle.pit_edge.specs.Refused.{IsUnread}
 use Rattle.pit_edge.specs.declared.refused.Refused.{Refused}
 use Rattle.pit_edge.specs.declared.refused.Refused.TheVariants.{Run}
-use Rattle.pit_edge.specs.declared.source.Source.TheVariants.{Input}
+use Rattle.pit_edge.specs.declared.refused.source.Source.TheVariants.{Input}
 use Rattle.pit_parts.specs.declared.ranges.TheConstants.{MAX_FILE_BYTES, MAX_PLAN_BYTES}
 
 -- an input of at most 256 MiB is cut into these pieces, of which the first, of at most 1 MiB, states the plan

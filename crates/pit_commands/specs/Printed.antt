@@ -9,7 +9,7 @@ use Rattle.pit_compile.specs.Verdict.{IsAccepted, IsRefusedBy}
 use Rattle.pit_compile.specs.declared.refusal.Refusal.{Refusal}
 use Rattle.pit_parts.specs.declared.settings.Settings as settings
 use Rattle.pit_parts.specs.Plan.{PlanParts}
-use Rattle.pit_parts.specs.declared.formula.Formula.{Formula}
+use Rattle.pit_parts.specs.declared.formulas.formula.Formula.{Formula}
 use Rattle.pit_commands.specs.RunRefused.{RunRefused}
 
 -- the verdict accepts the zone files, and what is printed of their instance is appended

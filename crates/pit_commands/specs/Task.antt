@@ -1,7 +1,7 @@
 -- What a task does.
 use Rattle.std.specs.Prelude.{ℕ, List, string_bytes}
 use Rattle.pit_parts.specs.Plan.{PlanParts}
-use Rattle.pit_parts.specs.declared.formula.Formula.{Formula}
+use Rattle.pit_parts.specs.declared.formulas.formula.Formula.{Formula}
 use Rattle.pit_commands.specs.Compile.{IsNoFiles, TellsFiles}
 use Rattle.pit_commands.specs.Printed.{IsNoPipe, IsPrinted}
 use Rattle.pit_edge.specs.declared.refused.Refused.{Refused}

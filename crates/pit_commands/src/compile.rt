@@ -8,13 +8,13 @@ ghost use Rattle.pit_parts.specs.Destinations.{formulas_of};
 ghost use Rattle.pit_commands.specs.Compile.{IsNoCompile, IsNoFiles, IsRefusedInto, IsRunInto, TellsFiles, TellsRows, rows_line};
 
 use crate::instance_files::sinks_of;
-use devices::feed::{Feed, FeedFault};
-use devices::file_feed::FileFeed;
+use devices::feeds::feed::{Feed, FeedFault};
+use devices::feeds::file_feed::FileFeed;
 use pit_compile::refusal::Refusal;
 use pit_compile::run;
 use pit_compile::settings::Settings;
-use pit_edge::fault_line::tell;
 use pit_edge::refused::Refused;
+use pit_edge::refused::fault_line::tell;
 use pit_edge::zone_feeds::open_all;
 use pit_model::destination::Destination;
 use pit_model::plan::Plan;

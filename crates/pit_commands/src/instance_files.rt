@@ -7,7 +7,7 @@ ghost use Rattle.pit_compile.specs.Sinks.{sink_of};
 ghost use Rattle.devices.specs.FileSinkView.{unbegun};
 ghost use Rattle.pit_commands.specs.Compile.{path_to};
 
-use devices::file_sink::FileSink;
+use devices::sinks::file_sink::FileSink;
 use minelib_writing::text_name::TextName;
 use pit_compile::sinks::Sinks;
 use std::alloc::{AllocError, Global};

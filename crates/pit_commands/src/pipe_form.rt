@@ -7,8 +7,8 @@ ghost use Rattle.pit_compile.specs.declared.settings.SettingsFault.{SettingsFaul
 ghost use Rattle.pit_parts.specs.Destinations.{formulas_of};
 ghost use Rattle.pit_commands.specs.Printed.{pipe_settings, IsPrinted, PipeRefused};
 
-use devices::feed::Feed;
-use devices::slice_feed::SliceFeed;
+use devices::feeds::feed::Feed;
+use devices::feeds::slice_feed::SliceFeed;
 use lane::Gathered;
 use pit_compile::refusal::Refusal;
 use pit_compile::settings::{Budget, Settings, require_settings};

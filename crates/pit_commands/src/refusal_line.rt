@@ -6,8 +6,8 @@ ghost use Rattle.pit_edge.specs.Refused.{run_status};
 ghost use Rattle.pit_compile.specs.FaultText.{refusal_text};
 
 use pit_compile::refusal::Refusal;
-use pit_edge::fault_line::append_line;
 use pit_edge::refused::Refused;
+use pit_edge::refused::fault_line::append_line;
 use std::alloc::{AllocError, Global};
 
 /// Appends the line of a refusal, and answers the status that it ends the program with. Fails only where memory is refused, and then

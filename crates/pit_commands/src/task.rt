@@ -9,7 +9,7 @@ use crate::compile::compile_files;
 use crate::model::Model;
 use crate::pipe_run::run_pipe;
 use pit_compile::settings::Settings;
-use pit_edge::fault_line::tell;
+use pit_edge::refused::fault_line::tell;
 use pit_model::destination::Destination;
 use pit_model::plan::Plan;
 use std::alloc::Global;

@@ -10,7 +10,7 @@ use Rattle.minelib_writing.specs.Texts.{all_texts, text_named}
 use Rattle.devices.specs.Writes.{Writes}
 use Rattle.minelib_writing.specs.declared.text_name.TextName.{TextName}
 use Rattle.minelib_writing.specs.declared.text_name.TextName.TheVariants.{Blocks}
-use Rattle.devices.specs.declared.sink.SinkFault.{SinkFault}
+use Rattle.devices.specs.declared.sinks.sink.SinkFault.{SinkFault}
 use Rattle.pit_units.specs.declared.or_memory.OrMemory.{OrMemory}
 use Rattle.pit_units.specs.declared.or_memory.OrMemory.TheVariants as write
 use Rattle.pit_compile.specs.SinkAnswers.{AreCutOff}

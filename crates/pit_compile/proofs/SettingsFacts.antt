@@ -1,7 +1,7 @@
 -- The settings have at most one fault by kind, and none where they suit.
 use Rattle.std.proofs.Common.{◌≡◌, ◌↔◌, ℕ, List, Result, Ok, Err, IfErr, OnOk, refl, ap, subst}
 use Rattle.pit_parts.specs.Plan.{PlanParts}
-use Rattle.pit_parts.specs.declared.formula.Formula.{Formula}
+use Rattle.pit_parts.specs.declared.formulas.formula.Formula.{Formula}
 use Rattle.pit_compile.specs.Settings.{IsSettingsFault, Suits}
 use Rattle.pit_parts.specs.declared.settings.Settings.{Settings}
 use Rattle.pit_compile.specs.declared.settings.SettingsFault.{SettingsFault}

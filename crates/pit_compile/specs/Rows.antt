@@ -5,7 +5,7 @@ use Rattle.lane.specs.declared.message.Taken.{Taken}
 use Rattle.pit_parts.specs.PlanFormulas.{formulas_of_plan}
 use Rattle.pit_parts.specs.Plan.{PlanParts}
 use Rattle.pit_parts.specs.declared.block.Block.{Block}
-use Rattle.pit_parts.specs.declared.formula.Formula.{Formula}
+use Rattle.pit_parts.specs.declared.formulas.formula.Formula.{Formula}
 use Rattle.pit_parts.specs.declared.grid.Grid.{Grid}
 use Rattle.run_threads.specs.MostBytes.{most_bytes}
 use Rattle.rows.specs.Valued.{row_by}

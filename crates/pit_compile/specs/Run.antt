@@ -2,7 +2,7 @@
 use Rattle.std.specs.Prelude.{◌≡◌, ◌↔◌, ◌+◌, ◌≤◌, ℕ, ◌⊎◌, Bool, List, length, Option, Result, Err, IfOk, IfErr}
 use Rattle.lane.specs.Whole.{GatheredView}
 use Rattle.pit_parts.specs.Plan.{PlanParts}
-use Rattle.pit_parts.specs.declared.formula.Formula.{Formula}
+use Rattle.pit_parts.specs.declared.formulas.formula.Formula.{Formula}
 use Rattle.pit_parts.specs.declared.settings.Settings.{Settings as Chosen}
 use Rattle.pit_compile.specs.Compiled.{AreGiven, HasPassed, IsFeedFault, IsVerdict, instance_from}
 use Rattle.devices.specs.SinkState.{SinkState}

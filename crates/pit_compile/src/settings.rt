@@ -6,8 +6,8 @@ ghost use Rattle.pit_compile.specs.declared.settings.SettingsFault.{SettingsFaul
 ghost use Rattle.pit_parts.specs.Destinations.{formulas_of};
 ghost use Rattle.pit_parts.specs.PlanFormulas.{formulas_of_plan};
 
-use pit_parts::destination::Destination;
-use pit_parts::formula::{Formula, NamedFormula};
+use pit_parts::formulas::destination::Destination;
+use pit_parts::formulas::formula::{Formula, NamedFormula};
 use pit_parts::laws::equal_formulas_are_the_same;
 use pit_parts::plan::Plan;
 use pit_parts::ranges::{MAX_CAPACITY, MAX_VALUERS};

@@ -9,11 +9,11 @@ ghost use Rattle.pit_compile.specs.Sinks.{all_told, AreWritten};
 
 use crate::refusal::Refusal;
 use crate::sinks::Sinks;
-use devices::sink::Sink;
-use devices::write_fault::WriteFault;
-use mine_instance::coef_list::CoefList;
+use devices::sinks::sink::Sink;
+use devices::sinks::write_fault::WriteFault;
+use mine_instance::coefs::list::CoefList;
 use mine_instance::instance::Instance;
-use mine_instance::value_list::ValueList;
+use mine_instance::values::list::ValueList;
 use minelib_writing::text_name::TextName;
 use minelib_writing::write_named;
 use pit_units::OrMemory;

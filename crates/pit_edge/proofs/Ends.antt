@@ -15,7 +15,7 @@ use Rattle.pit_edge.specs.Refused.{IsUnread, plan_refused, refused_text}
 use Rattle.pit_edge.specs.declared.refused.Refused.{Refused}
 use Rattle.pit_edge.specs.declared.refused.Refused.TheVariants.{NotUtf8, FeedFailed, TooLong, Text, Run}
 use Rattle.pit_edge.specs.declared.refused.Refused.TheVariants as refused
-use Rattle.pit_edge.specs.declared.source.Source.TheVariants as source
+use Rattle.pit_edge.specs.declared.refused.source.Source.TheVariants as source
 
 -- a text of at most 1 MiB that states no plan
 pub faulty_plan : (text : List ℕ) (error : OrMemory PlanFault) (why : Refused) → length text ≤ 1048576

@@ -1,13 +1,13 @@
 -- A feed that was not read whole, as the program refuses it.
 use Rattle.std.proofs.Common.{◌≡◌, ◌<◌, ℕ, List, Option, length, refl, sym, subst, Err, IsErrOf}
 use Rattle.std.specs.Prelude.{IfSome}
-use Rattle.devices.specs.declared.slurp.SlurpFault.{SlurpFault}
-use Rattle.devices.specs.declared.slurp.SlurpFault.TheVariants as slurp
+use Rattle.devices.specs.declared.feeds.slurp.SlurpFault.{SlurpFault}
+use Rattle.devices.specs.declared.feeds.slurp.SlurpFault.TheVariants as slurp
 use Rattle.pit_compile.specs.declared.refusal.Refusal.TheVariants.{OutOfMemory}
 use Rattle.pit_edge.specs.Refused.{IsUnread, unread}
 use Rattle.pit_edge.specs.declared.refused.Refused.{Refused}
 use Rattle.pit_edge.specs.declared.refused.Refused.TheVariants.{FeedFailed, TooLong, Run}
-use Rattle.pit_edge.specs.declared.source.Source.{Source}
+use Rattle.pit_edge.specs.declared.refused.source.Source.{Source}
 
 module _ {A : Type 0} (source : Source) where
   why_unread : (left : Option (List ℕ)) (limit : ℕ) (fault : SlurpFault)

@@ -1,7 +1,7 @@
 -- A file by the path that it is opened by.
 use Rattle.std.specs.Prelude.{◌≡◌, ℕ, List, Bool, false, Option, None, Result, Ok, Err}
 use Rattle.devices.specs.FileFeedView.{FileFeedView}
-use Rattle.devices.specs.declared.feed.FeedFault.{FeedFault}
+use Rattle.devices.specs.declared.feeds.feed.FeedFault.{FeedFault}
 
 -- opening this path gave a feed of the file at it, or failed
 abbrev pub OpensFile : List ℕ → Result FileFeedView FeedFault → Type 0

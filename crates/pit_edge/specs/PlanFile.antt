@@ -1,13 +1,13 @@
 -- The plan in a file, and why a file gives none.
 use Rattle.std.specs.Prelude.{◌≡◌, ℕ, ◌≤◌, ◌⊎◌, List, Option, Result, Ok, Err, IfSome, length}
-use Rattle.devices.specs.declared.feed.FeedFault.{FeedFault}
+use Rattle.devices.specs.declared.feeds.feed.FeedFault.{FeedFault}
 use Rattle.pit_model.specs.Planned.{planned}
 use Rattle.pit_parts.specs.Plan.{PlanParts}
 use Rattle.pit_edge.specs.PlanText.{IsNoPlan}
 use Rattle.pit_edge.specs.Refused.{IsUnread}
 use Rattle.pit_edge.specs.declared.refused.Refused.{Refused}
 use Rattle.pit_edge.specs.declared.refused.Refused.TheVariants.{FeedFailed}
-use Rattle.pit_edge.specs.declared.source.Source.TheVariants.{Plan}
+use Rattle.pit_edge.specs.declared.refused.source.Source.TheVariants.{Plan}
 use Rattle.pit_parts.specs.declared.ranges.TheConstants.{MAX_PLAN_BYTES}
 
 -- the text of a file states this plan; the text is the bytes that the file had left, where it tells them

@@ -4,7 +4,7 @@ use Rattle.pit_model.specs.Planned.{planned}
 use Rattle.pit_compile.specs.declared.refusal.Refusal.TheVariants.{OutOfMemory}
 use Rattle.pit_edge.specs.declared.refused.Refused.{Refused}
 use Rattle.pit_edge.specs.declared.refused.Refused.TheVariants.{NotUtf8, FeedFailed, TooLong, Plan, Text, Run}
-use Rattle.pit_edge.specs.declared.source.Source.TheVariants as source
+use Rattle.pit_edge.specs.declared.refused.source.Source.TheVariants as source
 use Rattle.pit_parts.specs.declared.ranges.TheConstants.{MAX_PLAN_BYTES}
 
 -- it has more than 1,048,576 bytes; or it is shorter and states no plan; or memory was refused

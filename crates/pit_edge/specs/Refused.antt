@@ -1,8 +1,8 @@
 -- Why the program refuses: the words of its line, and the status that it ends with.
 use Rattle.std.specs.Prelude.{◌≡◌, ℕ, ◌<◌, ◌++◌, List, length, Option, IfSome, codes}
 use Rattle.std.specs.Fmt.{decimal}
-use Rattle.devices.specs.declared.slurp.SlurpFault.{SlurpFault}
-use Rattle.devices.specs.declared.slurp.SlurpFault.TheVariants as slurp
+use Rattle.devices.specs.declared.feeds.slurp.SlurpFault.{SlurpFault}
+use Rattle.devices.specs.declared.feeds.slurp.SlurpFault.TheVariants as slurp
 use Rattle.pit_compile.specs.FaultText.{refusal_text}
 use Rattle.pit_compile.specs.declared.refusal.Refusal.{Refusal}
 use Rattle.pit_compile.specs.declared.refusal.Refusal.TheVariants as refusal
@@ -14,8 +14,8 @@ use Rattle.text_lines.specs.FaultText.{file_name, text_fault_text}
 use Rattle.text_lines.specs.declared.text_fault.TextFault.{TextFault}
 use Rattle.pit_edge.specs.declared.refused.Refused.{Refused}
 use Rattle.pit_edge.specs.declared.refused.Refused.TheVariants.{NotUtf8, FeedFailed, TooLong, Plan, Text, Run}
-use Rattle.pit_edge.specs.declared.source.Source.{Source}
-use Rattle.pit_edge.specs.declared.source.Source.TheVariants as source
+use Rattle.pit_edge.specs.declared.refused.source.Source.{Source}
+use Rattle.pit_edge.specs.declared.refused.source.Source.TheVariants as source
 
 -- a zone file by its number, a file of an instance by the ending of its name
 abbrev pub source_text : Source → List ℕ

@@ -1,11 +1,11 @@
 -- A zone file that cannot be opened.
 use Rattle.std.specs.Prelude.{◌≡◌, ℕ, List, take, slice_get, Some, Result, Ok, Err}
 use Rattle.std.specs.List.{AllZip}
-use Rattle.devices.specs.declared.feed.FeedFault.{FeedFault}
+use Rattle.devices.specs.declared.feeds.feed.FeedFault.{FeedFault}
 use Rattle.pit_compile.specs.declared.refusal.Refusal.TheVariants.{OutOfMemory}
 use Rattle.pit_edge.specs.declared.refused.Refused.{Refused}
 use Rattle.pit_edge.specs.declared.refused.Refused.TheVariants.{NotUtf8, FeedFailed, TooLong, Plan, Text, Run}
-use Rattle.pit_edge.specs.declared.source.Source.TheVariants.{Zone}
+use Rattle.pit_edge.specs.declared.refused.source.Source.TheVariants.{Zone}
 
 -- opening each path before this one gave a feed, and opening this one failed; `Opens` says what opening a path may answer
 pub record IsFirstUnopened {P F : Type 0} (Opens : P → Result F FeedFault → Type 0) (paths : List P) (file : ℕ) : Type 0 where

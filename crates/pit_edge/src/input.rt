@@ -1,17 +1,17 @@
 //! An input, whole.
 
 ghost use Rattle.std.specs.Prelude.{◌≡◌, ◌+◌, ◌≤◌, length, IfOk, IfErr, IfSome, IsErrOf};
-ghost use Rattle.devices.specs.declared.slurp.TheConstants.{GREATEST_LIMIT};
+ghost use Rattle.devices.specs.declared.feeds.slurp.TheConstants.{GREATEST_LIMIT};
 ghost use Rattle.pit_compile.specs.declared.refusal.Refusal.TheVariants.{OutOfMemory};
 ghost use Rattle.pit_edge.specs.Refused.{IsUnread};
-ghost use Rattle.pit_edge.specs.declared.source.Source.TheVariants.{Input};
+ghost use Rattle.pit_edge.specs.declared.refused.source.Source.TheVariants.{Input};
 ghost use Rattle.pit_parts.specs.declared.ranges.TheConstants.{MAX_FILE_BYTES};
 
 use crate::refused::Refused;
-use crate::source::Source;
-use devices::feed::Feed;
-use devices::read_feed::ReadFeed;
-use devices::slurp::slurp;
+use crate::refused::source::Source;
+use devices::feeds::feed::Feed;
+use devices::feeds::read_feed::ReadFeed;
+use devices::feeds::slurp::slurp;
 use pit_model::ranges::MAX_FILE_BYTES;
 use std::alloc::Global;
 use std::io::Read;

@@ -4,14 +4,14 @@ ghost use Rattle.std.specs.Fn.{FnReturnsAt};
 ghost use Rattle.std.specs.Prelude.{◌≡◌, ◌+◌, IfOk, IfErr, IsErrOf};
 ghost use Rattle.pit_edge.specs.OpenedFile.{OpensFile, file_left};
 ghost use Rattle.pit_edge.specs.PlanFile.{HasPlan, IsNoPlanAt, IsNoPlanFile, IsPlanAt};
-ghost use Rattle.pit_edge.specs.declared.source.Source.TheVariants.{Plan as APlan};
+ghost use Rattle.pit_edge.specs.declared.refused.source.Source.TheVariants.{Plan as APlan};
 
 use crate::input::read_source;
 use crate::plan_text::plan_of;
 use crate::refused::Refused;
-use crate::source::Source;
-use devices::feed::{Feed, FeedFault};
-use devices::file_feed::FileFeed;
+use crate::refused::source::Source;
+use devices::feeds::feed::{Feed, FeedFault};
+use devices::feeds::file_feed::FileFeed;
 use pit_model::plan::Plan;
 use pit_model::ranges::MAX_PLAN_BYTES;
 use std::alloc::Global;

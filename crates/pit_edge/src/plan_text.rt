@@ -6,7 +6,7 @@ ghost use Rattle.pit_edge.specs.PlanText.{IsNoPlan};
 ghost use Rattle.pit_parts.specs.declared.ranges.TheConstants.{MAX_PLAN_BYTES};
 
 use crate::refused::Refused;
-use crate::source::Source;
+use crate::refused::source::Source;
 use pit_model::plan::Plan;
 use pit_model::ranges::MAX_PLAN_BYTES;
 use pit_model::read_plan;

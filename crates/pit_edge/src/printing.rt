@@ -6,11 +6,11 @@ ghost use Rattle.mine_instance.specs.Valid.{IsValid};
 ghost use Rattle.minelib_writing.specs.Texts.{ending_of, text_named};
 ghost use Rattle.pit_edge.specs.Sections.{printed, section};
 
-use devices::section_sink::SectionSink;
-use devices::write_fault::WriteFault;
-use mine_instance::coef_list::CoefList;
+use devices::sinks::section_sink::SectionSink;
+use devices::sinks::write_fault::WriteFault;
+use mine_instance::coefs::list::CoefList;
 use mine_instance::instance::Instance;
-use mine_instance::value_list::ValueList;
+use mine_instance::values::list::ValueList;
 use minelib_writing::text_name::TextName;
 use minelib_writing::write_named;
 use precedence::PredLists;

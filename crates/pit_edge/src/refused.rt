@@ -5,9 +5,9 @@ ghost use Rattle.pit_compile.specs.declared.refusal.Refusal.TheVariants.{OutOfMe
 ghost use Rattle.pit_edge.specs.Refused.{plan_refused, run_status, status_of, text_refused, unread};
 ghost use Rattle.pit_edge.specs.declared.refused.Refused.TheVariants.{Run};
 
-use crate::source::Source;
-use crate::status::{DEVICE, REFUSED, RESOURCES, USAGE};
-use devices::slurp::SlurpFault;
+use crate::refused::source::Source;
+use crate::refused::status::{DEVICE, REFUSED, RESOURCES, USAGE};
+use devices::feeds::slurp::SlurpFault;
 use pit_compile::refusal::Refusal;
 use pit_model::plan_fault::PlanFault;
 use pit_units::OrMemory;
@@ -15,6 +15,10 @@ use std::alloc::{AllocError, AllocFailed};
 use std::fmt;
 use text_lines::text_fault::TextFault;
 use thiserror::Error;
+
+pub mod fault_line;
+pub mod source;
+pub mod status;
 
 /// Why the program refuses. It is shown as its line, without the program's name.
 #[derive(Clone, Copy, Debug, Error, PartialEq, Eq)]

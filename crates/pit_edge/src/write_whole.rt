@@ -4,8 +4,8 @@ ghost use Rattle.std.specs.Io.KnownBytes.{Appends};
 ghost use Rattle.std.specs.Prelude.{OnErr, OnOk};
 ghost use Rattle.pit_edge.specs.WriteWhole.{TakesLess};
 
-use devices::single_write::write_some;
-use devices::sink::SinkFault;
+use devices::sinks::single_write::write_some;
+use devices::sinks::sink::SinkFault;
 use std::io::Write;
 
 /// Writes all these bytes. A write that a signal interrupts is tried again; a write that takes no byte has failed.

@@ -6,8 +6,8 @@ ghost use Rattle.std.specs.Prelude.{◌≡◌, Ok, length, string_bytes, IfOk, I
 ghost use Rattle.pit_edge.specs.ZoneFeeds.{IsUnopened};
 
 use crate::refused::Refused;
-use crate::source::Source;
-use devices::feed::FeedFault;
+use crate::refused::source::Source;
+use devices::feeds::feed::FeedFault;
 use std::alloc::Global;
 
 /// What `opener` gives at each of these paths, in order.

@@ -8,8 +8,8 @@ use Rattle.pit_model.specs.PlanCells.{a_recovery, a_start, plan_kind}
 use Rattle.pit_model.specs.FormulaShapes.{band_at, bands_form, bands_of}
 use Rattle.pit_model.specs.PlanShapes.{a_destination, covers_of}
 use Rattle.pit_model.specs.Stated.{destination_named}
-use Rattle.pit_parts.specs.declared.band.Band.{Band}
-use Rattle.pit_parts.specs.declared.formula.NamedFormula.{NamedFormula}
+use Rattle.pit_parts.specs.declared.formulas.band.Band.{Band}
+use Rattle.pit_parts.specs.declared.formulas.formula.NamedFormula.{NamedFormula}
 use Rattle.pit_model.specs.declared.plan_fault.PlanFaultKind.{PlanFaultKind}
 use Rattle.pit_model.specs.declared.plan_fault.PlanFaultKind.TheVariants.{Name}
 

@@ -15,7 +15,7 @@ use Rattle.pit_model.specs.Stated.{Stated, resource_named}
 use Rattle.pit_model.specs.declared.plan_fault.PlanFaultKind.TheVariants.{Width}
 use Rattle.pit_model.specs.declared.draft.formulas.FormulaKey.{FormulaKey}
 use Rattle.pit_model.specs.declared.draft.formulas.FormulaKey.TheVariants as formula_key
-use Rattle.pit_parts.specs.declared.formula.Formula.TheVariants.{Leach}
+use Rattle.pit_parts.specs.declared.formulas.formula.Formula.TheVariants.{Leach}
 use Rattle.pit_parts.specs.declared.limit.Bound.{Bound}
 use Rattle.pit_model.specs.declared.plan_key.PlanKey.{PlanKey}
 use Rattle.pit_model.specs.declared.plan_key.PlanKey.TheVariants as key

@@ -18,8 +18,8 @@ use Rattle.pit_model.specs.FormulaShapes.{formula_shape}
 use Rattle.pit_model.specs.PlanShapes.{a_destination, blank_shape, bound_form, bound_of, cone_of, covers_of, grid_form, grid_of, is_interval, key_of, key_shape, limit_form, limit_of, record_shape, resource_form, room_for_destination, slope_at, zone_form}
 use Rattle.pit_model.specs.Planned.{SpellPlan, numbered_shape, plan_grammar, whole_plan}
 use Rattle.pit_model.specs.Stated.{Stated, is_same_place, nothing_stated, resource_named, with_destination, with_limit}
-use Rattle.pit_parts.specs.declared.formula.Formula.{Formula}
-use Rattle.pit_parts.specs.declared.formula.NamedFormula.{NamedFormula}
+use Rattle.pit_parts.specs.declared.formulas.formula.Formula.{Formula}
+use Rattle.pit_parts.specs.declared.formulas.formula.NamedFormula.{NamedFormula}
 use Rattle.pit_parts.specs.declared.grid.Grid.{Grid}
 use Rattle.pit_parts.specs.declared.limit.Bound.TheVariants.{AtMost, AtLeast}
 use Rattle.pit_parts.specs.declared.limit.Limit.{Limit}

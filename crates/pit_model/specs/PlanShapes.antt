@@ -13,7 +13,7 @@ use Rattle.pit_model.specs.Stated.{Stated, destination_named, resource_named, wi
 use Rattle.pit_parts.specs.declared.cone.Cone.{Cone}
 use Rattle.pit_parts.specs.declared.cone.Slope.{Slope}
 use Rattle.pit_model.specs.declared.draft.formulas.FormulaKey.{FormulaKey}
-use Rattle.pit_parts.specs.declared.formula.NamedFormula.{NamedFormula}
+use Rattle.pit_parts.specs.declared.formulas.formula.NamedFormula.{NamedFormula}
 use Rattle.pit_parts.specs.declared.grid.Axis.{Axis}
 use Rattle.pit_parts.specs.declared.grid.Grid.{Grid}
 use Rattle.pit_parts.specs.declared.limit.Bound.{Bound}

@@ -3,8 +3,8 @@ use Rattle.std.specs.Prelude.{ℕ, ◌==◌, ◌&&◌, Bool, List, [], ◌∷◌
 use Rattle.std.specs.Str.{bytes_eq}
 use Rattle.pit_parts.specs.PlanKept.{stands_before}
 use Rattle.pit_parts.specs.declared.cone.Cone.{Cone}
-use Rattle.pit_parts.specs.declared.formula.Formula.{Formula}
-use Rattle.pit_parts.specs.declared.formula.NamedFormula.{NamedFormula}
+use Rattle.pit_parts.specs.declared.formulas.formula.Formula.{Formula}
+use Rattle.pit_parts.specs.declared.formulas.formula.NamedFormula.{NamedFormula}
 use Rattle.pit_parts.specs.declared.grid.Grid.{Grid}
 use Rattle.pit_parts.specs.declared.limit.Limit.{Limit}
 use Rattle.pit_parts.specs.declared.resource.Resource.{Resource}

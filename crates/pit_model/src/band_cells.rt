@@ -8,7 +8,7 @@ ghost use Rattle.pit_model.specs.inner.ByPlace.{band_by, bands_in};
 use crate::cells::Cells;
 use crate::numbers::{number_in, whole_in};
 use crate::plan_fault::PlanFaultKind;
-use pit_parts::band::Band;
+use pit_parts::formulas::band::Band;
 use pit_parts::ranges::{MAX_GRADE, MAX_RECOVERY};
 use pit_units::OrMemory;
 

@@ -20,7 +20,7 @@ use crate::plan_fault::PlanFaultKind;
 use crate::plan_key::{PlanKey, key_of};
 use csv::ByteRecord;
 use pit_parts::cone::Cone;
-use pit_parts::formula::NamedFormula;
+use pit_parts::formulas::formula::NamedFormula;
 use pit_parts::grid::Grid;
 use pit_parts::limit::Limit;
 use pit_parts::name::Name;

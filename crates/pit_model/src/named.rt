@@ -11,7 +11,7 @@ ghost use Rattle.pit_parts.specs.declared.ranges.TheConstants.{MAX_DESTINATIONS,
 
 use crate::cells::Cells;
 use crate::plan_fault::PlanFaultKind;
-use pit_parts::formula::NamedFormula;
+use pit_parts::formulas::formula::NamedFormula;
 use pit_parts::name::Name;
 use pit_parts::resource::{Covers, Resource};
 use pit_units::OrMemory;

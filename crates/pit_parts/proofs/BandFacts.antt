@@ -11,7 +11,7 @@ use Rattle.std.proofs.Math.Bool.{and-false}
 use Rattle.pit_parts.specs.PartLaws.{IsBandOf}
 use Rattle.pit_parts.specs.Bands.{recovery_at}
 use Rattle.pit_parts.specs.BandsKept.{AreBands, starts_rise}
-use Rattle.pit_parts.specs.declared.band.Band.{Band}
+use Rattle.pit_parts.specs.declared.formulas.band.Band.{Band}
 
 -- neighbours that rise are bands that rise
 rise_yes : (bands : List Band) → AllAdjacentBelow (λ b c. true ≡ nat_lt b.start c.start) bands (length bands) → starts_rise bands ≡ true

@@ -11,10 +11,10 @@ use Rattle.pit_parts.specs.BandsKept.{IsBand}
 use Rattle.pit_parts.specs.PartLaws.{Earns}
 use Rattle.pit_parts.specs.Formula.{IsRuled}
 use Rattle.pit_parts.specs.Worth.{floor, IsFloor, worth, IsWorth}
-use Rattle.pit_parts.specs.declared.band.Band.{Band}
+use Rattle.pit_parts.specs.declared.formulas.band.Band.{Band}
 use Rattle.pit_parts.specs.declared.block.Block.{Block}
-use Rattle.pit_parts.specs.declared.formula.Formula.{Formula}
-use Rattle.pit_parts.specs.declared.formula.Formula.TheVariants as formula
+use Rattle.pit_parts.specs.declared.formulas.formula.Formula.{Formula}
+use Rattle.pit_parts.specs.declared.formulas.formula.Formula.TheVariants as formula
 
 pub metal_bound : (kg grade recovery price : ℕ) → kg ≤ 10 ^ 9 → grade ≤ 10 ^ 12 → recovery ≤ 1000 → price ≤ 10 ^ 8
     → kg * grade * recovery * price ≤ 10 ^ 32

@@ -1,7 +1,7 @@
 -- What the bands of every leach keep, and when two lists of bands are the same.
 use Rattle.std.specs.Prelude.{◌≡◌, ◌≤◌, Bool, true, ◌&&◌, ◌==◌, nat_lt, List, [], ◌∷◌, length, All}
 use Rattle.std.specs.Cmp.Lexicographic.{pointwise}
-use Rattle.pit_parts.specs.declared.band.Band.{Band}
+use Rattle.pit_parts.specs.declared.formulas.band.Band.{Band}
 use Rattle.pit_parts.specs.declared.ranges.TheConstants.{MAX_BANDS, MAX_GRADE, MAX_RECOVERY}
 
 -- a start of at most 10^12 millionths of a gram per tonne, a recovery of at most 1000 per mille

@@ -1,8 +1,8 @@
 -- The ranges of a formula's numbers.
 use Rattle.std.specs.Prelude.{◌≤◌}
 use Rattle.pit_parts.specs.BandsKept.{AreBands}
-use Rattle.pit_parts.specs.declared.formula.Formula.{Formula}
-use Rattle.pit_parts.specs.declared.formula.Formula.TheVariants as formula
+use Rattle.pit_parts.specs.declared.formulas.formula.Formula.{Formula}
+use Rattle.pit_parts.specs.declared.formulas.formula.Formula.TheVariants as formula
 use Rattle.pit_parts.specs.declared.ranges.TheConstants.{MAX_COST, MAX_PRICE, MAX_RECOVERY}
 
 -- the numbers of a formula are in range

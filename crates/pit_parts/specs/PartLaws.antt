@@ -2,10 +2,10 @@
 use Rattle.std.specs.Prelude.{ℕ, ◌+◌, ◌*◌, ◌≤◌, List, All, ℤ, pos, ◌+ℤ◌, ◌*ℤ◌, ◌≤ℤ◌, codes}
 use Rattle.std.specs.List.{Contains}
 use Rattle.pit_parts.specs.Bands.{recovery_at}
-use Rattle.pit_parts.specs.declared.band.Band.{Band}
+use Rattle.pit_parts.specs.declared.formulas.band.Band.{Band}
 use Rattle.pit_parts.specs.declared.block.Block.{Block}
-use Rattle.pit_parts.specs.declared.formula.Formula.{Formula}
-use Rattle.pit_parts.specs.declared.formula.Formula.TheVariants as formula
+use Rattle.pit_parts.specs.declared.formulas.formula.Formula.{Formula}
+use Rattle.pit_parts.specs.declared.formulas.formula.Formula.TheVariants as formula
 use Rattle.pit_parts.specs.declared.limit.Bound.{Bound}
 use Rattle.pit_parts.specs.declared.limit.Bound.TheVariants.{AtMost, AtLeast, Between}
 use Rattle.pit_parts.specs.declared.limit.Limit.{Limit}

@@ -1,7 +1,7 @@
 -- The formulas of a plan.
 use Rattle.std.specs.Prelude.{List, map}
 use Rattle.pit_parts.specs.Plan.{PlanParts}
-use Rattle.pit_parts.specs.declared.formula.Formula.{Formula}
+use Rattle.pit_parts.specs.declared.formulas.formula.Formula.{Formula}
 
 -- the formulas of a plan's destinations, in its order
 abbrev pub formulas_of_plan : PlanParts → List Formula

@@ -6,7 +6,7 @@ use Rattle.pit_parts.specs.declared.grid.Axis.{Axis}
 use Rattle.pit_parts.specs.declared.grid.Grid.{Grid}
 use Rattle.pit_parts.specs.declared.cone.Slope.{Slope}
 use Rattle.pit_parts.specs.declared.cone.Cone.{Cone}
-use Rattle.pit_parts.specs.declared.formula.NamedFormula.{NamedFormula}
+use Rattle.pit_parts.specs.declared.formulas.formula.NamedFormula.{NamedFormula}
 use Rattle.pit_parts.specs.declared.resource.Resource.{Resource}
 use Rattle.pit_parts.specs.declared.limit.Bound.{Bound}
 use Rattle.pit_parts.specs.declared.limit.Bound.TheVariants.{AtMost, AtLeast, Between}

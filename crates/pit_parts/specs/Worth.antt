@@ -1,10 +1,10 @@
 -- The worth of a block, in cents, at a mill, a heap leach or a dump.
 use Rattle.std.specs.Prelude.{ℕ, ◌*◌, ◌/◌, ◌^◌, ◌≤◌, List, ℤ, pos, negsuc, ◌+ℤ◌, ◌-ℤ◌, ◌*ℤ◌, neg_ℤ, ◌≤ℤ◌, ◌<ℤ◌, unsigned_abs}
 use Rattle.pit_parts.specs.Bands.{recovery_at}
-use Rattle.pit_parts.specs.declared.band.Band.{Band}
+use Rattle.pit_parts.specs.declared.formulas.band.Band.{Band}
 use Rattle.pit_parts.specs.declared.block.Block.{Block}
-use Rattle.pit_parts.specs.declared.formula.Formula.{Formula}
-use Rattle.pit_parts.specs.declared.formula.Formula.TheVariants as formula
+use Rattle.pit_parts.specs.declared.formulas.formula.Formula.{Formula}
+use Rattle.pit_parts.specs.declared.formulas.formula.Formula.TheVariants as formula
 
 -- a by n as a whole number, rounded down, also below zero
 abbrev pub floor : ℤ → ℕ → ℤ

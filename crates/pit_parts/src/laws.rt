@@ -8,14 +8,14 @@ ghost use Rattle.pit_parts.specs.Name.{is_name_byte};
 ghost use Rattle.pit_parts.specs.PartLaws.{name_bytes, place_of, Earns, IsBandOf, KeepsBound};
 ghost use Rattle.pit_parts.specs.PlanKept.{is_turned, stands_before};
 ghost use Rattle.pit_parts.specs.Worth.{floor, IsFloor, worth, IsWorth};
-ghost use Rattle.pit_parts.specs.declared.band.Band.{Band};
+ghost use Rattle.pit_parts.specs.declared.formulas.band.Band.{Band};
 ghost use Rattle.pit_parts.specs.declared.block.Block.{Block};
-ghost use Rattle.pit_parts.specs.declared.formula.Formula.{Formula as AFormula};
+ghost use Rattle.pit_parts.specs.declared.formulas.formula.Formula.{Formula as AFormula};
 ghost use Rattle.pit_parts.specs.declared.limit.Bound.{Bound};
 ghost use Rattle.pit_parts.specs.declared.limit.Limit.{Limit};
 ghost use Rattle.pit_parts.specs.declared.ranges.TheConstants.{MAX_PERIODS};
 
-use crate::formula::Formula;
+use crate::formulas::formula::Formula;
 
 /// The floor of a division is the whole number `q` with `q * n <= a < q * n + n`, and there is no other.
 #[tactic(auto, using(crate::proofs::WorthFacts::floor_is, crate::proofs::WorthFacts::floor_alone))]

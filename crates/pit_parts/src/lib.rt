@@ -1,11 +1,9 @@
 //! Blocks, the parts of a plan, what blocks are worth by its formulas, and the settings of a run.
 #![tactic(auto)]
 
-pub mod band;
 pub mod block;
 pub mod cone;
-pub mod destination;
-pub mod formula;
+pub mod formulas;
 pub mod grid;
 pub mod laws;
 pub mod limit;
@@ -15,4 +13,3 @@ pub mod plan;
 pub mod ranges;
 pub mod resource;
 pub mod settings;
-pub mod worth;

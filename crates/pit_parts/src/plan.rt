@@ -4,7 +4,7 @@ ghost use Rattle.std.specs.Prelude.{◌≡◌};
 ghost use Rattle.pit_parts.specs.PlanKept.{IsPlan, plan_of};
 
 use crate::cone::Cone;
-use crate::formula::NamedFormula;
+use crate::formulas::formula::NamedFormula;
 use crate::grid::Grid;
 use crate::limit::Limit;
 use crate::name::Name;

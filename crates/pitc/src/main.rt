@@ -12,10 +12,10 @@ ghost use Rattle.pit_parts.specs.declared.ranges.TheConstants.{MAX_COST, MAX_PRI
 use pit_check::check::check_files;
 use pit_commands::model::read_model;
 use pit_commands::task::Task;
-use pit_edge::fault_line::tell;
 use pit_edge::plan_file::read_plan_file;
 use pit_edge::refused::Refused;
-use pit_edge::status::{USAGE, finish};
+use pit_edge::refused::fault_line::tell;
+use pit_edge::refused::status::{USAGE, finish};
 use pit_edge::words::words_of;
 use pit_jobs::job::{Job, JobFault, error_text};
 use pit_jobs::stated_job::job;

@@ -4,7 +4,7 @@ use Rattle.std.specs.List.{slice_get}
 use Rattle.std.specs.Option.{option_map}
 use Rattle.std.proofs.Math.Nat.{mul-le-mul_right}
 use Rattle.std.proofs.lemmas.List.{drop-drop, drop-append-le, length-replicate, take_all, take-append-le}
-use Rattle.rows.specs.declared.entry.Entry.{Entry}
+use Rattle.rows.specs.declared.packed.entry.Entry.{Entry}
 use Rattle.rows.specs.declared.item.Item.{Item}
 use Rattle.rows.specs.declared.item.Item.TheVariants as item
 use Rattle.rows.specs.Packed.{IsOfWidth}

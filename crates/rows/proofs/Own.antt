@@ -7,11 +7,11 @@ use Rattle.std.proofs.lemmas.List.{append-nil}
 use Rattle.std.proofs.lemmas.List.Elements.{All-cons, All-nil, All-tail}
 use Rattle.std.proofs.lemmas.Option.{none-some, same_Some, slice_get_within}
 use Rattle.rows.specs.Packed.{row_in, row_of, row_on, HasRow}
-use Rattle.rows.specs.declared.entry.Entry.{Entry}
-use Rattle.rows.specs.declared.entry.Entry.TheVariants.{Row, End}
+use Rattle.rows.specs.declared.packed.entry.Entry.{Entry}
+use Rattle.rows.specs.declared.packed.entry.Entry.TheVariants.{Row, End}
 use Rattle.rows.specs.declared.item.Item.{Item}
 use Rattle.rows.specs.declared.item.Valued.{Valued}
-use Rattle.rows.specs.declared.packed_worths.PackedWorths.{PackedWorths}
+use Rattle.rows.specs.declared.packed.worths.PackedWorths.{PackedWorths}
 use Rattle.rows.specs.declared.spot.Spot.{Spot}
 use Rattle.rows.specs.inner.Entries.{item_with, items_of}
 use Rattle.rows.specs.inner.Own.{own_at, own_on, AreThere, HasOwn, HasWorths}

@@ -2,7 +2,7 @@
 use Rattle.std.specs.Prelude.{ℕ, List, ℤ, map}
 use Rattle.pit_parts.specs.Worth.{worth}
 use Rattle.pit_parts.specs.declared.block.Block.{Block}
-use Rattle.pit_parts.specs.declared.formula.Formula.{Formula}
+use Rattle.pit_parts.specs.declared.formulas.formula.Formula.{Formula}
 use Rattle.rows.specs.declared.item.Valued.{Valued}
 
 -- the worths of a block by these formulas, in their order

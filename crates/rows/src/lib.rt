@@ -1,16 +1,13 @@
 //! Rows with their worths, as valuers hand them on, and the lists that keep those of a file and of all files.
 #![tactic(auto)]
 
-mod entry;
 mod head;
 mod item;
 mod items;
 mod keeps;
 mod long_lists;
 mod mark;
-mod packed_items;
-mod packed_worths;
-mod packing;
+mod packed;
 mod row_lists;
 mod row_worths;
 mod rows;
@@ -21,8 +18,8 @@ pub use item::{Item, Valued};
 pub use items::Items;
 pub use keeps::Keeps;
 pub use mark::Mark;
-pub use packed_items::PackedItems;
-pub use packing::Packing;
+pub use packed::items::PackedItems;
+pub use packed::packing::Packing;
 pub use row_lists::RowLists;
 pub use row_worths::RowWorths;
 pub use rows::Rows;

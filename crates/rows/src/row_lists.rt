@@ -11,9 +11,9 @@ ghost use Rattle.rows.specs.inner.Spots.{first_spot};
 
 use crate::item::{Item, Valued};
 use crate::keeps::Keeps;
-use crate::packed_items::PackedItems;
-use crate::packed_worths::PackedWorths;
-use crate::packing::Packing;
+use crate::packed::items::PackedItems;
+use crate::packed::packing::Packing;
+use crate::packed::worths::PackedWorths;
 use crate::row_worths::RowWorths;
 use crate::spot::Spot;
 use pit_parts::block::Block;

@@ -3,7 +3,7 @@
 ghost use Rattle.std.specs.Prelude.{◌≡◌, ◌<◌, All, length, map, slice_index_or, []};
 ghost use Rattle.rows.specs.inner.Own.{own_on, HasOwn};
 
-use crate::packed_worths::PackedWorths;
+use crate::packed::worths::PackedWorths;
 use crate::spot::Spot;
 use std::marker::Model;
 

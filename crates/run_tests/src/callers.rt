@@ -10,7 +10,7 @@ ghost use Rattle.pit_compile.specs.Verdict.{IsAccepted};
 
 use crate::tests::models::destinations_of;
 use crate::tests::watch::{OPEN, Watch};
-use devices::slice_feed::SliceFeed;
+use devices::feeds::slice_feed::SliceFeed;
 use minelib_text::mem_sink::MemSink;
 use minelib_text::read_instance;
 use minelib_text::text_fault::TextFault;

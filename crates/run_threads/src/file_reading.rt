@@ -8,8 +8,8 @@ ghost use Rattle.run_threads.specs.inner.Sending.{IsUnread, HasPut};
 ghost use Rattle.zone_csv.specs.Zone.{blocks_of, fault_of};
 
 use crate::read_fault::ReadFault;
-use devices::feed::Feed;
-use devices::slurp::{SlurpFault, slurp};
+use devices::feeds::feed::Feed;
+use devices::feeds::slurp::{SlurpFault, slurp};
 use lane::{EndedPut, PutEnd, Taken};
 use pit_parts::plan::Plan;
 use pit_parts::ranges::MAX_FILE_BYTES;

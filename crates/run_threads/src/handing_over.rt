@@ -10,16 +10,16 @@ ghost use Rattle.pit_units.specs.declared.or_memory.OrMemory.TheVariants.{Fault}
 ghost use Rattle.valuers.specs.Valuing.{items_by};
 ghost use Rattle.pit_parts.specs.declared.ranges.TheConstants.{MAX_CAPACITY, MAX_VALUERS};
 
-use crate::giving_up::GaveUp;
+use crate::in_scope::giving_up::GaveUp;
 use crate::in_scope::hand_over_in;
 use crate::opened::open_lane;
 use crate::read_fault::ReadFault;
 use crate::ready::Ready;
 use crate::result_room::room_for;
 use crate::shared::Shared;
-use devices::feed::Feed;
+use devices::feeds::feed::Feed;
 use lane::Gathered;
-use pit_parts::destination::Destination;
+use pit_parts::formulas::destination::Destination;
 use pit_parts::plan::Plan;
 use pit_units::OrMemory;
 use rows::PackedItems;

@@ -3,16 +3,21 @@
 ghost use Rattle.std.specs.Prelude.{◌≡◌, ◌+◌, ◌≤◌, map, vec_len, IfErr, IfOk};
 ghost use Rattle.run_threads.specs.inner.HandingOver.{IsHandedOver};
 
-use crate::giving_up::GaveUp;
 use crate::handing_over::HandedOver;
+use crate::in_scope::giving_up::GaveUp;
+use crate::in_scope::settling::{give_up, settle};
+use crate::in_scope::starting::{start_readers, start_valuers};
 use crate::opened::Opened;
 use crate::ready::Ready;
-use crate::settling::{give_up, settle};
-use crate::starting::{start_readers, start_valuers};
-use devices::feed::Feed;
+use devices::feeds::feed::Feed;
 use std::sync::Wait;
 use std::thread::{Scope, Threads};
 use valuers::Gate;
+
+pub mod giving_up;
+pub mod joining;
+pub mod settling;
+pub mod starting;
 
 /// Starts the valuers and then the readers of a run, and settles. After a refused start it ends what was started.
 pub fn hand_over_in<'s, E, R: Threads + Wait + Sync, F: Feed + Send + Drop + 's, G: Gate + Sync>(

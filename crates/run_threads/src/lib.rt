@@ -2,18 +2,14 @@
 #![tactic(auto)]
 
 mod file_reading;
-mod giving_up;
 mod handing_over;
 mod in_scope;
-mod joining;
 mod opened;
 mod promises;
 mod read_fault;
 mod ready;
 mod result_room;
-mod settling;
 mod shared;
-mod starting;
 
 pub use handing_over::{Allowance, HandedOver, NoThread, hand_over};
 pub use read_fault::ReadFault;

@@ -1,7 +1,7 @@
 //! What the threads of a run promise of what they give back.
 
 use crate::file_reading::FileRead;
-use devices::feed::Feed;
+use devices::feeds::feed::Feed;
 use lane::{PutEnd, TakeEnd};
 use pit_parts::plan::Plan;
 use std::snapshot::Snapshot;

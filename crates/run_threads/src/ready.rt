@@ -7,7 +7,7 @@ use crate::opened::Opened;
 use crate::promises::{ReaderHandle, ValuerHandle};
 use crate::result_room::ResultRoom;
 use crate::shared::Shared;
-use devices::feed::Feed;
+use devices::feeds::feed::Feed;
 
 /// A run that is ready to start: all memory that it needs besides that of its threads is taken.
 #[derive(Drop)]

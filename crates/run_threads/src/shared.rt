@@ -4,7 +4,7 @@ ghost use Rattle.std.specs.Prelude.{◌≤◌, length};
 ghost use Rattle.pit_parts.specs.Destinations.{AreOfPlan};
 ghost use Rattle.pit_parts.specs.declared.ranges.TheConstants.{MAX_DESTINATIONS};
 
-use pit_parts::destination::Destination;
+use pit_parts::formulas::destination::Destination;
 use pit_parts::plan::Plan;
 use std::alloc::Global;
 

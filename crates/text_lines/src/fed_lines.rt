@@ -1,15 +1,15 @@
 //! Reading the lines of a text while a feed gives it.
 
 ghost use Rattle.std.specs.Prelude.{◌≡◌, ◌≢◌, ◌+◌, ◌<◌, ◌≤◌, Err, [], length, IfOk, OnOk, IfSome, IsErrOf, IsTrue};
-ghost use Rattle.devices.specs.declared.slurp.SlurpFault.TheVariants as SlurpFault;
-ghost use Rattle.devices.specs.declared.slurp.TheConstants.{GREATEST_LIMIT};
+ghost use Rattle.devices.specs.declared.feeds.slurp.SlurpFault.TheVariants as SlurpFault;
+ghost use Rattle.devices.specs.declared.feeds.slurp.TheConstants.{GREATEST_LIMIT};
 ghost use Rattle.text_lines.specs.Fed.{IsFedReading};
 
 use crate::line_by_line::Admit;
 use crate::text_fault::LineFault;
 use crate::waiting::Waiting;
-use devices::feed::Feed;
-use devices::slurp::SlurpFault;
+use devices::feeds::feed::Feed;
+use devices::feeds::slurp::SlurpFault;
 use pit_units::OrMemory;
 use std::alloc::Global;
 

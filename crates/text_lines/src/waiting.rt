@@ -1,8 +1,8 @@
 //! The bytes of a feed of which no line was taken yet.
 
 ghost use Rattle.std.specs.Prelude.{◌≡◌, ◌≢◌, ◌+◌, ◌<◌, ◌≤◌, ◌^◌, Err, [], length, take, vec_len, IfOk, IfErr, OnOk, OnErr, IfSome, IsErrOf, IsOk, IsTrue, drop, true};
-ghost use Rattle.devices.specs.declared.slurp.SlurpFault.TheVariants as SlurpFault;
-ghost use Rattle.devices.specs.declared.slurp.TheConstants.{GREATEST_LIMIT};
+ghost use Rattle.devices.specs.declared.feeds.slurp.SlurpFault.TheVariants as SlurpFault;
+ghost use Rattle.devices.specs.declared.feeds.slurp.TheConstants.{GREATEST_LIMIT};
 ghost use Rattle.text_lines.specs.Reading.{Leaves, read_lines};
 ghost use Rattle.text_lines.specs.TextLines.{lines_of, numbered_lines};
 ghost use Rattle.text_lines.specs.inner.Waiting.{AreWholeLines, Gave, GaveAll, Held, IsLastReading, TakesEnded, front_end, front_lines, none_held, unmarked};
@@ -10,9 +10,9 @@ ghost use Rattle.text_lines.specs.inner.Waiting.{AreWholeLines, Gave, GaveAll, H
 use crate::cut_lines::without_mark;
 use crate::line_by_line::{Admit, read_on};
 use crate::text_fault::LineFault;
-use devices::feed::Feed;
-use devices::filling::{make_room, pull_behind};
-use devices::slurp::{GREATEST_LIMIT, SlurpFault};
+use devices::feeds::feed::Feed;
+use devices::feeds::filling::{make_room, pull_behind};
+use devices::feeds::slurp::{GREATEST_LIMIT, SlurpFault};
 use memchr::memrchr;
 use pit_units::OrMemory;
 use std::alloc::Global;
@@ -30,7 +30,7 @@ pub struct Waiting {
 
 impl Model for Waiting {
     ghost use Rattle.std.specs.Prelude.{◌≤◌, ◌+◌, take, vec_len};
-    ghost use Rattle.devices.specs.declared.slurp.TheConstants.{GREATEST_LIMIT};
+    ghost use Rattle.devices.specs.declared.feeds.slurp.TheConstants.{GREATEST_LIMIT};
     ghost use Rattle.text_lines.specs.inner.Waiting.{WaitingView};
 
     ghost Value = { WaitingView };

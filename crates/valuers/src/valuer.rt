@@ -10,7 +10,7 @@ ghost use Rattle.pit_parts.specs.declared.ranges.TheConstants.{MAX_DESTINATIONS}
 use crate::gate::Gate;
 use crate::valuing::worths_of;
 use lane::{TakeEnd, Taken};
-use pit_parts::destination::Destination;
+use pit_parts::formulas::destination::Destination;
 use rows::{Item, Items, Keeps, PackedItems, Packing, Valued};
 use std::alloc::{AllocError, Global};
 use std::sync::Wait;

@@ -8,7 +8,7 @@ ghost use Rattle.rows.specs.Valued.{worths_by};
 ghost use Rattle.valuers.specs.Valuing.{AreAnswered};
 
 use pit_parts::block::Block;
-use pit_parts::destination::{Destination, Valuer};
+use pit_parts::formulas::destination::{Destination, Valuer};
 use rows::{MAX_WORTHS, Worths};
 
 /// What a block is worth at each of 1 to 8 destinations, in their order.

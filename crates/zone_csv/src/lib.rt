@@ -8,4 +8,4 @@ mod row;
 pub mod row_fault;
 pub mod zone_reader;
 
-pub use devices::{feed, file_feed, mem_feed, slice_feed, slurp};
+pub use devices::feeds::{feed, file_feed, mem_feed, slice_feed, slurp};

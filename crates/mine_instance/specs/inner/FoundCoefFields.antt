@@ -2,9 +2,9 @@
 use Rattle.std.specs.Prelude.{ℕ, ◌*◌, ◌≤◌, ◌==◌, List, [], ◌∷◌, pos, length, map, if◌then◌else◌}
 use Rattle.std.specs.List.{flat_map, enumerate_from}
 use Rattle.pit_parts.specs.declared.block.Block.{Block}
-use Rattle.mine_instance.specs.declared.coef.Coef.{Coef}
-use Rattle.mine_instance.specs.declared.found_coefs.FoundCoefs.TheInside.{Inside}
-use Rattle.mine_instance.specs.declared.found_coefs.HeavyBlock.{HeavyBlock}
+use Rattle.mine_instance.specs.declared.coefs.coef.Coef.{Coef}
+use Rattle.mine_instance.specs.declared.coefs.found.FoundCoefs.TheInside.{Inside}
+use Rattle.mine_instance.specs.declared.coefs.found.HeavyBlock.{HeavyBlock}
 use Rattle.pit_parts.specs.declared.ranges.TheConstants.{MAX_BLOCKS, MAX_DESTINATIONS, MAX_RESOURCES}
 
 -- a block, where it has tonnage

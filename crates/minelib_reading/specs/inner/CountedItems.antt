@@ -1,6 +1,6 @@
 -- How counted blocks, values and coefficients are seen as lists.
 use Rattle.std.specs.Prelude.{ℕ, ◌+◌, ◌*◌, List, [], ◌∷◌, ◌++◌, ℤ, Option, Some, None}
-use Rattle.mine_instance.specs.declared.coef.Coef.{Coef}
+use Rattle.mine_instance.specs.declared.coefs.coef.Coef.{Coef}
 use Rattle.pit_parts.specs.declared.block.Block.{Block}
 use Rattle.minelib_reading.specs.declared.counted.PastBlocks.{PastBlocks}
 use Rattle.minelib_reading.specs.declared.counted.PastBlocks as blocks

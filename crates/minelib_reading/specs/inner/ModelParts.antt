@@ -4,7 +4,7 @@ use Rattle.std.specs.Borrow.{Bor}
 use Rattle.forms.specs.Words.{Field, Value, millionths, whole_at, read, read_field, read_fields, Shape, said, ◌>>=◌}
 use Rattle.pit_parts.specs.Name.{is_name}
 use Rattle.pit_parts.specs.declared.limit.Limit.{Limit}
-use Rattle.mine_instance.specs.declared.coef.Coef.{Coef}
+use Rattle.mine_instance.specs.declared.coefs.coef.Coef.{Coef}
 use Rattle.minelib_reading.specs.ItemForms.{coef_form, coef_said, limit_form, limit_said, row_said, values_form}
 use Rattle.minelib_lines.specs.HeaderTable.{field_of}
 use Rattle.text_lines.specs.LineKinds.{text_kind, text_kinds}

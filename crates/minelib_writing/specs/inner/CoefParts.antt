@@ -2,13 +2,13 @@
 use Rattle.std.specs.Prelude.{◌≡◌, ℕ, ◌+◌, ◌<◌, ◌&&◌, Bool, true, false, nat_lt, IsTrue, ℤ, List, [], ◌∷◌, ◌++◌, length, slice_index_or, map, filter, if◌then◌else◌}
 use Rattle.std.proofs.Common.{ap, cond, refl}
 use Rattle.mine_instance.specs.OfCpit.{is_chosen, without_destination}
-use Rattle.mine_instance.specs.declared.coef.Coef.{Coef}
+use Rattle.mine_instance.specs.declared.coefs.coef.Coef.{Coef}
 use Rattle.minelib_lines.specs.Lines.{line_of, lines_from, text_of}
 use Rattle.minelib_lines.specs.declared.problem.Problem.TheVariants.{Pcpsp}
 use Rattle.minelib_writing.specs.Written.{coef_fields, cpit_coef_fields}
 use Rattle.minelib_writing.specs.inner.Parts.{joined}
-use Rattle.minelib_writing.specs.declared.coef_lines.CoefForm.{CoefForm}
-use Rattle.minelib_writing.specs.declared.coef_lines.CoefForm.TheVariants.{OfAll, OfChosen}
+use Rattle.minelib_writing.specs.declared.lines.coefs.CoefForm.{CoefForm}
+use Rattle.minelib_writing.specs.declared.lines.coefs.CoefForm.TheVariants.{OfAll, OfChosen}
 
 -- the line of a coefficient, with its LF
 abbrev pub coef_text : Coef → List ℕ

@@ -3,8 +3,8 @@
 ghost use Rattle.std.specs.Prelude.{◌<◌, length};
 
 use mine_instance::FoundCoefs;
-use mine_instance::coef::{Coef, Coefs};
-use mine_instance::coef_list::{CoefList, keep};
+use mine_instance::coefs::coef::{Coef, Coefs};
+use mine_instance::coefs::list::{CoefList, keep};
 use pit_parts::block::Block;
 use pit_parts::ranges::MAX_BLOCKS;
 use pit_units::Dec;

@@ -1,7 +1,7 @@
 ghost use Rattle.std.specs.Prelude.{◌≤◌};
 
-use devices::mem_feed::MemFeed;
-use devices::slurp::{SlurpFault, slurp};
+use devices::feeds::mem_feed::MemFeed;
+use devices::feeds::slurp::{SlurpFault, slurp};
 use std::alloc::{AllocError, Global};
 use std::test::Fail;
 

@@ -7,7 +7,7 @@ ghost use Rattle.precedence.specs.Cone.{HasZones};
 ghost use Rattle.rows.specs.Valued.{worths_by};
 
 use super::are_millionths;
-use mine_instance::coef::Coef;
+use mine_instance::coefs::coef::Coef;
 use mine_instance::cpit::{Cpit, CpitCoef};
 use mine_instance::instance::Instance;
 use mine_instance::{build, build_cpit, is_valid};

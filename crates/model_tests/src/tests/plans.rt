@@ -4,7 +4,7 @@ use pit_model::plan::Plan;
 use pit_model::plan_fault::{PlanFault, PlanFaultKind};
 use pit_model::read_plan;
 use pit_parts::cone::{Cone, Slope};
-use pit_parts::formula::{Formula, NamedFormula};
+use pit_parts::formulas::formula::{Formula, NamedFormula};
 use pit_parts::grid::{Axis, Grid};
 use pit_parts::limit::{Bound, Limit};
 use pit_parts::name::Name;

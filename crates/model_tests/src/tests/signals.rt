@@ -1,10 +1,10 @@
 //! Files whose reads and writes a signal interrupts.
 
-use devices::file_feed::FileFeed;
-use devices::file_sink::FileSink;
-use devices::sink::Sink;
-use devices::slices::put_all;
-use devices::slurp::slurp;
+use devices::feeds::file_feed::FileFeed;
+use devices::feeds::slurp::slurp;
+use devices::sinks::file_sink::FileSink;
+use devices::sinks::sink::Sink;
+use devices::sinks::slices::put_all;
 use std::alloc::Allocator;
 use std::fs::{self, Metadata, OpenFile, OpenOptions};
 use std::io::{self, ErrorKind, Read, Seek, SeekFrom, Write};

@@ -3,8 +3,8 @@
 ghost use Rattle.std.specs.Prelude.{IfOk};
 ghost use Rattle.mine_instance.specs.Valid.{IsValid};
 
-use devices::mem_sink::MemSink;
-use devices::write_fault::WriteFault;
+use devices::sinks::mem_sink::MemSink;
+use devices::sinks::write_fault::WriteFault;
 use mine_instance::instance::Instance;
 use minelib_reading::read_instance;
 use minelib_writing::text_name::TextName;

@@ -2,7 +2,7 @@
 
 use super::texts::{LIMITED, instance_of};
 use mine_instance::blocks::Blocks;
-use mine_instance::coef::{Coef, Coefs};
+use mine_instance::coefs::coef::{Coef, Coefs};
 use mine_instance::instance::Instance;
 use mine_instance::is_valid;
 use mine_instance::limits::Limits;

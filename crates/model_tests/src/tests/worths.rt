@@ -7,8 +7,8 @@ ghost use Rattle.pit_parts.specs.Worth.{worth};
 use pit_model::plan::Plan;
 use pit_model::read_plan;
 use pit_parts::block::Block;
-use pit_parts::destination::{Destination, Valuer};
-use pit_parts::formula::Formula;
+use pit_parts::formulas::destination::{Destination, Valuer};
+use pit_parts::formulas::formula::Formula;
 use std::alloc::{AllocError, Global};
 use std::test::Fail;
 

@@ -9,8 +9,8 @@ use Rattle.pit_check.specs.inner.CountSteps.{counted_on}
 use Rattle.pit_compile.specs.declared.refusal.Refusal.TheVariants.{OutOfMemory}
 use Rattle.pit_edge.specs.declared.refused.Refused.{Refused}
 use Rattle.pit_edge.specs.declared.refused.Refused.TheVariants.{NotUtf8, FeedFailed, TooLong, Plan, Text, Run}
-use Rattle.pit_edge.specs.declared.source.Source.TheVariants as source
-use Rattle.devices.specs.declared.feed.FeedFault.{FeedFault}
+use Rattle.pit_edge.specs.declared.refused.source.Source.TheVariants as source
+use Rattle.devices.specs.declared.feeds.feed.FeedFault.{FeedFault}
 
 -- `Opens` says what opening a path may answer, and `left` what a feed has left, where it tells that
 module _ {F : Type 0} (Opens : List ℕ → Result F FeedFault → Type 0) (left : F → Option (List ℕ)) (base : List ℕ) where

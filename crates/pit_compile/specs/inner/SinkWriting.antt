@@ -1,7 +1,7 @@
 -- What comes of writing to one sink, as the answer of the run.
 use Rattle.std.specs.Prelude.{Result, Ok, Err}
 use Rattle.minelib_writing.specs.declared.text_name.TextName.{TextName}
-use Rattle.devices.specs.declared.sink.SinkFault.{SinkFault}
+use Rattle.devices.specs.declared.sinks.sink.SinkFault.{SinkFault}
 use Rattle.pit_units.specs.declared.or_memory.OrMemory.{OrMemory}
 use Rattle.pit_units.specs.declared.or_memory.OrMemory.TheVariants as write
 use Rattle.pit_compile.specs.declared.refusal.Refusal.{Refusal}

@@ -7,12 +7,12 @@ use Rattle.pit_model.specs.FormulaShapes.{band_at, bands_asked, bands_form, band
 use Rattle.pit_model.specs.PlanShapes.{a_destination, a_resource, bound_form, bound_of, cone_of, covers_of, destination_shape, is_interval, key_shape, limit_asked, limit_form, limit_on, new_destination, record_shape, resource_asked, room_for_destination, room_for_zone, zone_form}
 use Rattle.pit_model.specs.Planned.{numbered_shape, plan_grammar}
 use Rattle.pit_model.specs.Stated.{Stated, with_destination, with_limit, with_resource, with_zone}
-use Rattle.pit_parts.specs.declared.band.Band.{Band}
+use Rattle.pit_parts.specs.declared.formulas.band.Band.{Band}
 use Rattle.pit_model.specs.declared.draft.formulas.FormulaKey.{FormulaKey}
 use Rattle.pit_model.specs.declared.draft.formulas.FormulaKey.TheVariants as formula_key
-use Rattle.pit_parts.specs.declared.formula.Formula.{Formula}
-use Rattle.pit_parts.specs.declared.formula.Formula.TheVariants.{Leach}
-use Rattle.pit_parts.specs.declared.formula.NamedFormula.{NamedFormula}
+use Rattle.pit_parts.specs.declared.formulas.formula.Formula.{Formula}
+use Rattle.pit_parts.specs.declared.formulas.formula.Formula.TheVariants.{Leach}
+use Rattle.pit_parts.specs.declared.formulas.formula.NamedFormula.{NamedFormula}
 use Rattle.pit_parts.specs.declared.limit.Bound.{Bound}
 use Rattle.pit_parts.specs.declared.limit.Limit.{Limit}
 use Rattle.pit_model.specs.declared.plan_fault.PlanFault.{PlanFault}

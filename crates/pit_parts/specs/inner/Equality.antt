@@ -5,7 +5,7 @@ use Rattle.std.specs.Bool.{Decides, one_answer, IsTrue}
 use Rattle.std.specs.Cmp.{IsEquivalence}
 use Rattle.std.specs.Cmp.Lexicographic.{pointwise_decides}
 use Rattle.pit_parts.specs.BandsKept.{band_eq, bands_eq}
-use Rattle.pit_parts.specs.declared.band.Band.{Band}
+use Rattle.pit_parts.specs.declared.formulas.band.Band.{Band}
 
 -- a test that tells equality is an equivalence
 pub equivalence : {K : Type 0} {E : K → K → Bool} → ((x y : K) → Decides (E x y) (x ≡ y)) → IsEquivalence E

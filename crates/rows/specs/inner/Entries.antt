@@ -1,7 +1,7 @@
 -- How items are kept whose worths stand in one list, of each item as many.
 use Rattle.std.specs.Prelude.{ℕ, ℤ, pos, List, [], ◌∷◌, take, drop, replicate}
-use Rattle.rows.specs.declared.entry.Entry.{Entry}
-use Rattle.rows.specs.declared.entry.Entry.TheVariants.{Row, End}
+use Rattle.rows.specs.declared.packed.entry.Entry.{Entry}
+use Rattle.rows.specs.declared.packed.entry.Entry.TheVariants.{Row, End}
 use Rattle.rows.specs.declared.item.Item.{Item}
 use Rattle.rows.specs.declared.item.Item.TheVariants as item
 

@@ -4,7 +4,7 @@ use Rattle.std.specs.Option.{option_map, unwrap_or}
 use Rattle.rows.specs.Packed.{row_of}
 use Rattle.rows.specs.declared.item.Item.{Item}
 use Rattle.rows.specs.declared.item.Valued.{Valued}
-use Rattle.rows.specs.declared.packed_worths.PackedWorths.{PackedWorths}
+use Rattle.rows.specs.declared.packed.worths.PackedWorths.{PackedWorths}
 use Rattle.rows.specs.declared.spot.Spot.{Spot}
 
 -- the worths at a position

@@ -1,6 +1,6 @@
 //! The end of a run: what is written where, and the status.
 
-use pit_edge::status::{DEVICE, REFUSED, RESOURCES, finish};
+use pit_edge::refused::status::{DEVICE, REFUSED, RESOURCES, finish};
 use std::alloc::Global;
 use std::io::{self, ErrorKind, Write};
 use std::process::ExitCode;

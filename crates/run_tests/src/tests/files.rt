@@ -2,8 +2,8 @@
 
 use crate::tests::models::destinations_of;
 use crate::tests::watch::{OPEN, Watch};
-use devices::feed::FeedFault;
-use devices::file_feed::FileFeed;
+use devices::feeds::feed::FeedFault;
+use devices::feeds::file_feed::FileFeed;
 use pit_check::check::check_files;
 use pit_commands::compile::compile_files;
 use pit_compile::settings::Settings;

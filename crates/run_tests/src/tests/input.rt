@@ -1,7 +1,7 @@
 //! An input that is interrupted, ends or fails.
 
-use pit_edge::fault_line::tell;
 use pit_edge::input::read_whole;
+use pit_edge::refused::fault_line::tell;
 use std::alloc::Global;
 use std::io;
 use std::io::{ErrorKind, Read};

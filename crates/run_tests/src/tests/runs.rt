@@ -2,8 +2,8 @@
 
 use crate::tests::models::destinations_of;
 use crate::tests::watch::Watched;
-use devices::feed::Feed;
-use devices::mem_feed::MemFeed;
+use devices::feeds::feed::Feed;
+use devices::feeds::mem_feed::MemFeed;
 use minelib_text::mem_sink::MemSink;
 use minelib_text::text_name::TextName;
 use pit_compile::refusal::Refusal;

@@ -1,6 +1,6 @@
 //! What a run calls: its gate, the closures of its destinations, and a feed.
 
-use devices::feed::{Feed, FeedFault};
+use devices::feeds::feed::{Feed, FeedFault};
 use std::alloc::Global;
 use std::sync::atomic::{AtomicU64, Ordering};
 use std::sync::{Arc, Wait};

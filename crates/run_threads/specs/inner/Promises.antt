@@ -2,7 +2,7 @@
 use Rattle.std.specs.Prelude.{◌≡◌, ℕ, ◌+◌, ◌<◌, Bool, true, List, [], ◌∷◌, ◌++◌, length, drop, Option, Result, IsFalse}
 use Rattle.lane.specs.Ends.{PutEndView, TakeEndView}
 use Rattle.lane.specs.MessageKinds.{is_done}
-use Rattle.pit_parts.specs.declared.formula.Formula.{Formula}
+use Rattle.pit_parts.specs.declared.formulas.formula.Formula.{Formula}
 use Rattle.pit_parts.specs.Plan.{PlanParts}
 use Rattle.pit_parts.specs.declared.grid.Grid.{Grid}
 use Rattle.valuers.specs.Valuing.{items_by}

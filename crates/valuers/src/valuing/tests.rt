@@ -5,9 +5,9 @@ ghost use Rattle.pit_parts.specs.Worth.{dump};
 
 use super::worths_of;
 use pit_parts::block::Block;
-use pit_parts::destination::{Destination, Valuer};
-use pit_parts::formula::Formula;
-use pit_parts::worth::dump_worth;
+use pit_parts::formulas::destination::{Destination, Valuer};
+use pit_parts::formulas::formula::Formula;
+use pit_parts::formulas::worth::dump_worth;
 use std::alloc::Global;
 use std::sync::Arc;
 use std::sync::atomic::{AtomicU64, Ordering};

@@ -3,8 +3,8 @@
 ghost use Rattle.std.specs.Prelude.{◌≤◌};
 
 use super::{CPIT, PCPSP};
-use devices::mem_feed::MemFeed;
-use devices::slurp::{GREATEST_LIMIT, SlurpFault};
+use devices::feeds::mem_feed::MemFeed;
+use devices::feeds::slurp::{GREATEST_LIMIT, SlurpFault};
 use minelib_lines::problem::Problem;
 use minelib_reading::{count_arcs, count_blocks, count_model};
 use std::alloc::{AllocError, Global};

@@ -1,7 +1,7 @@
 //! A file as a sink: what `pitc`, which begins each file once, does not show.
 
-use devices::file_sink::FileSink;
-use devices::sink::Sink;
+use devices::sinks::file_sink::FileSink;
+use devices::sinks::sink::Sink;
 use std::fs;
 use std::test::Fail;
 

@@ -2,9 +2,9 @@ ghost use Rattle.mine_instance.specs.Valid.{IsValid};
 
 use super::{CPIT, LIMITED, NINE_ABOVE, PCPSP, PREC, Texts, instance_of, is_text};
 use crate::tests::are_millionths;
-use devices::mem_sink::MemSink;
-use devices::write_fault::WriteFault;
-use mine_instance::coef::Coef;
+use devices::sinks::mem_sink::MemSink;
+use devices::sinks::write_fault::WriteFault;
+use mine_instance::coefs::coef::Coef;
 use mine_instance::cpit::{Cpit, CpitCoef};
 use mine_instance::instance::Instance;
 use minelib_reading::read_cpit;

@@ -1,7 +1,7 @@
 //! Texts one after the other behind what a vector holds.
 
-use devices::section_sink::SectionSink;
-use devices::sink::Sink;
+use devices::sinks::section_sink::SectionSink;
+use devices::sinks::sink::Sink;
 use std::alloc::Global;
 use std::test::Fail;
 

@@ -2,8 +2,8 @@ ghost use Rattle.std.specs.Prelude.{◌≤◌};
 ghost use Rattle.mine_instance.specs.Valid.{IsValid};
 
 use super::{BLOCKS, LIMITED, PCPSP, PREC, instance_of, write};
-use devices::mem_sink::MemSink;
-use devices::sink::SinkFault;
+use devices::sinks::mem_sink::MemSink;
+use devices::sinks::sink::SinkFault;
 use mine_instance::build_cpit;
 use mine_instance::instance::Instance;
 use minelib_writing::text_name::TextName;

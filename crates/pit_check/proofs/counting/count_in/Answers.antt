@@ -1,4 +1,4 @@
-use Rattle.devices.specs.declared.slurp.TheConstants.{GREATEST_LIMIT}
+use Rattle.devices.specs.declared.feeds.slurp.TheConstants.{GREATEST_LIMIT}
 use Rattle.pit_check.proofs.CountedAll.{arcs_told, blocks_told, cpit_told, model_told}
 use Rattle.pit_check.proofs.counting.count_in.Goals as goal
 

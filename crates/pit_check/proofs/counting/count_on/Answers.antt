@@ -1,4 +1,4 @@
-use Rattle.devices.specs.declared.slurp.TheConstants.{GREATEST_LIMIT}
+use Rattle.devices.specs.declared.feeds.slurp.TheConstants.{GREATEST_LIMIT}
 use Rattle.pit_check.proofs.CountedAll.{told}
 use Rattle.pit_check.proofs.counting.count_on.Goals as goal
 

@@ -1,7 +1,7 @@
 use Rattle.std.proofs.Common.{rules, All, length}
 use Rattle.std.proofs.lemmas.List.{length-map}
 use Rattle.minelib_writing.specs.inner.CoefParts.{coef_part}
-use Rattle.minelib_writing.specs.declared.coef_lines.CoefForm.TheVariants.{OfAll}
+use Rattle.minelib_writing.specs.declared.lines.coefs.CoefForm.TheVariants.{OfAll}
 use Rattle.minelib_lines.specs.Kept.{IsInDecimalRange, HasDecimals}
 use Rattle.minelib_lines.specs.HeaderTable.{key_value, keys_of, type_text}
 use Rattle.minelib_lines.specs.LineValues.{header_of}

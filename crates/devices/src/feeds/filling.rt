@@ -1,0 +1,64 @@
+//! A buffer that a feed fills.
+
+ghost use Rattle.std.specs.Prelude.{◌≡◌, ◌+◌, ◌<◌, ◌≤◌, ◌^◌, [], length, take, vec_len, IsTrue, IsOk, IfOk, OnOk, OnErr, IfSome};
+ghost use Rattle.devices.specs.Feed.{GaveBehind};
+
+use crate::feeds::feed::{Feed, FeedFault};
+use std::alloc::AllocError;
+
+// The most by which a buffer is made longer at a time, in bytes.
+const CHUNK: usize = 262_144;
+
+/// Leaves room for a byte behind the first `filled`, within the first `most`. Memory of the list doubles, so that a long feed is copied a
+/// bounded number of times, and is written no further than the next bytes go.
+pub fn make_room(bytes: &mut Vec<u8>, filled: usize, most: usize) -> Result<(), AllocError>
+    requires filled { filled ≤ vec_len bytes.old }
+    requires within { vec_len bytes.old ≤ most }
+    requires open { filled < most }
+    requires most { most ≤ 2 ^ 37 }
+    ensures room { OnOk result (filled < vec_len bytes.new) }
+    ensures filled { filled ≤ vec_len bytes.new }
+    ensures within { vec_len bytes.new ≤ most }
+    ensures kept { take filled bytes.new.items ≡ take filled bytes.old.items }
+{
+    if filled == bytes.len() {
+        let wanted = (filled + CHUNK).min(most);
+        bytes.resize(wanted, 0)?;
+    }
+    Ok(())
+}
+
+/// One pull of at most `most` bytes into a buffer, behind its first `filled`.
+#[tactic(auto, using(crate::proofs::Giving::gave_behind))]
+pub fn pull_behind<F: Feed>(
+    feed: &mut F,
+    buffer: &mut [u8],
+    filled: usize,
+    most: usize,
+) -> Result<usize, FeedFault>
+    requires room { filled < length buffer.old }
+    requires some { 0 < most }
+
+    // On success the next bytes stand behind the filled ones, which stay.
+    ensures most { IfOk result (λ count. count ≤ most) }
+    ensures within { IfOk result (λ count. filled + count ≤ length buffer.new) }
+    ensures gave { IfOk result (λ count. GaveBehind count filled buffer.old buffer.new
+        (F.left feed.old) (F.left feed.new)) }
+    ensures front { take filled buffer.new ≡ take filled buffer.old }
+    ensures end { IfOk result (λ count. count ≡ 0
+        → IfSome (F.left feed.old) (λ bytes. bytes ≡ [])) }
+    ensures counts { IfOk result (λ count. F.given feed.new ≡ F.given feed.old + count) }
+    ensures works { OnOk result (F.failures feed.new ≡ F.failures feed.old) }
+
+    // On failure nothing was given, and one refusal more is counted.
+    ensures refused_left { OnErr result (F.left feed.new ≡ F.left feed.old) }
+    ensures refused_given { OnErr result (F.given feed.new ≡ F.given feed.old) }
+    ensures fails { OnErr result (F.failures feed.new ≡ F.failures feed.old + 1) }
+
+    // A sure feed never fails.
+    ensures sure { IsTrue (F.is_sure feed.old) → IsOk result }
+    ensures stays_sure { IsTrue (F.is_sure feed.old) → IsTrue (F.is_sure feed.new) }
+{
+    let end = filled + most.min(buffer.len() - filled);
+    feed.pull(&mut buffer[filled..end])
+}

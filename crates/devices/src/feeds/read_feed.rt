@@ -1,0 +1,98 @@
+//! An input as a feed.
+
+ghost use Rattle.std.specs.Io.KnownBytes.{ReadConsumes};
+ghost use Rattle.std.specs.Prelude.{◌≡◌, ◌+◌, ◌<◌, ◌≤◌, [], false, length, take, IfOk, IfSome, OnOk, OnErr};
+ghost use Rattle.devices.specs.Feed.{put_back};
+
+use crate::count::{Count, raised};
+use crate::feeds::feed::{Feed, FeedFault};
+use crate::feeds::single_read::read_some;
+use std::io::Read;
+use std::marker::Model;
+use std::snapshot::Snapshot;
+
+/// A feed of an input, from the byte where the input stands. It tells which bytes it will give as far as the input told them at first,
+/// and any pull may fail. It takes no memory.
+#[derive(Drop)]
+pub struct ReadFeed<R: Read> {
+    input: R,
+    // the input before the first pull
+    first: Snapshot<R>,
+    given: Count,
+    failures: Count,
+}
+
+impl<R: Read> Model for ReadFeed<R> {
+    ghost use Rattle.devices.specs.Count.{count_of};
+    ghost use Rattle.devices.specs.Feed.{left_after};
+    ghost use Rattle.devices.specs.ReadFeedView.{ReadFeedView};
+    ghost use Rattle.devices.specs.inner.ReadFeedFields.{HasGiven};
+
+    ghost Value = { ReadFeedView };
+
+    ghost view = { λ f. record {
+      left = left_after (count_of f.given) (R.remaining f.first.value);
+      given = count_of f.given;
+      failures = count_of f.failures;
+    } };
+
+    ghost invariant = { λ f. HasGiven (count_of f.given) (R.remaining f.first.value)
+        (R.remaining f.input) };
+}
+
+impl<R: Read> ReadFeed<R> {
+    /// A feed of this input.
+    pub fn new(input: R) -> ReadFeed<R>
+        ensures { result ≡ record { left = R.remaining input; given = 0; failures = 0 } }
+    {
+        let first = Snapshot::of(&input);
+        ReadFeed {
+            input,
+            first,
+            given: Count::Zero,
+            failures: Count::Zero,
+        }
+    }
+}
+
+impl<R: Read> Feed for ReadFeed<R> {
+    ghost left = { λ f. f.left };
+
+    ghost given = { λ f. f.given };
+
+    ghost failures = { λ f. f.failures };
+
+    ghost is_sure = { λ _. false };
+
+    /// Gives what one read of the input gives. A read that a signal interrupts is tried again.
+    #[tactic(auto, using(crate::proofs::Giving::none_left))]
+    fn pull(&mut self, buffer: &mut [u8]) -> Result<usize, FeedFault>
+        // What the input did.
+        ensures reads { ReadConsumes self.old.left self.new.left result buffer.new }
+
+        // On success its next bytes stand at the buffer's front.
+        ensures within { IfOk result (λ n. n ≤ length buffer.old) }
+        ensures gives { IfOk result
+            (λ n. self.old.left ≡ put_back (take n buffer.new) self.new.left) }
+        ensures end { IfOk result
+            (λ n. n ≡ 0 → 0 < length buffer.old → IfSome self.old.left (λ bytes. bytes ≡ [])) }
+        ensures counts { IfOk result (λ n. self.new.given ≡ self.old.given + n) }
+        ensures works { OnOk result (self.new.failures ≡ self.old.failures) }
+
+        // On failure nothing was given, and one refusal more is counted.
+        ensures refused_left { OnErr result (self.new.left ≡ self.old.left) }
+        ensures refused_given { OnErr result (self.new.given ≡ self.old.given) }
+        ensures fails { OnErr result (self.new.failures ≡ self.old.failures + 1) }
+    {
+        match read_some(&mut self.input, buffer) {
+            Ok(count) => {
+                self.given = raised(&self.given, count);
+                Ok(count)
+            }
+            Err(fault) => {
+                self.failures = raised(&self.failures, 1);
+                Err(fault)
+            }
+        }
+    }
+}

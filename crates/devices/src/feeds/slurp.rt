@@ -1,0 +1,107 @@
+//! A feed read whole.
+
+ghost use Rattle.std.specs.Prelude.{◌≡◌, ◌≢◌, ◌+◌, ◌-◌, ◌<◌, ◌≤◌, ◌^◌, [], length, take, vec_len, IsTrue, IsOk, IfOk, OnOk, OnErr, IfSome, IsErrOf};
+ghost use Rattle.devices.specs.Feed.{left_after};
+ghost use Rattle.devices.specs.declared.feeds.slurp.SlurpFault.TheVariants.{FeedFailed, OutOfMemory};
+
+use crate::feeds::feed::{Feed, FeedFault};
+use crate::feeds::filling::{make_room, pull_behind};
+use std::alloc::{AllocError, Global};
+use thiserror::Error;
+
+/// The greatest limit that `slurp` takes, in bytes: 64 GiB.
+pub const GREATEST_LIMIT: u64 = 68_719_476_736;
+
+/// Why a feed was not read whole.
+#[derive(Debug, Drop, Error, PartialEq, Eq)]
+pub enum SlurpFault {
+    /// The feed failed. The bytes that it gave before are lost.
+    #[error("the feed failed")]
+    FeedFailed,
+    /// The feed has more bytes than the limit. It gave one byte more than the limit, and these are lost.
+    #[error("the feed has more bytes than the limit")]
+    TooLong,
+    /// Memory ran out. The bytes that the feed gave before are lost.
+    #[error("OutOfMemory")]
+    OutOfMemory,
+}
+
+impl From<FeedFault> for SlurpFault {
+    ghost from_gives = { λ _ fault. fault ≡ FeedFailed };
+
+    fn from(_fault: FeedFault) -> SlurpFault {
+        SlurpFault::FeedFailed
+    }
+}
+
+impl From<AllocError> for SlurpFault {
+    ghost from_gives = { λ _ fault. fault ≡ OutOfMemory };
+
+    fn from(_error: AllocError) -> SlurpFault {
+        SlurpFault::OutOfMemory
+    }
+}
+
+/// All the bytes of `feed`, where they are at most `limit`. At most `limit + 1` bytes are read: the last one tells that
+/// there are too many.
+///
+/// # Errors
+///
+/// The first that is met of
+///
+/// - `FeedFailed`: the feed refused a pull of this call;
+/// - `TooLong`: the feed has more than `limit` bytes;
+/// - `OutOfMemory`: the list of bytes could not grow.
+///
+/// The feed then stands behind the bytes that it gave in this call, which are lost.
+#[tactic(auto, using(crate::proofs::Giving::given_more))]
+pub fn slurp<F: Feed>(alloc: Global, feed: &mut F, limit: u64) -> Result<Vec<u8>, SlurpFault>
+    requires { limit ≤ GREATEST_LIMIT }
+
+    // What an answer holds, and that the feed is used up then.
+    ensures whole { IfOk result (λ text. IfSome (F.left feed.old) (λ bytes. text.items ≡ bytes)) }
+    ensures short { IfOk result (λ text. vec_len text ≤ limit) }
+    ensures counts { IfOk result (λ text. F.given feed.new ≡ F.given feed.old + vec_len text) }
+    ensures used_up { OnOk result (IfSome (F.left feed.new) (λ bytes. bytes ≡ [])) }
+    ensures works { OnOk result (F.failures feed.new ≡ F.failures feed.old) }
+
+    // When each fault comes.
+    ensures failed { IsErrOf result SlurpFault.FeedFailed
+        → F.failures feed.new ≡ F.failures feed.old + 1 }
+    ensures failed_first { IsErrOf result SlurpFault.FeedFailed
+        → F.given feed.new ≤ F.given feed.old + limit }
+    ensures sure { IsTrue (F.is_sure feed.old) → result ≢ Err SlurpFault.FeedFailed }
+    ensures long { IsErrOf result SlurpFault.TooLong
+        → IfSome (F.left feed.old) (λ bytes. limit < length bytes) }
+    ensures long_counts { IsErrOf result SlurpFault.TooLong
+        → F.given feed.new ≡ F.given feed.old + (limit + 1) }
+    ensures long_stands { IsErrOf result SlurpFault.TooLong
+        → F.left feed.new ≡ left_after (limit + 1) (F.left feed.old) }
+    ensures long_works { IsErrOf result SlurpFault.TooLong
+        → F.failures feed.new ≡ F.failures feed.old }
+    ensures memory_works { IsErrOf result SlurpFault.OutOfMemory
+        → F.failures feed.new ≡ F.failures feed.old }
+    ensures memory_first { IsErrOf result SlurpFault.OutOfMemory
+        → F.given feed.new ≤ F.given feed.old + limit }
+
+    // How much was read, and where the feed stands, whatever was answered.
+    ensures onward { F.given feed.old ≤ F.given feed.new }
+    ensures reads { F.given feed.new ≤ F.given feed.old + (limit + 1) }
+    ensures stands { F.left feed.new
+        ≡ left_after (F.given feed.new - F.given feed.old) (F.left feed.old) }
+    ensures stays_sure { IsTrue (F.is_sure feed.old) → IsTrue (F.is_sure feed.new) }
+{
+    let most = limit as usize + 1;
+    let mut text = Vec::new(alloc);
+    let mut filled = 0;
+    while filled < most {
+        make_room(&mut text, filled, most)?;
+        let count = pull_behind(feed, text.as_mut_slice(), filled, most - filled)?;
+        if count == 0 {
+            text.truncate(filled);
+            return Ok(text);
+        }
+        filled += count;
+    }
+    Err(SlurpFault::TooLong)
+}

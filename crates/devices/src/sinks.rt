@@ -1,0 +1,10 @@
+//! Sinks: devices that take a text, and a text written whole in large slices.
+
+pub mod file_sink;
+pub mod mem_sink;
+pub mod section_sink;
+pub mod single_write;
+pub mod sink;
+pub mod slices;
+pub mod whole_text;
+pub mod write_fault;

@@ -1,0 +1,53 @@
+//! Large slices to a sink.
+
+ghost use Rattle.std.specs.Prelude.{◌≡◌, [], OnOk, OnErr};
+ghost use Rattle.devices.specs.SinkSteps.{IsAppended, IsAppendCut};
+ghost use Rattle.devices.specs.Writes.{HasRoom};
+
+use crate::sinks::sink::{Sink, SinkFault};
+
+/// How many bytes are collected before they are put.
+pub const LARGE: usize = 65_536;
+
+/// Puts all the bytes, in as many calls as the sink wants.
+pub fn put_all<S: Sink>(sink: &mut S, bytes: &[u8]) -> Result<(), SinkFault>
+    ensures written { OnOk result
+        (IsAppended bytes.now [] [] (S.state sink.old) (S.state sink.new)) }
+    ensures refused { OnErr result
+        (IsAppendCut 1 bytes.now [] (S.state sink.old) (S.state sink.new)) }
+{
+    let mut rest = bytes;
+    while !rest.is_empty() {
+        let (_, left) = rest.split_at(sink.put(rest)?);
+        rest = left;
+    }
+    Ok(())
+}
+
+/// Puts the buffer and empties it.
+pub fn flush<S: Sink>(sink: &mut S, buffer: &mut Vec<u8>) -> Result<(), SinkFault>
+    ensures written { OnOk result
+        (IsAppended [] buffer.old.items buffer.new.items (S.state sink.old) (S.state sink.new)) }
+    ensures empty { OnOk result (buffer.new.items ≡ []) }
+    ensures refused { OnErr result
+        (IsAppendCut 1 [] buffer.old.items (S.state sink.old) (S.state sink.new)) }
+{
+    put_all(sink, buffer.as_slice())?;
+    buffer.clear();
+    Ok(())
+}
+
+/// Puts a full buffer and empties it.
+#[tactic(auto, using(crate::proofs::Fronts::buffered))]
+pub fn flush_full<S: Sink>(sink: &mut S, buffer: &mut Vec<u8>) -> Result<(), SinkFault>
+    ensures written { OnOk result
+        (IsAppended [] buffer.old.items buffer.new.items (S.state sink.old) (S.state sink.new)) }
+    ensures room { OnOk result (HasRoom buffer.new.items) }
+    ensures refused { OnErr result
+        (IsAppendCut 1 [] buffer.old.items (S.state sink.old) (S.state sink.new)) }
+{
+    if buffer.len() >= LARGE {
+        flush(sink, buffer)?;
+    }
+    Ok(())
+}

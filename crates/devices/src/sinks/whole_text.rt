@@ -1,0 +1,41 @@
+//! A whole text to a sink.
+
+ghost use Rattle.std.specs.Prelude.{ℕ, List, OnOk};
+ghost use Rattle.devices.specs.Writes.{Writes, WritesOn};
+
+use crate::sinks::sink::Sink;
+use crate::sinks::slices::{LARGE, flush};
+use crate::sinks::write_fault::WriteFault;
+use std::alloc::Global;
+
+/// A text by its parts.
+pub trait Text {
+    ghost text: { Self → List ℕ };
+
+    /// What the types of its parts keep of them, as is known once it is written.
+    ghost kept: { Self → Type 0 };
+
+    /// Writes the text behind what the buffer holds.
+    fn write<S: Sink>(
+        &self,
+        alloc: Global,
+        sink: &mut S,
+        buffer: &mut Vec<u8>,
+    ) -> Result<(), WriteFault>
+        ensures writes { WritesOn (text self.now)
+            buffer.old.items buffer.new.items (S.state sink.old) (S.state sink.new) result }
+        ensures kept { OnOk result (kept self.now) };
+}
+
+/// Begins the sink and writes the text.
+#[tactic(auto, using(crate::proofs::Fronts::cut_at_begin))]
+pub fn write_text<S: Sink, T: Text>(alloc: Global, text: &T, sink: &mut S) -> Result<(), WriteFault>
+    ensures writes { Writes (T.text text.now) (S.state sink.old) (S.state sink.new) result }
+    ensures kept { OnOk result (T.kept text.now) }
+{
+    let mut buffer = Vec::with_capacity(alloc, 2 * LARGE)?;
+    sink.begin()?;
+    text.write(alloc, sink, &mut buffer)?;
+    flush(sink, &mut buffer)?;
+    Ok(())
+}

@@ -1,0 +1,113 @@
+//! Coefficients that are found when they are asked for.
+
+ghost use Rattle.std.specs.Prelude.{◌≡◌, ◌*◌, ◌<◌, ◌≤◌, ◌==◌, ◌++◌, ◌∷◌, [], pos, if◌then◌else◌, IfOk, OnOk, length};
+ghost use Rattle.mine_instance.specs.OfModel.{coefs_of};
+ghost use Rattle.mine_instance.specs.inner.FoundCoefFields.{heavy_of, heavy_one};
+ghost use Rattle.pit_parts.specs.declared.ranges.TheConstants.{MAX_BLOCKS, MAX_DESTINATIONS, MAX_RESOURCES};
+
+use crate::coefs::group::{CoefGroup, Covering, Pairs};
+use crate::coefs::list::CoefList;
+use pit_parts::block::Block;
+use pit_units::Dec;
+use std::alloc::{AllocError, Global};
+use std::marker::Model;
+
+/// A block that has tonnage.
+#[derive(Clone, Copy, Debug)]
+struct HeavyBlock {
+    // the identifier
+    b: u32,
+    // The kilograms of a block are at most 10^9, which 32 bits hold.
+    kg: u32,
+}
+
+impl HeavyBlock {
+    #[inline(always)]
+    fn tonnes(&self) -> Dec
+        ensures { result ≡ pos (self.now.kg * 1000) }
+    {
+        Dec::new(i128::from(self.kg) * 1000).unwrap()
+    }
+}
+
+/// The coefficients of blocks: one for each block that has tonnage and each covered pair of a destination and a resource. They are
+/// not kept: it takes 8 bytes for each such block. Contracts see the list of them.
+#[derive(Debug, Drop)]
+pub struct FoundCoefs {
+    heavy: Vec<HeavyBlock>,
+    pairs: Vec<Covering>,
+}
+
+impl Model for FoundCoefs {
+    ghost use Rattle.std.specs.Prelude.{List};
+    ghost use Rattle.mine_instance.specs.declared.coefs.coef.Coef.{Coef as OneCoef};
+    ghost use Rattle.mine_instance.specs.inner.FoundCoefFields.{found_in, KeepsFew};
+
+    ghost Value = { List OneCoef };
+
+    ghost view = { found_in };
+
+    ghost invariant = { KeepsFew };
+}
+
+impl FoundCoefs {
+    /// The coefficients of these blocks, by identifier, at these pairs. Fails only where memory is refused.
+    pub fn new(
+        alloc: Global,
+        pairs: Vec<Covering>,
+        blocks: &[Block],
+    ) -> Result<FoundCoefs, AllocError>
+        requires blocks { length blocks.now ≤ MAX_BLOCKS }
+        requires pairs { length pairs.items ≤ MAX_DESTINATIONS * MAX_RESOURCES }
+        ensures { IfOk result (λ found. found ≡ coefs_of pairs.items blocks.now) }
+    {
+        if pairs.is_empty() {
+            let heavy = Vec::new(alloc);
+            return Ok(FoundCoefs { heavy, pairs });
+        }
+        let heavy = heavy_of(alloc, blocks)?;
+        Ok(FoundCoefs { heavy, pairs })
+    }
+}
+
+impl CoefList for FoundCoefs {
+    ghost list = { λ found. found };
+
+    #[tactic(auto, using(crate::proofs::FoundFacts::counts))]
+    fn len(&self) -> usize {
+        self.heavy.len() * self.pairs.len()
+    }
+
+    fn group(&self, from: usize) -> CoefGroup<'_> {
+        let width = self.pairs.len();
+        let block = &self.heavy[from / width];
+        let (_, pairs) = self.pairs.as_slice().split_at(from % width);
+        CoefGroup {
+            b: block.b,
+            v: block.tonnes(),
+            pairs: Pairs::Covered(pairs),
+        }
+    }
+}
+
+fn heavy_of(alloc: Global, blocks: &[Block]) -> Result<Vec<HeavyBlock>, AllocError>
+    requires { length blocks.now ≤ MAX_BLOCKS }
+    ensures { IfOk result (λ heavy. heavy.items ≡ heavy_of blocks.now) }
+{
+    let count = blocks.iter().filter(|block| block.kg != 0).count();
+    let mut heavy = Vec::with_capacity(alloc, count)?;
+    for (id, block) in blocks.iter().enumerate() {
+        put_if_heavy(&mut heavy, id as u32, block)?;
+    }
+    Ok(heavy)
+}
+
+fn put_if_heavy(heavy: &mut Vec<HeavyBlock>, b: u32, block: &Block) -> Result<(), AllocError>
+    ensures { OnOk result (heavy.new.items ≡ heavy.old.items ++ heavy_one (b, block.now)) }
+{
+    if block.kg != 0 {
+        let kg = block.kg as u32;
+        heavy.push(HeavyBlock { b, kg })?;
+    }
+    Ok(())
+}

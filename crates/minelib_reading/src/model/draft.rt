@@ -1,0 +1,377 @@
+//! A model file while its lines are read.
+
+ghost use Rattle.std.specs.Prelude.{◌≡◌, ◌≤◌, ◌==◌, ◌&&◌, Ok, Err, [], true, false, map, unwrap_or, length, IfOk};
+ghost use Rattle.std.specs.List.{list_any};
+ghost use Rattle.mine_instance.specs.CpitKept.{IsCpit};
+ghost use Rattle.mine_instance.specs.OfCpit.{without_destination};
+ghost use Rattle.minelib_reading.specs.Denotes.{cpit_read, instance_read};
+ghost use Rattle.minelib_reading.specs.HeaderNumbers.{count_in, is_complete};
+ghost use Rattle.minelib_reading.specs.ModelLines.{blank_model, finish_model, header_line, is_colon, is_heading, is_ready, is_whole, item_line, keyed_line, name_with, section_line};
+ghost use Rattle.minelib_reading.specs.inner.ModelParts.{admit_model, is_name_for, takes};
+ghost use Rattle.minelib_lines.specs.declared.header_key.HeaderKey.TheVariants as key;
+ghost use Rattle.minelib_reading.specs.declared.model.key.Section.TheVariants as Section;
+ghost use Rattle.text_lines.specs.declared.text_fault.TextKind.TheVariants as TextKind;
+ghost use Rattle.pit_units.specs.OrMemory.{Gives};
+ghost use Rattle.text_lines.specs.Reading.{Leaves};
+ghost use Rattle.text_lines.specs.TextLines.{fields_of};
+ghost use Rattle.pit_parts.specs.Name.{is_name};
+ghost use Rattle.pit_parts.specs.declared.ranges.TheConstants.{MAX_BLOCKS};
+
+use crate::kept::KeptItems;
+use crate::model::header::{blank_header, number_in};
+use crate::model::items::{coef_of, is_limit_behind, limit_of, values_in};
+use crate::model::key::{Header, ModelKey, Section};
+use crate::model::key_lines::{cut_at_colon, is_heading, is_limits, is_next, key_of, only_value};
+use crate::taking::TakeItems;
+use mine_instance::blocks::Blocks;
+use mine_instance::coefs::coef::{Coef, Coefs};
+use mine_instance::cpit::{Cpit, CpitCoef, CpitCoefs};
+use mine_instance::instance::Instance;
+use mine_instance::limits::Limits;
+use minelib_lines::header_key::HeaderKey;
+use minelib_lines::problem::Problem;
+use pit_parts::limit::Limit;
+use pit_parts::name::Name;
+use pit_units::{Dec, OrMemory};
+use precedence::Preds;
+use std::alloc::{AllocError, Global};
+use std::marker::Model;
+use text_lines::line_by_line::Admit;
+use text_lines::text_fault::{LineFault, TextKind};
+use text_lines::text_fields::count_fields;
+
+/// What the lines of a model file so far state, of so many blocks.
+#[derive(Drop)]
+pub struct ModelDraft<T: TakeItems> {
+    alloc: Global,
+    problem: Problem,
+    blocks: usize,
+    name: Option<Name>,
+    header: Header,
+    section: Section,
+    // its values and coefficients
+    items: T,
+    limits: Vec<Limit>,
+    // the values of the last line of the objective
+    row: Vec<Dec>,
+}
+
+impl<T: TakeItems> Model for ModelDraft<T> {
+    ghost use Rattle.std.specs.Prelude.{[], unwrap_or};
+    ghost use Rattle.minelib_reading.specs.ModelLines.{ModelDraftView};
+    ghost use Rattle.minelib_reading.specs.inner.ModelFields.{KeepsModel};
+
+    ghost Value = { ModelDraftView };
+
+    ghost view = { λ d. record {
+      problem = d.problem;
+      blocks = d.blocks;
+      name = unwrap_or d.name [];
+      header = d.header;
+      section = d.section;
+      values = T.values d.items;
+      coefs = T.coefs d.items;
+      limits = d.limits.items;
+    } };
+
+    ghost invariant = { λ d. KeepsModel d.blocks d.header d.section (T.values d.items) };
+}
+
+impl<T: TakeItems> Admit for ModelDraft<T> {
+    ghost admit_line = { admit_model };
+
+    // A line that is read as an item of its section has no colon, so it is not searched for one.
+    #[tactic(auto, using(crate::proofs::ModelShapes::stray_takes))]
+    fn admit(&mut self, line: &[u8]) -> Result<(), OrMemory<TextKind>> {
+        match self.section {
+            Section::Heading => self.admit_key_or(line, TextKind::Key),
+            Section::Objective => self.admit_values(line),
+            Section::Coefs => self.admit_coef(line),
+            Section::Limits => self.admit_limit(line),
+        }
+    }
+}
+
+impl<T: TakeItems + Drop> ModelDraft<T> {
+    /// Before the first line. `none` takes the values and coefficients, and has none yet.
+    pub fn new(alloc: Global, problem: Problem, blocks: usize, none: T) -> ModelDraft<T>
+        requires few { blocks ≤ MAX_BLOCKS }
+        requires no_values { T.values none ≡ [] }
+        requires no_coefs { T.coefs none ≡ [] }
+        ensures { result ≡ blank_model problem blocks }
+    {
+        ModelDraft {
+            alloc,
+            problem,
+            blocks,
+            name: None,
+            header: blank_header(problem),
+            section: Section::Heading,
+            items: none,
+            limits: Vec::new(alloc),
+            row: Vec::new(alloc),
+        }
+    }
+
+    /// The draft, once all lines are read and `end` is the number of the line after the last.
+    pub fn finish(self, end: u64) -> Result<ModelDraft<T>, OrMemory<LineFault>>
+        ensures { Gives (λ x. x) result (finish_model end self) }
+    {
+        if self.is_whole() {
+            Ok(self)
+        } else {
+            Err(OrMemory::Fault(LineFault {
+                line: end,
+                kind: TextKind::Missing,
+            }))
+        }
+    }
+}
+
+impl<T: TakeItems> ModelDraft<T> {
+    /// The number of coefficients.
+    pub fn coefs_len(&self) -> usize
+        ensures { result ≡ length self.now.coefs }
+    {
+        self.items.coefs_len()
+    }
+
+    /// The number of limits.
+    pub fn limits_len(&self) -> usize
+        ensures { result ≡ length self.now.limits }
+    {
+        self.limits.len()
+    }
+
+    fn is_whole(&self) -> bool
+        ensures { result ≡ is_whole self.now }
+    {
+        self.header.is_complete()
+            && self.items.values_len() == self.blocks
+            && is_limits(self.section)
+    }
+
+    #[tactic(auto, unfolding(crate::specs::inner::ModelParts::admit_model), using(crate::proofs::ModelShapes::values_keyless, crate::proofs::ModelShapes::values_takes))]
+    fn admit_values(&mut self, line: &[u8]) -> Result<(), OrMemory<TextKind>>
+        requires { self.old.section ≡ Section.Objective }
+        ensures { Leaves self.new result (admit_model self.old line.now) }
+    {
+        let destinations = self.destinations();
+        let before = self.items.values_len();
+        match values_in(self.blocks, destinations, before, line, &mut self.row) {
+            Ok(()) => {
+                self.items.take_values(&self.row)?;
+                Ok(())
+            }
+            Err(OrMemory::Fault(kind)) => self.admit_key_or(line, kind),
+            Err(OrMemory::OutOfMemory) => Err(OrMemory::OutOfMemory),
+        }
+    }
+
+    #[tactic(auto, unfolding(crate::specs::inner::ModelParts::admit_model), using(crate::proofs::ModelShapes::coef_keyless, crate::proofs::ModelShapes::coef_takes))]
+    fn admit_coef(&mut self, line: &[u8]) -> Result<(), OrMemory<TextKind>>
+        requires { self.old.section ≡ Section.Coefs }
+        ensures { Leaves self.new result (admit_model self.old line.now) }
+    {
+        let destinations = self.destinations();
+        let resources = self.resources();
+        match coef_of(self.problem, self.blocks, destinations, resources, line) {
+            Ok(coef) => {
+                if !self.items.is_next(&coef) {
+                    return Err(OrMemory::Fault(TextKind::Order));
+                }
+                self.items.take_coef(coef)?;
+                Ok(())
+            }
+            Err(kind) => self.admit_key_or(line, kind),
+        }
+    }
+
+    #[tactic(auto, unfolding(crate::specs::inner::ModelParts::admit_model), using(crate::proofs::ModelShapes::limit_keyless, crate::proofs::ModelShapes::limit_takes))]
+    fn admit_limit(&mut self, line: &[u8]) -> Result<(), OrMemory<TextKind>>
+        requires { self.old.section ≡ Section.Limits }
+        ensures { Leaves self.new result (admit_model self.old line.now) }
+    {
+        let resources = self.resources();
+        let periods = self.periods();
+        match limit_of(resources, periods, line) {
+            Ok(limit) => {
+                if limit.bound.is_turned() || !is_limit_behind(self.limits.as_slice(), &limit) {
+                    return Err(OrMemory::Fault(TextKind::Order));
+                }
+                self.limits.push(limit)?;
+                Ok(())
+            }
+            Err(kind) => self.admit_key_or(line, kind),
+        }
+    }
+
+    // A line that states no item of its section: that of a key, or a faulty one of this kind.
+    #[inline(never)]
+    #[tactic(auto, unfolding(crate::specs::inner::ModelParts::admit_model))]
+    fn admit_key_or(&mut self, line: &[u8], kind: TextKind) -> Result<(), OrMemory<TextKind>>
+        requires { list_any is_colon line.now ≡ false
+            → takes (item_line self.old self.old.section (fields_of line.now)) ≡ Err kind }
+        ensures { Leaves self.new result (admit_model self.old line.now) }
+    {
+        match cut_at_colon(line) {
+            Some((word, values)) => self.admit_key(key_of(self.problem, word), values),
+            None => Err(OrMemory::Fault(kind)),
+        }
+    }
+
+    #[tactic(auto, using(crate::proofs::ModelShapes::stray_takes))]
+    fn admit_key(&mut self, key: Option<ModelKey>, values: &[u8]) -> Result<(), OrMemory<TextKind>>
+        ensures { Leaves self.new result (takes (keyed_line self.old key (fields_of values.now))) }
+    {
+        match key {
+            None => Err(OrMemory::Fault(TextKind::Key)),
+            Some(ModelKey::Header(key)) => self.admit_header(key, values),
+            Some(ModelKey::Section(section)) => self.admit_section(section, values),
+        }
+    }
+
+    #[tactic(auto, using(crate::proofs::ModelShapes::header_takes))]
+    fn admit_header(&mut self, key: HeaderKey, values: &[u8]) -> Result<(), OrMemory<TextKind>>
+        ensures { Leaves self.new result (takes (header_line self.old key (fields_of values.now))) }
+    {
+        if !is_heading(self.section) {
+            return Err(OrMemory::Fault(TextKind::Key));
+        }
+        if self.header.is_given(key) {
+            return Err(OrMemory::Fault(TextKind::Twice));
+        }
+        let value = only_value(values)?;
+        let number = number_in(self.problem, self.blocks, key, value)?;
+        self.name = name_with(self.alloc, key, value, self.name.take())?;
+        self.header = self.header.with(key, number as u32);
+        Ok(())
+    }
+
+    #[tactic(auto, using(crate::proofs::ModelShapes::section_takes))]
+    fn admit_section(&mut self, section: Section, values: &[u8]) -> Result<(), OrMemory<TextKind>>
+        ensures { Leaves self.new result
+            (takes (section_line self.old section (fields_of values.now))) }
+    {
+        if !is_next(self.section, section) {
+            return Err(OrMemory::Fault(TextKind::Key));
+        }
+        if count_fields(values) != 0 {
+            return Err(OrMemory::Fault(TextKind::Fields));
+        }
+        if !self.is_ready() {
+            return Err(OrMemory::Fault(TextKind::Missing));
+        }
+        self.section = section;
+        Ok(())
+    }
+
+    #[inline]
+    fn periods(&self) -> u8
+        ensures { result ≡ count_in self.now.header key.Periods }
+    {
+        self.header.count(HeaderKey::Periods) as u8
+    }
+
+    #[inline]
+    fn destinations(&self) -> u8
+        ensures { result ≡ count_in self.now.header key.Destinations }
+    {
+        self.header.count(HeaderKey::Destinations) as u8
+    }
+
+    #[inline]
+    fn resources(&self) -> u8
+        ensures { result ≡ count_in self.now.header key.Resources }
+    {
+        self.header.count(HeaderKey::Resources) as u8
+    }
+
+    // Whether all that has to stand before the next section does.
+    fn is_ready(&self) -> bool
+        ensures { result ≡ is_ready self.now self.now.section }
+    {
+        match self.section {
+            Section::Heading => self.header.is_complete(),
+            Section::Objective => self.items.values_len() == self.blocks,
+            Section::Coefs => true,
+            Section::Limits => true,
+        }
+    }
+}
+
+impl ModelDraft<KeptItems> {
+    /// The instance of this file, and of blocks and predecessors.
+    pub fn into_instance(self, blocks: Blocks, preds: Preds) -> Instance
+        requires { is_name self.name ≡ true }
+        ensures { result ≡ instance_read blocks preds self }
+    {
+        let rate = self.header.count(HeaderKey::Rate);
+        let periods = self.periods();
+        let destinations = self.destinations();
+        let resources = self.resources();
+        Instance {
+            name: self.name.unwrap(),
+            rate: Dec::new(i128::from(rate)).unwrap(),
+            periods,
+            destinations,
+            resources,
+            blocks,
+            preds,
+            values: self.items.values,
+            coefs: Coefs::new(self.items.coefs),
+            limits: Limits::new(self.limits),
+        }
+    }
+
+    /// The CPIT of this file. Fails only where memory is refused.
+    pub fn into_cpit(self) -> Result<Cpit, AllocError>
+        requires name { is_name self.name ≡ true }
+        requires cpit { IsCpit (cpit_read self) }
+        ensures { IfOk result (λ cpit. cpit ≡ cpit_read self) }
+    {
+        let rate = self.header.count(HeaderKey::Rate);
+        let periods = self.periods();
+        let resources = self.resources();
+        let KeptItems { values, coefs } = self.items;
+        let coefs = without_destinations(self.alloc, coefs.as_slice())?;
+        Ok(Cpit::new(
+            self.name.unwrap(),
+            Dec::new(i128::from(rate)).unwrap(),
+            periods,
+            resources,
+            values.into_flat(),
+            CpitCoefs::new(coefs),
+            self.limits,
+        ))
+    }
+}
+
+// The coefficients of a CPIT, whose one destination is not named.
+fn without_destinations(alloc: Global, coefs: &[Coef]) -> Result<Vec<CpitCoef>, AllocError>
+    ensures { IfOk result (λ of_cpit. of_cpit.items ≡ map without_destination coefs.now) }
+{
+    let mut of_cpit = Vec::with_capacity(alloc, coefs.len())?;
+    for coef in coefs {
+        let (b, r, v) = (coef.b, coef.r, coef.v);
+        of_cpit.push(CpitCoef { b, r, v })?;
+    }
+    Ok(of_cpit)
+}
+
+// The NAME after a header key with this value.
+fn name_with(
+    alloc: Global,
+    key: HeaderKey,
+    value: &[u8],
+    name: Option<Name>,
+) -> Result<Option<Name>, AllocError>
+    requires { is_name_for key value.now ≡ true }
+    ensures { IfOk result (λ named. unwrap_or named []
+        ≡ name_with key value.now (unwrap_or name [])) }
+{
+    match key {
+        HeaderKey::Name => Name::read(alloc, value),
+        _ => Ok(name),
+    }
+}

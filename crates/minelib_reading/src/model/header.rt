@@ -1,0 +1,83 @@
+//! The header of a model file that is read.
+
+ghost use Rattle.std.specs.Prelude.{◌≡◌, ◌<◌, ◌≤◌, ◌∷◌, [], pos, true, IfOk};
+ghost use Rattle.forms.specs.Words.{Decimal, is_fine};
+ghost use Rattle.minelib_lines.specs.KeyParts.{field_in};
+ghost use Rattle.minelib_reading.specs.ModelLines.{blank_header};
+ghost use Rattle.minelib_reading.specs.inner.ModelParts.{is_name_for, millionths_in, number_in, number_limit, number_with};
+
+use crate::model::key::Header;
+use crate::model::key_lines::is_word;
+use minelib_lines::header_key::{HeaderKey, KeyField};
+use minelib_lines::problem::Problem;
+use pit_parts::name::is_name;
+use pit_units::{MILLIONTHS, parse_within};
+use text_lines::text_fault::TextKind;
+
+/// The header before its first key.
+pub fn blank_header(problem: Problem) -> Header
+    ensures { result ≡ blank_header problem }
+{
+    let blank = Header::blank();
+    match problem {
+        Problem::Pcpsp => blank,
+        Problem::Cpit => blank
+            .with(HeaderKey::Destinations, 1)
+            .with(HeaderKey::General, 0),
+    }
+}
+
+/// The number that the value of a header key states, in a file of so many blocks: 0 for a key whose value only has to
+/// be right, such as NBLOCKS.
+pub fn number_in(
+    problem: Problem,
+    blocks: usize,
+    key: HeaderKey,
+    value: &[u8],
+) -> Result<u64, TextKind>
+    ensures value { result ≡ number_in problem blocks key value.now }
+    ensures name { IfOk result (λ _. is_name_for key value.now ≡ true) }
+    ensures below { IfOk result (λ n. n < number_limit key) }
+{
+    let millionths = stated_in(problem, key.row().field, value)?;
+    number_with(blocks, key, millionths)
+}
+
+// The number of a key whose value states so many millionths.
+fn number_with(blocks: usize, key: HeaderKey, millionths: u64) -> Result<u64, TextKind>
+    ensures { result ≡ number_with blocks key millionths }
+{
+    let whole = millionths / MILLIONTHS as u64;
+    match key {
+        HeaderKey::Blocks if whole == blocks as u64 => Ok(0),
+        HeaderKey::Blocks => Err(TextKind::Count),
+        HeaderKey::Rate => Ok(millionths),
+        _ => Ok(whole),
+    }
+}
+
+// The millionths that a field states, 0 of a word.
+fn stated_in(problem: Problem, field: KeyField, text: &[u8]) -> Result<u64, TextKind>
+    requires { is_fine (field_in problem field ∷ []) ≡ true }
+    ensures { result ≡ millionths_in (field_in problem field) text.now }
+{
+    match field {
+        KeyField::Name if is_name(text) => Ok(0),
+        KeyField::Type if is_word(text, problem.type_text()) => Ok(0),
+        KeyField::Name | KeyField::Type => Err(TextKind::Name),
+        KeyField::Number {
+            decimals,
+            low,
+            high,
+        } => millionths_in(text, decimals, low, high),
+    }
+}
+
+// The millionths that a field states with at most so many decimals, from `low` to `high`.
+fn millionths_in(field: &[u8], decimals: u8, low: u64, high: u64) -> Result<u64, TextKind>
+    requires { decimals ≤ 6 }
+    ensures { result ≡ millionths_in (Decimal decimals (pos low) (pos high)) field.now }
+{
+    let stated = parse_within(field, decimals, i128::from(low), i128::from(high))?;
+    Ok(stated.millionths() as u64)
+}

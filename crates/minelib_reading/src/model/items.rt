@@ -1,0 +1,279 @@
+//! The lines of a model file's sections.
+
+ghost use Rattle.std.specs.Prelude.{◌≡◌, ◌≤◌, ◌<◌, ◌+◌, ◌∷◌, [], ℕ, length, drop, slice_index_or, IfOk, OnOk};
+ghost use Rattle.pit_parts.specs.PlanKept.{stands_before};
+ghost use Rattle.mine_instance.specs.Order.{coef_comes_before};
+ghost use Rattle.text_lines.specs.FieldValues.{Takes, all_by, decimal_in, first_by};
+ghost use Rattle.minelib_reading.specs.ModelLines.{is_behind, last_of};
+ghost use Rattle.minelib_reading.specs.inner.ModelParts.{TakesFirst, uncounted_coef, coef_of, limit_of, values_of_line};
+ghost use Rattle.text_lines.specs.Reading.{Leaves};
+ghost use Rattle.minelib_reading.specs.ItemForms.{coef_form};
+ghost use Rattle.text_lines.specs.TextLines.{fields_of};
+ghost use Rattle.text_lines.specs.inner.Taken.{AdmitsCounted};
+ghost use Rattle.minelib_reading.specs.inner.UncountedItems.{bound_in, destination_in, interval_in, limit_width};
+ghost use Rattle.pit_parts.specs.declared.ranges.TheConstants.{MAX_BLOCKS};
+
+use crate::model::key_lines::is_word;
+use mine_instance::coefs::coef::Coef;
+use minelib_lines::problem::Problem;
+use pit_parts::limit::{Bound, Limit};
+use pit_units::{Dec, OrMemory};
+use text_lines::field_values::decimal_in;
+use text_lines::text_fault::TextKind;
+use text_lines::text_fields::{
+    count_fields, first_millionths, first_whole, has_field, kind_by_count, next_field,
+};
+
+/// Reads the values of a block, one for each destination, into `row`, from a line behind so many others.
+pub fn values_in(
+    blocks: usize,
+    destinations: u8,
+    before: usize,
+    line: &[u8],
+    row: &mut Vec<Dec>,
+) -> Result<(), OrMemory<TextKind>>
+    ensures value { Leaves row.new.items result
+        (values_of_line blocks destinations before (fields_of line.now)) }
+    ensures width { OnOk result (length row.new.items ≡ destinations) }
+    ensures room { OnOk result (before < blocks) }
+{
+    match uncounted_values(blocks, destinations, before, line, row) {
+        Ok(()) => Ok(()),
+        Err(OrMemory::Fault(kind)) => {
+            let width = usize::from(destinations) + 1;
+            Err(OrMemory::Fault(kind_by_count(line, width, kind)))
+        }
+        Err(OrMemory::OutOfMemory) => Err(OrMemory::OutOfMemory),
+    }
+}
+
+// Reads the values of a line of as many fields as it has to have. The fault of another line may be of another kind.
+#[tactic(auto, using(crate::proofs::ValuesLineFacts::values_counted))]
+fn uncounted_values(
+    blocks: usize,
+    destinations: u8,
+    before: usize,
+    line: &[u8],
+    row: &mut Vec<Dec>,
+) -> Result<(), OrMemory<TextKind>>
+    ensures value { AdmitsCounted (length (fields_of line.now) ≡ destinations + 1) row.new.items
+        result (values_of_line blocks destinations before (fields_of line.now)) }
+    ensures width { OnOk result (length row.new.items ≡ destinations) }
+    ensures room { OnOk result (before < blocks) }
+{
+    let (b, values) = first_whole(line, blocks as u64)?;
+    read_decimals(values, usize::from(destinations), row)?;
+    if b != before as u64 {
+        return Err(OrMemory::Fault(TextKind::Order));
+    }
+    Ok(())
+}
+
+// All decimals of a line of so many fields.
+fn read_decimals(line: &[u8], count: usize, row: &mut Vec<Dec>) -> Result<(), OrMemory<TextKind>>
+    ensures value { AdmitsCounted (length (fields_of line.now) ≡ count) row.new.items result
+        (all_by decimal_in [] (fields_of line.now)) }
+    ensures width { OnOk result (length row.new.items ≡ count) }
+{
+    row.clear();
+    let mut rest = line;
+    while row.len() < count {
+        let (value, behind) = first_millionths(rest)?;
+        row.push(Dec::new(value).unwrap())?;
+        rest = behind;
+    }
+    if has_field(rest) {
+        return Err(OrMemory::Fault(TextKind::Fields));
+    }
+    Ok(())
+}
+
+/// The coefficient of a line, of so many blocks, destinations and resources.
+#[inline(always)]
+pub fn coef_of(
+    problem: Problem,
+    blocks: usize,
+    destinations: u8,
+    resources: u8,
+    line: &[u8],
+) -> Result<Coef, TextKind>
+    requires { blocks ≤ MAX_BLOCKS }
+    ensures value { result ≡ coef_of problem blocks destinations resources (fields_of line.now) }
+    ensures block { IfOk result (λ coef. coef.b < MAX_BLOCKS) }
+    ensures destination { IfOk result (λ coef. coef.d < 256) }
+    ensures resource { IfOk result (λ coef. coef.r < 256) }
+{
+    match uncounted_coef(problem, blocks, destinations, resources, line) {
+        Ok(coef) => Ok(coef),
+        Err(kind) => Err(kind_by_count(line, coef_width(problem), kind)),
+    }
+}
+
+// The coefficient of a line of as many fields as it has to have. The fault of another line may be of another kind.
+#[inline(always)]
+#[tactic(auto, using(crate::proofs::CoefLineFacts::coef_steps))]
+fn uncounted_coef(
+    problem: Problem,
+    blocks: usize,
+    destinations: u8,
+    resources: u8,
+    line: &[u8],
+) -> Result<Coef, TextKind>
+    requires { blocks ≤ MAX_BLOCKS }
+    ensures value { result
+        ≡ uncounted_coef problem blocks destinations resources (fields_of line.now) }
+    ensures block { IfOk result (λ coef. coef.b < MAX_BLOCKS) }
+    ensures destination { IfOk result (λ coef. coef.d < 256) }
+    ensures resource { IfOk result (λ coef. coef.r < 256) }
+{
+    let (b, behind_b) = first_whole(line, blocks as u64)?;
+    let (d, behind_d) = destination_in(problem, destinations, behind_b)?;
+    let (r, behind_r) = first_whole(behind_d, u64::from(resources))?;
+    let (v, behind_v) = first_millionths(behind_r)?;
+    if has_field(behind_v) {
+        return Err(TextKind::Fields);
+    }
+    Ok(Coef {
+        b: b as u32,
+        d: d as u8,
+        r: r as u8,
+        v: Dec::new(v).unwrap(),
+    })
+}
+
+fn coef_width(problem: Problem) -> usize
+    ensures { (n destinations resources : ℕ)
+        → result ≡ length (coef_form problem n destinations resources) }
+{
+    match problem {
+        Problem::Pcpsp => 4,
+        Problem::Cpit => 3,
+    }
+}
+
+// The destination of a coefficient, and the fields behind it: that of a CPIT has none, and stands for the only one.
+#[inline(always)]
+fn destination_in(problem: Problem, destinations: u8, line: &[u8]) -> Result<(u64, &[u8]), TextKind>
+    ensures value { Takes result (destination_in problem destinations (fields_of line.now)) }
+    ensures below { IfOk result (λ x. x.0 < 256) }
+{
+    match problem {
+        Problem::Pcpsp => first_whole(line, u64::from(destinations)),
+        Problem::Cpit => Ok((0, line)),
+    }
+}
+
+/// Whether the coefficient comes behind the last of others.
+pub fn is_coef_behind(coefs: &[Coef], coef: &Coef) -> bool
+    ensures { result ≡ is_behind coef_comes_before (last_of coefs.now) coef.now }
+{
+    match coefs.last() {
+        Some(last) => last.comes_before(coef),
+        None => true,
+    }
+}
+
+/// The limit of a line, of so many resources and periods.
+#[tactic(auto, using(crate::proofs::LimitLineFacts::limit_same))]
+pub fn limit_of(resources: u8, periods: u8, line: &[u8]) -> Result<Limit, TextKind>
+    ensures { result ≡ limit_of resources periods (fields_of line.now) }
+{
+    if count_fields(line) != limit_width(line) {
+        return Err(TextKind::Fields);
+    }
+    let (resource, behind_resource) = first_whole(line, u64::from(resources))?;
+    let (period, behind_period) = first_whole(behind_resource, u64::from(periods))?;
+    let bound = bound_in(behind_period)?;
+    Ok(Limit {
+        resource: resource as u8,
+        period: period as u8,
+        bound,
+    })
+}
+
+// How many fields a limit has: an interval has one more.
+fn limit_width(line: &[u8]) -> usize
+    ensures { result ≡ limit_width (fields_of line.now) }
+{
+    if is_word(third_field(line), b"I") {
+        5
+    } else {
+        4
+    }
+}
+
+fn third_field(line: &[u8]) -> &[u8]
+    ensures { result.now ≡ slice_index_or (fields_of line.now) 2 [] }
+{
+    first_field(behind_first(behind_first(line)))
+}
+
+fn first_field(line: &[u8]) -> &[u8]
+    ensures { result.now ≡ slice_index_or (fields_of line.now) 0 [] }
+{
+    match next_field(line) {
+        Some((field, _)) => field,
+        None => &[],
+    }
+}
+
+// The bytes behind the first field, if there is one.
+fn behind_first(line: &[u8]) -> &[u8]
+    ensures { fields_of result.now ≡ drop 1 (fields_of line.now) }
+{
+    match next_field(line) {
+        Some((_, behind)) => behind,
+        None => line,
+    }
+}
+
+fn first_decimal(line: &[u8]) -> Result<Dec, TextKind>
+    ensures { TakesFirst result (drop 1 (fields_of line.now))
+        (first_by decimal_in (fields_of line.now)) }
+{
+    match next_field(line) {
+        Some((field, _)) => decimal_in(field),
+        None => Err(TextKind::Fields),
+    }
+}
+
+fn bound_in(line: &[u8]) -> Result<Bound, TextKind>
+    ensures { result ≡ bound_in (fields_of line.now) }
+{
+    match next_field(line) {
+        Some((letter, values)) => bound_with(letter, values),
+        None => Err(TextKind::Fields),
+    }
+}
+
+fn bound_with(letter: &[u8], values: &[u8]) -> Result<Bound, TextKind>
+    ensures { result ≡ bound_in (letter.now ∷ fields_of values.now) }
+{
+    if is_word(letter, b"L") {
+        Ok(Bound::AtMost(first_decimal(values)?))
+    } else if is_word(letter, b"G") {
+        Ok(Bound::AtLeast(first_decimal(values)?))
+    } else if is_word(letter, b"I") {
+        interval_in(values)
+    } else {
+        Err(TextKind::Name)
+    }
+}
+
+fn interval_in(line: &[u8]) -> Result<Bound, TextKind>
+    ensures { result ≡ interval_in (fields_of line.now) }
+{
+    let low = first_decimal(line)?;
+    let high = first_decimal(behind_first(line))?;
+    Ok(Bound::Between(low, high))
+}
+
+/// Whether the limit comes behind the last of others.
+pub fn is_limit_behind(limits: &[Limit], limit: &Limit) -> bool
+    ensures { result ≡ is_behind stands_before (last_of limits.now) limit.now }
+{
+    match limits.last() {
+        Some(last) => last.stands_before(limit),
+        None => true,
+    }
+}

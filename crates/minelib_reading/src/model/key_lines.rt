@@ -1,0 +1,126 @@
+//! The key lines of a model file that is read.
+
+ghost use Rattle.std.specs.Prelude.{◌≡◌, ◌+◌, ◌<◌, true, false, length, position, MatchOption};
+ghost use Rattle.std.specs.List.{list_any, before_first, after_first, find};
+ghost use Rattle.std.specs.Str.{bytes_eq};
+ghost use Rattle.minelib_reading.specs.ModelLines.{is_colon, is_heading, is_limits, is_next, key_in, key_of, section_in};
+ghost use Rattle.minelib_lines.specs.HeaderTable.{key_word, keys_of};
+ghost use Rattle.minelib_reading.specs.inner.ModelParts.{StatesValue, only_value};
+ghost use Rattle.text_lines.specs.TextLines.{fields_of};
+
+use crate::model::key::{ModelKey, Section};
+use memchr::memchr;
+use minelib_lines::header_key::HeaderKey;
+use minelib_lines::problem::Problem;
+use pit_units::after;
+use text_lines::text_fault::TextKind;
+use text_lines::text_fields::next_field;
+
+/// The bytes before the first colon of a line and those behind it, or `None` where it has no colon.
+pub fn cut_at_colon(line: &[u8]) -> Option<(&[u8], &[u8])>
+    ensures { MatchOption result (list_any is_colon line.now ≡ false)
+        (λ x. (list_any is_colon line.now ≡ true) × (x.0.now ≡ before_first is_colon line.now)
+        × (x.1.now ≡ after_first is_colon line.now)) }
+{
+    match colon_place(line) {
+        Some(place) => Some((&line[..place], after(line, place + 1))),
+        None => None,
+    }
+}
+
+#[tactic(auto, using(text_lines::proofs::Cuts::byte_placed))]
+fn colon_place(line: &[u8]) -> Option<usize>
+    ensures { result ≡ position is_colon line.now }
+{
+    memchr(b':', line)
+}
+
+/// Whether the bytes are this word.
+pub fn is_word(bytes: &[u8], word: &[u8]) -> bool
+    ensures { result ≡ bytes_eq bytes.now word.now }
+{
+    bytes == word
+}
+
+/// The one field of a line.
+pub fn only_value(line: &[u8]) -> Result<&[u8], TextKind>
+    ensures { StatesValue result (only_value (fields_of line.now)) }
+{
+    let Some((value, behind)) = next_field(line) else {
+        return Err(TextKind::Fields);
+    };
+    match next_field(behind) {
+        Some(_) => Err(TextKind::Fields),
+        None => Ok(value),
+    }
+}
+
+/// The key that the bytes before a colon are.
+#[tactic(auto, using(crate::proofs::ModelFacts::key_of_one, crate::proofs::ModelFacts::key_of_none))]
+pub fn key_of(problem: Problem, line: &[u8]) -> Option<ModelKey>
+    ensures { result ≡ key_of problem (fields_of line.now) }
+{
+    match only_value(line) {
+        Ok(word) => key_in(problem, word),
+        Err(_) => None,
+    }
+}
+
+fn key_in(problem: Problem, word: &[u8]) -> Option<ModelKey>
+    ensures { result ≡ key_in problem word.now }
+{
+    match header_key_in(problem, word) {
+        Some(key) => Some(ModelKey::Header(key)),
+        None => section_in(word),
+    }
+}
+
+fn header_key_in(problem: Problem, word: &[u8]) -> Option<HeaderKey>
+    ensures { result ≡ find (λ k. bytes_eq word.now (key_word k)) (keys_of problem) }
+{
+    problem
+        .keys()
+        .iter()
+        .copied()
+        .find(|key| is_word(word, key.row().word))
+}
+
+fn section_in(word: &[u8]) -> Option<ModelKey>
+    ensures { result ≡ section_in word.now }
+{
+    if is_word(word, b"OBJECTIVE_FUNCTION") {
+        Some(ModelKey::Section(Section::Objective))
+    } else if is_word(word, b"RESOURCE_CONSTRAINT_COEFFICIENTS") {
+        Some(ModelKey::Section(Section::Coefs))
+    } else if is_word(word, b"RESOURCE_CONSTRAINT_LIMITS") {
+        Some(ModelKey::Section(Section::Limits))
+    } else {
+        None
+    }
+}
+
+/// Whether no section has begun.
+pub fn is_heading(section: Section) -> bool
+    ensures { result ≡ is_heading section }
+{
+    matches!(section, Section::Heading)
+}
+
+/// Whether the section is the last.
+pub fn is_limits(section: Section) -> bool
+    ensures { result ≡ is_limits section }
+{
+    matches!(section, Section::Limits)
+}
+
+/// Whether the second section follows the first.
+pub fn is_next(section: Section, next: Section) -> bool
+    ensures { result ≡ is_next section next }
+{
+    match section {
+        Section::Heading => matches!(next, Section::Objective),
+        Section::Objective => matches!(next, Section::Coefs),
+        Section::Coefs => matches!(next, Section::Limits),
+        Section::Limits => false,
+    }
+}

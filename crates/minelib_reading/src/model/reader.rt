@@ -1,0 +1,30 @@
+//! Reading a model file.
+
+ghost use Rattle.std.specs.Prelude.{◌≤◌};
+ghost use Rattle.minelib_reading.specs.ModelLines.{model_in};
+ghost use Rattle.pit_units.specs.OrMemory.{Gives};
+ghost use Rattle.pit_parts.specs.declared.ranges.TheConstants.{MAX_BLOCKS};
+
+use crate::kept::KeptItems;
+use crate::model::draft::ModelDraft;
+use minelib_lines::problem::Problem;
+use pit_units::OrMemory;
+use std::alloc::Global;
+use text_lines::line_by_line::read_lines;
+use text_lines::text_fault::LineFault;
+
+/// What the model file of a problem states, of so many blocks.
+#[tactic(auto, using(crate::proofs::ModelShapes::lines_are_all))]
+pub fn read_model(
+    alloc: Global,
+    problem: Problem,
+    blocks: usize,
+    text: &[u8],
+) -> Result<ModelDraft<KeptItems>, OrMemory<LineFault>>
+    requires { blocks ≤ MAX_BLOCKS }
+    ensures { Gives (λ x. x) result (model_in problem blocks text.now) }
+{
+    let mut draft = ModelDraft::new(alloc, problem, blocks, KeptItems::new(alloc));
+    let end = read_lines(&mut draft, text)?;
+    draft.finish(end)
+}

@@ -1,0 +1,21 @@
+use Rattle.std.proofs.Common.{◌≡◌, ◌<◌, ◌++◌, ◌∷◌, [], length, take, drop, get_or, sym, ap, ◌∙◌, arith}
+use Rattle.precedence.specs.IdRuns.{ids_of}
+use Rattle.minelib_lines.specs.Lines.{line_of, lines_from, text_of}
+use Rattle.minelib_writing.specs.Written.{prec_fields}
+use Rattle.minelib_writing.proofs.LineFacts.{length-lines_from, get_or-lines_from, text_at}
+use Rattle.minelib_writing.proofs.lines.preds.put_line.Goals as goal
+
+pub returns : goal.returns
+returns g c =
+    let lists = g.P.PredLists.lists c.args.preds.now in
+    let id = c.args.id in
+    let lines = lines_from prec_fields 0 lists in
+    let list : ids_of c.as_slice.result.now ≡ get_or lists id [] =
+    ap ids_of c.as_slice.ensures.value ∙ c.in_ok-add_runs.ensures.list
+    ∙ ap (λ runs. ids_of runs ++ get_or lists id []) c.clear.ensures.items in
+    let within : id < length lines = rw length-lines_from c.requires in
+    let text : text_of (take 1 (drop id lines)) ≡ line_of (prec_fields id (ids_of c.as_slice.result.now)) ++ 10 ∷ [] =
+    text_at lines id within
+    ∙ ap (λ line. line ++ 10 ∷ [])
+    (get_or-lines_from prec_fields 0 id id lists [] c.requires (omega arith) ∙ ap (λ ids. line_of (prec_fields id ids)) (sym list)) in
+    rw text c.put_preds.ensures

@@ -1,0 +1,96 @@
+//! The lines of predecessors, one for each block.
+
+ghost use Rattle.std.specs.Prelude.{◌≡◌, ◌<◌, ◌≤◌, ◌^◌, ◌++◌, ◌∷◌, [], length, take, drop, slice_index_or, OnOk};
+ghost use Rattle.precedence.specs.IdRuns.{ids_of};
+ghost use Rattle.minelib_lines.specs.Lines.{line_of, lines_from, text_of};
+ghost use Rattle.minelib_writing.specs.Written.{prec_fields};
+ghost use Rattle.pit_parts.specs.declared.ranges.TheConstants.{MAX_BLOCKS};
+ghost use Rattle.devices.specs.Writes.{WritesOn};
+
+use crate::fields::put_whole_behind;
+use crate::id_text::IdText;
+use devices::sinks::sink::Sink;
+use devices::sinks::slices::flush_full;
+use devices::sinks::write_fault::WriteFault;
+use precedence::{IdRun, PredLists};
+use std::alloc::{AllocError, Global};
+
+/// Writes the line of each block behind what the buffer holds. The runs of a block are asked for when its line is written. `texts` has
+/// the texts of the blocks' identifiers.
+pub fn write_preds<S: Sink, P: PredLists>(
+    alloc: Global,
+    sink: &mut S,
+    buffer: &mut Vec<u8>,
+    preds: &P,
+    texts: &IdText,
+) -> Result<(), WriteFault>
+    requires { length (P.lists preds.now) ≤ MAX_BLOCKS }
+    ensures { WritesOn (text_of (lines_from prec_fields 0 (P.lists preds.now)))
+        buffer.old.items buffer.new.items (S.state sink.old) (S.state sink.new) result }
+{
+    let mut runs = Vec::new(alloc);
+    for id in 0..preds.count() {
+        write_line(sink, buffer, preds, id as u32, texts, &mut runs)?;
+    }
+    Ok(())
+}
+
+// Writes the line of one block. The vector is room for the runs of its predecessors.
+#[tactic(auto, using(crate::proofs::SectionsWritten::nothing_put))]
+fn write_line<S: Sink, P: PredLists>(
+    sink: &mut S,
+    buffer: &mut Vec<u8>,
+    preds: &P,
+    id: u32,
+    texts: &IdText,
+    runs: &mut Vec<IdRun>,
+) -> Result<(), WriteFault>
+    requires { id < length (P.lists preds.now) }
+    ensures { WritesOn
+        (text_of (take 1 (drop id (lines_from prec_fields 0 (P.lists preds.now)))))
+        buffer.old.items buffer.new.items (S.state sink.old) (S.state sink.new) result }
+{
+    put_line(buffer, preds, id, texts, runs)?;
+    flush_full(sink, buffer)?;
+    Ok(())
+}
+
+fn put_line<P: PredLists>(
+    out: &mut Vec<u8>,
+    preds: &P,
+    id: u32,
+    texts: &IdText,
+    runs: &mut Vec<IdRun>,
+) -> Result<(), AllocError>
+    requires { id < length (P.lists preds.now) }
+    ensures { OnOk result (out.new.items
+        ≡ out.old.items ++ text_of (take 1 (drop id (lines_from prec_fields 0 (P.lists preds.now))))) }
+{
+    runs.clear();
+    preds.add_runs(runs, id)?;
+    put_preds(out, id, runs.as_slice(), texts)
+}
+
+fn put_preds(out: &mut Vec<u8>, id: u32, runs: &[IdRun], texts: &IdText) -> Result<(), AllocError>
+    requires { length (ids_of runs.now) < 2 ^ 63 }
+    ensures { OnOk result (out.new.items
+        ≡ out.old.items ++ (line_of (prec_fields id (ids_of runs.now)) ++ 10 ∷ [])) }
+{
+    texts.put_one(out, id)?;
+    put_whole_behind(out, b' ', count_of(runs))?;
+    texts.put(out, runs)?;
+    out.push(b'\n')?;
+    Ok(())
+}
+
+// How many identifiers the runs have.
+fn count_of(runs: &[IdRun]) -> u64
+    requires { length (ids_of runs.now) < 2 ^ 63 }
+    ensures { result ≡ length (ids_of runs.now) }
+{
+    let mut count = 0;
+    for run in runs {
+        count += u64::from(run.len);
+    }
+    count
+}

@@ -1,0 +1,167 @@
+//! Items while a valuer packs them.
+
+ghost use Rattle.std.specs.Prelude.{◌≡◌, ◌+◌, ◌*◌, ◌<◌, ◌≤◌, ◌++◌, [], All, Some, length, take, drop, slice_get, vec_len, vec_capacity};
+ghost use Rattle.std.specs.Option.{option_map};
+ghost use Rattle.pit_parts.specs.Worth.{IsWorth};
+ghost use Rattle.pit_parts.specs.declared.ranges.TheConstants.{MAX_DESTINATIONS};
+ghost use Rattle.rows.specs.Packed.{mark_of, row_in, row_of, IsOfWidth};
+ghost use Rattle.rows.specs.PackingView.{IsFullFor};
+ghost use Rattle.rows.specs.inner.Entries.{kept_worths};
+ghost use Rattle.rows.specs.inner.Own.{HasWorths};
+
+use crate::item::Item;
+use crate::keeps::Keeps;
+use crate::long_lists::make_room_for;
+use crate::mark::Mark;
+use crate::packed::entry::Entry;
+use crate::packed::worths::PackedWorths;
+use pit_parts::block::Block;
+use std::alloc::{AllocError, Allocator, Global};
+use std::marker::Model;
+
+/// Items without the room that a row does not use, to which more may come. In memory an item takes 32 bytes, and 8 for
+/// each worth that a row has. Contracts see the list of them, for how many more items and worths there is room, and how many worths a
+/// row has.
+#[derive(Debug, Drop)]
+pub struct Packing<A: Allocator> {
+    entries: Vec<Entry, A>,
+    // of each entry as many, those of one after those of the one before it: zeros for an end mark
+    worths: Vec<i64, A>,
+    width: usize,
+}
+
+impl<A: Allocator> Model for Packing<A> {
+    ghost use Rattle.std.specs.Prelude.{◌≡◌, ◌*◌, ◌-◌, ◌≤◌, vec_len, vec_capacity, length};
+    ghost use Rattle.pit_parts.specs.declared.ranges.TheConstants.{MAX_DESTINATIONS};
+    ghost use Rattle.rows.specs.PackingView.{PackingView};
+    ghost use Rattle.rows.specs.inner.Entries.{items_of};
+
+    ghost Value = { PackingView };
+
+    ghost view = { λ p. record {
+      items = items_of p.width p.worths.items p.entries.items;
+      room = vec_capacity p.entries - vec_len p.entries;
+      worths_room = vec_capacity p.worths - vec_len p.worths;
+      width = p.width;
+    } };
+
+    ghost invariant = { λ p. (length p.worths.items ≡ length p.entries.items * p.width)
+        × (1 ≤ p.width) × (p.width ≤ MAX_DESTINATIONS) };
+}
+
+impl<A: Allocator + Copy> Packing<A> {
+    /// No items, for rows of so many worths.
+    pub fn new(alloc: A, width: usize) -> Packing<A>
+        requires some { 1 ≤ width }
+        requires few { width ≤ MAX_DESTINATIONS }
+        ensures items { result.items ≡ [] }
+        ensures width { result.width ≡ width }
+    {
+        Packing {
+            entries: Vec::new(alloc),
+            worths: Vec::new(alloc),
+            width,
+        }
+    }
+}
+
+impl<A: Allocator> Packing<A> {
+    /// The number of items.
+    #[tactic(auto, using(crate::proofs::Entries::entries))]
+    pub fn len(&self) -> usize
+        ensures { result ≡ length self.now.items }
+    {
+        self.entries.len()
+    }
+
+    /// The item at a position, from 0.
+    #[tactic(auto, using(crate::proofs::Entries::entries))]
+    pub fn at(&self, position: usize) -> Item
+        requires { position < length self.now.items }
+        ensures { slice_get self.now.items position ≡ Some result }
+    {
+        let own = own_worths(&self.worths, position, self.width);
+        self.entries[position].item(own)
+    }
+
+    /// Which item stands at a position, from 0.
+    #[tactic(auto, using(crate::proofs::Entries::entries))]
+    pub fn mark_at(&self, position: usize) -> Mark
+        requires { position < length self.now.items }
+        ensures { option_map mark_of (slice_get self.now.items position) ≡ Some result }
+    {
+        self.entries[position].mark()
+    }
+
+    /// The block of the row at a position, from 0, or `None` where no row stands there.
+    #[tactic(auto, using(crate::proofs::Entries::entries))]
+    pub fn block_at(&self, position: usize) -> Option<Block>
+        requires { position < length self.now.items }
+        ensures { result ≡ option_map (λ row. row.block) (row_of self.now.items position) }
+    {
+        self.entries[position].block()
+    }
+}
+
+impl Packing<Global> {
+    /// The worths of the items, which are given up.
+    pub fn into_worths(self) -> PackedWorths
+        ensures { HasWorths self.items result }
+    {
+        PackedWorths {
+            worths: self.worths,
+            width: self.width,
+        }
+    }
+}
+
+// The worths at a position, where each has so many.
+fn own_worths(worths: &[i64], position: usize, width: usize) -> &[i64]
+    requires { position * width + width ≤ length worths.now }
+    ensures { result.now ≡ take width (drop (position * width) worths.now) }
+{
+    let (_, rest) = worths.split_at(position * width);
+    let (own, _) = rest.split_at(width);
+    own
+}
+
+impl<A: Allocator> Keeps for Packing<A> {
+    ghost held = { λ packing. packing.items };
+
+    ghost is_for = { λ packing width. packing.width ≡ width };
+
+    ghost is_full = { λ packing width. IsFullFor width packing };
+
+    fn keep(&mut self, item: Item) -> Result<(), AllocError> {
+        make_room_for(&mut self.entries, 1)?;
+        make_room_for(&mut self.worths, self.width)?;
+        put_worths(&mut self.worths, &item, self.width);
+        self.entries.push(Entry::new(&item)).unwrap();
+        Ok(())
+    }
+}
+
+// Appends what is kept as the worths of an item.
+fn put_worths<A: Allocator>(worths: &mut Vec<i64, A>, item: &Item, width: usize)
+    requires room { vec_len worths.old + width ≤ vec_capacity worths.old }
+    requires fits { IsOfWidth width item.now }
+    ensures { worths.new.items ≡ worths.old.items ++ kept_worths width item.now }
+{
+    match item {
+        Item::Row(row) => put_cents(worths, row.worths.as_slice()),
+        Item::End { .. } => {
+            let end = worths.len() + width;
+            worths.resize(end, 0).unwrap();
+        }
+    }
+}
+
+fn put_cents<A: Allocator>(worths: &mut Vec<i64, A>, cents: &[i128])
+    requires room { vec_len worths.old + length cents.now ≤ vec_capacity worths.old }
+    requires fits { All IsWorth cents.now }
+    ensures { worths.new.items ≡ worths.old.items ++ cents.now }
+{
+    for worth in cents {
+        worths.push(*worth as i64).unwrap();
+    }
+}

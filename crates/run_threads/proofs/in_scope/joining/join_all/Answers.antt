@@ -1,0 +1,25 @@
+use Rattle.std.proofs.Common.{rules, ◌≡◌, ◌∷◌, ◌++◌, [], sym, ◌∙◌}
+use Rattle.std.proofs.lemmas.List.{nil_from_length}
+use Rattle.std.specs.Vec.Iter.{into_iter_items, into_iter_len}
+use Rattle.run_threads.proofs.Joined.{partly_more, partly_all}
+use Rattle.run_threads.proofs.in_scope.joining.join_all.Goals as goal
+
+pub loop-handle-preserved : goal.loop-handle-preserved
+loop-handle-preserved g c =
+    let was = c.loop-handle.invariant in
+    let grown : c.push.new.self.items ≡ c.loop-handle.results.items ++ c.join.result ∷ [] = search rules in
+    let rest : into_iter_items c.loop-handle.handle-iterator ≡ c.in-Some.handle ∷ into_iter_items c.next.new.self = search rules in
+    record {
+      kept = rw grown (partly_more (λ h r. g.P.Promise.kept_by h.promise r) c.args.handles.items c.loop-handle.results.items
+          c.in-Some.handle (into_iter_items c.next.new.self) c.join.result (rw rest at was.kept) c.join.ensures);
+      left = search rules;
+      count = search rules;
+      room = search rules;
+    }
+
+pub returns-clause-kept : goal.returns-clause-kept
+returns-clause-kept g c =
+    let none : into_iter_len c.loop-handle.handle-iterator ≡ 0 = search rules in
+    let over = nil_from_length (into_iter_items c.loop-handle.handle-iterator) (sym c.loop-handle.invariant.left ∙ none) in
+    partly_all (λ h r. g.P.Promise.kept_by h.promise r) c.args.handles.items c.loop-handle.results.items
+    (rw over at c.loop-handle.invariant.kept)

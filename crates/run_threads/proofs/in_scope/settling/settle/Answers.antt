@@ -1,0 +1,50 @@
+use Rattle.std.proofs.Common.{arith, rules, ◌≡◌, ◌∙◌, All, true, sym, subst}
+use Rattle.lane.specs.Ends.{TakeEndView}
+use Rattle.lane.specs.MessageKinds.{is_done}
+use Rattle.run_threads.proofs.Joined.{puts_of, read_of, takes_of, done_of, valued_of}
+use Rattle.run_threads.proofs.in_scope.settling.settle.Goals as goal
+
+pub stop-stopped-requires : goal.stop-stopped-requires
+stop-stopped-requires g c =
+    record {
+      puts = rw c.split_reads-ended.ensures.ended (puts_of (λ h. g.F.Feed.left h.promise.feed.value)
+          (λ h. g.F.Feed.is_sure h.promise.feed.value) (λ h. h.promise.plan.value) (λ h. h.promise.end.value) c.args._plan.now
+          c.args.closer.lane c.args.closer.files 0 c.args.closer.files (omega arith) c.args.readers.items c.join_all-reads.result.items
+          c.join_all-reads.ensures.kept c.requires.ends);
+    }
+
+pub gather-gathered-requires-clause-takes : goal.gather-gathered-requires-clause-takes
+gather-gathered-requires-clause-takes g c =
+    rw (c.stop-stopped.ensures.lane, c.stop-stopped.ensures.takers, c.split_values-takers.ensures.takers)
+    (takes_of (λ h. h.promise.plan.value) (λ h. h.promise.end.value) c.args._plan.now c.args.closer.lane c.args.closer.takers 0
+    c.args.closer.takers (omega arith) c.args.valuers.items c.join_all-values.result.items c.join_all-values.ensures.kept
+    c.requires.takes)
+
+pub gather-gathered-requires-clause-done : goal.gather-gathered-requires-clause-done
+gather-gathered-requires-clause-done g c =
+    subst (λ l. All (λ (t : TakeEndView). is_done t.took ≡ true) l) (sym c.split_values-takers.ensures.takers)
+    (done_of (λ h. h.promise.plan.value) (λ h. h.promise.end.value) c.args._plan.now c.args.closer.lane c.args.closer.takers
+    c.args.valuers.items c.join_all-values.result.items c.join_all-values.ensures.kept)
+
+pub returns : goal.returns
+returns g c =
+    let plan = c.args._plan.now in
+    let lane = c.args.closer.lane in
+    record {
+      whole = search rules;
+      read = rw (
+        c.split_reads-ended.ensures.answers,
+        c.gather-gathered.ensures.sent,
+        c.stop-stopped.ensures.sent,
+        c.split_reads-ended.ensures.ended,
+      )
+          (read_of (λ h. g.F.Feed.left h.promise.feed.value) (λ h. g.F.Feed.is_sure h.promise.feed.value) (λ h. h.promise.plan.value)
+          (λ h. h.promise.end.value) plan lane c.args.closer.files 0 c.args.closer.files c.args.readers.items c.join_all-reads.result.items
+          c.join_all-reads.ensures.kept c.requires.read_plans c.requires.ends);
+      valued = λ fine.
+          rw (c.split_values-takers.ensures.items, c.gather-gathered.ensures.took, c.split_values-takers.ensures.takers)
+          (valued_of (λ h. h.promise.plan.value) (λ h. h.promise.end.value) plan lane c.args.closer.takers 0 c.args.closer.takers
+          c.args.valuers.items c.join_all-values.result.items c.join_all-values.ensures.kept c.requires.valuer_plans c.requires.takes
+          (sym c.split_values-takers.ensures.memory ∙ fine));
+      takers = search rules;
+    }

@@ -1,0 +1,31 @@
+use Rattle.std.proofs.Common.{rules, ◌≡◌, ◌+◌, ◌∷◌, ◌++◌, [], subst, vec_len}
+use Rattle.std.proofs.lemmas.List.Elements.{All-push}
+use Rattle.std.specs.Vec.Iter.{into_iter_items}
+use Rattle.run_threads.specs.inner.Promises.{AreUnsentFrom}
+use Rattle.run_threads.proofs.Joined.{map_step, unsent_rest}
+use Rattle.run_threads.proofs.in_scope.starting.start_readers.Goals as goal
+
+pub loop-end-preserved : goal.loop-end-preserved
+loop-end-preserved g c =
+    let was = c.loop-end.invariant in
+    let kept = c.in-Some-start_reader.ensures in
+    let grown : c.push.new.self.items ≡ c.loop-end.handles.items ++ c.in-Some-start_reader.handle ∷ [] = search rules in
+    let ends : into_iter_items c.loop-end.end-iterator ≡ c.in-Some.end ∷ into_iter_items c.next.new.self = search rules in
+    let feeds : into_iter_items c.loop-end.rest ≡ c.in-Some-next.feed ∷ into_iter_items c.next-in-loop-end.new.self = search rules in
+    let more : vec_len c.loop-end.handles + 1 ≡ vec_len c.push.new.self = search rules in
+    record {
+      ends = rw grown (map_step (λ h. h.promise.end.value) c.loop-end.handles.items c.in-Some-start_reader.handle c.in-Some.end
+          (into_iter_items c.loop-end.end-iterator) (into_iter_items c.next.new.self) c.args.ends.items ends kept.2 was.ends);
+      feeds = rw grown (map_step (λ h. h.promise.feed.value) c.loop-end.handles.items c.in-Some-start_reader.handle c.in-Some-next.feed
+          (into_iter_items c.loop-end.rest) (into_iter_items c.next-in-loop-end.new.self) c.args.feeds.items feeds kept.0 was.feeds);
+      plans = rw grown (All-push (λ h. h.promise.plan.value ≡ c.args.shared.now.plan.now) c.loop-end.handles.items
+          c.in-Some-start_reader.handle was.plans kept.1);
+      count = search rules;
+      left = search rules;
+      fed = search rules;
+      room = search rules;
+      unsent = subst (λ n. AreUnsentFrom n (into_iter_items c.next.new.self)) more
+          (unsent_rest (vec_len c.loop-end.handles) c.in-Some.end (into_iter_items c.loop-end.end-iterator)
+          (into_iter_items c.next.new.self) ends was.unsent).2;
+      budget = search rules;
+    }

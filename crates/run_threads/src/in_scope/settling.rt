@@ -1,0 +1,85 @@
+//! The end of a run's threads: all joined, with what they hand over or without.
+
+ghost use Rattle.std.specs.Prelude.{◌≡◌, ◌≤◌, map, vec_len};
+ghost use Rattle.std.specs.List.{All};
+ghost use Rattle.lane.specs.Ends.{first_puts, first_takes};
+ghost use Rattle.run_threads.specs.inner.HandingOver.{IsHandedOver};
+ghost use Rattle.run_threads.specs.inner.Ready.{IsRoomFor};
+
+use crate::handing_over::HandedOver;
+use crate::in_scope::giving_up::{GaveUp, join_behind, join_each, quit_each};
+use crate::in_scope::joining::{join_all, split_reads, split_values};
+use crate::promises::{ReaderHandle, ValuerHandle};
+use crate::result_room::ResultRoom;
+use devices::feeds::feed::Feed;
+use lane::Closer;
+use pit_parts::plan::Plan;
+use std::sync::Wait;
+use std::thread::Threads;
+
+/// Joins the readers, stops the lane, joins the valuers, and gathers what they hand over. Of `_plan`, which is the plan of them all, only
+/// the contract speaks.
+pub fn settle<R: Threads + Wait, F: Feed>(
+    rt: &R,
+    closer: Closer,
+    readers: Vec<ReaderHandle<F>>,
+    valuers: Vec<ValuerHandle>,
+    room: ResultRoom,
+    _plan: &Plan,
+) -> HandedOver
+    // The threads have all ends of the lane, under one plan.
+    requires ends { map (λ h. h.promise.end.value) readers.items
+        ≡ first_puts closer.lane 0 closer.files }
+    requires takes { map (λ h. h.promise.end.value) valuers.items
+        ≡ first_takes closer.lane 0 closer.takers }
+    requires read_plans { All (λ h. h.promise.plan.value ≡ _plan.now) readers.items }
+    requires valuer_plans { All (λ h. h.promise.plan.value ≡ _plan.now) valuers.items }
+
+    // There is room for what each of them answers.
+    requires readers { vec_len readers ≡ closer.files }
+    requires valuers { vec_len valuers ≡ closer.takers }
+    requires room { IsRoomFor closer.files closer.takers room }
+
+    // What they hand over.
+    ensures { IsHandedOver _plan.now (map (λ h. F.left h.promise.feed.value) readers.items)
+        (map (λ h. F.is_sure h.promise.feed.value) readers.items) closer.takers result }
+{
+    let ResultRoom {
+        reads,
+        ended,
+        answers,
+        values,
+        takers,
+        items,
+    } = room;
+    let reads = join_all(rt, readers, reads);
+    let (ended, answers) = split_reads(reads, ended, answers);
+    let stopped = closer.stop(rt, ended);
+    let values = join_all(rt, valuers, values);
+    let (takers, items, memory) = split_values(values, takers, items);
+    let gathered = stopped.gather(rt, takers);
+    HandedOver {
+        gathered,
+        items,
+        memory,
+        answers,
+    }
+}
+
+/// Ends the threads that were started, of a run that was refused one: the readers first, since each of them waits for the valuers to take
+/// what it puts, and then the valuers, each of which waits for a message.
+pub fn give_up<R: Threads + Wait, F: Feed>(
+    rt: &R,
+    closer: Closer,
+    readers: Vec<ReaderHandle<F>>,
+    valuers: Vec<ValuerHandle>,
+) -> GaveUp
+    requires { vec_len valuers ≤ closer.takers }
+    ensures readers { result.readers.count ≡ vec_len readers }
+    ensures quits { result.quits ≡ vec_len valuers }
+    ensures valuers { result.valuers.count ≡ vec_len valuers }
+{
+    let readers = join_each(rt, readers);
+    let quits = quit_each(rt, closer, &readers, valuers.len());
+    join_behind(rt, readers, quits, valuers)
+}
