@@ -3,7 +3,6 @@
 
 mod head;
 mod item;
-mod items;
 mod keeps;
 mod long_lists;
 mod mark;
@@ -14,8 +13,7 @@ mod rows;
 mod spot;
 mod worths;
 
-pub use item::{Item, Valued};
-pub use items::Items;
+pub use item::{Item, Items, Valued};
 pub use keeps::Keeps;
 pub use mark::Mark;
 pub use packed::items::PackedItems;
