@@ -12,7 +12,7 @@ use Rattle.lane.specs.MessageKinds.{has_end, is_done, row_count}
 use Rattle.lane.specs.Whole.{IsWhole}
 use Rattle.lane.specs.Rule.{Putter, Closer, IsLane, put_parts, take_parts}
 use Rattle.lane.specs.Steps.{MaySend, full_view}
-use Rattle.lane.specs.inner.Views.{sents_in, tooks_in, gathering_in}
+use Rattle.lane.specs.inner.Views.{sent_lists, taken_lists, gathering_in}
 use Rattle.lane.specs.Ends.{Lane, PutEndView, TakeEndView, ArePutsFrom, AreTakesFrom}
 use Rattle.lane.specs.inner.Kept.{IsJoining, IsStopping, IsGathering, IsAllIn}
 use Rattle.lane.proofs.Lists.{all_more}
@@ -22,24 +22,24 @@ use Rattle.lane.proofs.Rules.{part_joins, sents_all, tooks_all, free_parts, ende
 puts_alone : (c : ℕ) (sent : List (List Taken)) → put_parts c 0 sent ≡ put_parts c 0 sent ++ take_parts c 0 []
 puts_alone c sent = sym (append-nil (put_parts c 0 sent))
 
-sents_alone : (c : ℕ) (sent : List (List Taken)) → sents_in (put_parts c 0 sent) ≡ sent
-sents_alone c sent = ap sents_in (puts_alone c sent) ∙ sents_all c 0 0 sent []
+sents_alone : (c : ℕ) (sent : List (List Taken)) → sent_lists (put_parts c 0 sent) ≡ sent
+sents_alone c sent = ap sent_lists (puts_alone c sent) ∙ sents_all c 0 0 sent []
 
-tooks_alone : (c : ℕ) (sent : List (List Taken)) → tooks_in (put_parts c 0 sent) ≡ []
-tooks_alone c sent = ap tooks_in (puts_alone c sent) ∙ tooks_all c 0 0 sent []
+tooks_alone : (c : ℕ) (sent : List (List Taken)) → taken_lists (put_parts c 0 sent) ≡ []
+tooks_alone c sent = ap taken_lists (puts_alone c sent) ∙ tooks_all c 0 0 sent []
 
 module _ (files takers c : ℕ) (lane : Lane) (all : List PutEndView) where
   pub join_more : (v u : List Part) (p : PutEndView) (rest : List PutEndView) (n k : ℕ) → IsJoining files takers c lane all (p ∷ rest) v n
       → u ≡ v ++ Put p.file c p.sent ∷ [] → has_end p.sent ≡ true → k ≡ row_count p.sent → k ≤ 1000000
       → IsJoining files takers c lane all rest u (n + k)
   join_more v u p rest n k h e ended count few =
-      let lists : List (List Taken) = sents_in v in
+      let lists : List (List Taken) = sent_lists v in
       let is : u ≡ Close files takers c 0 0 ∷ put_parts c 0 (lists ++ p.sent ∷ []) =
       e ∙ (ap (λ (x : List Part). x ++ Put p.file c p.sent ∷ []) h.part
       ∙ (ap (λ i. (Close files takers c 0 0 ∷ put_parts c 0 lists) ++ Put i c p.sent ∷ []) h.puts.1
       ∙ part_joins (λ i l. Put i c l) (Close files takers c 0 0 ∷ []) lists p.sent)) in
-      let new : sents_in u ≡ lists ++ p.sent ∷ [] = ap sents_in is ∙ sents_alone c (lists ++ p.sent ∷ []) in
-      let longer : length (sents_in u) ≡ length lists + 1 =
+      let new : sent_lists u ≡ lists ++ p.sent ∷ [] = ap sent_lists is ∙ sents_alone c (lists ++ p.sent ∷ []) in
+      let longer : length (sent_lists u) ≡ length lists + 1 =
       ap (λ (l : List (List Taken)). length l) new ∙ length-append lists (p.sent ∷ []) in
       record {
         part = is ∙ ap (λ l. Close files takers c 0 0 ∷ put_parts c 0 l) (sym new);
@@ -57,12 +57,12 @@ may_stop v files takers c k sent e len ended l =
 
 module _ (takers c : ℕ) (lane : Lane) (all : List TakeEndView) where
   pub gather_begin : (v : List Part) → IsStopping v takers c → AreTakesFrom lane takers 0 all
-      → All (λ (t : TakeEndView). is_done t.took ≡ true) all → IsGathering (length (sents_in v)) takers c lane (sents_in v) all all v
+      → All (λ (t : TakeEndView). is_done t.took ≡ true) all → IsGathering (length (sent_lists v)) takers c lane (sent_lists v) all all v
   gather_begin v h takes done =
-      let none : tooks_in v ≡ [] = ap tooks_in h.part ∙ tooks_alone c (sents_in v) in
+      let none : taken_lists v ≡ [] = ap taken_lists h.part ∙ tooks_alone c (sent_lists v) in
       record {
-        part = h.part ∙ (ap (λ x. Close (length (sents_in v)) takers c takers 0 ∷ x) (puts_alone c (sents_in v))
-            ∙ ap (λ l. full_view (length (sents_in v)) takers c (sents_in v) l) (sym none));
+        part = h.part ∙ (ap (λ x. Close (length (sent_lists v)) takers c takers 0 ∷ x) (puts_alone c (sent_lists v))
+            ∙ ap (λ l. full_view (length (sent_lists v)) takers c (sent_lists v) l) (sym none));
         lists = ap (λ l. l ++ map (λ t. t.took) all) none;
         takes = subst (λ (l : List (List Taken)). AreTakesFrom lane takers (length l) all) (sym none) takes;
         done = subst (AllByRecursion (λ l. is_done l ≡ true)) (sym none) tt;
@@ -73,13 +73,13 @@ module _ (takers c : ℕ) (lane : Lane) (all : List TakeEndView) where
     pub gather_more : (v u : List Part) (t : TakeEndView) (rest : List TakeEndView) → IsGathering files takers c lane sent all (t ∷ rest) v
         → u ≡ v ++ Take t.taker c t.took ∷ [] → IsGathering files takers c lane sent all rest u
     gather_more v u t rest h e =
-        let lists : List (List Taken) = tooks_in v in
+        let lists : List (List Taken) = taken_lists v in
         let is : u ≡ full_view files takers c sent (lists ++ t.took ∷ []) =
         e ∙ (ap (λ (x : List Part). x ++ Take t.taker c t.took ∷ []) h.part
         ∙ (ap (λ i. full_view files takers c sent lists ++ Take i c t.took ∷ []) h.takes.1
         ∙ part_joins (λ i l. Take i c l) (Close files takers c takers 0 ∷ put_parts c 0 sent) lists t.took)) in
-        let new : tooks_in u ≡ lists ++ t.took ∷ [] = ap tooks_in is ∙ tooks_all c 0 0 sent (lists ++ t.took ∷ []) in
-        let longer : length (tooks_in u) ≡ length lists + 1 =
+        let new : taken_lists u ≡ lists ++ t.took ∷ [] = ap taken_lists is ∙ tooks_all c 0 0 sent (lists ++ t.took ∷ []) in
+        let longer : length (taken_lists u) ≡ length lists + 1 =
         ap (λ (l : List (List Taken)). length l) new ∙ length-append lists (t.took ∷ []) in
         record {
           part = is ∙ ap (λ l. full_view files takers c sent l) (sym new);
@@ -91,16 +91,16 @@ module _ (takers c : ℕ) (lane : Lane) (all : List TakeEndView) where
         }
 
     pub gather_done : (v : List Part) → IsGathering files takers c lane sent all [] v → length sent ≡ files → 0 < takers
-        → IsAllIn v takers c × (sents_in v ≡ sent) × (tooks_in v ≡ map (λ t. t.took) all)
+        → IsAllIn v takers c × (sent_lists v ≡ sent) × (taken_lists v ≡ map (λ t. t.took) all)
     gather_done v h len some =
-        let same : sents_in v ≡ sent = ap sents_in h.part ∙ sents_all c 0 0 sent (tooks_in v) in
-        let count : length (sents_in v) ≡ files = ap (λ (l : List (List Taken)). length l) same ∙ len in (
+        let same : sent_lists v ≡ sent = ap sent_lists h.part ∙ sents_all c 0 0 sent (taken_lists v) in
+        let count : length (sent_lists v) ≡ files = ap (λ (l : List (List Taken)). length l) same ∙ len in (
           record {
-            part = h.part ∙ (λ i. full_view (sym count i) takers c (sym same i) (tooks_in v));
+            part = h.part ∙ (λ i. full_view (sym count i) takers c (sym same i) (taken_lists v));
             full = record { all_files = refl; all_takers = h.takes; some_taker = some; done = h.done };
           },
           same,
-          sym (append-nil (tooks_in v)) ∙ h.lists,
+          sym (append-nil (taken_lists v)) ∙ h.lists,
         )
 
 pub look_empty : (pass : ℕ) (v : List Part) (takers c : ℕ) → IsAllIn v takers c → Pops IsLane pass v (λ x w. ⊥)

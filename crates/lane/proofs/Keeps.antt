@@ -139,9 +139,6 @@ module _ (n : Size) (s : State) (h : IsLawful n s) where
   -- the front leaves: left' says how much of each file left then
   module _ (w : ℕ) (m : Taken) (rest : List Taken)
       (front : s.queue ≡ m ∷ rest) (below : w < n.takers) (undone : is_done (s.took w) ≡ false) where
-    more : List Taken
-    more = s.took w ++ m ∷ []
-
     counted : (p : Taken → Bool) → over n.takers (λ v. count_by p (with_at s.took w (s.took w ++ m ∷ []) v))
         ≡ over n.takers (λ v. count_by p (s.took v)) + cond (p m) 1 0
     counted p =
@@ -297,6 +294,3 @@ reaches n s e r a = (
   after_more opening r.0 e
       ∙ ap (λ t. after t e) r.2,
 )
-
-pub lawful : (n : Size) (s : State) → IsReached n s → IsLawful n s
-lawful n s r = subst (IsLawful n) r.2 (keeps_all n opening r.0 (begins n) r.1)

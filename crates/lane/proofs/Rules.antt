@@ -15,7 +15,7 @@ use Rattle.lane.specs.Whole.{IsWhole}
 use Rattle.lane.specs.Rule.{Role, role_of, IsSeated, AreSeated, IsLaneAt, IsCounting, IsLane, parts_from, put_parts, take_parts, all_parts}
 use Rattle.lane.specs.Steps.{with_message, IsFree, HasEnded, MaySend, MayTake, full_view}
 use Rattle.lane.specs.Laws.{send_event, MakeIsTheOpening, LookFindsNothing}
-use Rattle.lane.specs.inner.Views.{IsOrdered, Takes, sents_in, tooks_in, gathering_in}
+use Rattle.lane.specs.inner.Views.{IsOrdered, Takes, sent_lists, taken_lists, gathering_in}
 use Rattle.lane.specs.inner.Kept.{IsClosers, IsAllIn}
 use Rattle.lane.proofs.Lists.{all_get, some_at}
 use Rattle.lane.proofs.Seats.{at_part, has_left, has_right, has_part, at_within, role_of_part, every_set, every_more, opened}
@@ -160,22 +160,22 @@ pub looked : (pass : ℕ) (v : List Part) (takers c : ℕ) → IsAllIn v takers 
     → Learns IsLane pass v (λ items. (items ≡ []) × IsWhole (gathering_in v))
 looked pass v takers c all items views h at =
     let o = open_at IsClosers items views pass v h at (subst IsClosers (sym all.part) tt) (λ e. e) (λ f w d e. e) in
-    look_finds_nothing o.0 o.1 items views pass (length (sents_in v)) takers c (sents_in v) (tooks_in v) o.2
+    look_finds_nothing o.0 o.1 items views pass (length (sent_lists v)) takers c (sent_lists v) (taken_lists v) o.2
     (at ∙ ap some all.part) all.full
 
-sents_take : (c k : ℕ) (took : List (List Taken)) → sents_in (take_parts c k took) ≡ []
+sents_take : (c k : ℕ) (took : List (List Taken)) → sent_lists (take_parts c k took) ≡ []
 sents_take c k [] = refl
 sents_take c k (x ∷ took) = sents_take c (k + 1) took
 
-pub sents_all : (c k j : ℕ) (sent took : List (List Taken)) → sents_in (put_parts c k sent ++ take_parts c j took) ≡ sent
+pub sents_all : (c k j : ℕ) (sent took : List (List Taken)) → sent_lists (put_parts c k sent ++ take_parts c j took) ≡ sent
 sents_all c k j [] took = sents_take c j took
 sents_all c k j (x ∷ sent) took = ap (λ l. x ∷ l) (sents_all c (k + 1) j sent took)
 
-tooks_take : (c k : ℕ) (took : List (List Taken)) → tooks_in (take_parts c k took) ≡ took
+tooks_take : (c k : ℕ) (took : List (List Taken)) → taken_lists (take_parts c k took) ≡ took
 tooks_take c k [] = refl
 tooks_take c k (x ∷ took) = ap (λ l. x ∷ l) (tooks_take c (k + 1) took)
 
-pub tooks_all : (c k j : ℕ) (sent took : List (List Taken)) → tooks_in (put_parts c k sent ++ take_parts c j took) ≡ took
+pub tooks_all : (c k j : ℕ) (sent took : List (List Taken)) → taken_lists (put_parts c k sent ++ take_parts c j took) ≡ took
 tooks_all c k j [] took = tooks_take c j took
 tooks_all c k j (x ∷ sent) took = tooks_all c (k + 1) j sent took
 

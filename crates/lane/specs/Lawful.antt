@@ -20,6 +20,7 @@ IsPlaced sent left (End file rows) = (rows < left file) × (slice_get (sent file
 IsPlaced sent left Stop = Unit {0}
 IsPlaced sent left Quit = Unit {0}
 
+-- a state of the lane in which nothing is lost, doubled or out of order
 pub record IsLawful (n : Size) (s : State) : Type 0 where
   -- what each file sent is rows of places 0, 1, 2, .. and then at most one end mark with their count, last
   pub lists : (file : ℕ) → IsFrom file 0 (s.sent file)

@@ -25,6 +25,7 @@ pub record State : Type 0 where
 abbrev pub opening : State
 opening = record { queue = []; sent = λ file. []; stops = 0; quits = 0; took = λ taker. [] }
 
+-- what the ends do: put a row, an end mark, a Stop or a Quit, and take the next message
 pub data Event : Type 0 where
   PutRow : (file : ℕ) (block : Block) → Event
   PutEnd : (file : ℕ) → Event
@@ -32,6 +33,7 @@ pub data Event : Type 0 where
   PutQuit : Event
   TakeNext : (taker : ℕ) → Event
 
+-- a place of the queue is free
 abbrev pub HasRoom : Size → State → Type 0
 HasRoom n s = length s.queue < n.capacity
 
@@ -55,6 +57,7 @@ put file m s = record { queue = s.queue ++ m ∷ []; sent = with_at s.sent file 
 abbrev pub take_front : ℕ → Taken → List Taken → State → State
 take_front taker m rest s = record { queue = rest; sent = s.sent; stops = s.stops; quits = s.quits; took = with_at s.took taker (s.took taker ++ m ∷ []) }
 
+-- a take of the front, if there is one
 abbrev pub take_next : ℕ → List Taken → State → State
 take_next taker [] s = s
 take_next taker (m ∷ rest) s = take_front taker m rest s

@@ -21,6 +21,7 @@ IsSent sent (End file rows) = IsSentAt sent file rows (End file rows)
 IsSent sent Stop = Unit {0}
 IsSent sent Quit = Unit {0}
 
+-- all that was sent was taken once, and nothing else
 pub record IsWhole (g : GatheredView) : Type 0 where
   -- what each file sent is rows of places 0, 1, 2, .. and its end mark with their count
   pub sents : (file : ℕ) (list : List Taken) → slice_get g.sent file ≡ Some list → IsEndedFrom file 0 list

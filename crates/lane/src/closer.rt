@@ -5,7 +5,7 @@ ghost use Rattle.std.specs.List.{All, sum_by};
 ghost use Rattle.crossbeam_channel.specs.Ends.{receives_on};
 ghost use Rattle.lane.specs.MessageKinds.{is_done, row_count};
 ghost use Rattle.lane.specs.Rule.{put_parts};
-ghost use Rattle.lane.specs.inner.Views.{sents_in, tooks_in};
+ghost use Rattle.lane.specs.inner.Views.{sent_lists, taken_lists};
 ghost use Rattle.lane.specs.Ends.{ArePutsFrom, AreTakesFrom, CloserView, StoppedView};
 ghost use Rattle.lane.specs.inner.Kept.{room_of, IsChannelOf, IsJoined, IsStopping, IsAllIn, closer_view, IsCloser, quits_of, stopped_view};
 ghost use Rattle.lane.specs.Whole.{IsWhole};
@@ -115,8 +115,8 @@ fn join_puts(seat: &mut SeatedSender, files: u8, takers: u8, puts: Vec<EndedPut>
     requires puts { ArePutsFrom seat.old.lane files 0 puts.items }
     ensures lane { seat.new.lane ≡ seat.old.lane }
     ensures joined { IsJoined seat.new.known files takers (room_of seat.old) }
-    ensures lists { sents_in seat.new.known ≡ map (λ put. put.sent) puts.items }
-    ensures rows { result ≡ sum_by row_count (sents_in seat.new.known) }
+    ensures lists { sent_lists seat.new.known ≡ map (λ put. put.sent) puts.items }
+    ensures rows { result ≡ sum_by row_count (sent_lists seat.new.known) }
 {
     let mut rows = 0;
     for put in puts {
@@ -130,7 +130,7 @@ fn put_stops<R: Wait>(rt: &R, seat: &mut SeatedSender, files: u8, takers: u8)
     requires joined { IsJoined seat.old.known files takers (room_of seat.old) }
     ensures stopped { seat.new ≡ record seat.old {
       known = Part.Close files takers (room_of seat.old) takers 0
-          ∷ put_parts (room_of seat.old) 0 (sents_in seat.old.known);
+          ∷ put_parts (room_of seat.old) 0 (sent_lists seat.old.known);
     } }
 {
     for _stop in 0..takers {
@@ -167,7 +167,7 @@ impl Model for Stopped {
 
     ghost invariant = { λ e. IsChannelOf e.seat.lane (receives_on e.receiver)
         × IsStopping e.seat.known e.takers (room_of e.seat)
-        × (e.rows ≡ sum_by row_count (sents_in e.seat.known)) };
+        × (e.rows ≡ sum_by row_count (sent_lists e.seat.known)) };
 }
 
 impl Stopped {
@@ -202,8 +202,8 @@ fn join_takes(seat: &mut SeatedSender, takers: u8, takes: Vec<TakeEnd>)
     requires done { All (λ take. is_done take.took ≡ true) takes.items }
     ensures lane { seat.new.lane ≡ seat.old.lane }
     ensures full { IsAllIn seat.new.known takers (room_of seat.old) }
-    ensures sent { sents_in seat.new.known ≡ sents_in seat.old.known }
-    ensures took { tooks_in seat.new.known ≡ map (λ take. take.took) takes.items }
+    ensures sent { sent_lists seat.new.known ≡ sent_lists seat.old.known }
+    ensures took { taken_lists seat.new.known ≡ map (λ take. take.took) takes.items }
 {
     for take in takes {
         take.join(seat);

@@ -2,9 +2,9 @@
 
 ghost use Rattle.std.specs.Prelude.{◌≡◌};
 ghost use Rattle.std.specs.List.{sum_by};
-ghost use Rattle.crossbeam_channel.specs.Claims.{view as known};
+ghost use Rattle.crossbeam_channel.specs.Claims.{view as known_by};
 ghost use Rattle.lane.specs.MessageKinds.{row_count};
-ghost use Rattle.lane.specs.inner.Views.{gathering_in, sents_in};
+ghost use Rattle.lane.specs.inner.Views.{gathering_in, sent_lists};
 ghost use Rattle.lane.specs.Whole.{IsWhole, GatheredView};
 ghost use Rattle.lane.specs.inner.Kept.{gathered_view, IsGathered};
 
@@ -23,14 +23,14 @@ impl Model for Gathered {
 
     ghost view = { λ g. gathered_view g.pass };
 
-    ghost invariant = { λ g. IsGathered (known g.pass) g.rows };
+    ghost invariant = { λ g. IsGathered (known_by g.pass) g.rows };
 }
 
 impl Gathered {
     pub(crate) fn new(pass: Seat, rows: u64) -> Gathered
-        requires whole { IsWhole (gathering_in (known pass)) }
-        requires rows { rows ≡ sum_by row_count (sents_in (known pass)) }
-        ensures value { result ≡ gathering_in (known pass) }
+        requires whole { IsWhole (gathering_in (known_by pass)) }
+        requires rows { rows ≡ sum_by row_count (sent_lists (known_by pass)) }
+        ensures value { result ≡ gathering_in (known_by pass) }
     {
         Gathered { pass, rows }
     }

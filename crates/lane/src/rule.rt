@@ -10,6 +10,7 @@ use std::collections::LinkedList;
 /// What a pass knows: the parts that it has.
 pub type Parts = LinkedList<Part>;
 
+/// The rule of the channel.
 pub struct Rule;
 
 impl Protocol<Taken, Parts> for Rule {
@@ -23,10 +24,13 @@ impl Protocol<Taken, Parts> for Rule {
     ghost first = { Count 0 0 0 ∷ [] };
 }
 
+/// An end that sends under the rule.
 pub type Sender = RuledSender<Taken, Parts, Rule, Global>;
 
+/// An end that receives under the rule.
 pub type Receiver = RuledReceiver<Taken, Parts, Rule, Global>;
 
+/// What an end knows of the lane.
 pub type Seat = Pass<Taken, Parts>;
 
 /// A send of a row, an end mark, a Stop or a Quit.
@@ -74,7 +78,7 @@ impl Lesson<Taken, Parts> for Looks {
     ghost fact = { λ v items. IsWhole (gathering_in v) };
 }
 
-/// One more file, taker or place is counted.
+/// One more file is counted.
 pub struct CountsFile;
 
 impl Split<Parts> for CountsFile {
@@ -86,6 +90,7 @@ impl Split<Parts> for CountsFile {
     ghost right = { λ v. [] };
 }
 
+/// One more taker is counted.
 pub struct CountsTaker;
 
 impl Split<Parts> for CountsTaker {
@@ -97,6 +102,7 @@ impl Split<Parts> for CountsTaker {
     ghost right = { λ v. [] };
 }
 
+/// One more place is counted.
 pub struct CountsPlace;
 
 impl Split<Parts> for CountsPlace {

@@ -17,7 +17,7 @@ use Rattle.lane.specs.Whole.{GatheredView, IsWhole}
 use Rattle.lane.specs.Ends.{Lane, PutEndView, TakeEndView, CloserView, StoppedView, ArePutsFrom, AreTakesFrom}
 use Rattle.lane.specs.Rule.{IsLane, put_parts, take_parts}
 use Rattle.lane.specs.Steps.{full_view, IsFull}
-use Rattle.lane.specs.inner.Views.{IsOrdered, sent_in, took_in, sents_in, tooks_in, quits_in, gathering_in, without_second, second_alone}
+use Rattle.lane.specs.inner.Views.{IsOrdered, sent_in, took_in, sent_lists, taken_lists, quits_in, gathering_in, without_second, second_alone}
 use Rattle.pit_parts.specs.declared.ranges.TheConstants.{MAX_ROWS}
 
 -- what contracts see of an end of the channel with its pass: the lane, and what the pass knows
@@ -55,7 +55,7 @@ abbrev pub closer_view : SeatView → ℕ → ℕ → CloserView
 closer_view s files takers = record { lane = s.lane; files = files; takers = takers }
 
 abbrev pub stopped_view : SeatView → ℕ → StoppedView
-stopped_view s takers = record { lane = s.lane; takers = takers; sent = sents_in s.known }
+stopped_view s takers = record { lane = s.lane; takers = takers; sent = sent_lists s.known }
 
 -- the number of Quits that the pass put
 abbrev pub quits_of : Pass Taken (List Part) → ℕ
@@ -91,17 +91,17 @@ pub record IsCloser (v : List Part) (files takers capacity : ℕ) : Type 0 where
 
 -- all Stops were put, and the put parts of all files joined
 pub record IsStopping (v : List Part) (takers capacity : ℕ) : Type 0 where
-  pub part : v ≡ Close (length (sents_in v)) takers capacity takers 0 ∷ put_parts capacity 0 (sents_in v)
+  pub part : v ≡ Close (length (sent_lists v)) takers capacity takers 0 ∷ put_parts capacity 0 (sent_lists v)
   pub some_taker : 0 < takers
 
 -- all parts of the lane, with the lists of all files and of all takers, who are done
 pub record IsAllIn (v : List Part) (takers capacity : ℕ) : Type 0 where
-  pub part : v ≡ full_view (length (sents_in v)) takers capacity (sents_in v) (tooks_in v)
-  pub full : IsFull takers (length (sents_in v)) (sents_in v) (tooks_in v)
+  pub part : v ≡ full_view (length (sent_lists v)) takers capacity (sent_lists v) (taken_lists v)
+  pub full : IsFull takers (length (sent_lists v)) (sent_lists v) (taken_lists v)
 
 pub record IsGathered (v : List Part) (count : ℕ) : Type 0 where
   pub whole : IsWhole (gathering_in v)
-  pub rows : sum_by row_count (sents_in v) ≡ count
+  pub rows : sum_by row_count (sent_lists v) ≡ count
 
 -- the view is a closer's
 abbrev pub IsClosers : List Part → Type 0
@@ -110,25 +110,25 @@ IsClosers _ = ⊥
 
 -- some ended parts joined the closer's, and those of the rest are to come
 pub record IsJoining (files takers capacity : ℕ) (lane : Lane) (all rest : List PutEndView) (v : List Part) (count : ℕ) : Type 0 where
-  pub part : v ≡ Close files takers capacity 0 0 ∷ put_parts capacity 0 (sents_in v)
-  pub lists : sents_in v ++ map (λ p. p.sent) rest ≡ map (λ p. p.sent) all
-  pub puts : ArePutsFrom lane files (length (sents_in v)) rest
-  pub ended : AllByRecursion (λ l. has_end l ≡ true) (sents_in v)
-  pub rows : sum_by row_count (sents_in v) ≡ count
-  pub few : count ≤ length (sents_in v) * MAX_ROWS
+  pub part : v ≡ Close files takers capacity 0 0 ∷ put_parts capacity 0 (sent_lists v)
+  pub lists : sent_lists v ++ map (λ p. p.sent) rest ≡ map (λ p. p.sent) all
+  pub puts : ArePutsFrom lane files (length (sent_lists v)) rest
+  pub ended : AllByRecursion (λ l. has_end l ≡ true) (sent_lists v)
+  pub rows : sum_by row_count (sent_lists v) ≡ count
+  pub few : count ≤ length (sent_lists v) * MAX_ROWS
 
 -- the ended parts of all files joined the closer's
 pub record IsJoined (v : List Part) (files takers capacity : ℕ) : Type 0 where
-  pub part : v ≡ Close files takers capacity 0 0 ∷ put_parts capacity 0 (sents_in v)
-  pub all_files : length (sents_in v) ≡ files
-  pub ended : AllByRecursion (λ l. has_end l ≡ true) (sents_in v)
+  pub part : v ≡ Close files takers capacity 0 0 ∷ put_parts capacity 0 (sent_lists v)
+  pub all_files : length (sent_lists v) ≡ files
+  pub ended : AllByRecursion (λ l. has_end l ≡ true) (sent_lists v)
 
 -- some take parts joined the closer's, and those of the rest are to come
 pub record IsGathering (files takers capacity : ℕ) (lane : Lane) (sent : List (List Taken)) (all rest : List TakeEndView) (v : List Part) : Type 0 where
-  pub part : v ≡ full_view files takers capacity sent (tooks_in v)
-  pub lists : tooks_in v ++ map (λ t. t.took) rest ≡ map (λ t. t.took) all
-  pub takes : AreTakesFrom lane takers (length (tooks_in v)) rest
-  pub done : AllByRecursion (λ l. is_done l ≡ true) (tooks_in v)
+  pub part : v ≡ full_view files takers capacity sent (taken_lists v)
+  pub lists : taken_lists v ++ map (λ t. t.took) rest ≡ map (λ t. t.took) all
+  pub takes : AreTakesFrom lane takers (length (taken_lists v)) rest
+  pub done : AllByRecursion (λ l. is_done l ≡ true) (taken_lists v)
   pub rest_done : AllByRecursion (λ t. is_done t.took ≡ true) rest
 
 -- the closer's view while put ends, and then take ends, are given away: those from number k on are left

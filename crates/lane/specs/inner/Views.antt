@@ -33,18 +33,18 @@ abbrev pub Takes : List Part → Taken → List Part → Type 0
 Takes v m w = (w ≡ with_message v m) × IsOrdered (took_in w)
 
 -- the lists of all put parts, and of all take parts
-abbrev pub sents_in : List Part → List (List Taken)
-sents_in [] = []
-sents_in (Put file capacity sent ∷ v) = sent ∷ sents_in v
-sents_in (_ ∷ v) = sents_in v
+abbrev pub sent_lists : List Part → List (List Taken)
+sent_lists [] = []
+sent_lists (Put file capacity sent ∷ v) = sent ∷ sent_lists v
+sent_lists (_ ∷ v) = sent_lists v
 
-abbrev pub tooks_in : List Part → List (List Taken)
-tooks_in [] = []
-tooks_in (Take taker capacity took ∷ v) = took ∷ tooks_in v
-tooks_in (_ ∷ v) = tooks_in v
+abbrev pub taken_lists : List Part → List (List Taken)
+taken_lists [] = []
+taken_lists (Take taker capacity took ∷ v) = took ∷ taken_lists v
+taken_lists (_ ∷ v) = taken_lists v
 
 abbrev pub gathering_in : List Part → GatheredView
-gathering_in v = record { sent = sents_in v; took = tooks_in v }
+gathering_in v = record { sent = sent_lists v; took = taken_lists v }
 
 -- how the views change as the lane is opened: one more file, taker or place; the count becomes all parts; the second part moves to a new pass
 abbrev pub more_files : List Part → List Part

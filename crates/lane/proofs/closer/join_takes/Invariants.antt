@@ -1,12 +1,12 @@
 use Rattle.std.proofs.Common.{◌≡◌, length}
 use Rattle.std.specs.Vec.Iter.{into_iter_items, into_iter_len}
-use Rattle.lane.specs.inner.Views.{sents_in}
+use Rattle.lane.specs.inner.Views.{sent_lists}
 use Rattle.lane.specs.inner.Kept.{room_of, IsGathering}
 use Rattle.lane.proofs.closer.join_takes.Given as goal
 
 abbrev pub invariant-loop-take : goal.invariant-loop-take
 invariant-loop-take l =
     (l.seat.lane ≡ l.fn.seat.lane)
-    × IsGathering (length (sents_in l.fn.seat.known)) l.takers (room_of l.fn.seat) l.fn.seat.lane
-    (sents_in l.fn.seat.known) (into_iter_items l.initial.take-iterator) (into_iter_items l.take-iterator) l.seat.known
+    × IsGathering (length (sent_lists l.fn.seat.known)) l.takers (room_of l.fn.seat) l.fn.seat.lane
+    (sent_lists l.fn.seat.known) (into_iter_items l.initial.take-iterator) (into_iter_items l.take-iterator) l.seat.known
     × (into_iter_len l.take-iterator ≡ length (into_iter_items l.take-iterator))

@@ -2,12 +2,12 @@ use Rattle.std.proofs.Common.{◌≡◌, ◌∷◌}
 use Rattle.lane.specs.declared.part.Part.TheVariants.{Close}
 use Rattle.lane.specs.Rule.{put_parts}
 use Rattle.lane.specs.inner.Kept.{room_of}
-use Rattle.lane.specs.inner.Views.{sents_in}
+use Rattle.lane.specs.inner.Views.{sent_lists}
 use Rattle.lane.proofs.closer.put_stops.Given as goal
 
 abbrev pub invariant-loop-stop : goal.invariant-loop-stop
 invariant-loop-stop g l =
     l.seat ≡ record l.fn.seat {
       known = Close l.files l.takers (room_of l.fn.seat) l._stop 0
-          ∷ put_parts (room_of l.fn.seat) 0 (sents_in l.fn.seat.known);
+          ∷ put_parts (room_of l.fn.seat) 0 (sent_lists l.fn.seat.known);
     }
