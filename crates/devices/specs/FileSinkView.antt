@@ -1,5 +1,5 @@
 -- What a sink over a file tells.
-use Rattle.std.specs.Prelude.{ℕ, List, [], Bool, false, Option, Some, None}
+use Rattle.std.specs.Prelude.{ℕ, List, [], Bool, false, Option, None}
 use Rattle.devices.specs.SinkState.{SinkState}
 
 pub record FileSinkView : Type 0 where
@@ -15,11 +15,6 @@ pub record FileSinkView : Type 0 where
 -- a sink for the file at this path that was not begun
 abbrev pub unbegun : List ℕ → FileSinkView
 unbegun path = record { path = path; begun = false; held = None; failures = 0 }
-
--- what a file holds, once there is one
-abbrev pub held_by : {F : Type 0} → (F → Option (List ℕ)) → Option F → Option (List ℕ)
-held_by contents None = None
-held_by contents (Some file) = contents file
 
 -- what it tells as a sink: the bytes of its text are told by no file of a system
 abbrev pub file_told : FileSinkView → SinkState

@@ -12,13 +12,13 @@ pub struct FeedFault;
 
 /// A source of bytes that are given once, in order: a file, a pipe, or bytes in memory.
 pub trait Feed {
-    // The bytes that it still gives, where it tells them.
+    /// The bytes that it still gives, where it tells them.
     ghost left: { Self → Option (List ℕ) };
-    // How many bytes it gave so far.
+    /// How many bytes it gave so far.
     ghost given: { Self → ℕ };
-    // How many pulls it refused so far.
+    /// How many pulls it refused so far.
     ghost failures: { Self → ℕ };
-    // Whether it never fails, now or later.
+    /// Whether it never fails, now or later.
     ghost is_sure: { Self → Bool };
 
     /// Writes the next bytes to the front of `buffer`, and returns how many: at most the buffer's length, and perhaps

@@ -10,7 +10,7 @@ use std::alloc::AllocError;
 const CHUNK: usize = 262_144;
 
 /// Leaves room for a byte behind the first `filled`, within the first `most`. Memory of the list doubles, so that a long feed is copied a
-/// bounded number of times, and is written no further than the next bytes go.
+/// bounded number of times, and is written no further than the next bytes go. Where memory is refused the list is as it was.
 pub fn make_room(bytes: &mut Vec<u8>, filled: usize, most: usize) -> Result<(), AllocError>
     requires filled { filled ≤ vec_len bytes.old }
     requires within { vec_len bytes.old ≤ most }
@@ -28,7 +28,7 @@ pub fn make_room(bytes: &mut Vec<u8>, filled: usize, most: usize) -> Result<(), 
     Ok(())
 }
 
-/// One pull of at most `most` bytes into a buffer, behind its first `filled`.
+/// One pull of at most `most` bytes into a buffer, behind its first `filled`. Where the device fails no byte was given.
 #[tactic(auto, using(crate::proofs::Giving::gave_behind))]
 pub fn pull_behind<F: Feed>(
     feed: &mut F,

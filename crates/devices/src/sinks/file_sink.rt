@@ -27,15 +27,16 @@ pub struct FileSink<'a, R: Files> {
 
 impl<'a, R: Files> Model for FileSink<'a, R> {
     ghost use Rattle.std.specs.Prelude.{is_some, string_bytes};
+    ghost use Rattle.std.specs.Option.{option_and_then};
     ghost use Rattle.devices.specs.Count.{count_of};
-    ghost use Rattle.devices.specs.FileSinkView.{FileSinkView, held_by};
+    ghost use Rattle.devices.specs.FileSinkView.{FileSinkView};
 
     ghost Value = { FileSinkView };
 
     ghost view = { λ s. record {
       path = string_bytes s.path;
       begun = is_some s.file;
-      held = held_by R.File.contents s.file;
+      held = option_and_then R.File.contents s.file;
       failures = count_of s.failures;
     } };
 }

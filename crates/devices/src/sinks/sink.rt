@@ -25,7 +25,7 @@ impl From<SinkFault> for OrMemory<SinkFault> {
 
 /// A device that takes one text: a file, or bytes in memory.
 pub trait Sink {
-    // What it tells of itself.
+    /// What it tells of itself.
     ghost state: { Self → SinkState };
 
     /// Begins the text. The sink gives up the text that it held, and holds none of the new one yet.

@@ -9,7 +9,7 @@ use crate::sinks::sink::{Sink, SinkFault};
 /// How many bytes are collected before they are put.
 pub const LARGE: usize = 65_536;
 
-/// Puts all the bytes, in as many calls as the sink wants.
+/// Puts all the bytes, in as many calls as the sink wants. Where the device fails the sink has taken a front of them.
 pub fn put_all<S: Sink>(sink: &mut S, bytes: &[u8]) -> Result<(), SinkFault>
     ensures written { OnOk result
         (IsAppended bytes.now [] [] (S.state sink.old) (S.state sink.new)) }
@@ -24,7 +24,7 @@ pub fn put_all<S: Sink>(sink: &mut S, bytes: &[u8]) -> Result<(), SinkFault>
     Ok(())
 }
 
-/// Puts the buffer and empties it.
+/// Puts the buffer and empties it. Where the device fails the sink has taken a front of it.
 pub fn flush<S: Sink>(sink: &mut S, buffer: &mut Vec<u8>) -> Result<(), SinkFault>
     ensures written { OnOk result
         (IsAppended [] buffer.old.items buffer.new.items (S.state sink.old) (S.state sink.new)) }
@@ -37,7 +37,7 @@ pub fn flush<S: Sink>(sink: &mut S, buffer: &mut Vec<u8>) -> Result<(), SinkFaul
     Ok(())
 }
 
-/// Puts a full buffer and empties it.
+/// Puts a full buffer and empties it. Where the device fails the sink has taken a front of it.
 #[tactic(auto, using(crate::proofs::Fronts::buffered))]
 pub fn flush_full<S: Sink>(sink: &mut S, buffer: &mut Vec<u8>) -> Result<(), SinkFault>
     ensures written { OnOk result

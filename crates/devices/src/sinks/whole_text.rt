@@ -10,6 +10,7 @@ use std::alloc::Global;
 
 /// A text by its parts.
 pub trait Text {
+    /// The whole text.
     ghost text: { Self → List ℕ };
 
     /// What the types of its parts keep of them, as is known once it is written.
@@ -28,6 +29,13 @@ pub trait Text {
 }
 
 /// Begins the sink and writes the text.
+///
+/// # Errors
+///
+/// The sink is as it was, or it was begun and holds a front of the text.
+///
+/// - `SinkFault`: it refused a call.
+/// - `OutOfMemory`: memory was refused.
 #[tactic(auto, using(crate::proofs::Fronts::cut_at_begin))]
 pub fn write_text<S: Sink, T: Text>(alloc: Global, text: &T, sink: &mut S) -> Result<(), WriteFault>
     ensures writes { Writes (T.text text.now) (S.state sink.old) (S.state sink.new) result }
