@@ -1,4 +1,4 @@
-pub mod RowFacts
+pub mod ByBlockFacts
 pub mod PairFacts
 pub mod CpitFacts
 pub mod BuildFacts

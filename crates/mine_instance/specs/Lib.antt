@@ -1,4 +1,5 @@
 pub mod BlockValues
+pub mod ByBlock
 pub mod Cpit
 pub mod CpitKept
 pub mod CpitOrder
@@ -9,7 +10,6 @@ pub mod OfCpit
 pub mod OfModel
 pub mod OneSlope
 pub mod Order
-pub mod Rows
 pub mod Seen
 pub mod Valid
 pub mod WorthsOf

@@ -2,7 +2,7 @@
 
 ghost use Rattle.std.specs.Prelude.{◌≡◌, ◌*◌, ◌^◌, ◌-◌, ◌<◌, ◌++◌, ◌∷◌, ◌↔◌, length, vec_len, slice_index_or, [], All, IsTrue, OnOk, OnErr};
 ghost use Rattle.std.specs.List.{flat_map};
-ghost use Rattle.mine_instance.specs.Rows.{rows_of};
+ghost use Rattle.mine_instance.specs.ByBlock.{by_block};
 
 use crate::values::block::BlockValues;
 use crate::values::list::ValueList;
@@ -27,11 +27,11 @@ pub struct Values {
 
 impl Model for Values {
     ghost use Rattle.std.specs.Prelude.{◌≡◌, ◌*◌, List, ℤ, vec_len};
-    ghost use Rattle.mine_instance.specs.Rows.{rows_of};
+    ghost use Rattle.mine_instance.specs.ByBlock.{by_block};
 
     ghost Value = { List (List ℤ) };
 
-    ghost view = { λ v. rows_of v.count v.width v.all.items };
+    ghost view = { λ v. by_block v.count v.width v.all.items };
 
     ghost invariant = { λ v. vec_len v.all ≡ v.count * v.width };
 }
@@ -40,13 +40,13 @@ impl Values {
     /// The values of `count` blocks, `width` each, one block's after those of the block before it.
     pub fn new(all: Vec<Dec>, count: usize, width: usize) -> Values
         requires { vec_len all ≡ count * width }
-        ensures { result ≡ rows_of count width all.items }
+        ensures { result ≡ by_block count width all.items }
     {
         Values { all, count, width }
     }
 
     /// The number of blocks.
-    #[tactic(auto, using(crate::proofs::RowFacts::rows))]
+    #[tactic(auto, using(crate::proofs::ByBlockFacts::by_blocks))]
     pub fn len(&self) -> usize
         ensures { result ≡ length self.now }
     {
@@ -61,7 +61,7 @@ impl Values {
     }
 
     /// The values of a block, in the order of the destinations.
-    #[tactic(auto, using(crate::proofs::RowFacts::rows))]
+    #[tactic(auto, using(crate::proofs::ByBlockFacts::by_blocks))]
     pub fn of(&self, block: usize) -> &[Dec]
         requires { block < length self.now }
         ensures { result.now ≡ slice_index_or self.now block [] }
@@ -72,7 +72,7 @@ impl Values {
     }
 
     /// Adds the values of one more block, as many as each of the others has. Where memory is refused the values are as they were.
-    #[tactic(auto, using(crate::proofs::RowFacts::rows))]
+    #[tactic(auto, using(crate::proofs::ByBlockFacts::by_blocks))]
     pub fn push(&mut self, values: &[Dec]) -> Result<(), AllocError>
         requires room { length self.old < 2 ^ 64 - 1 }
         requires width { All (λ of_block. length of_block ≡ length values.now) self.old }

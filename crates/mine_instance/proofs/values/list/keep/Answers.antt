@@ -1,8 +1,8 @@
 use Rattle.std.proofs.Common.{◌≡◌, ◌<◌, ◌++◌, ◌∷◌, [], ◌∙◌, ap, sym, arith, add-one, length, length-append}
 use Rattle.std.proofs.lemmas.List.{take_more}
 use Rattle.mine_instance.specs.BlockValues.{values_in}
-use Rattle.mine_instance.specs.Rows.{rows_of}
-use Rattle.mine_instance.proofs.RowFacts.{rows_of-push}
+use Rattle.mine_instance.specs.ByBlock.{by_block}
+use Rattle.mine_instance.proofs.ByBlockFacts.{by_block-push}
 use Rattle.mine_instance.proofs.values.list.keep.Goals as goal
 
 pub loop-block-preserved : goal.loop-block-preserved
@@ -20,6 +20,6 @@ loop-block-preserved g c =
     record {
       count = grind (arith, long, so_far, wide);
       kept =
-          (λ j. rows_of (add-one block j) width (added j)) ∙ rows_of-push block width items row so_far wide
+          (λ j. by_block (add-one block j) width (added j)) ∙ by_block-push block width items row so_far wide
           ∙ (λ j. c.loop-block.invariant.kept j ++ c.of_block.ensures j ∷ []) ∙ sym (take_more all block [] within);
     }
