@@ -1,14 +1,11 @@
 -- What the types of their parts keep of every instance and of every CPIT.
-use Rattle.std.specs.Prelude.{◌≡◌, ◌≤◌, ◌^◌, true, ℤ, unsigned_abs, All}
+use Rattle.std.specs.Prelude.{◌≡◌, true, All}
+use Rattle.pit_units.specs.Decimal.{IsInDecimalRange}
 use Rattle.pit_parts.specs.Name.{is_name}
 use Rattle.pit_parts.specs.declared.limit.Bound.{Bound}
 use Rattle.pit_parts.specs.declared.limit.Bound.TheVariants.{AtMost, AtLeast, Between}
 use Rattle.mine_instance.specs.Cpit.{CpitParts}
 use Rattle.mine_instance.specs.Instance.{Instance}
-
--- a decimal: at most 10^24 millionths either side of zero
-abbrev pub IsInDecimalRange : ℤ → Type 0
-IsInDecimalRange z = unsigned_abs z ≤ 10 ^ 24
 
 -- a bound of such numbers
 abbrev pub HasDecimals : Bound → Type 0

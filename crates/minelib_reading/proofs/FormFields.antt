@@ -4,12 +4,11 @@ use Rattle.std.specs.List.{list_all, list_any}
 use Rattle.std.proofs.Common.{refl, ap, arith}
 use Rattle.std.proofs.lemmas.Int.{ints}
 use Rattle.pit_units.proofs.Standing.{read_stands}
-use Rattle.pit_units.specs.Decimal.{decimal_of, decimal_within, kept_within}
+use Rattle.pit_units.specs.Decimal.{IsInDecimalRange, decimal_of, decimal_within, kept_within}
 use Rattle.pit_units.specs.declared.fault.DecFault.{DecFault}
 use Rattle.forms.proofs.FormFacts.{true_le}
 use Rattle.forms.specs.Words.{Field, Decimal, Stepped, Word, Value, Millionths, Bytes, below, millionths, whole, whole_stated, FitsField, Fit, number_or_kind, Spell, ◌>>=◌}
 use Rattle.text_lines.specs.FieldValues.{decimal_in}
-use Rattle.minelib_lines.specs.Kept.{IsInDecimalRange}
 use Rattle.text_lines.specs.LineKinds.{text_kind}
 use Rattle.minelib_reading.specs.ItemForms.{bytes_in}
 use Rattle.minelib_reading.specs.ModelLines.{is_colon}

@@ -4,7 +4,7 @@ ghost use Rattle.std.specs.Prelude.{◌≡◌, ◌⊎◌, ℕ, ◌≤◌, ◌++�
 ghost use Rattle.forms.specs.Words.{IsFirstFault};
 ghost use Rattle.mine_instance.specs.Cpit.{CpitParts};
 ghost use Rattle.mine_instance.specs.CpitKept.{IsCpit};
-ghost use Rattle.mine_instance.specs.OfModel.{instance as instance_of};
+ghost use Rattle.mine_instance.specs.OfModel.{instance};
 ghost use Rattle.mine_instance.specs.OneSlope.{instance_by};
 ghost use Rattle.mine_instance.specs.Valid.{IsValid};
 ghost use Rattle.mine_instance.specs.Instance.{Instance as OneInstance};
@@ -46,7 +46,7 @@ pub fn written_cpit_is_read()
 pub fn even_zones()
     ensures { (plan : PlanParts) (listed : List Block) → All IsCone plan.cones
         → All IsEven plan.cones
-        → HaveSameTexts (instance_of plan listed) (instance_by plan listed) }
+        → HaveSameTexts (instance plan listed) (instance_by plan listed) }
 {
     mine_instance::laws::even_zones();
 }

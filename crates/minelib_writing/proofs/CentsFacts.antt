@@ -3,7 +3,7 @@ use Rattle.std.proofs.Common.{arith, ap, inl, inr, refl, sym, ◌∙◌, ◌≡�
 use Rattle.std.specs.Prelude.{◌==◌, if◌then◌else◌, int_lt, unsigned_abs}
 use Rattle.std.specs.Fmt.{decimal, sign_text}
 use Rattle.std.proofs.lemmas.Int.{ints}
-use borrow.Author.Tests.{eq-eqb, ne_eqb}
+use Rattle.std.proofs.lemmas.Bool.{eq-eqb, ne_eqb}
 use Rattle.pit_units.specs.Decimal.{fraction_text, shortest, six_digits, without_end_zeros}
 use Rattle.pit_units.proofs.Text.{shortest_is}
 use Rattle.mine_instance.specs.OfModel.{in_hundreds}

@@ -4,10 +4,10 @@ use Rattle.std.proofs.Math.Seq.{drop-drop, drop-append_seam, take-add, take-appe
 use Rattle.std.proofs.lemmas.Bool.{cases_Bool, eqb-true}
 use Rattle.std.proofs.lemmas.Bool.Decides.{nat_tests}
 use Rattle.std.proofs.lemmas.List.{drop-take, drop-append-le, flat_map_more, get_or-drop, get_or-map, get_or-take, length-map, length-take, length-drop, take-append-drop}
-use Rattle.std.proofs.lemmas.List.Concat.{flat_map-append}
+use Rattle.std.proofs.lemmas.List.Concat.{concat_is}
 use Rattle.std.proofs.lemmas.List.Elements.{All-map}
-use Rattle.std.proofs.lemmas.List.Folds.{flat_map-map}
-use Rattle.std.specs.List.{drop-map, flat_map, take-map}
+use Rattle.std.proofs.lemmas.List.Folds.{concat-append, flat_map-map}
+use Rattle.std.specs.List.{concat, drop-map, flat_map, take-map}
 use Rattle.std.specs.Prelude.{◌==◌, ◌&&◌, decimal, if◌then◌else◌, IsTrue, nat_lt, slice_index_or, ℤ}
 use Rattle.pit_units.specs.Decimal.{shortest}
 use Rattle.mine_instance.specs.Greatest.{first_greatest}
@@ -15,7 +15,6 @@ use Rattle.mine_instance.specs.Groups.{coef_of}
 use Rattle.mine_instance.specs.declared.coefs.coef.Coef.{Coef}
 use Rattle.minelib_writing.specs.declared.lines.coefs.CoefForm.TheVariants.{OfChosen}
 use Rattle.minelib_writing.specs.inner.CoefParts.{coef_part, coef_text, cpit_coef_text, has_values}
-use Rattle.minelib_writing.specs.inner.Parts.{joined}
 use Rattle.minelib_writing.proofs.FieldsWritten.{whole_written}
 use Rattle.minelib_writing.proofs.OneDigit.{one_digit}
 
@@ -99,15 +98,15 @@ chosen_parts list values b v destination (p ∷ pairs) is =
 
 -- the parts of a group more
 pub group_parts : (f : Coef → List ℕ) (all group : List Coef) (index count n : ℕ) → group ≡ take n (drop (index + count) all)
-    → joined (take (count + n) (drop index (map f all))) ≡ joined (take count (drop index (map f all))) ++ flat_map f group
+    → concat (take (count + n) (drop index (map f all))) ≡ concat (take count (drop index (map f all))) ++ flat_map f group
 group_parts f all group index count n is =
     let parts = drop index (map f all) in
     let next : take n (drop count parts) ≡ map f group =
     ap (take n) (drop-drop count index (map f all) ∙ drop-map f (index + count) all) ∙ take-map f n (drop (index + count) all)
     ∙ ap (map f) (sym is) in
-    ap joined (take-add count n parts) ∙ flat_map-append (λ part. part) (take count parts) (take n (drop count parts))
-    ∙ ap (λ ps. joined (take count parts) ++ joined ps) next
-    ∙ ap (λ text. joined (take count parts) ++ text) (flat_map-map (λ part. part) f group)
+    ap concat (take-add count n parts) ∙ concat-append (take count parts) (take n (drop count parts))
+    ∙ ap (λ ps. concat (take count parts) ++ concat ps) next
+    ∙ ap (λ text. concat (take count parts) ++ text) (concat_is (map f group) ∙ flat_map-map (λ part. part) f group)
 
 -- what holds of all coefficients holds of those of a group
 pub of_group : (P : Coef → Type 0) (all group : List Coef) (from n : ℕ) → from + n ≤ length all → group ≡ take n (drop from all)

@@ -2,14 +2,14 @@
 use Rattle.std.proofs.Common.{◌≡◌, ℕ, suc, zero, ◌+◌, ◌<◌, List, [], ◌∷◌, ◌++◌, length, map, take, drop, append-nil, get_or, refl, ◌∙◌, ap, sym, arith}
 use Rattle.std.proofs.lemmas.List.{get_or-map, length-map}
 use Rattle.std.proofs.Math.Seq.{drop-cons}
-use Rattle.std.specs.List.{flat_map}
+use Rattle.std.specs.List.{concat, flat_map}
 use Rattle.std.specs.Prelude.{codes}
 use Rattle.forms.specs.Words.{Value, written_value}
 use Rattle.minelib_lines.specs.HeaderTable.{key_word}
 use Rattle.minelib_lines.specs.Lines.{line_of, lines_from, text_of}
 use Rattle.minelib_lines.specs.declared.header_key.HeaderKey.{HeaderKey}
 use Rattle.minelib_writing.specs.Written.{key_line, key_lines}
-use Rattle.minelib_writing.specs.inner.Parts.{joined, line_parts}
+use Rattle.minelib_writing.specs.inner.Parts.{line_parts}
 
 pub length-lines_from : {A : Type 0} (fields : ℕ → A → List (List ℕ)) (n : ℕ) (xs : List A) → length (lines_from fields n xs) ≡ length xs
 length-lines_from fields n [] = refl
@@ -32,8 +32,8 @@ pub text_at : (lines : List (List ℕ)) (i : ℕ) → i < length lines → text_
 text_at lines i h = ap (λ rest. text_of (take 1 rest)) (drop-cons lines i [] h) ∙ append-nil (get_or lines i [] ++ 10 ∷ [])
 
 -- the part at a place is that alone
-pub part_at : (parts : List (List ℕ)) (i : ℕ) → i < length parts → joined (take 1 (drop i parts)) ≡ get_or parts i []
-part_at parts i h = ap (λ rest. joined (take 1 rest)) (drop-cons parts i [] h) ∙ append-nil (get_or parts i [])
+pub part_at : (parts : List (List ℕ)) (i : ℕ) → i < length parts → concat (take 1 (drop i parts)) ≡ get_or parts i []
+part_at parts i h = ap (λ rest. concat (take 1 rest)) (drop-cons parts i [] h) ∙ append-nil (get_or parts i [])
 
 -- a part for each item
 pub length-line_parts : {A : Type 0} (fields : ℕ → A → List (List ℕ)) (xs : List A) → length (line_parts (lines_from fields 0 xs)) ≡ length xs
@@ -41,7 +41,7 @@ length-line_parts fields xs = length-map (lines_from fields 0 xs) (λ line. line
 
 -- that of an item which stands at the place
 pub line_part : {A : Type 0} (fields : ℕ → A → List (List ℕ)) (i : ℕ) (xs : List A) (x : A) → i < length xs → x ≡ get_or xs i x
-    → joined (take 1 (drop i (line_parts (lines_from fields 0 xs)))) ≡ line_of (fields i x) ++ 10 ∷ []
+    → concat (take 1 (drop i (line_parts (lines_from fields 0 xs)))) ≡ line_of (fields i x) ++ 10 ∷ []
 line_part fields i xs x h e =
     let lines = lines_from fields 0 xs in
     part_at (line_parts lines) i (omega (arith, h, length-line_parts fields xs))

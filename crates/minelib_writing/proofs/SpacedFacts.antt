@@ -96,41 +96,41 @@ part_of_text n first past le within =
     ∙ middle a b c
 
 -- what starts say of a run's text
-pub run_within : (starts text : List ℕ) (first past a b : ℕ) → AreStarts starts → text ≡ spaced (range_with_len 0 (length starts))
-    → first ≤ past → past < length starts → a ≡ get_or starts first a → b ≡ get_or starts past b → (a ≤ b) × (b ≤ length text)
-run_within starts text first past a b are is le lt low high =
+pub run_within : (starts text : List ℕ) (n first past a b : ℕ) → AreStarts starts → text ≡ spaced (range_with_len 0 n) → n < length starts
+    → first ≤ past → past ≤ n → a ≡ get_or starts first a → b ≡ get_or starts past b → (a ≤ b) × (b ≤ length text)
+run_within starts text n first past a b are is long le most low high =
     let at_first = get_or_default starts first a 0 (omega arith) in
-    let at_past = get_or_default starts past b 0 lt in
+    let at_past = get_or_default starts past b 0 (omega arith) in
     let rises = starts_rise first past le in
-    let inside = starts_rise past (length starts) (omega arith) in
-    (omega (arith, are first (omega arith), are past lt), omega (arith, are past lt, ap length is))
+    let inside = starts_rise past n most in
+    (omega (arith, are first (omega arith), are past (omega arith)), omega (arith, are past (omega arith), ap length is))
 
-pub run_is : (starts text : List ℕ) (first past a b : ℕ) → AreStarts starts → text ≡ spaced (range_with_len 0 (length starts))
-    → first ≤ past → past < length starts → a ≡ get_or starts first a → b ≡ get_or starts past b
+pub run_is : (starts text : List ℕ) (n first past a b : ℕ) → AreStarts starts → text ≡ spaced (range_with_len 0 n) → n < length starts
+    → first ≤ past → past ≤ n → a ≡ get_or starts first a → b ≡ get_or starts past b
     → take (b - a) (drop a text) ≡ spaced (range_with_len first (past - first))
-run_is starts text first past a b are is le lt low high =
+run_is starts text n first past a b are is long le most low high =
     let at_first : a ≡ start_in first = low ∙ get_or_default starts first a 0 (omega arith) ∙ are first (omega arith) in
-    let at_past : b ≡ start_in past = high ∙ get_or_default starts past b 0 lt ∙ are past lt in
-    (λ j. take (at_past j - at_first j) (drop (at_first j) (is j))) ∙ part_of_text (length starts) first past le (omega arith)
+    let at_past : b ≡ start_in past = high ∙ get_or_default starts past b 0 (omega arith) ∙ are past (omega arith) in
+    (λ j. take (at_past j - at_first j) (drop (at_first j) (is j))) ∙ part_of_text n first past le most
 
 -- without the space before it, one identifier's text is its digits
-pub digits_within : (starts text : List ℕ) (id a b : ℕ) → AreStarts starts → text ≡ spaced (range_with_len 0 (length starts))
-    → id + 1 < length starts → a ≡ get_or starts id a → b ≡ get_or starts (id + 1) b → (a + 1 ≤ b) × (b ≤ length text)
-digits_within starts text id a b are is lt low high =
+pub digits_within : (starts text : List ℕ) (n id a b : ℕ) → AreStarts starts → text ≡ spaced (range_with_len 0 n) → n < length starts
+    → id < n → a ≡ get_or starts id a → b ≡ get_or starts (id + 1) b → (a + 1 ≤ b) × (b ≤ length text)
+digits_within starts text n id a b are is long lt low high =
     let at_id : a ≡ start_in id = low ∙ get_or_default starts id a 0 (omega arith) ∙ are id (omega arith) in
-    let at_next : b ≡ start_in (id + 1) = high ∙ get_or_default starts (id + 1) b 0 lt ∙ are (id + 1) lt in
+    let at_next : b ≡ start_in (id + 1) = high ∙ get_or_default starts (id + 1) b 0 (omega arith) ∙ are (id + 1) (omega arith) in
     let more = length-append (spaced (range_with_len 0 id)) (32 ∷ decimal id) in
-    let inside = run_within starts text id (id + 1) a b are is (omega arith) lt low high in
+    let inside = run_within starts text n id (id + 1) a b are is long (omega arith) (omega arith) low high in
     (omega (arith, at_id, at_next, ap length (spaced_below id), more), inside.1)
 
-pub digits_are : (starts text : List ℕ) (id a b : ℕ) → AreStarts starts → text ≡ spaced (range_with_len 0 (length starts))
-    → id + 1 < length starts → a ≡ get_or starts id a → b ≡ get_or starts (id + 1) b
+pub digits_are : (starts text : List ℕ) (n id a b : ℕ) → AreStarts starts → text ≡ spaced (range_with_len 0 n) → n < length starts
+    → id < n → a ≡ get_or starts id a → b ≡ get_or starts (id + 1) b
     → take (b - (a + 1)) (drop (a + 1) text) ≡ decimal id
-digits_are starts text id a b are is lt low high =
+digits_are starts text n id a b are is long lt low high =
     let one : (id + 1) - id ≡ 1 = omega arith in
     let whole : take (b - a) (drop a text) ≡ 32 ∷ (decimal id ++ []) =
-    run_is starts text id (id + 1) a b are is (omega arith) lt low high ∙ ap (λ n. spaced (range_with_len id n)) one in
-    let long : 1 + (b - (a + 1)) ≡ b - a = omega (arith, (digits_within starts text id a b are is lt low high).0) in
+    run_is starts text n id (id + 1) a b are is long (omega arith) (omega arith) low high ∙ ap (λ n. spaced (range_with_len id n)) one in
+    let long : 1 + (b - (a + 1)) ≡ b - a = omega (arith, (digits_within starts text n id a b are is long lt low high).0) in
     ap (take (b - (a + 1))) (sym (drop-drop 1 a text))
     ∙ sym (drop-take 1 (b - (a + 1)) (drop a text))
     ∙ ap (λ n. drop 1 (take n (drop a text))) long

@@ -1,4 +1,5 @@
 pub mod CoefParts
+pub mod IdTextFields
 pub mod KeptParts
 pub mod Parts
 pub mod Spaced

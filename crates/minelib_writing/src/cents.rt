@@ -1,13 +1,11 @@
 //! The text of values that stand in cents.
 
-ghost use Rattle.std.specs.Prelude.{◌≡◌, ◌+◌, ◌*◌, ◌/◌, ◌%◌, ◌<◌, ◌≤◌, ◌∷◌, ◌++◌, ◌==◌, if◌then◌else◌, length, drop, slice_range, int_lt, pos, OnOk};
-ghost use Rattle.std.specs.Fmt.{sign_text};
-ghost use Rattle.pit_units.specs.Decimal.{fraction_text, shortest};
+ghost use Rattle.std.specs.Prelude.{◌≡◌, ◌+◌, ◌*◌, ◌/◌, ◌%◌, ◌<◌, ◌≤◌, ◌∷◌, ◌++◌, ◌==◌, if◌then◌else◌, length, drop, slice_range, OnOk};
+ghost use Rattle.pit_units.specs.Decimal.{IsInDecimalRange, fraction_text, shortest};
 ghost use Rattle.mine_instance.specs.OfModel.{in_hundreds};
-ghost use Rattle.minelib_lines.specs.Kept.{IsInDecimalRange};
 
 use itoa::write_digits;
-use pit_units::append_front;
+use pit_units::{append_front, write_sign};
 use std::alloc::AllocError;
 
 // The most bytes of a text: a minus, 18 digits, a point and two decimals.
@@ -44,26 +42,7 @@ fn write_cents(room: &mut [u8], cents: i64) -> (usize, usize)
     let size = cents.unsigned_abs();
     let end = write_hundredths(room, (size % 100) as u32);
     let start = write_digits(size / 100, room, POINT);
-    (write_sign(room, start, is_negative(cents)), end)
-}
-
-#[inline(always)]
-fn is_negative(cents: i64) -> bool
-    ensures { result ≡ int_lt cents (pos 0) }
-{
-    cents < 0
-}
-
-// Writes a minus before a place where the number is below zero, and gives where the text starts then.
-#[inline(always)]
-fn write_sign(room: &mut [u8], at: usize, below_zero: bool) -> usize
-    requires { (0 < at) × (at ≤ length room.old) }
-    ensures start { result + length (sign_text below_zero) ≡ at }
-    ensures written { drop result room.new ≡ sign_text below_zero ++ drop at room.old }
-    ensures count { length room.new ≡ length room.old }
-{
-    room[at - 1] = b'-';
-    at - usize::from(below_zero)
+    (write_sign(room, start, cents.is_negative()), end)
 }
 
 // Writes a point and two decimals behind the whole part, but for a zero at their end, or nothing where both are zero, and gives where

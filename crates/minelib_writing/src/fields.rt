@@ -1,8 +1,7 @@
 //! Fields of a line, and what stands between them.
 
 ghost use Rattle.std.specs.Prelude.{◌≡◌, ◌+◌, ◌≤◌, ◌++◌, ◌∷◌, [], OnOk, decimal, drop, length};
-ghost use Rattle.pit_units.specs.Decimal.{shortest};
-ghost use Rattle.minelib_lines.specs.Kept.{IsInDecimalRange};
+ghost use Rattle.pit_units.specs.Decimal.{IsInDecimalRange, shortest};
 
 use itoa::write_digits;
 use pit_units::{Dec, append_front, put_dec};
@@ -35,7 +34,7 @@ pub fn put_whole(out: &mut Vec<u8>, number: u64) -> Result<(), AllocError>
         return Ok(());
     }
     let mut room = [0; ROOM];
-    let start = write_whole(&mut room, number);
+    let start = write_number(&mut room, number);
     append_front(out, &room[start..start + DIGITS], DIGITS - start)
 }
 
@@ -51,13 +50,13 @@ pub fn put_whole_to(out: &mut Vec<u8>, number: u64, end: u8) -> Result<(), Alloc
     }
     let mut room = [0; ROOM];
     room[DIGITS] = end;
-    let start = write_whole(&mut room, number);
+    let start = write_number(&mut room, number);
     append_front(out, &room[start..start + DIGITS + 1], DIGITS + 1 - start)
 }
 
 // Writes the digits of a whole number before the byte that ends it, and gives where they start.
 #[inline(always)]
-fn write_whole(room: &mut [u8], number: u64) -> usize
+fn write_number(room: &mut [u8], number: u64) -> usize
     requires { 20 ≤ length room.old }
     ensures start { result + length (decimal number) ≡ 20 }
     ensures text { drop result room.new ≡ decimal number ++ drop 20 room.old }

@@ -1,17 +1,16 @@
 //! The texts of an instance: the parts of each, and its writer, which begins the sink and writes the text. Where it is refused, the sink
 //! is as it was, or it was begun and holds the front of the text; after `SinkFailed` it refused one call, and after `OutOfMemory` none.
 
-ghost use Rattle.std.specs.Prelude.{◌≡◌, ◌≤◌, ◌<◌, length, All, OnOk, ⊤};
+ghost use Rattle.std.specs.Prelude.{◌<◌, length, All, OnOk, ⊤};
 ghost use Rattle.devices.specs.Writes.{Writes};
 ghost use Rattle.mine_instance.specs.Seen.{seen};
 ghost use Rattle.mine_instance.specs.CpitKept.{IsCpit};
-ghost use Rattle.mine_instance.specs.OfCpit.{cpit as cpit_of};
+ghost use Rattle.mine_instance.specs.OfCpit.{cpit as instance_cpit};
 ghost use Rattle.mine_instance.specs.Valid.{IsValid};
 ghost use Rattle.minelib_lines.specs.Kept.{IsKept, IsKeptCpit};
 ghost use Rattle.minelib_writing.specs.Texts.{text_named};
 ghost use Rattle.minelib_writing.specs.TextsKept.{kept_named};
 ghost use Rattle.minelib_writing.specs.Written.{text_blocks, text_prec, text_upit, text_pcpsp, text_cpit};
-ghost use Rattle.pit_parts.specs.declared.ranges.TheConstants.{MAX_BLOCKS};
 
 use crate::id_text::IdText;
 use crate::keys::write_keys;
@@ -19,8 +18,8 @@ use crate::lines::Lines;
 use crate::lines::coefs::{CoefForm, CoefLines};
 use crate::lines::preds::write_preds;
 use crate::lines::values::{GreatestLines, ValueLines};
-use crate::schedule::write_sections;
-use crate::sections::{write_section, write_titled};
+use crate::parts::{write_parts, write_titled};
+use crate::sections::write_sections;
 use crate::text_name::TextName;
 use devices::sinks::sink::Sink;
 use devices::sinks::whole_text::{Text, write_text};
@@ -54,7 +53,7 @@ impl<'a, P: PredLists, C: CoefList, V: ValueList> Text for BlockFile<'a, P, C, V
         buffer: &mut Vec<u8>,
     ) -> Result<(), WriteFault> {
         let items = self.instance.blocks.as_slice();
-        write_section(alloc, sink, buffer, &Lines { items })
+        write_parts(alloc, sink, buffer, &Lines { items })
     }
 }
 
@@ -72,9 +71,9 @@ pub fn write_blocks<P: PredLists, C: CoefList, V: ValueList, S: Sink>(
 }
 
 #[derive(Drop)]
-struct PrecFile<'a, P: PredLists, C, V> {
+struct PrecFile<'a, P: PredLists, C: CoefList, V: ValueList> {
     instance: &'a Instance<P, C, V>,
-    ghost few: { length (P.lists instance.now.preds) ≤ MAX_BLOCKS },
+    ghost valid: { IsValid (seen P.lists C.list V.list instance.now) },
 }
 
 impl<'a, P: PredLists, C: CoefList, V: ValueList> Text for PrecFile<'a, P, C, V> {
@@ -90,8 +89,7 @@ impl<'a, P: PredLists, C: CoefList, V: ValueList> Text for PrecFile<'a, P, C, V>
         buffer: &mut Vec<u8>,
     ) -> Result<(), WriteFault> {
         let preds = &self.instance.preds;
-        // One more than there are blocks: where the last block's text ends.
-        let texts = IdText::below(alloc, preds.count() + 1)?;
+        let texts = IdText::below(alloc, preds.count())?;
         write_preds(alloc, sink, buffer, preds, &texts)
     }
 }
@@ -281,10 +279,10 @@ struct ChosenFile<'a, P: PredLists, C: CoefList, V: ValueList> {
 }
 
 impl<'a, P: PredLists, C: CoefList, V: ValueList> Text for ChosenFile<'a, P, C, V> {
-    ghost text = { λ t. text_cpit (cpit_of (seen P.lists C.list V.list t.instance.now)) };
+    ghost text = { λ t. text_cpit (instance_cpit (seen P.lists C.list V.list t.instance.now)) };
 
-    ghost kept = { λ t. IsKeptCpit (cpit_of (seen P.lists C.list V.list t.instance.now))
-        × IsCpit (cpit_of (seen P.lists C.list V.list t.instance.now)) };
+    ghost kept = { λ t. IsKeptCpit (instance_cpit (seen P.lists C.list V.list t.instance.now))
+        × IsCpit (instance_cpit (seen P.lists C.list V.list t.instance.now)) };
 
     #[tactic(auto, using(crate::proofs::SectionsWritten::nothing_put))]
     fn write<S: Sink>(
@@ -327,10 +325,10 @@ fn write_chosen<P: PredLists, C: CoefList, V: ValueList, S: Sink>(
     sink: &mut S,
 ) -> Result<(), WriteFault>
     requires { IsValid (seen P.lists C.list V.list instance.now) }
-    ensures writes { Writes (text_cpit (cpit_of (seen P.lists C.list V.list instance.now)))
+    ensures writes { Writes (text_cpit (instance_cpit (seen P.lists C.list V.list instance.now)))
         (S.state sink.old) (S.state sink.new) result }
-    ensures kept { OnOk result (IsKeptCpit (cpit_of (seen P.lists C.list V.list instance.now))) }
-    ensures is { OnOk result (IsCpit (cpit_of (seen P.lists C.list V.list instance.now))) }
+    ensures kept { OnOk result (IsKeptCpit (instance_cpit (seen P.lists C.list V.list instance.now))) }
+    ensures is { OnOk result (IsCpit (instance_cpit (seen P.lists C.list V.list instance.now))) }
 {
     write_text(alloc, &ChosenFile { instance }, sink)
 }

@@ -1,35 +1,47 @@
 //! The texts of identifiers, made once for all lines.
 
-ghost use Rattle.std.specs.Prelude.{◌≡◌, ◌+◌, ◌-◌, ◌≤◌, ◌++◌, OnOk, decimal, length, take, drop};
-ghost use Rattle.std.specs.List.{range_with_len};
+ghost use Rattle.std.specs.Prelude.{◌≡◌, ◌+◌, ◌-◌, ◌<◌, ◌≤◌, ◌++◌, All, IfOk, OnOk, decimal, length, take, drop};
 ghost use Rattle.precedence.specs.IdRuns.{ids_of, ids_of_run};
-ghost use Rattle.minelib_writing.specs.inner.Spaced.{spaced, start_in, AreStarts};
+ghost use Rattle.minelib_writing.specs.inner.Spaced.{spaced};
 ghost use Rattle.pit_parts.specs.declared.ranges.TheConstants.{MAX_BLOCKS};
 
-use crate::fields::{put_whole, put_whole_behind};
+use crate::fields::put_whole_behind;
 use precedence::IdRun;
 use std::alloc::{AllocError, Global};
+use std::marker::Model;
 
-/// The text ` 0 1 2 ..` of identifiers. A run of them is written by one copy of a part of it.
+/// The text ` 0 1 2 ..` of the identifiers of so many blocks. A run of them is written by one copy of a part of it. Contracts see how
+/// many they are.
 #[derive(Drop)]
 pub struct IdText {
     text: Vec<u8>,
-    // where each identifier's text begins: it has nine bytes at most, so that all take fewer than 2^32
+    // where each identifier's text begins, and where the last one's ends: each has nine bytes at most, so that all take fewer than 2^32
     starts: Vec<u32>,
-    ghost all: { text.items ≡ spaced (range_with_len 0 (length starts.items)) },
-    ghost start: { AreStarts starts.items },
+}
+
+impl Model for IdText {
+    ghost use Rattle.std.specs.Prelude.{ℕ};
+    ghost use Rattle.minelib_writing.specs.inner.IdTextFields.{ids_in, KeepsTexts};
+
+    ghost Value = { ℕ };
+
+    ghost view = { ids_in };
+
+    ghost invariant = { KeepsTexts };
 }
 
 impl IdText {
     /// The texts of the identifiers below `count`.
     pub fn below(alloc: Global, count: usize) -> Result<IdText, AllocError>
-        requires { count ≤ MAX_BLOCKS + 1 }
+        requires { count ≤ MAX_BLOCKS }
+        ensures { IfOk result (λ texts. texts ≡ count) }
     {
         let mut text = Vec::new(alloc);
-        let mut starts = Vec::with_capacity(alloc, count)?;
+        let mut starts = Vec::with_capacity(alloc, count + 1)?;
+        starts.push(0)?;
         for id in 0..count {
-            starts.push(text.len() as u32)?;
             put_whole_behind(&mut text, b' ', id as u64)?;
+            starts.push(text.len() as u32)?;
         }
         Ok(IdText { text, starts })
     }
@@ -37,24 +49,19 @@ impl IdText {
     /// Appends an identifier.
     #[inline(always)]
     pub fn put_one(&self, out: &mut Vec<u8>, id: u32) -> Result<(), AllocError>
+        requires { id < self.now }
         ensures { OnOk result (out.new.items ≡ out.old.items ++ decimal id) }
     {
         let index = id as usize;
-        if index + 1 < self.starts.len() {
-            let text = self.text.as_slice();
-            out.extend_from_slice(part(
-                text,
-                self.starts[index] as usize + 1,
-                self.starts[index + 1] as usize,
-            ))
-        } else {
-            put_whole(out, u64::from(id))
-        }
+        let start = self.starts[index] as usize;
+        let end = self.starts[index + 1] as usize;
+        out.extend_from_slice(part(self.text.as_slice(), start + 1, end))
     }
 
     /// Appends the identifiers of runs, each behind a space.
     #[inline(always)]
     pub fn put(&self, out: &mut Vec<u8>, runs: &[IdRun]) -> Result<(), AllocError>
+        requires { All (λ id. id < self.now) (ids_of runs.now) }
         ensures { OnOk result (out.new.items ≡ out.old.items ++ spaced (ids_of runs.now)) }
     {
         for run in runs {
@@ -63,23 +70,15 @@ impl IdText {
         Ok(())
     }
 
-    // those past the table go one by one
     #[inline(always)]
     fn put_run(&self, out: &mut Vec<u8>, run: IdRun) -> Result<(), AllocError>
+        requires { run.first + run.len ≤ self.now }
         ensures { OnOk result (out.new.items ≡ out.old.items ++ spaced (ids_of_run run)) }
     {
         let first = run.first as usize;
-        let past = first + run.len as usize;
-        if past < self.starts.len() {
-            let text = self.text.as_slice();
-            out.extend_from_slice(part(
-                text,
-                self.starts[first] as usize,
-                self.starts[past] as usize,
-            ))
-        } else {
-            put_each(out, run)
-        }
+        let start = self.starts[first] as usize;
+        let end = self.starts[first + run.len as usize] as usize;
+        out.extend_from_slice(part(self.text.as_slice(), start, end))
     }
 }
 
@@ -90,13 +89,4 @@ fn part(text: &[u8], start: usize, end: usize) -> &[u8]
     ensures { result.now ≡ take (end - start) (drop start text.now) }
 {
     &text[start..end]
-}
-
-fn put_each(out: &mut Vec<u8>, run: IdRun) -> Result<(), AllocError>
-    ensures { OnOk result (out.new.items ≡ out.old.items ++ spaced (ids_of_run run)) }
-{
-    for k in 0..run.len {
-        put_whole_behind(out, b' ', u64::from(run.first + k))?;
-    }
-    Ok(())
 }

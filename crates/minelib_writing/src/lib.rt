@@ -8,7 +8,7 @@ mod id_text;
 mod keys;
 pub mod laws;
 mod lines;
-mod schedule;
+mod parts;
 mod sections;
 pub mod text_name;
 

@@ -3,7 +3,7 @@
 ghost use Rattle.std.specs.Prelude.{◌≡◌, ◌<◌, ◌++◌, ◌∷◌, [], ℕ, List, HoldsAt, length, slice_index_or, OnOk};
 ghost use Rattle.minelib_lines.specs.Lines.{line_of, lines_from};
 
-use crate::sections::Section;
+use crate::parts::Parted;
 use std::alloc::{AllocError, Global};
 
 pub mod coefs;
@@ -32,7 +32,7 @@ pub struct Lines<'a, T> {
     pub items: &'a [T],
 }
 
-impl<'a, T: Line> Section for Lines<'a, T> {
+impl<'a, T: Line> Parted for Lines<'a, T> {
     ghost lines = { λ s. lines_from T.fields 0 s.items.now };
 
     ghost use Rattle.minelib_writing.specs.inner.Parts.{line_parts, lines_whole};

@@ -1,106 +1,39 @@
-//! Lines that are written part by part, in large slices to a sink.
+//! The objective, the coefficients and the limits, each under its section line.
 
-ghost use Rattle.std.specs.Prelude.{◌≡◌, ◌+◌, ◌<◌, ◌≤◌, ℕ, List, [], ◌∷◌, ◌++◌, length, take, drop, IfOk, IfErr, OnOk, OnErr};
+ghost use Rattle.std.specs.Prelude.{OnOk, length};
 ghost use Rattle.minelib_lines.specs.Lines.{text_of};
+ghost use Rattle.minelib_writing.specs.Written.{section_lines};
 ghost use Rattle.minelib_writing.specs.inner.KeptParts.{HoldsFrom};
-ghost use Rattle.minelib_writing.specs.inner.Parts.{joined};
-ghost use Rattle.devices.specs.SinkSteps.{refusals, IsAppendCut};
-ghost use Rattle.devices.specs.Writes.{IsWrittenOn, WritesOn};
+ghost use Rattle.devices.specs.Writes.{WritesOn};
 
-use crate::fields::put_text;
+use crate::parts::{Parted, write_titled};
 use devices::sinks::sink::Sink;
-use devices::sinks::slices::flush_full;
 use devices::sinks::write_fault::WriteFault;
-use std::alloc::{AllocError, Global};
+use std::alloc::Global;
 
-/// Lines that are written part by part: the text of a part is no line, one, or more.
-pub trait Section {
-    ghost lines: { Self → List (List ℕ) };
-
-    ghost parts: { Self → List (List ℕ) };
-
-    /// What its type keeps of the part at a place, as is known once it is written.
-    ghost kept: { Self → ℕ → Type 0 };
-
-    /// The number of parts.
-    fn len(&self) -> usize
-        ensures { result ≡ length (parts self.now) };
-
-    /// Appends the part at a place, or it and some of those behind it, and answers how many. Where memory is refused a front of their
-    /// text may be appended.
-    fn append(&self, alloc: Global, index: usize, out: &mut Vec<u8>) -> Result<usize, AllocError>
-        requires { index < length (parts self.now) }
-        ensures some { IfOk result (λ n. 0 < n) }
-        ensures within { IfOk result (λ n. index + n ≤ length (parts self.now)) }
-        ensures appended { IfOk result (λ n.
-            out.new.items ≡ out.old.items ++ joined (take n (drop index (parts self.now)))) }
-        ensures kept { IfOk result (λ n. HoldsFrom (kept self.now) index (index + n)) };
-
-    /// The parts are the lines, each with its LF.
-    ghost whole: { (section : Self) → joined (parts section) ≡ text_of (lines section) };
-}
-
-/// Writes the lines of a section behind what the buffer holds.
-#[tactic(auto, using(crate::proofs::SectionsWritten::more_then))]
-pub fn write_section<S: Sink, L: Section>(
+/// Writes the three sections behind what the buffer holds.
+pub fn write_sections<S: Sink, V: Parted, C: Parted, L: Parted>(
     alloc: Global,
     sink: &mut S,
     buffer: &mut Vec<u8>,
-    section: &L,
+    values: &V,
+    coefs: &C,
+    limits: &L,
 ) -> Result<(), WriteFault>
-    ensures writes { WritesOn (text_of (L.lines section.now))
+    ensures writes { WritesOn
+        (text_of (section_lines (V.lines values.now) (C.lines coefs.now) (L.lines limits.now)))
         buffer.old.items buffer.new.items (S.state sink.old) (S.state sink.new) result }
-    ensures kept { OnOk result
-        (HoldsFrom (L.kept section.now) 0 (length (L.parts section.now))) }
+    ensures values { OnOk result (HoldsFrom (V.kept values.now) 0 (length (V.parts values.now))) }
+    ensures coefs { OnOk result (HoldsFrom (C.kept coefs.now) 0 (length (C.parts coefs.now))) }
+    ensures limits { OnOk result (HoldsFrom (L.kept limits.now) 0 (length (L.parts limits.now))) }
 {
-    let mut index = 0;
-    while index < section.len() {
-        let count = write_some(alloc, sink, buffer, section, index)?;
-        index += count;
-    }
-    Ok(())
-}
-
-// Writes one part or more, and answers how many.
-#[tactic(auto, using(crate::proofs::SectionsWritten::nothing_put))]
-fn write_some<S: Sink, L: Section>(
-    alloc: Global,
-    sink: &mut S,
-    buffer: &mut Vec<u8>,
-    section: &L,
-    index: usize,
-) -> Result<usize, WriteFault>
-    requires { index < length (L.parts section.now) }
-    ensures some { IfOk result (λ n. 0 < n) }
-    ensures within { IfOk result (λ n. index + n ≤ length (L.parts section.now)) }
-    ensures written { IfOk result
-        (λ n. IsWrittenOn (joined (take n (drop index (L.parts section.now))))
-        buffer.old.items buffer.new.items (S.state sink.old) (S.state sink.new)) }
-    ensures refused { IfErr result
-        (λ fault. IsAppendCut (refusals fault) (joined (drop index (L.parts section.now)))
-        buffer.old.items (S.state sink.old) (S.state sink.new)) }
-    ensures kept { IfOk result (λ n. HoldsFrom (L.kept section.now) index (index + n)) }
-{
-    let count = section.append(alloc, index, buffer)?;
-    flush_full(sink, buffer)?;
-    Ok(count)
-}
-
-/// Writes a section line and the lines under it behind what the buffer holds.
-#[tactic(auto, using(crate::proofs::SectionsWritten::nothing_put))]
-pub fn write_titled<S: Sink, L: Section>(
-    alloc: Global,
-    sink: &mut S,
-    buffer: &mut Vec<u8>,
-    title: &[u8],
-    section: &L,
-) -> Result<(), WriteFault>
-    ensures writes { WritesOn (text_of (title.now ∷ L.lines section.now))
-        buffer.old.items buffer.new.items (S.state sink.old) (S.state sink.new) result }
-    ensures kept { OnOk result
-        (HoldsFrom (L.kept section.now) 0 (length (L.parts section.now))) }
-{
-    put_text(buffer, title, b'\n')?;
-    flush_full(sink, buffer)?;
-    write_section(alloc, sink, buffer, section)
+    write_titled(alloc, sink, buffer, b"OBJECTIVE_FUNCTION:", values)?;
+    write_titled(
+        alloc,
+        sink,
+        buffer,
+        b"RESOURCE_CONSTRAINT_COEFFICIENTS:",
+        coefs,
+    )?;
+    write_titled(alloc, sink, buffer, b"RESOURCE_CONSTRAINT_LIMITS:", limits)
 }

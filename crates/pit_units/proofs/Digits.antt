@@ -2,7 +2,7 @@
 use Rattle.std.specs.Prelude.{◌≡◌, ℕ, ◌+◌, ◌*◌, ◌-◌, ◌^◌, ◌<◌, ◌≤◌, min, List, ◌++◌, length, get_or, take, replicate, zero, suc, [], ◌∷◌, true, ◌==◌, drop, pos, Ok}
 use Rattle.std.proofs.Common.{arith, sym, refl, ap, add-one, length-append, ◌∙◌, inl, append-nil}
 use Rattle.std.proofs.Math.Nat.{pow-succ', pow-le-pow_right}
-use borrow.Author.Tests.{eq-eqb, ne_eqb, le-ltb}
+use Rattle.std.proofs.lemmas.Bool.{eq-eqb, ne_eqb, le-ltb}
 use Rattle.std.proofs.lemmas.Int.Digits.{digits_value_more}
 use Rattle.std.proofs.lemmas.List.Sums.{AllPass-from_list_all, position_or_len_is}
 use Rattle.std.proofs.lemmas.List.{get_or-replicate, drop_all}

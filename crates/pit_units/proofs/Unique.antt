@@ -9,7 +9,7 @@ use Rattle.std.proofs.lemmas.Int.Digits.{digits_value-lt}
 use Rattle.std.proofs.lemmas.List.{get_or_append_left, get_or-append_right, get_or-drop, get_or-replicate, length-append, length-drop, length-replicate, take_at, take-replicate}
 use Rattle.std.proofs.lemmas.List.Sums.{AllPass-from_list_all, suffix_len_is}
 use Rattle.std.proofs.lemmas.Str.Parse.{numerals_by_value, tells_digits}
-use borrow.Author.Tests.{eqb-true, ne_eqb, eq-eqb}
+use Rattle.std.proofs.lemmas.Bool.{eqb-true, ne_eqb, eq-eqb}
 use Rattle.std.specs.Char.{is_ascii_digit}
 use Rattle.std.specs.Fmt.{decimal, sign_text}
 use Rattle.std.specs.List.{suffix_len}

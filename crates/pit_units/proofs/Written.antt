@@ -12,7 +12,7 @@ use Rattle.std.proofs.lemmas.List.{length-drop, length-take, length-append, take
 use Rattle.std.proofs.lemmas.List.Sums.{AllPass-from_list_all, prefix_len_passes, prefix_len_stops, suffix_len-le-length}
 use Rattle.std.proofs.lemmas.Str.{digit_value_digit}
 use Rattle.std.proofs.lemmas.Str.Parse.{digit_from_value}
-use borrow.Author.Tests.{ne_eqb, le-ltb, le-leb, eqb-true, eqb-false}
+use Rattle.std.proofs.lemmas.Bool.{ne_eqb, le-ltb, le-leb, eqb-true, eqb-false}
 use Rattle.std.specs.Char.{digit_value, is_ascii_digit}
 use Rattle.std.specs.Fmt.{decimal, sign_text}
 use Rattle.std.specs.List.{All, list_all, suffix_len}

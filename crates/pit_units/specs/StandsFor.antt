@@ -1,7 +1,7 @@
 -- What a decimal text is, and which number it stands for, as relations.
-use Rattle.std.specs.Prelude.{◌≡◌, ℕ, ◌+◌, ◌*◌, ◌^◌, ◌<◌, ◌≤◌, ◌⊎◌, List, [], ◌∷◌, ◌++◌, length, drop, ℤ, unsigned_abs, IsTrue}
+use Rattle.std.specs.Prelude.{◌≡◌, ℕ, ◌+◌, ◌*◌, ◌^◌, ◌<◌, ◌⊎◌, List, [], ◌∷◌, ◌++◌, length, drop, ℤ, unsigned_abs, IsTrue}
 use Rattle.std.specs.Str.Parse.{digits_value, starts_with_minus}
-use Rattle.pit_units.specs.Decimal.{all_digits, all_zeros, signed}
+use Rattle.pit_units.specs.Decimal.{IsInDecimalRange, all_digits, all_zeros, signed}
 
 -- a text is an optional sign, digits, and optionally a point with digits after it; there is a digit
 pub record IsSpelled (text sign whole tail fraction : List ℕ) : Type 0 where
@@ -22,4 +22,4 @@ pub record StandsFor (max : ℕ) (text : List ℕ) (m : ℤ) : Type 0 where
   pub fine : IsTrue (all_zeros (drop max fraction))
   pub value : unsigned_abs m * 10 ^ length fraction ≡ digits_value 10 (whole ++ fraction) * 10 ^ 6
   pub side : m ≡ signed (starts_with_minus sign) (unsigned_abs m)
-  pub in_range : unsigned_abs m ≤ 10 ^ 24
+  pub in_range : IsInDecimalRange m

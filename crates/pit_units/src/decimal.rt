@@ -1,6 +1,7 @@
 //! A decimal number.
 
-ghost use Rattle.std.specs.Prelude.{◌≡◌, ◌≤◌, ◌/◌, ◌^◌, ◌↔◌, IsSome, IfSome, unsigned_abs};
+ghost use Rattle.std.specs.Prelude.{◌≡◌, ◌/◌, ◌^◌, ◌↔◌, IsSome, IfSome, unsigned_abs};
+ghost use Rattle.pit_units.specs.Decimal.{IsInDecimalRange};
 
 use std::fmt;
 use std::marker::Model;
@@ -8,8 +9,8 @@ use std::marker::Model;
 /// How many millionths one is.
 pub const MILLIONTHS: i128 = 1_000_000;
 
-// The most millionths that a decimal counts, either side of zero: 10^18 as a number.
-const MOST: u128 = 1_000_000_000_000_000_000_000_000;
+/// The most millionths that a decimal counts, either side of zero: 10^18 as a number.
+pub const MAX_MILLIONTHS: u128 = 1_000_000_000_000_000_000_000_000;
 
 // How many values a half has: 2^64.
 const HALF: u128 = 18_446_744_073_709_551_616;
@@ -41,13 +42,13 @@ impl Model for Dec {
 impl Dec {
     /// The decimal of so many millionths, or `None` where they are more than 10^24 either side of zero.
     pub fn new(millionths: i128) -> Option<Dec>
-        ensures valid { IsSome result ↔ (unsigned_abs millionths ≤ 10 ^ 24) }
+        ensures valid { IsSome result ↔ IsInDecimalRange millionths }
         ensures value { IfSome result (λ dec. dec ≡ millionths) }
     {
-        if millionths.unsigned_abs() > MOST {
+        if millionths.unsigned_abs() > MAX_MILLIONTHS {
             return None;
         }
-        let raised = (millionths + MOST as i128) as u128;
+        let raised = (millionths + MAX_MILLIONTHS as i128) as u128;
         Some(Dec {
             high: (raised / HALF) as u64,
             low: (raised % HALF) as u64,
@@ -57,10 +58,10 @@ impl Dec {
     /// How many millionths the decimal counts: at most 10^24 either side of zero.
     pub fn millionths(self) -> i128
         ensures value { result ≡ self }
-        ensures in_range { unsigned_abs result ≤ 10 ^ 24 }
+        ensures in_range { IsInDecimalRange result }
     {
         let raised = u128::from(self.high) * HALF + u128::from(self.low);
-        raised as i128 - MOST as i128
+        raised as i128 - MAX_MILLIONTHS as i128
     }
 
     /// The whole number in the decimal, without its sign and its decimals.

@@ -1,3 +1,5 @@
+//! Why a text states no decimal.
+
 use thiserror::Error;
 
 /// Why a text states no decimal that is allowed. Of several reasons the first one here is meant.

@@ -1,3 +1,5 @@
+//! The number at the front of a text.
+
 ghost use Rattle.std.specs.Prelude.{◌≡◌, [], ◌∷◌, ◌++◌, ◌*◌, ◌^◌, ◌<◌, ◌≤◌, if◌then◌else◌, IfSome, IsSome, MatchOption, pos};
 ghost use Rattle.pit_units.specs.Decimal.{signed};
 ghost use Rattle.pit_units.specs.Front.{digits_ahead, past_digits, past_fraction, past_minus, BeginsWith, IsUsual};

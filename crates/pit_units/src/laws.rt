@@ -3,7 +3,7 @@ ghost use Rattle.std.specs.Prelude.{◌≡◌, ◌↔◌, ℕ, [], ◌++◌, ◌
 ghost use Rattle.std.specs.Fmt.{decimal};
 ghost use Rattle.std.specs.Str.Parse.{digits_value};
 ghost use Rattle.pit_units.specs.declared.fault.DecFault.TheVariants as DecFault;
-ghost use Rattle.pit_units.specs.Decimal.{all_zeros, decimal_of, shortest, size_text};
+ghost use Rattle.pit_units.specs.Decimal.{IsInDecimalRange, all_zeros, decimal_of, shortest, size_text};
 ghost use Rattle.pit_units.specs.Front.{digits_ahead, past_point, IsUsual};
 ghost use Rattle.pit_units.specs.StandsFor.{IsSpelled, StandsFor};
 ghost use Rattle.pit_units.specs.Shortest.{IsPlain, IsShortest, longest};
@@ -11,13 +11,13 @@ ghost use Rattle.pit_units.specs.Shortest.{IsPlain, IsShortest, longest};
 /// What is written is read again as the same number.
 #[tactic(auto, using(crate::proofs::Written::shortest_read))]
 pub fn written_is_read()
-    ensures { (z : ℤ) → unsigned_abs z ≤ 10 ^ 24 → decimal_of 6 (shortest z) ≡ Ok z }
+    ensures { (z : ℤ) → IsInDecimalRange z → decimal_of 6 (shortest z) ≡ Ok z }
 {}
 
 /// A number that needs no more than `max` decimals is read back where `max` decimals are allowed.
 #[tactic(auto, using(crate::proofs::Written::shortest_read))]
 pub fn coarse_is_read()
-    ensures { (max : ℕ) (z : ℤ) → max ≤ 6 → unsigned_abs z ≤ 10 ^ 24
+    ensures { (max : ℕ) (z : ℤ) → max ≤ 6 → IsInDecimalRange z
         → unsigned_abs z % 10 ^ (6 - max) ≡ 0 → decimal_of max (shortest z) ≡ Ok z }
 {}
 
@@ -30,7 +30,7 @@ pub fn whole_is_digits()
 
 /// What is written of a number has nothing needless in it, and is the only text of that number of which this holds.
 pub fn written_is_shortest()
-    ensures shortest_text { (z : ℤ) → unsigned_abs z ≤ 10 ^ 24 → IsShortest z (shortest z) }
+    ensures shortest_text { (z : ℤ) → IsInDecimalRange z → IsShortest z (shortest z) }
     ensures only { (z : ℤ) (text : List ℕ) → StandsFor 6 text z → IsShortest z text
         → text ≡ shortest z }
 {}
@@ -39,7 +39,7 @@ pub fn written_is_shortest()
 /// least number with six decimals.
 #[tactic(auto, using(crate::proofs::Written::shortest_plain, crate::proofs::Written::longest_written))]
 pub fn written_is_plain()
-    ensures plain { (z : ℤ) → unsigned_abs z ≤ 10 ^ 24 → IsPlain (shortest z) }
+    ensures plain { (z : ℤ) → IsInDecimalRange z → IsPlain (shortest z) }
     ensures long { length (shortest (negsuc (10 ^ 24 - 2))) ≡ longest }
 {}
 

@@ -1,4 +1,6 @@
-ghost use Rattle.std.specs.Prelude.{◌≡◌, ℕ, ◌+◌, ◌*◌, ◌^◌, ◌≤◌, ◌<◌, ◌==◌, min, drop, slice_index_or, length, not, ◌&&◌, IsTrue, nat_lt, if◌then◌else◌, IfOk, IfSome, Ok, Err, pos, ◌≤ℤ◌};
+//! The decimal that a text states.
+
+ghost use Rattle.std.specs.Prelude.{◌≡◌, ◌+◌, ◌*◌, ◌^◌, ◌≤◌, ◌<◌, ◌==◌, min, drop, slice_index_or, length, not, ◌&&◌, IsTrue, nat_lt, if◌then◌else◌, IfOk, IfSome, Ok, Err, ◌≤ℤ◌};
 ghost use Rattle.std.specs.List.{position_or_len};
 ghost use Rattle.std.specs.Str.Parse.{digits_value, without_leading_sign};
 ghost use Rattle.pit_units.specs.Decimal.{all_digits, all_zeros, decimal_of, decimal_within, signed, six_decimals};
@@ -79,7 +81,7 @@ fn parse_any(text: &[u8], max_decimals: u8) -> Result<Dec, DecFault>
     if !is_number(whole, fraction) {
         return Err(DecFault::Number);
     }
-    if !only_zeros(after(fraction, usize::from(max_decimals))) {
+    if !all_zeros(after(fraction, usize::from(max_decimals))) {
         return Err(DecFault::TooFine);
     }
     within_range(text.first() == Some(&b'-'), size_capped(whole, fraction))
@@ -115,13 +117,13 @@ pub fn after(text: &[u8], place: usize) -> &[u8]
     text.get(place..).unwrap_or(&[])
 }
 
-fn only_digits(bytes: &[u8]) -> bool
+fn all_digits(bytes: &[u8]) -> bool
     ensures { result ≡ all_digits bytes.now }
 {
     bytes.iter().all(|c| c.is_ascii_digit())
 }
 
-fn only_zeros(bytes: &[u8]) -> bool
+fn all_zeros(bytes: &[u8]) -> bool
     ensures { result ≡ all_zeros bytes.now }
 {
     bytes.iter().all(|c| *c == b'0')
@@ -131,7 +133,7 @@ fn is_number(whole: &[u8], fraction: &[u8]) -> bool
     ensures { result ≡ (all_digits whole.now && all_digits fraction.now
         && not (length whole.now + length fraction.now == 0)) }
 {
-    only_digits(whole) && only_digits(fraction) && !(whole.is_empty() && fraction.is_empty())
+    all_digits(whole) && all_digits(fraction) && !(whole.is_empty() && fraction.is_empty())
 }
 
 // The number that digits write, but for one that is past the range of every decimal.

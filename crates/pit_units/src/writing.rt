@@ -1,12 +1,15 @@
-ghost use Rattle.std.specs.Prelude.{◌≡◌, ◌+◌, ◌-◌, ◌/◌, ◌%◌, ◌^◌, ◌<◌, ◌≤◌, ◌==◌, ◌∷◌, ◌++◌, if◌then◌else◌, length, drop, take, slice_range, int_lt, pos, unsigned_abs, OnOk, OnErr};
+//! A decimal as its shortest text.
+
+ghost use Rattle.std.specs.Prelude.{◌≡◌, ◌+◌, ◌/◌, ◌%◌, ◌^◌, ◌<◌, ◌≤◌, ◌==◌, ◌∷◌, ◌++◌, if◌then◌else◌, length, drop, take, slice_range, unsigned_abs, OnOk, OnErr};
 ghost use Rattle.std.specs.Fmt.{sign_text};
-ghost use Rattle.pit_units.specs.Decimal.{fraction_text, shortest};
+ghost use Rattle.pit_units.specs.Decimal.{IsInDecimalRange, fraction_text, shortest};
+ghost use Rattle.pit_units.specs.declared.decimal.TheConstants.{MAX_MILLIONTHS};
 
 use crate::decimal::Dec;
 use itoa::write_digits;
 use std::alloc::{AllocError, Global};
 
-// The most bytes of a text: a minus, 19 digits, a point and six decimals.
+// Room for a minus, 19 digits, a point and six decimals. A text has one byte less: 19 digits have no decimals.
 const LONGEST: usize = 27;
 
 // Where the whole part ends in the room of a text, and a point may stand.
@@ -19,7 +22,7 @@ const ROOM: usize = POINT + LONGEST;
 pub fn put_dec(_alloc: Global, out: &mut Vec<u8>, dec: Dec) -> Result<(), AllocError>
     ensures ok { OnOk result (out.new.items ≡ out.old.items ++ shortest dec) }
     ensures err { OnErr result (out.new.items ≡ out.old.items) }
-    ensures in_range { unsigned_abs dec ≤ 10 ^ 24 }
+    ensures in_range { IsInDecimalRange dec }
 {
     let mut room = [0; ROOM];
     let (start, end) = write_text(&mut room, dec);
@@ -47,26 +50,19 @@ fn write_text(room: &mut [u8], dec: Dec) -> (usize, usize)
     ensures text { slice_range room.new result.0 result.1 ≡ shortest dec }
     ensures start { result.0 ≤ 20 }
     ensures end { (result.0 ≤ result.1) × (result.1 ≤ 27) }
-    ensures in_range { unsigned_abs dec ≤ 10 ^ 24 }
+    ensures in_range { IsInDecimalRange dec }
 {
     let (whole, decimals) = parts(size(dec));
     let end = write_decimals(room, decimals);
     let start = write_digits(whole, room, POINT);
-    (write_sign(room, start, is_negative(dec)), end)
-}
-
-#[inline(always)]
-fn is_negative(dec: Dec) -> bool
-    ensures { result ≡ int_lt dec (pos 0) }
-{
-    dec.millionths() < 0
+    (write_sign(room, start, dec.millionths().is_negative()), end)
 }
 
 // How many millionths the decimal is away from zero.
 #[inline(always)]
 fn size(dec: Dec) -> u128
     ensures value { result ≡ unsigned_abs dec }
-    ensures in_range { result ≤ 10 ^ 24 }
+    ensures in_range { result ≤ MAX_MILLIONTHS }
 {
     dec.millionths().unsigned_abs()
 }
@@ -74,7 +70,7 @@ fn size(dec: Dec) -> u128
 // The whole part of so many millionths, and the millionths past it. A number of 64 bits is divided as one.
 #[inline(always)]
 fn parts(millionths: u128) -> (u64, u32)
-    requires { millionths ≤ 10 ^ 24 }
+    requires { millionths ≤ MAX_MILLIONTHS }
     ensures whole { result.0 ≡ millionths / 10 ^ 6 }
     ensures decimals { result.1 ≡ millionths % 10 ^ 6 }
 {
@@ -88,12 +84,13 @@ fn parts(millionths: u128) -> (u64, u32)
     )
 }
 
-// Writes a minus before a place where the number is below zero, and gives where the text starts then.
+/// Writes a minus before a place of a text in some room, where the number is below zero, and gives where the text starts then.
 #[inline(always)]
-fn write_sign(room: &mut [u8], at: usize, below_zero: bool) -> usize
+pub fn write_sign(room: &mut [u8], at: usize, below_zero: bool) -> usize
     requires { (0 < at) × (at ≤ length room.old) }
     ensures start { result + length (sign_text below_zero) ≡ at }
     ensures written { drop result room.new ≡ sign_text below_zero ++ drop at room.old }
+    ensures count { length room.new ≡ length room.old }
 {
     room[at - 1] = b'-';
     at - usize::from(below_zero)

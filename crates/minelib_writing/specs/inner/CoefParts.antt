@@ -1,12 +1,12 @@
 -- The lines of coefficients in a form, and the part of each.
 use Rattle.std.specs.Prelude.{◌≡◌, ℕ, ◌+◌, ◌<◌, ◌&&◌, Bool, true, false, nat_lt, IsTrue, ℤ, List, [], ◌∷◌, ◌++◌, length, slice_index_or, map, filter, if◌then◌else◌}
+use Rattle.std.specs.List.{concat}
 use Rattle.std.proofs.Common.{ap, cond, refl}
 use Rattle.mine_instance.specs.OfCpit.{is_chosen, without_destination}
 use Rattle.mine_instance.specs.declared.coefs.coef.Coef.{Coef}
 use Rattle.minelib_lines.specs.Lines.{line_of, lines_from, text_of}
 use Rattle.minelib_lines.specs.declared.problem.Problem.TheVariants.{Pcpsp}
 use Rattle.minelib_writing.specs.Written.{coef_fields, cpit_coef_fields}
-use Rattle.minelib_writing.specs.inner.Parts.{joined}
 use Rattle.minelib_writing.specs.declared.lines.coefs.CoefForm.{CoefForm}
 use Rattle.minelib_writing.specs.declared.lines.coefs.CoefForm.TheVariants.{OfAll, OfChosen}
 
@@ -39,7 +39,7 @@ has_values list (OfChosen values) block =
 abbrev pub FitsForm : {V : Type 0} → (V → List (List ℤ)) → CoefForm V → Coef → Type 0
 FitsForm list form c = (c.d < 10) × (c.r < 10) × IsTrue (has_values list form c.b)
 
-all_whole : (n : ℕ) (coefs : List Coef) → joined (map coef_text coefs) ≡ text_of (lines_from (coef_fields Pcpsp) n coefs)
+all_whole : (n : ℕ) (coefs : List Coef) → concat (map coef_text coefs) ≡ text_of (lines_from (coef_fields Pcpsp) n coefs)
 all_whole n [] = refl
 all_whole n (c ∷ coefs) = ap (λ rest. coef_text c ++ rest) (all_whole (n + 1) coefs)
 
@@ -53,13 +53,13 @@ one_more c coefs others n true next here = ap (λ rest. cpit_coef_text c ++ rest
 one_more c coefs others n false next here = here
 
 chosen_whole : (p : Coef → Bool) (n : ℕ) (coefs : List Coef)
-    → joined (map (λ c. if p c then cpit_coef_text c else []) coefs)
+    → concat (map (λ c. if p c then cpit_coef_text c else []) coefs)
     ≡ text_of (lines_from cpit_coef_fields n (map without_destination (filter p coefs)))
 chosen_whole p n [] = refl
 chosen_whole p n (c ∷ coefs) = one_more c (filter p coefs) _ n (p c) (chosen_whole p (n + 1) coefs) (chosen_whole p n coefs)
 
 -- the parts are the lines
 pub coef_lines_whole : {V : Type 0} (list : V → List (List ℤ)) (form : CoefForm V) (coefs : List Coef)
-    → joined (map (coef_part list form) coefs) ≡ text_of (coef_lines list form coefs)
+    → concat (map (coef_part list form) coefs) ≡ text_of (coef_lines list form coefs)
 coef_lines_whole list OfAll coefs = all_whole 0 coefs
 coef_lines_whole list (OfChosen values) coefs = chosen_whole (is_chosen (list values.now)) 0 coefs

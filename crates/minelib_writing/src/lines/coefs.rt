@@ -3,15 +3,14 @@
 
 ghost use Rattle.std.specs.Prelude.{◌≡◌, ◌+◌, ◌<◌, ◌≤◌, ◌==◌, ◌++◌, ◌∷◌, [], length, map, if◌then◌else◌, All, HoldsAt, OnOk, IfOk, decimal, take, drop};
 ghost use Rattle.std.specs.List.{flat_map};
-ghost use Rattle.pit_units.specs.Decimal.{shortest};
+ghost use Rattle.pit_units.specs.Decimal.{IsInDecimalRange, shortest};
 ghost use Rattle.mine_instance.specs.Groups.{coefs_in, pairs_of};
-ghost use Rattle.minelib_lines.specs.Kept.{IsInDecimalRange};
 ghost use Rattle.minelib_writing.specs.Written.{cpit_coef_fields};
 ghost use Rattle.minelib_writing.specs.inner.CoefParts.{coef_lines, coef_part, coef_text, cpit_coef_text, FitsForm};
 
 use crate::fields::{put_decimal_to, put_whole_to};
 use crate::lines::Line;
-use crate::sections::Section;
+use crate::parts::Parted;
 use itoa::write_digits;
 use mine_instance::coefs::group::CoefGroup;
 use mine_instance::coefs::list::CoefList;
@@ -49,7 +48,7 @@ pub struct CoefLines<'a, C: CoefList, V: ValueList> {
     pub ghost fit: { All (FitsForm V.list form) (C.list coefs.now) },
 }
 
-impl<'a, C: CoefList, V: ValueList> Section for CoefLines<'a, C, V> {
+impl<'a, C: CoefList, V: ValueList> Parted for CoefLines<'a, C, V> {
     ghost lines = { λ s. coef_lines V.list s.form (C.list s.coefs.now) };
 
     ghost parts = { λ s. map (coef_part V.list s.form) (C.list s.coefs.now) };

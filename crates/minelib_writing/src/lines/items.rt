@@ -1,8 +1,8 @@
 //! The lines of blocks and limits, and of a CPIT's values.
 
 ghost use Rattle.std.specs.Prelude.{◌≡◌, ◌++◌, ◌∷◌, [], ◌*◌, pos, OnOk, decimal, ⊤};
-ghost use Rattle.pit_units.specs.Decimal.{shortest};
-ghost use Rattle.minelib_lines.specs.Kept.{IsInDecimalRange, HasDecimals};
+ghost use Rattle.pit_units.specs.Decimal.{IsInDecimalRange, shortest};
+ghost use Rattle.minelib_lines.specs.Kept.{HasDecimals};
 ghost use Rattle.minelib_lines.specs.Lines.{line_of};
 ghost use Rattle.forms.specs.Words.{written};
 ghost use Rattle.minelib_lines.specs.LineValues.{bound_values};

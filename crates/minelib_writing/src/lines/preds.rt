@@ -1,6 +1,6 @@
 //! The lines of predecessors, one for each block.
 
-ghost use Rattle.std.specs.Prelude.{◌≡◌, ◌<◌, ◌≤◌, ◌^◌, ◌++◌, ◌∷◌, [], length, take, drop, slice_index_or, OnOk};
+ghost use Rattle.std.specs.Prelude.{◌≡◌, ◌<◌, ◌≤◌, ◌^◌, ◌++◌, ◌∷◌, [], All, length, take, drop, slice_index_or, OnOk};
 ghost use Rattle.precedence.specs.IdRuns.{ids_of};
 ghost use Rattle.minelib_lines.specs.Lines.{line_of, lines_from, text_of};
 ghost use Rattle.minelib_writing.specs.Written.{prec_fields};
@@ -16,7 +16,7 @@ use precedence::{IdRun, PredLists};
 use std::alloc::{AllocError, Global};
 
 /// Writes the line of each block behind what the buffer holds. The runs of a block are asked for when its line is written. `texts` has
-/// the texts of the blocks' identifiers.
+/// the texts of the blocks' identifiers, and of those of their predecessors.
 pub fn write_preds<S: Sink, P: PredLists>(
     alloc: Global,
     sink: &mut S,
@@ -24,7 +24,9 @@ pub fn write_preds<S: Sink, P: PredLists>(
     preds: &P,
     texts: &IdText,
 ) -> Result<(), WriteFault>
-    requires { length (P.lists preds.now) ≤ MAX_BLOCKS }
+    requires few { length (P.lists preds.now) ≤ MAX_BLOCKS }
+    requires own { length (P.lists preds.now) ≤ texts.now }
+    requires preds { All (λ ids. All (λ id. id < texts.now) ids) (P.lists preds.now) }
     ensures { WritesOn (text_of (lines_from prec_fields 0 (P.lists preds.now)))
         buffer.old.items buffer.new.items (S.state sink.old) (S.state sink.new) result }
 {
@@ -45,7 +47,9 @@ fn write_line<S: Sink, P: PredLists>(
     texts: &IdText,
     runs: &mut Vec<IdRun>,
 ) -> Result<(), WriteFault>
-    requires { id < length (P.lists preds.now) }
+    requires block { id < length (P.lists preds.now) }
+    requires own { id < texts.now }
+    requires preds { All (λ pred. pred < texts.now) (slice_index_or (P.lists preds.now) id []) }
     ensures { WritesOn
         (text_of (take 1 (drop id (lines_from prec_fields 0 (P.lists preds.now)))))
         buffer.old.items buffer.new.items (S.state sink.old) (S.state sink.new) result }
@@ -62,7 +66,9 @@ fn put_line<P: PredLists>(
     texts: &IdText,
     runs: &mut Vec<IdRun>,
 ) -> Result<(), AllocError>
-    requires { id < length (P.lists preds.now) }
+    requires block { id < length (P.lists preds.now) }
+    requires own { id < texts.now }
+    requires preds { All (λ pred. pred < texts.now) (slice_index_or (P.lists preds.now) id []) }
     ensures { OnOk result (out.new.items
         ≡ out.old.items ++ text_of (take 1 (drop id (lines_from prec_fields 0 (P.lists preds.now))))) }
 {
@@ -72,7 +78,9 @@ fn put_line<P: PredLists>(
 }
 
 fn put_preds(out: &mut Vec<u8>, id: u32, runs: &[IdRun], texts: &IdText) -> Result<(), AllocError>
-    requires { length (ids_of runs.now) < 2 ^ 63 }
+    requires own { id < texts.now }
+    requires preds { All (λ pred. pred < texts.now) (ids_of runs.now) }
+    requires countable { length (ids_of runs.now) < 2 ^ 63 }
     ensures { OnOk result (out.new.items
         ≡ out.old.items ++ (line_of (prec_fields id (ids_of runs.now)) ++ 10 ∷ [])) }
 {

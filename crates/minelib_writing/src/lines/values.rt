@@ -2,17 +2,16 @@
 
 ghost use Rattle.std.specs.Prelude.{◌≡◌, ◌<◌, ◌++◌, ◌∷◌, [], length, map, All, HoldsAt, OnOk, decimal};
 ghost use Rattle.std.specs.List.{flat_map};
-ghost use Rattle.pit_units.specs.Decimal.{shortest};
+ghost use Rattle.pit_units.specs.Decimal.{IsInDecimalRange, shortest};
 ghost use Rattle.mine_instance.specs.BlockValues.{values_in};
 ghost use Rattle.mine_instance.specs.Greatest.{greatest};
 ghost use Rattle.mine_instance.specs.OfModel.{in_hundreds};
-ghost use Rattle.minelib_lines.specs.Kept.{IsInDecimalRange};
 ghost use Rattle.minelib_lines.specs.Lines.{line_of, lines_from};
 ghost use Rattle.minelib_writing.specs.Written.{greatest_fields, value_fields};
 
 use crate::cents::put_cents_behind;
 use crate::fields::{put_decimal_behind, put_whole, put_whole_behind};
-use crate::sections::Section;
+use crate::parts::Parted;
 use mine_instance::values::block::BlockValues;
 use mine_instance::values::greatest::{first_greatest_of_cents, greatest};
 use mine_instance::values::list::ValueList;
@@ -25,7 +24,7 @@ pub struct ValueLines<'a, V> {
     pub values: &'a V,
 }
 
-impl<'a, V: ValueList> Section for ValueLines<'a, V> {
+impl<'a, V: ValueList> Parted for ValueLines<'a, V> {
     ghost lines = { λ s. lines_from value_fields 0 (V.list s.values.now) };
 
     ghost use Rattle.minelib_writing.specs.inner.Parts.{line_parts, lines_whole};
@@ -104,7 +103,7 @@ pub struct GreatestLines<'a, V: ValueList> {
     pub ghost some: { All (λ of_block. 0 < length of_block) (V.list values.now) },
 }
 
-impl<'a, V: ValueList> Section for GreatestLines<'a, V> {
+impl<'a, V: ValueList> Parted for GreatestLines<'a, V> {
     ghost lines = { λ s. lines_from greatest_fields 0 (V.list s.values.now) };
 
     ghost use Rattle.minelib_writing.specs.inner.Parts.{line_parts, lines_whole};

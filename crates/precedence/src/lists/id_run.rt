@@ -1,11 +1,12 @@
 //! A run of identifiers.
 
-ghost use Rattle.std.specs.Prelude.{◌+◌, ◌≤◌, ◌^◌};
+ghost use Rattle.std.specs.Prelude.{◌+◌, ◌<◌, ◌≤◌, ◌^◌};
 
-/// Identifiers that follow one another: `len` of them, from `first` on.
+/// Identifiers that follow one another: `len` of them, at least one, from `first` on.
 #[derive(Clone, Copy, Debug)]
 pub struct IdRun {
     pub first: u32,
     pub len: u32,
+    pub ghost some: { 0 < len },
     pub ghost within: { first + len ≤ 2 ^ 32 },
 }

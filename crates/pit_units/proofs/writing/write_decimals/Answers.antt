@@ -1,6 +1,6 @@
 use Rattle.std.proofs.Common.{arith, ap, inl, inr, refl, sym, ◌∙◌, ◌≡◌, ◌≢◌, ◌+◌, ◌-◌, ◌/◌, ◌%◌, ◌^◌, ◌<◌, ◌==◌, ◌⊎◌, ◌∷◌, ℕ, List, [], if◌then◌else◌, take, drop}
 use Rattle.std.proofs.lemmas.Bool.{cases_eq}
-use borrow.Author.Tests.{eq-eqb, ne_eqb}
+use Rattle.std.proofs.lemmas.Bool.{eq-eqb, ne_eqb}
 use Rattle.pit_units.specs.Decimal.{fraction_text, six_digits, without_end_zeros}
 use Rattle.pit_units.proofs.writing.write_decimals.Goals as goal
 

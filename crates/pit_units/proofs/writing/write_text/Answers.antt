@@ -1,4 +1,5 @@
-use Rattle.std.proofs.Common.{arith, refl, ap, sym, ◌≡◌, ◌∙◌, ◌++◌, slice_range}
+use Rattle.std.proofs.Common.{arith, refl, ap, sym, ◌≡◌, ◌∙◌, ◌++◌, slice_range, pos, rules}
+use Rattle.std.specs.Prelude.{int_lt}
 use Rattle.std.proofs.lemmas.Fmt.{length-decimal-le_wide}
 use Rattle.std.specs.Fmt.{decimal, sign_text}
 use Rattle.pit_units.specs.Decimal.{size_text}
@@ -22,6 +23,7 @@ returns-clause-text c =
     let digits = c.write_digits-start.new.buf in
     let whole = c.parts-whole.result.0 in
     let below = c.is_negative.result in
+    let side : below ≡ int_lt c.args.dec (pos 0) = search rules in
     let size : slice_range digits start end ≡ size_text c.size.result =
     put_before (decimal whole) c.write_decimals-end.new.room digits start 20 end c.write_digits-start.ensures.start
     c.write_decimals-end.ensures.end.0 c.write_digits-start.ensures.written
@@ -29,4 +31,4 @@ returns-clause-text c =
     put_before (sign_text below) digits c.write_sign.new.room c.write_sign.result start end c.write_sign.ensures.start
     (omega arith) c.write_sign.ensures.written
     ∙ ap (λ xs. sign_text below ++ xs) size
-    ∙ sym (shortest_is c.args.dec below c.size.result c.is_negative.ensures c.size.ensures.value)
+    ∙ sym (shortest_is c.args.dec below c.size.result side c.size.ensures.value)

@@ -4,7 +4,8 @@ use Rattle.std.proofs.lemmas.List.Elements.{All-filter, All-map}
 use Rattle.mine_instance.specs.Greatest.{greatest}
 use Rattle.mine_instance.specs.OfCpit.{is_chosen, without_destination}
 use Rattle.mine_instance.specs.Seen.{seen}
-use Rattle.minelib_lines.specs.Kept.{IsInDecimalRange, HasDecimals}
+use Rattle.pit_units.specs.Decimal.{IsInDecimalRange}
+use Rattle.minelib_lines.specs.Kept.{HasDecimals}
 use Rattle.minelib_writing.specs.Written.{greatest_fields, limit_fields}
 use Rattle.minelib_writing.proofs.ChosenFacts.{chosen_keys, chosen_sections, chosen_text}
 use Rattle.minelib_writing.proofs.KeptFacts.{kept_all, on_ok_three}

@@ -2,7 +2,8 @@ use Rattle.std.proofs.Common.{rules, All, length}
 use Rattle.std.proofs.lemmas.List.{length-map}
 use Rattle.minelib_writing.specs.inner.CoefParts.{coef_part}
 use Rattle.minelib_writing.specs.declared.lines.coefs.CoefForm.TheVariants.{OfAll}
-use Rattle.minelib_lines.specs.Kept.{IsInDecimalRange, HasDecimals}
+use Rattle.pit_units.specs.Decimal.{IsInDecimalRange}
+use Rattle.minelib_lines.specs.Kept.{HasDecimals}
 use Rattle.minelib_lines.specs.HeaderTable.{key_value, keys_of, type_text}
 use Rattle.minelib_lines.specs.LineValues.{header_of}
 use Rattle.minelib_lines.specs.Lines.{lines_from}

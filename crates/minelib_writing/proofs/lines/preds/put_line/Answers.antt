@@ -13,9 +13,9 @@ returns g c =
     let list : ids_of c.as_slice.result.now ≡ get_or lists id [] =
     ap ids_of c.as_slice.ensures.value ∙ c.in_ok-add_runs.ensures.list
     ∙ ap (λ runs. ids_of runs ++ get_or lists id []) c.clear.ensures.items in
-    let within : id < length lines = rw length-lines_from c.requires in
+    let within : id < length lines = rw length-lines_from c.requires.block in
     let text : text_of (take 1 (drop id lines)) ≡ line_of (prec_fields id (ids_of c.as_slice.result.now)) ++ 10 ∷ [] =
     text_at lines id within
     ∙ ap (λ line. line ++ 10 ∷ [])
-    (get_or-lines_from prec_fields 0 id id lists [] c.requires (omega arith) ∙ ap (λ ids. line_of (prec_fields id ids)) (sym list)) in
+    (get_or-lines_from prec_fields 0 id id lists [] c.requires.block (omega arith) ∙ ap (λ ids. line_of (prec_fields id ids)) (sym list)) in
     rw text c.put_preds.ensures

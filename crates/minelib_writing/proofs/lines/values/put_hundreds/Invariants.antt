@@ -1,7 +1,6 @@
 use Rattle.std.proofs.Common.{◌≡◌, ◌++◌, ◌∷◌, All, take}
 use Rattle.std.specs.List.{flat_map}
-use Rattle.pit_units.specs.Decimal.{shortest}
-use Rattle.minelib_lines.specs.Kept.{IsInDecimalRange}
+use Rattle.pit_units.specs.Decimal.{IsInDecimalRange, shortest}
 use Rattle.minelib_writing.proofs.lines.values.put_hundreds.Given as goal
 
 abbrev pub invariant-loop-value : goal.invariant-loop-value

@@ -1,0 +1,21 @@
+use Rattle.std.proofs.Common.{◌≡◌, ◌+◌, ◌-◌, ◌≤◌, ◌++◌, ◌∷◌, [], length, map, take, drop}
+use Rattle.std.specs.Prelude.{HoldsAt}
+use Rattle.std.specs.List.{concat}
+use Rattle.pit_units.specs.Decimal.{IsInDecimalRange, shortest}
+use Rattle.minelib_writing.specs.inner.CoefParts.{coef_part}
+use Rattle.minelib_writing.specs.inner.KeptParts.{HoldsFrom}
+use Rattle.minelib_writing.proofs.lines.coefs.CoefLinesParted.append.Given as goal
+
+-- The parts so far are appended, and in the room are the tonnes of the last of them, of which is known what their type keeps.
+abbrev pub invariant-loop-count : goal.invariant-loop-count
+invariant-loop-count g l = record {
+  within : l.index + l.count ≤ length (g.C.CoefList.list l.self.coefs.now);
+  room : drop 14 l.room.items ≡ 32 ∷ (shortest l.tonnes ++ 10 ∷ []);
+  known : IsInDecimalRange l.tonnes;
+  text : l.out.items ≡ l.initial.out.items
+      ++ concat (take l.count (drop l.index (map (coef_part g.V.ValueList.list l.self.form) (g.C.CoefList.list l.self.coefs.now))));
+  kept : HoldsFrom (HoldsAt (λ c. IsInDecimalRange c.v) (g.C.CoefList.list l.self.coefs.now)) l.index (l.index + l.count);
+}
+
+abbrev pub decreases-loop-count : goal.decreases-loop-count
+decreases-loop-count g l = l.most - l.count

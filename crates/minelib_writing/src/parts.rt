@@ -1,0 +1,106 @@
+//! Lines that are written part by part, in large slices to a sink.
+
+ghost use Rattle.std.specs.Prelude.{◌≡◌, ◌+◌, ◌<◌, ◌≤◌, ℕ, List, ◌∷◌, ◌++◌, length, take, drop, IfOk, IfErr, OnOk};
+ghost use Rattle.std.specs.List.{concat};
+ghost use Rattle.minelib_lines.specs.Lines.{text_of};
+ghost use Rattle.minelib_writing.specs.inner.KeptParts.{HoldsFrom};
+ghost use Rattle.devices.specs.SinkSteps.{refusals, IsAppendCut};
+ghost use Rattle.devices.specs.Writes.{IsWrittenOn, WritesOn};
+
+use crate::fields::put_text;
+use devices::sinks::sink::Sink;
+use devices::sinks::slices::flush_full;
+use devices::sinks::write_fault::WriteFault;
+use std::alloc::{AllocError, Global};
+
+/// Lines that are written part by part: the text of a part is no line, one, or more.
+pub trait Parted {
+    ghost lines: { Self → List (List ℕ) };
+
+    ghost parts: { Self → List (List ℕ) };
+
+    /// What its type keeps of the part at a place, as is known once it is written.
+    ghost kept: { Self → ℕ → Type 0 };
+
+    /// The number of parts.
+    fn len(&self) -> usize
+        ensures { result ≡ length (parts self.now) };
+
+    /// Appends the part at a place, or it and some of those behind it, and answers how many. Where memory is refused a front of their
+    /// text may be appended.
+    fn append(&self, alloc: Global, index: usize, out: &mut Vec<u8>) -> Result<usize, AllocError>
+        requires { index < length (parts self.now) }
+        ensures some { IfOk result (λ n. 0 < n) }
+        ensures within { IfOk result (λ n. index + n ≤ length (parts self.now)) }
+        ensures appended { IfOk result (λ n.
+            out.new.items ≡ out.old.items ++ concat (take n (drop index (parts self.now)))) }
+        ensures kept { IfOk result (λ n. HoldsFrom (kept self.now) index (index + n)) };
+
+    /// The parts are the lines, each with its LF.
+    ghost whole: { (parted : Self) → concat (parts parted) ≡ text_of (lines parted) };
+}
+
+/// Writes the lines behind what the buffer holds.
+#[tactic(auto, using(crate::proofs::SectionsWritten::more_then))]
+pub fn write_parts<S: Sink, L: Parted>(
+    alloc: Global,
+    sink: &mut S,
+    buffer: &mut Vec<u8>,
+    parted: &L,
+) -> Result<(), WriteFault>
+    ensures writes { WritesOn (text_of (L.lines parted.now))
+        buffer.old.items buffer.new.items (S.state sink.old) (S.state sink.new) result }
+    ensures kept { OnOk result
+        (HoldsFrom (L.kept parted.now) 0 (length (L.parts parted.now))) }
+{
+    let mut index = 0;
+    while index < parted.len() {
+        let count = write_some(alloc, sink, buffer, parted, index)?;
+        index += count;
+    }
+    Ok(())
+}
+
+// Writes one part or more, and answers how many.
+#[tactic(auto, using(crate::proofs::SectionsWritten::nothing_put))]
+fn write_some<S: Sink, L: Parted>(
+    alloc: Global,
+    sink: &mut S,
+    buffer: &mut Vec<u8>,
+    parted: &L,
+    index: usize,
+) -> Result<usize, WriteFault>
+    requires { index < length (L.parts parted.now) }
+    ensures some { IfOk result (λ n. 0 < n) }
+    ensures within { IfOk result (λ n. index + n ≤ length (L.parts parted.now)) }
+    ensures written { IfOk result
+        (λ n. IsWrittenOn (concat (take n (drop index (L.parts parted.now))))
+        buffer.old.items buffer.new.items (S.state sink.old) (S.state sink.new)) }
+    ensures refused { IfErr result
+        (λ fault. IsAppendCut (refusals fault) (concat (drop index (L.parts parted.now)))
+        buffer.old.items (S.state sink.old) (S.state sink.new)) }
+    ensures kept { IfOk result (λ n. HoldsFrom (L.kept parted.now) index (index + n)) }
+{
+    let count = parted.append(alloc, index, buffer)?;
+    flush_full(sink, buffer)?;
+    Ok(count)
+}
+
+/// Writes a section line and the lines under it behind what the buffer holds.
+#[tactic(auto, using(crate::proofs::SectionsWritten::nothing_put))]
+pub fn write_titled<S: Sink, L: Parted>(
+    alloc: Global,
+    sink: &mut S,
+    buffer: &mut Vec<u8>,
+    title: &[u8],
+    parted: &L,
+) -> Result<(), WriteFault>
+    ensures writes { WritesOn (text_of (title.now ∷ L.lines parted.now))
+        buffer.old.items buffer.new.items (S.state sink.old) (S.state sink.new) result }
+    ensures kept { OnOk result
+        (HoldsFrom (L.kept parted.now) 0 (length (L.parts parted.now))) }
+{
+    put_text(buffer, title, b'\n')?;
+    flush_full(sink, buffer)?;
+    write_parts(alloc, sink, buffer, parted)
+}
