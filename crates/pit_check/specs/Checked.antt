@@ -7,14 +7,14 @@ use Rattle.text_lines.specs.declared.text_fault.TextFile.{TextFile}
 use Rattle.text_lines.specs.declared.text_fault.TextFile.TheVariants.{Blocks, Prec, Pcpsp, Cpit}
 use Rattle.pit_check.specs.Counts.{TellsCounts, Texts, counted}
 use Rattle.pit_compile.specs.declared.refusal.Refusal.TheVariants.{OutOfMemory}
-use Rattle.pit_edge.specs.OpenedFile.{OpensFile, file_left}
+use Rattle.pit_edge.specs.OpenedFile.{OpensFile, file_left, path_to}
 use Rattle.pit_edge.specs.declared.refused.Refused.{Refused}
 use Rattle.pit_edge.specs.declared.refused.Refused.TheVariants.{NotUtf8, FeedFailed, TooLong, Plan, Text, Run}
 use Rattle.pit_edge.specs.declared.refused.source.Source.TheVariants as source
 
--- the path of a file of the instance: BASE, a point and the file's ending
+-- the path of this file of the instance
 abbrev pub path_of : List ℕ → TextFile → List ℕ
-path_of base file = base ++ (46 ∷ file_name file)
+path_of base file = path_to base (file_name file)
 
 -- `Opens` says what opening a path may answer, and `left` what a feed has left, where it tells that
 module _ {F : Type 0} (Opens : List ℕ → Result F FeedFault → Type 0) (left : F → Option (List ℕ)) (base : List ℕ) where

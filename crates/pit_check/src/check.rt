@@ -20,8 +20,8 @@ use std::alloc::Global;
 use std::rt::Files;
 use text_lines::text_fault::{TextFault, TextFile};
 
-/// Reads the files of an instance: `BASE.blocks`, `BASE.prec` and `BASE.pcpsp`, then `BASE.cpit` if it can be opened,
-/// and then their texts. Appends the line of their counts to `out`, or the line of the first fault to `err`; only one
+/// Reads the files of an instance, `BASE.blocks`, `BASE.prec` and `BASE.pcpsp`, then `BASE.cpit` if it can be opened, and
+/// counts each text while its file is read. Appends the line of their counts to `out`, or the line of the first fault to `err`; only one
 /// of the two grows. Returns the status that the program ends with:
 ///
 /// - 0: the counts were appended;

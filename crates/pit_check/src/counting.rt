@@ -21,7 +21,7 @@ use text_lines::text_fault::{LineFault, TextFault, TextFile};
 ///
 /// # Errors
 ///
-/// Those of `slurp`.
+/// Those of `read_fed`.
 #[tactic(auto, using(crate::proofs::CountedAll::passed, crate::proofs::CountedAll::told))]
 pub fn count_on<F: Feed>(
     alloc: Global,

@@ -9,10 +9,11 @@ use Rattle.pit_compile.specs.declared.refusal.Refusal.TheVariants as refusal
 use Rattle.pit_parts.specs.declared.settings.Settings.{Settings}
 use Rattle.pit_parts.specs.Plan.{PlanParts}
 use Rattle.pit_parts.specs.declared.formulas.formula.Formula.{Formula}
+use Rattle.pit_edge.specs.OpenedFile.{path_to}
 use Rattle.pit_edge.specs.ZoneFeeds.{IsFirstUnopened, IsUnopened}
 use Rattle.pit_edge.specs.declared.refused.Refused.{Refused}
 use Rattle.pit_edge.specs.declared.refused.Refused.TheVariants.{NotUtf8, FeedFailed, TooLong, Plan, Text, Run}
-use Rattle.pit_commands.specs.Compile.{IsNoCompile, IsRefusedInto, TellsRows, path_to}
+use Rattle.pit_commands.specs.Compile.{IsNoCompile, IsRefusedInto, TellsRows}
 
 -- refused memory is a refusal of any run: its sinks were never begun
 pub no_memory : (base : List ℕ) (plan : PlanParts) (formulas : List Formula) (settings : Settings) (lefts : List (Option (List ℕ)))

@@ -1,7 +1,7 @@
 -- Zone files that are lent to a run: it reads just these, and no feed of them fails.
 use Rattle.std.proofs.Common.{◌≡◌, ℕ, zero, suc, Bool, true, false, List, [], ◌∷◌, length, map, Option, Some, Result, Ok, Err, refl, ap, ◌∙◌, subst}
 use Rattle.std.specs.Prelude.{slice_get}
-use Rattle.pit_compile.specs.Compiled.{AreGiven, IsVerdict}
+use Rattle.pit_compile.specs.ZoneFiles.{AreGiven, IsVerdict}
 use Rattle.pit_compile.specs.Compiling.{IsNotCompiled}
 use Rattle.pit_compile.specs.Settings.{IsSettingsFault, Suits}
 use Rattle.pit_compile.specs.Verdict.{IsRefusedBy}
@@ -46,22 +46,14 @@ module _ (plan : PlanParts) (formulas : List Formula) (zones : List (List ℕ)) 
   refused_by (SinkFailed which) settings h = h
   refused_by OutOfMemory settings h = _
 
--- settings that suit have no fault
-pub none_where_suits : (plan : PlanParts) (files : ℕ) (formulas : List Formula) (settings : set.Settings) (kind : SettingsFault)
-    → Suits plan files formulas settings → IsSettingsFault plan files formulas settings kind → ⊥
-none_where_suits plan files formulas settings Files fit h = h fit.files_fit
-none_where_suits plan files formulas settings Valuers fit h = h.1 fit.valuers_fit
-none_where_suits plan files formulas settings Capacity fit h = h.2 fit.capacity_fits
-none_where_suits plan files formulas settings Destinations fit h = h.3 fit.destinations_fit
-
 -- the refusal of an answer, and the settings' fault of a refusal
 abbrev pub refusal_in : {A : Type 0} → Result A Refusal → Refusal
 refusal_in (Ok done) = OutOfMemory
 refusal_in (Err refusal) = refusal
 
-abbrev pub fault_in : {A : Type 0} → Result A SettingsFault → SettingsFault
-fault_in (Ok done) = Files
-fault_in (Err fault) = fault
+abbrev pub told_fault : {A : Type 0} → Result A SettingsFault → SettingsFault
+told_fault (Ok done) = Files
+told_fault (Err fault) = fault
 
 abbrev pub kind_in : Refusal → SettingsFault
 kind_in (Settings kind) = kind

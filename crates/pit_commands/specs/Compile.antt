@@ -17,14 +17,10 @@ use Rattle.pit_compile.specs.declared.settings.SettingsFault.{SettingsFault}
 use Rattle.pit_parts.specs.declared.settings.Settings.{Settings}
 use Rattle.pit_parts.specs.Plan.{PlanParts}
 use Rattle.pit_parts.specs.declared.formulas.formula.Formula.{Formula}
-use Rattle.pit_edge.specs.OpenedFile.{OpensFile, file_left, is_file_sure}
+use Rattle.pit_edge.specs.OpenedFile.{OpensFile, file_left, is_file_sure, path_to}
 use Rattle.pit_edge.specs.ZoneFeeds.{IsUnopened}
 use Rattle.pit_edge.specs.declared.refused.Refused.{Refused}
 use Rattle.pit_edge.specs.declared.refused.Refused.TheVariants.{Run}
-
--- the path of a file of the instance: BASE, a point and the file's ending
-abbrev pub path_to : List ℕ → List ℕ → List ℕ
-path_to base ending = base ++ (46 ∷ ending)
 
 -- the sinks of the files of BASE, before the run and after it; none was begun before
 pub record SinksOf (base : List ℕ) : Type 0 where

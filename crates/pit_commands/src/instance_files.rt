@@ -5,7 +5,7 @@ ghost use Rattle.minelib_writing.specs.Texts.{ending_of};
 ghost use Rattle.minelib_writing.specs.declared.text_name.TextName.{TextName as AName};
 ghost use Rattle.pit_compile.specs.Sinks.{sink_of};
 ghost use Rattle.devices.specs.FileSinkView.{unbegun};
-ghost use Rattle.pit_commands.specs.Compile.{path_to};
+ghost use Rattle.pit_edge.specs.OpenedFile.{path_to};
 
 use devices::sinks::file_sink::FileSink;
 use minelib_writing::text_name::TextName;
@@ -37,11 +37,11 @@ fn paths_of(alloc: Global, base: &str) -> Result<Sinks<String>, AllocError>
     ensures { IfOk result (λ paths. (name : AName)
         → string_bytes (sink_of paths name) ≡ path_to base.now (ending_of name)) }
 {
-    Sinks::each(|name| path_of(alloc, base, name))
+    Sinks::each(|name| path_to(alloc, base, name))
 }
 
 // The path of a file of the instance.
-fn path_of(alloc: Global, base: &str, name: TextName) -> Result<String, AllocError>
+fn path_to(alloc: Global, base: &str, name: TextName) -> Result<String, AllocError>
     ensures { IfOk result (λ path. string_bytes path ≡ path_to base.now (ending_of name)) }
 {
     Ok(format!(in alloc; "{base}.{name}")?)

@@ -6,6 +6,5 @@ pub mod compile;
 mod instance_files;
 pub mod model;
 pub mod pipe_form;
-pub mod pipe_run;
 pub mod refusal_line;
 pub mod task;

@@ -7,8 +7,8 @@ ghost use Rattle.pit_edge.specs.Pieces.{plan_piece, zone_pieces};
 use pit_compile::refusal::Refusal;
 use pit_compile::settings::SettingsFault;
 use pit_edge::input::read_whole;
-use pit_edge::pieces::{Pieces, cut_at_most, plan_text};
-use pit_edge::plan_text::plan_of;
+use pit_edge::pieces::{Pieces, cut_at_most, plan_piece};
+use pit_edge::plan_text::stated_plan;
 use pit_edge::refused::Refused;
 use pit_model::plan::Plan;
 use std::alloc::Global;
@@ -46,7 +46,7 @@ pub fn read_model_from<T: Read>(reader: &mut T, alloc: Global) -> Result<Model, 
     ensures refused { IfErr result (IsNoModel (T.remaining reader.old)) }
 {
     let input = read_whole(reader, alloc)?;
-    let plan = plan_of(alloc, plan_text(input.as_slice()))?;
+    let plan = stated_plan(alloc, plan_piece(input.as_slice()))?;
     let pieces = pieces_for(alloc, input.as_slice(), &plan)?;
     Ok(Model { plan, pieces })
 }

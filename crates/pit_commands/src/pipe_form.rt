@@ -1,10 +1,11 @@
 //! The pipe form: from the pieces of the input to the printed instance.
 
 ghost use Rattle.std.specs.Prelude.{◌≡◌, ◌↔◌, Err, Some, true, length, map, IfErr, IfOk, OnErr, OnOk};
-ghost use Rattle.pit_compile.specs.Compiled.{HasPassed};
+ghost use Rattle.pit_compile.specs.ZoneFiles.{HasPassed};
 ghost use Rattle.pit_compile.specs.Settings.{IsSettingsFault};
 ghost use Rattle.pit_compile.specs.declared.settings.SettingsFault.{SettingsFault as ASettingsFault};
 ghost use Rattle.pit_parts.specs.Destinations.{formulas_of};
+ghost use Rattle.pit_parts.specs.declared.ranges.TheConstants.{USUAL_VALUERS};
 ghost use Rattle.pit_commands.specs.Printed.{pipe_settings, IsPrinted, PipeRefused};
 
 use devices::feeds::feed::Feed;
@@ -17,6 +18,7 @@ use pit_edge::pieces::Piece;
 use pit_edge::printing::print;
 use pit_model::destination::Destination;
 use pit_model::plan::Plan;
+use pit_parts::ranges::{USUAL_CAPACITY, USUAL_VALUERS};
 use std::alloc::{AllocError, Global};
 use std::sync::Wait;
 use std::thread::Threads;
@@ -24,8 +26,8 @@ use valuers::OpenGate;
 
 /// The settings of the pipe form.
 pub const SETTINGS: Settings = Settings {
-    valuers: 4,
-    capacity: 64,
+    valuers: USUAL_VALUERS,
+    capacity: USUAL_CAPACITY,
 };
 
 /// Appends what the pipe form prints of the model of a plan and its zone files. Returns what went through the lane.
@@ -50,7 +52,7 @@ pub fn pipe<R: Threads + Wait + Sync>(
     ensures settings { (kind : ASettingsFault) → (result ≡ Err (Refusal.Settings kind))
         ↔ IsSettingsFault plan.now (length zones.now) (formulas_of destinations.now) pipe_settings
         kind }
-    ensures passed { IfOk result (HasPassed plan.now zones.now 4) }
+    ensures passed { IfOk result (HasPassed plan.now zones.now USUAL_VALUERS) }
     ensures printed { OnOk result (IsPrinted plan.now zones.now out.old.items out.new.items) }
     ensures refused { IfErr result (PipeRefused plan.now (formulas_of destinations.now) zones.now) }
     ensures kept { OnErr result (out.new.items ≡ out.old.items) }

@@ -1,14 +1,16 @@
 //! A model to be compiled, by the pipe form or from files to files.
 
-ghost use Rattle.std.specs.Prelude.{◌≡◌, ◌≢◌};
+ghost use Rattle.std.specs.Prelude.{◌≡◌, ◌≢◌, IfErr, OnErr, OnOk};
 ghost use Rattle.pit_parts.specs.Destinations.{formulas_of};
 ghost use Rattle.pit_edge.specs.FaultLine.{EndsBy};
+ghost use Rattle.pit_commands.specs.Printed.{IsNoPipe, IsPrinted};
 ghost use Rattle.pit_commands.specs.Task.{IsNoTask, IsTaskDone, plan_in};
 
 use crate::compile::compile_files;
 use crate::model::Model;
-use crate::pipe_run::run_pipe;
+use crate::pipe_form::pipe;
 use pit_compile::settings::Settings;
+use pit_edge::refused::Refused;
 use pit_edge::refused::fault_line::tell;
 use pit_model::destination::Destination;
 use pit_model::plan::Plan;
@@ -83,4 +85,23 @@ impl Task {
             ),
         }
     }
+}
+
+// Appends what the pipe form prints of the model to `text`. Where it is refused `text` is as it was.
+fn run_pipe<R: Threads + Wait + Sync>(
+    rt: &R,
+    alloc: Global,
+    model: &Model,
+    destinations: &[Destination],
+    text: &mut Vec<u8>,
+) -> Result<(), Refused>
+    ensures done { OnOk result
+        (IsPrinted model.now.plan model.now.pieces.zones text.old.items text.new.items) }
+    ensures kept { OnErr result (text.new.items ≡ text.old.items) }
+    ensures refused { IfErr result
+        (IsNoPipe model.now.plan (formulas_of destinations.now) model.now.pieces.zones) }
+{
+    let zones = model.pieces.zones();
+    pipe(rt, alloc, zones, &model.plan, destinations, text)?;
+    Ok(())
 }

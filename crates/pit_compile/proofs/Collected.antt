@@ -12,8 +12,7 @@ use Rattle.collector.specs.Lists.{AreLists, AreRows}
 use Rattle.lane.specs.declared.message.Taken.{Taken}
 use Rattle.lane.specs.MessageKinds.{row_count}
 use Rattle.lane.specs.Whole.{GatheredView, IsWhole}
-use Rattle.pit_compile.proofs.HandedOn.{IsOf, row-of, end-of, all-of, complete}
-use Rattle.pit_compile.specs.inner.Collecting.{joined}
+use Rattle.pit_compile.proofs.HandedOn.{IsOf, all_items, row-of, end-of, all-of, complete}
 use Rattle.pit_parts.specs.declared.formulas.formula.Formula.{Formula}
 use Rattle.valuers.specs.Valuing.{items_by, rows_by}
 use Rattle.rows.specs.declared.item.Item.{Item}
@@ -63,14 +62,14 @@ are-rows found fs sent items lists all are =
 -- what is handed on is complete
 pub to-order : (fs : List Formula) (g : GatheredView) (items : List (List Item)) (files : ℕ) → IsWhole g →
     All (λ list. row_count list ≤ 1000000) g.sent → items ≡ map (items_by fs) g.took → length g.sent ≡ files →
-    IsComplete files (joined items)
+    IsComplete files (all_items items)
 to-order fs g items files whole few handed same = rw (handed, ← same) (complete fs g whole few)
 
 -- the rows in order
 pub collected : (found : FoundIsHeld) (fs : List Formula) (g : GatheredView) (items : List (List Item)) (files : ℕ) (rows : List Valued)
-    → IsWhole g → items ≡ map (items_by fs) g.took → length g.sent ≡ files → AreRows files (joined items) rows
+    → IsWhole g → items ≡ map (items_by fs) g.took → length g.sent ≡ files → AreRows files (all_items items) rows
     → rows ≡ flat_map (rows_by fs) g.sent
 collected found fs g items files rows whole handed same are =
-    let held : AreLists (length g.sent) (joined (map (items_by fs) g.took)) are.0 = rw (same, ← handed) are.1 in
-    are.2 ∙ ap (λ xs. joined xs) (are-rows found fs g.sent (joined (map (items_by fs) g.took)) are.0 (all-of fs g whole) held)
+    let held : AreLists (length g.sent) (all_items (map (items_by fs) g.took)) are.0 = rw (same, ← handed) are.1 in
+    are.2 ∙ ap (flat_map (λ list. list)) (are-rows found fs g.sent (all_items (map (items_by fs) g.took)) are.0 (all-of fs g whole) held)
     ∙ flat_map-map (λ (l : List Valued). l) (rows_by fs) g.sent

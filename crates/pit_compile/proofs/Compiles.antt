@@ -9,15 +9,15 @@ use Rattle.run_threads.specs.declared.read_fault.ReadFault.{ReadFault}
 use Rattle.valuers.specs.Valuing.{rows_by}
 use Rattle.rows.specs.declared.item.Valued.{Valued}
 use Rattle.pit_compile.specs.inner.ReadAnswers.{refusal_in}
-use Rattle.pit_compile.specs.Compiled.{AreGiven}
+use Rattle.pit_compile.specs.ZoneFiles.{AreGiven}
 use Rattle.pit_compile.specs.Compiling.{IsNotCompiled}
 use Rattle.pit_compile.specs.inner.ModelRows.{AreModelRows}
-use Rattle.pit_compile.specs.Rows.{fault_in, rows_of, sents_of}
+use Rattle.pit_compile.specs.Rows.{fault_in, model_rows, model_sends}
 use Rattle.pit_compile.specs.inner.Repeats.{IsRepeat}
 use Rattle.pit_compile.specs.declared.refusal.Refusal.{Refusal}
 use Rattle.pit_compile.specs.declared.refusal.Refusal.TheVariants.{Same, OutOfMemory}
 use Rattle.pit_compile.proofs.Readers.{all_read}
-use Rattle.pit_compile.proofs.RowFacts.{AreZoneFiles, model_rows, sent_rows}
+use Rattle.pit_compile.proofs.RowFacts.{AreZoneFiles, are_model_rows, sent_rows}
 
 given_count : (lefts : List (Option (List ℕ))) (texts : List (List ℕ)) → AreGiven lefts texts → length texts ≡ length lefts
 given_count [] [] h = refl
@@ -29,8 +29,8 @@ pub record Compiles (plan : PlanParts) (lefts : List (Option (List ℕ))) (sents
   pub texts : List (List ℕ)
   pub given : AreGiven lefts texts
   pub no_fault : fault_in texts plan.grid 0 ≡ None
-  pub sent : sents ≡ sents_of plan texts
-  pub rows_are : rows ≡ rows_of plan texts
+  pub sent : sents ≡ model_sends plan texts
+  pub rows_are : rows ≡ model_rows plan texts
   pub model : AreModelRows plan rows
 
 pub compiles : (plan : PlanParts) (lefts : List (Option (List ℕ))) (sures : List Bool) (answers : List (Result (Unit {0}) ReadFault))
@@ -41,7 +41,7 @@ pub compiles : (plan : PlanParts) (lefts : List (Option (List ℕ))) (sures : Li
 compiles plan lefts sures answers sents rows files count most h e collected =
     let read = all_read plan.grid lefts sures answers sents h e in
     let as_many = given_count lefts read.texts read.given in
-    let same : rows ≡ rows_of plan read.texts
+    let same : rows ≡ model_rows plan read.texts
     = collected ∙ ap (flat_map (rows_by (formulas_of_plan plan))) read.sent ∙ sent_rows plan.grid (formulas_of_plan plan) 0 read.texts in
     record {
       texts = read.texts;
@@ -49,7 +49,7 @@ compiles plan lefts sures answers sents rows files count most h e collected =
       no_fault = read.no_fault;
       sent = read.sent;
       rows_are = same;
-      model = subst (AreModelRows plan) (sym same) (model_rows plan read.texts files (as_many ∙ count) most);
+      model = subst (AreModelRows plan) (sym same) (are_model_rows plan read.texts files (as_many ∙ count) most);
     }
 
 -- a refusal of numbering is the verdict's

@@ -1,6 +1,6 @@
 -- What the valuers hand on of a whole gathering is complete.
 use Rattle.std.proofs.Common.{◌≡◌, ℕ, ◌+◌, ◌<◌, ◌≤◌, Bool, false, ◌&&◌, cond, eqb, List, [], ◌∷◌, length, map, get_or, Some, refl, sym, ap, subst, ◌∙◌, arith}
-use Rattle.std.specs.List.{All, AllByRecursion, count_by, sum_by, slice_get}
+use Rattle.std.specs.List.{All, AllByRecursion, count_by, flat_map, sum_by, slice_get}
 use Rattle.std.proofs.lemmas.Bool.Decides.{nat_tests}
 use Rattle.std.proofs.lemmas.List.Elements.{recursion_from_All, All-from_recursion, All-append, All-nil, All-weaker}
 use Rattle.std.proofs.lemmas.List.Sums.{sum_by-append, sum_by-cons}
@@ -13,7 +13,6 @@ use Rattle.lane.specs.Message.{is_at, IsEndedFrom}
 use Rattle.lane.specs.MessageKinds.{row_count}
 use Rattle.lane.specs.Whole.{GatheredView, IsSent, IsWhole}
 use Rattle.pit_compile.proofs.SentRows.{counted, rows-counted, row-sent, end-sent, ended-length}
-use Rattle.pit_compile.specs.inner.Collecting.{joined}
 use Rattle.pit_parts.specs.declared.formulas.formula.Formula.{Formula}
 use Rattle.rows.specs.Valued.{row_by}
 use Rattle.valuers.specs.Valuing.{items_by, rows_by}
@@ -52,15 +51,19 @@ are-of fs sent ended (End f n ∷ ms) all =
     ((at.0, at.1, end-sent fs f 0 n f n at.0 (ended f at.0 at.1) at.2), are-of fs sent ended ms all.1)
 are-of fs sent ended (m ∷ ms) all = are-of fs sent ended ms all.1
 
--- so it is with what all valuers hand on
-all-joined : (fs : List Formula) (sent : List (List Taken)) → AreEnded sent → (tooks : List (List Taken)) →
-    AllByRecursion (λ took. All (IsSent sent) took) tooks → All (IsOf fs sent) (joined (map (items_by fs) tooks))
-all-joined fs sent ended [] all = All-nil (IsOf fs sent)
-all-joined fs sent ended (took ∷ tooks) all =
-    All-append (IsOf fs sent) (items_by fs took) (joined (map (items_by fs) tooks))
+-- what all valuers hand on
+abbrev pub all_items : List (List Item) → List Item
+all_items lists = flat_map (λ list. list) lists
+
+-- so it is with it
+all-there : (fs : List Formula) (sent : List (List Taken)) → AreEnded sent → (tooks : List (List Taken)) →
+    AllByRecursion (λ took. All (IsSent sent) took) tooks → All (IsOf fs sent) (all_items (map (items_by fs) tooks))
+all-there fs sent ended [] all = All-nil (IsOf fs sent)
+all-there fs sent ended (took ∷ tooks) all =
+    All-append (IsOf fs sent) (items_by fs took) (all_items (map (items_by fs) tooks))
     (All-from_recursion (IsOf fs sent) (items_by fs took)
     (are-of fs sent ended took (recursion_from_All (IsSent sent) took all.0)))
-    (all-joined fs sent ended tooks all.1)
+    (all-there fs sent ended tooks all.1)
 
 -- whether it is the file's item of that position: a row at its place, an end mark behind its rows
 abbrev is_item_at : ℕ → ℕ → Item → Bool
@@ -85,11 +88,11 @@ items-taken fs file p (m ∷ ms) =
     omega (arith, none, items-taken fs file p ms)
 
 all-taken : (fs : List Formula) (file p : ℕ) (tooks : List (List Taken)) →
-    count_by (is_item_at file p) (joined (map (items_by fs) tooks)) ≡ sum_by (λ took. count_by (is_at file p) took) tooks
+    count_by (is_item_at file p) (all_items (map (items_by fs) tooks)) ≡ sum_by (λ took. count_by (is_at file p) took) tooks
 all-taken fs file p [] = refl
 all-taken fs file p (took ∷ tooks) =
-    sum_by-append (λ x. cond (is_item_at file p x) 1 0) (items_by fs took) (joined (map (items_by fs) tooks))
-    ∙ ap (λ n. n + count_by (is_item_at file p) (joined (map (items_by fs) tooks))) (items-taken fs file p took)
+    sum_by-append (λ x. cond (is_item_at file p x) 1 0) (items_by fs took) (all_items (map (items_by fs) tooks))
+    ∙ ap (λ n. n + count_by (is_item_at file p) (all_items (map (items_by fs) tooks))) (items-taken fs file p took)
     ∙ ap (λ n. count_by (is_at file p) took + n) (all-taken fs file p tooks)
     ∙ sym (sum_by-cons (λ t. count_by (is_at file p) t) took tooks)
 
@@ -135,23 +138,23 @@ fits fs sent (item.End f n) of = (
   of.2 ∙ ap (λ l. length (rows_by fs l)) (sym (get_or_from_slice_get sent f of.0 [] of.1)),
 )
 
-pub all-of : (fs : List Formula) (g : GatheredView) → IsWhole g → All (IsOf fs g.sent) (joined (map (items_by fs) g.took))
+pub all-of : (fs : List Formula) (g : GatheredView) → IsWhole g → All (IsOf fs g.sent) (all_items (map (items_by fs) g.took))
 all-of fs g whole =
-    all-joined fs g.sent whole.sents g.took (recursion_from_All (λ took. All (IsSent g.sent) took) g.took whole.only)
+    all-there fs g.sent whole.sents g.took (recursion_from_All (λ took. All (IsSent g.sent) took) g.took whole.only)
 
 -- one item has the position of a message that was sent
 once : (fs : List Formula) (g : GatheredView) → IsWhole g → (test : Item → Bool) (file p : ℕ) (list : List Taken) →
     slice_get g.sent file ≡ Some list → p < length list → ((i : Item) → IsOf fs g.sent i → test i ≡ is_item_at file p i) →
-    count_by test (joined (map (items_by fs) g.took)) ≡ 1
+    count_by test (all_items (map (items_by fs) g.took)) ≡ 1
 once fs g whole test file p list got within same =
-    let items = joined (map (items_by fs) g.took) in
+    let items = all_items (map (items_by fs) g.took) in
     let Same : Item → Type 0 = λ i. test i ≡ is_item_at file p i in
     count-same test (is_item_at file p) items
     (recursion_from_All Same items (All-weaker (IsOf fs g.sent) Same same items (all-of fs g whole)))
     ∙ all-taken fs file p g.took ∙ whole.once file p list got within
 
 pub complete : (fs : List Formula) (g : GatheredView) → IsWhole g → All (λ list. row_count list ≤ 1000000) g.sent →
-    IsComplete (length g.sent) (joined (map (items_by fs) g.took))
+    IsComplete (length g.sent) (all_items (map (items_by fs) g.took))
 complete fs g whole few =
     let list : ℕ → List Taken = λ file. get_or g.sent file [] in
     let got : (file : ℕ) → file < length g.sent → slice_get g.sent file ≡ Some (list file)
@@ -169,5 +172,5 @@ complete fs g whole few =
           once fs g whole (is_row_at file place) file place (list file) (got file within) (omega (arith, long file within))
           (row-at fs g.sent file place (list file) (got file within) below);
       others = All-weaker (IsOf fs g.sent) (Fits (length g.sent) (size fs g.sent)) (fits fs g.sent)
-          (joined (map (items_by fs) g.took)) (all-of fs g whole);
+          (all_items (map (items_by fs) g.took)) (all-of fs g whole);
     }

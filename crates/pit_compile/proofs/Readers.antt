@@ -1,6 +1,7 @@
 -- What the answers of all readers say of the zone files.
 use Rattle.std.proofs.Common.{◌≡◌, ◌<◌, ◌≤◌, ◌+◌, ℕ, suc, List, [], ◌∷◌, Bool, true, false, nat_lt, Option, Some, None, Result, Ok, Err, MatchOption, refl, sym, ◌∙◌, ap, subst, arith, length, take, replicate}
 use Rattle.std.specs.Prelude.{slice_get, IfSome}
+use Rattle.std.specs.Option.{option_map}
 use Rattle.std.proofs.lemmas.Bool.Decides.{nat_tests}
 use Rattle.std.proofs.lemmas.List.{length-replicate}
 use Rattle.std.proofs.lemmas.Option.{MatchOption-at_none, MatchOption-at_some}
@@ -15,20 +16,20 @@ use Rattle.run_threads.specs.declared.read_fault.ReadFault.TheVariants as read
 use Rattle.zone_csv.specs.Zone.{blocks_of}
 use Rattle.zone_csv.specs.declared.row_fault.RowFault.{RowFault}
 use Rattle.pit_compile.specs.inner.ReadAnswers.{refusal_in, refusal_of}
-use Rattle.pit_compile.specs.Compiled.{AreGiven}
+use Rattle.pit_compile.specs.ZoneFiles.{AreGiven}
 use Rattle.pit_compile.specs.Compiling.{IsNotCompiled}
-use Rattle.pit_compile.specs.Rows.{fault_in, file_fault, of_row, sents_from}
+use Rattle.pit_compile.specs.Rows.{fault_in, file_fault, files_send}
 use Rattle.pit_compile.specs.declared.settings.SettingsFault.{SettingsFault}
 use Rattle.pit_compile.specs.declared.refusal.Refusal.{Refusal}
 use Rattle.pit_compile.specs.declared.refusal.Refusal.TheVariants.{Settings, TooLong, Row}
 
 -- a file that was read is not too long, and has the fault of its rows
 fault_read : (grid : Grid) (n : ℕ) (left : Option (List ℕ)) (fault : Option RowFault) (sent : List Taken)
-    (h : IsReadTo grid n left fault sent) → file_fault grid n h.text ≡ of_row n fault
+    (h : IsReadTo grid n left fault sent) → file_fault grid n h.text ≡ option_map (Row n) fault
 fault_read grid n left fault sent h =
     let short : length h.text ≤ most_bytes = h.short in
     let test : nat_lt most_bytes (length h.text) ≡ false = grind (arith, nat_tests) in
-    rw test (ap (of_row n) h.fault_is)
+    rw test (ap (option_map (Row n)) h.fault_is)
 
 too_long : (grid : Grid) (n : ℕ) (text : List ℕ) → most_bytes < length text → file_fault grid n text ≡ Some (TooLong n)
 too_long grid n text h = let test : nat_lt most_bytes (length text) ≡ true = grind (arith, nat_tests) in rw test refl
@@ -61,7 +62,7 @@ pub record AreAllRead (grid : Grid) (n : ℕ) (lefts : List (Option (List ℕ)))
   pub texts : List (List ℕ)
   pub given : AreGiven lefts texts
   pub no_fault : fault_in texts grid n ≡ None
-  pub sent : sents ≡ sents_from n grid texts
+  pub sent : sents ≡ files_send n grid texts
 
 -- the reader of this file failed, and the refusal says why
 pub record IsUnread (grid : Grid) (refusal : Refusal) : Type 0 where

@@ -15,7 +15,7 @@ use Rattle.rows.specs.declared.item.Valued.{Valued}
 use Rattle.zone_csv.specs.Zone.{blocks_of}
 use Rattle.pit_compile.specs.inner.ModelRows.{HasPlace, AreModelRows}
 use Rattle.pit_compile.proofs.SentRows.{rows-counted}
-use Rattle.pit_compile.specs.Rows.{rows_from, rows_in, rows_of, sents_from}
+use Rattle.pit_compile.specs.Rows.{rows_from, rows_in, model_rows, files_send}
 
 -- what holds of every zone file
 pub record AreZoneFiles : Type 0 where
@@ -60,10 +60,10 @@ all_rows plan files (text ∷ texts) n there most =
     (file_rows plan n 0 (blocks_of plan.grid n text) (omega arith) (omega arith) (files.own plan.grid n text (omega arith)))
     (all_rows plan files texts (n + 1) (omega arith) most)
 
-pub model_rows : (plan : PlanParts) (texts : List (List ℕ)) → AreZoneFiles → length texts ≡ length plan.cones → length plan.cones ≤ 64
-    → AreModelRows plan (rows_of plan texts)
-model_rows plan texts files count most =
-    let rows = rows_of plan texts in
+pub are_model_rows : (plan : PlanParts) (texts : List (List ℕ)) → AreZoneFiles → length texts ≡ length plan.cones → length plan.cones ≤ 64
+    → AreModelRows plan (model_rows plan texts)
+are_model_rows plan texts files count most =
+    let rows = model_rows plan texts in
     let counted = count_there plan.grid (formulas_of_plan plan) files texts 0 in
     let all = all_rows plan files texts 0 (omega arith) most in
     record {
@@ -80,7 +80,7 @@ rows_sent formulas file n [] = refl
 rows_sent formulas file n (b ∷ blocks) = ap (λ rows. row_by formulas file n b ∷ rows) (rows_sent formulas file (n + 1) blocks)
 
 pub sent_rows : (grid : Grid) (formulas : List Formula) (n : ℕ) (texts : List (List ℕ))
-    → flat_map (rows_by formulas) (sents_from n grid texts) ≡ rows_in texts grid formulas n
+    → flat_map (rows_by formulas) (files_send n grid texts) ≡ rows_in texts grid formulas n
 sent_rows grid formulas n [] = refl
 sent_rows grid formulas n (text ∷ texts) =
     rw (rows_sent formulas n 0 (blocks_of grid n text))
@@ -92,9 +92,9 @@ few_sent file n blocks =
     sym (rows-counted [] (sent_from file n blocks)) ∙ ap length (rows_sent [] file n blocks) ∙ count_from [] file n blocks
 
 pub few_sents : (grid : Grid) → AreZoneFiles → (n : ℕ) (texts : List (List ℕ))
-    → All (λ sent. row_count sent ≤ 1000000) (sents_from n grid texts)
+    → All (λ sent. row_count sent ≤ 1000000) (files_send n grid texts)
 few_sents grid files n [] = All-nil (λ sent. row_count sent ≤ 1000000)
 few_sents grid files n (text ∷ texts) =
     let mine = files.few grid n text in
     let count = few_sent n 0 (blocks_of grid n text) in
-    All-cons (λ sent. row_count sent ≤ 1000000) _ (sents_from (n + 1) grid texts) (omega arith) (few_sents grid files (n + 1) texts)
+    All-cons (λ sent. row_count sent ≤ 1000000) _ (files_send (n + 1) grid texts) (omega arith) (few_sents grid files (n + 1) texts)

@@ -31,9 +31,9 @@ none_where_suits plan files formulas settings Capacity fit h = h.2 fit.capacity_
 none_where_suits plan files formulas settings Destinations fit h = h.3 fit.destinations_fit
 
 -- the fault that an answer tells
-abbrev fault_in : SettingsFault → Result (Unit {0}) SettingsFault → SettingsFault
-fault_in other (Ok done) = other
-fault_in other (Err fault) = fault
+abbrev told_fault : SettingsFault → Result (Unit {0}) SettingsFault → SettingsFault
+told_fault other (Ok done) = other
+told_fault other (Err fault) = fault
 
 -- an answer that tells a fault of the settings, or that they suit, tells it exactly
 pub told_exactly : (plan : PlanParts) (files : ℕ) (formulas : List Formula) (settings : Settings) (answer : Result (Unit {0}) SettingsFault)
@@ -42,6 +42,6 @@ pub told_exactly : (plan : PlanParts) (files : ℕ) (formulas : List Formula) (s
 told_exactly plan files formulas settings (Ok done) fit refused kind =
     (λ e. absurd cc, λ h. absurd (none_where_suits plan files formulas settings kind fit h))
 told_exactly plan files formulas settings (Err fault) fit refused kind = (
-  λ e. subst (λ k. IsSettingsFault plan files formulas settings k) (ap (fault_in fault) e) refused,
+  λ e. subst (λ k. IsSettingsFault plan files formulas settings k) (ap (told_fault fault) e) refused,
   λ h. ap Err (only_one plan files formulas settings fault kind refused h),
 )

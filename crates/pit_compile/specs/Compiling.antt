@@ -5,7 +5,7 @@ use Rattle.pit_compile.specs.Verdict.{IsAccepted}
 use Rattle.pit_compile.specs.declared.compiling.Compiled.{Compiled}
 use Rattle.pit_compile.specs.declared.refusal.Refusal.{Refusal}
 use Rattle.pit_compile.specs.declared.refusal.Refusal.TheVariants.{Settings, NoThread, FeedFailed, TooLong, Row, Same, SinkFailed, OutOfMemory}
-use Rattle.pit_compile.specs.Compiled.{AreGiven, instance_from, HasPassed, IsVerdict, IsFeedFault}
+use Rattle.pit_compile.specs.ZoneFiles.{AreGiven, instance_from, HasPassed, IsVerdict, IsFeedFault}
 
 -- the zone files are accepted, they went through the lane, and this is their instance
 pub record IsCompiled (plan : PlanParts) (lefts : List (Option (List ℕ))) (valuers : ℕ) (c : Compiled) : Type 0 where

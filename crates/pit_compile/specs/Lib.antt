@@ -1,5 +1,3 @@
-pub mod Answers
-pub mod Compiled
 pub mod Compiling
 pub mod FaultText
 pub mod Rows
@@ -8,5 +6,7 @@ pub mod Settings
 pub mod SinkAnswers
 pub mod SinkLent
 pub mod Sinks
+pub mod Starts
 pub mod Verdict
+pub mod ZoneFiles
 pub mod inner

@@ -1,5 +1,6 @@
 -- The rows of the zone files, valued, what their readers send, and the first fault among the files.
 use Rattle.std.specs.Prelude.{ℕ, ◌+◌, List, [], ◌∷◌, ◌++◌, length, nat_lt, Option, Some, None, if◌then◌else◌}
+use Rattle.std.specs.Option.{option_map, option_or}
 use Rattle.lane.specs.Message.{sent_from}
 use Rattle.lane.specs.declared.message.Taken.{Taken}
 use Rattle.pit_parts.specs.PlanFormulas.{formulas_of_plan}
@@ -26,33 +27,23 @@ rows_in [] grid formulas n = []
 rows_in (text ∷ texts) grid formulas n = rows_from (blocks_of grid n text) formulas n 0 ++ rows_in texts grid formulas (n + 1)
 
 -- all rows of a model
-abbrev pub rows_of : PlanParts → List (List ℕ) → List Valued
-rows_of plan texts = rows_in texts plan.grid (formulas_of_plan plan) 0
+abbrev pub model_rows : PlanParts → List (List ℕ) → List Valued
+model_rows plan texts = rows_in texts plan.grid (formulas_of_plan plan) 0
 
 -- what each of these zone files sends into the lane, the first of them being file n: its rows, and then its end mark
-abbrev pub sents_from : ℕ → Grid → List (List ℕ) → List (List Taken)
-sents_from n grid [] = []
-sents_from n grid (text ∷ texts) = sent_from n 0 (blocks_of grid n text) ∷ sents_from (n + 1) grid texts
+abbrev pub files_send : ℕ → Grid → List (List ℕ) → List (List Taken)
+files_send n grid [] = []
+files_send n grid (text ∷ texts) = sent_from n 0 (blocks_of grid n text) ∷ files_send (n + 1) grid texts
 
 -- what each zone file of a model sends
-abbrev pub sents_of : PlanParts → List (List ℕ) → List (List Taken)
-sents_of plan texts = sents_from 0 plan.grid texts
-
--- a row's fault as the file's
-abbrev pub of_row : ℕ → Option RowFault → Option Refusal
-of_row file None = None
-of_row file (Some fault) = Some (Row file fault)
+abbrev pub model_sends : PlanParts → List (List ℕ) → List (List Taken)
+model_sends plan texts = files_send 0 plan.grid texts
 
 -- the fault of a zone file: it is too long, or one of its rows is faulty
 abbrev pub file_fault : Grid → ℕ → List ℕ → Option Refusal
-file_fault grid n text = if nat_lt most_bytes (length text) then Some (TooLong n) else of_row n (fault_of grid n text)
-
--- the first that is there
-abbrev pub first_of_two : Option Refusal → Option Refusal → Option Refusal
-first_of_two (Some refusal) other = Some refusal
-first_of_two None other = other
+file_fault grid n text = if nat_lt most_bytes (length text) then Some (TooLong n) else option_map (Row n) (fault_of grid n text)
 
 -- the fault of the least file that has one
 abbrev pub fault_in : List (List ℕ) → Grid → ℕ → Option Refusal
 fault_in [] grid n = None
-fault_in (text ∷ texts) grid n = first_of_two (file_fault grid n text) (fault_in texts grid (n + 1))
+fault_in (text ∷ texts) grid n = option_or (file_fault grid n text) (fault_in texts grid (n + 1))

@@ -4,7 +4,7 @@ use Rattle.lane.specs.Whole.{GatheredView}
 use Rattle.pit_parts.specs.Plan.{PlanParts}
 use Rattle.pit_parts.specs.declared.formulas.formula.Formula.{Formula}
 use Rattle.pit_parts.specs.declared.settings.Settings.{Settings as Chosen}
-use Rattle.pit_compile.specs.Compiled.{AreGiven, HasPassed, IsFeedFault, IsVerdict, instance_from}
+use Rattle.pit_compile.specs.ZoneFiles.{AreGiven, HasPassed, IsFeedFault, IsVerdict, instance_from}
 use Rattle.devices.specs.SinkState.{SinkState}
 use Rattle.minelib_writing.specs.declared.text_name.TextName.{TextName}
 use Rattle.pit_compile.specs.Settings.{IsSettingsFault}

@@ -4,7 +4,7 @@ use Rattle.precedence.specs.Identifier.{blocks_of_rows, is_same_place, IsFirstAg
 use Rattle.pit_parts.specs.Plan.{PlanParts}
 use Rattle.pit_parts.specs.declared.block.Block.{Block}
 use Rattle.rows.specs.declared.item.Valued.{Valued}
-use Rattle.pit_compile.specs.Rows.{rows_of, fault_in}
+use Rattle.pit_compile.specs.Rows.{model_rows, fault_in}
 use Rattle.pit_compile.specs.declared.refusal.Refusal.{Refusal}
 use Rattle.pit_compile.specs.declared.refusal.Refusal.TheVariants.{Settings, NoThread, FeedFailed, TooLong, Row, Same, SinkFailed, OutOfMemory}
 use Rattle.pit_compile.specs.declared.refusal.RowAt.{RowAt}
@@ -17,7 +17,7 @@ AreApart blocks = (i j : ℕ) (d : Block) → i < j → j < length blocks
 -- accepted: no file has a fault, and no block stands twice
 pub record IsAccepted (plan : PlanParts) (texts : List (List ℕ)) : Type 0 where
   pub no_fault : fault_in texts plan.grid 0 ≡ None
-  pub apart : AreApart (blocks_of_rows (rows_of plan texts))
+  pub apart : AreApart (blocks_of_rows (model_rows plan texts))
 
 -- this is the row at a position of the list: its file, and its place with the header and the count from 1
 abbrev pub IsRowAt : List Valued → ℕ → RowAt → Type 0
@@ -36,7 +36,7 @@ pub record IsFirstRepeat (rows : List Valued) (first again : RowAt) : Type 0 whe
 abbrev pub IsRefusedBy : PlanParts → List (List ℕ) → Refusal → Type 0
 IsRefusedBy plan texts (TooLong file) = fault_in texts plan.grid 0 ≡ Some (TooLong file)
 IsRefusedBy plan texts (Row file fault) = fault_in texts plan.grid 0 ≡ Some (Row file fault)
-IsRefusedBy plan texts (Same first again) = (fault_in texts plan.grid 0 ≡ None) × IsFirstRepeat (rows_of plan texts) first again
+IsRefusedBy plan texts (Same first again) = (fault_in texts plan.grid 0 ≡ None) × IsFirstRepeat (model_rows plan texts) first again
 IsRefusedBy plan texts (Settings kind) = ⊥
 IsRefusedBy plan texts NoThread = ⊥
 IsRefusedBy plan texts (FeedFailed file) = ⊥

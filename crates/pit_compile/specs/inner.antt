@@ -1,4 +1,3 @@
-pub mod Collecting
 pub mod ModelRows
 pub mod ReadAnswers
 pub mod Repeats

@@ -14,7 +14,7 @@ ghost use Rattle.run_threads.specs.Reading.{AreRead};
 ghost use Rattle.valuers.specs.Valuing.{items_by};
 
 use crate::collecting::collect;
-use crate::instance_building::instance_of;
+use crate::instance_building::instance_of_rows;
 use crate::read_answers::require_read;
 use crate::refusal::Refusal;
 use crate::settings::{Budget, require_settings};
@@ -131,6 +131,6 @@ fn compiled_of<F: Feed>(
         return Err(Refusal::OutOfMemory);
     }
     let rows = collect(alloc, &gathered, plan, items)?;
-    let instance = instance_of(alloc, rows, plan)?;
+    let instance = instance_of_rows(alloc, rows, plan)?;
     Ok(Compiled { gathered, instance })
 }

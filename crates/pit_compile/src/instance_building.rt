@@ -24,7 +24,7 @@ use std::alloc::Global;
 ///
 /// - `Same`: a block stands twice.
 /// - `OutOfMemory`: memory was refused.
-pub fn instance_of(
+pub fn instance_of_rows(
     alloc: Global,
     rows: RowLists,
     plan: &Plan,

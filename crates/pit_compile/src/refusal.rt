@@ -2,7 +2,7 @@
 
 ghost use Rattle.std.specs.Prelude.{◌≡◌};
 ghost use Rattle.pit_compile.specs.declared.refusal.Refusal.TheVariants.{Settings as OfSettings, OutOfMemory};
-ghost use Rattle.pit_compile.specs.Answers.{refused_start};
+ghost use Rattle.pit_compile.specs.Starts.{refused_start};
 
 use crate::settings::SettingsFault;
 use minelib_writing::text_name::TextName;

@@ -80,7 +80,7 @@ pub fn cut_at_most(alloc: Global, input: &[u8], most: usize) -> Result<Option<Pi
 }
 
 /// The plan of an input, as a part of the input itself. `cut` copies it.
-pub fn plan_text(input: &[u8]) -> &[u8]
+pub fn plan_piece(input: &[u8]) -> &[u8]
     ensures { result.now ≡ plan_piece input.now }
 {
     first_piece(input).0

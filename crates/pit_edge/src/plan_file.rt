@@ -7,7 +7,7 @@ ghost use Rattle.pit_edge.specs.PlanFile.{HasPlan, IsNoPlanAt, IsNoPlanFile, IsP
 ghost use Rattle.pit_edge.specs.declared.refused.source.Source.TheVariants.{Plan as APlan};
 
 use crate::input::read_source;
-use crate::plan_text::plan_of;
+use crate::plan_text::stated_plan;
 use crate::refused::Refused;
 use crate::refused::source::Source;
 use devices::feeds::feed::{Feed, FeedFault};
@@ -63,5 +63,5 @@ fn plan_of_feed<F: Feed>(alloc: Global, feed: &mut F) -> Result<Plan, Refused>
         → F.failures feed.new ≡ F.failures feed.old + 1 }
 {
     let text = read_source(alloc, feed, Source::Plan, MAX_PLAN_BYTES as u64)?;
-    plan_of(alloc, text.as_slice())
+    stated_plan(alloc, text.as_slice())
 }

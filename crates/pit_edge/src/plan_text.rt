@@ -20,7 +20,7 @@ use std::alloc::Global;
 /// - `Plan`: it has a faulty record.
 /// - `Run`: memory was refused.
 #[tactic(auto, using(crate::proofs::Ends::faulty_plan))]
-pub fn plan_of(alloc: Global, text: &[u8]) -> Result<Plan, Refused>
+pub fn stated_plan(alloc: Global, text: &[u8]) -> Result<Plan, Refused>
     ensures plan { IfOk result (λ plan. (length text.now ≤ MAX_PLAN_BYTES)
         × (planned text.now ≡ Ok plan)) }
     ensures refused { IfErr result (IsNoPlan text.now) }

@@ -57,12 +57,12 @@ impl Refused {
             Refused::NotUtf8 => USAGE,
             Refused::FeedFailed(_) => DEVICE,
             Refused::TooLong(_) | Refused::Plan(_) | Refused::Text(_) => REFUSED,
-            Refused::Run(refusal) => status_of_run(refusal),
+            Refused::Run(refusal) => run_status(refusal),
         }
     }
 }
 
-fn status_of_run(refusal: &Refusal) -> u8
+fn run_status(refusal: &Refusal) -> u8
     ensures { result ≡ run_status refusal.now }
 {
     match refusal {

@@ -26,12 +26,12 @@ pub enum Job {
 /// Why the words state no job.
 #[derive(Debug, Drop, Error)]
 pub enum JobFault {
-    /// Memory was refused.
-    #[error("OutOfMemory")]
-    OutOfMemory,
     /// The words are not taken, or ask for help or the version. The error's text is for the user.
     #[error("{0}")]
     Line(clap::Error),
+    /// Memory was refused.
+    #[error("OutOfMemory")]
+    OutOfMemory,
 }
 
 impl From<AllocError> for JobFault {

@@ -77,3 +77,9 @@ pub const MAX_VALUERS: usize = 64;
 
 /// The greatest number of places of a run's lane.
 pub const MAX_CAPACITY: usize = 4096;
+
+/// The number of valuers where none is asked for.
+pub const USUAL_VALUERS: usize = 4;
+
+/// The number of places of the lane where none is asked for.
+pub const USUAL_CAPACITY: usize = 64;

@@ -1,7 +1,7 @@
 -- One feed that tells its bytes gives one text.
 use Rattle.std.specs.Prelude.{◌≡◌, ℕ, List, [], ◌∷◌, Option, Some}
 use Rattle.std.proofs.Common.{ap, subst}
-use Rattle.pit_compile.specs.Compiled.{AreGiven}
+use Rattle.pit_compile.specs.ZoneFiles.{AreGiven}
 
 one_given : (zone : List ℕ) (texts : List (List ℕ)) → AreGiven (Some zone ∷ []) texts
     → texts ≡ zone ∷ []

@@ -5,7 +5,7 @@ ghost use Rattle.mine_instance.specs.Instance.{Instance as AnInstance};
 ghost use Rattle.minelib_reading.specs.Denotes.{Denotes, denoted};
 ghost use Rattle.pit_units.specs.OrMemory.{Gives};
 ghost use Rattle.minelib_writing.specs.Written.{text_blocks};
-ghost use Rattle.pit_compile.specs.Compiled.{instance_from};
+ghost use Rattle.pit_compile.specs.ZoneFiles.{instance_from};
 ghost use Rattle.pit_compile.specs.Verdict.{IsAccepted};
 
 use crate::tests::models::destinations_of;

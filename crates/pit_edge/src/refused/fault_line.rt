@@ -7,7 +7,7 @@ ghost use Rattle.pit_edge.specs.PlanText.{IsNoPlan};
 ghost use Rattle.pit_edge.specs.Refused.{refused_text};
 ghost use Rattle.pit_parts.specs.declared.ranges.TheConstants.{MAX_PLAN_BYTES};
 
-use crate::plan_text::plan_of;
+use crate::plan_text::stated_plan;
 use crate::refused::Refused;
 use crate::refused::status::RESOURCES;
 use pit_compile::refusal::Refusal;
@@ -26,7 +26,7 @@ pub fn plan_from(alloc: Global, text: &[u8], lines: &mut Vec<u8>) -> Result<Plan
     ensures refused { IfErr result (EndsBy (IsNoPlan text.now) lines.old.items lines.new.items) }
     ensures ends { IfErr result (EndsRefused lines.old.items lines.new.items) }
 {
-    match plan_of(alloc, text) {
+    match stated_plan(alloc, text) {
         Ok(plan) => Ok(plan),
         Err(refused) => Err(tell(alloc, &refused, lines)),
     }

@@ -1,6 +1,6 @@
 //! Starting the threads of a run, until a start is refused.
 
-ghost use Rattle.std.specs.Prelude.{◌≡◌, ◌+◌, ◌<◌, ◌≤◌, [], length, map, vec_len, vec_capacity, IsFalse, IfSome};
+ghost use Rattle.std.specs.Prelude.{◌≡◌, ◌≤◌, [], length, map, vec_len, vec_capacity, IsFalse, IfSome};
 ghost use Rattle.std.specs.List.{All};
 ghost use Rattle.std.specs.Prelude.{◌++◌, true, drop};
 ghost use Rattle.lane.specs.MessageKinds.{is_done};

@@ -1,20 +1,20 @@
 use Rattle.std.proofs.lemmas.Result.{err_from_is_err_and}
 use Rattle.std.proofs.Common.{◌≡◌, ◌++◌, ◌∙◌, Err, length, subst, sym, ap, rules}
-use Rattle.pit_compile.specs.Compiled.{HasPassed, instance_from}
+use Rattle.pit_compile.specs.ZoneFiles.{HasPassed, instance_from}
 use Rattle.pit_compile.specs.Settings.{IsSettingsFault}
 use Rattle.pit_compile.specs.Verdict.{IsAccepted}
 use Rattle.pit_compile.specs.declared.refusal.Refusal.TheVariants.{Settings, OutOfMemory}
 use Rattle.pit_parts.specs.Destinations.{formulas_of}
+use Rattle.pit_parts.specs.declared.ranges.TheConstants.{USUAL_VALUERS}
 use Rattle.pit_commands.specs.Printed.{pipe_settings, PipeRefused}
 use Rattle.pit_edge.specs.Sections.{printed}
-use Rattle.pit_commands.proofs.Lent.{given_texts, refused_by, none_where_suits, refusal_in, fault_in, kind_in}
+use Rattle.pit_commands.proofs.Lent.{given_texts, refused_by, refusal_in, told_fault, kind_in}
 use Rattle.pit_commands.proofs.pipe_form.pipe.Goals as goal
 
 pub returns-clause-settings : goal.returns-clause-settings
 returns-clause-settings g c = λ kind. (
   λ e. absurd cc,
-  λ h. absurd (none_where_suits c.args.plan.now (length c.args.zones.now)
-      (formulas_of c.args.destinations.now) pipe_settings kind c.in_ok-require_settings.ensures.fit h),
+  λ h. let clash = sym c.in_ok-require_settings.was ∙ (c.require_settings.ensures.exact kind).1 h in absurd cc,
 )
 
 pub returns-in_err-require_settings-clause-settings : goal.returns-in_err-require_settings-clause-settings
@@ -23,7 +23,7 @@ returns-in_err-require_settings-clause-settings g c =
     λ kind. (
       λ e. (c.require_settings.ensures.exact kind).0
           (c.in_err-require_settings.was ∙ ap (λ r. Err (kind_in (refusal_in r))) (sym told ∙ e)),
-      λ h. told ∙ ap (λ r. Err (Settings (fault_in r))) (sym c.in_err-require_settings.was ∙ (c.require_settings.ensures.exact kind).1 h),
+      λ h. told ∙ ap (λ r. Err (Settings (told_fault r))) (sym c.in_err-require_settings.was ∙ (c.require_settings.ensures.exact kind).1 h),
     )
 
 pub returns-in_err-feeds-clause-settings : goal.returns-in_err-feeds-clause-settings
@@ -31,8 +31,7 @@ returns-in_err-feeds-clause-settings g c =
     let told : c.from_residual-in_err-feeds.result ≡ Err OutOfMemory = search rules in
     λ kind. (
       λ e. let clash = sym told ∙ e in absurd cc,
-      λ h. absurd (none_where_suits c.args.plan.now (length c.args.zones.now)
-          (formulas_of c.args.destinations.now) pipe_settings kind c.in_ok-require_settings.ensures.fit h),
+      λ h. let clash = sym c.in_ok-require_settings.was ∙ (c.require_settings.ensures.exact kind).1 h in absurd cc,
     )
 
 pub returns-in_err-compiled-clause-settings : goal.returns-in_err-compiled-clause-settings
@@ -42,8 +41,7 @@ returns-in_err-compiled-clause-settings g c =
       λ e. subst (λ n. IsSettingsFault c.args.plan.now n (formulas_of c.args.destinations.now) pipe_settings kind)
           c.in_ok-feeds.ensures.count
           ((c.compile.ensures.settings kind).0 (c.in_err-compiled.was ∙ ap (λ r. Err (refusal_in r)) (sym told ∙ e))),
-      λ h. absurd (none_where_suits c.args.plan.now (length c.args.zones.now)
-          (formulas_of c.args.destinations.now) pipe_settings kind c.in_ok-require_settings.ensures.fit h),
+      λ h. let clash = sym c.in_ok-require_settings.was ∙ (c.require_settings.ensures.exact kind).1 h in absurd cc,
     )
 
 pub returns-in_err-print-clause-settings : goal.returns-in_err-print-clause-settings
@@ -52,8 +50,7 @@ returns-in_err-print-clause-settings g c =
     let told : c.from_residual-in_err-print.result ≡ Err OutOfMemory = cc (p.1, p.2) in
     λ kind. (
       λ e. let clash = sym told ∙ e in absurd cc,
-      λ h. absurd (none_where_suits c.args.plan.now (length c.args.zones.now)
-          (formulas_of c.args.destinations.now) pipe_settings kind c.in_ok-require_settings.ensures.fit h),
+      λ h. let clash = sym c.in_ok-require_settings.was ∙ (c.require_settings.ensures.exact kind).1 h in absurd cc,
     )
 
 pub returns-in_err-compiled-clause-refused : goal.returns-in_err-compiled-clause-refused
@@ -69,7 +66,7 @@ returns-in_err-compiled-clause-refused g c =
 pub returns-clause-passed : goal.returns-clause-passed
 returns-clause-passed g c =
     let done = c.in_ok-compiled.ensures.done in
-    subst (λ texts. HasPassed c.args.plan.now texts 4 c.in_ok-compiled.compiled.gathered)
+    subst (λ texts. HasPassed c.args.plan.now texts USUAL_VALUERS c.in_ok-compiled.compiled.gathered)
     (given_texts _ c.args.zones.now done.texts c.in_ok-feeds.ensures.left done.given) done.passed
 
 pub returns-clause-printed : goal.returns-clause-printed

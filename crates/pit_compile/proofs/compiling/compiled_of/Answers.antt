@@ -79,8 +79,8 @@ model g c =
     (length-map c.args._feeds.value.items g.F.Feed.left ∙ c.requires.files) c.requires.few c.requires.read
     (ap (refusal_in 0) (sym c.as_slice.ensures.value) ∙ c.in_ok-require_read.ensures.read) c.in_ok-rows.ensures
 
-pub instance_of-requires : goal.instance_of-requires
-instance_of-requires g c = (model g (goal.at.instance_of-requires g c).In_ok-rows).model
+pub instance_of_rows-requires : goal.instance_of_rows-requires
+instance_of_rows-requires g c = (model g (goal.at.instance_of_rows-requires g c).In_ok-rows).model
 
 pub returns-in_err-instance-clause-refused : goal.returns-in_err-instance-clause-refused
 returns-in_err-instance-clause-refused g c =

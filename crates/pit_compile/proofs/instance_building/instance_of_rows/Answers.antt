@@ -6,7 +6,7 @@ use Rattle.std.proofs.lemmas.List.{length-map}
 use Rattle.std.proofs.lemmas.List.Elements.{All-map}
 use Rattle.mine_instance.specs.OfModel.{values_of}
 use Rattle.pit_compile.proofs.Apart.{apart, numbered_too}
-use Rattle.pit_compile.proofs.instance_building.instance_of.Goals as goal
+use Rattle.pit_compile.proofs.instance_building.instance_of_rows.Goals as goal
 
 pub new-requires : goal.new-requires
 new-requires c =

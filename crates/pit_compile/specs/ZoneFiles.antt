@@ -1,4 +1,4 @@
--- What the first half of a run makes of zone files, or why it makes nothing.
+-- What a run has of its zone files: their texts, what passed the lane, the instance, or why there is none.
 use Rattle.std.specs.Prelude.{◌≡◌, ℕ, Bool, false, List, length, take, slice_get, Option, Some, None, IfSome}
 use Rattle.std.specs.List.{AllZip}
 use Rattle.lane.specs.Whole.{GatheredView, IsWhole}
@@ -6,7 +6,7 @@ use Rattle.mine_instance.specs.OfModel.{instance}
 use Rattle.mine_instance.specs.Instance.{Instance}
 use Rattle.pit_parts.specs.Plan.{PlanParts}
 use Rattle.precedence.specs.Identifier.{blocks_of_rows}
-use Rattle.pit_compile.specs.Rows.{rows_of, sents_of, fault_in}
+use Rattle.pit_compile.specs.Rows.{model_rows, model_sends, fault_in}
 use Rattle.pit_compile.specs.Verdict.{IsRefusedBy}
 use Rattle.pit_compile.specs.declared.refusal.Refusal.{Refusal}
 
@@ -16,11 +16,11 @@ AreGiven lefts texts = AllZip (λ left text. IfSome left (λ bytes. text ≡ byt
 
 -- the instance of a plan and these zone files
 abbrev pub instance_from : PlanParts → List (List ℕ) → Instance
-instance_from plan texts = instance plan (blocks_of_rows (rows_of plan texts))
+instance_from plan texts = instance plan (blocks_of_rows (model_rows plan texts))
 
 -- what went through the lane: of each zone file its rows and its end mark, whole, to so many valuers
 pub record HasPassed (plan : PlanParts) (texts : List (List ℕ)) (valuers : ℕ) (g : GatheredView) : Type 0 where
-  pub sent : g.sent ≡ sents_of plan texts
+  pub sent : g.sent ≡ model_sends plan texts
   pub takers : length g.took ≡ valuers
   pub whole : IsWhole g
 

@@ -1,7 +1,0 @@
--- The items of a run.
-use Rattle.std.specs.Prelude.{List}
-use Rattle.std.specs.List.{flat_map}
-
--- the lists, one after the other
-abbrev pub joined : {A : Type 0} → List (List A) → List A
-joined lists = flat_map (λ list. list) lists
