@@ -8,6 +8,7 @@ ghost use Rattle.minelib_writing.specs.Written.{text_blocks};
 ghost use Rattle.pit_compile.specs.ZoneFiles.{instance_from};
 ghost use Rattle.pit_compile.specs.Verdict.{IsAccepted};
 
+use crate::tests::headers::pcpsp;
 use crate::tests::models::destinations_of;
 use crate::tests::watch::{OPEN, Watch};
 use devices::feeds::slice_feed::SliceFeed;
@@ -93,8 +94,12 @@ pub fn block_file<R: Threads + Wait + Sync>(
 
 const TWO_BLOCKS: &[u8] = b"0 0 0 0 1 0 0\n1 0 0 1 1 0 0\n";
 
-const TWO_PCPSP: &[u8] =
-    b"NAME: two\nTYPE: PCPSP\nNBLOCKS: 2\nNPERIODS: 1\nNDESTINATIONS: 1\nNRESOURCE_SIDE_CONSTRAINTS: 0\nNGENERAL_SIDE_CONSTRAINTS: 0\nDISCOUNT_RATE: 0.1\nOBJECTIVE_FUNCTION:\n0 -15\n1 -15\nRESOURCE_CONSTRAINT_COEFFICIENTS:\nRESOURCE_CONSTRAINT_LIMITS:\n";
+const TWO_PCPSP: &str = pcpsp! {
+    name: "two", blocks: 2, periods: 1, destinations: 1, resources: 0, rate: 0.1,
+    values: ["0 -15", "1 -15"],
+    coefs: [],
+    limits: [],
+};
 
 // The number of arcs, or `None` where the texts are refused.
 fn arcs_of(alloc: Global, blocks: &[u8], prec: &[u8], pcpsp: &[u8]) -> Option<usize> {
@@ -110,7 +115,10 @@ fn arcs_are_counted(rt: HostRuntime) {
         (b"0 1 1\n1 0\n".as_slice(), Some(1)),
         (b"0 2 1\n1 0\n", None),
     ] {
-        assert_eq!(rt; arcs_of(rt.alloc(), TWO_BLOCKS, prec, TWO_PCPSP), arcs);
+        assert_eq!(rt;
+            arcs_of(rt.alloc(), TWO_BLOCKS, prec, TWO_PCPSP.as_bytes()),
+            arcs
+        );
     }
 }
 

@@ -2,6 +2,7 @@
 
 mod ending;
 mod files;
+pub mod headers;
 mod input;
 mod job;
 mod lines;

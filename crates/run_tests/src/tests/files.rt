@@ -1,5 +1,6 @@
 //! The commands on files: what `compile` and `check` append, and their statuses.
 
+use crate::tests::headers::pcpsp;
 use crate::tests::models::destinations_of;
 use crate::tests::watch::{OPEN, Watch};
 use devices::feeds::feed::FeedFault;
@@ -117,7 +118,12 @@ const COUNTED: [(&str, &str); 3] = [
     ),
     (
         "counted.pcpsp",
-        "NAME: one\nTYPE: PCPSP\nNBLOCKS: 10\nNPERIODS: 1\nNDESTINATIONS: 1\nNRESOURCE_SIDE_CONSTRAINTS: 0\nNGENERAL_SIDE_CONSTRAINTS: 0\nDISCOUNT_RATE: 0.1\nOBJECTIVE_FUNCTION:\n0 -15\n1 -15\n2 -15\n3 -15\n4 -15\n5 -15\n6 -15\n7 -15\n8 -15\n9 -15\nRESOURCE_CONSTRAINT_COEFFICIENTS:\nRESOURCE_CONSTRAINT_LIMITS:\n",
+        pcpsp! {
+            name: "one", blocks: 10, periods: 1, destinations: 1, resources: 0, rate: 0.1,
+            values: ["0 -15", "1 -15", "2 -15", "3 -15", "4 -15", "5 -15", "6 -15", "7 -15", "8 -15", "9 -15"],
+            coefs: [],
+            limits: [],
+        },
     ),
 ];
 

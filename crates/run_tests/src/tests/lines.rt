@@ -1,5 +1,6 @@
 //! The lines of refused plans and runs, with their statuses, and what the pipe form prints.
 
+use crate::tests::headers::PRINTED;
 use crate::tests::models::destinations_of;
 use crate::tests::watch::{OPEN, Watch};
 use minelib_text::text_name::TextName;
@@ -44,14 +45,15 @@ fn piped<R: Threads + Wait + Sync>(
     Ok((answered, out))
 }
 
-const PRINTED: &[u8] =
-    b"before\n== blocks\n0 0 0 0 1000 5000 0\n== prec\n0 0\n== upit\nNAME: one\nTYPE: UPIT\nNBLOCKS: 1\nOBJECTIVE_FUNCTION:\n0 12000\n== pcpsp\nNAME: one\nTYPE: PCPSP\nNBLOCKS: 1\nNPERIODS: 1\nNDESTINATIONS: 1\nNRESOURCE_SIDE_CONSTRAINTS: 0\nNGENERAL_SIDE_CONSTRAINTS: 0\nDISCOUNT_RATE: 0.1\nOBJECTIVE_FUNCTION:\n0 12000\nRESOURCE_CONSTRAINT_COEFFICIENTS:\nRESOURCE_CONSTRAINT_LIMITS:\n== cpit\nNAME: one\nTYPE: CPIT\nNBLOCKS: 1\nNPERIODS: 1\nNRESOURCE_SIDE_CONSTRAINTS: 0\nDISCOUNT_RATE: 0.1\nOBJECTIVE_FUNCTION:\n0 12000\nRESOURCE_CONSTRAINT_COEFFICIENTS:\nRESOURCE_CONSTRAINT_LIMITS:\n";
-
 #[test]
 fn one_ore_block(rt: HostRuntime) -> Result<(), Fail> {
     let zone = b"x,y,z,tonnes,grade\n0,0,0,1000,5000\n";
     let (answered, out) = piped(&rt, rt.alloc(), MILL, zone)?;
-    assert!(rt; answered == Ok(1) && out.as_slice() == PRINTED);
+    let printed = out
+        .as_slice()
+        .strip_prefix(BEFORE)
+        .ok_or("what stood before is gone")?;
+    assert!(rt; answered == Ok(1) && printed == PRINTED.as_bytes());
     Ok(())
 }
 

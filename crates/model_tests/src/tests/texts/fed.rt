@@ -95,15 +95,11 @@ fn arcs_in_pieces(rt: HostRuntime) -> Result<(), Fail> {
 #[test]
 fn models_in_pieces(rt: HostRuntime) -> Result<(), Fail> {
     let alloc = rt.alloc();
-    let mut cpit = Vec::new(alloc);
-    for line in &CPIT {
-        cpit.extend_from_slice(line.as_bytes())?;
-    }
     for step in STEPS {
-        let mut feed = cutting(alloc, PCPSP, step)?;
+        let mut feed = cutting(alloc, PCPSP.as_bytes(), step)?;
         let answer = count_model(alloc, Problem::Pcpsp, 2, &mut feed, GREATEST_LIMIT);
         assert!(rt; answer == Ok(Ok((1, 2))), "pcpsp {step}");
-        let mut feed = cutting(alloc, cpit.as_slice(), step)?;
+        let mut feed = cutting(alloc, CPIT.as_bytes(), step)?;
         let answer = count_model(alloc, Problem::Cpit, 2, &mut feed, GREATEST_LIMIT);
         assert!(rt; answer == Ok(Ok((1, 2))), "cpit {step}");
     }

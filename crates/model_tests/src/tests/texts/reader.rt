@@ -1,6 +1,7 @@
 ghost use Rattle.mine_instance.specs.Valid.{IsValid};
 
-use super::{CPIT, LIMITED, NINE_ABOVE, PCPSP, PREC, Texts, instance_of, is_text};
+use super::headers::{HAND_MADE_PCPSP, WHOLE_CPIT, cpit, pcpsp};
+use super::{CPIT, LIMITED, NINE_ABOVE, ONE_ORE_BLOCK, PCPSP, PREC, Texts, instance_of, is_text};
 use crate::tests::are_millionths;
 use devices::sinks::mem_sink::MemSink;
 use devices::sinks::write_fault::WriteFault;
@@ -16,31 +17,30 @@ use pit_units::Dec;
 use std::alloc::Global;
 use std::test::Fail;
 
-const ONE_ORE_BLOCK: Texts = [
-    b"0 0 0 0 1000 5000 0\n",
-    b"0 0\n",
-    b"NAME: one\nTYPE: PCPSP\nNBLOCKS: 1\nNPERIODS: 1\nNDESTINATIONS: 1\nNRESOURCE_SIDE_CONSTRAINTS: 0\nNGENERAL_SIDE_CONSTRAINTS: 0\nDISCOUNT_RATE: 0.1\nOBJECTIVE_FUNCTION:\n0 12000\nRESOURCE_CONSTRAINT_COEFFICIENTS:\nRESOURCE_CONSTRAINT_LIMITS:\n",
-];
-
 // By hand: remarks, blank lines, runs of blanks, line ends of two bytes, header keys in another order, a last line without its end.
 const HAND_MADE: Texts = [
-    b"% hand\r\n\n0\t0 0  0 1000.000 5000 0\r\n",
-    b"0 0",
-    b"DISCOUNT_RATE: 0.1\nNGENERAL_SIDE_CONSTRAINTS: 0\nNRESOURCE_SIDE_CONSTRAINTS: 0\nNDESTINATIONS: 1\nNPERIODS: 1\nNBLOCKS: 1\nTYPE: PCPSP\nNAME : one\nOBJECTIVE_FUNCTION:\n0 12000\nRESOURCE_CONSTRAINT_COEFFICIENTS:\nRESOURCE_CONSTRAINT_LIMITS:",
+    "% hand\r\n\n0\t0 0  0 1000.000 5000 0\r\n",
+    "0 0",
+    HAND_MADE_PCPSP,
 ];
 
 // A mark in front, and numbers in other spellings.
 const SPELLED: Texts = [
-    b"\xEF\xBB\xBF+0 0. 0 .0 01000.0000000 5000 0\n1 1 0 0 -0 7 0",
+    "\u{feff}+0 0. 0 .0 01000.0000000 5000 0\n1 1 0 0 -0 7 0",
     PREC,
     PCPSP,
 ];
 
 // Predecessors in no order, and the least and greatest of most numbers.
 const AT_THE_EDGE: Texts = [
-    b"0 0 0 0 0 0 0\n1 9999 9999 9999 1000000 1000000 63\n2 2 0 0 0 0 0\n",
-    b"0 2 2 1\n1 0\n2 0\n",
-    b"NAME: n\nTYPE: PCPSP\nNBLOCKS: 3\nNPERIODS: 100\nNDESTINATIONS: 1\nNRESOURCE_SIDE_CONSTRAINTS: 8\nNGENERAL_SIDE_CONSTRAINTS: 0\nDISCOUNT_RATE: 1\nOBJECTIVE_FUNCTION:\n0 -1000000000000000000\n1 0.000001\n2 0\nRESOURCE_CONSTRAINT_COEFFICIENTS:\n0 0 7 -1\n2 0 0 0\nRESOURCE_CONSTRAINT_LIMITS:\n0 99 G -5\n7 0 I -2 -2\n",
+    "0 0 0 0 0 0 0\n1 9999 9999 9999 1000000 1000000 63\n2 2 0 0 0 0 0\n",
+    "0 2 2 1\n1 0\n2 0\n",
+    pcpsp! {
+        name: "n", blocks: 3, periods: 100, destinations: 1, resources: 8, rate: 1,
+        values: ["0 -1000000000000000000", "1 0.000001", "2 0"],
+        coefs: ["0 0 7 -1", "2 0 0 0"],
+        limits: ["0 99 G -5", "7 0 I -2 -2"],
+    },
 ];
 
 const NAMES: [TextName; 3] = [TextName::Blocks, TextName::Prec, TextName::Pcpsp];
@@ -122,70 +122,52 @@ fn nine_above(rt: HostRuntime) -> Result<(), Fail> {
     Ok(())
 }
 
-// The CPIT of two blocks that a text states by lines.
-fn cpit_of(alloc: Global, lines: &[&str]) -> Result<Cpit, Fail> {
-    let mut text = Vec::new(alloc);
-    for line in lines {
-        text.extend_from_slice(line.as_bytes())?;
-    }
-    Ok(read_cpit(alloc, 2, text.as_slice())?)
+// The CPIT of two blocks that a text states.
+fn cpit_of(alloc: Global, text: &str) -> Result<Cpit, Fail> {
+    Ok(read_cpit(alloc, 2, text.as_bytes())?)
 }
 
-// Whether a CPIT is written as this text, by lines.
-fn is_cpit_text(alloc: Global, cpit: &Cpit, lines: &[&str]) -> Result<bool, WriteFault> {
+// Whether a CPIT is written as this text.
+fn is_cpit_text(alloc: Global, cpit: &Cpit, text: &str) -> Result<bool, WriteFault> {
     let mut sink = MemSink::new(alloc);
     write_cpit(alloc, cpit, &mut sink)?;
-    let mut left = sink.bytes();
-    for line in lines {
-        let Some(behind) = left.strip_prefix(line.as_bytes()) else {
-            return Ok(false);
-        };
-        left = behind;
-    }
-    Ok(left.is_empty())
+    Ok(sink.bytes() == text.as_bytes())
 }
 
 #[test]
 fn cpit_destinations(rt: HostRuntime) -> Result<(), Fail> {
-    let cpit = cpit_of(rt.alloc(), &CPIT)?;
+    let cpit = cpit_of(rt.alloc(), WHOLE_CPIT)?;
     assert!(rt; are_millionths(cpit.values(), &[12_000_000_000, 0]));
     assert_eq!(rt; (cpit.coefs_len(), cpit.limits().len()), (1, 2));
-    assert!(rt; is_cpit_text(rt.alloc(), &cpit, &CPIT)?);
+    assert!(rt; is_cpit_text(rt.alloc(), &cpit, CPIT)?);
     Ok(())
 }
 
-// Coefficients that a run does not have: no whole kilograms, too many, less than none.
-const OTHER_TONNES: [&str; 3] = ["1 0 0.0001\n", "1 0 4294967.296\n", "1 0 -0.001\n"];
-
-// Such a coefficient among others, by the lines of its CPIT.
-fn lines_with(tonnes: &'static str) -> [&'static str; 15] {
-    [
-        "NAME: one\n",
-        "TYPE: CPIT\n",
-        "NBLOCKS: 2\n",
-        "NPERIODS: 1\n",
-        "NRESOURCE_SIDE_CONSTRAINTS: 3\n",
-        "DISCOUNT_RATE: 0.1\n",
-        "OBJECTIVE_FUNCTION:\n",
-        "0 0\n",
-        "1 0\n",
-        "RESOURCE_CONSTRAINT_COEFFICIENTS:\n",
-        "0 1 0.001\n",
-        "0 2 4294967.295\n",
-        tonnes,
-        "1 2 7\n",
-        "RESOURCE_CONSTRAINT_LIMITS:\n",
-    ]
+// A CPIT with this coefficient among others.
+macro_rules! with_coef {
+    ($coef:literal) => {
+        cpit! {
+            name: "one", blocks: 2, periods: 1, resources: 3, rate: 0.1,
+            values: ["0 0", "1 0"],
+            coefs: ["0 1 0.001", "0 2 4294967.295", $coef, "1 2 7"],
+            limits: [],
+        }
+    };
 }
 
-// Such a coefficient stands among others.
+// Those with coefficients that a run does not have: no whole kilograms, too many, less than none.
+const OTHER_TONNES: [&str; 3] = [
+    with_coef!("1 0 0.0001"),
+    with_coef!("1 0 4294967.296"),
+    with_coef!("1 0 -0.001"),
+];
+
 #[test]
 fn other_tonnes(rt: HostRuntime) -> Result<(), Fail> {
-    for tonnes in OTHER_TONNES {
-        let lines = lines_with(tonnes);
-        let cpit = cpit_of(rt.alloc(), &lines)?;
+    for text in OTHER_TONNES {
+        let cpit = cpit_of(rt.alloc(), text)?;
         assert_eq!(rt; cpit.coefs_len(), 4);
-        assert!(rt; is_cpit_text(rt.alloc(), &cpit, &lines)?, "{tonnes}");
+        assert!(rt; is_cpit_text(rt.alloc(), &cpit, text)?, "{text}");
     }
     Ok(())
 }
@@ -246,7 +228,7 @@ fn read_lists_are_lent(rt: HostRuntime) -> Result<(), Fail> {
     let instance = instance_of(rt.alloc(), AT_THE_EDGE)?;
     assert!(rt; instance.coefs.as_slice() == edge_coefs().ok_or("coefficients")?.as_slice());
     assert!(rt; instance.limits.as_slice() == edge_limits().ok_or("limits")?.as_slice());
-    let cpit = cpit_of(rt.alloc(), &lines_with("1 0 0.0001\n"))?;
+    let cpit = cpit_of(rt.alloc(), with_coef!("1 0 0.0001"))?;
     assert!(rt; cpit.coefs() == cpit_coefs().ok_or("coefficients")?.as_slice());
     assert_eq!(rt; cpit.limits().len(), 0);
     Ok(())

@@ -1,7 +1,8 @@
 ghost use Rattle.std.specs.Prelude.{◌≤◌};
 ghost use Rattle.mine_instance.specs.Valid.{IsValid};
 
-use super::{BLOCKS, LIMITED, PCPSP, PREC, instance_of, write};
+use super::headers::{WHOLE_CPIT, WHOLE_PCPSP, WHOLE_UPIT};
+use super::{BLOCKS, LIMITED, PREC, instance_of, write};
 use devices::sinks::mem_sink::MemSink;
 use devices::sinks::sink::SinkFault;
 use mine_instance::build_cpit;
@@ -14,18 +15,12 @@ use std::process::Abort;
 use std::test::Fail;
 
 // The texts of the instance.
-const TEXTS: [(TextName, &[u8]); 5] = [
+const TEXTS: [(TextName, &str); 5] = [
     (TextName::Blocks, BLOCKS),
     (TextName::Prec, PREC),
-    (
-        TextName::Upit,
-        b"NAME: one\nTYPE: UPIT\nNBLOCKS: 2\nOBJECTIVE_FUNCTION:\n0 12000\n1 0\n",
-    ),
-    (TextName::Pcpsp, PCPSP),
-    (
-        TextName::Cpit,
-        b"NAME: one\nTYPE: CPIT\nNBLOCKS: 2\nNPERIODS: 2\nNRESOURCE_SIDE_CONSTRAINTS: 1\nDISCOUNT_RATE: 0.1\nOBJECTIVE_FUNCTION:\n0 12000\n1 0\nRESOURCE_CONSTRAINT_COEFFICIENTS:\n0 0 1000\nRESOURCE_CONSTRAINT_LIMITS:\n0 0 L 500.5\n0 1 I 0 900\n",
-    ),
+    (TextName::Upit, WHOLE_UPIT),
+    (TextName::Pcpsp, WHOLE_PCPSP),
+    (TextName::Cpit, WHOLE_CPIT),
 ];
 
 // How many bytes a sink takes at a time, and below which number the call is that fails, where 0 is none.
@@ -79,7 +74,7 @@ fn all_end_well(rt: &impl Abort, alloc: Global, name: TextName, instance: &Insta
 fn failing_devices(rt: HostRuntime) -> Result<(), Fail> {
     let instance = instance_of(rt.alloc(), LIMITED)?;
     for (name, text) in &TEXTS {
-        all_end_well(&rt, rt.alloc(), *name, &instance, text);
+        all_end_well(&rt, rt.alloc(), *name, &instance, text.as_bytes());
     }
     Ok(())
 }
@@ -91,7 +86,6 @@ fn built_cpit(rt: HostRuntime) -> Result<(), Fail> {
     let cpit = build_cpit(rt.alloc(), &instance)?;
     let mut sink = MemSink::new(rt.alloc());
     assert!(rt; write_cpit(rt.alloc(), &cpit, &mut sink).is_ok());
-    let (_, text) = TEXTS[4];
-    assert!(rt; sink.begun() && sink.bytes() == text);
+    assert!(rt; sink.begun() && sink.bytes() == WHOLE_CPIT.as_bytes());
     Ok(())
 }

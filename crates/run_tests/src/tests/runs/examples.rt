@@ -4,6 +4,7 @@ use super::{
     ENOUGH, Fail, Global, MILL, MemFeed, MemSink, Refusal, Sinks, TextName, Threads, Wait, begun,
     budget, destinations_of, new_sinks, plan_text, read_plan, rows_of_run, sink_of,
 };
+use crate::tests::headers::{cpit, pcpsp, upit};
 use crate::tests::watch::{OPEN, Watch};
 use pit_compile::refusal::RowAt;
 use zone_csv::row_fault::{Column, RowFault, RowFaultKind};
@@ -47,15 +48,25 @@ const ORE: &[(TextName, &str)] = &[
     (TextName::Prec, "0 0\n"),
     (
         TextName::Upit,
-        "NAME: one\nTYPE: UPIT\nNBLOCKS: 1\nOBJECTIVE_FUNCTION:\n0 12000\n",
+        upit! { name: "one", blocks: 1, values: ["0 12000"] },
     ),
     (
         TextName::Pcpsp,
-        "NAME: one\nTYPE: PCPSP\nNBLOCKS: 1\nNPERIODS: 1\nNDESTINATIONS: 1\nNRESOURCE_SIDE_CONSTRAINTS: 0\nNGENERAL_SIDE_CONSTRAINTS: 0\nDISCOUNT_RATE: 0.1\nOBJECTIVE_FUNCTION:\n0 12000\nRESOURCE_CONSTRAINT_COEFFICIENTS:\nRESOURCE_CONSTRAINT_LIMITS:\n",
+        pcpsp! {
+            name: "one", blocks: 1, periods: 1, destinations: 1, resources: 0, rate: 0.1,
+            values: ["0 12000"],
+            coefs: [],
+            limits: [],
+        },
     ),
     (
         TextName::Cpit,
-        "NAME: one\nTYPE: CPIT\nNBLOCKS: 1\nNPERIODS: 1\nNRESOURCE_SIDE_CONSTRAINTS: 0\nDISCOUNT_RATE: 0.1\nOBJECTIVE_FUNCTION:\n0 12000\nRESOURCE_CONSTRAINT_COEFFICIENTS:\nRESOURCE_CONSTRAINT_LIMITS:\n",
+        cpit! {
+            name: "one", blocks: 1, periods: 1, resources: 0, rate: 0.1,
+            values: ["0 12000"],
+            coefs: [],
+            limits: [],
+        },
     ),
 ];
 
@@ -75,10 +86,7 @@ const HEADER_ALONE: Example = (
     &[
         (TextName::Blocks, ""),
         (TextName::Prec, ""),
-        (
-            TextName::Upit,
-            "NAME: one\nTYPE: UPIT\nNBLOCKS: 0\nOBJECTIVE_FUNCTION:\n",
-        ),
+        (TextName::Upit, upit! { name: "one", blocks: 0, values: [] }),
     ],
 );
 
@@ -113,7 +121,7 @@ const WASTE_OF_ONE_KILOGRAM: Example = (
         (TextName::Blocks, "0 0 0 0 0.001 0 0\n"),
         (
             TextName::Upit,
-            "NAME: waste\nTYPE: UPIT\nNBLOCKS: 1\nOBJECTIVE_FUNCTION:\n0 -0.01\n",
+            upit! { name: "waste", blocks: 1, values: ["0 -0.01"] },
         ),
     ],
 );
@@ -125,7 +133,7 @@ const HEAP_LEACH_BANDS: [Example; 4] = [
         1,
         &[(
             TextName::Upit,
-            "NAME: one\nTYPE: UPIT\nNBLOCKS: 1\nOBJECTIVE_FUNCTION:\n0 111500\n",
+            upit! { name: "one", blocks: 1, values: ["0 111500"] },
         )],
     ),
     (
@@ -134,7 +142,7 @@ const HEAP_LEACH_BANDS: [Example; 4] = [
         1,
         &[(
             TextName::Upit,
-            "NAME: one\nTYPE: UPIT\nNBLOCKS: 1\nOBJECTIVE_FUNCTION:\n0 73999.97\n",
+            upit! { name: "one", blocks: 1, values: ["0 73999.97"] },
         )],
     ),
     (
@@ -143,7 +151,7 @@ const HEAP_LEACH_BANDS: [Example; 4] = [
         1,
         &[(
             TextName::Upit,
-            "NAME: one\nTYPE: UPIT\nNBLOCKS: 1\nOBJECTIVE_FUNCTION:\n0 -1000\n",
+            upit! { name: "one", blocks: 1, values: ["0 -1000"] },
         )],
     ),
     (
@@ -152,7 +160,7 @@ const HEAP_LEACH_BANDS: [Example; 4] = [
         1,
         &[(
             TextName::Upit,
-            "NAME: one\nTYPE: UPIT\nNBLOCKS: 1\nOBJECTIVE_FUNCTION:\n0 1000000000000000\n",
+            upit! { name: "one", blocks: 1, values: ["0 1000000000000000"] },
         )],
     ),
 ];
@@ -171,7 +179,12 @@ const CPIT_DESTINATIONS: [Example; 3] = [
         1,
         &[(
             TextName::Cpit,
-            "NAME: one\nTYPE: CPIT\nNBLOCKS: 1\nNPERIODS: 2\nNRESOURCE_SIDE_CONSTRAINTS: 1\nDISCOUNT_RATE: 0.1\nOBJECTIVE_FUNCTION:\n0 -2000\nRESOURCE_CONSTRAINT_COEFFICIENTS:\nRESOURCE_CONSTRAINT_LIMITS:\n0 0 L 500.5\n0 1 I 0 900\n",
+            cpit! {
+                name: "one", blocks: 1, periods: 2, resources: 1, rate: 0.1,
+                values: ["0 -2000"],
+                coefs: [],
+                limits: ["0 0 L 500.5", "0 1 I 0 900"],
+            },
         )],
     ),
     (
@@ -180,7 +193,12 @@ const CPIT_DESTINATIONS: [Example; 3] = [
         1,
         &[(
             TextName::Cpit,
-            "NAME: one\nTYPE: CPIT\nNBLOCKS: 1\nNPERIODS: 1\nNRESOURCE_SIDE_CONSTRAINTS: 1\nDISCOUNT_RATE: 0.1\nOBJECTIVE_FUNCTION:\n0 -2\nRESOURCE_CONSTRAINT_COEFFICIENTS:\nRESOURCE_CONSTRAINT_LIMITS:\n",
+            cpit! {
+                name: "one", blocks: 1, periods: 1, resources: 1, rate: 0.1,
+                values: ["0 -2"],
+                coefs: [],
+                limits: [],
+            },
         )],
     ),
     (
@@ -189,7 +207,12 @@ const CPIT_DESTINATIONS: [Example; 3] = [
         1,
         &[(
             TextName::Cpit,
-            "NAME: one\nTYPE: CPIT\nNBLOCKS: 1\nNPERIODS: 1\nNRESOURCE_SIDE_CONSTRAINTS: 1\nDISCOUNT_RATE: 0.1\nOBJECTIVE_FUNCTION:\n0 -2\nRESOURCE_CONSTRAINT_COEFFICIENTS:\n0 0 1\nRESOURCE_CONSTRAINT_LIMITS:\n",
+            cpit! {
+                name: "one", blocks: 1, periods: 1, resources: 1, rate: 0.1,
+                values: ["0 -2"],
+                coefs: ["0 0 1"],
+                limits: [],
+            },
         )],
     ),
 ];

@@ -9,6 +9,7 @@ use super::{
     ENOUGH, Fail, Global, HEADER, MILL, MemFeed, MemSink, Refusal, Sinks, TextName, Threads, Wait,
     answer, budget, sink_of,
 };
+use crate::tests::headers::{cpit, pcpsp, upit};
 use crate::tests::watch::{Holds, Watch};
 use pit_compile::refusal::RowAt;
 use std::env;
@@ -261,25 +262,23 @@ fn random_sinks(alloc: Global, dice: &mut Dice, failing: Option<Failing>) -> Sin
     }
 }
 
-// What stands before the number of blocks in a text, behind it, and behind the blocks' lines. Where nothing does, the number is left out.
-fn frame_of(name: TextName) -> (&'static str, &'static str, &'static str) {
+// A model file with `?` in the place of the number of blocks, and of their lines. The other texts are such lines alone.
+fn frame_of(name: TextName) -> &'static str {
     match name {
-        TextName::Blocks | TextName::Prec => ("", "", ""),
-        TextName::Upit => (
-            "NAME: one\nTYPE: UPIT\nNBLOCKS: ",
-            "\nOBJECTIVE_FUNCTION:\n",
-            "",
-        ),
-        TextName::Pcpsp => (
-            "NAME: one\nTYPE: PCPSP\nNBLOCKS: ",
-            "\nNPERIODS: 1\nNDESTINATIONS: 1\nNRESOURCE_SIDE_CONSTRAINTS: 0\nNGENERAL_SIDE_CONSTRAINTS: 0\nDISCOUNT_RATE: 0.1\nOBJECTIVE_FUNCTION:\n",
-            "RESOURCE_CONSTRAINT_COEFFICIENTS:\nRESOURCE_CONSTRAINT_LIMITS:\n",
-        ),
-        TextName::Cpit => (
-            "NAME: one\nTYPE: CPIT\nNBLOCKS: ",
-            "\nNPERIODS: 1\nNRESOURCE_SIDE_CONSTRAINTS: 0\nDISCOUNT_RATE: 0.1\nOBJECTIVE_FUNCTION:\n",
-            "RESOURCE_CONSTRAINT_COEFFICIENTS:\nRESOURCE_CONSTRAINT_LIMITS:\n",
-        ),
+        TextName::Blocks | TextName::Prec => "",
+        TextName::Upit => upit! { name: "one", blocks: "?", values: ["?"] },
+        TextName::Pcpsp => pcpsp! {
+            name: "one", blocks: "?", periods: 1, destinations: 1, resources: 0, rate: 0.1,
+            values: ["?"],
+            coefs: [],
+            limits: [],
+        },
+        TextName::Cpit => cpit! {
+            name: "one", blocks: "?", periods: 1, resources: 0, rate: 0.1,
+            values: ["?"],
+            coefs: [],
+            limits: [],
+        },
     }
 }
 
@@ -294,17 +293,17 @@ fn line_of(alloc: Global, name: TextName, x: usize, file: u8) -> Result<String, 
 
 // A text of the instance of a model.
 fn text_of(alloc: Global, model: &Model, name: TextName) -> Result<String, Fail> {
-    let (head, keys, tail) = frame_of(name);
-    let mut text = String::new(alloc);
-    if !head.is_empty() {
-        let count = format!(in alloc; "{head}{}{keys}", model.file_of.len())?;
+    let mut parts = frame_of(name).split("?\n");
+    let mut text = String::from_str(alloc, parts.next().unwrap_or(""))?;
+    if let Some(keys) = parts.next() {
+        let count = format!(in alloc; "{}\n{keys}", model.file_of.len())?;
         text.push_str(count.as_str())?;
     }
     for (x, file) in model.file_of.iter().enumerate() {
         let line = line_of(alloc, name, x, *file)?;
         text.push_str(line.as_str())?;
     }
-    text.push_str(tail)?;
+    text.push_str(parts.next().unwrap_or(""))?;
     Ok(text)
 }
 

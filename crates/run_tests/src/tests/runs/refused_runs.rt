@@ -5,6 +5,7 @@ use super::{
     TextName, Threads, Wait, Watched, ZoneFile, answer, begun, budget, destinations_by, feeds_of,
     new_sinks, plan_of, rows_of_run, sink_of,
 };
+use crate::tests::headers::{cpit, pcpsp, upit};
 use crate::tests::watch::{OPEN, Watch};
 use pit_compile::refusal::RowAt;
 use pit_compile::settings::SettingsFault;
@@ -175,9 +176,19 @@ const LIMITED_ZONE: &[u8] = b"x,y,z,tonnes,grade\n0,0,0,1000,5000\n10,0,0,0,7\n"
 const LIMITED: [&str; 5] = [
     "0 0 0 0 1000 5000 0\n1 1 0 0 0 7 0\n",
     "0 0\n1 0\n",
-    "NAME: one\nTYPE: UPIT\nNBLOCKS: 2\nOBJECTIVE_FUNCTION:\n0 12000\n1 0\n",
-    "NAME: one\nTYPE: PCPSP\nNBLOCKS: 2\nNPERIODS: 2\nNDESTINATIONS: 2\nNRESOURCE_SIDE_CONSTRAINTS: 1\nNGENERAL_SIDE_CONSTRAINTS: 0\nDISCOUNT_RATE: 0.1\nOBJECTIVE_FUNCTION:\n0 12000 -2000\n1 0 0\nRESOURCE_CONSTRAINT_COEFFICIENTS:\n0 0 0 1000\nRESOURCE_CONSTRAINT_LIMITS:\n0 0 L 500.5\n0 1 I 0 900\n",
-    "NAME: one\nTYPE: CPIT\nNBLOCKS: 2\nNPERIODS: 2\nNRESOURCE_SIDE_CONSTRAINTS: 1\nDISCOUNT_RATE: 0.1\nOBJECTIVE_FUNCTION:\n0 12000\n1 0\nRESOURCE_CONSTRAINT_COEFFICIENTS:\n0 0 1000\nRESOURCE_CONSTRAINT_LIMITS:\n0 0 L 500.5\n0 1 I 0 900\n",
+    upit! { name: "one", blocks: 2, values: ["0 12000", "1 0"] },
+    pcpsp! {
+        name: "one", blocks: 2, periods: 2, destinations: 2, resources: 1, rate: 0.1,
+        values: ["0 12000 -2000", "1 0 0"],
+        coefs: ["0 0 0 1000"],
+        limits: ["0 0 L 500.5", "0 1 I 0 900"],
+    },
+    cpit! {
+        name: "one", blocks: 2, periods: 2, resources: 1, rate: 0.1,
+        values: ["0 12000", "1 0"],
+        coefs: ["0 0 1000"],
+        limits: ["0 0 L 500.5", "0 1 I 0 900"],
+    },
 ];
 
 // Sinks that take so many bytes a put at most.
