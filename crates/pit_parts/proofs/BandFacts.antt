@@ -1,9 +1,10 @@
 -- Bands in order: what a scan finds is what a search by halves finds.
-use Rattle.std.proofs.Common.{◌≡◌, ◌<◌, ◌≤◌, ℕ, zero, suc, ◌+◌, ◌-◌, List, [], ◌∷◌, Bool, true, false, nat_lt, nat_le, Option, Some, None, arith, refl, sym, ◌∙◌, ap, cond, All, length, get_or, take}
+use Rattle.std.proofs.Common.{◌≡◌, ◌↔◌, ◌<◌, ◌≤◌, ℕ, zero, suc, ◌+◌, ◌-◌, List, [], ◌∷◌, Bool, true, false, nat_lt, nat_le, Option, Some, None, arith, refl, sym, ◌∙◌, ap, subst, cond, All, length, get_or, take}
 use Rattle.std.proofs.Math.Nat.{suc-add}
 use Rattle.std.proofs.lemmas.Bool.{and_parts}
 use Rattle.std.proofs.lemmas.Bool.Decides.{nat_tests}
 use Rattle.std.proofs.lemmas.List.Sorted.{IsNonDecreasingBy-from_all_adjacent, IsPartitionedBy-leb}
+use Rattle.std.specs.Bool.{Decides, IsTrue}
 use Rattle.std.specs.List.{filter, last_or, slice_get, AllAdjacentBelow, AllWithin, IsAllAdjacentAnswer}
 use Rattle.std.specs.List.Sorted.{IsPartitionPoint, IsPartitionedBy}
 use Rattle.std.specs.Option.{option_map_or}
@@ -148,3 +149,7 @@ recovers_nothing bands grade above =
   where
     beyond : {start : ℕ} → grade < start → nat_le start grade ≡ false
     beyond above = grind (arith, nat_tests)
+
+-- the answer of the test, as a fact
+pub answered : {K : Type 0} {E : K → K → Bool} → ((x y : K) → Decides (E x y) (x ≡ y)) → (x y : K) (r : Bool) → r ≡ E x y → IsTrue r ↔ (x ≡ y)
+answered {E = E} told x y r e = subst (λ answer. IsTrue answer ↔ (x ≡ y)) (sym e) (told x y)

@@ -31,6 +31,7 @@ plan_of name grid cones formulas periods rate resources limits = record {
 abbrev pub IsAxis : Axis → Type 0
 IsAxis a = ((MIN_ORIGIN ≤ℤ a.origin) × (a.origin ≤ℤ MAX_ORIGIN)) × ((1 ≤ a.size) × (a.size ≤ MAX_SIZE))
 
+-- and so are those of a grid
 abbrev pub IsGrid : Grid → Type 0
 IsGrid g = IsAxis g.x × IsAxis g.y × IsAxis g.z
 

@@ -1,6 +1,6 @@
 //! A block of the model.
 
-ghost use Rattle.std.specs.Prelude.{◌≡◌, ◌<◌, ◌≤◌, ◌^◌, ◌↔◌, IsSome, IfSome};
+ghost use Rattle.std.specs.Prelude.{◌<◌, ◌≤◌, ◌↔◌, IsSome, IfSome};
 ghost use Rattle.pit_parts.specs.declared.ranges.TheConstants.{GRID_CELLS, MAX_GRADE, MAX_KG, MAX_ZONES};
 
 use crate::ranges::{GRID_CELLS, MAX_GRADE, MAX_KG, MAX_ZONES};

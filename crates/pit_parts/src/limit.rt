@@ -36,6 +36,7 @@ pub struct Limit {
     pub resource: u8,
     /// The number of the period, from 0.
     pub period: u8,
+    /// The tonnes that the resource may or must handle then.
     pub bound: Bound,
 }
 

@@ -1,7 +1,7 @@
 -- A test tells whether two things are equal; so does `==` of bands.
-use Rattle.std.proofs.Common.{◌≡◌, ◌↔◌, ◌∙◌, ◌&&◌, ◌==◌, List, Bool, true, refl, sym, ap, subst, eq-eqb}
+use Rattle.std.proofs.Common.{◌≡◌, ◌∙◌, ◌&&◌, ◌==◌, List, Bool, true, refl, sym, ap, subst, eq-eqb}
 use Rattle.std.proofs.lemmas.Bool.{and_parts, eqb-true}
-use Rattle.std.specs.Bool.{Decides, one_answer, IsTrue}
+use Rattle.std.specs.Bool.{Decides, one_answer}
 use Rattle.std.specs.Cmp.{IsEquivalence}
 use Rattle.std.specs.Cmp.Lexicographic.{pointwise_decides}
 use Rattle.pit_parts.specs.BandsKept.{band_eq, bands_eq}
@@ -35,7 +35,3 @@ bands_told = pointwise_decides (decides band_eq bands_same band_own)
 
 pub bands_equivalence : IsEquivalence bands_eq
 bands_equivalence = equivalence bands_told
-
--- the answer of the test, as a fact
-pub answered : {K : Type 0} {E : K → K → Bool} → ((x y : K) → Decides (E x y) (x ≡ y)) → (x y : K) (r : Bool) → r ≡ E x y → IsTrue r ↔ (x ≡ y)
-answered {E = E} told x y r e = subst (λ answer. IsTrue answer ↔ (x ≡ y)) (sym e) (told x y)

@@ -1,4 +1,5 @@
-use Rattle.pit_parts.specs.inner.Equality.{bands_told, answered}
+use Rattle.pit_parts.specs.inner.Equality.{bands_told}
+use Rattle.pit_parts.proofs.BandFacts.{answered}
 use Rattle.pit_parts.proofs.formulas.band.BandsPartialEq.eq.Goals as goal
 
 pub returns-clause-equal : goal.returns-clause-equal
