@@ -1,9 +1,10 @@
 -- Items whose worths stand in one list, of each item as many.
-use Rattle.std.proofs.Common.{◌≡◌, ℕ, zero, suc, ◌+◌, ◌*◌, ◌<◌, ◌≤◌, ℤ, List, [], ◌∷◌, ◌++◌, length, take, drop, refl, sym, ap, ◌∙◌, arith, zero-mul, pos, length-append, length-drop, length-take-le}
+use Rattle.std.proofs.Common.{◌≡◌, ℕ, zero, suc, ◌+◌, ◌*◌, ◌<◌, ◌≤◌, ℤ, List, [], ◌∷◌, ◌++◌, length, take, drop, get_or, Some, refl, sym, ap, ◌∙◌, arith, zero-mul, pos, length-append, length-drop, length-take-le}
 use Rattle.std.specs.List.{slice_get}
 use Rattle.std.specs.Option.{option_map}
 use Rattle.std.proofs.Math.Nat.{mul-le-mul_right}
 use Rattle.std.proofs.lemmas.List.{drop-drop, drop-append-le, length-replicate, take_all, take-append-le}
+use Rattle.std.proofs.lemmas.Option.{slice_get_read}
 use Rattle.rows.specs.declared.packed.entry.Entry.{Entry}
 use Rattle.rows.specs.declared.item.Item.{Item}
 use Rattle.rows.specs.declared.item.Item.TheVariants as item
@@ -40,6 +41,14 @@ item_at width ws (e ∷ es) (suc i) =
     item_at width (drop width ws) es i
     ∙ ap (λ own. option_map (item_with (take width own)) (slice_get es i))
     (drop-drop (i * width) width ws ∙ ap (λ k. drop k ws) (grind arith))
+
+-- the item of an entry that is read
+pub item_there : (width : ℕ) (ws : List ℤ) (es : List Entry) (items : List Item) (i : ℕ) (e : Entry) → items_of width ws es ≡ items
+    → i < length items → e ≡ get_or es i e → slice_get items i ≡ Some (item_with (take width (drop (i * width) ws)) e)
+item_there width ws es items i e is within read =
+    let below : i < length es = omega (arith, within, ap length is, length-items_of width ws es) in
+    ap (λ items. slice_get items i) (sym is) ∙ item_at width ws es i
+    ∙ ap (option_map (item_with (take width (drop (i * width) ws)))) (slice_get_read es _ i e refl below read)
 
 pub items_push : (width : ℕ) (ws own : List ℤ) (es : List Entry) (e : Entry) → length ws ≡ length es * width → length own ≡ width
     → items_of width (ws ++ own) (es ++ e ∷ []) ≡ items_of width ws es ++ item_with own e ∷ []

@@ -1,9 +1,10 @@
 -- What is found for each element of a list, where something is found for each.
-use Rattle.std.proofs.Common.{◌≡◌, ℕ, zero, suc, true, is_some, List, [], ◌∷◌, length, Option, Some, None, refl, ap, ◌∙◌, arith}
+use Rattle.std.proofs.Common.{◌≡◌, ℕ, zero, suc, true, is_some, List, [], ◌∷◌, ◌<◌, length, get_or, Option, Some, None, refl, sym, ap, ◌∙◌, arith}
 use Rattle.std.specs.List.{All, slice_get, filter_map, cons_option}
 use Rattle.std.specs.Option.{option_and_then}
 use Rattle.std.proofs.lemmas.Bool.{false≢true}
 use Rattle.std.proofs.lemmas.List.Elements.{All-tail}
+use Rattle.std.proofs.lemmas.Option.{slice_get_read}
 
 abbrev IsFound : {A B : Type 0} → (A → Option B) → A → Type 0
 IsFound f x = is_some (f x) ≡ true
@@ -34,5 +35,12 @@ found_at f [] i all = refl
 found_at f (x ∷ xs) zero all = first_found (f x) (filter_map f xs) (all 0 x (omega arith))
 found_at f (x ∷ xs) (suc i) all =
     later_found (f x) (filter_map f xs) i (all 0 x (omega arith)) ∙ found_at f xs i (All-tail (IsFound f) x xs all)
+
+-- what is found for an element that is read
+pub found_there : {A B : Type 0} (f : A → Option B) (xs : List A) (ys : List B) (i : ℕ) (x : A) → All (IsFound f) xs
+    → filter_map f xs ≡ ys → i < length ys → x ≡ get_or xs i x → slice_get ys i ≡ f x
+found_there f xs ys i x all is within read =
+    let below : i < length xs = omega (arith, within, ap length is, all_found f xs all) in
+    ap (λ zs. slice_get zs i) (sym is) ∙ found_at f xs i all ∙ ap (option_and_then f) (slice_get_read xs _ i x refl below read)
 
 pub ruleset found = (all_found, found_at)

@@ -1,5 +1,5 @@
 -- The worths of rows, once their entries are given up.
-use Rattle.std.proofs.Common.{◌≡◌, ℕ, zero, suc, ◌*◌, ◌+◌, ◌<◌, ◌≤◌, ℤ, true, is_some, List, [], ◌∷◌, ◌++◌, length, map, take, drop, get_or, Option, Some, None, refl, sym, ap, subst, ◌∙◌, arith}
+use Rattle.std.proofs.Common.{◌≡◌, ℕ, zero, suc, ◌*◌, ◌+◌, ◌≤◌, ℤ, true, is_some, List, [], ◌∷◌, ◌++◌, length, map, take, drop, Option, Some, None, refl, sym, ap, subst, ◌∙◌, arith}
 use Rattle.std.specs.List.{All, AllZip, cons_option, filter_map, slice_get}
 use Rattle.std.specs.Option.{option_and_then, option_map, unwrap_or}
 use Rattle.std.proofs.lemmas.Bool.{false≢true}
@@ -14,7 +14,7 @@ use Rattle.rows.specs.declared.item.Valued.{Valued}
 use Rattle.rows.specs.declared.packed.worths.PackedWorths.{PackedWorths}
 use Rattle.rows.specs.declared.spot.Spot.{Spot}
 use Rattle.rows.specs.inner.Entries.{item_with, items_of}
-use Rattle.rows.specs.inner.Own.{own_at, own_on, AreThere, HasOwn, HasWorths}
+use Rattle.rows.specs.inner.Own.{own_at, own_on, HasOwn, HasWorths}
 use Rattle.rows.proofs.Entries.{item_at, own_within}
 
 entry-worths : (own : List ℤ) (o : Option Entry) (row : Valued) → option_and_then row_in (option_map (item_with own) o) ≡ Some row

@@ -2,7 +2,7 @@
 
 ghost use Rattle.std.specs.Prelude.{◌≡◌, ◌≤◌, ◌++◌, [], ◌∷◌, ℕ, List, OnOk, OnErr, vec_len, vec_capacity};
 ghost use Rattle.rows.specs.Packed.{IsOfWidth};
-ghost use Rattle.rows.specs.declared.item.Item.{Item as OneItem};
+ghost use Rattle.rows.specs.declared.item.Item.{Item as AnItem};
 
 use crate::item::Item;
 use crate::long_lists::make_room_for;
@@ -11,7 +11,7 @@ use std::alloc::{AllocError, Allocator};
 /// A list that keeps items: as they are, or without the room that a row does not use.
 pub trait Keeps {
     /// The items, in their order.
-    ghost held: { Self → List OneItem };
+    ghost held: { Self → List AnItem };
 
     /// That it is for rows of so many worths.
     ghost is_for: { Self → ℕ → Type 0 };

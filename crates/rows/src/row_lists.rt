@@ -76,7 +76,7 @@ impl RowLists {
         ensures { slice_get self.now position ≡ Some result }
     {
         let spot = self.spots[position];
-        row_at(&self.lists, spot)
+        row_on(&self.lists, spot)
     }
 
     /// The block of the row at a position, from 0.
@@ -86,7 +86,7 @@ impl RowLists {
         ensures { Some result ≡ option_map (λ row. row.block) (slice_get self.now position) }
     {
         let spot = self.spots[position];
-        block_at(&self.lists, spot)
+        block_on(&self.lists, spot)
     }
 
     /// The worths of the rows, which stay where they are; all else of the rows is given up. Fails only where memory for the number of
@@ -122,7 +122,7 @@ fn first_spots(alloc: Global, count: u32) -> Result<Vec<Spot>, AllocError>
     Ok(spots)
 }
 
-fn row_at(lists: &[PackedItems], spot: Spot) -> Valued
+fn row_on(lists: &[PackedItems], spot: Spot) -> Valued
     requires { HasRow lists.now spot }
     ensures { Some result ≡ row_on lists.now spot }
 {
@@ -132,7 +132,7 @@ fn row_at(lists: &[PackedItems], spot: Spot) -> Valued
     }
 }
 
-fn block_at(lists: &[PackedItems], spot: Spot) -> Block
+fn block_on(lists: &[PackedItems], spot: Spot) -> Block
     requires { HasRow lists.now spot }
     ensures { Some result ≡ option_map (λ row. row.block) (row_on lists.now spot) }
 {

@@ -1,6 +1,6 @@
 //! The rows of a file.
 
-ghost use Rattle.std.specs.Prelude.{◌≡◌, ◌<◌, ◌≤◌, ◌-◌, ◌++◌, [], Some, map, length, replicate, slice_get, slice_set, OnOk, OnErr};
+ghost use Rattle.std.specs.Prelude.{◌≡◌, ◌<◌, ◌≤◌, ◌-◌, ◌++◌, [], Some, length, replicate, slice_get, slice_set, OnOk, OnErr};
 ghost use Rattle.std.specs.Option.{option_map};
 
 use crate::head::Head;

@@ -22,9 +22,9 @@ pub struct PackedItems {
 
 impl Model for PackedItems {
     ghost use Rattle.std.specs.Prelude.{List};
-    ghost use Rattle.rows.specs.declared.item.Item.{Item as OneItem};
+    ghost use Rattle.rows.specs.declared.item.Item.{Item as AnItem};
 
-    ghost Value = { List OneItem };
+    ghost Value = { List AnItem };
 
     ghost view = { λ p. p.packing.items };
 }

@@ -1,10 +1,10 @@
 //! Items while a valuer packs them.
 
-ghost use Rattle.std.specs.Prelude.{◌≡◌, ◌+◌, ◌*◌, ◌<◌, ◌≤◌, ◌++◌, [], All, Some, length, take, drop, slice_get, vec_len, vec_capacity};
+ghost use Rattle.std.specs.Prelude.{◌≡◌, ◌+◌, ◌<◌, ◌≤◌, ◌++◌, [], All, Some, length, slice_get, vec_len, vec_capacity};
 ghost use Rattle.std.specs.Option.{option_map};
 ghost use Rattle.pit_parts.specs.Worth.{IsWorth};
 ghost use Rattle.pit_parts.specs.declared.ranges.TheConstants.{MAX_DESTINATIONS};
-ghost use Rattle.rows.specs.Packed.{mark_of, row_in, row_of, IsOfWidth};
+ghost use Rattle.rows.specs.Packed.{mark_of, row_of, IsOfWidth};
 ghost use Rattle.rows.specs.PackingView.{IsFullFor};
 ghost use Rattle.rows.specs.inner.Entries.{kept_worths};
 ghost use Rattle.rows.specs.inner.Own.{HasWorths};
@@ -14,7 +14,7 @@ use crate::keeps::Keeps;
 use crate::long_lists::make_room_for;
 use crate::mark::Mark;
 use crate::packed::entry::Entry;
-use crate::packed::worths::PackedWorths;
+use crate::packed::worths::{PackedWorths, own_worths};
 use pit_parts::block::Block;
 use std::alloc::{AllocError, Allocator, Global};
 use std::marker::Model;
@@ -113,16 +113,6 @@ impl Packing<Global> {
             width: self.width,
         }
     }
-}
-
-// The worths at a position, where each has so many.
-fn own_worths(worths: &[i64], position: usize, width: usize) -> &[i64]
-    requires { position * width + width ≤ length worths.now }
-    ensures { result.now ≡ take width (drop (position * width) worths.now) }
-{
-    let (_, rest) = worths.split_at(position * width);
-    let (own, _) = rest.split_at(width);
-    own
 }
 
 impl<A: Allocator> Keeps for Packing<A> {

@@ -1,6 +1,6 @@
 //! The worths of packed items.
 
-ghost use Rattle.std.specs.Prelude.{◌≡◌, ◌+◌, ◌*◌, ◌≤◌, length};
+ghost use Rattle.std.specs.Prelude.{◌≡◌, ◌+◌, ◌*◌, ◌≤◌, length, take, drop};
 ghost use Rattle.rows.specs.inner.Own.{own_at};
 
 /// The worths of items, of each as many: those of one after those of the one before it.
@@ -17,8 +17,17 @@ impl PackedWorths {
         requires { position * self.now.width + self.now.width ≤ length self.now.worths.items }
         ensures { result.now ≡ own_at self.now position }
     {
-        let (_, rest) = self.worths.as_slice().split_at(position * self.width);
-        let (own, _) = rest.split_at(self.width);
-        own
+        own_worths(&self.worths, position, self.width)
     }
+}
+
+/// The worths at a position, where each has so many.
+#[inline(always)]
+pub fn own_worths(worths: &[i64], position: usize, width: usize) -> &[i64]
+    requires { position * width + width ≤ length worths.now }
+    ensures { result.now ≡ take width (drop (position * width) worths.now) }
+{
+    let (_, rest) = worths.split_at(position * width);
+    let (own, _) = rest.split_at(width);
+    own
 }

@@ -1,8 +1,6 @@
-use Rattle.std.proofs.Common.{◌≡◌, ◌<◌, ◌∙◌, arith, length, map, sym, ap, subst, List}
+use Rattle.std.proofs.Common.{◌<◌, arith, length, sym, ap, subst, List}
 use Rattle.std.proofs.lemmas.List.{length-map}
-use Rattle.std.proofs.lemmas.Option.{slice_get_read, get_or_from_slice_get}
 use Rattle.rows.specs.declared.packed.worths.PackedWorths.{PackedWorths}
-use Rattle.rows.specs.declared.spot.Spot.{Spot}
 use Rattle.rows.specs.inner.Own.{own_on, HasOwn}
 use Rattle.rows.proofs.row_worths.RowWorths.at.Goals as goal
 

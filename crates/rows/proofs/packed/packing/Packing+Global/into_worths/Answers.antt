@@ -1,4 +1,4 @@
-use Rattle.std.proofs.Common.{◌≡◌, ap, sym, ◌∙◌, Some}
+use Rattle.std.proofs.Common.{ap, ◌∙◌}
 use Rattle.rows.specs.Packed.{row_of}
 use Rattle.rows.specs.PackingView.{PackingView}
 use Rattle.rows.proofs.Own.{has-worths}
