@@ -8,10 +8,12 @@ use Rattle.std.proofs.Math.Bool.{or-false}
 use Rattle.rows.specs.declared.item.Item.{Item}
 use Rattle.rows.specs.declared.item.Item.TheVariants.{Row, End}
 use Rattle.rows.specs.declared.item.Valued.{Valued}
-use Rattle.collector.specs.inner.Shelves.{slot, with_row, file_of, ArePut, IsShelved, IsKept}
+use Rattle.collector.specs.inner.Shelves.{slot, file_of, ArePut, IsShelved, IsKept}
 use Rattle.collector.specs.Fault.{is_after, fault}
 use Rattle.collector.specs.Found.{row_at, end_at, has_past}
-use Rattle.collector.proofs.Slots.{eqb-other, slot-put, slot-kept, length-with_row}
+use Rattle.collector.specs.inner.WithAt.{with_at}
+use Rattle.collector.proofs.Slots.{eqb-other, slot-put, slot-kept}
+use Rattle.collector.proofs.WithAt.{length-with_at}
 
 -- with one item more, the first look-up that finds something answers
 pub row_at-push : (file place : ℕ) (held : List Item) (item : Item) →
@@ -56,9 +58,9 @@ below-count (Some n) place count before e = let same = same_Some n count e in om
 
 -- the last place, after one row more
 past-more : (rows : List Valued) (v : Valued) (place : ℕ) →
-    (ltb place (length rows) || leb place v.place) ≡ ltb place (length (with_row rows v))
+    (ltb place (length rows) || leb place v.place) ≡ ltb place (length (with_at rows v.place v))
 past-more rows v place =
-    ⊎_elim (λ h. rw h.1 (later rows v place h.0)) (λ h. rw h.1 (last rows v place h.0)) (length-with_row rows v)
+    ⊎_elim (λ h. rw h.1 (later rows v place h.0)) (λ h. rw h.1 (last rows v place h.0)) (length-with_at rows v.place v)
   where
     later : (rows : List Valued) (v : Valued) (place : ℕ) → v.place < length rows
         → (ltb place (length rows) || leb place v.place) ≡ ltb place (length rows)
@@ -77,13 +79,13 @@ not_found v file place same differs = rw (eq-eqb v.file file same, eqb-other v.p
 -- one row more on the shelf of its file
 shelved-row : (held : List Item) (file : ℕ) (rows : List Valued) (end : Option ℕ) (v : Valued) → IsShelved held file rows end →
     v.file ≡ file → is_some (row_at file v.place held) ≡ false → v.place < 1000000 → is_after end v.place ≡ false →
-    IsShelved (held ++ Row v ∷ []) file (with_row rows v) end
+    IsShelved (held ++ Row v ∷ []) file (with_at rows v.place v) end
 shelved-row held file rows end v kept same single in_places before = record {
   row = λ place. row_at-push file place held (Row v)
       ∙ ⊎_elim
       (λ here. else-first _ _ (subst (λ (p : ℕ). is_some (row_at file p held) ≡ false) here single)
       ∙ found v file place same here
-      ∙ sym (subst (λ (p : ℕ). slot (with_row rows v) p ≡ Some v) here (slot-put rows v)))
+      ∙ sym (subst (λ (p : ℕ). slot (with_at rows v.place v) p ≡ Some v) here (slot-put rows v)))
       (λ differs. ap (λ o. cond (is_some (row_at file place held)) (row_at file place held) o)
       (not_found v file place same differs)
       ∙ else-none (row_at file place held) ∙ kept.row place ∙ sym (slot-kept rows v place differs))
@@ -91,11 +93,11 @@ shelved-row held file rows end v kept same single in_places before = record {
   ended = end_at-push file held (Row v) ∙ else-none (end_at file held) ∙ kept.ended;
   past = λ place. has_past-push file place held (Row v)
       ∙ rw (kept.past place, eq-eqb v.file file same, or-false (leb place v.place)) (past-more rows v place);
-  few = ⊎_elim (λ h. let most = kept.few in omega (arith, h.1)) (λ h. omega (arith, h.1)) (length-with_row rows v);
+  few = ⊎_elim (λ h. let most = kept.few in omega (arith, h.1)) (λ h. omega (arith, h.1)) (length-with_at rows v.place v);
   closed = λ count e.
       let above = below-count end v.place count before e in
       let most = kept.closed count e in
-      ⊎_elim (λ h. omega (arith, h.1)) (λ h. omega (arith, h.1)) (length-with_row rows v);
+      ⊎_elim (λ h. omega (arith, h.1)) (λ h. omega (arith, h.1)) (length-with_at rows v.place v);
 }
 
 -- one end mark more
@@ -141,7 +143,7 @@ kept_more files held rows rows' ends ends' (Row v) kept sound put =
     let inside = or_parts (leb files v.file) (leb 1000000 v.place) clear.1 in
     let in_files : v.file < files = leb-false files v.file inside.0 in
     let in_places : v.place < 1000000 = leb-false 1000000 v.place inside.1 in
-    let here : (file : ℕ) → v.file ≡ file → rows' file ≡ with_row (rows file) v
+    let here : (file : ℕ) → v.file ≡ file → rows' file ≡ with_at (rows file) v.place v
     = λ file e. put.0 file ∙ cond-true (eqb v.file file) _ _ (eq-eqb v.file file e) in
     let elsewhere : (file : ℕ) → (v.file ≡ file → ⊥) → rows' file ≡ rows file
     = λ file differs. put.0 file ∙ cond-false (eqb v.file file) _ _ (eqb-other v.file file differs) in

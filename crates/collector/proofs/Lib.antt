@@ -5,3 +5,4 @@ pub mod Ordered
 pub mod Placing
 pub mod Shelves
 pub mod Slots
+pub mod WithAt

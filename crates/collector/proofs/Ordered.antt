@@ -3,7 +3,7 @@ use Rattle.std.proofs.Common.{◌≡◌, ℕ, suc, zero, ◌-◌, ◌<◌, ◌�
 use Rattle.std.specs.List.{All, Contains, count_by, cons_option, filter_map, flat_map, slice_get}
 use Rattle.std.specs.Option.{option_and_then}
 use Rattle.std.proofs.lemmas.Bool.{cases_Bool, cases_lt, cond-true, cond-false, eq-eqb, false≢true}
-use Rattle.std.proofs.lemmas.List.{length-map, take-append-le, take_all}
+use Rattle.std.proofs.lemmas.List.{length-map, length-replicate, take-append-le, take_all}
 use Rattle.std.proofs.lemmas.List.Elements.{Contains-append_left, Contains-append_right, filter_map-append, All-append, All-contains, All-nil, All-tail, recursion_from_All}
 use Rattle.std.proofs.lemmas.Option.{get_or_from_slice_get, none-some, same_Some, slice_get_past, slice_get_within}
 use Rattle.collector.specs.Complete.{Fits, IsComplete}
@@ -104,11 +104,11 @@ all-files P [] each = All-nil P
 all-files P (spots ∷ places) each =
     All-append P spots (flat_map (λ s. s) places) (each 0 (omega arith)) (all-files P places (λ file within. each (suc file) (omega arith)))
 
-pub front-all : {A : Type 0} (n : ℕ) (xs ys : List A) → n ≡ length xs → take n (xs ++ ys) ≡ xs
+front-all : {A : Type 0} (n : ℕ) (xs ys : List A) → n ≡ length xs → take n (xs ++ ys) ≡ xs
 front-all n xs ys long = take-append-le n xs ys (omega arith) ∙ take_all n xs (omega arith)
 
 -- no file has a place yet
-pub none-yet : (counts : ℕ → ℕ) (n : ℕ) → AreFew counts (replicate n [])
+none-yet : (counts : ℕ → ℕ) (n : ℕ) → AreFew counts (replicate n [])
 none-yet counts zero file = omega arith
 none-yet counts (suc n) zero = omega arith
 none-yet counts (suc n) (suc file) = none-yet (λ f. counts (suc f)) n file
@@ -183,10 +183,10 @@ module _ (files : ℕ) (lists : List (List Item)) (places : List (List Spot)) (w
       ∙ none-past file place past (row_at file place items) refl)
       (cases_lt place (whole.counts file))
 
-  pub all-there : All (HasRow lists) (flat_map (λ spots. spots) places)
+  all-there : All (HasRow lists) (flat_map (λ spots. spots) places)
   all-there = all-files (HasRow lists) places (λ file within. rows-there file (omega (arith, many)))
 
-  pub are-rows : (rows : List Valued) → rows ≡ filter_map (row_on lists) (flat_map (λ spots. spots) places) → AreRows files items rows
+  are-rows : (rows : List Valued) → rows ≡ filter_map (row_on lists) (flat_map (λ spots. spots) places) → AreRows files items rows
   are-rows rows is = (
     map (filter_map (row_on lists)) places,
     record {
@@ -203,3 +203,19 @@ module _ (files : ℕ) (lists : List (List Item)) (places : List (List Spot)) (w
     },
     is ∙ found-joined (row_on lists) places,
   )
+
+-- where they were put at places that were none, and the places, lent by their front, give the spots of all files
+pub in-order : (files : ℕ) (lists : List (List Item)) (begun places rest : List (List Spot)) (n : ℕ) (spots : List Spot)
+    (whole : IsComplete files (flat_map (λ list. list) lists)) → begun ≡ replicate files [] → length places ≡ length begun
+    → All (IsPlaced lists places) (flat_map (λ list. list) lists)
+    → ((counts : ℕ → ℕ) → All (Fits files counts) (flat_map (λ list. list) lists) → AreFew counts begun → AreFew counts places)
+    → n ≡ length places → spots ≡ flat_map (λ of_file. of_file) (take n (places ++ rest))
+    → All (HasRow lists) spots × AreRows files (flat_map (λ list. list) lists) (filter_map (row_on lists) spots)
+in-order files lists begun places rest n spots whole none count placed kept long lent =
+    let many : length places ≡ files = count ∙ ap length none ∙ length-replicate files [] in
+    let few : AreFew whole.counts places = kept whole.counts whole.others (rw none (none-yet whole.counts files)) in
+    let laid : spots ≡ flat_map (λ of_file. of_file) places
+    = lent ∙ ap (λ (ps : List (List Spot)). flat_map (λ of_file. of_file) ps) (front-all n places rest long) in (
+      subst (λ (xs : List Spot). All (HasRow lists) xs) (sym laid) (all-there files lists places whole many placed few),
+      are-rows files lists places whole many placed few (filter_map (row_on lists) spots) (ap (filter_map (row_on lists)) laid),
+    )

@@ -1,51 +1,22 @@
 -- Where rows stand, after one more was put at its place.
-use Rattle.std.proofs.Common.{◌≡◌, ℕ, suc, zero, ◌+◌, ◌-◌, ◌<◌, ◌≤◌, eqb, ltb, List, [], ◌∷◌, ◌++◌, length, get_or, replicate, take, Option, Some, None, refl, sym, ap, subst, ◌∙◌, ⊎_elim, arith, length-append, length-set}
+use Rattle.std.proofs.Common.{◌≡◌, ℕ, suc, zero, ◌+◌, ◌<◌, ◌≤◌, eqb, List, [], ◌∷◌, ◌++◌, length, get_or, take, Option, Some, None, refl, sym, ap, subst, ◌∙◌, ⊎_elim, arith}
 use Rattle.std.specs.List.{All, flat_map, slice_get}
 use Rattle.std.specs.Option.{option_and_then, option_map}
-use Rattle.std.proofs.lemmas.Bool.{cond-true, cond-false, lt-ltb, le-ltb, cases_lt, cases_eq, eq-eqb}
-use Rattle.std.proofs.lemmas.List.{length-replicate, take_more}
+use Rattle.std.proofs.lemmas.Bool.{cond-true, cond-false, cases_eq, eq-eqb}
+use Rattle.std.proofs.lemmas.List.{take_more}
 use Rattle.std.proofs.lemmas.List.Elements.{All-append, All-cons, All-nil, All-tail}
 use Rattle.std.proofs.lemmas.Option.{get_or_from_slice_get, none-some, same_Some, slice_get-get_or, slice_get_within}
 use Rattle.collector.specs.Complete.{Fits}
-use Rattle.collector.specs.inner.Places.{with_spot, spots_in, IsPut, IsPutAs, IsPlaced, AreFew}
-use Rattle.collector.proofs.Slots.{get-set_same, get-set_other, get-append_left, get-filled, eqb-other}
+use Rattle.collector.specs.inner.Places.{spots_in, IsPut, IsPutAs, IsPlaced, AreFew}
+use Rattle.collector.specs.inner.WithAt.{with_at}
+use Rattle.collector.proofs.Slots.{eqb-other}
+use Rattle.collector.proofs.WithAt.{get-kept, get-put, length-put}
 use Rattle.rows.specs.Packed.{mark_of, row_in, row_of, row_on}
 use Rattle.rows.specs.declared.item.Item.{Item}
 use Rattle.rows.specs.declared.item.Item.TheVariants.{Row, End}
 use Rattle.rows.specs.declared.item.Valued.{Valued}
 use Rattle.rows.specs.declared.mark.Mark.{Mark}
 use Rattle.rows.specs.declared.spot.Spot.{Spot}
-
-with_within : (xs : List Spot) (place : ℕ) (s : Spot) → place < length xs → with_spot xs place s ≡ lib.ListN.set xs place s
-with_within xs place s within = cond-true (ltb place (length xs)) _ _ (lt-ltb place (length xs) within)
-
-with_past : (xs : List Spot) (place : ℕ) (s : Spot) → length xs ≤ place → with_spot xs place s ≡ xs ++ replicate (place + 1 - length xs) s
-with_past xs place s past = cond-false (ltb place (length xs)) _ _ (le-ltb place (length xs) past)
-
--- the spot that was put
-get-put : (xs : List Spot) (place : ℕ) (s : Spot) → slice_get (with_spot xs place s) place ≡ Some s
-get-put xs place s =
-    ⊎_elim (λ within. ap (λ ys. slice_get ys place) (with_within xs place s within) ∙ get-set_same xs place s within)
-    (λ past. ap (λ ys. slice_get ys place) (with_past xs place s past) ∙ get-filled xs s (place + 1 - length xs) place past (omega arith))
-    (cases_lt place (length xs))
-
--- and what another place had
-get-kept : (xs : List Spot) (place k : ℕ) (s : Spot) → (k ≡ place → ⊥) → k < length xs → slice_get (with_spot xs place s) k ≡ slice_get xs k
-get-kept xs place k s differs there =
-    ⊎_elim (λ within. ap (λ ys. slice_get ys k) (with_within xs place s within) ∙ get-set_other xs place k s differs)
-    (λ past. ap (λ ys. slice_get ys k) (with_past xs place s past) ∙ get-append_left xs (replicate (place + 1 - length xs) s) k there)
-    (cases_lt place (length xs))
-
-length-put : (xs : List Spot) (place most : ℕ) (s : Spot) → length xs ≤ most → place < most → length (with_spot xs place s) ≤ most
-length-put xs place most s few below =
-    ⊎_elim (λ within. omega (arith, ap length (with_within xs place s within), length-set xs place s))
-    (λ past. omega (
-      arith,
-      ap length (with_past xs place s past),
-      length-append xs (replicate (place + 1 - length xs) s),
-      length-replicate (place + 1 - length xs) s,
-    ))
-    (cases_lt place (length xs))
 
 -- the row of a spot that is found
 pub spot-found : (lists : List (List Item)) (o : Option Spot) (w : Valued) → option_and_then (row_on lists) o ≡ Some w
@@ -55,7 +26,7 @@ spot-found lists (Some s) w e = (s, refl, e)
 
 -- one row more is put at its place
 module _ (lists : List (List Item)) (old new : List (List Spot)) (file place : ℕ) (s : Spot) (put : IsPut file place s old new) where
-  own : spots_in new file ≡ with_spot (spots_in old file) place s
+  own : spots_in new file ≡ with_at (spots_in old file) place s
   own = put file ∙ cond-true (eqb file file) _ _ (eq-eqb file file refl)
 
   other-file : (f : ℕ) → (file ≡ f → ⊥) → spots_in new f ≡ spots_in old f
@@ -84,7 +55,7 @@ module _ (lists : List (List Item)) (old new : List (List Spot)) (file place : �
       (λ elsewhere. (
         was.0,
         ap (λ xs. option_and_then (row_on lists) (slice_get xs u.place))
-            (ap (spots_in new) (sym same) ∙ own ∙ ap (λ k. with_spot (spots_in old k) place s) same)
+            (ap (spots_in new) (sym same) ∙ own ∙ ap (λ k. with_at (spots_in old k) place s) same)
             ∙ ap (option_and_then (row_on lists))
             (get-kept (spots_in old u.file) place u.place s (λ e. elsewhere (sym e)) within)
             ∙ was.1,

@@ -1,3 +1,4 @@
 pub mod History
 pub mod Places
 pub mod Shelves
+pub mod WithAt

@@ -1,7 +1,8 @@
 //! What is held of all files.
 
 ghost use Rattle.std.specs.Prelude.{◌≡◌, ℕ, ◌<◌, ◌≤◌, ◌++◌, [], ◌∷◌, length, map, if◌then◌else◌, ◌==◌, Some, Err, IfOk, IfErr, IfSome, IfNone, OnOk, OnErr};
-ghost use Rattle.collector.specs.inner.Shelves.{rows_on_shelf, end_on_shelf, with_row, item_fault, file_of, ArePut, AreSame, IsFilled, IsFirstLacking};
+ghost use Rattle.collector.specs.inner.Shelves.{rows_on_shelf, end_on_shelf, item_fault, file_of, ArePut, AreSame, IsFilled, IsFirstLacking};
+ghost use Rattle.collector.specs.inner.WithAt.{with_at};
 ghost use Rattle.collector.specs.Fault.{fault};
 ghost use Rattle.collector.specs.Lists.{AreLists, IsFinishFault};
 ghost use Rattle.pit_parts.specs.declared.ranges.TheConstants.{MAX_ROWS};
@@ -27,7 +28,7 @@ pub struct Collector {
 }
 
 impl Model for Collector {
-    ghost use Rattle.std.specs.Prelude.{ℕ, ◌≤◌, length};
+    ghost use Rattle.std.specs.Prelude.{◌≤◌, length};
     ghost use Rattle.collector.specs.CollectorView.{CollectorView};
     ghost use Rattle.collector.specs.inner.History.{items_in};
     ghost use Rattle.collector.specs.inner.Shelves.{IsKept, rows_on_shelf, end_on_shelf};
@@ -91,7 +92,7 @@ impl Collector {
         ensures missing { IfErr result (IsFinishFault self.files self.items) }
     {
         require_filled(&self.shelves)?;
-        Ok(rows_of(self.alloc, self.shelves)?)
+        Ok(rows_of_shelves(self.alloc, self.shelves)?)
     }
 
     // What is wrong with an item.
@@ -141,7 +142,7 @@ fn put_item(shelves: &mut [Shelf], item: &Item) -> Result<(), AllocError>
 fn put_row(shelves: &mut [Shelf], row: &Valued) -> Result<(), AllocError>
     requires { row.now.file < length shelves.old }
     ensures rows { OnOk result ((file : ℕ) → rows_on_shelf shelves.new file
-        ≡ (if row.now.file == file then with_row (rows_on_shelf shelves.old file) row.now else rows_on_shelf
+        ≡ (if row.now.file == file then with_at (rows_on_shelf shelves.old file) row.now.place row.now else rows_on_shelf
         shelves.old file)) }
     ensures err { OnErr result ((file : ℕ) → rows_on_shelf shelves.new file ≡ rows_on_shelf shelves.old file) }
     ensures ends { (file : ℕ) → end_on_shelf shelves.new file ≡ end_on_shelf shelves.old file }
@@ -184,7 +185,7 @@ fn require_filled(shelves: &[Shelf]) -> Result<(), OrMemory<Missing>>
 }
 
 // The rows of each shelf, which are not copied.
-fn rows_of(alloc: Global, shelves: Vec<Shelf>) -> Result<Vec<Rows>, AllocError>
+fn rows_of_shelves(alloc: Global, shelves: Vec<Shelf>) -> Result<Vec<Rows>, AllocError>
     ensures { IfOk result (λ lists. lists.items ≡ map (λ shelf. shelf.rows) shelves.items) }
 {
     shelves.into_iter().map(|shelf| shelf.rows).collect(alloc)

@@ -1,13 +1,12 @@
 //! The order of rows that stay where the valuers put them.
 
-ghost use Rattle.std.specs.Prelude.{◌≡◌, ℕ, ◌^◌, ◌<◌, ◌≤◌, [], All, IfOk, OnOk, Some, length, replicate, slice_index_or};
+ghost use Rattle.std.specs.Prelude.{◌≡◌, ℕ, ◌<◌, ◌≤◌, [], All, IfOk, OnOk, length, replicate, slice_index_or};
 ghost use Rattle.std.specs.List.{flat_map};
 ghost use Rattle.collector.specs.Complete.{Fits, IsComplete};
 ghost use Rattle.collector.specs.Lists.{AreRows};
 ghost use Rattle.collector.specs.inner.Places.{AreFew, IsOfFile, IsPlaced, IsPut, IsPutAs};
-ghost use Rattle.rows.specs.Packed.{mark_of, row_on};
-ghost use Rattle.rows.specs.declared.item.Item.{Item as OneItem};
-ghost use Rattle.rows.specs.declared.item.Valued.{Valued as OneRow};
+ghost use Rattle.rows.specs.Packed.{mark_of};
+ghost use Rattle.rows.specs.declared.item.Item.{Item as AnItem};
 
 use crate::places::Places;
 use rows::{Mark, PackedItems, RowLists, Spot};
@@ -22,7 +21,7 @@ pub fn in_order(alloc: Global, files: u8, lists: Vec<PackedItems>) -> Result<Row
 {
     let mut places = no_places(alloc, files)?;
     put_lists(&mut places, &lists)?;
-    let spots = all_spots(alloc, &places)?;
+    let spots = all_spots(alloc, places)?;
     Ok(RowLists::new(lists, spots))
 }
 
@@ -60,7 +59,7 @@ fn put_list(places: &mut [Places], lists: &[PackedItems], list: u8) -> Result<()
     requires files { All (λ item. IsOfFile (length places.old) (mark_of item)) (slice_index_or lists.now list []) }
     ensures placed { OnOk result
         (All (IsPlaced lists.now places.new) (slice_index_or lists.now list [])) }
-    ensures kept { (item : OneItem) → IsPlaced lists.now places.old item
+    ensures kept { (item : AnItem) → IsPlaced lists.now places.old item
         → OnOk result (IsPlaced lists.now places.new item) }
     ensures few { (files : ℕ) (counts : ℕ → ℕ)
         → All (Fits files counts) (slice_index_or lists.now list []) → AreFew counts places.old
@@ -98,9 +97,9 @@ fn put_row(places: &mut [Places], file: u8, place: u32, spot: Spot) -> Result<()
     places[file as usize].put(place, spot)
 }
 
-// The spots of all files, one file's behind those of the file before it.
-fn all_spots(alloc: Global, places: &[Places]) -> Result<Vec<Spot>, AllocError>
-    ensures { IfOk result (λ spots. spots.items ≡ flat_map (λ of_file. of_file) places.now) }
+// The spots of all files, one file's behind those of the file before it. Those of each file are freed once they are copied.
+fn all_spots(alloc: Global, places: Vec<Places>) -> Result<Vec<Spot>, AllocError>
+    ensures { IfOk result (λ spots. spots.items ≡ flat_map (λ of_file. of_file) places.items) }
 {
     let mut spots = Vec::new(alloc);
     for of_file in places {

@@ -1,7 +1,7 @@
 //! Where the rows of a file stand.
 
 ghost use Rattle.std.specs.Prelude.{◌≡◌, [], OnOk};
-ghost use Rattle.collector.specs.inner.Places.{with_spot};
+ghost use Rattle.collector.specs.inner.WithAt.{with_at};
 
 use rows::Spot;
 use std::alloc::{AllocError, Global};
@@ -15,9 +15,9 @@ pub struct Places {
 
 impl Model for Places {
     ghost use Rattle.std.specs.Prelude.{List};
-    ghost use Rattle.rows.specs.declared.spot.Spot.{Spot as OneSpot};
+    ghost use Rattle.rows.specs.declared.spot.Spot.{Spot as ASpot};
 
-    ghost Value = { List OneSpot };
+    ghost Value = { List ASpot };
 
     ghost view = { λ p. p.spots.items };
 }
@@ -34,7 +34,7 @@ impl Places {
 
     /// Puts the row of a place at this spot.
     pub fn put(&mut self, place: u32, spot: Spot) -> Result<(), AllocError>
-        ensures { OnOk result (self.new ≡ with_spot self.old place spot) }
+        ensures { OnOk result (self.new ≡ with_at self.old place spot) }
     {
         let place = place as usize;
         if place < self.spots.len() {

@@ -1,7 +1,8 @@
 //! What is held of one file.
 
 ghost use Rattle.std.specs.Prelude.{◌≡◌, ℕ, ◌<◌, ◌≤◌, [], length, is_some, true, Some, None, MatchOption, OnOk, OnErr};
-ghost use Rattle.collector.specs.inner.Shelves.{slot, with_row, row_fault, end_fault, IsFilled, IsLacking};
+ghost use Rattle.collector.specs.inner.Shelves.{slot, row_fault, end_fault, IsFilled, IsLacking};
+ghost use Rattle.collector.specs.inner.WithAt.{with_at};
 ghost use Rattle.pit_parts.specs.declared.ranges.TheConstants.{MAX_ROWS};
 
 use crate::add_fault::AddFault;
@@ -61,7 +62,7 @@ impl Shelf {
 
     /// Puts a row at its place. The shelf stays as it was where memory is refused.
     pub fn put_row(&mut self, row: &Valued) -> Result<(), AllocError>
-        ensures ok { OnOk result (self.new.rows ≡ with_row self.old.rows row.now) }
+        ensures ok { OnOk result (self.new.rows ≡ with_at self.old.rows row.now.place row.now) }
         ensures err { OnErr result (self.new.rows ≡ self.old.rows) }
         ensures end { self.new.end ≡ self.old.end }
     {

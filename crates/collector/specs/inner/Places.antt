@@ -1,18 +1,14 @@
 -- Where the rows of each file stand, place by place, while lists of items are gone through.
-use Rattle.std.specs.Prelude.{◌≡◌, ℕ, ◌+◌, ◌-◌, ◌<◌, ◌≤◌, ◌==◌, if◌then◌else◌, nat_lt, List, [], ◌++◌, length, replicate, slice_get, slice_set, Some}
+use Rattle.std.specs.Prelude.{◌≡◌, ℕ, ◌<◌, ◌≤◌, ◌==◌, if◌then◌else◌, List, [], length, slice_get, Some}
 use Rattle.std.specs.Option.{option_and_then, unwrap_or}
 use Rattle.rows.specs.Packed.{row_on}
+use Rattle.collector.specs.inner.WithAt.{with_at}
 use Rattle.rows.specs.declared.item.Item.{Item}
 use Rattle.rows.specs.declared.item.Item.TheVariants.{Row, End}
 use Rattle.rows.specs.declared.item.Valued.{Valued}
 use Rattle.rows.specs.declared.mark.Mark.{Mark}
 use Rattle.rows.specs.declared.mark.Mark.TheVariants as mark
 use Rattle.rows.specs.declared.spot.Spot.{Spot}
-
--- the spots with one more, which also fills the places before it that no spot reached
-abbrev pub with_spot : List Spot → ℕ → Spot → List Spot
-with_spot spots place spot =
-    if nat_lt place (length spots) then slice_set spots place spot else spots ++ replicate (place + 1 - length spots) spot
 
 -- the spots of a file
 abbrev pub spots_in : List (List Spot) → ℕ → List Spot
@@ -21,7 +17,7 @@ spots_in places file = unwrap_or (slice_get places file) []
 -- the file has the spot at the place, and all else is as before
 abbrev pub IsPut : ℕ → ℕ → Spot → List (List Spot) → List (List Spot) → Type 0
 IsPut file place spot old new =
-    (other : ℕ) → spots_in new other ≡ (if file == other then with_spot (spots_in old other) place spot else spots_in old other)
+    (other : ℕ) → spots_in new other ≡ (if file == other then with_at (spots_in old other) place spot else spots_in old other)
 
 -- at the place of the row stands a row of its file and place
 abbrev pub IsPlaced : List (List Item) → List (List Spot) → Item → Type 0

@@ -1,5 +1,5 @@
 -- How the shelves of a collector keep the items that it holds.
-use Rattle.std.specs.Prelude.{◌≡◌, ℕ, ◌+◌, ◌-◌, ◌<◌, ◌≤◌, ◌==◌, ◌||◌, if◌then◌else◌, nat_le, nat_lt, is_some, true, List, [], ◌++◌, length, replicate, slice_get, slice_set, Option, Some, None}
+use Rattle.std.specs.Prelude.{◌≡◌, ℕ, ◌<◌, ◌≤◌, ◌==◌, ◌||◌, if◌then◌else◌, nat_le, nat_lt, is_some, true, List, [], length, slice_get, Option, Some, None}
 use Rattle.std.specs.Option.{option_and_then, unwrap_or, option_map}
 use Rattle.rows.specs.declared.item.Item.{Item}
 use Rattle.rows.specs.declared.item.Item.TheVariants.{Row, End}
@@ -12,6 +12,7 @@ use Rattle.pit_units.specs.declared.or_memory.OrMemory.{OrMemory}
 use Rattle.pit_units.specs.declared.or_memory.OrMemory.TheVariants.{Fault, OutOfMemory}
 use Rattle.collector.specs.Fault.{is_after}
 use Rattle.collector.specs.Lists.{IsOpen}
+use Rattle.collector.specs.inner.WithAt.{with_at}
 use Rattle.collector.specs.Found.{row_at, end_at, has_past}
 use Rattle.pit_parts.specs.declared.ranges.TheConstants.{MAX_ROWS}
 
@@ -22,11 +23,6 @@ if_at place v = if v.place == place then Some v else None
 -- the row of a place on a shelf, where one is held
 abbrev pub slot : List Valued → ℕ → Option Valued
 slot rows place = option_and_then (if_at place) (slice_get rows place)
-
--- the rows with one more, which also fills the places before it that no row reached
-abbrev pub with_row : List Valued → Valued → List Valued
-with_row rows v =
-    if nat_lt v.place (length rows) then slice_set rows v.place v else rows ++ replicate (v.place + 1 - length rows) v
 
 -- the rows on the shelf of a file
 abbrev pub rows_on_shelf : List Shelf → ℕ → List Valued
@@ -72,7 +68,7 @@ AreSame rows ends rows' ends' = ((file : ℕ) → rows' file ≡ rows file) × (
 -- the item's file has it, and all else is as before
 abbrev pub ArePut : Item → (ℕ → List Valued) → (ℕ → Option ℕ) → (ℕ → List Valued) → (ℕ → Option ℕ) → Type 0
 ArePut (Row v) rows ends rows' ends' =
-    ((file : ℕ) → rows' file ≡ (if v.file == file then with_row (rows file) v else rows file)) × ((file : ℕ) → ends' file ≡ ends file)
+    ((file : ℕ) → rows' file ≡ (if v.file == file then with_at (rows file) v.place v else rows file)) × ((file : ℕ) → ends' file ≡ ends file)
 ArePut (End f count) rows ends rows' ends' =
     ((file : ℕ) → rows' file ≡ rows file) × ((file : ℕ) → ends' file ≡ (if f == file then Some count else ends file))
 

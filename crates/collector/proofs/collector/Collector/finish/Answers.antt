@@ -12,4 +12,4 @@ returns-in_err-require_filled-clause-missing c =
 pub returns-clause-lists : goal.returns-clause-lists
 returns-clause-lists c =
     let filled = rw c.deref.ensures.value at c.in_ok-require_filled.ensures.filled in
-    are_lists _ c.self.inside.shelves.items _ c.args.self c.self.view_is c.self.invariant filled c.in_ok-rows_of.ensures
+    are_lists _ c.self.inside.shelves.items _ c.args.self c.self.view_is c.self.invariant filled c.in_ok-rows_of_shelves.ensures
