@@ -1,8 +1,10 @@
 -- The table of places, once sorted, numbers the blocks.
-use Rattle.std.proofs.Common.{◌≡◌, ℕ, ◌+◌, ◌<◌, List, [], ◌∷◌, All, Contains, length, map, get_or, cond, nat_lt, nat_eq, count_by, sym, ap, subst, ◌∙◌, arith}
-use Rattle.std.specs.List.{IsDistinct}
+use Rattle.std.proofs.Common.{◌≡◌, ℕ, ◌+◌, ◌<◌, Bool, true, false, List, [], ◌∷◌, All, Contains, length, map, get_or, cond, nat_lt, nat_eq, count_by, sym, ap, subst, ◌∙◌, arith}
+use Rattle.std.specs.Bool.{IsTrue}
+use Rattle.std.specs.List.{IsAllAdjacentAnswer, IsDistinct}
 use Rattle.std.specs.List.Sorted.{IsNonDecreasing, IsNonDecreasingBy, IsPermutation, IsStrictlyIncreasing}
 use Rattle.std.specs.Map.{keys_of, values_of}
+use Rattle.std.proofs.lemmas.Bool.{false≢true, ltb-true}
 use Rattle.std.proofs.lemmas.Bool.Decides.{nat_tests}
 use Rattle.std.proofs.lemmas.Grind.{same_number_lists}
 use Rattle.std.proofs.lemmas.List.{length-map, get_or-map}
@@ -35,6 +37,16 @@ keys_rise listed entries moved sorted distinct = IsStrictlyIncreasing-from_disti
         let low = get_or-map (λ (e : ℕ × ℕ). e.0) entries i (0, 0) d (omega arith) in
         let high = get_or-map (λ (e : ℕ × ℕ). e.0) entries j (0, 0) d (omega arith) in
         omega (arith, sorted i j (0, 0) le (omega arith))
+
+-- so they do where a test tells that each is below the next
+pub keys_told : (entries : List (ℕ × ℕ)) (r : Bool) → IsAllAdjacentAnswer (λ e f t. t ≡ nat_lt e.0 f.0) entries r → IsTrue r
+    → IsStrictlyIncreasing (keys_of entries)
+keys_told entries false told passed k lt = absurd (false≢true passed)
+keys_told entries true told passed k lt =
+    let long = length-map entries (λ (e : ℕ × ℕ). e.0) in
+    let low = get_or-map (λ (e : ℕ × ℕ). e.0) entries k (0, 0) 0 (omega arith) in
+    let high = get_or-map (λ (e : ℕ × ℕ). e.0) entries (k + 1) (0, 0) 0 (omega arith) in
+    omega (arith, low, high, ltb-true _ _ (sym (told k (0, 0) (omega arith))))
 
 module _ (listed : List Block) (entries : List (ℕ × ℕ)) (table : IsSortedTable listed entries)
     (positions : List ℕ) (are : positions ≡ values_of entries) where

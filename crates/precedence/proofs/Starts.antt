@@ -1,5 +1,5 @@
 -- Where numbers from a target on begin in a rising list.
-use Rattle.std.proofs.Common.{◌≡◌, ℕ, zero, suc, ◌+◌, ◌<◌, ◌≤◌, Bool, List, [], ◌∷◌, length, take, get_or, min, nat_lt, count_by, refl, sym, ap, ◌∙◌, arith, ⊎_elim, if◌then◌else◌}
+use Rattle.std.proofs.Common.{◌≡◌, ℕ, zero, suc, ◌+◌, ◌<◌, ◌≤◌, Bool, List, length, take, get_or, min, nat_lt, count_by, sym, ap, ◌∙◌, arith, ⊎_elim}
 use Rattle.std.specs.List.{prefix_len}
 use Rattle.std.specs.List.Sorted.{IsStrictlyIncreasing}
 use Rattle.std.proofs.lemmas.Bool.{cases_lt, lt-ltb, le-ltb, ltb-true, ltb-false}
@@ -15,23 +15,17 @@ no_less cs a b rising le lt = ⊎_elim
     (λ no. let same : a ≡ b = omega arith in omega (arith, ap (λ n. get_or cs n 0) same))
     (cases_lt a b)
 
-start_is : (t : ℕ) (cs : List ℕ) → start_of t cs ≡ prefix_len (λ c. nat_lt c t) cs
-start_is t [] = refl
-start_is t (c ∷ cs) =
-    let more : suc (start_of t cs) ≡ 1 + prefix_len (λ c. nat_lt c t) cs = omega (arith, start_is t cs) in
-    λ j. if nat_lt c t then more j else 0
-
 pub start_within : (t : ℕ) (cs : List ℕ) → start_of t cs ≤ length cs
-start_within t cs = omega (arith, start_is t cs, prefix_len-le-length (λ c. nat_lt c t) cs)
+start_within t cs = prefix_len-le-length (λ c. nat_lt c t) cs
 
 -- a number before the place is below the target, and one from there on is not
 pub start_before_in : (t k : ℕ) (cs : List ℕ) → k < start_of t cs → get_or cs k 0 < t
-start_before_in t k cs lt = ltb-true _ _ (prefix_len_passes (λ c. nat_lt c t) cs k 0 (omega (arith, start_is t cs)))
+start_before_in t k cs lt = ltb-true _ _ (prefix_len_passes (λ c. nat_lt c t) cs k 0 (omega arith))
 
 pub from_start : (t k : ℕ) (cs : List ℕ) → IsStrictlyIncreasing cs → start_of t cs ≤ k → k < length cs → t ≤ get_or cs k 0
 from_start t k cs rising le lt =
-    let first = ltb-false _ _ (prefix_len_stops (λ c. nat_lt c t) cs 0 (omega (arith, start_is t cs))) in
-    omega (arith, first, no_less cs (prefix_len (λ c. nat_lt c t) cs) k rising (omega (arith, start_is t cs)) lt)
+    let first = ltb-false _ _ (prefix_len_stops (λ c. nat_lt c t) cs 0 (omega arith)) in
+    omega (arith, first, no_less cs (prefix_len (λ c. nat_lt c t) cs) k rising (omega arith) lt)
 
 -- so a number below the target stands before the place, and one that is not stands from there on
 pub start_after : (t k : ℕ) (cs : List ℕ) → IsStrictlyIncreasing cs → k < length cs → get_or cs k 0 < t → k + 1 ≤ start_of t cs

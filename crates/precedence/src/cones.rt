@@ -4,5 +4,5 @@ pub mod bounds;
 pub mod cone_rows;
 pub mod cone_table;
 pub mod counting;
-pub mod table;
+pub mod row_making;
 pub mod zone_tables;

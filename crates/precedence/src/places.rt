@@ -10,7 +10,7 @@ use pit_parts::block::Block;
 use std::alloc::{AllocError, Global};
 
 pub mod code;
-pub mod find;
+pub mod start_of;
 
 /// The codes of all blocks of a model in the order of their identifiers.
 #[derive(Debug, Drop)]

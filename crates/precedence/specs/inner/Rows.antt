@@ -1,6 +1,7 @@
 -- The rows of a cone: where the codes of its blocks lie, as seen from a block.
-use Rattle.std.specs.Prelude.{◌≡◌, ℕ, suc, ◌+◌, ◌-◌, ◌*◌, ◌^◌, ◌<◌, ◌≤◌, ◌&&◌, ◌||◌, Bool, false, List, [], ◌∷◌, map, nat_lt, nat_le, if◌then◌else◌}
+use Rattle.std.specs.Prelude.{◌≡◌, ℕ, ◌+◌, ◌-◌, ◌*◌, ◌^◌, ◌<◌, ◌≤◌, ◌&&◌, ◌||◌, Bool, false, List, [], ◌∷◌, map, nat_lt, nat_le}
 use Rattle.std.specs.Int.{abs_diff}
+use Rattle.std.specs.List.{prefix_len}
 use Rattle.pit_parts.specs.declared.block.Block.{Block}
 use Rattle.pit_parts.specs.declared.cone.Cone.{Cone}
 use Rattle.pit_parts.specs.declared.grid.Grid.{Grid}
@@ -49,8 +50,7 @@ edge rows dz i = dz * 10 ^ 10 + i * 10 ^ 5 - (rows * 10 ^ 5 + 2 * GRID_CELLS)
 
 -- how many codes, from the first on, are below t
 abbrev pub start_of : ℕ → List ℕ → ℕ
-start_of t [] = 0
-start_of t (c ∷ cs) = if nat_lt c t then suc (start_of t cs) else 0
+start_of t cs = prefix_len (λ c. nat_lt c t) cs
 
 -- where each row is past
 abbrev pub pasts : List Row → List ℕ

@@ -1,6 +1,6 @@
 //! The bounds of a model.
 
-ghost use Rattle.std.specs.Prelude.{ℕ, ◌<◌, ◌≤◌, length, slice_index_or};
+ghost use Rattle.std.specs.Prelude.{ℕ, ◌<◌, length, slice_index_or};
 ghost use Rattle.pit_parts.specs.declared.block.Block.{Block};
 ghost use Rattle.precedence.specs.inner.Rows.{IsWithin};
 ghost use Rattle.precedence.specs.inner.ZoneTables.{Holds};

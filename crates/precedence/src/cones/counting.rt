@@ -1,9 +1,8 @@
 //! Counting the blocks of a row that a cone takes in.
 
 ghost use Rattle.std.specs.Prelude.{◌≡◌, ◌*◌, ◌<◌, ◌≤◌, ◌^◌, false};
-ghost use Rattle.std.specs.Int.{abs_diff};
 ghost use Rattle.pit_parts.specs.PlanKept.{IsCone, IsGrid, IsSlope};
-ghost use Rattle.precedence.specs.Cone.{square, is_within_slopes};
+ghost use Rattle.precedence.specs.Cone.{square};
 ghost use Rattle.precedence.specs.inner.Reach.{takes_in, slope_across, CountsAll, CountsRow, CountsSide};
 ghost use Rattle.pit_parts.specs.declared.ranges.TheConstants.{GRID_CELLS, MAX_SIZE, MAX_SLOPE};
 

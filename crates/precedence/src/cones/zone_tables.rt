@@ -1,15 +1,14 @@
 //! The tables of the cones of all zones.
 
-ghost use Rattle.std.specs.Prelude.{◌≡◌, ℕ, ◌<◌, ◌≤◌, ◌++◌, [], ◌∷◌, IfOk, OnOk, Some, All, length, map, slice_get, slice_index, slice_index_or};
+ghost use Rattle.std.specs.Prelude.{◌≡◌, ℕ, ◌<◌, ◌≤◌, IfOk, IfSome, OnOk, Some, All, length, slice_get, slice_index, slice_index_or};
 ghost use Rattle.pit_parts.specs.PlanKept.{IsCone, IsGrid};
-ghost use Rattle.pit_parts.specs.declared.cone.Cone.{Cone};
 ghost use Rattle.precedence.specs.inner.Rows.{pasts};
 ghost use Rattle.precedence.specs.inner.ZoneTables.{HasTables, IsTold};
 ghost use Rattle.precedence.specs.declared.cones.cone_table.ConeTable.{ConeTable};
 
 use crate::cones::cone_rows::{Extent, Row};
 use crate::cones::cone_table::ConeTable;
-use crate::cones::table::rows_of;
+use crate::cones::row_making::cone_rows;
 use pit_parts::cone::Cone;
 use pit_parts::grid::Grid;
 use std::alloc::{AllocError, Global};
@@ -77,27 +76,22 @@ fn place_of(
     ensures kept { OnOk result ((k : ℕ) (t : ConeTable) → k < length tables.old.items
         → slice_index_or tables.new.items k t ≡ slice_index_or tables.old.items k t) }
 {
-    let place = find_cone(tables.as_slice(), cone);
-    if place < tables.len() {
+    if let Some(place) = find_cone(tables.as_slice(), cone) {
         return Ok(place);
     }
+    let place = tables.len();
     let table = table_of(alloc, grid, cone, extent, rows_before(tables.as_slice()))?;
     tables.push(table)?;
     Ok(place)
 }
 
-// The place of the first table of a cone, or their number where there is none.
-fn find_cone(tables: &[ConeTable], cone: Cone) -> usize
-    ensures within { result ≤ length tables.now }
-    ensures same { result < length tables.now → (t : ConeTable)
-        → (slice_index_or tables.now result t).cone ≡ cone }
+// The place of the first table of a cone.
+fn find_cone(tables: &[ConeTable], cone: Cone) -> Option<usize>
+    ensures within { IfSome result (λ place. place < length tables.now) }
+    ensures same { IfSome result (λ place. (t : ConeTable)
+        → (slice_index_or tables.now place t).cone ≡ cone) }
 {
-    for (place, table) in tables.iter().enumerate() {
-        if table.cone == cone {
-            return place;
-        }
-    }
-    tables.len()
+    tables.iter().position(|table| table.cone == cone)
 }
 
 fn rows_before(tables: &[ConeTable]) -> usize {
@@ -119,7 +113,7 @@ fn table_of(
     ensures cone { IfOk result (λ table. table.cone ≡ cone) }
     ensures told { IfOk result (IsTold grid extent) }
 {
-    let rows = rows_of(alloc, grid, cone, extent)?;
+    let rows = cone_rows(alloc, grid, cone, extent)?;
     let past = past_of(alloc, rows.as_slice())?;
     Ok(ConeTable {
         cone,

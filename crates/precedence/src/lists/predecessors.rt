@@ -1,6 +1,6 @@
 //! The predecessors of each block of a model.
 
-ghost use Rattle.std.specs.Prelude.{◌≡◌, ◌-◌, ◌<◌, ◌≤◌, ◌++◌, [], ◌∷◌, OnOk, OnErr, Some, drop, length, slice_get, slice_index, sum_by, take};
+ghost use Rattle.std.specs.Prelude.{◌≡◌, ◌-◌, ◌<◌, ◌≤◌, ◌++◌, [], ◌∷◌, OnOk, OnErr, Some, drop, length, slice_get, sum_by, take};
 ghost use Rattle.precedence.specs.inner.PredsFields.{pieces, start_at, AreEnds};
 
 use crate::lists::cut_runs::add_cut;

@@ -7,12 +7,11 @@ ghost use Rattle.precedence.specs.Cone.{places_where};
 ghost use Rattle.precedence.specs.IdRuns.{ids_of};
 ghost use Rattle.precedence.specs.inner.Rows.{is_in_rows, pasts, start_of, AreInOrder};
 ghost use Rattle.precedence.specs.inner.Search.{run};
-ghost use Rattle.precedence.specs.declared.cones.cone_rows.Row.{Row};
 
 use crate::cones::cone_rows::Row;
 use crate::lists::id_run::IdRun;
 use crate::places::Places;
-use crate::places::find::find;
+use crate::places::start_of::start_of;
 use std::alloc::AllocError;
 use std::cell::Cell;
 
@@ -91,7 +90,7 @@ fn add_run(
         ≡ start_of (from + row.past) places.now.codes.items) }
 {
     let codes = places.codes.as_slice();
-    let first = find(codes, hint.first as usize, from + row.first);
+    let first = start_of(codes, hint.first as usize, from + row.first);
     let past = run_end(codes, first, hint.past as usize, from + row.past);
     push_run(runs, first as u32, past as u32)?;
     Ok(Hint {
@@ -127,7 +126,7 @@ fn run_end(codes: &[u64], first: usize, hint: usize, past: u64) -> usize
     ensures { result ≡ start_of past codes.now }
 {
     if first < codes.len() && codes[first] < past {
-        find(codes, hint.max(first), past)
+        start_of(codes, hint.max(first), past)
     } else {
         first
     }
@@ -146,7 +145,7 @@ fn next_row(places: &Places, pasts: &[u64], i: usize, past: usize, from: u64) ->
 {
     if past < places.codes.len() {
         let gap = places.codes[past].saturating_sub(from);
-        find(pasts, i, gap.saturating_add(1)).max(i + 1)
+        start_of(pasts, i, gap.saturating_add(1)).max(i + 1)
     } else {
         pasts.len()
     }

@@ -62,7 +62,7 @@ fn sorted_places<L: ListedBlocks>(alloc: Global, listed: &L) -> Result<Vec<Place
         return Ok(places);
     }
     // Some place stands twice: the list itself tells which comes first.
-    differ(alloc, listed)?;
+    require_distinct(alloc, listed)?;
     Ok(places)
 }
 
@@ -84,16 +84,11 @@ fn places_of_list<L: ListedBlocks>(alloc: Global, listed: &L) -> Result<Vec<Plac
 fn rise(places: &[Place]) -> bool
     ensures { IsTrue result → IsStrictlyIncreasing (keys_of places.now) }
 {
-    for next in 1..places.len() {
-        if places[next].0 <= places[next - 1].0 {
-            return false;
-        }
-    }
-    true
+    places.is_sorted_by(|place, next| place.0 < next.0)
 }
 
 // Finds the first block of a list whose place stood before, and fails there.
-fn differ<L: ListedBlocks>(alloc: Global, listed: &L) -> Result<(), OrMemory<Same>>
+fn require_distinct<L: ListedBlocks>(alloc: Global, listed: &L) -> Result<(), OrMemory<Same>>
     requires { length (L.listed listed.now) ≤ MAX_BLOCKS }
     ensures differ { OnOk result (IsDistinct nat_eq (place_codes (L.listed listed.now))) }
     ensures same { IfErr result (IsReason (L.listed listed.now)) }

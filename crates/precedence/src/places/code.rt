@@ -1,6 +1,6 @@
 //! One number for a block's place, in the order of identifiers.
 
-ghost use Rattle.std.specs.Prelude.{◌≡◌, ◌+◌, ◌*◌, ◌^◌, ◌<◌};
+ghost use Rattle.std.specs.Prelude.{◌≡◌, ◌^◌, ◌<◌};
 ghost use Rattle.precedence.specs.Codes.{place_code};
 
 use pit_parts::block::Block;

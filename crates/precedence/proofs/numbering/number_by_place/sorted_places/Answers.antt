@@ -20,5 +20,5 @@ returns-clause-sorted g c =
       moved = moved;
       rising = keys_rise listed places moved
           (IsNonDecreasingBy-from_sort_by_key (λ (e : ℕ × ℕ). e.0) _ c.in_ok-sort_by_key.ensures.sorted (λ a r q k. search rules))
-          c.in_ok-differ.ensures.differ;
+          c.in_ok-require_distinct.ensures.differ;
     }

@@ -1,7 +1,7 @@
 use Rattle.std.proofs.Common.{◌≡◌, take, nat_eq}
 use Rattle.indexmap.specs.IndexMap.{IsUnique}
 use Rattle.precedence.specs.inner.Seen.{placed}
-use Rattle.precedence.proofs.numbering.number_by_place.differ.Given as goal
+use Rattle.precedence.proofs.numbering.number_by_place.require_distinct.Given as goal
 
 abbrev pub invariant-loop-position : goal.invariant-loop-position
 invariant-loop-position g l = record {

@@ -6,7 +6,7 @@ use Rattle.std.proofs.lemmas.Option.{get_or_from_slice_get}
 use Rattle.pit_parts.specs.declared.block.Block.{Block}
 use Rattle.precedence.specs.Codes.{place_code, place_codes}
 use Rattle.precedence.proofs.SeenPlaces.{first_again, keys-placed, placed_on}
-use Rattle.precedence.proofs.numbering.number_by_place.differ.Goals as goal
+use Rattle.precedence.proofs.numbering.number_by_place.require_distinct.Goals as goal
 
 pub returns-in-Some-clause-same : goal.returns-in-Some-clause-same
 returns-in-Some-clause-same g c =

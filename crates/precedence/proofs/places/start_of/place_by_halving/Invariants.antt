@@ -1,6 +1,6 @@
 use Rattle.std.proofs.Common.{◌≤◌, ◌-◌, length}
 use Rattle.precedence.specs.inner.Rows.{start_of}
-use Rattle.precedence.proofs.places.find.halved.Given as goal
+use Rattle.precedence.proofs.places.start_of.place_by_halving.Given as goal
 
 abbrev pub invariant-loop-low : goal.invariant-loop-low
 invariant-loop-low l = record {

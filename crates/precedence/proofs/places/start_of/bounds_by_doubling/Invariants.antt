@@ -1,6 +1,6 @@
 use Rattle.std.proofs.Common.{◌≤◌, ◌-◌, length}
 use Rattle.precedence.specs.inner.Rows.{start_of}
-use Rattle.precedence.proofs.places.find.stretched.Given as goal
+use Rattle.precedence.proofs.places.start_of.bounds_by_doubling.Given as goal
 
 abbrev pub invariant-loop-step : goal.invariant-loop-step
 invariant-loop-step l = record {

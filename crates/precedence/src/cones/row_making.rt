@@ -14,7 +14,7 @@ use std::alloc::{AllocError, Global};
 
 /// The rows of a cone, in order, in a model no greater than `extent`: a block lies in the cone exactly where its code
 /// lies in one of these rows.
-pub fn rows_of(
+pub fn cone_rows(
     alloc: Global,
     grid: Grid,
     cone: Cone,
@@ -50,7 +50,7 @@ fn add_bench(
     let mut counts = Counts { west: 0, east: 0 };
     for i in 0..2 * extent.rows + 1 {
         counts = row_counts(grid, cone, extent.rows, dz, i, counts);
-        add_row(rows, row_at(extent, dz, i, counts))?;
+        add_row(rows, bench_row(extent, dz, i, counts))?;
     }
     Ok(())
 }
@@ -67,7 +67,7 @@ fn add_row(rows: &mut Vec<Row>, row: Row) -> Result<(), AllocError>
 }
 
 // The row `i` of the bench `dz` above, with so many blocks on each side.
-fn row_at(extent: Extent, dz: u16, i: u16, counts: Counts) -> Row
+fn bench_row(extent: Extent, dz: u16, i: u16, counts: Counts) -> Row
     requires up { 1 ≤ dz }
     requires dz { dz < GRID_CELLS }
     requires i { i ≤ 2 * extent.rows }

@@ -1,6 +1,6 @@
 use Rattle.std.proofs.Common.{◌≡◌, ◌+◌, ◌∙◌, min, ap, arith}
 use Rattle.precedence.proofs.Tables.{tells_none, is_table}
-use Rattle.precedence.proofs.cones.table.rows_of.Goals as goal
+use Rattle.precedence.proofs.cones.row_making.cone_rows.Goals as goal
 
 pub loop-dz-init : goal.loop-dz-init
 loop-dz-init c = rw c.new-rows.ensures.items (tells_none c.args.grid c.args.cone c.args.extent)

@@ -1,23 +1,23 @@
 use Rattle.std.proofs.Common.{◌≡◌, ◌+◌, ◌*◌, ◌≤◌, ⊎_elim, arith}
 use Rattle.std.proofs.lemmas.Bool.{cases_lt}
 use Rattle.precedence.proofs.Tables.{tells_row, tells_no_row, tells_bench}
-use Rattle.precedence.proofs.cones.table.add_bench.Goals as goal
+use Rattle.precedence.proofs.cones.row_making.add_bench.Goals as goal
 
 pub loop-i-preserved : goal.loop-i-preserved
 loop-i-preserved c =
     let a = c.args in
     let i = c.loop-i.i in
-    let row = c.row_at.result in
+    let row = c.bench_row.result in
     let counts = c.row_counts-counts in
     let rows = c.loop-i.rows.items in
     let inside : i ≤ 2 * a.extent.rows = omega (arith, c.loop-i-test.true) in
     ⊎_elim
     (λ some. rw (c.in_ok-add_row.ensures.row some)
     (tells_row a.grid a.cone a.extent a.dz i c.requires.up c.requires.within inside counts.result counts.ensures
-    row c.row_at.ensures.first c.row_at.ensures.past some rows c.loop-i.invariant))
+    row c.bench_row.ensures.first c.bench_row.ensures.past some rows c.loop-i.invariant))
     (λ none. rw (c.in_ok-add_row.ensures.no_row none)
     (tells_no_row a.grid a.cone a.extent a.dz i c.requires.up c.requires.within inside counts.result counts.ensures
-    row c.row_at.ensures.first c.row_at.ensures.past none rows c.loop-i.invariant))
+    row c.bench_row.ensures.first c.bench_row.ensures.past none rows c.loop-i.invariant))
     (cases_lt row.first row.past)
 
 pub returns : goal.returns

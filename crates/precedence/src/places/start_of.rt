@@ -7,7 +7,7 @@ ghost use Rattle.precedence.specs.inner.Rows.{start_of};
 /// How many of the rising numbers are below `target`. `hint` is a guess: it changes the time and not the answer. The
 /// search is fastest where the hint is one less than the answer, and fast where it is somewhat less.
 #[inline(always)]
-pub fn find(numbers: &[u64], hint: usize, target: u64) -> usize
+pub fn start_of(numbers: &[u64], hint: usize, target: u64) -> usize
     requires { IsStrictlyIncreasing numbers.now }
     ensures { result ≡ start_of target numbers.now }
 {
@@ -15,8 +15,8 @@ pub fn find(numbers: &[u64], hint: usize, target: u64) -> usize
         return hint + 1;
     }
     let low = checked_hint(numbers, hint, target);
-    let (low, high) = stretched(numbers, low, target);
-    halved(numbers, low, high, target)
+    let (low, high) = bounds_by_doubling(numbers, low, target);
+    place_by_halving(numbers, low, high, target)
 }
 
 // Whether the number at the hint is the last below the target, and another follows: mostly so for the next block of a row.
@@ -47,7 +47,7 @@ fn checked_hint(numbers: &[u64], hint: usize, target: u64) -> usize
 // Bounds of the place from `low` on, by steps that double.
 #[tactic(auto, using(crate::proofs::Starts::starts))]
 #[inline(always)]
-fn stretched(numbers: &[u64], low: usize, target: u64) -> (usize, usize)
+fn bounds_by_doubling(numbers: &[u64], low: usize, target: u64) -> (usize, usize)
     requires rising { IsStrictlyIncreasing numbers.now }
     requires low { low ≤ start_of target numbers.now }
     ensures low { result.0 ≤ start_of target numbers.now }
@@ -66,7 +66,7 @@ fn stretched(numbers: &[u64], low: usize, target: u64) -> (usize, usize)
 // The place between two bounds, by halving.
 #[tactic(auto, using(crate::proofs::Starts::starts))]
 #[inline(always)]
-fn halved(numbers: &[u64], low: usize, high: usize, target: u64) -> usize
+fn place_by_halving(numbers: &[u64], low: usize, high: usize, target: u64) -> usize
     requires rising { IsStrictlyIncreasing numbers.now }
     requires low { low ≤ start_of target numbers.now }
     requires high { start_of target numbers.now ≤ high }
