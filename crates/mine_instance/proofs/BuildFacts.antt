@@ -3,13 +3,13 @@ use Rattle.std.proofs.Common.{◌≡◌, ℕ, suc, ◌+◌, ◌*◌, ◌<◌, �
 use Rattle.std.specs.Prelude.{filter, slice_get, slice_index, ◌==◌}
 use Rattle.std.specs.List.{cons_option, flat_map, filter_map, range_with_len, enumerate_from, list_any}
 use Rattle.std.proofs.lemmas.Bool.{cases_Bool, eqb-true}
-use Rattle.std.proofs.lemmas.List.{length-map, map-append, take_more}
+use Rattle.std.proofs.lemmas.List.{length-map, map-append}
 use Rattle.std.proofs.lemmas.List.Concat.{flat_map-append, length-flat_map}
-use Rattle.std.proofs.lemmas.List.Elements.{All-nil, All-cons, All-tail, filter-append}
+use Rattle.std.proofs.lemmas.List.Elements.{filter-append}
 use Rattle.std.proofs.lemmas.List.Folds.{find_at}
 use Rattle.std.proofs.lemmas.List.FromFn.{length-enumerate_from, length-range_with_len}
 use Rattle.std.proofs.lemmas.List.Sums.{count_by-le-length, length-filter, position_or_len_is, sum_by-le}
-use Rattle.std.proofs.lemmas.Option.{get_or_from_slice_get, slice_get-get_or, slice_get_within}
+use Rattle.std.proofs.lemmas.Option.{slice_get-get_or}
 use Rattle.pit_parts.specs.declared.block.Block.{Block}
 use Rattle.pit_parts.specs.declared.resource.Resource.{Resource}
 use Rattle.precedence.specs.Identifier.{id}
@@ -17,10 +17,6 @@ use Rattle.precedence.specs.Numbering.{IsNumbering, NumberingView}
 use Rattle.precedence.proofs.PlacesWhere.{numbered_more}
 use Rattle.precedence.proofs.RunsOfRows.{range_more}
 use Rattle.mine_instance.specs.OfModel.{block_of_id, by_identifier, covers, pair_with, covering}
-
--- the next element of a front
-pub take_next : {X : Type 0} (xs : List X) (i : ℕ) (x : X) → slice_get xs i ≡ Some x → take (i + 1) xs ≡ take i xs ++ x ∷ []
-take_next xs i x e = take_more xs i x (slice_get_within xs i x e) ∙ ap (λ y. take i xs ++ y ∷ []) (get_or_from_slice_get xs i x x e)
 
 -- the pairs of one destination more
 pub pairs_next : (resources : List Resource) (d : ℕ)
@@ -109,13 +105,6 @@ by_identifier_is listed n is =
     ap (λ m. filter_map (block_of_id listed) (range_with_len 0 m)) (sym is.blocks)
     ∙ all_found (block_of_id listed) 0 n.blocks (λ k d h.
     let here : 0 + k ≡ k = omega arith in ap (block_of_id listed) here ∙ block_found listed n is k d h)
-
--- what holds of two lists, one after the other, holds of both
-pub All-parts : {X : Type 0} (P : X → Type 0) (xs ys : List X) → All P (xs ++ ys) → All P xs × All P ys
-All-parts P [] ys all = (All-nil P, all)
-All-parts P (x ∷ xs) ys all =
-    let more = All-parts P xs ys (All-tail P x (xs ++ ys) all) in
-    (All-cons P x xs (all 0 x (omega arith)) more.0, more.1)
 
 -- a list that grew by one piece
 pub grown : {X : Type 0} (base old new front more next : List X) → new ≡ old ++ more → old ≡ base ++ front → next ≡ front ++ more

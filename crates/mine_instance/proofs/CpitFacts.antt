@@ -7,18 +7,18 @@ use Rattle.std.proofs.lemmas.List.{length-map}
 use Rattle.std.proofs.lemmas.List.Elements.{All-map, All-filter, filter_passes}
 use Rattle.std.proofs.lemmas.List.Kept.{AllPairs-filter}
 use Rattle.mine_instance.specs.CpitKept.{IsCpit}
-use Rattle.mine_instance.specs.CpitOrder.{is_listed_before}
+use Rattle.mine_instance.specs.CpitOrder.{cpit_coef_before}
 use Rattle.mine_instance.specs.Greatest.{greatest}
 use Rattle.mine_instance.specs.OfCpit.{cpit, is_chosen, without_destination, destination_of}
-use Rattle.mine_instance.specs.Order.{coef_comes_before}
+use Rattle.mine_instance.specs.Order.{coef_before}
 use Rattle.mine_instance.specs.Valid.{IsValid}
 use Rattle.mine_instance.specs.declared.coefs.coef.Coef.{Coef}
 use Rattle.mine_instance.specs.Instance.{Instance}
 use Rattle.mine_instance.proofs.PairFacts.{pairs_map}
 
 -- of two coefficients at their blocks' destinations, the order is that of blocks and resources
-listed : (values : List (List ℤ)) (c e : Coef) → is_chosen values c ≡ true → is_chosen values e ≡ true → IsTrue (coef_comes_before c e)
-    → IsTrue (is_listed_before (without_destination c) (without_destination e))
+listed : (values : List (List ℤ)) (c e : Coef) → is_chosen values c ≡ true → is_chosen values e ≡ true → IsTrue (coef_before c e)
+    → IsTrue (cpit_coef_before (without_destination c) (without_destination e))
 listed values c e p q h = in_order (destination_of values) c.b e.b c.d e.d c.r e.r (eqb-true _ _ p) (eqb-true _ _ q) h
   where
     in_order : (f : ℕ → ℕ) (b b' d d' r r' : ℕ) → d ≡ f b → d' ≡ f b'
@@ -26,14 +26,14 @@ listed values c e p q h = in_order (destination_of values) c.b e.b c.d e.d c.r e
         → (nat_lt b b' || ((b == b') && nat_lt r r')) ≡ true
     in_order f b b' d d' r r' p q h = grind (arith, nat_tests)
 
-chosen_rise : (values : List (List ℤ)) (coefs : List Coef) → AllPairs (λ c e. IsTrue (coef_comes_before c e)) coefs
-    → AllPairs (λ c e. IsTrue (is_listed_before c e)) (map without_destination (filter (is_chosen values) coefs))
+chosen_rise : (values : List (List ℤ)) (coefs : List Coef) → AllPairs (λ c e. IsTrue (coef_before c e)) coefs
+    → AllPairs (λ c e. IsTrue (cpit_coef_before c e)) (map without_destination (filter (is_chosen values) coefs))
 chosen_rise values coefs rising =
     let chosen : List Coef = filter (is_chosen values) coefs in
-    pairs_map (λ c e. IsTrue (is_listed_before c e)) without_destination chosen (λ i j d h k.
+    pairs_map (λ c e. IsTrue (cpit_coef_before c e)) without_destination chosen (λ i j d h k.
     listed values (get_or chosen i d) (get_or chosen j d) (filter_passes (is_chosen values) coefs i d (omega arith))
     (filter_passes (is_chosen values) coefs j d k)
-    (AllPairs-filter (λ c e. IsTrue (coef_comes_before c e)) (is_chosen values) coefs rising i j d h k))
+    (AllPairs-filter (λ c e. IsTrue (coef_before c e)) (is_chosen values) coefs rising i j d h k))
 
 chosen_in_range : (values : List (List ℤ)) (n destinations resources : ℕ) (coefs : List Coef)
     → All (λ c. (c.b < n) × (c.d < destinations) × (c.r < resources)) coefs

@@ -2,10 +2,11 @@
 use Rattle.std.proofs.Common.{◌≡◌, ℕ, ◌+◌, ◌<◌, cond, List, [], ◌∷◌, ◌++◌, length, take, drop, get_or, map, refl, sym, ◌∙◌, ap, add-zero, subst, All, ℤ}
 use Rattle.std.specs.Prelude.{filter, slice_index_or, ◌==◌}
 use Rattle.std.proofs.Math.Seq.{take-add}
-use Rattle.std.proofs.lemmas.List.{get_or-drop, get_or-map, get_or-take, map-append, take_more}
+use Rattle.std.proofs.lemmas.List.{get_or-drop, get_or-map, get_or-take, map-append}
 use Rattle.std.proofs.lemmas.List.Elements.{filter-append}
 use Rattle.mine_instance.specs.Greatest.{first_greatest}
-use Rattle.mine_instance.specs.Groups.{coef_of, coefs_in, pairs_of}
+use Rattle.mine_instance.specs.Groups.{coefs_in, pairs_of}
+use Rattle.mine_instance.specs.OfModel.{coef_of}
 use Rattle.mine_instance.specs.OfCpit.{is_chosen, without_destination}
 use Rattle.mine_instance.specs.declared.coefs.coef.Coef.{Coef}
 use Rattle.mine_instance.specs.declared.coefs.group.CoefGroup.{CoefGroup}
@@ -13,13 +14,6 @@ use Rattle.mine_instance.specs.declared.coefs.group.CoefGroup.{CoefGroup}
 -- the coefficients so far, and those of a group
 pub group_more : (all group : List Coef) (from n : ℕ) → group ≡ take n (drop from all) → take (from + n) all ≡ take from all ++ group
 group_more all group from n is = take-add from n all ∙ ap (λ xs. take from all ++ xs) (sym is)
-
--- one coefficient of a group more
-pub one_more : (b : ℕ) (v : ℤ) (pairs : List (ℕ × ℕ)) (i : ℕ) (pair : ℕ × ℕ) → i < length pairs → pair ≡ get_or pairs i pair
-    → map (coef_of b v) (take (i + 1) pairs) ≡ map (coef_of b v) (take i pairs) ++ coef_of b v pair ∷ []
-one_more b v pairs i pair h is =
-    ap (map (coef_of b v)) (take_more pairs i pair h ∙ ap (λ p. take i pairs ++ p ∷ []) (sym is))
-    ∙ map-append (coef_of b v) (take i pairs) (pair ∷ [])
 
 -- the block of a group is that of the first coefficient
 first_block : (group : CoefGroup) (all : List Coef) (from : ℕ) (d : Coef) → 0 < length (pairs_of group.pairs)

@@ -23,7 +23,7 @@ use Rattle.rows.specs.Valued.{worths_by}
 use Rattle.mine_instance.proofs.PairFacts.{pairs_append, pairs_map, rising_differ}
 use Rattle.mine_instance.specs.Valid.{AreLimits, AreCoefs, ArePreds, IsValid}
 use Rattle.mine_instance.specs.OfModel.{values_of, in_hundreds, covers, pair_with, covering, covered, coef_at, block_coefs, coefs_of, instance_of, instance_with}
-use Rattle.mine_instance.specs.Order.{coef_comes_before}
+use Rattle.mine_instance.specs.Order.{coef_before}
 use Rattle.mine_instance.specs.declared.coefs.coef.Coef.{Coef}
 
 -- one value per destination
@@ -129,10 +129,10 @@ covered_rise resources n =
     pairs_flat PairBefore (covering resources) (λ d. d) (λ p. p.0) (λ p q h. inl h) (λ d k p h. (covering_in resources d k p h).0)
     (covering_rise resources) (range_with_len 0 n) (AllPairs-from_increasing (range_with_len 0 n) (range_rises 0 n))
 
-coef_order : (k : ℕ) (b : Block) (p q : ℕ × ℕ) → PairBefore p q → IsTrue (coef_comes_before (coef_at k b p) (coef_at k b q))
+coef_order : (k : ℕ) (b : Block) (p q : ℕ × ℕ) → PairBefore p q → IsTrue (coef_before (coef_at k b p) (coef_at k b q))
 coef_order k b p q h = grind (arith, nat_tests)
 
-block_order : (c e : Coef) → c.b < e.b → IsTrue (coef_comes_before c e)
+block_order : (c e : Coef) → c.b < e.b → IsTrue (coef_before c e)
 block_order c e h = grind (arith, nat_tests)
 
 module _ (nd nr : ℕ) (pairs : List (ℕ × ℕ)) (fit : All (λ p. (p.0 < nd) × (p.1 < nr)) pairs) (rise : AllPairs PairBefore pairs) where
@@ -143,9 +143,9 @@ module _ (nd nr : ℕ) (pairs : List (ℕ × ℕ)) (fit : All (λ p. (p.0 < nd) 
       or_none (λ cs. All P cs) (e.1.kg == 0) (map (coef_at e.0 e.1) pairs) (All-nil P)
       (All-map P (coef_at e.0 e.1) pairs (λ k p h. (refl, (fit k p h).0, (fit k p h).1)))
 
-  block_coefs_rise : (e : ℕ × Block) → AllPairs (λ c f. IsTrue (coef_comes_before c f)) (block_coefs pairs e)
+  block_coefs_rise : (e : ℕ × Block) → AllPairs (λ c f. IsTrue (coef_before c f)) (block_coefs pairs e)
   block_coefs_rise e =
-      let R : Coef → Coef → Type 0 = λ c f. IsTrue (coef_comes_before c f) in
+      let R : Coef → Coef → Type 0 = λ c f. IsTrue (coef_before c f) in
       or_none (λ cs. AllPairs R cs) (e.1.kg == 0) (map (coef_at e.0 e.1) pairs) (λ i j d h k. absurd (omega arith))
       (pairs_map R (coef_at e.0 e.1) pairs (λ i j d h k. coef_order e.0 e.1 _ _ (rise i j d h k)))
 
@@ -155,7 +155,7 @@ module _ (nd nr : ℕ) (pairs : List (ℕ × ℕ)) (fit : All (λ p. (p.0 < nd) 
         (λ k e lt i c h.
         let own = block_coefs_in (get_or (enumerate_from 0 blocks) k e) i c h in
         (omega (arith, own.0, numbered_at blocks k e lt), own.1, own.2));
-    rising = pairs_flat (λ c f. IsTrue (coef_comes_before c f)) (block_coefs pairs) (λ e. e.0) (λ c. c.b) block_order
+    rising = pairs_flat (λ c f. IsTrue (coef_before c f)) (block_coefs pairs) (λ e. e.0) (λ c. c.b) block_order
         (λ e k c h. (block_coefs_in e k c h).0) block_coefs_rise (enumerate_from 0 blocks) (numbered_rise blocks);
   }
 

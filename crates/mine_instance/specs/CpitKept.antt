@@ -1,7 +1,7 @@
 -- What every CPIT keeps.
 use Rattle.std.specs.Prelude.{ℕ, ◌<◌, ◌≤◌, ℤ, List, length, All, AllPairs, IsTrue}
 use Rattle.pit_parts.specs.declared.limit.Limit.{Limit}
-use Rattle.mine_instance.specs.CpitOrder.{is_listed_before}
+use Rattle.mine_instance.specs.CpitOrder.{cpit_coef_before}
 use Rattle.mine_instance.specs.Valid.{IsHorizon, AreLimits}
 use Rattle.mine_instance.specs.declared.cpit.CpitCoef.{CpitCoef}
 use Rattle.pit_parts.specs.declared.ranges.TheConstants.{MAX_BLOCKS}
@@ -22,7 +22,7 @@ cpit_of name rate periods resources values coefs limits = record {
 -- coefficients of blocks and resources that are there, strictly rising
 pub record AreCpitCoefs (n resources : ℕ) (coefs : List CpitCoef) : Type 0 where
   pub in_range : All (λ c. (c.b < n) × (c.r < resources)) coefs
-  pub rising : AllPairs (λ c e. IsTrue (is_listed_before c e)) coefs
+  pub rising : AllPairs (λ c e. IsTrue (cpit_coef_before c e)) coefs
 
 -- what every CPIT keeps
 pub record IsCpit (p : CpitParts) : Type 0 where

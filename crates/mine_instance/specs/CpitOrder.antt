@@ -3,5 +3,5 @@ use Rattle.std.specs.Prelude.{Bool, ◌==◌, ◌&&◌, ◌||◌, nat_lt}
 use Rattle.mine_instance.specs.declared.cpit.CpitCoef.{CpitCoef}
 
 -- by block, then resource
-abbrev pub is_listed_before : CpitCoef → CpitCoef → Bool
-is_listed_before c e = nat_lt c.b e.b || ((c.b == e.b) && nat_lt c.r e.r)
+abbrev pub cpit_coef_before : CpitCoef → CpitCoef → Bool
+cpit_coef_before c e = nat_lt c.b e.b || ((c.b == e.b) && nat_lt c.r e.r)

@@ -1,5 +1,6 @@
 -- The coefficients of a group: those of one block with the same tonnes.
-use Rattle.std.specs.Prelude.{ℕ, ℤ, List, map}
+use Rattle.std.specs.Prelude.{ℕ, List, map}
+use Rattle.mine_instance.specs.OfModel.{coef_of}
 use Rattle.mine_instance.specs.declared.coefs.coef.Coef.{Coef}
 use Rattle.mine_instance.specs.declared.coefs.group.CoefGroup.{CoefGroup}
 use Rattle.mine_instance.specs.declared.coefs.group.Pairs.{Pairs}
@@ -9,10 +10,6 @@ use Rattle.mine_instance.specs.declared.coefs.group.Pairs.TheVariants.{Covered, 
 abbrev pub pairs_of : Pairs → List (ℕ × ℕ)
 pairs_of (Covered pairs) = pairs.now
 pairs_of (One pair) = pair
-
--- the coefficient of a block and its tonnes at a destination and a resource
-abbrev pub coef_of : ℕ → ℤ → ℕ × ℕ → Coef
-coef_of b v pair = record { b = b; d = pair.0; r = pair.1; v = v }
 
 -- the coefficients of a group
 abbrev pub coefs_in : CoefGroup → List Coef

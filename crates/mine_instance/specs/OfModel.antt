@@ -45,9 +45,13 @@ covering resources d = map (pair_with d) (filter (covers d) (enumerate_from 0 re
 abbrev pub covered : PlanParts → List (ℕ × ℕ)
 covered plan = flat_map (covering plan.resources) (range_with_len 0 (length plan.formulas))
 
--- the coefficient of block k at a destination and a resource: the tonnes of the block
+-- the coefficient of a block and its tonnes at a destination and a resource
+abbrev pub coef_of : ℕ → ℤ → ℕ × ℕ → Coef
+coef_of k tonnes pair = record { b = k; d = pair.0; r = pair.1; v = tonnes }
+
+-- that of block k: a block weighs whole kilograms
 abbrev pub coef_at : ℕ → Block → ℕ × ℕ → Coef
-coef_at k b pair = record { b = k; d = pair.0; r = pair.1; v = pos (b.kg * 1000) }
+coef_at k b = coef_of k (pos (b.kg * 1000))
 
 -- the coefficients of a block; one without tonnage has none
 abbrev pub block_coefs : List (ℕ × ℕ) → ℕ × Block → List Coef

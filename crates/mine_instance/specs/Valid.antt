@@ -2,7 +2,7 @@
 use Rattle.std.specs.Prelude.{◌≡◌, ◌≢◌, ℕ, ◌<◌, ◌≤◌, ℤ, pos, ◌≤ℤ◌, List, [], length, slice_index_or, All, AllPairs, EachIndex, IsTrue, false}
 use Rattle.pit_parts.specs.PlanKept.{RiseStrictly, is_turned}
 use Rattle.pit_parts.specs.declared.limit.Limit.{Limit}
-use Rattle.mine_instance.specs.Order.{coef_comes_before}
+use Rattle.mine_instance.specs.Order.{coef_before}
 use Rattle.mine_instance.specs.declared.coefs.coef.Coef.{Coef}
 use Rattle.mine_instance.specs.Instance.{Instance}
 use Rattle.pit_parts.specs.declared.ranges.TheConstants.{MAX_BLOCKS, MAX_DESTINATIONS, MAX_PERIODS, MAX_RATE, MAX_RESOURCES}
@@ -37,13 +37,14 @@ pub record HasDestinations (destinations : ℕ) (values : List (List ℤ)) : Typ
 -- coefficients of blocks, destinations and resources that are there, strictly rising
 pub record AreCoefs (n destinations resources : ℕ) (coefs : List Coef) : Type 0 where
   pub in_range : All (λ c. (c.b < n) × (c.d < destinations) × (c.r < resources)) coefs
-  pub rising : AllPairs (λ c e. IsTrue (coef_comes_before c e)) coefs
+  pub rising : AllPairs (λ c e. IsTrue (coef_before c e)) coefs
 
 -- limits of resources and periods that are there, none turned, strictly rising
 pub record AreLimits (resources periods : ℕ) (limits : List Limit) : Type 0 where
   pub in_range : All (λ l. (l.resource < resources) × (l.period < periods) × (is_turned l.bound ≡ false)) limits
   pub rising : RiseStrictly limits
 
+-- all of these: the lengths, ranges and orders of an instance
 pub record IsValid (i : Instance) : Type 0 where
   pub lengths : HasLengths i
   pub preds : ArePreds (length i.blocks) i.preds

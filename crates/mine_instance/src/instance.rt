@@ -21,6 +21,7 @@ use std::alloc::{AllocError, Global};
 /// and `FoundValues` finds them.
 #[derive(Debug, Drop)]
 pub struct Instance<P = Preds, C = Coefs, V = Values> {
+    /// The NAME of the instance.
     pub name: Name,
     /// The discount rate, 0 to 1 in a valid instance.
     pub rate: Dec,
@@ -30,6 +31,7 @@ pub struct Instance<P = Preds, C = Coefs, V = Values> {
     pub destinations: u8,
     /// The number of resources.
     pub resources: u8,
+    /// The blocks, by identifier.
     pub blocks: Blocks,
     /// The blocks that each block has to wait for.
     pub preds: P,
@@ -37,6 +39,7 @@ pub struct Instance<P = Preds, C = Coefs, V = Values> {
     pub values: V,
     /// What resources handle of each block at each destination.
     pub coefs: C,
+    /// The limits, in rising order of resource and period.
     pub limits: Limits,
 }
 

@@ -17,6 +17,6 @@ impl Ordered for Limit {
         self.stands_before(other)
     }
 
-    #[tactic(auto, using(crate::proofs::OrderLaws::stands_before_through))]
-    fn goes_through() {}
+    #[tactic(auto, using(crate::proofs::OrderLaws::stands_before_is_transitive))]
+    fn is_transitive() {}
 }

@@ -1,6 +1,6 @@
 //! Lists that rise strictly.
 
-ghost use Rattle.std.specs.Prelude.{◌≡◌, ◌↔◌, IsTrue, AllPairs};
+ghost use Rattle.std.specs.Prelude.{◌↔◌, IsTrue, AllPairs};
 
 /// Items with an order.
 pub trait Ordered {
@@ -9,8 +9,8 @@ pub trait Ordered {
     fn is_before(&self, other: &Self) -> bool
         ensures { IsTrue result ↔ before self.now other.now };
 
-    /// Does nothing. Its contract says that the order goes through.
-    fn goes_through()
+    /// Does nothing. Its contract says that the order is transitive.
+    fn is_transitive()
         ensures { (x y z : Self) → before x y → before y z → before x z };
 }
 
@@ -18,7 +18,7 @@ pub trait Ordered {
 pub fn rises<T: Ordered>(items: &[T]) -> bool
     ensures { IsTrue result ↔ AllPairs T.before items.now }
 {
-    T::goes_through();
+    T::is_transitive();
     for index in 1..items.len() {
         if !items[index - 1].is_before(&items[index]) {
             return false;
@@ -36,6 +36,6 @@ impl Ordered for u32 {
         *self < *other
     }
 
-    #[tactic(auto, using(crate::proofs::OrderLaws::less_through))]
-    fn goes_through() {}
+    #[tactic(auto, using(crate::proofs::OrderLaws::less_is_transitive))]
+    fn is_transitive() {}
 }

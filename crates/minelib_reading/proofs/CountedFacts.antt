@@ -3,12 +3,12 @@ use Rattle.std.proofs.Common.{◌≡◌, ℕ, ◌+◌, ◌-◌, ◌<◌, ◌≤�
 use Rattle.std.proofs.lemmas.Bool.Decides.{nat_tests}
 use Rattle.std.proofs.lemmas.List.{length_push}
 use Rattle.std.specs.Prelude.{slice_get}
-use Rattle.mine_instance.specs.Order.{coef_comes_before}
+use Rattle.mine_instance.specs.Order.{coef_before}
 use Rattle.mine_instance.specs.declared.coefs.coef.Coef.{Coef}
 use Rattle.minelib_reading.specs.ModelLines.{is_behind, last_of}
 use Rattle.minelib_reading.specs.inner.CountedItems.{last_d, last_r, most_up_to}
 
-pub next_place : (last : Option Coef) (n : ℕ) (c : Coef) → last_d last < 256 → last_r last < 256 → n ≤ most_up_to last → is_behind coef_comes_before last c ≡ true
+pub next_place : (last : Option Coef) (n : ℕ) (c : Coef) → last_d last < 256 → last_r last < 256 → n ≤ most_up_to last → is_behind coef_before last c ≡ true
     → n + 1 ≤ most_up_to (Some c)
 next_place None n c d r low behind = omega (arith, low)
 next_place (Some last) n c d r low behind = grind (arith, nat_tests, d, r, low, behind)

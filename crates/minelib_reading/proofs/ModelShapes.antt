@@ -6,7 +6,7 @@ use Rattle.std.proofs.lemmas.Bool.{ne_eqb}
 use Rattle.forms.specs.Words.{Value, Bytes, millionths, whole_at, whole_stated, is_fine, read, read_field, HasFineForms, placed, read_all, Shape, check, failing, unless, ◌>>=◌, Field}
 use Rattle.pit_parts.specs.Name.{is_name}
 use Rattle.pit_parts.specs.PlanKept.{is_turned, stands_before}
-use Rattle.mine_instance.specs.Order.{coef_comes_before}
+use Rattle.mine_instance.specs.Order.{coef_before}
 use Rattle.minelib_reading.specs.HeaderNumbers.{count_in, is_given, with_key, number_said}
 use Rattle.minelib_reading.specs.ItemForms.{bytes_in, coef_form, coef_said, limit_form, limit_said, row_said, values_form}
 use Rattle.minelib_lines.specs.HeaderTable.{field_of, has_key, key_word}
@@ -221,11 +221,11 @@ values_takes d fields =
 pub coef_takes : (d : ModelDraftView) (fields : List (List ℕ))
     → takes (coef_line d fields)
     ≡ (coef_of d.problem d.blocks (count_in d.header key.Destinations) (count_in d.header key.Resources) fields
-    >>= λ c. if is_behind coef_comes_before (last_of d.coefs) c then Ok (record d { coefs = d.coefs ++ c ∷ [] }) else Err Order)
+    >>= λ c. if is_behind coef_before (last_of d.coefs) c then Ok (record d { coefs = d.coefs ++ c ∷ [] }) else Err Order)
 unfolding takes coef_line coef_of
 coef_takes d fields =
     item_takes (read text_kinds (coef_form d.problem d.blocks (count_in d.header key.Destinations) (count_in d.header key.Resources)) fields)
-    _ _ _ _ (λ values. in_order (is_behind coef_comes_before (last_of d.coefs) (coef_said d.problem values)) _)
+    _ _ _ _ (λ values. in_order (is_behind coef_before (last_of d.coefs) (coef_said d.problem values)) _)
 
 pub limit_takes : (d : ModelDraftView) (fields : List (List ℕ))
     → takes (limit_line d fields)

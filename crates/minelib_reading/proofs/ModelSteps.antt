@@ -9,7 +9,7 @@ use Rattle.forms.proofs.NumberFields.{quotient}
 use Rattle.forms.specs.Words.{Value, Millionths, Bytes, whole, whole_at, whole_stated, FitsField, check, failing, States, Says, Spell}
 use Rattle.pit_parts.specs.declared.limit.Limit.{Limit}
 use Rattle.pit_parts.specs.PlanKept.{is_turned, stands_before}
-use Rattle.mine_instance.specs.Order.{coef_comes_before}
+use Rattle.mine_instance.specs.Order.{coef_before}
 use Rattle.mine_instance.specs.declared.coefs.coef.Coef.{Coef}
 use Rattle.text_lines.specs.declared.text_fault.TextKind.TheVariants.{Order, Count, Twice, Key, Missing}
 use Rattle.minelib_lines.specs.HeaderTable.{field_of, key_value, type_text}
@@ -174,7 +174,7 @@ values_back d next fields (vs, is, spelled) = record {
 
 pub coef_step : (d next : ModelDraftView) (fields : List (List ℕ)) → States (coef_line d fields) next
     → (c : Coef) × (next ≡ record d { coefs = d.coefs ++ c ∷ [] })
-    × SpellCoef d.problem d.blocks (header_stated d.name d.header) fields c × (is_behind coef_comes_before (last_of d.coefs) c ≡ true)
+    × SpellCoef d.problem d.blocks (header_stated d.name d.header) fields c × (is_behind coef_before (last_of d.coefs) c ≡ true)
 unfolding coef_line
 coef_step d next fields s =
     let destinations = count_in d.header key.Destinations in
@@ -187,12 +187,12 @@ coef_step d next fields s =
         subst (Spell form fields) (coef_are d.problem d.blocks destinations resources s.values fit) s.spelled,
         said_destination d.problem s.values,
       ),
-      (passed Order (is_behind coef_comes_before (last_of d.coefs) (coef_said d.problem s.values)) [] s.last).0,
+      (passed Order (is_behind coef_before (last_of d.coefs) (coef_said d.problem s.values)) [] s.last).0,
     )
 
 pub coef_back : (d next : ModelDraftView) (fields : List (List ℕ))
     → (c : Coef) × (next ≡ record d { coefs = d.coefs ++ c ∷ [] })
-    × SpellCoef d.problem d.blocks (header_stated d.name d.header) fields c × (is_behind coef_comes_before (last_of d.coefs) c ≡ true)
+    × SpellCoef d.problem d.blocks (header_stated d.name d.header) fields c × (is_behind coef_before (last_of d.coefs) c ≡ true)
     → States (coef_line d fields) next
 unfolding coef_line
 coef_back d next fields (c, is, spelled, behind) =
@@ -201,8 +201,8 @@ coef_back d next fields (c, is, spelled, behind) =
       first = refl;
       values = coef_values d.problem c;
       spelled = spelled.0;
-      last = met Order (is_behind coef_comes_before (last_of d.coefs) (coef_said d.problem (coef_values d.problem c))) []
-          (ap (is_behind coef_comes_before (last_of d.coefs)) same ∙ behind) refl;
+      last = met Order (is_behind coef_before (last_of d.coefs) (coef_said d.problem (coef_values d.problem c))) []
+          (ap (is_behind coef_before (last_of d.coefs)) same ∙ behind) refl;
       is = is ∙ ap (λ c. record d { coefs = d.coefs ++ c ∷ [] }) (sym same);
     }
 

@@ -8,7 +8,7 @@ use Rattle.forms.proofs.NumberFields.{quotient}
 use Rattle.forms.specs.Words.{Field, Value, whole, whole_stated, AllState, check, failing, States, Spell}
 use Rattle.pit_parts.specs.PlanKept.{stands_before}
 use Rattle.pit_parts.specs.declared.limit.Limit.{Limit}
-use Rattle.mine_instance.specs.Order.{coef_comes_before}
+use Rattle.mine_instance.specs.Order.{coef_before}
 use Rattle.mine_instance.specs.declared.coefs.coef.Coef.{Coef}
 use Rattle.text_lines.specs.TextLines.{Line, fields_of}
 use Rattle.text_lines.specs.declared.text_fault.TextKind.TheVariants.{Count, Twice, Key, Missing}
@@ -110,7 +110,7 @@ values_states d vs line spelled =
 
 coef_states : (d : ModelDraftView) (c : Coef) (line : List ℕ)
     → SpellCoef d.problem d.blocks (header_stated d.name d.header) (fields_of line) c
-    → is_behind coef_comes_before (last_of d.coefs) c ≡ true
+    → is_behind coef_before (last_of d.coefs) c ≡ true
     → States (model_line (record d { section = Coefs }) line) (record d { section = Coefs; coefs = d.coefs ++ c ∷ [] })
 coef_states d c line spelled behind =
     let destinations = count_in d.header key.Destinations in
@@ -250,7 +250,7 @@ sections_back problem n m lines name h complete are header =
     let coefs = items_state model_grammar (λ _ line c. SpellCoef problem n (header_stated name h) (fields_of line) c)
     (λ done. at Coefs m.values done []) m.coefs
     (λ _ done x rest line cut s. coef_states (at Coefs m.values done []) x line.text s
-    (behind_last coef_comes_before m.coefs done x rest cut are.rising_coefs)) 0 [] m.coefs are.coefs refl refl are.spell_coefs in
+    (behind_last coef_before m.coefs done x rest cut are.rising_coefs)) 0 [] m.coefs are.coefs refl refl are.spell_coefs in
     let limits = items_state model_grammar (λ _ line l. SpellLimit (header_stated name h) (fields_of line) l)
     (λ done. at Limits m.values m.coefs done) m.limits
     (λ _ done x rest line cut s. limit_states (at Limits m.values m.coefs done) x line.text s

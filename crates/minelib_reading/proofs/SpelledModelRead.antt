@@ -5,8 +5,8 @@ use Rattle.std.proofs.lemmas.Bool.{and_parts, eqb-true}
 use Rattle.forms.proofs.FormFacts.{spelled_fit}
 use Rattle.forms.specs.Words.{AllState, Says, States}
 use Rattle.pit_parts.specs.PlanKept.{RiseStrictly, stands_before}
-use Rattle.mine_instance.specs.Order.{coef_comes_before}
-use Rattle.mine_instance.proofs.OrderLaws.{coef_comes_before_through, stands_before_through}
+use Rattle.mine_instance.specs.Order.{coef_before}
+use Rattle.mine_instance.proofs.OrderLaws.{coef_before_is_transitive, stands_before_is_transitive}
 use Rattle.pit_parts.specs.declared.limit.Limit.{Limit}
 use Rattle.mine_instance.specs.declared.coefs.coef.Coef.{Coef}
 use Rattle.text_lines.specs.TextLines.{Line, fields_of}
@@ -60,7 +60,7 @@ abbrev AreFew : ModelDraftView → List (List ℤ) → Type 0
 AreFew d values = length values ≤ d.blocks
 
 abbrev CoefsRise : List Coef → Type 0
-CoefsRise coefs = AllPairs (λ c e. IsTrue (coef_comes_before c e)) coefs
+CoefsRise coefs = AllPairs (λ c e. IsTrue (coef_before c e)) coefs
 
 -- the lines so far, in the header and in each section
 abbrev InHeading : ModelDraftView → List Line → Type 0
@@ -210,7 +210,7 @@ stepped problem n done d next line states was =
         let s = coef_step d next (fields_of line.text) states in
         within _ Coefs s.1 here here refl refl (λ before. (
           part_more (InValues d) Coefs (SpellsCoef d) CoefsRise d.coefs done line s.0 s.2
-              (rises_behind coef_comes_before coef_comes_before_through d.coefs s.0 before.0.kept s.3) before.0,
+              (rises_behind coef_before coef_before_is_transitive d.coefs s.0 before.0.kept s.3) before.0,
           before.1,
           before.2,
         ))
@@ -220,7 +220,7 @@ stepped problem n done d next line states was =
         let s = limit_step d next (fields_of line.text) states in
         within _ Limits s.1 here here refl refl (λ before. (
           part_more (InCoefs d) Limits (SpellsLimit d) RiseStrictly d.limits done line s.0 s.2
-              (rises_behind stands_before stands_before_through d.limits s.0 before.0.kept s.3) before.0,
+              (rises_behind stands_before stands_before_is_transitive d.limits s.0 before.0.kept s.3) before.0,
           before.1,
         ))
 

@@ -7,7 +7,7 @@ use Rattle.std.specs.Str.{bytes_eq}
 use Rattle.forms.specs.Words.{Value, Bytes, whole_at, whole_stated, Grammar, read_all, Check, Shape, check, ◌>>=◌}
 use Rattle.pit_parts.specs.PlanKept.{is_turned, stands_before}
 use Rattle.pit_parts.specs.declared.limit.Limit.{Limit}
-use Rattle.mine_instance.specs.Order.{coef_comes_before}
+use Rattle.mine_instance.specs.Order.{coef_before}
 use Rattle.mine_instance.specs.declared.coefs.coef.Coef.{Coef}
 use Rattle.minelib_reading.specs.HeaderNumbers.{no_key, with_key, count_in, is_given, is_complete, number_said}
 use Rattle.minelib_reading.specs.ItemForms.{bytes_in, coef_form, coef_said, limit_form, limit_said, row_said, values_form}
@@ -185,7 +185,7 @@ coef_line d fields = record {
   texts = fields;
   form = coef_form d.problem d.blocks (count_in d.header key.Destinations) (count_in d.header key.Resources);
   kinds = text_kinds;
-  last = λ values. check Order (is_behind coef_comes_before (last_of d.coefs) (coef_said d.problem values));
+  last = λ values. check Order (is_behind coef_before (last_of d.coefs) (coef_said d.problem values));
   next = λ values. record d { coefs = d.coefs ++ coef_said d.problem values ∷ [] };
 }
 

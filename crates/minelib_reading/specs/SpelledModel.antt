@@ -5,7 +5,7 @@ use Rattle.std.specs.List.{Contains}
 use Rattle.forms.specs.Words.{Says, Spell}
 use Rattle.pit_parts.specs.PlanKept.{RiseStrictly, is_turned}
 use Rattle.pit_parts.specs.declared.limit.Limit.{Limit}
-use Rattle.mine_instance.specs.Order.{coef_comes_before}
+use Rattle.mine_instance.specs.Order.{coef_before}
 use Rattle.mine_instance.specs.declared.coefs.coef.Coef.{Coef}
 use Rattle.text_lines.specs.TextLines.{Line, fields_of, lines_in, end_of}
 use Rattle.text_lines.specs.declared.text_fault.LineFault.{LineFault}
@@ -85,7 +85,7 @@ pub record AreModelLines (problem : Problem) (n : ℕ) (lines : List Line)
   pub begin_coefs : IsKeyLine (section_text Coefs) coefficients.text []
   pub spell_coefs :
       AreLines (λ _ line c. SpellCoef problem n m.header (fields_of line) c) 0 coefs m.coefs
-  pub rising_coefs : AllPairs (λ c e. IsTrue (coef_comes_before c e)) m.coefs
+  pub rising_coefs : AllPairs (λ c e. IsTrue (coef_before c e)) m.coefs
   pub begin_limits : IsKeyLine (section_text Limits) resource_limits.text []
   pub spell_limits : AreLines (λ _ line l. SpellLimit m.header (fields_of line) l) 0 limits m.limits
   pub rising_limits : RiseStrictly m.limits

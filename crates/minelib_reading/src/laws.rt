@@ -5,9 +5,9 @@ ghost use Rattle.forms.specs.Words.{Spell, AllState, IsFirstFault, Value, whole_
 ghost use Rattle.mine_instance.specs.Cpit.{CpitParts};
 ghost use Rattle.mine_instance.specs.CpitKept.{IsCpit};
 ghost use Rattle.mine_instance.specs.Valid.{ArePredsOf, IsValid};
-ghost use Rattle.mine_instance.specs.Order.{coef_comes_before};
+ghost use Rattle.mine_instance.specs.Order.{coef_before};
 ghost use Rattle.mine_instance.specs.declared.coefs.coef.Coef.{Coef};
-ghost use Rattle.mine_instance.specs.Instance.{Instance as OneInstance};
+ghost use Rattle.mine_instance.specs.Instance.{Instance as AnInstance};
 ghost use Rattle.minelib_reading.specs.BlockLines.{block_form, block_grammar, block_shape, blocks_in};
 ghost use Rattle.minelib_reading.specs.Denotes.{Denotes, DenotesCpit};
 ghost use Rattle.minelib_lines.specs.HeaderTable.{field_of, key_value, type_text};
@@ -31,7 +31,7 @@ ghost use Rattle.pit_parts.specs.declared.ranges.TheConstants.{MAX_BLOCKS};
 
 /// The instance that three texts denote is valid.
 pub fn read_is_valid()
-    ensures { (blocks prec pcpsp : List ℕ) (i : OneInstance) → Denotes blocks prec pcpsp i
+    ensures { (blocks prec pcpsp : List ℕ) (i : AnInstance) → Denotes blocks prec pcpsp i
         → IsValid i }
 {}
 
@@ -74,7 +74,7 @@ pub fn lines_state_what_they_spell()
         → States (coef_line d fields) next
         ↔ (c : Coef) × (next ≡ record d { coefs = d.coefs ++ c ∷ [] })
         × SpellCoef d.problem d.blocks (stated_by d).header fields c
-        × (is_behind coef_comes_before (last_of d.coefs) c ≡ true) }
+        × (is_behind coef_before (last_of d.coefs) c ≡ true) }
     ensures limits { (d next : ModelDraftView) (fields : List (List ℕ))
         → States (limit_line d fields) next
         ↔ (l : Limit) × (next ≡ record d { limits = d.limits ++ l ∷ [] })
@@ -125,7 +125,7 @@ pub fn spelled_models_are_read()
 
 /// Three texts denote an instance exactly where their lines spell it.
 pub fn instances_are_spelled()
-    ensures { (blocks prec pcpsp : List ℕ) (i : OneInstance)
+    ensures { (blocks prec pcpsp : List ℕ) (i : AnInstance)
         → Denotes blocks prec pcpsp i ↔ SpellInstance blocks prec pcpsp i }
 {}
 

@@ -1,10 +1,10 @@
 //! What the items of a block file and of a model file are given to, which keeps them or counts them.
 
 ghost use Rattle.std.specs.Prelude.{◌≡◌, ◌<◌, ◌++◌, [], ◌∷◌, ℤ, List, All, OnOk, OnErr, length, true};
-ghost use Rattle.mine_instance.specs.Order.{coef_comes_before};
-ghost use Rattle.mine_instance.specs.declared.coefs.coef.Coef.{Coef as OneCoef};
+ghost use Rattle.mine_instance.specs.Order.{coef_before};
+ghost use Rattle.mine_instance.specs.declared.coefs.coef.Coef.{Coef as ACoef};
 ghost use Rattle.minelib_reading.specs.ModelLines.{is_behind, last_of};
-ghost use Rattle.pit_parts.specs.declared.block.Block.{Block as OneBlock};
+ghost use Rattle.pit_parts.specs.declared.block.Block.{Block as ABlock};
 ghost use Rattle.pit_parts.specs.declared.ranges.TheConstants.{MAX_BLOCKS};
 
 use mine_instance::coefs::coef::Coef;
@@ -14,7 +14,7 @@ use std::alloc::AllocError;
 
 /// Takes one block after the other.
 pub trait TakeBlocks {
-    ghost blocks: { Self → List OneBlock };
+    ghost blocks: { Self → List ABlock };
 
     /// How many blocks there are.
     fn count(&self) -> usize
@@ -30,7 +30,7 @@ pub trait TakeBlocks {
 pub trait TakeItems {
     ghost values: { Self → List (List ℤ) };
 
-    ghost coefs: { Self → List OneCoef };
+    ghost coefs: { Self → List ACoef };
 
     /// How many blocks have values.
     fn values_len(&self) -> usize
@@ -42,7 +42,7 @@ pub trait TakeItems {
 
     /// Whether a coefficient comes behind the last one.
     fn is_next(&self, coef: &Coef) -> bool
-        ensures { result ≡ is_behind coef_comes_before (last_of (coefs self.now)) coef.now };
+        ensures { result ≡ is_behind coef_before (last_of (coefs self.now)) coef.now };
 
     /// Takes the values of one more block, as many as each of the others has.
     fn take_values(&mut self, row: &Vec<Dec>) -> Result<(), AllocError>
@@ -54,7 +54,7 @@ pub trait TakeItems {
 
     /// Takes one more coefficient, which comes behind the last one.
     fn take_coef(&mut self, coef: Coef) -> Result<(), AllocError>
-        requires next { is_behind coef_comes_before (last_of (coefs self.old)) coef ≡ true }
+        requires next { is_behind coef_before (last_of (coefs self.old)) coef ≡ true }
         requires block { coef.b < MAX_BLOCKS }
         requires destination { coef.d < 256 }
         requires resource { coef.r < 256 }

@@ -2,6 +2,7 @@
 use Rattle.std.specs.Prelude.{ℕ, ◌*◌, ◌≤◌, ◌==◌, List, [], ◌∷◌, pos, length, map, if◌then◌else◌}
 use Rattle.std.specs.List.{flat_map, enumerate_from}
 use Rattle.pit_parts.specs.declared.block.Block.{Block}
+use Rattle.mine_instance.specs.OfModel.{coef_of}
 use Rattle.mine_instance.specs.declared.coefs.coef.Coef.{Coef}
 use Rattle.mine_instance.specs.declared.coefs.found.FoundCoefs.TheInside.{Inside}
 use Rattle.mine_instance.specs.declared.coefs.found.HeavyBlock.{HeavyBlock}
@@ -17,7 +18,7 @@ heavy_of blocks = flat_map heavy_one (enumerate_from 0 blocks)
 
 -- the coefficient of such a block at a destination and a resource
 abbrev pub heavy_coef : HeavyBlock → ℕ × ℕ → Coef
-heavy_coef block pair = record { b = block.b; d = pair.0; r = pair.1; v = pos (block.kg * 1000) }
+heavy_coef block = coef_of block.b (pos (block.kg * 1000))
 
 abbrev pub heavy_coefs : List (ℕ × ℕ) → HeavyBlock → List Coef
 heavy_coefs pairs block = map (heavy_coef block) pairs

@@ -1,7 +1,7 @@
 //! What a block takes of a resource where it goes to a destination.
 
 ghost use Rattle.std.specs.Prelude.{◌≡◌};
-ghost use Rattle.mine_instance.specs.Order.{coef_comes_before};
+ghost use Rattle.mine_instance.specs.Order.{coef_before};
 
 use crate::rising::Ordered;
 use pit_parts::listed::Listed;
@@ -26,7 +26,7 @@ pub type Coefs = Listed<Coef>;
 impl Coef {
     /// Whether the coefficient comes before another: by block, then destination, then resource.
     pub fn comes_before(&self, other: &Coef) -> bool
-        ensures { result ≡ coef_comes_before self.now other.now }
+        ensures { result ≡ coef_before self.now other.now }
     {
         self.b < other.b
             || (self.b == other.b && (self.d < other.d || (self.d == other.d && self.r < other.r)))
@@ -35,14 +35,14 @@ impl Coef {
 
 impl Ordered for Coef {
     ghost use Rattle.std.specs.Prelude.{IsTrue};
-    ghost use Rattle.mine_instance.specs.Order.{coef_comes_before};
+    ghost use Rattle.mine_instance.specs.Order.{coef_before};
 
-    ghost before = { λ c e. IsTrue (coef_comes_before c e) };
+    ghost before = { λ c e. IsTrue (coef_before c e) };
 
     fn is_before(&self, other: &Coef) -> bool {
         self.comes_before(other)
     }
 
-    #[tactic(auto, using(crate::proofs::OrderLaws::coef_comes_before_through))]
-    fn goes_through() {}
+    #[tactic(auto, using(crate::proofs::OrderLaws::coef_before_is_transitive))]
+    fn is_transitive() {}
 }

@@ -1,6 +1,6 @@
 //! Coefficients that are found when they are asked for.
 
-ghost use Rattle.std.specs.Prelude.{◌≡◌, ◌*◌, ◌<◌, ◌≤◌, ◌==◌, ◌++◌, ◌∷◌, [], pos, if◌then◌else◌, IfOk, OnOk, length};
+ghost use Rattle.std.specs.Prelude.{◌≡◌, ◌*◌, ◌≤◌, ◌++◌, pos, IfOk, OnOk, length};
 ghost use Rattle.mine_instance.specs.OfModel.{coefs_of};
 ghost use Rattle.mine_instance.specs.inner.FoundCoefFields.{heavy_of, heavy_one};
 ghost use Rattle.pit_parts.specs.declared.ranges.TheConstants.{MAX_BLOCKS, MAX_DESTINATIONS, MAX_RESOURCES};
@@ -40,10 +40,10 @@ pub struct FoundCoefs {
 
 impl Model for FoundCoefs {
     ghost use Rattle.std.specs.Prelude.{List};
-    ghost use Rattle.mine_instance.specs.declared.coefs.coef.Coef.{Coef as OneCoef};
+    ghost use Rattle.mine_instance.specs.declared.coefs.coef.Coef.{Coef as ACoef};
     ghost use Rattle.mine_instance.specs.inner.FoundCoefFields.{found_in, KeepsFew};
 
-    ghost Value = { List OneCoef };
+    ghost Value = { List ACoef };
 
     ghost view = { found_in };
 

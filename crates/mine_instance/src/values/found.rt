@@ -6,7 +6,7 @@ ghost use Rattle.mine_instance.specs.WorthsOf.{AreWorthsOf};
 ghost use Rattle.pit_parts.specs.Plan.{PlanParts};
 ghost use Rattle.precedence.specs.Identifier.{blocks_of_rows};
 ghost use Rattle.precedence.specs.Numbering.{IsNumbering, NumberingView};
-ghost use Rattle.rows.specs.declared.item.Valued.{Valued as OneRow};
+ghost use Rattle.rows.specs.declared.item.Valued.{Valued as ARow};
 
 use crate::values::block::BlockValues;
 use crate::values::list::ValueList;
@@ -41,7 +41,7 @@ impl FoundValues {
         requires { All (λ p. p < length worths) positions.items }
         ensures value { result
             ≡ map (λ p. map in_hundreds (slice_index_or worths p [])) positions.items }
-        ensures of_model { (plan : PlanParts) → (rows : List OneRow) → (n : NumberingView)
+        ensures of_model { (plan : PlanParts) → (rows : List ARow) → (n : NumberingView)
             → AreWorthsOf plan worths rows → IsNumbering (blocks_of_rows rows) n
             → n.positions ≡ positions.items → result ≡ map (values_of plan) n.blocks }
     {

@@ -1,6 +1,6 @@
 //! The greatest of some numbers.
 
-ghost use Rattle.std.specs.Prelude.{◌≡◌, ◌<◌, ◌≤ℤ◌, ℤ, pos, length, map, slice_index_or, All, Contains};
+ghost use Rattle.std.specs.Prelude.{◌≡◌, ◌<◌, ◌≤ℤ◌, ℤ, length, map, slice_index_or, All, Contains};
 ghost use Rattle.mine_instance.specs.Greatest.{first_greatest, greatest};
 ghost use Rattle.mine_instance.specs.OfModel.{in_hundreds};
 

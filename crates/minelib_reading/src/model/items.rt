@@ -2,7 +2,7 @@
 
 ghost use Rattle.std.specs.Prelude.{◌≡◌, ◌≤◌, ◌<◌, ◌+◌, ◌∷◌, [], ℕ, length, drop, slice_index_or, IfOk, OnOk};
 ghost use Rattle.pit_parts.specs.PlanKept.{stands_before};
-ghost use Rattle.mine_instance.specs.Order.{coef_comes_before};
+ghost use Rattle.mine_instance.specs.Order.{coef_before};
 ghost use Rattle.text_lines.specs.FieldValues.{Takes, all_by, decimal_in, first_by};
 ghost use Rattle.minelib_reading.specs.ModelLines.{is_behind, last_of};
 ghost use Rattle.minelib_reading.specs.inner.ModelParts.{TakesFirst, uncounted_coef, coef_of, limit_of, values_of_line};
@@ -165,7 +165,7 @@ fn destination_in(problem: Problem, destinations: u8, line: &[u8]) -> Result<(u6
 
 /// Whether the coefficient comes behind the last of others.
 pub fn is_coef_behind(coefs: &[Coef], coef: &Coef) -> bool
-    ensures { result ≡ is_behind coef_comes_before (last_of coefs.now) coef.now }
+    ensures { result ≡ is_behind coef_before (last_of coefs.now) coef.now }
 {
     match coefs.last() {
         Some(last) => last.comes_before(coef),

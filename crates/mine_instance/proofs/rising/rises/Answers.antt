@@ -9,4 +9,4 @@ loop-index-preserved g c =
     rises_more g.T.Ordered.before items c.loop-index.index _ _ (omega arith)
     (slice_get_read items (length items) _ _ refl (omega arith) c.index-items-index.is)
     (slice_get_read items (length items) _ _ refl (omega arith) c.index-items-index-in-loop-index.is)
-    c.goes_through.ensures (c.is_before.ensures.0 c.if-not-is_before.false) c.loop-index.invariant
+    c.is_transitive.ensures (c.is_before.ensures.0 c.if-not-is_before.false) c.loop-index.invariant
