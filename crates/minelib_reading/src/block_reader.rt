@@ -30,9 +30,9 @@ pub struct BlockDraft<B: TakeBlocks> {
 
 impl<B: TakeBlocks> Model for BlockDraft<B> {
     ghost use Rattle.std.specs.Prelude.{List};
-    ghost use Rattle.pit_parts.specs.declared.block.Block.{Block as OneBlock};
+    ghost use Rattle.pit_parts.specs.declared.block.Block.{Block as ABlock};
 
-    ghost Value = { List OneBlock };
+    ghost Value = { List ABlock };
 
     ghost view = { λ d. B.blocks d.blocks };
 }

@@ -7,7 +7,7 @@ ghost use Rattle.mine_instance.specs.CpitKept.{IsCpit};
 ghost use Rattle.mine_instance.specs.OfModel.{instance};
 ghost use Rattle.mine_instance.specs.OneSlope.{instance_by};
 ghost use Rattle.mine_instance.specs.Valid.{IsValid};
-ghost use Rattle.mine_instance.specs.Instance.{Instance as OneInstance};
+ghost use Rattle.mine_instance.specs.Instance.{Instance as AnInstance};
 ghost use Rattle.minelib_reading.specs.Denotes.{Denotes, DenotesCpit};
 ghost use Rattle.minelib_lines.specs.Kept.{IsKept, IsKeptCpit};
 ghost use Rattle.minelib_reading.specs.ModelLines.{blank_model, model_grammar, model_in};
@@ -29,7 +29,7 @@ ghost use Rattle.pit_parts.specs.declared.ranges.TheConstants.{MAX_BLOCKS};
 /// instance that it wrote.
 #[tactic(auto, using(crate::proofs::TextsBack::written_again))]
 pub fn written_is_read()
-    ensures { (i : OneInstance) → IsValid i → IsKept i
+    ensures { (i : AnInstance) → IsValid i → IsKept i
         → Denotes (text_blocks i) (text_prec i) (text_pcpsp i) i }
 {}
 
