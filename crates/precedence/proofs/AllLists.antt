@@ -1,5 +1,5 @@
 -- What the rows of the zones' cones say of all blocks is what lies above each.
-use Rattle.std.proofs.Common.{◌≡◌, ℕ, ◌+◌, ◌^◌, ◌<◌, Bool, List, [], ◌∷◌, Some, All, length, map, get_or, slice_get, refl, sym, ap, subst, ◌∙◌, arith, ⊎_elim, if◌then◌else◌}
+use Rattle.std.proofs.Common.{◌≡◌, ℕ, ◌+◌, ◌<◌, Bool, List, [], ◌∷◌, Some, All, length, map, get_or, slice_get, refl, sym, ap, subst, ◌∙◌, arith, ⊎_elim, if◌then◌else◌}
 use Rattle.std.specs.Simd.Lanes.{zip2}
 use Rattle.std.proofs.lemmas.List.{get_or_default}
 use Rattle.std.proofs.lemmas.Simd.{get_or-zip2, length-zip2}
@@ -10,6 +10,7 @@ use Rattle.pit_parts.specs.declared.block.Block.{Block}
 use Rattle.pit_parts.specs.declared.cone.Cone.{Cone}
 use Rattle.pit_parts.specs.declared.grid.Grid.{Grid}
 use Rattle.precedence.specs.Codes.{place_code, place_codes}
+use Rattle.precedence.specs.declared.places.code.TheConstants.{CODES}
 use Rattle.precedence.specs.Cone.{above, is_above, places_where, preds, HasZones}
 use Rattle.precedence.specs.inner.FoundFields.{found_in, KeepsFound}
 use Rattle.precedence.specs.inner.Lists.{in_cone, in_cones}
@@ -72,10 +73,10 @@ module _ (plan : PlanParts) (extent : Extent) (tables : List ConeTable) (of_zone
       (zones k d lt))
 
 -- each code of a block is small
-pub codes_small : (blocks : List Block) → All (λ c. c < 10 ^ 14) (place_codes blocks)
-codes_small blocks = All-map (λ c. c < 10 ^ 14) place_code blocks (λ k d lt. small (get_or blocks k d))
+pub codes_small : (blocks : List Block) → All (λ c. c < CODES) (place_codes blocks)
+codes_small blocks = All-map (λ c. c < CODES) place_code blocks (λ k d lt. small (get_or blocks k d))
   where
-    small : (b : Block) → place_code b < 10 ^ 14
+    small : (b : Block) → place_code b < CODES
     small b = omega (arith, b.x_in_grid, b.y_in_grid, b.z_in_grid)
 
 pub tables_in_order : (grid : Grid) (extent : Extent) (tables : List ConeTable) → All (IsTold grid extent) tables

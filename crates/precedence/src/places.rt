@@ -1,8 +1,9 @@
 //! The codes of all blocks, by identifier.
 
-ghost use Rattle.std.specs.Prelude.{◌≡◌, ◌<◌, ◌≤◌, ◌^◌, All, IfOk, length, map};
+ghost use Rattle.std.specs.Prelude.{◌≡◌, ◌<◌, ◌≤◌, All, IfOk, length, map};
 ghost use Rattle.std.specs.List.Sorted.{IsStrictlyIncreasing};
 ghost use Rattle.precedence.specs.Codes.{place_code, place_codes};
+ghost use Rattle.precedence.specs.declared.places.code.TheConstants.{CODES};
 ghost use Rattle.pit_parts.specs.declared.ranges.TheConstants.{MAX_BLOCKS};
 
 use crate::places::code::code;
@@ -18,7 +19,7 @@ pub struct Places {
     pub codes: Vec<u64>,
     pub ghost rising: { IsStrictlyIncreasing codes.items },
     pub ghost few: { length codes.items ≤ MAX_BLOCKS },
-    pub ghost small: { All (λ c. c < 10 ^ 14) codes.items },
+    pub ghost small: { All (λ c. c < CODES) codes.items },
 }
 
 /// The places of blocks that stand in the order of their identifiers.

@@ -1,5 +1,5 @@
 -- The rows of a cone: where the codes of its blocks lie, as seen from a block.
-use Rattle.std.specs.Prelude.{◌≡◌, ℕ, ◌+◌, ◌-◌, ◌*◌, ◌^◌, ◌<◌, ◌≤◌, ◌&&◌, ◌||◌, Bool, false, List, [], ◌∷◌, map, nat_lt, nat_le}
+use Rattle.std.specs.Prelude.{◌≡◌, ℕ, ◌+◌, ◌-◌, ◌*◌, ◌<◌, ◌≤◌, ◌&&◌, ◌||◌, Bool, false, List, [], ◌∷◌, map, nat_lt, nat_le}
 use Rattle.std.specs.Int.{abs_diff}
 use Rattle.std.specs.List.{prefix_len}
 use Rattle.pit_parts.specs.declared.block.Block.{Block}
@@ -8,6 +8,7 @@ use Rattle.pit_parts.specs.declared.grid.Grid.{Grid}
 use Rattle.pit_parts.specs.declared.ranges.TheConstants.{GRID_CELLS}
 use Rattle.precedence.specs.Codes.{place_code}
 use Rattle.precedence.specs.Cone.{is_above}
+use Rattle.precedence.specs.declared.places.code.TheConstants.{BENCH, ROW}
 use Rattle.precedence.specs.declared.cones.cone_rows.Row.{Row}
 use Rattle.precedence.specs.declared.cones.cone_rows.Extent.{Extent}
 
@@ -42,11 +43,11 @@ pub record IsTable (grid : Grid) (cone : Cone) (extent : Extent) (rows : List Ro
 
 -- the distance from a block to the codes of the row i of the bench dz above, `rows` rows south of it being row 0
 abbrev pub center : ℕ → ℕ → ℕ → ℕ
-center rows dz i = dz * 10 ^ 10 + i * 10 ^ 5 - rows * 10 ^ 5
+center rows dz i = dz * BENCH + i * ROW - rows * ROW
 
 -- where the codes of that row begin at the earliest
 abbrev pub edge : ℕ → ℕ → ℕ → ℕ
-edge rows dz i = dz * 10 ^ 10 + i * 10 ^ 5 - (rows * 10 ^ 5 + 2 * GRID_CELLS)
+edge rows dz i = dz * BENCH + i * ROW - (rows * ROW + 2 * GRID_CELLS)
 
 -- how many codes, from the first on, are below t
 abbrev pub start_of : ℕ → List ℕ → ℕ

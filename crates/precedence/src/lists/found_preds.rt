@@ -1,10 +1,11 @@
 //! Predecessors that are found when they are asked for.
 
-ghost use Rattle.std.specs.Prelude.{◌≡◌, ◌<◌, ◌^◌, ◌++◌, IfOk, OnOk, All, length, map};
+ghost use Rattle.std.specs.Prelude.{◌≡◌, ◌<◌, ◌++◌, IfOk, OnOk, All, length, map};
 ghost use Rattle.precedence.specs.Cone.{preds, HasZones};
 ghost use Rattle.precedence.specs.IdRuns.{ids_of};
 ghost use Rattle.precedence.specs.inner.Lists.{in_cone};
 ghost use Rattle.precedence.specs.inner.Rows.{AreInOrder};
+ghost use Rattle.precedence.specs.declared.places.code.TheConstants.{CODES};
 
 use crate::cones::bounds::extent_of;
 use crate::cones::zone_tables::{ZoneTables, tables_of};
@@ -148,7 +149,7 @@ fn add_in_cone(
     requires zone { zone < length tables.now.of_zone.items }
     requires below { All (λ t. t < length tables.now.tables.items) tables.now.of_zone.items }
     requires in_order { All (λ t. AreInOrder t.rows.items) tables.now.tables.items }
-    requires from { from < 10 ^ 14 }
+    requires from { from < CODES }
     ensures { OnOk result (ids_of runs.new.items
         ≡ ids_of runs.old.items ++ in_cone tables.now.tables.items tables.now.of_zone.items
         places.now.codes.items zone from) }

@@ -1,12 +1,13 @@
 //! The identifiers of the blocks above a block, by runs.
 
-ghost use Rattle.std.specs.Prelude.{◌≡◌, ℕ, ◌+◌, ◌-◌, ◌<◌, ◌≤◌, ◌^◌, ◌++◌, OnOk, IfOk, length, slice_index};
+ghost use Rattle.std.specs.Prelude.{◌≡◌, ℕ, ◌+◌, ◌-◌, ◌<◌, ◌≤◌, ◌++◌, OnOk, IfOk, length, slice_index};
 ghost use Rattle.std.specs.List.{range_with_len};
 ghost use Rattle.std.specs.List.Sorted.{IsStrictlyIncreasing};
 ghost use Rattle.precedence.specs.Cone.{places_where};
 ghost use Rattle.precedence.specs.IdRuns.{ids_of};
 ghost use Rattle.precedence.specs.inner.Rows.{is_in_rows, pasts, start_of, AreInOrder};
 ghost use Rattle.precedence.specs.inner.Search.{run};
+ghost use Rattle.precedence.specs.declared.places.code.TheConstants.{CODES};
 
 use crate::cones::cone_rows::Row;
 use crate::lists::id_run::IdRun;
@@ -38,7 +39,7 @@ pub fn add_above(
 ) -> Result<(), AllocError>
     requires in_order { AreInOrder rows.now }
     requires past { past.now ≡ pasts rows.now }
-    requires from { from < 10 ^ 14 }
+    requires from { from < CODES }
     ensures { OnOk result (ids_of runs.new.items
         ≡ ids_of runs.old.items ++ places_where (is_in_rows from rows.now) 0 places.now.codes.items) }
 {
@@ -83,7 +84,7 @@ fn add_run(
     hint: Hint,
     from: u64,
 ) -> Result<Hint, AllocError>
-    requires { from < 10 ^ 14 }
+    requires { from < CODES }
     ensures run { OnOk result (ids_of runs.new.items
         ≡ ids_of runs.old.items ++ run from row places.now.codes.items) }
     ensures past { IfOk result (λ found. found.past
