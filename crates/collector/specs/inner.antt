@@ -1,4 +1,3 @@
-pub mod History
 pub mod Places
 pub mod Shelves
 pub mod WithAt

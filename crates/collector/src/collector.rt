@@ -8,9 +8,9 @@ ghost use Rattle.collector.specs.Lists.{AreLists, IsFinishFault};
 ghost use Rattle.pit_parts.specs.declared.ranges.TheConstants.{MAX_ROWS};
 
 use crate::add_fault::AddFault;
-use crate::history::History;
 use crate::missing::Missing;
 use crate::shelf::Shelf;
+use pit_parts::past::Past;
 use pit_units::OrMemory;
 use rows::{Item, Rows, Valued};
 use std::alloc::{AllocError, Global};
@@ -24,21 +24,20 @@ use std::marker::Model;
 pub struct Collector {
     alloc: Global,
     shelves: Vec<Shelf>,
-    history: History,
+    history: Past<Item>,
 }
 
 impl Model for Collector {
     ghost use Rattle.std.specs.Prelude.{◌≤◌, length};
     ghost use Rattle.collector.specs.CollectorView.{CollectorView};
-    ghost use Rattle.collector.specs.inner.History.{items_in};
     ghost use Rattle.collector.specs.inner.Shelves.{IsKept, rows_on_shelf, end_on_shelf};
 
     ghost Value = { CollectorView };
 
-    ghost view = { λ c. record { files = length c.shelves.items; items = items_in c.history } };
+    ghost view = { λ c. record { files = length c.shelves.items; items = c.history } };
 
     ghost invariant = { λ c. (length c.shelves.items ≤ 255)
-        × IsKept (length c.shelves.items) (items_in c.history) (rows_on_shelf c.shelves.items)
+        × IsKept (length c.shelves.items) c.history (rows_on_shelf c.shelves.items)
         (end_on_shelf c.shelves.items) };
 }
 
@@ -54,7 +53,7 @@ impl Collector {
         Ok(Collector {
             alloc,
             shelves,
-            history: History::Start,
+            history: Past::new(),
         })
     }
 

@@ -4,7 +4,6 @@
 
 mod add_fault;
 mod collector;
-mod history;
 pub mod laws;
 mod missing;
 mod ordering;

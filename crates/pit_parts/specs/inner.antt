@@ -1,3 +1,4 @@
 pub mod Equality
+pub mod Past
 pub mod PlanFields
 pub mod RuledOnce

@@ -1,13 +1,12 @@
 -- How counted lists are seen as the lists.
-use Rattle.std.specs.Prelude.{◌≡◌, ℕ, ◌*◌, ◌≤◌, List, [], ◌∷◌, ◌++◌, length, sum_by}
-use Rattle.precedence.specs.declared.lists.counted_preds.Lists.{Lists, Start, More'}
+use Rattle.std.specs.Prelude.{◌≡◌, ℕ, ◌*◌, ◌≤◌, List, length, map, sum_by}
+use Rattle.std.specs.Global.{Vec}
 use Rattle.precedence.specs.declared.lists.counted_preds.CountedPreds.TheInside.{Inside}
 use Rattle.pit_parts.specs.declared.ranges.TheConstants.{MAX_BLOCKS}
 
 -- in the order in which they came
-abbrev pub lists_in : Lists → List (List ℕ)
-lists_in Start = []
-lists_in (More' m before list) = lists_in before ++ list.value.items ∷ []
+abbrev pub lists_in : List (Vec ℕ) → List (List ℕ)
+lists_in lists = map (λ list. list.items) lists
 
 abbrev pub counted_of : Inside → List (List ℕ)
 counted_of c = lists_in c.lists

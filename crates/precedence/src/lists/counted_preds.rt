@@ -1,26 +1,19 @@
 //! Lists of predecessors that are counted and not kept.
 
-ghost use Rattle.std.specs.Prelude.{◌≡◌, ◌++◌, [], ◌∷◌};
-ghost use Rattle.precedence.specs.inner.CountedFields.{lists_in};
+ghost use Rattle.std.specs.Prelude.{◌≡◌, []};
 
 use crate::lists::take_preds::TakePreds;
+use pit_parts::past::Past;
 use std::alloc::AllocError;
 use std::marker::Model;
-use std::snapshot::Snapshot;
-
-// The lists that were counted: none, or one list after others. It takes one byte, and only contracts see it.
-#[derive(Drop)]
-enum Lists {
-    Start,
-    More(Snapshot<Lists>, Snapshot<Vec<u32>>),
-}
 
 /// How many blocks had a list, and how many identifiers stood in the lists. Contracts see the lists themselves, as of `Preds`.
 #[derive(Drop)]
 pub struct CountedPreds {
     blocks: usize,
     arcs: usize,
-    lists: Lists,
+    // Contracts alone see it.
+    lists: Past<Vec<u32>>,
 }
 
 impl Model for CountedPreds {
@@ -42,7 +35,7 @@ impl CountedPreds {
         CountedPreds {
             blocks: 0,
             arcs: 0,
-            lists: Lists::Start,
+            lists: Past::new(),
         }
     }
 }
@@ -58,19 +51,11 @@ impl TakePreds for CountedPreds {
         self.arcs
     }
 
+    #[tactic(auto, using(crate::proofs::CountedLists::one_list_more))]
     fn take(&mut self, list: &Vec<u32>) -> Result<(), AllocError> {
         self.blocks += 1;
         self.arcs += list.len();
         self.lists = self.lists.with(list);
         Ok(())
-    }
-}
-
-impl Lists {
-    // These lists and one more.
-    fn with(&self, list: &Vec<u32>) -> Lists
-        ensures { lists_in result ≡ lists_in self.now ++ list.now.items ∷ [] }
-    {
-        Lists::More(Snapshot::of(self), Snapshot::of(list))
     }
 }

@@ -1,9 +1,8 @@
-use Rattle.std.proofs.Common.{rules, ◌∙◌, ap, arith, length, List, sym, subst}
+use Rattle.std.proofs.Common.{rules, ap, arith, length, List, sym, subst}
 use Rattle.std.specs.List.{flat_map}
 use Rattle.collector.specs.Lists.{AreRows}
 use Rattle.collector.proofs.Ordered.{in-order}
 use Rattle.rows.specs.declared.item.Valued.{Valued}
-use Rattle.rows.specs.declared.spot.Spot.{Spot}
 use Rattle.collector.proofs.ordering.in_order.Goals as goal
 
 pub new-requires : goal.new-requires

@@ -1,0 +1,8 @@
+-- Lists that are counted, and one more.
+use Rattle.std.proofs.Common.{◌≡◌, ℕ, List, [], ◌∷◌, ◌++◌}
+use Rattle.std.specs.Global.{Vec}
+use Rattle.std.proofs.lemmas.List.{map-append}
+use Rattle.precedence.specs.inner.CountedFields.{lists_in}
+
+pub one_list_more : (lists : List (Vec ℕ)) (list : Vec ℕ) → lists_in (lists ++ list ∷ []) ≡ lists_in lists ++ list.items ∷ []
+one_list_more lists list = map-append (λ (l : Vec ℕ). l.items) lists (list ∷ [])
