@@ -17,7 +17,7 @@ use Rattle.text_lines.proofs.FieldSteps.{last_step, said_of, step, whole_reads}
 use Rattle.minelib_reading.specs.Fields.{any}
 use Rattle.minelib_reading.specs.ItemForms.{coef_form, coef_said}
 use Rattle.minelib_reading.specs.SpelledModel.{HasDestination, IsSingle}
-use Rattle.minelib_reading.specs.inner.ModelParts.{uncounted_coef, coef_of}
+use Rattle.minelib_reading.specs.inner.ModelParts.{uncounted_coef, coef_of_line}
 use Rattle.minelib_lines.specs.LineValues.{coef_values}
 use Rattle.minelib_reading.proofs.FormFields.{ArePlain, any_fits, any_reads, fit_said, whole_low}
 
@@ -83,16 +83,16 @@ unfolding uncounted_coef said_of
 coef_steps problem n destinations resources fields = sym (steps_said problem n destinations resources fields)
 
 pub coef_counted : (problem : Problem) (n destinations resources : ℕ) (fields : List (List ℕ)) (coef : Coef)
-    → uncounted_coef problem n destinations resources fields ≡ Ok coef → coef_of problem n destinations resources fields ≡ Ok coef
-unfolding uncounted_coef coef_of
+    → uncounted_coef problem n destinations resources fields ≡ Ok coef → coef_of_line problem n destinations resources fields ≡ Ok coef
+unfolding uncounted_coef coef_of_line
 coef_counted problem n destinations resources fields coef e =
     counted_later text_kinds (coef_form problem n destinations resources) fields _ coef e
 
 pub coef_kind : (problem : Problem) (n destinations resources : ℕ) (fields : List (List ℕ)) (kind : TextKind)
     → uncounted_coef problem n destinations resources fields ≡ Err kind
-    → coef_of problem n destinations resources fields
+    → coef_of_line problem n destinations resources fields
     ≡ Err (kind_by (length fields == length (coef_form problem n destinations resources)) kind)
-unfolding uncounted_coef coef_of
+unfolding uncounted_coef coef_of_line
 coef_kind problem n destinations resources fields kind e =
     fault_later text_kinds (coef_form problem n destinations resources) fields _ kind e
 

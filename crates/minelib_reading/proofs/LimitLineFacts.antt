@@ -14,7 +14,7 @@ use Rattle.text_lines.specs.FieldValues.{decimal_in, first_by, whole_in}
 use Rattle.minelib_lines.specs.Kept.{HasDecimals}
 use Rattle.text_lines.specs.LineKinds.{text_kinds}
 use Rattle.minelib_reading.specs.Fields.{any}
-use Rattle.minelib_reading.specs.inner.ModelParts.{limit_of}
+use Rattle.minelib_reading.specs.inner.ModelParts.{limit_of_line}
 use Rattle.minelib_reading.specs.inner.UncountedItems.{bound_in, limit_width}
 use Rattle.text_lines.specs.declared.text_fault.TextKind.{TextKind}
 use Rattle.text_lines.specs.declared.text_fault.TextKind.TheVariants.{Fields}
@@ -106,11 +106,11 @@ bound_met interval r t rest is count = absurd (omega (arith, count))
 
 -- the fields are read one by one once they are counted
 pub limit_same : (resources periods : ℕ) (fields : List (List ℕ))
-    → limit_of resources periods fields
+    → limit_of_line resources periods fields
     ≡ (if not (length fields == limit_width fields) then Err Fields
     else (first_by (whole_in resources) fields >>= λ r. first_by (whole_in periods) r.1 >>= λ t. bound_in t.1
     >>= λ bound. Ok (record { resource = r.0; period = t.0; bound = bound })))
-unfolding limit_of said_of
+unfolding limit_of_line said_of
 limit_same resources periods [] = refl
 limit_same resources periods (r ∷ []) = refl
 limit_same resources periods (r ∷ t ∷ rest) = by (bytes_eq (slice_index_or rest 0 []) (codes "I")) refl
@@ -131,7 +131,7 @@ limit_same resources periods (r ∷ t ∷ rest) = by (bytes_eq (slice_index_or r
         bound_met interval a b rest e (count refl))))
 
     by : (interval : Bool) → bytes_eq (slice_index_or rest 0 []) (codes "I") ≡ interval
-        → limit_of resources periods (r ∷ t ∷ rest)
+        → limit_of_line resources periods (r ∷ t ∷ rest)
         ≡ (if not (length (r ∷ t ∷ rest) == limit_width (r ∷ t ∷ rest)) then Err Fields
         else (first_by (whole_in resources) (r ∷ t ∷ rest) >>= λ r. first_by (whole_in periods) r.1 >>= λ t. bound_in t.1
         >>= λ bound. Ok (record { resource = r.0; period = t.0; bound = bound })))

@@ -12,7 +12,7 @@ use Rattle.minelib_reading.specs.ItemForms.{bytes_in, coef_form, coef_said, limi
 use Rattle.minelib_lines.specs.HeaderTable.{field_of, has_key, key_word}
 use Rattle.text_lines.specs.LineKinds.{text_kind, text_kinds}
 use Rattle.minelib_reading.specs.ModelLines.{ModelDraftView, coef_line, first_of, header_line, is_behind, is_colon, is_counted, is_heading, is_next, is_ready, item_line, key_of, keyed_line, last_of, limit_line, model_grammar, model_line, name_with, section_line, stray_line, values_line}
-use Rattle.minelib_reading.specs.inner.ModelParts.{admit_model, coef_of, limit_of, number_in, number_with, only_value, takes, values_of_line, values_said}
+use Rattle.minelib_reading.specs.inner.ModelParts.{admit_model, coef_of_line, limit_of_line, number_in, number_with, only_value, takes, values_of_line, values_said}
 use Rattle.text_lines.specs.Reading.{at_line, read_lines}
 use Rattle.text_lines.specs.TextLines.{Line, fields_of}
 use Rattle.minelib_lines.specs.declared.header_key.HeaderKey.{HeaderKey}
@@ -220,19 +220,19 @@ values_takes d fields =
 
 pub coef_takes : (d : ModelDraftView) (fields : List (List ℕ))
     → takes (coef_line d fields)
-    ≡ (coef_of d.problem d.blocks (count_in d.header key.Destinations) (count_in d.header key.Resources) fields
+    ≡ (coef_of_line d.problem d.blocks (count_in d.header key.Destinations) (count_in d.header key.Resources) fields
     >>= λ c. if is_behind coef_before (last_of d.coefs) c then Ok (record d { coefs = d.coefs ++ c ∷ [] }) else Err Order)
-unfolding takes coef_line coef_of
+unfolding takes coef_line coef_of_line
 coef_takes d fields =
     item_takes (read text_kinds (coef_form d.problem d.blocks (count_in d.header key.Destinations) (count_in d.header key.Resources)) fields)
     _ _ _ _ (λ values. in_order (is_behind coef_before (last_of d.coefs) (coef_said d.problem values)) _)
 
 pub limit_takes : (d : ModelDraftView) (fields : List (List ℕ))
     → takes (limit_line d fields)
-    ≡ (limit_of (count_in d.header key.Resources) (count_in d.header key.Periods) fields
+    ≡ (limit_of_line (count_in d.header key.Resources) (count_in d.header key.Periods) fields
     >>= λ l. if is_turned l.bound || not (is_behind stands_before (last_of d.limits) l) then Err Order
     else Ok (record d { limits = d.limits ++ l ∷ [] }))
-unfolding takes limit_line limit_of
+unfolding takes limit_line limit_of_line
 limit_takes d fields =
     item_takes (read text_kinds (limit_form (count_in d.header key.Resources) (count_in d.header key.Periods) fields) fields)
     _ _ _ _ (λ values. by (is_turned (limit_said values).bound) (is_behind stands_before (last_of d.limits) (limit_said values)) _)
@@ -256,15 +256,15 @@ values_keyless n destinations before line row e =
     item_keyless (values_form n destinations) line (values_said before) row (many_fine destinations) (many_plain destinations) e
 
 pub coef_keyless : (problem : Problem) (n destinations resources : ℕ) (line : List ℕ) (coef : Coef)
-    → coef_of problem n destinations resources (fields_of line) ≡ Ok coef → list_any is_colon line ≡ false
-unfolding coef_of
+    → coef_of_line problem n destinations resources (fields_of line) ≡ Ok coef → list_any is_colon line ≡ false
+unfolding coef_of_line
 coef_keyless problem n destinations resources line coef e =
     item_keyless (coef_form problem n destinations resources) line _ coef
     (coef_fine problem n destinations resources) (coef_plain problem n destinations resources) e
 
 pub limit_keyless : (resources periods : ℕ) (line : List ℕ) (limit : Limit)
-    → limit_of resources periods (fields_of line) ≡ Ok limit → list_any is_colon line ≡ false
-unfolding limit_of
+    → limit_of_line resources periods (fields_of line) ≡ Ok limit → list_any is_colon line ≡ false
+unfolding limit_of_line
 limit_keyless resources periods line limit e =
     item_keyless (limit_form resources periods (fields_of line)) line _ limit (limit_fine resources periods (fields_of line))
     (bound_plain (bytes_eq (slice_index_or (fields_of line) 2 []) (codes "I"))) e

@@ -41,7 +41,7 @@ impl<B: TakeBlocks> Admit for BlockDraft<B> {
     ghost admit_line = { admit_block };
 
     fn admit(&mut self, line: &[u8]) -> Result<(), OrMemory<TextKind>> {
-        let block = block_of(line, self.blocks.count())?;
+        let block = block_said(line, self.blocks.count())?;
         self.blocks.take(block)?;
         Ok(())
     }
@@ -65,7 +65,7 @@ impl<B: TakeBlocks + Drop> BlockDraft<B> {
 }
 
 // The block of a line, where so many blocks stand before.
-fn block_of(line: &[u8], before: usize) -> Result<Block, TextKind>
+fn block_said(line: &[u8], before: usize) -> Result<Block, TextKind>
     ensures value { result ≡ block_said before line.now }
     ensures few { OnOk result (before < MAX_BLOCKS) }
 {

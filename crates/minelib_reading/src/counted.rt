@@ -98,7 +98,7 @@ impl TakeItems for CountedItems {
         self.coefs as usize
     }
 
-    fn is_next(&self, coef: &Coef) -> bool {
+    fn is_behind(&self, coef: &Coef) -> bool {
         match &self.last {
             Some(last) => last.comes_before(coef),
             None => true,

@@ -14,7 +14,7 @@ use mine_instance::instance::Instance;
 use minelib_lines::problem::Problem;
 use pit_units::OrMemory;
 use std::alloc::Global;
-use text_lines::text_fault::{TextFault, TextFile, in_file};
+use text_lines::text_fault::{TextFault, TextFile, error_in_file};
 
 /// The instance that a block file, a precedence file and a production scheduling model file denote, in the lenient
 /// grammar of docs/formats.md.
@@ -36,16 +36,16 @@ pub fn read_instance(
 {
     let blocks = match read_blocks(alloc, blocks) {
         Ok(blocks) => blocks,
-        Err(error) => return Err(in_file(error, TextFile::Blocks)),
+        Err(error) => return Err(error_in_file(error, TextFile::Blocks)),
     };
     let count = blocks.as_slice().len();
     let preds = match read_preds(alloc, count, prec) {
         Ok(preds) => preds,
-        Err(error) => return Err(in_file(error, TextFile::Prec)),
+        Err(error) => return Err(error_in_file(error, TextFile::Prec)),
     };
     match read_model(alloc, Problem::Pcpsp, count, pcpsp) {
         Ok(model) => Ok(model.into_instance(blocks, preds)),
-        Err(error) => Err(in_file(error, TextFile::Pcpsp)),
+        Err(error) => Err(error_in_file(error, TextFile::Pcpsp)),
     }
 }
 
@@ -64,7 +64,7 @@ pub fn read_cpit(alloc: Global, n: usize, text: &[u8]) -> Result<Cpit, OrMemory<
 {
     let model = match read_model(alloc, Problem::Cpit, n, text) {
         Ok(model) => model,
-        Err(error) => return Err(in_file(error, TextFile::Cpit)),
+        Err(error) => return Err(error_in_file(error, TextFile::Cpit)),
     };
     Ok(model.into_cpit()?)
 }

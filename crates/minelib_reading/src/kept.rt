@@ -56,7 +56,7 @@ impl TakeItems for KeptItems {
         self.coefs.len()
     }
 
-    fn is_next(&self, coef: &Coef) -> bool {
+    fn is_behind(&self, coef: &Coef) -> bool {
         is_coef_behind(self.coefs.as_slice(), coef)
     }
 

@@ -39,7 +39,7 @@ impl<P: TakePreds> Admit for PrecDraft<P> {
     ghost admit_line = { admit_preds };
 
     fn admit(&mut self, line: &[u8]) -> Result<(), OrMemory<TextKind>> {
-        preds_of(line, self.preds.count(), &mut self.ids, &mut self.marks)?;
+        preds_said(line, self.preds.count(), &mut self.ids, &mut self.marks)?;
         self.preds.take(&self.ids)?;
         Ok(())
     }
@@ -47,7 +47,7 @@ impl<P: TakePreds> Admit for PrecDraft<P> {
 
 // The predecessors of a line, where so many lines stand before.
 #[tactic(auto, using(crate::proofs::CountedLater::preds_counted, crate::proofs::CountedLater::preds_by_count))]
-fn preds_of(
+fn preds_said(
     line: &[u8],
     before: usize,
     ids: &mut Vec<u32>,

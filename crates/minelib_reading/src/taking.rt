@@ -41,7 +41,7 @@ pub trait TakeItems {
         ensures { result ≡ length (coefs self.now) };
 
     /// Whether a coefficient comes behind the last one.
-    fn is_next(&self, coef: &Coef) -> bool
+    fn is_behind(&self, coef: &Coef) -> bool
         ensures { result ≡ is_behind coef_before (last_of (coefs self.now)) coef.now };
 
     /// Takes the values of one more block, as many as each of the others has.

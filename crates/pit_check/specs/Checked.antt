@@ -2,7 +2,7 @@
 use Rattle.std.specs.Prelude.{◌≡◌, ◌≢◌, ℕ, ◌<◌, ◌≤◌, ◌⊎◌, ◌++◌, List, ◌∷◌, Option, Some, None, Result, Ok, Err, IfSome, length}
 use Rattle.devices.specs.declared.feeds.feed.FeedFault.{FeedFault}
 use Rattle.devices.specs.declared.feeds.slurp.TheConstants.{GREATEST_LIMIT}
-use Rattle.text_lines.specs.FaultText.{file_name}
+use Rattle.text_lines.specs.FaultText.{file_ending}
 use Rattle.text_lines.specs.declared.text_fault.TextFile.{TextFile}
 use Rattle.text_lines.specs.declared.text_fault.TextFile.TheVariants.{Blocks, Prec, Pcpsp, Cpit}
 use Rattle.pit_check.specs.Counts.{TellsCounts, Texts, counted}
@@ -14,7 +14,7 @@ use Rattle.pit_edge.specs.declared.refused.source.Source.TheVariants as source
 
 -- the path of this file of the instance
 abbrev pub path_of : List ℕ → TextFile → List ℕ
-path_of base file = path_to base (file_name file)
+path_of base file = path_to base (file_ending file)
 
 -- `Opens` says what opening a path may answer, and `left` what a feed has left, where it tells that
 module _ {F : Type 0} (Opens : List ℕ → Result F FeedFault → Type 0) (left : F → Option (List ℕ)) (base : List ℕ) where

@@ -10,7 +10,7 @@ use Rattle.pit_model.specs.FaultText.{plan_fault_text}
 use Rattle.pit_model.specs.declared.plan_fault.PlanFault.{PlanFault}
 use Rattle.pit_units.specs.declared.or_memory.OrMemory.{OrMemory}
 use Rattle.pit_units.specs.declared.or_memory.OrMemory.TheVariants as or_memory
-use Rattle.text_lines.specs.FaultText.{file_name, text_fault_text}
+use Rattle.text_lines.specs.FaultText.{file_ending, text_fault_text}
 use Rattle.text_lines.specs.declared.text_fault.TextFault.{TextFault}
 use Rattle.pit_edge.specs.declared.refused.Refused.{Refused}
 use Rattle.pit_edge.specs.declared.refused.Refused.TheVariants.{NotUtf8, FeedFailed, TooLong, Plan, Text, Run}
@@ -22,7 +22,7 @@ abbrev pub source_text : Source → List ℕ
 source_text source.Input = codes "input"
 source_text source.Plan = codes "plan"
 source_text (source.Zone file) = codes "file " ++ decimal file
-source_text (source.Text file) = file_name file
+source_text (source.Text file) = file_ending file
 
 -- a source and what is wrong with it; a faulty record or line, or a refused run, by its own words
 abbrev pub refused_text : Refused → List ℕ

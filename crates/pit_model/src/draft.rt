@@ -14,7 +14,7 @@ ghost use Rattle.pit_model.specs.Stated.{nothing_stated};
 use crate::cells::Cells;
 use crate::grid_cells::{axis_of, origin_in, size_in};
 use crate::limit_cells::{bound_in, insert_limit, is_limited, limit_width, period_in};
-use crate::named::{covers_in, has_repeat, is_resource, name_in, resource_in};
+use crate::named::{covers_in, has_repeat, has_resource, name_in, resource_number};
 use crate::numbers::{number_in, whole_in};
 use crate::plan_fault::PlanFaultKind;
 use crate::plan_key::{PlanKey, key_of};
@@ -194,7 +194,7 @@ impl Draft {
         requires some { 1 ≤ length resource.covers }
         ensures { Gives (λ _. self.new) result (covered self.old resource.name resource.covers) }
     {
-        if is_resource(self.resources.as_slice(), resource.name.as_str().as_bytes())
+        if has_resource(self.resources.as_slice(), resource.name.as_str().as_bytes())
             || has_repeat(resource.covers.as_slice())
         {
             return Err(OrMemory::Fault(PlanFaultKind::Twice));
@@ -213,7 +213,7 @@ impl Draft {
         if cells.len() != limit_width(cells) {
             return Err(OrMemory::Fault(PlanFaultKind::Width));
         }
-        let resource = resource_in(self.resources.as_slice(), cells.at(1))?;
+        let resource = resource_number(self.resources.as_slice(), cells.at(1))?;
         let period = period_in(self.periods.unwrap_or(0), cells.at(2))?;
         let bound = bound_in(cells)?;
         self.add_limit(Limit {

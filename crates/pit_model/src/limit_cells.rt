@@ -81,7 +81,7 @@ pub fn is_limited(limits: &[Limit], limit: &Limit) -> bool
 
 // Where a limit stands among others: before the first that it stands before.
 #[tactic(auto, using(crate::proofs::Limits::placed))]
-fn place_of(limits: &[Limit], limit: &Limit) -> usize
+fn index_for(limits: &[Limit], limit: &Limit) -> usize
     ensures place { result ≡ position_or_len (λ m. stands_before limit.now m) limits.now }
     ensures within { result ≤ length limits.now }
 {
@@ -101,7 +101,7 @@ pub fn insert_limit(limits: &mut Vec<Limit>, limit: Limit) -> Result<(), OrMemor
     ensures err { IfErr result (λ error. error ≡ OrMemory.OutOfMemory) }
     ensures kept { OnErr result (limits.new.items ≡ limits.old.items) }
 {
-    let place = place_of(limits.as_slice(), &limit);
+    let place = index_for(limits.as_slice(), &limit);
     limits.insert(place, limit)?;
     Ok(())
 }

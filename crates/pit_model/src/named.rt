@@ -28,21 +28,21 @@ pub fn name_in(alloc: Global, cell: &[u8]) -> Result<Name, OrMemory<PlanFaultKin
 }
 
 /// Whether a destination has this NAME.
-pub fn is_taken(formulas: &[NamedFormula], name: &[u8]) -> bool
+pub fn has_destination(formulas: &[NamedFormula], name: &[u8]) -> bool
     ensures { result ≡ is_some (destination_named formulas.now name.now) }
 {
     formula_place(formulas, name).is_some()
 }
 
 /// Whether a resource has this NAME.
-pub fn is_resource(resources: &[Resource], name: &[u8]) -> bool
+pub fn has_resource(resources: &[Resource], name: &[u8]) -> bool
     ensures { result ≡ is_some (resource_named resources.now name.now) }
 {
     resource_place(resources, name).is_some()
 }
 
 /// The number of the destination that a cell names.
-pub fn destination_in(formulas: &[NamedFormula], cell: &[u8]) -> Result<u8, PlanFaultKind>
+pub fn destination_number(formulas: &[NamedFormula], cell: &[u8]) -> Result<u8, PlanFaultKind>
     requires { length formulas.now ≤ MAX_DESTINATIONS }
     ensures value { Finds result (destination_named formulas.now cell.now) }
     ensures there { IfOk result (λ n. n < length formulas.now) }
@@ -61,7 +61,7 @@ fn formula_place(formulas: &[NamedFormula], name: &[u8]) -> Option<usize>
 }
 
 /// The number of the resource that a cell names.
-pub fn resource_in(resources: &[Resource], cell: &[u8]) -> Result<u8, PlanFaultKind>
+pub fn resource_number(resources: &[Resource], cell: &[u8]) -> Result<u8, PlanFaultKind>
     requires { length resources.now ≤ MAX_RESOURCES }
     ensures value { Finds result (resource_named resources.now cell.now) }
     ensures there { IfOk result (λ n. n < length resources.now) }
@@ -95,7 +95,7 @@ pub fn covers_in(
 {
     let mut covers = Vec::new(alloc);
     for place in 2..cells.len() {
-        let number = destination_in(formulas, cells.at(place))?;
+        let number = destination_number(formulas, cells.at(place))?;
         covers.push(number)?;
     }
     Ok(Covers::new(covers))

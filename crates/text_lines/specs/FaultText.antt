@@ -7,11 +7,11 @@ use Rattle.text_lines.specs.declared.text_fault.TextKind.{TextKind}
 use Rattle.text_lines.specs.declared.text_fault.TextKind.TheVariants as kind
 
 -- a file by the ending of its name
-abbrev pub file_name : TextFile → List ℕ
-file_name file.Blocks = codes "blocks"
-file_name file.Prec = codes "prec"
-file_name file.Pcpsp = codes "pcpsp"
-file_name file.Cpit = codes "cpit"
+abbrev pub file_ending : TextFile → List ℕ
+file_ending file.Blocks = codes "blocks"
+file_ending file.Prec = codes "prec"
+file_ending file.Pcpsp = codes "pcpsp"
+file_ending file.Cpit = codes "cpit"
 
 abbrev pub text_kind_name : TextKind → List ℕ
 text_kind_name kind.Fields = codes "Fields"
@@ -27,4 +27,4 @@ text_kind_name kind.Name = codes "Name"
 
 -- `FILE line N: K`
 abbrev pub text_fault_text : TextFault → List ℕ
-text_fault_text fault = file_name fault.file ++ (codes " line " ++ (decimal fault.line ++ (codes ": " ++ text_kind_name fault.kind)))
+text_fault_text fault = file_ending fault.file ++ (codes " line " ++ (decimal fault.line ++ (codes ": " ++ text_kind_name fault.kind)))

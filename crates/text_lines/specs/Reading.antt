@@ -29,9 +29,9 @@ in_file file (Ok x) = Ok x
 in_file file (Err fault) = Err (fault_in_file file fault)
 
 -- why a file was not read, of an instance
-abbrev pub error_in : TextFile → OrMemory LineFault → OrMemory TextFault
-error_in file (Fault fault) = Fault (fault_in_file file fault)
-error_in file OutOfMemory = OutOfMemory
+abbrev pub error_in_file : TextFile → OrMemory LineFault → OrMemory TextFault
+error_in_file file (Fault fault) = Fault (fault_in_file file fault)
+error_in_file file OutOfMemory = OutOfMemory
 
 -- a call that takes lines leaves this state, and it is the stated one; or it answers the stated fault, unless memory was refused
 abbrev pub Leaves : {S A F : Type 0} → S → Result A (OrMemory F) → Result S F → Type 0

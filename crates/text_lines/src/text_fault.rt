@@ -1,7 +1,7 @@
 //! What is wrong with a MineLib text.
 
 ghost use Rattle.std.specs.Prelude.{◌≡◌};
-ghost use Rattle.text_lines.specs.Reading.{error_in, fault_in_file};
+ghost use Rattle.text_lines.specs.Reading.{error_in_file, fault_in_file};
 
 use pit_units::{DecFault, OrMemory};
 use std::fmt;
@@ -22,9 +22,9 @@ pub enum TextFile {
 
 impl fmt::Display for TextFile {
     ghost use Rattle.std.specs.Prelude.{Some};
-    ghost use Rattle.text_lines.specs.FaultText.{file_name};
+    ghost use Rattle.text_lines.specs.FaultText.{file_ending};
 
-    ghost output = { λ file. Some (file_name file) };
+    ghost output = { λ file. Some (file_ending file) };
 
     fn fmt<W: fmt::Write>(&self, f: &mut fmt::Formatter<W>) -> fmt::Result {
         f.write_str(match self {
@@ -154,8 +154,8 @@ impl fmt::Display for TextFault {
 }
 
 /// Why the texts of an instance were not read, where it is this file of them.
-pub fn in_file(error: OrMemory<LineFault>, file: TextFile) -> OrMemory<TextFault>
-    ensures { result ≡ error_in file error }
+pub fn error_in_file(error: OrMemory<LineFault>, file: TextFile) -> OrMemory<TextFault>
+    ensures { result ≡ error_in_file file error }
 {
     match error {
         OrMemory::Fault(fault) => OrMemory::Fault(fault.in_file(file)),

@@ -59,7 +59,7 @@ fn number_of(
 
 // The millionths that a cell states, with so many decimals, from 0 to the most.
 #[inline(always)]
-pub(crate) fn size_of(
+pub(crate) fn millionths_in(
     column: Column,
     decimals: u8,
     most: u64,

@@ -7,7 +7,7 @@ ghost use Rattle.zone_csv.specs.Row.{row_of};
 ghost use Rattle.zone_csv.specs.inner.RowAnswers.{in_row};
 ghost use Rattle.pit_parts.specs.declared.ranges.TheConstants.{MAX_ROWS, MAX_ZONES};
 
-use crate::cell::{ColumnFault, index_of, size_of};
+use crate::cell::{ColumnFault, index_of, millionths_in};
 use crate::columns::Columns;
 use crate::row_fault::{Column, RowFaultKind};
 use csv::ByteRecord;
@@ -45,8 +45,8 @@ pub(crate) fn row_of(
     let x = index_of(Column::X, grid.x, cell_at(row, x))?;
     let y = index_of(Column::Y, grid.y, cell_at(row, y))?;
     let z = index_of(Column::Z, grid.z, cell_at(row, z))?;
-    let millionths = size_of(Column::Tonnes, 3, MAX_KG * 1000, cell_at(row, tonnes))?;
-    let grade = size_of(Column::Grade, 6, MAX_GRADE, cell_at(row, grade))?;
+    let millionths = millionths_in(Column::Tonnes, 3, MAX_KG * 1000, cell_at(row, tonnes))?;
+    let grade = millionths_in(Column::Grade, 6, MAX_GRADE, cell_at(row, grade))?;
     Ok(Block {
         x,
         y,

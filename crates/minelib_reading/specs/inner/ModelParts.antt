@@ -51,8 +51,8 @@ unfoldable pub values_of_line : ℕ → ℕ → ℕ → List (List ℕ) → Resu
 values_of_line n destinations before fields =
     read text_kinds (values_form n destinations) fields >>= values_said before
 
-unfoldable pub coef_of : Problem → ℕ → ℕ → ℕ → List (List ℕ) → Result Coef TextKind
-coef_of problem n destinations resources fields = do
+unfoldable pub coef_of_line : Problem → ℕ → ℕ → ℕ → List (List ℕ) → Result Coef TextKind
+coef_of_line problem n destinations resources fields = do
   values ← read text_kinds (coef_form problem n destinations resources) fields
   Ok (coef_said problem values)
 
@@ -62,8 +62,8 @@ uncounted_coef problem n destinations resources fields = do
   values ← read_fields text_kinds (coef_form problem n destinations resources) fields
   Ok (coef_said problem values)
 
-unfoldable pub limit_of : ℕ → ℕ → List (List ℕ) → Result Limit TextKind
-limit_of resources periods fields = do
+unfoldable pub limit_of_line : ℕ → ℕ → List (List ℕ) → Result Limit TextKind
+limit_of_line resources periods fields = do
   values ← read text_kinds (limit_form resources periods fields) fields
   Ok (limit_said values)
 

@@ -19,7 +19,7 @@ ghost use Rattle.pit_parts.specs.declared.ranges.TheConstants.{MAX_BLOCKS};
 
 use crate::kept::KeptItems;
 use crate::model::header::{blank_header, number_in};
-use crate::model::items::{coef_of, is_limit_behind, limit_of, values_in};
+use crate::model::items::{coef_of_line, is_limit_behind, limit_of_line, values_of_line};
 use crate::model::key::{Header, ModelKey, Section};
 use crate::model::key_lines::{cut_at_colon, is_heading, is_limits, is_next, key_of, only_value};
 use crate::taking::TakeItems;
@@ -158,7 +158,7 @@ impl<T: TakeItems> ModelDraft<T> {
     {
         let destinations = self.destinations();
         let before = self.items.values_len();
-        match values_in(self.blocks, destinations, before, line, &mut self.row) {
+        match values_of_line(self.blocks, destinations, before, line, &mut self.row) {
             Ok(()) => {
                 self.items.take_values(&self.row)?;
                 Ok(())
@@ -175,9 +175,9 @@ impl<T: TakeItems> ModelDraft<T> {
     {
         let destinations = self.destinations();
         let resources = self.resources();
-        match coef_of(self.problem, self.blocks, destinations, resources, line) {
+        match coef_of_line(self.problem, self.blocks, destinations, resources, line) {
             Ok(coef) => {
-                if !self.items.is_next(&coef) {
+                if !self.items.is_behind(&coef) {
                     return Err(OrMemory::Fault(TextKind::Order));
                 }
                 self.items.take_coef(coef)?;
@@ -194,7 +194,7 @@ impl<T: TakeItems> ModelDraft<T> {
     {
         let resources = self.resources();
         let periods = self.periods();
-        match limit_of(resources, periods, line) {
+        match limit_of_line(resources, periods, line) {
             Ok(limit) => {
                 if limit.bound.is_turned() || !is_limit_behind(self.limits.as_slice(), &limit) {
                     return Err(OrMemory::Fault(TextKind::Order));

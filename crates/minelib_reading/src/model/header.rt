@@ -7,7 +7,7 @@ ghost use Rattle.minelib_reading.specs.ModelLines.{blank_header};
 ghost use Rattle.minelib_reading.specs.inner.ModelParts.{is_name_for, millionths_in, number_in, number_limit, number_with};
 
 use crate::model::key::Header;
-use crate::model::key_lines::is_word;
+use crate::model::key_lines::is_exactly;
 use minelib_lines::header_key::{HeaderKey, KeyField};
 use minelib_lines::problem::Problem;
 use pit_parts::name::is_name;
@@ -63,7 +63,7 @@ fn stated_in(problem: Problem, field: KeyField, text: &[u8]) -> Result<u64, Text
 {
     match field {
         KeyField::Name if is_name(text) => Ok(0),
-        KeyField::Type if is_word(text, problem.type_text()) => Ok(0),
+        KeyField::Type if is_exactly(text, problem.type_text()) => Ok(0),
         KeyField::Name | KeyField::Type => Err(TextKind::Name),
         KeyField::Number {
             decimals,

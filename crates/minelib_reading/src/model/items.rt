@@ -5,7 +5,7 @@ ghost use Rattle.pit_parts.specs.PlanKept.{stands_before};
 ghost use Rattle.mine_instance.specs.Order.{coef_before};
 ghost use Rattle.text_lines.specs.FieldValues.{Takes, all_by, decimal_in, first_by};
 ghost use Rattle.minelib_reading.specs.ModelLines.{is_behind, last_of};
-ghost use Rattle.minelib_reading.specs.inner.ModelParts.{TakesFirst, uncounted_coef, coef_of, limit_of, values_of_line};
+ghost use Rattle.minelib_reading.specs.inner.ModelParts.{TakesFirst, uncounted_coef, coef_of_line, limit_of_line, values_of_line};
 ghost use Rattle.text_lines.specs.Reading.{Leaves};
 ghost use Rattle.minelib_reading.specs.ItemForms.{coef_form};
 ghost use Rattle.text_lines.specs.TextLines.{fields_of};
@@ -13,7 +13,7 @@ ghost use Rattle.text_lines.specs.inner.Taken.{AdmitsCounted};
 ghost use Rattle.minelib_reading.specs.inner.UncountedItems.{bound_in, destination_in, interval_in, limit_width};
 ghost use Rattle.pit_parts.specs.declared.ranges.TheConstants.{MAX_BLOCKS};
 
-use crate::model::key_lines::is_word;
+use crate::model::key_lines::is_exactly;
 use mine_instance::coefs::coef::Coef;
 use minelib_lines::problem::Problem;
 use pit_parts::limit::{Bound, Limit};
@@ -25,7 +25,7 @@ use text_lines::text_fields::{
 };
 
 /// Reads the values of a block, one for each destination, into `row`, from a line behind so many others.
-pub fn values_in(
+pub fn values_of_line(
     blocks: usize,
     destinations: u8,
     before: usize,
@@ -90,7 +90,7 @@ fn read_decimals(line: &[u8], count: usize, row: &mut Vec<Dec>) -> Result<(), Or
 
 /// The coefficient of a line, of so many blocks, destinations and resources.
 #[inline(always)]
-pub fn coef_of(
+pub fn coef_of_line(
     problem: Problem,
     blocks: usize,
     destinations: u8,
@@ -98,7 +98,7 @@ pub fn coef_of(
     line: &[u8],
 ) -> Result<Coef, TextKind>
     requires { blocks ≤ MAX_BLOCKS }
-    ensures value { result ≡ coef_of problem blocks destinations resources (fields_of line.now) }
+    ensures value { result ≡ coef_of_line problem blocks destinations resources (fields_of line.now) }
     ensures block { IfOk result (λ coef. coef.b < MAX_BLOCKS) }
     ensures destination { IfOk result (λ coef. coef.d < 256) }
     ensures resource { IfOk result (λ coef. coef.r < 256) }
@@ -175,8 +175,8 @@ pub fn is_coef_behind(coefs: &[Coef], coef: &Coef) -> bool
 
 /// The limit of a line, of so many resources and periods.
 #[tactic(auto, using(crate::proofs::LimitLineFacts::limit_same))]
-pub fn limit_of(resources: u8, periods: u8, line: &[u8]) -> Result<Limit, TextKind>
-    ensures { result ≡ limit_of resources periods (fields_of line.now) }
+pub fn limit_of_line(resources: u8, periods: u8, line: &[u8]) -> Result<Limit, TextKind>
+    ensures { result ≡ limit_of_line resources periods (fields_of line.now) }
 {
     if count_fields(line) != limit_width(line) {
         return Err(TextKind::Fields);
@@ -195,7 +195,7 @@ pub fn limit_of(resources: u8, periods: u8, line: &[u8]) -> Result<Limit, TextKi
 fn limit_width(line: &[u8]) -> usize
     ensures { result ≡ limit_width (fields_of line.now) }
 {
-    if is_word(third_field(line), b"I") {
+    if is_exactly(third_field(line), b"I") {
         5
     } else {
         4
@@ -249,11 +249,11 @@ fn bound_in(line: &[u8]) -> Result<Bound, TextKind>
 fn bound_with(letter: &[u8], values: &[u8]) -> Result<Bound, TextKind>
     ensures { result ≡ bound_in (letter.now ∷ fields_of values.now) }
 {
-    if is_word(letter, b"L") {
+    if is_exactly(letter, b"L") {
         Ok(Bound::AtMost(first_decimal(values)?))
-    } else if is_word(letter, b"G") {
+    } else if is_exactly(letter, b"G") {
         Ok(Bound::AtLeast(first_decimal(values)?))
-    } else if is_word(letter, b"I") {
+    } else if is_exactly(letter, b"I") {
         interval_in(values)
     } else {
         Err(TextKind::Name)

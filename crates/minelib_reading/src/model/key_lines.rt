@@ -36,7 +36,7 @@ fn colon_place(line: &[u8]) -> Option<usize>
 }
 
 /// Whether the bytes are this word.
-pub fn is_word(bytes: &[u8], word: &[u8]) -> bool
+pub fn is_exactly(bytes: &[u8], word: &[u8]) -> bool
     ensures { result ≡ bytes_eq bytes.now word.now }
 {
     bytes == word
@@ -82,17 +82,17 @@ fn header_key_in(problem: Problem, word: &[u8]) -> Option<HeaderKey>
         .keys()
         .iter()
         .copied()
-        .find(|key| is_word(word, key.row().word))
+        .find(|key| is_exactly(word, key.row().word))
 }
 
 fn section_in(word: &[u8]) -> Option<ModelKey>
     ensures { result ≡ section_in word.now }
 {
-    if is_word(word, b"OBJECTIVE_FUNCTION") {
+    if is_exactly(word, b"OBJECTIVE_FUNCTION") {
         Some(ModelKey::Section(Section::Objective))
-    } else if is_word(word, b"RESOURCE_CONSTRAINT_COEFFICIENTS") {
+    } else if is_exactly(word, b"RESOURCE_CONSTRAINT_COEFFICIENTS") {
         Some(ModelKey::Section(Section::Coefs))
-    } else if is_word(word, b"RESOURCE_CONSTRAINT_LIMITS") {
+    } else if is_exactly(word, b"RESOURCE_CONSTRAINT_LIMITS") {
         Some(ModelKey::Section(Section::Limits))
     } else {
         None

@@ -16,7 +16,7 @@ ghost use Rattle.pit_parts.specs.declared.ranges.TheConstants.{MAX_COST, MAX_PRI
 use crate::band_cells::read_bands;
 use crate::cells::Cells;
 use crate::draft::Draft;
-use crate::named::{is_taken, name_in};
+use crate::named::{has_destination, name_in};
 use crate::numbers::whole_in;
 use crate::plan_fault::PlanFaultKind;
 use pit_parts::formulas::band::{Band, Bands, starts_rise};
@@ -118,7 +118,7 @@ impl Draft {
         ensures { Gives (λ _. self.new) result
             (destined self.old name (bands_asked bands.items) (Leach bands.items price cost)) }
     {
-        if is_taken(self.formulas.as_slice(), name.as_str().as_bytes()) {
+        if has_destination(self.formulas.as_slice(), name.as_str().as_bytes()) {
             return Err(OrMemory::Fault(PlanFaultKind::Twice));
         }
         let bands = rising(bands)?;
@@ -143,7 +143,7 @@ impl Draft {
         requires { IsRuled formula }
         ensures { Gives (λ _. self.new) result (destined self.old name [] formula) }
     {
-        if is_taken(self.formulas.as_slice(), name.as_str().as_bytes()) {
+        if has_destination(self.formulas.as_slice(), name.as_str().as_bytes()) {
             return Err(OrMemory::Fault(PlanFaultKind::Twice));
         }
         self.add_formula(name, formula)

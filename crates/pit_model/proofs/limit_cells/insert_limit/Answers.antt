@@ -9,6 +9,6 @@ returns-clause-ok c =
     let limit = c.args.limit in
     let old = c.args.limits.now.items in
     c.in_ok-insert.ensures.items
-    ∙ ap (λ i. insert old i limit) (c.place_of-place.ensures.place
+    ∙ ap (λ i. insert old i limit) (c.index_for-place.ensures.place
     ∙ ap (λ xs. position_or_len (λ m. stands_before limit m) xs) c.as_slice.ensures.value)
     ∙ inserted limit old

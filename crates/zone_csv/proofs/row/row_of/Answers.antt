@@ -63,7 +63,7 @@ returns-in_err-millionths-clause-value c =
       sym (c.in_ok-x.ensures.value c.args.number),
       sym (c.in_ok-y.ensures.value c.args.number),
       sym (c.in_ok-z.ensures.value c.args.number),
-      sym (c.size_of.ensures.value c.args.number),
+      sym (c.millionths_in.ensures.value c.args.number),
     ) (search rules)
 
 pub returns-in_err-grade-clause-value : goal.returns-in_err-grade-clause-value
@@ -80,5 +80,5 @@ returns-in_err-grade-clause-value c =
       sym (c.in_ok-y.ensures.value c.args.number),
       sym (c.in_ok-z.ensures.value c.args.number),
       sym (c.in_ok-millionths.ensures.value c.args.number),
-      sym (c.size_of-2.ensures.value c.args.number),
+      sym (c.millionths_in-2.ensures.value c.args.number),
     ) (search rules)

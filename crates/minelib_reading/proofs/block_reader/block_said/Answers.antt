@@ -1,6 +1,6 @@
 use Rattle.std.proofs.Common.{sym}
 use Rattle.minelib_reading.proofs.CountedLater.{block_counted, block_kind}
-use Rattle.minelib_reading.proofs.block_reader.block_of.Goals as goal
+use Rattle.minelib_reading.proofs.block_reader.block_said.Goals as goal
 
 pub returns-in-Ok-clause-value : goal.returns-in-Ok-clause-value
 returns-in-Ok-clause-value c = sym (block_counted c.args.before c.args.line.now c.in-Ok.block (sym c.in-Ok.ensures.value))
