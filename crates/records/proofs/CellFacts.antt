@@ -6,7 +6,7 @@ use Rattle.std.proofs.lemmas.List.{take_more, take_all, length-map, length-take-
 use Rattle.std.proofs.Math.ListN.{get_or-map}
 use Rattle.csv.proofs.RecordFacts.{field-get}
 use Rattle.csv.specs.Records.{field_at}
-use Rattle.records.specs.Cells.{is_blank, without_trailing_blanks, trimmed}
+use Rattle.records.specs.Cells.{is_blank, without_end, without_trailing_blanks, trimmed}
 use Rattle.records.specs.RecordCells.{without_empty_end, cells_of, cell_at}
 
 -- a list is what stands before its last element, and that
@@ -16,25 +16,27 @@ split_last xs d h =
     let e : (length xs - 1) + 1 ≡ length xs = omega arith in
     sym (take_more xs (length xs - 1) d i) ∙ ap (λ n. take n xs) e ∙ take_all (length xs) xs (omega arith)
 
--- a blank at the end goes
-blank_goes : (xs : List ℕ) (b : ℕ) → is_blank b ≡ true → without_trailing_blanks (xs ++ b ∷ []) ≡ without_trailing_blanks xs
-blank_goes [] b h = rw h refl
-blank_goes (x ∷ xs) b h = rw (blank_goes xs b h) refl
+-- an element at the end that passes goes
+end_goes : {A : Type 0} (passes : A → Bool) (xs : List A) (x : A) → passes x ≡ true
+    → without_end passes (xs ++ x ∷ []) ≡ without_end passes xs
+end_goes passes [] x h = rw h refl
+end_goes passes (y ∷ xs) x h = rw (end_goes passes xs x h) refl
 
--- another byte at the end stays, and so does all before it
-other_stays : (xs : List ℕ) (b : ℕ) → is_blank b ≡ false → without_trailing_blanks (xs ++ b ∷ []) ≡ xs ++ b ∷ []
-other_stays [] b h = rw h refl
-other_stays (x ∷ xs) b h =
-    let some : (length (xs ++ b ∷ []) == 0) ≡ false = grind (arith, nat_tests, length-append xs (b ∷ [])) in
-    rw (other_stays xs b h, some) refl
+-- another stays, and so do all before it
+end_stays : {A : Type 0} (passes : A → Bool) (xs : List A) (x : A) → passes x ≡ false
+    → without_end passes (xs ++ x ∷ []) ≡ xs ++ x ∷ []
+end_stays passes [] x h = rw h refl
+end_stays passes (y ∷ xs) x h =
+    let some : (length (xs ++ x ∷ []) == 0) ≡ false = grind (arith, nat_tests, length-append xs (x ∷ [])) in
+    rw (end_stays passes xs x h, some) refl
 
 pub blank_at_end : (xs : List ℕ) → 0 < length xs → is_blank (get_or xs (length xs - 1) 0) ≡ true
     → without_trailing_blanks (take (length xs - 1) xs) ≡ without_trailing_blanks xs
-blank_at_end xs some h = sym (blank_goes (take (length xs - 1) xs) _ h) ∙ ap without_trailing_blanks (split_last xs 0 some)
+blank_at_end xs some h = sym (end_goes is_blank (take (length xs - 1) xs) _ h) ∙ ap without_trailing_blanks (split_last xs 0 some)
 
 pub other_at_end : (xs : List ℕ) → 0 < length xs → is_blank (get_or xs (length xs - 1) 0) ≡ false → without_trailing_blanks xs ≡ xs
 other_at_end xs some h =
-    sym (ap without_trailing_blanks (split_last xs 0 some)) ∙ other_stays (take (length xs - 1) xs) _ h ∙ split_last xs 0 some
+    sym (ap without_trailing_blanks (split_last xs 0 some)) ∙ end_stays is_blank (take (length xs - 1) xs) _ h ∙ split_last xs 0 some
 
 -- a list with no element is empty
 empty_is : {A : Type 0} (xs : List A) → (length xs == 0) ≡ true → xs ≡ []
@@ -54,19 +56,6 @@ cell_stays (c ∷ cells) i = by_tests (λ k. cell_stays cells k) (length (withou
         empty_is (without_empty_end cells) e in (rw none at (more i))
     by_tests more _ _ e f zero = refl
     by_tests more _ _ e f (suc i) = more i
-
--- an empty cell at the end goes
-pub empty_goes : (cells : List (List ℕ)) (c : List ℕ) → (length c == 0) ≡ true
-    → without_empty_end (cells ++ c ∷ []) ≡ without_empty_end cells
-empty_goes [] c h = rw h refl
-empty_goes (x ∷ cells) c h = rw (empty_goes cells c h) refl
-
--- another cell at the end stays, and so do all before it
-pub full_stays : (cells : List (List ℕ)) (c : List ℕ) → (length c == 0) ≡ false → without_empty_end (cells ++ c ∷ []) ≡ cells ++ c ∷ []
-full_stays [] c h = rw h refl
-full_stays (x ∷ cells) c h =
-    let some : (length (cells ++ c ∷ []) == 0) ≡ false = grind (arith, nat_tests, length-append cells (c ∷ [])) in
-    rw (full_stays cells c h, some) refl
 
 -- the cell at a place is the field there, trimmed, or empty
 pub at_cell : (fields : List (List ℕ)) (i : ℕ) → cell_at (cells_of fields) i ≡ trimmed (get_or fields i [])
@@ -94,7 +83,7 @@ one_empty fields i n h e counted =
     let same : get_or (map trimmed fields) i [] ≡ cell_at (cells_of fields) i = sym (cell_stays (map trimmed fields) i) in
     let none : (length (get_or (map trimmed fields) i []) == 0) ≡ true = ap (λ c. length c == 0) same ∙ e in
     counted ∙ sym (ap length (ap without_empty_end (take_more (map trimmed fields) i [] there)
-    ∙ empty_goes (take i (map trimmed fields)) _ none))
+    ∙ end_goes (λ c. length c == 0) (take i (map trimmed fields)) _ none))
 
 pub one_full : (fields : List (List ℕ)) (i : ℕ) → i < length fields → (length (cell_at (cells_of fields) i) == 0) ≡ false
     → i + 1 ≡ length (without_empty_end (take (i + 1) (map trimmed fields)))
@@ -103,6 +92,6 @@ one_full fields i h e =
     let same : get_or (map trimmed fields) i [] ≡ cell_at (cells_of fields) i = sym (cell_stays (map trimmed fields) i) in
     let some : (length (get_or (map trimmed fields) i []) == 0) ≡ false = ap (λ c. length c == 0) same ∙ e in
     let whole : without_empty_end (take (i + 1) (map trimmed fields)) ≡ take (i + 1) (map trimmed fields) =
-    ap without_empty_end (take_more (map trimmed fields) i [] there) ∙ full_stays (take i (map trimmed fields)) _ some
+    ap without_empty_end (take_more (map trimmed fields) i [] there) ∙ end_stays (λ c. length c == 0) (take i (map trimmed fields)) _ some
     ∙ sym (take_more (map trimmed fields) i [] there) in
     sym (ap length whole ∙ length-take-le (i + 1) (map trimmed fields) (omega arith))

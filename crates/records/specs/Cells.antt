@@ -11,11 +11,14 @@ abbrev pub without_leading_blanks : List ℕ → List ℕ
 without_leading_blanks [] = []
 without_leading_blanks (b ∷ bytes) = if is_blank b then without_leading_blanks bytes else b ∷ bytes
 
+-- a list up to the last element that does not pass
+abbrev pub without_end : {A : Type 0} → (A → Bool) → List A → List A
+without_end passes [] = []
+without_end passes (x ∷ xs) = if (length (without_end passes xs) == 0) && passes x then [] else x ∷ without_end passes xs
+
 -- the bytes up to the last that is no blank
 abbrev pub without_trailing_blanks : List ℕ → List ℕ
-without_trailing_blanks [] = []
-without_trailing_blanks (b ∷ bytes) =
-    if (length (without_trailing_blanks bytes) == 0) && is_blank b then [] else b ∷ without_trailing_blanks bytes
+without_trailing_blanks bytes = without_end is_blank bytes
 
 -- a cell without the blanks at both ends
 abbrev pub trimmed : List ℕ → List ℕ
