@@ -1,7 +1,7 @@
 -- A line whose fields have no colon has none, and the text of a number is a field without one.
 use Rattle.std.specs.Prelude.{◌≡◌, ℕ, Bool, true, false, not, List, [], ◌∷◌, ◌++◌, ◌≤◌, ℤ, if◌then◌else◌, ◌⊎◌}
 use Rattle.std.specs.Char.{is_ascii_digit}
-use Rattle.std.specs.List.{list_all, list_any}
+use Rattle.std.specs.List.{list_all, list_any, onto_first}
 use Rattle.std.proofs.Common.{refl, arith, inl, inr, length, length-append}
 use Rattle.std.proofs.lemmas.Bool.{or_parts}
 use Rattle.std.proofs.lemmas.Bool.Decides.{nat_tests}
@@ -9,7 +9,7 @@ use Rattle.pit_units.specs.Decimal.{all_digits}
 use Rattle.pit_units.specs.StandsFor.{StandsFor}
 use Rattle.records.specs.Cells.{is_blank}
 use Rattle.minelib_reading.specs.ModelLines.{is_colon}
-use Rattle.text_lines.specs.TextLines.{fields_of, is_ended, onto_first}
+use Rattle.text_lines.specs.TextLines.{fields_of, is_ended}
 use Rattle.text_lines.proofs.PlainText.{IsField, all_parts, all_weaker, is_plain}
 
 -- a colon stands in some field

@@ -1,7 +1,8 @@
 -- Which kind of fault a line has, once its fields spell numbers.
 use Rattle.std.specs.Prelude.{◌≡◌, ◌≢◌, ℕ, ◌==◌, not, Bool, true, false, List, [], ◌∷◌, ◌++◌, length, Some}
-use Rattle.std.proofs.Common.{refl, sym, ap, subst, arith, inl, inr, eq-eqb}
+use Rattle.std.proofs.Common.{refl, sym, ap, subst, inl, inr, eq-eqb}
 use Rattle.std.proofs.lemmas.Bool.{eqb-true, ne_eqb}
+use Rattle.std.proofs.lemmas.List.{nil_from_length}
 use Rattle.forms.proofs.FormFacts.{spelled_fit}
 use Rattle.forms.specs.Words.{asked, asked_of_field, asked_of_fields, Demand, FailsFirst, Decimal, Field, Stepped, Value, Word, whole_at, Check, check, failing, Fails, Spell}
 use Rattle.mine_instance.specs.Valid.{ArePredsOf}
@@ -148,10 +149,6 @@ none_behind : (fields : List (List ℕ)) (values : List Value) → Spell [] fiel
 none_behind [] values spelled = refl
 none_behind (field ∷ fields) values spelled = absurd spelled
 
-no_fields_are : (fields : List (List ℕ)) → length fields ≡ 0 → fields ≡ []
-no_fields_are [] e = refl
-no_fields_are (field ∷ fields) e = absurd (omega (arith, e))
-
 pub section_fails : (d : ModelDraftView) (section : Section) (fields : List (List ℕ)) (k : TextKind) → Fails (section_line d section fields) k
     → FailSection k d section fields
 unfolding section_line
@@ -170,7 +167,7 @@ pub fails_section : (d : ModelDraftView) (section : Section) (fields : List (Lis
     → Fails (section_line d section fields) k
 unfolding section_line
 fails_section d section fields kind.Key e = inl (rw e refl)
-fails_section d section fields kind.Fields (e, some) = inr (rw e refl, inl (inl ((λ count. some (no_fields_are fields count)), refl)))
+fails_section d section fields kind.Fields (e, some) = inr (rw e refl, inl (inl ((λ count. some (nil_from_length fields count)), refl)))
 fails_section d section fields kind.Missing (e, none, lacks) =
     inr (rw e refl, inr (record { values = []; spelled = subst (λ fields. Spell [] fields []) (sym none) tt; fails = rw lacks refl }))
 fails_section d section fields k fail = absurd fail

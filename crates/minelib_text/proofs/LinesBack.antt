@@ -2,13 +2,14 @@
 use Rattle.std.proofs.Common.{◌≡◌, ℕ, ◌+◌, ◌-◌, ◌<◌, false, List, [], ◌∷◌, ◌++◌, length, arith, refl, ◌∙◌, ap, sym, append_assoc, eq-eqb, subst}
 use Rattle.std.specs.Prelude.{All, slice_index_or}
 use Rattle.std.specs.List.{list_all}
+use Rattle.std.specs.Str.Lines.{strip_carriage_return}
 use Rattle.std.proofs.lemmas.Bool.{and_parts}
 use Rattle.std.proofs.lemmas.List.{length_push}
 use Rattle.std.proofs.lemmas.List.Elements.{All-cons, All-head, All-nil, All-tail, All-weaker}
 use Rattle.std.proofs.lemmas.List.Sums.{AllPass-from_list_all}
 use Rattle.minelib_lines.specs.Lines.{text_of, line_of, lines_from}
 use Rattle.minelib_reading.specs.SpelledLines.{AreLines}
-use Rattle.text_lines.specs.TextLines.{Line, without_cr, without_mark, is_skipped, numbered_lines, lines_in}
+use Rattle.text_lines.specs.TextLines.{Line, without_mark, is_skipped, numbered_lines, lines_in}
 use Rattle.text_lines.specs.TextParts.{IsLineText}
 use Rattle.text_lines.proofs.PlainText.{is_inner, IsLine, not_lf, not_cr, not_mark}
 use Rattle.minelib_text.proofs.LinesOfText.{lines_again}
@@ -17,7 +18,7 @@ some_bytes : (line : List ℕ) → is_skipped line ≡ false → 0 < length line
 some_bytes [] h = absurd (cc)
 some_bytes (c ∷ cs) h = omega arith
 
-no_cr : (line : List ℕ) → IsLine line → without_cr line ≡ line
+no_cr : (line : List ℕ) → IsLine line → strip_carriage_return line ≡ line
 no_cr line h =
     rw (not_cr _ (AllPass-from_list_all is_inner line h.inner (length line - 1) 0 (omega (arith, some_bytes line h.is_read)))) refl
 

@@ -1,10 +1,12 @@
 -- The lines of a text that is cut behind a line's end are those of its two pieces.
 use Rattle.std.proofs.Common.{◌≡◌, ℕ, suc, ◌+◌, ◌<◌, ◌≤◌, ◌==◌, Bool, true, false, List, [], ◌∷◌, ◌++◌, length, take, refl, sym, ap, ◌∙◌, arith, Result, Ok, Err, subst}
+use Rattle.std.specs.List.{onto_first}
 use Rattle.std.specs.Str.{bytes_eq}
+use Rattle.std.specs.Str.Lines.{strip_carriage_return}
 use Rattle.std.proofs.lemmas.List.{append_assoc, length-drop}
 use Rattle.forms.specs.Words.{◌>>=◌}
 use Rattle.text_lines.specs.Reading.{at_line, read_lines}
-use Rattle.text_lines.specs.TextLines.{Line, is_skipped, lines_of, numbered_lines, onto_first, without_cr, without_mark}
+use Rattle.text_lines.specs.TextLines.{Line, is_skipped, lines_of, numbered_lines, without_mark}
 use Rattle.text_lines.specs.declared.text_fault.TextKind.{TextKind}
 use Rattle.text_lines.specs.inner.Waiting.{AreWholeLines, unmarked}
 
@@ -52,18 +54,18 @@ lines_few (b ∷ bs) = at (b == 10) (lines_few bs) refl where
 pub numbered_append : (n : ℕ) (lines more : List (List ℕ))
     → numbered_lines n (lines ++ more) ≡ numbered_lines n lines ++ numbered_lines (n + length lines) more
 numbered_append n [] more = let same : n ≡ n + 0 = omega arith in ap (λ m. numbered_lines m more) same
-numbered_append n (line ∷ lines) more = at (is_skipped (without_cr line)) (numbered_append (n + 1) lines more) refl where
+numbered_append n (line ∷ lines) more = at (is_skipped (strip_carriage_return line)) (numbered_append (n + 1) lines more) refl where
   next : n + 1 + length lines ≡ n + suc (length lines)
   next = omega arith
 
   at : (t : Bool)
       → numbered_lines (n + 1) (lines ++ more) ≡ numbered_lines (n + 1) lines ++ numbered_lines (n + 1 + length lines) more
-      → is_skipped (without_cr line) ≡ t
+      → is_skipped (strip_carriage_return line) ≡ t
       → numbered_lines n (line ∷ lines ++ more)
       ≡ numbered_lines n (line ∷ lines) ++ numbered_lines (n + suc (length lines)) more
   at true same e = rw e (same ∙ ap (λ m. numbered_lines (n + 1) lines ++ numbered_lines m more) next)
   at false same e =
-      let first : Line = record { number = n; text = without_cr line } in
+      let first : Line = record { number = n; text = strip_carriage_return line } in
       rw e (ap (λ all. first ∷ all) (same ∙ ap (λ m. numbered_lines (n + 1) lines ++ numbered_lines m more) next))
 
 pub read_append : {S : Type 0} (admit : S → List ℕ → Result S TextKind) (state : S) (lines more : List Line)

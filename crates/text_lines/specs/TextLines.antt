@@ -1,21 +1,14 @@
 -- The lines of a text that is read, and the fields of a line.
-use Rattle.std.specs.Prelude.{ℕ, Bool, true, List, [], ◌∷◌, ◌+◌, ◌-◌, ◌==◌, length, take, drop, slice_index, if◌then◌else◌}
+use Rattle.std.specs.Prelude.{ℕ, Bool, true, List, [], ◌∷◌, ◌+◌, ◌==◌, length, take, drop, if◌then◌else◌}
+use Rattle.std.specs.List.{onto_first}
 use Rattle.std.specs.Str.{bytes_eq}
+use Rattle.std.specs.Str.Lines.{strip_carriage_return}
 use Rattle.records.specs.Cells.{is_blank, without_leading_blanks}
-
--- a byte in front of the first line
-abbrev pub onto_first : ℕ → List (List ℕ) → List (List ℕ)
-onto_first b [] = (b ∷ []) ∷ []
-onto_first b (line ∷ lines) = (b ∷ line) ∷ lines
 
 -- the lines of a text, each ended by LF or by the text's end, without the LF
 abbrev pub lines_of : List ℕ → List (List ℕ)
 lines_of [] = []
 lines_of (b ∷ bytes) = if b == 10 then [] ∷ lines_of bytes else onto_first b (lines_of bytes)
-
--- a line without one CR at its end
-abbrev pub without_cr : List ℕ → List ℕ
-without_cr line = if slice_index line (length line - 1) == 13 then take (length line - 1) line else line
 
 -- a text without one byte order mark at its front
 abbrev pub without_mark : List ℕ → List ℕ
@@ -51,8 +44,8 @@ pub record Line : Type 0 where
 abbrev pub numbered_lines : ℕ → List (List ℕ) → List Line
 numbered_lines n [] = []
 numbered_lines n (line ∷ lines) =
-    if is_skipped (without_cr line) then numbered_lines (n + 1) lines
-    else record { number = n; text = without_cr line } ∷ numbered_lines (n + 1) lines
+    if is_skipped (strip_carriage_return line) then numbered_lines (n + 1) lines
+    else record { number = n; text = strip_carriage_return line } ∷ numbered_lines (n + 1) lines
 
 -- the lines of a text that are read
 abbrev pub lines_in : List ℕ → List Line

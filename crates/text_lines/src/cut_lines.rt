@@ -2,7 +2,8 @@
 
 ghost use Rattle.std.specs.Prelude.{◌≡◌, ◌<◌, ◌≤◌, ◌==◌, ◌∷◌, length};
 ghost use Rattle.std.specs.List.{position_or_len};
-ghost use Rattle.text_lines.specs.TextLines.{is_skipped, lines_of, without_cr, without_mark};
+ghost use Rattle.std.specs.Str.Lines.{strip_carriage_return};
+ghost use Rattle.text_lines.specs.TextLines.{is_skipped, lines_of, without_mark};
 
 use memchr::memchr;
 use pit_units::after;
@@ -38,8 +39,8 @@ fn line_end(text: &[u8]) -> usize
 }
 
 /// The line without one CR at its end.
-pub fn without_cr(line: &[u8]) -> &[u8]
-    ensures { result.now ≡ without_cr line.now }
+pub fn strip_carriage_return(line: &[u8]) -> &[u8]
+    ensures { result.now ≡ strip_carriage_return line.now }
 {
     match line {
         [front @ .., b'\r'] => front,

@@ -5,7 +5,7 @@ ghost use Rattle.text_lines.specs.Reading.{Leaves, at_line, read_lines};
 ghost use Rattle.text_lines.specs.TextLines.{end_of, lines_in, lines_of, numbered_lines};
 ghost use Rattle.text_lines.specs.declared.text_fault.TextKind.{TextKind as Kind};
 
-use crate::cut_lines::{cut_line, is_skipped, without_cr, without_mark};
+use crate::cut_lines::{cut_line, is_skipped, strip_carriage_return, without_mark};
 use crate::text_fault::{LineFault, TextKind};
 use pit_units::OrMemory;
 
@@ -42,7 +42,7 @@ pub fn read_on<S: Admit>(state: &mut S, first: u64, part: &[u8]) -> Result<u64, 
     let mut rest = part;
     while !rest.is_empty() {
         let (whole, behind) = cut_line(rest);
-        let line = without_cr(whole);
+        let line = strip_carriage_return(whole);
         if !is_skipped(line) {
             admit_at(state, number, line)?;
         }

@@ -1,6 +1,7 @@
 -- A zone file has the blocks and the fault that its records state, and no others; its blocks are few, and of its zone.
 use Rattle.std.proofs.Common.{◌≡◌, ℕ, ◌+◌, ◌<◌, ◌≤◌, List, [], ◌∷◌, length, arith, refl, sym, ap, subst, inl, inr, Ok, Err, Some, None, min}
 use Rattle.std.specs.Prelude.{Result, Option, All, MatchOption, ◌⊎◌, ◌↔◌}
+use Rattle.std.specs.Result.{ok_prefix}
 use Rattle.std.proofs.Math.Nat.{min-eq_left}
 use Rattle.std.proofs.lemmas.List.Elements.{All-nil, All-cons}
 use Rattle.forms.proofs.ShapeFacts.{IsAnswer}
@@ -12,7 +13,7 @@ use Rattle.zone_csv.proofs.RowFacts.{fails_row, fault_of_row, row_answers, row_w
 use Rattle.zone_csv.specs.Header.{columns_of}
 use Rattle.zone_csv.specs.NamedColumns.{NamesColumns}
 use Rattle.zone_csv.specs.Row.{row_of, row_shape}
-use Rattle.zone_csv.specs.Zone.{before_fault, below_header, blocks_of, fault_of, first_fault, records_say, rows_say}
+use Rattle.zone_csv.specs.Zone.{below_header, blocks_of, fault_of, first_fault, records_say, rows_say}
 use Rattle.zone_csv.specs.ZoneKept.{AccountsForRecords, HasFewBlocks, HasOwnBlocks}
 use Rattle.zone_csv.specs.ZoneStates.{HeaderFails, RowsState, ZoneStates, header_record}
 use Rattle.zone_csv.specs.declared.columns.Columns.{Columns}
@@ -41,7 +42,7 @@ module _ (grid : Grid) (zone : ℕ) where
   module _ (columns : Columns) where
     -- rows state what they say
     rows_told : (rows : List (List (List ℕ))) (number : ℕ)
-        → RowsState grid zone columns number rows (before_fault (rows_say grid zone columns rows number))
+        → RowsState grid zone columns number rows (ok_prefix (rows_say grid zone columns rows number))
         (first_fault (rows_say grid zone columns rows number))
     rows_told [] number = tt
     rows_told (row ∷ rows) number =
@@ -49,9 +50,9 @@ module _ (grid : Grid) (zone : ℕ) where
       where
         by : (r : Result Block RowFault) → IsAnswer (row_shape grid zone columns number row) r
             → RowsState grid zone columns (number + 1) rows
-            (before_fault (rows_say grid zone columns rows (number + 1))) (first_fault (rows_say grid zone columns rows (number + 1)))
+            (ok_prefix (rows_say grid zone columns rows (number + 1))) (first_fault (rows_say grid zone columns rows (number + 1)))
             → RowsState grid zone columns number
-            (row ∷ rows) (before_fault (r ∷ rows_say grid zone columns rows (number + 1))) (first_fault (r
+            (row ∷ rows) (ok_prefix (r ∷ rows_say grid zone columns rows (number + 1))) (first_fault (r
             ∷ rows_say grid zone columns rows (number + 1)))
         by (Ok b) states rest = (states, rest)
         by (Err fault) fails rest = fails
@@ -59,7 +60,7 @@ module _ (grid : Grid) (zone : ℕ) where
     -- and say what they state
     told_rows : (rows : List (List (List ℕ))) (number : ℕ) (blocks : List Block) (fault : Option RowFault)
         → RowsState grid zone columns number rows blocks fault
-        → (first_fault (rows_say grid zone columns rows number) ≡ fault) × (before_fault (rows_say grid zone columns rows number) ≡ blocks)
+        → (first_fault (rows_say grid zone columns rows number) ≡ fault) × (ok_prefix (rows_say grid zone columns rows number) ≡ blocks)
     told_rows [] number [] None h = (refl, refl)
     told_rows (row ∷ rows) number [] (Some fault) fails =
         let here = fails_row grid zone columns number row fault fails in
@@ -95,7 +96,7 @@ module _ (grid : Grid) (zone : ℕ) where
 
   -- records tell what they say
   pub told : (records : List (List (List ℕ)))
-      → Tell grid zone records (before_fault (records_say grid zone records)) (first_fault (records_say grid zone records))
+      → Tell grid zone records (ok_prefix (records_say grid zone records)) (first_fault (records_say grid zone records))
   told [] = inl (refl, refl)
   told (header ∷ rows) = by (columns_of header) refl
     where
@@ -106,14 +107,14 @@ module _ (grid : Grid) (zone : ℕ) where
       below columns blocks (Some fault) named states = inr (columns, named, states)
 
       by : (r : Result Columns RowFault) → columns_of header ≡ r
-          → Tell grid zone (header ∷ rows) (before_fault (below_header grid zone r rows)) (first_fault (below_header grid zone r rows))
+          → Tell grid zone (header ∷ rows) (ok_prefix (below_header grid zone r rows)) (first_fault (below_header grid zone r rows))
       by (Ok columns) e = below columns _ _ (columns_named header columns e) (rows_told columns rows 2)
       by (Err fault) e = inl (refl, refused_header header fault e)
 
   -- and say what they tell
   stated_records : (records : List (List (List ℕ))) (blocks : List Block) (fault : Option RowFault)
       → ZoneStates grid zone records blocks fault
-      → (first_fault (records_say grid zone records) ≡ fault) × (before_fault (records_say grid zone records) ≡ blocks)
+      → (first_fault (records_say grid zone records) ≡ fault) × (ok_prefix (records_say grid zone records) ≡ blocks)
   stated_records [] blocks fault (columns, named, states) = absurd (no_columns columns named)
   stated_records (header ∷ rows) blocks fault (columns, named, states) =
       let above = named_columns header columns named in
@@ -121,7 +122,7 @@ module _ (grid : Grid) (zone : ℕ) where
       (rw above below.0, rw above below.1)
 
   pub tell_back : (records : List (List (List ℕ))) (blocks : List Block) (fault : Option RowFault) → Tell grid zone records blocks fault
-      → (first_fault (records_say grid zone records) ≡ fault) × (before_fault (records_say grid zone records) ≡ blocks)
+      → (first_fault (records_say grid zone records) ≡ fault) × (ok_prefix (records_say grid zone records) ≡ blocks)
   tell_back records blocks None states = stated_records records blocks None states
   tell_back records blocks (Some fault) (inr states) = stated_records records blocks (Some fault) states
   tell_back [] blocks (Some fault) (inl (none, fails)) = (fails, sym none)

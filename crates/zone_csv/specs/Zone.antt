@@ -1,5 +1,6 @@
 -- Reading a zone file: the blocks before its first fault, and that fault.
 use Rattle.std.specs.Prelude.{ℕ, ◌+◌, List, [], ◌∷◌, Option, Some, None, Result, Ok, Err}
+use Rattle.std.specs.Result.{ok_prefix}
 use Rattle.records.specs.Records.{records_of}
 use Rattle.pit_parts.specs.declared.block.Block.{Block}
 use Rattle.pit_parts.specs.declared.grid.Grid.{Grid}
@@ -27,12 +28,6 @@ abbrev pub records_say : Grid → ℕ → List (List (List ℕ)) → List (Resul
 records_say grid zone [] = Err (a_fault 1 column.X MissingColumn) ∷ []
 records_say grid zone (header ∷ rows) = below_header grid zone (columns_of header) rows
 
--- the blocks before the first fault
-abbrev pub before_fault : List (Result Block RowFault) → List Block
-before_fault [] = []
-before_fault (Ok block ∷ said) = block ∷ before_fault said
-before_fault (Err fault ∷ said) = []
-
 -- the first fault
 abbrev pub first_fault : List (Result Block RowFault) → Option RowFault
 first_fault [] = None
@@ -41,7 +36,7 @@ first_fault (Err fault ∷ said) = Some fault
 
 -- the blocks of a zone file: those of its rows before the first one with a fault
 unfoldable pub blocks_of : Grid → ℕ → List ℕ → List Block
-blocks_of grid zone text = before_fault (records_say grid zone (records_of text))
+blocks_of grid zone text = ok_prefix (records_say grid zone (records_of text))
 
 -- the first fault of a zone file
 unfoldable pub fault_of : Grid → ℕ → List ℕ → Option RowFault

@@ -1,11 +1,12 @@
 -- How the parts of a reader of a zone file are seen as what it has still to say.
 use Rattle.std.specs.Prelude.{ℕ, ◌+◌, ◌≤◌, List, [], Some, None, Result}
+use Rattle.std.specs.Result.{ok_prefix}
 use Rattle.pit_parts.specs.declared.ranges.TheConstants.{MAX_ROWS}
 use Rattle.records.specs.RecordReader.{RecordReaderView, Rows, Over, GaveUp}
 use Rattle.pit_parts.specs.declared.block.Block.{Block}
 use Rattle.pit_parts.specs.declared.grid.Grid.{Grid}
 use Rattle.zone_csv.specs.ZoneReaderView.{ZoneReaderView, Ahead, Told, NoMemory}
-use Rattle.zone_csv.specs.Zone.{records_say, rows_say, before_fault, first_fault}
+use Rattle.zone_csv.specs.Zone.{records_say, rows_say, first_fault}
 use Rattle.zone_csv.specs.declared.row_fault.RowFault.{RowFault}
 use Rattle.pit_units.specs.declared.or_memory.OrMemory.{OrMemory}
 use Rattle.pit_units.specs.declared.or_memory.OrMemory.TheVariants.{Fault, OutOfMemory}
@@ -14,7 +15,7 @@ use Rattle.zone_csv.specs.declared.zone_reader.Stage.TheVariants as stage
 
 -- what these answers of rows say
 abbrev pub ahead : List (Result Block RowFault) → ZoneReaderView
-ahead said = Ahead (before_fault said) (first_fault said)
+ahead said = Ahead (ok_prefix said) (first_fault said)
 
 -- a fault that was told
 abbrev pub told_fault : OrMemory RowFault → ZoneReaderView
