@@ -46,6 +46,14 @@ number_at values place = millionths (slice_index_or values place (Bytes []))
 abbrev pub whole_at : List Value → ℕ → ℕ
 whole_at values place = whole_stated (slice_index_or values place (Bytes []))
 
+-- the word that a value is, and that of the value at a place; no bytes of a number
+abbrev pub word_of : Value → List ℕ
+word_of (Bytes word) = word
+word_of (Millionths m) = []
+
+abbrev pub word_at : List Value → ℕ → List ℕ
+word_at values place = word_of (slice_index_or values place (Bytes []))
+
 -- so many millionths are whole steps above the lowest
 abbrev pub is_on_step : ℕ → ℤ → ℤ → Bool
 is_on_step step low m = unsigned_abs (m -ℤ low) % step == 0

@@ -1,7 +1,7 @@
 -- The words that the crates above use, from one place.
 pub use Rattle.forms.specs.Asked.{asked, asked_of_field, asked_of_fields}
 pub use Rattle.forms.specs.Demands.{Demand, FailsFirst}
-pub use Rattle.forms.specs.Field.{Bytes, Decimal, Field, Millionths, Stepped, Value, Word, below, between, is_on_step, millionths, number_at, up_to, whole, whole_at, whole_stated}
+pub use Rattle.forms.specs.Field.{Bytes, Decimal, Field, Millionths, Stepped, Value, Word, below, between, is_on_step, millionths, number_at, up_to, whole, whole_at, whole_stated, word_at, word_of}
 pub use Rattle.forms.specs.FieldFault.{FieldFault}
 pub use Rattle.forms.specs.Fit.{Fit, FitsField, is_fine}
 pub use Rattle.forms.specs.Grammar.{Grammar, HasFineForms, placed, read_all}

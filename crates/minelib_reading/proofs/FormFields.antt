@@ -7,10 +7,9 @@ use Rattle.pit_units.proofs.Standing.{read_stands}
 use Rattle.pit_units.specs.Decimal.{IsInDecimalRange, decimal_of, decimal_within, kept_within}
 use Rattle.pit_units.specs.declared.fault.DecFault.{DecFault}
 use Rattle.forms.proofs.FormFacts.{true_le}
-use Rattle.forms.specs.Words.{Field, Decimal, Stepped, Word, Value, Millionths, Bytes, below, millionths, whole, whole_stated, FitsField, Fit, number_or_kind, Spell, ◌>>=◌}
+use Rattle.forms.specs.Words.{Field, Decimal, Stepped, Word, Value, Millionths, Bytes, below, millionths, whole, whole_stated, word_of, FitsField, Fit, number_or_kind, Spell, ◌>>=◌}
 use Rattle.text_lines.specs.FieldValues.{decimal_in}
 use Rattle.text_lines.specs.LineKinds.{text_kind}
-use Rattle.minelib_reading.specs.ItemForms.{bytes_in}
 use Rattle.minelib_reading.specs.ModelLines.{is_colon}
 use Rattle.text_lines.proofs.FieldSteps.{ReadsField}
 use Rattle.minelib_reading.proofs.Keyless.{have_colon, keyless, number_field, plain_no_colon}
@@ -107,7 +106,7 @@ abbrev pub said_in : Field → Value → Value
 said_in (Decimal zero (pos low) high) value = whole (whole_stated value)
 said_in (Decimal decimals low high) value = Millionths (millionths value)
 said_in (Stepped decimals step low high) value = Millionths (millionths value)
-said_in (Word passes) value = Bytes (bytes_in value)
+said_in (Word passes) value = Bytes (word_of value)
 
 said_itself : (field : Field) (value : Value) → FitsField field value → value ≡ said_in field value
 said_itself (Decimal zero (pos low) high) value fits = whole_itself low high value fits
@@ -132,7 +131,7 @@ fit_said (field ∷ form) (value ∷ values) fit =
 fit_said form values fit = absurd fit
 
 -- the word of a value that fits
-pub word_there : (passes : List ℕ → Bool) (value : Value) → FitsField (Word passes) value → passes (bytes_in value) ≡ true
+pub word_there : (passes : List ℕ → Bool) (value : Value) → FitsField (Word passes) value → passes (word_of value) ≡ true
 word_there passes (Bytes word) fits = fits
 word_there passes (Millionths m) fits = absurd fits
 

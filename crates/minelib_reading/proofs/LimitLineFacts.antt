@@ -6,7 +6,7 @@ use Rattle.std.proofs.Common.{refl, sym, ◌∙◌, subst, arith}
 use Rattle.std.proofs.lemmas.Bool.{eqb-true}
 use Rattle.std.proofs.lemmas.Slice.Eq.{bytes_eq-Decides}
 use Rattle.forms.proofs.NumberFields.{quotient, whole_fits}
-use Rattle.forms.specs.Words.{Value, Millionths, Bytes, below, number_at, whole, whole_at, Fit, is_fine, read_fields, written, ◌>>=◌}
+use Rattle.forms.specs.Words.{Value, Millionths, Bytes, below, number_at, whole, whole_at, word_at, Fit, is_fine, read_fields, written, ◌>>=◌}
 use Rattle.pit_parts.specs.declared.limit.Bound.{Bound}
 use Rattle.pit_parts.specs.declared.limit.Bound.TheVariants.{AtMost, AtLeast, Between}
 use Rattle.pit_parts.specs.declared.limit.Limit.{Limit}
@@ -21,7 +21,7 @@ use Rattle.text_lines.specs.declared.text_fault.TextKind.TheVariants.{Fields}
 use Rattle.text_lines.proofs.FieldSteps.{first_step, said_of, whole_reads}
 use Rattle.minelib_reading.proofs.FormFields.{ArePlain, any_fits, any_reads, fit_at, fit_said, word_there}
 use Rattle.text_lines.proofs.PlainText.{IsField}
-use Rattle.minelib_reading.specs.ItemForms.{bound_form, bound_said, bytes_in, limit_form, limit_said}
+use Rattle.minelib_reading.specs.ItemForms.{bound_form, bound_said, limit_form, limit_said}
 use Rattle.minelib_lines.specs.LineValues.{bound_values, limit_values}
 
 pub bound_fine : (t : Bool) → is_fine (bound_form t) ≡ true
@@ -36,9 +36,9 @@ abbrev Each : (List ℕ → Type 0) → List (List ℕ) → Type 0
 Each P [] = Unit {0}
 Each P (word ∷ words) = P word × Each P words
 
-word_of : (P : List ℕ → Type 0) (words : List (List ℕ)) (word : List ℕ) → list_any (bytes_eq word) words ≡ true → Each P words → P word
-word_of P [] word passes each = absurd cc
-word_of P (one ∷ words) word passes each = by (λ more. word_of P words word more each.1) (bytes_eq word one) refl passes
+holds_of : (P : List ℕ → Type 0) (words : List (List ℕ)) (word : List ℕ) → list_any (bytes_eq word) words ≡ true → Each P words → P word
+holds_of P [] word passes each = absurd cc
+holds_of P (one ∷ words) word passes each = by (λ more. holds_of P words word more each.1) (bytes_eq word one) refl passes
   where
     by : (list_any (bytes_eq word) words ≡ true → P word) → (t : Bool) → bytes_eq word one ≡ t
         → (t || list_any (bytes_eq word) words) ≡ true → P word
@@ -47,9 +47,9 @@ word_of P (one ∷ words) word passes each = by (λ more. word_of P words word m
 
 pub bound_plain : (t : Bool) → ArePlain (bound_form t)
 bound_plain true =
-    ((λ word passes. word_of IsField (codes "I" ∷ []) word passes (record { some = omega arith; bytes = refl }, tt)), tt)
+    ((λ word passes. holds_of IsField (codes "I" ∷ []) word passes (record { some = omega arith; bytes = refl }, tt)), tt)
 bound_plain false = (
-  (λ word passes. word_of IsField (codes "L" ∷ codes "G" ∷ []) word passes
+  (λ word passes. holds_of IsField (codes "L" ∷ codes "G" ∷ []) word passes
       (record { some = omega arith; bytes = refl }, (record { some = omega arith; bytes = refl }, tt))),
   tt,
 )
@@ -146,7 +146,7 @@ pub limit_are : (resources periods : ℕ) (fields : List (List ℕ)) (values : L
 limit_are resources periods fields values fit = by (bytes_eq (slice_index_or fields 2 []) (codes "I")) fit
   where
     letter : List ℕ
-    letter = bytes_in (slice_index_or values 2 (Bytes []))
+    letter = word_at values 2
 
     Same : List ℕ → List Value → Type 0
     Same word numbers =
@@ -157,10 +157,10 @@ limit_are resources periods fields values fit = by (bytes_eq (slice_index_or fie
     by true fit =
         let form = below resources ∷ below periods ∷ bound_form true in
         fit_said form values fit
-        ∙ word_of (λ word. Same word (Millionths (number_at values 3) ∷ Millionths (number_at values 4) ∷ [])) (codes "I" ∷ []) letter
+        ∙ holds_of (λ word. Same word (Millionths (number_at values 3) ∷ Millionths (number_at values 4) ∷ [])) (codes "I" ∷ []) letter
         (word_there _ _ (fit_at form values 2 any (omega arith) fit)) (refl, tt)
     by false fit =
         let form = below resources ∷ below periods ∷ bound_form false in
         fit_said form values fit
-        ∙ word_of (λ word. Same word (Millionths (number_at values 3) ∷ [])) (codes "L" ∷ codes "G" ∷ []) letter
+        ∙ holds_of (λ word. Same word (Millionths (number_at values 3) ∷ [])) (codes "L" ∷ codes "G" ∷ []) letter
         (word_there _ _ (fit_at form values 2 any (omega arith) fit)) (refl, (refl, tt))

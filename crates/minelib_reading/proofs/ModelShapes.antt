@@ -3,12 +3,12 @@ use Rattle.std.specs.Prelude.{◌≡◌, ℕ, suc, ◌==◌, ◌&&◌, ◌||◌,
 use Rattle.std.specs.List.{list_any, before_first, after_first}
 use Rattle.std.proofs.Common.{refl, ◌∙◌, ap, arith}
 use Rattle.std.proofs.lemmas.Bool.{ne_eqb}
-use Rattle.forms.specs.Words.{Value, Bytes, millionths, whole_at, whole_stated, is_fine, read, read_field, HasFineForms, placed, read_all, Shape, check, failing, unless, ◌>>=◌, Field}
+use Rattle.forms.specs.Words.{Value, Bytes, millionths, whole_at, whole_stated, word_of, is_fine, read, read_field, HasFineForms, placed, read_all, Shape, check, failing, unless, ◌>>=◌, Field}
 use Rattle.pit_parts.specs.Name.{is_name}
 use Rattle.pit_parts.specs.PlanKept.{is_turned, stands_before}
 use Rattle.mine_instance.specs.Order.{coef_before}
 use Rattle.minelib_reading.specs.HeaderNumbers.{count_in, is_given, with_key, number_said}
-use Rattle.minelib_reading.specs.ItemForms.{bytes_in, coef_form, coef_said, limit_form, limit_said, row_said, values_form}
+use Rattle.minelib_reading.specs.ItemForms.{coef_form, coef_said, limit_form, limit_said, row_said, values_form}
 use Rattle.minelib_lines.specs.HeaderTable.{field_of, has_key, key_word}
 use Rattle.text_lines.specs.LineKinds.{text_kind, text_kinds}
 use Rattle.minelib_reading.specs.ModelLines.{ModelDraftView, coef_line, first_of, header_line, is_behind, is_colon, is_counted, is_heading, is_next, is_ready, item_line, key_of, keyed_line, last_of, limit_line, model_grammar, model_line, name_with, section_line, stray_line, values_line}
@@ -113,7 +113,7 @@ abbrev after : ModelDraftView → HeaderKey → List ℕ → ℕ → ModelDraftV
 after d k value number = record d { header = with_key d.header k number; name = name_with k value d.name }
 
 abbrev found_of : ModelDraftView → HeaderKey → Value → Result ModelDraftView TextKind
-found_of d k value = unless (failing (is_counted k d.blocks value)) (Ok (after d k (bytes_in value) (number_said k value)))
+found_of d k value = unless (failing (is_counted k d.blocks value)) (Ok (after d k (word_of value) (number_said k value)))
 
 pub header_takes : (d : ModelDraftView) (k : HeaderKey) (fields : List (List ℕ))
     → takes (header_line d k fields)
@@ -141,7 +141,7 @@ header_takes d k fields = tests (is_heading d.section) (is_given k d.header)
         → (r >>= found_of d k) ≡ ((r >>= λ value. Ok (unsigned_abs (millionths value))) >>= number_with d.blocks k
         >>= λ number. Ok (after d k text number))
     one key.Name text r e = rw e (name (is_name text) text)
-    one key.Blocks text (Ok value) e = blocks (whole_stated value == d.blocks) (bytes_in value)
+    one key.Blocks text (Ok value) e = blocks (whole_stated value == d.blocks) (word_of value)
     one k text (Ok value) e = refl
     one k text (Err kind) e = refl
 

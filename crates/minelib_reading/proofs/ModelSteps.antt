@@ -6,7 +6,7 @@ use Rattle.std.proofs.lemmas.Int.{ints}
 use Rattle.std.proofs.lemmas.Slice.Eq.{bytes_eq-Decides}
 use Rattle.forms.proofs.FormFacts.{spelled_fit}
 use Rattle.forms.proofs.NumberFields.{quotient}
-use Rattle.forms.specs.Words.{Value, Millionths, Bytes, whole, whole_at, whole_stated, FitsField, check, failing, States, Says, Spell}
+use Rattle.forms.specs.Words.{Value, Millionths, Bytes, whole, whole_at, whole_stated, word_of, FitsField, check, failing, States, Says, Spell}
 use Rattle.pit_parts.specs.declared.limit.Limit.{Limit}
 use Rattle.pit_parts.specs.PlanKept.{is_turned, stands_before}
 use Rattle.mine_instance.specs.Order.{coef_before}
@@ -16,7 +16,7 @@ use Rattle.minelib_lines.specs.HeaderTable.{field_of, key_value, type_text}
 use Rattle.minelib_lines.specs.LineValues.{coef_values, limit_values, values_values}
 use Rattle.minelib_lines.specs.declared.problem.Problem.{Problem}
 use Rattle.minelib_reading.specs.HeaderNumbers.{count_in, is_given, with_key, number_said}
-use Rattle.minelib_reading.specs.ItemForms.{bytes_in, coef_form, coef_said, limit_form, limit_said, row_said, values_form}
+use Rattle.minelib_reading.specs.ItemForms.{coef_form, coef_said, limit_form, limit_said, row_said, values_form}
 use Rattle.minelib_reading.specs.ModelLines.{ModelDraftView, coef_line, first_of, header_line, is_behind, is_counted, is_heading, is_next, is_ready, last_of, limit_line, name_with, section_line, stray_line, values_line}
 use Rattle.minelib_reading.specs.ModelStates.{header_stated}
 use Rattle.minelib_reading.specs.SpelledModel.{SpellCoef, SpellLimit, SpellValues}
@@ -76,7 +76,7 @@ said problem n k text (Bytes word) name h says fits counted = absurd fits
 
 -- the NAME that a value states is its text
 name_said : (problem : Problem) (k : HeaderKey) (text : List ℕ) (value : Value) (name : List ℕ) → Says (field_of problem k) text value
-    → name_with k (bytes_in value) name ≡ name_with k text name
+    → name_with k (word_of value) name ≡ name_with k text name
 name_said problem key.Name text (Bytes word) name says = sym says.0
 name_said problem key.Name text (Millionths m) name says = absurd says
 name_said problem k text value name says = refl
@@ -100,7 +100,7 @@ key_step d next k fields s = by fields s.values s.spelled s.last s.is
         → failing (is_counted k d.blocks (first_of values)) ≡ None
         → next ≡ record d {
           header = with_key d.header k (number_said k (first_of values));
-          name = name_with k (bytes_in (first_of values)) d.name;
+          name = name_with k (word_of (first_of values)) d.name;
         }
         → SetsKey d k fields next
     by (text ∷ []) (value ∷ []) spelled none is =

@@ -5,7 +5,7 @@ use Rattle.std.specs.Str.{bytes_eq}
 use Rattle.std.proofs.Common.{refl, sym, ◌∙◌, ap, subst, arith, inl, inr, eq-eqb}
 use Rattle.std.proofs.lemmas.Bool.{cases_Bool}
 use Rattle.forms.proofs.NumberFields.{quotient}
-use Rattle.forms.specs.Words.{Field, Value, whole, whole_stated, AllState, check, failing, States, Spell}
+use Rattle.forms.specs.Words.{Field, Value, whole, whole_stated, word_of, AllState, check, failing, States, Spell}
 use Rattle.pit_parts.specs.PlanKept.{stands_before}
 use Rattle.pit_parts.specs.declared.limit.Limit.{Limit}
 use Rattle.mine_instance.specs.Order.{coef_before}
@@ -17,7 +17,7 @@ use Rattle.minelib_lines.specs.LineValues.{StatedHeader, coef_values, limit_valu
 use Rattle.minelib_lines.specs.declared.problem.Problem.{Problem}
 use Rattle.minelib_lines.specs.declared.problem.Problem.TheVariants.{Pcpsp, Cpit}
 use Rattle.minelib_reading.specs.HeaderNumbers.{count_in, is_complete, is_given, number_of, with_key, number_said}
-use Rattle.minelib_reading.specs.ItemForms.{bytes_in, coef_form, limit_form, values_form}
+use Rattle.minelib_reading.specs.ItemForms.{coef_form, limit_form, values_form}
 use Rattle.minelib_reading.specs.ModelLines.{ModelDraftView, blank_header, blank_model, header_line, is_behind, is_counted, is_heading, is_next, is_ready, item_line, last_of, model_grammar, model_line, name_with, section_line}
 use Rattle.minelib_reading.specs.ModelStates.{StateModel, header_stated, stated_by}
 use Rattle.minelib_reading.specs.SpelledKeys.{IsKeyLine, section_text}
@@ -47,7 +47,7 @@ abbrev pub told : Problem → ℕ → StatedHeader → HeaderKey → ℕ
 told problem n m k = number_said k (key_value (type_text problem) n m k)
 
 pub name_told : (problem : Problem) (n : ℕ) (m : StatedHeader) (k : HeaderKey) (name : List ℕ)
-    → name_with k (bytes_in (key_value (type_text problem) n m k)) name ≡ name_with k m.name name
+    → name_with k (word_of (key_value (type_text problem) n m k)) name ≡ name_with k m.name name
 name_told problem n m key.Name name = refl
 name_told problem n m k name = refl
 

@@ -2,7 +2,7 @@
 -- values of each form say.
 use Rattle.std.specs.Prelude.{ℕ, Bool, true, false, List, [], ◌∷◌, drop, map, replicate, slice_index_or, ℤ, codes, if◌then◌else◌}
 use Rattle.std.specs.Str.{bytes_eq}
-use Rattle.forms.specs.Words.{Field, Value, Millionths, Bytes, below, millionths, number_at, whole_at}
+use Rattle.forms.specs.Words.{Field, Value, below, millionths, number_at, whole_at, word_at}
 use Rattle.pit_parts.specs.declared.limit.Bound.{Bound}
 use Rattle.pit_parts.specs.declared.limit.Bound.TheVariants.{AtMost, AtLeast, Between}
 use Rattle.pit_parts.specs.declared.limit.Limit.{Limit}
@@ -54,14 +54,9 @@ limit_form resources periods fields =
     below resources ∷ below periods
     ∷ bound_form (bytes_eq (slice_index_or fields 2 []) (codes "I"))
 
--- the word of a value
-abbrev pub bytes_in : Value → List ℕ
-bytes_in (Bytes word) = word
-bytes_in (Millionths m) = []
-
 abbrev pub limit_said : List Value → Limit
 limit_said values = record {
   resource = whole_at values 0;
   period = whole_at values 1;
-  bound = bound_said (bytes_in (slice_index_or values 2 (Bytes []))) (number_at values 3) (number_at values 4);
+  bound = bound_said (word_at values 2) (number_at values 3) (number_at values 4);
 }

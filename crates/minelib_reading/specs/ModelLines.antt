@@ -4,13 +4,13 @@ use Rattle.std.specs.Prelude.{ℕ, ◌+◌, ◌-◌, ◌==◌, ◌&&◌, not, Bo
 use Rattle.std.specs.List.{list_any, before_first, after_first, find}
 use Rattle.std.specs.Option.{option_map}
 use Rattle.std.specs.Str.{bytes_eq}
-use Rattle.forms.specs.Words.{Value, Bytes, whole_at, whole_stated, Grammar, read_all, Check, Shape, check, ◌>>=◌}
+use Rattle.forms.specs.Words.{Value, Bytes, whole_at, whole_stated, word_of, Grammar, read_all, Check, Shape, check, ◌>>=◌}
 use Rattle.pit_parts.specs.PlanKept.{is_turned, stands_before}
 use Rattle.pit_parts.specs.declared.limit.Limit.{Limit}
 use Rattle.mine_instance.specs.Order.{coef_before}
 use Rattle.mine_instance.specs.declared.coefs.coef.Coef.{Coef}
 use Rattle.minelib_reading.specs.HeaderNumbers.{no_key, with_key, count_in, is_given, is_complete, number_said}
-use Rattle.minelib_reading.specs.ItemForms.{bytes_in, coef_form, coef_said, limit_form, limit_said, row_said, values_form}
+use Rattle.minelib_reading.specs.ItemForms.{coef_form, coef_said, limit_form, limit_said, row_said, values_form}
 use Rattle.minelib_lines.specs.HeaderTable.{field_of, key_word, keys_of}
 use Rattle.minelib_reading.specs.SpelledKeys.{section_text}
 use Rattle.text_lines.specs.LineKinds.{text_kinds}
@@ -137,7 +137,7 @@ header_line d k fields = record {
   last = λ values. is_counted k d.blocks (first_of values);
   next = λ values. record d {
     header = with_key d.header k (number_said k (first_of values));
-    name = name_with k (bytes_in (first_of values)) d.name;
+    name = name_with k (word_of (first_of values)) d.name;
   };
 }
 

@@ -6,7 +6,8 @@ use Rattle.std.proofs.lemmas.Bool.Decides.{nat_tests}
 use Rattle.std.proofs.lemmas.Int.{ints}
 use Rattle.std.proofs.lemmas.List.{length-replicate}
 use Rattle.forms.proofs.FormFacts.{counted, read_fits}
-use Rattle.forms.specs.Words.{Field, Decimal, Value, Millionths, below, whole, whole_stated, FitsField, read, read_field, read_fields, Shape, failing, said, unless, ◌>>=◌}
+pub use Rattle.forms.proofs.NumberFields.{quotient}
+use Rattle.forms.specs.Words.{Field, Decimal, Value, Millionths, below, whole, whole_stated, word_of, FitsField, read, read_field, read_fields, Shape, failing, said, unless, ◌>>=◌}
 use Rattle.records.specs.RecordCells.{cell_at}
 use Rattle.pit_model.specs.inner.ByPlace.{bound_in, covered, destination_in, destined, key_in, limit_in, limited, part_from, read_from, read_then, resource_in, said_by_place}
 use Rattle.pit_model.specs.FormulaShapes.{bands_asked, bands_form, bands_of}
@@ -19,11 +20,8 @@ use Rattle.pit_parts.specs.declared.formulas.formula.Formula.TheVariants.{Leach}
 use Rattle.pit_parts.specs.declared.limit.Bound.{Bound}
 use Rattle.pit_model.specs.declared.plan_key.PlanKey.{PlanKey}
 use Rattle.pit_model.specs.declared.plan_key.PlanKey.TheVariants as key
-use Rattle.pit_model.specs.PlanCells.{a_cost, a_name, a_price, plan_kind, word_of}
+use Rattle.pit_model.specs.PlanCells.{a_cost, a_name, a_price, plan_kind}
 use Rattle.pit_model.specs.declared.plan_fault.PlanFaultKind.{PlanFaultKind}
-
-pub quotient : (n : ℕ) → n * 10 ^ 6 / 10 ^ 6 ≡ n
-quotient n = omega arith
 
 -- a whole number from the lowest on
 pub whole_read : (low : ℕ) (high : ℤ) (cell : List ℕ) (m : ℤ) → read_field plan_kind (Decimal 0 (pos low) high) cell ≡ Ok (Millionths m)

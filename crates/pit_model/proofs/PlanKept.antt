@@ -7,13 +7,13 @@ use Rattle.std.proofs.lemmas.List.Quantifiers.{position-Some}
 use Rattle.std.specs.List.{list_any}
 use Rattle.std.specs.Str.{bytes_eq}
 use Rattle.forms.proofs.FormFacts.{spelled_fit}
-use Rattle.forms.specs.Words.{Field, Word, Value, Millionths, Bytes, millionths, number_at, whole_at, is_fine, Fit, FitsField, AllState, Shape, check, failing, States}
+use Rattle.forms.specs.Words.{Field, Word, Value, Millionths, Bytes, millionths, number_at, whole_at, word_at, word_of, is_fine, Fit, FitsField, AllState, Shape, check, failing, States}
 use Rattle.records.specs.RecordCells.{cell_at, cells_of}
 use Rattle.pit_model.specs.inner.DraftFields.{KeepsStated}
 use Rattle.pit_parts.specs.Plan.{PlanParts}
 use Rattle.pit_parts.specs.Formula.{IsRuled}
 use Rattle.pit_parts.specs.PlanKept.{plan_of, AreCovers, AreTonnes, IsBound, IsCone, IsGrid, IsPlan, IsSlope, IsTonnes, RiseStrictly, has_repeat, is_turned}
-use Rattle.pit_model.specs.PlanCells.{a_bound, a_period_count, a_rate, word_at, word_of}
+use Rattle.pit_model.specs.PlanCells.{a_bound, a_period_count, a_rate}
 use Rattle.pit_model.specs.FormulaShapes.{formula_shape}
 use Rattle.pit_model.specs.PlanShapes.{a_destination, blank_shape, bound_form, bound_of, cone_of, covers_of, grid_form, grid_of, is_interval, key_of, key_shape, limit_form, limit_of, record_shape, resource_form, room_for_destination, slope_at, zone_form}
 use Rattle.pit_model.specs.Planned.{SpellPlan, numbered_shape, plan_grammar, whole_plan}

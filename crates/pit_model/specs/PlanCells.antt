@@ -1,6 +1,6 @@
 -- The cells of a plan's records: what a cell of each kind takes, and the kind of fault where it does not.
-use Rattle.std.specs.Prelude.{ℕ, List, [], slice_index_or, ℤ, pos, ◌*ℤ◌, ◌≤ℤ◌}
-use Rattle.forms.specs.Words.{FieldFault, Field, Decimal, Word, Value, Millionths, Bytes, between, up_to}
+use Rattle.std.specs.Prelude.{ℤ, pos, ◌*ℤ◌, ◌≤ℤ◌}
+use Rattle.forms.specs.Words.{FieldFault, Field, Decimal, Word, between, up_to}
 use Rattle.forms.specs.FieldFault as fault
 use Rattle.pit_parts.specs.Name.{is_name}
 use Rattle.pit_model.specs.declared.plan_fault.PlanFaultKind.{PlanFaultKind}
@@ -15,14 +15,6 @@ plan_kind fault.TooFine = TooFine
 plan_kind fault.Range = Range
 plan_kind fault.OffStep = Range
 plan_kind fault.Word = Name
-
--- the word of a value, and of that at a place
-abbrev pub word_of : Value → List ℕ
-word_of (Bytes word) = word
-word_of (Millionths m) = []
-
-abbrev pub word_at : List Value → ℕ → List ℕ
-word_at values place = word_of (slice_index_or values place (Bytes []))
 
 -- metres with three decimals, from the lowest to the highest millimetres
 abbrev pub metres : ℤ → ℤ → Field

@@ -3,12 +3,12 @@ use Rattle.std.specs.Prelude.{ℕ, suc, ◌+◌, ◌-◌, ◌/◌, ◌==◌, ◌
 use Rattle.std.specs.List.{list_any}
 use Rattle.std.specs.Option.{option_map}
 use Rattle.std.specs.Str.{bytes_eq}
-use Rattle.forms.specs.Words.{Field, Word, Value, below, number_at, whole_at, Check, Shape, check}
+use Rattle.forms.specs.Words.{Field, Word, Value, below, number_at, whole_at, word_at, word_of, Check, Shape, check}
 use Rattle.records.specs.Cells.{is_word}
 use Rattle.records.specs.RecordCells.{cell_at}
 use Rattle.pit_model.specs.FormulaShapes.{formula_key_of, formula_shape}
 use Rattle.pit_parts.specs.PlanKept.{has_repeat, is_turned}
-use Rattle.pit_model.specs.PlanCells.{plan_kind, word_at, word_of, a_leg, a_name, a_period_count, a_rate, a_size, an_origin, benches, a_bound}
+use Rattle.pit_model.specs.PlanCells.{plan_kind, a_leg, a_name, a_period_count, a_rate, a_size, an_origin, benches, a_bound}
 use Rattle.pit_model.specs.Stated.{Stated, destination_named, resource_named, with_destination, with_zone, with_resource, is_same_place, with_limit}
 use Rattle.pit_parts.specs.declared.cone.Cone.{Cone}
 use Rattle.pit_parts.specs.declared.cone.Slope.{Slope}

@@ -1,8 +1,8 @@
 -- Cells read one after the other, each at its place, as code reads them.
 use Rattle.std.specs.Prelude.{◌≡◌, ℕ, suc, ◌+◌, ◌-◌, ◌/◌, ◌%◌, ◌==◌, ◌||◌, Bool, not, nat_lt, List, [], ◌∷◌, ◌++◌, length, replicate, Option, Some, None, unwrap_or, Result, Ok, Err, if◌then◌else◌}
-use Rattle.forms.specs.Words.{Field, Value, below, whole_stated, read_field, placed, Check, Shape, failing, said, unless, ◌>>=◌}
+use Rattle.forms.specs.Words.{Field, Value, below, whole_stated, word_of, read_field, placed, Check, Shape, failing, said, unless, ◌>>=◌}
 use Rattle.records.specs.RecordCells.{cell_at, cells_of}
-use Rattle.pit_model.specs.PlanCells.{a_cost, a_name, a_price, a_recovery, a_start, plan_kind, word_of}
+use Rattle.pit_model.specs.PlanCells.{a_cost, a_name, a_price, a_recovery, a_start, plan_kind}
 use Rattle.pit_model.specs.FormulaShapes.{band_at, bands_asked, bands_form, bands_of}
 use Rattle.pit_model.specs.PlanShapes.{a_destination, a_resource, bound_form, bound_of, cone_of, covers_of, destination_shape, is_interval, key_shape, limit_asked, limit_form, limit_on, new_destination, record_shape, resource_asked, room_for_destination, room_for_zone, zone_form}
 use Rattle.pit_model.specs.Planned.{numbered_shape, plan_grammar}
