@@ -1,5 +1,5 @@
 -- What the records of a plan state is in range.
-use Rattle.std.specs.Prelude.{◌≡◌, ℕ, suc, ◌+◌, ◌^◌, ◌<◌, ◌≤◌, ◌==◌, Bool, true, false, not, nat_le, List, [], ◌∷◌, ◌++◌, length, drop, replicate, zero, ◌-◌, position, All, pos, Option, Some, None, is_some, unwrap_or, if◌then◌else◌, Result, Ok, Err, ℤ, codes, ◌||◌}
+use Rattle.std.specs.Prelude.{◌≡◌, ℕ, suc, ◌+◌, ◌^◌, ◌<◌, ◌≤◌, ◌==◌, Bool, true, false, not, nat_le, List, [], ◌∷◌, ◌++◌, length, drop, replicate, zero, ◌-◌, position, All, pos, Option, Some, None, is_some, unwrap_or, if◌then◌else◌, Ok, Err, ℤ, codes, ◌||◌}
 use Rattle.std.proofs.Common.{refl, sym, subst, arith, length-append}
 use Rattle.std.proofs.lemmas.Bool.{eqb-false, not-true}
 use Rattle.std.proofs.lemmas.List.Elements.{All-nil, All-cons, All-push, All-weaker}
@@ -244,9 +244,6 @@ whole_kept : (s : Stated) (name : Option (List ℕ)) (grid : Option Grid) (perio
 whole_kept s (Some name) (Some grid) (Some periods) (Some rate) p kept g n r e =
     by (length s.cones == 0) refl (length s.formulas == 0) refl e
   where
-    P : Type 0
-    P = Result PlanParts PlanFaultKind
-
     some : {A : Type 0} (xs : List A) → (length xs == 0) ≡ false → 1 ≤ length xs
     some [] e = absurd cc
     some (x ∷ xs) e = omega arith

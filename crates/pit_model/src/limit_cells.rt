@@ -1,6 +1,6 @@
 //! The cells of a `limit` record, and the limits in order.
 
-ghost use Rattle.std.specs.Prelude.{◌≡◌, ◌+◌, ◌<◌, ◌≤◌, ◌^◌, ◌≤ℤ◌, length, pos, bytes_eq, position, IfErr, IfOk, IfSome, OnErr, OnOk};
+ghost use Rattle.std.specs.Prelude.{◌≡◌, ◌+◌, ◌<◌, ◌≤◌, ◌≤ℤ◌, length, pos, bytes_eq, position, IfErr, IfOk, IfSome, OnErr, OnOk};
 ghost use Rattle.std.specs.List.{list_any, position_or_len};
 ghost use Rattle.pit_parts.specs.PlanKept.{AreTonnes, stands_before};
 ghost use Rattle.forms.specs.Words.{Millionths, below, whole, read_field};

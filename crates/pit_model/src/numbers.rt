@@ -1,6 +1,6 @@
 //! The numbers in a plan's cells.
 
-ghost use Rattle.std.specs.Prelude.{◌≤◌, ◌*◌, ◌<◌, ◌≤ℤ◌, IfOk};
+ghost use Rattle.std.specs.Prelude.{◌≤◌, ◌≤ℤ◌, IfOk};
 ghost use Rattle.forms.specs.Words.{Decimal, Millionths, between, whole, read_field};
 ghost use Rattle.pit_model.specs.inner.ByPlace.{ReadAs};
 ghost use Rattle.pit_model.specs.PlanCells.{plan_kind};

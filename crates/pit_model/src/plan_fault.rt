@@ -57,7 +57,7 @@ impl fmt::Display for PlanFaultKind {
 }
 
 impl From<DecFault> for PlanFaultKind {
-    ghost use Rattle.std.specs.Prelude.{◌≡◌, Ok, Err, ℤ};
+    ghost use Rattle.std.specs.Prelude.{◌≡◌, Err};
     ghost use Rattle.forms.specs.Words.{number_or_kind};
     ghost use Rattle.pit_model.specs.PlanCells.{plan_kind};
 

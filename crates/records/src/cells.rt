@@ -1,6 +1,6 @@
 //! The cells of a record, as plans and zone files see them.
 
-ghost use Rattle.std.specs.Prelude.{◌≡◌, ◌+◌, ◌<◌, ◌==◌, [], length, slice_index_or};
+ghost use Rattle.std.specs.Prelude.{◌≡◌, [], length, slice_index_or};
 ghost use Rattle.csv.specs.Records.{fields_of};
 ghost use Rattle.records.specs.Cells.{is_blank, without_leading_blanks, without_trailing_blanks, trimmed, is_word};
 ghost use Rattle.records.specs.RecordCells.{cells_of, cell_at};

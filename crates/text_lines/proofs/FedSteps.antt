@@ -194,10 +194,6 @@ pub last_end : (w : WaitingView) (count : ℕ) → length w.held ≤ count → e
 unfolding end_to_come
 last_end w count all = rw (append-nil w.held, take_all count w.held all) refl
 
--- nothing was taken
-pub took_none : {S : Type 0} (admit : S → List ℕ → Result S TextKind) (state : S) (w : WaitingView) → Took admit state state w w
-took_none admit state w = record { reads = λ more. refl; ends = λ more. refl; few = omega arith; on = omega arith }
-
 -- the text has ended, and its last lines are those that are held
 pub read_whole : {S : Type 0} (admit : S → List ℕ → Result S TextKind) (before now after : S) (w : WaitingView) (rest limit : ℕ)
     (old new : Option (List ℕ)) (answer : Result ℕ LineFault) → SoFar admit before now w rest (limit + 1) old new → 0 < rest
@@ -228,13 +224,6 @@ read_faulty admit before now after w rest limit old left new fault so bad all = 
   };
   reads = so.reads all.bytes ∙ bad all.bytes;
 }
-
--- a feed that gave all that it may
-pub too_long : {S : Type 0} (admit : S → List ℕ → Result S TextKind) (before now : S) (w : WaitingView) (rest limit : ℕ)
-    (old left : Option (List ℕ)) → SoFar admit before now w rest (limit + 1) old left → rest ≤ 0
-    → IfSome old (λ bytes. limit < length bytes)
-too_long admit before now w rest limit old left so none =
-    long_told old left so.text limit so.gave (omega (arith, so.count, none))
 
 pub last_told : {S : Type 0} (admit : S → List ℕ → Result S TextKind) (before now after : S) (w : WaitingView) (rest limit : ℕ)
     (old new : Option (List ℕ)) (result : Result (Result ℕ LineFault) SlurpFault) → SoFar admit before now w rest (limit + 1) old new → 0 < rest

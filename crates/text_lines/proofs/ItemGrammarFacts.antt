@@ -1,7 +1,7 @@
--- Files of one line an item: they are read line by line as the code reads them, and what each line shows of its item stands at the end.
+-- Files of one line an item: they are read line by line as the code reads them.
 use Rattle.std.specs.Prelude.{◌≡◌, ℕ, suc, List, [], ◌∷◌, ◌++◌, length, Option, Some, None, Result, Ok, Err}
-use Rattle.std.proofs.Common.{refl, sym, ◌∙◌, ap, subst}
-use Rattle.forms.specs.Words.{Value, read, placed, read_all, AllState, Shape, failing, said, unless, States, ◌>>=◌}
+use Rattle.std.proofs.Common.{refl, sym, ◌∙◌, ap}
+use Rattle.forms.specs.Words.{Value, read, placed, read_all, Shape, failing, said, unless, ◌>>=◌}
 use Rattle.text_lines.specs.ItemGrammar.{items_grammar, with_item}
 use Rattle.text_lines.specs.Reading.{at_line, read_lines}
 use Rattle.text_lines.specs.TextLines.{Line}
@@ -44,16 +44,3 @@ lines_read {A} {S} shape state admit same number items (line ∷ lines) =
         >>= λ all. Ok (state all))
     by deeper (Ok x) = deeper (items ++ x ∷ [])
     by deeper (Err kind) = refl
-
--- what each item keeps, of the items so far, stands at the end of all
-pub kept_by_items : {A : Type 0} (shape : ℕ → List ℕ → Shape TextKind A) (Keeps : List A → Type 0)
-    → ((items : List A) (line : List ℕ) (x : A) → States (shape (length items) line) x → Keeps items → Keeps (items ++ x ∷ []))
-    → (number : ℕ) (items : List A) (lines : List Line) (all : List A) → AllState (items_grammar shape) number items lines all
-    → Keeps items → Keeps all
-kept_by_items shape Keeps step number items [] all is kept = subst Keeps (sym is) kept
-kept_by_items shape Keeps step number items (line ∷ lines) all (next, states, more) kept =
-    let own = shape (length items) line.text in
-    let here : States own (own.next states.values) =
-    record { first = states.first; values = states.values; spelled = states.spelled; last = states.last; is = refl } in
-    kept_by_items shape Keeps step (suc number) next lines all more
-    (subst Keeps (sym states.is) (step items line.text (own.next states.values) here kept))

@@ -1,6 +1,6 @@
 //! The bytes of a feed of which no line was taken yet.
 
-ghost use Rattle.std.specs.Prelude.{◌≡◌, ◌≢◌, ◌+◌, ◌<◌, ◌≤◌, ◌^◌, Err, [], length, take, vec_len, IfOk, IfErr, OnOk, OnErr, IfSome, IsErrOf, IsOk, IsTrue, drop, true};
+ghost use Rattle.std.specs.Prelude.{◌≡◌, ◌≢◌, ◌+◌, ◌<◌, ◌≤◌, ◌^◌, Err, [], length, take, IfOk, IfErr, OnOk, OnErr, IfSome, IsErrOf, IsTrue, drop, true};
 ghost use Rattle.devices.specs.declared.feeds.slurp.SlurpFault.TheVariants as SlurpFault;
 ghost use Rattle.devices.specs.declared.feeds.slurp.TheConstants.{GREATEST_LIMIT};
 ghost use Rattle.text_lines.specs.Reading.{Leaves, read_lines};
