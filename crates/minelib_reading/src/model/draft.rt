@@ -1,16 +1,15 @@
 //! A model file while its lines are read.
 
-ghost use Rattle.std.specs.Prelude.{◌≡◌, ◌≤◌, ◌==◌, ◌&&◌, Ok, Err, [], true, false, map, unwrap_or, length, IfOk};
+ghost use Rattle.std.specs.Prelude.{◌≡◌, ◌≤◌, Err, [], true, false, map, unwrap_or, length, IfOk};
 ghost use Rattle.std.specs.List.{list_any};
 ghost use Rattle.mine_instance.specs.CpitKept.{IsCpit};
 ghost use Rattle.mine_instance.specs.OfCpit.{without_destination};
 ghost use Rattle.minelib_reading.specs.Denotes.{cpit_read, instance_read};
-ghost use Rattle.minelib_reading.specs.HeaderNumbers.{count_in, is_complete};
-ghost use Rattle.minelib_reading.specs.ModelLines.{blank_model, finish_model, header_line, is_colon, is_heading, is_ready, is_whole, item_line, keyed_line, name_with, section_line};
+ghost use Rattle.minelib_reading.specs.HeaderNumbers.{count_in};
+ghost use Rattle.minelib_reading.specs.ModelLines.{blank_model, finish_model, header_line, is_colon, is_ready, is_whole, item_line, keyed_line, name_with, section_line};
 ghost use Rattle.minelib_reading.specs.inner.ModelParts.{admit_model, is_name_for, takes};
 ghost use Rattle.minelib_lines.specs.declared.header_key.HeaderKey.TheVariants as key;
 ghost use Rattle.minelib_reading.specs.declared.model.key.Section.TheVariants as Section;
-ghost use Rattle.text_lines.specs.declared.text_fault.TextKind.TheVariants as TextKind;
 ghost use Rattle.pit_units.specs.OrMemory.{Gives};
 ghost use Rattle.text_lines.specs.Reading.{Leaves};
 ghost use Rattle.text_lines.specs.TextLines.{fields_of};
@@ -114,6 +113,10 @@ impl<T: TakeItems + Drop> ModelDraft<T> {
     }
 
     /// The draft, once all lines are read and `end` is the number of the line after the last.
+    ///
+    /// # Errors
+    ///
+    /// `Missing`, at the line `end`, where a header key, a line of values or a section is lacking.
     pub fn finish(self, end: u64) -> Result<ModelDraft<T>, OrMemory<LineFault>>
         ensures { Gives (λ x. x) result (finish_model end self) }
     {
@@ -351,12 +354,12 @@ impl ModelDraft<KeptItems> {
 fn without_destinations(alloc: Global, coefs: &[Coef]) -> Result<Vec<CpitCoef>, AllocError>
     ensures { IfOk result (λ of_cpit. of_cpit.items ≡ map without_destination coefs.now) }
 {
-    let mut of_cpit = Vec::with_capacity(alloc, coefs.len())?;
-    for coef in coefs {
-        let (b, r, v) = (coef.b, coef.r, coef.v);
-        of_cpit.push(CpitCoef { b, r, v })?;
-    }
-    Ok(of_cpit)
+    let of_cpit = coefs.iter().map(|coef| CpitCoef {
+        b: coef.b,
+        r: coef.r,
+        v: coef.v,
+    });
+    of_cpit.collect(alloc)
 }
 
 // The NAME after a header key with this value.

@@ -1,6 +1,6 @@
 //! The key lines of a model file that is read.
 
-ghost use Rattle.std.specs.Prelude.{◌≡◌, ◌+◌, ◌<◌, true, false, length, position, MatchOption};
+ghost use Rattle.std.specs.Prelude.{◌≡◌, true, false, position, MatchOption};
 ghost use Rattle.std.specs.List.{list_any, before_first, after_first, find};
 ghost use Rattle.std.specs.Str.{bytes_eq};
 ghost use Rattle.minelib_reading.specs.ModelLines.{is_colon, is_heading, is_limits, is_next, key_in, key_of, section_in};
@@ -43,6 +43,10 @@ pub fn is_exactly(bytes: &[u8], word: &[u8]) -> bool
 }
 
 /// The one field of a line.
+///
+/// # Errors
+///
+/// `Fields` where there is none or a second one.
 pub fn only_value(line: &[u8]) -> Result<&[u8], TextKind>
     ensures { StatesValue result (only_value (fields_of line.now)) }
 {
