@@ -19,6 +19,7 @@ FitsField (Stepped decimals step low high) (Bytes word) = ⊥
 FitsField (Word passes) (Millionths m) = ⊥
 FitsField (Word passes) (Bytes word) = passes word ≡ true
 
+-- each of some values fits its field of a form, and there are as many
 abbrev pub Fit : List Field → List Value → Type 0
 Fit [] [] = Unit {0}
 Fit [] (value ∷ values) = ⊥

@@ -12,6 +12,7 @@ pub record Check (K : Type 0) : Type 0 where
   pub kind : K
   pub holds : Bool
 
+-- one test, as a list
 abbrev pub check : {K : Type 0} → K → Bool → List (Check K)
 check kind holds = record { kind = kind; holds = holds } ∷ []
 

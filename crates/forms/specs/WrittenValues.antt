@@ -8,5 +8,6 @@ abbrev pub written_value : Value → List ℕ
 written_value (Millionths m) = shortest m
 written_value (Bytes word) = word
 
+-- the values of a line or record, each as it is written
 abbrev pub written : List Value → List (List ℕ)
 written values = map written_value values

@@ -35,6 +35,7 @@ block_shape before line = record {
   next = block_of;
 }
 
+-- the lines of a block file, one for each block
 abbrev pub block_grammar : Grammar Line (List Block) TextKind LineFault
 block_grammar = items_grammar block_shape
 

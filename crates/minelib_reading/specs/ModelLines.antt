@@ -218,6 +218,7 @@ model_line d line =
     then keyed_line d (key_of d.problem (fields_of (before_first is_colon line))) (fields_of (after_first is_colon line))
     else item_line d d.section (fields_of line)
 
+-- the lines of a model file, each by what those before it state
 abbrev pub model_grammar : Grammar Line ModelDraftView TextKind LineFault
 model_grammar = record {
   shape = λ number d line. model_line d line.text;

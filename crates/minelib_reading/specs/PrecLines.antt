@@ -42,6 +42,7 @@ preds_shape n own line = record {
   next = preds_of;
 }
 
+-- the lines of a precedence file, one for each of n blocks
 abbrev pub prec_grammar : ℕ → Grammar Line (List (List ℕ)) TextKind LineFault
 prec_grammar n = items_grammar (preds_shape n)
 

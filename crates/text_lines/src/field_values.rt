@@ -7,6 +7,10 @@ use crate::text_fault::TextKind;
 use pit_units::{Dec, MILLIONTHS, parse_dec, parse_within};
 
 /// The whole number that a field states, below `limit`.
+///
+/// # Errors
+///
+/// The first that applies of `Number`, `TooFine` and `Range`.
 #[tactic(auto, unfolding(crate::specs::FieldValues::whole_in))]
 #[inline(always)]
 pub fn whole_in(field: &[u8], limit: u64) -> Result<u64, TextKind>
@@ -17,6 +21,10 @@ pub fn whole_in(field: &[u8], limit: u64) -> Result<u64, TextKind>
 }
 
 /// The millionths that a field states with at most so many decimals, from 0 to `most`.
+///
+/// # Errors
+///
+/// Those of `whole_in`.
 #[tactic(auto, unfolding(crate::specs::FieldValues::size_in))]
 #[inline(always)]
 pub fn size_in(field: &[u8], decimals: u8, most: u64) -> Result<u64, TextKind>
@@ -28,6 +36,10 @@ pub fn size_in(field: &[u8], decimals: u8, most: u64) -> Result<u64, TextKind>
 }
 
 /// The decimal that a field states.
+///
+/// # Errors
+///
+/// Those of `whole_in`, the range being that of all decimals.
 #[tactic(auto, unfolding(crate::specs::FieldValues::decimal_in))]
 pub fn decimal_in(field: &[u8]) -> Result<Dec, TextKind>
     ensures { result ≡ decimal_in field.now }

@@ -11,6 +11,7 @@ use pit_units::OrMemory;
 
 /// What the lines of a text so far state.
 pub trait Admit {
+    /// What a state is behind one more line, or what is wrong with the line.
     ghost admit_line: { Self → List ℕ → Result Self Kind };
 
     /// Takes one more line, which is not one that is skipped.
@@ -23,6 +24,11 @@ pub trait Admit {
 }
 
 /// Takes the lines of a text that are not skipped, and answers the number of the line after the last.
+///
+/// # Errors
+///
+/// The first line that the state refuses, or `OutOfMemory` where memory was refused in taking one. What the state then
+/// holds is of no use.
 pub fn read_lines<S: Admit>(state: &mut S, text: &[u8]) -> Result<u64, OrMemory<LineFault>>
     ensures read { Leaves state.new result (read_lines S.admit_line state.old (lines_in text.now)) }
     ensures number { IfOk result (λ n. n ≡ end_of text.now) }
@@ -32,6 +38,10 @@ pub fn read_lines<S: Admit>(state: &mut S, text: &[u8]) -> Result<u64, OrMemory<
 
 /// Takes the lines of a part of a text that are not skipped, the first line having this number, and answers the number
 /// of the line after the last.
+///
+/// # Errors
+///
+/// Those of `read_lines`.
 pub fn read_on<S: Admit>(state: &mut S, first: u64, part: &[u8]) -> Result<u64, OrMemory<LineFault>>
     requires { first + length part.now < 2 ^ 64 }
     ensures read { Leaves state.new result

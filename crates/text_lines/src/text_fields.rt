@@ -90,6 +90,10 @@ pub fn has_field(line: &[u8]) -> bool
 }
 
 /// The whole number of the first field, below `limit`, and what stands behind it.
+///
+/// # Errors
+///
+/// `Fields` where the line has no field, else those of `whole_in`.
 #[inline(always)]
 #[tactic(auto, using(crate::proofs::FrontFields::whole_taken, crate::proofs::FrontFields::whole_refused))]
 pub fn first_whole(line: &[u8], limit: u64) -> Result<(u64, &[u8]), TextKind>
@@ -109,6 +113,10 @@ pub fn first_whole(line: &[u8], limit: u64) -> Result<(u64, &[u8]), TextKind>
 }
 
 /// The millionths of the first field, with at most so many decimals, from 0 to `most`, and what stands behind it.
+///
+/// # Errors
+///
+/// `Fields` where the line has no field, else those of `size_in`.
 #[inline(always)]
 #[tactic(auto, using(crate::proofs::FrontFields::size_taken, crate::proofs::FrontFields::size_refused))]
 pub fn first_size(line: &[u8], decimals: u8, most: u64) -> Result<(u64, &[u8]), TextKind>
@@ -130,6 +138,10 @@ pub fn first_size(line: &[u8], decimals: u8, most: u64) -> Result<(u64, &[u8]), 
 }
 
 /// The millionths of the decimal of the first field, and what stands behind it.
+///
+/// # Errors
+///
+/// `Fields` where the line has no field, else those of `decimal_in`.
 #[inline(always)]
 #[tactic(auto, using(crate::proofs::FrontFields::decimal_taken))]
 pub fn first_millionths(line: &[u8]) -> Result<(i128, &[u8]), TextKind>

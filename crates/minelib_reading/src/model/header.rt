@@ -29,6 +29,10 @@ pub fn blank_header(problem: Problem) -> Header
 
 /// The number that the value of a header key states, in a file of so many blocks: 0 for a key whose value only has to
 /// be right, such as NBLOCKS.
+///
+/// # Errors
+///
+/// What is wrong with the value, or `Count` where NBLOCKS is another number.
 pub fn number_in(
     problem: Problem,
     blocks: usize,

@@ -25,6 +25,11 @@ use text_lines::text_fields::{
 };
 
 /// Reads the values of a block, one for each destination, into `row`, from a line behind so many others.
+///
+/// # Errors
+///
+/// `Fields`, what is wrong with the first faulty field, or `Order` where the line is of another block; `OutOfMemory`
+/// where `row` could not grow. What `row` then holds is of no use.
 pub fn values_of_line(
     blocks: usize,
     destinations: u8,
@@ -89,6 +94,10 @@ fn read_decimals(line: &[u8], count: usize, row: &mut Vec<Dec>) -> Result<(), Or
 }
 
 /// The coefficient of a line, of so many blocks, destinations and resources.
+///
+/// # Errors
+///
+/// `Fields`, or what is wrong with the first faulty field.
 #[inline(always)]
 pub fn coef_of_line(
     problem: Problem,
@@ -174,6 +183,10 @@ pub fn is_coef_behind(coefs: &[Coef], coef: &Coef) -> bool
 }
 
 /// The limit of a line, of so many resources and periods.
+///
+/// # Errors
+///
+/// `Fields`, or what is wrong with the first faulty field.
 #[tactic(auto, using(crate::proofs::LimitLineFacts::limit_same))]
 pub fn limit_of_line(resources: u8, periods: u8, line: &[u8]) -> Result<Limit, TextKind>
     ensures { result ≡ limit_of_line resources periods (fields_of line.now) }

@@ -14,6 +14,10 @@ use text_lines::line_by_line::read_lines;
 use text_lines::text_fault::LineFault;
 
 /// What the model file of a problem states, of so many blocks.
+///
+/// # Errors
+///
+/// The first faulty line, or `OutOfMemory`.
 #[tactic(auto, using(crate::proofs::ModelShapes::lines_are_all))]
 pub fn read_model(
     alloc: Global,
