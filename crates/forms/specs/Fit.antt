@@ -1,13 +1,14 @@
 -- The values that a form has room for, and forms whose numbers have no more decimals than millionths have.
-use Rattle.std.specs.Prelude.{◌≡◌, ℕ, ◌%◌, ◌-◌, ◌^◌, ◌≤◌, nat_le, Bool, true, List, [], ◌∷◌, ℤ, ◌≤ℤ◌, unsigned_abs}
+use Rattle.std.specs.Prelude.{◌≡◌, ℕ, ◌%◌, ◌-◌, ◌^◌, nat_le, Bool, true, List, [], ◌∷◌, ℤ, ◌≤ℤ◌, unsigned_abs}
 use Rattle.std.specs.List.{list_all}
+use Rattle.pit_units.specs.Decimal.{IsInDecimalRange}
 use Rattle.forms.specs.Field.{Field, Decimal, Stepped, Word, Value, Millionths, Bytes, is_on_step}
 
 -- a number in the range of a decimal, and no finer
 abbrev pub FitsDecimal : ℕ → ℤ → ℤ → ℤ → Type 0
 FitsDecimal decimals low high m =
     (low ≤ℤ m) × (m ≤ℤ high)
-    × (unsigned_abs m ≤ 10 ^ 24) × (unsigned_abs m % 10 ^ (6 - decimals) ≡ 0)
+    × IsInDecimalRange m × (unsigned_abs m % 10 ^ (6 - decimals) ≡ 0)
 
 -- a value that the field has room for
 abbrev pub FitsField : Field → Value → Type 0

@@ -1,7 +1,8 @@
 //! The fields of a line: what stands between runs of blanks.
 
-ghost use Rattle.std.specs.Prelude.{◌≡◌, ◌<◌, ◌≤◌, ◌∷◌, ◌*◌, ◌^◌, ◌==◌, [], not, pos, length, nat_lt, position, unsigned_abs, IfOk, IfSome, MatchOption};
+ghost use Rattle.std.specs.Prelude.{◌≡◌, ◌<◌, ◌≤◌, ◌∷◌, ◌*◌, ◌^◌, ◌==◌, [], not, pos, length, nat_lt, position, IfOk, IfSome, MatchOption};
 ghost use Rattle.std.specs.List.{position_or_len};
+ghost use Rattle.pit_units.specs.Decimal.{IsInDecimalRange};
 ghost use Rattle.records.specs.Cells.{is_blank};
 ghost use Rattle.text_lines.specs.FieldValues.{Takes, decimal_in, first_by, size_in, whole_in};
 ghost use Rattle.text_lines.specs.TextLines.{fields_of, is_ended};
@@ -146,7 +147,7 @@ pub fn first_size(line: &[u8], decimals: u8, most: u64) -> Result<(u64, &[u8]), 
 #[tactic(auto, using(crate::proofs::FrontFields::decimal_taken))]
 pub fn first_millionths(line: &[u8]) -> Result<(i128, &[u8]), TextKind>
     ensures value { Takes result (first_by decimal_in (fields_of line.now)) }
-    ensures in_range { IfOk result (λ x. unsigned_abs x.0 ≤ 10 ^ 24) }
+    ensures in_range { IfOk result (λ x. IsInDecimalRange x.0) }
 {
     match front_dec_field(line, 6) {
         Some((millionths, behind)) => Ok((i128::from(millionths), behind)),
@@ -218,7 +219,7 @@ fn any_size(line: &[u8], decimals: u8, most: u64) -> Result<(u64, &[u8]), TextKi
 #[inline(never)]
 fn any_millionths(line: &[u8]) -> Result<(i128, &[u8]), TextKind>
     ensures value { Takes result (first_by decimal_in (fields_of line.now)) }
-    ensures in_range { IfOk result (λ x. unsigned_abs x.0 ≤ 10 ^ 24) }
+    ensures in_range { IfOk result (λ x. IsInDecimalRange x.0) }
 {
     match next_field(line) {
         Some((field, behind)) => Ok((decimal_in(field)?.millionths(), behind)),
