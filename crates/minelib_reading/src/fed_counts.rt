@@ -1,10 +1,10 @@
 //! What the texts of feeds state, counted while the feeds give them.
 
-ghost use Rattle.std.specs.Prelude.{◌≡◌, ◌+◌, ◌<◌, ◌≤◌, length, IfOk, IfSome, IsErrOf};
-ghost use Rattle.devices.specs.declared.feeds.slurp.SlurpFault.TheVariants as SlurpFault;
+ghost use Rattle.std.specs.Prelude.{◌≤◌, IfOk, IfErr};
 ghost use Rattle.devices.specs.declared.feeds.slurp.TheConstants.{GREATEST_LIMIT};
 ghost use Rattle.minelib_reading.specs.FedCounts.{IsFedAnswer, arcs_counted, blocks_counted, model_counted};
 ghost use Rattle.pit_parts.specs.declared.ranges.TheConstants.{MAX_BLOCKS};
+ghost use Rattle.text_lines.specs.Fed.{FailsAsFed};
 
 use crate::block_reader::BlockDraft;
 use crate::counted::{CountedBlocks, CountedItems};
@@ -39,16 +39,8 @@ pub fn count_blocks<F: Feed>(
     ensures few { IfOk result (λ answer. IfOk answer (λ blocks. blocks ≤ MAX_BLOCKS)) }
 
     // When each fault comes.
-    ensures failed { IsErrOf result SlurpFault.FeedFailed
-        → F.failures feed.new ≡ F.failures feed.old + 1 }
-    ensures long { IsErrOf result SlurpFault.TooLong
-        → IfSome (F.left feed.old) (λ bytes. limit < length bytes) }
-    ensures long_counts { IsErrOf result SlurpFault.TooLong
-        → F.given feed.new ≡ F.given feed.old + (limit + 1) }
-    ensures memory_works { IsErrOf result SlurpFault.OutOfMemory
-        → F.failures feed.new ≡ F.failures feed.old }
-    ensures memory_first { IsErrOf result SlurpFault.OutOfMemory
-        → F.given feed.new ≤ F.given feed.old + limit }
+    ensures refused { IfErr result (FailsAsFed (F.left feed.old) limit (F.given feed.old)
+        (F.given feed.new) (F.failures feed.old) (F.failures feed.new)) }
 {
     let mut draft = BlockDraft::new(CountedBlocks::new());
     match read_fed(alloc, &mut draft, feed, limit)? {
@@ -77,16 +69,8 @@ pub fn count_arcs<F: Feed>(
     ensures counts { IfOk result (IsFedAnswer (arcs_counted blocks) (F.left feed.old) limit) }
 
     // When each fault comes.
-    ensures failed { IsErrOf result SlurpFault.FeedFailed
-        → F.failures feed.new ≡ F.failures feed.old + 1 }
-    ensures long { IsErrOf result SlurpFault.TooLong
-        → IfSome (F.left feed.old) (λ bytes. limit < length bytes) }
-    ensures long_counts { IsErrOf result SlurpFault.TooLong
-        → F.given feed.new ≡ F.given feed.old + (limit + 1) }
-    ensures memory_works { IsErrOf result SlurpFault.OutOfMemory
-        → F.failures feed.new ≡ F.failures feed.old }
-    ensures memory_first { IsErrOf result SlurpFault.OutOfMemory
-        → F.given feed.new ≤ F.given feed.old + limit }
+    ensures refused { IfErr result (FailsAsFed (F.left feed.old) limit (F.given feed.old)
+        (F.given feed.new) (F.failures feed.old) (F.failures feed.new)) }
 {
     let mut draft = PrecDraft::new(alloc, CountedPreds::new(), blocks);
     match read_fed(alloc, &mut draft, feed, limit)? {
@@ -121,16 +105,8 @@ pub fn count_model<F: Feed>(
         (IsFedAnswer (model_counted problem blocks) (F.left feed.old) limit) }
 
     // When each fault comes.
-    ensures failed { IsErrOf result SlurpFault.FeedFailed
-        → F.failures feed.new ≡ F.failures feed.old + 1 }
-    ensures long { IsErrOf result SlurpFault.TooLong
-        → IfSome (F.left feed.old) (λ bytes. limit < length bytes) }
-    ensures long_counts { IsErrOf result SlurpFault.TooLong
-        → F.given feed.new ≡ F.given feed.old + (limit + 1) }
-    ensures memory_works { IsErrOf result SlurpFault.OutOfMemory
-        → F.failures feed.new ≡ F.failures feed.old }
-    ensures memory_first { IsErrOf result SlurpFault.OutOfMemory
-        → F.given feed.new ≤ F.given feed.old + limit }
+    ensures refused { IfErr result (FailsAsFed (F.left feed.old) limit (F.given feed.old)
+        (F.given feed.new) (F.failures feed.old) (F.failures feed.new)) }
 {
     let mut draft = ModelDraft::new(alloc, problem, blocks, CountedItems::new());
     match read_fed(alloc, &mut draft, feed, limit)? {

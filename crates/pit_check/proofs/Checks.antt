@@ -1,7 +1,8 @@
 -- Why a check tells no counts, in other words, and how that ends it.
-use Rattle.std.proofs.Common.{◌≡◌, ◌≢◌, ℕ, List, Option, Result, Some, None, IfSome, ◌<◌, length, inl, inr, refl, ap, ◌∙◌, sym, subst, Err, Ok, arith}
+use Rattle.std.proofs.Common.{◌≡◌, ◌≢◌, ℕ, List, Option, Result, Some, None, inl, inr, refl, ap, ◌∙◌, sym, subst, Err, Ok, arith}
 use Rattle.devices.specs.declared.feeds.feed.FeedFault.{FeedFault}
 use Rattle.devices.specs.declared.feeds.slurp.TheConstants.{GREATEST_LIMIT}
+use Rattle.text_lines.specs.Fed.{FailsAsFed}
 use Rattle.text_lines.specs.declared.text_fault.TextFault.{TextFault}
 use Rattle.text_lines.specs.declared.text_fault.TextFile.{TextFile}
 use Rattle.pit_check.specs.Checked.{AreReadBefore, AreTexts, CannotOpen, HasFailed, HasText, HasTextIfThere, IsCheckStatus, IsFoundIn, IsRead, path_of}
@@ -22,12 +23,12 @@ use Rattle.pit_edge.specs.declared.refused.source.Source.TheVariants as source
 
 module _ {F : Type 0} (opens : List ℕ → Result F FeedFault → Type 0) (left : F → Option (List ℕ)) (base : List ℕ) where
   -- a file that was not read to its end
-  pub unread_file : (file : TextFile) (feed : F) (fault : SlurpFault) → opens (path_of base file) (Ok feed)
-      → (fault ≡ slurp.TooLong → IfSome (left feed) (λ bytes. GREATEST_LIMIT < length bytes))
+  pub unread_file : (file : TextFile) (feed : F) (given given_now failures failures_now : ℕ) (fault : SlurpFault)
+      → opens (path_of base file) (Ok feed) → FailsAsFed (left feed) GREATEST_LIMIT given given_now failures failures_now fault
       → IsFaultOf opens left base file (unread (source.Text file) fault)
-  unread_file file feed slurp.FeedFailed opened long = (refl, (feed, opened))
-  unread_file file feed slurp.TooLong opened long = (refl, (feed, opened, long refl))
-  unread_file file feed slurp.OutOfMemory opened long = refl
+  unread_file file feed given given_now failures failures_now slurp.FeedFailed opened fails = (refl, (feed, opened))
+  unread_file file feed given given_now failures failures_now slurp.TooLong opened fails = (refl, (feed, opened, fails.long refl))
+  unread_file file feed given given_now failures failures_now slurp.OutOfMemory opened fails = refl
 
   -- a file that was counted
   pub counted_file : (file : TextFile) (feed : F) (so_far answer : Result Counts TextFault) → opens (path_of base file) (Ok feed)

@@ -1,11 +1,11 @@
 //! The counts of the texts of an instance, one file after the other.
 
-ghost use Rattle.std.specs.Prelude.{◌≡◌, ◌+◌, ◌<◌, ◌≤◌, length, IfOk, IfSome, IsErrOf};
-ghost use Rattle.devices.specs.declared.feeds.slurp.SlurpFault.TheVariants as SlurpFault;
+ghost use Rattle.std.specs.Prelude.{◌≤◌, IfOk, IfErr};
 ghost use Rattle.devices.specs.declared.feeds.slurp.TheConstants.{GREATEST_LIMIT};
 ghost use Rattle.minelib_reading.specs.FedCounts.{IsFedAnswer};
 ghost use Rattle.pit_check.specs.inner.CountSteps.{counted_in, counted_on};
 ghost use Rattle.pit_parts.specs.declared.ranges.TheConstants.{MAX_BLOCKS};
+ghost use Rattle.text_lines.specs.Fed.{FailsAsFed};
 
 use crate::counts::Counts;
 use devices::feeds::feed::Feed;
@@ -37,16 +37,8 @@ pub fn count_on<F: Feed>(
     ensures few { IfOk result (λ answer. IfOk answer (λ counts. counts.blocks ≤ MAX_BLOCKS)) }
 
     // When each fault comes.
-    ensures failed { IsErrOf result SlurpFault.FeedFailed
-        → F.failures feed.new ≡ F.failures feed.old + 1 }
-    ensures long { IsErrOf result SlurpFault.TooLong
-        → IfSome (F.left feed.old) (λ bytes. GREATEST_LIMIT < length bytes) }
-    ensures long_counts { IsErrOf result SlurpFault.TooLong
-        → F.given feed.new ≡ F.given feed.old + (GREATEST_LIMIT + 1) }
-    ensures memory_works { IsErrOf result SlurpFault.OutOfMemory
-        → F.failures feed.new ≡ F.failures feed.old }
-    ensures memory_first { IsErrOf result SlurpFault.OutOfMemory
-        → F.given feed.new ≤ F.given feed.old + GREATEST_LIMIT }
+    ensures refused { IfErr result (FailsAsFed (F.left feed.old) GREATEST_LIMIT (F.given feed.old)
+        (F.given feed.new) (F.failures feed.old) (F.failures feed.new)) }
 {
     match so_far {
         Ok(counts) => match count_in(alloc, file, counts, feed)? {
@@ -76,16 +68,8 @@ fn count_in<F: Feed>(
     ensures few { IfOk result (λ answer. IfOk answer (λ counts. counts.blocks ≤ MAX_BLOCKS)) }
 
     // When each fault comes.
-    ensures failed { IsErrOf result SlurpFault.FeedFailed
-        → F.failures feed.new ≡ F.failures feed.old + 1 }
-    ensures long { IsErrOf result SlurpFault.TooLong
-        → IfSome (F.left feed.old) (λ bytes. GREATEST_LIMIT < length bytes) }
-    ensures long_counts { IsErrOf result SlurpFault.TooLong
-        → F.given feed.new ≡ F.given feed.old + (GREATEST_LIMIT + 1) }
-    ensures memory_works { IsErrOf result SlurpFault.OutOfMemory
-        → F.failures feed.new ≡ F.failures feed.old }
-    ensures memory_first { IsErrOf result SlurpFault.OutOfMemory
-        → F.given feed.new ≤ F.given feed.old + GREATEST_LIMIT }
+    ensures refused { IfErr result (FailsAsFed (F.left feed.old) GREATEST_LIMIT (F.given feed.old)
+        (F.given feed.new) (F.failures feed.old) (F.failures feed.new)) }
 {
     let n = counts.blocks;
     match file {

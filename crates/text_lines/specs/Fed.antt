@@ -1,5 +1,7 @@
 -- Reading the lines of a text while a feed gives it.
-use Rattle.std.specs.Prelude.{◌≡◌, ℕ, ◌≤◌, List, length, Option, IfSome, Result, Ok, Err}
+use Rattle.std.specs.Prelude.{◌≡◌, ℕ, ◌+◌, ◌<◌, ◌≤◌, List, length, Option, IfSome, Result, Ok, Err}
+use Rattle.devices.specs.declared.feeds.slurp.SlurpFault.{SlurpFault}
+use Rattle.devices.specs.declared.feeds.slurp.SlurpFault.TheVariants.{FeedFailed, TooLong, OutOfMemory}
 use Rattle.text_lines.specs.Reading.{read_lines}
 use Rattle.text_lines.specs.TextLines.{end_of, lines_in}
 use Rattle.text_lines.specs.declared.text_fault.LineFault.{LineFault}
@@ -21,3 +23,11 @@ pub record IsFedReading {S : Type 0} (admit : S → List ℕ → Result S TextKi
   pub text : List ℕ
   pub is_text : IsTextOf left limit text
   pub reads : IsReading admit before after answer text
+
+-- when each fault of reading a feed's text comes, by what the feed has given and how often it failed, before and now
+pub record FailsAsFed (left : Option (List ℕ)) (limit given given_now failures failures_now : ℕ) (fault : SlurpFault) : Type 0 where
+  pub failed : fault ≡ FeedFailed → failures_now ≡ failures + 1
+  pub long : fault ≡ TooLong → IfSome left (λ bytes. limit < length bytes)
+  pub long_counts : fault ≡ TooLong → given_now ≡ given + (limit + 1)
+  pub memory_works : fault ≡ OutOfMemory → failures_now ≡ failures
+  pub memory_first : fault ≡ OutOfMemory → given_now ≤ given + limit

@@ -1,9 +1,9 @@
 //! Reading the lines of a text while a feed gives it.
 
-ghost use Rattle.std.specs.Prelude.{◌≡◌, ◌≢◌, ◌+◌, ◌<◌, ◌≤◌, Err, [], length, IfOk, OnOk, IfSome, IsErrOf, IsTrue};
+ghost use Rattle.std.specs.Prelude.{◌≡◌, ◌≢◌, ◌+◌, ◌≤◌, Err, [], length, IfOk, IfErr, OnOk, IfSome, IsTrue};
 ghost use Rattle.devices.specs.declared.feeds.slurp.SlurpFault.TheVariants as SlurpFault;
 ghost use Rattle.devices.specs.declared.feeds.slurp.TheConstants.{GREATEST_LIMIT};
-ghost use Rattle.text_lines.specs.Fed.{IsFedReading};
+ghost use Rattle.text_lines.specs.Fed.{FailsAsFed, IsFedReading};
 
 use crate::line_by_line::Admit;
 use crate::text_fault::LineFault;
@@ -40,17 +40,9 @@ pub fn read_fed<S: Admit, F: Feed>(
     ensures works { OnOk result (F.failures feed.new ≡ F.failures feed.old) }
 
     // When each fault comes.
-    ensures failed { IsErrOf result SlurpFault.FeedFailed
-        → F.failures feed.new ≡ F.failures feed.old + 1 }
+    ensures refused { IfErr result (FailsAsFed (F.left feed.old) limit (F.given feed.old)
+        (F.given feed.new) (F.failures feed.old) (F.failures feed.new)) }
     ensures sure { IsTrue (F.is_sure feed.old) → result ≢ Err SlurpFault.FeedFailed }
-    ensures long { IsErrOf result SlurpFault.TooLong
-        → IfSome (F.left feed.old) (λ bytes. limit < length bytes) }
-    ensures long_counts { IsErrOf result SlurpFault.TooLong
-        → F.given feed.new ≡ F.given feed.old + (limit + 1) }
-    ensures memory_works { IsErrOf result SlurpFault.OutOfMemory
-        → F.failures feed.new ≡ F.failures feed.old }
-    ensures memory_first { IsErrOf result SlurpFault.OutOfMemory
-        → F.given feed.new ≤ F.given feed.old + limit }
 
     // How much was read, whatever was answered.
     ensures reads { F.given feed.new ≤ F.given feed.old + (limit + 1) }
@@ -95,17 +87,9 @@ pub fn pass_text<F: Feed>(alloc: Global, feed: &mut F, limit: u64) -> Result<(),
     ensures works { OnOk result (F.failures feed.new ≡ F.failures feed.old) }
 
     // When each fault comes.
-    ensures failed { IsErrOf result SlurpFault.FeedFailed
-        → F.failures feed.new ≡ F.failures feed.old + 1 }
+    ensures refused { IfErr result (FailsAsFed (F.left feed.old) limit (F.given feed.old)
+        (F.given feed.new) (F.failures feed.old) (F.failures feed.new)) }
     ensures sure { IsTrue (F.is_sure feed.old) → result ≢ Err SlurpFault.FeedFailed }
-    ensures long { IsErrOf result SlurpFault.TooLong
-        → IfSome (F.left feed.old) (λ bytes. limit < length bytes) }
-    ensures long_counts { IsErrOf result SlurpFault.TooLong
-        → F.given feed.new ≡ F.given feed.old + (limit + 1) }
-    ensures memory_works { IsErrOf result SlurpFault.OutOfMemory
-        → F.failures feed.new ≡ F.failures feed.old }
-    ensures memory_first { IsErrOf result SlurpFault.OutOfMemory
-        → F.given feed.new ≤ F.given feed.old + limit }
 
     // How much was read, whatever was answered.
     ensures reads { F.given feed.new ≤ F.given feed.old + (limit + 1) }
